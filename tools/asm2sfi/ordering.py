@@ -3,7 +3,7 @@ the cheapest beginnings."""
 from dependences import WINDOW, needed_before
 from fitting import PLACES, cost_between
 
-WAYS = 40  # how many beginnings of a run's order are kept
+WAYS = 24  # how many beginnings of a run's order are kept
 CHOICES = 6  # how many of the instructions that may come next are tried
 
 # A cheap way to a place in the bundle is (cost, moved, number, step, way): what it costs, how far
@@ -33,9 +33,11 @@ class Order:
         needed = needed_before(ops)
         self.needed = [sum(1 << WINDOW - (index - other) for other in earlier)
                        for index, earlier in enumerate(needed)]
-        # Of those that nothing needs and that are placed alike, the first is as good as each other.
-        wanted = set().union(*needed)
-        self.alike = [None if index in wanted else kind for index, kind in enumerate(kinds)]
+        self.kinds = kinds
+        self.needing = [set() for _ in ops]  # those that need each
+        for index, earlier in enumerate(needed):
+            for other in earlier:
+                self.needing[other].add(index)
         self.known = {}
 
     def next(self, done):
@@ -45,17 +47,21 @@ class Order:
         return self.known[done]
 
     def ready(self, first, bits):
-        found, alike = [], set()
+        """Those that need nothing more. Of two that are placed alike the later isn't tried first,
+        if what needs it needs the other one, too: they may change places in what comes of it."""
+        found = []
         for offset in range(min(WINDOW, len(self.needed) - first)):
-            if bits >> offset & 1 or self.needed[first + offset] >> WINDOW - offset & ~bits:
+            index = first + offset
+            if bits >> offset & 1 or self.needed[index] >> WINDOW - offset & ~bits:
                 continue
-            kind = self.alike[first + offset]
-            if kind is None or kind not in alike:
-                alike.add(kind)
+            if not any(self.is_as_good(first + other, index) for other in found):
                 found.append(offset)
                 if len(found) == CHOICES:
                     break
         return found
+
+    def is_as_good(self, index, later):
+        return self.kinds[index] == self.kinds[later] and self.needing[later] <= self.needing[index]
 
 
 def after(done, offset):

@@ -35,7 +35,7 @@ class Keepers:
 
     def __init__(self, code, blocks):
         self.code = code
-        self.liveness = Liveness(code)
+        self.liveness = Liveness(code, blocks.successors)
         self.blocks = blocks
         self.touched = [0 if piece.is_mark else bits(reads(piece)) | bits(writes(piece)) for piece in code]
         self.owned = self.owned_by_blocks()

@@ -5,12 +5,13 @@ import unittest
 
 from assembly import read_assembly
 from clusters import best_clusters
-from control import Blocks, weights
+from control import Blocks, successors, weights
 from dependences import bits, needed_before, reads, values, writes
 from instructions import Converter, Op
 from known import with_known_places
 from liveness import Liveness, without_unread
 from naming import Names
+from ordering import Order
 from packing import packed
 from placement import FARTHEST, far_branches, places, with_near_branches
 from pointing import with_pointing
@@ -140,12 +141,12 @@ class Liveness_(unittest.TestCase):
         """A call needs what the function reads, and gcc may count on a register that it doesn't
         write."""
         pieces = code("main: li t3,1; li a1,2; call f; mv a0,t3; ret; f: mv a0,a1; ret")
-        live = Liveness(pieces)
+        live = Liveness(pieces, successors(pieces))
         self.assertEqual(live.before[3] & bits(("t3", "a1", "a2")), bits(("t3", "a1")))
 
     def test_unread(self):
         pieces = code("f: la a5,x; lw a4,0(zero); la a5,y; mv a0,a5; ret")
-        self.assertEqual(lines(without_unread(pieces)), ["f:", "lw a4, 0(zero)", "la a5, y", "mv a0, a5", "ret"])
+        self.assertEqual(lines(without_unread(pieces, successors(pieces))), ["f:", "lw a4, 0(zero)", "la a5, y", "mv a0, a5", "ret"])
 
 
 class Known(unittest.TestCase):
@@ -191,6 +192,17 @@ class Pointing(unittest.TestCase):
         for text, wanted in rows:
             self.assertEqual([cluster.offsets for cluster in best_clusters(code(text))], wanted, text)
 
+    def test_long_run(self):
+        """Time and memory grow with the number of accesses alone: with its square they would be
+        minutes and gigabytes."""
+        text = "; ".join(f"sw a0,{4 * number % 2048}(a5)" for number in range(6000))
+        [cluster] = best_clusters(code(text))
+        self.assertEqual(len(cluster.offsets), 6000)
+        text = "; ".join(f"sw a0,{number % 2048}(a5); addi a5,a5,1" for number in range(1500))
+        offsets = [offset for cluster in best_clusters(code(text)) for offset in cluster.offsets.values()]
+        self.assertGreater(len(offsets), 1400)
+        self.assertTrue(all(-2048 <= offset <= 2047 for offset in offsets))
+
     def test_loop(self):
         found = with_pointing(code("f: li t0,1; .a: lw a4,0(a5); sw a4,4(a5); addi a5,a5,8; bne a5,a3,.a; mv a0,a4; ret"), Names([]))
         self.assertEqual(lines(found), [
@@ -231,6 +243,18 @@ class Packing(unittest.TestCase):
         found = self.packed("f: xori a0,a1,1; xori a2,a1,2; lw a3,0(a1); xori a4,a1,3; xori a5,a1,4; xori a6,a1,5; "
                             ".a: beqz a5,.a; j .a")
         self.assertEqual(found.count("nop"), 0)
+
+    def test_as_good(self):
+        """Of four loads that nothing needs one is tried first, and of two that others need each."""
+        kinds = ["load"] * 4 + ["sum"] * 2
+        self.assertEqual(Order(code("lw a0,0(s0); lw a1,4(s0); lw a2,8(s0); lw a3,12(s0)"), kinds[:4]).ready(0, 0), [0])
+        ops = code("lw a0,0(s0); lw a1,4(s0); add a4,a0,a0; add a5,a1,a1")
+        self.assertEqual(Order(ops, kinds[2:]).ready(0, 0), [0, 1])
+        self.assertEqual(Order(ops, kinds[2:]).ready(1, 0), [0, 1])
+
+    def test_long_run(self):
+        text = "; ".join(f"lw a{number % 4},{4 * number % 2048}(sp)" for number in range(1500))
+        self.assertEqual(len(self.packed(text)), 1500)
 
     def test_copies(self):
         self.assertIn("add a0, zero, a1", self.packed("f: mv a0,a1; ret"))
