@@ -259,8 +259,8 @@ lw a3,0(sp)
 slli a6,a5,8
 .option norvc
 add a0,zero,s6
-mulhu a4,s3,a5
 addi s1,s1,1
+mulhu a4,s3,a5
 add s0,s0,a6
 mul s5,s3,a5
 add s0,s0,a4
@@ -558,6 +558,7 @@ add a0,zero,s2
 sb a4,0(a5)
 call memcmp
 slt a5,zero,a0
+.option rvc
 srli a0,a0,31
 sub a5,a5,a0
 srai a4,a5,31
@@ -565,12 +566,13 @@ li a7,435
 xor a4,a4,s5
 xor a5,a5,s3
 mul a4,a7,a4
-slli a2,a5,8
-mulhu s5,a7,a5
-mul s3,a7,a5
+.option norvc
 lw a6,4(sp)
+slli a2,a5,8
 addi a6,a6,1
+mulhu s5,a7,a5
 add a4,a4,a2
+mul s3,a7,a5
 li a5,2000
 add s5,s5,a4
 bne a6,a5,_.L28
@@ -578,6 +580,7 @@ la a4,left
 la a1,right
 la a6,left..plus64
 li a2,435
+nop
 _.L29:
 lbu a5,0(a4)
 mul a3,a2,s5
@@ -886,12 +889,14 @@ sw s2,16(sp)
 sw s3,12(sp)
 sw s4,8(sp)
 sw s5,4(sp)
+.option norvc
 sw ra,28(sp)
 sw s0,24(sp)
-.option norvc
 sw s1,20(sp)
+.option rvc
 add s5,zero,a0
 add s3,zero,a1
+.option norvc
 add s2,zero,a2
 add s4,zero,a4
 bne a3,zero,_.L103..1
@@ -958,13 +963,13 @@ _.L85..1:
 .option rvc
 lw ra,28(sp)
 lw s0,24(sp)
+.option norvc
 lw s1,20(sp)
 lw s2,16(sp)
-.option norvc
 lw s3,12(sp)
+.option rvc
 lw s4,8(sp)
 lw s5,4(sp)
-.option rvc
 addi sp,sp,32
 jr ra
 _.L103..1:

@@ -105,15 +105,13 @@ li a5,10
 li a1,9
 sb a5,12(sp)
 call put
-.option rvc
 lw ra,44(sp)
 lw s0,40(sp)
-.option norvc
 lw s2,32(sp)
 lw s3,28(sp)
+.option rvc
 add a0,zero,s1
 lw s1,36(sp)
-.option rvc
 addi sp,sp,48
 jr ra
 .data

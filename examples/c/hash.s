@@ -309,16 +309,14 @@ add t0,a1,t1
 add t2,zero,a7
 bgeu a7,s2,_.L117
 _.L77:
-.option rvc
 add a0,zero,sp
 mv sp,t0
 lw t5,0(sp)
-.option norvc
 lw t4,4(sp)
 lw s1,8(sp)
 lw t3,12(sp)
-add a2,zero,t0
 mv sp,a0
+add a2,zero,t0
 bltu t2,a7,_.L68
 sub a4,t0,t1
 .option rvc
@@ -328,20 +326,22 @@ _.L118:
 bltu a3,t3,_.L71
 j _.L113
 _.L71:
+.option norvc
 add ra,zero,sp
 mv sp,a4
 lw s3,4(sp)
-.option norvc
 lw a6,8(sp)
 lw a3,12(sp)
 lw s4,0(sp)
 add a5,a4,t1
-sub a4,a4,t1
 mv sp,a5
+.option rvc
 sw s3,4(sp)
 sw s4,0(sp)
+.option norvc
 sw a6,8(sp)
 sw a3,12(sp)
+sub a4,a4,t1
 mv sp,ra
 bltu a0,a7,_.L68
 _.L69:
@@ -381,20 +381,19 @@ slli a5,a5,4
 add a2,a1,a5
 j _.L68
 _.L68:
+.option norvc
 add a0,zero,sp
 mv sp,a2
 sw t5,0(sp)
-.option norvc
 sw t4,4(sp)
 sw s1,8(sp)
 sw t3,12(sp)
-addi t2,t2,1
 mv sp,a0
+addi t2,t2,1
 addi t0,t0,16
 bne s2,t2,_.L77
 srli a7,a7,1
 bne a7,zero,_.L66
-nop
 _.L80:
 addi s5,sp,8
 lui s4,838861

@@ -165,11 +165,11 @@ slli a4,a5,2
 add a4,a4,a5
 slli a4,a4,1
 sub a4,a3,a4
-addi a4,a4,48
-sb a4,1(a1)
 add t4,zero,a3
 add t5,zero,a0
 addi a0,a0,-1
+addi a4,a4,48
+sb a4,1(a1)
 add a3,zero,a5
 bne a6,zero,_.L50
 li a5,9
@@ -616,14 +616,17 @@ addi a1,a1,1
 addi a3,a5,-2048
 beq a3,zero,_.L131
 slli s1,a5,3
+.option rvc
 sub s1,s1,a5
 slli s1,s1,2
 la s6,values
 add s0,s6,s1
+.option norvc
 addi a5,a5,1
 li a3,4
 li a0,93
 sw a3,0(s0)
+nop
 sw a5,104(zero)
 nop
 sw a1,108(zero)

@@ -337,22 +337,20 @@ lw ra,92(sp)
 lw s0,88(sp)
 li a0,251
 lw s2,80(sp)
+.option norvc
 lw s3,76(sp)
 lw s4,72(sp)
 lw s5,68(sp)
 lw s6,64(sp)
-.option norvc
 lw s7,60(sp)
 remu a0,s1,a0
 lw s1,84(sp)
-nop
 .option rvc
 addi sp,sp,96
-.option norvc
-nop
 jr ra
 _.L62:
 la a0,power
+.option norvc
 nop
 call multiply.constprop.0
 la a2,scratch..plus80

@@ -86,9 +86,9 @@ add a5,zero,a3
 j _.L10
 match_rest:
 addi sp,sp,-48
+.option norvc
 sw ra,44(sp)
 sw s0,40(sp)
-.option norvc
 sw s1,36(sp)
 sw s2,32(sp)
 sw s3,28(sp)
@@ -98,7 +98,6 @@ beq s2,zero,_.L49
 add s1,zero,a1
 li s3,36
 li s4,1
-nop
 _.L22:
 lbu a5,1(a0)
 bne s2,s3,_.L24
@@ -159,14 +158,14 @@ _.L36:
 li a0,0
 j _.L21
 _.L21:
+.option norvc
 lw ra,44(sp)
 lw s0,40(sp)
-.option norvc
 lw s1,36(sp)
 lw s2,32(sp)
+.option rvc
 lw s3,28(sp)
 lw s4,24(sp)
-.option rvc
 addi sp,sp,48
 jr ra
 _.L87:
@@ -291,13 +290,13 @@ _.L49:
 .option rvc
 lw ra,44(sp)
 lw s0,40(sp)
+.option norvc
 lw s1,36(sp)
 lw s2,32(sp)
-.option norvc
 lw s3,28(sp)
+.option rvc
 lw s4,24(sp)
 li a0,1
-.option rvc
 addi sp,sp,48
 jr ra
 _.L84:
@@ -432,26 +431,25 @@ lbu a4,0(s7)
 bne a4,zero,_.L137
 j _.L108
 _.L108:
-.option rvc
 lw ra,44(sp)
 lw s0,40(sp)
 li a5,251
 rem a0,s5,a5
+.option rvc
 lw s1,36(sp)
 lw s2,32(sp)
+.option norvc
 lw s3,28(sp)
 lw s4,24(sp)
-.option norvc
 lw s5,20(sp)
+.option rvc
 lw s6,16(sp)
 lw s7,12(sp)
-.option rvc
 addi sp,sp,48
-.option norvc
-nop
 jr ra
 _.L133:
 sb zero,0(s1)
+.option norvc
 addi s1,s1,1
 j _.L96
 _.L95:

@@ -80,22 +80,19 @@ lw ra,60(sp)
 lw s0,56(sp)
 nop
 sw a5,0(a3)
-.option rvc
 lw s1,52(sp)
 lw s2,48(sp)
 lw s3,44(sp)
 lw s4,40(sp)
-.option norvc
 lw s5,36(sp)
+.option rvc
 lw s6,32(sp)
 lw s7,28(sp)
-.option rvc
 addi sp,sp,64
-.option norvc
-nop
 jr ra
 _.L15:
 lw a1,0(s6)
+.option norvc
 add s0,zero,a4
 lw a0,0(s5)
 nop

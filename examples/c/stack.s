@@ -113,12 +113,12 @@ ret
 multiply:
 lw a3,0(a0)
 add a5,zero,a0
+lw a2,12(a0)
+mul a2,a2,a3
 lw a1,8(a0)
 mulhu a6,a3,a1
 lw a4,4(a0)
 mul a4,a4,a1
-lw a2,12(a0)
-mul a2,a2,a3
 mul a3,a3,a1
 sw a3,0(a5)
 .option rvc
@@ -416,14 +416,16 @@ la a0,text
 .option rvc
 sw s0,24(sp)
 sw s1,20(sp)
-sw s2,16(sp)
-sw s3,12(sp)
 .option norvc
+sw s2,16(sp)
+.option rvc
+sw s3,12(sp)
 sw ra,28(sp)
 la s3,text
 call get
 add a5,s3,a0
 sb zero,0(a5)
+.option norvc
 add s0,zero,s3
 li s1,32
 li s2,8
@@ -645,14 +647,14 @@ li a0,4
 li a5,10
 j _.L75
 _.L79:
+.option norvc
 lw ra,28(sp)
 lw s0,24(sp)
-.option norvc
 lw s1,20(sp)
 lw s2,16(sp)
+.option rvc
 lw s3,12(sp)
 li a0,1
-.option rvc
 addi sp,sp,32
 jr ra
 _.L110:
@@ -712,12 +714,14 @@ sw s2,16(sp)
 sw s3,12(sp)
 sw s4,8(sp)
 sw s5,4(sp)
+.option norvc
 sw ra,28(sp)
 sw s0,24(sp)
-.option norvc
 sw s1,20(sp)
+.option rvc
 add s5,zero,a0
 add s3,zero,a1
+.option norvc
 add s2,zero,a2
 add s4,zero,a4
 bne a3,zero,_.L103..1
@@ -784,13 +788,13 @@ _.L85..1:
 .option rvc
 lw ra,28(sp)
 lw s0,24(sp)
+.option norvc
 lw s1,20(sp)
 lw s2,16(sp)
-.option norvc
 lw s3,12(sp)
+.option rvc
 lw s4,8(sp)
 lw s5,4(sp)
-.option rvc
 addi sp,sp,32
 jr ra
 _.L103..1:

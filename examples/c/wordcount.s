@@ -212,10 +212,10 @@ addi a5,t2,1
 addi a0,a0,-1
 add a0,a0,a5
 sltu t2,a5,t2
-sltu a5,a0,a5
 add t2,t2,s1
-add a5,a5,t2
 sw a4,0(sp)
+sltu a5,a0,a5
+add a5,a5,t2
 sw s2,4(sp)
 sw a0,16(sp)
 sw a5,20(sp)
