@@ -26,7 +26,8 @@ def rtlib():
 
 
 def sharing_rt():
-    """The command rt itself, which shares what is proved with the other checkouts on this machine."""
+    """The command rt itself, which shares what is proved with the other checkouts on this machine, where it can."""
     rt = module("rt", "rt")
-    rt.share_work(True)
+    if hasattr(rt, "share_work"):  # kit 13b has none yet
+        rt.share_work(True)
     return rt
