@@ -336,6 +336,34 @@ module _ {S : Type 0} (machine : Machine) (answer : S → Call → Answer S) whe
       let e = ap (bare_joint plan old before) (enough n some.answers x.0 x.1) ∙ some.is (Some x.0) in
       absurd (let z : true ≡ false = sym ended ∙ ap (λ (j : Joined (Limited S)). j.is_ended) e in cc)) (less_or n some.answers)
 
+-- a turn in which no call is left: the whole turn where it ends, and else one of fewer steps
+module _ {S : Type 0} (machine : Machine) (answer : S → Call → Answer S) (t : Turn) (old : List Slot) (before : S) where
+  abbrev unasked : Joined (Limited S)
+  unasked = joint machine answer (t ∷ []) old before (Some 0)
+
+  pub no_call : unasked.is_ended ≡ false → IsJoint machine answer (t ∷ []) old before unasked.slots unasked.host.host
+  no_call goes =
+      let some = some_plan machine answer (t ∷ []) old before in
+      ⊎_elim (λ (l : 0 < some.answers).
+      let c = some.cut 0 l in
+      absurd (let z : true ≡ false = sym (ap (λ (j : Joined (Limited S)). j.is_ended) c.ends) ∙ goes in cc))
+      (λ (x : (r : ℕ) × (0 ≡ some.answers + r)).
+      let e = ap (bare_joint machine answer (t ∷ []) old before) (enough 0 some.answers x.0 x.1) ∙ some.is (Some x.0) in
+      is_joint machine answer (t ∷ []) old unasked.slots before unasked.host.host
+      (ap (bare_joint machine answer (t ∷ []) old before) (sym (no_limit some.answers)) ∙ some.is None ∙ sym (ap (λ (j : Joined (Limited S)). run_end j.slots j.host.host None 1 false) e))) (less_or 0 some.answers)
+
+  at_place : (place : ℕ) (turn : Turn) (steps : ℕ) → slice_get (t ∷ []) place ≡ Some turn → steps < turn.steps → IsJoint machine answer (shortened (t ∷ []) place steps) old before unasked.slots unasked.host.host
+      → (k : ℕ) × (k < t.steps) × IsJoint machine answer (record { sandbox = t.sandbox; steps = k } ∷ []) old before unasked.slots unasked.host.host
+  at_place zero turn steps e fewer h = (steps, (let same : t ≡ turn = cc in subst (λ (x : Turn). steps < x.steps) (sym same) fewer), h)
+  at_place (suc place) turn steps e fewer h = absurd (cc)
+
+  pub first_call : unasked.is_ended ≡ true → (k : ℕ) × (k < t.steps) × IsJoint machine answer (record { sandbox = t.sandbox; steps = k } ∷ []) old before unasked.slots unasked.host.host
+  first_call ends =
+      let c = up_to_there machine answer (t ∷ []) old before 0 ends in
+      let less = shortened (t ∷ []) c.place c.steps in
+      at_place c.place c.turn c.steps c.turn_is c.fewer
+      (is_joint machine answer less old unasked.slots before unasked.host.host (c.is ∙ sym (ap (λ (j : Joined (Limited S)). run_end j.slots j.host.host None (length less) false) c.ends)))
+
 pub joint_follows : {S : Type 0} → JointFollows S
 joint_follows {S} machine answer p q slots s =
     let j = joint machine answer p slots s None in

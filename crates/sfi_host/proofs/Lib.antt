@@ -6,6 +6,7 @@ pub mod Entered
 pub mod SafeSeats
 pub mod RegionBytes
 pub mod Joined
+pub mod LaterReplies
 pub mod Leaving
 pub mod Loaded
 pub mod Moves
@@ -15,6 +16,7 @@ pub mod OwnSteps
 pub mod Plans
 pub mod Continuing
 pub mod Replying
+pub mod Silenced
 pub mod Runs
 pub mod SameWorld
 pub mod Serving
@@ -22,5 +24,6 @@ pub mod Stops
 pub mod Changing
 pub mod Entries
 pub mod Turning
+pub mod Waited
 pub mod Worlds
 pub mod Facts

@@ -24,3 +24,5 @@ pub mod Steps
 pub mod Laws
 pub mod Moves
 pub mod private
+pub mod Waiting
+pub mod LaterReplies

@@ -1,5 +1,6 @@
 //! What holds of the definitions and of every run. A call costs nothing.
 ghost use Rattle.sfi_host.specs.Following.{JoinedFollows, JointFollows, PlansFollow, CutFollows, CutIsShorter, RetryFollows};
+ghost use Rattle.sfi_host.specs.LaterReplies.{ToCallIsJoint, ReplyIsAnswer, WritesAreReplies};
 ghost use Rattle.sfi_host.specs.Laws.{SomeMachine, OneMachine, NeighboursAreChanges, CallsHaveStack, AnswersAreReplies};
 ghost use Rattle.sfi_host.specs.Moves.{JoinedMoves, JointMoves};
 ghost use Rattle.sfi_host.specs.Solo.{JoinedIsSolo, JointIsSolo};
@@ -87,4 +88,13 @@ pub fn joined_moves<S>()
 
     // With a host that answers so many calls, or each call.
     ensures limited { JointMoves S }
+{}
+
+/// A program that runs a sandbox up to its call (`World::run_to_call`), maybe writes to its data, and
+/// replies (`World::reply`), comes to what a host comes to that answers so at once. `S` is that host's
+/// state.
+pub fn later_is_at_once<S>()
+    ensures turns { ToCallIsJoint S }
+    ensures replies { ReplyIsAnswer S }
+    ensures writes { WritesAreReplies }
 {}

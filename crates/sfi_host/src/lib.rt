@@ -26,6 +26,7 @@ mod services;
 mod session;
 mod status;
 mod turn;
+mod waiting;
 mod world;
 
 pub use console::Console;
@@ -34,4 +35,5 @@ pub use guest::{Guest, Request};
 pub use region::Region;
 pub use status::Status;
 pub use turn::{RunAnswer, Turn};
+pub use waiting::Later;
 pub use world::World;

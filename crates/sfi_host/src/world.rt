@@ -1,22 +1,25 @@
 //! Worlds.
-ghost use Rattle.std.specs.Prelude.{◌≡◌, ◌≢◌, ◌↔◌, ◌<◌, ℕ, [], ◌∷◌, length, map, slice_get, IfOk, IsTrue, IsSome, Some};
+ghost use Rattle.std.specs.Prelude.{◌≡◌, ◌≢◌, ◌↔◌, ◌<◌, ℕ, [], ◌∷◌, length, map, slice_get, slice_set, IfOk, IfSome, IsTrue, IsSome, Some};
 ghost use Rattle.std.specs.Bool.{OnTrue, OnFalse};
 ghost use Rattle.std.specs.FinMap.{empty};
 ghost use Rattle.std.specs.Option.{option_map};
 ghost use Rattle.sfi_image.specs.Spans.{Holds};
 ghost use Rattle.sfi_host.specs.Changing.{data_bytes_of, with_world_bytes, OthersAreSame, AreChanges};
 ghost use Rattle.sfi_host.specs.Entering.{MayEnterAt, with_entry, IsAtEntry};
-ghost use Rattle.sfi_host.specs.Joint.{Machine, IsMachine};
-ghost use Rattle.sfi_host.specs.Moves.{HaveRunJointly};
+ghost use Rattle.sfi_host.specs.Joint.{Machine, IsMachine, call_of, replied};
+ghost use Rattle.sfi_host.specs.Moves.{HaveRun, HaveRunJointly};
 ghost use Rattle.sfi_host.specs.Plans.{IsJoint, IsCutJoint};
 ghost use Rattle.sfi_host.specs.private.Sandboxes.{bounds_in, slot_in};
 ghost use Rattle.sfi_host.specs.Reading.{hart_at, data_region_at};
 ghost use Rattle.sfi_host.specs.Regions.{span_of};
 ghost use Rattle.sfi_host.specs.Slots.{Slot};
 ghost use Rattle.sfi_host.specs.Loading.{first_seat, with_parts, AreEntered, HaveFirstData};
+ghost use Rattle.sfi_host.specs.Waiting.{IsAtCall, Waits, to_call, later_reply, later_answer};
 ghost use Rattle.sfi_host.specs.Worlds.{slots_of, status_at, steps_at, data_byte_of, HaveStoppedThemselves, IsSafeWorld, StaysOutsideData};
 
+use crate::asking::{ask, asked_by};
 use crate::gates::Gates;
+use crate::guest::Request;
 use crate::loading::load_parts;
 use crate::program::{Program, decode_all};
 use crate::region::Region;
@@ -24,6 +27,7 @@ use crate::running::run_turn;
 use crate::sandbox::Sandbox;
 use crate::status::Status;
 use crate::turn::{RunAnswer, StepResult, Turn};
+use crate::waiting::{Later, Silent};
 use rv_mem::Memory;
 use rv_step::Cpu;
 use sfi_check::Accepted;
@@ -136,6 +140,94 @@ impl<M: Memory> World<M> {
             }
         }
         RunAnswer::Done
+    }
+
+    /// Takes a turn up to the next call: as a turn of a plan, but a call ends it, and leaves its
+    /// sandbox at the call as if it had not called. The answer is what it asks, if it stands at a call
+    /// then; so it does, too, where its steps were used just before the call. It waits there for a
+    /// `reply`, and turns that it gets before come to nothing.
+    pub fn run_to_call(&mut self, turn: Turn) -> Option<Request>
+        // What the turn comes to with a host that answers no call.
+        ensures ran { (machine : Machine) → IsMachine machine
+            → slots_of self.new ≡ (to_call machine (turn ∷ []) (slots_of self.old)).slots }
+
+        // It is a list of moves in the one memory, as in `run_plan`.
+        ensures runs { (machine : Machine) → IsMachine machine
+            → HaveRun machine (turn ∷ []) self.old self.new
+            (λ plan. to_call machine plan (slots_of self.old)) }
+
+        // The answer is as that of `waiting`.
+        ensures waits { IfSome result (λ r. Waits (slots_of self.new) turn.sandbox r) }
+        ensures there { IsSome result ↔ IsAtCall (slots_of self.new) turn.sandbox }
+
+        // As after a plan.
+        ensures safe { IsSafeWorld self.new }
+        ensures stops { HaveStoppedThemselves self.new }
+        ensures outside { StaysOutsideData self.old self.new.bytes }
+    {
+        // What the contract rests on: this call does nothing.
+        self.stays_safe();
+
+        let mut host = Silent::new();
+        self.run_silent(turn, &mut host);
+        self.waiting(turn.sandbox)
+    }
+
+    // One turn with a host that answers no call. Each sandbox lies where it lay.
+    fn run_silent(&mut self, turn: Turn, host: &mut Silent)
+        ensures ran { (machine : Machine) → IsMachine machine
+            → slots_of self.new ≡ (to_call machine (turn ∷ []) (slots_of self.old)).slots }
+        ensures safe { IsSafeWorld self.new }
+        ensures bounds { bounds_in self.new ≡ bounds_in self.old }
+        ensures outside { StaysOutsideData self.old self.new.bytes }
+    {
+        host.is_silent();
+        let answer = self.take_turn(turn, host);
+        host.is_silent();
+        match answer {
+            StepResult::Continue | StepResult::TurnEnds => {}
+            StepResult::RunEnds => {}
+        }
+    }
+
+    /// What the sandbox of that number asks, if it waits at a call.
+    pub fn waiting(&self, i: u32) -> Option<Request>
+        ensures waits { IfSome result (λ r. Waits (slots_of self.now) i r) }
+        ensures there { IsSome result ↔ IsAtCall (slots_of self.now) i }
+    {
+        let place = i as usize;
+        if place >= self.sandboxes.len() {
+            return None;
+        }
+        asked_by(&self.memory, &self.sandboxes[place], i)
+    }
+
+    /// Gives the sandbox of that number its reply, if it waits at a call: a0, a1 and, if it is to
+    /// go on, pc after the ecall. `false` where it doesn't wait, and then nothing changed.
+    pub fn reply(&mut self, i: u32, reply: Later) -> bool
+        ensures may { IsTrue result ↔ IsAtCall (slots_of self.old) i }
+        ensures done { OnTrue result ((machine : Machine) → IsMachine machine
+            → IsJoint machine later_answer (record { sandbox = i; steps = 1 } ∷ [])
+            (slots_of self.old) reply (slots_of self.new) reply) }
+        ensures replied { OnTrue result ((slot : Slot)
+            → slice_get (slots_of self.old) i ≡ Some slot
+            → slots_of self.new ≡ slice_set (slots_of self.old) i
+            (replied slot (later_reply reply (call_of i slot)))) }
+        ensures refused { OnFalse result (self.new ≡ self.old) }
+        ensures safe { IsSafeWorld self.new }
+        ensures stops { HaveStoppedThemselves self.new }
+        ensures outside { StaysOutsideData self.old self.new.bytes }
+    {
+        let place = i as usize;
+        if place >= self.sandboxes.len() {
+            return false;
+        }
+        let Some(_) = asked_by(&self.memory, &self.sandboxes[place], i) else {
+            return false;
+        };
+        let mut host = reply;
+        ask(&mut self.memory, &mut self.sandboxes[place], i, &mut host);
+        true
     }
 
     // One turn: what the plan of that turn alone comes to. Each sandbox lies where it lay.

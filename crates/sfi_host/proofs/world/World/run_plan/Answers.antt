@@ -1,6 +1,6 @@
 use Rattle.sfi_host.proofs.Prelude.{◌≡◌, ◌≢◌, ◌⊎◌, inl, inr, ℕ, List, Some, None, ◌∙◌, refl, sym, subst, arith, take_all, StepResult, Continue, TurnEnds, RunEnds, Turn, Machine, IsMachine, IsJoint, IsCutJoint, slots_of}
 use Rattle.sfi_host.proofs.Continuing.{next_taken, next_cut}
-use Rattle.sfi_host.proofs.Joined.{joint_are}
+use Rattle.sfi_host.proofs.Joined.{joined_are}
 use Rattle.sfi_host.proofs.Plans.{none_joint}
 use Rattle.sfi_host.proofs.SameWorld.{outside_more, world_runs}
 use Rattle.sfi_host.proofs.Stops.{have_stopped}
@@ -42,7 +42,7 @@ returns-clause-done g c e machine is = done g c machine is
 
 pub returns-clause-runs : goal.returns-clause-runs
 returns-clause-runs g c machine is =
-    world_runs joint_are machine is g.G.Gates.answer c.args.plan.now c.args.self.now c.loop-place.self c.args.gates.now c.stays_safe.ensures
+    world_runs joined_are machine is g.G.Gates.answer c.args.plan.now c.args.self.now c.loop-place.self c.args.gates.now c.stays_safe.ensures
     c.loop-place.invariant.bounds c.loop-place.invariant.outside None (done g c machine is).slots
 
 pub returns-clause-stops : goal.returns-clause-stops
@@ -67,7 +67,7 @@ returns-in-RunEnds g c =
           let ended = cut machine is in
           record {
             cut = ended;
-            moved = world_runs joint_are machine is g.G.Gates.answer c.args.plan.now c.args.self.now c.take_turn.new.self c.args.gates.now c.stays_safe.ensures
+            moved = world_runs joined_are machine is g.G.Gates.answer c.args.plan.now c.args.self.now c.take_turn.new.self c.args.gates.now c.stays_safe.ensures
                 (c.take_turn.ensures.bounds ∙ c.loop-place.invariant.bounds) left (Some ended.answered) ended.slots;
           };
       safe = c.take_turn.ensures.safe;

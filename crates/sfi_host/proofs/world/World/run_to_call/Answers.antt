@@ -1,0 +1,14 @@
+use Rattle.sfi_host.proofs.Prelude.{[], ◌∷◌}
+use Rattle.sfi_host.proofs.Joined.{joined_are}
+use Rattle.sfi_host.proofs.SameWorld.{moves_to}
+use Rattle.sfi_host.proofs.Stops.{have_stopped}
+use Rattle.sfi_host.specs.Waiting.{silent}
+use Rattle.sfi_host.proofs.world.World.run_to_call.Goals as goal
+
+pub returns-clause-runs : goal.returns-clause-runs
+returns-clause-runs g c machine is =
+    let ran = c.run_silent.ensures in
+    moves_to joined_are machine is silent (c.args.turn ∷ []) c.args.self.now c.run_silent.new.self tt c.stays_safe.ensures ran.bounds ran.outside (ran.ran machine is)
+
+pub returns-clause-stops : goal.returns-clause-stops
+returns-clause-stops g c = have_stopped c.run_silent.new.self c.run_silent.ensures.safe
