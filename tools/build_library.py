@@ -1,13 +1,13 @@
 #!/usr/bin/env python3
-"""Builds the C library of crates/sfi_c for each target after `rt ci`, over the libraries that it proved.
+"""Builds a C library for each of its targets after `rt ci`, over the libraries that it proved.
 
-    tools/build_library.py
+    tools/build_library.py [CRATE]
 
-crates/sfi_c/out/libsfi_c.a is for x86-64. Another target has a folder there of its own, with its libsfi_c.a and, for
-WebAssembly, the module sfi.wasm.
+CRATE is sfi_c, the checker, unless sfi_run, the runtime, is named. crates/sfi_c/out/libsfi_c.a is for x86-64. Another target
+has a folder there of its own, with its libsfi_c.a and, for WebAssembly, which sfi_run has no heap for, the module sfi.wasm.
 
-`rt ci` proves sfi_c, but builds no static library. It leaves the libraries that sfi_c stands on without the mark
-by which `rt lib` would take them, so that `rt lib` would prove them once more. This proves sfi_c alone and builds
+`rt ci` proves the crate, but builds no static library. It leaves the libraries that it stands on without the mark
+by which `rt lib` would take them, so that `rt lib` would prove them once more. This proves the crate alone and builds
 it, as `rt lib` does, by the toolchain's own module, for all targets side by side. Where a library has the mark,
 `rt ci` gave back what earlier checks kept: `rt lib` has little to prove then, and is called, once for each target.
 """
@@ -21,74 +21,79 @@ from concurrent.futures import ThreadPoolExecutor
 sys.dont_write_bytecode = True
 import toolchain
 
-CRATE = "sfi_c"
 HOST = "x86_64-unknown-linux-gnu"
 WASM = "wasm64-unknown-unknown"
-TARGETS = [HOST, "aarch64-unknown-linux-gnu", WASM]
+ARM = "aarch64-unknown-linux-gnu"
+TARGETS = {"sfi_c": [HOST, ARM, WASM], "sfi_run": [HOST, ARM]}
 
 
 def is_marked(crate):
     return os.path.exists(os.path.join(os.path.dirname(crate.rlib), "stamp"))
 
 
-def archive_of(target):
+def archive_of(name, target):
     """Where a target's library goes, from the crate's folder on."""
-    return f"out/lib{CRATE}.a" if target == HOST else f"out/{target}/lib{CRATE}.a"
+    return f"out/lib{name}.a" if target == HOST else f"out/{target}/lib{name}.a"
 
 
-def build_again(folder):
+def build_again(name, folder):
     """`rt lib` for each target: it writes all of them to one place, so that of this machine comes last."""
-    for target in reversed(TARGETS):
+    for target in reversed(TARGETS[name]):
         words = [] if target == HOST else ["--target", target]
         status = subprocess.run(["rt", "lib", *words], cwd=folder, check=False).returncode
         if status:
             return status
-        os.replace(f"{folder}/{archive_of(HOST)}", f"{folder}/{archive_of(target)}")
+        os.replace(f"{folder}/{archive_of(name, HOST)}", f"{folder}/{archive_of(name, target)}")
     return 0
 
 
-def build_for(rtlib, crate, target):
+def build_for(rtlib, name, crate, target):
     """Proves the crate and builds it for a target, as `rt lib` does, and prints what rt has to say once it has ended."""
     words = crate.words(["--jobs", "1"], keeps=False)
     made = ["--toolchain", f"{rtlib.KIT}/toolchain", "--backend", "llvm"]
     crate = copy.copy(crate)
     crate.is_wasm = target == WASM  # rt holds what rattle says of the target to it
     with tempfile.TemporaryFile("w+", errors="replace") as crate.out:
-        status = crate.prove(["build", *words, "--target", target, *made, "-o", archive_of(target)])
+        status = crate.prove(["build", *words, "--target", target, *made, "-o", archive_of(name, target)])
         crate.out.seek(0)
-        print(f"== {CRATE} for {target}\n{crate.out.read()}", end="", flush=True)
+        print(f"== {name} for {target}\n{crate.out.read()}", end="", flush=True)
     return status
 
 
-def build_proved(rtlib, crate):
+def build_proved(rtlib, name, crate):
     """Proves the crate and builds it, for all targets side by side."""
     rtlib.guarded()  # what it starts ends with it
     held = rtlib.lock([*crate.below(), crate])
-    with ThreadPoolExecutor(len(TARGETS)) as pool:
-        statuses = list(pool.map(lambda target: build_for(rtlib, crate, target), TARGETS))
+    with ThreadPoolExecutor(len(TARGETS[name])) as pool:
+        statuses = list(pool.map(lambda target: build_for(rtlib, name, crate, target), TARGETS[name]))
     for lock in held:
         os.close(lock)
     return max(statuses)
 
 
-def link_module(rtlib, folder):
+def link_module(rtlib, name, folder):
     """The WebAssembly module of its library."""
     words = ["--target", WASM, "--toolchain", f"{rtlib.KIT}/toolchain"]
-    words += ["-o", f"out/{WASM}/sfi.wasm", archive_of(WASM)]
+    words += ["-o", f"out/{WASM}/sfi.wasm", archive_of(name, WASM)]
     return subprocess.run([f"{rtlib.KIT}/bin/rattle-link", *words], cwd=folder, check=False).returncode
 
 
 def main():
+    name = sys.argv[1] if len(sys.argv) > 1 else "sfi_c"
+    if len(sys.argv) > 2 or name not in TARGETS:
+        sys.exit(f"usage: tools/build_library.py [{' | '.join(TARGETS)}]")
     rtlib = toolchain.rtlib()
-    folder = os.path.join(toolchain.TOP, "crates", CRATE)
+    folder = os.path.join(toolchain.TOP, "crates", name)
     crate = rtlib.Crate(folder, toolchain.TOP, {})
-    for target in TARGETS:
-        os.makedirs(os.path.dirname(f"{folder}/{archive_of(target)}"), exist_ok=True)
+    for target in TARGETS[name]:
+        os.makedirs(os.path.dirname(f"{folder}/{archive_of(name, target)}"), exist_ok=True)
     if any(is_marked(lower) for lower in crate.below()):
-        status = build_again(folder)
+        status = build_again(name, folder)
     else:
-        status = build_proved(rtlib, crate)
-    return status or link_module(rtlib, folder)
+        status = build_proved(rtlib, name, crate)
+    if status or WASM not in TARGETS[name]:
+        return status
+    return link_module(rtlib, name, folder)
 
 
 if __name__ == "__main__":

@@ -171,7 +171,7 @@ uint64_t sfi_run_steps(struct sfi_run_world *world, uint32_t sandbox);
 
 /* Writes the sandbox's pc and registers; or where its data lie. Returns false where there is none, and writes nothing. */
 bool sfi_run_registers(struct sfi_run_world *world, uint32_t sandbox, struct sfi_run_registers *registers);
-bool sfi_run_data(struct sfi_run_world *world, uint32_t sandbox, struct sfi_run_region *data);
+bool sfi_run_data(struct sfi_run_world *world, uint32_t sandbox, struct sfi_run_region *region);
 
 #ifdef __cplusplus
 }

@@ -1,0 +1,10 @@
+use Rattle.std.proofs.Common.{◌≡◌, ◌↔◌, IsTrue, Some, ap, ◌∙◌, subst}
+use Rattle.std.proofs.lemmas.Option.{same_Some}
+use Rattle.sfi_host.specs.Entering.{MayEnterAt}
+use Rattle.sfi_host.specs.Worlds.{Sandboxes, slots_of}
+use Rattle.sfi_run.proofs.between.sfi_run_enter.Goals as goal
+
+pub returns-clause-may : goal.returns-clause-may
+returns-clause-may c w e =
+    let same : c.deref_mut.result.now ≡ w = same_Some c.deref_mut.result.now w (ap Some c.deref_mut.ensures.value ∙ c.in-Some.ensures.taken ∙ e) in
+    subst (λ (x : Sandboxes). IsTrue c.enter-done.result ↔ MayEnterAt (slots_of x) c.args.sandbox c.args.pc) same c.enter-done.ensures.may

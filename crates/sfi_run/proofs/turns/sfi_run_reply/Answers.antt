@@ -1,0 +1,10 @@
+use Rattle.std.proofs.Common.{◌≡◌, ◌↔◌, IsTrue, Some, ap, ◌∙◌, subst}
+use Rattle.std.proofs.lemmas.Option.{same_Some}
+use Rattle.sfi_host.specs.Waiting.{IsAtCall}
+use Rattle.sfi_host.specs.Worlds.{Sandboxes, slots_of}
+use Rattle.sfi_run.proofs.turns.sfi_run_reply.Goals as goal
+
+pub returns-clause-may : goal.returns-clause-may
+returns-clause-may c w e =
+    let same : c.deref_mut.result.now ≡ w = same_Some c.deref_mut.result.now w (ap Some c.deref_mut.ensures.value ∙ c.in-Some.ensures.taken ∙ e) in
+    subst (λ (x : Sandboxes). IsTrue c.reply-done.result ↔ IsAtCall (slots_of x) c.args.sandbox) same c.reply-done.ensures.may

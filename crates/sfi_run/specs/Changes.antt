@@ -1,0 +1,53 @@
+-- What a call makes of a world.
+use Rattle.std.specs.Prelude.{◌≡◌, ℕ, [], ◌∷◌, List, Some, slice_get, slice_set}
+use Rattle.sfi_host.specs.declared.turn.Turn.{Turn}
+use Rattle.sfi_host.specs.declared.waiting.Later.{Later}
+use Rattle.sfi_host.specs.Changing.{OthersAreSame, AreChanges, with_world_bytes}
+use Rattle.sfi_host.specs.Entering.{IsAtEntry, with_entry}
+use Rattle.sfi_host.specs.Joint.{Machine, IsMachine, call_of, replied}
+use Rattle.sfi_host.specs.Moves.{HaveRun}
+use Rattle.sfi_host.specs.Plans.{IsJoint}
+use Rattle.sfi_host.specs.Slots.{Slot}
+use Rattle.sfi_host.specs.Waiting.{to_call, later_answer, later_reply}
+use Rattle.sfi_host.specs.Worlds.{Sandboxes, slots_of, IsSafeWorld, StaysOutsideData, HaveStoppedThemselves}
+
+-- Still a safe world. What has stopped in it has stopped itself, and no byte outside all data has
+-- changed.
+pub record IsStillSafe (w n : Sandboxes) : Type 0 where
+  pub safe : IsSafeWorld n
+  pub stops : HaveStoppedThemselves n
+  pub outside : StaysOutsideData w n.bytes
+
+-- a turn of that sandbox, as a plan
+abbrev pub plan_of : ℕ → ℕ → List Turn
+plan_of sandbox steps = record { sandbox = sandbox; steps = steps } ∷ []
+
+-- the sandbox of that number took a turn of at most so many steps, up to its first call
+pub record HasRunToCall (w n : Sandboxes) (sandbox steps : ℕ) : Type 0 where
+  pub ran : (machine : Machine) → IsMachine machine
+      → slots_of n ≡ (to_call machine (plan_of sandbox steps) (slots_of w)).slots
+  pub runs : (machine : Machine) → IsMachine machine
+      → HaveRun machine (plan_of sandbox steps) w n (λ plan. to_call machine plan (slots_of w))
+  pub still : IsStillSafe w n
+
+-- the sandbox of that number got this reply to its call
+pub record HasReplied (w n : Sandboxes) (sandbox : ℕ) (r : Later) : Type 0 where
+  pub got : (slot : Slot) → slice_get (slots_of w) sandbox ≡ Some slot
+      → slots_of n
+      ≡ slice_set (slots_of w) sandbox (replied slot (later_reply r (call_of sandbox slot)))
+  pub joint : (machine : Machine) → IsMachine machine
+      → IsJoint machine later_answer (plan_of sandbox 1) (slots_of w) r (slots_of n) r
+  pub still : IsStillSafe w n
+
+-- these bytes are in its data, from that address on
+pub record HasWritten (w n : Sandboxes) (sandbox at : ℕ) (bytes : List ℕ) : Type 0 where
+  pub done : n ≡ with_world_bytes w at bytes
+  pub others : OthersAreSame w sandbox n
+  pub outside : StaysOutsideData w n.bytes
+  pub changes : AreChanges w n
+
+-- it is entered at pc, with these arguments
+pub record HasEntered (w n : Sandboxes) (sandbox pc : ℕ) (arguments : List ℕ) : Type 0 where
+  pub done : n ≡ with_entry w sandbox pc arguments
+  pub others : OthersAreSame w sandbox n
+  pub entry : IsAtEntry n sandbox

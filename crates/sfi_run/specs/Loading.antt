@@ -1,0 +1,33 @@
+-- What loading comes to.
+use Rattle.std.specs.Prelude.{◌≡◌, ◌⊎◌, ℕ, List, map, Result, Ok, Err}
+use Rattle.std.specs.FinMap.{empty}
+use Rattle.sfi_image.specs.declared.fault.LayoutFault.{LayoutFault}
+use Rattle.sfi_image.specs.Faults.{IsFault}
+use Rattle.sfi_image.specs.Spelling.{Part}
+use Rattle.sfi_rules.specs.declared.finding.Finding.{Finding}
+use Rattle.sfi_check.specs.Verdict.{HasFindings}
+use Rattle.sfi_host.specs.Loading.{first_seat, with_parts}
+use Rattle.sfi_host.specs.Worlds.{Sandboxes}
+use Rattle.sfi_run.specs.declared.loading.LoadFault.{LoadFault}
+use Rattle.sfi_run.specs.declared.loading.LoadFault.TheVariants.{Refused, NoImage, Memory}
+
+-- the world of an image, before any turn
+abbrev pub first_world : List Part → Sandboxes
+first_world ps = record { bytes = with_parts empty ps; seats = map first_seat ps }
+
+-- the number by which C knows it; 0 is none
+abbrev pub fault_number : LoadFault → ℕ
+fault_number Refused = 1
+fault_number NoImage = 2
+fault_number Memory = 3
+
+-- what a fault says of the bytes
+abbrev pub Means : List ℕ → LoadFault → Type 0
+Means bytes Refused = (found : List Finding) × HasFindings bytes found
+Means bytes NoImage = (k : LayoutFault) × IsFault bytes k
+Means bytes Memory = Unit {0}
+
+-- the answer is this fault, or there is no memory
+abbrev pub OrMemory : {A : Type 0} → LoadFault → Result A LoadFault → Type 0
+OrMemory fault (Ok a) = ⊥
+OrMemory fault (Err other) = (other ≡ fault) ⊎ (other ≡ Memory)

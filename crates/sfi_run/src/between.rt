@@ -1,0 +1,213 @@
+//! What C does between turns.
+ghost use Rattle.std.specs.Prelude.{◌≡◌, ◌↔◌, ℕ, length, Some, None, IsSome, IsTrue, false, slice_get};
+ghost use Rattle.std.specs.Bool.{OnTrue, OnFalse};
+ghost use Rattle.rv_step.specs.State.{Hart};
+ghost use Rattle.sfi_host.specs.Changing.{data_bytes_of};
+ghost use Rattle.sfi_host.specs.Entering.{MayEnterAt};
+ghost use Rattle.sfi_host.specs.Reading.{hart_at, data_region_at};
+ghost use Rattle.sfi_host.specs.Worlds.{Sandboxes, slots_of, steps_at, IsSafeWorld};
+ghost use Rattle.sfi_run.specs.Changes.{HasWritten, HasEntered};
+ghost use Rattle.sfi_run.specs.Regions.{span_told};
+ghost use Rattle.sfi_run.specs.Registers.{AreRegistersOf};
+
+use crate::holding::SfiRunWorld;
+use crate::region::SfiRunRegion;
+use crate::registers::SfiRunRegisters;
+use rv_mem::Pages;
+use sfi_host::World;
+use std::alloc::Global;
+
+/// Fills `bytes` with the data bytes of a sandbox from an address on: all of them, or none.
+#[unsafe(no_mangle)]
+pub extern "C" fn sfi_run_read(
+    alloc: Global,
+    world: &mut SfiRunWorld,
+    sandbox: u32,
+    at: u32,
+    bytes: &mut [u8],
+) -> bool
+    ensures same { world.new.inner.world ≡ world.old.inner.world }
+    ensures there { (w : Sandboxes) → world.old.inner.world ≡ Some w → (IsTrue result
+        ↔ IsSome (data_bytes_of (slice_get (slots_of w) sandbox) at (length bytes.old))) }
+    ensures done { OnTrue result ((w : Sandboxes) → world.old.inner.world ≡ Some w
+        → data_bytes_of (slice_get (slots_of w) sandbox) at (length bytes.old) ≡ Some bytes.new) }
+    ensures refused { OnFalse result (bytes.new ≡ bytes.old) }
+    ensures none { world.old.inner.world ≡ None → result ≡ false }
+{
+    let Some(boxed) = world.take(alloc) else {
+        return false;
+    };
+    let done = boxed.read(sandbox, at, bytes);
+    world.put(boxed);
+    done
+}
+
+// Writes data bytes of a sandbox.
+fn write(world: &mut World<Pages>, sandbox: u32, at: u32, bytes: &[u8]) -> bool
+    ensures there { IsTrue result
+        ↔ IsSome (data_bytes_of (slice_get (slots_of world.old) sandbox) at (length bytes.now)) }
+    ensures written { OnTrue result (HasWritten world.old world.new sandbox at bytes.now) }
+    ensures refused { OnFalse result (world.new ≡ world.old) }
+    ensures safe { IsSafeWorld world.new }
+{
+    world.write(sandbox, at, bytes)
+}
+
+/// Writes data bytes of a sandbox from an address on: all of them, or none.
+#[unsafe(no_mangle)]
+pub extern "C" fn sfi_run_write(
+    alloc: Global,
+    world: &mut SfiRunWorld,
+    sandbox: u32,
+    at: u32,
+    bytes: &[u8],
+) -> bool
+    ensures there { (w : Sandboxes) → world.old.inner.world ≡ Some w → (IsTrue result
+        ↔ IsSome (data_bytes_of (slice_get (slots_of w) sandbox) at (length bytes.now))) }
+    ensures written { OnTrue result ((w n : Sandboxes) → world.old.inner.world ≡ Some w
+        → world.new.inner.world ≡ Some n → HasWritten w n sandbox at bytes.now) }
+    ensures refused { OnFalse result (world.new.inner.world ≡ world.old.inner.world) }
+    ensures safe { (n : Sandboxes) → world.new.inner.world ≡ Some n → IsSafeWorld n }
+    ensures held { IsSome world.old.inner.world ↔ IsSome world.new.inner.world }
+    ensures none { world.old.inner.world ≡ None → result ≡ false }
+{
+    let Some(mut boxed) = world.take(alloc) else {
+        return false;
+    };
+    let done = write(&mut boxed, sandbox, at, bytes);
+    world.put(boxed);
+    done
+}
+
+// Enters a sandbox.
+fn enter(world: &mut World<Pages>, sandbox: u32, pc: u32, arguments: &[u32; 8]) -> bool
+    ensures may { IsTrue result ↔ MayEnterAt (slots_of world.old) sandbox pc }
+    ensures entered { OnTrue result (HasEntered world.old world.new sandbox pc arguments.now) }
+    ensures refused { OnFalse result (world.new ≡ world.old) }
+    ensures safe { IsSafeWorld world.new }
+{
+    world.enter(sandbox, pc, arguments)
+}
+
+/// Enters a sandbox that has stopped, at a bundle of its code and with these in a0 to a7.
+#[unsafe(no_mangle)]
+pub extern "C" fn sfi_run_enter(
+    alloc: Global,
+    world: &mut SfiRunWorld,
+    sandbox: u32,
+    pc: u32,
+    arguments: &[u32; 8],
+) -> bool
+    ensures may { (w : Sandboxes) → world.old.inner.world ≡ Some w
+        → (IsTrue result ↔ MayEnterAt (slots_of w) sandbox pc) }
+    ensures entered { OnTrue result ((w n : Sandboxes) → world.old.inner.world ≡ Some w
+        → world.new.inner.world ≡ Some n → HasEntered w n sandbox pc arguments.now) }
+    ensures refused { OnFalse result (world.new.inner.world ≡ world.old.inner.world) }
+    ensures safe { (n : Sandboxes) → world.new.inner.world ≡ Some n → IsSafeWorld n }
+    ensures held { IsSome world.old.inner.world ↔ IsSome world.new.inner.world }
+    ensures none { world.old.inner.world ≡ None → result ≡ false }
+{
+    let Some(mut boxed) = world.take(alloc) else {
+        return false;
+    };
+    let done = enter(&mut boxed, sandbox, pc, arguments);
+    world.put(boxed);
+    done
+}
+
+/// How many steps a sandbox has done; 0 where there is none.
+#[unsafe(no_mangle)]
+pub extern "C" fn sfi_run_steps(alloc: Global, world: &mut SfiRunWorld, sandbox: u32) -> u64
+    ensures same { world.new.inner.world ≡ world.old.inner.world }
+    ensures steps { (w : Sandboxes) (n : ℕ) → world.old.inner.world ≡ Some w
+        → steps_at (slots_of w) sandbox ≡ Some n → result ≡ n }
+    ensures no_sandbox { (w : Sandboxes) → world.old.inner.world ≡ Some w
+        → steps_at (slots_of w) sandbox ≡ None → result ≡ 0 }
+    ensures none { world.old.inner.world ≡ None → result ≡ 0 }
+{
+    let Some(boxed) = world.take(alloc) else {
+        return 0;
+    };
+    let steps = match boxed.steps(sandbox) {
+        None => 0,
+        Some(steps) => steps,
+    };
+    world.put(boxed);
+    steps
+}
+
+// Tells the pc and the registers of a sandbox, if there is one.
+fn tell_registers(world: &World<Pages>, sandbox: u32, registers: &mut SfiRunRegisters) -> bool
+    ensures there { IsTrue result ↔ IsSome (hart_at (slots_of world.now) sandbox) }
+    ensures done { OnTrue result ((h : Hart) → hart_at (slots_of world.now) sandbox ≡ Some h
+        → AreRegistersOf h registers.new) }
+    ensures refused { OnFalse result (registers.new ≡ registers.old) }
+{
+    let Some(cpu) = world.cpu(sandbox) else {
+        return false;
+    };
+    *registers = SfiRunRegisters::of(cpu);
+    true
+}
+
+/// Writes the pc and the registers of a sandbox, if there is one.
+#[unsafe(no_mangle)]
+pub extern "C" fn sfi_run_registers(
+    alloc: Global,
+    world: &mut SfiRunWorld,
+    sandbox: u32,
+    registers: &mut SfiRunRegisters,
+) -> bool
+    ensures same { world.new.inner.world ≡ world.old.inner.world }
+    ensures there { (w : Sandboxes) → world.old.inner.world ≡ Some w
+        → (IsTrue result ↔ IsSome (hart_at (slots_of w) sandbox)) }
+    ensures done { OnTrue result ((w : Sandboxes) (h : Hart) → world.old.inner.world ≡ Some w
+        → hart_at (slots_of w) sandbox ≡ Some h → AreRegistersOf h registers.new) }
+    ensures refused { OnFalse result (registers.new ≡ registers.old) }
+    ensures none { world.old.inner.world ≡ None → result ≡ false }
+{
+    let Some(boxed) = world.take(alloc) else {
+        return false;
+    };
+    let done = tell_registers(&boxed, sandbox, registers);
+    world.put(boxed);
+    done
+}
+
+// Tells where the data of a sandbox lie, if there is one.
+fn tell_data(world: &World<Pages>, sandbox: u32, region: &mut SfiRunRegion) -> bool
+    ensures there { IsTrue result ↔ IsSome (data_region_at (slots_of world.now) sandbox) }
+    ensures done { OnTrue result (data_region_at (slots_of world.now) sandbox
+        ≡ Some (span_told region.new)) }
+    ensures refused { OnFalse result (region.new ≡ region.old) }
+{
+    let Some(data) = world.data_region(sandbox) else {
+        return false;
+    };
+    *region = SfiRunRegion::of(data);
+    true
+}
+
+/// Writes where the data of a sandbox lie, if there is one.
+#[unsafe(no_mangle)]
+pub extern "C" fn sfi_run_data(
+    alloc: Global,
+    world: &mut SfiRunWorld,
+    sandbox: u32,
+    region: &mut SfiRunRegion,
+) -> bool
+    ensures same { world.new.inner.world ≡ world.old.inner.world }
+    ensures there { (w : Sandboxes) → world.old.inner.world ≡ Some w
+        → (IsTrue result ↔ IsSome (data_region_at (slots_of w) sandbox)) }
+    ensures done { OnTrue result ((w : Sandboxes) → world.old.inner.world ≡ Some w
+        → data_region_at (slots_of w) sandbox ≡ Some (span_told region.new)) }
+    ensures refused { OnFalse result (region.new ≡ region.old) }
+    ensures none { world.old.inner.world ≡ None → result ≡ false }
+{
+    let Some(boxed) = world.take(alloc) else {
+        return false;
+    };
+    let done = tell_data(&boxed, sandbox, region);
+    world.put(boxed);
+    done
+}

@@ -1,0 +1,92 @@
+//! What C is told of a sandbox.
+ghost use Rattle.std.specs.Prelude.{◌≡◌, ◌↔◌, IfSome, IsSome};
+ghost use Rattle.sfi_host.specs.Waiting.{IsAtCall, Waits};
+ghost use Rattle.sfi_host.specs.Worlds.{slots_of};
+
+use rv_mem::Pages;
+use rv_step::Cause;
+use sfi_host::{Request, Status, World};
+
+/// How a sandbox stands: `struct sfi_run_event`. What its kind doesn't speak of is 0.
+#[repr(C)]
+#[derive(Clone, Copy, PartialEq, Eq, Debug)]
+pub struct SfiRunEvent {
+    /// 0 there is none, 1 it is ready, 2 it waits at a call, 3 it has exited, 4 it has trapped.
+    pub kind: u32,
+    /// The service, the number with which it exited, or that of the trap's cause.
+    pub number: u32,
+    /// a0 of a call, or the address of a trap.
+    pub a0: u32,
+    /// a1 of a call.
+    pub a1: u32,
+}
+
+impl SfiRunEvent {
+    ghost use Rattle.sfi_run.specs.Events.{cause_number, call_event, status_event, none_event, IsEventOf};
+
+    fn plain(kind: u32, number: u32, a0: u32) -> SfiRunEvent
+        ensures { result ≡ record { kind = kind; number = number; a0 = a0; a1 = 0 } }
+    {
+        SfiRunEvent {
+            kind,
+            number,
+            a0,
+            a1: 0,
+        }
+    }
+
+    fn of_call(request: Request) -> SfiRunEvent
+        ensures { result ≡ call_event request }
+    {
+        SfiRunEvent {
+            kind: 2,
+            number: request.service,
+            a0: request.a0,
+            a1: request.a1,
+        }
+    }
+
+    fn cause_number(cause: Cause) -> u32
+        ensures { result ≡ cause_number cause }
+    {
+        match cause {
+            Cause::Fetch => 1,
+            Cause::Illegal => 2,
+            Cause::Break => 3,
+            Cause::Load => 4,
+            Cause::Store => 5,
+        }
+    }
+
+    fn of_status(status: Option<Status>) -> SfiRunEvent
+        ensures { result ≡ status_event status }
+    {
+        match status {
+            None => SfiRunEvent::none(),
+            Some(Status::Ready) => SfiRunEvent::plain(1, 0, 0),
+            Some(Status::Exited(number)) => SfiRunEvent::plain(3, number, 0),
+            Some(Status::Trapped(cause, at)) => {
+                SfiRunEvent::plain(4, SfiRunEvent::cause_number(cause), at)
+            }
+        }
+    }
+
+    /// Where there is none.
+    pub(crate) fn none() -> SfiRunEvent
+        ensures { result ≡ none_event }
+    {
+        SfiRunEvent::plain(0, 0, 0)
+    }
+
+    /// How the sandbox of that number stands, which asks this, if it waits.
+    pub(crate) fn of(world: &World<Pages>, sandbox: u32, waiting: Option<Request>) -> SfiRunEvent
+        requires waits { IfSome waiting (λ r. Waits (slots_of world.now) sandbox r) }
+        requires there { IsSome waiting ↔ IsAtCall (slots_of world.now) sandbox }
+        ensures { IsEventOf (slots_of world.now) sandbox result }
+    {
+        match waiting {
+            Some(request) => SfiRunEvent::of_call(request),
+            None => SfiRunEvent::of_status(world.status(sandbox)),
+        }
+    }
+}

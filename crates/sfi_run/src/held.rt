@@ -1,0 +1,72 @@
+//! A world behind a pointer, or none.
+ghost use Rattle.std.specs.Prelude.{◌≡◌, Option, Some, None};
+ghost use Rattle.sfi_host.specs.Worlds.{Sandboxes};
+ghost use Rattle.sfi_run.specs.Held.{held_owns, held_coded};
+
+use crate::parts::Parts;
+use rv_mem::Pages;
+use sfi_host::World;
+use std::alloc::Global;
+use std::marker::Model;
+
+/// A world behind a pointer, or none. C sees an address of which it reads nothing. One that is
+/// dropped leaves its world behind.
+#[repr(C)]
+#[derive(Drop)]
+pub struct Held {
+    at: *mut u8,
+    alloc: Global,
+    pub ghost world: { Option Sandboxes } by { held_coded },
+}
+
+impl Model for Held {
+    ghost also_owns = { λ h. held_owns h.alloc h.at h.world };
+}
+
+impl Held {
+    /// No world.
+    pub(crate) fn none(alloc: Global) -> Held
+        ensures { result.world ≡ None }
+    {
+        Held {
+            at: std::ptr::null_mut(),
+            alloc,
+        }
+    }
+
+    fn of_parts(parts: Parts<World<Pages>, Global>) -> Held
+        ensures { result.world ≡ Some parts.value }
+    {
+        let Parts { ptr, alloc } = parts;
+        Held {
+            at: ptr.cast(),
+            alloc,
+        }
+    }
+
+    fn into_parts(self) -> Parts<World<Pages>, Global>
+        requires { (w : Sandboxes) × (self.world ≡ Some w) }
+        ensures { Some result.value ≡ self.world }
+    {
+        let Held { at, alloc } = self;
+        Parts {
+            ptr: at.cast(),
+            alloc,
+        }
+    }
+
+    /// The world in the box.
+    pub(crate) fn of(world: Box<World<Pages>>) -> Held
+        ensures { result.world ≡ Some world.value }
+    {
+        Held::of_parts(Parts::of(world))
+    }
+
+    /// The box again, where there is a world.
+    pub(crate) fn into_box(self) -> Box<World<Pages>>
+        requires { (w : Sandboxes) × (self.world ≡ Some w) }
+        ensures { Some result.value ≡ self.world }
+    {
+        self.into_parts().into_box()
+    }
+}

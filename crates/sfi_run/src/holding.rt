@@ -1,0 +1,50 @@
+//! A world that C holds.
+ghost use Rattle.std.specs.Prelude.{◌≡◌, Option, None, Some};
+ghost use Rattle.std.specs.Option.{option_map};
+ghost use Rattle.sfi_host.specs.Worlds.{Sandboxes};
+ghost use Rattle.sfi_run.specs.Flags.{flag_of};
+
+use crate::held::Held;
+use rv_mem::Pages;
+use sfi_host::World;
+use std::alloc::Global;
+use std::mem::replace;
+
+/// A world, or none: `struct sfi_run_world`. C begins with zeros, and only moves it then.
+#[repr(C)]
+#[derive(Drop)]
+pub struct SfiRunWorld {
+    held: u32,
+    pub inner: Held,
+    ghost flag: { held ≡ flag_of inner.world },
+}
+
+impl SfiRunWorld {
+    /// Takes the world out, if there is one.
+    pub(crate) fn take(&mut self, alloc: Global) -> Option<Box<World<Pages>>>
+        ensures taken { option_map (λ b. b.value) result ≡ self.old.inner.world }
+        ensures none { self.new.inner.world ≡ None }
+    {
+        let none = SfiRunWorld {
+            held: 0,
+            inner: Held::none(alloc),
+        };
+        let SfiRunWorld { held, inner } = replace(self, none);
+        if held == 0 {
+            None
+        } else {
+            Some(inner.into_box())
+        }
+    }
+
+    /// Puts a world in, where there is none: one that was there would be left behind.
+    pub(crate) fn put(&mut self, world: Box<World<Pages>>)
+        requires { self.old.inner.world ≡ None }
+        ensures { self.new.inner.world ≡ Some world.value }
+    {
+        *self = SfiRunWorld {
+            held: 1,
+            inner: Held::of(world),
+        };
+    }
+}

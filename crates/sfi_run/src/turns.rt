@@ -1,0 +1,145 @@
+//! Turns up to a call, and replies.
+ghost use Rattle.std.specs.Prelude.{◌≡◌, ◌↔◌, Some, None, IsSome, IsTrue, false};
+ghost use Rattle.std.specs.Bool.{OnTrue, OnFalse};
+ghost use Rattle.sfi_host.specs.Waiting.{IsAtCall};
+ghost use Rattle.sfi_host.specs.Worlds.{Sandboxes, slots_of};
+ghost use Rattle.sfi_run.specs.Changes.{HasRunToCall, HasReplied};
+ghost use Rattle.sfi_run.specs.Events.{none_event, IsEventOf};
+
+use crate::event::SfiRunEvent;
+use crate::holding::SfiRunWorld;
+use rv_mem::Pages;
+use sfi_host::{Later, Turn, World};
+use std::alloc::Global;
+
+// Runs a sandbox up to its next call.
+fn run(world: &mut World<Pages>, sandbox: u32, steps: u32) -> SfiRunEvent
+    ensures ran { HasRunToCall world.old world.new sandbox steps }
+    ensures event { IsEventOf (slots_of world.new) sandbox result }
+{
+    let waiting = world.run_to_call(Turn { sandbox, steps });
+    SfiRunEvent::of(world, sandbox, waiting)
+}
+
+// How a sandbox stands.
+fn look(world: &World<Pages>, sandbox: u32) -> SfiRunEvent
+    ensures { IsEventOf (slots_of world.now) sandbox result }
+{
+    let waiting = world.waiting(sandbox);
+    SfiRunEvent::of(world, sandbox, waiting)
+}
+
+// Gives a sandbox that waits its reply.
+fn reply(world: &mut World<Pages>, sandbox: u32, later: Later) -> bool
+    ensures may { IsTrue result ↔ IsAtCall (slots_of world.old) sandbox }
+    ensures replied { OnTrue result (HasReplied world.old world.new sandbox later) }
+    ensures refused { OnFalse result (world.new ≡ world.old) }
+{
+    world.reply(sandbox, later)
+}
+
+/// Runs a sandbox up to its next call, for at most so many steps, and tells how it stands then.
+#[unsafe(no_mangle)]
+pub extern "C" fn sfi_run_turn(
+    alloc: Global,
+    world: &mut SfiRunWorld,
+    sandbox: u32,
+    steps: u32,
+    event: &mut SfiRunEvent,
+) -> u32
+    ensures kind { result ≡ event.new.kind }
+    ensures held { IsSome world.old.inner.world ↔ IsSome world.new.inner.world }
+    ensures ran { (w n : Sandboxes) → world.old.inner.world ≡ Some w
+        → world.new.inner.world ≡ Some n → HasRunToCall w n sandbox steps }
+    ensures event { (n : Sandboxes) → world.new.inner.world ≡ Some n
+        → IsEventOf (slots_of n) sandbox event.new }
+    ensures none { world.old.inner.world ≡ None → event.new ≡ none_event }
+{
+    let Some(mut boxed) = world.take(alloc) else {
+        *event = SfiRunEvent::none();
+        return event.kind;
+    };
+    *event = run(&mut boxed, sandbox, steps);
+    world.put(boxed);
+    event.kind
+}
+
+/// Tells how a sandbox stands.
+#[unsafe(no_mangle)]
+pub extern "C" fn sfi_run_event(
+    alloc: Global,
+    world: &mut SfiRunWorld,
+    sandbox: u32,
+    event: &mut SfiRunEvent,
+) -> u32
+    ensures kind { result ≡ event.new.kind }
+    ensures same { world.new.inner.world ≡ world.old.inner.world }
+    ensures event { (w : Sandboxes) → world.old.inner.world ≡ Some w
+        → IsEventOf (slots_of w) sandbox event.new }
+    ensures none { world.old.inner.world ≡ None → event.new ≡ none_event }
+{
+    let Some(boxed) = world.take(alloc) else {
+        *event = SfiRunEvent::none();
+        return event.kind;
+    };
+    *event = look(&boxed, sandbox);
+    world.put(boxed);
+    event.kind
+}
+
+/// Gives a sandbox that waits at a call its reply: a0 and a1. It goes on after the call, in its next
+/// turn.
+#[unsafe(no_mangle)]
+pub extern "C" fn sfi_run_reply(
+    alloc: Global,
+    world: &mut SfiRunWorld,
+    sandbox: u32,
+    a0: u32,
+    a1: u32,
+) -> bool
+    ensures may { (w : Sandboxes) → world.old.inner.world ≡ Some w
+        → (IsTrue result ↔ IsAtCall (slots_of w) sandbox) }
+    ensures replied { OnTrue result ((w n : Sandboxes) → world.old.inner.world ≡ Some w
+        → world.new.inner.world ≡ Some n
+        → HasReplied w n sandbox (record { a0 = a0; a1 = a1; exit = None })) }
+    ensures refused { OnFalse result (world.new.inner.world ≡ world.old.inner.world) }
+    ensures held { IsSome world.old.inner.world ↔ IsSome world.new.inner.world }
+    ensures none { world.old.inner.world ≡ None → result ≡ false }
+{
+    let Some(mut boxed) = world.take(alloc) else {
+        return false;
+    };
+    let done = reply(&mut boxed, sandbox, Later { a0, a1, exit: None });
+    world.put(boxed);
+    done
+}
+
+/// Stops a sandbox that waits at a call, with a number.
+#[unsafe(no_mangle)]
+pub extern "C" fn sfi_run_exit(
+    alloc: Global,
+    world: &mut SfiRunWorld,
+    sandbox: u32,
+    number: u32,
+) -> bool
+    ensures may { (w : Sandboxes) → world.old.inner.world ≡ Some w
+        → (IsTrue result ↔ IsAtCall (slots_of w) sandbox) }
+    ensures replied { OnTrue result ((w n : Sandboxes) → world.old.inner.world ≡ Some w
+        → world.new.inner.world ≡ Some n
+        → HasReplied w n sandbox (record { a0 = number; a1 = 0; exit = Some number })) }
+    ensures refused { OnFalse result (world.new.inner.world ≡ world.old.inner.world) }
+    ensures held { IsSome world.old.inner.world ↔ IsSome world.new.inner.world }
+    ensures none { world.old.inner.world ≡ None → result ≡ false }
+{
+    let Some(mut boxed) = world.take(alloc) else {
+        return false;
+    };
+    let later = Later {
+        a0: number,
+        a1: 0,
+        exit: Some(number),
+    };
+    let done = reply(&mut boxed, sandbox, later);
+    world.put(boxed);
+    done
+}
