@@ -1,0 +1,157 @@
+-- What a scan in one pass keeps: the sandbox is clean where the rest of its code is, and what is owed comes.
+use Rattle.std.proofs.Common.{◌≡◌, ◌↔◌, ℕ, ◌+◌, ◌≤◌, List, [], ◌∷◌, length, take, drop, Bool, true, false, not, ◌&&◌, Option, Some, None, refl, sym, ap, ◌∙◌, subst, arith}
+use Rattle.std.proofs.lemmas.Bool.{and_parts, and_from, not-true, false≢true}
+use Rattle.std.proofs.lemmas.List.{length-drop, drop-drop}
+use Rattle.rv_word.specs.declared.instr.Instr.{Instr}
+use Rattle.rv_comp.specs.Fronts.{Spells}
+use Rattle.sfi_image.specs.Spelling.{Part}
+use Rattle.sfi_rules.specs.Readings.{Piece, IsReading, rest_of}
+use Rattle.sfi_rules.specs.Rules.{is_empty, ends_region}
+use Rattle.sfi_words.specs.Rules.{breaks_data, breaks_code}
+use Rattle.sfi_words.specs.Code.{BreaksNone, BreakNone, AreWordsClean}
+use Rattle.sfi_words.specs.declared.owed.Owed.{Owed}
+use Rattle.sfi_words.specs.declared.owed.Owed.TheVariants.{Nothing, Mask, Place, MaskOrUse, Code}
+use Rattle.sfi_words.specs.private.Owing.{meets, meets_if, owed_after, is_nothing, BreaksNoneHere}
+use Rattle.sfi_words.proofs.After.{IsOnly, IsStuck, begins, none_there}
+use Rattle.sfi_words.proofs.Owing.{keeps, after_is}
+use Rattle.sfi_words.proofs.Scanning.{IsCleanFrom, at_first, at_last}
+
+pub record IsCleanWith (p : Part) (at : ℕ) (owed : Owed) (ended : Bool) : Type 0 where
+  pub rest : IsCleanFrom p at
+  pub met : meets owed rest.pieces ≡ true
+  pub end : (is_empty rest.pieces && not ended) ≡ false
+
+abbrev pub IsSameWith : Part → ℕ → Owed → Bool → Type 0
+IsSameWith p at owed ended = AreWordsClean p ↔ IsCleanWith p at owed ended
+
+no_end : (b : Bool) → (b && false) ≡ false
+no_end true = refl
+no_end false = refl
+
+pub with_first : (p : Part) → IsSameWith p 0 Nothing true
+with_first p = (
+  λ c. let r = (at_first p).0 c in record { rest = r; met = refl; end = no_end (is_empty r.pieces) },
+  λ c. (at_first p).1 c.rest,
+)
+
+owes_none : (o : Owed) → meets o [] ≡ true → is_nothing o ≡ true
+owes_none Nothing h = refl
+owes_none (Mask d) h = h
+owes_none (Place d) h = h
+owes_none (MaskOrUse d) h = h
+owes_none Code h = h
+
+nothing_meets : (o : Owed) (later : List Piece) → is_nothing o ≡ true → meets o later ≡ true
+nothing_meets Nothing later h = refl
+nothing_meets (Mask d) later h = absurd (false≢true h)
+nothing_meets (Place d) later h = absurd (false≢true h)
+nothing_meets (MaskOrUse d) later h = absurd (false≢true h)
+nothing_meets Code later h = absurd (false≢true h)
+
+no_bytes : (p : Part) (at : ℕ) → length p.code ≤ at → IsStuck (drop at p.code)
+no_bytes p at past i n s =
+    let w = Rattle.sfi_words.proofs.After.spelled_within (drop at p.code) i n s in
+    omega (arith, w.0, w.1, length-drop at p.code)
+
+-- at the code's end
+pub with_last : (p : Part) (at : ℕ) (o : Owed) (e : Bool) → length p.code ≤ at → (is_nothing o && e) ≡ true → IsCleanWith p at o e
+with_last p at o e past h =
+    let both = and_parts (is_nothing o) e h in
+    let r = at_last p at past in
+    record { rest = r; met = nothing_meets o r.pieces both.0; end = rw both.1 (no_end (is_empty r.pieces)) }
+
+pub with_end : (p : Part) (at : ℕ) (o : Owed) (e : Bool) → length p.code ≤ at → IsCleanWith p at o e → (is_nothing o && e) ≡ true
+with_end p at o e past c =
+    let none = none_there (drop at p.code) (no_bytes p at past) c.rest.pieces c.rest.reading in
+    let met : meets o [] ≡ true = subst (λ (l : List Piece). meets o l ≡ true) none c.met in
+    let end : not e ≡ false = subst (λ (l : List Piece). (is_empty l && not e) ≡ false) none c.end in
+    and_from (is_nothing o) e (owes_none o met) (Rattle.std.proofs.lemmas.Bool.not-false e end)
+
+keeps_from : (i : Instr) (later : List Piece) → breaks_data i later ≡ false → breaks_code i later ≡ false → keeps i later ≡ true
+keeps_from i later d c = rw (d, c) refl
+
+module _ (p : Part) (at : ℕ) (i : Instr) (n : ℕ) (s : Spells (take n (drop at p.code)) i n) (only : IsOnly (drop at p.code) i n) (o : Owed) (e : Bool) where
+  abbrev x : Piece
+  x = record { instr = i; size = n }
+
+  -- the pieces from here on, and that what is owed comes and no rule is broken
+  record Parts : Type 0 where
+    pub later : List Piece
+    pub reading : IsReading (drop (at + n) p.code) later
+    pub whole : rest_of (drop (at + n) p.code) later ≡ []
+    pub none : BreaksNone p (p.code_base + at) (record { instr = i; size = n }) later
+    pub later_none : BreakNone p (p.code_base + (at + n)) later
+    pub met : meets o (record { instr = i; size = n } ∷ later) ≡ true
+
+  parts : IsCleanWith p at o e → Parts
+  parts c =
+      let b = begins (drop at p.code) i n s only c.rest.pieces c.rest.reading c.rest.whole in
+      let moved : drop n (drop at p.code) ≡ drop (at + n) p.code = drop-drop n at p.code in
+      let none : BreakNone p (p.code_base + at) (record { instr = i; size = n } ∷ b.rest) = subst (λ (l : List Piece). BreakNone p (p.code_base + at) l) b.is c.rest.none in
+      let sum : p.code_base + at + n ≡ p.code_base + (at + n) = omega arith in
+      record {
+        later = b.rest;
+        reading = subst (λ (l : List ℕ). IsReading l b.rest) moved b.reading;
+        whole = subst (λ (l : List ℕ). rest_of l b.rest ≡ []) moved b.whole;
+        none = none.0;
+        later_none = subst (λ (a : ℕ). BreakNone p a b.rest) sum none.1;
+        met = subst (λ (l : List Piece). meets o l ≡ true) b.is c.met;
+      }
+
+  come : (q : Parts) → meets_if (owed_after o i) q.later ≡ true
+  come q = sym (after_is o x q.later) ∙ and_from (meets o (x ∷ q.later)) (keeps i q.later) q.met (keeps_from i q.later q.none.data_write q.none.code_write)
+
+  pub here_of : IsSameWith p at o e → AreWordsClean p → BreaksNoneHere p (p.code_base + at) (record { instr = i; size = n })
+  here_of same c =
+      let q = parts (same.0 c) in
+      record { width = q.none.width; ecall = q.none.ecall; reserved = q.none.reserved; access = q.none.access; jump = q.none.jump; target = q.none.target; offset_write = q.none.offset_write }
+
+  pub none_owed : owed_after o i ≡ None → IsSameWith p at o e → AreWordsClean p → ⊥
+  none_owed none same c =
+      let q = parts (same.0 c) in
+      false≢true (sym (ap (λ (t : Option Owed). meets_if t q.later) none) ∙ come q)
+
+  pub goes : (next : Owed) → owed_after o i ≡ Some next → BreaksNoneHere p (p.code_base + at) (record { instr = i; size = n }) → IsSameWith p at o e → IsSameWith p (at + n) next (ends_region i)
+  goes next after here same = (
+    λ c.
+        let q = parts (same.0 c) in
+        record {
+          rest = record { pieces = q.later; reading = q.reading; whole = q.whole; none = q.later_none };
+          met = sym (ap (λ (t : Option Owed). meets_if t q.later) after) ∙ come q;
+          end = q.none.end;
+        },
+    λ c. same.1 (joined c),
+  )
+    where
+      joined : IsCleanWith p (at + n) next (ends_region i) → IsCleanWith p at o e
+      joined c =
+          let later = c.rest.pieces in
+          let moved : drop n (drop at p.code) ≡ drop (at + n) p.code = drop-drop n at p.code in
+          let sum : p.code_base + at + n ≡ p.code_base + (at + n) = omega arith in
+          let come' : meets_if (owed_after o i) later ≡ true = ap (λ (t : Option Owed). meets_if t later) after ∙ c.met in
+          let two = and_parts (meets o (x ∷ later)) (keeps i later) (after_is o x later ∙ come') in
+          let kept = and_parts (not (breaks_data i later)) (not (breaks_code i later)) two.1 in
+          record {
+            rest = record {
+              pieces = record { instr = i; size = n } ∷ later;
+              reading = (s, subst (λ (l : List ℕ). IsReading l later) (sym moved) c.rest.reading);
+              whole = subst (λ (l : List ℕ). rest_of l later ≡ []) (sym moved) c.rest.whole;
+              none = (
+                record {
+                  width = here.width;
+                  ecall = here.ecall;
+                  reserved = here.reserved;
+                  access = here.access;
+                  jump = here.jump;
+                  target = here.target;
+                  end = c.end;
+                  data_write = not-true _ kept.0;
+                  code_write = not-true _ kept.1;
+                  offset_write = here.offset_write;
+                },
+                subst (λ (a : ℕ). BreakNone p a later) (sym sum) c.rest.none,
+              );
+            };
+            met = two.0;
+            end = refl;
+          }

@@ -1,0 +1,193 @@
+-- Each word's start is a place of the code's reading, and so is what stands after one; the one instruction there is the reading's.
+use Rattle.sfi_words.proofs.Prelude.{◌≡◌, ℕ, ◌+◌, ◌-◌, ◌%◌, ◌^◌, ◌<◌, ◌≤◌, ◌⊎◌, List, [], ◌∷◌, length, take, drop, get_or, Bool, true, false, not, ◌==◌, refl, sym, ap, ◌∙◌, subst, ⊎_elim, arith, Some, add-zero, get_or-take, get_or-drop, slice_index, length-take, length-drop, drop-drop, cases_lt, eqb-true, eq-eqb, false≢true, Spells, Bytes, byte_at, bytes_at, address_after, addresses, Hart, Stands, Part, Piece, IsReading, rest_of, is_empty, ends_region, InCode, HasCode, IsWordStart, breaks_width, BreakNone, IsPlaced, IsCleanPart, AreKnown, IsPlace, IsAtPlace, IsTyped}
+use Rattle.rv_comp.proofs.Facts.{spelled_length, spelled_some, two_lengths}
+use Rattle.sfi_image.proofs.Facts.{whole_bundles}
+use Rattle.sfi_policy.specs.declared.format.Format.TheVariants.{Sfi2}
+use Rattle.sfi_safety.proofs.Places.{read_all}
+use Rattle.sfi_words.proofs.Masks.{whole_words}
+use Rattle.sfi_words.proofs.Known.{typed_known}
+
+pub code_ends : (p : Part) → IsPlaced p → p.code_base + length p.code ≤ 2 ^ 32
+code_ends p placed = (whole_bundles Sfi2 p.code_base (length p.code) placed.code_base placed.code_placed).4
+
+-- ---- pieces
+
+-- a piece that is spelled at the head of bytes lies within them
+record LiesIn (bytes : List ℕ) (x : Piece) : Type 0 where
+  pub some : 0 < x.size
+  pub within : x.size ≤ length bytes
+  pub all : length (take x.size bytes) ≡ x.size
+
+lies_in : (bytes : List ℕ) (x : Piece) → Spells (take x.size bytes) x.instr x.size → LiesIn bytes x
+lies_in bytes x h =
+    let cut = length-take x.size bytes in
+    let all : length (take x.size bytes) ≡ x.size = spelled_length (take x.size bytes) x.instr x.size h in
+    record { some = spelled_some (take x.size bytes) x.instr x.size h; within = omega (arith, cut, all); all = all }
+
+-- its size is 2, or 4 at a multiple of 4
+sized : (p : Part) (bytes : List ℕ) (offset : ℕ) (x : Piece) → p.code_base % 4 ≡ 0 → Spells (take x.size bytes) x.instr x.size → breaks_width (p.code_base + offset) x.size ≡ false
+    → (x.size ≡ 2) ⊎ ((x.size ≡ 4) × (offset % 4 ≡ 0))
+sized p bytes offset x base spelled kept =
+    ⊎_elim
+    (λ (two : x.size ≡ 2). Rattle.std.proofs.Common.inl two)
+    (λ (four : x.size ≡ 4).
+    let e : (x.size == 4) ≡ true = eq-eqb x.size 4 four in
+    let kept' : not ((p.code_base + offset) % 4 == 0) ≡ false = rw e at kept in
+    let at : (p.code_base + offset) % 4 ≡ 0 = eqb-true _ 0 (Rattle.std.proofs.lemmas.Bool.not-false _ kept') in
+    Rattle.std.proofs.Common.inr (four, omega arith))
+    (two_lengths (take x.size bytes) x.instr x.size spelled)
+
+module _ (p : Part) (clean : IsCleanPart p) where
+  base_aligned : p.code_base % 4 ≡ 0
+  base_aligned = (whole_words p.code_base (length p.code) 1048576 clean.placed.code_placed).0
+
+  size_aligned : length p.code % 4 ≡ 0
+  size_aligned = (whole_words p.code_base (length p.code) 1048576 clean.placed.code_placed).1
+
+  -- ---- a word's start
+
+  -- going on from an offset to a word's start that isn't before it
+  place_from : (k : ℕ) → k % 4 ≡ 0 → k < length p.code → (pieces : List Piece) (offset : ℕ) → IsReading (drop offset p.code) pieces → rest_of (drop offset p.code) pieces ≡ []
+      → BreakNone p (p.code_base + offset) pieces → offset % 2 ≡ 0 → offset ≤ k → IsPlace p k
+  place_from k aligned below [] offset is whole none even le =
+      absurd (let e : length (drop offset p.code) ≡ 0 = ap length whole in omega (arith, length-drop offset p.code))
+  place_from k aligned below (x ∷ later) offset is whole none even le =
+      ⊎_elim
+      (λ (less : offset < k).
+      let moved : drop x.size (drop offset p.code) ≡ drop (offset + x.size) p.code = drop-drop x.size offset p.code in
+      let size = sized p (drop offset p.code) offset x base_aligned is.0 none.0.width in
+      let sum : p.code_base + offset + x.size ≡ p.code_base + (offset + x.size) = omega arith in
+      place_from k aligned below later (offset + x.size)
+      (subst (λ (bytes : List ℕ). IsReading bytes later) moved is.1)
+      (subst (λ (bytes : List ℕ). rest_of bytes later ≡ []) moved whole)
+      (subst (λ (at : ℕ). BreakNone p at later) sum none.1)
+      (⊎_elim (λ (two : x.size ≡ 2). omega arith) (λ (four : (x.size ≡ 4) × (offset % 4 ≡ 0)). let f = four.0 in omega arith) size)
+      (⊎_elim (λ (two : x.size ≡ 2). omega arith) (λ (four : (x.size ≡ 4) × (offset % 4 ≡ 0)). let f = four.0 in let g = four.1 in omega arith) size))
+      (λ (more : k ≤ offset).
+      let same : offset ≡ k = omega arith in
+      subst (λ (n : ℕ). IsPlace p n) same (record { here = x; later = later; reading = is; whole = whole; none = none }))
+      (cases_lt offset k)
+
+  pub word_place : (k : ℕ) → k % 4 ≡ 0 → k < length p.code → IsPlace p k
+  word_place k aligned below =
+      let c = clean.clean in
+      place_from k aligned below c.reading 0 c.is_reading c.whole (subst (λ (at : ℕ). BreakNone p at c.reading) (sym (add-zero p.code_base)) c.none) (omega arith) (omega arith)
+
+  -- with the typed registers set
+  pub at_start : (h : Hart) → IsWordStart p h.pc → IsTyped p h.registers → IsAtPlace p h
+  at_start h start typed =
+      let base = base_aligned in
+      let from : p.code_base ≤ h.pc = start.held.0 in
+      let below : h.pc < p.code_base + length p.code = start.held.1 in
+      let aligned : h.pc % 4 ≡ 0 = start.aligned in
+      let k = h.pc - p.code_base in
+      let place = word_place k (omega arith) (omega arith) in
+      record { offset = k; place = place; pc = omega arith; even = omega arith; known = typed_known p h.registers (place.here ∷ place.later) typed }
+
+  module _ (h : Hart) (at : IsAtPlace p h) where
+    abbrev here : Piece
+    here = at.place.here
+
+    bytes_here : List ℕ
+    bytes_here = take at.place.here.size (drop at.offset p.code)
+
+    spelled_here : Spells bytes_here at.place.here.instr at.place.here.size
+    unfolding bytes_here
+    spelled_here = at.place.reading.0
+
+    lies_here : LiesIn (drop at.offset p.code) at.place.here
+    lies_here = lies_in (drop at.offset p.code) at.place.here at.place.reading.0
+
+    -- it lies in the code
+    pub here_within : (0 < at.place.here.size) × (at.offset + at.place.here.size ≤ length p.code)
+    here_within =
+        let l = lies_here in
+        let some : 0 < at.place.here.size = l.some in
+        let within : at.place.here.size ≤ length (drop at.offset p.code) = l.within in
+        (some, omega (arith, length-drop at.offset p.code))
+
+    -- ---- what stands after it
+
+    -- something does, where the instruction is not one that ends a region
+    not_last : ends_region at.place.here.instr ≡ false → is_empty at.place.later ≡ false
+    not_last goes = by (is_empty at.place.later) refl
+      where
+        by : (b : Bool) → is_empty at.place.later ≡ b → is_empty at.place.later ≡ false
+        by false e = e
+        by true e = absurd (false≢true (sym at.place.none.0.end ∙ rw (e, goes) refl))
+
+    after_is : (h' : Hart) (later : List Piece) → at.place.later ≡ later → h'.pc ≡ address_after h.pc at.place.here.size → is_empty later ≡ false → AreKnown p h'.registers later → IsAtPlace p h'
+    after_is h' [] is pc' some known = absurd (false≢true (sym some))
+    after_is h' (x ∷ later) is pc' some known =
+        let n = at.place.here.size in
+        let offset = at.offset in
+        let moved : drop n (drop offset p.code) ≡ drop (offset + n) p.code = drop-drop n offset p.code in
+        let reading : IsReading (drop (offset + n) p.code) (x ∷ later) = subst (λ (bytes : List ℕ). IsReading bytes (x ∷ later)) moved (subst (λ (l : List Piece). IsReading (drop n (drop offset p.code)) l) is at.place.reading.1) in
+        let whole : rest_of (drop (offset + n) p.code) (x ∷ later) ≡ [] = subst (λ (bytes : List ℕ). rest_of bytes (x ∷ later) ≡ []) moved (subst (λ (l : List Piece). rest_of (drop n (drop offset p.code)) l ≡ []) is at.place.whole) in
+        let sum : p.code_base + offset + n ≡ p.code_base + (offset + n) = omega arith in
+        let none : BreakNone p (p.code_base + (offset + n)) (x ∷ later) = subst (λ (a : ℕ). BreakNone p a (x ∷ later)) sum (subst (λ (l : List Piece). BreakNone p (p.code_base + offset + n) l) is at.place.none.1) in
+        let lies = lies_in (drop (offset + n) p.code) x reading.0 in
+        let a : 0 < x.size = lies.some in
+        let b : x.size ≤ length (drop (offset + n) p.code) = lies.within in
+        let inside : offset + n < length p.code = omega (arith, length-drop (offset + n) p.code) in
+        let end = code_ends p clean.placed in
+        let pc : h.pc ≡ p.code_base + offset = at.pc in
+        let size = sized p (drop offset p.code) offset at.place.here base_aligned at.place.reading.0 at.place.none.0.width in
+        let even : offset % 2 ≡ 0 = at.even in
+        record {
+          offset = offset + n;
+          place = record { here = x; later = later; reading = reading; whole = whole; none = none };
+          pc = pc' ∙ (let e : address_after h.pc n ≡ p.code_base + (offset + n) = omega (arith, inside, pc, end) in e);
+          even = ⊎_elim (λ (two : n ≡ 2). omega arith) (λ (four : (n ≡ 4) × (offset % 4 ≡ 0)). let f = four.0 in omega arith) size;
+          known = known;
+        }
+
+    pub goes_on : (h' : Hart) → h'.pc ≡ address_after h.pc at.place.here.size → ends_region at.place.here.instr ≡ false → AreKnown p h'.registers at.place.later → IsAtPlace p h'
+    goes_on h' pc' goes known = after_is h' at.place.later refl pc' (not_last goes) known
+
+    -- ---- the one instruction there
+
+    byte_here : (k : ℕ) → k < at.place.here.size → get_or bytes_here k 0 ≡ get_or p.code (at.offset + k) 0
+    unfolding bytes_here
+    byte_here k below = get_or-take at.place.here.size (drop at.offset p.code) k 0 below ∙ get_or-drop at.offset p.code k 0
+
+    length_here : length bytes_here ≡ at.place.here.size
+    unfolding bytes_here
+    length_here = lies_here.all
+
+    there_here : (m : Bytes) → HasCode p m → (k : ℕ) → k < length bytes_here → byte_at m (address_after h.pc k) ≡ Some (slice_index bytes_here k)
+    there_here m code k below =
+        let size = here_within in
+        let within : at.offset + at.place.here.size ≤ length p.code = size.1 in
+        let below' : k < at.place.here.size = subst (λ n. k < n) length_here below in
+        let end = code_ends p clean.placed in
+        let pc : h.pc ≡ p.code_base + at.offset = at.pc in
+        let j = at.offset + k in
+        let same : address_after h.pc k ≡ p.code_base + j = omega arith in
+        let inside : j < length p.code = omega arith in
+        ap (byte_at m) same ∙ code j inside ∙ ap Some (sym (byte_here k below'))
+
+    pub pc_in_code : InCode p h.pc
+    pc_in_code =
+        let size = here_within in
+        let some : 0 < at.place.here.size = size.0 in
+        let within : at.offset + at.place.here.size ≤ length p.code = size.1 in
+        let pc : h.pc ≡ p.code_base + at.offset = at.pc in
+        (omega arith, omega arith)
+
+    pub byte_in_code : (k : ℕ) → k < at.place.here.size → InCode p (address_after h.pc k)
+    byte_in_code k below =
+        let size = here_within in
+        let within : at.offset + at.place.here.size ≤ length p.code = size.1 in
+        let end = code_ends p clean.placed in
+        let pc : h.pc ≡ p.code_base + at.offset = at.pc in
+        let e : address_after h.pc k ≡ h.pc + k = omega arith in
+        (omega arith, omega arith)
+
+    read_here : (m : Bytes) → HasCode p m → bytes_at m (addresses h.pc at.place.here.size) ≡ Some bytes_here
+    read_here m code =
+        subst (λ (n : ℕ). bytes_at m (addresses h.pc n) ≡ Some bytes_here) length_here
+        (read_all m (address_after h.pc) 0 bytes_here (λ k below. let e : k ≡ 0 + k = omega arith in subst (λ (j : ℕ). byte_at m (address_after h.pc j) ≡ Some (slice_index bytes_here k)) e (there_here m code k below)))
+
+    pub present : (m : Bytes) → HasCode p m → Stands (record { hart = h; memory = m }) at.place.here.instr at.place.here.size
+    present m code = record { bytes = bytes_here; there = read_here m code; spelled = spelled_here }

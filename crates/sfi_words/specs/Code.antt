@@ -1,0 +1,51 @@
+-- Which sandboxes of code in words have a right layout and break no rule.
+use Rattle.std.specs.Prelude.{◌≡◌, ◌+◌, ℕ, List, [], ◌∷◌, false, length}
+use Rattle.sfi_policy.specs.Limits.{region_least}
+use Rattle.sfi_image.specs.Spelling.{Part, IsWord}
+use Rattle.sfi_image.specs.Spans.{AreApart, code_region, guarded_region}
+use Rattle.sfi_image.specs.Regions.{IsRegion, IsDataRegion, HasGuardRoom}
+use Rattle.sfi_rules.specs.Readings.{Piece, IsReading, rest_of}
+use Rattle.sfi_rules.specs.Rules.{breaks_reserved}
+use Rattle.sfi_words.specs.Rules.{breaks_width, breaks_ecall, breaks_access, breaks_jump, breaks_target, breaks_end, breaks_data, breaks_code, breaks_offset}
+
+-- the largest code region
+abbrev pub code_most : ℕ
+code_most = 1048576
+
+-- no rule is broken by the piece at this address, before those
+pub record BreaksNone (p : Part) (at : ℕ) (x : Piece) (later : List Piece) : Type 0 where
+  pub width : breaks_width at x.size ≡ false
+  pub ecall : breaks_ecall p at x.instr ≡ false
+  pub reserved : breaks_reserved x.instr ≡ false
+  pub access : breaks_access x.instr ≡ false
+  pub jump : breaks_jump x.instr ≡ false
+  pub target : breaks_target p at x.instr ≡ false
+  pub end : breaks_end x.instr later ≡ false
+  pub data_write : breaks_data x.instr later ≡ false
+  pub code_write : breaks_code x.instr later ≡ false
+  pub offset_write : breaks_offset x.instr ≡ false
+
+-- nor by any of these, the first of which is at this address
+abbrev pub BreakNone : Part → ℕ → List Piece → Type 0
+BreakNone p at [] = Unit {0}
+BreakNone p at (x ∷ later) = BreaksNone p at x later × BreakNone p (at + x.size) later
+
+-- the code is read whole, one instruction after another (V1), and none breaks a rule
+pub record AreWordsClean (p : Part) : Type 0 where
+  pub reading : List Piece
+  pub is_reading : IsReading p.code reading
+  pub whole : rest_of p.code reading ≡ []
+  pub none : BreakNone p p.code_base reading
+
+-- the regions lie as those of bundles do
+pub record IsPlaced (p : Part) : Type 0 where
+  pub code_base : IsWord p.code_base
+  pub code_placed : IsRegion p.code_base (length p.code) region_least code_most
+  pub data_placed : IsDataRegion p.data_base p.data_size
+  pub guard_room : HasGuardRoom p.data_base p.data_size
+  pub apart : AreApart (code_region p) (guarded_region p)
+
+-- a sandbox of code in words that lies right and breaks no rule
+pub record IsCleanPart (p : Part) : Type 0 where
+  pub placed : IsPlaced p
+  pub clean : AreWordsClean p

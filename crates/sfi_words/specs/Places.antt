@@ -1,0 +1,62 @@
+-- Where a run stands: a place of the code's reading, and what the typed registers hold there.
+use Rattle.std.specs.Prelude.{◌≡◌, ◌+◌, ◌-◌, ◌%◌, ◌<◌, ◌⊎◌, ℕ, List, [], ◌∷◌, true, Option, Some, None, length, drop, slice_index, bit_and}
+use Rattle.rv_step.specs.State.{Hart, State}
+use Rattle.sfi_image.specs.Spelling.{Part}
+use Rattle.sfi_rules.specs.Readings.{Piece, IsReading, rest_of}
+use Rattle.sfi_safety.specs.Regions.{HasCode, HasEmptyGuards}
+use Rattle.sfi_words.specs.Typed.{slack, is_data, code_register, offset_register, IsWordStart, IsNear, HasReserved}
+use Rattle.sfi_words.specs.Rules.{begins_placing, begins_masking, begins_using, begins_code}
+use Rattle.sfi_words.specs.Code.{BreakNone}
+
+-- What is known of a data register before these pieces. It lies near the data; or it is placed
+-- there now, or masked and placed; or it lies a step further, and is used now.
+abbrev pub IsKnown : Part → ℕ → ℕ → List Piece → Type 0
+IsKnown p d value pieces =
+    IsNear p slack value
+    ⊎ ((begins_placing d pieces ≡ true)
+    ⊎ ((begins_masking d pieces ≡ true) ⊎ (IsNear p (slack + 2048) value × (begins_using d pieces ≡ true))))
+
+-- What is known of the code register: it is a word's start; or it is masked, and placed now.
+abbrev pub IsCodeKnown : Part → ℕ → List Piece → Type 0
+IsCodeKnown p value pieces =
+    IsWordStart p value
+    ⊎ ((begins_code pieces ≡ true) × ((x : ℕ) × (value ≡ bit_and x (length p.code - 4))))
+
+-- what is known of the typed registers before these pieces
+pub record AreKnown (p : Part) (registers : List ℕ) (pieces : List Piece) : Type 0 where
+  pub each_data : (d : ℕ) → is_data d ≡ true → IsKnown p d (slice_index registers d) pieces
+  pub code : IsCodeKnown p (slice_index registers code_register) pieces
+  pub offset : slice_index registers offset_register < p.data_size
+
+-- an offset of the code from which the rest is read whole, and breaks no rule
+pub record IsPlace (p : Part) (offset : ℕ) : Type 0 where
+  pub here : Piece
+  pub later : List Piece
+  pub reading : IsReading (drop offset p.code) (here ∷ later)
+  pub whole : rest_of (drop offset p.code) (here ∷ later) ≡ []
+  pub none : BreakNone p (p.code_base + offset) (here ∷ later)
+
+-- pc is at such an offset, and the typed registers hold what is known there
+pub record IsAtPlace (p : Part) (h : Hart) : Type 0 where
+  pub offset : ℕ
+  pub place : IsPlace p offset
+  pub pc : h.pc ≡ p.code_base + offset
+  pub even : offset % 2 ≡ 0
+  pub known : AreKnown p h.registers (place.here ∷ place.later)
+
+-- no turn changes this
+pub record KeepsAll (p : Part) (s : State) : Type 0 where
+  pub count : length s.hart.registers ≡ 32
+  pub reserved : HasReserved p s.hart.registers
+  pub code : HasCode p s.memory
+  pub guards : HasEmptyGuards p s.memory
+
+-- a good state
+pub record IsGood (p : Part) (s : State) : Type 0 where
+  pub kept : KeepsAll p s
+  pub place : IsAtPlace p s.hart
+
+-- the state is good, if the run goes on
+abbrev pub IsGoodIf : Part → Option State → Type 0
+IsGoodIf p None = Unit {0}
+IsGoodIf p (Some s) = IsGood p s
