@@ -102,7 +102,7 @@ gate_of (g ∷ gates) a h =
     (λ (e : is_gate_of gates a ≡ true). let x = gate_of gates a e in (suc x.0, x.1, x.2, x.3))
     (or_cases (g.address == a) (is_gate_of gates a) h)
 
-word_start : (p : Part) (a : ℕ) → not (is_word_start p a) ≡ false → IsWordStart p a
+word_start : (p : Part) (a : ℕ) → not (is_word_start p.code_base (length p.code) a) ≡ false → IsWordStart p a
 word_start p a h =
     let x = and_parts (nat_le p.code_base a && nat_lt a (p.code_base + length p.code)) (a % 4 == 0) (not-false _ h) in
     let y = and_parts (nat_le p.code_base a) (nat_lt a (p.code_base + length p.code)) x.0 in
@@ -135,7 +135,7 @@ jalr_leads p rd rs1 n (pos k) h end kept start =
 jalr_leads p rd rs1 n (negsuc k) h end kept start = absurd (let e = kept in cc)
 
 module _ (p : Part) (h : Hart) (m : Bytes) (end : p.code_base + length p.code ≤ 2 ^ 32) where
-  pub leads : (i : Instr) (n : ℕ) → breaks_ecall p h.pc i ≡ false → breaks_jump i ≡ false → breaks_target p h.pc i ≡ false → (is_flow i ≡ true → IsWordStart p (register h 30))
+  pub leads : (i : Instr) (n : ℕ) → breaks_ecall (is_gate_of p.gates h.pc) i ≡ false → breaks_jump i ≡ false → breaks_target p.code_base (length p.code) h.pc i ≡ false → (is_flow i ≡ true → IsWordStart p (register h 30))
       → Leads p i n h (effect i n h m).outcome (effect i n h m).state.hart
   leads (Op op rd rs1 rs2) n ecall jump target code = inl (refl, refl)
   leads (OpImm op rd rs1 imm) n ecall jump target code = inl (refl, refl)

@@ -1,8 +1,9 @@
 -- What holds of every sandbox of code in words that breaks no rule: the laws, for proofs here and in the crates above.
-use Rattle.sfi_words.specs.Laws.{EntryIsGood, TurnKeeps, CleanRunsSafely, CleanCallsTyped, CanBeEntered, RightIsPlaced, OneSentence}
+use Rattle.sfi_words.specs.Laws.{EntryIsGood, TurnKeeps, CleanRunsSafely, CleanCallsTyped, CanBeEntered, RightIsPlaced, OneSentence, FindsWhatIsBroken, OneWordList}
 use Rattle.sfi_words.proofs.Turns as turns
 use Rattle.sfi_words.proofs.Calling.{calls_typed}
 use Rattle.sfi_words.proofs.Entering.{entered, right_placed}
+use Rattle.sfi_words.proofs.Listing.{finds, one_list}
 use Rattle.sfi_words.proofs.Same.{same_sentence}
 
 pub entry_is_good : EntryIsGood
@@ -25,3 +26,9 @@ one_sentence = same_sentence
 
 pub right_is_placed : RightIsPlaced
 right_is_placed = right_placed
+
+pub finds_what_is_broken : FindsWhatIsBroken
+finds_what_is_broken = finds
+
+pub one_word_list : OneWordList
+one_word_list = one_list

@@ -7,13 +7,15 @@ pub mod Known
 pub mod Places
 pub mod Stepping
 pub mod Turns
-pub mod Gates
 pub mod After
 pub mod Owing
 pub mod Scanning
 pub mod Calling
 pub mod Entering
 pub mod Same
-pub mod Slices
 pub mod Passing
+pub mod Words
+pub mod Judging
+pub mod Telling
+pub mod Listing
 pub mod Facts

@@ -74,17 +74,23 @@ masked_code base size most x region =
     let value' : bit_or (bit_and x (size - 4)) base ≡ (q * 2 ^ j + y) * 4 = omega arith in
     (record { from = omega arith; below = omega arith }, omega arith)
 
--- a region's base is a multiple of 4, and its size too
-pub whole_words : (base size most : ℕ) → IsRegion base size 256 most → (base % 4 ≡ 0) × (size % 4 ≡ 0)
-whole_words base size most region =
+-- a region's base is a multiple of 16, and its size too
+pub whole_bundles : (base size most : ℕ) → IsRegion base size 256 most → (base % 16 ≡ 0) × (size % 16 ≡ 0)
+whole_bundles base size most region =
     let k = region.power in
     let q = region.multiple in
     let size_is : size ≡ 2 ^ k = region.size_is in
     let at_least : 256 ≤ size = region.at_least in
     let wide : 8 ≤ k = power_at_least k 8 (omega arith) in
-    let j = k - 2 in
-    let k_is : k ≡ j + 2 = omega arith in
-    let power : 2 ^ k ≡ 2 ^ j * 4 = ap (λ n. 2 ^ n) k_is ∙ pow-add 2 j 2 in
+    let j = k - 4 in
+    let k_is : k ≡ j + 4 = omega arith in
+    let power : 2 ^ k ≡ 2 ^ j * 16 = ap (λ n. 2 ^ n) k_is ∙ pow-add 2 j 4 in
     let base_is : base ≡ q * 2 ^ k = region.base_is ∙ ap (λ n. q * n) region.size_is in
-    let block : q * 2 ^ k ≡ (q * 2 ^ j) * 4 = ap (λ n. q * n) power ∙ omega arith in
+    let block : q * 2 ^ k ≡ (q * 2 ^ j) * 16 = ap (λ n. q * n) power ∙ omega arith in
     (omega arith, omega arith)
+
+-- so of 4
+pub whole_words : (base size most : ℕ) → IsRegion base size 256 most → (base % 4 ≡ 0) × (size % 4 ≡ 0)
+whole_words base size most region =
+    let whole = whole_bundles base size most region in
+    (omega (arith, whole.0), omega (arith, whole.1))

@@ -2,7 +2,39 @@
 use Rattle.sfi_words.proofs.Prelude.{◌≡◌, ℕ, Bool, true, false, cond, not, ◌&&◌, ◌||◌, ◌==◌, List, ◌∷◌, Option, Some, None, refl, sym, ap, ◌∙◌, subst, destination, Instr, Op, And, is_masking, is_placing, Piece, is_jump, is_data, places, masks, begins_placing, begins_masking, is_step, uses, begins_using, begins_code, may_write_data, breaks_data_of, breaks_data, may_write_code, breaks_code, is_and, eqb-true, and_parts, false≢true, is_register, writes_register}
 use Rattle.sfi_words.specs.declared.owed.Owed.{Owed}
 use Rattle.sfi_words.specs.declared.owed.Owed.TheVariants.{Nothing, Mask, Place, MaskOrUse, Code}
-use Rattle.sfi_words.specs.private.Owing.{meets, meets_if, left, owed_by_data, owed_by_code, owed_of, owed_by, both, owed_after}
+use Rattle.sfi_words.specs.Owing.{left, owed_by_data, owed_by_code, owed_of, owed_by}
+
+-- what is owed comes
+abbrev pub meets : Owed → List Piece → Bool
+meets Nothing later = true
+meets (Mask d) later = begins_masking d later
+meets (Place d) later = begins_placing d later
+meets (MaskOrUse d) later = begins_masking d later || begins_using d later
+meets Code later = begins_code later
+
+abbrev pub meets_if : Option Owed → List Piece → Bool
+meets_if None later = false
+meets_if (Some o) later = meets o later
+
+-- what is owed after the instruction
+abbrev pub both : Option Owed → Option Owed → Option Owed
+both None own = None
+both (Some Nothing) own = own
+both (Some (Mask d)) own = Some (Mask d)
+both (Some (Place d)) own = Some (Place d)
+both (Some (MaskOrUse d)) own = Some (MaskOrUse d)
+both (Some Code) own = Some Code
+
+abbrev pub owed_after : Owed → Instr → Option Owed
+owed_after o i = both (left o i) (owed_by i)
+
+-- nothing is owed
+abbrev pub is_nothing : Owed → Bool
+is_nothing Nothing = true
+is_nothing (Mask d) = false
+is_nothing (Place d) = false
+is_nothing (MaskOrUse d) = false
+is_nothing Code = false
 
 and_is : (rd a b : ℕ) (i : Instr) → is_and rd a b i ≡ true → i ≡ Op And rd a b
 and_is rd a b (Op And x y z) h =

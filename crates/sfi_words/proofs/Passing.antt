@@ -1,25 +1,37 @@
 -- What a scan in one pass keeps: the sandbox is clean where the rest of its code is, and what is owed comes.
-use Rattle.std.proofs.Common.{◌≡◌, ◌↔◌, ℕ, ◌+◌, ◌≤◌, List, [], ◌∷◌, length, take, drop, Bool, true, false, not, ◌&&◌, Option, Some, None, refl, sym, ap, ◌∙◌, subst, arith}
-use Rattle.std.proofs.lemmas.Bool.{and_parts, and_from, not-true, false≢true}
+use Rattle.std.proofs.Common.{◌≡◌, ◌↔◌, ℕ, ◌+◌, ◌≤◌, List, [], ◌∷◌, length, take, drop, Bool, true, false, not, ◌&&◌, Option, Some, refl, sym, ap, ◌∙◌, subst, arith}
+use Rattle.std.proofs.lemmas.Bool.{and_parts, and_from, not-true, not-false}
 use Rattle.std.proofs.lemmas.List.{length-drop, drop-drop}
 use Rattle.rv_word.specs.declared.instr.Instr.{Instr}
 use Rattle.rv_comp.specs.Fronts.{Spells}
 use Rattle.sfi_image.specs.Spelling.{Part}
 use Rattle.sfi_rules.specs.Readings.{Piece, IsReading, rest_of}
-use Rattle.sfi_rules.specs.Rules.{is_empty, ends_region}
-use Rattle.sfi_words.specs.Rules.{breaks_data, breaks_code}
+use Rattle.sfi_rules.specs.Rules.{is_empty, breaks_reserved, ends_region}
+use Rattle.sfi_image.specs.Gates.{is_gate_of}
+use Rattle.sfi_words.specs.Rules.{breaks_width, breaks_ecall, breaks_access, breaks_jump, breaks_target, breaks_end, breaks_data, breaks_code, breaks_offset}
 use Rattle.sfi_words.specs.Code.{BreaksNone, BreakNone, AreWordsClean}
 use Rattle.sfi_words.specs.declared.owed.Owed.{Owed}
 use Rattle.sfi_words.specs.declared.owed.Owed.TheVariants.{Nothing, Mask, Place, MaskOrUse, Code}
-use Rattle.sfi_words.specs.private.Owing.{meets, meets_if, owed_after, is_nothing, BreaksNoneHere}
-use Rattle.sfi_words.proofs.After.{IsOnly, IsStuck, begins, none_there}
-use Rattle.sfi_words.proofs.Owing.{keeps, after_is}
+use Rattle.sfi_words.proofs.After.{IsStuck, spelled_within, begins, none_there}
+use Rattle.sfi_words.proofs.Owing.{meets, meets_if, owed_after, is_nothing, keeps, after_is}
+use Rattle.sfi_words.specs.Findings.{fails_data, fails_code}
+use Rattle.sfi_words.proofs.Judging.{none_failing}
 use Rattle.sfi_words.proofs.Scanning.{IsCleanFrom, at_first, at_last}
 
 pub record IsCleanWith (p : Part) (at : ℕ) (owed : Owed) (ended : Bool) : Type 0 where
   pub rest : IsCleanFrom p at
   pub met : meets owed rest.pieces ≡ true
   pub end : (is_empty rest.pieces && not ended) ≡ false
+
+-- none of the rules that don't look ahead is broken by the piece at this address
+pub record BreaksNoneHere (p : Part) (at : ℕ) (x : Piece) : Type 0 where
+  pub width : breaks_width at x.size ≡ false
+  pub ecall : breaks_ecall (is_gate_of p.gates at) x.instr ≡ false
+  pub reserved : breaks_reserved x.instr ≡ false
+  pub access : breaks_access x.instr ≡ false
+  pub jump : breaks_jump x.instr ≡ false
+  pub target : breaks_target p.code_base (length p.code) at x.instr ≡ false
+  pub offset_write : breaks_offset x.instr ≡ false
 
 abbrev pub IsSameWith : Part → ℕ → Owed → Bool → Type 0
 IsSameWith p at owed ended = AreWordsClean p ↔ IsCleanWith p at owed ended
@@ -43,14 +55,14 @@ owes_none Code h = h
 
 nothing_meets : (o : Owed) (later : List Piece) → is_nothing o ≡ true → meets o later ≡ true
 nothing_meets Nothing later h = refl
-nothing_meets (Mask d) later h = absurd (false≢true h)
-nothing_meets (Place d) later h = absurd (false≢true h)
-nothing_meets (MaskOrUse d) later h = absurd (false≢true h)
-nothing_meets Code later h = absurd (false≢true h)
+nothing_meets (Mask d) later h = absurd cc
+nothing_meets (Place d) later h = absurd cc
+nothing_meets (MaskOrUse d) later h = absurd cc
+nothing_meets Code later h = absurd cc
 
 no_bytes : (p : Part) (at : ℕ) → length p.code ≤ at → IsStuck (drop at p.code)
 no_bytes p at past i n s =
-    let w = Rattle.sfi_words.proofs.After.spelled_within (drop at p.code) i n s in
+    let w = spelled_within (drop at p.code) i n s in
     omega (arith, w.0, w.1, length-drop at p.code)
 
 -- at the code's end
@@ -65,12 +77,12 @@ with_end p at o e past c =
     let none = none_there (drop at p.code) (no_bytes p at past) c.rest.pieces c.rest.reading in
     let met : meets o [] ≡ true = subst (λ (l : List Piece). meets o l ≡ true) none c.met in
     let end : not e ≡ false = subst (λ (l : List Piece). (is_empty l && not e) ≡ false) none c.end in
-    and_from (is_nothing o) e (owes_none o met) (Rattle.std.proofs.lemmas.Bool.not-false e end)
+    and_from (is_nothing o) e (owes_none o met) (not-false e end)
 
 keeps_from : (i : Instr) (later : List Piece) → breaks_data i later ≡ false → breaks_code i later ≡ false → keeps i later ≡ true
 keeps_from i later d c = rw (d, c) refl
 
-module _ (p : Part) (at : ℕ) (i : Instr) (n : ℕ) (s : Spells (take n (drop at p.code)) i n) (only : IsOnly (drop at p.code) i n) (o : Owed) (e : Bool) where
+module _ (p : Part) (at : ℕ) (i : Instr) (n : ℕ) (s : Spells (take n (drop at p.code)) i n) (o : Owed) (e : Bool) where
   abbrev x : Piece
   x = record { instr = i; size = n }
 
@@ -85,7 +97,7 @@ module _ (p : Part) (at : ℕ) (i : Instr) (n : ℕ) (s : Spells (take n (drop a
 
   parts : IsCleanWith p at o e → Parts
   parts c =
-      let b = begins (drop at p.code) i n s only c.rest.pieces c.rest.reading c.rest.whole in
+      let b = begins (drop at p.code) i n s c.rest.pieces c.rest.reading c.rest.whole in
       let moved : drop n (drop at p.code) ≡ drop (at + n) p.code = drop-drop n at p.code in
       let none : BreakNone p (p.code_base + at) (record { instr = i; size = n } ∷ b.rest) = subst (λ (l : List Piece). BreakNone p (p.code_base + at) l) b.is c.rest.none in
       let sum : p.code_base + at + n ≡ p.code_base + (at + n) = omega arith in
@@ -101,15 +113,26 @@ module _ (p : Part) (at : ℕ) (i : Instr) (n : ℕ) (s : Spells (take n (drop a
   come : (q : Parts) → meets_if (owed_after o i) q.later ≡ true
   come q = sym (after_is o x q.later) ∙ and_from (meets o (x ∷ q.later)) (keeps i q.later) q.met (keeps_from i q.later q.none.data_write q.none.code_write)
 
-  pub here_of : IsSameWith p at o e → AreWordsClean p → BreaksNoneHere p (p.code_base + at) (record { instr = i; size = n })
-  here_of same c =
-      let q = parts (same.0 c) in
-      record { width = q.none.width; ecall = q.none.ecall; reserved = q.none.reserved; access = q.none.access; jump = q.none.jump; target = q.none.target; offset_write = q.none.offset_write }
+  -- what a clean sandbox keeps here
+  pub record IsKeptHere : Type 0 where
+    pub here : BreaksNoneHere p (p.code_base + at) (record { instr = i; size = n })
+    pub data_met : fails_data o i ≡ false
+    pub code_met : fails_code o i ≡ false
+    pub end : length p.code ≤ at + n → ends_region i ≡ true
 
-  pub none_owed : owed_after o i ≡ None → IsSameWith p at o e → AreWordsClean p → ⊥
-  none_owed none same c =
+  pub kept_here : IsSameWith p at o e → AreWordsClean p → IsKeptHere
+  kept_here same c =
       let q = parts (same.0 c) in
-      false≢true (sym (ap (λ (t : Option Owed). meets_if t q.later) none) ∙ come q)
+      let two = none_failing o (record { instr = i; size = n }) q.later q.met (keeps_from i q.later q.none.data_write q.none.code_write) in
+      record {
+        here = record { width = q.none.width; ecall = q.none.ecall; reserved = q.none.reserved; access = q.none.access; jump = q.none.jump; target = q.none.target; offset_write = q.none.offset_write };
+        data_met = two.0;
+        code_met = two.1;
+        end = λ past.
+            let none = none_there (drop (at + n) p.code) (no_bytes p (at + n) past) q.later q.reading in
+            let kept : breaks_end i [] ≡ false = subst (λ (l : List Piece). breaks_end i l ≡ false) none q.none.end in
+            not-false (ends_region i) kept;
+      }
 
   pub goes : (next : Owed) → owed_after o i ≡ Some next → BreaksNoneHere p (p.code_base + at) (record { instr = i; size = n }) → IsSameWith p at o e → IsSameWith p (at + n) next (ends_region i)
   goes next after here same = (

@@ -39,8 +39,8 @@ module _ (p : Part) (s : State) (clean : IsCleanPart p) (good : IsGood p s) wher
       let none = good.place.place.none.0 in
       let pc = sym good.place.pc in
       leads p s.hart s.memory (code_ends p clean.placed) i n
-      (subst (λ (a : ℕ). Rattle.sfi_words.proofs.Prelude.breaks_ecall p a i ≡ false) pc none.ecall) none.jump
-      (subst (λ (a : ℕ). Rattle.sfi_words.proofs.Prelude.breaks_target p a i ≡ false) pc none.target)
+      (subst (λ (a : ℕ). Rattle.sfi_words.proofs.Prelude.breaks_ecall (Rattle.sfi_words.proofs.Prelude.is_gate_of p.gates a) i ≡ false) pc none.ecall) none.jump
+      (subst (λ (a : ℕ). Rattle.sfi_words.proofs.Prelude.breaks_target p.code_base (length p.code) a i ≡ false) pc none.target)
       (λ flow. code_at_flow p s.hart.registers good.place.place.here good.place.place.later flow good.place.known)
 
   module _ (r : Stepped) (step : IsStep s r) where

@@ -2,6 +2,7 @@
 use Rattle.std.specs.Prelude.{◌≡◌, ◌+◌, ℕ, List, [], ◌∷◌, false, length}
 use Rattle.sfi_policy.specs.Limits.{region_least}
 use Rattle.sfi_image.specs.Spelling.{Part, IsWord}
+use Rattle.sfi_image.specs.Gates.{is_gate_of}
 use Rattle.sfi_image.specs.Spans.{AreApart, code_region, guarded_region}
 use Rattle.sfi_image.specs.Regions.{IsRegion, IsDataRegion, HasGuardRoom}
 use Rattle.sfi_rules.specs.Readings.{Piece, IsReading, rest_of}
@@ -15,11 +16,11 @@ code_most = 1048576
 -- no rule is broken by the piece at this address, before those
 pub record BreaksNone (p : Part) (at : ℕ) (x : Piece) (later : List Piece) : Type 0 where
   pub width : breaks_width at x.size ≡ false
-  pub ecall : breaks_ecall p at x.instr ≡ false
+  pub ecall : breaks_ecall (is_gate_of p.gates at) x.instr ≡ false
   pub reserved : breaks_reserved x.instr ≡ false
   pub access : breaks_access x.instr ≡ false
   pub jump : breaks_jump x.instr ≡ false
-  pub target : breaks_target p at x.instr ≡ false
+  pub target : breaks_target p.code_base (length p.code) at x.instr ≡ false
   pub end : breaks_end x.instr later ≡ false
   pub data_write : breaks_data x.instr later ≡ false
   pub code_write : breaks_code x.instr later ≡ false

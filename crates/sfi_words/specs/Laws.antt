@@ -1,5 +1,5 @@
 -- What holds of every sandbox of code in words that breaks no rule.
-use Rattle.std.specs.Prelude.{◌↔◌, ◌<◌, ℕ, slice_index}
+use Rattle.std.specs.Prelude.{◌≡◌, ◌↔◌, ◌<◌, ℕ, List, [], slice_index}
 use Rattle.rv_mem.specs.Bytes.{Bytes}
 use Rattle.rv_step.specs.State.{Hart, IsHart, State}
 use Rattle.sfi_image.specs.Spelling.{Part}
@@ -9,7 +9,9 @@ use Rattle.sfi_safety.specs.Runs.{Turn, after_turn}
 use Rattle.sfi_safety.specs.Safety.{IsSafeState, IsSafeTurn}
 use Rattle.sfi_safety.specs.Safety as bundles
 use Rattle.sfi_words.specs.Asked.{bundle_asks, RunsSafelyBy}
-use Rattle.sfi_words.specs.Code.{IsPlaced, IsCleanPart}
+use Rattle.sfi_words.specs.Code.{AreWordsClean, IsPlaced, IsCleanPart}
+use Rattle.sfi_words.specs.declared.finding.WordFinding.{WordFinding}
+use Rattle.sfi_words.specs.Findings.{AreWordFindings}
 use Rattle.sfi_words.specs.Places.{IsGood, IsGoodIf}
 use Rattle.sfi_words.specs.Runs.{IsEntry, IsTurn, RunsSafely, CallsTyped}
 use Rattle.sfi_words.specs.Typed.{IsWordStart, HasReserved, IsTyped}
@@ -48,3 +50,15 @@ RightIsPlaced =
 -- by what bundles ask, the sentence is that of bundles
 abbrev pub OneSentence : Type 0
 OneSentence = (p : Part) → (RunsSafelyBy (bundle_asks p) p ↔ bundles.RunsSafely p)
+
+-- a sandbox with a right layout has no finding exactly if it breaks no rule
+abbrev pub FindsWhatIsBroken : Type 0
+FindsWhatIsBroken =
+    (sandbox : ℕ) (p : Part) (found : List WordFinding) → IsRightPart p
+    → AreWordFindings sandbox p found → ((found ≡ []) ↔ AreWordsClean p)
+
+-- a part has at most one list of findings
+abbrev pub OneWordList : Type 0
+OneWordList =
+    (sandbox : ℕ) (p : Part) (xs ys : List WordFinding) → AreWordFindings sandbox p xs
+    → AreWordFindings sandbox p ys → xs ≡ ys

@@ -5,4 +5,6 @@ pub mod Asked
 pub mod Runs
 pub mod Places
 pub mod Laws
+pub mod Owing
+pub mod Findings
 pub mod private

@@ -14,7 +14,8 @@ abbrev pub IsKnown : Part → ℕ → ℕ → List Piece → Type 0
 IsKnown p d value pieces =
     IsNear p slack value
     ⊎ ((begins_placing d pieces ≡ true)
-    ⊎ ((begins_masking d pieces ≡ true) ⊎ (IsNear p (slack + 2048) value × (begins_using d pieces ≡ true))))
+    ⊎ ((begins_masking d pieces ≡ true)
+    ⊎ (IsNear p (slack + 2048) value × (begins_using d pieces ≡ true))))
 
 -- What is known of the code register: it is a word's start; or it is masked, and placed now.
 abbrev pub IsCodeKnown : Part → ℕ → List Piece → Type 0

@@ -1,6 +1,6 @@
 -- The rules of code in words. Each looks at an instruction and at those after it, two at most, and
 -- at none before it.
-use Rattle.std.specs.Prelude.{◌+◌, ◌%◌, ◌==◌, ◌&&◌, ◌||◌, not, ℕ, ℤ, pos, negsuc, List, [], ◌∷◌, Bool, true, false, Option, Some, None, length, nat_lt, nat_le}
+use Rattle.std.specs.Prelude.{◌+◌, ◌%◌, ◌==◌, ◌&&◌, ◌||◌, not, ℕ, ℤ, pos, negsuc, List, [], ◌∷◌, Bool, true, false, Option, Some, None, nat_lt, nat_le}
 use Rattle.rv_word.specs.declared.instr.Instr.{Instr}
 use Rattle.rv_word.specs.declared.instr.Instr.TheVariants.{Op, OpImm, Load, Store, Branch, Jal, Jalr, Ecall}
 use Rattle.rv_word.specs.declared.instr.RegOp.TheVariants.{And, Or}
@@ -9,8 +9,6 @@ use Rattle.rv_word.specs.Numbers.{offset_by}
 use Rattle.rv_word.specs.Writes.{destination, writes_register}
 use Rattle.sfi_policy.specs.Pairs.{is_masking, is_placing}
 use Rattle.sfi_policy.specs.Registers.{code_base_register, code_mask_register, data_base_register, data_mask_register}
-use Rattle.sfi_image.specs.Spelling.{Part}
-use Rattle.sfi_image.specs.Gates.{is_gate_of}
 use Rattle.sfi_rules.specs.Readings.{Piece}
 use Rattle.sfi_rules.specs.Rules.{is_empty, ends_region}
 use Rattle.sfi_rules.specs.Stack.{is_jump}
@@ -77,10 +75,10 @@ begins_code (x ∷ later) = is_placing code_base_register code_register x.instr
 abbrev pub breaks_width : ℕ → ℕ → Bool
 breaks_width at size = (size == 4) && not (at % 4 == 0)
 
--- V3: an ecall that isn't at a listed gate
-abbrev pub breaks_ecall : Part → ℕ → Instr → Bool
-breaks_ecall p at Ecall = not (is_gate_of p.gates at)
-breaks_ecall p at _ = false
+-- V3: an ecall that isn't at a listed gate (the first says whether one is there)
+abbrev pub breaks_ecall : Bool → Instr → Bool
+breaks_ecall gate Ecall = not gate
+breaks_ecall gate _ = false
 
 -- V5: a load or store on a register that is neither a data register nor x26
 -- (V4 is that of bundles, `breaks_reserved`: it writes one of x24 to x27)
@@ -98,15 +96,16 @@ breaks_jump (Jalr rd rs1 (pos n)) = not ((n == 0) && (rs1 == code_register))
 breaks_jump (Jalr rd rs1 (negsuc n)) = true
 breaks_jump _ = false
 
--- a multiple of 4 in the code region
-abbrev pub is_word_start : Part → ℕ → Bool
-is_word_start p a = nat_le p.code_base a && nat_lt a (p.code_base + length p.code) && (a % 4 == 0)
+-- a multiple of 4 in the code region of that base and size
+abbrev pub is_word_start : ℕ → ℕ → ℕ → Bool
+is_word_start base size a = nat_le base a && nat_lt a (base + size) && (a % 4 == 0)
 
 -- V7: a jal or branch whose target is no word's start of its own code region
-abbrev pub breaks_target : Part → ℕ → Instr → Bool
-breaks_target p at (Jal rd offset) = not (is_word_start p (offset_by at offset))
-breaks_target p at (Branch condition rs1 rs2 offset) = not (is_word_start p (offset_by at offset))
-breaks_target p at _ = false
+abbrev pub breaks_target : ℕ → ℕ → ℕ → Instr → Bool
+breaks_target base size at (Jal rd offset) = not (is_word_start base size (offset_by at offset))
+breaks_target base size at (Branch condition rs1 rs2 offset) =
+    not (is_word_start base size (offset_by at offset))
+breaks_target base size at _ = false
 
 -- V8: nothing comes after it, and it isn't ebreak, jal or jalr
 abbrev pub breaks_end : Instr → List Piece → Bool
@@ -116,7 +115,8 @@ breaks_end i later = is_empty later && not (ends_region i)
 -- which is used next
 abbrev pub may_write_data : ℕ → Instr → List Piece → Bool
 may_write_data d i later =
-    places d i || (not (is_jump i) && begins_masking d later) || (is_step d i && begins_using d later)
+    places d i || (not (is_jump i) && begins_masking d later)
+    || (is_step d i && begins_using d later)
 
 abbrev pub breaks_data_of : Option ℕ → Instr → List Piece → Bool
 breaks_data_of None i later = false

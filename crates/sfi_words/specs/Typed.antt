@@ -1,4 +1,5 @@
--- The typed registers of code in words: what they hold wherever a sandbox is entered, replied to or jumped to.
+-- The typed registers of code in words: what they hold wherever a sandbox is entered, replied to or
+-- jumped to.
 use Rattle.std.specs.Prelude.{◌≡◌, ◌==◌, ◌||◌, ◌+◌, ◌-◌, ◌%◌, ◌<◌, ◌≤◌, ℕ, List, Bool, true, length, slice_index}
 use Rattle.sfi_policy.specs.Registers.{code_base_register, code_mask_register, data_base_register, data_mask_register}
 use Rattle.sfi_image.specs.Spelling.{Part}

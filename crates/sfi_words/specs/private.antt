@@ -1,2 +1,2 @@
 -- Words that private contracts alone cite.
-pub mod Owing
+pub mod Inside

@@ -1,6 +1,8 @@
 //! What is owed to what comes: the state of a scan, one register and a kind.
 ghost use Rattle.std.specs.Prelude.{◌≡◌};
-ghost use Rattle.sfi_words.specs.private.Owing.{left, owed_by_data, owed_by_code, owed_by, owed_after, is_nothing};
+ghost use Rattle.rv_word.specs.Writes.{destination};
+ghost use Rattle.sfi_words.specs.Owing.{left, owed_by_data, owed_by_code, owed_by, owed_next, is_of_data, is_of_code};
+ghost use Rattle.sfi_words.specs.Findings.{fails_data, fails_code, is_data_one};
 
 use crate::rules::{
     CODE_REGISTER, is_data, is_jump, is_masking, is_step, masks, places, places_code, uses,
@@ -8,25 +10,31 @@ use crate::rules::{
 use rv_word::Instr;
 use sfi_policy::CODE_MASK_REGISTER;
 
-/// What must come next.
-#[derive(Clone, Copy, PartialEq, Eq)]
-pub(crate) enum Owed {
+/// What must come next, by what was written before.
+#[derive(Clone, Copy)]
+pub enum Owed {
     Nothing,
-    /// The register is masked and placed.
+    /// The register is masked into x31, and then placed.
     Mask(u8),
-    /// It is placed.
+    /// It is placed: `or d, x31, x26`.
     Place(u8),
-    /// It is masked and placed, or used.
+    /// It is masked and placed, or a load or store near it uses it.
     MaskOrUse(u8),
-    /// The code register is placed.
+    /// The code register is placed: `or x30, x30, x24`.
     Code,
 }
 
 impl Owed {
-    pub(crate) fn is_nothing(self) -> bool
-        ensures { result ≡ is_nothing self }
+    fn is_of_data(self) -> bool
+        ensures { result ≡ is_of_data self }
     {
-        matches!(self, Owed::Nothing)
+        matches!(self, Owed::Mask(_) | Owed::Place(_) | Owed::MaskOrUse(_))
+    }
+
+    fn is_of_code(self) -> bool
+        ensures { result ≡ is_of_code self }
+    {
+        matches!(self, Owed::Code)
     }
 
     fn left(self, instr: &Instr) -> Option<Owed>
@@ -110,14 +118,41 @@ impl Owed {
         }
     }
 
-    /// What is owed after the instruction; `None` where it breaks a rule.
-    pub(crate) fn after(self, instr: &Instr) -> Option<Owed>
-        ensures { result ≡ owed_after self instr.now }
+    /// What is owed after the instruction, whether it meets what was owed before it or not.
+    pub(crate) fn next(self, instr: &Instr) -> Owed
+        ensures { result ≡ owed_next self instr.now }
     {
         match self.left(instr) {
-            None => None,
-            Some(Owed::Nothing) => Owed::by(instr),
-            Some(owed) => Some(owed),
+            None | Some(Owed::Nothing) => match Owed::by(instr) {
+                None => Owed::Nothing,
+                Some(owed) => owed,
+            },
+            Some(owed) => owed,
         }
+    }
+
+    /// Whether the instruction breaks V10.
+    pub(crate) fn fails_data(self, instr: &Instr) -> bool
+        ensures { result ≡ fails_data self instr.now }
+    {
+        (self.is_of_data() && self.left(instr).is_none())
+            || (writes_data(instr) && Owed::by(instr).is_none())
+    }
+
+    /// Whether the instruction breaks V11.
+    pub(crate) fn fails_code(self, instr: &Instr) -> bool
+        ensures { result ≡ fails_code self instr.now }
+    {
+        (self.is_of_code() && self.left(instr).is_none())
+            || (instr.writes_register(CODE_REGISTER) && Owed::by(instr).is_none())
+    }
+}
+
+fn writes_data(instr: &Instr) -> bool
+    ensures { result ≡ is_data_one (destination instr.now) }
+{
+    match instr.writes() {
+        Some(rd) => is_data(rd.number()),
+        None => false,
     }
 }

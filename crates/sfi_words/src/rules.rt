@@ -1,18 +1,19 @@
 //! The rules, each as a test on an instruction and what comes after it.
-ghost use Rattle.std.specs.Prelude.{◌≡◌, ◌↔◌, ◌+◌, ◌^◌, ◌≤◌, ◌<◌, ℕ, List, IsTrue};
-ghost use Rattle.rv_word.specs.Numbers.{offset_by};
+ghost use Rattle.std.specs.Prelude.{◌≡◌};
 ghost use Rattle.sfi_policy.specs.Pairs.{is_masking, is_placing};
-ghost use Rattle.sfi_image.specs.Gates.{is_gate_of};
-ghost use Rattle.sfi_image.specs.Spelling.{Part};
 ghost use Rattle.sfi_rules.specs.Rules.{breaks_reserved, ends_region};
 ghost use Rattle.sfi_rules.specs.Stack.{is_jump};
 ghost use Rattle.sfi_words.specs.Typed.{is_data};
-ghost use Rattle.sfi_words.specs.Rules.{is_and, is_or, places, masks, is_small, is_step, uses, breaks_width, breaks_ecall, may_access, breaks_access, breaks_jump, is_word_start, breaks_target, breaks_offset};
-ghost use Rattle.sfi_words.specs.private.Owing.{BreaksNoneHere, HasCodeAt};
+ghost use Rattle.sfi_rules.specs.Bundles.{IsWithin};
+ghost use Rattle.sfi_words.specs.Rules.{is_and, is_or, places, masks, is_small, is_step, uses, breaks_ecall, may_access, breaks_access, breaks_jump, is_word_start, breaks_target, breaks_offset};
+ghost use Rattle.sfi_words.specs.private.Inside.{IsInside};
+ghost use Rattle.sfi_words.specs.Findings.{breaks_last, is_at_gate, lowest};
 
+use crate::owed::Owed;
+use crate::rule::WordRule;
 use rv_word::{ImmOp, Instr, Reg, RegOp};
-use sfi_image::Gate;
 use sfi_policy::{CODE_BASE_REGISTER, DATA_BASE_REGISTER, DATA_MASK_REGISTER, is_reserved};
+use sfi_rules::BundlePlace;
 
 pub(crate) const CODE_REGISTER: u8 = 30;
 
@@ -136,28 +137,17 @@ pub(crate) fn ends_region(instr: &Instr) -> bool
 
 // ---- the rules
 
-fn breaks_width(address: u32, size: u32) -> bool
-    ensures { result ≡ breaks_width address size }
+fn is_at_gate(place: &BundlePlace, address: u32) -> bool
+    ensures { result ≡ is_at_gate place.now address }
 {
-    size == 4 && address % 4 != 0
+    place.listed && address == place.address
 }
 
-fn is_gate(gates: &[Gate], address: u32) -> bool
-    ensures { result ≡ is_gate_of gates.now address }
-{
-    for gate in gates {
-        if gate.address == address {
-            return true;
-        }
-    }
-    false
-}
-
-fn breaks_ecall(gates: &[Gate], address: u32, instr: &Instr) -> bool
-    ensures { (p : Part) → p.gates ≡ gates.now → result ≡ breaks_ecall p address instr.now }
+fn breaks_ecall(place: &BundlePlace, address: u32, instr: &Instr) -> bool
+    ensures { result ≡ breaks_ecall (is_at_gate place.now address) instr.now }
 {
     match instr {
-        Instr::Ecall => !is_gate(gates, address),
+        Instr::Ecall => !is_at_gate(place, address),
         _ => false,
     }
 }
@@ -195,18 +185,21 @@ fn breaks_jump(instr: &Instr) -> bool
     }
 }
 
-fn is_word_start(base: u32, size: u32, address: u32) -> bool
-    ensures { (p : Part) → HasCodeAt p base size → result ≡ is_word_start p address }
+fn is_word_start(place: &BundlePlace, address: u32) -> bool
+    requires { IsWithin place.now }
+    ensures { result ≡ is_word_start place.now.code_base place.now.code_size address }
 {
-    base <= address && address - base < size && address % 4 == 0
+    place.code_base <= address && address - place.code_base < place.code_size && address % 4 == 0
 }
 
-fn breaks_target(base: u32, size: u32, address: u32, instr: &Instr) -> bool
-    ensures { (p : Part) → HasCodeAt p base size → result ≡ breaks_target p address instr.now }
+fn breaks_target(place: &BundlePlace, address: u32, instr: &Instr) -> bool
+    requires { IsWithin place.now }
+    ensures { result ≡
+        breaks_target place.now.code_base place.now.code_size address instr.now }
 {
     match *instr {
         Instr::Jal { offset, .. } | Instr::Branch { offset, .. } => {
-            !is_word_start(base, size, address.wrapping_add_signed(offset))
+            !is_word_start(place, address.wrapping_add_signed(offset))
         }
         _ => false,
     }
@@ -219,24 +212,57 @@ fn breaks_offset(instr: &Instr) -> bool
         && !is_masking(DATA_MASK_REGISTER, OFFSET_REGISTER, instr)
 }
 
-/// Whether none of the rules that don't look ahead is broken by the instruction of so many bytes.
-pub(crate) fn breaks_none_here(
-    base: u32,
-    code_size: u32,
-    gates: &[Gate],
+fn breaks_last(place: &BundlePlace, address: u32, size: u32, owed: Owed, instr: &Instr) -> bool
+    requires within { IsWithin place.now }
+    requires inside { IsInside place.now address size }
+    ensures { result ≡ breaks_last (record {
+      bundle = place.now;
+      address = address;
+      owed = owed;
+      instr = instr.now;
+      size = size;
+    }) }
+{
+    address - place.code_base == place.code_size - size && !ends_region(instr)
+}
+
+/// The lowest rule that the instruction of so many bytes breaks there, if any.
+pub(crate) fn lowest_rule(
+    place: &BundlePlace,
     address: u32,
     size: u32,
+    owed: Owed,
     instr: &Instr,
-) -> bool
-    ensures { (p : Part) → HasCodeAt p base code_size → p.gates ≡ gates.now →
-        (IsTrue result ↔ BreaksNoneHere p address (record { instr = instr.now; size = size })) }
+) -> Option<WordRule>
+    requires within { IsWithin place.now }
+    requires inside { IsInside place.now address size }
+    ensures { result ≡ lowest (record {
+      bundle = place.now;
+      address = address;
+      owed = owed;
+      instr = instr.now;
+      size = size;
+    }) }
 {
-    let width = breaks_width(address, size);
-    let ecall = breaks_ecall(gates, address, instr);
-    let reserved = breaks_reserved(instr);
-    let access = breaks_access(instr);
-    let jump = breaks_jump(instr);
-    let target = breaks_target(base, code_size, address, instr);
-    let offset = breaks_offset(instr);
-    !(width | ecall | reserved | access | jump | target | offset)
+    if breaks_ecall(place, address, instr) {
+        Some(WordRule::V3)
+    } else if breaks_reserved(instr) {
+        Some(WordRule::V4)
+    } else if breaks_access(instr) {
+        Some(WordRule::V5)
+    } else if breaks_jump(instr) {
+        Some(WordRule::V6)
+    } else if breaks_target(place, address, instr) {
+        Some(WordRule::V7)
+    } else if breaks_last(place, address, size, owed, instr) {
+        Some(WordRule::V8)
+    } else if owed.fails_data(instr) {
+        Some(WordRule::V10)
+    } else if owed.fails_code(instr) {
+        Some(WordRule::V11)
+    } else if breaks_offset(instr) {
+        Some(WordRule::V12)
+    } else {
+        None
+    }
 }

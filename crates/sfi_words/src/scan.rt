@@ -1,43 +1,122 @@
-//! The scan of a code region in words.
-ghost use Rattle.std.specs.Prelude.{◌≡◌, ◌↔◌, ◌+◌, ◌^◌, ◌≤◌, ◌<◌, length, IsTrue};
-ghost use Rattle.sfi_image.specs.Spelling.{Part};
-ghost use Rattle.sfi_words.specs.Code.{AreWordsClean};
+//! The scan of code in words, 16 bytes at a time.
+ghost use Rattle.std.specs.Prelude.{◌≡◌, ◌+◌, ◌*◌, ◌≤◌, ◌<◌, ◌++◌, List, Some, length};
+ghost use Rattle.sfi_rules.specs.Bundles.{IsWithin};
+ghost use Rattle.sfi_words.specs.declared.finding.WordFinding.{WordFinding};
+ghost use Rattle.sfi_words.specs.Findings.{IsWordFound, AreFoundInBundle, found_at, lowest};
+ghost use Rattle.sfi_words.specs.Owing.{owed_next};
+ghost use Rattle.sfi_words.specs.private.Inside.{IsInside};
 
+use crate::finding::{WordFinding, WordFindings};
 use crate::owed::Owed;
-use crate::rules::{breaks_none_here, ends_region};
+use crate::rule::WordRule;
+use crate::rules::lowest_rule;
 use rv_comp::{Front, read_front};
-use sfi_image::Gate;
+use rv_word::Instr;
+use sfi_policy::BUNDLE_BYTES;
+use sfi_rules::BundlePlace;
 
-/// Whether the code, which begins at this address and has these gates, is read whole and breaks no
-/// rule. Each instruction is read once, and what is kept to the next is one register and a kind.
-pub fn is_clean(code: &[u8], base: u32, gates: &[Gate]) -> bool
-    requires placed { base + length code.now ≤ 2 ^ 32 }
-    requires short { length code.now < 2 ^ 32 }
-    ensures { (p : Part) → p.code ≡ code.now → p.code_base ≡ base → p.gates ≡ gates.now →
-        (IsTrue result ↔ AreWordsClean p) }
+/// How many words a bundle has.
+const WORDS: usize = BUNDLE_BYTES / 4;
+
+fn push(place: &BundlePlace, address: u32, rule: WordRule, found: &mut WordFindings)
+    requires { length found.old < 8 }
+    ensures { found.new ≡ found.old ++ found_at place.now address (Some rule) }
 {
-    let mut at: usize = 0;
-    let mut owed = Owed::Nothing;
-    let mut ended = true;
-    while at < code.len() {
-        match read_front(&code[at..]) {
-            Front::Read(instr, size) => {
-                let address = base + at as u32;
-                if !breaks_none_here(base, code.len() as u32, gates, address, size, &instr) {
-                    return false;
-                }
-                match owed.after(&instr) {
-                    None => return false,
-                    Some(next) => {
-                        owed = next;
-                        ended = ends_region(&instr);
-                        at += size as usize;
-                    }
-                }
-            }
-            Front::Short => return false,
-            Front::Bad => return false,
+    found.push(WordFinding {
+        sandbox: place.sandbox,
+        address,
+        rule,
+    });
+}
+
+/// Adds what the instruction breaks, and answers what is owed after it.
+fn scan_instruction(
+    place: &BundlePlace,
+    address: u32,
+    size: u32,
+    owed: Owed,
+    instr: &Instr,
+    found: &mut WordFindings,
+) -> Owed
+    requires within { IsWithin place.now }
+    requires inside { IsInside place.now address size }
+    requires room { length found.old < 8 }
+    ensures next { result ≡ owed_next owed instr.now }
+    ensures few { length found.new ≤ length found.old + 1 }
+    ensures found { found.new ≡ found.old ++ found_at place.now address (lowest (record {
+      bundle = place.now;
+      address = address;
+      owed = owed;
+      instr = instr.now;
+      size = size;
+    })) }
+{
+    if let Some(rule) = lowest_rule(place, address, size, owed, instr) {
+        push(place, address, rule, found);
+    }
+    owed.next(instr)
+}
+
+/// Adds the findings of the word there, and answers what is owed after it.
+fn scan_word(
+    place: &BundlePlace,
+    address: u32,
+    word: &[u8],
+    owed: Owed,
+    found: &mut WordFindings,
+) -> Owed
+    requires within { IsWithin place.now }
+    requires inside { IsInside place.now address 4 }
+    requires whole { length word.now ≡ 4 }
+    requires room { length found.old ≤ 6 }
+    ensures { (here : List WordFinding) × (found.new ≡ found.old ++ here) × (length here ≤ 2)
+        × IsWordFound place.now address owed word.now here result }
+{
+    let (first, size) = match read_front(word) {
+        Front::Read(first, size) => (first, size),
+        Front::Short | Front::Bad => {
+            push(place, address, WordRule::V1, found);
+            return Owed::Nothing;
+        }
+    };
+    let owed = scan_instruction(place, address, size, owed, &first, found);
+    if size == 4 {
+        return owed;
+    }
+    match read_front(&word[2..]) {
+        Front::Read(second, size) => {
+            scan_instruction(place, address + 2, size, owed, &second, found)
+        }
+        Front::Short => {
+            push(place, address + 2, WordRule::V2, found);
+            Owed::Nothing
+        }
+        Front::Bad => {
+            push(place, address + 2, WordRule::V1, found);
+            Owed::Nothing
         }
     }
-    owed.is_nothing() & ended
+}
+
+/// Replaces the findings by those of the words of these 16 bytes, before which this is owed, in the
+/// order of their addresses. Answers what is owed after them. Before a region's first bytes nothing
+/// is owed.
+pub fn scan_words(
+    place: &BundlePlace,
+    bytes: &[u8; BUNDLE_BYTES],
+    owed: Owed,
+    found: &mut WordFindings,
+) -> Owed
+    requires { IsWithin place.now }
+    ensures { AreFoundInBundle place.now owed bytes.now found.new result }
+{
+    found.clear();
+    let mut next = owed;
+    let mut n = 0;
+    while n < WORDS {
+        let word = &bytes[4 * n..4 * n + 4];
+        next = scan_word(place, place.address + 4 * n as u32, word, next, found);
+        n += 1;
+    }
+    next
 }

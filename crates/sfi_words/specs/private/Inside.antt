@@ -1,0 +1,8 @@
+-- Where bytes lie in a bundle's code region.
+use Rattle.std.specs.Prelude.{◌+◌, ◌≤◌, ℕ}
+use Rattle.sfi_rules.specs.declared.bundle.BundlePlace.{BundlePlace}
+
+-- so many bytes at the address lie in the code region
+pub record IsInside (b : BundlePlace) (address size : ℕ) : Type 0 where
+  pub from : b.code_base ≤ address
+  pub to : address + size ≤ b.code_base + b.code_size
