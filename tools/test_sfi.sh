@@ -253,8 +253,8 @@ named_program() {
     printf '#!/bin/sh\necho "other $*"\nexit 3\n' >"$room/other" && chmod +x "$room/other"
     change low/src/lib.rt
     call env SFI="$room/other" "$copy/sfi" check --raw
-    [ "$found" = "other check --raw; ; status 3" ] && [ "$(calls)" = 0 ]
-    report $? "a program that SFI names is taken as it is" "$found"
+    [ "$found" = "other check --raw; sfi: this runs $room/other, as SFI says; status 3" ] && [ "$(calls)" = 0 ]
+    report $? "a program that SFI names is taken as it is, and named" "$found"
     call env SFI="$copy/sfi" "$copy/sfi" check
     ran check && [ "$(calls)" = 1 ]
     report $? "where SFI names the wrapper it counts for nothing" "$found"

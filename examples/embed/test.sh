@@ -187,11 +187,6 @@ for word in 0 -1 "" 2x 65537; do
 done
 compile parts.c gcc -std=c99 "${warnings[@]}" "$here/parts.c" "$library" -o "$room/parts"
 run_tellings parts.c "$room/parts"
-version() { sed -n "s/.*$1.*\"\([0-9.]*\)\".*/\1/p" "$2"; }
-wanted=$(version "const VERSION" "$top/crates/sfi_command/src/help.rt")
-found=$(version "define SFI_VERSION" "$top/crates/sfi_c/include/sfi.h")
-[ -n "$wanted" ] && [ "$found" = "$wanted" ]
-report_as $? "the header's version" "$wanted" "$found"
 # no allocator is linked: of C the library asks for no more than what a compiler copies and fills memory by
 found=$(nm -u "$library" 2>"$room/log" | awk 'NF == 2 { print $2 }' | sort -u | tr '\n' ' ')
 [ -n "$found" ] && ! grep -qvxE 'memcpy|memmove|memset' < <(tr ' ' '\n' <<<"${found% }")

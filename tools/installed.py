@@ -1,0 +1,111 @@
+"""What `./install` puts where, and what it noted of an earlier installation."""
+import contextlib
+import os
+import pathlib
+from dataclasses import dataclass
+
+import libraries
+import version
+
+TOP = pathlib.Path(__file__).resolve().parent.parent
+SHARE = "share/suygapid"  # the tools, at the places that they have in the repository
+NOTED = f"{SHARE}/installed"  # the list of all that was installed
+TOOLS = ("sfi-cc", "sfi-library")
+FOLDERS = ("tools/asm2sfi", "tools/sfi_cc", "examples/c/include", "examples/c/library", "bindings/python", "bindings/rust")
+SINGLE = ("examples/c/gates.h",)
+PAGES = ("sfi.1", "sfi-cc.1", "sfi-library.1")
+TOLD = {"sfi_c": "The checker of Suygapid's images", "sfi_run": "Checks Suygapid's images and runs their sandboxes"}
+
+
+@dataclass(frozen=True)
+class Item:
+    """A file below the prefix: a copy, a link, or a text."""
+    place: str
+    source: pathlib.Path = None
+    link: str = None
+    text: str = None
+
+    def put(self, prefix):
+        """Writes the file whole or not at all."""
+        path = prefix / self.place
+        fresh = path.with_name(f".{path.name}.new")
+        fresh.unlink(missing_ok=True)
+        if self.link is not None:
+            fresh.symlink_to(self.link)
+        else:
+            fresh.write_bytes(self.text.encode() if self.source is None else self.source.read_bytes())
+            fresh.chmod(0o755 if self.source and os.access(self.source, os.X_OK) else 0o644)
+        os.replace(fresh, path)
+
+
+def is_tool_file(path):
+    """Whether a file of a tool's folder serves its user, and not its tests."""
+    parts = path.relative_to(TOP).parts
+    made = any(it in ("__pycache__", "target", "build", "tests") or it.endswith(".egg-info") for it in parts)
+    return path.is_file() and not made and not path.name.startswith(("test_", "random_c"))
+
+
+def package(crate):
+    """The text of a library's pkg-config file, which holds wherever the folder is moved."""
+    return (f"prefix=${{pcfiledir}}/../..\n\nName: {crate}\nDescription: {TOLD[crate]}\nVersion: {version.version()}\n"
+            f"Cflags: -I${{prefix}}/include\nLibs: -L${{prefix}}/lib -l{crate}\n")
+
+
+def library(crate):
+    """A static and a shared library, with its header and its pkg-config file."""
+    static, shared = libraries.make(crate)
+    name, compatible = f"lib{crate}.so", libraries.shared_name(crate)
+    whole = f"{name}.{version.version()}"
+    return [
+        Item(f"include/{libraries.HEADERS[crate]}", pathlib.Path(libraries.header(crate))),
+        Item(f"lib/lib{crate}.a", pathlib.Path(static)),
+        Item(f"lib/{whole}", pathlib.Path(shared)),
+        Item(f"lib/{compatible}", link=whole),
+        Item(f"lib/{name}", link=compatible),
+        Item(f"lib/pkgconfig/{crate}.pc", text=package(crate)),
+    ]
+
+
+def items():
+    """All that is installed but the list of it."""
+    found = [Item("bin/sfi", TOP / "crates" / "sfi" / "out" / "sfi"), Item(f"{SHARE}/sfi", link="../../bin/sfi")]
+    for crate in libraries.HEADERS:
+        found += library(crate)
+    for tool in TOOLS:
+        found.append(Item(f"{SHARE}/tools/{tool}", TOP / "tools" / tool))
+        found.append(Item(f"bin/{tool}", link=f"../{SHARE}/tools/{tool}"))
+    files = [path for folder in FOLDERS for path in sorted((TOP / folder).rglob("*")) if is_tool_file(path)]
+    files += [TOP / it for it in SINGLE]
+    found += [Item(f"{SHARE}/{path.relative_to(TOP)}", path) for path in files]
+    found += [Item(f"share/man/man1/{page}", TOP / "docs" / page) for page in PAGES]
+    return found
+
+
+def built():
+    """What has to be built before anything can be installed."""
+    return [TOP / "crates" / "sfi" / "out" / "sfi", *(pathlib.Path(libraries.built(crate)) for crate in libraries.HEADERS)]
+
+
+def noted(prefix):
+    """The files and the folders that an earlier installation noted."""
+    try:
+        lines = (prefix / NOTED).read_text(encoding="utf-8").splitlines()
+    except FileNotFoundError:
+        return [], []
+    return [it for it in lines if not it.endswith("/")], [it for it in lines if it.endswith("/")]
+
+
+def new_folders(prefix, places):
+    """The folders below the prefix, with / at their ends, that aren't there and that the files need."""
+    parents = {str(it) for place in places for it in pathlib.PurePosixPath(place).parents if it.parts}
+    return sorted(f"{it}/" for it in parents if not (prefix / it).exists())
+
+
+def clear(prefix, files, folders):
+    """Removes these files, and then the folders of these that are empty."""
+    for place in files:
+        with contextlib.suppress(FileNotFoundError, NotADirectoryError):
+            (prefix / place).unlink()
+    for place in sorted(folders, reverse=True):
+        with contextlib.suppress(OSError):  # it holds something else, or isn't there
+            (prefix / place).rmdir()

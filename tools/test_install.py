@@ -1,0 +1,279 @@
+#!/usr/bin/env python3
+"""Tests of ./install and tools/release.py: `tools/unit_tests.py tools`. They are skipped where the program or a library
+isn't built, or gcc isn't there."""
+import gzip
+import hashlib
+import os
+import pathlib
+import shutil
+import subprocess
+import sys
+import tarfile
+import tempfile
+import unittest
+
+TOOLS = pathlib.Path(__file__).resolve().parent
+sys.path.insert(0, str(TOOLS))
+import installed
+import libraries
+import version
+
+TOP = TOOLS.parent
+GCC = "riscv64-unknown-elf-gcc"
+READY = all(it.is_file() for it in installed.built()) and shutil.which("gcc") and shutil.which("git")
+SMALLEST = (TOP / "examples" / "smallest.hex").read_text(encoding="ascii")
+ACCEPTED = "accepted sandboxes=1 bundles=16\n"
+HELLO = '#include "gates.h"\n\nint main(void) {\n    put("Hi", 2);\n    return 105;\n}\n'
+CHECKER = """
+#include "sfi.h"
+#include <stdio.h>
+int main(void) {
+    static unsigned char image[1 << 20];
+    struct sfi_verdict verdict;
+    size_t length = fread(image, 1, sizeof image, stdin);
+    printf("%u %s\\n", sfi_c_check(image, length, &verdict), SFI_VERSION);
+    return 0;
+}
+"""
+RUNNER = """
+#include "sfi_run.h"
+#include <stdio.h>
+int main(void) {
+    static unsigned char image[1 << 20];
+    struct sfi_run_world world = {0};
+    struct sfi_run_event event;
+    size_t length = fread(image, 1, sizeof image, stdin);
+    unsigned loaded = sfi_run_load(image, length, &world), kind = sfi_run_turn(&world, 0, 5, &event);
+    printf("%u %u %u %s\\n", loaded, kind, event.number, SFI_RUN_VERSION);
+    sfi_run_free(&world);
+    return 0;
+}
+"""
+# The smallest image is 64 times ebreak: of a first turn, the trap Break.
+TOLD = {"sfi_c": (CHECKER, f"0 {version.version()}\n"), "sfi_run": (RUNNER, f"0 4 3 {version.version()}\n")}
+
+
+def run(*words, given=None, **how):
+    return subprocess.run(words, input=given, capture_output=True, text=not isinstance(given, bytes), check=False, **how)
+
+
+def tree(folder):
+    """All files and folders below a folder."""
+    return sorted(str(it.relative_to(folder)) for it in folder.rglob("*"))
+
+
+@unittest.skipUnless(READY, "the program, a library, gcc or git isn't there")
+class Installing(unittest.TestCase):
+    def setUp(self):
+        room = tempfile.TemporaryDirectory()
+        self.addCleanup(room.cleanup)
+        self.room = pathlib.Path(room.name)
+        self.prefix = self.room / "prefix"
+
+    def install(self, *words, top=TOP):
+        return run(top / "install", *words)
+
+    def installs(self, prefix=None, top=TOP):
+        done = self.install(prefix or self.prefix, top=top)
+        self.assertEqual((done.returncode, done.stderr), (0, ""))
+
+
+class Installed(Installing):
+    """What an installation holds, by what its user does with it."""
+
+    def setUp(self):
+        super().setUp()
+        self.installs()
+        self.env = {**os.environ, "PKG_CONFIG_PATH": str(self.prefix / "lib" / "pkgconfig"), "PATH": f"{self.prefix}/bin:{os.environ['PATH']}"}
+
+    def test_the_program_runs(self):
+        done = run("sfi", "check", given=SMALLEST, env=self.env)
+        self.assertEqual((done.stdout, done.returncode), (ACCEPTED, 0))
+
+    @unittest.skipUnless(shutil.which(GCC), f"{GCC} isn't there")
+    def test_c_becomes_an_image(self):
+        (self.room / "hello.c").write_text(HELLO, encoding="utf-8")
+        image = run("sfi-cc", "hello.c", env=self.env, cwd=self.room)
+        self.assertEqual((image.returncode, image.stderr), (0, ""))
+        self.assertIn("exit=105", run("sfi", "run", given=image.stdout, env=self.env).stdout)
+
+    @unittest.skipUnless(shutil.which("pkg-config"), "pkg-config isn't there")
+    def test_programs_are_linked(self):
+        for library, (source, told) in TOLD.items():
+            (self.room / "host.c").write_text(source, encoding="utf-8")
+            flags = run("pkg-config", "--cflags", "--libs", library, env=self.env).stdout.split()
+            shared = [*flags, f"-Wl,-rpath,{self.prefix}/lib"]
+            static = [f"-I{self.prefix}/include", f"{self.prefix}/lib/lib{library}.a"]
+            for name, words in (("shared", shared), ("static", static)):
+                with self.subTest(library=library, kind=name):
+                    made = run("gcc", "-Wall", "-Wextra", "-Werror", "host.c", "-o", "host", *words, cwd=self.room)
+                    self.assertEqual(made.stderr, "")
+                    ran = run(self.room / "host", given=bytes.fromhex(SMALLEST))
+                    self.assertEqual(ran.stdout.decode(), told)
+                    needed = run("readelf", "-d", self.room / "host").stdout
+                    self.assertEqual(libraries.shared_name(library) in needed, name == "shared")
+
+    @unittest.skipUnless(shutil.which("pkg-config"), "pkg-config isn't there")
+    def test_the_packages_state_the_version(self):
+        for library in TOLD:
+            self.assertEqual(run("pkg-config", "--modversion", library, env=self.env).stdout, f"{version.version()}\n")
+
+    def test_a_shared_library_exports_its_calls(self):
+        for library in TOLD:
+            said = run("nm", "-D", "--defined-only", self.prefix / "lib" / f"lib{library}.so").stdout
+            names = sorted(it.split()[2] for it in said.splitlines())
+            self.assertEqual(names, libraries.calls(libraries.header(library)))
+
+    @unittest.skipUnless(shutil.which("man"), "man isn't there")
+    def test_the_manual_is_found(self):
+        for page in installed.PAGES:
+            found = run("man", "-w", page[:-2], env={**self.env, "MANPATH": str(self.prefix / "share" / "man")})
+            self.assertEqual(found.stdout, f"{self.prefix}/share/man/man1/{page}\n")
+
+    def test_tests_stay_away(self):
+        self.assertEqual([it for it in tree(self.prefix) if "test" in it or "__pycache__" in it], [])
+
+    def test_it_may_be_moved(self):
+        moved = self.room / "moved"
+        self.prefix.rename(moved)
+        self.assertEqual(run(moved / "bin" / "sfi-cc", "--help").returncode, 0)
+        self.assertEqual([it for it in moved.rglob("*") if it.is_symlink() and not it.exists()], [])
+        self.assertEqual(self.install("--remove", moved).returncode, 0)
+        self.assertEqual(tree(moved), [])
+
+
+class Removing(Installing):
+    def test_nothing_stays(self):
+        self.installs()
+        done = self.install("--remove", self.prefix)
+        self.assertEqual((done.returncode, done.stderr), (0, ""))
+        self.assertEqual(tree(self.prefix), [])
+
+    def test_what_others_made_stays(self):
+        for place in ("bin/other", "share/man/man1/other.1", "include/other/other.h"):
+            (self.prefix / place).parent.mkdir(parents=True, exist_ok=True)
+            (self.prefix / place).write_text("other", encoding="utf-8")
+        (self.prefix / "lib").mkdir()  # there before, and empty
+        before = tree(self.prefix)
+        self.installs()
+        (self.prefix / "share" / "suygapid" / "tools" / "own").write_text("own", encoding="utf-8")
+        self.assertEqual(self.install("--remove", self.prefix).returncode, 0)
+        kept = ["share/suygapid", "share/suygapid/tools", "share/suygapid/tools/own"]
+        self.assertEqual(tree(self.prefix), sorted([*before, *kept]))
+
+    def test_where_nothing_is_installed(self):
+        done = self.install("--remove", self.prefix)
+        self.assertEqual((done.returncode, done.stderr), (1, f"install: nothing is installed below {self.prefix}\n"))
+
+    def test_another_file_is_never_written_over(self):
+        place = self.prefix / "include" / "sfi.h"
+        place.parent.mkdir(parents=True)
+        place.write_text("mine", encoding="utf-8")
+        done = self.install(self.prefix)
+        self.assertEqual((done.returncode, done.stderr),
+                         (1, f"install: {place} is there, and no installation made it: nothing is changed\n"))
+        self.assertEqual((tree(self.prefix), place.read_text(encoding="utf-8")), (["include", "include/sfi.h"], "mine"))
+
+    def test_a_second_one_replaces_the_first(self):
+        self.installs()
+        before = tree(self.prefix)
+        noted = self.prefix / installed.NOTED
+        (self.prefix / "lib" / "libsfi_c.so.0.0.9").write_text("older", encoding="utf-8")
+        (self.prefix / "lib" / "older").mkdir()
+        noted.write_text(noted.read_text(encoding="utf-8") + "lib/libsfi_c.so.0.0.9\nlib/older/\n", encoding="utf-8")
+        (self.prefix / "bin" / "sfi").write_text("damaged", encoding="utf-8")
+        self.installs()
+        self.assertEqual(tree(self.prefix), sorted([*before, "lib/older"]))
+        self.assertEqual(run(self.prefix / "bin" / "sfi", "check", given=SMALLEST).stdout, ACCEPTED)
+        self.assertEqual(self.install("--remove", self.prefix).returncode, 0)
+        self.assertEqual(tree(self.prefix), [])
+
+    def test_one_that_stopped_half_way_can_be_removed(self):
+        lib = self.prefix / "lib"
+        lib.mkdir(parents=True)
+        (lib / "pkgconfig").write_text("a file where a folder has to be", encoding="utf-8")
+        before = tree(self.prefix)
+        done = self.install(self.prefix)
+        self.assertEqual(done.returncode, 1)
+        self.assertIn("pkgconfig", done.stderr)
+        self.assertEqual(self.install("--remove", self.prefix).returncode, 0)
+        self.assertEqual(tree(self.prefix), before)
+
+
+class Scratch(Installing):
+    """A scratch repository with the files of this one, and what is built here."""
+
+    def repository(self, name):
+        top = self.room / name
+        listed = subprocess.run(["git", "-C", TOP, "ls-files", "-z", "--cached", "--others", "--exclude-standard"],
+                                capture_output=True, check=False)
+        if listed.returncode:
+            self.skipTest("this isn't a repository of git")
+        headers = [os.path.relpath(libraries.header(it), TOP) for it in libraries.HEADERS]
+        others = [f"crates/{it}/{file}" for it, files in libraries.C_FILES.items() for file in files]
+        for path in {*filter(None, listed.stdout.decode().split("\0")), *headers, *others}:
+            if (TOP / path).is_file():
+                (top / path).parent.mkdir(parents=True, exist_ok=True)
+                shutil.copy(TOP / path, top / path)
+        env = {**os.environ, "GIT_COMMITTER_DATE": "2026-11-25T12:00:00Z"}
+        for words in (["init", "-q"], ["add", "-A"], ["-c", "user.name=a", "-c", "user.email=a@b", "commit", "-qm", "all"]):
+            self.assertEqual(run("git", "-C", top, *words, env=env).stderr, "")
+        for path in installed.built():
+            place = top / path.relative_to(TOP)
+            place.parent.mkdir(parents=True, exist_ok=True)
+            shutil.copy(path, place)
+        return top
+
+    def release(self, top):
+        return run(sys.executable, top / "tools" / "release.py", self.room / "made")
+
+    def test_the_same_files_make_the_same_bytes(self):
+        made = []
+        for name in ("one", "another"):
+            top = self.repository(name)
+            done = self.release(top)
+            self.assertEqual((done.returncode, done.stderr), (0, ""))
+            made.append(pathlib.Path(done.stdout.strip()).read_bytes())
+        self.assertEqual(made[0], made[1])
+        said = pathlib.Path(f"{done.stdout.strip()}.sha256").read_text(encoding="utf-8").split()
+        self.assertEqual(said[0], hashlib.sha256(made[0]).hexdigest())
+
+    def test_a_release_is_used(self):
+        done = self.release(self.repository("top"))
+        with tarfile.open(done.stdout.strip()) as tar:
+            owners = {(it.uid, it.gid, it.mtime) for it in tar}
+            tar.extractall(self.room)
+        self.assertEqual(owners, {(0, 0, 1795608000)})
+        top = self.room / f"suygapid-{version.version()}-x86_64-linux"
+        sums = run("sha256sum", "--quiet", "-c", "SHA256SUMS", cwd=top)
+        self.assertEqual((sums.returncode, sums.stdout), (0, ""))
+        checked = run(top / "sfi", "check", given=SMALLEST, env={**os.environ, "PATH": "/usr/bin:/bin"})
+        self.assertEqual((checked.stdout, checked.stderr), (ACCEPTED, ""))
+        self.installs(top=top)
+        self.assertEqual(run(self.prefix / "bin" / "sfi", "check", given=SMALLEST).stdout, ACCEPTED)
+        self.installs(top=TOP)  # the repository in place of the release
+
+    def test_what_is_not_committed_is_not_released(self):
+        top = self.repository("top")
+        (top / "README.md").write_text("changed", encoding="utf-8")
+        done = self.release(top)
+        self.assertEqual((done.returncode, done.stderr), (1, "release.py: not all is committed: git status\n"))
+
+    def test_what_is_old_is_not_released(self):
+        top = self.repository("top")
+        os.utime(top / "crates" / "sfi" / "out" / "sfi", (1, 1))
+        done = self.release(top)
+        self.assertEqual((done.returncode, done.stderr), (1, "release.py: crates/sfi/out/sfi is older than a source of it\n"))
+
+    def test_what_is_not_built_is_told(self):
+        top = self.repository("top")
+        (top / "crates" / "sfi_c" / "out" / "libsfi_c.a").unlink()
+        self.assertEqual(self.release(top).stderr, "release.py: crates/sfi_c/out/libsfi_c.a isn't built\n")
+        done = self.install(self.prefix, top=top)
+        self.assertEqual(done.returncode, 1)
+        self.assertIn("crates/sfi_c/out/libsfi_c.a isn't built: tools/build_library.py", done.stderr)
+        self.assertFalse(self.prefix.exists())
+
+
+if __name__ == "__main__":
+    unittest.main()

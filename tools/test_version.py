@@ -1,0 +1,42 @@
+#!/usr/bin/env python3
+"""Tests that all that states the version states the same one, and that a manual page has each option of its tool:
+`tools/unit_tests.py tools`."""
+import pathlib
+import re
+import subprocess
+import sys
+import unittest
+
+TOOLS = pathlib.Path(__file__).resolve().parent
+sys.path.insert(0, str(TOOLS))
+import version
+
+
+class Version(unittest.TestCase):
+    def test_each_place_states_the_same(self):
+        for place in version.PLACES:
+            with self.subTest(file=place[0]):
+                self.assertEqual(version.stated(place)[1][1], version.version())
+
+    def test_no_other_file_states_one(self):
+        """Where a text speaks of a version of this one's spelling, it is listed, or isn't a version of this."""
+        listed = {file for file, _ in version.PLACES}
+        files = subprocess.run(["git", "-C", version.TOP, "grep", "-lF", version.version(), "--", "*.h", "*.rt", "*.toml", "*.1", "*.py"],
+                               capture_output=True, text=True, check=False)
+        if files.returncode > 1:
+            self.skipTest("git says no more of this folder")
+        self.assertEqual(set(files.stdout.split()) - listed, set())
+
+
+class Pages(unittest.TestCase):
+    def test_each_option_is_in_the_manual(self):
+        for tool in ("sfi-cc", "sfi-library"):
+            said = subprocess.run([TOOLS / tool, "--help"], capture_output=True, text=True, check=True).stdout
+            page = (version.TOP / "docs" / f"{tool}.1").read_text(encoding="utf-8").replace("\\-", "-")
+            for option in set(re.findall(r"^  (-[\w-]+)", said, re.MULTILINE)) - {"-h"}:
+                with self.subTest(tool=tool, option=option):
+                    self.assertIn(option, page)
+
+
+if __name__ == "__main__":
+    unittest.main()
