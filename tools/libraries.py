@@ -1,10 +1,11 @@
 #!/usr/bin/env python3
 """Makes the libraries that programs are linked with, of those that rt built: for each crate a static one, with the C files
-that it needs in it, and a shared one, which exports the calls of its header alone. They are in crates/CRATE/out/linked.
+that it needs in it, and a shared one, which exports the calls of its header alone.
 
-    tools/libraries.py [CRATE ..]     # sfi_c and sfi_run if absent
+    tools/libraries.py                              # of crates/CRATE/out/libCRATE.a, in crates/CRATE/out/linked
+    tools/libraries.py CRATE LIBRARY FOLDER         # of the static library LIBRARY, in FOLDER
 
-Each needs crates/CRATE/out/libCRATE.a, gcc and ar. What is newer than all that it is made of stays.
+The crates are sfi_c and sfi_run. It takes gcc and ar. What is newer than all that it is made of stays.
 """
 import os
 import re
@@ -35,14 +36,6 @@ def header(crate):
     return path(crate, "include", HEADERS[crate])
 
 
-def static(crate):
-    return path(crate, "out", "linked", f"lib{crate}.a")
-
-
-def shared(crate):
-    return path(crate, "out", "linked", f"lib{crate}.so")
-
-
 def shared_name(crate):
     """The name by which programs ask for a shared library: with the part of the version in which libraries have to agree
     so that one can stand for the other, which is the first number, or while that is 0 the first two."""
@@ -61,9 +54,9 @@ def run(*words):
     subprocess.run(words, check=True)
 
 
-def make_static(crate, archive, room):
+def make_static(crate, library, archive, room):
     """Adds the C files to the library, each as a member of its own: a program that has such functions keeps its own."""
-    shutil.copyfile(built(crate), archive)
+    shutil.copyfile(library, archive)
     for file in C_FILES[crate]:
         member = os.path.join(room, f"{crate}_{os.path.basename(file)[:-2]}.o")
         run("gcc", "-std=c11", "-O2", "-fPIC", "-Wall", "-Wextra", "-Werror", "-c", path(crate, file), "-o", member)
@@ -78,27 +71,30 @@ def make_shared(crate, archive, target, room):
         "-Wl,--build-id=none", "-Wl,-z,defs", "-Wl,--whole-archive", archive, "-Wl,--no-whole-archive")
 
 
-def make(crate):
-    """Makes both libraries of a crate, where one isn't there or is older than what it is made of."""
-    targets = (static(crate), shared(crate))
-    sources = [built(crate), header(crate), *(path(crate, it) for it in C_FILES[crate])]
+def make(crate, library=None, folder=None):
+    """The paths of a crate's two libraries, which are made where one isn't there or is older than what it is made of."""
+    library, folder = library or built(crate), folder or path(crate, "out", "linked")
+    targets = [os.path.join(folder, f"lib{crate}{ending}") for ending in (".a", ".so")]
+    sources = [library, header(crate), *(path(crate, it) for it in C_FILES[crate])]
     newest = max(os.path.getmtime(it) for it in sources)
     if all(os.path.exists(it) and os.path.getmtime(it) >= newest for it in targets):
         return targets
-    os.makedirs(os.path.dirname(targets[0]), exist_ok=True)
-    with tempfile.TemporaryDirectory(dir=os.path.dirname(targets[0])) as room:
+    os.makedirs(folder, exist_ok=True)
+    with tempfile.TemporaryDirectory(dir=folder) as room:
         fresh = [os.path.join(room, os.path.basename(it)) for it in targets]
-        make_static(crate, fresh[0], room)
+        make_static(crate, library, fresh[0], room)
         make_shared(crate, fresh[0], fresh[1], room)
         for one, target in zip(fresh, targets):
             os.replace(one, target)
     return targets
 
 
-def main(crates):
-    for crate in crates or HEADERS:
-        for made in make(crate):
-            print(os.path.relpath(made, TOP))
+def main(words):
+    if words and (len(words) != 3 or words[0] not in HEADERS):
+        sys.exit("usage: tools/libraries.py [CRATE LIBRARY FOLDER]")
+    for wanted in [words] if words else [[crate] for crate in HEADERS]:
+        for made in make(*wanted):
+            print(os.path.relpath(made))
 
 
 if __name__ == "__main__":

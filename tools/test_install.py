@@ -118,6 +118,22 @@ class Installed(Installing):
         for library in TOLD:
             self.assertEqual(run("pkg-config", "--modversion", library, env=self.env).stdout, f"{version.version()}\n")
 
+    def test_the_package_for_python_is_found(self):
+        words = "import sfi_run, sys; print(sfi_run.World(sys.stdin.buffer.read())[0].turn(5))"
+        env = {**self.env, "PYTHONPATH": str(self.prefix / installed.SHARE / "bindings" / "python"), "PYTHONDONTWRITEBYTECODE": "1"}
+        env.pop("SFI_RUN_LIBRARY", None)
+        done = run(sys.executable, "-c", words, given=bytes.fromhex(SMALLEST), env=env)
+        self.assertEqual((done.stdout.decode(), done.stderr), ("Trapped(cause=<Cause.BREAK: 3>, address=16777216)\n", b""))
+
+    @unittest.skipUnless(shutil.which("cargo"), "cargo isn't there")
+    def test_the_crate_for_rust_is_linked(self):
+        (self.room / "smallest.image").write_bytes(bytes.fromhex(SMALLEST))
+        env = {**self.env, "CARGO_TARGET_DIR": str(self.room / "target")}
+        env.pop("SFI_RUN_LIBRARY", None)
+        done = run("cargo", "run", "-q", "--offline", "--locked", "--example", "console", self.room / "smallest.image", env=env,
+                   cwd=self.prefix / installed.SHARE / "bindings" / "rust")
+        self.assertEqual((done.stdout, done.stderr), ("sandbox=0 trap=Break at=01000000 steps=0 out=\n", ""))
+
     def test_a_shared_library_exports_its_calls(self):
         for library in TOLD:
             said = run("nm", "-D", "--defined-only", self.prefix / "lib" / f"lib{library}.so").stdout

@@ -1,0 +1,97 @@
+"""The shared library libsfi_run, as ctypes sees it: sfi_run.h says what each call does and what a caller owes."""
+from __future__ import annotations
+
+import ctypes
+import os
+import pathlib
+from collections.abc import Callable
+from typing import Any
+
+NAME = "libsfi_run.so"
+PACKAGE = pathlib.Path(__file__).resolve().parent
+
+_WORD = ctypes.c_uint32
+_SIZE = ctypes.c_size_t
+_BYTES = ctypes.c_char_p  # of a call that reads them
+_ROOM = ctypes.c_void_p  # of a call that writes them
+
+
+class World(ctypes.Structure):
+    """`struct sfi_run_world`, which begins as zeros."""
+    _fields_ = [("held", _WORD), ("at", ctypes.c_void_p)]
+
+
+class Event(ctypes.Structure):
+    """`struct sfi_run_event`."""
+    _fields_ = [(name, _WORD) for name in ("kind", "number", "a0", "a1")]
+
+
+class Region(ctypes.Structure):
+    """`struct sfi_run_region`."""
+    _fields_ = [("base", _WORD), ("size", _WORD)]
+
+
+class Registers(ctypes.Structure):
+    """`struct sfi_run_registers`."""
+    _fields_ = [("pc", _WORD), ("x", _WORD * 32)]
+
+
+Arguments = _WORD * 8
+
+_WORLD = ctypes.POINTER(World)
+_EVENT = ctypes.POINTER(Event)
+_CALLS: dict[str, tuple[Any, list[Any]]] = {
+    "load": (_WORD, [_BYTES, _SIZE, _WORLD]),
+    "free": (None, [_WORLD]),
+    "count": (_SIZE, [_WORLD]),
+    "turn": (_WORD, [_WORLD, _WORD, _WORD, _EVENT]),
+    "event": (_WORD, [_WORLD, _WORD, _EVENT]),
+    "reply": (ctypes.c_bool, [_WORLD, _WORD, _WORD, _WORD]),
+    "exit": (ctypes.c_bool, [_WORLD, _WORD, _WORD]),
+    "read": (ctypes.c_bool, [_WORLD, _WORD, _WORD, _ROOM, _SIZE]),
+    "write": (ctypes.c_bool, [_WORLD, _WORD, _WORD, _BYTES, _SIZE]),
+    "enter": (ctypes.c_bool, [_WORLD, _WORD, _WORD, ctypes.POINTER(_WORD)]),
+    "steps": (ctypes.c_uint64, [_WORLD, _WORD]),
+    "registers": (ctypes.c_bool, [_WORLD, _WORD, ctypes.POINTER(Registers)]),
+    "data": (ctypes.c_bool, [_WORLD, _WORD, ctypes.POINTER(Region)]),
+}
+
+
+def places() -> list[str]:
+    """Where the library is, the first before the others: what SFI_RUN_LIBRARY names; in this package, as pip installs it; in
+    the repository or the installation that holds this package; at the usual places; where the system looks."""
+    named = os.environ.get("SFI_RUN_LIBRARY")
+    if named:
+        return [named]
+    folders = [PACKAGE, pathlib.Path.home() / ".local" / "lib", pathlib.Path("/usr/local/lib")]
+    above = PACKAGE.parents
+    if len(above) > 4:
+        folders[1:1] = [above[2] / "crates" / "sfi_run" / "out" / "linked", above[4] / "lib"]
+    return [str(it / NAME) for it in folders if (it / NAME).exists()] + [NAME]
+
+
+class Library:
+    """A shared library: `library["load"]` is its call sfi_run_load."""
+
+    def __init__(self, path: str | os.PathLike[str] | None = None) -> None:
+        """Loads the library of that path, or else the one that `places` finds. OSError where there is none."""
+        handle = ctypes.CDLL(os.fspath(path) if path is not None else places()[0])
+        self._functions: dict[str, Callable[..., Any]] = {}
+        for name, (result, arguments) in _CALLS.items():
+            function = getattr(handle, f"sfi_run_{name}")
+            function.restype, function.argtypes = result, arguments
+            self._functions[name] = function
+
+    def __getitem__(self, name: str) -> Callable[..., Any]:
+        return self._functions[name]
+
+
+_loaded: Library | None = None
+
+
+def default() -> Library:
+    """The library that `places` finds, which is loaded once. OSError where there is none."""
+    global _loaded
+    if _loaded is None:
+        _loaded = Library()
+    return _loaded

@@ -1,0 +1,233 @@
+"""Tests of the package: `[SFI=PATH] python3 -m unittest discover tests`. The addresses, registers and numbers that are wanted
+are those of docs/IMAGE.md and docs/GATES.md."""
+import gc
+import os
+import pathlib
+import shutil
+import subprocess
+import sys
+import threading
+import unittest
+
+HERE = pathlib.Path(__file__).resolve().parent
+sys.path.insert(0, str(HERE.parent))
+import sfi_run
+from sfi_run.console import Console
+
+SFI = os.environ.get("SFI") or shutil.which("sfi") or str(HERE.parents[2] / "crates" / "sfi" / "out" / "sfi")
+CODE, DATA = 0x01000000, 0x01800000  # of the first sandbox
+# One sandbox of 256 bytes, which posts twice what it is entered with, or 5, and exits with the reply's a1.
+TWICE = """
+.sandbox 256
+.gate exit 0
+.gate post 4
+        li   a0, 5
+        add  a1, a0, a0
+        call post
+        mv   a0, a1
+        call exit
+"""
+EBREAKS = bytes.fromhex("73001000" * 64)
+SMALLEST = bytes.fromhex("5346493101000000" "0000000100010000" "0000800100010000" "00000001" "00000000" "00000000") + EBREAKS
+
+
+def built(source):
+    done = subprocess.run([SFI, "build"], input=source, capture_output=True, text=True, check=True)
+    return bytes.fromhex(done.stdout)
+
+
+class Loading(unittest.TestCase):
+    def test_bytes_that_are_no_image(self):
+        for image in (b"", b"SFI1", SMALLEST[:-1], SMALLEST + b"\0"):
+            with self.assertRaises(sfi_run.NoImage):
+                sfi_run.World(image)
+
+    def test_an_image_with_a_broken_rule(self):
+        at = SMALLEST.index(EBREAKS)
+        with self.assertRaises(sfi_run.Refused):
+            sfi_run.World(SMALLEST[:at] + bytes.fromhex("130c1c00") + SMALLEST[at + 4:])  # addi x24, x24, 1
+
+    def test_a_world_of_one(self):
+        with sfi_run.World(bytearray(SMALLEST)) as world:
+            self.assertEqual((len(world), [it.number for it in world]), (1, [0]))
+            for number in (1, -1, 1 << 40):
+                with self.assertRaises(IndexError):
+                    world[number]
+
+    def test_a_closed_world(self):
+        world = sfi_run.World(SMALLEST)
+        sandbox = world[0]
+        world.close()
+        world.close()
+        self.assertEqual((len(world), list(world)), (0, []))
+        for use in (lambda: sandbox.turn(1), lambda: sandbox.steps, lambda: sandbox.read(DATA, 1), lambda: world[0]):
+            with self.assertRaises(IndexError):
+                use()
+
+    def test_a_sandbox_keeps_its_world(self):
+        sandbox = sfi_run.World(SMALLEST)[0]
+        gc.collect()
+        self.assertEqual(sandbox.turn(1), sfi_run.Trapped(sfi_run.Cause.BREAK, CODE))
+
+    def test_another_thread(self):
+        world, found = sfi_run.World(SMALLEST), []
+
+        def use():
+            try:
+                world[0].turn(1)
+            except RuntimeError as error:
+                found.append(str(error))
+        thread = threading.Thread(target=use)
+        thread.start()
+        thread.join()
+        self.assertEqual(found, ["a world is used by the thread that made it alone"])
+        self.assertEqual(world[0].steps, 0)
+
+    def test_a_library_that_is_not_there(self):
+        with self.assertRaises(OSError):
+            sfi_run.Library("/none/libsfi_run.so")
+
+
+class Running(unittest.TestCase):
+    def setUp(self):
+        self.world = sfi_run.World(built(TWICE))
+        self.addCleanup(self.world.close)
+        self.sandbox = self.world[0]
+
+    def test_the_beginning(self):
+        registers = self.sandbox.registers
+        wanted = {2: DATA + 240, 24: CODE, 25: 256 - 16, 26: DATA, 27: 255}
+        self.assertEqual(registers.pc, CODE + 32)  # after the stubs of two gates
+        self.assertEqual(registers.x, tuple(wanted.get(number, 0) for number in range(32)))
+        self.assertEqual((self.sandbox.data, self.sandbox.event, self.sandbox.steps),
+                         (sfi_run.Region(DATA, 256), sfi_run.Ready(), 0))
+
+    def test_a_call_and_its_reply(self):
+        call = self.sandbox.turn(1000)
+        self.assertEqual(call, sfi_run.Call(4, 5, 10, self.sandbox))
+        steps = self.sandbox.steps
+        self.assertEqual((self.sandbox.turn(1000), self.sandbox.event, self.sandbox.steps), (call, call, steps))
+        call.reply(1, 77)
+        self.assertEqual((self.sandbox.steps, self.sandbox.event), (steps + 1, sfi_run.Ready()))
+        for again in (lambda: call.reply(1, 77), lambda: call.exit(1)):
+            with self.assertRaises(sfi_run.NotWaiting):
+                again()
+        last = self.sandbox.turn(1000)
+        self.assertEqual((last.service, last.a0), (0, 77))
+        last.exit(last.a0)
+        self.assertEqual(self.sandbox.event, sfi_run.Exited(77))
+
+    def test_a_reply_that_keeps_a1(self):
+        self.sandbox.turn(1000).reply(0)
+        self.assertEqual(self.sandbox.turn(1000).a0, 10)
+
+    def test_events(self):
+        found = []
+        for event in self.sandbox.events(1000):
+            found.append(event)
+            if isinstance(event, sfi_run.Call):
+                event.reply(0, 9) if event.service else event.exit(event.a0)
+        self.assertEqual([type(it).__name__ for it in found], ["Call", "Call", "Exited"])
+        self.assertEqual(found[2].number, 9)
+
+    def test_no_steps_but_those_given(self):
+        """The same steps, whatever the turns."""
+        ends = set()
+        for most in (1, 2, 3, 7, 1000):
+            with sfi_run.World(built(TWICE)) as world:
+                sandbox = world[0]
+                while not isinstance(sandbox.event, sfi_run.Exited):
+                    before = sandbox.steps
+                    for event in sandbox.events(most):
+                        if isinstance(event, sfi_run.Call):
+                            event.reply(0, 9) if event.service else event.exit(event.a0)
+                    self.assertLessEqual(sandbox.steps - before, most)
+                ends.add((sandbox.steps, sandbox.event))
+        self.assertEqual(len(ends), 1)
+
+    def test_a_call_that_is_left(self):
+        self.assertEqual([it.service for it in self.sandbox.events(1000)], [4])
+        self.assertEqual([it.service for it in self.sandbox.events(1000)], [4])
+
+    def test_data(self):
+        self.assertEqual(self.sandbox.read(DATA, 256), bytes(256))
+        self.sandbox.write(DATA + 250, b"\1\0\2\0\3\4")
+        self.assertEqual(self.sandbox.read(DATA + 249, 7), b"\0\1\0\2\0\3\4")
+        self.assertEqual(self.sandbox.read(DATA, 0), b"")
+        self.sandbox.write(DATA, b"")
+        for at, count in ((DATA - 1, 1), (DATA - 1, 2), (DATA + 255, 2), (DATA + 256, 1), (DATA, 257), (CODE, 4), (0, 1), (0xFFFFFFFF, 2)):
+            with self.subTest(at=at, count=count):
+                with self.assertRaises(sfi_run.OutsideData):
+                    self.sandbox.read(at, count)
+                with self.assertRaises(sfi_run.OutsideData):
+                    self.sandbox.write(at, b"\xff" * count)
+        self.assertEqual(self.sandbox.read(DATA, 256), bytes(250) + b"\1\0\2\0\3\4")
+        with self.assertRaises(sfi_run.OutsideData):
+            self.sandbox.read(DATA, -1)
+
+    def test_entering(self):
+        start = self.sandbox.registers.pc
+        with self.assertRaises(sfi_run.Stopped):
+            self.sandbox.enter(start)
+        self.sandbox.turn(1000).exit(3)
+        for pc in (start + 4, CODE - 16, CODE + 256, DATA):
+            with self.subTest(pc=pc), self.assertRaises(sfi_run.Stopped):
+                self.sandbox.enter(pc)
+        self.assertEqual(self.sandbox.event, sfi_run.Exited(3))
+        before = self.sandbox.steps
+        self.sandbox.enter(start, range(1, 9))
+        self.assertEqual(self.sandbox.registers.x[10:18], tuple(range(1, 9)))
+        self.assertEqual((self.sandbox.event, self.sandbox.steps), (sfi_run.Ready(), before))
+        with self.assertRaises(ValueError):
+            self.sandbox.enter(start, range(9))
+
+    def test_numbers_of_32_bits(self):
+        call = self.sandbox.turn(1000)
+        for value in (-1, 1 << 32):
+            for use in (lambda: call.reply(value), lambda: call.reply(0, value), lambda: call.exit(value),
+                        lambda: self.sandbox.turn(value), lambda: self.sandbox.read(value, 1)):
+                with self.assertRaises(ValueError):
+                    use()
+        self.assertEqual(self.sandbox.event, call)
+        call.reply(0, 0xFFFFFFFF)
+        self.assertEqual(self.sandbox.turn(1000).a0, 0xFFFFFFFF)
+
+
+class Services(unittest.TestCase):
+    """What examples can't show of the console: each failure of docs/GATES.md."""
+
+    def served(self, service, a0, a1, given=b"", before=()):
+        """What a call of a gate is replied, and the console."""
+        source = f".sandbox 256\n.gate it {service}\n li a0, {a0}\n li a1, {a1}\n call it\n ebreak\n.sandbox 256\n ebreak\n"
+        world = sfi_run.World(built(source))
+        self.addCleanup(world.close)
+        console = Console(world, given)
+        for to, word in before:
+            console._post(world[0], to, word)
+        console.turn(world[0], 100)
+        x = world[0].registers.x
+        return x[10], x[11], console
+
+    def test_failures(self):
+        for service, a0, a1 in ((1, DATA, 257), (1, DATA - 1, 1), (1, CODE, 4), (1, DATA, 65537), (2, DATA, 257), (2, DATA + 255, 2),
+                                (2, DATA, 65537), (4, 2, 9), (4, 0xFFFFFFFF, 9)):
+            with self.subTest(service=service, a0=a0, a1=a1):
+                found = self.served(service, a0, a1, b"abc")
+                self.assertEqual(found[:2], (0xFFFFFFFF, a1))
+                self.assertEqual(found[2].output, [b"", b""])
+
+    def test_nothing_is_put_or_got(self):
+        for service in (1, 2):
+            self.assertEqual(self.served(service, 3, 0, b"abc")[:2], (0, 0))
+
+    def test_a_full_mailbox(self):
+        self.assertEqual(self.served(4, 1, 9, before=[(1, 1)] * 15)[:2], (0, 9))
+        self.assertEqual(self.served(4, 1, 9, before=[(1, 1)] * 16)[:2], (1, 9))
+
+    def test_the_oldest_word_and_its_sender(self):
+        self.assertEqual(self.served(5, 8, 9)[:2], (0, 0))
+        self.assertEqual(self.served(5, 8, 9, before=[(0, 7), (0, 6)])[:2], (7, 1))
+
+
+if __name__ == "__main__":
+    unittest.main()

@@ -1,0 +1,318 @@
+//! Runs sandboxes of untrusted RISC-V code, by Suygapid's proved library.
+//!
+//! An image is checked and loaded into a [`World`], its sandboxes get turns, and where one calls a gate the program is
+//! handed the call, serves it, and replies:
+//!
+//! ```no_run
+//! use sfi_run::{Event, World};
+//!
+//! let image = std::fs::read("hi.image")?;
+//! let mut world = World::load(&image)?;
+//! let mut sandbox = world.sandbox(0).unwrap();
+//! while let Event::Call(call) = sandbox.turn(10_000) {
+//!     match call.service {
+//!         0 => sandbox.exit(call.a0)?,
+//!         _ => sandbox.reply(call.a1, call.a1)?,
+//!     }
+//! }
+//! println!("{:?} after {} steps", sandbox.event(), sandbox.steps());
+//! # Ok::<(), Box<dyn std::error::Error>>(())
+//! ```
+//!
+//! Whatever the sandbox does, and whatever is written, entered and replied, it reads and writes its own data alone. What it
+//! leaves there, and passes in a call, may be any bytes and numbers at all: test them before you rely on them.
+use std::error::Error;
+use std::fmt;
+use std::ptr;
+
+mod sys;
+pub use sys::{Region, Registers};
+
+/// Why there is no world of an image.
+#[derive(Clone, Copy, Debug, PartialEq, Eq)]
+pub enum LoadError {
+    /// Rules are broken in it: `sfi check --report` tells which.
+    Refused,
+    /// The bytes are no image: `sfi check` tells why.
+    NoImage,
+    /// There was no memory for the check or for the world.
+    NoMemory,
+}
+
+/// A call that changed nothing, as what it asks for isn't so.
+#[derive(Clone, Copy, Debug, PartialEq, Eq)]
+pub enum CallError {
+    /// A reply to a sandbox that stands at no call.
+    NotWaiting,
+    /// An address that isn't one of the sandbox's data.
+    OutsideData,
+    /// An entry into a sandbox that hasn't stopped, or at an address where no bundle of its code begins.
+    NotEntered,
+}
+
+impl fmt::Display for LoadError {
+    fn fmt(&self, to: &mut fmt::Formatter<'_>) -> fmt::Result {
+        to.write_str(match self {
+            LoadError::Refused => "rules are broken in the image",
+            LoadError::NoImage => "the bytes are no image",
+            LoadError::NoMemory => "there was no memory for the image",
+        })
+    }
+}
+
+impl fmt::Display for CallError {
+    fn fmt(&self, to: &mut fmt::Formatter<'_>) -> fmt::Result {
+        to.write_str(match self {
+            CallError::NotWaiting => "the sandbox stands at no call",
+            CallError::OutsideData => "an address isn't one of the sandbox's data",
+            CallError::NotEntered => "the sandbox hasn't stopped, or no bundle begins there",
+        })
+    }
+}
+
+impl Error for LoadError {}
+impl Error for CallError {}
+
+/// Why a sandbox trapped. Accepted code never meets the first two.
+#[derive(Clone, Copy, Debug, PartialEq, Eq)]
+pub enum Cause {
+    /// A byte of the instruction isn't there.
+    Fetch,
+    /// The bytes are no instruction.
+    Illegal,
+    /// `ebreak`.
+    Break,
+    /// A load in a guard zone.
+    Load,
+    /// A store there.
+    Store,
+}
+
+/// A call of a gate, at which a sandbox stands.
+#[derive(Clone, Copy, Debug, PartialEq, Eq)]
+pub struct Call {
+    /// The gate's service.
+    pub service: u32,
+    /// The first argument.
+    pub a0: u32,
+    /// The second argument.
+    pub a1: u32,
+}
+
+/// How a sandbox stands.
+#[derive(Clone, Copy, Debug, PartialEq, Eq)]
+pub enum Event {
+    /// It can take a turn, and doesn't stand at a call.
+    Ready,
+    /// It stands at a call, and waits for a reply.
+    Call(Call),
+    /// It has stopped, by [`Sandbox::exit`] with this number.
+    Exited(u32),
+    /// It has stopped, at an instruction that trapped.
+    Trapped {
+        /// Why.
+        cause: Cause,
+        /// The address of the access, or else the pc.
+        address: u32,
+    },
+}
+
+impl Event {
+    fn of(raw: &sys::Event) -> Event {
+        match raw.kind {
+            2 => Event::Call(Call {
+                service: raw.number,
+                a0: raw.a0,
+                a1: raw.a1,
+            }),
+            3 => Event::Exited(raw.number),
+            4 => Event::Trapped {
+                cause: Cause::of(raw.number),
+                address: raw.a0,
+            },
+            _ => Event::Ready,
+        }
+    }
+}
+
+impl Cause {
+    fn of(number: u32) -> Cause {
+        match number {
+            1 => Cause::Fetch,
+            2 => Cause::Illegal,
+            3 => Cause::Break,
+            4 => Cause::Load,
+            _ => Cause::Store,
+        }
+    }
+}
+
+/// The sandboxes of an image. It is freed when it is dropped. It stays on the thread that loaded it, as the library asks:
+///
+/// ```compile_fail
+/// fn sends(world: sfi_run::World) {
+///     std::thread::spawn(move || drop(world));
+/// }
+/// ```
+pub struct World {
+    raw: sys::World, // its pointer keeps it from being Send and Sync
+    count: u32,
+}
+
+impl World {
+    /// Checks an image's own bytes, and makes the world of its sandboxes, each ready at its start.
+    pub fn load(image: &[u8]) -> Result<World, LoadError> {
+        let mut raw = sys::World {
+            held: 0,
+            at: ptr::null_mut(),
+        };
+        // SAFETY: the bytes can be read, and a world of zeros is none.
+        match unsafe { sys::sfi_run_load(image.as_ptr(), image.len(), &mut raw) } {
+            0 => {
+                // SAFETY: as above.
+                let count = unsafe { sys::sfi_run_count(&mut raw) } as u32;
+                Ok(World { raw, count })
+            }
+            1 => Err(LoadError::Refused),
+            2 => Err(LoadError::NoImage),
+            _ => Err(LoadError::NoMemory),
+        }
+    }
+
+    /// How many sandboxes there are: 1 to 16.
+    #[allow(clippy::len_without_is_empty)] // there is always one
+    pub fn len(&self) -> u32 {
+        self.count
+    }
+
+    /// A sandbox by its number from 0, or none where there is no such one.
+    pub fn sandbox(&mut self, number: u32) -> Option<Sandbox<'_>> {
+        (number < self.count).then_some(Sandbox {
+            world: &mut self.raw,
+            number,
+        })
+    }
+}
+
+impl Drop for World {
+    fn drop(&mut self) {
+        // SAFETY: nothing uses it after this.
+        unsafe { sys::sfi_run_free(&mut self.raw) }
+    }
+}
+
+/// A sandbox of a world.
+pub struct Sandbox<'world> {
+    world: &'world mut sys::World,
+    number: u32,
+}
+
+// SAFETY, of all calls below: the world was loaded and isn't freed, and is borrowed here alone; the other arguments are
+// numbers, or have the lengths that are handed over with them.
+impl Sandbox<'_> {
+    /// Its number in the world, from 0.
+    pub fn number(&self) -> u32 {
+        self.number
+    }
+
+    /// Runs it for at most so many steps, and no further than its next call: how it stands then. An instruction that is
+    /// done and a call that is replied to are a step each. One that stands at a call already, or has stopped, does none.
+    pub fn turn(&mut self, steps: u32) -> Event {
+        let mut raw = sys::Event::default();
+        unsafe { sys::sfi_run_turn(self.world, self.number, steps, &mut raw) };
+        Event::of(&raw)
+    }
+
+    /// How it stands.
+    pub fn event(&mut self) -> Event {
+        let mut raw = sys::Event::default();
+        unsafe { sys::sfi_run_event(self.world, self.number, &mut raw) };
+        Event::of(&raw)
+    }
+
+    /// A turn of at most so many steps in all, in which `serve` replies to each call and says whether the turn goes on: how
+    /// it stands then. A call that comes when all steps are used is left for the next turn, and so is one without a reply.
+    pub fn serve(&mut self, steps: u64, mut serve: impl FnMut(&mut Self, Call) -> bool) -> Event {
+        let end = self.steps().saturating_add(steps);
+        loop {
+            let now = self.steps();
+            let event = self.turn(u32::try_from(end - now).unwrap_or(u32::MAX));
+            let done = self.steps();
+            match event {
+                Event::Ready if done < end => {} // there were more steps than one turn takes
+                Event::Call(call) if done < end => {
+                    if !serve(self, call) || self.steps() == done {
+                        return self.event();
+                    }
+                }
+                _ => return event,
+            }
+        }
+    }
+
+    /// Replies to the call at which it stands: it goes on after it in its next turn, with these in a0 and a1. The error is
+    /// [`CallError::NotWaiting`].
+    pub fn reply(&mut self, a0: u32, a1: u32) -> Result<(), CallError> {
+        let is_done = unsafe { sys::sfi_run_reply(self.world, self.number, a0, a1) };
+        is_done.then_some(()).ok_or(CallError::NotWaiting)
+    }
+
+    /// The other reply: it stops at the call, with that number. The error is [`CallError::NotWaiting`].
+    pub fn exit(&mut self, number: u32) -> Result<(), CallError> {
+        let is_done = unsafe { sys::sfi_run_exit(self.world, self.number, number) };
+        is_done.then_some(()).ok_or(CallError::NotWaiting)
+    }
+
+    /// Fills `bytes` with its data from an address on. The error, with which they stay, is [`CallError::OutsideData`].
+    pub fn read(&mut self, at: u32, bytes: &mut [u8]) -> Result<(), CallError> {
+        let is_done = unsafe {
+            sys::sfi_run_read(self.world, self.number, at, bytes.as_mut_ptr(), bytes.len())
+        };
+        is_done.then_some(()).ok_or(CallError::OutsideData)
+    }
+
+    /// So many bytes of its data from an address on. The error is [`CallError::OutsideData`]; it takes no memory then.
+    pub fn read_vec(&mut self, at: u32, count: u32) -> Result<Vec<u8>, CallError> {
+        if count > self.data().size {
+            return Err(CallError::OutsideData);
+        }
+        let mut bytes = vec![0; count as usize];
+        self.read(at, &mut bytes)?;
+        Ok(bytes)
+    }
+
+    /// Writes all of `bytes` into its data from an address on. The error, with which these stay, is
+    /// [`CallError::OutsideData`].
+    pub fn write(&mut self, at: u32, bytes: &[u8]) -> Result<(), CallError> {
+        let is_done =
+            unsafe { sys::sfi_run_write(self.world, self.number, at, bytes.as_ptr(), bytes.len()) };
+        is_done.then_some(()).ok_or(CallError::OutsideData)
+    }
+
+    /// Makes it ready at pc, where it has stopped, with these arguments in a0 to a7. Its data stay, and its steps are
+    /// counted on. The error is [`CallError::NotEntered`].
+    pub fn enter(&mut self, pc: u32, arguments: &[u32; 8]) -> Result<(), CallError> {
+        let is_done =
+            unsafe { sys::sfi_run_enter(self.world, self.number, pc, arguments.as_ptr()) };
+        is_done.then_some(()).ok_or(CallError::NotEntered)
+    }
+
+    /// How many steps it has done.
+    pub fn steps(&mut self) -> u64 {
+        unsafe { sys::sfi_run_steps(self.world, self.number) }
+    }
+
+    /// Its pc and registers.
+    pub fn registers(&mut self) -> Registers {
+        let mut registers = Registers::default();
+        unsafe { sys::sfi_run_registers(self.world, self.number, &mut registers) };
+        registers
+    }
+
+    /// Where its data lie.
+    pub fn data(&mut self) -> Region {
+        let mut data = Region::default();
+        unsafe { sys::sfi_run_data(self.world, self.number, &mut data) };
+        data
+    }
+}

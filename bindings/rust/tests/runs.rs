@@ -1,0 +1,213 @@
+//! Tests of the crate. The addresses, registers and numbers that are wanted are those of docs/IMAGE.md and docs/GATES.md.
+use sfi_run::{Call, CallError, Cause, Event, LoadError, Region, World};
+use std::env;
+use std::io::Write;
+use std::path::Path;
+use std::process::{Command, Stdio};
+
+const CODE: u32 = 0x0100_0000; // of the first sandbox
+const DATA: u32 = 0x0180_0000;
+// It posts twice what it has, and exits with the reply's a1.
+const TWICE: &str = ".sandbox 256
+.gate exit 0
+.gate post 4
+        li   a0, 5
+        add  a1, a0, a0
+        call post
+        mv   a0, a1
+        call exit
+";
+
+fn word(number: u32) -> [u8; 4] {
+    number.to_le_bytes()
+}
+
+/// The image of one sandbox of 256 bytes, whose code is 64 times ebreak.
+fn smallest() -> Vec<u8> {
+    let head = [1, CODE, 256, DATA, 256, CODE, 0, 0];
+    let code = [0x0010_0073; 64];
+    let words = head.into_iter().chain(code).flat_map(word);
+    b"SFI1".iter().copied().chain(words).collect()
+}
+
+fn built(source: &str) -> Vec<u8> {
+    let beside = Path::new(env!("CARGO_MANIFEST_DIR")).join("../../crates/sfi/out/sfi");
+    let sfi = env::var_os("SFI").unwrap_or_else(|| {
+        if beside.exists() {
+            beside.into()
+        } else {
+            "sfi".into()
+        }
+    });
+    let mut child = Command::new(sfi)
+        .arg("build")
+        .stdin(Stdio::piped())
+        .stdout(Stdio::piped())
+        .spawn()
+        .unwrap();
+    child
+        .stdin
+        .take()
+        .unwrap()
+        .write_all(source.as_bytes())
+        .unwrap();
+    let text = String::from_utf8(child.wait_with_output().unwrap().stdout).unwrap();
+    let digits = text.trim();
+    (0..digits.len())
+        .step_by(2)
+        .map(|at| u8::from_str_radix(&digits[at..at + 2], 16).unwrap())
+        .collect()
+}
+
+fn twice() -> World {
+    World::load(&built(TWICE)).unwrap()
+}
+
+#[test]
+fn what_is_not_accepted_is_not_loaded() {
+    let image = smallest();
+    assert_eq!(World::load(b"").err(), Some(LoadError::NoImage));
+    assert_eq!(
+        World::load(&image[..image.len() - 1]).err(),
+        Some(LoadError::NoImage)
+    );
+    let mut broken = image.clone();
+    broken[36..40].copy_from_slice(&word(0x001c_0c13)); // addi x24, x24, 1
+    assert_eq!(World::load(&broken).err(), Some(LoadError::Refused));
+    let mut world = World::load(&image).unwrap();
+    assert_eq!(world.len(), 1);
+    assert!(world.sandbox(1).is_none());
+    let trapped = Event::Trapped {
+        cause: Cause::Break,
+        address: CODE,
+    };
+    assert_eq!(world.sandbox(0).unwrap().turn(1), trapped);
+}
+
+#[test]
+fn the_beginning() {
+    let mut world = twice();
+    let mut sandbox = world.sandbox(0).unwrap();
+    let mut wanted = [0; 32];
+    (wanted[2], wanted[24], wanted[25], wanted[26], wanted[27]) =
+        (DATA + 240, CODE, 240, DATA, 255);
+    assert_eq!(sandbox.registers().x, wanted);
+    assert_eq!(sandbox.registers().pc, CODE + 32); // after the stubs of two gates
+    assert_eq!(
+        (sandbox.data(), sandbox.event(), sandbox.steps()),
+        (
+            Region {
+                base: DATA,
+                size: 256
+            },
+            Event::Ready,
+            0
+        )
+    );
+}
+
+#[test]
+fn a_call_gets_one_reply() {
+    let mut world = twice();
+    let mut sandbox = world.sandbox(0).unwrap();
+    let call = Event::Call(Call {
+        service: 4,
+        a0: 5,
+        a1: 10,
+    });
+    assert_eq!(sandbox.reply(1, 2), Err(CallError::NotWaiting));
+    assert_eq!(sandbox.turn(1000), call);
+    let steps = sandbox.steps();
+    assert_eq!(
+        (sandbox.turn(1000), sandbox.event(), sandbox.steps()),
+        (call, call, steps)
+    );
+    assert_eq!(sandbox.reply(1, 77), Ok(()));
+    assert_eq!(
+        (sandbox.steps(), sandbox.event()),
+        (steps + 1, Event::Ready)
+    );
+    assert_eq!(sandbox.reply(1, 77), Err(CallError::NotWaiting));
+    assert_eq!(sandbox.exit(1), Err(CallError::NotWaiting));
+    assert!(matches!(
+        sandbox.turn(1000),
+        Event::Call(Call {
+            service: 0,
+            a0: 77,
+            ..
+        })
+    ));
+    assert_eq!(sandbox.exit(77), Ok(()));
+    assert_eq!(sandbox.event(), Event::Exited(77));
+}
+
+#[test]
+fn data_and_entries() {
+    let mut world = twice();
+    let mut sandbox = world.sandbox(0).unwrap();
+    let mut bytes = [9; 2];
+    assert_eq!(
+        sandbox.write(DATA + 255, &[1, 2]),
+        Err(CallError::OutsideData)
+    );
+    assert_eq!(sandbox.write(DATA + 254, &[1, 2]), Ok(()));
+    assert_eq!(
+        sandbox.read(DATA + 255, &mut bytes),
+        Err(CallError::OutsideData)
+    );
+    assert_eq!(bytes, [9; 2]);
+    assert_eq!(sandbox.read_vec(DATA + 253, 3), Ok(vec![0, 1, 2]));
+    assert_eq!(
+        sandbox.read_vec(DATA, u32::MAX),
+        Err(CallError::OutsideData)
+    );
+    assert_eq!(sandbox.write(CODE, &[0]), Err(CallError::OutsideData));
+    let start = sandbox.registers().pc;
+    let arguments = [1, 2, 3, 4, 5, 6, 7, 8];
+    assert_eq!(sandbox.enter(start, &arguments), Err(CallError::NotEntered));
+    sandbox.turn(1000);
+    assert_eq!(sandbox.exit(3), Ok(()));
+    assert_eq!(
+        sandbox.enter(start + 4, &arguments),
+        Err(CallError::NotEntered)
+    );
+    assert_eq!(sandbox.enter(start, &arguments), Ok(()));
+    assert_eq!(sandbox.registers().x[10..18], arguments);
+}
+
+/// The same steps, whatever the turns.
+#[test]
+fn served_turns_have_the_steps_that_were_given() {
+    let mut ends = Vec::new();
+    for most in [1, 2, 3, 7, 1000] {
+        let mut world = twice();
+        let mut sandbox = world.sandbox(0).unwrap();
+        loop {
+            let before = sandbox.steps();
+            let event = sandbox.serve(most, |sandbox, call| match call.service {
+                0 => sandbox.exit(call.a0).is_ok(),
+                _ => sandbox.reply(0, 9).is_ok(),
+            });
+            assert!(sandbox.steps() - before <= most);
+            if let Event::Exited(number) = event {
+                ends.push((sandbox.steps(), number));
+                break;
+            }
+        }
+    }
+    ends.dedup();
+    assert_eq!(ends.len(), 1);
+    assert_eq!(ends[0].1, 9);
+}
+
+#[test]
+fn a_call_that_is_left() {
+    let mut world = twice();
+    let mut sandbox = world.sandbox(0).unwrap();
+    for _ in 0..2 {
+        assert!(matches!(
+            sandbox.serve(1000, |_, _| true),
+            Event::Call(Call { service: 4, .. })
+        ));
+    }
+}

@@ -1,0 +1,218 @@
+#!/usr/bin/env bash
+# Builds the hosts in C, Python and Rust, and runs them: the console beside `sfi run` on all examples and the C programs, in
+# both formats and with turns of several lengths; a plug-in that is called as a function; and two that exchange words. Then
+# the bindings' own tests. Says what it skips for want of a tool.
+#
+#     examples/run/test.sh [LIBRARY [PROGRAM]]    # LIBRARY is a libsfi_run.a that rt built, PROGRAM is the program sfi
+set -uo pipefail
+unset CDPATH
+here=$(cd "$(dirname "${BASH_SOURCE[0]}")" && pwd)
+top=$(cd "$here/../.." && pwd)
+library=$(realpath "${1:-$top/crates/sfi_run/out/libsfi_run.a}")
+SFI=$(realpath "${2:-$top/sfi}")
+export SFI
+source "$here/../harness.sh"
+
+needs_tool() { # a command
+    has "$1" || { skip 1 "all hosts" "$1 isn't there" && finish; }
+}
+needs_tool gcc
+needs_tool python3
+for file in "$library" "$SFI"; do
+    [ -f "$file" ] || { echo "$file isn't there" && exit 1; }
+done
+"$top/tools/libraries.py" sfi_run "$library" "$room/lib" >"$room/log" 2>&1
+report_as $? "the libraries are linked" "$library" "$(cat "$room/log")"
+
+# ---- the hosts: a command line for each example of each language
+declare -A hosts=()
+examples=(console function messages)
+warnings=(-O2 -Wall -Wextra -pedantic -Werror -I"$top/crates/sfi_run/include")
+
+build_c() {
+    local name
+    for name in "${examples[@]}"; do
+        gcc -std=c11 "${warnings[@]}" "$here/$name.c" "$room/lib/libsfi_run.a" -o "$room/$name" >"$room/log" 2>&1
+        report_as $? "$name.c is built" "no message" "$(cat "$room/log")"
+        hosts[C $name]=$room/$name
+    done
+}
+
+build_rust() {
+    has cargo || { skip 1 "hosts in Rust" "cargo isn't there" && return; }
+    local name
+    export CARGO_TARGET_DIR=$room/target CARGO_NET_OFFLINE=true
+    (cd "$top/bindings/rust" && SFI_RUN_LIBRARY=$room/lib/libsfi_run.a RUSTFLAGS="-D warnings" cargo build -q --locked --release --examples) >"$room/log" 2>&1
+    report_as $? "the examples in Rust are built" "no message" "$(cat "$room/log")"
+    for name in "${examples[@]}"; do
+        hosts[Rust $name]=$room/target/release/examples/$name
+    done
+}
+
+# The package is installed without the network, and then needs nothing of the repository.
+install_python() {
+    local name
+    export PYTHONDONTWRITEBYTECODE=1
+    export PYTHONPATH=$top/bindings/python SFI_RUN_LIBRARY=$room/lib/libsfi_run.so
+    if ! python3 -m pip --version >"$room/log" 2>&1; then
+        skip 2 "pip install" "python3 has no pip"
+    else
+        PIP_DISABLE_PIP_VERSION_CHECK=1 PIP_ROOT_USER_ACTION=ignore python3 -m pip install -q --no-cache-dir --no-index \
+            --target "$room/site" "$top/bindings/python" >"$room/log" 2>&1
+        report_as $? "pip install" "no message" "$(cat "$room/log")"
+        unset SFI_RUN_LIBRARY
+        PYTHONPATH=$room/site
+        report "the package has its library" "$room/site/sfi_run/libsfi_run.so" \
+            "$(python3 -c 'import sfi_run; print(sfi_run._library.places()[0])' 2>&1)"
+    fi
+    for name in "${examples[@]}"; do
+        hosts[Python $name]="python3 $top/bindings/python/examples/$name.py"
+    done
+}
+
+languages() { # an example: the languages that have a host of it
+    local language
+    for language in C Python Rust; do
+        [ -z "${hosts[$language $1]:-}" ] || echo "$language"
+    done
+}
+
+# ---- the console, beside `sfi run`
+image() { # a source, a format, a name: the image as text and as bytes
+    grep -v '^\.format' "$1" | sed "1i .format $2" | "$SFI" build >"$room/$3.hex" && xxd -r -p "$room/$3.hex" >"$room/$3.image"
+}
+
+beside_run() { # what is tried, the image's name, the input, and the lengths: rounds:quantum
+    local what=$1 name=$2 input=$3 length language wanted found
+    shift 3
+    for length; do
+        wanted=$("$SFI" run --rounds "${length%:*}" --quantum "${length#*:}" --input "$input" <"$room/$name.hex")
+        for language in $(languages console); do
+            found=$(${hosts[$language console]} "$room/$name.image" "${length%:*}" "${length#*:}" "$input" 2>&1)
+            report "$what, ${length%:*} turns of ${length#*:} steps, in $language" "$wanted" "$found"
+        done
+    done
+}
+
+examples_beside_run() {
+    local source format name input
+    for format in 1 2; do
+        for source in "$here"/../*.s "$here"/*.s; do
+            name=$(basename "$source" .s)
+            image "$source" "$format" "$name" || report "$name is built in format $format" image none
+            beside_run "$name, format $format" "$name" 48656c6c6f 1:1000 7:13 40:1 3:97 200:1000
+        done
+        input=$(head -c 3000 "$here/../c/inputs/prose" | od -An -v -tx1 | tr -d ' \n')
+        for name in base64 crc32 hash json sort stack; do
+            image "$here/../c/$name.s" "$format" "$name" || report "$name is built in format $format" image none
+            beside_run "$name.c, format $format" "$name" "$input" 1:100000 300:7 50:9999 100:1000000
+        done
+    done
+}
+
+# ---- the other two examples, by hand
+says() { # what is tried, the example, what is wanted, and its words
+    local what=$1 example=$2 wanted=$3 language found
+    shift 3
+    for language in $(languages "$example"); do
+        found=$(${hosts[$language $example]} "$@" 2>"$room/errors"; echo "status $?")
+        report "$what, in $language" "$wanted" "$found"
+    done
+}
+
+plug_ins() {
+    local far
+    far=$(printf 'a%.0s' $(seq 257)) # one byte more than the data
+    image "$here/turn.s" 2 turn
+    says "a function" function "NI-GULP 7
+24 LEVEL 8
+X 1
+status 0" "$room/turn.image" plug-in "Level 42" x
+    says "a function on a text that is too long" function "AB 2
+status 1" "$room/turn.image" ba "$far"
+    # 7, 11 and 13, and their squares; the steps of what is cut off are those of `sfi run`
+    image "$here/squares.s" 2 squares
+    says "two plug-ins" messages "0 -> 1: 7
+1 -> 0: 49
+0 -> 1: 11
+1 -> 0: 121
+0 -> 1: 13
+1 -> 0: 169
+0 exited with 339
+1 is cut off after $(steps_of 1 4) steps
+status 0" "$room/squares.image"
+    says "two plug-ins that get two turns" messages "0 -> 1: 7
+1 -> 0: 49
+0 -> 1: 11
+1 -> 0: 121
+0 is cut off after $(steps_of 0 2) steps
+1 is cut off after $(steps_of 1 2) steps
+status 0" "$room/squares.image" 2
+}
+
+steps_of() { # a sandbox of squares.s, and how many turns of 100 steps each gets: a number comes back in the next one
+    "$SFI" run --rounds "$2" --quantum 100 <"$room/squares.hex" | sed -n "s/sandbox=$1 .* steps=\([0-9]*\) .*/\1/p"
+}
+
+no_images() {
+    local example language
+    head -c 100 "$room/turn.image" >"$room/cut.image"
+    for example in "${examples[@]}"; do
+        for language in $(languages "$example"); do
+            found=$(${hosts[$language $example]} "$room/cut.image" 2>"$room/errors")
+            [ $? != 0 ] && [ -z "$found" ] && [ -s "$room/errors" ]
+            report_as $? "$example without an image, in $language" "a status but 0, and a reason" "$found"
+        done
+    done
+}
+
+# ---- what else is tried
+memory() {
+    has valgrind || { skip 3 "the hosts in C under valgrind" "valgrind isn't there" && return; }
+    local words found
+    for words in "console $room/primes.image 40 97" "function $room/turn.image plug-in" "messages $room/squares.image"; do
+        found=$(cd "$room" && valgrind -q --error-exitcode=9 --leak-check=full --show-leak-kinds=all ./$words 2>&1 >"$room/said")
+        report "valgrind $words" "" "$found"
+    done
+}
+
+header_in_cpp() {
+    has g++ || { skip 2 "the header in C++" "g++ isn't there" && return; }
+    local standard
+    for standard in c++98 c++17; do
+        g++ -std=$standard "${warnings[@]}" -x c++ -fsyntax-only "$top/crates/sfi_run/include/sfi_run.h" >"$room/log" 2>&1
+        report_as $? "the header in $standard" "no message" "$(cat "$room/log")"
+    done
+}
+
+add() { # a line `N passed, M failed[, K skipped]`
+    local result='^([0-9]+) passed, ([0-9]+) failed(, ([0-9]+) skipped)?$'
+    [[ $1 =~ $result ]] || { report "$2" "N passed, M failed" "$1" && return; }
+    passed=$((passed + BASH_REMATCH[1]))
+    failed=$((failed + BASH_REMATCH[2]))
+    skipped=$((skipped + ${BASH_REMATCH[4]:-0}))
+}
+
+bindings() {
+    SFI_RUN_LIBRARY=$room/lib/libsfi_run.so "$top/tools/unit_tests.py" "$top/bindings/python/tests" >"$room/log" 2>&1
+    head -n -1 "$room/log" | grep -v '^OK$\|^\.*$\|^Ran\|^---'
+    add "$(tail -n 1 "$room/log")" "the tests in Python"
+    has cargo || return
+    (cd "$top/bindings/rust" && SFI_RUN_LIBRARY=$room/lib/libsfi_run.a cargo test -q --locked) >"$room/log" 2>&1
+    report_as $? "cargo test" "all passed" "$(tail -n 30 "$room/log")"
+}
+
+build_c
+install_python
+build_rust
+if has xxd; then
+    examples_beside_run
+    plug_ins
+    no_images
+    memory
+else
+    skip 1 "all runs" "xxd isn't there"
+fi
+header_in_cpp
+bindings
+finish
