@@ -24,6 +24,7 @@ PLACES = [
     ("docs/sfi.1", r'^\.TH .* "Suygapid (.*)" '),
     ("docs/sfi-cc.1", r'^\.TH .* "Suygapid (.*)" '),
     ("docs/sfi-library.1", r'^\.TH .* "Suygapid (.*)" '),
+    ("docs/sfi-trace.1", r'^\.TH .* "Suygapid (.*)" '),
     ("CHANGELOG.md", r"^## (\d+\.\d+\.\d+)"),
 ]
 

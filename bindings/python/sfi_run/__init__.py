@@ -283,6 +283,13 @@ class Sandbox:
         return Registers(raw.pc, tuple(raw.x))
 
     @property
+    def pc(self) -> int:
+        """The address of its next instruction."""
+        raw = _library.Registers()
+        self._call("registers", ctypes.byref(raw))
+        return raw.pc
+
+    @property
     def data(self) -> Region:
         """Where its data lie."""
         raw = _library.Region()

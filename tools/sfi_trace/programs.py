@@ -1,0 +1,132 @@
+"""An image with the names and the lines of what it was made of: `sfi dis`, `sfi map` and `sfi-cc --where` tell them."""
+import os
+import re
+import subprocess
+import tempfile
+from bisect import bisect_right
+from dataclasses import dataclass
+
+TOOLS = os.path.dirname(os.path.dirname(os.path.realpath(__file__)))
+SFI_CC = os.path.join(TOOLS, "sfi-cc")
+AT_ONCE = 10000  # addresses that sfi-cc is asked for by one command
+LISTED = re.compile(r"^([0-9a-f]{8}) ([0-9a-f]{4,8}) (.*)$", re.MULTILINE)
+REGION = re.compile(r"^sandbox (\d+) code ([0-9a-f]{8}) (\d+) data ", re.MULTILINE)
+MAPPED = re.compile(r"^sandbox=(\d+) (gate|code|data) (\S+) at=([0-9a-f]{8})$", re.MULTILINE)
+CALL = re.compile(r"^jal x([1-9]\d*), (-?\d+)$")
+TOLD = re.compile(r"^([0-9a-f]{8}): (?:the stub of the gate (\S+)|(the start, before main)|(\S+), (\S+)).*$", re.MULTILINE)
+
+
+class Failed(Exception):
+    """A program that failed, with what it said."""
+
+
+def run(*words, given=""):
+    try:
+        done = subprocess.run(words, input=given, stdout=subprocess.PIPE, stderr=subprocess.PIPE, text=True, check=False)
+    except OSError as error:
+        raise Failed(f"{words[0]} can't be run: {error.strerror}") from error
+    if done.returncode:
+        raise Failed((done.stderr + done.stdout).rstrip() or f"{words[0]} ended in status {done.returncode}")
+    return done.stdout
+
+
+@dataclass(frozen=True)
+class Place:
+    """The function of an instruction, and the line in a file of C or assembly where that is known."""
+    function: str
+    line: str = ""
+
+
+class Program:
+    """An image, its listing, and what lies where."""
+
+    def __init__(self, sfi, text, mapped=""):
+        self.image = bytes.fromhex(text)
+        listing = run(sfi, "dis", given=text)
+        self.listing = {int(at, 16): (word, said) for at, word, said in LISTED.findall(listing)}
+        self.regions = sorted((int(base, 16), int(size), int(number)) for number, base, size in REGION.findall(listing))
+        self.labels = [(int(at, 16), name, kind) for _, kind, name, at in MAPPED.findall(mapped)]
+        self.functions = sorted(self._functions())
+
+    def _functions(self):
+        """The first address of each function, with its name: of a gate's stub, of what is called, of a sandbox's start."""
+        named = {at: name for at, name, kind in self.labels if kind != "data"}
+        gates = {(at, name) for at, name, kind in self.labels if kind == "gate"}
+        starts = {(base + 16 * sum(base <= at < base + size for at, _ in gates), "start") for base, size, _ in self.regions}
+        called = {at + int(call[2]) for at, (_, said) in self.listing.items() for call in [CALL.match(said)] if call}
+        found = {(at, named.get(at, f"{at:08x}")) for at in called}
+        return gates | found | {it for it in starts if it[0] not in dict(found)}
+
+    def place(self, address):
+        """What an instruction belongs to."""
+        number = bisect_right(self.functions, (address, "\x7f")) - 1
+        return Place(self.functions[number][1]) if number >= 0 else Place(f"{address:08x}")
+
+    def label(self, address):
+        """The name of a gate or label at an address, or nothing."""
+        return next((name for at, name, kind in self.labels if at == address and kind != "data"), "")
+
+    def addresses(self, word):
+        """The addresses that a word names: a name, or an address in hexadecimal digits."""
+        found = {at for at, name, kind in self.labels if name == word and kind != "data"}
+        if not found and re.fullmatch(r"(0x)?[0-9a-fA-F]{1,8}", word) and int(word, 16) in self.listing:
+            found = {int(word, 16)}
+        if not found:
+            raise Failed(f"{word} is neither a name nor the address of an instruction")
+        return found
+
+
+class Compiled(Program):
+    """A program of C or assembly, which sfi-cc compiles with `-g`."""
+
+    def __init__(self, sfi, words):
+        self.command = [SFI_CC, "--program", sfi, "-g", *words]
+        with tempfile.TemporaryDirectory() as room:
+            text = os.path.join(room, "text.s")
+            image = run(*self.command, "--keep", text)
+            with open(text, encoding="utf-8") as file:
+                super().__init__(sfi, image, run(sfi, "map", given=file.read()))
+        self._told = None
+
+    def places(self):
+        """What each instruction belongs to, which is asked for once. Where bundles are filled, it is what is before."""
+        if self._told is None:
+            asked, said = sorted(self.listing), ""
+            for begun in range(0, len(asked), AT_ONCE):
+                words = [word for at in asked[begun:begun + AT_ONCE] for word in ("--where", f"{at:08x}")]
+                said += run(*self.command, *words)
+            self._told, last = {}, Place("start")
+            found = {int(at, 16): Place(gate or function or "start", line) for at, gate, _, function, line in TOLD.findall(said)}
+            for at in asked:
+                last = self._told[at] = found.get(at, last)
+        return self._told
+
+    def place(self, address):
+        return self.places().get(address) or super().place(address)
+
+    def addresses(self, word):
+        """Also those where a line's instructions begin, by FILE:LINE."""
+        if ":" not in word:
+            return super().addresses(word)
+        found, before = set(), ""
+        for at, place in self.places().items():
+            if place.line == word != before:
+                found.add(at)
+            before = place.line
+        if not found:
+            raise Failed(f"no instruction is of {word}")
+        return found
+
+
+def program(sfi, words):
+    """The program of an image (.hex), of a source text of `sfi build` (one .s), or of files for sfi-cc with its options."""
+    if len(words) == 1 and words[0].endswith((".hex", ".s")):
+        try:
+            with open(words[0], encoding="utf-8") as file:
+                text = file.read()
+        except (OSError, UnicodeDecodeError) as error:
+            raise Failed(f"{words[0]} can't be read: {getattr(error, 'strerror', error)}") from error
+        if words[0].endswith(".hex"):
+            return Program(sfi, text)
+        return Program(sfi, run(sfi, "build", given=text), run(sfi, "map", given=text))
+    return Compiled(sfi, words)
