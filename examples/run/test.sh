@@ -166,6 +166,29 @@ no_images() {
     done
 }
 
+# ---- the hosts of docs/EMBEDDING.md, as they stand there
+block() { # a heading, and the words after ``` of a block below it: the first one's lines
+    sed -n "/^##* $1\$/,/^##* /p" "$top/docs/EMBEDDING.md" | awk -v opened="\`\`\`$2" '/^```/ { if (on) exit; on = $0 == opened; next } on'
+}
+
+documented() {
+    local found place=$room/document
+    mkdir -p "$place/src"
+    block "A host from nothing" "" >"$place/plugin.s"
+    "$SFI" build <"$place/plugin.s" | xxd -r -p >"$place/plugin.image"
+    block "A host from nothing" c >"$place/host.c"
+    found=$(cd "$place" && gcc "${warnings[@]}" host.c "$room/lib/libsfi_run.a" -o host 2>&1 && ./host)
+    report "the host in C of EMBEDDING.md" "hello 42" "$found"
+    block "Running from Python" python >"$place/host.py"
+    report "the host in Python of EMBEDDING.md" "hello 42" "$(cd "$place" && python3 host.py 2>&1)"
+    has cargo || { skip 1 "the host in Rust of EMBEDDING.md" "cargo isn't there" && return; }
+    block "Running from Rust" rust >"$place/src/main.rs"
+    printf '[package]\nname = "host"\nversion = "0.1.0"\nedition = "2021"\n[dependencies]\nsfi-run = { path = "%s" }\n' \
+        "$top/bindings/rust" >"$place/Cargo.toml"
+    found=$(cd "$place" && SFI_RUN_LIBRARY=$room/lib/libsfi_run.a cargo run -q 2>&1)
+    report "the host in Rust of EMBEDDING.md" "hello 42" "$found"
+}
+
 # ---- what else is tried
 memory() {
     has valgrind || { skip 3 "the hosts in C under valgrind" "valgrind isn't there" && return; }
@@ -209,6 +232,7 @@ if has xxd; then
     examples_beside_run
     plug_ins
     no_images
+    documented
     memory
 else
     skip 1 "all runs" "xxd isn't there"
