@@ -687,282 +687,220 @@ _.L82:
 li a0,0
 li a5,10
 j _.L75
-__clzsi2:
+long_divided..1:
+bne a3,zero,_.L2..1
+bne a2,zero,_.L3..1
+beq a4,zero,_.L17..1
 .option norvc
-li a4,5
-li a5,16
-li a2,32
-nop
-_.L80..1:
-srl a3,a0,a5
-.option rvc
-addi a4,a4,-1
-beq a3,zero,_.L79..1
-sub a2,a2,a5
-.option norvc
-add a0,zero,a3
-_.L79..1:
-srai a5,a5,1
-bne a4,zero,_.L80..1
-sub a0,a2,a0
 nop
 ret
-long_divided..1:
+_.L3..1:
+divu t3,a1,a2
+.option rvc
+add a7,zero,a2
+remu a5,a1,a2
+j _.L5..1
+_.L2..1:
+srli a5,a1,1
+.option norvc
+add a7,zero,a3
+li t3,0
+nop
+_.L5..1:
+.option rvc
+addi sp,sp,-16
+.option norvc
+sw s0,12(sp)
+sw s1,8(sp)
+sw s2,4(sp)
+sw s3,0(sp)
+li t4,0
+_.L6..1:
+blt a7,zero,_.L25..1
+.option rvc
+addi t4,t4,1
+slli a7,a7,1
+j _.L6..1
+_.L25..1:
+.option norvc
+li t1,31
+srli a6,a0,1
+sub t1,t1,t4
+beq a3,zero,_.L8..1
+srli t5,a2,1
+srl t5,t5,t1
+or a7,a7,t5
+slli t5,a1,31
+or t5,t5,a6
+j _.L9..1
+_.L8..1:
+sll a5,a5,t4
+srl a6,a6,t1
+or a5,a5,a6
+sll t5,a0,t4
+_.L9..1:
+slli s3,a7,16
+srli s2,a7,16
+srli s3,s3,16
+.option rvc
+li a6,0
+li t0,2
+_.L13..1:
+divu s1,a5,s2
+remu t2,a5,s2
+srli a5,t5,16
+mul s0,s1,s3
+slli t2,t2,16
+or a5,a5,t2
+add t2,zero,s1
+bgeu a5,s0,_.L10..1
+addi t2,s1,-1
+add a5,a5,a7
+bltu a5,a7,_.L10..1
+bgeu a5,s0,_.L10..1
+addi t2,s1,-2
+add a5,a5,a7
+_.L10..1:
+slli a6,a6,16
+addi t0,t0,-1
+sub a5,a5,s0
+or a6,a6,t2
+slli t5,t5,16
+bne t0,zero,_.L13..1
+beq a3,zero,_.L14..1
+srl t1,a6,t1
+sltu a6,zero,t1
+sub a6,t1,a6
+mul a7,a2,a6
+mulhu t1,a2,a6
+sub a7,a0,a7
+sltu a0,a0,a7
+mul a5,a6,a3
+.option norvc
+add a5,a5,t1
+sub a5,a1,a5
+sub a5,a5,a0
+.option rvc
+add a1,zero,a5
+add a0,zero,a7
+bltu a5,a3,_.L15..1
+bne a3,a5,_.L19..1
+bltu a7,a2,_.L15..1
+_.L19..1:
+sub a0,a7,a2
+sltu a7,a7,a0
+sub a5,a5,a3
+sub a1,a5,a7
+addi a6,a6,1
+j _.L15..1
+_.L14..1:
+srl a0,a5,t4
+li a1,0
+j _.L15..1
+_.L15..1:
+bne a4,zero,_.L4..1
+add a0,zero,a6
+add a1,zero,t3
+j _.L4..1
+_.L17..1:
+li a0,-1
+li a1,-1
+ret
+_.L4..1:
+.option norvc
+lw s0,12(sp)
+lw s1,8(sp)
+lw s2,4(sp)
+lw s3,0(sp)
+.option rvc
+addi sp,sp,16
+.option norvc
+nop
+jr ra
+divided..1:
+or a5,a1,a3
+bne a5,zero,_.L27..1
+or a5,a2,a3
+beq a5,zero,_.L27..1
+beq a4,zero,_.L29..1
+remu a0,a0,a2
+li a1,0
+nop
+ret
+_.L27..1:
+j long_divided..1
+_.L29..1:
+divu a0,a0,a2
+.option rvc
+li a1,0
+j next..1..n3
+next..1..n3:
+ret
+signed_divided..1:
+or t3,a1,a3
+bge t3,zero,_.L36..1
+.option norvc
+add a6,zero,a3
+nop
 .option rvc
 addi sp,sp,-32
 sw s2,16(sp)
 sw s3,12(sp)
-sw s4,8(sp)
-sw s5,4(sp)
+srai s2,a3,31
+srai s3,a1,31
+xor a7,a0,s3
+xor a3,a2,s2
+sub a2,a3,s2
+sub a0,a7,s3
+xor a6,a6,s2
+xor a1,a1,s3
+sltu a3,a3,a2
+sub a6,a6,s2
+sltu a7,a7,a0
+sub a1,a1,s3
+sub a3,a6,a3
+sub a1,a1,a7
 .option norvc
-sw ra,28(sp)
 sw s0,24(sp)
 sw s1,20(sp)
-.option rvc
-add s5,zero,a0
-add s3,zero,a1
-.option norvc
-add s2,zero,a2
-add s4,zero,a4
-bne a3,zero,_.L103..1
-remu s0,a1,a2
-add a0,zero,a2
-add s1,zero,a3
-call __clzsi2
-.option rvc
-li a5,31
-srli t2,s5,1
-sll a4,s2,a0
-sub a5,a5,a0
-srl t2,t2,a5
-slli t0,a4,16
-sll s5,s5,a0
-srli t4,a4,16
-srli t0,t0,16
-.option norvc
-li a2,2
-li a1,1
-sll s0,s0,a0
-or t2,t2,s0
-_.L97..1:
-divu a7,t2,t4
-srli t5,s5,16
-remu a5,t2,t4
-mul t1,t0,a7
-_.L94..1:
-slli a6,a5,16
-srli a3,a7,16
-add a5,a5,t4
-srli t3,a5,16
-or a6,a6,t5
-bne a3,zero,_.L96..1
-bltu a6,t1,_.L96..1
-j _.L95..1
-_.L96..1:
-addi a7,a7,-1
-sub t1,t1,t0
-beq t3,zero,_.L94..1
+sw ra,28(sp)
+add s1,zero,a4
 nop
-_.L95..1:
-mul a3,a4,a7
+call divided..1
 .option rvc
-slli t2,t2,16
-or t2,t2,t5
-slli s1,s1,16
-or s1,s1,a7
-slli s5,s5,16
-sub t2,t2,a3
-beq a2,a1,_.L104..1
-li a2,1
-j _.L97..1
-_.L104..1:
-divu a1,s3,s2
-j next..1..n3
-next..1..n3:
-srl t2,t2,a0
-sw t2,0(s4)
-sw zero,4(s4)
+add s0,zero,s3
+add a4,zero,s3
+bne s1,zero,_.L33..1
+xor s0,s3,s2
 .option norvc
-add a0,zero,s1
-_.L85..1:
+add a4,zero,s0
+_.L33..1:
+xor a5,a0,s0
+sub a0,a5,s0
 .option rvc
 lw ra,28(sp)
 lw s0,24(sp)
 .option norvc
+xor a1,a1,a4
+sltu a5,a5,a0
+.option rvc
+sub a1,a1,a4
 lw s1,20(sp)
+.option norvc
 lw s2,16(sp)
 lw s3,12(sp)
+sub a1,a1,a5
 .option rvc
-lw s4,8(sp)
-lw s5,4(sp)
 addi sp,sp,32
 jr ra
-_.L103..1:
-.option norvc
-add a0,zero,a3
-add s0,zero,a3
-nop
-call __clzsi2
-add s1,zero,a0
-add a0,zero,s3
-nop
-call __clzsi2
-sub a3,s1,a0
-bge zero,a3,_.L87..1
-.option rvc
-li a4,31
-srli a5,s2,1
-sub a4,a4,a3
-srl a5,a5,a4
-sll s0,s0,a3
-sll s2,s2,a3
-.option norvc
-or s0,s0,a5
-_.L88..1:
-.option rvc
-li a5,0
-li a0,-1
-j _.L92..1
-_.L92..1:
-slli a2,s0,31
-srli a4,s2,1
-addi a3,a3,-1
-slli a5,a5,1
-bltu s3,s0,_.L90..1
-sub a1,s5,s2
-sltu a6,s5,a1
-sub a7,s3,s0
-bne s0,s3,_.L100..1
-bgeu s5,s2,_.L100..1
-j _.L90..1
-_.L100..1:
-.option norvc
-add s5,zero,a1
-sub s3,a7,a6
-ori a5,a5,1
-nop
-_.L90..1:
-or s2,a2,a4
-.option rvc
-srli s0,s0,1
-bne a3,a0,_.L92..1
-add a0,zero,a5
-.option norvc
-li a1,0
-_.L89..1:
-sw s5,0(s4)
-nop
-sw s3,4(s4)
-j _.L85..1
-_.L87..1:
-beq a3,zero,_.L88..1
-.option rvc
-li a0,0
-li a1,0
-j _.L89..1
-divided..1:
-or t4,a2,a3
-beq t4,zero,_.L109..1
-or a5,a3,a1
-bne a5,zero,_.L110..1
-remu a5,a0,a2
-sw zero,4(a4)
-.option norvc
-li a1,0
-sw a5,0(a4)
-divu a0,a0,a2
-ret
-_.L110..1:
-j long_divided..1
-_.L109..1:
-sw a0,0(a4)
-li a0,-1
-sw a1,4(a4)
-li a1,-1
-ret
+_.L36..1:
+j divided..1
 __divdi3:
-.option rvc
-addi sp,sp,-32
-sw s0,24(sp)
-sw s1,20(sp)
-srai s0,a1,31
-srai s1,a3,31
-xor a4,a2,s1
-xor a5,a0,s0
-sub a2,a4,s1
-sub a0,a5,s0
-xor a3,a3,s1
-xor a1,a1,s0
-sltu a6,a4,a2
-sltu a5,a5,a0
-sub a3,a3,s1
-sub a1,a1,s0
-.option norvc
-addi a4,sp,8
-sub a1,a1,a5
-sub a3,a3,a6
-sw ra,28(sp)
-xor s0,s0,s1
-call divided..1
-xor a5,a0,s0
-xor a1,a1,s0
-sub a0,a5,s0
-lw ra,28(sp)
-sub a1,a1,s0
-lw s0,24(sp)
-sltu a5,a5,a0
-lw s1,20(sp)
-sub a1,a1,a5
-.option rvc
-addi sp,sp,32
-jr ra
+li a4,0
+j signed_divided..1
 __moddi3:
-or a5,a3,a1
-bne a5,zero,_.L118..1
-or a5,a2,a3
-bne a5,zero,_.L127..1
-_.L118..1:
-addi sp,sp,-32
-srai a7,a3,31
-sw s0,24(sp)
-srai s0,a1,31
-xor a4,a7,a2
-sub a2,a4,a7
-xor a1,a1,s0
-xor a5,s0,a0
-sub a0,a5,s0
-xor a3,a3,a7
-sltu a6,a4,a2
-sltu a5,a5,a0
-sub a3,a3,a7
-.option norvc
-sub a1,a1,s0
-addi a4,sp,8
-sub a1,a1,a5
-sub a3,a3,a6
-sw ra,28(sp)
-call divided..1
-.option rvc
-lw a5,8(sp)
-lw a1,12(sp)
-.option norvc
-lw ra,28(sp)
-xor a5,a5,s0
-xor a1,a1,s0
-sub a0,a5,s0
-sub a1,a1,s0
-lw s0,24(sp)
-sltu a5,a5,a0
-sub a1,a1,a5
-.option rvc
-addi sp,sp,32
-jr ra
-_.L127..1:
-remu a0,a0,a2
-li a1,0
-j next..1..n4
-next..1..n4:
-ret
+li a4,1
+j signed_divided..1
 .data
 start..data:
 .zero 32

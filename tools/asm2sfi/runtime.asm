@@ -4,6 +4,193 @@
 	.attribute unaligned_access, 0
 	.attribute stack_align, 16
 	.text
+	.section	.text.long_divided,"ax",@progbits
+	.align	1
+	.type	long_divided, @function
+long_divided:
+	bne	a3,zero,.L2
+	bne	a2,zero,.L3
+	beq	a4,zero,.L17
+	ret
+.L3:
+	divu	t3,a1,a2
+	mv	a7,a2
+	remu	a5,a1,a2
+	j	.L5
+.L2:
+	srli	a5,a1,1
+	mv	a7,a3
+	li	t3,0
+.L5:
+	addi	sp,sp,-16
+	sw	s0,12(sp)
+	sw	s1,8(sp)
+	sw	s2,4(sp)
+	sw	s3,0(sp)
+	li	t4,0
+.L6:
+	blt	a7,zero,.L25
+	addi	t4,t4,1
+	slli	a7,a7,1
+	j	.L6
+.L25:
+	li	t1,31
+	srli	a6,a0,1
+	sub	t1,t1,t4
+	beq	a3,zero,.L8
+	srli	t5,a2,1
+	srl	t5,t5,t1
+	or	a7,a7,t5
+	slli	t5,a1,31
+	or	t5,t5,a6
+	j	.L9
+.L8:
+	sll	a5,a5,t4
+	srl	a6,a6,t1
+	or	a5,a5,a6
+	sll	t5,a0,t4
+.L9:
+	slli	s3,a7,16
+	srli	s2,a7,16
+	srli	s3,s3,16
+	li	a6,0
+	li	t0,2
+.L13:
+	divu	s1,a5,s2
+	remu	t2,a5,s2
+	srli	a5,t5,16
+	mul	s0,s1,s3
+	slli	t2,t2,16
+	or	a5,a5,t2
+	mv	t2,s1
+	bleu	s0,a5,.L10
+	add	a5,a7,a5
+	addi	t2,s1,-1
+	bltu	a5,a7,.L10
+	bleu	s0,a5,.L10
+	addi	t2,s1,-2
+	add	a5,a5,a7
+.L10:
+	slli	a6,a6,16
+	addi	t0,t0,-1
+	sub	a5,a5,s0
+	or	a6,a6,t2
+	slli	t5,t5,16
+	bne	t0,zero,.L13
+	beq	a3,zero,.L14
+	srl	t1,a6,t1
+	snez	a6,t1
+	sub	a6,t1,a6
+	mul	a7,a2,a6
+	mulhu	t1,a2,a6
+	sub	a7,a0,a7
+	sgtu	a0,a7,a0
+	mul	a5,a6,a3
+	add	a5,a5,t1
+	sub	a5,a1,a5
+	sub	a5,a5,a0
+	mv	a1,a5
+	mv	a0,a7
+	bgtu	a3,a5,.L15
+	bne	a3,a5,.L19
+	bgtu	a2,a7,.L15
+.L19:
+	sub	a0,a7,a2
+	sgtu	a7,a0,a7
+	sub	a5,a5,a3
+	sub	a1,a5,a7
+	addi	a6,a6,1
+	j	.L15
+.L14:
+	srl	a0,a5,t4
+	li	a1,0
+.L15:
+	bne	a4,zero,.L4
+	mv	a0,a6
+	mv	a1,t3
+	j	.L4
+.L17:
+	li	a0,-1
+	li	a1,-1
+	ret
+.L4:
+	lw	s0,12(sp)
+	lw	s1,8(sp)
+	lw	s2,4(sp)
+	lw	s3,0(sp)
+	addi	sp,sp,16
+	jr	ra
+	.size	long_divided, .-long_divided
+	.section	.text.divided,"ax",@progbits
+	.align	1
+	.type	divided, @function
+divided:
+	or	a5,a1,a3
+	bne	a5,zero,.L27
+	or	a5,a2,a3
+	beq	a5,zero,.L27
+	beq	a4,zero,.L29
+	remu	a0,a0,a2
+	li	a1,0
+	ret
+.L27:
+	tail	long_divided
+.L29:
+	divu	a0,a0,a2
+	li	a1,0
+	ret
+	.size	divided, .-divided
+	.section	.text.signed_divided,"ax",@progbits
+	.align	1
+	.type	signed_divided, @function
+signed_divided:
+	or	t3,a1,a3
+	bge	t3,zero,.L36
+	addi	sp,sp,-32
+	sw	s2,16(sp)
+	sw	s3,12(sp)
+	srai	s2,a3,31
+	srai	s3,a1,31
+	mv	a6,a3
+	xor	a7,a0,s3
+	xor	a3,a2,s2
+	sub	a2,a3,s2
+	sub	a0,a7,s3
+	xor	a6,a6,s2
+	xor	a1,a1,s3
+	sgtu	a3,a2,a3
+	sub	a6,a6,s2
+	sgtu	a7,a0,a7
+	sub	a1,a1,s3
+	sub	a3,a6,a3
+	sub	a1,a1,a7
+	sw	s0,24(sp)
+	sw	s1,20(sp)
+	sw	ra,28(sp)
+	mv	s1,a4
+	call	divided
+	mv	s0,s3
+	mv	a4,s3
+	bne	s1,zero,.L33
+	xor	s0,s3,s2
+	mv	a4,s0
+.L33:
+	xor	a5,a0,s0
+	sub	a0,a5,s0
+	lw	ra,28(sp)
+	lw	s0,24(sp)
+	xor	a1,a1,a4
+	sgtu	a5,a0,a5
+	sub	a1,a1,a4
+	lw	s1,20(sp)
+	lw	s2,16(sp)
+	lw	s3,12(sp)
+	sub	a1,a1,a5
+	addi	sp,sp,32
+	jr	ra
+.L36:
+	tail	divided
+	.size	signed_divided, .-signed_divided
 	.section	.text.memcpy,"ax",@progbits
 	.align	1
 	.globl	memcpy
@@ -11,37 +198,37 @@
 memcpy:
 	or	a5,a0,a1
 	andi	a5,a5,3
-	bne	a5,zero,.L8
+	bne	a5,zero,.L44
 	li	a5,3
-	bleu	a2,a5,.L8
+	bleu	a2,a5,.L44
 	addi	a7,a2,-4
 	andi	a7,a7,-4
 	addi	a7,a7,4
 	add	a5,a0,a7
 	mv	a3,a1
 	mv	a4,a0
-.L6:
+.L42:
 	lw	a6,0(a3)
 	addi	a4,a4,4
 	addi	a3,a3,4
 	sw	a6,-4(a4)
-	bne	a4,a5,.L6
+	bne	a4,a5,.L42
 	andi	a2,a2,3
 	add	a1,a1,a7
 	add	a3,a5,a2
-	bne	a2,zero,.L7
-.L13:
+	bne	a2,zero,.L43
+.L48:
 	ret
-.L8:
+.L44:
 	mv	a5,a0
 	add	a3,a5,a2
-	beq	a2,zero,.L13
-.L7:
+	beq	a2,zero,.L48
+.L43:
 	lbu	a4,0(a1)
 	addi	a5,a5,1
 	addi	a1,a1,1
 	sb	a4,-1(a5)
-	bne	a5,a3,.L7
+	bne	a5,a3,.L43
 	ret
 	.size	memcpy, .-memcpy
 	.section	.text.memmove,"ax",@progbits
@@ -49,53 +236,53 @@ memcpy:
 	.globl	memmove
 	.type	memmove, @function
 memmove:
-	bleu	a0,a1,.L15
+	bleu	a0,a1,.L50
 	addi	a5,a2,-1
 	li	a6,-1
-	beq	a2,zero,.L29
-.L16:
+	beq	a2,zero,.L64
+.L51:
 	add	a4,a1,a5
 	lbu	a3,0(a4)
 	add	a4,a0,a5
 	addi	a5,a5,-1
 	sb	a3,0(a4)
-	bne	a5,a6,.L16
+	bne	a5,a6,.L51
 	ret
-.L15:
+.L50:
 	or	a5,a0,a1
 	andi	a5,a5,3
-	bne	a5,zero,.L23
+	bne	a5,zero,.L58
 	li	a5,3
-	bleu	a2,a5,.L23
+	bleu	a2,a5,.L58
 	addi	a5,a2,-4
 	andi	a5,a5,-4
 	addi	a5,a5,4
 	add	a6,a1,a5
 	mv	a4,a0
-.L21:
+.L56:
 	lw	a3,0(a1)
 	addi	a1,a1,4
 	addi	a4,a4,4
 	sw	a3,-4(a4)
-	bne	a6,a1,.L21
+	bne	a6,a1,.L56
 	andi	a2,a2,3
 	add	a5,a0,a5
-	j	.L20
-.L23:
+	j	.L55
+.L58:
 	mv	a5,a0
-.L20:
+.L55:
 	add	a3,a1,a2
-	beq	a2,zero,.L30
-.L22:
+	beq	a2,zero,.L65
+.L57:
 	lbu	a4,0(a1)
 	addi	a1,a1,1
 	addi	a5,a5,1
 	sb	a4,-1(a5)
-	bne	a3,a1,.L22
+	bne	a3,a1,.L57
 	ret
-.L29:
+.L64:
 	ret
-.L30:
+.L65:
 	ret
 	.size	memmove, .-memmove
 	.section	.text.memset,"ax",@progbits
@@ -109,66 +296,66 @@ memset:
 	slli	a5,a3,16
 	andi	a1,a1,0xff
 	add	a3,a3,a5
-	beq	a2,zero,.L43
+	beq	a2,zero,.L78
 	andi	a5,a0,3
-	beq	a5,zero,.L40
+	beq	a5,zero,.L75
 	mv	a5,a0
-	j	.L35
-.L51:
-	beq	a4,zero,.L33
-.L35:
+	j	.L70
+.L86:
+	beq	a4,zero,.L68
+.L70:
 	sb	a1,0(a5)
 	addi	a2,a2,-1
 	addi	a5,a5,1
 	andi	a4,a5,3
-	bne	a2,zero,.L51
-.L43:
+	bne	a2,zero,.L86
+.L78:
 	ret
-.L40:
+.L75:
 	mv	a5,a0
-.L33:
+.L68:
 	li	a4,3
-	bleu	a2,a4,.L52
+	bleu	a2,a4,.L87
 	addi	a4,a2,-4
 	andi	a4,a4,-4
 	addi	a4,a4,4
 	add	a4,a5,a4
-.L36:
+.L71:
 	sw	a3,0(a5)
 	addi	a5,a5,4
-	bne	a4,a5,.L36
+	bne	a4,a5,.L71
 	andi	a2,a2,3
-	beq	a2,zero,.L43
-.L39:
+	beq	a2,zero,.L78
+.L74:
 	add	a2,a4,a2
-.L37:
+.L72:
 	addi	a4,a4,1
 	sb	a1,-1(a4)
-	bne	a2,a4,.L37
+	bne	a2,a4,.L72
 	ret
-.L52:
+.L87:
 	mv	a4,a5
-	j	.L39
+	j	.L74
 	.size	memset, .-memset
 	.section	.text.memcmp,"ax",@progbits
 	.align	1
 	.globl	memcmp
 	.type	memcmp, @function
 memcmp:
-	beq	a2,zero,.L57
+	beq	a2,zero,.L92
 	add	a2,a1,a2
-	j	.L56
-.L55:
-	beq	a1,a2,.L57
-.L56:
+	j	.L91
+.L90:
+	beq	a1,a2,.L92
+.L91:
 	lbu	a5,0(a0)
 	lbu	a4,0(a1)
 	addi	a0,a0,1
 	addi	a1,a1,1
-	beq	a5,a4,.L55
+	beq	a5,a4,.L90
 	sub	a0,a5,a4
 	ret
-.L57:
+.L92:
 	li	a0,0
 	ret
 	.size	memcmp, .-memcmp
@@ -178,15 +365,15 @@ memcmp:
 	.type	strlen, @function
 strlen:
 	lbu	a5,0(a0)
-	beq	a5,zero,.L62
+	beq	a5,zero,.L97
 	mv	a5,a0
-.L61:
+.L96:
 	lbu	a4,1(a5)
 	addi	a5,a5,1
-	bne	a4,zero,.L61
+	bne	a4,zero,.L96
 	sub	a0,a5,a0
 	ret
-.L62:
+.L97:
 	li	a0,0
 	ret
 	.size	strlen, .-strlen
@@ -196,14 +383,14 @@ strlen:
 	.type	__ashldi3, @function
 __ashldi3:
 	mv	a5,a0
-	beq	a2,zero,.L67
+	beq	a2,zero,.L102
 	li	a4,31
-	ble	a2,a4,.L66
+	ble	a2,a4,.L101
 	addi	a1,a2,-32
 	li	a0,0
 	sll	a1,a5,a1
 	ret
-.L66:
+.L101:
 	li	a4,32
 	sub	a4,a4,a2
 	srl	a4,a0,a4
@@ -211,7 +398,7 @@ __ashldi3:
 	sll	a0,a0,a2
 	or	a1,a4,a1
 	ret
-.L67:
+.L102:
 	ret
 	.size	__ashldi3, .-__ashldi3
 	.section	.text.__lshrdi3,"ax",@progbits
@@ -219,21 +406,21 @@ __ashldi3:
 	.globl	__lshrdi3
 	.type	__lshrdi3, @function
 __lshrdi3:
-	beq	a2,zero,.L68
+	beq	a2,zero,.L103
 	li	a5,31
-	ble	a2,a5,.L70
+	ble	a2,a5,.L105
 	addi	a2,a2,-32
 	srl	a0,a1,a2
 	li	a1,0
 	ret
-.L70:
+.L105:
 	li	a5,32
 	sub	a5,a5,a2
 	sll	a5,a1,a5
 	srl	a0,a0,a2
 	or	a0,a5,a0
 	srl	a1,a1,a2
-.L68:
+.L103:
 	ret
 	.size	__lshrdi3, .-__lshrdi3
 	.section	.text.__ashrdi3,"ax",@progbits
@@ -241,18 +428,18 @@ __lshrdi3:
 	.globl	__ashrdi3
 	.type	__ashrdi3, @function
 __ashrdi3:
-	beq	a2,zero,.L72
+	beq	a2,zero,.L107
 	li	a5,31
-	bgt	a2,a5,.L76
+	bgt	a2,a5,.L111
 	li	a5,32
 	sub	a5,a5,a2
 	sll	a5,a1,a5
 	srl	a0,a0,a2
 	or	a0,a5,a0
 	sra	a1,a1,a2
-.L72:
+.L107:
 	ret
-.L76:
+.L111:
 	addi	a2,a2,-32
 	sra	a0,a1,a2
 	srai	a1,a1,31
@@ -271,6 +458,38 @@ __muldi3:
 	add	a1,a1,a5
 	ret
 	.size	__muldi3, .-__muldi3
+	.section	.text.__udivdi3,"ax",@progbits
+	.align	1
+	.globl	__udivdi3
+	.type	__udivdi3, @function
+__udivdi3:
+	li	a4,0
+	tail	divided
+	.size	__udivdi3, .-__udivdi3
+	.section	.text.__umoddi3,"ax",@progbits
+	.align	1
+	.globl	__umoddi3
+	.type	__umoddi3, @function
+__umoddi3:
+	li	a4,1
+	tail	divided
+	.size	__umoddi3, .-__umoddi3
+	.section	.text.__divdi3,"ax",@progbits
+	.align	1
+	.globl	__divdi3
+	.type	__divdi3, @function
+__divdi3:
+	li	a4,0
+	tail	signed_divided
+	.size	__divdi3, .-__divdi3
+	.section	.text.__moddi3,"ax",@progbits
+	.align	1
+	.globl	__moddi3
+	.type	__moddi3, @function
+__moddi3:
+	li	a4,1
+	tail	signed_divided
+	.size	__moddi3, .-__moddi3
 	.section	.text.__clzsi2,"ax",@progbits
 	.align	1
 	.globl	__clzsi2
@@ -279,290 +498,27 @@ __clzsi2:
 	li	a4,5
 	li	a5,16
 	li	a2,32
-.L80:
+.L119:
 	srl	a3,a0,a5
 	addi	a4,a4,-1
-	beq	a3,zero,.L79
+	beq	a3,zero,.L118
 	sub	a2,a2,a5
 	mv	a0,a3
-.L79:
+.L118:
 	srai	a5,a5,1
-	bne	a4,zero,.L80
+	bne	a4,zero,.L119
 	sub	a0,a2,a0
 	ret
 	.size	__clzsi2, .-__clzsi2
-	.section	.text.long_divided,"ax",@progbits
-	.align	1
-	.type	long_divided, @function
-long_divided:
-	addi	sp,sp,-32
-	sw	s2,16(sp)
-	sw	s3,12(sp)
-	sw	s4,8(sp)
-	sw	s5,4(sp)
-	sw	ra,28(sp)
-	sw	s0,24(sp)
-	sw	s1,20(sp)
-	mv	s5,a0
-	mv	s3,a1
-	mv	s2,a2
-	mv	s4,a4
-	bne	a3,zero,.L103
-	remu	s0,a1,a2
-	mv	a0,a2
-	mv	s1,a3
-	call	__clzsi2
-	li	a5,31
-	srli	t2,s5,1
-	sll	a4,s2,a0
-	sub	a5,a5,a0
-	srl	t2,t2,a5
-	slli	t0,a4,16
-	sll	s5,s5,a0
-	srli	t4,a4,16
-	srli	t0,t0,16
-	li	a2,2
-	li	a1,1
-	sll	s0,s0,a0
-	or	t2,t2,s0
-.L97:
-	divu	a7,t2,t4
-	srli	t5,s5,16
-	remu	a5,t2,t4
-	mul	t1,t0,a7
-.L94:
-	slli	a6,a5,16
-	srli	a3,a7,16
-	add	a5,a5,t4
-	srli	t3,a5,16
-	or	a6,a6,t5
-	bne	a3,zero,.L96
-	bgeu	a6,t1,.L95
-.L96:
-	addi	a7,a7,-1
-	sub	t1,t1,t0
-	beq	t3,zero,.L94
-.L95:
-	mul	a3,a4,a7
-	slli	t2,t2,16
-	or	t2,t2,t5
-	slli	s1,s1,16
-	or	s1,a7,s1
-	slli	s5,s5,16
-	sub	t2,t2,a3
-	beq	a2,a1,.L104
-	li	a2,1
-	j	.L97
-.L104:
-	divu	a1,s3,s2
-	srl	t2,t2,a0
-	sw	t2,0(s4)
-	sw	zero,4(s4)
-	mv	a0,s1
-.L85:
-	lw	ra,28(sp)
-	lw	s0,24(sp)
-	lw	s1,20(sp)
-	lw	s2,16(sp)
-	lw	s3,12(sp)
-	lw	s4,8(sp)
-	lw	s5,4(sp)
-	addi	sp,sp,32
-	jr	ra
-.L103:
-	mv	a0,a3
-	mv	s0,a3
-	call	__clzsi2
-	mv	s1,a0
-	mv	a0,s3
-	call	__clzsi2
-	sub	a3,s1,a0
-	ble	a3,zero,.L87
-	li	a4,31
-	srli	a5,s2,1
-	sub	a4,a4,a3
-	srl	a5,a5,a4
-	sll	s0,s0,a3
-	sll	s2,s2,a3
-	or	s0,a5,s0
-.L88:
-	li	a5,0
-	li	a0,-1
-.L92:
-	slli	a2,s0,31
-	srli	a4,s2,1
-	addi	a3,a3,-1
-	slli	a5,a5,1
-	bgtu	s0,s3,.L90
-	sub	a1,s5,s2
-	sgtu	a6,a1,s5
-	sub	a7,s3,s0
-	bne	s0,s3,.L100
-	bgtu	s2,s5,.L90
-.L100:
-	mv	s5,a1
-	sub	s3,a7,a6
-	ori	a5,a5,1
-.L90:
-	or	s2,a2,a4
-	srli	s0,s0,1
-	bne	a3,a0,.L92
-	mv	a0,a5
-	li	a1,0
-.L89:
-	sw	s5,0(s4)
-	sw	s3,4(s4)
-	j	.L85
-.L87:
-	beq	a3,zero,.L88
-	li	a0,0
-	li	a1,0
-	j	.L89
-	.size	long_divided, .-long_divided
-	.section	.text.divided,"ax",@progbits
-	.align	1
-	.type	divided, @function
-divided:
-	or	t4,a2,a3
-	beq	t4,zero,.L109
-	or	a5,a3,a1
-	bne	a5,zero,.L110
-	remu	a5,a0,a2
-	sw	zero,4(a4)
-	li	a1,0
-	divu	a0,a0,a2
-	sw	a5,0(a4)
-	ret
-.L110:
-	tail	long_divided
-.L109:
-	sw	a0,0(a4)
-	sw	a1,4(a4)
-	li	a0,-1
-	li	a1,-1
-	ret
-	.size	divided, .-divided
-	.section	.text.__udivdi3,"ax",@progbits
-	.align	1
-	.globl	__udivdi3
-	.type	__udivdi3, @function
-__udivdi3:
-	addi	sp,sp,-32
-	addi	a4,sp,8
-	sw	ra,28(sp)
-	call	divided
-	lw	ra,28(sp)
-	addi	sp,sp,32
-	jr	ra
-	.size	__udivdi3, .-__udivdi3
-	.section	.text.__umoddi3,"ax",@progbits
-	.align	1
-	.globl	__umoddi3
-	.type	__umoddi3, @function
-__umoddi3:
-	addi	sp,sp,-32
-	addi	a4,sp,8
-	sw	ra,28(sp)
-	call	divided
-	lw	ra,28(sp)
-	lw	a0,8(sp)
-	lw	a1,12(sp)
-	addi	sp,sp,32
-	jr	ra
-	.size	__umoddi3, .-__umoddi3
-	.section	.text.__divdi3,"ax",@progbits
-	.align	1
-	.globl	__divdi3
-	.type	__divdi3, @function
-__divdi3:
-	addi	sp,sp,-32
-	sw	s0,24(sp)
-	sw	s1,20(sp)
-	srai	s0,a1,31
-	srai	s1,a3,31
-	xor	a4,a2,s1
-	xor	a5,a0,s0
-	sub	a2,a4,s1
-	sub	a0,a5,s0
-	xor	a3,a3,s1
-	xor	a1,a1,s0
-	sgtu	a6,a2,a4
-	sgtu	a5,a0,a5
-	sub	a3,a3,s1
-	sub	a1,a1,s0
-	addi	a4,sp,8
-	sub	a1,a1,a5
-	sub	a3,a3,a6
-	sw	ra,28(sp)
-	xor	s0,s0,s1
-	call	divided
-	xor	a5,a0,s0
-	xor	a1,a1,s0
-	sub	a0,a5,s0
-	lw	ra,28(sp)
-	sub	a1,a1,s0
-	lw	s0,24(sp)
-	sgtu	a5,a0,a5
-	lw	s1,20(sp)
-	sub	a1,a1,a5
-	addi	sp,sp,32
-	jr	ra
-	.size	__divdi3, .-__divdi3
-	.section	.text.__moddi3,"ax",@progbits
-	.align	1
-	.globl	__moddi3
-	.type	__moddi3, @function
-__moddi3:
-	or	a5,a3,a1
-	bne	a5,zero,.L118
-	or	a5,a2,a3
-	bne	a5,zero,.L127
-.L118:
-	addi	sp,sp,-32
-	sw	s0,24(sp)
-	srai	a7,a3,31
-	srai	s0,a1,31
-	xor	a4,a7,a2
-	xor	a5,s0,a0
-	sub	a2,a4,a7
-	sub	a0,a5,s0
-	xor	a3,a7,a3
-	xor	a1,s0,a1
-	sgtu	a6,a2,a4
-	sgtu	a5,a0,a5
-	sub	a3,a3,a7
-	sub	a1,a1,s0
-	addi	a4,sp,8
-	sub	a1,a1,a5
-	sub	a3,a3,a6
-	sw	ra,28(sp)
-	call	divided
-	lw	a5,8(sp)
-	lw	a1,12(sp)
-	lw	ra,28(sp)
-	xor	a5,a5,s0
-	xor	a1,a1,s0
-	sub	a0,a5,s0
-	sub	a1,a1,s0
-	lw	s0,24(sp)
-	sgtu	a5,a0,a5
-	sub	a1,a1,a5
-	addi	sp,sp,32
-	jr	ra
-.L127:
-	remu	a0,a0,a2
-	li	a1,0
-	ret
-	.size	__moddi3, .-__moddi3
 	.section	.text.__clzdi2,"ax",@progbits
 	.align	1
 	.globl	__clzdi2
 	.type	__clzdi2, @function
 __clzdi2:
-	beq	a1,zero,.L129
+	beq	a1,zero,.L125
 	mv	a0,a1
 	tail	__clzsi2
-.L129:
+.L125:
 	addi	sp,sp,-16
 	sw	ra,12(sp)
 	call	__clzsi2
@@ -576,10 +532,10 @@ __clzdi2:
 	.globl	__ctzsi2
 	.type	__ctzsi2, @function
 __ctzsi2:
-	bne	a0,zero,.L139
+	bne	a0,zero,.L135
 	li	a0,32
 	ret
-.L139:
+.L135:
 	neg	a5,a0
 	addi	sp,sp,-16
 	and	a0,a5,a0
@@ -598,13 +554,13 @@ __ctzsi2:
 __ctzdi2:
 	addi	sp,sp,-16
 	sw	ra,12(sp)
-	bne	a0,zero,.L147
+	bne	a0,zero,.L143
 	li	a0,64
-	bne	a1,zero,.L148
+	bne	a1,zero,.L144
 	lw	ra,12(sp)
 	addi	sp,sp,16
 	jr	ra
-.L148:
+.L144:
 	neg	a0,a1
 	and	a0,a0,a1
 	call	__clzsi2
@@ -613,7 +569,7 @@ __ctzdi2:
 	sub	a0,a5,a0
 	addi	sp,sp,16
 	jr	ra
-.L147:
+.L143:
 	neg	a5,a0
 	and	a0,a5,a0
 	call	__clzsi2
@@ -628,10 +584,10 @@ __ctzdi2:
 	.globl	__ffssi2
 	.type	__ffssi2, @function
 __ffssi2:
-	bne	a0,zero,.L156
+	bne	a0,zero,.L152
 	li	a0,0
 	ret
-.L156:
+.L152:
 	neg	a5,a0
 	addi	sp,sp,-16
 	and	a0,a5,a0
@@ -649,19 +605,19 @@ __ffssi2:
 	.type	__ffsdi2, @function
 __ffsdi2:
 	or	a5,a0,a1
-	bne	a5,zero,.L170
+	bne	a5,zero,.L166
 	li	a0,0
 	ret
-.L170:
+.L166:
 	addi	sp,sp,-16
 	sw	ra,12(sp)
-	bne	a0,zero,.L171
+	bne	a0,zero,.L167
 	li	a0,65
-	bne	a1,zero,.L172
+	bne	a1,zero,.L168
 	lw	ra,12(sp)
 	addi	sp,sp,16
 	jr	ra
-.L172:
+.L168:
 	neg	a0,a1
 	and	a0,a0,a1
 	call	__clzsi2
@@ -670,7 +626,7 @@ __ffsdi2:
 	sub	a0,a5,a0
 	addi	sp,sp,16
 	jr	ra
-.L171:
+.L167:
 	neg	a5,a0
 	and	a0,a5,a0
 	call	__clzsi2
@@ -703,14 +659,14 @@ __clrsbdi2:
 	addi	sp,sp,-16
 	sw	ra,12(sp)
 	srai	a5,a1,31
-	beq	a1,a5,.L179
+	beq	a1,a5,.L175
 	xor	a0,a1,a5
 	call	__clzsi2
 	lw	ra,12(sp)
 	addi	a0,a0,-1
 	addi	sp,sp,16
 	jr	ra
-.L179:
+.L175:
 	xor	a0,a1,a0
 	call	__clzsi2
 	lw	ra,12(sp)
@@ -725,14 +681,14 @@ __clrsbdi2:
 __popcountsi2:
 	mv	a5,a0
 	li	a0,0
-	beq	a5,zero,.L183
-.L182:
+	beq	a5,zero,.L179
+.L178:
 	addi	a4,a5,-1
 	and	a5,a5,a4
 	addi	a0,a0,1
-	bne	a5,zero,.L182
+	bne	a5,zero,.L178
 	ret
-.L183:
+.L179:
 	ret
 	.size	__popcountsi2, .-__popcountsi2
 	.section	.text.__popcountdi2,"ax",@progbits
@@ -742,22 +698,22 @@ __popcountsi2:
 __popcountdi2:
 	mv	a5,a0
 	li	a0,0
-	beq	a5,zero,.L186
-.L187:
+	beq	a5,zero,.L182
+.L183:
 	addi	a4,a5,-1
 	and	a5,a5,a4
 	addi	a0,a0,1
-	bne	a5,zero,.L187
-.L186:
-	beq	a1,zero,.L185
+	bne	a5,zero,.L183
+.L182:
+	beq	a1,zero,.L181
 	li	a5,0
-.L189:
+.L185:
 	addi	a4,a1,-1
 	and	a1,a1,a4
 	addi	a5,a5,1
-	bne	a1,zero,.L189
+	bne	a1,zero,.L185
 	add	a0,a0,a5
-.L185:
+.L181:
 	ret
 	.size	__popcountdi2, .-__popcountdi2
 	.section	.text.__paritysi2,"ax",@progbits
@@ -765,16 +721,16 @@ __popcountdi2:
 	.globl	__paritysi2
 	.type	__paritysi2, @function
 __paritysi2:
-	beq	a0,zero,.L199
+	beq	a0,zero,.L195
 	li	a5,0
-.L198:
+.L194:
 	addi	a4,a0,-1
 	and	a0,a0,a4
 	addi	a5,a5,1
-	bne	a0,zero,.L198
+	bne	a0,zero,.L194
 	andi	a0,a5,1
 	ret
-.L199:
+.L195:
 	li	a0,0
 	ret
 	.size	__paritysi2, .-__paritysi2
@@ -784,16 +740,16 @@ __paritysi2:
 	.type	__paritydi2, @function
 __paritydi2:
 	xor	a5,a0,a1
-	beq	a0,a1,.L204
+	beq	a0,a1,.L200
 	li	a0,0
-.L203:
+.L199:
 	addi	a4,a5,-1
 	and	a5,a5,a4
 	addi	a0,a0,1
-	bne	a5,zero,.L203
+	bne	a5,zero,.L199
 	andi	a0,a0,1
 	ret
-.L204:
+.L200:
 	li	a0,0
 	ret
 	.size	__paritydi2, .-__paritydi2
@@ -858,15 +814,15 @@ __cxa_pure_virtual:
 _Znwj:
 	addi	sp,sp,-16
 	sw	ra,12(sp)
-	bne	a0,zero,.L210
+	bne	a0,zero,.L206
 	li	a0,1
-.L210:
+.L206:
 	call	malloc
-	beq	a0,zero,.L213
+	beq	a0,zero,.L209
 	lw	ra,12(sp)
 	addi	sp,sp,16
 	jr	ra
-.L213:
+.L209:
 	ebreak
 	.size	_Znwj, .-_Znwj
 	.section	.text._Znaj,"ax",@progbits
@@ -876,15 +832,15 @@ _Znwj:
 _Znaj:
 	addi	sp,sp,-16
 	sw	ra,12(sp)
-	bne	a0,zero,.L215
+	bne	a0,zero,.L211
 	li	a0,1
-.L215:
+.L211:
 	call	malloc
-	beq	a0,zero,.L218
+	beq	a0,zero,.L214
 	lw	ra,12(sp)
 	addi	sp,sp,16
 	jr	ra
-.L218:
+.L214:
 	ebreak
 	.size	_Znaj, .-_Znaj
 	.section	.text._ZdlPv,"ax",@progbits

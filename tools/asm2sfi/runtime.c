@@ -101,71 +101,83 @@ u64 __muldi3(u64 a, u64 b) {
     return joined(high_half(low) + (u32)a * high_half(b) + high_half(a) * (u32)b, low);
 }
 
-int __clzsi2(u32 number);
-
-/* The quotient of high and low by a divisor above high, which has 32 bits, and the remainder: two digits of 16 bits, each
-   by the divisor's upper half, and then one or two less (Knuth, The Art of Computer Programming, volume 2, 4.3.1,
-   algorithm D). */
-static u32 quotient_of(u32 high, u32 low, u32 divisor, u32 *remainder) {
-    int shift = __clzsi2(divisor);
-    u32 rest = high << shift | low >> 1 >> (31 - shift), upper, lower, quotient = 0;
-    divisor <<= shift;
-    low <<= shift;
-    upper = divisor >> 16;
-    lower = divisor & 0xffff;
-    for (int digits = 2; digits; digits--) {
-        u32 digit = rest / upper, left = rest % upper, next = low >> 16;
-        for (; digit >> 16 || digit * lower > (left << 16 | next); digit--) {
-            left += upper;
-            if (left >> 16) {
+/* The quotient by a divisor whose first bit is 1, and which is above the upper word of the dividend, and what is left in
+   `*rest`: two digits of 16 bits, each by the divisor's upper half, and then one or two less (Knuth, The Art of Computer
+   Programming, volume 2, 4.3.1, algorithm D). */
+static inline __attribute__((always_inline)) u32 two_digits(u32 *rest, u32 low, u32 divisor) {
+    u32 upper = divisor >> 16, lower = divisor & 0xffff, quotient = 0, left = *rest;
+    int count = 2;
+    __asm__("" : "+r"(count)); /* the compiler isn't to write the digits apart */
+    do {
+        u32 digit = left / upper, less = digit * lower;
+        left = left % upper << 16 | low >> 16;
+        if (left < less) {
+            digit--;
+            left += divisor;
+            if (left >= divisor && left < less) {
                 digit--;
-                break;
+                left += divisor;
             }
         }
-        rest = (rest << 16 | next) - digit * divisor;
+        left -= less;
         quotient = quotient << 16 | digit;
         low <<= 16;
-    }
-    *remainder = rest >> shift;
+    } while (--count);
+    *rest = left;
     return quotient;
 }
 
-/* The quotient by a divisor of more than 32 bits, which has 32, a bit at a time. */
-static u32 by_long(u64 dividend, u64 divisor, u64 *remainder) {
-    int shift = __clzsi2(high_half(divisor)) - __clzsi2(high_half(dividend));
-    u32 quotient = 0;
-    if (shift > 0)
-        divisor = joined(high_half(divisor) << shift | (u32)divisor >> 1 >> (31 - shift), (u32)divisor << shift);
-    for (; shift >= 0; shift--, divisor >>= 1) {
-        quotient <<= 1;
+/* The quotient of two numbers of which one has more than 32 bits, or the remainder. Division by 0 answers all ones, with
+   the dividend as remainder, as the machine's own instructions do. Of a divisor of more than 32 bits the upper ones give
+   a quotient that is right or one too large, so one less is taken, and mended by the remainder (Warren, Hacker's Delight,
+   9-5). */
+static __attribute__((noinline, optimize("Os"))) u64 long_divided(u64 dividend, u64 divisor, int wants_remainder) {
+    u32 high = high_half(dividend), low = dividend, above = high_half(divisor), below = divisor;
+    u32 first = 0, quotient, rest = high >> 1, top = above;
+    int shift = 0;
+    if (!above) {
+        if (!below)
+            return wants_remainder ? dividend : (u64)-1;
+        first = high / below;
+        rest = high % below;
+        top = below;
+    }
+    for (; !(top >> 31); top <<= 1)
+        shift++;
+    if (above) {
+        top |= below >> 1 >> (31 - shift);
+        low = high << 31 | low >> 1;
+    } else {
+        rest = rest << shift | low >> 1 >> (31 - shift);
+        low <<= shift;
+    }
+    quotient = two_digits(&rest, low, top);
+    if (above) {
+        quotient >>= 31 - shift;
+        quotient -= quotient != 0;
+        dividend -= joined(high_half(product(quotient, below)) + quotient * above, quotient * below);
         if (dividend >= divisor) {
             dividend -= divisor;
-            quotient |= 1;
+            quotient++;
         }
-    }
-    *remainder = dividend;
-    return quotient;
+    } else
+        dividend = rest >> shift;
+    return wants_remainder ? dividend : joined(first, quotient);
 }
 
-static __attribute__((noinline)) u64 long_divided(u64 dividend, u64 divisor, u64 *remainder) {
-    u32 high = high_half(dividend), low = divisor, rest, quotient;
-    if (high_half(divisor))
-        return by_long(dividend, divisor, remainder);
-    quotient = quotient_of(high % low, dividend, low, &rest);
-    *remainder = rest;
-    return joined(high / low, quotient);
+/* The quotient of two numbers, or the remainder. */
+static __attribute__((noinline)) u64 divided(u64 dividend, u64 divisor, int wants_remainder) {
+    if (high_half(dividend) | high_half(divisor) || !divisor)
+        return long_divided(dividend, divisor, wants_remainder);
+    return wants_remainder ? (u32)dividend % (u32)divisor : (u32)dividend / (u32)divisor;
 }
 
-/* Division by 0 answers all ones, with the dividend as remainder, as the machine's own instructions do. */
-static __attribute__((noinline)) u64 divided(u64 dividend, u64 divisor, u64 *remainder) {
-    if (divisor == 0) {
-        *remainder = dividend;
-        return -1;
-    }
-    if (high_half(dividend) || high_half(divisor))
-        return long_divided(dividend, divisor, remainder);
-    *remainder = (u32)dividend % (u32)divisor;
-    return (u32)dividend / (u32)divisor;
+u64 __udivdi3(u64 dividend, u64 divisor) {
+    return divided(dividend, divisor, 0);
+}
+
+u64 __umoddi3(u64 dividend, u64 divisor) {
+    return divided(dividend, divisor, 1);
 }
 
 /* The number, or less than 0 where the sign is -1 in place of 0. */
@@ -173,29 +185,22 @@ static u64 with_sign(u64 number, s64 sign) {
     return (number ^ (u64)sign) - (u64)sign;
 }
 
-u64 __udivdi3(u64 dividend, u64 divisor) {
-    u64 remainder;
-    return divided(dividend, divisor, &remainder);
-}
-
-u64 __umoddi3(u64 dividend, u64 divisor) {
-    u64 remainder;
-    divided(dividend, divisor, &remainder);
-    return remainder;
+/* A remainder has the sign of the dividend. */
+static __attribute__((noinline)) s64 signed_divided(s64 dividend, s64 divisor, int wants_remainder) {
+    s64 first = dividend >> 63, second = divisor >> 63;
+    u64 found;
+    if ((int)(high_half(dividend) | high_half(divisor)) >= 0)
+        return divided(dividend, divisor, wants_remainder);
+    found = divided(with_sign(dividend, first), with_sign(divisor, second), wants_remainder);
+    return with_sign(found, wants_remainder ? first : first ^ second);
 }
 
 s64 __divdi3(s64 dividend, s64 divisor) {
-    s64 first = dividend >> 63, second = divisor >> 63;
-    u64 remainder;
-    return with_sign(divided(with_sign(dividend, first), with_sign(divisor, second), &remainder), first ^ second);
+    return signed_divided(dividend, divisor, 0);
 }
 
 s64 __moddi3(s64 dividend, s64 divisor) {
-    u64 remainder;
-    if (high_half(dividend) == 0 && high_half(divisor) == 0 && divisor != 0)
-        return (u32)dividend % (u32)divisor;
-    divided(with_sign(dividend, dividend >> 63), with_sign(divisor, divisor >> 63), &remainder);
-    return with_sign(remainder, dividend >> 63);
+    return signed_divided(dividend, divisor, 1);
 }
 
 /* Counts of bits: `__builtin_clz` and the like. Of 0 the first and the last bit are behind all bits, where C asks for
