@@ -92,10 +92,10 @@ def by_gcc(compiler, given, file, assembly):
 
 def by_clang(compiler, given, file, assembly):
     """clang in two steps: in one, version 14 doesn't keep the sandbox's own registers free."""
-    middle = assembly + ".ll"
+    middle = assembly + ".bc"
     folder, name = os.path.split(compiler)
     llc = os.path.join(folder, name.replace("clang", "llc"))
-    first = ran([compiler, "-S", "-emit-llvm", "-O2", *TARGET, *COMMON, *language(file), *given, *LAST, *HEADERS,
+    first = ran([compiler, "-c", "-emit-llvm", "-O2", *TARGET, *COMMON, *language(file), *given, *LAST, *HEADERS,
                  "-o", middle, file])
     return first[1] + ran([llc, level(given), *LLC, "-o", assembly, middle])[1]
 

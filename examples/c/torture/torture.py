@@ -65,12 +65,13 @@ class Case:
 
 @dataclass(frozen=True)
 class Room:
-    """What all cases share: the tests' folder, a folder for what is made, the program, and the libraries by compiler."""
+    """What all cases share: the tests' folder, a folder for what is made, the program, the libraries by compiler, and
+    the options of a hosted C."""
     tests: str
     folder: str
     program: str
     libraries: dict
-    includes: tuple
+    hosted: tuple
 
     def source(self, case):
         return os.path.join(self.tests, f"{case.name}.c")
@@ -137,7 +138,7 @@ def converted(room, case, assembly):
 def sandboxed(room, case, place):
     """The status and the output in a sandbox, or why there are none."""
     try:
-        given = ["-fhosted", *QUIET[:1 + (case.compiler == "clang")], *room.includes, *room.options(case)]
+        given = [*QUIET[:1 + (case.compiler == "clang")], *room.hosted, *room.options(case)]
         assembly, _ = compiled(COMPILERS[case.compiler], given, room.source(case), place)
     except Failed as failed:
         return "refused: " + next((line for line in failed.told.decode("latin-1").splitlines() if "error" in line), "?")
@@ -165,7 +166,7 @@ def tried(task):
     shutil.rmtree(place, ignore_errors=True)
     for path in glob.glob(f"{glob.escape(place)}.*"):
         os.unlink(path)
-    if found == wanted:
+    if found == wanted or case.name in PRINT_ADDRESSES and found[0] == wanted[0]:
         return case, ""
     return case, found if isinstance(found, str) else f"wanted {wanted}, found {found}"
 
@@ -194,8 +195,14 @@ def room_of(options, folder):
     for name in options.compiler:
         compiler = COMPILERS[name]
         libraries[name] = (options.library or small_library(compiler), softfloat.folder_of(compiler))
-    include = os.path.join(options.library, "include") if options.library else os.path.join(EXAMPLES, "include")
-    return Room(tests, folder, os.path.abspath(options.program), libraries, ("-isystem", include))
+    return Room(tests, folder, os.path.abspath(options.program), libraries, tuple(hosted(options.library)))
+
+
+def hosted(library):
+    """The options of a hosted C with a library, as sfi-cc has them; of the small one if none is named."""
+    if library:
+        return ["-fhosted", "-fbuiltin", "-isystem", os.path.join(library, "include")]
+    return ["-fhosted", "-isystem", os.path.join(EXAMPLES, "include")]
 
 
 def cases_of(options, room):
@@ -245,6 +252,8 @@ def expected(case, said, library):
     """Why a test can't pass; nothing if it should."""
     if case.name in WANT_LIBRARY and not library:
         return "it wants the whole C library (--library FOLDER)"
+    if (case.compiler, case.name) in UNDEFINED:
+        return UNDEFINED[case.compiler, case.name]
     return CANNOT_PASS.get(case.name) if said.startswith("refused: ") else None
 
 
@@ -268,6 +277,9 @@ def count(results, library):
     return counts
 
 
+PRINT_ADDRESSES = {"return-addr"}  # which differ from place to place
+# Tests that pass natively by luck.
+UNDEFINED = {("clang", "pr79286"): "clang makes no code of its main, which reads a variable that isn't set"}
 # Tests that are refused with a message that says why, here in few words.
 CANNOT_PASS = {
     "pr60822": "its data take more than 1 MiB",
