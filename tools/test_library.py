@@ -75,9 +75,9 @@ class Library(unittest.TestCase):
         cls.library = os.path.join(cls.folder, "library")
         subprocess.run([SFI_LIBRARY, cls.library], check=True)
 
-    def ran(self, text, *words, given=b""):
+    def ran(self, text, *words, given=b"", name="program.c"):
         """What `sfi run` says of a program with some input, and the bytes that it put."""
-        path = os.path.join(self.folder, "program.c")
+        path = os.path.join(self.folder, name)
         with open(path, "w", encoding="utf-8") as file:
             file.write(text)
         image = subprocess.run([SFI_CC, "--program", SFI, *words, "--library", self.library, path], check=True,
@@ -94,6 +94,16 @@ class Library(unittest.TestCase):
         text = "#include <stdlib.h>\n#include <assert.h>\nint main(void) { %s }\n"
         for ending, wanted in (("exit(3);", "3"), ("abort();", "134"), ("_Exit(4);", "4"), ("assert(0);", "134"), ("", "0")):
             self.assertEqual(self.ran(text % ending)[0], f"sandbox=0 exit={wanted}", ending)
+
+    def test_destructors(self):
+        """Those of C by their priorities, the last first, and those of objects in C++, after what main did."""
+        ends = "__attribute__((destructor)) void last(void) { puts(\"last\"); }\n"
+        text = f"#include <stdio.h>\n{ends}{ends.replace('destructor', 'destructor(101)').replace('last', 'after')}"
+        self.assertEqual(self.ran(text + "int main(void) { puts(\"main\"); return 3; }\n"),
+                         ("sandbox=0 exit=3", "main\nlast\nafter\n"))
+        text = ("extern \"C\" int puts(const char *);\nstruct End { const char *text; ~End() { puts(text); } };\n"
+                "static End first = {\"first\"}, second = {\"second\"};\nint main() { puts(\"main\"); return 3; }\n")
+        self.assertEqual(self.ran(text, name="program.cc"), ("sandbox=0 exit=3", "main\nsecond\nfirst\n"))
 
     def test_own_heap(self):
         text = ("#include <stdlib.h>\nchar __heap[262144];\nconst unsigned __heap_size = sizeof __heap;\n"

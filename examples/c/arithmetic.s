@@ -495,7 +495,7 @@ la s2,left
 la s1,right
 _.L28:
 .option rvc
-add a3,zero,sp
+add t1,zero,sp
 mv sp,zero
 lw a5,16(sp)
 lw a0,20(sp)
@@ -528,7 +528,7 @@ add a2,zero,s6
 sw s0,16(sp)
 .option norvc
 sw a4,20(sp)
-mv sp,a3
+mv sp,t1
 sw a6,4(sp)
 sw a4,0(sp)
 andi s7,s0,15
@@ -613,7 +613,7 @@ lw s6,32(sp)
 lw s7,28(sp)
 li a0,0
 addi sp,sp,64
-jr ra
+ret
 long_divided..1:
 bne a3,zero,_.L2..1
 bne a2,zero,_.L3..1
@@ -743,25 +743,25 @@ lw s3,0(sp)
 addi sp,sp,16
 .option norvc
 nop
-jr ra
+ret
 divided..1:
 or a5,a1,a3
 bne a5,zero,_.L27..1
-or a5,a2,a3
-beq a5,zero,_.L27..1
+beq a2,zero,_.L27..1
 beq a4,zero,_.L29..1
 remu a0,a0,a2
+.option rvc
 li a1,0
-nop
+j next..1
+next..1:
 ret
 _.L27..1:
 j long_divided..1
 _.L29..1:
 divu a0,a0,a2
-.option rvc
 li a1,0
-j next..1
-next..1:
+j next..1..n2
+next..1..n2:
 ret
 signed_divided..1:
 or t3,a1,a3
@@ -819,7 +819,7 @@ lw s3,12(sp)
 sub a1,a1,a5
 .option rvc
 addi sp,sp,32
-jr ra
+ret
 _.L36..1:
 j divided..1
 memcpy:
@@ -877,8 +877,8 @@ sb a3,0(a4)
 .option rvc
 addi a5,a5,-1
 bne a5,a6,_.L51..1
-j next..1..n2
-next..1..n2:
+j next..1..n3
+next..1..n3:
 ret
 _.L50..1:
 or a5,a0,a1
@@ -1122,7 +1122,7 @@ lw ra,12(sp)
 li a5,31
 addi sp,sp,16
 sub a0,a5,a0
-jr ra
+ret
 __popcountsi2:
 add a5,zero,a0
 li a0,0

@@ -237,7 +237,7 @@ lw s2,16(sp)
 lw s3,12(sp)
 .option rvc
 addi sp,sp,32
-jr ra
+ret
 _.L9:
 srli a3,a4,12
 srli t5,a4,18

@@ -113,7 +113,7 @@ lw s3,28(sp)
 add a0,zero,s1
 lw s1,36(sp)
 addi sp,sp,48
-jr ra
+ret
 .data
 _.LC0:
 .word 0x33323130,0x37363534,0x62613938,0x66656463,0x0

@@ -107,17 +107,16 @@ lw s2,16(sp)
 lw s3,12(sp)
 .option rvc
 addi sp,sp,32
-jr ra
+ret
 _.L19:
 lw s3,48(zero)
-la a6,table
 .option norvc
 li a0,1
 addi a5,s3,-2048
 beq a5,zero,_.L16
-lw a5,40(zero)
-la a7,letters_used
 lui a4,4
+nop
+lw a5,40(zero)
 add t1,a5,s2
 bltu a4,t1,_.L16
 la a4,letters
@@ -126,7 +125,6 @@ beq s2,zero,_.L22
 add a5,zero,s1
 add a4,zero,a1
 add a0,s1,s2
-nop
 _.L23:
 lbu a2,0(a5)
 .option rvc
@@ -269,7 +267,7 @@ j next..1
 next..1:
 lw s4,328(sp)
 addi sp,sp,352
-jr ra
+ret
 _.L57:
 li a0,0
 beq s1,zero,_.L47
@@ -483,7 +481,7 @@ lw s7,44(sp)
 add a0,zero,s2
 lw s2,64(sp)
 addi sp,sp,80
-jr ra
+ret
 _.L73:
 sltu a3,t4,a3
 bne a3,zero,_.L71

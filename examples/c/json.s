@@ -196,7 +196,7 @@ lw s6,48(sp)
 lw s7,44(sp)
 .option rvc
 addi sp,sp,80
-jr ra
+ret
 _.L59:
 .option norvc
 li a5,5
@@ -431,7 +431,7 @@ add a0,zero,s5
 lw s5,20(sp)
 .option rvc
 addi sp,sp,48
-jr ra
+ret
 _.L217:
 bne a7,zero,_.L76
 lw s4,100(zero)
@@ -446,11 +446,14 @@ j _.L84
 _.L218:
 li a5,34
 bne a2,a5,_.L221
-la a3,used
+.option norvc
+nop
+nop
 lw a4,104(zero)
 addi a5,a4,-2048
 beq a5,zero,_.L150
 slli a5,a4,3
+.option rvc
 sub a5,a5,a4
 slli a5,a5,2
 la a2,values
@@ -475,36 +478,33 @@ beq a2,a5,_.L89
 li a5,123
 bne a2,a5,_.L90
 lw a5,104(zero)
-la a4,used
-addi a1,a1,1
 addi a3,a5,-2048
+addi a1,a1,1
 beq a3,zero,_.L131
-li a3,5
 slli t1,a5,3
 sub t1,t1,a5
-la s1,values
 slli t1,t1,2
+la s1,values
 add s0,s1,t1
+li a3,5
 addi a5,a5,1
+sw a3,0(s0)
 lui a2,1046528
-.option norvc
+lbu a3,0(a1)
 addi a2,a2,-20
 li a0,23
-sw a3,0(s0)
-add s5,zero,s0
-lbu a3,0(a1)
 sw a5,104(zero)
 addi a5,a3,-9
 andi a5,a5,255
 sw a1,108(zero)
 sra a4,a2,a5
-.option rvc
+add s5,zero,s0
 li a7,0
 add a6,zero,a1
-.option norvc
 andi a4,a4,1
 bltu a0,a5,_.L222
 _.L93:
+.option norvc
 addi a1,a1,1
 bne a4,zero,_.L96
 li a7,1
@@ -611,7 +611,6 @@ sw t1,108(zero)
 j _.L92
 _.L85:
 lw a5,104(zero)
-la a4,used
 addi a1,a1,1
 addi a3,a5,-2048
 beq a3,zero,_.L131
@@ -624,11 +623,9 @@ add s0,s6,s1
 .option norvc
 addi a5,a5,1
 li a3,4
-li a0,93
 sw a3,0(s0)
-nop
+li a0,93
 sw a5,104(zero)
-nop
 sw a1,108(zero)
 call passed
 .option rvc
@@ -856,24 +853,26 @@ sw a5,108(zero)
 j _.L100
 _.L223:
 lw a4,104(zero)
-la a2,used
+nop
 sw a5,108(zero)
 addi a5,a4,-2048
 beq a5,zero,_.L150
 slli a5,a4,3
-sub a5,a5,a4
-slli a5,a5,2
 la a3,values
+.option rvc
+sub a5,a5,a4
 addi a4,a4,1
-add a5,a5,a3
 sw a4,104(zero)
-add s5,zero,a5
+slli a5,a5,2
+add a5,a5,a3
 sw zero,0(a5)
+.option norvc
+add s5,zero,a5
 sw zero,8(a5)
 j _.L92
 _.L224:
 lw a4,104(zero)
-la a2,used
+nop
 sw a5,108(zero)
 addi a5,a4,-2048
 beq a5,zero,_.L150
@@ -883,14 +882,15 @@ slli a5,a5,2
 la a3,values
 add a5,a5,a3
 addi a4,a4,1
-sw a0,0(a5)
 add s5,zero,a5
+sw a0,0(a5)
 sw a4,104(zero)
+nop
 sw a0,8(a5)
 j _.L92
 _.L219:
 lw a4,104(zero)
-la a2,used
+nop
 sw a5,108(zero)
 addi a5,a4,-2048
 beq a5,zero,_.L150
@@ -901,14 +901,12 @@ slli a5,a5,2
 addi a4,a4,1
 add a5,a5,a3
 sw a4,104(zero)
-.option rvc
 li a3,1
 add s5,zero,a5
 sw a3,0(a5)
 sw zero,8(a5)
 j _.L92
 _.L153:
-.option norvc
 addi a1,a1,1
 sw a1,108(zero)
 j _.L154
@@ -1102,7 +1100,7 @@ lw s2,32(sp)
 addi sp,sp,48
 .option norvc
 nop
-jr ra
+ret
 _.L264:
 addi a5,t0,30
 add a5,a5,sp

@@ -70,7 +70,7 @@ call put
 lw ra,44(sp)
 .option rvc
 addi sp,sp,48
-jr ra
+ret
 main:
 addi sp,sp,-48
 sw s0,40(sp)
@@ -388,7 +388,7 @@ lw s6,16(sp)
 lw s7,12(sp)
 .option rvc
 addi sp,sp,48
-jr ra
+ret
 _.L18:
 .option norvc
 li a0,0

@@ -241,7 +241,7 @@ add a4,zero,a6
 add a5,zero,a0
 j point..1
 point..1:
-add t1,zero,sp
+add t0,zero,sp
 j _.L31
 _.L31:
 lw a2,0(a4)
@@ -253,7 +253,7 @@ addi a5,a5,4
 sw a2,0(sp)
 sw a3,-80(a4)
 bne a5,a1,_.L31
-mv sp,t1
+mv sp,t0
 addi a0,a0,80
 addi a6,a6,4
 addi a1,a1,84
@@ -347,7 +347,7 @@ remu a0,s1,a0
 lw s1,84(sp)
 .option rvc
 addi sp,sp,96
-jr ra
+ret
 _.L62:
 la a0,power
 .option norvc

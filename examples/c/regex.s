@@ -167,7 +167,7 @@ lw s2,32(sp)
 lw s3,28(sp)
 lw s4,24(sp)
 addi sp,sp,48
-jr ra
+ret
 _.L87:
 .option norvc
 nop
@@ -298,7 +298,7 @@ lw s3,28(sp)
 lw s4,24(sp)
 li a0,1
 addi sp,sp,48
-jr ra
+ret
 _.L84:
 add s2,s1,s3
 j _.L46
@@ -446,7 +446,7 @@ lw s5,20(sp)
 lw s6,16(sp)
 lw s7,12(sp)
 addi sp,sp,48
-jr ra
+ret
 _.L133:
 sb zero,0(s1)
 .option norvc

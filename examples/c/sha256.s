@@ -163,7 +163,7 @@ add a2,a2,a4
 addi a5,sp,28
 point..1..n2:
 .option rvc
-add t2,zero,sp
+add t0,zero,sp
 j _.L5
 _.L5:
 mv sp,a5
@@ -173,7 +173,7 @@ addi a5,a5,-4
 sw a4,0(sp)
 bne a5,a1,_.L5
 add s0,a2,a3
-mv sp,t2
+mv sp,t0
 .option rvc
 lw t2,16(sp)
 sw s0,0(sp)
@@ -185,7 +185,7 @@ addi a6,a6,4
 bne t3,a7,_.L6
 point..1..n3:
 .option rvc
-add s0,zero,sp
+add t0,zero,sp
 j _.L7
 _.L7:
 mv sp,t4
@@ -197,7 +197,7 @@ addi a1,a1,4
 add a5,a5,a4
 sw a5,0(sp)
 bne t5,t4,_.L7
-mv sp,s0
+mv sp,t0
 lw s0,316(sp)
 lw s1,312(sp)
 lw s2,308(sp)
@@ -206,7 +206,7 @@ lw s4,300(sp)
 lw s5,296(sp)
 .option rvc
 addi sp,sp,320
-jr ra
+ret
 main:
 addi sp,sp,-160
 sw s0,152(sp)
@@ -345,7 +345,7 @@ lw s2,144(sp)
 li a0,0
 .option rvc
 addi sp,sp,160
-jr ra
+ret
 _.L19:
 addi s0,sp,76
 bne a5,a3,_.L22

@@ -89,7 +89,7 @@ lw s5,36(sp)
 lw s6,32(sp)
 lw s7,28(sp)
 addi sp,sp,64
-jr ra
+ret
 _.L15:
 lw a1,0(s6)
 .option norvc
@@ -312,7 +312,7 @@ lw s4,40(sp)
 lw s5,36(sp)
 .option rvc
 addi sp,sp,64
-jr ra
+ret
 _.L47:
 add s1,zero,t3
 j _.L21

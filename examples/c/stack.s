@@ -241,7 +241,7 @@ lw s0,8(sp)
 li a0,0
 .option rvc
 addi sp,sp,16
-jr ra
+ret
 _.L18:
 li a0,3
 ret
@@ -271,7 +271,7 @@ lw s0,8(sp)
 li a0,0
 .option rvc
 addi sp,sp,16
-jr ra
+ret
 _.L26:
 li a0,3
 ret
@@ -407,7 +407,7 @@ call put
 lw ra,44(sp)
 li a0,0
 addi sp,sp,48
-jr ra
+ret
 main:
 addi sp,sp,-32
 .option norvc
@@ -579,22 +579,20 @@ lw s2,16(sp)
 lw s3,12(sp)
 .option rvc
 addi sp,sp,32
-jr ra
+ret
 _.L112:
 li a0,1
 li a5,10
 j _.L75
 _.L64:
 lw t3,36(zero)
-la t4,depth
 li a5,256
 beq t3,a5,_.L88
-.option norvc
 add a7,zero,s0
 li a4,0
+.option norvc
 li a0,0
 li t1,9
-nop
 _.L66:
 slli a5,a4,2
 srli t5,a4,30
@@ -656,7 +654,7 @@ lw s2,16(sp)
 lw s3,12(sp)
 li a0,1
 addi sp,sp,32
-jr ra
+ret
 _.L110:
 bltu s0,s3,_.L59
 li a2,0
@@ -816,25 +814,25 @@ lw s3,0(sp)
 addi sp,sp,16
 .option norvc
 nop
-jr ra
+ret
 divided..1:
 or a5,a1,a3
 bne a5,zero,_.L27..1
-or a5,a2,a3
-beq a5,zero,_.L27..1
+beq a2,zero,_.L27..1
 beq a4,zero,_.L29..1
 remu a0,a0,a2
+.option rvc
 li a1,0
-nop
+j next..1..n3
+next..1..n3:
 ret
 _.L27..1:
 j long_divided..1
 _.L29..1:
 divu a0,a0,a2
-.option rvc
 li a1,0
-j next..1..n3
-next..1..n3:
+j next..1..n4
+next..1..n4:
 ret
 signed_divided..1:
 or t3,a1,a3
@@ -892,7 +890,7 @@ lw s3,12(sp)
 sub a1,a1,a5
 .option rvc
 addi sp,sp,32
-jr ra
+ret
 _.L36..1:
 j divided..1
 __divdi3:

@@ -82,7 +82,7 @@ call put
 lw ra,44(sp)
 .option rvc
 addi sp,sp,48
-jr ra
+ret
 put_text:
 lbu a5,0(a0)
 .option norvc
@@ -317,7 +317,7 @@ lw s5,708(sp)
 lw s6,704(sp)
 li a0,0
 addi sp,sp,736
-jr ra
+ret
 memset:
 andi a5,a1,255
 slli a3,a5,8

@@ -149,12 +149,14 @@ class Converter:
 
     @staticmethod
     def jump(statement):
-        """The assembler's other spellings of `jal` and `jalr`."""
+        """The assembler's other spellings of `ret`, `jal` and `jalr`."""
         word, operands = statement.word, statement.operands
         if word == "jal" and len(operands) == 1:
             return [f"call {operands[0]}"]
         if word == "call" and len(operands) == 2:
             return ["jal {0}, {1}".format(*operands)]
+        if word == "jr" and operands in (("ra",), ("x1",)):
+            return ["ret"]
         if word == "jalr" and len(operands) == 1:
             return [f"jalr ra, 0({operands[0]})"]
         if word == "jalr" and len(operands) == 3:

@@ -5,7 +5,7 @@ from assembly import Refused
 from instructions import Op
 from linking import Gate
 from operands import Symbol
-from sections import CodeSection
+from sections import ATEXIT, CodeSection
 
 START = "start"  # the place of what no line of assembly says
 
@@ -86,12 +86,15 @@ class CodeWriter:
                 yield self.named(index, section.ops[position])
 
     def start(self, main, leave, above, addresses):
-        """Leaves room above the stack, writes the addresses that the data hold, calls the constructors and then main,
-        without arguments, and exits with what that answers."""
+        """Leaves room above the stack, writes the addresses that the data hold, hands the destructors to `atexit`, calls
+        the constructors and then main, without arguments, and exits with what that answers."""
         yield from addresses.ops(self, [Op("addi", ("sp", "sp", str(-above)), START)] if above else [])
+        for index, symbol, place in self.linked.destructors:
+            yield self.named(index, Op("la", ("a0", symbol), place))
+            yield self.named(index, Op("call", (ATEXIT,), place))
         for index, symbol, place in self.linked.constructors:
             yield self.named(index, Op("call", (symbol,), place))
-        if self.linked.constructors:
+        if self.linked.constructors or self.linked.destructors:
             yield from [Op("li", ("a0", "0"), START), Op("li", ("a1", "0"), START)]
         yield Op("call", (self.text_of(0, Symbol(main), START),), START)
         yield Op("call", (leave,), START)

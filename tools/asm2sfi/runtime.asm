@@ -127,8 +127,7 @@ long_divided:
 divided:
 	or	a5,a1,a3
 	bne	a5,zero,.L27
-	or	a5,a2,a3
-	beq	a5,zero,.L27
+	beq	a2,zero,.L27
 	beq	a4,zero,.L29
 	remu	a0,a0,a2
 	li	a1,0

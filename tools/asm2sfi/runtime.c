@@ -167,7 +167,7 @@ static __attribute__((noinline, optimize("Os"))) u64 long_divided(u64 dividend, 
 
 /* The quotient of two numbers, or the remainder. */
 static __attribute__((noinline)) u64 divided(u64 dividend, u64 divisor, int wants_remainder) {
-    if (high_half(dividend) | high_half(divisor) || !divisor)
+    if (high_half(dividend) | high_half(divisor) || !(u32)divisor)
         return long_divided(dividend, divisor, wants_remainder);
     return wants_remainder ? (u32)dividend % (u32)divisor : (u32)dividend / (u32)divisor;
 }

@@ -165,6 +165,7 @@ class Instructions(unittest.TestCase):
             ("tail f", ["j f"]),
             ("jump .L3,ra", ["j .L3"]),
             ("jr a5", ["jr a5"]),
+            ("jr ra", ["ret"]),
             ("jalr a5", ["jalr ra, 0(a5)"]),
             ("jalr ra,a5", ["jalr ra, 0(a5)"]),
             ("jalr ra,8(a5)", ["jalr ra, 8(a5)"]),

@@ -116,6 +116,15 @@ class Constructors(unittest.TestCase):
         text = source(MAIN + "\tret\n" + self.functions(("init_array", "a")))
         self.assertEqual(start_of(text)[:5], ["call a", "li a0, 0", "li a1, 0", "call main", "call exit_with"])
 
+    def test_destructors(self):
+        """They are handed to atexit in the order of constructors, before those run: the last is called first."""
+        atexit = "\t.globl atexit\natexit:\tret\n"
+        text = source(MAIN + "\tret\n" + atexit + self.functions(("fini_array", "a"), ("fini_array.101", "b"), ("init_array", "c")))
+        self.assertEqual(start_of(text)[:9], [
+            "la a0, b", "call atexit", "la a0, a", "call atexit", "call c", "li a0, 0", "li a1, 0", "call main", "call exit_with"])
+        self.assertEqual(refusals_of(MAIN + self.functions(("fini_array", "a"))), [
+            "a.s:7: undefined symbol atexit, of a destructor: the whole C library has it (tools/sfi-library)"])
+
     def test_library(self):
         """Those of a library's file run where the program needs something of the file."""
         library = self.functions(("init_array", "a")) + "\t.section .text.f\n\t.globl f\nf:\tret\n"
@@ -123,8 +132,7 @@ class Constructors(unittest.TestCase):
         self.assertEqual(self.calls(MAIN + "\tcall f\n\tret\n", library, library=1), ["a", "main", "exit_with"])
 
     def test_refusals(self):
-        rows = [(".fini_array", "nothing runs after main"), (".dtors.1", "nothing runs after main"),
-                (".ctors", "constructors stand in .init_array")]
+        rows = [(".dtors.1", "destructors stand in .fini_array"), (".ctors", "constructors stand in .init_array")]
         for name, why in rows:
             self.assertEqual(refusals_of(MAIN + f'\t.section {name},"aw"\n'), [f"a.s:4: section {name}: {why}"])
         self.assertEqual(refusals_of(MAIN + self.TABLE.format(name="init_array", function="nowhere")),

@@ -21,6 +21,7 @@ extern const unsigned __heap_size;
 static unsigned used;
 
 extern int main(int, char **);
+void *__dso_handle; /* what C++ hands to __cxa_atexit beside a destructor: the program, of which there is one */
 
 void _start(void) {
     static char *none[1];
