@@ -617,7 +617,7 @@ ret
 long_divided..1:
 bne a3,zero,_.L2..1
 bne a2,zero,_.L3..1
-beq a4,zero,_.L17..1
+beq a4,zero,_.L19..1
 .option norvc
 nop
 ret
@@ -641,38 +641,44 @@ sw s0,12(sp)
 sw s1,8(sp)
 sw s2,4(sp)
 sw s3,0(sp)
-li t4,0
+li t1,0
 _.L6..1:
-blt a7,zero,_.L25..1
+srli a6,a7,28
+bne a6,zero,_.L8..1
 .option rvc
-addi t4,t4,1
-slli a7,a7,1
+addi t1,t1,4
+slli a7,a7,4
 j _.L6..1
-_.L25..1:
+_.L8..1:
+blt a7,zero,_.L27..1
+addi t1,t1,1
+slli a7,a7,1
+j _.L8..1
+_.L27..1:
 .option norvc
-li t1,31
+li t4,31
 srli a6,a0,1
-sub t1,t1,t4
-beq a3,zero,_.L8..1
+sub t4,t4,t1
+beq a3,zero,_.L10..1
 srli t5,a2,1
-srl t5,t5,t1
+srl t5,t5,t4
 or a7,a7,t5
 slli t5,a1,31
 or t5,t5,a6
-j _.L9..1
-_.L8..1:
-sll a5,a5,t4
-srl a6,a6,t1
+j _.L11..1
+_.L10..1:
+sll a5,a5,t1
+srl a6,a6,t4
 or a5,a5,a6
-sll t5,a0,t4
-_.L9..1:
+sll t5,a0,t1
+_.L11..1:
 slli s3,a7,16
 srli s2,a7,16
 srli s3,s3,16
 .option rvc
 li a6,0
 li t0,2
-_.L13..1:
+_.L15..1:
 divu s1,a5,s2
 remu t2,a5,s2
 srli a5,t5,16
@@ -680,24 +686,24 @@ mul s0,s1,s3
 slli t2,t2,16
 or a5,a5,t2
 add t2,zero,s1
-bgeu a5,s0,_.L10..1
+bgeu a5,s0,_.L12..1
 addi t2,s1,-1
 add a5,a5,a7
-bltu a5,a7,_.L10..1
-bgeu a5,s0,_.L10..1
+bltu a5,a7,_.L12..1
+bgeu a5,s0,_.L12..1
 addi t2,s1,-2
 add a5,a5,a7
-_.L10..1:
+_.L12..1:
 slli a6,a6,16
 addi t0,t0,-1
 sub a5,a5,s0
 or a6,a6,t2
 slli t5,t5,16
-bne t0,zero,_.L13..1
-beq a3,zero,_.L14..1
-srl t1,a6,t1
-sltu a6,zero,t1
-sub a6,t1,a6
+bne t0,zero,_.L15..1
+beq a3,zero,_.L16..1
+srl t4,a6,t4
+sltu a6,zero,t4
+sub a6,t4,a6
 mul a7,a2,a6
 mulhu t1,a2,a6
 sub a7,a0,a7
@@ -710,26 +716,26 @@ sub a5,a5,a0
 .option rvc
 add a1,zero,a5
 add a0,zero,a7
-bltu a5,a3,_.L15..1
-bne a3,a5,_.L19..1
-bltu a7,a2,_.L15..1
-_.L19..1:
+bltu a5,a3,_.L17..1
+bne a3,a5,_.L21..1
+bltu a7,a2,_.L17..1
+_.L21..1:
 sub a0,a7,a2
 sltu a7,a7,a0
 sub a5,a5,a3
 sub a1,a5,a7
 addi a6,a6,1
-j _.L15..1
-_.L14..1:
-srl a0,a5,t4
+j _.L17..1
+_.L16..1:
+srl a0,a5,t1
 li a1,0
-j _.L15..1
-_.L15..1:
+j _.L17..1
+_.L17..1:
 bne a4,zero,_.L4..1
 add a0,zero,a6
 add a1,zero,t3
 j _.L4..1
-_.L17..1:
+_.L19..1:
 li a0,-1
 li a1,-1
 ret
@@ -746,18 +752,18 @@ nop
 ret
 divided..1:
 or a5,a1,a3
-bne a5,zero,_.L27..1
-beq a2,zero,_.L27..1
-beq a4,zero,_.L29..1
+bne a5,zero,_.L29..1
+beq a2,zero,_.L29..1
+beq a4,zero,_.L31..1
 remu a0,a0,a2
 .option rvc
 li a1,0
 j next..1
 next..1:
 ret
-_.L27..1:
-j long_divided..1
 _.L29..1:
+j long_divided..1
+_.L31..1:
 divu a0,a0,a2
 li a1,0
 j next..1..n2
@@ -765,7 +771,7 @@ next..1..n2:
 ret
 signed_divided..1:
 or t3,a1,a3
-bge t3,zero,_.L36..1
+bge t3,zero,_.L38..1
 .option norvc
 add a6,zero,a3
 nop
@@ -797,11 +803,11 @@ call divided..1
 .option rvc
 add s0,zero,s3
 add a4,zero,s3
-bne s1,zero,_.L33..1
+bne s1,zero,_.L35..1
 xor s0,s3,s2
 .option norvc
 add a4,zero,s0
-_.L33..1:
+_.L35..1:
 xor a5,a0,s0
 sub a0,a5,s0
 .option rvc
@@ -820,15 +826,15 @@ sub a1,a1,a5
 .option rvc
 addi sp,sp,32
 ret
-_.L36..1:
+_.L38..1:
 j divided..1
 memcpy:
 or a5,a0,a1
 .option norvc
 andi a5,a5,3
-bne a5,zero,_.L44..1
+bne a5,zero,_.L46..1
 li a5,3
-bgeu a5,a2,_.L44..1
+bgeu a5,a2,_.L46..1
 addi a7,a2,-4
 andi a7,a7,-4
 addi a7,a7,4
@@ -836,89 +842,89 @@ add a5,a0,a7
 add a3,zero,a1
 add a4,zero,a0
 nop
-_.L42..1:
+_.L44..1:
 lw a6,0(a3)
 .option rvc
 addi a4,a4,4
 addi a3,a3,4
 sw a6,-4(a4)
-bne a4,a5,_.L42..1
+bne a4,a5,_.L44..1
 .option norvc
 andi a2,a2,3
 add a1,a1,a7
 add a3,a5,a2
-bne a2,zero,_.L43..1
-_.L48..1:
+bne a2,zero,_.L45..1
+_.L50..1:
 ret
-_.L44..1:
+_.L46..1:
 .option rvc
 add a5,zero,a0
 add a3,a5,a2
-bne a2,zero,_.L43..1
-j _.L48..1
-_.L43..1:
+bne a2,zero,_.L45..1
+j _.L50..1
+_.L45..1:
 lbu a4,0(a1)
 addi a5,a5,1
 addi a1,a1,1
 sb a4,-1(a5)
-bne a5,a3,_.L43..1
+bne a5,a3,_.L45..1
 ret
 memmove:
-bgeu a1,a0,_.L50..1
+bgeu a1,a0,_.L52..1
 addi a5,a2,-1
 .option norvc
 li a6,-1
-beq a2,zero,_.L64..1
-_.L51..1:
+beq a2,zero,_.L66..1
+_.L53..1:
 add a4,a1,a5
 lbu a3,0(a4)
 add a4,a0,a5
 sb a3,0(a4)
 .option rvc
 addi a5,a5,-1
-bne a5,a6,_.L51..1
+bne a5,a6,_.L53..1
 j next..1..n3
 next..1..n3:
 ret
-_.L50..1:
+_.L52..1:
 or a5,a0,a1
 andi a5,a5,3
-bne a5,zero,_.L58..1
+bne a5,zero,_.L60..1
 li a5,3
-bgeu a5,a2,_.L58..1
+bgeu a5,a2,_.L60..1
 addi a5,a2,-4
 andi a5,a5,-4
 addi a5,a5,4
 add a6,a1,a5
 .option norvc
 add a4,zero,a0
-_.L56..1:
+_.L58..1:
 lw a3,0(a1)
 .option rvc
 addi a1,a1,4
 addi a4,a4,4
 sw a3,-4(a4)
-bne a6,a1,_.L56..1
+bne a6,a1,_.L58..1
 andi a2,a2,3
 add a5,a5,a0
-j _.L55..1
-_.L58..1:
+j _.L57..1
+_.L60..1:
 add a5,zero,a0
-j _.L55..1
-_.L55..1:
-add a3,a1,a2
-bne a2,zero,_.L57..1
-j _.L65..1
+j _.L57..1
 _.L57..1:
+add a3,a1,a2
+bne a2,zero,_.L59..1
+j _.L67..1
+_.L59..1:
 lbu a4,0(a1)
 addi a1,a1,1
 addi a5,a5,1
 sb a4,-1(a5)
-bne a3,a1,_.L57..1
+bne a3,a1,_.L59..1
 ret
-_.L64..1:
+_.L66..1:
 ret
-_.L65..1:
+_.L67..1:
 ret
 memset:
 andi a5,a1,255
@@ -928,92 +934,92 @@ add a3,a3,a5
 slli a5,a3,16
 andi a1,a1,255
 add a3,a3,a5
-beq a2,zero,_.L78..1
+beq a2,zero,_.L80..1
 andi a5,a0,3
-beq a5,zero,_.L75..1
+beq a5,zero,_.L77..1
 .option rvc
 add a5,zero,a0
+j _.L72..1
+_.L88..1:
+bne a4,zero,_.L72..1
 j _.L70..1
-_.L86..1:
-bne a4,zero,_.L70..1
-j _.L68..1
-_.L70..1:
+_.L72..1:
 sb a1,0(a5)
 .option norvc
 addi a2,a2,-1
 addi a5,a5,1
 andi a4,a5,3
-bne a2,zero,_.L86..1
+bne a2,zero,_.L88..1
 nop
-_.L78..1:
+_.L80..1:
 ret
-_.L75..1:
+_.L77..1:
 .option rvc
 add a5,zero,a0
-j _.L68..1
-_.L68..1:
+j _.L70..1
+_.L70..1:
 li a4,3
-bgeu a4,a2,_.L87..1
+bgeu a4,a2,_.L89..1
 addi a4,a2,-4
 andi a4,a4,-4
 addi a4,a4,4
 add a4,a4,a5
-_.L71..1:
+_.L73..1:
 sw a3,0(a5)
 .option norvc
 addi a5,a5,4
-bne a4,a5,_.L71..1
+bne a4,a5,_.L73..1
 .option rvc
 andi a2,a2,3
-bne a2,zero,_.L74..1
-j _.L78..1
-_.L74..1:
+bne a2,zero,_.L76..1
+j _.L80..1
+_.L76..1:
 add a2,a2,a4
-j _.L72..1
-_.L72..1:
+j _.L74..1
+_.L74..1:
 .option norvc
 addi a4,a4,1
 sb a1,-1(a4)
-bne a2,a4,_.L72..1
+bne a2,a4,_.L74..1
 ret
-_.L87..1:
+_.L89..1:
 .option rvc
 add a4,zero,a5
-j _.L74..1
+j _.L76..1
 memcmp:
-beq a2,zero,_.L92..1
+beq a2,zero,_.L94..1
 add a2,a2,a1
-j _.L91..1
-_.L90..1:
-bne a1,a2,_.L91..1
-j _.L92..1
-_.L91..1:
+j _.L93..1
+_.L92..1:
+bne a1,a2,_.L93..1
+j _.L94..1
+_.L93..1:
 lbu a5,0(a0)
 .option norvc
 addi a0,a0,1
 lbu a4,0(a1)
 addi a1,a1,1
-beq a5,a4,_.L90..1
+beq a5,a4,_.L92..1
 sub a0,a5,a4
 nop
 nop
 ret
-_.L92..1:
+_.L94..1:
 .option rvc
 li a0,0
 ret
 __ashldi3:
 .option norvc
 add a5,zero,a0
-beq a2,zero,_.L102..1
+beq a2,zero,_.L104..1
 li a4,31
-bge a4,a2,_.L101..1
+bge a4,a2,_.L103..1
 addi a1,a2,-32
 li a0,0
 sll a1,a5,a1
 nop
 ret
-_.L101..1:
+_.L103..1:
 li a4,32
 .option rvc
 sub a4,a4,a2
@@ -1022,30 +1028,30 @@ sll a1,a1,a2
 or a1,a1,a4
 sll a0,a0,a2
 ret
-_.L102..1:
+_.L104..1:
 ret
 __lshrdi3:
-beq a2,zero,_.L103..1
+beq a2,zero,_.L105..1
 li a5,31
-bge a5,a2,_.L105..1
+bge a5,a2,_.L107..1
 addi a2,a2,-32
 srl a0,a1,a2
 li a1,0
 ret
-_.L105..1:
+_.L107..1:
 li a5,32
 sub a5,a5,a2
 sll a5,a1,a5
 srl a0,a0,a2
 or a0,a0,a5
 srl a1,a1,a2
-j _.L103..1
-_.L103..1:
+j _.L105..1
+_.L105..1:
 ret
 __ashrdi3:
-beq a2,zero,_.L107..1
+beq a2,zero,_.L109..1
 li a5,31
-blt a5,a2,_.L111..1
+blt a5,a2,_.L113..1
 li a5,32
 sub a5,a5,a2
 sll a5,a1,a5
@@ -1053,9 +1059,9 @@ srl a0,a0,a2
 .option norvc
 or a0,a0,a5
 sra a1,a1,a2
-_.L107..1:
+_.L109..1:
 ret
-_.L111..1:
+_.L113..1:
 addi a2,a2,-32
 sra a0,a1,a2
 srai a1,a1,31
@@ -1088,27 +1094,27 @@ li a4,5
 li a5,16
 li a2,32
 nop
-_.L119..1:
+_.L121..1:
 srl a3,a0,a5
 .option rvc
 addi a4,a4,-1
-beq a3,zero,_.L118..1
+beq a3,zero,_.L120..1
 sub a2,a2,a5
 .option norvc
 add a0,zero,a3
-_.L118..1:
+_.L120..1:
 srai a5,a5,1
-bne a4,zero,_.L119..1
+bne a4,zero,_.L121..1
 sub a0,a2,a0
 nop
 ret
 __ctzsi2:
-bne a0,zero,_.L135..1
+bne a0,zero,_.L137..1
 li a0,32
 nop
 nop
 ret
-_.L135..1:
+_.L137..1:
 sub a5,zero,a0
 .option rvc
 addi sp,sp,-16
@@ -1126,16 +1132,16 @@ ret
 __popcountsi2:
 add a5,zero,a0
 li a0,0
-bne a5,zero,_.L178..1
-j _.L179..1
-_.L178..1:
+bne a5,zero,_.L180..1
+j _.L181..1
+_.L180..1:
 addi a4,a5,-1
 .option norvc
 and a5,a5,a4
 addi a0,a0,1
-bne a5,zero,_.L178..1
+bne a5,zero,_.L180..1
 ret
-_.L179..1:
+_.L181..1:
 ret
 __bswapsi2:
 srli a3,a0,24

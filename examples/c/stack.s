@@ -688,7 +688,7 @@ j _.L75
 long_divided..1:
 bne a3,zero,_.L2..1
 bne a2,zero,_.L3..1
-beq a4,zero,_.L17..1
+beq a4,zero,_.L19..1
 .option norvc
 nop
 ret
@@ -712,38 +712,44 @@ sw s0,12(sp)
 sw s1,8(sp)
 sw s2,4(sp)
 sw s3,0(sp)
-li t4,0
+li t1,0
 _.L6..1:
-blt a7,zero,_.L25..1
+srli a6,a7,28
+bne a6,zero,_.L8..1
 .option rvc
-addi t4,t4,1
-slli a7,a7,1
+addi t1,t1,4
+slli a7,a7,4
 j _.L6..1
-_.L25..1:
+_.L8..1:
+blt a7,zero,_.L27..1
+addi t1,t1,1
+slli a7,a7,1
+j _.L8..1
+_.L27..1:
 .option norvc
-li t1,31
+li t4,31
 srli a6,a0,1
-sub t1,t1,t4
-beq a3,zero,_.L8..1
+sub t4,t4,t1
+beq a3,zero,_.L10..1
 srli t5,a2,1
-srl t5,t5,t1
+srl t5,t5,t4
 or a7,a7,t5
 slli t5,a1,31
 or t5,t5,a6
-j _.L9..1
-_.L8..1:
-sll a5,a5,t4
-srl a6,a6,t1
+j _.L11..1
+_.L10..1:
+sll a5,a5,t1
+srl a6,a6,t4
 or a5,a5,a6
-sll t5,a0,t4
-_.L9..1:
+sll t5,a0,t1
+_.L11..1:
 slli s3,a7,16
 srli s2,a7,16
 srli s3,s3,16
 .option rvc
 li a6,0
 li t0,2
-_.L13..1:
+_.L15..1:
 divu s1,a5,s2
 remu t2,a5,s2
 srli a5,t5,16
@@ -751,24 +757,24 @@ mul s0,s1,s3
 slli t2,t2,16
 or a5,a5,t2
 add t2,zero,s1
-bgeu a5,s0,_.L10..1
+bgeu a5,s0,_.L12..1
 addi t2,s1,-1
 add a5,a5,a7
-bltu a5,a7,_.L10..1
-bgeu a5,s0,_.L10..1
+bltu a5,a7,_.L12..1
+bgeu a5,s0,_.L12..1
 addi t2,s1,-2
 add a5,a5,a7
-_.L10..1:
+_.L12..1:
 slli a6,a6,16
 addi t0,t0,-1
 sub a5,a5,s0
 or a6,a6,t2
 slli t5,t5,16
-bne t0,zero,_.L13..1
-beq a3,zero,_.L14..1
-srl t1,a6,t1
-sltu a6,zero,t1
-sub a6,t1,a6
+bne t0,zero,_.L15..1
+beq a3,zero,_.L16..1
+srl t4,a6,t4
+sltu a6,zero,t4
+sub a6,t4,a6
 mul a7,a2,a6
 mulhu t1,a2,a6
 sub a7,a0,a7
@@ -781,26 +787,26 @@ sub a5,a5,a0
 .option rvc
 add a1,zero,a5
 add a0,zero,a7
-bltu a5,a3,_.L15..1
-bne a3,a5,_.L19..1
-bltu a7,a2,_.L15..1
-_.L19..1:
+bltu a5,a3,_.L17..1
+bne a3,a5,_.L21..1
+bltu a7,a2,_.L17..1
+_.L21..1:
 sub a0,a7,a2
 sltu a7,a7,a0
 sub a5,a5,a3
 sub a1,a5,a7
 addi a6,a6,1
-j _.L15..1
-_.L14..1:
-srl a0,a5,t4
+j _.L17..1
+_.L16..1:
+srl a0,a5,t1
 li a1,0
-j _.L15..1
-_.L15..1:
+j _.L17..1
+_.L17..1:
 bne a4,zero,_.L4..1
 add a0,zero,a6
 add a1,zero,t3
 j _.L4..1
-_.L17..1:
+_.L19..1:
 li a0,-1
 li a1,-1
 ret
@@ -817,18 +823,18 @@ nop
 ret
 divided..1:
 or a5,a1,a3
-bne a5,zero,_.L27..1
-beq a2,zero,_.L27..1
-beq a4,zero,_.L29..1
+bne a5,zero,_.L29..1
+beq a2,zero,_.L29..1
+beq a4,zero,_.L31..1
 remu a0,a0,a2
 .option rvc
 li a1,0
 j next..1..n3
 next..1..n3:
 ret
-_.L27..1:
-j long_divided..1
 _.L29..1:
+j long_divided..1
+_.L31..1:
 divu a0,a0,a2
 li a1,0
 j next..1..n4
@@ -836,7 +842,7 @@ next..1..n4:
 ret
 signed_divided..1:
 or t3,a1,a3
-bge t3,zero,_.L36..1
+bge t3,zero,_.L38..1
 .option norvc
 add a6,zero,a3
 nop
@@ -868,11 +874,11 @@ call divided..1
 .option rvc
 add s0,zero,s3
 add a4,zero,s3
-bne s1,zero,_.L33..1
+bne s1,zero,_.L35..1
 xor s0,s3,s2
 .option norvc
 add a4,zero,s0
-_.L33..1:
+_.L35..1:
 xor a5,a0,s0
 sub a0,a5,s0
 .option rvc
@@ -891,7 +897,7 @@ sub a1,a1,a5
 .option rvc
 addi sp,sp,32
 ret
-_.L36..1:
+_.L38..1:
 j divided..1
 __divdi3:
 li a4,0

@@ -325,58 +325,58 @@ add a3,a3,a5
 slli a5,a3,16
 andi a1,a1,255
 add a3,a3,a5
-beq a2,zero,_.L78..1
+beq a2,zero,_.L80..1
 andi a5,a0,3
-beq a5,zero,_.L75..1
+beq a5,zero,_.L77..1
 .option rvc
 add a5,zero,a0
+j _.L72..1
+_.L88..1:
+bne a4,zero,_.L72..1
 j _.L70..1
-_.L86..1:
-bne a4,zero,_.L70..1
-j _.L68..1
-_.L70..1:
+_.L72..1:
 sb a1,0(a5)
 .option norvc
 addi a2,a2,-1
 addi a5,a5,1
 andi a4,a5,3
-bne a2,zero,_.L86..1
+bne a2,zero,_.L88..1
 nop
-_.L78..1:
+_.L80..1:
 ret
-_.L75..1:
+_.L77..1:
 .option rvc
 add a5,zero,a0
-j _.L68..1
-_.L68..1:
+j _.L70..1
+_.L70..1:
 li a4,3
-bgeu a4,a2,_.L87..1
+bgeu a4,a2,_.L89..1
 addi a4,a2,-4
 andi a4,a4,-4
 addi a4,a4,4
 add a4,a4,a5
-_.L71..1:
+_.L73..1:
 sw a3,0(a5)
 .option norvc
 addi a5,a5,4
-bne a4,a5,_.L71..1
+bne a4,a5,_.L73..1
 .option rvc
 andi a2,a2,3
-bne a2,zero,_.L74..1
-j _.L78..1
-_.L74..1:
+bne a2,zero,_.L76..1
+j _.L80..1
+_.L76..1:
 add a2,a2,a4
-j _.L72..1
-_.L72..1:
+j _.L74..1
+_.L74..1:
 .option norvc
 addi a4,a4,1
 sb a1,-1(a4)
-bne a2,a4,_.L72..1
+bne a2,a4,_.L74..1
 ret
-_.L87..1:
+_.L89..1:
 .option rvc
 add a4,zero,a5
-j _.L74..1
+j _.L76..1
 .data
 .zero 16
 _.LC0:

@@ -10,7 +10,7 @@
 long_divided:
 	bne	a3,zero,.L2
 	bne	a2,zero,.L3
-	beq	a4,zero,.L17
+	beq	a4,zero,.L19
 	ret
 .L3:
 	divu	t3,a1,a2
@@ -27,35 +27,41 @@ long_divided:
 	sw	s1,8(sp)
 	sw	s2,4(sp)
 	sw	s3,0(sp)
-	li	t4,0
+	li	t1,0
 .L6:
-	blt	a7,zero,.L25
-	addi	t4,t4,1
-	slli	a7,a7,1
+	srli	a6,a7,28
+	bne	a6,zero,.L8
+	addi	t1,t1,4
+	slli	a7,a7,4
 	j	.L6
-.L25:
-	li	t1,31
+.L8:
+	blt	a7,zero,.L27
+	addi	t1,t1,1
+	slli	a7,a7,1
+	j	.L8
+.L27:
+	li	t4,31
 	srli	a6,a0,1
-	sub	t1,t1,t4
-	beq	a3,zero,.L8
+	sub	t4,t4,t1
+	beq	a3,zero,.L10
 	srli	t5,a2,1
-	srl	t5,t5,t1
+	srl	t5,t5,t4
 	or	a7,a7,t5
 	slli	t5,a1,31
 	or	t5,t5,a6
-	j	.L9
-.L8:
-	sll	a5,a5,t4
-	srl	a6,a6,t1
+	j	.L11
+.L10:
+	sll	a5,a5,t1
+	srl	a6,a6,t4
 	or	a5,a5,a6
-	sll	t5,a0,t4
-.L9:
+	sll	t5,a0,t1
+.L11:
 	slli	s3,a7,16
 	srli	s2,a7,16
 	srli	s3,s3,16
 	li	a6,0
 	li	t0,2
-.L13:
+.L15:
 	divu	s1,a5,s2
 	remu	t2,a5,s2
 	srli	a5,t5,16
@@ -63,24 +69,24 @@ long_divided:
 	slli	t2,t2,16
 	or	a5,a5,t2
 	mv	t2,s1
-	bleu	s0,a5,.L10
+	bleu	s0,a5,.L12
 	add	a5,a7,a5
 	addi	t2,s1,-1
-	bltu	a5,a7,.L10
-	bleu	s0,a5,.L10
+	bltu	a5,a7,.L12
+	bleu	s0,a5,.L12
 	addi	t2,s1,-2
 	add	a5,a5,a7
-.L10:
+.L12:
 	slli	a6,a6,16
 	addi	t0,t0,-1
 	sub	a5,a5,s0
 	or	a6,a6,t2
 	slli	t5,t5,16
-	bne	t0,zero,.L13
-	beq	a3,zero,.L14
-	srl	t1,a6,t1
-	snez	a6,t1
-	sub	a6,t1,a6
+	bne	t0,zero,.L15
+	beq	a3,zero,.L16
+	srl	t4,a6,t4
+	snez	a6,t4
+	sub	a6,t4,a6
 	mul	a7,a2,a6
 	mulhu	t1,a2,a6
 	sub	a7,a0,a7
@@ -91,25 +97,25 @@ long_divided:
 	sub	a5,a5,a0
 	mv	a1,a5
 	mv	a0,a7
-	bgtu	a3,a5,.L15
-	bne	a3,a5,.L19
-	bgtu	a2,a7,.L15
-.L19:
+	bgtu	a3,a5,.L17
+	bne	a3,a5,.L21
+	bgtu	a2,a7,.L17
+.L21:
 	sub	a0,a7,a2
 	sgtu	a7,a0,a7
 	sub	a5,a5,a3
 	sub	a1,a5,a7
 	addi	a6,a6,1
-	j	.L15
-.L14:
-	srl	a0,a5,t4
+	j	.L17
+.L16:
+	srl	a0,a5,t1
 	li	a1,0
-.L15:
+.L17:
 	bne	a4,zero,.L4
 	mv	a0,a6
 	mv	a1,t3
 	j	.L4
-.L17:
+.L19:
 	li	a0,-1
 	li	a1,-1
 	ret
@@ -126,15 +132,15 @@ long_divided:
 	.type	divided, @function
 divided:
 	or	a5,a1,a3
-	bne	a5,zero,.L27
-	beq	a2,zero,.L27
-	beq	a4,zero,.L29
+	bne	a5,zero,.L29
+	beq	a2,zero,.L29
+	beq	a4,zero,.L31
 	remu	a0,a0,a2
 	li	a1,0
 	ret
-.L27:
-	tail	long_divided
 .L29:
+	tail	long_divided
+.L31:
 	divu	a0,a0,a2
 	li	a1,0
 	ret
@@ -144,7 +150,7 @@ divided:
 	.type	signed_divided, @function
 signed_divided:
 	or	t3,a1,a3
-	bge	t3,zero,.L36
+	bge	t3,zero,.L38
 	addi	sp,sp,-32
 	sw	s2,16(sp)
 	sw	s3,12(sp)
@@ -170,10 +176,10 @@ signed_divided:
 	call	divided
 	mv	s0,s3
 	mv	a4,s3
-	bne	s1,zero,.L33
+	bne	s1,zero,.L35
 	xor	s0,s3,s2
 	mv	a4,s0
-.L33:
+.L35:
 	xor	a5,a0,s0
 	sub	a0,a5,s0
 	lw	ra,28(sp)
@@ -187,7 +193,7 @@ signed_divided:
 	sub	a1,a1,a5
 	addi	sp,sp,32
 	jr	ra
-.L36:
+.L38:
 	tail	divided
 	.size	signed_divided, .-signed_divided
 	.section	.text.memcpy,"ax",@progbits
@@ -197,37 +203,37 @@ signed_divided:
 memcpy:
 	or	a5,a0,a1
 	andi	a5,a5,3
-	bne	a5,zero,.L44
+	bne	a5,zero,.L46
 	li	a5,3
-	bleu	a2,a5,.L44
+	bleu	a2,a5,.L46
 	addi	a7,a2,-4
 	andi	a7,a7,-4
 	addi	a7,a7,4
 	add	a5,a0,a7
 	mv	a3,a1
 	mv	a4,a0
-.L42:
+.L44:
 	lw	a6,0(a3)
 	addi	a4,a4,4
 	addi	a3,a3,4
 	sw	a6,-4(a4)
-	bne	a4,a5,.L42
+	bne	a4,a5,.L44
 	andi	a2,a2,3
 	add	a1,a1,a7
 	add	a3,a5,a2
-	bne	a2,zero,.L43
-.L48:
+	bne	a2,zero,.L45
+.L50:
 	ret
-.L44:
+.L46:
 	mv	a5,a0
 	add	a3,a5,a2
-	beq	a2,zero,.L48
-.L43:
+	beq	a2,zero,.L50
+.L45:
 	lbu	a4,0(a1)
 	addi	a5,a5,1
 	addi	a1,a1,1
 	sb	a4,-1(a5)
-	bne	a5,a3,.L43
+	bne	a5,a3,.L45
 	ret
 	.size	memcpy, .-memcpy
 	.section	.text.memmove,"ax",@progbits
@@ -235,53 +241,53 @@ memcpy:
 	.globl	memmove
 	.type	memmove, @function
 memmove:
-	bleu	a0,a1,.L50
+	bleu	a0,a1,.L52
 	addi	a5,a2,-1
 	li	a6,-1
-	beq	a2,zero,.L64
-.L51:
+	beq	a2,zero,.L66
+.L53:
 	add	a4,a1,a5
 	lbu	a3,0(a4)
 	add	a4,a0,a5
 	addi	a5,a5,-1
 	sb	a3,0(a4)
-	bne	a5,a6,.L51
+	bne	a5,a6,.L53
 	ret
-.L50:
+.L52:
 	or	a5,a0,a1
 	andi	a5,a5,3
-	bne	a5,zero,.L58
+	bne	a5,zero,.L60
 	li	a5,3
-	bleu	a2,a5,.L58
+	bleu	a2,a5,.L60
 	addi	a5,a2,-4
 	andi	a5,a5,-4
 	addi	a5,a5,4
 	add	a6,a1,a5
 	mv	a4,a0
-.L56:
+.L58:
 	lw	a3,0(a1)
 	addi	a1,a1,4
 	addi	a4,a4,4
 	sw	a3,-4(a4)
-	bne	a6,a1,.L56
+	bne	a6,a1,.L58
 	andi	a2,a2,3
 	add	a5,a0,a5
-	j	.L55
-.L58:
+	j	.L57
+.L60:
 	mv	a5,a0
-.L55:
-	add	a3,a1,a2
-	beq	a2,zero,.L65
 .L57:
+	add	a3,a1,a2
+	beq	a2,zero,.L67
+.L59:
 	lbu	a4,0(a1)
 	addi	a1,a1,1
 	addi	a5,a5,1
 	sb	a4,-1(a5)
-	bne	a3,a1,.L57
+	bne	a3,a1,.L59
 	ret
-.L64:
+.L66:
 	ret
-.L65:
+.L67:
 	ret
 	.size	memmove, .-memmove
 	.section	.text.memset,"ax",@progbits
@@ -295,66 +301,66 @@ memset:
 	slli	a5,a3,16
 	andi	a1,a1,0xff
 	add	a3,a3,a5
-	beq	a2,zero,.L78
+	beq	a2,zero,.L80
 	andi	a5,a0,3
-	beq	a5,zero,.L75
+	beq	a5,zero,.L77
 	mv	a5,a0
-	j	.L70
-.L86:
-	beq	a4,zero,.L68
-.L70:
+	j	.L72
+.L88:
+	beq	a4,zero,.L70
+.L72:
 	sb	a1,0(a5)
 	addi	a2,a2,-1
 	addi	a5,a5,1
 	andi	a4,a5,3
-	bne	a2,zero,.L86
-.L78:
+	bne	a2,zero,.L88
+.L80:
 	ret
-.L75:
+.L77:
 	mv	a5,a0
-.L68:
+.L70:
 	li	a4,3
-	bleu	a2,a4,.L87
+	bleu	a2,a4,.L89
 	addi	a4,a2,-4
 	andi	a4,a4,-4
 	addi	a4,a4,4
 	add	a4,a5,a4
-.L71:
+.L73:
 	sw	a3,0(a5)
 	addi	a5,a5,4
-	bne	a4,a5,.L71
+	bne	a4,a5,.L73
 	andi	a2,a2,3
-	beq	a2,zero,.L78
-.L74:
+	beq	a2,zero,.L80
+.L76:
 	add	a2,a4,a2
-.L72:
+.L74:
 	addi	a4,a4,1
 	sb	a1,-1(a4)
-	bne	a2,a4,.L72
+	bne	a2,a4,.L74
 	ret
-.L87:
+.L89:
 	mv	a4,a5
-	j	.L74
+	j	.L76
 	.size	memset, .-memset
 	.section	.text.memcmp,"ax",@progbits
 	.align	1
 	.globl	memcmp
 	.type	memcmp, @function
 memcmp:
-	beq	a2,zero,.L92
+	beq	a2,zero,.L94
 	add	a2,a1,a2
-	j	.L91
-.L90:
-	beq	a1,a2,.L92
-.L91:
+	j	.L93
+.L92:
+	beq	a1,a2,.L94
+.L93:
 	lbu	a5,0(a0)
 	lbu	a4,0(a1)
 	addi	a0,a0,1
 	addi	a1,a1,1
-	beq	a5,a4,.L90
+	beq	a5,a4,.L92
 	sub	a0,a5,a4
 	ret
-.L92:
+.L94:
 	li	a0,0
 	ret
 	.size	memcmp, .-memcmp
@@ -364,15 +370,15 @@ memcmp:
 	.type	strlen, @function
 strlen:
 	lbu	a5,0(a0)
-	beq	a5,zero,.L97
+	beq	a5,zero,.L99
 	mv	a5,a0
-.L96:
+.L98:
 	lbu	a4,1(a5)
 	addi	a5,a5,1
-	bne	a4,zero,.L96
+	bne	a4,zero,.L98
 	sub	a0,a5,a0
 	ret
-.L97:
+.L99:
 	li	a0,0
 	ret
 	.size	strlen, .-strlen
@@ -382,14 +388,14 @@ strlen:
 	.type	__ashldi3, @function
 __ashldi3:
 	mv	a5,a0
-	beq	a2,zero,.L102
+	beq	a2,zero,.L104
 	li	a4,31
-	ble	a2,a4,.L101
+	ble	a2,a4,.L103
 	addi	a1,a2,-32
 	li	a0,0
 	sll	a1,a5,a1
 	ret
-.L101:
+.L103:
 	li	a4,32
 	sub	a4,a4,a2
 	srl	a4,a0,a4
@@ -397,7 +403,7 @@ __ashldi3:
 	sll	a0,a0,a2
 	or	a1,a4,a1
 	ret
-.L102:
+.L104:
 	ret
 	.size	__ashldi3, .-__ashldi3
 	.section	.text.__lshrdi3,"ax",@progbits
@@ -405,21 +411,21 @@ __ashldi3:
 	.globl	__lshrdi3
 	.type	__lshrdi3, @function
 __lshrdi3:
-	beq	a2,zero,.L103
+	beq	a2,zero,.L105
 	li	a5,31
-	ble	a2,a5,.L105
+	ble	a2,a5,.L107
 	addi	a2,a2,-32
 	srl	a0,a1,a2
 	li	a1,0
 	ret
-.L105:
+.L107:
 	li	a5,32
 	sub	a5,a5,a2
 	sll	a5,a1,a5
 	srl	a0,a0,a2
 	or	a0,a5,a0
 	srl	a1,a1,a2
-.L103:
+.L105:
 	ret
 	.size	__lshrdi3, .-__lshrdi3
 	.section	.text.__ashrdi3,"ax",@progbits
@@ -427,18 +433,18 @@ __lshrdi3:
 	.globl	__ashrdi3
 	.type	__ashrdi3, @function
 __ashrdi3:
-	beq	a2,zero,.L107
+	beq	a2,zero,.L109
 	li	a5,31
-	bgt	a2,a5,.L111
+	bgt	a2,a5,.L113
 	li	a5,32
 	sub	a5,a5,a2
 	sll	a5,a1,a5
 	srl	a0,a0,a2
 	or	a0,a5,a0
 	sra	a1,a1,a2
-.L107:
+.L109:
 	ret
-.L111:
+.L113:
 	addi	a2,a2,-32
 	sra	a0,a1,a2
 	srai	a1,a1,31
@@ -497,15 +503,15 @@ __clzsi2:
 	li	a4,5
 	li	a5,16
 	li	a2,32
-.L119:
+.L121:
 	srl	a3,a0,a5
 	addi	a4,a4,-1
-	beq	a3,zero,.L118
+	beq	a3,zero,.L120
 	sub	a2,a2,a5
 	mv	a0,a3
-.L118:
+.L120:
 	srai	a5,a5,1
-	bne	a4,zero,.L119
+	bne	a4,zero,.L121
 	sub	a0,a2,a0
 	ret
 	.size	__clzsi2, .-__clzsi2
@@ -514,10 +520,10 @@ __clzsi2:
 	.globl	__clzdi2
 	.type	__clzdi2, @function
 __clzdi2:
-	beq	a1,zero,.L125
+	beq	a1,zero,.L127
 	mv	a0,a1
 	tail	__clzsi2
-.L125:
+.L127:
 	addi	sp,sp,-16
 	sw	ra,12(sp)
 	call	__clzsi2
@@ -531,10 +537,10 @@ __clzdi2:
 	.globl	__ctzsi2
 	.type	__ctzsi2, @function
 __ctzsi2:
-	bne	a0,zero,.L135
+	bne	a0,zero,.L137
 	li	a0,32
 	ret
-.L135:
+.L137:
 	neg	a5,a0
 	addi	sp,sp,-16
 	and	a0,a5,a0
@@ -553,13 +559,13 @@ __ctzsi2:
 __ctzdi2:
 	addi	sp,sp,-16
 	sw	ra,12(sp)
-	bne	a0,zero,.L143
+	bne	a0,zero,.L145
 	li	a0,64
-	bne	a1,zero,.L144
+	bne	a1,zero,.L146
 	lw	ra,12(sp)
 	addi	sp,sp,16
 	jr	ra
-.L144:
+.L146:
 	neg	a0,a1
 	and	a0,a0,a1
 	call	__clzsi2
@@ -568,7 +574,7 @@ __ctzdi2:
 	sub	a0,a5,a0
 	addi	sp,sp,16
 	jr	ra
-.L143:
+.L145:
 	neg	a5,a0
 	and	a0,a5,a0
 	call	__clzsi2
@@ -583,10 +589,10 @@ __ctzdi2:
 	.globl	__ffssi2
 	.type	__ffssi2, @function
 __ffssi2:
-	bne	a0,zero,.L152
+	bne	a0,zero,.L154
 	li	a0,0
 	ret
-.L152:
+.L154:
 	neg	a5,a0
 	addi	sp,sp,-16
 	and	a0,a5,a0
@@ -604,19 +610,19 @@ __ffssi2:
 	.type	__ffsdi2, @function
 __ffsdi2:
 	or	a5,a0,a1
-	bne	a5,zero,.L166
+	bne	a5,zero,.L168
 	li	a0,0
 	ret
-.L166:
+.L168:
 	addi	sp,sp,-16
 	sw	ra,12(sp)
-	bne	a0,zero,.L167
+	bne	a0,zero,.L169
 	li	a0,65
-	bne	a1,zero,.L168
+	bne	a1,zero,.L170
 	lw	ra,12(sp)
 	addi	sp,sp,16
 	jr	ra
-.L168:
+.L170:
 	neg	a0,a1
 	and	a0,a0,a1
 	call	__clzsi2
@@ -625,7 +631,7 @@ __ffsdi2:
 	sub	a0,a5,a0
 	addi	sp,sp,16
 	jr	ra
-.L167:
+.L169:
 	neg	a5,a0
 	and	a0,a5,a0
 	call	__clzsi2
@@ -658,14 +664,14 @@ __clrsbdi2:
 	addi	sp,sp,-16
 	sw	ra,12(sp)
 	srai	a5,a1,31
-	beq	a1,a5,.L175
+	beq	a1,a5,.L177
 	xor	a0,a1,a5
 	call	__clzsi2
 	lw	ra,12(sp)
 	addi	a0,a0,-1
 	addi	sp,sp,16
 	jr	ra
-.L175:
+.L177:
 	xor	a0,a1,a0
 	call	__clzsi2
 	lw	ra,12(sp)
@@ -680,14 +686,14 @@ __clrsbdi2:
 __popcountsi2:
 	mv	a5,a0
 	li	a0,0
-	beq	a5,zero,.L179
-.L178:
+	beq	a5,zero,.L181
+.L180:
 	addi	a4,a5,-1
 	and	a5,a5,a4
 	addi	a0,a0,1
-	bne	a5,zero,.L178
+	bne	a5,zero,.L180
 	ret
-.L179:
+.L181:
 	ret
 	.size	__popcountsi2, .-__popcountsi2
 	.section	.text.__popcountdi2,"ax",@progbits
@@ -697,22 +703,22 @@ __popcountsi2:
 __popcountdi2:
 	mv	a5,a0
 	li	a0,0
-	beq	a5,zero,.L182
-.L183:
+	beq	a5,zero,.L184
+.L185:
 	addi	a4,a5,-1
 	and	a5,a5,a4
 	addi	a0,a0,1
-	bne	a5,zero,.L183
-.L182:
-	beq	a1,zero,.L181
+	bne	a5,zero,.L185
+.L184:
+	beq	a1,zero,.L183
 	li	a5,0
-.L185:
+.L187:
 	addi	a4,a1,-1
 	and	a1,a1,a4
 	addi	a5,a5,1
-	bne	a1,zero,.L185
+	bne	a1,zero,.L187
 	add	a0,a0,a5
-.L181:
+.L183:
 	ret
 	.size	__popcountdi2, .-__popcountdi2
 	.section	.text.__paritysi2,"ax",@progbits
@@ -720,16 +726,16 @@ __popcountdi2:
 	.globl	__paritysi2
 	.type	__paritysi2, @function
 __paritysi2:
-	beq	a0,zero,.L195
+	beq	a0,zero,.L197
 	li	a5,0
-.L194:
+.L196:
 	addi	a4,a0,-1
 	and	a0,a0,a4
 	addi	a5,a5,1
-	bne	a0,zero,.L194
+	bne	a0,zero,.L196
 	andi	a0,a5,1
 	ret
-.L195:
+.L197:
 	li	a0,0
 	ret
 	.size	__paritysi2, .-__paritysi2
@@ -739,16 +745,16 @@ __paritysi2:
 	.type	__paritydi2, @function
 __paritydi2:
 	xor	a5,a0,a1
-	beq	a0,a1,.L200
+	beq	a0,a1,.L202
 	li	a0,0
-.L199:
+.L201:
 	addi	a4,a5,-1
 	and	a5,a5,a4
 	addi	a0,a0,1
-	bne	a5,zero,.L199
+	bne	a5,zero,.L201
 	andi	a0,a0,1
 	ret
-.L200:
+.L202:
 	li	a0,0
 	ret
 	.size	__paritydi2, .-__paritydi2
@@ -813,15 +819,15 @@ __cxa_pure_virtual:
 _Znwj:
 	addi	sp,sp,-16
 	sw	ra,12(sp)
-	bne	a0,zero,.L206
+	bne	a0,zero,.L208
 	li	a0,1
-.L206:
+.L208:
 	call	malloc
-	beq	a0,zero,.L209
+	beq	a0,zero,.L211
 	lw	ra,12(sp)
 	addi	sp,sp,16
 	jr	ra
-.L209:
+.L211:
 	ebreak
 	.size	_Znwj, .-_Znwj
 	.section	.text._Znaj,"ax",@progbits
@@ -831,15 +837,15 @@ _Znwj:
 _Znaj:
 	addi	sp,sp,-16
 	sw	ra,12(sp)
-	bne	a0,zero,.L211
+	bne	a0,zero,.L213
 	li	a0,1
-.L211:
+.L213:
 	call	malloc
-	beq	a0,zero,.L214
+	beq	a0,zero,.L216
 	lw	ra,12(sp)
 	addi	sp,sp,16
 	jr	ra
-.L214:
+.L216:
 	ebreak
 	.size	_Znaj, .-_Znaj
 	.section	.text._ZdlPv,"ax",@progbits

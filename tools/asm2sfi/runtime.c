@@ -142,6 +142,8 @@ static __attribute__((noinline, optimize("Os"))) u64 long_divided(u64 dividend, 
         rest = high % below;
         top = below;
     }
+    for (; !(top >> 28); top <<= 4)
+        shift += 4;
     for (; !(top >> 31); top <<= 1)
         shift++;
     if (above) {
