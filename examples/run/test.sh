@@ -26,7 +26,7 @@ report_as $? "the libraries are linked" "$library" "$(cat "$room/log")"
 
 # ---- the hosts: a command line for each example of each language
 declare -A hosts=()
-examples=(console function messages)
+examples=(console function messages words)
 warnings=(-O2 -Wall -Wextra -pedantic -Werror -I"$top/crates/sfi_run/include")
 
 build_c() {
@@ -148,6 +148,23 @@ status 0" "$room/squares.image"
 0 is cut off after $(steps_of 0 2) steps
 1 is cut off after $(steps_of 1 2) steps
 status 0" "$room/squares.image" 2
+    # by C: 10 for a word and 1 for a letter; the steps are those of C, where main, two calls and 10000 more were done
+    image "$here/words.s" 2 words
+    local steps
+    steps=$("$room/words" "$room/words.image" "a plug-in of mine" x | sed -n 's/cut off after \([0-9]*\) steps/\1/p')
+    says "a plug-in in C" words "A Plug-In Of Mine 63
+X 11
+cut off after $steps steps
+status 0" "$room/words.image" "a plug-in of mine" x
+    says "a plug-in in C that has no room for a text" words "status 1" "$room/words.image" "$far"
+    compiled_anew
+}
+
+# The plug-in in C, where a compiler is there: another compiler makes other code, which does the same.
+compiled_anew() {
+    has riscv64-unknown-elf-gcc || { skip 1 "words_plugin.c" "gcc for RISC-V isn't there" && return; }
+    "$top/tools/sfi-cc" --program "$SFI" -Wall -Werror --gate price=2 "$here/words_plugin.c" 2>"$room/log" | xxd -r -p >"$room/anew.image"
+    report "words_plugin.c is compiled" "Two Words 28" "$("$room/words" "$room/anew.image" "two words" 2>&1 | head -n 1)"
 }
 
 steps_of() { # a sandbox of squares.s, and how many turns of 100 steps each gets: a number comes back in the next one
@@ -191,9 +208,9 @@ documented() {
 
 # ---- what else is tried
 memory() {
-    has valgrind || { skip 3 "the hosts in C under valgrind" "valgrind isn't there" && return; }
+    has valgrind || { skip 4 "the hosts in C under valgrind" "valgrind isn't there" && return; }
     local words found
-    for words in "console $room/primes.image 40 97" "function $room/turn.image plug-in" "messages $room/squares.image"; do
+    for words in "console $room/primes.image 40 97" "function $room/turn.image plug-in" "messages $room/squares.image" "words $room/words.image text"; do
         found=$(cd "$room" && valgrind -q --error-exitcode=9 --leak-check=full --show-leak-kinds=all ./$words 2>&1 >"$room/said")
         report "valgrind $words" "" "$found"
     done

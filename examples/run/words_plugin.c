@@ -1,0 +1,42 @@
+/* A plug-in in C that is called as a function: words.s is what `tools/sfi-cc -c --gate price=2 words_plugin.c` makes of it.
+ * Its main exits with the address of a table: which functions the host may enter, and where it may put a text. */
+#include "gates.h"
+
+unsigned price(unsigned words, unsigned letters); /* a gate: the host's answer */
+
+static int is_letter(char it) {
+    return (it | 32) >= 'a' && (it | 32) <= 'z';
+}
+
+/* Begins each word with a capital letter. It exits, since a function that is entered has nowhere to return to. */
+static void capitalize(char *at, unsigned length) {
+    unsigned words = 0, letters = 0;
+    for (unsigned k = 0; k < length; k++)
+        if (is_letter(at[k])) {
+            letters++;
+            if (k == 0 || !is_letter(at[k - 1])) {
+                at[k] &= ~32;
+                words++;
+            }
+        }
+    exit_with((int)price(words, letters));
+}
+
+/* Never ends, and calls the host all the while. */
+static void ask_forever(void) {
+    for (;;)
+        price(0, 0);
+}
+
+static char text[256];
+
+static const struct {
+    void (*capitalize)(char *, unsigned);
+    void (*ask_forever)(void);
+    char *text;
+    unsigned room;
+} table = {capitalize, ask_forever, text, sizeof text};
+
+int main(void) {
+    return (int)&table;
+}
