@@ -83,7 +83,8 @@ class Call:
 
     def reply(self, a0: int, a1: int | None = None) -> None:
         """Has the sandbox go on after the call in its next turn, with these in a0 and a1. Without an a1 that of the call
-        stays."""
+        stays. Raises ValueError where one isn't from 0 to 2^32 - 1: -1 is 0xFFFFFFFF here, and what is computed of what the
+        sandbox passed wants `& 0xFFFFFFFF`."""
         self.sandbox.reply(a0, self.a1 if a1 is None else a1)
 
     def exit(self, number: int) -> None:
@@ -133,7 +134,7 @@ class World:
     the end of a `with`, or when nothing refers to it any more."""
 
     def __init__(self, image: bytes, library: Library | None = None) -> None:
-        """Checks the image's own bytes, and makes the world of its sandboxes, each ready at its start. Raises Refused or
+        """Checks the image's own bytes (`bytes.fromhex` of what `sfi build` prints), and makes the world of its sandboxes, each ready at its start. Raises Refused or
         NoImage where it isn't accepted, MemoryError where there is no memory for it, and OSError where there is no
         library."""
         self._raw = _library.World()
@@ -239,7 +240,7 @@ class Sandbox:
 
     def reply(self, a0: int, a1: int) -> None:
         """Replies to the call at which it stands: it goes on after it in its next turn, with these in a0 and a1. Raises
-        NotWaiting where it stands at no call."""
+        NotWaiting where it stands at no call, and ValueError as `Call.reply` does."""
         if not self._call("reply", _word(a0), _word(a1)):
             raise NotWaiting(f"sandbox {self._number} stands at no call")
 

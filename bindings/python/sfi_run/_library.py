@@ -75,7 +75,10 @@ class Library:
 
     def __init__(self, path: str | os.PathLike[str] | None = None) -> None:
         """Loads the library of that path, or else the one that `places` finds. OSError where there is none."""
-        handle = ctypes.CDLL(os.fspath(path) if path is not None else places()[0])
+        try:
+            handle = ctypes.CDLL(os.fspath(path) if path is not None else places()[0])
+        except OSError as error:
+            raise OSError(f"{error}; SFI_RUN_LIBRARY has to name the library, or ./install to have installed it") from error
         self._functions: dict[str, Callable[..., Any]] = {}
         for name, (result, arguments) in _CALLS.items():
             function = getattr(handle, f"sfi_run_{name}")

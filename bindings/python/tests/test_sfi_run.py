@@ -84,7 +84,7 @@ class Loading(unittest.TestCase):
         self.assertEqual(world[0].steps, 0)
 
     def test_a_library_that_is_not_there(self):
-        with self.assertRaises(OSError):
+        with self.assertRaisesRegex(OSError, "/none/libsfi_run.so: .*; SFI_RUN_LIBRARY has to name"):
             sfi_run.Library("/none/libsfi_run.so")
 
 
