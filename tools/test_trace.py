@@ -226,7 +226,8 @@ class Faults(Traces):
     def test_what_is_told(self):
         refused = self.write("refused.hex", "00")
         for words, told in (([self.room / "none.hex"], "can't be read: No such file or directory"), ([refused], "layout fault"),
-                            ([self.write("bad.s", "x\n")], "source fault")):
+                            ([self.write("bad.s", "x\n")], "source fault"), ([self.write("digits.hex", "0g")], "isn't hexadecimal"),
+                            ([self.write("a.image", "")], "is neither an image")):
             status, lines, said = self.call(*words)
             self.assertEqual((status, lines), (1, []))
             self.assertIn(told, said)

@@ -13,6 +13,7 @@ LISTED = re.compile(r"^([0-9a-f]{8}) ([0-9a-f]{4,8}) (.*)$", re.MULTILINE)
 REGION = re.compile(r"^sandbox (\d+) code ([0-9a-f]{8}) (\d+) data ", re.MULTILINE)
 MAPPED = re.compile(r"^sandbox=(\d+) (gate|code|data) (\S+) at=([0-9a-f]{8})$", re.MULTILINE)
 CALL = re.compile(r"^jal x([1-9]\d*), (-?\d+)$")
+SOURCES = (".c", ".i", ".cc", ".cpp", ".cxx", ".C", ".ii", ".s", ".asm", ".S")  # what sfi-cc takes
 TOLD = re.compile(r"^([0-9a-f]{8}): (?:the stub of the gate (\S+)|(the start, before main)|(\S+), (\S+)).*$", re.MULTILINE)
 
 
@@ -127,6 +128,11 @@ def program(sfi, words):
         except (OSError, UnicodeDecodeError) as error:
             raise Failed(f"{words[0]} can't be read: {getattr(error, 'strerror', error)}") from error
         if words[0].endswith(".hex"):
-            return Program(sfi, text)
+            try:
+                return Program(sfi, text)
+            except ValueError as error:
+                raise Failed(f"{words[0]} isn't hexadecimal") from error
         return Program(sfi, run(sfi, "build", given=text), run(sfi, "map", given=text))
+    if not any(it.endswith(SOURCES) for it in words):
+        raise Failed(f"{words[0]} is neither an image in hexadecimal (.hex) nor a source text (.s) nor a file for sfi-cc")
     return Compiled(sfi, words)
