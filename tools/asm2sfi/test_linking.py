@@ -75,7 +75,7 @@ class Symbols(unittest.TestCase):
         rows = [("__adddf3", "floating point"), ("__fixunsdfsi", "floating point"), ("__floatundisf", "floating point"),
                 ("__extendsfdf2", "floating point"), ("__powidf2", "floating point"), ("__divsc3", "floating point"),
                 ("__unordtf2", "floating point"), ("__riscv_save_1", "-mno-save-restore"), ("__cxa_throw", "exceptions"),
-                ("__cxa_atexit", "a destructor"), ("__tls_get_addr", "thread-local")]
+                ("__cxa_atexit", "a destructor"), ("alloca", "the compiler"), ("__tls_get_addr", "thread-local")]
         for name, why in rows:
             self.assertIn(why, why_undefined(name), name)
         for name in ("__sync_fetch_and_add_16", "__atomic_fetch_add_16", "__stdcall", "__divdi3", "__ffssi2", "printf"):
