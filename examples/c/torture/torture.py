@@ -252,6 +252,8 @@ def expected(case, said, library):
     """Why a test can't pass; nothing if it should."""
     if case.name in WANT_LIBRARY and not library:
         return "it wants the whole C library (--library FOLDER)"
+    if case.compiler == "clang" and case.name in WANT_BUILTINS and not library:
+        return "it wants functions that clang knows, as with the whole C library (--library FOLDER)"
     if (case.compiler, case.name) in UNDEFINED:
         return UNDEFINED[case.compiler, case.name]
     return CANNOT_PASS.get(case.name) if said.startswith("refused: ") else None
@@ -287,6 +289,7 @@ CANNOT_PASS = {
 }
 WANT_LIBRARY = set("""20210505-1 920501-8 930513-1 980709-1 990826-0 fprintf-1 fprintf-chk-1 gofast pr56982 vfprintf-1
                       fp-cmp-1 fp-cmp-2 fp-cmp-3""".split())  # FILE, floating point in printf, or more headers
+WANT_BUILTINS = set("20020314-1 20020720-1 20021113-1 20030125-1 20040223-1 941202-1 pr22061-1".split())
 
 
 def main():
