@@ -2,7 +2,7 @@
 """Makes the libraries that programs are linked with, of those that rt built: for each crate a static one, with the C files
 that it needs in it, and a shared one, which exports the calls of its header alone.
 
-    tools/libraries.py                              # of crates/CRATE/out/libCRATE.a, in crates/CRATE/out/linked
+    tools/libraries.py                              # of each crates/CRATE/out/libCRATE.a that is built, in crates/CRATE/out/linked
     tools/libraries.py CRATE LIBRARY FOLDER         # of the static library LIBRARY, in FOLDER
 
 The crates are sfi_c and sfi_run. It takes gcc and ar. What is newer than all that it is made of stays.
@@ -92,7 +92,10 @@ def make(crate, library=None, folder=None):
 def main(words):
     if words and (len(words) != 3 or words[0] not in HEADERS):
         sys.exit("usage: tools/libraries.py [CRATE LIBRARY FOLDER]")
-    for wanted in [words] if words else [[crate] for crate in HEADERS]:
+    found = [words] if words else [[crate] for crate in HEADERS if os.path.exists(built(crate))]
+    if not found:
+        sys.exit(f"libraries: neither {' nor '.join(os.path.relpath(built(it)) for it in HEADERS)} is built")
+    for wanted in found:
         for made in make(*wanted):
             print(os.path.relpath(made))
 
