@@ -30,7 +30,8 @@
  * What a sandbox leaves in its data, and passes in a call, may be any bytes and numbers at all: test them before you rely
  * on them.
  *
- * Link libsfi_run.a and crates/sfi_run/c/heap.c (docs/EMBEDDING.md has the command lines).
+ * Link libsfi_run.a and crates/sfi_run/c/heap.c, which an installed library has in it (docs/EMBEDDING.md has the command
+ * lines).
  */
 #ifndef SFI_RUN_H
 #define SFI_RUN_H
@@ -147,22 +148,26 @@ uint32_t sfi_run_event(struct sfi_run_world *world, uint32_t sandbox, struct sfi
  */
 bool sfi_run_reply(struct sfi_run_world *world, uint32_t sandbox, uint32_t a0, uint32_t a1);
 
-/* The other reply: the sandbox stops at the call, with that number. Returns false likewise. */
+/*
+ * The other reply: the sandbox stops at the call, with that number. a0 becomes that number, and a1 0. Returns false
+ * likewise.
+ */
 bool sfi_run_exit(struct sfi_run_world *world, uint32_t sandbox, uint32_t number);
 
 /* ---- between turns: whether the sandbox is ready, stands at a call or has stopped */
 
 /*
  * Copies `length` bytes of the sandbox's data, from the address `at` on, to `bytes`; or from `bytes` into its data. All of
- * them, or returns false, where one of the addresses is none of its data region's, and changes nothing.
+ * them; or returns false, where there is no such sandbox or one of the addresses is none of its data region's, and changes
+ * nothing.
  */
 bool sfi_run_read(struct sfi_run_world *world, uint32_t sandbox, uint32_t at, uint8_t *bytes, size_t length);
 bool sfi_run_write(struct sfi_run_world *world, uint32_t sandbox, uint32_t at, const uint8_t *bytes, size_t length);
 
 /*
  * Makes a sandbox that has stopped ready at pc, with these arguments in a0 to a7, as a function is called; the other
- * registers are as sfi_run_load sets them. Its data stay, and its steps are counted on. Returns false where it hasn't
- * stopped, or no bundle of its code begins at pc, and changes nothing then.
+ * registers are as sfi_run_load sets them. Its data stay, and its steps are counted on. Returns false where there
+ * is no such sandbox, it hasn't stopped, or no bundle of its code begins at pc, and changes nothing then.
  */
 bool sfi_run_enter(struct sfi_run_world *world, uint32_t sandbox, uint32_t pc, const uint32_t arguments[8]);
 
