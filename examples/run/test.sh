@@ -1,5 +1,5 @@
 #!/usr/bin/env bash
-# Builds the hosts in C, Python and Rust, and runs them: the console beside `sfi run` on all examples and the C programs, in
+# Builds the hosts in C (also for aarch64), Python and Rust, and runs them: the console beside `sfi run` on all examples and the C programs, in
 # both formats and with turns of several lengths; a plug-in that is called as a function; and two that exchange words. Then
 # the bindings' own tests. Says what it skips for want of a tool.
 #
@@ -38,6 +38,22 @@ build_c() {
     done
 }
 
+# The same hosts for aarch64, over the library that tools/build_library.py builds for it.
+build_arm() {
+    local arm name
+    arm=$(dirname "$library")/aarch64-unknown-linux-gnu/libsfi_run.a
+    for name in aarch64-linux-gnu-gcc qemu-aarch64; do
+        has "$name" || { skip 1 "hosts in C on aarch64" "$name isn't there" && return; }
+    done
+    [ -f "$arm" ] || { skip 1 "hosts in C on aarch64" "$arm isn't built (tools/build_library.py sfi_run)" && return; }
+    for name in "${examples[@]}"; do
+        aarch64-linux-gnu-gcc -static -std=c11 "${warnings[@]}" "$here/$name.c" "$top/crates/sfi_run/c/heap.c" "$arm" \
+            -o "$room/arm_$name" >"$room/log" 2>&1
+        report_as $? "$name.c is built for aarch64" "no message" "$(cat "$room/log")"
+        hosts[aarch64 $name]="qemu-aarch64 $room/arm_$name"
+    done
+}
+
 build_rust() {
     has cargo || { skip 1 "hosts in Rust" "cargo isn't there" && return; }
     local name
@@ -72,7 +88,7 @@ install_python() {
 
 languages() { # an example: the languages that have a host of it
     local language
-    for language in C Python Rust; do
+    for language in C aarch64 Python Rust; do
         [ -z "${hosts[$language $1]:-}" ] || echo "$language"
     done
 }
@@ -243,6 +259,7 @@ bindings() {
 }
 
 build_c
+build_arm
 install_python
 build_rust
 if has xxd; then
