@@ -89,8 +89,9 @@ def release(folder):
         fail(f"{' and '.join(missing)} isn't built")
     if git("status", "--porcelain"):
         fail("not all is committed: git status")
-    if stale():
-        fail(f"{stale()[0].relative_to(TOP)} is older than a source of it")
+    late = stale()
+    if late:
+        fail(f"{late[0].relative_to(TOP)} is older than a source of it")
     files = contents()
     files["SHA256SUMS"] = checksums(files), False
     name = f"suygapid-{version.version()}-{MACHINE}"
