@@ -1,20 +1,19 @@
 #!/usr/bin/env python3
-"""Compares docs/DEFINITIONS.md with the words that contracts rest on, and counts of lines in documents with the files.
+"""Makes docs/DEFINITIONS.md and the counts of lines in documents, and compares them with the files.
 
-    tools/definitions.py [--words]
+    tools/definitions.py             # compares, and prints a line for each difference and last `N passed, M failed`
+    tools/definitions.py --write     # writes the page and the counts
+    tools/definitions.py CRATE ..    # prints each word of these crates: its line, its comment, and one that cites it
 
-A word is a definition in a crate's specs/, but for specs/private, which private contracts alone cite, and specs/mirror. It
-has to be named in a row of its crate's section where a public contract cites it (that of a `pub fn`, of a `pub trait`, or
-an impl's ghost items), or where a word on which such a contract rests is defined by it in another file. Any other word on
-which contracts rest is a part, of which its own file alone makes words that are named. "X and its parts" names the parts
-of X too. And each name of a row has to be a word of one of the row's files. No definition outside specs/private imports a
-word from there, of its own crate or of another.
+A word is a definition in a crate's specs/, but for specs/private, which private contracts alone cite, and specs/mirror. The
+page names it where a public contract cites it (that of a `pub fn`, of a `pub trait`, or an impl's ghost items), or where a
+word on which such a contract rests is defined by it in another file. Any other word on which contracts rest stands in the
+file of one that is named. What a file defines is the first sentence of the comment at its head, up to a colon, and its
+public source its line in tools/sources.txt.
 
-In documents `PATH` (N), PATH being a file below crates/, says that the file has N lines; a name without a folder, such as
-`Runs` (86), goes on with the folder of the path before it.
-
-It prints a line for each that is missing or wrong, and last `N passed, M failed`; --words prints each word that has to be
-named, too. The exit status is 1 where M isn't 0.
+It also compares: that no definition outside specs/private imports a word from there, that each contract in the tables of
+docs/PROOFS.md is one of its crate, and in documents each `PATH` (N), PATH being a file below crates/ of N lines (a name
+without a folder, such as `Runs` (86), goes on with the folder of the path before it).
 """
 import pathlib
 import re
@@ -27,23 +26,30 @@ NAME = re.compile(r"[A-Za-z_][A-Za-z_0-9]*")
 IMPORT = re.compile(r"use Rattle\.(\w+)\.specs\.([\w.]+)\.\{([^}]*)\}")
 DECLARED = re.compile(r"(?:(?:abbrev|unfoldable|pub) )+(record |data )?(\S+)|(record |data )(\S+)")
 NOT_LISTED = ("private", "mirror", "declared")
+HEAD = """# Definitions
+
+A proof shows that code meets its contract, and a contract is as good as the definitions that it cites. This
+page names each word that a public contract cites, and each in another file that such a word is made of, by
+crate and by its file in `crates/CRATE/specs`, which has more words beside them. What a word says stands in
+the comment above it: read it there, or let `tools/definitions.py CRATE ..` print each word with its comment,
+its line and one that cites it. The laws of a crate, in its file `Laws`, are in [PROOFS.md](PROOFS.md).
+Words that private contracts alone cite are in `specs/private`. `specs/mirror` of `rv_comp` repeats the code,
+and defines nothing. `tools/definitions.py --write` makes this page, and `./test` compares it.
+
+After a dash stands the public source; a file without one is this project's own. **ISA** is the RISC-V
+Instruction Set Manual, Volume I: Unprivileged ISA, and **psABI** the RISC-V ABIs Specification. **Wahbe** is
+Wahbe, Lucco, Anderson and Graham, "Efficient Software-Based Fault Isolation", SOSP 1993. **Yee** is Yee and
+others, "Native Client: A Sandbox for Portable, Untrusted x86 Native Code", IEEE S&P 2009.
+"""
 
 
 @dataclass
 class Word:
-    """A definition: its crate, file and name, and the keys of the words by which it is defined."""
+    """A definition: its crate, file and name, the keys of the words by which it is defined, its comment and its line."""
     key: tuple
     names: set = field(default_factory=set)
-
-
-@dataclass
-class Row:
-    """A row of the document: the names in its first cell, its files, and whether it names their parts too."""
-    crate: str
-    line: int
-    names: list
-    files: list
-    has_parts: bool
+    comment: str = ""
+    line: int = 0
 
 
 # ---- definitions
@@ -59,15 +65,26 @@ def imports(text):
 
 
 def declarations(text):
-    """The declarations of a file of definitions: of each its kind, its name and its lines."""
-    found = []
-    for line in re.sub(r"--.*", "", text).splitlines():
-        head = DECLARED.match(line)
+    """The declarations of a file of definitions: of each its kind, its name, its lines, the comment above, and its line's number."""
+    found, comment, is_open = [], [], False
+    for number, line in enumerate(text.splitlines(), 1):
+        code, _, note = line.partition("--")
+        head = DECLARED.match(code)
         if head and not line.startswith("pub mod"):
-            found.append((head[1] or head[3] or "", head[2] or head[4], [line]))
+            found.append((head[1] or head[3] or "", head[2] or head[4], [code], " ".join(comment), number))
         elif found and not line.startswith(("use ", "infix")):
-            found[-1][2].append(line)
+            found[-1][2].append(code)
+        if line.startswith("-- "):
+            comment = [*(comment if is_open else []), note.strip()]
+        is_open = line.startswith("-- ")
     return found
+
+
+def subject(text):
+    """What a file defines: the first sentence of the comment at its head, up to a colon."""
+    head = re.match(r"(--.*\n)*", text)[0]
+    sentence = re.split(r"(?<=\.)\s|: | \(", " ".join(line.strip("- ") for line in head.splitlines()))[0]
+    return sentence.rstrip(".")
 
 
 def constructors(lines):
@@ -84,8 +101,8 @@ def names_in(text):
 def words_of(crate, file, text):
     """The words of a file of definitions, by each name that others may import: a type's constructors stand for the type."""
     found, texts = {}, {}
-    for kind, name, lines in declarations(text):
-        word = Word((crate, file, name))
+    for kind, name, lines, comment, number in declarations(text):
+        word = Word((crate, file, name), comment=comment, line=number)
         texts[name] = word, "\n".join(lines)
         found.update({one: word for one in [name, *(constructors(lines) if kind == "data " else ())]})
     known = imports(text)
@@ -173,89 +190,120 @@ def compared_imports():
     return sum("/specs/private" not in name and not found for name, found in faults.items()), sum(faults.values(), [])
 
 
-# ---- the document
+# ---- the page
 
-def rows(text):
-    """The rows of the document."""
+def path_of(crate, file):
+    """The path of a file of definitions."""
+    return (CRATES / crate / "specs" / file.replace(".", "/")).with_suffix(".antt")
+
+
+def crate_names():
+    """The crates, lowest first."""
+    lines = (TOP / "crates.txt").read_text(encoding="utf-8").splitlines()
+    return [re.match(r"\w+", line)[0] for line in lines if line and not line.startswith("#")]
+
+
+def sources(text):
+    """The public source of each file that has one."""
+    lines = [line.partition(": ") for line in text.splitlines() if not line.startswith("#")]
+    return {tuple(file.split()): source for file, _, source in lines}
+
+
+def line_of_file(file, keys, source):
+    """The page's line for a file: what it defines, its words, and its source."""
+    path = path_of(*file)
+    link = f"[{file[1].replace('.', '/')}](../{path.relative_to(TOP)})"
+    words = ", ".join(f"`{name}`" for _, _, name in keys)
+    return f"- {link}: {subject(path.read_text(encoding='utf-8'))}: {words}{' — ' + source if source else ''}"
+
+
+def page(words, source_of):
+    """The text of docs/DEFINITIONS.md."""
+    needed = sorted(wanted(words), key=lambda key: (key[:2], words[key].line))
+    text = [HEAD]
+    for crate in crate_names():
+        files = list(dict.fromkeys(key[:2] for key in needed if key[0] == crate and key[1] != "Laws"))
+        lines = [line_of_file(file, [key for key in needed if key[:2] == file], source_of.get(file)) for file in files]
+        text += [f"\n## {crate}\n\n" + "\n".join(lines) + "\n"] if files else []
+    return "".join(text)
+
+
+def faults_of_sources(words, source_of):
+    """A line for each source of a file that the page doesn't have."""
+    files = {key[:2] for key in wanted(words)}
+    return [f"tools/sources.txt: no contract rests on {crate} {file}" for crate, file in sorted(source_of.keys() - files)]
+
+
+def told(words, crate):
+    """A text of a crate's words: of each its line, its comment, and one that cites it."""
+    needed = wanted(words)
+    keys = sorted((key for key in needed if key[0] == crate), key=lambda key: (key[1], words[key].line))
+    lines = [f"{path_of(*key[:2]).relative_to(TOP)}:{words[key].line}: {key[2]}: {words[key].comment} [{needed[key]}]" for key in keys]
+    return "\n".join(lines)
+
+
+# ---- docs/PROOFS.md
+
+def contract_names(crate):
+    """The functions, types, traits and clauses of a crate's code."""
+    texts = [path.read_text(encoding="utf-8") for path in sorted((CRATES / crate / "src").glob("**/*.rt"))]
+    return set(re.findall(r"\b(?:fn|ensures|trait|struct|impl|mod)\s+(\w+)", "\n".join(texts)))
+
+
+def contracts(text):
+    """The contracts in the tables of a text: of each its crate and its name."""
     found, crate = [], ""
-    for number, line in enumerate(text.splitlines(), 1):
+    for line in text.splitlines():
         if line.startswith("## "):
             crate = line[3:].split(":")[0]
         cells = [cell.strip() for cell in line.split("|")[1:-1]]
-        if len(cells) == 5 and "`" in cells[0]:
-            files = [part.strip().replace("/", ".") for part in re.split("[,;]", cells[2])]
-            has_parts = re.search(r"and (its|their) parts", cells[0]) is not None
-            found.append(Row(crate, number, re.findall(r"`([^`]*)`", cells[0]), files, has_parts))
+        if len(cells) == 2 and (CRATES / crate).is_dir():
+            found += [(crate, part) for name in re.findall(r"`([\w:]+)`", cells[1]) for part in name.split("::")]
     return found
 
 
-def parts(words, start):
-    """The words of the same file by which a word is defined, in however many steps."""
-    found, left = set(), [start]
-    while left:
-        for key in (words[name].key for name in words[left.pop()].names if name in words):
-            if key[:2] == start[:2] and key not in found:
-                found.add(key)
-                left.append(key)
-    return found
-
-
-def named(words, row):
-    """The words that a row names."""
-    places = [(row.crate, file, name) for name in row.names for file in row.files]
-    keys = {words[place].key for place in places if place in words}
-    return keys.union(*(parts(words, key) for key in keys)) if row.has_parts else keys
-
-
-def faults_of_row(words, row):
-    """A line for each name of the row that is no word of its files."""
-    found = []
-    for name in row.names:
-        if not any((row.crate, file, name) in words for file in row.files):
-            found.append(f"docs/DEFINITIONS.md:{row.line}: {name} is no word of {row.crate}, {', '.join(row.files)}")
-    return found
-
-
-def compared_words(words, listed):
-    """How many words have a row, and a line for each fault."""
-    has_row = set().union(*(named(words, row) for row in listed))
-    needed = wanted(words)
-    lacking = sorted(needed.keys() - has_row)
-    faults = [f"no row for {' '.join(key)}, which {needed[key]} cites" for key in lacking]
-    return len(needed) - len(lacking), faults + [fault for row in listed for fault in faults_of_row(words, row)]
+def compared_contracts(text):
+    """How many contracts in the tables of a text are of their crate, and a line for each that isn't."""
+    named = contracts(text)
+    known = {crate: contract_names(crate) for crate in {crate for crate, _ in named}}
+    faults = [f"docs/PROOFS.md: {name} is nothing of {crate}" for crate, name in named if name not in known[crate]]
+    return len(named) - len(faults), faults
 
 
 # ---- lines
 
-def counted(text):
-    """The files whose lines a text counts, with the counts."""
-    found, folder, suffix = [], None, ""
-    for name, count in re.findall(r"`([\w./]+)`\s*\((\d+)\b", text):
-        path = pathlib.PurePosixPath(name)
-        if "/" in name:
+def with_counts(text):
+    """The text with the number of lines that each of its files has."""
+    folder, suffix = None, ""
+
+    def counted(found):
+        nonlocal folder, suffix
+        path = pathlib.PurePosixPath(found[2])
+        if "/" in found[2]:
             folder, suffix = path.parent, path.suffix
-        if folder and suffix and path.suffix in ("", suffix):
-            found.append((str(folder / path.with_suffix(suffix).name), int(count)))
-    return found
+        file = CRATES / folder / path.with_suffix(suffix).name if folder and suffix and path.suffix in ("", suffix) else None
+        if file is None:
+            return found[0]
+        return found[1] + str(len(file.read_text(encoding="utf-8").splitlines()) if file.exists() else "no file")
+
+    return re.sub(r"(`([\w./]+)`\s*\()(\d+)\b", counted, text)
 
 
-def compared_lines(document):
-    """How many counts of a document are right, and a line for each that isn't."""
-    right, faults = 0, []
-    for name, count in counted(document.read_text(encoding="utf-8")):
-        path = CRATES / name
-        lines = len(path.read_text(encoding="utf-8").splitlines()) if path.exists() else "no"
-        if lines == count:
-            right += 1
-        else:
-            faults.append(f"{document.relative_to(TOP)}: {name} has {lines} lines, not {count}")
-    return right, faults
+def compared(path, text):
+    """A line for each line of a document that isn't as in the text."""
+    has = path.read_text(encoding="utf-8").splitlines() if path.exists() else []
+    wants = text.splitlines()
+    lines = [f"{path.relative_to(TOP)} lacks: {line}" for line in wants if line not in has]
+    lines += [f"{path.relative_to(TOP)} has in its place: {line}" for line in has if line not in wants]
+    return lines or ([] if has == wants else [f"{path.relative_to(TOP)}: its lines are in another order"])
 
 
 # ---- itself
 
 SPECS = {
     "A": """use Rattle.c.specs.B.{far}
+-- how near
+-- it is
 abbrev pub near : ℕ
 near = far + part.x
 -- other
@@ -279,41 +327,47 @@ pub fn f() -> u32
     other
 }
 """
-TABLE = """## c: a crate
-| `near` and its parts | says | A | own | `f` |
-| `far`, `none` | says | B | own | `f` |
+PROOFS = """## rv_word: a crate
+| what is so | `laws::f`: `only` |
 """
 
 
 def checked_itself():
-    """How much of this holds of the definitions, code and table above, and a line for each that doesn't."""
+    """How much of this holds of the definitions and the code above, and a line for each that doesn't."""
     words = {("c", file, name): word for file, text in SPECS.items() for name, word in words_of("c", file, text).items()}
-    first, second = rows(TABLE)
-    lines = counted("`a/specs/X.antt` (3), `Y`\n(4 lines), `Z` and (5)")
     private = "use Rattle.c.specs.private.B.{far}\npub use Rattle.d.specs.private as p\nuse Rattle.c.specs.B.{far}\n"
     found = {
         "imports": imports(CODE)["close"] == ("c", "A", "near"),
         "clauses": "close" in names_in(clauses(CODE)) and "other" not in names_in(clauses(CODE)),
         "names": words["c", "A", "near"].names == {("c", "B", "far"), ("c", "A", "part")},
+        "comments": words["c", "A", "near"].comment == "how near it is" and words["c", "A", "near"].line == 4,
         "constructors": words["c", "B", "Two"].key == ("c", "B", "Kind"),
-        "parts": named(words, first) == {("c", "A", "near"), ("c", "A", "part")},
-        "rows": named(words, second) == {("c", "B", "far")} and len(faults_of_row(words, second)) == 1,
+        "subjects": subject("-- So it is.\n-- Not more.\n\n-- other\n") == "So it is",
+        "sources": sources("# note\na B: C: d\n") == {("a", "B"): "C: d"},
+        "contracts": contracts(PROOFS) == [("rv_word", "laws"), ("rv_word", "f"), ("rv_word", "only")],
         "private": len(imports_of_private("crates/c/specs/A.antt", private)) == 2
                    and not imports_of_private("crates/c/specs/private/A.antt", private),
-        "lines": lines == [("a/specs/X.antt", 3), ("a/specs/Y.antt", 4)],
+        "lines": with_counts("`a/specs/X.antt` (3), `Z` and (5)") == "`a/specs/X.antt` (no file), `Z` and (5)",
     }
     return sum(found.values()), [f"tools/definitions.py itself: {name}" for name, holds in found.items() if not holds]
 
 
 def main(options):
     words = all_words()
-    if "--words" in options:
-        print("\n".join(" ".join(key) for key in sorted(wanted(words))))
-    listed = rows((TOP / "docs" / "DEFINITIONS.md").read_text(encoding="utf-8"))
-    documents = sorted([TOP / "README.md", *(TOP / "docs").glob("*.md")])
-    results = [checked_itself(), compared_words(words, listed), compared_imports(), *map(compared_lines, documents)]
-    faults = [fault for _, found in results for fault in found]
-    print("\n".join(faults + [f"{sum(right for right, _ in results)} passed, {len(faults)} failed"]))
+    if options and options != ["--write"]:
+        print("\n".join(told(words, crate) for crate in options))
+        return 0
+    source_of = sources((TOP / "tools" / "sources.txt").read_text(encoding="utf-8"))
+    texts = {path: with_counts(path.read_text(encoding="utf-8")) for path in [TOP / "README.md", *sorted((TOP / "docs").glob("*.md"))]}
+    texts[TOP / "docs" / "DEFINITIONS.md"] = page(words, source_of)
+    if options:
+        for path, text in texts.items():
+            path.write_text(text, encoding="utf-8")
+    differences = [compared(path, text) for path, text in texts.items()]
+    results = [checked_itself(), compared_imports(), compared_contracts(texts[TOP / "docs" / "PROOFS.md"])]
+    faults = sum([found for _, found in results] + differences, faults_of_sources(words, source_of))
+    passed = sum(right for right, _ in results) + sum(not found for found in differences)
+    print("\n".join(faults + [f"{passed} passed, {len(faults)} failed"]))
     return 1 if faults else 0
 
 
