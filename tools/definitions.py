@@ -1,8 +1,9 @@
 #!/usr/bin/env python3
-"""Makes docs/DEFINITIONS.md and the counts of lines in documents, and compares them with the files.
+"""Makes docs/DEFINITIONS.md, the list of must-fail edits in docs/PROOFS.md and the counts of lines in documents, and compares
+them with the files.
 
     tools/definitions.py             # compares, and prints a line for each difference and last `N passed, M failed`
-    tools/definitions.py --write     # writes the page and the counts
+    tools/definitions.py --write     # writes them
     tools/definitions.py CRATE ..    # prints each word of these crates: its line, its comment, and one that cites it
 
 A word is a definition in a crate's specs/, but for specs/private, which private contracts alone cite, and specs/mirror. The
@@ -22,6 +23,7 @@ from dataclasses import dataclass, field
 
 TOP = pathlib.Path(__file__).resolve().parent.parent
 CRATES = TOP / "crates"
+PROOFS = TOP / "docs" / "PROOFS.md"
 NAME = re.compile(r"[A-Za-z_][A-Za-z_0-9]*")
 IMPORT = re.compile(r"use Rattle\.(\w+)\.specs\.([\w.]+)\.\{([^}]*)\}")
 DECLARED = re.compile(r"(?:(?:abbrev|unfoldable|pub) )+(record |data )?(\S+)|(record |data )(\S+)")
@@ -262,6 +264,13 @@ def contracts(text):
     return found
 
 
+def with_edits(text):
+    """The text with a line of must-fail edits for each crate that has some, in the place of its lines after `refuses it.`"""
+    edits = {crate: sorted(path.stem for path in (CRATES / crate).glob("must-fail/*.edit")) for crate in crate_names()}
+    lines = [f"- `{crate}`: {', '.join(f'`{name}`' for name in names)}\n" for crate, names in edits.items() if names]
+    return re.sub(r"(?<=refuses it\.\n\n)(- .*\n)+", "".join(lines), text)
+
+
 def compared_contracts(text):
     """How many contracts in the tables of a text are of their crate, and a line for each that isn't."""
     named = contracts(text)
@@ -327,7 +336,7 @@ pub fn f() -> u32
     other
 }
 """
-PROOFS = """## rv_word: a crate
+TABLE = """## rv_word: a crate
 | what is so | `laws::f`: `only` |
 """
 
@@ -344,7 +353,7 @@ def checked_itself():
         "constructors": words["c", "B", "Two"].key == ("c", "B", "Kind"),
         "subjects": subject("-- So it is.\n-- Not more.\n\n-- other\n") == "So it is",
         "sources": sources("# note\na B: C: d\n") == {("a", "B"): "C: d"},
-        "contracts": contracts(PROOFS) == [("rv_word", "laws"), ("rv_word", "f"), ("rv_word", "only")],
+        "contracts": contracts(TABLE) == [("rv_word", "laws"), ("rv_word", "f"), ("rv_word", "only")],
         "private": len(imports_of_private("crates/c/specs/A.antt", private)) == 2
                    and not imports_of_private("crates/c/specs/private/A.antt", private),
         "lines": with_counts("`a/specs/X.antt` (3), `Z` and (5)") == "`a/specs/X.antt` (no file), `Z` and (5)",
@@ -360,11 +369,12 @@ def main(options):
     source_of = sources((TOP / "tools" / "sources.txt").read_text(encoding="utf-8"))
     texts = {path: with_counts(path.read_text(encoding="utf-8")) for path in [TOP / "README.md", *sorted((TOP / "docs").glob("*.md"))]}
     texts[TOP / "docs" / "DEFINITIONS.md"] = page(words, source_of)
+    texts[PROOFS] = with_edits(texts[PROOFS])
     if options:
         for path, text in texts.items():
             path.write_text(text, encoding="utf-8")
     differences = [compared(path, text) for path, text in texts.items()]
-    results = [checked_itself(), compared_imports(), compared_contracts(texts[TOP / "docs" / "PROOFS.md"])]
+    results = [checked_itself(), compared_imports(), compared_contracts(texts[PROOFS])]
     faults = sum([found for _, found in results] + differences, faults_of_sources(words, source_of))
     passed = sum(right for right, _ in results) + sum(not found for found in differences)
     print("\n".join(faults + [f"{passed} passed, {len(faults)} failed"]))
