@@ -12,7 +12,7 @@ word on which such a contract rests is defined by it in another file. Any other 
 file of one that is named. What a file defines is the first sentence of the comment at its head, up to a colon, and its
 public source its line in tools/sources.txt.
 
-It also compares: that no definition outside specs/private imports a word from there, that each contract in the tables of
+It also compares: that no definition outside specs/private imports a word from there, that each contract in
 docs/PROOFS.md is one of its crate, and in documents each `PATH` (N), PATH being a file below crates/ of N lines (a name
 without a folder, such as `Runs` (86), goes on with the folder of the path before it).
 """
@@ -253,14 +253,13 @@ def contract_names(crate):
 
 
 def contracts(text):
-    """The contracts in the tables of a text: of each its crate and its name."""
-    found, crate = [], ""
-    for line in text.splitlines():
-        if line.startswith("## "):
-            crate = line[3:].split(":")[0]
-        cells = [cell.strip() for cell in line.split("|")[1:-1]]
-        if len(cells) == 2 and (CRATES / crate).is_dir():
-            found += [(crate, part) for name in re.findall(r"`([\w:]+)`", cells[1]) for part in name.split("::")]
+    """The contracts in the last brackets of the items of a text: of each its crate and its name."""
+    found = []
+    for section in text.split("\n## ")[1:]:
+        crate = section.split(":")[0]
+        for item in re.findall(r"^- .*(?:\n  .*)*", section, flags=re.M) if (CRATES / crate).is_dir() else []:
+            named = re.search(r"\(([^()]*)\)\.$", item)
+            found += [(crate, part) for name in re.findall(r"`([\w:]+)`", named[1] if named else "") for part in name.split("::")]
     return found
 
 
@@ -272,7 +271,7 @@ def with_edits(text):
 
 
 def compared_contracts(text):
-    """How many contracts in the tables of a text are of their crate, and a line for each that isn't."""
+    """How many contracts of a text are of their crate, and a line for each that isn't."""
     named = contracts(text)
     known = {crate: contract_names(crate) for crate in {crate for crate, _ in named}}
     faults = [f"docs/PROOFS.md: {name} is nothing of {crate}" for crate, name in named if name not in known[crate]]
@@ -336,8 +335,13 @@ pub fn f() -> u32
     other
 }
 """
-TABLE = """## rv_word: a crate
-| what is so | `laws::f`: `only` |
+ITEMS = """a page
+
+## rv_word: a crate
+
+- what is so (or not)
+  (`laws::f`: `only`).
+- what else
 """
 
 
@@ -353,7 +357,7 @@ def checked_itself():
         "constructors": words["c", "B", "Two"].key == ("c", "B", "Kind"),
         "subjects": subject("-- So it is.\n-- Not more.\n\n-- other\n") == "So it is",
         "sources": sources("# note\na B: C: d\n") == {("a", "B"): "C: d"},
-        "contracts": contracts(TABLE) == [("rv_word", "laws"), ("rv_word", "f"), ("rv_word", "only")],
+        "contracts": contracts(ITEMS) == [("rv_word", "laws"), ("rv_word", "f"), ("rv_word", "only")],
         "private": len(imports_of_private("crates/c/specs/A.antt", private)) == 2
                    and not imports_of_private("crates/c/specs/private/A.antt", private),
         "lines": with_counts("`a/specs/X.antt` (3), `Z` and (5)") == "`a/specs/X.antt` (no file), `Z` and (5)",
