@@ -7,10 +7,9 @@ them with the files.
     tools/definitions.py CRATE ..    # prints each word of these crates: its line, its comment, and one that cites it
 
 A word is a definition in a crate's specs/, but for specs/private, which private contracts alone cite, and specs/mirror. The
-page names it where a public contract cites it (that of a `pub fn`, of a `pub trait`, or an impl's ghost items), or where a
-word on which such a contract rests is defined by it in another file. Any other word on which contracts rest stands in the
-file of one that is named. What a file defines is the first sentence of the comment at its head, up to a colon, and its
-public source its line in tools/sources.txt.
+page names it where a public contract cites it (that of a `pub fn`, of a `pub trait`, or an impl's ghost items), and has the
+files of the words by which these are defined. What a file defines is the first sentence of the comment at its head, up to a
+colon, and its public source its line in tools/sources.txt.
 
 It also compares: that no definition outside specs/private imports a word from there, that each contract in
 docs/PROOFS.md is one of its crate, and in documents each `PATH` (N), PATH being a file below crates/ of N lines (a name
@@ -30,18 +29,18 @@ DECLARED = re.compile(r"(?:(?:abbrev|unfoldable|pub) )+(record |data )?(\S+)|(re
 NOT_LISTED = ("private", "mirror", "declared")
 HEAD = """# Definitions
 
-A proof shows that code meets its contract, and a contract is as good as the definitions that it cites. This
-page names each word that a public contract cites, and each in another file that such a word is made of, by
-crate and by its file in `crates/CRATE/specs`, which has more words beside them. What a word says stands in
-the comment above it: read it there, or let `tools/definitions.py CRATE ..` print each word with its comment,
-its line and one that cites it. The laws of a crate, in its file `Laws`, are in [PROOFS.md](PROOFS.md).
-Words that private contracts alone cite are in `specs/private`. `specs/mirror` of `rv_comp` repeats the code,
-and defines nothing. `tools/definitions.py --write` makes this page, and `./test` compares it.
+A proof shows that code meets its contract, and a contract is as good as the definitions that it cites. Here
+are their files in `crates/CRATE/specs`: what each defines, the words in it that a public contract cites, and
+its public source. A file without words has only such as these are made of. What a word says stands in the
+comment above it: read it there, or let `tools/definitions.py CRATE ..` print each word with its comment, its
+line and one that cites it. The laws of a crate, in its file `Laws`, are in [PROOFS.md](PROOFS.md). Words that
+private contracts alone cite are in `specs/private`; `specs/mirror` of `rv_comp` repeats the code, and defines
+nothing. `tools/definitions.py --write` makes this page, and `./test` compares it.
 
-After a dash stands the public source; a file without one is this project's own. **ISA** is the RISC-V
-Instruction Set Manual, Volume I: Unprivileged ISA, and **psABI** the RISC-V ABIs Specification. **Wahbe** is
-Wahbe, Lucco, Anderson and Graham, "Efficient Software-Based Fault Isolation", SOSP 1993. **Yee** is Yee and
-others, "Native Client: A Sandbox for Portable, Untrusted x86 Native Code", IEEE S&P 2009.
+A file without a source is this project's own. **ISA** is the RISC-V Instruction Set Manual, Volume I:
+Unprivileged ISA, and **psABI** the RISC-V ABIs Specification. **Wahbe** is Wahbe, Lucco, Anderson and Graham,
+"Efficient Software-Based Fault Isolation", SOSP 1993. **Yee** is Yee and others, "Native Client: A Sandbox
+for Portable, Untrusted x86 Native Code", IEEE S&P 2009.
 """
 
 
@@ -163,7 +162,7 @@ def cited(words):
 
 
 def wanted(words):
-    """Each word that has to be named, and what cites it."""
+    """Each word on which public contracts rest, and what cites it."""
     found = {key: why for key, why in cited(words).items() if not key[1].startswith(NOT_LISTED)}
     left, seen = list(found), set(found)
     while left:
@@ -215,17 +214,18 @@ def line_of_file(file, keys, source):
     """The page's line for a file: what it defines, its words, and its source."""
     path = path_of(*file)
     link = f"[{file[1].replace('.', '/')}](../{path.relative_to(TOP)})"
-    words = ", ".join(f"`{name}`" for _, _, name in keys)
-    return f"- {link}: {subject(path.read_text(encoding='utf-8'))}: {words}{' — ' + source if source else ''}"
+    words = ": " + ", ".join(f"`{name}`" for _, _, name in keys) if keys else ""
+    return f"- {link}: {subject(path.read_text(encoding='utf-8'))}{words}{' — ' + source if source else ''}"
 
 
 def page(words, source_of):
     """The text of docs/DEFINITIONS.md."""
-    needed = sorted(wanted(words), key=lambda key: (key[:2], words[key].line))
+    needed, direct = sorted(wanted(words), key=lambda key: (key[:2], words[key].line)), cited(words)
     text = [HEAD]
     for crate in crate_names():
         files = list(dict.fromkeys(key[:2] for key in needed if key[0] == crate and key[1] != "Laws"))
-        lines = [line_of_file(file, [key for key in needed if key[:2] == file], source_of.get(file)) for file in files]
+        named = {file: [key for key in needed if key[:2] == file and key in direct] for file in files}
+        lines = [line_of_file(file, keys, source_of.get(file)) for file, keys in named.items()]
         text += [f"\n## {crate}\n\n" + "\n".join(lines) + "\n"] if files else []
     return "".join(text)
 
