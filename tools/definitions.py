@@ -1,6 +1,5 @@
 #!/usr/bin/env python3
-"""Makes docs/DEFINITIONS.md, the list of must-fail edits in docs/PROOFS.md and the counts of lines in documents, and compares
-them with the files.
+"""Makes docs/DEFINITIONS.md and the counts of lines in documents, and compares them with the files.
 
     tools/definitions.py             # compares, and prints a line for each difference and last `N passed, M failed`
     tools/definitions.py --write     # writes them
@@ -263,13 +262,6 @@ def contracts(text):
     return found
 
 
-def with_edits(text):
-    """The text with a line of must-fail edits for each crate that has some, in the place of its lines after `refuses it.`"""
-    edits = {crate: sorted(path.stem for path in (CRATES / crate).glob("must-fail/*.edit")) for crate in crate_names()}
-    lines = [f"- `{crate}`: {', '.join(f'`{name}`' for name in names)}\n" for crate, names in edits.items() if names]
-    return re.sub(r"(?<=refuses it\.\n\n)(- .*\n)+", "".join(lines), text)
-
-
 def compared_contracts(text):
     """How many contracts of a text are of their crate, and a line for each that isn't."""
     named = contracts(text)
@@ -373,7 +365,6 @@ def main(options):
     source_of = sources((TOP / "tools" / "sources.txt").read_text(encoding="utf-8"))
     texts = {path: with_counts(path.read_text(encoding="utf-8")) for path in [TOP / "README.md", *sorted((TOP / "docs").glob("*.md"))]}
     texts[TOP / "docs" / "DEFINITIONS.md"] = page(words, source_of)
-    texts[PROOFS] = with_edits(texts[PROOFS])
     if options:
         for path, text in texts.items():
             path.write_text(text, encoding="utf-8")
