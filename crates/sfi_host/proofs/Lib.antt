@@ -16,7 +16,7 @@ pub mod OwnSteps
 pub mod Plans
 pub mod Continuing
 pub mod Replying
-pub mod Silenced
+pub mod Quiet
 pub mod Runs
 pub mod SameWorld
 pub mod Serving

@@ -2,4 +2,4 @@
 pub mod Limits
 pub mod Programs
 pub mod Sandboxes
-pub mod Waiting
+pub mod Quiet

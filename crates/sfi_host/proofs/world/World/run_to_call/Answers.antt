@@ -7,8 +7,8 @@ use Rattle.sfi_host.proofs.world.World.run_to_call.Goals as goal
 
 pub returns-clause-runs : goal.returns-clause-runs
 returns-clause-runs g c machine is =
-    let ran = c.run_silent.ensures in
-    moves_to joined_are machine is silent (c.args.turn ∷ []) c.args.self.now c.run_silent.new.self tt c.stays_safe.ensures ran.bounds ran.outside (ran.ran machine is)
+    let ran = c.take_quiet_turn.ensures in
+    moves_to joined_are machine is silent (c.args.turn ∷ []) c.args.self.now c.take_quiet_turn.new.self tt c.stays_safe.ensures ran.bounds ran.outside (ran.ran machine is)
 
 pub returns-clause-stops : goal.returns-clause-stops
-returns-clause-stops g c = have_stopped c.run_silent.new.self c.run_silent.ensures.safe
+returns-clause-stops g c = have_stopped c.take_quiet_turn.new.self c.take_quiet_turn.ensures.safe
