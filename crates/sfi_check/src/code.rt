@@ -10,12 +10,11 @@ ghost use Rattle.sfi_check.specs.Tallies.{IsSoFar, findings_most};
 ghost use Rattle.sfi_check.specs.private.Tallies.{AddsFindings, AreScanned, IsPlainFrom, LeadsOn, Steps, want_at};
 
 use crate::progress::Step;
-use crate::sink::FindingSink;
 use crate::tally::Tally;
 use sfi_image::LayoutReader;
 use sfi_masks::BLOCK_BYTES;
 use sfi_policy::{BUNDLE_BYTES, BUNDLE_SIZE};
-use sfi_scan::{BundleFindings, BundlePlace, clean_bundles, scan_bundle};
+use sfi_scan::{BundleFindings, BundlePlace, FindingSink, clean_bundles, scan_bundle};
 
 /// How many bundles a block has.
 const BLOCK_BUNDLES: u32 = BLOCK_BYTES as u32 / BUNDLE_SIZE;

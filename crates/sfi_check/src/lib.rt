@@ -25,7 +25,7 @@ pub use accepted::Accepted;
 pub use conversion::{ConvertFault, convert};
 pub use feed::Feed;
 pub use refusal::Refusal;
-pub use sink::FindingSink;
+pub use sfi_scan::FindingSink;
 pub use stream::{check_stream, check_stream_into};
 pub use stream_answer::StreamAnswer;
 pub use tally::Tally;

@@ -8,11 +8,11 @@ ghost use Rattle.sfi_check.specs.Streams.{IsVerdictOn, AreHandedOver};
 
 use crate::code::{IN_BLOCKS, take_code};
 use crate::progress::{Progress, Step};
-use crate::sink::{FindingSink, Nowhere};
+use crate::sink::Nowhere;
 use crate::stream_answer::StreamAnswer;
 use crate::tally::Tally;
 use sfi_image::{ByteSource, LayoutReader, ReadFault, Want};
-use sfi_scan::{BundleFindings, BundlePlace};
+use sfi_scan::{BundleFindings, BundlePlace, FindingSink};
 
 /// How many bytes are read at a time, at most.
 const PIECE: usize = 4096;

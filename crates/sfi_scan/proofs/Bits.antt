@@ -1,7 +1,7 @@
 -- One bit of a mask, through each operation.
-use Rattle.sfi_scan.proofs.Prelude.{◌≡◌, ℕ, zero, suc, ◌+◌, ◌-◌, ◌*◌, ◌/◌, ◌%◌, ◌^◌, ◌<◌, ◌≤◌, ◌≢◌, true≢false, min, Bool, true, false, not, ◌&&◌, ◌==◌, ◌⊎◌, inl, inr, refl, sym, ap, ◌∙◌, subst, arith, w64, mul_assoc, bit_and, Width, bit_at, bit_not, trailing_zeros, cases_order, agree_below_at, and_parts, shl-shr, shr-shr, is_in}
+use Rattle.sfi_scan.proofs.Prelude.{◌≡◌, ℕ, zero, suc, ◌+◌, ◌-◌, ◌*◌, ◌/◌, ◌%◌, ◌^◌, ◌<◌, ◌≢◌, min, Bool, true, false, not, ◌&&◌, ◌==◌, ◌⊎◌, inl, inr, refl, sym, ap, ◌∙◌, subst, arith, w64, mul_assoc, bit_and, Width, bit_at, bit_not, trailing_zeros, cases_order, agree_below_at, and_parts, shl-shr, shr-shr, is_in}
 use Rattle.std.proofs.Math.Nat.{zero-div}
-use Rattle.std.proofs.lemmas.Nat.Bits.{bit_at-lt, bit_at_and, bit_at_not, bit_at_set_other, bit_at_above, bit_at-trailing_zeros}
+use Rattle.std.proofs.lemmas.Nat.Bits.{bit_at-lt, bit_at_and, bit_at_not, bit_at_set_other, bit_at-trailing_zeros}
 use Rattle.std.specs.Int.RustNames.{bit_or}
 use mir.Val.{bits}
 use lib.Bits.{shifted_even}
@@ -78,17 +78,17 @@ in_none m k j h none =
     and_true true = refl
     and_true false = refl
 
--- a byte has no bit from the eighth on
-pub in_byte : (m i : ℕ) → m < 256 → is_in m i ≡ true → i < 8
-in_byte m i few is = go (cases_order i 8)
-  where
-    above : 8 ≤ i → i < 8
-    above h = absurd (true≢false (sym is ∙ ap (λ n. n == 1) (bit_at_above m 8 i few h)))
-
-    go : (i ≡ 8) ⊎ ((i < 8) ⊎ (8 < i)) → i < 8
-    go (inl e) = above (omega (arith, e))
-    go (inr (inl h)) = h
-    go (inr (inr h)) = above (omega (arith, h))
+-- a mask of ones has each of eight bits
+pub all_set : (i : ℕ) → i < 8 → is_in 255 i ≡ true
+all_set zero h = refl
+all_set (suc zero) h = refl
+all_set (suc (suc zero)) h = refl
+all_set (suc (suc (suc zero))) h = refl
+all_set (suc (suc (suc (suc zero)))) h = refl
+all_set (suc (suc (suc (suc (suc zero))))) h = refl
+all_set (suc (suc (suc (suc (suc (suc zero)))))) h = refl
+all_set (suc (suc (suc (suc (suc (suc (suc zero))))))) h = refl
+all_set (suc (suc (suc (suc (suc (suc (suc (suc i)))))))) h = absurd (omega arith)
 
 pub in_all : (i : ℕ) → i < 64 → is_in (2 ^ 64 - 1) i ≡ true
 in_all i h = agree_below_at (λ i. is_in (2 ^ 64 - 1) i) (λ i. true) 64 i refl h

@@ -1,126 +1,198 @@
--- The gates that are still ahead of a bundle, and the findings of one bundle more.
-use Rattle.sfi_scan.proofs.Prelude.{◌≡◌, ℕ, zero, suc, ◌+◌, ◌-◌, ◌*◌, ◌%◌, ◌<◌, ◌≤◌, ◌==◌, Bool, true, false, cond, List, [], ◌∷◌, ◌++◌, length, take, drop, get_or, inr, true≢false, refl, sym, ap, ◌∙◌, subst, arith, ◌||◌, if◌then◌else◌, append-nil, drop-drop, drop-take, take-take, ltb-false, ne_eqb, eqb-true, eqb-false, Part, All, AllPairs, BundlePlace, Finding, AreAhead, AreGatesFrom, is_first_at, is_first_below, place_of, block_bundle, bundle_at, bundle_bytes, AreBundleFindings, AreReadingFindings, AreFindingsOfFirst}
+-- A part's code from gate to gate: each stretch begins at one, but the first, and no gate lies within.
+use Rattle.sfi_scan.proofs.Prelude.{◌≡◌, ℕ, zero, suc, ◌+◌, ◌-◌, ◌*◌, ◌<◌, ◌≤◌, ◌==◌, ◌⊎◌, Bool, true, false, List, [], ◌∷◌, length, take, drop, get_or, inl, inr, refl, sym, ap, ◌∙◌, subst, arith, ◌||◌, ne_eqb, length-drop, length-take, BundlePlace, Finding, Part, place_of, block_bundle, AreFindingsOfFirst}
+use Rattle.std.proofs.Common.{eq-eqb, ◌/◌}
 use Rattle.sfi_image.specs.Gates.{is_gate_of}
-use Rattle.sfi_image.specs.Regions.{IsBundleStart}
+use Rattle.sfi_image.specs.Parts.{IsRightPart}
 use Rattle.sfi_image.specs.declared.part.Gate.{Gate}
-use Rattle.sfi_image.specs.declared.span.Span.{Span}
-use Rattle.std.specs.Simd.{first_chunks}
+use Rattle.sfi_image.proofs.Facts.{whole_bundles}
+use Rattle.sfi_scan.specs.Stretches.{IsStretch, AreStretchFindings, stretch_place}
+use Rattle.sfi_scan.specs.private.Listing.{Lists}
+use Rattle.sfi_scan.proofs.Stretches.{front_bundle, rest_bundle, stretch_in_part}
 
-apart : (a b : ℕ) → a < b → a % 16 ≡ 0 → b % 16 ≡ 0 → a + 16 ≤ b
-apart a b h e f = omega arith
+-- ---- gates
 
--- the gates of a region, none of which lies before the address
-pub all_ahead : (region : Span) (at : ℕ) (gates : List Gate)
-    → All (λ g. IsBundleStart region g.address) gates
-    → AllPairs (λ g h. g.address < h.address) gates
-    → All (λ g. at ≤ g.address) gates
-    → AreGatesFrom at gates
-all_ahead region at [] starts up low = tt
-all_ahead region at (g ∷ gates) starts up low = (
-  low 0 g (omega arith),
-  (starts 0 g (omega arith)).aligned,
-  all_ahead region (g.address + 16) gates (λ k d h. starts (suc k) d (omega arith)) (λ i j d h e. up (suc i) (suc j) d (omega arith) (omega arith))
-      (λ k d h. apart g.address (get_or gates k d).address (up 0 (suc k) d (omega arith) (omega arith)) (starts 0 g (omega arith)).aligned (starts (suc k) d (omega arith)).aligned),
-)
+-- none of the gates is at the address
+no_gate : (gs : List Gate) (a : ℕ) → ((k : ℕ) (d : Gate) → k < length gs → (get_or gs k d).address ≡ a → ⊥) → is_gate_of gs a ≡ false
+no_gate [] a none = refl
+no_gate (g ∷ gs) a none = rw (ne_eqb g.address a (λ e. none 0 g (omega arith) e)) (no_gate gs a (λ k d less e. none (suc k) d (omega arith) e))
 
--- no gate ahead is at an address before
-pub none_before : (at a : ℕ) (gates : List Gate) → a < at → AreGatesFrom at gates → is_gate_of gates a ≡ false
-none_before at a [] h ahead = refl
-none_before at a (g ∷ gates) h ahead =
-    let low = ahead.0 in
-    rw (ne_eqb g.address a (λ e. omega arith)) (none_before (g.address + 16) a gates (omega arith) ahead.2)
-
--- no gate ahead is at an address before an end that the first doesn't lie below
-pub none_below : (at end a : ℕ) (gates : List Gate) → is_first_below gates end ≡ false → a < end → AreGatesFrom at gates → is_gate_of gates a ≡ false
-none_below at end a [] far h ahead = refl
-none_below at end a (g ∷ gates) far h ahead =
-    let low : end ≤ g.address = omega (arith, ltb-false g.address end far) in
-    rw (ne_eqb g.address a (λ e. omega arith)) (none_before (g.address + 16) a gates (omega arith) ahead.2)
-
--- what is ahead says whether there is a gate at the address
-pub first_is : (at : ℕ) (gates : List Gate) → AreGatesFrom at gates → is_first_at gates at ≡ is_gate_of gates at
-first_is at [] ahead = refl
-first_is at (g ∷ gates) ahead = rw (none_before (g.address + 16) at gates (let low = ahead.0 in omega arith) ahead.2) (or_false (g.address == at))
+-- one of them is
+one_gate : (gs : List Gate) (k : ℕ) (d : Gate) → k < length gs → is_gate_of gs (get_or gs k d).address ≡ true
+one_gate [] k d less = absurd (omega arith)
+one_gate (g ∷ gs) zero d less = rw (eq-eqb g.address g.address refl) refl
+one_gate (g ∷ gs) (suc k) d less = rw (one_gate gs k d (omega arith)) (or_true (g.address == (get_or gs k d).address))
   where
-    or_false : (b : Bool) → b ≡ (b || false)
-    or_false true = refl
-    or_false false = refl
+    or_true : (b : Bool) → (b || true) ≡ true
+    or_true true = refl
+    or_true false = refl
 
--- after a gate at the address
-ahead_taken : (at : ℕ) (gates : List Gate) → is_first_at gates at ≡ true → at % 16 ≡ 0 → AreGatesFrom at gates → AreGatesFrom (at + 16) (drop 1 gates)
-ahead_taken at [] e even ahead = tt
-ahead_taken at (g ∷ gates) e even ahead = subst (λ a. AreGatesFrom (a + 16) gates) (eqb-true g.address at e) ahead.2
+-- ---- where the scan stands
 
-ahead_kept : (at : ℕ) (gates : List Gate) → is_first_at gates at ≡ false → at % 16 ≡ 0 → AreGatesFrom at gates → AreGatesFrom (at + 16) gates
-ahead_kept at [] e even ahead = tt
-ahead_kept at (g ∷ gates) e even ahead =
-    let low = ahead.0 in
-    let other = eqb-false g.address at e in
-    let low' : at < g.address = omega arith in
-    (apart at g.address low' even ahead.1, ahead.1, ahead.2)
+-- so many bytes are scanned, up to the gate before the one of that number, if there is one
+pub record IsAtGate (sandbox : ℕ) (p : Part) (i : ℕ) (b : BundlePlace) (at : ℕ) (found : List Finding) (lacks : Bool) : Type 0 where
+  pub bundles : ℕ
+  pub at_is : at ≡ 16 * bundles
+  pub inside : at < length p.code
+  pub place_is : b ≡ record (place_of sandbox p bundles) { listed = b.listed }
+  pub last : ((i ≡ 0) × (at ≡ 0) × (b.listed ≡ false)) ⊎ ((j : ℕ) × (i ≡ j + 1) × (j < length p.gates) × (b.listed ≡ true) × ((d : Gate) → (get_or p.gates j d).address ≡ p.code_base + at))
+  pub found_are : lacks ≡ false → AreFindingsOfFirst sandbox p bundles found
 
-same_taken : (at a : ℕ) (gates : List Gate) → is_first_at gates at ≡ true → at < a → is_gate_of (drop 1 gates) a ≡ is_gate_of gates a
-same_taken at a [] e h = refl
-same_taken at a (g ∷ gates) e h = rw (ne_eqb g.address a (λ f. let same = eqb-true g.address at e in omega arith)) refl
+-- up to that gate, or to the code's end
+pub record IsNext (p : Part) (i at end n : ℕ) : Type 0 where
+  pub end_is : end ≡ at + 16 * n
+  pub inside : end ≤ length p.code
+  pub gates : (k : ℕ) (d : Gate) → i ≤ k → k < length p.gates → p.code_base + end ≤ (get_or p.gates k d).address
 
--- after a bundle
-pub ahead_next : (p : Part) (k : ℕ) (gates : List Gate) (listed : Bool) → (p.code_base + 16 * k) % 16 ≡ 0 → AreAhead p k gates
-    → listed ≡ is_first_at gates (p.code_base + 16 * k) → AreAhead p (k + 1) (cond listed (drop 1 gates) gates)
-ahead_next p k gates true even old e = record {
-  from = subst (λ a. AreGatesFrom a (drop 1 gates)) (let next : p.code_base + 16 * k + 16 ≡ p.code_base + 16 * (k + 1) = omega arith in next) (ahead_taken (p.code_base + 16 * k) gates (sym e) even old.from);
-  same = λ a h. same_taken (p.code_base + 16 * k) a gates (sym e) (omega arith) ∙ old.same a (omega arith);
-}
-ahead_next p k gates false even old e = record {
-  from = subst (λ a. AreGatesFrom a gates) (let next : p.code_base + 16 * k + 16 ≡ p.code_base + 16 * (k + 1) = omega arith in next) (ahead_kept (p.code_base + 16 * k) gates (sym e) even old.from);
-  same = λ a h. old.same a (omega arith);
-}
+-- no gate lies between
+between : (sandbox : ℕ) (p : Part) (i : ℕ) (b : BundlePlace) (at end n : ℕ) (found : List Finding) (lacks : Bool) → IsRightPart p → IsAtGate sandbox p i b at found lacks → IsNext p i at end n
+    → (m : ℕ) → 0 < m → m < n → is_gate_of p.gates (p.code_base + at + 16 * m) ≡ false
+between sandbox p i b at end n found lacks right here next m some less =
+    no_gate p.gates (p.code_base + at + 16 * m) (λ k d inside e. elim here.last [
+      | inl first ↦ (let zero = first.0 in let after = next.gates k d (omega arith) inside in let end_is = next.end_is in omega arith)
+      | inr one ↦ (
+          let i_is = one.1 in
+          let gate_is = one.4 d in
+          let end_is = next.end_is in
+          let before : k < one.0 → ⊥ = λ lt. let up = right.gates.ascending k one.0 d lt one.2 in omega arith in
+          let same : k ≡ one.0 → ⊥ = λ is. let at_k : (get_or p.gates k d).address ≡ p.code_base + at = ap (λ (x : ℕ). (get_or p.gates x d).address) is ∙ gate_is in omega arith in
+          let beyond : one.0 < k → ⊥ = λ lt. let after = next.gates k d (omega arith) inside in omega arith in
+          let none : (k < one.0) ⊎ ((k ≡ one.0) ⊎ (one.0 < k)) = grind arith in
+          elim none [ inl x ↦ before x | inr y ↦ elim y [ inl x ↦ same x | inr x ↦ beyond x ] ])
+    ])
 
-pub chunk_at : (count k : ℕ) (xs : List ℕ) → k < count → get_or (first_chunks 16 count xs) k [] ≡ take 16 (drop (16 * k) xs)
-chunk_at zero k xs h = absurd (omega arith)
-chunk_at (suc count) zero xs h = refl
-chunk_at (suc count) (suc k) xs h =
-    chunk_at count k (drop 16 xs) (omega arith) ∙ ap (take 16) (drop-drop (16 * k) 16 xs ∙ ap (λ n. drop n xs) (let e : 16 + 16 * k ≡ 16 * suc k = omega arith in e))
+-- whether one lies where the stretch begins, if it has a bundle
+at_begin : (sandbox : ℕ) (p : Part) (i : ℕ) (b : BundlePlace) (at end n : ℕ) (found : List Finding) (lacks : Bool) → IsRightPart p → IsAtGate sandbox p i b at found lacks → IsNext p i at end n
+    → 0 < n → b.listed ≡ is_gate_of p.gates (p.code_base + at)
+at_begin sandbox p i b at end n found lacks right here next some =
+    elim here.last [
+      | inl first ↦ first.2 ∙ sym (no_gate p.gates (p.code_base + at) (λ k d inside e. let zero = first.0 in let after = next.gates k d (omega arith) inside in let end_is = next.end_is in omega arith))
+      | inr one ↦ (let d : Gate = record { address = 0; service = 0 } in one.3 ∙ sym (one_gate p.gates one.0 d one.2) ∙ ap (is_gate_of p.gates) (one.4 d))
+    ]
 
-pub if_true : (b : Bool) (xs ys zs : List Finding) → zs ≡ (if b then xs else ys) → b ≡ true → zs ≡ xs
-if_true b xs ys zs e h = e ∙ ap (λ (v : Bool). if v then xs else ys) h
+-- the stretch's places are those of the part
+places : (sandbox : ℕ) (p : Part) (i : ℕ) (b : BundlePlace) (at end n : ℕ) (found : List Finding) (lacks : Bool) → IsRightPart p → (here : IsAtGate sandbox p i b at found lacks) → IsNext p i at end n
+    → (m : ℕ) → m < n → stretch_place b m ≡ place_of sandbox p (here.bundles + m)
+places sandbox p i b at end n found lacks right here next zero less =
+    let at_is = here.at_is in
+    let listed = at_begin sandbox p i b at end n found lacks right here next less ∙ ap (λ (x : ℕ). is_gate_of p.gates (p.code_base + x)) at_is in
+    here.place_is ∙ ap (λ (l : Bool). record (place_of sandbox p here.bundles) { listed = l }) listed ∙ ap (place_of sandbox p) (let e : here.bundles ≡ here.bundles + 0 = omega arith in e)
+places sandbox p i b at end n found lacks right here next (suc m) less =
+    let at_is = here.at_is in
+    let address : p.code_base + 16 * here.bundles + 16 * suc m ≡ p.code_base + 16 * (here.bundles + suc m) = omega arith in
+    let gate : p.code_base + at + 16 * suc m ≡ p.code_base + 16 * (here.bundles + suc m) = omega arith in
+    let free = ap (is_gate_of p.gates) (sym gate) ∙ between sandbox p i b at end n found lacks right here next (suc m) (omega arith) less in
+    ap (λ (x : BundlePlace). stretch_place x (suc m)) here.place_is
+    ∙ ap (λ (a : ℕ). record (place_of sandbox p here.bundles) { address = a; listed = false }) address
+    ∙ ap (λ (l : Bool). record (place_of sandbox p (here.bundles + suc m)) { listed = l }) (sym free)
 
--- a bundle without findings adds none
-pub none_more : (xs ys : List Finding) → length ys ≤ 0 → xs ≡ xs ++ ys
-none_more xs [] h = sym (append-nil xs)
-none_more xs (y ∷ ys) h = absurd (omega arith)
+-- ---- one stretch more
 
--- ---- a block
+-- its bytes
+pub next_stretch : (sandbox : ℕ) (p : Part) (i : ℕ) (b : BundlePlace) (at end n : ℕ) (found : List Finding) (lacks : Bool) → IsRightPart p → IsAtGate sandbox p i b at found lacks → IsNext p i at end n
+    → IsStretch b (take (end - at) (drop at p.code)) n
+next_stretch sandbox p i b at end n found lacks right here next =
+    let whole = whole_bundles p.format p.code_base (length p.code) right.code_base right.code_placed in
+    let end_is = next.end_is in
+    let inside = next.inside in
+    let at_is = here.at_is in
+    let cut = length-take (end - at) (drop at p.code) in
+    let rest = length-drop at p.code in
+    let base = ap (λ (x : BundlePlace). x.code_base) here.place_is in
+    let size = ap (λ (x : BundlePlace). x.code_size) here.place_is in
+    let address = ap (λ (x : BundlePlace). x.address) here.place_is in
+    let limit = whole.4 in
+    record { whole = omega arith; base = omega arith; end = omega arith; addresses = omega arith }
 
--- a block's bundle among those of the part
-pub block_bundle_is : (n i : ℕ) (xs block : List ℕ) → i < 8 → block ≡ take 128 (drop (16 * n) xs) → block_bundle block i ≡ take 16 (drop (16 * (n + i)) xs)
-block_bundle_is n i xs block h is =
-    let m = 112 - 16 * i in
-    let e : 16 * i + (16 + m) ≡ 128 = omega arith in
-    let from : 16 * n + 16 * i ≡ 16 * (n + i) = omega arith in
-    ap (λ (l : List ℕ). take 16 (drop (16 * i) l)) is
-    ∙ ap (λ (k : ℕ). take 16 (drop (16 * i) (take k (drop (16 * n) xs)))) (sym e)
-    ∙ ap (take 16) (drop-take (16 * i) (16 + m) (drop (16 * n) xs))
-    ∙ take-take 16 (16 + m) (drop (16 * i) (drop (16 * n) xs)) (omega arith)
-    ∙ ap (take 16) (drop-drop (16 * i) (16 * n) xs ∙ ap (λ (k : ℕ). drop k xs) from)
+-- the findings with those of its bundles
+pub next_found : (sandbox : ℕ) (p : Part) (i : ℕ) (b : BundlePlace) (at end n : ℕ) (found : List Finding) (lacks : Bool) (new more : List Finding) (lacks' : Bool) → IsRightPart p → (here : IsAtGate sandbox p i b at found lacks)
+    → IsNext p i at end n → AreStretchFindings b (take (end - at) (drop at p.code)) n more → Lists found lacks more new lacks' → lacks' ≡ false → AreFindingsOfFirst sandbox p (here.bundles + n) new
+next_found sandbox p i b at end n found lacks new more lacks' right here next are lists has =
+    let told = lists has in
+    let end_is = next.end_is in
+    let at_is = here.at_is in
+    let cut : end - at ≡ 16 * n = omega arith in
+    let bytes : take (end - at) (drop at p.code) ≡ take (16 * n) (drop (16 * here.bundles) p.code) = ap (λ (m : ℕ). take m (drop at p.code)) cut ∙ ap (λ (m : ℕ). take (16 * n) (drop m p.code)) at_is in
+    subst (AreFindingsOfFirst sandbox p (here.bundles + n)) (sym told.1)
+    (stretch_in_part sandbox p b (take (end - at) (drop at p.code)) here.bundles n found more (places sandbox p i b at end n found lacks right here next)
+    (λ m less. ap (λ (l : List ℕ). block_bundle l m) bytes ∙ front_bundle n m (drop (16 * here.bundles) p.code) less ∙ rest_bundle here.bundles m p.code) (here.found_are told.0) are)
 
--- a bundle that is seen clean where its block is looked at, and is no listed gate
-pub seen_clean : (sandbox : ℕ) (p : Part) (n i : ℕ) (b : BundlePlace) (block : List ℕ) → i < 8 → b ≡ record (place_of sandbox p n) { listed = false }
-    → is_gate_of p.gates (p.code_base + 16 * (n + i)) ≡ false → block ≡ take 128 (drop (16 * n) p.code)
-    → AreReadingFindings (bundle_at b i) (block_bundle block i) [] → AreBundleFindings (place_of sandbox p (n + i)) (bundle_bytes p (n + i)) []
-seen_clean sandbox p n i b block h at unlisted is clean =
-    let next : p.code_base + 16 * n + 16 * i ≡ p.code_base + 16 * (n + i) = omega arith in
-    let place_with : ℕ → Bool → BundlePlace = λ a l. record { sandbox = sandbox; address = a; format = p.format; code_base = p.code_base; code_size = length p.code; listed = l } in
-    let place : bundle_at b i ≡ place_of sandbox p (n + i) = ap (λ (x : BundlePlace). bundle_at x i) at ∙ ap (λ a. place_with a false) next ∙ ap (place_with _) (sym unlisted) in
-    let here = subst (λ (l : List ℕ). AreReadingFindings (bundle_at b i) l []) (block_bundle_is n i p.code block h is) clean in
-    inr (λ listed. absurd (true≢false (sym listed ∙ unlisted)), subst (λ (x : BundlePlace). AreReadingFindings x (bundle_bytes p (n + i)) []) place here)
+-- ---- where it goes on
 
--- ---- one bundle more
+-- the stretch to the next gate
+pub next_gate : (sandbox : ℕ) (p : Part) (i : ℕ) (b : BundlePlace) (at a : ℕ) (found : List Finding) (lacks : Bool) → IsRightPart p → IsAtGate sandbox p i b at found lacks
+    → i < length p.gates → ((d : Gate) → (get_or p.gates i d).address ≡ a) → (p.code_base ≤ a) × (p.code_base + at ≤ a) × (a < p.code_base + length p.code) × IsNext p i at (a - p.code_base) ((a - p.code_base - at) / 16)
+next_gate sandbox p i b at a found lacks right here less is =
+    let whole = whole_bundles p.format p.code_base (length p.code) right.code_base right.code_placed in
+    let d : Gate = record { address = 0; service = 0 } in
+    let start = right.gates.starts i d less in
+    let low = start.held.0 in
+    let high = start.held.1 in
+    let even = start.aligned in
+    let a_is = is d in
+    let base_is = whole.3 in
+    let at_is = here.at_is in
+    let on : p.code_base + at ≤ a = elim here.last [
+      | inl first ↦ (let zero = first.1 in omega arith)
+      | inr one ↦ (let i_is = one.1 in let gate_is = one.4 d in let up = right.gates.ascending one.0 i d (omega arith) less in omega arith)
+    ] in (
+      omega arith,
+      on,
+      omega arith,
+      record {
+        end_is = omega arith;
+        inside = omega arith;
+        gates = λ k e from inside. elim (cases_le i k from) [
+          | inl same ↦ (let at_k : (get_or p.gates k e).address ≡ a = ap (λ (x : ℕ). (get_or p.gates x e).address) (sym same) ∙ is e in omega arith)
+          | inr more ↦ (let up = right.gates.ascending i k e more inside in let at_i = is e in omega arith)
+        ];
+      },
+    )
+  where
+    cases_le : (i k : ℕ) → i ≤ k → (i ≡ k) ⊎ (i < k)
+    cases_le i k h = grind arith
 
-pub one_more : (sandbox : ℕ) (p : Part) (n : ℕ) (b : BundlePlace) (bytes : List ℕ) (front last found : List Finding)
-    → AreFindingsOfFirst sandbox p n front → AreBundleFindings b bytes last → b ≡ place_of sandbox p n → bytes ≡ bundle_bytes p n → found ≡ front ++ last
-    → AreFindingsOfFirst sandbox p (n + 1) found
-one_more sandbox p n b bytes front last found before here at bytes_are e =
-    let here' = subst (λ (x : BundlePlace). AreBundleFindings x bytes last) at here in
-    let here'' = subst (λ (x : List ℕ). AreBundleFindings (place_of sandbox p n) x last) bytes_are here' in
-    let more : AreFindingsOfFirst sandbox p (suc n) found = (front, last, before, here'', e) in
-    subst (λ k. AreFindingsOfFirst sandbox p k found) (let k : suc n ≡ n + 1 = omega arith in k) more
+-- the stretch to the code's end
+pub next_end : (sandbox : ℕ) (p : Part) (i : ℕ) (b : BundlePlace) (at : ℕ) (found : List Finding) (lacks : Bool) → IsRightPart p → IsAtGate sandbox p i b at found lacks
+    → length p.gates ≤ i → IsNext p i at (length p.code) ((length p.code - at) / 16)
+next_end sandbox p i b at found lacks right here over =
+    let whole = whole_bundles p.format p.code_base (length p.code) right.code_base right.code_placed in
+    let size_is = whole.2 in
+    let at_is = here.at_is in
+    let inside = here.inside in
+    record { end_is = omega arith; inside = omega arith; gates = λ k e from less. absurd (omega arith) }
+
+-- at first
+pub at_first : (sandbox : ℕ) (p : Part) → IsRightPart p → IsAtGate sandbox p 0 (record (place_of sandbox p 0) { address = p.code_base; listed = false }) 0 [] false
+at_first sandbox p right =
+    let least = right.code_placed.at_least in
+    record {
+      bundles = 0;
+      at_is = refl;
+      inside = omega arith;
+      place_is = ap (λ (a : ℕ). record (place_of sandbox p 0) { address = a; listed = false }) (let e : p.code_base ≡ p.code_base + 16 * 0 = omega arith in e);
+      last = inl (refl, refl, refl);
+      found_are = λ has. refl;
+    }
+
+-- at the next gate
+pub at_next : (sandbox : ℕ) (p : Part) (i j : ℕ) (b c : BundlePlace) (at a end : ℕ) (found : List Finding) (lacks : Bool) (new more : List Finding) (lacks' : Bool) → IsRightPart p → IsAtGate sandbox p i b at found lacks
+    → i < length p.gates → ((d : Gate) → (get_or p.gates i d).address ≡ a) → j ≡ i + 1 → end ≡ a - p.code_base → c ≡ record b { address = a; listed = true }
+    → AreStretchFindings b (take (end - at) (drop at p.code)) ((end - at) / 16) more → Lists found lacks more new lacks' → IsAtGate sandbox p j c end new lacks'
+at_next sandbox p i j b c at a end found lacks new more lacks' right here less is on end_is place are lists =
+    let next = next_gate sandbox p i b at a found lacks right here less is in
+    let n = (end - at) / 16 in
+    let low = next.0 in
+    let high = next.2 in
+    let at_is = here.at_is in
+    let next_is = subst (λ (e : ℕ). IsNext p i at e ((e - at) / 16)) (sym end_is) next.3 in
+    let step = next_is.end_is in
+    let address : a ≡ p.code_base + 16 * (here.bundles + n) = omega arith in
+    record {
+      bundles = here.bundles + n;
+      at_is = omega arith;
+      inside = omega arith;
+      place_is = place ∙ ap (λ (x : BundlePlace). record x { address = a; listed = true }) here.place_is ∙ ap (λ (x : ℕ). record (place_of sandbox p 0) { address = x; listed = true }) address
+          ∙ ap (λ (l : Bool). record (place_of sandbox p (here.bundles + n)) { listed = l }) (sym (ap (λ (x : BundlePlace). x.listed) place));
+      last = inr (i, on, less, ap (λ (x : BundlePlace). x.listed) place, λ d. is d ∙ (let e : a ≡ p.code_base + end = omega arith in e));
+      found_are = next_found sandbox p i b at end n found lacks new more lacks' right here next_is are lists;
+    }

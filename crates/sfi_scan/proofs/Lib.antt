@@ -7,6 +7,7 @@ pub mod FirstLook
 pub mod Gates
 pub mod Look
 pub mod PairTables
+pub mod Stretches
 pub mod WordsAt
 pub mod Writes
 pub mod Walk

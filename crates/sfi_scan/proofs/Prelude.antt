@@ -30,4 +30,4 @@ pub use Rattle.sfi_rules.specs.declared.finding.Finding.{Finding}
 pub use Rattle.sfi_rules.specs.declared.rule.Rule.{Rule}
 pub use Rattle.sfi_scan.specs.private.Block.{AreStarts, AreAfterTwo, offset, words_from, IsSpelledAt, IsCleanIn, IsCleanAt, IsWritten, IsOfWrite, AreThreeWords, IsWithout}
 pub use Rattle.sfi_scan.specs.private.FirstLook.{IsWordOr0, AreBefore, is_protected, is_clean, is_zero, word_at, AreWordsFrom, IsCleanOne, IsStackWrite, AreStackPair, half_at, is_clean_access}
-pub use Rattle.sfi_scan.specs.private.Near.{ahead, near, AreAhead, AreGatesFrom, is_first_at, is_first_below, finding_of, IsClean}
+pub use Rattle.sfi_scan.specs.private.Near.{ahead, near, finding_of}

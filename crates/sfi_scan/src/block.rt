@@ -81,7 +81,7 @@ fn three_words(words: u64) -> u64
 
 /// The bundle of the block of that number.
 #[inline(always)]
-fn bundle_at(place: &BundlePlace, bundle: usize) -> BundlePlace
+pub(crate) fn bundle_at(place: &BundlePlace, bundle: usize) -> BundlePlace
     requires within { IsWithinBlock place.now }
     requires number { bundle < 8 }
     ensures is { result ≡ bundle_at place.now bundle }

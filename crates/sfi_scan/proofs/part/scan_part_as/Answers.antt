@@ -1,94 +1,141 @@
-use Rattle.sfi_scan.proofs.Prelude.{◌≡◌, ℕ, ◌+◌, ◌*◌, ◌/◌, ◌%◌, List, ◌++◌, length, drop, cond, get_or, refl, true, false, true≢false, sym, ◌∙◌, ap, subst, arith, Bool, [], BundlePlace, view, is_in, IsWithin, place_of, AreFindingsOfFirst, AreAhead, AreGatesFrom, IsClean, is_first_at}
-use Rattle.sfi_image.specs.Gates.{is_gate_of}
-use Rattle.sfi_image.specs.Spans.{code_region}
+use Rattle.sfi_scan.proofs.Prelude.{◌≡◌, ◌∙◌, ◌≤◌, ◌<◌, ◌+◌, ◌-◌, ◌/◌, ℕ, List, Bool, false, [], length, get_or, refl, ap, sym, subst, arith, BundlePlace, Finding, view, place_of, AreFindingsOfFirst}
+use Rattle.std.proofs.Common.{Result, Ok, Err}
+use Rattle.std.specs.Prelude.{IfOk}
+use Rattle.std.proofs.lemmas.List.{get_or_default}
 use Rattle.sfi_image.specs.declared.part.Gate.{Gate}
-use Rattle.std.specs.Result.{is_ok}
-use Rattle.sfi_image.proofs.Facts.{whole_bundles}
-use Rattle.sfi_scan.proofs.Bits.{in_shr, in_zero}
-use Rattle.sfi_scan.proofs.Gates.{all_ahead, one_more, first_is, ahead_next, chunk_at, if_true, none_more}
+use Rattle.sfi_scan.proofs.Gates.{IsAtGate, at_first, at_next, next_end, next_found, next_gate, next_stretch}
 use Rattle.sfi_scan.proofs.part.scan_part_as.Goals as goal
-use Rattle.sfi_scan.proofs.part.scan_part_as.Goals.{then-k-eq0, else-k-eq0, then-not-has+then-count-gt0+in_ok-extend_from_slice, then-not-has+else-count-gt0, else-not-has}
 
-pub loop-k-init : goal.loop-k-init
-loop-k-init c = record {
-  so_far = c.new-found.ensures.items;
-  ahead = record {
-    from = subst (λ l. AreGatesFrom (c.args.part.now.code_base + 0) l) (sym c.as_slice-gates.ensures.value) (all_ahead (code_region (view c.args.format c.args.part.now)) (c.args.part.now.code_base + 0) c.args.part.now.gates.items c.requires.gates.starts c.requires.gates.ascending
-        (λ k d h. let from = (c.requires.gates.starts k d h).held.0 in omega arith));
-    same = λ a h. ap (λ l. is_gate_of l a) c.as_slice-gates.ensures.value;
-  };
-  clean = λ i is. absurd (true≢false (sym is ∙ in_zero i));
-}
+abbrev no_gate : Gate
+no_gate = record { address = 0; service = 0 }
 
-pub clean_from-clean-requires-clause-inside : goal.clean_from-clean-requires-clause-inside
-clean_from-clean-requires-clause-inside c =
-    let count = c.as_chunks.ensures.front_len in
-    let below = c.loop-k-test.true in
-    omega arith
+-- the address of the gate of that number, whatever stands past the last
+at_gate : (gs hs : List Gate) (i : ℕ) → gs ≡ hs → i < length hs → (d : Gate) → (get_or hs i d).address ≡ (get_or gs i no_gate).address
+at_gate gs hs i same less d = ap (λ (g : Gate). g.address) (get_or_default hs i d no_gate less) ∙ ap (λ (l : List Gate). (get_or l i no_gate).address) (sym same)
 
-pub place_in-place-requires-clause-inside : goal.place_in-place-requires-clause-inside
-place_in-place-requires-clause-inside c =
-    let count = c.as_chunks.ensures.front_len in
-    let below = c.loop-k-test.true in
-    omega arith
-
-pub scan_bundle-requires : goal.scan_bundle-requires
-scan_bundle-requires c =
-    let whole = whole_bundles c.args.format c.args.part.now.code_base (length c.args.part.now.code.now) c.requires.code_base c.requires.code_placed in
-    let end = whole.4 in
-    let count = c.as_chunks.ensures.front_len in
-    let below = c.loop-k-test.true in
-    subst IsWithin (sym c.place_in-place.ensures) (record { base = omega arith; end = omega arith; addresses = end })
-
-pub loop-k-preserved : goal.loop-k-preserved
-loop-k-preserved c =
+pub loop-gate-init : goal.loop-gate-init
+loop-gate-init c =
     let p = view c.args.format c.args.part.now in
-    let k = c.loop-k.k in
-    let at = c.args.part.now.code_base + 16 * k in
-    let old = c.loop-k.invariant in
-    let gates = c.loop-k.gates.now in
-    let whole = whole_bundles c.args.format c.args.part.now.code_base (length c.args.part.now.code.now) c.requires.code_base c.requires.code_placed in
-    let even : at % 16 ≡ 0 = let base = whole.3 in omega arith in
-    let listed = first_is at gates old.ahead.from ∙ old.ahead.same at (omega arith) in
-    let place_with : Bool → BundlePlace = λ l. record (place_of c.args.sandbox p k) { listed = l } in
-    let place : (b : BundlePlace) → b ≡ place_with (is_first_at gates at) → b ≡ place_of c.args.sandbox p k = λ b e. e ∙ ap place_with listed in
-    let bytes = ap (λ (l : List (List ℕ)). get_or l k []) c.as_chunks.ensures.front ∙ chunk_at (length c.args.part.now.code.now / 16) k c.args.part.now.code.now (let below = c.loop-k-test.true in let count = c.as_chunks.ensures.front_len in omega arith) in
-    let clean : (i : ℕ) → is_in c.if-k-eq0.clean i ≡ true → IsClean c.args.sandbox p (k + i) =
-    elim c.if-k-eq0.branch [
-      | then-k-eq0 w ↦ (λ i is. w.clean_from-clean.ensures i (ap (λ m. is_in m i) (sym w.clean-is) ∙ is))
-      | else-k-eq0 w ↦ (λ i is. old.clean i (ap (λ m. is_in m i) (sym w.clean-is) ∙ is))
-    ] in
-    let here : is_in c.if-k-eq0.clean 0 ≡ true → IsClean c.args.sandbox p k = λ is. subst (IsClean c.args.sandbox p) (let e : k + 0 ≡ k = omega arith in e) (clean 0 is) in
-    let ahead : (l : Bool) (after : List Gate) → after ≡ cond l (drop 1 gates) gates → l ≡ is_first_at gates at → AreAhead p (k + 1) after =
-    λ l after e is. subst (λ gs. AreAhead p (k + 1) gs) (sym e) (ahead_next p k gates l even old.ahead is) in
-    record {
-      so_far = elim c.if-not-has.branch [
-        | then-not-has+then-count-gt0+in_ok-extend_from_slice w ↦
-            one_more c.args.sandbox p k _ _ c.loop-k.found.items w.scan_bundle.new.findings c.if-not-has.found.items old.so_far w.scan_bundle.ensures (place _ w.place_in-place.ensures) bytes
-            (ap (λ v. v.items) w.found-is ∙ if_true (is_ok w.extend_from_slice.result) _ _ w.extend_from_slice.new.self.items w.extend_from_slice.ensures.items (ap is_ok w.in_ok-extend_from_slice.was) ∙ ap (λ l. c.loop-k.found.items ++ l) w.as_slice.ensures)
-        | then-not-has+else-count-gt0 w ↦
-            one_more c.args.sandbox p k _ _ c.loop-k.found.items w.scan_bundle.new.findings c.if-not-has.found.items old.so_far w.scan_bundle.ensures (place _ w.place_in-place.ensures) bytes
-            (ap (λ v. v.items) w.found-is ∙ none_more c.loop-k.found.items w.scan_bundle.new.findings (let none = w.if-count-gt0.false in let count = w.count.ensures.value in omega arith))
-        | else-not-has w ↦
-            one_more c.args.sandbox p k _ _ c.loop-k.found.items [] c.if-not-has.found.items old.so_far
-            (here (ap (λ m. is_in m 0) (sym c.from.ensures) ∙ sym c.has.ensures ∙ w.if-not-has.false)).none
-            refl refl (ap (λ v. v.items) w.found-is ∙ none_more c.loop-k.found.items [] (omega arith))
-      ];
-      ahead = elim c.if-not-has.branch [
-        | then-not-has+then-count-gt0+in_ok-extend_from_slice w ↦ ahead w.place_in-place.result.listed c.if-not-has.gates.now (ap (λ b. b.now) w.gates-is ∙ w.gates_after-gates.ensures) (ap (λ (b : BundlePlace). b.listed) w.place_in-place.ensures)
-        | then-not-has+else-count-gt0 w ↦ ahead w.place_in-place.result.listed c.if-not-has.gates.now (ap (λ b. b.now) w.gates-is ∙ w.gates_after-gates.ensures) (ap (λ (b : BundlePlace). b.listed) w.place_in-place.ensures)
-        | else-not-has w ↦ ahead false c.if-not-has.gates.now (ap (λ b. b.now) w.gates-is)
-            (sym (listed ∙ (here (ap (λ m. is_in m 0) (sym c.from.ensures) ∙ sym c.has.ensures ∙ w.if-not-has.false)).unlisted))
-      ];
-      clean = λ i is. subst (IsClean c.args.sandbox p) (let e : k + (1 + i) ≡ k + 1 + i = omega arith in e) (clean (1 + i) (sym (in_shr c.if-k-eq0.clean 1 i) ∙ is));
-    }
+    let place : BundlePlace = record (place_of c.args.sandbox p 0) { address = c.args.part.now.code_base; listed = false } in
+    subst (λ (l : List Finding). IsAtGate c.args.sandbox p 0 place 0 l c.new-found.result.lacks_memory) (sym c.new-found.ensures.empty)
+    (subst (λ (b : Bool). IsAtGate c.args.sandbox p 0 place 0 [] b) (sym c.new-found.ensures.memory) (at_first c.args.sandbox p c.requires))
+
+pub slice_bounds-scan_code-count : goal.slice_bounds-scan_code-count
+slice_bounds-scan_code-count c =
+    let p = view c.args.format c.args.part.now in
+    let i = c.loop-gate.gate-index in
+    let at = c.loop-gate.at in
+    let gates = c.deref-gate-items.result.now in
+    let same = c.deref-gate-items.ensures.value in
+    let inv = c.loop-gate.invariant in
+    let less : i < length p.gates = omega (arith, ap length same, c.loop-gate-test.true, c.deref-gate-items.ensures.len) in
+    let is = at_gate gates p.gates i same less in
+    let address = (get_or gates i no_gate).address in
+    let next = next_gate c.args.sandbox p i c.loop-gate.place at address c.loop-gate.found.found.items c.loop-gate.found.lacks_memory c.requires inv less is in
+    let low = next.0 in
+    let on = next.1 in
+    let inside = next.3.inside in
+    omega arith
+
+pub overflow_sub-end : goal.overflow_sub-end
+overflow_sub-end c =
+    let p = view c.args.format c.args.part.now in
+    let i = c.loop-gate.gate-index in
+    let at = c.loop-gate.at in
+    let gates = c.deref-gate-items.result.now in
+    let same = c.deref-gate-items.ensures.value in
+    let inv = c.loop-gate.invariant in
+    let less : i < length p.gates = omega (arith, ap length same, c.loop-gate-test.true, c.deref-gate-items.ensures.len) in
+    let is = at_gate gates p.gates i same less in
+    let address = (get_or gates i no_gate).address in
+    let next = next_gate c.args.sandbox p i c.loop-gate.place at address c.loop-gate.found.found.items c.loop-gate.found.lacks_memory c.requires inv less is in
+    let low = next.0 in
+    let on = next.1 in
+    let inside = next.3.inside in
+    omega arith
+
+pub slice_bounds-scan_code-start : goal.slice_bounds-scan_code-start
+slice_bounds-scan_code-start c =
+    let p = view c.args.format c.args.part.now in
+    let i = c.loop-gate.gate-index in
+    let at = c.loop-gate.at in
+    let gates = c.deref-gate-items.result.now in
+    let same = c.deref-gate-items.ensures.value in
+    let inv = c.loop-gate.invariant in
+    let less : i < length p.gates = omega (arith, ap length same, c.loop-gate-test.true, c.deref-gate-items.ensures.len) in
+    let is = at_gate gates p.gates i same less in
+    let address = (get_or gates i no_gate).address in
+    let next = next_gate c.args.sandbox p i c.loop-gate.place at address c.loop-gate.found.found.items c.loop-gate.found.lacks_memory c.requires inv less is in
+    let low = next.0 in
+    let on = next.1 in
+    let inside = next.3.inside in
+    omega arith
+
+pub scan_code-requires : goal.scan_code-requires
+scan_code-requires c =
+    let p = view c.args.format c.args.part.now in
+    let i = c.loop-gate.gate-index in
+    let at = c.loop-gate.at in
+    let gates = c.deref-gate-items.result.now in
+    let same = c.deref-gate-items.ensures.value in
+    let inv = c.loop-gate.invariant in
+    let less : i < length p.gates = omega (arith, ap length same, c.loop-gate-test.true, c.deref-gate-items.ensures.len) in
+    let is = at_gate gates p.gates i same less in
+    let address = (get_or gates i no_gate).address in
+    let next = next_gate c.args.sandbox p i c.loop-gate.place at address c.loop-gate.found.found.items c.loop-gate.found.lacks_memory c.requires inv less is in
+    let end = address - p.code_base in
+    ((end - at) / 16, next_stretch c.args.sandbox p i c.loop-gate.place at end ((end - at) / 16) c.loop-gate.found.found.items c.loop-gate.found.lacks_memory c.requires inv next.3)
+
+pub loop-gate-preserved : goal.loop-gate-preserved
+loop-gate-preserved c =
+    let p = view c.args.format c.args.part.now in
+    let i = c.loop-gate.gate-index in
+    let at = c.loop-gate.at in
+    let gates = c.deref-gate-items.result.now in
+    let same = c.deref-gate-items.ensures.value in
+    let inv = c.loop-gate.invariant in
+    let less : i < length p.gates = omega (arith, ap length same, c.loop-gate-test.true, c.deref-gate-items.ensures.len) in
+    let is = at_gate gates p.gates i same less in
+    let address = (get_or gates i no_gate).address in
+    let next = next_gate c.args.sandbox p i c.loop-gate.place at address c.loop-gate.found.found.items c.loop-gate.found.lacks_memory c.requires inv less is in
+    let end = address - p.code_base in
+    let n = (end - at) / 16 in
+    let run = next_stretch c.args.sandbox p i c.loop-gate.place at end n c.loop-gate.found.found.items c.loop-gate.found.lacks_memory c.requires inv next.3 in
+    let scanned = c.scan_code.ensures n run in
+    at_next c.args.sandbox p i (i + 1) c.loop-gate.place _ at address end c.loop-gate.found.found.items c.loop-gate.found.lacks_memory
+    c.scan_code.new.sink.found.items scanned.found c.scan_code.new.sink.lacks_memory c.requires inv less is refl refl refl scanned.found_are scanned.handed
+
+pub scan_code-requires-2 : goal.scan_code-requires-2
+scan_code-requires-2 c =
+    let p = view c.args.format c.args.part.now in
+    let i = c.loop-gate.gate-index in
+    let at = c.loop-gate.at in
+    let same = c.deref-gate-items.ensures.value in
+    let inv = c.loop-gate.invariant in
+    let over : length p.gates ≤ i = omega (arith, ap length same, c.loop-gate-test.false, c.deref-gate-items.ensures.len) in
+    let next = next_end c.args.sandbox p i c.loop-gate.place at c.loop-gate.found.found.items c.loop-gate.found.lacks_memory c.requires inv over in
+    let n = (length p.code - at) / 16 in
+    let run = next_stretch c.args.sandbox p i c.loop-gate.place at (length p.code) n c.loop-gate.found.found.items c.loop-gate.found.lacks_memory c.requires inv next in
+    (n, run)
 
 pub returns : goal.returns
 returns c =
-    let whole = whole_bundles c.args.format c.args.part.now.code_base (length c.args.part.now.code.now) c.requires.code_base c.requires.code_placed in
-    let count = c.as_chunks.ensures.front_len in
-    let over = c.loop-k-test.false in
-    let up = c.loop-k.auto.k-end in
-    let bundles = whole.2 in
-    let end : c.loop-k.k ≡ whole.0 = omega arith in
-    (whole.0, whole.2, subst (λ n. AreFindingsOfFirst c.args.sandbox (view c.args.format c.args.part.now) n c.loop-k.found.items) end c.loop-k.invariant.so_far)
+    let p = view c.args.format c.args.part.now in
+    let i = c.loop-gate.gate-index in
+    let at = c.loop-gate.at in
+    let same = c.deref-gate-items.ensures.value in
+    let inv = c.loop-gate.invariant in
+    let over : length p.gates ≤ i = omega (arith, ap length same, c.loop-gate-test.false, c.deref-gate-items.ensures.len) in
+    let next = next_end c.args.sandbox p i c.loop-gate.place at c.loop-gate.found.found.items c.loop-gate.found.lacks_memory c.requires inv over in
+    let n = (length p.code - at) / 16 in
+    let run = next_stretch c.args.sandbox p i c.loop-gate.place at (length p.code) n c.loop-gate.found.found.items c.loop-gate.found.lacks_memory c.requires inv next in
+    let scanned = c.scan_code-2.ensures n run in
+    let found = next_found c.args.sandbox p i c.loop-gate.place at (length p.code) n c.loop-gate.found.found.items c.loop-gate.found.lacks_memory
+    c.scan_code-2.new.sink.found.items scanned.found c.scan_code-2.new.sink.lacks_memory c.requires inv next scanned.found_are scanned.handed in
+    let at_is = inv.at_is in
+    let end_is = next.end_is in
+    if_ok c.into_result.result (λ v told. (inv.bundles + n, omega arith, subst (AreFindingsOfFirst c.args.sandbox p (inv.bundles + n)) (sym told.1) (found told.0))) c.into_result.ensures
+  where
+    if_ok : {X E : Type 0} (r : Result X E) {P Q : X → Type 0} → ((x : X) → P x → Q x) → IfOk r P → IfOk r Q
+    if_ok (Ok x) f h = f x h
+    if_ok (Err e) f h = tt

@@ -1,0 +1,71 @@
+use Rattle.sfi_scan.proofs.Prelude.{◌≡◌, ◌∙◌, ◌+◌, ◌-◌, ◌*◌, ℕ, List, length, take, drop, refl, ap, sym, subst, arith, BundlePlace, length-drop}
+use Rattle.sfi_scan.specs.Stretches.{IsStretch, IsScanned, stretch_place}
+use Rattle.sfi_scan.specs.private.Scanning.{IsFrontScanned}
+use Rattle.sfi_scan.proofs.Stretches.{place_on, rest_bundle, stretch_rest, scanned_more, scanned_none, tail_is}
+use Rattle.sfi_scan.proofs.code.scan_code.Goals as goal
+
+pub loop-at-init : goal.loop-at-init
+loop-at-init g c = (0, refl, omega arith, scanned_none g.F.FindingSink.takes c.args.place.now c.args.code.now c.args.sink.now (g.met.F.FindingSink.none c.args.sink.now))
+
+pub place_after-requires : goal.place_after-requires
+place_after-requires g c =
+    let run = c.requires.1 in
+    omega (arith, run.end, run.addresses)
+
+pub scan_front-at-requires : goal.scan_front-at-requires
+scan_front-at-requires g c =
+    let n = c.requires.0 in
+    let run = c.requires.1 in
+    let k = c.loop-at.invariant.0 in
+    let at = c.loop-at.invariant.1 in
+    let whole = run.whole in
+    let place = c.place_after.ensures k at in
+    let rest = ap (λ (a : ℕ). drop a c.args.code.now) (sym at) ∙ sym (tail_is c.loop-at.at c.args.code.now) in
+    (n - k, subst (λ (b : BundlePlace). IsStretch b (take (length c.args.code.now - c.loop-at.at) (drop c.loop-at.at c.args.code.now)) (n - k)) (sym place) (subst (λ (l : List ℕ). IsStretch (stretch_place c.args.place.now k) l (n - k)) rest (stretch_rest c.args.place.now c.args.code.now k n (omega arith) run)), omega arith)
+
+pub overflow_add-at : goal.overflow_add-at
+overflow_add-at g c =
+    let takes = g.F.FindingSink.takes in
+    let k = c.loop-at.invariant.0 in
+    let at = c.loop-at.invariant.1 in
+    let code = c.args.code.now in
+    let rest = tail_is c.loop-at.at code ∙ ap (λ (a : ℕ). drop a code) at in
+    let front = subst (λ (l : List ℕ). IsFrontScanned takes (stretch_place c.args.place.now k) l c.scan_front-at.result c.loop-at.sink c.scan_front-at.new.sink) rest
+    (subst (λ (b : BundlePlace). IsFrontScanned takes b (take (length code - c.loop-at.at) (drop c.loop-at.at code)) c.scan_front-at.result c.loop-at.sink c.scan_front-at.new.sink) (c.place_after.ensures k at) c.scan_front-at.ensures) in
+    omega (arith, front.inside, length-drop (16 * k) code)
+
+pub loop-at-smaller : goal.loop-at-smaller
+loop-at-smaller g c =
+    let takes = g.F.FindingSink.takes in
+    let k = c.loop-at.invariant.0 in
+    let at = c.loop-at.invariant.1 in
+    let code = c.args.code.now in
+    let rest = tail_is c.loop-at.at code ∙ ap (λ (a : ℕ). drop a code) at in
+    let front = subst (λ (l : List ℕ). IsFrontScanned takes (stretch_place c.args.place.now k) l c.scan_front-at.result c.loop-at.sink c.scan_front-at.new.sink) rest
+    (subst (λ (b : BundlePlace). IsFrontScanned takes b (take (length code - c.loop-at.at) (drop c.loop-at.at code)) c.scan_front-at.result c.loop-at.sink c.scan_front-at.new.sink) (c.place_after.ensures k at) c.scan_front-at.ensures) in
+    omega (arith, front.len_is, front.some)
+
+pub loop-at-preserved : goal.loop-at-preserved
+loop-at-preserved g c =
+    let takes = g.F.FindingSink.takes in
+    let k = c.loop-at.invariant.0 in
+    let at = c.loop-at.invariant.1 in
+    let code = c.args.code.now in
+    let rest = tail_is c.loop-at.at code ∙ ap (λ (a : ℕ). drop a code) at in
+    let front = subst (λ (l : List ℕ). IsFrontScanned takes (stretch_place c.args.place.now k) l c.scan_front-at.result c.loop-at.sink c.scan_front-at.new.sink) rest
+    (subst (λ (b : BundlePlace). IsFrontScanned takes b (take (length code - c.loop-at.at) (drop c.loop-at.at code)) c.scan_front-at.result c.loop-at.sink c.scan_front-at.new.sink) (c.place_after.ensures k at) c.scan_front-at.ensures) in (
+      k + front.bundles,
+      omega (arith, front.len_is),
+      omega (arith, front.inside, length-drop (16 * k) code),
+      scanned_more takes g.met.F.FindingSink.more (stretch_place c.args.place.now k) c.args.place.now (drop (16 * k) code) code k front.bundles c.args.sink.now c.loop-at.sink c.scan_front-at.new.sink
+          (λ i less. place_on c.args.place.now k i) (λ i less. rest_bundle k i code) c.loop-at.invariant.3 front.scanned,
+    )
+
+pub returns : goal.returns
+returns g c = λ n run.
+    let whole = run.whole in
+    let over = c.loop-at-test.false in
+    let at = c.loop-at.invariant.1 in
+    let inside = c.loop-at.invariant.2 in
+    let all : c.loop-at.invariant.0 ≡ n = omega arith in
+    subst (λ (m : ℕ). IsScanned g.F.FindingSink.takes c.args.place.now c.args.code.now m c.args.sink.now c.loop-at.sink) all c.loop-at.invariant.3

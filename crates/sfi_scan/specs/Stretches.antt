@@ -1,0 +1,40 @@
+-- Stretches of bundles: code of one region, one bundle behind another, of which only the first may be a
+-- listed gate's.
+use Rattle.std.specs.Prelude.{◌≡◌, ◌+◌, ◌*◌, ◌/◌, ◌^◌, ◌≤◌, ℕ, zero, suc, List, [], ◌++◌, length}
+use Rattle.sfi_policy.specs.Limits.{bundle_size}
+use Rattle.sfi_rules.specs.declared.bundle.BundlePlace.{BundlePlace}
+use Rattle.sfi_rules.specs.declared.finding.Finding.{Finding}
+use Rattle.sfi_rules.specs.Bundles.{block_bundle, bundle_at}
+use Rattle.sfi_rules.specs.Findings.{AreBundleFindings}
+
+-- The bytes are so many bundles, of which the first lies there. They lie in its code region, whose
+-- end is at most 2 ^ 32.
+pub record IsStretch (b : BundlePlace) (bytes : List ℕ) (bundles : ℕ) : Type 0 where
+  pub whole : length bytes ≡ bundle_size * bundles
+  pub base : b.code_base ≤ b.address
+  pub end : b.address + length bytes ≤ b.code_base + b.code_size
+  pub addresses : b.code_base + b.code_size ≤ 2 ^ 32
+
+-- the place of the stretch's bundle of that number, counted from 0: none but the first is a listed gate's
+abbrev pub stretch_place : BundlePlace → ℕ → BundlePlace
+stretch_place b zero = b
+stretch_place b (suc n) = bundle_at b (suc n)
+
+-- the findings of the stretch's first n bundles, in order
+abbrev pub AreStretchFindings : BundlePlace → List ℕ → ℕ → List Finding → Type 0
+AreStretchFindings b bytes zero found = found ≡ []
+AreStretchFindings b bytes (suc n) found =
+    (front : List Finding) × (last : List Finding) × AreStretchFindings b bytes n front
+    × AreBundleFindings (stretch_place b n) (block_bundle bytes n) last × (found ≡ front ++ last)
+
+-- a bundle has at most so many findings: one at each instruction, and each has two bytes at least
+abbrev pub findings_most : ℕ
+findings_most = bundle_size / 2
+
+-- the stretch's first n bundles are scanned: the sink took their findings
+pub record IsScanned {F : Type 0} (takes : F → List Finding → F → Type 0) (b : BundlePlace)
+    (bytes : List ℕ) (n : ℕ) (before after : F) : Type 0 where
+  pub found : List Finding
+  pub found_are : AreStretchFindings b bytes n found
+  pub few : length found ≤ findings_most * n
+  pub handed : takes before found after

@@ -1,0 +1,15 @@
+-- Words of private contracts: the scan of a stretch, front by front.
+use Rattle.std.specs.Prelude.{◌≡◌, ◌*◌, ◌≤◌, ℕ, List, length}
+use Rattle.sfi_policy.specs.Limits.{bundle_size}
+use Rattle.sfi_rules.specs.declared.bundle.BundlePlace.{BundlePlace}
+use Rattle.sfi_rules.specs.declared.finding.Finding.{Finding}
+use Rattle.sfi_scan.specs.Stretches.{IsScanned}
+
+-- some bundles at the stretch's front are scanned, of so many bytes
+pub record IsFrontScanned {F : Type 0} (takes : F → List Finding → F → Type 0) (b : BundlePlace)
+    (bytes : List ℕ) (len : ℕ) (before after : F) : Type 0 where
+  pub bundles : ℕ
+  pub len_is : len ≡ bundle_size * bundles
+  pub some : 1 ≤ bundles
+  pub inside : len ≤ length bytes
+  pub scanned : IsScanned takes b bytes bundles before after

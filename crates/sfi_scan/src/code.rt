@@ -1,0 +1,141 @@
+//! The scan of code that lies together.
+ghost use Rattle.std.specs.Prelude.{◌≡◌, ℕ, ◌+◌, ◌*◌, ◌^◌, ◌<◌, ◌≤◌, [], false, true};
+ghost use Rattle.std.specs.Bool.{OnTrue};
+ghost use Rattle.sfi_policy.specs.Limits.{bundle_size};
+ghost use Rattle.sfi_masks.specs.Masks.{is_in};
+ghost use Rattle.sfi_rules.specs.Bundles.{IsWithin, IsWithinBlock, block_bundle, bundle_at};
+ghost use Rattle.sfi_rules.specs.Findings.{AreReadingFindings};
+ghost use Rattle.sfi_scan.specs.Stretches.{IsStretch, IsScanned, stretch_place};
+ghost use Rattle.sfi_scan.specs.private.Scanning.{IsFrontScanned};
+
+use crate::block::{bundle_at, clean_bundles, has};
+use crate::findings::BundleFindings;
+use crate::scan::scan_bundle;
+use crate::sink::FindingSink;
+use sfi_masks::BLOCK_BYTES;
+use sfi_policy::{BUNDLE_BYTES, BUNDLE_SIZE};
+use sfi_rules::BundlePlace;
+
+/// How a stretch is scanned. Blocks of eight bundles are looked at as wholes: fast where the processor
+/// has vectors.
+pub const IN_BLOCKS: bool = true;
+
+/// Bundle by bundle: less machine code, a fifth of it where there are no vectors.
+pub const BUNDLE_BY_BUNDLE: bool = false;
+
+/// The place of the bundle that so many bytes of the stretch lie before.
+#[inline(always)]
+fn place_after(place: &BundlePlace, before: usize) -> BundlePlace
+    requires { place.now.address + before < 2 ^ 32 }
+    ensures { (n : ℕ) → before ≡ bundle_size * n → result ≡ stretch_place place.now n }
+{
+    BundlePlace {
+        address: place.address + before as u32,
+        listed: place.listed && before == 0,
+        ..*place
+    }
+}
+
+/// Scans a bundle, and hands its findings to the sink.
+#[inline(always)]
+fn scan_one<F: FindingSink>(
+    place: &BundlePlace,
+    bundle: &[u8; BUNDLE_BYTES],
+    sink: &mut F,
+    findings: &mut BundleFindings,
+)
+    requires { IsWithin place.now }
+    ensures { IsScanned F.takes place.now bundle.now 1 sink.old sink.new }
+{
+    scan_bundle(place, bundle, findings);
+    // Most bundles have none, and this test is less than a call.
+    if findings.count() > 0 {
+        sink.put(findings);
+    }
+}
+
+/// Scans the bundles of a block that aren't seen clean, in order.
+#[inline(never)]
+fn scan_unseen<F: FindingSink>(
+    place: &BundlePlace,
+    block: &[u8; BLOCK_BYTES],
+    clean: u8,
+    sink: &mut F,
+    findings: &mut BundleFindings,
+)
+    requires within { IsWithinBlock place.now }
+    requires unlisted { place.now.listed ≡ false }
+    requires clean { (i : ℕ) → i < 8 → is_in clean i ≡ true
+        → AreReadingFindings (bundle_at place.now i) (block_bundle block.now i) [] }
+    ensures { IsScanned F.takes place.now block.now 8 sink.old sink.new }
+{
+    for (i, bundle) in block.as_chunks::<BUNDLE_BYTES>().0.iter().enumerate() {
+        if !has(u64::from(clean), i) {
+            scan_one(&bundle_at(place, i), bundle, sink, findings);
+        }
+    }
+}
+
+/// Scans a block.
+#[inline(always)]
+fn scan_block<F: FindingSink>(
+    place: &BundlePlace,
+    block: &[u8; BLOCK_BYTES],
+    sink: &mut F,
+    findings: &mut BundleFindings,
+)
+    requires within { IsWithinBlock place.now }
+    requires unlisted { place.now.listed ≡ false }
+    ensures { IsScanned F.takes place.now block.now 8 sink.old sink.new }
+{
+    let clean = clean_bundles(place, block);
+    if clean != u8::MAX {
+        scan_unseen(place, block, clean, sink, findings);
+    }
+}
+
+/// Whether none of the eight bundles from that place on is its region's last.
+#[inline(always)]
+fn is_before_last(place: &BundlePlace) -> bool
+    requires { IsWithin place.now }
+    ensures { OnTrue result (IsWithinBlock place.now) }
+{
+    place.code_size - (place.address - place.code_base) >= BLOCK_BYTES as u32 + BUNDLE_SIZE
+}
+
+/// Scans the front of a stretch, and says how many bytes: a block, if the code is scanned in blocks, its
+/// bundles are plain and their bytes are there, and else the first bundle.
+#[inline(always)]
+fn scan_front<F: FindingSink, const BLOCKS: bool>(
+    place: &BundlePlace,
+    rest: &[u8],
+    sink: &mut F,
+    findings: &mut BundleFindings,
+) -> usize
+    requires { (n : ℕ) × IsStretch place.now rest.now n × (1 ≤ n) }
+    ensures { IsFrontScanned F.takes place.now rest.now result sink.old sink.new }
+{
+    if BLOCKS && !place.listed && is_before_last(place) {
+        if let Some(block) = rest.first_chunk::<BLOCK_BYTES>() {
+            scan_block(place, block, sink, findings);
+            return BLOCK_BYTES;
+        }
+    }
+    let Some(bundle) = rest.first_chunk::<BUNDLE_BYTES>() else {
+        unreachable!();
+    };
+    scan_one(place, bundle, sink, findings);
+    BUNDLE_BYTES
+}
+
+/// Scans a stretch of bundles, of which the first lies at that place, and hands the findings of each to the sink, in order.
+pub fn scan_code<F: FindingSink, const BLOCKS: bool>(place: &BundlePlace, code: &[u8], sink: &mut F)
+    requires { (n : ℕ) × IsStretch place.now code.now n }
+    ensures { (n : ℕ) → IsStretch place.now code.now n → IsScanned F.takes place.now code.now n sink.old sink.new }
+{
+    let mut findings = BundleFindings::new();
+    let mut at = 0;
+    while at < code.len() {
+        at += scan_front::<F, BLOCKS>(&place_after(place, at), &code[at..], sink, &mut findings);
+    }
+}

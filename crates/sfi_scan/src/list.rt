@@ -1,0 +1,55 @@
+//! A list as a sink of findings.
+ghost use Rattle.std.specs.Prelude.{◌≡◌, IfOk, [], false};
+
+use crate::findings::BundleFindings;
+use crate::sink::FindingSink;
+use sfi_rules::Finding;
+use std::alloc::{AllocError, Global};
+
+/// All findings that it took, unless memory ran out.
+#[derive(Drop)]
+pub(crate) struct FindingList {
+    found: Vec<Finding>,
+    lacks_memory: bool,
+}
+
+impl FindingSink for FindingList {
+    ghost use Rattle.sfi_scan.specs.private.Listing.{Lists, lists_none, lists_more};
+
+    ghost takes = { λ s found t. Lists s.found.items s.lacks_memory found t.found.items t.lacks_memory };
+
+    fn put(&mut self, found: &BundleFindings) {
+        if self.found.extend_from_slice(found.as_slice()).is_err() {
+            self.lacks_memory = true;
+        }
+    }
+
+    ghost none = { λ s. lists_none s.found.items s.lacks_memory };
+
+    ghost more = { λ s t u xs ys one two. lists_more s.found.items s.lacks_memory xs
+        t.found.items t.lacks_memory ys u.found.items u.lacks_memory one two };
+}
+
+impl FindingList {
+    /// It took none.
+    pub(crate) fn new(alloc: Global) -> Self
+        ensures empty { result.found.items ≡ [] }
+        ensures memory { result.lacks_memory ≡ false }
+    {
+        FindingList {
+            found: Vec::new(alloc),
+            lacks_memory: false,
+        }
+    }
+
+    /// The findings that it took.
+    pub(crate) fn into_result(self) -> Result<Vec<Finding>, AllocError>
+        ensures { IfOk result (λ found. (self.lacks_memory ≡ false) × (found.items ≡ self.found.items)) }
+    {
+        if self.lacks_memory {
+            Err(AllocError)
+        } else {
+            Ok(self.found)
+        }
+    }
+}
