@@ -1,26 +1,99 @@
 -- What a feed holds.
-use Rattle.sfi_check.proofs.Prelude.{◌≡◌, ◌∙◌, ◌≤◌, ◌+◌, ℕ, List, [], ◌++◌, true, false, refl, Option, None, Some, take, length, sym, ap, subst, arith, inl, inr, append_assoc, is_some, append-nil, length-take, length-append, take-append_seam, IsFault, Front, want_of, IsLess, HasFaultNumberWhateverFollows, Empty, AfterMagic, AfterCount, InGates, InCode, InInit, Whole, ReaderState, StandsFor, Tally, IsSoFar, IsCut, verdict_of, IsFed, IsFedBy, IsHeld, IsVerdictOn}
+use Rattle.sfi_check.proofs.Prelude.{◌≡◌, ◌∙◌, ◌≤◌, ◌<◌, ◌+◌, ◌⊎◌, ℕ, List, [], ◌++◌, true, false, refl, Option, None, Some, take, length, sym, ap, subst, arith, inl, inr, append_assoc, is_some, append-nil, length-take, length-append, take-append_seam, IsFault, Front, want_of, IsLess, HasFaultNumberWhateverFollows, Empty, AfterMagic, AfterCount, InGates, InCode, InInit, Whole, ReaderState, StandsFor, left, Finding, Tally, IsSoFar, IsCut, IsTold, verdict_of, IsFedTelling, IsFedBy, IsHeld, IsVerdictOn}
 use Rattle.sfi_check.specs.declared.feed.Feed.{Feed}
+use Rattle.sfi_check.specs.private.Feeds.{left_to_feed}
 use Rattle.sfi_image.specs.declared.want.Want.{Want}
 use Rattle.sfi_image.specs.declared.want.Want.TheVariants as wants
 use Rattle.sfi_image.specs.declared.want.Next.TheVariants as next
 use Rattle.sfi_check.specs.declared.stream_answer.StreamAnswer.TheVariants as answers
 use Rattle.sfi_check.proofs.OneVerdict.{on_fault}
-use Rattle.sfi_check.proofs.Judging.{ended_whole, ended_short}
+use Rattle.sfi_check.proofs.Judging.{IsJudgedWhole, ended_whole, ended_short, nothing_yet}
 
-pub held_fed : (f : Feed) (bytes : List ℕ) → f.fault ≡ None → IsHeld f bytes → IsFed f bytes
-held_fed f bytes e h = subst (λ (o : Option ℕ). IsFedBy o f bytes) (sym e) h
+-- ---- by the fault that it met, if any
 
-pub fed_held : (f : Feed) (bytes : List ℕ) → f.fault ≡ None → IsFed f bytes → IsHeld f bytes
-fed_held f bytes e h = subst (λ (o : Option ℕ). IsFedBy o f bytes) e h
+pub held_fed : {T : List Finding → Type 0} (f : Feed) (bytes : List ℕ) → f.fault ≡ None → IsHeld T f bytes → IsFedTelling T f bytes
+held_fed {T} f bytes e h = subst (λ (o : Option ℕ). IsFedBy T o f bytes) (sym e) h
 
-pub fed_fault : (f : Feed) (bytes : List ℕ) (number : ℕ) → f.fault ≡ Some number → IsFed f bytes → HasFaultNumberWhateverFollows bytes number
-fed_fault f bytes number e h = subst (λ (o : Option ℕ). IsFedBy o f bytes) e h
+pub fed_held : {T : List Finding → Type 0} (f : Feed) (bytes : List ℕ) → f.fault ≡ None → IsFedTelling T f bytes → IsHeld T f bytes
+fed_held {T} f bytes e h = subst (λ (o : Option ℕ). IsFedBy T o f bytes) e h
+
+pub fed_fault : {T : List Finding → Type 0} (f : Feed) (bytes : List ℕ) (number : ℕ) → f.fault ≡ Some number → IsFedTelling T f bytes → HasFaultNumberWhateverFollows bytes number × IsTold T
+fed_fault {T} f bytes number e h = subst (λ (o : Option ℕ). IsFedBy T o f bytes) e h
+
+pub fault_fed : {T : List Finding → Type 0} (f : Feed) (bytes : List ℕ) (number : ℕ) → f.fault ≡ Some number → HasFaultNumberWhateverFollows bytes number × IsTold T → IsFedTelling T f bytes
+fault_fed {T} f bytes number e h = subst (λ (o : Option ℕ). IsFedBy T o f bytes) (sym e) h
+
+-- ---- what else holds of what it found
+
+held_as : {T U : List Finding → Type 0} (f : Feed) (bytes : List ℕ) (h : IsHeld T f bytes) → U h.at.tallies.found → IsHeld U f bytes
+held_as f bytes h told =
+    let k = h.at.tallies in
+    record {
+      so_far = h.so_far;
+      at = record {
+        at = h.at.at;
+        stands = h.at.stands;
+        bytes_are = h.at.bytes_are;
+        tallies = record { found = k.found; told_is = told; found_are = k.found_are; count = k.count; first = k.first; bundles = k.bundles; sandboxes = k.sandboxes; few = k.few };
+        few = h.at.few;
+      };
+      bytes_are = h.bytes_are;
+      rests = h.rests;
+      long = h.long;
+    }
+
+pub retold : {T U : List Finding → Type 0} (f : Feed) (bytes : List ℕ) → ((found : List Finding) → T found → U found) → IsFedTelling T f bytes → IsFedTelling U f bytes
+retold {T} {U} f bytes on h = by f.fault h
+  where
+    by : (o : Option ℕ) → IsFedBy T o f bytes → IsFedBy U o f bytes
+    by None h = held_as f bytes h (on h.at.tallies.found h.at.tallies.told_is)
+    by (Some number) h = (h.0, (h.1.0, on h.1.0 h.1.1))
+
+-- the findings are some list
+pub listed : {T : List Finding → Type 0} (f : Feed) (bytes : List ℕ) → IsFedTelling T f bytes → (found : List Finding) × T found × IsFedTelling (λ all. all ≡ found) f bytes
+listed {T} f bytes h = by f.fault h
+  where
+    by : (o : Option ℕ) → IsFedBy T o f bytes → (found : List Finding) × T found × IsFedBy (λ all. all ≡ found) o f bytes
+    by None h = (h.at.tallies.found, h.at.tallies.told_is, held_as f bytes h refl)
+    by (Some number) h = (h.1.0, h.1.1, (h.0, (h.1.0, refl)))
+
+-- ---- before the first byte
+
+first_cut : (r : ReaderState) → StandsFor r Empty → (x : Front) → StandsFor r x → IsLess 0 (want_of x)
+first_cut r e Empty h = omega arith
+first_cut r e (AfterMagic kind) h = let n = h.kept.0 in let m = e.kept.0 in absurd cc
+first_cut r e (AfterCount kind n ps) h = let k = h.kept.0 in let m = e.kept.0 in absurd cc
+first_cut r e (InGates n ps f gs) h = let k = h.kept.0 in let m = e.kept.0 in absurd cc
+first_cut r e (InCode n ps f gs code) h = let k = h.kept.0 in let m = e.kept.0 in absurd cc
+first_cut r e (InInit n ps f gs code init) h = let k = h.kept.0 in let m = e.kept.0 in absurd cc
+first_cut r e (Whole ps) h = let k = h.kept.0 in let m = e.kept.0 in absurd cc
+
+pub nothing_fed : (T : List Finding → Type 0) (f : Feed) → StandsFor f.reader Empty → f.tally.sandboxes ≡ 0 → f.tally.bundles ≡ 0 → f.tally.count ≡ 0 → f.tally.first ≡ None
+    → f.count ≡ 0 → f.fault ≡ None → length f.held ≡ 64 → T [] → IsFedTelling T f []
+nothing_fed T f stands s b n o none e long told =
+    held_fed f [] e (record {
+      so_far = [];
+      at = nothing_yet f.reader f.tally stands s b n o told;
+      bytes_are = sym (ap (λ (k : ℕ). take k f.held) none);
+      rests = rw (none) (inl (record { less = first_cut f.reader stands; few = omega arith }));
+      long = long;
+    })
+
+-- ---- what is left to be fed
+
+-- of the piece's bytes, which are more than were held before, some are taken, or all are held
+pub falls : (old new : Feed) (len : ℕ) → old.fault ≡ None → new.fault ≡ None → old.count < len → new.count < 28
+    → (left new.reader < left old.reader) ⊎ ((len ≡ new.count) × (left new.reader ≤ left old.reader)) → left_to_feed new < left_to_feed old
+falls old new len e is more few how =
+    rw (e, is) (elim how [ inl lt ↦ omega arith | inr h ↦ (let all = h.0 in let le = h.1 in omega arith) ])
+
+pub some_left : (f : Feed) → f.fault ≡ None → 0 < left_to_feed f
+some_left f e = rw (e) (omega arith)
 
 pub fault_more : (bytes more : List ℕ) (number : ℕ) → HasFaultNumberWhateverFollows bytes number → HasFaultNumberWhateverFollows (bytes ++ more) number
 fault_more bytes more number h = (h.0, h.1, λ tail. subst (λ (l : List ℕ). IsFault l h.0) (sym (append_assoc bytes more tail)) (h.2 (more ++ tail)))
 
-pub at_reader : (r s : ReaderState) (t u : Tally) (bytes : List ℕ) → r ≡ s → t ≡ u → IsSoFar (λ found. Unit {0}) s u bytes → IsSoFar (λ found. Unit {0}) r t bytes
+pub at_reader : {T : List Finding → Type 0} (r s : ReaderState) (t u : Tally) (bytes : List ℕ) → r ≡ s → t ≡ u → IsSoFar T s u bytes → IsSoFar T r t bytes
 at_reader r s t u bytes a b h = rw (a, b) h
 
 pub answered_fault : (bytes : List ℕ) (number : ℕ) → HasFaultNumberWhateverFollows bytes number → IsVerdictOn bytes true (answers.Layout number)
@@ -38,17 +111,17 @@ is_end r (Whole ps) h w = h.kept.0
 never_less : (x : Front) (len : ℕ) → wants.End ≡ want_of x → IsLess len (want_of x) → ⊥
 never_less x len w h = subst (λ (v : Want). IsLess len v) (sym w) h
 
-none_held : (f : Feed) (bytes : List ℕ) (h : IsHeld f bytes) → wants.End ≡ want_of h.at.at → f.count ≡ 0
+none_held : {T : List Finding → Type 0} (f : Feed) (bytes : List ℕ) (h : IsHeld T f bytes) → wants.End ≡ want_of h.at.at → f.count ≡ 0
 none_held f bytes h w = elim h.rests [
   | inl cut ↦ absurd (never_less h.at.at f.count w (cut.less h.at.at h.at.stands))
   | inr end ↦ end.1
 ]
 
-pub answered_whole : (f : Feed) (bytes : List ℕ) → IsHeld f bytes → ((x : Front) → StandsFor f.reader x → wants.End ≡ want_of x) → IsVerdictOn bytes true (verdict_of f.tally)
-answered_whole f bytes h want =
+pub answered_whole : {T : List Finding → Type 0} (f : Feed) (bytes : List ℕ) → IsHeld T f bytes → ((x : Front) → StandsFor f.reader x → wants.End ≡ want_of x) → IsJudgedWhole T bytes (verdict_of f.tally)
+answered_whole {T} f bytes h want =
     let w = want h.at.at h.at.stands in
     let same : bytes ≡ h.so_far = h.bytes_are ∙ ap (λ (k : ℕ). h.so_far ++ take k f.held) (none_held f bytes h w) ∙ append-nil h.so_far in
-    subst (λ (l : List ℕ). IsVerdictOn l true (verdict_of f.tally)) (sym same) (ended_whole f.reader f.tally h.so_far h.at (is_end f.reader h.at.at h.at.stands w)).1
+    subst (λ (l : List ℕ). IsJudgedWhole T l (verdict_of f.tally)) (sym same) (ended_whole f.reader f.tally h.so_far h.at (is_end f.reader h.at.at h.at.stands w))
 
 is_whole : (r : ReaderState) (x : Front) → StandsFor r x → r.next ≡ next.End → wants.End ≡ want_of x
 is_whole r Empty h e = let n = h.kept.0 in absurd cc
@@ -59,7 +132,7 @@ is_whole r (InCode n ps f gs code) h e = let m = h.kept.0 in absurd cc
 is_whole r (InInit n ps f gs code init) h e = let m = h.kept.0 in absurd cc
 is_whole r (Whole ps) h e = refl
 
-pub answered_short : (f : Feed) (bytes : List ℕ) (h : IsHeld f bytes) → (wants.End ≡ want_of h.at.at → ⊥) → IsVerdictOn bytes true (answers.Layout 3)
+pub answered_short : {T : List Finding → Type 0} (f : Feed) (bytes : List ℕ) (h : IsHeld T f bytes) → (wants.End ≡ want_of h.at.at → ⊥) → IsVerdictOn bytes true (answers.Layout 3)
 answered_short f bytes h never = elim h.rests [
   | inl cut ↦
       (let few = cut.few in
@@ -70,16 +143,19 @@ answered_short f bytes h never = elim h.rests [
   | inr end ↦ absurd (never (is_whole f.reader h.at.at h.at.stands end.0))
 ]
 
-after_fault : (o : Option ℕ) (f : Feed) (before more : List ℕ) → is_some o ≡ true → IsFedBy o f before → IsFedBy o f (before ++ more)
-after_fault None f before more e h = absurd cc
-after_fault (Some number) f before more e h = fault_more before more number h
+after_fault : (T : List Finding → Type 0) (o : Option ℕ) (f : Feed) (before more : List ℕ) → is_some o ≡ true → IsFedBy T o f before → IsFedBy T o f (before ++ more)
+after_fault T None f before more e h = absurd cc
+after_fault T (Some number) f before more e h = (fault_more before more number h.0, h.1)
 
-pub fed_after_fault : (f : Feed) (before more : List ℕ) → is_some f.fault ≡ true → IsFed f before → IsFed f (before ++ more)
-fed_after_fault f before more e h = after_fault f.fault f before more e h
+pub fed_after_fault : (T : List Finding → Type 0) (f : Feed) (before more : List ℕ) → is_some f.fault ≡ true → IsFedTelling T f before → IsFedTelling T f (before ++ more)
+fed_after_fault T f before more e h = after_fault T f.fault f before more e h
 
 pub no_fault : (o : Option ℕ) → is_some o ≡ false → o ≡ None
 no_fault None e = refl
 no_fault (Some number) e = absurd cc
+
+pub few_held : {T : List Finding → Type 0} (f : Feed) (bytes : List ℕ) → IsHeld T f bytes → f.count < 28
+few_held f bytes h = elim h.rests [ inl cut ↦ cut.few | inr end ↦ (let none = end.1 in omega arith) ]
 
 pub joined_is : (count more : ℕ) (held bytes ys rest : List ℕ) → count ≤ length held → more ≤ length bytes → ys ≡ take more bytes
     → take (count + more) (take count held ++ (ys ++ rest)) ≡ take count held ++ take more bytes
@@ -88,3 +164,11 @@ joined_is count more held bytes ys rest room few is =
     let len : length front ≡ count + more = omega (arith, length-append (take count held) (take more bytes), length-take count held, length-take more bytes) in
     rw (is) (ap (λ (l : List ℕ). take (count + more) l) (sym (append_assoc (take count held) (take more bytes) rest))
     ∙ ap (λ (k : ℕ). take k (front ++ rest)) (sym len) ∙ take-append_seam front rest)
+
+-- ---- fewer bytes than come next
+
+pub less_field : (x : Front) (len count : ℕ) → wants.Field len ≡ want_of x → IsLess count (want_of x) → count < len
+less_field x len count w h = subst (λ (v : Want). IsLess count v) (sym w) h
+
+pub less_bundle : (x : Front) (w : Want) (count : ℕ) → w ≡ want_of x → IsLess count (want_of x) → IsLess count w
+less_bundle x w count e h = subst (λ (v : Want). IsLess count v) (sym e) h

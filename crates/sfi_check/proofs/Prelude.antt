@@ -24,7 +24,7 @@ pub use Rattle.sfi_rules.specs.Bundles.{block_bundle, bundle_at, IsWithin, place
 pub use Rattle.sfi_rules.specs.Findings.{AreBundleFindings, AreReadingFindings, AreFindings, AreFindingsFrom, AreImageFindings, AreFindingsOfFirst}
 pub use Rattle.sfi_rules.specs.declared.bundle.BundlePlace.{BundlePlace}
 pub use Rattle.sfi_rules.specs.declared.finding.Finding.{Finding}
-pub use Rattle.sfi_check.specs.Feeds.{IsFed, IsFedBy, IsHeld}
+pub use Rattle.sfi_check.specs.Feeds.{IsFed, IsFedTelling, IsFedBy, IsHeld}
 pub use Rattle.sfi_safety.specs.Safety.{AllRunSafely}
 pub use Rattle.sfi_check.specs.Streams.{IsVerdictOn, AreHandedOver, IsFaultOf, AreCounted}
 pub use Rattle.sfi_check.specs.Verdict.{HasFindings, bundle_count}

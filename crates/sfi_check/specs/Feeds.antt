@@ -3,33 +3,36 @@ use Rattle.std.specs.Prelude.{◌≡◌, ◌⊎◌, ℕ, List, ◌++◌, length,
 use Rattle.sfi_image.specs.declared.want.Next.TheVariants as next
 use Rattle.sfi_image.specs.Fronts.{HasFaultNumberWhateverFollows}
 use Rattle.sfi_image.specs.Keeping.{ReaderState}
+use Rattle.sfi_rules.specs.declared.finding.Finding.{Finding}
 use Rattle.sfi_check.specs.declared.feed.Feed.{Feed}
 use Rattle.sfi_check.specs.Tallies.{IsSoFar, IsCut}
 
 -- ---- `IsFed`, and its parts, which only private contracts name themselves
 
--- its reader has taken these bytes, and its tally is of what was found in them
-abbrev pub HasTaken : Feed → List ℕ → Type 0
-HasTaken f so_far = IsSoFar (λ found. Unit {0}) f.reader f.tally so_far
-
 -- so many bytes are fewer than what comes next has, or the image is whole and none is held
 abbrev pub Rests : ReaderState → ℕ → Type 0
 Rests r count = IsCut r count ⊎ ((r.next ≡ next.End) × (count ≡ 0))
 
--- the bytes are those that its reader has taken, and then those that it holds
-pub record IsHeld (f : Feed) (bytes : List ℕ) : Type 0 where
+-- the bytes are those that its reader has taken, and then those that it holds; `told` holds of what
+-- was found in the former
+pub record IsHeld (told : List Finding → Type 0) (f : Feed) (bytes : List ℕ) : Type 0 where
   pub so_far : List ℕ
-  pub at : HasTaken f so_far
+  pub at : IsSoFar told f.reader f.tally so_far
   pub bytes_are : bytes ≡ so_far ++ take f.count f.held
   pub rests : Rests f.reader f.count
   pub long : length f.held ≡ 64
 
 -- that is the fault that it has met, if any: without one it keeps the bytes,
 -- and with one the bytes have that fault, whatever follows them
-abbrev pub IsFedBy : Option ℕ → Feed → List ℕ → Type 0
-IsFedBy None f bytes = IsHeld f bytes
-IsFedBy (Some number) f bytes = HasFaultNumberWhateverFollows bytes number
+abbrev pub IsFedBy : (List Finding → Type 0) → Option ℕ → Feed → List ℕ → Type 0
+IsFedBy told None f bytes = IsHeld told f bytes
+IsFedBy told (Some number) f bytes =
+    HasFaultNumberWhateverFollows bytes number × ((found : List Finding) × told found)
+
+-- the feed is one that was fed these bytes, in any pieces, and `told` holds of what it found
+abbrev pub IsFedTelling : (List Finding → Type 0) → Feed → List ℕ → Type 0
+IsFedTelling told f bytes = IsFedBy told f.fault f bytes
 
 -- the feed is one that was fed these bytes, in any pieces
 abbrev pub IsFed : Feed → List ℕ → Type 0
-IsFed f bytes = IsFedBy f.fault f bytes
+IsFed f bytes = IsFedTelling (λ found. Unit {0}) f bytes

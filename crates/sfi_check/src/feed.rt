@@ -1,15 +1,22 @@
-//! The verdict on bytes that are handed in piece by piece, without taking memory.
+//! The judge: the verdict on bytes that are handed in piece by piece, without taking memory.
 ghost use Rattle.std.specs.Prelude.{◌≡◌, ◌≢◌, ℕ, ◌+◌, ◌<◌, ◌≤◌, List, [], ◌++◌, length, take, true, None};
-ghost use Rattle.sfi_check.specs.Streams.{IsVerdictOn};
-ghost use Rattle.sfi_check.specs.Feeds.{IsFed, HasTaken};
+ghost use Rattle.sfi_image.specs.Fronts.{Front};
+ghost use Rattle.sfi_image.specs.Keeping.{StandsFor};
+ghost use Rattle.sfi_rules.specs.declared.finding.Finding.{Finding};
+ghost use Rattle.sfi_check.specs.Streams.{IsVerdictOn, AreHandedOver};
+ghost use Rattle.sfi_check.specs.Tallies.{IsSoFar, IsCut};
+ghost use Rattle.sfi_check.specs.Feeds.{IsFed, IsFedTelling};
+ghost use Rattle.sfi_check.specs.private.Feeds.{IsFedOn, left_to_feed};
 
 use crate::code::BUNDLE_BY_BUNDLE;
+use crate::piece::{take_piece, verdict};
 use crate::progress::Progress;
 use crate::sink::Nowhere;
-use crate::stream::{take_piece, verdict};
 use crate::stream_answer::StreamAnswer;
 use crate::tally::Tally;
-use sfi_image::{LayoutReader, Want};
+use sfi_image::{LayoutFault, LayoutReader, Want};
+use sfi_policy::BUNDLE_BYTES;
+use sfi_scan::FindingSink;
 
 /// How many bytes are held at most. What comes next of an image has at most 28 bytes, and a piece of
 /// it is held only as long as it isn't whole.
@@ -35,9 +42,11 @@ pub struct Feed {
 impl Feed {
     /// No byte was fed.
     pub fn new() -> Self
-        ensures { IsFed result [] }
+        ensures fed { IsFed result [] }
+        ensures none_found { IsFedTelling (λ found. found ≡ []) result [] }
+        ensures no_fault { result.fault ≡ None }
     {
-        let mut feed = Feed {
+        Feed {
             reader: LayoutReader::new(),
             tally: Tally {
                 sandboxes: 0,
@@ -48,9 +57,7 @@ impl Feed {
             held: [0; ROOM],
             count: 0,
             fault: None,
-        };
-        feed.take_all(&[]);
-        feed
+        }
     }
 
     // Holds the bytes that are left of a piece.
@@ -68,53 +75,86 @@ impl Feed {
     }
 
     // Takes a piece that begins with what was held.
-    fn take_all(&mut self, bytes: &[u8])
+    fn take_all<F: FindingSink, const BLOCKS: bool>(&mut self, bytes: &[u8], sink: &mut F)
         requires fault { self.old.fault ≡ None }
         requires long { length self.old.held ≡ 64 }
-        requires reading { (so_far : List ℕ) × HasTaken self.old so_far }
-        ensures { (so_far : List ℕ) → HasTaken self.old so_far
-            → IsFed self.new (so_far ++ bytes.now) }
+        requires reading { (first : F) × (so_far : List ℕ)
+            × IsSoFar (λ found. F.takes first found sink.old) self.old.reader self.old.tally so_far }
+        ensures fed { (first : F) (so_far : List ℕ)
+            → IsSoFar (λ found. F.takes first found sink.old) self.old.reader self.old.tally so_far
+            → IsFedTelling (λ found. F.takes first found sink.new) self.new (so_far ++ bytes.now) }
+        ensures falls { self.old.count < length bytes.now
+            → left_to_feed self.new < left_to_feed self.old }
     {
-        match take_piece::<Nowhere, BUNDLE_BY_BUNDLE>(
-            &mut self.reader,
-            &mut self.tally,
-            &mut Nowhere,
-            bytes,
-        ) {
+        match take_piece::<F, BLOCKS>(&mut self.reader, &mut self.tally, sink, bytes) {
             Progress::Fault(number) => self.fault = Some(number),
             Progress::Whole(at) => {
                 self.count = 0;
                 if at < bytes.len() {
-                    self.fault = Some(11);
+                    self.fault = Some(LayoutFault::Trailing.number());
                 }
             }
             Progress::More(at) => self.hold(&bytes[at..]),
         }
     }
 
+    // How many bytes what comes next has, where it begins with those that are held.
+    fn wanted(&self) -> usize
+        requires front { (x : Front) × StandsFor self.now.reader x }
+        requires cut { IsCut self.now.reader self.now.count }
+        ensures more { self.now.count < result }
+        ensures room { result ≤ 64 }
+    {
+        match self.reader.wants() {
+            Want::Field(len) => len,
+            Want::Bundle { .. } => BUNDLE_BYTES,
+            _ => ROOM,
+        }
+    }
+
     // Takes some of the bytes that come next, at the front of these, and says how many: where some are
-    // held, as many as there is room for beside them, and else all.
-    fn top_up(&mut self, bytes: &[u8]) -> usize
+    // held, as many as make what comes next whole with them, and else all.
+    fn top_up<F: FindingSink, const BLOCKS: bool>(&mut self, bytes: &[u8], sink: &mut F) -> usize
         requires some { 0 < length bytes.now }
-        requires fed { (before : List ℕ) × IsFed self.old before }
+        requires fed { (first : F) × (before : List ℕ)
+            × IsFedTelling (λ found. F.takes first found sink.old) self.old before }
         ensures some { 0 < result }
         ensures bound { result ≤ length bytes.now }
-        ensures fed { (before : List ℕ) → IsFed self.old before
-            → IsFed self.new (before ++ take result bytes.now) }
+        ensures fed { IsFedOn F.takes sink.old sink.new self.old self.new (take result bytes.now) }
+        ensures at_most { left_to_feed self.new ≤ left_to_feed self.old }
+        ensures falls { self.old.fault ≡ None → left_to_feed self.new < left_to_feed self.old }
     {
         if self.fault.is_some() {
             return bytes.len();
         }
         if self.count == 0 {
-            self.take_all(bytes);
+            self.take_all::<F, BLOCKS>(bytes, sink);
             return bytes.len();
         }
-        let more = bytes.len().min(ROOM - self.count);
+        let more = bytes.len().min(self.wanted() - self.count);
         let end = self.count + more;
         let mut joined = self.held;
         joined[self.count..end].copy_from_slice(&bytes[..more]);
-        self.take_all(&joined[..end]);
+        self.take_all::<F, BLOCKS>(&joined[..end], sink);
         more
+    }
+
+    // Takes the bytes that come next, and hands the findings in them to the sink.
+    pub(crate) fn feed_into<F: FindingSink, const BLOCKS: bool>(
+        &mut self,
+        bytes: &[u8],
+        sink: &mut F,
+    )
+        requires { (first : F) × (before : List ℕ)
+            × IsFedTelling (λ found. F.takes first found sink.old) self.old before }
+        ensures fed { IsFedOn F.takes sink.old sink.new self.old self.new bytes.now }
+        ensures falls { self.old.fault ≡ None → 0 < length bytes.now
+            → left_to_feed self.new < left_to_feed self.old }
+    {
+        let mut at = 0;
+        while at < bytes.len() {
+            at += self.top_up::<F, BLOCKS>(&bytes[at..], sink);
+        }
     }
 
     /// Takes the bytes that come next.
@@ -123,10 +163,7 @@ impl Feed {
         ensures { (before : List ℕ) → IsFed self.old before
             → IsFed self.new (before ++ bytes.now) }
     {
-        let mut at = 0;
-        while at < bytes.len() {
-            at += self.top_up(&bytes[at..]);
-        }
+        self.feed_into::<Nowhere, BUNDLE_BY_BUNDLE>(bytes, &mut Nowhere);
     }
 
     /// The verdict on exactly the bytes that were fed so far. It may be asked for at any time: before
@@ -135,13 +172,15 @@ impl Feed {
         requires { (bytes : List ℕ) × IsFed self.now bytes }
         ensures judged { (bytes : List ℕ) → IsFed self.now bytes → IsVerdictOn bytes true result }
         ensures read { result ≢ StreamAnswer.ReadFault }
+        ensures handed { (bytes : List ℕ) (found : List Finding)
+            → IsFedTelling (λ all. all ≡ found) self.now bytes → AreHandedOver bytes found result }
     {
         if let Some(number) = self.fault {
             return StreamAnswer::Layout(number);
         }
         match self.reader.wants() {
             Want::End => verdict(&self.tally),
-            _ => StreamAnswer::Layout(3),
+            _ => StreamAnswer::Layout(LayoutFault::Short.number()),
         }
     }
 }

@@ -13,6 +13,7 @@ mod code;
 mod conversion;
 mod feed;
 pub mod laws;
+mod piece;
 mod progress;
 mod refusal;
 mod sink;

@@ -3,7 +3,7 @@ use Rattle.std.specs.Prelude.{◌≡◌, ℕ, zero, suc, ◌+◌, ◌*◌, ◌-�
 use Rattle.sfi_image.specs.declared.want.Next.TheVariants as next
 use Rattle.sfi_image.specs.declared.want.Want.{Want}
 use Rattle.sfi_image.specs.declared.want.Want.TheVariants as wants
-use Rattle.sfi_image.specs.Fronts.{Front, front, want_of, ArePlainNext, HasFaultNumberWhateverFollows}
+use Rattle.sfi_image.specs.Fronts.{Front, want_of, ArePlainNext, HasFaultNumberWhateverFollows}
 use Rattle.sfi_image.specs.Keeping.{ReaderState, left}
 use Rattle.sfi_rules.specs.declared.finding.Finding.{Finding}
 use Rattle.sfi_rules.specs.declared.bundle.BundlePlace.{BundlePlace}
@@ -78,6 +78,7 @@ Goes told old new t so_far rest (ways.More n) =
     × ((left new < left old) ⊎ ((n ≡ 0) × (left new ≤ left old)))
 Goes told old new t so_far rest (ways.Whole n) =
     (n ≤ length rest) × IsSoFar told new t (so_far ++ take n rest) × (new.next ≡ next.End)
+    × ((left new < left old) ⊎ ((n ≡ 0) × (left new ≤ left old)))
 Goes told old new t so_far rest (ways.Fault k) =
     HasFaultNumberWhateverFollows (so_far ++ rest) k × IsTold told
 

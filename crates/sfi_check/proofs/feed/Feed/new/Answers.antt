@@ -1,9 +1,9 @@
-use Rattle.std.proofs.Common.{[], refl}
-use Rattle.sfi_check.proofs.Judging.{nothing_yet}
+use Rattle.std.proofs.Common.{refl}
+use Rattle.sfi_check.proofs.Feeding.{nothing_fed}
 use Rattle.sfi_check.proofs.feed.Feed.new.Goals as goal
 
-pub take_all-requires-clause-reading : goal.take_all-requires-clause-reading
-take_all-requires-clause-reading c = ([], nothing_yet c.new.result _ c.new.ensures refl refl refl refl tt)
+pub returns-clause-fed : goal.returns-clause-fed
+returns-clause-fed c = nothing_fed _ _ c.new.ensures refl refl refl refl refl refl refl tt
 
-pub returns : goal.returns
-returns c = c.take_all.ensures [] (nothing_yet c.new.result _ c.new.ensures refl refl refl refl tt)
+pub returns-clause-none_found : goal.returns-clause-none_found
+returns-clause-none_found c = nothing_fed _ _ c.new.ensures refl refl refl refl refl refl refl refl

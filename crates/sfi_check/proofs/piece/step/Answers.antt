@@ -1,7 +1,7 @@
 use Rattle.sfi_check.proofs.Prelude.{◌≡◌, ◌∙◌, ◌≤◌, ℕ, eqb, false, List, take, length, refl, sym, arith, eq-eqb, length-take}
 use Rattle.sfi_check.proofs.Leading.{bundle_within, field_len, init_some, field_taken, init_taken, field_step, init_step, step_fault}
-use Rattle.sfi_check.proofs.stream.step.Goals as goal
-use Rattle.sfi_check.proofs.stream.step.Goals.{then-rest-most, else-rest-most}
+use Rattle.sfi_check.proofs.piece.step.Goals as goal
+use Rattle.sfi_check.proofs.piece.step.Goals.{then-rest-most, else-rest-most}
 
 not_empty : (xs : List ℕ) → eqb (length xs) 0 ≡ false → 1 ≤ length xs
 not_empty xs e = grind (arith, eq-eqb (length xs) 0, e)

@@ -1,5 +1,5 @@
 use Rattle.sfi_check.proofs.Prelude.{◌≡◌, ◌⊎◌, ◌<◌, ◌≤◌, length, take, left, LeadsOn}
-use Rattle.sfi_check.proofs.stream.take_piece.Given as goal
+use Rattle.sfi_check.proofs.piece.take_piece.Given as goal
 
 abbrev pub invariant-loop-len : goal.invariant-loop-len
 invariant-loop-len g l = record {

@@ -1,8 +1,8 @@
-use Rattle.sfi_check.proofs.Prelude.{◌++◌, ℕ, List, take, subst, arith, inl, inr, length-drop, IsCut}
+use Rattle.sfi_check.proofs.Prelude.{◌≡◌, ◌++◌, ℕ, List, take, refl, subst, arith, inl, inr, length-drop, left, IsCut}
 use Rattle.sfi_check.specs.private.Tallies.{Steps}
 use Rattle.sfi_check.specs.declared.progress.Step.TheVariants as steps
 use Rattle.sfi_check.proofs.Leading.{tail_is, so_far_on, fault_on}
-use Rattle.sfi_check.proofs.stream.take_piece.Goals as goal
+use Rattle.sfi_check.proofs.piece.take_piece.Goals as goal
 
 pub step-requires : goal.step-requires
 step-requires g c = (c.requires.0, c.requires.1 ++ take c.loop-len.at c.args.piece.now, c.loop-len.invariant.so_far c.requires.0 c.requires.1 c.requires.2)
@@ -41,7 +41,12 @@ returns-in-Short g c = λ f b h.
 pub returns-in-Whole : goal.returns-in-Whole
 returns-in-Whole g c = λ f b h.
     let s = subst (λ (l : List ℕ). Steps (λ found. g.F.FindingSink.takes f found c.step.new.sink) c.loop-len.reader c.step.new.reader c.step.new.tally (b ++ take c.loop-len.at c.args.piece.now) l steps.Whole) (tail_is c.loop-len.at c.args.piece.now) (c.in-Whole.ensures f (b ++ take c.loop-len.at c.args.piece.now) (c.loop-len.invariant.so_far f b h)) in
-    (c.loop-len.invariant.inside, s.0, s.1)
+    let none : left c.step.new.reader ≡ 0 = rw (s.1) refl in (
+      c.loop-len.invariant.inside,
+      s.0,
+      s.1,
+      elim c.loop-len.invariant.falls [ inl lt ↦ inl (omega arith) | inr z ↦ inr (z.0, omega arith) ],
+    )
 
 pub returns-in-Fault : goal.returns-in-Fault
 returns-in-Fault g c = λ f b h.

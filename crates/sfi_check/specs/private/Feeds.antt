@@ -1,0 +1,21 @@
+-- How a feed goes on: words of private contracts.
+use Rattle.std.specs.Prelude.{ℕ, ◌+◌, ◌*◌, ◌-◌, List, ◌++◌, Option, Some, None}
+use Rattle.sfi_image.specs.Keeping.{left}
+use Rattle.sfi_check.specs.declared.feed.Feed.{Feed}
+use Rattle.sfi_rules.specs.declared.finding.Finding.{Finding}
+use Rattle.sfi_check.specs.Feeds.{IsFedTelling}
+
+-- whatever it was fed, it then was fed these bytes, too, and the sink took the findings in them
+abbrev pub IsFedOn : {F : Type 0} → (F → List Finding → F → Type 0) → F → F → Feed → Feed → List ℕ
+    → Type 0
+IsFedOn {F} takes sink after old new bytes = (first : F) (before : List ℕ)
+    → IsFedTelling (λ found. takes first found sink) old before
+    → IsFedTelling (λ found. takes first found after) new (before ++ bytes)
+
+abbrev pub left_by : Option ℕ → Feed → ℕ
+left_by None f = left f.reader * 28 + (27 - f.count) + 1
+left_by (Some number) f = 0
+
+-- a number that falls with each piece that is fed, down to 0 at a fault
+abbrev pub left_to_feed : Feed → ℕ
+left_to_feed f = left_by f.fault f

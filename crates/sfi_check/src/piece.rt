@@ -1,0 +1,112 @@
+//! How far a piece of an image leads on.
+ghost use Rattle.std.specs.Prelude.{◌≡◌, ℕ, List};
+ghost use Rattle.sfi_check.specs.Tallies.{IsSoFar};
+ghost use Rattle.sfi_check.specs.private.Tallies.{Steps, Goes, verdict_of};
+
+use crate::code::take_code;
+use crate::progress::{Progress, Step};
+use crate::stream_answer::StreamAnswer;
+use crate::tally::Tally;
+use sfi_image::{LayoutReader, Want};
+use sfi_scan::{BundleFindings, BundlePlace, FindingSink};
+
+/// Takes the bytes that come next, if they are there, and scans them where they are a bundle.
+#[inline(always)]
+fn step<F: FindingSink, const BLOCKS: bool>(
+    reader: &mut LayoutReader,
+    tally: &mut Tally,
+    sink: &mut F,
+    findings: &mut BundleFindings,
+    rest: &[u8],
+) -> Step
+    requires { (first : F) × (so_far : List ℕ)
+        × IsSoFar (λ found. F.takes first found sink.old) reader.old tally.old so_far }
+    ensures { (first : F) (so_far : List ℕ)
+        → IsSoFar (λ found. F.takes first found sink.old) reader.old tally.old so_far
+        → Steps (λ found. F.takes first found sink.new)
+        reader.old reader.new tally.new so_far rest.now result }
+{
+    match reader.wants() {
+        Want::Field(len) => {
+            if rest.len() < len {
+                return Step::Short;
+            }
+            match reader.take(&rest[..len]) {
+                Some(number) => Step::Fault(number),
+                None => Step::Took(len),
+            }
+        }
+        Want::Bundle {
+            sandbox,
+            address,
+            format,
+            code_base,
+            code_size,
+            listed,
+        } => {
+            let place = BundlePlace {
+                sandbox,
+                address,
+                format,
+                code_base,
+                code_size,
+                listed,
+            };
+            take_code::<F, BLOCKS>(reader, tally, sink, findings, &place, rest)
+        }
+        Want::Init(most) => {
+            if rest.is_empty() {
+                return Step::Short;
+            }
+            let len = if rest.len() < most { rest.len() } else { most };
+            match reader.take(&rest[..len]) {
+                Some(number) => Step::Fault(number),
+                None => Step::Took(len),
+            }
+        }
+        Want::End => Step::Whole,
+        Want::Nothing => unreachable!(),
+    }
+}
+
+/// Takes as many bytes of a piece as lead on.
+pub(crate) fn take_piece<F: FindingSink, const BLOCKS: bool>(
+    reader: &mut LayoutReader,
+    tally: &mut Tally,
+    sink: &mut F,
+    piece: &[u8],
+) -> Progress
+    requires { (first : F) × (so_far : List ℕ)
+        × IsSoFar (λ found. F.takes first found sink.old) reader.old tally.old so_far }
+    ensures { (first : F) (so_far : List ℕ)
+        → IsSoFar (λ found. F.takes first found sink.old) reader.old tally.old so_far
+        → Goes (λ found. F.takes first found sink.new)
+        reader.old reader.new tally.new so_far piece.now result }
+{
+    let mut findings = BundleFindings::new();
+    let mut at = 0;
+    loop {
+        match step::<F, BLOCKS>(reader, tally, sink, &mut findings, &piece[at..]) {
+            Step::Took(len) => at += len,
+            Step::Short => return Progress::More(at),
+            Step::Whole => return Progress::Whole(at),
+            Step::Fault(number) => return Progress::Fault(number),
+        }
+    }
+}
+
+/// The verdict on an image with that tally.
+pub(crate) fn verdict(tally: &Tally) -> StreamAnswer
+    ensures { result ≡ verdict_of tally.now }
+{
+    match tally.first {
+        Some(first) => StreamAnswer::Findings {
+            count: tally.count,
+            first,
+        },
+        None => StreamAnswer::Accepted {
+            sandboxes: tally.sandboxes,
+            bundles: tally.bundles,
+        },
+    }
+}
