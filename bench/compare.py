@@ -46,7 +46,9 @@ def built(program, text):
 
 
 def example_images(program):
-    """The examples' images, those of the C programs too; each source in both formats."""
+    """The examples' images, those of the C programs too, where they can be made; each source in both formats."""
+    if shutil.which("make"):
+        subprocess.run(["make", "-s", "-C", os.path.join(EXAMPLES, "c"), "texts"], check=False)
     made = [bytes.fromhex(measure.contents(path).decode()) for path in glob.glob(os.path.join(EXAMPLES, "*.hex"))]
     for path in sorted(glob.glob(os.path.join(EXAMPLES, "**", "*.s"), recursive=True)):
         text = measure.contents(path).replace(b".format 2\n", b"")

@@ -28,6 +28,16 @@ skip() { # how many tests, what, and why
 
 has() { command -v "$1" >"$room/which" 2>&1; }
 
+# The source text of a program of examples/c: the one that is kept, or what the Makefile there makes of the C.
+programs=$(cd "$(dirname "${BASH_SOURCE[0]}")/c" && pwd)
+source_of_c() { # a program; nothing where it would take a compiler that isn't there
+    if [ -f "$programs/$1.s" ]; then
+        echo "$programs/$1.s"
+    elif has riscv64-unknown-elf-gcc && has make; then
+        make -s -C "$programs" "build/$1.s" >&2 && echo "$programs/build/$1.s"
+    fi
+}
+
 needs() { # what needs it, a command, the Debian package that has it
     has "$2" || skip 1 "$1" "$2 isn't there (Debian's package $3)"
 }

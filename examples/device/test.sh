@@ -78,7 +78,7 @@ compare_programs() { # format
     while read -r program input _; do
         [ "$program" = "$last" ] && [ -z "$all" ] && continue
         last=$program
-        build "../c/$program.s" "$1" >"$room/image.hex"
+        build "$(source_of_c "$program")" "$1" >"$room/image.hex"
         compare "$program on $input, format $1" "$room/image.hex" \
             "$(xxd -p "../c/inputs/$input" | tr -d '\n')" steps
     done < <(tac ../c/expected.txt)

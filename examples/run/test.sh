@@ -120,7 +120,9 @@ examples_beside_run() {
         done
         input=$(head -c 3000 "$here/../c/inputs/prose" | od -An -v -tx1 | tr -d ' \n')
         for name in base64 crc32 hash json sort stack; do
-            image "$here/../c/$name.s" "$format" "$name" || report "$name is built in format $format" image none
+            source=$(source_of_c "$name")
+            [ -n "$source" ] || { skip 1 "$name.c, format $format" "riscv64-unknown-elf-gcc or make isn't there" && continue; }
+            image "$source" "$format" "$name" || report "$name is built in format $format" image none
             beside_run "$name.c, format $format" "$name" "$input" 1:100000 300:7 50:9999 100:1000000
         done
     done

@@ -6,11 +6,12 @@
 The code is that of each example of examples/c, and random code as it is and packed, in both
 formats. `sfi dis` lists each image: where the model has an instruction, the listing must have
 the one that its expansion begins with, of the same size. The seed of the random code is printed
-first; SEED=N in the environment takes another. Needs no compiler: the examples are read as
-source texts."""
+first; SEED=N in the environment takes another. The examples are read as source texts, of which
+the Makefile of examples/c makes those that aren't kept: without gcc for RISC-V they are skipped."""
 import os
 import random
 import re
+import shutil
 import subprocess
 import unittest
 
@@ -27,6 +28,7 @@ EXAMPLES = os.path.join(TOP, "examples", "c")
 SFI = os.environ.get("SFI", os.path.join(TOP, "crates", "sfi", "out", "sfi"))
 SEED = int(os.environ.get("SEED", random.randrange(10 ** 6)))
 REGISTERS = "a0 a1 a2 a5 t0 t3 s0 s3".split()
+GCC = "riscv64-unknown-elf-gcc"
 PROGRAMS = 12
 LENGTH = 60
 SPELT = {"mv": "addi", "nop": "addi", "li": "addi", "la": "lui", "j": "jal", "call": "jal", "beqz": "beq", "bnez": "bne",
@@ -119,13 +121,21 @@ class Images(unittest.TestCase):
         last = max(place for place in listed if place < end)
         self.assertEqual(last + listed[last][0], end, what)
 
-    def test_examples(self):
-        for name in sorted(file for file in os.listdir(EXAMPLES) if file.endswith(".s")):
-            with open(os.path.join(EXAMPLES, name), encoding="utf-8") as file:
+    def compare_texts(self, folder):
+        for name in sorted(file for file in os.listdir(folder) if file.endswith(".s")):
+            with open(os.path.join(folder, name), encoding="utf-8") as file:
                 text = file.read()
             for image_format in (1, 2):
                 text = re.sub(r"^\.format .*$", f".format {image_format}", text, flags=re.MULTILINE)
                 self.compare(text, image_format, f"{name}, format {image_format}")
+
+    def test_kept_examples(self):
+        self.compare_texts(EXAMPLES)
+
+    @unittest.skipUnless(shutil.which(GCC) and shutil.which("make"), f"{GCC} or make isn't there")
+    def test_made_examples(self):
+        subprocess.run(["make", "-s", "-C", EXAMPLES, "texts"], check=True)
+        self.compare_texts(os.path.join(EXAMPLES, "build"))
 
     def test_random_code(self):
         print(f"SEED={SEED}", flush=True)
