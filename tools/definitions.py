@@ -7,8 +7,7 @@
 
 A word is a definition in a crate's specs/, but for specs/private, which private contracts alone cite, and specs/mirror. The
 page names it where a public contract cites it (that of a `pub fn`, of a `pub trait`, or an impl's ghost items), and has the
-files of the words by which these are defined. What a file defines is the first sentence of the comment at its head, up to a
-colon, and its public source its line in tools/sources.txt.
+files of the words by which these are defined. tools/sources.txt has the public source of a file.
 
 It also compares: that no definition outside specs/private imports a word from there, that each contract in
 docs/PROOFS.md is one of its crate, and in documents each `PATH` (N), PATH being a file below crates/ of N lines (a name
@@ -29,12 +28,13 @@ NOT_LISTED = ("private", "mirror", "declared")
 HEAD = """# Definitions
 
 A proof shows that code meets its contract, and a contract is as good as the definitions that it cites. Here
-are their files in `crates/CRATE/specs`: what each defines, the words in it that a public contract cites, and
-its public source. A file without words has only such as these are made of. What a word says stands in the
-comment above it: read it there, or let `tools/definitions.py CRATE ..` print each word with its comment, its
-line and one that cites it. The laws of a crate, in its file `Laws`, are in [PROOFS.md](PROOFS.md). Words that
-private contracts alone cite are in `specs/private`; `specs/mirror` of `rv_comp` repeats the code, and defines
-nothing. `tools/definitions.py --write` makes this page, and `./test` compares it.
+are their files in `crates/CRATE/specs`, with the words that a public contract cites, and the public source. A
+file without words has only such as these are made of. The first line of a file says what it defines, and the
+comment above each word what that says: read them there, or let `tools/definitions.py CRATE ..` print each
+word with its comment, its line and one that cites it. The laws of a crate, in its file `Laws`, are in
+[PROOFS.md](PROOFS.md). Words that private contracts alone cite are in `specs/private`; `specs/mirror` of
+`rv_comp` repeats the code, and defines nothing. `tools/definitions.py --write` makes this page, and `./test`
+compares it.
 
 A file without a source is this project's own. **ISA** is the RISC-V Instruction Set Manual, Volume I:
 Unprivileged ISA, and **psABI** the RISC-V ABIs Specification. **Wahbe** is Wahbe, Lucco, Anderson and Graham,
@@ -78,13 +78,6 @@ def declarations(text):
             comment = [*(comment if is_open else []), note.strip()]
         is_open = line.startswith("-- ")
     return found
-
-
-def subject(text):
-    """What a file defines: the first sentence of the comment at its head, up to a colon."""
-    head = re.match(r"(--.*\n)*", text)[0]
-    sentence = re.split(r"(?<=\.)\s|: | \(", " ".join(line.strip("- ") for line in head.splitlines()))[0]
-    return sentence.rstrip(".")
 
 
 def constructors(lines):
@@ -210,11 +203,10 @@ def sources(text):
 
 
 def line_of_file(file, keys, source):
-    """The page's line for a file: what it defines, its words, and its source."""
-    path = path_of(*file)
-    link = f"[{file[1].replace('.', '/')}](../{path.relative_to(TOP)})"
+    """The page's line for a file: its words, and its source."""
+    link = f"[{file[1].replace('.', '/')}](../{path_of(*file).relative_to(TOP)})"
     words = ": " + ", ".join(f"`{name}`" for _, _, name in keys) if keys else ""
-    return f"- {link}: {subject(path.read_text(encoding='utf-8'))}{words}{' — ' + source if source else ''}"
+    return f"- {link}{words}{' — ' + source if source else ''}"
 
 
 def page(words, source_of):
@@ -347,7 +339,6 @@ def checked_itself():
         "names": words["c", "A", "near"].names == {("c", "B", "far"), ("c", "A", "part")},
         "comments": words["c", "A", "near"].comment == "how near it is" and words["c", "A", "near"].line == 4,
         "constructors": words["c", "B", "Two"].key == ("c", "B", "Kind"),
-        "subjects": subject("-- So it is.\n-- Not more.\n\n-- other\n") == "So it is",
         "sources": sources("# note\na B: C: d\n") == {("a", "B"): "C: d"},
         "contracts": contracts(ITEMS) == [("rv_word", "laws"), ("rv_word", "f"), ("rv_word", "only")],
         "private": len(imports_of_private("crates/c/specs/A.antt", private)) == 2
