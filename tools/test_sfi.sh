@@ -6,26 +6,13 @@
 set -uo pipefail
 unset CDPATH
 top=$(cd "$(dirname "${BASH_SOURCE[0]}")/.." && pwd)
-room=$(mktemp -d)
+source "$top/examples/harness.sh"
 trap 'chmod -R u+w "$room"; rm -rf "$room"' EXIT
 copy=$room/checkout
 out=$copy/crates/sfi/out
-passed=0
-failed=0
-skipped=0
 
-report() { # whether it passed, its name, what was found
-    if [ "$1" = 0 ]; then
-        passed=$((passed + 1))
-    else
-        failed=$((failed + 1))
-        printf 'FAILED %s\n  found  %s\n' "$2" "$3"
-    fi
-}
-
-skip() { # why, how many tests
-    skipped=$((skipped + $2))
-    echo "skipped: $1"
+report() { # a status, 0 where it passed; its name, and what is found
+    report_as "$1" "$2" "what its name says" "$3"
 }
 
 # ---- the scratch copy, and commands that note each call, and fail if a file `break` is there
@@ -181,7 +168,7 @@ sfi: the Rattle toolchain isn't there"
         chmod a+rx "$room" && chmod a+rw "$room/output" "$room/errors" && rm -f "$room/calls"
         call setpriv --reuid=65534 --regid=65534 --clear-groups /usr/bin/env python3 "$copy/sfi" check
     else
-        skip "a folder that can't be written: this is root, and setpriv isn't there" 1
+        skip 1 "a folder that can't be written" "this is root, and setpriv isn't there"
         return
     fi
     ran check && [ "$(calls)" = 0 ] && says "can't be written; this runs it as it is"
@@ -274,9 +261,4 @@ which_changes_count
 places
 failing
 where_none_can_be_built
-if [ "$skipped" = 0 ]; then
-    echo "$passed passed, $failed failed"
-else
-    echo "$passed passed, $failed failed, $skipped skipped"
-fi
-[ "$failed" = 0 ]
+finish
