@@ -75,7 +75,7 @@ def declarations(text):
         elif found and not line.startswith(("use ", "infix")):
             found[-1][2].append(code)
         if line.startswith("-- "):
-            comment = [*(comment if is_open else []), note.strip()]
+            comment = [*(comment if is_open else []), note.strip(" -")]
         is_open = line.startswith("-- ")
     return found
 
