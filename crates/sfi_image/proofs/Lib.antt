@@ -23,6 +23,7 @@ pub mod Places
 pub mod Plain
 pub mod Ending
 pub mod Parsing
+pub mod CursorSteps
 pub mod Second
 pub mod Facts
 pub mod Handing

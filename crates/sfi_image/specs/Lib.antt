@@ -14,6 +14,7 @@ pub mod Laws
 pub mod Outcome
 pub mod Fronts
 pub mod Keeping
+pub mod Cursor
 pub mod Reader
 pub mod ReaderParts
 pub mod Sources

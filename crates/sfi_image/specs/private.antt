@@ -1,4 +1,5 @@
 -- Words that private contracts and proofs alone cite: no public statement rests on them.
+pub mod Cursor
 pub mod Keeping
 pub mod Outcome
 pub mod Writing

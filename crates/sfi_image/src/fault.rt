@@ -1,6 +1,6 @@
 //! Why bytes are no image.
 ghost use Rattle.std.specs.Prelude.{◌≡◌};
-ghost use Rattle.sfi_image.specs.declared.fault.ImageFault.TheVariants.{Memory};
+ghost use Rattle.sfi_image.specs.declared.fault.ImageFault.TheVariants.{Layout, Memory};
 ghost use Rattle.sfi_image.specs.Faults.{number_of};
 
 use std::alloc::{AllocError, AllocFailed};
@@ -74,6 +74,14 @@ pub enum ImageFault {
     /// Memory ran out; nothing is known of the bytes.
     #[error("out of memory")]
     Memory,
+}
+
+impl From<LayoutFault> for ImageFault {
+    ghost from_gives = { λ k e. e ≡ Layout k };
+
+    fn from(fault: LayoutFault) -> ImageFault {
+        ImageFault::Layout(fault)
+    }
 }
 
 impl From<AllocError> for ImageFault {

@@ -7,11 +7,13 @@
 //! Software-Based Fault Isolation", 1993), and gates lie at the starts of 16-byte bundles (Yee and
 //! others, "Native Client", 2009).
 //!
-//! [`parse_image`] reads an image from all of its bytes. [`LayoutReader`] reads its layout from
-//! pieces, in order, as a [`ByteSource`] hands them out, and takes no memory;
-//! [`Reading`] makes a source of any reader.
+//! [`parse_image`] reads an image from all of its bytes, by an [`ImageCursor`], which steps from
+//! sandbox to sandbox and takes no memory. [`LayoutReader`] reads its layout from pieces, in order,
+//! as a [`ByteSource`] hands them out, and takes none either; [`Reading`] makes a source of any
+//! reader.
 #![tactic(auto)]
 
+mod cursor;
 mod fault;
 mod fields;
 mod gates;
@@ -29,6 +31,7 @@ mod span;
 mod want;
 mod writing;
 
+pub use cursor::{ImageCursor, PartView};
 pub use fault::{ImageFault, LayoutFault};
 pub use fields::{Fields, has_guard_room, is_region, with_guards};
 pub use image::Image;

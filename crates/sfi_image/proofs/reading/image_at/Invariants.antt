@@ -1,9 +1,9 @@
-use Rattle.sfi_image.proofs.Prelude.{◌≡◌, ◌++◌, length, views, head, after_parts, StandsFor}
+use Rattle.sfi_image.proofs.Prelude.{ℕ, length, views}
+use Rattle.sfi_image.specs.Cursor.{HasPassed, unread}
 use Rattle.sfi_image.proofs.reading.image_at.Given as goal
 
-abbrev pub invariant-loop : goal.invariant-loop
-invariant-loop l = record {
-  bytes : l.bytes ≡ head l.format l.count (views l.format l.parts.items) ++ l.rest;
-  stands : StandsFor l.reader (after_parts l.format l.count (views l.format l.parts.items));
-  len : length l.parts.items ≡ l.counter;
-}
+abbrev pub invariant-loop-parts : goal.invariant-loop-parts
+invariant-loop-parts l = (n : ℕ) × HasPassed l.bytes l.format n (views l.format l.parts.items) l.cursor
+
+abbrev pub decreases-loop-parts : goal.decreases-loop-parts
+decreases-loop-parts l = length (unread l.cursor)
