@@ -9,7 +9,7 @@ use Rattle.sfi_policy.specs.Limits.{region_least}
 use Rattle.sfi_image.specs.declared.part.Gate.{Gate}
 use Rattle.sfi_image.specs.Spelling.{Part}
 use Rattle.sfi_image.specs.Spans.{AreApart, spans}
-use Rattle.sfi_policy.specs.Pairs.{stub}
+use Rattle.sfi_pairs.specs.Pairs.{stub}
 use Rattle.sfi_place.specs.declared.place.Place.{Place}
 use Rattle.sfi_place.specs.Places.{place_of}
 use Rattle.sfi_rewrite.specs.declared.slot.Slot.{Slot}

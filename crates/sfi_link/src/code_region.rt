@@ -18,8 +18,9 @@ use crate::code::push_bundles;
 use crate::fault::LinkFault;
 use crate::lying::lies_beside;
 use sfi_image::Span;
+use sfi_pairs::STUB;
 use sfi_place::{Place, place_of};
-use sfi_policy::{BUNDLE_BYTES, Format, REGION_LEAST_BYTES, STUB};
+use sfi_policy::{BUNDLE_BYTES, Format, REGION_LEAST_BYTES};
 use sfi_rewrite::{Bundle, PlacedPart};
 use std::alloc::{AllocError, Global};
 

@@ -1,3 +1,1 @@
 pub mod Formats
-pub mod Found
-pub mod Facts

@@ -1,5 +1,3 @@
 pub mod Limits
 pub mod Registers
 pub mod Formats
-pub mod Pairs
-pub mod Laws

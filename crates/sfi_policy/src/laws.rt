@@ -1,12 +1,9 @@
-//! That the constants are what the definitions say, and what holds of the definitions themselves.
+//! That the constants are what the definitions say.
 ghost use Rattle.std.specs.Prelude.{◌≡◌};
 ghost use Rattle.sfi_policy.specs.Limits.{bundle_size, guard, region_least, data_most, sandboxes_most, gates_most, service_most, items_most, name_most, first_frame};
 ghost use Rattle.sfi_policy.specs.Registers.{code_base_register, code_mask_register, data_base_register, data_mask_register, scratch, stack_pointer};
-ghost use Rattle.sfi_policy.specs.Pairs.{stub};
-ghost use Rattle.sfi_policy.specs.Laws.{PairsAreFound, StubIsSpelled};
 ghost use Rattle.sfi_policy.specs.declared.limits.TheConstants.{BUNDLE_SIZE, BUNDLE_BYTES, GUARD, REGION_LEAST, DATA_MOST, SANDBOXES_MOST, GATES_MOST, SERVICE_MOST, ITEMS_MOST, NAME_MOST, FIRST_FRAME, REGION_LEAST_BYTES, SANDBOX_COUNT_MOST, GATE_COUNT_MOST, ITEM_COUNT_MOST, NAME_MOST_BYTES};
 ghost use Rattle.sfi_policy.specs.declared.registers.TheConstants.{CODE_BASE_REGISTER, CODE_MASK_REGISTER, DATA_BASE_REGISTER, DATA_MASK_REGISTER, SCRATCH, STACK_POINTER};
-ghost use Rattle.sfi_policy.specs.declared.stub.TheConstants.{STUB};
 
 /// Each limit of the code is that of the definitions.
 pub fn limits_agree()
@@ -36,19 +33,4 @@ pub fn registers_agree()
     ensures data_mask { DATA_MASK_REGISTER ≡ data_mask_register }
     ensures scratch { SCRATCH ≡ scratch }
     ensures stack_pointer { STACK_POINTER ≡ stack_pointer }
-{}
-
-/// The stub of the code is that of the definitions.
-pub fn stub_agrees()
-    ensures { STUB ≡ stub }
-{}
-
-/// The test for a pair finds the pairs and nothing else.
-pub fn pairs_are_found()
-    ensures { PairsAreFound }
-{}
-
-/// The stub's bytes spell its instructions.
-pub fn stub_is_spelled()
-    ensures { StubIsSpelled }
 {}

@@ -1,30 +1,26 @@
-//! What a sandbox is confined by: its limits, the formats of images, the registers that have a part
-//! in that, the masked pairs (Wahbe, Lucco, Anderson and Graham, "Efficient Software-Based Fault
-//! Isolation", 1993) and a gate's stub.
+//! What a sandbox is confined by: its limits, the formats of images, and the registers that have a
+//! part in that.
 //!
 //! Each has its name here, and crates above cite it by that; the table of halfwords of the first
 //! look (`sfi_scan`) has the registers in its entries, and is proved to agree. The definitions in
 //! `specs/` decide; the constants are proved to agree with them ([`limits_agree`],
-//! [`registers_agree`], [`stub_agrees`]).
+//! [`registers_agree`]). No instruction is known here, so that images don't wait for them: the pairs
+//! and a gate's stub are `sfi_pairs`.
 #![tactic(auto)]
 
 mod format;
 mod laws;
 mod limits;
-mod pairs;
 mod registers;
-mod stub;
 
 pub use format::Format;
-pub use laws::{limits_agree, pairs_are_found, registers_agree, stub_agrees, stub_is_spelled};
+pub use laws::{limits_agree, registers_agree};
 pub use limits::{
     BUNDLE_BYTES, BUNDLE_SIZE, DATA_MOST, FIRST_FRAME, GATE_COUNT_MOST, GATES_MOST, GUARD,
     ITEM_COUNT_MOST, ITEMS_MOST, NAME_MOST, NAME_MOST_BYTES, REGION_LEAST, REGION_LEAST_BYTES,
     SANDBOX_COUNT_MOST, SANDBOXES_MOST, SERVICE_MOST,
 };
-pub use pairs::{code_pair, data_pair};
 pub use registers::{
     CODE_BASE_REGISTER, CODE_MASK_REGISTER, DATA_BASE_REGISTER, DATA_MASK_REGISTER, SCRATCH,
-    STACK_POINTER, is_reserved, is_withheld,
+    STACK_POINTER,
 };
-pub use stub::STUB;

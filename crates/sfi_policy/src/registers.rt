@@ -1,8 +1,4 @@
 //! The registers that have a part in a sandbox's confinement, by their parts.
-ghost use Rattle.std.specs.Prelude.{◌≡◌};
-ghost use Rattle.sfi_policy.specs.Registers.{is_reserved, is_withheld};
-
-use rv_word::Reg;
 
 /// x24, which holds the code base.
 pub const CODE_BASE_REGISTER: u8 = 24;
@@ -21,22 +17,3 @@ pub const SCRATCH: u8 = 31;
 
 /// x2, the stack pointer of a format that has one.
 pub const STACK_POINTER: u8 = 2;
-
-/// Whether the register holds a bound of the regions, so that nothing in a sandbox may write it.
-#[inline]
-pub fn is_reserved(register: Reg) -> bool
-    ensures { result ≡ is_reserved register }
-{
-    let number = register.number();
-    number == CODE_BASE_REGISTER
-        || number == CODE_MASK_REGISTER
-        || number == DATA_BASE_REGISTER
-        || number == DATA_MASK_REGISTER
-}
-
-/// Whether a source may not name the register: it is reserved, or the one of the expansions.
-pub fn is_withheld(register: Reg) -> bool
-    ensures { result ≡ is_withheld register }
-{
-    is_reserved(register) || register.number() == SCRATCH
-}

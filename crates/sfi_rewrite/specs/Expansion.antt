@@ -12,7 +12,7 @@ use Rattle.sfi_policy.specs.Formats.{is_stack}
 use Rattle.rv_source.specs.declared.item.Body.{Body}
 use Rattle.rv_source.specs.declared.item.Body.TheVariants.{Plain, To, High, Low}
 use Rattle.rv_source.specs.declared.item.Item.{Item}
-use Rattle.sfi_policy.specs.Pairs.{data_pair, code_pair}
+use Rattle.sfi_pairs.specs.Pairs.{data_pair, code_pair}
 use Rattle.sfi_policy.specs.Registers.{scratch}
 use Rattle.sfi_rewrite.specs.declared.slot.Slot.{Slot}
 use Rattle.sfi_rewrite.specs.declared.slot.Slot.TheVariants.{Wide, Short, Jump, Upper, Lower}

@@ -8,7 +8,7 @@ use Rattle.sfi_policy.specs.declared.format.Format.{Format}
 use Rattle.sfi_policy.specs.Formats.{has_stack}
 use Rattle.rv_source.specs.declared.item.Body.{Body}
 use Rattle.rv_source.specs.declared.item.Body.TheVariants.{Plain, To}
-use Rattle.sfi_policy.specs.Pairs.{data_pair}
+use Rattle.sfi_pairs.specs.Pairs.{data_pair}
 use Rattle.sfi_policy.specs.Registers.{stack_pointer}
 use Rattle.sfi_rewrite.specs.declared.slot.Slot.{Slot}
 use Rattle.sfi_rewrite.specs.declared.slot.Slot.TheVariants.{Wide}

@@ -8,7 +8,8 @@ use crate::slot::Slot;
 use rv_comp::form_of;
 use rv_source::{Body, Item};
 use rv_word::{ImmOp, Instr, Reg};
-use sfi_policy::{Format, SCRATCH, STACK_POINTER, code_pair, data_pair};
+use sfi_pairs::{code_pair, data_pair};
+use sfi_policy::{Format, SCRATCH, STACK_POINTER};
 use std::marker::Model;
 
 /// What stands in the array where an expansion has no slot.

@@ -8,7 +8,8 @@ ghost use Rattle.sfi_rewrite.specs.Faults.{IsPermitted, HasItemFault};
 use crate::fault::RewriteFault;
 use rv_source::{Body, Item};
 use rv_word::Instr;
-use sfi_policy::{Format, is_withheld};
+use sfi_pairs::is_withheld;
+use sfi_policy::Format;
 
 /// Whether one of the instruction's register operands is x24 to x27 or x31.
 fn names_withheld(instr: &Instr) -> bool

@@ -11,7 +11,7 @@ use Rattle.sfi_rules.specs.declared.rule.Rule.TheVariants.{V1, V2, V3, V4, V5, V
 use Rattle.sfi_rules.specs.declared.finding.Finding.{Finding}
 use Rattle.sfi_rules.specs.declared.bundle.BundlePlace.{BundlePlace}
 use Rattle.sfi_policy.specs.Limits.{bundle_size}
-use Rattle.sfi_policy.specs.Pairs.{stub}
+use Rattle.sfi_pairs.specs.Pairs.{stub}
 use Rattle.sfi_rules.specs.Bundles.{place_of, bundle_bytes}
 use Rattle.sfi_rules.specs.Readings.{Piece, IsLongestReading, rest_of}
 use Rattle.sfi_rules.specs.Rules.{Place, breaks, is_empty}

@@ -2,7 +2,7 @@
 use Rattle.std.specs.Prelude.{◌==◌, ◌&&◌, not, ℕ, List, ◌∷◌, Bool, false}
 use Rattle.rv_word.specs.declared.instr.Instr.{Instr}
 use Rattle.sfi_policy.specs.Registers.{code_base_register, code_mask_register, data_base_register, data_mask_register, is_reserved}
-use Rattle.sfi_policy.specs.Pairs.{is_pair}
+use Rattle.sfi_pairs.specs.Pairs.{is_pair}
 
 -- The two instructions directly before a place are the pair on the target, which is neither x0 nor
 -- reserved. `earlier` has the instructions before the place in its bundle, the nearest first.

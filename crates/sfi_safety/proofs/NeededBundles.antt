@@ -3,7 +3,7 @@ use Rattle.sfi_safety.proofs.Prelude.{◌≡◌, ◌≢◌, ℕ, zero, suc, ◌+
 use Rattle.rv_comp.specs.declared.form.Form16.TheVariants.{CAddi}
 use Rattle.sfi_safety.specs.Samples.{sandbox, nop, undecodable, crossing_store, running_off_the_end, gate_comes_back_elsewhere}
 use Rattle.sfi_policy.specs.Limits.{service_most}
-use Rattle.sfi_policy.specs.Pairs.{stub}
+use Rattle.sfi_pairs.specs.Pairs.{stub}
 use Rattle.sfi_rules.specs.declared.rule.Rule.TheVariants.{V1, V2, V8, V9}
 use Rattle.sfi_safety.proofs.Readings.{IsSpelled, BeginsNothing, op_spelled, nothing_begins, ebreak_spelled, four, read_bundle, four_words, four_longest, wide, all_findings, quiet, none_listed, ecall_spelled, jalr_past}
 use Rattle.sfi_safety.proofs.Samples.{IsSample, without_gates, hart, is_hart, first, bytes_there, stands, then_turn, step_at, then_step, reaches, has_left, past_end, needed}

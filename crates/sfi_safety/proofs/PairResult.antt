@@ -1,12 +1,12 @@
 -- After an instruction the registers hold what it and the one before it leave: of a pair, an address of its region.
 use Rattle.sfi_safety.proofs.Prelude.{◌≡◌, ◌≢◌, ℕ, ◌-◌, ◌<◌, List, [], ◌∷◌, length, get_or, set, true, not, ◌&&◌, ◌==◌, refl, sym, ap, ◌∙◌, subst, arith, slice_index, and_parts, and_from, cond-false, ne_eqb, not-true, false≢true, eqb-false, get_or-set_same, And, Or, Instr, Op, InRange, code_most, Hart, register, with_register, result_of, Part, code_region, IsBundleStart, InData, Leaves, follows_mask, WritesResult, InstructionLeaves}
 use Rattle.rv_word.specs.declared.instr.RegOp.{RegOp}
-use Rattle.sfi_policy.specs.Pairs.{masking_instr, placing_instr, is_masking, is_placing}
+use Rattle.sfi_pairs.specs.Pairs.{masking_instr, placing_instr, is_masking, is_placing}
 use Rattle.sfi_policy.specs.Registers.{is_reserved}
 use Rattle.sfi_rules.specs.Pairs.{follows_pair}
 use Rattle.std.specs.Prelude.{bit_and, bit_or}
 use Rattle.sfi_safety.proofs.Masks.{masked_data, masked_code}
-use Rattle.sfi_policy.proofs.Facts.{pairs_are_found}
+use Rattle.sfi_pairs.proofs.Facts.{pairs_are_found}
 
 -- ---- the two instructions of a pair
 

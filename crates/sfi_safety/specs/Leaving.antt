@@ -9,7 +9,7 @@ use Rattle.sfi_image.specs.Spelling.{Part}
 use Rattle.sfi_image.specs.Registers.{reserved_of}
 use Rattle.sfi_image.specs.Spans.{code_region}
 use Rattle.sfi_image.specs.Regions.{IsBundleStart}
-use Rattle.sfi_policy.specs.Pairs.{is_masking}
+use Rattle.sfi_pairs.specs.Pairs.{is_masking}
 use Rattle.sfi_rules.specs.Pairs.{follows_data_pair, follows_code_pair}
 use Rattle.sfi_safety.specs.Regions.{InData}
 

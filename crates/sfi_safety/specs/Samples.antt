@@ -11,7 +11,7 @@ use Rattle.rv_word.specs.Numbers.{minus}
 use Rattle.rv_word.specs.Spelling.{spelling}
 use Rattle.sfi_policy.specs.Limits.{region_least}
 use Rattle.sfi_policy.specs.Registers.{data_base_register, scratch, stack_pointer, return_register}
-use Rattle.sfi_policy.specs.Pairs.{data_pair, code_pair}
+use Rattle.sfi_pairs.specs.Pairs.{data_pair, code_pair}
 use Rattle.sfi_policy.specs.declared.format.Format.{Format}
 use Rattle.sfi_policy.specs.declared.format.Format.TheVariants.{Sfi1, Sfi2}
 use Rattle.sfi_image.specs.declared.part.Gate.{Gate}

@@ -22,7 +22,8 @@ use crate::pair_words::are_data_pair;
 use crate::rules::{STACK, is_bundle_start, is_last_bundle, offset_by};
 use rv_comp::outline16;
 use rv_word::{Access, Outline, Reg, RegOp, access32, computes32, op_word, outline32};
-use sfi_policy::{BUNDLE_BYTES, is_reserved};
+use sfi_pairs::is_reserved;
+use sfi_policy::BUNDLE_BYTES;
 use sfi_rules::BundlePlace;
 
 /// The words of the two instructions directly before a place in its bundle. 0 stands for a 16-bit

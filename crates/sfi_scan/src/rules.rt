@@ -12,7 +12,8 @@ ghost use Rattle.sfi_scan.specs.private.Near.{near, ahead, finding_of};
 use crate::ahead::{Ahead, read_ahead};
 use crate::before::{Before, CODE, DATA, is_masking, is_placing};
 use rv_word::Instr;
-use sfi_policy::{BUNDLE_SIZE, STACK_POINTER, is_reserved};
+use sfi_pairs::is_reserved;
+use sfi_policy::{BUNDLE_SIZE, STACK_POINTER};
 use sfi_rules::{BundlePlace, Rule};
 
 fn breaks_ecall(place: &BundlePlace, is_first: bool, instr: &Instr) -> bool

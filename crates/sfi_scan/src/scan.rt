@@ -9,7 +9,8 @@ use crate::clean::is_seen_clean;
 use crate::findings::BundleFindings;
 use crate::rules::lowest_rule;
 use rv_comp::{Front, read_front};
-use sfi_policy::{BUNDLE_BYTES, STUB};
+use sfi_pairs::STUB;
+use sfi_policy::BUNDLE_BYTES;
 use sfi_rules::{BundlePlace, Finding, Rule};
 
 fn finding(place: &BundlePlace, offset: usize, rule: Rule) -> Finding

@@ -4,7 +4,7 @@ use Rattle.std.specs.Prelude.{◌==◌, is_some}
 use Rattle.std.proofs.lemmas.Bool.{or_parts, not-false}
 use Rattle.rv_word.specs.declared.instr.Instr.{Instr}
 use Rattle.rv_word.specs.declared.instr.Instr.TheVariants.{Jal, Jalr, Ebreak}
-use Rattle.sfi_policy.specs.Pairs.{is_placing}
+use Rattle.sfi_pairs.specs.Pairs.{is_placing}
 use Rattle.rv_word.specs.Writes.{destination, is_register, writes_register}
 use Rattle.sfi_rules.specs.Readings.{Piece}
 use Rattle.sfi_rules.specs.Rules.{breaks_reserved, ends_region}

@@ -26,7 +26,7 @@ pub use Rattle.rv_step.specs.Step.{Stepped, Stands, IsStep, effect, after_load, 
 pub use Rattle.rv_step.specs.Values.{word, result_of, load_size, store_size, is_taken, extended}
 pub use Rattle.rv_step.specs.declared.outcome.Outcome.{Outcome}
 pub use Rattle.rv_step.specs.declared.outcome.Outcome.TheVariants.{Next, Call, Trap}
-pub use Rattle.sfi_policy.specs.Pairs.{is_masking, is_placing}
+pub use Rattle.sfi_pairs.specs.Pairs.{is_masking, is_placing}
 pub use Rattle.sfi_policy.specs.Registers.{is_reserved}
 pub use Rattle.sfi_image.specs.Spelling.{Part}
 pub use Rattle.sfi_image.specs.Spans.{Holds, code_region, guarded_region}

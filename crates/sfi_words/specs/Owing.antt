@@ -3,7 +3,7 @@
 use Rattle.std.specs.Prelude.{◌==◌, ℕ, Bool, true, false, Option, Some, None, if◌then◌else◌}
 use Rattle.rv_word.specs.declared.instr.Instr.{Instr}
 use Rattle.rv_word.specs.Writes.{destination}
-use Rattle.sfi_policy.specs.Pairs.{is_masking, is_placing}
+use Rattle.sfi_pairs.specs.Pairs.{is_masking, is_placing}
 use Rattle.sfi_policy.specs.Registers.{code_base_register, code_mask_register}
 use Rattle.sfi_rules.specs.Stack.{is_jump}
 use Rattle.sfi_words.specs.declared.owed.Owed.{Owed}

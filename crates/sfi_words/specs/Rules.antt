@@ -7,7 +7,7 @@ use Rattle.rv_word.specs.declared.instr.RegOp.TheVariants.{And, Or}
 use Rattle.rv_word.specs.declared.instr.ImmOp.TheVariants.{Addi}
 use Rattle.rv_word.specs.Numbers.{offset_by}
 use Rattle.rv_word.specs.Writes.{destination, writes_register}
-use Rattle.sfi_policy.specs.Pairs.{is_masking, is_placing}
+use Rattle.sfi_pairs.specs.Pairs.{is_masking, is_placing}
 use Rattle.sfi_policy.specs.Registers.{code_base_register, code_mask_register, data_base_register, data_mask_register}
 use Rattle.sfi_rules.specs.Readings.{Piece}
 use Rattle.sfi_rules.specs.Rules.{is_empty, ends_region}

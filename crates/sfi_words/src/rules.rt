@@ -1,6 +1,6 @@
 //! The rules, each as a test on an instruction and what comes after it.
 ghost use Rattle.std.specs.Prelude.{◌≡◌};
-ghost use Rattle.sfi_policy.specs.Pairs.{is_masking, is_placing};
+ghost use Rattle.sfi_pairs.specs.Pairs.{is_masking, is_placing};
 ghost use Rattle.sfi_rules.specs.Rules.{breaks_reserved, ends_region};
 ghost use Rattle.sfi_rules.specs.Stack.{is_jump};
 ghost use Rattle.sfi_words.specs.Typed.{is_data};
@@ -12,7 +12,8 @@ ghost use Rattle.sfi_words.specs.Findings.{breaks_last, is_at_gate, lowest};
 use crate::owed::Owed;
 use crate::rule::WordRule;
 use rv_word::{ImmOp, Instr, Reg, RegOp};
-use sfi_policy::{CODE_BASE_REGISTER, DATA_BASE_REGISTER, DATA_MASK_REGISTER, is_reserved};
+use sfi_pairs::is_reserved;
+use sfi_policy::{CODE_BASE_REGISTER, DATA_BASE_REGISTER, DATA_MASK_REGISTER};
 use sfi_rules::BundlePlace;
 
 pub(crate) const CODE_REGISTER: u8 = 30;

@@ -15,7 +15,7 @@ use Rattle.sfi_rules.specs.declared.bundle.BundlePlace.{BundlePlace}
 use Rattle.sfi_scan.specs.declared.clean.Words.{Words}
 use Rattle.sfi_scan.specs.private.Near.{near}
 use Rattle.sfi_policy.specs.Registers.{data_base_register, data_mask_register, is_reserved, stack_pointer}
-use Rattle.sfi_policy.specs.Pairs.{masking_instr, placing_instr}
+use Rattle.sfi_pairs.specs.Pairs.{masking_instr, placing_instr}
 use Rattle.sfi_rules.specs.Pairs.{follows_code_pair}
 use Rattle.sfi_rules.specs.Rules.{is_bundle_start, may_access}
 

@@ -4,7 +4,7 @@ use Rattle.std.proofs.lemmas.Bool.{and_parts, and_from, false≢true, eqb-true, 
 use Rattle.rv_word.specs.declared.instr.RegOp.TheVariants.{And, Or}
 use Rattle.rv_word.specs.declared.instr.Instr.{Instr}
 use Rattle.rv_word.specs.declared.instr.Instr.TheVariants.{Op}
-use Rattle.sfi_policy.specs.Pairs.{masking_instr, placing_instr, pair, is_masking, is_placing, is_pair}
+use Rattle.sfi_pairs.specs.Pairs.{masking_instr, placing_instr, pair, is_masking, is_placing, is_pair}
 
 masking_is : (mask target : ℕ) (i : Instr) → is_masking mask target i ≡ true → (a : ℕ) × (i ≡ masking_instr mask target a)
 masking_is mask target (Op And rd rs1 rs2) h =

@@ -4,7 +4,7 @@ use Rattle.std.specs.List.{flat_map}
 use Rattle.std.specs.Int.{w32, to_le_bytes}
 use Rattle.rv_word.specs.declared.instr.Instr.{Instr}
 use Rattle.rv_word.specs.Spelling.{spelling}
-use Rattle.sfi_policy.specs.Pairs.{pair, is_pair, gate_stub, stub}
+use Rattle.sfi_pairs.specs.Pairs.{pair, is_pair, gate_stub, stub}
 
 -- the test finds the pairs and nothing else
 abbrev pub PairsAreFound : Type 0

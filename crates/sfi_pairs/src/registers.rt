@@ -1,0 +1,27 @@
+//! The tests for the registers that have a part in a sandbox's confinement.
+ghost use Rattle.std.specs.Prelude.{◌≡◌};
+ghost use Rattle.sfi_policy.specs.Registers.{is_reserved, is_withheld};
+
+use rv_word::Reg;
+use sfi_policy::{
+    CODE_BASE_REGISTER, CODE_MASK_REGISTER, DATA_BASE_REGISTER, DATA_MASK_REGISTER, SCRATCH,
+};
+
+/// Whether the register holds a bound of the regions, so that nothing in a sandbox may write it.
+#[inline]
+pub fn is_reserved(register: Reg) -> bool
+    ensures { result ≡ is_reserved register }
+{
+    let number = register.number();
+    number == CODE_BASE_REGISTER
+        || number == CODE_MASK_REGISTER
+        || number == DATA_BASE_REGISTER
+        || number == DATA_MASK_REGISTER
+}
+
+/// Whether a source may not name the register: it is reserved, or the one of the expansions.
+pub fn is_withheld(register: Reg) -> bool
+    ensures { result ≡ is_withheld register }
+{
+    is_reserved(register) || register.number() == SCRATCH
+}
