@@ -228,10 +228,13 @@ def faults_of_sources(words, source_of):
 
 
 def told(words, crate):
-    """A text of a crate's words: of each its line, its comment, and one that cites it."""
-    needed = wanted(words)
-    keys = sorted((key for key in needed if key[0] == crate), key=lambda key: (key[1], words[key].line))
-    lines = [f"{path_of(*key[:2]).relative_to(TOP)}:{words[key].line}: {key[2]}: {words[key].comment} [{needed[key]}]" for key in keys]
+    """A text of a crate's words: of each file its first line, and of each word its line, its comment, and one that cites it."""
+    needed, lines = wanted(words), []
+    for key in sorted((key for key in needed if key[0] == crate), key=lambda key: (key[1], words[key].line)):
+        path = path_of(*key[:2])
+        head = f"{path.relative_to(TOP)} {path.read_text(encoding='utf-8').splitlines()[0]}"
+        lines += [] if head in lines else [head]
+        lines.append(f"    {words[key].line}: {key[2]}: {words[key].comment} [{needed[key]}]")
     return "\n".join(lines)
 
 
