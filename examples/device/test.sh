@@ -381,17 +381,15 @@ try_docs() {
     in_docs "a trap, a refusal, two sandboxes" DEVICE.md 2 < <(block DEVICE.md sh 2)
 }
 
-source_of() { # a program of cases, options of the tool
-    cp "cases/$1.c" "$room/top"
-    block DEVICE.md sh 1 | sed "/build/,\$ d; s/ &&\$//; s/hello/$1/g; s|tools/asm2sfi|& $2|" |
-        (cd "$room/top" && bash && cat "$1.s")
+source_of() { # a program of cases, an option of the tool
+    ../../tools/sfi-cc -c "$2" "cases/$1.c"
 }
 
 mkdir "$room/top"
 ln -s "$(realpath ../../tools)" "$(realpath ..)" "$room/top"
 ln -s "$SFI" "$room/top/sfi"
-source_of sender "--gate post=4" >"$room/pair.s"
-source_of adder "--gate take=5" | sed '/^\.format/d' >>"$room/pair.s"
+source_of sender --gate=post=4 >"$room/pair.s"
+source_of adder --gate=take=5 | sed '/^\.format/d' >>"$room/pair.s"
 "$SFI" build <"$room/pair.s" >"$room/image.hex"
 report "words between two C programs" \
     $'sandbox=0 exit=0 out=\nsandbox=1 exit='"$((39 * 40 * 79 / 6)) out=" \
