@@ -11,13 +11,10 @@
  * they can't be read or the records not be written, 6 where THREADS is no number from 1 to 1024.
  */
 #define _POSIX_C_SOURCE 200809L
-#include "sfi.h"
-#include <inttypes.h>
+#include "verdict.h"
 #include <pthread.h>
 #include <stdatomic.h>
 #include <stdbool.h>
-#include <stdio.h>
-#include <stdlib.h>
 
 enum { NO_MEMORY = 4, NOT_READ = 5, WRONG_WORDS = 6, MOST_THREADS = 1024 };
 
@@ -132,22 +129,8 @@ static int read_names(struct images *images) {
     }
 }
 
-static void print_verdict(const struct sfi_verdict *verdict) {
-    static const char *const faults[] = {"", "Magic", "Count", "Short", "Code", "Data", "GuardRoom", "Start", "Gates",
-        "Init", "Overlap", "Trailing"};
-    switch (verdict->status) {
-    case SFI_ACCEPTED:
-        printf("accepted sandboxes=%" PRIu32 " bundles=%" PRIu32, verdict->sandboxes, verdict->bundles);
-        break;
-    case SFI_REFUSED:
-        printf("refused findings=%" PRIu32 " first=V%" PRIu32 " sandbox=%" PRIu32 " at=%08" PRIx32, verdict->findings,
-               verdict->first.rule, verdict->first.sandbox, verdict->first.address);
-        break;
-    case SFI_NO_IMAGE:
-        printf("layout fault %" PRIu32 " %s", verdict->layout_fault, faults[verdict->layout_fault]);
-        break;
-    }
-}
+static const char *const faults[] = {"", "Magic", "Count", "Short", "Code", "Data", "GuardRoom", "Start", "Gates", "Init",
+    "Overlap", "Trailing"};
 
 /* Prints the records; whether every image is accepted. */
 static bool print_records(const struct images *images) {
@@ -158,6 +141,8 @@ static bool print_records(const struct images *images) {
         printf("%" PRIu32 "\t", image->status);
         if (image->status <= SFI_NO_IMAGE)
             print_verdict(&image->verdict);
+        if (image->status == SFI_NO_IMAGE)
+            printf(" %s", faults[image->verdict.layout_fault]);
         printf("\t%s%c", image->name, '\0');
     }
     return are_accepted;
@@ -165,9 +150,8 @@ static bool print_records(const struct images *images) {
 
 int main(int count, char **words) {
     static struct images images;
-    char *end = "";
-    long threads = count == 2 ? strtol(words[1], &end, 10) : 0;
-    if (threads < 1 || threads > MOST_THREADS || *end)
+    long threads = count == 2 ? number_of(words[1], 1, MOST_THREADS) : -1;
+    if (threads < 0)
         return WRONG_WORDS;
     int failure = read_names(&images);
     if (failure)
