@@ -41,6 +41,7 @@ exit_kind = 3
 abbrev pub trap_kind : ℕ
 trap_kind = 4
 
+-- what is told where there is no such sandbox
 abbrev pub none_event : SfiRunEvent
 none_event = record { kind = none_kind; number = 0; a0 = 0; a1 = 0 }
 
