@@ -57,6 +57,10 @@ listed {T} f bytes h = by f.fault h
     by None h = (h.at.tallies.found, h.at.tallies.told_is, held_as f bytes h refl)
     by (Some number) h = (h.1.0, h.1.1, (h.0, (h.1.0, refl)))
 
+-- a sink that took nothing took what was found in no byte
+pub from_nothing : {S : Type 0} (takes : S → List Finding → S → Type 0) (s : S) (f : Feed) → takes s [] s → IsFedTelling (λ found. found ≡ []) f [] → IsFedTelling (λ found. takes s found s) f []
+from_nothing takes s f none h = retold f [] (λ found is. subst (λ (l : List Finding). takes s l s) (sym is) none) h
+
 -- ---- before the first byte
 
 first_cut : (r : ReaderState) → StandsFor r Empty → (x : Front) → StandsFor r x → IsLess 0 (want_of x)

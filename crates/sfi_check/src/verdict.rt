@@ -1,67 +1,43 @@
 //! The verdict on an image's bytes.
-ghost use Rattle.std.specs.Prelude.{List, IfOk, IfErr};
+ghost use Rattle.std.specs.Prelude.{◌≢◌, List, IfOk, IfErr, true};
 ghost use Rattle.sfi_image.specs.declared.fault.LayoutFault.{LayoutFault};
-ghost use Rattle.sfi_image.specs.Spelling.{Part, views};
-ghost use Rattle.sfi_image.specs.Parts.{IsRightLayout};
+ghost use Rattle.sfi_image.specs.Spelling.{Part};
 ghost use Rattle.sfi_image.specs.Faults.{IsFault};
 ghost use Rattle.sfi_rules.specs.declared.finding.Finding.{Finding};
-ghost use Rattle.sfi_rules.specs.Findings.{AreImageFindings};
 ghost use Rattle.sfi_check.specs.Refusals.{IfLayoutFault, IfFindings};
+ghost use Rattle.sfi_check.specs.Streams.{IsVerdictOn, AreHandedOver};
 ghost use Rattle.sfi_safety.specs.Safety.{AllRunSafely};
-ghost use Rattle.sfi_check.specs.private.Verdict.{Judges};
 ghost use Rattle.sfi_check.specs.Verdict.{HasFindings, AnswersLayout, AnswersFindings, AnswersAccepted};
 ghost use Rattle.sfi_safety.specs.Clean.{IsAccepted};
 
 use crate::accepted::Accepted;
+use crate::code::IN_BLOCKS;
+use crate::feed::Feed;
+use crate::list::FindingList;
 use crate::refusal::Refusal;
-use sfi_image::{Image, SandboxPart, parse_image};
-use sfi_policy::Format;
-use sfi_scan::{Finding, scan_part_as};
-use std::alloc::{AllocError, Global};
+use crate::stream_answer::StreamAnswer;
+use sfi_image::parse_image;
+use sfi_scan::FindingSink;
+use std::alloc::Global;
 
-/// The findings of the sandboxes of an image of this format, by sandbox and then by address.
-pub(crate) fn findings_as(
-    alloc: Global,
-    format: Format,
-    parts: &[SandboxPart<'_>],
-) -> Result<Vec<Finding>, AllocError>
-    requires { IsRightLayout (views format parts.now) }
-    ensures { IfOk result (λ found. AreImageFindings (views format parts.now) found.items) }
+/// Accepts the bytes, or says why not, and hands their findings to the sink, by sandbox and then by
+/// address. It takes no memory. Where the bytes are no image, no clause says which findings the sink
+/// was handed.
+pub fn check_into<F: FindingSink>(bytes: &[u8], sink: &mut F) -> StreamAnswer
+    ensures judged { IsVerdictOn bytes.now true result }
+    ensures read { result ≢ StreamAnswer.ReadFault }
+    ensures handed { (found : List Finding) × F.takes sink.old found sink.new
+        × AreHandedOver bytes.now found result }
 {
-    let mut found = Vec::new(alloc);
-    for (sandbox, part) in parts.iter().enumerate() {
-        let of_part = scan_part_as(alloc, format, sandbox as u32, part)?;
-        found.extend_from_slice(&of_part)?;
-    }
-    Ok(found)
-}
-
-/// The findings of an image.
-fn findings_of(alloc: Global, image: &Image<'_>) -> Result<Vec<Finding>, AllocError>
-    ensures { IfOk result (λ found. AreImageFindings image.now found.items) }
-{
-    findings_as(alloc, image.format(), image.parts())
-}
-
-/// Accepts the image, or gives its findings.
-fn judge<'a>(alloc: Global, image: Image<'a>) -> Result<Accepted<'a>, Refusal>
-    ensures { Judges image.entry result }
-{
-    let Ok(found) = findings_of(alloc, &image) else {
-        return Err(Refusal::Memory);
-    };
-    if found.is_empty() {
-        Ok(Accepted::new(image))
-    } else {
-        Err(Refusal::Findings(found))
-    }
+    let mut feed = Feed::new();
+    feed.feed_into::<F, IN_BLOCKS>(bytes, sink);
+    feed.answer()
 }
 
 /// Accepts the bytes, or says why not.
 ///
 /// The verdict rests on the bytes alone. Want of memory is the one answer that the bytes don't
 /// determine.
-#[tactic(auto, using(sfi_image::proofs::Facts::one_image, sfi_rules::proofs::Facts::one_image_list))]
 pub fn check<'a>(alloc: Global, bytes: &'a [u8]) -> Result<Accepted<'a>, Refusal>
     // What each answer means.
     ensures layout { IfErr result (IfLayoutFault (IsFault bytes.entry.now)) }
@@ -78,8 +54,12 @@ pub fn check<'a>(alloc: Global, bytes: &'a [u8]) -> Result<Accepted<'a>, Refusal
     // What acceptance is worth: every run from every entry of every sandbox is safe.
     ensures safe { IfOk result (λ ps. AllRunSafely ps) }
 {
+    let mut list = FindingList::new(alloc);
+    if let StreamAnswer::Findings { .. } = check_into(bytes, &mut list) {
+        return Err(list.refusal());
+    }
     match parse_image(alloc, bytes) {
-        Ok(image) => judge(alloc, image),
+        Ok(image) => Ok(Accepted::new(image)),
         Err(fault) => Err(Refusal::from(fault)),
     }
 }

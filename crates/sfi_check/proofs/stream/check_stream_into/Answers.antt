@@ -1,5 +1,5 @@
-use Rattle.sfi_check.proofs.Prelude.{◌∙◌, ◌<◌, ◌-◌, ℕ, [], take, length, sym, subst, arith, Some, length-take}
-use Rattle.sfi_check.proofs.Feeding.{retold, fed_held, few_held}
+use Rattle.sfi_check.proofs.Prelude.{◌∙◌, ◌<◌, ◌-◌, ℕ, [], take, length, subst, arith, Some, length-take}
+use Rattle.sfi_check.proofs.Feeding.{from_nothing, retold, fed_held, few_held}
 use Rattle.sfi_check.proofs.Chains.{no_reads}
 use Rattle.sfi_check.proofs.Pieces.{fails, faulty, ends_here, reads_on}
 use Rattle.sfi_check.proofs.stream.check_stream_into.Goals as goal
@@ -8,7 +8,7 @@ pub loop-feed-init : goal.loop-feed-init
 loop-feed-init g c = record {
   between = record {
     bytes = [];
-    fed = retold c.new-feed.result [] (λ found none. subst (λ l. g.F.FindingSink.takes c.args.sink.now l c.args.sink.now) (sym none) (g.met.F.FindingSink.none c.args.sink.now)) c.new-feed.ensures.none_found;
+    fed = from_nothing g.F.FindingSink.takes c.args.sink.now c.new-feed.result (g.met.F.FindingSink.none c.args.sink.now) c.new-feed.ensures.none_found;
     streams = no_reads g.S.ByteSource.reads c.args.source.now;
   };
   live = c.requires;
