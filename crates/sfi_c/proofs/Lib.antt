@@ -1,6 +1,5 @@
 mod Answering
 mod Filling
-mod Handing
 mod Heads
 mod Layouts
 mod Listing

@@ -1,30 +1,20 @@
 //! The calls that C makes.
-ghost use Rattle.std.specs.Prelude.{◌≡◌, ◌≢◌, ◌≤◌, List, ◌∷◌, length, true, false};
+ghost use Rattle.std.specs.Prelude.{◌≡◌, ◌≢◌, ◌≤◌, List, ◌∷◌, length};
 ghost use Rattle.sfi_image.specs.declared.fault.LayoutFault.{LayoutFault};
 ghost use Rattle.sfi_image.specs.Spelling.{Part};
 ghost use Rattle.sfi_image.specs.Faults.{IsFault, number_of as fault_number};
 ghost use Rattle.sfi_rules.specs.declared.finding.Finding.{Finding};
 ghost use Rattle.sfi_check.specs.Verdict.{HasFindings, bundle_count};
 ghost use Rattle.sfi_safety.specs.Clean.{IsAccepted};
-ghost use Rattle.sfi_check.specs.Streams.{IsVerdictOn};
 ghost use Rattle.sfi_c.specs.private.Reads.{verdict_of};
 ghost use Rattle.sfi_c.specs.Statuses.{number_of};
 ghost use Rattle.sfi_c.specs.Verdicts.{with_findings, acceptance, refusal, no_image, IsAcceptance, IsRefusal, IsLayoutFault};
 
 use crate::array::Array;
-use crate::bytes::Bytes;
 use crate::finding::{SfiFinding, write_findings};
 use crate::status::Status;
 use crate::verdict::{SfiVerdict, acceptance, no_image, refusal};
-use sfi_check::{StreamAnswer, check_stream, check_stream_into};
-
-/// What the checker answers on the bytes.
-fn answer_on(image: &[u8]) -> StreamAnswer
-    ensures judged { IsVerdictOn image.now true result }
-    ensures read { result ≢ StreamAnswer.ReadFault }
-{
-    check_stream(&mut Bytes { rest: image })
-}
+use sfi_check::{StreamAnswer, check_into};
 
 /// The verdict by that answer.
 pub(crate) fn verdict_of(answer: StreamAnswer) -> SfiVerdict
@@ -60,7 +50,12 @@ pub extern "C" fn sfi_c_check(image: &[u8], verdict: &mut SfiVerdict) -> u32
     ensures only_layout { (k : LayoutFault) → IsFault image.now k
         → verdict.new ≡ no_image (fault_number k) }
 {
-    *verdict = verdict_of(answer_on(image));
+    // With no room for a finding: so both calls are compiled to one scan.
+    let mut none = Array {
+        elements: &mut [],
+        written: 0,
+    };
+    *verdict = verdict_of(check_into(image, &mut none));
     verdict.status
 }
 
@@ -71,7 +66,7 @@ fn fill(image: &[u8], sink: &mut Array<'_>)
     ensures listed { (found : List Finding) → HasFindings image.now found
         → sink.new.elements.now ≡ with_findings found sink.old.elements.now }
 {
-    check_stream_into(&mut Bytes { rest: image }, sink);
+    check_into(image, sink);
 }
 
 /// Writes the bytes' findings to the array.

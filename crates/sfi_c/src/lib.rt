@@ -6,7 +6,6 @@
 #![tactic(auto)]
 
 mod array;
-mod bytes;
 mod checking;
 mod feeding;
 mod finding;
