@@ -19,6 +19,7 @@ pub mod Loading
 pub mod Changing
 pub mod Entering
 pub mod Sandboxes
+pub mod Entries
 pub mod Programs
 pub mod Steps
 pub mod Laws

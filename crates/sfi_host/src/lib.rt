@@ -12,6 +12,7 @@
 mod asking;
 mod console;
 mod entering;
+mod entry;
 mod gates;
 mod guest;
 mod handing;
