@@ -1,10 +1,10 @@
 -- The table of the bytes' classes, seen right at each byte.
-use Rattle.std.proofs.Common.{◌≡◌, ℕ, ◌<◌, ◌+◌, ◌*◌, ◌==◌, ◌≤◌, ◌%◌, Bool, true, false, cond, refl, sym, ap, ◌∙◌, arith, Option, Some, None, Ok}
+use Rattle.std.proofs.Common.{◌≡◌, ℕ, ◌<◌, ◌+◌, ◌*◌, ◌==◌, ◌≤◌, ◌%◌, Bool, true, false, cond, refl, sym, ap, ◌∙◌, arith, Option, Some, None, Ok, inl, inr, ◌⊎◌}
 use Rattle.std.specs.Prelude.{not, slice_index, nat_lt, if◌then◌else◌}
 use Rattle.std.proofs.lemmas.Bool.{agree_below, agree_below_at}
 use Rattle.std.proofs.lemmas.Bool.Decides.{nat_tests}
 use Rattle.std.specs.Int.Bits.{bit_or}
-use Rattle.std.proofs.lemmas.Nat.{le_or_l, le_or_r}
+use Rattle.std.proofs.lemmas.Nat.{le_or_l, le_or_r, or_lt}
 use Rattle.hex.specs.Hex.{hex_digit_value, pair_value, digit_or_error, value_at}
 use Rattle.sfi_io.specs.Hexadecimal.{is_kept}
 use Rattle.sfi_io.specs.private.Hexadecimal.{IsByteOf}
@@ -99,3 +99,22 @@ byte_of_values a b h v la lb e f = record {
   high_kept = digit_kept a h la e;
   low_kept = digit_kept b v lb f;
 }
+
+-- of a pair that isn't two digits, one is none
+small_of : (a : ℕ) → (a < 16) ⊎ (16 ≤ a)
+small_of a = by (nat_lt a 16) refl
+  where
+    by : (b : Bool) → nat_lt a 16 ≡ b → (a < 16) ⊎ (16 ≤ a)
+    by true e = inl (grind (arith, nat_tests, e))
+    by false e = inr (grind (arith, nat_tests, e))
+
+pub wrong_pair : (high low a b : ℕ) → high < 256 → low < 256 → a ≡ slice_index CLASSES high → b ≡ slice_index CLASSES low → 16 ≤ bit_or a b
+    → hex_digit_value high ≡ None ⊎ hex_digit_value low ≡ None
+wrong_pair high low a b fits fits_low is is_low large =
+    elim (small_of a) [
+      | inl small ↦ elim (small_of b) [
+        | inl small_low ↦ absurd (omega (arith, large, or_lt 4 a b small small_low))
+        | inr other ↦ inr (sym (class_digit_none low fits_low (omega (arith, other, is_low))))
+      ]
+      | inr other ↦ inl (sym (class_digit_none high fits (omega (arith, other, is))))
+    ]

@@ -1,5 +1,6 @@
 pub mod Classes
-pub mod Digits
-pub mod Reading
+pub mod Ahead
+pub mod Fronts
+pub mod Leads
 pub mod KnownBytes
 pub mod Lanes

@@ -1,4 +1,5 @@
 pub mod Input
 pub mod Hexadecimal
+pub mod Pieces
 pub mod Output
 pub mod private

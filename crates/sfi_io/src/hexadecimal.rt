@@ -1,6 +1,6 @@
 //! Hexadecimal text with white space in it.
 
-ghost use Rattle.std.specs.Prelude.{◌≡◌, ◌<◌, ◌≤◌, ◌+◌, ◌*◌, ◌%◌, ◌≢◌, ℕ, List, not, IfOk, IfErr, IfSome, IsErr, Ok, Some, filter, length, slice_index, take, true};
+ghost use Rattle.std.specs.Prelude.{◌≡◌, ◌⊎◌, ◌<◌, ◌≤◌, ◌+◌, ◌*◌, ◌%◌, ◌≢◌, ℕ, List, not, IfOk, IfErr, IfSome, IsErr, IsNone, None, Ok, Some, filter, length, slice_index, take, true};
 ghost use Rattle.sfi_io.specs.declared.hexadecimal.TheConstants.{CLASSES};
 ghost use Rattle.hex.specs.Hex.{decode_of, hex_digit_value, pair_value};
 ghost use Rattle.sfi_io.specs.Hexadecimal.{is_kept, GivesBytes, IsHexStop, IsUnreadable, SpellsBytes};
@@ -9,6 +9,7 @@ ghost use Rattle.sfi_io.specs.private.Hexadecimal.{IsByteOf};
 ghost use Rattle.sfi_io.specs.declared.hexadecimal.HexFault.TheVariants.{Odd, Digit};
 ghost use Rattle.sfi_io.specs.declared.hexadecimal.HexStop.TheVariants.{Memory};
 
+use crate::front::{decode_front, pair_fault};
 use std::alloc::{AllocError, Global};
 use std::simd::prelude::*;
 use thiserror::Error;
@@ -69,8 +70,9 @@ fn class_of(byte: u8) -> u8
     CLASSES[byte as usize]
 }
 
+#[inline(always)]
 #[tactic(auto, using(crate::proofs::Classes::class_white))]
-fn is_white(byte: u8) -> bool
+pub(crate) fn is_white(byte: u8) -> bool
     ensures { result ≡ not (is_kept byte) }
 {
     class_of(byte) == WHITE
@@ -78,7 +80,7 @@ fn is_white(byte: u8) -> bool
 
 /// The number of a digit of either case.
 #[tactic(auto, using(crate::proofs::Classes::class_digit_some, crate::proofs::Classes::class_digit_none))]
-fn digit_value(digit: u8) -> Option<u8>
+pub(crate) fn digit_value(digit: u8) -> Option<u8>
     ensures { result ≡ hex_digit_value digit }
 {
     let value = class_of(digit);
@@ -86,8 +88,9 @@ fn digit_value(digit: u8) -> Option<u8>
 }
 
 /// How many bytes aren't white space.
-fn digits_in(text: &[u8]) -> usize
-    ensures { result ≡ length (filter is_kept text.now) }
+pub(crate) fn digits_in(text: &[u8]) -> usize
+    ensures count { result ≡ length (filter is_kept text.now) }
+    ensures most { result ≤ length text.now }
 {
     let mut count: usize = 0;
     for at in 0..text.len() {
@@ -98,25 +101,10 @@ fn digits_in(text: &[u8]) -> usize
     count
 }
 
-/// The fault of a text with something at this place that is no digit.
-/// An odd number of digits goes first.
-#[cold]
-fn digit_fault(text: &[u8], at: usize) -> HexFault
-    requires { at ≤ length text.now }
-    ensures odd { length (filter is_kept text.now) % 2 ≡ 1 → result ≡ Odd }
-    ensures digit { length (filter is_kept text.now) % 2 ≢ 1
-        → result ≡ Digit (length (filter is_kept (take at text.now))) }
-{
-    if digits_in(text) % 2 == 1 {
-        HexFault::Odd
-    } else {
-        HexFault::Digit(digits_in(&text[..at]))
-    }
-}
-
 /// The byte of two digits. No branch tells figures from letters.
 #[inline(always)]
-fn byte_of(high: u8, low: u8) -> Option<u8>
+pub(crate) fn byte_of(high: u8, low: u8) -> Option<u8>
+    ensures none { IsNone result → hex_digit_value high ≡ None ⊎ hex_digit_value low ≡ None }
     ensures pair { IfSome result (λ byte. (i : ℕ) → pair_value high low i ≡ Ok byte) }
     ensures kept { IfSome result (λ byte. (is_kept high ≡ true) × (is_kept low ≡ true)) }
 {
@@ -130,7 +118,7 @@ fn byte_of(high: u8, low: u8) -> Option<u8>
 }
 
 /// How many digits are read at a time, where so many stand there.
-const BLOCK: usize = 64;
+pub(crate) const BLOCK: usize = 64;
 
 /// Each digit's value, found by arithmetic on all side by side; 16 or more for any other byte.
 #[inline(always)]
@@ -162,9 +150,9 @@ fn digits_before(values: u8x32) -> usize
 
 /// The bytes of the pairs of digits that a block begins with: the first `pairs` of `bytes`.
 #[derive(Drop)]
-struct BlockBytes {
-    bytes: [u8; BLOCK / 2],
-    pairs: usize,
+pub(crate) struct BlockBytes {
+    pub(crate) bytes: [u8; BLOCK / 2],
+    pub(crate) pairs: usize,
 }
 
 /// The first digits of a block's pairs, and the second ones.
@@ -194,7 +182,7 @@ fn joined(high: u8x32, low: u8x32) -> [u8; BLOCK / 2]
 
 /// What a block begins with.
 #[inline(always)]
-fn bytes_of_block(block: &[u8]) -> BlockBytes
+pub(crate) fn bytes_of_block(block: &[u8]) -> BlockBytes
     requires { length block.now ≡ 64 }
     ensures most { result.pairs ≤ 32 }
     ensures size { length result.bytes ≡ 32 }
@@ -210,57 +198,24 @@ fn bytes_of_block(block: &[u8]) -> BlockBytes
     }
 }
 
-/// The bytes that the text's digits spell, in blocks where a try gives 16 bytes or more in the
-/// mean, or else each made as its second digit is met.
+/// The bytes that the text's digits spell.
 fn decoded(alloc: Global, text: &[u8]) -> Result<Vec<u8>, HexStop>
+    requires { length text.now ≤ limit }
     ensures bytes { IfOk result (λ v. decode_of (filter is_kept text.now) ≡ Ok v.items) }
     ensures stop { IfErr result (IsHexStop text.now) }
 {
-    let mut bytes = Vec::with_capacity(alloc, text.len() / 2)?;
-    let mut high = None;
-    let mut at: usize = 0;
-    let mut tries: usize = 0;
-    while at < text.len() {
-        if is_white(text[at]) {
-            at += 1;
-            continue;
-        }
-        if high.is_none() && tries <= bytes.len() / 16 && text.len() - at >= BLOCK {
-            tries += 1;
-            let front = bytes_of_block(&text[at..at + BLOCK]);
-            if front.pairs > 0 {
-                // A copy of 32 bytes and a cut are faster than a copy of so many as there are.
-                let count = bytes.len() + front.pairs;
-                bytes.extend_from_slice(&front.bytes)?;
-                bytes.truncate(count);
-                at += 2 * front.pairs;
-                continue;
-            }
-        }
-        if high.is_none()
-            && at + 1 < text.len()
-            && let Some(byte) = byte_of(text[at], text[at + 1])
-        {
-            bytes.push_reserved(byte);
-            at += 2;
-            continue;
-        }
-        let Some(value) = digit_value(text[at]) else {
-            return Err(HexStop::Fault(digit_fault(text, at)));
-        };
-        high = match high {
-            None => Some(value),
-            Some(first) => {
-                bytes.push_reserved(first * 16 + value);
-                None
-            }
-        };
-        at += 1;
+    // There is room for a byte more than the text can spell, so that only its end or a fault stops.
+    let mut bytes = vec![in alloc; 0; text.len() / 2 + 1]?;
+    let front = decode_front(None, text, &mut bytes);
+    if front.taken < text.len() {
+        let left = 1 + digits_in(&text[front.taken..]);
+        return Err(HexStop::Fault(pair_fault(front.high, front.made, left)));
     }
-    match high {
-        None => Ok(bytes),
-        Some(_) => Err(HexStop::Fault(HexFault::Odd)),
+    if front.high.is_some() {
+        return Err(HexStop::Fault(HexFault::Odd));
     }
+    bytes.truncate(front.made);
+    Ok(bytes)
 }
 
 /// The bytes that the text spells. An odd number of digits goes before a byte that is no digit.

@@ -2,10 +2,13 @@
 //! spells, and a text that is written whole.
 #![tactic(auto)]
 
+mod front;
 mod hexadecimal;
 mod input;
 mod output;
+mod text;
 
 pub use hexadecimal::{HexFault, HexStop, bytes_of};
 pub use input::{INPUT_LIMIT, Input, ReadStop, read_input};
 pub use output::write_out;
+pub use text::{HexReader, TextStop};

@@ -1,0 +1,232 @@
+//! Hexadecimal text that is read in pieces.
+
+ghost use Rattle.std.specs.Prelude.{◌≤◌, ◌+◌, ◌-◌};
+ghost use Rattle.sfi_io.specs.Input.{limit};
+
+use crate::front::{decode_front, pair_fault};
+use crate::hexadecimal::{HexFault, digits_in};
+use crate::input::INPUT_LIMIT;
+use std::io::Read;
+
+/// How many bytes of a text are held at a time, at most.
+const PIECE: usize = 16384;
+
+/// Why a text that is read gives no more bytes.
+#[derive(Clone, Copy)]
+pub enum TextStop {
+    /// It spells none.
+    Fault(HexFault),
+    /// It passes the limit.
+    TooLarge,
+    /// A read failed.
+    Failed,
+}
+
+/// What is held of a text: of one piece, what is from `at` up to `end`.
+#[derive(Drop)]
+struct HeldText {
+    piece: [u8; PIECE],
+    at: usize,
+    end: usize,
+    // How many bytes of text were read, and how many bytes they made.
+    read: usize,
+    made: usize,
+    // A first digit that waits for its second.
+    high: Option<u8>,
+    ghost inside: { (at ≤ end) × (end ≤ 16384) },
+    ghost fewer: { (made + (end - at) ≤ read) × (read ≤ limit) },
+}
+
+impl HeldText {
+    ghost use Rattle.std.specs.Prelude.{◌≡◌};
+
+    /// A new piece was read, when none was left of the one before.
+    fn refill(&mut self, count: usize)
+        requires left { self.old.at ≡ self.old.end }
+        requires inside { count ≤ 16384 }
+        requires limit { self.old.read + count ≤ limit }
+        ensures piece { self.new.piece ≡ self.old.piece }
+        ensures at { self.new.at ≡ 0 }
+        ensures end { self.new.end ≡ count }
+        ensures read { self.new.read ≡ self.old.read + count }
+        ensures made { self.new.made ≡ self.old.made }
+        ensures high { self.new.high ≡ self.old.high }
+    {
+        self.at = 0;
+        self.end = count;
+        self.read += count;
+    }
+
+    /// So much of the text made so many bytes, and this digit waits now.
+    fn advance(&mut self, taken: usize, made: usize, high: Option<u8>)
+        requires taken { self.old.at + taken ≤ self.old.end }
+        requires made { made ≤ taken }
+        ensures piece { self.new.piece ≡ self.old.piece }
+        ensures at { self.new.at ≡ self.old.at + taken }
+        ensures end { self.new.end ≡ self.old.end }
+        ensures read { self.new.read ≡ self.old.read }
+        ensures made { self.new.made ≡ self.old.made + made }
+        ensures high { self.new.high ≡ high }
+    {
+        self.at += taken;
+        self.made += made;
+        self.high = high;
+    }
+}
+
+/// The bytes that a reader's text spells, decoded as it is read: of the text one piece is held. Every
+/// error of the reader is a failure: none is tried again.
+#[derive(Drop)]
+pub struct HexReader<'a, R: Read> {
+    reader: &'a mut R,
+    held: HeldText,
+}
+
+impl<'a, R: Read> HexReader<'a, R> {
+    ghost use Rattle.std.specs.Prelude.{◌≡◌, ◌<◌, ℕ, [], Some, Ok, Err, IfErr, IfOk, IfSome, IsOk, length, option_map, take};
+    ghost use Rattle.sfi_io.specs.Pieces.{ahead, most_to_come, outcome, start_of, to_come, Leads};
+    ghost use Rattle.sfi_io.specs.private.Pieces.{AreLeft, ComesNoPair, GoesOn, IsOver, IsReadStop, IsStopOf};
+
+    /// Over this reader.
+    pub fn new(reader: &'a mut R) -> Self
+        ensures { to_come R.remaining result
+            ≡ option_map (λ text. outcome (start_of text)) (R.remaining reader.old) }
+    {
+        HexReader {
+            reader,
+            held: HeldText {
+                piece: [0; PIECE],
+                at: 0,
+                end: 0,
+                read: 0,
+                made: 0,
+                high: None,
+            },
+        }
+    }
+
+    /// Reads more of the text, of which none is left in memory, and says how much: none at its end.
+    fn fill(&mut self) -> Result<usize, TextStop>
+        requires { self.old.held.at ≡ self.old.held.end }
+        ensures same { IfOk result (λ n. GoesOn (ahead R.remaining self.old)
+            (ahead R.remaining self.new) []) }
+        ensures high { self.new.held.high ≡ self.old.held.high }
+        ensures made { self.new.held.made ≡ self.old.held.made }
+        ensures read { IfOk result (λ n. self.new.held.read ≡ self.old.held.read + n) }
+        ensures held { IfOk result (λ n. self.new.held.end ≡ self.new.held.at + n) }
+        ensures over { IfOk result (λ n. n ≡ 0
+            → IsOver (ahead R.remaining self.new) self.new.held.high) }
+        ensures stop { IfErr result (λ stop. IfSome (ahead R.remaining self.old) (IsReadStop stop)) }
+    {
+        let Ok(count) = self.reader.read(&mut self.held.piece) else {
+            return Err(TextStop::Failed);
+        };
+        if count > INPUT_LIMIT - self.held.read {
+            return Err(TextStop::TooLarge);
+        }
+        self.held.refill(count);
+        Ok(count)
+    }
+
+    /// How many digits and other bytes that are no white space are left, up to the text's end, with a
+    /// digit that waits.
+    fn digits_left(&mut self) -> Result<usize, TextStop>
+        ensures left { IfOk result (λ count. AreLeft (ahead R.remaining self.old) count) }
+        ensures stop { IfErr result (λ stop. IfSome (ahead R.remaining self.old) (IsReadStop stop)) }
+    {
+        let mut count = usize::from(self.held.high.is_some());
+        loop {
+            let at = self.held.at;
+            let end = self.held.end;
+            let high = self.held.high;
+            count += digits_in(&self.held.piece[at..end]);
+            self.held.advance(end - at, 0, high);
+            match self.fill() {
+                Ok(0) => return Ok(count),
+                Ok(_) => {}
+                Err(stop) => return Err(stop),
+            }
+        }
+    }
+
+    /// The fault of a text where what waits and what comes are no pair. It is read to its end, since an
+    /// odd number of digits goes first.
+    #[cold]
+    fn fault(&mut self) -> TextStop
+        requires { (high : ℕ) × (low : ℕ) × (self.old.held.high ≡ Some high)
+            × ComesNoPair (ahead R.remaining self.old) high low }
+        ensures { IfSome (ahead R.remaining self.old) (IsStopOf result) }
+    {
+        let high = self.held.high;
+        let made = self.held.made;
+        match self.digits_left() {
+            Ok(count) => TextStop::Fault(pair_fault(high, made, count)),
+            Err(stop) => stop,
+        }
+    }
+
+    /// No bytes, at the text's end, or the fault that a digit waits there.
+    fn end(&self) -> Result<usize, TextStop>
+        requires { IsOver (ahead R.remaining self.now) self.now.held.high }
+        ensures none { IfOk result (λ n. n ≡ 0) }
+        ensures end { IfOk result
+            (λ n. IfSome (to_come R.remaining self.now) (λ r. r ≡ Ok [])) }
+        ensures stop { IfErr result (λ stop. IfSome (ahead R.remaining self.now) (IsStopOf stop)) }
+    {
+        match self.held.high {
+            None => Ok(0),
+            Some(_) => Err(TextStop::Fault(HexFault::Odd)),
+        }
+    }
+
+    /// Writes the next bytes to the front of `buf`, and says how many: none only at the text's end,
+    /// unless `buf` is empty. A text is read to its end or past its limit before a fault of it is said,
+    /// and no more is to be read of it then.
+    pub fn read_bytes(&mut self, buf: &mut [u8]) -> Result<usize, TextStop>
+        ensures bound { IfOk result (λ n. n ≤ length buf.new) }
+        ensures size { length buf.new ≡ length buf.old }
+        ensures bytes { IfOk result (λ n. Leads (to_come R.remaining self.old)
+            (to_come R.remaining self.new) (take n buf.new)) }
+        ensures end { IfOk result (λ n. n ≡ 0 → 0 < length buf.new
+            → IfSome (to_come R.remaining self.new) (λ r. r ≡ Ok [])) }
+        ensures stop { IfErr result
+            (λ stop. Leads (to_come R.remaining self.old) (Some (Err stop)) []) }
+        ensures fewer { IfOk result (λ n. most_to_come self.new + n ≤ most_to_come self.old) }
+    {
+        loop {
+            let front = decode_front(
+                self.held.high,
+                &self.held.piece[self.held.at..self.held.end],
+                buf,
+            );
+            self.held.advance(front.taken, front.made, front.high);
+            if front.made > 0 || buf.is_empty() {
+                return Ok(front.made);
+            }
+            if self.held.at < self.held.end {
+                return Err(self.fault());
+            }
+            match self.fill() {
+                Ok(0) => return self.end(),
+                Ok(_) => {}
+                Err(stop) => return Err(stop),
+            }
+        }
+    }
+
+    /// Reads the text to its end, and says its fault.
+    pub fn read_rest(&mut self) -> Result<(), TextStop>
+        ensures spelled { IfOk result (λ _. IfSome (to_come R.remaining self.old) (λ r. IsOk r)) }
+        ensures stop { IfErr result
+            (λ stop. Leads (to_come R.remaining self.old) (Some (Err stop)) []) }
+    {
+        let mut unused = [0; PIECE / 2];
+        loop {
+            match self.read_bytes(&mut unused) {
+                Ok(0) => return Ok(()),
+                Ok(_) => {}
+                Err(stop) => return Err(stop),
+            }
+        }
+    }
+}
