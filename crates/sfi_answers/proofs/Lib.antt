@@ -1,4 +1,5 @@
 pub mod Streamed
+pub mod Spelled
 pub mod Sources
 pub mod Verdicts
 pub mod Conversions

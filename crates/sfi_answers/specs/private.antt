@@ -1,3 +1,4 @@
 -- Words that private contracts and proofs alone cite: no public statement rests on them.
 pub mod Converting
 pub mod Sources
+pub mod Streams

@@ -8,6 +8,7 @@ mod fault;
 mod listing;
 mod map_lines;
 mod raw;
+mod text;
 mod verdict;
 
 pub use building::{build_answer, map_answer};
@@ -16,4 +17,5 @@ pub use converting::conversion_answer;
 pub use fault::{InputFault, Stop, TOO_LARGE_LINE, stop_answer};
 pub use listing::listing_answer;
 pub use raw::raw_answer;
+pub use text::text_answer;
 pub use verdict::Answer;

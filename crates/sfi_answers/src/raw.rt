@@ -1,7 +1,9 @@
 //! The command `check --raw`.
 
-ghost use Rattle.std.specs.Prelude.{◌≡◌, ◌<◌, ◌≤◌, true, false, IfOk, IfSome, string_bytes};
-ghost use Rattle.sfi_answers.specs.commands.Checking.{check};
+ghost use Rattle.std.specs.Prelude.{◌≡◌, ◌<◌, ◌≤◌, ℕ, List, Bool, true, false, IfOk, IfSome, string_bytes};
+ghost use Rattle.sfi_check.specs.Streams.{IsVerdictOn};
+ghost use Rattle.sfi_answers.specs.commands.Checking.{HasSomeFault, check};
+ghost use Rattle.sfi_answers.specs.private.Streams.{IsJudged};
 
 use crate::fault::{fault_numbered, layout_line};
 use crate::verdict::{Answer, accepted_line, refused_line};
@@ -11,18 +13,16 @@ use sfi_io::ReadStop;
 use std::alloc::Global;
 use std::io::Read;
 
-/// The verdict on the image whose own bytes the reader gives. Memory is taken for its line alone,
-/// however long the image is.
-pub fn raw_answer<R: Read>(alloc: Global, reader: &mut R) -> Result<Answer, ReadStop>
+/// What is printed for the verdict on a stream.
+pub(crate) fn stream_answer(alloc: Global, verdict: StreamAnswer) -> Result<Answer, ReadStop>
+    requires { (bytes : List ℕ) × (ends : Bool) × IsVerdictOn bytes ends verdict }
     ensures statuses { IfOk result (λ a. a.status ≤ 2) }
-    ensures says { IfOk result (λ a. a.status < 2
-        → IfSome (R.remaining reader.old)
-        (λ bytes. (check false).says bytes a.status (string_bytes a.text))) }
-    ensures fault { IfOk result
-        (λ a. a.status ≡ 2 → IfSome (R.remaining reader.old) (check false).has_fault) }
+    ensures says { IfOk result (λ a. a.status < 2 → (all : List ℕ) → IsJudged verdict all
+        → (check false).says all a.status (string_bytes a.text)) }
+    ensures fault { IfOk result (λ a. a.status ≡ 2 → (all : List ℕ) → IsJudged verdict all
+        → HasSomeFault all) }
 {
-    let mut source = Reading::new(reader);
-    match check_stream(&mut source) {
+    match verdict {
         StreamAnswer::Accepted { sandboxes, bundles } => Ok(Answer {
             status: 0,
             text: accepted_line(alloc, sandboxes as usize, bundles as usize)?,
@@ -37,4 +37,19 @@ pub fn raw_answer<R: Read>(alloc: Global, reader: &mut R) -> Result<Answer, Read
         }),
         StreamAnswer::ReadFault => Err(ReadStop::Failed),
     }
+}
+
+/// The verdict on the image whose own bytes the reader gives. Memory is taken for its line alone,
+/// however long the image is.
+pub fn raw_answer<R: Read>(alloc: Global, reader: &mut R) -> Result<Answer, ReadStop>
+    ensures statuses { IfOk result (λ a. a.status ≤ 2) }
+    ensures says { IfOk result (λ a. a.status < 2
+        → IfSome (R.remaining reader.old)
+        (λ bytes. (check false).says bytes a.status (string_bytes a.text))) }
+    ensures fault { IfOk result
+        (λ a. a.status ≡ 2 → IfSome (R.remaining reader.old) (check false).has_fault) }
+{
+    let mut source = Reading::new(reader);
+    let verdict = check_stream(&mut source);
+    stream_answer(alloc, verdict)
 }

@@ -1,0 +1,168 @@
+-- What is answered on the bytes that a text spells, read in pieces.
+use Rattle.std.proofs.Common.{◌≡◌, ◌≢◌, ℕ, ◌⊎◌, arith, Bool, true, false, List, [], ◌∷◌, ◌++◌, Option, Some, None, Result, Ok, Err, length, cond, refl, sym, ap, ◌∙◌, subst, inl, inr, IfSome}
+use Rattle.std.specs.Prelude.{◌||◌, IsErr, IsOk, filter, nat_lt, option_map, if◌then◌else◌}
+use Rattle.std.proofs.lemmas.Bool.Decides.{nat_tests}
+use Rattle.hex.specs.Hex.{decode_of}
+use Rattle.hex.specs.declared.error.FromHexError.{FromHexError}
+use Rattle.hex.specs.declared.error.FromHexError.TheVariants.{OddLength, InvalidHexCharacter, InvalidStringLength, OutOfMemory}
+use Rattle.sfi_image.specs.Sources.{OneRead, IsChain, Streams, bytes_handed_out, bytes_of, finds_end, is_end}
+use Rattle.sfi_check.specs.Streams.{IsVerdictOn}
+use Rattle.sfi_check.specs.declared.stream_answer.StreamAnswer.{StreamAnswer}
+use Rattle.sfi_io.specs.Hexadecimal.{IsUnreadable, SpellsBytes, is_kept}
+use Rattle.sfi_io.specs.Input.{limit}
+use Rattle.sfi_io.specs.Pieces.{Leads, or_fault, outcome, prepend, start_of}
+use Rattle.sfi_io.specs.declared.text.TextStop.{TextStop}
+use Rattle.sfi_io.specs.declared.text.TextStop.TheVariants.{TooLarge, Failed}
+use Rattle.sfi_io.proofs.Leads.{failed_leads, leads_more, leads_nowhere, of_leads}
+use Rattle.sfi_answers.specs.private.Streams.{HandsOut, IsJudged}
+
+end_is_none : (len : ℕ) (answer : Option (List ℕ)) → is_end len answer ≡ true → bytes_of answer ≡ []
+end_is_none len None e = cc e
+end_is_none len (Some []) e = refl
+end_is_none len (Some (b ∷ bs)) e = cc e
+
+no_more : (bytes : List ℕ) (r : Result (List ℕ) TextStop) → Ok [] ≡ prepend bytes r → bytes ≡ []
+no_more [] r e = refl
+no_more (b ∷ bytes) (Ok rest) e = absurd (cc)
+no_more (b ∷ bytes) (Err stop) e = absurd (cc)
+
+-- after the end nothing comes
+ended : (a b c : Option (Result (List ℕ) TextStop)) (bytes : List ℕ) → Leads a b [] → IfSome b (λ r. r ≡ Ok []) → Leads b c bytes → Leads a c []
+ended None b c bytes p none q = tt
+ended (Some a) None c bytes p none q = absurd p
+ended (Some a) (Some b) None bytes p none q = absurd q
+ended (Some a) (Some b) (Some c) bytes p none q = elim (of_leads b c bytes q) [
+  | inl failed ↦ failed_leads a c [] failed
+  | inr same ↦
+      let no : bytes ≡ [] = no_more bytes c (sym none ∙ same) in
+      leads_more (Some a) (Some b) (Some c) [] [] p (subst (λ (l : List ℕ). Leads (Some b) (Some c) l) no q)
+]
+
+none_comes : (a b c : Option (Result (List ℕ) TextStop)) (first : Result (List ℕ) TextStop) (bytes rest : List ℕ) → a ≡ Some first → Leads a b [] → IfSome b (λ r. r ≡ Ok []) → Leads b c bytes → c ≡ Some (Ok rest) → rest ≡ []
+none_comes None b c first bytes rest known p none q is = absurd (cc)
+none_comes (Some a) None c first bytes rest known p none q is = absurd p
+none_comes (Some a) (Some b) c first bytes rest known p none q is =
+    let there : Leads (Some b) (Some (Ok rest)) bytes = subst (λ (k : Option (Result (List ℕ) TextStop)). Leads (Some b) k bytes) is q in
+    let all : Ok [] ≡ Ok (bytes ++ rest) = sym none ∙ there in
+    empty bytes rest (let same : [] ≡ bytes ++ rest = cc in same)
+  where
+    empty : (bytes rest : List ℕ) → [] ≡ bytes ++ rest → rest ≡ []
+    empty [] rest e = sym e
+    empty (b ∷ bytes) rest e = absurd (cc)
+
+pick : (a c : Option (Result (List ℕ) TextStop)) (b : Bool) (bytes : List ℕ) → (b ≡ true → Leads a c []) → (b ≡ false → Leads a c bytes) → Leads a c (cond b [] bytes)
+pick a c true bytes f g = f refl
+pick a c false bytes f g = g refl
+
+either : (a b : Bool) → (a || b) ≡ true → (a ≡ true) ⊎ (b ≡ true)
+either true b e = inl refl
+either false b e = inr e
+
+-- what is known stays known
+after : (first : Result (List ℕ) TextStop) (bytes rest : List ℕ) (k : Option (Result (List ℕ) TextStop)) → Leads (Some first) k bytes → ((next : Result (List ℕ) TextStop) → k ≡ Some next → rest ≡ []) → rest ≡ []
+after first bytes rest None leads ih = absurd leads
+after first bytes rest (Some next) leads ih = ih next refl
+
+module _ {S : Type 0} (told : S → Option (Result (List ℕ) TextStop)) (failed : S → Bool) where
+  abbrev pub reads_spelled : S → ℕ → Option (List ℕ) → S → Type 0
+  reads_spelled s n answer t = HandsOut (told s) (failed s) n answer (told t) (failed t)
+
+  -- what a chain of reads hands out is what comes of the text, and all of it where it found the end
+  spelled_front : (rs : List (OneRead S)) (s t : S) → IsChain reads_spelled s rs t
+      → Leads (told s) (told t) (bytes_handed_out rs) × (finds_end rs ≡ true → (first : Result (List ℕ) TextStop) (rest : List ℕ) → told s ≡ Some first → told t ≡ Some (Ok rest) → rest ≡ [])
+  spelled_front [] s t h = (subst (λ (x : S). Leads (told s) (told x) []) (sym h) (leads_nowhere (told s)), λ e. absurd cc)
+  spelled_front (r ∷ rs) s t h =
+      let step = h.0 in
+      let ih = spelled_front rs r.after t h.1 in
+      let last : is_end r.buffer_length r.answer ≡ true → Leads (told s) (told r.after) [] =
+      λ e. subst (λ (l : List ℕ). Leads (told s) (told r.after) l) (end_is_none r.buffer_length r.answer e) step.leads in (
+        pick (told s) (told t) (is_end r.buffer_length r.answer) (bytes_of r.answer ++ bytes_handed_out rs)
+            (λ e. ended (told s) (told r.after) (told t) (bytes_handed_out rs) (last e) (step.at_end e) ih.0)
+            (λ e. leads_more (told s) (told r.after) (told t) (bytes_of r.answer) (bytes_handed_out rs) step.leads ih.0),
+        λ e first rest known is. elim (either (is_end r.buffer_length r.answer) (finds_end rs) e) [
+          | inl here ↦ none_comes (told s) (told r.after) (told t) first (bytes_handed_out rs) rest known (last here) (step.at_end here) ih.0 is
+          | inr later ↦ after first (bytes_of r.answer) rest (told r.after) (subst (λ (k : Option (Result (List ℕ) TextStop)). Leads k (told r.after) (bytes_of r.answer)) known step.leads) (λ next there. ih.1 later next rest there is)
+        ],
+      )
+
+  -- the text's bytes are those, and then the rest
+  judged_front : (s t : S) (first : Result (List ℕ) TextStop) (answer : StreamAnswer) → told s ≡ Some first
+      → (h : (bytes : List ℕ) × (ends : Bool) × Streams reads_spelled 4096 s t bytes ends × IsVerdictOn bytes ends answer) → IfSome (told t) (λ r. IsOk r)
+      → (all : List ℕ) × (first ≡ Ok all) × IsJudged answer all
+  judged_front s t first answer e h ok = by (told t) refl
+    where
+      front : Leads (told s) (told t) (bytes_handed_out h.2.chain) × (finds_end h.2.chain ≡ true → (first : Result (List ℕ) TextStop) (rest : List ℕ) → told s ≡ Some first → told t ≡ Some (Ok rest) → rest ≡ [])
+      front = spelled_front h.2.chain s t h.2.is_chain
+
+      there : Leads (Some first) (told t) (bytes_handed_out h.2.chain)
+      there = subst (λ (k : Option (Result (List ℕ) TextStop)). Leads k (told t) (bytes_handed_out h.2.chain)) e front.0
+
+      by : (k : Option (Result (List ℕ) TextStop)) → told t ≡ k → (all : List ℕ) × (first ≡ Ok all) × IsJudged answer all
+      by None is = absurd (subst (λ (k : Option (Result (List ℕ) TextStop)). Leads (Some first) k (bytes_handed_out h.2.chain)) is there)
+      by (Some (Ok rest)) is = (
+        bytes_handed_out h.2.chain ++ rest,
+        subst (λ (k : Option (Result (List ℕ) TextStop)). Leads (Some first) k (bytes_handed_out h.2.chain)) is there,
+        record {
+          given = h.0;
+          rest = rest;
+          ends = h.1;
+          all_are = ap (λ (l : List ℕ). l ++ rest) (sym h.2.bytes_are);
+          none_left = λ ends. front.1 (sym h.2.ends_is ∙ ends) first rest e is;
+          verdict = h.3;
+        },
+      )
+      by (Some (Err stop)) is = let no = subst (λ (k : Option (Result (List ℕ) TextStop)). IfSome k (λ r. IsOk r)) is ok in absurd (cc)
+
+-- ---- of the whole text
+
+spells_all : (text all : List ℕ) → outcome (start_of text) ≡ Ok all → SpellsBytes text all
+spells_all text all e = by (nat_lt limit (length text)) refl
+  where
+    decoded : (d : Result (List ℕ) FromHexError) → or_fault d ≡ Ok all → d ≡ Ok all
+    decoded (Ok bytes) e = cc
+    decoded (Err (InvalidHexCharacter byte place)) e = absurd (cc)
+    decoded (Err OddLength) e = absurd (cc)
+    decoded (Err InvalidStringLength) e = absurd (cc)
+    decoded (Err OutOfMemory) e = absurd (cc)
+
+    by : (b : Bool) → nat_lt limit (length text) ≡ b → SpellsBytes text all
+    by true is =
+        let large : outcome (start_of text) ≡ Err TooLarge = ap (λ (b : Bool). if b then Err TooLarge else or_fault (decode_of (filter is_kept text))) is in
+        absurd (let no : Err TooLarge ≡ Ok all = sym large ∙ e in cc)
+    by false is = record {
+      short = grind (arith, nat_tests, is);
+      digits = decoded _ (sym (ap (λ (b : Bool). if b then Err TooLarge else or_fault (decode_of (filter is_kept text))) is) ∙ e);
+    }
+
+unreadable : (text : List ℕ) (stop : TextStop) → outcome (start_of text) ≡ Err stop → IsUnreadable text
+unreadable text stop e = by (nat_lt limit (length text)) refl
+  where
+    wrong : (d : Result (List ℕ) FromHexError) → or_fault d ≡ Err stop → IsErr d
+    wrong (Ok bytes) e = absurd (cc)
+    wrong (Err other) e = refl
+
+    by : (b : Bool) → nat_lt limit (length text) ≡ b → IsUnreadable text
+    by true is = inl (grind (arith, nat_tests, is))
+    by false is = inr (wrong _ (sym (ap (λ (b : Bool). if b then Err TooLarge else or_fault (decode_of (filter is_kept text))) is) ∙ e))
+
+-- where the text was read to its end, the verdict is one on its bytes
+pub says_text : {S : Type 0} (told : S → Option (Result (List ℕ) TextStop)) (failed : S → Bool) (s t : S) (answer : StreamAnswer) (read : Option (List ℕ)) (P : List ℕ → Type 0) → told s ≡ option_map (λ text. outcome (start_of text)) read
+    → ((bytes : List ℕ) × (ends : Bool) × Streams (reads_spelled told failed) 4096 s t bytes ends × IsVerdictOn bytes ends answer) → IfSome (told t) (λ r. IsOk r)
+    → ((text all : List ℕ) → SpellsBytes text all → IsJudged answer all → P text) → IfSome read P
+says_text told failed s t answer None P e h ok holds = tt
+says_text told failed s t answer (Some text) P e h ok holds =
+    let all = judged_front told failed s t (outcome (start_of text)) answer e h ok in
+    holds text all.0 (spells_all text all.0 all.1) all.2
+
+-- where a fault of it was found, it is unreadable
+pub stops_text : {S : Type 0} (told : S → Option (Result (List ℕ) TextStop)) (failed : S → Bool) (s t : S) (answer : StreamAnswer) (read : Option (List ℕ)) (stop : TextStop) (P : List ℕ → Type 0) → told s ≡ option_map (λ text. outcome (start_of text)) read
+    → ((bytes : List ℕ) × (ends : Bool) × Streams (reads_spelled told failed) 4096 s t bytes ends × IsVerdictOn bytes ends answer) → Leads (told t) (Some (Err stop)) [] → stop ≢ Failed
+    → ((text : List ℕ) → IsUnreadable text → P text) → IfSome read P
+stops_text told failed s t answer None stop P e h leads named holds = tt
+stops_text told failed s t answer (Some text) stop P e h leads named holds =
+    let front = spelled_front told failed h.2.chain s t h.2.is_chain in
+    let there = subst (λ (k : Option (Result (List ℕ) TextStop)). Leads k (told t) (bytes_handed_out h.2.chain)) e front.0 in
+    elim (of_leads (outcome (start_of text)) (Err stop) (bytes_handed_out h.2.chain ++ []) (leads_more (Some (outcome (start_of text))) (told t) (Some (Err stop)) (bytes_handed_out h.2.chain) [] there leads)) [
+      | inl failed ↦ absurd (named (cc))
+      | inr is ↦ holds text (unreadable text stop is)
+    ]

@@ -1,0 +1,99 @@
+//! The command `check` on a text, which is read in pieces.
+
+ghost use Rattle.std.specs.Prelude.{◌≡◌, ◌<◌, ◌≤◌, false, IfOk, IfSome, string_bytes};
+ghost use Rattle.sfi_answers.specs.Meaning.{on_text};
+ghost use Rattle.sfi_answers.specs.commands.Checking.{check};
+
+use crate::fault::{InputFault, Stop, TOO_LARGE_LINE, stop_answer};
+use crate::raw::stream_answer;
+use crate::verdict::Answer;
+use sfi_check::check_stream;
+use sfi_image::{ByteSource, ReadFault};
+use sfi_io::{HexReader, ReadStop, TextStop};
+use std::alloc::Global;
+use std::io::Read;
+
+/// The bytes that a reader's text spells, as a source. After a stop of the text it gives no more.
+#[derive(Drop)]
+struct SpelledBytes<'a, R: Read> {
+    text: HexReader<'a, R>,
+    stop: Option<TextStop>,
+}
+
+impl<'a, R: Read> ByteSource for SpelledBytes<'a, R> {
+    ghost use Rattle.std.specs.Prelude.{is_some};
+    ghost use Rattle.sfi_io.specs.Pieces.{to_come};
+    ghost use Rattle.sfi_answers.specs.private.Streams.{HandsOut, stopped};
+
+    ghost reads = { λ s n answer t. HandsOut (stopped s.stop (to_come R.remaining s.text))
+        (is_some s.stop) n answer (stopped t.stop (to_come R.remaining t.text)) (is_some t.stop) };
+
+    ghost has_failed = { λ s. is_some s.stop };
+
+    fn read_some(&mut self, buf: &mut [u8]) -> Result<usize, ReadFault> {
+        if self.stop.is_some() {
+            return Err(ReadFault);
+        }
+        match self.text.read_bytes(buf) {
+            Ok(count) => Ok(count),
+            Err(stop) => {
+                self.stop = Some(stop);
+                Err(ReadFault)
+            }
+        }
+    }
+
+    fn failed(&self) -> bool {
+        self.stop.is_some()
+    }
+
+    ghost fails = { λ s t n h. h.failed };
+
+    ghost stays = { λ s t n bytes h. h.failed };
+}
+
+impl<'a, R: Read> SpelledBytes<'a, R> {
+    ghost use Rattle.std.specs.Prelude.{[], Err, IfErr, IsOk, Some};
+    ghost use Rattle.sfi_io.specs.Pieces.{Leads, to_come};
+    ghost use Rattle.sfi_answers.specs.private.Streams.{stopped};
+
+    /// Reads the text to its end, and says its fault.
+    fn end(&mut self) -> Result<(), TextStop>
+        ensures spelled { IfOk result
+            (λ _. IfSome (stopped self.old.stop (to_come R.remaining self.old.text)) (λ r. IsOk r)) }
+        ensures stop { IfErr result (λ stop. Leads
+            (stopped self.old.stop (to_come R.remaining self.old.text)) (Some (Err stop)) []) }
+    {
+        match self.stop {
+            Some(stop) => Err(stop),
+            None => self.text.read_rest(),
+        }
+    }
+}
+
+/// The verdict on the image that the reader's text spells. A fault of the text goes before it, so the
+/// text is read to its end or past its limit. Memory is taken for the line alone, however long the text
+/// is.
+pub fn text_answer<R: Read>(alloc: Global, reader: &mut R) -> Result<Answer, ReadStop>
+    ensures statuses { IfOk result (λ a. a.status ≤ 2) }
+    ensures says { IfOk result (λ a. a.status < 2
+        → IfSome (R.remaining reader.old)
+        (λ text. (on_text (check false)).says text a.status (string_bytes a.text))) }
+    ensures fault { IfOk result (λ a. a.status ≡ 2
+        → IfSome (R.remaining reader.old) (on_text (check false)).has_fault) }
+{
+    let mut source = SpelledBytes {
+        text: HexReader::new(reader),
+        stop: None,
+    };
+    let verdict = check_stream(&mut source);
+    match source.end() {
+        Ok(()) => stream_answer(alloc, verdict),
+        Err(TextStop::Fault(fault)) => Ok(stop_answer(alloc, Stop::Input(InputFault::Hex(fault)))?),
+        Err(TextStop::TooLarge) => Ok(Answer {
+            status: 2,
+            text: String::from_str(alloc, TOO_LARGE_LINE)?,
+        }),
+        Err(TextStop::Failed) => Err(ReadStop::Failed),
+    }
+}
