@@ -1,6 +1,6 @@
 //! A run of the program, over its reader and writer.
 
-ghost use Rattle.std.specs.Prelude.{◌≡◌, ◌<◌, ◌≤◌, ◌≢◌, Some, map, string_bytes, false, true};
+ghost use Rattle.std.specs.Prelude.{◌≡◌, ◌<◌, ◌≤◌, ◌≢◌, IfOk, IfSome, Some, map, string_bytes, false, true};
 ghost use Rattle.std.specs.Io.KnownBytes.{Appends};
 ghost use Rattle.sfi_command.specs.Command.{Asks, AsksNothing};
 ghost use Rattle.sfi_command.specs.Jobs.{is_raw};
@@ -8,10 +8,11 @@ ghost use Rattle.sfi_command.specs.Numbers.{number_of};
 ghost use Rattle.sfi_command.specs.declared.job.Job.{Job};
 ghost use Rattle.sfi_command.specs.declared.job.Job.TheVariants.{Check};
 ghost use Rattle.sfi_tool.specs.Run.{WritesAnswer, MeetsFault, OnlyAppends};
+ghost use Rattle.sfi_tool.specs.Says.{HasInputFault, Says};
 ghost use Rattle.sfi_tool.specs.private.Says.{Runs};
 
 use crate::answering::answer;
-use sfi_answers::{TOO_LARGE_LINE, raw_answer};
+use sfi_answers::{Answer, TOO_LARGE_LINE, raw_answer, text_answer};
 use sfi_command::{HEX_LINE, Job, JobFault, job_of};
 use sfi_io::{Input, ReadStop, read_input, write_out};
 use std::alloc::Global;
@@ -45,13 +46,28 @@ fn status_of_fault<W: Write>(writer: &mut W, fault: &JobFault) -> u8
     }
 }
 
-/// Runs `check --raw`.
-fn run_raw<R: Read, W: Write>(alloc: Global, reader: &mut R, writer: &mut W) -> u8
-    ensures runs { Runs (Check true false) (R.remaining reader.old)
+/// The verdict on what is read in pieces: an image's own bytes, or its text.
+fn streamed_answer<R: Read>(alloc: Global, raw: bool, reader: &mut R) -> Result<Answer, ReadStop>
+    ensures statuses { IfOk result (λ a. a.status ≤ 2) }
+    ensures says { IfOk result (λ a. a.status < 2 → IfSome (R.remaining reader.old)
+        (λ bytes. Says (Check raw false) bytes a.status (string_bytes a.text))) }
+    ensures fault { IfOk result (λ a. a.status ≡ 2
+        → IfSome (R.remaining reader.old) (HasInputFault (Check raw false))) }
+{
+    if raw {
+        raw_answer(alloc, reader)
+    } else {
+        text_answer(alloc, reader)
+    }
+}
+
+/// Runs `check` without a report: what is read isn't held whole.
+fn run_check<R: Read, W: Write>(alloc: Global, raw: bool, reader: &mut R, writer: &mut W) -> u8
+    ensures runs { Runs (Check raw false) (R.remaining reader.old)
         (W.contents writer.old) (W.contents writer.new) result }
     ensures memory { result ≡ 4 → writer.new ≡ writer.old }
 {
-    match raw_answer(alloc, reader) {
+    match streamed_answer(alloc, raw, reader) {
         Ok(answer) => status_after_writing(writer, answer.status, &answer.text),
         Err(ReadStop::Memory) => 4,
         Err(ReadStop::Failed) => 5,
@@ -80,7 +96,10 @@ fn run_job<R: Read, W: Write>(alloc: Global, job: &Job, reader: &mut R, writer: 
     ensures memory { result ≡ 4 → writer.new ≡ writer.old }
 {
     if job.is_raw() {
-        return run_raw(alloc, reader, writer);
+        return run_check(alloc, true, reader, writer);
+    }
+    if let Job::Check { report: false, .. } = job {
+        return run_check(alloc, false, reader, writer);
     }
     match read_input(alloc, reader) {
         Ok(Input::Whole(text)) => run_on(alloc, job, &text, writer),
