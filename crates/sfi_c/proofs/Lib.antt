@@ -1,9 +1,7 @@
 mod Answering
 mod Filling
-mod Heads
-mod Layouts
 mod Listing
 mod Lookups
-mod Lying
 mod Places
+mod Seeking
 mod Writing

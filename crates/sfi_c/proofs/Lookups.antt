@@ -1,5 +1,5 @@
 -- What a look-up says, and of which bytes.
-use Rattle.std.proofs.Common.{◌≡◌, ◌≢◌, ◌∙◌, ℕ, zero, suc, ◌<◌, List, [], ◌∷◌, length, Some, refl, sym, ap, arith, inl, inr}
+use Rattle.std.proofs.Common.{◌≡◌, ◌≢◌, ◌∙◌, ℕ, zero, suc, ◌<◌, ◌≤◌, List, [], ◌∷◌, length, Some, None, Result, Ok, Err, IfErr, refl, sym, ap, arith, inl, inr}
 use Rattle.std.specs.Prelude.{slice_get}
 use Rattle.std.proofs.lemmas.Option.{slice_get_within}
 use Rattle.sfi_image.specs.Spelling.{Part}
@@ -7,21 +7,26 @@ use Rattle.sfi_image.proofs.Facts.{one_image, never_both}
 use Rattle.sfi_c.specs.declared.lookup.Lookup.{Lookup}
 use Rattle.sfi_c.specs.declared.lookup.Lookup.TheVariants.{Found, Beyond, NoImage}
 use Rattle.sfi_c.specs.Parts.{lookup_number, IsSandboxOf, IsBeyond, IsBeyondGates}
-use Rattle.sfi_c.specs.private.Lookups.{HasPart, HasGate, HasFault, IsSaid}
+use Rattle.sfi_c.specs.private.Lookups.{HasPart, HasGate, HasFault, IsSaid, said_by}
 
 pub is_found : (l : Lookup) → lookup_number l ≡ 0 → l ≡ Found
 is_found Found e = refl
 is_found _ e = absurd (omega arith)
 
--- an index within the list has its element
-pub one_there : {X : Type 0} (xs : List X) (i : ℕ) → i < length xs → (x : X) × (slice_get xs i ≡ Some x)
-one_there [] i lt = absurd (omega arith)
-one_there (x ∷ xs) zero lt = (x, refl)
-one_there (x ∷ xs) (suc i) lt = one_there xs i (omega arith)
+-- what is said to be found is there
+pub found_there : {X : Type 0} (r : Result X Lookup) → IfErr r (λ l. l ≢ Found) → said_by r ≡ Found → (x : X) × (r ≡ Ok x)
+found_there (Ok x) missing e = (x, refl)
+found_there (Err l) missing e = absurd (missing e)
 
 -- an index has one element
 pub same_element : {X : Type 0} (xs : List X) (i : ℕ) (x y : X) → slice_get xs i ≡ Some x → slice_get xs i ≡ Some y → x ≡ y
 same_element xs i x y e f = let both : Some x ≡ Some y = sym e ∙ f in cc
+
+-- where an index has none, it is past the end
+pub past : {X : Type 0} (xs : List X) (i : ℕ) → None ≡ slice_get xs i → length xs ≤ i
+past [] i e = omega arith
+past (x ∷ xs) zero e = absurd cc
+past (x ∷ xs) (suc i) e = omega (arith, past xs i e)
 
 -- the image has more sandboxes than the number of one
 pub within : {bytes : List ℕ} {number : ℕ} {p : Part} → (h : IsSandboxOf bytes number p) → number < length h.parts

@@ -9,7 +9,6 @@ mod array;
 mod checking;
 mod feeding;
 mod finding;
-mod layout;
 mod looking;
 mod lookup;
 mod part;

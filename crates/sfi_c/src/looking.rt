@@ -1,49 +1,48 @@
 //! The calls by which C reads what is in an image.
-ghost use Rattle.std.specs.Prelude.{◌≡◌, ◌≢◌, ◌<◌, ◌≤◌, length};
+ghost use Rattle.std.specs.Prelude.{◌≡◌, ◌≢◌, ◌+◌, ◌<◌, ◌≤◌, length, slice_get, Some, IfOk, IfErr};
 ghost use Rattle.sfi_image.specs.declared.fault.LayoutFault.{LayoutFault};
-ghost use Rattle.sfi_image.specs.Spelling.{Part};
+ghost use Rattle.sfi_image.specs.Spelling.{Part, part};
+ghost use Rattle.sfi_image.specs.Cursor.{IsViewOf};
 ghost use Rattle.sfi_image.specs.Faults.{IsFault};
-ghost use Rattle.sfi_c.specs.Parts.{lookup_number, IsSandboxOf, IsPartOf, IsBeyond, IsGateOf, IsBeyondGates, AreGatesOf};
-ghost use Rattle.sfi_c.specs.private.Lookups.{HasPart, HasGate, HasFault, IsSaid};
+ghost use Rattle.sfi_c.specs.Parts.{lookup_number, sandbox_offset, IsSandboxOf, IsPartOf, IsBeyond, IsGateOf, IsBeyondGates, AreGatesOf};
+ghost use Rattle.sfi_c.specs.private.Lookups.{HasPart, HasGate, HasFault, IsSaid, said_by};
 
-use crate::layout::is_image;
-use crate::lookup::Lookup;
-use crate::part::{SfiGate, SfiPart, gate_of, part_of, write_gates};
-use sfi_image::number_at;
+use crate::lookup::{Lookup, said_by};
+use crate::part::{SfiGate, SfiPart, gate_told, part_told, write_gates};
+use sfi_image::{Gate, ImageCursor, PartView};
 
-/// Where the count of sandboxes lies.
-const COUNT_OFFSET: usize = 4;
-
-/// Whether the bytes are an image with a sandbox of that number.
-fn look_up(image: &[u8], number: u32) -> Lookup
-    ensures { IsSaid (HasPart image.now number) (IsBeyond image.now number) (HasFault image.now)
-        result }
+/// The sandbox of that number, and where it ends, counted from the image's first byte.
+fn look_up<'a>(image: &'a [u8], number: u32) -> Result<(PartView<'a>, usize), Lookup>
+    ensures found { IfOk result (λ f. (p : Part) × (h : IsSandboxOf image.entry.now number p)
+        × IsViewOf f.0 p × (f.1 ≡ sandbox_offset h.parts number + length (part p))) }
+    ensures said { IsSaid (HasPart image.entry.now number) (IsBeyond image.entry.now number)
+        (HasFault image.entry.now) (said_by result) }
+    ensures missing { IfErr result (λ l. l ≢ Lookup.Found) }
 {
-    if is_image(image) {
-        let (count, _) = number_at(&image[COUNT_OFFSET..]);
-        if number < count {
-            Lookup::Found
-        } else {
-            Lookup::Beyond
+    let mut cursor = ImageCursor::new(image)?;
+    let mut sought = Err(Lookup::Beyond);
+    let mut passed = 0;
+    while let Some(view) = cursor.next_part()? {
+        if passed == number as usize {
+            sought = Ok((view, image.len() - cursor.unread().len()));
         }
-    } else {
-        Lookup::NoImage
+        passed += 1;
     }
+    sought
 }
 
-/// Whether the bytes are an image with a gate of that index in the sandbox of that number.
-fn look_up_gate(image: &[u8], number: u32, index: u32) -> Lookup
-    ensures { IsSaid (HasGate image.now number index) (IsBeyondGates image.now number index)
-        (HasFault image.now) result }
+/// The gate of that index in the sandbox of that number.
+fn look_up_gate(image: &[u8], number: u32, index: u32) -> Result<Gate, Lookup>
+    ensures found { IfOk result (λ g. (p : Part) × IsSandboxOf image.now number p
+        × (slice_get p.gates index ≡ Some g)) }
+    ensures said { IsSaid (HasGate image.now number index) (IsBeyondGates image.now number index)
+        (HasFault image.now) (said_by result) }
+    ensures missing { IfErr result (λ l. l ≢ Lookup.Found) }
 {
-    let lookup = look_up(image, number);
-    let Lookup::Found = lookup else {
-        return lookup;
-    };
-    if index < part_of(image, number).gates {
-        Lookup::Found
-    } else {
-        Lookup::Beyond
+    let (view, _) = look_up(image, number)?;
+    match view.gate(index) {
+        Some(gate) => Ok(gate),
+        None => Err(Lookup::Beyond),
     }
 }
 
@@ -67,9 +66,10 @@ pub extern "C" fn sfi_c_part(image: &[u8], number: u32, part: &mut SfiPart) -> u
     ensures only_layout { (k : LayoutFault) → IsFault image.now k
         → result ≡ lookup_number Lookup.NoImage }
 {
-    let lookup = look_up(image, number);
-    if let Lookup::Found = lookup {
-        *part = part_of(image, number);
+    let sought = look_up(image, number);
+    let lookup = said_by(&sought);
+    if let Ok((view, end)) = sought {
+        *part = part_told(&view, end);
     }
     lookup.number()
 }
@@ -95,9 +95,10 @@ pub extern "C" fn sfi_c_gate(image: &[u8], number: u32, index: u32, gate: &mut S
     ensures only_layout { (k : LayoutFault) → IsFault image.now k
         → result ≡ lookup_number Lookup.NoImage }
 {
-    let lookup = look_up_gate(image, number, index);
-    if let Lookup::Found = lookup {
-        *gate = gate_of(image, &part_of(image, number), index);
+    let sought = look_up_gate(image, number, index);
+    let lookup = said_by(&sought);
+    if let Ok(found) = sought {
+        *gate = gate_told(found);
     }
     lookup.number()
 }
@@ -124,9 +125,10 @@ pub extern "C" fn sfi_c_gates(image: &[u8], number: u32, array: &mut [SfiGate]) 
     ensures only_layout { (k : LayoutFault) → IsFault image.now k
         → result ≡ lookup_number Lookup.NoImage }
 {
-    let lookup = look_up(image, number);
-    if let Lookup::Found = lookup {
-        write_gates(image, &part_of(image, number), array);
+    let sought = look_up(image, number);
+    let lookup = said_by(&sought);
+    if let Ok((view, _)) = sought {
+        write_gates(&view, array);
     }
     lookup.number()
 }

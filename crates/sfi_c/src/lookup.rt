@@ -1,5 +1,9 @@
 //! What is said of a sandbox or a gate that was asked for, by name.
 ghost use Rattle.std.specs.Prelude.{◌≡◌};
+ghost use Rattle.sfi_c.specs.declared.lookup.Lookup.TheVariants.{NoImage};
+ghost use Rattle.sfi_c.specs.private.Lookups.{said_by};
+
+use sfi_image::LayoutFault;
 
 /// What is said of a sandbox or a gate that was asked for.
 #[derive(Clone, Copy, PartialEq, Eq, Debug)]
@@ -24,5 +28,23 @@ impl Lookup {
             Lookup::Beyond => 1,
             Lookup::NoImage => 2,
         }
+    }
+}
+
+impl From<LayoutFault> for Lookup {
+    ghost from_gives = { λ _ l. l ≡ NoImage };
+
+    fn from(_fault: LayoutFault) -> Lookup {
+        Lookup::NoImage
+    }
+}
+
+/// What is said: that it was found, or why not.
+pub(crate) fn said_by<T>(sought: &Result<T, Lookup>) -> Lookup
+    ensures { result ≡ said_by sought.now }
+{
+    match sought {
+        Ok(_) => Lookup::Found,
+        Err(lookup) => *lookup,
     }
 }

@@ -1,14 +1,11 @@
-//! Sandboxes and gates of an image as C sees them, and how they are read from its bytes.
-ghost use Rattle.std.specs.Prelude.{◌≡◌, ℕ, List, Some, slice_get};
-ghost use Rattle.sfi_image.specs.declared.part.Gate.{Gate};
-ghost use Rattle.sfi_image.specs.Spelling.{Part, part, format_of};
-ghost use Rattle.sfi_image.specs.Parts.{IsRightPart};
-ghost use Rattle.sfi_image.specs.Images.{IsImage};
-ghost use Rattle.sfi_c.specs.Parts.{IsSandboxOf, LiesAt, sandbox_offset, told_at, told_gate, with_gates};
-ghost use Rattle.sfi_c.specs.private.Places.{IsPartAt};
+//! Sandboxes and gates of an image as C sees them.
+ghost use Rattle.std.specs.Prelude.{◌≡◌, ℕ, ◌+◌, length};
+ghost use Rattle.sfi_image.specs.Spelling.{Part, part};
+ghost use Rattle.sfi_image.specs.Cursor.{IsViewOf};
+ghost use Rattle.sfi_c.specs.Parts.{told_at, told_gate, with_gates};
 
 use crate::stage::format_number;
-use sfi_image::{FIELDS_BYTES, Format, GATE_BYTES, fields_at, gate_at};
+use sfi_image::{Gate, PartView};
 
 /// A sandbox of an image: `struct sfi_part`.
 #[repr(C)]
@@ -47,31 +44,16 @@ pub struct SfiGate {
     pub service: u32,
 }
 
-/// The bytes of a magic and of the count.
-const HEAD_BYTES: usize = 8;
-
-/// The format of an image.
-fn format_of(image: &[u8]) -> Format
-    requires { (ps : List Part) × IsImage image.now ps }
-    ensures { (ps : List Part) → IsImage image.now ps → result ≡ format_of ps }
+/// What is told of a sandbox whose bytes end there, counted from the image's first.
+pub(crate) fn part_told(view: &PartView<'_>, end: usize) -> SfiPart
+    requires { (p : Part) × (offset : ℕ) × IsViewOf view.now p × (end ≡ offset + length (part p)) }
+    ensures { (p : Part) (offset : ℕ) → IsViewOf view.now p → end ≡ offset + length (part p)
+        → result ≡ told_at p offset }
 {
-    if Format::Sfi1.begins(image) {
-        Format::Sfi1
-    } else {
-        Format::Sfi2
-    }
-}
-
-/// The sandbox at the offset.
-fn part_at(image: &[u8], offset: usize, format: Format) -> SfiPart
-    requires { (p : Part) × LiesAt image.now offset (part p) × IsRightPart p }
-    ensures { (p : Part) → LiesAt image.now offset (part p) → IsRightPart p
-        → format ≡ p.format → result ≡ told_at p offset }
-{
-    let (fields, _) = fields_at(format, &image[offset..]);
-    let code_offset = offset + FIELDS_BYTES + GATE_BYTES * fields.gate_count as usize;
+    let fields = view.fields;
+    let init_offset = end - fields.init_len as usize;
     SfiPart {
-        format: format_number(format),
+        format: format_number(fields.format),
         code_base: fields.code_base,
         code_size: fields.code_size,
         data_base: fields.data_base,
@@ -79,37 +61,15 @@ fn part_at(image: &[u8], offset: usize, format: Format) -> SfiPart
         start: fields.start,
         gates: fields.gate_count,
         init_size: fields.init_len,
-        code_offset,
-        init_offset: code_offset + fields.code_size as usize,
+        code_offset: init_offset - fields.code_size as usize,
+        init_offset,
     }
 }
 
-/// The sandbox of that number.
-pub(crate) fn part_of(image: &[u8], number: u32) -> SfiPart
-    requires { (p : Part) × IsSandboxOf image.now number p }
-    ensures lies { (p : Part) → IsSandboxOf image.now number p → IsPartAt image.now p result }
-    ensures place { (p : Part) (h : IsSandboxOf image.now number p)
-        → result ≡ told_at p (sandbox_offset h.parts number) }
+/// What is told of a gate.
+pub(crate) fn gate_told(gate: Gate) -> SfiGate
+    ensures { result ≡ told_gate gate }
 {
-    let format = format_of(image);
-    let mut offset = HEAD_BYTES;
-    for _ in 0..number {
-        let part = part_at(image, offset, format);
-        offset = part.init_offset + part.init_size as usize;
-    }
-    part_at(image, offset, format)
-}
-
-/// The gate of that index of the sandbox.
-pub(crate) fn gate_of(image: &[u8], part: &SfiPart, index: u32) -> SfiGate
-    requires { (n : ℕ) × (p : Part) × (g : Gate) × IsSandboxOf image.now n p
-        × IsPartAt image.now p part.now × (slice_get p.gates index ≡ Some g) }
-    ensures { (n : ℕ) (p : Part) (g : Gate) → IsSandboxOf image.now n p
-        → IsPartAt image.now p part.now → slice_get p.gates index ≡ Some g
-        → result ≡ told_gate g }
-{
-    let offset = part.code_offset - GATE_BYTES * (part.gates - index) as usize;
-    let (gate, _) = gate_at(&image[offset..]);
     SfiGate {
         address: gate.address,
         service: gate.service,
@@ -117,13 +77,15 @@ pub(crate) fn gate_of(image: &[u8], part: &SfiPart, index: u32) -> SfiGate
 }
 
 /// Writes the gates of the sandbox to the front of the array, as many as it has room for.
-pub(crate) fn write_gates(image: &[u8], part: &SfiPart, array: &mut [SfiGate])
-    requires { (n : ℕ) × (p : Part) × IsSandboxOf image.now n p × IsPartAt image.now p part.now }
-    ensures { (n : ℕ) (p : Part) → IsSandboxOf image.now n p → IsPartAt image.now p part.now
-        → array.new ≡ with_gates p.gates array.old }
+pub(crate) fn write_gates(view: &PartView<'_>, array: &mut [SfiGate])
+    requires { (p : Part) × IsViewOf view.now p }
+    ensures { (p : Part) → IsViewOf view.now p → array.new ≡ with_gates p.gates array.old }
 {
-    let count = (part.gates as usize).min(array.len());
+    let count = (view.fields.gate_count as usize).min(array.len());
     for i in 0..count {
-        array[i] = gate_of(image, part, i as u32);
+        match view.gate(i as u32) {
+            Some(gate) => array[i] = gate_told(gate),
+            None => unreachable!(),
+        }
     }
 }

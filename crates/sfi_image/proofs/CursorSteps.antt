@@ -164,17 +164,27 @@ one_passed bytes format n ps p old new h of read = record {
   read = read;
 }
 
+-- the bytes are those passed and those left
+pub passed_bytes : (bytes : List ℕ) (format : Format) (n : ℕ) (ps : List Part) (c : ImageCursor) → HasPassed bytes format n ps c → bytes ≡ head format n ps ++ unread c
+passed_bytes bytes format n ps c h = h.read.bytes_are ∙ ap (λ (l : List ℕ). l ++ unread c) (parts_bytes format n ps some h.one_format)
+  where
+    some : 1 ≤ n
+    some = elim (eqb_tells (length ps) n) [
+      | inl e ↦ (let r = rw (e.0) at h.read in omega (arith, r.stands.right.at_least, e.1))
+      | inr e ↦ (let r = rw (e.0) at h.read in r.stands.right.0.at_least)
+    ]
+
 -- a sandbox has bytes
 some_bytes : (p : Part) → 0 < length (part p)
 unfolding part
 some_bytes p = omega (arith, length-fields (fields_of p) (flat_map gate p.gates ++ (p.code ++ p.init)))
 
 -- so fewer are left
-pub fewer_left : (bytes : List ℕ) (format : Format) (n : ℕ) (ps : List Part) (p : Part) (old new : ImageCursor) → HasRead bytes (AfterCount format n ps) old → HasPassed bytes format n (ps ++ p ∷ []) new
+pub fewer_left : (bytes : List ℕ) (format : Format) (n : ℕ) (ps : List Part) (p : Part) (old new : ImageCursor) → HasPassed bytes format n ps old → HasPassed bytes format n (ps ++ p ∷ []) new
     → length (unread new) < length (unread old)
 fewer_left bytes format n ps p old new h g =
     let same : head format n ps ++ unread old ≡ (head format n ps ++ part p) ++ unread new =
-    sym h.bytes_are ∙ g.read.bytes_are ∙ ap (λ (l : List ℕ). l ++ unread new) (parts_bytes format n (ps ++ p ∷ []) h.stands.right.0.at_least g.one_format ∙ head_push format n ps p) in
+    sym (passed_bytes bytes format n ps old h) ∙ passed_bytes bytes format n (ps ++ p ∷ []) new g ∙ ap (λ (l : List ℕ). l ++ unread new) (head_push format n ps p) in
     omega (arith, ap length same, length-append (head format n ps) (unread old), length-append (head format n ps ++ part p) (unread new), length-append (head format n ps) (part p), some_bytes p)
 
 -- ---- what is handed out

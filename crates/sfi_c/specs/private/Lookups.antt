@@ -1,5 +1,5 @@
 -- What a look-up says, and of which bytes.
-use Rattle.std.specs.Prelude.{◌≡◌, ◌↔◌, ℕ, ◌<◌, List, length}
+use Rattle.std.specs.Prelude.{◌≡◌, ◌↔◌, ℕ, ◌<◌, List, length, Result, Ok, Err}
 use Rattle.sfi_image.specs.declared.fault.LayoutFault.{LayoutFault}
 use Rattle.sfi_image.specs.Spelling.{Part}
 use Rattle.sfi_image.specs.Faults.{IsFault}
@@ -25,3 +25,8 @@ pub record IsSaid (there further fault : Type 0) (said : Lookup) : Type 0 where
   pub found : (said ≡ Found) ↔ there
   pub beyond : (said ≡ Beyond) ↔ further
   pub layout : (said ≡ NoImage) ↔ fault
+
+-- what is said where this was sought
+abbrev pub said_by : {X : Type 0} → Result X Lookup → Lookup
+said_by (Ok x) = Found
+said_by (Err l) = l

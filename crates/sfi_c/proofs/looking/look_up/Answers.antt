@@ -1,36 +1,45 @@
-use Rattle.std.proofs.Common.{◌≡◌, length, refl, arith}
-use Rattle.sfi_image.specs.Spelling.{number}
-use Rattle.sfi_c.specs.declared.lookup.Lookup.TheVariants.{Found, Beyond, NoImage}
-use Rattle.sfi_c.proofs.Heads.{count_lies, count_is}
-use Rattle.sfi_c.proofs.Lookups.{one_there, part_said}
-use Rattle.sfi_c.proofs.Lying.{starts_within, long_enough, length-number}
+use Rattle.std.proofs.lemmas.Result.{err_from_is_err_and}
+use Rattle.sfi_c.specs.declared.lookup.Lookup.TheVariants.{NoImage}
+use Rattle.sfi_c.proofs.Lookups.{part_said}
+use Rattle.sfi_c.proofs.Seeking.{begun, found_here, not_here, sought_said, sought_found, sought_missing}
 use Rattle.sfi_c.proofs.looking.look_up.Goals as goal
+use Rattle.sfi_c.proofs.looking.look_up.Goals.{then-passed-number, else-passed-number}
 
-pub slice_bounds-number_at-count : goal.slice_bounds-number_at-count
-slice_bounds-number_at-count c =
-    let h = c.if-is_image.ensures.image refl in
-    starts_within c.args.image.now 4 (number (length h.0)) (count_lies c.args.image.now h.0 h.1)
+pub returns-in_err-cursor-clause-said : goal.returns-in_err-cursor-clause-said
+returns-in_err-cursor-clause-said c =
+    let p = err_from_is_err_and c.from_residual.result c.from_residual.ensures.1 in
+    rw (p.1, p.2) (part_said c.args.image.now c.args.number NoImage (c.in_err-cursor.field-0.0, c.in_err-cursor.ensures.fault))
 
-pub slice_bounds-number_at-start : goal.slice_bounds-number_at-start
-slice_bounds-number_at-start c = let inside = slice_bounds-number_at-count c in omega arith
+pub returns-in_err-view-clause-said : goal.returns-in_err-view-clause-said
+returns-in_err-view-clause-said c =
+    let p = err_from_is_err_and c.from_residual-in_err-view.result c.from_residual-in_err-view.ensures.1 in
+    let i = c.loop-view.invariant in
+    rw (p.1, p.2) (part_said c.args.image.now c.args.number NoImage (c.in_err-view.field-0.0, c.in_err-view.ensures.fault c.args.image.now i.format i.count i.parts i.cursor))
 
-pub number_at-count-requires : goal.number_at-count-requires
-number_at-count-requires c =
-    let h = c.if-is_image.ensures.image refl in
-    omega (arith, long_enough c.args.image.now 4 (number (length h.0)) (count_lies c.args.image.now h.0 h.1), length-number (length h.0))
+pub loop-view-init : goal.loop-view-init
+loop-view-init c =
+    let h = c.in_ok-cursor.ensures.begun in
+    begun c.args.image.now c.args.number h.0 _ c.in_ok-cursor.cursor h.1
 
-pub returns-then-number-count : goal.returns-then-number-count
-returns-then-number-count c =
-    let h = c.if-is_image.ensures.image refl in
-    let count : c.number_at-count.result.0 ≡ length h.0 = count_is c.args.image.now h.0 c.number_at-count.result.0 _ h.1 c.number_at-count.ensures.word c.number_at-count.ensures.front in
-    let p = one_there h.0 c.args.number (let less = c.if-number-count.true in omega arith) in
-    part_said c.args.image.now c.args.number Found (p.0, record { parts = h.0; image = h.1; sandbox_is = p.1 })
+pub loop-view-preserved : goal.loop-view-preserved
+loop-view-preserved c =
+    let i = c.loop-view.invariant in
+    let t = (rw c.in-Some.is at c.in_ok-view.ensures.part) c.args.image.now i.format i.count i.parts i.cursor in
+    let falls = rw c.in-Some.is at c.in_ok-view.ensures.falls in
+    elim c.if-passed-number.branch [
+      | then-passed-number w ↦ rw (w.sought-is) (found_here c.args.image.now c.args.number c.loop-view.passed c.loop-view.cursor c.next_part.new.self c.loop-view.sought i t.0 t.2 falls c.in-Some.view t.1 w.if-passed-number.true w.unread.result.now w.unread.ensures)
+      | else-passed-number w ↦ rw (w.sought-is) (not_here c.args.image.now c.args.number c.loop-view.passed c.loop-view.cursor c.next_part.new.self c.loop-view.sought i t.0 t.2 falls w.if-passed-number.false)
+    ]
 
-pub returns-else-number-count : goal.returns-else-number-count
-returns-else-number-count c =
-    let h = c.if-is_image.ensures.image refl in
-    let count : c.number_at-count.result.0 ≡ length h.0 = count_is c.args.image.now h.0 c.number_at-count.result.0 _ h.1 c.number_at-count.ensures.word c.number_at-count.ensures.front in
-    part_said c.args.image.now c.args.number Beyond (h.0, h.1, let less = c.if-number-count.false in omega arith)
+pub returns-clause-found : goal.returns-clause-found
+returns-clause-found c =
+    let i = c.loop-view.invariant in
+    sought_found c.args.image.now c.args.number i.parts c.loop-view.sought ((rw c.in_default.is at c.in_ok-view.ensures.end) c.args.image.now i.format i.count i.parts i.cursor) i.sought
 
-pub returns-else-is_image : goal.returns-else-is_image
-returns-else-is_image c = part_said c.args.image.now c.args.number NoImage (c.if-is_image.ensures.fault refl)
+pub returns-clause-said : goal.returns-clause-said
+returns-clause-said c =
+    let i = c.loop-view.invariant in
+    sought_said c.args.image.now c.args.number i.parts c.loop-view.sought ((rw c.in_default.is at c.in_ok-view.ensures.end) c.args.image.now i.format i.count i.parts i.cursor) i.sought
+
+pub returns-clause-missing : goal.returns-clause-missing
+returns-clause-missing c = let i = c.loop-view.invariant in sought_missing c.args.number i.parts c.loop-view.sought i.sought

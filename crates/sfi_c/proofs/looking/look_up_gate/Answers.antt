@@ -1,20 +1,21 @@
-use Rattle.std.proofs.Common.{inr, arith}
+use Rattle.std.proofs.Common.{sym, inr}
+use Rattle.std.proofs.lemmas.Option.{slice_get_within}
+use Rattle.std.proofs.lemmas.Result.{err_from_is_err_and}
 use Rattle.sfi_c.specs.declared.lookup.Lookup.TheVariants.{Found, Beyond}
-use Rattle.sfi_c.proofs.Lookups.{gate_said, none_said}
-use Rattle.sfi_c.proofs.Places.{gates_are}
+use Rattle.sfi_c.proofs.Lookups.{gate_said, none_said, past}
 use Rattle.sfi_c.proofs.looking.look_up_gate.Goals as goal
 
-pub returns-in_default : goal.returns-in_default
-returns-in_default c = none_said c.args.image.now c.args.number c.args.index c.look_up-lookup.result c.in_default.not-Found c.look_up-lookup.ensures
+pub returns-in_err-view-clause-said : goal.returns-in_err-view-clause-said
+returns-in_err-view-clause-said c =
+    let p = err_from_is_err_and c.from_residual.result c.from_residual.ensures.1 in
+    rw (p.1, p.2) (none_said c.args.image.now c.args.number c.args.index c.in_err-view.field-0.0 c.in_err-view.ensures.missing c.in_err-view.ensures.said)
 
-pub returns-then-index-part_of : goal.returns-then-index-part_of
-returns-then-index-part_of c =
-    let h = c.look_up-lookup.ensures.found.0 c.in-Found.is in
-    let gates = gates_are c.args.image.now h.0 c.part_of.result (c.part_of.ensures.lies h.0 h.1) in
-    gate_said c.args.image.now c.args.number c.args.index Found (h.0, h.1, let few = c.if-index-part_of.true in omega arith)
+pub returns-in-Some-clause-said : goal.returns-in-Some-clause-said
+returns-in-Some-clause-said c =
+    let h = c.in_ok-view.ensures.found in
+    gate_said c.args.image.now c.args.number c.args.index Found (h.0, h.1, slice_get_within h.0.gates c.args.index c.in-Some.gate (sym (c.in-Some.ensures h.0 h.2)))
 
-pub returns-else-index-part_of : goal.returns-else-index-part_of
-returns-else-index-part_of c =
-    let h = c.look_up-lookup.ensures.found.0 c.in-Found.is in
-    let gates = gates_are c.args.image.now h.0 c.part_of.result (c.part_of.ensures.lies h.0 h.1) in
-    gate_said c.args.image.now c.args.number c.args.index Beyond (inr (h.0, h.1, let many = c.if-index-part_of.false in omega arith))
+pub returns-in-None-clause-said : goal.returns-in-None-clause-said
+returns-in-None-clause-said c =
+    let h = c.in_ok-view.ensures.found in
+    gate_said c.args.image.now c.args.number c.args.index Beyond (inr (h.0, h.1, past h.0.gates c.args.index (c.in-None.ensures h.0 h.2)))

@@ -36,4 +36,4 @@ returns-clause-falls c =
     let r = c.requires in
     let at = before_part r.0 r.1 r.2 r.3 c.args.self.now r.4 (λ end. c.in_default.not-End (c.wants.ensures.want (after_parts r.1 r.2 r.3) r.4.read.stands ∙ end)) in
     let t = c.in_ok-view.ensures r.0 r.1 r.2 r.3 at in
-    fewer_left r.0 r.1 r.2 r.3 t.0 c.args.self.now c.take_part.new.self at (one_passed r.0 r.1 r.2 r.3 t.0 c.args.self.now c.take_part.new.self r.4 t.1 t.3)
+    fewer_left r.0 r.1 r.2 r.3 t.0 c.args.self.now c.take_part.new.self r.4 (one_passed r.0 r.1 r.2 r.3 t.0 c.args.self.now c.take_part.new.self r.4 t.1 t.3)
