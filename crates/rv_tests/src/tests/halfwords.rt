@@ -11,14 +11,12 @@ use std::process::Abort;
 
 /// The halfword is read as a form that expands to the instruction.
 fn expands(rt: &impl Abort, halfword: u16, want: Instr) {
-    match decode16(halfword) {
-        Some(form) => assert!(rt; form.expand() == want, "{halfword:04x}"),
-        None => assert!(rt; false, "{halfword:04x}"),
-    }
-    assert!(rt;
-        outline16(halfword) == Some(outline_of(want)),
-        "outline of {halfword:04x}"
-    );
+    let is_expanded = match decode16(halfword) {
+        Some(form) => form.expand() == want,
+        None => false,
+    };
+    let is_outlined = outline16(halfword) == Some(outline_of(want));
+    assert!(rt; is_expanded && is_outlined, "{halfword:04x}");
 }
 
 #[test]

@@ -1,5 +1,5 @@
 //! Texts at the limits of the assembler, and one step beyond.
-use super::sources::{after_sandbox, is_refused, meaning};
+use super::sources::{after_sandbox, is_refused};
 use rv_text::{TextCause, parse_source};
 use std::alloc::{AllocError, Global};
 use std::process::Abort;
@@ -20,44 +20,6 @@ fn is_full(rt: &impl Abort, alloc: Global, text: &str, end: &str, line: u32) -> 
     assert!(rt; parse_source(alloc, text).is_ok(), "line {line}");
     let more = format!(in alloc; "{text}{end}")?;
     is_refused(rt, alloc, more.as_str(), line, TextCause::Limit);
-    Ok(())
-}
-
-// Names of 64 letters, the most that one has.
-const GATE: &str = "gggggggggggggggggggggggggggggggggggggggggggggggggggggggggggggggg";
-
-const LABEL: &str = "xxxxxxxxxxxxxxxxxxxxxxxxxxxxxxxxxxxxxxxxxxxxxxxxxxxxxxxxxxxxxxxx";
-
-// A gate, a label, a jump and an address.
-#[test]
-fn names(rt: HostRuntime) -> Result<(), Fail> {
-    let alloc = rt.alloc();
-    assert_eq!(rt; (GATE.len(), LABEL.len()), (64, 64));
-    let text = format!(in alloc;
-        ".sandbox 256\n.gate {GATE} 3\n{LABEL}: j {LABEL}\nla a0, {GATE}"
-    )?;
-    let meant = meaning(alloc, text.as_str())?;
-    let wanted = format!(in alloc;
-        "256 | 0=3 | {GATE}=Gate(0) {LABEL}=Code(0) | 3L jal x0, 0 to 1; \
-         4 high x10 of 0; 4 low x10 of 0; |\n"
-    )?;
-    assert_eq!(rt; meant.as_str(), wanted.as_str());
-    Ok(())
-}
-
-// The same with one letter more.
-#[test]
-fn longer_names(rt: HostRuntime) -> Result<(), Fail> {
-    let alloc = rt.alloc();
-    for (before, after) in [
-        ("", "x:"),
-        ("j ", "x 5"),
-        (".gate ", "x 9"),
-        ("la a0, ", "x"),
-    ] {
-        let text = format!(in alloc; ".sandbox 256\n{before}{LABEL}{after}")?;
-        is_refused(&rt, alloc, text.as_str(), 2, TextCause::Limit);
-    }
     Ok(())
 }
 

@@ -103,7 +103,7 @@ fn push_meaning(out: &mut String, alloc: Global, text: &str) -> Result<(), Alloc
 }
 
 // The sandboxes that a text means, or its fault, as text.
-pub(super) fn meaning(alloc: Global, text: &str) -> Result<String, AllocError> {
+fn meaning(alloc: Global, text: &str) -> Result<String, AllocError> {
     let mut out = String::new(alloc);
     push_meaning(&mut out, alloc, text)?;
     Ok(out)
@@ -212,6 +212,11 @@ const STATEMENTS: &[(&str, &str)] = &[
         "256 | | b=Unknown a=Code(1) | 2 jal x0, 0 to 0; |\n512 | | a=Code(0) b=Code(0) | |",
     ),
     (".sandbox 1048576", "256 | | | |\n1048576 | | | |"),
+    // Names of 64 letters, the most that one has.
+    (
+        ".gate gggggggggggggggggggggggggggggggggggggggggggggggggggggggggggggggg 3\nxxxxxxxxxxxxxxxxxxxxxxxxxxxxxxxxxxxxxxxxxxxxxxxxxxxxxxxxxxxxxxxx: j xxxxxxxxxxxxxxxxxxxxxxxxxxxxxxxxxxxxxxxxxxxxxxxxxxxxxxxxxxxxxxxx\nla a0, gggggggggggggggggggggggggggggggggggggggggggggggggggggggggggggggg",
+        "256 | 0=3 | gggggggggggggggggggggggggggggggggggggggggggggggggggggggggggggggg=Gate(0) xxxxxxxxxxxxxxxxxxxxxxxxxxxxxxxxxxxxxxxxxxxxxxxxxxxxxxxxxxxxxxxx=Code(0) | 3L jal x0, 0 to 1; 4 high x10 of 0; 4 low x10 of 0; |",
+    ),
 ];
 
 // Texts after `.sandbox 256` with a fault on line 2.
@@ -297,6 +302,23 @@ const FAULTS: &[(&str, TextCause)] = &[
     ("add a0, q9 $", TextCause::Register),
     ("addi x1, x1, 2048 x", TextCause::Number),
     ("nop x # frob", TextCause::Operands),
+    // Names of 65 letters.
+    (
+        "xxxxxxxxxxxxxxxxxxxxxxxxxxxxxxxxxxxxxxxxxxxxxxxxxxxxxxxxxxxxxxxxx:",
+        TextCause::Limit,
+    ),
+    (
+        "j xxxxxxxxxxxxxxxxxxxxxxxxxxxxxxxxxxxxxxxxxxxxxxxxxxxxxxxxxxxxxxxxx 5",
+        TextCause::Limit,
+    ),
+    (
+        ".gate xxxxxxxxxxxxxxxxxxxxxxxxxxxxxxxxxxxxxxxxxxxxxxxxxxxxxxxxxxxxxxxxx 9",
+        TextCause::Limit,
+    ),
+    (
+        "la a0, xxxxxxxxxxxxxxxxxxxxxxxxxxxxxxxxxxxxxxxxxxxxxxxxxxxxxxxxxxxxxxxxx",
+        TextCause::Limit,
+    ),
 ];
 
 // Whole texts, and the line and cause of their fault.

@@ -17,8 +17,8 @@ fn instr(rt: &impl Abort, text: &str) -> Instr {
 /// The word and the text are those of one instruction.
 fn reads_and_prints(rt: &impl Abort, alloc: Global, word: u32, text: &str) -> Result<(), Fail> {
     let read = instr(rt, text);
-    assert!(rt; decode32(word) == Some(read), "{text}");
-    assert!(rt; encode32(read) == Some(word), "{text}");
+    let is_spelled = decode32(word) == Some(read) && encode32(read) == Some(word);
+    assert!(rt; is_spelled, "{text}");
     let printed = print_instr(alloc, &read)?;
     assert_eq!(rt; printed.as_str(), text);
     Ok(())
@@ -62,17 +62,18 @@ fn words_and_texts(rt: HostRuntime) -> Result<(), Fail> {
     Ok(())
 }
 
+const WAYS: &[(&str, &str)] = &[
+    ("fence", "fence 255, x0, x0"),
+    ("\taddi\tsp,sp,-0x10 \r", "addi x2, x2, -16"),
+    ("addi x0,x0,-0", "addi x0, x0, 0"),
+    ("addi x0, x0, 007", "addi x0, x0, 7"),
+    ("lui a0, 0xFfFfF", "lui x10, 1048575"),
+    ("lw fp , 4 ( s0 )", "lw x8, 4(x8)"),
+];
+
 #[test]
 fn ways_to_write_an_instruction(rt: HostRuntime) {
-    let pairs = [
-        ("fence", "fence 255, x0, x0"),
-        ("\taddi\tsp,sp,-0x10 \r", "addi x2, x2, -16"),
-        ("addi x0,x0,-0", "addi x0, x0, 0"),
-        ("addi x0, x0, 007", "addi x0, x0, 7"),
-        ("lui a0, 0xFfFfF", "lui x10, 1048575"),
-        ("lw fp , 4 ( s0 )", "lw x8, 4(x8)"),
-    ];
-    for (text, other) in pairs {
+    for (text, other) in WAYS {
         assert!(rt; instr(&rt, text) == instr(&rt, other), "{text}");
     }
 }

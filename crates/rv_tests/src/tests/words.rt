@@ -10,13 +10,9 @@ use rv_word::{
 use std::process::Abort;
 
 fn spells(rt: &impl Abort, word: u32, instr: &Instr) {
-    let read = decode32(word);
-    assert!(rt; read == Some(*instr), "reading {word:08x}");
-    assert!(rt; encode32(*instr) == Some(word), "writing {word:08x}");
-    assert!(rt;
-        outline32(word) == Some(outline_of(*instr)),
-        "outline of {word:08x}"
-    );
+    let is_spelled = decode32(word) == Some(*instr) && encode32(*instr) == Some(word);
+    let is_outlined = outline32(word) == Some(outline_of(*instr));
+    assert!(rt; is_spelled && is_outlined, "{word:08x}");
 }
 
 #[test]
