@@ -1,5 +1,6 @@
 #!/usr/bin/env python3
-"""Makes docs/DEFINITIONS.md and the counts of lines in documents, and compares them with the files.
+"""Makes docs/DEFINITIONS.md, the list of must-fail edits in docs/PROOFS.md and the counts of lines in documents, and compares
+them with the files.
 
     tools/definitions.py             # compares, and prints a line for each difference and last `N passed, M failed`
     tools/definitions.py --write     # writes them
@@ -240,6 +241,13 @@ def told(words, crate):
 
 # ---- docs/PROOFS.md
 
+def with_edits(text):
+    """The text with a line of must-fail edits for each crate that has some, in the place of its list after `refuses it:`"""
+    edits = {crate: sorted(path.stem for path in (CRATES / crate).glob("must-fail/*.edit")) for crate in crate_names()}
+    lines = [f"- `{crate}`: {', '.join(f'`{name}`' for name in names)}\n" for crate, names in edits.items() if names]
+    return re.sub(r"(?<=refuses it:\n\n)(- .*\n)+", "".join(lines), text)
+
+
 def contract_names(crate):
     """The functions, types, traits and clauses of a crate's code."""
     texts = [path.read_text(encoding="utf-8") for path in sorted((CRATES / crate / "src").glob("**/*.rt"))]
@@ -359,6 +367,7 @@ def main(options):
     source_of = sources((TOP / "tools" / "sources.txt").read_text(encoding="utf-8"))
     texts = {path: with_counts(path.read_text(encoding="utf-8")) for path in [TOP / "README.md", *sorted((TOP / "docs").glob("*.md"))]}
     texts[TOP / "docs" / "DEFINITIONS.md"] = page(words, source_of)
+    texts[PROOFS] = with_edits(texts[PROOFS])
     if options:
         for path, text in texts.items():
             path.write_text(text, encoding="utf-8")
