@@ -13,7 +13,7 @@ use Rattle.sfi_io.specs.private.Hexadecimal.{IsByteOf}
 
 -- ---- what counts of a text from a place on
 
-at_white : (text : List ℕ) (k : ℕ) → k < length text → is_kept (slice_index text k) ≡ false → filter is_kept (drop k text) ≡ filter is_kept (drop (k + 1) text)
+pub at_white : (text : List ℕ) (k : ℕ) → k < length text → is_kept (slice_index text k) ≡ false → filter is_kept (drop k text) ≡ filter is_kept (drop (k + 1) text)
 at_white text k h e = rw (drop_more text k 0 h) (rw e refl)
 
 pub at_kept : (text : List ℕ) (k : ℕ) → k < length text → is_kept (slice_index text k) ≡ true → filter is_kept (drop k text) ≡ slice_index text k ∷ filter is_kept (drop (k + 1) text)
@@ -135,7 +135,7 @@ kept_is : (b : Bool) → false ≡ not b → b ≡ true
 kept_is true e = refl
 kept_is false e = e
 
-white_is : (b : Bool) → true ≡ not b → b ≡ false
+pub white_is : (b : Bool) → true ≡ not b → b ≡ false
 white_is true e = cc e
 white_is false e = refl
 

@@ -35,8 +35,63 @@ fn decode_block(block: &[u8], out: &mut [u8]) -> usize
     front.pairs
 }
 
-/// Takes what a text begins with that doesn't begin with white space, where no digit waits: the
-/// pairs of a block, if it may be tried, or else one byte.
+/// How much of a text was decoded, by pairs of digits that stand together: how many of its bytes were
+/// read, and how many bytes they make.
+#[derive(Drop)]
+struct Blocks {
+    taken: usize,
+    made: usize,
+}
+
+/// Takes the pairs of digits that a text begins with, of a block, and what is white space after them.
+#[inline(always)]
+fn decode_line(text: &[u8], out: &mut [u8]) -> Blocks
+    requires text { 64 < length text.now }
+    requires out { 32 ≤ length out.old }
+    ensures taken { result.taken ≤ length text.now }
+    ensures made { result.made ≤ result.taken }
+    ensures room { result.made ≤ length out.new }
+    ensures size { length out.new ≡ length out.old }
+    ensures spells { SpellsFront (filter is_kept text.now)
+        (filter is_kept (drop result.taken text.now)) (take result.made out.new) }
+{
+    let made = decode_block(&text[..BLOCK], &mut out[..BLOCK / 2]);
+    let at = 2 * made;
+    if is_white(text[at]) {
+        return Blocks {
+            taken: at + 1,
+            made,
+        };
+    }
+    Blocks { taken: at, made }
+}
+
+/// Decodes block by block, until a block gives fewer than 8 bytes, or there is no room for one more. A
+/// text is mostly one line after another, each of which is such a block.
+#[inline(always)]
+fn decode_lines(text: &[u8], out: &mut [u8]) -> Blocks
+    ensures taken { result.taken ≤ length text.now }
+    ensures made { result.made ≤ result.taken }
+    ensures room { result.made ≤ length out.new }
+    ensures size { length out.new ≡ length out.old }
+    ensures spells { SpellsFront (filter is_kept text.now)
+        (filter is_kept (drop result.taken text.now)) (take result.made out.new) }
+{
+    let mut taken: usize = 0;
+    let mut made: usize = 0;
+    while text.len() - taken > BLOCK && out.len() - made >= BLOCK / 2 {
+        let line = decode_line(&text[taken..], &mut out[made..]);
+        taken += line.taken;
+        made += line.made;
+        if line.made < 8 {
+            return Blocks { taken, made };
+        }
+    }
+    Blocks { taken, made }
+}
+
+/// Takes what a text begins with that doesn't begin with white space, where no digit waits: blocks, if
+/// they may be tried, or else one byte.
 #[inline(always)]
 fn decode_first(text: &[u8], out: &mut [u8], quick: bool) -> Front
     requires some { 0 < length text.now }
@@ -50,28 +105,20 @@ fn decode_first(text: &[u8], out: &mut [u8], quick: bool) -> Front
         (waiting result.high (filter is_kept (drop result.taken text.now)))
         (take result.made out.new) }
 {
-    let alone = Front {
+    if quick {
+        let blocks = decode_lines(text, out);
+        if blocks.taken > 0 {
+            return Front {
+                taken: blocks.taken,
+                made: blocks.made,
+                high: None,
+            };
+        }
+    }
+    Front {
         taken: 1,
         made: 0,
         high: Some(text[0]),
-    };
-    if !quick {
-        return alone;
-    }
-    if text.len() < BLOCK {
-        return alone;
-    }
-    if out.len() < BLOCK / 2 {
-        return alone;
-    }
-    let pairs = decode_block(&text[..BLOCK], &mut out[..BLOCK / 2]);
-    if pairs == 0 {
-        return alone;
-    }
-    Front {
-        taken: 2 * pairs,
-        made: pairs,
-        high: None,
     }
 }
 

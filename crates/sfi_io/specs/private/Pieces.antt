@@ -1,5 +1,5 @@
 -- Words of private contracts and proofs, beside those of Pieces.antt.
-use Rattle.std.specs.Prelude.{◌≡◌, ◌⊎◌, ℕ, ◌<◌, ◌≤◌, ◌+◌, ◌-◌, ◌*◌, [], ◌∷◌, ◌++◌, List, length, Option, Some, None, Result, Ok, Err, true}
+use Rattle.std.specs.Prelude.{◌≡◌, ◌⊎◌, ℕ, ◌<◌, ◌≤◌, ◌+◌, ◌*◌, [], ◌∷◌, ◌++◌, List, length, Option, Some, None, Result, Ok, Err, true}
 use Rattle.hex.specs.Hex.{decode_pairs, hex_digit_value}
 use Rattle.hex.specs.declared.error.FromHexError.{FromHexError}
 use Rattle.hex.specs.declared.error.FromHexError.TheVariants.{OddLength, InvalidHexCharacter}
@@ -7,7 +7,6 @@ use Rattle.sfi_io.specs.Hexadecimal.{is_kept}
 use Rattle.sfi_io.specs.Input.{limit}
 use Rattle.sfi_io.specs.declared.hexadecimal.HexFault.{HexFault}
 use Rattle.sfi_io.specs.declared.hexadecimal.HexFault.TheVariants.{Odd, Digit}
-use Rattle.sfi_io.specs.declared.text.HexReader.{HexReader}
 use Rattle.sfi_io.specs.declared.text.TextStop.{TextStop}
 use Rattle.sfi_io.specs.declared.text.TextStop.TheVariants.{Fault, TooLarge, Failed}
 use Rattle.sfi_io.specs.Pieces.{Ahead, outcome, waiting}
