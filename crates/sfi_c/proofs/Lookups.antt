@@ -1,5 +1,5 @@
 -- What a look-up says, and of which bytes.
-use Rattle.std.proofs.Common.{◌≡◌, ◌≢◌, ◌∙◌, ℕ, zero, suc, ◌<◌, ◌≤◌, List, [], ◌∷◌, length, Some, None, Result, Ok, Err, IfErr, refl, sym, ap, arith, inl, inr}
+use Rattle.std.proofs.Common.{◌≡◌, ◌≢◌, ◌∙◌, ℕ, zero, suc, ◌<◌, List, [], ◌∷◌, length, Some, Result, Ok, Err, IfErr, refl, sym, ap, arith, inl, inr}
 use Rattle.std.specs.Prelude.{slice_get}
 use Rattle.std.proofs.lemmas.Option.{slice_get_within}
 use Rattle.sfi_image.specs.Spelling.{Part}
@@ -21,12 +21,6 @@ found_there (Err l) missing e = absurd (missing e)
 -- an index has one element
 pub same_element : {X : Type 0} (xs : List X) (i : ℕ) (x y : X) → slice_get xs i ≡ Some x → slice_get xs i ≡ Some y → x ≡ y
 same_element xs i x y e f = let both : Some x ≡ Some y = sym e ∙ f in cc
-
--- where an index has none, it is past the end
-pub past : {X : Type 0} (xs : List X) (i : ℕ) → None ≡ slice_get xs i → length xs ≤ i
-past [] i e = omega arith
-past (x ∷ xs) zero e = absurd cc
-past (x ∷ xs) (suc i) e = omega (arith, past xs i e)
 
 -- the image has more sandboxes than the number of one
 pub within : {bytes : List ℕ} {number : ℕ} {p : Part} → (h : IsSandboxOf bytes number p) → number < length h.parts

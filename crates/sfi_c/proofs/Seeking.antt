@@ -1,10 +1,11 @@
 -- A sandbox that is sought by its number, one sandbox after another.
-use Rattle.std.proofs.Common.{◌≡◌, ◌≢◌, ◌∙◌, ℕ, ◌+◌, ◌-◌, ◌<◌, ◌≤◌, List, [], ◌∷◌, ◌++◌, length, Some, Result, Ok, Err, IfOk, IfErr, refl, sym, ap, arith, append_assoc}
+use Rattle.std.proofs.Common.{◌≡◌, ◌≢◌, ◌∙◌, ℕ, ◌+◌, ◌-◌, ◌<◌, ◌≤◌, List, [], ◌∷◌, ◌++◌, length, Some, Result, Ok, Err, IfOk, IfErr, refl, sym, ap, arith, zero, suc}
 use Rattle.std.specs.Prelude.{take, slice_get}
 use Rattle.std.specs.List.{flat_map}
 use Rattle.std.proofs.Math.Seq.{take-append_seam}
 use Rattle.std.proofs.lemmas.Grind.{flat_map-append}
-use Rattle.std.proofs.lemmas.List.{length-append, length_push}
+use Rattle.std.proofs.lemmas.List.{length-append, length_push, take-append-le}
+use Rattle.std.proofs.lemmas.Option.{slice_get_within}
 use Rattle.sfi_policy.specs.declared.format.Format.{Format}
 use Rattle.sfi_image.specs.declared.cursor.ImageCursor.{ImageCursor}
 use Rattle.sfi_image.specs.declared.cursor.PartView.{PartView}
@@ -20,19 +21,9 @@ use Rattle.sfi_c.specs.private.Lookups.{HasPart, HasFault, IsSaid, said_by}
 use Rattle.sfi_c.proofs.Lookups.{part_said}
 use Rattle.sfi_c.proofs.Places.{length-head}
 
--- of these sandboxes that is the one of the number, and its bytes end there
-pub record IsFoundIn (number : ℕ) (ps : List Part) (v : PartView) (end : ℕ) : Type 0 where
-  pub before : List Part
-  pub one : Part
-  pub after : List Part
-  pub parts_are : ps ≡ before ++ one ∷ after
-  pub number_is : length before ≡ number
-  pub viewed : IsViewOf v one
-  pub end_is : end ≡ 8 + length (flat_map part before) + length (part one)
-
--- it was found there, or there are fewer
+-- of these sandboxes the one of that number was found, and its end; or there are fewer
 abbrev pub IsSought : ℕ → List Part → Result (PartView × ℕ) Lookup → Type 0
-IsSought number ps (Ok f) = IsFoundIn number ps f.0 f.1
+IsSought number ps (Ok f) = (p : Part) × (slice_get ps number ≡ Some p) × IsViewOf f.0 p × (f.1 ≡ sandbox_offset ps number + length (part p))
 IsSought number ps (Err l) = (l ≡ Beyond) × (length ps ≤ number)
 
 -- so far
@@ -56,6 +47,15 @@ begun bytes number n format c h = record {
   sought = (refl, omega arith);
 }
 
+last_one : (xs : List Part) (x : Part) → slice_get (xs ++ x ∷ []) (length xs) ≡ Some x
+last_one [] x = refl
+last_one (y ∷ xs) x = last_one xs x
+
+same_one : (xs : List Part) (x y : Part) (i : ℕ) → slice_get xs i ≡ Some y → slice_get (xs ++ x ∷ []) i ≡ Some y
+same_one [] x y i e = absurd cc
+same_one (z ∷ xs) x y zero e = e
+same_one (z ∷ xs) x y (suc i) e = same_one xs x y i e
+
 module _ (bytes : List ℕ) (number passed : ℕ) (old new : ImageCursor) (r : Result (PartView × ℕ) Lookup) (h : HasSought bytes number passed old r) (p : Part)
     (on : HasPassed bytes h.format h.count (h.parts ++ p ∷ []) new) (falls : length (unread new) < length (unread old)) where
   one_on : {s : Result (PartView × ℕ) Lookup} → IsSought number (h.parts ++ p ∷ []) s → HasSought bytes number (passed + 1) new s
@@ -73,61 +73,39 @@ module _ (bytes : List ℕ) (number passed : ℕ) (old new : ImageCursor) (r : R
   pub found_here : (v : PartView) → IsViewOf v p → passed ≡ number → (left : List ℕ) → left ≡ unread new → HasSought bytes number (passed + 1) new (Ok (v, length bytes - length left))
   found_here v viewed e left left_is =
       let all = passed_bytes bytes h.format h.count (h.parts ++ p ∷ []) new on in
-      one_on (record {
-        before = h.parts;
-        one = p;
-        after = [];
-        parts_are = refl;
-        number_is = sym h.passed_is ∙ e;
-        viewed = viewed;
-        end_is = omega (
-          arith,
-          ap length left_is,
-          ap length all,
-          length-append (head h.format h.count (h.parts ++ p ∷ [])) (unread new),
-          length-head h.format h.count (h.parts ++ p ∷ []),
-          ap length (flat_map-append part h.parts (p ∷ [])),
-          length-append (flat_map part h.parts) (part p ++ []),
-          length-append (part p) [],
-        );
-      })
+      let at : length h.parts ≡ number = sym h.passed_is ∙ e in
+      let front : take number (h.parts ++ p ∷ []) ≡ h.parts = ap (λ (k : ℕ). take k (h.parts ++ p ∷ [])) (sym at) ∙ take-append_seam h.parts (p ∷ []) in
+      one_on (p, ap (slice_get (h.parts ++ p ∷ [])) (sym at) ∙ last_one h.parts p, viewed, omega (
+        arith,
+        ap length left_is,
+        ap length all,
+        ap (λ (l : List Part). length (flat_map part l)) front,
+        length-append (head h.format h.count (h.parts ++ p ∷ [])) (unread new),
+        length-head h.format h.count (h.parts ++ p ∷ []),
+        ap length (flat_map-append part h.parts (p ∷ [])),
+        length-append (flat_map part h.parts) (part p ++ []),
+        length-append (part p) [],
+      ))
 
   -- it isn't
   pub not_here : passed ≢ number → HasSought bytes number (passed + 1) new r
   not_here other = one_on (longer r h.sought)
     where
       longer : (s : Result (PartView × ℕ) Lookup) → IsSought number h.parts s → IsSought number (h.parts ++ p ∷ []) s
-      longer (Ok f) s = record {
-        before = s.before;
-        one = s.one;
-        after = s.after ++ p ∷ [];
-        parts_are = ap (λ (l : List Part). l ++ p ∷ []) s.parts_are ∙ append_assoc s.before (s.one ∷ s.after) (p ∷ []);
-        number_is = s.number_is;
-        viewed = s.viewed;
-        end_is = s.end_is;
-      }
+      longer (Ok f) s =
+          let front = take-append-le number h.parts (p ∷ []) (let lt = slice_get_within h.parts number s.0 s.1 in omega arith) in
+          (s.0, same_one h.parts p s.0 number s.1, s.2, s.3 ∙ ap (λ (l : List Part). 8 + length (flat_map part l) + length (part s.0)) (sym front))
       longer (Err l) s = (s.0, omega (arith, s.1, h.passed_is, length_push h.parts p))
 
 -- all were passed
-middle : (xs : List Part) (x : Part) (ys : List Part) → slice_get (xs ++ x ∷ ys) (length xs) ≡ Some x
-middle [] x ys = refl
-middle (y ∷ xs) x ys = middle xs x ys
-
-pub found : (bytes : List ℕ) (number : ℕ) (ps : List Part) (v : PartView) (end : ℕ) → IsImage bytes ps → IsFoundIn number ps v end
-    → (p : Part) × (h : IsSandboxOf bytes number p) × IsViewOf v p × (end ≡ sandbox_offset h.parts number + length (part p))
-found bytes number ps v end image f =
-    let there : slice_get ps number ≡ Some f.one = ap (λ (l : List Part). slice_get l number) f.parts_are ∙ ap (slice_get (f.before ++ f.one ∷ f.after)) (sym f.number_is) ∙ middle f.before f.one f.after in
-    let front : take number ps ≡ f.before = ap (take number) f.parts_are ∙ ap (λ (k : ℕ). take k (f.before ++ f.one ∷ f.after)) (sym f.number_is) ∙ take-append_seam f.before (f.one ∷ f.after) in
-    (f.one, record { parts = ps; image = image; sandbox_is = there }, f.viewed, f.end_is ∙ ap (λ (l : List Part). 8 + length (flat_map part l) + length (part f.one)) (sym front))
-
 pub sought_said : (bytes : List ℕ) (number : ℕ) (ps : List Part) (r : Result (PartView × ℕ) Lookup) → IsImage bytes ps → IsSought number ps r
     → IsSaid (HasPart bytes number) (IsBeyond bytes number) (HasFault bytes) (said_by r)
-sought_said bytes number ps (Ok f) image s = let p = found bytes number ps f.0 f.1 image s in part_said bytes number Found (p.0, p.1)
+sought_said bytes number ps (Ok f) image s = part_said bytes number Found (s.0, record { parts = ps; image = image; sandbox_is = s.1 })
 sought_said bytes number ps (Err l) image s = rw (s.0) (part_said bytes number Beyond (ps, image, s.1))
 
 pub sought_found : (bytes : List ℕ) (number : ℕ) (ps : List Part) (r : Result (PartView × ℕ) Lookup) → IsImage bytes ps → IsSought number ps r
     → IfOk r (λ f. (p : Part) × (h : IsSandboxOf bytes number p) × IsViewOf f.0 p × (f.1 ≡ sandbox_offset h.parts number + length (part p)))
-sought_found bytes number ps (Ok f) image s = found bytes number ps f.0 f.1 image s
+sought_found bytes number ps (Ok f) image s = (s.0, record { parts = ps; image = image; sandbox_is = s.1 }, s.2, s.3)
 sought_found bytes number ps (Err l) image s = tt
 
 pub sought_missing : (number : ℕ) (ps : List Part) (r : Result (PartView × ℕ) Lookup) → IsSought number ps r → IfErr r (λ l. l ≢ Found)

@@ -1,5 +1,5 @@
 -- What a cursor has read after each step, and what it hands out.
-use Rattle.sfi_image.proofs.Prelude.{◌≡◌, ◌≢◌, ℕ, zero, suc, ◌+◌, ◌*◌, ◌<◌, ◌≤◌, ◌-◌, List, [], ◌∷◌, ◌++◌, length, take, drop, take_all, length-drop, drop-drop, part, Some, refl, sym, ap, ◌∙◌, subst, arith, append_assoc, inl, inr, eqb_tells, All, All-head, All-tail, All-push, None, length_push, take_more, Result, Ok, Err, flat_map, slice_get, ne_eqb, eq-eqb, length-append, append-nil, Format, Gate, Fields, LayoutFault, Short, Trailing, Part, fields_of, number, fields, gate, AreFieldWords, AreGateWords, AreOf, IsImage, IsFault, Front, front, head, want_of, IsLess, part_of, after_parts, after_init, after_code, after_gates, HasFaultWhateverFollows, AfterCount, InGates, InCode, InInit, Whole, ReaderState, StandsFor, MayTake}
+use Rattle.sfi_image.proofs.Prelude.{◌≡◌, ◌≢◌, ℕ, zero, suc, ◌+◌, ◌*◌, ◌<◌, ◌≤◌, ◌-◌, List, [], ◌∷◌, ◌++◌, length, take, drop, take_all, length-drop, drop-drop, part, Some, refl, sym, ap, ◌∙◌, subst, arith, append_assoc, inl, inr, eqb_tells, All, All-head, All-tail, All-push, None, length_push, get_or_push, take_more, Result, Ok, Err, flat_map, slice_get, ne_eqb, eq-eqb, length-append, append-nil, Format, Gate, Fields, LayoutFault, Short, Trailing, Part, fields_of, number, fields, gate, AreFieldWords, AreGateWords, IsImage, IsFault, Front, front, head, want_of, IsLess, part_of, after_parts, after_init, after_code, after_gates, HasFaultWhateverFollows, AfterCount, InGates, InCode, InInit, Whole, ReaderState, StandsFor, MayTake}
 use Rattle.std.proofs.lemmas.Option.{slice_get_within, get_or_from_slice_get}
 use Rattle.std.proofs.Math.Seq.{take-append_seam}
 use Rattle.sfi_image.specs.declared.cursor.ImageCursor.{ImageCursor}
@@ -240,14 +240,15 @@ one_gate_more p gs g h e =
       most = omega (arith, len);
     }
 
+-- where an index has none, it is past the end
+pub past : {X : Type 0} (xs : List X) (i : ℕ) → None ≡ slice_get xs i → length xs ≤ i
+past [] i e = omega arith
+past (x ∷ xs) zero e = absurd cc
+past (x ∷ xs) (suc i) e = omega (arith, past xs i e)
+
 -- all of them, where there is no next one
 pub all_first : (p : Part) (gs : List Gate) → AreFirstGates p gs → None ≡ slice_get p.gates (length gs) → gs ≡ p.gates
 all_first p gs h e = h.front ∙ take_all (length gs) p.gates (past p.gates (length gs) e)
-  where
-    past : (xs : List Gate) (i : ℕ) → None ≡ slice_get xs i → length xs ≤ i
-    past [] i e = omega arith
-    past (x ∷ xs) zero e = absurd cc
-    past (x ∷ xs) (suc i) e = omega (arith, past xs i e)
 
 -- the sandbox that a view and these gates make
 abbrev with_gates : PartView → Format → List Gate → Part
@@ -259,8 +260,5 @@ part_again v p gs h e = rw (h.fields_are, e, h.code_is, h.init_is) refl
 
 -- it has the image's format
 pub last_format : (bytes : List ℕ) (format : Format) (n : ℕ) (ps : List Part) (p : Part) (c : ImageCursor) → HasPassed bytes format n (ps ++ p ∷ []) c → p.format ≡ format
-last_format bytes format n ps p c h = last ps h.one_format
-  where
-    last : (ps : List Part) → AreOf format (ps ++ p ∷ []) → p.format ≡ format
-    last [] are = All-head (λ (q : Part). q.format ≡ format) p [] are
-    last (q ∷ ps) are = last ps (All-tail (λ (q : Part). q.format ≡ format) q (ps ++ p ∷ []) are)
+last_format bytes format n ps p c h =
+    subst (λ (q : Part). q.format ≡ format) (get_or_push ps p p (length ps) refl) (h.one_format (length ps) p (omega (arith, length_push ps p)))

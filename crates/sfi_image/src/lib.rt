@@ -39,9 +39,7 @@ pub use laws::{front_ends, one_reading, some_reading};
 pub use layout_reader::LayoutReader;
 pub use part::{Gate, SandboxPart};
 pub use reader_parts::ReaderParts;
-pub use reading::{
-    FIELDS_BYTES, GATE_BYTES, NUMBER_BYTES, fields_at, gate_at, number_at, parse_image,
-};
+pub use reading::parse_image;
 pub use reserved::Reserved;
 pub use sfi_policy::Format;
 pub use source::{ByteSource, ReadFault, Reading};

@@ -20,17 +20,17 @@ use std::alloc::Global;
 
 pub(crate) const MAGIC_BYTES: usize = 4;
 
-/// How many bytes a number has.
-pub const NUMBER_BYTES: usize = 4;
+// How many bytes a number has.
+pub(crate) const NUMBER_BYTES: usize = 4;
 
-/// How many bytes the seven fields of a sandbox have.
-pub const FIELDS_BYTES: usize = 28;
+// How many bytes the seven fields of a sandbox have.
+pub(crate) const FIELDS_BYTES: usize = 28;
 
-/// How many bytes a gate has.
-pub const GATE_BYTES: usize = 8;
+// How many bytes a gate has.
+pub(crate) const GATE_BYTES: usize = 8;
 
-/// The number at the front, and the bytes after it.
-pub fn number_at(bytes: &[u8]) -> (u32, &[u8])
+// The number at the front, and the bytes after it.
+pub(crate) fn number_at(bytes: &[u8]) -> (u32, &[u8])
     requires { NUMBER_BYTES ≤ length bytes.now }
     ensures front { bytes.now ≡ number result.0 ++ result.1.now }
     ensures word { IsWord result.0 }
@@ -40,8 +40,8 @@ pub fn number_at(bytes: &[u8]) -> (u32, &[u8])
     (LittleEndian::read_u32(front), rest)
 }
 
-/// The seven fields at the front, and the bytes after them.
-pub fn fields_at(format: Format, bytes: &[u8]) -> (Fields, &[u8])
+// The seven fields at the front, and the bytes after them.
+pub(crate) fn fields_at(format: Format, bytes: &[u8]) -> (Fields, &[u8])
     requires { FIELDS_BYTES ≤ length bytes.now }
     ensures front { bytes.now ≡ fields result.0 ++ result.1.now }
     ensures words { AreFieldWords result.0 }
@@ -68,8 +68,8 @@ pub fn fields_at(format: Format, bytes: &[u8]) -> (Fields, &[u8])
     (fields, rest)
 }
 
-/// The gate at the front, and the bytes after it.
-pub fn gate_at(bytes: &[u8]) -> (Gate, &[u8])
+// The gate at the front, and the bytes after it.
+pub(crate) fn gate_at(bytes: &[u8]) -> (Gate, &[u8])
     requires { GATE_BYTES ≤ length bytes.now }
     ensures front { bytes.now ≡ gate result.0 ++ result.1.now }
     ensures words { AreGateWords result.0 }
