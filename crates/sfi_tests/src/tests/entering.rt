@@ -18,16 +18,23 @@ fn smallest_world(rt: &impl Abort, alloc: Global) -> Result<World<Segments>, Fai
     Ok(World::load(alloc, &accepted, Segments::new(alloc))?)
 }
 
+// One sandbox, which has taken no step.
+fn is_fresh(world: &World<Segments>) -> bool {
+    let is_first = match world.cpu(0) {
+        Some(cpu) => cpu.pc() == 0x0100_0000 && cpu.reg(Reg::numbered(27)) == 255,
+        None => false,
+    };
+    world.len() == 1
+        && world.status(0) == Some(Status::Ready)
+        && world.steps(0) == Some(0)
+        && world.data_region(0) == Some(REGION)
+        && is_first
+}
+
 #[test]
 fn a_world_before_its_first_turn(rt: HostRuntime) -> Result<(), Fail> {
     let world = smallest_world(&rt, rt.alloc())?;
-    assert_eq!(rt; world.len(), 1);
-    assert_eq!(rt; world.status(0), Some(Status::Ready));
-    assert_eq!(rt; world.steps(0), Some(0));
-    assert_eq!(rt; world.data_region(0), Some(REGION));
-    let cpu = world.cpu(0).expect(&rt, "a sandbox");
-    assert_eq!(rt; cpu.pc(), 0x0100_0000);
-    assert_eq!(rt; cpu.reg(Reg::numbered(27)), 255);
+    assert!(rt; is_fresh(&world));
     Ok(())
 }
 
@@ -64,45 +71,66 @@ const TURNS: &[Turn] = &[
     },
 ];
 
+// The sandbox has trapped at this address, and has taken no step.
+fn has_trapped(world: &World<Segments>, address: u32) -> bool {
+    world.status(0) == Some(Status::Trapped(Cause::Break, address)) && world.steps(0) == Some(0)
+}
+
 #[test]
 fn the_smallest_image_traps(rt: HostRuntime) -> Result<(), Fail> {
     let mut console = Console::new(rt.alloc(), 1, &[])?;
     let mut world = smallest_world(&rt, rt.alloc())?;
     assert_eq!(rt; world.run_plan(TURNS, &mut console), RunAnswer::Done);
     world.stays_safe();
-    let trapped = Status::Trapped(Cause::Break, 0x0100_0000);
-    assert_eq!(rt; world.status(0), Some(trapped));
-    assert_eq!(rt; world.steps(0), Some(0));
+    assert!(rt; has_trapped(&world, 0x0100_0000));
     let memory = world.into_memory();
-    assert_eq!(rt; memory.load(0x0100_0000, Width::Four), Some(0x0010_0073));
-    assert_eq!(rt; memory.load(DATA - 1, Width::One), None);
+    let first = memory.load(0x0100_0000, Width::Four);
+    assert_eq!(rt;
+        (first, memory.load(DATA - 1, Width::One)),
+        (Some(0x0010_0073), None)
+    );
     Ok(())
+}
+
+// The world knows no sandbox of that number.
+fn knows_none(world: &World<Segments>, sandbox: u32) -> bool {
+    world.status(sandbox) == None
+        && world.steps(sandbox) == None
+        && world.data_region(sandbox) == None
+        && world.data_byte(sandbox, DATA) == None
+        && world.cpu(sandbox).is_none()
 }
 
 #[test]
 fn no_sandbox_is_there(rt: HostRuntime) -> Result<(), Fail> {
     let world = smallest_world(&rt, rt.alloc())?;
-    assert_eq!(rt; world.status(1), None);
-    assert_eq!(rt; world.steps(1), None);
-    assert_eq!(rt; world.data_region(1), None);
-    assert_eq!(rt; world.data_byte(1, DATA), None);
-    assert!(rt; world.cpu(1).is_none());
+    assert!(rt; knows_none(&world, 1));
     Ok(())
+}
+
+// Three bytes are written at the data's end, and nothing before or past the data, nor elsewhere.
+fn is_written(world: &mut World<Segments>) -> bool {
+    world.write(0, DATA + 253, &[1, 2, 3])
+        && !world.write(0, DATA + 254, &[4, 5, 6])
+        && !world.write(0, DATA - 1, &[4])
+        && !world.write(1, DATA, &[4])
+}
+
+// The same of reading. What isn't read stays as it was.
+fn is_read(world: &World<Segments>) -> bool {
+    let mut bytes = [9, 9, 9];
+    !world.read(0, DATA + 254, &mut bytes)
+        && !world.read(1, DATA, &mut bytes)
+        && bytes == [9, 9, 9]
+        && world.read(0, DATA + 253, &mut bytes)
+        && bytes == [1, 2, 3]
 }
 
 #[test]
 fn data_are_read_and_written_from_outside(rt: HostRuntime) -> Result<(), Fail> {
     let mut world = smallest_world(&rt, rt.alloc())?;
-    let mut bytes = [9, 9, 9];
-    assert!(rt; world.write(0, DATA + 253, &[1, 2, 3]));
-    assert!(rt; !world.write(0, DATA + 254, &[4, 5, 6]));
-    assert!(rt; !world.write(0, DATA - 1, &[4]));
-    assert!(rt; !world.write(1, DATA, &[4]));
-    assert!(rt; !world.read(0, DATA + 254, &mut bytes));
-    assert!(rt; !world.read(1, DATA, &mut bytes));
-    assert_eq!(rt; bytes, [9, 9, 9]);
-    assert!(rt; world.read(0, DATA + 253, &mut bytes));
-    assert_eq!(rt; bytes, [1, 2, 3]);
+    assert!(rt; is_written(&mut world));
+    assert!(rt; is_read(&world));
     Ok(())
 }
 
@@ -117,22 +145,26 @@ fn turned(world: &mut World<Segments>, alloc: Global) -> Result<Option<Status>, 
     Ok(world.status(0))
 }
 
+const ARGUMENTS: [u32; 8] = [11, 12, 13, 14, 15, 16, 17, 18];
+
+// The sandbox is entered at a bundle's start of its code alone, and no other sandbox is.
+fn is_entered(world: &mut World<Segments>) -> bool {
+    !world.enter(0, 0x0100_0008, &ARGUMENTS)
+        && !world.enter(0, 0x0100_0100, &ARGUMENTS)
+        && !world.enter(1, 0x0100_0010, &ARGUMENTS)
+        && world.status(0) == Some(Status::Trapped(Cause::Break, 0x0100_0000))
+        && world.enter(0, 0x0100_0010, &ARGUMENTS)
+        && world.status(0) == Some(Status::Ready)
+        && world.cpu(0).is_some_and(|cpu| cpu.pc() == 0x0100_0010)
+}
+
 #[test]
 fn a_sandbox_is_entered_again(rt: HostRuntime) -> Result<(), Fail> {
     let alloc = rt.alloc();
     let mut world = smallest_world(&rt, alloc)?;
-    let arguments = [11, 12, 13, 14, 15, 16, 17, 18];
-    assert!(rt; !world.enter(0, 0x0100_0010, &arguments));
-    let trapped = Status::Trapped(Cause::Break, 0x0100_0000);
-    assert_eq!(rt; turned(&mut world, alloc)?, Some(trapped));
-    assert!(rt; !world.enter(0, 0x0100_0008, &arguments));
-    assert!(rt; !world.enter(0, 0x0100_0100, &arguments));
-    assert!(rt; !world.enter(1, 0x0100_0010, &arguments));
-    assert_eq!(rt; world.status(0), Some(trapped));
-    assert!(rt; world.enter(0, 0x0100_0010, &arguments));
-    assert_eq!(rt; world.status(0), Some(Status::Ready));
-    let cpu = world.cpu(0).expect(&rt, "a sandbox");
-    assert_eq!(rt; cpu.pc(), 0x0100_0010);
+    assert!(rt; !world.enter(0, 0x0100_0010, &ARGUMENTS));
+    turned(&mut world, alloc)?;
+    assert!(rt; is_entered(&mut world));
     let again = Status::Trapped(Cause::Break, 0x0100_0010);
     assert_eq!(rt; turned(&mut world, alloc)?, Some(again));
     Ok(())
@@ -159,7 +191,7 @@ fn an_entered_sandbox_has_fresh_registers(rt: HostRuntime) -> Result<(), Fail> {
     let alloc = rt.alloc();
     let mut world = smallest_world(&rt, alloc)?;
     turned(&mut world, alloc)?;
-    assert!(rt; world.enter(0, 0x0100_0010, &[11, 12, 13, 14, 15, 16, 17, 18]));
+    assert!(rt; world.enter(0, 0x0100_0010, &ARGUMENTS));
     let cpu = world.cpu(0).expect(&rt, "a sandbox");
     for (number, value) in REGISTERS {
         let register = Reg::new(*number).expect(&rt, "a register");

@@ -2,26 +2,19 @@
 use super::super::programs::{HI, HI_IMAGE, NAMES, READS, READS_IMAGE, YIELDS, YIELDS_IMAGE};
 use super::sources;
 
-// The texts by their names.
-const TEXTS: &[(&str, &str)] = &[
+// The texts by their names. One table of all of them would take the prover long.
+
+const PROGRAMS: &[(&str, &str)] = &[
     ("hi", HI),
     ("image of hi", HI_IMAGE),
     ("yields", YIELDS),
     ("image of yields", YIELDS_IMAGE),
     ("reads", READS),
     ("image of reads", READS_IMAGE),
-    ("sandbox", SANDBOX),
-    ("two sandboxes", TWO_SANDBOXES),
-    ("64 gates", GATES),
-    ("digits of 64 gates", GATE_DIGITS),
     ("names", NAMES),
-    ("jumps", JUMPS),
-    ("stacked", STACKED),
-    ("post to 0", POST_TO_0),
-    ("post to 1", POST_TO_1),
-    ("take", TAKE),
-    ("a neighbour", NEIGHBOUR),
-    ("statuses", STATUSES),
+];
+
+const EXAMPLES: &[(&str, &str)] = &[
     ("hi.s", sources::HI),
     ("echo.s", sources::ECHO),
     ("checksum.s", sources::CHECKSUM),
@@ -32,14 +25,45 @@ const TEXTS: &[(&str, &str)] = &[
     ("sort.s", sources::SORT),
 ];
 
-/// The text of that name.
-pub(super) fn text_named(name: &str) -> Option<&'static str> {
-    for (known, text) in TEXTS {
+const OTHERS: &[(&str, &str)] = &[
+    ("sandbox", SANDBOX),
+    ("two sandboxes", TWO_SANDBOXES),
+    ("64 gates", GATES),
+    ("digits of 64 gates", GATE_DIGITS),
+    ("jumps", JUMPS),
+    ("stacked", STACKED),
+    ("post to 0", POST_TO_0),
+    ("post to 1", POST_TO_1),
+    ("take", TAKE),
+    ("a neighbour", NEIGHBOUR),
+    ("statuses", STATUSES),
+];
+
+// The text of that name in a table.
+fn named_in(texts: &[(&str, &'static str)], name: &str) -> Option<&'static str> {
+    for (known, text) in texts {
         if *known == name {
             return Some(*text);
         }
     }
     None
+}
+
+fn program(name: &str) -> Option<&'static str> {
+    named_in(PROGRAMS, name)
+}
+
+fn example(name: &str) -> Option<&'static str> {
+    named_in(EXAMPLES, name)
+}
+
+fn other(name: &str) -> Option<&'static str> {
+    named_in(OTHERS, name)
+}
+
+/// The text of that name.
+pub(super) fn text_named(name: &str) -> Option<&'static str> {
+    program(name).or(example(name)).or(other(name))
 }
 
 // A sandbox that returns.
