@@ -5,7 +5,7 @@ use Rattle.sfi_image.specs.declared.fields.Fields.{Fields}
 use Rattle.sfi_image.specs.declared.span.Span.{Span}
 use Rattle.sfi_image.specs.declared.want.Want.{Want}
 use Rattle.sfi_image.specs.declared.want.Want.TheVariants as wants
-use Rattle.sfi_check.proofs.Tallying.{field_tallies, bundle_tallies, init_tallies, fault_onwards, Adds}
+use Rattle.sfi_check.proofs.Tallying.{field_tallies, init_tallies, fault_onwards}
 use Rattle.sfi_image.proofs.Facts.{whole_bundles}
 
 code_test : (before : List Span) (f : Fields) → IsFirstFault before f field_tests None → IsCodeRegion f.format f.code_base f.code_size
@@ -63,9 +63,6 @@ init_some (Whole ps) len w right = absurd cc
 pub field_taken : (x : Front) (len : ℕ) (xs : List ℕ) → wants.Field len ≡ want_of x → len ≤ length xs → IsLengthOf (length (take len xs)) (want_of x)
 field_taken x len xs w le = let same : length (take len xs) ≡ len = omega (arith, length-take len xs) in subst (λ (v : Want). IsLengthOf (length (take len xs)) v) w same
 
-pub bundle_taken : (x : Front) (b : BundlePlace) (s : List ℕ) → want_at b ≡ want_of x → length s ≡ 16 → IsLengthOf (length s) (want_of x)
-bundle_taken x b s w same = subst (λ (v : Want). IsLengthOf (length s) v) w same
-
 pub init_taken : (x : Front) (most len : ℕ) (xs : List ℕ) → wants.Init most ≡ want_of x → 1 ≤ len → len ≤ most → len ≤ length xs → IsLengthOf (length (take len xs)) (want_of x)
 init_taken x most len xs w some le room =
     let same : length (take len xs) ≡ len = omega (arith, length-take len xs) in
@@ -100,19 +97,6 @@ init_step old new t so_far s len wanted leads falls h =
       bytes_are = joined so_far h.at s l.to h.bytes_are l.bytes;
       tallies = init_tallies t h.at s l.to len (wanted h.at h.stands) h.stands.right l.follows h.tallies;
       few = omega (arith, h.few);
-    }
-
-pub bundle_step : {T U : List Finding → Type 0} (old new : ReaderState) (t u : Tally) (so_far s : List ℕ) (b : BundlePlace) (found : List Finding)
-    → ((x : Front) → StandsFor old x → want_at b ≡ want_of x) → length s ≡ 16 → AreBundleFindings b s found → Adds t u b.sandbox 1 found
-    → ((x : Front) → StandsFor old x → Leads x s new) → left new < left old → ((before : List Finding) → T before → U (before ++ found)) → IsSoFar T old t so_far → IsSoFar U new u (so_far ++ s)
-bundle_step old new t u so_far s b found wanted len are adds leads falls on h =
-    let l = leads h.at h.stands in
-    record {
-      at = l.to;
-      stands = l.stands;
-      bytes_are = joined so_far h.at s l.to h.bytes_are l.bytes;
-      tallies = bundle_tallies t u h.at s l.to b found (wanted h.at h.stands) len l.follows are adds on h.tallies;
-      few = omega (arith, h.few, adds.bundles);
     }
 
 pub step_fault : {T : List Finding → Type 0} (old : ReaderState) (t : Tally) (so_far s rest : List ℕ) (len number : ℕ) → s ≡ take len rest

@@ -6,7 +6,7 @@ pub mod OneVerdict
 pub mod Verdicts
 pub mod Tallying
 pub mod Leading
-pub mod Blocks
+pub mod Stretches
 pub mod Chains
 pub mod Judging
 pub mod Pieces

@@ -10,7 +10,7 @@ unfoldable pub use Rattle.sfi_policy.specs.Formats.{magic}
 pub use Rattle.sfi_policy.specs.declared.format.Format.{Format}
 pub use Rattle.sfi_policy.specs.declared.format.Format.TheVariants.{Sfi1, Sfi2}
 pub use Rattle.sfi_image.specs.Faults.{IsFault, number_of}
-pub use Rattle.sfi_image.specs.Fronts.{Front, ArePlain, Follows, want_of, IsLess, HasFaultNumberWhateverFollows, front, IsRightFront, IsLengthOf, part_of, after_parts, after_init, after_code, after_gates}
+pub use Rattle.sfi_image.specs.Fronts.{Front, AreBundlesWithin, IsStretchLength, Follows, want_of, IsLess, HasFaultNumberWhateverFollows, front, IsRightFront, IsLengthOf, part_of, after_parts, after_init, after_code, after_gates}
 pub use Rattle.sfi_image.specs.Fronts.Front.{Empty, AfterMagic, AfterCount, InGates, InCode, InInit, Whole}
 pub use Rattle.sfi_image.specs.Gates.{is_gate_of}
 pub use Rattle.sfi_image.specs.Keeping.{ReaderState, StandsFor, Leads, left, left_most}
@@ -31,5 +31,7 @@ pub use Rattle.sfi_check.specs.Verdict.{HasFindings, bundle_count}
 pub use Rattle.sfi_safety.specs.Clean.{IsAccepted}
 pub use Rattle.sfi_check.specs.declared.stream_answer.StreamAnswer.{StreamAnswer}
 pub use Rattle.sfi_check.specs.declared.tally.Tally.{Tally}
-pub use Rattle.sfi_check.specs.Tallies.{AreFindingsSoFar, IsSoFar, Tallies, findings_most, IsCut, AreFindingsWithin}
-pub use Rattle.sfi_check.specs.private.Tallies.{AddsFindings, AreFindingsOfPlain, IsPlainFrom, verdict_of, verdict_by, IsTold, want_at, Goes, LeadsOn}
+pub use Rattle.sfi_check.specs.Tallies.{AreFindingsSoFar, IsSoFar, Tallies, IsCut, AreFindingsWithin}
+pub use Rattle.sfi_scan.specs.Stretches.{findings_most, IsScanned, IsStretch, AreStretchFindings, stretch_place}
+pub use Rattle.sfi_check.specs.private.Counting.{AddsFindings, Counts}
+pub use Rattle.sfi_check.specs.private.Tallies.{verdict_of, verdict_by, IsTold, want_at, Goes, LeadsOn}

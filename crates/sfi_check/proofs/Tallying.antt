@@ -173,25 +173,6 @@ pub same_place : (b : BundlePlace) (sandbox address : ℕ) (format : Format) (ba
     → b ≡ record { sandbox = sandbox; address = address; format = format; code_base = base; code_size = size; listed = listed }
 same_place b sandbox address format base size listed s a f c z l = rw (← s, ← a, ← f, ← c, ← z, ← l) refl
 
-pub bundle_tallies : {T U : List Finding → Type 0} (old new : Tally) (x : Front) (s : List ℕ) (y : Front) (b : BundlePlace) (found : List Finding)
-    → want_at b ≡ want_of x → length s ≡ 16 → Follows x s y → AreBundleFindings b s found
-    → Adds old new b.sandbox 1 found → ((before : List Finding) → T before → U (before ++ found)) → Tallies T old x → Tallies U new y
-bundle_tallies old new Empty s y b found w len h are adds on k = absurd cc
-bundle_tallies old new (AfterMagic kind) s y b found w len h are adds on k = absurd cc
-bundle_tallies old new (AfterCount kind n ps) s y b found w len h are adds on k = absurd cc
-bundle_tallies old new (InGates n ps f gs) s y b found w len h are adds on k = absurd cc
-bundle_tallies old new (InCode n ps f gs code) s y b found w len h are adds on k =
-    let number : b.sandbox ≡ length ps = cc in
-    let at : b.address ≡ f.code_base + length code = cc in
-    let of : b.format ≡ f.format = cc in
-    let base : b.code_base ≡ f.code_base = cc in
-    let size : b.code_size ≡ f.code_size = cc in
-    let l : b.listed ≡ is_gate_of gs (f.code_base + length code) = cc in
-    let is = same_place b (length ps) (f.code_base + length code) f.format f.code_base f.code_size (is_gate_of gs (f.code_base + length code)) number at of base size l in
-    rw (h) (code_tallies old new n ps f gs code s 1 found (omega arith) len (λ here so_far. bundle_more (length ps) f gs code s b here found so_far len is are) (subst (λ (j : ℕ). Adds old new j 1 found) number adds) on k)
-bundle_tallies old new (InInit n ps f gs code init) s y b found w len h are adds on k = absurd cc
-bundle_tallies old new (Whole ps) s y b found w len h are adds on k = absurd cc
-
 -- ---- faults
 
 -- a fault of the bytes is one of more bytes

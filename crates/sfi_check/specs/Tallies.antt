@@ -9,6 +9,7 @@ use Rattle.sfi_image.specs.Fronts.Front.{Empty, AfterMagic, AfterCount, InGates,
 use Rattle.sfi_image.specs.Keeping.{ReaderState, StandsFor, left, left_most}
 use Rattle.sfi_rules.specs.declared.finding.Finding.{Finding}
 use Rattle.sfi_rules.specs.Findings.{AreFindingsOfFirst, AreImageFindings}
+use Rattle.sfi_scan.specs.Stretches.{findings_most}
 use Rattle.sfi_check.specs.declared.tally.Tally.{Tally}
 use Rattle.sfi_check.specs.Verdict.{bundle_count}
 
@@ -59,10 +60,6 @@ front_sandboxes (InGates n ps f gs) = length ps
 front_sandboxes (InCode n ps f gs code) = cond (length code == 0) (length ps) (length ps + 1)
 front_sandboxes (InInit n ps f gs code init) = length ps + 1
 front_sandboxes (Whole ps) = length ps
-
--- a bundle has at most so many findings: one at each instruction, and each has two bytes at least
-abbrev pub findings_most : ℕ
-findings_most = bundle_size / 2
 
 -- the tally is that of the front, and `told` holds of its findings
 pub record Tallies (told : List Finding → Type 0) (t : Tally) (x : Front) : Type 0 where

@@ -8,7 +8,6 @@ ghost use Rattle.sfi_check.specs.Tallies.{IsSoFar, IsCut};
 ghost use Rattle.sfi_check.specs.Feeds.{IsFed, IsFedTelling};
 ghost use Rattle.sfi_check.specs.private.Feeds.{IsFedOn, left_to_feed};
 
-use crate::code::BUNDLE_BY_BUNDLE;
 use crate::piece::{take_piece, verdict};
 use crate::progress::Progress;
 use crate::sink::Nowhere;
@@ -16,7 +15,7 @@ use crate::stream_answer::StreamAnswer;
 use crate::tally::Tally;
 use sfi_image::{LayoutFault, LayoutReader, Want};
 use sfi_policy::BUNDLE_BYTES;
-use sfi_scan::FindingSink;
+use sfi_scan::{BUNDLE_BY_BUNDLE, FindingSink};
 
 /// How many bytes are held at most. What comes next of an image has at most 28 bytes, and a piece of
 /// it is held only as long as it isn't whole.

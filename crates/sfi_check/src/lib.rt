@@ -9,7 +9,6 @@
 #![tactic(auto)]
 
 mod accepted;
-mod code;
 mod conversion;
 mod feed;
 pub mod laws;

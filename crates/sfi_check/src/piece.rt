@@ -1,22 +1,56 @@
 //! How far a piece of an image leads on.
 ghost use Rattle.std.specs.Prelude.{◌≡◌, ℕ, List};
+ghost use Rattle.sfi_image.specs.Fronts.{Front, want_of};
+ghost use Rattle.sfi_image.specs.Keeping.{StandsFor};
 ghost use Rattle.sfi_check.specs.Tallies.{IsSoFar};
-ghost use Rattle.sfi_check.specs.private.Tallies.{Steps, Goes, verdict_of};
+ghost use Rattle.sfi_check.specs.private.Tallies.{Steps, Goes, verdict_of, want_at};
 
-use crate::code::take_code;
 use crate::progress::{Progress, Step};
+use crate::sink::scan_counted;
 use crate::stream_answer::StreamAnswer;
 use crate::tally::Tally;
 use sfi_image::{LayoutReader, Want};
-use sfi_scan::{BundleFindings, BundlePlace, FindingSink};
+use sfi_policy::BUNDLE_BYTES;
+use sfi_scan::{BundlePlace, FindingSink};
 
-/// Takes the bytes that come next, if they are there, and scans them where they are a bundle.
+/// Takes the bundles that come next, as many as are there up to the next gate, and scans them.
+#[inline(always)]
+fn take_code<F: FindingSink, const BLOCKS: bool>(
+    reader: &mut LayoutReader,
+    tally: &mut Tally,
+    sink: &mut F,
+    place: &BundlePlace,
+    rest: &[u8],
+) -> Step
+    requires so_far { (first : F) × (so_far : List ℕ)
+        × IsSoFar (λ found. F.takes first found sink.old) reader.old tally.old so_far }
+    requires next { (x : Front) → StandsFor reader.old x → want_at place.now ≡ want_of x }
+    ensures { (first : F) (so_far : List ℕ)
+        → IsSoFar (λ found. F.takes first found sink.old) reader.old tally.old so_far
+        → Steps (λ found. F.takes first found sink.new)
+        reader.old reader.new tally.new so_far rest.now result }
+{
+    let len = reader
+        .stretch_length()
+        .min(rest.len() - rest.len() % BUNDLE_BYTES);
+    if len == 0 {
+        return Step::Short;
+    }
+    let code = &rest[..len];
+    if let Some(number) = reader.take(code) {
+        return Step::Fault(number);
+    }
+    tally.add_bundles(place.sandbox, (len / BUNDLE_BYTES) as u32);
+    scan_counted::<F, BLOCKS>(place, code, tally, sink);
+    Step::Took(len)
+}
+
+/// Takes the bytes that come next, if they are there, and scans them where they are code.
 #[inline(always)]
 fn step<F: FindingSink, const BLOCKS: bool>(
     reader: &mut LayoutReader,
     tally: &mut Tally,
     sink: &mut F,
-    findings: &mut BundleFindings,
     rest: &[u8],
 ) -> Step
     requires { (first : F) × (so_far : List ℕ)
@@ -52,7 +86,7 @@ fn step<F: FindingSink, const BLOCKS: bool>(
                 code_size,
                 listed,
             };
-            take_code::<F, BLOCKS>(reader, tally, sink, findings, &place, rest)
+            take_code::<F, BLOCKS>(reader, tally, sink, &place, rest)
         }
         Want::Init(most) => {
             if rest.is_empty() {
@@ -83,10 +117,9 @@ pub(crate) fn take_piece<F: FindingSink, const BLOCKS: bool>(
         → Goes (λ found. F.takes first found sink.new)
         reader.old reader.new tally.new so_far piece.now result }
 {
-    let mut findings = BundleFindings::new();
     let mut at = 0;
     loop {
-        match step::<F, BLOCKS>(reader, tally, sink, &mut findings, &piece[at..]) {
+        match step::<F, BLOCKS>(reader, tally, sink, &piece[at..]) {
             Step::Took(len) => at += len,
             Step::Short => return Progress::More(at),
             Step::Whole => return Progress::Whole(at),

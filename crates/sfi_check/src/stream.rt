@@ -4,12 +4,11 @@ ghost use Rattle.sfi_image.specs.Sources.{Streams};
 ghost use Rattle.sfi_rules.specs.declared.finding.Finding.{Finding};
 ghost use Rattle.sfi_check.specs.Streams.{IsVerdictOn, AreHandedOver};
 
-use crate::code::IN_BLOCKS;
 use crate::feed::Feed;
 use crate::sink::Nowhere;
 use crate::stream_answer::StreamAnswer;
 use sfi_image::{ByteSource, ReadFault};
-use sfi_scan::FindingSink;
+use sfi_scan::{FindingSink, IN_BLOCKS};
 
 /// How many bytes are read at a time, at most.
 const PIECE: usize = 4096;

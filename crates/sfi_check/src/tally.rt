@@ -2,8 +2,7 @@
 ghost use Rattle.std.specs.Prelude.{◌≡◌, ◌+◌, ◌<◌, ◌≤◌, ◌^◌, ◌++◌, List, length, slice_get};
 ghost use Rattle.sfi_policy.specs.Limits.{sandboxes_most};
 ghost use Rattle.sfi_rules.specs.declared.finding.Finding.{Finding};
-ghost use Rattle.sfi_check.specs.Tallies.{findings_most};
-ghost use Rattle.sfi_check.specs.private.Tallies.{AddsFindings};
+ghost use Rattle.sfi_check.specs.private.Counting.{Counts};
 
 use sfi_scan::{BundleFindings, Finding};
 
@@ -49,13 +48,11 @@ impl Tally {
     /// Adds the findings of a bundle, which come after those so far.
     #[inline]
     pub(crate) fn add_findings(&mut self, found: &BundleFindings)
-        requires { self.old.count + findings_most < 2 ^ 32 }
-        ensures added { AddsFindings self.old self.new found.now }
-        ensures few { length found.now ≤ findings_most }
+        ensures { Counts self.old self.new found.now }
     {
         let count = found.count() as u32;
         if count > 0 {
-            self.count += count;
+            self.count = self.count.wrapping_add(count);
             self.first = first_of(self.first, found);
         }
     }

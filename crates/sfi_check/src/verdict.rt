@@ -11,13 +11,12 @@ ghost use Rattle.sfi_check.specs.Verdict.{HasFindings, AnswersLayout, AnswersFin
 ghost use Rattle.sfi_safety.specs.Clean.{IsAccepted};
 
 use crate::accepted::Accepted;
-use crate::code::IN_BLOCKS;
 use crate::feed::Feed;
 use crate::list::FindingList;
 use crate::refusal::Refusal;
 use crate::stream_answer::StreamAnswer;
 use sfi_image::parse_image;
-use sfi_scan::FindingSink;
+use sfi_scan::{FindingSink, IN_BLOCKS};
 use std::alloc::Global;
 
 /// Accepts the bytes, or says why not, and hands their findings to the sink, by sandbox and then by

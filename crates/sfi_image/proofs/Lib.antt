@@ -20,9 +20,8 @@ pub mod Following
 pub mod Standing
 pub mod Steps
 pub mod Places
-pub mod Plain
+pub mod Stretches
 pub mod Ending
-pub mod Parsing
 pub mod CursorSteps
 pub mod Second
 pub mod Facts

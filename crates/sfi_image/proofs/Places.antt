@@ -148,5 +148,8 @@ pub may_take : (r : ReaderState) (x : Front) (len : ℕ) → StandsFor r x → I
 may_take r (InInit n ps f gs code init) len h e =
     let room : len + length init ≤ f.init_len = omega (arith, e.0, e.1) in
     rw (h.kept.0, h.kept.1.fields, h.kept.2) (e.0, room)
+may_take r (InCode n ps f gs code) len h e =
+    let inside = e.inside in
+    rw (h.kept.0, h.kept.1.head.fields, h.kept.1.code_read) (record { some = e.some; whole = e.whole; inside = omega arith })
 may_take r (Whole ps) len h e = absurd e
 may_take r _ len h e = rw (h.kept.0) e

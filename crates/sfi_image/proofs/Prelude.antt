@@ -16,7 +16,7 @@ pub use Rattle.sfi_policy.specs.declared.format.Format.{Format}
 pub use Rattle.sfi_policy.specs.declared.format.Format.TheVariants.{Sfi1, Sfi2}
 pub use Rattle.sfi_image.specs.Bounded.{IsBounded}
 pub use Rattle.sfi_image.specs.Faults.{IsFault, IsBodyFault, IsPartFault, ArePartsFault, IsCountFault, IsGateShort, IsGateWrong, AreContentsShort}
-pub use Rattle.sfi_image.specs.Fronts.{front, head, IsRightFront, CutShort, Trails, WholeIsImage, Front, IsHead, IsOpened, part_of, after_parts, after_init, after_code, after_gates, Follows, want_of, IsLess, HasFaultWhateverFollows, IsLengthOf, ArePlainNext}
+pub use Rattle.sfi_image.specs.Fronts.{front, head, IsRightFront, CutShort, Trails, WholeIsImage, Front, IsHead, IsOpened, part_of, after_parts, after_init, after_code, after_gates, Follows, want_of, IsLess, HasFaultWhateverFollows, IsLengthOf, AreBundlesWithin, IsLongestStretch, IsStretchLength}
 pub use Rattle.sfi_image.specs.Fronts.Front.{Empty, AfterMagic, AfterCount, InGates, InCode, InInit, Whole}
 pub use Rattle.sfi_image.specs.Gates.{AreGates, is_gate_of}
 pub use Rattle.sfi_image.specs.Images.{IsImage}
@@ -34,4 +34,4 @@ pub use Rattle.sfi_image.specs.declared.fault.LayoutFault.TheVariants.{Count, Sh
 pub use Rattle.sfi_image.specs.declared.fields.Fields.{Fields}
 pub use Rattle.sfi_image.specs.declared.part.Gate.{Gate}
 pub use Rattle.sfi_image.specs.declared.span.Span.{Span}
-pub use Rattle.sfi_image.specs.private.Keeping.{MayTake, next_code, is_first, AreFrom, HasPlain, next_part, next_init, next_gate}
+pub use Rattle.sfi_image.specs.private.Keeping.{MayTake, next_code, is_first, first_or, count_below, next_part, next_init, next_gate}

@@ -1,6 +1,8 @@
 -- What a reader stands for after each step.
-use Rattle.sfi_image.proofs.Prelude.{◌≡◌, ℕ, zero, suc, ◌+◌, ◌*◌, ◌%◌, ◌<◌, ◌≤◌, ◌==◌, Bool, true, false, ◌^◌, List, [], ◌∷◌, ◌++◌, length, map, drop, cond, refl, sym, ap, ◌∙◌, subst, arith, inl, inr, None, eqb_tells, All, AllPairs, eqb-true, eqb-false, ne_eqb, length_push, drop-drop, Format, magic, Gate, Fields, Span, Part, number, AreFieldWords, code_span, spans, spans_of, AreGates, is_gate_of, AreOf, AreRight, IsFirstFault, field_tests, Front, IsHead, IsOpened, IsRightFront, part_of, after_parts, after_init, after_code, after_gates, Follows, Empty, AfterMagic, AfterCount, ReaderState, KeepsHead, KeepsFields, StandsFor, KeepsCode, IsReader, Leads, AreAhead, AreRest, is_one_of, next_part, next_init, next_code, next_gate, is_first}
+use Rattle.sfi_image.proofs.Prelude.{◌≡◌, ℕ, suc, ◌+◌, ◌*◌, ◌%◌, ◌<◌, ◌≤◌, ◌==◌, false, ◌^◌, List, [], ◌∷◌, ◌++◌, length, map, drop, refl, sym, ap, ◌∙◌, subst, arith, inl, inr, None, eqb_tells, All, AllPairs, cases_Bool, ltb-true, ne_eqb, length-drop, length_push, drop-drop, Format, magic, Gate, Fields, Span, Part, number, AreFieldWords, code_span, spans, spans_of, AreGates, is_gate_of, AreOf, AreRight, IsFirstFault, field_tests, Front, IsHead, IsOpened, IsRightFront, part_of, after_parts, after_init, after_code, after_gates, Follows, Empty, AfterMagic, AfterCount, ReaderState, KeepsHead, KeepsFields, StandsFor, KeepsCode, IsReader, Leads, AreAhead, AreRest, is_one_of, next_part, next_init, next_code, next_gate, is_first, count_below}
 use Rattle.std.proofs.Math.Bool.{or-false}
+use Rattle.std.proofs.Math.Dec.{ltb}
+use Rattle.std.proofs.lemmas.Bool.{ltb-false}
 use Rattle.sfi_image.specs.declared.want.Next.TheVariants as next
 use Rattle.sfi_image.proofs.FieldTests.{all_pass}
 use Rattle.sfi_image.proofs.PartLists.{spans_push}
@@ -55,48 +57,43 @@ pub first_is : (at : ℕ) (as' : List ℕ) → AreAhead at as' → is_first as' 
 first_is at [] ahead = refl
 first_is at (g ∷ more) ahead = rw (none_before (g + 16) at more (let low = ahead.0 in omega arith) ahead.2) (sym (or-false (g == at)))
 
-ahead_taken : (at : ℕ) (as' : List ℕ) → is_first as' at ≡ true → AreAhead at as' → AreAhead (at + 16) (drop 1 as')
-ahead_taken at [] e ahead = tt
-ahead_taken at (g ∷ more) e ahead = subst (λ a. AreAhead (a + 16) more) (eqb-true g at e) ahead.2
+-- those ahead of an end, where those below it are passed
+below_passed : (at end : ℕ) (as' : List ℕ) → AreAhead at as' → AreAhead end (drop (count_below end as') as')
+below_passed at end [] ahead = tt
+below_passed at end (g ∷ more) ahead =
+    elim (cases_Bool (ltb g end)) [
+      | inl e ↦ rw (e) (below_passed (g + 16) end more ahead.2)
+      | inr e ↦ rw (e) (ltb-false g end e, ahead.1, ahead.2)
+    ]
 
-ahead_kept : (at : ℕ) (as' : List ℕ) → is_first as' at ≡ false → at % 16 ≡ 0 → AreAhead at as' → AreAhead (at + 16) as'
-ahead_kept at [] e even ahead = tt
-ahead_kept at (g ∷ more) e even ahead =
-    let low = ahead.0 in
-    let other = eqb-false g at e in
-    let low' : at < g = omega arith in
-    (apart at g low' even ahead.1, ahead.1, ahead.2)
+below_same : (end a : ℕ) (as' : List ℕ) → end ≤ a → is_one_of (drop (count_below end as') as') a ≡ is_one_of as' a
+below_same end a [] h = refl
+below_same end a (g ∷ more) h =
+    elim (cases_Bool (ltb g end)) [
+      | inl e ↦ (let low = ltb-true g end e in rw (e, ne_eqb g a (λ f. omega arith)) (below_same end a more h))
+      | inr e ↦ rw (e) refl
+    ]
 
-same_taken : (at a : ℕ) (as' : List ℕ) → is_first as' at ≡ true → at < a → is_one_of (drop 1 as') a ≡ is_one_of as' a
-same_taken at a [] e h = refl
-same_taken at a (g ∷ more) e h = rw (ne_eqb g a (λ f. let same = eqb-true g at e in omega arith)) refl
+below_most : (end : ℕ) (as' : List ℕ) → count_below end as' ≤ length as'
+below_most end [] = omega arith
+below_most end (g ∷ more) =
+    elim (cases_Bool (ltb g end)) [
+      | inl e ↦ rw (e) (let most = below_most end more in omega arith)
+      | inr e ↦ rw (e) (omega arith)
+    ]
 
-some_first : (k : ℕ) (as' : List ℕ) (at : ℕ) → is_first (drop k as') at ≡ true → k + 1 ≤ length as'
-some_first zero [] at e = absurd cc
-some_first zero (g ∷ more) at e = omega arith
-some_first (suc k) [] at e = absurd cc
-some_first (suc k) (g ∷ more) at e = omega (arith, some_first k more at e)
-
--- after the bundle at that address
-pub rest_after : (at : ℕ) (gs : List Gate) (as' : List ℕ) (k : ℕ) → at % 16 ≡ 0 → k ≤ length as' → AreRest at gs (drop k as')
-    → (cond (is_first (drop k as') at) (k + 1) k ≤ length as') × AreRest (at + 16) gs (drop (cond (is_first (drop k as') at) (k + 1) k) as')
-rest_after at gs as' k even le rest = by (is_first (drop k as') at) refl
-  where
-    by : (b : Bool) → is_first (drop k as') at ≡ b → (cond b (k + 1) k ≤ length as') × AreRest (at + 16) gs (drop (cond b (k + 1) k) as')
-    by true e =
-        let one : drop 1 (drop k as') ≡ drop (k + 1) as' = drop-drop 1 k as' in (
-          some_first k as' at e,
-          subst (AreRest (at + 16) gs) one (record {
-            ahead_are = ahead_taken at (drop k as') e rest.ahead_are;
-            same = λ a h. same_taken at a (drop k as') e (omega arith) ∙ rest.same a (omega arith);
-          }),
-        )
-    by false e = (
-      le,
-      record {
-        ahead_are = ahead_kept at (drop k as') e even rest.ahead_are;
-        same = λ a h. rest.same a (omega arith);
-      },
+-- those from an end on
+pub rest_from : (at end : ℕ) (gs : List Gate) (as' : List ℕ) (k : ℕ) → at ≤ end → k ≤ length as' → AreRest at gs (drop k as')
+    → (k + count_below end (drop k as') ≤ length as') × AreRest end gs (drop (k + count_below end (drop k as')) as')
+rest_from at end gs as' k on le rest =
+    let n = count_below end (drop k as') in
+    let most = below_most end (drop k as') in
+    let more : drop n (drop k as') ≡ drop (k + n) as' = drop-drop n k as' in (
+      omega (arith, length-drop k as'),
+      subst (AreRest end gs) more (record {
+        ahead_are = below_passed at end (drop k as') rest.ahead_are;
+        same = λ a h. below_same end a (drop k as') h ∙ rest.same a (omega arith);
+      }),
     )
 
 all_ahead : (region : Span) (at : ℕ) (gs : List Gate) → All (λ g. at ≤ g.address) gs → All (λ g. g.address % 16 ≡ 0) gs

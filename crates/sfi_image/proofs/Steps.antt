@@ -1,9 +1,9 @@
 -- Where each step leads, and which faults it meets.
-use Rattle.sfi_image.proofs.Prelude.{◌≡◌, ℕ, ◌+◌, ◌<◌, ◌≤◌, ◌⊎◌, List, [], ◌∷◌, ◌++◌, length, map, take, drop, cond, refl, sym, ap, ◌∙◌, subst, arith, append_assoc, inl, inr, None, Some, All, flat_map, length-append, length_push, append-nil, map_push, length-map, All-push, Format, magic, Gate, Fields, Span, LayoutFault, Part, number, fields, gate, part, IsWord, AreFieldWords, AreGateWords, code_span, spans, spans_of, AreGates, IsFirstFault, field_tests, IsFault, IsPartFault, IsGateShort, IsGateWrong, AreContentsShort, Front, front, head, IsHead, IsOpened, after_init, after_code, after_gates, HasFaultWhateverFollows, Empty, AfterMagic, AfterCount, InGates, InCode, InInit, ReaderState, StandsFor, Leads, next_init, next_code, next_gate, is_first}
+use Rattle.sfi_image.proofs.Prelude.{◌≡◌, ℕ, ◌+◌, ◌-◌, ◌<◌, ◌≤◌, ◌⊎◌, List, [], ◌∷◌, ◌++◌, length, map, take, drop, refl, sym, ap, ◌∙◌, subst, arith, append_assoc, inl, inr, None, Some, All, flat_map, length-append, length_push, append-nil, map_push, length-map, All-push, Format, magic, Gate, Fields, Span, LayoutFault, Part, number, fields, gate, part, IsWord, AreFieldWords, AreGateWords, code_span, spans, spans_of, AreGates, IsFirstFault, field_tests, IsFault, IsPartFault, IsGateShort, IsGateWrong, AreContentsShort, Front, AreBundlesWithin, front, head, IsHead, IsOpened, after_init, after_code, after_gates, HasFaultWhateverFollows, Empty, AfterMagic, AfterCount, InGates, InCode, InInit, ReaderState, StandsFor, Leads, next_init, next_code, next_gate, count_below}
 use Rattle.std.proofs.Math.Seq.{take-append_seam}
 use Rattle.sfi_image.specs.declared.fault.LayoutFault.TheVariants as faults
 use Rattle.sfi_image.specs.declared.want.Next.TheVariants as next
-use Rattle.sfi_image.proofs.Standing.{leads, gates_stand, code_stand, init_stand, region, rest_after}
+use Rattle.sfi_image.proofs.Standing.{leads, gates_stand, code_stand, init_stand, rest_from}
 
 none_gates : (region : Span) → AreGates region []
 none_gates region = record { starts = λ k d h. absurd (omega arith); services = λ k d h. absurd (omega arith); ascending = λ i j d h e. absurd (omega arith) }
@@ -63,29 +63,27 @@ gate_leads old new (InGates n ps f gs) s g h is e words may count begun spans_ar
     }) (p ∙ h.kept.2) (c ∙ h.kept.3) (i ∙ h.kept.4) (to ∙ ap (λ (j : ℕ). next_gate j old.fields.gate_count) same_len ∙ ap (λ (y : Fields). next_gate (length (gs ++ g ∷ [])) y.gate_count) k.fields))
 gate_leads old new _ s g h is e words may count begun spans_are fields_are gates p c i to = let k = h.kept.0 in absurd cc
 
-pub code_leads : (old new : ReaderState) (x : Front) (s : List ℕ) → StandsFor old x → old.next ≡ next.Code → length s ≡ 16
+pub code_leads : (old new : ReaderState) (x : Front) (s : List ℕ) → StandsFor old x → old.next ≡ next.Code → AreBundlesWithin (old.fields.code_size - old.code_read) (length s)
     → new.count ≡ old.count → new.begun ≡ old.begun → new.spans ≡ old.spans → new.fields ≡ old.fields → new.gates ≡ old.gates
-    → new.passed ≡ cond (is_first (drop old.passed old.gates) (old.fields.code_base + old.code_read)) (old.passed + 1) old.passed
-    → new.code_read ≡ old.code_read + 16 → new.init_read ≡ old.init_read
-    → new.next ≡ next_code (old.code_read + 16) old.fields.code_size old.fields.init_len old.begun old.count → Leads x s new
+    → new.passed ≡ old.passed + count_below (old.fields.code_base + (old.code_read + length s)) (drop old.passed old.gates)
+    → new.code_read ≡ old.code_read + length s → new.init_read ≡ old.init_read
+    → new.next ≡ next_code (old.code_read + length s) old.fields.code_size old.fields.init_len old.begun old.count → Leads x s new
 code_leads old new (InCode n ps f gs code) s h is len count begun spans_are fields_are gates p c i to =
     let k = h.kept.1 in
     let opened = h.right.0 in
-    let reg = region (spans ps) f opened.words opened.passed in
     let even = h.right.2 in
     let lt = h.right.3 in
-    let size = reg.size_is in
-    let base = reg.base_is in
-    let more : length (code ++ s) ≡ length code + 16 = omega (arith, length-append code s) in
-    let at : f.code_base + length code + 16 ≡ f.code_base + length (code ++ s) = omega (arith, more) in
-    let here : old.fields.code_base + old.code_read ≡ f.code_base + length code = rw (k.head.fields, k.code_read) refl in
-    let after = rest_after (f.code_base + length code) gs old.gates old.passed (omega arith) k.passed k.rest in
-    let passed_is : new.passed ≡ cond (is_first (drop old.passed old.gates) (f.code_base + length code)) (old.passed + 1) old.passed =
-    p ∙ ap (λ (a : ℕ). cond (is_first (drop old.passed old.gates) a) (old.passed + 1) old.passed) here in
-    let read : new.code_read ≡ length (code ++ s) = c ∙ ap (λ (j : ℕ). j + 16) k.code_read ∙ sym more in
+    let whole = len.whole in
+    let room : length s ≤ f.code_size - length code = rw (k.head.fields, k.code_read) at len.inside in
+    let more : length (code ++ s) ≡ length code + length s = length-append code s in
+    let end : old.fields.code_base + (old.code_read + length s) ≡ f.code_base + length (code ++ s) = rw (k.head.fields, k.code_read, ← more) refl in
+    let after = rest_from (f.code_base + length code) (f.code_base + length (code ++ s)) gs old.gates old.passed (omega arith) k.passed k.rest in
+    let passed_is : new.passed ≡ old.passed + count_below (f.code_base + length (code ++ s)) (drop old.passed old.gates) =
+    p ∙ ap (λ (a : ℕ). old.passed + count_below a (drop old.passed old.gates)) end in
+    let read : new.code_read ≡ length (code ++ s) = c ∙ ap (λ (j : ℕ). j + length s) k.code_read ∙ sym more in
     let where_to : new.next ≡ next_code (length (code ++ s)) f.code_size f.init_len (length ps + 1) n =
     to ∙ rw (k.head.fields, k.head.begun, k.head.count, k.code_read, ← more) refl in
-    leads (InCode n ps f gs code) s new (after_code n ps f gs (code ++ s)) h.right refl (code_stand new n ps f gs (code ++ s) opened h.right.1 (omega (arith, more)) (omega (arith, more)) (record {
+    leads (InCode n ps f gs code) s new (after_code n ps f gs (code ++ s)) h.right refl (code_stand new n ps f gs (code ++ s) opened h.right.1 (omega arith) (omega arith) (record {
       head = record {
         count = count ∙ k.head.count;
         begun = begun ∙ k.head.begun;
@@ -96,7 +94,7 @@ code_leads old new (InCode n ps f gs code) s h is len count begun spans_are fiel
       code_read = read;
       init_read = i ∙ k.init_read;
       passed = rw (passed_is, gates) after.0;
-      rest = rw (passed_is, gates, ← at) after.1;
+      rest = rw (passed_is, gates) after.1;
     }) where_to)
 code_leads old new _ s h is len count begun spans_are fields_are gates p c i to = let k = h.kept.0 in absurd cc
 

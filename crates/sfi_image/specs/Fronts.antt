@@ -1,5 +1,5 @@
 -- The front of an image: as much of it as has been read, from its first byte on.
-use Rattle.std.specs.Prelude.{◌≡◌, ℕ, ◌+◌, ◌-◌, ◌*◌, ◌%◌, ◌<◌, ◌≤◌, ◌==◌, false, List, [], ◌∷◌, ◌++◌, length, cond, None}
+use Rattle.std.specs.Prelude.{◌≡◌, ℕ, ◌+◌, ◌-◌, ◌*◌, ◌%◌, ◌<◌, ◌≤◌, ◌⊎◌, ◌==◌, true, false, List, [], ◌∷◌, ◌++◌, length, cond, None}
 use Rattle.std.specs.List.{All, flat_map}
 use Rattle.sfi_policy.specs.Limits.{bundle_size, sandboxes_most}
 use Rattle.sfi_policy.specs.declared.format.Format.{Format}
@@ -92,21 +92,30 @@ want_of (InCode n ps f gs code) =
 want_of (InInit n ps f gs code init) = wants.Init (f.init_len - length init)
 want_of (Whole ps) = wants.End
 
--- so many bundles from that address on are plain: none is listed as a gate, and the region's last
--- lies after them
-pub record ArePlain (f : Fields) (gs : List Gate) (at bundles : ℕ) : Type 0 where
-  pub before_last : at + bundle_size * bundles + bundle_size ≤ f.code_base + f.code_size
-  pub unlisted : (i : ℕ) → i < bundles → is_gate_of gs (at + bundle_size * i) ≡ false
+-- so many bytes are one bundle or more, and no more than that
+pub record AreBundlesWithin (most len : ℕ) : Type 0 where
+  pub some : 1 ≤ len
+  pub whole : len % bundle_size ≡ 0
+  pub inside : len ≤ most
 
--- after the front so many plain bundles come next
-abbrev pub ArePlainNext : Front → ℕ → Type 0
-ArePlainNext (InCode n ps f gs code) bundles = ArePlain f gs (f.code_base + length code) bundles
-ArePlainNext Empty bundles = ⊥
-ArePlainNext (AfterMagic format) bundles = ⊥
-ArePlainNext (AfterCount format n ps) bundles = ⊥
-ArePlainNext (InGates n ps f gs) bundles = ⊥
-ArePlainNext (InInit n ps f gs code init) bundles = ⊥
-ArePlainNext (Whole ps) bundles = ⊥
+-- So many bytes of code from that address on are a stretch: whole bundles of the region, of which none
+-- but the first is listed as a gate. It is the longest: after it comes a listed bundle, or the
+-- region's end.
+pub record IsLongestStretch (f : Fields) (gs : List Gate) (at len : ℕ) : Type 0 where
+  pub bundles : AreBundlesWithin (f.code_base + f.code_size - at) len
+  pub unlisted :
+      (i : ℕ) → 0 < i → bundle_size * i < len → is_gate_of gs (at + bundle_size * i) ≡ false
+  pub ends : (at + len ≡ f.code_base + f.code_size) ⊎ (is_gate_of gs (at + len) ≡ true)
+
+-- after the front a stretch of so many bytes comes next, or no code does and they are none
+abbrev pub IsStretchLength : Front → ℕ → Type 0
+IsStretchLength (InCode n ps f gs code) len = IsLongestStretch f gs (f.code_base + length code) len
+IsStretchLength Empty len = len ≡ 0
+IsStretchLength (AfterMagic format) len = len ≡ 0
+IsStretchLength (AfterCount format n ps) len = len ≡ 0
+IsStretchLength (InGates n ps f gs) len = len ≡ 0
+IsStretchLength (InInit n ps f gs code init) len = len ≡ 0
+IsStretchLength (Whole ps) len = len ≡ 0
 
 -- ---- how a front goes on: `Follows`, and its parts, which only private contracts name themselves
 
@@ -173,10 +182,11 @@ IsLess len (wants.Init n) = len < n
 IsLess len wants.End = ⊥
 IsLess len wants.Nothing = ⊥
 
--- so many bytes are what comes next
+-- so many bytes are what comes next, or more bundles with it
 abbrev pub IsLengthOf : ℕ → Want → Type 0
 IsLengthOf len (wants.Field n) = len ≡ n
-IsLengthOf len (wants.Bundle sandbox address format base size listed) = len ≡ bundle_size
+IsLengthOf len (wants.Bundle sandbox address format base size listed) =
+    AreBundlesWithin (base + size - address) len
 IsLengthOf len (wants.Init n) = (1 ≤ len) × (len ≤ n)
 IsLengthOf len wants.End = ⊥
 IsLengthOf len wants.Nothing = ⊥

@@ -192,14 +192,7 @@ impl<'a> ImageCursor<'a> {
             × HasRead bytes (after_init n ps fields.now gs s.now []) self.new)
             (IsFault bytes) result }
     {
-        let len = fields.code_size as usize;
-        if self.rest.len() < len {
-            return Err(LayoutFault::Short);
-        }
-        let (code, rest) = self.rest.split_at(len);
-        self.reader.take_code(code);
-        self.rest = rest;
-        Ok(code)
+        self.take(fields.code_size as usize)
     }
 
     // Its first data bytes.

@@ -1,12 +1,12 @@
 //! Reading an image's layout piece by piece, without taking memory.
-ghost use Rattle.std.specs.Prelude.{◌≡◌, ◌≢◌, ℕ, ◌+◌, ◌<◌, ◌≤◌, ◌↔◌, ◌*◌, ◌++◌, ◌∷◌, [], List, length, map, drop, cond, ◌==◌, IsTrue, IfSome, IfNone, false};
+ghost use Rattle.std.specs.Prelude.{◌≡◌, ◌≢◌, ℕ, ◌+◌, ◌-◌, ◌<◌, ◌≤◌, ◌↔◌, ◌*◌, ◌++◌, ◌∷◌, [], List, length, map, drop, cond, ◌==◌, IsTrue, IfSome, IfNone, false};
 ghost use Rattle.sfi_policy.specs.Limits.{bundle_size};
 ghost use Rattle.sfi_image.specs.declared.fault.LayoutFault.{LayoutFault};
-ghost use Rattle.sfi_image.specs.Fronts.{Front, front, want_of, ArePlainNext, IsLengthOf, HasFaultNumberWhateverFollows};
+ghost use Rattle.sfi_image.specs.Fronts.{Front, front, want_of, AreBundlesWithin, IsLengthOf, IsStretchLength, HasFaultNumberWhateverFollows};
 ghost use Rattle.sfi_image.specs.Fronts.Front.{Empty};
 ghost use Rattle.sfi_image.specs.Keeping.{StandsFor, IsReader, HasStopped, Leads, left};
 ghost use Rattle.sfi_image.specs.ReaderParts.{state_of};
-ghost use Rattle.sfi_image.specs.private.Keeping.{AreFrom, MayTake, Takes, as_want, is_first, next_part, next_init, next_code, next_gate};
+ghost use Rattle.sfi_image.specs.private.Keeping.{MayTake, Takes, as_want, count_below, first_or, is_first, next_part, next_init, next_code, next_gate};
 
 use crate::fault::LayoutFault;
 use crate::fields::{Fields, spans_after};
@@ -104,27 +104,35 @@ fn is_first_after(addresses: &[u32], passed: usize, address: u32) -> bool
     }
 }
 
-// How many addresses lie after that one, where so many lie before it.
+// How many addresses lie before `end`, where so many are known to, and all ascend.
 #[inline]
-fn passed_by(addresses: &[u32], passed: usize, address: u32) -> usize
+fn passed_before(addresses: &[u32], passed: usize, end: u64) -> usize
     requires { passed ≤ length addresses.now }
-    ensures { result ≡ cond (is_first (drop passed addresses.now) address) (passed + 1) passed }
+    ensures { result ≡ passed + count_below end (drop passed addresses.now) }
 {
-    if is_first_after(addresses, passed, address) {
-        passed + 1
-    } else {
-        passed
+    let mut count = passed;
+    while count < addresses.len() && u64::from(addresses[count]) < end {
+        count += 1;
     }
+    count
 }
 
-// Whether no address after the first `passed`, which ascend, is below `end`.
+// The address after so many bytes of a code region.
 #[inline]
-fn are_from(end: u64, addresses: &[u32], passed: usize) -> bool
-    ensures { IsTrue result ↔ AreFrom end (drop passed addresses.now) }
+fn address_after(base: u32, read: u32) -> u64
+    ensures { result ≡ base + read }
+{
+    u64::from(base) + u64::from(read)
+}
+
+// The first of the addresses after so many, or else the other.
+#[inline]
+fn first_after(addresses: &[u32], passed: usize, other: u64) -> u64
+    ensures { result ≡ first_or other (drop passed addresses.now) }
 {
     match addresses.get(passed) {
-        Some(first) => end <= u64::from(*first),
-        None => true,
+        Some(first) => u64::from(*first),
+        None => other,
     }
 }
 
@@ -245,38 +253,27 @@ impl LayoutReader {
         }
     }
 
-    /// Whether so many plain bundles come next: bundles of one code region, none of them at a gate,
-    /// and none of them the region's last.
-    #[inline]
-    pub fn wants_plain(&self, bundles: u32) -> bool
-        ensures plain { (x : Front) → StandsFor self.now x
-            → IsTrue result ↔ ArePlainNext x bundles }
-        ensures stopped { HasStopped self.now → result ≡ false }
+    /// How many bytes of code come next up to the first gate after their first bundle, or else to
+    /// the code region's end: none where no code comes next.
+    #[inline(never)]
+    pub fn stretch_length(&self) -> usize
+        ensures length { (x : Front) → StandsFor self.now x → IsStretchLength x result }
     {
         let Next::Code = self.next else {
-            return false;
+            return 0;
         };
-        let base = u64::from(self.fields.code_base);
-        let end = base + u64::from(self.code_read) + u64::from(BUNDLE_SIZE) * u64::from(bundles);
-        if end >= base + u64::from(self.fields.code_size) {
-            return false;
-        }
-        are_from(end, self.gates.as_slice(), self.passed)
+        let fields = &self.fields;
+        let at = address_after(fields.code_base, self.code_read);
+        let region_end = address_after(fields.code_base, fields.code_size);
+        let gates = self.gates.as_slice();
+        let passed = passed_before(gates, self.passed, at + u64::from(BUNDLE_SIZE));
+        let end = first_after(gates, passed, region_end);
+        (end - at) as u32 as usize
     }
 
-    /// Takes plain bundles that come next, all at once.
-    #[inline]
-    pub fn take_plain(&mut self, bundles: &[u8])
-        requires { (x : Front) × (n : ℕ) × StandsFor self.old x × ArePlainNext x n
-            × (length bundles.now ≡ bundle_size * n) }
-        ensures goes_on { (x : Front) → StandsFor self.old x → Leads x bundles.now self.new }
-        ensures falls { left self.old ≡ left self.new + length bundles.now }
-    {
-        self.code_read += bundles.len() as u32;
-    }
-
-    /// Takes the bytes that come next, as many as are wanted. The answer is the number of the first
-    /// test that fails, if one does; then nothing is wanted any more.
+    /// Takes the bytes that come next, as many as are wanted, or any whole number of bundles of the
+    /// code region. The answer is the number of the first test that fails, if one does; then nothing is
+    /// wanted any more.
     #[inline]
     pub fn take(&mut self, bytes: &[u8]) -> Option<u32>
         requires { (x : Front) × StandsFor self.old x × IsLengthOf (length bytes.now) (want_of x) }
@@ -287,6 +284,8 @@ impl LayoutReader {
             → HasFaultNumberWhateverFollows (front x ++ bytes.now) n) }
         ensures stopped { IfSome result (λ n. HasStopped self.new) }
         ensures falls { left self.new < left self.old }
+        ensures code { self.old.next ≡ Next.Code →
+            left self.new + length bytes.now ≤ left self.old }
     {
         match self.advance(bytes) {
             Some(fault) => Some(fault.number()),
@@ -300,9 +299,11 @@ impl LayoutReader {
         requires { MayTake self.old (length bytes.now) }
         ensures takes { Takes self.old bytes.now self.new result }
         ensures falls { left self.new < left self.old }
+        ensures code { self.old.next ≡ Next.Code →
+            left self.new + length bytes.now ≤ left self.old }
     {
         if let Next::Code = self.next {
-            self.take_bundle(bytes);
+            self.take_code(bytes);
             None
         } else {
             self.advance_by_no_bundle(bytes)
@@ -408,18 +409,20 @@ impl LayoutReader {
         None
     }
 
-    #[inline]
-    fn take_bundle(&mut self, bytes: &[u8])
+    // Takes whole bundles of a sandbox's code: out of line, since one call takes many.
+    #[inline(never)]
+    fn take_code(&mut self, code: &[u8])
         requires next { self.old.next ≡ Next.Code }
-        requires len { length bytes.now ≡ bundle_size }
-        ensures takes { Takes self.old bytes.now self.new None }
-        ensures falls { left self.new < left self.old }
+        requires len { AreBundlesWithin (self.old.fields.code_size - self.old.code_read) (length code.now) }
+        ensures takes { Takes self.old code.now self.new None }
+        ensures falls { left self.new + length code.now ≤ left self.old }
     {
-        let address = self.fields.code_base + self.code_read;
-        self.passed = passed_by(self.gates.as_slice(), self.passed, address);
-        self.code_read += BUNDLE_SIZE;
+        let read = self.code_read + code.len() as u32;
+        let end = address_after(self.fields.code_base, read);
+        self.passed = passed_before(self.gates.as_slice(), self.passed, end);
+        self.code_read = read;
         self.next = next_code(
-            self.code_read,
+            read,
             self.fields.code_size,
             self.fields.init_len,
             self.begun,
@@ -438,22 +441,5 @@ impl LayoutReader {
         let read = self.init_read as usize + bytes.len();
         self.init_read = read as u32;
         self.next = next_init(self.init_read, self.fields.init_len, self.begun, self.count);
-    }
-
-    // Takes all that is left of a sandbox's code.
-    pub(crate) fn take_code(&mut self, code: &[u8])
-        requires next { self.old.next ≡ Next.Code }
-        requires len { self.old.code_read + length code.now ≡ self.old.fields.code_size }
-        ensures { (x : Front) → StandsFor self.old x → Leads x code.now self.new }
-    {
-        self.code_read = self.fields.code_size;
-        self.passed = self.gates.len();
-        self.next = next_code(
-            self.code_read,
-            self.fields.code_size,
-            self.fields.init_len,
-            self.begun,
-            self.count,
-        );
     }
 }

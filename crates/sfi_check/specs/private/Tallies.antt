@@ -1,14 +1,12 @@
 -- One step and more of a reader with its tally: words of private contracts.
-use Rattle.std.specs.Prelude.{◌≡◌, ℕ, zero, suc, ◌+◌, ◌*◌, ◌-◌, ◌<◌, ◌≤◌, ◌⊎◌, List, [], ◌++◌, length, take, slice_get, Option, Some, None}
+use Rattle.std.specs.Prelude.{◌≡◌, ℕ, ◌-◌, ◌<◌, ◌≤◌, ◌⊎◌, List, ◌++◌, length, take, Option, Some, None}
 use Rattle.sfi_image.specs.declared.want.Next.TheVariants as next
 use Rattle.sfi_image.specs.declared.want.Want.{Want}
 use Rattle.sfi_image.specs.declared.want.Want.TheVariants as wants
-use Rattle.sfi_image.specs.Fronts.{Front, want_of, ArePlainNext, HasFaultNumberWhateverFollows}
+use Rattle.sfi_image.specs.Fronts.{HasFaultNumberWhateverFollows}
 use Rattle.sfi_image.specs.Keeping.{ReaderState, left}
 use Rattle.sfi_rules.specs.declared.finding.Finding.{Finding}
 use Rattle.sfi_rules.specs.declared.bundle.BundlePlace.{BundlePlace}
-use Rattle.sfi_rules.specs.Bundles.{block_bundle, bundle_at}
-use Rattle.sfi_rules.specs.Findings.{AreBundleFindings}
 use Rattle.sfi_check.specs.declared.tally.Tally.{Tally}
 use Rattle.sfi_check.specs.declared.stream_answer.StreamAnswer.{StreamAnswer}
 use Rattle.sfi_check.specs.declared.stream_answer.StreamAnswer.TheVariants as answers
@@ -16,44 +14,11 @@ use Rattle.sfi_check.specs.declared.progress.Step.{Step}
 use Rattle.sfi_check.specs.declared.progress.Step.TheVariants as steps
 use Rattle.sfi_check.specs.declared.progress.Progress.{Progress}
 use Rattle.sfi_check.specs.declared.progress.Progress.TheVariants as ways
-use Rattle.sfi_check.specs.Tallies.{findings_most, IsSoFar, IsCut}
+use Rattle.sfi_check.specs.Tallies.{IsSoFar, IsCut}
 
 -- the bundle at that place is wanted
 abbrev pub want_at : BundlePlace → Want
 want_at b = wants.Bundle b.sandbox b.address b.format b.code_base b.code_size b.listed
-
--- the second tally is the first with these findings more
-pub record AddsFindings (old new : Tally) (found : List Finding) : Type 0 where
-  pub sandboxes : new.sandboxes ≡ old.sandboxes
-  pub bundles : new.bundles ≡ old.bundles
-  pub count : new.count ≡ old.count + length found
-  pub first :
-      (before : List Finding) → old.first ≡ slice_get before 0
-      → new.first ≡ slice_get (before ++ found) 0
-
--- the findings of the first n bundles of these bytes, none of them listed, of which the first lies
--- there, in order
-abbrev pub AreFindingsOfPlain : BundlePlace → List ℕ → ℕ → List Finding → Type 0
-AreFindingsOfPlain b bytes zero found = found ≡ []
-AreFindingsOfPlain b bytes (suc n) found =
-    (front : List Finding) × (last : List Finding) × AreFindingsOfPlain b bytes n front
-    × AreBundleFindings (bundle_at b n) (block_bundle bytes n) last
-    × (found ≡ front ++ last)
-
--- so many bundles of these bytes are scanned, of which the first lies there: the tally and the sink
--- after them have their findings
-pub record AreScanned {F : Type 0} (takes : F → List Finding → F → Type 0) (b : BundlePlace)
-    (bytes : List ℕ) (n : ℕ) (old new : Tally) (before after : F) : Type 0 where
-  pub found : List Finding
-  pub found_are : AreFindingsOfPlain b bytes n found
-  pub few : length found ≤ findings_most * n
-  pub added : AddsFindings old new found
-  pub handed : takes before found after
-
--- that bundle comes next, and the first of so many plain ones
-pub record IsPlainFrom (b : BundlePlace) (bundles : ℕ) (x : Front) : Type 0 where
-  pub want : want_at b ≡ want_of x
-  pub plain : ArePlainNext x bundles
 
 -- `told` holds of some findings
 abbrev pub IsTold : (List Finding → Type 0) → Type 0

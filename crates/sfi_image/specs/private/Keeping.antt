@@ -1,6 +1,5 @@
 -- Words of private contracts and proofs, beside those of Keeping.antt.
-use Rattle.std.specs.Prelude.{◌≡◌, ℕ, ◌+◌, ◌*◌, ◌<◌, ◌≤◌, ◌==◌, drop, Bool, false, List, [], ◌∷◌, ◌++◌, cond, Option, Some, None}
-use Rattle.sfi_policy.specs.Limits.{bundle_size}
+use Rattle.std.specs.Prelude.{◌≡◌, ℕ, suc, nat_lt, ◌+◌, ◌-◌, ◌≤◌, ◌==◌, Bool, false, List, [], ◌∷◌, ◌++◌, cond, Option, Some, None}
 use Rattle.sfi_image.specs.declared.fields.Fields.{Fields}
 use Rattle.sfi_image.specs.declared.fault.LayoutFault.{LayoutFault}
 use Rattle.sfi_image.specs.declared.want.Want.{Want}
@@ -10,7 +9,7 @@ use Rattle.sfi_image.specs.declared.want.OtherWant.TheVariants as others
 use Rattle.sfi_image.specs.declared.want.Next.{Next}
 use Rattle.sfi_image.specs.declared.want.Next.TheVariants as next
 use Rattle.sfi_image.specs.Spelling.{magic_bytes, number_bytes, fields_bytes, gate_bytes}
-use Rattle.sfi_image.specs.Fronts.{Front, front, HasFaultWhateverFollows}
+use Rattle.sfi_image.specs.Fronts.{Front, front, AreBundlesWithin, HasFaultWhateverFollows}
 use Rattle.sfi_image.specs.Keeping.{HasStopped, Leads, ReaderState, StandsFor}
 
 -- what is wanted, where that is no bundle
@@ -25,16 +24,15 @@ abbrev pub is_first : List ℕ → ℕ → Bool
 is_first [] at = false
 is_first (a ∷ more) at = a == at
 
--- none of the addresses, which are in ascending order, is below that one
-abbrev pub AreFrom : ℕ → List ℕ → Type 0
-AreFrom end [] = Unit {0}
-AreFrom end (a ∷ more) = end ≤ a
+-- the first of the addresses, or else the other
+abbrev pub first_or : ℕ → List ℕ → ℕ
+first_or other [] = other
+first_or other (a ∷ more) = a
 
--- so many plain bundles come next, told by what is kept
-pub record HasPlain (r : ReaderState) (bundles : ℕ) : Type 0 where
-  pub code : r.next ≡ next.Code
-  pub before_last : r.fields.code_base + r.code_read + bundle_size * bundles < r.fields.code_base + r.fields.code_size
-  pub gates : AreFrom (r.fields.code_base + r.code_read + bundle_size * bundles) (drop r.passed r.gates)
+-- how many addresses at the front are below that one
+abbrev pub count_below : ℕ → List ℕ → ℕ
+count_below end [] = 0
+count_below end (a ∷ more) = cond (nat_lt a end) (suc (count_below end more)) 0
 
 -- what comes next after so many sandboxes of that count
 abbrev pub next_part : ℕ → ℕ → Next
@@ -52,21 +50,21 @@ next_code read size len begun count = cond (read == size) (next_init 0 len begun
 abbrev pub next_gate : ℕ → ℕ → Next
 next_gate read gate_count = cond (read == gate_count) next.Code next.Gate
 
--- that comes next, for a sandbox with these fields of which so many first data bytes are read:
--- so many bytes may be taken
-abbrev pub TakesLength : Next → Fields → ℕ → ℕ → Type 0
-TakesLength next.Magic f read len = len ≡ magic_bytes
-TakesLength next.Count f read len = len ≡ number_bytes
-TakesLength next.Fields f read len = len ≡ fields_bytes
-TakesLength next.Gate f read len = len ≡ gate_bytes
-TakesLength next.Code f read len = len ≡ bundle_size
-TakesLength next.Init f read len = (1 ≤ len) × (len + read ≤ f.init_len)
-TakesLength next.End f read len = ⊥
-TakesLength next.Nothing f read len = ⊥
+-- that comes next, for a sandbox with these fields of which so many bytes of code and so many first
+-- data bytes are read: so many bytes may be taken
+abbrev pub TakesLength : Next → Fields → ℕ → ℕ → ℕ → Type 0
+TakesLength next.Magic f code init len = len ≡ magic_bytes
+TakesLength next.Count f code init len = len ≡ number_bytes
+TakesLength next.Fields f code init len = len ≡ fields_bytes
+TakesLength next.Gate f code init len = len ≡ gate_bytes
+TakesLength next.Code f code init len = AreBundlesWithin (f.code_size - code) len
+TakesLength next.Init f code init len = (1 ≤ len) × (len + init ≤ f.init_len)
+TakesLength next.End f code init len = ⊥
+TakesLength next.Nothing f code init len = ⊥
 
 -- so many bytes are as long as what comes next, told by what is kept
 abbrev pub MayTake : ReaderState → ℕ → Type 0
-MayTake r len = TakesLength r.next r.fields r.init_read len
+MayTake r len = TakesLength r.next r.fields r.code_read r.init_read len
 
 -- no fault, and it goes on from each front that it stands for;
 -- or a fault of each of them with these bytes

@@ -1,5 +1,5 @@
 use Rattle.sfi_check.proofs.Prelude.{◌≡◌, ◌∙◌, ◌≤◌, ℕ, eqb, false, List, take, length, refl, sym, arith, eq-eqb, length-take}
-use Rattle.sfi_check.proofs.Leading.{bundle_within, field_len, init_some, field_taken, init_taken, field_step, init_step, step_fault}
+use Rattle.sfi_check.proofs.Leading.{field_len, init_some, field_taken, init_taken, field_step, init_step, step_fault}
 use Rattle.sfi_check.proofs.piece.step.Goals as goal
 use Rattle.sfi_check.proofs.piece.step.Goals.{then-rest-most, else-rest-most}
 
@@ -48,8 +48,3 @@ returns-in-None-take g c = λ first so_far h.
       init_step c.args.reader.now c.take-in-Init.new.self c.args.tally.now so_far (take c.if-rest-most.len c.args.rest.now) c.in-Init.most c.in-Init.ensures.want c.in-None-take.ensures.goes_on c.in-None-take.ensures.falls h,
       c.in-None-take.ensures.falls,
     )
-
-pub take_code-requires-clause-within : goal.take_code-requires-clause-within
-take_code-requires-clause-within g c =
-    let h = c.requires.2 in
-    bundle_within h.at _ h.stands.right (c.in-Bundle.ensures.want h.at h.stands)
