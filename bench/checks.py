@@ -20,6 +20,7 @@ def commands_of(program, folder, checker):
     """By name, a command's words and which file it reads: raw, the bytes of an image, or text."""
     commands = {
         "`check`": ([program, "check"], "text"),
+        "`check --report`": ([program, "check", "--report"], "text"),
         "`check --raw`": ([program, "check", "--raw"], "raw"),
         "the same, second format": ([program, "check", "--raw"], "second"),
         "linear pass": ([measure.compiled("pass.c", os.path.join(folder, "pass"))], "text"),
@@ -67,10 +68,11 @@ def print_speeds(commands, folder, rounds):
 
 
 def print_peaks(commands, folder):
-    print("| bytes of image | bytes of text | `check` | `check --raw` |")
+    names = ["`check`", "`check --report`", "`check --raw`"]
+    print("| bytes of image | bytes of text |", " | ".join(names), "|")
     for shape in images.SIZES:
         size = write_image(folder, "pairs", *shape)
-        peaks = [measure.peak(*commands[name]) for name in ["`check`", "`check --raw`"]]
+        peaks = [measure.peak(*commands[name]) for name in names]
         text_size = os.path.getsize(os.path.join(folder, "text"))
         print("|", " | ".join(f"{n:,}" for n in [size, text_size] + peaks), "|", flush=True)
 
