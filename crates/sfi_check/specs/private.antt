@@ -2,5 +2,4 @@
 pub mod Converting
 pub mod Counting
 pub mod Feeds
-pub mod Lists
 pub mod Tallies

@@ -12,7 +12,6 @@ mod accepted;
 mod conversion;
 mod feed;
 pub mod laws;
-mod list;
 mod piece;
 mod progress;
 mod refusal;

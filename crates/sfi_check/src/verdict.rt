@@ -1,5 +1,5 @@
 //! The verdict on an image's bytes.
-ghost use Rattle.std.specs.Prelude.{◌≢◌, List, IfOk, IfErr, true};
+ghost use Rattle.std.specs.Prelude.{◌≡◌, ◌≢◌, List, IfOk, IfErr, false, true};
 ghost use Rattle.sfi_image.specs.declared.fault.LayoutFault.{LayoutFault};
 ghost use Rattle.sfi_image.specs.Spelling.{Part};
 ghost use Rattle.sfi_image.specs.Faults.{IsFault};
@@ -12,11 +12,10 @@ ghost use Rattle.sfi_safety.specs.Clean.{IsAccepted};
 
 use crate::accepted::Accepted;
 use crate::feed::Feed;
-use crate::list::FindingList;
 use crate::refusal::Refusal;
 use crate::stream_answer::StreamAnswer;
 use sfi_image::parse_image;
-use sfi_scan::{FindingSink, IN_BLOCKS};
+use sfi_scan::{FindingList, FindingSink, IN_BLOCKS};
 use std::alloc::Global;
 
 /// Accepts the bytes, or says why not, and hands their findings to the sink, by sandbox and then by
@@ -31,6 +30,18 @@ pub fn check_into<F: FindingSink>(bytes: &[u8], sink: &mut F) -> StreamAnswer
     let mut feed = Feed::new();
     feed.feed_into::<F, IN_BLOCKS>(bytes, sink);
     feed.answer()
+}
+
+/// The refusal for the findings that are on the list.
+fn refusal_of(list: FindingList) -> Refusal
+    ensures layout { IfLayoutFault (λ k. ⊥) result }
+    ensures findings { IfFindings (λ found. (list.lacks_memory ≡ false)
+        × (found ≡ list.found.items)) result }
+{
+    match list.into_result() {
+        Ok(found) => Refusal::Findings(found),
+        Err(_) => Refusal::Memory,
+    }
 }
 
 /// Accepts the bytes, or says why not.
@@ -55,7 +66,7 @@ pub fn check<'a>(alloc: Global, bytes: &'a [u8]) -> Result<Accepted<'a>, Refusal
 {
     let mut list = FindingList::new(alloc);
     if let StreamAnswer::Findings { .. } = check_into(bytes, &mut list) {
-        return Err(list.refusal());
+        return Err(refusal_of(list));
     }
     match parse_image(alloc, bytes) {
         Ok(image) => Ok(Accepted::new(image)),

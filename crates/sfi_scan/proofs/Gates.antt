@@ -6,7 +6,7 @@ use Rattle.sfi_image.specs.Parts.{IsRightPart}
 use Rattle.sfi_image.specs.declared.part.Gate.{Gate}
 use Rattle.sfi_image.proofs.Facts.{whole_bundles}
 use Rattle.sfi_scan.specs.Stretches.{IsStretch, AreStretchFindings, stretch_place}
-use Rattle.sfi_scan.specs.private.Listing.{Lists}
+use Rattle.sfi_scan.specs.Listing.{Lists}
 use Rattle.sfi_scan.proofs.Stretches.{front_bundle, rest_bundle, stretch_in_part}
 
 -- ---- gates

@@ -1,6 +1,5 @@
 -- Words that private contracts and proofs alone cite: no public statement rests on them.
 pub mod Block
 pub mod FirstLook
-pub mod Listing
 pub mod Near
 pub mod Scanning

@@ -24,6 +24,7 @@ mod sink;
 pub use block::clean_bundles;
 pub use code::{BUNDLE_BY_BUNDLE, IN_BLOCKS, scan_code};
 pub use findings::BundleFindings;
+pub use list::FindingList;
 pub use part::{scan_part, scan_part_as};
 pub use scan::scan_bundle;
 pub use sfi_policy::Format;

@@ -8,13 +8,15 @@ use std::alloc::{AllocError, Global};
 
 /// All findings that it took, unless memory ran out.
 #[derive(Drop)]
-pub(crate) struct FindingList {
-    found: Vec<Finding>,
-    lacks_memory: bool,
+pub struct FindingList {
+    /// Those for which there was memory.
+    pub found: Vec<Finding>,
+    /// Whether memory ran out for some.
+    pub lacks_memory: bool,
 }
 
 impl FindingSink for FindingList {
-    ghost use Rattle.sfi_scan.specs.private.Listing.{Lists, lists_none, lists_more};
+    ghost use Rattle.sfi_scan.specs.Listing.{Lists, lists_none, lists_more};
 
     ghost takes = { λ s found t. Lists s.found.items s.lacks_memory found t.found.items t.lacks_memory };
 
@@ -32,7 +34,7 @@ impl FindingSink for FindingList {
 
 impl FindingList {
     /// It took none.
-    pub(crate) fn new(alloc: Global) -> Self
+    pub fn new(alloc: Global) -> Self
         ensures empty { result.found.items ≡ [] }
         ensures memory { result.lacks_memory ≡ false }
     {
@@ -43,7 +45,7 @@ impl FindingList {
     }
 
     /// The findings that it took.
-    pub(crate) fn into_result(self) -> Result<Vec<Finding>, AllocError>
+    pub fn into_result(self) -> Result<Vec<Finding>, AllocError>
         ensures { IfOk result (λ found. (self.lacks_memory ≡ false) × (found.items ≡ self.found.items)) }
     {
         if self.lacks_memory {

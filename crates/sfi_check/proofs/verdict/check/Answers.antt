@@ -18,8 +18,8 @@ pub returns-in-Findings-clause-only_findings : goal.returns-in-Findings-clause-o
 returns-in-Findings-clause-only_findings c = λ others have.
     let j = c.check_into.ensures.handed in
     let has : HasFindings c.args.bytes.now j.0 = subst (λ (a : StreamAnswer). IfFindings (λ count first. HasFindings c.args.bytes.now j.0) a) c.in-Findings.is j.2.findings in
-    listed_answers j.0 others c.refusal.result (verdicts.one_list c.args.bytes.now j.0 others has have) c.refusal.ensures.layout
-    (on_list j.0 c.check_into.new.sink.found.items c.check_into.new.sink.lacks_memory c.refusal.result (λ enough. (j.1 enough).1 ∙ ap (λ (l : List Finding). l ++ j.0) c.new-list.ensures) c.refusal.ensures.findings)
+    listed_answers j.0 others c.refusal_of.result (verdicts.one_list c.args.bytes.now j.0 others has have) c.refusal_of.ensures.layout
+    (on_list j.0 c.check_into.new.sink.found.items c.check_into.new.sink.lacks_memory c.refusal_of.result (λ enough. (j.1 enough).1 ∙ ap (λ (l : List Finding). l ++ j.0) c.new-list.ensures.empty) c.refusal_of.ensures.findings)
 
 pub new-requires : goal.new-requires
 new-requires c =

@@ -1,4 +1,4 @@
--- Words of private contracts: a list that takes findings as long as there is memory.
+-- A list that takes findings as long as there is memory.
 use Rattle.std.proofs.Common.{◌≡◌, List, Bool, false, [], ◌++◌, ap, sym, ◌∙◌, append_assoc}
 use Rattle.std.proofs.lemmas.List.{append-nil}
 use Rattle.sfi_rules.specs.declared.finding.Finding.{Finding}
