@@ -13,38 +13,54 @@ use sfi_io::{HexReader, ReadStop, TextStop};
 use std::alloc::Global;
 use std::io::Read;
 
+/// How far a text was read.
+#[derive(Clone, Copy)]
+enum TextState {
+    Reading,
+    /// To its end, which isn't read again.
+    Ended,
+    Stopped(TextStop),
+}
+
 /// The bytes that a reader's text spells, as a source. After a stop of the text it gives no more.
 #[derive(Drop)]
 struct SpelledBytes<'a, R: Read> {
     text: HexReader<'a, R>,
-    stop: Option<TextStop>,
+    state: TextState,
 }
 
 impl<'a, R: Read> ByteSource for SpelledBytes<'a, R> {
-    ghost use Rattle.std.specs.Prelude.{is_some};
     ghost use Rattle.sfi_io.specs.Pieces.{to_come};
-    ghost use Rattle.sfi_answers.specs.private.Streams.{HandsOut, stopped};
+    ghost use Rattle.sfi_answers.specs.private.Streams.{HandsOut, is_stopped, known};
 
-    ghost reads = { λ s n answer t. HandsOut (stopped s.stop (to_come R.remaining s.text))
-        (is_some s.stop) n answer (stopped t.stop (to_come R.remaining t.text)) (is_some t.stop) };
+    ghost reads = { λ s n answer t. HandsOut (known s.state (to_come R.remaining s.text))
+        (is_stopped s.state) n answer (known t.state (to_come R.remaining t.text))
+        (is_stopped t.state) };
 
-    ghost has_failed = { λ s. is_some s.stop };
+    ghost has_failed = { λ s. is_stopped s.state };
 
     fn read_some(&mut self, buf: &mut [u8]) -> Result<usize, ReadFault> {
-        if self.stop.is_some() {
-            return Err(ReadFault);
+        match self.state {
+            TextState::Reading => {}
+            TextState::Ended => return Ok(0),
+            TextState::Stopped(_) => return Err(ReadFault),
         }
         match self.text.read_bytes(buf) {
-            Ok(count) => Ok(count),
+            Ok(count) => {
+                if count == 0 && !buf.is_empty() {
+                    self.state = TextState::Ended;
+                }
+                Ok(count)
+            }
             Err(stop) => {
-                self.stop = Some(stop);
+                self.state = TextState::Stopped(stop);
                 Err(ReadFault)
             }
         }
     }
 
     fn failed(&self) -> bool {
-        self.stop.is_some()
+        matches!(self.state, TextState::Stopped(_))
     }
 
     ghost fails = { λ s t n h. h.failed };
@@ -55,18 +71,19 @@ impl<'a, R: Read> ByteSource for SpelledBytes<'a, R> {
 impl<'a, R: Read> SpelledBytes<'a, R> {
     ghost use Rattle.std.specs.Prelude.{[], Err, IfErr, IsOk, Some};
     ghost use Rattle.sfi_io.specs.Pieces.{Leads, to_come};
-    ghost use Rattle.sfi_answers.specs.private.Streams.{stopped};
+    ghost use Rattle.sfi_answers.specs.private.Streams.{known};
 
     /// Reads the text to its end, and says its fault.
     fn end(&mut self) -> Result<(), TextStop>
         ensures spelled { IfOk result
-            (λ _. IfSome (stopped self.old.stop (to_come R.remaining self.old.text)) (λ r. IsOk r)) }
+            (λ _. IfSome (known self.old.state (to_come R.remaining self.old.text)) (λ r. IsOk r)) }
         ensures stop { IfErr result (λ stop. Leads
-            (stopped self.old.stop (to_come R.remaining self.old.text)) (Some (Err stop)) []) }
+            (known self.old.state (to_come R.remaining self.old.text)) (Some (Err stop)) []) }
     {
-        match self.stop {
-            Some(stop) => Err(stop),
-            None => self.text.read_rest(),
+        match self.state {
+            TextState::Reading => self.text.read_rest(),
+            TextState::Ended => Ok(()),
+            TextState::Stopped(stop) => Err(stop),
         }
     }
 }
@@ -84,7 +101,7 @@ pub fn text_answer<R: Read>(alloc: Global, reader: &mut R) -> Result<Answer, Rea
 {
     let mut source = SpelledBytes {
         text: HexReader::new(reader),
-        stop: None,
+        state: TextState::Reading,
     };
     let verdict = check_stream(&mut source);
     match source.end() {
