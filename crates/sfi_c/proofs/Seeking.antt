@@ -75,17 +75,22 @@ module _ (bytes : List ℕ) (number passed : ℕ) (old new : ImageCursor) (r : R
       let all = passed_bytes bytes h.format h.count (h.parts ++ p ∷ []) new on in
       let at : length h.parts ≡ number = sym h.passed_is ∙ e in
       let front : take number (h.parts ++ p ∷ []) ≡ h.parts = ap (λ (k : ℕ). take k (h.parts ++ p ∷ [])) (sym at) ∙ take-append_seam h.parts (p ∷ []) in
-      one_on (p, ap (slice_get (h.parts ++ p ∷ [])) (sym at) ∙ last_one h.parts p, viewed, omega (
-        arith,
-        ap length left_is,
-        ap length all,
-        ap (λ (l : List Part). length (flat_map part l)) front,
-        length-append (head h.format h.count (h.parts ++ p ∷ [])) (unread new),
-        length-head h.format h.count (h.parts ++ p ∷ []),
-        ap length (flat_map-append part h.parts (p ∷ [])),
-        length-append (flat_map part h.parts) (part p ++ []),
-        length-append (part p) [],
-      ))
+      one_on (
+        p,
+        ap (slice_get (h.parts ++ p ∷ [])) (sym at) ∙ last_one h.parts p,
+        viewed,
+        omega (
+          arith,
+          ap length left_is,
+          ap length all,
+          ap (λ (l : List Part). length (flat_map part l)) front,
+          length-append (head h.format h.count (h.parts ++ p ∷ [])) (unread new),
+          length-head h.format h.count (h.parts ++ p ∷ []),
+          ap length (flat_map-append part h.parts (p ∷ [])),
+          length-append (flat_map part h.parts) (part p ++ []),
+          length-append (part p) [],
+        ),
+      )
 
   -- it isn't
   pub not_here : passed ≢ number → HasSought bytes number (passed + 1) new r
