@@ -4,7 +4,7 @@ use Rattle.sfi_policy.specs.Limits.{bundle_size}
 use Rattle.sfi_rules.specs.Laws.{SameBundleStarts, OneLongestReading, OneBundleList, OneList, OneImageList, FirstFormatHasNoStack, FirstFormatFindsNoV10, CleanBreaksStackAlone}
 use Rattle.sfi_rules.proofs.FirstFormat as first
 use Rattle.sfi_rules.proofs.OneList as lists
-pub use Rattle.sfi_rules.proofs.InBundles.{in_bundles, of_bundles, in_words, of_words}
+pub use Rattle.sfi_rules.proofs.InBundles.{in_bundles, of_bundles, in_words, of_words, all_found, none_found}
 use Rattle.sfi_rules.proofs.Readings.{longest_one}
 use Rattle.sfi_rules.proofs.Second.{image_of_stack}
 

@@ -13,7 +13,9 @@ use Rattle.sfi_rules.specs.Bundles.{place_of, bundle_bytes}
 use Rattle.sfi_rules.specs.Readings.{Piece, IsLongestReading, rest_of}
 use Rattle.sfi_rules.specs.Rules.{Place, breaks, is_empty}
 pub use Rattle.sfi_rules.specs.Broken.{broken, all_rules, rule_of_length, rest_finding}
-use Rattle.sfi_rules.specs.words.Findings.{AreFindingsInWords}
+use Rattle.sfi_rules.specs.declared.owed.Owed.{Owed}
+use Rattle.sfi_rules.specs.declared.owed.Owed.TheVariants.{Nothing}
+use Rattle.sfi_rules.specs.words.Findings.{AreFindingsInWords, AreFoundOfFirst}
 
 -- ---- of a bundle
 
@@ -72,6 +74,12 @@ AreFindingsInBundles sandbox p found = (bundles : ℕ) × (length p.code ≡ bun
 abbrev pub AreFindings : ℕ → Part → List Finding → Type 0
 AreFindings sandbox p found = MatchBool (has_words p.format) (AreFindingsInWords sandbox p found)
     (AreFindingsInBundles sandbox p found)
+
+-- those of its first n bundles, and what is owed after them: in code in bundles nothing ever is
+abbrev pub AreFoundUpTo : ℕ → Part → ℕ → List Finding → Owed → Type 0
+AreFoundUpTo sandbox p n found owed = MatchBool (has_words p.format)
+    (AreFoundOfFirst sandbox p n found owed)
+    (AreFindingsOfFirst sandbox p n found × (owed ≡ Nothing))
 
 -- ---- of an image
 

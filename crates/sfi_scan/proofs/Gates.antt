@@ -1,19 +1,18 @@
 -- A part's code from gate to gate: each stretch begins at one, but the first, and no gate lies within.
-use Rattle.sfi_scan.proofs.Prelude.{◌++◌, bundle_bytes, ◌≡◌, ℕ, zero, suc, ◌+◌, ◌-◌, ◌*◌, ◌<◌, ◌≤◌, ◌==◌, ◌⊎◌, Bool, true, false, List, [], ◌∷◌, length, take, drop, get_or, inl, inr, refl, sym, ap, ◌∙◌, subst, arith, ◌||◌, ne_eqb, length-drop, length-take, BundlePlace, Finding, Part, place_of, block_bundle, AreFindingsOfFirst}
+use Rattle.sfi_scan.proofs.Prelude.{◌++◌, bundle_bytes, ◌≡◌, ℕ, zero, suc, ◌+◌, ◌-◌, ◌*◌, ◌<◌, ◌≤◌, ◌==◌, ◌⊎◌, Bool, true, false, List, [], ◌∷◌, length, take, drop, get_or, inl, inr, refl, sym, ap, ◌∙◌, subst, arith, ◌||◌, ne_eqb, length-drop, length-take, BundlePlace, Finding, Part, place_of, block_bundle}
 use Rattle.std.proofs.Common.{eq-eqb, ◌/◌}
 use Rattle.sfi_image.specs.Gates.{is_gate_of}
 use Rattle.sfi_image.specs.Parts.{IsRightPart}
 use Rattle.sfi_image.specs.declared.part.Gate.{Gate}
 use Rattle.sfi_image.proofs.Facts.{whole_bundles}
-use Rattle.std.specs.Prelude.{MatchBool}
-use Rattle.sfi_policy.specs.Formats.{has_words}
 use Rattle.sfi_rules.specs.declared.owed.Owed.{Owed}
 use Rattle.sfi_rules.specs.declared.owed.Owed.TheVariants.{Nothing}
-use Rattle.sfi_rules.specs.words.Findings.{AreFoundOfFirst}
-use Rattle.sfi_scan.specs.Stretches.{IsStretch, AreStretchFindings, AreWordStretchFindings, AreFoundInStretch, stretch_place}
-use Rattle.sfi_scan.proofs.WordStretches.{words_in_part}
+use Rattle.sfi_rules.specs.Findings.{AreFoundUpTo}
+use Rattle.sfi_rules.proofs.Facts.{none_found}
+use Rattle.sfi_scan.specs.Stretches.{IsStretch, AreFoundInStretch, stretch_place}
+use Rattle.sfi_scan.proofs.WordStretches.{found_in_part}
 use Rattle.sfi_scan.specs.private.Listing.{Lists}
-use Rattle.sfi_scan.proofs.Stretches.{front_bundle, rest_bundle, stretch_in_part}
+use Rattle.sfi_scan.proofs.Stretches.{front_bundle, rest_bundle}
 
 -- ---- gates
 
@@ -33,10 +32,6 @@ one_gate (g ∷ gs) (suc k) d less = rw (one_gate gs k d (omega arith)) (or_true
     or_true false = refl
 
 -- ---- where the scan stands
-
--- the findings of the first so many bundles, and what is owed after them
-abbrev pub AreFoundUpTo : ℕ → Part → ℕ → List Finding → Owed → Type 0
-AreFoundUpTo sandbox p n found owed = MatchBool (has_words p.format) (AreFoundOfFirst sandbox p n found owed) (AreFindingsOfFirst sandbox p n found)
 
 -- so many bytes are scanned, up to the gate before the one of that number, if there is one
 pub record IsAtGate (sandbox : ℕ) (p : Part) (i : ℕ) (b : BundlePlace) (at : ℕ) (found : List Finding) (owed : Owed) (lacks : Bool) : Type 0 where
@@ -118,13 +113,11 @@ pub next_found : (sandbox : ℕ) (p : Part) (i : ℕ) (b : BundlePlace) (at end 
     → (here : IsAtGate sandbox p i b at found owed lacks) → IsNext p i at end n → AreFoundInStretch b owed (take (end - at) (drop at p.code)) n more next_owed → Lists found lacks more new lacks' → lacks' ≡ false
     → AreFoundUpTo sandbox p (here.bundles + n) new next_owed
 next_found sandbox p i b at end n found owed lacks new more next_owed lacks' right here next are lists has =
-    by (has_words p.format) (here.found_are told.0) (subst (λ (w : Bool). MatchBool w (AreWordStretchFindings b owed (take (end - at) (drop at p.code)) n more next_owed) (AreStretchFindings b (take (end - at) (drop at p.code)) n more × (next_owed ≡ Nothing))) format are)
+    subst (λ (l : List Finding). AreFoundUpTo sandbox p (here.bundles + n) l next_owed) (sym told.1)
+    (found_in_part sandbox p b (take (end - at) (drop at p.code)) here.bundles n found more owed next_owed (ap (λ (x : BundlePlace). x.format) here.place_is) (places sandbox p i b at end n found owed lacks right here next) each (here.found_are told.0) are)
   where
     told : (lacks ≡ false) × (new ≡ found ++ more)
     told = lists has
-
-    format : has_words b.format ≡ has_words p.format
-    format = ap (λ (x : BundlePlace). has_words x.format) here.place_is
 
     bytes_are : (take (end - at) (drop at p.code)) ≡ take (16 * n) (drop (16 * here.bundles) p.code)
     bytes_are =
@@ -135,16 +128,6 @@ next_found sandbox p i b at end n found owed lacks new more next_owed lacks' rig
 
     each : (m : ℕ) → m < n → block_bundle (take (end - at) (drop at p.code)) m ≡ bundle_bytes p (here.bundles + m)
     each m less = ap (λ (l : List ℕ). block_bundle l m) bytes_are ∙ front_bundle n m (drop (16 * here.bundles) p.code) less ∙ rest_bundle here.bundles m p.code
-
-    by : (w : Bool) → MatchBool w (AreFoundOfFirst sandbox p here.bundles found owed) (AreFindingsOfFirst sandbox p here.bundles found)
-        → MatchBool w (AreWordStretchFindings b owed (take (end - at) (drop at p.code)) n more next_owed) (AreStretchFindings b (take (end - at) (drop at p.code)) n more × (next_owed ≡ Nothing))
-        → MatchBool w (AreFoundOfFirst sandbox p (here.bundles + n) new next_owed) (AreFindingsOfFirst sandbox p (here.bundles + n) new)
-    by true before after =
-        subst (λ (l : List Finding). AreFoundOfFirst sandbox p (here.bundles + n) l next_owed) (sym told.1)
-        (words_in_part sandbox p b (take (end - at) (drop at p.code)) here.bundles n found more owed next_owed (places sandbox p i b at end n found owed lacks right here next) each before after)
-    by false before after =
-        subst (AreFindingsOfFirst sandbox p (here.bundles + n)) (sym told.1)
-        (stretch_in_part sandbox p b (take (end - at) (drop at p.code)) here.bundles n found more (places sandbox p i b at end n found owed lacks right here next) each before after.0)
 
 -- ---- where it goes on
 
@@ -201,12 +184,8 @@ at_first sandbox p right =
       inside = omega arith;
       place_is = ap (λ (a : ℕ). record (place_of sandbox p 0) { address = a; listed = false }) (let e : p.code_base ≡ p.code_base + 16 * 0 = omega arith in e);
       last = inl (refl, refl, refl);
-      found_are = λ has. none (has_words p.format);
+      found_are = λ has. none_found sandbox p;
     }
-  where
-    none : (w : Bool) → MatchBool w (AreFoundOfFirst sandbox p 0 [] Nothing) (AreFindingsOfFirst sandbox p 0 [])
-    none true = (refl, refl)
-    none false = refl
 
 -- at the next gate
 pub at_next : (sandbox : ℕ) (p : Part) (i j : ℕ) (b c : BundlePlace) (at a end : ℕ) (found : List Finding) (owed : Owed) (lacks : Bool) (new more : List Finding) (next_owed : Owed) (lacks' : Bool) → IsRightPart p → IsAtGate sandbox p i b at found owed lacks

@@ -1,13 +1,12 @@
-use Rattle.sfi_scan.proofs.Prelude.{true, ◌*◌, ◌≡◌, ◌∙◌, ◌≤◌, ◌<◌, ◌+◌, ◌-◌, ◌/◌, ℕ, List, Bool, false, [], length, get_or, refl, ap, sym, subst, arith, BundlePlace, Finding, view, place_of, AreFindingsOfFirst}
+use Rattle.sfi_scan.proofs.Prelude.{◌≡◌, ◌∙◌, ◌≤◌, ◌<◌, ◌+◌, ◌-◌, ◌/◌, ℕ, List, Bool, false, [], length, get_or, refl, ap, sym, subst, arith, BundlePlace, Finding, view, place_of}
 use Rattle.std.proofs.Common.{Result, Ok, Err}
-use Rattle.std.specs.Prelude.{IfOk, MatchBool}
-use Rattle.sfi_policy.specs.Formats.{has_words}
+use Rattle.std.specs.Prelude.{IfOk}
 use Rattle.sfi_rules.specs.declared.owed.Owed.TheVariants.{Nothing}
-use Rattle.sfi_rules.specs.Findings.{AreFindingsInBundles}
-use Rattle.sfi_rules.specs.words.Findings.{AreFoundOfFirst, AreFindingsInWords}
+use Rattle.sfi_rules.specs.Findings.{AreFoundUpTo}
+use Rattle.sfi_rules.proofs.Facts.{all_found}
 use Rattle.std.proofs.lemmas.List.{get_or_default}
 use Rattle.sfi_image.specs.declared.part.Gate.{Gate}
-use Rattle.sfi_scan.proofs.Gates.{IsAtGate, AreFoundUpTo, at_first, at_next, next_end, next_found, next_gate, next_stretch}
+use Rattle.sfi_scan.proofs.Gates.{IsAtGate, at_first, at_next, next_end, next_found, next_gate, next_stretch}
 use Rattle.sfi_scan.proofs.part.scan_part_as.Goals as goal
 
 abbrev no_gate : Gate
@@ -138,15 +137,9 @@ returns c =
     c.scan_stretch.new.sink.found.items scanned.found c.scan_stretch.result c.scan_stretch.new.sink.lacks_memory c.requires inv next scanned.found_are scanned.handed in
     let at_is = inv.at_is in
     let end_is = next.end_is in
-    if_ok c.into_result.result (λ v told. by v.items (has_words p.format) (inv.bundles + n) (omega arith)
+    if_ok c.into_result.result (λ v told. all_found c.args.sandbox p (inv.bundles + n) v.items c.scan_stretch.result (omega arith)
     (subst (λ (l : List Finding). AreFoundUpTo c.args.sandbox p (inv.bundles + n) l c.scan_stretch.result) (sym told.1) (found told.0))) c.into_result.ensures
   where
-    by : (l : List Finding) (w : Bool) (m : ℕ) → length (view c.args.format c.args.part.now).code ≡ 16 * m
-        → MatchBool w (AreFoundOfFirst c.args.sandbox (view c.args.format c.args.part.now) m l c.scan_stretch.result) (AreFindingsOfFirst c.args.sandbox (view c.args.format c.args.part.now) m l)
-        → MatchBool w (AreFindingsInWords c.args.sandbox (view c.args.format c.args.part.now) l) (AreFindingsInBundles c.args.sandbox (view c.args.format c.args.part.now) l)
-    by l true m whole are = (m, c.scan_stretch.result, whole, are)
-    by l false m whole are = (m, whole, are)
-
     if_ok : {X E : Type 0} (r : Result X E) {P Q : X → Type 0} → ((x : X) → P x → Q x) → IfOk r P → IfOk r Q
     if_ok (Ok x) f h = f x h
     if_ok (Err e) f h = tt
