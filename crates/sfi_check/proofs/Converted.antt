@@ -1,6 +1,6 @@
 -- What a refusal is to a conversion, and which format an image begins with.
-use Rattle.sfi_check.proofs.Prelude.{◌≡◌, ℕ, List, [], ◌∷◌, ◌++◌, take, get_or, refl, sym, ap, ◌∙◌, subst, arith, Result, Ok, Err, Vec, IfOk, IfErr, Bool, true, false, Format, Sfi1, Sfi2, has_words, magic, IsFault, SandboxPart, Part, view, views, format_of, Finding, AreImageFindings, IsAccepted, HasFindings}
-use Rattle.sfi_check.specs.Converting.{IsSecond, IsOfWords, IsConversion, IsConvertFault, IfStack, AreOfStack, fault_of, AnswersLayout, AnswersFindings, AnswersWords}
+use Rattle.sfi_check.proofs.Prelude.{◌≡◌, ℕ, List, [], ◌∷◌, ◌++◌, take, get_or, refl, sym, ap, ◌∙◌, subst, arith, Result, Ok, Err, Vec, IfOk, IfErr, false, Format, Sfi1, Sfi2, has_words, magic, IsFault, SandboxPart, Part, view, views, format_of, Finding, AreImageFindings, IsAccepted, HasFindings}
+use Rattle.sfi_check.specs.Converting.{IsSecond, IsConversion, IsConvertFault, IfStack, AreOfStack, fault_of, AnswersLayout, AnswersFindings}
 use Rattle.sfi_check.specs.Refusals.{IfLayoutFault, IfFindings}
 use Rattle.sfi_check.specs.declared.conversion.ConvertFault.{ConvertFault}
 use Rattle.sfi_check.specs.declared.conversion.ConvertFault.TheVariants.{Refused, NotOld, Stack, Words}
@@ -14,7 +14,6 @@ use Rattle.std.specs.Result.{IsErrAnd}
 use Rattle.sfi_image.specs.Spelling.{spelling}
 use Rattle.sfi_image.specs.Parts.{AreOf}
 use Rattle.sfi_policy.specs.declared.format.Format.TheVariants.{Sfiw}
-use Rattle.sfi_image.proofs.Facts.{one_image}
 use Rattle.sfi_rules.proofs.Facts.{clean_breaks_stack_alone}
 use Rattle.sfi_check.specs.Verdict as verdict
 use Rattle.sfi_check.specs.declared.conversion.ConvertFault.TheVariants as convert
@@ -63,18 +62,6 @@ of_three Sfiw front e not bundles = absurd cc
 pub not_second_first : (bytes : List ℕ) (ps : List Part) → IsAccepted bytes ps → (IsSecond bytes → ⊥) → has_words (format_of ps) ≡ false → format_of ps ≡ Sfi1
 not_second_first bytes ps is not bundles = of_three (format_of ps) (take 4 bytes) (begins_with bytes ps is.image.bytes_are) not bundles
 
-third : (f : Format) → has_words f ≡ true → f ≡ Sfiw
-third Sfi1 has = absurd cc
-third Sfi2 has = absurd cc
-third Sfiw has = refl
-
--- the format of one list of parts is that of all that the bytes have
-pub of_format : (bytes : List ℕ) (ps qs : List Part) (f : Format) → IsAccepted bytes ps → IsAccepted bytes qs → format_of qs ≡ f → has_words (format_of ps) ≡ has_words f
-of_format bytes ps qs f one other is = ap (λ (l : List Part). has_words (format_of l)) (one_image bytes ps qs one.image other.image) ∙ ap has_words is
-
-pub words_mean : (bytes : List ℕ) (ps : List Part) → IsAccepted bytes ps → has_words (format_of ps) ≡ true → IsOfWords bytes
-words_mean bytes ps is has = record { parts = ps; third = third (format_of ps) has; accepted = is }
-
 -- ---- refusals
 
 pub refused_means : (bytes : List ℕ) (r : Refusal) → (IsSecond bytes → ⊥) → IfLayoutFault (IsFault bytes) r → IfFindings (HasFindings bytes) r → IsConvertFault bytes (fault_of r)
@@ -91,11 +78,6 @@ pub refused_findings : (found : List Finding) (r : Refusal) → verdict.AnswersF
 refused_findings found (Layout j) h = h
 refused_findings found (Findings others) h = h
 refused_findings found Memory h = h
-
-pub refused_words : (ps : List Part) (r : Refusal) → verdict.AnswersAccepted ps (Err r) → AnswersWords (Err (fault_of r))
-refused_words ps (Layout j) h = h
-refused_words ps (Findings found) h = h
-refused_words ps Memory h = h
 
 -- ---- what is accepted
 

@@ -1,5 +1,5 @@
 -- The tally of a front and of the one that follows it.
-use Rattle.sfi_check.proofs.Prelude.{◌≡◌, ℕ, suc, ◌+◌, ◌*◌, ◌/◌, ◌<◌, ◌≤◌, eqb, Bool, List, [], ◌∷◌, ◌++◌, length, take, drop, refl, sym, ap, ◌∙◌, subst, arith, append_assoc, inl, inr, slice_get, take-append_seam, cases_Bool, eqb-true, length-append, length_push, append-nil, Format, Gate, Part, is_gate_of, Front, IsRightFront, want_of, part_of, after_parts, after_init, after_code, after_gates, Follows, HasFaultNumberWhateverFollows, Empty, AfterMagic, AfterCount, InGates, InCode, InInit, Whole, BundlePlace, Finding, AreFindings, AreFoundUpTo, AreImageFindings, Tally, bundle_count, owed_after, AreFindingsSoFar, AreFindingsWithin, findings_most, Tallies, want_at}
+use Rattle.sfi_check.proofs.Prelude.{◌≡◌, ℕ, ◌+◌, ◌*◌, ◌/◌, ◌<◌, ◌≤◌, eqb, Bool, List, [], ◌∷◌, ◌++◌, length, refl, sym, ap, ◌∙◌, subst, arith, append_assoc, inl, inr, slice_get, cases_Bool, eqb-true, length-append, length_push, append-nil, Format, Gate, Part, Front, IsRightFront, want_of, part_of, after_parts, after_init, after_code, after_gates, Follows, HasFaultNumberWhateverFollows, Empty, AfterMagic, AfterCount, InGates, InCode, InInit, Whole, BundlePlace, Finding, AreFindings, AreFoundUpTo, AreImageFindings, Tally, bundle_count, owed_after, AreFindingsSoFar, AreFindingsWithin, findings_most, Tallies}
 use Rattle.sfi_image.specs.declared.fields.Fields.{Fields}
 use Rattle.std.proofs.lemmas.List.Sums.{sum_by-append}
 use Rattle.sfi_image.specs.declared.want.Want.TheVariants as wants

@@ -1,4 +1,4 @@
-use Rattle.sfi_check.proofs.Prelude.{◌≡◌, ◌≤◌, ◌<◌, ◌/◌, ◌++◌, ℕ, List, length, take, refl, arith, length-take}
+use Rattle.sfi_check.proofs.Prelude.{◌≤◌, ◌<◌, ◌/◌, length, take, refl, arith}
 use Rattle.sfi_check.proofs.Leading.{step_fault}
 use Rattle.sfi_check.proofs.Stretches.{stretch_step, stretch_taken}
 use Rattle.sfi_check.proofs.piece.take_code.Goals as goal

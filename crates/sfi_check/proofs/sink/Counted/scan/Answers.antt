@@ -1,4 +1,3 @@
-use Rattle.sfi_check.proofs.Prelude.{ℕ}
 use Rattle.sfi_check.proofs.sink.Counted.scan.Goals as goal
 
 pub returns-clause-counted : goal.returns-clause-counted
