@@ -2,7 +2,7 @@
 use Rattle.rv_text.proofs.Prelude.{◌≡◌, refl, sym, ap, subst, subst₂, ◌∙◌, ℕ, ◌+◌, ◌⊎◌, inl, inr, List, [], ◌∷◌, Some, arith, codes, same_Some, none-some, TextCause, Keyword, Takes, IsName, keyword_name, RefusedWith, NameRefused, Stated, number_of_format, format, sandbox, within, StatedWithin, SoFar, with_label, nothing, sandboxes, IsFree, Fits, Labels, RefusesLabel, GoesOn, Does, with_stated, HasNoRoom, BeginsWithLabel, HasNoLabel, LabelsLead, PassesLabels, LeadsAfter, RestLeads, LabelRefused, PassesLimit, OperandsRefused, RefusedAfter, RefusedFrom, StatementRefused, uncommented, lines, LinesLead, FirstRefused, LeadsOnce, LeadingIsNotRefused, RefusedOnce, OneSource, OneFault, MeantHasNoFault}
 use Rattle.rv_text.specs.declared.fault.TextFault.{TextFault}
 use Rattle.sfi_policy.specs.declared.format.Format.{Format}
-use Rattle.sfi_policy.specs.declared.format.Format.TheVariants.{Sfi1, Sfi2}
+use Rattle.sfi_policy.specs.declared.format.Format.TheVariants.{Sfi1, Sfi2, Sfiw}
 use Rattle.rv_text.specs.declared.cause.TextCause.TheVariants as cause
 use Rattle.rv_text.proofs.Taking.{takes_unique, blank_takes_none}
 use Rattle.rv_text.proofs.Fronts.{One, either_one, token_at, token_one}
@@ -91,6 +91,11 @@ one_format Sfi1 Sfi1 h = refl
 one_format Sfi1 Sfi2 h = absurd (omega (arith, h))
 one_format Sfi2 Sfi1 h = absurd (omega (arith, h))
 one_format Sfi2 Sfi2 h = refl
+one_format Sfi1 Sfiw h = absurd (omega (arith, h))
+one_format Sfi2 Sfiw h = absurd (omega (arith, h))
+one_format Sfiw Sfi1 h = absurd (omega (arith, h))
+one_format Sfiw Sfi2 h = absurd (omega (arith, h))
+one_format Sfiw Sfiw h = refl
 
 does_one : (line : ℕ) (s : Stated) (old a b : SoFar) → Does line s old a → Does line s old b → a ≡ b
 does_one line (format number) old a b (x, is, a_is) (y, other, b_is) =

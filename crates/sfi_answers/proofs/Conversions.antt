@@ -5,7 +5,7 @@ use Rattle.std.specs.Global.{Global}
 use Rattle.sfi_image.specs.Faults.{IsFault}
 use Rattle.sfi_image.specs.declared.fault.LayoutFault.{LayoutFault}
 use Rattle.sfi_rules.specs.declared.finding.Finding.{Finding}
-use Rattle.sfi_check.specs.Converting.{IsSecond, IsConversion, HasStackFindings, IsConvertFault, AnswersConversion, AnswersFindings, AnswersLayout, AnswersNotOld, AnswersStack}
+use Rattle.sfi_check.specs.Converting.{IsSecond, IsOfWords, IsConversion, HasStackFindings, IsConvertFault, AnswersConversion, AnswersFindings, AnswersLayout, AnswersNotOld, AnswersStack, AnswersWords}
 use Rattle.sfi_check.specs.Verdict.{HasFindings}
 use Rattle.sfi_check.specs.declared.conversion.ConvertFault.{ConvertFault}
 use Rattle.sfi_check.specs.declared.conversion.ConvertFault.TheVariants.{Refused, NotOld, Stack, Memory}
@@ -24,9 +24,9 @@ use Rattle.sfi_answers.specs.declared.verdict.Answer.{Answer}
 
 pub converted : (bytes new : List ℕ) (a : Answer) → IsConversion bytes new → a.status ≡ 0 → string_bytes a.text ≡ digits_line new
     → ((k : LayoutFault) → (¬ IsSecond bytes) → IsFault bytes k → ⊥) → (IsSecond bytes → ⊥)
-    → ((found : List Finding) → (¬ IsSecond bytes) → HasFindings bytes found → ⊥) → ((found : List Finding) → HasStackFindings bytes found → ⊥)
+    → ((found : List Finding) → (¬ IsSecond bytes) → HasFindings bytes found → ⊥) → ((found : List Finding) → HasStackFindings bytes found → ⊥) → (IsOfWords bytes → ⊥)
     → Answers convert bytes (Ok a)
-converted bytes new a is status text layout first found stack = record {
+converted bytes new a is status text layout first found stack words = record {
   says = inl (record { new = new; conversion = is; status_is = status; text_is = text });
   stop = tt;
   only_done = λ _. status;
@@ -38,9 +38,10 @@ converted bytes new a is status text layout first found stack = record {
     refused others (inl g) = absurd (found others g.0 g.1)
     refused others (inr g) = absurd (stack others g)
 
-    fault : HasSomeFault bytes ⊎ IsSecond bytes → IsErr {T = Answer} {E = Stop} (Ok a)
+    fault : HasSomeFault bytes ⊎ (IsSecond bytes ⊎ IsOfWords bytes) → IsErr {T = Answer} {E = Stop} (Ok a)
     fault (inl wrong) = absurd (layout wrong.0 first wrong.1)
-    fault (inr second) = absurd (first second)
+    fault (inr (inl second)) = absurd (first second)
+    fault (inr (inr third)) = absurd (words third)
 
 -- ---- a fault
 
@@ -65,9 +66,10 @@ fault_says bytes fault (Ok a) only is h = findings_say bytes fault h.1.0 a.statu
 fault_says bytes fault (Err s) only is h = tt
 
 fault_stops : (bytes : List ℕ) (fault : ConvertFault) (answer : Result Answer Stop) → IsConvertFault bytes fault
-    → AnswersConvertFault fault answer → IfErr answer (IsStop (HasSomeFault bytes ⊎ IsSecond bytes))
+    → AnswersConvertFault fault answer → IfErr answer (IsStop (HasSomeFault bytes ⊎ (IsSecond bytes ⊎ IsOfWords bytes)))
 fault_stops bytes fault (Ok a) is h = tt
-fault_stops bytes fault (Err (stop.Input other)) is h = inr (subst (IsConvertFault bytes) h is)
+fault_stops bytes fault (Err (stop.Input other)) is (inl h) = inr (inl (subst (IsConvertFault bytes) h is))
+fault_stops bytes fault (Err (stop.Input other)) is (inr h) = inr (inr (subst (IsConvertFault bytes) h is))
 fault_stops bytes fault (Err (stop.Layout k)) is h =
     let wrong : IsConvertFault bytes (Refused (refusal.Layout k)) = subst (IsConvertFault bytes) h is in
     inl (k, wrong.1)
@@ -77,7 +79,8 @@ fault_stops bytes fault (Err stop.Memory) is h = tt
 -- an answer that is no other than want of memory
 memory_answer : (status : ℕ) (answer : Result Answer Stop) → AnswersConvertFault Memory answer → AnswersStatus status answer
 memory_answer status (Ok a) h = absurd h.1.1
-memory_answer status (Err (stop.Input other)) h = absurd (cc)
+memory_answer status (Err (stop.Input other)) (inl h) = absurd (cc)
+memory_answer status (Err (stop.Input other)) (inr h) = absurd (cc)
 memory_answer status (Err (stop.Layout k)) h = absurd (cc)
 memory_answer status (Err (stop.Build other)) h = absurd h
 memory_answer status (Err stop.Memory) h = tt
@@ -89,7 +92,8 @@ done_after new _ answer only h = absurd only
 -- findings are answered by status 1
 findings_status : (fault : ConvertFault) (found : List Finding) (answer : Result Answer Stop) → HasFound fault found → AnswersConvertFault fault answer → AnswersStatus 1 answer
 findings_status fault found (Ok a) f h = h.0
-findings_status fault found (Err (stop.Input other)) f h = absurd (subst (λ (x : ConvertFault). HasFound x found) h f)
+findings_status fault found (Err (stop.Input other)) f (inl h) = absurd (subst (λ (x : ConvertFault). HasFound x found) h f)
+findings_status fault found (Err (stop.Input other)) f (inr h) = absurd (subst (λ (x : ConvertFault). HasFound x found) h f)
 findings_status fault found (Err (stop.Layout k)) f h = absurd (subst (λ (x : ConvertFault). HasFound x found) h f)
 findings_status fault found (Err (stop.Build other)) f h = absurd h
 findings_status fault found (Err stop.Memory) f h = tt
@@ -109,13 +113,19 @@ no_layout (Refused (refusal.Findings others)) found k f h = h
 no_layout (Stack others) found k f h = h
 no_layout _ found k f h = f
 
+no_words : (fault : ConvertFault) (found : List Finding) → HasFound fault found → AnswersWords (Err fault) → ⊥
+no_words (Refused (refusal.Findings others)) found f h = h
+no_words (Stack others) found f h = h
+no_words _ found f h = f
+
 pub not_converted : (bytes : List ℕ) (fault : ConvertFault) (answer : Result Answer Stop) → IsConvertFault bytes fault → (IsSecond bytes → AnswersNotOld (Err fault))
     → ((k : LayoutFault) → (¬ IsSecond bytes) → IsFault bytes k → AnswersLayout k (Err fault))
     → ((found : List Finding) → (¬ IsSecond bytes) → HasFindings bytes found → AnswersFindings found (Err fault))
     → ((found : List Finding) → HasStackFindings bytes found → AnswersStack found (Err fault))
+    → (IsOfWords bytes → AnswersWords (Err fault))
     → ((new : List ℕ) → IsConversion bytes new → AnswersConversion new (Err fault))
     → AnswersConvertFault fault answer → Answers convert bytes answer
-not_converted bytes fault answer is only_not_old only_layout only_findings only_stack only_converted h = record {
+not_converted bytes fault answer is only_not_old only_layout only_findings only_stack only_words only_converted h = record {
   says = fault_says bytes fault answer only_not_old is h;
   stop = fault_stops bytes fault answer is h;
   only_done = λ done. done_after done.0 fault answer (only_converted done.0 done.1) h;
@@ -127,9 +137,10 @@ not_converted bytes fault answer is only_not_old only_layout only_findings only_
     status found (inl g) = first_after found fault answer (only_findings found g.0 g.1) h
     status found (inr g) = second_after found fault answer (only_stack found g) h
 
-    error : (r : Result Answer Stop) → AnswersConvertFault fault r → HasSomeFault bytes ⊎ IsSecond bytes → IsErr r
+    error : (r : Result Answer Stop) → AnswersConvertFault fault r → HasSomeFault bytes ⊎ (IsSecond bytes ⊎ IsOfWords bytes) → IsErr r
     error (Err s) e wrong = refl
     error (Ok a) e (inl wrong) =
         let none : IsSecond bytes → ⊥ = not_second bytes fault e.1.0 only_not_old e.1.1 in
         absurd (no_layout fault e.1.0 wrong.0 e.1.1 (only_layout wrong.0 none wrong.1))
-    error (Ok a) e (inr second) = absurd (not_second bytes fault e.1.0 only_not_old e.1.1 second)
+    error (Ok a) e (inr (inl second)) = absurd (not_second bytes fault e.1.0 only_not_old e.1.1 second)
+    error (Ok a) e (inr (inr third)) = absurd (no_words fault e.1.0 e.1.1 (only_words third))

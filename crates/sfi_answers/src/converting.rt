@@ -49,6 +49,7 @@ fn fault_answer(alloc: Global, fault: ConvertFault) -> Result<Answer, Stop>
             text: findings_line(alloc, found.as_slice())?,
         }),
         ConvertFault::Memory => Err(Stop::Memory),
+        ConvertFault::Words => Err(Stop::Input(InputFault::Words)),
     }
 }
 

@@ -24,6 +24,8 @@ pub enum InputFault {
     Utf8,
     /// It begins as an image of the second format does, which `convert` makes.
     NotOld,
+    /// It is an accepted image of code in words, which has no other format.
+    Words,
 }
 
 /// Why a command gives no verdict: a fault of the text, of the image that it spells or of the
@@ -108,6 +110,7 @@ fn input_line(alloc: Global, fault: InputFault) -> Result<String, AllocError> {
         InputFault::Hex(fault) => format!(in alloc; "{fault}\n"),
         InputFault::Utf8 => String::from_str(alloc, "input fault utf8\n"),
         InputFault::NotOld => String::from_str(alloc, "convert fault 2 NotOld\n"),
+        InputFault::Words => String::from_str(alloc, "convert fault 5 Words\n"),
     }
 }
 

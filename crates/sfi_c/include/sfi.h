@@ -5,7 +5,9 @@
  * other register and data byte arbitrary, after any number of turns every load and store fell in that sandbox's data
  * region or its guard zones, where it trapped, no code byte changed, and control left only through a listed gate.
  * In the second format x2, the stack pointer, isn't arbitrary: at an entry and after a reply it lies in the data
- * region. This is proved of the calls below. The library loads and runs nothing: the caller sees to it that memory,
+ * region. In the third, SFIW, six registers aren't: x2, x3, x4 and x29 lie in the data region or at most 1020 bytes
+ * beside it, x30 is a multiple of 4 in the code region, and x31 is less than the data's size. This is proved of the
+ * calls below. The library loads and runs nothing: the caller sees to it that memory,
  * host and neighbours are as the theorem asks (README.md has it with its premises).
  *
  * The calls read nothing but their arguments, keep nothing elsewhere from one to the next, start no thread, read no file
@@ -64,7 +66,7 @@ enum sfi_layout_fault {
 struct sfi_finding {
     uint32_t sandbox; /* the sandbox's place in the image, counted from 0 */
     uint32_t address; /* that of the instruction's first byte, or of the bytes that are none; for V9 the gate's */
-    uint32_t rule;    /* 1 for V1 to 10 for V10 (README.md, "Rules") */
+    uint32_t rule;    /* 1 for V1 to 12 for V12 (README.md, "Rules") */
 };
 
 /* The verdict on an image. What its status doesn't speak of is 0. */
@@ -161,7 +163,7 @@ enum sfi_lookup {
 
 /* A sandbox of an image. */
 struct sfi_part {
-    uint32_t format;    /* that of the image: 1 for SFI1, 2 for SFI2 */
+    uint32_t format;    /* that of the image: 1 for SFI1, 2 for SFI2, 3 for SFIW */
     uint32_t code_base; /* the code region: its first address .. */
     uint32_t code_size; /* .. and how many bytes it has, all of which are in the image */
     uint32_t data_base; /* the data region: its first address .. */

@@ -2,6 +2,7 @@ mod Answering
 mod Filling
 mod Listing
 mod Lookups
+mod Owing
 mod Places
 mod Seeking
 mod Writing

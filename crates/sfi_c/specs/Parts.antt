@@ -2,7 +2,7 @@
 use Rattle.std.specs.Prelude.{◌≡◌, ℕ, ◌+◌, ◌*◌, ◌≤◌, ◌⊎◌, List, ◌++◌, Some, length, slice_get, take}
 use Rattle.std.specs.List.{flat_map}
 use Rattle.sfi_policy.specs.declared.format.Format.{Format}
-use Rattle.sfi_policy.specs.declared.format.Format.TheVariants.{Sfi1, Sfi2}
+use Rattle.sfi_policy.specs.declared.format.Format.TheVariants.{Sfi1, Sfi2, Sfiw}
 use Rattle.sfi_image.specs.declared.part.Gate.{Gate}
 use Rattle.sfi_image.specs.Spelling.{Part, part, magic_bytes, number_bytes, fields_bytes, gate_bytes}
 use Rattle.sfi_image.specs.Images.{IsImage}
@@ -24,6 +24,7 @@ lookup_number NoImage = 2
 abbrev pub format_number : Format → ℕ
 format_number Sfi1 = 1
 format_number Sfi2 = 2
+format_number Sfiw = 3
 
 -- ---- sandboxes
 

@@ -1,14 +1,16 @@
 -- What C keeps of an image that comes in pieces.
-use Rattle.std.specs.Prelude.{◌==◌, ℕ, List, cond, take, Option, Some, None}
+use Rattle.std.specs.Prelude.{◌==◌, ◌/◌, ◌%◌, ℕ, List, cond, take, Option, Some, None}
 use Rattle.std.specs.Option.{option_map}
 use Rattle.sfi_policy.specs.declared.format.Format.{Format}
-use Rattle.sfi_policy.specs.declared.format.Format.TheVariants.{Sfi1, Sfi2}
+use Rattle.sfi_policy.specs.declared.format.Format.TheVariants.{Sfi1, Sfi2, Sfiw}
 use Rattle.sfi_image.specs.declared.fields.Fields.{Fields}
 use Rattle.sfi_image.specs.declared.want.Next.{Next}
 use Rattle.sfi_image.specs.declared.want.Next.TheVariants as next
 use Rattle.sfi_image.specs.Keeping.{ReaderState, IsReader}
 use Rattle.sfi_rules.specs.declared.finding.Finding.{Finding}
 use Rattle.sfi_rules.specs.Numbers.{numbered}
+use Rattle.sfi_rules.specs.declared.owed.Owed.{Owed}
+use Rattle.sfi_rules.specs.declared.owed.Owed.TheVariants as owed
 use Rattle.sfi_check.specs.declared.feed.Feed.{Feed}
 use Rattle.sfi_check.specs.declared.tally.Tally.{Tally}
 use Rattle.sfi_check.specs.Feeds.{IsFed}
@@ -30,7 +32,18 @@ stage_of n =
 
 -- a format
 abbrev pub format_of : ℕ → Format
-format_of n = cond (n == 1) Sfi1 Sfi2
+format_of n = cond (n == 1) Sfi1 (cond (n == 2) Sfi2 Sfiw)
+
+-- what is owed: its kind, and 8 for each of its register
+abbrev pub owed_by : ℕ → ℕ → Owed
+owed_by kind register =
+    cond (kind == 1) owed.Code
+    (cond (kind == 2) (owed.Mask register)
+    (cond (kind == 3) (owed.Place register)
+    (cond (kind == 4) (owed.MaskOrUse register) owed.Nothing)))
+
+abbrev pub owed_of : ℕ → Owed
+owed_of n = owed_by (n % 8) (n / 8 % 256)
 
 -- a finding; zeros are none, since no rule has the number 0
 abbrev pub first_finding : SfiFinding → Option Finding
@@ -74,6 +87,7 @@ tally_of s = record {
   bundles = s.bundles;
   count = s.findings;
   first = first_finding s.first;
+  owed = owed_of s.owed;
 }
 
 -- the fault that was met, if one was

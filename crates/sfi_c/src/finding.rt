@@ -12,7 +12,7 @@ pub struct SfiFinding {
     pub sandbox: u32,
     /// That of the instruction's first byte, or of the bytes that are none; for V9 the gate's.
     pub address: u32,
-    /// The rule's number, 1 for V1 to 10 for V10.
+    /// The rule's number, 1 for V1 to 12 for V12.
     pub rule: u32,
 }
 

@@ -1,11 +1,11 @@
 //! Numbers for what an enum says in Rattle.
 ghost use Rattle.std.specs.Prelude.{◌≡◌};
 ghost use Rattle.sfi_c.specs.Parts.{format_number};
-ghost use Rattle.sfi_c.specs.Streams.{stage_of, format_of, first_finding};
+ghost use Rattle.sfi_c.specs.Streams.{stage_of, format_of, owed_of, first_finding};
 
 use crate::finding::{SfiFinding, no_finding, told};
 use sfi_image::{Format, Next};
-use sfi_rules::{Finding, Rule};
+use sfi_rules::{Finding, Owed, Rule};
 
 /// The number of what comes next.
 pub(crate) fn stage_number(next: Next) -> u32
@@ -47,6 +47,7 @@ pub(crate) fn format_number(format: Format) -> u32
     match format {
         Format::Sfi1 => 1,
         Format::Sfi2 => 2,
+        Format::Sfiw => 3,
     }
 }
 
@@ -56,7 +57,35 @@ pub(crate) fn format_of(number: u32) -> Format
 {
     match number {
         1 => Format::Sfi1,
-        _ => Format::Sfi2,
+        2 => Format::Sfi2,
+        _ => Format::Sfiw,
+    }
+}
+
+/// The number of what is owed: its kind, and 8 for each of its register.
+pub(crate) fn owed_number(owed: Owed) -> u32
+    ensures { owed_of result ≡ owed }
+{
+    match owed {
+        Owed::Nothing => 0,
+        Owed::Code => 1,
+        Owed::Mask(register) => 8 * register as u32 + 2,
+        Owed::Place(register) => 8 * register as u32 + 3,
+        Owed::MaskOrUse(register) => 8 * register as u32 + 4,
+    }
+}
+
+/// What is owed, by its number.
+pub(crate) fn owed_of(number: u32) -> Owed
+    ensures { result ≡ owed_of number }
+{
+    let register = (number / 8 % 256) as u8;
+    match number % 8 {
+        1 => Owed::Code,
+        2 => Owed::Mask(register),
+        3 => Owed::Place(register),
+        4 => Owed::MaskOrUse(register),
+        _ => Owed::Nothing,
     }
 }
 

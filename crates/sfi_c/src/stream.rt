@@ -4,7 +4,10 @@ ghost use Rattle.sfi_image.specs.Keeping.{IsReader};
 ghost use Rattle.sfi_c.specs.Streams.{fields_of, reader_of, tally_of, fault_of, feed_of};
 
 use crate::finding::SfiFinding;
-use crate::stage::{first_finding, first_told, format_number, format_of, stage_number, stage_of};
+use crate::stage::{
+    first_finding, first_told, format_number, format_of, owed_number, owed_of, stage_number,
+    stage_of,
+};
 use sfi_check::{Feed, Tally};
 use sfi_image::{Fields, LayoutReader, ReaderParts, Span};
 use std::mem::size_of;
@@ -24,8 +27,6 @@ pub struct SfiStream {
     pub passed: u64,
     /// How many bytes are held.
     pub held_count: u64,
-    /// How many faults of the layout were met: 0 or 1.
-    pub fault_count: u64,
     /// The addresses of the gates.
     pub gates: [u32; 64],
     /// The bytes that are held until what comes next is whole.
@@ -36,7 +37,7 @@ pub struct SfiStream {
     pub count: u32,
     /// How many of these have had their fields read.
     pub begun: u32,
-    /// The image's format: 1 or 2.
+    /// The image's format: 1, 2 or 3.
     pub format: u32,
     /// The first address of the last sandbox's code region.
     pub code_base: u32,
@@ -64,6 +65,10 @@ pub struct SfiStream {
     pub findings: u32,
     /// The first of these, or three zeros.
     pub first: SfiFinding,
+    /// What is owed to the code that comes, by number.
+    pub owed: u32,
+    /// How many faults of the layout were met: 0 or 1.
+    pub fault_count: u32,
     /// The number of the layout's fault, 1 to 11, where one was met.
     pub fault: u32,
 }
@@ -113,6 +118,7 @@ fn tally_of(stream: &SfiStream) -> Tally
         bundles: stream.bundles,
         count: stream.findings,
         first: first_finding(stream.first),
+        owed: owed_of(stream.owed),
     }
 }
 
@@ -153,7 +159,6 @@ pub(crate) fn kept(feed: &Feed) -> SfiStream
         gate_count: parts.gate_count as u64,
         passed: parts.passed as u64,
         held_count: feed.count as u64,
-        fault_count: if feed.fault.is_some() { 1 } else { 0 },
         gates: parts.gates,
         held: feed.held,
         next: stage_number(parts.next),
@@ -173,6 +178,8 @@ pub(crate) fn kept(feed: &Feed) -> SfiStream
         bundles: feed.tally.bundles,
         findings: feed.tally.count,
         first: first_told(feed.tally.first),
+        owed: owed_number(feed.tally.owed),
+        fault_count: if feed.fault.is_some() { 1 } else { 0 },
         fault: feed.fault.unwrap_or(0),
     }
 }

@@ -1,9 +1,9 @@
 -- What a refusal is to a conversion, and which format an image begins with.
-use Rattle.sfi_check.proofs.Prelude.{◌≡◌, ℕ, List, [], ◌∷◌, ◌++◌, take, get_or, refl, sym, ap, ◌∙◌, subst, arith, Result, Ok, Err, Vec, IfOk, IfErr, Format, Sfi1, Sfi2, magic, IsFault, SandboxPart, Part, view, views, format_of, Finding, IsAccepted, HasFindings}
-use Rattle.sfi_check.specs.Converting.{IsSecond, IsConversion, IsConvertFault, fault_of, AnswersLayout, AnswersFindings}
+use Rattle.sfi_check.proofs.Prelude.{◌≡◌, ℕ, List, [], ◌∷◌, ◌++◌, take, get_or, refl, sym, ap, ◌∙◌, subst, arith, Result, Ok, Err, Vec, IfOk, IfErr, false, Format, Sfi1, Sfi2, has_words, magic, IsFault, SandboxPart, Part, view, views, format_of, Finding, AreImageFindings, IsAccepted, HasFindings}
+use Rattle.sfi_check.specs.Converting.{IsSecond, IsConversion, IsConvertFault, IfStack, AreOfStack, fault_of, AnswersLayout, AnswersFindings}
 use Rattle.sfi_check.specs.Refusals.{IfLayoutFault, IfFindings}
 use Rattle.sfi_check.specs.declared.conversion.ConvertFault.{ConvertFault}
-use Rattle.sfi_check.specs.declared.conversion.ConvertFault.TheVariants.{Refused, NotOld, Stack}
+use Rattle.sfi_check.specs.declared.conversion.ConvertFault.TheVariants.{Refused, NotOld, Stack, Words}
 use Rattle.sfi_check.specs.declared.refusal.Refusal.{Refusal}
 use Rattle.sfi_check.specs.declared.refusal.Refusal.TheVariants.{Layout, Findings, Memory}
 use Rattle.sfi_check.specs.private.Converting.{IsStackOf, Converts}
@@ -12,6 +12,9 @@ use Rattle.sfi_image.specs.declared.fault.LayoutFault.{LayoutFault}
 use Rattle.std.specs.Global.{Global}
 use Rattle.std.specs.Result.{IsErrAnd}
 use Rattle.sfi_image.specs.Spelling.{spelling}
+use Rattle.sfi_image.specs.Parts.{AreOf}
+use Rattle.sfi_policy.specs.declared.format.Format.TheVariants.{Sfiw}
+use Rattle.sfi_rules.proofs.Facts.{clean_breaks_stack_alone}
 use Rattle.sfi_check.specs.Verdict as verdict
 use Rattle.sfi_check.specs.declared.conversion.ConvertFault.TheVariants as convert
 
@@ -28,20 +31,36 @@ front_of : (f : Format) (rest : List ℕ) → take 4 (magic f ++ rest) ≡ magic
 unfolding magic
 front_of Sfi1 rest = refl
 front_of Sfi2 rest = refl
+front_of Sfiw rest = refl
 
 begins_with : (bytes : List ℕ) (ps : List Part) → bytes ≡ spelling ps → take 4 bytes ≡ magic (format_of ps)
 unfolding spelling
 begins_with bytes ps e = ap (take 4) e ∙ front_of (format_of ps) _
 
+third_differs : magic Sfiw ≡ magic Sfi2 → ⊥
+unfolding magic
+third_differs e = differ_third 87 50 refl refl (ap (λ (l : List ℕ). get_or l 3 0) e)
+  where
+    differ_third : (a b : ℕ) → a ≡ 87 → b ≡ 50 → a ≡ b → ⊥
+    differ_third a b x y e = omega arith
+
+-- an accepted image of another format doesn't begin as one of the second
+other_not_second : (bytes : List ℕ) (ps : List Part) (f : Format) → (magic f ≡ magic Sfi2 → ⊥) → IsAccepted bytes ps → format_of ps ≡ f → IsSecond bytes → ⊥
+other_not_second bytes ps f differs is of second = differs (ap magic (sym of) ∙ sym (begins_with bytes ps is.image.bytes_are) ∙ second)
+
 pub first_not_second : (bytes : List ℕ) (ps : List Part) → IsAccepted bytes ps → format_of ps ≡ Sfi1 → IsSecond bytes → ⊥
-first_not_second bytes ps is first second = magics_differ (ap magic (sym first) ∙ sym (begins_with bytes ps is.image.bytes_are) ∙ second)
+first_not_second bytes ps = other_not_second bytes ps Sfi1 magics_differ
 
-of_two : (f : Format) (front : List ℕ) → front ≡ magic f → (front ≡ magic Sfi2 → ⊥) → f ≡ Sfi1
-of_two Sfi1 front e not = refl
-of_two Sfi2 front e not = absurd (not e)
+pub third_not_second : (bytes : List ℕ) (ps : List Part) → IsAccepted bytes ps → format_of ps ≡ Sfiw → IsSecond bytes → ⊥
+third_not_second bytes ps = other_not_second bytes ps Sfiw third_differs
 
-pub not_second_first : (bytes : List ℕ) (ps : List Part) → IsAccepted bytes ps → (IsSecond bytes → ⊥) → format_of ps ≡ Sfi1
-not_second_first bytes ps is not = of_two (format_of ps) (take 4 bytes) (begins_with bytes ps is.image.bytes_are) not
+of_three : (f : Format) (front : List ℕ) → front ≡ magic f → (front ≡ magic Sfi2 → ⊥) → has_words f ≡ false → f ≡ Sfi1
+of_three Sfi1 front e not bundles = refl
+of_three Sfi2 front e not bundles = absurd (not e)
+of_three Sfiw front e not bundles = absurd cc
+
+pub not_second_first : (bytes : List ℕ) (ps : List Part) → IsAccepted bytes ps → (IsSecond bytes → ⊥) → has_words (format_of ps) ≡ false → format_of ps ≡ Sfi1
+not_second_first bytes ps is not bundles = of_three (format_of ps) (take 4 bytes) (begins_with bytes ps is.image.bytes_are) not bundles
 
 -- ---- refusals
 
@@ -69,18 +88,28 @@ seen_as f g items ps e = in_other items ∙ ap (all_in_format g) e
     in_other [] = refl
     in_other (x ∷ xs) = ap (λ (l : List Part). view g x ∷ l) (in_other xs)
 
-pub converted_means : (bytes : List ℕ) (ps : List Part) (answer : Result (Vec ℕ Global) ConvertFault) → (IsSecond bytes → ⊥) → IsAccepted bytes ps
+pub converted_means : (bytes : List ℕ) (ps : List Part) (answer : Result (Vec ℕ Global) ConvertFault) → (IsSecond bytes → ⊥) → has_words (format_of ps) ≡ false → IsAccepted bytes ps
     → IfOk answer (λ new. IsAccepted new.items (all_in_format Sfi2 ps)) → IfOk answer (λ new. IsConversion bytes new.items)
-converted_means bytes ps (Ok new) not is h = record { parts = ps; first = not_second_first bytes ps is not; accepted = is; converted = h }
-converted_means bytes ps (Err e) not is h = tt
+converted_means bytes ps (Ok new) not bundles is h = record { parts = ps; first = not_second_first bytes ps is not bundles; accepted = is; converted = h }
+converted_means bytes ps (Err e) not bundles is h = tt
 
-pub stack_means : (bytes : List ℕ) (ps : List Part) (answer : Result (Vec ℕ Global) ConvertFault) → (IsSecond bytes → ⊥) → IsAccepted bytes ps
+pub stack_means : (bytes : List ℕ) (ps : List Part) (answer : Result (Vec ℕ Global) ConvertFault) → (IsSecond bytes → ⊥) → has_words (format_of ps) ≡ false → IsAccepted bytes ps
     → IfErr answer (IsStackOf (all_in_format Sfi2 ps)) → IfErr answer (IsConvertFault bytes)
-stack_means bytes ps (Ok new) not is h = tt
-stack_means bytes ps (Err (Refused r)) not is h = absurd h
-stack_means bytes ps (Err NotOld) not is h = absurd h
-stack_means bytes ps (Err (Stack found)) not is h = record { parts = ps; first = not_second_first bytes ps is not; accepted = is; found_are = h.0; some = h.1 }
-stack_means bytes ps (Err convert.Memory) not is h = tt
+stack_means bytes ps (Ok new) not bundles is h = tt
+stack_means bytes ps (Err (Refused r)) not bundles is h = absurd h
+stack_means bytes ps (Err NotOld) not bundles is h = absurd h
+stack_means bytes ps (Err (Stack found)) not bundles is h = record { parts = ps; first = not_second_first bytes ps is not bundles; accepted = is; found_are = h.0; some = h.1 }
+stack_means bytes ps (Err convert.Memory) not bundles is h = tt
+stack_means bytes ps (Err Words) not bundles is h = absurd h
+
+pub stack_alone_means : (ps : List Part) (answer : Result (Vec ℕ Global) ConvertFault) → has_words (format_of ps) ≡ false → AreOf (format_of ps) ps → AreImageFindings ps []
+    → IfErr answer (IsStackOf (all_in_format Sfi2 ps)) → IfErr answer (IfStack AreOfStack)
+stack_alone_means ps (Ok new) bundles one none h = tt
+stack_alone_means ps (Err (Refused r)) bundles one none h = absurd h
+stack_alone_means ps (Err NotOld) bundles one none h = absurd h
+stack_alone_means ps (Err (Stack found)) bundles one none h = clean_breaks_stack_alone ps found.items (λ k d less. ap has_words (one k d less) ∙ bundles) none h.0
+stack_alone_means ps (Err convert.Memory) bundles one none h = tt
+stack_alone_means ps (Err Words) bundles one none h = absurd h
 
 pub fault_converts : (ps : List Part) (fault : ConvertFault) (answer : Result (Vec ℕ Global) ConvertFault) → IsErrAnd answer (λ e. e ≡ fault) → IsStackOf (all_in_format Sfi2 ps) fault → Converts ps answer
 fault_converts ps fault (Ok new) h is = absurd h

@@ -1,7 +1,7 @@
 -- The bundles of one part more.
 use Rattle.sfi_check.proofs.Prelude.{◌≡◌, ℕ, ◌+◌, ◌/◌, ◌<◌, ◌≤◌, List, [], ◌∷◌, ◌++◌, length, get_or, take, sym, ap, ◌∙◌, subst, arith, take_more, take_all, length-map, get_or-map, Format, code_most, SandboxPart, Part, view, views, IsRightLayout, bundle_count}
 use Rattle.std.proofs.lemmas.List.Sums.{sum_by-append}
-use Rattle.sfi_safety.proofs.Masks.{code_at_most}
+use Rattle.sfi_image.proofs.Formats.{code_at_most}
 
 pub one_more : (f : Format) (items : List SandboxPart) (i : ℕ) (d p : SandboxPart) (bundles : ℕ) → p ≡ get_or items i d → i < length items → bundles ≡ bundle_count (take i (views f items)) → bundles + length p.code.now / 16 ≡ bundle_count (take (i + 1) (views f items))
 one_more f items i d p bundles is h before =

@@ -1,11 +1,11 @@
 -- Words of std and of definitions that many proofs of this crate use.
-pub use Rattle.std.proofs.Common.{◌≡◌, ◌≢◌, ℕ, suc, ◌+◌, ◌-◌, ◌<◌, ◌≤◌, ◌⊎◌, List, length, get_or, false, ◌||◌, refl, sym, ◌∙◌, subst, inl, inr, arith, zero, ◌*◌, Bool, true, [], ◌++◌, take, drop, ap, append_assoc, ◌∷◌, Option, Some, None, cond, Result, Ok, Err, ◌/◌, add-zero, eqb, rules}
+pub use Rattle.std.proofs.Common.{◌≡◌, ◌≢◌, ℕ, suc, ◌+◌, ◌-◌, ◌<◌, ◌≤◌, ◌⊎◌, List, length, get_or, false, ◌||◌, refl, sym, ◌∙◌, subst, inl, inr, arith, zero, ◌*◌, Bool, true, [], ◌++◌, take, drop, ap, append_assoc, ◌∷◌, Option, Some, None, cond, Result, Ok, Err, ◌/◌, add-zero, eqb, ne_eqb, ◌==◌, rules}
 pub use Rattle.std.specs.Prelude.{slice_get, Vec, IfOk, IfErr, is_some}
 pub use Rattle.std.proofs.Math.Seq.{take-append_seam, take-append-add}
 pub use Rattle.std.proofs.lemmas.Bool.{lt-ltb, eqb-true, cases_Bool, eq-eqb}
 pub use Rattle.std.proofs.lemmas.List.{length-map, length-append, length-take, length-drop, drop-drop, append-nil, take_all, take_more, get_or-map, take-append-drop, length_push, drop-take}
 pub use Rattle.std.specs.List.{All}
-pub use Rattle.sfi_policy.specs.Formats.{code_most}
+pub use Rattle.sfi_policy.specs.Formats.{code_most, has_words}
 unfoldable pub use Rattle.sfi_policy.specs.Formats.{magic}
 pub use Rattle.sfi_policy.specs.declared.format.Format.{Format}
 pub use Rattle.sfi_policy.specs.declared.format.Format.TheVariants.{Sfi1, Sfi2}
@@ -21,17 +21,17 @@ pub use Rattle.sfi_image.specs.Spelling.{Part, view, views, format_of}
 pub use Rattle.sfi_image.specs.declared.part.Gate.{Gate}
 pub use Rattle.sfi_image.specs.declared.part.SandboxPart.{SandboxPart}
 pub use Rattle.sfi_rules.specs.Bundles.{block_bundle, bundle_at, IsWithin, place_of, bundle_bytes}
-pub use Rattle.sfi_rules.specs.Findings.{AreBundleFindings, AreReadingFindings, AreFindings, AreFindingsFrom, AreImageFindings, AreFindingsOfFirst}
+pub use Rattle.sfi_rules.specs.Findings.{AreBundleFindings, AreReadingFindings, AreFindings, AreFindingsFrom, AreImageFindings, AreFoundUpTo}
 pub use Rattle.sfi_rules.specs.declared.bundle.BundlePlace.{BundlePlace}
 pub use Rattle.sfi_rules.specs.declared.finding.Finding.{Finding}
 pub use Rattle.sfi_check.specs.Feeds.{IsFed, IsFedTelling, IsFedBy, IsHeld}
-pub use Rattle.sfi_safety.specs.Safety.{AllRunSafely}
+pub use Rattle.sfi_runs.specs.Safety.{AllRunSafely}
 pub use Rattle.sfi_check.specs.Streams.{IsVerdictOn, AreHandedOver, IsFaultOf, AreCounted}
 pub use Rattle.sfi_check.specs.Verdict.{HasFindings, bundle_count}
 pub use Rattle.sfi_safety.specs.Clean.{IsAccepted}
 pub use Rattle.sfi_check.specs.declared.stream_answer.StreamAnswer.{StreamAnswer}
 pub use Rattle.sfi_check.specs.declared.tally.Tally.{Tally}
-pub use Rattle.sfi_check.specs.Tallies.{AreFindingsSoFar, IsSoFar, Tallies, IsCut, AreFindingsWithin}
-pub use Rattle.sfi_scan.specs.Stretches.{findings_most, IsScanned, IsStretch, AreStretchFindings, stretch_place}
+pub use Rattle.sfi_check.specs.Tallies.{owed_after, AreFindingsSoFar, IsSoFar, Tallies, IsCut, AreFindingsWithin}
+pub use Rattle.sfi_scan.specs.Stretches.{findings_most, IsStretch, AreFoundInStretch, stretch_place}
 pub use Rattle.sfi_check.specs.private.Counting.{AddsFindings, Counts}
 pub use Rattle.sfi_check.specs.private.Tallies.{verdict_of, verdict_by, IsTold, want_at, Goes, LeadsOn}

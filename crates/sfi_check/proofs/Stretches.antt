@@ -1,22 +1,26 @@
 -- A stretch of bundles more: its findings, and the tally with them.
-use Rattle.sfi_check.proofs.Prelude.{◌≡◌, ℕ, zero, suc, ◌+◌, ◌-◌, ◌*◌, ◌/◌, ◌<◌, ◌≤◌, false, List, [], ◌++◌, length, take, drop, refl, sym, ap, ◌∙◌, subst, arith, append_assoc, length-append, length-take, length-drop, append-nil, take_all, Gate, is_gate_of, spans, Front, IsStretchLength, IsRightFront, want_of, Follows, Empty, AfterMagic, AfterCount, InGates, InCode, InInit, Whole, ReaderState, StandsFor, Leads, left, BundlePlace, Finding, Tally, AddsFindings, Counts, AreFindingsSoFar, IsSoFar, IsStretch, AreStretchFindings, Tallies, findings_most, stretch_place, want_at}
+use Rattle.sfi_check.proofs.Prelude.{◌≡◌, ◌==◌, ℕ, zero, suc, ◌+◌, ◌-◌, ◌*◌, ◌/◌, ◌<◌, ◌≤◌, Bool, false, cond, List, [], ◌∷◌, ◌++◌, length, take, drop, refl, sym, ap, ◌∙◌, subst, arith, eq-eqb, ne_eqb, append_assoc, length-append, length-take, take-append_seam, Gate, is_gate_of, Front, IsStretchLength, IsRightFront, want_of, Follows, Empty, AfterMagic, AfterCount, InGates, InCode, InInit, Whole, ReaderState, StandsFor, Leads, left, BundlePlace, Finding, Tally, part_of, block_bundle, AreFoundUpTo, AddsFindings, Counts, owed_after, AreFindingsSoFar, IsSoFar, IsStretch, AreFoundInStretch, Tallies, findings_most, stretch_place, want_at}
 use Rattle.std.specs.Prelude.{min, ◌%◌}
 use Rattle.sfi_image.specs.declared.fields.Fields.{Fields}
-use Rattle.sfi_image.specs.declared.want.Next.TheVariants as next
-use Rattle.sfi_check.proofs.Tallying.{Adds, bundle_more, same_place, code_tallies}
-use Rattle.sfi_check.proofs.Leading.{bundle_within, joined, take_on}
+use Rattle.sfi_image.specs.declared.want.Next.TheVariants as next_want
+use Rattle.sfi_rules.specs.declared.owed.Owed.{Owed}
+use Rattle.sfi_rules.specs.declared.owed.Owed.TheVariants.{Nothing}
+use Rattle.sfi_scan.proofs.Stretches.{front_bundle, rest_bundle}
+use Rattle.sfi_scan.proofs.WordStretches.{found_in_part}
+use Rattle.sfi_check.proofs.Tallying.{Adds, same_place, code_tallies}
+use Rattle.sfi_check.proofs.Leading.{bundle_within, joined}
 
--- the tally with so many bundles more, and then with their findings
-pub adds_of : (t u v : Tally) (sandbox n : ℕ) (found : List Finding) → u ≡ record t { sandboxes = sandbox + 1; bundles = t.bundles + n } → AddsFindings u v found → length found ≤ findings_most * n
-    → Adds t v sandbox n found
-adds_of t u v sandbox n found is a few =
+-- the tally with so many bundles more, then with their findings, and then with what is owed
+pub adds_of : (t u v w : Tally) (sandbox n : ℕ) (found : List Finding) (next : Owed) → u ≡ record t { sandboxes = sandbox + 1; bundles = t.bundles + n } → AddsFindings u v found → w ≡ record v { owed = next } → length found ≤ findings_most * n
+    → Adds t w sandbox n found
+adds_of t u v w sandbox n found next is a kept few =
     let b = subst (λ (x : Tally). AddsFindings x v found) is a in
-    record { sandboxes = b.sandboxes; bundles = b.bundles; count = b.count; few = few; first = b.first }
+    rw kept (record { sandboxes = b.sandboxes; bundles = b.bundles; count = b.count; few = few; first = b.first })
 
 -- ---- what comes next
 
 -- where bundles come next, the reader reads code
-reads_code : (r : ReaderState) (x : Front) (b : BundlePlace) → StandsFor r x → want_at b ≡ want_of x → r.next ≡ next.Code
+reads_code : (r : ReaderState) (x : Front) (b : BundlePlace) → StandsFor r x → want_at b ≡ want_of x → r.next ≡ next_want.Code
 reads_code r (InCode n ps f gs code) b h w = h.kept.0
 reads_code r Empty b h w = absurd cc
 reads_code r (AfterMagic format) b h w = absurd cc
@@ -65,36 +69,53 @@ place_in : (sandbox : ℕ) (f : Fields) (gs : List Gate) (a at m : ℕ) → at �
 place_in sandbox f gs a at zero e free = let same : at ≡ a = omega arith in rw (same) refl
 place_in sandbox f gs a at (suc m) e free = rw (e, free (omega arith)) refl
 
-stretch_more : (sandbox : ℕ) (f : Fields) (gs : List Gate) (code s : List ℕ) (here : List Finding) (n m : ℕ) (found : List Finding) → AreFindingsSoFar sandbox f gs code here
-    → m ≤ n → 16 * n ≤ length s → ((i : ℕ) → 0 < i → i < n → is_gate_of gs (f.code_base + length code + 16 * i) ≡ false)
-    → AreStretchFindings (record { sandbox = sandbox; address = f.code_base + length code; format = f.format; code_base = f.code_base; code_size = f.code_size; listed = is_gate_of gs (f.code_base + length code) }) s m found
-    → AreFindingsSoFar sandbox f gs (code ++ take (16 * m) s) (here ++ found)
-stretch_more sandbox f gs code s here n zero found so_far few long plain none = rw (none, append-nil code, append-nil here) so_far
-stretch_more sandbox f gs code s here n (suc m) found so_far few long plain are =
-    let done = take (16 * m) s in
-    let bundle = take 16 (drop (16 * m) s) in
-    let before = stretch_more sandbox f gs code s here n m are.0 so_far (omega arith) long plain are.2 in
-    let cut : length done ≡ 16 * m = omega (arith, length-take (16 * m) s) in
-    let one : length bundle ≡ 16 = omega (arith, length-take 16 (drop (16 * m) s), length-drop (16 * m) s) in
-    let at : f.code_base + length (code ++ done) ≡ f.code_base + length code + 16 * m = omega (arith, length-append code done) in
-    let next : 16 * suc m ≡ 16 * m + 16 = omega arith in
-    let more = bundle_more sandbox f gs (code ++ done) bundle _ (here ++ are.0) are.1 before one (place_in sandbox f gs (f.code_base + length code) (f.code_base + length (code ++ done)) m at (λ some. plain m some (omega arith))) are.3 in
-    let bytes : (code ++ done) ++ bundle ≡ code ++ take (16 * suc m) s =
-    append_assoc code done bundle ∙ ap (λ (l : List ℕ). code ++ l) (sym (take_on (16 * m) 16 s (omega arith))) ∙ ap (λ (k : ℕ). code ++ take k s) (sym next) in
-    let found_is : (here ++ are.0) ++ are.1 ≡ here ++ found = append_assoc here are.0 are.1 ∙ ap (λ (l : List Finding). here ++ l) (sym are.4) in
-    subst (λ (l : List Finding). AreFindingsSoFar sandbox f gs (code ++ take (16 * suc m) s) l) found_is
-    (subst (λ (l : List ℕ). AreFindingsSoFar sandbox f gs l ((here ++ are.0) ++ are.1)) bytes more)
+-- where code begins, nothing is owed
+begins : (base len : ℕ) → (base + len == base) ≡ (len == 0)
+begins base zero = eq-eqb (base + 0) base (let e : base + 0 ≡ base = omega arith in e)
+begins base (suc n) = ne_eqb (base + suc n) base (λ e. omega arith) ∙ sym (ne_eqb (suc n) 0 (λ e. omega arith))
+
+-- so after some code what is kept is owed
+some_owed : (code s : List ℕ) (kept : Owed) → 0 < length s → owed_after (code ++ s) kept ≡ kept
+some_owed code s kept some = rw (ne_eqb (length (code ++ s)) 0 (λ e. omega (arith, length-append code s))) refl
+
+stretch_more : (sandbox : ℕ) (f : Fields) (gs : List Gate) (code s : List ℕ) (here : List Finding) (kept next : Owed) (n : ℕ) (found : List Finding) → AreFindingsSoFar sandbox f gs code here kept
+    → 0 < n → length s ≡ 16 * n → ((i : ℕ) → 0 < i → i < n → is_gate_of gs (f.code_base + length code + 16 * i) ≡ false)
+    → AreFoundInStretch (record { sandbox = sandbox; address = f.code_base + length code; format = f.format; code_base = f.code_base; code_size = f.code_size; listed = is_gate_of gs (f.code_base + length code) }) (owed_after code kept) s n found next
+    → AreFindingsSoFar sandbox f gs (code ++ s) (here ++ found) next
+stretch_more sandbox f gs code s here kept next n found so_far some len plain are = record {
+  bundles = so_far.bundles + n;
+  len = omega (arith, so_far.len, length-append code s);
+  found_are = λ more init size.
+      let p = part_of f gs ((code ++ s) ++ more) init in
+      let k = so_far.bundles in
+      let b : BundlePlace = record { sandbox = sandbox; address = f.code_base + length code; format = f.format; code_base = f.code_base; code_size = f.code_size; listed = is_gate_of gs (f.code_base + length code) } in
+      let same : code ++ (s ++ more) ≡ (code ++ s) ++ more = sym (append_assoc code s more) in
+      let before : AreFoundUpTo sandbox p k here (owed_after code kept) =
+      subst (λ (c : List ℕ). AreFoundUpTo sandbox (part_of f gs c init) k here (owed_after code kept)) same (so_far.found_are (s ++ more) init (ap length same ∙ size)) in
+      let rest : drop (16 * k) ((code ++ s) ++ more) ≡ s ++ more = ap (drop (16 * k)) (sym same) ∙ ap (λ (m : ℕ). drop m (code ++ (s ++ more))) (sym so_far.len) ∙ drop_seam code (s ++ more) in
+      let front : take (16 * n) (s ++ more) ≡ s = ap (λ (m : ℕ). take m (s ++ more)) (sym len) ∙ take-append_seam s more in
+      subst (λ (o : Owed). AreFoundUpTo sandbox p (k + n) (here ++ found) o) (sym (some_owed code s next (omega arith)))
+      (found_in_part sandbox p b s k n here found (owed_after code kept) next refl
+      (λ i less. place_in sandbox f gs (f.code_base + length code) (f.code_base + 16 * (k + i)) i (omega (arith, so_far.len)) (λ first. plain i first less)
+      ∙ ap (λ (z : ℕ). record { sandbox = sandbox; address = f.code_base + 16 * (k + i); format = f.format; code_base = f.code_base; code_size = z; listed = is_gate_of gs (f.code_base + 16 * (k + i)) }) (sym size))
+      (λ i less. ap (λ (l : List ℕ). block_bundle l i) (sym front) ∙ front_bundle n i (s ++ more) less ∙ ap (λ (l : List ℕ). block_bundle l i) (sym rest) ∙ rest_bundle k i ((code ++ s) ++ more))
+      before are);
+}
+  where
+    drop_seam : (xs ys : List ℕ) → drop (length xs) (xs ++ ys) ≡ ys
+    drop_seam [] ys = refl
+    drop_seam (x ∷ xs) ys = drop_seam xs ys
 
 -- ---- a step
 
-stretch_tallies : {T U : List Finding → Type 0} (old new : Tally) (x : Front) (s : List ℕ) (y : Front) (b : BundlePlace) (most n : ℕ) (found : List Finding)
-    → want_at b ≡ want_of x → IsStretchLength x most → 16 * n ≤ most → 0 < n → length s ≡ 16 * n → Follows x s y → AreStretchFindings b s n found
+stretch_tallies : {T U : List Finding → Type 0} (old new : Tally) (x : Front) (s : List ℕ) (y : Front) (b : BundlePlace) (most n : ℕ) (found : List Finding) (owed : Owed)
+    → want_at b ≡ want_of x → IsStretchLength x most → 16 * n ≤ most → 0 < n → length s ≡ 16 * n → Follows x s y → owed ≡ cond (b.address == b.code_base) Nothing old.owed → AreFoundInStretch b owed s n found new.owed
     → Adds old new b.sandbox n found → ((before : List Finding) → T before → U (before ++ found)) → Tallies T old x → Tallies U new y
-stretch_tallies old new Empty s y b most n found w is le some len h are adds on k = absurd cc
-stretch_tallies old new (AfterMagic kind) s y b most n found w is le some len h are adds on k = absurd cc
-stretch_tallies old new (AfterCount kind m ps) s y b most n found w is le some len h are adds on k = absurd cc
-stretch_tallies old new (InGates m ps f gs) s y b most n found w is le some len h are adds on k = absurd cc
-stretch_tallies old new (InCode m ps f gs code) s y b most n found w is le some len h are adds on k =
+stretch_tallies old new Empty s y b most n found owed w is le some len h before are adds on k = absurd cc
+stretch_tallies old new (AfterMagic kind) s y b most n found owed w is le some len h before are adds on k = absurd cc
+stretch_tallies old new (AfterCount kind m ps) s y b most n found owed w is le some len h before are adds on k = absurd cc
+stretch_tallies old new (InGates m ps f gs) s y b most n found owed w is le some len h before are adds on k = absurd cc
+stretch_tallies old new (InCode m ps f gs code) s y b most n found owed w is le some len h before are adds on k =
     let number : b.sandbox ≡ length ps = cc in
     let at : b.address ≡ f.code_base + length code = cc in
     let of : b.format ≡ f.format = cc in
@@ -102,30 +123,32 @@ stretch_tallies old new (InCode m ps f gs code) s y b most n found w is le some 
     let size : b.code_size ≡ f.code_size = cc in
     let listed : b.listed ≡ is_gate_of gs (f.code_base + length code) = cc in
     let same = same_place b (length ps) (f.code_base + length code) f.format f.code_base f.code_size (is_gate_of gs (f.code_base + length code)) number at of base size listed in
-    let are' = subst (λ (p : BundlePlace). AreStretchFindings p s n found) same are in
-    let all : take (16 * n) s ≡ s = take_all (16 * n) s (omega arith) in
+    let begin : (b.address == b.code_base) ≡ (length code == 0) = rw (at, base) (begins f.code_base (length code)) in
+    let before' : owed ≡ owed_after code old.owed = before ∙ ap (λ (z : Bool). cond z Nothing old.owed) begin in
+    let are' = subst (λ (o : Owed). AreFoundInStretch (record { sandbox = length ps; address = f.code_base + length code; format = f.format; code_base = f.code_base; code_size = f.code_size; listed = is_gate_of gs (f.code_base + length code) }) o s n found new.owed) before'
+    (subst (λ (p : BundlePlace). AreFoundInStretch p owed s n found new.owed) same are) in
     rw (h) (code_tallies old new m ps f gs code s n found some len
-    (λ here so_far. subst (λ (l : List ℕ). AreFindingsSoFar (length ps) f gs (code ++ l) (here ++ found)) all
-    (stretch_more (length ps) f gs code s here n n found so_far (omega arith) (omega arith) (λ i first less. is.unlisted i first (omega arith)) are'))
+    (λ here so_far. stretch_more (length ps) f gs code s here old.owed new.owed n found so_far some len (λ i first less. is.unlisted i first (omega arith)) are')
     (subst (λ (j : ℕ). Adds old new j n found) number adds) on k)
-stretch_tallies old new (InInit m ps f gs code init) s y b most n found w is le some len h are adds on k = absurd cc
-stretch_tallies old new (Whole ps) s y b most n found w is le some len h are adds on k = absurd cc
+stretch_tallies old new (InInit m ps f gs code init) s y b most n found owed w is le some len h before are adds on k = absurd cc
+stretch_tallies old new (Whole ps) s y b most n found owed w is le some len h before are adds on k = absurd cc
 
-pub stretch_step : {T U : List Finding → Type 0} (old new : ReaderState) (t u v : Tally) (so_far s : List ℕ) (b : BundlePlace) (most n : ℕ) (found : List Finding)
+pub stretch_step : {T U : List Finding → Type 0} (old new : ReaderState) (t u v w : Tally) (so_far s : List ℕ) (b : BundlePlace) (most n : ℕ) (found : List Finding) (owed next : Owed)
     → ((x : Front) → StandsFor old x → want_at b ≡ want_of x) → ((x : Front) → StandsFor old x → IsStretchLength x most) → 16 * n ≤ most → 0 < n → length s ≡ 16 * n
-    → AreStretchFindings b s n found → length found ≤ findings_most * n → u ≡ record t { sandboxes = b.sandbox + 1; bundles = t.bundles + n } → Counts u v found
-    → ((x : Front) → StandsFor old x → Leads x s new) → (old.next ≡ next.Code → left new + length s ≤ left old) → ((before : List Finding) → T before → U (before ++ found)) → IsSoFar T old t so_far → IsSoFar U new v (so_far ++ s)
-stretch_step old new t u v so_far s b most n found wanted stretch le some len are few is counts leads falls on h =
+    → owed ≡ cond (b.address == b.code_base) Nothing t.owed → AreFoundInStretch b owed s n found next → length found ≤ findings_most * n → u ≡ record t { sandboxes = b.sandbox + 1; bundles = t.bundles + n } → Counts u v found → w ≡ record v { owed = next }
+    → ((x : Front) → StandsFor old x → Leads x s new) → (old.next ≡ next_want.Code → left new + length s ≤ left old) → ((before : List Finding) → T before → U (before ++ found)) → IsSoFar T old t so_far → IsSoFar U new w (so_far ++ s)
+stretch_step old new t u v w so_far s b most n found owed next wanted stretch le some len before are few is counts kept leads falls on h =
     let l = leads h.at h.stands in
     let less = falls (reads_code old h.at b h.stands (wanted h.at h.stands)) in
     let tallied = h.tallies.few in
     let most_left = h.few in
     let count : u.count ≡ t.count = ap (λ (x : Tally). x.count) is in
-    let adds = adds_of t u v b.sandbox n found is (counts (omega arith)) few in
+    let adds = adds_of t u v w b.sandbox n found next is (counts (omega arith)) kept few in
+    let after : w.owed ≡ next = ap (λ (x : Tally). x.owed) kept in
     record {
       at = l.to;
       stands = l.stands;
       bytes_are = joined so_far h.at s l.to h.bytes_are l.bytes;
-      tallies = stretch_tallies t v h.at s l.to b most n found (wanted h.at h.stands) (stretch h.at h.stands) le some len l.follows are adds on h.tallies;
+      tallies = stretch_tallies t w h.at s l.to b most n found owed (wanted h.at h.stands) (stretch h.at h.stands) le some len l.follows before (subst (λ (o : Owed). AreFoundInStretch b owed s n found o) (sym after) are) adds on h.tallies;
       few = omega (arith, adds.bundles);
     }

@@ -1,41 +1,17 @@
 -- The tally of a front and of the one that follows it.
-use Rattle.sfi_check.proofs.Prelude.{◌≡◌, ℕ, suc, ◌+◌, ◌*◌, ◌/◌, ◌<◌, ◌≤◌, eqb, Bool, List, [], ◌∷◌, ◌++◌, length, take, drop, refl, sym, ap, ◌∙◌, subst, arith, append_assoc, inl, inr, slice_get, take-append_seam, cases_Bool, eqb-true, length-append, length_push, append-nil, Format, Gate, Part, is_gate_of, Front, IsRightFront, want_of, part_of, after_parts, after_init, after_code, after_gates, Follows, HasFaultNumberWhateverFollows, Empty, AfterMagic, AfterCount, InGates, InCode, InInit, Whole, BundlePlace, Finding, place_of, bundle_bytes, AreBundleFindings, AreFindings, AreFindingsOfFirst, AreImageFindings, Tally, bundle_count, AreFindingsSoFar, AreFindingsWithin, findings_most, Tallies, want_at}
+use Rattle.sfi_check.proofs.Prelude.{◌≡◌, ℕ, ◌+◌, ◌*◌, ◌/◌, ◌<◌, ◌≤◌, eqb, Bool, List, [], ◌∷◌, ◌++◌, length, refl, sym, ap, ◌∙◌, subst, arith, append_assoc, inl, inr, slice_get, cases_Bool, eqb-true, length-append, length_push, append-nil, Format, Gate, Part, Front, IsRightFront, want_of, part_of, after_parts, after_init, after_code, after_gates, Follows, HasFaultNumberWhateverFollows, Empty, AfterMagic, AfterCount, InGates, InCode, InInit, Whole, BundlePlace, Finding, AreFindings, AreFoundUpTo, AreImageFindings, Tally, bundle_count, owed_after, AreFindingsSoFar, AreFindingsWithin, findings_most, Tallies}
 use Rattle.sfi_image.specs.declared.fields.Fields.{Fields}
 use Rattle.std.proofs.lemmas.List.Sums.{sum_by-append}
 use Rattle.sfi_image.specs.declared.want.Want.TheVariants as wants
+use Rattle.sfi_rules.proofs.Facts.{all_found, none_found}
 use Rattle.sfi_check.proofs.Findings.{findings_append}
-
--- ---- one bundle more
-
-pub bundle_more : (sandbox : ℕ) (f : Fields) (gs : List Gate) (code s : List ℕ) (b : BundlePlace) (here new : List Finding) → AreFindingsSoFar sandbox f gs code here
-    → length s ≡ 16 → b ≡ record { sandbox = sandbox; address = f.code_base + length code; format = f.format; code_base = f.code_base; code_size = f.code_size; listed = is_gate_of gs (f.code_base + length code) }
-    → AreBundleFindings b s new → AreFindingsSoFar sandbox f gs (code ++ s) (here ++ new)
-bundle_more sandbox f gs code s b here new so_far len is found = record {
-  bundles = suc so_far.bundles;
-  len = omega (arith, so_far.len, length-append code s);
-  found_are = λ more init size.
-      let p = part_of f gs ((code ++ s) ++ more) init in
-      let q = part_of f gs (code ++ (s ++ more)) init in
-      let same : code ++ (s ++ more) ≡ (code ++ s) ++ more = sym (append_assoc code s more) in
-      let before : AreFindingsOfFirst sandbox p so_far.bundles here =
-      subst (λ (c : List ℕ). AreFindingsOfFirst sandbox (part_of f gs c init) so_far.bundles here) same (so_far.found_are (s ++ more) init (ap length same ∙ size)) in
-      let n : 16 * so_far.bundles ≡ length code = sym so_far.len in
-      let place : b ≡ place_of sandbox p so_far.bundles = is ∙ rw (n, size) refl in
-      let bytes : s ≡ bundle_bytes p so_far.bundles =
-      sym (ap (λ (c : List ℕ). take 16 (drop (16 * so_far.bundles) c)) (sym same) ∙ ap (λ (k : ℕ). take 16 (drop k (code ++ (s ++ more)))) n ∙ ap (take 16) (drop_seam code (s ++ more)) ∙ ap (λ (k : ℕ). take k (s ++ more)) (sym len) ∙ take-append_seam s more) in
-      (here, new, before, subst (λ (x : BundlePlace). AreBundleFindings x (bundle_bytes p so_far.bundles) new) place (subst (λ (x : List ℕ). AreBundleFindings b x new) bytes found), refl);
-}
-  where
-    drop_seam : (xs ys : List ℕ) → drop (length xs) (xs ++ ys) ≡ ys
-    drop_seam [] ys = refl
-    drop_seam (x ∷ xs) ys = drop_seam xs ys
 
 -- ---- a tally within a sandbox's code
 
 pub record CodeTally (told : List Finding → Type 0) (t : Tally) (ps : List Part) (f : Fields) (gs : List Gate) (code : List ℕ) : Type 0 where
   pub found : List Finding
   pub told_is : told found
-  pub within : AreFindingsWithin ps f gs code found
+  pub within : AreFindingsWithin ps f gs code found t.owed
   pub count : t.count ≡ length found
   pub first : t.first ≡ slice_get found 0
   pub bundles : t.bundles ≡ bundle_count ps + length code / 16
@@ -51,7 +27,8 @@ parts_tally t n ps f gs code init c all =
     let p = part_of f gs code init in
     let w = c.within in
     let of_part : AreFindings (length ps) p w.here =
-    (w.here_are.bundles, w.here_are.len, subst (λ (x : List ℕ). AreFindingsOfFirst (length ps) (part_of f gs x init) w.here_are.bundles w.here) (append-nil code) (w.here_are.found_are [] init (ap length (append-nil code) ∙ all))) in
+    all_found (length ps) p w.here_are.bundles w.here (owed_after code t.owed) w.here_are.len
+    (subst (λ (x : List ℕ). AreFoundUpTo (length ps) (part_of f gs x init) w.here_are.bundles w.here (owed_after code t.owed)) (append-nil code) (w.here_are.found_are [] init (ap length (append-nil code) ∙ all))) in
     let found : AreImageFindings (ps ++ p ∷ []) c.found =
     subst (λ (l : List Finding). AreImageFindings (ps ++ p ∷ []) l) (sym w.found_is) (findings_append 0 (length ps) ps p w.before w.here w.before_are of_part (omega arith)) in
     let bundles = c.bundles ∙ sym (count_push ps p) in
@@ -100,7 +77,7 @@ gates_tally t n ps f gs found told are count first bundles sandboxes few =
           before = found;
           here = [];
           before_are = are;
-          here_are = record { bundles = 0; len = refl; found_are = λ more init size. refl };
+          here_are = record { bundles = 0; len = refl; found_are = λ more init size. none_found (length ps) (part_of f gs more init) };
           found_is = sym (append-nil found);
         };
         count = count;
@@ -144,7 +121,7 @@ pub record Adds (old new : Tally) (sandbox n : ℕ) (found : List Finding) : Typ
 -- so many bundles of code more
 pub code_tallies : {T U : List Finding → Type 0} (old new : Tally) (m : ℕ) (ps : List Part) (f : Fields) (gs : List Gate) (code s : List ℕ) (n : ℕ) (found : List Finding)
     → 0 < n → length s ≡ 16 * n
-    → ((here : List Finding) → AreFindingsSoFar (length ps) f gs code here → AreFindingsSoFar (length ps) f gs (code ++ s) (here ++ found))
+    → ((here : List Finding) → AreFindingsSoFar (length ps) f gs code here old.owed → AreFindingsSoFar (length ps) f gs (code ++ s) (here ++ found) new.owed)
     → Adds old new (length ps) n found → ((before : List Finding) → T before → U (before ++ found)) → Tallies T old (InCode m ps f gs code)
     → Tallies U new (after_code m ps f gs (code ++ s))
 code_tallies old new m ps f gs code s n found some len more adds on k =

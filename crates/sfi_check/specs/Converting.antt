@@ -3,7 +3,7 @@
 use Rattle.std.specs.Prelude.{◌≡◌, ◌≢◌, ℕ, List, [], take, Result, Ok, Err, Vec}
 use Rattle.std.specs.Global.{Global}
 use Rattle.std.specs.List.{All}
-use Rattle.sfi_policy.specs.declared.format.Format.TheVariants.{Sfi1, Sfi2}
+use Rattle.sfi_policy.specs.declared.format.Format.TheVariants.{Sfi1, Sfi2, Sfiw}
 use Rattle.sfi_policy.specs.Formats.{magic}
 use Rattle.sfi_image.specs.declared.fault.LayoutFault.{LayoutFault}
 use Rattle.sfi_image.specs.Spelling.{Part, format_of}
@@ -15,7 +15,7 @@ use Rattle.sfi_rules.specs.Findings.{AreImageFindings}
 use Rattle.sfi_check.specs.declared.refusal.Refusal.{Refusal}
 use Rattle.sfi_check.specs.declared.refusal.Refusal.TheVariants as refusal
 use Rattle.sfi_check.specs.declared.conversion.ConvertFault.{ConvertFault}
-use Rattle.sfi_check.specs.declared.conversion.ConvertFault.TheVariants.{Refused, NotOld, Stack, Memory}
+use Rattle.sfi_check.specs.declared.conversion.ConvertFault.TheVariants.{Refused, NotOld, Stack, Memory, Words}
 use Rattle.sfi_check.specs.Verdict.{HasFindings}
 use Rattle.sfi_safety.specs.Clean.{IsAccepted}
 
@@ -30,6 +30,12 @@ abbrev pub IsRefusalOf : List ℕ → Refusal → Type 0
 IsRefusalOf bytes (refusal.Layout k) = (¬ IsSecond bytes) × IsFault bytes k
 IsRefusalOf bytes (refusal.Findings found) = (¬ IsSecond bytes) × HasFindings bytes found.items
 IsRefusalOf bytes refusal.Memory = ⊥
+
+-- they are an accepted image of the third format
+pub record IsOfWords (bytes : List ℕ) : Type 0 where
+  pub parts : List Part
+  pub third : format_of parts ≡ Sfiw
+  pub accepted : IsAccepted bytes parts
 
 -- they are an accepted image of the first format, and these are the findings of the same sandboxes
 -- in the second, of which there is at least one
@@ -56,6 +62,7 @@ number_of (Refused r) = 1
 number_of NotOld = 2
 number_of (Stack found) = 3
 number_of Memory = 4
+number_of Words = 5
 
 -- the fault where `check` refuses so: its want of memory is want of memory
 abbrev pub fault_of : Refusal → ConvertFault
@@ -69,6 +76,7 @@ IsConvertFault bytes (Refused r) = IsRefusalOf bytes r
 IsConvertFault bytes NotOld = IsSecond bytes
 IsConvertFault bytes (Stack found) = HasStackFindings bytes found.items
 IsConvertFault bytes Memory = Unit {0}
+IsConvertFault bytes Words = IsOfWords bytes
 
 -- each finding is that of a write to the stack pointer
 abbrev pub AreOfStack : List Finding → Type 0
@@ -80,6 +88,7 @@ IfStack P (Refused r) = Unit {0}
 IfStack P NotOld = Unit {0}
 IfStack P (Stack found) = P found.items
 IfStack P Memory = Unit {0}
+IfStack P Words = Unit {0}
 
 -- ---- answers, want of memory aside
 
@@ -96,8 +105,9 @@ AnswersLayout k (Err (Refused refusal.Memory)) = ⊥
 AnswersLayout k (Err NotOld) = ⊥
 AnswersLayout k (Err (Stack found)) = ⊥
 AnswersLayout k (Err Memory) = Unit {0}
+AnswersLayout k (Err Words) = ⊥
 
--- the answer is these findings of the first format, or memory ran out
+-- the answer is these findings of the image's own format, or memory ran out
 abbrev pub AnswersFindings : List Finding → Result (Vec ℕ Global) ConvertFault → Type 0
 AnswersFindings found (Ok new) = ⊥
 AnswersFindings found (Err (Refused (refusal.Layout j))) = ⊥
@@ -106,6 +116,7 @@ AnswersFindings found (Err (Refused refusal.Memory)) = ⊥
 AnswersFindings found (Err NotOld) = ⊥
 AnswersFindings found (Err (Stack others)) = ⊥
 AnswersFindings found (Err Memory) = Unit {0}
+AnswersFindings found (Err Words) = ⊥
 
 -- the answer is these findings of the second format, or memory ran out
 abbrev pub AnswersStack : List Finding → Result (Vec ℕ Global) ConvertFault → Type 0
@@ -114,6 +125,16 @@ AnswersStack found (Err (Refused r)) = ⊥
 AnswersStack found (Err NotOld) = ⊥
 AnswersStack found (Err (Stack others)) = others.items ≡ found
 AnswersStack found (Err Memory) = Unit {0}
+AnswersStack found (Err Words) = ⊥
+
+-- the answer is Words, or memory ran out
+abbrev pub AnswersWords : Result (Vec ℕ Global) ConvertFault → Type 0
+AnswersWords (Ok new) = ⊥
+AnswersWords (Err (Refused r)) = ⊥
+AnswersWords (Err NotOld) = ⊥
+AnswersWords (Err (Stack found)) = ⊥
+AnswersWords (Err Memory) = Unit {0}
+AnswersWords (Err Words) = Unit {0}
 
 -- the answer is these bytes, or memory ran out
 abbrev pub AnswersConversion : List ℕ → Result (Vec ℕ Global) ConvertFault → Type 0
@@ -122,3 +143,4 @@ AnswersConversion new (Err (Refused r)) = ⊥
 AnswersConversion new (Err NotOld) = ⊥
 AnswersConversion new (Err (Stack found)) = ⊥
 AnswersConversion new (Err Memory) = Unit {0}
+AnswersConversion new (Err Words) = ⊥

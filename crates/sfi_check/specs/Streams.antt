@@ -9,7 +9,7 @@ use Rattle.sfi_check.specs.declared.stream_answer.StreamAnswer.{StreamAnswer}
 use Rattle.sfi_check.specs.declared.stream_answer.StreamAnswer.TheVariants as answers
 use Rattle.sfi_check.specs.Verdict.{HasFindings, bundle_count}
 use Rattle.sfi_safety.specs.Clean.{IsAccepted}
-use Rattle.sfi_safety.specs.Safety.{AllRunSafely}
+use Rattle.sfi_runs.specs.Safety.{AllRunSafely}
 
 -- ---- a fact of the answer, where it is that one
 

@@ -8,38 +8,45 @@ use Rattle.sfi_image.specs.Fronts.{Front, front, want_of, IsLess, part_of}
 use Rattle.sfi_image.specs.Fronts.Front.{Empty, AfterMagic, AfterCount, InGates, InCode, InInit, Whole}
 use Rattle.sfi_image.specs.Keeping.{ReaderState, StandsFor, left, left_most}
 use Rattle.sfi_rules.specs.declared.finding.Finding.{Finding}
-use Rattle.sfi_rules.specs.Findings.{AreFindingsOfFirst, AreImageFindings}
+use Rattle.sfi_rules.specs.declared.owed.Owed.{Owed}
+use Rattle.sfi_rules.specs.declared.owed.Owed.TheVariants.{Nothing}
+use Rattle.sfi_rules.specs.Findings.{AreFoundUpTo, AreImageFindings}
 use Rattle.sfi_scan.specs.Stretches.{findings_most}
 use Rattle.sfi_check.specs.declared.tally.Tally.{Tally}
 use Rattle.sfi_check.specs.Verdict.{bundle_count}
 
--- the findings of the code so far of the sandbox of that number,
+-- what is owed after the code so far of a sandbox, where that is kept after any code: before the
+-- first nothing is
+abbrev pub owed_after : List ℕ → Owed → Owed
+owed_after code kept = cond (length code == 0) Nothing kept
+
+-- the findings of the code so far of the sandbox of that number, and what is owed after it,
 -- whatever its other code and its data are
 pub record AreFindingsSoFar (sandbox : ℕ) (f : Fields) (gs : List Gate) (code : List ℕ)
-    (found : List Finding) : Type 0 where
+    (found : List Finding) (kept : Owed) : Type 0 where
   pub bundles : ℕ
   pub len : length code ≡ bundle_size * bundles
   pub found_are : (more init : List ℕ) → length (code ++ more) ≡ f.code_size
-      → AreFindingsOfFirst sandbox (part_of f gs (code ++ more) init) bundles found
+      → AreFoundUpTo sandbox (part_of f gs (code ++ more) init) bundles found (owed_after code kept)
 
 -- the findings of whole sandboxes and of the code so far of the next
 pub record AreFindingsWithin (ps : List Part) (f : Fields) (gs : List Gate) (code : List ℕ)
-    (found : List Finding) : Type 0 where
+    (found : List Finding) (kept : Owed) : Type 0 where
   pub before : List Finding
   pub here : List Finding
   pub before_are : AreImageFindings ps before
-  pub here_are : AreFindingsSoFar (length ps) f gs code here
+  pub here_are : AreFindingsSoFar (length ps) f gs code here kept
   pub found_is : found ≡ before ++ here
 
--- the findings of a front
-abbrev pub AreFrontFindings : Front → List Finding → Type 0
-AreFrontFindings Empty found = found ≡ []
-AreFrontFindings (AfterMagic format) found = found ≡ []
-AreFrontFindings (AfterCount format n ps) found = AreImageFindings ps found
-AreFrontFindings (InGates n ps f gs) found = AreImageFindings ps found
-AreFrontFindings (InCode n ps f gs code) found = AreFindingsWithin ps f gs code found
-AreFrontFindings (InInit n ps f gs code init) found = AreFindingsWithin ps f gs code found
-AreFrontFindings (Whole ps) found = AreImageFindings ps found
+-- the findings of a front, where that is kept as owed
+abbrev pub AreFrontFindings : Front → List Finding → Owed → Type 0
+AreFrontFindings Empty found kept = found ≡ []
+AreFrontFindings (AfterMagic format) found kept = found ≡ []
+AreFrontFindings (AfterCount format n ps) found kept = AreImageFindings ps found
+AreFrontFindings (InGates n ps f gs) found kept = AreImageFindings ps found
+AreFrontFindings (InCode n ps f gs code) found kept = AreFindingsWithin ps f gs code found kept
+AreFrontFindings (InInit n ps f gs code init) found kept = AreFindingsWithin ps f gs code found kept
+AreFrontFindings (Whole ps) found kept = AreImageFindings ps found
 
 -- how many bundles a front has
 abbrev pub front_bundles : Front → ℕ
@@ -65,7 +72,7 @@ front_sandboxes (Whole ps) = length ps
 pub record Tallies (told : List Finding → Type 0) (t : Tally) (x : Front) : Type 0 where
   pub found : List Finding
   pub told_is : told found
-  pub found_are : AreFrontFindings x found
+  pub found_are : AreFrontFindings x found t.owed
   pub count : t.count ≡ length found
   pub first : t.first ≡ slice_get found 0
   pub bundles : t.bundles ≡ front_bundles x

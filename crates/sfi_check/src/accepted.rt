@@ -3,8 +3,8 @@ ghost use Rattle.std.specs.Prelude.{◌≡◌, length};
 ghost use Rattle.sfi_policy.specs.declared.format.Format.{Format};
 ghost use Rattle.sfi_image.specs.Spelling.{views};
 ghost use Rattle.sfi_image.specs.Parts.{IsRightLayout};
-ghost use Rattle.sfi_safety.specs.Safety.{AllRunSafely};
-ghost use Rattle.sfi_safety.specs.Stack.{AllCallWithStack};
+ghost use Rattle.sfi_runs.specs.Safety.{AllRunSafely};
+ghost use Rattle.sfi_runs.specs.Calls.{AllCallTyped};
 ghost use Rattle.sfi_check.specs.Verdict.{bundle_count};
 ghost use Rattle.sfi_safety.specs.Clean.{IsClean};
 
@@ -44,7 +44,7 @@ impl<'a> Accepted<'a> {
         ensures image { result.now ≡ self.now }
         ensures clean { IsClean self.now }
         ensures safe { AllRunSafely self.now }
-        ensures calls { AllCallWithStack self.now }
+        ensures calls { AllCallTyped self.now }
     {
         &self.image
     }

@@ -8,7 +8,7 @@ ghost use Rattle.sfi_image.specs.Faults.{IsFault};
 ghost use Rattle.sfi_rules.specs.declared.finding.Finding.{Finding};
 ghost use Rattle.sfi_rules.specs.Findings.{AreImageFindings};
 ghost use Rattle.sfi_check.specs.Verdict.{HasFindings};
-ghost use Rattle.sfi_check.specs.Converting.{number_of, IsSecond, HasStackFindings, IsConversion, AreOfStack, IfStack, IsConvertFault, AnswersNotOld, AnswersLayout, AnswersFindings, AnswersStack, AnswersConversion};
+ghost use Rattle.sfi_check.specs.Converting.{number_of, IsSecond, IsOfWords, HasStackFindings, IsConversion, AreOfStack, IfStack, IsConvertFault, AnswersNotOld, AnswersLayout, AnswersFindings, AnswersStack, AnswersWords, AnswersConversion};
 ghost use Rattle.sfi_check.specs.private.Converting.{ChecksStack, Converts};
 
 use crate::accepted::Accepted;
@@ -36,10 +36,13 @@ pub enum ConvertFault {
     /// Memory ran out.
     #[error("out of memory")]
     Memory,
+    /// The image is accepted, but its code is in words.
+    #[error("convert fault 5 Words")]
+    Words,
 }
 
 impl ConvertFault {
-    /// The fault's number, 1 to 4.
+    /// The fault's number, 1 to 5.
     pub fn number(&self) -> u32
         ensures { result ≡ number_of self.now }
     {
@@ -48,6 +51,7 @@ impl ConvertFault {
             ConvertFault::NotOld => 2,
             ConvertFault::Stack(_) => 3,
             ConvertFault::Memory => 4,
+            ConvertFault::Words => 5,
         }
     }
 }
@@ -111,10 +115,10 @@ fn convert_accepted(alloc: Global, accepted: &Accepted<'_>) -> Result<Vec<u8>, C
 }
 
 /// Makes of an accepted image of the first format that of the same sandboxes in the second, unless
-/// they break one of its rules.
+/// they break one of its rules. Code in words has no other format.
 ///
 /// What it makes is an accepted image: `check` refuses it for want of memory alone.
-#[tactic(auto, using(sfi_rules::proofs::Facts::one_image_list, sfi_rules::proofs::Facts::clean_breaks_stack_alone))]
+#[tactic(auto, using(sfi_rules::proofs::Facts::one_image_list))]
 pub fn convert(alloc: Global, bytes: &[u8]) -> Result<Vec<u8>, ConvertFault>
     // What each answer means.
     ensures converted { IfOk result (λ new. IsConversion bytes.now new.items) }
@@ -129,6 +133,7 @@ pub fn convert(alloc: Global, bytes: &[u8]) -> Result<Vec<u8>, ConvertFault>
         → HasFindings bytes.now found → AnswersFindings found result }
     ensures only_stack { (found : List Finding) → HasStackFindings bytes.now found
         → AnswersStack found result }
+    ensures only_words { IsOfWords bytes.now → AnswersWords result }
     ensures only_converted { (new : List ℕ) → IsConversion bytes.now new
         → AnswersConversion new result }
 {
@@ -136,7 +141,12 @@ pub fn convert(alloc: Global, bytes: &[u8]) -> Result<Vec<u8>, ConvertFault>
         return Err(ConvertFault::NotOld);
     }
     match check(alloc, bytes) {
-        Ok(accepted) => convert_accepted(alloc, &accepted),
+        Ok(accepted) => {
+            if accepted.image().format().has_words() {
+                return Err(ConvertFault::Words);
+            }
+            convert_accepted(alloc, &accepted)
+        }
         Err(refusal) => Err(ConvertFault::from(refusal)),
     }
 }

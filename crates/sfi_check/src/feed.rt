@@ -15,7 +15,7 @@ use crate::stream_answer::StreamAnswer;
 use crate::tally::Tally;
 use sfi_image::{LayoutFault, LayoutReader, Want};
 use sfi_policy::BUNDLE_BYTES;
-use sfi_scan::{BUNDLE_BY_BUNDLE, FindingSink};
+use sfi_scan::{BUNDLE_BY_BUNDLE, FindingSink, Owed};
 
 /// How many bytes are held at most. What comes next of an image has at most 28 bytes, and a piece of
 /// it is held only as long as it isn't whole.
@@ -52,6 +52,7 @@ impl Feed {
                 bundles: 0,
                 count: 0,
                 first: None,
+                owed: Owed::Nothing,
             },
             held: [0; ROOM],
             count: 0,

@@ -2,10 +2,11 @@
 //!
 //! It reads the image's bytes alone, and trusts nothing that made them: [`check`] a list of all of
 //! them, and [`check_stream`] a source piece by piece, without taking memory. Where it accepts
-//! them, every run of each sandbox is safe, from every bundle start, with x24 to x27 set and, in
-//! the second format, x2 in the data; whatever the other registers and the data hold, and however
+//! them, every run of each sandbox is safe, from every bundle start or, where code is in words, from
+//! every word, with x24 to x27 set and the typed registers of the format, as the stack pointer of the
+//! second, holding what their types say; whatever the other registers and the data hold, and however
 //! the turns of its neighbours and its host's replies fall between its steps: `specs/Runs.antt`
-//! of `sfi_safety` says what may happen, and `specs/Safety.antt` what is safe.
+//! of `sfi_runs` says what may happen, and `specs/Safety.antt` what is safe.
 #![tactic(auto)]
 
 mod accepted;

@@ -40,8 +40,9 @@ fn take_code<F: FindingSink, const BLOCKS: bool>(
     if let Some(number) = reader.take(code) {
         return Step::Fault(number);
     }
+    let owed = tally.owed_at(place);
     tally.add_bundles(place.sandbox, (len / BUNDLE_BYTES) as u32);
-    scan_counted::<F, BLOCKS>(place, code, tally, sink);
+    tally.owed = scan_counted::<F, BLOCKS>(place, code, owed, tally, sink);
     Step::Took(len)
 }
 

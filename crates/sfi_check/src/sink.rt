@@ -4,7 +4,7 @@ ghost use Rattle.sfi_scan.specs.Stretches.{IsStretch};
 ghost use Rattle.sfi_check.specs.private.Counting.{IsCounted};
 
 use crate::tally::Tally;
-use sfi_scan::{BundleFindings, BundlePlace, FindingSink, scan_code};
+use sfi_scan::{BundleFindings, BundlePlace, FindingSink, Owed, scan_stretch};
 
 /// What keeps no findings.
 #[derive(Drop)]
@@ -52,33 +52,35 @@ impl<'a, F: FindingSink> FindingSink for Counted<'a, F> {
 }
 
 impl<'a, F: FindingSink> Counted<'a, F> {
-    /// Scans a stretch of bundles, of which the first lies at that place.
+    /// Scans a stretch of code, of which the first bundle lies at that place and before which this is
+    /// owed. Answers what is owed after it.
     #[inline(always)]
-    fn scan<const BLOCKS: bool>(&mut self, place: &BundlePlace, code: &[u8])
+    fn scan<const BLOCKS: bool>(&mut self, place: &BundlePlace, code: &[u8], owed: Owed) -> Owed
         requires { (n : ℕ) × IsStretch place.now code.now n }
         ensures same_tally { self.new.tally.ghost_name ≡ self.old.tally.ghost_name }
         ensures same_sink { self.new.sink.ghost_name ≡ self.old.sink.ghost_name }
         ensures counted { (n : ℕ) → IsStretch place.now code.now n
-            → IsCounted F.takes place.now code.now n self.old.tally.now self.new.tally.now
-            self.old.sink.now self.new.sink.now }
+            → IsCounted F.takes place.now owed code.now n result self.old.tally.now
+            self.new.tally.now self.old.sink.now self.new.sink.now }
     {
-        scan_code::<Self, BLOCKS>(place, code, self);
+        scan_stretch::<Self, BLOCKS>(place, code, owed, self)
     }
 }
 
-/// Scans a stretch of bundles, of which the first lies at that place: counts the findings, and hands
-/// them to the sink.
+/// Scans a stretch of code, of which the first bundle lies at that place and before which this is owed:
+/// counts the findings, and hands them to the sink. Answers what is owed after it.
 #[inline(always)]
 pub(crate) fn scan_counted<F: FindingSink, const BLOCKS: bool>(
     place: &BundlePlace,
     code: &[u8],
+    owed: Owed,
     tally: &mut Tally,
     sink: &mut F,
-)
+) -> Owed
     requires { (n : ℕ) × IsStretch place.now code.now n }
     ensures { (n : ℕ) → IsStretch place.now code.now n
-        → IsCounted F.takes place.now code.now n tally.old tally.new sink.old sink.new }
+        → IsCounted F.takes place.now owed code.now n result tally.old tally.new sink.old sink.new }
 {
     let mut counted = Counted { tally, sink };
-    counted.scan::<BLOCKS>(place, code);
+    counted.scan::<BLOCKS>(place, code, owed)
 }

@@ -1,10 +1,10 @@
 //! What was found so far.
-ghost use Rattle.std.specs.Prelude.{◌≡◌, ◌+◌, ◌<◌, ◌≤◌, ◌^◌, ◌++◌, List, length, slice_get};
+ghost use Rattle.std.specs.Prelude.{◌≡◌, ◌==◌, ◌+◌, ◌<◌, ◌≤◌, ◌^◌, ◌++◌, List, cond, length, slice_get};
 ghost use Rattle.sfi_policy.specs.Limits.{sandboxes_most};
 ghost use Rattle.sfi_rules.specs.declared.finding.Finding.{Finding};
 ghost use Rattle.sfi_check.specs.private.Counting.{Counts};
 
-use sfi_scan::{BundleFindings, Finding};
+use sfi_scan::{BundleFindings, BundlePlace, Finding, Owed};
 
 /// How many sandboxes and bundles were scanned, and how many findings they have, with the first.
 #[derive(Clone, Copy)]
@@ -17,6 +17,8 @@ pub struct Tally {
     pub count: u32,
     /// The first finding, by sandbox and then by address.
     pub first: Option<Finding>,
+    /// What is owed after the code of the last one, where code is in words.
+    pub owed: Owed,
 }
 
 /// The first finding of both.
@@ -31,6 +33,18 @@ fn first_of(first: Option<Finding>, found: &BundleFindings) -> Option<Finding>
 }
 
 impl Tally {
+    /// What is owed before the code there: where its region begins, nothing.
+    #[inline]
+    pub(crate) fn owed_at(&self, place: &BundlePlace) -> Owed
+        ensures { result ≡ cond (place.now.address == place.now.code_base) Owed.Nothing self.now.owed }
+    {
+        if place.address == place.code_base {
+            Owed::Nothing
+        } else {
+            self.owed
+        }
+    }
+
     /// Counts so many bundles more, of that sandbox.
     #[inline]
     pub(crate) fn add_bundles(&mut self, sandbox: u32, bundles: u32)

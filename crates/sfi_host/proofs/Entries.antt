@@ -1,12 +1,13 @@
 -- A sandbox that is entered again.
-use Rattle.sfi_host.proofs.Prelude.{◌≡◌, ◌≢◌, ◌⊎◌, inl, inr, ⊎_elim, ◌↔◌, IsTrue, ℕ, suc, ◌+◌, ◌-◌, ◌^◌, ◌<◌, ◌≤◌, ◌==◌, Bool, true, false, List, [], ◌∷◌, ◌++◌, map, length, take, get_or, Some, None, set, slice_get, refl, sym, ap, ◌∙◌, subst, arith, get_or-set_other, same_Some, slice_index, slice_set, cond, empty, map-set, take_more, take_all, length-take-le, Bytes, IsMemory, Hart, IsHart, with_register, IsRightLayout, Holds, AreApart, with_guards, code_region, Part, HasCode, IsEntry, AllRunSafely, AllCallWithStack, Program, Sandbox, MayEnter, MayEnterAt, fresh_hart, with_registers, entered_hart, entered_seat, with_entry_of, with_entry, IsAtEntry, IsEnterable, first_seat, with_parts, AreEntered, HaveFirstData, seat_of, seats_of, world_of, Bounds, Slot, bounds_of, Seat, Sandboxes, slot_of, slots_of, state_in, IsSafeSeat, AreProgramsOf}
-use Rattle.sfi_image.specs.Regions.{IsBundleStart}
+use Rattle.sfi_host.proofs.Prelude.{◌≡◌, ◌≢◌, ◌⊎◌, inl, inr, ⊎_elim, ◌↔◌, IsTrue, ℕ, suc, ◌+◌, ◌-◌, ◌%◌, ◌^◌, ◌<◌, ◌≤◌, ◌==◌, Bool, true, false, List, [], ◌∷◌, ◌++◌, map, length, take, get_or, Some, None, set, slice_get, refl, sym, ap, ◌∙◌, subst, arith, get_or-set_other, same_Some, slice_index, slice_set, cond, empty, map-set, take_more, take_all, length-take-le, Bytes, IsMemory, Hart, IsHart, with_register, IsRightLayout, Holds, AreApart, with_guards, code_region, Part, HasCode, IsEntry, AllRunSafely, AllCallTyped, Program, Sandbox, MayEnter, MayEnterAt, fresh_hart, with_registers, entered_hart, entered_seat, with_entry_of, with_entry, IsAtEntry, IsEnterable, first_seat, with_parts, AreEntered, HaveFirstData, seat_of, seats_of, world_of, Bounds, Slot, bounds_of, Seat, Sandboxes, slot_of, slots_of, state_in, IsSafeSeat, AreProgramsOf}
+use Rattle.sfi_policy.specs.Formats.{unit}
+use Rattle.sfi_runs.specs.Regions.{IsUnitStart}
 use Rattle.sfi_host.proofs.Asked.{seat_at, slot_is, no_slot}
 use Rattle.sfi_host.proofs.Decoding.{first_decoded}
 use Rattle.sfi_host.proofs.Neighbours.{get_set_same}
 use Rattle.sfi_host.proofs.SafeSeats as keep
 use Rattle.sfi_host.proofs.Changing.{IsKept, AfterTurn, turn_taken}
-use Rattle.sfi_host.proofs.Worlds.{entered, first_data_there, world_safe, all_enterable}
+use Rattle.sfi_host.proofs.Worlds.{AreFreshOf, fresh_are, reserved_at, typed_at, entered, first_data_there, world_safe, all_enterable}
 
 -- ---- each sandbox of a world may be entered
 
@@ -16,7 +17,7 @@ pub record IsFirst (ps : List Part) (m : Bytes) (seats : List Seat) (programs : 
   pub entered : AreEntered ps m
   pub first_data : HaveFirstData ps m
 
-pub is_first : (ps : List Part) → IsRightLayout ps → AllRunSafely ps → AllCallWithStack ps
+pub is_first : (ps : List Part) → IsRightLayout ps → AllRunSafely ps → AllCallTyped ps
     → (m : Bytes) (seats : List Seat) (programs : List Program) → IsMemory m → m ≡ with_parts empty ps → seats ≡ map first_seat ps → AreProgramsOf ps (length ps) programs → IsFirst ps m seats programs
 is_first ps layout safe calls m seats programs is_memory bytes are made =
     let memory : IsMemory (with_parts empty ps) = subst IsMemory bytes is_memory in
@@ -76,41 +77,53 @@ module _ (m : Bytes) (s : Seat) (seat : IsSafeSeat m s) where
       let above : seat.part.data_base + seat.part.data_size + 4096 ≤ 2 ^ 32 = seat.right.guard_room.above in
       subst (λ (b : Bounds). (16 ≤ b.code.size) × (16 ≤ b.data.size) × (b.data.base + b.data.size < 2 ^ 32)) (sym seat.bounds) (omega arith, omega arith, omega arith)
 
-  module _ (pc : ℕ) (arguments : List ℕ) (few : length arguments ≤ 8) (start : IsBundleStart s.bounds.code pc) (hart : IsHart (entered_hart s.bounds pc arguments)) (p : Part) (is : s.bounds ≡ bounds_of p) where
+  module _ (pc : ℕ) (arguments : List ℕ) (few : length arguments ≤ 8) (held : Holds s.bounds.code pc) (aligned : pc % unit s.bounds.format ≡ 0) (hart : IsHart (entered_hart s.bounds pc arguments)) (p : Part) (is : s.bounds ≡ bounds_of p) where
     abbrev now : List ℕ
     now = (entered_hart s.bounds pc arguments).registers
 
     abbrev fresh : Hart
-    fresh = fresh_hart s.bounds.code s.bounds.data pc
+    fresh = fresh_hart s.bounds.format s.bounds.code s.bounds.data pc
 
-    above : (q : ℕ) → 18 ≤ q → slice_index now q ≡ slice_index fresh.registers q
-    above q high = others_kept arguments fresh 10 q (inr (omega arith))
+    -- the arguments leave all that an entry asks for
+    kept : AreFreshOf s.bounds pc now
+    kept =
+        let high : (q : ℕ) → 18 ≤ q → slice_index now q ≡ slice_index fresh.registers q = λ q le. others_kept arguments fresh 10 q (inr (omega arith)) in
+        let low : (q : ℕ) → q < 10 → slice_index now q ≡ slice_index fresh.registers q = λ q less. others_kept arguments fresh 10 q (inl less) in
+        let f = fresh_are s.bounds pc in
+        record {
+          code_base = high 24 (omega arith) ∙ f.code_base;
+          code_mask = high 25 (omega arith) ∙ f.code_mask;
+          data_base = high 26 (omega arith) ∙ f.data_base;
+          data_mask = high 27 (omega arith) ∙ f.data_mask;
+          stack = low 2 (omega arith) ∙ f.stack;
+          third = λ has. low 3 (omega arith) ∙ f.third has;
+          fourth = λ has. low 4 (omega arith) ∙ f.fourth has;
+          last = λ has. high 29 (omega arith) ∙ f.last has;
+          code = λ has. high 30 (omega arith) ∙ f.code has;
+          offset = high 31 (omega arith) ∙ f.offset;
+        }
 
-    stack_is : slice_index now 2 ≡ s.bounds.data.base + s.bounds.data.size - 16
-    stack_is = others_kept arguments fresh 10 2 (inl (omega arith))
+    -- of the part
+    of_part : AreFreshOf (bounds_of p) pc now
+    of_part = subst (λ (b : Bounds). AreFreshOf b pc now) is kept
 
-    stack_there : Holds s.bounds.data (slice_index now 2)
-    stack_there = let z = stack_is in let d = sizes.1 in (omega (arith, z, d), omega (arith, z, d))
+    starts : IsUnitStart p pc
+    starts = record { held = subst (λ (b : Bounds). Holds b.code pc) is held; aligned = subst (λ (b : Bounds). pc % unit b.format ≡ 0) is aligned }
 
     pub at_entry : HasCode p m → IsEntry p (state_in m (entered_seat s pc arguments))
     at_entry code = record {
       state = record { hart = hart; memory = seat.state.memory };
-      start = subst (λ (q : ℕ). IsBundleStart (code_region p) q) (sym (pc_kept arguments fresh 10)) (subst (λ (b : Bounds). IsBundleStart b.code pc) is start);
-      reserved = record {
-        code_base = above 24 (omega arith) ∙ ap (λ (b : Bounds). b.code.base) is;
-        code_mask = above 25 (omega arith) ∙ ap (λ (b : Bounds). b.code.size - 16) is;
-        data_base = above 26 (omega arith) ∙ ap (λ (b : Bounds). b.data.base) is;
-        data_mask = above 27 (omega arith) ∙ ap (λ (b : Bounds). b.data.size - 1) is;
-      };
-      stack = λ has. subst (λ (b : Bounds). Holds b.data (slice_index now 2)) is stack_there;
+      start = subst (IsUnitStart p) (sym (pc_kept arguments fresh 10)) starts;
+      reserved = reserved_at p pc now of_part;
+      typed = typed_at p pc now (subst (λ (b : Bounds). 16 ≤ b.data.size) is sizes.1.0) starts of_part;
       code = code;
       guards = λ a guard. seat.guards a (keep.guard_mine m s seat p is a guard);
     }
 
-  module _ (enterable : IsEnterable m s.bounds) (pc : ℕ) (arguments : List ℕ) (few : length arguments ≤ 8) (start : IsBundleStart s.bounds.code pc) (hart : IsHart (entered_hart s.bounds pc arguments)) where
+  module _ (enterable : IsEnterable m s.bounds) (pc : ℕ) (arguments : List ℕ) (few : length arguments ≤ 8) (held : Holds s.bounds.code pc) (aligned : pc % unit s.bounds.format ≡ 0) (hart : IsHart (entered_hart s.bounds pc arguments)) where
     pub entered_safe : IsSafeSeat m (entered_seat s pc arguments)
     entered_safe =
-        keep.ready_safe m s.bounds (entered_hart s.bounds pc arguments) s.steps enterable (at_entry pc arguments few start hart enterable.part enterable.bounds enterable.code)
+        keep.ready_safe m s.bounds (entered_hart s.bounds pc arguments) s.steps enterable (at_entry pc arguments few held aligned hart enterable.part enterable.bounds enterable.code)
         (subst (λ (b : Bounds). AreApart b.code (with_guards b.data)) (sym seat.bounds ∙ enterable.bounds) seat.apart) seat.has_data
 
 -- ---- a world in which it did
@@ -122,7 +135,7 @@ pub record HasEntered (w : Sandboxes) (programs : List Program) (i pc : ℕ) (ar
   pub entry : IsAtEntry o i
 
 module _ (m : Bytes) (items : List Sandbox) (programs : List Program) (i : ℕ) (x new : Sandbox) (inside : IsKept (world_of m items) programs) (at : slice_get items i ≡ Some x)
-    (pc : ℕ) (arguments : List ℕ) (few : length arguments ≤ 8) (start : IsBundleStart (seat_of x).bounds.code pc)
+    (pc : ℕ) (arguments : List ℕ) (few : length arguments ≤ 8) (held : Holds (seat_of x).bounds.code pc) (aligned : pc % unit (seat_of x).bounds.format ≡ 0)
     (is : seat_of new ≡ entered_seat (seat_of x) pc arguments) (hart : IsHart new.cpu) where
   there : slice_get (seats_of items) i ≡ Some (seat_of x)
   there = seat_at items i x at
@@ -134,7 +147,7 @@ module _ (m : Bytes) (items : List Sandbox) (programs : List Program) (i : ℕ) 
   hart_is = subst IsHart (ap (λ (s : Seat). s.hart) is) hart
 
   safe : IsSafeSeat m (seat_of new)
-  safe = subst (IsSafeSeat m) (sym is) (entered_safe m (seat_of x) seat (inside.2 i (seat_of x) there) pc arguments few start hart_is)
+  safe = subst (IsSafeSeat m) (sym is) (entered_safe m (seat_of x) seat (inside.2 i (seat_of x) there) pc arguments few held aligned hart_is)
 
   seats_are : seats_of (set items i new) ≡ set (seats_of items) i (entered_seat (seat_of x) pc arguments)
   seats_are = map-set seat_of items i new ∙ ap (λ (s : Seat). set (seats_of items) i s) is
@@ -145,7 +158,7 @@ module _ (m : Bytes) (items : List Sandbox) (programs : List Program) (i : ℕ) 
       ap (λ (l : List Seat). slice_get l i) seats_are ∙ get_set_same (seats_of items) i (seat_of x) _ there in
       let same : s ≡ entered_seat (seat_of x) pc arguments = same_Some _ _ (sym e ∙ here) in
       subst (λ (y : Seat). IsEntry p (state_in m y)) (sym same)
-      (at_entry m (seat_of x) seat pc arguments few start hart_is p (sym (ap (λ (y : Seat). y.bounds) same) ∙ bounds) code)
+      (at_entry m (seat_of x) seat pc arguments few held aligned hart_is p (sym (ap (λ (y : Seat). y.bounds) same) ∙ bounds) code)
 
   pub has_entered : (w : Sandboxes) → world_of m items ≡ w → HasEntered w programs i pc arguments (slot_of m (seat_of x)) (slot_of m (seat_of new)) (world_of m (set items i new))
   has_entered w view = record {

@@ -3,7 +3,7 @@ use Rattle.sfi_host.proofs.Prelude.{◌≡◌, ◌≢◌, ◌⊎◌, inl, inr, I
 use Rattle.sfi_host.specs.Moves.{StepsAlone, Move, after_move, IsTurnsShare, AreShares, all_of, given_in, ComeTo, HaveRun, JoinedMoves, JointMoves}
 use Rattle.sfi_host.specs.Steps.{IsOwnStep}
 use Rattle.std.proofs.lemmas.List.Elements.{All-cons, All-nil}
-use Rattle.sfi_safety.specs.Runs.{after_step as step_to, after_turn as goes_to}
+use Rattle.sfi_runs.specs.Runs.{after_step as step_to, after_turn as goes_to}
 use Rattle.sfi_host.specs.declared.turn.Turn.{Turn as PlanTurn}
 use Rattle.rv_step.specs.declared.outcome.Outcome.TheVariants as outcome
 use Rattle.sfi_host.proofs.Continuing.{way_goes}
@@ -223,7 +223,7 @@ module _ (machine : Machine) (is : IsMachine machine) where
       }
 
       is_reply : (w : Way) → a.reply.way ≡ w → status_after w ≡ Ready → (p : Part) → s.bounds ≡ bounds_of p → IsReply p (state_in m s) (state_in n (t w))
-      is_reply w way goes_on p here = keep.answers_are m s a.reply (state_in n (t w)) stands.0 p seat here (keep.stack_lies m s seat p here ready stands.0 stands.1) stands.1
+      is_reply w way goes_on p here = keep.answers_are m s a.reply (state_in n (t w)) stands.0 p seat here (keep.typed_lies m s seat p here ready stands.0 stands.1) stands.1
           (ap status_after way ∙ goes_on)
           (record { hart = keep.answered_is w s.hart (word a.reply.a0) (word a.reply.a1) seat.state.hart (low a.reply.a0) (low a.reply.a1); memory = memory })
           (ap (λ (y : Way). (t y).hart) (sym way)) others

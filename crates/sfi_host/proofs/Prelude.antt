@@ -18,17 +18,17 @@ pub use Rattle.sfi_image.specs.Parts.{IsRightPart, IsRightLayout}
 pub use Rattle.sfi_image.specs.Spans.{Holds, code_region, AreApart, guarded_region, spans, with_guards, InGuards}
 pub use Rattle.sfi_image.specs.Spelling.{Part, view, views}
 pub use Rattle.sfi_image.specs.declared.span.Span.{Span}
-pub use Rattle.sfi_safety.specs.Regions.{InCode, HasCode, InData, InGuard, IsGate, StackInData}
-pub use Rattle.sfi_safety.specs.Runs.{IsChange, IsEntry, IsReply, IsTurn, Steps, Replies, Changes, KeepsBytes, IsRun, KeepsReserved}
-pub use Rattle.sfi_safety.specs.Safety.{AllRunSafely, IsSafeState, IsSafeTurn, IsSafeRun, IsSafeStep, IsTrap, RunsSafely}
-pub use Rattle.sfi_safety.specs.Stack.{AllCallWithStack, after_turns, GoesSafelyFrom, CallsWithStack}
+pub use Rattle.sfi_runs.specs.Regions.{InCode, HasCode, InData, InGuard, IsGate}
+pub use Rattle.sfi_runs.specs.Runs.{IsChange, IsEntry, IsReply, IsTurn, Steps, Replies, Changes, KeepsBytes, IsRun, KeepsReserved}
+pub use Rattle.sfi_runs.specs.Safety.{AllRunSafely, IsSafeState, IsSafeTurn, IsSafeRun, IsSafeStep, IsTrap, RunsSafely}
+pub use Rattle.sfi_runs.specs.Calls.{AllCallTyped, after_turns, GoesSafelyFrom, CallsTyped}
 pub use Rattle.sfi_host.specs.Consoles.{SessionState, ConsoleState, with_session, serve, serve_own, console, may_want, may_want_if, console_may_refuse, new_session, failed, most_messages, posted, mailbox_full, message_of, with_message, post_to, post}
 pub use Rattle.sfi_host.specs.Entering.{AreEnterable, MayEnter, MayEnterAt, fresh_hart, with_registers, entered_hart, entered_seat, with_entry_of, with_entry, IsAtEntry, IsEnterable}
 pub use Rattle.sfi_host.specs.Guests.{call_by, asked, with_a0, data_of}
 pub use Rattle.sfi_host.specs.Hosts.{Call, Way, Replied, Answer, Limited, limited, if_left, Exit, Reply, Host, replay}
 pub use Rattle.sfi_host.specs.Joint.{Machine, Moved, still, moved_if, after_step, after_answer, call_of, next_after, replied, Joined, joint, IsMachine, word, is_byte, with_arguments, with_data, after_way, status_after, after_replies, and_more, Given, given, after_turn, and_plan, turn_and, both, service_at}
 unfoldable pub use Rattle.sfi_host.specs.Joint.{moved, joined, turned}
-pub use Rattle.sfi_host.specs.Loading.{first_seat, AreEntered, first_data, with_part, with_parts, HaveFirstData, bare_hart, first_hart}
+pub use Rattle.sfi_host.specs.Loading.{first_seat, AreEntered, first_data, with_part, with_parts, HaveFirstData, first_hart}
 pub use Rattle.sfi_host.specs.Plans.{IsJoint, IsRefusedIn, IsCutJoint}
 pub use Rattle.sfi_host.specs.Regions.{bytes_in, bytes_outside, IsWhole, is_in, span_of}
 pub use Rattle.sfi_host.specs.Sandboxes.{seat_of, seats_of, world_of}

@@ -1,11 +1,13 @@
 -- What leaves a sandbox safe.
-use Rattle.sfi_host.proofs.Prelude.{◌≡◌, ◌≢◌, ℕ, ◌+◌, ◌^◌, ◌<◌, List, [], length, true, refl, sym, ap, ◌∙◌, subst, arith, get_or-set_other, slice_index, slice_set, Ecall, Bytes, IsMemory, byte_at, address_after, Hart, IsHart, IsState, past, Stands, Part, Holds, InGuards, AreApart, with_guards, code_region, guarded_region, InCode, InData, InGuard, HasCode, StackInData, IsEntry, Replies, Changes, KeepsBytes, KeepsReserved, IsReply, GoesSafelyFrom, Ready, IsEnterable, IsWhole, Bounds, bounds_of, one_more, Way, Replied, Exit, word, with_arguments, after_way, status_after, Seat, state_in, IsSafeSeat, StaysOutside}
+use Rattle.sfi_host.proofs.Prelude.{◌≡◌, ◌≢◌, ℕ, ◌+◌, ◌^◌, ◌<◌, ◌≤◌, List, [], length, true, refl, sym, ap, ◌∙◌, subst, arith, get_or-set_other, slice_index, slice_set, Ecall, Bytes, IsMemory, byte_at, address_after, Hart, IsHart, IsState, past, Stands, Part, Holds, InGuards, AreApart, with_guards, code_region, guarded_region, InCode, InData, InGuard, HasCode, IsEntry, Replies, Changes, KeepsBytes, KeepsReserved, IsReply, GoesSafelyFrom, Ready, IsEnterable, IsWhole, Bounds, bounds_of, one_more, Way, Replied, Exit, word, with_arguments, after_way, status_after, Seat, state_in, IsSafeSeat, StaysOutside}
 use Rattle.sfi_host.specs.Arguments.{a0_register, a1_register}
 use Rattle.sfi_host.specs.Laws.{CallsHaveStack, AnswersAreReplies}
 use Rattle.sfi_host.specs.Stops.{StoppedItself}
-use Rattle.sfi_policy.specs.Formats.{has_stack}
+use Rattle.sfi_policy.specs.Formats.{has_stack, has_words}
+use Rattle.sfi_policy.specs.Registers.{is_data_register}
+use Rattle.sfi_runs.specs.Typed.{IsTyped, IsNear, IsWordStart}
 use Rattle.rv_step.proofs.Harts.{register_is, after_is}
-use Rattle.sfi_safety.proofs.Facts.{goes_on_safely}
+use Rattle.sfi_runs.proofs.Facts.{goes_on_safely}
 use Rattle.sfi_host.proofs.Entered as parts
 use Rattle.sfi_host.proofs.Stops.{at_gate, at_gate_still, stopped_still}
 
@@ -19,6 +21,19 @@ pub code_stays : (p : Part) (m n : Bytes) → KeepsBytes p m n → HasCode p m �
 code_stays p m n keeps code k below = keeps.code (p.code_base + k) (code_at p k below) ∙ code k below
 
 -- ---- the regions of one sandbox
+
+-- all registers but a0 and a1 stay
+abbrev pub KeepsOthers : Hart → Hart → Type 0
+KeepsOthers before after = (r : ℕ) → r ≢ a0_register → r ≢ a1_register → slice_index after.registers r ≡ slice_index before.registers r
+
+-- those are none of the reserved registers
+reserved_kept : (before after : Hart) → KeepsOthers before after → KeepsReserved before after
+reserved_kept before after kept = record {
+  code_base = kept 24 (λ e. cc) (λ e. cc);
+  code_mask = kept 25 (λ e. cc) (λ e. cc);
+  data_base = kept 26 (λ e. cc) (λ e. cc);
+  data_mask = kept 27 (λ e. cc) (λ e. cc);
+}
 
 module _ (m : Bytes) (s : Seat) (seat : IsSafeSeat m s) where
   -- the data are among the addresses that are guarded
@@ -56,23 +71,46 @@ module _ (m : Bytes) (s : Seat) (seat : IsSafeSeat m s) where
       guards = λ a guard empty. stays a (guard_not_data a guard) ∙ empty;
     }
 
+    -- what is typed of registers rests on where the sandbox lies alone
+    typed_too : (q : Part) → bounds_of q ≡ bounds_of p → (registers : List ℕ) → IsTyped q registers → IsTyped p registers
+    typed_too q same registers typed = record {
+      stack = λ has. subst (λ (b : Bounds). Holds b.data (slice_index registers 2)) same (typed.stack (ap (λ (b : Bounds). has_stack b.format) same ∙ has));
+      words = λ has.
+          let w = typed.words (ap (λ (b : Bounds). has_words b.format) same ∙ has) in
+          record {
+            each_data = λ d is.
+                let near = w.each_data d is in
+                record { low = subst (λ (b : Bounds). b.data.base ≤ slice_index registers d + 1020) same near.low; high = subst (λ (b : Bounds). slice_index registers d < b.data.base + b.data.size + 1020) same near.high };
+            code = record { held = subst (λ (b : Bounds). Holds b.code (slice_index registers 30)) same w.code.held; aligned = w.code.aligned };
+            offset = subst (λ (b : Bounds). slice_index registers 31 < b.data.size) same w.offset;
+          };
+    }
+
+    -- the typed registers of a ready sandbox that stands at an ecall hold what their types say
+    pub typed_lies : s.status ≡ Ready → (size : ℕ) → Stands (state_in m s) Ecall size → IsTyped p s.hart.registers
+    typed_lies ready size stands = typed_too seat.part (sym seat.bounds ∙ is) s.hart.registers ((seat.safe ready).calls.lies [] (state_in m s) size tt refl stands)
+
+    -- what they hold at a call they hold after it, where all registers but a0 and a1 stay
+    typed_kept : (h : Hart) → KeepsOthers s.hart h → IsTyped p s.hart.registers → IsTyped p h.registers
+    typed_kept h kept typed = record {
+      stack = λ has. subst (λ (a : ℕ). InData p a) (sym (kept 2 (λ e. cc) (λ e. cc))) (typed.stack has);
+      words = λ has.
+          let w = typed.words has in
+          record {
+            each_data = λ d is.
+                subst (λ (a : ℕ). IsNear p 1020 a)
+                (sym (kept d (λ e. let z : is_data_register 10 ≡ true = subst (λ (r : ℕ). is_data_register r ≡ true) e is in cc) (λ e. let z : is_data_register 11 ≡ true = subst (λ (r : ℕ). is_data_register r ≡ true) e is in cc)))
+                (w.each_data d is);
+            code = subst (IsWordStart p) (sym (kept 30 (λ e. cc) (λ e. cc))) w.code;
+            offset = subst (λ (a : ℕ). a < p.data_size) (sym (kept 31 (λ e. cc) (λ e. cc))) w.offset;
+          };
+    }
+
     -- a hart that goes on after the ecall
     pub is_reply : (size : ℕ) → Stands (state_in m s) Ecall size → (n : Bytes) (h : Hart) → StaysOutside s.bounds.data m n → IsState (record { hart = h; memory = n })
-        → h.pc ≡ address_after s.hart.pc 4 → KeepsReserved s.hart h → StackInData p h.registers → IsReply p (state_in m s) (record { hart = h; memory = n })
-    is_reply size stands n h stays state pc reserved stack =
-        record { size = size; asked = stands; state = state; pc = pc; reserved = reserved; stack = stack; bytes = own_kept n stays }
-
-    -- a ready sandbox that stands at an ecall has its stack pointer in its data
-    pub stack_lies : s.status ≡ Ready → (size : ℕ) → Stands (state_in m s) Ecall size → StackInData p s.hart.registers
-    stack_lies ready size stands has =
-        let same_bounds : bounds_of seat.part ≡ bounds_of p = sym seat.bounds ∙ is in
-        let has' : has_stack seat.part.format ≡ true = ap (λ (b : Bounds). has_stack b.format) same_bounds ∙ has in
-        let inside : InData seat.part (slice_index s.hart.registers 2) = (seat.safe ready).calls.lies [] (state_in m s) size tt refl stands has' in
-        subst (λ (b : Bounds). Holds b.data (slice_index s.hart.registers 2)) same_bounds inside
-
-    -- where a stack pointer lies at a call it lies after it
-    pub stack_kept : StackInData p s.hart.registers → (h : Hart) → slice_index h.registers 2 ≡ slice_index s.hart.registers 2 → StackInData p h.registers
-    stack_kept lies h same has = subst (λ (a : ℕ). InData p a) (sym same) (lies has)
+        → h.pc ≡ address_after s.hart.pc 4 → KeepsOthers s.hart h → IsTyped p s.hart.registers → IsReply p (state_in m s) (record { hart = h; memory = n })
+    is_reply size stands n h stays state pc kept typed =
+        record { size = size; asked = stands; state = state; pc = pc; reserved = reserved_kept s.hart h kept; typed = typed_kept h kept typed; bytes = own_kept n stays }
 
   -- where code and guard zones are kept it is safe, if it goes on safely or has stopped itself
   pub again : (n : Bytes) (t : Seat) → t.bounds ≡ s.bounds → IsState (state_in n t) → KeepsBytes seat.part m n → IsWhole s.bounds.data n
@@ -105,12 +143,12 @@ module _ (m : Bytes) (s : Seat) (seat : IsSafeSeat m s) where
 
   replied : s.status ≡ Ready → (size : ℕ) → Stands (state_in m s) Ecall size
       → (n : Bytes) (h : Hart) (steps : ℕ) → IsMemory n → StaysOutside s.bounds.data m n → IsWhole s.bounds.data n
-      → IsHart h → h.pc ≡ address_after s.hart.pc 4 → KeepsReserved s.hart h → slice_index h.registers 2 ≡ slice_index s.hart.registers 2
+      → IsHart h → h.pc ≡ address_after s.hart.pc 4 → KeepsOthers s.hart h
       → IsSafeSeat n (record { bounds = s.bounds; hart = h; status = Ready; steps = steps })
-  replied ready size stands n h steps memory stays whole hart pc reserved stack =
+  replied ready size stands n h steps memory stays whole hart pc kept =
       again n _ refl (record { hart = hart; memory = memory }) (own_kept seat.part seat.bounds n stays) whole
       (λ still. goes_on_safely seat.part (state_in m s) (record { hart = h; memory = n }) (Replies (record { hart = h; memory = n })) (seat.safe ready)
-      (is_reply seat.part seat.bounds size stands n h stays (record { hart = hart; memory = memory }) pc reserved (stack_kept seat.part seat.bounds (stack_lies seat.part seat.bounds ready size stands) h stack)) refl) tt
+      (is_reply seat.part seat.bounds size stands n h stays (record { hart = hart; memory = memory }) pc kept (typed_lies seat.part seat.bounds ready size stands)) refl) tt
 
   -- the code where its own data alone may have changed
   pub code_same : (n : Bytes) → StaysOutside s.bounds.data m n → (a : ℕ) → Holds s.bounds.code a → byte_at n a ≡ byte_at m a
@@ -120,20 +158,9 @@ module _ (m : Bytes) (s : Seat) (seat : IsSafeSeat m s) where
   pub halted : (n : Bytes) (t : Seat) → IsState (state_in n t) → t.bounds ≡ s.bounds → t.status ≢ Ready → StoppedItself s.bounds (state_in n t) t.status → StaysOutside s.bounds.data m n → IsWhole s.bounds.data n → IsSafeSeat n t
   halted n t state same not_ready stopped stays whole = again n t same state (own_kept seat.part seat.bounds n stays) whole (λ ready. absurd (not_ready ready)) stopped
 
--- a0 and a1 are none of the reserved registers
-kept_register : (registers : List ℕ) (a0 a1 r : ℕ) → r ≢ a0_register → r ≢ a1_register → slice_index (slice_set (slice_set registers a0_register a0) a1_register a1) r ≡ slice_index registers r
-kept_register registers a0 a1 r n k = get_or-set_other (slice_set registers a0_register a0) a1_register r a1 0 k ∙ get_or-set_other registers a0_register r a0 0 n
-
-arguments_keep : (h : Hart) (a0 a1 : ℕ) → KeepsReserved h (past (with_arguments h a0 a1) 4)
-arguments_keep h a0 a1 = record {
-  code_base = kept_register h.registers a0 a1 24 (λ e. omega arith) (λ e. omega arith);
-  code_mask = kept_register h.registers a0 a1 25 (λ e. omega arith) (λ e. omega arith);
-  data_base = kept_register h.registers a0 a1 26 (λ e. omega arith) (λ e. omega arith);
-  data_mask = kept_register h.registers a0 a1 27 (λ e. omega arith) (λ e. omega arith);
-}
-
-stack_argument : (h : Hart) (a0 a1 : ℕ) → slice_index (past (with_arguments h a0 a1) 4).registers 2 ≡ slice_index h.registers 2
-stack_argument h a0 a1 = kept_register h.registers a0 a1 2 (λ e. omega arith) (λ e. omega arith)
+-- an answer's values leave the other registers
+arguments_keep : (h : Hart) (a0 a1 : ℕ) → KeepsOthers h (past (with_arguments h a0 a1) 4)
+arguments_keep h a0 a1 = λ r n k. get_or-set_other (slice_set h.registers a0_register a0) a1_register r a1 0 k ∙ get_or-set_other h.registers a0_register r a0 0 n
 
 -- ---- an answer
 
@@ -152,7 +179,7 @@ answered_safe m s seat ready size stands n memory stays whole a0 a1 f g (Exit k)
     halted m s seat n _ (record { hart = arguments_are s.hart a0 a1 seat.state.hart f g; memory = memory }) refl (λ e. cc)
     (at_gate_still s.bounds m n (code_same m s seat n stays) s.hart (with_arguments s.hart a0 a1) refl (at_gate m s seat ready size stands)) stays whole
 answered_safe m s seat ready size stands n memory stays whole a0 a1 f g w =
-    replied m s seat ready size stands n _ _ memory stays whole (answered_is Replied s.hart a0 a1 seat.state.hart f g) refl (arguments_keep s.hart a0 a1) (stack_argument s.hart a0 a1)
+    replied m s seat ready size stands n _ _ memory stays whole (answered_is Replied s.hart a0 a1 seat.state.hart f g) refl (arguments_keep s.hart a0 a1)
 
 -- ---- a reply in the words of runs
 
@@ -161,13 +188,12 @@ goes_past (Exit n) h goes_on = absurd (cc)
 goes_past w h goes_on = refl
 
 pub answers_are : AnswersAreReplies
-answers_are m s r after size p seat is stack stands goes_on state hart stays =
+answers_are m s r after size p seat is typed stands goes_on state hart stays =
     let a0 = word r.a0 in
     let a1 = word r.a1 in
     let now : after.hart ≡ past (with_arguments s.hart a0 a1) 4 = hart ∙ goes_past r.way (with_arguments s.hart a0 a1) goes_on in
     is_reply m s seat p is size stands after.memory after.hart stays state (ap (λ (h : Hart). h.pc) now)
-    (subst (λ (h : Hart). KeepsReserved s.hart h) (sym now) (arguments_keep s.hart a0 a1))
-    (stack_kept m s seat p is stack after.hart (ap (λ (h : Hart). slice_index h.registers 2) now ∙ stack_argument s.hart a0 a1))
+    (subst (λ (h : Hart). KeepsOthers s.hart h) (sym now) (arguments_keep s.hart a0 a1)) typed
 
 -- one that is ready at an entry, where every run from that is safe
 pub ready_safe : (m : Bytes) (b : Bounds) (h : Hart) (steps : ℕ) (e : IsEnterable m b) → IsEntry e.part (record { hart = h; memory = m }) → AreApart (code_region e.part) (guarded_region e.part) → IsWhole b.data m
@@ -186,4 +212,4 @@ ready_safe m b h steps e entry apart whole = record {
 }
 
 pub calls_have : CallsHaveStack
-calls_have m s size p seat is ready stands = stack_lies m s seat p is ready size stands
+calls_have m s size p seat is ready stands = typed_lies m s seat p is ready size stands

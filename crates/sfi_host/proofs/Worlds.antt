@@ -1,6 +1,17 @@
 -- A world at its start is safe.
-use Rattle.sfi_host.proofs.Prelude.{◌≡◌, ◌≢◌, ℕ, zero, suc, ◌+◌, ◌-◌, ◌%◌, ◌^◌, ◌<◌, ◌≤◌, List, [], ◌∷◌, length, Some, is_some, slice_get, refl, sym, ap, ◌∙◌, subst, arith, get_or_from_slice_get, slice_get_within, slice_index, replicate, map, empty, IsMemory, byte_at, IsHart, Part, IsRightPart, IsRightLayout, InData, RunsSafely, AllRunSafely, CallsWithStack, AllCallWithStack, IsEnterable, AreEnterable, bounds_of, bare_hart, first_hart, first_seat, with_parts, AreEntered, HaveFirstData, Seat, IsSafeSeat, LiesOutside, IsSafeWorld}
+use Rattle.sfi_host.proofs.Prelude.{◌≡◌, ◌≢◌, ◌⊎◌, inl, inr, ⊎_elim, ◌==◌, Bool, true, false, cond, or_cases, eqb-true, ℕ, zero, suc, ◌+◌, ◌-◌, ◌%◌, ◌^◌, ◌<◌, ◌≤◌, List, [], ◌∷◌, length, Some, is_some, slice_get, refl, sym, ap, ◌∙◌, subst, arith, get_or_from_slice_get, slice_get_within, slice_index, replicate, map, empty, IsMemory, byte_at, Hart, IsHart, with_register, Part, Span, code_region, IsRightPart, IsRightLayout, RunsSafely, AllRunSafely, CallsTyped, AllCallTyped, IsEnterable, AreEnterable, Bounds, bounds_of, fresh_hart, first_hart, first_seat, with_parts, AreEntered, HaveFirstData, Seat, IsSafeSeat, LiesOutside, IsSafeWorld}
+use Rattle.std.proofs.Common.{◌||◌}
 use Rattle.rv_step.proofs.Harts.{register_is}
+use Rattle.sfi_policy.specs.Formats.{unit, has_words}
+use Rattle.sfi_policy.specs.Registers.{is_data_register}
+use Rattle.sfi_policy.specs.declared.format.Format.{Format}
+use Rattle.sfi_policy.specs.declared.format.Format.TheVariants.{Sfi1, Sfi2, Sfiw}
+use Rattle.sfi_image.specs.Regions.{IsBundleStart}
+use Rattle.sfi_image.specs.Spans.{data_region}
+use Rattle.sfi_runs.specs.Regions.{IsUnitStart, HasReserved}
+use Rattle.sfi_runs.specs.Typed.{IsTyped, IsNear, IsWordStart}
+use Rattle.sfi_runs.proofs.Formats.{words, to_word, of_bundle}
+use Rattle.sfi_host.specs.Entering.{with_typed}
 use Rattle.sfi_image.proofs.Facts.{code_ends}
 use Rattle.sfi_host.proofs.SafeSeats.{ready_safe}
 use Rattle.sfi_host.proofs.Entered.{Apart, lie_apart, has_code, has_data, has_empty_guards, data_guarded}
@@ -11,18 +22,125 @@ zero_words : (n r : ℕ) → slice_index (replicate n 0) r < 2 ^ 32
 zero_words (suc n) (suc r) = zero_words n r
 zero_words n r = omega arith
 
+-- a unit has some bytes
+some_unit : (f : Format) → 4 ≤ unit f
+some_unit Sfi1 = omega arith
+some_unit Sfi2 = omega arith
+some_unit Sfiw = omega arith
+
+-- and begins at an even address
+pub even_unit : (f : Format) (a : ℕ) → a % unit f ≡ 0 → a % 2 ≡ 0
+even_unit Sfi1 a even = omega arith
+even_unit Sfi2 a even = omega arith
+even_unit Sfiw a even = omega arith
+
+-- what fresh registers are made of has room in 32 bits
+typed_is : (w : Bool) (data_at : Span) (h : Hart) → IsHart h → data_at.base < 2 ^ 32 → IsHart (cond w (with_typed data_at h) h)
+typed_is true data_at h is base = register_is _ 30 h.pc (register_is _ 29 data_at.base (register_is _ 4 data_at.base (register_is h 3 data_at.base is base) base) base) is.address
+typed_is false data_at h is base = is
+
 pub first_is : (p : Part) → p.code_base + length p.code ≤ 2 ^ 32 → IsRightPart p → IsHart (first_hart p)
 first_is p end right =
     let above : p.data_base + p.data_size + 4096 ≤ 2 ^ 32 = right.guard_room.above in
     let aligned : p.start % 16 ≡ 0 = right.start.aligned in
     let start : p.start < 2 ^ 32 = (let held = right.start.held.1 in omega arith) in
-    let bare : IsHart (bare_hart p) = record { even = omega arith; address = start; count = refl; words = zero_words 32; zero = refl } in
+    let bare : IsHart (record { pc = p.start; registers = replicate 32 0 }) = record { even = omega arith; address = start; count = refl; words = zero_words 32; zero = refl } in
     let stack : p.data_base + p.data_size - 16 < 2 ^ 32 = omega arith in
-    let mask : length p.code - 16 < 2 ^ 32 = omega arith in
+    let mask : length p.code - unit p.format < 2 ^ 32 = (let some = some_unit p.format in omega arith) in
     let base : p.data_base < 2 ^ 32 = omega arith in
     let data_mask : p.data_size - 1 < 2 ^ 32 = omega arith in
-    register_is _ 27 (p.data_size - 1) (register_is _ 26 p.data_base (register_is _ 25 (length p.code - 16) (register_is _ 24 p.code_base
-    (register_is _ 2 (p.data_base + p.data_size - 16) bare stack) right.code_base) mask) base) data_mask
+    register_is _ 27 (p.data_size - 1) (register_is _ 26 p.data_base (register_is _ 25 (length p.code - unit p.format) (register_is _ 24 p.code_base
+    (register_is _ 2 (p.data_base + p.data_size - 16) (typed_is (has_words p.format) (data_region p) _ bare base) stack) right.code_base) mask) base) data_mask
+
+-- ---- an entry's typed registers
+
+-- what registers are at an entry at pc
+pub record AreFresh (words : Bool) (unit_size : ℕ) (code_at data_at : Span) (pc : ℕ) (registers : List ℕ) : Type 0 where
+  pub code_base : slice_index registers 24 ≡ code_at.base
+  pub code_mask : slice_index registers 25 ≡ code_at.size - unit_size
+  pub data_base : slice_index registers 26 ≡ data_at.base
+  pub data_mask : slice_index registers 27 ≡ data_at.size - 1
+  pub stack : slice_index registers 2 ≡ data_at.base + data_at.size - 16
+  pub third : words ≡ true → slice_index registers 3 ≡ data_at.base
+  pub fourth : words ≡ true → slice_index registers 4 ≡ data_at.base
+  pub last : words ≡ true → slice_index registers 29 ≡ data_at.base
+  pub code : words ≡ true → slice_index registers 30 ≡ pc
+  pub offset : slice_index registers 31 ≡ 0
+
+-- the fresh hart, by whether code is in words and by the unit
+abbrev hart_by : Bool → ℕ → Span → Span → ℕ → Hart
+hart_by words unit_size code_at data_at pc =
+    let bare : Hart = record { pc = pc; registers = replicate 32 0 } in
+    with_register (with_register (with_register (with_register (with_register (cond words (with_typed data_at bare) bare) 2 (data_at.base + data_at.size - 16)) 24 code_at.base) 25 (code_at.size - unit_size)) 26 data_at.base) 27 (data_at.size - 1)
+
+fresh_by : (words : Bool) (unit_size : ℕ) (code_at data_at : Span) (pc : ℕ) → AreFresh words unit_size code_at data_at pc (hart_by words unit_size code_at data_at pc).registers
+fresh_by true unit_size code_at data_at pc =
+    record { code_base = refl; code_mask = refl; data_base = refl; data_mask = refl; stack = refl; third = λ _. refl; fourth = λ _. refl; last = λ _. refl; code = λ _. refl; offset = refl }
+fresh_by false unit_size code_at data_at pc = record {
+  code_base = refl;
+  code_mask = refl;
+  data_base = refl;
+  data_mask = refl;
+  stack = refl;
+  third = λ none. absurd cc;
+  fourth = λ none. absurd cc;
+  last = λ none. absurd cc;
+  code = λ none. absurd cc;
+  offset = refl;
+}
+
+-- those of a fresh hart, in the words of sandboxes
+abbrev pub AreFreshOf : Bounds → ℕ → List ℕ → Type 0
+AreFreshOf b pc registers = AreFresh (has_words b.format) (unit b.format) b.code b.data pc registers
+
+pub fresh_are : (b : Bounds) (pc : ℕ) → AreFreshOf b pc (fresh_hart b.format b.code b.data pc).registers
+fresh_are b pc = fresh_by (has_words b.format) (unit b.format) b.code b.data pc
+
+-- a data register is one of four
+data_register : (d : ℕ) → is_data_register d ≡ true → (d ≡ 2) ⊎ ((d ≡ 3) ⊎ ((d ≡ 4) ⊎ (d ≡ 29)))
+data_register d is =
+    ⊎_elim
+    (λ (e : ((d == 2) || (d == 3) || (d == 4)) ≡ true). ⊎_elim
+    (λ (f : ((d == 2) || (d == 3)) ≡ true). ⊎_elim (λ (g : (d == 2) ≡ true). inl (eqb-true d 2 g)) (λ (g : (d == 3) ≡ true). inr (inl (eqb-true d 3 g))) (or_cases (d == 2) (d == 3) f))
+    (λ (f : (d == 4) ≡ true). inr (inr (inl (eqb-true d 4 f))))
+    (or_cases ((d == 2) || (d == 3)) (d == 4) e))
+    (λ (e : (d == 29) ≡ true). inr (inr (inr (eqb-true d 29 e))))
+    (or_cases ((d == 2) || (d == 3) || (d == 4)) (d == 29) is)
+
+pub reserved_at : (p : Part) (pc : ℕ) (registers : List ℕ) → AreFreshOf (bounds_of p) pc registers → HasReserved p registers
+reserved_at p pc registers fresh = record { code_base = fresh.code_base; code_mask = fresh.code_mask; data_base = fresh.data_base; data_mask = fresh.data_mask }
+
+pub typed_at : (p : Part) (pc : ℕ) (registers : List ℕ) → 16 ≤ p.data_size → IsUnitStart p pc → AreFreshOf (bounds_of p) pc registers → IsTyped p registers
+typed_at p pc registers least start fresh =
+    let stack = fresh.stack in
+    let offset = fresh.offset in
+    let at_base : (a : ℕ) → a ≡ p.data_base → IsNear p 1020 a = λ a e. record { low = omega arith; high = omega arith } in
+    let other : (d r : ℕ) → d ≡ r → slice_index registers r ≡ p.data_base → IsNear p 1020 (slice_index registers d) = λ d r e is. subst (λ (x : ℕ). IsNear p 1020 (slice_index registers x)) (sym e) (at_base (slice_index registers r) is) in
+    record {
+      stack = λ has. (omega arith, omega arith);
+      words = λ has. record {
+        each_data = λ d is. elim (data_register d is) [
+          | inl e ↦ subst (λ (x : ℕ). IsNear p 1020 (slice_index registers x)) (sym e) (record { low = omega arith; high = omega arith })
+          | inr others ↦ elim others [
+            | inl e ↦ other d 3 e (fresh.third has)
+            | inr rest ↦ elim rest [
+              | inl e ↦ other d 4 e (fresh.fourth has)
+              | inr e ↦ other d 29 e (fresh.last has)
+            ]
+          ]
+        ];
+        code = subst (IsWordStart p) (sym (fresh.code has)) (to_word p pc has start);
+        offset = omega arith;
+      };
+    }
+
+-- an image's start is one of a unit
+pub start_unit : (p : Part) (a : ℕ) → IsBundleStart (code_region p) a → IsUnitStart p a
+start_unit p a start = by (has_words p.format) refl
+  where
+    by : (w : Bool) → has_words p.format ≡ w → IsUnitStart p a
+    by true has = record { held = start.held; aligned = ap (λ (u : ℕ). a % u) (words p.format has) ∙ (let even = start.aligned in omega arith) }
+    by false none = of_bundle p a none start
 
 -- ---- the first world
 
@@ -30,10 +148,6 @@ pub map_get : {A B : Type 0} (f : A → B) (xs : List A) (i : ℕ) (y : B) → s
 map_get f [] i y e = absurd (cc)
 map_get f (x ∷ xs) zero y e = (x, refl, (let g : Some (f x) ≡ Some y = e in cc))
 map_get f (x ∷ xs) (suc i) y e = map_get f xs i y e
-
--- the stack pointer lies 16 below the data's end
-first_stack : (p : Part) → IsRightPart p → InData p (slice_index (first_hart p).registers 2)
-first_stack p right = let least = right.data_placed.at_least in (omega arith, omega arith)
 
 pub first_data_there : (ps : List Part) → IsRightLayout ps → HaveFirstData ps (with_parts empty ps)
 first_data_there ps layout i p e k below = has_data ps empty i p (lie_apart ps layout) e k below
@@ -44,9 +158,9 @@ module _ (ps : List Part) (layout : IsRightLayout ps) (memory : IsMemory (with_p
       let lie = lie_apart ps layout in
       record {
         state = record { hart = first_is p (code_ends p (lie.each i p e)) (lie.each i p e); memory = memory };
-        start = (lie.each i p e).start;
-        reserved = record { code_base = refl; code_mask = refl; data_base = refl; data_mask = refl };
-        stack = λ has. first_stack p (lie.each i p e);
+        start = start_unit p p.start (lie.each i p e).start;
+        reserved = reserved_at p p.start (first_hart p).registers (fresh_are (bounds_of p) p.start);
+        typed = typed_at p p.start (first_hart p).registers (let least = (lie.each i p e).data_placed.at_least in omega arith) (start_unit p p.start (lie.each i p e).start) (fresh_are (bounds_of p) p.start);
         code = has_code ps empty i p lie e;
         guards = has_empty_guards ps i p lie e;
       }
@@ -60,7 +174,7 @@ module _ (ps : List Part) (layout : IsRightLayout ps) (memory : IsMemory (with_p
         guarded = λ a h k. apart.guarded_guarded a (data_guarded p a (lie.each i p e) h) k;
       }
 
-  module _ (safe : AllRunSafely ps) (calls : AllCallWithStack ps) where
+  module _ (safe : AllRunSafely ps) (calls : AllCallTyped ps) where
     abbrev part_enterable : (i : ℕ) (p : Part) → slice_get ps i ≡ Some p → IsEnterable (with_parts empty ps) (bounds_of p)
     part_enterable i p e = record {
       part = p;
@@ -68,7 +182,7 @@ module _ (ps : List Part) (layout : IsRightLayout ps) (memory : IsMemory (with_p
       right = (lie_apart ps layout).each i p e;
       code = (entered i p e).code;
       runs = subst (λ (q : Part). RunsSafely q) (get_or_from_slice_get ps i p p e) (safe.each i p (slice_get_within ps i p e));
-      calls = subst (λ (q : Part). CallsWithStack q) (get_or_from_slice_get ps i p p e) (calls.each i p (slice_get_within ps i p e));
+      calls = subst (λ (q : Part). CallsTyped q) (get_or_from_slice_get ps i p p e) (calls.each i p (slice_get_within ps i p e));
     }
 
     seat_safe : (i : ℕ) (p : Part) → slice_get ps i ≡ Some p → IsSafeSeat (with_parts empty ps) (first_seat p)

@@ -3,7 +3,7 @@ use Rattle.std.specs.Prelude.{◌≡◌, ◌≢◌, ℕ, List, length, Option, S
 use Rattle.std.specs.List.{range_with_len}
 use Rattle.rv_mem.specs.Bytes.{bytes_at, with_bytes}
 use Rattle.sfi_image.specs.Spelling.{Part}
-use Rattle.sfi_safety.specs.Runs.{IsChange}
+use Rattle.sfi_runs.specs.Runs.{IsChange}
 use Rattle.sfi_host.specs.Regions.{bytes_in}
 use Rattle.sfi_host.specs.Slots.{Slot, bounds_of}
 use Rattle.sfi_host.specs.Worlds.{Seat, Sandboxes, slots_of, state_in}

@@ -1,18 +1,20 @@
 -- A sandbox that has stopped is entered again.
-use Rattle.std.specs.Prelude.{◌≡◌, ◌≢◌, ℕ, ◌+◌, ◌-◌, List, [], ◌∷◌, replicate, Option, Some, None, slice_get, slice_set}
+use Rattle.std.specs.Prelude.{◌≡◌, ◌≢◌, ℕ, ◌+◌, ◌-◌, ◌%◌, List, [], ◌∷◌, cond, replicate, Option, Some, None, slice_get, slice_set}
 use Rattle.rv_mem.specs.Bytes.{Bytes}
 use Rattle.rv_step.specs.State.{Hart, with_register}
 use Rattle.sfi_policy.specs.Limits.{first_frame}
-use Rattle.sfi_policy.specs.Registers.{code_base_register, code_mask_register, data_base_register, data_mask_register, stack_pointer}
+use Rattle.sfi_policy.specs.Formats.{unit, has_words}
+use Rattle.sfi_policy.specs.Registers.{code_base_register, code_mask_register, data_base_register, data_mask_register, stack_pointer, code_register}
+use Rattle.sfi_policy.specs.declared.format.Format.{Format}
 use Rattle.sfi_image.specs.declared.span.Span.{Span}
 use Rattle.sfi_image.specs.Parts.{IsRightPart}
-use Rattle.sfi_image.specs.Regions.{IsBundleStart}
+use Rattle.sfi_image.specs.Spans.{Holds}
 use Rattle.sfi_image.specs.Registers.{reserved_for}
 use Rattle.sfi_image.specs.Spelling.{Part}
-use Rattle.sfi_safety.specs.Regions.{HasCode}
-use Rattle.sfi_safety.specs.Runs.{IsEntry}
-use Rattle.sfi_safety.specs.Safety.{RunsSafely}
-use Rattle.sfi_safety.specs.Stack.{CallsWithStack}
+use Rattle.sfi_runs.specs.Regions.{HasCode}
+use Rattle.sfi_runs.specs.Runs.{IsEntry}
+use Rattle.sfi_runs.specs.Safety.{RunsSafely}
+use Rattle.sfi_runs.specs.Calls.{CallsTyped}
 use Rattle.sfi_host.specs.declared.status.Status.{Status}
 use Rattle.sfi_host.specs.declared.status.Status.TheVariants.{Ready}
 use Rattle.sfi_host.specs.Arguments.{a0_register}
@@ -21,10 +23,11 @@ use Rattle.sfi_host.specs.Worlds.{Seat, Sandboxes, state_in}
 
 -- ---- where a sandbox may be entered
 
--- it has stopped, and a bundle of its code begins at pc
+-- it has stopped, and a unit of its code, a bundle or a word, begins at pc
 pub record MayEnter (b : Bounds) (status : Status) (pc : ℕ) : Type 0 where
   pub stopped : status ≢ Ready
-  pub start : IsBundleStart b.code pc
+  pub held : Holds b.code pc
+  pub aligned : pc % unit b.format ≡ 0
 
 -- there is a sandbox of that number, and it may be entered at pc
 pub record MayEnterAt (slots : List Slot) (i pc : ℕ) : Type 0 where
@@ -34,17 +37,30 @@ pub record MayEnterAt (slots : List Slot) (i pc : ℕ) : Type 0 where
 
 -- ---- with which registers
 
--- at pc with all registers 0, but the stack pointer, which lies a first frame below the data's end,
--- and the reserved registers, which hold what is theirs
-abbrev pub fresh_hart : Span → Span → ℕ → Hart
-fresh_hart code_at data_at pc =
-    let r = reserved_for code_at data_at in
+-- with the data base in each data register but the stack pointer, and pc in the code register
+abbrev pub with_typed : Span → Hart → Hart
+with_typed data_at h =
+    with_register
+    (with_register
+    (with_register (with_register h 3 data_at.base) 4 data_at.base)
+    29 data_at.base)
+    code_register h.pc
+
+-- so where code is in words
+abbrev pub typed_for : Format → Span → Hart → Hart
+typed_for format data_at h = cond (has_words format) (with_typed data_at h) h
+
+-- at pc with all registers 0, but the typed registers, the stack pointer, which lies a first frame
+-- below the data's end, and the reserved registers, which hold what is theirs
+abbrev pub fresh_hart : Format → Span → Span → ℕ → Hart
+fresh_hart format code_at data_at pc =
+    let r = reserved_for (unit format) code_at data_at in
     with_register
     (with_register
     (with_register
     (with_register
-    (with_register (record { pc = pc; registers = replicate 32 0 }) stack_pointer
-    (data_at.base + data_at.size - first_frame))
+    (with_register (typed_for format data_at (record { pc = pc; registers = replicate 32 0 }))
+    stack_pointer (data_at.base + data_at.size - first_frame))
     code_base_register r.code_base)
     code_mask_register r.code_mask)
     data_base_register r.data_base)
@@ -58,7 +74,7 @@ with_registers h r (v ∷ vs) = with_registers (with_register h r v) (r + 1) vs
 -- the same as at first, but at this pc and with the arguments from a0 on
 abbrev pub entered_hart : Bounds → ℕ → List ℕ → Hart
 entered_hart b pc arguments =
-    with_registers (fresh_hart b.code b.data pc) a0_register arguments
+    with_registers (fresh_hart b.format b.code b.data pc) a0_register arguments
 
 -- ---- what that makes of a world
 
@@ -89,14 +105,14 @@ IsAtEntry w i =
 -- ---- why it may be entered
 
 -- the sandbox is a part of an image that passes each test of its own and has the part's code, and
--- every run from every entry is safe, and calls with a stack pointer in the data
+-- every run from every entry is safe, and calls with its typed registers as their types say
 pub record IsEnterable (m : Bytes) (b : Bounds) : Type 0 where
   pub part : Part
   pub bounds : b ≡ bounds_of part
   pub right : IsRightPart part
   pub code : HasCode part m
   pub runs : RunsSafely part
-  pub calls : CallsWithStack part
+  pub calls : CallsTyped part
 
 -- so is each sandbox of a world, whatever it may still do
 abbrev pub AreEnterable : Sandboxes → Type 0

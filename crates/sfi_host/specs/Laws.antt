@@ -5,8 +5,8 @@ use Rattle.rv_mem.specs.Bytes.{Bytes}
 use Rattle.rv_step.specs.State.{State, IsState}
 use Rattle.rv_step.specs.Step.{Stands}
 use Rattle.sfi_image.specs.Spelling.{Part}
-use Rattle.sfi_safety.specs.Regions.{StackInData}
-use Rattle.sfi_safety.specs.Runs.{IsReply, IsChange}
+use Rattle.sfi_runs.specs.Typed.{IsTyped}
+use Rattle.sfi_runs.specs.Runs.{IsReply, IsChange}
 use Rattle.sfi_host.specs.declared.status.Status.TheVariants.{Ready}
 use Rattle.sfi_host.specs.Hosts.{Reply}
 use Rattle.sfi_host.specs.Slots.{bounds_of}
@@ -30,21 +30,21 @@ NeighboursAreChanges =
     → StaysOutside s.bounds.data w.bytes new → t.bounds ≡ bounds_of p
     → IsChange p (state_in w.bytes t) (state_in new t)
 
--- a sandbox of a safe world that is ready and stands at an ecall has its stack pointer in its data,
--- where its format has one
+-- the typed registers of a sandbox of a safe world that is ready and stands at an ecall, the stack
+-- pointer where its format has one, hold what their types say
 abbrev pub CallsHaveStack : Type 0
 CallsHaveStack =
     (m : Bytes) (s : Seat) (size : ℕ) (p : Part) → IsSafeSeat m s → s.bounds ≡ bounds_of p
-    → s.status ≡ Ready → Stands (state_in m s) Ecall size → StackInData p s.hart.registers
+    → s.status ≡ Ready → Stands (state_in m s) Ecall size → IsTyped p s.hart.registers
 
 -- What a host's reply makes of a sandbox that goes on is a reply to its ecall: of the memory, its
--- data alone may be changed. A stack pointer lies in the data already,
+-- data alone may be changed. The typed registers hold what their types say already,
 -- as the law above says of a ready sandbox.
 abbrev pub AnswersAreReplies : Type 0
 AnswersAreReplies =
     (m : Bytes) (s : Seat) (r : Reply) (after : State) (size : ℕ) (p : Part) → IsSafeSeat m s
     → s.bounds ≡ bounds_of p
-    → StackInData p s.hart.registers → Stands (state_in m s) Ecall size → status_after r.way ≡ Ready
+    → IsTyped p s.hart.registers → Stands (state_in m s) Ecall size → status_after r.way ≡ Ready
     → IsState after → after.hart ≡ (replied (slot_of m s) r).hart
     → StaysOutside s.bounds.data m after.memory
     → IsReply p (state_in m s) after

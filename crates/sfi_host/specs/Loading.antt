@@ -1,33 +1,18 @@
 -- What a world is at first.
 use Rattle.std.specs.Prelude.{◌≡◌, ℕ, ◌+◌, ◌-◌, ◌<◌, List, [], ◌∷◌, ◌++◌, length, replicate, Some, slice_get, slice_index}
 use Rattle.rv_mem.specs.Bytes.{Bytes, byte_at, added}
-use Rattle.rv_step.specs.State.{Hart, with_register}
-use Rattle.sfi_policy.specs.Registers.{code_base_register, code_mask_register, data_base_register, data_mask_register, stack_pointer}
-use Rattle.sfi_policy.specs.Limits.{first_frame}
+use Rattle.rv_step.specs.State.{Hart}
 use Rattle.sfi_image.specs.Spelling.{Part}
-use Rattle.sfi_image.specs.Registers.{reserved_of}
-use Rattle.sfi_safety.specs.Runs.{IsEntry}
+use Rattle.sfi_image.specs.Spans.{code_region, data_region}
+use Rattle.sfi_runs.specs.Runs.{IsEntry}
 use Rattle.sfi_host.specs.declared.status.Status.TheVariants.{Ready}
+use Rattle.sfi_host.specs.Entering.{fresh_hart}
 use Rattle.sfi_host.specs.Slots.{bounds_of}
 use Rattle.sfi_host.specs.Worlds.{Seat, state_in}
 
--- pc at the start, and all registers 0
-abbrev pub bare_hart : Part → Hart
-bare_hart p = record { pc = p.start; registers = replicate 32 0 }
-
--- the stack pointer lies a first frame below the data's end;
--- the reserved registers hold what is theirs
+-- pc at the start, and the registers of an entry there
 abbrev pub first_hart : Part → Hart
-first_hart p =
-    with_register
-    (with_register
-    (with_register
-    (with_register
-    (with_register (bare_hart p) stack_pointer (p.data_base + p.data_size - first_frame))
-    code_base_register (reserved_of p).code_base)
-    code_mask_register (reserved_of p).code_mask)
-    data_base_register (reserved_of p).data_base)
-    data_mask_register (reserved_of p).data_mask
+first_hart p = fresh_hart p.format (code_region p) (data_region p) p.start
 
 -- ready, with no step done
 abbrev pub first_seat : Part → Seat
@@ -46,7 +31,7 @@ abbrev pub with_parts : Bytes → List Part → Bytes
 with_parts m [] = m
 with_parts m (p ∷ ps) = with_parts (with_part m p) ps
 
--- each sandbox is entered at its start, as it may be at any bundle
+-- each sandbox is entered at its start, as it may be at any bundle or word
 abbrev pub AreEntered : List Part → Bytes → Type 0
 AreEntered ps m =
     (i : ℕ) (p : Part) → slice_get ps i ≡ Some p → IsEntry p (state_in m (first_seat p))

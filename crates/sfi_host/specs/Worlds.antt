@@ -7,8 +7,8 @@ use Rattle.sfi_image.specs.declared.span.Span.{Span}
 use Rattle.sfi_image.specs.Spelling.{Part}
 use Rattle.sfi_image.specs.Spans.{Holds, AreApart, with_guards, code_region, guarded_region}
 use Rattle.sfi_image.specs.Parts.{IsRightPart}
-use Rattle.sfi_safety.specs.Regions.{HasCode, HasEmptyGuards}
-use Rattle.sfi_safety.specs.Stack.{GoesSafelyFrom}
+use Rattle.sfi_runs.specs.Regions.{HasCode, HasEmptyGuards}
+use Rattle.sfi_runs.specs.Calls.{GoesSafelyFrom}
 use Rattle.sfi_host.specs.declared.status.Status.{Status}
 use Rattle.sfi_host.specs.declared.status.Status.TheVariants.{Ready}
 use Rattle.sfi_host.specs.Regions.{bytes_in, IsWhole}

@@ -2,20 +2,16 @@
 ghost use Rattle.std.specs.Prelude.{◌≡◌, IfOk, OnOk, map};
 ghost use Rattle.sfi_image.specs.Spelling.{view, views};
 ghost use Rattle.sfi_image.specs.Parts.{IsRightPart, IsRightLayout};
-ghost use Rattle.sfi_host.specs.Loading.{first_hart, first_seat, with_part, with_parts};
+ghost use Rattle.sfi_host.specs.Loading.{first_seat, with_part, with_parts};
 ghost use Rattle.sfi_host.specs.Sandboxes.{seat_of, seats_of};
 
+use crate::entering::fresh_cpu;
 use crate::region::Region;
 use crate::sandbox::Sandbox;
 use crate::status::Status;
 use rv_mem::Memory;
-use rv_step::Cpu;
-use rv_word::Reg;
-use sfi_image::{Reserved, SandboxPart};
-use sfi_policy::{
-    CODE_BASE_REGISTER, CODE_MASK_REGISTER, DATA_BASE_REGISTER, DATA_MASK_REGISTER, FIRST_FRAME,
-    Format, STACK_POINTER,
-};
+use sfi_image::SandboxPart;
+use sfi_policy::Format;
 use std::alloc::{AllocError, Global};
 
 // Adds a sandbox's code and data. All regions lie apart and end within the addresses,
@@ -40,24 +36,6 @@ fn add_part<M: Memory>(memory: &mut M, part: &SandboxPart<'_>) -> Result<(), All
     Ok(())
 }
 
-// The pc and registers with which a sandbox begins.
-fn first_cpu(format: Format, part: &SandboxPart<'_>) -> Cpu
-    requires { IsRightPart (view format part.now) }
-    ensures { result ≡ first_hart (view format part.now) }
-{
-    let reserved = Reserved::of(part);
-    let mut cpu = Cpu::at(part.start).unwrap();
-    cpu.set_reg(
-        Reg::numbered(STACK_POINTER),
-        part.data_base + part.data_size - FIRST_FRAME,
-    );
-    cpu.set_reg(Reg::numbered(CODE_BASE_REGISTER), reserved.code_base);
-    cpu.set_reg(Reg::numbered(CODE_MASK_REGISTER), reserved.code_mask);
-    cpu.set_reg(Reg::numbered(DATA_BASE_REGISTER), reserved.data_base);
-    cpu.set_reg(Reg::numbered(DATA_MASK_REGISTER), reserved.data_mask);
-    cpu
-}
-
 // A sandbox that has done nothing yet.
 fn first_sandbox(
     alloc: Global,
@@ -69,18 +47,20 @@ fn first_sandbox(
 {
     let mut gates = Vec::with_capacity(alloc, part.gates.len())?;
     gates.extend_from_slice(&part.gates)?;
+    let code = Region {
+        base: part.code_base,
+        size: part.code.len() as u32,
+    };
+    let data = Region {
+        base: part.data_base,
+        size: part.data_size,
+    };
     Ok(Sandbox {
         format,
-        code: Region {
-            base: part.code_base,
-            size: part.code.len() as u32,
-        },
-        data: Region {
-            base: part.data_base,
-            size: part.data_size,
-        },
+        code,
+        data,
         gates,
-        cpu: first_cpu(format, part),
+        cpu: fresh_cpu(format, code, data, part.start),
         status: Status::Ready,
         steps: 0,
     })

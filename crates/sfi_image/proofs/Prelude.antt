@@ -13,7 +13,7 @@ pub use Rattle.sfi_policy.specs.Formats.{code_most}
 unfoldable pub use Rattle.sfi_policy.specs.Formats.{magic}
 pub use Rattle.sfi_policy.specs.Limits.{bundle_size, gates_most, service_most}
 pub use Rattle.sfi_policy.specs.declared.format.Format.{Format}
-pub use Rattle.sfi_policy.specs.declared.format.Format.TheVariants.{Sfi1, Sfi2}
+pub use Rattle.sfi_policy.specs.declared.format.Format.TheVariants.{Sfi1, Sfi2, Sfiw}
 pub use Rattle.sfi_image.specs.Bounded.{IsBounded}
 pub use Rattle.sfi_image.specs.Faults.{IsFault, IsBodyFault, IsPartFault, ArePartsFault, IsCountFault, IsGateShort, IsGateWrong, AreContentsShort}
 pub use Rattle.sfi_image.specs.Fronts.{front, head, IsRightFront, CutShort, Trails, WholeIsImage, Front, IsHead, IsOpened, part_of, after_parts, after_init, after_code, after_gates, Follows, want_of, IsLess, HasFaultWhateverFollows, IsLengthOf, AreBundlesWithin, IsLongestStretch, IsStretchLength}

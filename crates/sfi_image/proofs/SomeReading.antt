@@ -1,5 +1,5 @@
 -- Bytes have an image or a fault.
-use Rattle.sfi_image.proofs.Prelude.{◌≡◌, ℕ, ◌+◌, ◌<◌, ◌≤◌, List, [], ◌∷◌, ◌++◌, length, take, drop, refl, sym, ap, subst, ◌∙◌, arith, zero, suc, inl, inr, ◌⊎◌, Some, None, Option, AllPairs, flat_map, cases_lt, take-append-drop, length-take, length-drop, All-nil, Format, Sfi1, Sfi2, magic, Gate, Fields, Span, LayoutFault, Magic, Count, Short, Trailing, Part, fields_of, number, fields, part, AreFieldWords, AreApart, code_span, spans_of, IsRightPart, AreOf, AreRight, IsFirstFault, field_tests, IsImage, IsBodyFault, IsPartFault, ArePartsFault, IsCountFault, IsFault}
+use Rattle.sfi_image.proofs.Prelude.{◌≡◌, ℕ, ◌+◌, ◌<◌, ◌≤◌, List, [], ◌∷◌, ◌++◌, length, take, drop, refl, sym, ap, subst, ◌∙◌, arith, zero, suc, inl, inr, ◌⊎◌, Some, None, Option, AllPairs, flat_map, cases_lt, take-append-drop, length-take, length-drop, All-nil, Format, Sfi1, Sfi2, Sfiw, magic, Gate, Fields, Span, LayoutFault, Magic, Count, Short, Trailing, Part, fields_of, number, fields, part, AreFieldWords, AreApart, code_span, spans_of, IsRightPart, AreOf, AreRight, IsFirstFault, field_tests, IsImage, IsBodyFault, IsPartFault, ArePartsFault, IsCountFault, IsFault}
 use Rattle.sfi_image.specs.Laws.{SomeReading}
 use Rattle.sfi_image.specs.declared.fault.LayoutFault.TheVariants.{Gates}
 use Rattle.sfi_image.proofs.Numbers.{IsBytes}
@@ -180,9 +180,10 @@ after_front format bytes is small =
       | inr fault ↦ inr (fault.0, after_magic format bytes (take 4 bytes) (drop 4 bytes) fault.0 refl refl is fault.1)
     ]
 
-neither : (bytes : List ℕ) → (take 4 bytes ≡ magic Sfi1 → ⊥) → (take 4 bytes ≡ magic Sfi2 → ⊥) → (format : Format) → take 4 bytes ≡ magic format → ⊥
-neither bytes one two Sfi1 = one
-neither bytes one two Sfi2 = two
+neither : (bytes : List ℕ) → (take 4 bytes ≡ magic Sfi1 → ⊥) → (take 4 bytes ≡ magic Sfi2 → ⊥) → (take 4 bytes ≡ magic Sfiw → ⊥) → (format : Format) → take 4 bytes ≡ magic format → ⊥
+neither bytes one two three Sfi1 = one
+neither bytes one two three Sfi2 = two
+neither bytes one two three Sfiw = three
 
 pub some_reading : SomeReading
 some_reading bytes all =
@@ -192,7 +193,10 @@ some_reading bytes all =
         | inl is ↦ after_front Sfi1 bytes is (IsBytes-from_all bytes all)
         | inr other ↦ elim (decided_same (take 4 bytes) (magic Sfi2)) [
           | inl is ↦ after_front Sfi2 bytes is (IsBytes-from_all bytes all)
-          | inr others ↦ inr (Magic, magic_wrong bytes (take 4 bytes) long refl (neither bytes other others))
+          | inr others ↦ elim (decided_same (take 4 bytes) (magic Sfiw)) [
+            | inl is ↦ after_front Sfiw bytes is (IsBytes-from_all bytes all)
+            | inr none ↦ inr (Magic, magic_wrong bytes (take 4 bytes) long refl (neither bytes other others none))
+          ]
         ]
       ]
     ]

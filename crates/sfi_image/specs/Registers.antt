@@ -1,20 +1,20 @@
 -- What the reserved registers hold.
-use Rattle.std.specs.Prelude.{◌-◌}
-use Rattle.sfi_policy.specs.Limits.{bundle_size}
+use Rattle.std.specs.Prelude.{◌-◌, ℕ}
+use Rattle.sfi_policy.specs.Formats.{unit}
 use Rattle.sfi_image.specs.declared.reserved.Reserved.{Reserved}
 use Rattle.sfi_image.specs.declared.span.Span.{Span}
 use Rattle.sfi_image.specs.Spelling.{Part}
 use Rattle.sfi_image.specs.Spans.{code_region, data_region}
 
--- what they hold while a sandbox runs whose code and data lie so
-abbrev pub reserved_for : Span → Span → Reserved
-reserved_for code_at data_at = record {
+-- what they hold while a sandbox runs whose code, in units of so many bytes, and data lie so
+abbrev pub reserved_for : ℕ → Span → Span → Reserved
+reserved_for unit_size code_at data_at = record {
   code_base = code_at.base;
-  code_mask = code_at.size - bundle_size;
+  code_mask = code_at.size - unit_size;
   data_base = data_at.base;
   data_mask = data_at.size - 1;
 }
 
 -- what they hold while this one runs
 abbrev pub reserved_of : Part → Reserved
-reserved_of p = reserved_for (code_region p) (data_region p)
+reserved_of p = reserved_for (unit p.format) (code_region p) (data_region p)

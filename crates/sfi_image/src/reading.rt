@@ -96,6 +96,8 @@ pub(crate) fn format_at(front: &[u8]) -> Option<Format>
         Some(Format::Sfi1)
     } else if is_magic(Format::Sfi2, front) {
         Some(Format::Sfi2)
+    } else if is_magic(Format::Sfiw, front) {
+        Some(Format::Sfiw)
     } else {
         None
     }

@@ -7,7 +7,7 @@ ghost use Rattle.sfi_image.specs.Parts.{IsRightPart};
 ghost use Rattle.sfi_image.specs.Registers.{reserved_of};
 
 use crate::part::SandboxPart;
-use sfi_policy::BUNDLE_SIZE;
+use sfi_policy::Format;
 
 /// The values of the four reserved registers while a sandbox runs. A mask keeps an address's offset
 /// in a region, and a base sets the region's own bits (Wahbe and others, 1993).
@@ -15,7 +15,7 @@ use sfi_policy::BUNDLE_SIZE;
 pub struct Reserved {
     /// x24: the first address of the code region.
     pub code_base: u32,
-    /// x25: the code size less that of a bundle, so that a masked offset is that of a bundle.
+    /// x25: the code size less that of a unit of code, so that a masked offset is that of a unit.
     pub code_mask: u32,
     /// x26: the first address of the data region.
     pub data_base: u32,
@@ -24,14 +24,14 @@ pub struct Reserved {
 }
 
 impl Reserved {
-    /// Those of a sandbox.
-    pub fn of(part: &SandboxPart<'_>) -> Self
-        requires { (format : Format) × IsRightPart (view format part.now) }
-        ensures { (format : Format) → result ≡ reserved_of (view format part.now) }
+    /// Those of a sandbox of an image of this format.
+    pub fn of(format: Format, part: &SandboxPart<'_>) -> Self
+        requires { IsRightPart (view format part.now) }
+        ensures { result ≡ reserved_of (view format part.now) }
     {
         Reserved {
             code_base: part.code_base,
-            code_mask: part.code.len() as u32 - BUNDLE_SIZE,
+            code_mask: part.code.len() as u32 - format.unit(),
             data_base: part.data_base,
             data_mask: part.data_size - 1,
         }

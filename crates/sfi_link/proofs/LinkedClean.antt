@@ -3,10 +3,11 @@ use Rattle.sfi_link.proofs.Prelude.{◌≡◌, ℕ, ◌+◌, ◌-◌, ◌*◌, �
 use Rattle.sfi_image.specs.Gates.{is_gate_of}
 use Rattle.sfi_image.specs.Regions.{IsBundleStart}
 use Rattle.sfi_rewrite.specs.declared.placed.PlacedName.TheVariants.{Gate, Code, Data, Unknown}
+use Rattle.sfi_policy.specs.Formats.{has_words}
 use Rattle.sfi_rules.specs.Findings.{AreFindings, AreFindingsFrom}
+use Rattle.sfi_rules.proofs.Facts.{of_bundles, same_bundle_starts}
 use Rattle.std.proofs.lemmas.Option.{slice_get_within, get_or_from_slice_get}
 use Rattle.sfi_rules.specs.Bundles.{place_of}
-use Rattle.sfi_rules.proofs.Facts.{same_bundle_starts}
 use Rattle.sfi_rewrite.proofs.Sizes.{size_of-append}
 use Rattle.sfi_link.proofs.Sizes.{size_fill}
 use Rattle.sfi_link.proofs.CleanPlaces.{AreStarts, some_same}
@@ -100,7 +101,7 @@ closed given number p q placed linked =
 pub linked_is_clean : (given : List Place) (number : ℕ) (p : Placement) (q : Part) → IsPlacedPart p → IsLinked given number p q → AreFindings number q []
 linked_is_clean given number p q placed linked =
     let c = closed given number p q placed linked in
-    closed_is_clean number q (bases_of given number p) p.names (length p.gates) c.0 c.1 c.2
+    of_bundles number q [] (ap has_words linked.format ∙ placed.bundled) (closed_is_clean number q (bases_of given number p) p.names (length p.gates) c.0 c.1 c.2)
 
 pub all_are_clean : (given : List Place) (number : ℕ) (placed : List Placement) (parts : List Part) → All IsPlacedPart placed → AreLinkedFrom given number placed parts → AreFindingsFrom number parts []
 all_are_clean given number [] parts all linked = subst (λ qs. AreFindingsFrom number qs []) (sym linked) refl

@@ -4,7 +4,7 @@ use Rattle.rv_source.specs.declared.item.SourceGate.{SourceGate}
 use Rattle.sfi_image.specs.Bounded.{IsBounded}
 use Rattle.sfi_link.specs.Answers.{UnlessMemory, AnswersBytes, AnswersFault}
 use Rattle.sfi_link.specs.Building.{IsLinkedImage, ArePlacements, IsBuild}
-use Rattle.sfi_policy.specs.declared.format.Format.TheVariants.{Sfi1, Sfi2}
+use Rattle.sfi_policy.specs.declared.format.Format.TheVariants.{Sfi1, Sfi2, Sfiw}
 use Rattle.std.proofs.Math.Nat.{pow-suc}
 use Rattle.std.proofs.Math.Pow.{pow_mono}
 use Rattle.std.proofs.lemmas.Grind.{flat_map-append}
@@ -38,6 +38,7 @@ least_power needed n (suc k) m j is half some mis enough =
 most_power : (f : Format) → (j : ℕ) × (code_most f ≡ 2 ^ j)
 most_power Sfi1 = (16, refl)
 most_power Sfi2 = (20, refl)
+most_power Sfiw = (20, refl)
 
 pub least_size : (f : Format) (needed n k : ℕ) → n ≡ 2 ^ k → needed ≤ n → n / 2 < max 1 needed → 256 < needed → needed ≤ code_most f → IsCodeSize f needed n
 least_size f needed n k is enough half low high = record {
@@ -48,6 +49,7 @@ least_size f needed n k is enough half low high = record {
 some_most : (f : Format) → 256 ≤ code_most f
 some_most Sfi1 = omega arith
 some_most Sfi2 = omega arith
+some_most Sfiw = omega arith
 
 pub small_size : (f : Format) (needed : ℕ) → needed ≤ 256 → IsCodeSize f needed 256
 small_size f needed low = record {

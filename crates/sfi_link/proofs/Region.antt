@@ -3,7 +3,7 @@ use Rattle.sfi_link.proofs.Prelude.{◌≡◌, ℕ, zero, suc, ◌+◌, ◌-◌,
 use Rattle.rv_word.specs.declared.instr.RegOp.TheVariants.{And, Or}
 use Rattle.sfi_image.specs.Gates.{is_gate_of}
 use Rattle.sfi_rules.specs.Bundles.{bundle_bytes}
-use Rattle.sfi_rules.specs.Findings.{AreBundleFindings, AreFindingsOfFirst, AreFindings, findings_from, rest_finding}
+use Rattle.sfi_rules.specs.Findings.{AreBundleFindings, AreFindingsOfFirst, AreFindingsInBundles, findings_from, rest_finding}
 use Rattle.sfi_rules.specs.Rules.{is_empty, is_last_bundle}
 use Rattle.sfi_rules.specs.declared.bundle.BundlePlace.{BundlePlace}
 use Rattle.std.proofs.Math.Seq.{take-append_seam, drop-append-add}
@@ -56,7 +56,7 @@ none_of_first sandbox p chunks e all each (suc n) h =
     ([], [], none_of_first sandbox p chunks e all each n (omega arith), subst (λ (l : List ℕ). AreBundleFindings (place_of sandbox p n) l []) (sym b) (each n less), refl)
 
 none_of_region : (sandbox : ℕ) (p : Part) (chunks : List (List ℕ)) → p.code ≡ join chunks → All IsChunk chunks
-    → ((k : ℕ) → k < length chunks → AreBundleFindings (place_of sandbox p k) (get_or chunks k []) []) → AreFindings sandbox p []
+    → ((k : ℕ) → k < length chunks → AreBundleFindings (place_of sandbox p k) (get_or chunks k []) []) → AreFindingsInBundles sandbox p []
 none_of_region sandbox p chunks e all each =
     (length chunks, ap length e ∙ length-join chunks all, none_of_first sandbox p chunks e all each (length chunks) (omega arith))
 
@@ -215,7 +215,7 @@ region_size p stubs full bytes e n =
     omega (arith, a, b, c, d, n)
 
 pub closed_is_clean : (sandbox : ℕ) (p : Part) (at : Bases) (names : List PlacedName) (stubs : ℕ) (full : List (List Slot)) → IsClosed p at names stubs full
-    → at.start + 16 * length full ≤ 2 ^ 32 → AreFindings sandbox p []
+    → at.start + 16 * length full ≤ 2 ^ 32 → AreFindingsInBundles sandbox p []
 closed_is_clean sandbox p at names stubs full h fits =
     let c = chunked (place_of sandbox p 0) at names (h.starts sandbox) at.start (length names) full h.bytes h.all h.slots fits in
     let count = c.count in

@@ -12,5 +12,5 @@ mod stub;
 
 pub use laws::{pairs_are_found, stub_agrees, stub_is_spelled};
 pub use pairs::{code_pair, data_pair};
-pub use registers::{is_reserved, is_withheld};
+pub use registers::{is_data_register, is_reserved, is_withheld};
 pub use stub::STUB;

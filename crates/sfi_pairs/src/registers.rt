@@ -1,6 +1,6 @@
 //! The tests for the registers that have a part in a sandbox's confinement.
 ghost use Rattle.std.specs.Prelude.{◌≡◌};
-ghost use Rattle.sfi_policy.specs.Registers.{is_reserved, is_withheld};
+ghost use Rattle.sfi_policy.specs.Registers.{is_reserved, is_withheld, is_data_register};
 
 use rv_word::Reg;
 use sfi_policy::{
@@ -24,4 +24,12 @@ pub fn is_withheld(register: Reg) -> bool
     ensures { result ≡ is_withheld register }
 {
     is_reserved(register) || register.number() == SCRATCH
+}
+
+/// Whether it is a data register of code in words, which lies in the data region or near it.
+#[inline]
+pub fn is_data_register(register: Reg) -> bool
+    ensures { result ≡ is_data_register register }
+{
+    matches!(register.number(), 2 | 3 | 4 | 29)
 }

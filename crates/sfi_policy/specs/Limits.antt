@@ -40,3 +40,7 @@ name_most = 64
 -- how far below its data region's end a sandbox's stack pointer lies at first
 abbrev pub first_frame : ℕ
 first_frame = 16
+
+-- how far beside its data region a data register of code in words may lie
+abbrev pub slack : ℕ
+slack = 1020

@@ -5,7 +5,7 @@ use Rattle.std.specs.Prelude.{◌==◌, ◌||◌, ℕ, Bool}
 abbrev pub code_base_register : ℕ
 code_base_register = 24
 
--- it holds the code size less that of a bundle: the mask of a code address
+-- it holds the code size less that of a unit of code: the mask of a code address
 abbrev pub code_mask_register : ℕ
 code_mask_register = 25
 
@@ -24,6 +24,22 @@ scratch = 31
 -- the stack pointer, of a format that has one
 abbrev pub stack_pointer : ℕ
 stack_pointer = 2
+
+-- ---- the typed registers of code in words
+
+-- a data register, which lies in the data region or near it: x2, x3, x4 or x29
+abbrev pub is_data_register : ℕ → Bool
+is_data_register r = (r == 2) || (r == 3) || (r == 4) || (r == 29)
+
+-- the one that an indirect jump goes by: it holds a word's start
+abbrev pub code_register : ℕ
+code_register = 30
+
+-- the one that holds an offset in the data region
+abbrev pub offset_register : ℕ
+offset_register = 31
+
+-- ---- others
 
 -- in it a call leaves where to return to; a gate returns there
 abbrev pub return_register : ℕ

@@ -1,6 +1,6 @@
 //! The formats of images.
 ghost use Rattle.std.specs.Prelude.{◌≡◌, ◌↔◌, IsTrue, take};
-ghost use Rattle.sfi_policy.specs.Formats.{magic, code_most, has_stack, is_stack};
+ghost use Rattle.sfi_policy.specs.Formats.{magic, code_most, unit, has_stack, has_words, is_stack};
 
 use crate::registers::STACK_POINTER;
 
@@ -12,6 +12,9 @@ pub enum Format {
     /// That in which x2 is a stack pointer: it lies in the data region wherever a sandbox is
     /// entered or replied to, an access on it needs no pair, and what writes it is confined.
     Sfi2,
+    /// That of code in words of 4 bytes. In place of pairs there are typed registers, whose types say
+    /// where they lie wherever a sandbox is entered or replied to, and what writes one is confined.
+    Sfiw,
 }
 
 impl Format {
@@ -23,6 +26,7 @@ impl Format {
         match self {
             Format::Sfi1 => *b"SFI1",
             Format::Sfi2 => *b"SFI2",
+            Format::Sfiw => *b"SFIW",
         }
     }
 
@@ -32,7 +36,18 @@ impl Format {
     {
         match self {
             Format::Sfi1 => 65536,
-            Format::Sfi2 => 1_048_576,
+            Format::Sfi2 | Format::Sfiw => 1_048_576,
+        }
+    }
+
+    /// The size in bytes of a unit of code, a bundle or a word: a sandbox is entered, and jumps, at
+    /// multiples of it alone.
+    pub fn unit(self) -> u32
+        ensures { result ≡ unit self }
+    {
+        match self {
+            Format::Sfi1 | Format::Sfi2 => 16,
+            Format::Sfiw => 4,
         }
     }
 
@@ -41,8 +56,18 @@ impl Format {
         ensures { result ≡ has_stack self }
     {
         match self {
-            Format::Sfi1 => false,
+            Format::Sfi1 | Format::Sfiw => false,
             Format::Sfi2 => true,
+        }
+    }
+
+    /// Whether code is in words, with typed registers.
+    pub fn has_words(self) -> bool
+        ensures { result ≡ has_words self }
+    {
+        match self {
+            Format::Sfi1 | Format::Sfi2 => false,
+            Format::Sfiw => true,
         }
     }
 

@@ -1,9 +1,9 @@
 //! That the constants are what the definitions say.
 ghost use Rattle.std.specs.Prelude.{◌≡◌};
-ghost use Rattle.sfi_policy.specs.Limits.{bundle_size, guard, region_least, data_most, sandboxes_most, gates_most, service_most, items_most, name_most, first_frame};
-ghost use Rattle.sfi_policy.specs.Registers.{code_base_register, code_mask_register, data_base_register, data_mask_register, scratch, stack_pointer};
-ghost use Rattle.sfi_policy.specs.declared.limits.TheConstants.{BUNDLE_SIZE, BUNDLE_BYTES, GUARD, REGION_LEAST, DATA_MOST, SANDBOXES_MOST, GATES_MOST, SERVICE_MOST, ITEMS_MOST, NAME_MOST, FIRST_FRAME, REGION_LEAST_BYTES, SANDBOX_COUNT_MOST, GATE_COUNT_MOST, ITEM_COUNT_MOST, NAME_MOST_BYTES};
-ghost use Rattle.sfi_policy.specs.declared.registers.TheConstants.{CODE_BASE_REGISTER, CODE_MASK_REGISTER, DATA_BASE_REGISTER, DATA_MASK_REGISTER, SCRATCH, STACK_POINTER};
+ghost use Rattle.sfi_policy.specs.Limits.{bundle_size, guard, region_least, data_most, sandboxes_most, gates_most, service_most, items_most, name_most, first_frame, slack};
+ghost use Rattle.sfi_policy.specs.Registers.{code_base_register, code_mask_register, data_base_register, data_mask_register, scratch, stack_pointer, code_register, offset_register};
+ghost use Rattle.sfi_policy.specs.declared.limits.TheConstants.{BUNDLE_SIZE, BUNDLE_BYTES, GUARD, REGION_LEAST, DATA_MOST, SANDBOXES_MOST, GATES_MOST, SERVICE_MOST, ITEMS_MOST, NAME_MOST, FIRST_FRAME, SLACK, REGION_LEAST_BYTES, SANDBOX_COUNT_MOST, GATE_COUNT_MOST, ITEM_COUNT_MOST, NAME_MOST_BYTES};
+ghost use Rattle.sfi_policy.specs.declared.registers.TheConstants.{CODE_BASE_REGISTER, CODE_MASK_REGISTER, DATA_BASE_REGISTER, DATA_MASK_REGISTER, SCRATCH, STACK_POINTER, CODE_REGISTER, OFFSET_REGISTER};
 
 /// Each limit of the code is that of the definitions.
 pub fn limits_agree()
@@ -18,6 +18,7 @@ pub fn limits_agree()
     ensures items_most { ITEMS_MOST ≡ items_most }
     ensures name_most { NAME_MOST ≡ name_most }
     ensures first_frame { FIRST_FRAME ≡ first_frame }
+    ensures slack { SLACK ≡ slack }
     ensures region_least_bytes { REGION_LEAST_BYTES ≡ region_least }
     ensures sandbox_count_most { SANDBOX_COUNT_MOST ≡ sandboxes_most }
     ensures gate_count_most { GATE_COUNT_MOST ≡ gates_most }
@@ -33,4 +34,6 @@ pub fn registers_agree()
     ensures data_mask { DATA_MASK_REGISTER ≡ data_mask_register }
     ensures scratch { SCRATCH ≡ scratch }
     ensures stack_pointer { STACK_POINTER ≡ stack_pointer }
+    ensures code_register { CODE_REGISTER ≡ code_register }
+    ensures offset_register { OFFSET_REGISTER ≡ offset_register }
 {}

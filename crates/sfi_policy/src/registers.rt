@@ -3,7 +3,7 @@
 /// x24, which holds the code base.
 pub const CODE_BASE_REGISTER: u8 = 24;
 
-/// x25, which holds the code size less that of a bundle: the mask of a code address.
+/// x25, which holds the code size less that of a unit of code: the mask of a code address.
 pub const CODE_MASK_REGISTER: u8 = 25;
 
 /// x26, which holds the data base.
@@ -17,3 +17,9 @@ pub const SCRATCH: u8 = 31;
 
 /// x2, the stack pointer of a format that has one.
 pub const STACK_POINTER: u8 = 2;
+
+/// x30 of code in words, which an indirect jump goes by: it holds a word's start.
+pub const CODE_REGISTER: u8 = 30;
+
+/// x31 of code in words, which holds an offset in the data region.
+pub const OFFSET_REGISTER: u8 = 31;

@@ -1,8 +1,8 @@
 -- Each finding stands at a place of a part: what the code begins with there.
-use Rattle.std.proofs.Common.{◌≡◌, ℕ, zero, suc, ◌+◌, ◌-◌, ◌*◌, ◌%◌, ◌≤◌, Bool, true, List, [], ◌∷◌, length, take, drop, refl, sym, ap, ◌∙◌, subst, inl, inr, arith, length-drop}
-use Rattle.std.specs.Prelude.{Some, slice_get}
+use Rattle.std.proofs.Common.{◌≡◌, ℕ, zero, suc, ◌+◌, ◌-◌, ◌*◌, ◌%◌, ◌≤◌, Bool, true, false, cond, Option, None, List, [], ◌∷◌, length, take, drop, refl, sym, ap, ◌∙◌, subst, inl, inr, arith, length-drop}
+use Rattle.std.specs.Prelude.{Some, slice_get, MatchBool}
 use Rattle.std.specs.Int.{w16, from_le_bytes}
-use Rattle.std.specs.List.{All}
+use Rattle.std.specs.List.{All, find}
 use Rattle.std.proofs.lemmas.List.{length-take, drop-drop, drop-take, take-take}
 use Rattle.std.proofs.lemmas.List.Elements.{All-append}
 use Rattle.rv_word.specs.declared.instr.Instr.{Instr}
@@ -18,7 +18,11 @@ use Rattle.sfi_rules.specs.declared.finding.Finding.{Finding}
 use Rattle.sfi_rules.specs.Bundles.{place_of, bundle_bytes}
 use Rattle.sfi_rules.specs.Readings.{Piece, IsReading, rest_of}
 use Rattle.sfi_rules.specs.Rules.{breaks}
-use Rattle.sfi_rules.specs.Findings.{broken, lowest, all_rules, findings_from, rest_finding, rule_of_length, AreBundleFindings, AreFindingsOfFirst, AreFindings, AreFindingsFrom, AreImageFindings}
+use Rattle.sfi_rules.specs.Findings.{broken, lowest, all_rules, findings_from, rest_finding, rule_of_length, AreBundleFindings, AreFindingsOfFirst, AreFindingsInBundles, AreFindings, AreFindingsFrom, AreImageFindings}
+use Rattle.sfi_policy.specs.Formats.{has_words}
+use Rattle.sfi_rules.specs.declared.owed.Owed.{Owed}
+use Rattle.sfi_rules.specs.words.Owing.{owed_next}
+use Rattle.sfi_rules.specs.words.Findings as words
 use Rattle.sfi_report.specs.private.Added.{SpellsFirst, IsPlace, Stands}
 use Rattle.sfi_rules.proofs.Lowest.{lowest_is}
 use Rattle.sfi_report.proofs.Lines.{spell_even, spell_fits}
@@ -145,34 +149,122 @@ place_more rule m code h = more rule h
     more V9 e = tt
     more _ e = spelled e
 
+-- what stands in a slice stands in all
+moved : (sandbox base k m : ℕ) (bytes : List ℕ) (f : Finding) → k + m ≤ length bytes → StandsIn sandbox (base + k) (take m (drop k bytes)) f → StandsIn sandbox base bytes f
+moved sandbox base k m bytes f inside s =
+    let count : length (take m (drop k bytes)) ≡ m = omega (arith, inside, length-take m (drop k bytes), length-drop k bytes) in
+    let within : s.offset ≤ m = omega (arith, s.within, count) in
+    let split : drop s.offset (take m (drop k bytes)) ≡ take (m - s.offset) (drop s.offset (drop k bytes)) =
+    ap (λ n. drop s.offset (take n (drop k bytes))) (let e : m ≡ s.offset + (m - s.offset) = omega arith in e) ∙ drop-take s.offset (m - s.offset) (drop k bytes) in
+    let place = place_more f.rule (m - s.offset) (drop s.offset (drop k bytes)) (subst (λ (l : List ℕ). IsPlace f.rule l) split s.place) in
+    record {
+      offset = k + s.offset;
+      sandbox_is = s.sandbox_is;
+      address_is = omega (arith, s.address_is);
+      within = omega arith;
+      place = subst (λ (l : List ℕ). IsPlace f.rule l) (drop-drop s.offset k bytes) place;
+    }
+
 first_stand : (sandbox : ℕ) (p : Part) (n : ℕ) (found : List Finding) → 16 * n ≤ length p.code → AreFindingsOfFirst sandbox p n found
     → All (StandsIn sandbox p.code_base p.code) found
 first_stand sandbox p zero found few h = subst (λ (l : List Finding). All (StandsIn sandbox p.code_base p.code) l) (sym h) (λ k d g. absurd (omega arith))
 first_stand sandbox p (suc n) found few h =
+    let inside : 16 * n + 16 ≤ length p.code = omega arith in
+    let count : length (bundle_bytes p n) ≡ 16 = omega (arith, length-take 16 (drop (16 * n) p.code), length-drop (16 * n) p.code) in
     subst (λ (l : List Finding). All (StandsIn sandbox p.code_base p.code) l) (sym h.4)
     (All-append (StandsIn sandbox p.code_base p.code) h.0 h.1 (first_stand sandbox p n h.0 (omega arith) h.2)
-    (λ k d g. moved _ (bundle_stands (place_of sandbox p n) (bundle_bytes p n) h.1 count h.3 k d g)))
-  where
-    count : length (bundle_bytes p n) ≡ 16
-    count = omega (arith, length-take 16 (drop (16 * n) p.code), length-drop (16 * n) p.code)
+    (λ k d g. moved sandbox p.code_base (16 * n) 16 p.code _ inside (bundle_stands (place_of sandbox p n) (bundle_bytes p n) h.1 count h.3 k d g)))
 
-    moved : (f : Finding) → StandsIn sandbox (p.code_base + 16 * n) (bundle_bytes p n) f → StandsIn sandbox p.code_base p.code f
-    moved f s =
-        let within : s.offset ≤ 16 = omega (arith, s.within, count) in
-        let split : drop s.offset (bundle_bytes p n) ≡ take (16 - s.offset) (drop s.offset (drop (16 * n) p.code)) =
-        ap (λ m. drop s.offset (take m (drop (16 * n) p.code))) (let e : 16 ≡ s.offset + (16 - s.offset) = omega arith in e)
-        ∙ drop-take s.offset (16 - s.offset) (drop (16 * n) p.code) in
-        let place = place_more f.rule (16 - s.offset) (drop s.offset (drop (16 * n) p.code)) (subst (λ (l : List ℕ). IsPlace f.rule l) split s.place) in
+-- ---- of code in words
+
+-- the rule that is found is one that passes
+found_rule : (Q : Rule → Type 0) (test : Rule → Bool) (rules : List Rule) → ((r : Rule) → test r ≡ true → Q r) → (r : Rule) → find test rules ≡ Some r → Q r
+found_rule Q test [] each r e = absurd (cc)
+found_rule Q test (x ∷ rules) each r e = by (test x) refl (found_rule Q test rules each r) e
+  where
+    by : (b : Bool) → test x ≡ b → (find test rules ≡ Some r → Q r) → cond b (Some x) (find test rules) ≡ Some r → Q r
+    by true is later e = let same : x ≡ r = cc in subst Q same (each x is)
+    by false is later e = later e
+
+-- at the places of a reading
+pieces_stand : (b : BundlePlace) (at : ℕ) (owed : Owed) (rest : List ℕ) (reading : List Piece) → IsReading rest reading → All (StandsIn b.sandbox at rest) (words.found_from b at owed reading)
+pieces_stand b at owed rest [] h = λ k d g. absurd (omega arith)
+pieces_stand b at owed rest (x ∷ later) h =
+    All-append (StandsIn b.sandbox at rest) (words.found_at b at (words.lowest here)) (words.found_from b (at + x.size) (owed_next owed x.instr) later)
+    (first (words.lowest here) refl)
+    (λ k d g. moved_on _ (pieces_stand b (at + x.size) (owed_next owed x.instr) (drop x.size rest) later h.1 k d g))
+  where
+    here : words.Place
+    here = record { bundle = b; address = at; owed = owed; instr = x.instr; size = x.size }
+
+    begins : SpellsFirst rest
+    begins = record { instr = x.instr; size = x.size; spelled = h.0 }
+
+    place : (r : Rule) → words.breaks here r ≡ true → IsPlace r rest
+    place V1 b = absurd cc
+    place V2 b = absurd cc
+    place V9 b = tt
+    place _ b = begins
+
+    only : (rule : Rule) → words.lowest here ≡ Some rule → All (StandsIn b.sandbox at rest) (broken b at rule ∷ [])
+    only rule e zero d g = record { offset = 0; sandbox_is = refl; address_is = omega arith; within = omega arith; place = found_rule (λ r. IsPlace r rest) (λ r. words.breaks here r) all_rules place rule e }
+    only rule e (suc k) d g = absurd (omega arith)
+
+    first : (o : Option Rule) → words.lowest here ≡ o → All (StandsIn b.sandbox at rest) (words.found_at b at o)
+    first None e = λ k d g. absurd (omega arith)
+    first (Some rule) e = only rule e
+
+    moved_on : (f : Finding) → StandsIn b.sandbox (at + x.size) (drop x.size rest) f → StandsIn b.sandbox at rest f
+    moved_on f s =
+        let fits = spell_fits rest x.instr x.size h.0 in
         record {
-          offset = 16 * n + s.offset;
+          offset = x.size + s.offset;
           sandbox_is = s.sandbox_is;
           address_is = omega (arith, s.address_is);
-          within = omega arith;
-          place = subst (λ (l : List ℕ). IsPlace f.rule l) (drop-drop s.offset (16 * n) p.code) place;
+          within = omega (arith, s.within, length-drop x.size rest, fits.1);
+          place = subst (λ (code : List ℕ). IsPlace f.rule code) (drop-drop s.offset x.size rest) s.place;
         }
 
+word_stands : (b : BundlePlace) (at : ℕ) (owed : Owed) (word : List ℕ) (found : List Finding) (next : Owed) → length word ≡ 4 → words.IsWordFound b at owed word found next → All (StandsIn b.sandbox at word) found
+word_stands b at owed word found next count h =
+    let reading = h.reading in
+    let is_reading = h.longest.is_reading in
+    let rest = rest_of word reading in
+    let end = ends_at word reading is_reading in
+    let left : length rest ≡ 4 - end.count = omega (arith, ap length end.rest_is, length-drop end.count word) in
+    let place : at + (4 - length rest) ≡ at + end.count = omega (arith, end.within) in
+    subst (λ (l : List Finding). All (StandsIn b.sandbox at word) l) (sym h.found_is)
+    (All-append (StandsIn b.sandbox at word) _ _
+    (pieces_stand b at owed word reading is_reading)
+    (rest_stands b (at + (4 - length rest)) at word rest end.count end.rest_is place end.within (omega (arith, end.even, end.within))))
+
+words_stand : (b : BundlePlace) (owed : Owed) (bytes : List ℕ) (n : ℕ) (found : List Finding) (next : Owed) → length bytes ≡ 16 → n ≤ 4 → words.AreFoundInWords b owed bytes n found next → All (StandsIn b.sandbox b.address bytes) found
+words_stand b owed bytes zero found next count few h = subst (λ (l : List Finding). All (StandsIn b.sandbox b.address bytes) l) (sym h.0) (λ k d g. absurd (omega arith))
+words_stand b owed bytes (suc n) found next count few h =
+    let inside : 4 * n + 4 ≤ length bytes = omega (arith, count, few) in
+    let four : length (take 4 (drop (4 * n) bytes)) ≡ 4 = omega (arith, inside, length-take 4 (drop (4 * n) bytes), length-drop (4 * n) bytes) in
+    subst (λ (l : List Finding). All (StandsIn b.sandbox b.address bytes) l) (sym h.5)
+    (All-append (StandsIn b.sandbox b.address bytes) h.0 h.1 (words_stand b owed bytes n h.0 h.2 count (omega arith) h.3)
+    (λ k d g. moved b.sandbox b.address (4 * n) 4 bytes _ inside (word_stands b (b.address + 4 * n) h.2 (take 4 (drop (4 * n) bytes)) h.1 next four h.4 k d g)))
+
+first_words_stand : (sandbox : ℕ) (p : Part) (n : ℕ) (found : List Finding) (next : Owed) → 16 * n ≤ length p.code → words.AreFoundOfFirst sandbox p n found next
+    → All (StandsIn sandbox p.code_base p.code) found
+first_words_stand sandbox p zero found next few h = subst (λ (l : List Finding). All (StandsIn sandbox p.code_base p.code) l) (sym h.0) (λ k d g. absurd (omega arith))
+first_words_stand sandbox p (suc n) found next few h =
+    let inside : 16 * n + 16 ≤ length p.code = omega arith in
+    let count : length (bundle_bytes p n) ≡ 16 = omega (arith, length-take 16 (drop (16 * n) p.code), length-drop (16 * n) p.code) in
+    subst (λ (l : List Finding). All (StandsIn sandbox p.code_base p.code) l) (sym h.5)
+    (All-append (StandsIn sandbox p.code_base p.code) h.0 h.1 (first_words_stand sandbox p n h.0 h.2 (omega arith) h.3)
+    (λ k d g. moved sandbox p.code_base (16 * n) 16 p.code _ inside (words_stand (place_of sandbox p n) h.2 (bundle_bytes p n) 4 h.1 next count (omega arith) h.4 k d g)))
+
+-- ---- of any code
+
 part_stands : (sandbox : ℕ) (p : Part) (found : List Finding) → AreFindings sandbox p found → All (StandsIn sandbox p.code_base p.code) found
-part_stands sandbox p found h = first_stand sandbox p h.0 found (omega (arith, h.1)) h.2
+part_stands sandbox p found = by (has_words p.format)
+  where
+    by : (w : Bool) → MatchBool w (words.AreFindingsInWords sandbox p found) (AreFindingsInBundles sandbox p found) → All (StandsIn sandbox p.code_base p.code) found
+    by true h = first_words_stand sandbox p h.0 found h.1 (omega (arith, h.2)) h.3
+    by false h = first_stand sandbox p h.0 found (omega (arith, h.1)) h.2
 
 -- ---- in an image
 

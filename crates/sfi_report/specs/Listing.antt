@@ -3,7 +3,7 @@ use Rattle.std.specs.Prelude.{◌≡◌, ℕ, zero, suc, ◌+◌, ◌*◌, List,
 use Rattle.std.specs.List.{flat_map}
 use Rattle.rv_word.specs.declared.instr.Instr.{Instr}
 use Rattle.sfi_policy.specs.declared.format.Format.{Format}
-use Rattle.sfi_policy.specs.declared.format.Format.TheVariants.{Sfi1, Sfi2}
+use Rattle.sfi_policy.specs.declared.format.Format.TheVariants.{Sfi1, Sfi2, Sfiw}
 use Rattle.rv_text.specs.Printed.{printed}
 use Rattle.sfi_policy.specs.Limits.{bundle_size}
 use Rattle.sfi_image.specs.Spelling.{Part, format_of}
@@ -91,6 +91,7 @@ IsListingFrom sandbox (p ∷ ps) text =
 unfoldable pub format_line : Format → List ℕ
 format_line Sfi1 = []
 format_line Sfi2 = codes "format SFI2" ++ line_end
+format_line Sfiw = codes "format SFIW" ++ line_end
 
 -- the listing of an image with these parts
 abbrev pub IsListing : List Part → List ℕ → Type 0

@@ -7,7 +7,7 @@ use Rattle.sfi_image.specs.Spelling.{Part}
 use Rattle.sfi_rules.specs.Numbers.{number_of}
 use Rattle.sfi_rules.specs.declared.finding.Finding.{Finding}
 use Rattle.sfi_rules.specs.declared.rule.Rule.{Rule}
-use Rattle.sfi_rules.specs.declared.rule.Rule.TheVariants.{V1, V2, V3, V4, V5, V6, V7, V8, V9, V10}
+use Rattle.sfi_rules.specs.declared.rule.Rule.TheVariants.{V1, V2, V3, V4, V5, V6, V7, V8, V9, V10, V11, V12}
 use Rattle.sfi_report.specs.Digits.{hex_digits, line_end, word_digits}
 
 -- the name of a rule
@@ -22,6 +22,8 @@ rule_name V7 = codes "target"
 rule_name V8 = codes "end"
 rule_name V9 = codes "gate"
 rule_name V10 = codes "stack"
+rule_name V11 = codes "code"
+rule_name V12 = codes "offset"
 
 -- ---- what stands where a rule is broken, by the code from there on
 

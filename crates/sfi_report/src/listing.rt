@@ -137,6 +137,7 @@ fn push_format(out: &mut String, format: Format) -> Result<(), AllocError>
     match format {
         Format::Sfi1 => Ok(()),
         Format::Sfi2 => out.push_str("format SFI2\n"),
+        Format::Sfiw => out.push_str("format SFIW\n"),
     }
 }
 

@@ -28,6 +28,8 @@ fn name_of(rule: Rule) -> &'static str
         Rule::V8 => "end",
         Rule::V9 => "gate",
         Rule::V10 => "stack",
+        Rule::V11 => "code",
+        Rule::V12 => "offset",
     }
 }
 

@@ -1,6 +1,6 @@
 -- One item after another.
 use Rattle.sfi_rewrite.proofs.Prelude.{◌≡◌, ℕ, ◌+◌, ◌*◌, ◌%◌, ◌<◌, ◌≤◌, List, [], ◌∷◌, ◌++◌, length, take, get_or, replicate, refl, sym, ap, ◌∙◌, subst, arith, Some, append_assoc, inl, inr, length-append, Bool, slice_get, take_more, get_or_append_left, get_or_push, All-push, All-nil, cases_lt, slice_get-get_or, Format, code_most, Item, IsBody, Slot, RewriteFault, size_of, c_nop, IsExpansion, is_call, next_bundle, FillsGap, IsNext, IsLabelAt, HasNext, HaveBodies, AreLabels, largest, IsPermitted, AreFaultless, IsTooLarge, HasItemFault, HasFault, UnlessMemory, IsItemFault}
-use Rattle.sfi_policy.specs.declared.format.Format.TheVariants.{Sfi1, Sfi2}
+use Rattle.sfi_policy.specs.declared.format.Format.TheVariants.{Sfi1, Sfi2, Sfiw}
 use Rattle.sfi_rewrite.specs.declared.fault.RewriteFault.TheVariants.{TooLarge, Memory}
 use Rattle.sfi_rewrite.proofs.Sizes.{size_of-append, size_even, size_nops}
 use Rattle.sfi_rewrite.proofs.Expansions.{IsOne, expansion_one}
@@ -14,11 +14,13 @@ some_room f = omega arith
 pub most_of_any : (f : Format) (n : ℕ) → n ≤ code_most f → n ≤ largest
 most_of_any Sfi1 n h = omega arith
 most_of_any Sfi2 n h = omega arith
+most_of_any Sfiw n h = omega arith
 
 -- a code region ends at a bundle's end
 pub whole_bundles : (f : Format) → code_most f % 16 ≡ 0
 whole_bundles Sfi1 = refl
 whole_bundles Sfi2 = refl
+whole_bundles Sfiw = refl
 
 -- ---- one item
 

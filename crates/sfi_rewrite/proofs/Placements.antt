@@ -1,6 +1,7 @@
 -- The placement of a sandbox keeps what the type of what is placed keeps.
 use Rattle.sfi_rewrite.proofs.Prelude.{◌≡◌, ℕ, suc, ◌+◌, ◌-◌, ◌*◌, ◌/◌, ◌%◌, ◌<◌, ◌≤◌, List, [], ◌∷◌, ◌++◌, length, take, drop, get_or, replicate, refl, sym, ap, ◌∙◌, subst, arith, Some, None, Option, inl, inr, slice_get, IsTrue, ◌↔◌, Contains, Bool, false, MatchOption, All, AllZip, cases_lt, take_all, length-map, All-nil, All-cons, All-append, All-head, All-tail, All-contains_itself, slice_get-get_or, Ecall, Format, code_most, Item, Plain, Named, Gate, Code, Data, Unknown, Sandbox, IsSandbox, IsThere, IsBody, named, Slot, PlacedName, size_of, slots_of, c_nop, next_bundle, AreLaid, AreLaidFrom, IsLabelAt, Placement, IsPlacedName, HasEndLabel, FillsEnd, AreBundles, AreWhole, IsPlacedThere, IsPlacedGate, IsPlacedPart, HaveBodies, HasEnd, AreFaultless, IsRewritten}
 use Rattle.rv_source.specs.declared.item.SourceGate.{SourceGate}
+use Rattle.sfi_policy.specs.Formats.{has_words}
 use Rattle.std.proofs.Math.Seq.{drop-cons}
 use Rattle.std.proofs.lemmas.Slice.Zip.{AllZip-left, AllZip-long}
 use Rattle.std.specs.Option.{IsSomeAnd}
@@ -143,6 +144,7 @@ placed_part s p h r =
     let known : All (IsKnown count) (slots_of p.bundles) =
     rw (is.code) (All-append (IsKnown count) is.slots (replicate is.nops c_nop) (laid_known s.format count 0 s.items is.slots is.laid bodies) (nops_known count is.nops)) in
     record {
+      bundled = ap has_words is.format ∙ h.bundled;
       data_size = rw (is.data_size) h.data_size;
       gate_count = rw (is.gates) h.gate_count;
       gates = λ k g e. gate_in s p k g h is.names (ap (λ v. slice_get v k) (sym is.gates) ∙ e);

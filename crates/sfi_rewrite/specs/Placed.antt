@@ -1,11 +1,11 @@
 -- What the type of what is placed keeps.
-use Rattle.std.specs.Prelude.{◌≡◌, ◌%◌, ◌≤◌, ◌<◌, ◌++◌, ℕ, List, [], ◌∷◌, IsTrue, length, slice_get, Some}
+use Rattle.std.specs.Prelude.{◌≡◌, ◌%◌, ◌≤◌, ◌<◌, ◌++◌, false, ℕ, List, [], ◌∷◌, IsTrue, length, slice_get, Some}
 use Rattle.std.specs.List.{All}
 use Rattle.rv_word.specs.Spelling.{InRange, IsReg}
 use Rattle.rv_comp.specs.Table.{allowed}
 use Rattle.sfi_policy.specs.declared.format.Format.{Format}
 use Rattle.sfi_policy.specs.declared.format.Format.TheVariants.{Sfi1}
-use Rattle.sfi_policy.specs.Formats.{code_most}
+use Rattle.sfi_policy.specs.Formats.{code_most, has_words}
 use Rattle.rv_source.specs.declared.item.Item.{Item}
 use Rattle.rv_source.specs.declared.item.SourceGate.{SourceGate}
 use Rattle.rv_source.specs.Source.{IsDataSize, IsBody}
@@ -63,8 +63,9 @@ pub record IsPlacedGate (p : Placement) (k : ℕ) (g : SourceGate) : Type 0 wher
   pub service : g.service ≤ service_most
   pub name : slice_get p.names g.name ≡ Some (placed.Gate k)
 
--- a sandbox within its limits: its bundles are whole expansions, its names and gates fit each other
+-- a sandbox within its limits: its code is in bundles, which are whole expansions, its names and gates fit each other
 pub record IsPlacedPart (p : Placement) : Type 0 where
+  pub bundled : has_words p.format ≡ false
   pub data_size : IsDataSize p.data_size
   pub gate_count : length p.gates ≤ gates_most
   pub gates : (k : ℕ) (g : SourceGate) → slice_get p.gates k ≡ Some g → IsPlacedGate p k g

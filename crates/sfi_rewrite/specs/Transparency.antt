@@ -6,6 +6,7 @@ use Rattle.rv_word.specs.declared.instr.Instr.{Instr}
 use Rattle.rv_word.specs.declared.instr.ImmOp.TheVariants.{Addi}
 use Rattle.rv_word.specs.declared.instr.Instr.TheVariants.{OpImm, Load, Store, Branch, Jal, Jalr, Lui}
 use Rattle.rv_comp.specs.Table.{expansion}
+use Rattle.sfi_policy.specs.Limits.{bundle_size}
 use Rattle.sfi_policy.specs.declared.format.Format.{Format}
 use Rattle.rv_mem.specs.Bytes.{address_after}
 use Rattle.rv_step.specs.declared.outcome.Outcome.TheVariants.{Next}
@@ -38,10 +39,10 @@ pub record AreRegions (code_at data_at : Span) : Type 0 where
 
 -- the reserved registers hold what they do while a sandbox of these regions runs
 pub record HasReserved (code_at data_at : Span) (h : Hart) : Type 0 where
-  pub code_base : register h code_base_register ≡ (reserved_for code_at data_at).code_base
-  pub code_mask : register h code_mask_register ≡ (reserved_for code_at data_at).code_mask
-  pub data_base : register h data_base_register ≡ (reserved_for code_at data_at).data_base
-  pub data_mask : register h data_mask_register ≡ (reserved_for code_at data_at).data_mask
+  pub code_base : register h code_base_register ≡ (reserved_for bundle_size code_at data_at).code_base
+  pub code_mask : register h code_mask_register ≡ (reserved_for bundle_size code_at data_at).code_mask
+  pub data_base : register h data_base_register ≡ (reserved_for bundle_size code_at data_at).data_base
+  pub data_mask : register h data_mask_register ≡ (reserved_for bundle_size code_at data_at).data_mask
 
 -- The instruction keeps to the sandbox: a load's or store's base register lies in the data region,
 -- whatever its offset adds, and a jalr goes to a bundle start of the code region. Of any other

@@ -4,6 +4,7 @@ use Rattle.sfi_policy.specs.Limits.{bundle_size}
 use Rattle.sfi_rules.specs.Laws.{SameBundleStarts, OneLongestReading, OneBundleList, OneList, OneImageList, FirstFormatHasNoStack, FirstFormatFindsNoV10, CleanBreaksStackAlone}
 use Rattle.sfi_rules.proofs.FirstFormat as first
 use Rattle.sfi_rules.proofs.OneList as lists
+pub use Rattle.sfi_rules.proofs.InBundles.{in_bundles, of_bundles, in_words, of_words, all_found, none_found}
 use Rattle.sfi_rules.proofs.Readings.{longest_one}
 use Rattle.sfi_rules.proofs.Second.{image_of_stack}
 
@@ -38,4 +39,4 @@ pub first_format_finds_no_v10 : FirstFormatFindsNoV10
 first_format_finds_no_v10 = first.first_format_finds_no_v10
 
 pub clean_breaks_stack_alone : CleanBreaksStackAlone
-clean_breaks_stack_alone ps found clean second = image_of_stack 0 ps [] found refl clean second
+clean_breaks_stack_alone ps found bundles clean second = image_of_stack 0 ps [] found bundles refl clean second

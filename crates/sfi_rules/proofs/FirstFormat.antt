@@ -1,5 +1,5 @@
 -- The first format has no stack pointer: no place breaks V10.
-use Rattle.sfi_rules.proofs.Prelude.{◌≡◌, ◌≢◌, ◌∷◌, ◌++◌, ℕ, zero, suc, ◌+◌, Bool, true, false, List, [], refl, sym, ap, subst, inl, inr, All, Instr, has_stack, Part, BundlePlace, Finding, Rule, place_of, bundle_bytes, follows_data_pair, Piece, Place, breaks, breaks_stack, may_access, broken, lowest, all_rules, rule_of_length, findings_from, rest_finding, AreReadingFindings, AreBundleFindings, AreFindingsOfFirst}
+use Rattle.sfi_rules.proofs.Prelude.{◌≡◌, ◌≢◌, ◌∷◌, ◌++◌, ℕ, zero, suc, ◌+◌, Bool, true, false, List, [], refl, sym, ap, subst, inl, inr, All, Instr, has_stack, Part, BundlePlace, Finding, Rule, place_of, bundle_bytes, follows_data_pair, Piece, Place, breaks, breaks_stack, may_access, broken, lowest, all_rules, rule_of_length, findings_from, rest_finding, AreReadingFindings, AreBundleFindings, AreFindingsOfFirst, has_words}
 use Rattle.rv_word.specs.declared.length.Length.{Length}
 use Rattle.rv_word.specs.declared.length.Length.TheVariants.{Wide}
 use Rattle.sfi_policy.specs.declared.format.Format.{Format}
@@ -7,6 +7,7 @@ use Rattle.sfi_policy.specs.declared.format.Format.TheVariants.{Sfi1}
 use Rattle.sfi_rules.specs.Laws.{FirstFormatHasNoStack, FirstFormatFindsNoV10}
 use Rattle.sfi_rules.specs.declared.rule.Rule.TheVariants.{V1, V9, V10}
 use Rattle.std.proofs.lemmas.List.Elements.{All-append, All-cons, All-nil}
+use Rattle.sfi_rules.proofs.InBundles.{in_bundles}
 use Rattle.sfi_rules.proofs.Lowest.{lowest_is}
 
 no_stack : (f : Format) → f ≡ Sfi1 → has_stack f ≡ false
@@ -70,4 +71,6 @@ first_other sandbox p (suc n) found e h =
     (both h.0 h.1 (first_other sandbox p n h.0 e h.2) (bundle_other (place_of sandbox p n) (bundle_bytes p n) h.1 e h.3))
 
 pub first_format_finds_no_v10 : FirstFormatFindsNoV10
-first_format_finds_no_v10 sandbox p found e h = first_other sandbox p h.0 found e h.2
+first_format_finds_no_v10 sandbox p found e h =
+    let all = in_bundles sandbox p found (ap has_words e) h in
+    first_other sandbox p all.0 found e all.2

@@ -5,3 +5,5 @@ pub mod Readings
 pub mod FirstFormat
 pub mod Second
 pub mod Facts
+pub mod InBundles
+pub mod WordList

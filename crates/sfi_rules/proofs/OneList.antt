@@ -1,5 +1,8 @@
 -- A bundle, a part and an image each have one list of findings.
-use Rattle.sfi_rules.proofs.Prelude.{◌≡◌, ℕ, zero, suc, ◌+◌, ◌-◌, List, [], ◌∷◌, ◌++◌, length, sym, ap, ◌∙◌, subst, inl, inr, arith, Part, BundlePlace, Finding, place_of, bundle_bytes, Piece, rest_of, is_empty, findings_from, rest_finding, AreReadingFindings, AreBundleFindings, AreFindingsOfFirst, AreFindings, AreFindingsFrom}
+use Rattle.sfi_rules.proofs.Prelude.{◌≡◌, ℕ, zero, suc, ◌+◌, ◌-◌, List, [], ◌∷◌, ◌++◌, length, sym, ap, ◌∙◌, subst, inl, inr, arith, Part, BundlePlace, Finding, place_of, bundle_bytes, Piece, rest_of, is_empty, findings_from, rest_finding, AreReadingFindings, AreBundleFindings, AreFindingsOfFirst, AreFindingsInBundles, AreFindings, AreFindingsFrom, has_words, Bool, true, false}
+use Rattle.std.specs.Prelude.{MatchBool}
+use Rattle.sfi_rules.specs.words.Findings.{AreFindingsInWords}
+use Rattle.sfi_rules.proofs.WordList as words
 use Rattle.sfi_rules.proofs.Readings.{longest_one}
 
 -- the findings of a reading
@@ -28,10 +31,17 @@ one_of_first sandbox p (suc n) xs ys x y =
     let last = one_bundle_list (place_of sandbox p n) (bundle_bytes p n) x.1 y.1 x.3 y.3 in
     x.4 ∙ ap (λ l. l ++ x.1) front ∙ ap (λ l. y.0 ++ l) last ∙ sym y.4
 
-pub one_list : (sandbox : ℕ) (p : Part) (xs ys : List Finding) → AreFindings sandbox p xs → AreFindings sandbox p ys → xs ≡ ys
-one_list sandbox p xs ys x y =
+in_bundles : (sandbox : ℕ) (p : Part) (xs ys : List Finding) → AreFindingsInBundles sandbox p xs → AreFindingsInBundles sandbox p ys → xs ≡ ys
+in_bundles sandbox p xs ys x y =
     let same : x.0 ≡ y.0 = let e = x.1 in let f = y.1 in omega arith in
     one_of_first sandbox p y.0 xs ys (subst (λ n. AreFindingsOfFirst sandbox p n xs) same x.2) y.2
+
+pub one_list : (sandbox : ℕ) (p : Part) (xs ys : List Finding) → AreFindings sandbox p xs → AreFindings sandbox p ys → xs ≡ ys
+one_list sandbox p xs ys = by (has_words p.format)
+  where
+    by : (b : Bool) → MatchBool b (AreFindingsInWords sandbox p xs) (AreFindingsInBundles sandbox p xs) → MatchBool b (AreFindingsInWords sandbox p ys) (AreFindingsInBundles sandbox p ys) → xs ≡ ys
+    by true x y = words.one_list sandbox p xs ys x y
+    by false x y = in_bundles sandbox p xs ys x y
 
 pub one_image_list : (sandbox : ℕ) (ps : List Part) (xs ys : List Finding) → AreFindingsFrom sandbox ps xs → AreFindingsFrom sandbox ps ys → xs ≡ ys
 one_image_list sandbox [] xs ys x y = x ∙ sym y

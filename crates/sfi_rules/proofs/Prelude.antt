@@ -1,14 +1,14 @@
 -- Words of std and of definitions that many proofs of this crate use.
-pub use Rattle.std.proofs.Common.{◌≡◌, ℕ, suc, List, [], ◌∷◌, length, take, drop, refl, sym, ap, ◌∙◌, subst, arith, zero, ◌+◌, ◌-◌, ◌%◌, ◌<◌, ◌≢◌, Bool, true, false, not, ◌&&◌, ◌==◌, inl, inr, nat_le, nat_lt, ◌++◌, pos, negsuc, ◌||◌, cond, get_or, get_or-take}
+pub use Rattle.std.proofs.Common.{◌≡◌, ℕ, suc, List, [], ◌∷◌, length, take, drop, refl, sym, ap, ◌∙◌, subst, arith, zero, ◌+◌, ◌-◌, ◌%◌, ◌<◌, ◌≤◌, ◌≢◌, Bool, true, false, not, ◌&&◌, ◌==◌, inl, inr, nat_le, nat_lt, ◌++◌, pos, negsuc, ◌||◌, cond, get_or, get_or-take, ◌*◌, Option, Some, None}
 pub use Rattle.std.proofs.lemmas.Bool.{and_parts, and_from, leb-true, ltb-true, eqb-true, le-leb, lt-ltb, eq-eqb}
 pub use Rattle.std.specs.List.{All}
 pub use Rattle.rv_word.specs.declared.instr.Instr.{Instr}
 pub use Rattle.rv_word.specs.declared.instr.Instr.TheVariants.{Load, Store, Branch, Jal, Jalr, Ecall}
 pub use Rattle.rv_comp.specs.Fronts.{Spells}
-pub use Rattle.sfi_policy.specs.Formats.{has_stack}
+pub use Rattle.sfi_policy.specs.Formats.{has_stack, has_words}
 pub use Rattle.sfi_image.specs.Spelling.{Part}
 pub use Rattle.sfi_rules.specs.Bundles.{place_of, bundle_bytes}
-pub use Rattle.sfi_rules.specs.Findings.{broken, lowest, all_rules, rule_of_length, findings_from, rest_finding, AreReadingFindings, AreBundleFindings, AreFindingsOfFirst, AreFindings, AreFindingsFrom}
+pub use Rattle.sfi_rules.specs.Findings.{broken, lowest, all_rules, rule_of_length, findings_from, rest_finding, AreReadingFindings, AreBundleFindings, AreFindingsOfFirst, AreFindingsInBundles, AreFindings, AreFindingsFrom}
 pub use Rattle.sfi_rules.specs.Pairs.{follows_data_pair}
 pub use Rattle.sfi_rules.specs.Readings.{Piece, IsReading, IsLongestReading, rest_of}
 pub use Rattle.sfi_rules.specs.Rules.{Place, breaks, breaks_stack, may_access, is_empty, breaks_ecall, breaks_access, breaks_jump, breaks_target}

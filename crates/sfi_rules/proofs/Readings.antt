@@ -1,6 +1,7 @@
 -- A list of bytes has one longest reading.
-use Rattle.sfi_rules.proofs.Prelude.{◌≡◌, ℕ, List, [], ◌∷◌, length, take, drop, refl, sym, ap, ◌∙◌, subst, arith, get_or-take, Spells, Piece, IsReading, IsLongestReading}
-use Rattle.rv_comp.proofs.Facts.{one_spelling}
+use Rattle.sfi_rules.proofs.Prelude.{◌≡◌, ℕ, ◌<◌, ◌≤◌, Instr, List, [], ◌∷◌, length, take, drop, refl, sym, ap, ◌∙◌, subst, arith, get_or-take, Spells, Piece, IsReading, IsLongestReading}
+use Rattle.std.proofs.lemmas.List.{length-take}
+use Rattle.rv_comp.proofs.Facts.{one_spelling, spelled_length, spelled_some}
 
 -- the front of a list of bytes spells one instruction at most
 pub front_one : (bytes : List ℕ) (x y : Piece) → Spells (take x.size bytes) x.instr x.size → Spells (take y.size bytes) y.instr y.size → x ≡ y
@@ -27,3 +28,14 @@ longest_one bytes xs ys a b =
     let low = a.longest ys b.is_reading in
     let high = b.longest xs a.is_reading in
     same_length bytes xs ys a.is_reading b.is_reading (omega arith)
+
+-- no instruction's bytes begin these
+abbrev pub IsStuck : List ℕ → Type 0
+IsStuck bytes = (i : Instr) (n : ℕ) → Spells (take n bytes) i n → ⊥
+
+-- one that does lies within them
+pub spelled_within : (bytes : List ℕ) (i : Instr) (n : ℕ) → Spells (take n bytes) i n → (0 < n) × (n ≤ length bytes)
+spelled_within bytes i n s =
+    let cut = length-take n bytes in
+    let all : length (take n bytes) ≡ n = spelled_length (take n bytes) i n s in
+    (spelled_some (take n bytes) i n s, omega (arith, cut, all))

@@ -1,10 +1,11 @@
 -- Where no rule is broken, the second format's findings are V10 alone.
-use Rattle.sfi_rules.proofs.Prelude.{◌≡◌, ℕ, pos, negsuc, zero, suc, ◌+◌, ◌-◌, List, [], ◌∷◌, ◌++◌, length, Bool, true, false, not, ◌&&◌, ◌||◌, refl, sym, ◌∙◌, subst, inl, inr, arith, All, Instr, Load, Store, Branch, Jal, Jalr, Ecall, has_stack, Part, Rule, BundlePlace, Finding, place_of, bundle_bytes, Piece, rest_of, follows_data_pair, Place, breaks, breaks_ecall, breaks_access, breaks_jump, breaks_target, is_empty, lowest, all_rules, findings_from, rest_finding, AreReadingFindings, AreBundleFindings, AreFindingsOfFirst, AreFindings, AreFindingsFrom}
+use Rattle.sfi_rules.proofs.Prelude.{◌≡◌, ℕ, pos, negsuc, zero, suc, ◌+◌, ◌-◌, List, [], ◌∷◌, ◌++◌, length, Bool, true, false, not, ◌&&◌, ◌||◌, refl, sym, ◌∙◌, subst, inl, inr, arith, All, Instr, Load, Store, Branch, Jal, Jalr, Ecall, has_stack, Part, Rule, BundlePlace, Finding, place_of, bundle_bytes, Piece, rest_of, follows_data_pair, Place, breaks, breaks_ecall, breaks_access, breaks_jump, breaks_target, is_empty, lowest, all_rules, findings_from, rest_finding, AreReadingFindings, AreBundleFindings, AreFindingsOfFirst, AreFindingsInBundles, AreFindings, AreFindingsFrom, has_words}
 use Rattle.sfi_image.specs.InFormat.{in_format, all_in_format}
 use Rattle.sfi_policy.specs.declared.format.Format.{Format}
-use Rattle.sfi_policy.specs.declared.format.Format.TheVariants.{Sfi1, Sfi2}
+use Rattle.sfi_policy.specs.declared.format.Format.TheVariants.{Sfi1, Sfi2, Sfiw}
 use Rattle.sfi_rules.specs.declared.rule.Rule.TheVariants.{V3, V4, V5, V6, V7, V8, V10}
-use Rattle.std.proofs.lemmas.List.Elements.{All-append, All-nil}
+use Rattle.std.proofs.lemmas.List.Elements.{All-append, All-nil, All-head, All-tail}
+use Rattle.sfi_rules.proofs.InBundles.{in_bundles}
 use Rattle.sfi_rules.proofs.Lowest.{kept, lowest_is}
 use Rattle.sfi_rules.proofs.Readings.{longest_one}
 
@@ -49,6 +50,8 @@ more_allowed : (f : Format) (on paired : Bool) → not ((has_stack f && on) || p
 more_allowed Sfi1 true paired e = refl
 more_allowed Sfi1 false paired e = e
 more_allowed Sfi2 on paired e = e
+more_allowed Sfiw true paired e = refl
+more_allowed Sfiw false paired e = e
 
 fewer_accesses : (x : Place) (i : Instr) → breaks_access x i ≡ false → breaks_access (second_place x) i ≡ false
 fewer_accesses x (Load kind rd rs1 imm) e = more_allowed x.bundle.format _ (follows_data_pair rs1 x.earlier) e
@@ -120,13 +123,14 @@ first_of_stack sandbox p (suc n) clean found e x y =
     subst OfStack (sym y.4)
     (both y.0 y.1 (first_of_stack sandbox p n x.0 y.0 z.0 x.2 y.2) (bundle_of_stack (place_of sandbox p n) (bundle_bytes p n) x.1 y.1 z.1 x.3 y.3))
 
-part_of_stack : (sandbox : ℕ) (p : Part) (clean found : List Finding) → clean ≡ [] → AreFindings sandbox p clean → AreFindings sandbox (in_format Sfi2 p) found → OfStack found
+part_of_stack : (sandbox : ℕ) (p : Part) (clean found : List Finding) → clean ≡ [] → AreFindingsInBundles sandbox p clean → AreFindings sandbox (in_format Sfi2 p) found → OfStack found
 part_of_stack sandbox p clean found e x y =
     let same : x.0 ≡ y.0 = let e = x.1 in let f = y.1 in omega arith in
     first_of_stack sandbox p y.0 clean found e (subst (λ n. AreFindingsOfFirst sandbox p n clean) same x.2) y.2
 
-pub image_of_stack : (sandbox : ℕ) (ps : List Part) (clean found : List Finding) → clean ≡ [] → AreFindingsFrom sandbox ps clean → AreFindingsFrom sandbox (all_in_format Sfi2 ps) found → OfStack found
-image_of_stack sandbox [] clean found e x y = subst OfStack (sym y) none
-image_of_stack sandbox (p ∷ ps) clean found e x y =
+pub image_of_stack : (sandbox : ℕ) (ps : List Part) (clean found : List Finding) → All (λ p. has_words p.format ≡ false) ps → clean ≡ [] → AreFindingsFrom sandbox ps clean → AreFindingsFrom sandbox (all_in_format Sfi2 ps) found → OfStack found
+image_of_stack sandbox [] clean found all e x y = subst OfStack (sym y) none
+image_of_stack sandbox (p ∷ ps) clean found all e x y =
     let z = two_empty x.0 x.1 (sym x.4 ∙ e) in
-    subst OfStack (sym y.4) (both y.0 y.1 (part_of_stack sandbox p x.0 y.0 z.0 x.2 y.2) (image_of_stack (sandbox + 1) ps x.1 y.1 z.1 x.3 y.3))
+    subst OfStack (sym y.4) (both y.0 y.1 (part_of_stack sandbox p x.0 y.0 z.0 (in_bundles sandbox p x.0 (All-head (λ (q : Part). has_words q.format ≡ false) p ps all) x.2) y.2)
+    (image_of_stack (sandbox + 1) ps x.1 y.1 (All-tail (λ (q : Part). has_words q.format ≡ false) p ps all) z.1 x.3 y.3))

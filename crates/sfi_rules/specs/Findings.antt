@@ -1,13 +1,10 @@
 -- The findings of a bundle, of a sandbox's part and of an image, in order.
-use Rattle.std.specs.Prelude.{◌≡◌, ◌≢◌, ◌+◌, ◌-◌, ◌*◌, ◌⊎◌, ℕ, zero, suc, List, [], ◌∷◌, ◌++◌, Bool, true, cond, length}
-use Rattle.std.specs.Int.{w16, from_le_bytes}
+use Rattle.std.specs.Prelude.{◌≡◌, ◌≢◌, ◌+◌, ◌-◌, ◌*◌, ◌⊎◌, ℕ, zero, suc, List, [], ◌∷◌, ◌++◌, Bool, true, cond, length, MatchBool}
 use Rattle.rv_word.specs.declared.instr.Instr.{Instr}
-use Rattle.rv_word.specs.declared.length.Length.{Length}
-use Rattle.rv_word.specs.declared.length.Length.TheVariants.{Short, Wide, Longer}
-use Rattle.rv_word.specs.Lengths.{length_of}
+use Rattle.sfi_policy.specs.Formats.{has_words}
 use Rattle.sfi_image.specs.Spelling.{Part}
 use Rattle.sfi_rules.specs.declared.rule.Rule.{Rule}
-use Rattle.sfi_rules.specs.declared.rule.Rule.TheVariants.{V1, V2, V3, V4, V5, V6, V7, V8, V9, V10}
+use Rattle.sfi_rules.specs.declared.rule.Rule.TheVariants.{V9}
 use Rattle.sfi_rules.specs.declared.finding.Finding.{Finding}
 use Rattle.sfi_rules.specs.declared.bundle.BundlePlace.{BundlePlace}
 use Rattle.sfi_policy.specs.Limits.{bundle_size}
@@ -15,10 +12,10 @@ use Rattle.sfi_pairs.specs.Pairs.{stub}
 use Rattle.sfi_rules.specs.Bundles.{place_of, bundle_bytes}
 use Rattle.sfi_rules.specs.Readings.{Piece, IsLongestReading, rest_of}
 use Rattle.sfi_rules.specs.Rules.{Place, breaks, is_empty}
-
--- a rule broken in the bundle, at that address
-abbrev pub broken : BundlePlace → ℕ → Rule → Finding
-broken b at rule = record { sandbox = b.sandbox; address = at; rule = rule }
+pub use Rattle.sfi_rules.specs.Broken.{broken, all_rules, rule_of_length, rest_finding}
+use Rattle.sfi_rules.specs.declared.owed.Owed.{Owed}
+use Rattle.sfi_rules.specs.declared.owed.Owed.TheVariants.{Nothing}
+use Rattle.sfi_rules.specs.words.Findings.{AreFindingsInWords, AreFoundOfFirst}
 
 -- ---- of a bundle
 
@@ -27,10 +24,6 @@ abbrev pub lowest : Place → List Rule → List Finding
 lowest x [] = []
 lowest x (rule ∷ rules) =
     cond (breaks x rule) (broken x.bundle x.address rule ∷ []) (lowest x rules)
-
--- the rules, from the lowest up
-abbrev pub all_rules : List Rule
-all_rules = V1 ∷ V2 ∷ V3 ∷ V4 ∷ V5 ∷ V6 ∷ V7 ∷ V8 ∷ V9 ∷ V10 ∷ []
 
 -- the lowest rule broken at each place of what is left of a reading, in order
 abbrev pub findings_from : BundlePlace → Bool → ℕ → List Instr → List Piece → List Finding
@@ -45,19 +38,6 @@ findings_from b whole at earlier (x ∷ later) =
       whole = whole;
     }) all_rules
     ++ findings_from b whole (at + x.size) (x.instr ∷ earlier) later
-
--- V2 where the two bytes that are left begin a 32-bit instruction, which crosses the bundle's end
-abbrev pub rule_of_length : Length → Rule
-rule_of_length Wide = V2
-rule_of_length Short = V1
-rule_of_length Longer = V1
-
--- at the place of what a reading leaves, V2 or else V1
-abbrev pub rest_finding : BundlePlace → ℕ → List ℕ → List Finding
-rest_finding b at [] = []
-rest_finding b at (low ∷ high ∷ []) =
-    broken b at (rule_of_length (length_of (from_le_bytes w16 (low ∷ high ∷ [])))) ∷ []
-rest_finding b at _ = broken b at V1 ∷ []
 
 -- the findings of a bundle that is judged by its instructions
 pub record AreReadingFindings (b : BundlePlace) (bytes : List ℕ)
@@ -85,10 +65,21 @@ AreFindingsOfFirst sandbox p (suc n) found =
     (front : List Finding) × (last : List Finding) × AreFindingsOfFirst sandbox p n front
     × AreBundleFindings (place_of sandbox p n) (bundle_bytes p n) last × (found ≡ front ++ last)
 
--- the findings of the part of the sandbox of that number: those of all its bundles
-abbrev pub AreFindings : ℕ → Part → List Finding → Type 0
-AreFindings sandbox p found = (bundles : ℕ) × (length p.code ≡ bundle_size * bundles)
+-- those of code in bundles: of all of them
+abbrev pub AreFindingsInBundles : ℕ → Part → List Finding → Type 0
+AreFindingsInBundles sandbox p found = (bundles : ℕ) × (length p.code ≡ bundle_size * bundles)
     × AreFindingsOfFirst sandbox p bundles found
+
+-- the findings of the part of the sandbox of that number, by whether its format's code is in words
+abbrev pub AreFindings : ℕ → Part → List Finding → Type 0
+AreFindings sandbox p found = MatchBool (has_words p.format) (AreFindingsInWords sandbox p found)
+    (AreFindingsInBundles sandbox p found)
+
+-- those of its first n bundles, and what is owed after them: in code in bundles nothing ever is
+abbrev pub AreFoundUpTo : ℕ → Part → ℕ → List Finding → Owed → Type 0
+AreFoundUpTo sandbox p n found owed = MatchBool (has_words p.format)
+    (AreFoundOfFirst sandbox p n found owed)
+    (AreFindingsOfFirst sandbox p n found × (owed ≡ Nothing))
 
 -- ---- of an image
 

@@ -3,6 +3,7 @@ use Rattle.std.specs.Prelude.{◌≡◌, ◌≢◌, ◌↔◌, ℕ, List, [], Is
 use Rattle.std.specs.List.{All}
 use Rattle.rv_word.specs.declared.instr.Instr.{Instr}
 use Rattle.sfi_policy.specs.declared.format.Format.TheVariants.{Sfi1, Sfi2}
+use Rattle.sfi_policy.specs.Formats.{has_words}
 use Rattle.sfi_image.specs.Spelling.{Part}
 use Rattle.sfi_image.specs.InFormat.{all_in_format}
 use Rattle.sfi_image.specs.Regions.{IsBundleStart}
@@ -52,7 +53,9 @@ abbrev pub FirstFormatFindsNoV10 : Type 0
 FirstFormatFindsNoV10 = (sandbox : ℕ) (p : Part) (found : List Finding) → p.format ≡ Sfi1
     → AreFindings sandbox p found → All (λ f. f.rule ≢ V10) found
 
--- where no rule is broken, the second format's findings of the same sandboxes are V10 alone
+-- where no rule is broken in code in bundles, the second format's findings of the same sandboxes
+-- are V10 alone
 abbrev pub CleanBreaksStackAlone : Type 0
-CleanBreaksStackAlone = (ps : List Part) (found : List Finding) → AreImageFindings ps []
+CleanBreaksStackAlone = (ps : List Part) (found : List Finding)
+    → All (λ p. has_words p.format ≡ false) ps → AreImageFindings ps []
     → AreImageFindings (all_in_format Sfi2 ps) found → All (λ f. f.rule ≡ V10) found

@@ -1,4 +1,4 @@
--- Which rules are broken at a place of a bundle's reading.
+-- Which rules are broken at a place of a bundle's reading, in the formats whose code is in bundles.
 use Rattle.std.specs.Prelude.{◌+◌, ◌%◌, ◌==◌, ◌&&◌, ◌||◌, not, ℕ, pos, negsuc, List, [], ◌∷◌, Bool, true, false, Option, Some, None, nat_lt, nat_le}
 use Rattle.rv_word.specs.declared.instr.Instr.{Instr}
 use Rattle.rv_word.specs.declared.instr.Instr.TheVariants.{Load, Store, Branch, Jal, Jalr, Ecall, Ebreak}
@@ -6,7 +6,7 @@ use Rattle.rv_word.specs.Numbers.{offset_by}
 use Rattle.rv_word.specs.Writes.{destination}
 use Rattle.sfi_policy.specs.Formats.{is_stack}
 use Rattle.sfi_rules.specs.declared.rule.Rule.{Rule}
-use Rattle.sfi_rules.specs.declared.rule.Rule.TheVariants.{V1, V2, V3, V4, V5, V6, V7, V8, V9, V10}
+use Rattle.sfi_rules.specs.declared.rule.Rule.TheVariants.{V1, V2, V3, V4, V5, V6, V7, V8, V9, V10, V11, V12}
 use Rattle.sfi_rules.specs.declared.bundle.BundlePlace.{BundlePlace}
 use Rattle.sfi_policy.specs.Limits.{bundle_size}
 use Rattle.sfi_policy.specs.Registers.{is_reserved}
@@ -97,7 +97,7 @@ breaks_stack x i = writes_stack x.bundle i && not (may_write_stack x i)
 
 -- The rule is broken at the place. (Each test takes the place's instruction again, to go by its
 -- cases.) V1 and V2 are broken where no instruction stands, and V9 by a whole bundle,
--- so never at a place.
+-- so never at a place; V11 and V12 are rules of code in words.
 abbrev pub breaks : Place → Rule → Bool
 breaks x V1 = false
 breaks x V2 = false
@@ -109,3 +109,5 @@ breaks x V7 = breaks_target x x.instr
 breaks x V8 = breaks_end x x.instr
 breaks x V9 = false
 breaks x V10 = breaks_stack x x.instr
+breaks x V11 = false
+breaks x V12 = false

@@ -1,38 +1,48 @@
 //! The rules by name.
 ghost use Rattle.std.specs.Prelude.{◌≡◌};
 
-/// A rule of sandboxed code.
+/// A rule of sandboxed code. What breaks it depends on whether code is in bundles, as in the first two
+/// formats, or in words.
 #[derive(Clone, Copy, PartialEq, Eq, Debug)]
 pub enum Rule {
     /// What stands there is no instruction.
     V1,
-    /// A 32-bit instruction crosses the bundle's end.
+    /// A 32-bit instruction crosses the bundle's end, or in words isn't at a multiple of 4.
     V2,
     /// An `ecall` that isn't the first instruction of a listed gate.
     V3,
     /// A reserved register, x24 to x27, is written.
     V4,
     /// A load or store without the data pair on its base directly before it. In the second format
-    /// one on x2 needs no pair.
+    /// one on x2 needs no pair. In words: one on neither a data register nor x26.
     V5,
-    /// An indirect jump with an offset, or without the code pair on its base directly before it.
+    /// An indirect jump with an offset, or without the code pair on its base directly before it. In
+    /// words: with an offset, or not on x30.
     V6,
-    /// A jump or branch to what is no bundle start of its own code region.
+    /// A jump or branch to what is no bundle start of its own code region, or in words no multiple
+    /// of 4 there.
     V7,
-    /// The region's last bundle is read whole, and its last instruction isn't ebreak, jal or jalr.
+    /// The region's last bundle, or word, is read whole, and its last instruction isn't ebreak, jal
+    /// or jalr.
     V8,
-    /// A listed gate's bundle isn't the gate stub.
+    /// A listed gate's bundle isn't the gate stub. (There is none in words: V6 and V11 confine how a
+    /// gate goes back.)
     V9,
     /// The stack pointer x2 of the second format is written, by neither instruction of the pair
     /// `and x2, a, x27`, `or x2, x2, x26`, nor by one other than jal and jalr that this pair
-    /// directly follows in its bundle.
+    /// directly follows in its bundle. In words: what a write of a data register owes doesn't come,
+    /// or a jump writes one.
     V10,
+    /// In words: what a mask of x30 owes doesn't come, or x30 is written otherwise.
+    V11,
+    /// In words: the offset register x31 is written otherwise than by `and x31, a, x27`.
+    V12,
 }
 
 impl Rule {
     ghost use Rattle.sfi_rules.specs.Numbers.{number_of, numbered};
 
-    /// The rule's number, 1 to 10.
+    /// The rule's number, 1 to 12.
     pub fn number(self) -> u32
         ensures { result ≡ number_of self }
     {
@@ -47,6 +57,8 @@ impl Rule {
             Rule::V8 => 8,
             Rule::V9 => 9,
             Rule::V10 => 10,
+            Rule::V11 => 11,
+            Rule::V12 => 12,
         }
     }
 
@@ -65,6 +77,8 @@ impl Rule {
             8 => Some(Rule::V8),
             9 => Some(Rule::V9),
             10 => Some(Rule::V10),
+            11 => Some(Rule::V11),
+            12 => Some(Rule::V12),
             _ => None,
         }
     }

@@ -1,5 +1,5 @@
 -- What each instruction at a place without a finding does: it accesses the data and the guards, calls at a gate, and goes on to a place.
-use Rattle.sfi_safety.proofs.Prelude.{◌≡◌, ℕ, ◌+◌, ◌%◌, ◌^◌, ◌<◌, ◌≤◌, ◌⊎◌, ◌∷◌, length, Option, Some, None, Bool, true, false, cond, not, ◌==◌, refl, sym, ap, ◌∙◌, subst, ⊎_elim, arith, ◌&&◌, ℤ, pos, negsuc, is_some, slice_index, and_parts, or_cases, eqb-true, eqb-false, not-false, offset_by, Instr, Op, OpImm, Load, Store, Branch, Jal, Jalr, Lui, Auipc, Fence, Ecall, Ebreak, InRange, has_stack, is_stack, Bytes, bytes_at, address_after, addresses, loaded, stored, Next, Call, Trap, Accesses, Hart, register, with_register, with_pc, past, even_of, effect, after_load, next, unchanged, load_size, store_size, extended, is_taken, Part, code_region, IsBundleStart, IsRightPart, BundlePlace, Place, is_empty, is_bundle_start, breaks_ecall, breaks_reserved, breaks_access, breaks_jump, breaks_target, breaks_stack, may_access, ends_region, InData, InGuard, IsGate, HasReserved, StackInData, Leaves, WritesResult, StackInDataBefore, IsAtPlace}
+use Rattle.sfi_safety.proofs.Prelude.{has_words, IsImm12, Contains, ◌≡◌, ℕ, ◌+◌, ◌%◌, ◌^◌, ◌<◌, ◌≤◌, ◌⊎◌, ◌∷◌, length, Option, Some, None, Bool, true, false, cond, not, ◌==◌, refl, sym, ap, ◌∙◌, subst, ⊎_elim, arith, ◌&&◌, ℤ, pos, negsuc, is_some, slice_index, and_parts, or_cases, eqb-true, eqb-false, not-false, offset_by, Instr, Op, OpImm, Load, Store, Branch, Jal, Jalr, Lui, Auipc, Fence, Ecall, Ebreak, InRange, has_stack, is_stack, Bytes, bytes_at, address_after, addresses, loaded, stored, Next, Call, Trap, Accesses, Hart, register, with_register, with_pc, past, even_of, effect, after_load, next, unchanged, load_size, store_size, extended, is_taken, Part, code_region, IsBundleStart, IsRightPart, BundlePlace, Place, is_empty, is_bundle_start, breaks_ecall, breaks_reserved, breaks_access, breaks_jump, breaks_target, breaks_stack, may_access, ends_region, InData, InGuard, IsGate, HasReserved, StackInData, Leaves, WritesResult, StackInDataBefore, IsAtPlace}
 use Rattle.rv_step.specs.declared.outcome.Outcome.{Outcome}
 use Rattle.rv_word.specs.Writes.{destination, is_register}
 use Rattle.rv_word.specs.declared.instr.LoadKind.{LoadKind}
@@ -7,7 +7,7 @@ use Rattle.sfi_policy.specs.Registers.{is_reserved}
 use Rattle.sfi_rules.specs.Pairs.{follows_data_pair, follows_code_pair}
 use Rattle.sfi_rules.specs.Stack.{writes_stack, is_jump}
 use Rattle.rv_step.specs.declared.outcome.Cause.TheVariants as cause
-use Rattle.sfi_safety.proofs.Accessing.{near_access, load_most, store_most, load_range, store_range, kept, count_kept, reserved_kept}
+use Rattle.sfi_runs.proofs.Accessing.{near_access, imm12_within, load_sized, store_sized, load_range, store_range, kept, count_kept, reserved_kept}
 use Rattle.sfi_safety.proofs.Stacking.{is_of_pair, stack_here, stack_after, jump_keeps}
 use Rattle.sfi_safety.proofs.PairResult.{leaves_after}
 
@@ -61,11 +61,16 @@ base_lies sandbox p h i n here other base may =
     (λ (pair : follows_data_pair base here.place.earlier ≡ true). here.leaves.data_pair base pair)
     (or_cases (is_stack here.place.bundle.format base) (follows_data_pair base here.place.earlier) may)
 
+-- an access on what lies in the data reaches no further than the guards
+reaches : (p : Part) (v : ℕ) (imm : ℤ) (n a : ℕ) → IsRightPart p → InData p v → IsImm12 imm → n ≤ 4 → Contains (addresses (offset_by v imm) n) a → InData p a ⊎ InGuard p a
+reaches p v imm n a right (from, below) range few has =
+    near_access p right.guard_room v 0 2048 imm n a (record { low = omega arith; high = omega arith }) (imm12_within imm range) (omega arith) few has
+
 pub accesses_near : (sandbox : ℕ) (p : Part) (h : Hart) (i : Instr) (n : ℕ) → IsRightPart p → Here sandbox p h i n → (a : ℕ) → Accesses i h a → InData p a ⊎ InGuard p a
 accesses_near sandbox p h (Load kind rd rs1 imm) n right here a has =
-    near_access p (register h rs1) imm (load_size kind) a right (base_lies sandbox p h (Load kind rd rs1 imm) n here refl rs1 (not-false _ here.access)) (load_range kind rd rs1 imm here.range) (load_most kind) has
+    reaches p (register h rs1) imm (load_size kind) a right (base_lies sandbox p h (Load kind rd rs1 imm) n here refl rs1 (not-false _ here.access)) (load_range kind rd rs1 imm here.range) (load_sized kind).most has
 accesses_near sandbox p h (Store width rs1 rs2 imm) n right here a has =
-    near_access p (register h rs1) imm (store_size width) a right (base_lies sandbox p h (Store width rs1 rs2 imm) n here refl rs1 (not-false _ here.access)) (store_range width rs1 rs2 imm here.range) (store_most width) has
+    reaches p (register h rs1) imm (store_size width) a right (base_lies sandbox p h (Store width rs1 rs2 imm) n here refl rs1 (not-false _ here.access)) (store_range width rs1 rs2 imm here.range) (store_sized width).most has
 accesses_near sandbox p h (Op op rd rs1 rs2) n right here a (k, below, is) = absurd (omega arith)
 accesses_near sandbox p h (OpImm op rd rs1 imm) n right here a (k, below, is) = absurd (omega arith)
 accesses_near sandbox p h (Branch condition rs1 rs2 offset) n right here a (k, below, is) = absurd (omega arith)
@@ -77,32 +82,9 @@ accesses_near sandbox p h (Fence imm rd rs1) n right here a (k, below, is) = abs
 accesses_near sandbox p h Ecall n right here a (k, below, is) = absurd (omega arith)
 accesses_near sandbox p h Ebreak n right here a (k, below, is) = absurd (omega arith)
 
-load_no_call : (o : Option ℕ) (kind : LoadKind) (rd at n : ℕ) (h : Hart) (m : Bytes) → (after_load o kind rd at n h m).outcome ≡ Call → ⊥
-load_no_call None kind rd at n h m e = cc
-load_no_call (Some v) kind rd at n h m e = cc
-
-store_no_call : (b : Bool) (at : ℕ) (k : Hart) (w : Bytes) (h : Hart) (m : Bytes) → (cond b (next k w) (unchanged (Trap cause.Store at) h m)).outcome ≡ Call → ⊥
-store_no_call true at k w h m e = cc
-store_no_call false at k w h m e = cc
-
--- what accesses anything does not call
-pub no_call : (i : Instr) (n : ℕ) (h : Hart) (m : Bytes) (a : ℕ) → Accesses i h a → (effect i n h m).outcome ≡ Call → ⊥
-no_call (Load kind rd rs1 imm) n h m a has e = load_no_call (loaded m (offset_by (register h rs1) imm) (load_size kind)) kind rd _ n h m e
-no_call (Store width rs1 rs2 imm) n h m a has e = store_no_call (is_some (bytes_at m (addresses (offset_by (register h rs1) imm) (store_size width)))) _ _ _ h m e
-no_call (Op op rd rs1 rs2) n h m a (k, below, is) e = omega arith
-no_call (OpImm op rd rs1 imm) n h m a (k, below, is) e = omega arith
-no_call (Branch condition rs1 rs2 offset) n h m a (k, below, is) e = omega arith
-no_call (Jal rd offset) n h m a (k, below, is) e = omega arith
-no_call (Jalr rd rs1 imm) n h m a (k, below, is) e = omega arith
-no_call (Lui rd imm) n h m a (k, below, is) e = omega arith
-no_call (Auipc rd imm) n h m a (k, below, is) e = omega arith
-no_call (Fence imm rd rs1) n h m a (k, below, is) e = omega arith
-no_call Ecall n h m a (k, below, is) e = omega arith
-no_call Ebreak n h m a (k, below, is) e = omega arith
-
 -- ---- each instruction
 
-module _ (sandbox : ℕ) (p : Part) (h : Hart) (m : Bytes) (right : IsRightPart p) (count : length h.registers ≡ 32) (reserved : HasReserved p h.registers) where
+module _ (sandbox : ℕ) (p : Part) (h : Hart) (m : Bytes) (right : IsRightPart p) (bundles : has_words p.format ≡ false) (count : length h.registers ≡ 32) (reserved : HasReserved p h.registers) where
   good_writing : (pc rd value : ℕ) → is_reserved rd ≡ false → IsAtPlace sandbox p (with_register (with_pc h pc) rd value) → IsGoodHart sandbox p (with_register (with_pc h pc) rd value)
   good_writing pc rd value free place = record {
     count = count_kept rd value (with_pc h pc) ∙ count;
@@ -114,7 +96,7 @@ module _ (sandbox : ℕ) (p : Part) (h : Hart) (m : Bytes) (right : IsRightPart 
   good_moving pc place = record { count = count; reserved = reserved; place = place }
 
   leaves_writing : (h' : Hart) (i : Instr) (n : ℕ) (here : Here sandbox p h i n) → WritesResult i h h' → Leaves p (i ∷ here.place.earlier) h'.registers
-  leaves_writing h' i n here writes = leaves_after p h h' i here.place.earlier right count reserved here.range writes here.leaves
+  leaves_writing h' i n here writes = leaves_after p h h' i here.place.earlier right bundles count reserved here.range writes here.leaves
 
   -- a write of another register keeps the stack pointer
   keeps : (b : BundlePlace) (i : Instr) (rd value : ℕ) (k : Hart) → destination i ≡ Some rd → has_stack b.format ≡ true → writes_stack b i ≡ false

@@ -1,7 +1,5 @@
 pub mod Prelude
-pub mod Accessing
 pub mod Effects
-pub mod Entering
 pub mod NextPlace
 pub mod PairResult
 pub mod Masks
@@ -15,7 +13,6 @@ pub mod TurnInvariant
 pub mod Safe
 pub mod Samples
 pub mod Sandboxed
-pub mod Calling
 pub mod Stacking
 pub mod Stepping
 pub mod Facts

@@ -1,37 +1,15 @@
--- A mask and an or put any number into a region.
-use Rattle.sfi_safety.proofs.Prelude.{◌≡◌, ℕ, ◌+◌, ◌-◌, ◌*◌, ◌/◌, ◌%◌, ◌^◌, ◌<◌, ◌≤◌, ap, ◌∙◌, ⊎_elim, arith, cases_lt, Format, Sfi1, Sfi2, code_most, IsRegion}
-use Rattle.std.proofs.lemmas.Nat.{and_mask, or_shifted, or_comm, mod_below, pow_pos, pow-add, pow_below}
+-- A mask and an or put any number onto a bundle start of a region.
+use Rattle.sfi_safety.proofs.Prelude.{◌≡◌, ℕ, ◌+◌, ◌-◌, ◌*◌, ◌/◌, ◌%◌, ◌^◌, ◌<◌, ◌≤◌, ap, ◌∙◌, arith, Format, Sfi1, Sfi2, Sfiw, code_most, IsRegion}
+use Rattle.std.proofs.lemmas.Nat.{mod_below, pow_pos, pow-add}
 use Rattle.std.proofs.lemmas.Nat.Bits.{and_high}
 use Rattle.std.specs.Int.Bits.{bit_and, bit_or}
+use Rattle.sfi_runs.proofs.Masks.{IsPlaced, in_block, power_at_least}
 
 -- no code region is larger than this
 pub code_at_most : (format : Format) → code_most format ≤ 1048576
 code_at_most Sfi1 = omega arith
 code_at_most Sfi2 = omega arith
-
--- a number below 2 ^ k, put into a block of 2 ^ k
-in_block : (q k r : ℕ) → r < 2 ^ k → bit_or r (q * 2 ^ k) ≡ q * 2 ^ k + r
-in_block q k r h = or_comm r (q * 2 ^ k) ∙ or_shifted q k r h
-
-power_at_least : (k j : ℕ) → 2 ^ j ≤ 2 ^ k → j ≤ k
-power_at_least k j h = ⊎_elim (λ less. let below : 2 ^ k < 2 ^ j = pow_below k j less in omega arith) (λ more. more) (cases_lt k j)
-
-pub record IsPlaced (base size a : ℕ) : Type 0 where
-  pub from : base ≤ a
-  pub below : a < base + size
-
--- the mask of size less 1
-pub masked_data : (base size least most x : ℕ) → IsRegion base size least most → IsPlaced base size (bit_or (bit_and x (size - 1)) base)
-masked_data base size least most x region =
-    let k = region.power in
-    let q = region.multiple in
-    let below : x % 2 ^ k < 2 ^ k = mod_below x (2 ^ k) (pow_pos k) in
-    let base_is : base ≡ q * 2 ^ k = region.base_is ∙ ap (λ n. q * n) region.size_is in
-    let low_part : bit_and x (size - 1) ≡ x % 2 ^ k = ap (λ n. bit_and x (n - 1)) region.size_is ∙ and_mask x k in
-    let value : bit_or (bit_and x (size - 1)) base ≡ q * 2 ^ k + x % 2 ^ k =
-    ap (λ n. bit_or n base) low_part ∙ ap (λ n. bit_or (x % 2 ^ k) n) base_is ∙ in_block q k (x % 2 ^ k) below in
-    let size_is : size ≡ 2 ^ k = region.size_is in
-    record { from = omega arith; below = omega arith }
+code_at_most Sfiw = omega arith
 
 -- the mask of size less 16
 pub masked_code : (base size most x : ℕ) → IsRegion base size 256 most → IsPlaced base size (bit_or (bit_and x (size - 16)) base) × (bit_or (bit_and x (size - 16)) base % 16 ≡ 0)

@@ -3,7 +3,7 @@ use Rattle.sfi_safety.proofs.Prelude.{◌≡◌, ℕ, ◌+◌, ◌*◌, List, []
 use Rattle.rv_word.specs.declared.instr.ImmOp.TheVariants.{Addi}
 use Rattle.sfi_safety.specs.Samples.{Sample, sandbox, words_of, bytes_of, ecall_at_no_gate, written_rd_forgotten, pair_on_x0, pair_across_bundles, jalr_offset_ignored, jump_to_any_start, stack_not_put_back, undecodable, crossing_store, running_off_the_end, gate_comes_back_elsewhere}
 use Rattle.sfi_rules.specs.declared.rule.Rule.{Rule}
-use Rattle.sfi_rules.specs.declared.rule.Rule.TheVariants.{V1, V2, V3, V4, V5, V6, V7, V8, V9, V10}
+use Rattle.sfi_rules.specs.declared.rule.Rule.TheVariants.{V1, V2, V3, V4, V5, V6, V7, V8, V9, V10, V11, V12}
 use Rattle.rv_comp.proofs.Facts.{word_spells}
 use Rattle.sfi_safety.proofs.NeededBundles.{undecodable_unsafe, crossing_store_unsafe, running_off_the_end_unsafe, gate_comes_back_elsewhere_unsafe}
 use Rattle.sfi_safety.proofs.Readings.{IsSpelled, op_spelled, store_spelled, ebreak_spelled, code_findings, four, four_longest, wide, ecall_spelled, jalr_past}
@@ -68,7 +68,7 @@ module _ (s : Sample) (rule : Rule) (number : ℕ) (a b c d : Instr) (bytes : by
 pub ecall_at_no_gate_unsafe : IsNeeded V3 0x01000000 (sandbox ecall_at_no_gate)
 ecall_at_no_gate_unsafe =
     let s = ecall_at_no_gate in
-    let is : IsSample s = without_gates s refl refl refl in
+    let is : IsSample s = without_gates s refl refl refl refl in
     needed s is V3 0x01000000 0 (omega arith)
     (code_findings Sfi1 Ecall Ebreak Ebreak Ebreak Ebreak Ebreak Ebreak Ebreak (record { sandbox = 0; address = 0x01000000; rule = V3 } ∷ []) []
     ecall_spelled ebreak_spelled ebreak_spelled ebreak_spelled ebreak_spelled ebreak_spelled ebreak_spelled ebreak_spelled refl refl)
@@ -80,7 +80,7 @@ ecall_at_no_gate_unsafe =
 pub written_rd_forgotten_unsafe : IsNeeded V4 0x01000000 (sandbox written_rd_forgotten)
 written_rd_forgotten_unsafe =
     let s = written_rd_forgotten in
-    let is : IsSample s = without_gates s refl refl refl in
+    let is : IsSample s = without_gates s refl refl refl refl in
     needed s is V4 0x01000000 0 (omega arith)
     (code_findings Sfi1 (Jal 26 (pos 16)) Ebreak Ebreak Ebreak (Op And 31 10 27) (Op Or 31 31 26) (Store Sw 31 11 (pos 0)) Ebreak (record { sandbox = 0; address = 0x01000000; rule = V4 } ∷ []) []
     jal_x26 ebreak_spelled ebreak_spelled ebreak_spelled (op_spelled And 31 10 27 refl) (op_spelled Or 31 31 26 refl) (store_spelled Sw 31 11 refl) ebreak_spelled refl refl)
@@ -96,7 +96,7 @@ written_rd_forgotten_unsafe =
 pub pair_on_x0_unsafe : IsNeeded V5 0x01000008 (sandbox pair_on_x0)
 pair_on_x0_unsafe =
     let s = pair_on_x0 in
-    let is : IsSample s = without_gates s refl refl refl in
+    let is : IsSample s = without_gates s refl refl refl refl in
     needed s is V5 0x01000008 0 (omega arith)
     (code_findings Sfi1 (Op And 0 10 27) (Op Or 0 0 26) (Store Sw 0 11 (pos 0)) Ebreak Ebreak Ebreak Ebreak Ebreak (record { sandbox = 0; address = 0x01000008; rule = V5 } ∷ []) []
     (op_spelled And 0 10 27 refl) (op_spelled Or 0 0 26 refl) (store_spelled Sw 0 11 refl) ebreak_spelled ebreak_spelled ebreak_spelled ebreak_spelled ebreak_spelled refl refl)
@@ -111,7 +111,7 @@ pair_on_x0_unsafe =
 pub pair_across_bundles_unsafe : IsNeeded V5 0x01000010 (sandbox pair_across_bundles)
 pair_across_bundles_unsafe =
     let s = pair_across_bundles in
-    let is : IsSample s = without_gates s refl refl refl in
+    let is : IsSample s = without_gates s refl refl refl refl in
     needed s is V5 0x01000010 1 (omega arith)
     (code_findings Sfi1 Ebreak Ebreak (Op And 31 10 27) (Op Or 31 31 26) (Store Sw 31 11 (pos 0)) Ebreak Ebreak Ebreak [] (record { sandbox = 0; address = 0x01000010; rule = V5 } ∷ [])
     ebreak_spelled ebreak_spelled (op_spelled And 31 10 27 refl) (op_spelled Or 31 31 26 refl) (store_spelled Sw 31 11 refl) ebreak_spelled ebreak_spelled ebreak_spelled refl refl)
@@ -123,7 +123,7 @@ pair_across_bundles_unsafe =
 pub jalr_offset_ignored_unsafe : IsNeeded V6 0x01000008 (sandbox jalr_offset_ignored)
 jalr_offset_ignored_unsafe =
     let s = jalr_offset_ignored in
-    let is : IsSample s = without_gates s refl refl refl in
+    let is : IsSample s = without_gates s refl refl refl refl in
     needed s is V6 0x01000008 0 (omega arith)
     (code_findings Sfi1 (Op And 31 10 25) (Op Or 31 31 24) (Jalr 0 31 (pos 16)) Ebreak Ebreak Ebreak Ebreak Ebreak (record { sandbox = 0; address = 0x01000008; rule = V6 } ∷ []) []
     (op_spelled And 31 10 25 refl) (op_spelled Or 31 31 24 refl) jalr_past ebreak_spelled ebreak_spelled ebreak_spelled ebreak_spelled ebreak_spelled refl refl)
@@ -139,7 +139,7 @@ jalr_offset_ignored_unsafe =
 pub jump_to_any_start_unsafe : IsNeeded V7 0x01000010 (sandbox jump_to_any_start)
 jump_to_any_start_unsafe =
     let s = jump_to_any_start in
-    let is : IsSample s = without_gates s refl refl refl in
+    let is : IsSample s = without_gates s refl refl refl refl in
     needed s is V7 0x01000010 1 (omega arith)
     (code_findings Sfi1 (Op And 31 10 27) (Op Or 31 31 26) (Store Sw 31 11 (pos 0)) Ebreak (Jal 0 (minus 8)) Ebreak Ebreak Ebreak [] (record { sandbox = 0; address = 0x01000010; rule = V7 } ∷ [])
     (op_spelled And 31 10 27 refl) (op_spelled Or 31 31 26 refl) (store_spelled Sw 31 11 refl) ebreak_spelled jal_back ebreak_spelled ebreak_spelled ebreak_spelled refl refl)
@@ -153,7 +153,7 @@ jump_to_any_start_unsafe =
 pub stack_not_put_back_unsafe : IsNeeded V10 0x01000000 (sandbox stack_not_put_back)
 stack_not_put_back_unsafe =
     let s = stack_not_put_back in
-    let is : IsSample s = without_gates s refl refl refl in
+    let is : IsSample s = without_gates s refl refl refl refl in
     needed s is V10 0x01000000 0 (omega arith)
     (code_findings Sfi2 (OpImm Addi 2 0 (pos 0)) (Store Sw 2 11 (pos 0)) Ebreak Ebreak Ebreak Ebreak Ebreak Ebreak (record { sandbox = 0; address = 0x01000000; rule = V10 } ∷ []) []
     addi_x2 (store_spelled Sw 2 11 refl) ebreak_spelled ebreak_spelled ebreak_spelled ebreak_spelled ebreak_spelled ebreak_spelled refl refl)
@@ -165,13 +165,15 @@ stack_not_put_back_unsafe =
 -- ---- all ten
 
 pub each_rule : EachRuleIsNeeded
-each_rule V1 = (0x01000000, sandbox undecodable, undecodable_unsafe)
-each_rule V2 = (0x0100000e, sandbox crossing_store, crossing_store_unsafe)
-each_rule V3 = (0x01000000, sandbox ecall_at_no_gate, ecall_at_no_gate_unsafe)
-each_rule V4 = (0x01000000, sandbox written_rd_forgotten, written_rd_forgotten_unsafe)
-each_rule V5 = (0x01000008, sandbox pair_on_x0, pair_on_x0_unsafe)
-each_rule V6 = (0x01000008, sandbox jalr_offset_ignored, jalr_offset_ignored_unsafe)
-each_rule V7 = (0x01000010, sandbox jump_to_any_start, jump_to_any_start_unsafe)
-each_rule V8 = (0x010000fc, sandbox running_off_the_end, running_off_the_end_unsafe)
-each_rule V9 = (0x01000000, sandbox gate_comes_back_elsewhere, gate_comes_back_elsewhere_unsafe)
-each_rule V10 = (0x01000000, sandbox stack_not_put_back, stack_not_put_back_unsafe)
+each_rule V1 below = (0x01000000, sandbox undecodable, refl, undecodable_unsafe)
+each_rule V2 below = (0x0100000e, sandbox crossing_store, refl, crossing_store_unsafe)
+each_rule V3 below = (0x01000000, sandbox ecall_at_no_gate, refl, ecall_at_no_gate_unsafe)
+each_rule V4 below = (0x01000000, sandbox written_rd_forgotten, refl, written_rd_forgotten_unsafe)
+each_rule V5 below = (0x01000008, sandbox pair_on_x0, refl, pair_on_x0_unsafe)
+each_rule V6 below = (0x01000008, sandbox jalr_offset_ignored, refl, jalr_offset_ignored_unsafe)
+each_rule V7 below = (0x01000010, sandbox jump_to_any_start, refl, jump_to_any_start_unsafe)
+each_rule V8 below = (0x010000fc, sandbox running_off_the_end, refl, running_off_the_end_unsafe)
+each_rule V9 below = (0x01000000, sandbox gate_comes_back_elsewhere, refl, gate_comes_back_elsewhere_unsafe)
+each_rule V10 below = (0x01000000, sandbox stack_not_put_back, refl, stack_not_put_back_unsafe)
+each_rule V11 below = absurd (omega (arith, below))
+each_rule V12 below = absurd (omega (arith, below))

@@ -1,5 +1,5 @@
 -- That the rules on what is read, on the region's end and on gates are needed.
-use Rattle.sfi_safety.proofs.Prelude.{◌≡◌, ◌≢◌, ℕ, zero, suc, ◌+◌, ◌*◌, ◌<◌, ◌≤◌, ◌==◌, ◌||◌, List, [], ◌∷◌, length, take, drop, Some, false, refl, sym, ap, ◌∙◌, subst, inl, inr, arith, get_or-take, pos, slice_index, All, ints, Instr, And, Or, Sw, Op, Store, Jalr, Ecall, Ebreak, spelling, InRange, Spells, Sfi1, Bytes, Stands, unchanged, Call, is_gate_of, IsBundleStart, AreGateWords, place_of, bundle_bytes, HasCode, Steps, Replies, IsReply, IsEntry, IsNeeded, Finding}
+use Rattle.sfi_safety.proofs.Prelude.{false≢true, ◌≡◌, ◌≢◌, ℕ, zero, suc, ◌+◌, ◌*◌, ◌<◌, ◌≤◌, ◌==◌, ◌||◌, List, [], ◌∷◌, length, take, drop, Some, false, refl, sym, ap, ◌∙◌, subst, inl, inr, arith, get_or-take, pos, slice_index, All, ints, Instr, And, Or, Sw, Op, Store, Jalr, Ecall, Ebreak, spelling, InRange, Spells, Sfi1, Bytes, Stands, unchanged, Call, is_gate_of, IsBundleStart, AreGateWords, place_of, bundle_bytes, HasCode, Steps, Replies, IsReply, IsEntry, IsNeeded, Finding}
 use Rattle.rv_comp.specs.declared.form.Form16.TheVariants.{CAddi}
 use Rattle.sfi_safety.specs.Samples.{sandbox, nop, undecodable, crossing_store, running_off_the_end, gate_comes_back_elsewhere}
 use Rattle.sfi_policy.specs.Limits.{service_most}
@@ -28,13 +28,13 @@ undecodable_unsafe =
     needed undecodable is V1 0x01000000 0 (omega arith)
     (all_findings Sfi1 [] 0xffffffff brk brk brk brk brk brk brk brk brk brk brk none_listed x [] []
     (read_bundle (place_of 0 p 0) bytes [] bytes x refl tt refl (ones_begin_nothing (drop 4 bytes)) refl)
-    (quiet Sfi1 [] 0xffffffff brk brk brk brk brk brk brk brk brk brk brk none_listed 0 refl refl refl)
-    (quiet Sfi1 [] 0xffffffff brk brk brk brk brk brk brk brk brk brk brk none_listed 14 refl refl refl))
+    (quiet Sfi1 [] 0xffffffff brk brk brk brk brk brk brk brk brk brk brk none_listed 0 refl refl refl refl)
+    (quiet Sfi1 [] 0xffffffff brk brk brk brk brk brk brk brk brk brk brk none_listed 14 refl refl refl refl))
     tt
     (λ m entry. record { turns = []; run = tt; unsafe = λ safe. ones_stand m entry.code safe.present.instr safe.present.size safe.present.stands })
   where
     is : IsSample undecodable
-    is = without_gates undecodable refl refl refl
+    is = without_gates undecodable refl refl refl refl
 
     ones_stand : (m : Bytes) → HasCode (sandbox undecodable) m → (i : Instr) (n : ℕ) → Stands (first 0x01000000 m) i n → ⊥
     ones_stand m code i n st = by st.spelled
@@ -83,7 +83,7 @@ half_begins_nothing y (inr s) =
 pub crossing_store_unsafe : IsNeeded V2 0x0100000e (sandbox crossing_store)
 crossing_store_unsafe =
     let s = crossing_store in
-    let is : IsSample s = without_gates s refl refl refl in
+    let is : IsSample s = without_gates s refl refl refl refl in
     let x : List Finding = record { sandbox = 0; address = 0x0100000e; rule = V2 } ∷ [] in
     let n = spelling nop in
     let place = place_of 0 (sandbox s) in
@@ -92,7 +92,7 @@ crossing_store_unsafe =
     (all_findings Sfi1 [] n n n 0x20230001 0x00000013 brk brk brk brk brk brk brk none_listed x [] []
     (read_bundle (place 0) (bytes 0) (wide nop ∷ wide nop ∷ wide nop ∷ record { instr = nop; size = 2 } ∷ []) (0x23 ∷ 0x20 ∷ []) x refl (nop_spelled, (nop_spelled, (nop_spelled, (short_nop, tt)))) refl half_begins_nothing refl)
     (read_bundle (place 1) (bytes 1) (four nop Ebreak Ebreak Ebreak) [] [] refl (nop_next, (ebreak_spelled, (ebreak_spelled, (ebreak_spelled, tt)))) refl (nothing_begins [] refl) refl)
-    (quiet Sfi1 [] n n n 0x20230001 0x00000013 brk brk brk brk brk brk brk none_listed 14 refl refl refl))
+    (quiet Sfi1 [] n n n 0x20230001 0x00000013 brk brk brk brk brk brk brk none_listed 14 refl refl refl refl))
     tt
     (λ m entry.
     then_step s is m entry.code (hart 0x01000000 0x01800000 0) 0 4 nop refl (omega arith) nop_spelled (hart 0x01000004 0x01800000 0) refl (
@@ -106,7 +106,7 @@ crossing_store_unsafe =
 pub running_off_the_end_unsafe : IsNeeded V8 0x010000fc (sandbox running_off_the_end)
 running_off_the_end_unsafe =
     let s = running_off_the_end in
-    let is : IsSample s = without_gates s refl refl refl in
+    let is : IsSample s = without_gates s refl refl refl refl in
     let x : List Finding = record { sandbox = 0; address = 0x010000fc; rule = V8 } ∷ [] in
     let n = spelling nop in
     let place = place_of 0 (sandbox s) in
@@ -114,7 +114,7 @@ running_off_the_end_unsafe =
     needed s is V8 0x010000fc 15 (omega arith)
     (all_findings Sfi1 [] brk brk brk brk brk brk brk brk n n n n none_listed [] [] x
     (four_words (place 0) (bytes 0) Ebreak Ebreak Ebreak Ebreak [] refl refl ebreak_spelled ebreak_spelled ebreak_spelled ebreak_spelled refl)
-    (quiet Sfi1 [] brk brk brk brk brk brk brk brk n n n n none_listed 0 refl refl refl)
+    (quiet Sfi1 [] brk brk brk brk brk brk brk brk n n n n none_listed 0 refl refl refl refl)
     (four_words (place 15) (bytes 15) nop nop nop nop x refl refl nop_spelled nop_spelled nop_spelled nop_spelled refl))
     (record {
       number = 15;
@@ -136,6 +136,7 @@ running_off_the_end_unsafe =
 
 gate_sample : IsSample gate_comes_back_elsewhere
 gate_sample = record {
+  bundles = refl;
   first_words = refl;
   last_words = refl;
   words = words;
@@ -170,7 +171,7 @@ silent_reply m entry = record {
   state = record { hart = is_hart 0x01000004 refl (omega arith); memory = entry.state.memory };
   pc = refl;
   reserved = record { code_base = refl; code_mask = refl; data_base = refl; data_mask = refl };
-  stack = λ has. (omega arith, omega arith);
+  typed = record { stack = λ has. (omega arith, omega arith); words = λ has. absurd (false≢true has) };
   bytes = record { code = λ a inside. refl; guards = λ a guard none. none };
 }
 
@@ -184,8 +185,8 @@ gate_comes_back_elsewhere_unsafe =
     needed s gate_sample V9 0x01000000 0 (omega arith)
     (all_findings Sfi1 s.gates (spelling Ecall) and_back or_back jump brk brk brk brk brk brk brk brk others_unlisted (record { sandbox = 0; address = 0x01000000; rule = V9 } ∷ []) [] []
     (inl (refl, not_stub, refl))
-    (quiet Sfi1 s.gates (spelling Ecall) and_back or_back jump brk brk brk brk brk brk brk brk others_unlisted 0 refl refl refl)
-    (quiet Sfi1 s.gates (spelling Ecall) and_back or_back jump brk brk brk brk brk brk brk brk others_unlisted 14 refl refl refl))
+    (quiet Sfi1 s.gates (spelling Ecall) and_back or_back jump brk brk brk brk brk brk brk brk others_unlisted 0 refl refl refl refl)
+    (quiet Sfi1 s.gates (spelling Ecall) and_back or_back jump brk brk brk brk brk brk brk brk others_unlisted 14 refl refl refl refl))
     tt
     (λ m entry.
     then_turn p (first 0x01000000 m) (first 0x01000000 m) (Steps (unchanged Call (hart 0x01000000 0x01800000 0) m)) (step_at s gate_sample m entry.code (hart 0x01000000 0x01800000 0) 0 4 Ecall refl (omega arith) ecall_spelled) refl (

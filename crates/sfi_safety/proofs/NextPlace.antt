@@ -1,5 +1,5 @@
 -- What a place without a finding keeps, and that the machine goes on from it to a place again.
-use Rattle.sfi_safety.proofs.Prelude.{◌≡◌, ◌≢◌, ℕ, ◌+◌, ◌*◌, ◌<◌, ◌≤◌, List, [], ◌∷◌, length, take, drop, Bool, true, false, not, ◌&&◌, ◌==◌, refl, ap, ◌∙◌, subst, arith, eqb-false, drop-drop, Spells, address_after, Hart, Part, place_of, bundle_bytes, Piece, IsReading, rest_of, Place, breaks_ecall, breaks_reserved, breaks_access, breaks_jump, breaks_target, breaks_end, breaks_stack, ends_region, is_empty, lowest, all_rules, findings_from, Leaves, IsCleanPart, StackInDataBefore, IsAtPlace}
+use Rattle.sfi_safety.proofs.Prelude.{◌≡◌, ◌≢◌, ℕ, ◌+◌, ◌*◌, ◌<◌, ◌≤◌, List, [], ◌∷◌, length, take, drop, Bool, true, false, not, ◌&&◌, ◌==◌, refl, ap, ◌∙◌, subst, arith, eqb-false, drop-drop, Spells, address_after, Hart, Part, place_of, bundle_bytes, Piece, IsReading, rest_of, Place, breaks_ecall, breaks_reserved, breaks_access, breaks_jump, breaks_target, breaks_end, breaks_stack, ends_region, is_empty, lowest, all_rules, findings_from, Leaves, AreCleanBundles, StackInDataBefore, IsAtPlace}
 use Rattle.sfi_rules.specs.declared.rule.Rule.TheVariants.{V3, V4, V5, V6, V7, V8, V10}
 use Rattle.rv_comp.proofs.Facts.{spelled_length, spelled_some}
 use Rattle.std.proofs.Common.{length-take, length-drop}
@@ -60,7 +60,7 @@ something_left bytes x h =
     let some = spelled_some (take x.size bytes) x.instr x.size h in
     omega (arith, cut, all, some)
 
-module _ (sandbox : ℕ) (p : Part) (h h' : Hart) (clean : IsCleanPart sandbox p) (at : IsAtPlace sandbox p h) where
+module _ (sandbox : ℕ) (p : Part) (h h' : Hart) (clean : AreCleanBundles sandbox p) (at : IsAtPlace sandbox p h) where
   -- after the last piece of a bundle that is not the region's last
   over_the_end : at.later ≡ [] → h'.pc ≡ address_after h.pc at.here.size → ends_region at.here.instr ≡ false → StackInDataBefore p (at.here.instr ∷ at.earlier) at.later h'.registers → IsAtPlace sandbox p h'
   over_the_end nil pc' goes stack =

@@ -5,7 +5,9 @@ use Rattle.sfi_pairs.specs.Pairs.{masking_instr, placing_instr, is_masking, is_p
 use Rattle.sfi_policy.specs.Registers.{is_reserved}
 use Rattle.sfi_rules.specs.Pairs.{follows_pair}
 use Rattle.std.specs.Prelude.{bit_and, bit_or}
-use Rattle.sfi_safety.proofs.Masks.{masked_data, masked_code}
+use Rattle.sfi_runs.proofs.Formats.{bundles as bundle_unit}
+use Rattle.sfi_runs.proofs.Masks.{masked_data}
+use Rattle.sfi_safety.proofs.Masks.{masked_code}
 use Rattle.sfi_pairs.proofs.Facts.{pairs_are_found}
 
 -- ---- the two instructions of a pair
@@ -86,7 +88,7 @@ leaves_nothing p registers = record {
 }
 
 pub leaves_after : InstructionLeaves
-leaves_after p before after i earlier right count reserved range writes had = record {
+leaves_after p before after i earlier right bundles count reserved range writes had = record {
   data_pair = λ t h.
       let pair = pair_parts 27 26 t i earlier h in
       let x = had.data_mask t pair.mask_before in
@@ -98,7 +100,7 @@ leaves_after p before after i earlier right count reserved range writes had = re
       let pair = pair_parts 25 24 t i earlier h in
       let x = had.code_mask t pair.mask_before in
       let value = after_placing 24 t i before after pair.placing pair.target count range writes in
-      let value' : register after t ≡ bit_or (bit_and x.0 (length p.code - 16)) p.code_base = value ∙ ap (λ n. bit_or n (register before 24)) x.1 ∙ ap (λ n. bit_or (bit_and x.0 (length p.code - 16)) n) reserved.code_base in
+      let value' : register after t ≡ bit_or (bit_and x.0 (length p.code - 16)) p.code_base = value ∙ ap (λ n. bit_or n (register before 24)) (x.1 ∙ ap (λ u. bit_and x.0 (length p.code - u)) (bundle_unit p.format bundles)) ∙ ap (λ n. bit_or (bit_and x.0 (length p.code - 16)) n) reserved.code_base in
       let placed = masked_code p.code_base (length p.code) (code_most p.format) x.0 right.code_placed in
       subst (λ n. IsBundleStart (code_region p) n) (sym value') (record { held = (placed.0.from, placed.0.below); aligned = placed.1 });
   data_mask = λ t h.

@@ -1,12 +1,11 @@
 -- A hart at a bundle start is at that bundle's first piece, and the one instruction there is the reading's.
-use Rattle.sfi_safety.proofs.Prelude.{◌≡◌, ℕ, zero, suc, ◌+◌, ◌-◌, ◌*◌, ◌/◌, ◌%◌, ◌<◌, ◌≤◌, List, [], ◌∷◌, ◌++◌, length, map, get_or, take, drop, Some, true, refl, sym, ap, ◌∙◌, subst, inl, inr, ⊎_elim, arith, get_or-drop, get_or-take, add-zero, slice_index, range_with_len, cases_lt, Spells, Bytes, byte_at, bytes_at, address_after, addresses, Hart, Stands, Part, code_region, IsBundleStart, BundlePlace, Finding, place_of, bundle_bytes, Piece, IsReading, rest_of, is_empty, findings_from, rest_finding, AreReadingFindings, AreBundleFindings, AreFindingsOfFirst, StackInData, HasCode, IsCleanPart, IsAtPlace}
+use Rattle.sfi_safety.proofs.Prelude.{◌≡◌, ℕ, zero, suc, ◌+◌, ◌-◌, ◌*◌, ◌/◌, ◌%◌, ◌<◌, ◌≤◌, List, [], ◌∷◌, ◌++◌, length, get_or, take, drop, Some, true, refl, sym, ap, ◌∙◌, subst, inl, inr, ⊎_elim, arith, get_or-drop, get_or-take, add-zero, slice_index, cases_lt, Spells, Bytes, byte_at, bytes_at, address_after, addresses, Hart, Stands, Part, code_region, IsBundleStart, BundlePlace, Finding, place_of, bundle_bytes, Piece, IsReading, rest_of, is_empty, findings_from, rest_finding, AreReadingFindings, AreBundleFindings, AreFindingsOfFirst, StackInData, HasCode, AreCleanBundles, IsAtPlace}
 use Rattle.rv_comp.proofs.Facts.{spelled_length, spelled_some}
 use Rattle.std.proofs.Common.{length-take, length-drop}
-use Rattle.sfi_safety.specs.Regions.{InCode}
+use Rattle.sfi_runs.specs.Regions.{InCode}
 use Rattle.sfi_safety.proofs.PairResult.{leaves_nothing}
+use Rattle.sfi_runs.proofs.Stepping.{read_all}
 use Rattle.sfi_image.proofs.Facts.{whole_bundles, code_ends}
-
--- ---- spellings
 
 -- ---- a bundle without a finding
 
@@ -67,7 +66,7 @@ at_first sandbox p h b within pc size stack (here ∷ later) is whole clean = re
 }
 
 -- at a bundle start
-pub at_start : (sandbox : ℕ) (p : Part) (h : Hart) → IsCleanPart sandbox p → IsBundleStart (code_region p) h.pc → StackInData p h.registers → IsAtPlace sandbox p h
+pub at_start : (sandbox : ℕ) (p : Part) (h : Hart) → AreCleanBundles sandbox p → IsBundleStart (code_region p) h.pc → StackInData p h.registers → IsAtPlace sandbox p h
 at_start sandbox p h clean start stack =
     let bundles = whole_bundles p.format p.code_base (length p.code) clean.right.code_base clean.right.code_placed in
     let base_is : p.code_base ≡ 16 * bundles.1 = bundles.3 in
@@ -86,15 +85,7 @@ at_start sandbox p h clean start stack =
 
 -- ---- the one instruction there
 
--- bytes that stand one after another are read as a list
-pub read_all : (m : Bytes) (f : ℕ → ℕ) (a : ℕ) (bytes : List ℕ) → ((k : ℕ) → k < length bytes → byte_at m (f (a + k)) ≡ Some (slice_index bytes k)) → bytes_at m (map f (range_with_len a (length bytes))) ≡ Some bytes
-read_all m f a [] each = refl
-read_all m f a (b ∷ bytes) each =
-    let first : byte_at m (f a) ≡ Some b = ap (λ (n : ℕ). byte_at m (f n)) (sym (add-zero a)) ∙ each 0 (omega arith) in
-    let others = read_all m f (a + 1) bytes (λ k h. let e : a + 1 + k ≡ a + suc k = omega arith in ap (λ (n : ℕ). byte_at m (f n)) e ∙ each (suc k) (omega arith)) in
-    rw (first, others) refl
-
-module _ (sandbox : ℕ) (p : Part) (h : Hart) (clean : IsCleanPart sandbox p) (at : IsAtPlace sandbox p h) where
+module _ (sandbox : ℕ) (p : Part) (h : Hart) (clean : AreCleanBundles sandbox p) (at : IsAtPlace sandbox p h) where
   bytes_here : List ℕ
   bytes_here = take at.here.size (drop at.offset (bundle_bytes p at.number))
 

@@ -19,9 +19,9 @@ pub use Rattle.rv_step.specs.State.{Hart, with_register, State, register, with_p
 pub use Rattle.rv_step.specs.Step.{Stands, effect, after_load, next, unchanged, Stepped, IsStep}
 pub use Rattle.rv_step.specs.Values.{word, load_size, store_size, extended, is_taken, result_of}
 pub use Rattle.rv_step.specs.declared.outcome.Outcome.TheVariants.{Next, Call, Trap}
-pub use Rattle.sfi_policy.specs.Formats.{code_most, has_stack, is_stack}
+pub use Rattle.sfi_policy.specs.Formats.{code_most, has_stack, has_words, is_stack}
 pub use Rattle.sfi_policy.specs.declared.format.Format.{Format}
-pub use Rattle.sfi_policy.specs.declared.format.Format.TheVariants.{Sfi1, Sfi2}
+pub use Rattle.sfi_policy.specs.declared.format.Format.TheVariants.{Sfi1, Sfi2, Sfiw}
 pub use Rattle.sfi_image.specs.Gates.{is_gate_of, AreGates}
 pub use Rattle.sfi_image.specs.Parts.{IsRightPart, AreRight, IsRightLayout, AreOf}
 pub use Rattle.sfi_image.specs.Regions.{IsBundleStart, IsRegion}
@@ -29,16 +29,19 @@ pub use Rattle.sfi_image.specs.Spans.{code_region, AreApart, guarded_region, Hol
 pub use Rattle.sfi_image.specs.Spelling.{Part, AreGateWords}
 pub use Rattle.sfi_image.specs.declared.part.Gate.{Gate}
 pub use Rattle.sfi_rules.specs.Bundles.{place_of, bundle_bytes}
-pub use Rattle.sfi_rules.specs.Findings.{AreBundleFindings, AreReadingFindings, AreFindings, AreFindingsFrom, all_rules, lowest, findings_from, rest_finding, AreFindingsOfFirst}
+pub use Rattle.sfi_rules.specs.Findings.{AreBundleFindings, AreReadingFindings, AreFindings, AreFindingsInBundles, AreFindingsFrom, all_rules, lowest, findings_from, rest_finding, AreFindingsOfFirst}
 pub use Rattle.sfi_rules.specs.Readings.{Piece, rest_of, IsReading, IsLongestReading}
 pub use Rattle.sfi_rules.specs.Rules.{Place, is_empty, is_bundle_start, breaks_ecall, breaks_reserved, breaks_access, breaks_jump, breaks_target, breaks_stack, may_access, ends_region, breaks, breaks_end, may_write_stack}
 pub use Rattle.sfi_rules.specs.declared.bundle.BundlePlace.{BundlePlace}
 pub use Rattle.sfi_rules.specs.declared.finding.Finding.{Finding}
-pub use Rattle.sfi_safety.specs.Laws.{CleanCallsWithStack, GoesOnSafely, CanBeEntered, InstructionLeaves, TurnKeeps, EntryIsGood, CleanRunsSafely, SafeTurns, SafeStaysSafe, SafeFetches}
+pub use Rattle.sfi_safety.specs.Laws.{CleanCallsTyped, InstructionLeaves, TurnKeeps, EntryIsGood, CleanRunsSafely}
 pub use Rattle.sfi_safety.specs.Leaving.{Leaves, WritesResult, follows_mask}
 pub use Rattle.sfi_safety.specs.Needed.{BreaksAlone, IsNeeded, EachRuleIsNeeded, HasOneFinding, HasUnsafeRun, StoresByte, IsAcceptedAndRuns, IsStricter, BreaksNoOther}
-pub use Rattle.sfi_safety.specs.Places.{IsCleanPart, IsGood, IsGoodIf, StackInDataBefore, IsAtPlace}
-pub use Rattle.sfi_safety.specs.Regions.{InData, InGuard, HasReserved, StackInData, IsGate, HasCode, HasEmptyGuards}
-pub use Rattle.sfi_safety.specs.Runs.{Turn, IsRun, after_turn, IsEntry, Steps, Replies, IsReply, IsTurn, after_step, KeepsBytes, Changes, IsChange}
-pub use Rattle.sfi_safety.specs.Safety.{AllRunSafely, IsSafeRun, RunsSafelyFrom, RunsSafely, IsSafeStep, IsTrap, IsSafeState, IsSafeTurn}
+pub use Rattle.sfi_safety.specs.Places.{IsCleanPart, AreCleanBundles, IsGood, IsGoodIf, StackInDataBefore, IsAtPlace}
+pub use Rattle.sfi_runs.specs.Regions.{InData, InGuard, HasReserved, IsGate, HasCode, HasEmptyGuards}
+pub use Rattle.sfi_runs.specs.Typed.{StackInData}
+pub use Rattle.sfi_runs.specs.Runs.{Turn, IsRun, after_turn, IsEntry, Steps, Replies, IsReply, IsTurn, after_step, KeepsBytes, Changes, IsChange}
+pub use Rattle.sfi_runs.specs.Safety.{AllRunSafely, IsSafeRun, RunsSafelyFrom, RunsSafely, IsSafeStep, IsTrap, IsSafeState, IsSafeTurn}
 pub use Rattle.sfi_safety.specs.Clean.{IsClean, IsAccepted, MayRun}
+pub use Rattle.sfi_runs.specs.Typed.{IsTyped}
+pub use Rattle.sfi_runs.specs.Regions.{IsUnitStart}

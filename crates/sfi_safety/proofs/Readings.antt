@@ -1,5 +1,5 @@
 -- What the samples' bundles are read as, and the findings of a sample.
-use Rattle.sfi_safety.proofs.Prelude.{Format, Sfi1, Sfi2, Gate, is_gate_of, ◌≡◌, ℕ, suc, ◌+◌, ◌-◌, ◌*◌, ◌≤◌, List, [], ◌∷◌, ◌++◌, length, take, drop, true, false, refl, sym, ap, ◌∙◌, subst, inr, arith, get_or-take, false≢true, append-nil, Instr, Ebreak, spelling, InRange, Spells, BundlePlace, Finding, place_of, bundle_bytes, Piece, IsReading, IsLongestReading, rest_of, is_empty, findings_from, rest_finding, AreBundleFindings, AreFindingsOfFirst, AreFindings, Op, Store, pos, nat_lt, ◌&&◌, and_parts, ltb-true, ints, Ecall, Jalr}
+use Rattle.sfi_safety.proofs.Prelude.{Format, Sfi1, Sfi2, Sfiw, Gate, is_gate_of, ◌≡◌, ℕ, suc, ◌+◌, ◌-◌, ◌*◌, ◌≤◌, List, [], ◌∷◌, ◌++◌, length, take, drop, true, false, refl, sym, ap, ◌∙◌, subst, inr, arith, get_or-take, false≢true, append-nil, Instr, Ebreak, spelling, InRange, Spells, BundlePlace, Finding, place_of, bundle_bytes, Piece, IsReading, IsLongestReading, rest_of, is_empty, findings_from, rest_finding, AreBundleFindings, AreFindingsOfFirst, AreFindingsInBundles, Op, Store, pos, nat_lt, ◌&&◌, and_parts, ltb-true, ints, Ecall, Jalr}
 use Rattle.rv_word.specs.declared.instr.RegOp.{RegOp}
 use Rattle.rv_word.specs.declared.instr.StoreWidth.{StoreWidth}
 use Rattle.sfi_safety.specs.Samples.{Sample, sandbox, words_of, bytes_of, code_as}
@@ -105,29 +105,30 @@ module _ (format : Format) (gates : List Gate) (a b c d e f g h i j k l : ℕ) (
   abbrev IsQuiet : ℕ → Format → Type 0
   IsQuiet n x = findings_from (place_of 0 (sandbox (record s { format = x })) n) true (0x01000000 + 16 * n) [] (four Ebreak Ebreak Ebreak Ebreak) ≡ []
 
-  in_each : (n : ℕ) (x : Format) → IsQuiet n Sfi1 → IsQuiet n Sfi2 → IsQuiet n x
-  in_each n Sfi1 one two = one
-  in_each n Sfi2 one two = two
+  in_each : (n : ℕ) (x : Format) → IsQuiet n Sfi1 → IsQuiet n Sfi2 → IsQuiet n Sfiw → IsQuiet n x
+  in_each n Sfi1 one two three = one
+  in_each n Sfi2 one two three = two
+  in_each n Sfiw one two three = three
 
-  pub quiet : (n : ℕ) → bytes_of (words_of (Ebreak ∷ Ebreak ∷ Ebreak ∷ Ebreak ∷ [])) ≡ bundle_bytes (sandbox s) (suc n) → IsQuiet (suc n) Sfi1 → IsQuiet (suc n) Sfi2
+  pub quiet : (n : ℕ) → bytes_of (words_of (Ebreak ∷ Ebreak ∷ Ebreak ∷ Ebreak ∷ [])) ≡ bundle_bytes (sandbox s) (suc n) → IsQuiet (suc n) Sfi1 → IsQuiet (suc n) Sfi2 → IsQuiet (suc n) Sfiw
       → AreBundleFindings (place_of 0 (sandbox s) (suc n)) (bundle_bytes (sandbox s) (suc n)) []
-  quiet n bytes one two =
-      four_words (place_of 0 (sandbox s) (suc n)) (bundle_bytes (sandbox s) (suc n)) Ebreak Ebreak Ebreak Ebreak [] (unlisted n) bytes ebreak_spelled ebreak_spelled ebreak_spelled ebreak_spelled (in_each (suc n) format one two)
+  quiet n bytes one two three =
+      four_words (place_of 0 (sandbox s) (suc n)) (bundle_bytes (sandbox s) (suc n)) Ebreak Ebreak Ebreak Ebreak [] (unlisted n) bytes ebreak_spelled ebreak_spelled ebreak_spelled ebreak_spelled (in_each (suc n) format one two three)
 
   -- one bundle of ebreaks more
-  more : (n : ℕ) (found : List Finding) → bytes_of (words_of (Ebreak ∷ Ebreak ∷ Ebreak ∷ Ebreak ∷ [])) ≡ bundle_bytes (sandbox s) (suc n) → IsQuiet (suc n) Sfi1 → IsQuiet (suc n) Sfi2
+  more : (n : ℕ) (found : List Finding) → bytes_of (words_of (Ebreak ∷ Ebreak ∷ Ebreak ∷ Ebreak ∷ [])) ≡ bundle_bytes (sandbox s) (suc n) → IsQuiet (suc n) Sfi1 → IsQuiet (suc n) Sfi2 → IsQuiet (suc n) Sfiw
       → AreFindingsOfFirst 0 (sandbox s) (suc n) found → AreFindingsOfFirst 0 (sandbox s) (suc (suc n)) found
-  more n found bytes one two before = (found, [], before, quiet n bytes one two, sym (append-nil found))
+  more n found bytes one two three before = (found, [], before, quiet n bytes one two three, sym (append-nil found))
 
   -- the findings of a sample are those of its first two bundles and of its last one
   pub all_findings : (x y z : List Finding) → AreBundleFindings (place_of 0 (sandbox s) 0) (bundle_bytes (sandbox s) 0) x → AreBundleFindings (place_of 0 (sandbox s) 1) (bundle_bytes (sandbox s) 1) y
-      → AreBundleFindings (place_of 0 (sandbox s) 15) (bundle_bytes (sandbox s) 15) z → AreFindings 0 (sandbox s) ((x ++ y) ++ z)
+      → AreBundleFindings (place_of 0 (sandbox s) 15) (bundle_bytes (sandbox s) 15) z → AreFindingsInBundles 0 (sandbox s) ((x ++ y) ++ z)
   all_findings x y z first second last =
       let at2 : AreFindingsOfFirst 0 (sandbox s) 2 (x ++ y) = (x, y, ([], x, refl, first, refl), second, refl) in
-      let at4 = more 2 (x ++ y) refl refl refl (more 1 (x ++ y) refl refl refl at2) in
-      let at8 = more 6 (x ++ y) refl refl refl (more 5 (x ++ y) refl refl refl (more 4 (x ++ y) refl refl refl (more 3 (x ++ y) refl refl refl at4))) in
-      let at12 = more 10 (x ++ y) refl refl refl (more 9 (x ++ y) refl refl refl (more 8 (x ++ y) refl refl refl (more 7 (x ++ y) refl refl refl at8))) in
-      let at15 = more 13 (x ++ y) refl refl refl (more 12 (x ++ y) refl refl refl (more 11 (x ++ y) refl refl refl at12)) in
+      let at4 = more 2 (x ++ y) refl refl refl refl (more 1 (x ++ y) refl refl refl refl at2) in
+      let at8 = more 6 (x ++ y) refl refl refl refl (more 5 (x ++ y) refl refl refl refl (more 4 (x ++ y) refl refl refl refl (more 3 (x ++ y) refl refl refl refl at4))) in
+      let at12 = more 10 (x ++ y) refl refl refl refl (more 9 (x ++ y) refl refl refl refl (more 8 (x ++ y) refl refl refl refl (more 7 (x ++ y) refl refl refl refl at8))) in
+      let at15 = more 13 (x ++ y) refl refl refl refl (more 12 (x ++ y) refl refl refl refl (more 11 (x ++ y) refl refl refl refl at12)) in
       (16, refl, (x ++ y, z, at15, last, refl))
 
 pub none_listed : (n : ℕ) → is_gate_of [] (0x01000000 + 16 * suc n) ≡ false
@@ -139,11 +140,11 @@ module _ (format : Format) (a b c d e f g h : Instr) where
   is = code_as format (a ∷ b ∷ c ∷ d ∷ e ∷ f ∷ g ∷ h ∷ [])
 
   pub code_findings : (x y : List Finding) → IsSpelled a → IsSpelled b → IsSpelled c → IsSpelled d → IsSpelled e → IsSpelled f → IsSpelled g → IsSpelled h
-      → findings_from (place_of 0 (sandbox is) 0) true 0x01000000 [] (four a b c d) ≡ x → findings_from (place_of 0 (sandbox is) 1) true 0x01000010 [] (four e f g h) ≡ y → AreFindings 0 (sandbox is) (x ++ y)
+      → findings_from (place_of 0 (sandbox is) 0) true 0x01000000 [] (four a b c d) ≡ x → findings_from (place_of 0 (sandbox is) 1) true 0x01000010 [] (four e f g h) ≡ y → AreFindingsInBundles 0 (sandbox is) (x ++ y)
   code_findings x y sa sb sc sd se sf sg sh first second =
       let last = spelling Ebreak in
-      subst (AreFindings 0 (sandbox is)) (append-nil (x ++ y))
+      subst (AreFindingsInBundles 0 (sandbox is)) (append-nil (x ++ y))
       (all_findings format [] (spelling a) (spelling b) (spelling c) (spelling d) (spelling e) (spelling f) (spelling g) (spelling h) last last last last none_listed x y []
       (four_words (place_of 0 (sandbox is) 0) (bundle_bytes (sandbox is) 0) a b c d x refl refl sa sb sc sd first)
       (four_words (place_of 0 (sandbox is) 1) (bundle_bytes (sandbox is) 1) e f g h y refl refl se sf sg sh second)
-      (quiet format [] (spelling a) (spelling b) (spelling c) (spelling d) (spelling e) (spelling f) (spelling g) (spelling h) last last last last none_listed 14 refl refl refl))
+      (quiet format [] (spelling a) (spelling b) (spelling c) (spelling d) (spelling e) (spelling f) (spelling g) (spelling h) last last last last none_listed 14 refl refl refl refl))

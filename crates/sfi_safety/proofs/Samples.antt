@@ -1,19 +1,22 @@
 -- The samples: their layout, their image, where they are entered, and their steps.
-use Rattle.sfi_safety.proofs.Prelude.{◌≡◌, ℕ, zero, suc, ◌+◌, ◌-◌, ◌*◌, ◌%◌, ◌^◌, ◌<◌, ◌≤◌, ◌⊎◌, List, [], ◌∷◌, ◌++◌, length, replicate, take, drop, Option, Some, inl, inr, refl, sym, ap, subst, ◌∙◌, arith, get_or, get_or-drop, get_or-take, slice_index, true, nat_lt, All, list_all, and_parts, ltb-true, Instr, Ebreak, Spells, Format, Sfi1, Sfi2, code_most, Bytes, byte_at, bytes_at, addresses, address_after, Accesses, Hart, IsHart, State, Stepped, Stands, IsStep, effect, next, unchanged, Call, AreGates, Part, AreGateWords, AreApart, code_region, guarded_region, IsBundleStart, IsRightPart, IsRightLayout, AreOf, Finding, AreFindings, InData, InGuard, IsGate, HasReserved, HasCode, Turn, Steps, IsEntry, IsRun, IsTurn, after_turn, after_step, IsSafeRun, HasOneFinding, HasUnsafeRun, IsNeeded, BreaksNoOther}
+use Rattle.sfi_safety.proofs.Prelude.{◌≡◌, ℕ, zero, suc, ◌+◌, ◌-◌, ◌*◌, ◌%◌, ◌^◌, ◌<◌, ◌≤◌, ◌⊎◌, List, [], ◌∷◌, ◌++◌, length, replicate, take, drop, Option, Some, inl, inr, refl, sym, ap, subst, ◌∙◌, arith, get_or, get_or-drop, get_or-take, slice_index, true, false, nat_lt, All, list_all, and_parts, ltb-true, Instr, Ebreak, Spells, Format, Sfi1, Sfi2, Sfiw, has_words, code_most, Bytes, byte_at, bytes_at, addresses, address_after, Accesses, Hart, IsHart, State, Stepped, Stands, IsStep, effect, next, unchanged, Call, AreGates, Part, AreGateWords, AreApart, code_region, guarded_region, IsBundleStart, IsRightPart, IsRightLayout, AreOf, Finding, AreFindings, InData, InGuard, IsGate, HasReserved, HasCode, Turn, Steps, IsEntry, IsRun, IsTurn, after_turn, after_step, IsSafeRun, HasOneFinding, HasUnsafeRun, IsNeeded, BreaksNoOther}
 use Rattle.rv_comp.specs.declared.front.Front.TheVariants.{Read}
 use Rattle.sfi_safety.specs.Samples.{Sample, sandbox, bytes_of, words_of}
 use Rattle.sfi_image.specs.declared.span.Span.{Span}
 use Rattle.sfi_policy.specs.Limits.{gates_most}
 use Rattle.sfi_rules.specs.declared.rule.Rule.{Rule}
 use Rattle.std.proofs.Common.{length-append, length-take, length-drop}
-use Rattle.sfi_safety.specs.Regions.{InCode}
-use Rattle.sfi_safety.proofs.Places.{read_all}
-use Rattle.sfi_safety.proofs.Entering.{entered_at}
+use Rattle.sfi_runs.specs.Regions.{InCode}
+use Rattle.sfi_policy.specs.Formats.{unit}
+use Rattle.sfi_runs.proofs.Facts.{can_be_entered}
+use Rattle.sfi_runs.proofs.Formats.{bundles as bundle_unit, of_bundle, of_stack}
+use Rattle.sfi_runs.proofs.Stepping.{read_all}
 
 -- ---- the samples' layout
 
 -- what is asked of a sample
 pub record IsSample (s : Sample) : Type 0 where
+  pub bundles : has_words s.format ≡ false
   pub first_words : length s.first_words ≡ 8
   pub last_words : length s.last_words ≡ 4
   pub words : All AreGateWords s.gates
@@ -21,10 +24,11 @@ pub record IsSample (s : Sample) : Type 0 where
   pub gates : AreGates (record { base = 0x01000000; size = 256 }) s.gates
 
 -- a sample without gates
-pub without_gates : (s : Sample) → s.gates ≡ [] → length s.first_words ≡ 8 → length s.last_words ≡ 4 → IsSample s
-without_gates s none first last =
+pub without_gates : (s : Sample) → has_words s.format ≡ false → s.gates ≡ [] → length s.first_words ≡ 8 → length s.last_words ≡ 4 → IsSample s
+without_gates s bundles none first last =
     let empty : length s.gates ≡ 0 = ap length none in
     record {
+      bundles = bundles;
       first_words = first;
       last_words = last;
       words = λ k d below. absurd (omega (arith, empty, below));
@@ -61,6 +65,7 @@ bytes_small (w ∷ words) (suc (suc (suc (suc k)))) = bytes_small words k
 code_at_least : (f : Format) → 256 ≤ code_most f
 code_at_least Sfi1 = omega arith
 code_at_least Sfi2 = omega arith
+code_at_least Sfiw = omega arith
 
 module _ (s : Sample) (is : IsSample s) where
   pub right_part : IsRightPart (sandbox s)
@@ -149,9 +154,9 @@ enters s is n few =
     let size = size s is in
     let at = 0x01000000 + 16 * n in
     let start : IsBundleStart (code_region (sandbox s)) at = record { held = (omega arith, omega (arith, size)); aligned = omega arith } in
-    let reserved : HasReserved (sandbox s) (hart at 0x01800000 0).registers = record { code_base = refl; code_mask = sym (ap (λ (n : ℕ). n - 16) size); data_base = refl; data_mask = refl } in
-    let end : 0x01000000 + length (sandbox s).code ≤ 2 ^ 32 = omega (arith, size) in
-    entered_at (sandbox s) end (hart at 0x01800000 0) (right_part s is) (apart s is) (bytes_small (s.first_words ++ (words_of (replicate 52 Ebreak) ++ s.last_words))) (is_hart at (omega arith) (omega arith)) start reserved (λ has. (omega arith, omega arith))
+    let mask : length (sandbox s).code - unit s.format ≡ 240 = ap (λ (u : ℕ). length (sandbox s).code - u) (bundle_unit s.format is.bundles) ∙ ap (λ (n : ℕ). n - 16) size in
+    let reserved : HasReserved (sandbox s) (hart at 0x01800000 0).registers = record { code_base = refl; code_mask = sym mask; data_base = refl; data_mask = refl } in
+    can_be_entered (sandbox s) (hart at 0x01800000 0) (right_part s is) (apart s is) (bytes_small (s.first_words ++ (words_of (replicate 52 Ebreak) ++ s.last_words))) (is_hart at (omega arith) (omega arith)) (of_bundle (sandbox s) at is.bundles start) reserved (of_stack (sandbox s) (hart at 0x01800000 0).registers is.bundles (λ has. (omega arith, omega arith)))
 
 -- ---- what stands there
 

@@ -1,23 +1,17 @@
 -- One step from a good state is safe, and leads to a good state.
-use Rattle.sfi_safety.proofs.Prelude.{◌≡◌, ℕ, suc, ◌+◌, ◌*◌, ◌%◌, ◌^◌, ◌<◌, ◌≤◌, ◌⊎◌, List, [], ◌∷◌, length, Option, Some, None, true, ◌&&◌, ◌==◌, refl, sym, ap, ◌∙◌, subst, inl, inr, ⊎_elim, arith, add-zero, slice_get, nat_lt, nat_le, IsSome, and_parts, or_cases, eqb-true, leb-true, ltb-true, false≢true, Instr, byte_at, Next, Call, Trap, Accesses, State, Stepped, Stands, IsStep, effect, Gate, Part, Holds, code_region, guarded_region, IsBundleStart, IsRightPart, is_gate_of, place_of, is_empty, is_bundle_start, InData, InGuard, IsGate, HasCode, HasEmptyGuards, after_step, IsSafeStep, IsTrap, IsCleanPart, IsGood, IsGoodIf}
+use Rattle.sfi_safety.proofs.Prelude.{◌≡◌, ℕ, ◌+◌, ◌*◌, ◌%◌, ◌^◌, ◌<◌, ◌≤◌, ◌⊎◌, List, [], ◌∷◌, length, true, ◌&&◌, ◌==◌, refl, sym, ap, ◌∙◌, subst, arith, add-zero, nat_lt, nat_le, and_parts, eqb-true, leb-true, ltb-true, false≢true, Instr, Next, Call, Trap, Accesses, State, Stepped, Stands, IsStep, effect, Part, code_region, IsBundleStart, place_of, is_empty, is_bundle_start, InData, InGuard, IsGate, after_step, IsSafeStep, AreCleanBundles, IsGood, IsGoodIf}
 use Rattle.rv_step.specs.declared.outcome.Outcome.{Outcome}
 use Rattle.sfi_safety.proofs.Places.{pc_in_code, present}
 use Rattle.sfi_safety.proofs.NextPlace.{place_here, rules_kept, goes_on}
-use Rattle.sfi_safety.proofs.Effects.{Here, Leads, accesses_near, no_call, leads}
+use Rattle.sfi_safety.proofs.Effects.{Here, Leads, accesses_near, leads}
 use Rattle.sfi_safety.proofs.Places.{at_start}
 use Rattle.rv_comp.proofs.Facts.{spelled_in_range}
-use Rattle.rv_step.proofs.Facts.{one_instruction, step_is_effect, stopped_stays, other_bytes_stay, accessed_is_there}
+use Rattle.rv_step.proofs.Facts.{one_instruction, stopped_stays}
+use Rattle.sfi_runs.proofs.Stepping.{gate_of}
+use Rattle.sfi_runs.proofs.Stepping as steps
 use Rattle.sfi_image.proofs.Facts.{code_ends}
 
 -- ---- regions
-
-gate_of : (gates : List Gate) (a : ℕ) → is_gate_of gates a ≡ true → (k : ℕ) × (g : Gate) × (slice_get gates k ≡ Some g) × (g.address ≡ a)
-gate_of [] a h = absurd (false≢true h)
-gate_of (g ∷ gates) a h =
-    ⊎_elim
-    (λ (e : (g.address == a) ≡ true). (0, g, refl, eqb-true g.address a e))
-    (λ (e : is_gate_of gates a ≡ true). let x = gate_of gates a e in (suc x.0, x.1, x.2, x.3))
-    (or_cases (g.address == a) (is_gate_of gates a) h)
 
 bundle_start : (sandbox : ℕ) (p : Part) (n a : ℕ) → is_bundle_start (place_of sandbox p n) a ≡ true → IsBundleStart (code_region p) a
 bundle_start sandbox p n a h =
@@ -29,18 +23,9 @@ no_earlier : {A : Type 0} (xs : List A) → is_empty xs ≡ true → xs ≡ []
 no_earlier [] h = refl
 no_earlier (x ∷ xs) h = absurd (false≢true h)
 
-guarded : (p : Part) (a : ℕ) → IsRightPart p → InData p a ⊎ InGuard p a → Holds (guarded_region p) a
-guarded p a right (inl (from, below)) = let room : 4096 ≤ p.data_base = right.guard_room.below in (omega arith, omega arith)
-guarded p a right (inr (inl (from, below))) = let room : 4096 ≤ p.data_base = right.guard_room.below in (omega arith, omega arith)
-guarded p a right (inr (inr (from, below))) = let room : 4096 ≤ p.data_base = right.guard_room.below in (omega arith, omega arith)
-
-none_there : (o : Option ℕ) → IsSome o → o ≡ None → ⊥
-none_there None some e = cc
-none_there (Some b) some e = cc
-
 -- ---- the step
 
-module _ (sandbox : ℕ) (p : Part) (s : State) (clean : IsCleanPart sandbox p) (good : IsGood sandbox p s) where
+module _ (sandbox : ℕ) (p : Part) (s : State) (clean : AreCleanBundles sandbox p) (good : IsGood sandbox p s) where
   pub stands_here : Stands s good.place.here.instr good.place.here.size
   stands_here = present sandbox p s.hart clean good.place s.memory good.kept.code
 
@@ -83,32 +68,16 @@ module _ (sandbox : ℕ) (p : Part) (s : State) (clean : IsCleanPart sandbox p) 
   module _ (r : Stepped) (step : IsStep s r) where
     -- a step has the effect of the instruction that the reading has there
     step_is : r ≡ effect good.place.here.instr good.place.here.size s.hart s.memory
-    step_is = step_is_effect s good.place.here.instr good.place.here.size r stands_here step
+    step_is = steps.step_is p clean.right clean.apart s good.kept good.place.here.instr good.place.here.size stands_here near_here r step
 
     step_leads : Leads sandbox p s.hart r.outcome r.state.hart
     step_leads =
         subst (λ (x : Stepped). Leads sandbox p s.hart x.outcome x.state.hart) (sym step_is)
-        (leads sandbox p s.hart s.memory clean.right good.kept.count good.kept.reserved good.place.here.instr good.place.here.size here)
-
-    -- what a step that is done found is in no guard
-    not_in_guard : r.outcome ≡ Next → (a : ℕ) → Accesses good.place.here.instr s.hart a → InGuard p a → ⊥
-    not_in_guard done a has guard =
-        none_there (byte_at s.memory a) (accessed_is_there s good.place.here.instr good.place.here.size r a stands_here step done has) (good.kept.guards a guard)
-
-    code_stays : HasCode p r.state.memory
-    code_stays k below =
-        other_bytes_stay s good.place.here.instr good.place.here.size r (p.code_base + k) stands_here step
-        (λ has. clean.apart (p.code_base + k) (omega arith, omega (arith, below)) (guarded p (p.code_base + k) clean.right (near_here (p.code_base + k) has)))
-        ∙ good.kept.code k below
-
-    guards_stay : r.outcome ≡ Next → HasEmptyGuards p r.state.memory
-    guards_stay done a guard =
-        other_bytes_stay s good.place.here.instr good.place.here.size r a stands_here step (λ has. not_in_guard done a has guard)
-        ∙ good.kept.guards a guard
+        (leads sandbox p s.hart s.memory clean.right clean.bundles good.kept.count good.kept.reserved good.place.here.instr good.place.here.size here)
 
     by_outcome : (o : Outcome) → r.outcome ≡ o → Leads sandbox p s.hart o r.state.hart → IsGoodIf sandbox p (after_step o r.state)
     by_outcome Next e led = record {
-      kept = record { count = led.count; reserved = led.reserved; code = code_stays; guards = guards_stay e };
+      kept = record { count = led.count; reserved = led.reserved; code = steps.code_stays p clean.right clean.apart s good.kept good.place.here.instr good.place.here.size stands_here near_here r step; guards = steps.guards_stay p clean.right clean.apart s good.kept good.place.here.instr good.place.here.size stands_here near_here r step e };
       place = led.place;
     }
     by_outcome Call e led = subst (λ (x : State). IsGood sandbox p x) (sym (stopped_stays s r step (λ done. let clash : Next ≡ Call = sym done ∙ e in cc))) good
@@ -117,14 +86,7 @@ module _ (sandbox : ℕ) (p : Part) (s : State) (clean : IsCleanPart sandbox p) 
     pub step_good : IsGoodIf sandbox p (after_step r.outcome r.state)
     step_good = by_outcome r.outcome refl step_leads
 
-    traps : (a : ℕ) → Accesses good.place.here.instr s.hart a → InGuard p a → (o : Outcome) → r.outcome ≡ o → IsTrap o
-    traps a has guard Next e = absurd (not_in_guard e a has guard)
-    traps a has guard Call e = absurd (no_call good.place.here.instr good.place.here.size s.hart s.memory a has (ap (λ (x : Stepped). x.outcome) (sym step_is) ∙ e))
-    traps a has guard (Trap cause at) e = tt
-
     pub step_safe : IsSafeStep p s r
-    step_safe = record {
-      within = λ i n stands a has. near_here a (subst (λ (j : Instr). Accesses j s.hart a) (only i n stands).0 has);
-      trapped = λ i n stands a has guard. traps a (subst (λ (j : Instr). Accesses j s.hart a) (only i n stands).0 has) guard r.outcome refl;
-      called = λ e. subst (λ (o : Outcome). Leads sandbox p s.hart o r.state.hart) e step_leads;
-    }
+    step_safe =
+        steps.step_safe p clean.right clean.apart s good.kept good.place.here.instr good.place.here.size stands_here near_here r step
+        (λ e. subst (λ (o : Outcome). Leads sandbox p s.hart o r.state.hart) e step_leads)

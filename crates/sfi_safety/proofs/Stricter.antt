@@ -8,6 +8,7 @@ use Rattle.sfi_safety.proofs.Samples.{IsSample, without_gates, size, refused, st
 use Rattle.sfi_safety.proofs.Undecodable.{ones_begin_nothing}
 use Rattle.sfi_safety.proofs.NeededBundles.{nop_spelled, short_nop, half_begins_nothing}
 use Rattle.rv_step.proofs.Facts.{one_instruction, step_is_effect}
+use Rattle.sfi_runs.proofs.Formats.{to_bundle}
 
 -- an ebreak stands at that offset of the code
 abbrev StopsAt : Sample → ℕ → Type 0
@@ -77,7 +78,7 @@ module _ (s : Sample) (is : IsSample s) (stops : (n : ℕ) → n < 16 → StopsA
       let size = size s is in
       let from = entry.start.held.0 in
       let below = entry.start.held.1 in
-      let aligned = entry.start.aligned in
+      let aligned = (to_bundle (sandbox s) t.hart.pc is.bundles entry.start).aligned in
       record {
         code = entry.code;
         number = (t.hart.pc - 0x01000000) / 16;
@@ -114,22 +115,22 @@ module _ (b c d f g h j k l : ℕ) where
 pub undecodable_stricter : IsStricter V1 0x01000004 (sandbox undecodable_after_ebreak)
 undecodable_stricter =
     let s = undecodable_after_ebreak in
-    let is : IsSample s = without_gates s refl refl refl in
+    let is : IsSample s = without_gates s refl refl refl refl in
     let x : Finding = record { sandbox = 0; address = 0x01000004; rule = V1 } in
     let bytes = bundle_bytes (sandbox s) 0 in
     record {
       refused = refused s is x
           (all_findings Sfi1 [] brk 0xffffffff brk brk brk brk brk brk brk brk brk brk none_listed (x ∷ []) [] []
           (read_bundle (place_of 0 (sandbox s) 0) bytes (wide Ebreak ∷ []) (drop 4 bytes) (x ∷ []) refl (ebreak_spelled, tt) refl (ones_begin_nothing (drop 8 bytes)) refl)
-          (quiet Sfi1 [] brk 0xffffffff brk brk brk brk brk brk brk brk brk brk none_listed 0 refl refl refl)
-          (quiet Sfi1 [] brk 0xffffffff brk brk brk brk brk brk brk brk brk brk none_listed 14 refl refl refl));
+          (quiet Sfi1 [] brk 0xffffffff brk brk brk brk brk brk brk brk brk brk none_listed 0 refl refl refl refl)
+          (quiet Sfi1 [] brk 0xffffffff brk brk brk brk brk brk brk brk brk brk none_listed 14 refl refl refl refl));
       safe = stopping_is_safe s is (stops 0xffffffff brk brk brk brk brk brk brk brk);
     }
 
 pub crossing_stricter : IsStricter V2 0x0100000e (sandbox crossing_after_ebreak)
 crossing_stricter =
     let s = crossing_after_ebreak in
-    let is : IsSample s = without_gates s refl refl refl in
+    let is : IsSample s = without_gates s refl refl refl refl in
     let x : Finding = record { sandbox = 0; address = 0x0100000e; rule = V2 } in
     let n = spelling nop in
     record {
@@ -137,15 +138,15 @@ crossing_stricter =
           (all_findings Sfi1 [] brk n n 0x20230001 brk brk brk brk brk brk brk brk none_listed (x ∷ []) [] []
           (read_bundle (place_of 0 (sandbox s) 0) (bundle_bytes (sandbox s) 0) (wide Ebreak ∷ wide nop ∷ wide nop ∷ record { instr = nop; size = 2 } ∷ []) (0x23 ∷ 0x20 ∷ []) (x ∷ []) refl
           (ebreak_spelled, (nop_spelled, (nop_spelled, (short_nop, tt)))) refl (half_begins_nothing) refl)
-          (quiet Sfi1 [] brk n n 0x20230001 brk brk brk brk brk brk brk brk none_listed 0 refl refl refl)
-          (quiet Sfi1 [] brk n n 0x20230001 brk brk brk brk brk brk brk brk none_listed 14 refl refl refl));
+          (quiet Sfi1 [] brk n n 0x20230001 brk brk brk brk brk brk brk brk none_listed 0 refl refl refl refl)
+          (quiet Sfi1 [] brk n n 0x20230001 brk brk brk brk brk brk brk brk none_listed 14 refl refl refl refl));
       safe = stopping_is_safe s is (stops n n 0x20230001 brk brk brk brk brk brk);
     }
 
 pub ecall_stricter : IsStricter V3 0x01000004 (sandbox ecall_after_ebreak)
 ecall_stricter =
     let s = ecall_after_ebreak in
-    let is : IsSample s = without_gates s refl refl refl in
+    let is : IsSample s = without_gates s refl refl refl refl in
     let x : Finding = record { sandbox = 0; address = 0x01000004; rule = V3 } in
     record {
       refused = refused s is x
@@ -156,14 +157,14 @@ ecall_stricter =
 pub nops_stricter : IsStricter V8 0x010000fc (sandbox nops_after_ebreak)
 nops_stricter =
     let s = nops_after_ebreak in
-    let is : IsSample s = without_gates s refl refl refl in
+    let is : IsSample s = without_gates s refl refl refl refl in
     let x : Finding = record { sandbox = 0; address = 0x010000fc; rule = V8 } in
     let n = spelling nop in
     record {
       refused = refused s is x
           (all_findings Sfi1 [] brk brk brk brk brk brk brk brk brk n n n none_listed [] [] (x ∷ [])
           (four_words (place_of 0 (sandbox s) 0) (bundle_bytes (sandbox s) 0) Ebreak Ebreak Ebreak Ebreak [] refl refl ebreak_spelled ebreak_spelled ebreak_spelled ebreak_spelled refl)
-          (quiet Sfi1 [] brk brk brk brk brk brk brk brk brk n n n none_listed 0 refl refl refl)
+          (quiet Sfi1 [] brk brk brk brk brk brk brk brk brk n n n none_listed 0 refl refl refl refl)
           (four_words (place_of 0 (sandbox s) 15) (bundle_bytes (sandbox s) 15) Ebreak nop nop nop (x ∷ []) refl refl ebreak_spelled nop_spelled nop_spelled nop_spelled refl));
       safe = stopping_is_safe s is (stops brk brk brk brk brk brk n n n);
     }

@@ -1,30 +1,22 @@
 -- Each turn keeps a good state, and so does each run.
-use Rattle.sfi_safety.proofs.Prelude.{◌≡◌, ℕ, ◌+◌, ◌<◌, List, [], ◌∷◌, length, Option, Some, None, false, refl, sym, ap, ◌∙◌, subst, arith, Instr, Ecall, InRange, Bytes, address_after, Call, State, Stands, IsStep, unchanged, Part, ends_region, IsGate, HasCode, HasReserved, HasEmptyGuards, KeepsBytes, IsReply, IsChange, Turn, Steps, Replies, Changes, IsTurn, IsRun, after_turn, IsSafeState, IsSafeTurn, IsSafeRun, Leaves, StackInDataBefore, IsCleanPart, IsGood, IsGoodIf, EntryIsGood, TurnKeeps, CleanRunsSafely}
-use Rattle.rv_comp.specs.declared.front.Front.TheVariants.{Read}
+use Rattle.sfi_safety.proofs.Prelude.{◌≡◌, ℕ, ◌<◌, List, ◌∷◌, false, refl, sym, ap, ◌∙◌, subst, Instr, Ecall, InRange, address_after, Call, State, Stands, unchanged, Part, ends_region, IsGate, IsReply, IsChange, Turn, Steps, Replies, Changes, IsTurn, after_turn, IsSafeState, IsSafeTurn, RunsSafely, Leaves, StackInDataBefore, IsTyped, AreCleanBundles, IsGood, IsGoodIf, EntryIsGood, TurnKeeps}
+use Rattle.sfi_runs.specs.Calls.{CallsTyped}
+use Rattle.sfi_runs.proofs.Formats.{to_bundle, of_stack}
+use Rattle.sfi_runs.proofs.Turning.{entry_keeps, reply_keeps, change_keeps, call_step, runs_safely, calls_typed}
 use Rattle.sfi_safety.proofs.Places.{at_start, pc_in_code, byte_in_code}
 use Rattle.sfi_safety.proofs.NextPlace.{goes_on}
-use Rattle.sfi_safety.proofs.Stacking.{stack_lies}
+use Rattle.sfi_safety.proofs.Stacking.{is_of_pair, stack_here, stack_lies}
 use Rattle.sfi_safety.proofs.Stepping.{only, stands_here, step_good, step_safe}
 use Rattle.rv_comp.proofs.Facts.{ecall_is_wide}
 use Rattle.sfi_safety.proofs.PairResult.{leaves_after}
 
 -- ---- what is not a step
 
-code_kept : (p : Part) (before after : Bytes) → KeepsBytes p before after → HasCode p before → HasCode p after
-code_kept p before after keeps has k below = keeps.code (p.code_base + k) (omega arith, omega (arith, below)) ∙ has k below
-
-guards_kept : (p : Part) (before after : Bytes) → KeepsBytes p before after → HasEmptyGuards p before → HasEmptyGuards p after
-guards_kept p before after keeps has a guard = keeps.guards a guard (has a guard)
-
 ecall_in_range : InRange Ecall
 unfolding InRange
 ecall_in_range = tt
 
--- a step at an ecall comes to a call
-call_step : (s : State) (n : ℕ) → Stands s Ecall n → IsStep s (unchanged Call s.hart s.memory)
-call_step s n stands = record { front = Read Ecall n; at_pc = stands; result = refl }
-
-module _ (sandbox : ℕ) (p : Part) (clean : IsCleanPart sandbox p) where
+module _ (sandbox : ℕ) (p : Part) (clean : AreCleanBundles sandbox p) where
   module _ (s : State) (good : IsGood sandbox p s) where
     gate_here : (n : ℕ) → Stands s Ecall n → IsGate p s.hart.pc
     gate_here n asked = (step_safe sandbox p s clean good (unchanged Call s.hart s.memory) (call_step s n asked)).called refl
@@ -37,32 +29,17 @@ module _ (sandbox : ℕ) (p : Part) (clean : IsCleanPart sandbox p) where
         let pc : after.hart.pc ≡ address_after s.hart.pc at.here.size = r.pc ∙ ap (λ (n : ℕ). address_after s.hart.pc n) (sym four ∙ e.1) in
         let goes : ends_region at.here.instr ≡ false = ap ends_region (sym e.0) in
         let left : Leaves p (Ecall ∷ at.earlier) after.hart.registers =
-        leaves_after p s.hart after.hart Ecall at.earlier clean.right good.kept.count good.kept.reserved ecall_in_range tt at.leaves in
+        leaves_after p s.hart after.hart Ecall at.earlier clean.right clean.bundles good.kept.count good.kept.reserved ecall_in_range tt at.leaves in
         record {
-          kept = record {
-            count = r.state.hart.count;
-            reserved = record {
-              code_base = r.reserved.code_base ∙ good.kept.reserved.code_base;
-              code_mask = r.reserved.code_mask ∙ good.kept.reserved.code_mask;
-              data_base = r.reserved.data_base ∙ good.kept.reserved.data_base;
-              data_mask = r.reserved.data_mask ∙ good.kept.reserved.data_mask;
-            };
-            code = code_kept p s.memory after.memory r.bytes good.kept.code;
-            guards = guards_kept p s.memory after.memory r.bytes good.kept.guards;
-          };
-          place = goes_on sandbox p s.hart after.hart clean at pc goes (subst (λ (i : Instr). Leaves p (i ∷ at.earlier) after.hart.registers) e.0 left) (stack_lies p (at.here.instr ∷ at.earlier) at.later after.hart.registers r.stack);
+          kept = reply_keeps p s after good.kept r;
+          place = goes_on sandbox p s.hart after.hart clean at pc goes (subst (λ (i : Instr). Leaves p (i ∷ at.earlier) after.hart.registers) e.0 left) (stack_lies p (at.here.instr ∷ at.earlier) at.later after.hart.registers r.typed.stack);
         }
 
     change_good : (after : State) → IsChange p s after → IsGood sandbox p after
     change_good after c =
         let at = good.place in
         record {
-          kept = record {
-            count = ap length c.registers ∙ good.kept.count;
-            reserved = subst (λ (l : List ℕ). HasReserved p l) (sym c.registers) good.kept.reserved;
-            code = code_kept p s.memory after.memory c.bytes good.kept.code;
-            guards = guards_kept p s.memory after.memory c.bytes good.kept.guards;
-          };
+          kept = change_keeps p s after good.kept c;
           place = record {
             number = at.number;
             within = at.within;
@@ -106,29 +83,19 @@ turn_keeps sandbox p s turn clean good h =
 
 pub entry_good : EntryIsGood
 entry_good sandbox p s clean entry = record {
-  kept = record {
-    count = entry.state.hart.count;
-    reserved = entry.reserved;
-    code = entry.code;
-    guards = entry.guards;
-  };
-  place = at_start sandbox p s.hart clean entry.start entry.stack;
+  kept = entry_keeps p s entry;
+  place = at_start sandbox p s.hart clean (to_bundle p s.hart.pc clean.bundles entry.start) entry.typed.stack;
 }
 
--- a change that changes nothing
-no_change : (p : Part) (s : State) → IsChange p s s
-no_change p s = record { pc = refl; registers = refl; bytes = record { code = λ a inside. refl; guards = λ a inside e. e } }
+good_calls : (sandbox : ℕ) (p : Part) (s : State) (n : ℕ) → AreCleanBundles sandbox p → IsGood sandbox p s → Stands s Ecall n → IsTyped p s.hart.registers
+good_calls sandbox p s n clean good stands =
+    let at = good.place in
+    of_stack p s.hart.registers clean.bundles
+    (stack_here p at.earlier at.here at.later s.hart.registers (sym (ap is_of_pair (only sandbox p s clean good Ecall n stands).0)) at.stack)
 
-module _ (sandbox : ℕ) (p : Part) (clean : IsCleanPart sandbox p) where
-  run_safe : (turns : List Turn) (o : Option State) → IsGoodIf sandbox p o → IsRun p o turns → IsSafeRun p o turns
-  run_safe [] None good run = tt
-  run_safe [] (Some s) good run = (turn_keeps sandbox p s (Changes s) clean good (no_change p s)).0
-  run_safe (turn ∷ turns) None good run = tt
-  run_safe (turn ∷ turns) (Some s) good run =
-      let kept = turn_keeps sandbox p s turn clean good run.0 in
-      (kept.0, kept.1, run_safe turns (after_turn turn) kept.2 run.1)
+pub bundles_run : (sandbox : ℕ) (p : Part) → AreCleanBundles sandbox p → RunsSafely p
+bundles_run sandbox p clean = runs_safely p (IsGood sandbox p) (λ s turn good h. turn_keeps sandbox p s turn clean good h) (λ s entry. entry_good sandbox p s clean entry)
 
-pub runs_safely : CleanRunsSafely
-runs_safely sandbox p clean = record {
-  from = λ s entry. record { safe = λ turns run. run_safe sandbox p clean turns (Some s) (entry_good sandbox p s clean entry) run };
-}
+pub bundles_call : (sandbox : ℕ) (p : Part) → AreCleanBundles sandbox p → CallsTyped p
+bundles_call sandbox p clean = calls_typed p (IsGood sandbox p) (λ s turn good h. turn_keeps sandbox p s turn clean good h) (λ s entry. entry_good sandbox p s clean entry)
+    (λ s n good stands. good_calls sandbox p s n clean good stands)

@@ -4,8 +4,8 @@ use Rattle.sfi_image.specs.Images.{IsImage}
 use Rattle.sfi_image.specs.Parts.{IsRightLayout}
 use Rattle.sfi_image.specs.Spelling.{Part}
 use Rattle.sfi_rules.specs.Findings.{AreImageFindings}
-use Rattle.sfi_safety.specs.Safety.{AllRunSafely}
-use Rattle.sfi_safety.specs.Stack.{AllCallWithStack}
+use Rattle.sfi_runs.specs.Safety.{AllRunSafely}
+use Rattle.sfi_runs.specs.Calls.{AllCallTyped}
 
 -- the layout is right, and no rule is broken
 pub record IsClean (ps : List Part) : Type 0 where
@@ -13,11 +13,11 @@ pub record IsClean (ps : List Part) : Type 0 where
   pub none_found : AreImageFindings ps []
 
 -- the layout is right, no rule is broken, every run from every entry of each sandbox is safe, and
--- calls with the stack pointer in the data
+-- calls with the typed registers holding what their types say
 pub record MayRun (ps : List Part) : Type 0 where
   pub clean : IsClean ps
   pub safe : AllRunSafely ps
-  pub calls : AllCallWithStack ps
+  pub calls : AllCallTyped ps
 
 -- the bytes are an image with these parts, in which no rule is broken
 pub record IsAccepted (bytes : List ℕ) (ps : List Part) : Type 0 where

@@ -11,7 +11,7 @@ use Rattle.sfi_image.specs.Spans.{code_region}
 use Rattle.sfi_image.specs.Regions.{IsBundleStart}
 use Rattle.sfi_pairs.specs.Pairs.{is_masking}
 use Rattle.sfi_rules.specs.Pairs.{follows_data_pair, follows_code_pair}
-use Rattle.sfi_safety.specs.Regions.{InData}
+use Rattle.sfi_runs.specs.Regions.{InData}
 
 -- The instruction directly before is `and target, a, mask`, and the target is not x0.
 -- `earlier` has the instructions before the place in its bundle, the nearest first.

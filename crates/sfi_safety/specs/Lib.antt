@@ -1,10 +1,6 @@
 pub mod Laws
 pub mod Leaving
 pub mod Places
-pub mod Regions
-pub mod Runs
-pub mod Safety
-pub mod Stack
 pub mod Samples
 pub mod Clean
 pub mod Needed

@@ -1,5 +1,5 @@
 -- That a rule is needed, and that the rules leave code that does something.
-use Rattle.std.specs.Prelude.{◌≡◌, ◌+◌, ◌*◌, Some, ℕ, List, [], ◌∷◌, ◌++◌, map, filter, reverse, sum_by}
+use Rattle.std.specs.Prelude.{◌≡◌, ◌+◌, ◌*◌, ◌≤◌, false, Some, ℕ, List, [], ◌∷◌, ◌++◌, map, filter, reverse, sum_by}
 use Rattle.rv_mem.specs.Bytes.{byte_at}
 use Rattle.rv_step.specs.declared.outcome.Outcome.TheVariants.{Next}
 use Rattle.rv_step.specs.State.{State}
@@ -13,10 +13,12 @@ use Rattle.sfi_rules.specs.Bundles.{place_of, bundle_bytes}
 use Rattle.sfi_rules.specs.Readings.{Piece, IsLongestReading, rest_of}
 use Rattle.sfi_rules.specs.Rules.{breaks, is_empty}
 use Rattle.sfi_rules.specs.declared.finding.Finding.{Finding}
+use Rattle.sfi_policy.specs.Formats.{has_words}
 use Rattle.sfi_rules.specs.Findings.{AreImageFindings, all_rules}
-use Rattle.sfi_safety.specs.Regions.{InData}
-use Rattle.sfi_safety.specs.Runs.{Turn, Steps, Changes, IsEntry, IsRun}
-use Rattle.sfi_safety.specs.Safety.{IsSafeRun, RunsSafely}
+use Rattle.sfi_rules.specs.Numbers.{number_of}
+use Rattle.sfi_runs.specs.Regions.{InData}
+use Rattle.sfi_runs.specs.Runs.{Turn, Steps, Changes, IsEntry, IsRun}
+use Rattle.sfi_runs.specs.Safety.{IsSafeRun, RunsSafely}
 use Rattle.sfi_safety.specs.Clean.{IsAccepted}
 
 -- a run from this state is not safe
@@ -67,10 +69,11 @@ pub record IsNeeded (rule : Rule) (address : ℕ) (p : Part) : Type 0 where
   pub is_entry : IsEntry p entry
   pub runs_unsafely : HasUnsafeRun p entry
 
--- each of the ten rules is (of V9 this says that its finding may not be passed over, not that no
--- other rule would refuse the image)
+-- each of the ten rules of code in bundles is (of V9 this says that its finding may not be passed
+-- over, not that no other rule would refuse the image)
 abbrev pub EachRuleIsNeeded : Type 0
-EachRuleIsNeeded = (rule : Rule) → (address : ℕ) × (p : Part) × IsNeeded rule address p
+EachRuleIsNeeded = (rule : Rule) → number_of rule ≤ 10
+    → (address : ℕ) × (p : Part) × (has_words p.format ≡ false) × IsNeeded rule address p
 
 -- The rule is stricter than safety asks: the image of this sandbox has a right layout and one
 -- finding, that rule at this address, and every run from every entry is safe.

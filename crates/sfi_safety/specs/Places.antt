@@ -1,7 +1,8 @@
--- Where a run stands: the place of a bundle's reading, and what the registers hold there.
-use Rattle.std.specs.Prelude.{◌≡◌, ◌+◌, ◌*◌, ◌≤◌, ◌⊎◌, ◌||◌, ℕ, List, [], ◌∷◌, true, Option, Some, None, length, drop, slice_index}
+-- Where a run of code in bundles stands: the place of a bundle's reading, and what the registers hold
+-- there.
+use Rattle.std.specs.Prelude.{◌≡◌, ◌+◌, ◌*◌, ◌≤◌, ◌⊎◌, ◌||◌, ℕ, List, [], ◌∷◌, true, false, Option, IfSome, length, drop, slice_index}
 use Rattle.rv_word.specs.declared.instr.Instr.{Instr}
-use Rattle.sfi_policy.specs.Formats.{has_stack}
+use Rattle.sfi_policy.specs.Formats.{has_stack, has_words}
 use Rattle.rv_step.specs.State.{Hart, State}
 use Rattle.sfi_policy.specs.Registers.{stack_pointer}
 use Rattle.sfi_policy.specs.Limits.{bundle_size}
@@ -11,8 +12,10 @@ use Rattle.sfi_image.specs.Parts.{IsRightPart}
 use Rattle.sfi_rules.specs.Bundles.{place_of, bundle_bytes}
 use Rattle.sfi_rules.specs.Readings.{Piece, IsReading, rest_of}
 use Rattle.sfi_rules.specs.Stack.{begins_pair, ends_pair}
-use Rattle.sfi_rules.specs.Findings.{findings_from, AreFindings}
-use Rattle.sfi_safety.specs.Regions.{InData, HasReserved, StackInData, HasCode, HasEmptyGuards}
+use Rattle.sfi_rules.specs.Findings.{findings_from, AreFindings, AreFindingsInBundles}
+use Rattle.sfi_runs.specs.Regions.{InData}
+use Rattle.sfi_runs.specs.Kept.{KeepsAll}
+use Rattle.sfi_runs.specs.Typed.{StackInData}
 use Rattle.sfi_safety.specs.Leaving.{Leaves}
 
 -- the part of the sandbox of that number has a right layout, its code lies apart from its data and
@@ -22,13 +25,12 @@ pub record IsCleanPart (sandbox : ℕ) (p : Part) : Type 0 where
   pub apart : AreApart (code_region p) (guarded_region p)
   pub none_found : AreFindings sandbox p []
 
--- the registers keep their count and the reserved values, the code its bytes, and the guards are
--- empty: no turn changes that
-pub record KeepsAll (p : Part) (s : State) : Type 0 where
-  pub count : length s.hart.registers ≡ 32
-  pub reserved : HasReserved p s.hart.registers
-  pub code : HasCode p s.memory
-  pub guards : HasEmptyGuards p s.memory
+-- the same, where its code is in bundles
+pub record AreCleanBundles (sandbox : ℕ) (p : Part) : Type 0 where
+  pub bundles : has_words p.format ≡ false
+  pub right : IsRightPart p
+  pub apart : AreApart (code_region p) (guarded_region p)
+  pub none_found : AreFindingsInBundles sandbox p []
 
 -- A stack pointer lies in the data region at each bundle's end. Before, it lies there, or the pair
 -- that puts it there stands here, or has begun directly before.
@@ -65,5 +67,4 @@ pub record IsGood (sandbox : ℕ) (p : Part) (s : State) : Type 0 where
 
 -- the state is good, if the run goes on
 abbrev pub IsGoodIf : ℕ → Part → Option State → Type 0
-IsGoodIf sandbox p None = Unit {0}
-IsGoodIf sandbox p (Some s) = IsGood sandbox p s
+IsGoodIf sandbox p o = IfSome o (λ s. IsGood sandbox p s)

@@ -64,7 +64,7 @@ pub fn stack_not_put_back_is_unsafe()
     ensures { IsNeeded V10 0x01000000 (sandbox stack_not_put_back) }
 {}
 
-/// So it is of each rule.
+/// So it is of each rule of code in bundles.
 pub fn each_rule_is_needed()
     ensures { EachRuleIsNeeded }
 {}

@@ -1,13 +1,18 @@
 -- A part's code from gate to gate: each stretch begins at one, but the first, and no gate lies within.
-use Rattle.sfi_scan.proofs.Prelude.{◌≡◌, ℕ, zero, suc, ◌+◌, ◌-◌, ◌*◌, ◌<◌, ◌≤◌, ◌==◌, ◌⊎◌, Bool, true, false, List, [], ◌∷◌, length, take, drop, get_or, inl, inr, refl, sym, ap, ◌∙◌, subst, arith, ◌||◌, ne_eqb, length-drop, length-take, BundlePlace, Finding, Part, place_of, block_bundle, AreFindingsOfFirst}
+use Rattle.sfi_scan.proofs.Prelude.{◌++◌, bundle_bytes, ◌≡◌, ℕ, zero, suc, ◌+◌, ◌-◌, ◌*◌, ◌<◌, ◌≤◌, ◌==◌, ◌⊎◌, Bool, true, false, List, [], ◌∷◌, length, take, drop, get_or, inl, inr, refl, sym, ap, ◌∙◌, subst, arith, ◌||◌, ne_eqb, length-drop, length-take, BundlePlace, Finding, Part, place_of, block_bundle}
 use Rattle.std.proofs.Common.{eq-eqb, ◌/◌}
 use Rattle.sfi_image.specs.Gates.{is_gate_of}
 use Rattle.sfi_image.specs.Parts.{IsRightPart}
 use Rattle.sfi_image.specs.declared.part.Gate.{Gate}
 use Rattle.sfi_image.proofs.Facts.{whole_bundles}
-use Rattle.sfi_scan.specs.Stretches.{IsStretch, AreStretchFindings, stretch_place}
+use Rattle.sfi_rules.specs.declared.owed.Owed.{Owed}
+use Rattle.sfi_rules.specs.declared.owed.Owed.TheVariants.{Nothing}
+use Rattle.sfi_rules.specs.Findings.{AreFoundUpTo}
+use Rattle.sfi_rules.proofs.Facts.{none_found}
+use Rattle.sfi_scan.specs.Stretches.{IsStretch, AreFoundInStretch, stretch_place}
+use Rattle.sfi_scan.proofs.WordStretches.{found_in_part}
 use Rattle.sfi_scan.specs.Listing.{Lists}
-use Rattle.sfi_scan.proofs.Stretches.{front_bundle, rest_bundle, stretch_in_part}
+use Rattle.sfi_scan.proofs.Stretches.{front_bundle, rest_bundle}
 
 -- ---- gates
 
@@ -29,13 +34,13 @@ one_gate (g ∷ gs) (suc k) d less = rw (one_gate gs k d (omega arith)) (or_true
 -- ---- where the scan stands
 
 -- so many bytes are scanned, up to the gate before the one of that number, if there is one
-pub record IsAtGate (sandbox : ℕ) (p : Part) (i : ℕ) (b : BundlePlace) (at : ℕ) (found : List Finding) (lacks : Bool) : Type 0 where
+pub record IsAtGate (sandbox : ℕ) (p : Part) (i : ℕ) (b : BundlePlace) (at : ℕ) (found : List Finding) (owed : Owed) (lacks : Bool) : Type 0 where
   pub bundles : ℕ
   pub at_is : at ≡ 16 * bundles
   pub inside : at < length p.code
   pub place_is : b ≡ record (place_of sandbox p bundles) { listed = b.listed }
   pub last : ((i ≡ 0) × (at ≡ 0) × (b.listed ≡ false)) ⊎ ((j : ℕ) × (i ≡ j + 1) × (j < length p.gates) × (b.listed ≡ true) × ((d : Gate) → (get_or p.gates j d).address ≡ p.code_base + at))
-  pub found_are : lacks ≡ false → AreFindingsOfFirst sandbox p bundles found
+  pub found_are : lacks ≡ false → AreFoundUpTo sandbox p bundles found owed
 
 -- up to that gate, or to the code's end
 pub record IsNext (p : Part) (i at end n : ℕ) : Type 0 where
@@ -44,9 +49,9 @@ pub record IsNext (p : Part) (i at end n : ℕ) : Type 0 where
   pub gates : (k : ℕ) (d : Gate) → i ≤ k → k < length p.gates → p.code_base + end ≤ (get_or p.gates k d).address
 
 -- no gate lies between
-between : (sandbox : ℕ) (p : Part) (i : ℕ) (b : BundlePlace) (at end n : ℕ) (found : List Finding) (lacks : Bool) → IsRightPart p → IsAtGate sandbox p i b at found lacks → IsNext p i at end n
+between : (sandbox : ℕ) (p : Part) (i : ℕ) (b : BundlePlace) (at end n : ℕ) (found : List Finding) (owed : Owed) (lacks : Bool) → IsRightPart p → IsAtGate sandbox p i b at found owed lacks → IsNext p i at end n
     → (m : ℕ) → 0 < m → m < n → is_gate_of p.gates (p.code_base + at + 16 * m) ≡ false
-between sandbox p i b at end n found lacks right here next m some less =
+between sandbox p i b at end n found owed lacks right here next m some less =
     no_gate p.gates (p.code_base + at + 16 * m) (λ k d inside e. elim here.last [
       | inl first ↦ (let zero = first.0 in let after = next.gates k d (omega arith) inside in let end_is = next.end_is in omega arith)
       | inr one ↦ (
@@ -61,26 +66,26 @@ between sandbox p i b at end n found lacks right here next m some less =
     ])
 
 -- whether one lies where the stretch begins, if it has a bundle
-at_begin : (sandbox : ℕ) (p : Part) (i : ℕ) (b : BundlePlace) (at end n : ℕ) (found : List Finding) (lacks : Bool) → IsRightPart p → IsAtGate sandbox p i b at found lacks → IsNext p i at end n
+at_begin : (sandbox : ℕ) (p : Part) (i : ℕ) (b : BundlePlace) (at end n : ℕ) (found : List Finding) (owed : Owed) (lacks : Bool) → IsRightPart p → IsAtGate sandbox p i b at found owed lacks → IsNext p i at end n
     → 0 < n → b.listed ≡ is_gate_of p.gates (p.code_base + at)
-at_begin sandbox p i b at end n found lacks right here next some =
+at_begin sandbox p i b at end n found owed lacks right here next some =
     elim here.last [
       | inl first ↦ first.2 ∙ sym (no_gate p.gates (p.code_base + at) (λ k d inside e. let zero = first.0 in let after = next.gates k d (omega arith) inside in let end_is = next.end_is in omega arith))
       | inr one ↦ (let d : Gate = record { address = 0; service = 0 } in one.3 ∙ sym (one_gate p.gates one.0 d one.2) ∙ ap (is_gate_of p.gates) (one.4 d))
     ]
 
 -- the stretch's places are those of the part
-places : (sandbox : ℕ) (p : Part) (i : ℕ) (b : BundlePlace) (at end n : ℕ) (found : List Finding) (lacks : Bool) → IsRightPart p → (here : IsAtGate sandbox p i b at found lacks) → IsNext p i at end n
+places : (sandbox : ℕ) (p : Part) (i : ℕ) (b : BundlePlace) (at end n : ℕ) (found : List Finding) (owed : Owed) (lacks : Bool) → IsRightPart p → (here : IsAtGate sandbox p i b at found owed lacks) → IsNext p i at end n
     → (m : ℕ) → m < n → stretch_place b m ≡ place_of sandbox p (here.bundles + m)
-places sandbox p i b at end n found lacks right here next zero less =
+places sandbox p i b at end n found owed lacks right here next zero less =
     let at_is = here.at_is in
-    let listed = at_begin sandbox p i b at end n found lacks right here next less ∙ ap (λ (x : ℕ). is_gate_of p.gates (p.code_base + x)) at_is in
+    let listed = at_begin sandbox p i b at end n found owed lacks right here next less ∙ ap (λ (x : ℕ). is_gate_of p.gates (p.code_base + x)) at_is in
     here.place_is ∙ ap (λ (l : Bool). record (place_of sandbox p here.bundles) { listed = l }) listed ∙ ap (place_of sandbox p) (let e : here.bundles ≡ here.bundles + 0 = omega arith in e)
-places sandbox p i b at end n found lacks right here next (suc m) less =
+places sandbox p i b at end n found owed lacks right here next (suc m) less =
     let at_is = here.at_is in
     let address : p.code_base + 16 * here.bundles + 16 * suc m ≡ p.code_base + 16 * (here.bundles + suc m) = omega arith in
     let gate : p.code_base + at + 16 * suc m ≡ p.code_base + 16 * (here.bundles + suc m) = omega arith in
-    let free = ap (is_gate_of p.gates) (sym gate) ∙ between sandbox p i b at end n found lacks right here next (suc m) (omega arith) less in
+    let free = ap (is_gate_of p.gates) (sym gate) ∙ between sandbox p i b at end n found owed lacks right here next (suc m) (omega arith) less in
     ap (λ (x : BundlePlace). stretch_place x (suc m)) here.place_is
     ∙ ap (λ (a : ℕ). record (place_of sandbox p here.bundles) { address = a; listed = false }) address
     ∙ ap (λ (l : Bool). record (place_of sandbox p (here.bundles + suc m)) { listed = l }) (sym free)
@@ -88,9 +93,9 @@ places sandbox p i b at end n found lacks right here next (suc m) less =
 -- ---- one stretch more
 
 -- its bytes
-pub next_stretch : (sandbox : ℕ) (p : Part) (i : ℕ) (b : BundlePlace) (at end n : ℕ) (found : List Finding) (lacks : Bool) → IsRightPart p → IsAtGate sandbox p i b at found lacks → IsNext p i at end n
+pub next_stretch : (sandbox : ℕ) (p : Part) (i : ℕ) (b : BundlePlace) (at end n : ℕ) (found : List Finding) (owed : Owed) (lacks : Bool) → IsRightPart p → IsAtGate sandbox p i b at found owed lacks → IsNext p i at end n
     → IsStretch b (take (end - at) (drop at p.code)) n
-next_stretch sandbox p i b at end n found lacks right here next =
+next_stretch sandbox p i b at end n found owed lacks right here next =
     let whole = whole_bundles p.format p.code_base (length p.code) right.code_base right.code_placed in
     let end_is = next.end_is in
     let inside = next.inside in
@@ -104,24 +109,32 @@ next_stretch sandbox p i b at end n found lacks right here next =
     record { whole = omega arith; base = omega arith; end = omega arith; addresses = omega arith }
 
 -- the findings with those of its bundles
-pub next_found : (sandbox : ℕ) (p : Part) (i : ℕ) (b : BundlePlace) (at end n : ℕ) (found : List Finding) (lacks : Bool) (new more : List Finding) (lacks' : Bool) → IsRightPart p → (here : IsAtGate sandbox p i b at found lacks)
-    → IsNext p i at end n → AreStretchFindings b (take (end - at) (drop at p.code)) n more → Lists found lacks more new lacks' → lacks' ≡ false → AreFindingsOfFirst sandbox p (here.bundles + n) new
-next_found sandbox p i b at end n found lacks new more lacks' right here next are lists has =
-    let told = lists has in
-    let end_is = next.end_is in
-    let at_is = here.at_is in
-    let cut : end - at ≡ 16 * n = omega arith in
-    let bytes : take (end - at) (drop at p.code) ≡ take (16 * n) (drop (16 * here.bundles) p.code) = ap (λ (m : ℕ). take m (drop at p.code)) cut ∙ ap (λ (m : ℕ). take (16 * n) (drop m p.code)) at_is in
-    subst (AreFindingsOfFirst sandbox p (here.bundles + n)) (sym told.1)
-    (stretch_in_part sandbox p b (take (end - at) (drop at p.code)) here.bundles n found more (places sandbox p i b at end n found lacks right here next)
-    (λ m less. ap (λ (l : List ℕ). block_bundle l m) bytes ∙ front_bundle n m (drop (16 * here.bundles) p.code) less ∙ rest_bundle here.bundles m p.code) (here.found_are told.0) are)
+pub next_found : (sandbox : ℕ) (p : Part) (i : ℕ) (b : BundlePlace) (at end n : ℕ) (found : List Finding) (owed : Owed) (lacks : Bool) (new more : List Finding) (next_owed : Owed) (lacks' : Bool) → IsRightPart p
+    → (here : IsAtGate sandbox p i b at found owed lacks) → IsNext p i at end n → AreFoundInStretch b owed (take (end - at) (drop at p.code)) n more next_owed → Lists found lacks more new lacks' → lacks' ≡ false
+    → AreFoundUpTo sandbox p (here.bundles + n) new next_owed
+next_found sandbox p i b at end n found owed lacks new more next_owed lacks' right here next are lists has =
+    subst (λ (l : List Finding). AreFoundUpTo sandbox p (here.bundles + n) l next_owed) (sym told.1)
+    (found_in_part sandbox p b (take (end - at) (drop at p.code)) here.bundles n found more owed next_owed (ap (λ (x : BundlePlace). x.format) here.place_is) (places sandbox p i b at end n found owed lacks right here next) each (here.found_are told.0) are)
+  where
+    told : (lacks ≡ false) × (new ≡ found ++ more)
+    told = lists has
+
+    bytes_are : (take (end - at) (drop at p.code)) ≡ take (16 * n) (drop (16 * here.bundles) p.code)
+    bytes_are =
+        let end_is = next.end_is in
+        let at_is = here.at_is in
+        let cut : end - at ≡ 16 * n = omega arith in
+        ap (λ (m : ℕ). take m (drop at p.code)) cut ∙ ap (λ (m : ℕ). take (16 * n) (drop m p.code)) at_is
+
+    each : (m : ℕ) → m < n → block_bundle (take (end - at) (drop at p.code)) m ≡ bundle_bytes p (here.bundles + m)
+    each m less = ap (λ (l : List ℕ). block_bundle l m) bytes_are ∙ front_bundle n m (drop (16 * here.bundles) p.code) less ∙ rest_bundle here.bundles m p.code
 
 -- ---- where it goes on
 
 -- the stretch to the next gate
-pub next_gate : (sandbox : ℕ) (p : Part) (i : ℕ) (b : BundlePlace) (at a : ℕ) (found : List Finding) (lacks : Bool) → IsRightPart p → IsAtGate sandbox p i b at found lacks
+pub next_gate : (sandbox : ℕ) (p : Part) (i : ℕ) (b : BundlePlace) (at a : ℕ) (found : List Finding) (owed : Owed) (lacks : Bool) → IsRightPart p → IsAtGate sandbox p i b at found owed lacks
     → i < length p.gates → ((d : Gate) → (get_or p.gates i d).address ≡ a) → (p.code_base ≤ a) × (p.code_base + at ≤ a) × (a < p.code_base + length p.code) × IsNext p i at (a - p.code_base) ((a - p.code_base - at) / 16)
-next_gate sandbox p i b at a found lacks right here less is =
+next_gate sandbox p i b at a found owed lacks right here less is =
     let whole = whole_bundles p.format p.code_base (length p.code) right.code_base right.code_placed in
     let d : Gate = record { address = 0; service = 0 } in
     let start = right.gates.starts i d less in
@@ -152,9 +165,9 @@ next_gate sandbox p i b at a found lacks right here less is =
     cases_le i k h = grind arith
 
 -- the stretch to the code's end
-pub next_end : (sandbox : ℕ) (p : Part) (i : ℕ) (b : BundlePlace) (at : ℕ) (found : List Finding) (lacks : Bool) → IsRightPart p → IsAtGate sandbox p i b at found lacks
+pub next_end : (sandbox : ℕ) (p : Part) (i : ℕ) (b : BundlePlace) (at : ℕ) (found : List Finding) (owed : Owed) (lacks : Bool) → IsRightPart p → IsAtGate sandbox p i b at found owed lacks
     → length p.gates ≤ i → IsNext p i at (length p.code) ((length p.code - at) / 16)
-next_end sandbox p i b at found lacks right here over =
+next_end sandbox p i b at found owed lacks right here over =
     let whole = whole_bundles p.format p.code_base (length p.code) right.code_base right.code_placed in
     let size_is = whole.2 in
     let at_is = here.at_is in
@@ -162,7 +175,7 @@ next_end sandbox p i b at found lacks right here over =
     record { end_is = omega arith; inside = omega arith; gates = λ k e from less. absurd (omega arith) }
 
 -- at first
-pub at_first : (sandbox : ℕ) (p : Part) → IsRightPart p → IsAtGate sandbox p 0 (record (place_of sandbox p 0) { address = p.code_base; listed = false }) 0 [] false
+pub at_first : (sandbox : ℕ) (p : Part) → IsRightPart p → IsAtGate sandbox p 0 (record (place_of sandbox p 0) { address = p.code_base; listed = false }) 0 [] Nothing false
 at_first sandbox p right =
     let least = right.code_placed.at_least in
     record {
@@ -171,15 +184,15 @@ at_first sandbox p right =
       inside = omega arith;
       place_is = ap (λ (a : ℕ). record (place_of sandbox p 0) { address = a; listed = false }) (let e : p.code_base ≡ p.code_base + 16 * 0 = omega arith in e);
       last = inl (refl, refl, refl);
-      found_are = λ has. refl;
+      found_are = λ has. none_found sandbox p;
     }
 
 -- at the next gate
-pub at_next : (sandbox : ℕ) (p : Part) (i j : ℕ) (b c : BundlePlace) (at a end : ℕ) (found : List Finding) (lacks : Bool) (new more : List Finding) (lacks' : Bool) → IsRightPart p → IsAtGate sandbox p i b at found lacks
+pub at_next : (sandbox : ℕ) (p : Part) (i j : ℕ) (b c : BundlePlace) (at a end : ℕ) (found : List Finding) (owed : Owed) (lacks : Bool) (new more : List Finding) (next_owed : Owed) (lacks' : Bool) → IsRightPart p → IsAtGate sandbox p i b at found owed lacks
     → i < length p.gates → ((d : Gate) → (get_or p.gates i d).address ≡ a) → j ≡ i + 1 → end ≡ a - p.code_base → c ≡ record b { address = a; listed = true }
-    → AreStretchFindings b (take (end - at) (drop at p.code)) ((end - at) / 16) more → Lists found lacks more new lacks' → IsAtGate sandbox p j c end new lacks'
-at_next sandbox p i j b c at a end found lacks new more lacks' right here less is on end_is place are lists =
-    let next = next_gate sandbox p i b at a found lacks right here less is in
+    → AreFoundInStretch b owed (take (end - at) (drop at p.code)) ((end - at) / 16) more next_owed → Lists found lacks more new lacks' → IsAtGate sandbox p j c end new next_owed lacks'
+at_next sandbox p i j b c at a end found owed lacks new more next_owed lacks' right here less is on end_is place are lists =
+    let next = next_gate sandbox p i b at a found owed lacks right here less is in
     let n = (end - at) / 16 in
     let low = next.0 in
     let high = next.2 in
@@ -194,5 +207,5 @@ at_next sandbox p i j b c at a end found lacks new more lacks' right here less i
       place_is = place ∙ ap (λ (x : BundlePlace). record x { address = a; listed = true }) here.place_is ∙ ap (λ (x : ℕ). record (place_of sandbox p 0) { address = x; listed = true }) address
           ∙ ap (λ (l : Bool). record (place_of sandbox p (here.bundles + n)) { listed = l }) (sym (ap (λ (x : BundlePlace). x.listed) place));
       last = inr (i, on, less, ap (λ (x : BundlePlace). x.listed) place, λ d. is d ∙ (let e : a ≡ p.code_base + end = omega arith in e));
-      found_are = next_found sandbox p i b at end n found lacks new more lacks' right here next_is are lists;
+      found_are = next_found sandbox p i b at end n found owed lacks new more next_owed lacks' right here next_is are lists;
     }

@@ -14,3 +14,5 @@ pub mod Walk
 pub mod Seen
 pub mod Starts
 pub mod Table16
+pub mod WordReadings
+pub mod WordStretches

@@ -1,11 +1,15 @@
 -- Stretches of bundles: code of one region, one bundle behind another, of which only the first may be a
 -- listed gate's.
-use Rattle.std.specs.Prelude.{◌≡◌, ◌+◌, ◌*◌, ◌/◌, ◌^◌, ◌≤◌, ℕ, zero, suc, List, [], ◌++◌, length}
+use Rattle.std.specs.Prelude.{◌≡◌, ◌+◌, ◌*◌, ◌/◌, ◌^◌, ◌≤◌, ℕ, zero, suc, List, [], ◌++◌, length, MatchBool}
+use Rattle.sfi_policy.specs.Formats.{has_words}
 use Rattle.sfi_policy.specs.Limits.{bundle_size}
 use Rattle.sfi_rules.specs.declared.bundle.BundlePlace.{BundlePlace}
 use Rattle.sfi_rules.specs.declared.finding.Finding.{Finding}
 use Rattle.sfi_rules.specs.Bundles.{block_bundle, bundle_at}
+use Rattle.sfi_rules.specs.declared.owed.Owed.{Owed}
+use Rattle.sfi_rules.specs.declared.owed.Owed.TheVariants.{Nothing}
 use Rattle.sfi_rules.specs.Findings.{AreBundleFindings}
+use Rattle.sfi_rules.specs.words.Findings.{AreFoundInBundle}
 
 -- The bytes are so many bundles, of which the first lies there. They lie in its code region, whose
 -- end is at most 2 ^ 32.
@@ -36,5 +40,41 @@ pub record IsScanned {F : Type 0} (takes : F → List Finding → F → Type 0) 
     (bytes : List ℕ) (n : ℕ) (before after : F) : Type 0 where
   pub found : List Finding
   pub found_are : AreStretchFindings b bytes n found
+  pub few : length found ≤ findings_most * n
+  pub handed : takes before found after
+
+-- ---- by the format
+
+-- of code in words: the findings of the stretch's first n bundles, before which this is owed, and
+-- what is owed after them
+abbrev pub AreWordStretchFindings : BundlePlace → Owed → List ℕ → ℕ → List Finding → Owed → Type 0
+AreWordStretchFindings b owed bytes zero found next = (found ≡ []) × (next ≡ owed)
+AreWordStretchFindings b owed bytes (suc n) found next =
+    (front : List Finding) × (last : List Finding) × (between : Owed)
+    × AreWordStretchFindings b owed bytes n front between
+    × AreFoundInBundle (stretch_place b n) between (block_bundle bytes n) last next
+    × (found ≡ front ++ last)
+
+-- of code of any format: in bundles nothing is ever owed
+abbrev pub AreFoundInStretch : BundlePlace → Owed → List ℕ → ℕ → List Finding → Owed → Type 0
+AreFoundInStretch b owed bytes n found next = MatchBool (has_words b.format)
+    (AreWordStretchFindings b owed bytes n found next)
+    (AreStretchFindings b bytes n found × (next ≡ Nothing))
+
+-- the stretch of code in words is scanned: the sink took its findings
+pub record IsWordCodeScanned {F : Type 0} (takes : F → List Finding → F → Type 0)
+    (b : BundlePlace) (owed : Owed) (bytes : List ℕ) (n : ℕ) (next : Owed)
+    (before after : F) : Type 0 where
+  pub found : List Finding
+  pub found_are : AreWordStretchFindings b owed bytes n found next
+  pub few : length found ≤ findings_most * n
+  pub handed : takes before found after
+
+-- the stretch of any code is
+pub record IsStretchScanned {F : Type 0} (takes : F → List Finding → F → Type 0)
+    (b : BundlePlace) (owed : Owed) (bytes : List ℕ) (n : ℕ) (next : Owed)
+    (before after : F) : Type 0 where
+  pub found : List Finding
+  pub found_are : AreFoundInStretch b owed bytes n found next
   pub few : length found ≤ findings_most * n
   pub handed : takes before found after

@@ -5,16 +5,17 @@ ghost use Rattle.sfi_policy.specs.Limits.{bundle_size};
 ghost use Rattle.sfi_masks.specs.Masks.{is_in};
 ghost use Rattle.sfi_rules.specs.Bundles.{IsWithin, IsWithinBlock, block_bundle, bundle_at};
 ghost use Rattle.sfi_rules.specs.Findings.{AreReadingFindings};
-ghost use Rattle.sfi_scan.specs.Stretches.{IsStretch, IsScanned, stretch_place};
+ghost use Rattle.sfi_scan.specs.Stretches.{IsStretch, IsScanned, IsStretchScanned, stretch_place};
 ghost use Rattle.sfi_scan.specs.private.Scanning.{IsFrontScanned};
 
 use crate::block::{bundle_at, clean_bundles, has};
 use crate::findings::BundleFindings;
 use crate::scan::scan_bundle;
 use crate::sink::FindingSink;
+use crate::words::scan_word_code;
 use sfi_masks::BLOCK_BYTES;
 use sfi_policy::{BUNDLE_BYTES, BUNDLE_SIZE};
-use sfi_rules::BundlePlace;
+use sfi_rules::{BundlePlace, Owed};
 
 /// How a stretch is scanned. Blocks of eight bundles are looked at as wholes: fast where the processor
 /// has vectors.
@@ -25,7 +26,7 @@ pub const BUNDLE_BY_BUNDLE: bool = false;
 
 /// The place of the bundle that so many bytes of the stretch lie before.
 #[inline(always)]
-fn place_after(place: &BundlePlace, before: usize) -> BundlePlace
+pub(crate) fn place_after(place: &BundlePlace, before: usize) -> BundlePlace
     requires { place.now.address + before < 2 ^ 32 }
     ensures { (n : ℕ) → before ≡ bundle_size * n → result ≡ stretch_place place.now n }
 {
@@ -137,5 +138,26 @@ pub fn scan_code<F: FindingSink, const BLOCKS: bool>(place: &BundlePlace, code: 
     let mut at = 0;
     while at < code.len() {
         at += scan_front::<F, BLOCKS>(&place_after(place, at), &code[at..], sink, &mut findings);
+    }
+}
+
+/// Scans a stretch of code of any format, before which this is owed: bundles, of which the first lies at
+/// that place, or words. Hands the findings to the sink, in order, and answers what is owed after it: in
+/// bundles nothing.
+pub fn scan_stretch<F: FindingSink, const BLOCKS: bool>(
+    place: &BundlePlace,
+    code: &[u8],
+    owed: Owed,
+    sink: &mut F,
+) -> Owed
+    requires { (n : ℕ) × IsStretch place.now code.now n }
+    ensures { (n : ℕ) → IsStretch place.now code.now n
+        → IsStretchScanned F.takes place.now owed code.now n result sink.old sink.new }
+{
+    if place.format.has_words() {
+        scan_word_code(place, code, owed, sink)
+    } else {
+        scan_code::<F, BLOCKS>(place, code, sink);
+        Owed::Nothing
     }
 }

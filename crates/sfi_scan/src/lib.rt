@@ -5,6 +5,9 @@
 //! 1993, "Efficient Software-Based Fault Isolation"). In the second format an access on the stack
 //! pointer x2 needs no pair; instead a write to x2 is of such a pair, or has one directly after it,
 //! which puts x2 back into the data.
+//!
+//! In the third format code is in words, which are scanned 16 bytes at a time, with what is owed
+//! before them ([`scan_words`]).
 #![tactic(auto)]
 
 mod ahead;
@@ -20,13 +23,15 @@ mod part;
 mod rules;
 mod scan;
 mod sink;
+mod words;
 
 pub use block::clean_bundles;
-pub use code::{BUNDLE_BY_BUNDLE, IN_BLOCKS, scan_code};
+pub use code::{BUNDLE_BY_BUNDLE, IN_BLOCKS, scan_code, scan_stretch};
 pub use findings::BundleFindings;
 pub use list::FindingList;
 pub use part::{scan_part, scan_part_as};
 pub use scan::scan_bundle;
 pub use sfi_policy::Format;
-pub use sfi_rules::{BundlePlace, Finding, Rule};
+pub use sfi_rules::{BundlePlace, Finding, Owed, Rule};
 pub use sink::FindingSink;
+pub use words::{scan_word_code, scan_words};

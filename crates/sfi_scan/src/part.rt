@@ -5,11 +5,11 @@ ghost use Rattle.sfi_image.specs.Spelling.{view};
 ghost use Rattle.sfi_image.specs.Parts.{IsRightPart};
 ghost use Rattle.sfi_rules.specs.Findings.{AreFindings};
 
-use crate::code::{IN_BLOCKS, scan_code};
+use crate::code::{IN_BLOCKS, scan_stretch};
 use crate::list::FindingList;
 use sfi_image::SandboxPart;
 use sfi_policy::Format;
-use sfi_rules::{BundlePlace, Finding};
+use sfi_rules::{BundlePlace, Finding, Owed};
 use std::alloc::{AllocError, Global};
 
 /// The findings of the part of an image of this format, which is that of the sandbox of this
@@ -32,15 +32,21 @@ pub fn scan_part_as(
         code_size: part.code.len() as u32,
         listed: false,
     };
+    let mut owed = Owed::Nothing;
     let mut at = 0;
     for gate in part.gates.iter() {
         let end = (gate.address - part.code_base) as usize;
-        scan_code::<FindingList, IN_BLOCKS>(&place, &part.code[at..end], &mut found);
+        owed = scan_stretch::<FindingList, IN_BLOCKS>(
+            &place,
+            &part.code[at..end],
+            owed,
+            &mut found,
+        );
         place.address = gate.address;
         place.listed = true;
         at = end;
     }
-    scan_code::<FindingList, IN_BLOCKS>(&place, &part.code[at..], &mut found);
+    scan_stretch::<FindingList, IN_BLOCKS>(&place, &part.code[at..], owed, &mut found);
     found.into_result()
 }
 

@@ -1,21 +1,9 @@
 -- What comes after a place, where the rest is read whole, is what is read there.
-use Rattle.std.proofs.Common.{◌≡◌, ℕ, ◌<◌, ◌≤◌, List, [], ◌∷◌, length, take, drop, refl, ap, subst, arith}
-use Rattle.std.proofs.lemmas.List.{length-take}
+use Rattle.std.proofs.Common.{◌≡◌, ℕ, List, [], ◌∷◌, length, take, drop, refl, ap, subst, arith}
 use Rattle.rv_word.specs.declared.instr.Instr.{Instr}
 use Rattle.rv_comp.specs.Fronts.{Spells}
-use Rattle.rv_comp.proofs.Facts.{spelled_length, spelled_some}
 use Rattle.sfi_rules.specs.Readings.{Piece, IsReading, rest_of}
-use Rattle.sfi_rules.proofs.Readings.{front_one}
-
--- nothing can
-abbrev pub IsStuck : List ℕ → Type 0
-IsStuck bytes = (i : Instr) (n : ℕ) → Spells (take n bytes) i n → ⊥
-
-pub spelled_within : (bytes : List ℕ) (i : Instr) (n : ℕ) → Spells (take n bytes) i n → (0 < n) × (n ≤ length bytes)
-spelled_within bytes i n s =
-    let cut = length-take n bytes in
-    let all : length (take n bytes) ≡ n = spelled_length (take n bytes) i n s in
-    (spelled_some (take n bytes) i n s, omega (arith, cut, all))
+use Rattle.sfi_rules.proofs.Readings.{front_one, IsStuck, spelled_within}
 
 -- a whole reading begins with it, and goes on with a whole reading of what follows
 pub record Begins (bytes : List ℕ) (i : Instr) (n : ℕ) (later : List Piece) : Type 0 where

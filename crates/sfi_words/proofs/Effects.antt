@@ -1,11 +1,10 @@
 -- What each instruction does: which register it writes, where it goes, and that only what breaks V3 or V6 leaves.
-use Rattle.sfi_words.proofs.Prelude.{◌≡◌, ◌≢◌, ℕ, ◌+◌, ◌*◌, ◌%◌, ◌^◌, ◌<◌, ◌≤◌, ◌⊎◌, List, length, get_or, set, Bool, true, false, cond, not, ◌&&◌, ◌==◌, refl, sym, ap, ◌∙◌, subst, inl, inr, ⊎_elim, arith, Option, Some, None, ℤ, pos, negsuc, slice_index, is_some, and_parts, or_cases, eqb-true, leb-true, ltb-true, not-false, false≢true, cond-false, ne_eqb, get_or-set_same, offset_by, destination, Instr, Op, OpImm, Load, Store, Branch, Jal, Jalr, Lui, Auipc, Fence, Ecall, Ebreak, RegOp, Addi, LoadKind, Bytes, bytes_at, address_after, addresses, loaded, Hart, register, with_register, with_pc, past, even_of, effect, after_load, next, unchanged, word, result_of, load_size, store_size, is_taken, extended, Outcome, Next, Call, Trap, is_reserved, Part, is_gate_of, IsGate, breaks_reserved, ends_region, IsWordStart, HasReserved, is_word_start, breaks_ecall, breaks_jump, breaks_target}
-use Rattle.std.specs.Prelude.{slice_get, nat_le, nat_lt}
-use Rattle.std.proofs.Common.{suc, [], ◌∷◌}
+use Rattle.sfi_words.proofs.Prelude.{◌≡◌, ◌≢◌, ℕ, ◌+◌, ◌*◌, ◌%◌, ◌^◌, ◌<◌, ◌≤◌, ◌⊎◌, List, length, get_or, set, Bool, true, false, cond, not, ◌&&◌, ◌==◌, refl, sym, ap, ◌∙◌, subst, inl, inr, arith, Option, Some, None, ℤ, pos, negsuc, slice_index, is_some, and_parts, eqb-true, leb-true, ltb-true, not-false, false≢true, cond-false, ne_eqb, get_or-set_same, offset_by, destination, Instr, Op, OpImm, Load, Store, Branch, Jal, Jalr, Lui, Auipc, Fence, Ecall, Ebreak, RegOp, Addi, LoadKind, Bytes, bytes_at, address_after, addresses, loaded, Hart, register, with_register, with_pc, past, even_of, effect, after_load, next, unchanged, word, result_of, load_size, store_size, is_taken, extended, Outcome, Next, Call, Trap, is_reserved, Part, is_gate_of, IsGate, breaks_reserved, ends_region, IsWordStart, HasReserved, is_word_start, breaks_ecall, breaks_jump, breaks_target}
+use Rattle.std.specs.Prelude.{nat_le, nat_lt}
 use Rattle.rv_step.specs.declared.outcome.Cause.TheVariants as cause
 use Rattle.rv_step.specs.Values.{register_op}
-use Rattle.sfi_image.specs.declared.part.Gate.{Gate}
-use Rattle.sfi_safety.proofs.Accessing.{kept, count_kept}
+use Rattle.sfi_runs.proofs.Accessing.{kept, count_kept}
+use Rattle.sfi_runs.proofs.Stepping.{gate_of}
 
 -- ---- the register that it writes
 
@@ -93,14 +92,6 @@ abbrev pub Leads : Part → Instr → ℕ → Hart → Outcome → Hart → Type
 Leads p i n h Next h' = ((h'.pc ≡ address_after h.pc n) × (ends_region i ≡ false)) ⊎ (IsWordStart p h'.pc × (is_flow i ≡ true))
 Leads p i n h Call h' = IsGate p h.pc
 Leads p i n h (Trap cause at) h' = Unit {0}
-
-gate_of : (gates : List Gate) (a : ℕ) → is_gate_of gates a ≡ true → (k : ℕ) × (g : Gate) × (slice_get gates k ≡ Some g) × (g.address ≡ a)
-gate_of [] a h = absurd (false≢true h)
-gate_of (g ∷ gates) a h =
-    ⊎_elim
-    (λ (e : (g.address == a) ≡ true). (0, g, refl, eqb-true g.address a e))
-    (λ (e : is_gate_of gates a ≡ true). let x = gate_of gates a e in (suc x.0, x.1, x.2, x.3))
-    (or_cases (g.address == a) (is_gate_of gates a) h)
 
 word_start : (p : Part) (a : ℕ) → not (is_word_start p.code_base (length p.code) a) ≡ false → IsWordStart p a
 word_start p a h =

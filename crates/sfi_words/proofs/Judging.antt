@@ -8,14 +8,14 @@ use Rattle.sfi_pairs.specs.Pairs.{is_placing}
 use Rattle.rv_word.specs.Writes.{destination, is_register, writes_register}
 use Rattle.sfi_rules.specs.Readings.{Piece}
 use Rattle.sfi_rules.specs.Rules.{breaks_reserved, ends_region}
-use Rattle.sfi_words.specs.declared.owed.Owed.{Owed}
-use Rattle.sfi_words.specs.declared.owed.Owed.TheVariants as kind
-use Rattle.sfi_words.specs.declared.rule.WordRule.{WordRule}
-use Rattle.sfi_words.specs.declared.rule.WordRule.TheVariants.{V3, V4, V5, V6, V7, V8, V10, V11, V12}
-use Rattle.sfi_words.specs.Typed.{is_data}
-use Rattle.sfi_words.specs.Rules.{masks, places, uses, breaks_ecall, breaks_access, breaks_jump, breaks_target, breaks_offset}
-use Rattle.sfi_words.specs.Owing.{left, owed_by_data, owed_by_code, owed_of, owed_by, or_nothing, joined, owed_next, is_of_data, is_of_code}
-use Rattle.sfi_words.specs.Findings.{Place, is_at_gate, is_data_one, breaks_last, fails_data, fails_code, lowest}
+use Rattle.sfi_rules.specs.declared.owed.Owed.{Owed}
+use Rattle.sfi_rules.specs.declared.owed.Owed.TheVariants as kind
+use Rattle.sfi_rules.specs.declared.rule.Rule.{Rule}
+use Rattle.sfi_rules.specs.declared.rule.Rule.TheVariants.{V3, V4, V5, V6, V7, V8, V10, V11, V12}
+use Rattle.sfi_policy.specs.Registers.{is_data_register}
+use Rattle.sfi_rules.specs.words.Rules.{masks, places, uses, breaks_ecall, breaks_access, breaks_jump, breaks_target, breaks_offset}
+use Rattle.sfi_rules.specs.words.Owing.{left, owed_by_data, owed_by_code, owed_of, owed_by, or_nothing, joined, owed_next, is_of_data, is_of_code}
+use Rattle.sfi_rules.specs.words.Findings.{Place, is_at_gate, is_data_one, breaks_last, fails_data, fails_code, lowest}
 use Rattle.sfi_words.proofs.Owing.{meets, meets_if, is_nothing, both, owed_after, keeps, left_is, keeps_is}
 
 -- ---- no rule is found where none is broken
@@ -31,7 +31,7 @@ pub record AreFalse (b3 b4 b5 b6 b7 b8 b10 b11 b12 : Bool) : Type 0 where
   pub v11 : b11 ≡ false
   pub v12 : b12 ≡ false
 
-pub first_true : (b3 b4 b5 b6 b7 b8 b10 b11 b12 : Bool) → Option WordRule
+pub first_true : (b3 b4 b5 b6 b7 b8 b10 b11 b12 : Bool) → Option Rule
 first_true b3 b4 b5 b6 b7 b8 b10 b11 b12 =
     cond b3 (Some V3) (cond b4 (Some V4) (cond b5 (Some V5) (cond b6 (Some V6) (cond b7 (Some V7) (cond b8 (Some V8) (cond b10 (Some V10) (cond b11 (Some V11) (cond b12 (Some V12) None))))))))
 
@@ -86,7 +86,7 @@ left_there kind.Code i e f = is_there _ (or_parts _ _ f).0
 
 own_of : (t : Option ℕ) (i : Instr) → (is_data_one t && not (is_some (owed_of t i))) ≡ false → (is_register 30 t && not (is_some (owed_of t i))) ≡ false → is_some (owed_of t i) ≡ true
 own_of None i e f = refl
-own_of (Some d) i e f = by (is_data d) (d == 30) (owed_by_data d i) (owed_by_code i) e f
+own_of (Some d) i e f = by (is_data_register d) (d == 30) (owed_by_data d i) (owed_by_code i) e f
   where
     by : (isd is30 : Bool) (a b : Option Owed) → (isd && not (is_some (cond isd a (cond is30 b (Some kind.Nothing))))) ≡ false
         → (is30 && not (is_some (cond isd a (cond is30 b (Some kind.Nothing))))) ≡ false → is_some (cond isd a (cond is30 b (Some kind.Nothing))) ≡ true
@@ -144,7 +144,7 @@ nothing_is : (o : Owed) → o ≡ kind.Nothing → is_nothing o ≡ true
 nothing_is o e = ap is_nothing e
 
 pub ends_owing : (o : Owed) (i : Instr) → ends_region i ≡ true → is_nothing (owed_next o i) ≡ true
-ends_owing o (Jal rd offset) ends = nothing_is _ (clear (Jal rd offset) (λ d. refl) (λ d. refl) (λ d. refl) refl o (owed_by (Jal rd offset)) ∙ jump_owes (is_data rd) (rd == 30))
-ends_owing o (Jalr rd rs1 imm) ends = nothing_is _ (clear (Jalr rd rs1 imm) (λ d. refl) (λ d. refl) (λ d. refl) refl o (owed_by (Jalr rd rs1 imm)) ∙ jump_owes (is_data rd) (rd == 30))
+ends_owing o (Jal rd offset) ends = nothing_is _ (clear (Jal rd offset) (λ d. refl) (λ d. refl) (λ d. refl) refl o (owed_by (Jal rd offset)) ∙ jump_owes (is_data_register rd) (rd == 30))
+ends_owing o (Jalr rd rs1 imm) ends = nothing_is _ (clear (Jalr rd rs1 imm) (λ d. refl) (λ d. refl) (λ d. refl) refl o (owed_by (Jalr rd rs1 imm)) ∙ jump_owes (is_data_register rd) (rd == 30))
 ends_owing o Ebreak ends = nothing_is _ (clear Ebreak (λ d. refl) (λ d. refl) (λ d. refl) refl o (owed_by Ebreak))
 ends_owing o _ ends = absurd (let e = ends in cc)

@@ -1,9 +1,11 @@
 -- What is known of the typed registers before an instruction, and what it makes of that.
-use Rattle.sfi_words.proofs.Prelude.{◌≡◌, ℕ, ◌+◌, ◌<◌, ◌≤◌, ◌⊎◌, List, ◌∷◌, length, true, false, not, ◌&&◌, ◌||◌, ◌==◌, refl, sym, ap, ◌∙◌, subst, inl, inr, ⊎_elim, arith, Option, Some, None, ℤ, slice_index, bit_and, bit_or, and_parts, or_cases, eqb-true, eq-eqb, not-false, false≢true, cases_Bool, offset_by, InRange, IsImm12, destination, is_register, writes_register, Instr, Op, OpImm, Load, Store, Branch, Jal, Jalr, Lui, Auipc, Fence, Ecall, Ebreak, Addi, And, Or, Add, Bytes, address_after, Accesses, Hart, register, effect, word, result_of, load_size, store_size, is_masking, is_placing, Part, Piece, is_jump, InData, InGuard, is_data, IsWordStart, IsNear, HasReserved, IsTyped, places, masks, begins_placing, begins_masking, begins_using, begins_code, is_step, uses, is_small, may_access, breaks_access, may_write_data, breaks_data_of, breaks_data, may_write_code, breaks_code, breaks_offset, IsPlaced, IsKnown, IsCodeKnown, AreKnown}
-use Rattle.sfi_safety.proofs.Accessing.{load_range, store_range}
-use Rattle.sfi_words.proofs.Masks as at
-use Rattle.sfi_words.proofs.Tests.{data_register, writes_it, writes_other, or_is, placing_is, masking_is, step_is, imm12_within, small_within}
-use Rattle.sfi_words.proofs.Near.{near_access, stepped, used, first_address, load_sized, store_sized}
+use Rattle.sfi_words.proofs.Prelude.{◌≡◌, ℕ, ◌+◌, ◌<◌, ◌≤◌, ◌⊎◌, List, ◌∷◌, length, true, false, not, ◌&&◌, ◌||◌, ◌==◌, refl, sym, ap, ◌∙◌, subst, inl, inr, ⊎_elim, arith, Option, Some, None, ℤ, slice_index, bit_and, bit_or, and_parts, or_cases, eqb-true, eq-eqb, not-false, false≢true, cases_Bool, offset_by, InRange, IsImm12, destination, is_register, writes_register, Instr, Op, OpImm, Load, Store, Branch, Jal, Jalr, Lui, Auipc, Fence, Ecall, Ebreak, Addi, And, Or, Add, Bytes, address_after, Accesses, Hart, register, effect, word, result_of, load_size, store_size, is_masking, is_placing, Part, Piece, is_jump, InData, InGuard, is_data_register, IsWordStart, IsNear, HasReserved, AreWordsTyped, places, masks, begins_placing, begins_masking, begins_using, begins_code, is_step, uses, is_small, may_access, breaks_access, may_write_data, breaks_data_of, breaks_data, may_write_code, breaks_code, breaks_offset, IsRightPart, has_words, ◌-◌, IsKnown, IsCodeKnown, AreKnown}
+use Rattle.sfi_policy.specs.Formats.{code_most}
+use Rattle.sfi_runs.proofs.Accessing.{imm12_within, near_access, stepped, used, first_address, load_sized, store_sized, load_range, store_range}
+use Rattle.sfi_runs.proofs.Formats.{words as word_unit}
+use Rattle.sfi_runs.proofs.Masks as at
+use Rattle.sfi_words.proofs.Masks.{masked_code}
+use Rattle.sfi_words.proofs.Tests.{data_register, writes_it, writes_other, or_is, placing_is, masking_is, step_is, small_within}
 use Rattle.sfi_words.proofs.Effects.{writes, others_stay, result_there, step_there, is_flow}
 
 step_range : (d : ℕ) (imm : ℤ) → InRange (OpImm Addi d d imm) → IsImm12 imm
@@ -11,7 +13,7 @@ unfolding InRange
 step_range d imm h = h.2
 
 -- what holds where any instruction may stand is known before any
-pub typed_known : (p : Part) (registers : List ℕ) (pieces : List Piece) → IsTyped p registers → AreKnown p registers pieces
+pub typed_known : (p : Part) (registers : List ℕ) (pieces : List Piece) → AreWordsTyped p registers → AreKnown p registers pieces
 typed_known p registers pieces typed = record {
   each_data = λ d is. inl (typed.each_data d is);
   code = inl typed.code;
@@ -63,7 +65,7 @@ code_at_flow p registers x later flow known = start_here p _ x later (flow_plain
 ecall_plain : IsPlain Ecall
 ecall_plain = record { places = λ d. refl; masks = λ d. refl; uses = λ d. refl; placing = λ b t. refl; masking = λ m t. refl }
 
-pub typed_at_ecall : (p : Part) (registers : List ℕ) (x : Piece) (later : List Piece) → Ecall ≡ x.instr → AreKnown p registers (x ∷ later) → IsTyped p registers
+pub typed_at_ecall : (p : Part) (registers : List ℕ) (x : Piece) (later : List Piece) → Ecall ≡ x.instr → AreKnown p registers (x ∷ later) → AreWordsTyped p registers
 typed_at_ecall p registers x later e known =
     let plain = subst (λ (i : Instr). IsPlain i) e ecall_plain in
     record {
@@ -74,19 +76,19 @@ typed_at_ecall p registers x later e known =
 
 -- ---- accesses
 
-module _ (p : Part) (placed : IsPlaced p) (h : Hart) (reserved : HasReserved p h.registers) where
+module _ (p : Part) (words : has_words p.format ≡ true) (right : IsRightPart p) (h : Hart) (reserved : HasReserved p h.registers) where
   -- the base of an access lies near, or twice as far and the offset is small
   base_lies : (x : Piece) (later : List Piece) (base : ℕ) (imm : ℤ) → AreKnown p h.registers (x ∷ later) → ((d : ℕ) → places d x.instr ≡ false) → ((d : ℕ) → masks d x.instr ≡ false)
       → ((d : ℕ) → uses d x.instr ≡ true → is_small imm ≡ true) → may_access base ≡ true
       → IsNear p 1020 (register h base) ⊎ (IsNear p (1020 + 2048) (register h base) × (is_small imm ≡ true))
   base_lies x later base imm known none none' small may =
       ⊎_elim
-      (λ (is : is_data base ≡ true). by (known.each_data base is))
+      (λ (is : is_data_register base ≡ true). by (known.each_data base is))
       (λ (is : (base == 26) ≡ true).
       let e : register h base ≡ p.data_base = ap (λ (r : ℕ). register h r) (eqb-true base 26 is) ∙ reserved.data_base in
-      let some : 256 ≤ p.data_size = placed.data_placed.at_least in
+      let some : 256 ≤ p.data_size = right.data_placed.at_least in
       inl (record { low = omega arith; high = omega arith }))
-      (or_cases (is_data base) (base == 26) may)
+      (or_cases (is_data_register base) (base == 26) may)
     where
       by : IsKnown p base (register h base) (x ∷ later) → IsNear p 1020 (register h base) ⊎ (IsNear p (1020 + 2048) (register h base) × (is_small imm ≡ true))
       by (inl lies) = inl lies
@@ -95,8 +97,8 @@ module _ (p : Part) (placed : IsPlaced p) (h : Hart) (reserved : HasReserved p h
       by (inr (inr (inr (lies, used_here)))) = inr (lies, small base used_here)
 
   access_near : (v : ℕ) (imm : ℤ) (n a : ℕ) → IsImm12 imm → n ≤ 4 → IsNear p 1020 v ⊎ (IsNear p (1020 + 2048) v × (is_small imm ≡ true)) → Rattle.std.specs.List.Contains (Rattle.rv_mem.specs.Bytes.addresses (offset_by v imm) n) a → InData p a ⊎ InGuard p a
-  access_near v imm n a range few (inl lies) has = near_access p placed.guard_room v 1020 2048 imm n a lies (imm12_within imm range) (omega arith) few has
-  access_near v imm n a range few (inr (lies, small)) has = near_access p placed.guard_room v (1020 + 2048) 1020 imm n a lies (small_within imm small) (omega arith) few has
+  access_near v imm n a range few (inl lies) has = near_access p right.guard_room v 1020 2048 imm n a lies (imm12_within imm range) (omega arith) few has
+  access_near v imm n a range few (inr (lies, small)) has = near_access p right.guard_room v (1020 + 2048) 1020 imm n a lies (small_within imm small) (omega arith) few has
 
   pub accesses_near : (i : Instr) (n : ℕ) (later : List Piece) → InRange i → breaks_access i ≡ false → AreKnown p h.registers (record { instr = i; size = n } ∷ later) → (a : ℕ) → Accesses i h a → InData p a ⊎ InGuard p a
   accesses_near (Load kind rd rs1 imm) n later range free known a has =
@@ -122,12 +124,12 @@ module _ (p : Part) (placed : IsPlaced p) (h : Hart) (reserved : HasReserved p h
       let parts = and_parts (rs1 == d) (is_small imm) u in
       let e = eqb-true rs1 d parts.0 in
       let inside' = inside (address_after (offset_by (register h rs1) imm) 0) (first_address _ (load_size kind) (load_sized kind).some) in
-      used p placed.guard_room (register h d) imm lies (small_within imm parts.1) (subst (λ (r : ℕ). InData p (address_after (offset_by (register h r) imm) 0)) e inside')
+      used p right.guard_room (register h d) imm lies (small_within imm parts.1) (subst (λ (r : ℕ). InData p (address_after (offset_by (register h r) imm) 0)) e inside')
   uses_back d (Store width rs1 rs2 imm) u lies inside =
       let parts = and_parts (rs1 == d) (is_small imm) u in
       let e = eqb-true rs1 d parts.0 in
       let inside' = inside (address_after (offset_by (register h rs1) imm) 0) (first_address _ (store_size width) (store_sized width).some) in
-      used p placed.guard_room (register h d) imm lies (small_within imm parts.1) (subst (λ (r : ℕ). InData p (address_after (offset_by (register h r) imm) 0)) e inside')
+      used p right.guard_room (register h d) imm lies (small_within imm parts.1) (subst (λ (r : ℕ). InData p (address_after (offset_by (register h r) imm) 0)) e inside')
   uses_back d _ u lies inside = absurd (false≢true u)
 
   -- ---- after the instruction
@@ -155,18 +157,18 @@ module _ (p : Part) (placed : IsPlaced p) (h : Hart) (reserved : HasReserved p h
         (record { places = λ d. refl; masks = λ d. refl; uses = λ d. refl; placing = λ b t. refl; masking = λ m t. refl })
         (subst (λ (i : Instr). IsKnown p d (register h d) (record { instr = i; size = x.size } ∷ later)) e known)
 
-    data_written : (d : ℕ) → is_data d ≡ true → writes_register d x.instr ≡ true → breaks_data x.instr later ≡ false → IsKnown p d (register after d) later
+    data_written : (d : ℕ) → is_data_register d ≡ true → writes_register d x.instr ≡ true → breaks_data x.instr later ≡ false → IsKnown p d (register after d) later
     data_written d is some free =
         let o = data_register d is in
         let within : d < length h.registers = omega (arith, o.below, count) in
-        let free' : (is_data d && not (may_write_data d x.instr later)) ≡ false = subst (λ (t : Option ℕ). breaks_data_of t x.instr later ≡ false) (writes_it d x.instr some) free in
+        let free' : (is_data_register d && not (may_write_data d x.instr later)) ≡ false = subst (λ (t : Option ℕ). breaks_data_of t x.instr later ≡ false) (writes_it d x.instr some) free in
         let may : may_write_data d x.instr later ≡ true = not-false _ (rw is at free') in
         ⊎_elim
         (λ (l : (places d x.instr || (not (is_jump x.instr) && begins_masking d later)) ≡ true). ⊎_elim
         (λ (e : places d x.instr ≡ true).
         let value : register after d ≡ bit_or (register h 31) (register h 26) = result_there x.instr Or d 31 26 x.size h m (or_is d 31 26 x.instr e) o.some within in
         let value' : register after d ≡ bit_or (register h 31) p.data_base = value ∙ ap (λ n. bit_or (register h 31) n) reserved.data_base in
-        let lies = at.placed p.data_base p.data_size 256 1048576 (register h 31) placed.data_placed known.offset in
+        let lies = at.placed p.data_base p.data_size 256 1048576 (register h 31) right.data_placed known.offset in
         let from : p.data_base ≤ bit_or (register h 31) p.data_base = lies.from in
         let below : bit_or (register h 31) p.data_base < p.data_base + p.data_size = lies.below in
         inl (record { low = omega arith; high = omega arith }))
@@ -176,10 +178,10 @@ module _ (p : Part) (placed : IsPlaced p) (h : Hart) (reserved : HasReserved p h
         let both = and_parts (is_step d x.instr) (begins_using d later) l in
         let step = step_is d x.instr both.0 in
         let value : register after d ≡ result_of Add (register h d) (word step.0) = step_there x.instr d d x.size step.0 h m step.1 o.some within in
-        inr (inr (inr (subst (λ (a : ℕ). IsNear p (1020 + 2048) a) (sym value) (stepped p placed.guard_room (register h d) step.0 (step_near d step.0 step.1 (known.each_data d is)) (imm12_within step.0 (step_range d step.0 (subst (λ (i : Instr). InRange i) step.1 range)))), both.1))))
+        inr (inr (inr (subst (λ (a : ℕ). IsNear p (1020 + 2048) a) (sym value) (stepped p right.guard_room (register h d) step.0 (step_near d step.0 step.1 (known.each_data d is)) (imm12_within step.0 (step_range d step.0 (subst (λ (i : Instr). InRange i) step.1 range)))), both.1))))
         (or_cases (places d x.instr || (not (is_jump x.instr) && begins_masking d later)) (is_step d x.instr && begins_using d later) may)
 
-    data_after : (d : ℕ) → is_data d ≡ true → breaks_data x.instr later ≡ false → ((a : ℕ) → Accesses x.instr h a → InData p a) → IsKnown p d (register after d) later
+    data_after : (d : ℕ) → is_data_register d ≡ true → breaks_data x.instr later ≡ false → ((a : ℕ) → Accesses x.instr h a → InData p a) → IsKnown p d (register after d) later
     data_after d is free inside =
         ⊎_elim
         (λ (some : writes_register d x.instr ≡ true). data_written d is some free)
@@ -193,11 +195,12 @@ module _ (p : Part) (placed : IsPlaced p) (h : Hart) (reserved : HasReserved p h
 
     code_placed : IsCodeKnown p (register h 30) (x ∷ later) → IsWordStart p (bit_or (register h 30) p.code_base)
     code_placed (inl start) =
-        let again = at.placed_again p.code_base (length p.code) 256 1048576 (register h 30) placed.code_placed (record { from = start.held.0; below = start.held.1 }) in
+        let again = at.placed_again p.code_base (length p.code) 256 (code_most p.format) (register h 30) right.code_placed (record { from = start.held.0; below = start.held.1 }) in
         subst (λ (a : ℕ). IsWordStart p a) (sym again) start
     code_placed (inr (e, (y, masked))) =
-        let lies = at.masked_code p.code_base (length p.code) 1048576 y placed.code_placed in
-        subst (λ (a : ℕ). IsWordStart p (bit_or a p.code_base)) (sym masked) (record { held = (lies.0.from, lies.0.below); aligned = lies.1 })
+        let lies = masked_code p.code_base (length p.code) (code_most p.format) y right.code_placed in
+        let mask : register h 30 ≡ bit_and y (length p.code - 4) = masked ∙ ap (λ (u : ℕ). bit_and y (length p.code - u)) (word_unit p.format words) in
+        subst (λ (a : ℕ). IsWordStart p (bit_or a p.code_base)) (sym mask) (record { held = (lies.0.from, lies.0.below); aligned = lies.1 })
 
     code_after : breaks_code x.instr later ≡ false → IsCodeKnown p (register after 30) later
     code_after free =
@@ -227,7 +230,7 @@ module _ (p : Part) (placed : IsPlaced p) (h : Hart) (reserved : HasReserved p h
         let within : 31 < length h.registers = omega (arith, count) in
         let mask = masking_is 27 31 x.instr may in
         let value : register after 31 ≡ bit_and (register h mask.0) (register h 27) = result_there x.instr And 31 mask.0 27 x.size h m mask.1 (λ z. omega arith) within in
-        let below = at.offset_below p.data_base p.data_size 256 1048576 (register h mask.0) placed.data_placed in
+        let below = at.offset_below p.data_base p.data_size 256 1048576 (register h mask.0) right.data_placed in
         subst (λ (a : ℕ). a < p.data_size) (sym (value ∙ ap (λ n. bit_and (register h mask.0) n) reserved.data_mask)) below)
         (λ (none : writes_register 31 x.instr ≡ false). subst (λ (a : ℕ). a < p.data_size) (sym (stays 31 none)) known.offset)
         (cases_Bool (writes_register 31 x.instr))
@@ -244,7 +247,7 @@ module _ (p : Part) (placed : IsPlaced p) (h : Hart) (reserved : HasReserved p h
     flow_other : (r : ℕ) → is_flow x.instr ≡ true → (destination x.instr ≡ Some r → ⊥) → register after r ≡ register h r
     flow_other r flow none = others_stay x.instr h after r (writes x.instr x.size h m) none
 
-    pub typed_after : is_flow x.instr ≡ true → breaks_data x.instr later ≡ false → breaks_code x.instr later ≡ false → breaks_offset x.instr ≡ false → IsTyped p after.registers
+    pub typed_after : is_flow x.instr ≡ true → breaks_data x.instr later ≡ false → breaks_code x.instr later ≡ false → breaks_offset x.instr ≡ false → AreWordsTyped p after.registers
     typed_after flow v10 v11 v12 =
         let plain = flow_plain x.instr flow in
         record {
@@ -266,9 +269,9 @@ module _ (p : Part) (placed : IsPlaced p) (h : Hart) (reserved : HasReserved p h
             let c = flow_jumps x.instr flow d e in
             rw (a, b, c) refl
 
-        not_data : (d : ℕ) → is_data d ≡ true → destination x.instr ≡ Some d → ⊥
+        not_data : (d : ℕ) → is_data_register d ≡ true → destination x.instr ≡ Some d → ⊥
         not_data d is e =
-            let free : (is_data d && not (may_write_data d x.instr later)) ≡ false = subst (λ (t : Option ℕ). breaks_data_of t x.instr later ≡ false) e v10 in
+            let free : (is_data_register d && not (may_write_data d x.instr later)) ≡ false = subst (λ (t : Option ℕ). breaks_data_of t x.instr later ≡ false) e v10 in
             let may : may_write_data d x.instr later ≡ true = not-false _ (rw is at free) in
             false≢true (sym (none_may d e) ∙ may)
 

@@ -1,7 +1,6 @@
 pub mod Prelude
 pub mod Masks
 pub mod Tests
-pub mod Near
 pub mod Effects
 pub mod Known
 pub mod Places
@@ -10,11 +9,7 @@ pub mod Turns
 pub mod After
 pub mod Owing
 pub mod Scanning
-pub mod Calling
-pub mod Entering
-pub mod Same
 pub mod Passing
-pub mod Words
 pub mod Judging
 pub mod Telling
 pub mod Listing

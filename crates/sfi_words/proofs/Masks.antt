@@ -1,55 +1,13 @@
--- What the masks leave: an offset, an address of the data region, a word's start.
-use Rattle.std.proofs.Common.{◌≡◌, ℕ, ◌+◌, ◌-◌, ◌*◌, ◌/◌, ◌%◌, ◌^◌, ◌<◌, ◌≤◌, ap, sym, ◌∙◌, ⊎_elim, arith}
-use Rattle.std.proofs.lemmas.Bool.{cases_lt}
-use Rattle.std.proofs.lemmas.Nat.{and_mask, or_shifted, or_comm, or_block, mod_below, pow_pos, pow-add, pow_below}
+-- What the mask of a code address leaves, and that code is whole words.
+use Rattle.std.proofs.Common.{◌≡◌, ℕ, ◌+◌, ◌-◌, ◌*◌, ◌/◌, ◌%◌, ◌^◌, ◌<◌, ◌≤◌, length, ap, ◌∙◌, arith}
+use Rattle.std.proofs.lemmas.Nat.{mod_below, pow_pos, pow-add}
 use Rattle.std.proofs.lemmas.Nat.Bits.{and_high}
-use Rattle.std.specs.Int.Bits.{bit_and, bit_or, or_self, or_zero_r}
+use Rattle.std.specs.Int.Bits.{bit_and, bit_or}
+use Rattle.sfi_image.specs.Parts.{IsRightPart}
 use Rattle.sfi_image.specs.Regions.{IsRegion}
-
--- a number below 2 ^ k, put into a block of 2 ^ k
-in_block : (q k r : ℕ) → r < 2 ^ k → bit_or r (q * 2 ^ k) ≡ q * 2 ^ k + r
-in_block q k r h = or_comm r (q * 2 ^ k) ∙ or_shifted q k r h
-
-power_at_least : (k j : ℕ) → 2 ^ j ≤ 2 ^ k → j ≤ k
-power_at_least k j h = ⊎_elim (λ less. let below : 2 ^ k < 2 ^ j = pow_below k j less in omega arith) (λ more. more) (cases_lt k j)
-
-pub record IsPlaced (base size a : ℕ) : Type 0 where
-  pub from : base ≤ a
-  pub below : a < base + size
-
--- the mask of the data size less 1 leaves an offset
-pub offset_below : (base size least most x : ℕ) → IsRegion base size least most → bit_and x (size - 1) < size
-offset_below base size least most x region =
-    let k = region.power in
-    let size_is : size ≡ 2 ^ k = region.size_is in
-    let below : x % 2 ^ k < 2 ^ k = mod_below x (2 ^ k) (pow_pos k) in
-    let value : bit_and x (size - 1) ≡ x % 2 ^ k = ap (λ n. bit_and x (n - 1)) region.size_is ∙ and_mask x k in
-    omega arith
-
--- the base's bits put an offset into the region
-pub placed : (base size least most x : ℕ) → IsRegion base size least most → x < size → IsPlaced base size (bit_or x base)
-placed base size least most x region below =
-    let k = region.power in
-    let q = region.multiple in
-    let size_is : size ≡ 2 ^ k = region.size_is in
-    let base_is : base ≡ q * 2 ^ k = region.base_is ∙ ap (λ n. q * n) region.size_is in
-    let value : bit_or x base ≡ q * 2 ^ k + x = ap (λ n. bit_or x n) base_is ∙ in_block q k x (omega arith) in
-    record { from = omega arith; below = omega arith }
-
--- and leave an address of the region as it is
-pub placed_again : (base size least most a : ℕ) → IsRegion base size least most → IsPlaced base size a → bit_or a base ≡ a
-placed_again base size least most a region h =
-    let k = region.power in
-    let q = region.multiple in
-    let size_is : size ≡ 2 ^ k = region.size_is in
-    let base_is : base ≡ q * 2 ^ k = region.base_is ∙ ap (λ n. q * n) region.size_is in
-    let from : base ≤ a = h.from in
-    let below : a < base + size = h.below in
-    let r = a - base in
-    let a_is : a ≡ q * 2 ^ k + r = omega arith in
-    let base_is' : base ≡ q * 2 ^ k + 0 = omega arith in
-    let value : bit_or (q * 2 ^ k + r) (q * 2 ^ k + 0) ≡ bit_or q q * 2 ^ k + bit_or r 0 = or_block k q q r 0 (omega arith) (pow_pos k) in
-    ap (λ n. bit_or n base) a_is ∙ ap (λ n. bit_or (q * 2 ^ k + r) n) base_is' ∙ value ∙ ap (λ n. n * 2 ^ k + bit_or r 0) (or_self q) ∙ ap (λ n. q * 2 ^ k + n) (or_zero_r r) ∙ sym a_is
+use Rattle.sfi_image.specs.Spelling.{Part}
+use Rattle.sfi_image.proofs.Facts.{whole_bundles}
+use Rattle.sfi_runs.proofs.Masks.{IsPlaced, in_block, power_at_least}
 
 -- the mask of the code size less 4, and then the base's bits, leave a word's start
 pub masked_code : (base size most x : ℕ) → IsRegion base size 256 most → IsPlaced base size (bit_or (bit_and x (size - 4)) base) × (bit_or (bit_and x (size - 4)) base % 4 ≡ 0)
@@ -74,23 +32,14 @@ masked_code base size most x region =
     let value' : bit_or (bit_and x (size - 4)) base ≡ (q * 2 ^ j + y) * 4 = omega arith in
     (record { from = omega arith; below = omega arith }, omega arith)
 
--- a region's base is a multiple of 16, and its size too
-pub whole_bundles : (base size most : ℕ) → IsRegion base size 256 most → (base % 16 ≡ 0) × (size % 16 ≡ 0)
-whole_bundles base size most region =
-    let k = region.power in
-    let q = region.multiple in
-    let size_is : size ≡ 2 ^ k = region.size_is in
-    let at_least : 256 ≤ size = region.at_least in
-    let wide : 8 ≤ k = power_at_least k 8 (omega arith) in
-    let j = k - 4 in
-    let k_is : k ≡ j + 4 = omega arith in
-    let power : 2 ^ k ≡ 2 ^ j * 16 = ap (λ n. 2 ^ n) k_is ∙ pow-add 2 j 4 in
-    let base_is : base ≡ q * 2 ^ k = region.base_is ∙ ap (λ n. q * n) region.size_is in
-    let block : q * 2 ^ k ≡ (q * 2 ^ j) * 16 = ap (λ n. q * n) power ∙ omega arith in
-    (omega arith, omega arith)
+-- the code's base is a multiple of 16, and its size too
+pub whole : (p : Part) → IsRightPart p → (p.code_base % 16 ≡ 0) × (length p.code % 16 ≡ 0)
+whole p right =
+    let bundles = whole_bundles p.format p.code_base (length p.code) right.code_base right.code_placed in
+    (let e = bundles.3 in omega arith, let e = bundles.2 in omega arith)
 
 -- so of 4
-pub whole_words : (base size most : ℕ) → IsRegion base size 256 most → (base % 4 ≡ 0) × (size % 4 ≡ 0)
-whole_words base size most region =
-    let whole = whole_bundles base size most region in
-    (omega (arith, whole.0), omega (arith, whole.1))
+pub whole_words : (p : Part) → IsRightPart p → (p.code_base % 4 ≡ 0) × (length p.code % 4 ≡ 0)
+whole_words p right =
+    let both = whole p right in
+    (omega (arith, both.0), omega (arith, both.1))

@@ -1,8 +1,8 @@
 -- What is owed after an instruction is what comes there, where it breaks no rule that looks ahead and what was owed before it comes.
-use Rattle.sfi_words.proofs.Prelude.{◌≡◌, ℕ, Bool, true, false, cond, not, ◌&&◌, ◌||◌, ◌==◌, List, ◌∷◌, Option, Some, None, refl, sym, ap, ◌∙◌, subst, destination, Instr, Op, And, is_masking, is_placing, Piece, is_jump, is_data, places, masks, begins_placing, begins_masking, is_step, uses, begins_using, begins_code, may_write_data, breaks_data_of, breaks_data, may_write_code, breaks_code, is_and, eqb-true, and_parts, false≢true, is_register, writes_register}
-use Rattle.sfi_words.specs.declared.owed.Owed.{Owed}
-use Rattle.sfi_words.specs.declared.owed.Owed.TheVariants.{Nothing, Mask, Place, MaskOrUse, Code}
-use Rattle.sfi_words.specs.Owing.{left, owed_by_data, owed_by_code, owed_of, owed_by}
+use Rattle.sfi_words.proofs.Prelude.{◌≡◌, ℕ, Bool, true, false, cond, not, ◌&&◌, ◌||◌, ◌==◌, List, ◌∷◌, Option, Some, None, refl, sym, ap, ◌∙◌, subst, destination, Instr, Op, And, is_masking, is_placing, Piece, is_jump, is_data_register, places, masks, begins_placing, begins_masking, is_step, uses, begins_using, begins_code, may_write_data, breaks_data_of, breaks_data, may_write_code, breaks_code, is_and, eqb-true, and_parts, false≢true, is_register, writes_register}
+use Rattle.sfi_rules.specs.declared.owed.Owed.{Owed}
+use Rattle.sfi_rules.specs.declared.owed.Owed.TheVariants.{Nothing, Mask, Place, MaskOrUse, Code}
+use Rattle.sfi_rules.specs.words.Owing.{left, owed_by_data, owed_by_code, owed_of, owed_by}
 
 -- what is owed comes
 abbrev pub meets : Owed → List Piece → Bool
@@ -112,18 +112,18 @@ of_destination d i later false true mayd true o c apart e f = f
 of_destination d i later false true mayd false o c apart e f = f
 of_destination d i later false false mayd mayc o c apart e f = refl
 
-not_thirty : (d : ℕ) → is_data d ≡ true → (d == 30) ≡ false
+not_thirty : (d : ℕ) → is_data_register d ≡ true → (d == 30) ≡ false
 not_thirty d h = by (d == 30) refl
   where
     by : (b : Bool) → (d == 30) ≡ b → b ≡ false
     by false e = refl
-    by true e = absurd (let same = eqb-true d 30 e in false≢true (subst (λ (n : ℕ). is_data n ≡ true) same h))
+    by true e = absurd (let same = eqb-true d 30 e in false≢true (subst (λ (n : ℕ). is_data_register n ≡ true) same h))
 
 owed_is : (o : Option ℕ) (i : Instr) (later : List Piece) → destination i ≡ o → keeps i later ≡ meets_if (owed_of o i) later
 owed_is None i later e = ap (λ (t : Option ℕ). not (breaks_data_of t i later) && not (is_register 30 t && not (may_write_code i later))) e
 owed_is (Some d) i later e =
     ap (λ (t : Option ℕ). not (breaks_data_of t i later) && not (is_register 30 t && not (may_write_code i later))) e
-    ∙ of_destination d i later (is_data d) (d == 30) (may_write_data d i later) (may_write_code i later) (owed_by_data d i) (owed_by_code i) (not_thirty d) (data_is d i later) (code_is i later)
+    ∙ of_destination d i later (is_data_register d) (d == 30) (may_write_data d i later) (may_write_code i later) (owed_by_data d i) (owed_by_code i) (not_thirty d) (data_is d i later) (code_is i later)
 
 pub keeps_is : (i : Instr) (later : List Piece) → keeps i later ≡ meets_if (owed_by i) later
 keeps_is i later = owed_is (destination i) i later refl

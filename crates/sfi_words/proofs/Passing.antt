@@ -8,13 +8,14 @@ use Rattle.sfi_image.specs.Spelling.{Part}
 use Rattle.sfi_rules.specs.Readings.{Piece, IsReading, rest_of}
 use Rattle.sfi_rules.specs.Rules.{is_empty, breaks_reserved, ends_region}
 use Rattle.sfi_image.specs.Gates.{is_gate_of}
-use Rattle.sfi_words.specs.Rules.{breaks_width, breaks_ecall, breaks_access, breaks_jump, breaks_target, breaks_end, breaks_data, breaks_code, breaks_offset}
+use Rattle.sfi_rules.specs.words.Rules.{breaks_width, breaks_ecall, breaks_access, breaks_jump, breaks_target, breaks_end, breaks_data, breaks_code, breaks_offset}
 use Rattle.sfi_words.specs.Code.{BreaksNone, BreakNone, AreWordsClean}
-use Rattle.sfi_words.specs.declared.owed.Owed.{Owed}
-use Rattle.sfi_words.specs.declared.owed.Owed.TheVariants.{Nothing, Mask, Place, MaskOrUse, Code}
-use Rattle.sfi_words.proofs.After.{IsStuck, spelled_within, begins, none_there}
+use Rattle.sfi_rules.specs.declared.owed.Owed.{Owed}
+use Rattle.sfi_rules.specs.declared.owed.Owed.TheVariants.{Nothing, Mask, Place, MaskOrUse, Code}
+use Rattle.sfi_words.proofs.After.{begins, none_there}
+use Rattle.sfi_rules.proofs.Readings.{IsStuck, spelled_within}
 use Rattle.sfi_words.proofs.Owing.{meets, meets_if, owed_after, is_nothing, keeps, after_is}
-use Rattle.sfi_words.specs.Findings.{fails_data, fails_code}
+use Rattle.sfi_rules.specs.words.Findings.{fails_data, fails_code}
 use Rattle.sfi_words.proofs.Judging.{none_failing}
 use Rattle.sfi_words.proofs.Scanning.{IsCleanFrom, at_first, at_last}
 

@@ -1,14 +1,10 @@
 -- Each word's start is a place of the code's reading, and so is what stands after one; the one instruction there is the reading's.
-use Rattle.sfi_words.proofs.Prelude.{◌≡◌, ℕ, ◌+◌, ◌-◌, ◌%◌, ◌^◌, ◌<◌, ◌≤◌, ◌⊎◌, List, [], ◌∷◌, length, take, drop, get_or, Bool, true, false, not, ◌==◌, refl, sym, ap, ◌∙◌, subst, ⊎_elim, arith, Some, add-zero, get_or-take, get_or-drop, slice_index, length-take, length-drop, drop-drop, cases_lt, eqb-true, eq-eqb, false≢true, Spells, Bytes, byte_at, bytes_at, address_after, addresses, Hart, Stands, Part, Piece, IsReading, rest_of, is_empty, ends_region, InCode, HasCode, IsWordStart, breaks_width, BreakNone, IsPlaced, IsCleanPart, AreKnown, IsPlace, IsAtPlace, IsTyped}
+use Rattle.sfi_words.proofs.Prelude.{◌≡◌, ℕ, ◌+◌, ◌-◌, ◌%◌, ◌<◌, ◌≤◌, ◌⊎◌, List, [], ◌∷◌, length, take, drop, get_or, Bool, true, false, not, ◌==◌, refl, sym, ap, ◌∙◌, subst, ⊎_elim, arith, Some, add-zero, get_or-take, get_or-drop, slice_index, length-take, length-drop, drop-drop, cases_lt, eqb-true, eq-eqb, false≢true, Spells, Bytes, byte_at, bytes_at, address_after, addresses, Hart, Stands, Part, Piece, IsReading, rest_of, is_empty, ends_region, InCode, HasCode, IsWordStart, breaks_width, BreakNone, IsCleanPart, AreKnown, IsPlace, IsAtPlace, AreWordsTyped}
 use Rattle.rv_comp.proofs.Facts.{spelled_length, spelled_some, two_lengths}
-use Rattle.sfi_image.proofs.Facts.{whole_bundles}
-use Rattle.sfi_policy.specs.declared.format.Format.TheVariants.{Sfi2}
-use Rattle.sfi_safety.proofs.Places.{read_all}
+use Rattle.sfi_image.proofs.Facts.{code_ends}
+use Rattle.sfi_runs.proofs.Stepping.{read_all}
 use Rattle.sfi_words.proofs.Masks.{whole_words}
 use Rattle.sfi_words.proofs.Known.{typed_known}
-
-pub code_ends : (p : Part) → IsPlaced p → p.code_base + length p.code ≤ 2 ^ 32
-code_ends p placed = (whole_bundles Sfi2 p.code_base (length p.code) placed.code_base placed.code_placed).4
 
 -- ---- pieces
 
@@ -39,10 +35,10 @@ sized p bytes offset x base spelled kept =
 
 module _ (p : Part) (clean : IsCleanPart p) where
   base_aligned : p.code_base % 4 ≡ 0
-  base_aligned = (whole_words p.code_base (length p.code) 1048576 clean.placed.code_placed).0
+  base_aligned = (whole_words p clean.right).0
 
   size_aligned : length p.code % 4 ≡ 0
-  size_aligned = (whole_words p.code_base (length p.code) 1048576 clean.placed.code_placed).1
+  size_aligned = (whole_words p clean.right).1
 
   -- ---- a word's start
 
@@ -74,7 +70,7 @@ module _ (p : Part) (clean : IsCleanPart p) where
       place_from k aligned below c.reading 0 c.is_reading c.whole (subst (λ (at : ℕ). BreakNone p at c.reading) (sym (add-zero p.code_base)) c.none) (omega arith) (omega arith)
 
   -- with the typed registers set
-  pub at_start : (h : Hart) → IsWordStart p h.pc → IsTyped p h.registers → IsAtPlace p h
+  pub at_start : (h : Hart) → IsWordStart p h.pc → AreWordsTyped p h.registers → IsAtPlace p h
   at_start h start typed =
       let base = base_aligned in
       let from : p.code_base ≤ h.pc = start.held.0 in
@@ -130,7 +126,7 @@ module _ (p : Part) (clean : IsCleanPart p) where
         let a : 0 < x.size = lies.some in
         let b : x.size ≤ length (drop (offset + n) p.code) = lies.within in
         let inside : offset + n < length p.code = omega (arith, length-drop (offset + n) p.code) in
-        let end = code_ends p clean.placed in
+        let end = code_ends p clean.right in
         let pc : h.pc ≡ p.code_base + offset = at.pc in
         let size = sized p (drop offset p.code) offset at.place.here base_aligned at.place.reading.0 at.place.none.0.width in
         let even : offset % 2 ≡ 0 = at.even in
@@ -160,7 +156,7 @@ module _ (p : Part) (clean : IsCleanPart p) where
         let size = here_within in
         let within : at.offset + at.place.here.size ≤ length p.code = size.1 in
         let below' : k < at.place.here.size = subst (λ n. k < n) length_here below in
-        let end = code_ends p clean.placed in
+        let end = code_ends p clean.right in
         let pc : h.pc ≡ p.code_base + at.offset = at.pc in
         let j = at.offset + k in
         let same : address_after h.pc k ≡ p.code_base + j = omega arith in
@@ -179,7 +175,7 @@ module _ (p : Part) (clean : IsCleanPart p) where
     byte_in_code k below =
         let size = here_within in
         let within : at.offset + at.place.here.size ≤ length p.code = size.1 in
-        let end = code_ends p clean.placed in
+        let end = code_ends p clean.right in
         let pc : h.pc ≡ p.code_base + at.offset = at.pc in
         let e : address_after h.pc k ≡ h.pc + k = omega arith in
         (omega arith, omega arith)

@@ -27,7 +27,7 @@ pub use Rattle.rv_step.specs.Values.{word, result_of, load_size, store_size, is_
 pub use Rattle.rv_step.specs.declared.outcome.Outcome.{Outcome}
 pub use Rattle.rv_step.specs.declared.outcome.Outcome.TheVariants.{Next, Call, Trap}
 pub use Rattle.sfi_pairs.specs.Pairs.{is_masking, is_placing}
-pub use Rattle.sfi_policy.specs.Registers.{is_reserved}
+pub use Rattle.sfi_policy.specs.Registers.{is_reserved, is_data_register}
 pub use Rattle.sfi_image.specs.Spelling.{Part}
 pub use Rattle.sfi_image.specs.Spans.{Holds, code_region, guarded_region}
 pub use Rattle.sfi_image.specs.Regions.{IsRegion, HasGuardRoom}
@@ -35,12 +35,13 @@ pub use Rattle.sfi_image.specs.Gates.{is_gate_of}
 pub use Rattle.sfi_rules.specs.Readings.{Piece, IsReading, rest_of}
 pub use Rattle.sfi_rules.specs.Rules.{is_empty, breaks_reserved, ends_region}
 pub use Rattle.sfi_rules.specs.Stack.{is_jump}
-pub use Rattle.sfi_safety.specs.Regions.{InCode, InData, InGuard, IsGate, HasCode, HasEmptyGuards}
-pub use Rattle.sfi_safety.specs.Runs.{KeepsBytes, IsChange, Turn, Steps, Replies, Changes, after_step, after_turn}
-pub use Rattle.sfi_safety.specs.Safety.{IsSafeState, IsSafeStep, IsSafeTurn, IsSafeRun, IsTrap}
-pub use Rattle.sfi_words.specs.Typed.{is_data, IsWordStart, IsNear, HasReserved, IsTyped}
-pub use Rattle.sfi_words.specs.Rules.{is_and, is_or, places, masks, begins_placing, begins_masking, is_small, is_step, uses, begins_using, begins_code, breaks_width, breaks_ecall, may_access, breaks_access, breaks_jump, is_word_start, breaks_target, breaks_end, may_write_data, breaks_data_of, breaks_data, may_write_code, breaks_code, breaks_offset}
-pub use Rattle.sfi_words.specs.Code.{BreaksNone, BreakNone, AreWordsClean, IsPlaced, IsCleanPart}
-pub use Rattle.sfi_words.specs.Places.{IsKnown, IsCodeKnown, AreKnown, IsPlace, IsAtPlace, KeepsAll, IsGood, IsGoodIf}
-pub use Rattle.sfi_words.specs.Runs.{IsEntry, IsReply, IsTurn, IsRun, RunsSafely}
+pub use Rattle.sfi_runs.specs.Regions.{InCode, InData, InGuard, IsGate, HasReserved, HasCode, HasEmptyGuards}
+pub use Rattle.sfi_runs.specs.Runs.{IsReply, IsChange, IsTurn, Turn, Steps, Replies, Changes, after_step, after_turn}
+pub use Rattle.sfi_runs.specs.Safety.{IsSafeState, IsSafeStep, IsSafeTurn}
+pub use Rattle.sfi_runs.specs.Typed.{IsWordStart, IsNear, AreWordsTyped}
+pub use Rattle.sfi_policy.specs.Formats.{has_words}
+pub use Rattle.sfi_image.specs.Parts.{IsRightPart}
+pub use Rattle.sfi_rules.specs.words.Rules.{is_and, is_or, places, masks, begins_placing, begins_masking, is_small, is_step, uses, begins_using, begins_code, breaks_width, breaks_ecall, may_access, breaks_access, breaks_jump, is_word_start, breaks_target, breaks_end, may_write_data, breaks_data_of, breaks_data, may_write_code, breaks_code, breaks_offset}
+pub use Rattle.sfi_words.specs.Code.{BreaksNone, BreakNone, AreWordsClean, IsCleanPart}
+pub use Rattle.sfi_words.specs.Places.{IsKnown, IsCodeKnown, AreKnown, IsPlace, IsAtPlace, IsGood, IsGoodIf}
 pub use Rattle.sfi_words.specs.Laws.{EntryIsGood, TurnKeeps, CleanRunsSafely}

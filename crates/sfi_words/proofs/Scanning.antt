@@ -4,7 +4,8 @@ use Rattle.std.proofs.lemmas.List.{length-drop}
 use Rattle.sfi_image.specs.Spelling.{Part}
 use Rattle.sfi_rules.specs.Readings.{Piece, IsReading, rest_of}
 use Rattle.sfi_words.specs.Code.{BreakNone, AreWordsClean}
-use Rattle.sfi_words.proofs.After.{IsStuck, none_there}
+use Rattle.sfi_words.proofs.After.{none_there}
+use Rattle.sfi_rules.proofs.Readings.{IsStuck}
 
 -- from the offset on the code is read whole, and none breaks a rule
 pub record IsCleanFrom (p : Part) (at : ℕ) : Type 0 where

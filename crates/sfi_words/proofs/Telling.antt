@@ -10,27 +10,28 @@ use Rattle.sfi_rules.specs.declared.bundle.BundlePlace.{BundlePlace}
 use Rattle.sfi_rules.specs.Readings.{Piece, IsReading, IsLongestReading, rest_of}
 use Rattle.sfi_rules.specs.Rules.{is_empty, ends_region}
 use Rattle.sfi_words.specs.Code.{BreakNone, AreWordsClean}
-use Rattle.sfi_words.specs.Rules.{breaks_width, breaks_ecall}
-use Rattle.sfi_words.specs.declared.finding.WordFinding.{WordFinding}
-use Rattle.sfi_words.specs.declared.owed.Owed.{Owed}
-use Rattle.sfi_words.specs.declared.owed.Owed.TheVariants as kind
-use Rattle.sfi_words.specs.declared.rule.WordRule.{WordRule}
-use Rattle.sfi_words.specs.Owing.{owed_next}
-use Rattle.sfi_words.specs.Findings.{Place, is_at_gate, lowest, found_at, found_from, found_rest, owed_past, IsWordFound}
+use Rattle.sfi_rules.specs.words.Rules.{breaks_width, breaks_ecall}
+use Rattle.sfi_rules.specs.declared.finding.Finding.{Finding}
+use Rattle.sfi_rules.specs.declared.owed.Owed.{Owed}
+use Rattle.sfi_rules.specs.declared.owed.Owed.TheVariants as kind
+use Rattle.sfi_rules.specs.declared.rule.Rule.{Rule}
+use Rattle.sfi_rules.specs.words.Owing.{owed_next}
+use Rattle.sfi_rules.specs.words.Findings.{Place, is_at_gate, lowest, found_at, found_from, owed_past, IsWordFound}
+use Rattle.sfi_rules.specs.Broken.{rest_finding}
 use Rattle.sfi_words.proofs.Owing.{is_nothing}
 use Rattle.sfi_words.proofs.Judging.{AreKept, kept_of, none_of, after_is_next, ends_owing}
 use Rattle.sfi_words.proofs.Passing.{BreaksNoneHere, IsKeptHere, IsCleanWith, IsSameWith, with_first, with_last, kept_here, goes}
-use Rattle.sfi_words.proofs.Words.{two_or_four}
-use Rattle.sfi_words.proofs.After.{IsStuck, spelled_within}
+use Rattle.rv_comp.proofs.Facts.{two_lengths}
+use Rattle.sfi_rules.proofs.Readings.{IsStuck, spelled_within}
 
 -- this is owed at the offset, after these findings
-pub record Tells (p : Part) (at : ℕ) (owed : Owed) (found : List WordFinding) : Type 0 where
+pub record Tells (p : Part) (at : ℕ) (owed : Owed) (found : List Finding) : Type 0 where
   pub ended : Bool
   pub end : length p.code ≤ at → found ≡ [] → (is_nothing owed && ended) ≡ true
   pub none : found ≡ [] → IsSameWith p at owed ended
   pub some : found ≢ [] → AreWordsClean p → ⊥
 
-pub no_more : (xs ys : List WordFinding) → xs ++ ys ≡ [] → (xs ≡ []) × (ys ≡ [])
+pub no_more : (xs ys : List Finding) → xs ++ ys ≡ [] → (xs ≡ []) × (ys ≡ [])
 no_more [] ys e = (refl, e)
 no_more (x ∷ xs) ys e = absurd cc
 
@@ -43,7 +44,7 @@ tells_first p = record {
 }
 
 -- at the code's end
-pub told : (p : Part) (at : ℕ) (owed : Owed) (found : List WordFinding) → length p.code ≤ at → Tells p at owed found → (found ≡ []) ↔ AreWordsClean p
+pub told : (p : Part) (at : ℕ) (owed : Owed) (found : List Finding) → length p.code ≤ at → Tells p at owed found → (found ≡ []) ↔ AreWordsClean p
 told p at owed [] past t = (
   λ e. (t.none refl).1 (with_last p at owed t.ended past (t.end past refl)),
   λ clean. refl,
@@ -55,11 +56,11 @@ told p at owed (x ∷ found) past t = (
 
 -- ---- an instruction
 
-found_none : (b : BundlePlace) (at : ℕ) (o : Option WordRule) → found_at b at o ≡ [] → o ≡ None
+found_none : (b : BundlePlace) (at : ℕ) (o : Option Rule) → found_at b at o ≡ [] → o ≡ None
 found_none b at None e = refl
 found_none b at (Some rule) e = absurd cc
 
-none_found : (b : BundlePlace) (at : ℕ) (o : Option WordRule) → o ≡ None → found_at b at o ≡ []
+none_found : (b : BundlePlace) (at : ℕ) (o : Option Rule) → o ≡ None → found_at b at o ≡ []
 none_found b at o e = ap (found_at b at) e
 
 -- what the bundle's place says of the sandbox
@@ -67,7 +68,7 @@ pub record IsPlaceIn (p : Part) (b : BundlePlace) : Type 0 where
   pub base : b.code_base ≡ p.code_base
   pub size : b.code_size ≡ length p.code
 
-module _ (p : Part) (b : BundlePlace) (in_part : IsPlaceIn p b) (at : ℕ) (i : Instr) (n : ℕ) (s : Spells (take n (drop at p.code)) i n) (o : Owed) (found : List WordFinding)
+module _ (p : Part) (b : BundlePlace) (in_part : IsPlaceIn p b) (at : ℕ) (i : Instr) (n : ℕ) (s : Spells (take n (drop at p.code)) i n) (o : Owed) (found : List Finding)
     (width : breaks_width (p.code_base + at) n ≡ false) (gate : is_at_gate b (p.code_base + at) ≡ is_gate_of p.gates (p.code_base + at)) (t : Tells p at o found) where
   abbrev this : Place
   this = record { bundle = b; address = p.code_base + at; owed = o; instr = i; size = n }
@@ -132,7 +133,7 @@ module _ (p : Part) (b : BundlePlace) (in_part : IsPlaceIn p b) (at : ℕ) (i : 
     some = λ ne clean. ne (none_here found t clean refl);
   }
     where
-      none_here : (xs : List WordFinding) → Tells p at o xs → AreWordsClean p → xs ≡ found → found ++ found_at b (p.code_base + at) (lowest this) ≡ []
+      none_here : (xs : List Finding) → Tells p at o xs → AreWordsClean p → xs ≡ found → found ++ found_at b (p.code_base + at) (lowest this) ≡ []
       none_here [] u clean e =
           let k = kept_by (kept_here p at i n s o t.ended (t.none (sym e)) clean) in
           rw (sym e) (none_found b (p.code_base + at) (lowest this) (none_of this k))
@@ -175,9 +176,9 @@ not_stuck p at m o e left more stuck c = by c.rest.pieces c.rest.reading c.rest.
 
     by : (pieces : List Piece) → IsReading (drop at p.code) pieces → rest_of (drop at p.code) pieces ≡ [] → BreakNone p (p.code_base + at) pieces → ⊥
     by [] r whole none = let gone : length (drop at p.code) ≡ 0 = ap length whole in let inside = left.inside in omega (arith, gone, length-drop at p.code)
-    by (x ∷ pieces) r whole none = sized x r.0 none.0.width (two_or_four (take x.size (drop at p.code)) x.instr x.size r.0)
+    by (x ∷ pieces) r whole none = sized x r.0 none.0.width (two_lengths (take x.size (drop at p.code)) x.instr x.size r.0)
 
-pub rest_tells : (p : Part) (at m : ℕ) (o next : Owed) (found here : List WordFinding) → IsLeft p at m → 0 < m → here ≢ [] → IsStuck (Code p at m) → Tells p at o found → Tells p (at + m) next (found ++ here)
+pub rest_tells : (p : Part) (at m : ℕ) (o next : Owed) (found here : List Finding) → IsLeft p at m → 0 < m → here ≢ [] → IsStuck (Code p at m) → Tells p at o found → Tells p (at + m) next (found ++ here)
 rest_tells p at m o next found here left more some stuck t = record {
   ended = true;
   end = λ past e. absurd (some (no_more found here e).1);
@@ -185,13 +186,13 @@ rest_tells p at m o next found here left more some stuck t = record {
   some = λ ne clean. by found t refl clean;
 }
   where
-    by : (xs : List WordFinding) → Tells p at o xs → xs ≡ found → AreWordsClean p → ⊥
+    by : (xs : List Finding) → Tells p at o xs → xs ≡ found → AreWordsClean p → ⊥
     by [] u e clean = not_stuck p at m o t.ended left more stuck ((t.none (sym e)).0 clean)
     by (x ∷ xs) u e clean = u.some (λ g. absurd cc) clean
 
 -- ---- a word
 
-rest_some : (b : BundlePlace) (at : ℕ) (rest : List ℕ) → 0 < length rest → found_rest b at rest ≢ []
+rest_some : (b : BundlePlace) (at : ℕ) (rest : List ℕ) → 0 < length rest → rest_finding b at rest ≢ []
 rest_some b at [] more e = omega arith
 rest_some b at (low ∷ []) more e = absurd cc
 rest_some b at (low ∷ high ∷ []) more e = absurd cc
@@ -211,28 +212,28 @@ longest_later bytes x later h = record {
 }
 
 module _ (p : Part) (b : BundlePlace) (in_part : IsPlaceIn p b) (begin end : ℕ) (gate : IsGateOf p b begin end) where
-  walk : (pieces : List Piece) (at m : ℕ) (w : List ℕ) (o : Owed) (found : List WordFinding) → w ≡ Code p at m → IsLeft p at m → begin ≤ at → at + m ≤ end → IsLongestReading w pieces → Tells p at o found
-      → (k : ℕ) → Tells p (at + m) (cond (is_empty (rest_of w pieces)) (owed_past o pieces) kind.Nothing) (found ++ (found_from b (p.code_base + at) o pieces ++ found_rest b k (rest_of w pieces)))
+  walk : (pieces : List Piece) (at m : ℕ) (w : List ℕ) (o : Owed) (found : List Finding) → w ≡ Code p at m → IsLeft p at m → begin ≤ at → at + m ≤ end → IsLongestReading w pieces → Tells p at o found
+      → (k : ℕ) → Tells p (at + m) (cond (is_empty (rest_of w pieces)) (owed_past o pieces) kind.Nothing) (found ++ (found_from b (p.code_base + at) o pieces ++ rest_finding b k (rest_of w pieces)))
   walk [] at m w o found e left from below longest t k = by w refl
     where
-      by : (v : List ℕ) → w ≡ v → Tells p (at + m) (cond (is_empty v) o kind.Nothing) (found ++ found_rest b k v)
+      by : (v : List ℕ) → w ≡ v → Tells p (at + m) (cond (is_empty v) o kind.Nothing) (found ++ rest_finding b k v)
       by [] f =
           let none : length (Code p at m) ≡ 0 = ap length (sym e ∙ f) in
           let inside = left.inside in
           let cut = length-take m (drop at p.code) in
           let drops = length-drop at p.code in
           let zero : m ≡ 0 = omega (arith, none, cut, drops) in
-          subst (λ (q : ℕ). Tells p q o (found ++ [])) (let s : at ≡ at + m = omega arith in s) (subst (λ (l : List WordFinding). Tells p at o l) (sym (append-nil found)) t)
+          subst (λ (q : ℕ). Tells p q o (found ++ [])) (let s : at ≡ at + m = omega arith in s) (subst (λ (l : List Finding). Tells p at o l) (sym (append-nil found)) t)
       by (y ∷ v) f =
           let some : 0 < m = (let cut = length-take m (drop at p.code) in let count : length (Code p at m) ≡ suc (length v) = ap length (sym e ∙ f) in omega (arith, cut, count)) in
-          rest_tells p at m o kind.Nothing found (found_rest b k (y ∷ v)) left some (rest_some b k (y ∷ v) (omega arith)) (subst IsStuck e (longest_stuck w longest)) t
+          rest_tells p at m o kind.Nothing found (rest_finding b k (y ∷ v)) left some (rest_some b k (y ∷ v) (omega arith)) (subst IsStuck e (longest_stuck w longest)) t
   walk (x ∷ later) at m w o found e left from below longest t k =
       let s = longest.is_reading.0 in
       let within = spelled_within w x.instr x.size s in
       let cut = length-take m (drop at p.code) in
       let count : length w ≡ length (Code p at m) = ap length e in
       let fits : x.size ≤ m = omega (arith, within.1, cut, count) in
-      let size = two_or_four (take x.size w) x.instr x.size s in
+      let size = two_lengths (take x.size w) x.instr x.size s in
       let here = spelled_more p at m x.instr x.size fits (subst (λ (l : List ℕ). Spells (take x.size l) x.instr x.size) e s) in
       let rest = m - x.size in
       let sum : x.size + rest ≡ m = omega (arith, fits) in
@@ -241,19 +242,19 @@ module _ (p : Part) (b : BundlePlace) (in_part : IsPlaceIn p b) (begin end : ℕ
       let there : at + x.size + rest ≡ at + m = omega (arith, sum) in
       let t' = tells_next p b in_part at x.instr x.size here o found (width_kept x.size left fits size) (gate at from (omega (arith, within.0, fits, below))) t in
       let next = walk later (at + x.size) rest (drop x.size w) (owed_next o x.instr) _ dropped (left_after x.size left fits size there) (omega (arith, from)) (omega (arith, there, below)) (longest_later w x later longest) t' k in
-      let first : List WordFinding = found_at b (p.code_base + at) (lowest (record { bundle = b; address = p.code_base + at; owed = o; instr = x.instr; size = x.size })) in
-      let more : List WordFinding = found_from b (p.code_base + (at + x.size)) (owed_next o x.instr) later in
-      let more' : List WordFinding = found_from b (p.code_base + at + x.size) (owed_next o x.instr) later in
-      let last : List WordFinding = found_rest b k (rest_of (drop x.size w) later) in
+      let first : List Finding = found_at b (p.code_base + at) (lowest (record { bundle = b; address = p.code_base + at; owed = o; instr = x.instr; size = x.size })) in
+      let more : List Finding = found_from b (p.code_base + (at + x.size)) (owed_next o x.instr) later in
+      let more' : List Finding = found_from b (p.code_base + at + x.size) (owed_next o x.instr) later in
+      let last : List Finding = rest_finding b k (rest_of (drop x.size w) later) in
       let is : Owed = cond (is_empty (rest_of (drop x.size w) later)) (owed_past (owed_next o x.instr) later) kind.Nothing in
-      subst (λ (l : List WordFinding). Tells p (at + m) is l)
+      subst (λ (l : List Finding). Tells p (at + m) is l)
       (regroup found first more last more' (ap (λ (a : ℕ). found_from b a (owed_next o x.instr) later) (assoc p.code_base at x.size)))
       (subst (λ (q : ℕ). Tells p q is ((found ++ first) ++ (more ++ last))) there next)
     where
       assoc : (a b c : ℕ) → a + (b + c) ≡ a + b + c
       assoc a b c = omega arith
 
-      regroup : (found first more rest more' : List WordFinding) → more ≡ more' → (found ++ first) ++ (more ++ rest) ≡ found ++ ((first ++ more') ++ rest)
+      regroup : (found first more rest more' : List Finding) → more ≡ more' → (found ++ first) ++ (more ++ rest) ≡ found ++ ((first ++ more') ++ rest)
       regroup found first more rest more' e = rw e (simp append_assoc)
 
       width_kept : (n : ℕ) → IsLeft p at m → n ≤ m → (n ≡ 2) ⊎ (n ≡ 4) → breaks_width (p.code_base + at) n ≡ false
@@ -274,8 +275,8 @@ module _ (p : Part) (b : BundlePlace) (in_part : IsPlaceIn p b) (begin end : ℕ
         base = l.base;
       }
 
-  pub word_tells : (at : ℕ) (o next : Owed) (found here : List WordFinding) → IsLeft p at 4 → begin ≤ at → at + 4 ≤ end → IsWordFound b (p.code_base + at) o (Code p at 4) here next → Tells p at o found → Tells p (at + 4) next (found ++ here)
+  pub word_tells : (at : ℕ) (o next : Owed) (found here : List Finding) → IsLeft p at 4 → begin ≤ at → at + 4 ≤ end → IsWordFound b (p.code_base + at) o (Code p at 4) here next → Tells p at o found → Tells p (at + 4) next (found ++ here)
   word_tells at o next found here left from below w t =
       let done = walk w.reading at 4 (Code p at 4) o found refl left from below w.longest t (p.code_base + at + (4 - length (rest_of (Code p at 4) w.reading))) in
-      subst (λ (l : List WordFinding). Tells p (at + 4) next (found ++ l)) (sym w.found_is)
-      (subst (λ (q : Owed). Tells p (at + 4) q (found ++ (found_from b (p.code_base + at) o w.reading ++ found_rest b (p.code_base + at + (4 - length (rest_of (Code p at 4) w.reading))) (rest_of (Code p at 4) w.reading)))) (sym w.next_is) done)
+      subst (λ (l : List Finding). Tells p (at + 4) next (found ++ l)) (sym w.found_is)
+      (subst (λ (q : Owed). Tells p (at + 4) q (found ++ (found_from b (p.code_base + at) o w.reading ++ rest_finding b (p.code_base + at + (4 - length (rest_of (Code p at 4) w.reading))) (rest_of (Code p at 4) w.reading)))) (sym w.next_is) done)

@@ -1,16 +1,8 @@
 -- What passes a test of the rules.
-use Rattle.sfi_words.proofs.Prelude.{◌≡◌, ◌≢◌, ℕ, ◌<◌, ◌≤◌, true, false, ◌&&◌, ◌||◌, ◌==◌, refl, sym, ap, ◌∙◌, arith, ⊎_elim, Option, Some, None, ℤ, pos, negsuc, ints, and_parts, or_cases, eqb-true, eq-eqb, false≢true, leb-true, ltb-true, IsImm12, destination, is_register, writes_register, Instr, Op, OpImm, And, Or, Addi, is_masking, is_placing, is_data, is_or, is_small, is_step}
+use Rattle.sfi_words.proofs.Prelude.{◌≡◌, ◌≢◌, ℕ, ◌<◌, true, false, ◌&&◌, ◌||◌, ◌==◌, refl, sym, ap, ◌∙◌, arith, ⊎_elim, Option, Some, None, ℤ, pos, negsuc, and_parts, or_cases, eqb-true, eq-eqb, false≢true, leb-true, ltb-true, destination, is_register, writes_register, Instr, Op, OpImm, And, Or, Addi, is_masking, is_placing, is_data_register, is_or, is_small, is_step}
+use Rattle.sfi_runs.proofs.Accessing.{IsWithin}
 
 -- ---- signed numbers
-
--- from -far to far
-abbrev pub IsWithin : ℕ → ℤ → Type 0
-IsWithin far (pos n) = n ≤ far
-IsWithin far (negsuc n) = n < far
-
-pub imm12_within : (z : ℤ) → IsImm12 z → IsWithin 2048 z
-imm12_within (pos n) (low, high) = omega (arith, ints)
-imm12_within (negsuc n) (low, high) = omega (arith, ints)
 
 pub small_within : (z : ℤ) → is_small z ≡ true → IsWithin 1020 z
 small_within (pos n) h = leb-true n 1020 h
@@ -25,7 +17,7 @@ pub record IsOther (d : ℕ) : Type 0 where
 other : (d k : ℕ) → (d == k) ≡ true → k < 32 → 0 < k → IsOther d
 other d k e below some = let same = eqb-true d k e in record { below = omega arith; some = λ none. omega arith }
 
-pub data_register : (d : ℕ) → is_data d ≡ true → IsOther d
+pub data_register : (d : ℕ) → is_data_register d ≡ true → IsOther d
 data_register d h =
     ⊎_elim
     (λ (a : ((d == 2) || (d == 3) || (d == 4)) ≡ true). ⊎_elim

@@ -1,22 +1,12 @@
 -- Each turn keeps a good state, and so does each run.
-use Rattle.sfi_words.proofs.Prelude.{◌≡◌, ℕ, ◌+◌, ◌<◌, List, [], ◌∷◌, length, Option, Some, None, refl, sym, ap, ◌∙◌, subst, arith, Ecall, Bytes, address_after, Call, State, Stands, IsStep, unchanged, Part, ends_region, IsGate, HasCode, HasReserved, HasEmptyGuards, KeepsBytes, IsReply, IsChange, Turn, Steps, Replies, Changes, IsTurn, IsRun, after_turn, IsSafeState, IsSafeTurn, IsSafeRun, AreKnown, IsCleanPart, IsGood, IsGoodIf, EntryIsGood, TurnKeeps, CleanRunsSafely}
-use Rattle.rv_comp.specs.declared.front.Front.TheVariants.{Read}
+use Rattle.sfi_words.proofs.Prelude.{◌≡◌, ℕ, ◌<◌, List, ◌∷◌, refl, sym, ap, ◌∙◌, subst, Ecall, address_after, Call, State, Stands, unchanged, Part, ends_region, IsGate, IsReply, IsChange, Turn, Steps, Replies, Changes, IsTurn, after_turn, IsSafeState, IsSafeTurn, AreKnown, IsCleanPart, IsGood, IsGoodIf, EntryIsGood, TurnKeeps, CleanRunsSafely}
 use Rattle.rv_comp.proofs.Facts.{ecall_is_wide}
-use Rattle.sfi_words.proofs.Known.{typed_known}
+use Rattle.sfi_runs.proofs.Formats.{to_word, of_words_typed}
+use Rattle.sfi_runs.proofs.Turning.{entry_keeps, reply_keeps, change_keeps, call_step, runs_safely, calls_typed}
+use Rattle.sfi_words.specs.Laws.{CleanCallsTyped}
+use Rattle.sfi_words.proofs.Known.{typed_known, typed_at_ecall}
 use Rattle.sfi_words.proofs.Places.{at_start, goes_on, pc_in_code, byte_in_code}
 use Rattle.sfi_words.proofs.Stepping.{only, stands_here, step_good, step_safe}
-
--- ---- what is not a step
-
-code_kept : (p : Part) (before after : Bytes) → KeepsBytes p before after → HasCode p before → HasCode p after
-code_kept p before after keeps has k below = keeps.code (p.code_base + k) (omega arith, omega (arith, below)) ∙ has k below
-
-guards_kept : (p : Part) (before after : Bytes) → KeepsBytes p before after → HasEmptyGuards p before → HasEmptyGuards p after
-guards_kept p before after keeps has a guard = keeps.guards a guard (has a guard)
-
--- a step at an ecall comes to a call
-call_step : (s : State) (n : ℕ) → Stands s Ecall n → IsStep s (unchanged Call s.hart s.memory)
-call_step s n stands = record { front = Read Ecall n; at_pc = stands; result = refl }
 
 module _ (p : Part) (clean : IsCleanPart p) where
   module _ (s : State) (good : IsGood p s) where
@@ -29,28 +19,13 @@ module _ (p : Part) (clean : IsCleanPart p) where
         let four : r.size ≡ 4 = ecall_is_wide r.asked.bytes r.size r.asked.spelled in
         let pc : after.hart.pc ≡ address_after s.hart.pc good.place.place.here.size = r.pc ∙ ap (λ (n : ℕ). address_after s.hart.pc n) (sym four ∙ e.1) in
         record {
-          kept = record {
-            count = r.state.hart.count;
-            reserved = record {
-              code_base = r.reserved.code_base ∙ good.kept.reserved.code_base;
-              code_mask = r.reserved.code_mask ∙ good.kept.reserved.code_mask;
-              data_base = r.reserved.data_base ∙ good.kept.reserved.data_base;
-              data_mask = r.reserved.data_mask ∙ good.kept.reserved.data_mask;
-            };
-            code = code_kept p s.memory after.memory r.bytes good.kept.code;
-            guards = guards_kept p s.memory after.memory r.bytes good.kept.guards;
-          };
-          place = goes_on p clean s.hart good.place after.hart pc (ap ends_region (sym e.0)) (typed_known p after.hart.registers good.place.place.later r.typed);
+          kept = reply_keeps p s after good.kept r;
+          place = goes_on p clean s.hart good.place after.hart pc (ap ends_region (sym e.0)) (typed_known p after.hart.registers good.place.place.later (r.typed.words clean.words));
         }
 
     change_good : (after : State) → IsChange p s after → IsGood p after
     change_good after c = record {
-      kept = record {
-        count = ap length c.registers ∙ good.kept.count;
-        reserved = subst (λ (l : List ℕ). HasReserved p l) (sym c.registers) good.kept.reserved;
-        code = code_kept p s.memory after.memory c.bytes good.kept.code;
-        guards = guards_kept p s.memory after.memory c.bytes good.kept.guards;
-      };
+      kept = change_keeps p s after good.kept c;
       place = record {
         offset = good.place.offset;
         place = good.place.place;
@@ -85,29 +60,14 @@ turn_keeps p s turn clean good h = (state_safe p clean s good, turn_safe p clean
 
 pub entry_good : EntryIsGood
 entry_good p s clean entry = record {
-  kept = record {
-    count = entry.state.hart.count;
-    reserved = entry.reserved;
-    code = entry.code;
-    guards = entry.guards;
-  };
-  place = at_start p clean s.hart entry.start entry.typed;
+  kept = entry_keeps p s entry;
+  place = at_start p clean s.hart (to_word p s.hart.pc clean.words entry.start) (entry.typed.words clean.words);
 }
 
--- a change that changes nothing
-no_change : (p : Part) (s : State) → IsChange p s s
-no_change p s = record { pc = refl; registers = refl; bytes = record { code = λ a inside. refl; guards = λ a inside e. e } }
+pub clean_runs : CleanRunsSafely
+clean_runs p clean = runs_safely p (IsGood p) (λ s turn good h. turn_keeps p s turn clean good h) (λ s entry. entry_good p s clean entry)
 
-module _ (p : Part) (clean : IsCleanPart p) where
-  run_safe : (turns : List Turn) (o : Option State) → IsGoodIf p o → IsRun p o turns → IsSafeRun p o turns
-  run_safe [] None good run = tt
-  run_safe [] (Some s) good run = (turn_keeps p s (Changes s) clean good (no_change p s)).0
-  run_safe (turn ∷ turns) None good run = tt
-  run_safe (turn ∷ turns) (Some s) good run =
-      let kept = turn_keeps p s turn clean good run.0 in
-      (kept.0, kept.1, run_safe turns (after_turn turn) kept.2 run.1)
-
-pub runs_safely : CleanRunsSafely
-runs_safely p clean = record {
-  from = λ s entry. record { safe = λ turns run. run_safe p clean turns (Some s) (entry_good p s clean entry) run };
-}
+pub clean_calls : CleanCallsTyped
+clean_calls p clean = calls_typed p (IsGood p) (λ s turn good h. turn_keeps p s turn clean good h) (λ s entry. entry_good p s clean entry)
+    (λ s n good stands.
+    of_words_typed p s.hart.registers clean.words (typed_at_ecall p s.hart.registers good.place.place.here good.place.place.later (only p s clean good Ecall n stands).0 good.place.known))

@@ -1,17 +1,13 @@
 -- Which sandboxes of code in words have a right layout and break no rule.
-use Rattle.std.specs.Prelude.{◌≡◌, ◌+◌, ℕ, List, [], ◌∷◌, false, length}
-use Rattle.sfi_policy.specs.Limits.{region_least}
-use Rattle.sfi_image.specs.Spelling.{Part, IsWord}
+use Rattle.std.specs.Prelude.{◌≡◌, ◌+◌, ℕ, List, [], ◌∷◌, true, false, length}
+use Rattle.sfi_policy.specs.Formats.{has_words}
+use Rattle.sfi_image.specs.Spelling.{Part}
 use Rattle.sfi_image.specs.Gates.{is_gate_of}
 use Rattle.sfi_image.specs.Spans.{AreApart, code_region, guarded_region}
-use Rattle.sfi_image.specs.Regions.{IsRegion, IsDataRegion, HasGuardRoom}
+use Rattle.sfi_image.specs.Parts.{IsRightPart}
 use Rattle.sfi_rules.specs.Readings.{Piece, IsReading, rest_of}
 use Rattle.sfi_rules.specs.Rules.{breaks_reserved}
-use Rattle.sfi_words.specs.Rules.{breaks_width, breaks_ecall, breaks_access, breaks_jump, breaks_target, breaks_end, breaks_data, breaks_code, breaks_offset}
-
--- the largest code region
-abbrev pub code_most : ℕ
-code_most = 1048576
+use Rattle.sfi_rules.specs.words.Rules.{breaks_width, breaks_ecall, breaks_access, breaks_jump, breaks_target, breaks_end, breaks_data, breaks_code, breaks_offset}
 
 -- no rule is broken by the piece at this address, before those
 pub record BreaksNone (p : Part) (at : ℕ) (x : Piece) (later : List Piece) : Type 0 where
@@ -38,15 +34,10 @@ pub record AreWordsClean (p : Part) : Type 0 where
   pub whole : rest_of p.code reading ≡ []
   pub none : BreakNone p p.code_base reading
 
--- the regions lie as those of bundles do
-pub record IsPlaced (p : Part) : Type 0 where
-  pub code_base : IsWord p.code_base
-  pub code_placed : IsRegion p.code_base (length p.code) region_least code_most
-  pub data_placed : IsDataRegion p.data_base p.data_size
-  pub guard_room : HasGuardRoom p.data_base p.data_size
-  pub apart : AreApart (code_region p) (guarded_region p)
-
--- a sandbox of code in words that lies right and breaks no rule
+-- the sandbox's code is in words, its part has a right layout, its code lies apart from its data
+-- and guards, and no rule is broken in it
 pub record IsCleanPart (p : Part) : Type 0 where
-  pub placed : IsPlaced p
+  pub words : has_words p.format ≡ true
+  pub right : IsRightPart p
+  pub apart : AreApart (code_region p) (guarded_region p)
   pub clean : AreWordsClean p

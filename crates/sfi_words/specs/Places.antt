@@ -1,11 +1,14 @@
 -- Where a run stands: a place of the code's reading, and what the typed registers hold there.
-use Rattle.std.specs.Prelude.{◌≡◌, ◌+◌, ◌-◌, ◌%◌, ◌<◌, ◌⊎◌, ℕ, List, [], ◌∷◌, true, Option, Some, None, length, drop, slice_index, bit_and}
+use Rattle.std.specs.Prelude.{◌≡◌, ◌+◌, ◌%◌, ◌<◌, ◌⊎◌, ℕ, List, [], ◌∷◌, true, Option, IfSome, drop, slice_index, bit_and}
 use Rattle.rv_step.specs.State.{Hart, State}
+use Rattle.sfi_policy.specs.Limits.{slack}
+use Rattle.sfi_policy.specs.Registers.{is_data_register, code_register, offset_register}
+use Rattle.sfi_image.specs.Registers.{reserved_of}
 use Rattle.sfi_image.specs.Spelling.{Part}
 use Rattle.sfi_rules.specs.Readings.{Piece, IsReading, rest_of}
-use Rattle.sfi_safety.specs.Regions.{HasCode, HasEmptyGuards}
-use Rattle.sfi_words.specs.Typed.{slack, is_data, code_register, offset_register, IsWordStart, IsNear, HasReserved}
-use Rattle.sfi_words.specs.Rules.{begins_placing, begins_masking, begins_using, begins_code}
+use Rattle.sfi_runs.specs.Kept.{KeepsAll}
+use Rattle.sfi_runs.specs.Typed.{IsWordStart, IsNear}
+use Rattle.sfi_rules.specs.words.Rules.{begins_placing, begins_masking, begins_using, begins_code}
 use Rattle.sfi_words.specs.Code.{BreakNone}
 
 -- What is known of a data register before these pieces. It lies near the data; or it is placed
@@ -21,11 +24,11 @@ IsKnown p d value pieces =
 abbrev pub IsCodeKnown : Part → ℕ → List Piece → Type 0
 IsCodeKnown p value pieces =
     IsWordStart p value
-    ⊎ ((begins_code pieces ≡ true) × ((x : ℕ) × (value ≡ bit_and x (length p.code - 4))))
+    ⊎ ((begins_code pieces ≡ true) × ((x : ℕ) × (value ≡ bit_and x (reserved_of p).code_mask)))
 
 -- what is known of the typed registers before these pieces
 pub record AreKnown (p : Part) (registers : List ℕ) (pieces : List Piece) : Type 0 where
-  pub each_data : (d : ℕ) → is_data d ≡ true → IsKnown p d (slice_index registers d) pieces
+  pub each_data : (d : ℕ) → is_data_register d ≡ true → IsKnown p d (slice_index registers d) pieces
   pub code : IsCodeKnown p (slice_index registers code_register) pieces
   pub offset : slice_index registers offset_register < p.data_size
 
@@ -45,13 +48,6 @@ pub record IsAtPlace (p : Part) (h : Hart) : Type 0 where
   pub even : offset % 2 ≡ 0
   pub known : AreKnown p h.registers (place.here ∷ place.later)
 
--- no turn changes this
-pub record KeepsAll (p : Part) (s : State) : Type 0 where
-  pub count : length s.hart.registers ≡ 32
-  pub reserved : HasReserved p s.hart.registers
-  pub code : HasCode p s.memory
-  pub guards : HasEmptyGuards p s.memory
-
 -- a good state
 pub record IsGood (p : Part) (s : State) : Type 0 where
   pub kept : KeepsAll p s
@@ -59,5 +55,4 @@ pub record IsGood (p : Part) (s : State) : Type 0 where
 
 -- the state is good, if the run goes on
 abbrev pub IsGoodIf : Part → Option State → Type 0
-IsGoodIf p None = Unit {0}
-IsGoodIf p (Some s) = IsGood p s
+IsGoodIf p o = IfSome o (λ s. IsGood p s)

@@ -1,20 +1,8 @@
-//! Code in words of four bytes, with typed registers: its rules, that code which breaks none of
-//! them runs safely, and its findings, 16 bytes at a time.
+//! Code in words of four bytes, with typed registers: code which breaks none of its rules runs
+//! safely, and it has no finding exactly if it breaks none.
 //!
-//! There are no bundles here and no pairs that must not be entered in the middle: each word's start
-//! is a place where a run may be entered. Instead some registers are typed. The data registers x2,
-//! x3, x4 and x29 lie in the data region or near it, x31 is an offset in it, and x30 is a word's
-//! start; each rule looks at an instruction and at the next two at most.
+//! The rules are those of `sfi_rules` (`specs/words`), the runs those of `sfi_runs`. No code here
+//! scans: the functions of [`laws`] do nothing, and their contracts are what is proved.
 #![tactic(auto)]
 
-mod finding;
 pub mod laws;
-mod owed;
-mod rule;
-mod rules;
-mod scan;
-
-pub use finding::{WordFinding, WordFindings};
-pub use owed::Owed;
-pub use rule::WordRule;
-pub use scan::scan_words;

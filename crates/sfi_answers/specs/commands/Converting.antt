@@ -1,6 +1,6 @@
 -- The command `convert`, on an image's bytes.
 use Rattle.std.specs.Prelude.{◌≡◌, ◌⊎◌, ℕ, List, false}
-use Rattle.sfi_check.specs.Converting.{IsSecond, IsConversion, HasStackFindings}
+use Rattle.sfi_check.specs.Converting.{IsSecond, IsOfWords, IsConversion, HasStackFindings}
 use Rattle.sfi_check.specs.Verdict.{HasFindings}
 use Rattle.sfi_rules.specs.declared.finding.Finding.{Finding}
 use Rattle.sfi_answers.specs.Meaning.{Meaning}
@@ -43,11 +43,12 @@ HasFindingsForConvert bytes =
 
 -- ---- the command
 
--- `convert`. Bytes that begin with the magic of the second format have a fault, whatever follows
+-- `convert`. Bytes that begin with the magic of the second format have a fault, whatever follows,
+-- and so has an accepted image of code in words
 abbrev pub convert : Meaning
 convert = record {
   says = SaysConversion;
   is_done = λ bytes. (new : List ℕ) × IsConversion bytes new;
   is_refused = HasFindingsForConvert;
-  has_fault = λ bytes. HasSomeFault bytes ⊎ IsSecond bytes;
+  has_fault = λ bytes. HasSomeFault bytes ⊎ (IsSecond bytes ⊎ IsOfWords bytes);
 }

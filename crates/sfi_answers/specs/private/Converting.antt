@@ -1,8 +1,8 @@
 -- Bytes that are not converted, for private contracts.
-use Rattle.std.specs.Prelude.{◌≡◌, ◌≢◌, List, [], Result, Ok, Err, string_bytes}
+use Rattle.std.specs.Prelude.{◌≡◌, ◌≢◌, ◌⊎◌, List, [], Result, Ok, Err, string_bytes}
 use Rattle.sfi_rules.specs.declared.finding.Finding.{Finding}
 use Rattle.sfi_check.specs.declared.conversion.ConvertFault.{ConvertFault}
-use Rattle.sfi_check.specs.declared.conversion.ConvertFault.TheVariants.{Refused, NotOld, Stack, Memory}
+use Rattle.sfi_check.specs.declared.conversion.ConvertFault.TheVariants.{Refused, NotOld, Stack, Memory, Words}
 use Rattle.sfi_check.specs.declared.refusal.Refusal.TheVariants as refusal
 use Rattle.sfi_answers.specs.Verdict.{refused_line}
 use Rattle.sfi_answers.specs.declared.fault.Stop.{Stop}
@@ -17,6 +17,7 @@ HasFound (Refused refusal.Memory) found = ⊥
 HasFound NotOld found = ⊥
 HasFound (Stack others) found = others.items ≡ found
 HasFound Memory found = ⊥
+HasFound Words found = ⊥
 
 -- where the fault is findings, there is at least one
 abbrev pub HoldsSome : ConvertFault → Type 0
@@ -26,7 +27,7 @@ HoldsSome fault = (found : List Finding) → HasFound fault found → found ≢ 
 abbrev pub AnswersConvertFault : ConvertFault → Result Answer Stop → Type 0
 AnswersConvertFault fault (Ok answer) = (answer.status ≡ 1) × ((found : List Finding)
     × HasFound fault found × (string_bytes answer.text ≡ refused_line found))
-AnswersConvertFault fault (Err (stop.Input other)) = fault ≡ NotOld
+AnswersConvertFault fault (Err (stop.Input other)) = (fault ≡ NotOld) ⊎ (fault ≡ Words)
 AnswersConvertFault fault (Err (stop.Layout k)) = fault ≡ Refused (refusal.Layout k)
 AnswersConvertFault fault (Err (stop.Build other)) = ⊥
 AnswersConvertFault fault (Err stop.Memory) = Unit {0}

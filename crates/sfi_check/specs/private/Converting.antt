@@ -6,7 +6,7 @@ use Rattle.sfi_image.specs.Spelling.{Part}
 use Rattle.sfi_image.specs.InFormat.{all_in_format}
 use Rattle.sfi_rules.specs.Findings.{AreImageFindings}
 use Rattle.sfi_check.specs.declared.conversion.ConvertFault.{ConvertFault}
-use Rattle.sfi_check.specs.declared.conversion.ConvertFault.TheVariants.{Refused, NotOld, Stack, Memory}
+use Rattle.sfi_check.specs.declared.conversion.ConvertFault.TheVariants.{Refused, NotOld, Stack, Memory, Words}
 use Rattle.sfi_safety.specs.Clean.{IsAccepted}
 
 -- the fault is the findings of these sandboxes, of which there is at least one, or want of memory
@@ -15,6 +15,7 @@ IsStackOf ps (Refused r) = ⊥
 IsStackOf ps NotOld = ⊥
 IsStackOf ps (Stack found) = AreImageFindings ps found.items × (found.items ≢ [])
 IsStackOf ps Memory = Unit {0}
+IsStackOf ps Words = ⊥
 
 -- these sandboxes break no rule, or the fault says which
 pub record ChecksStack (ps : List Part) (answer : Result (Unit {0}) ConvertFault) : Type 0 where

@@ -4,7 +4,8 @@ use Rattle.std.specs.Prelude.{slice_get}
 use Rattle.std.proofs.lemmas.List.{append-nil}
 use Rattle.sfi_rules.specs.declared.finding.Finding.{Finding}
 use Rattle.sfi_rules.specs.declared.bundle.BundlePlace.{BundlePlace}
-use Rattle.sfi_scan.specs.Stretches.{AreStretchFindings, findings_most}
+use Rattle.sfi_rules.specs.declared.owed.Owed.{Owed}
+use Rattle.sfi_scan.specs.Stretches.{AreFoundInStretch, findings_most}
 use Rattle.sfi_check.specs.declared.tally.Tally.{Tally}
 
 -- the second tally is the first with these findings more
@@ -15,6 +16,7 @@ pub record AddsFindings (old new : Tally) (found : List Finding) : Type 0 where
   pub first :
       (before : List Finding) → old.first ≡ slice_get before 0
       → new.first ≡ slice_get (before ++ found) 0
+  pub owed : new.owed ≡ old.owed
 
 -- it is, where 32 bits have room for their number
 abbrev pub Counts : Tally → Tally → List Finding → Type 0
@@ -26,6 +28,7 @@ counts_none t = λ room. record {
   bundles = refl;
   count = omega arith;
   first = λ before is. is ∙ ap (λ (l : List Finding). slice_get l 0) (sym (append-nil before));
+  owed = refl;
 }
 
 pub counts_more : (t u v : Tally) (xs ys : List Finding) → Counts t u xs → Counts u v ys
@@ -41,14 +44,15 @@ counts_more t u v xs ys one two = λ room.
       count = omega (arith, a.count, b.count, both);
       first = λ before is. b.first (before ++ xs) (a.first before is)
           ∙ ap (λ (l : List Finding). slice_get l 0) (append_assoc before xs ys);
+      owed = b.owed ∙ a.owed;
     }
 
--- the first n bundles of a stretch are scanned: the tally counts their findings, and the sink took
--- them
+-- the first n bundles of a stretch are scanned, before which this is owed: the tally counts their
+-- findings, and the sink took them
 pub record IsCounted {F : Type 0} (takes : F → List Finding → F → Type 0) (b : BundlePlace)
-    (bytes : List ℕ) (n : ℕ) (old new : Tally) (before after : F) : Type 0 where
+    (owed : Owed) (bytes : List ℕ) (n : ℕ) (next : Owed) (old new : Tally) (before after : F) : Type 0 where
   pub found : List Finding
-  pub found_are : AreStretchFindings b bytes n found
+  pub found_are : AreFoundInStretch b owed bytes n found next
   pub few : length found ≤ findings_most * n
   pub counts : Counts old new found
   pub handed : takes before found after

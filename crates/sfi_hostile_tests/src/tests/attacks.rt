@@ -1,5 +1,5 @@
 //! Code that tries to get out of its sandbox.
-use super::images::{C_EBREAK, C_NOP, EBREAK, HEAD, PAIR_ON_X0, SFI1, SFI2, bytes_of};
+use super::images::{C_EBREAK, C_NOP, EBREAK, HEAD, PAIR_ON_X0, SFI1, SFI2, SFIW, bytes_of};
 use sfi_check::{Feed, Refusal, StreamAnswer, check, check_stream};
 use sfi_image::Reading;
 use sfi_policy::Format;
@@ -208,6 +208,7 @@ impl Attack {
         let magic = match spot.format {
             Format::Sfi1 => SFI1,
             Format::Sfi2 => SFI2,
+            Format::Sfiw => SFIW,
         };
         let [filler, rest] = spot.filler.pieces(spot.place);
         let words = spot.bundle.saturating_mul(4);

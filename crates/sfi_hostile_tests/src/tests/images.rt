@@ -2,10 +2,12 @@
 use std::alloc::{AllocError, Global};
 use std::test::Fail;
 
-/// The magics of both formats.
+/// The magics of the formats.
 pub(super) const SFI1: &str = "53464931";
 
 pub(super) const SFI2: &str = "53464932";
+
+pub(super) const SFIW: &str = "53464957";
 
 /// The head of one sandbox after the magic: code 256 bytes at 01000000, data 256 at 01800000, start
 /// at the code's first byte, no gates, no first data bytes.

@@ -1,8 +1,7 @@
 //! The findings of a sandbox, as a list.
 use super::rows::image_of;
 use sfi_image::parse_image;
-use sfi_policy::Format;
-use sfi_scan::{Finding, Rule, scan_part, scan_part_as};
+use sfi_scan::{Finding, Rule, scan_part_as};
 use std::alloc::Global;
 use std::test::Fail;
 
@@ -14,11 +13,7 @@ fn findings_of(alloc: Global, edits: &str) -> Result<Vec<Finding>, Fail> {
     let [part, ..] = image.parts() else {
         return Err(Fail::new("a sandbox"));
     };
-    let found = match image.format() {
-        Format::Sfi1 => scan_part(alloc, 0, part)?,
-        Format::Sfi2 => scan_part_as(alloc, Format::Sfi2, 0, part)?,
-    };
-    Ok(found)
+    Ok(scan_part_as(alloc, image.format(), 0, part)?)
 }
 
 #[test]

@@ -1,7 +1,9 @@
-use Rattle.std.proofs.Common.{Err, refl, sym, subst}
+use Rattle.std.proofs.Common.{Err, List, refl, sym, ap, ◌∙◌, subst}
+use Rattle.sfi_policy.specs.Formats.{has_words}
+use Rattle.sfi_image.specs.Spelling.{Part, format_of}
 use Rattle.sfi_check.specs.Converting.{IsConvertFault, AnswersLayout, AnswersFindings}
 use Rattle.sfi_check.specs.declared.conversion.ConvertFault.{ConvertFault}
-use Rattle.sfi_check.proofs.Converted.{first_not_second, converted_means, stack_means, refused_means, refused_layout, refused_findings}
+use Rattle.sfi_check.proofs.Converted.{first_not_second, third_not_second, converted_means, stack_means, stack_alone_means, refused_means, refused_layout, refused_findings}
 use Rattle.sfi_check.proofs.conversion.convert.Goals as goal
 
 pub returns-then-begins-clause-only_stack : goal.returns-then-begins-clause-only_stack
@@ -10,19 +12,39 @@ returns-then-begins-clause-only_stack c found is = first_not_second c.args.bytes
 pub returns-then-begins-clause-only_converted : goal.returns-then-begins-clause-only_converted
 returns-then-begins-clause-only_converted c new is = first_not_second c.args.bytes.now is.parts is.accepted is.first (c.if-begins.ensures.0 refl)
 
-pub returns-in-Ok-clause-converted : goal.returns-in-Ok-clause-converted
-returns-in-Ok-clause-converted c =
-    converted_means c.args.bytes.now c.in-Ok.accepted c.convert_accepted.result (λ s. let z = c.if-begins.ensures.1 s in cc) c.in-Ok.ensures.accepted c.convert_accepted.ensures.converted
+pub returns-then-begins-clause-only_words : goal.returns-then-begins-clause-only_words
+returns-then-begins-clause-only_words c is = third_not_second c.args.bytes.now is.parts is.accepted is.third (c.if-begins.ensures.0 refl)
 
-pub returns-in-Ok-clause-fault : goal.returns-in-Ok-clause-fault
-returns-in-Ok-clause-fault c =
-    stack_means c.args.bytes.now c.in-Ok.accepted c.convert_accepted.result (λ s. let z = c.if-begins.ensures.1 s in cc) c.in-Ok.ensures.accepted c.convert_accepted.ensures.fault
+-- ---- accepted
+pub returns-then-has_words-clause-only_layout : goal.returns-then-has_words-clause-only_layout
+returns-then-has_words-clause-only_layout c k first fault =
+    absurd (c.in-Ok.ensures.only_layout k fault)
 
-pub returns-in-Ok-clause-only_layout : goal.returns-in-Ok-clause-only_layout
-returns-in-Ok-clause-only_layout c k first fault = absurd (c.in-Ok.ensures.only_layout k fault)
+pub returns-then-has_words-clause-only_findings : goal.returns-then-has_words-clause-only_findings
+returns-then-has_words-clause-only_findings c found first is =
+    absurd (c.in-Ok.ensures.only_findings found is)
 
-pub returns-in-Ok-clause-only_findings : goal.returns-in-Ok-clause-only_findings
-returns-in-Ok-clause-only_findings c found first is = absurd (c.in-Ok.ensures.only_findings found is)
+pub returns-else-has_words-clause-only_layout : goal.returns-else-has_words-clause-only_layout
+returns-else-has_words-clause-only_layout c k first fault =
+    absurd (c.in-Ok.ensures.only_layout k fault)
+
+pub returns-else-has_words-clause-only_findings : goal.returns-else-has_words-clause-only_findings
+returns-else-has_words-clause-only_findings c found first is =
+    absurd (c.in-Ok.ensures.only_findings found is)
+
+pub returns-else-has_words-clause-converted : goal.returns-else-has_words-clause-converted
+returns-else-has_words-clause-converted c =
+    converted_means c.args.bytes.now c.in-Ok.accepted c.convert_accepted.result (λ s. let z = c.if-begins.ensures.1 s in cc) (ap (λ (ps : List Part). has_words (format_of ps)) (sym c.image.ensures.image) ∙ ap has_words (sym c.format.ensures) ∙ sym c.has_words.ensures ∙ c.if-has_words.false) c.in-Ok.ensures.accepted c.convert_accepted.ensures.converted
+
+pub returns-else-has_words-clause-fault : goal.returns-else-has_words-clause-fault
+returns-else-has_words-clause-fault c =
+    stack_means c.args.bytes.now c.in-Ok.accepted c.convert_accepted.result (λ s. let z = c.if-begins.ensures.1 s in cc) (ap (λ (ps : List Part). has_words (format_of ps)) (sym c.image.ensures.image) ∙ ap has_words (sym c.format.ensures) ∙ sym c.has_words.ensures ∙ c.if-has_words.false) c.in-Ok.ensures.accepted c.convert_accepted.ensures.fault
+
+pub returns-else-has_words-clause-stack_alone : goal.returns-else-has_words-clause-stack_alone
+returns-else-has_words-clause-stack_alone c =
+    stack_alone_means c.in-Ok.accepted c.convert_accepted.result (ap (λ (ps : List Part). has_words (format_of ps)) (sym c.image.ensures.image) ∙ ap has_words (sym c.format.ensures) ∙ sym c.has_words.ensures ∙ c.if-has_words.false) c.image.ensures.clean.layout.one_format c.in-Ok.ensures.accepted.none_found c.convert_accepted.ensures.fault
+
+-- ---- refused
 
 pub returns-in-Err-clause-fault : goal.returns-in-Err-clause-fault
 returns-in-Err-clause-fault c =

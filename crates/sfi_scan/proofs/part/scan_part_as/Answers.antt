@@ -1,6 +1,9 @@
-use Rattle.sfi_scan.proofs.Prelude.{◌≡◌, ◌∙◌, ◌≤◌, ◌<◌, ◌+◌, ◌-◌, ◌/◌, ℕ, List, Bool, false, [], length, get_or, refl, ap, sym, subst, arith, BundlePlace, Finding, view, place_of, AreFindingsOfFirst}
+use Rattle.sfi_scan.proofs.Prelude.{◌≡◌, ◌∙◌, ◌≤◌, ◌<◌, ◌+◌, ◌-◌, ◌/◌, ℕ, List, Bool, false, [], length, get_or, refl, ap, sym, subst, arith, BundlePlace, Finding, view, place_of}
 use Rattle.std.proofs.Common.{Result, Ok, Err}
 use Rattle.std.specs.Prelude.{IfOk}
+use Rattle.sfi_rules.specs.declared.owed.Owed.TheVariants.{Nothing}
+use Rattle.sfi_rules.specs.Findings.{AreFoundUpTo}
+use Rattle.sfi_rules.proofs.Facts.{all_found}
 use Rattle.std.proofs.lemmas.List.{get_or_default}
 use Rattle.sfi_image.specs.declared.part.Gate.{Gate}
 use Rattle.sfi_scan.proofs.Gates.{IsAtGate, at_first, at_next, next_end, next_found, next_gate, next_stretch}
@@ -17,11 +20,11 @@ pub loop-gate-init : goal.loop-gate-init
 loop-gate-init c =
     let p = view c.args.format c.args.part.now in
     let place : BundlePlace = record (place_of c.args.sandbox p 0) { address = c.args.part.now.code_base; listed = false } in
-    subst (λ (l : List Finding). IsAtGate c.args.sandbox p 0 place 0 l c.new-found.result.lacks_memory) (sym c.new-found.ensures.empty)
-    (subst (λ (b : Bool). IsAtGate c.args.sandbox p 0 place 0 [] b) (sym c.new-found.ensures.memory) (at_first c.args.sandbox p c.requires))
+    subst (λ (l : List Finding). IsAtGate c.args.sandbox p 0 place 0 l Nothing c.new-found.result.lacks_memory) (sym c.new-found.ensures.empty)
+    (subst (λ (b : Bool). IsAtGate c.args.sandbox p 0 place 0 [] Nothing b) (sym c.new-found.ensures.memory) (at_first c.args.sandbox p c.requires))
 
-pub slice_bounds-scan_code-count : goal.slice_bounds-scan_code-count
-slice_bounds-scan_code-count c =
+pub slice_bounds-scan_stretch-count : goal.slice_bounds-scan_stretch-count
+slice_bounds-scan_stretch-count c =
     let p = view c.args.format c.args.part.now in
     let i = c.loop-gate.gate-index in
     let at = c.loop-gate.at in
@@ -31,7 +34,7 @@ slice_bounds-scan_code-count c =
     let less : i < length p.gates = omega (arith, ap length same, c.loop-gate-test.true, c.deref-gate-items.ensures.len) in
     let is = at_gate gates p.gates i same less in
     let address = (get_or gates i no_gate).address in
-    let next = next_gate c.args.sandbox p i c.loop-gate.place at address c.loop-gate.found.found.items c.loop-gate.found.lacks_memory c.requires inv less is in
+    let next = next_gate c.args.sandbox p i c.loop-gate.place at address c.loop-gate.found.found.items c.loop-gate.owed c.loop-gate.found.lacks_memory c.requires inv less is in
     let low = next.0 in
     let on = next.1 in
     let inside = next.3.inside in
@@ -48,14 +51,14 @@ overflow_sub-end c =
     let less : i < length p.gates = omega (arith, ap length same, c.loop-gate-test.true, c.deref-gate-items.ensures.len) in
     let is = at_gate gates p.gates i same less in
     let address = (get_or gates i no_gate).address in
-    let next = next_gate c.args.sandbox p i c.loop-gate.place at address c.loop-gate.found.found.items c.loop-gate.found.lacks_memory c.requires inv less is in
+    let next = next_gate c.args.sandbox p i c.loop-gate.place at address c.loop-gate.found.found.items c.loop-gate.owed c.loop-gate.found.lacks_memory c.requires inv less is in
     let low = next.0 in
     let on = next.1 in
     let inside = next.3.inside in
     omega arith
 
-pub slice_bounds-scan_code-start : goal.slice_bounds-scan_code-start
-slice_bounds-scan_code-start c =
+pub slice_bounds-scan_stretch-start : goal.slice_bounds-scan_stretch-start
+slice_bounds-scan_stretch-start c =
     let p = view c.args.format c.args.part.now in
     let i = c.loop-gate.gate-index in
     let at = c.loop-gate.at in
@@ -65,14 +68,14 @@ slice_bounds-scan_code-start c =
     let less : i < length p.gates = omega (arith, ap length same, c.loop-gate-test.true, c.deref-gate-items.ensures.len) in
     let is = at_gate gates p.gates i same less in
     let address = (get_or gates i no_gate).address in
-    let next = next_gate c.args.sandbox p i c.loop-gate.place at address c.loop-gate.found.found.items c.loop-gate.found.lacks_memory c.requires inv less is in
+    let next = next_gate c.args.sandbox p i c.loop-gate.place at address c.loop-gate.found.found.items c.loop-gate.owed c.loop-gate.found.lacks_memory c.requires inv less is in
     let low = next.0 in
     let on = next.1 in
     let inside = next.3.inside in
     omega arith
 
-pub scan_code-requires : goal.scan_code-requires
-scan_code-requires c =
+pub scan_stretch-owed-requires : goal.scan_stretch-owed-requires
+scan_stretch-owed-requires c =
     let p = view c.args.format c.args.part.now in
     let i = c.loop-gate.gate-index in
     let at = c.loop-gate.at in
@@ -82,9 +85,9 @@ scan_code-requires c =
     let less : i < length p.gates = omega (arith, ap length same, c.loop-gate-test.true, c.deref-gate-items.ensures.len) in
     let is = at_gate gates p.gates i same less in
     let address = (get_or gates i no_gate).address in
-    let next = next_gate c.args.sandbox p i c.loop-gate.place at address c.loop-gate.found.found.items c.loop-gate.found.lacks_memory c.requires inv less is in
+    let next = next_gate c.args.sandbox p i c.loop-gate.place at address c.loop-gate.found.found.items c.loop-gate.owed c.loop-gate.found.lacks_memory c.requires inv less is in
     let end = address - p.code_base in
-    ((end - at) / 16, next_stretch c.args.sandbox p i c.loop-gate.place at end ((end - at) / 16) c.loop-gate.found.found.items c.loop-gate.found.lacks_memory c.requires inv next.3)
+    ((end - at) / 16, next_stretch c.args.sandbox p i c.loop-gate.place at end ((end - at) / 16) c.loop-gate.found.found.items c.loop-gate.owed c.loop-gate.found.lacks_memory c.requires inv next.3)
 
 pub loop-gate-preserved : goal.loop-gate-preserved
 loop-gate-preserved c =
@@ -97,25 +100,25 @@ loop-gate-preserved c =
     let less : i < length p.gates = omega (arith, ap length same, c.loop-gate-test.true, c.deref-gate-items.ensures.len) in
     let is = at_gate gates p.gates i same less in
     let address = (get_or gates i no_gate).address in
-    let next = next_gate c.args.sandbox p i c.loop-gate.place at address c.loop-gate.found.found.items c.loop-gate.found.lacks_memory c.requires inv less is in
+    let next = next_gate c.args.sandbox p i c.loop-gate.place at address c.loop-gate.found.found.items c.loop-gate.owed c.loop-gate.found.lacks_memory c.requires inv less is in
     let end = address - p.code_base in
     let n = (end - at) / 16 in
-    let run = next_stretch c.args.sandbox p i c.loop-gate.place at end n c.loop-gate.found.found.items c.loop-gate.found.lacks_memory c.requires inv next.3 in
-    let scanned = c.scan_code.ensures n run in
-    at_next c.args.sandbox p i (i + 1) c.loop-gate.place _ at address end c.loop-gate.found.found.items c.loop-gate.found.lacks_memory
-    c.scan_code.new.sink.found.items scanned.found c.scan_code.new.sink.lacks_memory c.requires inv less is refl refl refl scanned.found_are scanned.handed
+    let run = next_stretch c.args.sandbox p i c.loop-gate.place at end n c.loop-gate.found.found.items c.loop-gate.owed c.loop-gate.found.lacks_memory c.requires inv next.3 in
+    let scanned = c.scan_stretch-owed.ensures n run in
+    at_next c.args.sandbox p i (i + 1) c.loop-gate.place _ at address end c.loop-gate.found.found.items c.loop-gate.owed c.loop-gate.found.lacks_memory
+    c.scan_stretch-owed.new.sink.found.items scanned.found c.scan_stretch-owed.result c.scan_stretch-owed.new.sink.lacks_memory c.requires inv less is refl refl refl scanned.found_are scanned.handed
 
-pub scan_code-requires-2 : goal.scan_code-requires-2
-scan_code-requires-2 c =
+pub scan_stretch-requires : goal.scan_stretch-requires
+scan_stretch-requires c =
     let p = view c.args.format c.args.part.now in
     let i = c.loop-gate.gate-index in
     let at = c.loop-gate.at in
     let same = c.deref-gate-items.ensures.value in
     let inv = c.loop-gate.invariant in
     let over : length p.gates ≤ i = omega (arith, ap length same, c.loop-gate-test.false, c.deref-gate-items.ensures.len) in
-    let next = next_end c.args.sandbox p i c.loop-gate.place at c.loop-gate.found.found.items c.loop-gate.found.lacks_memory c.requires inv over in
+    let next = next_end c.args.sandbox p i c.loop-gate.place at c.loop-gate.found.found.items c.loop-gate.owed c.loop-gate.found.lacks_memory c.requires inv over in
     let n = (length p.code - at) / 16 in
-    let run = next_stretch c.args.sandbox p i c.loop-gate.place at (length p.code) n c.loop-gate.found.found.items c.loop-gate.found.lacks_memory c.requires inv next in
+    let run = next_stretch c.args.sandbox p i c.loop-gate.place at (length p.code) n c.loop-gate.found.found.items c.loop-gate.owed c.loop-gate.found.lacks_memory c.requires inv next in
     (n, run)
 
 pub returns : goal.returns
@@ -126,15 +129,16 @@ returns c =
     let same = c.deref-gate-items.ensures.value in
     let inv = c.loop-gate.invariant in
     let over : length p.gates ≤ i = omega (arith, ap length same, c.loop-gate-test.false, c.deref-gate-items.ensures.len) in
-    let next = next_end c.args.sandbox p i c.loop-gate.place at c.loop-gate.found.found.items c.loop-gate.found.lacks_memory c.requires inv over in
+    let next = next_end c.args.sandbox p i c.loop-gate.place at c.loop-gate.found.found.items c.loop-gate.owed c.loop-gate.found.lacks_memory c.requires inv over in
     let n = (length p.code - at) / 16 in
-    let run = next_stretch c.args.sandbox p i c.loop-gate.place at (length p.code) n c.loop-gate.found.found.items c.loop-gate.found.lacks_memory c.requires inv next in
-    let scanned = c.scan_code-2.ensures n run in
-    let found = next_found c.args.sandbox p i c.loop-gate.place at (length p.code) n c.loop-gate.found.found.items c.loop-gate.found.lacks_memory
-    c.scan_code-2.new.sink.found.items scanned.found c.scan_code-2.new.sink.lacks_memory c.requires inv next scanned.found_are scanned.handed in
+    let run = next_stretch c.args.sandbox p i c.loop-gate.place at (length p.code) n c.loop-gate.found.found.items c.loop-gate.owed c.loop-gate.found.lacks_memory c.requires inv next in
+    let scanned = c.scan_stretch.ensures n run in
+    let found = next_found c.args.sandbox p i c.loop-gate.place at (length p.code) n c.loop-gate.found.found.items c.loop-gate.owed c.loop-gate.found.lacks_memory
+    c.scan_stretch.new.sink.found.items scanned.found c.scan_stretch.result c.scan_stretch.new.sink.lacks_memory c.requires inv next scanned.found_are scanned.handed in
     let at_is = inv.at_is in
     let end_is = next.end_is in
-    if_ok c.into_result.result (λ v told. (inv.bundles + n, omega arith, subst (AreFindingsOfFirst c.args.sandbox p (inv.bundles + n)) (sym told.1) (found told.0))) c.into_result.ensures
+    if_ok c.into_result.result (λ v told. all_found c.args.sandbox p (inv.bundles + n) v.items c.scan_stretch.result (omega arith)
+    (subst (λ (l : List Finding). AreFoundUpTo c.args.sandbox p (inv.bundles + n) l c.scan_stretch.result) (sym told.1) (found told.0))) c.into_result.ensures
   where
     if_ok : {X E : Type 0} (r : Result X E) {P Q : X → Type 0} → ((x : X) → P x → Q x) → IfOk r P → IfOk r Q
     if_ok (Ok x) f h = f x h

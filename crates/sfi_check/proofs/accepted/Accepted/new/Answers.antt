@@ -1,6 +1,5 @@
-use Rattle.sfi_safety.proofs.Calling.{all_call}
 use Rattle.sfi_safety.proofs.Safe.{may_run}
 use Rattle.sfi_check.proofs.accepted.Accepted.new.Goals as goal
 
 pub invariant_of-result : goal.invariant_of-result
-invariant_of-result c = may_run c.args.image c.requires (all_call c.args.image c.requires)
+invariant_of-result c = may_run c.args.image c.requires

@@ -1,8 +1,7 @@
-use Rattle.std.proofs.Common.{◌≡◌, ◌<◌, ◌≤◌, ◌∙◌, ℕ, List, length, get_or, sym, subst, arith}
+use Rattle.std.proofs.Common.{◌≡◌, ◌<◌, ◌≤◌, ℕ, List, length, get_or, sym, subst, arith}
 use Rattle.std.specs.List.{All}
 use Rattle.std.proofs.lemmas.List.{length-map, get_or-map}
 use Rattle.sfi_policy.specs.declared.format.Format.{Format}
-use Rattle.sfi_policy.specs.declared.format.Format.TheVariants.{Sfi1, Sfi2}
 use Rattle.sfi_image.specs.declared.part.SandboxPart.{SandboxPart}
 use Rattle.sfi_image.specs.Spelling.{Part, view, views, format_of}
 use Rattle.sfi_image.specs.Parts.{IsRightPart, IsRightLayout}
@@ -22,10 +21,6 @@ first_right f image items d same e right some is =
     let first = right_at (format_of image) image items 0 d e right (omega (arith, some)) in
     subst (λ (g : Format). IsRightPart (view g d)) (sym same) (subst (λ (p : SandboxPart). IsRightPart (view (format_of image) p)) (sym is) first)
 
-pub scan_part-requires : goal.scan_part-requires
-scan_part-requires c =
-    first_right Sfi1 c.in_ok-image.image c.parts.result.now c.part-item.result (sym c.in-Sfi1.is ∙ c.format.ensures) c.parts.ensures.parts c.parts.ensures.layout c.in-len1-up.len_at_least c.part-item.is
-
 pub scan_part_as-requires : goal.scan_part_as-requires
 scan_part_as-requires c =
-    first_right Sfi2 c.in_ok-image.image c.parts.result.now c.part-item.result (sym c.in-Sfi2.is ∙ c.format.ensures) c.parts.ensures.parts c.parts.ensures.layout c.in-len1-up.len_at_least c.part-item.is
+    first_right c.format.result c.in_ok-image.image c.parts.result.now c.part-item.result c.format.ensures c.parts.ensures.parts c.parts.ensures.layout c.in-len1-up.len_at_least c.part-item.is

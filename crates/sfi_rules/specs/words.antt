@@ -1,0 +1,4 @@
+-- The rules of code in words.
+pub mod Rules
+pub mod Owing
+pub mod Findings

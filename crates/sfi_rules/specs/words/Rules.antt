@@ -1,0 +1,141 @@
+-- The rules of code in words. Each looks at an instruction and at those after it, two at most, and
+-- at none before it.
+use Rattle.std.specs.Prelude.{◌+◌, ◌%◌, ◌==◌, ◌&&◌, ◌||◌, not, ℕ, ℤ, pos, negsuc, List, [], ◌∷◌, Bool, true, false, Option, Some, None, nat_lt, nat_le}
+use Rattle.rv_word.specs.declared.instr.Instr.{Instr}
+use Rattle.rv_word.specs.declared.instr.Instr.TheVariants.{Op, OpImm, Load, Store, Branch, Jal, Jalr, Ecall}
+use Rattle.rv_word.specs.declared.instr.RegOp.TheVariants.{And, Or}
+use Rattle.rv_word.specs.declared.instr.ImmOp.TheVariants.{Addi}
+use Rattle.rv_word.specs.Numbers.{offset_by}
+use Rattle.rv_word.specs.Writes.{destination, writes_register}
+use Rattle.sfi_pairs.specs.Pairs.{is_masking, is_placing}
+use Rattle.sfi_policy.specs.Limits.{slack}
+use Rattle.sfi_policy.specs.Registers.{code_base_register, code_mask_register, data_base_register, data_mask_register, is_data_register, code_register, offset_register}
+use Rattle.sfi_rules.specs.Readings.{Piece}
+use Rattle.sfi_rules.specs.Rules.{is_empty, ends_region}
+use Rattle.sfi_rules.specs.Stack.{is_jump}
+
+-- ---- what the rules look for
+
+-- `and rd, a, b` and `or rd, a, b`
+abbrev pub is_and : ℕ → ℕ → ℕ → Instr → Bool
+is_and rd a b (Op And x y z) = (x == rd) && (y == a) && (z == b)
+is_and rd a b _ = false
+
+abbrev pub is_or : ℕ → ℕ → ℕ → Instr → Bool
+is_or rd a b (Op Or x y z) = (x == rd) && (y == a) && (z == b)
+is_or rd a b _ = false
+
+-- `or d, x31, x26`: d becomes an address of the data region
+abbrev pub places : ℕ → Instr → Bool
+places d i = is_or d offset_register data_base_register i
+
+-- `and x31, d, x27`: x31 becomes d's offset in the data region
+abbrev pub masks : ℕ → Instr → Bool
+masks d i = is_and offset_register d data_mask_register i
+
+-- `or d, x31, x26` comes first
+abbrev pub begins_placing : ℕ → List Piece → Bool
+begins_placing d [] = false
+begins_placing d (x ∷ later) = places d x.instr
+
+-- `and x31, d, x27` and then `or d, x31, x26` come first
+abbrev pub begins_masking : ℕ → List Piece → Bool
+begins_masking d [] = false
+begins_masking d (x ∷ later) = masks d x.instr && begins_placing d later
+
+-- from -1020 to 1020
+abbrev pub is_small : ℤ → Bool
+is_small (pos n) = nat_le n slack
+is_small (negsuc n) = nat_lt n slack
+
+-- `addi d, d, k`
+abbrev pub is_step : ℕ → Instr → Bool
+is_step d (OpImm Addi rd rs1 imm) = (rd == d) && (rs1 == d)
+is_step d _ = false
+
+-- a load or store on d at such an offset
+abbrev pub uses : ℕ → Instr → Bool
+uses d (Load kind rd rs1 imm) = (rs1 == d) && is_small imm
+uses d (Store width rs1 rs2 imm) = (rs1 == d) && is_small imm
+uses d _ = false
+
+-- such a use of d comes first
+abbrev pub begins_using : ℕ → List Piece → Bool
+begins_using d [] = false
+begins_using d (x ∷ later) = uses d x.instr
+
+-- `or x30, x30, x24` comes first
+abbrev pub begins_code : List Piece → Bool
+begins_code [] = false
+begins_code (x ∷ later) = is_placing code_base_register code_register x.instr
+
+-- ---- the rules, each at an instruction at an address of so many bytes, before others
+
+-- V2: a 32-bit instruction that isn't at a multiple of 4
+abbrev pub breaks_width : ℕ → ℕ → Bool
+breaks_width at size = (size == 4) && not (at % 4 == 0)
+
+-- V3: an ecall that isn't at a listed gate (the first says whether one is there)
+abbrev pub breaks_ecall : Bool → Instr → Bool
+breaks_ecall gate Ecall = not gate
+breaks_ecall gate _ = false
+
+-- V5: a load or store on a register that is neither a data register nor x26
+-- (V4 is that of bundles, `breaks_reserved`: it writes one of x24 to x27)
+abbrev pub may_access : ℕ → Bool
+may_access base = is_data_register base || (base == data_base_register)
+
+abbrev pub breaks_access : Instr → Bool
+breaks_access (Load kind rd rs1 imm) = not (may_access rs1)
+breaks_access (Store width rs1 rs2 imm) = not (may_access rs1)
+breaks_access _ = false
+
+-- V6: a jalr that isn't on x30, or has an offset
+abbrev pub breaks_jump : Instr → Bool
+breaks_jump (Jalr rd rs1 (pos n)) = not ((n == 0) && (rs1 == code_register))
+breaks_jump (Jalr rd rs1 (negsuc n)) = true
+breaks_jump _ = false
+
+-- a multiple of 4 in the code region of that base and size
+abbrev pub is_word_start : ℕ → ℕ → ℕ → Bool
+is_word_start base size a = nat_le base a && nat_lt a (base + size) && (a % 4 == 0)
+
+-- V7: a jal or branch whose target is no word's start of its own code region
+abbrev pub breaks_target : ℕ → ℕ → ℕ → Instr → Bool
+breaks_target base size at (Jal rd offset) = not (is_word_start base size (offset_by at offset))
+breaks_target base size at (Branch condition rs1 rs2 offset) =
+    not (is_word_start base size (offset_by at offset))
+breaks_target base size at _ = false
+
+-- V8: nothing comes after it, and it isn't ebreak, jal or jalr
+abbrev pub breaks_end : Instr → List Piece → Bool
+breaks_end i later = is_empty later && not (ends_region i)
+
+-- (a) it is `or d, x31, x26`; (b) it goes on, and d is masked next; (c) it is a step of d,
+-- which is used next
+abbrev pub may_write_data : ℕ → Instr → List Piece → Bool
+may_write_data d i later =
+    places d i || (not (is_jump i) && begins_masking d later)
+    || (is_step d i && begins_using d later)
+
+abbrev pub breaks_data_of : Option ℕ → Instr → List Piece → Bool
+breaks_data_of None i later = false
+breaks_data_of (Some d) i later = is_data_register d && not (may_write_data d i later)
+
+-- V10: it writes a data register, and may not
+abbrev pub breaks_data : Instr → List Piece → Bool
+breaks_data i later = breaks_data_of (destination i) i later
+
+-- it is `or x30, x30, x24`, or `and x30, a, x25` directly before that
+abbrev pub may_write_code : Instr → List Piece → Bool
+may_write_code i later = is_placing code_base_register code_register i
+    || (is_masking code_mask_register code_register i && begins_code later)
+
+-- V11: it writes x30, and may not
+abbrev pub breaks_code : Instr → List Piece → Bool
+breaks_code i later = writes_register code_register i && not (may_write_code i later)
+
+-- V12: it writes x31, and isn't `and x31, a, x27`
+abbrev pub breaks_offset : Instr → Bool
+breaks_offset i =
+    writes_register offset_register i && not (is_masking data_mask_register offset_register i)

@@ -1,0 +1,15 @@
+//! What is owed to what comes, in code in words.
+
+/// What must come next, by what was written before.
+#[derive(Clone, Copy)]
+pub enum Owed {
+    Nothing,
+    /// The register is masked into x31, and then placed.
+    Mask(u8),
+    /// It is placed: `or d, x31, x26`.
+    Place(u8),
+    /// It is masked and placed, or a load or store near it uses it.
+    MaskOrUse(u8),
+    /// The code register is placed: `or x30, x30, x24`.
+    Code,
+}

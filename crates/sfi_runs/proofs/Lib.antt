@@ -1,0 +1,9 @@
+pub mod Prelude
+pub mod Accessing
+pub mod Entering
+pub mod Formats
+pub mod Masks
+pub mod Safe
+pub mod Stepping
+pub mod Turning
+pub mod Facts

@@ -1,0 +1,7 @@
+pub mod Regions
+pub mod Typed
+pub mod Runs
+pub mod Safety
+pub mod Calls
+pub mod Kept
+pub mod Laws

@@ -1,0 +1,68 @@
+-- Which runs of a sandbox are safe. This speaks of addresses and states alone, and of no rule.
+use Rattle.std.specs.Prelude.{◌≡◌, ◌<◌, ◌⊎◌, ℕ, List, [], ◌∷◌, Option, Some, None}
+use Rattle.std.specs.List.{All}
+use Rattle.rv_word.specs.declared.instr.Instr.{Instr}
+use Rattle.rv_mem.specs.Bytes.{address_after}
+use Rattle.rv_step.specs.declared.outcome.Outcome.{Outcome}
+use Rattle.rv_step.specs.declared.outcome.Outcome.TheVariants.{Next, Call, Trap}
+use Rattle.rv_step.specs.Access.{Accesses}
+use Rattle.rv_step.specs.State.{State}
+use Rattle.rv_step.specs.Step.{Stepped, Stands}
+use Rattle.sfi_image.specs.Spelling.{Part}
+use Rattle.sfi_runs.specs.Regions.{InCode, InData, InGuard, IsGate, HasCode}
+use Rattle.sfi_runs.specs.Runs.{Turn, Steps, Replies, Changes, IsEntry, IsRun, after_turn}
+
+-- an instruction stands at pc
+pub record HasInstruction (s : State) : Type 0 where
+  pub instr : Instr
+  pub size : ℕ
+  pub stands : Stands s instr size
+
+-- the code's bytes are the image's, an instruction stands at pc,
+-- and pc and each byte of it lie in the code region
+pub record IsSafeState (p : Part) (s : State) : Type 0 where
+  pub code : HasCode p s.memory
+  pub present : HasInstruction s
+  pub pc : InCode p s.hart.pc
+  pub instruction :
+      (i : Instr) (n : ℕ) → Stands s i n → (k : ℕ) → k < n → InCode p (address_after s.hart.pc k)
+
+-- the step traps
+abbrev pub IsTrap : Outcome → Type 0
+IsTrap Next = ⊥
+IsTrap Call = ⊥
+IsTrap (Trap cause at) = Unit {0}
+
+-- Each access lies in the data and the guards together, and a step with a guard address among its
+-- accesses traps. A call is at a listed gate.
+pub record IsSafeStep (p : Part) (s : State) (r : Stepped) : Type 0 where
+  pub within :
+      (i : Instr) (n : ℕ) → Stands s i n → (a : ℕ) → Accesses i s.hart a → InData p a ⊎ InGuard p a
+  pub trapped : (i : Instr) (n : ℕ) → Stands s i n → (a : ℕ) → Accesses i s.hart a
+      → InGuard p a → IsTrap r.outcome
+  pub called : r.outcome ≡ Call → IsGate p s.hart.pc
+
+-- the turn is safe: a reply too is at a listed gate
+abbrev pub IsSafeTurn : Part → State → Turn → Type 0
+IsSafeTurn p s (Steps r) = IsSafeStep p s r
+IsSafeTurn p s (Replies after) = IsGate p s.hart.pc
+IsSafeTurn p s (Changes after) = Unit {0}
+
+-- each state of the run is safe, and each turn (a trap ends the run in the state before it)
+abbrev pub IsSafeRun : Part → Option State → List Turn → Type 0
+IsSafeRun p None turns = Unit {0}
+IsSafeRun p (Some s) [] = IsSafeState p s
+IsSafeRun p (Some s) (turn ∷ turns) =
+    IsSafeState p s × IsSafeTurn p s turn × IsSafeRun p (after_turn turn) turns
+
+-- every run from this state is safe
+pub record RunsSafelyFrom (p : Part) (s : State) : Type 0 where
+  pub safe : (turns : List Turn) → IsRun p (Some s) turns → IsSafeRun p (Some s) turns
+
+-- so is every run from every state in which the sandbox may be entered
+pub record RunsSafely (p : Part) : Type 0 where
+  pub from : (s : State) → IsEntry p s → RunsSafelyFrom p s
+
+-- each of the sandboxes runs safely
+pub record AllRunSafely (ps : List Part) : Type 0 where
+  pub each : All RunsSafely ps

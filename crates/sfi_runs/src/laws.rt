@@ -1,0 +1,37 @@
+//! What holds of runs, whatever the rules. Each is a lemma too, in proofs/Facts.
+ghost use Rattle.sfi_runs.specs.Laws.{SafeTurns, SafeStaysSafe, SafeFetches, GoesOnSafely, CanBeEntered, BundlesAskTheSame, FirstFormatAsksNoStack};
+
+/// From where every run is safe, the state is, and each turn.
+pub fn safe_turns()
+    ensures { SafeTurns }
+{}
+
+/// From where every run is safe, it is so after each turn.
+pub fn safe_stays_safe()
+    ensures { SafeStaysSafe }
+{}
+
+/// From where every run is safe, no step traps for want of an instruction.
+pub fn safe_fetches()
+    ensures { SafeFetches }
+{}
+
+/// From where every run is safe and calls so, it goes on so after each turn.
+pub fn goes_on_safely()
+    ensures { GoesOnSafely }
+{}
+
+/// A sandbox with a right layout can be entered.
+pub fn can_be_entered()
+    ensures { CanBeEntered }
+{}
+
+/// What is asked of a sandbox whose code is in bundles.
+pub fn bundles_ask_the_same()
+    ensures { BundlesAskTheSame }
+{}
+
+/// In the first format no register has a type.
+pub fn first_format_asks_no_stack()
+    ensures { FirstFormatAsksNoStack }
+{}

@@ -1,0 +1,151 @@
+//! The scan of code in words, 16 bytes at a time.
+ghost use Rattle.std.specs.Prelude.{◌≡◌, ◌+◌, ◌*◌, ◌≤◌, ◌<◌, ◌++◌, ℕ, List, Some, length};
+ghost use Rattle.sfi_rules.specs.Bundles.{IsWithin};
+ghost use Rattle.sfi_rules.specs.declared.finding.Finding.{Finding};
+ghost use Rattle.sfi_rules.specs.words.Findings.{IsWordFound, AreFoundInBundle, found_at, lowest};
+ghost use Rattle.sfi_rules.specs.words.Owing.{owed_next};
+ghost use Rattle.sfi_scan.specs.Stretches.{IsStretch, IsWordCodeScanned};
+ghost use Rattle.sfi_scan.specs.private.Inside.{IsInside};
+
+mod owed;
+mod rules;
+
+use crate::code::place_after;
+use crate::findings::BundleFindings;
+use crate::sink::FindingSink;
+use crate::words::owed::owed_next;
+use crate::words::rules::lowest_rule;
+use rv_comp::{Front, read_front};
+use rv_word::Instr;
+use sfi_policy::BUNDLE_BYTES;
+use sfi_rules::{BundlePlace, Finding, Owed, Rule};
+
+/// How many words a bundle has.
+const WORDS: usize = BUNDLE_BYTES / 4;
+
+fn push(place: &BundlePlace, address: u32, rule: Rule, found: &mut BundleFindings)
+    requires { length found.old < 8 }
+    ensures { found.new ≡ found.old ++ found_at place.now address (Some rule) }
+{
+    found.push(Finding {
+        sandbox: place.sandbox,
+        address,
+        rule,
+    });
+}
+
+/// Adds what the instruction breaks, and answers what is owed after it.
+fn scan_instruction(
+    place: &BundlePlace,
+    address: u32,
+    size: u32,
+    owed: Owed,
+    instr: &Instr,
+    found: &mut BundleFindings,
+) -> Owed
+    requires within { IsWithin place.now }
+    requires inside { IsInside place.now address size }
+    requires room { length found.old < 8 }
+    ensures next { result ≡ owed_next owed instr.now }
+    ensures few { length found.new ≤ length found.old + 1 }
+    ensures found { found.new ≡ found.old ++ found_at place.now address (lowest (record {
+      bundle = place.now;
+      address = address;
+      owed = owed;
+      instr = instr.now;
+      size = size;
+    })) }
+{
+    if let Some(rule) = lowest_rule(place, address, size, owed, instr) {
+        push(place, address, rule, found);
+    }
+    owed_next(owed, instr)
+}
+
+/// Adds the findings of the word there, and answers what is owed after it.
+fn scan_word(
+    place: &BundlePlace,
+    address: u32,
+    word: &[u8],
+    owed: Owed,
+    found: &mut BundleFindings,
+) -> Owed
+    requires within { IsWithin place.now }
+    requires inside { IsInside place.now address 4 }
+    requires whole { length word.now ≡ 4 }
+    requires room { length found.old ≤ 6 }
+    ensures { (here : List Finding) × (found.new ≡ found.old ++ here) × (length here ≤ 2)
+        × IsWordFound place.now address owed word.now here result }
+{
+    let (first, size) = match read_front(word) {
+        Front::Read(first, size) => (first, size),
+        Front::Short | Front::Bad => {
+            push(place, address, Rule::V1, found);
+            return Owed::Nothing;
+        }
+    };
+    let owed = scan_instruction(place, address, size, owed, &first, found);
+    if size == 4 {
+        return owed;
+    }
+    match read_front(&word[2..]) {
+        Front::Read(second, size) => {
+            scan_instruction(place, address + 2, size, owed, &second, found)
+        }
+        Front::Short => {
+            push(place, address + 2, Rule::V2, found);
+            Owed::Nothing
+        }
+        Front::Bad => {
+            push(place, address + 2, Rule::V1, found);
+            Owed::Nothing
+        }
+    }
+}
+
+/// Replaces the findings by those of the words of these 16 bytes, before which this is owed, in the
+/// order of their addresses. Answers what is owed after them. Before a region's first bytes nothing
+/// is owed.
+pub fn scan_words(
+    place: &BundlePlace,
+    bytes: &[u8; BUNDLE_BYTES],
+    owed: Owed,
+    found: &mut BundleFindings,
+) -> Owed
+    requires { IsWithin place.now }
+    ensures { AreFoundInBundle place.now owed bytes.now found.new result }
+{
+    found.clear();
+    let mut next = owed;
+    let mut n = 0;
+    while n < WORDS {
+        let word = &bytes[4 * n..4 * n + 4];
+        next = scan_word(place, place.address + 4 * n as u32, word, next, found);
+        n += 1;
+    }
+    next
+}
+
+/// Scans a stretch of code in words, before which this is owed, and hands the findings of each 16
+/// bytes to the sink, in order. Answers what is owed after it.
+pub fn scan_word_code<F: FindingSink>(
+    place: &BundlePlace,
+    code: &[u8],
+    owed: Owed,
+    sink: &mut F,
+) -> Owed
+    requires { (n : ℕ) × IsStretch place.now code.now n }
+    ensures { (n : ℕ) → IsStretch place.now code.now n
+        → IsWordCodeScanned F.takes place.now owed code.now n result sink.old sink.new }
+{
+    let mut findings = BundleFindings::new();
+    let mut left = owed;
+    for (k, bytes) in code.as_chunks::<BUNDLE_BYTES>().0.iter().enumerate() {
+        let here = place_after(place, BUNDLE_BYTES * k);
+        left = scan_words(&here, bytes, left, &mut findings);
+        if findings.count() > 0 {
+            sink.put(&findings);
+        }
+    }
+    left
+}

@@ -1,0 +1,142 @@
+//! What is owed to what comes: the state of a scan.
+ghost use Rattle.std.specs.Prelude.{◌≡◌};
+ghost use Rattle.rv_word.specs.Writes.{destination};
+ghost use Rattle.sfi_rules.specs.words.Owing.{left, owed_by_data, owed_by_code, owed_by, owed_next, is_of_data, is_of_code};
+ghost use Rattle.sfi_rules.specs.words.Findings.{fails_data, fails_code, is_data_one};
+
+use crate::words::rules::{is_jump, is_masking, is_step, masks, places, places_code, uses};
+use rv_word::Instr;
+use sfi_pairs::is_data_register;
+use sfi_policy::{CODE_MASK_REGISTER, CODE_REGISTER};
+use sfi_rules::Owed;
+
+fn is_of_data(owed: Owed) -> bool
+    ensures { result ≡ is_of_data owed }
+{
+    matches!(owed, Owed::Mask(_) | Owed::Place(_) | Owed::MaskOrUse(_))
+}
+
+fn is_of_code(owed: Owed) -> bool
+    ensures { result ≡ is_of_code owed }
+{
+    matches!(owed, Owed::Code)
+}
+
+fn left(owed: Owed, instr: &Instr) -> Option<Owed>
+    ensures { result ≡ left owed instr.now }
+{
+    match owed {
+        Owed::Nothing => Some(Owed::Nothing),
+        Owed::Mask(d) => {
+            if masks(d, instr) {
+                Some(Owed::Place(d))
+            } else {
+                None
+            }
+        }
+        Owed::Place(d) => {
+            if places(d, instr) {
+                Some(Owed::Nothing)
+            } else {
+                None
+            }
+        }
+        Owed::MaskOrUse(d) => {
+            if masks(d, instr) {
+                Some(Owed::Place(d))
+            } else if uses(d, instr) {
+                Some(Owed::Nothing)
+            } else {
+                None
+            }
+        }
+        Owed::Code => {
+            if places_code(instr) {
+                Some(Owed::Nothing)
+            } else {
+                None
+            }
+        }
+    }
+}
+
+fn by_data(d: u8, instr: &Instr) -> Option<Owed>
+    ensures { result ≡ owed_by_data d instr.now }
+{
+    if places(d, instr) {
+        Some(Owed::Nothing)
+    } else if is_jump(instr) {
+        None
+    } else if is_step(d, instr) {
+        Some(Owed::MaskOrUse(d))
+    } else {
+        Some(Owed::Mask(d))
+    }
+}
+
+fn by_code(instr: &Instr) -> Option<Owed>
+    ensures { result ≡ owed_by_code instr.now }
+{
+    if places_code(instr) {
+        Some(Owed::Nothing)
+    } else if is_masking(CODE_MASK_REGISTER, CODE_REGISTER, instr) {
+        Some(Owed::Code)
+    } else {
+        None
+    }
+}
+
+fn owed_by(instr: &Instr) -> Option<Owed>
+    ensures { result ≡ owed_by instr.now }
+{
+    match instr.writes() {
+        None => Some(Owed::Nothing),
+        Some(rd) => {
+            if is_data_register(rd) {
+                by_data(rd.number(), instr)
+            } else if rd.number() == CODE_REGISTER {
+                by_code(instr)
+            } else {
+                Some(Owed::Nothing)
+            }
+        }
+    }
+}
+
+/// What is owed after the instruction, whether it meets what was owed before it or not.
+pub(crate) fn owed_next(owed: Owed, instr: &Instr) -> Owed
+    ensures { result ≡ owed_next owed instr.now }
+{
+    match left(owed, instr) {
+        None | Some(Owed::Nothing) => match owed_by(instr) {
+            None => Owed::Nothing,
+            Some(own) => own,
+        },
+        Some(still) => still,
+    }
+}
+
+/// Whether the instruction breaks V10.
+pub(crate) fn fails_data(owed: Owed, instr: &Instr) -> bool
+    ensures { result ≡ fails_data owed instr.now }
+{
+    (is_of_data(owed) && left(owed, instr).is_none())
+        || (writes_data(instr) && owed_by(instr).is_none())
+}
+
+/// Whether the instruction breaks V11.
+pub(crate) fn fails_code(owed: Owed, instr: &Instr) -> bool
+    ensures { result ≡ fails_code owed instr.now }
+{
+    (is_of_code(owed) && left(owed, instr).is_none())
+        || (instr.writes_register(CODE_REGISTER) && owed_by(instr).is_none())
+}
+
+fn writes_data(instr: &Instr) -> bool
+    ensures { result ≡ is_data_one (destination instr.now) }
+{
+    match instr.writes() {
+        Some(rd) => is_data_register(rd),
+        None => false,
+    }
+}

@@ -1,0 +1,259 @@
+//! The rules, each as a test on an instruction and what comes after it.
+ghost use Rattle.std.specs.Prelude.{◌≡◌};
+ghost use Rattle.sfi_pairs.specs.Pairs.{is_masking, is_placing};
+ghost use Rattle.sfi_rules.specs.Rules.{breaks_reserved, ends_region};
+ghost use Rattle.sfi_rules.specs.Stack.{is_jump};
+ghost use Rattle.sfi_rules.specs.Bundles.{IsWithin};
+ghost use Rattle.sfi_rules.specs.words.Rules.{is_and, is_or, places, masks, is_small, is_step, uses, breaks_ecall, may_access, breaks_access, breaks_jump, is_word_start, breaks_target, breaks_offset};
+ghost use Rattle.sfi_scan.specs.private.Inside.{IsInside};
+ghost use Rattle.sfi_rules.specs.words.Findings.{breaks_last, is_at_gate, lowest};
+
+use crate::words::owed::{fails_code, fails_data};
+use rv_word::{ImmOp, Instr, Reg, RegOp};
+use sfi_pairs::{is_data_register, is_reserved};
+use sfi_policy::{
+    CODE_BASE_REGISTER, CODE_REGISTER, DATA_BASE_REGISTER, DATA_MASK_REGISTER, OFFSET_REGISTER,
+};
+use sfi_rules::{BundlePlace, Owed, Rule};
+
+const SLACK: i32 = sfi_policy::SLACK as i32;
+
+fn is_and(rd: u8, a: u8, b: u8, instr: &Instr) -> bool
+    ensures { result ≡ is_and rd a b instr.now }
+{
+    match *instr {
+        Instr::Op {
+            op: RegOp::And,
+            rd: x,
+            rs1,
+            rs2,
+        } => x.number() == rd && rs1.number() == a && rs2.number() == b,
+        _ => false,
+    }
+}
+
+fn is_or(rd: u8, a: u8, b: u8, instr: &Instr) -> bool
+    ensures { result ≡ is_or rd a b instr.now }
+{
+    match *instr {
+        Instr::Op {
+            op: RegOp::Or,
+            rd: x,
+            rs1,
+            rs2,
+        } => x.number() == rd && rs1.number() == a && rs2.number() == b,
+        _ => false,
+    }
+}
+
+/// `and target, a, mask`.
+pub(crate) fn is_masking(mask: u8, target: u8, instr: &Instr) -> bool
+    ensures { result ≡ is_masking mask target instr.now }
+{
+    match *instr {
+        Instr::Op {
+            op: RegOp::And,
+            rd,
+            rs2,
+            ..
+        } => rd.number() == target && rs2.number() == mask,
+        _ => false,
+    }
+}
+
+/// `or x30, x30, x24`.
+pub(crate) fn places_code(instr: &Instr) -> bool
+    ensures { result ≡ is_placing 24 30 instr.now }
+{
+    is_or(CODE_REGISTER, CODE_REGISTER, CODE_BASE_REGISTER, instr)
+}
+
+pub(crate) fn places(d: u8, instr: &Instr) -> bool
+    ensures { result ≡ places d instr.now }
+{
+    is_or(d, OFFSET_REGISTER, DATA_BASE_REGISTER, instr)
+}
+
+pub(crate) fn masks(d: u8, instr: &Instr) -> bool
+    ensures { result ≡ masks d instr.now }
+{
+    is_and(OFFSET_REGISTER, d, DATA_MASK_REGISTER, instr)
+}
+
+fn is_small(imm: i32) -> bool
+    ensures { result ≡ is_small imm }
+{
+    -SLACK <= imm && imm <= SLACK
+}
+
+pub(crate) fn is_step(d: u8, instr: &Instr) -> bool
+    ensures { result ≡ is_step d instr.now }
+{
+    match *instr {
+        Instr::OpImm {
+            op: ImmOp::Addi,
+            rd,
+            rs1,
+            ..
+        } => rd.number() == d && rs1.number() == d,
+        _ => false,
+    }
+}
+
+pub(crate) fn uses(d: u8, instr: &Instr) -> bool
+    ensures { result ≡ uses d instr.now }
+{
+    match *instr {
+        Instr::Load { rs1, imm, .. } | Instr::Store { rs1, imm, .. } => {
+            rs1.number() == d && is_small(imm)
+        }
+        _ => false,
+    }
+}
+
+pub(crate) fn is_jump(instr: &Instr) -> bool
+    ensures { result ≡ is_jump instr.now }
+{
+    matches!(instr, Instr::Jal { .. } | Instr::Jalr { .. })
+}
+
+pub(crate) fn ends_region(instr: &Instr) -> bool
+    ensures { result ≡ ends_region instr.now }
+{
+    matches!(
+        instr,
+        Instr::Jal { .. } | Instr::Jalr { .. } | Instr::Ebreak
+    )
+}
+
+// ---- the rules
+
+fn is_at_gate(place: &BundlePlace, address: u32) -> bool
+    ensures { result ≡ is_at_gate place.now address }
+{
+    place.listed && address == place.address
+}
+
+fn breaks_ecall(place: &BundlePlace, address: u32, instr: &Instr) -> bool
+    ensures { result ≡ breaks_ecall (is_at_gate place.now address) instr.now }
+{
+    match instr {
+        Instr::Ecall => !is_at_gate(place, address),
+        _ => false,
+    }
+}
+
+fn breaks_reserved(instr: &Instr) -> bool
+    ensures { result ≡ breaks_reserved instr.now }
+{
+    match instr.writes() {
+        Some(rd) => is_reserved(rd),
+        None => false,
+    }
+}
+
+fn may_access(base: Reg) -> bool
+    ensures { result ≡ may_access base }
+{
+    is_data_register(base) || base.number() == DATA_BASE_REGISTER
+}
+
+fn breaks_access(instr: &Instr) -> bool
+    ensures { result ≡ breaks_access instr.now }
+{
+    match *instr {
+        Instr::Load { rs1, .. } | Instr::Store { rs1, .. } => !may_access(rs1),
+        _ => false,
+    }
+}
+
+fn breaks_jump(instr: &Instr) -> bool
+    ensures { result ≡ breaks_jump instr.now }
+{
+    match *instr {
+        Instr::Jalr { rs1, imm, .. } => !(imm == 0 && rs1.number() == CODE_REGISTER),
+        _ => false,
+    }
+}
+
+fn is_word_start(place: &BundlePlace, address: u32) -> bool
+    requires { IsWithin place.now }
+    ensures { result ≡ is_word_start place.now.code_base place.now.code_size address }
+{
+    place.code_base <= address && address - place.code_base < place.code_size && address % 4 == 0
+}
+
+fn breaks_target(place: &BundlePlace, address: u32, instr: &Instr) -> bool
+    requires { IsWithin place.now }
+    ensures { result ≡
+        breaks_target place.now.code_base place.now.code_size address instr.now }
+{
+    match *instr {
+        Instr::Jal { offset, .. } | Instr::Branch { offset, .. } => {
+            !is_word_start(place, address.wrapping_add_signed(offset))
+        }
+        _ => false,
+    }
+}
+
+fn breaks_offset(instr: &Instr) -> bool
+    ensures { result ≡ breaks_offset instr.now }
+{
+    instr.writes_register(OFFSET_REGISTER)
+        && !is_masking(DATA_MASK_REGISTER, OFFSET_REGISTER, instr)
+}
+
+fn breaks_last(place: &BundlePlace, address: u32, size: u32, owed: Owed, instr: &Instr) -> bool
+    requires within { IsWithin place.now }
+    requires inside { IsInside place.now address size }
+    ensures { result ≡ breaks_last (record {
+      bundle = place.now;
+      address = address;
+      owed = owed;
+      instr = instr.now;
+      size = size;
+    }) }
+{
+    address - place.code_base == place.code_size - size && !ends_region(instr)
+}
+
+/// The lowest rule that the instruction of so many bytes breaks there, if any.
+pub(crate) fn lowest_rule(
+    place: &BundlePlace,
+    address: u32,
+    size: u32,
+    owed: Owed,
+    instr: &Instr,
+) -> Option<Rule>
+    requires within { IsWithin place.now }
+    requires inside { IsInside place.now address size }
+    ensures { result ≡ lowest (record {
+      bundle = place.now;
+      address = address;
+      owed = owed;
+      instr = instr.now;
+      size = size;
+    }) }
+{
+    if breaks_ecall(place, address, instr) {
+        Some(Rule::V3)
+    } else if breaks_reserved(instr) {
+        Some(Rule::V4)
+    } else if breaks_access(instr) {
+        Some(Rule::V5)
+    } else if breaks_jump(instr) {
+        Some(Rule::V6)
+    } else if breaks_target(place, address, instr) {
+        Some(Rule::V7)
+    } else if breaks_last(place, address, size, owed, instr) {
+        Some(Rule::V8)
+    } else if fails_data(owed, instr) {
+        Some(Rule::V10)
+    } else if fails_code(owed, instr) {
+        Some(Rule::V11)
+    } else if breaks_offset(instr) {
+        Some(Rule::V12)
+    } else {
+        None
+    }
+}
