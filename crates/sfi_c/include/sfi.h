@@ -4,6 +4,8 @@
  * Accepted means: from any entry of any of the image's sandboxes, with the four reserved registers set and every
  * other register and data byte arbitrary, after any number of turns every load and store fell in that sandbox's data
  * region or its guard zones, where it trapped, no code byte changed, and control left only through a listed gate.
+ * An entry is any bundle start of the code, in the third format any multiple of 4. x24 holds the code base, x25 the
+ * code size less 16 (in the third format less 4), x26 the data base, x27 the data size less 1.
  * In the second format x2, the stack pointer, isn't arbitrary: at an entry and after a reply it lies in the data
  * region. In the third, SFIW, six registers aren't: x2, x3, x4 and x29 lie in the data region or at most 1020 bytes
  * beside it, x30 is a multiple of 4 in the code region, and x31 is less than the data's size. This is proved of the

@@ -15,8 +15,8 @@ use Rattle.sfi_scan.specs.Stretches.{findings_most}
 use Rattle.sfi_check.specs.declared.tally.Tally.{Tally}
 use Rattle.sfi_check.specs.Verdict.{bundle_count}
 
--- what is owed after the code so far of a sandbox, where that is kept after any code: before the
--- first nothing is
+-- what is owed after the code so far of a sandbox: what the tally keeps, and nothing before the first
+-- bundle
 abbrev pub owed_after : List ℕ → Owed → Owed
 owed_after code kept = cond (length code == 0) Nothing kept
 
@@ -38,7 +38,7 @@ pub record AreFindingsWithin (ps : List Part) (f : Fields) (gs : List Gate) (cod
   pub here_are : AreFindingsSoFar (length ps) f gs code here kept
   pub found_is : found ≡ before ++ here
 
--- the findings of a front, where that is kept as owed
+-- the findings of a front, `kept` being the tally's debt
 abbrev pub AreFrontFindings : Front → List Finding → Owed → Type 0
 AreFrontFindings Empty found kept = found ≡ []
 AreFrontFindings (AfterMagic format) found kept = found ≡ []

@@ -88,7 +88,7 @@ module _ (m : Bytes) (s : Seat) (seat : IsSafeSeat m s) where
 
     -- the typed registers of a ready sandbox that stands at an ecall hold what their types say
     pub typed_lies : s.status ≡ Ready → (size : ℕ) → Stands (state_in m s) Ecall size → IsTyped p s.hart.registers
-    typed_lies ready size stands = typed_too seat.part (sym seat.bounds ∙ is) s.hart.registers ((seat.safe ready).calls.lies [] (state_in m s) size tt refl stands)
+    typed_lies ready size stands = typed_too seat.part (sym seat.bounds ∙ is) s.hart.registers ((seat.safe ready).calls.typed [] (state_in m s) size tt refl stands)
 
     -- what they hold at a call they hold after it, where all registers but a0 and a1 stay
     typed_kept : (h : Hart) → KeepsOthers s.hart h → IsTyped p s.hart.registers → IsTyped p h.registers

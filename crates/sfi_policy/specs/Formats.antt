@@ -16,8 +16,8 @@ code_most Sfi1 = 65536
 code_most Sfi2 = 1048576
 code_most Sfiw = 1048576
 
--- The bytes of a unit of code, a bundle's or a word's: a sandbox is entered, and jumps, at multiples
--- of it alone.
+-- The bytes of a unit of code, a bundle's or a word's: a sandbox is entered at multiples of it alone,
+-- and jumps to no other address.
 abbrev pub unit : Format → ℕ
 unit Sfi1 = 16
 unit Sfi2 = 16

@@ -5,6 +5,10 @@ use Rattle.std.specs.Prelude.{ℕ}
 abbrev pub bundle_size : ℕ
 bundle_size = 16
 
+-- the bytes of a word of code
+abbrev pub word_size : ℕ
+word_size = 4
+
 -- how many addresses a guard zone has
 abbrev pub guard : ℕ
 guard = 4096
@@ -41,6 +45,8 @@ name_most = 64
 abbrev pub first_frame : ℕ
 first_frame = 16
 
--- how far beside its data region a data register of code in words may lie
+-- How far beside its data region a data register of code in words may lie, and how far the offset of
+-- the access after a step of one goes. So many bytes beside, 2048 of a step, so many of the offset and
+-- 3 up to a word's last byte are less than a guard zone.
 abbrev pub slack : ℕ
 slack = 1020

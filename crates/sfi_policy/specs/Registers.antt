@@ -39,7 +39,7 @@ code_register = 30
 abbrev pub offset_register : ℕ
 offset_register = 31
 
--- ---- others
+-- ---- the return address
 
 -- in it a call leaves where to return to; a gate returns there
 abbrev pub return_register : ℕ

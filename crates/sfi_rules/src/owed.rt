@@ -1,4 +1,4 @@
-//! What is owed to what comes, in code in words.
+//! What must come next, in code in words.
 
 /// What must come next, by what was written before.
 #[derive(Clone, Copy)]

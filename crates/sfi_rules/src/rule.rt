@@ -30,10 +30,10 @@ pub enum Rule {
     V9,
     /// The stack pointer x2 of the second format is written, by neither instruction of the pair
     /// `and x2, a, x27`, `or x2, x2, x26`, nor by one other than jal and jalr that this pair
-    /// directly follows in its bundle. In words: what a write of a data register owes doesn't come,
-    /// or a jump writes one.
+    /// directly follows in its bundle. In words: what must follow a write of a data register
+    /// doesn't, or a jump writes one.
     V10,
-    /// In words: what a mask of x30 owes doesn't come, or x30 is written otherwise.
+    /// In words: what must follow a mask of x30 doesn't, or x30 is written otherwise.
     V11,
     /// In words: the offset register x31 is written otherwise than by `and x31, a, x27`.
     V12,

@@ -1,7 +1,8 @@
 -- What holds of runs, whatever the rules: laws, and further lemmas, for proofs here and in the crates above.
-use Rattle.sfi_runs.specs.Laws.{SafeTurns, SafeStaysSafe, SafeFetches, GoesOnSafely, CanBeEntered, BundlesAskTheSame, FirstFormatAsksNoStack}
+use Rattle.sfi_runs.specs.Laws.{SafeTurns, SafeStaysSafe, SafeFetches, GoesOnSafely, CanBeEntered, HasEntries, BundlesAskTheSame, WordsAsk, FirstFormatAsksNoStack}
 use Rattle.sfi_runs.proofs.Entering.{entered}
-use Rattle.sfi_runs.proofs.Formats.{bundles_ask, first_asks}
+use Rattle.sfi_runs.proofs.Entries.{entries}
+use Rattle.sfi_runs.proofs.Formats.{bundles_ask, words_asks, first_asks}
 use Rattle.sfi_runs.proofs.Safe.{turns_safe, stays_safe, fetches, goes_on}
 
 pub safe_turns : SafeTurns
@@ -19,8 +20,14 @@ goes_on_safely = goes_on
 pub can_be_entered : CanBeEntered
 can_be_entered = entered
 
+pub has_entries : HasEntries
+has_entries = entries
+
 pub bundles_ask_the_same : BundlesAskTheSame
 bundles_ask_the_same = bundles_ask
+
+pub words_ask : WordsAsk
+words_ask = words_asks
 
 pub first_format_asks_no_stack : FirstFormatAsksNoStack
 first_format_asks_no_stack = first_asks

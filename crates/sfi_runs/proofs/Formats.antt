@@ -7,7 +7,7 @@ use Rattle.sfi_image.specs.Regions.{IsBundleStart}
 use Rattle.sfi_image.specs.Registers.{reserved_for}
 use Rattle.sfi_image.specs.Spans.{code_region, data_region}
 use Rattle.sfi_runs.specs.Typed.{StackInData, IsWordStart, AreWordsTyped}
-use Rattle.sfi_runs.specs.Laws.{BundlesAskTheSame, FirstFormatAsksNoStack}
+use Rattle.sfi_runs.specs.Laws.{BundlesAskTheSame, WordsAsk, FirstFormatAsksNoStack}
 
 -- code that isn't in words is in bundles
 pub bundles : (f : Format) → has_words f ≡ false → unit f ≡ 16
@@ -29,6 +29,9 @@ no_stack Sfiw has stack = false≢true stack
 pub to_word : (p : Part) (a : ℕ) → has_words p.format ≡ true → IsUnitStart p a → IsWordStart p a
 to_word p a has start = record { held = start.held; aligned = ap (λ (u : ℕ). a % u) (sym (words p.format has)) ∙ start.aligned }
 
+pub of_word : (p : Part) (a : ℕ) → has_words p.format ≡ true → IsWordStart p a → IsUnitStart p a
+of_word p a has start = record { held = start.held; aligned = ap (λ (u : ℕ). a % u) (words p.format has) ∙ start.aligned }
+
 pub of_words_typed : (p : Part) (registers : List ℕ) → has_words p.format ≡ true → AreWordsTyped p registers → IsTyped p registers
 of_words_typed p registers has typed = record { stack = λ stack. absurd (no_stack p.format has stack); words = λ _. typed }
 
@@ -46,6 +49,13 @@ bundles_ask p none = (
   λ a. (to_bundle p a none, of_bundle p a none),
   ap (λ (u : ℕ). reserved_for u (code_region p) (data_region p)) (bundles p.format none),
   λ registers. (λ typed. typed.stack, of_stack p registers none),
+)
+
+pub words_asks : WordsAsk
+words_asks p has = (
+  λ a. (to_word p a has, of_word p a has),
+  ap (λ (u : ℕ). reserved_for u (code_region p) (data_region p)) (words p.format has),
+  λ registers. (λ typed. typed.words has, of_words_typed p registers has),
 )
 
 pub first_asks : FirstFormatAsksNoStack

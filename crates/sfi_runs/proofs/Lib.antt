@@ -1,6 +1,7 @@
 pub mod Prelude
 pub mod Accessing
 pub mod Entering
+pub mod Entries
 pub mod Formats
 pub mod Masks
 pub mod Safe

@@ -62,7 +62,7 @@ pub goes_on : GoesOnSafely
 goes_on p s after turn from h e = record {
   safe = stays_safe p s after turn from.safe h e;
   calls = record {
-    lies = λ turns at n run is stands.
-        from.calls.lies (turn ∷ turns) at n (h, subst (λ (o : Option State). IsRun p o turns) (sym e) run) (ap (λ (o : Option State). after_turns o turns) e ∙ is) stands;
+    typed = λ turns at n run is stands.
+        from.calls.typed (turn ∷ turns) at n (h, subst (λ (o : Option State). IsRun p o turns) (sym e) run) (ap (λ (o : Option State). after_turns o turns) e ∙ is) stands;
   };
 }

@@ -69,7 +69,7 @@ module _ (p : Part) (IsGood : State → Type 0)
   pub calls_typed : ((s : State) (n : ℕ) → IsGood s → Stands s Ecall n → IsTyped p s.hart.registers) → CallsTyped p
   calls_typed typed = record {
     from = λ s entry. record {
-      lies = λ turns at n run after stands.
+      typed = λ turns at n run after stands.
           typed at n (subst (λ (o : Option State). IfSome o IsGood) after (run_good turns (Some s) (enters s entry) run)) stands;
     };
   }

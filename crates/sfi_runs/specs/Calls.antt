@@ -18,7 +18,7 @@ after_turns (Some s) (turn ∷ turns) = after_turns (after_turn turn) turns
 -- in every run from this state the typed registers hold what their types say wherever an ecall
 -- stands
 pub record CallsTypedFrom (p : Part) (s : State) : Type 0 where
-  pub lies : (turns : List Turn) (at : State) (n : ℕ) → IsRun p (Some s) turns
+  pub typed : (turns : List Turn) (at : State) (n : ℕ) → IsRun p (Some s) turns
       → after_turns (Some s) turns ≡ Some at → Stands at Ecall n → IsTyped p at.hart.registers
 
 -- every run from this state is safe, and calls so: what a world keeps of each sandbox

@@ -1,5 +1,5 @@
 -- What holds of runs, whatever the rules.
-use Rattle.std.specs.Prelude.{◌≡◌, ◌≢◌, ◌↔◌, ◌<◌, slice_index, ℕ, List, Some, false}
+use Rattle.std.specs.Prelude.{◌≡◌, ◌≢◌, ◌↔◌, ◌<◌, slice_index, ℕ, List, Some, true, false}
 use Rattle.rv_mem.specs.Bytes.{Bytes}
 use Rattle.rv_step.specs.declared.outcome.Outcome.TheVariants.{Trap}
 use Rattle.rv_step.specs.declared.outcome.Cause.TheVariants.{Fetch, Illegal}
@@ -7,14 +7,14 @@ use Rattle.rv_step.specs.State.{Hart, IsHart, State}
 use Rattle.rv_step.specs.Step.{Stepped, IsStep}
 use Rattle.sfi_policy.specs.declared.format.Format.TheVariants.{Sfi1}
 use Rattle.sfi_policy.specs.Formats.{has_words}
-use Rattle.sfi_policy.specs.Limits.{bundle_size}
+use Rattle.sfi_policy.specs.Limits.{bundle_size, word_size}
 use Rattle.sfi_image.specs.Parts.{IsRightPart}
 use Rattle.sfi_image.specs.Regions.{IsBundleStart}
 use Rattle.sfi_image.specs.Registers.{reserved_for, reserved_of}
 use Rattle.sfi_image.specs.Spans.{AreApart, code_region, data_region, guarded_region}
 use Rattle.sfi_image.specs.Spelling.{Part}
 use Rattle.sfi_runs.specs.Regions.{IsUnitStart, HasReserved}
-use Rattle.sfi_runs.specs.Typed.{StackInData, IsTyped}
+use Rattle.sfi_runs.specs.Typed.{StackInData, IsTyped, IsWordStart, AreWordsTyped}
 use Rattle.sfi_runs.specs.Runs.{Turn, IsTurn, IsEntry, after_turn}
 use Rattle.sfi_runs.specs.Safety.{IsSafeState, IsSafeTurn, RunsSafelyFrom}
 use Rattle.sfi_runs.specs.Calls.{GoesSafelyFrom}
@@ -53,6 +53,13 @@ CanBeEntered =
     → IsHart h → IsUnitStart p h.pc → HasReserved p h.registers → IsTyped p h.registers
     → (m : Bytes) × IsEntry p (record { hart = h; memory = m })
 
+-- a sandbox with a right layout has an entry at the start of each bundle, or word
+abbrev pub HasEntries : Type 0
+HasEntries =
+    (p : Part) (at : ℕ) → IsRightPart p → AreApart (code_region p) (guarded_region p)
+    → ((k : ℕ) → slice_index p.code k < 256) → IsUnitStart p at
+    → (s : State) × (s.hart.pc ≡ at) × IsEntry p s
+
 -- ---- what the formats ask
 
 -- In a format without words a sandbox is entered at bundle starts, x25 holds the code size less a
@@ -63,6 +70,15 @@ BundlesAskTheSame =
     → ((a : ℕ) → IsUnitStart p a ↔ IsBundleStart (code_region p) a)
     × (reserved_of p ≡ reserved_for bundle_size (code_region p) (data_region p))
     × ((registers : List ℕ) → IsTyped p registers ↔ StackInData p registers)
+
+-- In a format of words a sandbox is entered at words' starts, x25 holds the code size less a word's,
+-- and six registers have types.
+abbrev pub WordsAsk : Type 0
+WordsAsk =
+    (p : Part) → has_words p.format ≡ true
+    → ((a : ℕ) → IsUnitStart p a ↔ IsWordStart p a)
+    × (reserved_of p ≡ reserved_for word_size (code_region p) (data_region p))
+    × ((registers : List ℕ) → IsTyped p registers ↔ AreWordsTyped p registers)
 
 -- in the first format no register has a type: nothing is asked of x2, at an entry, after a reply or
 -- at a call

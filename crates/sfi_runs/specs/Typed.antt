@@ -13,17 +13,17 @@ StackInData p registers = has_stack p.format ≡ true → InData p (slice_index 
 
 -- ---- of code in words
 
--- a multiple of 4 in the code region: each is an instruction's start
+-- a multiple of 4 in the code region
 pub record IsWordStart (p : Part) (a : ℕ) : Type 0 where
   pub held : InCode p a
   pub aligned : a % 4 ≡ 0
 
--- in the data region, or less than so far beside it (or that far below)
+-- in the data region, or at most so many bytes below its first byte or above its last
 pub record IsNear (p : Part) (far a : ℕ) : Type 0 where
   pub low : p.data_base ≤ a + far
   pub high : a < p.data_base + p.data_size + far
 
--- each of its typed registers holds what its type says
+-- each of the six typed registers of code in words holds what its type says
 pub record AreWordsTyped (p : Part) (registers : List ℕ) : Type 0 where
   pub each_data : (d : ℕ) → is_data_register d ≡ true → IsNear p slack (slice_index registers d)
   pub code : IsWordStart p (slice_index registers code_register)

@@ -1,5 +1,5 @@
 //! What holds of runs, whatever the rules. Each is a lemma too, in proofs/Facts.
-ghost use Rattle.sfi_runs.specs.Laws.{SafeTurns, SafeStaysSafe, SafeFetches, GoesOnSafely, CanBeEntered, BundlesAskTheSame, FirstFormatAsksNoStack};
+ghost use Rattle.sfi_runs.specs.Laws.{SafeTurns, SafeStaysSafe, SafeFetches, GoesOnSafely, CanBeEntered, HasEntries, BundlesAskTheSame, WordsAsk, FirstFormatAsksNoStack};
 
 /// From where every run is safe, the state is, and each turn.
 pub fn safe_turns()
@@ -26,9 +26,19 @@ pub fn can_be_entered()
     ensures { CanBeEntered }
 {}
 
+/// It has an entry at the start of each bundle, or word.
+pub fn has_entries()
+    ensures { HasEntries }
+{}
+
 /// What is asked of a sandbox whose code is in bundles.
 pub fn bundles_ask_the_same()
     ensures { BundlesAskTheSame }
+{}
+
+/// What is asked of a sandbox whose code is in words.
+pub fn words_ask()
+    ensures { WordsAsk }
 {}
 
 /// In the first format no register has a type.

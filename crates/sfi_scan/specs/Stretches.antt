@@ -61,7 +61,7 @@ AreFoundInStretch b owed bytes n found next = MatchBool (has_words b.format)
     (AreWordStretchFindings b owed bytes n found next)
     (AreStretchFindings b bytes n found × (next ≡ Nothing))
 
--- the stretch of code in words is scanned: the sink took its findings
+-- the first n bundles of a stretch of code in words are scanned: the sink took their findings
 pub record IsWordCodeScanned {F : Type 0} (takes : F → List Finding → F → Type 0)
     (b : BundlePlace) (owed : Owed) (bytes : List ℕ) (n : ℕ) (next : Owed)
     (before after : F) : Type 0 where
@@ -70,7 +70,7 @@ pub record IsWordCodeScanned {F : Type 0} (takes : F → List Finding → F → 
   pub few : length found ≤ findings_most * n
   pub handed : takes before found after
 
--- the stretch of any code is
+-- the same of code of any format
 pub record IsStretchScanned {F : Type 0} (takes : F → List Finding → F → Type 0)
     (b : BundlePlace) (owed : Owed) (bytes : List ℕ) (n : ℕ) (next : Owed)
     (before after : F) : Type 0 where

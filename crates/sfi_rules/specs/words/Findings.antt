@@ -1,10 +1,11 @@
 -- The findings of code in words, in order. Each word of 4 bytes is read on its own, from its first
--- byte; V10 and V11 are found at the instruction that doesn't meet what is owed.
+-- byte; V10 and V11 are found at the instruction that doesn't meet what is owed, or at a write that
+-- nothing can make right.
 use Rattle.std.specs.Prelude.{◌≡◌, ◌+◌, ◌-◌, ◌*◌, ◌==◌, ◌&&◌, ◌||◌, not, ℕ, zero, suc, List, [], ◌∷◌, ◌++◌, Bool, false, Option, Some, None, cond, length, take, drop, is_some}
 use Rattle.std.specs.List.{find}
 use Rattle.rv_word.specs.declared.instr.Instr.{Instr}
 use Rattle.rv_word.specs.Writes.{destination, writes_register}
-use Rattle.sfi_policy.specs.Limits.{bundle_size}
+use Rattle.sfi_policy.specs.Limits.{bundle_size, word_size}
 use Rattle.sfi_policy.specs.Registers.{is_data_register, code_register}
 use Rattle.sfi_image.specs.Spelling.{Part}
 use Rattle.sfi_rules.specs.declared.bundle.BundlePlace.{BundlePlace}
@@ -26,15 +27,16 @@ use Rattle.sfi_rules.specs.words.Owing.{left, owed_by, owed_next, is_of_data, is
 pub record Place : Type 0 where
   pub bundle : BundlePlace
   pub address : ℕ  -- that of the instruction
-  pub owed : Owed  -- to what comes there
+  pub owed : Owed  -- before the instruction
   pub instr : Instr
   pub size : ℕ  -- its length in bytes
 
+-- it is a data register's number
 abbrev pub is_data_one : Option ℕ → Bool
 is_data_one None = false
 is_data_one (Some d) = is_data_register d
 
--- V3: an ecall that isn't at the address of the bundle's listed gate
+-- the address is that of the gate that is listed for the bundle
 abbrev pub is_at_gate : BundlePlace → ℕ → Bool
 is_at_gate b at = b.listed && (at == b.address)
 
@@ -43,13 +45,14 @@ abbrev pub breaks_last : Place → Bool
 breaks_last x =
     (x.address + x.size == x.bundle.code_base + x.bundle.code_size) && not (ends_region x.instr)
 
--- V10: it doesn't meet what is owed of a data register, or writes one and nothing that comes makes
--- that right
+-- V10: it doesn't meet what is owed of a data register, or writes one in a way that no next
+-- instruction can make right
 abbrev pub fails_data : Owed → Instr → Bool
 fails_data o i = (is_of_data o && not (is_some (left o i)))
     || (is_data_one (destination i) && not (is_some (owed_by i)))
 
--- V11: it doesn't meet what is owed of x30, or writes x30 and nothing that comes makes that right
+-- V11: it doesn't meet what is owed of x30, or writes x30 in a way that no next instruction can make
+-- right
 abbrev pub fails_code : Owed → Instr → Bool
 fails_code o i = (is_of_code o && not (is_some (left o i)))
     || (writes_register code_register i && not (is_some (owed_by i)))
@@ -94,10 +97,6 @@ abbrev pub owed_past : Owed → List Piece → Owed
 owed_past owed [] = owed
 owed_past owed (x ∷ later) = owed_past (owed_next owed x.instr) later
 
--- a word's size in bytes
-abbrev pub word_size : ℕ
-word_size = 4
-
 -- The findings of the word at this address, before which this is owed, and what is owed after it:
 -- nothing, where it isn't read whole.
 pub record IsWordFound (b : BundlePlace) (at : ℕ) (owed : Owed) (word : List ℕ)
@@ -110,7 +109,8 @@ pub record IsWordFound (b : BundlePlace) (at : ℕ) (owed : Owed) (word : List �
 
 -- ---- of a bundle, and of a part
 
--- those of the first n words of a bundle with these bytes
+-- the findings of the first n words of a bundle with these bytes, before which this is owed, and what
+-- is owed after them
 abbrev pub AreFoundInWords : BundlePlace → Owed → List ℕ → ℕ → List Finding → Owed → Type 0
 AreFoundInWords b owed bytes zero found next = (found ≡ []) × (next ≡ owed)
 AreFoundInWords b owed bytes (suc n) found next =
@@ -119,7 +119,7 @@ AreFoundInWords b owed bytes (suc n) found next =
     × IsWordFound b (b.address + word_size * n) between
     (take word_size (drop (word_size * n) bytes)) last next × (found ≡ front ++ last)
 
--- those of a bundle with these bytes, before which this is owed, and what is owed after it
+-- those of a bundle with these bytes, all four of its words
 abbrev pub AreFoundInBundle : BundlePlace → Owed → List ℕ → List Finding → Owed → Type 0
 AreFoundInBundle b owed bytes found next = AreFoundInWords b owed bytes 4 found next
 

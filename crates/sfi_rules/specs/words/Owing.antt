@@ -1,5 +1,5 @@
--- What is owed to what comes: what a write of a data register or of x30 leaves for the next one or
--- two instructions, as one register and a kind.
+-- What is still owed: what the next one or two instructions must be after a write of a data register
+-- or of x30, as a kind and one register.
 use Rattle.std.specs.Prelude.{◌==◌, ℕ, Bool, true, false, Option, Some, None, if◌then◌else◌}
 use Rattle.rv_word.specs.declared.instr.Instr.{Instr}
 use Rattle.rv_word.specs.Writes.{destination}
@@ -10,7 +10,7 @@ use Rattle.sfi_rules.specs.declared.owed.Owed.{Owed}
 use Rattle.sfi_rules.specs.declared.owed.Owed.TheVariants.{Nothing, Mask, Place, MaskOrUse, Code}
 use Rattle.sfi_rules.specs.words.Rules.{places, masks, is_step, uses}
 
--- what is still owed after the instruction of what was owed before it; None: it doesn't meet that
+-- what of a debt is left after this instruction; None: it isn't the instruction that was owed
 abbrev pub left : Owed → Instr → Option Owed
 left Nothing i = Some Nothing
 left (Mask d) i = if masks d i then Some (Place d) else None
@@ -19,33 +19,36 @@ left (MaskOrUse d) i =
     if masks d i then Some (Place d) else if uses d i then Some Nothing else None
 left Code i = if is_placing code_base_register code_register i then Some Nothing else None
 
--- what a write of a data register owes; None: nothing that comes makes it right
+-- what must come after this write of data register d; None: nothing can make it right
 abbrev pub owed_by_data : ℕ → Instr → Option Owed
 owed_by_data d i =
     if places d i then Some Nothing
     else if is_jump i then None else if is_step d i then Some (MaskOrUse d) else Some (Mask d)
 
--- what a write of the code register owes
+-- what must come after this write of the code register; None: nothing can make it right
 abbrev pub owed_by_code : Instr → Option Owed
 owed_by_code i =
     if is_placing code_base_register code_register i then Some Nothing
     else if is_masking code_mask_register code_register i then Some Code else None
 
+-- the same by the register that is written: a write of no typed one asks nothing
 abbrev pub owed_of : Option ℕ → Instr → Option Owed
 owed_of None i = Some Nothing
 owed_of (Some d) i =
     if is_data_register d then owed_by_data d i
     else if d == code_register then owed_by_code i else Some Nothing
 
--- what the instruction owes by what it writes; None: it may not write that
+-- what must come after the instruction, by what it writes; None: nothing can make that right
 abbrev pub owed_by : Instr → Option Owed
 owed_by i = owed_of (destination i) i
 
+-- the debt, or none where the instruction is wrong in itself (it is found there)
 abbrev pub or_nothing : Option Owed → Owed
 or_nothing None = Nothing
 or_nothing (Some o) = o
 
--- what is still owed, or else what the instruction owes itself
+-- what is still owed, or else what the instruction owes itself (one that leaves something owed writes
+-- x31 alone, so it starts no debt)
 abbrev pub joined : Option Owed → Option Owed → Owed
 joined None own = or_nothing own
 joined (Some Nothing) own = or_nothing own
