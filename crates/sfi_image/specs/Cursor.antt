@@ -13,18 +13,23 @@ use Rattle.sfi_image.specs.Keeping.{StandsFor}
 abbrev pub unread : ImageCursor → List ℕ
 unread c = c.rest.now
 
--- of the bytes it has read that front, which is right
+-- the format that it has read, at the front of the bytes
+abbrev pub format_read : ImageCursor → Format
+format_read c = c.reader.fields.format
+
+-- it has read this front of the bytes, which passes its tests
 pub record HasRead (bytes : List ℕ) (x : Front) (c : ImageCursor) : Type 0 where
   pub stands : StandsFor c.reader x
   pub bytes_are : bytes ≡ front x ++ unread c
 
--- of the bytes it has passed the magic of the format, the count, and these whole sandboxes
+-- it has read the format's magic, the count and these whole sandboxes, with which the bytes begin
 pub record HasPassed (bytes : List ℕ) (format : Format) (n : ℕ) (ps : List Part) (c : ImageCursor)
     : Type 0 where
   pub one_format : AreOf format ps
   pub read : HasRead bytes (after_parts format n ps) c
 
--- the fields are the sandbox's, and the slices are its gates, its code and its first data bytes
+-- the fields are the sandbox's, and the slices hold its gates' bytes, its code and its first data
+-- bytes; each number of a gate has 32 bits
 pub record IsViewOf (v : PartView) (p : Part) : Type 0 where
   pub fields_are : v.fields ≡ fields_of p
   pub gates_are : v.gates.now ≡ flat_map gate p.gates

@@ -92,7 +92,7 @@ want_of (InCode n ps f gs code) =
 want_of (InInit n ps f gs code init) = wants.Init (f.init_len - length init)
 want_of (Whole ps) = wants.End
 
--- so many bytes are one bundle or more, and no more than that
+-- a length is that of one or more whole bundles, and at most this
 pub record AreBundlesWithin (most len : ℕ) : Type 0 where
   pub some : 1 ≤ len
   pub whole : len % bundle_size ≡ 0
@@ -119,7 +119,7 @@ IsStretchLength (Whole ps) len = len ≡ 0
 
 -- ---- how a front goes on: `Follows`, and its parts, which only private contracts name themselves
 
--- a sandbox of these
+-- the sandbox with these fields, gates, code and first data bytes
 abbrev pub part_of : Fields → List Gate → List ℕ → List ℕ → Part
 part_of f gs code init = record {
   format = f.format;
@@ -182,7 +182,8 @@ IsLess len (wants.Init n) = len < n
 IsLess len wants.End = ⊥
 IsLess len wants.Nothing = ⊥
 
--- so many bytes are what comes next, or more bundles with it
+-- a length is that of what comes next: where that is a bundle, of any number of bundles up to the
+-- code region's end; where it is first data bytes, of some of them
 abbrev pub IsLengthOf : ℕ → Want → Type 0
 IsLengthOf len (wants.Field n) = len ≡ n
 IsLengthOf len (wants.Bundle sandbox address format base size listed) =

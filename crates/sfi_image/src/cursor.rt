@@ -8,7 +8,7 @@ ghost use Rattle.sfi_image.specs.Images.{IsImage};
 ghost use Rattle.sfi_image.specs.Faults.{IsFault};
 ghost use Rattle.sfi_image.specs.Fronts.{Front, after_gates, after_code, after_init, after_parts, part_of};
 ghost use Rattle.sfi_image.specs.Fronts.Front.{AfterCount, InCode};
-ghost use Rattle.sfi_image.specs.Cursor.{HasPassed, HasRead, IsViewOf, unread};
+ghost use Rattle.sfi_image.specs.Cursor.{HasPassed, HasRead, IsViewOf, format_read, unread};
 ghost use Rattle.sfi_image.specs.private.Keeping.{MayTake};
 ghost use Rattle.sfi_image.specs.private.Cursor.{Gives, LeadsOn};
 
@@ -58,7 +58,7 @@ impl<'a> ImageCursor<'a> {
     /// Stands before the first sandbox.
     pub fn new(bytes: &'a [u8]) -> Result<ImageCursor<'a>, LayoutFault>
         ensures begun { IfOk result (λ c. (n : ℕ)
-            × HasPassed bytes.entry.now c.reader.fields.format n [] c) }
+            × HasPassed bytes.entry.now (format_read c) n [] c) }
         ensures fault { IfErr result (λ k. IsFault bytes.entry.now k) }
     {
         let mut cursor = ImageCursor {
@@ -72,7 +72,7 @@ impl<'a> ImageCursor<'a> {
 
     /// The image's format.
     pub fn format(&self) -> Format
-        ensures { result ≡ self.now.reader.fields.format }
+        ensures { result ≡ format_read self.now }
     {
         self.reader.format()
     }
@@ -97,6 +97,7 @@ impl<'a> ImageCursor<'a> {
         ensures end { IfOk result (λ next. IfNone next (
             (bytes : List ℕ) (format : Format) (n : ℕ) (ps : List Part)
             → HasPassed bytes format n ps self.old → IsImage bytes ps)) }
+        ensures stays { IfOk result (λ next. IfNone next (self.new ≡ self.old)) }
         ensures fault { IfErr result (λ k.
             (bytes : List ℕ) (format : Format) (n : ℕ) (ps : List Part)
             → HasPassed bytes format n ps self.old → IsFault bytes k) }

@@ -258,6 +258,7 @@ impl LayoutReader {
     #[inline(never)]
     pub fn stretch_length(&self) -> usize
         ensures length { (x : Front) → StandsFor self.now x → IsStretchLength x result }
+        ensures stopped { HasStopped self.now → result ≡ 0 }
     {
         let Next::Code = self.next else {
             return 0;

@@ -1,4 +1,5 @@
 use Rattle.sfi_image.proofs.Prelude.{◌≡◌, ◌∙◌, ◌+◌, drop, refl, sym, subst, arith, ReaderState, StandsFor, count_below, first_or, kept}
+use Rattle.sfi_image.specs.declared.want.Next.TheVariants as next
 use Rattle.sfi_image.proofs.Stretches.{stretch_bounds, stretch_kept}
 use Rattle.sfi_image.proofs.layout_reader.LayoutReader.stretch_length.Goals as goal
 
@@ -24,4 +25,7 @@ returns c =
     let at = c.address_after-at.ensures in
     let end : c.first_after-end.result ≡ first_or (r.fields.code_base + r.fields.code_size) (drop (r.passed + count_below (r.fields.code_base + r.code_read + 16) (drop r.passed r.gates)) r.gates) =
     c.first_after-end.ensures ∙ rw (c.address_after-region_end.ensures, c.passed_before-passed.ensures, c.from.ensures, at, c.as_slice-gates.ensures) refl in
-    record { length = λ x h. stretch_kept r x _ (subst (λ (s : ReaderState). StandsFor s x) (sym c.self.view_is) h) c.in-Code.is (rw (end, at) refl) }
+    record {
+      length = λ x h. stretch_kept r x _ (subst (λ (s : ReaderState). StandsFor s x) (sym c.self.view_is) h) c.in-Code.is (rw (end, at) refl);
+      stopped = λ h. let code = c.in-Code.is in let none = subst (λ (s : ReaderState). s.next ≡ next.Nothing) (sym c.self.view_is) h in absurd cc;
+    }
