@@ -2,6 +2,7 @@
 use Rattle.std.specs.Simd.{first_chunks}
 use Rattle.sfi_scan.proofs.Prelude.{get_or, ◌≡◌, ℕ, zero, suc, ◌+◌, ◌-◌, ◌*◌, ◌<◌, ◌≤◌, ◌==◌, ◌&&◌, Bool, true, false, List, [], ◌++◌, length, take, drop, refl, sym, ap, ◌∙◌, subst, arith, ne_eqb, append-nil, append_assoc, length-append, length-drop, drop-drop, drop-take, take-take, take_all, inr, BundlePlace, Finding, Part, bundle_at, block_bundle, bundle_bytes, place_of, AreBundleFindings, AreReadingFindings, AreFindingsOfFirst}
 use Rattle.sfi_scan.specs.Stretches.{IsStretch, IsScanned, stretch_place, AreStretchFindings}
+use Rattle.sfi_scan.specs.private.Scanning.{IsFrontScanned}
 
 -- ---- places
 
@@ -93,6 +94,10 @@ stretch_same b xs ys zero found bytes none = none
 stretch_same b xs ys (suc n) found bytes are =
     (are.0, are.1, stretch_same b xs ys n are.0 (λ i less. bytes i (omega arith)) are.2, subst (λ (x : List ℕ). AreBundleFindings (stretch_place b n) x are.1) (bytes n (omega arith)) are.3, are.4)
 
+-- all of a slice from there on
+pub tail_is : (at : ℕ) (xs : List ℕ) → take (length xs - at) (drop at xs) ≡ drop at xs
+tail_is at xs = take_all (length xs - at) (drop at xs) (omega (arith, length-drop at xs))
+
 -- ---- what a sink took
 
 module _ {F : Type 0} (takes : F → List Finding → F → Type 0) where
@@ -113,6 +118,13 @@ module _ {F : Type 0} (takes : F → List Finding → F → Type 0) where
     handed = more s t u one.found two.found one.handed two.handed;
   }
 
+-- the front of what is left of a stretch after so many bundles
+pub rest_scanned : {F : Type 0} {takes : F → List Finding → F → Type 0} {c : BundlePlace} {at len : ℕ} {s t : F} (b : BundlePlace) (code : List ℕ) (k : ℕ) → at ≡ 16 * k → c ≡ stretch_place b k
+    → IsFrontScanned takes c (take (length code - at) (drop at code)) len s t → IsFrontScanned takes (stretch_place b k) (drop (16 * k) code) len s t
+rest_scanned {takes = takes} {at = at} {len = len} {s = s} {t = t} b code k is place h =
+    subst (λ (l : List ℕ). IsFrontScanned takes (stretch_place b k) l len s t) (tail_is at code ∙ ap (λ (a : ℕ). drop a code) is)
+    (subst (λ (c : BundlePlace). IsFrontScanned takes c (take (length code - at) (drop at code)) len s t) place h)
+
 -- ---- bytes
 
 -- a bundle among the first ones
@@ -131,10 +143,6 @@ rest_bundle from i xs =
 -- one bundle is a stretch of its own
 pub first_bundle : (i : ℕ) (xs : List ℕ) → block_bundle (block_bundle xs i) 0 ≡ block_bundle xs (i + 0)
 first_bundle i xs = take-take 16 16 (drop (16 * i) xs) (omega arith) ∙ ap (block_bundle xs) (let e : i ≡ i + 0 = omega arith in e)
-
--- all of a slice from there on
-pub tail_is : (at : ℕ) (xs : List ℕ) → take (length xs - at) (drop at xs) ≡ drop at xs
-tail_is at xs = take_all (length xs - at) (drop at xs) (omega (arith, length-drop at xs))
 
 -- a plain bundle that is read
 pub plain_found : (b : BundlePlace) (i : ℕ) (bytes : List ℕ) (found : List Finding) → b.listed ≡ false → AreReadingFindings (bundle_at b i) bytes found → AreBundleFindings (stretch_place b i) bytes found

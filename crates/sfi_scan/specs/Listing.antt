@@ -1,17 +1,7 @@
 -- A list that takes findings as long as there is memory.
-use Rattle.std.proofs.Common.{◌≡◌, List, Bool, false, [], ◌++◌, ap, sym, ◌∙◌, append_assoc}
-use Rattle.std.proofs.lemmas.List.{append-nil}
+use Rattle.std.specs.Prelude.{◌≡◌, List, Bool, false, ◌++◌}
 use Rattle.sfi_rules.specs.declared.finding.Finding.{Finding}
 
--- where memory hasn't run out, it hadn't before, and these findings are added
+-- if the list has not run out of memory, it had not before, and these findings were added to its end
 abbrev pub Lists : List Finding → Bool → List Finding → List Finding → Bool → Type 0
 Lists old lacked found new lacks = lacks ≡ false → (lacked ≡ false) × (new ≡ old ++ found)
-
-pub lists_none : (old : List Finding) (lacked : Bool) → Lists old lacked [] old lacked
-lists_none old lacked = λ had. (had, sym (append-nil old))
-
-pub lists_more : (a : List Finding) (p : Bool) (xs b : List Finding) (q : Bool) (ys c : List Finding) (r : Bool) → Lists a p xs b q → Lists b q ys c r → Lists a p (xs ++ ys) c r
-lists_more a p xs b q ys c r one two = λ had.
-    let second = two had in
-    let first = one second.0 in
-    (first.0, second.1 ∙ ap (λ (l : List Finding). l ++ ys) first.1 ∙ append_assoc a xs ys)

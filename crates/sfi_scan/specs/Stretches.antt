@@ -1,5 +1,6 @@
 -- Stretches of bundles: code of one region, one bundle behind another, of which only the first may be a
--- listed gate's.
+-- listed gate's. The caller cuts a region's code at each gate: the places of the other bundles of a
+-- stretch say that no gate is listed there, whatever the image lists.
 use Rattle.std.specs.Prelude.{◌≡◌, ◌+◌, ◌*◌, ◌/◌, ◌^◌, ◌≤◌, ℕ, zero, suc, List, [], ◌++◌, length, MatchBool}
 use Rattle.sfi_policy.specs.Formats.{has_words}
 use Rattle.sfi_policy.specs.Limits.{bundle_size}

@@ -2,5 +2,6 @@
 pub mod Block
 pub mod FirstLook
 pub mod Inside
+pub mod Listing
 pub mod Near
 pub mod Scanning

@@ -10,7 +10,7 @@ ghost use Rattle.sfi_rules.specs.Findings.{AreReadingFindings};
 ghost use Rattle.sfi_scan.specs.private.Block.{AreStarts, AreAfterTwo, AreThreeWords, IsWithout, IsWritten, IsOfWrite, offset, words_from, IsCleanAt};
 ghost use Rattle.sfi_scan.specs.private.FirstLook.{half_at, word_at, AreWordsFrom, AreBefore};
 
-use crate::clean::{Words, is_clean, is_stack_pair, is_stack_write, may_access};
+use crate::clean::{Words, half_at, is_clean, is_stack_pair, is_stack_write, may_access, word_at};
 use rv_comp::outline16;
 use rv_word::{Reg, outline32};
 use sfi_masks::{BLOCK_BYTES, masks_of};
@@ -94,28 +94,24 @@ pub(crate) fn bundle_at(place: &BundlePlace, bundle: usize) -> BundlePlace
     }
 }
 
+/// The halfword of that number.
 #[inline(always)]
-fn half_at(block: &[u8; BLOCK_BYTES], i: usize) -> u16
+fn half_of(block: &[u8; BLOCK_BYTES], i: usize) -> u16
     requires { i < 64 }
     ensures { result ≡ half_at (block_bundle block.now (i / 8)) (offset i) }
 {
-    let Some(half) = block[2 * i..2 * i + 2].as_array::<2>() else {
-        unreachable!();
-    };
-    u16::from_le_bytes(*half)
+    half_at(block, 2 * i)
 }
 
+/// The word that begins with it.
 #[inline(always)]
-fn word_at(block: &[u8; BLOCK_BYTES], i: usize) -> u32
+fn word_of(block: &[u8; BLOCK_BYTES], i: usize) -> u32
     requires place { i < 64 }
     requires inside { i % 8 < 7 }
     ensures in_block { result ≡ block_word block.now i }
     ensures in_bundle { result ≡ word_at (block_bundle block.now (i / 8)) (offset i) }
 {
-    let Some(word) = block[2 * i..2 * i + 4].as_array::<4>() else {
-        unreachable!();
-    };
-    u32::from_le_bytes(*word)
+    word_at(block, 2 * i)
 }
 
 /// The words of the two instructions directly before a place.
@@ -133,8 +129,8 @@ fn words_before(block: &[u8; BLOCK_BYTES], after: u64, i: usize) -> Words
         };
     }
     Words {
-        first: word_at(block, i - 4),
-        second: word_at(block, i - 2),
+        first: word_of(block, i - 4),
+        second: word_of(block, i - 2),
     }
 }
 
@@ -148,7 +144,7 @@ fn is_clean_access(stack: bool, block: &[u8; BLOCK_BYTES], after: u64, i: usize)
     ensures { (b : BundlePlace) → stack ≡ has_stack b.format →
         OnTrue result (IsCleanAt b block.now true after i) }
 {
-    let base = Reg::numbered((word_at(block, i) >> 15 & 0b11111) as u8);
+    let base = Reg::numbered((word_of(block, i) >> 15 & 0b11111) as u8);
     may_access(stack, words_before(block, after, i), base)
 }
 
@@ -193,9 +189,9 @@ fn is_clean_at(
     ensures { OnTrue result (IsCleanAt place.now block.now (is_in words i) after i) }
 {
     let outline = if has(words, i) {
-        outline32(word_at(block, i))
+        outline32(word_of(block, i))
     } else {
-        outline16(half_at(block, i))
+        outline16(half_of(block, i))
     };
     match outline {
         Some(outline) => {
@@ -249,10 +245,10 @@ fn is_written(block: &[u8; BLOCK_BYTES], words: u64, i: usize) -> bool
     requires three { (three : ℕ) × AreThreeWords words three × (is_in three i ≡ true) }
     ensures { OnTrue result (IsWritten block.now words i) }
 {
-    if !is_stack_pair(word_at(block, i + 2), word_at(block, i + 4)) {
+    if !is_stack_pair(word_of(block, i + 2), word_of(block, i + 4)) {
         return false;
     }
-    is_stack_write(word_at(block, i))
+    is_stack_write(word_of(block, i))
 }
 
 /// Those of these places at which the stack pointer is written and put back, and those of its pairs.

@@ -1,6 +1,6 @@
 //! A first look at a bundle: whether it breaks no rule. It makes no instruction, so it is quick;
 //! what it doesn't let pass may still be clean.
-ghost use Rattle.std.specs.Prelude.{◌≡◌, ◌+◌, ◌<◌, ◌≤◌, ◌&&◌, not, List, [], false, true};
+ghost use Rattle.std.specs.Prelude.{◌≡◌, ◌+◌, ◌<◌, ◌≤◌, ◌&&◌, not, List, [], length, false, true};
 ghost use Rattle.std.specs.Bool.{OnTrue};
 ghost use Rattle.rv_comp.specs.Halfwords.{IsShortSpelling};
 ghost use Rattle.rv_word.specs.declared.instr.Instr.{Instr};
@@ -34,10 +34,10 @@ pub(crate) struct Words {
     pub(crate) second: u32,
 }
 
-/// The halfword at this place of the bundle.
+/// The halfword at this place of the bytes.
 #[inline(always)]
-fn half_at(bytes: &[u8; BUNDLE_BYTES], at: usize) -> u16
-    requires { at + 2 ≤ bundle_size }
+pub(crate) fn half_at(bytes: &[u8], at: usize) -> u16
+    requires { at + 2 ≤ length bytes.now }
     ensures { result ≡ half_at bytes.now at }
 {
     let Some(half) = bytes[at..at + 2].as_array::<2>() else {
@@ -46,10 +46,10 @@ fn half_at(bytes: &[u8; BUNDLE_BYTES], at: usize) -> u16
     u16::from_le_bytes(*half)
 }
 
-/// The word at this place of the bundle.
+/// The word at this place of the bytes.
 #[inline(always)]
-fn word_at(bytes: &[u8; BUNDLE_BYTES], at: usize) -> u32
-    requires { at + 4 ≤ bundle_size }
+pub(crate) fn word_at(bytes: &[u8], at: usize) -> u32
+    requires { at + 4 ≤ length bytes.now }
     ensures { result ≡ word_at bytes.now at }
 {
     let Some(word) = bytes[at..at + 4].as_array::<4>() else {

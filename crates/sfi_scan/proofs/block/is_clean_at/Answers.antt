@@ -9,6 +9,6 @@ returns-in-Some c =
     → OnTrue c.is_clean.result (is_clean (bundle_at c.args.place.now (c.args.i / 8)) ((bundle_at c.args.place.now (c.args.i / 8)).address + offset c.args.i) earlier c.in-Some.outline ≡ true) =
     subst (λ (b : BundlePlace). (earlier : List Instr) → AreBefore c.words_before.result (near earlier) → OnTrue c.is_clean.result (is_clean b (b.address + offset c.args.i) earlier c.in-Some.outline ≡ true)) c.bundle_at-bundle.ensures.is c.is_clean.ensures in
     elim c.if-has.branch [
-      | then-has w ↦ wide_clean c.args.place.now c.args.block.now c.args.after c.args.i w.word_at.result c.words_before.result w.outline32-outline.result c.in-Some.outline w.word_at.ensures.in_bundle w.outline32-outline.ensures.found (sym w.outline-is ∙ c.in-Some.is) c.words_before.ensures c.is_clean.result told _ (sym c.has.ensures ∙ w.if-has.true)
-      | else-has w ↦ short_clean c.args.place.now c.args.block.now c.args.after c.args.i w.half_at.result c.words_before.result w.outline16-outline.result c.in-Some.outline w.half_at.ensures w.outline16-outline.ensures.found (sym w.outline-is ∙ c.in-Some.is) c.words_before.ensures c.is_clean.result told _ (sym c.has.ensures ∙ w.if-has.false)
+      | then-has w ↦ wide_clean c.args.place.now c.args.block.now c.args.after c.args.i w.word_of.result c.words_before.result w.outline32-outline.result c.in-Some.outline w.word_of.ensures.in_bundle w.outline32-outline.ensures.found (sym w.outline-is ∙ c.in-Some.is) c.words_before.ensures c.is_clean.result told _ (sym c.has.ensures ∙ w.if-has.true)
+      | else-has w ↦ short_clean c.args.place.now c.args.block.now c.args.after c.args.i w.half_of.result c.words_before.result w.outline16-outline.result c.in-Some.outline w.half_of.ensures w.outline16-outline.ensures.found (sym w.outline-is ∙ c.in-Some.is) c.words_before.ensures c.is_clean.result told _ (sym c.has.ensures ∙ w.if-has.false)
     ]

@@ -1,7 +1,6 @@
 use Rattle.sfi_scan.proofs.Prelude.{◌≡◌, ◌∙◌, ◌+◌, ◌-◌, ◌*◌, ℕ, List, length, take, drop, refl, ap, sym, subst, arith, BundlePlace, length-drop}
 use Rattle.sfi_scan.specs.Stretches.{IsStretch, IsScanned, stretch_place}
-use Rattle.sfi_scan.specs.private.Scanning.{IsFrontScanned}
-use Rattle.sfi_scan.proofs.Stretches.{place_on, rest_bundle, stretch_rest, scanned_more, scanned_none, tail_is}
+use Rattle.sfi_scan.proofs.Stretches.{place_on, rest_bundle, rest_scanned, stretch_rest, scanned_more, scanned_none, tail_is}
 use Rattle.sfi_scan.proofs.code.scan_code.Goals as goal
 
 pub loop-at-init : goal.loop-at-init
@@ -25,39 +24,24 @@ scan_front-at-requires g c =
 
 pub overflow_add-at : goal.overflow_add-at
 overflow_add-at g c =
-    let takes = g.F.FindingSink.takes in
     let k = c.loop-at.invariant.0 in
     let at = c.loop-at.invariant.1 in
-    let code = c.args.code.now in
-    let rest = tail_is c.loop-at.at code ∙ ap (λ (a : ℕ). drop a code) at in
-    let front = subst (λ (l : List ℕ). IsFrontScanned takes (stretch_place c.args.place.now k) l c.scan_front-at.result c.loop-at.sink c.scan_front-at.new.sink) rest
-    (subst (λ (b : BundlePlace). IsFrontScanned takes b (take (length code - c.loop-at.at) (drop c.loop-at.at code)) c.scan_front-at.result c.loop-at.sink c.scan_front-at.new.sink) (c.place_after.ensures k at) c.scan_front-at.ensures) in
-    omega (arith, front.inside, length-drop (16 * k) code)
+    let front = rest_scanned c.args.place.now c.args.code.now k at (c.place_after.ensures k at) c.scan_front-at.ensures in
+    omega (arith, front.inside, length-drop (16 * k) c.args.code.now)
 
 pub loop-at-smaller : goal.loop-at-smaller
-loop-at-smaller g c =
-    let takes = g.F.FindingSink.takes in
-    let k = c.loop-at.invariant.0 in
-    let at = c.loop-at.invariant.1 in
-    let code = c.args.code.now in
-    let rest = tail_is c.loop-at.at code ∙ ap (λ (a : ℕ). drop a code) at in
-    let front = subst (λ (l : List ℕ). IsFrontScanned takes (stretch_place c.args.place.now k) l c.scan_front-at.result c.loop-at.sink c.scan_front-at.new.sink) rest
-    (subst (λ (b : BundlePlace). IsFrontScanned takes b (take (length code - c.loop-at.at) (drop c.loop-at.at code)) c.scan_front-at.result c.loop-at.sink c.scan_front-at.new.sink) (c.place_after.ensures k at) c.scan_front-at.ensures) in
-    omega (arith, front.len_is, front.some)
+loop-at-smaller g c = omega (arith, c.scan_front-at.ensures.len_is, c.scan_front-at.ensures.some)
 
 pub loop-at-preserved : goal.loop-at-preserved
 loop-at-preserved g c =
-    let takes = g.F.FindingSink.takes in
     let k = c.loop-at.invariant.0 in
     let at = c.loop-at.invariant.1 in
     let code = c.args.code.now in
-    let rest = tail_is c.loop-at.at code ∙ ap (λ (a : ℕ). drop a code) at in
-    let front = subst (λ (l : List ℕ). IsFrontScanned takes (stretch_place c.args.place.now k) l c.scan_front-at.result c.loop-at.sink c.scan_front-at.new.sink) rest
-    (subst (λ (b : BundlePlace). IsFrontScanned takes b (take (length code - c.loop-at.at) (drop c.loop-at.at code)) c.scan_front-at.result c.loop-at.sink c.scan_front-at.new.sink) (c.place_after.ensures k at) c.scan_front-at.ensures) in (
+    let front = rest_scanned c.args.place.now code k at (c.place_after.ensures k at) c.scan_front-at.ensures in (
       k + front.bundles,
       omega (arith, front.len_is),
       omega (arith, front.inside, length-drop (16 * k) code),
-      scanned_more takes g.met.F.FindingSink.more (stretch_place c.args.place.now k) c.args.place.now (drop (16 * k) code) code k front.bundles c.args.sink.now c.loop-at.sink c.scan_front-at.new.sink
+      scanned_more g.F.FindingSink.takes g.met.F.FindingSink.more (stretch_place c.args.place.now k) c.args.place.now (drop (16 * k) code) code k front.bundles c.args.sink.now c.loop-at.sink c.scan_front-at.new.sink
           (λ i less. place_on c.args.place.now k i) (λ i less. rest_bundle k i code) c.loop-at.invariant.3 front.scanned,
     )
 
