@@ -28,14 +28,12 @@ DECLARED = re.compile(r"(?:(?:abbrev|unfoldable|pub) )+(record |data )?(\S+)|(re
 NOT_LISTED = ("private", "mirror", "declared")
 HEAD = """# Definitions
 
-A proof shows that code meets its contract, and a contract is as good as the definitions that it cites. Here
-are their files in `crates/CRATE/specs`, with the words that a public contract cites, and the public source. A
-file without words has only such as these are made of. The first line of a file says what it defines, and the
-comment above each word what that says: read them there, or let `tools/definitions.py CRATE ..` print each
-word with its comment, its line and one that cites it. The laws of a crate, in its file `Laws`, are in
-[PROOFS.md](PROOFS.md). Words that private contracts alone cite are in `specs/private`; `specs/mirror` of
-`rv_comp` repeats the code, and defines nothing. `tools/definitions.py --write` makes this page, and `./test`
-compares it.
+A contract is as good as the definitions that it cites. Here are their files in `crates/CRATE/specs`, with the
+words that a public contract cites, and the public source. A file without words has only such as these are made
+of. The first line of a file says what it defines, and the comment above each word what that says:
+`tools/definitions.py CRATE ..` prints each word with its comment and one that cites it. The laws of a crate are
+in [PROOFS.md](PROOFS.md). Words that private contracts alone cite are in `specs/private`; `specs/mirror` of
+`rv_comp` repeats the code. `tools/definitions.py --write` makes this page.
 
 A file without a source is this project's own. **ISA** is the RISC-V Instruction Set Manual, Volume I:
 Unprivileged ISA, and **psABI** the RISC-V ABIs Specification. **Wahbe** is Wahbe, Lucco, Anderson and Graham,
