@@ -9,8 +9,8 @@
  * In the second format x2, the stack pointer, isn't arbitrary: at an entry and after a reply it lies in the data
  * region. In the third, SFIW, six registers aren't: x2, x3, x4 and x29 lie in the data region or at most 1020 bytes
  * beside it, x30 is a multiple of 4 in the code region, and x31 is less than the data's size. This is proved of the
- * calls below. The library loads and runs nothing: the caller sees to it that memory,
- * host and neighbours are as the theorem asks (README.md has it with its premises).
+ * calls below. The library loads and runs nothing: the caller sees to it that memory, host and neighbours are as the
+ * theorem asks (README.md has it with its premises).
  *
  * The calls read nothing but their arguments, keep nothing elsewhere from one to the next, start no thread, read no file
  * and write none. Any number of threads may call them at once. They return whatever the bytes of the image are; the time
@@ -68,7 +68,7 @@ enum sfi_layout_fault {
 struct sfi_finding {
     uint32_t sandbox; /* the sandbox's place in the image, counted from 0 */
     uint32_t address; /* that of the instruction's first byte, or of the bytes that are none; for V9 the gate's */
-    uint32_t rule;    /* 1 for V1 to 12 for V12 (README.md, "Rules") */
+    uint32_t rule;    /* 1 for V1 to 12 for V12 (README.md, "Rules"; docs/IMAGE.md, "Code in words") */
 };
 
 /* The verdict on an image. What its status doesn't speak of is 0. */
@@ -179,7 +179,7 @@ struct sfi_part {
 
 /* A gate of a sandbox. */
 struct sfi_gate {
-    uint32_t address; /* the bundle in which its stub lies */
+    uint32_t address; /* where its ecall lies: in the first two formats at the front of its stub */
     uint32_t service; /* what the host is asked for: the number of a service (docs/GATES.md) */
 };
 
