@@ -109,6 +109,7 @@ bool tell_part(const uint8_t *image, uint32_t length, uint32_t number, struct pa
     const struct module_part *told = &checker_memory.part;
     if (Z_sfiZ_sfi_c_part(&module, in_module(image), length, number, in_module(told)) != SFI_FOUND)
         return false;
+    part->format = told->format;
     part->code_base = told->code_base;
     part->code_size = told->code_size;
     part->data_base = told->data_base;

@@ -12,7 +12,9 @@
 enum {
     IMAGE_SANDBOXES_MOST = 16,
     GATES_MOST = 64,
+    FORMAT_OF_WORDS = 3,
     BUNDLE = 16,
+    WORD = 4,
     GUARD_ZONE = 4096,
     CALL_BYTES_MOST = 65536,
     MAILBOX_WORDS = 16,
@@ -35,6 +37,7 @@ struct gate {
 
 /* What the image says of a sandbox. */
 struct part {
+    uint32_t format; /* that of the image: 1 for SFI1, 2 for SFI2, 3 for SFIW */
     uint32_t code_base, code_size, data_base, data_size, start, gate_count, first_count;
     const uint8_t *code, *first; /* in the image's own bytes, which no sandbox can write */
     struct gate gates[GATES_MOST];
@@ -85,8 +88,8 @@ bool tell_part(const uint8_t *image, uint32_t length, uint32_t number, struct pa
 /* image.c */
 uint32_t little_endian(const uint8_t *bytes);
 uint32_t read_image(const uint8_t *image, uint32_t length, struct sandbox sandboxes[]);
-/* Makes a sandbox that has stopped ready at pc, the first address of one of its bundles, with arguments
-   in a0 to a7. Its data stay. False, and nothing is changed, where it is ready or pc isn't such. */
+/* Makes a sandbox that has stopped ready at pc, the first address of one of its bundles, or words, with
+   arguments in a0 to a7. Its data stay. False, and nothing is changed, where it is ready or pc isn't such. */
 bool enter_again(struct sandbox *sandbox, uint32_t pc, const uint32_t arguments[ENTRY_ARGUMENTS]);
 
 /* paging.c: all of this before there is a page table */

@@ -6,6 +6,11 @@ uint32_t little_endian(const uint8_t *bytes) {
     return bytes[0] | (uint32_t)bytes[1] << 8 | (uint32_t)bytes[2] << 16 | (uint32_t)bytes[3] << 24;
 }
 
+/* The bytes of a unit of code: a sandbox is entered at multiples of it. */
+static uint32_t unit_of(const struct part *part) {
+    return part->format == FORMAT_OF_WORDS ? WORD : BUNDLE;
+}
+
 /* The registers as a World of `sfi run` sets them (docs/GATES.md, "Turns"); all others are 0. */
 static void set_registers(struct sandbox *sandbox, uint32_t pc) {
     const struct part *part = &sandbox->part;
@@ -13,8 +18,12 @@ static void set_registers(struct sandbox *sandbox, uint32_t pc) {
     memset(frame, 0, sizeof *frame);
     frame->pc = pc;
     frame->x[2] = part->data_base + part->data_size - 16;
+    if (part->format == FORMAT_OF_WORDS) {
+        frame->x[3] = frame->x[4] = frame->x[29] = part->data_base;
+        frame->x[30] = pc;
+    }
     frame->x[24] = part->code_base;
-    frame->x[25] = part->code_size - 16;
+    frame->x[25] = part->code_size - unit_of(part);
     frame->x[26] = part->data_base;
     frame->x[27] = part->data_size - 1;
 }
@@ -33,7 +42,7 @@ uint32_t read_image(const uint8_t *image, uint32_t length, struct sandbox sandbo
 
 bool enter_again(struct sandbox *sandbox, uint32_t pc, const uint32_t arguments[ENTRY_ARGUMENTS]) {
     uint32_t offset = pc - sandbox->part.code_base;
-    if (sandbox->state == READY || offset >= sandbox->part.code_size || offset % BUNDLE != 0)
+    if (sandbox->state == READY || offset >= sandbox->part.code_size || offset % unit_of(&sandbox->part) != 0)
         return false;
     set_registers(sandbox, pc);
     memcpy(&sandbox->frame.x[A0], arguments, ENTRY_ARGUMENTS * sizeof arguments[0]);

@@ -46,7 +46,7 @@ judge_layouts() {
         judged "an image of $length bytes"
     done
     changed "another magic" 0 53464930
-    changed "a third format" 0 53464933
+    changed "a format that isn't there" 0 53464933
     changed "no sandbox" 4 00000000
     changed "17 sandboxes" 4 11000000
     changed "code of 768 bytes" 12 00030000

@@ -358,6 +358,20 @@ report "the ebreak of semihosting, where that is on" \
     $'hi!\nsandbox=0 trap=Break at=01000020 out=' \
     "$(QEMU_OPTIONS='-semihosting-config enable=on,target=native' run <"$room/image.hex" 2>&1)"
 
+# ---- Code in words, whose typed registers an entry sets
+
+image 1 1 < <(sandbox 0x01000000 0x01800000 4096 "" '' <<'END'
+        sw      x25, 0(x3)
+        sw      x30, 4(x4)
+        sw      x31, 8(x29)
+        sw      x2, 12(x26)
+        ebreak
+END
+) | sed 's/^53464931/53464957/' >"$room/words.hex"
+report "registers at an entry of code in words" \
+    "sandbox=0 trap=Break at=01000010 out= written=01800000:fc,01800007:01,0180000c:f0,0180000d:0f,0180000e:80,0180000f:01" \
+    "$(run --written <"$room/words.hex")"
+
 # ---- The commands and lines of docs/C.md and docs/DEVICE.md, whose numbers are those of gcc 12
 
 block() { # a page, the language of its fences, which of these blocks
@@ -409,6 +423,7 @@ try_services
 try_interrupts 1
 build cases/outside.s 1 >"$room/image.hex"
 try_report "$room/image.hex"
+try_report "$room/words.hex"
 try_pcs "$room/image.hex"
 
 # ---- The checker on the device

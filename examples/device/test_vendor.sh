@@ -12,7 +12,7 @@ try_enter() {
     report "it is called, with fewer arguments" "sandbox=0 exit=7 out=61" \
         "$(run --enter "0:$at:7" <"$room/image.hex")"
     local no="device: --enter: there is no such sandbox, or it hasn't stopped,"
-    no+=" or no bundle begins there"
+    no+=" or no bundle or word begins there"
     for at in "0:$(printf %x $((first + 52)))" "0:$(printf %x $((first - 16)))" \
         "0:$(printf %x $((first + 65536)))" "1:$code"; do
         report "--enter $at" "$no"$'\nstatus 2' "$(run --enter "$at:" <"$room/image.hex"; echo "status $?")"

@@ -55,7 +55,7 @@ static void enter_as_asked(struct world *world) {
     const struct arguments *asked = world->arguments;
     if (asked->entered >= world->count ||
         !enter_again(&world->sandboxes[asked->entered], asked->entry_pc, asked->entry_arguments))
-        refuse("--enter: there is no such sandbox, or it hasn't stopped, or no bundle begins there");
+        refuse("--enter: there is no such sandbox, or it hasn't stopped, or no bundle or word begins there");
 }
 
 void run_world(struct world *world) {

@@ -22,14 +22,18 @@ static uint32_t take_word(struct reader *reader) {
     return little_endian(take(reader, 4));
 }
 
+/* The number of the format of that magic, or 0. */
+static uint32_t format_of(const uint8_t *magic) {
+    if (magic[0] != 'S' || magic[1] != 'F' || magic[2] != 'I')
+        return 0;
+    return magic[3] == '1' ? 1 : magic[3] == '2' ? 2 : magic[3] == 'W' ? FORMAT_OF_WORDS : 0;
+}
+
 /* Answers how many sandboxes there are. */
-static uint32_t take_head(struct reader *reader) {
-    const uint8_t *magic = take(reader, 4);
-    bool is_format = magic[3] == '1' || magic[3] == '2';
+static uint32_t take_head(struct reader *reader, uint32_t *format) {
+    *format = format_of(take(reader, 4));
     uint32_t count = take_word(reader);
-    if (magic[0] != 'S' || magic[1] != 'F' || magic[2] != 'I' || !is_format)
-        refuse("no image");
-    if (count == 0 || count > IMAGE_SANDBOXES_MOST)
+    if (*format == 0 || count == 0 || count > IMAGE_SANDBOXES_MOST)
         refuse("no image");
     return count;
 }
@@ -54,7 +58,7 @@ static void take_part(struct reader *reader, struct part *part) {
 
 bool tell_part(const uint8_t *image, uint32_t length, uint32_t number, struct part *part) {
     struct reader reader = {image, image + length};
-    if (number >= take_head(&reader))
+    if (number >= take_head(&reader, &part->format))
         return false;
     for (uint32_t before = 0; before <= number; before++)
         take_part(&reader, part);
