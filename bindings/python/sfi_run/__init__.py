@@ -56,7 +56,7 @@ class NotWaiting(Exception):
 
 
 class Stopped(Exception):
-    """An entry into a sandbox that hasn't stopped, or at an address where no bundle of its code begins."""
+    """An entry into a sandbox that hasn't stopped, or at an address where no bundle or word of its code begins."""
 
 
 class Cause(enum.Enum):

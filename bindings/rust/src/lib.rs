@@ -46,7 +46,7 @@ pub enum CallError {
     NotWaiting,
     /// An address that isn't one of the sandbox's data.
     OutsideData,
-    /// An entry into a sandbox that hasn't stopped, or at an address where no bundle of its code begins.
+    /// An entry into a sandbox that hasn't stopped, or at an address where no bundle or word of its code begins.
     NotEntered,
 }
 

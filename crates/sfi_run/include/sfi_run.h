@@ -167,7 +167,7 @@ bool sfi_run_write(struct sfi_run_world *world, uint32_t sandbox, uint32_t at, c
 /*
  * Makes a sandbox that has stopped ready at pc, with these arguments in a0 to a7, as a function is called; the other
  * registers are as sfi_run_load sets them. Its data stay, and its steps are counted on. Returns false where there
- * is no such sandbox, it hasn't stopped, or no bundle of its code begins at pc, and changes nothing then.
+ * is no such sandbox, it hasn't stopped, or no bundle or word of its code begins at pc, and changes nothing then.
  */
 bool sfi_run_enter(struct sfi_run_world *world, uint32_t sandbox, uint32_t pc, const uint32_t arguments[8]);
 
