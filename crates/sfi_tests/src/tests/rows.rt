@@ -48,6 +48,7 @@ mod reports;
 mod runs;
 mod sources;
 mod texts;
+mod typed;
 mod words;
 
 use super::image::{edited, smallest};
@@ -243,6 +244,25 @@ fn format_rows(rt: HostRuntime) -> Result<(), Fail> {
 }
 
 #[test]
+fn typed_rows(rt: HostRuntime) -> Result<(), Fail> {
+    try_rows(&rt, rt.alloc(), typed::KEPT, 38)?;
+    try_rows(&rt, rt.alloc(), typed::BROKEN, 48)?;
+    try_rows(&rt, rt.alloc(), typed::ENDS, 26)?;
+    try_rows(&rt, rt.alloc(), typed::DATA_KEPT, 48)?;
+    try_rows(&rt, rt.alloc(), typed::DATA_BROKEN, 50)?;
+    try_rows(&rt, rt.alloc(), typed::STEPS, 48)?;
+    try_rows(&rt, rt.alloc(), typed::OTHERS_KEPT, 20)?;
+    try_rows(&rt, rt.alloc(), typed::OTHERS_BROKEN, 48)?;
+    try_rows(&rt, rt.alloc(), typed::BESIDE, 28)
+}
+
+#[test]
+fn typed_runs(rt: HostRuntime) -> Result<(), Fail> {
+    try_rows(&rt, rt.alloc(), typed::RUNS, 32)?;
+    try_rows(&rt, rt.alloc(), typed::STATES, 2)
+}
+
+#[test]
 fn needed_rows(rt: HostRuntime) -> Result<(), Fail> {
     try_rows(&rt, rt.alloc(), needs::SAFE, 6)
 }
@@ -270,10 +290,10 @@ fn text_rows(rt: HostRuntime) -> Result<(), Fail> {
 
 #[test]
 fn report_rows(rt: HostRuntime) -> Result<(), Fail> {
-    try_rows(&rt, rt.alloc(), reports::REPORTS, 13)?;
-    try_rows(&rt, rt.alloc(), reports::CONVERSIONS, 10)?;
+    try_rows(&rt, rt.alloc(), reports::REPORTS, 18)?;
+    try_rows(&rt, rt.alloc(), reports::CONVERSIONS, 13)?;
     try_rows(&rt, rt.alloc(), reports::CONVERTED, 3)?;
-    try_rows(&rt, rt.alloc(), listings::LISTINGS, 7)
+    try_rows(&rt, rt.alloc(), listings::LISTINGS, 8)
 }
 
 #[test]
@@ -290,6 +310,11 @@ fn run_rows(rt: HostRuntime) -> Result<(), Fail> {
 #[test]
 fn image_limits(rt: HostRuntime) -> Result<(), Fail> {
     try_rows(&rt, rt.alloc(), limits::IMAGES, 36)
+}
+
+#[test]
+fn typed_limits(rt: HostRuntime) -> Result<(), Fail> {
+    try_rows(&rt, rt.alloc(), typed::LAYOUTS, 18)
 }
 
 #[test]

@@ -56,6 +56,40 @@ const ROWS: &[Row] = &[
             },
         },
     ),
+    Row("# code in words\nput 0 53464957", ACCEPTED),
+    Row(
+        "# x2 is owed at each 16 bytes' end\nput 0 53464957\nput 12 00200000\n\
+         end 36 512 2320b100938212009382120013014100\nput 8212 2320b100730010007300100073001000",
+        StreamAnswer::Accepted {
+            sandboxes: 1,
+            bundles: 512,
+        },
+    ),
+    Row(
+        "# and isn't used\nput 0 53464957\nput 12 00200000\n\
+         end 36 512 93821200938212009382120013014100\nput 8212 73001000730010007300100073001000",
+        StreamAnswer::Findings {
+            count: 511,
+            first: Finding {
+                sandbox: 0,
+                address: 0x0100_0010,
+                rule: Rule::V10,
+            },
+        },
+    ),
+    Row(
+        "# x30 is owed at the end of the first sandbox\nput 0 53464957\nput 4 02000000\n\
+         end 292 1 00000002000100000021800100010000000000020000000000000000\n\
+         end 320 64 73001000\nput 288 337f9501",
+        StreamAnswer::Findings {
+            count: 1,
+            first: Finding {
+                sandbox: 0,
+                address: 0x0100_00fc,
+                rule: Rule::V8,
+            },
+        },
+    ),
     Row(
         "# the same less the last byte\nput 36 b37fb50123a0bf00\ncut 291",
         StreamAnswer::Layout(3),

@@ -108,6 +108,14 @@ insert 36 0000000105000000
 > 01000000 01b57133 and x2, x10, x27
 > 01000004 00100073 ebreak
 ..
+= code in words; put 0 53464957; put 36 33e1af01411106c0
+> format SFIW
+> sandbox 0 code 01000000 256 data 01800000 256 start 01000000 gates 0 init 0
+> 01000000 01afe133 or x2, x31, x26
+> 01000004 1141 addi x2, x2, -16
+> 01000006 c006 sw x1, 0(x2)
+> 01000008 00100073 ebreak
+..
 = no format; put 0 53464933; > layout fault 1 Magic
 = an odd digit; source; + 1 53464; > input fault hex odd
 ";

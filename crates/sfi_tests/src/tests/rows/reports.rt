@@ -42,6 +42,23 @@ end 328 62 73001000
 = masks the stack pointer in the second format; put 0 53464932; put 36 3371b501
 > 0 01000000 V10 stack and x2, x10, x27
 > refused findings=1 first=V10 sandbox=0 at=01000000
+= no instruction in a word's second half; put 0 53464957; put 36 01000000
+> 0 01000002 V1 decode .half 0x0000
+> refused findings=1 first=V1 sandbox=0 at=01000002
+= across a word's end; put 0 53464957; put 36 01007300
+> 0 01000002 V2 cross .half 0x0073
+> refused findings=1 first=V2 sandbox=0 at=01000002
+= store on a register without a type; put 0 53464957; put 36 2320be00
+> 0 01000000 V5 access sw x11, 0(x28)
+> refused findings=1 first=V5 sandbox=0 at=01000000
+= writes x2 and uses it, writes x30, and masks it alone; put 0 53464957; put 36 130100002320b100130f0000337f9501
+> 0 01000004 V10 stack sw x11, 0(x2)
+> 0 01000008 V11 code addi x30, x0, 0
+> 0 01000010 V11 code ebreak
+> refused findings=3 first=V10 sandbox=0 at=01000004
+= writes x31; put 0 53464957; put 36 930ff0ff33e1af012320b100
+> 0 01000000 V12 offset addi x31, x0, -1
+> refused findings=1 first=V12 sandbox=0 at=01000000
 ";
 
 /// What is converted, and what isn't.
@@ -51,6 +68,10 @@ $ sfi convert
 = a store on x2; put 36 06c60290; > refused findings=1 first=V5 sandbox=0 at=01000000
 = of the second format; put 0 53464932; > convert fault 2 NotOld
 = of the second format, cut short; put 0 53464932; cut 40; > convert fault 2 NotOld
+= of code in words; put 0 53464957; > convert fault 5 Words
+= of code in words, with a finding; put 0 53464957; put 36 2320be00
+> refused findings=1 first=V5 sandbox=0 at=01000000
+= of code in words, cut short; put 0 53464957; cut 40; > layout fault 3 Short
 = of no format; put 0 53464933; > layout fault 1 Magic
 = less a byte; cut 291; > layout fault 3 Short
 = three bytes; cut 3; > layout fault 3 Short
