@@ -1,5 +1,5 @@
 -- A sandbox that is entered again.
-use Rattle.sfi_host.proofs.Prelude.{◌≡◌, ◌≢◌, ◌⊎◌, inl, inr, ⊎_elim, ◌↔◌, IsTrue, ℕ, suc, ◌+◌, ◌-◌, ◌%◌, ◌^◌, ◌<◌, ◌≤◌, ◌==◌, Bool, true, false, List, [], ◌∷◌, ◌++◌, map, length, take, get_or, Some, None, set, slice_get, refl, sym, ap, ◌∙◌, subst, arith, get_or-set_other, same_Some, slice_index, slice_set, cond, empty, map-set, take_more, take_all, length-take-le, Bytes, IsMemory, Hart, IsHart, with_register, IsRightLayout, Holds, AreApart, with_guards, code_region, Part, HasCode, IsEntry, AllRunSafely, AllCallTyped, Program, Sandbox, MayEnter, MayEnterAt, fresh_hart, with_registers, entered_hart, entered_seat, with_entry_of, with_entry, IsAtEntry, IsEnterable, first_seat, with_parts, AreEntered, HaveFirstData, seat_of, seats_of, world_of, Bounds, Slot, bounds_of, Seat, Sandboxes, slot_of, slots_of, state_in, IsSafeSeat, AreProgramsOf}
+use Rattle.sfi_host.proofs.Prelude.{◌≡◌, ◌≢◌, ◌⊎◌, inl, inr, ⊎_elim, ◌↔◌, IsTrue, ℕ, suc, ◌+◌, ◌%◌, ◌^◌, ◌<◌, ◌≤◌, ◌==◌, Bool, true, false, List, [], ◌∷◌, ◌++◌, map, length, take, get_or, Some, None, set, slice_get, refl, sym, ap, ◌∙◌, subst, arith, get_or-set_other, same_Some, slice_index, slice_set, cond, empty, map-set, take_more, take_all, length-take-le, Bytes, IsMemory, Hart, IsHart, with_register, IsRightLayout, Holds, AreApart, with_guards, Part, HasCode, IsEntry, AllRunSafely, AllCallTyped, Program, Sandbox, MayEnter, MayEnterAt, fresh_hart, with_registers, entered_hart, entered_seat, with_entry_of, with_entry, IsAtEntry, IsEnterable, first_seat, with_parts, AreEntered, HaveFirstData, seat_of, seats_of, world_of, Bounds, Slot, bounds_of, Seat, Sandboxes, slot_of, slots_of, state_in, IsSafeSeat, AreProgramsOf}
 use Rattle.sfi_policy.specs.Formats.{unit}
 use Rattle.sfi_runs.specs.Regions.{IsUnitStart}
 use Rattle.sfi_host.proofs.Asked.{seat_at, slot_is, no_slot}
@@ -7,7 +7,7 @@ use Rattle.sfi_host.proofs.Decoding.{first_decoded}
 use Rattle.sfi_host.proofs.Neighbours.{get_set_same}
 use Rattle.sfi_host.proofs.SafeSeats as keep
 use Rattle.sfi_host.proofs.Changing.{IsKept, AfterTurn, turn_taken}
-use Rattle.sfi_host.proofs.Worlds.{AreFreshOf, fresh_are, reserved_at, typed_at, entered, first_data_there, world_safe, all_enterable}
+use Rattle.sfi_host.proofs.Worlds.{AreFreshOf, fresh_are, fresh_pc, reserved_at, typed_at, entered, first_data_there, world_safe, all_enterable}
 
 -- ---- each sandbox of a world may be entered
 
@@ -113,9 +113,9 @@ module _ (m : Bytes) (s : Seat) (seat : IsSafeSeat m s) where
     pub at_entry : HasCode p m → IsEntry p (state_in m (entered_seat s pc arguments))
     at_entry code = record {
       state = record { hart = hart; memory = seat.state.memory };
-      start = subst (IsUnitStart p) (sym (pc_kept arguments fresh 10)) starts;
+      start = subst (IsUnitStart p) (sym (pc_kept arguments fresh 10 ∙ fresh_pc s.bounds pc)) starts;
       reserved = reserved_at p pc now of_part;
-      typed = typed_at p pc now (subst (λ (b : Bounds). 16 ≤ b.data.size) is sizes.1.0) starts of_part;
+      typed = typed_at p pc now (subst (λ (b : Bounds). 16 ≤ b.data.size) is sizes.1) starts of_part;
       code = code;
       guards = λ a guard. seat.guards a (keep.guard_mine m s seat p is a guard);
     }

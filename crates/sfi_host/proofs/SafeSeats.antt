@@ -1,7 +1,7 @@
 -- What leaves a sandbox safe.
 use Rattle.sfi_host.proofs.Prelude.{◌≡◌, ◌≢◌, ℕ, ◌+◌, ◌^◌, ◌<◌, ◌≤◌, List, [], length, true, refl, sym, ap, ◌∙◌, subst, arith, get_or-set_other, slice_index, slice_set, Ecall, Bytes, IsMemory, byte_at, address_after, Hart, IsHart, IsState, past, Stands, Part, Holds, InGuards, AreApart, with_guards, code_region, guarded_region, InCode, InData, InGuard, HasCode, IsEntry, Replies, Changes, KeepsBytes, KeepsReserved, IsReply, GoesSafelyFrom, Ready, IsEnterable, IsWhole, Bounds, bounds_of, one_more, Way, Replied, Exit, word, with_arguments, after_way, status_after, Seat, state_in, IsSafeSeat, StaysOutside}
 use Rattle.sfi_host.specs.Arguments.{a0_register, a1_register}
-use Rattle.sfi_host.specs.Laws.{CallsHaveStack, AnswersAreReplies}
+use Rattle.sfi_host.specs.Laws.{CallsAreTyped, AnswersAreReplies}
 use Rattle.sfi_host.specs.Stops.{StoppedItself}
 use Rattle.sfi_policy.specs.Formats.{has_stack, has_words}
 use Rattle.sfi_policy.specs.Registers.{is_data_register}
@@ -211,5 +211,5 @@ ready_safe m b h steps e entry apart whole = record {
   stopped = tt;
 }
 
-pub calls_have : CallsHaveStack
-calls_have m s size p seat is ready stands = typed_lies m s seat p is ready size stands
+pub calls_typed : CallsAreTyped
+calls_typed m s size p seat is ready stands = typed_lies m s seat p is ready size stands

@@ -89,12 +89,19 @@ fresh_by false unit_size code_at data_at pc = record {
   offset = refl;
 }
 
+pc_by : (words : Bool) (unit_size : ℕ) (code_at data_at : Span) (pc : ℕ) → (hart_by words unit_size code_at data_at pc).pc ≡ pc
+pc_by true unit_size code_at data_at pc = refl
+pc_by false unit_size code_at data_at pc = refl
+
 -- those of a fresh hart, in the words of sandboxes
 abbrev pub AreFreshOf : Bounds → ℕ → List ℕ → Type 0
 AreFreshOf b pc registers = AreFresh (has_words b.format) (unit b.format) b.code b.data pc registers
 
 pub fresh_are : (b : Bounds) (pc : ℕ) → AreFreshOf b pc (fresh_hart b.format b.code b.data pc).registers
 fresh_are b pc = fresh_by (has_words b.format) (unit b.format) b.code b.data pc
+
+pub fresh_pc : (b : Bounds) (pc : ℕ) → (fresh_hart b.format b.code b.data pc).pc ≡ pc
+fresh_pc b pc = pc_by (has_words b.format) (unit b.format) b.code b.data pc
 
 -- a data register is one of four
 data_register : (d : ℕ) → is_data_register d ≡ true → (d ≡ 2) ⊎ ((d ≡ 3) ⊎ ((d ≡ 4) ⊎ (d ≡ 29)))
@@ -158,7 +165,7 @@ module _ (ps : List Part) (layout : IsRightLayout ps) (memory : IsMemory (with_p
       let lie = lie_apart ps layout in
       record {
         state = record { hart = first_is p (code_ends p (lie.each i p e)) (lie.each i p e); memory = memory };
-        start = start_unit p p.start (lie.each i p e).start;
+        start = subst (IsUnitStart p) (sym (fresh_pc (bounds_of p) p.start)) (start_unit p p.start (lie.each i p e).start);
         reserved = reserved_at p p.start (first_hart p).registers (fresh_are (bounds_of p) p.start);
         typed = typed_at p p.start (first_hart p).registers (let least = (lie.each i p e).data_placed.at_least in omega arith) (start_unit p p.start (lie.each i p e).start) (fresh_are (bounds_of p) p.start);
         code = has_code ps empty i p lie e;

@@ -32,8 +32,8 @@ NeighboursAreChanges =
 
 -- the typed registers of a sandbox of a safe world that is ready and stands at an ecall, the stack
 -- pointer where its format has one, hold what their types say
-abbrev pub CallsHaveStack : Type 0
-CallsHaveStack =
+abbrev pub CallsAreTyped : Type 0
+CallsAreTyped =
     (m : Bytes) (s : Seat) (size : ℕ) (p : Part) → IsSafeSeat m s → s.bounds ≡ bounds_of p
     → s.status ≡ Ready → Stands (state_in m s) Ecall size → IsTyped p s.hart.registers
 

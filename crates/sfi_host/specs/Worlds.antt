@@ -65,8 +65,8 @@ data_byte_of (Some s) at = byte_at (bytes_in s.bounds.data s.bytes) at
 
 -- The sandbox is a part of an image that passes each test of its own, and is in a state of the
 -- machine. It has the part's code, its guard zones are empty and its data whole. If it may still
--- run, every run from its state is safe, and calls with a stack pointer in the data; if it has
--- stopped, it has stopped itself.
+-- run, every run from its state is safe, and calls with its typed registers as their types say; if
+-- it has stopped, it has stopped itself.
 pub record IsSafeSeat (m : Bytes) (s : Seat) : Type 0 where
   pub part : Part
   pub bounds : s.bounds ≡ bounds_of part

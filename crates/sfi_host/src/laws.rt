@@ -1,7 +1,7 @@
 //! What holds of the definitions and of every run. A call costs nothing.
 ghost use Rattle.sfi_host.specs.Following.{JoinedFollows, JointFollows, PlansFollow, CutFollows, CutIsShorter, RetryFollows};
 ghost use Rattle.sfi_host.specs.LaterReplies.{ToCallIsJoint, ReplyIsAnswer, WritesAreReplies};
-ghost use Rattle.sfi_host.specs.Laws.{SomeMachine, OneMachine, NeighboursAreChanges, CallsHaveStack, AnswersAreReplies};
+ghost use Rattle.sfi_host.specs.Laws.{SomeMachine, OneMachine, NeighboursAreChanges, CallsAreTyped, AnswersAreReplies};
 ghost use Rattle.sfi_host.specs.Moves.{JoinedMoves, JointMoves};
 ghost use Rattle.sfi_host.specs.Solo.{JoinedIsSolo, JointIsSolo};
 ghost use Rattle.sfi_host.specs.Steps.{StepsAreOwn};
@@ -65,15 +65,15 @@ pub fn neighbours_are_changes()
     ensures { NeighboursAreChanges }
 {}
 
-/// A sandbox of a safe world that is ready and stands at an ecall has its stack pointer in its
-/// data, where its format has one.
-pub fn calls_have_stack()
-    ensures { CallsHaveStack }
+/// The typed registers of a sandbox of a safe world that is ready and stands at an ecall hold what
+/// their types say.
+pub fn calls_are_typed()
+    ensures { CallsAreTyped }
 {}
 
 /// A host's reply to a sandbox that goes on, where the memory outside its data stays, keeps its x24
 /// to x27, code and empty guard zones, and goes on after the ecall;
-/// a stack pointer in its data stays there.
+/// typed registers that hold what their types say still do.
 pub fn answers_are_replies()
     ensures { AnswersAreReplies }
 {}

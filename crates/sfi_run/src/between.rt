@@ -89,7 +89,7 @@ fn enter(world: &mut World<Pages>, sandbox: u32, pc: u32, arguments: &[u32; 8]) 
     world.enter(sandbox, pc, arguments)
 }
 
-/// Enters a sandbox that has stopped, at a bundle of its code and with these in a0 to a7.
+/// Enters a sandbox that has stopped, at a bundle or word of its code and with these in a0 to a7.
 #[unsafe(no_mangle)]
 pub extern "C" fn sfi_run_enter(
     alloc: Global,
