@@ -1,15 +1,12 @@
 -- A world at its start is safe.
-use Rattle.sfi_host.proofs.Prelude.{◌≡◌, ◌≢◌, ◌⊎◌, inl, inr, ⊎_elim, ◌==◌, Bool, true, false, cond, or_cases, eqb-true, ℕ, zero, suc, ◌+◌, ◌-◌, ◌%◌, ◌^◌, ◌<◌, ◌≤◌, List, [], ◌∷◌, length, Some, is_some, slice_get, refl, sym, ap, ◌∙◌, subst, arith, get_or_from_slice_get, slice_get_within, slice_index, replicate, map, empty, IsMemory, byte_at, Hart, IsHart, with_register, Part, Span, code_region, IsRightPart, IsRightLayout, RunsSafely, AllRunSafely, CallsTyped, AllCallTyped, IsEnterable, AreEnterable, Bounds, bounds_of, fresh_hart, first_hart, first_seat, with_parts, AreEntered, HaveFirstData, Seat, IsSafeSeat, LiesOutside, IsSafeWorld}
-use Rattle.std.proofs.Common.{◌||◌}
+use Rattle.sfi_host.proofs.Prelude.{◌≡◌, ◌≢◌, inl, inr, Bool, true, false, cond, ℕ, zero, suc, ◌+◌, ◌-◌, ◌%◌, ◌^◌, ◌<◌, ◌≤◌, List, [], ◌∷◌, length, Some, is_some, slice_get, refl, sym, ap, ◌∙◌, subst, arith, get_or_from_slice_get, slice_get_within, slice_index, replicate, map, empty, IsMemory, byte_at, Hart, IsHart, with_register, Part, Span, code_region, IsRightPart, IsRightLayout, RunsSafely, AllRunSafely, CallsTyped, AllCallTyped, IsEnterable, AreEnterable, Bounds, bounds_of, fresh_hart, first_hart, first_seat, with_parts, AreEntered, HaveFirstData, Seat, IsSafeSeat, LiesOutside, IsSafeWorld}
 use Rattle.rv_step.proofs.Harts.{register_is}
 use Rattle.sfi_policy.specs.Formats.{unit, has_words}
-use Rattle.sfi_policy.specs.Registers.{is_data_register}
-use Rattle.sfi_policy.specs.declared.format.Format.{Format}
-use Rattle.sfi_policy.specs.declared.format.Format.TheVariants.{Sfi1, Sfi2, Sfiw}
 use Rattle.sfi_image.specs.Regions.{IsBundleStart}
 use Rattle.sfi_image.specs.Spans.{data_region}
 use Rattle.sfi_runs.specs.Regions.{IsUnitStart, HasReserved}
 use Rattle.sfi_runs.specs.Typed.{IsTyped, IsNear, IsWordStart}
+use Rattle.sfi_runs.proofs.Entries.{zero_words, some_unit, even_unit, data_register}
 use Rattle.sfi_runs.proofs.Formats.{words, to_word, of_bundle}
 use Rattle.sfi_host.specs.Entering.{with_typed}
 use Rattle.sfi_image.proofs.Facts.{code_ends}
@@ -17,22 +14,6 @@ use Rattle.sfi_host.proofs.SafeSeats.{ready_safe}
 use Rattle.sfi_host.proofs.Entered.{Apart, lie_apart, has_code, has_data, has_empty_guards, data_guarded}
 
 -- ---- the first hart
-
-zero_words : (n r : ℕ) → slice_index (replicate n 0) r < 2 ^ 32
-zero_words (suc n) (suc r) = zero_words n r
-zero_words n r = omega arith
-
--- a unit has some bytes
-some_unit : (f : Format) → 4 ≤ unit f
-some_unit Sfi1 = omega arith
-some_unit Sfi2 = omega arith
-some_unit Sfiw = omega arith
-
--- and begins at an even address
-pub even_unit : (f : Format) (a : ℕ) → a % unit f ≡ 0 → a % 2 ≡ 0
-even_unit Sfi1 a even = omega arith
-even_unit Sfi2 a even = omega arith
-even_unit Sfiw a even = omega arith
 
 -- what fresh registers are made of has room in 32 bits
 typed_is : (w : Bool) (data_at : Span) (h : Hart) → IsHart h → data_at.base < 2 ^ 32 → IsHart (cond w (with_typed data_at h) h)
@@ -102,17 +83,6 @@ fresh_are b pc = fresh_by (has_words b.format) (unit b.format) b.code b.data pc
 
 pub fresh_pc : (b : Bounds) (pc : ℕ) → (fresh_hart b.format b.code b.data pc).pc ≡ pc
 fresh_pc b pc = pc_by (has_words b.format) (unit b.format) b.code b.data pc
-
--- a data register is one of four
-data_register : (d : ℕ) → is_data_register d ≡ true → (d ≡ 2) ⊎ ((d ≡ 3) ⊎ ((d ≡ 4) ⊎ (d ≡ 29)))
-data_register d is =
-    ⊎_elim
-    (λ (e : ((d == 2) || (d == 3) || (d == 4)) ≡ true). ⊎_elim
-    (λ (f : ((d == 2) || (d == 3)) ≡ true). ⊎_elim (λ (g : (d == 2) ≡ true). inl (eqb-true d 2 g)) (λ (g : (d == 3) ≡ true). inr (inl (eqb-true d 3 g))) (or_cases (d == 2) (d == 3) f))
-    (λ (f : (d == 4) ≡ true). inr (inr (inl (eqb-true d 4 f))))
-    (or_cases ((d == 2) || (d == 3)) (d == 4) e))
-    (λ (e : (d == 29) ≡ true). inr (inr (inr (eqb-true d 29 e))))
-    (or_cases ((d == 2) || (d == 3) || (d == 4)) (d == 29) is)
 
 pub reserved_at : (p : Part) (pc : ℕ) (registers : List ℕ) → AreFreshOf (bounds_of p) pc registers → HasReserved p registers
 reserved_at p pc registers fresh = record { code_base = fresh.code_base; code_mask = fresh.code_mask; data_base = fresh.data_base; data_mask = fresh.data_mask }
