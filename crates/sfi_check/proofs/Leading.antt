@@ -1,44 +1,63 @@
 -- One step of a reader with its tally.
-use Rattle.sfi_check.proofs.Prelude.{◌≡◌, ℕ, ◌+◌, ◌-◌, ◌<◌, ◌≤◌, List, ◌++◌, length, take, drop, sym, ap, ◌∙◌, subst, arith, append_assoc, inl, inr, None, take-append-drop, length-take, length-drop, take_all, take-append-add, spans, IsCodeRegion, Front, front, IsRightFront, want_of, IsLengthOf, HasFaultNumberWhateverFollows, Empty, AfterMagic, AfterCount, InGates, InCode, InInit, Whole, ReaderState, StandsFor, Leads, left, Finding, BundlePlace, IsWithin, Tally, IsSoFar, IsTold, want_at}
+use Rattle.sfi_check.proofs.Prelude.{◌≡◌, ℕ, ◌+◌, ◌-◌, ◌<◌, ◌≤◌, List, ◌++◌, length, take, drop, refl, sym, ap, ◌∙◌, subst, arith, append_assoc, inl, inr, None, take-append-drop, length-take, length-drop, take_all, take-append-add, spans, IsCodeRegion, Part, Gate, is_gate_of, Front, Follows, front, IsRightFront, want_of, IsLengthOf, HasFaultNumberWhateverFollows, Empty, AfterMagic, AfterCount, InGates, InCode, InInit, Whole, ReaderState, StandsFor, Leads, left, Finding, BundlePlace, IsWithin, Tally, Tallies, IsSoFar, IsTold}
 use Rattle.sfi_image.specs.Tests.{IsFirstFault, field_tests}
 use Rattle.sfi_image.specs.declared.fields.Fields.{Fields}
 use Rattle.sfi_image.specs.declared.span.Span.{Span}
 use Rattle.sfi_image.specs.declared.want.Want.{Want}
 use Rattle.sfi_image.specs.declared.want.Want.TheVariants as wants
-use Rattle.sfi_check.proofs.Tallying.{field_tallies, init_tallies, fault_onwards}
+use Rattle.sfi_check.specs.declared.ends.StepEnd.{StepEnd}
+use Rattle.sfi_check.specs.declared.ends.StepEnd.TheVariants as ends
+use Rattle.sfi_check.specs.private.Tallies.{IsTakenOff, Steps}
+use Rattle.sfi_check.proofs.Tallying.{fault_onwards}
 use Rattle.sfi_image.proofs.Facts.{whole_bundles}
 
 code_test : (before : List Span) (f : Fields) → IsFirstFault before f field_tests None → IsCodeRegion f.format f.code_base f.code_size
 code_test before f (inl h) = h.0
 code_test before f (inr h) = let e = h.1 in absurd cc
 
-pub bundle_within : (x : Front) (b : BundlePlace) → IsRightFront x → want_at b ≡ want_of x → IsWithin b
-bundle_within Empty b right w = absurd cc
-bundle_within (AfterMagic kind) b right w = absurd cc
-bundle_within (AfterCount kind n ps) b right w = absurd cc
-bundle_within (InGates n ps f gs) b right w = absurd cc
-bundle_within (InCode n ps f gs code) b right w =
-    let at : b.address ≡ f.code_base + length code = cc in
-    let base : b.code_base ≡ f.code_base = cc in
-    let size : b.code_size ≡ f.code_size = cc in
-    let placed = whole_bundles f.format f.code_base f.code_size right.0.words.code_base (code_test (spans ps) f right.0.passed) in
-    let whole = placed.2 in
-    let even = right.2 in
-    let inside = right.3 in
-    record { base = omega arith; end = omega arith; addresses = omega (arith, placed.4) }
-bundle_within (InInit n ps f gs code init) b right w = absurd cc
-bundle_within (Whole ps) b right w = absurd cc
+-- ---- where a bundle comes next
 
-pub bundle_sandbox : (x : Front) (b : BundlePlace) → IsRightFront x → want_at b ≡ want_of x → b.sandbox < 16
-bundle_sandbox Empty b right w = absurd cc
-bundle_sandbox (AfterMagic kind) b right w = absurd cc
-bundle_sandbox (AfterCount kind n ps) b right w = absurd cc
-bundle_sandbox (InGates n ps f gs) b right w = absurd cc
-bundle_sandbox (InCode n ps f gs code) b right w =
-    let number : b.sandbox ≡ length ps = cc in
-    omega (arith, right.0.more, right.0.before.at_most)
-bundle_sandbox (InInit n ps f gs code init) b right w = absurd cc
-bundle_sandbox (Whole ps) b right w = absurd cc
+-- the place of the bundle at that address of a sandbox with these fields and gates
+abbrev pub place_at : ℕ → Fields → List Gate → ℕ → BundlePlace
+place_at sandbox f gs at = record { sandbox = sandbox; address = at; format = f.format; code_base = f.code_base; code_size = f.code_size; listed = is_gate_of gs at }
+
+-- the front ends within code, and the place is that after it
+pub record IsInCode (x : Front) (b : BundlePlace) : Type 0 where
+  pub count : ℕ
+  pub before : List Part
+  pub fields : Fields
+  pub gates : List Gate
+  pub code : List ℕ
+  pub front_is : x ≡ InCode count before fields gates code
+  pub place_is : b ≡ place_at (length before) fields gates (fields.code_base + length code)
+
+pub in_code : (x : Front) (b : BundlePlace) → wants.Bundle b ≡ want_of x → IsInCode x b
+in_code Empty b w = absurd cc
+in_code (AfterMagic kind) b w = absurd cc
+in_code (AfterCount kind n ps) b w = absurd cc
+in_code (InGates n ps f gs) b w = absurd cc
+in_code (InCode n ps f gs code) b w = record { count = n; before = ps; fields = f; gates = gs; code = code; front_is = refl; place_is = cc }
+in_code (InInit n ps f gs code init) b w = absurd cc
+in_code (Whole ps) b w = absurd cc
+
+pub bundle_within : (x : Front) (b : BundlePlace) → IsRightFront x → wants.Bundle b ≡ want_of x → IsWithin b
+bundle_within x b right w =
+    let i = in_code x b w in
+    let there = rw (i.front_is) at right in
+    let placed = whole_bundles i.fields.format i.fields.code_base i.fields.code_size there.0.words.code_base (code_test (spans i.before) i.fields there.0.passed) in
+    let whole = placed.2 in
+    let even = there.2 in
+    let inside = there.3 in
+    rw (i.place_is) (record { base = omega arith; end = omega arith; addresses = omega (arith, placed.4) })
+
+pub bundle_sandbox : (x : Front) (b : BundlePlace) → IsRightFront x → wants.Bundle b ≡ want_of x → b.sandbox < 16
+bundle_sandbox x b right w =
+    let i = in_code x b w in
+    let there = rw (i.front_is) at right in
+    let number = ap (λ (p : BundlePlace). p.sandbox) i.place_is in
+    omega (arith, number, there.0.more, there.0.before.at_most)
+
+-- ---- where others do
 
 pub field_len : (x : Front) (len : ℕ) → wants.Field len ≡ want_of x → (1 ≤ len) × (len ≤ 28)
 field_len Empty len w = let e : len ≡ 4 = cc in (omega arith, omega arith)
@@ -75,35 +94,35 @@ init_taken x most len xs w some le room =
 pub joined : (so_far : List ℕ) (x : Front) (s : List ℕ) (y : Front) → so_far ≡ front x → front y ≡ front x ++ s → so_far ++ s ≡ front y
 joined so_far x s y a b = ap (λ (l : List ℕ). l ++ s) a ∙ sym b
 
-pub field_step : {T : List Finding → Type 0} (old new : ReaderState) (t : Tally) (so_far s : List ℕ) (len : ℕ) → ((x : Front) → StandsFor old x → wants.Field len ≡ want_of x)
-    → ((x : Front) → StandsFor old x → Leads x s new) → left new < left old → IsSoFar T old t so_far → IsSoFar T new t (so_far ++ s)
-field_step old new t so_far s len wanted leads falls h =
-    let l = leads h.at h.stands in
-    record {
-      at = l.to;
-      stands = l.stands;
-      bytes_are = joined so_far h.at s l.to h.bytes_are l.bytes;
-      tallies = field_tallies t h.at s l.to len (wanted h.at h.stands) l.follows h.tallies;
-      few = omega (arith, h.few);
-    }
-
-pub init_step : {T : List Finding → Type 0} (old new : ReaderState) (t : Tally) (so_far s : List ℕ) (len : ℕ) → ((x : Front) → StandsFor old x → wants.Init len ≡ want_of x)
-    → ((x : Front) → StandsFor old x → Leads x s new) → left new < left old → IsSoFar T old t so_far → IsSoFar T new t (so_far ++ s)
-init_step old new t so_far s len wanted leads falls h =
-    let l = leads h.at h.stands in
-    record {
-      at = l.to;
-      stands = l.stands;
-      bytes_are = joined so_far h.at s l.to h.bytes_are l.bytes;
-      tallies = init_tallies t h.at s l.to len (wanted h.at h.stands) h.stands.right l.follows h.tallies;
-      few = omega (arith, h.few);
-    }
-
+-- what is taken off the reader has a fault
 pub step_fault : {T : List Finding → Type 0} (old : ReaderState) (t : Tally) (so_far s rest : List ℕ) (len number : ℕ) → s ≡ take len rest
     → ((x : Front) → StandsFor old x → HasFaultNumberWhateverFollows (front x ++ s) number) → IsSoFar T old t so_far → HasFaultNumberWhateverFollows (so_far ++ rest) number × IsTold T
 step_fault old t so_far s rest len number e wrong h =
     let here = subst (λ (l : List ℕ). HasFaultNumberWhateverFollows (l ++ s) number) (sym h.bytes_are) (wrong h.at h.stands) in
     (fault_onwards so_far s rest (drop len rest) number (sym (take-append-drop len rest) ∙ ap (λ (l : List ℕ). l ++ drop len rest) (sym e)) here, (h.tallies.found, h.tallies.told_is))
+
+-- or leads on, where it is no code
+pub step_taken : {T : List Finding → Type 0} (old new : ReaderState) (t : Tally) (so_far rest : List ℕ) (len : ℕ) (end : StepEnd) → 1 ≤ len → len ≤ length rest → IsTakenOff old new (take len rest) end
+    → ((x y : Front) → StandsFor old x → Follows x (take len rest) y → Tallies T t x → Tallies T t y) → IsSoFar T old t so_far → Steps T old new t so_far rest end
+step_taken {T = T} old new t so_far rest len (ends.Took n) some room off tallies h =
+    let same : n ≡ len = omega (arith, off.0, length-take len rest) in
+    let l = off.1 h.at h.stands in
+    let less = off.2 in
+    subst (λ (m : ℕ). (1 ≤ m) × (m ≤ length rest) × IsSoFar T new t (so_far ++ take m rest) × (left new < left old)) (sym same) (
+      some,
+      room,
+      record {
+        at = l.to;
+        stands = l.stands;
+        bytes_are = joined so_far h.at (take len rest) l.to h.bytes_are l.bytes;
+        tallies = tallies h.at l.to h.stands l.follows h.tallies;
+        few = omega (arith, h.few);
+      },
+      less,
+    )
+step_taken old new t so_far rest len (ends.Fault k) some room off tallies h = step_fault old t so_far (take len rest) rest len k refl off h
+step_taken old new t so_far rest len ends.Short some room off tallies h = absurd off
+step_taken old new t so_far rest len ends.Whole some room off tallies h = absurd off
 
 -- ---- pieces
 

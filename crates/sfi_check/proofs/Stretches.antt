@@ -1,14 +1,15 @@
 -- A stretch of bundles more: its findings, and the tally with them.
-use Rattle.sfi_check.proofs.Prelude.{◌≡◌, ◌==◌, ℕ, zero, suc, ◌+◌, ◌-◌, ◌*◌, ◌/◌, ◌<◌, ◌≤◌, Bool, false, cond, List, [], ◌∷◌, ◌++◌, length, take, drop, refl, sym, ap, ◌∙◌, subst, arith, eq-eqb, ne_eqb, append_assoc, length-append, length-take, take-append_seam, Gate, is_gate_of, Front, IsStretchLength, IsRightFront, want_of, Follows, Empty, AfterMagic, AfterCount, InGates, InCode, InInit, Whole, ReaderState, StandsFor, Leads, left, BundlePlace, Finding, Tally, part_of, block_bundle, AreFoundUpTo, AddsFindings, Counts, owed_after, AreFindingsSoFar, IsSoFar, IsStretch, AreFoundInStretch, Tallies, findings_most, stretch_place, want_at}
+use Rattle.sfi_check.proofs.Prelude.{◌≡◌, ◌==◌, ℕ, zero, suc, ◌+◌, ◌-◌, ◌*◌, ◌/◌, ◌<◌, ◌≤◌, Bool, false, cond, List, [], ◌∷◌, ◌++◌, length, take, drop, refl, sym, ap, ◌∙◌, subst, arith, eq-eqb, ne_eqb, append_assoc, length-append, length-take, take-append_seam, Gate, is_gate_of, Front, IsStretchLength, IsRightFront, want_of, Follows, ReaderState, StandsFor, Leads, left, BundlePlace, Finding, Tally, part_of, block_bundle, AreFoundUpTo, AddsFindings, Counts, owed_after, AreFindingsSoFar, IsSoFar, IsStretch, AreFoundInStretch, Tallies, findings_most, stretch_place}
 use Rattle.std.specs.Prelude.{min, ◌%◌}
 use Rattle.sfi_image.specs.declared.fields.Fields.{Fields}
 use Rattle.sfi_image.specs.declared.want.Next.TheVariants as next_want
+use Rattle.sfi_image.specs.declared.want.Want.TheVariants as wants
 use Rattle.sfi_rules.specs.declared.owed.Owed.{Owed}
 use Rattle.sfi_rules.specs.declared.owed.Owed.TheVariants.{Nothing}
 use Rattle.sfi_scan.proofs.Stretches.{front_bundle, rest_bundle}
 use Rattle.sfi_scan.proofs.WordStretches.{found_in_part}
-use Rattle.sfi_check.proofs.Tallying.{Adds, same_place, code_tallies}
-use Rattle.sfi_check.proofs.Leading.{bundle_within, joined}
+use Rattle.sfi_check.proofs.Tallying.{Adds, code_tallies}
+use Rattle.sfi_check.proofs.Leading.{bundle_within, in_code, joined, place_at}
 
 -- the tally with so many bundles more, then with their findings, and then with what is owed
 pub adds_of : (t u v w : Tally) (sandbox n : ℕ) (found : List Finding) (next : Owed) → u ≡ record t { sandboxes = sandbox + 1; bundles = t.bundles + n } → AddsFindings u v found → w ≡ record v { owed = next } → length found ≤ findings_most * n
@@ -20,14 +21,8 @@ adds_of t u v w sandbox n found next is a kept few =
 -- ---- what comes next
 
 -- where bundles come next, the reader reads code
-reads_code : (r : ReaderState) (x : Front) (b : BundlePlace) → StandsFor r x → want_at b ≡ want_of x → r.next ≡ next_want.Code
-reads_code r (InCode n ps f gs code) b h w = h.kept.0
-reads_code r Empty b h w = absurd cc
-reads_code r (AfterMagic format) b h w = absurd cc
-reads_code r (AfterCount format n ps) b h w = absurd cc
-reads_code r (InGates n ps f gs) b h w = absurd cc
-reads_code r (InInit n ps f gs code init) b h w = absurd cc
-reads_code r (Whole ps) b h w = absurd cc
+reads_code : (r : ReaderState) (x : Front) (b : BundlePlace) → StandsFor r x → wants.Bundle b ≡ want_of x → r.next ≡ next_want.Code
+reads_code r x b h w = (rw ((in_code x b w).front_is) at h).kept.0
 
 -- so many bytes of a stretch are bundles, and a stretch
 pub record IsTaken (most : ℕ) (b : BundlePlace) (bytes : List ℕ) (n : ℕ) : Type 0 where
@@ -35,20 +30,18 @@ pub record IsTaken (most : ℕ) (b : BundlePlace) (bytes : List ℕ) (n : ℕ) :
   pub le : 16 * n ≤ most
   pub stretch : IsStretch b bytes n
 
-pub stretch_taken : (x : Front) (b : BundlePlace) (most len : ℕ) (rest : List ℕ) → IsRightFront x → want_at b ≡ want_of x → IsStretchLength x most → len ≡ min most (length rest - length rest % 16) → 0 < len
+pub stretch_taken : (x : Front) (b : BundlePlace) (most len : ℕ) (rest : List ℕ) → IsRightFront x → wants.Bundle b ≡ want_of x → IsStretchLength x most → len ≡ min most (length rest - length rest % 16) → 0 < len
     → IsTaken most b (take len rest) (len / 16)
-stretch_taken Empty b most len rest right w is e some = absurd cc
-stretch_taken (AfterMagic format) b most len rest right w is e some = absurd cc
-stretch_taken (AfterCount format m ps) b most len rest right w is e some = absurd cc
-stretch_taken (InGates m ps f gs) b most len rest right w is e some = absurd cc
-stretch_taken (InCode m ps f gs code) b most len rest right w is e some =
-    let within = bundle_within (InCode m ps f gs code) b right w in
-    let at : b.address ≡ f.code_base + length code = cc in
-    let base : b.code_base ≡ f.code_base = cc in
-    let size : b.code_size ≡ f.code_size = cc in
-    let inside = is.bundles.inside in
-    let whole = is.bundles.whole in
-    let less = right.3 in
+stretch_taken x b most len rest right w is e some =
+    let i = in_code x b w in
+    let within = bundle_within x b right w in
+    let at = ap (λ (p : BundlePlace). p.address) i.place_is in
+    let base = ap (λ (p : BundlePlace). p.code_base) i.place_is in
+    let size = ap (λ (p : BundlePlace). p.code_size) i.place_is in
+    let long = rw (i.front_is) at is in
+    let inside = long.bundles.inside in
+    let whole = long.bundles.whole in
+    let less = (rw (i.front_is) at right).3 in
     let cut = length-take len rest in
     let low = within.base in
     let limit = within.addresses in
@@ -57,15 +50,12 @@ stretch_taken (InCode m ps f gs code) b most len rest right w is e some =
       le = omega arith;
       stretch = record { whole = omega arith; base = low; end = omega arith; addresses = limit };
     }
-stretch_taken (InInit m ps f gs code init) b most len rest right w is e some = absurd cc
-stretch_taken (Whole ps) b most len rest right w is e some = absurd cc
 
 -- ---- findings
 
 -- the place of a stretch's bundle, by the code before it
 place_in : (sandbox : ℕ) (f : Fields) (gs : List Gate) (a at m : ℕ) → at ≡ a + 16 * m → (0 < m → is_gate_of gs (a + 16 * m) ≡ false)
-    → stretch_place (record { sandbox = sandbox; address = a; format = f.format; code_base = f.code_base; code_size = f.code_size; listed = is_gate_of gs a }) m
-    ≡ record { sandbox = sandbox; address = at; format = f.format; code_base = f.code_base; code_size = f.code_size; listed = is_gate_of gs at }
+    → stretch_place (place_at sandbox f gs a) m ≡ place_at sandbox f gs at
 place_in sandbox f gs a at zero e free = let same : at ≡ a = omega arith in rw (same) refl
 place_in sandbox f gs a at (suc m) e free = rw (e, free (omega arith)) refl
 
@@ -80,7 +70,7 @@ some_owed code s kept some = rw (ne_eqb (length (code ++ s)) 0 (λ e. omega (ari
 
 stretch_more : (sandbox : ℕ) (f : Fields) (gs : List Gate) (code s : List ℕ) (here : List Finding) (kept next : Owed) (n : ℕ) (found : List Finding) → AreFindingsSoFar sandbox f gs code here kept
     → 0 < n → length s ≡ 16 * n → ((i : ℕ) → 0 < i → i < n → is_gate_of gs (f.code_base + length code + 16 * i) ≡ false)
-    → AreFoundInStretch (record { sandbox = sandbox; address = f.code_base + length code; format = f.format; code_base = f.code_base; code_size = f.code_size; listed = is_gate_of gs (f.code_base + length code) }) (owed_after code kept) s n found next
+    → AreFoundInStretch (place_at sandbox f gs (f.code_base + length code)) (owed_after code kept) s n found next
     → AreFindingsSoFar sandbox f gs (code ++ s) (here ++ found) next
 stretch_more sandbox f gs code s here kept next n found so_far some len plain are = record {
   bundles = so_far.bundles + n;
@@ -88,7 +78,7 @@ stretch_more sandbox f gs code s here kept next n found so_far some len plain ar
   found_are = λ more init size.
       let p = part_of f gs ((code ++ s) ++ more) init in
       let k = so_far.bundles in
-      let b : BundlePlace = record { sandbox = sandbox; address = f.code_base + length code; format = f.format; code_base = f.code_base; code_size = f.code_size; listed = is_gate_of gs (f.code_base + length code) } in
+      let b = place_at sandbox f gs (f.code_base + length code) in
       let same : code ++ (s ++ more) ≡ (code ++ s) ++ more = sym (append_assoc code s more) in
       let before : AreFoundUpTo sandbox p k here (owed_after code kept) =
       subst (λ (c : List ℕ). AreFoundUpTo sandbox (part_of f gs c init) k here (owed_after code kept)) same (so_far.found_are (s ++ more) init (ap length same ∙ size)) in
@@ -97,7 +87,7 @@ stretch_more sandbox f gs code s here kept next n found so_far some len plain ar
       subst (λ (o : Owed). AreFoundUpTo sandbox p (k + n) (here ++ found) o) (sym (some_owed code s next (omega arith)))
       (found_in_part sandbox p b s k n here found (owed_after code kept) next refl
       (λ i less. place_in sandbox f gs (f.code_base + length code) (f.code_base + 16 * (k + i)) i (omega (arith, so_far.len)) (λ first. plain i first less)
-      ∙ ap (λ (z : ℕ). record { sandbox = sandbox; address = f.code_base + 16 * (k + i); format = f.format; code_base = f.code_base; code_size = z; listed = is_gate_of gs (f.code_base + 16 * (k + i)) }) (sym size))
+      ∙ ap (λ (z : ℕ). record (place_at sandbox f gs (f.code_base + 16 * (k + i))) { code_size = z }) (sym size))
       (λ i less. ap (λ (l : List ℕ). block_bundle l i) (sym front) ∙ front_bundle n i (s ++ more) less ∙ ap (λ (l : List ℕ). block_bundle l i) (sym rest) ∙ rest_bundle k i ((code ++ s) ++ more))
       before are);
 }
@@ -109,32 +99,25 @@ stretch_more sandbox f gs code s here kept next n found so_far some len plain ar
 -- ---- a step
 
 stretch_tallies : {T U : List Finding → Type 0} (old new : Tally) (x : Front) (s : List ℕ) (y : Front) (b : BundlePlace) (most n : ℕ) (found : List Finding) (owed : Owed)
-    → want_at b ≡ want_of x → IsStretchLength x most → 16 * n ≤ most → 0 < n → length s ≡ 16 * n → Follows x s y → owed ≡ cond (b.address == b.code_base) Nothing old.owed → AreFoundInStretch b owed s n found new.owed
+    → wants.Bundle b ≡ want_of x → IsStretchLength x most → 16 * n ≤ most → 0 < n → length s ≡ 16 * n → Follows x s y → owed ≡ cond (b.address == b.code_base) Nothing old.owed → AreFoundInStretch b owed s n found new.owed
     → Adds old new b.sandbox n found → ((before : List Finding) → T before → U (before ++ found)) → Tallies T old x → Tallies U new y
-stretch_tallies old new Empty s y b most n found owed w is le some len h before are adds on k = absurd cc
-stretch_tallies old new (AfterMagic kind) s y b most n found owed w is le some len h before are adds on k = absurd cc
-stretch_tallies old new (AfterCount kind m ps) s y b most n found owed w is le some len h before are adds on k = absurd cc
-stretch_tallies old new (InGates m ps f gs) s y b most n found owed w is le some len h before are adds on k = absurd cc
-stretch_tallies old new (InCode m ps f gs code) s y b most n found owed w is le some len h before are adds on k =
-    let number : b.sandbox ≡ length ps = cc in
-    let at : b.address ≡ f.code_base + length code = cc in
-    let of : b.format ≡ f.format = cc in
-    let base : b.code_base ≡ f.code_base = cc in
-    let size : b.code_size ≡ f.code_size = cc in
-    let listed : b.listed ≡ is_gate_of gs (f.code_base + length code) = cc in
-    let same = same_place b (length ps) (f.code_base + length code) f.format f.code_base f.code_size (is_gate_of gs (f.code_base + length code)) number at of base size listed in
-    let begin : (b.address == b.code_base) ≡ (length code == 0) = rw (at, base) (begins f.code_base (length code)) in
+stretch_tallies {T = T} old new x s y b most n found owed w is le some len h before are adds on k =
+    let i = in_code x b w in
+    let ps = i.before in
+    let f = i.fields in
+    let gs = i.gates in
+    let code = i.code in
+    let place = place_at (length ps) f gs (f.code_base + length code) in
+    let long = subst (λ (z : Front). IsStretchLength z most) i.front_is is in
+    let begin : (b.address == b.code_base) ≡ (length code == 0) = ap (λ (p : BundlePlace). p.address == p.code_base) i.place_is ∙ begins f.code_base (length code) in
     let before' : owed ≡ owed_after code old.owed = before ∙ ap (λ (z : Bool). cond z Nothing old.owed) begin in
-    let are' = subst (λ (o : Owed). AreFoundInStretch (record { sandbox = length ps; address = f.code_base + length code; format = f.format; code_base = f.code_base; code_size = f.code_size; listed = is_gate_of gs (f.code_base + length code) }) o s n found new.owed) before'
-    (subst (λ (p : BundlePlace). AreFoundInStretch p owed s n found new.owed) same are) in
-    rw (h) (code_tallies old new m ps f gs code s n found some len
-    (λ here so_far. stretch_more (length ps) f gs code s here old.owed new.owed n found so_far some len (λ i first less. is.unlisted i first (omega arith)) are')
-    (subst (λ (j : ℕ). Adds old new j n found) number adds) on k)
-stretch_tallies old new (InInit m ps f gs code init) s y b most n found owed w is le some len h before are adds on k = absurd cc
-stretch_tallies old new (Whole ps) s y b most n found owed w is le some len h before are adds on k = absurd cc
+    let are' = subst (λ (o : Owed). AreFoundInStretch place o s n found new.owed) before' (subst (λ (p : BundlePlace). AreFoundInStretch p owed s n found new.owed) i.place_is are) in
+    rw (subst (λ (z : Front). Follows z s y) i.front_is h) (code_tallies old new i.count ps f gs code s n found some len
+    (λ here so_far. stretch_more (length ps) f gs code s here old.owed new.owed n found so_far some len (λ j first less. long.unlisted j first (omega arith)) are')
+    (subst (λ (p : BundlePlace). Adds old new p.sandbox n found) i.place_is adds) on (subst (λ (z : Front). Tallies T old z) i.front_is k))
 
 pub stretch_step : {T U : List Finding → Type 0} (old new : ReaderState) (t u v w : Tally) (so_far s : List ℕ) (b : BundlePlace) (most n : ℕ) (found : List Finding) (owed next : Owed)
-    → ((x : Front) → StandsFor old x → want_at b ≡ want_of x) → ((x : Front) → StandsFor old x → IsStretchLength x most) → 16 * n ≤ most → 0 < n → length s ≡ 16 * n
+    → ((x : Front) → StandsFor old x → wants.Bundle b ≡ want_of x) → ((x : Front) → StandsFor old x → IsStretchLength x most) → 16 * n ≤ most → 0 < n → length s ≡ 16 * n
     → owed ≡ cond (b.address == b.code_base) Nothing t.owed → AreFoundInStretch b owed s n found next → length found ≤ findings_most * n → u ≡ record t { sandboxes = b.sandbox + 1; bundles = t.bundles + n } → Counts u v found → w ≡ record v { owed = next }
     → ((x : Front) → StandsFor old x → Leads x s new) → (old.next ≡ next_want.Code → left new + length s ≤ left old) → ((before : List Finding) → T before → U (before ++ found)) → IsSoFar T old t so_far → IsSoFar U new w (so_far ++ s)
 stretch_step old new t u v w so_far s b most n found owed next wanted stretch le some len before are few is counts kept leads falls on h =

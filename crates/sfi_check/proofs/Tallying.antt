@@ -1,5 +1,5 @@
 -- The tally of a front and of the one that follows it.
-use Rattle.sfi_check.proofs.Prelude.{◌≡◌, ℕ, ◌+◌, ◌*◌, ◌/◌, ◌<◌, ◌≤◌, eqb, Bool, List, [], ◌∷◌, ◌++◌, length, refl, sym, ap, ◌∙◌, subst, arith, append_assoc, inl, inr, slice_get, cases_Bool, eqb-true, length-append, length_push, append-nil, Format, Gate, Part, Front, IsRightFront, want_of, part_of, after_parts, after_init, after_code, after_gates, Follows, HasFaultNumberWhateverFollows, Empty, AfterMagic, AfterCount, InGates, InCode, InInit, Whole, BundlePlace, Finding, AreFindings, AreFoundUpTo, AreImageFindings, Tally, bundle_count, owed_after, AreFindingsSoFar, AreFindingsWithin, findings_most, Tallies}
+use Rattle.sfi_check.proofs.Prelude.{◌≡◌, ℕ, ◌+◌, ◌*◌, ◌/◌, ◌<◌, ◌≤◌, eqb, List, [], ◌∷◌, ◌++◌, length, refl, sym, ap, ◌∙◌, subst, arith, append_assoc, inl, inr, slice_get, cases_Bool, eqb-true, length-append, length_push, append-nil, Gate, Part, Front, IsRightFront, want_of, part_of, after_parts, after_init, after_code, after_gates, Follows, HasFaultNumberWhateverFollows, Empty, AfterMagic, AfterCount, InGates, InCode, InInit, Whole, Finding, AreFindings, AreFoundUpTo, AreImageFindings, Tally, bundle_count, owed_after, AreFindingsSoFar, AreFindingsWithin, findings_most, Tallies}
 use Rattle.sfi_image.specs.declared.fields.Fields.{Fields}
 use Rattle.std.proofs.lemmas.List.Sums.{sum_by-append}
 use Rattle.sfi_image.specs.declared.want.Want.TheVariants as wants
@@ -144,11 +144,6 @@ code_tallies old new m ps f gs code s n found some len more adds on k =
       sandboxes = adds.sandboxes;
       few = omega (arith, adds.count, adds.bundles, adds.few, k.few);
     }) (omega (arith, longer))
-
--- a place by its fields
-pub same_place : (b : BundlePlace) (sandbox address : ℕ) (format : Format) (base size : ℕ) (listed : Bool) → b.sandbox ≡ sandbox → b.address ≡ address → b.format ≡ format → b.code_base ≡ base → b.code_size ≡ size → b.listed ≡ listed
-    → b ≡ record { sandbox = sandbox; address = address; format = format; code_base = base; code_size = size; listed = listed }
-same_place b sandbox address format base size listed s a f c z l = rw (← s, ← a, ← f, ← c, ← z, ← l) refl
 
 -- ---- faults
 

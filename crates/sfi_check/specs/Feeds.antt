@@ -7,7 +7,7 @@ use Rattle.sfi_rules.specs.declared.finding.Finding.{Finding}
 use Rattle.sfi_check.specs.declared.feed.Feed.{Feed}
 use Rattle.sfi_check.specs.Tallies.{IsSoFar, IsCut}
 
--- ---- `IsFed`, and its parts, which only private contracts name themselves
+-- ---- the parts of `IsFedTelling`, which only private contracts name themselves
 
 -- so many bytes are fewer than what comes next has, or the image is whole and none is held
 abbrev pub Rests : ReaderState → ℕ → Type 0
@@ -22,12 +22,14 @@ pub record IsHeld (told : List Finding → Type 0) (f : Feed) (bytes : List ℕ)
   pub rests : Rests f.reader f.count
   pub long : length f.held ≡ 64
 
--- that is the fault that it has met, if any: without one it keeps the bytes,
--- and with one the bytes have that fault, whatever follows them
+-- the feed was fed these bytes and has met this fault, or none: with none it has taken and holds the
+-- bytes; with one the bytes have that fault, whatever follows them
 abbrev pub IsFedBy : (List Finding → Type 0) → Option ℕ → Feed → List ℕ → Type 0
 IsFedBy told None f bytes = IsHeld told f bytes
 IsFedBy told (Some number) f bytes =
     HasFaultNumberWhateverFollows bytes number × ((found : List Finding) × told found)
+
+-- ---- what public contracts name
 
 -- the feed is one that was fed these bytes, in any pieces, and `told` holds of what it found
 abbrev pub IsFedTelling : (List Finding → Type 0) → Feed → List ℕ → Type 0

@@ -8,8 +8,8 @@ ghost use Rattle.sfi_check.specs.Tallies.{IsSoFar, IsCut};
 ghost use Rattle.sfi_check.specs.Feeds.{IsFed, IsFedTelling};
 ghost use Rattle.sfi_check.specs.private.Feeds.{IsFedOn, left_to_feed};
 
+use crate::ends::PieceEnd;
 use crate::piece::{take_piece, verdict};
-use crate::progress::Progress;
 use crate::sink::Nowhere;
 use crate::stream_answer::StreamAnswer;
 use crate::tally::Tally;
@@ -17,8 +17,8 @@ use sfi_image::{LayoutFault, LayoutReader, Want};
 use sfi_policy::BUNDLE_BYTES;
 use sfi_scan::{BUNDLE_BY_BUNDLE, FindingSink, Owed};
 
-/// How many bytes are held at most. What comes next of an image has at most 28 bytes, and a piece of
-/// it is held only as long as it isn't whole.
+/// The size of the array for the bytes that are held. At most 27 are: what comes next of an image has at
+/// most 28 bytes, and a part of it is held only until it is whole.
 const ROOM: usize = 64;
 
 /// What is known of the bytes that were fed so far, in any pieces. It takes no memory.
@@ -87,14 +87,14 @@ impl Feed {
             → left_to_feed self.new < left_to_feed self.old }
     {
         match take_piece::<F, BLOCKS>(&mut self.reader, &mut self.tally, sink, bytes) {
-            Progress::Fault(number) => self.fault = Some(number),
-            Progress::Whole(at) => {
+            PieceEnd::Fault(number) => self.fault = Some(number),
+            PieceEnd::Whole(at) => {
                 self.count = 0;
                 if at < bytes.len() {
                     self.fault = Some(LayoutFault::Trailing.number());
                 }
             }
-            Progress::More(at) => self.hold(&bytes[at..]),
+            PieceEnd::More(at) => self.hold(&bytes[at..]),
         }
     }
 
@@ -107,7 +107,7 @@ impl Feed {
     {
         match self.reader.wants() {
             Want::Field(len) => len,
-            Want::Bundle { .. } => BUNDLE_BYTES,
+            Want::Bundle(_) => BUNDLE_BYTES,
             _ => ROOM,
         }
     }

@@ -11,10 +11,10 @@
 
 mod accepted;
 mod conversion;
+mod ends;
 mod feed;
 pub mod laws;
 mod piece;
-mod progress;
 mod refusal;
 mod sink;
 mod stream;

@@ -1,17 +1,29 @@
 //! How far a piece of an image leads on.
-ghost use Rattle.std.specs.Prelude.{◌≡◌, ℕ, List};
-ghost use Rattle.sfi_image.specs.Fronts.{Front, want_of};
+ghost use Rattle.std.specs.Prelude.{◌≡◌, ℕ, List, length};
+ghost use Rattle.sfi_image.specs.Fronts.{Front, want_of, IsLengthOf};
 ghost use Rattle.sfi_image.specs.Keeping.{StandsFor};
 ghost use Rattle.sfi_check.specs.Tallies.{IsSoFar};
-ghost use Rattle.sfi_check.specs.private.Tallies.{Steps, Goes, verdict_of, want_at};
+ghost use Rattle.sfi_check.specs.private.Tallies.{IsTakenOff, Steps, Goes, verdict_of};
 
-use crate::progress::{Progress, Step};
+use crate::ends::{PieceEnd, StepEnd};
 use crate::sink::scan_counted;
 use crate::stream_answer::StreamAnswer;
 use crate::tally::Tally;
 use sfi_image::{LayoutReader, Want};
 use sfi_policy::BUNDLE_BYTES;
 use sfi_scan::{BundlePlace, FindingSink};
+
+/// Takes these bytes off the reader.
+#[inline(always)]
+fn take_bytes(reader: &mut LayoutReader, bytes: &[u8]) -> StepEnd
+    requires { (x : Front) × StandsFor reader.old x × IsLengthOf (length bytes.now) (want_of x) }
+    ensures { IsTakenOff reader.old reader.new bytes.now result }
+{
+    match reader.take(bytes) {
+        Some(number) => StepEnd::Fault(number),
+        None => StepEnd::Took(bytes.len()),
+    }
+}
 
 /// Takes the bundles that come next, as many as are there up to the next gate, and scans them.
 #[inline(always)]
@@ -21,10 +33,10 @@ fn take_code<F: FindingSink, const BLOCKS: bool>(
     sink: &mut F,
     place: &BundlePlace,
     rest: &[u8],
-) -> Step
+) -> StepEnd
     requires so_far { (first : F) × (so_far : List ℕ)
         × IsSoFar (λ found. F.takes first found sink.old) reader.old tally.old so_far }
-    requires next { (x : Front) → StandsFor reader.old x → want_at place.now ≡ want_of x }
+    requires next { (x : Front) → StandsFor reader.old x → Want.Bundle place.now ≡ want_of x }
     ensures { (first : F) (so_far : List ℕ)
         → IsSoFar (λ found. F.takes first found sink.old) reader.old tally.old so_far
         → Steps (λ found. F.takes first found sink.new)
@@ -34,16 +46,16 @@ fn take_code<F: FindingSink, const BLOCKS: bool>(
         .stretch_length()
         .min(rest.len() - rest.len() % BUNDLE_BYTES);
     if len == 0 {
-        return Step::Short;
+        return StepEnd::Short;
     }
     let code = &rest[..len];
     if let Some(number) = reader.take(code) {
-        return Step::Fault(number);
+        return StepEnd::Fault(number);
     }
     let owed = tally.owed_at(place);
     tally.add_bundles(place.sandbox, (len / BUNDLE_BYTES) as u32);
     tally.owed = scan_counted::<F, BLOCKS>(place, code, owed, tally, sink);
-    Step::Took(len)
+    StepEnd::Took(len)
 }
 
 /// Takes the bytes that come next, if they are there, and scans them where they are code.
@@ -53,7 +65,7 @@ fn step<F: FindingSink, const BLOCKS: bool>(
     tally: &mut Tally,
     sink: &mut F,
     rest: &[u8],
-) -> Step
+) -> StepEnd
     requires { (first : F) × (so_far : List ℕ)
         × IsSoFar (λ found. F.takes first found sink.old) reader.old tally.old so_far }
     ensures { (first : F) (so_far : List ℕ)
@@ -64,42 +76,18 @@ fn step<F: FindingSink, const BLOCKS: bool>(
     match reader.wants() {
         Want::Field(len) => {
             if rest.len() < len {
-                return Step::Short;
+                return StepEnd::Short;
             }
-            match reader.take(&rest[..len]) {
-                Some(number) => Step::Fault(number),
-                None => Step::Took(len),
-            }
+            take_bytes(reader, &rest[..len])
         }
-        Want::Bundle {
-            sandbox,
-            address,
-            format,
-            code_base,
-            code_size,
-            listed,
-        } => {
-            let place = BundlePlace {
-                sandbox,
-                address,
-                format,
-                code_base,
-                code_size,
-                listed,
-            };
-            take_code::<F, BLOCKS>(reader, tally, sink, &place, rest)
-        }
+        Want::Bundle(place) => take_code::<F, BLOCKS>(reader, tally, sink, &place, rest),
         Want::Init(most) => {
             if rest.is_empty() {
-                return Step::Short;
+                return StepEnd::Short;
             }
-            let len = if rest.len() < most { rest.len() } else { most };
-            match reader.take(&rest[..len]) {
-                Some(number) => Step::Fault(number),
-                None => Step::Took(len),
-            }
+            take_bytes(reader, &rest[..rest.len().min(most)])
         }
-        Want::End => Step::Whole,
+        Want::End => StepEnd::Whole,
         Want::Nothing => unreachable!(),
     }
 }
@@ -110,7 +98,7 @@ pub(crate) fn take_piece<F: FindingSink, const BLOCKS: bool>(
     tally: &mut Tally,
     sink: &mut F,
     piece: &[u8],
-) -> Progress
+) -> PieceEnd
     requires { (first : F) × (so_far : List ℕ)
         × IsSoFar (λ found. F.takes first found sink.old) reader.old tally.old so_far }
     ensures { (first : F) (so_far : List ℕ)
@@ -121,10 +109,10 @@ pub(crate) fn take_piece<F: FindingSink, const BLOCKS: bool>(
     let mut at = 0;
     loop {
         match step::<F, BLOCKS>(reader, tally, sink, &piece[at..]) {
-            Step::Took(len) => at += len,
-            Step::Short => return Progress::More(at),
-            Step::Whole => return Progress::Whole(at),
-            Step::Fault(number) => return Progress::Fault(number),
+            StepEnd::Took(len) => at += len,
+            StepEnd::Short => return PieceEnd::More(at),
+            StepEnd::Whole => return PieceEnd::Whole(at),
+            StepEnd::Fault(number) => return PieceEnd::Fault(number),
         }
     }
 }

@@ -135,7 +135,14 @@ init_next r reader is =
 -- ---- what is wanted
 
 pub wants_bundle : (r : ReaderState) (x : Front) → StandsFor r x → r.next ≡ next.Code
-    → wants.Bundle (r.begun - 1) (r.fields.code_base + r.code_read) r.fields.format r.fields.code_base r.fields.code_size (is_first (drop r.passed r.gates) (r.fields.code_base + r.code_read)) ≡ want_of x
+    → wants.Bundle (record {
+      sandbox = r.begun - 1;
+      address = r.fields.code_base + r.code_read;
+      format = r.fields.format;
+      code_base = r.fields.code_base;
+      code_size = r.fields.code_size;
+      listed = is_first (drop r.passed r.gates) (r.fields.code_base + r.code_read);
+    }) ≡ want_of x
 wants_bundle r (InCode n ps f gs code) h is =
     let k = h.kept.1 in
     let begun : length ps + 1 - 1 ≡ length ps = omega arith in

@@ -88,7 +88,14 @@ want_of (AfterCount format n ps) = wants.Field fields_bytes
 want_of (InGates n ps f gs) = wants.Field gate_bytes
 want_of (InCode n ps f gs code) =
     let at = f.code_base + length code in
-    wants.Bundle (length ps) at f.format f.code_base f.code_size (is_gate_of gs at)
+    wants.Bundle (record {
+      sandbox = length ps;
+      address = at;
+      format = f.format;
+      code_base = f.code_base;
+      code_size = f.code_size;
+      listed = is_gate_of gs at;
+    })
 want_of (InInit n ps f gs code init) = wants.Init (f.init_len - length init)
 want_of (Whole ps) = wants.End
 
@@ -177,7 +184,7 @@ HasFaultNumberWhateverFollows bytes n =
 -- fewer bytes than come next
 abbrev pub IsLess : ℕ → Want → Type 0
 IsLess len (wants.Field n) = len < n
-IsLess len (wants.Bundle sandbox address format base size listed) = len < bundle_size
+IsLess len (wants.Bundle place) = len < bundle_size
 IsLess len (wants.Init n) = len < n
 IsLess len wants.End = ⊥
 IsLess len wants.Nothing = ⊥
@@ -186,8 +193,8 @@ IsLess len wants.Nothing = ⊥
 -- code region's end; where it is first data bytes, of some of them
 abbrev pub IsLengthOf : ℕ → Want → Type 0
 IsLengthOf len (wants.Field n) = len ≡ n
-IsLengthOf len (wants.Bundle sandbox address format base size listed) =
-    AreBundlesWithin (base + size - address) len
+IsLengthOf len (wants.Bundle place) =
+    AreBundlesWithin (place.code_base + place.code_size - place.address) len
 IsLengthOf len (wants.Init n) = (1 ≤ len) × (len ≤ n)
 IsLengthOf len wants.End = ⊥
 IsLengthOf len wants.Nothing = ⊥

@@ -8,6 +8,7 @@ ghost use Rattle.sfi_image.specs.Keeping.{StandsFor, IsReader, HasStopped, Leads
 ghost use Rattle.sfi_image.specs.ReaderParts.{state_of};
 ghost use Rattle.sfi_image.specs.private.Keeping.{MayTake, Takes, as_want, count_below, first_or, is_first, next_part, next_init, next_code, next_gate};
 
+use crate::bundle::BundlePlace;
 use crate::fault::LayoutFault;
 use crate::fields::{Fields, spans_after};
 use crate::gates::is_next_address;
@@ -216,14 +217,14 @@ impl LayoutReader {
     {
         if let Next::Code = self.next {
             let address = self.fields.code_base + self.code_read;
-            Want::Bundle {
+            Want::Bundle(BundlePlace {
                 sandbox: self.begun - 1,
                 address,
                 format: self.fields.format,
                 code_base: self.fields.code_base,
                 code_size: self.fields.code_size,
                 listed: is_first_after(self.gates.as_slice(), self.passed, address),
-            }
+            })
         } else {
             match self.wants_no_bundle() {
                 OtherWant::Field(len) => Want::Field(len),

@@ -13,6 +13,7 @@
 //! reader.
 #![tactic(auto)]
 
+mod bundle;
 mod cursor;
 mod fault;
 mod fields;
@@ -31,6 +32,7 @@ mod span;
 mod want;
 mod writing;
 
+pub use bundle::BundlePlace;
 pub use cursor::{ImageCursor, PartView};
 pub use fault::{ImageFault, LayoutFault};
 pub use fields::{Fields, has_guard_room, is_region, with_guards};

@@ -1,26 +1,13 @@
 //! What comes next of an image.
-use sfi_policy::Format;
+use crate::bundle::BundlePlace;
 
 /// What comes next of an image.
 #[derive(Clone, Copy)]
 pub enum Want {
     /// So many bytes: 4 for the magic and for the count, 28 for the seven fields, 8 for a gate.
     Field(usize),
-    /// The 16 bytes of a bundle.
-    Bundle {
-        /// The sandbox's place in the image, counted from 0.
-        sandbox: u32,
-        /// The bundle's first address.
-        address: u32,
-        /// The image's format.
-        format: Format,
-        /// The first address of the code region.
-        code_base: u32,
-        /// The size of the code region in bytes.
-        code_size: u32,
-        /// Whether a gate is listed there.
-        listed: bool,
-    },
+    /// The 16 bytes of the bundle at that place.
+    Bundle(BundlePlace),
     /// First data bytes: so many, or some of them.
     Init(usize),
     /// Nothing: the image is whole.

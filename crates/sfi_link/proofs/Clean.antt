@@ -11,7 +11,7 @@ use Rattle.sfi_rewrite.specs.Registers.{names_withheld, item_names_withheld, is_
 use Rattle.sfi_rules.specs.Pairs.{follows_data_pair}
 use Rattle.sfi_rules.specs.Rules.{is_bundle_start, breaks_reserved, breaks_stack}
 use Rattle.sfi_rules.specs.Stack.{writes_stack, begins_pair, ends_pair, precedes_pair, is_jump}
-use Rattle.sfi_rules.specs.declared.bundle.BundlePlace.{BundlePlace}
+use Rattle.sfi_image.specs.declared.bundle.BundlePlace.{BundlePlace}
 use Rattle.sfi_rewrite.specs.Placed.{expansion as whole_expansion}
 use Rattle.std.proofs.lemmas.Bool as bool
 use Rattle.sfi_rewrite.specs.Stack as stack

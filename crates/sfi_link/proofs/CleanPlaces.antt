@@ -10,7 +10,7 @@ use Rattle.sfi_rewrite.specs.Registers.{names_withheld}
 use Rattle.sfi_rules.specs.Findings.{lowest, all_rules, findings_from}
 use Rattle.sfi_rules.specs.Rules.{is_empty, is_bundle_start, breaks_ecall, breaks_reserved, breaks_access, breaks_jump, breaks_target, breaks_end, breaks_stack, may_write_stack, ends_region, is_last_bundle}
 use Rattle.sfi_rules.specs.Stack.{writes_stack, begins_pair, precedes_pair}
-use Rattle.sfi_rules.specs.declared.bundle.BundlePlace.{BundlePlace}
+use Rattle.sfi_image.specs.declared.bundle.BundlePlace.{BundlePlace}
 use Rattle.std.proofs.Math.Seq.{take-append_seam, drop-append_seam}
 use Rattle.sfi_rules.specs.Rules.{Place}
 use Rattle.sfi_rewrite.specs.Stack as stack

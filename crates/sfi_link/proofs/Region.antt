@@ -5,7 +5,7 @@ use Rattle.sfi_image.specs.Gates.{is_gate_of}
 use Rattle.sfi_rules.specs.Bundles.{bundle_bytes}
 use Rattle.sfi_rules.specs.Findings.{AreBundleFindings, AreFindingsOfFirst, AreFindingsInBundles, findings_from, rest_finding}
 use Rattle.sfi_rules.specs.Rules.{is_empty, is_last_bundle}
-use Rattle.sfi_rules.specs.declared.bundle.BundlePlace.{BundlePlace}
+use Rattle.sfi_image.specs.declared.bundle.BundlePlace.{BundlePlace}
 use Rattle.std.proofs.Math.Seq.{take-append_seam, drop-append-add}
 use Rattle.sfi_rules.specs.Bundles.{place_of}
 use Rattle.rv_comp.proofs.Facts.{word_spells}

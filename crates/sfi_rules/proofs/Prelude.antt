@@ -12,6 +12,6 @@ pub use Rattle.sfi_rules.specs.Findings.{broken, lowest, all_rules, rule_of_leng
 pub use Rattle.sfi_rules.specs.Pairs.{follows_data_pair}
 pub use Rattle.sfi_rules.specs.Readings.{Piece, IsReading, IsLongestReading, rest_of}
 pub use Rattle.sfi_rules.specs.Rules.{Place, breaks, breaks_stack, may_access, is_empty, breaks_ecall, breaks_access, breaks_jump, breaks_target}
-pub use Rattle.sfi_rules.specs.declared.bundle.BundlePlace.{BundlePlace}
+pub use Rattle.sfi_image.specs.declared.bundle.BundlePlace.{BundlePlace}
 pub use Rattle.sfi_rules.specs.declared.finding.Finding.{Finding}
 pub use Rattle.sfi_rules.specs.declared.rule.Rule.{Rule}

@@ -7,7 +7,7 @@ use Rattle.rv_word.specs.Lengths.{length_of}
 use Rattle.sfi_rules.specs.declared.rule.Rule.{Rule}
 use Rattle.sfi_rules.specs.declared.rule.Rule.TheVariants.{V1, V2, V3, V4, V5, V6, V7, V8, V9, V10, V11, V12}
 use Rattle.sfi_rules.specs.declared.finding.Finding.{Finding}
-use Rattle.sfi_rules.specs.declared.bundle.BundlePlace.{BundlePlace}
+use Rattle.sfi_image.specs.declared.bundle.BundlePlace.{BundlePlace}
 
 -- a rule broken in the bundle, at that address
 abbrev pub broken : BundlePlace → ℕ → Rule → Finding

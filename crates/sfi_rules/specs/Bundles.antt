@@ -4,7 +4,7 @@ use Rattle.std.specs.Prelude.{ℕ, ◌+◌, ◌*◌, ◌^◌, ◌≤◌, List, l
 use Rattle.sfi_policy.specs.Limits.{bundle_size}
 use Rattle.sfi_image.specs.Spelling.{Part}
 use Rattle.sfi_image.specs.Gates.{is_gate_of}
-use Rattle.sfi_rules.specs.declared.bundle.BundlePlace.{BundlePlace}
+use Rattle.sfi_image.specs.declared.bundle.BundlePlace.{BundlePlace}
 
 -- The bundle's bytes lie in its code region, whose end is at most 2 ^ 32.
 -- (So it is at each bundle start of a code region.)

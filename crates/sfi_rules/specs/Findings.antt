@@ -6,7 +6,7 @@ use Rattle.sfi_image.specs.Spelling.{Part}
 use Rattle.sfi_rules.specs.declared.rule.Rule.{Rule}
 use Rattle.sfi_rules.specs.declared.rule.Rule.TheVariants.{V9}
 use Rattle.sfi_rules.specs.declared.finding.Finding.{Finding}
-use Rattle.sfi_rules.specs.declared.bundle.BundlePlace.{BundlePlace}
+use Rattle.sfi_image.specs.declared.bundle.BundlePlace.{BundlePlace}
 use Rattle.sfi_policy.specs.Limits.{bundle_size}
 use Rattle.sfi_pairs.specs.Pairs.{stub}
 use Rattle.sfi_rules.specs.Bundles.{place_of, bundle_bytes}

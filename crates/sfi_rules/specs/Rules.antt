@@ -7,7 +7,7 @@ use Rattle.rv_word.specs.Writes.{destination}
 use Rattle.sfi_policy.specs.Formats.{is_stack}
 use Rattle.sfi_rules.specs.declared.rule.Rule.{Rule}
 use Rattle.sfi_rules.specs.declared.rule.Rule.TheVariants.{V1, V2, V3, V4, V5, V6, V7, V8, V9, V10, V11, V12}
-use Rattle.sfi_rules.specs.declared.bundle.BundlePlace.{BundlePlace}
+use Rattle.sfi_image.specs.declared.bundle.BundlePlace.{BundlePlace}
 use Rattle.sfi_policy.specs.Limits.{bundle_size}
 use Rattle.sfi_policy.specs.Registers.{is_reserved}
 use Rattle.sfi_rules.specs.Pairs.{follows_data_pair, follows_code_pair}

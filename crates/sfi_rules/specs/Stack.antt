@@ -5,7 +5,7 @@ use Rattle.rv_word.specs.declared.instr.Instr.{Instr}
 use Rattle.rv_word.specs.declared.instr.Instr.TheVariants.{Jal, Jalr}
 use Rattle.rv_word.specs.Writes.{writes_register}
 use Rattle.sfi_policy.specs.Formats.{has_stack}
-use Rattle.sfi_rules.specs.declared.bundle.BundlePlace.{BundlePlace}
+use Rattle.sfi_image.specs.declared.bundle.BundlePlace.{BundlePlace}
 use Rattle.sfi_policy.specs.Registers.{data_base_register, data_mask_register, stack_pointer}
 use Rattle.sfi_pairs.specs.Pairs.{is_pair}
 use Rattle.sfi_rules.specs.Readings.{Piece}

@@ -13,13 +13,12 @@
 //! most (`specs/words`). No code here scans, and nothing here knows the machine.
 #![tactic(auto)]
 
-mod bundle;
 mod finding;
 pub mod laws;
 mod owed;
 mod rule;
 
-pub use bundle::BundlePlace;
 pub use finding::Finding;
 pub use owed::Owed;
 pub use rule::Rule;
+pub use sfi_image::BundlePlace;

@@ -25,7 +25,7 @@ pub use Rattle.sfi_rules.specs.Pairs.{follows_data_pair, follows_pair, follows_c
 pub use Rattle.sfi_rules.specs.Readings.{Piece, IsReading, IsLongestReading, rest_of}
 pub use Rattle.sfi_rules.specs.Rules.{Place, may_access, is_last_bundle, is_bundle_start, is_empty, breaks_ecall}
 pub use Rattle.sfi_scan.specs.declared.before.Before.{Before}
-pub use Rattle.sfi_rules.specs.declared.bundle.BundlePlace.{BundlePlace}
+pub use Rattle.sfi_image.specs.declared.bundle.BundlePlace.{BundlePlace}
 pub use Rattle.sfi_rules.specs.declared.finding.Finding.{Finding}
 pub use Rattle.sfi_rules.specs.declared.rule.Rule.{Rule}
 pub use Rattle.sfi_scan.specs.private.Block.{AreStarts, AreAfterTwo, offset, words_from, IsSpelledAt, IsCleanIn, IsCleanAt, IsWritten, IsOfWrite, AreThreeWords, IsWithout}

@@ -10,7 +10,7 @@ use Rattle.rv_word.specs.Lengths.{length_of}
 use Rattle.rv_comp.specs.declared.front.Front.{Front}
 use Rattle.rv_comp.specs.declared.front.Front.TheVariants.{Read, Short, Bad}
 use Rattle.rv_comp.specs.Fronts.{Spells, IsCutShort, IsFront}
-use Rattle.sfi_rules.specs.declared.bundle.BundlePlace.{BundlePlace}
+use Rattle.sfi_image.specs.declared.bundle.BundlePlace.{BundlePlace}
 use Rattle.sfi_rules.specs.Readings.{Piece, IsReading, IsLongestReading, rest_of}
 use Rattle.sfi_rules.specs.Rules.{is_empty}
 use Rattle.sfi_rules.proofs.Readings.{front_one}

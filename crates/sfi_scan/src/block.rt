@@ -4,7 +4,7 @@ ghost use Rattle.std.specs.Bool.{OnTrue};
 ghost use Rattle.sfi_masks.specs.Masks.{is_in, IsFreeAccess, word_at as block_word};
 ghost use Rattle.sfi_policy.specs.Formats.{has_stack};
 ghost use Rattle.sfi_scan.specs.declared.before.Before.{Before};
-ghost use Rattle.sfi_rules.specs.declared.bundle.BundlePlace.{BundlePlace};
+ghost use Rattle.sfi_image.specs.declared.bundle.BundlePlace.{BundlePlace};
 ghost use Rattle.sfi_rules.specs.Bundles.{IsWithin, IsWithinBlock, bundle_at, block_bundle};
 ghost use Rattle.sfi_rules.specs.Findings.{AreReadingFindings};
 ghost use Rattle.sfi_scan.specs.private.Block.{AreStarts, AreAfterTwo, AreThreeWords, IsWithout, IsWritten, IsOfWrite, offset, words_from, IsCleanAt};

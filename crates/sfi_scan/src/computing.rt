@@ -2,7 +2,7 @@
 ghost use Rattle.std.specs.Prelude.{◌≡◌, not};
 ghost use Rattle.std.specs.Bool.{OnTrue};
 ghost use Rattle.sfi_policy.specs.Formats.{has_stack};
-ghost use Rattle.sfi_rules.specs.declared.bundle.BundlePlace.{BundlePlace};
+ghost use Rattle.sfi_image.specs.declared.bundle.BundlePlace.{BundlePlace};
 ghost use Rattle.sfi_scan.specs.private.FirstLook.{IsFreeHalf};
 
 use crate::rules::STACK;

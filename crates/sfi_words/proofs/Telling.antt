@@ -6,7 +6,7 @@ use Rattle.rv_word.specs.declared.instr.Instr.{Instr}
 use Rattle.rv_comp.specs.Fronts.{Spells}
 use Rattle.sfi_image.specs.Spelling.{Part}
 use Rattle.sfi_image.specs.Gates.{is_gate_of}
-use Rattle.sfi_rules.specs.declared.bundle.BundlePlace.{BundlePlace}
+use Rattle.sfi_image.specs.declared.bundle.BundlePlace.{BundlePlace}
 use Rattle.sfi_rules.specs.Readings.{Piece, IsReading, IsLongestReading, rest_of}
 use Rattle.sfi_rules.specs.Rules.{is_empty, ends_region}
 use Rattle.sfi_words.specs.Code.{BreakNone, AreWordsClean}

@@ -1,32 +1,34 @@
 -- One step and more of a reader with its tally: words of private contracts.
 use Rattle.std.specs.Prelude.{◌≡◌, ℕ, ◌-◌, ◌<◌, ◌≤◌, ◌⊎◌, List, ◌++◌, length, take, Option, Some, None}
 use Rattle.sfi_image.specs.declared.want.Next.TheVariants as next
-use Rattle.sfi_image.specs.declared.want.Want.{Want}
-use Rattle.sfi_image.specs.declared.want.Want.TheVariants as wants
-use Rattle.sfi_image.specs.Fronts.{HasFaultNumberWhateverFollows}
-use Rattle.sfi_image.specs.Keeping.{ReaderState, left}
+use Rattle.sfi_image.specs.Fronts.{Front, front, HasFaultNumberWhateverFollows}
+use Rattle.sfi_image.specs.Keeping.{ReaderState, StandsFor, Leads, left}
 use Rattle.sfi_rules.specs.declared.finding.Finding.{Finding}
-use Rattle.sfi_rules.specs.declared.bundle.BundlePlace.{BundlePlace}
 use Rattle.sfi_check.specs.declared.tally.Tally.{Tally}
 use Rattle.sfi_check.specs.declared.stream_answer.StreamAnswer.{StreamAnswer}
 use Rattle.sfi_check.specs.declared.stream_answer.StreamAnswer.TheVariants as answers
-use Rattle.sfi_check.specs.declared.progress.Step.{Step}
-use Rattle.sfi_check.specs.declared.progress.Step.TheVariants as steps
-use Rattle.sfi_check.specs.declared.progress.Progress.{Progress}
-use Rattle.sfi_check.specs.declared.progress.Progress.TheVariants as ways
+use Rattle.sfi_check.specs.declared.ends.StepEnd.{StepEnd}
+use Rattle.sfi_check.specs.declared.ends.StepEnd.TheVariants as steps
+use Rattle.sfi_check.specs.declared.ends.PieceEnd.{PieceEnd}
+use Rattle.sfi_check.specs.declared.ends.PieceEnd.TheVariants as ways
 use Rattle.sfi_check.specs.Tallies.{IsSoFar, IsCut}
-
--- the bundle at that place is wanted
-abbrev pub want_at : BundlePlace → Want
-want_at b = wants.Bundle b.sandbox b.address b.format b.code_base b.code_size b.listed
 
 -- `told` holds of some findings
 abbrev pub IsTold : (List Finding → Type 0) → Type 0
 IsTold told = (found : List Finding) × told found
 
+-- the reader took these bytes, or they have a fault with all before them
+abbrev pub IsTakenOff : ReaderState → ReaderState → List ℕ → StepEnd → Type 0
+IsTakenOff old new bytes (steps.Took n) =
+    (n ≡ length bytes) × ((x : Front) → StandsFor old x → Leads x bytes new) × (left new < left old)
+IsTakenOff old new bytes (steps.Fault k) =
+    (x : Front) → StandsFor old x → HasFaultNumberWhateverFollows (front x ++ bytes) k
+IsTakenOff old new bytes steps.Short = ⊥
+IsTakenOff old new bytes steps.Whole = ⊥
+
 -- one step on the bytes that follow those so far
 abbrev pub Steps : (List Finding → Type 0) → ReaderState → ReaderState → Tally → List ℕ → List ℕ
-    → Step → Type 0
+    → StepEnd → Type 0
 Steps told old new t so_far rest (steps.Took n) =
     (1 ≤ n) × (n ≤ length rest) × IsSoFar told new t (so_far ++ take n rest) × (left new < left old)
 Steps told old new t so_far rest steps.Short =
@@ -37,7 +39,7 @@ Steps told old new t so_far rest (steps.Fault k) =
 
 -- all steps on a piece that follows the bytes so far
 abbrev pub Goes : (List Finding → Type 0) → ReaderState → ReaderState → Tally → List ℕ → List ℕ
-    → Progress → Type 0
+    → PieceEnd → Type 0
 Goes told old new t so_far rest (ways.More n) =
     (n ≤ length rest) × IsSoFar told new t (so_far ++ take n rest) × IsCut new (length rest - n)
     × ((left new < left old) ⊎ ((n ≡ 0) × (left new ≤ left old)))

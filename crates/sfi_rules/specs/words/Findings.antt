@@ -8,7 +8,7 @@ use Rattle.rv_word.specs.Writes.{destination, writes_register}
 use Rattle.sfi_policy.specs.Limits.{bundle_size, word_size}
 use Rattle.sfi_policy.specs.Registers.{is_data_register, code_register}
 use Rattle.sfi_image.specs.Spelling.{Part}
-use Rattle.sfi_rules.specs.declared.bundle.BundlePlace.{BundlePlace}
+use Rattle.sfi_image.specs.declared.bundle.BundlePlace.{BundlePlace}
 use Rattle.sfi_rules.specs.declared.finding.Finding.{Finding}
 use Rattle.sfi_rules.specs.declared.rule.Rule.{Rule}
 use Rattle.sfi_rules.specs.declared.rule.Rule.TheVariants.{V1, V2, V3, V4, V5, V6, V7, V8, V9, V10, V11, V12}

@@ -6,7 +6,7 @@ use Rattle.rv_word.specs.declared.instr.Instr.{Instr}
 use Rattle.rv_comp.specs.Halfwords.{IsShortSpelling}
 use Rattle.sfi_masks.specs.Masks.{is_in}
 use Rattle.sfi_rules.specs.Bundles.{bundle_at, block_bundle}
-use Rattle.sfi_rules.specs.declared.bundle.BundlePlace.{BundlePlace}
+use Rattle.sfi_image.specs.declared.bundle.BundlePlace.{BundlePlace}
 use Rattle.sfi_scan.specs.private.FirstLook.{half_at, word_at, AreWordsFrom, IsCleanOne, IsStackWrite, AreStackPair}
 
 -- Instructions begin at the starts, from each bundle's first halfword on, one behind another; those

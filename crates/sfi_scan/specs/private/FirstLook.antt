@@ -11,7 +11,7 @@ use Rattle.rv_word.specs.Spelling.{IsWordOf}
 use Rattle.rv_comp.specs.Halfwords.{IsHalfwordThat}
 use Rattle.sfi_policy.specs.Formats.{is_stack}
 use Rattle.sfi_scan.specs.declared.before.Before.{Before}
-use Rattle.sfi_rules.specs.declared.bundle.BundlePlace.{BundlePlace}
+use Rattle.sfi_image.specs.declared.bundle.BundlePlace.{BundlePlace}
 use Rattle.sfi_scan.specs.declared.clean.Words.{Words}
 use Rattle.sfi_scan.specs.private.Near.{near}
 use Rattle.sfi_policy.specs.Registers.{data_base_register, data_mask_register, is_reserved, stack_pointer}

@@ -1,6 +1,6 @@
 -- Where bytes lie in a bundle's code region.
 use Rattle.std.specs.Prelude.{◌+◌, ◌≤◌, ℕ}
-use Rattle.sfi_rules.specs.declared.bundle.BundlePlace.{BundlePlace}
+use Rattle.sfi_image.specs.declared.bundle.BundlePlace.{BundlePlace}
 
 -- so many bytes at the address lie in the code region
 pub record IsInside (b : BundlePlace) (address size : ℕ) : Type 0 where

@@ -1,7 +1,7 @@
 -- Words of private contracts: the scan of a stretch, front by front.
 use Rattle.std.specs.Prelude.{◌≡◌, ◌*◌, ◌≤◌, ℕ, List, length}
 use Rattle.sfi_policy.specs.Limits.{bundle_size}
-use Rattle.sfi_rules.specs.declared.bundle.BundlePlace.{BundlePlace}
+use Rattle.sfi_image.specs.declared.bundle.BundlePlace.{BundlePlace}
 use Rattle.sfi_rules.specs.declared.finding.Finding.{Finding}
 use Rattle.sfi_scan.specs.Stretches.{IsScanned}
 

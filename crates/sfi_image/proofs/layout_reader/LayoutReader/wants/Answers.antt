@@ -11,5 +11,5 @@ returns-in-Code-clause-want c =
     let r = kept c.self.inside in
     let listed : c.is_first_after.result ≡ is_first (drop r.passed r.gates) (r.fields.code_base + r.code_read) =
     c.is_first_after.ensures ∙ ap (λ (l : List ℕ). is_first (drop r.passed l) (r.fields.code_base + r.code_read)) c.as_slice.ensures in
-    λ x h. ap (λ (b : Bool). wants.Bundle (r.begun - 1) (r.fields.code_base + r.code_read) r.fields.format r.fields.code_base r.fields.code_size b) listed
+    λ x h. ap (λ (b : Bool). wants.Bundle (record { sandbox = r.begun - 1; address = r.fields.code_base + r.code_read; format = r.fields.format; code_base = r.fields.code_base; code_size = r.fields.code_size; listed = b })) listed
     ∙ wants_bundle r x (subst (λ (r : ReaderState). StandsFor r x) (sym c.self.view_is) h) c.in-Code.is

@@ -1,8 +1,8 @@
-//! How far bytes lead a reader.
+//! How steps on bytes end.
 
-/// One step.
+/// How one step ends.
 #[derive(Clone, Copy)]
-pub(crate) enum Step {
+pub(crate) enum StepEnd {
     /// It took so many bytes.
     Took(usize),
     /// More bytes are wanted than there are.
@@ -13,9 +13,9 @@ pub(crate) enum Step {
     Fault(u32),
 }
 
-/// All steps on a piece.
+/// How the steps on a piece end.
 #[derive(Clone, Copy)]
-pub(crate) enum Progress {
+pub(crate) enum PieceEnd {
     /// More bytes are wanted than there are after so many.
     More(usize),
     /// The image is whole after so many.
