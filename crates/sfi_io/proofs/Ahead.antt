@@ -199,7 +199,7 @@ leads (Some a) (Some b) bytes on = leads_by (outcome a) (outcome b) bytes (outco
 
 -- ---- stops
 
-keeps_limit : (a : Ahead) → a.whole ≤ limit → outcome a ≡ or_fault (decode_from a.place a.digits)
+pub keeps_limit : (a : Ahead) → a.whole ≤ limit → outcome a ≡ or_fault (decode_from a.place a.digits)
 keeps_limit a few =
     let small : nat_lt limit a.whole ≡ false = grind (arith, nat_tests, few) in
     ap (λ (b : Bool). if b then Err TooLarge else or_fault (decode_from a.place a.digits)) small
@@ -301,15 +301,13 @@ left_after piece at end taken inside =
     let parts : end - at ≡ taken + (end - (at + taken)) = omega (arith, inside) in
     ap (λ (n : ℕ). drop taken (take n (drop at piece))) parts ∙ drop-take taken (end - (at + taken)) (drop at piece) ∙ ap (take (end - (at + taken))) (drop-drop taken at piece)
 
-pub advanced : (first : Option Ahead) (read made m at end taken : ℕ) (high next : Option ℕ) (piece buf : List ℕ) (known : Option (List ℕ)) → at ≤ end → taken ≤ length (take (end - at) (drop at piece)) → m ≤ length buf
-    → GoesOn first (ahead_of read made high (take (end - at) (drop at piece)) known) []
+pub advanced : (read made m at end taken : ℕ) (high next : Option ℕ) (piece buf : List ℕ) (known : Option (List ℕ)) → at ≤ end → taken ≤ length (take (end - at) (drop at piece)) → m ≤ length buf
     → SpellsFront (waiting high (filter is_kept (take (end - at) (drop at piece)))) (waiting next (filter is_kept (drop taken (take (end - at) (drop at piece))))) (take m buf)
-    → GoesOn first (ahead_of read (made + m) next (take (end - (at + taken)) (drop (at + taken) piece)) known) (take m buf)
-advanced first read made m at end taken high next piece buf known start most room on spells =
+    → GoesOn (ahead_of read made high (take (end - at) (drop at piece)) known) (ahead_of read (made + m) next (take (end - (at + taken)) (drop (at + taken) piece)) known) (take m buf)
+advanced read made m at end taken high next piece buf known start most room spells =
     let inside : at + taken ≤ end = omega (arith, start, most, length-take (end - at) (drop at piece)) in
     let step = decoded_on read made m high next (take (end - at) (drop at piece)) (drop taken (take (end - at) (drop at piece))) (take m buf) known (length-take-le m buf room) spells in
-    let there = subst (λ (l : List ℕ). GoesOn (ahead_of read made high (take (end - at) (drop at piece)) known) (ahead_of read (made + m) next l known) (take m buf)) (left_after piece at end taken inside) step in
-    goes_more first _ _ [] (take m buf) on there
+    subst (λ (l : List ℕ). GoesOn (ahead_of read made high (take (end - at) (drop at piece)) known) (ahead_of read (made + m) next l known) (take m buf)) (left_after piece at end taken inside) step
 
 -- where it made nothing
 pub made_nothing : (a b c : Option Ahead) (made : ℕ) (buf : List ℕ) → made ≡ 0 → GoesOn a b (take made buf) → GoesOn b c [] → GoesOn a c []

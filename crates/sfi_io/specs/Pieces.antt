@@ -49,8 +49,8 @@ abbrev pub prepend : {E : Type 0} → List ℕ → Result (List ℕ) E → Resul
 prepend bytes (Ok others) = Ok (bytes ++ others)
 prepend bytes (Err e) = Err e
 
--- what is known to come of a text stays so, once these bytes were taken; after a read that failed
--- nothing is said
+-- if it was known what comes of a text, it still is after these bytes were read: what came first is these
+-- bytes and then what comes now. After a failed read nothing is said
 abbrev pub Leads :
     Option (Result (List ℕ) TextStop) → Option (Result (List ℕ) TextStop) → List ℕ → Type 0
 Leads None after bytes = Unit {0}
@@ -77,6 +77,6 @@ abbrev pub to_come :
     {R : Type 0} → (R → Option (List ℕ)) → HexReader R → Option (Result (List ℕ) TextStop)
 to_come remaining r = option_map outcome (ahead remaining r)
 
--- the most bytes that it may still give
+-- an upper bound of the number of bytes that the text still gives
 abbrev pub most_to_come : {R : Type 0} → HexReader R → ℕ
 most_to_come r = limit - r.held.made

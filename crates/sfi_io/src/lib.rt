@@ -5,6 +5,7 @@
 mod front;
 mod hexadecimal;
 mod input;
+pub mod laws;
 mod output;
 mod text;
 

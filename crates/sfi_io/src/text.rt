@@ -83,7 +83,7 @@ pub struct HexReader<'a, R: Read> {
 }
 
 impl<'a, R: Read> HexReader<'a, R> {
-    ghost use Rattle.std.specs.Prelude.{◌≡◌, ◌<◌, ℕ, [], Some, Ok, Err, IfErr, IfOk, IfSome, IsOk, length, option_map, take};
+    ghost use Rattle.std.specs.Prelude.{◌≡◌, ◌<◌, ◌⊎◌, ℕ, [], Some, Ok, Err, IfErr, IfOk, IfSome, IsOk, length, option_map, take};
     ghost use Rattle.sfi_io.specs.Pieces.{ahead, most_to_come, outcome, start_of, to_come, Leads};
     ghost use Rattle.sfi_io.specs.private.Pieces.{AreLeft, ComesNoPair, GoesOn, IsOver, IsReadStop, IsStopOf};
 
@@ -179,6 +179,28 @@ impl<'a, R: Read> HexReader<'a, R> {
         }
     }
 
+    /// Decodes what is held, and writes its bytes to the front of `buf`. Says how many: it stops where
+    /// `buf` is full, where nothing is held any more, or before what is no pair.
+    fn decode_held(&mut self, buf: &mut [u8]) -> usize
+        ensures bound { result ≤ length buf.new }
+        ensures size { length buf.new ≡ length buf.old }
+        ensures on { GoesOn (ahead R.remaining self.old) (ahead R.remaining self.new)
+            (take result buf.new) }
+        ensures made { self.new.held.made ≡ self.old.held.made + result }
+        ensures read { self.new.held.read ≡ self.old.held.read }
+        ensures stops { self.new.held.at < self.new.held.end → (result ≡ length buf.new)
+            ⊎ ((high : ℕ) × (low : ℕ) × (self.new.held.high ≡ Some high)
+            × ComesNoPair (ahead R.remaining self.new) high low) }
+    {
+        let front = decode_front(
+            self.held.high,
+            &self.held.piece[self.held.at..self.held.end],
+            buf,
+        );
+        self.held.advance(front.taken, front.made, front.high);
+        front.made
+    }
+
     /// Writes the next bytes to the front of `buf`, and says how many: none only at the text's end,
     /// unless `buf` is empty. A text is read to its end or past its limit before a fault of it is said,
     /// and no more is to be read of it then.
@@ -194,14 +216,9 @@ impl<'a, R: Read> HexReader<'a, R> {
         ensures fewer { IfOk result (λ n. most_to_come self.new + n ≤ most_to_come self.old) }
     {
         loop {
-            let front = decode_front(
-                self.held.high,
-                &self.held.piece[self.held.at..self.held.end],
-                buf,
-            );
-            self.held.advance(front.taken, front.made, front.high);
-            if front.made > 0 || buf.is_empty() {
-                return Ok(front.made);
+            let count = self.decode_held(buf);
+            if count > 0 || buf.is_empty() {
+                return Ok(count);
             }
             if self.held.at < self.held.end {
                 return Err(self.fault());
