@@ -3,9 +3,9 @@ mod plugin;
 
 use crate::store::Store;
 use rv_mem::{Memory, Pages};
+use sfi_build::build;
 use sfi_check::check;
 use sfi_host::{RunAnswer, Status, Turn, World};
-use sfi_link::build;
 use std::test::Fail;
 
 // The first puts 42 under the key 7, and exits with what put answers. The second asks for the key

@@ -1,8 +1,8 @@
 -- What is answered on a source text of which nothing is made.
 use Rattle.std.proofs.Common.{◌≡◌, ◌⊎◌, ℕ, List, Result, Err, refl, sym, subst, inl, inr}
 use Rattle.std.specs.Prelude.{IsErrAnd}
-use Rattle.sfi_link.specs.declared.build_fault.BuildFault.{BuildFault}
-use Rattle.sfi_link.specs.Texts.{IsBuildFault, IsWantOfMemory}
+use Rattle.sfi_build.specs.declared.build_fault.BuildFault.{BuildFault}
+use Rattle.sfi_build.specs.Texts.{IsBuildFault, IsWantOfMemory}
 use Rattle.sfi_place.specs.declared.place.Place.{Place}
 use Rattle.sfi_answers.specs.commands.Building.{of_source}
 use Rattle.sfi_answers.specs.Answers.{Answers}

@@ -9,7 +9,7 @@ ghost use Rattle.sfi_answers.specs.commands.Building.{IsSourceText, build, map};
 use crate::fault::{InputFault, Stop};
 use crate::map_lines::map_lines;
 use crate::verdict::{Answer, digits_line};
-use sfi_link::{build_at, names_at};
+use sfi_build::{build_at, names_at};
 use sfi_place::Place;
 use std::alloc::Global;
 

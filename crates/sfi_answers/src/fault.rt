@@ -8,9 +8,10 @@ ghost use Rattle.sfi_answers.specs.declared.fault.Stop.TheVariants.{Memory};
 
 use crate::verdict::Answer;
 use rv_text::{TextCause, TextFault};
+use sfi_build::BuildFault;
 use sfi_image::{ImageFault, LayoutFault};
 use sfi_io::{HexFault, HexStop};
-use sfi_link::{BuildFault, LinkFault};
+use sfi_link::LinkFault;
 use sfi_rewrite::RewriteFault;
 use std::alloc::{AllocError, Global};
 

@@ -17,6 +17,4 @@ pub mod Pushed
 pub mod Linking
 pub mod SomeLinking
 pub mod Usual
-pub mod Building
 pub mod Mapping
-pub mod SomeBuilding

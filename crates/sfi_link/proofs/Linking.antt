@@ -2,7 +2,7 @@
 use Rattle.sfi_link.proofs.Prelude.{◌≡◌, ℕ, zero, suc, ◌+◌, ◌-◌, ◌*◌, ◌/◌, ◌^◌, ◌<◌, ◌≤◌, List, [], ◌∷◌, ◌++◌, length, take, drop, get_or, replicate, refl, sym, ap, ◌∙◌, subst, arith, append_assoc, append-nil, length-append, inl, inr, Vec, Global, max, map, Result, Ok, Err, IfOk, All, AllPairs, repeat, cases_lt, length-map, length-take-le, map_push, All-nil, Format, code_most, Sandbox, Span, Part, fields_of, stub, PlacedName, size_of, slots_of, Placement, IsPlacedPart, IsPlacedThere, Place, Bases, LinkFault, place_of, IsRightPlace, spans_at, AreApart, spans, spans_of, bases_of, AreSlots, c_ebreak, needed, HasRoom, IsCodeSize, gates_from, IsLinkedCode, IsLinked, AreLinkedFrom, AreLinked, MayLie, IsSlotFault, HasPartFault, IsPartFault, IsLinkFault, IsNear, AreNear, HasRoomFor, AreWritten, LiesBeside, IsCodeBeside, AreCodes, Links}
 use Rattle.rv_source.specs.declared.item.SourceGate.{SourceGate}
 use Rattle.sfi_image.specs.Bounded.{IsBounded}
-use Rattle.sfi_link.specs.Answers.{UnlessMemory, AnswersBytes, AnswersFault}
+use Rattle.sfi_link.specs.Answers.{UnlessMemory, AnswersItems, AnswersFault}
 use Rattle.sfi_link.specs.Building.{IsLinkedImage, ArePlacements, IsBuild}
 use Rattle.sfi_policy.specs.declared.format.Format.TheVariants.{Sfi1, Sfi2, Sfiw}
 use Rattle.std.proofs.Math.Nat.{pow-suc}
@@ -303,7 +303,7 @@ never given placed bytes f image has =
     let most = image.image.layout.at_most in
     never_both given placed image.parts f (omega arith) image.linked has
 
-pub only_image : (given : List Place) → (placed : List Placement) (r : Result (Vec ℕ Global) LinkFault) → Links (λ v. IsLinkedImage given placed v.items) (IsLinkFault given placed) r → (bytes : List ℕ) → IsLinkedImage given placed bytes → AnswersBytes bytes r
+pub only_image : (given : List Place) → (placed : List Placement) (r : Result (Vec ℕ Global) LinkFault) → Links (λ v. IsLinkedImage given placed v.items) (IsLinkFault given placed) r → (bytes : List ℕ) → IsLinkedImage given placed bytes → AnswersItems bytes r
 only_image given placed (Ok v) h bytes image = one_bytes given placed v.items bytes h image
 only_image given placed (Err f) h bytes image = elim (memory_or (IsLinkFault given placed) f h) [ inl memory ↦ memory | inr fault ↦ absurd (never given placed bytes f image fault) ]
 

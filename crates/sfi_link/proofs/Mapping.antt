@@ -1,11 +1,7 @@
--- A text has one map.
-use Rattle.sfi_link.proofs.Prelude.{◌≡◌, ℕ, zero, suc, ◌+◌, ◌<◌, List, [], ◌∷◌, ◌++◌, length, take, get_or, refl, sym, subst, ap, ◌∙◌, arith, Some, None, ◌⊎◌, inl, inr, Vec, Global, slice_get, Result, Ok, Err, IfOk, IfErr, Sandbox, PlacedName, Placement, Bases, Place, bases_of, Part, IsLinked, AreLinkedFrom, MapEntry, kind_of, entry_of, entries_of, texts_of, map_from, IsTextMap, AnswersMap, AnswersMapFault}
+-- The map of a source, name by name.
+use Rattle.sfi_link.proofs.Prelude.{◌≡◌, ℕ, zero, suc, ◌+◌, ◌<◌, ◌≤◌, List, [], ◌∷◌, ◌++◌, length, take, get_or, refl, sym, subst, ap, ◌∙◌, arith, Some, None, slice_get, Sandbox, PlacedName, Placement, Bases, Place, bases_of, Part, IsLinked, AreLinkedFrom, MapEntry, kind_of, entry_of, entries_of, texts_of, map_from}
 use Rattle.sfi_link.specs.Addresses.{address_of}
-use Rattle.sfi_link.specs.Texts.{IsBuildFault, IsWantOfMemory}
-use Rattle.sfi_link.specs.declared.build_fault.BuildFault.{BuildFault}
 use Rattle.std.proofs.lemmas.List.{append-nil, append_assoc}
-use Rattle.rv_text.proofs.Facts.{one_source}
-use Rattle.sfi_link.proofs.Building.{same_placed, never_built, one_build_fault}
 
 -- ---- the names of one sandbox
 
@@ -62,6 +58,15 @@ map_more given number (suc k) n (t ∷ source) (q ∷ placed) s p e lt within is
     ap (λ l. front ++ l) (map_more given (number + 1) k n source placed s p (omega arith) (omega arith) (omega arith) is there)
     ∙ sym (append_assoc front (map_from given (number + 1) source (take k placed)) (entries_of n (bases_of given n p) (texts_of s) p.names))
 
+-- where there is no sandbox
+pub map_end : (given : List Place) (number k : ℕ) (source : List Sandbox) (placed : List Placement) → k < length placed
+    → length source ≤ k → map_from given number source (take (suc k) placed) ≡ map_from given number source (take k placed)
+map_end given number k [] placed lt there = refl
+map_end given number k (s ∷ source) [] lt there = absurd (omega arith)
+map_end given number zero (s ∷ source) (q ∷ placed) lt there = absurd (omega arith)
+map_end given number (suc k) (s ∷ source) (q ∷ placed) lt there =
+    ap (λ l. entries_of number (bases_of given number q) (texts_of s) q.names ++ l) (map_end given (number + 1) k source placed (omega arith) (omega arith))
+
 -- the sandbox of the image that the one at a place makes
 pub linked_at : (given : List Place) (number k n : ℕ) (ps : List Placement) (qs : List Part) (p : Placement) → n ≡ number + k → k < length ps → p ≡ get_or ps k p → AreLinkedFrom given number ps qs
     → (q : Part) × IsLinked given n p q
@@ -71,25 +76,3 @@ linked_at given number zero n (r ∷ ps) (q ∷ qs) p e lt is all =
     let same : number ≡ n = omega arith in
     (q, subst (λ x. IsLinked given n x q) (sym is) (subst (λ m. IsLinked given m r q) same all.0))
 linked_at given number (suc k) n (r ∷ ps) (q ∷ qs) p e lt is all = linked_at given (number + 1) k n ps qs p (omega arith) (omega arith) is all.1
-
--- ---- one map, or one fault
-
-one_map : (given : List Place) (text : List ℕ) (xs ys : List MapEntry) → IsTextMap given text xs → IsTextMap given text ys → xs ≡ ys
-one_map given text xs ys a b =
-    let source = one_source text a.build.source b.build.source a.build.means b.build.means in
-    let placed =
-    same_placed text a.build.source b.build.source a.build.placed b.build.placed a.build.means b.build.means a.build.rewritten b.build.rewritten in
-    a.entries_are ∙ ap (λ s. map_from given 0 s a.build.placed) source ∙ ap (λ p. map_from given 0 b.build.source p) placed ∙ sym b.entries_are
-
-pub only_mapped : (given : List Place) (text : List ℕ) (r : Result (Vec MapEntry Global) BuildFault) → IfOk r (λ v. IsTextMap given text v.items) → IfErr r (λ f. IsWantOfMemory f ⊎ IsBuildFault given text f) → (entries : List MapEntry) → IsTextMap given text entries → AnswersMap entries r
-only_mapped given text (Ok v) h wrong entries is = one_map given text v.items entries h is
-only_mapped given text (Err f) ok (inl h) entries is = h
-only_mapped given text (Err f) ok (inr h) entries is =
-    absurd (never_built given text is.bytes f is.build h)
-
-pub only_map_fault : (given : List Place) (text : List ℕ) (r : Result (Vec MapEntry Global) BuildFault) → IfOk r (λ v. IsTextMap given text v.items) → IfErr r (λ f. IsWantOfMemory f ⊎ IsBuildFault given text f) → (f : BuildFault) → IsBuildFault given text f → AnswersMapFault f r
-only_map_fault given text (Ok v) h wrong f is =
-    absurd (never_built given text h.bytes f h.build is)
-only_map_fault given text (Err g) ok (inl h) f is = inr h
-only_map_fault given text (Err g) ok (inr h) f is =
-    inl (one_build_fault given text g f h is)

@@ -1,18 +1,13 @@
 -- Sandboxes at their usual places never meet, so none has a fault of its place.
-use Rattle.sfi_link.proofs.Prelude.{◌≡◌, ◌⊎◌, ℕ, ◌+◌, ◌-◌, ◌*◌, ◌^◌, ◌<◌, ◌≤◌, Vec, Global, Result, Err, IfErr, List, [], ◌∷◌, ◌++◌, length, get_or, sym, ap, ◌∙◌, subst, arith, inl, inr, All, AllPairs, All-nil, All-cons, All-head, All-tail, All-append, Span, Part, AreApart, spans, with_guards, Slot, Wide, Short, Jump, Upper, Lower, PlacedName, slot_size, Placement, IsPlacedPart, IsPlaced, Bases, LinkFault, Place, IsRightPlace, spans_at, needed, HasRoom, IsCodeSize, IsLinked, MayLie, HasSlotFault, IsSlotFault, HasPartFault, IsPartFault, IsLinkFault, Links}
+use Rattle.sfi_link.proofs.Prelude.{◌≡◌, ℕ, ◌+◌, ◌-◌, ◌*◌, ◌^◌, ◌<◌, ◌≤◌, Vec, Global, Result, Err, List, [], ◌∷◌, ◌++◌, length, get_or, sym, ap, ◌∙◌, subst, arith, inl, inr, All, AllPairs, All-nil, All-cons, All-head, All-tail, All-append, Span, Part, AreApart, spans, with_guards, Slot, Wide, Short, Jump, Upper, Lower, PlacedName, slot_size, Placement, IsPlacedPart, IsPlaced, Bases, LinkFault, Place, IsRightPlace, spans_at, needed, HasRoom, IsCodeSize, IsLinked, MayLie, HasSlotFault, IsSlotFault, HasPartFault, IsPartFault, IsLinkFault, Links}
 use Rattle.std.specs.Prelude.{◌≢◌}
 use Rattle.std.proofs.lemmas.Nat.{pow-add}
 use Rattle.sfi_place.specs.Places.{usual}
 use Rattle.sfi_image.proofs.Bundles.{exponent_le}
 use Rattle.sfi_image.proofs.Formats.{code_at_most}
 use Rattle.sfi_image.proofs.SpanLists.{pairs_of_two}
-use Rattle.rv_text.proofs.Facts.{sources_are_right}
-use Rattle.sfi_rewrite.proofs.Facts.{rewritten_is_placed}
 use Rattle.sfi_link.specs.Building.{IsLinkedImage}
 use Rattle.sfi_link.specs.Laws.{UsualPlacesAreFree}
-use Rattle.sfi_link.specs.Texts.{IsBuildFault, IsWantOfMemory}
-use Rattle.sfi_link.specs.declared.build_fault.BuildFault.{BuildFault}
-use Rattle.sfi_link.specs.declared.build_fault.BuildFault.TheVariants.{Link}
 use Rattle.sfi_link.specs.declared.fault.LinkFault.TheVariants as fault
 use Rattle.sfi_link.proofs.OneLinking.{own_spans}
 use Rattle.sfi_link.proofs.SomeLinking.{size_or_none}
@@ -144,13 +139,3 @@ pub never_place : (given : List Place) (placed : List Placement) (r : Result (Ve
     → given ≡ [] → (k : ℕ) → r ≢ Err (fault.Place k)
 never_place given placed r is links none k e =
     usual_places_are_free placed k is (subst (λ g. IsLinkFault g placed (fault.Place k)) none (subst (Links (λ bytes. IsLinkedImage given placed bytes.items) (IsLinkFault given placed)) e links))
-
--- nor is what builds
-pub never_place_built : (given : List Place) (text : List ℕ) (r : Result (Vec ℕ Global) BuildFault) → IfErr r (λ f. IsWantOfMemory f ⊎ IsBuildFault given text f)
-    → given ≡ [] → (k : ℕ) → r ≢ Err (Link (fault.Place k))
-never_place_built given text r wrong none k e =
-    elim (subst (λ x. IfErr x (λ f. IsWantOfMemory f ⊎ IsBuildFault given text f)) e wrong) [
-      | inl memory ↦ cc
-      | inr (source, placed, means, rewritten, here) ↦
-          usual_places_are_free placed k (rewritten_is_placed source placed (sources_are_right text source means) rewritten) (subst (λ g. IsLinkFault g placed (fault.Place k)) none here)
-    ]

@@ -1,5 +1,5 @@
 -- What a linker answers, want of memory aside.
-use Rattle.std.specs.Prelude.{◌≡◌, ◌⊎◌, ℕ, List, Result, Ok, Err, Vec}
+use Rattle.std.specs.Prelude.{◌≡◌, ◌⊎◌, List, Result, Ok, Err, Vec}
 use Rattle.std.specs.Global.{Global}
 use Rattle.sfi_link.specs.declared.fault.LinkFault.{LinkFault}
 use Rattle.sfi_link.specs.declared.fault.LinkFault.TheVariants.{Memory}
@@ -9,10 +9,10 @@ abbrev pub UnlessMemory : (LinkFault → Type 0) → LinkFault → Type 0
 UnlessMemory P Memory = Unit {0}
 UnlessMemory P f = P f
 
--- the answer is these bytes, or memory ran out
-abbrev pub AnswersBytes : List ℕ → Result (Vec ℕ Global) LinkFault → Type 0
-AnswersBytes bytes (Ok v) = v.items ≡ bytes
-AnswersBytes bytes (Err f) = f ≡ Memory
+-- the answer is these, or memory ran out
+abbrev pub AnswersItems : {X : Type 0} → List X → Result (Vec X Global) LinkFault → Type 0
+AnswersItems items (Ok v) = v.items ≡ items
+AnswersItems items (Err f) = f ≡ Memory
 
 -- the answer is this fault, or memory ran out
 abbrev pub AnswersFault : {X : Type 0} → LinkFault → Result X LinkFault → Type 0

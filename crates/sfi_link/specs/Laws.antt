@@ -1,4 +1,4 @@
--- What holds of all that is placed, and of every text.
+-- What holds of all that is placed.
 use Rattle.std.specs.Prelude.{◌≡◌, ◌⊎◌, ℕ, ◌≤◌, List, [], length}
 use Rattle.sfi_image.specs.Spelling.{Part}
 use Rattle.sfi_image.specs.Parts.{IsRightLayout}
@@ -8,12 +8,10 @@ use Rattle.sfi_rewrite.specs.Placement.{Placement}
 use Rattle.sfi_rewrite.specs.Placed.{IsPlacedPart, IsPlaced}
 use Rattle.sfi_link.specs.declared.fault.LinkFault.{LinkFault}
 use Rattle.sfi_link.specs.declared.fault.LinkFault.TheVariants as fault
-use Rattle.sfi_link.specs.declared.build_fault.BuildFault.{BuildFault}
 use Rattle.sfi_link.specs.Linked.{IsLinked, AreLinked}
 use Rattle.sfi_link.specs.Building.{IsLinkedImage}
 use Rattle.sfi_policy.specs.Limits.{sandboxes_most}
 use Rattle.sfi_link.specs.Faults.{IsLinkFault}
-use Rattle.sfi_link.specs.Texts.{IsTextBuild, IsBuildFault}
 
 -- what is made of a placed sandbox breaks no rule
 abbrev pub LinkedIsClean : Type 0
@@ -61,9 +59,3 @@ SomeLinking = (given : List Place) (placed : List Placement) → IsPlaced placed
 abbrev pub UsualPlacesAreFree : Type 0
 UsualPlacesAreFree = (placed : List Placement) (sandbox : ℕ) → IsPlaced placed
     → IsLinkFault [] placed (fault.Place sandbox) → ⊥
-
--- each text has a build or a fault
-abbrev pub SomeBuilding : Type 0
-SomeBuilding = (given : List Place) (text : List ℕ)
-    → ((bytes : List ℕ) × IsTextBuild given text bytes)
-    ⊎ ((f : BuildFault) × IsBuildFault given text f)

@@ -6,7 +6,6 @@ pub mod Faults
 pub mod Building
 pub mod Answers
 pub mod Standing
-pub mod Texts
 pub mod Names
 pub mod Laws
 pub mod private

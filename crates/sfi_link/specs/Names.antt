@@ -1,17 +1,15 @@
--- The map of a text: the addresses of its gates and labels in the image that is built.
-use Rattle.std.specs.Prelude.{◌≡◌, ◌⊎◌, ℕ, ◌+◌, List, [], ◌∷◌, ◌++◌, map, Option, Some, None, Result, Ok, Err, Vec}
-use Rattle.std.specs.Global.{Global}
+-- The map of a source: the addresses of its gates and labels in the image that is linked.
+use Rattle.std.specs.Prelude.{◌≡◌, ℕ, ◌+◌, List, [], ◌∷◌, ◌++◌, map, Option, Some, None}
 use Rattle.rv_source.specs.Source.{Sandbox}
 use Rattle.sfi_place.specs.declared.place.Place.{Place}
 use Rattle.sfi_rewrite.specs.declared.placed.PlacedName.{PlacedName}
 use Rattle.sfi_rewrite.specs.declared.placed.PlacedName.TheVariants.{Gate, Code, Data, Unknown}
 use Rattle.sfi_rewrite.specs.Placement.{Placement}
 use Rattle.sfi_link.specs.declared.bases.Bases.{Bases}
-use Rattle.sfi_link.specs.declared.build_fault.BuildFault.{BuildFault}
 use Rattle.sfi_link.specs.declared.names.NameKind.{NameKind}
 use Rattle.sfi_link.specs.declared.names.NameKind.TheVariants as kind
 use Rattle.sfi_link.specs.Addresses.{address_of, bases_of}
-use Rattle.sfi_link.specs.Texts.{IsTextBuild, IsWantOfMemory}
+use Rattle.sfi_link.specs.Building.{IsLinkedImage}
 
 -- a gate or a label in an image: the number of its sandbox, counted from 0, its name, which of them
 -- it is, and the address that stands for it
@@ -57,20 +55,10 @@ map_from given number (s ∷ source) (p ∷ placed) =
     entries_of number (bases_of given number p) (texts_of s) p.names
     ++ map_from given (number + 1) source placed
 
--- the text has a build at the given places, and these are its gates and labels, with the addresses
--- that they have there
-pub record IsTextMap (given : List Place) (text : List ℕ) (entries : List MapEntry)
-    : Type 0 where
+-- what was placed of the source has an image at the given places, and these are the source's gates
+-- and labels, with the addresses that they have there
+pub record IsLinkedMap (given : List Place) (source : List Sandbox) (placed : List Placement)
+    (entries : List MapEntry) : Type 0 where
   pub bytes : List ℕ
-  pub build : IsTextBuild given text bytes
-  pub entries_are : entries ≡ map_from given 0 build.source build.placed
-
--- the answer is these, or memory ran out
-abbrev pub AnswersMap : List MapEntry → Result (Vec MapEntry Global) BuildFault → Type 0
-AnswersMap entries (Ok v) = v.items ≡ entries
-AnswersMap entries (Err f) = IsWantOfMemory f
-
--- the answer is this fault, or memory ran out
-abbrev pub AnswersMapFault : BuildFault → Result (Vec MapEntry Global) BuildFault → Type 0
-AnswersMapFault f (Ok v) = ⊥
-AnswersMapFault f (Err g) = (g ≡ f) ⊎ IsWantOfMemory g
+  pub image : IsLinkedImage given placed bytes
+  pub entries_are : entries ≡ map_from given 0 source placed

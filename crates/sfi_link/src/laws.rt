@@ -1,5 +1,5 @@
-//! What holds of all that is placed, and of every text. A call costs nothing.
-ghost use Rattle.sfi_link.specs.Laws.{LinkedIsClean, LinkedIsRight, OneLinking, OneImage, OneFault, NeverBoth, ImageHasNoFault, SomeLinking, UsualPlacesAreFree, SomeBuilding};
+//! What holds of all that is placed. A call costs nothing.
+ghost use Rattle.sfi_link.specs.Laws.{LinkedIsClean, LinkedIsRight, OneLinking, OneImage, OneFault, NeverBoth, ImageHasNoFault, SomeLinking, UsualPlacesAreFree};
 ghost use Rattle.sfi_link.specs.Standing.{LinkedRunsAs, LinkedImagesRunAs};
 
 /// What is made of a placed sandbox breaks no rule: its stubs, its whole expansions with addresses
@@ -40,10 +40,4 @@ pub fn usual_places_are_free()
 pub fn linked_runs_as()
     ensures items { LinkedRunsAs }
     ensures images { LinkedImagesRunAs }
-{}
-
-/// A text has a build, or a fault: [`build`](crate::build) answers the one that it is,
-/// unless memory runs out.
-pub fn some_building()
-    ensures { SomeBuilding }
 {}

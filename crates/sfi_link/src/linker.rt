@@ -14,7 +14,7 @@ ghost use Rattle.sfi_link.specs.Building.{IsLinkedImage, ArePlacements, IsBuild}
 ghost use Rattle.sfi_policy.specs.Limits.{bundle_size, gates_most, sandboxes_most};
 ghost use Rattle.sfi_link.specs.Faults.{IsPartFault, IsLinkFault};
 ghost use Rattle.sfi_link.specs.private.Near.{AreCodes, contents, Links};
-ghost use Rattle.sfi_link.specs.Answers.{UnlessMemory, AnswersBytes, AnswersFault};
+ghost use Rattle.sfi_link.specs.Answers.{UnlessMemory, AnswersItems, AnswersFault};
 
 use crate::bases::bases_of;
 use crate::code_region::linked_code;
@@ -151,7 +151,7 @@ pub fn link_at(alloc: Global, placed: &Placed, places: &[Place]) -> Result<Vec<u
 
     // What is placed gets it, want of memory aside.
     ensures only_image { (bytes : List ℕ)
-        → IsLinkedImage places.now placed.now bytes → AnswersBytes bytes result }
+        → IsLinkedImage places.now placed.now bytes → AnswersItems bytes result }
     ensures only_fault { (f : LinkFault)
         → IsLinkFault places.now placed.now f → AnswersFault f result }
 
@@ -176,7 +176,7 @@ pub fn link(alloc: Global, placed: &Placed) -> Result<Vec<u8>, LinkFault>
 
     // What is placed gets it, want of memory aside.
     ensures only_image { (bytes : List ℕ)
-        → IsLinkedImage [] placed.now bytes → AnswersBytes bytes result }
+        → IsLinkedImage [] placed.now bytes → AnswersItems bytes result }
     ensures only_fault { (f : LinkFault) → IsLinkFault [] placed.now f → AnswersFault f result }
 
     // Of too many sandboxes, whatever memory there is.

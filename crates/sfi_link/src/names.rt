@@ -1,28 +1,24 @@
-//! The addresses of a text's gates and labels in the image that is built.
-ghost use Rattle.std.specs.Prelude.{◌≡◌, ◌⊎◌, ◌<◌, ◌≤◌, ◌++◌, List, length, map, Err, IfOk, IfErr, OnOk};
+//! The addresses of a source's gates and labels in the image that is linked.
+ghost use Rattle.std.specs.Prelude.{◌≡◌, ◌≤◌, ◌++◌, List, length, map, IfOk, IfErr, OnOk};
 ghost use Rattle.std.specs.List.{All};
-ghost use Rattle.rv_text.specs.Texts.{most_bytes, first_line};
-ghost use Rattle.rv_text.specs.declared.cause.TextCause.TheVariants.{Limit};
 ghost use Rattle.sfi_policy.specs.Limits.{sandboxes_most};
 ghost use Rattle.sfi_rewrite.specs.Placed.{IsPlacedPart};
-ghost use Rattle.sfi_link.specs.declared.build_fault.BuildFault.{BuildFault};
-ghost use Rattle.sfi_link.specs.declared.build_fault.BuildFault.TheVariants.{Text, Link};
-ghost use Rattle.sfi_link.specs.Addresses.{address_of};
-ghost use Rattle.sfi_link.specs.Names.{MapEntry, kind_of, entry_of, entries_of, map_from, IsTextMap, AnswersMap, AnswersMapFault};
-ghost use Rattle.sfi_link.specs.Texts.{IsBuildFault, IsWantOfMemory};
 ghost use Rattle.sfi_image.specs.Spelling.{Part};
+ghost use Rattle.sfi_link.specs.declared.fault.LinkFault.{LinkFault};
+ghost use Rattle.sfi_link.specs.Addresses.{address_of};
+ghost use Rattle.sfi_link.specs.Answers.{UnlessMemory, AnswersItems, AnswersFault};
+ghost use Rattle.sfi_link.specs.Faults.{IsLinkFault};
 ghost use Rattle.sfi_link.specs.Linked.{AreLinkedFrom};
+ghost use Rattle.sfi_link.specs.Names.{MapEntry, kind_of, entry_of, entries_of, map_from, IsLinkedMap};
 ghost use Rattle.sfi_link.specs.private.Near.{IsNear, AreNear};
 
 use crate::address::address_of;
 use crate::bases::{Bases, bases_of};
-use crate::build_fault::BuildFault;
 use crate::fault::LinkFault;
 use crate::linker::link_at;
-use rv_source::{Names, SourcePart};
-use rv_text::parse_source;
+use rv_source::{Names, Source, SourcePart};
 use sfi_place::Place;
-use sfi_rewrite::{PlacedName, PlacedPart, rewrite};
+use sfi_rewrite::{Placed, PlacedName, PlacedPart};
 use std::alloc::{AllocError, Global};
 use std::marker::Model;
 
@@ -37,7 +33,7 @@ pub enum NameKind {
     Data,
 }
 
-/// A gate or a label of a text, with the address that it has in the image that is built.
+/// A gate or a label of a source, with the address that it has in the image that is linked.
 #[derive(Drop)]
 pub struct NameAddress {
     sandbox: u32,
@@ -149,57 +145,55 @@ fn push_names(
 }
 
 // The gates and labels of the sandboxes at these places, by what was placed of each.
-fn names_of(
+fn listed_names(
     alloc: Global,
     given: &[Place],
     source: &[SourcePart],
     placed: &[PlacedPart],
-) -> Result<Vec<NameAddress>, LinkFault>
+) -> Result<Vec<NameAddress>, AllocError>
     requires few { length placed.now ≤ sandboxes_most }
     requires right { All IsPlacedPart placed.now }
-    requires each { length source.now ≡ length placed.now }
     requires linked { (parts : List Part) × AreLinkedFrom given.now 0 placed.now parts }
-    ensures names { IfOk result
-        (λ names. names.items ≡ map_from given.now 0 source.now placed.now) }
-    ensures memory { IfErr result (λ f. IsWantOfMemory (Link f)) }
+    ensures { IfOk result (λ names. names.items ≡ map_from given.now 0 source.now placed.now) }
 {
     let mut listed = Vec::new(alloc);
     for (number, part) in placed.iter().enumerate() {
+        let Some(sandbox) = source.get(number) else {
+            continue;
+        };
         let at = bases_of(given, number as u32, part);
-        let names = source[number].names();
-        push_names(alloc, &mut listed, number as u32, at, names, part.names())?;
+        push_names(
+            alloc,
+            &mut listed,
+            number as u32,
+            at,
+            sandbox.names(),
+            part.names(),
+        )?;
     }
     Ok(listed)
 }
 
-// The gates and labels of the text, or its fault.
-fn map_of(alloc: Global, text: &str, places: &[Place]) -> Result<Vec<NameAddress>, BuildFault>
-    ensures mapped { IfOk result (λ entries. IsTextMap places.now text.now entries.items) }
-    ensures fault { IfErr result (λ f. IsWantOfMemory f ⊎ IsBuildFault places.now text.now f) }
-    ensures too_long { most_bytes < length text.now → result ≡ Err (Text (first_line Limit)) }
-{
-    let source = parse_source(alloc, text)?;
-    let placed = rewrite(alloc, &source)?;
-    link_at(alloc, &placed, places)?;
-    Ok(names_of(alloc, places, source.parts(), placed.parts())?)
-}
-
-/// The gates and labels of a text in the image that is built of it with its sandboxes at these
-/// places: sandbox after sandbox, in the order in which their names are first seen, each with its
-/// address. A text that has no build there has none, but the fault of its build.
-pub fn names_at(alloc: Global, text: &str, places: &[Place]) -> Result<Vec<NameAddress>, BuildFault>
+/// The gates and labels of a source in the image that [`link_at`](crate::link_at) makes of what was
+/// placed of it: sandbox after sandbox, in the order in which their names are first seen, each with
+/// its address. Where that makes no image, the fault is the same.
+pub fn names_of(
+    alloc: Global,
+    source: &Source,
+    placed: &Placed,
+    places: &[Place],
+) -> Result<Vec<NameAddress>, LinkFault>
     // What each answer means.
-    ensures mapped { IfOk result (λ entries. IsTextMap places.now text.now entries.items) }
-    ensures fault { IfErr result (λ f. IsWantOfMemory f ⊎ IsBuildFault places.now text.now f) }
+    ensures mapped { IfOk result
+        (λ entries. IsLinkedMap places.now source.now placed.now entries.items) }
+    ensures fault { IfErr result (UnlessMemory (IsLinkFault places.now placed.now)) }
 
-    // Which texts get it, want of memory aside.
+    // What is placed gets it, want of memory aside.
     ensures only_mapped { (entries : List MapEntry)
-        → IsTextMap places.now text.now entries → AnswersMap entries result }
-    ensures only_fault { (f : BuildFault)
-        → IsBuildFault places.now text.now f → AnswersMapFault f result }
-
-    // Of a text above its limit, whatever memory there is.
-    ensures too_long { most_bytes < length text.now → result ≡ Err (Text (first_line Limit)) }
+        → IsLinkedMap places.now source.now placed.now entries → AnswersItems entries result }
+    ensures only_fault { (f : LinkFault)
+        → IsLinkFault places.now placed.now f → AnswersFault f result }
 {
-    map_of(alloc, text, places)
+    link_at(alloc, placed, places)?;
+    Ok(listed_names(alloc, places, source.parts(), placed.parts())?)
 }

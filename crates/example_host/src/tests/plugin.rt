@@ -2,9 +2,9 @@
 use crate::function::{CallError, Function};
 use crate::letters::Letters;
 use rv_mem::Pages;
+use sfi_build::build;
 use sfi_check::check;
 use sfi_host::{Status, Turn, World};
-use sfi_link::build;
 use std::alloc::Global;
 use std::test::Fail;
 

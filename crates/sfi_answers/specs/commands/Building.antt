@@ -1,9 +1,8 @@
 -- The commands `build` and `map`, on a source text.
 use Rattle.std.specs.Prelude.{◌≡◌, ◌⊎◌, ◌<◌, ◌≤◌, ℕ, List, ◌++◌, length, IsUtf8}
 use Rattle.hex.specs.Hex.{encode_lower}
-use Rattle.sfi_link.specs.declared.build_fault.BuildFault.{BuildFault}
-use Rattle.sfi_link.specs.Names.{IsTextMap}
-use Rattle.sfi_link.specs.Texts.{IsTextBuild, IsBuildFault}
+use Rattle.sfi_build.specs.declared.build_fault.BuildFault.{BuildFault}
+use Rattle.sfi_build.specs.Texts.{IsTextBuild, IsTextMap, IsBuildFault}
 use Rattle.sfi_place.specs.declared.place.Place.{Place}
 use Rattle.sfi_report.specs.Digits.{line_end}
 use Rattle.sfi_io.specs.Input.{limit}

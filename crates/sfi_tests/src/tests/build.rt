@@ -1,8 +1,9 @@
 //! Building without a command: an image, parts, and faults.
 use super::programs::{HI, HI_IMAGE};
 use rv_text::{TextCause, TextFault};
+use sfi_build::{BuildFault, build};
 use sfi_image::{parse_image, write_image};
-use sfi_link::{BuildFault, LinkFault, build};
+use sfi_link::LinkFault;
 use sfi_rewrite::RewriteFault;
 use std::test::Fail;
 

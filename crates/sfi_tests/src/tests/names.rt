@@ -1,6 +1,6 @@
 //! The addresses of names.
 use super::programs::NAMES;
-use sfi_link::{NameKind, Place, names_at};
+use sfi_build::{NameKind, Place, names_at};
 use std::alloc::Global;
 use std::process::Abort;
 use std::test::Fail;

@@ -1,4 +1,4 @@
-use Rattle.sfi_link.specs.Names.{IsTextMap}
+use Rattle.sfi_build.specs.Texts.{IsTextMap}
 use Rattle.sfi_answers.specs.MapLines.{map_lines}
 use Rattle.sfi_answers.proofs.Sources.{not_made}
 use Rattle.sfi_answers.proofs.building.map_answer.Goals as goal

@@ -1,39 +1,22 @@
-use Rattle.sfi_link.proofs.Prelude.{◌≡◌, ◌+◌, ◌++◌, ◌∙◌, map, take, suc, sym, subst, ap, arith, IsPlacedPart, entries_of, texts_of, map_from, bases_of}
-use Rattle.sfi_link.proofs.Parts.{start_fits}
-use Rattle.sfi_link.proofs.Linking.{near_of}
-use Rattle.sfi_link.proofs.Mapping.{nothing_placed, map_more, linked_at}
+use Rattle.sfi_link.proofs.Prelude.{◌≡◌, ◌∙◌, List, sym, subst, Placement, map_from, Part, AreLinkedFrom, err_from_is_err_and}
+use Rattle.sfi_link.specs.Answers.{AnswersItems}
+use Rattle.sfi_link.specs.declared.fault.LinkFault.TheVariants.{Memory}
 use Rattle.sfi_link.proofs.names.names_of.Goals as goal
 
-pub loop-number-init : goal.loop-number-init
-loop-number-init c = c.new-listed.ensures.items ∙ sym (nothing_placed c.args.given.now 0 c.args.source.now)
+pub listed_names-requires-clause-linked : goal.listed_names-requires-clause-linked
+listed_names-requires-clause-linked c =
+    let image = c.in_ok-link_at.ensures.image in
+    subst (λ (ps : List Placement). (parts : List Part) × AreLinkedFrom c.args.places.now 0 ps parts) (sym c.parts-2.ensures.parts) (image.parts, image.linked.each)
 
-pub bases_of-at-requires-clause-fits : goal.bases_of-at-requires-clause-fits
-bases_of-at-requires-clause-fits c =
-    let k = c.loop-number.number in
-    let p = c.index-placed-number.result in
-    let q = linked_at c.args.given.now 0 k k c.args.placed.now c.requires.linked.0 p (omega arith) c.loop-number-test.true c.index-placed-number.is c.requires.linked.1 in
-    start_fits c.args.given.now k p _ q.1.code.size.has_room q.1.lies
+pub returns-clause-mapped : goal.returns-clause-mapped
+returns-clause-mapped c = record {
+  bytes = c.in_ok-link_at.field-0.items;
+  image = c.in_ok-link_at.ensures.image;
+  entries_are = c.in_ok-listed_names.ensures ∙ (λ i. map_from c.args.places.now 0 (c.parts.ensures.parts i) (c.parts-2.ensures.parts i));
+}
 
-pub push_names-requires : goal.push_names-requires
-push_names-requires c =
-    let k = c.loop-number.number in
-    let p = c.index-placed-number.result in
-    let q = linked_at c.args.given.now 0 k k c.args.placed.now c.requires.linked.0 p (omega arith) c.loop-number-test.true c.index-placed-number.is c.requires.linked.1 in
-    let right : IsPlacedPart p = subst (λ r. IsPlacedPart r) (sym c.index-placed-number.is) (c.requires.right k p c.loop-number-test.true) in
-    rw (c.names.ensures, c.bases_of-at.ensures.is) (record { near = near_of c.args.given.now k p _ right q.1.code.size.has_room q.1.lies })
-
-pub loop-number-preserved : goal.loop-number-preserved
-loop-number-preserved c =
-    let k = c.loop-number.number in
-    let source = c.args.source.now in
-    let placed = c.args.placed.now in
-    let s = c.index-source-number.result in
-    let p = c.index-placed-number.result in
-    let next : k + 1 ≡ suc k = omega arith in
-    let here : c.push_names.new.listed.items ≡ c.loop-number.listed.items ++ entries_of k (bases_of c.args.given.now k p) (texts_of s) p.names =
-    c.in_ok-push_names.ensures
-    ∙ (λ i. c.loop-number.listed.items ++ entries_of k (c.bases_of-at.ensures.is i) (map (λ e. e.0) (c.names-names.ensures i)) (c.names.ensures i)) in
-    here
-    ∙ ap (λ l. l ++ entries_of k (bases_of c.args.given.now k p) (texts_of s) p.names) c.loop-number.invariant
-    ∙ sym (map_more c.args.given.now 0 k k source placed s p (omega arith) (omega (arith, c.requires.each, c.loop-number-test.true)) c.loop-number-test.true c.index-source-number.is c.index-placed-number.is)
-    ∙ ap (λ n. map_from c.args.given.now 0 source (take n placed)) (sym next)
+pub returns-in_err-link_at-clause-only_mapped : goal.returns-in_err-link_at-clause-only_mapped
+returns-in_err-link_at-clause-only_mapped c = λ entries is.
+    let memory : c.in_err-link_at.field-0.0 ≡ Memory = c.in_err-link_at.ensures.only_image is.bytes is.image in
+    let e = err_from_is_err_and c.from_residual.result c.from_residual.ensures.1 in
+    subst (λ r. AnswersItems entries r) (sym e.1) (let same = e.2 in cc)

@@ -1,5 +1,5 @@
 use Rattle.sfi_link.proofs.Prelude.{◌≡◌, take, map_from}
-use Rattle.sfi_link.proofs.names.names_of.Given as goal
+use Rattle.sfi_link.proofs.names.listed_names.Given as goal
 
 -- the sandboxes so far are listed
 abbrev pub invariant-loop-number : goal.invariant-loop-number

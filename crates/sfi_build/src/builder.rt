@@ -1,18 +1,19 @@
-//! From a text to an image.
+//! From a text to an image, and to the addresses of its names.
 ghost use Rattle.std.specs.Prelude.{◌≡◌, ◌≢◌, ◌⊎◌, ◌<◌, ℕ, List, [], length, Err, IfOk, IfErr};
 ghost use Rattle.rv_source.specs.Source.{Sandbox};
 ghost use Rattle.rv_text.specs.Texts.{MeansSource, most_bytes, first_line};
 ghost use Rattle.rv_text.specs.declared.cause.TextCause.TheVariants.{Limit};
-ghost use Rattle.sfi_link.specs.declared.build_fault.BuildFault.{BuildFault};
-ghost use Rattle.sfi_link.specs.declared.build_fault.BuildFault.TheVariants.{Text, Link};
+ghost use Rattle.sfi_build.specs.declared.build_fault.BuildFault.{BuildFault};
+ghost use Rattle.sfi_build.specs.declared.build_fault.BuildFault.TheVariants.{Text, Link};
 ghost use Rattle.sfi_link.specs.declared.fault.LinkFault.TheVariants as fault;
 ghost use Rattle.sfi_link.specs.Building.{IsBuild};
+ghost use Rattle.sfi_link.specs.Names.{MapEntry};
 ghost use Rattle.sfi_link.specs.Standing.{ImageRunsAs};
-ghost use Rattle.sfi_link.specs.Texts.{IsTextBuild, IsCleanImage, IsBuildFault, IsWantOfMemory, AnswersBuild, AnswersBuildFault};
+ghost use Rattle.sfi_build.specs.Texts.{IsTextBuild, IsTextMap, IsCleanImage, IsBuildFault, IsWantOfMemory, AnswersBuild, AnswersBuildFault};
 
 use crate::build_fault::BuildFault;
-use crate::linker::link_at;
 use rv_text::parse_source;
+use sfi_link::{NameAddress, link_at, names_of};
 use sfi_place::Place;
 use sfi_rewrite::rewrite;
 use std::alloc::Global;
@@ -81,4 +82,35 @@ pub fn build(alloc: Global, text: &str) -> Result<Vec<u8>, BuildFault>
     ensures too_long { most_bytes < length text.now → result ≡ Err (Text (first_line Limit)) }
 {
     build_at(alloc, text, &[])
+}
+
+// The gates and labels of the text, or its fault.
+fn map_of(alloc: Global, text: &str, places: &[Place]) -> Result<Vec<NameAddress>, BuildFault>
+    ensures mapped { IfOk result (λ entries. IsTextMap places.now text.now entries.items) }
+    ensures fault { IfErr result (λ f. IsWantOfMemory f ⊎ IsBuildFault places.now text.now f) }
+    ensures too_long { most_bytes < length text.now → result ≡ Err (Text (first_line Limit)) }
+{
+    let source = parse_source(alloc, text)?;
+    let placed = rewrite(alloc, &source)?;
+    Ok(names_of(alloc, &source, &placed, places)?)
+}
+
+/// The gates and labels of a text in the image that is built of it with its sandboxes at these
+/// places: sandbox after sandbox, in the order in which their names are first seen, each with its
+/// address. A text that has no build there has none, but the fault of its build.
+pub fn names_at(alloc: Global, text: &str, places: &[Place]) -> Result<Vec<NameAddress>, BuildFault>
+    // What each answer means.
+    ensures mapped { IfOk result (λ entries. IsTextMap places.now text.now entries.items) }
+    ensures fault { IfErr result (λ f. IsWantOfMemory f ⊎ IsBuildFault places.now text.now f) }
+
+    // Which texts get it, want of memory aside.
+    ensures only_mapped { (entries : List MapEntry)
+        → IsTextMap places.now text.now entries → AnswersBuild entries result }
+    ensures only_fault { (f : BuildFault)
+        → IsBuildFault places.now text.now f → AnswersBuildFault f result }
+
+    // Of a text above its limit, whatever memory there is.
+    ensures too_long { most_bytes < length text.now → result ≡ Err (Text (first_line Limit)) }
+{
+    map_of(alloc, text, places)
 }

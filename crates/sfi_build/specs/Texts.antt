@@ -1,4 +1,4 @@
--- What the build of a text is, and why a text has none.
+-- What the build and the map of a text are, and why a text has none.
 use Rattle.std.specs.Prelude.{◌≡◌, ◌⊎◌, ℕ, List, [], Result, Ok, Err, Vec}
 use Rattle.std.specs.Global.{Global}
 use Rattle.rv_text.specs.Causes.{memory}
@@ -13,10 +13,11 @@ use Rattle.sfi_rewrite.specs.Placement.{Placement}
 use Rattle.sfi_rewrite.specs.Faults.{IsSourceFault}
 use Rattle.sfi_rewrite.specs.Rewriting.{AreRewritten}
 use Rattle.sfi_link.specs.declared.fault.LinkFault.TheVariants as linker
-use Rattle.sfi_link.specs.declared.build_fault.BuildFault.{BuildFault}
-use Rattle.sfi_link.specs.declared.build_fault.BuildFault.TheVariants.{Text, Rewrite, Link}
+use Rattle.sfi_build.specs.declared.build_fault.BuildFault.{BuildFault}
+use Rattle.sfi_build.specs.declared.build_fault.BuildFault.TheVariants.{Text, Rewrite, Link}
 use Rattle.sfi_link.specs.Building.{IsLinkedImage}
 use Rattle.sfi_link.specs.Faults.{IsLinkFault}
+use Rattle.sfi_link.specs.Names.{MapEntry, map_from}
 
 -- the text means a source without a fault, and the bytes are the image of its placement
 pub record IsTextBuild (given : List Place) (text bytes : List ℕ) : Type 0 where
@@ -25,6 +26,14 @@ pub record IsTextBuild (given : List Place) (text bytes : List ℕ) : Type 0 whe
   pub placed : List Placement
   pub rewritten : AreRewritten source placed
   pub image : IsLinkedImage given placed bytes
+
+-- the text has a build at the given places, and these are its gates and labels, with the addresses
+-- that they have there
+pub record IsTextMap (given : List Place) (text : List ℕ) (entries : List MapEntry)
+    : Type 0 where
+  pub bytes : List ℕ
+  pub build : IsTextBuild given text bytes
+  pub entries_are : entries ≡ map_from given 0 build.source build.placed
 
 -- the bytes are an image with a right layout in which no rule is broken: the checker accepts it
 pub record IsCleanImage (bytes : List ℕ) : Type 0 where
@@ -48,12 +57,12 @@ IsWantOfMemory (Text f) = f ≡ memory
 IsWantOfMemory (Rewrite f) = f ≡ rewriter.Memory
 IsWantOfMemory (Link f) = f ≡ linker.Memory
 
--- the answer is these bytes, or memory ran out
-abbrev pub AnswersBuild : List ℕ → Result (Vec ℕ Global) BuildFault → Type 0
-AnswersBuild bytes (Ok v) = v.items ≡ bytes
-AnswersBuild bytes (Err f) = IsWantOfMemory f
+-- the answer is these, or memory ran out
+abbrev pub AnswersBuild : {X : Type 0} → List X → Result (Vec X Global) BuildFault → Type 0
+AnswersBuild items (Ok v) = v.items ≡ items
+AnswersBuild items (Err f) = IsWantOfMemory f
 
 -- the answer is this fault, or memory ran out
-abbrev pub AnswersBuildFault : BuildFault → Result (Vec ℕ Global) BuildFault → Type 0
+abbrev pub AnswersBuildFault : {X : Type 0} → BuildFault → Result X BuildFault → Type 0
 AnswersBuildFault f (Ok v) = ⊥
 AnswersBuildFault f (Err g) = (g ≡ f) ⊎ IsWantOfMemory g

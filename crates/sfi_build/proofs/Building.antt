@@ -1,11 +1,12 @@
 -- A text has one build or one fault.
-use Rattle.sfi_link.proofs.Prelude.{◌≡◌, ℕ, List, [], ◌∷◌, ap, subst, ◌⊎◌, inl, inr, Vec, Global, Result, Ok, Err, IfOk, IfErr, Sandbox, Placement, Place, IsLinkFault}
+use Rattle.sfi_link.proofs.Prelude.{◌≡◌, ℕ, List, [], ◌∷◌, ap, ◌∙◌, sym, subst, ◌⊎◌, inl, inr, Vec, Global, Result, Ok, Err, IfOk, IfErr, Sandbox, Placement, Place, IsLinkFault}
+use Rattle.std.specs.Prelude.{◌≢◌}
 use Rattle.rv_text.specs.Texts.{MeansSource}
 use Rattle.sfi_link.specs.Building.{IsLinkedImage, ArePlacements, IsBuild}
 use Rattle.sfi_link.specs.Standing.{ImageRunsAs}
-use Rattle.sfi_link.specs.Texts.{IsTextBuild, IsCleanImage, IsBuildFault, IsWantOfMemory, AnswersBuild, AnswersBuildFault}
-use Rattle.sfi_link.specs.declared.build_fault.BuildFault.{BuildFault}
-use Rattle.sfi_link.specs.declared.build_fault.BuildFault.TheVariants.{Text, Rewrite, Link}
+use Rattle.sfi_build.specs.Texts.{IsTextBuild, IsTextMap, IsCleanImage, IsBuildFault, IsWantOfMemory, AnswersBuild, AnswersBuildFault}
+use Rattle.sfi_build.specs.declared.build_fault.BuildFault.{BuildFault}
+use Rattle.sfi_build.specs.declared.build_fault.BuildFault.TheVariants.{Text, Rewrite, Link}
 use Rattle.sfi_rewrite.specs.Faults.{IsSourceFault}
 use Rattle.sfi_rewrite.specs.Rewriting.{AreRewritten}
 use Rattle.sfi_rewrite.specs.declared.fault.RewriteFault.{RewriteFault}
@@ -14,13 +15,16 @@ use Rattle.sfi_rewrite.proofs.Facts as sources
 use Rattle.sfi_link.proofs.Linking.{one_bytes, never}
 use Rattle.sfi_link.proofs.OneLinking.{one_fault}
 use Rattle.sfi_link.proofs.RunsAs.{images_run_as}
+use Rattle.sfi_link.proofs.Usual.{usual_places_are_free}
+use Rattle.sfi_link.specs.Names.{MapEntry, map_from}
+use Rattle.sfi_link.specs.declared.fault.LinkFault.TheVariants as fault
 
 -- ---- one build, one fault
 
-pub same_placed : (text : List ℕ) (s t : List Sandbox) (p q : List Placement) → MeansSource text s → MeansSource text t → AreRewritten s p → AreRewritten t q → p ≡ q
+same_placed : (text : List ℕ) (s t : List Sandbox) (p q : List Placement) → MeansSource text s → MeansSource text t → AreRewritten s p → AreRewritten t q → p ≡ q
 same_placed text s t p q a b x y = sources.one_rewriting t p q (subst (λ u. AreRewritten u p) (texts.one_source text s t a b) x) y
 
-one_build : (given : List Place) → (text xs ys : List ℕ) → IsTextBuild given text xs → IsTextBuild given text ys → xs ≡ ys
+pub one_build : (given : List Place) → (text xs ys : List ℕ) → IsTextBuild given text xs → IsTextBuild given text ys → xs ≡ ys
 one_build given text xs ys a b =
     one_bytes given b.placed xs ys (subst (λ p. IsLinkedImage given p xs) (same_placed text a.source b.source a.placed b.placed a.means b.means a.rewritten b.rewritten) a.image) b.image
 
@@ -33,7 +37,7 @@ never_built given text bytes (Rewrite f) a (t, means, h) = not_rewritten text a.
 never_built given text bytes (Link f) a (t, q, means, rewritten, h) =
     never given q bytes f (subst (λ p. IsLinkedImage given p bytes) (same_placed text a.source t a.placed q a.means means a.rewritten rewritten) a.image) h
 
-pub one_build_fault : (given : List Place) → (text : List ℕ) (f g : BuildFault) → IsBuildFault given text f → IsBuildFault given text g → f ≡ g
+one_build_fault : (given : List Place) → (text : List ℕ) (f g : BuildFault) → IsBuildFault given text f → IsBuildFault given text g → f ≡ g
 one_build_fault given text (Text f) (Text g) a b = ap (λ x. Text x) (texts.one_fault text f g a b)
 one_build_fault given text (Text f) (Rewrite g) a (t, means, h) = absurd (texts.meant_has_no_fault text t f means a)
 one_build_fault given text (Text f) (Link g) a (t, q, means, rewritten, h) = absurd (texts.meant_has_no_fault text t f means a)
@@ -46,17 +50,45 @@ one_build_fault given text (Link f) (Rewrite g) (s, p, means, rewritten, h) (t, 
 one_build_fault given text (Link f) (Link g) (s, p, means, rewritten, h) (t, q, other, again, k) =
     ap (λ x. Link x) (one_fault given q f g (subst (λ u. IsLinkFault given u f) (same_placed text s t p q means other rewritten again) h) k)
 
--- ---- what a builder answers that way
+pub one_map : (given : List Place) (text : List ℕ) (xs ys : List MapEntry) → IsTextMap given text xs → IsTextMap given text ys → xs ≡ ys
+one_map given text xs ys a b =
+    let source = texts.one_source text a.build.source b.build.source a.build.means b.build.means in
+    let placed =
+    same_placed text a.build.source b.build.source a.build.placed b.build.placed a.build.means b.build.means a.build.rewritten b.build.rewritten in
+    a.entries_are ∙ ap (λ s. map_from given 0 s a.build.placed) source ∙ ap (λ p. map_from given 0 b.build.source p) placed ∙ sym b.entries_are
 
-pub only_built : (given : List Place) → (text : List ℕ) (r : Result (Vec ℕ Global) BuildFault) → IfOk r (λ v. IsTextBuild given text v.items) → IfErr r (λ f. IsWantOfMemory f ⊎ IsBuildFault given text f) → (bytes : List ℕ) → IsTextBuild given text bytes → AnswersBuild bytes r
-only_built given text (Ok v) h wrong bytes is = one_build given text v.items bytes h is
-only_built given text (Err f) ok (inl h) bytes is = h
-only_built given text (Err f) ok (inr h) bytes is = absurd (never_built given text bytes f is h)
+pub never_mapped : (given : List Place) (text : List ℕ) (xs : List MapEntry) (f : BuildFault) → IsTextMap given text xs → IsBuildFault given text f → ⊥
+never_mapped given text xs f is h = never_built given text is.bytes f is.build h
 
-pub only_build_fault : (given : List Place) → (text : List ℕ) (r : Result (Vec ℕ Global) BuildFault) → IfOk r (λ v. IsTextBuild given text v.items) → IfErr r (λ f. IsWantOfMemory f ⊎ IsBuildFault given text f) → (f : BuildFault) → IsBuildFault given text f → AnswersBuildFault f r
-only_build_fault given text (Ok v) h wrong f is = absurd (never_built given text v.items f h is)
-only_build_fault given text (Err g) ok (inl h) f is = inr h
-only_build_fault given text (Err g) ok (inr h) f is = inl (one_build_fault given text g f h is)
+-- ---- what is answered that way
+
+-- the answer meets Is, or is the text's fault
+abbrev Answers : {X : Type 0} → (List X → Type 0) → List Place → List ℕ → Result (Vec X Global) BuildFault → Type 0
+Answers Is given text r = IfOk r (λ v. Is v.items) × IfErr r (λ f. IsWantOfMemory f ⊎ IsBuildFault given text f)
+
+pub only_one : {X : Type 0} (Is : List X → Type 0) (given : List Place) (text : List ℕ) → ((xs ys : List X) → Is xs → Is ys → xs ≡ ys) → ((xs : List X) (f : BuildFault) → Is xs → IsBuildFault given text f → ⊥)
+    → (r : Result (Vec X Global) BuildFault) → Answers Is given text r → (xs : List X) → Is xs → AnswersBuild xs r
+only_one Is given text one never (Ok v) h xs is = one v.items xs h.0 is
+only_one Is given text one never (Err f) (ok, inl h) xs is = h
+only_one Is given text one never (Err f) (ok, inr h) xs is = absurd (never xs f is h)
+
+pub only_fault : {X : Type 0} (Is : List X → Type 0) (given : List Place) (text : List ℕ) → ((xs : List X) (f : BuildFault) → Is xs → IsBuildFault given text f → ⊥)
+    → (r : Result (Vec X Global) BuildFault) → Answers Is given text r → (f : BuildFault) → IsBuildFault given text f → AnswersBuildFault f r
+only_fault Is given text never (Ok v) h f is = absurd (never v.items f h.0 is)
+only_fault Is given text never (Err g) (ok, inl h) f is = inr h
+only_fault Is given text never (Err g) (ok, inr h) f is = inl (one_build_fault given text g f h is)
+
+-- where no place is given, no fault is that of a place
+pub never_place_built : (given : List Place) (text : List ℕ) (r : Result (Vec ℕ Global) BuildFault) → IfErr r (λ f. IsWantOfMemory f ⊎ IsBuildFault given text f)
+    → given ≡ [] → (k : ℕ) → r ≢ Err (Link (fault.Place k))
+never_place_built given text r wrong none k e =
+    elim (subst (λ x. IfErr x (λ f. IsWantOfMemory f ⊎ IsBuildFault given text f)) e wrong) [
+      | inl memory ↦ cc
+      | inr (source, placed, means, rewritten, here) ↦
+          usual_places_are_free placed k (sources.rewritten_is_placed source placed (texts.sources_are_right text source means) rewritten) (subst (λ g. IsLinkFault g placed (fault.Place k)) none here)
+    ]
+
+-- ---- what a build is
 
 placements : (source : List Sandbox) (placed : List Placement) → AreRewritten source placed → ArePlacements source placed
 placements [] [] h = h

@@ -1,9 +1,9 @@
 //! Why nothing is built.
 ghost use Rattle.std.specs.Prelude.{◌≡◌};
-ghost use Rattle.sfi_link.specs.declared.build_fault.BuildFault.TheVariants.{Text, Rewrite, Link};
+ghost use Rattle.sfi_build.specs.declared.build_fault.BuildFault.TheVariants.{Text, Rewrite, Link};
 
-use crate::fault::LinkFault;
 use rv_text::TextFault;
+use sfi_link::LinkFault;
 use sfi_rewrite::RewriteFault;
 use thiserror::Error;
 

@@ -1,0 +1,15 @@
+//! From a text to an image.
+//!
+//! [`build`] reads a text, places its instructions in bundles and links them; [`build_at`] does the
+//! same at places that the caller gives. [`names_at`] answers the addresses of the text's gates and
+//! labels in that image.
+#![tactic(auto)]
+
+mod build_fault;
+mod builder;
+pub mod laws;
+
+pub use build_fault::BuildFault;
+pub use builder::{build, build_at, names_at};
+pub use sfi_link::{NameAddress, NameKind};
+pub use sfi_place::Place;
