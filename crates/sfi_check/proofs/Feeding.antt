@@ -1,5 +1,5 @@
 -- What a feed holds.
-use Rattle.sfi_check.proofs.Prelude.{◌≡◌, ◌∙◌, ◌≤◌, ◌<◌, ◌+◌, ◌⊎◌, ℕ, List, [], ◌++◌, true, false, refl, Option, None, Some, take, length, sym, ap, subst, arith, inl, inr, append_assoc, is_some, append-nil, length-take, length-append, take-append_seam, IsFault, Front, want_of, IsLess, HasFaultNumberWhateverFollows, Empty, AfterMagic, AfterCount, InGates, InCode, InInit, Whole, ReaderState, StandsFor, left, Finding, Tally, IsSoFar, IsCut, IsTold, verdict_of, IsFedTelling, IsFedBy, IsHeld, IsVerdictOn}
+use Rattle.sfi_check.proofs.Prelude.{◌≡◌, ◌∙◌, ◌≤◌, ◌<◌, ◌+◌, ◌⊎◌, ℕ, List, [], ◌++◌, true, false, refl, Option, None, Some, take, length, sym, ap, subst, arith, inl, inr, append_assoc, is_some, append-nil, length-take, length-append, take-append_seam, IsFault, Front, want_of, IsLess, HasFaultNumberWhateverFollows, Empty, AfterMagic, AfterCount, InGates, InCode, InInit, Whole, ReaderState, StandsFor, left, Finding, Tally, IsSoFar, IsCut, HoldsOfSome, verdict_of, IsFedFinding, IsFedBy, IsHeld, IsVerdictOn}
 use Rattle.sfi_check.specs.declared.feed.Feed.{Feed}
 use Rattle.sfi_check.specs.private.Feeds.{left_to_feed}
 use Rattle.sfi_image.specs.declared.want.Want.{Want}
@@ -11,22 +11,22 @@ use Rattle.sfi_check.proofs.Judging.{IsJudgedWhole, ended_whole, ended_short, no
 
 -- ---- by the fault that it met, if any
 
-pub held_fed : {T : List Finding → Type 0} (f : Feed) (bytes : List ℕ) → f.fault ≡ None → IsHeld T f bytes → IsFedTelling T f bytes
+pub held_fed : {T : List Finding → Type 0} (f : Feed) (bytes : List ℕ) → f.fault ≡ None → IsHeld T f bytes → IsFedFinding T f bytes
 held_fed {T} f bytes e h = subst (λ (o : Option ℕ). IsFedBy T o f bytes) (sym e) h
 
-pub fed_held : {T : List Finding → Type 0} (f : Feed) (bytes : List ℕ) → f.fault ≡ None → IsFedTelling T f bytes → IsHeld T f bytes
+pub fed_held : {T : List Finding → Type 0} (f : Feed) (bytes : List ℕ) → f.fault ≡ None → IsFedFinding T f bytes → IsHeld T f bytes
 fed_held {T} f bytes e h = subst (λ (o : Option ℕ). IsFedBy T o f bytes) e h
 
-pub fed_fault : {T : List Finding → Type 0} (f : Feed) (bytes : List ℕ) (number : ℕ) → f.fault ≡ Some number → IsFedTelling T f bytes → HasFaultNumberWhateverFollows bytes number × IsTold T
+pub fed_fault : {T : List Finding → Type 0} (f : Feed) (bytes : List ℕ) (number : ℕ) → f.fault ≡ Some number → IsFedFinding T f bytes → HasFaultNumberWhateverFollows bytes number × HoldsOfSome T
 fed_fault {T} f bytes number e h = subst (λ (o : Option ℕ). IsFedBy T o f bytes) e h
 
-pub fault_fed : {T : List Finding → Type 0} (f : Feed) (bytes : List ℕ) (number : ℕ) → f.fault ≡ Some number → HasFaultNumberWhateverFollows bytes number × IsTold T → IsFedTelling T f bytes
+pub fault_fed : {T : List Finding → Type 0} (f : Feed) (bytes : List ℕ) (number : ℕ) → f.fault ≡ Some number → HasFaultNumberWhateverFollows bytes number × HoldsOfSome T → IsFedFinding T f bytes
 fault_fed {T} f bytes number e h = subst (λ (o : Option ℕ). IsFedBy T o f bytes) (sym e) h
 
 -- ---- what else holds of what it found
 
 held_as : {T U : List Finding → Type 0} (f : Feed) (bytes : List ℕ) (h : IsHeld T f bytes) → U h.at.tallies.found → IsHeld U f bytes
-held_as f bytes h told =
+held_as f bytes h holds =
     let k = h.at.tallies in
     record {
       so_far = h.so_far;
@@ -34,7 +34,7 @@ held_as f bytes h told =
         at = h.at.at;
         stands = h.at.stands;
         bytes_are = h.at.bytes_are;
-        tallies = record { found = k.found; told_is = told; found_are = k.found_are; count = k.count; first = k.first; bundles = k.bundles; sandboxes = k.sandboxes; few = k.few };
+        tallies = record { found = k.found; found_holds = holds; found_are = k.found_are; count = k.count; first = k.first; bundles = k.bundles; sandboxes = k.sandboxes; few = k.few };
         few = h.at.few;
       };
       bytes_are = h.bytes_are;
@@ -42,24 +42,24 @@ held_as f bytes h told =
       long = h.long;
     }
 
-pub retold : {T U : List Finding → Type 0} (f : Feed) (bytes : List ℕ) → ((found : List Finding) → T found → U found) → IsFedTelling T f bytes → IsFedTelling U f bytes
-retold {T} {U} f bytes on h = by f.fault h
+pub fed_weaker : {T U : List Finding → Type 0} (f : Feed) (bytes : List ℕ) → ((found : List Finding) → T found → U found) → IsFedFinding T f bytes → IsFedFinding U f bytes
+fed_weaker {T} {U} f bytes on h = by f.fault h
   where
     by : (o : Option ℕ) → IsFedBy T o f bytes → IsFedBy U o f bytes
-    by None h = held_as f bytes h (on h.at.tallies.found h.at.tallies.told_is)
+    by None h = held_as f bytes h (on h.at.tallies.found h.at.tallies.found_holds)
     by (Some number) h = (h.0, (h.1.0, on h.1.0 h.1.1))
 
 -- the findings are some list
-pub listed : {T : List Finding → Type 0} (f : Feed) (bytes : List ℕ) → IsFedTelling T f bytes → (found : List Finding) × T found × IsFedTelling (λ all. all ≡ found) f bytes
+pub listed : {T : List Finding → Type 0} (f : Feed) (bytes : List ℕ) → IsFedFinding T f bytes → (found : List Finding) × T found × IsFedFinding (λ all. all ≡ found) f bytes
 listed {T} f bytes h = by f.fault h
   where
     by : (o : Option ℕ) → IsFedBy T o f bytes → (found : List Finding) × T found × IsFedBy (λ all. all ≡ found) o f bytes
-    by None h = (h.at.tallies.found, h.at.tallies.told_is, held_as f bytes h refl)
+    by None h = (h.at.tallies.found, h.at.tallies.found_holds, held_as f bytes h refl)
     by (Some number) h = (h.1.0, h.1.1, (h.0, (h.1.0, refl)))
 
 -- a sink that took nothing took what was found in no byte
-pub from_nothing : {S : Type 0} (takes : S → List Finding → S → Type 0) (s : S) (f : Feed) → takes s [] s → IsFedTelling (λ found. found ≡ []) f [] → IsFedTelling (λ found. takes s found s) f []
-from_nothing takes s f none h = retold f [] (λ found is. subst (λ (l : List Finding). takes s l s) (sym is) none) h
+pub from_nothing : {S : Type 0} (takes : S → List Finding → S → Type 0) (s : S) (f : Feed) → takes s [] s → IsFedFinding (λ found. found ≡ []) f [] → IsFedFinding (λ found. takes s found s) f []
+from_nothing takes s f none h = fed_weaker f [] (λ found is. subst (λ (l : List Finding). takes s l s) (sym is) none) h
 
 -- ---- before the first byte
 
@@ -73,11 +73,11 @@ first_cut r e (InInit n ps f gs code init) h = let k = h.kept.0 in let m = e.kep
 first_cut r e (Whole ps) h = let k = h.kept.0 in let m = e.kept.0 in absurd cc
 
 pub nothing_fed : (T : List Finding → Type 0) (f : Feed) → StandsFor f.reader Empty → f.tally.sandboxes ≡ 0 → f.tally.bundles ≡ 0 → f.tally.count ≡ 0 → f.tally.first ≡ None
-    → f.count ≡ 0 → f.fault ≡ None → length f.held ≡ 64 → T [] → IsFedTelling T f []
-nothing_fed T f stands s b n o none e long told =
+    → f.count ≡ 0 → f.fault ≡ None → length f.held ≡ 64 → T [] → IsFedFinding T f []
+nothing_fed T f stands s b n o none e long holds =
     held_fed f [] e (record {
       so_far = [];
-      at = nothing_yet f.reader f.tally stands s b n o told;
+      at = nothing_yet f.reader f.tally stands s b n o holds;
       bytes_are = sym (ap (λ (k : ℕ). take k f.held) none);
       rests = rw (none) (inl (record { less = first_cut f.reader stands; few = omega arith }));
       long = long;
@@ -151,7 +151,7 @@ after_fault : (T : List Finding → Type 0) (o : Option ℕ) (f : Feed) (before 
 after_fault T None f before more e h = absurd cc
 after_fault T (Some number) f before more e h = (fault_more before more number h.0, h.1)
 
-pub fed_after_fault : (T : List Finding → Type 0) (f : Feed) (before more : List ℕ) → is_some f.fault ≡ true → IsFedTelling T f before → IsFedTelling T f (before ++ more)
+pub fed_after_fault : (T : List Finding → Type 0) (f : Feed) (before more : List ℕ) → is_some f.fault ≡ true → IsFedFinding T f before → IsFedFinding T f (before ++ more)
 fed_after_fault T f before more e h = after_fault T f.fault f before more e h
 
 pub no_fault : (o : Option ℕ) → is_some o ≡ false → o ≡ None

@@ -34,25 +34,25 @@ judged_failed bytes = record {
 
 -- the verdict on a whole image, and its findings
 abbrev pub IsJudgedWhole : (List Finding → Type 0) → List ℕ → StreamAnswer → Type 0
-IsJudgedWhole told bytes answer = (found : List Finding) × IsVerdictOn bytes true answer × told found × AreHandedOver bytes found answer
+IsJudgedWhole holds bytes answer = (found : List Finding) × IsVerdictOn bytes true answer × holds found × AreHandedOver bytes found answer
 
 pub judged_whole : {T : List Finding → Type 0} → (bytes : List ℕ) (ps : List Part) (t : Tally) → IsImage bytes ps → Tallies T t (Whole ps) → IsJudgedWhole T bytes (verdict_of t)
-judged_whole {T} bytes ps t image k = by k.found k.told_is k.found_are k.count k.first
+judged_whole {T} bytes ps t image k = by k.found k.found_holds k.found_are k.count k.first
   where
     by : (found : List Finding) → T found → AreImageFindings ps found → t.count ≡ length found → t.first ≡ slice_get found 0 → IsJudgedWhole T bytes (verdict_of t)
-    by [] told are count first =
+    by [] holds are count first =
         subst (λ (o : Option Finding). IsJudgedWhole T bytes (verdict_by o t)) (sym first) (
           [],
           on_accepted bytes ps t.sandboxes t.bundles (record { image = image; none_found = are }) k.sandboxes k.bundles (all_safe ps (record { layout = image.layout; none_found = are })),
-          told,
+          holds,
           record { findings = tt; accepted = refl },
         )
-    by (x ∷ xs) told are count first =
+    by (x ∷ xs) holds are count first =
         let has : HasFindings bytes (x ∷ xs) = record { parts = ps; image = image; found_are = are; some = λ e. absurd cc } in
         subst (λ (o : Option Finding). IsJudgedWhole T bytes (verdict_by o t)) (sym first) (
           x ∷ xs,
           on_findings bytes (x ∷ xs) t.count x has (record { count_is = count; first_is = refl }),
-          told,
+          holds,
           record { findings = has; accepted = tt },
         )
 
@@ -96,10 +96,10 @@ ended_short r t bytes rest h cut =
 
 -- before the first byte
 pub nothing_yet : {T : List Finding → Type 0} (r : ReaderState) (t : Tally) → StandsFor r Empty → t.sandboxes ≡ 0 → t.bundles ≡ 0 → t.count ≡ 0 → t.first ≡ None → T [] → IsSoFar T r t []
-nothing_yet r t stands s b c f told = record {
+nothing_yet r t stands s b c f holds = record {
   at = Empty;
   stands = stands;
   bytes_are = refl;
-  tallies = record { found = []; told_is = told; found_are = refl; count = c; first = f; bundles = b; sandboxes = s; few = omega (arith, c) };
+  tallies = record { found = []; found_holds = holds; found_are = refl; count = c; first = f; bundles = b; sandboxes = s; few = omega (arith, c) };
   few = let all : left r ≡ left_most = rw (stands.kept.0) refl in omega (arith, b);
 }

@@ -1,5 +1,5 @@
 -- One step of a reader with its tally.
-use Rattle.sfi_check.proofs.Prelude.{◌≡◌, ℕ, ◌+◌, ◌-◌, ◌<◌, ◌≤◌, List, ◌++◌, length, take, drop, refl, sym, ap, ◌∙◌, subst, arith, append_assoc, inl, inr, None, take-append-drop, length-take, length-drop, take_all, take-append-add, spans, IsCodeRegion, Part, Gate, is_gate_of, Front, Follows, front, IsRightFront, want_of, IsLengthOf, HasFaultNumberWhateverFollows, Empty, AfterMagic, AfterCount, InGates, InCode, InInit, Whole, ReaderState, StandsFor, Leads, left, Finding, BundlePlace, IsWithin, Tally, Tallies, IsSoFar, IsTold}
+use Rattle.sfi_check.proofs.Prelude.{◌≡◌, ℕ, ◌+◌, ◌-◌, ◌<◌, ◌≤◌, List, ◌++◌, length, take, drop, refl, sym, ap, ◌∙◌, subst, arith, append_assoc, inl, inr, None, take-append-drop, length-take, length-drop, take_all, take-append-add, spans, IsCodeRegion, Part, Gate, is_gate_of, Front, Follows, front, IsRightFront, want_of, IsLengthOf, HasFaultNumberWhateverFollows, Empty, AfterMagic, AfterCount, InGates, InCode, InInit, Whole, ReaderState, StandsFor, left, Finding, BundlePlace, IsWithin, Tally, Tallies, IsSoFar, HoldsOfSome}
 use Rattle.sfi_image.specs.Tests.{IsFirstFault, field_tests}
 use Rattle.sfi_image.specs.declared.fields.Fields.{Fields}
 use Rattle.sfi_image.specs.declared.span.Span.{Span}
@@ -96,10 +96,10 @@ joined so_far x s y a b = ap (λ (l : List ℕ). l ++ s) a ∙ sym b
 
 -- what is taken off the reader has a fault
 pub step_fault : {T : List Finding → Type 0} (old : ReaderState) (t : Tally) (so_far s rest : List ℕ) (len number : ℕ) → s ≡ take len rest
-    → ((x : Front) → StandsFor old x → HasFaultNumberWhateverFollows (front x ++ s) number) → IsSoFar T old t so_far → HasFaultNumberWhateverFollows (so_far ++ rest) number × IsTold T
+    → ((x : Front) → StandsFor old x → HasFaultNumberWhateverFollows (front x ++ s) number) → IsSoFar T old t so_far → HasFaultNumberWhateverFollows (so_far ++ rest) number × HoldsOfSome T
 step_fault old t so_far s rest len number e wrong h =
     let here = subst (λ (l : List ℕ). HasFaultNumberWhateverFollows (l ++ s) number) (sym h.bytes_are) (wrong h.at h.stands) in
-    (fault_onwards so_far s rest (drop len rest) number (sym (take-append-drop len rest) ∙ ap (λ (l : List ℕ). l ++ drop len rest) (sym e)) here, (h.tallies.found, h.tallies.told_is))
+    (fault_onwards so_far s rest (drop len rest) number (sym (take-append-drop len rest) ∙ ap (λ (l : List ℕ). l ++ drop len rest) (sym e)) here, (h.tallies.found, h.tallies.found_holds))
 
 -- or leads on, where it is no code
 pub step_taken : {T : List Finding → Type 0} (old new : ReaderState) (t : Tally) (so_far rest : List ℕ) (len : ℕ) (end : StepEnd) → 1 ≤ len → len ≤ length rest → IsTakenOff old new (take len rest) end

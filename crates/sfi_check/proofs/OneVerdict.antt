@@ -88,16 +88,16 @@ verdict_is_on_all bytes read ends said of h came = on_all bytes read ends of sai
 -- ---- so there is one
 
 module _ (bytes : List ℕ) where
-  one : (said told : StreamAnswer) → IsVerdictOn bytes true said → IsVerdictOn bytes true told → said ≢ answers.ReadFault → said ≡ told
-  one (answers.Accepted sandboxes bundles) told h g came = let a = h.accepted in rw (a.3, a.4) (sym (g.only_accepted refl a.1 a.2))
-  one (answers.Layout number) told h g came =
+  one : (said again : StreamAnswer) → IsVerdictOn bytes true said → IsVerdictOn bytes true again → said ≢ answers.ReadFault → said ≡ again
+  one (answers.Accepted sandboxes bundles) again h g came = let a = h.accepted in rw (a.3, a.4) (sym (g.only_accepted refl a.1 a.2))
+  one (answers.Layout number) again h g came =
       let all : IsReadOf bytes bytes true = record { unread = []; bytes_are = sym (append-nil bytes); all_read = λ e. refl } in
       let k = fault bytes bytes true all number h.layout in
       ap (λ (n : ℕ). answers.Layout n) (sym k.1) ∙ sym (g.only_layout refl k.0 k.2)
-  one (answers.Findings count first) told h g came =
+  one (answers.Findings count first) again h g came =
       let f = h.findings in
       ap (λ (n : ℕ). answers.Findings n first) f.3.count_is ∙ sym (g.only_findings refl f.1 f.2 first f.3.first_is)
-  one answers.ReadFault told h g came = absurd (came refl)
+  one answers.ReadFault again h g came = absurd (came refl)
 
   same : (answer : Result (List Part) Refusal) (said : StreamAnswer) → Answers bytes answer → IsVerdictOn bytes true said → SaysSame answer said
   same (Ok ps) said h g = g.only_accepted refl ps h.accepted
@@ -112,8 +112,8 @@ module _ (bytes : List ℕ) where
   same (Err Memory) said h g = tt
 
 pub one_verdict : OneVerdict
-one_verdict bytes read others ends stops said told of other h g came arrived =
-    one bytes said told (verdict_is_on_all bytes read ends said of h came) (verdict_is_on_all bytes others stops told other g arrived) came
+one_verdict bytes read others ends stops said again of other h g came arrived =
+    one bytes said again (verdict_is_on_all bytes read ends said of h came) (verdict_is_on_all bytes others stops again other g arrived) came
 
 pub stream_says_same : StreamSaysSame
 stream_says_same bytes read ends answer said h of g came = same bytes answer said h (verdict_is_on_all bytes read ends said of g came)

@@ -24,7 +24,7 @@ pub use Rattle.sfi_rules.specs.Bundles.{block_bundle, bundle_at, IsWithin, place
 pub use Rattle.sfi_rules.specs.Findings.{AreBundleFindings, AreReadingFindings, AreFindings, AreFindingsFrom, AreImageFindings, AreFoundUpTo}
 pub use Rattle.sfi_image.specs.declared.bundle.BundlePlace.{BundlePlace}
 pub use Rattle.sfi_rules.specs.declared.finding.Finding.{Finding}
-pub use Rattle.sfi_check.specs.Feeds.{IsFed, IsFedTelling, IsFedBy, IsHeld}
+pub use Rattle.sfi_check.specs.Feeds.{IsFed, IsFedFinding, IsFedBy, IsHeld}
 pub use Rattle.sfi_runs.specs.Safety.{AllRunSafely}
 pub use Rattle.sfi_check.specs.Streams.{IsVerdictOn, AreHandedOver, IsFaultOf, AreCounted}
 pub use Rattle.sfi_check.specs.Verdict.{HasFindings, bundle_count}
@@ -34,4 +34,4 @@ pub use Rattle.sfi_check.specs.declared.tally.Tally.{Tally}
 pub use Rattle.sfi_check.specs.Tallies.{owed_after, AreFindingsSoFar, IsSoFar, Tallies, IsCut, AreFindingsWithin}
 pub use Rattle.sfi_scan.specs.Stretches.{findings_most, IsStretch, AreFoundInStretch, stretch_place}
 pub use Rattle.sfi_check.specs.private.Counting.{AddsFindings, Counts}
-pub use Rattle.sfi_check.specs.private.Tallies.{verdict_of, verdict_by, IsTold, Goes, LeadsOn}
+pub use Rattle.sfi_check.specs.private.Tallies.{verdict_of, verdict_by, HoldsOfSome, Goes, LeadsOn}

@@ -8,9 +8,9 @@ use Rattle.sfi_check.proofs.Findings.{findings_append}
 
 -- ---- a tally within a sandbox's code
 
-pub record CodeTally (told : List Finding → Type 0) (t : Tally) (ps : List Part) (f : Fields) (gs : List Gate) (code : List ℕ) : Type 0 where
+pub record CodeTally (holds : List Finding → Type 0) (t : Tally) (ps : List Part) (f : Fields) (gs : List Gate) (code : List ℕ) : Type 0 where
   pub found : List Finding
-  pub told_is : told found
+  pub found_holds : holds found
   pub within : AreFindingsWithin ps f gs code found t.owed
   pub count : t.count ≡ length found
   pub first : t.first ≡ slice_get found 0
@@ -34,8 +34,8 @@ parts_tally t n ps f gs code init c all =
     let bundles = c.bundles ∙ sym (count_push ps p) in
     let sandboxes = c.sandboxes ∙ sym (length_push ps p) in
     elim (cases_Bool (eqb (length (ps ++ p ∷ [])) n)) [
-      | inl e ↦ rw (e) (record { found = c.found; told_is = c.told_is; found_are = found; count = c.count; first = c.first; bundles = bundles; sandboxes = sandboxes; few = c.few })
-      | inr e ↦ rw (e) (record { found = c.found; told_is = c.told_is; found_are = found; count = c.count; first = c.first; bundles = bundles; sandboxes = sandboxes; few = c.few })
+      | inl e ↦ rw (e) (record { found = c.found; found_holds = c.found_holds; found_are = found; count = c.count; first = c.first; bundles = bundles; sandboxes = sandboxes; few = c.few })
+      | inr e ↦ rw (e) (record { found = c.found; found_holds = c.found_holds; found_are = found; count = c.count; first = c.first; bundles = bundles; sandboxes = sandboxes; few = c.few })
     ]
 
 pub init_tally : {T : List Finding → Type 0} (t : Tally) (n : ℕ) (ps : List Part) (f : Fields) (gs : List Gate) (code init : List ℕ) → CodeTally T t ps f gs code → length code ≡ f.code_size
@@ -43,7 +43,7 @@ pub init_tally : {T : List Finding → Type 0} (t : Tally) (n : ℕ) (ps : List 
 init_tally t n ps f gs code init c all =
     elim (cases_Bool (eqb (length init) f.init_len)) [
       | inl e ↦ rw (e) (parts_tally t n ps f gs code init c all)
-      | inr e ↦ rw (e) (record { found = c.found; told_is = c.told_is; found_are = c.within; count = c.count; first = c.first; bundles = c.bundles; sandboxes = c.sandboxes; few = c.few })
+      | inr e ↦ rw (e) (record { found = c.found; found_holds = c.found_holds; found_are = c.within; count = c.count; first = c.first; bundles = c.bundles; sandboxes = c.sandboxes; few = c.few })
     ]
 
 pub code_tally : {T : List Finding → Type 0} (t : Tally) (n : ℕ) (ps : List Part) (f : Fields) (gs : List Gate) (code : List ℕ) → CodeTally T t ps f gs code → 0 < length code
@@ -53,7 +53,7 @@ code_tally t n ps f gs code c some =
       | inl e ↦ rw (e) (init_tally t n ps f gs code [] c (eqb-true (length code) f.code_size e))
       | inr e ↦ rw (e) (record {
         found = c.found;
-        told_is = c.told_is;
+        found_holds = c.found_holds;
         found_are = c.within;
         count = c.count;
         first = c.first;
@@ -68,11 +68,11 @@ code_tally t n ps f gs code c some =
 
 gates_tally : {T : List Finding → Type 0} (t : Tally) (n : ℕ) (ps : List Part) (f : Fields) (gs : List Gate) (found : List Finding) → T found → AreImageFindings ps found → t.count ≡ length found → t.first ≡ slice_get found 0
     → t.bundles ≡ bundle_count ps → t.sandboxes ≡ length ps → t.count ≤ findings_most * t.bundles → Tallies T t (after_gates n ps f gs)
-gates_tally t n ps f gs found told are count first bundles sandboxes few =
+gates_tally t n ps f gs found holds are count first bundles sandboxes few =
     elim (cases_Bool (eqb (length gs) f.gate_count)) [
       | inl e ↦ rw (e) (record {
         found = found;
-        told_is = told;
+        found_holds = holds;
         found_are = record {
           before = found;
           here = [];
@@ -86,16 +86,16 @@ gates_tally t n ps f gs found told are count first bundles sandboxes few =
         sandboxes = sandboxes;
         few = few;
       })
-      | inr e ↦ rw (e) (record { found = found; told_is = told; found_are = are; count = count; first = first; bundles = bundles; sandboxes = sandboxes; few = few })
+      | inr e ↦ rw (e) (record { found = found; found_holds = holds; found_are = are; count = count; first = first; bundles = bundles; sandboxes = sandboxes; few = few })
     ]
 
 -- ---- steps
 
 pub field_tallies : {T : List Finding → Type 0} (t : Tally) (x : Front) (s : List ℕ) (y : Front) (len : ℕ) → wants.Field len ≡ want_of x → Follows x s y → Tallies T t x → Tallies T t y
-field_tallies t Empty s y len w h k = rw (h.2) (record { found = k.found; told_is = k.told_is; found_are = k.found_are; count = k.count; first = k.first; bundles = k.bundles; sandboxes = k.sandboxes; few = k.few })
-field_tallies t (AfterMagic kind) s y len w h k = rw (h.2) (record { found = k.found; told_is = k.told_is; found_are = k.found_are; count = k.count; first = k.first; bundles = k.bundles; sandboxes = k.sandboxes; few = k.few })
-field_tallies t (AfterCount kind n ps) s y len w h k = rw (h.3) (gates_tally t n ps h.0 [] k.found k.told_is k.found_are k.count k.first k.bundles k.sandboxes k.few)
-field_tallies t (InGates n ps f gs) s y len w h k = rw (h.2) (gates_tally t n ps f (gs ++ h.0 ∷ []) k.found k.told_is k.found_are k.count k.first k.bundles k.sandboxes k.few)
+field_tallies t Empty s y len w h k = rw (h.2) (record { found = k.found; found_holds = k.found_holds; found_are = k.found_are; count = k.count; first = k.first; bundles = k.bundles; sandboxes = k.sandboxes; few = k.few })
+field_tallies t (AfterMagic kind) s y len w h k = rw (h.2) (record { found = k.found; found_holds = k.found_holds; found_are = k.found_are; count = k.count; first = k.first; bundles = k.bundles; sandboxes = k.sandboxes; few = k.few })
+field_tallies t (AfterCount kind n ps) s y len w h k = rw (h.3) (gates_tally t n ps h.0 [] k.found k.found_holds k.found_are k.count k.first k.bundles k.sandboxes k.few)
+field_tallies t (InGates n ps f gs) s y len w h k = rw (h.2) (gates_tally t n ps f (gs ++ h.0 ∷ []) k.found k.found_holds k.found_are k.count k.first k.bundles k.sandboxes k.few)
 field_tallies t (InCode n ps f gs code) s y len w h k = absurd cc
 field_tallies t (InInit n ps f gs code init) s y len w h k = absurd cc
 field_tallies t (Whole ps) s y len w h k = absurd cc
@@ -107,7 +107,7 @@ init_tallies t (AfterCount kind n ps) s y len w right h k = absurd cc
 init_tallies t (InGates n ps f gs) s y len w right h k = absurd cc
 init_tallies t (InCode n ps f gs code) s y len w right h k = absurd cc
 init_tallies t (InInit n ps f gs code init) s y len w right h k =
-    rw (h) (init_tally t n ps f gs code (init ++ s) (record { found = k.found; told_is = k.told_is; within = k.found_are; count = k.count; first = k.first; bundles = k.bundles; sandboxes = k.sandboxes; few = k.few }) right.2)
+    rw (h) (init_tally t n ps f gs code (init ++ s) (record { found = k.found; found_holds = k.found_holds; within = k.found_are; count = k.count; first = k.first; bundles = k.bundles; sandboxes = k.sandboxes; few = k.few }) right.2)
 init_tallies t (Whole ps) s y len w right h k = absurd cc
 
 -- the tally with the findings of so many bundles of that sandbox
@@ -130,7 +130,7 @@ code_tallies old new m ps f gs code s n found some len more adds on k =
     let so_far = within.here_are.len in
     code_tally new m ps f gs (code ++ s) (record {
       found = k.found ++ found;
-      told_is = on k.found k.told_is;
+      found_holds = on k.found k.found_holds;
       within = record {
         before = within.before;
         here = within.here ++ found;

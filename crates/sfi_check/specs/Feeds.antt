@@ -7,34 +7,34 @@ use Rattle.sfi_rules.specs.declared.finding.Finding.{Finding}
 use Rattle.sfi_check.specs.declared.feed.Feed.{Feed}
 use Rattle.sfi_check.specs.Tallies.{IsSoFar, IsCut}
 
--- ---- the parts of `IsFedTelling`, which only private contracts name themselves
+-- ---- the parts of `IsFedFinding`, which only private contracts name themselves
 
 -- so many bytes are fewer than what comes next has, or the image is whole and none is held
 abbrev pub Rests : ReaderState → ℕ → Type 0
 Rests r count = IsCut r count ⊎ ((r.next ≡ next.End) × (count ≡ 0))
 
--- the bytes are those that its reader has taken, and then those that it holds; `told` holds of what
+-- the bytes are those that its reader has taken, and then those in its array; `holds` is true of what
 -- was found in the former
-pub record IsHeld (told : List Finding → Type 0) (f : Feed) (bytes : List ℕ) : Type 0 where
+pub record IsHeld (holds : List Finding → Type 0) (f : Feed) (bytes : List ℕ) : Type 0 where
   pub so_far : List ℕ
-  pub at : IsSoFar told f.reader f.tally so_far
+  pub at : IsSoFar holds f.reader f.tally so_far
   pub bytes_are : bytes ≡ so_far ++ take f.count f.held
   pub rests : Rests f.reader f.count
   pub long : length f.held ≡ 64
 
--- the feed was fed these bytes and has met this fault, or none: with none it has taken and holds the
--- bytes; with one the bytes have that fault, whatever follows them
+-- the feed was fed these bytes and has met this fault, or none: with none it keeps what the bytes are;
+-- with one the bytes have that fault, whatever follows them
 abbrev pub IsFedBy : (List Finding → Type 0) → Option ℕ → Feed → List ℕ → Type 0
-IsFedBy told None f bytes = IsHeld told f bytes
-IsFedBy told (Some number) f bytes =
-    HasFaultNumberWhateverFollows bytes number × ((found : List Finding) × told found)
+IsFedBy holds None f bytes = IsHeld holds f bytes
+IsFedBy holds (Some number) f bytes =
+    HasFaultNumberWhateverFollows bytes number × ((found : List Finding) × holds found)
 
 -- ---- what public contracts name
 
--- the feed is one that was fed these bytes, in any pieces, and `told` holds of what it found
-abbrev pub IsFedTelling : (List Finding → Type 0) → Feed → List ℕ → Type 0
-IsFedTelling told f bytes = IsFedBy told f.fault f bytes
+-- the feed is one that was fed these bytes, in any pieces, and `holds` is true of what it found
+abbrev pub IsFedFinding : (List Finding → Type 0) → Feed → List ℕ → Type 0
+IsFedFinding holds f bytes = IsFedBy holds f.fault f bytes
 
 -- the feed is one that was fed these bytes, in any pieces
 abbrev pub IsFed : Feed → List ℕ → Type 0
-IsFed f bytes = IsFedTelling (λ found. Unit {0}) f bytes
+IsFed f bytes = IsFedFinding (λ found. Unit {0}) f bytes

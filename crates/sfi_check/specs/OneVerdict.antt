@@ -55,10 +55,10 @@ VerdictIsOnAll =
 -- a refused image each read
 abbrev pub OneVerdict : Type 0
 OneVerdict =
-    (bytes read others : List ℕ) (ends stops : Bool) (said told : StreamAnswer)
+    (bytes read others : List ℕ) (ends stops : Bool) (said again : StreamAnswer)
     → IsReadOf bytes read ends → IsReadOf bytes others stops
-    → IsVerdictOn read ends said → IsVerdictOn others stops told → said ≢ answers.ReadFault
-    → told ≢ answers.ReadFault → said ≡ told
+    → IsVerdictOn read ends said → IsVerdictOn others stops again → said ≢ answers.ReadFault
+    → again ≢ answers.ReadFault → said ≡ again
 
 -- what a stream of the bytes is answered is what `check` says of these bytes
 abbrev pub StreamSaysSame : Type 0

@@ -68,10 +68,10 @@ front_sandboxes (InCode n ps f gs code) = cond (length code == 0) (length ps) (l
 front_sandboxes (InInit n ps f gs code init) = length ps + 1
 front_sandboxes (Whole ps) = length ps
 
--- the tally is that of the front, and `told` holds of its findings
-pub record Tallies (told : List Finding → Type 0) (t : Tally) (x : Front) : Type 0 where
+-- the tally is that of the front, and `holds` is true of its findings
+pub record Tallies (holds : List Finding → Type 0) (t : Tally) (x : Front) : Type 0 where
   pub found : List Finding
-  pub told_is : told found
+  pub found_holds : holds found
   pub found_are : AreFrontFindings x found t.owed
   pub count : t.count ≡ length found
   pub first : t.first ≡ slice_get found 0
@@ -79,13 +79,13 @@ pub record Tallies (told : List Finding → Type 0) (t : Tally) (x : Front) : Ty
   pub sandboxes : t.sandboxes ≡ front_sandboxes x
   pub few : t.count ≤ findings_most * t.bundles
 
--- the reader and the tally are those of the bytes so far, and `told` holds of their findings
-pub record IsSoFar (told : List Finding → Type 0) (r : ReaderState) (t : Tally)
+-- the reader and the tally are those of the bytes so far, and `holds` is true of their findings
+pub record IsSoFar (holds : List Finding → Type 0) (r : ReaderState) (t : Tally)
     (bytes : List ℕ) : Type 0 where
   pub at : Front
   pub stands : StandsFor r at
   pub bytes_are : bytes ≡ front at
-  pub tallies : Tallies told t at
+  pub tallies : Tallies holds t at
   pub few : t.bundles + left r ≤ left_most
 
 -- the bytes end before what comes next is whole, and are fewer than 28

@@ -5,7 +5,7 @@ ghost use Rattle.sfi_image.specs.Keeping.{StandsFor};
 ghost use Rattle.sfi_rules.specs.declared.finding.Finding.{Finding};
 ghost use Rattle.sfi_check.specs.Streams.{IsVerdictOn, AreHandedOver};
 ghost use Rattle.sfi_check.specs.Tallies.{IsSoFar, IsCut};
-ghost use Rattle.sfi_check.specs.Feeds.{IsFed, IsFedTelling};
+ghost use Rattle.sfi_check.specs.Feeds.{IsFed, IsFedFinding};
 ghost use Rattle.sfi_check.specs.private.Feeds.{IsFedOn, left_to_feed};
 
 use crate::ends::PieceEnd;
@@ -42,7 +42,7 @@ impl Feed {
     /// No byte was fed.
     pub fn new() -> Self
         ensures fed { IsFed result [] }
-        ensures none_found { IsFedTelling (λ found. found ≡ []) result [] }
+        ensures none_found { IsFedFinding (λ found. found ≡ []) result [] }
         ensures no_fault { result.fault ≡ None }
     {
         Feed {
@@ -82,7 +82,7 @@ impl Feed {
             × IsSoFar (λ found. F.takes first found sink.old) self.old.reader self.old.tally so_far }
         ensures fed { (first : F) (so_far : List ℕ)
             → IsSoFar (λ found. F.takes first found sink.old) self.old.reader self.old.tally so_far
-            → IsFedTelling (λ found. F.takes first found sink.new) self.new (so_far ++ bytes.now) }
+            → IsFedFinding (λ found. F.takes first found sink.new) self.new (so_far ++ bytes.now) }
         ensures falls { self.old.count < length bytes.now
             → left_to_feed self.new < left_to_feed self.old }
     {
@@ -117,7 +117,7 @@ impl Feed {
     fn top_up<F: FindingSink, const BLOCKS: bool>(&mut self, bytes: &[u8], sink: &mut F) -> usize
         requires some { 0 < length bytes.now }
         requires fed { (first : F) × (before : List ℕ)
-            × IsFedTelling (λ found. F.takes first found sink.old) self.old before }
+            × IsFedFinding (λ found. F.takes first found sink.old) self.old before }
         ensures some { 0 < result }
         ensures bound { result ≤ length bytes.now }
         ensures fed { IsFedOn F.takes sink.old sink.new self.old self.new (take result bytes.now) }
@@ -146,7 +146,7 @@ impl Feed {
         sink: &mut F,
     )
         requires { (first : F) × (before : List ℕ)
-            × IsFedTelling (λ found. F.takes first found sink.old) self.old before }
+            × IsFedFinding (λ found. F.takes first found sink.old) self.old before }
         ensures fed { IsFedOn F.takes sink.old sink.new self.old self.new bytes.now }
         ensures falls { self.old.fault ≡ None → 0 < length bytes.now
             → left_to_feed self.new < left_to_feed self.old }
@@ -173,7 +173,7 @@ impl Feed {
         ensures judged { (bytes : List ℕ) → IsFed self.now bytes → IsVerdictOn bytes true result }
         ensures read { result ≢ StreamAnswer.ReadFault }
         ensures handed { (bytes : List ℕ) (found : List Finding)
-            → IsFedTelling (λ all. all ≡ found) self.now bytes → AreHandedOver bytes found result }
+            → IsFedFinding (λ all. all ≡ found) self.now bytes → AreHandedOver bytes found result }
     {
         if let Some(number) = self.fault {
             return StreamAnswer::Layout(number);

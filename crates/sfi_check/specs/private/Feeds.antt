@@ -3,14 +3,14 @@ use Rattle.std.specs.Prelude.{ℕ, ◌+◌, ◌*◌, ◌-◌, List, ◌++◌, Op
 use Rattle.sfi_image.specs.Keeping.{left}
 use Rattle.sfi_check.specs.declared.feed.Feed.{Feed}
 use Rattle.sfi_rules.specs.declared.finding.Finding.{Finding}
-use Rattle.sfi_check.specs.Feeds.{IsFedTelling}
+use Rattle.sfi_check.specs.Feeds.{IsFedFinding}
 
 -- whatever it was fed, it then was fed these bytes, too, and the sink took the findings in them
 abbrev pub IsFedOn : {F : Type 0} → (F → List Finding → F → Type 0) → F → F → Feed → Feed → List ℕ
     → Type 0
 IsFedOn {F} takes sink after old new bytes = (first : F) (before : List ℕ)
-    → IsFedTelling (λ found. takes first found sink) old before
-    → IsFedTelling (λ found. takes first found after) new (before ++ bytes)
+    → IsFedFinding (λ found. takes first found sink) old before
+    → IsFedFinding (λ found. takes first found after) new (before ++ bytes)
 
 abbrev pub left_by : Option ℕ → Feed → ℕ
 left_by None f = left f.reader * 28 + (27 - f.count) + 1

@@ -13,9 +13,9 @@ use Rattle.sfi_check.specs.declared.ends.PieceEnd.{PieceEnd}
 use Rattle.sfi_check.specs.declared.ends.PieceEnd.TheVariants as ways
 use Rattle.sfi_check.specs.Tallies.{IsSoFar, IsCut}
 
--- `told` holds of some findings
-abbrev pub IsTold : (List Finding → Type 0) → Type 0
-IsTold told = (found : List Finding) × told found
+-- `holds` is true of some findings
+abbrev pub HoldsOfSome : (List Finding → Type 0) → Type 0
+HoldsOfSome holds = (found : List Finding) × holds found
 
 -- the reader took these bytes, or they have a fault with all before them
 abbrev pub IsTakenOff : ReaderState → ReaderState → List ℕ → StepEnd → Type 0
@@ -29,25 +29,25 @@ IsTakenOff old new bytes steps.Whole = ⊥
 -- one step on the bytes that follow those so far
 abbrev pub Steps : (List Finding → Type 0) → ReaderState → ReaderState → Tally → List ℕ → List ℕ
     → StepEnd → Type 0
-Steps told old new t so_far rest (steps.Took n) =
-    (1 ≤ n) × (n ≤ length rest) × IsSoFar told new t (so_far ++ take n rest) × (left new < left old)
-Steps told old new t so_far rest steps.Short =
-    IsSoFar told new t so_far × IsCut new (length rest) × (left new ≤ left old)
-Steps told old new t so_far rest steps.Whole = IsSoFar told new t so_far × (new.next ≡ next.End)
-Steps told old new t so_far rest (steps.Fault k) =
-    HasFaultNumberWhateverFollows (so_far ++ rest) k × IsTold told
+Steps holds old new t so_far rest (steps.Took n) =
+    (1 ≤ n) × (n ≤ length rest) × IsSoFar holds new t (so_far ++ take n rest) × (left new < left old)
+Steps holds old new t so_far rest steps.Short =
+    IsSoFar holds new t so_far × IsCut new (length rest) × (left new ≤ left old)
+Steps holds old new t so_far rest steps.Whole = IsSoFar holds new t so_far × (new.next ≡ next.End)
+Steps holds old new t so_far rest (steps.Fault k) =
+    HasFaultNumberWhateverFollows (so_far ++ rest) k × HoldsOfSome holds
 
 -- all steps on a piece that follows the bytes so far
 abbrev pub Goes : (List Finding → Type 0) → ReaderState → ReaderState → Tally → List ℕ → List ℕ
     → PieceEnd → Type 0
-Goes told old new t so_far rest (ways.More n) =
-    (n ≤ length rest) × IsSoFar told new t (so_far ++ take n rest) × IsCut new (length rest - n)
+Goes holds old new t so_far rest (ways.More n) =
+    (n ≤ length rest) × IsSoFar holds new t (so_far ++ take n rest) × IsCut new (length rest - n)
     × ((left new < left old) ⊎ ((n ≡ 0) × (left new ≤ left old)))
-Goes told old new t so_far rest (ways.Whole n) =
-    (n ≤ length rest) × IsSoFar told new t (so_far ++ take n rest) × (new.next ≡ next.End)
+Goes holds old new t so_far rest (ways.Whole n) =
+    (n ≤ length rest) × IsSoFar holds new t (so_far ++ take n rest) × (new.next ≡ next.End)
     × ((left new < left old) ⊎ ((n ≡ 0) × (left new ≤ left old)))
-Goes told old new t so_far rest (ways.Fault k) =
-    HasFaultNumberWhateverFollows (so_far ++ rest) k × IsTold told
+Goes holds old new t so_far rest (ways.Fault k) =
+    HasFaultNumberWhateverFollows (so_far ++ rest) k × HoldsOfSome holds
 
 -- from the bytes so far a piece leads on, whatever the sink was first
 abbrev pub LeadsOn : {F : Type 0} → (F → List Finding → F → Type 0) → F → F → ReaderState

@@ -1,4 +1,4 @@
-use Rattle.sfi_check.proofs.Prelude.{◌≡◌, ◌∙◌, ◌≤◌, ℕ, eqb, false, List, length, Front, sym, arith, eq-eqb}
+use Rattle.sfi_check.proofs.Prelude.{◌≡◌, ◌∙◌, ◌≤◌, ℕ, eqb, false, List, length, sym, arith, eq-eqb}
 use Rattle.sfi_check.proofs.Leading.{field_len, init_some, field_taken, init_taken, step_taken}
 use Rattle.sfi_check.proofs.Tallying.{field_tallies, init_tallies}
 use Rattle.sfi_check.proofs.piece.step.Goals as goal

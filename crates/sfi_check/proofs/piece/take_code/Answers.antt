@@ -25,6 +25,6 @@ returns g c = λ first so_far h.
       inside,
       stretch_step c.args.reader.now c.take.new.self c.args.tally.now c.add_bundles.new.self c.scan_counted-tally.new.tally _ so_far (take len c.args.rest.now) c.args.place.now c.stretch_length.result n counted.found c.owed_at-owed.result c.scan_counted-tally.result
           c.requires.next c.stretch_length.ensures.length taken.le taken.some taken.stretch.whole c.owed_at-owed.ensures counted.found_are counted.few c.add_bundles.ensures counted.counts refl
-          c.in_default.ensures.goes_on c.in_default.ensures.code (λ before told. g.met.F.FindingSink.more first c.args.sink.now c.scan_counted-tally.new.sink before counted.found told counted.handed) h,
+          c.in_default.ensures.goes_on c.in_default.ensures.code (λ before holds. g.met.F.FindingSink.more first c.args.sink.now c.scan_counted-tally.new.sink before counted.found holds counted.handed) h,
       c.in_default.ensures.falls,
     )

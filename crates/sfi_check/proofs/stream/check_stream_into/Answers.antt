@@ -1,5 +1,5 @@
 use Rattle.sfi_check.proofs.Prelude.{◌∙◌, ◌<◌, ◌-◌, ℕ, [], take, length, subst, arith, Some, length-take}
-use Rattle.sfi_check.proofs.Feeding.{from_nothing, retold, fed_held, few_held}
+use Rattle.sfi_check.proofs.Feeding.{from_nothing, fed_weaker, fed_held, few_held}
 use Rattle.sfi_check.proofs.Chains.{no_reads}
 use Rattle.sfi_check.proofs.Pieces.{fails, faulty, ends_here, reads_on}
 use Rattle.sfi_check.proofs.stream.check_stream_into.Goals as goal
@@ -18,7 +18,7 @@ pub returns-in-Some-clause-judged : goal.returns-in-Some-clause-judged
 returns-in-Some-clause-judged g c = faulty c.loop-feed.invariant.between c.in-Some.number c.in-Some.is
 
 pub answer-requires : goal.answer-requires
-answer-requires g c = let i = c.loop-feed.invariant.between in (i.bytes, retold c.loop-feed.feed i.bytes (λ found told. tt) i.fed)
+answer-requires g c = let i = c.loop-feed.invariant.between in (i.bytes, fed_weaker c.loop-feed.feed i.bytes (λ found holds. tt) i.fed)
 
 pub returns-in-Ok-eq0-clause-judged : goal.returns-in-Ok-eq0-clause-judged
 returns-in-Ok-eq0-clause-judged g c =

@@ -1,5 +1,5 @@
 use Rattle.sfi_check.proofs.Prelude.{[]}
-use Rattle.sfi_check.proofs.Feeding.{from_nothing, retold, listed}
+use Rattle.sfi_check.proofs.Feeding.{from_nothing, fed_weaker, listed}
 use Rattle.sfi_check.proofs.verdict.check_into.Goals as goal
 
 pub feed_into-requires : goal.feed_into-requires
@@ -8,12 +8,12 @@ feed_into-requires g c = (c.args.sink.now, [], from_nothing g.F.FindingSink.take
 pub answer-requires : goal.answer-requires
 answer-requires g c =
     let fed = c.feed_into.ensures.fed c.args.sink.now [] (from_nothing g.F.FindingSink.takes c.args.sink.now c.new-feed.result (g.met.F.FindingSink.none c.args.sink.now) c.new-feed.ensures.none_found) in
-    (c.args.bytes.now, retold c.feed_into.new.self c.args.bytes.now (λ found told. tt) fed)
+    (c.args.bytes.now, fed_weaker c.feed_into.new.self c.args.bytes.now (λ found holds. tt) fed)
 
 pub returns-clause-judged : goal.returns-clause-judged
 returns-clause-judged g c =
     let fed = c.feed_into.ensures.fed c.args.sink.now [] (from_nothing g.F.FindingSink.takes c.args.sink.now c.new-feed.result (g.met.F.FindingSink.none c.args.sink.now) c.new-feed.ensures.none_found) in
-    c.answer.ensures.judged c.args.bytes.now (retold c.feed_into.new.self c.args.bytes.now (λ found told. tt) fed)
+    c.answer.ensures.judged c.args.bytes.now (fed_weaker c.feed_into.new.self c.args.bytes.now (λ found holds. tt) fed)
 
 pub returns-clause-handed : goal.returns-clause-handed
 returns-clause-handed g c =

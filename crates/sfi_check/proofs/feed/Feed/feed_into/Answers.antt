@@ -1,4 +1,4 @@
-use Rattle.sfi_check.proofs.Prelude.{◌≡◌, ◌∙◌, ◌++◌, ◌+◌, ◌-◌, ℕ, List, take, drop, length, sym, ap, subst, arith, inl, inr, append_assoc, length-drop, IsFedTelling}
+use Rattle.sfi_check.proofs.Prelude.{◌≡◌, ◌∙◌, ◌++◌, ◌+◌, ◌-◌, ℕ, List, take, drop, length, sym, ap, subst, arith, inl, inr, append_assoc, length-drop, IsFedFinding}
 use Rattle.sfi_check.proofs.Leading.{tail_is, take_on}
 use Rattle.sfi_check.proofs.feed.Feed.feed_into.Goals as goal
 
@@ -16,7 +16,7 @@ loop-at-preserved g c =
       fed = λ first before h.
           let fed = c.top_up-at.ensures.fed first (before ++ take at bytes) (c.loop-at.invariant.fed first before h) in
           let on : take (at + n) bytes ≡ take at bytes ++ take n (drop at bytes) = take_on at n bytes c.loop-at.invariant.inside in
-          subst (λ (l : List ℕ). IsFedTelling (λ found. g.F.FindingSink.takes first found c.top_up-at.new.sink) c.top_up-at.new.self l)
+          subst (λ (l : List ℕ). IsFedFinding (λ found. g.F.FindingSink.takes first found c.top_up-at.new.sink) c.top_up-at.new.self l)
           (ap (λ (l : List ℕ). (before ++ take at bytes) ++ take n l) tail ∙ append_assoc before (take at bytes) (take n (drop at bytes)) ∙ ap (λ (l : List ℕ). before ++ l) (sym on)) fed;
       falls = λ e. inr (elim (c.loop-at.invariant.falls e) [
         | inl z ↦ (let less = c.top_up-at.ensures.falls z.1 in let le = z.2 in omega arith)

@@ -28,7 +28,7 @@ returns-then-at-bytes-clause-fed g c = λ first so_far h.
     let rest = drop c.in-Whole.at c.args.bytes.now in
     let some : 0 < length rest = omega (arith, length-drop c.in-Whole.at c.args.bytes.now) in
     let wrong = fault_on so_far c.in-Whole.at 11 c.args.bytes.now (trailing _ _ (so_far ++ take c.in-Whole.at c.args.bytes.now) rest whole.1 whole.2 some) in
-    rw c.number.ensures (wrong, (whole.1.tallies.found, whole.1.tallies.told_is))
+    rw c.number.ensures (wrong, (whole.1.tallies.found, whole.1.tallies.found_holds))
 
 pub returns-then-at-bytes-clause-falls : goal.returns-then-at-bytes-clause-falls
 returns-then-at-bytes-clause-falls g c = λ more. some_left c.args.self.now c.requires.fault

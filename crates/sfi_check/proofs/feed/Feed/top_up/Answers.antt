@@ -1,4 +1,4 @@
-use Rattle.sfi_check.proofs.Prelude.{◌≡◌, ◌∙◌, ◌++◌, ◌≤◌, arith, List, ℕ, take, length, rules, sym, ap, subst, append_assoc, append-nil, take_all, IsFedTelling, Finding}
+use Rattle.sfi_check.proofs.Prelude.{◌≡◌, ◌∙◌, ◌++◌, ◌≤◌, arith, List, ℕ, take, length, rules, sym, ap, subst, append_assoc, append-nil, take_all, IsFedFinding, Finding}
 use Rattle.sfi_check.proofs.Feeding.{joined_is, fed_after_fault, fed_held, no_fault, few_held}
 use Rattle.sfi_check.proofs.feed.Feed.top_up.Goals as goal
 
@@ -11,9 +11,9 @@ returns-then-self-eq0-clause-fed g c = λ first before h.
     let bytes = c.args.bytes.now in
     let zero : c.args.self.now.count ≡ 0 = search rules in
     let none : before ≡ held.so_far = held.bytes_are ∙ ap (λ (k : ℕ). held.so_far ++ take k c.args.self.now.held) zero ∙ append-nil held.so_far in
-    let told : List Finding → Type 0 = λ found. g.F.FindingSink.takes first found c.take_all.new.sink in
-    subst (λ (l : List ℕ). IsFedTelling told c.take_all.new.self (l ++ take (length bytes) bytes)) (sym none)
-    (subst (λ (l : List ℕ). IsFedTelling told c.take_all.new.self (held.so_far ++ l)) (sym (take_all (length bytes) bytes (omega arith))) (c.take_all.ensures.fed first held.so_far held.at))
+    let holds : List Finding → Type 0 = λ found. g.F.FindingSink.takes first found c.take_all.new.sink in
+    subst (λ (l : List ℕ). IsFedFinding holds c.take_all.new.self (l ++ take (length bytes) bytes)) (sym none)
+    (subst (λ (l : List ℕ). IsFedFinding holds c.take_all.new.self (held.so_far ++ l)) (sym (take_all (length bytes) bytes (omega arith))) (c.take_all.ensures.fed first held.so_far held.at))
 
 pub returns-clause-fed : goal.returns-clause-fed
 returns-clause-fed g c = λ first before h.
@@ -24,4 +24,4 @@ returns-clause-fed g c = λ first before h.
     let few : c.min-more.result ≤ length c.args.bytes.now = omega (arith, c.min-more.ensures) in
     let is = joined_is c.args.self.now.count c.min-more.result c.args.self.now.held c.args.bytes.now c.copy_from_slice.new.self _ room few c.copy_from_slice.ensures.after in
     let fed = c.take_all-2.ensures.fed first held.so_far held.at in
-    subst (λ (l : List ℕ). IsFedTelling (λ found. g.F.FindingSink.takes first found c.take_all-2.new.sink) c.take_all-2.new.self l) (ap (λ (l : List ℕ). held.so_far ++ l) is ∙ sym joined) fed
+    subst (λ (l : List ℕ). IsFedFinding (λ found. g.F.FindingSink.takes first found c.take_all-2.new.sink) c.take_all-2.new.self l) (ap (λ (l : List ℕ). held.so_far ++ l) is ∙ sym joined) fed
