@@ -9,7 +9,6 @@ use Rattle.sfi_io.specs.Hexadecimal.{SpellsBytes, is_kept}
 use Rattle.sfi_io.specs.Input.{limit}
 use Rattle.sfi_io.specs.Laws.{ComesToItsBytes}
 use Rattle.sfi_io.specs.Pieces.{or_fault, outcome, start_of}
-use Rattle.sfi_io.specs.declared.text.TextStop.{TextStop}
 use Rattle.sfi_io.specs.declared.text.TextStop.TheVariants.{TooLarge}
 use Rattle.sfi_io.proofs.Ahead.{keeps_limit}
 
