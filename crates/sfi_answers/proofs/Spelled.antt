@@ -4,7 +4,6 @@ use Rattle.std.specs.Prelude.{◌||◌, IsErr, IsOk, filter, nat_lt, option_map,
 use Rattle.std.proofs.lemmas.Bool.Decides.{nat_tests}
 use Rattle.hex.specs.Hex.{decode_of}
 use Rattle.hex.specs.declared.error.FromHexError.{FromHexError}
-use Rattle.hex.specs.declared.error.FromHexError.TheVariants.{OddLength, InvalidHexCharacter, InvalidStringLength, OutOfMemory}
 use Rattle.sfi_image.specs.Sources.{OneRead, IsChain, Streams, bytes_handed_out, bytes_of, finds_end, is_end}
 use Rattle.sfi_check.specs.Streams.{IsVerdictOn}
 use Rattle.sfi_check.specs.declared.stream_answer.StreamAnswer.{StreamAnswer}
@@ -13,6 +12,7 @@ use Rattle.sfi_io.specs.Input.{limit}
 use Rattle.sfi_io.specs.Pieces.{Leads, or_fault, outcome, prepend, start_of}
 use Rattle.sfi_io.specs.declared.text.TextStop.{TextStop}
 use Rattle.sfi_io.specs.declared.text.TextStop.TheVariants.{TooLarge, Failed}
+use Rattle.sfi_io.proofs.Facts.{comes_to_its_bytes}
 use Rattle.sfi_io.proofs.Leads.{failed_leads, leads_more, leads_nowhere, of_leads}
 use Rattle.sfi_answers.specs.private.Streams.{HandsOut, IsJudged}
 
@@ -115,25 +115,6 @@ module _ {S : Type 0} (told : S → Option (Result (List ℕ) TextStop)) (failed
 
 -- ---- of the whole text
 
-spells_all : (text all : List ℕ) → outcome (start_of text) ≡ Ok all → SpellsBytes text all
-spells_all text all e = by (nat_lt limit (length text)) refl
-  where
-    decoded : (d : Result (List ℕ) FromHexError) → or_fault d ≡ Ok all → d ≡ Ok all
-    decoded (Ok bytes) e = cc
-    decoded (Err (InvalidHexCharacter byte place)) e = absurd (cc)
-    decoded (Err OddLength) e = absurd (cc)
-    decoded (Err InvalidStringLength) e = absurd (cc)
-    decoded (Err OutOfMemory) e = absurd (cc)
-
-    by : (b : Bool) → nat_lt limit (length text) ≡ b → SpellsBytes text all
-    by true is =
-        let large : outcome (start_of text) ≡ Err TooLarge = ap (λ (b : Bool). if b then Err TooLarge else or_fault (decode_of (filter is_kept text))) is in
-        absurd (let no : Err TooLarge ≡ Ok all = sym large ∙ e in cc)
-    by false is = record {
-      short = grind (arith, nat_tests, is);
-      digits = decoded _ (sym (ap (λ (b : Bool). if b then Err TooLarge else or_fault (decode_of (filter is_kept text))) is) ∙ e);
-    }
-
 unreadable : (text : List ℕ) (stop : TextStop) → outcome (start_of text) ≡ Err stop → IsUnreadable text
 unreadable text stop e = by (nat_lt limit (length text)) refl
   where
@@ -152,7 +133,7 @@ pub says_text : {S : Type 0} (told : S → Option (Result (List ℕ) TextStop)) 
 says_text told failed s t answer None P e h ok holds = tt
 says_text told failed s t answer (Some text) P e h ok holds =
     let all = judged_front told failed s t (outcome (start_of text)) answer e h ok in
-    holds text all.0 (spells_all text all.0 all.1) all.2
+    holds text all.0 ((comes_to_its_bytes text all.0).0 all.1) all.2
 
 -- where a fault of it was found, it is unreadable
 pub stops_text : {S : Type 0} (told : S → Option (Result (List ℕ) TextStop)) (failed : S → Bool) (s t : S) (answer : StreamAnswer) (read : Option (List ℕ)) (stop : TextStop) (P : List ℕ → Type 0) → told s ≡ option_map (λ text. outcome (start_of text)) read
