@@ -1,10 +1,10 @@
 -- The sandbox of a function before a call, at its entry, and after its turn.
-use Rattle.std.proofs.Common.{◌≡◌, ◌≢◌, ⊎_elim, ℕ, zero, suc, ◌+◌, ◌^◌, ◌<◌, ◌≤◌, Bool, List, [], ◌∷◌, map, set, Option, Some, None, IsSome, is_some, slice_get, refl, sym, ap, ◌∙◌, subst, arith}
+use Rattle.std.proofs.Common.{◌≡◌, ◌≢◌, ⊎_elim, ℕ, zero, suc, ◌+◌, ◌%◌, ◌^◌, ◌<◌, ◌≤◌, Bool, List, [], ◌∷◌, map, set, Option, Some, None, IsSome, is_some, slice_get, refl, sym, ap, ◌∙◌, subst, arith}
 use Rattle.std.specs.List.{range_with_len}
 use Rattle.std.proofs.lemmas.Bool.{cases_eq}
 use Rattle.rv_mem.specs.Bytes.{Bytes, bytes_at}
+use Rattle.sfi_policy.specs.Formats.{unit}
 use Rattle.sfi_image.specs.declared.span.Span.{Span}
-use Rattle.sfi_image.specs.Regions.{IsBundleStart}
 use Rattle.sfi_image.specs.Spans.{Holds}
 use Rattle.sfi_host.specs.declared.turn.RunAnswer.{RunAnswer}
 use Rattle.sfi_host.specs.declared.turn.RunAnswer.TheVariants as answers
@@ -53,7 +53,8 @@ enter_too m n seats i pc may =
       there = slot_of_seat n seats i s found.1;
       may = record {
         stopped = λ ready. may.may.stopped (ap (λ (x : Slot). x.status) same ∙ ready);
-        start = subst (λ (x : Slot). IsBundleStart x.bounds.code pc) same may.may.start;
+        held = subst (λ (x : Slot). Holds x.bounds.code pc) same may.may.held;
+        aligned = subst (λ (x : Slot). pc % unit x.bounds.format ≡ 0) same may.may.aligned;
       };
     }
 

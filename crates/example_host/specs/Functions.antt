@@ -15,7 +15,8 @@ use Rattle.example_host.specs.declared.function.CallError.TheVariants.{NoRoom, N
 abbrev pub text_in : Function → ℕ → Sandboxes → Option (List ℕ)
 text_in f n w = data_bytes_of (slice_get (slots_of w) f.sandbox) f.text_address n
 
--- its sandbox may be entered: it has stopped, and a bundle of its code begins where the function does
+-- its sandbox may be entered: it has stopped, and a bundle or word of its code begins where the
+-- function does
 abbrev pub MayEnter : Function → Sandboxes → Type 0
 MayEnter f w = MayEnterAt (slots_of w) f.sandbox f.address
 

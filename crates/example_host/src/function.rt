@@ -15,7 +15,7 @@ use sfi_host::{Gates, RunAnswer, Status, Turn, World};
 pub struct Function {
     /// The number of its sandbox.
     pub sandbox: u32,
-    /// Where it begins: the first address of a bundle of the sandbox's code.
+    /// Where it begins: the first address of a bundle or word of the sandbox's code.
     pub address: u32,
     /// Where its text lies, in the sandbox's data.
     pub text_address: u32,
@@ -29,8 +29,8 @@ pub enum CallError {
     /// One of the text's addresses isn't in the sandbox's data, or there is no such sandbox.
     /// Nothing changed.
     NoRoom,
-    /// The sandbox hasn't stopped, or no bundle of its code begins at the function. The text
-    /// stands in its place, and nothing else changed.
+    /// The sandbox hasn't stopped, or no bundle or word of its code begins at the function. The
+    /// text stands in its place, and nothing else changed.
     NotEntered,
     /// The sandbox did its turn and didn't exit: it trapped, or it is ready, since it has yielded
     /// or used all its steps.
