@@ -48,7 +48,7 @@ converted bytes new a is status text layout first found stack words = record {
 not_old_one : (fault : ConvertFault) → AnswersNotOld (Err fault) → fault ≡ NotOld
 not_old_one fault e = let h : ◌≡◌ {A = Result (Vec ℕ Global) ConvertFault} (Err fault) (Err NotOld) = e in cc
 
--- findings are those of an image of the first format without a fault
+-- findings are those of an image that isn't of the second format
 not_second : (read : List ℕ) (fault : ConvertFault) (found : List Finding) → (IsSecond read → AnswersNotOld (Err fault)) → HasFound fault found → IsSecond read → ⊥
 not_second read fault found only f second =
     subst (λ (x : ConvertFault). HasFound x found) (not_old_one fault (only second)) f

@@ -25,8 +25,8 @@ pub record SaysStack (bytes : List ℕ) (status : ℕ) (text : List ℕ) : Type 
   pub status_is : status ≡ 1
   pub text_is : text ≡ refused_line found
 
--- the conversion, or the verdict on an image of the first format with findings, or on one whose
--- sandboxes have findings in the second alone
+-- the conversion, or the verdict on an image of the first or third format with findings, or on one
+-- of the first whose sandboxes have findings in the second alone
 abbrev pub SaysConversion : List ℕ → ℕ → List ℕ → Type 0
 SaysConversion bytes status text =
     SaysConverted bytes status text
@@ -34,8 +34,8 @@ SaysConversion bytes status text =
 
 -- ---- when it is due
 
--- the bytes are an image of the first format with findings, or one whose sandboxes have findings in
--- the second alone
+-- the bytes are an image of the first or third format with findings, or one of the first whose
+-- sandboxes have findings in the second alone
 abbrev pub HasFindingsForConvert : List ℕ → Type 0
 HasFindingsForConvert bytes =
     (found : List Finding)
