@@ -4,9 +4,9 @@
     bench/checks.py [--program PATH] [--rounds N] [--checker FILE]
 
 Makes an image of 16 sandboxes with 64 KiB of accepted code each, of each kind of images.py. It prints megabytes (10^6) of image a
-second, by the medians of N alternated runs, and x86 instructions for a bundle. Beside `check`, and `check --raw` in both formats,
+second, by the medians of N alternated runs, and x86 instructions for a bundle. Beside `check`, and `check --raw` in all formats,
 stand one linear pass over the same text (pass.c), and checker.c (FILE is another checker in C, which takes the same words) on the same
-bytes, in both its ways and both formats. Then it prints the peak of resident memory over larger and larger images.
+bytes, in both its ways and the first two formats. Then it prints the peak of resident memory over larger and larger images.
 """
 import argparse
 import os
@@ -23,6 +23,7 @@ def commands_of(program, folder, checker):
         "`check --report`": ([program, "check", "--report"], "text"),
         "`check --raw`": ([program, "check", "--raw"], "raw"),
         "the same, second format": ([program, "check", "--raw"], "second"),
+        "the same, third format": ([program, "check", "--raw"], "third"),
         "linear pass": ([measure.compiled("pass.c", os.path.join(folder, "pass"))], "text"),
     }
     for name, built in measure.checkers(checker, folder).items():
@@ -39,9 +40,10 @@ def write_image(folder, *what):
     return len(data)
 
 
-def write_both_formats(folder, kind, sandboxes):
-    """Writes the image, and one of the same kind in the second format; says how many bytes each has."""
+def write_formats(folder, kind, sandboxes):
+    """Writes the image, and one of the same kind in each of the other formats; says how many bytes each has."""
     measure.written(os.path.join(folder, "second"), images.image(kind, sandboxes, format=2))
+    measure.written(os.path.join(folder, "third"), images.image(kind, sandboxes, format=3))
     return write_image(folder, kind, sandboxes)
 
 
@@ -55,9 +57,9 @@ def expect_verdicts(commands):
 def print_speeds(commands, folder, rounds):
     print("| image |", " | ".join(commands), "|")
     for kind in images.KINDS:
-        write_both_formats(folder, kind, 8)
+        write_formats(folder, kind, 8)
         half = {name: measure.instructions(*command) for name, command in commands.items()}
-        size = write_both_formats(folder, kind, 16)
+        size = write_formats(folder, kind, 16)
         expect_verdicts(commands)
         times = measure.medians(commands, rounds)
         cells = [kind]

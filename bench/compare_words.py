@@ -4,10 +4,11 @@
     bench/compare_words.py [--program PATH] [--images N] [--seed N]
 
 Compares all findings of `sfi check --report` with those of word_rules.py on N small images (2000) of random code (odd_words.py), of which
-half keeps the rules but for a few bits, and on a large one. Then N / 20 random images that keep the rules have to be accepted, and none of
-their runs, by a machine with hostile registers (word_machine.py) and three from each word, may leave the code, reach what is no instruction,
-call at no gate, or access what lies beyond the guard zones. Last, for each rule, code that keeps the others alone: one image has to be found
-that is refused for it alone and has such a run. Prints what was compared and what differs, and in its last line `N passed, M failed`.
+half keeps the rules but for a few bits, and on a large one. The kinds of images.py have to be accepted, and so have N / 20 random images
+that keep the rules. Of these no run, by a machine with hostile registers (word_machine.py) and three from each word, may leave the code,
+reach what is no instruction, call at no gate, or access what lies beyond the guard zones. Last, for each rule, code that keeps the others
+alone: one image has to be found that is refused for it alone and has such a run. Prints what was compared and what differs, and in its last
+line `N passed, M failed`.
 """
 import argparse
 import collections
@@ -15,6 +16,7 @@ import random
 import sys
 
 import compare
+import images
 import measure
 import odd_words
 import word_machine
@@ -43,22 +45,28 @@ def printed_lines(program, sandboxes):
     return [" ".join(line.split()[:3]) for line in lines[:-1]] + lines[-1:]
 
 
-def compare_findings(what, program, images):
-    expected = [expected_lines(sandboxes) for sandboxes in images]
+def compare_findings(what, program, some):
+    expected = [expected_lines(sandboxes) for sandboxes in some]
     rules = collections.Counter(line.split()[2] for lines in expected for line in lines[:-1])
     print(f"{what}: {dict(rules.most_common())}")
-    given = [odd_words.image(sandboxes) for sandboxes in images]
-    return compare.is_same(what, expected, [printed_lines(program, sandboxes) for sandboxes in images], given)
+    given = [odd_words.image(sandboxes) for sandboxes in some]
+    return compare.is_same(what, expected, [printed_lines(program, sandboxes) for sandboxes in some], given)
 
 
-def verdict(program, sandboxes):
-    return compare.output([program, "check", "--raw"], odd_words.image(sandboxes)).rstrip("\n")
+def verdict(program, image):
+    return compare.output([program, "check", "--raw"], image).rstrip("\n")
+
+
+def compare_kinds(program):
+    """Whether the images that are measured are accepted."""
+    verdicts = [verdict(program, images.image(kind, format=3)) for kind in images.KINDS]
+    return compare.is_same("kinds", ["accepted sandboxes=16 bundles=65536"] * len(verdicts), verdicts)
 
 
 def compare_runs(program, pick, count):
     """Whether code that keeps the rules is accepted, and whether all its runs are safe."""
     made = [odd_words.made_code(pick, 256) for _ in range(count)]
-    verdicts = [verdict(program, [code]) for code in made]
+    verdicts = [verdict(program, odd_words.image([code])) for code in made]
     same = compare.is_same("code that keeps the rules", ["accepted sandboxes=1 bundles=16"] * count, verdicts)
     escapes = [word_machine.first_escape(*code, pick) for code in made]
     for (code, _), why in zip(made, escapes):
@@ -74,7 +82,7 @@ def is_needed(program, pick, rule):
         code, gates = odd_words.made_code(pick, 256, {rule})
         why = word_machine.first_escape(code, gates, pick, 2)
         if why:
-            said = verdict(program, [(code, gates)])
+            said = verdict(program, odd_words.image([(code, gates)]))
             print(f"without {rule} {why}: {said}")
             return f"first={rule} " in said
     print(f"without {rule} no run was found that isn't safe")
@@ -92,6 +100,7 @@ def main():
     small = [odd_words.small_sandboxes(options.seed + n) for n in range(options.images)]
     same = [compare_findings("small images", program, small)]
     same.append(compare_findings("a large image", program, [odd_words.large_sandboxes(options.seed)]))
+    same.append(compare_kinds(program))
     same += compare_runs(program, pick, options.images // 20)
     same += [is_needed(program, pick, rule) for rule in word_rules.RULES]
     print(f"{same.count(True)} passed, {same.count(False)} failed")

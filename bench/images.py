@@ -3,8 +3,11 @@ import random
 import struct
 
 # mixed: accesses and indirect jumps after their pairs, branches, jumps, computations of both lengths; wide: 32-bit computations
-# alone; short: 16-bit forms alone; pairs: in each bundle one access after its pair, and one computation.
+# alone; short: 16-bit forms alone; pairs: in each bundle one access after its pair, and one computation. In code in words accesses need no
+# pair; there mixed code has one for every two accesses, and steps of data registers.
 KINDS = ["mixed", "wide", "short", "pairs"]
+MAGICS = {1: b"SFI1", 2: b"SFI2", 3: b"SFIW"}
+DATA_REGISTERS = [2, 3, 4, 29]
 
 # From the smallest image to the largest: how many sandboxes, the bytes of code and the first bytes of data of each, and the format.
 SIZES = [(1, 256, 0, 1), (1, 65536, 0, 1), (16, 65536, 0, 1), (16, 65536, 1048576, 1), (16, 1048576, 1048576, 2)]
@@ -25,7 +28,8 @@ class Code:
         self.random = random.Random(seed)
         self.size = size
         # Registers that no rule reserves, and that are not x0.
-        self.free = [r for r in range(1, 32) if not 24 <= r <= 27 and (format, r) != (2, 2)]
+        typed = {1: [], 2: [2], 3: [*DATA_REGISTERS, 30, 31]}[format]
+        self.free = [r for r in range(1, 32) if not 24 <= r <= 27 and r not in typed]
 
     def register(self):
         return self.random.choice(self.free)
@@ -95,15 +99,64 @@ class Code:
             return self.computation() + self.short() + self.short() + self.computation() + self.branch(at + 12)
         if pick < 0.75:
             return self.computation() + self.computation() + self.short() + self.short() + self.jump(at + 12)
+        return self.plain()
+
+    def plain(self):
         return self.short() + self.computation() + self.computation() + self.computation() + self.short()
+
+
+class WordCode(Code):
+    """The same of code in words, 16 bytes at a time."""
+
+    def __init__(self, seed, size):
+        super().__init__(seed, size, 3)
+
+    def on_data(self, target, offset):
+        if self.random.random() < 0.6:
+            return i_word(offset, target, self.random.choice([0, 1, 2, 4, 5]), self.register(), 0x03)
+        offset &= 0xFFF
+        word = offset >> 5 << 25 | self.register() << 20 | target << 15 | self.random.randrange(3) << 12 | (offset & 31) << 7 | 0x23
+        return struct.pack("<I", word)
+
+    def put(self, target):
+        """and x31, a, x27; or target, x31, x26"""
+        return r_word(0, 27, self.register(), 7, 31) + r_word(0, 26, 31, 6, target)
+
+    def access(self):
+        target = self.random.choice(DATA_REGISTERS)
+        return self.put(target) + self.on_data(target, self.random.randrange(-2048, 2048))
+
+    def accesses(self):
+        """two, with a register put into the data before them, or with a step before the first"""
+        target = self.random.choice(DATA_REGISTERS)
+        second = self.on_data(target, self.random.randrange(-2048, 2048))
+        if self.random.random() < 0.5:
+            return self.access() + second
+        step = i_word(self.random.randrange(4096), target, 0, target, 0x13)
+        return step + self.on_data(target, self.random.randrange(-1020, 1021)) + second + self.short() + self.short()
+
+    def indirect_jump(self):
+        """and x30, a, x25; or x30, x30, x24; jalr"""
+        pair = r_word(0, 25, self.register(), 7, 30) + r_word(0, 24, 30, 6, 30)
+        return pair + i_word(0, 30, 0, self.random.choice([0, 1]), 0x67)
+
+    def plain(self):
+        return self.computation() + self.computation() + self.short() + self.short() + self.computation()
+
+    def bundle(self, kind, at):
+        return self.accesses() if kind == "mixed" and self.random.random() < 0.4 else super().bundle(kind, at)
+
+
+def code_of(seed, size, format):
+    return WordCode(seed, size) if format == 3 else Code(seed, size, format)
 
 
 def image(kind, sandboxes=16, code_size=65536, init=0, format=1, seed=0):
     """The bytes of an image with that many sandboxes, each with that much code, 1 MiB of data, and that many first data bytes. Another
     seed makes other code."""
-    out = [b"SFI%d" % format, struct.pack("<I", sandboxes)]
+    out = [MAGICS[format], struct.pack("<I", sandboxes)]
     for n in range(sandboxes):
-        code = Code(seed + n, code_size, format)
+        code = code_of(seed + n, code_size, format)
         code_base = 0x01000000 * (n + 1)
         bundles = [code.bundle(kind, at) for at in range(0, code_size - 16, 16)]
         bundles.append(struct.pack("<H", 0x9002) * 8)  # c.ebreak: control can't run off the end

@@ -4,11 +4,11 @@ program, reading, and text.
 
     bench/scans.py [--rounds N] [--checker FILE] [--module FILE]
 
-Prints, for each kind of images.py and both formats, x86 instructions for a bundle, branches for a bundle that callgrind's model guesses
+Prints, for each kind of images.py and each format, x86 instructions for a bundle, branches for a bundle that callgrind's model guesses
 wrong, and megabytes (10^6) of image a second, by the medians of N alternated runs: of the library, and beside it of checker.c on the
-same bytes, by switches and by its class table (FILE is another checker in C, which takes the same words). With --module, so is the
-WebAssembly module in node, by its speed alone. Then it prints, for each of these, its instructions by those of the library, and the
-library's speed by its speed: above 1 the library is ahead.
+same bytes, in the first two formats, by switches and by its class table (FILE is another checker in C, which takes the same words). With
+--module, so is the WebAssembly module in node, by its speed alone. Then it prints, for each of these, its instructions by those of the
+library, and the library's speed by its speed: above 1 the library is ahead.
 The library is built by (cd crates/sfi_c && rt lib), the module by tools/build_library.py.
 """
 import argparse
@@ -42,8 +42,8 @@ def commands_of(folder, checker, module):
     programs = {"library": [scan]}
     for name, path in measure.checkers(checker, folder).items():
         programs[name] = [path, "--bench"]
-    images_at = {n: os.path.join(folder, str(n)) for n in (1, 2)}
-    commands = {(name, n): [*words, path] for n, path in images_at.items() for name, words in programs.items()}
+    images_at = {n: os.path.join(folder, str(n)) for n in images.MAGICS}
+    commands = {(name, n): [*words, path] for n, path in images_at.items() for name, words in programs.items() if n < 3 or name == "library"}
     return commands | {("node", n): node_with(module, path) for n, path in images_at.items() if module}
 
 
@@ -92,7 +92,7 @@ def main():
         commands = commands_of(folder, options.checker, options.module)
         print("| image |", " | ".join(f"{name}, format {n}" for name, n in commands), "|")
         for kind in images.KINDS:
-            for n in (1, 2):
+            for n in images.MAGICS:
                 measure.written(os.path.join(folder, str(n)), images.image(kind, format=n))
             cells, ratios = rows_of(kind, commands, options.rounds)
             all_ratios.append(ratios)
