@@ -9,10 +9,14 @@ pub mod Stricter
 pub mod Undecodable
 pub mod Places
 pub mod Readings
+pub mod WordReadings
+pub mod WordEntries
+pub mod NeededWords
 pub mod TurnInvariant
 pub mod Safe
 pub mod Samples
 pub mod Sandboxed
+pub mod SandboxedWords
 pub mod Stacking
 pub mod Stepping
 pub mod Facts

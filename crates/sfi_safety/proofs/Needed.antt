@@ -1,5 +1,5 @@
 -- The rules that the samples of instructions break are needed, and so is each.
-use Rattle.sfi_safety.proofs.Prelude.{◌≡◌, ℕ, ◌+◌, ◌*◌, List, [], ◌∷◌, refl, sym, arith, add-zero, pos, filter, ints, And, Or, Sw, Instr, Op, OpImm, Store, Jal, Jalr, Ecall, Ebreak, minus, InRange, Sfi1, Sfi2, place_of, bundle_bytes, Piece, rest_of, breaks, is_empty, all_rules, IsGate, BreaksAlone, IsNeeded, EachRuleIsNeeded}
+use Rattle.sfi_safety.proofs.Prelude.{◌≡◌, ℕ, ◌+◌, ◌*◌, List, [], ◌∷◌, refl, sym, arith, add-zero, pos, filter, ints, And, Or, Sw, Instr, Op, OpImm, Store, Jal, Jalr, Ecall, Ebreak, minus, InRange, Sfi1, Sfi2, place_of, bundle_bytes, Piece, rest_of, breaks, is_empty, all_rules, IsGate, BreaksAloneInBundle, IsNeeded, EachRuleIsNeeded}
 use Rattle.rv_word.specs.declared.instr.ImmOp.TheVariants.{Addi}
 use Rattle.sfi_safety.specs.Samples.{Sample, sandbox, words_of, bytes_of, ecall_at_no_gate, written_rd_forgotten, pair_on_x0, pair_across_bundles, jalr_offset_ignored, jump_to_any_start, stack_not_put_back, undecodable, crossing_store, running_off_the_end, gate_comes_back_elsewhere}
 use Rattle.sfi_rules.specs.declared.rule.Rule.{Rule}
@@ -40,7 +40,7 @@ module _ (s : Sample) (rule : Rule) (number : ℕ) (a b c d : Instr) (bytes : by
       }) r) all_rules
 
   -- at the first of them
-  pub first_alone : broken_at (0x01000000 + 16 * number) [] a (wide b ∷ wide c ∷ wide d ∷ []) ≡ rule ∷ [] → BreaksAlone rule (0x01000000 + 16 * number) (sandbox s)
+  pub first_alone : broken_at (0x01000000 + 16 * number) [] a (wide b ∷ wide c ∷ wide d ∷ []) ≡ rule ∷ [] → BreaksAloneInBundle rule (0x01000000 + 16 * number) (sandbox s)
   first_alone broken = record {
     number = number;
     earlier = [];
@@ -52,7 +52,7 @@ module _ (s : Sample) (rule : Rule) (number : ℕ) (a b c d : Instr) (bytes : by
   }
 
   -- at the third
-  pub third_alone : broken_at (0x01000000 + 16 * number + 8) (b ∷ a ∷ []) c (wide d ∷ []) ≡ rule ∷ [] → BreaksAlone rule (0x01000000 + 16 * number + 8) (sandbox s)
+  pub third_alone : broken_at (0x01000000 + 16 * number + 8) (b ∷ a ∷ []) c (wide d ∷ []) ≡ rule ∷ [] → BreaksAloneInBundle rule (0x01000000 + 16 * number + 8) (sandbox s)
   third_alone broken = record {
     number = number;
     earlier = wide b ∷ wide a ∷ [];
@@ -68,8 +68,8 @@ module _ (s : Sample) (rule : Rule) (number : ℕ) (a b c d : Instr) (bytes : by
 pub ecall_at_no_gate_unsafe : IsNeeded V3 0x01000000 (sandbox ecall_at_no_gate)
 ecall_at_no_gate_unsafe =
     let s = ecall_at_no_gate in
-    let is : IsSample s = without_gates s refl refl refl refl in
-    needed s is V3 0x01000000 0 (omega arith)
+    let is : IsSample s = without_gates s refl refl refl in
+    needed s is V3 0x01000000 0 refl (omega arith)
     (code_findings Sfi1 Ecall Ebreak Ebreak Ebreak Ebreak Ebreak Ebreak Ebreak (record { sandbox = 0; address = 0x01000000; rule = V3 } ∷ []) []
     ecall_spelled ebreak_spelled ebreak_spelled ebreak_spelled ebreak_spelled ebreak_spelled ebreak_spelled ebreak_spelled refl refl)
     (first_alone s V3 0 Ecall Ebreak Ebreak Ebreak refl ecall_spelled ebreak_spelled ebreak_spelled ebreak_spelled refl)
@@ -80,8 +80,8 @@ ecall_at_no_gate_unsafe =
 pub written_rd_forgotten_unsafe : IsNeeded V4 0x01000000 (sandbox written_rd_forgotten)
 written_rd_forgotten_unsafe =
     let s = written_rd_forgotten in
-    let is : IsSample s = without_gates s refl refl refl refl in
-    needed s is V4 0x01000000 0 (omega arith)
+    let is : IsSample s = without_gates s refl refl refl in
+    needed s is V4 0x01000000 0 refl (omega arith)
     (code_findings Sfi1 (Jal 26 (pos 16)) Ebreak Ebreak Ebreak (Op And 31 10 27) (Op Or 31 31 26) (Store Sw 31 11 (pos 0)) Ebreak (record { sandbox = 0; address = 0x01000000; rule = V4 } ∷ []) []
     jal_x26 ebreak_spelled ebreak_spelled ebreak_spelled (op_spelled And 31 10 27 refl) (op_spelled Or 31 31 26 refl) (store_spelled Sw 31 11 refl) ebreak_spelled refl refl)
     (first_alone s V4 0 (Jal 26 (pos 16)) Ebreak Ebreak Ebreak refl jal_x26 ebreak_spelled ebreak_spelled ebreak_spelled refl)
@@ -96,8 +96,8 @@ written_rd_forgotten_unsafe =
 pub pair_on_x0_unsafe : IsNeeded V5 0x01000008 (sandbox pair_on_x0)
 pair_on_x0_unsafe =
     let s = pair_on_x0 in
-    let is : IsSample s = without_gates s refl refl refl refl in
-    needed s is V5 0x01000008 0 (omega arith)
+    let is : IsSample s = without_gates s refl refl refl in
+    needed s is V5 0x01000008 0 refl (omega arith)
     (code_findings Sfi1 (Op And 0 10 27) (Op Or 0 0 26) (Store Sw 0 11 (pos 0)) Ebreak Ebreak Ebreak Ebreak Ebreak (record { sandbox = 0; address = 0x01000008; rule = V5 } ∷ []) []
     (op_spelled And 0 10 27 refl) (op_spelled Or 0 0 26 refl) (store_spelled Sw 0 11 refl) ebreak_spelled ebreak_spelled ebreak_spelled ebreak_spelled ebreak_spelled refl refl)
     (third_alone s V5 0 (Op And 0 10 27) (Op Or 0 0 26) (Store Sw 0 11 (pos 0)) Ebreak refl (op_spelled And 0 10 27 refl) (op_spelled Or 0 0 26 refl) (store_spelled Sw 0 11 refl) ebreak_spelled refl)
@@ -111,8 +111,8 @@ pair_on_x0_unsafe =
 pub pair_across_bundles_unsafe : IsNeeded V5 0x01000010 (sandbox pair_across_bundles)
 pair_across_bundles_unsafe =
     let s = pair_across_bundles in
-    let is : IsSample s = without_gates s refl refl refl refl in
-    needed s is V5 0x01000010 1 (omega arith)
+    let is : IsSample s = without_gates s refl refl refl in
+    needed s is V5 0x01000010 1 refl (omega arith)
     (code_findings Sfi1 Ebreak Ebreak (Op And 31 10 27) (Op Or 31 31 26) (Store Sw 31 11 (pos 0)) Ebreak Ebreak Ebreak [] (record { sandbox = 0; address = 0x01000010; rule = V5 } ∷ [])
     ebreak_spelled ebreak_spelled (op_spelled And 31 10 27 refl) (op_spelled Or 31 31 26 refl) (store_spelled Sw 31 11 refl) ebreak_spelled ebreak_spelled ebreak_spelled refl refl)
     (first_alone s V5 1 (Store Sw 31 11 (pos 0)) Ebreak Ebreak Ebreak refl (store_spelled Sw 31 11 refl) ebreak_spelled ebreak_spelled ebreak_spelled refl)
@@ -123,8 +123,8 @@ pair_across_bundles_unsafe =
 pub jalr_offset_ignored_unsafe : IsNeeded V6 0x01000008 (sandbox jalr_offset_ignored)
 jalr_offset_ignored_unsafe =
     let s = jalr_offset_ignored in
-    let is : IsSample s = without_gates s refl refl refl refl in
-    needed s is V6 0x01000008 0 (omega arith)
+    let is : IsSample s = without_gates s refl refl refl in
+    needed s is V6 0x01000008 0 refl (omega arith)
     (code_findings Sfi1 (Op And 31 10 25) (Op Or 31 31 24) (Jalr 0 31 (pos 16)) Ebreak Ebreak Ebreak Ebreak Ebreak (record { sandbox = 0; address = 0x01000008; rule = V6 } ∷ []) []
     (op_spelled And 31 10 25 refl) (op_spelled Or 31 31 24 refl) jalr_past ebreak_spelled ebreak_spelled ebreak_spelled ebreak_spelled ebreak_spelled refl refl)
     (third_alone s V6 0 (Op And 31 10 25) (Op Or 31 31 24) (Jalr 0 31 (pos 16)) Ebreak refl (op_spelled And 31 10 25 refl) (op_spelled Or 31 31 24 refl) jalr_past ebreak_spelled refl)
@@ -139,8 +139,8 @@ jalr_offset_ignored_unsafe =
 pub jump_to_any_start_unsafe : IsNeeded V7 0x01000010 (sandbox jump_to_any_start)
 jump_to_any_start_unsafe =
     let s = jump_to_any_start in
-    let is : IsSample s = without_gates s refl refl refl refl in
-    needed s is V7 0x01000010 1 (omega arith)
+    let is : IsSample s = without_gates s refl refl refl in
+    needed s is V7 0x01000010 1 refl (omega arith)
     (code_findings Sfi1 (Op And 31 10 27) (Op Or 31 31 26) (Store Sw 31 11 (pos 0)) Ebreak (Jal 0 (minus 8)) Ebreak Ebreak Ebreak [] (record { sandbox = 0; address = 0x01000010; rule = V7 } ∷ [])
     (op_spelled And 31 10 27 refl) (op_spelled Or 31 31 26 refl) (store_spelled Sw 31 11 refl) ebreak_spelled jal_back ebreak_spelled ebreak_spelled ebreak_spelled refl refl)
     (first_alone s V7 1 (Jal 0 (minus 8)) Ebreak Ebreak Ebreak refl jal_back ebreak_spelled ebreak_spelled ebreak_spelled refl)
@@ -153,8 +153,8 @@ jump_to_any_start_unsafe =
 pub stack_not_put_back_unsafe : IsNeeded V10 0x01000000 (sandbox stack_not_put_back)
 stack_not_put_back_unsafe =
     let s = stack_not_put_back in
-    let is : IsSample s = without_gates s refl refl refl refl in
-    needed s is V10 0x01000000 0 (omega arith)
+    let is : IsSample s = without_gates s refl refl refl in
+    needed s is V10 0x01000000 0 refl (omega arith)
     (code_findings Sfi2 (OpImm Addi 2 0 (pos 0)) (Store Sw 2 11 (pos 0)) Ebreak Ebreak Ebreak Ebreak Ebreak Ebreak (record { sandbox = 0; address = 0x01000000; rule = V10 } ∷ []) []
     addi_x2 (store_spelled Sw 2 11 refl) ebreak_spelled ebreak_spelled ebreak_spelled ebreak_spelled ebreak_spelled ebreak_spelled refl refl)
     (first_alone s V10 0 (OpImm Addi 2 0 (pos 0)) (Store Sw 2 11 (pos 0)) Ebreak Ebreak refl addi_x2 (store_spelled Sw 2 11 refl) ebreak_spelled ebreak_spelled refl)

@@ -1,7 +1,7 @@
 -- That the rules on what is read, on the region's end and on gates are needed.
-use Rattle.sfi_safety.proofs.Prelude.{false≢true, ◌≡◌, ◌≢◌, ℕ, zero, suc, ◌+◌, ◌*◌, ◌<◌, ◌≤◌, ◌==◌, ◌||◌, List, [], ◌∷◌, length, take, drop, Some, false, refl, sym, ap, ◌∙◌, subst, inl, inr, arith, get_or-take, pos, slice_index, All, ints, Instr, And, Or, Sw, Op, Store, Jalr, Ecall, Ebreak, spelling, InRange, Spells, Sfi1, Bytes, Stands, unchanged, Call, is_gate_of, IsBundleStart, AreGateWords, place_of, bundle_bytes, HasCode, Steps, Replies, IsReply, IsEntry, IsNeeded, Finding}
+use Rattle.sfi_safety.proofs.Prelude.{false≢true, ◌≡◌, ◌≢◌, ℕ, zero, suc, ◌+◌, ◌*◌, ◌<◌, ◌≤◌, ◌==◌, ◌||◌, List, [], ◌∷◌, length, take, drop, Some, false, refl, sym, ap, ◌∙◌, subst, inl, inr, arith, get_or-take, pos, slice_index, All, ints, Instr, And, Or, Sw, Op, Store, Jalr, Ecall, Ebreak, spelling, InRange, Spells, Sfi1, Bytes, Stands, unchanged, Call, is_gate_of, IsBundleStart, AreGateWords, place_of, bundle_bytes, HasCode, Steps, Replies, IsReply, IsEntry, IsNeeded, HasUnsafeRun, Hart, Finding}
 use Rattle.rv_comp.specs.declared.form.Form16.TheVariants.{CAddi}
-use Rattle.sfi_safety.specs.Samples.{sandbox, nop, undecodable, crossing_store, running_off_the_end, gate_comes_back_elsewhere}
+use Rattle.sfi_safety.specs.Samples.{Sample, sandbox, nop, undecodable, crossing_store, running_off_the_end, gate_comes_back_elsewhere}
 use Rattle.sfi_policy.specs.Limits.{service_most}
 use Rattle.sfi_pairs.specs.Pairs.{stub}
 use Rattle.sfi_rules.specs.declared.rule.Rule.TheVariants.{V1, V2, V8, V9}
@@ -20,35 +20,40 @@ nop_spelled = word_spells nop (omega arith, omega arith, (omega (arith, ints), o
 
 -- ---- a word that spells no instruction
 
+-- a run at a word of ones at the start of the code stands at no instruction
+pub undecodable_runs : (s : Sample) → IsSample s → (m : Bytes) → HasCode (sandbox s) m → (h : Hart) → h.pc ≡ 0x01000000 → (rest : List ℕ) → (sandbox s).code ≡ 255 ∷ 255 ∷ 255 ∷ 255 ∷ rest → HasUnsafeRun (sandbox s) (record { hart = h; memory = m })
+undecodable_runs s is m code h pc rest begins = record { turns = []; run = tt; unsafe = λ safe. ones_stand safe.present.instr safe.present.size safe.present.stands }
+  where
+    ones_stand : (i : Instr) (n : ℕ) → Stands (record { hart = h; memory = m }) i n → ⊥
+    ones_stand i n st = by st.spelled
+      where
+        here : n ≤ 256 → ⊥
+        here few =
+            let there = bytes_there s is m code h 0 n pc (omega (arith, few)) in
+            let both : Some (take n (sandbox s).code) ≡ Some st.bytes = sym there ∙ st.there in
+            let same : take n (sandbox s).code ≡ st.bytes = cc in
+            let ones : take n (255 ∷ 255 ∷ 255 ∷ 255 ∷ rest) ≡ st.bytes = ap (take n) (sym begins) ∙ same in
+            ones_begin_nothing rest (record { instr = i; size = n }) (subst (λ (bytes : List ℕ). Spells bytes i n) (sym ones) st.spelled)
+
+        by : Spells st.bytes i n → ⊥
+        by (inl s) = let size = s.size in here (omega (arith, size))
+        by (inr s) = let size = s.size in here (omega (arith, size))
+
 pub undecodable_unsafe : IsNeeded V1 0x01000000 (sandbox undecodable)
 undecodable_unsafe =
     let p = sandbox undecodable in
     let bytes = bundle_bytes p 0 in
     let x : List Finding = record { sandbox = 0; address = 0x01000000; rule = V1 } ∷ [] in
-    needed undecodable is V1 0x01000000 0 (omega arith)
+    needed undecodable is V1 0x01000000 0 refl (omega arith)
     (all_findings Sfi1 [] 0xffffffff brk brk brk brk brk brk brk brk brk brk brk none_listed x [] []
     (read_bundle (place_of 0 p 0) bytes [] bytes x refl tt refl (ones_begin_nothing (drop 4 bytes)) refl)
     (quiet Sfi1 [] 0xffffffff brk brk brk brk brk brk brk brk brk brk brk none_listed 0 refl refl refl refl)
     (quiet Sfi1 [] 0xffffffff brk brk brk brk brk brk brk brk brk brk brk none_listed 14 refl refl refl refl))
     tt
-    (λ m entry. record { turns = []; run = tt; unsafe = λ safe. ones_stand m entry.code safe.present.instr safe.present.size safe.present.stands })
+    (λ m entry. undecodable_runs undecodable is m entry.code (hart 0x01000000 0x01800000 0) refl (drop 4 (sandbox undecodable).code) refl)
   where
     is : IsSample undecodable
-    is = without_gates undecodable refl refl refl refl
-
-    ones_stand : (m : Bytes) → HasCode (sandbox undecodable) m → (i : Instr) (n : ℕ) → Stands (first 0x01000000 m) i n → ⊥
-    ones_stand m code i n st = by st.spelled
-      where
-        here : n ≤ 256 → ⊥
-        here few =
-            let there = bytes_there undecodable is m code (hart 0x01000000 0x01800000 0) 0 n refl (omega (arith, few)) in
-            let both : Some (take n (sandbox undecodable).code) ≡ Some st.bytes = sym there ∙ st.there in
-            let same : take n (sandbox undecodable).code ≡ st.bytes = cc in
-            ones_begin_nothing (drop 4 (sandbox undecodable).code) (record { instr = i; size = n }) (subst (λ (bytes : List ℕ). Spells bytes i n) (sym same) st.spelled)
-
-        by : Spells st.bytes i n → ⊥
-        by (inl s) = let size = s.size in here (omega (arith, size))
-        by (inr s) = let size = s.size in here (omega (arith, size))
+    is = without_gates undecodable refl refl refl
 
 -- ---- a store that crosses a bundle's end
 
@@ -56,11 +61,11 @@ pub short_nop : Spells (0x01 ∷ 0x00 ∷ []) nop 2
 short_nop = inl (record { size = refl; all = refl; spelled = record { form = CAddi 0 (pos 0); gives = record { meets = refl; spelled = refl }; expands = refl } })
 
 -- the store's bytes, in both bundles
-store_across : Spells (0x23 ∷ 0x20 ∷ 0x13 ∷ 0x00 ∷ []) (Store Sw 6 1 (pos 0)) 4
+pub store_across : Spells (0x23 ∷ 0x20 ∷ 0x13 ∷ 0x00 ∷ []) (Store Sw 6 1 (pos 0)) 4
 unfolding spelling InRange
 store_across = inr (record { size = refl; all = refl; spelled = ((omega arith, omega arith, (omega (arith, ints), omega (arith, ints))), refl) })
 
-nop_next : Spells (0x13 ∷ 0x00 ∷ 0x00 ∷ 0x00 ∷ []) nop 4
+pub nop_next : Spells (0x13 ∷ 0x00 ∷ 0x00 ∷ 0x00 ∷ []) nop 4
 unfolding spelling InRange
 nop_next = inr (record { size = refl; all = refl; spelled = ((omega arith, omega arith, (omega (arith, ints), omega (arith, ints))), refl) })
 
@@ -83,12 +88,12 @@ half_begins_nothing y (inr s) =
 pub crossing_store_unsafe : IsNeeded V2 0x0100000e (sandbox crossing_store)
 crossing_store_unsafe =
     let s = crossing_store in
-    let is : IsSample s = without_gates s refl refl refl refl in
+    let is : IsSample s = without_gates s refl refl refl in
     let x : List Finding = record { sandbox = 0; address = 0x0100000e; rule = V2 } ∷ [] in
     let n = spelling nop in
     let place = place_of 0 (sandbox s) in
     let bytes = bundle_bytes (sandbox s) in
-    needed s is V2 0x0100000e 0 (omega arith)
+    needed s is V2 0x0100000e 0 refl (omega arith)
     (all_findings Sfi1 [] n n n 0x20230001 0x00000013 brk brk brk brk brk brk brk none_listed x [] []
     (read_bundle (place 0) (bytes 0) (wide nop ∷ wide nop ∷ wide nop ∷ record { instr = nop; size = 2 } ∷ []) (0x23 ∷ 0x20 ∷ []) x refl (nop_spelled, (nop_spelled, (nop_spelled, (short_nop, tt)))) refl half_begins_nothing refl)
     (read_bundle (place 1) (bytes 1) (four nop Ebreak Ebreak Ebreak) [] [] refl (nop_next, (ebreak_spelled, (ebreak_spelled, (ebreak_spelled, tt)))) refl (nothing_begins [] refl) refl)
@@ -106,12 +111,12 @@ crossing_store_unsafe =
 pub running_off_the_end_unsafe : IsNeeded V8 0x010000fc (sandbox running_off_the_end)
 running_off_the_end_unsafe =
     let s = running_off_the_end in
-    let is : IsSample s = without_gates s refl refl refl refl in
+    let is : IsSample s = without_gates s refl refl refl in
     let x : List Finding = record { sandbox = 0; address = 0x010000fc; rule = V8 } ∷ [] in
     let n = spelling nop in
     let place = place_of 0 (sandbox s) in
     let bytes = bundle_bytes (sandbox s) in
-    needed s is V8 0x010000fc 15 (omega arith)
+    needed s is V8 0x010000fc 15 refl (omega arith)
     (all_findings Sfi1 [] brk brk brk brk brk brk brk brk n n n n none_listed [] [] x
     (four_words (place 0) (bytes 0) Ebreak Ebreak Ebreak Ebreak [] refl refl ebreak_spelled ebreak_spelled ebreak_spelled ebreak_spelled refl)
     (quiet Sfi1 [] brk brk brk brk brk brk brk brk n n n n none_listed 0 refl refl refl refl)
@@ -136,7 +141,6 @@ running_off_the_end_unsafe =
 
 gate_sample : IsSample gate_comes_back_elsewhere
 gate_sample = record {
-  bundles = refl;
   first_words = refl;
   last_words = refl;
   words = words;
@@ -182,7 +186,7 @@ gate_comes_back_elsewhere_unsafe =
     let and_back = spelling (Op And 31 1 25) in
     let or_back = spelling (Op Or 31 31 24) in
     let jump = spelling (Jalr 0 31 (pos 16)) in
-    needed s gate_sample V9 0x01000000 0 (omega arith)
+    needed s gate_sample V9 0x01000000 0 refl (omega arith)
     (all_findings Sfi1 s.gates (spelling Ecall) and_back or_back jump brk brk brk brk brk brk brk brk others_unlisted (record { sandbox = 0; address = 0x01000000; rule = V9 } ∷ []) [] []
     (inl (refl, not_stub, refl))
     (quiet Sfi1 s.gates (spelling Ecall) and_back or_back jump brk brk brk brk brk brk brk brk others_unlisted 0 refl refl refl refl)

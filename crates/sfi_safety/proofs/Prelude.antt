@@ -36,7 +36,7 @@ pub use Rattle.sfi_image.specs.declared.bundle.BundlePlace.{BundlePlace}
 pub use Rattle.sfi_rules.specs.declared.finding.Finding.{Finding}
 pub use Rattle.sfi_safety.specs.Laws.{CleanCallsTyped, InstructionLeaves, TurnKeeps, EntryIsGood, CleanRunsSafely}
 pub use Rattle.sfi_safety.specs.Leaving.{Leaves, WritesResult, follows_mask}
-pub use Rattle.sfi_safety.specs.Needed.{BreaksAlone, IsNeeded, EachRuleIsNeeded, HasOneFinding, HasUnsafeRun, StoresByte, IsAcceptedAndRuns, IsStricter, BreaksNoOther}
+pub use Rattle.sfi_safety.specs.Needed.{BreaksAloneInBundle, IsNeeded, EachRuleIsNeeded, HasOneFinding, HasUnsafeRun, StoresByte, IsAcceptedAndRuns, IsStricter, BreaksNoOther}
 pub use Rattle.sfi_safety.specs.Places.{IsCleanPart, AreCleanBundles, IsGood, IsGoodIf, StackInDataBefore, IsAtPlace}
 pub use Rattle.sfi_runs.specs.Regions.{InData, InGuard, HasReserved, IsGate, HasCode, HasEmptyGuards}
 pub use Rattle.sfi_runs.specs.Typed.{StackInData}

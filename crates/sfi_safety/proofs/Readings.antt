@@ -33,6 +33,10 @@ most bytes (x ∷ xs) (y ∷ ys) a end b =
     let rest = most (drop x.size bytes) xs ys a.1 end (subst (λ (n : ℕ). IsReading (drop n bytes) ys) (sym e.1) b.1) in
     omega (arith, rest)
 
+-- so such a reading is the longest
+pub longest_of : (bytes : List ℕ) (reading : List Piece) → IsReading bytes reading → BeginsNothing (rest_of bytes reading) → IsLongestReading bytes reading
+longest_of bytes reading is end = record { is_reading = is; longest = λ other h. most bytes reading other is end h }
+
 -- a bundle that is no gate's has the findings of its reading and of what that leaves
 pub read_bundle : (b : BundlePlace) (bytes : List ℕ) (reading : List Piece) (rest : List ℕ) (found : List Finding) → b.listed ≡ false → IsReading bytes reading → rest_of bytes reading ≡ rest → BeginsNothing rest
     → findings_from b (is_empty rest) b.address [] reading ++ rest_finding b (b.address + (length bytes - length rest)) rest ≡ found → AreBundleFindings b bytes found
@@ -40,7 +44,7 @@ read_bundle b bytes reading rest found unlisted is left end e = inr (
   (λ listed. absurd (false≢true (sym unlisted ∙ listed))),
   record {
     reading = reading;
-    longest = record { is_reading = is; longest = λ other h. most bytes reading other is (subst BeginsNothing (sym left) end) h };
+    longest = longest_of bytes reading is (subst BeginsNothing (sym left) end);
     found_is = sym (subst (λ (rest : List ℕ). findings_from b (is_empty rest) b.address [] reading ++ rest_finding b (b.address + (length bytes - length rest)) rest ≡ found) (sym left) e);
   },
 )
@@ -87,10 +91,8 @@ four_words place bytes a b c d found unlisted is sa sb sc sd e =
 -- such a bundle is read as these four
 pub four_longest : (bytes : List ℕ) (a b c d : Instr) → bytes_of (words_of (a ∷ b ∷ c ∷ d ∷ [])) ≡ bytes → IsSpelled a → IsSpelled b → IsSpelled c → IsSpelled d → IsLongestReading bytes (four a b c d)
 four_longest bytes a b c d is sa sb sc sd =
-    subst (λ (l : List ℕ). IsLongestReading l (four a b c d)) is (record {
-      is_reading = (sa, (sb, (sc, (sd, tt))));
-      longest = λ other h. most (bytes_of (words_of (a ∷ b ∷ c ∷ d ∷ []))) (four a b c d) other (sa, (sb, (sc, (sd, tt)))) (nothing_begins [] refl) h;
-    })
+    subst (λ (l : List ℕ). IsLongestReading l (four a b c d)) is
+    (longest_of (bytes_of (words_of (a ∷ b ∷ c ∷ d ∷ []))) (four a b c d) (sa, (sb, (sc, (sd, tt)))) (nothing_begins [] refl))
 
 abbrev pub wide : Instr → Piece
 wide i = record { instr = i; size = 4 }

@@ -1,5 +1,5 @@
 -- The samples: their layout, their image, where they are entered, and their steps.
-use Rattle.sfi_safety.proofs.Prelude.{◌≡◌, ℕ, zero, suc, ◌+◌, ◌-◌, ◌*◌, ◌%◌, ◌^◌, ◌<◌, ◌≤◌, ◌⊎◌, List, [], ◌∷◌, ◌++◌, length, replicate, take, drop, Option, Some, inl, inr, refl, sym, ap, subst, ◌∙◌, arith, get_or, get_or-drop, get_or-take, slice_index, true, false, nat_lt, All, list_all, and_parts, ltb-true, Instr, Ebreak, Spells, Format, Sfi1, Sfi2, Sfiw, has_words, code_most, Bytes, byte_at, bytes_at, addresses, address_after, Accesses, Hart, IsHart, State, Stepped, Stands, IsStep, effect, next, unchanged, Call, AreGates, Part, AreGateWords, AreApart, code_region, guarded_region, IsBundleStart, IsRightPart, IsRightLayout, AreOf, Finding, AreFindings, InData, InGuard, IsGate, HasReserved, HasCode, Turn, Steps, IsEntry, IsRun, IsTurn, after_turn, after_step, IsSafeRun, HasOneFinding, HasUnsafeRun, IsNeeded, BreaksNoOther}
+use Rattle.sfi_safety.proofs.Prelude.{◌≡◌, ℕ, zero, suc, ◌+◌, ◌-◌, ◌*◌, ◌%◌, ◌^◌, ◌<◌, ◌≤◌, ◌⊎◌, List, [], ◌∷◌, ◌++◌, length, replicate, take, drop, Option, Some, inl, inr, refl, sym, ap, subst, ◌∙◌, arith, get_or, get_or-drop, get_or-take, slice_index, true, false, nat_lt, All, list_all, and_parts, ltb-true, Instr, Ebreak, Spells, Format, Sfi1, Sfi2, Sfiw, has_words, code_most, Bytes, byte_at, bytes_at, addresses, address_after, Accesses, Hart, IsHart, State, Stepped, Stands, IsStep, effect, next, unchanged, Call, AreGates, Part, AreGateWords, AreApart, code_region, guarded_region, IsBundleStart, IsRightPart, IsRightLayout, AreOf, Finding, AreFindings, InData, InGuard, IsGate, HasReserved, HasCode, IsUnitStart, IsTyped, Turn, Steps, IsEntry, IsRun, IsTurn, after_turn, after_step, IsSafeRun, HasOneFinding, HasUnsafeRun, IsNeeded, BreaksNoOther}
 use Rattle.rv_comp.specs.declared.front.Front.TheVariants.{Read}
 use Rattle.sfi_safety.specs.Samples.{Sample, sandbox, bytes_of, words_of}
 use Rattle.sfi_image.specs.declared.span.Span.{Span}
@@ -16,7 +16,6 @@ use Rattle.sfi_runs.proofs.Stepping.{read_all}
 
 -- what is asked of a sample
 pub record IsSample (s : Sample) : Type 0 where
-  pub bundles : has_words s.format ≡ false
   pub first_words : length s.first_words ≡ 8
   pub last_words : length s.last_words ≡ 4
   pub words : All AreGateWords s.gates
@@ -24,11 +23,10 @@ pub record IsSample (s : Sample) : Type 0 where
   pub gates : AreGates (record { base = 0x01000000; size = 256 }) s.gates
 
 -- a sample without gates
-pub without_gates : (s : Sample) → has_words s.format ≡ false → s.gates ≡ [] → length s.first_words ≡ 8 → length s.last_words ≡ 4 → IsSample s
-without_gates s bundles none first last =
+pub without_gates : (s : Sample) → s.gates ≡ [] → length s.first_words ≡ 8 → length s.last_words ≡ 4 → IsSample s
+without_gates s none first last =
     let empty : length s.gates ≡ 0 = ap length none in
     record {
-      bundles = bundles;
       first_words = first;
       last_words = last;
       words = λ k d below. absurd (omega (arith, empty, below));
@@ -130,7 +128,7 @@ stack_hart x2 pc x26 x31 = record {
 abbrev pub hart : ℕ → ℕ → ℕ → Hart
 hart pc x26 x31 = stack_hart 0x01800000 pc x26 x31
 
-each_below : (n : ℕ) (xs : List ℕ) → 0 < n → list_all (λ x. nat_lt x n) xs ≡ true → (k : ℕ) → slice_index xs k < n
+pub each_below : (n : ℕ) (xs : List ℕ) → 0 < n → list_all (λ x. nat_lt x n) xs ≡ true → (k : ℕ) → slice_index xs k < n
 each_below n [] some h k = some
 each_below n (x ∷ xs) some h zero = ltb-true x n (and_parts (nat_lt x n) (list_all (λ y. nat_lt y n) xs) h).0
 each_below n (x ∷ xs) some h (suc k) = each_below n xs some (and_parts (nat_lt x n) (list_all (λ y. nat_lt y n) xs) h).1 k
@@ -148,15 +146,19 @@ is_hart pc even fits = record {
 abbrev pub first : ℕ → Bytes → State
 first pc m = record { hart = hart pc 0x01800000 0; memory = m }
 
--- a run may begin at the bundle of that number
-pub enters : (s : Sample) → IsSample s → (n : ℕ) → n < 16 → (m : Bytes) × IsEntry (sandbox s) (first (0x01000000 + 16 * n) m)
-enters s is n few =
+-- a run may begin with such a hart
+pub enters_with : (s : Sample) → IsSample s → (h : Hart) → IsHart h → IsUnitStart (sandbox s) h.pc → HasReserved (sandbox s) h.registers → IsTyped (sandbox s) h.registers → (m : Bytes) × IsEntry (sandbox s) (record { hart = h; memory = m })
+enters_with s is h hart start reserved typed = can_be_entered (sandbox s) h (right_part s is) (apart s is) (bytes_small (s.first_words ++ (words_of (replicate 52 Ebreak) ++ s.last_words))) hart start reserved typed
+
+-- in code in bundles, at the bundle of that number
+pub enters : (s : Sample) → IsSample s → has_words s.format ≡ false → (n : ℕ) → n < 16 → (m : Bytes) × IsEntry (sandbox s) (first (0x01000000 + 16 * n) m)
+enters s is bundles n few =
     let size = size s is in
     let at = 0x01000000 + 16 * n in
     let start : IsBundleStart (code_region (sandbox s)) at = record { held = (omega arith, omega (arith, size)); aligned = omega arith } in
-    let mask : length (sandbox s).code - unit s.format ≡ 240 = ap (λ (u : ℕ). length (sandbox s).code - u) (bundle_unit s.format is.bundles) ∙ ap (λ (n : ℕ). n - 16) size in
+    let mask : length (sandbox s).code - unit s.format ≡ 240 = ap (λ (u : ℕ). length (sandbox s).code - u) (bundle_unit s.format bundles) ∙ ap (λ (n : ℕ). n - 16) size in
     let reserved : HasReserved (sandbox s) (hart at 0x01800000 0).registers = record { code_base = refl; code_mask = sym mask; data_base = refl; data_mask = refl } in
-    can_be_entered (sandbox s) (hart at 0x01800000 0) (right_part s is) (apart s is) (bytes_small (s.first_words ++ (words_of (replicate 52 Ebreak) ++ s.last_words))) (is_hart at (omega arith) (omega arith)) (of_bundle (sandbox s) at is.bundles start) reserved (of_stack (sandbox s) (hart at 0x01800000 0).registers is.bundles (λ has. (omega arith, omega arith)))
+    enters_with s is (hart at 0x01800000 0) (is_hart at (omega arith) (omega arith)) (of_bundle (sandbox s) at bundles start) reserved (of_stack (sandbox s) (hart at 0x01800000 0).registers bundles (λ has. (omega arith, omega arith)))
 
 -- ---- what stands there
 
@@ -226,15 +228,18 @@ past_end s is (from, below) = let size = size s is in omega arith
 
 -- ---- rules that are needed
 
--- with that one finding, and a run from the bundle of that number that is not safe
-pub needed : (s : Sample) (is : IsSample s) (rule : Rule) (address n : ℕ) → n < 16 → AreFindings 0 (sandbox s) (record { sandbox = 0; address = address; rule = rule } ∷ []) → BreaksNoOther rule address (sandbox s)
+-- with that one finding, and a run from an entry that is not safe
+pub needed_from : (s : Sample) (is : IsSample s) (rule : Rule) (address : ℕ) (h : Hart) → (m : Bytes) × IsEntry (sandbox s) (record { hart = h; memory = m }) → AreFindings 0 (sandbox s) (record { sandbox = 0; address = address; rule = rule } ∷ []) → BreaksNoOther rule address (sandbox s)
+    → ((m : Bytes) → IsEntry (sandbox s) (record { hart = h; memory = m }) → HasUnsafeRun (sandbox s) (record { hart = h; memory = m })) → IsNeeded rule address (sandbox s)
+needed_from s is rule address h e alone no_other runs = record {
+  refused = refused s is (record { sandbox = 0; address = address; rule = rule }) alone;
+  no_other = no_other;
+  entry = record { hart = h; memory = e.0 };
+  is_entry = e.1;
+  runs_unsafely = runs e.0 e.1;
+}
+
+-- from the bundle of that number
+pub needed : (s : Sample) (is : IsSample s) (rule : Rule) (address n : ℕ) → has_words s.format ≡ false → n < 16 → AreFindings 0 (sandbox s) (record { sandbox = 0; address = address; rule = rule } ∷ []) → BreaksNoOther rule address (sandbox s)
     → ((m : Bytes) → IsEntry (sandbox s) (first (0x01000000 + 16 * n) m) → HasUnsafeRun (sandbox s) (first (0x01000000 + 16 * n) m)) → IsNeeded rule address (sandbox s)
-needed s is rule address n few alone no_other runs =
-    let e = enters s is n few in
-    record {
-      refused = refused s is (record { sandbox = 0; address = address; rule = rule }) alone;
-      no_other = no_other;
-      entry = first (0x01000000 + 16 * n) e.0;
-      is_entry = e.1;
-      runs_unsafely = runs e.0 e.1;
-    }
+needed s is rule address n bundles few alone no_other runs = needed_from s is rule address (hart (0x01000000 + 16 * n) 0x01800000 0) (enters s is bundles n few) alone no_other runs

@@ -1,6 +1,6 @@
 -- The accepted sample: no rule is broken in it, and it stores a byte.
 use Rattle.sfi_safety.proofs.Prelude.{◌≡◌, ◌≢◌, ℕ, ◌+◌, [], ◌∷◌, cond, Some, None, refl, ap, ◌∙◌, inl, inr, arith, pos, is_some, ints, And, Or, Sb, Op, Store, Jal, Ebreak, minus, InRange, Sfi1, Bytes, byte_at, in_front, stored, Trap, past, Stepped, effect, next, unchanged, Part, AreFindings, InGuard, HasCode, KeepsBytes, StoresByte, IsAcceptedAndRuns, IsAccepted}
-use Rattle.sfi_safety.specs.Samples.{sandbox, sandboxed_store}
+use Rattle.sfi_safety.specs.Samples.{Sample, sandbox, sandboxed_store}
 use Rattle.std.specs.FinMap.{insert}
 use Rattle.rv_step.specs.declared.outcome.Cause.TheVariants as cause
 use Rattle.sfi_image.specs.Spelling as image
@@ -15,9 +15,9 @@ abbrev pub p : Part
 p = sandbox sandboxed_store
 
 is_sample : IsSample sandboxed_store
-is_sample = without_gates sandboxed_store refl refl refl refl
+is_sample = without_gates sandboxed_store refl refl refl
 
-jump_there : IsSpelled (Jal 0 (minus 12))
+pub jump_there : IsSpelled (Jal 0 (minus 12))
 unfolding InRange
 jump_there = word_spells (Jal 0 (minus 12)) (omega arith, ((omega (arith, ints), omega (arith, ints)), refl))
 
@@ -36,7 +36,7 @@ accepted = record {
 
 -- ---- the run
 
-module _ (m : Bytes) (code : HasCode p m) (guards : (a : ℕ) → InGuard p a → byte_at m a ≡ None) where
+module _ (s : Sample) (is : IsSample s) (m : Bytes) (code : HasCode (sandbox s) m) (guards : (a : ℕ) → InGuard (sandbox s) a → byte_at m a ≡ None) where
   -- others put a 0 at the address that is stored to
   pub changed : Bytes
   changed = insert m 0x018000f0 0
@@ -45,37 +45,39 @@ module _ (m : Bytes) (code : HasCode p m) (guards : (a : ℕ) → InGuard p a �
   unfolding changed
   in_data a ne = inserted_elsewhere m 0x018000f0 0 a ne
 
-  there : byte_at changed 0x018000f0 ≡ Some 0
+  pub there : byte_at changed 0x018000f0 ≡ Some 0
   unfolding changed
   there = inserted_here m 0x018000f0 0 0x018000f0 refl
 
-  pub keeps : KeepsBytes p m changed
+  pub keeps : KeepsBytes (sandbox s) m changed
   keeps =
-      let size = size sandboxed_store is_sample in
+      let size = size s is in
       record {
         code = λ a inside. in_data a (λ same. let below = inside.1 in omega arith);
         guards = λ a guard none. in_data a (λ same. not_guard a guard same) ∙ none;
       }
     where
-      not_guard : (a : ℕ) → InGuard p a → a ≡ 0x018000f0 → ⊥
+      not_guard : (a : ℕ) → InGuard (sandbox s) a → a ≡ 0x018000f0 → ⊥
       not_guard a (inl (from, below)) same = omega arith
       not_guard a (inr (from, below)) same = omega arith
 
-  changed_code : HasCode p changed
-  changed_code k below = let size = size sandboxed_store is_sample in in_data (0x01000000 + k) (λ same. omega arith) ∙ code k below
+  pub changed_code : HasCode (sandbox s) changed
+  changed_code k below = let size = size s is in in_data (0x01000000 + k) (λ same. omega arith) ∙ code k below
 
-  store_done : effect (Store Sb 31 10 (pos 0)) 4 (hart 0x01000008 0x01800000 0x018000f0) changed ≡ next (past (hart 0x01000008 0x01800000 0x018000f0) 4) (stored changed 0x018000f0 1 240)
-  store_done = ap (λ o. cond (is_some (in_front o (Some []))) (next (past (hart 0x01000008 0x01800000 0x018000f0) 4) (stored changed 0x018000f0 1 240)) (unchanged (Trap cause.Store 0x018000f0) (hart 0x01000008 0x01800000 0x018000f0) changed)) there
-
-  store_is : byte_at (stored changed 0x018000f0 1 240) 0x018000f0 ≡ Some 240
+  pub store_is : byte_at (stored changed 0x018000f0 1 240) 0x018000f0 ≡ Some 240
   store_is = inserted_here changed 0x018000f0 240 0x018000f0 refl
+
+-- where a byte is there, the store is done
+store_done : (w : Bytes) → byte_at w 0x018000f0 ≡ Some 0 → effect (Store Sb 31 10 (pos 0)) 4 (hart 0x01000008 0x01800000 0x018000f0) w ≡ next (past (hart 0x01000008 0x01800000 0x018000f0) 4) (stored w 0x018000f0 1 240)
+store_done w there = ap (λ o. cond (is_some (in_front o (Some []))) (next (past (hart 0x01000008 0x01800000 0x018000f0) 4) (stored w 0x018000f0 1 240)) (unchanged (Trap cause.Store 0x018000f0) (hart 0x01000008 0x01800000 0x018000f0) w)) there
 
 stores : StoresByte p
 stores =
-    let e = enters sandboxed_store is_sample 0 (omega arith) in
-    let w = changed e.0 e.1.code e.1.guards in
-    let step = step_at sandboxed_store is_sample w (changed_code e.0 e.1.code e.1.guards) in
-    let done = store_done e.0 e.1.code e.1.guards in
+    let e = enters sandboxed_store is_sample refl 0 (omega arith) in
+    let w = changed sandboxed_store is_sample e.0 e.1.code e.1.guards in
+    let step = step_at sandboxed_store is_sample w (changed_code sandboxed_store is_sample e.0 e.1.code e.1.guards) in
+    let before = there sandboxed_store is_sample e.0 e.1.code e.1.guards in
+    let done = store_done w before in
     record {
       entry = first 0x01000000 e.0;
       is_entry = e.1;
@@ -84,7 +86,7 @@ stores =
       placed = effect (Op Or 31 31 26) 4 (hart 0x01000004 0x01800000 240) w;
       stored = effect (Store Sb 31 10 (pos 0)) 4 (hart 0x01000008 0x01800000 0x018000f0) w;
       run = (
-        record { pc = refl; registers = refl; bytes = keeps e.0 e.1.code e.1.guards },
+        record { pc = refl; registers = refl; bytes = keeps sandboxed_store is_sample e.0 e.1.code e.1.guards },
         (
           step (hart 0x01000000 0x01800000 0) 0 4 (Op And 31 10 27) refl (omega arith) (op_spelled And 31 10 27 refl),
           (
@@ -96,8 +98,8 @@ stores =
       done = ap (λ (r : Stepped). r.outcome) done;
       address = 0x018000f0;
       inside = (omega arith, omega arith);
-      before = there e.0 e.1.code e.1.guards;
-      after = ap (λ (r : Stepped). byte_at r.state.memory 0x018000f0) done ∙ store_is e.0 e.1.code e.1.guards;
+      before = before;
+      after = ap (λ (r : Stepped). byte_at r.state.memory 0x018000f0) done ∙ store_is sandboxed_store is_sample e.0 e.1.code e.1.guards;
     }
 
 pub accepted_and_runs : IsAcceptedAndRuns p

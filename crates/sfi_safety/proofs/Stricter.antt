@@ -1,5 +1,5 @@
 -- That some rules are stricter than safety asks: code that stops at each bundle start is safe, whatever stands after that.
-use Rattle.sfi_safety.proofs.Prelude.{◌≡◌, ℕ, zero, suc, ◌+◌, ◌-◌, ◌*◌, ◌/◌, ◌<◌, List, [], ◌∷◌, take, drop, Some, refl, sym, ap, ◌∙◌, subst, arith, Instr, Ecall, Ebreak, spelling, Spells, Sfi1, Accesses, State, Stepped, Stands, IsStep, effect, Call, Trap, Finding, place_of, bundle_bytes, HasCode, Turn, Steps, Replies, Changes, IsRun, IsEntry, after_step, IsSafeState, IsSafeStep, IsSafeRun, RunsSafely, IsStricter, ⊎_elim, cases_lt, ◌≤◌}
+use Rattle.sfi_safety.proofs.Prelude.{false, has_words, ◌≡◌, ℕ, zero, suc, ◌+◌, ◌-◌, ◌*◌, ◌/◌, ◌<◌, List, [], ◌∷◌, take, drop, Some, refl, sym, ap, ◌∙◌, subst, arith, Instr, Ecall, Ebreak, spelling, Spells, Sfi1, Accesses, State, Stepped, Stands, IsStep, effect, Call, Trap, Finding, place_of, bundle_bytes, HasCode, Turn, Steps, Replies, Changes, IsRun, IsEntry, after_step, IsSafeState, IsSafeStep, IsSafeRun, RunsSafely, IsStricter, ⊎_elim, cases_lt, ◌≤◌}
 use Rattle.sfi_safety.specs.Samples.{Sample, sandbox, nop, undecodable_after_ebreak, crossing_after_ebreak, ecall_after_ebreak, nops_after_ebreak}
 use Rattle.sfi_rules.specs.declared.rule.Rule.TheVariants.{V1, V2, V3, V8}
 use Rattle.rv_step.specs.declared.outcome.Cause.TheVariants as cause
@@ -14,7 +14,7 @@ use Rattle.sfi_runs.proofs.Formats.{to_bundle}
 abbrev StopsAt : Sample → ℕ → Type 0
 StopsAt s n = Spells (take 4 (drop (16 * n) (sandbox s).code)) Ebreak 4
 
-module _ (s : Sample) (is : IsSample s) (stops : (n : ℕ) → n < 16 → StopsAt s n) where
+module _ (s : Sample) (is : IsSample s) (bundles : has_words s.format ≡ false) (stops : (n : ℕ) → n < 16 → StopsAt s n) where
   -- it stands at the start of a bundle, with the code as it was
   record IsStopped (t : State) : Type 0 where
     code : HasCode (sandbox s) t.memory
@@ -78,7 +78,7 @@ module _ (s : Sample) (is : IsSample s) (stops : (n : ℕ) → n < 16 → StopsA
       let size = size s is in
       let from = entry.start.held.0 in
       let below = entry.start.held.1 in
-      let aligned = (to_bundle (sandbox s) t.hart.pc is.bundles entry.start).aligned in
+      let aligned = (to_bundle (sandbox s) t.hart.pc bundles entry.start).aligned in
       record {
         code = entry.code;
         number = (t.hart.pc - 0x01000000) / 16;
@@ -115,7 +115,7 @@ module _ (b c d f g h j k l : ℕ) where
 pub undecodable_stricter : IsStricter V1 0x01000004 (sandbox undecodable_after_ebreak)
 undecodable_stricter =
     let s = undecodable_after_ebreak in
-    let is : IsSample s = without_gates s refl refl refl refl in
+    let is : IsSample s = without_gates s refl refl refl in
     let x : Finding = record { sandbox = 0; address = 0x01000004; rule = V1 } in
     let bytes = bundle_bytes (sandbox s) 0 in
     record {
@@ -124,13 +124,13 @@ undecodable_stricter =
           (read_bundle (place_of 0 (sandbox s) 0) bytes (wide Ebreak ∷ []) (drop 4 bytes) (x ∷ []) refl (ebreak_spelled, tt) refl (ones_begin_nothing (drop 8 bytes)) refl)
           (quiet Sfi1 [] brk 0xffffffff brk brk brk brk brk brk brk brk brk brk none_listed 0 refl refl refl refl)
           (quiet Sfi1 [] brk 0xffffffff brk brk brk brk brk brk brk brk brk brk none_listed 14 refl refl refl refl));
-      safe = stopping_is_safe s is (stops 0xffffffff brk brk brk brk brk brk brk brk);
+      safe = stopping_is_safe s is refl (stops 0xffffffff brk brk brk brk brk brk brk brk);
     }
 
 pub crossing_stricter : IsStricter V2 0x0100000e (sandbox crossing_after_ebreak)
 crossing_stricter =
     let s = crossing_after_ebreak in
-    let is : IsSample s = without_gates s refl refl refl refl in
+    let is : IsSample s = without_gates s refl refl refl in
     let x : Finding = record { sandbox = 0; address = 0x0100000e; rule = V2 } in
     let n = spelling nop in
     record {
@@ -140,24 +140,24 @@ crossing_stricter =
           (ebreak_spelled, (nop_spelled, (nop_spelled, (short_nop, tt)))) refl (half_begins_nothing) refl)
           (quiet Sfi1 [] brk n n 0x20230001 brk brk brk brk brk brk brk brk none_listed 0 refl refl refl refl)
           (quiet Sfi1 [] brk n n 0x20230001 brk brk brk brk brk brk brk brk none_listed 14 refl refl refl refl));
-      safe = stopping_is_safe s is (stops n n 0x20230001 brk brk brk brk brk brk);
+      safe = stopping_is_safe s is refl (stops n n 0x20230001 brk brk brk brk brk brk);
     }
 
 pub ecall_stricter : IsStricter V3 0x01000004 (sandbox ecall_after_ebreak)
 ecall_stricter =
     let s = ecall_after_ebreak in
-    let is : IsSample s = without_gates s refl refl refl refl in
+    let is : IsSample s = without_gates s refl refl refl in
     let x : Finding = record { sandbox = 0; address = 0x01000004; rule = V3 } in
     record {
       refused = refused s is x
           (code_findings Sfi1 Ebreak Ecall Ebreak Ebreak Ebreak Ebreak Ebreak Ebreak (x ∷ []) [] ebreak_spelled ecall_spelled ebreak_spelled ebreak_spelled ebreak_spelled ebreak_spelled ebreak_spelled ebreak_spelled refl refl);
-      safe = stopping_is_safe s is (stops (spelling Ecall) brk brk brk brk brk brk brk brk);
+      safe = stopping_is_safe s is refl (stops (spelling Ecall) brk brk brk brk brk brk brk brk);
     }
 
 pub nops_stricter : IsStricter V8 0x010000fc (sandbox nops_after_ebreak)
 nops_stricter =
     let s = nops_after_ebreak in
-    let is : IsSample s = without_gates s refl refl refl refl in
+    let is : IsSample s = without_gates s refl refl refl in
     let x : Finding = record { sandbox = 0; address = 0x010000fc; rule = V8 } in
     let n = spelling nop in
     record {
@@ -166,5 +166,5 @@ nops_stricter =
           (four_words (place_of 0 (sandbox s) 0) (bundle_bytes (sandbox s) 0) Ebreak Ebreak Ebreak Ebreak [] refl refl ebreak_spelled ebreak_spelled ebreak_spelled ebreak_spelled refl)
           (quiet Sfi1 [] brk brk brk brk brk brk brk brk brk n n n none_listed 0 refl refl refl refl)
           (four_words (place_of 0 (sandbox s) 15) (bundle_bytes (sandbox s) 15) Ebreak nop nop nop (x ∷ []) refl refl ebreak_spelled nop_spelled nop_spelled nop_spelled refl));
-      safe = stopping_is_safe s is (stops brk brk brk brk brk brk n n n);
+      safe = stopping_is_safe s is refl (stops brk brk brk brk brk brk n n n);
     }

@@ -2,5 +2,6 @@ pub mod Laws
 pub mod Leaving
 pub mod Places
 pub mod Samples
+pub mod WordSamples
 pub mod Clean
 pub mod Needed

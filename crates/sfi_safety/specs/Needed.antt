@@ -1,10 +1,10 @@
 -- That a rule is needed, and that the rules leave code that does something.
-use Rattle.std.specs.Prelude.{◌≡◌, ◌+◌, ◌*◌, ◌≤◌, false, Some, ℕ, List, [], ◌∷◌, ◌++◌, map, filter, reverse, sum_by}
+use Rattle.std.specs.Prelude.{◌≡◌, ◌≢◌, ◌+◌, ◌*◌, ◌≤◌, false, true, Some, ℕ, List, [], ◌∷◌, ◌++◌, map, filter, reverse, sum_by, take, drop, MatchBool}
 use Rattle.rv_mem.specs.Bytes.{byte_at}
 use Rattle.rv_step.specs.declared.outcome.Outcome.TheVariants.{Next}
 use Rattle.rv_step.specs.State.{State}
 use Rattle.rv_step.specs.Step.{Stepped}
-use Rattle.sfi_policy.specs.Limits.{bundle_size}
+use Rattle.sfi_policy.specs.Limits.{bundle_size, word_size}
 use Rattle.sfi_image.specs.Images.{IsImage}
 use Rattle.sfi_image.specs.Spelling.{Part, spelling}
 use Rattle.sfi_rules.specs.declared.rule.Rule.{Rule}
@@ -16,6 +16,9 @@ use Rattle.sfi_rules.specs.declared.finding.Finding.{Finding}
 use Rattle.sfi_policy.specs.Formats.{has_words}
 use Rattle.sfi_rules.specs.Findings.{AreImageFindings, all_rules}
 use Rattle.sfi_rules.specs.Numbers.{number_of}
+use Rattle.sfi_rules.specs.declared.owed.Owed.{Owed}
+use Rattle.sfi_rules.specs.words.Findings as words
+use Rattle.sfi_rules.specs.words.Findings.{owed_past, AreFoundInWords, AreFoundOfFirst}
 use Rattle.sfi_runs.specs.Regions.{InData}
 use Rattle.sfi_runs.specs.Runs.{Turn, Steps, Changes, IsEntry, IsRun}
 use Rattle.sfi_runs.specs.Safety.{IsSafeRun, RunsSafely}
@@ -27,9 +30,11 @@ pub record HasUnsafeRun (p : Part) (s : State) : Type 0 where
   pub run : IsRun p (Some s) turns
   pub unsafe : IsSafeRun p (Some s) turns → ⊥
 
+-- ---- no other rule
+
 -- The instruction at this address is one of its bundle's longest reading,
 -- and it breaks this rule and no other.
-pub record BreaksAlone (rule : Rule) (address : ℕ) (p : Part) : Type 0 where
+pub record BreaksAloneInBundle (rule : Rule) (address : ℕ) (p : Part) : Type 0 where
   pub number : ℕ  -- the bundle's
   pub earlier : List Piece  -- the pieces before it, the nearest first
   pub here : Piece
@@ -46,6 +51,43 @@ pub record BreaksAlone (rule : Rule) (address : ℕ) (p : Part) : Type 0 where
         whole = is_empty (rest_of (bundle_bytes p number) (reverse earlier ++ here ∷ later));
       }) r) all_rules ≡ rule ∷ []
 
+-- in code in words this is owed before the word of that number of the bundle of that number
+pub record IsOwedBefore (p : Part) (number word : ℕ) (owed : Owed) : Type 0 where
+  pub front : List Finding  -- the findings of the bundles before it
+  pub between : Owed  -- what is owed after these
+  pub front_found : AreFoundOfFirst 0 p number front between
+  pub found : List Finding  -- those of the words before it in its bundle
+  pub words_found :
+      AreFoundInWords (place_of 0 p number) between (bundle_bytes p number) word found owed
+
+-- The instruction at this address is one of its word's longest reading,
+-- and it breaks this rule of code in words and no other.
+pub record BreaksAloneInWord (rule : Rule) (address : ℕ) (p : Part) : Type 0 where
+  pub number : ℕ  -- the bundle's
+  pub word : ℕ  -- the word's, in its bundle
+  pub owed : Owed  -- before the word
+  pub is_owed : IsOwedBefore p number word owed
+  pub earlier : List Piece  -- the pieces before it in its word
+  pub here : Piece
+  pub later : List Piece
+  pub longest : IsLongestReading (take word_size (drop (word_size * word) (bundle_bytes p number)))
+      (earlier ++ here ∷ later)
+  pub address_is : address
+      ≡ p.code_base + bundle_size * number + word_size * word + sum_by (λ x. x.size) earlier
+  pub broken :
+      filter (λ r. words.breaks (record {
+        bundle = place_of 0 p number;
+        address = address;
+        owed = owed_past owed earlier;
+        instr = here.instr;
+        size = here.size;
+      }) r) all_rules ≡ rule ∷ []
+
+-- by whether the code is in words
+abbrev pub BreaksAlone : Rule → ℕ → Part → Type 0
+BreaksAlone rule address p = MatchBool (has_words p.format) (BreaksAloneInWord rule address p)
+    (BreaksAloneInBundle rule address p)
+
 -- No other rule is broken where that rule's finding is. V1 and V2 are found where no instruction
 -- stands, so there is none. V9 stands in place of all findings of its bundle,
 -- and of these nothing is said.
@@ -54,6 +96,8 @@ BreaksNoOther V1 address p = Unit {0}
 BreaksNoOther V2 address p = Unit {0}
 BreaksNoOther V9 address p = Unit {0}
 BreaksNoOther rule address p = BreaksAlone rule address p
+
+-- ---- a rule that is needed
 
 -- the image of this sandbox has a right layout, and this one finding
 pub record HasOneFinding (p : Part) (found : Finding) : Type 0 where
@@ -74,6 +118,13 @@ pub record IsNeeded (rule : Rule) (address : ℕ) (p : Part) : Type 0 where
 abbrev pub EachRuleIsNeeded : Type 0
 EachRuleIsNeeded = (rule : Rule) → number_of rule ≤ 10
     → (address : ℕ) × (p : Part) × (has_words p.format ≡ false) × IsNeeded rule address p
+
+-- and so is each of code in words: all but V9, which is none of these
+abbrev pub EachRuleOfWordsIsNeeded : Type 0
+EachRuleOfWordsIsNeeded = (rule : Rule) → rule ≢ V9
+    → (address : ℕ) × (p : Part) × (has_words p.format ≡ true) × IsNeeded rule address p
+
+-- ---- one that is stricter
 
 -- The rule is stricter than safety asks: the image of this sandbox has a right layout and one
 -- finding, that rule at this address, and every run from every entry is safe.

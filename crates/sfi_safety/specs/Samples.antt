@@ -1,5 +1,5 @@
--- Small sandboxes as data: for each rule one whose code breaks it (for V5 two), some that break one
--- and are safe, and one that is accepted.
+-- Small sandboxes as data, in code in bundles: for each rule one whose code breaks it (for V5 two),
+-- some that break one and are safe, and one that is accepted.
 use Rattle.std.specs.Prelude.{pos, ℕ, List, [], ◌∷◌, ◌++◌, map, replicate}
 use Rattle.std.specs.List.{flat_map}
 use Rattle.std.specs.Int.{w32, to_le_bytes}

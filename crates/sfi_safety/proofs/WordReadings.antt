@@ -1,0 +1,112 @@
+-- What the words of the samples in words are read as, and the findings of such a sample.
+use Rattle.sfi_safety.proofs.Prelude.{◌≡◌, ℕ, suc, ◌+◌, ◌-◌, ◌*◌, ◌==◌, Bool, List, [], ◌∷◌, ◌++◌, length, take, drop, filter, replicate, cond, Some, None, refl, sym, ap, ◌∙◌, subst, append-nil, add-zero, Instr, Ebreak, spelling, Sfiw, BundlePlace, Finding, place_of, bundle_bytes, Piece, IsReading, IsLongestReading, rest_of, is_empty, rest_finding, all_rules}
+use Rattle.std.specs.Int.{w32, to_le_bytes}
+use Rattle.std.proofs.Math.Bool.{and-false}
+use Rattle.sfi_rules.specs.declared.owed.Owed.{Owed}
+use Rattle.sfi_rules.specs.declared.owed.Owed.TheVariants.{Nothing}
+use Rattle.sfi_rules.specs.declared.rule.Rule.{Rule}
+use Rattle.sfi_rules.specs.declared.rule.Rule.TheVariants.{V8}
+use Rattle.sfi_rules.specs.words.Owing.{owed_next}
+use Rattle.sfi_rules.specs.words.Findings.{breaks, found_at, found_from, owed_past, IsWordFound, AreFoundInBundle, AreFoundOfFirst, AreFindingsInWords}
+use Rattle.sfi_safety.specs.Needed.{IsOwedBefore, BreaksAloneInWord}
+use Rattle.sfi_safety.specs.Samples.{Sample, sandbox, words_of, bytes_of}
+use Rattle.sfi_safety.specs.WordSamples.{in_words}
+use Rattle.sfi_safety.proofs.Readings.{IsSpelled, BeginsNothing, nothing_begins, longest_of, ebreak_spelled, wide}
+
+-- ---- a word
+
+-- it has the findings of its reading and of what that leaves
+pub read_word : (b : BundlePlace) (at : ℕ) (owed next : Owed) (word : List ℕ) (reading : List Piece) (rest : List ℕ) (found : List Finding) → IsReading word reading → rest_of word reading ≡ rest → BeginsNothing rest
+    → found_from b at owed reading ++ rest_finding b (at + (4 - length rest)) rest ≡ found → cond (is_empty rest) (owed_past owed reading) Nothing ≡ next → IsWordFound b at owed word found next
+read_word b at owed next word reading rest found is left end e f = record {
+  reading = reading;
+  longest = longest_of word reading is (subst BeginsNothing (sym left) end);
+  found_is = sym (subst (λ (rest : List ℕ). found_from b at owed reading ++ rest_finding b (at + (4 - length rest)) rest ≡ found) (sym left) e);
+  next_is = sym (subst (λ (rest : List ℕ). cond (is_empty rest) (owed_past owed reading) Nothing ≡ next) (sym left) f);
+}
+
+-- that of an instruction
+pub one_word : (b : BundlePlace) (at : ℕ) (owed next : Owed) (i : Instr) (found : List Finding) → IsSpelled i → found_from b at owed (wide i ∷ []) ≡ found → owed_next owed i ≡ next → IsWordFound b at owed (to_le_bytes w32 (spelling i)) found next
+one_word b at owed next i found s e f = read_word b at owed next (to_le_bytes w32 (spelling i)) (wide i ∷ []) [] found (s, tt) refl (nothing_begins [] refl) (append-nil (found_from b at owed (wide i ∷ [])) ∙ e) f
+
+-- an ebreak has no finding where nothing is owed
+pub ebreak_found : (b : BundlePlace) (at : ℕ) → IsWordFound b at Nothing (to_le_bytes w32 (spelling Ebreak)) [] Nothing
+ebreak_found b at = one_word b at Nothing Nothing Ebreak [] ebreak_spelled (ap (λ (t : Bool). found_at b at (cond t (Some V8) None) ++ []) (and-false (at + 4 == b.code_base + b.code_size))) refl
+
+-- the one rule that is broken at an instruction's word
+module _ (s : Sample) (number word : ℕ) (owed : Owed) (i : Instr) (is : IsSpelled i) (there : to_le_bytes w32 (spelling i) ≡ take 4 (drop (4 * word) (bundle_bytes (sandbox s) number))) (before : IsOwedBefore (sandbox s) number word owed) where
+  abbrev at : ℕ
+  at = 0x01000000 + 16 * number + 4 * word
+
+  pub alone : (rule : Rule) → filter (λ r. breaks (record { bundle = place_of 0 (sandbox s) number; address = at; owed = owed; instr = i; size = 4 }) r) all_rules ≡ rule ∷ [] → BreaksAloneInWord rule at (sandbox s)
+  alone rule broken = record {
+    number = number;
+    word = word;
+    owed = owed;
+    is_owed = before;
+    earlier = [];
+    here = wide i;
+    later = [];
+    longest = subst (λ (bytes : List ℕ). IsLongestReading bytes (wide i ∷ [])) there (longest_of (to_le_bytes w32 (spelling i)) (wide i ∷ []) (is, tt) (nothing_begins [] refl));
+    address_is = sym (add-zero at);
+    broken = broken;
+  }
+
+-- ---- a bundle
+
+-- its four words, one after another
+pub four_found : (b : BundlePlace) (o n1 n2 n3 n4 : Owed) (w x y z : ℕ) (fw fx fy fz : List Finding) → IsWordFound b (b.address + 4 * 0) o (to_le_bytes w32 w) fw n1 → IsWordFound b (b.address + 4 * 1) n1 (to_le_bytes w32 x) fx n2
+    → IsWordFound b (b.address + 4 * 2) n2 (to_le_bytes w32 y) fy n3 → IsWordFound b (b.address + 4 * 3) n3 (to_le_bytes w32 z) fz n4 → AreFoundInBundle b o (bytes_of (w ∷ x ∷ y ∷ z ∷ [])) (((fw ++ fx) ++ fy) ++ fz) n4
+four_found b o n1 n2 n3 n4 w x y z fw fx fy fz first second third fourth =
+    ((fw ++ fx) ++ fy, fz, n3, (fw ++ fx, fy, n2, (fw, fx, n1, ([], fw, o, (refl, refl), first, refl), second, refl), third, refl), fourth, refl)
+
+pub ebreaks_found : (b : BundlePlace) → AreFoundInBundle b Nothing (bytes_of (words_of (replicate 4 Ebreak))) [] Nothing
+ebreaks_found b =
+    let brk = spelling Ebreak in
+    four_found b Nothing Nothing Nothing Nothing Nothing brk brk brk brk [] [] [] [] (ebreak_found b (b.address + 4 * 0)) (ebreak_found b (b.address + 4 * 1)) (ebreak_found b (b.address + 4 * 2)) (ebreak_found b (b.address + 4 * 3))
+
+-- ---- a sample
+
+abbrev pub brk : ℕ
+brk = spelling Ebreak
+
+module _ (a b c d i j k l : ℕ) where
+  abbrev s : Sample
+  s = record { format = Sfiw; gates = []; first_words = a ∷ b ∷ c ∷ d ∷ brk ∷ brk ∷ brk ∷ brk ∷ []; last_words = i ∷ j ∷ k ∷ l ∷ [] }
+
+  -- one bundle of ebreaks more
+  more : (n : ℕ) (found : List Finding) → bytes_of (words_of (replicate 4 Ebreak)) ≡ bundle_bytes (sandbox s) n → AreFoundOfFirst 0 (sandbox s) n found Nothing → AreFoundOfFirst 0 (sandbox s) (suc n) found Nothing
+  more n found bytes before = (found, [], Nothing, before, subst (λ (l : List ℕ). AreFoundInBundle (place_of 0 (sandbox s) n) Nothing l [] Nothing) bytes (ebreaks_found (place_of 0 (sandbox s) n)), sym (append-nil found))
+
+  -- all bundles but the last have the findings of the first
+  pub before_last : (x : List Finding) → AreFoundInBundle (place_of 0 (sandbox s) 0) Nothing (bundle_bytes (sandbox s) 0) x Nothing → AreFoundOfFirst 0 (sandbox s) 15 x Nothing
+  before_last x first =
+      let at1 : AreFoundOfFirst 0 (sandbox s) 1 x Nothing = ([], x, Nothing, (refl, refl), first, refl) in
+      let at4 = more 3 x refl (more 2 x refl (more 1 x refl at1)) in
+      let at8 = more 7 x refl (more 6 x refl (more 5 x refl (more 4 x refl at4))) in
+      let at12 = more 11 x refl (more 10 x refl (more 9 x refl (more 8 x refl at8))) in
+      more 14 x refl (more 13 x refl (more 12 x refl at12))
+
+  -- so all have those of the first and of the last
+  pub all_found : (x z : List Finding) (next : Owed) → AreFoundInBundle (place_of 0 (sandbox s) 0) Nothing (bundle_bytes (sandbox s) 0) x Nothing → AreFoundInBundle (place_of 0 (sandbox s) 15) Nothing (bundle_bytes (sandbox s) 15) z next
+      → AreFindingsInWords 0 (sandbox s) (x ++ z)
+  all_found x z next first last = (16, next, refl, (x, z, Nothing, before_last x first, last, refl))
+
+-- those of the first, where the last is ebreaks
+pub first_found : (a b c d : ℕ) (x : List Finding) → AreFoundInBundle (place_of 0 (sandbox (s a b c d brk brk brk brk)) 0) Nothing (bundle_bytes (sandbox (s a b c d brk brk brk brk)) 0) x Nothing → AreFindingsInWords 0 (sandbox (s a b c d brk brk brk brk)) x
+first_found a b c d x first =
+    let p = sandbox (s a b c d brk brk brk brk) in
+    subst (AreFindingsInWords 0 p) (append-nil x) (all_found a b c d brk brk brk brk x [] Nothing first (ebreaks_found (place_of 0 p 15)))
+
+-- where that is of four instructions, they are those at these
+module _ (a b c d : Instr) (sa : IsSpelled a) (sb : IsSpelled b) (sc : IsSpelled c) (sd : IsSpelled d) where
+  abbrev place : BundlePlace
+  place = place_of 0 (sandbox (in_words (a ∷ b ∷ c ∷ d ∷ []))) 0
+
+  pub code_found : (n1 n2 n3 : Owed) (fa fb fc fd : List Finding) → found_from place 0x01000000 Nothing (wide a ∷ []) ≡ fa → owed_next Nothing a ≡ n1 → found_from place 0x01000004 n1 (wide b ∷ []) ≡ fb → owed_next n1 b ≡ n2
+      → found_from place 0x01000008 n2 (wide c ∷ []) ≡ fc → owed_next n2 c ≡ n3 → found_from place 0x0100000c n3 (wide d ∷ []) ≡ fd → owed_next n3 d ≡ Nothing
+      → AreFindingsInWords 0 (sandbox (in_words (a ∷ b ∷ c ∷ d ∷ []))) (((fa ++ fb) ++ fc) ++ fd)
+  code_found n1 n2 n3 fa fb fc fd ea oa eb ob ec oc ed od =
+      first_found (spelling a) (spelling b) (spelling c) (spelling d) (((fa ++ fb) ++ fc) ++ fd)
+      (four_found place Nothing n1 n2 n3 Nothing (spelling a) (spelling b) (spelling c) (spelling d) fa fb fc fd
+      (one_word place 0x01000000 Nothing n1 a fa sa ea oa) (one_word place 0x01000004 n1 n2 b fb sb eb ob) (one_word place 0x01000008 n2 n3 c fc sc ec oc) (one_word place 0x0100000c n3 Nothing d fd sd ed od))
