@@ -1,7 +1,9 @@
 -- What holds of readings, rules and findings: the laws, for proofs here and in the crates above.
 use Rattle.sfi_rules.proofs.Prelude.{[], refl, ◌+◌, ◌%◌, ◌==◌, ◌&&◌, nat_le, nat_lt, and_parts, and_from, leb-true, ltb-true, eqb-true, le-leb, lt-ltb, eq-eqb}
 use Rattle.sfi_policy.specs.Limits.{bundle_size}
-use Rattle.sfi_rules.specs.Laws.{SameBundleStarts, OneLongestReading, OneBundleList, OneList, OneImageList, FirstFormatHasNoStack, FirstFormatFindsNoV10, CleanBreaksStackAlone}
+use Rattle.sfi_rules.specs.Laws.{SameBundleStarts, OneLongestReading, OneBundleList, OneList, OneImageList, FirstFormatHasNoStack, FirstFormatFindsNoV10, CleanBreaksStackAlone, OwedIsOfTwo}
+use Rattle.sfi_rules.proofs.AfterTwo.{of_two}
+pub use Rattle.sfi_rules.proofs.AfterTwo.{and_is}
 use Rattle.sfi_rules.proofs.FirstFormat as first
 use Rattle.sfi_rules.proofs.OneList as lists
 pub use Rattle.sfi_rules.proofs.InBundles.{in_bundles, of_bundles, in_words, of_words, all_found, none_found}
@@ -40,3 +42,6 @@ first_format_finds_no_v10 = first.first_format_finds_no_v10
 
 pub clean_breaks_stack_alone : CleanBreaksStackAlone
 clean_breaks_stack_alone ps found bundles clean second = image_of_stack 0 ps [] found bundles refl clean second
+
+pub owed_is_of_two : OwedIsOfTwo
+owed_is_of_two = of_two

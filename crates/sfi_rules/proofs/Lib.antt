@@ -4,6 +4,7 @@ pub mod OneList
 pub mod Readings
 pub mod FirstFormat
 pub mod Second
+pub mod AfterTwo
 pub mod Facts
 pub mod InBundles
 pub mod WordList

@@ -1,5 +1,5 @@
 -- Laws of readings, rules and findings.
-use Rattle.std.specs.Prelude.{◌≡◌, ◌≢◌, ◌↔◌, ℕ, List, [], IsTrue, false}
+use Rattle.std.specs.Prelude.{◌≡◌, ◌≢◌, ◌↔◌, ℕ, List, [], IsTrue, false, Option, Some, if◌then◌else◌}
 use Rattle.std.specs.List.{All}
 use Rattle.rv_word.specs.declared.instr.Instr.{Instr}
 use Rattle.sfi_policy.specs.declared.format.Format.TheVariants.{Sfi1, Sfi2}
@@ -11,6 +11,10 @@ use Rattle.sfi_image.specs.declared.bundle.BundlePlace.{BundlePlace}
 use Rattle.sfi_rules.specs.declared.finding.Finding.{Finding}
 use Rattle.sfi_rules.specs.declared.rule.Rule.TheVariants.{V10}
 use Rattle.sfi_rules.specs.Pairs.{follows_data_pair}
+use Rattle.sfi_rules.specs.declared.owed.Owed.{Owed}
+use Rattle.sfi_rules.specs.declared.owed.Owed.TheVariants as kind
+use Rattle.sfi_rules.specs.words.Rules.{masks}
+use Rattle.sfi_rules.specs.words.Owing.{owed_by, owed_next, or_nothing}
 use Rattle.sfi_rules.specs.Readings.{Piece, IsLongestReading}
 use Rattle.sfi_rules.specs.Rules.{Place, breaks, is_bundle_start, may_access}
 use Rattle.sfi_rules.specs.Findings.{AreBundleFindings, AreFindings, AreImageFindings}
@@ -59,3 +63,18 @@ abbrev pub CleanBreaksStackAlone : Type 0
 CleanBreaksStackAlone = (ps : List Part) (found : List Finding)
     → All (λ p. has_words p.format ≡ false) ps → AreImageFindings ps []
     → AreImageFindings (all_in_format Sfi2 ps) found → All (λ f. f.rule ≡ V10) found
+
+-- ---- of code in words
+
+-- What is owed after two instructions, the first of which asked this: where it asked that a data
+-- register be masked, and the second does that, the register's placing; else what the second asks.
+abbrev pub owed_after_two : Option Owed → Instr → Owed
+owed_after_two (Some (kind.Mask d)) m = if masks d m then kind.Place d else or_nothing (owed_by m)
+owed_after_two (Some (kind.MaskOrUse d)) m =
+    if masks d m then kind.Place d else or_nothing (owed_by m)
+owed_after_two asked m = or_nothing (owed_by m)
+
+-- what is owed after two instructions depends on these alone, whatever was owed before them
+abbrev pub OwedIsOfTwo : Type 0
+OwedIsOfTwo =
+    (o : Owed) (w m : Instr) → owed_next (owed_next o w) m ≡ owed_after_two (owed_by w) m

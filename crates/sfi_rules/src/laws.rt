@@ -1,5 +1,5 @@
 //! What holds of readings, rules and findings. Each law is a lemma too, in proofs/Facts.
-ghost use Rattle.sfi_rules.specs.Laws.{SameBundleStarts, OneLongestReading, OneBundleList, OneList, OneImageList, FirstFormatHasNoStack, FirstFormatFindsNoV10, CleanBreaksStackAlone};
+ghost use Rattle.sfi_rules.specs.Laws.{SameBundleStarts, OneLongestReading, OneBundleList, OneList, OneImageList, FirstFormatHasNoStack, FirstFormatFindsNoV10, CleanBreaksStackAlone, OwedIsOfTwo};
 
 /// The rules' bundle starts are those of the image's code region.
 pub fn same_bundle_starts()
@@ -39,4 +39,9 @@ pub fn first_format_finds_no_v10()
 /// Where no rule is broken, the second format's findings of the same sandboxes are V10 alone.
 pub fn clean_breaks_stack_alone()
     ensures { CleanBreaksStackAlone }
+{}
+
+/// In code in words, what is owed after two instructions depends on these alone.
+pub fn owed_is_of_two()
+    ensures { OwedIsOfTwo }
 {}
