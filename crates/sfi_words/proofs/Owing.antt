@@ -2,6 +2,7 @@
 use Rattle.sfi_words.proofs.Prelude.{◌≡◌, ℕ, Bool, true, false, cond, not, ◌&&◌, ◌||◌, ◌==◌, List, ◌∷◌, Option, Some, None, refl, sym, ap, ◌∙◌, subst, destination, Instr, Op, And, is_masking, is_placing, Piece, is_jump, is_data_register, places, masks, begins_placing, begins_masking, is_step, uses, begins_using, begins_code, may_write_data, breaks_data_of, breaks_data, may_write_code, breaks_code, is_and, eqb-true, and_parts, false≢true, is_register, writes_register}
 use Rattle.sfi_rules.specs.declared.owed.Owed.{Owed}
 use Rattle.sfi_rules.specs.declared.owed.Owed.TheVariants.{Nothing, Mask, Place, MaskOrUse, Code}
+use Rattle.sfi_rules.proofs.Facts.{and_is}
 use Rattle.sfi_rules.specs.words.Owing.{left, owed_by_data, owed_by_code, owed_of, owed_by}
 
 -- what is owed comes
@@ -35,16 +36,6 @@ is_nothing (Mask d) = false
 is_nothing (Place d) = false
 is_nothing (MaskOrUse d) = false
 is_nothing Code = false
-
-and_is : (rd a b : ℕ) (i : Instr) → is_and rd a b i ≡ true → i ≡ Op And rd a b
-and_is rd a b (Op And x y z) h =
-    let outer = and_parts ((x == rd) && (y == a)) (z == b) h in
-    let inner = and_parts (x == rd) (y == a) outer.0 in
-    let e1 = eqb-true x rd inner.0 in
-    let e2 = eqb-true y a inner.1 in
-    let e3 = eqb-true z b outer.1 in
-    cc
-and_is rd a b _ h = absurd (false≢true h)
 
 -- ---- what was owed
 
