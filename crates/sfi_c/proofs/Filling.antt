@@ -4,7 +4,7 @@ use Rattle.std.specs.Prelude.{take, drop, min}
 use Rattle.std.proofs.lemmas.List.{length-append}
 use Rattle.sfi_rules.specs.declared.finding.Finding.{Finding}
 use Rattle.sfi_c.specs.declared.finding.SfiFinding.{SfiFinding}
-use Rattle.sfi_c.specs.Verdicts.{told, with_findings}
+use Rattle.sfi_c.specs.Verdicts.{finding_for_c, with_findings}
 use Rattle.sfi_c.specs.private.Rooms.{Has}
 use Rattle.sfi_c.proofs.Writing.{over, with_is, over_length, written_after}
 
@@ -13,15 +13,15 @@ pub filled : (first : List SfiFinding) (before found : List Finding) (array afte
     → from ≡ min written (length array) → after ≡ take from array ++ with_findings found (drop from array) → count ≡ min (length found) (length array - from)
     → Has first (before ++ found) after (from + count)
 filled first before found array after written from count has from_is after_is count_is =
-    let is : array ≡ over told before first = has.array_is ∙ with_is told before first in
-    let long : length array ≡ length first = ap length is ∙ over_length told before first in
+    let is : array ≡ over finding_for_c before first = has.array_is ∙ with_is finding_for_c before first in
+    let long : length array ≡ length first = ap length is ∙ over_length finding_for_c before first in
     let least : from ≡ min (length before) (length first) = omega (arith, from_is, long, has.written_is) in
     record {
-      array_is = after_is ∙ ap (λ (l : List SfiFinding). take from array ++ l) (with_is told found (drop from array))
-          ∙ rw (is) (written_after told before found first from least) ∙ sym (with_is told (before ++ found) first);
+      array_is = after_is ∙ ap (λ (l : List SfiFinding). take from array ++ l) (with_is finding_for_c found (drop from array))
+          ∙ rw (is) (written_after finding_for_c before found first from least) ∙ sym (with_is finding_for_c (before ++ found) first);
       written_is = omega (arith, least, long, count_is, length-append before found);
     }
 
 -- at first it has none
 pub at_first : (first : List SfiFinding) → Has first [] first 0
-at_first first = record { array_is = sym (with_is told [] first); written_is = omega arith }
+at_first first = record { array_is = sym (with_is finding_for_c [] first); written_is = omega arith }

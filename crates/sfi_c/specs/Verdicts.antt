@@ -17,8 +17,8 @@ use Rattle.sfi_c.specs.Statuses.{number_of}
 -- ---- findings
 
 -- a finding, with its rule by number
-abbrev pub told : Finding → SfiFinding
-told f = record { sandbox = f.sandbox; address = f.address; rule = rule_number f.rule }
+abbrev pub finding_for_c : Finding → SfiFinding
+finding_for_c f = record { sandbox = f.sandbox; address = f.address; rule = rule_number f.rule }
 
 -- where there is none
 abbrev pub no_finding : SfiFinding
@@ -26,7 +26,7 @@ no_finding = record { sandbox = 0; address = 0; rule = 0 }
 
 -- an array after findings were written to it
 abbrev pub with_findings : List Finding → List SfiFinding → List SfiFinding
-with_findings found array = with_front told found array
+with_findings found array = with_front finding_for_c found array
 
 -- ---- verdicts: what a status doesn't speak of is 0
 
@@ -49,7 +49,7 @@ refusal count first = record {
   sandboxes = 0;
   bundles = 0;
   findings = count;
-  first = told first;
+  first = finding_for_c first;
 }
 
 -- no image, by the number of the layout's fault

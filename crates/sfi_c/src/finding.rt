@@ -1,6 +1,6 @@
 //! Findings as C sees them.
 ghost use Rattle.std.specs.Prelude.{◌≡◌};
-ghost use Rattle.sfi_c.specs.Verdicts.{told, no_finding, with_findings};
+ghost use Rattle.sfi_c.specs.Verdicts.{finding_for_c, no_finding, with_findings};
 
 use sfi_scan::{BundleFindings, Finding};
 
@@ -17,8 +17,8 @@ pub struct SfiFinding {
 }
 
 /// The finding for C.
-pub(crate) fn told(finding: Finding) -> SfiFinding
-    ensures { result ≡ told finding }
+pub(crate) fn finding_for_c(finding: Finding) -> SfiFinding
+    ensures { result ≡ finding_for_c finding }
 {
     SfiFinding {
         sandbox: finding.sandbox,
@@ -47,6 +47,6 @@ pub(crate) fn write_findings(found: &BundleFindings, array: &mut [SfiFinding])
         let Some(finding) = found.at(i) else {
             unreachable!();
         };
-        array[i] = told(finding);
+        array[i] = finding_for_c(finding);
     }
 }

@@ -2,7 +2,7 @@
 ghost use Rattle.std.specs.Prelude.{◌≡◌};
 ghost use Rattle.sfi_c.specs.Verdicts.{acceptance, refusal, no_image};
 
-use crate::finding::{SfiFinding, no_finding, told};
+use crate::finding::{SfiFinding, finding_for_c, no_finding};
 use crate::status::Status;
 use sfi_rules::Finding;
 
@@ -45,7 +45,7 @@ pub(crate) fn refusal(findings: u32, first: Finding) -> SfiVerdict
     SfiVerdict {
         status: Status::Refused.number(),
         findings,
-        first: told(first),
+        first: finding_for_c(first),
         ..acceptance(0, 0)
     }
 }

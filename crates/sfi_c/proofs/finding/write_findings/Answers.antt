@@ -1,16 +1,16 @@
 use Rattle.std.proofs.Common.{◌≡◌, length, arith, ◌∙◌, ap, sym}
 use Rattle.std.specs.Prelude.{min}
 use Rattle.std.proofs.lemmas.Option.{get_or_from_slice_get}
-use Rattle.sfi_c.specs.Verdicts.{told}
+use Rattle.sfi_c.specs.Verdicts.{finding_for_c}
 use Rattle.sfi_c.proofs.Writing.{written_one_more, all_written, with_is}
 use Rattle.sfi_c.proofs.finding.write_findings.Goals as goal
 
 pub loop-i-preserved : goal.loop-i-preserved
 loop-i-preserved c =
-    written_one_more told c.args.found.now c.args.array.now c.loop-i.array c.loop-i.i c.told.result c.in-Some.finding (omega arith) (omega arith) c.loop-i.invariant
-    (c.told.ensures ∙ ap told (sym (get_or_from_slice_get c.args.found.now c.loop-i.i c.in-Some.finding c.in-Some.finding (sym c.in-Some.ensures))))
+    written_one_more finding_for_c c.args.found.now c.args.array.now c.loop-i.array c.loop-i.i c.finding_for_c.result c.in-Some.finding (omega arith) (omega arith) c.loop-i.invariant
+    (c.finding_for_c.ensures ∙ ap finding_for_c (sym (get_or_from_slice_get c.args.found.now c.loop-i.i c.in-Some.finding c.in-Some.finding (sym c.in-Some.ensures))))
 
 pub returns : goal.returns
 returns c =
     let all : c.loop-i.i ≡ min (length c.args.found.now) (length c.args.array.now) = omega (arith, c.min-count.ensures, c.count.ensures.value) in
-    c.loop-i.invariant ∙ all_written told c.args.found.now c.args.array.now c.loop-i.i all ∙ sym (with_is told c.args.found.now c.args.array.now)
+    c.loop-i.invariant ∙ all_written finding_for_c c.args.found.now c.args.array.now c.loop-i.i all ∙ sym (with_is finding_for_c c.args.found.now c.args.array.now)

@@ -1,8 +1,8 @@
 use Rattle.std.proofs.Common.{◌≡◌, take}
-use Rattle.sfi_c.specs.Verdicts.{told}
+use Rattle.sfi_c.specs.Verdicts.{finding_for_c}
 use Rattle.sfi_c.proofs.Writing.{over}
 use Rattle.sfi_c.proofs.finding.write_findings.Given as goal
 
 -- so many of the findings stand at the front
 abbrev pub invariant-loop-i : goal.invariant-loop-i
-invariant-loop-i l = l.array ≡ over told (take l.i l.found) l.initial.array
+invariant-loop-i l = l.array ≡ over finding_for_c (take l.i l.found) l.initial.array
