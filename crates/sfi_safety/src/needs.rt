@@ -73,10 +73,10 @@ pub fn each_rule_is_needed()
 /// The rules of code in words are needed, too. V1: a run stands at no instruction. V2: a store that
 /// begins in one word and ends in the next reaches address 0. V3: an ecall calls the host where no
 /// gate is listed. V4: a store on an x26 that was made 0 reaches address 0. V5: so does one on x28.
-/// V6: a jalr with an offset leaves the code past its last word. V7: so does a jump. V8: so does a nop
-/// as the last word. V10: a store on an x2 that was made 0 reaches address 0. V11: a jump on an x30
-/// that was made 0 leaves the code. V12: a store on an x2 that was placed with an x31 of ones goes on
-/// at address 0.
+/// V6: a jalr with an offset leaves the code past its last word. V7: so does a jump. V8: so does a
+/// nop as the last word. V10: a store on an x2 that was made 0 reaches address 0. V11: a jump on an
+/// x30 that was made 0 leaves the code. V12: a store on an x2 that was placed with an x31 of ones
+/// goes on at address 0.
 pub fn rules_of_words_are_needed()
     ensures undecodable { IsNeeded V1 0x01000000 (sandbox undecodable_word) }
     ensures crossing { IsNeeded V2 0x01000002 (sandbox crossing_words) }
