@@ -68,7 +68,7 @@ entry_typed : (p : Part) (at : ℕ) → 1 ≤ p.data_size → IsUnitStart p at �
 entry_typed p at some start =
     let rs : List ℕ = (entry p at).registers in
     let base : (d r : ℕ) → d ≡ r → slice_index rs r ≡ p.data_base → IsNear p 1020 (slice_index rs d) =
-        λ d r e is. subst (λ (x : ℕ). IsNear p 1020 (slice_index rs x)) (sym e) (subst (IsNear p 1020) (sym is) (near_base p some)) in
+    λ d r e is. subst (λ (x : ℕ). IsNear p 1020 (slice_index rs x)) (sym e) (subst (IsNear p 1020) (sym is) (near_base p some)) in
     record {
       stack = λ has. (omega arith, omega arith);
       words = λ has. record {
