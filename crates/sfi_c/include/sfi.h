@@ -76,7 +76,7 @@ struct sfi_verdict {
     uint32_t status;          /* one of enum sfi_status */
     uint32_t layout_fault;    /* SFI_NO_IMAGE: one of enum sfi_layout_fault */
     uint32_t sandboxes;       /* SFI_ACCEPTED: how many sandboxes the image has, 1 to 16 .. */
-    uint32_t bundles;         /* .. and how many bundles of code they have together */
+    uint32_t bundles;         /* .. and how many 16 bytes of code they have together, in each format */
     uint32_t findings;        /* SFI_REFUSED: how many findings there are, at least 1 .. */
     struct sfi_finding first; /* .. and the first of them, by sandbox and then by address */
 };
