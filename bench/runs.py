@@ -1,7 +1,7 @@
 #!/usr/bin/env python3
 """How fast `sfi run` is, beside a plain interpreter in C (interpreter.c) that decodes at each step, or once.
 
-    bench/runs.py [--program PATH] [--rounds N] [--least]
+    bench/runs.py [--program PATH] [--rounds N] [--least | --compiled]
 
 Builds compute.s, memory.s and mixed.s by `sfi build`, each as one sandbox and as 16, and runs them in turns of 100000 steps;
 it ends where the programs' lines differ. It prints million steps a second, by the medians of N alternated runs of 96 million
@@ -10,11 +10,18 @@ sandbox: million x86 instructions, seconds, and the peak of resident memory.
 
 With --least it prints nanoseconds a step in their place: the least time of N runs of 48 million steps less the least of N
 of 9.6 million. So the start of a process drops out, and most of what other work on the machine adds.
+
+With --compiled it runs the programs of examples/c in the second format to their end, 16 sandboxes of each (`make` in
+examples/c first; it wants what compiled.py wants), and prints the steps of all, and of `sfi run` and the interpreter that
+decodes once x86 instructions and nanoseconds for a step: less what a run of one step a sandbox takes, each the least of N
+runs. The last row has the geometric means.
 """
 import argparse
 import os
+import re
 import tempfile
 
+import compiled
 import images
 import measure
 
@@ -68,6 +75,28 @@ def print_least(program, interpreter, name, sandboxes, rounds, folder):
     print("|", " | ".join(cells), "|", flush=True)
 
 
+def print_compiled(program, interpreter, name, rounds, folder):
+    """Prints a program's row, and gives the ratios of the interpreter's instructions and time to those of `sfi run`."""
+    with open(os.path.join(compiled.EXAMPLES, "inputs", compiled.CASES[name]), "rb") as file:
+        digits = file.read().hex()
+    assembly = os.path.join(compiled.EXAMPLES, "build", name + ".asm")
+    image, _ = compiled.built(program, assembly, 2, [], folder, SANDBOXES[-1])
+    ways = {"sfi": lambda *turns: [program, "run", "--rounds", turns[0], "--quantum", turns[1], "--input", digits],
+            "C": lambda *turns: [interpreter, "once", *turns, digits]}
+    one, whole = ("1", "1"), ("1000", str(QUANTUM))
+    lines = {measure.run(way(*whole), image)[0] for way in ways.values()}
+    if len(lines) != 1 or "ready" in (text := lines.pop()):
+        raise SystemExit(f"bench: {name}: the lines differ, or a sandbox didn't end")
+    steps = sum(map(int, re.findall(r"steps=(\d+)", text))) - SANDBOXES[-1]
+    least = measure.leasts({(name, turns): (way(*turns), image) for name, way in ways.items() for turns in [one, whole]}, rounds)
+    counts = [(measure.instructions(way(*whole), image) - measure.instructions(way(*one), image)) / steps for way in ways.values()]
+    times = [1e9 * (least[way, whole] - least[way, one]) / steps for way in ways]
+    ratios = [counts[1] / counts[0], times[1] / times[0]]
+    cells = [name, f"{steps:,}", *(f"{count:.1f}" for count in counts), *(f"{time:.2f}" for time in times)]
+    print("|", " | ".join(cells + [f"{ratio:.2f}" for ratio in ratios]), "|", flush=True)
+    return ratios
+
+
 def print_load(program, shape, rounds, folder):
     data = images.image("pairs", *shape)
     text = measure.written(os.path.join(folder, "text"), images.as_text(data))
@@ -82,10 +111,16 @@ def main():
     parser.add_argument("--program", default=measure.PROGRAM)
     parser.add_argument("--rounds", type=int, default=5)
     parser.add_argument("--least", action="store_true")
+    parser.add_argument("--compiled", action="store_true")
     options = parser.parse_args()
     program = measure.program_at(options.program)
     with tempfile.TemporaryDirectory() as folder:
         interpreter = measure.compiled("interpreter.c", os.path.join(folder, "interpreter"))
+        if options.compiled:
+            print("| program | steps | instructions: `sfi run` | C, once | ns: `sfi run` | C, once | instructions' ratio | times' |")
+            rows = [print_compiled(program, interpreter, name, options.rounds, folder) for name in compiled.CASES]
+            print("| geometric mean | | | | | |", " | ".join(f"{compiled.mean(ratios):.2f}" for ratios in zip(*rows)), "|")
+            return
         print("| source, sandboxes |", " | ".join(commands(program, interpreter, 0)), "| to each step | to once |")
         for name in NAMES:
             for sandboxes in SANDBOXES:
