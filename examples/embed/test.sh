@@ -9,7 +9,7 @@ library=${1:+$(realpath "$1")}
 here=$(cd "$(dirname "${BASH_SOURCE[0]}")" && pwd)
 top=$(cd "$here/../.." && pwd)
 # The most bytes of code and constants that the checker may add to a program.
-most=40960
+most=43008
 source "$here/../harness.sh"
 
 compile() { # a program's name, and the command line that builds it
