@@ -105,7 +105,7 @@ const ROWS: &[Row] = &[
 fn try_pieces(rt: &impl Abort, alloc: Global, step: usize) -> Result<(), Fail> {
     for Row(edits, answer) in ROWS {
         let bytes = image_of(alloc, edits)?;
-        let mut reader = Pieces::new(bytes.as_slice(), step, 1000);
+        let mut reader = Pieces::new(bytes.as_slice(), step, 10_000);
         let mut source = Reading::new(&mut reader);
         assert_eq!(rt; check_stream(&mut source), *answer, "{edits} by {step}");
         assert!(rt; reader.longest() <= 4096, "{edits} by {step}");
