@@ -18,6 +18,7 @@ pub mod laws;
 mod linker;
 mod lying;
 mod names;
+mod stub;
 
 pub use build_fault::BuildFault;
 pub use builder::{build, build_at};

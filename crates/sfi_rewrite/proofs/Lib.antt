@@ -12,8 +12,11 @@ pub mod OneWay
 pub mod OneFault
 pub mod Sources
 pub mod Unmoved
+pub mod WordLaying
+pub mod WordAside
 pub mod Aside
 pub mod Transparent
+pub mod WordTransparent
 pub mod StackKept
 pub mod Standing
 pub mod Samples

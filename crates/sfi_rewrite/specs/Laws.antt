@@ -2,7 +2,7 @@
 use Rattle.std.specs.Prelude.{◌≡◌, ◌⊎◌, List}
 use Rattle.rv_word.specs.declared.instr.Instr.{Instr}
 use Rattle.sfi_policy.specs.declared.format.Format.{Format}
-use Rattle.sfi_policy.specs.declared.format.Format.TheVariants.{Sfi2}
+use Rattle.sfi_policy.specs.declared.format.Format.TheVariants.{Sfi2, Sfiw}
 use Rattle.rv_source.specs.declared.item.Item.{Item}
 use Rattle.rv_source.specs.Source.{Sandbox, IsSource}
 use Rattle.sfi_rewrite.specs.declared.slot.Slot.{Slot}
@@ -10,15 +10,24 @@ use Rattle.sfi_rewrite.specs.declared.fault.RewriteFault.{RewriteFault}
 use Rattle.sfi_rewrite.specs.Expansion.{IsExpansion}
 use Rattle.sfi_rewrite.specs.Placement.{Placement, IsPlacement}
 use Rattle.sfi_rewrite.specs.Placed.{IsPlaced}
-use Rattle.sfi_rewrite.specs.Faults.{IsPermitted, IsSourceFault}
+use Rattle.sfi_rewrite.specs.Faults.{IsPermitted}
+use Rattle.sfi_rewrite.specs.SourceFaults.{IsSourceFault}
+use Rattle.sfi_rewrite.specs.words.Expansion as words
+use Rattle.sfi_rewrite.specs.words.Transparency as words_transparency
+use Rattle.sfi_rewrite.specs.Standing.{StandTransparent}
 use Rattle.sfi_rewrite.specs.Rewriting.{IsRewritten, AreRewritten}
-use Rattle.sfi_rewrite.specs.Transparency.{MayBe, ActsAs, StandTransparent}
+use Rattle.sfi_rewrite.specs.Transparency.{MayBe, ActsAs}
 use Rattle.sfi_rewrite.specs.Samples.{MeetsTransparent, MeetsKeepsStack, sample_load, sample_jump, sample_push}
 
 -- an item has at most one expansion in each format
 abbrev pub OneExpansion : Type 0
 OneExpansion = (f : Format) (x : Item) (slots others : List Slot) → IsExpansion f x slots
     → IsExpansion f x others → slots ≡ others
+
+-- in words an item has at most one before the items after it
+abbrev pub OneWordExpansion : Type 0
+OneWordExpansion = (x : Item) (later : List Item) (slots others : List Slot)
+    → words.IsExpansion x later slots → words.IsExpansion x later others → slots ≡ others
 
 -- a sandbox has at most one placement
 abbrev pub OnePlacement : Type 0
@@ -55,6 +64,13 @@ abbrev pub ExpansionsAreTransparent : Type 0
 ExpansionsAreTransparent =
     (f : Format) (x : Item) (i : Instr) (slots : List Slot) → MayBe x.body i → IsPermitted f x
     → IsExpansion f x slots → ActsAs f i slots
+
+-- so does that of code in words
+abbrev pub WordExpansionsAreTransparent : Type 0
+WordExpansionsAreTransparent =
+    (x : Item) (later : List Item) (i : Instr) (slots : List Slot) → MayBe x.body i
+    → IsPermitted Sfiw x → words.IsExpansion x later slots
+    → words_transparency.ActsAs (words.is_step x later) i slots
 
 -- so each item of a source stands transparent in what is placed
 abbrev pub RewrittenIsTransparent : Type 0

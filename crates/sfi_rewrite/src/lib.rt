@@ -20,6 +20,7 @@ mod place;
 mod placed;
 mod rewriting;
 mod slot;
+mod words;
 
 pub use bundle::Bundle;
 pub use fault::RewriteFault;

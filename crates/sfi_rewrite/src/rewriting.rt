@@ -7,17 +7,20 @@ ghost use Rattle.sfi_rewrite.specs.Placement.{Placement};
 ghost use Rattle.sfi_rewrite.specs.Placed.{IsPlacedPart};
 ghost use Rattle.sfi_rewrite.specs.private.Filling.{HasEnd, largest};
 ghost use Rattle.sfi_rewrite.specs.declared.fault.RewriteFault.{RewriteFault};
-ghost use Rattle.sfi_rewrite.specs.Faults.{UnlessMemory, IsItemFault, IsSourceFault};
-ghost use Rattle.sfi_rewrite.specs.Transparency.{StandTransparent};
+ghost use Rattle.sfi_rewrite.specs.Faults.{UnlessMemory};
+ghost use Rattle.sfi_rewrite.specs.SourceFaults.{IsSandboxFault, IsSourceFault};
+ghost use Rattle.sfi_rewrite.specs.Standing.{StandTransparent};
 ghost use Rattle.sfi_rewrite.specs.Rewriting.{IsRewritten, AreRewritten, AnswersPlaced, AnswersFault};
 
 use crate::fault::RewriteFault;
 use crate::filling::Filling;
-use crate::laying::lay_items;
+use crate::laying::{Laid, lay_items};
 use crate::names::{has_end_label, place_names};
 use crate::place::nops_at_end;
 use crate::placed::{Placed, PlacedPart};
-use rv_source::{Source, SourcePart};
+use crate::words::lay_in_words;
+use rv_source::{Item, Source, SourcePart};
+use sfi_policy::Format;
 use std::alloc::{AllocError, Global};
 
 /// Fills the code up to the bundle start of a label at its end.
@@ -33,18 +36,35 @@ fn fill_end(labelled: bool, code: &mut Filling) -> Result<(), AllocError>
     Ok(())
 }
 
+/// Lays the items of the sandbox of that number as its format lays them.
+fn lay(
+    alloc: Global,
+    format: Format,
+    sandbox: u32,
+    items: &[Item],
+) -> Result<Laid, RewriteFault>
+{
+    if format.has_words() {
+        lay_in_words(alloc, format, sandbox, items)
+    } else {
+        lay_items(alloc, format, sandbox, items)
+    }
+}
+
 /// Places the sandbox of that number.
 fn place_part(alloc: Global, sandbox: u32, part: &SourcePart) -> Result<PlacedPart, RewriteFault>
     requires { IsSandbox part.now }
     ensures rewritten { IfOk result (IsRewritten part.now) }
     ensures right { IfOk result IsPlacedPart }
     ensures refused { IfErr result
-        (UnlessMemory (IsItemFault part.now.format sandbox part.now.items)) }
+        (UnlessMemory (IsSandboxFault sandbox part.now)) }
 {
-    let laid = lay_items(alloc, part.format(), sandbox, part.items())?;
+    let laid = lay(alloc, part.format(), sandbox, part.items())?;
     let names = place_names(alloc, part, &laid.labels)?;
     let mut code = laid.code;
-    fill_end(has_end_label(part), &mut code)?;
+    if !part.format().has_words() {
+        fill_end(has_end_label(part), &mut code)?;
+    }
     let mut gates = Vec::new(alloc);
     gates.extend_from_slice(part.gates())?;
     let mut bytes = Vec::new(alloc);
