@@ -17,6 +17,7 @@ pub mod WordAside
 pub mod Aside
 pub mod Transparent
 pub mod WordTransparent
+pub mod WordLaws
 pub mod StackKept
 pub mod Standing
 pub mod Samples

@@ -9,10 +9,14 @@ head_label : (l m : Bool) (s : Slot) (slots : List Marked) → in_words ((l, s) 
 head_label l m (Short f) [] = refl
 head_label l m (Short f) ((false, Short g) ∷ slots) = refl
 head_label l m (Short f) ((true, Short g) ∷ slots) = refl
-head_label l m (Short f) ((k, Wide i) ∷ slots) = refl
-head_label l m (Short f) ((k, Jump i name line) ∷ slots) = refl
-head_label l m (Short f) ((k, Upper rd name line) ∷ slots) = refl
-head_label l m (Short f) ((k, Lower rd name line) ∷ slots) = refl
+head_label l m (Short f) ((false, Wide i) ∷ slots) = refl
+head_label l m (Short f) ((true, Wide i) ∷ slots) = refl
+head_label l m (Short f) ((false, Jump i name line) ∷ slots) = refl
+head_label l m (Short f) ((true, Jump i name line) ∷ slots) = refl
+head_label l m (Short f) ((false, Upper rd name line) ∷ slots) = refl
+head_label l m (Short f) ((true, Upper rd name line) ∷ slots) = refl
+head_label l m (Short f) ((false, Lower rd name line) ∷ slots) = refl
+head_label l m (Short f) ((true, Lower rd name line) ∷ slots) = refl
 head_label l m _ slots = refl
 
 -- a slot of 32 bits has a word alone
@@ -29,10 +33,14 @@ wide_alone l (Lower rd name line) slots h = refl
 
 after_form : (f : Form16) (l : Bool) (s : Slot) (slots : List Marked) → IsNoForm s → in_words ((false, Short f) ∷ (l, s) ∷ slots) ≡ in_words ((false, Short f) ∷ []) ++ s ∷ in_words slots
 after_form f l (Short g) slots h = absurd h
-after_form f l (Wide i) slots h = refl
-after_form f l (Jump i name line) slots h = refl
-after_form f l (Upper rd name line) slots h = refl
-after_form f l (Lower rd name line) slots h = refl
+after_form f false (Wide i) slots h = refl
+after_form f true (Wide i) slots h = refl
+after_form f false (Jump i name line) slots h = refl
+after_form f true (Jump i name line) slots h = refl
+after_form f false (Upper rd name line) slots h = refl
+after_form f true (Upper rd name line) slots h = refl
+after_form f false (Lower rd name line) slots h = refl
+after_form f true (Lower rd name line) slots h = refl
 
 before_label : (f : Form16) (s : Slot) (slots : List Marked) → in_words ((false, Short f) ∷ (true, s) ∷ slots) ≡ in_words ((false, Short f) ∷ []) ++ in_words ((true, s) ∷ slots)
 before_label f (Short g) slots = refl

@@ -1,5 +1,5 @@
 -- Each expansion in words does what its instruction does.
-use Rattle.sfi_rewrite.proofs.Prelude.{◌≡◌, ◌≢◌, ℕ, ◌+◌, ◌-◌, ◌*◌, ◌/◌, ◌%◌, ◌^◌, ◌<◌, ◌≤◌, ◌==◌, List, [], ◌∷◌, ◌++◌, Bool, true, false, refl, sym, ap, ◌∙◌, subst, arith, inl, inr, ℤ, pos, bit_and, bit_or, or_parts, And, Or, LoadKind, Instr, Op, Load, Store, Jalr, code_most, address_after, Hart, State, IsState, register, with_register, with_pc, past, Stands, effect, IsStep, Slot, Wide, Short, slot_size, IsAlone, AreRegions, SlotStands}
+use Rattle.sfi_rewrite.proofs.Prelude.{◌≡◌, ◌≢◌, ℕ, ◌+◌, ◌-◌, ◌*◌, ◌/◌, ◌%◌, ◌^◌, ◌<◌, ◌≤◌, ◌==◌, List, [], ◌∷◌, ◌++◌, Bool, true, false, refl, sym, ap, ◌∙◌, subst, arith, eqb-true, eqb-false, ℤ, pos, bit_and, bit_or, And, Or, LoadKind, Instr, Op, Load, Store, Jalr, code_most, address_after, Hart, State, IsState, register, with_register, with_pc, past, Stands, effect, IsStep, Slot, Wide, Short, slot_size, IsAlone, AreRegions, SlotStands}
 use Rattle.rv_comp.specs.Table.{expansion}
 use Rattle.rv_comp.specs.declared.form.Form16.{Form16}
 use Rattle.rv_step.specs.Steps.{further, StandInRow, LeadsTo, LeadTo}
@@ -186,3 +186,33 @@ jump_transparent rd a = record {
       let to = plus_zero (register s.hart a) (asked.is_state.hart.words a) in
       jump_based rd a c d s asked.regions asked.is_state asked.reserved (subst (λ (n : ℕ). IsWordStart c n) to asked.keeps) asked.stand.0 asked.stand.1.0 asked.stand.1.1.0;
 }
+
+-- ---- the mask after a write of a data register
+
+-- what the mask needs of its register: it is one of the 32, is not x0, and is none of the expansions'
+pub record IsNamed (d : ℕ) : Type 0 where
+  pub some : d ≢ 0
+  pub small : d < 32
+  pub own : is_own d ≡ false
+
+-- a register that the mask doesn't write
+mask_elsewhere : (t : State) (d x : ℕ) → IsNamed d → x ≢ d → x ≢ 31 → register (after_mask t d d).hart x ≡ register t.hart x
+mask_elsewhere t d x named other apart =
+    let one = masked t d in
+    written_elsewhere (past one.hart 4) d (bit_or (register one.hart 31) (register one.hart 26)) x named.some other
+    ∙ written_elsewhere (past t.hart 4) 31 (bit_and (register t.hart d) (register t.hart 27)) x (λ e. omega arith) apart
+
+not_31 : (x : ℕ) → is_own x ≡ false → x ≢ 31
+not_31 x other e = let z = ap is_own e in cc
+
+mask_same : (t : State) (d x : ℕ) (same : Bool) → (x == d) ≡ same → IsState t → IsNamed d → bit_or (bit_and (register t.hart d) (register t.hart 27)) (register t.hart 26) ≡ register t.hart d
+    → is_own x ≡ false → register (after_mask t d d).hart x ≡ register t.hart x
+mask_same t d x true is state named e other =
+    let at : x ≡ d = eqb-true x d is in
+    subst (λ (y : ℕ). register (after_mask t d d).hart y ≡ register t.hart y) (sym at) (mask_value t d d state named.some named.small ∙ e)
+mask_same t d x false is state named e other = mask_elsewhere t d x named (eqb-false x d is) (not_31 x other)
+
+-- a data register in the data region stays, and so does each other but x31
+pub mask_keeps : (c d_at : Span) (t : State) (d : ℕ) → AreRegions c d_at → IsState t → HasReserved c d_at t.hart → IsNamed d → Holds d_at (register t.hart d)
+    → (x : ℕ) → is_own x ≡ false → register (after_mask t d d).hart x ≡ register t.hart x
+mask_keeps c d_at t d regions is reserved named held x other = mask_same t d x (x == d) refl is named (unmasked_data c d_at t.hart (register t.hart d) regions reserved held) other

@@ -1,5 +1,5 @@
 //! Words that are filled one after another.
-ghost use Rattle.std.specs.Prelude.{◌≡◌, ◌++◌, ◌+◌, ◌≤◌, [], None, IfOk};
+ghost use Rattle.std.specs.Prelude.{◌≡◌, ◌++◌, ◌+◌, ◌%◌, ◌≤◌, [], None, IfOk};
 ghost use Rattle.sfi_rewrite.specs.Slots.{size_of};
 ghost use Rattle.sfi_rewrite.specs.private.Filling.{largest};
 ghost use Rattle.sfi_rewrite.specs.private.Words.{so_far, bytes_of, more_for, ended, with_slot};
@@ -13,7 +13,8 @@ use std::marker::Model;
 /// How many bytes a word has.
 const WORD_SIZE: usize = 4;
 
-/// Words, after which a 16-bit form may wait for a second one.
+/// Words, after which a 16-bit form may wait for a second one. All have 4 bytes; that isn't known
+/// where an allocation was refused.
 #[derive(Drop)]
 pub(crate) struct WordFilling {
     words: Filling,
@@ -21,15 +22,11 @@ pub(crate) struct WordFilling {
 }
 
 impl Model for WordFilling {
-    ghost use Rattle.std.specs.Prelude.{◌≡◌, ◌%◌};
-    ghost use Rattle.sfi_rewrite.specs.Slots.{size_of};
     ghost use Rattle.sfi_rewrite.specs.private.Words.{WordsSoFar, so_far};
 
     ghost Value = { WordsSoFar };
 
     ghost view = { λ w. so_far w.words w.waiting };
-
-    ghost invariant = { λ w. size_of w.words % 4 ≡ 0 };
 }
 
 impl WordFilling {
@@ -66,6 +63,7 @@ impl WordFilling {
     /// Adds a word of these slots.
     fn push_word(&mut self, slots: &[Slot]) -> Result<(), AllocError>
         requires word { size_of slots.now ≡ 4 }
+        requires aligned { size_of self.old.words % 4 ≡ 0 }
         requires room { size_of self.old.words + 4 ≤ largest }
         ensures { IfOk result
             (λ _. self.new ≡ so_far (self.old.words ++ slots.now) self.old.waiting) }
@@ -75,7 +73,8 @@ impl WordFilling {
 
     /// Gives a form that waits a word alone, in 32 bits.
     pub(crate) fn end_word(&mut self) -> Result<(), AllocError>
-        requires { bytes_of self.old ≤ largest }
+        requires aligned { size_of self.old.words % 4 ≡ 0 }
+        requires room { bytes_of self.old ≤ largest }
         ensures { IfOk result (λ _. self.new ≡ ended self.old.words self.old.waiting) }
     {
         if let Some(form) = self.waiting {
@@ -87,7 +86,8 @@ impl WordFilling {
 
     /// Adds a slot: with a form that waits to one word, if both have 16 bits.
     pub(crate) fn push(&mut self, slot: Slot) -> Result<(), AllocError>
-        requires { bytes_of self.old + more_for self.old.waiting slot ≤ largest }
+        requires aligned { size_of self.old.words % 4 ≡ 0 }
+        requires room { bytes_of self.old + more_for self.old.waiting slot ≤ largest }
         ensures { IfOk result (λ _. self.new ≡ with_slot self.old.words self.old.waiting slot) }
     {
         match (self.waiting, slot) {

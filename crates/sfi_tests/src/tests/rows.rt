@@ -48,6 +48,7 @@ mod reports;
 mod runs;
 mod sources;
 mod texts;
+mod word_sources;
 mod words;
 
 use super::image::{edited, smallest};
@@ -240,6 +241,13 @@ fn format_rows(rt: HostRuntime) -> Result<(), Fail> {
     try_rows(&rt, rt.alloc(), formats::WRITES, 5)?;
     try_rows(&rt, rt.alloc(), formats::FIRST_WRITES, 3)?;
     try_rows(&rt, rt.alloc(), formats::KEPT, 3)
+}
+
+#[test]
+fn word_source_rows(rt: HostRuntime) -> Result<(), Fail> {
+    try_rows(&rt, rt.alloc(), word_sources::EXPANSIONS, 18)?;
+    try_rows(&rt, rt.alloc(), word_sources::REFUSED, 11)?;
+    try_rows(&rt, rt.alloc(), word_sources::KEPT, 1)
 }
 
 #[test]
