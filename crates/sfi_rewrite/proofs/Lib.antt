@@ -13,6 +13,7 @@ pub mod OneFault
 pub mod Sources
 pub mod Unmoved
 pub mod WordLaying
+pub mod WordFilled
 pub mod WordAside
 pub mod Aside
 pub mod Transparent

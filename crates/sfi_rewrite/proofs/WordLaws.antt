@@ -4,7 +4,8 @@ use Rattle.sfi_rewrite.specs.Laws.{OneWordExpansion}
 use Rattle.sfi_rewrite.specs.words.Expansion.{before, after, base_of, IsConfined, IsPlainExpansion, IsExpansionOf, is_step}
 use Rattle.sfi_rewrite.proofs.Laid.{alone_one_way}
 pub use Rattle.sfi_rewrite.proofs.WordTransparent.{load_transparent, store_transparent, jump_transparent, mask_keeps}
-pub use Rattle.sfi_rewrite.proofs.WordLaying.{slot_leads, ended_leads, ended_last}
+pub use Rattle.sfi_rewrite.proofs.WordLaying.{ended_leads, ended_last}
+pub use Rattle.sfi_rewrite.proofs.WordFilled.{slots_more, slots_push, slots_lead}
 
 confined_one_way : (rvc : Bool) (i : Instr) (a b : List Slot) → IsConfined rvc i a → IsConfined rvc i b → a ≡ b
 confined_one_way rvc (Load kind rd rs1 imm) a b x y = alone_one_way rvc (Load kind rd (base_of rs1) imm) a b x y

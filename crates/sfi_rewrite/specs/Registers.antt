@@ -17,7 +17,7 @@ address_register = 29
 abbrev pub is_withheld : Format → ℕ → Bool
 is_withheld f r =
     if has_words f then
-        is_reserved r || (r == address_register) || (r == code_register) || (r == offset_register)
+    is_reserved r || (r == address_register) || (r == code_register) || (r == offset_register)
     else policy.is_withheld r
 
 -- one of an instruction's register operands is such a register,

@@ -6,10 +6,9 @@ ghost use Rattle.sfi_rewrite.specs.Stack.{is_stack_write};
 ghost use Rattle.sfi_rewrite.specs.Faults.{is_barred_jump, IsPermitted, HasItemFault};
 
 use crate::fault::RewriteFault;
-use rv_source::{Body, Item};
-use rv_word::Instr;
 use crate::words::ADDRESS_REGISTER;
-use rv_word::Reg;
+use rv_source::{Body, Item};
+use rv_word::{Instr, Reg};
 use sfi_pairs::{is_data_register, is_reserved};
 use sfi_policy::{CODE_REGISTER, Format, OFFSET_REGISTER};
 
@@ -19,7 +18,10 @@ fn is_withheld(format: Format, register: Reg) -> bool
 {
     if format.has_words() {
         is_reserved(register)
-            || matches!(register.number(), ADDRESS_REGISTER | CODE_REGISTER | OFFSET_REGISTER)
+            || matches!(
+                register.number(),
+                ADDRESS_REGISTER | CODE_REGISTER | OFFSET_REGISTER
+            )
     } else {
         sfi_pairs::is_withheld(register)
     }
@@ -30,7 +32,9 @@ fn names_withheld(format: Format, instr: &Instr) -> bool
     ensures { result ≡ names_withheld format instr.now }
 {
     match *instr {
-        Instr::Op { rd, rs1, rs2, .. } => is_withheld(format, rd) || is_withheld(format, rs1) || is_withheld(format, rs2),
+        Instr::Op { rd, rs1, rs2, .. } => is_withheld(format, rd)
+            || is_withheld(format, rs1)
+            || is_withheld(format, rs2),
         Instr::OpImm { rd, rs1, .. } => is_withheld(format, rd) || is_withheld(format, rs1),
         Instr::Load { rd, rs1, .. } => is_withheld(format, rd) || is_withheld(format, rs1),
         Instr::Store { rs1, rs2, .. } => is_withheld(format, rs1) || is_withheld(format, rs2),

@@ -37,13 +37,7 @@ fn fill_end(labelled: bool, code: &mut Filling) -> Result<(), AllocError>
 }
 
 /// Lays the items of the sandbox of that number as its format lays them.
-fn lay(
-    alloc: Global,
-    format: Format,
-    sandbox: u32,
-    items: &[Item],
-) -> Result<Laid, RewriteFault>
-{
+fn lay(alloc: Global, format: Format, sandbox: u32, items: &[Item]) -> Result<Laid, RewriteFault> {
     if format.has_words() {
         lay_in_words(alloc, format, sandbox, items)
     } else {

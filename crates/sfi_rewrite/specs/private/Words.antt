@@ -40,6 +40,11 @@ with_slot words (Some f) (Short g) = so_far (words ++ Short f ∷ Short g ∷ []
 with_slot words None (Short g) = so_far words (Some g)
 with_slot words waiting s = so_far ((ended words waiting).words ++ s ∷ []) None
 
+-- the words with these slots after them, of which no label stands before a second one
+abbrev pub with_slots : WordsSoFar → List Slot → WordsSoFar
+with_slots w [] = w
+with_slots w (s ∷ slots) = with_slots (with_slot w.words w.waiting s) slots
+
 -- the form that waits, as a slot
 abbrev pub waits : Option Form16 → List Marked
 waits None = []

@@ -10,9 +10,7 @@ use rv_comp::form_of;
 use rv_source::{Body, Item};
 use rv_word::{ImmOp, Instr, Reg, RegOp};
 use sfi_pairs::{code_pair, is_data_register};
-use sfi_policy::{
-    CODE_REGISTER, DATA_BASE_REGISTER, DATA_MASK_REGISTER, OFFSET_REGISTER, SLACK,
-};
+use sfi_policy::{CODE_REGISTER, DATA_BASE_REGISTER, DATA_MASK_REGISTER, OFFSET_REGISTER, SLACK};
 use std::marker::Model;
 
 /// The data register in which the expansions make addresses, x29.
@@ -164,12 +162,15 @@ fn confined(rvc: bool, instr: &Instr) -> Slot
             imm,
         } => {
             let rs1 = base_of(rs1);
-            alone(rvc, &Instr::Store {
-                width,
-                rs1,
-                rs2,
-                imm,
-            })
+            alone(
+                rvc,
+                &Instr::Store {
+                    width,
+                    rs1,
+                    rs2,
+                    imm,
+                },
+            )
         }
         Instr::Jalr { rd, imm, .. } => Slot::Wide(Instr::Jalr {
             rd,
@@ -251,7 +252,14 @@ fn is_step_to(body: &Body, next: &Body) -> bool
 {
     match (body, next) {
         (
-            Body::Plain(Instr::OpImm { op: ImmOp::Addi, rd, rs1, .. }),
+            Body::Plain(
+                Instr::OpImm {
+                    op: ImmOp::Addi,
+                    rd,
+                    rs1,
+                    ..
+                },
+            ),
             Body::Plain(instr),
         ) => is_data_register(*rd) && rs1.number() == rd.number() && is_use(*rd, instr),
         _ => false,

@@ -17,8 +17,7 @@ fn lay_slots(
     item: &Item,
     later: &[Item],
     code: &mut WordFilling,
-) -> Result<(), RewriteFault>
-{
+) -> Result<(), RewriteFault> {
     let expansion = expand(item, later);
     for slot in expansion.slots() {
         if code.end_with(slot) > format.code_most() as usize {
@@ -35,8 +34,7 @@ pub(crate) fn lay_in_words(
     format: Format,
     sandbox: u32,
     items: &[Item],
-) -> Result<Laid, RewriteFault>
-{
+) -> Result<Laid, RewriteFault> {
     let mut code = WordFilling::new(alloc);
     let mut labels = Vec::new(alloc);
     for (number, item) in items.iter().enumerate() {
