@@ -66,37 +66,37 @@ aside_own h r v some own = record {
 next_same : (h k : Hart) (m : Bytes) → Aside h k → IsSame (next h m) (next k m)
 next_same h k m a = record { outcome = refl; hart = a.same; memory = refl }
 
-load_same : (o : Option ℕ) (kind : LoadKind) (rd at : ℕ) (h k : Hart) (m : Bytes) → Aside h k → IsSame (after_load o kind rd at 4 h m) (after_load o kind rd at 4 k m)
-load_same None kind rd at h k m a = record { outcome = refl; hart = a.same; memory = refl }
-load_same (Some v) kind rd at h k m a = next_same _ _ m (aside_written (past h 4) (past k 4) rd _ (aside_at h k _ _ (ap (λ p. address_after p 4) a.same.pc) a))
+load_same : (o : Option ℕ) (kind : LoadKind) (rd at n : ℕ) (h k : Hart) (m : Bytes) → Aside h k → IsSame (after_load o kind rd at n h m) (after_load o kind rd at n k m)
+load_same None kind rd at n h k m a = record { outcome = refl; hart = a.same; memory = refl }
+load_same (Some v) kind rd at n h k m a = next_same _ _ m (aside_written (past h n) (past k n) rd _ (aside_at h k _ _ (ap (λ p. address_after p n) a.same.pc) a))
 
-pub loads_same : (kind : LoadKind) (rd b a : ℕ) (imm : ℤ) (h k : Hart) (m : Bytes) → Aside h k → register h b ≡ register k a
-    → IsSame (effect (Load kind rd b imm) 4 h m) (effect (Load kind rd a imm) 4 k m)
-loads_same kind rd b a imm h k m aside e =
-    subst (λ (z : ℕ). IsSame (after_load (loaded m (offset_by z imm) (load_size kind)) kind rd (offset_by z imm) 4 h m) (effect (Load kind rd a imm) 4 k m))
-    (sym e) (load_same _ kind rd _ h k m aside)
+pub loads_same : (kind : LoadKind) (rd b a : ℕ) (imm : ℤ) (n : ℕ) (h k : Hart) (m : Bytes) → Aside h k → register h b ≡ register k a
+    → IsSame (effect (Load kind rd b imm) n h m) (effect (Load kind rd a imm) n k m)
+loads_same kind rd b a imm n h k m aside e =
+    subst (λ (z : ℕ). IsSame (after_load (loaded m (offset_by z imm) (load_size kind)) kind rd (offset_by z imm) n h m) (effect (Load kind rd a imm) n k m))
+    (sym e) (load_same _ kind rd _ n h k m aside)
 
-store_same : (b : Bool) (at size v : ℕ) (h k : Hart) (m : Bytes) → Aside h k
-    → IsSame (cond b (next (past h 4) (stored m at size v)) (unchanged (Trap cause.Store at) h m)) (cond b (next (past k 4) (stored m at size v)) (unchanged (Trap cause.Store at) k m))
-store_same true at size v h k m a = next_same _ _ _ (aside_at h k _ _ (ap (λ p. address_after p 4) a.same.pc) a)
-store_same false at size v h k m a = record { outcome = refl; hart = a.same; memory = refl }
+store_same : (b : Bool) (at size v n : ℕ) (h k : Hart) (m : Bytes) → Aside h k
+    → IsSame (cond b (next (past h n) (stored m at size v)) (unchanged (Trap cause.Store at) h m)) (cond b (next (past k n) (stored m at size v)) (unchanged (Trap cause.Store at) k m))
+store_same true at size v n h k m a = next_same _ _ _ (aside_at h k _ _ (ap (λ p. address_after p n) a.same.pc) a)
+store_same false at size v n h k m a = record { outcome = refl; hart = a.same; memory = refl }
 
-stored_from : (width : StoreWidth) (base v : ℕ) (imm : ℤ) (h k : Hart) (m : Bytes) → Aside h k
+stored_from : (width : StoreWidth) (base v : ℕ) (imm : ℤ) (n : ℕ) (h k : Hart) (m : Bytes) → Aside h k
     → IsSame
-    (cond (is_some (bytes_at m (addresses (offset_by base imm) (store_size width)))) (next (past h 4) (stored m (offset_by base imm) (store_size width) v)) (unchanged (Trap cause.Store (offset_by base imm)) h m))
-    (cond (is_some (bytes_at m (addresses (offset_by base imm) (store_size width)))) (next (past k 4) (stored m (offset_by base imm) (store_size width) v)) (unchanged (Trap cause.Store (offset_by base imm)) k m))
-stored_from width base v imm h k m a = store_same (is_some (bytes_at m (addresses (offset_by base imm) (store_size width)))) (offset_by base imm) (store_size width) v h k m a
+    (cond (is_some (bytes_at m (addresses (offset_by base imm) (store_size width)))) (next (past h n) (stored m (offset_by base imm) (store_size width) v)) (unchanged (Trap cause.Store (offset_by base imm)) h m))
+    (cond (is_some (bytes_at m (addresses (offset_by base imm) (store_size width)))) (next (past k n) (stored m (offset_by base imm) (store_size width) v)) (unchanged (Trap cause.Store (offset_by base imm)) k m))
+stored_from width base v imm n h k m a = store_same (is_some (bytes_at m (addresses (offset_by base imm) (store_size width)))) (offset_by base imm) (store_size width) v n h k m a
 
-pub stores_same : (width : StoreWidth) (b a rs2 : ℕ) (imm : ℤ) (h k : Hart) (m : Bytes) → Aside h k → register h b ≡ register k a → is_own rs2 ≡ false
-    → IsSame (effect (Store width b rs2 imm) 4 h m) (effect (Store width a rs2 imm) 4 k m)
-stores_same width b a rs2 imm h k m aside e ne =
+pub stores_same : (width : StoreWidth) (b a rs2 : ℕ) (imm : ℤ) (n : ℕ) (h k : Hart) (m : Bytes) → Aside h k → register h b ≡ register k a → is_own rs2 ≡ false
+    → IsSame (effect (Store width b rs2 imm) n h m) (effect (Store width a rs2 imm) n k m)
+stores_same width b a rs2 imm n h k m aside e ne =
     subst
-    (λ (z : ℕ). IsSame (cond (is_some (bytes_at m (addresses (offset_by z imm) (store_size width)))) (next (past h 4) (stored m (offset_by z imm) (store_size width) (register h rs2))) (unchanged (Trap cause.Store (offset_by z imm)) h m)) (effect (Store width a rs2 imm) 4 k m))
+    (λ (z : ℕ). IsSame (cond (is_some (bytes_at m (addresses (offset_by z imm) (store_size width)))) (next (past h n) (stored m (offset_by z imm) (store_size width) (register h rs2))) (unchanged (Trap cause.Store (offset_by z imm)) h m)) (effect (Store width a rs2 imm) n k m))
     (sym e)
     (subst
-    (λ (v : ℕ). IsSame (cond (is_some (bytes_at m (addresses (offset_by (register k a) imm) (store_size width)))) (next (past h 4) (stored m (offset_by (register k a) imm) (store_size width) v)) (unchanged (Trap cause.Store (offset_by (register k a) imm)) h m)) (effect (Store width a rs2 imm) 4 k m))
+    (λ (v : ℕ). IsSame (cond (is_some (bytes_at m (addresses (offset_by (register k a) imm) (store_size width)))) (next (past h n) (stored m (offset_by (register k a) imm) (store_size width) v)) (unchanged (Trap cause.Store (offset_by (register k a) imm)) h m)) (effect (Store width a rs2 imm) n k m))
     (sym (aside.same.registers rs2 ne))
-    (stored_from width (register k a) (register k rs2) imm h k m aside))
+    (stored_from width (register k a) (register k rs2) imm n h k m aside))
 
 pub jumps_same : (rd b a : ℕ) (imm : ℤ) (h k : Hart) (m : Bytes) → Aside h k → offset_by (register h b) (pos 0) ≡ offset_by (register k a) imm
     → IsSame (effect (Jalr rd b (pos 0)) 4 h m) (effect (Jalr rd a imm) 4 k m)

@@ -1,5 +1,5 @@
 -- Each expansion in words does what its instruction does.
-use Rattle.sfi_rewrite.proofs.Prelude.{◌≡◌, ◌≢◌, ℕ, ◌+◌, ◌-◌, ◌*◌, ◌/◌, ◌%◌, ◌^◌, ◌<◌, ◌≤◌, ◌==◌, List, [], ◌∷◌, ◌++◌, Bool, true, false, refl, sym, ap, ◌∙◌, subst, arith, eqb-true, eqb-false, ℤ, pos, bit_and, bit_or, And, Or, LoadKind, Instr, Op, Load, Store, Jalr, code_most, address_after, Hart, State, IsState, register, with_register, with_pc, past, Stands, effect, IsStep, Slot, Wide, Short, slot_size, IsAlone, AreRegions, SlotStands}
+use Rattle.sfi_rewrite.proofs.Prelude.{◌≡◌, ◌≢◌, ℕ, ◌+◌, ◌-◌, ◌*◌, ◌/◌, ◌%◌, ◌^◌, ◌<◌, ◌≤◌, ◌==◌, List, [], ◌∷◌, ◌++◌, Bool, true, false, inl, inr, refl, sym, ap, ◌∙◌, subst, arith, eqb-true, eqb-false, ℤ, pos, bit_and, bit_or, And, Or, LoadKind, Instr, Op, Load, Store, Jalr, code_most, address_after, Hart, State, IsState, register, with_register, with_pc, past, Stands, effect, IsStep, Slot, Wide, Short, slot_size, IsAlone, AreRegions, SlotStands}
 use Rattle.rv_comp.specs.Table.{expansion}
 use Rattle.rv_comp.specs.declared.form.Form16.{Form16}
 use Rattle.rv_step.specs.Steps.{further, StandInRow, LeadsTo, LeadTo}
@@ -13,6 +13,7 @@ use Rattle.std.proofs.lemmas.Nat.{pow-add}
 use Rattle.std.proofs.lemmas.Nat.Bits.{and_high}
 use Rattle.rv_step.proofs.Facts.{pair_leaves, step_keeps_state}
 use Rattle.rv_step.proofs.Pairs.{written_here, written_elsewhere}
+use Rattle.sfi_rewrite.specs.Transparency.{SlotsStand}
 use Rattle.sfi_rewrite.specs.words.Expansion.{data_mask}
 use Rattle.sfi_rewrite.specs.words.Transparency.{is_own, HasReserved, IsWordStart, IsBased, KeepsTo, IsAskedOf, IsSame, DoesAs, IsTransparent}
 use Rattle.sfi_rewrite.proofs.Unmoved.{unmoved_data, rest_of, in_block}
@@ -98,42 +99,42 @@ mask_aside s a =
     let second : Aside (after_mask s 29 a).hart (past one.hart 4) = aside_own (past one.hart 4) 29 (bit_or (register one.hart 31) (register one.hart 26)) (λ e. omega arith) refl in
     aside_through (after_mask s 29 a).hart (past one.hart 4) (with_pc s.hart q) second (aside_at one.hart (past s.hart 4) q q refl first)
 
+-- ---- one slot for an instruction
+
+-- the slots are one alone, which stands for i, and in which j stands
+pub record IsOneFor (i j : Instr) (slots : List Slot) : Type 0 where
+  pub slot : Slot
+  pub are : slots ≡ slot ∷ []
+  pub stands : (s : State) → SlotStands i s slot → Stands s j (slot_size slot)
+
+pub one_for : (rvc : Bool) (i j : Instr) (slots : List Slot) → IsAlone rvc j slots → IsOneFor i j slots
+one_for false i j slots e = record { slot = Wide j; are = e; stands = λ s st. st }
+one_for true i j slots (inl f) = record { slot = Short f.0; are = f.2; stands = λ s st. subst (λ (k : Instr). Stands s k 2) f.1.expands st }
+one_for true i j slots (inr w) = record { slot = Wide j; are = w.1; stands = λ s st. st }
+
+stays_there : (pc : ℕ) → pc < 2 ^ 32 → pc ≡ address_after pc 0
+stays_there pc h = omega arith
+
 -- ---- an access after the mask, a jump after the pair
 
 -- what j does from harts with v in b, and else the registers of s, is what i does from these
-abbrev DoesFor : State → Instr → Instr → ℕ → ℕ → Type 0
-DoesFor s i j b v =
-    (h : Hart) → Aside h (with_pc s.hart h.pc) → register h b ≡ v → IsSame (effect j 4 h s.memory) (effect i 4 (with_pc s.hart h.pc) s.memory)
+abbrev DoesFor : State → Instr → Instr → ℕ → ℕ → ℕ → Type 0
+DoesFor s i j n b v =
+    (h : Hart) → Aside h (with_pc s.hart h.pc) → register h b ≡ v → IsSame (effect j n h s.memory) (effect i n (with_pc s.hart h.pc) s.memory)
 
-after_base : (s : State) (i j : Instr) (a v : ℕ) → IsState s
-    → Stands s (Op And 31 a 27) 4 → Stands (further s 4) (Op Or 29 31 26) 4 → Stands (further (further s 4) 4) j 4
-    → bit_or (bit_and (register s.hart a) (register s.hart 27)) (register s.hart 26) ≡ v → DoesFor s i j 29 v → DoesAs s i (data_mask 29 a) (Wide j)
-after_base s i j a v is first second third e same =
+after_base : (s : State) (i j : Instr) (a v : ℕ) (slot : Slot) → IsState s
+    → Stands s (Op And 31 a 27) 4 → Stands (further s 4) (Op Or 29 31 26) 4 → Stands (further (further s 4) 4) j (slot_size slot)
+    → bit_or (bit_and (register s.hart a) (register s.hart 27)) (register s.hart 26) ≡ v → DoesFor s i j (slot_size slot) 29 v → DoesAs s i (data_mask 29 a) slot
+after_base s i j a v slot is first second third e same =
     let there = after_mask s 29 a in
     record {
       there = there;
       leads = mask_leads s 29 a first second;
       place = eight s.hart.pc;
-      result = effect j 4 there.hart s.memory;
-      step = does there j 4 (stands_at (further (further s 4) 4) there j 4 refl refl third);
+      result = effect j (slot_size slot) there.hart s.memory;
+      step = does there j (slot_size slot) (stands_at (further (further s 4) 4) there j (slot_size slot) refl refl third);
       same = same there.hart (mask_aside s a) (mask_value s 29 a is (λ z. omega arith) (omega arith) ∙ e);
     }
-
-load_based : (kind : LoadKind) (rd a : ℕ) (imm : ℤ) (c d : Span) (s : State) → AreRegions c d → IsState s → HasReserved c d s.hart → Holds d (register s.hart a)
-    → Stands s (Op And 31 a 27) 4 → Stands (further s 4) (Op Or 29 31 26) 4 → Stands (further (further s 4) 4) (Load kind rd 29 imm) 4
-    → DoesAs s (Load kind rd a imm) (data_mask 29 a) (Wide (Load kind rd 29 imm))
-load_based kind rd a imm c d s regions is reserved held first second third =
-    after_base s (Load kind rd a imm) (Load kind rd 29 imm) a (register s.hart a) is first second third
-    (unmasked_data c d s.hart (register s.hart a) regions reserved held)
-    (λ h aside e. loads_same kind rd 29 a imm h (with_pc s.hart h.pc) s.memory aside e)
-
-store_based : (width : StoreWidth) (a rs2 : ℕ) (imm : ℤ) (c d : Span) (s : State) → AreRegions c d → IsState s → HasReserved c d s.hart → Holds d (register s.hart a) → is_own rs2 ≡ false
-    → Stands s (Op And 31 a 27) 4 → Stands (further s 4) (Op Or 29 31 26) 4 → Stands (further (further s 4) 4) (Store width 29 rs2 imm) 4
-    → DoesAs s (Store width a rs2 imm) (data_mask 29 a) (Wide (Store width 29 rs2 imm))
-store_based width a rs2 imm c d s regions is reserved held other first second third =
-    after_base s (Store width a rs2 imm) (Store width 29 rs2 imm) a (register s.hart a) is first second third
-    (unmasked_data c d s.hart (register s.hart a) regions reserved held)
-    (λ h aside e. stores_same width 29 a rs2 imm h (with_pc s.hart h.pc) s.memory aside e other)
 
 -- after the code pair on x30
 abbrev jumping : State → ℕ → State
@@ -161,21 +162,76 @@ jump_based rd a c d s regions is reserved start first second third =
 
 -- ---- the expansions
 
-pub load_transparent : (kind : LoadKind) (rd a : ℕ) (imm : ℤ) → (IsAccess : (c d : Span) (s : State) → KeepsTo c d s.hart (Load kind rd a imm) → Holds d (register s.hart a)) → IsTransparent (Load kind rd a imm) (data_mask 29 a ++ Wide (Load kind rd 29 imm) ∷ [])
-load_transparent kind rd a imm held = record {
+-- the access on x29 after the mask
+pub based_transparent : (i j : Instr) (a : ℕ) (slots : List Slot) → IsOneFor i j slots
+    → ((c d : Span) (s : State) → KeepsTo c d s.hart i → Holds d (register s.hart a))
+    → ((s : State) (n : ℕ) → DoesFor s i j n 29 (register s.hart a)) → IsTransparent i (data_mask 29 a ++ slots)
+based_transparent i j a slots one held same = record {
   before = data_mask 29 a;
-  last = Wide (Load kind rd 29 imm);
-  slots_are = refl;
-  does = λ c d s asked. load_based kind rd a imm c d s asked.regions asked.is_state asked.reserved (held c d s asked.keeps) asked.stand.0 asked.stand.1.0 asked.stand.1.1.0;
+  last = one.slot;
+  slots_are = ap (λ v. data_mask 29 a ++ v) one.are;
+  does = λ c d s asked.
+      let stand : SlotsStand i (further (further s 4) 4) (one.slot ∷ []) = subst (λ (v : List Slot). SlotsStand i (further (further s 4) 4) v) one.are asked.stand.1.1 in
+      after_base s i j a (register s.hart a) one.slot asked.is_state asked.stand.0 asked.stand.1.0 (one.stands (further (further s 4) 4) stand.0)
+      (unmasked_data c d s.hart (register s.hart a) asked.regions asked.reserved (held c d s asked.keeps)) (same s (slot_size one.slot));
 }
 
-pub store_transparent : (width : StoreWidth) (a rs2 : ℕ) (imm : ℤ) → is_own rs2 ≡ false → ((c d : Span) (s : State) → KeepsTo c d s.hart (Store width a rs2 imm) → Holds d (register s.hart a)) → IsTransparent (Store width a rs2 imm) (data_mask 29 a ++ Wide (Store width 29 rs2 imm) ∷ [])
-store_transparent width a rs2 imm other held = record {
-  before = data_mask 29 a;
-  last = Wide (Store width 29 rs2 imm);
-  slots_are = refl;
-  does = λ c d s asked. store_based width a rs2 imm c d s asked.regions asked.is_state asked.reserved (held c d s asked.keeps) other asked.stand.0 asked.stand.1.0 asked.stand.1.1.0;
+pub load_transparent : (rvc : Bool) (kind : LoadKind) (rd a : ℕ) (imm : ℤ) (slots : List Slot) → IsAlone rvc (Load kind rd 29 imm) slots
+    → ((c d : Span) (s : State) → KeepsTo c d s.hart (Load kind rd a imm) → Holds d (register s.hart a)) → IsTransparent (Load kind rd a imm) (data_mask 29 a ++ slots)
+load_transparent rvc kind rd a imm slots is held =
+    based_transparent (Load kind rd a imm) (Load kind rd 29 imm) a slots (one_for rvc (Load kind rd a imm) (Load kind rd 29 imm) slots is) held
+    (λ s n h aside e. loads_same kind rd 29 a imm n h (with_pc s.hart h.pc) s.memory aside e)
+
+pub store_transparent : (rvc : Bool) (width : StoreWidth) (a rs2 : ℕ) (imm : ℤ) (slots : List Slot) → IsAlone rvc (Store width 29 rs2 imm) slots → is_own rs2 ≡ false
+    → ((c d : Span) (s : State) → KeepsTo c d s.hart (Store width a rs2 imm) → Holds d (register s.hart a)) → IsTransparent (Store width a rs2 imm) (data_mask 29 a ++ slots)
+store_transparent rvc width a rs2 imm slots is other held =
+    based_transparent (Store width a rs2 imm) (Store width 29 rs2 imm) a slots (one_for rvc (Store width a rs2 imm) (Store width 29 rs2 imm) slots is) held
+    (λ s n h aside e. stores_same width 29 a rs2 imm n h (with_pc s.hart h.pc) s.memory aside e other)
+
+-- one slot, from which j does what i does
+abbrev pub one_transparent : (i j : Instr) (slots : List Slot) → IsOneFor i j slots
+    → ((c d : Span) (s : State) (n : ℕ) → IsState s → HasReserved c d s.hart → KeepsTo c d s.hart i → IsSame (effect j n s.hart s.memory) (effect i n (with_pc s.hart s.hart.pc) s.memory))
+    → IsTransparent i slots
+one_transparent i j slots one same = record {
+  before = [];
+  last = one.slot;
+  slots_are = one.are;
+  does = λ c d s asked.
+      let stand : SlotsStand i s (one.slot ∷ []) = subst (λ (v : List Slot). SlotsStand i s v) one.are asked.stand in
+      record {
+        there = s;
+        leads = refl;
+        place = stays_there s.hart.pc asked.is_state.hart.address;
+        result = effect j (slot_size one.slot) s.hart s.memory;
+        step = does s j (slot_size one.slot) (one.stands s stand.0);
+        same = same c d s (slot_size one.slot) asked.is_state asked.reserved asked.keeps;
+      };
 }
+
+-- the instruction itself
+abbrev pub alone_transparent : (i : Instr) (slots : List Slot) → IsOneFor i i slots → IsTransparent i slots
+alone_transparent i slots one = one_transparent i i slots one (λ c d s n is reserved keeps. record { outcome = refl; hart = record { pc = refl; registers = λ x ne. refl }; memory = refl })
+
+-- where x0 lies in the data region, x26 has the same
+zero_based : (c d : Span) (s : State) → IsState s → HasReserved c d s.hart → Holds d (register s.hart 0) → register s.hart 26 ≡ register s.hart 0
+zero_based c d s is reserved held =
+    let z = is.hart.zero in
+    let low = held.0 in
+    reserved.data_base ∙ (let e : d.base ≡ register s.hart 0 = omega arith in e)
+
+here_aside : (h : Hart) → Aside h (with_pc h h.pc)
+here_aside h = record { same = record { pc = refl; registers = λ x ne. refl }; count = refl }
+
+pub zero_load_transparent : (rvc : Bool) (kind : LoadKind) (rd : ℕ) (imm : ℤ) (slots : List Slot) → IsAlone rvc (Load kind rd 26 imm) slots → IsTransparent (Load kind rd 0 imm) slots
+zero_load_transparent rvc kind rd imm slots is =
+    one_transparent (Load kind rd 0 imm) (Load kind rd 26 imm) slots (one_for rvc (Load kind rd 0 imm) (Load kind rd 26 imm) slots is)
+    (λ c d s n state reserved keeps. loads_same kind rd 26 0 imm n s.hart (with_pc s.hart s.hart.pc) s.memory (here_aside s.hart) (zero_based c d s state reserved keeps))
+
+pub zero_store_transparent : (rvc : Bool) (width : StoreWidth) (rs2 : ℕ) (imm : ℤ) (slots : List Slot) → IsAlone rvc (Store width 26 rs2 imm) slots → is_own rs2 ≡ false
+    → IsTransparent (Store width 0 rs2 imm) slots
+zero_store_transparent rvc width rs2 imm slots is other =
+    one_transparent (Store width 0 rs2 imm) (Store width 26 rs2 imm) slots (one_for rvc (Store width 0 rs2 imm) (Store width 26 rs2 imm) slots is)
+    (λ c d s n state reserved keeps. stores_same width 26 0 rs2 imm n s.hart (with_pc s.hart s.hart.pc) s.memory (here_aside s.hart) (zero_based c d s state reserved keeps) other)
 
 pub jump_transparent : (rd a : ℕ) → IsTransparent (Jalr rd a (pos 0)) (Wide (Op And 30 a 25) ∷ Wide (Op Or 30 30 24) ∷ Wide (Jalr rd 30 (pos 0)) ∷ [])
 jump_transparent rd a = record {
@@ -196,21 +252,38 @@ pub record IsNamed (d : ℕ) : Type 0 where
   pub own : is_own d ≡ false
 
 -- a register that the mask doesn't write
-mask_elsewhere : (t : State) (d x : ℕ) → IsNamed d → x ≢ d → x ≢ 31 → register (after_mask t d d).hart x ≡ register t.hart x
-mask_elsewhere t d x named other apart =
-    let one = masked t d in
+mask_elsewhere : (t : State) (d a x : ℕ) → IsNamed d → x ≢ d → x ≢ 31 → register (after_mask t d a).hart x ≡ register t.hart x
+mask_elsewhere t d a x named other apart =
+    let one = masked t a in
     written_elsewhere (past one.hart 4) d (bit_or (register one.hart 31) (register one.hart 26)) x named.some other
-    ∙ written_elsewhere (past t.hart 4) 31 (bit_and (register t.hart d) (register t.hart 27)) x (λ e. omega arith) apart
+    ∙ written_elsewhere (past t.hart 4) 31 (bit_and (register t.hart a) (register t.hart 27)) x (λ e. omega arith) apart
 
 not_31 : (x : ℕ) → is_own x ≡ false → x ≢ 31
 not_31 x other e = let z = ap is_own e in cc
+
+written_same : (t : State) (d a x : ℕ) (same : Bool) → (x == d) ≡ same → IsState t → IsNamed d → bit_or (bit_and (register t.hart a) (register t.hart 27)) (register t.hart 26) ≡ register t.hart a
+    → is_own x ≡ false → register (after_mask t d a).hart x ≡ register (with_register t.hart d (register t.hart a)) x
+written_same t d a x true is state named e other =
+    let at : x ≡ d = eqb-true x d is in
+    let count = state.hart.count in
+    let low = named.small in
+    subst (λ (y : ℕ). register (after_mask t d a).hart y ≡ register (with_register t.hart d (register t.hart a)) y) (sym at)
+    (mask_value t d a state named.some named.small ∙ e ∙ sym (written_here t.hart d (register t.hart a) named.some (omega arith)))
+written_same t d a x false is state named e other =
+    mask_elsewhere t d a x named (eqb-false x d is) (not_31 x other) ∙ sym (written_elsewhere t.hart d (register t.hart a) x named.some (eqb-false x d is))
+
+-- the mask of a number in the data region writes that number, and nothing else but x31
+pub mask_moves : (c d_at : Span) (t : State) (d a : ℕ) → AreRegions c d_at → IsState t → HasReserved c d_at t.hart → IsNamed d → Holds d_at (register t.hart a)
+    → (x : ℕ) → is_own x ≡ false → register (after_mask t d a).hart x ≡ register (with_register t.hart d (register t.hart a)) x
+mask_moves c d_at t d a regions is reserved named held x other =
+    written_same t d a x (x == d) refl is named (unmasked_data c d_at t.hart (register t.hart a) regions reserved held) other
 
 mask_same : (t : State) (d x : ℕ) (same : Bool) → (x == d) ≡ same → IsState t → IsNamed d → bit_or (bit_and (register t.hart d) (register t.hart 27)) (register t.hart 26) ≡ register t.hart d
     → is_own x ≡ false → register (after_mask t d d).hart x ≡ register t.hart x
 mask_same t d x true is state named e other =
     let at : x ≡ d = eqb-true x d is in
     subst (λ (y : ℕ). register (after_mask t d d).hart y ≡ register t.hart y) (sym at) (mask_value t d d state named.some named.small ∙ e)
-mask_same t d x false is state named e other = mask_elsewhere t d x named (eqb-false x d is) (not_31 x other)
+mask_same t d x false is state named e other = mask_elsewhere t d d x named (eqb-false x d is) (not_31 x other)
 
 -- a data register in the data region stays, and so does each other but x31
 pub mask_keeps : (c d_at : Span) (t : State) (d : ℕ) → AreRegions c d_at → IsState t → HasReserved c d_at t.hart → IsNamed d → Holds d_at (register t.hart d)

@@ -1,8 +1,8 @@
 -- The expansion of an item in code in words: each access is on a data register or on x26, each
--- indirect jump on x30, and what writes a data register stands before its mask.
-use Rattle.std.specs.Prelude.{◌≡◌, ◌==◌, ◌&&◌, ◌||◌, not, ℕ, ℤ, pos, negsuc, nat_le, nat_lt, List, [], ◌∷◌, ◌++◌, map, Bool, true, false, Option, Some, None, if◌then◌else◌}
+-- indirect jump on x30, and what writes a data register stands before its mask, or is the mask.
+use Rattle.std.specs.Prelude.{◌≡◌, ◌==◌, ◌&&◌, ◌||◌, not, ℕ, ℤ, pos, negsuc, nat_le, nat_lt, List, [], ◌∷◌, ◌++◌, map, Bool, true, false, MatchBool, Option, Some, None, if◌then◌else◌}
 use Rattle.rv_word.specs.declared.instr.ImmOp.TheVariants.{Addi}
-use Rattle.rv_word.specs.declared.instr.RegOp.TheVariants.{And, Or}
+use Rattle.rv_word.specs.declared.instr.RegOp.TheVariants.{Add, And, Or}
 use Rattle.rv_word.specs.declared.instr.Instr.{Instr}
 use Rattle.rv_word.specs.declared.instr.Instr.TheVariants.{Op, OpImm, Load, Store, Jal, Jalr}
 use Rattle.rv_word.specs.Writes.{destination}
@@ -82,13 +82,36 @@ is_step x (y ∷ later) = not y.labelled && is_step_to x.body y.body
 abbrev pub after : Bool → Instr → List Slot
 after step i = if step then [] else mask_after (destination i)
 
+-- ---- a move to a data register
+
+abbrev pub is_zero : ℤ → Bool
+is_zero (pos n) = n == 0
+is_zero (negsuc n) = false
+
+-- `addi d, a, 0` or `add d, x0, a` of a data register d
+abbrev pub is_move : Instr → Bool
+is_move (OpImm Addi d a imm) = is_data_register d && is_zero imm
+is_move (Op Add d b a) = is_data_register d && (b == 0)
+is_move i = false
+
+-- the mask of a into d, which does alone what the move and the mask of d after it do
+abbrev pub moved : Instr → List Slot
+moved (OpImm op d a imm) = data_mask d a
+moved (Op op d b a) = data_mask d a
+moved i = []
+
 -- ---- all
+
+-- the instruction as it is confined, between what stands before it and after it
+abbrev pub IsAround : Bool → Bool → Instr → List Slot → Type 0
+IsAround rvc step i slots =
+    (confined : List Slot) × IsConfined rvc i confined
+    × (slots ≡ before i ++ (confined ++ after step i))
 
 -- that of an instruction, which is a step or not
 abbrev pub IsPlainExpansion : Bool → Bool → Instr → List Slot → Type 0
 IsPlainExpansion rvc step i slots =
-    (confined : List Slot) × IsConfined rvc i confined
-    × (slots ≡ before i ++ (confined ++ after step i))
+    MatchBool (is_move i && not step) (slots ≡ moved i) (IsAround rvc step i slots)
 
 -- that of the item on a line
 abbrev pub IsExpansionOf : ℕ → Bool → Bool → Body → List Slot → Type 0
@@ -103,10 +126,6 @@ abbrev pub IsExpansion : Item → List Item → List Slot → Type 0
 IsExpansion x later slots = IsExpansionOf x.line x.rvc (is_step x later) x.body slots
 
 -- ---- what has none
-
-abbrev pub is_zero : ℤ → Bool
-is_zero (pos n) = n == 0
-is_zero (negsuc n) = false
 
 -- a jal or jalr that writes a data register, whose mask would never be reached; or a jalr with an
 -- offset, as no register is left to add it in

@@ -1,13 +1,12 @@
 -- What an expansion in words does: within its sandbox it does what its instruction does, the three
 -- registers aside that the expansions write; after an instruction that writes a data register, what
 -- that leaves in the data region stays.
-use Rattle.std.specs.Prelude.{◌≡◌, ◌+◌, ◌%◌, ◌==◌, ◌||◌, ◌++◌, ℕ, Bool, false, MatchBool, List, [], ◌∷◌, length, drop, Some, Option, None, not, ◌&&◌}
+use Rattle.std.specs.Prelude.{◌≡◌, ◌+◌, ◌%◌, ◌==◌, ◌||◌, ◌++◌, ℕ, Bool, false, MatchBool, List, [], ◌∷◌, length, map, take, drop, Some, Option, None, not, ◌&&◌, ◌⊎◌}
 use Rattle.std.specs.List.{AllZip}
 use Rattle.rv_word.specs.Numbers.{offset_by}
 use Rattle.rv_word.specs.declared.instr.Instr.{Instr}
 use Rattle.rv_word.specs.declared.instr.Instr.TheVariants.{Load, Store, Jalr}
 use Rattle.rv_word.specs.Writes.{destination}
-use Rattle.rv_comp.specs.Table.{expansion}
 use Rattle.rv_mem.specs.Bytes.{address_after}
 use Rattle.rv_step.specs.declared.outcome.Outcome.TheVariants.{Next}
 use Rattle.rv_step.specs.State.{Hart, State, IsState, register, with_pc}
@@ -21,12 +20,12 @@ use Rattle.sfi_image.specs.declared.span.Span.{Span}
 use Rattle.sfi_image.specs.Spans.{Holds}
 use Rattle.sfi_image.specs.Registers.{reserved_for}
 use Rattle.sfi_rewrite.specs.declared.slot.Slot.{Slot}
-use Rattle.sfi_rewrite.specs.declared.slot.Slot.TheVariants.{Wide, Short}
 use Rattle.sfi_rewrite.specs.Registers.{address_register}
 use Rattle.sfi_rewrite.specs.Slots.{slot_size, size_of, slots_of}
 use Rattle.sfi_rewrite.specs.Placement.{Placement}
 use Rattle.sfi_rewrite.specs.Transparency.{AreRegions, SlotsStand, MayBe}
 use Rattle.sfi_rewrite.specs.words.Expansion.{IsExpansion, is_step}
+use Rattle.sfi_rewrite.specs.words.Laying.{Marked, alone, AreExpanded}
 
 -- ---- the sandbox
 
@@ -127,19 +126,25 @@ ActsAs step i slots = ActsBy (destination i) step i slots
 
 -- ---- what is placed
 
--- the slot, or the same instruction in 32 bits
-abbrev pub IsAsWide : Slot → Slot → Type 0
-IsAsWide (Short f) s = MatchBool (slot_size s == 2) (s ≡ Short f) (s ≡ Wide (expansion f))
-IsAsWide t s = s ≡ t
+-- the second slot is the first, or that as it has a word alone
+abbrev pub IsAsLaid : Slot → Slot → Type 0
+IsAsLaid s laid = (laid ≡ s) ⊎ (laid ≡ alone s)
 
--- the expansion of item k in its place, some of its 16-bit forms perhaps in 32 bits, which acts as
--- whatever the item may be
+-- the same of slots one after another
+abbrev pub AreAsLaid : List Slot → List Slot → Type 0
+AreAsLaid slots laid = AllZip IsAsLaid slots laid
+
+-- the expansion of item k in its place, after those of the items before it, some 16-bit forms in
+-- 32 bits, which acts as whatever the item may be
 pub record StandsTransparent (items : List Item) (p : Placement) (k : ℕ) (x : Item) : Type 0 where
   pub before : List Slot
   pub own : List Slot
   pub after : List Slot
   pub placed : slots_of p.bundles ≡ before ++ (own ++ after)
+  pub earlier : List Marked
+  pub are_earlier : AreExpanded (take k items) (drop k items) earlier
+  pub stand_earlier : AreAsLaid (map (λ m. m.1) earlier) before
   pub expanded : List Slot
   pub is_expansion : IsExpansion x (drop (k + 1) items) expanded
-  pub same : AllZip IsAsWide expanded own
+  pub stands : AreAsLaid expanded own
   pub transparent : (i : Instr) → MayBe x.body i → ActsAs (is_step x (drop (k + 1) items)) i own

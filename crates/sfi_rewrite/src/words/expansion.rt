@@ -1,7 +1,7 @@
 //! What an item of the source becomes in code in words.
 ghost use Rattle.std.specs.Prelude.{◌≡◌, ◌∷◌, ◌++◌, ◌+◌, ◌≤◌, [], Some, length};
 ghost use Rattle.sfi_rewrite.specs.Expansion.{IsAlone};
-ghost use Rattle.sfi_rewrite.specs.words.Expansion.{base_of, data_mask, makes_base, before, mask_after, IsConfined, IsPlainExpansion, IsExpansion, is_step_to, is_step, is_small, is_use};
+ghost use Rattle.sfi_rewrite.specs.words.Expansion.{base_of, data_mask, makes_base, before, mask_after, IsConfined, IsPlainExpansion, IsExpansion, is_step_to, is_step, is_small, is_use, is_zero, is_move, moved, IsAround};
 ghost use Rattle.rv_word.specs.Writes.{destination};
 
 use crate::slot::Slot;
@@ -201,9 +201,43 @@ fn destination(instr: &Instr) -> Option<Reg>
     }
 }
 
-/// The expansion of an instruction that names no label.
-fn of_plain(rvc: bool, step: bool, instr: &Instr) -> WordExpansion
-    ensures { IsPlainExpansion rvc step instr.now result }
+/// Whether it is `addi d, a, 0` or `add d, x0, a` of a data register `d`.
+fn is_move(instr: &Instr) -> bool
+    ensures { result ≡ is_move instr.now }
+{
+    match *instr {
+        Instr::OpImm {
+            op: ImmOp::Addi,
+            rd,
+            imm,
+            ..
+        } => is_data_register(rd) && imm == 0,
+        Instr::Op {
+            op: RegOp::Add,
+            rd,
+            rs1,
+            ..
+        } => is_data_register(rd) && rs1.number() == 0,
+        _ => false,
+    }
+}
+
+/// The mask in the place of such a move.
+fn moved(instr: &Instr) -> WordExpansion
+    ensures { result ≡ moved instr.now }
+{
+    let mut slots = WordExpansion::new();
+    match *instr {
+        Instr::OpImm { rd, rs1, .. } => slots.push_mask(rd, rs1),
+        Instr::Op { rd, rs2, .. } => slots.push_mask(rd, rs2),
+        _ => {}
+    }
+    slots
+}
+
+/// The instruction as it is confined, between what stands before it and after it.
+fn around(rvc: bool, step: bool, instr: &Instr) -> WordExpansion
+    ensures { IsAround rvc step instr.now result }
 {
     let mut slots = WordExpansion::new();
     push_before(&mut slots, instr);
@@ -215,6 +249,16 @@ fn of_plain(rvc: bool, step: bool, instr: &Instr) -> WordExpansion
         slots.push_mask_after(written);
     }
     slots
+}
+
+/// The expansion of an instruction that names no label.
+fn of_plain(rvc: bool, step: bool, instr: &Instr) -> WordExpansion
+    ensures { IsPlainExpansion rvc step instr.now result }
+{
+    if is_move(instr) && !step {
+        return moved(instr);
+    }
+    around(rvc, step, instr)
 }
 
 /// A half of an address, and the mask of the register that it is in.

@@ -42,6 +42,7 @@ impl WordFilling {
 
     /// How many bytes the words take, if nothing more comes.
     pub(crate) fn end(&self) -> usize
+        requires { bytes_of self.now ≤ largest }
         ensures { result ≡ bytes_of self.now }
     {
         match self.waiting {
@@ -50,8 +51,17 @@ impl WordFilling {
         }
     }
 
+    /// The place of what comes next, where a label stands before it.
+    pub(crate) fn place(&self) -> u32
+        requires { bytes_of self.now ≤ largest }
+        ensures { result ≡ bytes_of self.now }
+    {
+        self.end() as u32
+    }
+
     /// The same with one more slot.
     pub(crate) fn end_with(&self, slot: &Slot) -> usize
+        requires { bytes_of self.now ≤ largest }
         ensures { result ≡ bytes_of self.now + more_for self.now.waiting slot.now }
     {
         match (self.waiting, slot) {

@@ -77,6 +77,32 @@ $ sfi build | sfi dis
 > 01000020 9002 ebreak
 ..
 
+= a move to a data register, and one that is a step
+| mv sp, a0
+| mv gp, sp
+| add tp, x0, a1
+| li tp, 0
+| add gp, a0, x0
+| addi sp, sp, 0
+| lw a0, 0(sp)
+> format SFIW
+> sandbox 0 code 01000000 256 data 01800000 256 start 01000000 gates 0 init 0
+> 01000000 01b57fb3 and x31, x10, x27
+> 01000004 01afe133 or x2, x31, x26
+> 01000008 01b17fb3 and x31, x2, x27
+> 0100000c 01afe1b3 or x3, x31, x26
+> 01000010 01b5ffb3 and x31, x11, x27
+> 01000014 01afe233 or x4, x31, x26
+> 01000018 01b07fb3 and x31, x0, x27
+> 0100001c 01afe233 or x4, x31, x26
+> 01000020 000501b3 add x3, x10, x0
+> 01000024 01b1ffb3 and x31, x3, x27
+> 01000028 01afe1b3 or x3, x31, x26
+> 0100002c 00010113 addi x2, x2, 0
+> 01000030 00012503 lw x10, 0(x2)
+> 01000034 9002 ebreak
+..
+
 = a step before an access
 | addi sp, sp, -32
 | sw ra, 28(sp)
