@@ -9,7 +9,6 @@ use Rattle.sfi_policy.specs.Limits.{region_least}
 use Rattle.sfi_image.specs.declared.part.Gate.{Gate}
 use Rattle.sfi_image.specs.Spelling.{Part}
 use Rattle.sfi_image.specs.Spans.{AreApart, spans}
-use Rattle.sfi_pairs.specs.Pairs.{stub}
 use Rattle.sfi_place.specs.declared.place.Place.{Place}
 use Rattle.sfi_place.specs.Places.{place_of}
 use Rattle.sfi_rewrite.specs.declared.slot.Slot.{Slot}
@@ -17,6 +16,7 @@ use Rattle.sfi_rewrite.specs.declared.slot.Slot.TheVariants.{Short}
 use Rattle.sfi_rewrite.specs.Slots.{size_of, slots_of}
 use Rattle.sfi_rewrite.specs.Placement.{Placement}
 use Rattle.sfi_link.specs.Addresses.{stub_size, bases_of}
+use Rattle.sfi_link.specs.Stubs.{stub_of}
 use Rattle.sfi_link.specs.Code.{AreSlots}
 use Rattle.sfi_link.specs.Lying.{IsRightPlace}
 
@@ -60,7 +60,7 @@ pub record IsLinkedCode (given : List Place) (number : ℕ) (p : Placement)
   pub bytes : List ℕ
   pub slots : AreSlots (bases_of given number p) p.names (bases_of given number p).start
       (slots_of p.bundles ++ replicate fill c_ebreak) bytes
-  pub code_is : code ≡ repeat (length p.gates) stub ++ bytes
+  pub code_is : code ≡ repeat (length p.gates) (stub_of p.format) ++ bytes
 
 -- the placed sandbox makes that one of the image, as the one of that number, counted from 0,
 -- at its place, where it may lie
