@@ -20,6 +20,7 @@ from sections import DataSection
 from sizes import BUNDLE
 from table import Table, entry, runs_of
 from test_asm2sfi import MAIN, lines_after, lines_of, refusals_of, source, start_of
+from typed import WORDS
 from words import CODE, DATA, Word
 
 TOP = os.path.dirname(os.path.dirname(os.path.dirname(os.path.abspath(__file__))))
@@ -245,7 +246,7 @@ class Limits(unittest.TestCase):
                           "format 2 has room for 1048576"])
         self.assertEqual(refusals_of(MAIN + "\tnop\n" * 65534 + "\tret\n", passes=()),
                          ["start: 65537 instructions are 1 more than `sfi build` takes"])
-        self.assertEqual(MOST_CODE, {1: 65536, 2: 1048576})
+        self.assertEqual(MOST_CODE, {1: 65536, 2: 1048576, WORDS: 1048576})
 
     def test_text(self):
         check_text("x" * MOST_TEXT)
