@@ -3,10 +3,17 @@ import hashlib
 import os
 import tempfile
 
+from compilers import WORDS
+
 
 def root():
     home = os.environ.get("XDG_CACHE_HOME") or os.path.join(os.path.expanduser("~"), ".cache")
     return os.path.join(home, "sfi-cc")
+
+
+def named(name, image_format):
+    """The name of a folder of assembly for a format: code in words has registers of its own."""
+    return f"{name}-words" if image_format == WORDS else name
 
 
 def kept(name, words, make):

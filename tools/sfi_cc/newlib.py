@@ -6,7 +6,7 @@ from concurrent.futures import ThreadPoolExecutor
 
 import softfloat
 from compilers import Failed, compiled, version
-from kept import kept
+from kept import kept, named
 from sources import GCC_SOURCE, NEWLIB_SOURCE, identity, unpacked
 
 GLUE = os.path.join(os.path.dirname(os.path.abspath(__file__)), "newlib")
@@ -53,7 +53,7 @@ def headers(tree, folder):
     shutil.copy(os.path.join(GLUE, "newlib.h"), folder)
 
 
-def compile_all(compiler, heap, folder):
+def compile_all(compiler, heap, folder, image_format):
     """Fills a folder with the library."""
     tree = os.path.join(unpacked(NEWLIB_SOURCE, *PARTS), "newlib")
     include, room = os.path.join(folder, "include"), os.path.join(folder, "room")
@@ -64,20 +64,20 @@ def compile_all(compiler, heap, folder):
 
     def compile_one(job):
         path, name, more = job
-        assembly, _ = compiled(compiler, [*options, *more], path, os.path.join(room, name))
+        assembly, _ = compiled(compiler, [*options, *more], path, os.path.join(room, name), image_format)
         os.rename(assembly, os.path.join(folder, f"{name}.asm"))
 
     with ThreadPoolExecutor(os.cpu_count()) as pool:
         list(pool.map(compile_one, [*jobs(tree), *glue]))
     shutil.rmtree(room)
     shutil.copy(os.path.join(GLUE, "setjmp.asm"), folder)
-    shutil.copytree(softfloat.folder_of(compiler), folder, dirs_exist_ok=True)
+    shutil.copytree(softfloat.folder_of(compiler, image_format), folder, dirs_exist_ok=True)
     with open(os.path.join(folder, MARK), "w", encoding="utf-8") as file:
         file.write(f"newlib of {NEWLIB_SOURCE.where()}, by {compiler}\n")
 
 
-def folder_of(compiler, heap):
-    """The folder of the library by a compiler, with a heap of some bytes, which is kept."""
+def folder_of(compiler, heap, image_format=None):
+    """The folder of the library by a compiler for a format, with a heap of some bytes, which is kept."""
     for package in (NEWLIB_SOURCE, GCC_SOURCE):
         if package.where() is None:
             raise Failed(2, package.wanted())
@@ -87,4 +87,4 @@ def folder_of(compiler, heap):
             own.append(file.read())
     words = [version(compiler), str(heap), identity(NEWLIB_SOURCE.where()), identity(GCC_SOURCE.where()), *own, *OPTIONS,
              *sorted(LEFT_OUT), *FOLDERS, *POSIX, str(VARIANTS)]
-    return kept("newlib", words, lambda folder: compile_all(compiler, heap, folder))
+    return kept(named("newlib", image_format), words, lambda folder: compile_all(compiler, heap, folder, image_format))

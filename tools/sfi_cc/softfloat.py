@@ -7,7 +7,7 @@ import shutil
 from concurrent.futures import ThreadPoolExecutor
 
 from compilers import compiled, version
-from kept import kept
+from kept import kept, named
 from sources import GCC_SOURCE, identity, unpacked
 
 PARTS = ("libgcc/soft-fp", "libgcc/config/riscv", "libgcc/libgcc2.c", "libgcc/libgcc2.h", "include/longlong.h")
@@ -48,7 +48,7 @@ def jobs(tree, stubs):
         yield f"{tree}/libgcc/libgcc2.c", name, ["-w", *MODES, f"-DL_{name}", *folders]
 
 
-def compile_all(compiler, tree, folder):
+def compile_all(compiler, tree, folder, image_format):
     """Fills a folder with the assembly of each function."""
     room = os.path.join(folder, "room")
     stubs = os.path.join(room, "stubs")
@@ -59,7 +59,7 @@ def compile_all(compiler, tree, folder):
 
     def compile_one(job):
         path, name, options = job
-        assembly, _ = compiled(compiler, options, path, os.path.join(room, name))
+        assembly, _ = compiled(compiler, options, path, os.path.join(room, name), image_format)
         os.rename(assembly, os.path.join(folder, f"{name}.asm"))
 
     with ThreadPoolExecutor(os.cpu_count()) as pool:
@@ -67,9 +67,10 @@ def compile_all(compiler, tree, folder):
     shutil.rmtree(room)
 
 
-def folder_of(compiler):
-    """The folder of assembly that a compiler made of these functions; None where the sources aren't there."""
+def folder_of(compiler, image_format=None):
+    """The folder of assembly that a compiler made of these functions for a format; None where the sources aren't there."""
     if GCC_SOURCE.where() is None:
         return None
     words = [version(compiler), identity(GCC_SOURCE.where()), *LIBGCC2, SOFT_FP.pattern, *MODES]
-    return kept("softfloat", words, lambda folder: compile_all(compiler, unpacked(GCC_SOURCE, *PARTS), folder))
+    return kept(named("softfloat", image_format), words,
+                lambda folder: compile_all(compiler, unpacked(GCC_SOURCE, *PARTS), folder, image_format))

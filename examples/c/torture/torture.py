@@ -29,9 +29,9 @@ sys.dont_write_bytecode = True
 sys.path[:0] = [os.path.join(TOP, "tools", "sfi_cc"), os.path.join(TOP, "tools", "asm2sfi")]
 
 import softfloat
-from compilers import GCC, Failed, compiled, ran, version
+from compilers import GCC, WORDS, Failed, compiled, ran, version
 from conversion import Options, convert
-from kept import kept
+from kept import kept, named
 from sources import GCC_SOURCE, unpacked
 
 PICOLIBC = "/usr/lib/picolibc/riscv64-unknown-elf"
@@ -57,7 +57,7 @@ class Case:
     name: str
     compiler: str
     level: str
-    image_format: int
+    image_format: object
 
     def __str__(self):
         return f"{self.name} by {self.compiler} {self.level}, format {self.image_format}"
@@ -65,8 +65,8 @@ class Case:
 
 @dataclass(frozen=True)
 class Room:
-    """What all cases share: the tests' folder, a folder for what is made, the program, the libraries by compiler, and
-    the options of a hosted C."""
+    """What all cases share: the tests' folder, a folder for what is made, the program, the libraries by compiler and by
+    whether they are for code in words, and the options of a hosted C."""
     tests: str
     folder: str
     program: str
@@ -121,10 +121,11 @@ def converted(room, case, assembly):
     """The source text, or why there is none."""
     with open(assembly, encoding="utf-8", errors="surrogateescape") as file:
         texts = [(os.path.basename(assembly), file.read())]
-    with open(os.path.join(TOP, "tools", "asm2sfi", "runtime.asm"), encoding="utf-8") as file:
-        runtime = [("runtime.asm", file.read())]
+    name = "runtime-words.asm" if case.image_format == WORDS else "runtime.asm"
+    with open(os.path.join(TOP, "tools", "asm2sfi", name), encoding="utf-8") as file:
+        runtime = [(name, file.read())]
     for stack in STACKS:
-        options = Options(case.image_format, stack=stack, folders=room.libraries[case.compiler])
+        options = Options(case.image_format, stack=stack, folders=room.libraries[case.compiler, case.image_format == WORDS])
         try:
             with limited():
                 text, refusals = convert(texts, runtime, options)
@@ -139,7 +140,7 @@ def sandboxed(room, case, place):
     """The status and the output in a sandbox, or why there are none."""
     try:
         given = [*QUIET[:1 + (case.compiler == "clang")], *room.hosted, *room.options(case)]
-        assembly, _ = compiled(COMPILERS[case.compiler], given, room.source(case), place)
+        assembly, _ = compiled(COMPILERS[case.compiler], given, room.source(case), place, case.image_format)
     except Failed as failed:
         return "refused: " + next((line for line in failed.told.decode("latin-1").splitlines() if "error" in line), "?")
     text, why = converted(room, case, assembly)
@@ -171,20 +172,20 @@ def tried(task):
     return case, found if isinstance(found, str) else f"wanted {wanted}, found {found}"
 
 
-def small_library(compiler):
-    """The folder of the small library by a compiler, kept."""
+def small_library(compiler, image_format):
+    """The folder of the small library by a compiler for a format, kept."""
     paths = sorted(glob.glob(os.path.join(EXAMPLES, "library", "*.c")))
     include = os.path.join(EXAMPLES, "include")
 
     def make(folder):
         for path in paths:
             options = ["-fhosted", "-w", f"-DHEAP={HEAP}", "-I", include]
-            assembly, _ = compiled(compiler, options, path, os.path.join(folder, "room"))
+            assembly, _ = compiled(compiler, options, path, os.path.join(folder, "room"), image_format)
             os.rename(assembly, os.path.join(folder, os.path.basename(path) + ".asm"))
             shutil.rmtree(os.path.join(folder, "room"))
 
     texts = [open(path, encoding="utf-8").read() for path in paths + sorted(glob.glob(os.path.join(include, "*.h")))]
-    return kept("library", [version(compiler), str(HEAP), *texts], make)
+    return kept(named("library", image_format), [version(compiler), str(HEAP), *texts], make)
 
 
 def room_of(options, folder):
@@ -194,7 +195,9 @@ def room_of(options, folder):
     libraries = {}
     for name in options.compiler:
         compiler = COMPILERS[name]
-        libraries[name] = (options.library or small_library(compiler), softfloat.folder_of(compiler))
+        for way in {way if way == WORDS else None for way in options.format}:
+            library = options.library or small_library(compiler, way)
+            libraries[name, way == WORDS] = (library, softfloat.folder_of(compiler, way))
     return Room(tests, folder, os.path.abspath(options.program), libraries, tuple(hosted(options.library)))
 
 
@@ -216,6 +219,10 @@ def cases_of(options, room):
     return [Case(name, *ways[number % len(ways)]) for number, name in enumerate(names[:SAMPLE])]
 
 
+def image_format(text):
+    return int(text) if text.isdigit() else text
+
+
 def parsed(words):
     parser = argparse.ArgumentParser(prog="torture.sh", description=__doc__.split("\n", maxsplit=1)[0])
     parser.add_argument("names", nargs="*", metavar="NAME", help="tests that run in each way, in place of the sample")
@@ -223,7 +230,7 @@ def parsed(words):
     parser.add_argument("--ieee", action="store_true", help="the tests of the folder ieee, all in each way")
     parser.add_argument("--compiler", action="append", choices=COMPILERS, help="gcc and clang if absent")
     parser.add_argument("--level", action="append", choices=LEVELS, help="such as --level=-O2; all if absent")
-    parser.add_argument("--format", action="append", type=int, choices=(1, 2), help="both if absent")
+    parser.add_argument("--format", action="append", type=image_format, choices=(1, 2, WORDS), help="1 and 2 if absent")
     parser.add_argument("--library", metavar="FOLDER", help="a C library of tools/sfi-library in place of the small one")
     parser.add_argument("--jobs", type=int, default=2, help="how many run side by side; 2 if absent")
     parser.add_argument("--program", default=os.path.join(TOP, "sfi"), help="the program sfi; ./sfi at the top if absent")
