@@ -15,6 +15,7 @@ import unittest
 
 from conversion import Options, convert
 from random_c import Program
+from typed import OWN, WORDS
 
 HERE = os.path.dirname(os.path.abspath(__file__))
 TOP = os.path.dirname(os.path.dirname(HERE))
@@ -23,16 +24,22 @@ SFI = os.environ.get("SFI", os.path.join(TOP, "crates", "sfi", "out", "sfi"))
 SEED = int(os.environ.get("SEED", 1))
 COUNT = int(os.environ.get("COUNT", 3))
 STACK = 1 << 19  # the programs call themselves some hundred times
+BUNDLED = (24, 25, 26, 27, 31)  # the sandbox's own registers in the first two formats
 GCC, CLANG, LLC, NATIVE = "riscv64-unknown-elf-gcc", "clang", "llc", "gcc"
 COMMON = ["-march=rv32imc", "-mabi=ilp32", "-ffreestanding", "-fno-builtin", "-fno-jump-tables", "-ffunction-sections",
           "-fdata-sections", "-I", EXAMPLES, "-I", HERE]
-OWN = [f"-ffixed-x{number}" for number in (24, 25, 26, 27, 31)]
 GCC_WAYS = [["-O0"], ["-O1"], ["-O2", "-fno-section-anchors", "-mno-explicit-relocs"], ["-Os"], ["-O3", "-funroll-loops"]]
-RESERVED = ",".join(f"+reserve-x{number}" for number in (24, 25, 26, 27, 31))
 
 
 def run(*words, data=None):
     return subprocess.run(words, input=data, stdout=subprocess.PIPE, stderr=subprocess.PIPE, check=False)
+
+
+def formats():
+    """Those that the program takes in a text. Each goes with the registers that are the sandbox's own in it."""
+    yield from [(1, BUNDLED), (2, BUNDLED)]
+    if run(SFI, "build", data=b".format words\n.sandbox 256\nebreak\n").returncode == 0:
+        yield WORDS, (*BUNDLED, *OWN.values())
 
 
 def native_answer(path, folder):
@@ -45,17 +52,24 @@ def native_answer(path, folder):
     return f"exit={done.returncode} out={done.stdout.hex()}"
 
 
-def assemblies(path, folder):
-    """What each compiler makes of a program, with its words."""
+def assemblies(path, folder, own):
+    """What each compiler makes of a program without some registers, with its words."""
     for way in GCC_WAYS:
-        done = run(GCC, "-S", "-w", *way, *COMMON, *OWN, "-o", "-", path)
+        fixed = [f"-ffixed-x{number}" for number in own]
+        done = run(GCC, "-S", "-w", *way, *COMMON, *fixed, "-o", "-", path)
         yield "gcc " + " ".join(way), done.stdout.decode()
     if shutil.which(CLANG) and shutil.which(LLC):
         middle = os.path.join(folder, "middle.ll")
         run(CLANG, "-S", "-w", "-emit-llvm", "-O2", "--target=riscv32-unknown-elf", *COMMON, "-o", middle, path)
         done = run(LLC, "-O2", "-march=riscv32", "-target-abi=ilp32", "--function-sections", "--data-sections",
-                   f"-mattr=+m,+c,{RESERVED}", "-o", "-", middle)
+                   "-mattr=+m,+c," + ",".join(f"+reserve-x{number}" for number in own), "-o", "-", middle)
         yield "clang -O2", done.stdout.decode()
+
+
+def runtime(image_format):
+    name = "runtime-words.asm" if image_format == WORDS else "runtime.asm"
+    with open(os.path.join(HERE, name), encoding="utf-8") as file:
+        return [(name, file.read())]
 
 
 def sandboxed_answer(assembly, library, image_format):
@@ -72,19 +86,21 @@ def sandboxed_answer(assembly, library, image_format):
 @unittest.skipUnless(shutil.which(GCC) and shutil.which(NATIVE), f"{GCC} or {NATIVE} isn't there")
 class RandomPrograms(unittest.TestCase):
     def test_answers(self):
-        with open(os.path.join(HERE, "runtime.asm"), encoding="utf-8") as file:
-            library = [("runtime.asm", file.read())]
         with tempfile.TemporaryDirectory() as folder:
             for seed in range(SEED, SEED + COUNT):
-                self.compare(seed, library, folder)
+                self.compare(seed, folder)
 
-    def compare(self, seed, library, folder):
+    def compare(self, seed, folder):
         path = os.path.join(folder, "random.c")
         with open(path, "w", encoding="utf-8") as file:
             file.write(Program(seed).text())
         wanted = native_answer(path, folder)
-        for way, assembly in assemblies(path, folder):
-            for image_format in (1, 2):
+        made = {}  # by the registers that they leave alone
+        for image_format, own in formats():
+            library = runtime(image_format)
+            if own not in made:
+                made[own] = list(assemblies(path, folder, own))
+            for way, assembly in made[own]:
                 found = sandboxed_answer(assembly, library, image_format)
                 self.assertEqual(found, wanted, f"SEED={seed}, {way}, format {image_format}")
 
