@@ -14,5 +14,6 @@ pub mod Walk
 pub mod Seen
 pub mod Starts
 pub mod Table16
+pub mod WordLook
 pub mod WordReadings
 pub mod WordStretches

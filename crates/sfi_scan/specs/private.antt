@@ -5,3 +5,4 @@ pub mod Inside
 pub mod Listing
 pub mod Near
 pub mod Scanning
+pub mod WordLook

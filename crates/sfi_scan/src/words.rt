@@ -7,12 +7,14 @@ ghost use Rattle.sfi_rules.specs.words.Owing.{owed_next};
 ghost use Rattle.sfi_scan.specs.Stretches.{IsStretch, IsWordCodeScanned};
 ghost use Rattle.sfi_scan.specs.private.Inside.{IsInside};
 
+mod look;
 mod owed;
 mod rules;
 
 use crate::code::place_after;
 use crate::findings::BundleFindings;
 use crate::sink::FindingSink;
+use crate::words::look::look;
 use crate::words::owed::owed_next;
 use crate::words::rules::lowest_rule;
 use rv_comp::{Front, read_front};
@@ -62,8 +64,9 @@ fn scan_instruction(
     owed_next(owed, instr)
 }
 
-/// Adds the findings of the word there, and answers what is owed after it.
-fn scan_word(
+/// Adds the findings of the word there, instruction by instruction, and answers what is owed after
+/// it.
+fn scan_unseen(
     place: &BundlePlace,
     address: u32,
     word: &[u8],
@@ -101,6 +104,31 @@ fn scan_word(
             Owed::Nothing
         }
     }
+}
+
+/// Adds the findings of the word there, and answers what is owed after it. Most have none, so a
+/// look comes first; the region's end has a rule of its own.
+#[inline(always)]
+fn scan_word(
+    place: &BundlePlace,
+    address: u32,
+    word: &[u8],
+    owed: Owed,
+    found: &mut BundleFindings,
+) -> Owed
+    requires within { IsWithin place.now }
+    requires inside { IsInside place.now address 4 }
+    requires whole { length word.now ≡ 4 }
+    requires room { length found.old ≤ 6 }
+    ensures { (here : List Finding) × (found.new ≡ found.old ++ here) × (length here ≤ 2)
+        × IsWordFound place.now address owed word.now here result }
+{
+    if address - place.code_base < place.code_size - 4 {
+        if let Some(next) = look(place, address, word, owed) {
+            return next;
+        }
+    }
+    scan_unseen(place, address, word, owed, found)
 }
 
 /// Replaces the findings by those of the words of these 16 bytes, before which this is owed, in the

@@ -86,7 +86,7 @@ fn by_code(instr: &Instr) -> Option<Owed>
     }
 }
 
-fn owed_by(instr: &Instr) -> Option<Owed>
+pub(crate) fn owed_by(instr: &Instr) -> Option<Owed>
     ensures { result ≡ owed_by instr.now }
 {
     match instr.writes() {

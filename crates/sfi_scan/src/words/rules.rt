@@ -152,7 +152,7 @@ fn breaks_reserved(instr: &Instr) -> bool
     }
 }
 
-fn may_access(base: Reg) -> bool
+pub(crate) fn may_access(base: Reg) -> bool
     ensures { result ≡ may_access base }
 {
     is_data_register(base) || base.number() == DATA_BASE_REGISTER
@@ -176,7 +176,7 @@ fn breaks_jump(instr: &Instr) -> bool
     }
 }
 
-fn is_word_start(place: &BundlePlace, address: u32) -> bool
+pub(crate) fn is_word_start(place: &BundlePlace, address: u32) -> bool
     requires { IsWithin place.now }
     ensures { result ≡ is_word_start place.now.code_base place.now.code_size address }
 {

@@ -1,6 +1,6 @@
 use Rattle.std.proofs.Common.{arith}
 use Rattle.sfi_scan.proofs.WordReadings.{stuck_of, two_of, word_bad, adds_wide, adds_two, adds_cut, adds_bad}
-use Rattle.sfi_scan.proofs.words.scan_word.Goals as goal
+use Rattle.sfi_scan.proofs.words.scan_unseen.Goals as goal
 
 pub returns-in-Short : goal.returns-in-Short
 returns-in-Short c = (_, c.push.ensures, omega arith, word_bad c.args.place.now c.args.address c.args.owed c.args.word.now c.requires.whole (stuck_of c.args.word.now c.read_front.result c.in-Short.is (λ other f. c.read_front.ensures.only other f)))
