@@ -3,7 +3,7 @@ ghost use Rattle.std.specs.Prelude.{◌≡◌, ℕ, ◌+◌, ◌*◌, ◌%◌, �
 ghost use Rattle.sfi_masks.specs.Masks.{is_in};
 ghost use Rattle.sfi_masks.specs.private.Seen.{HasLanes, byte_classes, half_classes, followed, kept, rest};
 
-use crate::tables::{ALL, ByteTable, FOLLOWED, HalfTable, NEXT, NO_RD, PLAIN, REST};
+use crate::tables::{ALL, ByteTable, FOLLOWED, HalfTable, NEXT, NO_RD, PLAIN, REST, WORDS_EVEN, WORDS_ODD};
 use std::simd::prelude::*;
 
 /// The low bytes of 16 halfwords, and their high bytes.
@@ -72,6 +72,15 @@ pub(crate) fn kept_classes(stack: bool, low: u8x16, high: u8x16) -> u8x16
     let rd = low & u8x16::splat(0x80) | high & u8x16::splat(0x0f);
     rd.simd_eq(u8x16::splat(1))
         .select(u8x16::splat(NO_RD), u8x16::splat(ALL))
+}
+
+/// The classes that each halfword may be in, in code in words: x2 to x4 and x29 to x31 are typed.
+#[inline(always)]
+pub(crate) fn kept_in_words(low: u8x16, high: u8x16) -> u8x16
+{
+    let pair = high & u8x16::splat(15);
+    let odd = (low & u8x16::splat(0x80)).simd_eq(u8x16::splat(0x80));
+    odd.select(look_up(WORDS_ODD, pair), look_up(WORDS_EVEN, pair))
 }
 
 /// A bit for each halfword whose two lowest bits are 11.

@@ -97,7 +97,7 @@ fn scan_block<F: FindingSink>(
 
 /// Whether none of the eight bundles from that place on is its region's last.
 #[inline(always)]
-fn is_before_last(place: &BundlePlace) -> bool
+pub(crate) fn is_before_last(place: &BundlePlace) -> bool
     requires { IsWithin place.now }
     ensures { OnTrue result (IsWithinBlock place.now) }
 {

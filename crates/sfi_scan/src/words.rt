@@ -7,18 +7,21 @@ ghost use Rattle.sfi_rules.specs.words.Owing.{owed_next};
 ghost use Rattle.sfi_scan.specs.Stretches.{IsStretch, IsWordCodeScanned};
 ghost use Rattle.sfi_scan.specs.private.Inside.{IsInside};
 
+mod block;
 mod look;
 mod owed;
 mod rules;
 
-use crate::code::place_after;
+use crate::code::{is_before_last, place_after};
 use crate::findings::BundleFindings;
 use crate::sink::FindingSink;
+use crate::words::block::look_at_block;
 use crate::words::look::look;
 use crate::words::owed::owed_next;
 use crate::words::rules::lowest_rule;
 use rv_comp::{Front, read_front};
 use rv_word::Instr;
+use sfi_masks::BLOCK_BYTES;
 use sfi_policy::BUNDLE_BYTES;
 use sfi_rules::{BundlePlace, Finding, Owed, Rule};
 
@@ -154,6 +157,33 @@ pub fn scan_words(
     next
 }
 
+/// Scans the front of a stretch, before which this is owed: eight bundles, where they are there and seen to
+/// break no rule, and else the first. Answers how many bytes, and what is owed after them.
+#[inline(always)]
+fn scan_front<F: FindingSink>(
+    place: &BundlePlace,
+    rest: &[u8],
+    owed: Owed,
+    sink: &mut F,
+    findings: &mut BundleFindings,
+) -> (usize, Owed) {
+    if is_before_last(place) {
+        if let Some(block) = rest.first_chunk::<BLOCK_BYTES>() {
+            if let Some(next) = look_at_block(place, block, owed) {
+                return (BLOCK_BYTES, next);
+            }
+        }
+    }
+    let Some(bundle) = rest.first_chunk::<BUNDLE_BYTES>() else {
+        unreachable!();
+    };
+    let next = scan_words(place, bundle, owed, findings);
+    if findings.count() > 0 {
+        sink.put(findings);
+    }
+    (BUNDLE_BYTES, next)
+}
+
 /// Scans a stretch of code in words, before which this is owed, and hands the findings of each 16
 /// bytes to the sink, in order. Answers what is owed after it.
 pub fn scan_word_code<F: FindingSink>(
@@ -168,12 +198,11 @@ pub fn scan_word_code<F: FindingSink>(
 {
     let mut findings = BundleFindings::new();
     let mut left = owed;
-    for (k, bytes) in code.as_chunks::<BUNDLE_BYTES>().0.iter().enumerate() {
-        let here = place_after(place, BUNDLE_BYTES * k);
-        left = scan_words(&here, bytes, left, &mut findings);
-        if findings.count() > 0 {
-            sink.put(&findings);
-        }
+    let mut at = 0;
+    while at < code.len() {
+        let (size, next) = scan_front(&place_after(place, at), &code[at..], left, sink, &mut findings);
+        at += size;
+        left = next;
     }
     left
 }

@@ -25,7 +25,7 @@ use rv_word::{
 };
 use sfi_pairs::is_data_register;
 use sfi_policy::{
-    CODE_BASE_REGISTER, CODE_REGISTER, DATA_BASE_REGISTER, DATA_MASK_REGISTER, OFFSET_REGISTER,
+    CODE_BASE_REGISTER, CODE_REGISTER, DATA_BASE_REGISTER, DATA_MASK_REGISTER, OFFSET_REGISTER, SLACK,
 };
 use sfi_rules::{BundlePlace, Owed};
 
@@ -73,8 +73,39 @@ fn rd_of(word: u32) -> Reg
 
 /// The register that its bits 19:15 name.
 #[inline(always)]
-fn rs1_of(word: u32) -> Reg {
+pub(crate) fn rs1_of(word: u32) -> Reg {
     Reg::numbered((word >> 15 & 0b11111) as u8)
+}
+
+/// The twelve bits of the offset of a load or store.
+#[inline(always)]
+fn offset_bits(word: u32) -> u32 {
+    if word & 0b10_0000 == 0 {
+        word >> 20
+    } else {
+        word >> 25 << 5 | word >> 7 & 0b11111
+    }
+}
+
+/// Whether the offset of a load or store is from -1020 to 1020.
+#[inline(always)]
+fn is_near(word: u32) -> bool {
+    let bits = offset_bits(word);
+    bits <= SLACK || 4096 - SLACK <= bits
+}
+
+/// Whether the two words, the first in the low half, are `and x31, a, x27` and `or d, x31, x26` on a data register.
+#[inline(always)]
+pub(crate) fn is_data_pair(two: u64) -> bool {
+    let d = Reg::numbered((two >> 39 & 0b11111) as u8);
+    two & !(0b11111 << 15 | 0b11111 << 39) == 0x01af_e033_01b0_7fb3 && is_data_register(d)
+}
+
+/// Whether a word is `addi d, d, k` on a data register, and an access, which is the next word, is one on d near it.
+#[inline(always)]
+pub(crate) fn is_used_step(word: u32, access: u32) -> bool {
+    let d = rd_of(word);
+    word & 0x707f == 0x13 && rs1_of(word) == d && rs1_of(access) == d && is_data_register(d) && is_near(access)
 }
 
 /// Whether the word is `and x31, a, x27`.
