@@ -11,6 +11,7 @@ use denote.Ref.{Bor}
 use Rattle.sfi_image.proofs.Cancelling.{same_fields, length-fields, length-gate}
 use Rattle.sfi_image.proofs.Ending.{code_short, cut_short, trails, whole_is_image}
 use Rattle.sfi_image.proofs.Standing.{region}
+use Rattle.sfi_image.proofs.Views.{same_format}
 use Rattle.sfi_image.proofs.Following.{fields_again, parts_bytes, flat_gate, head_push}
 
 -- ---- which front it is
@@ -151,6 +152,14 @@ none_passed bytes format n c h = record {
 }
 
 module _ (bytes : List ℕ) (format : Format) (n : ℕ) (ps : List Part) (c : ImageCursor) (h : HasPassed bytes format n ps c) where
+  -- the reader keeps the format
+  pub format_kept : c.reader.fields.format ≡ format
+  format_kept =
+      elim (eqb_tells (length ps) n) [
+        | inl e ↦ (let w = rw (e.0) at h.read in w.stands.kept.1 ∙ same_format ps h.one_format w.stands.right.at_least)
+        | inr e ↦ (rw (e.0) at h.read).stands.kept.1.of
+      ]
+
   -- there is one more
   pub before_part : (want_of (after_parts format n ps) ≡ wants.End → ⊥) → HasRead bytes (AfterCount format n ps) c
   before_part more =

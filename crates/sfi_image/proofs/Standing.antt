@@ -156,7 +156,7 @@ parts_stand r format n ps h le k is =
           let of = same_format ps h.one_format (let some = h.at_least in omega (arith, e.1)) in
           rw (e.0) (record {
             right = subst (λ (g : Format). IsHead g (length ps) ps) (sym of) (subst (λ (m : ℕ). IsHead format m ps) (sym e.1) h);
-            kept = (rw (e.0) at is, tt);
+            kept = (rw (e.0) at is, k.of ∙ sym of);
           })
       | inr e ↦ rw (e.0) (record { right = (h, omega (arith, e.1)); kept = (rw (e.0) at is, k) })
     ]

@@ -13,10 +13,6 @@ use Rattle.sfi_image.specs.Keeping.{StandsFor}
 abbrev pub unread : ImageCursor → List ℕ
 unread c = c.rest.now
 
--- the format that it has read, at the front of the bytes
-abbrev pub format_read : ImageCursor → Format
-format_read c = c.reader.fields.format
-
 -- it has read this front of the bytes, which passes its tests
 pub record HasRead (bytes : List ℕ) (x : Front) (c : ImageCursor) : Type 0 where
   pub stands : StandsFor c.reader x

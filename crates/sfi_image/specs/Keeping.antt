@@ -9,7 +9,7 @@ use Rattle.sfi_image.specs.declared.fields.Fields.{Fields}
 use Rattle.sfi_image.specs.declared.span.Span.{Span}
 use Rattle.sfi_image.specs.declared.want.Next.{Next}
 use Rattle.sfi_image.specs.declared.want.Next.TheVariants as next
-use Rattle.sfi_image.specs.Spelling.{Part}
+use Rattle.sfi_image.specs.Spelling.{Part, format_of}
 use Rattle.sfi_image.specs.Spans.{spans, spans_of}
 use Rattle.sfi_image.specs.Gates.{is_gate_of}
 use Rattle.sfi_image.specs.Fronts.{Front, front, IsRightFront, Follows}
@@ -78,7 +78,7 @@ Keeps r (InGates n ps f gs) = (r.next ≡ next.Gate) × KeepsFields r n ps f gs 
 Keeps r (InCode n ps f gs code) = (r.next ≡ next.Code) × KeepsCode r n ps f gs code
 Keeps r (InInit n ps f gs code init) =
     (r.next ≡ next.Init) × KeepsFields r n ps f gs × (r.init_read ≡ length init)
-Keeps r (Whole ps) = (r.next ≡ next.End) × Unit {0}
+Keeps r (Whole ps) = (r.next ≡ next.End) × (r.fields.format ≡ format_of ps)
 
 -- the reader has read that front, and all of it passed its tests
 pub record StandsFor (r : ReaderState) (x : Front) : Type 0 where

@@ -8,7 +8,7 @@ ghost use Rattle.sfi_image.specs.Images.{IsImage};
 ghost use Rattle.sfi_image.specs.Faults.{IsFault};
 ghost use Rattle.sfi_image.specs.Fronts.{Front, after_gates, after_code, after_init, after_parts, part_of};
 ghost use Rattle.sfi_image.specs.Fronts.Front.{AfterCount, InCode};
-ghost use Rattle.sfi_image.specs.Cursor.{HasPassed, HasRead, IsViewOf, format_read, unread};
+ghost use Rattle.sfi_image.specs.Cursor.{HasPassed, HasRead, IsViewOf, unread};
 ghost use Rattle.sfi_image.specs.private.Keeping.{MayTake};
 ghost use Rattle.sfi_image.specs.private.Cursor.{Gives, LeadsOn};
 
@@ -57,8 +57,8 @@ pub struct ImageCursor<'a> {
 impl<'a> ImageCursor<'a> {
     /// Stands before the first sandbox.
     pub fn new(bytes: &'a [u8]) -> Result<ImageCursor<'a>, LayoutFault>
-        ensures begun { IfOk result (λ c. (n : ℕ)
-            × HasPassed bytes.entry.now (format_read c) n [] c) }
+        ensures begun { IfOk result (λ c. (format : Format) × (n : ℕ)
+            × HasPassed bytes.entry.now format n [] c) }
         ensures fault { IfErr result (λ k. IsFault bytes.entry.now k) }
     {
         let mut cursor = ImageCursor {
@@ -72,7 +72,8 @@ impl<'a> ImageCursor<'a> {
 
     /// The image's format.
     pub fn format(&self) -> Format
-        ensures { result ≡ format_read self.now }
+        ensures { (bytes : List ℕ) (format : Format) (n : ℕ) (ps : List Part)
+            → HasPassed bytes format n ps self.now → result ≡ format }
     {
         self.reader.format()
     }
