@@ -67,7 +67,8 @@ CleanBreaksStackAlone = (ps : List Part) (found : List Finding)
 -- ---- of code in words
 
 -- What is owed after two instructions, the first of which asked this: where it asked that a data
--- register be masked, and the second does that, the register's placing; else what the second asks.
+-- register be masked, and the second does that, the register's placing; else what the second asks,
+-- or nothing where no next instruction can make that right.
 abbrev pub owed_after_two : Option Owed → Instr → Owed
 owed_after_two (Some (kind.Mask d)) m = if masks d m then kind.Place d else or_nothing (owed_by m)
 owed_after_two (Some (kind.MaskOrUse d)) m =

@@ -96,7 +96,7 @@ abbrev pub breaks_stack : Place → Instr → Bool
 breaks_stack x i = writes_stack x.bundle i && not (may_write_stack x i)
 
 -- The rule is broken at the place. (Each test takes the place's instruction again, to go by its
--- cases.) V1 and V2 are broken where no instruction stands, and V9 by a whole bundle,
+-- cases.) V1 and V2 are broken where no instruction is read, and V9 by a whole bundle,
 -- so never at a place; V11 and V12 are rules of code in words.
 abbrev pub breaks : Place → Rule → Bool
 breaks x V1 = false

@@ -5,10 +5,12 @@ use Rattle.rv_step.specs.State.{with_register}
 use Rattle.rv_step.proofs.Harts.{register_is}
 use Rattle.sfi_policy.specs.declared.format.Format.{Format}
 use Rattle.sfi_policy.specs.declared.format.Format.TheVariants.{Sfi1, Sfi2, Sfiw}
-use Rattle.sfi_policy.specs.Formats.{unit}
+use Rattle.sfi_policy.specs.Formats.{unit, has_words}
 use Rattle.sfi_policy.specs.Registers.{is_data_register}
 use Rattle.sfi_image.proofs.Facts.{code_ends}
-use Rattle.sfi_runs.specs.Typed.{IsNear}
+use Rattle.sfi_policy.specs.Limits.{slack}
+use Rattle.sfi_runs.specs.Regions.{InData}
+use Rattle.sfi_runs.specs.Typed.{IsNear, IsWordStart}
 use Rattle.sfi_runs.specs.Laws.{HasEntries}
 use Rattle.sfi_runs.proofs.Formats.{to_word}
 use Rattle.sfi_runs.proofs.Entering.{entered}
@@ -40,6 +42,42 @@ data_register d is =
     (λ (e : (d == 29) ≡ true). inr (inr (inr (eqb-true d 29 e))))
     (or_cases ((d == 2) || (d == 3) || (d == 4)) (d == 29) is)
 
+-- where the four are near the data region, each data register is
+pub each_near : (p : Part) (registers : List ℕ)
+    → IsNear p slack (slice_index registers 2) → IsNear p slack (slice_index registers 3) → IsNear p slack (slice_index registers 4) → IsNear p slack (slice_index registers 29)
+    → (d : ℕ) → is_data_register d ≡ true → IsNear p slack (slice_index registers d)
+each_near p registers second third fourth last d is = elim (data_register d is) [
+  | inl e ↦ at e second
+  | inr others ↦ elim others [
+    | inl e ↦ at e third
+    | inr rest ↦ elim rest [
+      | inl e ↦ at e fourth
+      | inr e ↦ at e last
+    ]
+  ]
+]
+  where
+    at : {r : ℕ} → d ≡ r → IsNear p slack (slice_index registers r) → IsNear p slack (slice_index registers d)
+    at e near = subst (λ (x : ℕ). IsNear p slack (slice_index registers x)) (sym e) near
+
+at_base : (p : Part) (a : ℕ) → 1 ≤ p.data_size → a ≡ p.data_base → IsNear p slack a
+at_base p a some e = record { low = omega arith; high = omega arith }
+
+-- registers with x2 in the data region, the other data registers at its beginning, x30 at that entry and x31 at 0 are typed
+pub typed_when : (p : Part) (at : ℕ) (registers : List ℕ) → 1 ≤ p.data_size → IsUnitStart p at → InData p (slice_index registers 2)
+    → (has_words p.format ≡ true → slice_index registers 3 ≡ p.data_base) → (has_words p.format ≡ true → slice_index registers 4 ≡ p.data_base) → (has_words p.format ≡ true → slice_index registers 29 ≡ p.data_base)
+    → (has_words p.format ≡ true → slice_index registers 30 ≡ at) → slice_index registers 31 ≡ 0 → IsTyped p registers
+typed_when p at registers some start stack third fourth last code offset =
+    let base : (d : ℕ) → slice_index registers d ≡ p.data_base → IsNear p slack (slice_index registers d) = λ d is. at_base p (slice_index registers d) some is in
+    record {
+      stack = λ has. stack;
+      words = λ has. record {
+        each_data = each_near p registers (record { low = omega (arith, stack.0); high = omega (arith, stack.1) }) (base 3 (third has)) (base 4 (fourth has)) (base 29 (last has));
+        code = subst (IsWordStart p) (sym (code has)) (to_word p at has start);
+        offset = omega arith;
+      };
+    }
+
 -- the data base in each data register, the place in the code register, what is theirs in the reserved ones, 0 in all others
 abbrev entry : Part → ℕ → Hart
 entry p at =
@@ -58,34 +96,11 @@ entry_is p at end right start =
     register_is _ 27 (p.data_size - 1) (register_is _ 26 p.data_base (register_is _ 25 (length p.code - unit p.format) (register_is _ 24 p.code_base (register_is _ 30 at
     (register_is _ 29 p.data_base (register_is _ 4 p.data_base (register_is _ 3 p.data_base (register_is _ 2 p.data_base bare base) base) base) base) here) right.code_base) mask) base) data_mask
 
-near_base : (p : Part) → 1 ≤ p.data_size → IsNear p 1020 p.data_base
-near_base p some = record { low = omega arith; high = omega arith }
-
 entry_reserved : (p : Part) (at : ℕ) → HasReserved p (entry p at).registers
 entry_reserved p at = record { code_base = refl; code_mask = refl; data_base = refl; data_mask = refl }
 
 entry_typed : (p : Part) (at : ℕ) → 1 ≤ p.data_size → IsUnitStart p at → IsTyped p (entry p at).registers
-entry_typed p at some start =
-    let rs : List ℕ = (entry p at).registers in
-    let base : (d r : ℕ) → d ≡ r → slice_index rs r ≡ p.data_base → IsNear p 1020 (slice_index rs d) =
-    λ d r e is. subst (λ (x : ℕ). IsNear p 1020 (slice_index rs x)) (sym e) (subst (IsNear p 1020) (sym is) (near_base p some)) in
-    record {
-      stack = λ has. (omega arith, omega arith);
-      words = λ has. record {
-        each_data = λ d is. elim (data_register d is) [
-          | inl e ↦ base d 2 e refl
-          | inr others ↦ elim others [
-            | inl e ↦ base d 3 e refl
-            | inr rest ↦ elim rest [
-              | inl e ↦ base d 4 e refl
-              | inr e ↦ base d 29 e refl
-            ]
-          ]
-        ];
-        code = to_word p at has start;
-        offset = some;
-      };
-    }
+entry_typed p at some start = typed_when p at (entry p at).registers some start (omega arith, omega arith) (λ has. refl) (λ has. refl) (λ has. refl) (λ has. refl) refl
 
 pub entries : HasEntries
 entries p at right apart small start =

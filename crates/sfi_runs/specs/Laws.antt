@@ -44,8 +44,9 @@ GoesOnSafely =
     → after_turn turn ≡ Some after
     → GoesSafelyFrom p after
 
--- a sandbox with a right layout can be entered at the start of each bundle, or word, with any
--- registers beside the reserved and the typed ones
+-- a sandbox that passes its tests, whose code is of bytes and lies apart from its data and guards,
+-- can be entered at the start of each bundle, or word, with any registers beside the reserved and
+-- the typed ones
 abbrev pub CanBeEntered : Type 0
 CanBeEntered =
     (p : Part) (h : Hart) → IsRightPart p → AreApart (code_region p) (guarded_region p)
@@ -53,7 +54,8 @@ CanBeEntered =
     → IsHart h → IsUnitStart p h.pc → HasReserved p h.registers → IsTyped p h.registers
     → (m : Bytes) × IsEntry p (record { hart = h; memory = m })
 
--- a sandbox with a right layout has an entry at the start of each bundle, or word
+-- a sandbox that passes its tests, whose code is of bytes and lies apart from its data and guards,
+-- has an entry at the start of each bundle, or word
 abbrev pub HasEntries : Type 0
 HasEntries =
     (p : Part) (at : ℕ) → IsRightPart p → AreApart (code_region p) (guarded_region p)

@@ -1,12 +1,12 @@
 -- That the rules on what is read, on the region's end and on gates are needed.
-use Rattle.sfi_safety.proofs.Prelude.{false≢true, ◌≡◌, ◌≢◌, ℕ, zero, suc, ◌+◌, ◌*◌, ◌<◌, ◌≤◌, ◌==◌, ◌||◌, List, [], ◌∷◌, length, take, drop, Some, false, refl, sym, ap, ◌∙◌, subst, inl, inr, arith, get_or-take, pos, slice_index, All, ints, Instr, And, Or, Sw, Op, Store, Jalr, Ecall, Ebreak, spelling, InRange, Spells, Sfi1, Bytes, Stands, unchanged, Call, is_gate_of, IsBundleStart, AreGateWords, place_of, bundle_bytes, HasCode, Steps, Replies, IsReply, IsEntry, IsNeeded, HasUnsafeRun, Hart, Finding}
+use Rattle.sfi_safety.proofs.Prelude.{◌≡◌, ◌≢◌, ℕ, zero, suc, ◌+◌, ◌*◌, ◌<◌, ◌≤◌, ◌==◌, ◌||◌, List, [], ◌∷◌, length, take, drop, Some, false, refl, sym, ap, ◌∙◌, subst, inl, inr, arith, get_or-take, pos, slice_index, All, ints, Instr, And, Or, Sw, Op, Store, Jalr, Ecall, Ebreak, spelling, InRange, Spells, Bytes, Stands, unchanged, Call, is_gate_of, IsBundleStart, AreGateWords, place_of, bundle_bytes, HasCode, Steps, Replies, IsReply, IsEntry, IsNeeded, HasUnsafeRun, Hart, Finding, Format, has_words}
 use Rattle.rv_comp.specs.declared.form.Form16.TheVariants.{CAddi}
 use Rattle.sfi_safety.specs.Samples.{Sample, sandbox, nop, undecodable, crossing_store, running_off_the_end, gate_comes_back_elsewhere}
 use Rattle.sfi_policy.specs.Limits.{service_most}
 use Rattle.sfi_pairs.specs.Pairs.{stub}
 use Rattle.sfi_rules.specs.declared.rule.Rule.TheVariants.{V1, V2, V8, V9}
-use Rattle.sfi_safety.proofs.Readings.{IsSpelled, BeginsNothing, op_spelled, nothing_begins, ebreak_spelled, four, read_bundle, four_words, four_longest, wide, all_findings, quiet, none_listed, ecall_spelled, jalr_past}
-use Rattle.sfi_safety.proofs.Samples.{IsSample, without_gates, hart, is_hart, first, bytes_there, stands, then_turn, step_at, then_step, reaches, has_left, past_end, needed}
+use Rattle.sfi_safety.proofs.Readings.{read_in_both, BrokenIn, IsSpelled, BeginsNothing, op_spelled, nothing_begins, ebreak_spelled, four, read_bundle, four_longest, wide, all_findings, quiet, none_listed, ecall_spelled, jalr_past}
+use Rattle.sfi_safety.proofs.Samples.{IsSample, without_gates, hart, is_hart, first, bytes_there, stands, then_turn, step_at, then_step, reaches, has_left, past_end, needed, of_both, breaks_alone}
 use Rattle.sfi_safety.proofs.Undecodable.{ones_begin_nothing}
 use Rattle.rv_comp.proofs.Facts.{one_spelling, word_spells}
 
@@ -39,21 +39,21 @@ undecodable_runs s is m code h pc rest begins = record { turns = []; run = tt; u
         by (inl s) = let size = s.size in here (omega (arith, size))
         by (inr s) = let size = s.size in here (omega (arith, size))
 
-pub undecodable_unsafe : IsNeeded V1 0x01000000 (sandbox undecodable)
-undecodable_unsafe =
-    let p = sandbox undecodable in
+pub undecodable_unsafe : (f : Format) → has_words f ≡ false → IsNeeded V1 0x01000000 (sandbox (undecodable f))
+undecodable_unsafe f bundles =
+    let p = sandbox (undecodable f) in
     let bytes = bundle_bytes p 0 in
     let x : List Finding = record { sandbox = 0; address = 0x01000000; rule = V1 } ∷ [] in
-    needed undecodable is V1 0x01000000 0 refl (omega arith)
-    (all_findings Sfi1 [] 0xffffffff brk brk brk brk brk brk brk brk brk brk brk none_listed x [] []
+    needed (undecodable f) is V1 0x01000000 0 bundles (omega arith)
+    (all_findings f [] 0xffffffff brk brk brk brk brk brk brk brk brk brk brk none_listed x [] []
     (read_bundle (place_of 0 p 0) bytes [] bytes x refl tt refl (ones_begin_nothing (drop 4 bytes)) refl)
-    (quiet Sfi1 [] 0xffffffff brk brk brk brk brk brk brk brk brk brk brk none_listed 0 refl refl refl refl)
-    (quiet Sfi1 [] 0xffffffff brk brk brk brk brk brk brk brk brk brk brk none_listed 14 refl refl refl refl))
+    (quiet f [] 0xffffffff brk brk brk brk brk brk brk brk brk brk brk none_listed 0 refl refl refl refl)
+    (quiet f [] 0xffffffff brk brk brk brk brk brk brk brk brk brk brk none_listed 14 refl refl refl refl))
     tt
-    (λ m entry. undecodable_runs undecodable is m entry.code (hart 0x01000000 0x01800000 0) refl (drop 4 (sandbox undecodable).code) refl)
+    (λ m entry. undecodable_runs (undecodable f) is m entry.code (hart 0x01000000 0x01800000 0) refl (drop 4 (sandbox (undecodable f)).code) refl)
   where
-    is : IsSample undecodable
-    is = without_gates undecodable refl refl refl
+    is : IsSample (undecodable f)
+    is = without_gates (undecodable f) refl refl refl
 
 -- ---- a store that crosses a bundle's end
 
@@ -85,19 +85,17 @@ half_begins_nothing y (inr s) =
     let all : length {A = ℕ} (take 4 (0x23 ∷ 0x20 ∷ [])) ≡ 4 = subst (λ (n : ℕ). length {A = ℕ} (take n (0x23 ∷ 0x20 ∷ [])) ≡ 4) s.size s.all in
     absurd (omega (arith, all))
 
-pub crossing_store_unsafe : IsNeeded V2 0x0100000e (sandbox crossing_store)
-crossing_store_unsafe =
-    let s = crossing_store in
+pub crossing_store_unsafe : (f : Format) → has_words f ≡ false → IsNeeded V2 0x0100000e (sandbox (crossing_store f))
+crossing_store_unsafe f bundles =
+    let s = crossing_store f in
     let is : IsSample s = without_gates s refl refl refl in
     let x : List Finding = record { sandbox = 0; address = 0x0100000e; rule = V2 } ∷ [] in
     let n = spelling nop in
-    let place = place_of 0 (sandbox s) in
-    let bytes = bundle_bytes (sandbox s) in
-    needed s is V2 0x0100000e 0 refl (omega arith)
-    (all_findings Sfi1 [] n n n 0x20230001 0x00000013 brk brk brk brk brk brk brk none_listed x [] []
-    (read_bundle (place 0) (bytes 0) (wide nop ∷ wide nop ∷ wide nop ∷ record { instr = nop; size = 2 } ∷ []) (0x23 ∷ 0x20 ∷ []) x refl (nop_spelled, (nop_spelled, (nop_spelled, (short_nop, tt)))) refl half_begins_nothing refl)
-    (read_bundle (place 1) (bytes 1) (four nop Ebreak Ebreak Ebreak) [] [] refl (nop_next, (ebreak_spelled, (ebreak_spelled, (ebreak_spelled, tt)))) refl (nothing_begins [] refl) refl)
-    (quiet Sfi1 [] n n n 0x20230001 0x00000013 brk brk brk brk brk brk brk none_listed 14 refl refl refl refl))
+    needed s is V2 0x0100000e 0 bundles (omega arith)
+    (all_findings f [] n n n 0x20230001 0x00000013 brk brk brk brk brk brk brk none_listed x [] []
+    (read_in_both s 0 (wide nop ∷ wide nop ∷ wide nop ∷ record { instr = nop; size = 2 } ∷ []) (0x23 ∷ 0x20 ∷ []) x bundles refl (nop_spelled, (nop_spelled, (nop_spelled, (short_nop, tt)))) refl half_begins_nothing (refl, refl))
+    (read_in_both s 1 (four nop Ebreak Ebreak Ebreak) [] [] bundles refl (nop_next, (ebreak_spelled, (ebreak_spelled, (ebreak_spelled, tt)))) refl (nothing_begins [] refl) (refl, refl))
+    (quiet f [] n n n 0x20230001 0x00000013 brk brk brk brk brk brk brk none_listed 14 refl refl refl refl))
     tt
     (λ m entry.
     then_step s is m entry.code (hart 0x01000000 0x01800000 0) 0 4 nop refl (omega arith) nop_spelled (hart 0x01000004 0x01800000 0) refl (
@@ -108,28 +106,26 @@ crossing_store_unsafe =
 
 -- ---- a region's end without a jump
 
-pub running_off_the_end_unsafe : IsNeeded V8 0x010000fc (sandbox running_off_the_end)
-running_off_the_end_unsafe =
-    let s = running_off_the_end in
+pub running_off_the_end_unsafe : (f : Format) → has_words f ≡ false → IsNeeded V8 0x010000fc (sandbox (running_off_the_end f))
+running_off_the_end_unsafe f bundles =
+    let s = running_off_the_end f in
     let is : IsSample s = without_gates s refl refl refl in
     let x : List Finding = record { sandbox = 0; address = 0x010000fc; rule = V8 } ∷ [] in
     let n = spelling nop in
-    let place = place_of 0 (sandbox s) in
-    let bytes = bundle_bytes (sandbox s) in
-    needed s is V8 0x010000fc 15 refl (omega arith)
-    (all_findings Sfi1 [] brk brk brk brk brk brk brk brk n n n n none_listed [] [] x
-    (four_words (place 0) (bytes 0) Ebreak Ebreak Ebreak Ebreak [] refl refl ebreak_spelled ebreak_spelled ebreak_spelled ebreak_spelled refl)
-    (quiet Sfi1 [] brk brk brk brk brk brk brk brk n n n n none_listed 0 refl refl refl refl)
-    (four_words (place 15) (bytes 15) nop nop nop nop x refl refl nop_spelled nop_spelled nop_spelled nop_spelled refl))
-    (record {
+    needed s is V8 0x010000fc 15 bundles (omega arith)
+    (all_findings f [] brk brk brk brk brk brk brk brk n n n n none_listed [] [] x
+    (read_in_both s 0 (four Ebreak Ebreak Ebreak Ebreak) [] [] bundles refl (ebreak_spelled, (ebreak_spelled, (ebreak_spelled, (ebreak_spelled, tt)))) refl (nothing_begins [] refl) (refl, refl))
+    (quiet f [] brk brk brk brk brk brk brk brk n n n n none_listed 0 refl refl refl refl)
+    (read_in_both s 15 (four nop nop nop nop) [] x bundles refl (nop_spelled, (nop_spelled, (nop_spelled, (nop_spelled, tt)))) refl (nothing_begins [] refl) (refl, refl)))
+    (breaks_alone V8 0x010000fc (sandbox s) bundles (record {
       number = 15;
       earlier = wide nop ∷ wide nop ∷ wide nop ∷ [];
       here = wide nop;
       later = [];
-      longest = four_longest (bytes 15) nop nop nop nop refl nop_spelled nop_spelled nop_spelled nop_spelled;
+      longest = four_longest (bundle_bytes (sandbox s) 15) nop nop nop nop refl nop_spelled nop_spelled nop_spelled nop_spelled;
       address_is = refl;
-      broken = refl;
-    })
+      broken = of_both (BrokenIn s 15 (four nop nop nop nop) V8 0x010000fc (nop ∷ nop ∷ nop ∷ []) nop []) (refl, refl) f bundles;
+    }))
     (λ m entry.
     then_step s is m entry.code (hart 0x010000f0 0x01800000 0) 240 4 nop refl (omega arith) nop_spelled (hart 0x010000f4 0x01800000 0) refl (
     then_step s is m entry.code (hart 0x010000f4 0x01800000 0) 244 4 nop refl (omega arith) nop_spelled (hart 0x010000f8 0x01800000 0) refl (
@@ -139,63 +135,67 @@ running_off_the_end_unsafe =
 
 -- ---- a gate that comes back elsewhere
 
-gate_sample : IsSample gate_comes_back_elsewhere
-gate_sample = record {
-  first_words = refl;
-  last_words = refl;
-  words = words;
-  few = omega arith;
-  gates = record { starts = starts; services = services; ascending = λ i j d less below. absurd (omega arith) };
-}
-  where
-    words : All AreGateWords gate_comes_back_elsewhere.gates
-    words zero d below = record { address = omega arith; service = omega arith }
-    words (suc k) d below = absurd (omega arith)
+module _ (f : Format) where
+  abbrev gate : Sample
+  gate = gate_comes_back_elsewhere f
 
-    starts : All (λ g. IsBundleStart (record { base = 0x01000000; size = 256 }) g.address) gate_comes_back_elsewhere.gates
-    starts zero d below = record { held = (omega arith, omega arith); aligned = refl }
-    starts (suc k) d below = absurd (omega arith)
+  gate_sample : IsSample gate
+  gate_sample = record {
+    first_words = refl;
+    last_words = refl;
+    words = words;
+    few = omega arith;
+    gates = record { starts = starts; services = services; ascending = λ i j d less below. absurd (omega arith) };
+  }
+    where
+      words : All AreGateWords gate.gates
+      words zero d below = record { address = omega arith; service = omega arith }
+      words (suc k) d below = absurd (omega arith)
 
-    services : All (λ g. g.service ≤ service_most) gate_comes_back_elsewhere.gates
-    services zero d below = omega arith
-    services (suc k) d below = absurd (omega arith)
+      starts : All (λ g. IsBundleStart (record { base = 0x01000000; size = 256 }) g.address) gate.gates
+      starts zero d below = record { held = (omega arith, omega arith); aligned = refl }
+      starts (suc k) d below = absurd (omega arith)
 
-others_unlisted : (n : ℕ) → is_gate_of gate_comes_back_elsewhere.gates (0x01000000 + 16 * suc n) ≡ false
-others_unlisted n = let e : (0x01000000 == 0x01000000 + 16 * suc n) ≡ false = grind arith in ap (λ b. b || false) e
+      services : All (λ g. g.service ≤ service_most) gate.gates
+      services zero d below = omega arith
+      services (suc k) d below = absurd (omega arith)
 
-not_stub : bundle_bytes (sandbox gate_comes_back_elsewhere) 0 ≢ stub
-unfolding spelling
-not_stub e = let last : 1 ≡ 0 = ap (λ (bytes : List ℕ). slice_index bytes 15) e in absurd (omega (arith, last))
+  others_unlisted : (n : ℕ) → is_gate_of gate.gates (0x01000000 + 16 * suc n) ≡ false
+  others_unlisted n = let e : (0x01000000 == 0x01000000 + 16 * suc n) ≡ false = grind arith in ap (λ b. b || false) e
 
--- the host answers nothing, and goes on after the ecall
-silent_reply : (m : Bytes) → IsEntry (sandbox gate_comes_back_elsewhere) (first 0x01000000 m) → IsReply (sandbox gate_comes_back_elsewhere) (first 0x01000000 m) (first 0x01000004 m)
-silent_reply m entry = record {
-  size = 4;
-  asked = stands gate_comes_back_elsewhere gate_sample m entry.code (hart 0x01000000 0x01800000 0) 0 4 Ecall refl (omega arith) ecall_spelled;
-  state = record { hart = is_hart 0x01000004 refl (omega arith); memory = entry.state.memory };
-  pc = refl;
-  reserved = record { code_base = refl; code_mask = refl; data_base = refl; data_mask = refl };
-  typed = record { stack = λ has. (omega arith, omega arith); words = λ has. absurd (false≢true has) };
-  bytes = record { code = λ a inside. refl; guards = λ a guard none. none };
-}
+  not_stub : bundle_bytes (sandbox gate) 0 ≢ stub
+  unfolding spelling
+  not_stub e = let last : 1 ≡ 0 = ap (λ (bytes : List ℕ). slice_index bytes 15) e in absurd (omega (arith, last))
 
-pub gate_comes_back_elsewhere_unsafe : IsNeeded V9 0x01000000 (sandbox gate_comes_back_elsewhere)
-gate_comes_back_elsewhere_unsafe =
-    let s = gate_comes_back_elsewhere in
-    let p = sandbox s in
-    let and_back = spelling (Op And 31 1 25) in
-    let or_back = spelling (Op Or 31 31 24) in
-    let jump = spelling (Jalr 0 31 (pos 16)) in
-    needed s gate_sample V9 0x01000000 0 refl (omega arith)
-    (all_findings Sfi1 s.gates (spelling Ecall) and_back or_back jump brk brk brk brk brk brk brk brk others_unlisted (record { sandbox = 0; address = 0x01000000; rule = V9 } ∷ []) [] []
-    (inl (refl, not_stub, refl))
-    (quiet Sfi1 s.gates (spelling Ecall) and_back or_back jump brk brk brk brk brk brk brk brk others_unlisted 0 refl refl refl refl)
-    (quiet Sfi1 s.gates (spelling Ecall) and_back or_back jump brk brk brk brk brk brk brk brk others_unlisted 14 refl refl refl refl))
-    tt
-    (λ m entry.
-    then_turn p (first 0x01000000 m) (first 0x01000000 m) (Steps (unchanged Call (hart 0x01000000 0x01800000 0) m)) (step_at s gate_sample m entry.code (hart 0x01000000 0x01800000 0) 0 4 Ecall refl (omega arith) ecall_spelled) refl (
-    then_turn p (first 0x01000000 m) (first 0x01000004 m) (Replies (first 0x01000004 m)) (silent_reply m entry) refl (
-    then_step s gate_sample m entry.code (hart 0x01000004 0x01800000 0) 4 4 (Op And 31 1 25) refl (omega arith) (op_spelled And 31 1 25 refl) (hart 0x01000008 0x01800000 240) refl (
-    then_step s gate_sample m entry.code (hart 0x01000008 0x01800000 240) 8 4 (Op Or 31 31 24) refl (omega arith) (op_spelled Or 31 31 24 refl) (hart 0x0100000c 0x01800000 0x010000f0) refl (
-    then_step s gate_sample m entry.code (hart 0x0100000c 0x01800000 0x010000f0) 12 4 (Jalr 0 31 (pos 16)) refl (omega arith) jalr_past (hart 0x01000100 0x01800000 0x010000f0) refl (
-    has_left p m (hart 0x01000100 0x01800000 0x010000f0) (past_end s gate_sample)))))))
+  -- the host answers nothing, and goes on after the ecall
+  silent_reply : (m : Bytes) → IsEntry (sandbox gate) (first 0x01000000 m) → IsReply (sandbox gate) (first 0x01000000 m) (first 0x01000004 m)
+  silent_reply m entry = record {
+    size = 4;
+    asked = stands gate gate_sample m entry.code (hart 0x01000000 0x01800000 0) 0 4 Ecall refl (omega arith) ecall_spelled;
+    state = record { hart = is_hart 0x01000004 refl (omega arith); memory = entry.state.memory };
+    pc = refl;
+    reserved = record { code_base = refl; code_mask = refl; data_base = refl; data_mask = refl };
+    typed = entry.typed;
+    bytes = record { code = λ a inside. refl; guards = λ a guard none. none };
+  }
+
+  pub gate_comes_back_elsewhere_unsafe : has_words f ≡ false → IsNeeded V9 0x01000000 (sandbox gate)
+  gate_comes_back_elsewhere_unsafe bundles =
+      let s = gate in
+      let p = sandbox s in
+      let and_back = spelling (Op And 31 1 25) in
+      let or_back = spelling (Op Or 31 31 24) in
+      let jump = spelling (Jalr 0 31 (pos 16)) in
+      needed s gate_sample V9 0x01000000 0 bundles (omega arith)
+      (all_findings f s.gates (spelling Ecall) and_back or_back jump brk brk brk brk brk brk brk brk others_unlisted (record { sandbox = 0; address = 0x01000000; rule = V9 } ∷ []) [] []
+      (inl (refl, not_stub, refl))
+      (quiet f s.gates (spelling Ecall) and_back or_back jump brk brk brk brk brk brk brk brk others_unlisted 0 refl refl refl refl)
+      (quiet f s.gates (spelling Ecall) and_back or_back jump brk brk brk brk brk brk brk brk others_unlisted 14 refl refl refl refl))
+      tt
+      (λ m entry.
+      then_turn p (first 0x01000000 m) (first 0x01000000 m) (Steps (unchanged Call (hart 0x01000000 0x01800000 0) m)) (step_at s gate_sample m entry.code (hart 0x01000000 0x01800000 0) 0 4 Ecall refl (omega arith) ecall_spelled) refl (
+      then_turn p (first 0x01000000 m) (first 0x01000004 m) (Replies (first 0x01000004 m)) (silent_reply m entry) refl (
+      then_step s gate_sample m entry.code (hart 0x01000004 0x01800000 0) 4 4 (Op And 31 1 25) refl (omega arith) (op_spelled And 31 1 25 refl) (hart 0x01000008 0x01800000 240) refl (
+      then_step s gate_sample m entry.code (hart 0x01000008 0x01800000 240) 8 4 (Op Or 31 31 24) refl (omega arith) (op_spelled Or 31 31 24 refl) (hart 0x0100000c 0x01800000 0x010000f0) refl (
+      then_step s gate_sample m entry.code (hart 0x0100000c 0x01800000 0x010000f0) 12 4 (Jalr 0 31 (pos 16)) refl (omega arith) jalr_past (hart 0x01000100 0x01800000 0x010000f0) refl (
+      has_left p m (hart 0x01000100 0x01800000 0x010000f0) (past_end s gate_sample)))))))

@@ -1,8 +1,10 @@
 -- What the samples' bundles are read as, and the findings of a sample.
-use Rattle.sfi_safety.proofs.Prelude.{Format, Sfi1, Sfi2, Sfiw, Gate, is_gate_of, ◌≡◌, ℕ, suc, ◌+◌, ◌-◌, ◌*◌, ◌≤◌, List, [], ◌∷◌, ◌++◌, length, take, drop, true, false, refl, sym, ap, ◌∙◌, subst, inr, arith, get_or-take, false≢true, append-nil, Instr, Ebreak, spelling, InRange, Spells, BundlePlace, Finding, place_of, bundle_bytes, Piece, IsReading, IsLongestReading, rest_of, is_empty, findings_from, rest_finding, AreBundleFindings, AreFindingsOfFirst, AreFindingsInBundles, Op, Store, pos, nat_lt, ◌&&◌, and_parts, ltb-true, ints, Ecall, Jalr}
+use Rattle.sfi_safety.proofs.Prelude.{Format, Sfi1, Sfi2, Sfiw, Gate, is_gate_of, ◌≡◌, ℕ, suc, ◌+◌, ◌-◌, ◌*◌, ◌≤◌, List, [], ◌∷◌, ◌++◌, length, take, drop, true, false, refl, sym, ap, ◌∙◌, subst, inr, arith, get_or-take, false≢true, append-nil, Instr, Ebreak, spelling, InRange, Spells, BundlePlace, Finding, place_of, bundle_bytes, Piece, IsReading, IsLongestReading, rest_of, is_empty, findings_from, rest_finding, AreBundleFindings, AreFindingsOfFirst, AreFindingsInBundles, Op, Store, pos, nat_lt, ◌&&◌, and_parts, ltb-true, ints, Ecall, Jalr, has_words, filter, breaks, all_rules}
 use Rattle.rv_word.specs.declared.instr.RegOp.{RegOp}
 use Rattle.rv_word.specs.declared.instr.StoreWidth.{StoreWidth}
 use Rattle.sfi_safety.specs.Samples.{Sample, sandbox, words_of, bytes_of, code_as}
+use Rattle.sfi_rules.specs.declared.rule.Rule.{Rule}
+use Rattle.sfi_safety.proofs.Samples.{InBoth, of_both}
 use Rattle.std.specs.Int.{w32, to_le_bytes}
 use Rattle.std.proofs.Common.{length-take}
 use Rattle.rv_comp.proofs.Facts.{one_spelling, word_spells, spelled_length, spelled_some}
@@ -48,6 +50,31 @@ read_bundle b bytes reading rest found unlisted is left end e = inr (
     found_is = sym (subst (λ (rest : List ℕ). findings_from b (is_empty rest) b.address [] reading ++ rest_finding b (b.address + (length bytes - length rest)) rest ≡ found) (sym left) e);
   },
 )
+
+-- ---- in either format whose code is in bundles
+
+-- this is found in the bundle of that number, by its reading and what that leaves, in that format
+abbrev pub FoundIn : Sample → ℕ → List Piece → List ℕ → List Finding → Format → Type 0
+FoundIn s n reading rest found f =
+    let b = place_of 0 (sandbox (record s { format = f })) n in
+    findings_from b (is_empty rest) b.address [] reading ++ rest_finding b (b.address + (length (bundle_bytes (sandbox s) n) - length rest)) rest ≡ found
+
+pub read_in_both : (s : Sample) (n : ℕ) (reading : List Piece) (rest : List ℕ) (found : List Finding) → has_words s.format ≡ false → (place_of 0 (sandbox s) n).listed ≡ false
+    → IsReading (bundle_bytes (sandbox s) n) reading → rest_of (bundle_bytes (sandbox s) n) reading ≡ rest → BeginsNothing rest → InBoth (FoundIn s n reading rest found) → AreBundleFindings (place_of 0 (sandbox s) n) (bundle_bytes (sandbox s) n) found
+read_in_both s n reading rest found bundles unlisted is left end each =
+    read_bundle (place_of 0 (sandbox s) n) (bundle_bytes (sandbox s) n) reading rest found unlisted is left end (of_both (FoundIn s n reading rest found) each s.format bundles)
+
+-- of the rules this alone is broken in it, after the instructions earlier, in that format
+abbrev pub BrokenIn : Sample → ℕ → List Piece → Rule → ℕ → List Instr → Instr → List Piece → Format → Type 0
+BrokenIn s n reading rule address earlier i later f =
+    filter (λ r. breaks (record {
+      bundle = place_of 0 (sandbox (record s { format = f })) n;
+      address = address;
+      earlier = earlier;
+      instr = i;
+      later = later;
+      whole = is_empty (rest_of (bundle_bytes (sandbox s) n) reading);
+    }) r) all_rules ≡ rule ∷ []
 
 -- ---- bundles of four words
 
@@ -150,3 +177,16 @@ module _ (format : Format) (a b c d e f g h : Instr) where
       (four_words (place_of 0 (sandbox is) 0) (bundle_bytes (sandbox is) 0) a b c d x refl refl sa sb sc sd first)
       (four_words (place_of 0 (sandbox is) 1) (bundle_bytes (sandbox is) 1) e f g h y refl refl se sf sg sh second)
       (quiet format [] (spelling a) (spelling b) (spelling c) (spelling d) (spelling e) (spelling f) (spelling g) (spelling h) last last last last none_listed 14 refl refl refl refl))
+
+  -- the first bundle's, or the second's, in that format
+  abbrev First : List Finding → Format → Type 0
+  First x u = findings_from (place_of 0 (sandbox (record is { format = u })) 0) true 0x01000000 [] (four a b c d) ≡ x
+
+  abbrev Second : List Finding → Format → Type 0
+  Second y u = findings_from (place_of 0 (sandbox (record is { format = u })) 1) true 0x01000010 [] (four e f g h) ≡ y
+
+  -- in either format whose code is in bundles
+  pub found_in_both : has_words format ≡ false → (x y : List Finding) → IsSpelled a → IsSpelled b → IsSpelled c → IsSpelled d → IsSpelled e → IsSpelled f → IsSpelled g → IsSpelled h
+      → InBoth (First x) → InBoth (Second y) → AreFindingsInBundles 0 (sandbox is) (x ++ y)
+  found_in_both bundles x y sa sb sc sd se sf sg sh first second =
+      code_findings x y sa sb sc sd se sf sg sh (of_both (First x) first format bundles) (of_both (Second y) second format bundles)

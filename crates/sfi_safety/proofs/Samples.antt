@@ -1,5 +1,5 @@
 -- The samples: their layout, their image, where they are entered, and their steps.
-use Rattle.sfi_safety.proofs.Prelude.{◌≡◌, ℕ, zero, suc, ◌+◌, ◌-◌, ◌*◌, ◌%◌, ◌^◌, ◌<◌, ◌≤◌, ◌⊎◌, List, [], ◌∷◌, ◌++◌, length, replicate, take, drop, Option, Some, inl, inr, refl, sym, ap, subst, ◌∙◌, arith, get_or, get_or-drop, get_or-take, slice_index, true, false, nat_lt, All, list_all, and_parts, ltb-true, Instr, Ebreak, Spells, Format, Sfi1, Sfi2, Sfiw, has_words, code_most, Bytes, byte_at, bytes_at, addresses, address_after, Accesses, Hart, IsHart, State, Stepped, Stands, IsStep, effect, next, unchanged, Call, AreGates, Part, AreGateWords, AreApart, code_region, guarded_region, IsBundleStart, IsRightPart, IsRightLayout, AreOf, Finding, AreFindings, InData, InGuard, IsGate, HasReserved, HasCode, IsUnitStart, IsTyped, Turn, Steps, IsEntry, IsRun, IsTurn, after_turn, after_step, IsSafeRun, HasOneFinding, HasUnsafeRun, IsNeeded, BreaksNoOther}
+use Rattle.sfi_safety.proofs.Prelude.{◌≡◌, ℕ, zero, suc, ◌+◌, ◌-◌, ◌*◌, ◌%◌, ◌^◌, ◌<◌, ◌≤◌, ◌⊎◌, List, [], ◌∷◌, ◌++◌, length, replicate, take, drop, Option, Some, inl, inr, refl, sym, ap, subst, ◌∙◌, arith, get_or, get_or-drop, get_or-take, slice_index, true, false, nat_lt, All, list_all, and_parts, ltb-true, Instr, Ebreak, Spells, Format, Sfi1, Sfi2, Sfiw, has_words, code_most, Bytes, byte_at, bytes_at, addresses, address_after, Accesses, Hart, IsHart, State, Stepped, Stands, IsStep, effect, next, unchanged, Call, AreGates, Part, AreGateWords, AreApart, code_region, guarded_region, IsBundleStart, IsRightPart, IsRightLayout, AreOf, Finding, AreFindings, AreFindingsInBundles, InData, InGuard, IsGate, HasReserved, HasCode, IsUnitStart, IsTyped, Turn, Steps, IsEntry, IsRun, IsTurn, after_turn, after_step, IsSafeRun, HasOneFinding, HasUnsafeRun, IsNeeded, BreaksNoOther, BreaksAloneInBundle, Bool, false≢true}
 use Rattle.rv_comp.specs.declared.front.Front.TheVariants.{Read}
 use Rattle.sfi_safety.specs.Samples.{Sample, sandbox, bytes_of, words_of}
 use Rattle.sfi_image.specs.declared.span.Span.{Span}
@@ -11,6 +11,9 @@ use Rattle.sfi_policy.specs.Formats.{unit}
 use Rattle.sfi_runs.proofs.Facts.{can_be_entered}
 use Rattle.sfi_runs.proofs.Formats.{bundles as bundle_unit, of_bundle, of_stack}
 use Rattle.sfi_runs.proofs.Stepping.{read_all}
+use Rattle.sfi_rules.proofs.InBundles.{of_bundles}
+use Rattle.sfi_safety.specs.Needed.{BreaksAlone, BreaksAloneInWord}
+use Rattle.std.specs.Prelude.{MatchBool}
 
 -- ---- the samples' layout
 
@@ -240,6 +243,21 @@ needed_from s is rule address h e alone no_other runs = record {
 }
 
 -- from the bundle of that number
-pub needed : (s : Sample) (is : IsSample s) (rule : Rule) (address n : ℕ) → has_words s.format ≡ false → n < 16 → AreFindings 0 (sandbox s) (record { sandbox = 0; address = address; rule = rule } ∷ []) → BreaksNoOther rule address (sandbox s)
+pub needed : (s : Sample) (is : IsSample s) (rule : Rule) (address n : ℕ) → has_words s.format ≡ false → n < 16 → AreFindingsInBundles 0 (sandbox s) (record { sandbox = 0; address = address; rule = rule } ∷ []) → BreaksNoOther rule address (sandbox s)
     → ((m : Bytes) → IsEntry (sandbox s) (first (0x01000000 + 16 * n) m) → HasUnsafeRun (sandbox s) (first (0x01000000 + 16 * n) m)) → IsNeeded rule address (sandbox s)
-needed s is rule address n bundles few alone no_other runs = needed_from s is rule address (hart (0x01000000 + 16 * n) 0x01800000 0) (enters s is bundles n few) alone no_other runs
+needed s is rule address n bundles few alone no_other runs =
+    needed_from s is rule address (hart (0x01000000 + 16 * n) 0x01800000 0) (enters s is bundles n few) (of_bundles 0 (sandbox s) (record { sandbox = 0; address = address; rule = rule } ∷ []) bundles alone) no_other runs
+
+-- ---- in either format whose code is in bundles
+
+abbrev pub InBoth : (Format → Type 0) → Type 0
+InBoth P = P Sfi1 × P Sfi2
+
+pub of_both : (P : Format → Type 0) → InBoth P → (f : Format) → has_words f ≡ false → P f
+of_both P both Sfi1 bundles = both.0
+of_both P both Sfi2 bundles = both.1
+of_both P both Sfiw bundles = absurd (false≢true (sym bundles))
+
+-- at an instruction of a bundle
+pub breaks_alone : (rule : Rule) (address : ℕ) (p : Part) → has_words p.format ≡ false → BreaksAloneInBundle rule address p → BreaksAlone rule address p
+breaks_alone rule address p bundles alone = subst (λ (b : Bool). MatchBool b (BreaksAloneInWord rule address p) (BreaksAloneInBundle rule address p)) (sym bundles) alone

@@ -1,11 +1,10 @@
 -- Where the samples in words are entered.
-use Rattle.sfi_safety.proofs.Prelude.{inl, inr, ◌≡◌, ℕ, ◌+◌, ◌-◌, ◌*◌, ◌%◌, ◌^◌, ◌<◌, [], ◌∷◌, ◌++◌, length, replicate, true, slice_index, refl, sym, ap, ◌∙◌, subst, arith, has_words, Bytes, Hart, IsHart, IsEntry, HasReserved, IsUnitStart, IsTyped, AreFindings, IsNeeded, BreaksNoOther, HasUnsafeRun}
+use Rattle.sfi_safety.proofs.Prelude.{◌≡◌, ℕ, ◌+◌, ◌-◌, ◌*◌, ◌%◌, ◌^◌, ◌<◌, [], ◌∷◌, ◌++◌, length, replicate, true, refl, sym, ap, ◌∙◌, arith, has_words, Bytes, Hart, IsHart, IsEntry, HasReserved, IsUnitStart, IsTyped, AreFindings, IsNeeded, BreaksNoOther, HasUnsafeRun}
 use Rattle.sfi_policy.specs.Formats.{unit}
-use Rattle.sfi_policy.specs.Registers.{is_data_register}
 use Rattle.sfi_rules.specs.declared.rule.Rule.{Rule}
-use Rattle.sfi_runs.specs.Typed.{IsNear}
+use Rattle.sfi_runs.specs.Typed.{IsNear, IsWordStart}
 use Rattle.sfi_runs.proofs.Formats.{words as word_unit, of_word, of_words_typed}
-use Rattle.sfi_runs.proofs.Entries.{data_register}
+use Rattle.sfi_runs.proofs.Entries.{each_near}
 use Rattle.sfi_safety.specs.Samples.{Sample, sandbox}
 use Rattle.sfi_safety.proofs.Samples.{IsSample, size, each_below, enters_with, needed_from}
 
@@ -30,21 +29,6 @@ is_hart pc even fits = record {
 }
 
 module _ (s : Sample) (is : IsSample s) (has : has_words s.format ≡ true) where
-  data_near : (pc d : ℕ) → is_data_register d ≡ true → IsNear (sandbox s) 1020 (slice_index (at_word pc).registers d)
-  data_near pc d is_data = elim (data_register d is_data) [
-    | inl e ↦ at d 2 e refl
-    | inr others ↦ elim others [
-      | inl e ↦ at d 3 e refl
-      | inr rest ↦ elim rest [
-        | inl e ↦ at d 4 e refl
-        | inr e ↦ at d 29 e refl
-      ]
-    ]
-  ]
-    where
-      at : (d r : ℕ) → d ≡ r → slice_index (at_word pc).registers r ≡ 0x01800000 → IsNear (sandbox s) 1020 (slice_index (at_word pc).registers d)
-      at d r e is = subst (λ (x : ℕ). IsNear (sandbox s) 1020 (slice_index (at_word pc).registers x)) (sym e) (subst (IsNear (sandbox s) 1020) (sym is) (record { low = omega arith; high = omega arith }))
-
   -- a run may begin at the word of that number
   pub enters_word : (n : ℕ) → n < 64 → (m : Bytes) × IsEntry (sandbox s) (record { hart = at_word (0x01000000 + 4 * n); memory = m })
   enters_word n few =
@@ -53,7 +37,9 @@ module _ (s : Sample) (is : IsSample s) (has : has_words s.format ≡ true) wher
       let mask : length (sandbox s).code - unit s.format ≡ 252 = ap (λ (u : ℕ). length (sandbox s).code - u) (word_unit s.format has) ∙ ap (λ (n : ℕ). n - 4) size in
       let start : IsUnitStart (sandbox s) at = of_word (sandbox s) at has (record { held = (omega arith, omega (arith, size, few)); aligned = omega arith }) in
       let reserved : HasReserved (sandbox s) (at_word at).registers = record { code_base = refl; code_mask = sym mask; data_base = refl; data_mask = refl } in
-      let typed : IsTyped (sandbox s) (at_word at).registers = of_words_typed (sandbox s) (at_word at).registers has (record { each_data = data_near at; code = record { held = (omega arith, omega (arith, size)); aligned = refl }; offset = omega arith }) in
+      let base : IsNear (sandbox s) 1020 0x01800000 = record { low = omega arith; high = omega arith } in
+      let code : IsWordStart (sandbox s) 0x010000fc = record { held = (omega arith, omega (arith, size)); aligned = refl } in
+      let typed : IsTyped (sandbox s) (at_word at).registers = of_words_typed (sandbox s) (at_word at).registers has (record { each_data = each_near (sandbox s) (at_word at).registers base base base base; code = code; offset = omega arith }) in
       enters_with s is (at_word at) (is_hart at (omega arith) (omega (arith, few))) start reserved typed
 
   -- with that one finding, and a run from the word of that number that is not safe

@@ -8,12 +8,13 @@ use Rattle.sfi_policy.specs.Limits.{bundle_size, word_size}
 use Rattle.sfi_image.specs.Images.{IsImage}
 use Rattle.sfi_image.specs.Spelling.{Part, spelling}
 use Rattle.sfi_rules.specs.declared.rule.Rule.{Rule}
-use Rattle.sfi_rules.specs.declared.rule.Rule.TheVariants.{V1, V2, V9}
+use Rattle.sfi_rules.specs.declared.rule.Rule.TheVariants.{V1, V2, V9, V10}
 use Rattle.sfi_rules.specs.Bundles.{place_of, bundle_bytes}
 use Rattle.sfi_rules.specs.Readings.{Piece, IsLongestReading, rest_of}
 use Rattle.sfi_rules.specs.Rules.{breaks, is_empty}
 use Rattle.sfi_rules.specs.declared.finding.Finding.{Finding}
-use Rattle.sfi_policy.specs.Formats.{has_words}
+use Rattle.sfi_policy.specs.declared.format.Format.{Format}
+use Rattle.sfi_policy.specs.Formats.{has_stack, has_words}
 use Rattle.sfi_rules.specs.Findings.{AreImageFindings, all_rules}
 use Rattle.sfi_rules.specs.Numbers.{number_of}
 use Rattle.sfi_rules.specs.declared.owed.Owed.{Owed}
@@ -51,7 +52,7 @@ pub record BreaksAloneInBundle (rule : Rule) (address : ℕ) (p : Part) : Type 0
         whole = is_empty (rest_of (bundle_bytes p number) (reverse earlier ++ here ∷ later));
       }) r) all_rules ≡ rule ∷ []
 
--- in code in words this is owed before the word of that number of the bundle of that number
+-- this is owed before that word of that bundle of code in words, both counted from 0
 pub record IsOwedBefore (p : Part) (number word : ℕ) (owed : Owed) : Type 0 where
   pub front : List Finding  -- the findings of the bundles before it
   pub between : Owed  -- what is owed after these
@@ -67,7 +68,7 @@ pub record BreaksAloneInWord (rule : Rule) (address : ℕ) (p : Part) : Type 0 w
   pub word : ℕ  -- the word's, in its bundle
   pub owed : Owed  -- before the word
   pub is_owed : IsOwedBefore p number word owed
-  pub earlier : List Piece  -- the pieces before it in its word
+  pub earlier : List Piece  -- the pieces before it in its word, in order
   pub here : Piece
   pub later : List Piece
   pub longest : IsLongestReading (take word_size (drop (word_size * word) (bundle_bytes p number)))
@@ -89,7 +90,7 @@ BreaksAlone rule address p = MatchBool (has_words p.format) (BreaksAloneInWord r
     (BreaksAloneInBundle rule address p)
 
 -- No other rule is broken where that rule's finding is. V1 and V2 are found where no instruction
--- stands, so there is none. V9 stands in place of all findings of its bundle,
+-- is read, so there is none. V9 stands in place of all findings of its bundle,
 -- and of these nothing is said.
 abbrev pub BreaksNoOther : Rule → ℕ → Part → Type 0
 BreaksNoOther V1 address p = Unit {0}
@@ -113,11 +114,13 @@ pub record IsNeeded (rule : Rule) (address : ℕ) (p : Part) : Type 0 where
   pub is_entry : IsEntry p entry
   pub runs_unsafely : HasUnsafeRun p entry
 
--- each of the ten rules of code in bundles is (of V9 this says that its finding may not be passed
--- over, not that no other rule would refuse the image)
+-- In each format whose code is in bundles each of the ten rules is, V10 where it has a stack
+-- pointer. (Of V9 this says that its finding may not be passed over, not that no other rule would
+-- refuse the image.)
 abbrev pub EachRuleIsNeeded : Type 0
-EachRuleIsNeeded = (rule : Rule) → number_of rule ≤ 10
-    → (address : ℕ) × (p : Part) × (has_words p.format ≡ false) × IsNeeded rule address p
+EachRuleIsNeeded = (f : Format) → has_words f ≡ false
+    → (rule : Rule) → number_of rule ≤ 10 → (rule ≡ V10 → has_stack f ≡ true)
+    → (address : ℕ) × (p : Part) × (p.format ≡ f) × IsNeeded rule address p
 
 -- and so is each of code in words: all but V9, which is none of these
 abbrev pub EachRuleOfWordsIsNeeded : Type 0

@@ -62,12 +62,12 @@ code is = code_as Sfi1 is
 abbrev pub nop : Instr
 nop = OpImm Addi 0 0 (pos 0)
 
--- ---- V1 to V10
+-- ---- V1 to V9, in any format whose code is in bundles, and V10
 
 -- V1: a word that spells no instruction
-abbrev pub undecodable : Sample
-undecodable = record {
-  format = Sfi1;
+abbrev pub undecodable : Format → Sample
+undecodable f = record {
+  format = f;
   gates = [];
   first_words = 0xffffffff ∷ words_of (replicate 7 Ebreak);
   last_words = ebreaks;
@@ -75,9 +75,9 @@ undecodable = record {
 
 -- V2: `sw x1, 0(x6)`, of which two bytes (23 20) end a bundle after a c.nop (01 00), and two (13
 -- 00) begin the next one, which is read as a nop
-abbrev pub crossing_store : Sample
-crossing_store = record {
-  format = Sfi1;
+abbrev pub crossing_store : Format → Sample
+crossing_store f = record {
+  format = f;
   gates = [];
   first_words = words_of (replicate 3 nop)
       ++ (0x20230001 ∷ 0x00000013 ∷ words_of (replicate 3 Ebreak));
@@ -85,58 +85,59 @@ crossing_store = record {
 }
 
 -- V3: an ecall where no gate is listed
-abbrev pub ecall_at_no_gate : Sample
-ecall_at_no_gate = code (Ecall ∷ Ebreak ∷ Ebreak ∷ Ebreak ∷ Ebreak ∷ Ebreak ∷ Ebreak ∷ Ebreak ∷ [])
+abbrev pub ecall_at_no_gate : Format → Sample
+ecall_at_no_gate f =
+    code_as f (Ecall ∷ Ebreak ∷ Ebreak ∷ Ebreak ∷ Ebreak ∷ Ebreak ∷ Ebreak ∷ Ebreak ∷ [])
 
 -- V4: a jal that writes x26, and a store after a pair
-abbrev pub written_rd_forgotten : Sample
-written_rd_forgotten = code (
+abbrev pub written_rd_forgotten : Format → Sample
+written_rd_forgotten f = code_as f (
     Jal data_base_register (pos 16) ∷ Ebreak ∷ Ebreak ∷ Ebreak
     ∷ (data_pair scratch 10 ++ (Store Sw scratch 11 (pos 0) ∷ Ebreak ∷ []))
     )
 
 -- V5: a pair and a store on x0, which stays 0
-abbrev pub pair_on_x0 : Sample
-pair_on_x0 = code (
+abbrev pub pair_on_x0 : Format → Sample
+pair_on_x0 f = code_as f (
     data_pair 0 10 ++ (Store Sw 0 11 (pos 0) ∷ Ebreak ∷ Ebreak ∷ Ebreak ∷ Ebreak ∷ Ebreak ∷ [])
     )
 
 -- V5: a pair at the end of a bundle, and the store at the start of the next,
 -- where a run may be entered
-abbrev pub pair_across_bundles : Sample
-pair_across_bundles = code (
+abbrev pub pair_across_bundles : Format → Sample
+pair_across_bundles f = code_as f (
     Ebreak ∷ Ebreak ∷ (data_pair scratch 10
     ++ (Store Sw scratch 11 (pos 0) ∷ Ebreak ∷ Ebreak ∷ Ebreak ∷ []))
     )
 
 -- V6: a jalr after its pair, to 16 bytes past a bundle start,
 -- and after the region's last bundle there is no code
-abbrev pub jalr_offset_ignored : Sample
-jalr_offset_ignored = code (
+abbrev pub jalr_offset_ignored : Format → Sample
+jalr_offset_ignored f = code_as f (
     code_pair scratch 10 ++ (Jalr 0 scratch (pos 16) ∷ Ebreak
     ∷ Ebreak ∷ Ebreak ∷ Ebreak ∷ Ebreak ∷ [])
     )
 
 -- V7: a jump back onto the store after a pair
-abbrev pub jump_to_any_start : Sample
-jump_to_any_start = code (
+abbrev pub jump_to_any_start : Format → Sample
+jump_to_any_start f = code_as f (
     data_pair scratch 10 ++ (Store Sw scratch 11 (pos 0) ∷ Ebreak
     ∷ Jal 0 (minus 8) ∷ Ebreak ∷ Ebreak ∷ Ebreak ∷ [])
     )
 
 -- V8: nops up to the region's end
-abbrev pub running_off_the_end : Sample
-running_off_the_end = record {
-  format = Sfi1;
+abbrev pub running_off_the_end : Format → Sample
+running_off_the_end f = record {
+  format = f;
   gates = [];
   first_words = words_of (replicate 8 Ebreak);
   last_words = words_of (replicate 4 nop);
 }
 
 -- V9: a listed gate whose jalr goes back to 16 bytes past a bundle start
-abbrev pub gate_comes_back_elsewhere : Sample
-gate_comes_back_elsewhere = record {
-  format = Sfi1;
+abbrev pub gate_comes_back_elsewhere : Format → Sample
+gate_comes_back_elsewhere f = record {
+  format = f;
   gates = record { address = 0x01000000; service = 0 } ∷ [];
   first_words = words_of (
       Ecall ∷ (code_pair scratch return_register ++ (Jalr 0 scratch (pos 16)

@@ -1,6 +1,9 @@
 //! That each rule but V9 is needed, and that no finding may be passed over: there is code whose one
 //! finding is of that rule and which does what is not safe; and that the rules leave code that does
 //! something. A call costs nothing.
+ghost use Rattle.std.specs.Prelude.{◌≡◌, false};
+ghost use Rattle.sfi_policy.specs.declared.format.Format.{Format};
+ghost use Rattle.sfi_policy.specs.Formats.{has_words};
 ghost use Rattle.sfi_rules.specs.declared.rule.Rule.TheVariants.{V1, V2, V3, V4, V5, V6, V7, V8, V9, V10, V11, V12};
 ghost use Rattle.sfi_safety.specs.Needed.{IsNeeded, EachRuleIsNeeded, EachRuleOfWordsIsNeeded, IsStricter, IsAcceptedAndRuns};
 ghost use Rattle.sfi_safety.specs.Samples.{sandbox, undecodable, crossing_store, ecall_at_no_gate, written_rd_forgotten, pair_on_x0, pair_across_bundles, jalr_offset_ignored, jump_to_any_start, running_off_the_end, gate_comes_back_elsewhere, stack_not_put_back, undecodable_after_ebreak, crossing_after_ebreak, ecall_after_ebreak, nops_after_ebreak, sandboxed_store};
@@ -8,56 +11,65 @@ ghost use Rattle.sfi_safety.specs.WordSamples.{undecodable_word, crossing_words,
 
 /// V1 is needed: where the bytes do not decode, a run stands at no instruction.
 pub fn undecodable_is_unsafe()
-    ensures { IsNeeded V1 0x01000000 (sandbox undecodable) }
+    ensures { (f : Format) → has_words f ≡ false
+        → IsNeeded V1 0x01000000 (sandbox (undecodable f)) }
 {}
 
 /// V2 is needed: a store that begins in one bundle and ends in the next reaches address 0, and no
 /// reading of a bundle has it.
 pub fn crossing_store_is_unsafe()
-    ensures { IsNeeded V2 0x0100000e (sandbox crossing_store) }
+    ensures { (f : Format) → has_words f ≡ false
+        → IsNeeded V2 0x0100000e (sandbox (crossing_store f)) }
 {}
 
 /// V3 is needed: an ecall calls the host where no gate is listed.
 pub fn ecall_at_no_gate_is_unsafe()
-    ensures { IsNeeded V3 0x01000000 (sandbox ecall_at_no_gate) }
+    ensures { (f : Format) → has_words f ≡ false
+        → IsNeeded V3 0x01000000 (sandbox (ecall_at_no_gate f)) }
 {}
 
 /// V4 is needed: after a jal that writes x26 a store reaches the code.
 pub fn written_rd_forgotten_is_unsafe()
-    ensures { IsNeeded V4 0x01000000 (sandbox written_rd_forgotten) }
+    ensures { (f : Format) → has_words f ≡ false
+        → IsNeeded V4 0x01000000 (sandbox (written_rd_forgotten f)) }
 {}
 
 /// V5 is needed: a store after a pair on x0 reaches address 0.
 pub fn pair_on_x0_is_unsafe()
-    ensures { IsNeeded V5 0x01000008 (sandbox pair_on_x0) }
+    ensures { (f : Format) → has_words f ≡ false → IsNeeded V5 0x01000008 (sandbox (pair_on_x0 f)) }
 {}
 
 /// V5 is needed: a store at the start of a bundle reaches what a run is entered with, whatever
 /// stands in the bundle before.
 pub fn pair_across_bundles_is_unsafe()
-    ensures { IsNeeded V5 0x01000010 (sandbox pair_across_bundles) }
+    ensures { (f : Format) → has_words f ≡ false
+        → IsNeeded V5 0x01000010 (sandbox (pair_across_bundles f)) }
 {}
 
 /// V6 is needed: a jalr with an offset leaves the code region past its last bundle.
 pub fn jalr_offset_ignored_is_unsafe()
-    ensures { IsNeeded V6 0x01000008 (sandbox jalr_offset_ignored) }
+    ensures { (f : Format) → has_words f ≡ false
+        → IsNeeded V6 0x01000008 (sandbox (jalr_offset_ignored f)) }
 {}
 
 /// V7 is needed: a jump onto a store skips the pair before it.
 pub fn jump_to_any_start_is_unsafe()
-    ensures { IsNeeded V7 0x01000010 (sandbox jump_to_any_start) }
+    ensures { (f : Format) → has_words f ≡ false
+        → IsNeeded V7 0x01000010 (sandbox (jump_to_any_start f)) }
 {}
 
 /// V8 is needed: nops up to the region's end lead out of it.
 pub fn running_off_the_end_is_unsafe()
-    ensures { IsNeeded V8 0x010000fc (sandbox running_off_the_end) }
+    ensures { (f : Format) → has_words f ≡ false
+        → IsNeeded V8 0x010000fc (sandbox (running_off_the_end f)) }
 {}
 
 /// A finding of V9 may not be passed over: a listed gate whose jalr has an offset leaves the code
 /// region after the host's reply. (V9 stands in place of the other findings of a gate's bundle.
 /// Here V6 would be one.)
 pub fn gate_comes_back_elsewhere_is_unsafe()
-    ensures { IsNeeded V9 0x01000000 (sandbox gate_comes_back_elsewhere) }
+    ensures { (f : Format) → has_words f ≡ false
+        → IsNeeded V9 0x01000000 (sandbox (gate_comes_back_elsewhere f)) }
 {}
 
 /// V10 is needed: a store on a stack pointer that was made 0 reaches address 0.
@@ -65,18 +77,18 @@ pub fn stack_not_put_back_is_unsafe()
     ensures { IsNeeded V10 0x01000000 (sandbox stack_not_put_back) }
 {}
 
-/// So it is of each rule of code in bundles.
+/// So it is of each rule of code in bundles, in each format that has it.
 pub fn each_rule_is_needed()
     ensures { EachRuleIsNeeded }
 {}
 
 /// The rules of code in words are needed, too. V1: a run stands at no instruction. V2: a store that
 /// begins in one word and ends in the next reaches address 0. V3: an ecall calls the host where no
-/// gate is listed. V4: a store on an x26 that was made 0 reaches address 0. V5: so does one on x28.
-/// V6: a jalr with an offset leaves the code past its last word. V7: so does a jump. V8: so does a
-/// nop as the last word. V10: a store on an x2 that was made 0 reaches address 0. V11: a jump on an
-/// x30 that was made 0 leaves the code. V12: a store on an x2 that was placed with an x31 of ones
-/// goes on at address 0.
+/// gate is listed. V4: a store on an x26 that was made 0 reaches address 0. V5: so does one on an x28
+/// that is 0 at the entry. V6: a jalr with an offset leaves the code past its last word. V7: so does
+/// a jump. V8: so does a nop as the last word. V10: a store on an x2 that was made 0 reaches address
+/// 0. V11: a jump on an x30 that was made 0 leaves the code. V12: a store on an x2 that was placed
+/// with an x31 of ones goes on at address 0.
 pub fn rules_of_words_are_needed()
     ensures undecodable { IsNeeded V1 0x01000000 (sandbox undecodable_word) }
     ensures crossing { IsNeeded V2 0x01000002 (sandbox crossing_words) }

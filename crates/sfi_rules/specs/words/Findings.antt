@@ -57,7 +57,7 @@ abbrev pub fails_code : Owed → Instr → Bool
 fails_code o i = (is_of_code o && not (is_some (left o i)))
     || (writes_register code_register i && not (is_some (owed_by i)))
 
--- the rule is broken at the place (V1 and V2 where no instruction stands, so never at a place; V9
+-- the rule is broken at the place (V1 and V2 where no instruction is read, so never at a place; V9
 -- is none of code in words)
 abbrev pub breaks : Place → Rule → Bool
 breaks x V1 = false
