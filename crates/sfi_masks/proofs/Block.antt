@@ -4,35 +4,35 @@ use Rattle.std.specs.Prelude.{slice_index}
 use Rattle.std.proofs.lemmas.Bool.{cases_eq}
 use Rattle.std.proofs.lemmas.List.{get_or-take, get_or-drop}
 use Rattle.sfi_masks.specs.declared.masks.Masks.{Masks}
-use Rattle.sfi_masks.specs.Masks.{half_at, is_in, AreMasks, IsFreeHalf, IsFreeWord, IsFreeAccess}
-use Rattle.sfi_masks.specs.private.Seen.{AreSeen, of_four, free_classes, access_classes}
+use Rattle.sfi_masks.specs.Masks.{half_at, is_in, AreMasksBy, IsFreeHalfBy, IsFreeWordBy, IsFreeAccessBy}
+use Rattle.sfi_masks.specs.private.Seen.{Code, may_of, is_on_x2, AreSeen, of_four, free_classes, access_classes}
 use Rattle.sfi_masks.proofs.Told.{half_is, word_is, free_half, free_word, free_access}
 
 -- the same of bytes that are the same
-moved : (stack : Bool) (f g : ℕ → ℕ) (m : Masks) → ((k : ℕ) → k < 32 → f k ≡ g k) → AreSeen stack f m → AreSeen stack g m
-moved stack f g m same p = record {
+moved : (code : Code) (f g : ℕ → ℕ) (m : Masks) → ((k : ℕ) → k < 32 → f k ≡ g k) → AreSeen code f m → AreSeen code g m
+moved code f g m same p = record {
   long_small = p.long_small;
   free_small = p.free_small;
   access_small = p.access_small;
   long = λ i h. p.long i h ∙ ap (λ b. b % 4 == 3) (same (2 * i) (omega arith));
   free = λ i h.
-      p.free i h ∙ ap₂ (λ a b. not (free_classes stack a b (f (2 * ((i + 1) % 16) + 1)) == 0)) (same (2 * i) (omega arith)) (same (2 * i + 1) (omega arith))
-      ∙ ap (λ n. not (free_classes stack (g (2 * i)) (g (2 * i + 1)) n == 0)) (same (2 * ((i + 1) % 16) + 1) (omega arith));
+      p.free i h ∙ ap₂ (λ a b. not (free_classes code a b (f (2 * ((i + 1) % 16) + 1)) == 0)) (same (2 * i) (omega arith)) (same (2 * i + 1) (omega arith))
+      ∙ ap (λ n. not (free_classes code (g (2 * i)) (g (2 * i + 1)) n == 0)) (same (2 * ((i + 1) % 16) + 1) (omega arith));
   access = λ i h.
-      p.access i h ∙ ap₂ (λ a b. not (access_classes stack a b (f (2 * ((i + 1) % 16) + 1)) == 0)) (same (2 * i) (omega arith)) (same (2 * i + 1) (omega arith))
-      ∙ ap (λ n. not (access_classes stack (g (2 * i)) (g (2 * i + 1)) n == 0)) (same (2 * ((i + 1) % 16) + 1) (omega arith));
+      p.access i h ∙ ap₂ (λ a b. not (access_classes code a b (f (2 * ((i + 1) % 16) + 1)) == 0)) (same (2 * i) (omega arith)) (same (2 * i + 1) (omega arith))
+      ∙ ap (λ n. not (access_classes code (g (2 * i)) (g (2 * i + 1)) n == 0)) (same (2 * ((i + 1) % 16) + 1) (omega arith));
 }
 
 not_false : (b : Bool) → not b ≡ true → b ≡ false
 not_false true e = cc
 not_false false e = refl
 
-module _ (stack : Bool) (block : List ℕ) (first second third fourth : Masks) where
+module _ (code : Code) (block : List ℕ) (first second third fourth : Masks) where
   abbrev byte : ℕ → ℕ
   byte k = slice_index block k
 
   abbrev IsQuarter : ℕ → Masks → Type 0
-  IsQuarter q m = AreSeen stack (λ k. byte (32 * q + k)) m
+  IsQuarter q m = AreSeen code (λ k. byte (32 * q + k)) m
 
   abbrev of_quarters : (Masks → ℕ) → ℕ → ℕ
   of_quarters mask q = of_four (mask first) (mask second) (mask third) (mask fourth) q
@@ -57,16 +57,16 @@ module _ (stack : Bool) (block : List ℕ) (first second third fourth : Masks) w
     ]
   ]
 
-  pub are_quarters : AreSeen stack (λ k. slice_index (take 32 block) k) first
-      → AreSeen stack (λ k. slice_index (take 32 (drop 32 block)) k) second
-      → AreSeen stack (λ k. slice_index (take 32 (drop 64 block)) k) third
-      → AreSeen stack (λ k. slice_index (take 32 (drop 96 block)) k) fourth
+  pub are_quarters : AreSeen code (λ k. slice_index (take 32 block) k) first
+      → AreSeen code (λ k. slice_index (take 32 (drop 32 block)) k) second
+      → AreSeen code (λ k. slice_index (take 32 (drop 64 block)) k) third
+      → AreSeen code (λ k. slice_index (take 32 (drop 96 block)) k) fourth
       → (q : ℕ) → q < 4 → Quarter q
   are_quarters a b c d = quarter
-      (moved stack _ _ first (λ k h. get_or-take 32 block k 0 h ∙ ap (λ n. get_or block n 0) (let e : k ≡ 32 * 0 + k = omega arith in e)) a)
-      (moved stack _ _ second (λ k h. get_or-take 32 (drop 32 block) k 0 h ∙ get_or-drop 32 block k 0) b)
-      (moved stack _ _ third (λ k h. get_or-take 32 (drop 64 block) k 0 h ∙ get_or-drop 64 block k 0) c)
-      (moved stack _ _ fourth (λ k h. get_or-take 32 (drop 96 block) k 0 h ∙ get_or-drop 96 block k 0) d)
+      (moved code _ _ first (λ k h. get_or-take 32 block k 0 h ∙ ap (λ n. get_or block n 0) (let e : k ≡ 32 * 0 + k = omega arith in e)) a)
+      (moved code _ _ second (λ k h. get_or-take 32 (drop 32 block) k 0 h ∙ get_or-drop 32 block k 0) b)
+      (moved code _ _ third (λ k h. get_or-take 32 (drop 64 block) k 0 h ∙ get_or-drop 64 block k 0) c)
+      (moved code _ _ fourth (λ k h. get_or-take 32 (drop 96 block) k 0 h ∙ get_or-drop 96 block k 0) d)
 
   module _ (fits : (k : ℕ) → byte k < 256) (quarter_at : (q : ℕ) → q < 4 → Quarter q) (m : Masks)
       (long_is : (i : ℕ) → i < 64 → is_in m.long i ≡ is_in (of_quarters (λ x. x.long) (i / 16)) (i % 16))
@@ -93,30 +93,30 @@ module _ (stack : Bool) (block : List ℕ) (first second third fourth : Masks) w
         let q = at_quarter i h in
         long_is i h ∙ ap (λ n. is_in n (i % 16)) q.long ∙ q.are.long (i % 16) (omega arith) ∙ ap (λ b. b % 4 == 3) (place i)
 
-    free_at : (i : ℕ) → i < 64 → is_in m.free i ≡ not (free_classes stack (byte (2 * i)) (byte (2 * i + 1)) (next i) == 0)
+    free_at : (i : ℕ) → i < 64 → is_in m.free i ≡ not (free_classes code (byte (2 * i)) (byte (2 * i + 1)) (next i) == 0)
     free_at i h =
         let q = at_quarter i h in
         free_is i h ∙ ap (λ n. is_in n (i % 16)) q.free ∙ q.are.free (i % 16) (omega arith)
-        ∙ ap₂ (λ a b. not (free_classes stack a b (next i) == 0)) (place i) (place_high i)
+        ∙ ap₂ (λ a b. not (free_classes code a b (next i) == 0)) (place i) (place_high i)
 
-    access_at : (i : ℕ) → i < 64 → is_in m.access i ≡ not (access_classes stack (byte (2 * i)) (byte (2 * i + 1)) (next i) == 0)
+    access_at : (i : ℕ) → i < 64 → is_in m.access i ≡ not (access_classes code (byte (2 * i)) (byte (2 * i + 1)) (next i) == 0)
     access_at i h =
         let q = at_quarter i h in
         access_is i h ∙ ap (λ n. is_in n (i % 16)) q.access ∙ q.are.access (i % 16) (omega arith)
-        ∙ ap₂ (λ a b. not (access_classes stack a b (next i) == 0)) (place i) (place_high i)
+        ∙ ap₂ (λ a b. not (access_classes code a b (next i) == 0)) (place i) (place_high i)
 
-    pub are_masks : AreMasks stack block m
+    pub are_masks : AreMasksBy (may_of code) (is_on_x2 code) block m
     are_masks = record {
       long = λ i h.
           let half = half_is block i in
           let low : byte (2 * i) % 4 ≡ half_at block i % 4 = omega arith in
           long_at i h ∙ ap (λ n. n == 3) low;
-      short = λ i h free long. subst (IsFreeHalf stack) (sym (half_is block i))
-          (free_half stack (byte (2 * i)) (byte (2 * i + 1)) (next i) (fits (2 * i)) (fits (2 * i + 1)) (fits _) (sym (long_at i h) ∙ long) (not_false _ (sym (free_at i h) ∙ free)));
-      word = λ i inside h free long. subst (IsFreeWord stack) (sym (word_is block i))
-          (free_word stack (byte (2 * i)) (byte (2 * i + 1)) (byte (2 * i + 2)) (byte (2 * i + 3)) (fits (2 * i)) (fits (2 * i + 1)) (fits (2 * i + 2)) (fits (2 * i + 3)) (sym (long_at i h) ∙ long)
-          (ap (λ n. free_classes stack (byte (2 * i)) (byte (2 * i + 1)) n == 0) (sym (place_next i inside)) ∙ not_false _ (sym (free_at i h) ∙ free)));
-      access = λ i inside h access. subst (IsFreeAccess stack) (sym (word_is block i))
-          (free_access stack (byte (2 * i)) (byte (2 * i + 1)) (byte (2 * i + 2)) (byte (2 * i + 3)) (fits (2 * i)) (fits (2 * i + 1)) (fits (2 * i + 2)) (fits (2 * i + 3))
-          (ap (λ n. access_classes stack (byte (2 * i)) (byte (2 * i + 1)) n == 0) (sym (place_next i inside)) ∙ not_false _ (sym (access_at i h) ∙ access)));
+      short = λ i h free long. subst (IsFreeHalfBy (may_of code) (is_on_x2 code)) (sym (half_is block i))
+          (free_half code (byte (2 * i)) (byte (2 * i + 1)) (next i) (fits (2 * i)) (fits (2 * i + 1)) (fits _) (sym (long_at i h) ∙ long) (not_false _ (sym (free_at i h) ∙ free)));
+      word = λ i inside h free long. subst (IsFreeWordBy (may_of code) (is_on_x2 code)) (sym (word_is block i))
+          (free_word code (byte (2 * i)) (byte (2 * i + 1)) (byte (2 * i + 2)) (byte (2 * i + 3)) (fits (2 * i)) (fits (2 * i + 1)) (fits (2 * i + 2)) (fits (2 * i + 3)) (sym (long_at i h) ∙ long)
+          (ap (λ n. free_classes code (byte (2 * i)) (byte (2 * i + 1)) n == 0) (sym (place_next i inside)) ∙ not_false _ (sym (free_at i h) ∙ free)));
+      access = λ i inside h access. subst (IsFreeAccessBy (may_of code)) (sym (word_is block i))
+          (free_access code (byte (2 * i)) (byte (2 * i + 1)) (byte (2 * i + 2)) (byte (2 * i + 3)) (fits (2 * i)) (fits (2 * i + 1)) (fits (2 * i + 2)) (fits (2 * i + 3))
+          (ap (λ n. access_classes code (byte (2 * i)) (byte (2 * i + 1)) n == 0) (sym (place_next i inside)) ∙ not_false _ (sym (access_at i h) ∙ access)));
     }

@@ -6,9 +6,9 @@ use Rattle.std.proofs.lemmas.Bool.{agree_below, agree_below_at, and_parts}
 use Rattle.rv_word.specs.declared.outline.Outline.{Outline}
 use Rattle.rv_comp.specs.mirror.Decoding.{extended, jump_offset, branch_offset}
 use Rattle.rv_comp.specs.mirror.Outlining.{row_of, jump, jump_or_stop, outlined}
-use Rattle.sfi_masks.specs.Masks.{may_write, is_free}
+use Rattle.sfi_masks.specs.Masks.{is_free_by}
 use Rattle.sfi_masks.specs.declared.tables.TheConstants.{ALONE, FOLLOWED, NEXT, REST, ALL, PLAIN}
-use Rattle.sfi_masks.specs.private.Seen.{byte_classes, half_classes, followed, kept, rest, free_classes, access_classes}
+use Rattle.sfi_masks.specs.private.Seen.{Code, bundles, words, may_of, is_on_x2, byte_classes, half_classes, followed, kept, kept_in_words, kept_of, rest, free_classes, access_classes}
 use Rattle.sfi_masks.proofs.Fields.{computes, accesses, with_each_funct7}
 
 -- ---- the fields of a halfword
@@ -24,24 +24,24 @@ funct3 high = high / 16 % 8
 
 -- ---- what is to be told
 
-abbrev pub is_free_half : Bool → Option Outline → Bool
-is_free_half stack (Some o) = is_free stack o
-is_free_half stack None = false
+abbrev pub is_free_half : Code → Option Outline → Bool
+is_free_half code (Some o) = is_free_by (may_of code) (is_on_x2 code) o
+is_free_half code None = false
 
-abbrev pub is_free_word : Bool → ℕ → ℕ → ℕ → Bool
-is_free_word stack low high funct7 = may_write stack (rd low high) && computes (opcode low) (funct3 high) funct7
+abbrev pub is_free_word : Code → ℕ → ℕ → ℕ → Bool
+is_free_word code low high funct7 = may_of code (rd low high) && computes (opcode low) (funct3 high) funct7
 
 -- what begins with these bytes is free, where funct7 is that of a word
-unfoldable pub begins_free : Bool → ℕ → ℕ → ℕ → Bool
-begins_free stack low high funct7 = elim (low % 4 == 3) [ true ↦ is_free_word stack low high funct7 | false ↦ is_free_half stack (outlined (low + 256 * high)) ]
+unfoldable pub begins_free : Code → ℕ → ℕ → ℕ → Bool
+begins_free code low high funct7 = elim (low % 4 == 3) [ true ↦ is_free_word code low high funct7 | false ↦ is_free_half code (outlined (low + 256 * high)) ]
 
-unfoldable pub begins_access : Bool → ℕ → ℕ → Bool
-begins_access stack low high = accesses (opcode low) (funct3 high) && may_write stack (cond (opcode low == 35) 0 (rd low high))
+unfoldable pub begins_access : Code → ℕ → ℕ → Bool
+begins_access code low high = accesses (opcode low) (funct3 high) && may_of code (cond (opcode low == 35) 0 (rd low high))
 
 -- ---- the classes, by those that the halfword has in each table
 
-abbrev mask : Bool → ℕ
-mask stack = if stack then ALL else PLAIN
+abbrev mask : Code → ℕ
+mask code = if is_on_x2 code then ALL else PLAIN
 
 abbrev free_of : ℕ → ℕ → ℕ → ℕ → ℕ → ℕ → ℕ
 free_of alone others following next m keep = bit_and (bit_or (bit_or alone (bit_and others m)) (bit_and (bit_and following next) 63)) keep
@@ -49,38 +49,43 @@ free_of alone others following next m keep = bit_and (bit_or (bit_or alone (bit_
 abbrev access_of : ℕ → ℕ → ℕ → ℕ
 access_of following next keep = bit_and (bit_and (bit_and following next) 192) keep
 
-abbrev free_told : Bool → ℕ → ℕ → ℕ → ℕ → ℕ → ℕ → ℕ → ℕ → ℕ → Bool
-free_told stack low high alone others following next m keep funct7 =
-    elim (free_of alone others following next m keep == 0) [ true ↦ true | false ↦ begins_free stack low high funct7 ]
+abbrev free_told : Code → ℕ → ℕ → ℕ → ℕ → ℕ → ℕ → ℕ → ℕ → ℕ → Bool
+free_told code low high alone others following next m keep funct7 =
+    elim (free_of alone others following next m keep == 0) [ true ↦ true | false ↦ begins_free code low high funct7 ]
 
-abbrev access_told : Bool → ℕ → ℕ → ℕ → ℕ → ℕ → Bool
-access_told stack low high following next keep = elim (access_of following next keep == 0) [ true ↦ true | false ↦ begins_access stack low high ]
+abbrev access_told : Code → ℕ → ℕ → ℕ → ℕ → ℕ → Bool
+access_told code low high following next keep = elim (access_of following next keep == 0) [ true ↦ true | false ↦ begins_access code low high ]
 
 -- before a halfword whose high byte is `next`
-abbrev told : Bool → ℕ → ℕ → ℕ → ℕ → ℕ → ℕ → ℕ → ℕ → Bool
-told stack low high alone others following m keep next =
-    free_told stack low high alone others following (byte_classes NEXT next) m keep (next / 2) && access_told stack low high following (byte_classes NEXT next) keep
+abbrev told : Code → ℕ → ℕ → ℕ → ℕ → ℕ → ℕ → ℕ → ℕ → Bool
+told code low high alone others following m keep next =
+    free_told code low high alone others following (byte_classes NEXT next) m keep (next / 2) && access_told code low high following (byte_classes NEXT next) keep
 
 -- before each kind of halfword: where it is that of funct7 0, 1, 32 and any other
-abbrev told_before_each : Bool → ℕ → ℕ → ℕ → ℕ → ℕ → ℕ → ℕ → Bool
-told_before_each stack low high alone others following m keep =
-    told stack low high alone others following m keep 0 && (told stack low high alone others following m keep 2
-    && (told stack low high alone others following m keep 64 && told stack low high alone others following m keep 4))
+abbrev told_before_each : Code → ℕ → ℕ → ℕ → ℕ → ℕ → ℕ → ℕ → Bool
+told_before_each code low high alone others following m keep =
+    told code low high alone others following m keep 0 && (told code low high alone others following m keep 2
+    && (told code low high alone others following m keep 64 && told code low high alone others following m keep 4))
 
 abbrev none_of : ℕ → ℕ → ℕ → Bool
 none_of alone others following = (alone == 0) && ((others == 0) && (following == 0))
 
--- before each kind of halfword, where x2 is a stack pointer or not; where nothing is told with the halfword after it, the last
+-- before each kind of halfword, in one code; where nothing is told with the halfword after it, the last
 -- kind is enough
-abbrev told_in : Bool → ℕ → ℕ → ℕ → ℕ → ℕ → Bool
-told_in stack low high alone others following = elim (following == 0) [
-  | true ↦ told stack low high alone others following (mask stack) (kept stack low high) 4
-  | false ↦ told_before_each stack low high alone others following (mask stack) (kept stack low high)
+abbrev told_in : Code → ℕ → ℕ → ℕ → ℕ → ℕ → Bool
+told_in code low high alone others following = elim (following == 0) [
+  | true ↦ told code low high alone others following (mask code) (kept_of code low high) 4
+  | false ↦ told_before_each code low high alone others following (mask code) (kept_of code low high)
 ]
+
+-- in bundles, where x2 is a stack pointer or not, and in words
+abbrev in_each_code : ℕ → ℕ → ℕ → ℕ → ℕ → Bool
+in_each_code low high alone others following =
+    told_in (bundles false) low high alone others following && (told_in (bundles true) low high alone others following && told_in words low high alone others following)
 
 unfoldable cell : ℕ → ℕ → ℕ → ℕ → ℕ → Bool
 cell low high alone others following =
-    elim (none_of alone others following) [ true ↦ true | false ↦ told_in false low high alone others following && told_in true low high alone others following ]
+    elim (none_of alone others following) [ true ↦ true | false ↦ in_each_code low high alone others following ]
 
 unfoldable row : ℕ → ℕ → ℕ → ℕ → Bool
 row high alone others following =
@@ -90,7 +95,7 @@ abbrev row_at : ℕ → Bool
 row_at high = row high (byte_classes ALONE.high high) (byte_classes REST.high high) (byte_classes FOLLOWED.high high)
 
 unfoldable tables : Unit {0}
-unfolding row cell kept computes accesses begins_free begins_access row_of jump jump_or_stop outlined extended jump_offset branch_offset
+unfolding row cell kept kept_in_words computes accesses begins_free begins_access row_of jump jump_or_stop outlined extended jump_offset branch_offset
 tables = tt
 
 all_rows : agree_below (λ high. row_at high) (λ high. true) 256 ≡ true
@@ -115,32 +120,32 @@ kind_of next = kind (next / 2 == 0) (next / 2 == 1) (next / 2 == 32)
 next_is : (next : ℕ) → next < 256 → byte_classes NEXT next ≡ byte_classes NEXT (kind_of next)
 next_is next h = eqb-true _ _ (agree_below_at (λ n. byte_classes NEXT n == byte_classes NEXT (kind_of n)) (λ n. true) 256 next refl h)
 
-begins_with_each : (stack : Bool) (low high funct7 : ℕ) → begins_free stack low high 2 ≡ true → begins_free stack low high funct7 ≡ true
+begins_with_each : (code : Code) (low high funct7 : ℕ) → begins_free code low high 2 ≡ true → begins_free code low high funct7 ≡ true
 unfolding begins_free
-begins_with_each stack low high funct7 h = by (low % 4 == 3) h
+begins_with_each code low high funct7 h = by (low % 4 == 3) h
   where
-    by : (b : Bool) → (elim b [ true ↦ is_free_word stack low high 2 | false ↦ is_free_half stack (outlined (low + 256 * high)) ]) ≡ true
-        → (elim b [ true ↦ is_free_word stack low high funct7 | false ↦ is_free_half stack (outlined (low + 256 * high)) ]) ≡ true
+    by : (b : Bool) → (elim b [ true ↦ is_free_word code low high 2 | false ↦ is_free_half code (outlined (low + 256 * high)) ]) ≡ true
+        → (elim b [ true ↦ is_free_word code low high funct7 | false ↦ is_free_half code (outlined (low + 256 * high)) ]) ≡ true
     by true h =
-        let both = and_parts (may_write stack (rd low high)) (computes (opcode low) (funct3 high) 2) h in
+        let both = and_parts (may_of code (rd low high)) (computes (opcode low) (funct3 high) 2) h in
         ap₂ (λ a b. a && b) both.0 (with_each_funct7 (opcode low) (funct3 high) funct7 both.1)
     by false h = h
 
-begins_by_kind : (stack : Bool) (low high next : ℕ) → begins_free stack low high (kind_of next / 2) ≡ true → begins_free stack low high (next / 2) ≡ true
-begins_by_kind stack low high next h = by (next / 2 == 0) (next / 2 == 1) (next / 2 == 32) refl refl refl h
+begins_by_kind : (code : Code) (low high next : ℕ) → begins_free code low high (kind_of next / 2) ≡ true → begins_free code low high (next / 2) ≡ true
+begins_by_kind code low high next h = by (next / 2 == 0) (next / 2 == 1) (next / 2 == 32) refl refl refl h
   where
-    same : (n : ℕ) → (next / 2 == n) ≡ true → begins_free stack low high n ≡ true → begins_free stack low high (next / 2) ≡ true
-    same n e is = subst (λ k. begins_free stack low high k ≡ true) (sym (eqb-true (next / 2) n e)) is
+    same : (n : ℕ) → (next / 2 == n) ≡ true → begins_free code low high n ≡ true → begins_free code low high (next / 2) ≡ true
+    same n e is = subst (λ k. begins_free code low high k ≡ true) (sym (eqb-true (next / 2) n e)) is
 
-    by : (a b c : Bool) → (next / 2 == 0) ≡ a → (next / 2 == 1) ≡ b → (next / 2 == 32) ≡ c → begins_free stack low high (kind a b c / 2) ≡ true → begins_free stack low high (next / 2) ≡ true
+    by : (a b c : Bool) → (next / 2 == 0) ≡ a → (next / 2 == 1) ≡ b → (next / 2 == 32) ≡ c → begins_free code low high (kind a b c / 2) ≡ true → begins_free code low high (next / 2) ≡ true
     by true b c p q r h = same 0 p h
     by false true c p q r h = same 1 q h
     by false false true p q r h = same 32 r h
-    by false false false p q r h = begins_with_each stack low high (next / 2) h
+    by false false false p q r h = begins_with_each code low high (next / 2) h
 
 -- ---- what is told is so
 
-module _ (stack : Bool) (low high : ℕ) (low_fits : low < 256) (high_fits : high < 256) where
+module _ (code : Code) (low high : ℕ) (low_fits : low < 256) (high_fits : high < 256) where
   abbrev alone : ℕ
   alone = half_classes ALONE low high
 
@@ -151,14 +156,15 @@ module _ (stack : Bool) (low high : ℕ) (low_fits : low < 256) (high_fits : hig
   following = half_classes FOLLOWED low high
 
   abbrev told_here : ℕ → Bool
-  told_here next = told stack low high alone others following (mask stack) (kept stack low high) next
+  told_here next = told code low high alone others following (mask code) (kept_of code low high) next
 
   abbrev each_told : Bool
-  each_told = told_in stack low high alone others following
+  each_told = told_in code low high alone others following
 
-  of_stack : (s : Bool) → told_in false low high alone others following && told_in true low high alone others following ≡ true → told_in s low high alone others following ≡ true
-  of_stack false h = (and_parts _ _ h).0
-  of_stack true h = (and_parts _ _ h).1
+  of_code : (k : Code) → in_each_code low high alone others following ≡ true → told_in k low high alone others following ≡ true
+  of_code (bundles false) h = (and_parts _ _ h).0
+  of_code (bundles true) h = (and_parts _ _ (and_parts _ _ h).1).0
+  of_code words h = (and_parts _ _ (and_parts _ _ h).1).1
 
   zero_free : (next m keep : ℕ) → free_of 0 0 0 next m keep ≡ 0
   zero_free next m keep = rw (and_zero_l m, and_zero_l next, and_zero_l keep) refl
@@ -169,19 +175,19 @@ module _ (stack : Bool) (low high : ℕ) (low_fits : low < 256) (high_fits : hig
   told_by_last : following ≡ 0 → told_here 4 ≡ true → (next : ℕ) → told_here next ≡ true
   told_by_last none h next =
       let both = and_parts _ _ h in
-      let same : free_of alone others following (byte_classes NEXT 4) (mask stack) (kept stack low high) ≡ free_of alone others following (byte_classes NEXT next) (mask stack) (kept stack low high) =
+      let same : free_of alone others following (byte_classes NEXT 4) (mask code) (kept_of code low high) ≡ free_of alone others following (byte_classes NEXT next) (mask code) (kept_of code low high) =
       rw (none, and_zero_l (byte_classes NEXT 4), and_zero_l (byte_classes NEXT next)) refl in
-      let no_access : access_of following (byte_classes NEXT next) (kept stack low high) ≡ 0 = rw none (zero_access (byte_classes NEXT next) (kept stack low high)) in
+      let no_access : access_of following (byte_classes NEXT next) (kept_of code low high) ≡ 0 = rw none (zero_access (byte_classes NEXT next) (kept_of code low high)) in
       ap₂ (λ a b. a && b)
-      (by (free_of alone others following (byte_classes NEXT next) (mask stack) (kept stack low high) == 0)
-      (subst (λ f. (elim (f == 0) [ true ↦ true | false ↦ begins_free stack low high 2 ]) ≡ true) same both.0))
-      (subst (λ a. (elim (a == 0) [ true ↦ true | false ↦ begins_access stack low high ]) ≡ true) (sym no_access) refl)
+      (by (free_of alone others following (byte_classes NEXT next) (mask code) (kept_of code low high) == 0)
+      (subst (λ f. (elim (f == 0) [ true ↦ true | false ↦ begins_free code low high 2 ]) ≡ true) same both.0))
+      (subst (λ a. (elim (a == 0) [ true ↦ true | false ↦ begins_access code low high ]) ≡ true) (sym no_access) refl)
     where
-      by : (b : Bool) → (elim b [ true ↦ true | false ↦ begins_free stack low high 2 ]) ≡ true → (elim b [ true ↦ true | false ↦ begins_free stack low high (next / 2) ]) ≡ true
+      by : (b : Bool) → (elim b [ true ↦ true | false ↦ begins_free code low high 2 ]) ≡ true → (elim b [ true ↦ true | false ↦ begins_free code low high (next / 2) ]) ≡ true
       by true is = refl
-      by false is = begins_with_each stack low high (next / 2) is
+      by false is = begins_with_each code low high (next / 2) is
 
-  told_by_each : told_before_each stack low high alone others following (mask stack) (kept stack low high) ≡ true → (a b c : Bool) → told_here (kind a b c) ≡ true
+  told_by_each : told_before_each code low high alone others following (mask code) (kept_of code low high) ≡ true → (a b c : Bool) → told_here (kind a b c) ≡ true
   told_by_each h =
       let first = and_parts (told_here 0) (told_here 2 && (told_here 64 && told_here 4)) h in
       let second = and_parts (told_here 2) (told_here 64 && told_here 4) first.1 in
@@ -197,19 +203,19 @@ module _ (stack : Bool) (low high : ℕ) (low_fits : low < 256) (high_fits : hig
   told_by_kind : each_told ≡ true → (a b c : Bool) → told_here (kind a b c) ≡ true
   told_by_kind h a b c = by (following == 0) refl h
     where
-      by : (is : Bool) → (following == 0) ≡ is → (elim is [ true ↦ told_here 4 | false ↦ told_before_each stack low high alone others following (mask stack) (kept stack low high) ]) ≡ true → told_here (kind a b c) ≡ true
+      by : (is : Bool) → (following == 0) ≡ is → (elim is [ true ↦ told_here 4 | false ↦ told_before_each code low high alone others following (mask code) (kept_of code low high) ]) ≡ true → told_here (kind a b c) ≡ true
       by true is last = told_by_last (eqb-true following 0 is) last (kind a b c)
       by false is each = told_by_each each a b c
 
   -- in no class, or told before each kind of halfword
   none_or_told : (b : Bool) → none_of alone others following ≡ b
-      → (elim b [ true ↦ true | false ↦ told_in false low high alone others following && told_in true low high alone others following ]) ≡ true
+      → (elim b [ true ↦ true | false ↦ in_each_code low high alone others following ]) ≡ true
       → ((alone ≡ 0) × (others ≡ 0) × (following ≡ 0)) ⊎ (each_told ≡ true)
   none_or_told true is h =
       let first = and_parts (alone == 0) ((others == 0) && (following == 0)) is in
       let second = and_parts (others == 0) (following == 0) first.1 in
       inl (eqb-true alone 0 first.0, eqb-true others 0 second.0, eqb-true following 0 second.1)
-  none_or_told false is h = inr (of_stack stack h)
+  none_or_told false is h = inr (of_code code h)
 
   cases : ((alone ≡ 0) × (others ≡ 0) × (following ≡ 0)) ⊎ (each_told ≡ true)
   unfolding cell
@@ -220,25 +226,25 @@ module _ (stack : Bool) (low high : ℕ) (low_fits : low < 256) (high_fits : hig
   after false c e h = h
 
   told_next : (next : ℕ) → next < 256 → each_told ≡ true
-      → (free_told stack low high alone others following (byte_classes NEXT next) (mask stack) (kept stack low high) (kind_of next / 2) ≡ true)
-      × (access_told stack low high following (byte_classes NEXT next) (kept stack low high) ≡ true)
+      → (free_told code low high alone others following (byte_classes NEXT next) (mask code) (kept_of code low high) (kind_of next / 2) ≡ true)
+      × (access_told code low high following (byte_classes NEXT next) (kept_of code low high) ≡ true)
   told_next next h each =
       let both = and_parts _ _ (told_by_kind each (next / 2 == 0) (next / 2 == 1) (next / 2 == 32)) in
       let same = sym (next_is next h) in (
-        subst (λ n. free_told stack low high alone others following n (mask stack) (kept stack low high) (kind_of next / 2) ≡ true) same both.0,
-        subst (λ n. access_told stack low high following n (kept stack low high) ≡ true) same both.1,
+        subst (λ n. free_told code low high alone others following n (mask code) (kept_of code low high) (kind_of next / 2) ≡ true) same both.0,
+        subst (λ n. access_told code low high following n (kept_of code low high) ≡ true) same both.1,
       )
 
-  pub free_begins : (next : ℕ) → next < 256 → (free_classes stack low high next == 0) ≡ false → begins_free stack low high (next / 2) ≡ true
+  pub free_begins : (next : ℕ) → next < 256 → (free_classes code low high next == 0) ≡ false → begins_free code low high (next / 2) ≡ true
   unfolding followed rest
   free_begins next h some = elim cases [
-    | inl none ↦ absurd (let zero_is : free_of alone others following (byte_classes NEXT next) (mask stack) (kept stack low high) ≡ 0 = rw (none.0, none.1, none.2) (zero_free (byte_classes NEXT next) (mask stack) (kept stack low high)) in let e = eq-eqb _ 0 zero_is in cc)
-    | inr each ↦ begins_by_kind stack low high next (after _ _ some (told_next next h each).0)
+    | inl none ↦ absurd (let zero_is : free_of alone others following (byte_classes NEXT next) (mask code) (kept_of code low high) ≡ 0 = rw (none.0, none.1, none.2) (zero_free (byte_classes NEXT next) (mask code) (kept_of code low high)) in let e = eq-eqb _ 0 zero_is in cc)
+    | inr each ↦ begins_by_kind code low high next (after _ _ some (told_next next h each).0)
   ]
 
-  pub access_begins : (next : ℕ) → next < 256 → (access_classes stack low high next == 0) ≡ false → begins_access stack low high ≡ true
+  pub access_begins : (next : ℕ) → next < 256 → (access_classes code low high next == 0) ≡ false → begins_access code low high ≡ true
   unfolding followed
   access_begins next h some = elim cases [
-    | inl none ↦ absurd (let zero_is : access_of following (byte_classes NEXT next) (kept stack low high) ≡ 0 = rw none.2 (zero_access (byte_classes NEXT next) (kept stack low high)) in let e = eq-eqb _ 0 zero_is in cc)
+    | inl none ↦ absurd (let zero_is : access_of following (byte_classes NEXT next) (kept_of code low high) ≡ 0 = rw none.2 (zero_access (byte_classes NEXT next) (kept_of code low high)) in let e = eq-eqb _ 0 zero_is in cc)
     | inr each ↦ after _ _ some (told_next next h each).1
   ]

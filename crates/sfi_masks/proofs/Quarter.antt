@@ -1,12 +1,12 @@
 -- The masks of sixteen halfwords, by their bytes.
-use Rattle.std.proofs.Common.{ℕ, ◌+◌, ◌*◌, ◌%◌, Bool, List, replicate, ap, ap₂, ◌∙◌, arith, bit_and, bit_or}
+use Rattle.std.proofs.Common.{ℕ, ◌+◌, ◌*◌, ◌%◌, List, replicate, ap, ap₂, ◌∙◌, arith, bit_and, bit_or}
 use Rattle.std.specs.Prelude.{slice_index}
 use lib.Lanes.{zip2}
 use Rattle.sfi_masks.specs.declared.tables.TheConstants.{ALONE}
-use Rattle.sfi_masks.specs.private.Seen.{HasLanes, half_classes, followed, kept, rest, free_classes, access_classes}
+use Rattle.sfi_masks.specs.private.Seen.{Code, is_on_x2, HasLanes, half_classes, followed, kept_of, rest, free_classes, access_classes}
 use Rattle.sfi_masks.proofs.Vectors.{splat, zipped, same_lanes}
 
-module _ (stack : Bool) (byte : ℕ → ℕ) (low high : List ℕ) (lows : HasLanes low (λ i. byte (2 * i))) (highs : HasLanes high (λ i. byte (2 * i + 1))) where
+module _ (code : Code) (byte : ℕ → ℕ) (low high : List ℕ) (lows : HasLanes low (λ i. byte (2 * i))) (highs : HasLanes high (λ i. byte (2 * i + 1))) where
   abbrev next : ℕ → ℕ
   next i = byte (2 * ((i + 1) % 16) + 1)
 
@@ -21,16 +21,16 @@ module _ (stack : Bool) (byte : ℕ → ℕ) (low high : List ℕ) (lows : HasLa
   module _ (alone follow others keep : List ℕ)
       (are_alone : HasLanes alone (λ i. half_classes ALONE (slice_index low i) (slice_index high i)))
       (are_followed : HasLanes follow (λ i. followed (slice_index low i) (slice_index high i) (slice_index high ((i + 1) % 16))))
-      (are_rest : HasLanes others (λ i. rest stack (slice_index low i) (slice_index high i)))
-      (are_kept : HasLanes keep (λ i. kept stack (slice_index low i) (slice_index high i))) where
+      (are_rest : HasLanes others (λ i. rest (is_on_x2 code) (slice_index low i) (slice_index high i)))
+      (are_kept : HasLanes keep (λ i. kept_of code (slice_index low i) (slice_index high i))) where
     pub free_lanes : HasLanes (zip2 bit_and (zip2 bit_or (zip2 bit_or alone others) (zip2 bit_and follow (replicate 16 63))) keep)
-        (λ i. free_classes stack (byte (2 * i)) (byte (2 * i + 1)) (next i))
+        (λ i. free_classes code (byte (2 * i)) (byte (2 * i + 1)) (next i))
     free_lanes =
-        let one = zipped bit_or alone others _ _ (by_bytes (half_classes ALONE) alone are_alone) (by_bytes (rest stack) others are_rest) in
+        let one = zipped bit_or alone others _ _ (by_bytes (half_classes ALONE) alone are_alone) (by_bytes (rest (is_on_x2 code)) others are_rest) in
         let two = zipped bit_and follow (replicate 16 63) _ _ (followed_is follow are_followed) (splat 63) in
-        zipped bit_and _ keep _ _ (zipped bit_or _ _ _ _ one two) (by_bytes (kept stack) keep are_kept)
+        zipped bit_and _ keep _ _ (zipped bit_or _ _ _ _ one two) (by_bytes (kept_of code) keep are_kept)
 
     pub access_lanes : HasLanes (zip2 bit_and (zip2 bit_and follow (replicate 16 192)) keep)
-        (λ i. access_classes stack (byte (2 * i)) (byte (2 * i + 1)) (next i))
+        (λ i. access_classes code (byte (2 * i)) (byte (2 * i + 1)) (next i))
     access_lanes =
-        zipped bit_and _ keep _ _ (zipped bit_and follow (replicate 16 192) _ _ (followed_is follow are_followed) (splat 192)) (by_bytes (kept stack) keep are_kept)
+        zipped bit_and _ keep _ _ (zipped bit_and follow (replicate 16 192) _ _ (followed_is follow are_followed) (splat 192)) (by_bytes (kept_of code) keep are_kept)

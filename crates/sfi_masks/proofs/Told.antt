@@ -11,8 +11,8 @@ use Rattle.rv_word.specs.Formats.{r_format}
 use Rattle.rv_word.specs.Outlines.{IsWordThat}
 use Rattle.rv_comp.specs.Halfwords.{IsHalfwordThat}
 use Rattle.rv_comp.specs.mirror.Outlining.{outlined}
-use Rattle.sfi_masks.specs.Masks.{half_at, word_at, may_write, is_free, IsFreeHalf, IsFreeWord, IsFreeAccess}
-use Rattle.sfi_masks.specs.private.Seen.{free_classes, access_classes}
+use Rattle.sfi_masks.specs.Masks.{half_at, word_at, is_free_by, IsFreeHalfBy, IsFreeWordBy, IsFreeAccessBy}
+use Rattle.sfi_masks.specs.private.Seen.{Code, may_of, is_on_x2, free_classes, access_classes}
 use Rattle.sfi_masks.proofs.Fields.{computes, accesses, that_computes, that_accesses}
 use Rattle.sfi_masks.proofs.Cells.{opcode, rd, funct3, is_free_half, is_free_word, begins_free, begins_access, free_begins, access_begins}
 use Rattle.rv_comp.proofs.Facts.{halfwords_are_outlined}
@@ -39,18 +39,18 @@ word_is bytes i =
 
 -- ---- 16-bit forms
 
-free_outline : (stack : Bool) (half : ℕ) (o : Option Outline) → IfSome o (IsHalfwordThat half) → is_free_half stack o ≡ true → IsFreeHalf stack half
-free_outline stack half (Some o) that free = record { instr = that.instr; spelled = that.spelled; free = ap (is_free stack) that.does ∙ free }
-free_outline stack half None that free = absurd cc
+free_outline : (code : Code) (half : ℕ) (o : Option Outline) → IfSome o (IsHalfwordThat half) → is_free_half code o ≡ true → IsFreeHalfBy (may_of code) (is_on_x2 code) half
+free_outline code half (Some o) that free = record { instr = that.instr; spelled = that.spelled; free = ap (is_free_by (may_of code) (is_on_x2 code)) that.does ∙ free }
+free_outline code half None that free = absurd cc
 
-pub free_half : (stack : Bool) (low high next : ℕ) → low < 256 → high < 256 → next < 256 → (low % 4 == 3) ≡ false
-    → (free_classes stack low high next == 0) ≡ false → IsFreeHalf stack (low + 256 * high)
+pub free_half : (code : Code) (low high next : ℕ) → low < 256 → high < 256 → next < 256 → (low % 4 == 3) ≡ false
+    → (free_classes code low high next == 0) ≡ false → IsFreeHalfBy (may_of code) (is_on_x2 code) (low + 256 * high)
 unfolding begins_free
-free_half stack low high next l h n short some =
-    free_outline stack (low + 256 * high) (outlined (low + 256 * high)) (halfwords_are_outlined (low + 256 * high) (omega arith)).0 (by (low % 4 == 3) short (free_begins stack low high l h next n some))
+free_half code low high next l h n short some =
+    free_outline code (low + 256 * high) (outlined (low + 256 * high)) (halfwords_are_outlined (low + 256 * high) (omega arith)).0 (by (low % 4 == 3) short (free_begins code low high l h next n some))
   where
-    by : (b : Bool) → b ≡ false → (elim b [ true ↦ is_free_word stack low high (next / 2) | false ↦ is_free_half stack (outlined (low + 256 * high)) ]) ≡ true
-        → is_free_half stack (outlined (low + 256 * high)) ≡ true
+    by : (b : Bool) → b ≡ false → (elim b [ true ↦ is_free_word code low high (next / 2) | false ↦ is_free_half code (outlined (low + 256 * high)) ]) ≡ true
+        → is_free_half code (outlined (low + 256 * high)) ≡ true
     by true e told = absurd cc
     by false e told = told
 
@@ -69,27 +69,27 @@ cut : (low high low2 high2 : ℕ) → low < 256 → high < 256 → low2 < 256 �
     → r_format (high2 / 2) (rs2 low2 high2) (rs1 high low2) (funct3 high) (rd low high) (opcode low) ≡ word_of low high low2 high2
 cut low high low2 high2 p q r s = omega arith
 
-pub free_word : (stack : Bool) (low high low2 high2 : ℕ) → low < 256 → high < 256 → low2 < 256 → high2 < 256 → (low % 4 == 3) ≡ true
-    → (free_classes stack low high high2 == 0) ≡ false → IsFreeWord stack (word_of low high low2 high2)
+pub free_word : (code : Code) (low high low2 high2 : ℕ) → low < 256 → high < 256 → low2 < 256 → high2 < 256 → (low % 4 == 3) ≡ true
+    → (free_classes code low high high2 == 0) ≡ false → IsFreeWordBy (may_of code) (is_on_x2 code) (word_of low high low2 high2)
 unfolding begins_free
-free_word stack low high low2 high2 p q r s long some =
-    let told = by (low % 4 == 3) long (free_begins stack low high p q high2 s some) in
-    let both = and_parts (may_write stack (rd low high)) (computes (opcode low) (funct3 high) (high2 / 2)) told in
+free_word code low high low2 high2 p q r s long some =
+    let told = by (low % 4 == 3) long (free_begins code low high p q high2 s some) in
+    let both = and_parts (may_of code (rd low high)) (computes (opcode low) (funct3 high) (high2 / 2)) told in
     let that = that_computes (high2 / 2) (rs2 low2 high2) (rs1 high low2) (funct3 high) (rd low high) (omega arith) (omega arith) (omega arith) (omega arith) (omega arith) (opcode low) both.1 in
     let is : IsWordThat (word_of low high low2 high2) (Computes (rd low high)) = subst (λ (w : ℕ). IsWordThat w (Computes (rd low high))) (cut low high low2 high2 p q r s) that in
-    record { instr = is.instr; spelled = is.spelled; free = ap (is_free stack) is.does ∙ both.0 }
+    record { instr = is.instr; spelled = is.spelled; free = ap (is_free_by (may_of code) (is_on_x2 code)) is.does ∙ both.0 }
   where
-    by : (b : Bool) → b ≡ true → (elim b [ true ↦ is_free_word stack low high (high2 / 2) | false ↦ is_free_half stack (outlined (low + 256 * high)) ]) ≡ true
-        → is_free_word stack low high (high2 / 2) ≡ true
+    by : (b : Bool) → b ≡ true → (elim b [ true ↦ is_free_word code low high (high2 / 2) | false ↦ is_free_half code (outlined (low + 256 * high)) ]) ≡ true
+        → is_free_word code low high (high2 / 2) ≡ true
     by true e told = told
     by false e told = absurd cc
 
-pub free_access : (stack : Bool) (low high low2 high2 : ℕ) → low < 256 → high < 256 → low2 < 256 → high2 < 256
-    → (access_classes stack low high high2 == 0) ≡ false → IsFreeAccess stack (word_of low high low2 high2)
+pub free_access : (code : Code) (low high low2 high2 : ℕ) → low < 256 → high < 256 → low2 < 256 → high2 < 256
+    → (access_classes code low high high2 == 0) ≡ false → IsFreeAccessBy (may_of code) (word_of low high low2 high2)
 unfolding begins_access
-free_access stack low high low2 high2 p q r s some =
+free_access code low high low2 high2 p q r s some =
     let written = cond (opcode low == 35) 0 (rd low high) in
-    let both = and_parts (accesses (opcode low) (funct3 high)) (may_write stack written) (access_begins stack low high p q high2 s some) in
+    let both = and_parts (accesses (opcode low) (funct3 high)) (may_of code written) (access_begins code low high p q high2 s some) in
     let a : Access = record { written = written; base = rs1 high low2 } in
     let that : IsAccessOf (r_format (high2 / 2) (rs2 low2 high2) (rs1 high low2) (funct3 high) (rd low high) (opcode low)) a =
     that_accesses (high2 / 2) (rs2 low2 high2) (rs1 high low2) (funct3 high) (rd low high) (omega arith) (omega arith) (omega arith) (omega arith) (omega arith) (opcode low) both.0 in

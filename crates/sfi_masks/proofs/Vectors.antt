@@ -123,20 +123,24 @@ rotated v a p =
     subst (λ w. HasLanes w (λ i. a ((i + 1) % 16))) (sym (pick_l_left 0 v v 16 turned p.count tt))
     (same_lanes _ _ _ is (λ i h. p.lanes ((i + 1) % 16) (omega arith)))
 
--- ---- one of two numbers, by a comparison with a third
+-- ---- of two vectors each lane of one, by a comparison with a number
+
+pub chosen_of : (v one other : List ℕ) (a p q : ℕ → ℕ) (y : ℕ) → HasLanes v a → HasLanes one p → HasLanes other q
+    → HasLanes (sel_l (map (top 7) (zip2 (λ x z. cond (eqb x z) 255 0) v (replicate 16 y))) one other) (λ i. cond (eqb (a i) y) (p i) (q i))
+chosen_of v one other a p q y lanes ones others =
+    let ms = zip2 eqb v (replicate 16 y) in
+    let same : map (top 7) (zip2 (λ x z. cond (eqb x z) 255 0) v (replicate 16 y)) ≡ ms = tops_compared w8 eqb v (replicate 16 y) in
+    let count : length ms ≡ 16 = length-zip2 eqb v (replicate 16 y) lanes.count ∙ lanes.count in
+    let is : HasLanes (sel_l ms one other) (λ i. cond (eqb (a i) y) (p i) (q i)) = record {
+      count = length-sel_l ms one other (count ∙ sym ones.count) (count ∙ sym others.count) ∙ count;
+      lanes = λ i h.
+          get_or-sel_l ms one other i 0 (omega (arith, count)) (omega (arith, ones.count)) (omega (arith, others.count))
+          ∙ ap₂ (λ (b : Bool) (n : ℕ). cond b n (get_or other i 0))
+          (get_or-zip2 eqb v (replicate 16 y) i 0 0 false (omega (arith, lanes.count)) h ∙ ap₂ eqb (lanes.lanes i h) (get_or-replicate 16 i y 0 h)) (ones.lanes i h)
+          ∙ ap (λ n. cond (eqb (a i) y) (p i) n) (others.lanes i h);
+    } in
+    subst (λ (l : List Bool). HasLanes (sel_l l one other) (λ i. cond (eqb (a i) y) (p i) (q i))) (sym same) is
 
 pub chosen : (v : List ℕ) (a : ℕ → ℕ) (y one other : ℕ) → HasLanes v a
     → HasLanes (sel_l (map (top 7) (zip2 (λ x z. cond (eqb x z) 255 0) v (replicate 16 y))) (replicate 16 one) (replicate 16 other)) (λ i. cond (eqb (a i) y) one other)
-chosen v a y one other p =
-    let ms = zip2 eqb v (replicate 16 y) in
-    let same : map (top 7) (zip2 (λ x z. cond (eqb x z) 255 0) v (replicate 16 y)) ≡ ms = tops_compared w8 eqb v (replicate 16 y) in
-    let count : length ms ≡ 16 = length-zip2 eqb v (replicate 16 y) p.count ∙ p.count in
-    let is : HasLanes (sel_l ms (replicate 16 one) (replicate 16 other)) (λ i. cond (eqb (a i) y) one other) = record {
-      count = length-sel_l ms (replicate 16 one) (replicate 16 other) count count ∙ count;
-      lanes = λ i h.
-          get_or-sel_l ms (replicate 16 one) (replicate 16 other) i 0 (omega (arith, count)) h h
-          ∙ ap₂ (λ (b : Bool) (n : ℕ). cond b n (get_or (replicate 16 other) i 0))
-          (get_or-zip2 eqb v (replicate 16 y) i 0 0 false (omega (arith, p.count)) h ∙ ap₂ eqb (p.lanes i h) (get_or-replicate 16 i y 0 h)) (get_or-replicate 16 i one 0 h)
-          ∙ ap (λ n. cond (eqb (a i) y) one n) (get_or-replicate 16 i other 0 h);
-    } in
-    subst (λ (l : List Bool). HasLanes (sel_l l (replicate 16 one) (replicate 16 other)) (λ i. cond (eqb (a i) y) one other)) (sym same) is
+chosen v a y one other p = chosen_of v (replicate 16 one) (replicate 16 other) a (λ i. one) (λ i. other) y p (splat one) (splat other)

@@ -1,6 +1,6 @@
 -- What the masks of a block say of the instructions that its halfwords begin.
 use Rattle.std.specs.Int.{w16, w32, from_le_bytes, bit_at}
-use Rattle.std.specs.Prelude.{◌≡◌, ◌<◌, ◌*◌, ◌%◌, ◌&&◌, ◌==◌, not, ℕ, List, Bool, true, false, take, drop}
+use Rattle.std.specs.Prelude.{◌≡◌, ◌<◌, ◌*◌, ◌%◌, ◌&&◌, ◌||◌, ◌==◌, not, ℕ, List, Bool, true, false, take, drop}
 use Rattle.rv_word.specs.Accesses.{IsAccessOf}
 use Rattle.rv_word.specs.Numbers.{bits}
 use Rattle.rv_word.specs.Outlines.{outline}
@@ -10,7 +10,7 @@ use Rattle.rv_word.specs.declared.instr.Instr.{Instr}
 use Rattle.rv_word.specs.declared.outline.Outline.{Outline}
 use Rattle.rv_word.specs.declared.outline.Outline.TheVariants.{Computes, Loads, Stores, Orders, Stops}
 use Rattle.rv_comp.specs.Halfwords.{IsShortSpelling}
-use Rattle.sfi_policy.specs.Registers.{is_reserved, stack_pointer}
+use Rattle.sfi_policy.specs.Registers.{is_reserved, is_data_register, code_register, offset_register, stack_pointer}
 use Rattle.sfi_masks.specs.declared.masks.Masks.{Masks}
 
 -- halfword i of the bytes, and the word that begins there
@@ -24,52 +24,91 @@ word_at bytes i = from_le_bytes w32 (take 4 (drop (2 * i) bytes))
 abbrev pub is_in : ℕ → ℕ → Bool
 is_in mask i = bit_at mask i == 1
 
+-- ---- in bundles, and in words
+
 -- the register is not reserved, and not x2 where that is a stack pointer
 abbrev pub may_write : Bool → ℕ → Bool
 may_write stack r = not (is_reserved r) && not (stack && (r == stack_pointer))
+
+-- the register is neither reserved nor typed
+abbrev pub may_write_in_words : ℕ → Bool
+may_write_in_words r = not (is_reserved r)
+    && not (is_data_register r || (r == code_register) || (r == offset_register))
+
+-- ---- what is free
+
+-- The instruction writes only registers that may be written. It computes, orders or stops, or accesses
+-- memory on x2, if an access on x2 needs nothing beside it (`stack`).
+abbrev pub is_free_by : (ℕ → Bool) → Bool → Outline → Bool
+is_free_by may stack (Computes rd) = may rd
+is_free_by may stack (Loads rd base) = may rd && (stack && (base == stack_pointer))
+is_free_by may stack (Stores base) = stack && (base == stack_pointer)
+is_free_by may stack Orders = true
+is_free_by may stack Stops = true
+is_free_by may stack _ = false
+
+-- the halfword spells such an instruction
+pub record IsFreeHalfBy (may : ℕ → Bool) (stack : Bool) (half : ℕ) : Type 0 where
+  pub instr : Instr
+  pub spelled : IsShortSpelling half instr
+  pub free : is_free_by may stack (outline instr) ≡ true
+
+-- the word spells such an instruction
+pub record IsFreeWordBy (may : ℕ → Bool) (stack : Bool) (word : ℕ) : Type 0 where
+  pub instr : Instr
+  pub spelled : IsWordOf word instr
+  pub free : is_free_by may stack (outline instr) ≡ true
+
+-- the word spells a load or a store that writes no register that it may not; its bits 19:15 name
+-- its base
+pub record IsFreeAccessBy (may : ℕ → Bool) (word : ℕ) : Type 0 where
+  pub access : Access
+  pub is : IsAccessOf word access
+  pub base : access.base ≡ bits word 19 15
+  pub free : may access.written ≡ true
+
+-- What the masks tell of the block's 64 halfwords. `long` tells each whose two lowest bits are 11, so
+-- that it begins no instruction of 16 bits, and no other. What `free` or `access` tells is so wherever
+-- an instruction begins there, but of one of 32 bits at a bundle's last halfword they tell nothing.
+pub record AreMasksBy (may : ℕ → Bool) (stack : Bool) (bytes : List ℕ) (m : Masks) : Type 0 where
+  pub long : (i : ℕ) → i < 64 → is_in m.long i ≡ (half_at bytes i % 4 == 3)
+  pub short :
+      (i : ℕ) → i < 64 → is_in m.free i ≡ true → is_in m.long i ≡ false
+      → IsFreeHalfBy may stack (half_at bytes i)
+  pub word :
+      (i : ℕ) → i % 8 < 7 → i < 64 → is_in m.free i ≡ true → is_in m.long i ≡ true
+      → IsFreeWordBy may stack (word_at bytes i)
+  pub access :
+      (i : ℕ) → i % 8 < 7 → i < 64 → is_in m.access i ≡ true
+      → IsFreeAccessBy may (word_at bytes i)
+
+-- ---- in bundles, where x2 is a stack pointer or not
 
 -- An instruction that does this breaks no rule in a bundle that is neither a gate's nor its region's
 -- last, whatever stands before and after it. Where x2 is a stack pointer, an access on it needs no
 -- pair.
 abbrev pub is_free : Bool → Outline → Bool
-is_free stack (Computes rd) = may_write stack rd
-is_free stack (Loads rd base) = may_write stack rd && (stack && (base == stack_pointer))
-is_free stack (Stores base) = stack && (base == stack_pointer)
-is_free stack Orders = true
-is_free stack Stops = true
-is_free stack _ = false
+is_free stack o = is_free_by (may_write stack) stack o
 
 -- the halfword spells such an instruction
-pub record IsFreeHalf (stack : Bool) (half : ℕ) : Type 0 where
-  pub instr : Instr
-  pub spelled : IsShortSpelling half instr
-  pub free : is_free stack (outline instr) ≡ true
+abbrev pub IsFreeHalf : Bool → ℕ → Type 0
+IsFreeHalf stack half = IsFreeHalfBy (may_write stack) stack half
 
 -- the word spells such an instruction
-pub record IsFreeWord (stack : Bool) (word : ℕ) : Type 0 where
-  pub instr : Instr
-  pub spelled : IsWordOf word instr
-  pub free : is_free stack (outline instr) ≡ true
+abbrev pub IsFreeWord : Bool → ℕ → Type 0
+IsFreeWord stack word = IsFreeWordBy (may_write stack) stack word
 
--- the word spells a load or a store that writes no register that it may not; its bits 19:15 name
--- its base
-pub record IsFreeAccess (stack : Bool) (word : ℕ) : Type 0 where
-  pub access : Access
-  pub is : IsAccessOf word access
-  pub base : access.base ≡ bits word 19 15
-  pub free : may_write stack access.written ≡ true
+-- the word spells a load or a store that writes no register that it may not
+abbrev pub IsFreeAccess : Bool → ℕ → Type 0
+IsFreeAccess stack word = IsFreeAccessBy (may_write stack) word
 
--- What the masks tell of the block's 64 halfwords. `long` tells each whose two lowest bits are 11, so
--- that it begins no instruction of 16 bits, and no other. What `free` or `access` tells is so wherever
--- an instruction begins there, but of one of 32 bits at a bundle's last halfword they tell nothing.
-pub record AreMasks (stack : Bool) (bytes : List ℕ) (m : Masks) : Type 0 where
-  pub long : (i : ℕ) → i < 64 → is_in m.long i ≡ (half_at bytes i % 4 == 3)
-  pub short :
-      (i : ℕ) → i < 64 → is_in m.free i ≡ true → is_in m.long i ≡ false
-      → IsFreeHalf stack (half_at bytes i)
-  pub word :
-      (i : ℕ) → i % 8 < 7 → i < 64 → is_in m.free i ≡ true → is_in m.long i ≡ true
-      → IsFreeWord stack (word_at bytes i)
-  pub access :
-      (i : ℕ) → i % 8 < 7 → i < 64 → is_in m.access i ≡ true
-      → IsFreeAccess stack (word_at bytes i)
+-- what the masks tell of a block of bundles
+abbrev pub AreMasks : Bool → List ℕ → Masks → Type 0
+AreMasks stack bytes m = AreMasksBy (may_write stack) stack bytes m
+
+-- ---- in words
+
+-- what they tell of a block of code in words, where an access on x2, a data register, needs nothing
+-- beside it
+abbrev pub AreMasksInWords : List ℕ → Masks → Type 0
+AreMasksInWords bytes m = AreMasksBy may_write_in_words true bytes m

@@ -1,9 +1,11 @@
 //! Steps on vectors of sixteen bytes, by their lanes.
 ghost use Rattle.std.specs.Prelude.{◌≡◌, ℕ, ◌+◌, ◌*◌, ◌%◌, ◌^◌, ◌<◌, ◌==◌, not, length, slice_index, bit_and};
 ghost use Rattle.sfi_masks.specs.Masks.{is_in};
-ghost use Rattle.sfi_masks.specs.private.Seen.{HasLanes, byte_classes, half_classes, followed, kept, rest};
+ghost use Rattle.sfi_masks.specs.private.Seen.{HasLanes, byte_classes, half_classes, followed, kept, kept_in_words, rest};
 
-use crate::tables::{ALL, ByteTable, FOLLOWED, HalfTable, NEXT, NO_RD, PLAIN, REST};
+use crate::tables::{
+    ALL, ByteTable, FOLLOWED, HalfTable, NEXT, NO_RD, PLAIN, REST, WORDS_EVEN, WORDS_ODD,
+};
 use std::simd::prelude::*;
 
 /// The low bytes of 16 halfwords, and their high bytes.
@@ -72,6 +74,17 @@ pub(crate) fn kept_classes(stack: bool, low: u8x16, high: u8x16) -> u8x16
     let rd = low & u8x16::splat(0x80) | high & u8x16::splat(0x0f);
     rd.simd_eq(u8x16::splat(1))
         .select(u8x16::splat(NO_RD), u8x16::splat(ALL))
+}
+
+/// The same in code in words, by whether bits 11:7 name an odd register.
+#[inline(always)]
+pub(crate) fn kept_in_words(low: u8x16, high: u8x16) -> u8x16
+    ensures { HasLanes result (λ i. kept_in_words (slice_index low i) (slice_index high i)) }
+{
+    let pair = high & u8x16::splat(15);
+    (low & u8x16::splat(0x80))
+        .simd_eq(u8x16::splat(0x80))
+        .select(look_up(WORDS_ODD, pair), look_up(WORDS_EVEN, pair))
 }
 
 /// A bit for each halfword whose two lowest bits are 11.

@@ -11,4 +11,4 @@ mod lanes;
 mod masks;
 mod tables;
 
-pub use masks::{BLOCK_BYTES, Masks, masks_of};
+pub use masks::{BLOCK_BYTES, Masks, masks_of, word_masks_of};

@@ -1,11 +1,11 @@
 //! The masks of a block of eight bundles.
 ghost use Rattle.std.specs.Prelude.{◌≡◌, ℕ, ◌/◌, ◌%◌, ◌^◌, ◌<◌, length, slice_index};
-ghost use Rattle.sfi_masks.specs.Masks.{AreMasks, is_in};
-ghost use Rattle.sfi_masks.specs.private.Seen.{AreSeen, of_four};
+ghost use Rattle.sfi_masks.specs.Masks.{AreMasks, AreMasksInWords, is_in};
+ghost use Rattle.sfi_masks.specs.private.Seen.{AreSeen, bundles, words, of_four};
 
 use crate::lanes::{
-    bits_of, classes_of_halves, followed_classes, kept_classes, long_bits, low_and_high,
-    rest_classes,
+    bits_of, classes_of_halves, followed_classes, kept_classes, kept_in_words, long_bits,
+    low_and_high, rest_classes,
 };
 use crate::tables::{ACCESSES, ALONE, FREE};
 use std::simd::prelude::*;
@@ -28,13 +28,31 @@ pub struct Masks {
 #[inline(always)]
 fn masks_of_quarter(stack: bool, bytes: &[u8]) -> Masks
     requires { length bytes.now ≡ 32 }
-    ensures { AreSeen stack (λ k. slice_index bytes.now k) result }
+    ensures { AreSeen (bundles stack) (λ k. slice_index bytes.now k) result }
 {
     let (low, high) = low_and_high(bytes);
     let alone = classes_of_halves(ALONE, low, high);
     let followed = followed_classes(low, high);
     let rest = rest_classes(stack, low, high);
     let kept = kept_classes(stack, low, high);
+    Masks {
+        long: long_bits(low),
+        free: bits_of((alone | rest | followed & u8x16::splat(FREE)) & kept),
+        access: bits_of(followed & u8x16::splat(ACCESSES) & kept),
+    }
+}
+
+/// The masks of 16 halfwords of code in words.
+#[inline(always)]
+fn word_masks_of_quarter(bytes: &[u8]) -> Masks
+    requires { length bytes.now ≡ 32 }
+    ensures { AreSeen words (λ k. slice_index bytes.now k) result }
+{
+    let (low, high) = low_and_high(bytes);
+    let alone = classes_of_halves(ALONE, low, high);
+    let followed = followed_classes(low, high);
+    let rest = rest_classes(true, low, high);
+    let kept = kept_in_words(low, high);
     Masks {
         long: long_bits(low),
         free: bits_of((alone | rest | followed & u8x16::splat(FREE)) & kept),
@@ -79,5 +97,21 @@ pub fn masks_of(stack: bool, block: &[u8; BLOCK_BYTES]) -> Masks
         masks_in::<true>(block)
     } else {
         masks_in::<false>(block)
+    }
+}
+
+/// The masks of the block's halfwords in code in words, where accesses on x2 are free.
+#[inline(always)]
+pub fn word_masks_of(block: &[u8; BLOCK_BYTES]) -> Masks
+    ensures { AreMasksInWords block.now result }
+{
+    let first = word_masks_of_quarter(&block[..32]);
+    let second = word_masks_of_quarter(&block[32..64]);
+    let third = word_masks_of_quarter(&block[64..96]);
+    let fourth = word_masks_of_quarter(&block[96..]);
+    Masks {
+        long: joined(first.long, second.long, third.long, fourth.long),
+        free: joined(first.free, second.free, third.free, fourth.free),
+        access: joined(first.access, second.access, third.access, fourth.access),
     }
 }

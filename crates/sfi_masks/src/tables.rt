@@ -161,3 +161,14 @@ pub(crate) const PLAIN: u8 = 0b0110_0110;
 
 /// The classes of each table that are no writes to the register that bits 11:7 name.
 pub(crate) const NO_RD: u8 = 0b1000_0011;
+
+/// By bits 11:8, where bits 11:7 name an odd register: the classes that a halfword may be in, in code in
+/// words. [`NO_RD`] stands for x3, x29 and x31.
+pub(crate) const WORDS_ODD: [u8; 16] = [
+    ALL, NO_RD, ALL, ALL, ALL, ALL, ALL, ALL, ALL, ALL, ALL, ALL, ALL, ALL, NO_RD, NO_RD,
+];
+
+/// The same where they name an even one: for x2, x4 and x30.
+pub(crate) const WORDS_EVEN: [u8; 16] = [
+    ALL, NO_RD, NO_RD, ALL, ALL, ALL, ALL, ALL, ALL, ALL, ALL, ALL, ALL, ALL, ALL, NO_RD,
+];

@@ -1,10 +1,10 @@
 -- Words of private contracts: what the tables tell of a halfword, by its bytes.
-use Rattle.std.specs.Prelude.{◌≡◌, ℕ, ◌+◌, ◌*◌, ◌/◌, ◌%◌, ◌^◌, ◌<◌, Bool, ◌==◌, not, if◌then◌else◌, List, length, slice_index, bit_and, bit_or}
-use Rattle.sfi_masks.specs.Masks.{is_in}
+use Rattle.std.specs.Prelude.{◌≡◌, ℕ, ◌+◌, ◌*◌, ◌/◌, ◌%◌, ◌^◌, ◌<◌, Bool, true, ◌==◌, not, if◌then◌else◌, List, length, slice_index, bit_and, bit_or}
+use Rattle.sfi_masks.specs.Masks.{is_in, may_write, may_write_in_words}
 use Rattle.sfi_masks.specs.declared.masks.Masks.{Masks}
 use Rattle.sfi_masks.specs.declared.tables.ByteTable.{ByteTable}
 use Rattle.sfi_masks.specs.declared.tables.HalfTable.{HalfTable}
-use Rattle.sfi_masks.specs.declared.tables.TheConstants.{ALONE, FOLLOWED, NEXT, REST, FREE, ACCESSES, ALL, PLAIN, NO_RD}
+use Rattle.sfi_masks.specs.declared.tables.TheConstants.{ALONE, FOLLOWED, NEXT, REST, FREE, ACCESSES, ALL, PLAIN, NO_RD, WORDS_EVEN, WORDS_ODD}
 
 -- the sixteen lanes of a vector, each by its number
 pub record HasLanes (v : List ℕ) (lane : ℕ → ℕ) : Type 0 where
@@ -23,6 +23,20 @@ half_classes t low high = bit_and (byte_classes t.low low) (byte_classes t.high 
 unfoldable pub followed : ℕ → ℕ → ℕ → ℕ
 followed low high next = bit_and (half_classes FOLLOWED low high) (byte_classes NEXT next)
 
+-- code in bundles, where x2 is a stack pointer or not, or in words
+pub data Code : Type 0 where
+  bundles : Bool → Code
+  words : Code
+
+abbrev pub may_of : Code → ℕ → Bool
+may_of (bundles stack) r = may_write stack r
+may_of words r = may_write_in_words r
+
+-- an access on x2 needs nothing beside it
+abbrev pub is_on_x2 : Code → Bool
+is_on_x2 (bundles stack) = stack
+is_on_x2 words = true
+
 -- bits 11:7 of the halfword are 2
 abbrev pub names_x2 : ℕ → ℕ → Bool
 names_x2 low high = bit_or (bit_and low 128) (bit_and high 15) == 1
@@ -32,32 +46,42 @@ unfoldable pub kept : Bool → ℕ → ℕ → ℕ
 kept stack low high =
     if stack then (if names_x2 low high then NO_RD else ALL) else ALL
 
+-- the same in words: bits 11:7 are odd, or even
+unfoldable pub kept_in_words : ℕ → ℕ → ℕ
+kept_in_words low high =
+    if bit_and low 128 == 128 then slice_index WORDS_ODD (bit_and high 15)
+    else slice_index WORDS_EVEN (bit_and high 15)
+
+abbrev pub kept_of : Code → ℕ → ℕ → ℕ
+kept_of (bundles stack) low high = kept stack low high
+kept_of words low high = kept_in_words low high
+
 unfoldable pub rest : Bool → ℕ → ℕ → ℕ
 rest stack low high = bit_and (half_classes REST low high) (if stack then ALL else PLAIN)
 
 -- the classes by which a halfword is seen to be free, and to begin an access
-abbrev pub free_classes : Bool → ℕ → ℕ → ℕ → ℕ
-free_classes stack low high next =
-    bit_and (bit_or (bit_or (half_classes ALONE low high) (rest stack low high))
-    (bit_and (followed low high next) FREE)) (kept stack low high)
+abbrev pub free_classes : Code → ℕ → ℕ → ℕ → ℕ
+free_classes code low high next =
+    bit_and (bit_or (bit_or (half_classes ALONE low high) (rest (is_on_x2 code) low high))
+    (bit_and (followed low high next) FREE)) (kept_of code low high)
 
-abbrev pub access_classes : Bool → ℕ → ℕ → ℕ → ℕ
-access_classes stack low high next =
-    bit_and (bit_and (followed low high next) ACCESSES) (kept stack low high)
+abbrev pub access_classes : Code → ℕ → ℕ → ℕ → ℕ
+access_classes code low high next =
+    bit_and (bit_and (followed low high next) ACCESSES) (kept_of code low high)
 
 -- Of 32 bytes: sixteen bits of each mask, by the bytes of the halfword and the high byte of the next
 -- one, which for the last is the first.
-pub record AreSeen (stack : Bool) (byte : ℕ → ℕ) (m : Masks) : Type 0 where
+pub record AreSeen (code : Code) (byte : ℕ → ℕ) (m : Masks) : Type 0 where
   pub long_small : m.long < 2 ^ 16
   pub free_small : m.free < 2 ^ 16
   pub access_small : m.access < 2 ^ 16
   pub long : (i : ℕ) → i < 16 → is_in m.long i ≡ (byte (2 * i) % 4 == 3)
   pub free :
       (i : ℕ) → i < 16 → is_in m.free i
-      ≡ not (free_classes stack (byte (2 * i)) (byte (2 * i + 1)) (byte (2 * ((i + 1) % 16) + 1)) == 0)
+      ≡ not (free_classes code (byte (2 * i)) (byte (2 * i + 1)) (byte (2 * ((i + 1) % 16) + 1)) == 0)
   pub access :
       (i : ℕ) → i < 16 → is_in m.access i
-      ≡ not (access_classes stack (byte (2 * i)) (byte (2 * i + 1)) (byte (2 * ((i + 1) % 16) + 1)) == 0)
+      ≡ not (access_classes code (byte (2 * i)) (byte (2 * i + 1)) (byte (2 * ((i + 1) % 16) + 1)) == 0)
 
 -- of four numbers the one of that place
 abbrev pub of_four : ℕ → ℕ → ℕ → ℕ → ℕ → ℕ
