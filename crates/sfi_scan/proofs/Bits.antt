@@ -1,7 +1,8 @@
 -- One bit of a mask, through each operation.
-use Rattle.sfi_scan.proofs.Prelude.{◌≡◌, ℕ, zero, suc, ◌+◌, ◌-◌, ◌*◌, ◌/◌, ◌%◌, ◌^◌, ◌<◌, ◌≢◌, min, Bool, true, false, not, ◌&&◌, ◌==◌, ◌⊎◌, inl, inr, refl, sym, ap, ◌∙◌, subst, arith, w64, mul_assoc, bit_and, Width, bit_at, bit_not, trailing_zeros, cases_order, agree_below_at, and_parts, shl-shr, shr-shr, is_in}
+use Rattle.sfi_scan.proofs.Prelude.{◌≡◌, ℕ, zero, suc, ◌+◌, ◌-◌, ◌*◌, ◌/◌, ◌%◌, ◌^◌, ◌<◌, ◌≢◌, min, Bool, true, false, not, ◌&&◌, ◌||◌, ◌==◌, ◌⊎◌, inl, inr, refl, sym, ap, ◌∙◌, subst, arith, w64, mul_assoc, bit_and, Width, bit_at, bit_not, trailing_zeros, cases_order, agree_below_at, and_parts, shl-shr, shr-shr, is_in}
+use Rattle.std.specs.Prelude.{max}
 use Rattle.std.proofs.Math.Nat.{zero-div}
-use Rattle.std.proofs.lemmas.Nat.Bits.{bit_at-lt, bit_at_and, bit_at_not, bit_at_set_other, bit_at-trailing_zeros}
+use Rattle.std.proofs.lemmas.Nat.Bits.{bit_at-lt, bit_at_and, bit_at_or, bit_at_not, bit_at_set_other, bit_at-trailing_zeros}
 use Rattle.std.specs.Int.RustNames.{bit_or}
 use mir.Val.{bits}
 use lib.Bits.{shifted_even}
@@ -18,6 +19,9 @@ by_bits P p q r s a b i =
 
 pub in_and : (a b i : ℕ) → is_in (bit_and a b) i ≡ (is_in a i && is_in b i)
 in_and a b i = ap (λ n. n == 1) (bit_at_and a b i) ∙ by_bits (λ x y. (min x y == 1) ≡ ((x == 1) && (y == 1))) refl refl refl refl a b i
+
+pub in_or : (a b i : ℕ) → is_in (bit_or a b) i ≡ (is_in a i || is_in b i)
+in_or a b i = ap (λ n. n == 1) (bit_at_or a b i) ∙ by_bits (λ x y. (max x y == 1) ≡ ((x == 1) || (y == 1))) refl refl refl refl a b i
 
 pub in_not : (a i : ℕ) → a < 2 ^ 64 → i < 64 → is_in (bit_not w64 a) i ≡ not (is_in a i)
 in_not a i ha hi = ap (λ n. n == 1) (bit_at_not w64 a i ha hi) ∙ by_bit (λ x. ((1 - x) == 1) ≡ not (x == 1)) refl refl (bit_at a i) (bit_at-lt a i)

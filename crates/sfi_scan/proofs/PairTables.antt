@@ -18,7 +18,7 @@ all_right t h = agree_below_at is_right (λ k. true) 32 t refl h
 
 -- ---- a word without its bits 19:15
 
-abbrev kept : ℕ
+abbrev pub kept : ℕ
 kept = 0xfff0_7fff
 
 without_any : (n : ℕ) → n < 2 ^ 32 → bit_and n kept ≡ n / 2 ^ 20 * 2 ^ 20 + n % 2 ^ 15
@@ -30,10 +30,10 @@ without_any n h =
     let second : bit_and low 32767 ≡ n % 2 ^ 15 = and_mask low 15 ∙ omega arith in
     ap (λ m. bit_and m kept) split ∙ and_block 20 high 4095 low 32767 (omega arith) (omega arith) ∙ ap₂ (λ a b. a * 2 ^ 20 + b) first second
 
-abbrev any_of : ℕ → ℕ
+abbrev pub any_of : ℕ → ℕ
 any_of n = n / 2 ^ 15 % 32
 
-masking_word : (word t : ℕ) → word < 2 ^ 32 → t < 32 → bit_and word kept ≡ spelling (Op And t 0 27) → IsWordOf word (Op And t (any_of word) 27)
+pub masking_word : (word t : ℕ) → word < 2 ^ 32 → t < 32 → bit_and word kept ≡ spelling (Op And t 0 27) → IsWordOf word (Op And t (any_of word) 27)
 unfolding spelling InRange
 masking_word word t h lt e =
     let is = sym (without_any word h) ∙ e in

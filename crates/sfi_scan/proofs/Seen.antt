@@ -27,10 +27,10 @@ pub access_free : (stack : Bool) (bytes : List ℕ) (starts left : ℕ) (m : Mas
 access_free stack bytes starts left m are marks i lt h = are.access i (access_inside starts left m marks i lt h) lt (access_parts left (bit_and starts m.long) m i h).1
 
 -- what is in one mask and not in the other is left
-stays : (a b rest i : ℕ) → IsWithout a b rest → i < 64 → is_in a i ≡ true → is_in b i ≡ false → is_in rest i ≡ true
+pub stays : (a b rest i : ℕ) → IsWithout a b rest → i < 64 → is_in a i ≡ true → is_in b i ≡ false → is_in rest i ≡ true
 stays a b rest i without lt e f = without i lt ∙ ap (λ p. p && not (is_in b i)) e ∙ ap not f
 
-no_both : (p : Bool) → p ≡ true → p ≡ false → ⊥
+pub no_both : (p : Bool) → p ≡ true → p ≡ false → ⊥
 no_both p e f = let none : true ≡ false = sym e ∙ f in cc
 
 free_at : (b : BundlePlace) (block : List ℕ) (stack : Bool) (starts : ℕ) (m : Masks) (after i : ℕ) → stack ≡ has_stack b.format → AreMasks stack block m → AreStarts starts (bit_and starts m.long) → i < 64

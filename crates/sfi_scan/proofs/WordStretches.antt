@@ -1,19 +1,77 @@
 -- Stretches of code in words: the findings of one after another, and those of a stretch in a part.
-use Rattle.sfi_scan.proofs.Prelude.{◌≡◌, ℕ, zero, suc, ◌+◌, ◌<◌, Bool, true, false, List, ◌++◌, refl, sym, ap, ◌∙◌, subst, arith, append-nil, append_assoc, BundlePlace, Finding, Part, block_bundle, bundle_bytes, place_of, AreFindingsOfFirst}
+use Rattle.sfi_scan.proofs.Prelude.{◌≡◌, ℕ, zero, suc, ◌+◌, ◌-◌, ◌*◌, ◌<◌, Bool, true, false, List, [], ◌++◌, length, take, drop, length-append, take_all, refl, sym, ap, ◌∙◌, subst, arith, append-nil, append_assoc, BundlePlace, Finding, Part, block_bundle, bundle_bytes, place_of, AreFindingsOfFirst}
 use Rattle.std.specs.Prelude.{MatchBool}
 use Rattle.sfi_policy.specs.Formats.{has_words}
 use Rattle.sfi_rules.specs.declared.owed.Owed.{Owed}
 use Rattle.sfi_rules.specs.declared.owed.Owed.TheVariants.{Nothing}
 use Rattle.sfi_rules.specs.Findings.{AreFoundUpTo}
 use Rattle.sfi_rules.specs.words.Findings.{AreFoundInBundle, AreFoundOfFirst}
-use Rattle.sfi_scan.specs.Stretches.{stretch_place, AreStretchFindings, AreWordStretchFindings, AreFoundInStretch}
-use Rattle.sfi_scan.proofs.Stretches.{stretch_in_part}
+use Rattle.sfi_scan.specs.Stretches.{stretch_place, AreStretchFindings, AreWordStretchFindings, AreFoundInStretch, IsWordCodeScanned}
+use Rattle.sfi_scan.specs.private.Scanning.{IsWordFrontScanned}
+use Rattle.sfi_scan.proofs.Stretches.{stretch_in_part, tail_is}
 
 -- one bundle more
 pub words_push : (b : BundlePlace) (owed : Owed) (xs : List ℕ) (n : ℕ) (front last : List Finding) (between next : Owed) → AreWordStretchFindings b owed xs n front between
     → AreFoundInBundle (stretch_place b n) between (block_bundle xs n) last next → AreWordStretchFindings b owed xs (n + 1) (front ++ last) next
 words_push b owed xs n front last between next are one =
     subst (λ (m : ℕ). AreWordStretchFindings b owed xs m (front ++ last) next) (let e : suc n ≡ n + 1 = omega arith in e) (front, last, between, are, one, refl)
+
+-- one bundle is a stretch of its own
+pub words_one : (b : BundlePlace) (owed : Owed) (bundle : List ℕ) (last : List Finding) (next : Owed) → length bundle ≡ 16 → AreFoundInBundle b owed bundle last next → AreWordStretchFindings b owed bundle 1 last next
+words_one b owed bundle last next long one = ([], last, owed, (refl, refl), subst (λ (l : List ℕ). AreFoundInBundle b owed l last next) (sym (take_all 16 bundle (omega (arith, long)))) one, refl)
+
+-- the findings of so many bundles, and of those that follow them
+pub words_more : (b c : BundlePlace) (owed : Owed) (xs ys : List ℕ) (k n : ℕ) (front found : List Finding) (between next : Owed)
+    → ((i : ℕ) → i < n → stretch_place b i ≡ stretch_place c (k + i)) → ((i : ℕ) → i < n → block_bundle xs i ≡ block_bundle ys (k + i))
+    → AreWordStretchFindings c owed ys k front between → AreWordStretchFindings b between xs n found next → AreWordStretchFindings c owed ys (k + n) (front ++ found) next
+words_more b c owed xs ys k zero front found between next places bytes before none =
+    subst (λ (o : Owed). AreWordStretchFindings c owed ys (k + 0) (front ++ found) o) (sym none.1)
+    (subst (λ (l : List Finding). AreWordStretchFindings c owed ys (k + 0) (front ++ l) between) (sym none.0)
+    (subst (λ (l : List Finding). AreWordStretchFindings c owed ys (k + 0) l between) (sym (append-nil front))
+    (subst (λ (m : ℕ). AreWordStretchFindings c owed ys m front between) (let e : k ≡ k + 0 = omega arith in e) before)))
+words_more b c owed xs ys k (suc n) front found between next places bytes before are =
+    let more = words_more b c owed xs ys k n front are.0 between are.2 (λ i less. places i (omega arith)) (λ i less. bytes i (omega arith)) before are.3 in
+    let one = subst (λ (x : BundlePlace). AreFoundInBundle x are.2 (block_bundle ys (k + n)) are.1 next) (places n (omega arith))
+    (subst (λ (x : List ℕ). AreFoundInBundle (stretch_place b n) are.2 x are.1 next) (bytes n (omega arith)) are.4) in
+    let found_is = ap (λ (l : List Finding). front ++ l) are.5 ∙ sym (append_assoc front are.0 are.1) in
+    subst (λ (m : ℕ). AreWordStretchFindings c owed ys m (front ++ found) next) (let e : suc (k + n) ≡ k + suc n = omega arith in e) (front ++ are.0, are.1, are.2, more, one, found_is)
+
+-- the same bundles of other bytes
+pub words_same : (b : BundlePlace) (owed : Owed) (xs ys : List ℕ) (n : ℕ) (found : List Finding) (next : Owed) → ((i : ℕ) → i < n → block_bundle xs i ≡ block_bundle ys i)
+    → AreWordStretchFindings b owed xs n found next → AreWordStretchFindings b owed ys n found next
+words_same b owed xs ys zero found next bytes none = none
+words_same b owed xs ys (suc n) found next bytes are =
+    (are.0, are.1, are.2, words_same b owed xs ys n are.0 are.2 (λ i less. bytes i (omega arith)) are.3, subst (λ (x : List ℕ). AreFoundInBundle (stretch_place b n) are.2 x are.1 next) (bytes n (omega arith)) are.4, are.5)
+
+-- ---- what a sink took
+
+module _ {F : Type 0} (takes : F → List Finding → F → Type 0) where
+  pub words_scanned_none : (b : BundlePlace) (owed : Owed) (xs : List ℕ) (s : F) → takes s [] s → IsWordCodeScanned takes b owed xs 0 owed s s
+  words_scanned_none b owed xs s none = record { found = []; found_are = (refl, refl); few = omega arith; handed = none }
+
+  pub words_scanned_same : (b : BundlePlace) (owed : Owed) (xs ys : List ℕ) (n : ℕ) (next : Owed) (s t : F) → ((i : ℕ) → i < n → block_bundle xs i ≡ block_bundle ys i)
+      → IsWordCodeScanned takes b owed xs n next s t → IsWordCodeScanned takes b owed ys n next s t
+  words_scanned_same b owed xs ys n next s t bytes h = record { found = h.found; found_are = words_same b owed xs ys n h.found next bytes h.found_are; few = h.few; handed = h.handed }
+
+  pub words_scanned_more : ((s t u : F) (xs ys : List Finding) → takes s xs t → takes t ys u → takes s (xs ++ ys) u)
+      → (b c : BundlePlace) (owed : Owed) (xs ys : List ℕ) (k n : ℕ) (between next : Owed) (s t u : F)
+      → ((i : ℕ) → i < n → stretch_place b i ≡ stretch_place c (k + i)) → ((i : ℕ) → i < n → block_bundle xs i ≡ block_bundle ys (k + i))
+      → IsWordCodeScanned takes c owed ys k between s t → IsWordCodeScanned takes b between xs n next t u → IsWordCodeScanned takes c owed ys (k + n) next s u
+  words_scanned_more more b c owed xs ys k n between next s t u places bytes one two = record {
+    found = one.found ++ two.found;
+    found_are = words_more b c owed xs ys k n one.found two.found between next places bytes one.found_are two.found_are;
+    few = omega (arith, one.few, two.few, length-append one.found two.found);
+    handed = more s t u one.found two.found one.handed two.handed;
+  }
+
+-- the front of what is left of a stretch after so many bundles
+pub words_rest : {F : Type 0} {takes : F → List Finding → F → Type 0} {c : BundlePlace} {owed next : Owed} {at len : ℕ} {s t : F} (b : BundlePlace) (code : List ℕ) (k : ℕ) → at ≡ 16 * k → c ≡ stretch_place b k
+    → IsWordFrontScanned takes c owed (take (length code - at) (drop at code)) len next s t → IsWordFrontScanned takes (stretch_place b k) owed (drop (16 * k) code) len next s t
+words_rest {takes = takes} {owed = owed} {next = next} {at = at} {len = len} {s = s} {t = t} b code k is place h =
+    subst (λ (l : List ℕ). IsWordFrontScanned takes (stretch_place b k) owed l len next s t) (tail_is at code ∙ ap (λ (a : ℕ). drop a code) is)
+    (subst (λ (c : BundlePlace). IsWordFrontScanned takes c owed (take (length code - at) (drop at code)) len next s t) place h)
+
+-- ---- in a part
 
 -- those of a stretch in a part, after those of so many bundles of it
 pub words_in_part : (sandbox : ℕ) (p : Part) (b : BundlePlace) (xs : List ℕ) (k n : ℕ) (front found : List Finding) (between next : Owed)

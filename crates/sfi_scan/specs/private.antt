@@ -5,3 +5,5 @@ pub mod Inside
 pub mod Listing
 pub mod Near
 pub mod Scanning
+pub mod WordBlock
+pub mod WordLook

@@ -18,7 +18,7 @@ use sfi_policy::BUNDLE_SIZE;
 use sfi_rules::BundlePlace;
 
 /// Every second halfword, from the first.
-const EVEN: u64 = 0x5555_5555_5555_5555;
+pub(crate) const EVEN: u64 = 0x5555_5555_5555_5555;
 /// The last halfword of each bundle.
 const LAST: u64 = 0x8080_8080_8080_8080;
 /// The first three halfwords of each bundle.
@@ -36,7 +36,7 @@ pub(crate) fn has(mask: u64, i: usize) -> bool
 }
 
 #[inline(always)]
-fn without(mask: u64, other: u64) -> u64
+pub(crate) fn without(mask: u64, other: u64) -> u64
     ensures { IsWithout mask other result }
 {
     mask & !other

@@ -12,7 +12,7 @@ use crate::block::{bundle_at, clean_bundles, has};
 use crate::findings::BundleFindings;
 use crate::scan::scan_bundle;
 use crate::sink::FindingSink;
-use crate::words::scan_word_code;
+use crate::words::scan_words_as;
 use sfi_masks::BLOCK_BYTES;
 use sfi_policy::{BUNDLE_BYTES, BUNDLE_SIZE};
 use sfi_rules::{BundlePlace, Owed};
@@ -97,7 +97,7 @@ fn scan_block<F: FindingSink>(
 
 /// Whether none of the eight bundles from that place on is its region's last.
 #[inline(always)]
-fn is_before_last(place: &BundlePlace) -> bool
+pub(crate) fn is_before_last(place: &BundlePlace) -> bool
     requires { IsWithin place.now }
     ensures { OnTrue result (IsWithinBlock place.now) }
 {
@@ -155,7 +155,7 @@ pub fn scan_stretch<F: FindingSink, const BLOCKS: bool>(
         → IsStretchScanned F.takes place.now owed code.now n result sink.old sink.new }
 {
     if place.format.has_words() {
-        scan_word_code(place, code, owed, sink)
+        scan_words_as::<F, BLOCKS>(place, code, owed, sink)
     } else {
         scan_code::<F, BLOCKS>(place, code, sink);
         Owed::Nothing

@@ -26,7 +26,7 @@ fn breaks_ecall(place: &BundlePlace, is_first: bool, instr: &Instr) -> bool
     }
 }
 
-fn breaks_reserved(instr: &Instr) -> bool
+pub(crate) fn breaks_reserved(instr: &Instr) -> bool
     ensures { result ≡ breaks_reserved instr.now }
 {
     match instr.writes() {
@@ -87,7 +87,7 @@ fn breaks_target(place: &BundlePlace, address: u32, instr: &Instr) -> bool
     }
 }
 
-fn ends_region(instr: &Instr) -> bool
+pub(crate) fn ends_region(instr: &Instr) -> bool
     ensures { result ≡ ends_region instr.now }
 {
     matches!(
@@ -116,7 +116,7 @@ fn writes_stack(place: &BundlePlace, instr: &Instr) -> bool
     place.format.has_stack() && instr.writes_register(STACK)
 }
 
-fn is_jump(instr: &Instr) -> bool
+pub(crate) fn is_jump(instr: &Instr) -> bool
     ensures { result ≡ is_jump instr.now }
 {
     matches!(instr, Instr::Jal { .. } | Instr::Jalr { .. })

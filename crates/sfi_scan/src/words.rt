@@ -1,22 +1,28 @@
 //! The scan of code in words, 16 bytes at a time.
-ghost use Rattle.std.specs.Prelude.{◌≡◌, ◌+◌, ◌*◌, ◌≤◌, ◌<◌, ◌++◌, ℕ, List, Some, length};
+ghost use Rattle.std.specs.Prelude.{◌≡◌, ◌+◌, ◌*◌, ◌≤◌, ◌<◌, ◌++◌, ℕ, List, Some, IfSome, length};
 ghost use Rattle.sfi_rules.specs.Bundles.{IsWithin};
 ghost use Rattle.sfi_rules.specs.declared.finding.Finding.{Finding};
 ghost use Rattle.sfi_rules.specs.words.Findings.{IsWordFound, AreFoundInBundle, found_at, lowest};
 ghost use Rattle.sfi_rules.specs.words.Owing.{owed_next};
 ghost use Rattle.sfi_scan.specs.Stretches.{IsStretch, IsWordCodeScanned};
 ghost use Rattle.sfi_scan.specs.private.Inside.{IsInside};
+ghost use Rattle.sfi_scan.specs.private.Scanning.{IsFrontClean, IsWordFrontScanned};
 
+mod block;
+mod look;
 mod owed;
 mod rules;
 
-use crate::code::place_after;
+use crate::code::{is_before_last, place_after};
 use crate::findings::BundleFindings;
 use crate::sink::FindingSink;
+use crate::words::block::look_at_block;
+use crate::words::look::look;
 use crate::words::owed::owed_next;
 use crate::words::rules::lowest_rule;
 use rv_comp::{Front, read_front};
 use rv_word::Instr;
+use sfi_masks::BLOCK_BYTES;
 use sfi_policy::BUNDLE_BYTES;
 use sfi_rules::{BundlePlace, Finding, Owed, Rule};
 
@@ -62,8 +68,10 @@ fn scan_instruction(
     owed_next(owed, instr)
 }
 
-/// Adds the findings of the word there, and answers what is owed after it.
-fn scan_word(
+/// Adds the findings of the word there, instruction by instruction, and answers what is owed after
+/// it.
+#[inline(never)]
+fn scan_unseen(
     place: &BundlePlace,
     address: u32,
     word: &[u8],
@@ -103,6 +111,31 @@ fn scan_word(
     }
 }
 
+/// Adds the findings of the word there, and answers what is owed after it. Most have none, so a
+/// look comes first; the region's end has a rule of its own.
+#[inline(always)]
+fn scan_word(
+    place: &BundlePlace,
+    address: u32,
+    word: &[u8],
+    owed: Owed,
+    found: &mut BundleFindings,
+) -> Owed
+    requires within { IsWithin place.now }
+    requires inside { IsInside place.now address 4 }
+    requires whole { length word.now ≡ 4 }
+    requires room { length found.old ≤ 6 }
+    ensures { (here : List Finding) × (found.new ≡ found.old ++ here) × (length here ≤ 2)
+        × IsWordFound place.now address owed word.now here result }
+{
+    if address - place.code_base < place.code_size - 4 {
+        if let Some(next) = look(place, address, word, owed) {
+            return next;
+        }
+    }
+    scan_unseen(place, address, word, owed, found)
+}
+
 /// Replaces the findings by those of the words of these 16 bytes, before which this is owed, in the
 /// order of their addresses. Answers what is owed after them. Before a region's first bytes nothing
 /// is owed.
@@ -126,6 +159,103 @@ pub fn scan_words(
     next
 }
 
+/// Scans 16 bytes, and hands their findings to the sink. Answers what is owed after them.
+#[inline(always)]
+fn scan_one<F: FindingSink>(
+    place: &BundlePlace,
+    bundle: &[u8; BUNDLE_BYTES],
+    owed: Owed,
+    sink: &mut F,
+    findings: &mut BundleFindings,
+) -> Owed
+    requires { IsWithin place.now }
+    ensures { IsWordCodeScanned F.takes place.now owed bundle.now 1 result sink.old sink.new }
+{
+    let next = scan_words(place, bundle, owed, findings);
+    if findings.count() > 0 {
+        sink.put(findings);
+    }
+    next
+}
+
+/// What is owed after the eight bundles at a stretch's front, if they are there, the code is scanned in
+/// blocks, and they are seen to break no rule.
+#[inline(always)]
+fn look_at_front<const BLOCKS: bool>(
+    place: &BundlePlace,
+    rest: &[u8],
+    owed: Owed,
+    findings: &mut BundleFindings,
+) -> Option<Owed>
+    requires { IsWithin place.now }
+    ensures { IfSome result (IsFrontClean place.now owed rest.now) }
+{
+    if !BLOCKS {
+        return None;
+    }
+    if place.listed {
+        return None;
+    }
+    if !is_before_last(place) {
+        return None;
+    }
+    match rest.first_chunk::<BLOCK_BYTES>() {
+        Some(block) => look_at_block(place, block, owed, findings),
+        None => None,
+    }
+}
+
+/// Scans the front of a stretch, and answers how many bytes, and what is owed after them: a block that is
+/// seen to break no rule, and else the first bundle.
+#[inline(always)]
+fn scan_front<F: FindingSink, const BLOCKS: bool>(
+    place: &BundlePlace,
+    rest: &[u8],
+    owed: Owed,
+    sink: &mut F,
+    findings: &mut BundleFindings,
+) -> (usize, Owed)
+    requires { (n : ℕ) × IsStretch place.now rest.now n × (1 ≤ n) }
+    ensures { IsWordFrontScanned F.takes place.now owed rest.now result.0 result.1 sink.old sink.new }
+{
+    if let Some(next) = look_at_front::<BLOCKS>(place, rest, owed, findings) {
+        return (BLOCK_BYTES, next);
+    }
+    let Some(bundle) = rest.first_chunk::<BUNDLE_BYTES>() else {
+        unreachable!();
+    };
+    let next = scan_one(place, bundle, owed, sink, findings);
+    (BUNDLE_BYTES, next)
+}
+
+/// Scans a stretch of code in words, in blocks or bundle by bundle.
+pub(crate) fn scan_words_as<F: FindingSink, const BLOCKS: bool>(
+    place: &BundlePlace,
+    code: &[u8],
+    owed: Owed,
+    sink: &mut F,
+) -> Owed
+    requires { (n : ℕ) × IsStretch place.now code.now n }
+    ensures { (n : ℕ) → IsStretch place.now code.now n
+        → IsWordCodeScanned F.takes place.now owed code.now n result sink.old sink.new }
+{
+    let mut findings = BundleFindings::new();
+    let mut left = owed;
+    let mut at = 0;
+    while at < code.len() {
+        let (size, next) = scan_front::<F, BLOCKS>(
+            &place_after(place, at),
+            &code[at..],
+            left,
+            sink,
+            &mut findings,
+        );
+        at += size;
+        left = next;
+    }
+    left
+}
+
 /// Scans a stretch of code in words, before which this is owed, and hands the findings of each 16
 /// bytes to the sink, in order. Answers what is owed after it.
 pub fn scan_word_code<F: FindingSink>(
@@ -138,14 +268,5 @@ pub fn scan_word_code<F: FindingSink>(
     ensures { (n : ℕ) → IsStretch place.now code.now n
         → IsWordCodeScanned F.takes place.now owed code.now n result sink.old sink.new }
 {
-    let mut findings = BundleFindings::new();
-    let mut left = owed;
-    for (k, bytes) in code.as_chunks::<BUNDLE_BYTES>().0.iter().enumerate() {
-        let here = place_after(place, BUNDLE_BYTES * k);
-        left = scan_words(&here, bytes, left, &mut findings);
-        if findings.count() > 0 {
-            sink.put(&findings);
-        }
-    }
-    left
+    scan_words_as::<F, true>(place, code, owed, sink)
 }

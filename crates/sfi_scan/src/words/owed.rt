@@ -4,7 +4,9 @@ ghost use Rattle.rv_word.specs.Writes.{destination};
 ghost use Rattle.sfi_rules.specs.words.Owing.{left, owed_by_data, owed_by_code, owed_by, owed_next, is_of_data, is_of_code};
 ghost use Rattle.sfi_rules.specs.words.Findings.{fails_data, fails_code, is_data_one};
 
-use crate::words::rules::{is_jump, is_masking, is_step, masks, places, places_code, uses};
+use crate::before::is_masking;
+use crate::rules::is_jump;
+use crate::words::rules::{is_step, masks, places, places_code, uses};
 use rv_word::Instr;
 use sfi_pairs::is_data_register;
 use sfi_policy::{CODE_MASK_REGISTER, CODE_REGISTER};
@@ -86,7 +88,7 @@ fn by_code(instr: &Instr) -> Option<Owed>
     }
 }
 
-fn owed_by(instr: &Instr) -> Option<Owed>
+pub(crate) fn owed_by(instr: &Instr) -> Option<Owed>
     ensures { result ≡ owed_by instr.now }
 {
     match instr.writes() {

@@ -1,16 +1,16 @@
 //! The rules, each as a test on an instruction and what comes after it.
 ghost use Rattle.std.specs.Prelude.{◌≡◌};
-ghost use Rattle.sfi_pairs.specs.Pairs.{is_masking, is_placing};
-ghost use Rattle.sfi_rules.specs.Rules.{breaks_reserved, ends_region};
-ghost use Rattle.sfi_rules.specs.Stack.{is_jump};
+ghost use Rattle.sfi_pairs.specs.Pairs.{is_placing};
 ghost use Rattle.sfi_rules.specs.Bundles.{IsWithin};
 ghost use Rattle.sfi_rules.specs.words.Rules.{is_and, is_or, places, masks, is_small, is_step, uses, breaks_ecall, may_access, breaks_access, breaks_jump, is_word_start, breaks_target, breaks_offset};
 ghost use Rattle.sfi_scan.specs.private.Inside.{IsInside};
 ghost use Rattle.sfi_rules.specs.words.Findings.{breaks_last, is_at_gate, lowest};
 
+use crate::before::{is_masking, is_placing};
+use crate::rules::{breaks_reserved, ends_region, offset_by};
 use crate::words::owed::{fails_code, fails_data};
 use rv_word::{ImmOp, Instr, Reg, RegOp};
-use sfi_pairs::{is_data_register, is_reserved};
+use sfi_pairs::is_data_register;
 use sfi_policy::{
     CODE_BASE_REGISTER, CODE_REGISTER, DATA_BASE_REGISTER, DATA_MASK_REGISTER, OFFSET_REGISTER,
 };
@@ -46,26 +46,11 @@ fn is_or(rd: u8, a: u8, b: u8, instr: &Instr) -> bool
     }
 }
 
-/// `and target, a, mask`.
-pub(crate) fn is_masking(mask: u8, target: u8, instr: &Instr) -> bool
-    ensures { result ≡ is_masking mask target instr.now }
-{
-    match *instr {
-        Instr::Op {
-            op: RegOp::And,
-            rd,
-            rs2,
-            ..
-        } => rd.number() == target && rs2.number() == mask,
-        _ => false,
-    }
-}
-
 /// `or x30, x30, x24`.
 pub(crate) fn places_code(instr: &Instr) -> bool
     ensures { result ≡ is_placing 24 30 instr.now }
 {
-    is_or(CODE_REGISTER, CODE_REGISTER, CODE_BASE_REGISTER, instr)
+    is_placing(CODE_BASE_REGISTER, CODE_REGISTER, instr)
 }
 
 pub(crate) fn places(d: u8, instr: &Instr) -> bool
@@ -111,21 +96,6 @@ pub(crate) fn uses(d: u8, instr: &Instr) -> bool
     }
 }
 
-pub(crate) fn is_jump(instr: &Instr) -> bool
-    ensures { result ≡ is_jump instr.now }
-{
-    matches!(instr, Instr::Jal { .. } | Instr::Jalr { .. })
-}
-
-pub(crate) fn ends_region(instr: &Instr) -> bool
-    ensures { result ≡ ends_region instr.now }
-{
-    matches!(
-        instr,
-        Instr::Jal { .. } | Instr::Jalr { .. } | Instr::Ebreak
-    )
-}
-
 // ---- the rules
 
 fn is_at_gate(place: &BundlePlace, address: u32) -> bool
@@ -143,16 +113,7 @@ fn breaks_ecall(place: &BundlePlace, address: u32, instr: &Instr) -> bool
     }
 }
 
-fn breaks_reserved(instr: &Instr) -> bool
-    ensures { result ≡ breaks_reserved instr.now }
-{
-    match instr.writes() {
-        Some(rd) => is_reserved(rd),
-        None => false,
-    }
-}
-
-fn may_access(base: Reg) -> bool
+pub(crate) fn may_access(base: Reg) -> bool
     ensures { result ≡ may_access base }
 {
     is_data_register(base) || base.number() == DATA_BASE_REGISTER
@@ -176,7 +137,7 @@ fn breaks_jump(instr: &Instr) -> bool
     }
 }
 
-fn is_word_start(place: &BundlePlace, address: u32) -> bool
+pub(crate) fn is_word_start(place: &BundlePlace, address: u32) -> bool
     requires { IsWithin place.now }
     ensures { result ≡ is_word_start place.now.code_base place.now.code_size address }
 {
@@ -190,7 +151,7 @@ fn breaks_target(place: &BundlePlace, address: u32, instr: &Instr) -> bool
 {
     match *instr {
         Instr::Jal { offset, .. } | Instr::Branch { offset, .. } => {
-            !is_word_start(place, address.wrapping_add_signed(offset))
+            !is_word_start(place, offset_by(address, offset))
         }
         _ => false,
     }

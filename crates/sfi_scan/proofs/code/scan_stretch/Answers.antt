@@ -6,12 +6,12 @@ use Rattle.sfi_scan.proofs.code.scan_stretch.Goals as goal
 
 pub returns-then-has_words : goal.returns-then-has_words
 returns-then-has_words g c = λ n run.
-    let h = c.scan_word_code.ensures n run in
+    let h = c.scan_words_as.ensures n run in
     let words = sym c.has_words.ensures ∙ c.if-has_words.true in
     record {
       found = h.found;
-      found_are = subst (λ (w : Bool). MatchBool w (AreWordStretchFindings c.args.place.now c.args.owed c.args.code.now n h.found c.scan_word_code.result)
-          (AreStretchFindings c.args.place.now c.args.code.now n h.found × (c.scan_word_code.result ≡ Nothing))) (sym words) h.found_are;
+      found_are = subst (λ (w : Bool). MatchBool w (AreWordStretchFindings c.args.place.now c.args.owed c.args.code.now n h.found c.scan_words_as.result)
+          (AreStretchFindings c.args.place.now c.args.code.now n h.found × (c.scan_words_as.result ≡ Nothing))) (sym words) h.found_are;
       few = h.few;
       handed = h.handed;
     }

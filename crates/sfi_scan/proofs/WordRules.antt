@@ -1,0 +1,39 @@
+-- At a place of a word: where no rule of code in words is broken, none is found.
+use Rattle.sfi_scan.proofs.Prelude.{◌≡◌, Bool, false, cond, Option, Some, None, refl, ◌∙◌}
+use Rattle.sfi_rules.specs.declared.rule.Rule.{Rule}
+use Rattle.sfi_rules.specs.declared.rule.Rule.TheVariants.{V3, V4, V5, V6, V7, V8, V10, V11, V12}
+use Rattle.sfi_rules.specs.Rules.{breaks_reserved}
+use Rattle.sfi_rules.specs.words.Rules.{breaks_ecall, breaks_access, breaks_jump, breaks_target, breaks_offset}
+use Rattle.sfi_rules.specs.words.Findings.{Place, is_at_gate, breaks_last, fails_data, fails_code, lowest}
+
+pub record AreFalse (b3 b4 b5 b6 b7 b8 b10 b11 b12 : Bool) : Type 0 where
+  pub v3 : b3 ≡ false
+  pub v4 : b4 ≡ false
+  pub v5 : b5 ≡ false
+  pub v6 : b6 ≡ false
+  pub v7 : b7 ≡ false
+  pub v8 : b8 ≡ false
+  pub v10 : b10 ≡ false
+  pub v11 : b11 ≡ false
+  pub v12 : b12 ≡ false
+
+first_true : (b3 b4 b5 b6 b7 b8 b10 b11 b12 : Bool) → Option Rule
+first_true b3 b4 b5 b6 b7 b8 b10 b11 b12 =
+    cond b3 (Some V3) (cond b4 (Some V4) (cond b5 (Some V5) (cond b6 (Some V6) (cond b7 (Some V7) (cond b8 (Some V8) (cond b10 (Some V10) (cond b11 (Some V11) (cond b12 (Some V12) None))))))))
+
+all_false : (b3 b4 b5 b6 b7 b8 b10 b11 b12 : Bool) → AreFalse b3 b4 b5 b6 b7 b8 b10 b11 b12 → first_true b3 b4 b5 b6 b7 b8 b10 b11 b12 ≡ None
+unfolding first_true
+all_false b3 b4 b5 b6 b7 b8 b10 b11 b12 h = rw (h.v3, h.v4, h.v5, h.v6, h.v7, h.v8, h.v10, h.v11, h.v12) refl
+
+-- each rule, but V1 and V2, which are broken where no instruction stands, and V9, which is none of code in words
+abbrev pub AreKept : Place → Type 0
+AreKept x = AreFalse (breaks_ecall (is_at_gate x.bundle x.address) x.instr) (breaks_reserved x.instr) (breaks_access x.instr) (breaks_jump x.instr) (breaks_target x.bundle.code_base x.bundle.code_size x.address x.instr) (breaks_last x)
+    (fails_data x.owed x.instr) (fails_code x.owed x.instr) (breaks_offset x.instr)
+
+lowest_is : (x : Place) → lowest x ≡ first_true (breaks_ecall (is_at_gate x.bundle x.address) x.instr) (breaks_reserved x.instr) (breaks_access x.instr) (breaks_jump x.instr) (breaks_target x.bundle.code_base x.bundle.code_size x.address x.instr) (breaks_last x)
+    (fails_data x.owed x.instr) (fails_code x.owed x.instr) (breaks_offset x.instr)
+unfolding first_true
+lowest_is x = refl
+
+pub none_found : (x : Place) → AreKept x → lowest x ≡ None
+none_found x h = lowest_is x ∙ all_false _ _ _ _ _ _ _ _ _ h

@@ -1,0 +1,98 @@
+-- From one word of a block that has to be looked at to the next.
+use Rattle.sfi_scan.proofs.Prelude.{◌≡◌, ◌≢◌, ℕ, zero, suc, ◌+◌, ◌-◌, ◌*◌, ◌/◌, ◌%◌, ◌^◌, ◌<◌, ◌≤◌, true, false, ◌==◌, ◌⊎◌, inl, inr, List, sym, ap, ◌∙◌, subst, arith, w64, pow_pos, trailing_zeros, is_in, BundlePlace, IsWithinBlock}
+use Rattle.std.proofs.lemmas.Nat.{div_below}
+use Rattle.std.proofs.lemmas.Nat.Bits.{bit_at_above, bit_at-trailing_zeros}
+use Rattle.std.proofs.lemmas.Bool.{cases_lt}
+use Rattle.sfi_rules.specs.declared.owed.Owed.{Owed}
+use Rattle.sfi_rules.specs.declared.owed.Owed.TheVariants.{Nothing, MaskOrUse}
+use Rattle.sfi_scan.specs.private.WordBlock.{IsSeen, IsCleanWord, AreCleanWords}
+use Rattle.sfi_scan.proofs.Bits.{in_shr, in_zero}
+use Rattle.sfi_scan.proofs.Seen.{no_both}
+
+-- ---- the first bit from a place on
+
+pub in_below : (m i : ℕ) → m < 2 ^ 64 → is_in m i ≡ true → i < 64
+in_below m i fits h = elim (cases_lt i 64) [
+  | inl less ↦ less
+  | inr more ↦ absurd (no_both (is_in m i) h (ap (λ n. n == 1) (bit_at_above m 64 i fits (omega (arith, more)))))
+]
+
+pub none_ahead : (words at : ℕ) → words / 2 ^ at ≡ 0 → (i : ℕ) → at ≤ i → is_in words i ≡ false
+none_ahead words at none i le =
+    let e : at + (i - at) ≡ i = omega (arith, le) in
+    ap (is_in words) (sym e) ∙ sym (in_shr words at (i - at)) ∙ ap (λ m. is_in m (i - at)) none ∙ in_zero (i - at)
+
+pub record IsFirst (words at i : ℕ) : Type 0 where
+  pub below : i < 64
+  pub one : is_in words i ≡ true
+  pub none : (j : ℕ) → at ≤ j → j < i → is_in words j ≡ false
+
+pub first_ahead : (words at : ℕ) → words < 2 ^ 64 → words / 2 ^ at ≢ 0 → IsFirst words at (at + trailing_zeros w64 (words / 2 ^ at))
+first_ahead words at fits some =
+    let small : words / 2 ^ at < 2 ^ 64 = div_below words (2 ^ at) (2 ^ 64) (pow_pos at) (omega (arith, fits, pow_pos at)) in
+    let all = bit_at-trailing_zeros w64 (words / 2 ^ at) (omega (arith, some)) small in
+    let t = trailing_zeros w64 (words / 2 ^ at) in
+    let one : is_in words (at + t) ≡ true = sym (in_shr words at t) ∙ ap (λ n. n == 1) all.1 in
+    record {
+      below = in_below words (at + t) fits one;
+      one = one;
+      none = λ j from less.
+          let e : at + (j - at) ≡ j = omega (arith, from) in
+          ap (is_in words) (sym e) ∙ sym (in_shr words at (j - at)) ∙ ap (λ n. n == 1) (all.2 (j - at) (omega (arith, from, less)));
+    }
+
+-- ---- words that aren't looked at
+
+module _ (b : BundlePlace) (block : List ℕ) (owed : Owed) (words : ℕ) (within : IsWithinBlock b) (others : (n : ℕ) → n < 32 → is_in words (2 * n) ≡ false → IsSeen block words (2 * n)) where
+  -- up to word k, which is looked at or the block's end
+  advance : (fuel n k : ℕ) → n ≤ k → k ≤ n + fuel → k ≤ 32 → ((j : ℕ) → 2 * n ≤ j → j < 2 * k → is_in words j ≡ false) → (k ≡ 32) ⊎ (is_in words (2 * k) ≡ true) → AreCleanWords b owed block n Nothing → AreCleanWords b owed block k Nothing
+  advance zero n k from enough end none last h = subst (λ (m : ℕ). AreCleanWords b owed block m Nothing) (let e : n ≡ k = omega (arith, from, enough) in e) h
+  advance (suc fuel) n k from enough end none last h = elim (cases_lt n k) [
+    | inr more ↦ subst (λ (m : ℕ). AreCleanWords b owed block m Nothing) (let e : n ≡ k = omega (arith, from, more) in e) h
+    | inl less ↦ elim (others n (omega (arith, less, end)) (none (2 * n) (omega arith) (omega (arith, less)))) [
+      | inl quiet ↦ advance fuel (suc n) k (omega (arith, less)) (omega (arith, enough)) end (λ j low high. none j (omega (arith, low)) high) last (Nothing, h, quiet b within)
+      | inr both ↦ elim (cases_lt (suc n) k) [
+        | inl further ↦ advance fuel (suc (suc n)) k (omega (arith, further)) (omega (arith, enough)) end (λ j low high. none j (omega (arith, low)) high) last
+            (MaskOrUse both.0.register, (Nothing, h, both.0.step b within), subst (λ (i : ℕ). IsCleanWord b block i (MaskOrUse both.0.register) Nothing) (let e : 2 * n + 2 ≡ 2 * suc n = omega arith in e) (both.0.used b within))
+        | inr next ↦ absurd (ends n k (let e : k ≡ suc n = omega (arith, next, less) in e) both.0.below both.1 last)
+      ]
+    ]
+  ]
+    where
+      ends : (n k : ℕ) → k ≡ suc n → 2 * n + 2 < 64 → is_in words (2 * n + 2) ≡ false → (k ≡ 32) ⊎ (is_in words (2 * k) ≡ true) → ⊥
+      ends n k next below apart (inl all) = omega (arith, next, below, all)
+      ends n k next below apart (inr there) = no_both (is_in words (2 * n + 2)) (ap (is_in words) (let e : 2 * n + 2 ≡ 2 * k = omega (arith, next) in e) ∙ there) apart
+
+  -- as far as where the look goes on
+  pub reached : (left : Owed) (n at i : ℕ) → at ≡ 2 * n → at ≤ i → i ≤ 64 → i % 2 ≡ 0 → ((j : ℕ) → at ≤ j → j < i → is_in words j ≡ false) → (i ≡ at) ⊎ (i < 64 → is_in words i ≡ true) → (i ≡ at) ⊎ (left ≡ Nothing)
+      → AreCleanWords b owed block n left → AreCleanWords b owed block (i / 2) left
+  reached left n at i place from end even none one skipped h = by one skipped
+    where
+      right_there : i ≡ at → AreCleanWords b owed block (i / 2) left
+      right_there same = subst (λ (m : ℕ). AreCleanWords b owed block m left) (let e : n ≡ i / 2 = omega (arith, place, same) in e) h
+
+      last : (i < 64 → is_in words i ≡ true) → (i / 2 ≡ 32) ⊎ (is_in words (2 * (i / 2)) ≡ true)
+      last there = elim (cases_lt i 64) [
+        | inl less ↦ inr (ap (is_in words) (let e : 2 * (i / 2) ≡ i = omega (arith, even) in e) ∙ there less)
+        | inr more ↦ inl (let all : i ≡ 64 = omega (arith, more, end) in omega (arith, all))
+      ]
+
+      by : (i ≡ at) ⊎ (i < 64 → is_in words i ≡ true) → (i ≡ at) ⊎ (left ≡ Nothing) → AreCleanWords b owed block (i / 2) left
+      by (inl same) s = right_there same
+      by (inr there) (inl same) = right_there same
+      by (inr there) (inr nothing) =
+          subst (λ (o : Owed). AreCleanWords b owed block (i / 2) o) (sym nothing)
+          (advance (i / 2) n (i / 2) (omega (arith, place, from)) (omega arith) (omega (arith, end)) (λ j low high. none j (omega (arith, place, low)) (omega (arith, high, even))) (last there)
+          (subst (λ (o : Owed). AreCleanWords b owed block n o) nothing h))
+
+-- and past the word there
+pub passed : (b : BundlePlace) (block : List ℕ) (owed left next : Owed) (i : ℕ) → i % 2 ≡ 0 → AreCleanWords b owed block (i / 2) left → IsCleanWord b block i left next → AreCleanWords b owed block (suc (i / 2)) next
+passed b block owed left next i even h word = (left, h, subst (λ (j : ℕ). IsCleanWord b block j left next) (let e : i ≡ 2 * (i / 2) = omega (arith, even) in e) word)
+
+-- the place where the look goes on is a word's
+pub even_there : (words n at i : ℕ) → ((j : ℕ) → j < 64 → is_in words j ≡ true → j % 2 ≡ 0) → at ≡ 2 * n → i ≤ 64 → (i ≡ at) ⊎ (i < 64 → is_in words i ≡ true) → i % 2 ≡ 0
+even_there words n at i even place end (inl same) = omega (arith, place, same)
+even_there words n at i even place end (inr one) = elim (cases_lt i 64) [
+  | inl less ↦ even i less (one less)
+  | inr more ↦ (let all : i ≡ 64 = omega (arith, more, end) in omega (arith, all))
+]

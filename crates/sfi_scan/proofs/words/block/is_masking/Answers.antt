@@ -1,0 +1,6 @@
+use Rattle.std.proofs.Common.{refl}
+use Rattle.sfi_scan.proofs.BlockPairs.{masking_told}
+use Rattle.sfi_scan.proofs.words.block.is_masking.Goals as goal
+
+pub returns : goal.returns
+returns c = masking_told c.args.word c.ranges.word.fits _ refl

@@ -1,0 +1,80 @@
+-- Words of private contracts: the first look at a block of eight bundles of code in words, of whose 64
+-- halfwords a mask has a bit each. A word goes by its first halfword.
+use Rattle.std.specs.Prelude.{◌≡◌, ◌+◌, ◌*◌, ◌/◌, ◌⊎◌, ◌<◌, ℕ, zero, suc, List, [], true, false, take, drop}
+use Rattle.rv_word.specs.Spelling.{IsWordOf}
+use Rattle.rv_word.specs.declared.instr.Instr.{Instr}
+use Rattle.rv_word.specs.declared.instr.Instr.TheVariants.{Op}
+use Rattle.rv_word.specs.declared.instr.RegOp.TheVariants.{And, Or}
+use Rattle.sfi_image.specs.declared.bundle.BundlePlace.{BundlePlace}
+use Rattle.sfi_masks.specs.Masks.{is_in}
+use Rattle.sfi_masks.specs.declared.masks.Masks.{Masks}
+use Rattle.sfi_policy.specs.Limits.{word_size}
+use Rattle.sfi_policy.specs.Registers.{data_base_register, data_mask_register, is_data_register, offset_register}
+use Rattle.sfi_rules.specs.Bundles.{IsWithinBlock, bundle_at}
+use Rattle.sfi_rules.specs.declared.owed.Owed.{Owed}
+use Rattle.sfi_rules.specs.declared.owed.Owed.TheVariants.{Nothing, MaskOrUse}
+use Rattle.sfi_rules.specs.words.Findings.{IsWordFound}
+use Rattle.sfi_rules.specs.words.Rules.{is_step, uses}
+
+-- the bytes of the word that begins with halfword i
+abbrev pub bytes_at : List ℕ → ℕ → List ℕ
+bytes_at block i = take word_size (drop (2 * i) block)
+
+-- it breaks no rule there, where the one is owed before it; the other is owed after it
+abbrev pub IsCleanWord : BundlePlace → List ℕ → ℕ → Owed → Owed → Type 0
+IsCleanWord b block i owed next =
+    IsWordFound (bundle_at b (i / 8)) (b.address + 2 * i) owed (bytes_at block i) [] next
+
+-- wherever the block stands before its region's last bundle, the word breaks no rule and leaves nothing
+-- owed, if nothing is owed before it
+abbrev pub IsQuietWord : List ℕ → ℕ → Type 0
+IsQuietWord block i = (b : BundlePlace) → IsWithinBlock b → IsCleanWord b block i Nothing Nothing
+
+-- the word and the next one break no rule and leave nothing owed, if nothing is owed before them: between
+-- them it is owed that a data register is masked or used
+pub record IsSteppedWord (block : List ℕ) (i : ℕ) : Type 0 where
+  pub below : i + 2 < 64
+  pub register : ℕ
+  pub step : (b : BundlePlace) → IsWithinBlock b → IsCleanWord b block i Nothing (MaskOrUse register)
+  pub used : (b : BundlePlace) → IsWithinBlock b → IsCleanWord b block (i + 2) (MaskOrUse register) Nothing
+
+-- so it is of a word that isn't left: it is quiet, or is stepped before one that isn't left
+abbrev pub IsSeen : List ℕ → ℕ → ℕ → Type 0
+IsSeen block left i =
+    IsQuietWord block i ⊎ (IsSteppedWord block i × (is_in left (i + 2) ≡ false))
+
+-- the first n words of the block break no rule, where the one is owed before them; the other is owed
+-- after them
+abbrev pub AreCleanWords : BundlePlace → Owed → List ℕ → ℕ → Owed → Type 0
+AreCleanWords b owed block zero next = next ≡ owed
+AreCleanWords b owed block (suc n) next =
+    (between : Owed) × AreCleanWords b owed block n between × IsCleanWord b block (2 * n) between next
+
+-- the masks tell the word to be a free instruction of 32 bits, or two free ones of 16
+abbrev pub IsToldFree : Masks → ℕ → Type 0
+IsToldFree m i = (is_in m.free i ≡ true)
+    × ((is_in m.long i ≡ true) ⊎ ((is_in m.long (i + 1) ≡ false) × (is_in m.free (i + 1) ≡ true)))
+
+-- the word is `and x31, a, x27`
+abbrev pub IsMasking : ℕ → Type 0
+IsMasking word = (a : ℕ) × IsWordOf word (Op And offset_register a data_mask_register)
+
+-- the word is `or d, x31, x26`, where d is a data register
+abbrev pub IsPlacing : ℕ → Type 0
+IsPlacing word = (d : ℕ) × (is_data_register d ≡ true)
+    × IsWordOf word (Op Or d offset_register data_base_register)
+
+-- the word is `addi d, d, k`
+abbrev pub IsStepOf : ℕ → ℕ → Type 0
+IsStepOf d word = (i : Instr) × IsWordOf word i × (is_step d i ≡ true)
+
+-- the word is a load or store on d near it
+abbrev pub IsUseOf : ℕ → ℕ → Type 0
+IsUseOf d word = (i : Instr) × IsWordOf word i × (uses d i ≡ true)
+
+-- the one word steps a data register, which the next one uses
+pub record IsUsedStep (word next : ℕ) : Type 0 where
+  pub register : ℕ
+  pub is_data : is_data_register register ≡ true
+  pub step : IsStepOf register word
+  pub used : IsUseOf register next

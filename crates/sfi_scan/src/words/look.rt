@@ -1,0 +1,349 @@
+//! A first look at a word of code in words: whether it breaks no rule, and what is owed after it.
+//! It goes by the word's bits, and decodes only a write of a typed register that isn't of a pair, and
+//! what comes after a step, so it is quick. A word of which it tells nothing may still break no rule.
+ghost use Rattle.std.specs.Prelude.{◌≡◌, ◌+◌, ◌<◌, ◌==◌, ◌&&◌, ◌||◌, not, ℕ, true, IfSome, length, []};
+ghost use Rattle.std.specs.Bool.{OnTrue};
+ghost use Rattle.rv_word.specs.Numbers.{bits};
+ghost use Rattle.rv_word.specs.Outlines.{IsWordThat};
+ghost use Rattle.rv_word.specs.Spelling.{IsWordOf};
+ghost use Rattle.rv_word.specs.declared.instr.Instr.TheVariants.{Op};
+ghost use Rattle.rv_word.specs.declared.instr.RegOp.TheVariants.{And, Or};
+ghost use Rattle.rv_word.specs.declared.outline.Outline.TheVariants.{Computes};
+ghost use Rattle.sfi_image.specs.declared.bundle.BundlePlace.{BundlePlace};
+ghost use Rattle.sfi_policy.specs.Registers.{is_data_register};
+ghost use Rattle.sfi_rules.specs.Bundles.{IsWithin};
+ghost use Rattle.sfi_rules.specs.declared.owed.Owed.TheVariants.{Nothing, MaskOrUse};
+ghost use Rattle.sfi_rules.specs.words.Findings.{IsWordFound};
+ghost use Rattle.sfi_scan.specs.private.FirstLook.{is_zero};
+ghost use Rattle.sfi_scan.specs.private.WordLook.{is_kept, is_plain, IsQuietWord, IsBeforeEnd, IsPlainHalf};
+
+use crate::clean::{half_at, word_at};
+use crate::rules::offset_by;
+use crate::words::owed::owed_by;
+use crate::words::rules::{is_word_start, may_access, uses};
+use rv_comp::outline16;
+use rv_word::{
+    Outline, Reg, RegOp, access32, computes32, decode32, op_word, outline_of, outline32,
+};
+use sfi_pairs::{is_data_register, is_reserved};
+use sfi_policy::{
+    CODE_BASE_REGISTER, CODE_REGISTER, DATA_BASE_REGISTER, DATA_MASK_REGISTER, OFFSET_REGISTER,
+};
+use sfi_rules::{BundlePlace, Owed};
+
+/// Whether the register is reserved or typed: a write of it has rules of its own.
+#[inline(always)]
+fn is_kept(reg: Reg) -> bool
+    ensures { result ≡ is_kept reg }
+{
+    is_reserved(reg)
+        || is_data_register(reg)
+        || reg.number() == CODE_REGISTER
+        || reg.number() == OFFSET_REGISTER
+}
+
+/// Whether an indirect jump breaks no rule, and leaves nothing owed.
+#[inline(always)]
+fn is_plain_jump(rd: Reg, base: Reg, imm: i32) -> bool
+    ensures { OnTrue result ((not (is_kept rd) && (is_zero imm && (base == 30))) ≡ true) }
+{
+    if imm != 0 {
+        return false;
+    }
+    if is_kept(rd) {
+        return false;
+    }
+    base.number() == CODE_REGISTER
+}
+
+/// Whether an instruction that does this, before which nothing is owed, breaks no rule but perhaps
+/// at the region's end, and leaves nothing owed.
+#[inline(always)]
+fn is_plain(place: &BundlePlace, address: u32, outline: Outline) -> bool
+    requires { IsWithin place.now }
+    ensures { OnTrue result (is_plain place.now address outline ≡ true) }
+{
+    match outline {
+        Outline::Computes { rd } => !is_kept(rd),
+        Outline::Loads { rd, base } => !is_kept(rd) && may_access(base),
+        Outline::Stores { base } => may_access(base),
+        Outline::Branches { offset } => is_word_start(place, offset_by(address, offset)),
+        Outline::Jumps { rd, offset } => {
+            !is_kept(rd) && is_word_start(place, offset_by(address, offset))
+        }
+        Outline::JumpsTo { rd, base, imm } => is_plain_jump(rd, base, imm),
+        Outline::Orders | Outline::Stops => true,
+        Outline::Calls => false,
+    }
+}
+
+/// The register that bits 11:7 of the word name.
+#[inline(always)]
+fn rd_of(word: u32) -> Reg
+    ensures { result ≡ bits word 11 7 }
+{
+    Reg::numbered((word >> 7 & 0b11111) as u8)
+}
+
+/// The register that its bits 19:15 name.
+#[inline(always)]
+fn rs1_of(word: u32) -> Reg {
+    Reg::numbered((word >> 15 & 0b11111) as u8)
+}
+
+/// Whether the word is `and x31, a, x27`.
+#[inline(always)]
+fn is_masking(a: Reg, word: u32) -> bool
+    ensures { OnTrue result (IsWordOf word (Op And 31 a 27)) }
+{
+    let target = Reg::numbered(OFFSET_REGISTER);
+    op_word(RegOp::And, target, a, Reg::numbered(DATA_MASK_REGISTER)) == word
+}
+
+/// Whether the word is `or d, x31, x26`, and d is a data register.
+#[inline(always)]
+fn is_placing(d: Reg, word: u32) -> bool
+    ensures word { OnTrue result (IsWordOf word (Op Or d 31 26)) }
+    ensures data { OnTrue result (is_data_register d ≡ true) }
+{
+    if !is_data_register(d) {
+        return false;
+    }
+    let offset = Reg::numbered(OFFSET_REGISTER);
+    op_word(RegOp::Or, d, offset, Reg::numbered(DATA_BASE_REGISTER)) == word
+}
+
+/// What is owed after a word that computes into a data register or x30.
+fn after_typed(word: u32) -> Option<Owed>
+    requires computes { IsWordThat word (Computes (bits word 11 7)) }
+    requires typed { (is_data_register (bits word 11 7) || (bits word 11 7 == 30)) ≡ true }
+    ensures { (b : BundlePlace) (at : ℕ) → IsBeforeEnd b at 4 →
+        IfSome result (IsQuietWord b at Nothing word) }
+{
+    match decode32(word) {
+        Some(instr) => owed_by(&instr),
+        None => None,
+    }
+}
+
+/// What is owed after a word that computes into a register that is kept.
+#[inline(never)]
+fn after_kept(word: u32) -> Option<Owed>
+    requires { IsWordThat word (Computes (bits word 11 7)) }
+    ensures { (b : BundlePlace) (at : ℕ) → IsBeforeEnd b at 4 →
+        IfSome result (IsQuietWord b at Nothing word) }
+{
+    let rd = rd_of(word);
+    if is_masking(rs1_of(word), word) {
+        return Some(Owed::Nothing);
+    }
+    if is_placing(rd, word) {
+        return Some(Owed::Nothing);
+    }
+    if is_data_register(rd) || rd.number() == CODE_REGISTER {
+        return after_typed(word);
+    }
+    None
+}
+
+/// What is owed after a word that neither computes nor accesses memory.
+fn after_outline(place: &BundlePlace, address: u32, word: u32) -> Option<Owed>
+    requires within { IsWithin place.now }
+    requires before_end { IsBeforeEnd place.now address 4 }
+    ensures { IfSome result (IsQuietWord place.now address Nothing word) }
+{
+    let Some(outline) = outline32(word) else {
+        return None;
+    };
+    if !is_plain(place, address, outline) {
+        return None;
+    }
+    Some(Owed::Nothing)
+}
+
+/// What is owed after a word that isn't known to compute.
+#[inline(always)]
+fn after_other(place: &BundlePlace, address: u32, word: u32) -> Option<Owed>
+    requires within { IsWithin place.now }
+    requires before_end { IsBeforeEnd place.now address 4 }
+    ensures { IfSome result (IsQuietWord place.now address Nothing word) }
+{
+    match access32(word) {
+        Some(access) => {
+            if is_kept(access.written) {
+                return None;
+            }
+            if !may_access(access.base) {
+                return None;
+            }
+            Some(Owed::Nothing)
+        }
+        None => after_outline(place, address, word),
+    }
+}
+
+/// What is owed after a word before which nothing is owed.
+#[inline(always)]
+fn after_nothing(place: &BundlePlace, address: u32, word: u32) -> Option<Owed>
+    requires within { IsWithin place.now }
+    requires before_end { IsBeforeEnd place.now address 4 }
+    ensures { IfSome result (IsQuietWord place.now address Nothing word) }
+{
+    if computes32(word) {
+        if is_kept(rd_of(word)) {
+            return after_kept(word);
+        }
+        return Some(Owed::Nothing);
+    }
+    after_other(place, address, word)
+}
+
+/// Whether the word is `and x31, d, x27`.
+fn is_masking_of(d: u8, word: u32) -> bool
+    ensures { OnTrue result (IsWordOf word (Op And 31 d 27)) }
+{
+    let a = rs1_of(word);
+    if a.number() != d {
+        return false;
+    }
+    is_masking(a, word)
+}
+
+/// Whether the word is `or d, x31, x26`, and d is a data register.
+fn is_placing_of(d: u8, word: u32) -> bool
+    ensures word { OnTrue result (IsWordOf word (Op Or d 31 26)) }
+    ensures data { OnTrue result (is_data_register d ≡ true) }
+{
+    let rd = rd_of(word);
+    if rd.number() != d {
+        return false;
+    }
+    is_placing(rd, word)
+}
+
+/// Whether the word is `or x30, x30, x24`.
+fn is_placing_code(word: u32) -> bool
+    ensures { OnTrue result (IsWordOf word (Op Or 30 30 24)) }
+{
+    let code = Reg::numbered(CODE_REGISTER);
+    op_word(RegOp::Or, code, code, Reg::numbered(CODE_BASE_REGISTER)) == word
+}
+
+/// Whether the word loads or stores on register d after its step, and breaks no rule.
+fn is_use(place: &BundlePlace, address: u32, d: u8, word: u32) -> bool
+    requires within { IsWithin place.now }
+    requires before_end { IsBeforeEnd place.now address 4 }
+    ensures { OnTrue result (IsQuietWord place.now address (MaskOrUse d) word Nothing) }
+{
+    let Some(instr) = decode32(word) else {
+        return false;
+    };
+    if !uses(d, &instr) {
+        return false;
+    }
+    is_plain(place, address, outline_of(instr))
+}
+
+/// What is owed after a word before which this is owed, if not nothing.
+#[inline(never)]
+fn after_owed(place: &BundlePlace, address: u32, owed: Owed, word: u32) -> Option<Owed>
+    requires within { IsWithin place.now }
+    requires before_end { IsBeforeEnd place.now address 4 }
+    ensures { IfSome result (IsQuietWord place.now address owed word) }
+{
+    match owed {
+        Owed::Nothing => None,
+        Owed::Mask(d) => {
+            if !is_masking_of(d, word) {
+                return None;
+            }
+            Some(Owed::Place(d))
+        }
+        Owed::Place(d) => {
+            if !is_placing_of(d, word) {
+                return None;
+            }
+            Some(Owed::Nothing)
+        }
+        Owed::MaskOrUse(d) => {
+            if is_masking_of(d, word) {
+                return Some(Owed::Place(d));
+            }
+            if !is_use(place, address, d, word) {
+                return None;
+            }
+            Some(Owed::Nothing)
+        }
+        Owed::Code => {
+            if !is_placing_code(word) {
+                return None;
+            }
+            Some(Owed::Nothing)
+        }
+    }
+}
+
+/// Whether the halfword is a form that breaks no rule there, where nothing is owed, and leaves
+/// nothing owed.
+#[inline(always)]
+fn is_plain_half(place: &BundlePlace, address: u32, halfword: u16) -> bool
+    requires { IsWithin place.now }
+    ensures { OnTrue result (IsPlainHalf place.now address halfword) }
+{
+    match outline16(halfword) {
+        Some(outline) => is_plain(place, address, outline),
+        None => false,
+    }
+}
+
+/// What is owed after the two halfwords of a word, where they are forms that break no rule.
+#[inline(always)]
+fn after_halves(place: &BundlePlace, address: u32, word: &[u8], owed: Owed) -> Option<Owed>
+    requires within { IsWithin place.now }
+    requires before_end { IsBeforeEnd place.now address 4 }
+    requires whole { length word.now ≡ 4 }
+    ensures { IfSome result (IsWordFound place.now address owed word.now []) }
+{
+    match owed {
+        Owed::Nothing => {
+            if !is_plain_half(place, address, half_at(word, 0)) {
+                return None;
+            }
+            if !is_plain_half(place, address + 2, half_at(word, 2)) {
+                return None;
+            }
+            Some(Owed::Nothing)
+        }
+        Owed::Mask(_) | Owed::Place(_) | Owed::MaskOrUse(_) | Owed::Code => None,
+    }
+}
+
+/// What is owed after a 32-bit instruction, where it is seen to break no rule.
+#[inline(always)]
+fn after_word(place: &BundlePlace, address: u32, owed: Owed, word: u32) -> Option<Owed>
+    requires within { IsWithin place.now }
+    requires before_end { IsBeforeEnd place.now address 4 }
+    ensures { IfSome result (IsQuietWord place.now address owed word) }
+{
+    match owed {
+        Owed::Nothing => after_nothing(place, address, word),
+        Owed::Mask(_) | Owed::Place(_) | Owed::MaskOrUse(_) | Owed::Code => {
+            after_owed(place, address, owed, word)
+        }
+    }
+}
+
+/// What is owed after the word, where it is seen to break no rule. It isn't the region's last.
+#[inline(always)]
+pub(crate) fn look(place: &BundlePlace, address: u32, word: &[u8], owed: Owed) -> Option<Owed>
+    requires within { IsWithin place.now }
+    requires before_end { IsBeforeEnd place.now address 4 }
+    requires whole { length word.now ≡ 4 }
+    ensures { IfSome result (IsWordFound place.now address owed word.now []) }
+{
+    let wide = word_at(word, 0);
+    if wide & 0b11 != 0b11 {
+        return after_halves(place, address, word, owed);
+    }
+    after_word(place, address, owed, wide)
+}
