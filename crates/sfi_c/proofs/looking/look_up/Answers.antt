@@ -19,7 +19,7 @@ returns-in_err-view-clause-said c =
 pub loop-view-init : goal.loop-view-init
 loop-view-init c =
     let h = c.in_ok-cursor.ensures.begun in
-    begun c.args.image.now c.args.number h.0 _ c.in_ok-cursor.cursor h.1
+    begun c.args.image.now c.args.number h.1 h.0 c.in_ok-cursor.cursor h.2
 
 pub loop-view-preserved : goal.loop-view-preserved
 loop-view-preserved c =
