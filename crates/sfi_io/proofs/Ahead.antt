@@ -16,7 +16,7 @@ use Rattle.std.specs.Io.KnownBytes.{Consumes, IsAtEnd}
 use Rattle.sfi_io.specs.Hexadecimal.{is_kept, IsHexFault}
 use Rattle.sfi_io.specs.Input.{limit}
 use Rattle.sfi_io.specs.Pieces.{Ahead, Leads, ahead_of, decode_from, or_fault, outcome, prepend, waiting}
-use Rattle.sfi_io.specs.private.Pieces.{AreLeft, ComesNoPair, GoesOn, IsAfter, IsBadPair, IsErrorOf, IsNoPair, IsOver, IsReadStop, IsStopOf, IsWrongPlace, SpellsFront}
+use Rattle.sfi_io.specs.private.{AreLeft, ComesNoPair, GoesOn, IsAfter, IsBadPair, IsErrorOf, IsNoPair, IsOver, IsReadStop, IsStopOf, IsWrongPlace, SpellsFront}
 use Rattle.sfi_io.proofs.Leads.{leads_by}
 use Rattle.sfi_io.proofs.Fronts.{at_kept, no_pair, spells_nothing, spells_more, pairs_before, pairs_twice}
 
@@ -125,15 +125,13 @@ counts_held (Some first) read made high held None count h = absurd h
 counts_held (Some first) read made high held (Some rest) count h =
     (h.0, omega (arith, h.1, length_waiting high (filter is_kept (held ++ rest)), length_waiting high (filter is_kept rest), ap length (filter-append is_kept held rest), length-append (filter is_kept held) (filter is_kept rest)))
 
-pub counted : (first : Option Ahead) (read made : ℕ) (high : Option ℕ) (at end : ℕ) (piece : List ℕ) (known : Option (List ℕ)) (count : ℕ) → at ≤ end
+pub counted : (first : Option Ahead) (read made : ℕ) (high : Option ℕ) (at end : ℕ) (piece : List ℕ) (known : Option (List ℕ)) (count : ℕ)
     → Counts first (ahead_of read made high (take (end - at) (drop at piece)) known) high count
-    → Counts first (ahead_of read (made + 0) high (take (end - (at + (end - at))) (drop (at + (end - at)) piece)) known) high (count + length (filter is_kept (take (end - at) (drop at piece))))
-counted first read made high at end piece known count inside h =
-    let none : 0 ≡ end - (at + (end - at)) = omega (arith, inside) in
-    let same : made ≡ made + 0 = omega arith in
-    let all = count + length (filter is_kept (take (end - at) (drop at piece))) in
-    subst (λ (n : ℕ). Counts first (ahead_of read (made + 0) high (take n (drop (at + (end - at)) piece)) known) high all) none
-    (subst (λ (n : ℕ). Counts first (ahead_of read n high [] known) high all) same (counts_held first read made high (take (end - at) (drop at piece)) known count h))
+    → Counts first (ahead_of read made high (take (end - end) (drop end piece)) known) high (count + length (filter is_kept (take (end - at) (drop at piece))))
+counted first read made high at end piece known count h =
+    let none : 0 ≡ end - end = omega arith in
+    subst (λ (n : ℕ). Counts first (ahead_of read made high (take n (drop end piece)) known) high (count + length (filter is_kept (take (end - at) (drop at piece))))) none
+    (counts_held first read made high (take (end - at) (drop at piece)) known count h)
 
 -- the next is read
 pub counts_on : (first now next : Option Ahead) (high : Option ℕ) (count : ℕ) → Counts first now high count → GoesOn now next [] → Counts first next high count
@@ -270,7 +268,7 @@ pair_error high first low made left others fault waits_ wrong count odd digit = 
         subst (λ (f : HexFault). IsErrorOf f (decode_from (2 * made) (first ∷ low ∷ others))) (sym named.1)
         (fault_.0, ap (λ (b : Bool). if b then Err OddLength else decode_pairs (2 * made) (first ∷ low ∷ others)) e ∙ fault_.1)
 
-error_comes : (a : Ahead) (fault : HexFault) → a.whole ≤ limit → IsErrorOf fault (decode_from a.place a.digits) → outcome a ≡ Err (Fault fault)
+pub error_comes : (a : Ahead) (fault : HexFault) → a.whole ≤ limit → IsErrorOf fault (decode_from a.place a.digits) → outcome a ≡ Err (Fault fault)
 error_comes a Odd few is = keeps_limit a few ∙ ap or_fault is
 error_comes a (Digit place) few is = keeps_limit a few ∙ ap or_fault is.1
 

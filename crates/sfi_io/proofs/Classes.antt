@@ -7,7 +7,7 @@ use Rattle.std.specs.Int.Bits.{bit_or}
 use Rattle.std.proofs.lemmas.Nat.{le_or_l, le_or_r, or_lt}
 use Rattle.hex.specs.Hex.{hex_digit_value, pair_value, digit_or_error, value_at}
 use Rattle.sfi_io.specs.Hexadecimal.{is_kept}
-use Rattle.sfi_io.specs.private.Hexadecimal.{IsByteOf}
+use Rattle.sfi_io.specs.private.{IsByteOf}
 use Rattle.sfi_io.specs.declared.hexadecimal.TheConstants.{CLASSES}
 
 -- a test that passes at each byte by computation

@@ -7,10 +7,11 @@ use Rattle.hex.specs.declared.error.FromHexError.{FromHexError}
 use Rattle.hex.specs.declared.error.FromHexError.TheVariants.{OddLength, InvalidHexCharacter, InvalidStringLength, OutOfMemory}
 use Rattle.sfi_io.specs.Hexadecimal.{SpellsBytes, is_kept}
 use Rattle.sfi_io.specs.Input.{limit}
-use Rattle.sfi_io.specs.Laws.{ComesToItsBytes}
+use Rattle.sfi_io.specs.Laws.{ComesToItsBytes, ComesToItsFault}
 use Rattle.sfi_io.specs.Pieces.{or_fault, outcome, start_of}
 use Rattle.sfi_io.specs.declared.text.TextStop.TheVariants.{TooLarge}
 use Rattle.sfi_io.proofs.Ahead.{keeps_limit}
+use Rattle.sfi_io.proofs.Faults.{fault_comes}
 
 spells : (text bytes : List ℕ) → outcome (start_of text) ≡ Ok bytes → SpellsBytes text bytes
 spells text bytes e = by (nat_lt limit (length text)) refl
@@ -32,3 +33,6 @@ spells text bytes e = by (nat_lt limit (length text)) refl
 
 pub comes_to_its_bytes : ComesToItsBytes
 comes_to_its_bytes text bytes = (spells text bytes, λ h. keeps_limit (start_of text) h.short ∙ ap or_fault h.digits)
+
+pub comes_to_its_fault : ComesToItsFault
+comes_to_its_fault = fault_comes

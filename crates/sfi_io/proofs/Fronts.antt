@@ -8,8 +8,7 @@ use Rattle.hex.specs.Hex.{decode_pairs, pair_value, ◌>>=◌}
 use Rattle.hex.specs.declared.error.FromHexError.{FromHexError}
 use Rattle.sfi_io.specs.Hexadecimal.{is_kept}
 use Rattle.sfi_io.specs.Pieces.{prepend, waiting}
-use Rattle.sfi_io.specs.private.Pieces.{SpellsFront}
-use Rattle.sfi_io.specs.private.Hexadecimal.{IsByteOf}
+use Rattle.sfi_io.specs.private.{IsByteOf, SpellsFront}
 
 -- ---- what counts of a text from a place on
 

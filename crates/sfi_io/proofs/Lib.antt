@@ -1,7 +1,7 @@
 pub mod Classes
 pub mod Ahead
+pub mod Faults
 pub mod Facts
 pub mod Fronts
 pub mod Leads
-pub mod KnownBytes
 pub mod Lanes

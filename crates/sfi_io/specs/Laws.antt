@@ -1,9 +1,18 @@
 -- What holds of the definitions themselves.
-use Rattle.std.specs.Prelude.{◌≡◌, ◌↔◌, ℕ, List, Ok}
-use Rattle.sfi_io.specs.Hexadecimal.{SpellsBytes}
+use Rattle.std.specs.Prelude.{◌≡◌, ◌↔◌, ◌≤◌, ℕ, List, length, Ok, Err}
+use Rattle.sfi_io.specs.Hexadecimal.{SpellsBytes, IsHexFault}
+use Rattle.sfi_io.specs.Input.{limit}
 use Rattle.sfi_io.specs.Pieces.{outcome, start_of}
+use Rattle.sfi_io.specs.declared.hexadecimal.HexFault.{HexFault}
+use Rattle.sfi_io.specs.declared.text.TextStop.TheVariants.{Fault}
 
--- what comes of a text of which none was read is the bytes that it spells
+-- a text of which none was read comes to these bytes exactly if it spells them
 abbrev pub ComesToItsBytes : Type 0
 ComesToItsBytes =
     (text bytes : List ℕ) → (outcome (start_of text) ≡ Ok bytes) ↔ SpellsBytes text bytes
+
+-- and to this fault exactly if it keeps its limit and has it
+abbrev pub ComesToItsFault : Type 0
+ComesToItsFault =
+    (text : List ℕ) (fault : HexFault)
+    → (outcome (start_of text) ≡ Err (Fault fault)) ↔ ((length text ≤ limit) × IsHexFault text fault)

@@ -37,43 +37,6 @@ struct HeldText {
     ghost fewer: { (made + (end - at) ≤ read) × (read ≤ limit) },
 }
 
-impl HeldText {
-    ghost use Rattle.std.specs.Prelude.{◌≡◌};
-
-    /// A new piece was read, when none was left of the one before.
-    fn refill(&mut self, count: usize)
-        requires left { self.old.at ≡ self.old.end }
-        requires inside { count ≤ 16384 }
-        requires limit { self.old.read + count ≤ limit }
-        ensures piece { self.new.piece ≡ self.old.piece }
-        ensures at { self.new.at ≡ 0 }
-        ensures end { self.new.end ≡ count }
-        ensures read { self.new.read ≡ self.old.read + count }
-        ensures made { self.new.made ≡ self.old.made }
-        ensures high { self.new.high ≡ self.old.high }
-    {
-        self.at = 0;
-        self.end = count;
-        self.read += count;
-    }
-
-    /// So much of the text made so many bytes, and this digit waits now.
-    fn advance(&mut self, taken: usize, made: usize, high: Option<u8>)
-        requires taken { self.old.at + taken ≤ self.old.end }
-        requires made { made ≤ taken }
-        ensures piece { self.new.piece ≡ self.old.piece }
-        ensures at { self.new.at ≡ self.old.at + taken }
-        ensures end { self.new.end ≡ self.old.end }
-        ensures read { self.new.read ≡ self.old.read }
-        ensures made { self.new.made ≡ self.old.made + made }
-        ensures high { self.new.high ≡ high }
-    {
-        self.at += taken;
-        self.made += made;
-        self.high = high;
-    }
-}
-
 /// The bytes that a reader's text spells, decoded as it is read: of the text one piece is held. Every
 /// error of the reader is a failure: none is tried again.
 #[derive(Drop)]
@@ -85,7 +48,7 @@ pub struct HexReader<'a, R: Read> {
 impl<'a, R: Read> HexReader<'a, R> {
     ghost use Rattle.std.specs.Prelude.{◌≡◌, ◌<◌, ◌⊎◌, ℕ, [], Some, Ok, Err, IfErr, IfOk, IfSome, IsOk, length, option_map, take};
     ghost use Rattle.sfi_io.specs.Pieces.{ahead, most_to_come, outcome, start_of, to_come, Leads};
-    ghost use Rattle.sfi_io.specs.private.Pieces.{AreLeft, ComesNoPair, GoesOn, IsOver, IsReadStop, IsStopOf};
+    ghost use Rattle.sfi_io.specs.private.{AreLeft, ComesNoPair, GoesOn, IsOver, IsReadStop, IsStopOf};
 
     /// Over this reader.
     pub fn new(reader: &'a mut R) -> Self
@@ -124,7 +87,10 @@ impl<'a, R: Read> HexReader<'a, R> {
         if count > INPUT_LIMIT - self.held.read {
             return Err(TextStop::TooLarge);
         }
-        self.held.refill(count);
+        let held = &mut self.held;
+        held.at = 0;
+        held.end = count;
+        held.read += count;
         Ok(count)
     }
 
@@ -136,11 +102,8 @@ impl<'a, R: Read> HexReader<'a, R> {
     {
         let mut count = usize::from(self.held.high.is_some());
         loop {
-            let at = self.held.at;
-            let end = self.held.end;
-            let high = self.held.high;
-            count += digits_in(&self.held.piece[at..end]);
-            self.held.advance(end - at, 0, high);
+            count += digits_in(&self.held.piece[self.held.at..self.held.end]);
+            self.held.at = self.held.end;
             match self.fill() {
                 Ok(0) => return Ok(count),
                 Ok(_) => {}
@@ -197,7 +160,9 @@ impl<'a, R: Read> HexReader<'a, R> {
             &self.held.piece[self.held.at..self.held.end],
             buf,
         );
-        self.held.advance(front.taken, front.made, front.high);
+        self.held.at += front.taken;
+        self.held.made += front.made;
+        self.held.high = front.high;
         front.made
     }
 

@@ -2,7 +2,7 @@ use Rattle.std.proofs.Common.{◌*◌, ◌++◌, ℕ, List, arith, subst, sym, d
 use Rattle.std.proofs.lemmas.List.{length-take-le}
 use Rattle.std.specs.Prelude.{filter, slice_index}
 use Rattle.sfi_io.specs.Hexadecimal.{is_kept}
-use Rattle.sfi_io.specs.private.Pieces.{SpellsFront}
+use Rattle.sfi_io.specs.private.{SpellsFront}
 use Rattle.sfi_io.proofs.Fronts.{at_white, spells_pairs, white_is}
 use Rattle.sfi_io.proofs.front.decode_line.Goals as goal
 

@@ -2,7 +2,7 @@ use Rattle.std.proofs.Common.{ℕ, List, sym, subst}
 use Rattle.std.specs.Prelude.{filter, drop}
 use Rattle.sfi_io.specs.Hexadecimal.{is_kept}
 use Rattle.sfi_io.specs.Pieces.{waiting}
-use Rattle.sfi_io.specs.private.Pieces.{SpellsFront}
+use Rattle.sfi_io.specs.private.{SpellsFront}
 use Rattle.sfi_io.proofs.Fronts.{spells_white, spells_nothing, spells_low, spells_waiting, first_put}
 use Rattle.sfi_io.proofs.front.decode_next.Goals as goal
 

@@ -1,7 +1,14 @@
-use Rattle.std.proofs.Common.{◌≡◌, ◌++◌, ◌∙◌, List, ℕ, take, drop, sym, ap, append_assoc}
+use Rattle.std.proofs.Common.{◌≡◌, ◌++◌, ◌∙◌, List, ℕ, Option, Some, None, take, drop, sym, ap, append_assoc}
 use Rattle.std.proofs.lemmas.List.{take-append-drop}
-use Rattle.sfi_io.proofs.KnownBytes.{appends_more}
+use Rattle.std.specs.Io.KnownBytes.{Appends}
 use Rattle.sfi_io.proofs.output.write_out.Goals as goal
+
+-- bytes that a writer tells, piece by piece
+appends_more : (a b d : Option (List ℕ)) (xs ys : List ℕ) → Appends a b xs → Appends b d ys → Appends a d (xs ++ ys)
+appends_more None b d xs ys h k = tt
+appends_more (Some x) None d xs ys h k = absurd h
+appends_more (Some x) (Some y) None xs ys h k = absurd k
+appends_more (Some x) (Some y) (Some z) xs ys h k = k ∙ ap (λ (t : List ℕ). t ++ ys) h ∙ append_assoc x xs ys
 
 split : (text front rest after : List ℕ) (n : ℕ) → text ≡ front ++ rest → after ≡ drop n rest → text ≡ (front ++ take n rest) ++ after
 split text front rest after n e b = e ∙ ap (λ (t : List ℕ). front ++ t) (sym (take-append-drop n rest)) ∙ sym (append_assoc front (take n rest) (drop n rest)) ∙ ap (λ (t : List ℕ). (front ++ take n rest) ++ t) (sym b)
