@@ -1,11 +1,10 @@
 -- What a text of the assembler means: sandboxes.
-use Rattle.std.specs.Prelude.{◌≡◌, ◌≢◌, ◌↔◌, ℕ, ◌^◌, ◌<◌, ◌≤◌, IsTrue, false, List, [], ◌∷◌, length, map, slice_get, Some, Contains, pos}
+use Rattle.std.specs.Prelude.{◌≡◌, ◌≢◌, ◌↔◌, ℕ, ◌^◌, ◌<◌, ◌≤◌, IsTrue, List, [], ◌∷◌, length, map, slice_get, Some, Contains, pos}
 use Rattle.std.specs.List.{All, AllPairs}
 use Rattle.rv_word.specs.declared.instr.Instr.{Instr}
 use Rattle.rv_word.specs.declared.instr.Instr.TheVariants as instr
 use Rattle.rv_word.specs.Spelling.{IsReg, InRange}
 use Rattle.sfi_policy.specs.Limits.{data_most, gates_most, items_most, region_least, service_most}
-use Rattle.sfi_policy.specs.Formats.{has_words}
 use Rattle.sfi_policy.specs.declared.format.Format.{Format}
 use Rattle.sfi_policy.specs.declared.format.Format.TheVariants.{Sfi1}
 use Rattle.rv_source.specs.Names.{IsShortLabel}
@@ -110,9 +109,8 @@ pub record IsItem (s : Sandbox) (k : ℕ) (i : Item) : Type 0 where
   pub labelled : IsTrue i.labelled ↔ Contains (named s) (Code k)
   pub body : IsBody (length s.names) i.body
 
--- a sandbox within its limits, whose code is in bundles and whose names, gates and items fit each other
+-- a sandbox within its limits, whose names, gates and items fit each other
 pub record IsSandbox (s : Sandbox) : Type 0 where
-  pub bundled : has_words s.format ≡ false
   pub data_size : IsDataSize s.data_size
   pub gate_count : length s.gates ≤ gates_most
   pub gates : (k : ℕ) (g : SourceGate) → slice_get s.gates k ≡ Some g → IsGate s k g

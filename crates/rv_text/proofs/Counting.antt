@@ -16,7 +16,7 @@ same_count old new b c is new_is =
     ap count new_is ∙ length-append old.finished (c.sandbox ∷ []) ∙ sym (count_begun old b is)
 
 does_count : (line : ℕ) (s : Stated) (old new : SoFar) → Does line s old new → count new ≤ count old + 1
-does_count line (format number) old new (value, is, new_is) = omega (arith, ap count new_is)
+does_count line (format value) old new new_is = omega (arith, ap count new_is)
 does_count line (sandbox size) old new new_is = omega (arith, ap count new_is, length-append (sandboxes old) ((begin (format_or_sfi1 old.format) size).sandbox ∷ []))
 does_count line (within what) old new (b, is, fits, new_is) = omega (arith, same_count old new b _ is new_is)
 

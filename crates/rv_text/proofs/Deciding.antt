@@ -1,6 +1,9 @@
 -- Each token is what a part of a statement asks for, or isn't.
-use Rattle.rv_text.proofs.Prelude.{◌≡◌, ℕ, Bool, true, false, List, [], ◌∷◌, length, take, drop, ◌⊎◌, inl, inr, refl, sym, ◌∙◌, subst, arith, ℤ, pos, negsuc, codes, ◌≤ℤ◌, cases_lt, cases_eq, false≢true, ints, modulo, IsBetween, IsDataSize, NumberKind, BranchOffset, JumpOffset, DataSize, Part, Rd, Rs1, Rs2, Number, Name, Mode, Comma, Open, Close, Keyword, IsBlank, is_mark, IsMark, IsNumber, IsToken, Takes, IsStuck, begins_name, IsName, begins_label, IsLabel, IsNumberOf, keyword_name, OperandValues, Stands, mode_name, body_of, token_len, operands}
+use Rattle.rv_text.proofs.Prelude.{◌≡◌, ℕ, Bool, true, false, List, [], ◌∷◌, length, take, drop, ◌⊎◌, inl, inr, refl, sym, ap, ◌∙◌, subst, arith, ℤ, pos, negsuc, codes, ◌≤ℤ◌, cases_lt, cases_eq, false≢true, bytes_eq, bytes_eq-Decides, ints, modulo, IsBetween, IsDataSize, NumberKind, BranchOffset, JumpOffset, DataSize, Part, Rd, Rs1, Rs2, Number, Name, Mode, ImageFormat, Comma, Open, Close, Keyword, IsBlank, is_mark, IsMark, IsNumber, IsToken, Takes, IsStuck, begins_name, IsName, begins_label, IsLabel, IsNumberOf, keyword_name, OperandValues, Stands, SaysFormat, mode_name, body_of, token_len, operands}
 use Rattle.rv_text.specs.private.Lookup.{candidate}
+use Rattle.rv_text.specs.private.Numbers.{IsInReach}
+use Rattle.sfi_policy.specs.declared.format.Format.{Format}
+use Rattle.sfi_policy.specs.declared.format.Format.TheVariants.{Sfi1, Sfi2, Sfiw}
 use Rattle.std.specs.Int.{is_power_of_two}
 use Rattle.rv_text.proofs.Keywords.{none_of_other}
 use Rattle.rv_text.proofs.Decided.{Decided, decided_both, decided_le, decided_bit, decided_same}
@@ -34,7 +37,7 @@ next text =
 
 -- ---- names
 
-number_no_name : (text : List ℕ) (z : ℤ) → IsNumber text z → IsName text → ⊥
+pub number_no_name : (text : List ℕ) (z : ℤ) → IsNumber text z → IsName text → ⊥
 number_no_name [] z h name = name
 number_no_name (c ∷ cs) z (inl (n, h, e)) name = false≢true (sym (digit_begins_no_name c (digit_first c cs n h)).0 ∙ name.0)
 number_no_name (c ∷ cs) z (inr (n, ds, e, h, v)) name = let first : c ≡ 45 = cc in false≢true (subst (λ x. begins_name x ≡ true) first name.0)
@@ -123,6 +126,42 @@ mode_or_not token =
       ]
     ]
 
+no_format : (token : List ℕ) → (token ≡ codes "words" → ⊥) → (IsNumber token (pos 1) → ⊥) → (IsNumber token (pos 2) → ⊥) → (f : Format) → SaysFormat token f → ⊥
+no_format token words one two Sfi1 h = one h
+no_format token words one two Sfi2 h = two h
+no_format token words one two Sfiw h = words h
+
+pub none_says : (token : List ℕ) → false ≡ bytes_eq token (codes "words") → ((z : ℤ) → IsNumber token z → IsInReach z → ⊥) → (f : Format) → SaysFormat token f → ⊥
+none_says token words none f h =
+    no_format token (λ is. false≢true (words ∙ (bytes_eq-Decides token (codes "words")).1 is)) (λ is. none (pos 1) is (omega (arith, ints), omega (arith, ints))) (λ is. none (pos 2) is (omega (arith, ints), omega (arith, ints))) f h
+
+integer_or_not : (z : ℤ) (n : ℕ) → Decided (z ≡ pos n)
+integer_or_not (pos m) n = elim (cases_eq m n) [ inl e ↦ inl (ap pos e) | inr not ↦ inr (λ h. let e = h in not cc) ]
+integer_or_not (negsuc m) n = inr (λ h. let e = h in cc)
+
+is_or_not : (token : List ℕ) → IsToken token → (n : ℕ) → Decided (IsNumber token (pos n))
+is_or_not token is_token n =
+    elim (number_or_not token is_token) [
+      | inr none ↦ inr (none (pos n))
+      | inl found ↦ elim (integer_or_not found.0 n) [
+        | inl same ↦ inl (subst (IsNumber token) same found.1)
+        | inr differs ↦ inr (λ h. differs (number_unique token found.0 (pos n) found.1 h))
+      ]
+    ]
+
+format_or_not : (token : List ℕ) → IsToken token → StandsOrNot ImageFormat token
+format_or_not token is_token =
+    elim (decided_same token (codes "words")) [
+      | inl words ↦ inl (record (operands 0 0 0 (pos 0)) { format = Sfiw }, words)
+      | inr no_words ↦ elim (is_or_not token is_token 1) [
+        | inl one ↦ inl (record (operands 0 0 0 (pos 0)) { format = Sfi1 }, one)
+        | inr no_one ↦ elim (is_or_not token is_token 2) [
+          | inl two ↦ inl (record (operands 0 0 0 (pos 0)) { format = Sfi2 }, two)
+          | inr no_two ↦ inr (λ o. no_format token no_words no_one no_two o.format)
+        ]
+      ]
+    ]
+
 pub stands_or_not : (part : Part) (token : List ℕ) → IsToken token → StandsOrNot part token
 stands_or_not Rd token is_token =
     elim (register_or_not token) [
@@ -150,6 +189,7 @@ stands_or_not Name token is_token =
       | inr not ↦ inr (λ o h. not (h.0, h.1))
     ]
 stands_or_not Mode token is_token = mode_or_not token
+stands_or_not ImageFormat token is_token = format_or_not token is_token
 stands_or_not Comma token is_token = elim (decided_same token (codes ",")) [ inl is ↦ inl (operands 0 0 0 (pos 0), is) | inr not ↦ inr (λ o h. not h) ]
 stands_or_not Open token is_token = elim (decided_same token (codes "(")) [ inl is ↦ inl (operands 0 0 0 (pos 0), is) | inr not ↦ inr (λ o h. not h) ]
 stands_or_not Close token is_token = elim (decided_same token (codes ")")) [ inl is ↦ inl (operands 0 0 0 (pos 0), is) | inr not ↦ inr (λ o h. not h) ]

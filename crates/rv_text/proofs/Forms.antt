@@ -10,7 +10,7 @@ stands_by_operand a b Close token e h = h
 stands_by_operand a b _ token e h = rw e h
 
 -- a mark has one operand
-same_at_mark : (a b : OperandValues) (part : Part) → nat_lt 5 (slot part) ≡ true → SameAt part a b
+same_at_mark : (a b : OperandValues) (part : Part) → nat_lt 6 (slot part) ≡ true → SameAt part a b
 same_at_mark a b Comma h = tt
 same_at_mark a b Open h = tt
 same_at_mark a b Close h = tt

@@ -1,15 +1,32 @@
 -- What the text after an instruction's name has to do with what the whole text means.
-use Rattle.rv_text.proofs.Prelude.{◌≡◌, ℕ, List, [], ◌∷◌, inl, inr, refl, sym, ap, ◌∙◌, subst, Bool, true, false, Result, IfOk, IfOk-weaker, Instr, TextCause, Mnemonic, Part, Rd, Rs1, Rs2, Number, Name, Mode, Takes, IsBlank, LeadsTo, AreTokens, name_of, form_of, OperandValues, Stands, HasForm, mode_name, Reads, SameAt, AgreesOn, FollowsName, FollowsToken, mnemonic_of, operands_of, Means}
+use Rattle.rv_text.proofs.Prelude.{◌≡◌, ℕ, List, [], ◌∷◌, inl, inr, refl, sym, ap, ◌∙◌, subst, ℤ, pos, codes, IsNumber, Bool, true, false, Result, IfOk, IfOk-weaker, Instr, TextCause, Mnemonic, Part, Rd, Rs1, Rs2, Number, Name, Mode, ImageFormat, SaysFormat, Takes, IsBlank, LeadsTo, AreTokens, name_of, form_of, OperandValues, Stands, HasForm, mode_name, Reads, SameAt, AgreesOn, FollowsName, FollowsToken, mnemonic_of, operands_of, Means}
 use Rattle.rv_text.proofs.RegisterNames.{register_unique}
 use Rattle.rv_text.proofs.Numbers.{number_unique}
 use Rattle.rv_text.proofs.Taking.{takes_unique}
 use Rattle.rv_text.proofs.Forms.{stands_by_operand}
+use Rattle.rv_text.proofs.Deciding.{number_no_name}
+use Rattle.sfi_policy.specs.declared.format.Format.{Format}
+use Rattle.sfi_policy.specs.declared.format.Format.TheVariants.{Sfi1, Sfi2, Sfiw}
 
 mode_unique : (a b : Bool) → mode_name a ≡ mode_name b → a ≡ b
 mode_unique true true h = refl
 mode_unique true false h = cc
 mode_unique false true h = cc
 mode_unique false false h = refl
+
+words_no_number : (token : List ℕ) (z : ℤ) → token ≡ codes "words" → IsNumber token z → ⊥
+words_no_number token z is h = number_no_name (codes "words") z (subst (λ t. IsNumber t z) is h) (refl, (refl, (refl, (refl, (refl, tt)))))
+
+format_unique : (token : List ℕ) (f g : Format) → SaysFormat token f → SaysFormat token g → f ≡ g
+format_unique token Sfi1 Sfi1 h k = refl
+format_unique token Sfi2 Sfi2 h k = refl
+format_unique token Sfiw Sfiw h k = refl
+format_unique token Sfi1 Sfi2 h k = let e = number_unique token (pos 1) (pos 2) h k in cc
+format_unique token Sfi2 Sfi1 h k = let e = number_unique token (pos 2) (pos 1) h k in cc
+format_unique token Sfi1 Sfiw h k = absurd (words_no_number token (pos 1) k h)
+format_unique token Sfi2 Sfiw h k = absurd (words_no_number token (pos 2) k h)
+format_unique token Sfiw Sfi1 h k = absurd (words_no_number token (pos 1) h k)
+format_unique token Sfiw Sfi2 h k = absurd (words_no_number token (pos 2) h k)
 
 -- a token gives one operand
 operand_unique : (a b : OperandValues) (part : Part) (token : List ℕ) → Stands a part token → Stands b part token → SameAt part a b
@@ -19,6 +36,7 @@ operand_unique a b Rs2 token h k = register_unique token _ _ h k
 operand_unique a b (Number kind) token h k = number_unique token _ _ h.0 k.0
 operand_unique a b Name token h k = sym h.2 ∙ k.2
 operand_unique a b Mode token h k = mode_unique a.compressed b.compressed (sym h ∙ k)
+operand_unique a b ImageFormat token h k = format_unique token a.format b.format h k
 operand_unique a b _ token h k = tt
 
 -- two statements that are read off one text have the same operands

@@ -1,8 +1,6 @@
 -- A line leads to one source so far at most, or is refused for one cause at most, and never both; so a text has one meaning or one fault at most.
-use Rattle.rv_text.proofs.Prelude.{◌≡◌, refl, sym, ap, subst, subst₂, ◌∙◌, ℕ, ◌+◌, ◌⊎◌, inl, inr, List, [], ◌∷◌, Some, arith, codes, same_Some, none-some, TextCause, Keyword, Takes, IsName, keyword_name, RefusedWith, NameRefused, Stated, number_of_format, format, sandbox, within, StatedWithin, SoFar, with_label, nothing, sandboxes, IsFree, Fits, Labels, RefusesLabel, GoesOn, Does, with_stated, HasNoRoom, BeginsWithLabel, HasNoLabel, LabelsLead, PassesLabels, LeadsAfter, RestLeads, LabelRefused, PassesLimit, OperandsRefused, RefusedAfter, RefusedFrom, StatementRefused, uncommented, lines, LinesLead, FirstRefused, LeadsOnce, LeadingIsNotRefused, RefusedOnce, OneSource, OneFault, MeantHasNoFault}
+use Rattle.rv_text.proofs.Prelude.{◌≡◌, refl, sym, ap, subst, subst₂, ◌∙◌, ℕ, ◌+◌, ◌⊎◌, inl, inr, List, [], ◌∷◌, Some, arith, codes, same_Some, none-some, TextCause, Keyword, Takes, IsName, keyword_name, RefusedWith, NameRefused, Stated, format, sandbox, within, StatedWithin, SoFar, with_label, nothing, sandboxes, IsFree, Fits, Labels, RefusesLabel, GoesOn, Does, with_stated, HasNoRoom, BeginsWithLabel, HasNoLabel, LabelsLead, PassesLabels, LeadsAfter, RestLeads, LabelRefused, PassesLimit, OperandsRefused, RefusedAfter, RefusedFrom, StatementRefused, uncommented, lines, LinesLead, FirstRefused, LeadsOnce, LeadingIsNotRefused, RefusedOnce, OneSource, OneFault, MeantHasNoFault}
 use Rattle.rv_text.specs.declared.fault.TextFault.{TextFault}
-use Rattle.sfi_policy.specs.declared.format.Format.{Format}
-use Rattle.sfi_policy.specs.declared.format.Format.TheVariants.{Sfi1, Sfi2, Sfiw}
 use Rattle.rv_text.specs.declared.cause.TextCause.TheVariants as cause
 use Rattle.rv_text.proofs.Taking.{takes_unique, blank_takes_none}
 use Rattle.rv_text.proofs.Fronts.{One, either_one, token_at, token_one}
@@ -85,21 +83,8 @@ goes_one : (line : ℕ) (s : StatedWithin) (old a b : SoFar) → GoesOn line s o
 goes_one line s old a b (x, is, fits, a_is) (y, other, _, b_is) =
     a_is ∙ ap (λ c. record old { begun = Some (with_stated line s c) }) (same_Some x y (sym is ∙ other)) ∙ sym b_is
 
--- a number is that of one format
-one_format : (x y : Format) → number_of_format x ≡ number_of_format y → x ≡ y
-one_format Sfi1 Sfi1 h = refl
-one_format Sfi1 Sfi2 h = absurd (omega (arith, h))
-one_format Sfi2 Sfi1 h = absurd (omega (arith, h))
-one_format Sfi2 Sfi2 h = refl
-one_format Sfi1 Sfiw h = absurd (omega (arith, h))
-one_format Sfi2 Sfiw h = absurd (omega (arith, h))
-one_format Sfiw Sfi1 h = absurd (omega (arith, h))
-one_format Sfiw Sfi2 h = absurd (omega (arith, h))
-one_format Sfiw Sfiw h = refl
-
 does_one : (line : ℕ) (s : Stated) (old a b : SoFar) → Does line s old a → Does line s old b → a ≡ b
-does_one line (format number) old a b (x, is, a_is) (y, other, b_is) =
-    a_is ∙ ap (λ v. record old { format = Some v }) (one_format x y (is ∙ sym other)) ∙ sym b_is
+does_one line (format value) old a b h k = h ∙ sym k
 does_one line (sandbox size) old a b h k = h ∙ sym k
 does_one line (within what) old a b h k = goes_one line what old a b h k
 
@@ -108,7 +93,7 @@ goes_fits line s old new (x, is, fits, new_is) (y, other, none) =
     none (subst (λ c. Fits s c) (same_Some x y (sym is ∙ other)) fits)
 
 does_fit : (line : ℕ) (s : Stated) (old new : SoFar) → Does line s old new → HasNoRoom s old → ⊥
-does_fit line (format number) old new h none = absurd none
+does_fit line (format value) old new h none = absurd none
 does_fit line (sandbox size) old new h none = absurd none
 does_fit line (within what) old new h none = goes_fits line what old new h none
 

@@ -22,10 +22,10 @@ pub use Rattle.rv_text.specs.Laws.{ConstantsAddUp, OneMeaning, MeaningsAreInRang
 pub use Rattle.rv_text.specs.Leads.{LabelsLead, RestLeads, BeginsWithName, BeginsWithLabel, HasNoLabel, IsTaken, LabelRefused, PassesLabels, LeadsAfter, PassesLimit, OperandsRefused, RefusedAfter, RefusedFrom, StatementRefused, Leads, IsGateTwice, LineRefused}
 pub use Rattle.rv_text.specs.Lines.{Writes, AreMore, IsRow, IsData, StatesAfter, InstrDeparts, RefusedWith, LeadsByMore, NumberDeparts, MoreDeparts, ListDeparts, NameRefused, After}
 pub use Rattle.rv_text.specs.Mnemonics.{name_of}
-pub use Rattle.rv_text.specs.Operands.{OperandValues, Stands, mode_name, Departs, part_cause, Unformed, Missing, Differs, HasForm}
-pub use Rattle.rv_text.specs.Printed.{number_text, part_text, operands_text, printed}
+pub use Rattle.rv_text.specs.Operands.{OperandValues, Stands, SaysFormat, mode_name, Departs, part_cause, Unformed, Missing, Differs, HasForm}
+pub use Rattle.rv_text.specs.Printed.{number_text, format_name, part_text, operands_text, printed}
 pub use Rattle.rv_text.specs.SoFar.{Begun, SoFar, nothing, begin, format_or_sfi1, last_sandbox, sandboxes, with_label, with_names, with_gate, items_of, with_bodies, with_bytes}
-pub use Rattle.rv_text.specs.Stated.{Stated, format, sandbox, within, gate, compressed, bytes, plain, jump, address, number_of_format, StatedWithin, data_part}
+pub use Rattle.rv_text.specs.Stated.{Stated, format, sandbox, within, gate, compressed, bytes, plain, jump, address, StatedWithin, data_part}
 pub use Rattle.rv_text.specs.Statement.{Means, Refused, RefusedAt, operands, mnemonic_of, operands_of, Spells, OperandsDepart, full_fence, IsBareFence}
 pub use Rattle.rv_text.specs.Texts.{uncommented, lines, LinesLead, LeadsFromNothing, FirstRefused, most_bytes, first_line, LineFault, MeansSource, IsFault}
 pub use Rattle.rv_text.specs.Tokens.{Takes, IsBlank, is_mark, IsMark, IsNumber, IsToken, IsStuck, is_space, IsMagnitude, AreTokens, LeadsTo}
@@ -33,7 +33,7 @@ pub use Rattle.rv_text.specs.declared.cause.TextCause.{TextCause}
 pub use Rattle.rv_text.specs.declared.form.NumberKind.{NumberKind}
 pub use Rattle.rv_text.specs.declared.form.NumberKind.TheVariants.{Immediate, ShiftAmount, BranchOffset, JumpOffset, Upper, DataSize}
 pub use Rattle.rv_text.specs.declared.form.Part.{Part}
-pub use Rattle.rv_text.specs.declared.form.Part.TheVariants.{Rd, Rs1, Rs2, Number, Name, Mode, Comma, Open, Close}
+pub use Rattle.rv_text.specs.declared.form.Part.TheVariants.{Rd, Rs1, Rs2, Number, Name, Mode, ImageFormat, Comma, Open, Close}
 pub use Rattle.rv_text.specs.declared.keyword.DataWidth.{DataWidth}
 pub use Rattle.rv_text.specs.declared.keyword.Keyword.{Keyword}
 pub use Rattle.rv_text.specs.declared.keyword.Pseudo.TheVariants.{Nop, Ret, Li}

@@ -103,12 +103,8 @@ natural_service : (z : ℤ) → IsNumberOf kind.Service z → unsigned_abs z ≤
 natural_service (pos n) h = omega (arith, ints)
 natural_service (negsuc n) h = omega (arith, ints)
 
-natural_format : (z : ℤ) → IsNumberOf kind.FormatNumber z → (1 ≤ unsigned_abs z) × (unsigned_abs z ≤ 2)
-natural_format (pos n) h = (omega (arith, ints), omega (arith, ints))
-natural_format (negsuc n) h = (omega (arith, ints), omega (arith, ints))
-
 directive_right : (d : Directive) (o : OperandValues) → AllSuit o (directive_form d) → IsRightStatement (directive_states d o)
-directive_right directive.Format o h = natural_format o.number h.0
+directive_right directive.Format o h = tt
 directive_right directive.Sandbox o h = natural_size o.number h.0
 directive_right directive.Gate o h = (h.0, natural_service o.number h.1.0)
 directive_right directive.Option o h = tt

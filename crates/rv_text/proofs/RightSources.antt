@@ -5,7 +5,6 @@ use Rattle.rv_source.specs.declared.item.Body.TheVariants.{Plain, To, High, Low}
 use Rattle.rv_source.specs.declared.item.Item.{Item}
 use Rattle.rv_source.specs.declared.item.SourceGate.{SourceGate}
 use Rattle.sfi_policy.specs.declared.format.Format.{Format}
-use Rattle.sfi_policy.specs.Formats.{has_words}
 use Rattle.std.proofs.lemmas.List.Elements.{All-from_recursion}
 use Rattle.std.proofs.lemmas.Map.Made.{AllPairs-from_IsDistinct}
 use Rattle.std.specs.List.{IsDistinct}
@@ -70,9 +69,8 @@ body_stays n m (High rd place) more h = (h.0, omega (arith, h.1, more))
 body_stays n m (Low rd place) more h = (h.0, omega (arith, h.1, more))
 
 -- what is begun last is right as it stands
-pub finished : (b : Begun) → has_words b.sandbox.format ≡ false → IsDraft b → IsSandbox b.sandbox
-finished b bundled d = record {
-  bundled = bundled;
+pub finished : (b : Begun) → IsDraft b → IsSandbox b.sandbox
+finished b d = record {
   data_size = d.data_size;
   gate_count = d.gate_count;
   gates = d.gates;

@@ -1,10 +1,7 @@
 -- What a text means is right: by its lines, from nothing.
-use Rattle.rv_text.proofs.Prelude.{◌≡◌, refl, sym, ap, subst, ◌∙◌, ℕ, ◌+◌, ◌≤◌, false, inl, inr, List, [], ◌∷◌, ◌++◌, Option, None, Some, map, length, length-append, arith, All, AllByRecursion, same_Some, none-some, Instr, InRange, Named, Unknown, Keyword, Takes, IsLabel, place_of_keyword, StatesAfter, Stated, format, sandbox, within, StatedWithin, gate, compressed, data_part, bytes, plain, jump, address, IsRightWithin, IsRightStatement, place_of_stated, meaning, place_of, met, IsStraight, Sandbox, IsBody, IsSandbox, AreOf, format_of, Begun, SoFar, format_or_sfi1, with_label, with_names, nothing, last_sandbox, sandboxes, IsFree, Labels, Fits, MayCome, GoesOn, Does, with_stated, BeginsWithName, LabelsLead, IsTaken, LeadsAfter, RestLeads, Leads, uncommented, lines, LinesLead, MeansSource}
+use Rattle.rv_text.proofs.Prelude.{◌≡◌, refl, sym, ap, subst, ◌∙◌, ℕ, ◌+◌, inl, inr, List, [], ◌∷◌, ◌++◌, Option, None, Some, map, length, length-append, arith, All, AllByRecursion, same_Some, none-some, Instr, InRange, Named, Unknown, Keyword, Takes, IsLabel, place_of_keyword, StatesAfter, Stated, format, sandbox, within, StatedWithin, gate, compressed, data_part, bytes, plain, jump, address, IsRightWithin, IsRightStatement, place_of_stated, meaning, place_of, met, IsStraight, Sandbox, IsBody, IsSandbox, AreOf, format_of, Begun, SoFar, format_or_sfi1, with_label, with_names, nothing, last_sandbox, sandboxes, IsFree, Labels, Fits, MayCome, GoesOn, Does, with_stated, BeginsWithName, LabelsLead, IsTaken, LeadsAfter, RestLeads, Leads, uncommented, lines, LinesLead, MeansSource}
 use Rattle.rv_source.specs.declared.item.Body.TheVariants.{Plain, To, High, Low}
 use Rattle.sfi_policy.specs.declared.format.Format.{Format}
-use Rattle.sfi_policy.specs.declared.format.Format.TheVariants.{Sfi1, Sfi2, Sfiw}
-use Rattle.sfi_policy.specs.Formats.{has_words}
-use Rattle.rv_text.specs.Stated.{number_of_format}
 use Rattle.std.proofs.lemmas.List.{length-map}
 use Rattle.std.proofs.lemmas.List.Elements.{All-from_recursion, recursion_from_All}
 use Rattle.rv_source.specs.Source.{IsSource}
@@ -20,14 +17,13 @@ use Rattle.rv_text.proofs.RightSources.{IsDraft, all_append, finished, begun_rig
 abbrev IsOf : Option Format → Sandbox → Type 0
 IsOf said s = s.format ≡ format_or_sfi1 said
 
--- each sandbox so far is right and of the format, whose code is in bundles, and before the first one begins none is finished
+-- each sandbox so far is right and of the format, and before the first one begins none is finished
 record IsRightSoFar (s : SoFar) : Type 0 where
   finished : AllByRecursion IsSandbox s.finished
   begun : (b : Begun) → s.begun ≡ Some b → IsDraft b
   finished_format : AllByRecursion (IsOf s.format) s.finished
   begun_format : (b : Begun) → s.begun ≡ Some b → IsOf s.format b.sandbox
   first : s.begun ≡ None → s.finished ≡ []
-  bundled : has_words (format_or_sfi1 s.format) ≡ false
 
 begun_is : (old : SoFar) (c : Begun) → IsRightSoFar old → IsDraft c → IsOf old.format c.sandbox → IsRightSoFar (record old { begun = Some c })
 begun_is old c right draft format_is = record {
@@ -36,7 +32,6 @@ begun_is old c right draft format_is = record {
   finished_format = right.finished_format;
   begun_format = λ b e. subst (λ x. IsOf old.format x.sandbox) (same_Some _ _ e) format_is;
   first = λ e. absurd (none-some c (sym e));
-  bundled = right.bundled;
 }
 
 label_leads : (name : List ℕ) (old new : SoFar) → IsLabel name → Labels name old new → IsRightSoFar old → IsRightSoFar new
@@ -87,7 +82,7 @@ goes_on line s old new right free (b, is, fits, new_is) so_far =
 
 last_right : (s : SoFar) (b : Option Begun) → s.begun ≡ b → IsRightSoFar s → AllByRecursion IsSandbox (last_sandbox b)
 last_right s None is right = tt
-last_right s (Some b) is right = (finished b (ap has_words (right.begun_format b is) ∙ right.bundled) (right.begun b is), tt)
+last_right s (Some b) is right = (finished b (right.begun b is), tt)
 
 sandboxes_right : (s : SoFar) → IsRightSoFar s → AllByRecursion IsSandbox (sandboxes s)
 sandboxes_right s right = all_append IsSandbox s.finished (last_sandbox s.begun) right.finished (last_right s s.begun refl right)
@@ -99,27 +94,20 @@ last_format s (Some b) is right = (right.begun_format b is, tt)
 sandboxes_format : (s : SoFar) → IsRightSoFar s → AllByRecursion (IsOf s.format) (sandboxes s)
 sandboxes_format s right = all_append (IsOf s.format) s.finished (last_sandbox s.begun) right.finished_format (last_format s s.begun refl right)
 
--- a text says a format of bundles alone
-said_bundled : (value : Format) (number : ℕ) → number_of_format value ≡ number → number ≤ 2 → has_words value ≡ false
-said_bundled Sfi1 number is most = refl
-said_bundled Sfi2 number is most = refl
-said_bundled Sfiw number is most = absurd (omega arith)
-
 -- before the first sandbox the format may be said
-format_said : (value : Format) (old : SoFar) → has_words value ≡ false → old.begun ≡ None → IsRightSoFar old → IsRightSoFar (record old { format = Some value })
-format_said value old bundled none right = record {
+format_said : (value : Format) (old : SoFar) → old.begun ≡ None → IsRightSoFar old → IsRightSoFar (record old { format = Some value })
+format_said value old none right = record {
   finished = right.finished;
   begun = right.begun;
   finished_format = subst (λ v. AllByRecursion (IsOf (Some value)) v) (sym (right.first none)) tt;
   begun_format = λ b e. absurd (none-some b (sym none ∙ e));
   first = right.first;
-  bundled = bundled;
 }
 
 does_right : (line : ℕ) (s : Stated) (old new : SoFar) → IsRightStatement s
     → ((b : Begun) (name : List ℕ) (service : ℕ) → old.begun ≡ Some b → s ≡ within (gate name service) → IsFree name b)
     → MayCome (place_of_stated s) old → Does line s old new → IsRightSoFar old → IsRightSoFar new
-does_right line (format number) old new right free may (value, is, does) so_far = subst IsRightSoFar (sym does) (format_said value old (said_bundled value number is right.1) may.1 so_far)
+does_right line (format value) old new right free may does so_far = subst IsRightSoFar (sym does) (format_said value old may.1 so_far)
 does_right line (sandbox size) old new right free may does so_far =
     subst IsRightSoFar (sym does) (record {
       finished = sandboxes_right old so_far;
@@ -127,7 +115,6 @@ does_right line (sandbox size) old new right free may does so_far =
       finished_format = sandboxes_format old so_far;
       begun_format = λ b e. subst (λ x. IsOf old.format x.sandbox) (same_Some _ _ e) refl;
       first = λ e. absurd (none-some _ (sym e));
-      bundled = so_far.bundled;
     })
 does_right line (within what) old new right free may does so_far =
     goes_on line what old new right (λ b name service is e. free b name service is (ap within e)) does so_far
@@ -191,7 +178,7 @@ all_one (s ∷ rest) f h = subst (λ (g : Format). AreOf g (s ∷ rest)) (sym (h
 -- the source that a text means
 pub sources_are_right : (text : List ℕ) (parts : List Sandbox) → MeansSource text parts → IsSource parts
 sources_are_right text parts (new, last, leads, begun, parts_are) =
-    let right = lines_lead 1 nothing new (lines text) leads.lead (record { finished = tt; begun = λ b e. absurd (none-some b e); finished_format = tt; begun_format = λ b e. absurd (none-some b e); first = λ e. refl; bundled = refl }) in
+    let right = lines_lead 1 nothing new (lines text) leads.lead (record { finished = tt; begun = λ b e. absurd (none-some b e); finished_format = tt; begun_format = λ b e. absurd (none-some b e); first = λ e. refl }) in
     let shape : parts ≡ new.finished ++ last.sandbox ∷ [] = parts_are ∙ ap (λ b. new.finished ++ last_sandbox b) begun in
     record {
       at_least_one = omega (arith, ap length shape, length-append new.finished (last.sandbox ∷ []));

@@ -1,14 +1,16 @@
 -- A printed instruction reads back, part by part.
-use Rattle.rv_text.proofs.Prelude.{◌≡◌, ℕ, Bool, true, false, nat_lt, ◌&&◌, ◌||◌, List, [], ◌∷◌, ◌++◌, inl, inr, refl, sym, subst, codes, flat_map, and_parts, Instr, InRange, Mnemonic, Part, Rd, Rs1, Rs2, Number, Name, Mode, Comma, Open, Close, IsBlank, IsToken, Takes, name_of, form_of, OperandValues, Stands, mode_name, Reads, AllSuit, slot, mnemonic_of, operands_of, Means, part_text, operands_text, printed, PrintedReadsBack}
+use Rattle.rv_text.proofs.Prelude.{◌≡◌, ℕ, Bool, true, false, nat_lt, ◌&&◌, ◌||◌, List, [], ◌∷◌, ◌++◌, inl, inr, refl, sym, subst, arith, pos, codes, flat_map, and_parts, Instr, InRange, Mnemonic, Part, Rd, Rs1, Rs2, Number, Name, Mode, ImageFormat, Comma, Open, Close, IsBlank, IsToken, Takes, name_of, form_of, OperandValues, Stands, SaysFormat, mode_name, Reads, AllSuit, slot, mnemonic_of, operands_of, Means, format_name, part_text, operands_text, printed, PrintedReadsBack}
 use Rattle.std.proofs.lemmas.List.{append-nil}
 use Rattle.rv_text.specs.declared.mnemonic.Mnemonic.TheVariants as mnemonic
 use Rattle.rv_text.proofs.Ranges.{in_range_fits}
 use Rattle.rv_text.proofs.Meaning.{means}
 use Rattle.rv_text.proofs.Longest.{Ends, takes_word, takes_mark}
 use Rattle.rv_text.proofs.Printing.{name_token, register_token, printed_number}
+use Rattle.sfi_policy.specs.declared.format.Format.{Format}
+use Rattle.sfi_policy.specs.declared.format.Format.TheVariants.{Sfi1, Sfi2, Sfiw}
 
 abbrev is_mark_part : Part → Bool
-is_mark_part part = nat_lt 5 (slot part)
+is_mark_part part = nat_lt 6 (slot part)
 
 -- the form begins with a mark, if with anything
 abbrev may_follow : List Part → Bool
@@ -42,6 +44,16 @@ mode_token : (rvc : Bool) → IsToken (mode_name rvc)
 mode_token true = inl (refl, (refl, (refl, tt)))
 mode_token false = inl (refl, (refl, (refl, (refl, (refl, tt)))))
 
+format_says : (f : Format) → SaysFormat (format_name f) f
+format_says Sfi1 = inl (1, inl ((omega arith, (omega arith, tt)), refl), refl)
+format_says Sfi2 = inl (2, inl ((omega arith, (omega arith, tt)), refl), refl)
+format_says Sfiw = refl
+
+format_token : (f : Format) → IsToken (format_name f)
+format_token Sfi1 = inr (inl (pos 1, format_says Sfi1))
+format_token Sfi2 = inr (inl (pos 2, format_says Sfi2))
+format_token Sfiw = inl (refl, (refl, (refl, (refl, (refl, tt)))))
+
 pub reads_printed : (o : OperandValues) (form : List Part) (gap : List ℕ) → IsBlank gap → is_spaced form ≡ true → AllSuit o form → Reads o form (gap ++ flat_map (part_text o) form)
 reads_printed o [] gap blank spaced fits = subst IsBlank (sym (append-nil gap)) blank
 reads_printed o (Comma ∷ form) gap blank spaced fits =
@@ -69,6 +81,9 @@ reads_printed o (Name ∷ form) gap blank spaced fits =
 reads_printed o (Mode ∷ form) gap blank spaced fits =
     let parts = and_parts _ _ spaced in
     word_reads o form gap blank Mode (mode_token o.compressed) refl parts.0 (reads_printed o form [] tt parts.1 fits.1)
+reads_printed o (ImageFormat ∷ form) gap blank spaced fits =
+    let parts = and_parts _ _ spaced in
+    word_reads o form gap blank ImageFormat (format_token o.format) (format_says o.format) parts.0 (reads_printed o form [] tt parts.1 fits.1)
 
 -- after the name stand nothing, or a space and the operands
 after_name_ends : (o : OperandValues) (form : List Part) → Ends (operands_text o form)

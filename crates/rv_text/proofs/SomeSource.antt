@@ -185,15 +185,7 @@ begun_within (gate name service) s may = begun_of s.begun _ may
 begun_within _ s may = begun_of s.begun _ may
 
 does_or_full : (line : ℕ) (st : Stated) (s : SoFar) → IsRightStatement st → MayCome (place_of_stated st) s → ((new : SoFar) × Does line st s new) ⊎ HasNoRoom st s
-does_or_full line (format number) s right may =
-    elim (cases_eq number 1) [
-      | inl one ↦ inl (record s { format = Some Sfi1 }, (Sfi1, sym one, refl))
-      | inr other ↦
-          let low = right.0 in
-          let high = right.1 in
-          let two : 2 ≡ number = omega arith in
-          inl (record s { format = Some Sfi2 }, (Sfi2, two, refl))
-    ]
+does_or_full line (format value) s right may = inl (record s { format = Some value }, refl)
 does_or_full line (sandbox size) s right may =
     inl (record { format = s.format; finished = sandboxes s; begun = Some (begin (format_or_sfi1 s.format) size) }, refl)
 does_or_full line (within what) s right may =

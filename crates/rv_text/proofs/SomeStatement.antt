@@ -1,5 +1,5 @@
 -- The text after a keyword states something, or is refused.
-use Rattle.rv_text.proofs.Prelude.{◌≡◌, ◌≢◌, ℕ, zero, suc, ◌≤◌, true, List, [], ◌∷◌, length, ◌⊎◌, inl, inr, refl, sym, arith, rules, ℤ, pos, negsuc, IsTrue, codes, flat_map, ints, Instr, IsBetween, TextCause, Mnemonic, NumberKind, Part, Rd, Rs1, Rs2, Number, Name, Mode, Comma, Open, Close, Nop, DataWidth, Keyword, IsBlank, form_of, data_bytes, OperandValues, Departs, part_cause, mnemonic_of, operands, operands_of, full_fence, IsBareFence, OperandsDepart, Reads, SameAt, AgreesOn, AllSuit, FollowsName, slot, is_fresh, has_no_repeat, directive_form, directive_states, pseudo_form, pseudo_states, branch_form, branch_states, jal_form, jal_states, data_kind, StatesAfter, LeadsByMore, NumberDeparts, ListDeparts, InstrDeparts, RefusedWith, Stated, within, plain, bytes}
+use Rattle.rv_text.proofs.Prelude.{◌≡◌, ◌≢◌, ℕ, zero, suc, ◌≤◌, true, List, [], ◌∷◌, length, ◌⊎◌, inl, inr, refl, sym, arith, rules, ℤ, pos, negsuc, IsTrue, codes, flat_map, ints, Instr, IsBetween, TextCause, Mnemonic, NumberKind, Part, Rd, Rs1, Rs2, Number, Name, Mode, ImageFormat, Comma, Open, Close, Nop, DataWidth, Keyword, IsBlank, form_of, data_bytes, OperandValues, Departs, part_cause, mnemonic_of, operands, operands_of, full_fence, IsBareFence, OperandsDepart, Reads, SameAt, AgreesOn, AllSuit, FollowsName, slot, is_fresh, has_no_repeat, directive_form, directive_states, pseudo_form, pseudo_states, branch_form, branch_states, jal_form, jal_states, data_kind, StatesAfter, LeadsByMore, NumberDeparts, ListDeparts, InstrDeparts, RefusedWith, Stated, within, plain, bytes}
 use Rattle.rv_text.specs.declared.keyword.Directive.{Directive}
 use Rattle.rv_text.specs.declared.keyword.Pseudo.{Pseudo}
 use Rattle.rv_text.specs.private.Lists.{ReadsNumber, ReadsList, MoreDepartsAfter, ReadsRow, ReadsInstr, ReadsAfter}
@@ -25,6 +25,7 @@ put Rs2 first o = record o { rs2 = first.rs2 }
 put (Number kind) first o = record o { number = first.number }
 put Name first o = record o { name = first.name }
 put Mode first o = record o { compressed = first.compressed }
+put ImageFormat first o = record o { format = first.format }
 put _ first o = o
 
 put_same : (part : Part) (first o : OperandValues) → SameAt part (put part first o) first
@@ -43,6 +44,7 @@ put_others Rs2 Rs2 first o h = absurd (h refl)
 put_others (Number kind) (Number other) first o h = absurd (h refl)
 put_others Name Name first o h = absurd (h refl)
 put_others Mode Mode first o h = absurd (h refl)
+put_others ImageFormat ImageFormat first o h = absurd (h refl)
 put_others _ _ first o h = refl
 
 same_self : (part : Part) (o : OperandValues) → SameAt part o o

@@ -2,7 +2,6 @@
 use Rattle.std.specs.Prelude.{◌≡◌, ℕ, ◌+◌, ◌<◌, ◌≤◌, ◌⊎◌, true, false, List, [], ◌∷◌, length, map, None, Some}
 use Rattle.std.specs.Option.{IsSomeAnd}
 use Rattle.sfi_policy.specs.Limits.{gates_most, items_most, name_most}
-use Rattle.sfi_policy.specs.declared.format.Format.{Format}
 use Rattle.rv_text.specs.declared.cause.TextCause.{TextCause}
 use Rattle.rv_text.specs.declared.cause.TextCause.TheVariants as cause
 use Rattle.rv_source.specs.declared.item.Body.TheVariants.{Plain, To, High, Low}
@@ -11,7 +10,7 @@ use Rattle.rv_text.specs.declared.statement.Place.{Place}
 use Rattle.rv_text.specs.declared.statement.Place.TheVariants as place
 use Rattle.rv_source.specs.NameTable.{meaning, place_of, met}
 use Rattle.rv_text.specs.SoFar.{Begun, SoFar, with_sandbox, with_names, with_label, with_gate, with_bodies, with_bytes}
-use Rattle.rv_text.specs.Stated.{Stated, number_of_format, format, sandbox, within, StatedWithin, gate, compressed, data_part, bytes, plain, jump, address}
+use Rattle.rv_text.specs.Stated.{Stated, format, sandbox, within, StatedWithin, gate, compressed, data_part, bytes, plain, jump, address}
 
 -- the name may still be given to a label or a gate: it names nothing yet
 abbrev pub IsFree : List ℕ → Begun → Type 0
@@ -73,9 +72,7 @@ GoesOn line s old new =
 
 -- a statement of a line, which may come there, leads to the next source so far
 abbrev pub Does : ℕ → Stated → SoFar → SoFar → Type 0
-Does line (format number) old new =
-    (value : Format) × (number_of_format value ≡ number)
-    × (new ≡ record old { format = Some value })
+Does line (format value) old new = new ≡ record old { format = Some value }
 Does line (sandbox size) old new = new ≡ with_sandbox size old
 Does line (within what) old new = GoesOn line what old new
 

@@ -9,7 +9,7 @@ use Rattle.rv_source.specs.Source.{IsDataSize}
 use Rattle.rv_text.specs.declared.mnemonic.Mnemonic.{Mnemonic}
 use Rattle.rv_text.specs.declared.mnemonic.Mnemonic.TheVariants as mnemonic
 use Rattle.rv_text.specs.declared.form.NumberKind.{NumberKind}
-use Rattle.rv_text.specs.declared.form.NumberKind.TheVariants.{Immediate, ShiftAmount, BranchOffset, JumpOffset, Upper, FenceFields, DataSize, Service, Word, Half, Byte, ZeroCount, FormatNumber}
+use Rattle.rv_text.specs.declared.form.NumberKind.TheVariants.{Immediate, ShiftAmount, BranchOffset, JumpOffset, Upper, FenceFields, DataSize, Service, Word, Half, Byte, ZeroCount}
 use Rattle.rv_text.specs.declared.form.Part.{Part}
 use Rattle.rv_text.specs.declared.form.Part.TheVariants.{Rd, Rs1, Rs2, Number, Comma, Open, Close}
 
@@ -27,7 +27,6 @@ IsNumberOf Word z = IsBetween (negsuc 2147483647) (pos 4294967295) z
 IsNumberOf Half z = IsBetween (negsuc 32767) (pos 65535) z
 IsNumberOf Byte z = IsBetween (negsuc 127) (pos 255) z
 IsNumberOf ZeroCount z = IsBetween (pos 0) (pos data_most) z
-IsNumberOf FormatNumber z = IsBetween (pos 1) (pos 2) z
 
 -- a shift's amount, or an immediate of 12 bits
 abbrev pub immediate_kind : ImmOp → NumberKind

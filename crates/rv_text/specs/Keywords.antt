@@ -16,9 +16,9 @@ use Rattle.rv_text.specs.declared.keyword.DataWidth.TheVariants as width
 use Rattle.rv_text.specs.declared.keyword.Keyword.{Keyword}
 use Rattle.rv_text.specs.declared.keyword.Keyword.TheVariants as keyword
 use Rattle.rv_text.specs.declared.form.NumberKind.{NumberKind}
-use Rattle.rv_text.specs.declared.form.NumberKind.TheVariants.{DataSize, Service, Word, Half, Byte, ZeroCount, FormatNumber}
+use Rattle.rv_text.specs.declared.form.NumberKind.TheVariants.{DataSize, Service, Word, Half, Byte, ZeroCount}
 use Rattle.rv_text.specs.declared.form.Part.{Part}
-use Rattle.rv_text.specs.declared.form.Part.TheVariants.{Rd, Rs1, Rs2, Number, Name, Mode, Comma}
+use Rattle.rv_text.specs.declared.form.Part.TheVariants.{Rd, Rs1, Rs2, Number, Name, Mode, ImageFormat, Comma}
 use Rattle.rv_text.specs.Mnemonics.{name_of}
 use Rattle.rv_text.specs.Operands.{OperandValues}
 use Rattle.rv_text.specs.Constants.{constant}
@@ -34,7 +34,7 @@ directive_name directive.Data = codes ".data"
 directive_name directive.Zero = codes ".zero"
 
 abbrev pub directive_form : Directive → List Part
-directive_form directive.Format = Number FormatNumber ∷ []
+directive_form directive.Format = ImageFormat ∷ []
 directive_form directive.Sandbox = Number DataSize ∷ []
 directive_form directive.Gate = Name ∷ Number Service ∷ []
 directive_form directive.Option = Mode ∷ []
@@ -42,7 +42,7 @@ directive_form directive.Data = []
 directive_form directive.Zero = Number ZeroCount ∷ []
 
 abbrev pub directive_states : Directive → OperandValues → Stated
-directive_states directive.Format o = format (unsigned_abs o.number)
+directive_states directive.Format o = format o.format
 directive_states directive.Sandbox o = sandbox (unsigned_abs o.number)
 directive_states directive.Gate o = within (gate o.name (unsigned_abs o.number))
 directive_states directive.Option o = within (compressed o.compressed)

@@ -1,16 +1,18 @@
 -- The operands of a statement, and the tokens that give them.
-use Rattle.std.specs.Prelude.{◌≡◌, ℕ, ◌≤◌, ◌⊎◌, Bool, true, false, List, [], ◌∷◌, length, ℤ, if◌then◌else◌, codes}
+use Rattle.std.specs.Prelude.{◌≡◌, ℕ, ◌≤◌, ◌⊎◌, Bool, true, false, List, [], ◌∷◌, length, ℤ, if◌then◌else◌, codes, pos}
 use Rattle.sfi_policy.specs.Limits.{name_most}
 use Rattle.rv_text.specs.declared.cause.TextCause.{TextCause}
 use Rattle.rv_text.specs.declared.cause.TextCause.TheVariants as cause
+use Rattle.sfi_policy.specs.declared.format.Format.{Format}
+use Rattle.sfi_policy.specs.declared.format.Format.TheVariants.{Sfi1, Sfi2, Sfiw}
 use Rattle.rv_text.specs.declared.form.Part.{Part}
-use Rattle.rv_text.specs.declared.form.Part.TheVariants.{Rd, Rs1, Rs2, Number, Name, Mode, Comma, Open, Close}
+use Rattle.rv_text.specs.declared.form.Part.TheVariants.{Rd, Rs1, Rs2, Number, Name, Mode, ImageFormat, Comma, Open, Close}
 use Rattle.rv_text.specs.Tokens.{IsNumber, is_too_long, Takes, IsBlank, IsStuck}
 use Rattle.rv_source.specs.Names.{IsLabel}
 use Rattle.rv_text.specs.Registers.{IsRegister}
 use Rattle.rv_text.specs.Forms.{IsNumberOf}
 
--- the operands of a statement: registers, a number, a name, and whether `rvc` stands there
+-- the operands of a statement: registers, a number, a name, whether `rvc` stands there, and a format
 pub record OperandValues : Type 0 where
   pub rd : ℕ
   pub rs1 : ℕ
@@ -18,11 +20,18 @@ pub record OperandValues : Type 0 where
   pub number : ℤ
   pub name : List ℕ
   pub compressed : Bool
+  pub format : Format
 
 -- the words after `.option`
 abbrev pub mode_name : Bool → List ℕ
 mode_name true = codes "rvc"
 mode_name false = codes "norvc"
+
+-- the token says the format: by its number, or that of code in words by `words`
+abbrev pub SaysFormat : List ℕ → Format → Type 0
+SaysFormat token Sfi1 = IsNumber token (pos 1)
+SaysFormat token Sfi2 = IsNumber token (pos 2)
+SaysFormat token Sfiw = token ≡ codes "words"
 
 -- the token stands at this part of a statement with these operands
 abbrev pub Stands : OperandValues → Part → List ℕ → Type 0
@@ -32,6 +41,7 @@ Stands o Rs2 token = IsRegister token o.rs2
 Stands o (Number kind) token = IsNumber token o.number × IsNumberOf kind o.number
 Stands o Name token = IsLabel token × (length token ≤ name_most) × (token ≡ o.name)
 Stands o Mode token = token ≡ mode_name o.compressed
+Stands o ImageFormat token = SaysFormat token o.format
 Stands o Comma token = token ≡ codes ","
 Stands o Open token = token ≡ codes "("
 Stands o Close token = token ≡ codes ")"
@@ -53,6 +63,7 @@ part_cause Rs1 token = cause.Register
 part_cause Rs2 token = cause.Register
 part_cause (Number kind) token = cause.Number
 part_cause Name token = label_cause token
+part_cause ImageFormat token = cause.Number
 part_cause _ token = cause.Operands
 
 -- no token can be formed at the front of the text

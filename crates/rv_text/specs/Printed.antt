@@ -3,11 +3,13 @@ use Rattle.std.specs.Prelude.{ℕ, List, [], ◌∷◌, ◌++◌, ℤ, pos, fals
 use Rattle.std.specs.List.{flat_map}
 use Rattle.std.specs.Fmt.{signed_decimal, digits}
 use Rattle.rv_word.specs.declared.instr.Instr.{Instr}
+use Rattle.sfi_policy.specs.declared.format.Format.{Format}
+use Rattle.sfi_policy.specs.declared.format.Format.TheVariants.{Sfi1, Sfi2, Sfiw}
 use Rattle.rv_text.specs.declared.mnemonic.Mnemonic.{Mnemonic}
 use Rattle.rv_text.specs.declared.form.NumberKind.{NumberKind}
 use Rattle.rv_text.specs.declared.form.NumberKind.TheVariants.{Upper}
 use Rattle.rv_text.specs.declared.form.Part.{Part}
-use Rattle.rv_text.specs.declared.form.Part.TheVariants.{Rd, Rs1, Rs2, Number, Name, Mode, Comma, Open, Close}
+use Rattle.rv_text.specs.declared.form.Part.TheVariants.{Rd, Rs1, Rs2, Number, Name, Mode, ImageFormat, Comma, Open, Close}
 use Rattle.rv_text.specs.Operands.{OperandValues, mode_name}
 use Rattle.rv_text.specs.Mnemonics.{name_of}
 use Rattle.rv_text.specs.Forms.{form_of}
@@ -20,6 +22,12 @@ abbrev pub number_text : NumberKind → ℤ → List ℕ
 number_text Upper (pos n) = codes "0x" ++ digits 16 false n
 number_text kind z = signed_decimal z
 
+-- a format is its number, or `words`
+abbrev pub format_name : Format → List ℕ
+format_name Sfi1 = codes "1"
+format_name Sfi2 = codes "2"
+format_name Sfiw = codes "words"
+
 -- registers are x0 to x31, and a space follows a comma
 abbrev pub part_text : OperandValues → Part → List ℕ
 part_text o Rd = x_name o.rd
@@ -28,6 +36,7 @@ part_text o Rs2 = x_name o.rs2
 part_text o (Number kind) = number_text kind o.number
 part_text o Name = o.name
 part_text o Mode = mode_name o.compressed
+part_text o ImageFormat = format_name o.format
 part_text o Comma = codes ", "
 part_text o Open = codes "("
 part_text o Close = codes ")"

@@ -2,7 +2,6 @@
 use Rattle.std.specs.Prelude.{ℕ, List, Bool}
 use Rattle.rv_word.specs.declared.instr.Instr.{Instr}
 use Rattle.sfi_policy.specs.declared.format.Format.{Format}
-use Rattle.sfi_policy.specs.declared.format.Format.TheVariants.{Sfi1, Sfi2, Sfiw}
 
 -- what a line states within the sandbox begun last; a name is its text
 pub data StatedWithin : Type 0 where
@@ -21,16 +20,10 @@ pub data StatedWithin : Type 0 where
   -- the register takes the address of the place of this name
   address : (rd : ℕ) (name : List ℕ) → StatedWithin
 
--- the number of a format; a text states 1 or 2 alone
-abbrev pub number_of_format : Format → ℕ
-number_of_format Sfi1 = 1
-number_of_format Sfi2 = 2
-number_of_format Sfiw = 3
-
 -- what a line states
 pub data Stated : Type 0 where
-  -- the format of the source is the one of this number
-  format : (number : ℕ) → Stated
+  -- the format of the source is this one
+  format : (value : Format) → Stated
   -- a sandbox begins, with so many bytes of data
   sandbox : (size : ℕ) → Stated
   -- what goes on within a sandbox

@@ -2,6 +2,7 @@
 use Rattle.std.specs.Prelude.{◌≡◌, ℕ, ◌⊎◌, List, [], ◌∷◌, ℤ, pos, false}
 use Rattle.rv_word.specs.declared.instr.Instr.{Instr}
 use Rattle.rv_word.specs.declared.instr.Instr.TheVariants as instr
+use Rattle.sfi_policy.specs.declared.format.Format.TheVariants.{Sfi1}
 use Rattle.rv_text.specs.declared.cause.TextCause.{TextCause}
 use Rattle.rv_text.specs.declared.cause.TextCause.TheVariants as cause
 use Rattle.rv_text.specs.declared.mnemonic.Mnemonic.{Mnemonic}
@@ -30,7 +31,7 @@ mnemonic_of instr.Ebreak = mnemonic.Ebreak
 -- these registers and this number
 abbrev pub operands : ℕ → ℕ → ℕ → ℤ → OperandValues
 operands rd rs1 rs2 number =
-    record { rd = rd; rs1 = rs1; rs2 = rs2; number = number; name = []; compressed = false }
+    record { rd = rd; rs1 = rs1; rs2 = rs2; number = number; name = []; compressed = false; format = Sfi1 }
 
 -- its operands by their places; those that its form lacks are 0 or none
 abbrev pub operands_of : Instr → OperandValues

@@ -36,8 +36,6 @@ pub enum NumberKind {
     Byte,
     /// 0 to `DATA_MOST`: how many bytes are 0.
     ZeroCount,
-    /// 1 or 2: the number of a format.
-    FormatNumber,
 }
 
 /// What may stand at a place of a statement.
@@ -51,6 +49,8 @@ pub enum Part {
     Name,
     /// `rvc` or `norvc`.
     Mode,
+    /// 1, 2 or `words`.
+    ImageFormat,
     Comma,
     Open,
     Close,
@@ -156,7 +156,6 @@ impl NumberKind {
             NumberKind::Half => (-32768..=65535).contains(&number),
             NumberKind::Byte => (-128..=255).contains(&number),
             NumberKind::ZeroCount => (0..=DATA_MOST as i64).contains(&number),
-            NumberKind::FormatNumber => (1..=2).contains(&number),
         }
     }
 }

@@ -72,7 +72,7 @@ impl Directive {
         ensures { result.now ≡ directive_form self }
     {
         match self {
-            Directive::Format => &[Part::Number(NumberKind::FormatNumber)],
+            Directive::Format => &[Part::ImageFormat],
             Directive::Sandbox => &[Part::Number(NumberKind::DataSize)],
             Directive::Gate => &[Part::Name, Part::Number(NumberKind::Service)],
             Directive::Option => &[Part::Mode],

@@ -7,8 +7,9 @@ ghost use Rattle.rv_text.specs.Statement.{mnemonic_of, operands_of, operands};
 
 use crate::mnemonic::Mnemonic;
 use rv_word::{Instr, Reg};
+use sfi_policy::Format;
 
-/// The operands of a statement; those that its form lacks are 0 or none.
+/// The operands of a statement; those that its form lacks are 0, none or the first format.
 #[derive(Clone, Copy)]
 pub struct Operands<'a> {
     pub rd: Reg,
@@ -19,6 +20,8 @@ pub struct Operands<'a> {
     pub name: &'a str,
     /// Whether `rvc` stands after `.option`.
     pub compressed: bool,
+    /// What stands after `.format`.
+    pub format: Format,
 }
 
 /// The register that reads as 0.
@@ -40,6 +43,7 @@ impl<'a> Operands<'a> {
             number,
             name: "",
             compressed: false,
+            format: Format::Sfi1,
         }
     }
 

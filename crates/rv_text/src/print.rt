@@ -5,12 +5,13 @@ ghost use Rattle.rv_word.specs.Spelling.{InRange};
 ghost use Rattle.rv_text.specs.Registers.{x_name};
 ghost use Rattle.rv_text.specs.private.Operands.{values_of};
 ghost use Rattle.rv_text.specs.Statement.{mnemonic_of, Means};
-ghost use Rattle.rv_text.specs.Printed.{part_text, number_text, printed, statement_text};
+ghost use Rattle.rv_text.specs.Printed.{part_text, format_name, number_text, printed, statement_text};
 
 use crate::form::{NumberKind, Part};
 use crate::mnemonic::Mnemonic;
 use crate::operands::Operands;
 use rv_word::{Instr, Reg};
+use sfi_policy::Format;
 use std::alloc::{AllocError, Global};
 
 impl Mnemonic {
@@ -56,6 +57,17 @@ fn push_number(out: &mut String, kind: NumberKind, number: i64) -> Result<(), Al
     }
 }
 
+/// What stands for the format after `.format`.
+fn format_name(format: Format) -> &'static str
+    ensures { result.now ≡ format_name format }
+{
+    match format {
+        Format::Sfi1 => "1",
+        Format::Sfi2 => "2",
+        Format::Sfiw => "words",
+    }
+}
+
 /// Appends one of the operands, or a mark, to the text.
 fn push_part(out: &mut String, o: &Operands, part: Part) -> Result<(), AllocError>
     ensures { OnOk result
@@ -68,6 +80,7 @@ fn push_part(out: &mut String, o: &Operands, part: Part) -> Result<(), AllocErro
         Part::Number(kind) => push_number(out, kind, o.number),
         Part::Name => out.push_str(o.name),
         Part::Mode => out.push_str(if o.compressed { "rvc" } else { "norvc" }),
+        Part::ImageFormat => out.push_str(format_name(o.format)),
         Part::Comma => out.push_str(", "),
         Part::Open => out.push_str("("),
         Part::Close => out.push_str(")"),

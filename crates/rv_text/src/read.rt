@@ -7,7 +7,8 @@ ghost use Rattle.rv_text.specs.Tokens.{IsNumber, IsToken, is_too_long};
 ghost use Rattle.rv_source.specs.Names.{IsLabel, begins_label};
 ghost use Rattle.rv_text.specs.Registers.{IsRegister};
 ghost use Rattle.rv_text.specs.Forms.{IsNumberOf};
-ghost use Rattle.rv_text.specs.Operands.{OperandValues, Stands, Departs, part_cause, label_cause, mode_name};
+ghost use Rattle.rv_text.specs.Operands.{OperandValues, Stands, Departs, part_cause, label_cause, mode_name, SaysFormat};
+ghost use Rattle.sfi_policy.specs.declared.format.Format.{Format};
 ghost use Rattle.rv_text.specs.private.Operands.{values_of};
 ghost use Rattle.rv_text.specs.private.Reading.{Reads, SameAt, has_no_repeat, is_fresh, KeepsOthers};
 
@@ -18,7 +19,7 @@ use crate::number::number;
 use crate::operands::Operands;
 use crate::register::register;
 use rv_word::Reg;
-use sfi_policy::NAME_MOST_BYTES;
+use sfi_policy::{Format, NAME_MOST_BYTES};
 
 /// The register that the token names.
 fn read_register(token: &str) -> Result<Reg, TextCause>
@@ -120,6 +121,23 @@ fn read_mode(token: &str) -> Result<bool, TextCause>
     }
 }
 
+/// The format that the token says.
+fn read_format(token: &str) -> Result<Format, TextCause>
+    ensures ok { IfOk result (SaysFormat token.now) }
+    ensures err { OnErr result ((f : Format) → SaysFormat token.now f → ⊥) }
+    ensures cause { IfErr result (λ e. e ≡ cause.Number) }
+{
+    if token == "words" {
+        return Ok(Format::Sfiw);
+    }
+    match number(token) {
+        Some(1) => Ok(Format::Sfi1),
+        Some(2) => Ok(Format::Sfi2),
+        Some(_) => Err(TextCause::Number),
+        None => Err(TextCause::Number),
+    }
+}
+
 impl<'a> Operands<'a> {
     /// Puts in the operand that the token gives at this part.
     fn put(&mut self, part: Part, token: &'a str) -> Result<(), TextCause>
@@ -168,6 +186,13 @@ impl<'a> Operands<'a> {
             Part::Mode => match read_mode(token) {
                 Ok(compressed) => {
                     self.compressed = compressed;
+                    Ok(())
+                }
+                Err(e) => Err(e),
+            },
+            Part::ImageFormat => match read_format(token) {
+                Ok(format) => {
+                    self.format = format;
                     Ok(())
                 }
                 Err(e) => Err(e),

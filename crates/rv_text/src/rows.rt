@@ -1,33 +1,18 @@
 //! What each statement with operands states.
-ghost use Rattle.std.specs.Prelude.{◌≡◌, pos, unsigned_abs};
+ghost use Rattle.std.specs.Prelude.{◌≡◌, pos};
 ghost use Rattle.rv_word.specs.declared.instr.Instr.TheVariants as instr;
 ghost use Rattle.rv_word.specs.declared.instr.ImmOp.TheVariants.{Addi};
-ghost use Rattle.rv_text.specs.Forms.{IsNumberOf};
 ghost use Rattle.rv_text.specs.private.Operands.{values_of};
 ghost use Rattle.rv_text.specs.private.Reading.{AllSuit};
 ghost use Rattle.rv_text.specs.Keywords.{directive_form, directive_states, pseudo_form, pseudo_states};
-ghost use Rattle.rv_text.specs.Stated.{number_of_format, within, jump};
+ghost use Rattle.rv_text.specs.Stated.{within, jump};
 ghost use Rattle.rv_text.specs.private.Stated.{stated};
 
 use crate::constant::constant;
-use crate::form::NumberKind;
 use crate::keyword::{Directive, Pseudo};
 use crate::operands::{Operands, x0};
 use crate::statement::{SandboxStatement, Statement};
 use rv_word::{Cond, ImmOp, Instr, Reg};
-use sfi_policy::Format;
-
-/// The format of a number, 1 or 2.
-fn format_numbered(number: i64) -> Format
-    requires { IsNumberOf NumberKind.FormatNumber number }
-    ensures { number_of_format result ≡ unsigned_abs number }
-{
-    if number == 2 {
-        Format::Sfi2
-    } else {
-        Format::Sfi1
-    }
-}
 
 impl Directive {
     /// What the directive states with these operands.
@@ -36,7 +21,7 @@ impl Directive {
         ensures { stated result ≡ directive_states self (values_of o.now) }
     {
         match self {
-            Directive::Format => Statement::Format(format_numbered(o.number)),
+            Directive::Format => Statement::Format(o.format),
             Directive::Sandbox => Statement::Sandbox {
                 data_size: o.number as u32,
             },

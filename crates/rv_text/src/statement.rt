@@ -6,7 +6,7 @@ use sfi_policy::Format;
 /// What a line of source states.
 #[derive(Drop)]
 pub enum Statement<'a> {
-    /// `.format N`: the format of the source is this one.
+    /// `.format N`, or `.format words`: the format of the source is this one.
     Format(Format),
     /// `.sandbox N`: a sandbox begins, with so many bytes of data.
     Sandbox { data_size: u32 },

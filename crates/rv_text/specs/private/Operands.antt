@@ -12,4 +12,5 @@ values_of o =
       number = o.number;
       name = o.name.now;
       compressed = o.compressed;
+      format = o.format;
     }

@@ -4,7 +4,7 @@ use Rattle.std.specs.List.{AllByRecursion, list_all}
 use Rattle.sfi_policy.specs.Limits.{name_most}
 use Rattle.rv_word.specs.declared.instr.Instr.{Instr}
 use Rattle.rv_text.specs.declared.form.Part.{Part}
-use Rattle.rv_text.specs.declared.form.Part.TheVariants.{Rd, Rs1, Rs2, Number, Name, Mode, Comma, Open, Close}
+use Rattle.rv_text.specs.declared.form.Part.TheVariants.{Rd, Rs1, Rs2, Number, Name, Mode, ImageFormat, Comma, Open, Close}
 use Rattle.rv_text.specs.declared.mnemonic.Mnemonic.{Mnemonic}
 use Rattle.rv_text.specs.Tokens.{Takes, IsBlank}
 use Rattle.rv_source.specs.Names.{IsLabel}
@@ -28,13 +28,14 @@ SameAt Rs2 a b = a.rs2 ≡ b.rs2
 SameAt (Number kind) a b = a.number ≡ b.number
 SameAt Name a b = a.name ≡ b.name
 SameAt Mode a b = a.compressed ≡ b.compressed
+SameAt ImageFormat a b = a.format ≡ b.format
 SameAt _ a b = Unit {0}
 
 -- two statements have the same operands at the parts of a form
 abbrev pub AgreesOn : List Part → OperandValues → OperandValues → Type 0
 AgreesOn form a b = AllByRecursion (λ part. SameAt part a b) form
 
--- which operand a part gives, by number; marks, which give none, come after 5
+-- which operand a part gives, by number; marks, which give none, come after 6
 abbrev pub slot : Part → ℕ
 slot Rd = 0
 slot Rs1 = 1
@@ -42,9 +43,10 @@ slot Rs2 = 2
 slot (Number kind) = 3
 slot Name = 4
 slot Mode = 5
-slot Comma = 6
-slot Open = 7
-slot Close = 8
+slot ImageFormat = 6
+slot Comma = 7
+slot Open = 8
+slot Close = 9
 
 -- the operand is one that can stand at this part
 abbrev pub Suits : OperandValues → Part → Type 0
@@ -66,7 +68,7 @@ is_fresh part form = list_all (λ p. not (slot p == slot part)) form
 -- no operand stands at two parts of the form
 abbrev pub has_no_repeat : List Part → Bool
 has_no_repeat [] = true
-has_no_repeat (part ∷ form) = (nat_lt 5 (slot part) || is_fresh part form) && has_no_repeat form
+has_no_repeat (part ∷ form) = (nat_lt 6 (slot part) || is_fresh part form) && has_no_repeat form
 
 -- the text after the instruction's name gives its operands, or nothing for a fence alone
 abbrev pub Follows : List ℕ → Instr → Type 0

@@ -11,7 +11,7 @@ use Rattle.rv_text.specs.declared.statement.SandboxStatement.{SandboxStatement}
 use Rattle.rv_text.specs.declared.statement.SandboxStatement.TheVariants as within_sandbox
 use Rattle.rv_text.specs.declared.statement.Place.{Place}
 use Rattle.rv_text.specs.declared.statement.Place.TheVariants as place
-use Rattle.rv_text.specs.Stated.{Stated, StatedWithin, number_of_format, address, bytes, compressed, data_part, format, gate, jump, plain, sandbox, within}
+use Rattle.rv_text.specs.Stated.{Stated, StatedWithin, address, bytes, compressed, data_part, format, gate, jump, plain, sandbox, within}
 
 -- what a statement within a sandbox states
 abbrev pub stated_within : SandboxStatement → StatedWithin
@@ -27,7 +27,7 @@ stated_within (within_sandbox.Address rd name) = address rd name.now
 
 -- what a statement states
 abbrev pub stated : Statement → Stated
-stated (statement.Format value) = format (number_of_format value)
+stated (statement.Format value) = format value
 stated (statement.Sandbox size) = sandbox size
 stated (statement.Within what) = within (stated_within what)
 
@@ -41,9 +41,9 @@ IsRightWithin (jump i name) = InRange i × IsOpen i × IsShortLabel name
 IsRightWithin (address rd name) = IsReg rd × IsShortLabel name
 IsRightWithin _ = Unit {0}
 
--- a format has the number, and a sandbox begins with a number of data bytes that it may have
+-- a sandbox begins with a number of data bytes that it may have
 abbrev pub IsRightStatement : Stated → Type 0
-IsRightStatement (format number) = (1 ≤ number) × (number ≤ 2)
+IsRightStatement (format value) = Unit {0}
 IsRightStatement (sandbox size) = IsDataSize size
 IsRightStatement (within what) = IsRightWithin what
 
@@ -55,6 +55,6 @@ place_within _ = place.Code
 
 -- where each statement may come
 abbrev pub place_of_stated : Stated → Place
-place_of_stated (format number) = place.Head
+place_of_stated (format value) = place.Head
 place_of_stated (sandbox size) = place.Outside
 place_of_stated (within what) = place_within what
