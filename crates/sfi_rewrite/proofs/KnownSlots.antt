@@ -15,7 +15,7 @@ one count s h = All-cons (IsKnown count) s [] h (All-nil (IsKnown count))
 zero_fits : IsImm12 (pos 0)
 zero_fits = (omega (arith, ints), omega (arith, ints))
 
-wide_known : (count : ℕ) (i : Instr) → InRange i → IsKnown count (Wide i)
+pub wide_known : (count : ℕ) (i : Instr) → InRange i → IsKnown count (Wide i)
 wide_known count i h = record { encodes = h; name = tt }
 
 alone_known : (count : ℕ) (rvc : Bool) (i : Instr) (slots : List Slot) → IsAlone rvc i slots → InRange i → All (IsKnown count) slots

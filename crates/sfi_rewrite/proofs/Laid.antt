@@ -70,7 +70,7 @@ laid_split f end (x ∷ items) (suc k) slots l =
 
 -- ---- one way
 
-alone_one_way : (rvc : Bool) (i : Instr) (a b : List Slot) → IsAlone rvc i a → IsAlone rvc i b → a ≡ b
+pub alone_one_way : (rvc : Bool) (i : Instr) (a b : List Slot) → IsAlone rvc i a → IsAlone rvc i b → a ≡ b
 alone_one_way false i a b x y = x ∙ sym y
 alone_one_way true i a b x y = cases x y
   where

@@ -1,8 +1,12 @@
 -- A source has one fault, or is rewritten.
-use Rattle.sfi_rewrite.proofs.Prelude.{◌≡◌, ℕ, zero, suc, ◌+◌, ◌<◌, ◌≤◌, List, [], ◌∷◌, length, take, drop, get_or, sym, ap, ◌∙◌, subst, arith, Some, inl, inr, Bool, true, false, slice_get, All, AllZip, cases_order, get_or-take, take-take, take_all, length-take-le, slice_get_within, get_or_from_slice_get, Format, Item, Sandbox, Slot, RewriteFault, size_of, AreLaidFrom, Placement, IsPermitted, AreFaultless, IsTooLarge, HasFault, IsItemFault, IsFaultless, IsSourceFault, IsRewritten}
-use Rattle.sfi_rewrite.specs.declared.fault.RewriteFault.TheVariants.{ReservedRegister, TooLarge, Memory, StackWrite}
+use Rattle.sfi_rewrite.proofs.Prelude.{◌≡◌, ℕ, zero, suc, ◌+◌, ◌<◌, ◌≤◌, List, [], ◌∷◌, length, take, drop, get_or, sym, ap, ◌∙◌, subst, arith, Some, inl, inr, ◌⊎◌, Bool, true, false, slice_get, All, AllZip, cases_order, get_or-take, take-take, take_all, length-take-le, slice_get_within, get_or_from_slice_get, Format, Item, Sandbox, Slot, RewriteFault, size_of, AreLaidFrom, Placement, IsPermitted, AreFaultless, IsTooLarge, HasItemFault, HasFault, IsItemFault, IsFaultless, IsSourceFault, IsRewritten}
+use Rattle.sfi_rewrite.specs.declared.fault.RewriteFault.TheVariants.{ReservedRegister, TooLarge, Memory, StackWrite, Jump}
 use Rattle.std.proofs.Math.Seq.{drop-cons}
 use Rattle.sfi_rewrite.specs.declared.fault.RewriteFault.TheVariants.{Ecall}
+use Rattle.sfi_policy.specs.declared.format.Format.TheVariants.{Sfi1, Sfi2, Sfiw}
+use Rattle.sfi_rewrite.specs.SourceFaults.{IsFaultIn, IsSandboxFault}
+use Rattle.sfi_rewrite.specs.words.Faults as words
+use Rattle.sfi_rewrite.proofs.WordLaid.{first_fits, AreFaultlessAll}
 use Rattle.sfi_rewrite.proofs.Sizes.{size_of-append}
 use Rattle.sfi_rewrite.proofs.Expansions.{expansion_one}
 use Rattle.sfi_rewrite.proofs.Laid.{laid_split, laid_one_way, next_one_way, size_next}
@@ -12,26 +16,73 @@ use Rattle.sfi_rewrite.proofs.Laid.{laid_split, laid_one_way, next_one_way, size
 both_ways : (b : Bool) → b ≡ true → b ≡ false → ⊥
 both_ways b t f = let e : true ≡ false = sym t ∙ f in cc
 
+-- what is permitted has none of the faults of an instruction
+not_permitted : (format : Format) (x : Item) (f : RewriteFault) → HasItemFault format x f → IsPermitted format x → ⊥
+not_permitted format x (ReservedRegister line) h p = both_ways _ h.0 p.operands
+not_permitted format x (Ecall line) h p = both_ways _ h.1 p.no_ecall
+not_permitted format x (StackWrite line) h p = both_ways _ h.2 p.no_stack_write
+not_permitted format x (Jump line) h p = both_ways _ h.3 p.no_barred_jump
+not_permitted format x (TooLarge number) h p = h
+not_permitted format x Memory h p = h
+
+-- it has one of these
+item_one_way : (format : Format) (x : Item) (f g : RewriteFault) → HasItemFault format x f → HasItemFault format x g → f ≡ g
+item_one_way format x (ReservedRegister line) (ReservedRegister other) h k = ap ReservedRegister (h.1 ∙ sym k.1)
+item_one_way format x (ReservedRegister line) (Ecall other) h k = absurd (both_ways _ h.0 k.0)
+item_one_way format x (ReservedRegister line) (StackWrite other) h k = absurd (both_ways _ h.0 k.0)
+item_one_way format x (ReservedRegister line) (Jump other) h k = absurd (both_ways _ h.0 k.0)
+item_one_way format x (ReservedRegister line) (TooLarge number) h k = absurd k
+item_one_way format x (ReservedRegister line) Memory h k = absurd k
+item_one_way format x (Ecall line) (ReservedRegister other) h k = absurd (both_ways _ k.0 h.0)
+item_one_way format x (Ecall line) (Ecall other) h k = ap Ecall (h.2 ∙ sym k.2)
+item_one_way format x (Ecall line) (StackWrite other) h k = absurd (both_ways _ h.1 k.1)
+item_one_way format x (Ecall line) (Jump other) h k = absurd (both_ways _ h.1 k.1)
+item_one_way format x (Ecall line) (TooLarge number) h k = absurd k
+item_one_way format x (Ecall line) Memory h k = absurd k
+item_one_way format x (StackWrite line) (ReservedRegister other) h k = absurd (both_ways _ k.0 h.0)
+item_one_way format x (StackWrite line) (Ecall other) h k = absurd (both_ways _ k.1 h.1)
+item_one_way format x (StackWrite line) (StackWrite other) h k = ap StackWrite (h.3 ∙ sym k.3)
+item_one_way format x (StackWrite line) (Jump other) h k = absurd (both_ways _ h.2 k.2)
+item_one_way format x (StackWrite line) (TooLarge number) h k = absurd k
+item_one_way format x (StackWrite line) Memory h k = absurd k
+item_one_way format x (Jump line) (ReservedRegister other) h k = absurd (both_ways _ k.0 h.0)
+item_one_way format x (Jump line) (Ecall other) h k = absurd (both_ways _ k.1 h.1)
+item_one_way format x (Jump line) (StackWrite other) h k = absurd (both_ways _ k.2 h.2)
+item_one_way format x (Jump line) (Jump other) h k = ap Jump (h.4 ∙ sym k.4)
+item_one_way format x (Jump line) (TooLarge number) h k = absurd k
+item_one_way format x (Jump line) Memory h k = absurd k
+item_one_way format x (TooLarge number) g h k = absurd h
+item_one_way format x Memory g h k = absurd h
+
+-- the item has a fault of an instruction, or is permitted and too large
+abbrev IsEither : Format → ℕ → Item → RewriteFault → Type 0
+IsEither format sandbox x f = HasItemFault format x f ⊎ (IsPermitted format x × (f ≡ TooLarge sandbox))
+
+either_one_way : (format : Format) (sandbox : ℕ) (x : Item) (f g : RewriteFault) → IsEither format sandbox x f → IsEither format sandbox x g → f ≡ g
+either_one_way format sandbox x f g (inl h) (inl k) = item_one_way format x f g h k
+either_one_way format sandbox x f g (inl h) (inr k) = absurd (not_permitted format x f h k.0)
+either_one_way format sandbox x f g (inr h) (inl k) = absurd (not_permitted format x g k h.0)
+either_one_way format sandbox x f g (inr h) (inr k) = h.1 ∙ sym k.1
+
+either : (format : Format) (sandbox end : ℕ) (x : Item) (f : RewriteFault) → HasFault format sandbox end x f → IsEither format sandbox x f
+either format sandbox end x (ReservedRegister line) h = inl h
+either format sandbox end x (Ecall line) h = inl h
+either format sandbox end x (StackWrite line) h = inl h
+either format sandbox end x (Jump line) h = inl h
+either format sandbox end x (TooLarge number) h = inr (h.0, ap TooLarge h.2)
+either format sandbox end x Memory h = absurd h
+
 -- an item has one fault
 fault_one_way : (format : Format) (sandbox end : ℕ) (x : Item) (f g : RewriteFault) → HasFault format sandbox end x f → HasFault format sandbox end x g → f ≡ g
-fault_one_way format sandbox end x (ReservedRegister line) (ReservedRegister other) h k = ap ReservedRegister (h.1 ∙ sym k.1)
-fault_one_way format sandbox end x (ReservedRegister line) (Ecall other) h k = absurd (both_ways _ h.0 k.0)
-fault_one_way format sandbox end x (ReservedRegister line) (TooLarge number) h k = absurd (both_ways _ h.0 k.0.operands)
-fault_one_way format sandbox end x (Ecall line) (ReservedRegister other) h k = absurd (both_ways _ k.0 h.0)
-fault_one_way format sandbox end x (Ecall line) (Ecall other) h k = ap Ecall (h.2 ∙ sym k.2)
-fault_one_way format sandbox end x (Ecall line) (TooLarge number) h k = absurd (both_ways _ h.1 k.0.no_ecall)
-fault_one_way format sandbox end x (TooLarge number) (ReservedRegister other) h k = absurd (both_ways _ k.0 h.0.operands)
-fault_one_way format sandbox end x (TooLarge number) (Ecall other) h k = absurd (both_ways _ k.1 h.0.no_ecall)
-fault_one_way format sandbox end x (TooLarge number) (TooLarge other) h k = ap TooLarge (h.2 ∙ sym k.2)
-fault_one_way format sandbox end x (StackWrite line) (ReservedRegister other) h k = absurd (both_ways _ k.0 h.0)
-fault_one_way format sandbox end x (StackWrite line) (Ecall other) h k = absurd (both_ways _ k.1 h.1)
-fault_one_way format sandbox end x (StackWrite line) (StackWrite other) h k = ap StackWrite (h.3 ∙ sym k.3)
-fault_one_way format sandbox end x (StackWrite line) (TooLarge number) h k = absurd (both_ways _ h.2 k.0.no_stack_write)
-fault_one_way format sandbox end x (ReservedRegister line) (StackWrite other) h k = absurd (both_ways _ h.0 k.0)
-fault_one_way format sandbox end x (Ecall line) (StackWrite other) h k = absurd (both_ways _ h.1 k.1)
-fault_one_way format sandbox end x (TooLarge number) (StackWrite other) h k = absurd (both_ways _ k.2 h.0.no_stack_write)
-fault_one_way format sandbox end x Memory g h k = absurd h
-fault_one_way format sandbox end x _ _ h k = absurd k
+fault_one_way format sandbox end x f g h k = either_one_way format sandbox x f g (either format sandbox end x f h) (either format sandbox end x g k)
+
+word_either : (sandbox : ℕ) (items : List Item) (k : ℕ) (x : Item) (f : RewriteFault) → words.HasFault sandbox items k x f → IsEither Sfiw sandbox x f
+word_either sandbox items k x (ReservedRegister line) h = inl h
+word_either sandbox items k x (Ecall line) h = inl h
+word_either sandbox items k x (StackWrite line) h = inl h
+word_either sandbox items k x (Jump line) h = inl h
+word_either sandbox items k x (TooLarge number) h = inr (h.0, ap TooLarge h.2)
+word_either sandbox items k x Memory h = absurd h
 
 -- no item of some without a fault is too large
 fits_at : (format : Format) (items : List Item) (slots before : List Slot) (k : ℕ) (x : Item)
@@ -53,14 +104,16 @@ fits_at format items slots before k x f h at b t =
     let beyond = t.beyond in
     omega arith
 
+permitted_at : (format : Format) (items : List Item) (k : ℕ) (x : Item) → All (IsPermitted format) items → k < length items → get_or items k x ≡ x → IsPermitted format x
+permitted_at format items k x p h at = subst (λ (y : Item). IsPermitted format y) at (p k x h)
+
 no_fault_in : (format : Format) (sandbox : ℕ) (items : List Item) (slots before : List Slot) (k : ℕ) (x : Item) (f : RewriteFault)
     → AreFaultless format items slots → k < length items → get_or items k x ≡ x → AreLaidFrom format 0 (take k items) before → HasFault format sandbox (size_of before) x f → ⊥
-no_fault_in format sandbox items slots before k x (ReservedRegister line) a h at b f =
-    both_ways _ f.0 (subst (λ (y : Item). IsPermitted format y) at (a.permitted k x h)).operands
-no_fault_in format sandbox items slots before k x (Ecall line) a h at b f = both_ways _ f.1 (subst (λ (y : Item). IsPermitted format y) at (a.permitted k x h)).no_ecall
-no_fault_in format sandbox items slots before k x (StackWrite line) a h at b f =
-    both_ways _ f.2 (subst (λ (y : Item). IsPermitted format y) at (a.permitted k x h)).no_stack_write
 no_fault_in format sandbox items slots before k x (TooLarge number) a h at b f = fits_at format items slots before k x a h at b f.1
+no_fault_in format sandbox items slots before k x (ReservedRegister line) a h at b f = not_permitted format x (ReservedRegister line) f (permitted_at format items k x a.permitted h at)
+no_fault_in format sandbox items slots before k x (Ecall line) a h at b f = not_permitted format x (Ecall line) f (permitted_at format items k x a.permitted h at)
+no_fault_in format sandbox items slots before k x (StackWrite line) a h at b f = not_permitted format x (StackWrite line) f (permitted_at format items k x a.permitted h at)
+no_fault_in format sandbox items slots before k x (Jump line) a h at b f = not_permitted format x (Jump line) f (permitted_at format items k x a.permitted h at)
 no_fault_in format sandbox items slots before k x Memory a h at b f = f
 
 -- a fault's item doesn't stand before what has no fault
@@ -90,10 +143,62 @@ item_fault_one_way format sandbox items f g a b =
           ]
     ]
 
-pub faultless_has_none : (sandbox : ℕ) (s : Sandbox) (f : RewriteFault) → IsFaultless s → IsItemFault s.format sandbox s.items f → ⊥
-faultless_has_none sandbox s f l a =
-    let all = subst (λ (v : List Item). AreFaultless s.format v l.slots) (sym (take_all (length s.items) s.items (omega arith))) l.items in
-    item_before s.format sandbox s.items f (length s.items) l.slots a all (slice_get_within s.items a.index a.item a.at) (omega arith)
+bundles_have_none : (format : Format) (sandbox : ℕ) (items : List Item) (slots : List Slot) (f : RewriteFault) → AreFaultless format items slots → IsItemFault format sandbox items f → ⊥
+bundles_have_none format sandbox items slots f l a =
+    let all = subst (λ (v : List Item). AreFaultless format v slots) (sym (take_all (length items) items (omega arith))) l in
+    item_before format sandbox items f (length items) slots a all (slice_get_within items a.index a.item a.at) (omega arith)
+
+-- ---- items in words
+
+-- none of the first j has a fault
+word_large : (sandbox : ℕ) (items : List Item) (j k : ℕ) (x : Item) (number : ℕ) → words.AreFaultless j items → k < j → words.HasFault sandbox items k x (TooLarge number) → ⊥
+word_large sandbox items j k x number g low h =
+    let fits = first_fits items (k + 1) j h.1.0 g.slots (omega arith) h.1.1 g.laid in
+    let over = h.1.2 in
+    let room = g.fits in
+    omega arith
+
+word_none : (sandbox : ℕ) (items : List Item) (j k : ℕ) (x : Item) (f : RewriteFault) → words.AreFaultless j items → k < j → IsPermitted Sfiw x → words.HasFault sandbox items k x f → IsEither Sfiw sandbox x f → ⊥
+word_none sandbox items j k x f g low p has (inl h) = not_permitted Sfiw x f h p
+word_none sandbox items j k x f g low p has (inr h) = word_large sandbox items j k x sandbox g low (subst (λ e. words.HasFault sandbox items k x e) h.1 has)
+
+word_before : (sandbox : ℕ) (items : List Item) (f : RewriteFault) (j : ℕ) → (a : words.IsItemFault sandbox items f) → words.AreFaultless j items → a.index < j → j ≤ length items → ⊥
+word_before sandbox items f j a g low high =
+    let l = length-take-le j items high in
+    let at = get_or-take j items a.index a.item low ∙ get_or_from_slice_get items a.index a.item a.item a.at in
+    word_none sandbox items j a.index a.item f g low (permitted_at Sfiw (take j items) a.index a.item g.permitted (omega arith) at) a.has (word_either sandbox items a.index a.item f a.has)
+
+word_fault_one_way : (sandbox : ℕ) (items : List Item) (f g : RewriteFault) → words.IsItemFault sandbox items f → words.IsItemFault sandbox items g → f ≡ g
+word_fault_one_way sandbox items f g a b =
+    elim (cases_order a.index b.index) [
+      | inl e ↦
+          let i : Some a.item ≡ Some b.item = sym a.at ∙ ap (λ (k : ℕ). slice_get items k) e ∙ b.at in
+          let x : a.item ≡ b.item = cc in
+          either_one_way Sfiw sandbox b.item f g
+          (subst (λ (y : Item). IsEither Sfiw sandbox y f) x (word_either sandbox items a.index a.item f a.has)) (word_either sandbox items b.index b.item g b.has)
+      | inr other ↦
+          let m = slice_get_within items a.index a.item a.at in
+          let n = slice_get_within items b.index b.item b.at in
+          elim other [
+            | inl low ↦ absurd (word_before sandbox items f b.index a b.before low (omega arith))
+            | inr low ↦ absurd (word_before sandbox items g a.index b a.before low (omega arith))
+          ]
+    ]
+
+-- ---- in either kind of code
+
+fault_in_one_way : (format : Format) (sandbox : ℕ) (items : List Item) (f g : RewriteFault) → IsFaultIn format sandbox items f → IsFaultIn format sandbox items g → f ≡ g
+fault_in_one_way Sfi1 sandbox items f g a b = item_fault_one_way Sfi1 sandbox items f g a b
+fault_in_one_way Sfi2 sandbox items f g a b = item_fault_one_way Sfi2 sandbox items f g a b
+fault_in_one_way Sfiw sandbox items f g a b = word_fault_one_way sandbox items f g a b
+
+in_has_none : (format : Format) (sandbox : ℕ) (items : List Item) (f : RewriteFault) → AreFaultlessAll format items → IsFaultIn format sandbox items f → ⊥
+in_has_none Sfi1 sandbox items f l a = bundles_have_none Sfi1 sandbox items l.0 f l.1 a
+in_has_none Sfi2 sandbox items f l a = bundles_have_none Sfi2 sandbox items l.0 f l.1 a
+in_has_none Sfiw sandbox items f l a = word_before sandbox items f (length items) a l (slice_get_within items a.index a.item a.at) (omega arith)
+
+pub faultless_has_none : (sandbox : ℕ) (s : Sandbox) (f : RewriteFault) → IsFaultless s → IsSandboxFault sandbox s f → ⊥
+faultless_has_none sandbox s f l a = in_has_none s.format sandbox s.items f l a
 
 -- ---- sandboxes
 
@@ -109,8 +214,8 @@ source_fault_one_way source f g a b =
       | inl e ↦
           let i : Some a.sandbox ≡ Some b.sandbox = sym a.at ∙ ap (λ (k : ℕ). slice_get source k) e ∙ b.at in
           let s : a.sandbox ≡ b.sandbox = cc in
-          item_fault_one_way b.sandbox.format b.number b.sandbox.items f g
-          (subst (λ (n : ℕ). IsItemFault b.sandbox.format n b.sandbox.items f) e (subst (λ (v : Sandbox). IsItemFault v.format a.number v.items f) s a.has)) b.has
+          fault_in_one_way b.sandbox.format b.number b.sandbox.items f g
+          (subst (λ (n : ℕ). IsSandboxFault n b.sandbox f) e (subst (λ (v : Sandbox). IsSandboxFault a.number v f) s a.has)) b.has
       | inr other ↦
           let m = slice_get_within source a.number a.sandbox a.at in
           let n = slice_get_within source b.number b.sandbox b.at in

@@ -1,7 +1,14 @@
 -- The placement of a sandbox keeps what the type of what is placed keeps.
-use Rattle.sfi_rewrite.proofs.Prelude.{◌≡◌, ℕ, suc, ◌+◌, ◌-◌, ◌*◌, ◌/◌, ◌%◌, ◌<◌, ◌≤◌, List, [], ◌∷◌, ◌++◌, length, take, drop, get_or, replicate, refl, sym, ap, ◌∙◌, subst, arith, Some, None, Option, inl, inr, slice_get, IsTrue, ◌↔◌, Contains, Bool, false, MatchOption, All, AllZip, cases_lt, take_all, length-map, All-nil, All-cons, All-append, All-head, All-tail, All-contains_itself, slice_get-get_or, Ecall, Format, code_most, Item, Plain, Named, Gate, Code, Data, Unknown, Sandbox, IsSandbox, IsThere, IsBody, named, Slot, PlacedName, size_of, slots_of, c_nop, next_bundle, AreLaid, AreLaidFrom, IsLabelAt, Placement, IsPlacedName, HasEndLabel, FillsEnd, AreBundles, AreWhole, IsPlacedThere, IsPlacedGate, IsPlacedPart, HaveBodies, HasEnd, AreFaultless, IsRewritten}
+use Rattle.sfi_rewrite.proofs.Prelude.{◌≡◌, ℕ, suc, ◌+◌, ◌-◌, ◌*◌, ◌/◌, ◌%◌, ◌<◌, ◌≤◌, List, [], ◌∷◌, ◌++◌, length, take, drop, get_or, replicate, refl, sym, ap, ◌∙◌, subst, arith, Some, None, Option, inl, inr, slice_get, IsTrue, ◌↔◌, Contains, Bool, false, IsPermitted, append-nil, MatchOption, All, AllZip, cases_lt, take_all, length-map, All-nil, All-cons, All-append, All-head, All-tail, All-contains_itself, slice_get-get_or, Ecall, Format, code_most, Item, Plain, Named, Gate, Code, Data, Unknown, Sandbox, IsSandbox, IsThere, IsBody, named, Slot, PlacedName, size_of, slots_of, c_nop, next_bundle, AreLaid, AreLaidFrom, IsLabelAt, Placement, IsPlacedName, HasEndLabel, FillsEnd, AreBundles, IsPlacedThere, IsPlacedGate, IsPlacedPart, HaveBodies, HasEnd, IsRewritten}
 use Rattle.rv_source.specs.declared.item.SourceGate.{SourceGate}
-use Rattle.sfi_policy.specs.Formats.{has_words}
+use Rattle.sfi_policy.specs.Formats.{unit}
+use Rattle.sfi_policy.specs.declared.format.Format.TheVariants.{Sfi1, Sfi2, Sfiw}
+use Rattle.sfi_rewrite.specs.Placed.{AreWholeIn}
+use Rattle.sfi_rewrite.specs.Placement.{AreLaidIn, IsLabelIn, FillsEndIn}
+use Rattle.sfi_rewrite.specs.private.Words.{AreFaultlessIn}
+use Rattle.sfi_rewrite.specs.words.Laying as words
+use Rattle.sfi_rewrite.proofs.WordLaid.{first_fits, all_first, laid_aligned, all_fit, faultless_all, laid_of}
+use Rattle.sfi_rewrite.proofs.WordKnown.{words_known}
 use Rattle.std.proofs.Math.Seq.{drop-cons}
 use Rattle.std.proofs.lemmas.Slice.Zip.{AllZip-left, AllZip-long}
 use Rattle.std.specs.Option.{IsSomeAnd}
@@ -51,31 +58,47 @@ label_before f items slots before k place l h labelled b p =
     record { aligned = omega arith; below = omega arith }
 
 -- a label at the end of the code stands no later than the fill
-label_last : (s : Sandbox) (slots before : List Slot) (nops k place : ℕ)
-    → AreLaid s.format s.items slots → length s.items ≤ k → k ≤ length s.items → Contains (named s) (Code k) → FillsEnd (size_of slots) (HasEndLabel s) nops
-    → AreLaid s.format (take k s.items) before → place ≡ next_bundle (size_of before) → Within place (size_of slots + 2 * nops)
-label_last s slots before nops k place l low high c end b p =
+label_last : (f : Format) (s : Sandbox) (slots before : List Slot) (nops k place : ℕ)
+    → AreLaid f s.items slots → length s.items ≤ k → k ≤ length s.items → Contains (named s) (Code k) → FillsEnd (size_of slots) (HasEndLabel s) nops
+    → AreLaid f (take k s.items) before → place ≡ next_bundle (size_of before) → Within place (size_of slots + 2 * nops)
+label_last f s slots before nops k place l low high c end b p =
     let at : k ≡ length s.items = omega arith in
     let has : HasEndLabel s = subst (λ (m : ℕ). Contains (named s) (Code m)) at c in
     let e : take k s.items ≡ s.items = take_all k s.items low in
-    let same : before ≡ slots = laid_one_way s.format 0 s.items before slots (subst (λ (v : List Item). AreLaid s.format v before) e b) l in
-    let f = ap size_of same in
+    let same : before ≡ slots = laid_one_way f 0 s.items before slots (subst (λ (v : List Item). AreLaid f v before) e b) l in
+    let z = ap size_of same in
     let enough = end.enough has in
     record { aligned = omega arith; below = omega arith }
 
-label_within : (s : Sandbox) (slots : List Slot) (nops k place : ℕ)
-    → IsSandbox s → AreLaid s.format s.items slots → FillsEnd (size_of slots) (HasEndLabel s) nops → k ≤ length s.items → Contains (named s) (Code k) → IsLabelAt s.format s.items k place
+label_within : (f : Format) (s : Sandbox) (slots : List Slot) (nops k place : ℕ)
+    → IsSandbox s → AreLaid f s.items slots → FillsEnd (size_of slots) (HasEndLabel s) nops → k ≤ length s.items → Contains (named s) (Code k) → IsLabelAt f s.items k place
     → Within place (size_of slots + 2 * nops)
-label_within s slots nops k place h l end high c at =
+label_within f s slots nops k place h l end high c at =
     elim (cases_lt k (length s.items)) [
       | inl low ↦
           let x = get_or s.items k other_item in
           let is = h.items k x (slice_get-get_or s.items k other_item low) in
-          let w = label_before s.format s.items slots at.0 k place l low (is.labelled.1 c) at.1 at.2 in
+          let w = label_before f s.items slots at.0 k place l low (is.labelled.1 c) at.1 at.2 in
           let b = w.below in
           record { aligned = w.aligned; below = omega arith }
-      | inr low ↦ label_last s slots at.0 nops k place l low high c end at.1 at.2
+      | inr low ↦ label_last f s slots at.0 nops k place l low high c end at.1 at.2
     ]
+
+-- in bundles and in words
+record IsWithin (f : Format) (place size : ℕ) : Type 0 where
+  aligned : place % unit f ≡ 0
+  below : place ≤ size
+
+label_in_within : (f : Format) (s : Sandbox) (slots : List Slot) (nops k place : ℕ)
+    → IsSandbox s → AreLaidIn f s.items slots → FillsEndIn f (size_of slots) (HasEndLabel s) nops → k ≤ length s.items → Contains (named s) (Code k) → IsLabelIn f s.items k place
+    → IsWithin f place (size_of slots + 2 * nops)
+label_in_within Sfi1 s slots nops k place h l end high c at = let w = label_within Sfi1 s slots nops k place h l end high c at in record { aligned = w.aligned; below = w.below }
+label_in_within Sfi2 s slots nops k place h l end high c at = let w = label_within Sfi2 s slots nops k place h l end high c at in record { aligned = w.aligned; below = w.below }
+label_in_within Sfiw s slots nops k place h l end high c at =
+    let aligned = laid_aligned (drop k s.items) (take k s.items) at.0 at.1 in
+    let few = first_fits s.items k (length s.items) at.0 slots high at.1 (all_first s.items slots l) in
+    let is = at.2 in
+    record { aligned = omega arith; below = omega arith }
 
 -- ---- names
 
@@ -84,16 +107,18 @@ record IsNameOf (s : Sandbox) (n : Named) : Type 0 where
   contained : Contains (named s) n
 
 name_there : (s : Sandbox) (p : Placement) (slots : List Slot) (nops : ℕ) (n : Named) (m : PlacedName)
-    → IsSandbox s → AreLaid s.format s.items slots → FillsEnd (size_of slots) (HasEndLabel s) nops → slots_of p.bundles ≡ slots ++ replicate nops c_nop
-    → p.gates ≡ s.gates → p.bytes ≡ s.bytes → IsNameOf s n → IsPlacedName s.format s.items n m → IsPlacedThere p m
-name_there s p slots nops (Gate k) m h l end e g b n is = rw is (rw g (n.there))
-name_there s p slots nops (Code k) m h l end e g b n is =
-    let w = label_within s slots nops k is.0 h l end n.there n.contained is.1 in
+    → IsSandbox s → AreLaidIn s.format s.items slots → FillsEndIn s.format (size_of slots) (HasEndLabel s) nops → slots_of p.bundles ≡ slots ++ replicate nops c_nop
+    → p.format ≡ s.format → p.gates ≡ s.gates → p.bytes ≡ s.bytes → IsNameOf s n → IsPlacedName s.format s.items n m → IsPlacedThere p m
+name_there s p slots nops (Gate k) m h l end e f g b n is = rw is (rw g (n.there))
+name_there s p slots nops (Code k) m h l end e f g b n is =
+    let w = label_in_within s.format s slots nops k is.0 h l end n.there n.contained is.1 in
     let z = end_size slots (slots_of p.bundles) nops e in
     let low = w.below in
-    rw (is.2) (w.aligned, omega arith)
-name_there s p slots nops (Data offset) m h l end e g b n is = rw is (rw b (n.there))
-name_there s p slots nops Unknown m h l end e g b n is = rw is tt
+    let aligned : is.0 % unit p.format ≡ 0 = subst (λ (g : Format). is.0 % unit g ≡ 0) (sym f) w.aligned in
+    let below : is.0 ≤ size_of (slots_of p.bundles) = omega arith in
+    subst (λ v. IsPlacedThere p v) (sym is.2) (aligned, below)
+name_there s p slots nops (Data offset) m h l end e f g b n is = rw is (rw b (n.there))
+name_there s p slots nops Unknown m h l end e f g b n is = rw is tt
 
 zip_all : {A B : Type 0} (R : A → B → Type 0) (P : A → Type 0) (Q : B → Type 0) (xs : List A) (ys : List B)
     → AllZip R xs ys → All P xs → ((x : A) (y : B) → P x → R x y → Q y) → All Q ys
@@ -130,33 +155,50 @@ end_fits format slots labelled nops f h =
     let few = f.fewest n (λ _. omega arith) in
     omega arith
 
+end_in_fits : (format : Format) (slots : List Slot) (labelled : Type 0) (nops : ℕ) → FillsEndIn format (size_of slots) labelled nops → size_of slots ≤ code_most format → size_of slots + 2 * nops ≤ code_most format
+end_in_fits Sfi1 slots labelled nops f h = end_fits Sfi1 slots labelled nops f h
+end_in_fits Sfi2 slots labelled nops f h = end_fits Sfi2 slots labelled nops f h
+end_in_fits Sfiw slots labelled nops f h = let z : nops ≡ 0 = f in omega arith
+
+known_in : (format : Format) (count : ℕ) (items : List Item) (slots : List Slot) → AreLaidIn format items slots → All (λ x. IsBody count x.body) items → All (IsKnown count) slots
+known_in Sfi1 count items slots l b = laid_known Sfi1 count 0 items slots l b
+known_in Sfi2 count items slots l b = laid_known Sfi2 count 0 items slots l b
+known_in Sfiw count items slots l b = words_known count items [] slots l b
+
+whole_in : (format : Format) (count : ℕ) (items : List Item) (slots : List Slot) (labelled : Type 0) (nops : ℕ) (bundles : List (List Slot))
+    → AreLaidIn format items slots → All (IsPermitted format) items → All (λ x. IsBody count x.body) items → FillsEndIn format (size_of slots) labelled nops
+    → slots_of bundles ≡ slots ++ replicate nops c_nop → AreBundles bundles → AreWholeIn format count bundles
+whole_in Sfi1 count items slots labelled nops bundles l p b end code are = laid_whole Sfi1 count items slots nops bundles l p b code are
+whole_in Sfi2 count items slots labelled nops bundles l p b end code are = laid_whole Sfi2 count items slots nops bundles l p b code are
+whole_in Sfiw count items slots labelled nops bundles l p b end code are =
+    let none : slots ++ replicate nops c_nop ≡ slots = ap (λ n. slots ++ replicate n c_nop) end ∙ append-nil slots in
+    record { items = items; permitted = p; bodies = b; laid = subst (λ v. words.AreLaid items v) (sym (code ∙ none)) l }
+
 pub placed_part : (s : Sandbox) (p : Placement) → IsSandbox s → IsRewritten s p → IsPlacedPart p
 placed_part s p h r =
     let is = r.placement in
-    let all = r.faultless in
-    let same : is.slots ≡ all.slots = laid_one_way s.format 0 s.items is.slots all.slots is.laid all.items.laid in
-    let fits = all.items.fits in
+    let all = all_fit s.format s.items is.slots is.laid r.faultless in
+    let fits = all.fits in
     let size = end_size is.slots (slots_of p.bundles) is.nops is.code in
-    let end = end_fits s.format is.slots (HasEndLabel s) is.nops is.end (let z = ap size_of same in omega arith) in
+    let end = end_in_fits s.format is.slots (HasEndLabel s) is.nops is.end fits in
     let count = length p.names in
     let counted : length s.names ≡ count = sym (AllZip-long (IsPlacedName s.format s.items) (named s) p.names is.names ∙ length-map s.names (λ e. e.1)) in
     let bodies : All (λ x. IsBody count x.body) s.items = subst (λ (n : ℕ). All (λ x. IsBody n x.body) s.items) counted (bodies_in s h) in
     let known : All (IsKnown count) (slots_of p.bundles) =
-    rw (is.code) (All-append (IsKnown count) is.slots (replicate is.nops c_nop) (laid_known s.format count 0 s.items is.slots is.laid bodies) (nops_known count is.nops)) in
+    rw (is.code) (All-append (IsKnown count) is.slots (replicate is.nops c_nop) (known_in s.format count s.items is.slots is.laid bodies) (nops_known count is.nops)) in
     record {
-      bundled = ap has_words is.format ∙ h.bundled;
       data_size = rw (is.data_size) h.data_size;
       gate_count = rw (is.gates) h.gate_count;
       gates = λ k g e. gate_in s p k g h is.names (ap (λ v. slice_get v k) (sym is.gates) ∙ e);
       names =
           zip_all (IsPlacedName s.format s.items) (IsNameOf s) (IsPlacedThere p) (named s) p.names is.names (names_of s h)
-          (λ n m of at. name_there s p is.slots is.nops n m h is.laid is.end is.code is.gates is.bytes of at);
+          (λ n m of at. name_there s p is.slots is.nops n m h is.laid is.end is.code is.format is.gates is.bytes of at);
       byte_count = rw (is.bytes, is.data_size) h.byte_count;
       bytes = rw (is.bytes) h.bytes;
       bundles = is.bundles;
       whole =
-          subst (λ (f : Format). All (AreWhole f count) p.bundles) (sym is.format)
-          (laid_whole s.format count s.items is.slots is.nops p.bundles is.laid all.items.permitted bodies is.code is.bundles);
+          subst (λ (f : Format). AreWholeIn f count p.bundles) (sym is.format)
+          (whole_in s.format count s.items is.slots (HasEndLabel s) is.nops p.bundles is.laid all.permitted bodies is.end is.code is.bundles);
       fits = subst (λ (f : Format). size_of (slots_of p.bundles) ≤ code_most f) (sym is.format) (omega arith);
       encodes = λ k d l. (known k d l).encodes;
       names_known = λ k d l. (known k d l).name;
@@ -167,20 +209,20 @@ placed_parts source placed right z = zip_all IsRewritten IsSandbox IsPlacedPart 
 
 -- ---- from the fields of what was placed
 
-pub end_of : (s : Sandbox) (labelled : Bool) (slots all : List Slot) → IsTrue labelled ↔ HasEndLabel s → HasEnd slots (IsTrue labelled) all → HasEnd slots (HasEndLabel s) all
-end_of s labelled slots all both end =
-    record {
-      nops = end.nops;
-      end = record { enough = λ h. end.end.enough (both.1 h); fewest = λ n f. end.end.fewest n (λ t. f (both.0 t)) };
-      slots = end.slots;
-    }
+end_in : (f : Format) (end : ℕ) (labelled has : Type 0) (nops : ℕ) → labelled ↔ has → FillsEndIn f end labelled nops → FillsEndIn f end has nops
+end_in Sfi1 end labelled has nops both f = record { enough = λ h. f.enough (both.1 h); fewest = λ n g. f.fewest n (λ t. g (both.0 t)) }
+end_in Sfi2 end labelled has nops both f = record { enough = λ h. f.enough (both.1 h); fewest = λ n g. f.fewest n (λ t. g (both.0 t)) }
+end_in Sfiw end labelled has nops both f = f
+
+pub end_of : (s : Sandbox) (f : Format) (labelled : Bool) (slots all : List Slot) → IsTrue labelled ↔ HasEndLabel s → HasEnd f slots (IsTrue labelled) all → HasEnd f slots (HasEndLabel s) all
+end_of s f labelled slots all both end = record { nops = end.nops; end = end_in f (size_of slots) (IsTrue labelled) (HasEndLabel s) end.nops both end.end; slots = end.slots }
 
 -- what the program made of the sandbox
 pub record IsMade (s : Sandbox) (p : Placement) : Type 0 where
   pub slots : List Slot
-  pub faultless : AreFaultless s.format s.items slots
+  pub faultless : AreFaultlessIn s.format s.items slots
   pub all : List Slot
-  pub end : HasEnd slots (HasEndLabel s) all
+  pub end : HasEnd s.format slots (HasEndLabel s) all
   pub code : slots_of p.bundles ≡ all
   pub format : p.format ≡ s.format
   pub data_size : p.data_size ≡ s.data_size
@@ -191,7 +233,7 @@ pub record IsMade (s : Sandbox) (p : Placement) : Type 0 where
 
 pub rewritten : (s : Sandbox) (p : Placement) → IsMade s p → IsRewritten s p
 rewritten s p m = record {
-  faultless = record { slots = m.slots; items = m.faultless };
+  faultless = faultless_all s.format s.items m.slots m.faultless;
   placement = record {
     format = m.format;
     data_size = m.data_size;
@@ -199,7 +241,7 @@ rewritten s p m = record {
     bytes = m.bytes;
     names = m.names;
     slots = m.slots;
-    laid = m.faultless.laid;
+    laid = laid_of s.format s.items m.slots m.faultless;
     nops = m.end.nops;
     end = m.end.end;
     code = m.code ∙ m.end.slots;

@@ -22,7 +22,8 @@ pub use Rattle.rv_source.specs.declared.item.Named.TheVariants.{Code, Unknown, G
 pub use Rattle.sfi_policy.specs.Formats.{is_stack, code_most, has_stack}
 pub use Rattle.sfi_policy.specs.declared.format.Format.{Format}
 pub use Rattle.sfi_rewrite.specs.Expansion.{jump_slots, IsAlone, IsMasked, IsExpansionOf, IsExpansion, code_pair_slots, jump_to_x31, is_call, data_pair_slots}
-pub use Rattle.sfi_rewrite.specs.Faults.{IsPermitted, AreFaultless, IsTooLarge, HasItemFault, HasFault, UnlessMemory, IsItemFault, IsFaultless, IsSourceFault}
+pub use Rattle.sfi_rewrite.specs.Faults.{IsPermitted, AreFaultless, IsTooLarge, HasItemFault, HasFault, UnlessMemory, IsItemFault}
+pub use Rattle.sfi_rewrite.specs.SourceFaults.{IsFaultless, IsSourceFault}
 pub use Rattle.sfi_rewrite.specs.Laws.{TransparencyCanBeMet, SomeRewriting, ExpansionsAreTransparent, RewrittenIsTransparent}
 pub use Rattle.sfi_rewrite.specs.Placed.{Encodes, IsNamedBelow, AreWhole, IsPlacedThere, IsPlacedGate, IsPlacedPart, IsPlaced, AreOf, format_of, nothing, padding}
 pub use Rattle.sfi_rewrite.specs.Placement.{AreBundles, Placement, IsPlacedName, HasEndLabel, FillsEnd, IsPlacement}
@@ -30,7 +31,8 @@ pub use Rattle.sfi_rewrite.specs.Places.{AreLaidFrom, FillsGap, IsNext, next_bun
 pub use Rattle.sfi_rewrite.specs.Rewriting.{IsRewritten, AreRewritten, AnswersFault}
 pub use Rattle.sfi_rewrite.specs.Slots.{size_of, slots_of, c_nop, slot_size}
 pub use Rattle.sfi_rewrite.specs.Stack.{writes_stack, is_on_stack, stack_pair, put_back, is_stack_write, jumps_or_loads_x2}
-pub use Rattle.sfi_rewrite.specs.Transparency.{IsSameAside, AreRegions, HasReserved, IsAskedOf, SlotStands, IsTransparent, at_pc, KeepsStack, ActsAs, IsAimed, MayBe, StandTransparent, DoesAs}
+pub use Rattle.sfi_rewrite.specs.Transparency.{IsSameAside, AreRegions, HasReserved, IsAskedOf, SlotStands, IsTransparent, at_pc, KeepsStack, ActsAs, IsAimed, MayBe, DoesAs}
+pub use Rattle.sfi_rewrite.specs.Standing.{StandTransparent}
 pub use Rattle.sfi_rewrite.specs.declared.fault.RewriteFault.{RewriteFault}
 pub use Rattle.sfi_rewrite.specs.declared.placed.PlacedName.{PlacedName}
 pub use Rattle.sfi_rewrite.specs.declared.slot.Slot.{Slot}

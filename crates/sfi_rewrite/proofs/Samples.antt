@@ -19,27 +19,31 @@ use Rattle.rv_mem.proofs.Facts.{addresses_are_these, others_stay, read_is_held, 
 
 -- ---- the regions and the registers
 
-abbrev code_at : Span
+abbrev pub code_at : Span
 code_at = record { base = 0x01000000; size = 256 }
 
-abbrev data_at : Span
+abbrev pub data_at : Span
 data_at = record { base = 0x01800000; size = 256 }
 
-regions : AreRegions code_at data_at
+pub regions : AreRegions code_at data_at
 regions = record {
   format = Sfi2;
   code_placed = record { power = 8; size_is = refl; at_least = omega arith; at_most = omega arith; multiple = 65536; base_is = refl };
   data_placed = record { power = 8; size_is = refl; at_least = omega arith; at_most = omega arith; multiple = 98304; base_is = refl };
 }
 
--- x2 and x11 point into the data, x12 to a bundle start of the code, the reserved registers have their values, and all others are 0
-abbrev hart : ℕ → Hart
-hart pc = record {
+-- x2 and x11 point into the data, x12 to a bundle start of the code, the reserved registers have their values, with that mask of the code, and all others are 0
+abbrev pub hart_with : ℕ → ℕ → Hart
+hart_with mask pc = record {
   pc = pc;
-  registers = 0 ∷ 0 ∷ 0x01800080 ∷ replicate 8 0 ++ (0x01800010 ∷ 0x01000010 ∷ (replicate 11 0 ++ (0x01000000 ∷ 240 ∷ 0x01800000 ∷ 255 ∷ 0 ∷ 0 ∷ 0 ∷ 0 ∷ [])));
+  registers = 0 ∷ 0 ∷ 0x01800080 ∷ replicate 8 0 ++ (0x01800010 ∷ 0x01000010 ∷ (replicate 11 0 ++ (0x01000000 ∷ mask ∷ 0x01800000 ∷ 255 ∷ 0 ∷ 0 ∷ 0 ∷ 0 ∷ [])));
 }
 
-each_below : (n : ℕ) (xs : List ℕ) → 0 < n → list_all (λ x. nat_lt x n) xs ≡ true → (k : ℕ) → slice_index xs k < n
+-- that of code in bundles of 16 bytes
+abbrev hart : ℕ → Hart
+hart pc = hart_with 240 pc
+
+pub each_below : (n : ℕ) (xs : List ℕ) → 0 < n → list_all (λ x. nat_lt x n) xs ≡ true → (k : ℕ) → slice_index xs k < n
 each_below n [] some h k = some
 each_below n (x ∷ xs) some h zero = ltb-true x n (and_parts (nat_lt x n) (list_all (λ y. nat_lt y n) xs) h).0
 each_below n (x ∷ xs) some h (suc k) = each_below n xs some (and_parts (nat_lt x n) (list_all (λ y. nat_lt y n) xs) h).1 k
@@ -58,13 +62,13 @@ reserved = record { code_base = refl; code_mask = refl; data_base = refl; data_m
 
 -- ---- the words
 
-abbrev IsSpelled : Instr → Type 0
+abbrev pub IsSpelled : Instr → Type 0
 IsSpelled i = Spells (to_le_bytes w32 (spelling i)) i 4
 
-abbrev words_of : List Instr → List ℕ
+abbrev pub words_of : List Instr → List ℕ
 words_of is = flat_map (λ i. to_le_bytes w32 (spelling i)) is
 
-op_spelled : (op : RegOp) (rd a b : ℕ) → rd < 32 → a < 32 → b < 32 → IsSpelled (Op op rd a b)
+pub op_spelled : (op : RegOp) (rd a b : ℕ) → rd < 32 → a < 32 → b < 32 → IsSpelled (Op op rd a b)
 unfolding InRange
 op_spelled op rd a b d g h = word_spells (Op op rd a b) (d, g, h)
 
@@ -76,7 +80,7 @@ jump_x31 : IsSpelled (Jalr 1 31 (pos 0))
 unfolding InRange
 jump_x31 = word_spells (Jalr 1 31 (pos 0)) (omega arith, omega arith, (omega (arith, ints), omega (arith, ints)))
 
-push : IsSpelled sample_push
+pub push : IsSpelled sample_push
 unfolding InRange
 push = word_spells sample_push (omega arith, omega arith, (omega (arith, ints), omega (arith, ints)))
 
@@ -104,7 +108,7 @@ push_small = each_below 256 push_words (omega arith) refl
 -- ---- the memory
 
 -- the memory with more bytes, from base on
-placed : Bytes → ℕ → List ℕ → Bytes
+pub placed : Bytes → ℕ → List ℕ → Bytes
 placed m base bytes = with_bytes m (addresses base (length bytes)) bytes
 
 module _ (m : Bytes) (base : ℕ) (bytes : List ℕ) (fits : base + length bytes ≤ 2 ^ 32) where
@@ -154,28 +158,28 @@ empty_is = record {
 }
 
 -- four bytes of data where x11 points, and the bytes of code from the code base on
-abbrev four_zeros : List ℕ
+abbrev pub four_zeros : List ℕ
 four_zeros = 0 ∷ 0 ∷ 0 ∷ 0 ∷ []
 
-abbrev with_data : Bytes
+abbrev pub with_data : Bytes
 with_data = placed empty 0x01800010 four_zeros
 
-abbrev with_code : List ℕ → Bytes
+abbrev pub with_code : List ℕ → Bytes
 with_code bytes = placed with_data 0x01000000 bytes
 
 module _ (bytes : List ℕ) (size : length bytes ≡ 12) where
   fits : 0x01000000 + length bytes ≤ 2 ^ 32
   fits = omega (arith, size)
 
-  is_memory : ((k : ℕ) → slice_index bytes k < 256) → IsMemory (with_code bytes)
+  pub is_memory : ((k : ℕ) → slice_index bytes k < 256) → IsMemory (with_code bytes)
   is_memory small =
       placed_is with_data 0x01000000 bytes fits
       (placed_is empty 0x01800010 four_zeros (omega arith) empty_is (each_below 256 four_zeros (omega arith) refl))
       small
 
-  stands : (at : ℕ) (i : Instr) → at + 4 ≤ 12 → length (take 4 (drop at bytes)) ≡ 4 → Spells (take 4 (drop at bytes)) i 4
-      → Stands (record { hart = hart (0x01000000 + at); memory = with_code bytes }) i 4
-  stands at i within four spelled = record {
+  pub stands : (mask at : ℕ) (i : Instr) → at + 4 ≤ 12 → length (take 4 (drop at bytes)) ≡ 4 → Spells (take 4 (drop at bytes)) i 4
+      → Stands (record { hart = hart_with mask (0x01000000 + at); memory = with_code bytes }) i 4
+  stands mask at i within four spelled = record {
     bytes = take 4 (drop at bytes);
     there = (read_is_held (with_code bytes) (0x01000000 + at) 4 (take 4 (drop at bytes))).1 (record { count = four; each = each });
     spelled = spelled;
@@ -198,8 +202,8 @@ module _ (bytes : List ℕ) (size : length bytes ≡ 12) where
           ∙ elsewhere with_data 0x01000000 bytes fits (0x01800010 + k) (λ from below. omega (arith, size))
           ∙ there empty 0x01800010 four_zeros (omega arith) k few
 
-  load_done : (effect sample_load 4 (hart 0x01000000) (with_code bytes)).outcome ≡ Next
-  load_done = ap (λ (o : Option (List ℕ)). (after_load (option_map number_of o) Lw 10 0x01800010 4 (hart 0x01000000) (with_code bytes)).outcome) has_data
+  pub load_done : (mask : ℕ) → (effect sample_load 4 (hart_with mask 0x01000000) (with_code bytes)).outcome ≡ Next
+  load_done mask = ap (λ (o : Option (List ℕ)). (after_load (option_map number_of o) Lw 10 0x01800010 4 (hart_with mask 0x01000000) (with_code bytes)).outcome) has_data
 
 -- three instructions that stand at the code base, for one
 asked_of : (i j k l : Instr) → IsSpelled j → IsSpelled k → IsSpelled l → ((n : ℕ) → slice_index (words_of (j ∷ k ∷ l ∷ [])) n < 256)
@@ -209,7 +213,7 @@ asked_of i j k l first second third small =
       regions = regions;
       is_state = record { hart = is_hart; memory = is_memory words refl small };
       reserved = reserved;
-      stand = (stands words refl 0 j (omega arith) refl first, (stands words refl 4 k (omega arith) refl second, (stands words refl 8 l (omega arith) refl third, tt)));
+      stand = (stands words refl 240 0 j (omega arith) refl first, (stands words refl 240 4 k (omega arith) refl second, (stands words refl 240 8 l (omega arith) refl third, tt)));
     }
 
 -- ---- the three
@@ -224,7 +228,7 @@ load_met = record {
   state = record { hart = hart 0x01000000; memory = with_code load_words };
   asked = asked_of sample_load (Op And 31 11 27) (Op Or 31 31 26) (Load Lw 10 31 (pos 0)) (op_spelled And 31 11 27 (omega arith) (omega arith) (omega arith)) (op_spelled Or 31 31 26 (omega arith) (omega arith) (omega arith)) load_x31 load_small;
   keeps = (omega arith, omega arith);
-  done = load_done load_words refl;
+  done = load_done load_words refl 240;
 }
 
 jump_met : MeetsTransparent Sfi2 sample_jump

@@ -1,24 +1,25 @@
 -- One sandbox after another.
-use Rattle.sfi_rewrite.proofs.Prelude.{◌≡◌, ℕ, ◌+◌, ◌<◌, List, [], ◌∷◌, ◌++◌, length, take, get_or, refl, sym, ap, ◌∙◌, subst, arith, inl, inr, Some, Err, All, AllZip, take_more, All-cons, All-head, All-tail, slice_get-get_or, Format, Sandbox, IsSource, RewriteFault, Placement, IsPlacedPart, IsPlaced, AreOf, format_of, UnlessMemory, IsItemFault, IsSourceFault, IsRewritten, AnswersFault}
+use Rattle.sfi_rewrite.proofs.Prelude.{◌≡◌, ℕ, ◌+◌, ◌<◌, List, [], ◌∷◌, ◌++◌, length, take, get_or, refl, sym, ap, ◌∙◌, subst, arith, inl, inr, Some, Err, All, AllZip, take_more, All-cons, All-head, All-tail, slice_get-get_or, Format, Sandbox, IsSource, RewriteFault, Placement, IsPlacedPart, IsPlaced, AreOf, format_of, UnlessMemory, IsSourceFault, IsRewritten, AnswersFault}
 use Rattle.sfi_rewrite.specs.declared.fault.RewriteFault.TheVariants.{Memory}
+use Rattle.sfi_rewrite.specs.SourceFaults.{IsSandboxFault}
 use Rattle.std.proofs.lemmas.Slice.Zip.{AllZip-long}
 use Rattle.rv_source.specs.Source as text
 use Rattle.sfi_rewrite.proofs.OneFault.{each_faultless, source_fault_one_way}
 use Rattle.sfi_rewrite.proofs.PlacedNames.{zip_push}
 
 pub faulty : (source : List Sandbox) (k n : ℕ) (s : Sandbox) (placed : List Placement) (f : RewriteFault)
-    → k < length source → s ≡ get_or source k s → AllZip IsRewritten (take k source) placed → n ≡ k → IsItemFault s.format n s.items f → IsSourceFault source f
+    → k < length source → s ≡ get_or source k s → AllZip IsRewritten (take k source) placed → n ≡ k → IsSandboxFault n s f → IsSourceFault source f
 faulty source k n s placed f h e z m is = record {
   number = k;
   sandbox = s;
   at = slice_get-get_or source k s h ∙ ap Some (sym e);
   before = each_faultless (take k source) placed z;
-  has = subst (λ (i : ℕ). IsItemFault s.format i s.items f) m is;
+  has = subst (λ (i : ℕ). IsSandboxFault i s f) m is;
 }
 
 pub source_fault : (source : List Sandbox) (k n : ℕ) (s : Sandbox) (placed : List Placement) (f : RewriteFault)
     → k < length source → s ≡ get_or source k s → AllZip IsRewritten (take k source) placed → n ≡ k
-    → UnlessMemory (IsItemFault s.format n s.items) f → UnlessMemory (IsSourceFault source) f
+    → UnlessMemory (IsSandboxFault n s) f → UnlessMemory (IsSourceFault source) f
 source_fault source k n s placed Memory h e z m is = tt
 source_fault source k n s placed other h e z m is = faulty source k n s placed other h e z m is
 

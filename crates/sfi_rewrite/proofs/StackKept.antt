@@ -102,12 +102,12 @@ keeps_stack i x writes no_jump size stands = record {
 -- ---- the expansions
 
 -- an instruction: it writes the stack pointer, is an access on it, or neither
-of_plain : (writes on rvc : Bool) (i : Instr) (slots : List Slot) → (writes ≡ true → (writes_register 2 i ≡ true) × (is_jump i ≡ false)) → names_withheld i ≡ false
+of_plain : (f : Format) (writes on rvc : Bool) (i : Instr) (slots : List Slot) → (writes ≡ true → (writes_register 2 i ≡ true) × (is_jump i ≡ false)) → names_withheld f i ≡ false
     → MatchBool writes (slots ≡ Wide i ∷ stack_pair) (MatchBool on (IsAlone rvc i slots) (IsMasked rvc i slots)) → MatchBool writes (KeepsStack i slots) (IsTransparent i slots)
-of_plain true on rvc i slots w n h =
+of_plain f true on rvc i slots w n h =
     subst (λ (l : List Slot). KeepsStack i l) (sym h) (keeps_stack i (Wide i) (w refl).0 (w refl).1 refl (λ s st. st))
-of_plain false true rvc i slots w n h = alone_transparent rvc i slots h
-of_plain false false rvc i slots w n h = of_masked rvc i slots n h
+of_plain f false true rvc i slots w n h = alone_transparent rvc i slots h
+of_plain f false false rvc i slots w n h = of_masked f rvc i slots n h
 
 no_jump_writes : (i : Instr) → jumps_or_loads_x2 (Plain i) ≡ false → writes_register 2 i ≡ true → is_jump i ≡ false
 no_jump_writes (Jal rd offset) h w = absurd (true≢false (sym w ∙ h))
@@ -142,10 +142,10 @@ to_name f (Branch cond rs1 rs2 offset) i name line slots a w h =
     (aimed (writes_stack f (Branch cond rs1 rs2 a.0)) (Branch cond rs1 rs2 offset) (Branch cond rs1 rs2 a.0) name line slots (and_right (has_stack f) false refl) h)
 to_name f _ i name line slots a w h = absurd a
 
-of_body : (f : Format) (line : ℕ) (rvc : Bool) (body : Body) (i : Instr) (slots : List Slot) → MayBe body i → item_names_withheld body ≡ false
+of_body : (f : Format) (line : ℕ) (rvc : Bool) (body : Body) (i : Instr) (slots : List Slot) → MayBe body i → item_names_withheld f body ≡ false
     → is_stack_write f body ≡ false → IsExpansionOf f line rvc body slots → ActsAs f i slots
 of_body f line rvc (Plain j) i slots be n w h =
-    subst (λ (k : Instr). ActsAs f k slots) (sym be) (of_plain (writes_stack f j) (is_on_stack f j) rvc j slots (writer (has_stack f) j w) n h)
+    subst (λ (k : Instr). ActsAs f k slots) (sym be) (of_plain f (writes_stack f j) (is_on_stack f j) rvc j slots (writer (has_stack f) j w) n h)
 of_body f line rvc (To j name) i slots be n w h = to_name f j i name line slots be w h
 of_body f line rvc (High rd name) i slots be n w h =
     subst (λ (k : Instr). ActsAs f k slots) (sym be.1)

@@ -10,8 +10,9 @@ use Rattle.rv_word.specs.declared.instr.StoreWidth.{StoreWidth}
 use Rattle.sfi_image.specs.Regions.{IsBundleStart}
 use Rattle.sfi_image.specs.Spans.{Holds}
 use Rattle.sfi_image.specs.declared.span.Span.{Span}
-use Rattle.sfi_policy.specs.Registers.{is_withheld}
-use Rattle.sfi_rewrite.specs.Registers.{names_withheld}
+use Rattle.sfi_policy.specs.declared.format.Format.{Format}
+use Rattle.sfi_policy.specs.declared.format.Format.TheVariants.{Sfi1, Sfi2, Sfiw}
+use Rattle.sfi_rewrite.specs.Registers.{is_withheld, names_withheld}
 use Rattle.rv_step.proofs.Facts.{pair_leaves, step_keeps_state}
 use Rattle.rv_step.proofs.Pairs.{written_here}
 use Rattle.sfi_rewrite.proofs.Unmoved.{unmoved_data, unmoved_code}
@@ -30,8 +31,10 @@ stands_at s t i n e f st = record { bytes = st.bytes; there = rw (e, f) st.there
 pub does : (s : State) (i : Instr) (n : ℕ) → Stands s i n → IsStep s (effect i n s.hart s.memory)
 does s i n st = record { front = Read i n; at_pc = st; result = refl }
 
-not_withheld : (r : ℕ) → is_withheld r ≡ false → r ≢ 31
-not_withheld r h = λ e. cc
+not_withheld : (f : Format) (r : ℕ) → is_withheld f r ≡ false → r ≢ 31
+not_withheld Sfi1 r h = λ e. cc
+not_withheld Sfi2 r h = λ e. cc
+not_withheld Sfiw r h = λ e. cc
 
 -- ---- a pair at pc
 
@@ -224,11 +227,11 @@ named_transparent i x size stands = one_transparent i x (λ s stand. subst (λ (
 
 -- ---- any expansion
 
-pub of_masked : (rvc : Bool) (i : Instr) (slots : List Slot)
-    → names_withheld i ≡ false → IsMasked rvc i slots → IsTransparent i slots
-of_masked rvc (Load kind rd a imm) slots n e = subst (λ (l : List Slot). IsTransparent (Load kind rd a imm) l) (sym e) (load_transparent kind rd a imm)
-of_masked rvc (Store width a rs2 imm) slots n e =
-    let h = or_parts (is_withheld a) (is_withheld rs2) n in
-    subst (λ (l : List Slot). IsTransparent (Store width a rs2 imm) l) (sym e) (store_transparent width a rs2 imm (not_withheld rs2 h.1))
-of_masked rvc (Jalr rd a imm) slots n e = subst (λ (l : List Slot). IsTransparent (Jalr rd a imm) l) (sym e) (jumps_transparent rd a imm)
-of_masked rvc other slots n e = alone_transparent rvc other slots e
+pub of_masked : (f : Format) (rvc : Bool) (i : Instr) (slots : List Slot)
+    → names_withheld f i ≡ false → IsMasked rvc i slots → IsTransparent i slots
+of_masked f rvc (Load kind rd a imm) slots n e = subst (λ (l : List Slot). IsTransparent (Load kind rd a imm) l) (sym e) (load_transparent kind rd a imm)
+of_masked f rvc (Store width a rs2 imm) slots n e =
+    let h = or_parts (is_withheld f a) (is_withheld f rs2) n in
+    subst (λ (l : List Slot). IsTransparent (Store width a rs2 imm) l) (sym e) (store_transparent width a rs2 imm (not_withheld f rs2 h.1))
+of_masked f rvc (Jalr rd a imm) slots n e = subst (λ (l : List Slot). IsTransparent (Jalr rd a imm) l) (sym e) (jumps_transparent rd a imm)
+of_masked f rvc other slots n e = alone_transparent rvc other slots e

@@ -6,11 +6,11 @@ use Rattle.std.proofs.lemmas.Nat.Bits.{and_high}
 use Rattle.std.specs.Int.Bits.{bit_and, bit_or}
 use Rattle.sfi_image.proofs.Bundles.{exponent_le}
 
-in_block : (q k r : ℕ) → r < 2 ^ k → bit_or r (q * 2 ^ k) ≡ q * 2 ^ k + r
+pub in_block : (q k r : ℕ) → r < 2 ^ k → bit_or r (q * 2 ^ k) ≡ q * 2 ^ k + r
 in_block q k r h = or_comm r (q * 2 ^ k) ∙ or_shifted q k r h
 
 -- a number in the block of that many is its rest
-rest_of : (q b x : ℕ) → q * b ≤ x → x < q * b + b → x % b ≡ x - q * b
+pub rest_of : (q b x : ℕ) → q * b ≤ x → x < q * b + b → x % b ≡ x - q * b
 rest_of q b x from below =
     let r = x - q * b in
     let is : x ≡ q * b + r = omega arith in

@@ -1,16 +1,17 @@
--- The faults of a source, in the order of its text.
-use Rattle.std.specs.Prelude.{◌≡◌, ◌+◌, ◌*◌, ◌≤◌, ℕ, List, true, false, take, slice_get, Some}
+-- The faults of an item, and those of a sandbox whose code is in bundles, in the order of its text.
+use Rattle.std.specs.Prelude.{◌≡◌, ◌+◌, ◌*◌, ◌≤◌, ◌&&◌, ℕ, List, Bool, true, false, take, slice_get, Some}
 use Rattle.std.specs.List.{All}
 use Rattle.sfi_policy.specs.declared.format.Format.{Format}
-use Rattle.sfi_policy.specs.Formats.{code_most}
+use Rattle.sfi_policy.specs.Formats.{code_most, has_words}
+use Rattle.rv_source.specs.declared.item.Body.{Body}
 use Rattle.rv_source.specs.declared.item.Item.{Item}
-use Rattle.rv_source.specs.Source.{Sandbox}
 use Rattle.sfi_rewrite.specs.declared.slot.Slot.{Slot}
 use Rattle.sfi_rewrite.specs.declared.fault.RewriteFault.{RewriteFault}
-use Rattle.sfi_rewrite.specs.declared.fault.RewriteFault.TheVariants.{ReservedRegister, Ecall, TooLarge, Memory, StackWrite}
+use Rattle.sfi_rewrite.specs.declared.fault.RewriteFault.TheVariants.{ReservedRegister, Ecall, TooLarge, Memory, StackWrite, Jump}
 use Rattle.sfi_rewrite.specs.Registers.{item_names_withheld, is_ecall}
 use Rattle.sfi_rewrite.specs.Slots.{size_of}
 use Rattle.sfi_rewrite.specs.Stack.{is_stack_write}
+use Rattle.sfi_rewrite.specs.words.Expansion as words
 use Rattle.sfi_rewrite.specs.Places.{IsNext, AreLaid}
 
 -- the number of a fault
@@ -20,12 +21,18 @@ number_of (Ecall line) = 2
 number_of (TooLarge sandbox) = 3
 number_of Memory = 4
 number_of (StackWrite line) = 5
+number_of (Jump line) = 6
+
+-- the item is a jump that code in words can't have
+abbrev pub is_barred_jump : Format → Body → Bool
+is_barred_jump f x = has_words f && words.is_barred_jump x
 
 -- the item has none of the faults of an instruction
 pub record IsPermitted (f : Format) (x : Item) : Type 0 where
-  pub operands : item_names_withheld x.body ≡ false
+  pub operands : item_names_withheld f x.body ≡ false
   pub no_ecall : is_ecall x.body ≡ false
   pub no_stack_write : is_stack_write f x.body ≡ false
+  pub no_barred_jump : is_barred_jump f x.body ≡ false
 
 -- the items have no fault, and these are their slots
 pub record AreFaultless (f : Format) (items : List Item) (slots : List Slot) : Type 0 where
@@ -40,15 +47,17 @@ pub record IsTooLarge (f : Format) (end : ℕ) (x : Item) : Type 0 where
   pub next : IsNext f end x nops expanded
   pub beyond : code_most f ≤ end + 2 * nops
 
--- the first of the faults that the item has wherever it stands:
--- a write of the stack pointer goes last
+-- the first of the faults that the item has wherever it stands, in the order of its four
 abbrev pub HasItemFault : Format → Item → RewriteFault → Type 0
-HasItemFault f x (ReservedRegister line) = (item_names_withheld x.body ≡ true) × (line ≡ x.line)
+HasItemFault f x (ReservedRegister line) = (item_names_withheld f x.body ≡ true) × (line ≡ x.line)
 HasItemFault f x (Ecall line) =
-    (item_names_withheld x.body ≡ false) × (is_ecall x.body ≡ true) × (line ≡ x.line)
+    (item_names_withheld f x.body ≡ false) × (is_ecall x.body ≡ true) × (line ≡ x.line)
 HasItemFault f x (StackWrite line) =
-    (item_names_withheld x.body ≡ false) × (is_ecall x.body ≡ false)
+    (item_names_withheld f x.body ≡ false) × (is_ecall x.body ≡ false)
     × (is_stack_write f x.body ≡ true) × (line ≡ x.line)
+HasItemFault f x (Jump line) =
+    (item_names_withheld f x.body ≡ false) × (is_ecall x.body ≡ false)
+    × (is_stack_write f x.body ≡ false) × (is_barred_jump f x.body ≡ true) × (line ≡ x.line)
 HasItemFault f x (TooLarge sandbox) = ⊥
 HasItemFault f x Memory = ⊥
 
@@ -72,16 +81,3 @@ pub record IsItemFault (format : Format) (sandbox : ℕ) (items : List Item)
   pub before : List Slot
   pub faultless : AreFaultless format (take index items) before
   pub has : HasFault format sandbox (size_of before) item f
-
--- no item of the sandbox has a fault
-pub record IsFaultless (s : Sandbox) : Type 0 where
-  pub slots : List Slot
-  pub items : AreFaultless s.format s.items slots
-
--- the first item of the source that has a fault has this one
-pub record IsSourceFault (source : List Sandbox) (f : RewriteFault) : Type 0 where
-  pub number : ℕ
-  pub sandbox : Sandbox
-  pub at : slice_get source number ≡ Some sandbox
-  pub before : All IsFaultless (take number source)
-  pub has : IsItemFault sandbox.format number sandbox.items f

@@ -1,8 +1,9 @@
 -- What holds of every source.
 use Rattle.std.specs.Prelude.{◌≡◌, ◌⊎◌, List}
 use Rattle.rv_word.specs.declared.instr.Instr.{Instr}
+use Rattle.sfi_policy.specs.Registers.{stack_pointer}
 use Rattle.sfi_policy.specs.declared.format.Format.{Format}
-use Rattle.sfi_policy.specs.declared.format.Format.TheVariants.{Sfi2}
+use Rattle.sfi_policy.specs.declared.format.Format.TheVariants.{Sfi2, Sfiw}
 use Rattle.rv_source.specs.declared.item.Item.{Item}
 use Rattle.rv_source.specs.Source.{Sandbox, IsSource}
 use Rattle.sfi_rewrite.specs.declared.slot.Slot.{Slot}
@@ -10,15 +11,25 @@ use Rattle.sfi_rewrite.specs.declared.fault.RewriteFault.{RewriteFault}
 use Rattle.sfi_rewrite.specs.Expansion.{IsExpansion}
 use Rattle.sfi_rewrite.specs.Placement.{Placement, IsPlacement}
 use Rattle.sfi_rewrite.specs.Placed.{IsPlaced}
-use Rattle.sfi_rewrite.specs.Faults.{IsPermitted, IsSourceFault}
+use Rattle.sfi_rewrite.specs.Faults.{IsPermitted}
+use Rattle.sfi_rewrite.specs.SourceFaults.{IsSourceFault}
+use Rattle.sfi_rewrite.specs.words.Expansion as words
+use Rattle.sfi_rewrite.specs.words.Transparency as words_transparency
+use Rattle.sfi_rewrite.specs.words.Samples as words_samples
+use Rattle.sfi_rewrite.specs.Standing.{StandTransparent}
 use Rattle.sfi_rewrite.specs.Rewriting.{IsRewritten, AreRewritten}
-use Rattle.sfi_rewrite.specs.Transparency.{MayBe, ActsAs, StandTransparent}
+use Rattle.sfi_rewrite.specs.Transparency.{MayBe, ActsAs}
 use Rattle.sfi_rewrite.specs.Samples.{MeetsTransparent, MeetsKeepsStack, sample_load, sample_jump, sample_push}
 
 -- an item has at most one expansion in each format
 abbrev pub OneExpansion : Type 0
 OneExpansion = (f : Format) (x : Item) (slots others : List Slot) → IsExpansion f x slots
     → IsExpansion f x others → slots ≡ others
+
+-- in words an item has at most one before the items after it
+abbrev pub OneWordExpansion : Type 0
+OneWordExpansion = (x : Item) (later : List Item) (slots others : List Slot)
+    → words.IsExpansion x later slots → words.IsExpansion x later others → slots ≡ others
 
 -- a sandbox has at most one placement
 abbrev pub OnePlacement : Type 0
@@ -56,6 +67,13 @@ ExpansionsAreTransparent =
     (f : Format) (x : Item) (i : Instr) (slots : List Slot) → MayBe x.body i → IsPermitted f x
     → IsExpansion f x slots → ActsAs f i slots
 
+-- so does that of code in words
+abbrev pub WordExpansionsAreTransparent : Type 0
+WordExpansionsAreTransparent =
+    (x : Item) (later : List Item) (i : Instr) (slots : List Slot) → MayBe x.body i
+    → IsPermitted Sfiw x → words.IsExpansion x later slots
+    → words_transparency.ActsAs (words.is_step x later) i slots
+
 -- so each item of a source stands transparent in what is placed
 abbrev pub RewrittenIsTransparent : Type 0
 RewrittenIsTransparent = (s : Sandbox) (p : Placement) → IsRewritten s p → StandTransparent s p
@@ -66,3 +84,11 @@ RewrittenIsTransparent = (s : Sandbox) (p : Placement) → IsRewritten s p → S
 abbrev pub TransparencyCanBeMet : Type 0
 TransparencyCanBeMet = MeetsTransparent Sfi2 sample_load × MeetsTransparent Sfi2 sample_jump
     × MeetsKeepsStack Sfi2 sample_push
+
+-- In words, too: in some state the expansion of a load stands, and the load keeps to its sandbox and
+-- is done; the same is so of an indirect jump; and in some state that of a write of a data register
+-- stands, also of a move to it, and the write leaves it in the data region.
+abbrev pub WordTransparencyCanBeMet : Type 0
+WordTransparencyCanBeMet = words_samples.MeetsTransparent sample_load × words_samples.MeetsTransparent sample_jump
+    × words_samples.MeetsKeepsData stack_pointer sample_push
+    × words_samples.MeetsKeepsData stack_pointer words_samples.sample_move

@@ -2,12 +2,15 @@ pub mod Slots
 pub mod Registers
 pub mod Stack
 pub mod Expansion
+pub mod words
 pub mod Places
 pub mod Placement
 pub mod Faults
+pub mod SourceFaults
 pub mod Placed
 pub mod Rewriting
 pub mod Transparency
+pub mod Standing
 pub mod Samples
 pub mod Laws
 pub mod private

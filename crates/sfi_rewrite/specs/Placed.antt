@@ -1,11 +1,11 @@
 -- What the type of what is placed keeps.
-use Rattle.std.specs.Prelude.{◌≡◌, ◌%◌, ◌≤◌, ◌<◌, ◌++◌, false, ℕ, List, [], ◌∷◌, IsTrue, length, slice_get, Some}
+use Rattle.std.specs.Prelude.{◌≡◌, ◌%◌, ◌≤◌, ◌<◌, ◌++◌, MatchBool, ℕ, List, [], ◌∷◌, IsTrue, length, slice_get, Some}
 use Rattle.std.specs.List.{All}
 use Rattle.rv_word.specs.Spelling.{InRange, IsReg}
 use Rattle.rv_comp.specs.Table.{allowed}
 use Rattle.sfi_policy.specs.declared.format.Format.{Format}
-use Rattle.sfi_policy.specs.declared.format.Format.TheVariants.{Sfi1}
-use Rattle.sfi_policy.specs.Formats.{code_most, has_words}
+use Rattle.sfi_policy.specs.declared.format.Format.TheVariants.{Sfi1, Sfiw}
+use Rattle.sfi_policy.specs.Formats.{code_most, has_words, unit}
 use Rattle.rv_source.specs.declared.item.Item.{Item}
 use Rattle.rv_source.specs.declared.item.SourceGate.{SourceGate}
 use Rattle.rv_source.specs.Source.{IsDataSize, IsBody}
@@ -15,7 +15,8 @@ use Rattle.sfi_rewrite.specs.declared.placed.PlacedName.{PlacedName}
 use Rattle.sfi_rewrite.specs.declared.placed.PlacedName.TheVariants as placed
 use Rattle.sfi_rewrite.specs.Expansion.{IsExpansion}
 use Rattle.sfi_rewrite.specs.Faults.{IsPermitted}
-use Rattle.sfi_policy.specs.Limits.{bundle_size, gates_most, service_most}
+use Rattle.sfi_rewrite.specs.words.Laying as words
+use Rattle.sfi_policy.specs.Limits.{gates_most, service_most}
 use Rattle.sfi_rewrite.specs.Slots.{size_of, slots_of, c_nop}
 use Rattle.sfi_rewrite.specs.Placement.{Placement, AreBundles}
 
@@ -47,14 +48,26 @@ IsNamedBelow count (Jump i name line) = name < count
 IsNamedBelow count (Upper rd name line) = name < count
 IsNamedBelow count (Lower rd name line) = name < count
 
+-- slots of code in words that are those of permitted items of a source with so many names
+pub record AreOfItems (count : ℕ) (slots : List Slot) : Type 0 where
+  pub items : List Item
+  pub permitted : All (IsPermitted Sfiw) items
+  pub bodies : All (λ x. IsBody count x.body) items
+  pub laid : words.AreLaid items slots
+
+-- the bundles hold whole expansions alone: each of its own, or in words all of them together
+abbrev pub AreWholeIn : Format → ℕ → List (List Slot) → Type 0
+AreWholeIn f count bundles =
+    MatchBool (has_words f) (AreOfItems count (slots_of bundles)) (All (AreWhole f count) bundles)
+
 -- ---- sandboxes
 
--- there is what the name names: that gate, a bundle start of the code or its end,
+-- there is what the name names: that gate, a place of the code where a jump may go or its end,
 -- the place after so many data bytes
 abbrev pub IsPlacedThere : Placement → PlacedName → Type 0
 IsPlacedThere p (placed.Gate k) = k < length p.gates
 IsPlacedThere p (placed.Code place) =
-    (place % bundle_size ≡ 0) × (place ≤ size_of (slots_of p.bundles))
+    (place % unit p.format ≡ 0) × (place ≤ size_of (slots_of p.bundles))
 IsPlacedThere p (placed.Data offset) = offset ≤ length p.bytes
 IsPlacedThere p placed.Unknown = Unit {0}
 
@@ -63,9 +76,8 @@ pub record IsPlacedGate (p : Placement) (k : ℕ) (g : SourceGate) : Type 0 wher
   pub service : g.service ≤ service_most
   pub name : slice_get p.names g.name ≡ Some (placed.Gate k)
 
--- a sandbox within its limits: its code is in bundles, which are whole expansions, its names and gates fit each other
+-- a sandbox within its limits: its code is whole expansions, its names and gates fit each other
 pub record IsPlacedPart (p : Placement) : Type 0 where
-  pub bundled : has_words p.format ≡ false
   pub data_size : IsDataSize p.data_size
   pub gate_count : length p.gates ≤ gates_most
   pub gates : (k : ℕ) (g : SourceGate) → slice_get p.gates k ≡ Some g → IsPlacedGate p k g
@@ -73,7 +85,7 @@ pub record IsPlacedPart (p : Placement) : Type 0 where
   pub byte_count : length p.bytes ≤ p.data_size
   pub bytes : All (λ b. b < 256) p.bytes
   pub bundles : AreBundles p.bundles
-  pub whole : All (AreWhole p.format (length p.names)) p.bundles
+  pub whole : AreWholeIn p.format (length p.names) p.bundles
   pub fits : size_of (slots_of p.bundles) ≤ code_most p.format
   pub encodes : All Encodes (slots_of p.bundles)
   pub names_known : All (IsNamedBelow (length p.names)) (slots_of p.bundles)

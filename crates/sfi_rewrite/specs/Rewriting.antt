@@ -5,7 +5,7 @@ use Rattle.rv_source.specs.Source.{Sandbox}
 use Rattle.sfi_rewrite.specs.declared.fault.RewriteFault.{RewriteFault}
 use Rattle.sfi_rewrite.specs.declared.fault.RewriteFault.TheVariants.{Memory}
 use Rattle.sfi_rewrite.specs.Placement.{Placement, IsPlacement}
-use Rattle.sfi_rewrite.specs.Faults.{IsFaultless}
+use Rattle.sfi_rewrite.specs.SourceFaults.{IsFaultless}
 
 -- no item of the sandbox has a fault, and this is its placement
 pub record IsRewritten (s : Sandbox) (p : Placement) : Type 0 where

@@ -1,6 +1,6 @@
 -- What an expansion does: within its sandbox it does what its instruction does, x31 aside; before
 -- the pair that puts the stack pointer back, what its instruction leaves stays.
-use Rattle.std.specs.Prelude.{◌≡◌, ◌≢◌, ◌++◌, ℕ, ℤ, MatchBool, List, [], ◌∷◌, length, take, replicate, slice_get, Some}
+use Rattle.std.specs.Prelude.{◌≡◌, ◌≢◌, ◌++◌, ℕ, ℤ, MatchBool, List, [], ◌∷◌, length, take, replicate}
 use Rattle.rv_word.specs.Numbers.{offset_by}
 use Rattle.rv_word.specs.declared.instr.Instr.{Instr}
 use Rattle.rv_word.specs.declared.instr.ImmOp.TheVariants.{Addi}
@@ -16,7 +16,6 @@ use Rattle.rv_step.specs.Steps.{further, LeadTo}
 use Rattle.rv_source.specs.declared.item.Body.{Body}
 use Rattle.rv_source.specs.declared.item.Body.TheVariants.{Plain, To, High, Low}
 use Rattle.rv_source.specs.declared.item.Item.{Item}
-use Rattle.rv_source.specs.Source.{Sandbox}
 use Rattle.sfi_policy.specs.Registers.{code_base_register, code_mask_register, data_base_register, data_mask_register, scratch, stack_pointer}
 use Rattle.sfi_image.specs.declared.span.Span.{Span}
 use Rattle.sfi_image.specs.Spans.{Holds}
@@ -155,8 +154,3 @@ pub record StandsTransparent (f : Format) (items : List Item) (p : Placement) (k
   pub after : List Slot
   pub placed : slots_of p.bundles ≡ before ++ (replicate nops c_nop ++ (expanded ++ after))
   pub transparent : (i : Instr) → MayBe x.body i → ActsAs f i expanded
-
--- each item of the sandbox stands so
-abbrev pub StandTransparent : Sandbox → Placement → Type 0
-StandTransparent s p =
-    (k : ℕ) (x : Item) → slice_get s.items k ≡ Some x → StandsTransparent s.format s.items p k x

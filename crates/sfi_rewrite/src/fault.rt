@@ -7,10 +7,11 @@ use std::alloc::{AllocError, AllocFailed};
 use thiserror::Error;
 
 /// Why a source isn't rewritten: the first instruction in the order of the text that has a fault,
-/// with the first of its faults by their numbers in the order 1, 2, 5, 3.
+/// with the first of its faults by their numbers in the order 1, 2, 5, 6, 3.
 #[derive(Clone, Copy, Debug, PartialEq, Eq, Error)]
 pub enum RewriteFault {
-    /// An operand of the instruction on the line, counted from 1, is x24, x25, x26, x27 or x31.
+    /// An operand of the instruction on the line, counted from 1, is x24, x25, x26, x27 or
+    /// x31, or in code in words x29 or x30.
     #[error("ReservedRegister line {line}")]
     ReservedRegister { line: u32 },
     /// The instruction on the line, counted from 1, is an ecall: only a gate's stub has one.
@@ -25,13 +26,17 @@ pub enum RewriteFault {
     /// stack pointer has this fault.
     #[error("StackWrite line {line}")]
     StackWrite { line: u32 },
+    /// The instruction on the line, counted from 1, is a jump that code in words can't have: a jal or
+    /// jalr that writes a data register, or a jalr with an offset.
+    #[error("Jump line {line}")]
+    Jump { line: u32 },
     /// Memory ran out; nothing is known of the source.
     #[error("Memory")]
     Memory,
 }
 
 impl RewriteFault {
-    /// The number by which a refusal is known, from 1 to 5.
+    /// The number by which a refusal is known, from 1 to 6.
     pub fn number(self) -> u32
         ensures { result ≡ number_of self }
     {
@@ -41,6 +46,7 @@ impl RewriteFault {
             RewriteFault::TooLarge { .. } => 3,
             RewriteFault::Memory => 4,
             RewriteFault::StackWrite { .. } => 5,
+            RewriteFault::Jump { .. } => 6,
         }
     }
 }

@@ -1,45 +1,63 @@
 //! What the rewriter asks of an item of the source.
 ghost use Rattle.std.specs.Prelude.{◌≡◌, IfOk, IfErr};
-ghost use Rattle.sfi_rewrite.specs.Registers.{names_withheld, item_names_withheld, is_ecall};
+ghost use Rattle.sfi_rewrite.specs.Registers.{is_withheld, names_withheld, item_names_withheld, is_ecall};
 ghost use Rattle.sfi_rewrite.specs.Expansion.{is_call};
 ghost use Rattle.sfi_rewrite.specs.Stack.{is_stack_write};
-ghost use Rattle.sfi_rewrite.specs.Faults.{IsPermitted, HasItemFault};
+ghost use Rattle.sfi_rewrite.specs.Faults.{is_barred_jump, IsPermitted, HasItemFault};
 
 use crate::fault::RewriteFault;
+use crate::words::ADDRESS_REGISTER;
 use rv_source::{Body, Item};
-use rv_word::Instr;
-use sfi_pairs::is_withheld;
-use sfi_policy::Format;
+use rv_word::{Instr, Reg};
+use sfi_pairs::{is_data_register, is_reserved};
+use sfi_policy::{CODE_REGISTER, Format, OFFSET_REGISTER};
 
-/// Whether one of the instruction's register operands is x24 to x27 or x31.
-fn names_withheld(instr: &Instr) -> bool
-    ensures { result ≡ names_withheld instr.now }
+/// Whether a source of the format may not name the register.
+fn is_withheld(format: Format, register: Reg) -> bool
+    ensures { result ≡ is_withheld format register }
+{
+    if format.has_words() {
+        is_reserved(register)
+            || matches!(
+                register.number(),
+                ADDRESS_REGISTER | CODE_REGISTER | OFFSET_REGISTER
+            )
+    } else {
+        sfi_pairs::is_withheld(register)
+    }
+}
+
+/// Whether one of the instruction's register operands is such a register.
+fn names_withheld(format: Format, instr: &Instr) -> bool
+    ensures { result ≡ names_withheld format instr.now }
 {
     match *instr {
-        Instr::Op { rd, rs1, rs2, .. } => is_withheld(rd) || is_withheld(rs1) || is_withheld(rs2),
-        Instr::OpImm { rd, rs1, .. } => is_withheld(rd) || is_withheld(rs1),
-        Instr::Load { rd, rs1, .. } => is_withheld(rd) || is_withheld(rs1),
-        Instr::Store { rs1, rs2, .. } => is_withheld(rs1) || is_withheld(rs2),
-        Instr::Branch { rs1, rs2, .. } => is_withheld(rs1) || is_withheld(rs2),
-        Instr::Jal { rd, .. } => is_withheld(rd),
-        Instr::Jalr { rd, rs1, .. } => is_withheld(rd) || is_withheld(rs1),
-        Instr::Lui { rd, .. } => is_withheld(rd),
-        Instr::Auipc { rd, .. } => is_withheld(rd),
-        Instr::Fence { rd, rs1, .. } => is_withheld(rd) || is_withheld(rs1),
+        Instr::Op { rd, rs1, rs2, .. } => is_withheld(format, rd)
+            || is_withheld(format, rs1)
+            || is_withheld(format, rs2),
+        Instr::OpImm { rd, rs1, .. } => is_withheld(format, rd) || is_withheld(format, rs1),
+        Instr::Load { rd, rs1, .. } => is_withheld(format, rd) || is_withheld(format, rs1),
+        Instr::Store { rs1, rs2, .. } => is_withheld(format, rs1) || is_withheld(format, rs2),
+        Instr::Branch { rs1, rs2, .. } => is_withheld(format, rs1) || is_withheld(format, rs2),
+        Instr::Jal { rd, .. } => is_withheld(format, rd),
+        Instr::Jalr { rd, rs1, .. } => is_withheld(format, rd) || is_withheld(format, rs1),
+        Instr::Lui { rd, .. } => is_withheld(format, rd),
+        Instr::Auipc { rd, .. } => is_withheld(format, rd),
+        Instr::Fence { rd, rs1, .. } => is_withheld(format, rd) || is_withheld(format, rs1),
         Instr::Ecall => false,
         Instr::Ebreak => false,
     }
 }
 
 /// The same of an item.
-fn item_names_withheld(body: &Body) -> bool
-    ensures { result ≡ item_names_withheld body.now }
+fn item_names_withheld(format: Format, body: &Body) -> bool
+    ensures { result ≡ item_names_withheld format body.now }
 {
     match body {
-        Body::Plain(instr) => names_withheld(instr),
-        Body::To(instr, _) => names_withheld(instr),
-        Body::High(rd, _) => is_withheld(*rd),
-        Body::Low(rd, _) => is_withheld(*rd),
+        Body::Plain(instr) => names_withheld(format, instr),
+        Body::To(instr, _) => names_withheld(format, instr),
+        Body::High(rd, _) => is_withheld(format, *rd),
+        Body::Low(rd, _) => is_withheld(format, *rd),
     }
 }
 
@@ -75,13 +93,29 @@ fn is_stack_write(format: Format, body: &Body) -> bool
     }
 }
 
-/// The first of the faults that an item has wherever it stands:
-/// a write of the stack pointer goes last.
+/// Whether it is a jump of code in words that has no expansion: one that writes a data register, or
+/// a jalr with an offset.
+fn is_barred_jump(format: Format, body: &Body) -> bool
+    ensures { result ≡ is_barred_jump format body.now }
+{
+    if !format.has_words() {
+        return false;
+    }
+    match body {
+        Body::Plain(Instr::Jalr { rd, imm, .. }) => is_data_register(*rd) || *imm != 0,
+        Body::Plain(Instr::Jal { rd, .. }) | Body::To(Instr::Jal { rd, .. }, _) => {
+            is_data_register(*rd)
+        }
+        _ => false,
+    }
+}
+
+/// The first of the faults that an item has wherever it stands, in the order of its four.
 pub(crate) fn permit(format: Format, item: &Item) -> Result<(), RewriteFault>
     ensures permitted { IfOk result (λ _. IsPermitted format item.now) }
     ensures refused { IfErr result (HasItemFault format item.now) }
 {
-    if item_names_withheld(&item.body) {
+    if item_names_withheld(format, &item.body) {
         return Err(RewriteFault::ReservedRegister { line: item.line });
     }
     if is_ecall(&item.body) {
@@ -89,6 +123,9 @@ pub(crate) fn permit(format: Format, item: &Item) -> Result<(), RewriteFault>
     }
     if is_stack_write(format, &item.body) {
         return Err(RewriteFault::StackWrite { line: item.line });
+    }
+    if is_barred_jump(format, &item.body) {
+        return Err(RewriteFault::Jump { line: item.line });
     }
     Ok(())
 }

@@ -1,9 +1,14 @@
 //! What holds of every source. A call costs nothing: it has the statement at hand.
-ghost use Rattle.sfi_rewrite.specs.Laws.{OneExpansion, OnePlacement, OneRewriting, OneFault, NeverBoth, SomeRewriting, RewrittenIsPlaced, ExpansionsAreTransparent, RewrittenIsTransparent, TransparencyCanBeMet};
+ghost use Rattle.sfi_rewrite.specs.Laws.{OneExpansion, OneWordExpansion, WordExpansionsAreTransparent, WordTransparencyCanBeMet, OnePlacement, OneRewriting, OneFault, NeverBoth, SomeRewriting, RewrittenIsPlaced, ExpansionsAreTransparent, RewrittenIsTransparent, TransparencyCanBeMet};
 
 /// An item has at most one expansion.
 pub fn one_expansion()
     ensures { OneExpansion }
+{}
+
+/// In words an item has at most one expansion before the items after it.
+pub fn one_word_expansion()
+    ensures { OneWordExpansion }
 {}
 
 /// A sandbox has at most one placement.
@@ -43,6 +48,12 @@ pub fn expansions_are_transparent()
     ensures { ExpansionsAreTransparent }
 {}
 
+/// In words the expansion of an instruction does what the instruction does, x29 to x31 aside, and
+/// keeps what it leaves in a data register.
+pub fn word_expansions_are_transparent()
+    ensures { WordExpansionsAreTransparent }
+{}
+
 /// Each instruction of a source stands transparent in what is placed.
 pub fn rewritten_is_transparent()
     ensures { RewrittenIsTransparent }
@@ -51,4 +62,9 @@ pub fn rewritten_is_transparent()
 /// What transparency asks of a sandbox and its state can be met.
 pub fn transparency_can_be_met()
     ensures { TransparencyCanBeMet }
+{}
+
+/// What transparency in words asks of a sandbox and its state can be met.
+pub fn word_transparency_can_be_met()
+    ensures { WordTransparencyCanBeMet }
 {}

@@ -2,10 +2,10 @@
 //! stands at the first place in which it may.
 //!
 //! A load, a store and an indirect jump stand after the masked pair that keeps their address in the
-//! sandbox (Wahbe and others, 1993, "Efficient Software-Based Fault Isolation"). No expansion
-//! crosses the end of a bundle, labels are bundle starts, and a call ends its bundle, so that its
-//! return address is one too (Yee and others, 2009, "Native Client"). Names stay names:
-//! [`Placed`] has no address yet.
+//! sandbox (Wahbe and others, 1993, "Efficient Software-Based Fault Isolation"). In bundles no
+//! expansion crosses the end of one, labels are bundle starts, and a call ends its bundle, so that
+//! its return address is one too (Yee and others, 2009, "Native Client"). In words labels are words'
+//! starts. Names stay names: [`Placed`] has no address yet.
 #![tactic(auto)]
 
 mod bundle;
@@ -20,6 +20,7 @@ mod place;
 mod placed;
 mod rewriting;
 mod slot;
+mod words;
 
 pub use bundle::Bundle;
 pub use fault::RewriteFault;

@@ -5,32 +5,50 @@ ghost use Rattle.rv_source.specs.Source.{IsSandbox, IsSource};
 ghost use Rattle.sfi_rewrite.specs.Slots.{size_of};
 ghost use Rattle.sfi_rewrite.specs.Placement.{Placement};
 ghost use Rattle.sfi_rewrite.specs.Placed.{IsPlacedPart};
-ghost use Rattle.sfi_rewrite.specs.private.Filling.{HasEnd, largest};
+ghost use Rattle.sfi_rewrite.specs.private.Filling.{HasEnd, HaveBodies, largest};
+ghost use Rattle.sfi_rewrite.specs.private.Words.{AreFaultlessIn, AreLabelsIn};
 ghost use Rattle.sfi_rewrite.specs.declared.fault.RewriteFault.{RewriteFault};
-ghost use Rattle.sfi_rewrite.specs.Faults.{UnlessMemory, IsItemFault, IsSourceFault};
-ghost use Rattle.sfi_rewrite.specs.Transparency.{StandTransparent};
+ghost use Rattle.sfi_rewrite.specs.Faults.{UnlessMemory};
+ghost use Rattle.sfi_rewrite.specs.SourceFaults.{IsFaultIn, IsSandboxFault, IsSourceFault};
+ghost use Rattle.sfi_rewrite.specs.Standing.{StandTransparent};
 ghost use Rattle.sfi_rewrite.specs.Rewriting.{IsRewritten, AreRewritten, AnswersPlaced, AnswersFault};
 
 use crate::fault::RewriteFault;
 use crate::filling::Filling;
-use crate::laying::lay_items;
+use crate::laying::{Laid, lay_items};
 use crate::names::{has_end_label, place_names};
 use crate::place::nops_at_end;
 use crate::placed::{Placed, PlacedPart};
-use rv_source::{Source, SourcePart};
+use crate::words::lay_in_words;
+use rv_source::{Item, Source, SourcePart};
+use sfi_policy::Format;
 use std::alloc::{AllocError, Global};
 
-/// Fills the code up to the bundle start of a label at its end.
-fn fill_end(labelled: bool, code: &mut Filling) -> Result<(), AllocError>
+/// Fills code in bundles up to the bundle start of a label at its end.
+fn fill_end(format: Format, labelled: bool, code: &mut Filling) -> Result<(), AllocError>
     requires { size_of code.old ≤ largest }
-    ensures { IfOk result (λ _. HasEnd code.old (IsTrue labelled) code.new) }
+    ensures { IfOk result (λ _. HasEnd format code.old (IsTrue labelled) code.new) }
 {
-    if !labelled {
+    if format.has_words() || !labelled {
         return Ok(());
     }
     let nops = nops_at_end(code.end());
     code.push_nops(nops)?;
     Ok(())
+}
+
+/// Lays the items of the sandbox of that number as its format lays them.
+fn lay(alloc: Global, format: Format, sandbox: u32, items: &[Item]) -> Result<Laid, RewriteFault>
+    requires { HaveBodies items.now }
+    ensures faultless { IfOk result (λ l. AreFaultlessIn format items.now l.code) }
+    ensures labels { IfOk result (λ l. AreLabelsIn format items.now l.labels.items) }
+    ensures refused { IfErr result (UnlessMemory (IsFaultIn format sandbox items.now)) }
+{
+    if format.has_words() {
+        lay_in_words(alloc, sandbox, items)
+    } else {
+        lay_items(alloc, format, sandbox, items)
+    }
 }
 
 /// Places the sandbox of that number.
@@ -39,12 +57,12 @@ fn place_part(alloc: Global, sandbox: u32, part: &SourcePart) -> Result<PlacedPa
     ensures rewritten { IfOk result (IsRewritten part.now) }
     ensures right { IfOk result IsPlacedPart }
     ensures refused { IfErr result
-        (UnlessMemory (IsItemFault part.now.format sandbox part.now.items)) }
+        (UnlessMemory (IsSandboxFault sandbox part.now)) }
 {
-    let laid = lay_items(alloc, part.format(), sandbox, part.items())?;
+    let laid = lay(alloc, part.format(), sandbox, part.items())?;
     let names = place_names(alloc, part, &laid.labels)?;
     let mut code = laid.code;
-    fill_end(has_end_label(part), &mut code)?;
+    fill_end(part.format(), has_end_label(part), &mut code)?;
     let mut gates = Vec::new(alloc);
     gates.extend_from_slice(part.gates())?;
     let mut bytes = Vec::new(alloc);

@@ -15,7 +15,7 @@ use Rattle.sfi_rewrite.specs.Slots.{size_of, slots_of, c_nop}
 use Rattle.sfi_rewrite.specs.declared.placed.PlacedName.{PlacedName}
 use Rattle.sfi_rewrite.specs.declared.placed.PlacedName.TheVariants as placed
 use Rattle.sfi_rewrite.specs.Places.{IsNext, IsLabelAt}
-use Rattle.sfi_rewrite.specs.Placement.{FillsEnd, AreBundles}
+use Rattle.sfi_rewrite.specs.Placement.{FillsEndIn, AreBundles}
 
 -- the most bytes of a sandbox's code in any format, its gates' stubs not counted
 abbrev pub largest : ℕ
@@ -62,8 +62,8 @@ placed_of labels (Code k) = placed.Code (slice_index labels k)
 placed_of labels (Data offset) = placed.Data offset
 placed_of labels Unknown = placed.Unknown
 
--- the slots with c.nops after them, up to the bundle start of a label at the end
-pub record HasEnd (old : List Slot) (labelled : Type 0) (new : List Slot) : Type 0 where
+-- the slots with c.nops after them: in bundles, up to the bundle start of a label at the end
+pub record HasEnd (f : Format) (old : List Slot) (labelled : Type 0) (new : List Slot) : Type 0 where
   pub nops : ℕ
-  pub end : FillsEnd (size_of old) labelled nops
+  pub end : FillsEndIn f (size_of old) labelled nops
   pub slots : new ≡ old ++ replicate nops c_nop

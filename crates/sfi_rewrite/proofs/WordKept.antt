@@ -1,0 +1,410 @@
+-- The expansion in words acts as its instruction: what writes a data register keeps what that leaves.
+use Rattle.sfi_rewrite.proofs.Prelude.{◌≡◌, ◌≢◌, ℕ, zero, suc, ◌+◌, ◌*◌, ◌%◌, ◌^◌, ◌<◌, ◌==◌, ◌&&◌, List, [], ◌∷◌, ◌++◌, length, Bool, true, false, MatchBool, Option, Some, None, refl, sym, ap, ◌∙◌, subst, arith, length-append, append_assoc, append-nil, eqb-true, true≢false, and_parts, or_parts, ℤ, pos, negsuc, And, Or, LoadKind, Instr, Op, OpImm, Load, Store, Jal, Jalr, Branch, Lui, Auipc, Bytes, address_after, loaded, Hart, State, IsState, register, with_register, with_pc, past, Stepped, Stands, next, after_load, effect, IsStep, Item, Body, Plain, To, High, Low, Slot, Wide, Jump, Upper, Lower, slot_size, size_of, IsAlone, SlotStands, IsAimed, MayBe}
+use Rattle.std.specs.Prelude.{not, ◌||◌, if◌then◌else◌}
+use Rattle.rv_word.specs.Writes.{destination}
+use Rattle.rv_word.specs.Numbers.{offset_by}
+use Rattle.rv_word.specs.declared.instr.ImmOp.TheVariants.{Addi}
+use Rattle.rv_word.specs.declared.instr.StoreWidth.{StoreWidth}
+use Rattle.rv_word.specs.declared.instr.RegOp.TheVariants.{Add}
+use Rattle.rv_step.specs.Values.{load_size}
+use Rattle.rv_step.specs.Steps.{further, LeadsTo, LeadTo}
+use Rattle.rv_step.specs.declared.outcome.Outcome.TheVariants.{Next}
+use Rattle.sfi_policy.specs.declared.format.Format.TheVariants.{Sfiw}
+use Rattle.sfi_policy.specs.Registers.{is_data_register}
+use Rattle.sfi_image.specs.Spans.{Holds}
+use Rattle.sfi_image.specs.declared.span.Span.{Span}
+use Rattle.sfi_rewrite.specs.Transparency.{SlotsStand}
+use Rattle.sfi_rewrite.specs.Registers.{is_withheld, names_withheld, item_names_withheld}
+use Rattle.sfi_rewrite.specs.Laws.{WordExpansionsAreTransparent}
+use Rattle.sfi_rewrite.specs.words.Expansion.{IsConfined, IsAround, IsExpansionOf, before, after, data_mask, mask_after, is_move, moved, is_step, is_step_to, is_zero, is_barred_jump}
+use Rattle.sfi_rewrite.specs.words.Transparency.{is_own, HasReserved, IsTransparent, KeepsData, ActsBy, ActsAs}
+use Rattle.rv_step.proofs.Facts.{step_keeps_state}
+use Rattle.rv_step.proofs.Pairs.{written_here, written_elsewhere}
+use Rattle.sfi_rewrite.proofs.Sizes.{size_of-append, size_of-cons}
+use Rattle.sfi_rewrite.proofs.Transparent.{stands_at}
+use Rattle.sfi_rewrite.proofs.Aside.{added, plus_zero}
+use Rattle.sfi_rewrite.proofs.WordTransparent.{IsOneFor, one_for, IsNamed, after_mask, mask_leads, mask_keeps, mask_moves, alone_transparent, load_transparent, store_transparent, zero_load_transparent, zero_store_transparent, jump_transparent}
+
+-- ---- what an instruction writes
+
+abbrev is_jump : Instr → Bool
+is_jump (Jal rd offset) = true
+is_jump (Jalr rd rs1 imm) = true
+is_jump _ = false
+
+abbrev is_auipc : Instr → Bool
+is_auipc (Auipc rd imm) = true
+is_auipc _ = false
+
+-- at the pc p with k bytes i writes what it writes with n bytes at the hart's own, in d alone
+record Writes (i : Instr) (n k p d : ℕ) (h : Hart) (m : Bytes) : Type 0 where
+  value : ℕ
+  here : effect i n h m ≡ next (with_register (past h n) d value) m
+  there : effect i k (with_pc h p) m ≡ next (with_register (past (with_pc h p) k) d value) m
+
+load_writes : (o : Option ℕ) (kind : LoadKind) (rd at n k p : ℕ) (h : Hart) (m : Bytes) → (after_load o kind rd at n h m).outcome ≡ Next
+    → (v : ℕ) × (after_load o kind rd at n h m ≡ next (with_register (past h n) rd v) m) × (after_load o kind rd at k (with_pc h p) m ≡ next (with_register (past (with_pc h p) k) rd v) m)
+load_writes None kind rd at n k p h m done = absurd (cc)
+load_writes (Some v) kind rd at n k p h m done = (_, refl, refl)
+
+-- of a jump nothing is said, and of auipc where the pc is the same
+writes : (i : Instr) (n k p d : ℕ) (h : Hart) (m : Bytes) → destination i ≡ Some d → is_jump i ≡ false → (is_auipc i ≡ true → p ≡ h.pc) → (effect i n h m).outcome ≡ Next → Writes i n k p d h m
+writes (Op op rd a b) n k p d h m e j u done = let same : rd ≡ d = cc in subst (λ r. Writes (Op op rd a b) n k p r h m) same (record { value = _; here = refl; there = refl })
+writes (OpImm op rd a imm) n k p d h m e j u done = let same : rd ≡ d = cc in subst (λ r. Writes (OpImm op rd a imm) n k p r h m) same (record { value = _; here = refl; there = refl })
+writes (Load kind rd a imm) n k p d h m e j u done =
+    let same : rd ≡ d = cc in
+    let w = load_writes (loaded m (offset_by (register h a) imm) (load_size kind)) kind rd (offset_by (register h a) imm) n k p h m done in
+    subst (λ r. Writes (Load kind rd a imm) n k p r h m) same (record { value = w.0; here = w.1; there = w.2 })
+writes (Lui rd imm) n k p d h m e j u done = let same : rd ≡ d = cc in subst (λ r. Writes (Lui rd imm) n k p r h m) same (record { value = _; here = refl; there = refl })
+writes (Auipc rd imm) n k p d h m e j u done =
+    let same : rd ≡ d = cc in
+    let at = u refl in
+    subst (λ r. Writes (Auipc rd imm) n k p r h m) same
+    (record { value = (h.pc + imm * 4096) % 2 ^ 32; here = refl; there = ap (λ (q : ℕ). next (with_register (past (with_pc h p) k) rd ((q + imm * 4096) % 2 ^ 32)) m) at })
+writes (Jal rd offset) n k p d h m e j u done = absurd (true≢false j)
+writes (Jalr rd a imm) n k p d h m e j u done = absurd (true≢false j)
+writes other n k p d h m e j u done = absurd (cc)
+
+-- ---- the register that is written
+
+-- a data register that a source names
+named_by : (a b c e : Bool) (d : ℕ) → (d == 2) ≡ a → (d == 3) ≡ b → (d == 4) ≡ c → (d == 29) ≡ e → (a || b || c || e) ≡ true → is_own d ≡ false → d < 5
+named_by true b c e d p q r s any own = let z = eqb-true d 2 p in omega arith
+named_by false true c e d p q r s any own = let z = eqb-true d 3 q in omega arith
+named_by false false true e d p q r s any own = let z = eqb-true d 4 r in omega arith
+named_by false false false true d p q r s any own = absurd (let z : d ≡ 29 = eqb-true d 29 s in true≢false (sym (ap is_own z) ∙ own))
+named_by false false false false d p q r s any own = absurd (true≢false (sym any))
+
+low : (d : ℕ) → is_data_register d ≡ true → is_own d ≡ false → d < 5
+low d typed own = named_by (d == 2) (d == 3) (d == 4) (d == 29) d refl refl refl refl typed own
+
+not_zero : (d : ℕ) → is_data_register d ≡ true → d ≢ 0
+not_zero d typed e = let z = ap is_data_register e in cc
+
+-- what isn't withheld is none of the expansions' own
+own_of : (reserved a b c : Bool) → (reserved || a || b || c) ≡ false → (a || b || c) ≡ false
+own_of true a b c h = absurd (true≢false h)
+own_of false a b c h = h
+
+not_own : (r : ℕ) → is_withheld Sfiw r ≡ false → is_own r ≡ false
+not_own r h = own_of _ (r == 29) (r == 30) (r == 31) h
+
+written_free : (i : Instr) (d : ℕ) → destination i ≡ Some d → names_withheld Sfiw i ≡ false → is_withheld Sfiw d ≡ false
+written_free (Op op rd a b) d e n = let same : rd ≡ d = cc in subst (λ r. is_withheld Sfiw r ≡ false) same (or_parts (is_withheld Sfiw rd) (is_withheld Sfiw a) (or_parts (is_withheld Sfiw rd || is_withheld Sfiw a) (is_withheld Sfiw b) n).0).0
+written_free (OpImm op rd a imm) d e n = let same : rd ≡ d = cc in subst (λ r. is_withheld Sfiw r ≡ false) same (or_parts (is_withheld Sfiw rd) (is_withheld Sfiw a) n).0
+written_free (Load kind rd a imm) d e n = let same : rd ≡ d = cc in subst (λ r. is_withheld Sfiw r ≡ false) same (or_parts (is_withheld Sfiw rd) (is_withheld Sfiw a) n).0
+written_free (Jal rd offset) d e n = let same : rd ≡ d = cc in subst (λ r. is_withheld Sfiw r ≡ false) same n
+written_free (Jalr rd a imm) d e n = let same : rd ≡ d = cc in subst (λ r. is_withheld Sfiw r ≡ false) same (or_parts (is_withheld Sfiw rd) (is_withheld Sfiw a) n).0
+written_free (Lui rd imm) d e n = let same : rd ≡ d = cc in subst (λ r. is_withheld Sfiw r ≡ false) same n
+written_free (Auipc rd imm) d e n = let same : rd ≡ d = cc in subst (λ r. is_withheld Sfiw r ≡ false) same n
+written_free other d e n = absurd (cc)
+
+-- ---- slots that stand
+
+abbrev at_pc : State → ℕ → State
+at_pc s pc = record { hart = with_pc s.hart pc; memory = s.memory }
+
+no_further : (s : State) (i : Instr) (slots : List Slot) → s.hart.pc < 2 ^ 32 → SlotsStand i s slots → SlotsStand i (further s 0) slots
+no_further s i slots small st =
+    let e : s.hart.pc ≡ address_after s.hart.pc 0 = omega arith in
+    subst (λ (p : ℕ). SlotsStand i (at_pc s p) slots) e st
+
+-- what stands after others
+stand_after : (i : Instr) (s : State) (front back : List Slot) → s.hart.pc < 2 ^ 32 → SlotsStand i s (front ++ back) → SlotsStand i (further s (size_of front)) back
+stand_after i s [] back small st = no_further s i back small st
+stand_after i s (x ∷ front) back small st =
+    let size = size_of-cons x front in
+    let rest = stand_after i (further s (slot_size x)) front back (let z : address_after s.hart.pc (slot_size x) < 2 ^ 32 = omega arith in z) st.1 in
+    let e : address_after (address_after s.hart.pc (slot_size x)) (size_of front) ≡ address_after s.hart.pc (size_of (x ∷ front)) = omega arith in
+    subst (λ (p : ℕ). SlotsStand i (at_pc s p) back) e rest
+
+stand_before : (i : Instr) (s : State) (front back : List Slot) → SlotsStand i s (front ++ back) → SlotsStand i s front
+stand_before i s [] back st = tt
+stand_before i s (x ∷ front) back st = (st.0, stand_before i (further s (slot_size x)) front back st.1)
+
+-- ---- the steps one after another
+
+led_through : (n m : ℕ) (s t u : State) → LeadTo n s t → LeadTo m t u → LeadTo (n + m) s u
+led_through zero m s t u a b =
+    let e : m ≡ zero + m = omega arith in
+    subst (λ (k : ℕ). LeadTo k s u) e (subst (λ (v : State). LeadTo m v u) a b)
+led_through (suc n) m s t u a b =
+    let e : suc (n + m) ≡ suc n + m = omega arith in
+    subst (λ (k : ℕ). LeadTo k s u) e (a.0, a.1, led_through n m a.0 t u a.2 b)
+
+led_state : (n : ℕ) (s t : State) → LeadTo n s t → IsState s → IsState t
+led_state zero s t a is = subst IsState (sym a) is
+led_state (suc n) s t a is = led_state n a.0 t a.2 (step_keeps_state s (record { outcome = Next; state = a.0 }) is a.1)
+
+one_step : (s t : State) → LeadsTo s t → LeadTo 1 s t
+one_step s t a = (t, a, refl)
+
+done_is : (x : Stepped) → x.outcome ≡ Next → x ≡ record { outcome = Next; state = x.state }
+done_is x e = ap (λ o. let y : Stepped = record { outcome = o; state = x.state } in y) e
+
+-- ---- the mask after a write
+
+-- the reserved registers where d alone was written, and the expansions' own
+reserved_still : (c d_at : Span) (s t : State) (d : ℕ) → d < 5 → HasReserved c d_at s.hart
+    → ((x : ℕ) → is_own x ≡ false → x ≢ d → register t.hart x ≡ register s.hart x) → HasReserved c d_at t.hart
+reserved_still c d_at s t d small reserved same = record {
+  code_base = same 24 refl (λ e. omega arith) ∙ reserved.code_base;
+  code_mask = same 25 refl (λ e. omega arith) ∙ reserved.code_mask;
+  data_base = same 26 refl (λ e. omega arith) ∙ reserved.data_base;
+  data_mask = same 27 refl (λ e. omega arith) ∙ reserved.data_mask;
+}
+
+named_low : (d : ℕ) → d ≢ 0 → is_own d ≡ false → d < 5 → IsNamed d
+named_low d some own small = record { some = some; small = omega arith; own = own }
+
+-- slots that are transparent to i, which writes d, and the mask of d
+masked_keeps : (i : Instr) (d : ℕ) (slots : List Slot) → destination i ≡ Some d → is_jump i ≡ false → is_data_register d ≡ true → is_own d ≡ false
+    → (t : IsTransparent i slots) → (is_auipc i ≡ true → t.before ≡ []) → KeepsData d i (slots ++ data_mask d d)
+masked_keeps i d slots writer no_jump typed own t first = record {
+  does = λ c d_at s asked done held.
+      let small = low d typed own in
+      let some = not_zero d typed in
+      let pc_small = asked.is_state.hart.address in
+      let size = ap size_of t.slots_are ∙ size_of-append t.before (t.last ∷ []) in
+      let last_size = size_of-cons t.last [] in
+      let all_size = size_of-append slots (data_mask d d) in
+      let mask_size : size_of (data_mask d d) ≡ 8 = refl in
+      let no_size : size_of [] ≡ 0 = refl in
+      let r = t.does c d_at s (record {
+        regions = asked.regions;
+        is_state = asked.is_state;
+        reserved = asked.reserved;
+        stand = stand_before i s slots (data_mask d d) asked.stand;
+        keeps = asked.keeps;
+      }) in
+      let there = r.there in
+      let n = slot_size t.last in
+      let p = there.hart.pc in
+      let w = writes i 4 n p d s.hart s.memory writer no_jump
+      (λ is. r.place ∙ ap (λ v. address_after s.hart.pc (size_of v)) (first is) ∙ (let z : address_after s.hart.pc 0 ≡ s.hart.pc = omega arith in z)) done in
+      let q = effect i n (with_pc s.hart p) s.memory in
+      let one = r.result.state in
+      let outcome : r.result.outcome ≡ Next = r.same.outcome ∙ ap (λ (x : Stepped). x.outcome) w.there in
+      let step : LeadsTo there one = subst (λ (x : Stepped). IsStep there x) (done_is r.result outcome) r.step in
+      let memory : one.memory ≡ s.memory = r.same.memory ∙ ap (λ (x : Stepped). x.state.memory) w.there in
+      let pc : one.hart.pc ≡ address_after s.hart.pc (size_of slots) =
+      r.same.hart.pc ∙ ap (λ (x : Stepped). x.state.hart.pc) w.there ∙ ap (λ v. address_after v n) r.place ∙ omega arith in
+      -- registers after it, but those of the expansions
+      let left : (x : ℕ) → is_own x ≡ false → register one.hart x ≡ register (effect i 4 s.hart s.memory).state.hart x =
+      λ x other. r.same.hart.registers x other ∙ ap (λ (y : Stepped). register y.state.hart x) w.there ∙ sym (ap (λ (y : Stepped). register y.state.hart x) w.here) in
+      let elsewhere : (x : ℕ) → is_own x ≡ false → x ≢ d → register one.hart x ≡ register s.hart x =
+      λ x other ne. left x other ∙ ap (λ (y : Stepped). register y.state.hart x) w.here ∙ written_elsewhere (past s.hart 4) d w.value x some ne in
+      let is_one : IsState one = led_state (length t.before + 1) s one (led_through (length t.before) 1 s there one r.leads (one_step there one step)) asked.is_state in
+      let masks = stand_after i s slots (data_mask d d) pc_small asked.stand in
+      let and_stands : Stands one (Op And 31 d 27) 4 = stands_at (further s (size_of slots)) one (Op And 31 d 27) 4 pc memory masks.0 in
+      let or_stands : Stands (further one 4) (Op Or d 31 26) 4 =
+      stands_at (further (further s (size_of slots)) 4) (further one 4) (Op Or d 31 26) 4 (ap (λ v. address_after v 4) pc) memory masks.1.0 in
+      let end = after_mask one d d in
+      let kept = mask_keeps c d_at one d asked.regions is_one (reserved_still c d_at s one d small asked.reserved elsewhere) (named_low d some own small)
+      (subst (λ v. Holds d_at v) (sym (left d own)) held) in
+      let count : length t.before + (1 + 2) ≡ length (slots ++ data_mask d d) = slots_count t.before t.last slots (data_mask d d) t.slots_are in (
+        end,
+        subst (λ (v : ℕ). LeadTo v s end) count
+            (led_through (length t.before) (1 + 2) s there end r.leads (one, step, mask_leads one d d and_stands or_stands)),
+        record {
+          hart = record {
+            pc = ap (λ v. address_after (address_after v 4) 4) pc ∙ omega arith;
+            registers = λ x other. kept x other ∙ left x other;
+          };
+          memory = memory ∙ sym (ap (λ (y : Stepped). y.state.memory) w.here);
+        },
+      );
+}
+  where
+    slots_count : (front : List Slot) (last : Slot) (all mask : List Slot) → all ≡ front ++ last ∷ [] → length front + (1 + length mask) ≡ length (all ++ mask)
+    slots_count front last all mask e =
+        let a = ap (λ v. length (v ++ mask)) e in
+        let b : length ((front ++ last ∷ []) ++ mask) ≡ length (front ++ last ∷ mask) = ap length (append_assoc front (last ∷ []) mask) in
+        let c = length-append front (last ∷ mask) in
+        let one : length (last ∷ mask) ≡ 1 + length mask = omega arith in
+        omega arith
+
+-- ---- a move to a data register, by the mask alone
+
+-- what i leaves is a's value in d
+move_keeps : (i : Instr) (d a : ℕ) → is_data_register d ≡ true → is_own d ≡ false
+    → ((h : Hart) (m : Bytes) → IsState (record { hart = h; memory = m }) → effect i 4 h m ≡ next (with_register (past h 4) d (register h a)) m) → KeepsData d i (data_mask d a)
+move_keeps i d a typed own moves = record {
+  does = λ c d_at s asked done held.
+      let small = low d typed own in
+      let some = not_zero d typed in
+      let is = asked.is_state in
+      let e = moves s.hart s.memory is in
+      let count = is.hart.count in
+      let now : register (effect i 4 s.hart s.memory).state.hart d ≡ register s.hart a =
+      ap (λ (y : Stepped). register y.state.hart d) e ∙ written_here (past s.hart 4) d (register s.hart a) some (omega arith) in
+      let end = after_mask s d a in
+      let same = mask_moves c d_at s d a asked.regions is asked.reserved (named_low d some own small) (subst (λ v. Holds d_at v) now held) in (
+        end,
+        mask_leads s d a asked.stand.0 asked.stand.1.0,
+        record {
+          hart = record {
+            pc = (let z : address_after (address_after s.hart.pc 4) 4 ≡ address_after s.hart.pc 8 = omega arith in z);
+            registers = λ x other. same x other ∙ sym (ap (λ (y : Stepped). register y.state.hart x) e);
+          };
+          memory = sym (ap (λ (y : Stepped). y.state.memory) e);
+        },
+      );
+}
+
+-- ---- an instruction on the register that it goes by
+
+-- what stands before it and it are transparent to it; before auipc nothing stands
+record IsBefore (i : Instr) (slots : List Slot) : Type 0 where
+  transparent : IsTransparent i slots
+  first : is_auipc i ≡ true → transparent.before ≡ []
+
+load_before : (typed none rvc : Bool) (kind : LoadKind) (rd a : ℕ) (imm : ℤ) (slots : List Slot) → is_data_register a ≡ typed → (a == 0) ≡ none
+    → IsAlone rvc (Load kind rd (if typed then a else if none then 26 else 29) imm) slots → IsTransparent (Load kind rd a imm) ((if typed || none then [] else data_mask 29 a) ++ slots)
+load_before true none rvc kind rd a imm slots d z e = alone_transparent (Load kind rd a imm) slots (one_for rvc (Load kind rd a imm) (Load kind rd a imm) slots e)
+load_before false true rvc kind rd a imm slots d z e =
+    subst (λ (b : ℕ). IsTransparent (Load kind rd b imm) slots) (sym (eqb-true a 0 z)) (zero_load_transparent rvc kind rd imm slots e)
+load_before false false rvc kind rd a imm slots d z e =
+    load_transparent rvc kind rd a imm slots e (λ c d_at s keeps. subst (λ (b : Bool). MatchBool b (Unit {0}) (Holds d_at (register s.hart a))) d keeps)
+
+store_before : (typed none rvc : Bool) (width : StoreWidth) (a rs2 : ℕ) (imm : ℤ) (slots : List Slot) → is_own rs2 ≡ false → is_data_register a ≡ typed → (a == 0) ≡ none
+    → IsAlone rvc (Store width (if typed then a else if none then 26 else 29) rs2 imm) slots → IsTransparent (Store width a rs2 imm) ((if typed || none then [] else data_mask 29 a) ++ slots)
+store_before true none rvc width a rs2 imm slots own d z e = alone_transparent (Store width a rs2 imm) slots (one_for rvc (Store width a rs2 imm) (Store width a rs2 imm) slots e)
+store_before false true rvc width a rs2 imm slots own d z e =
+    subst (λ (b : ℕ). IsTransparent (Store width b rs2 imm) slots) (sym (eqb-true a 0 z)) (zero_store_transparent rvc width rs2 imm slots e own)
+store_before false false rvc width a rs2 imm slots own d z e =
+    store_transparent rvc width a rs2 imm slots e own (λ c d_at s keeps. subst (λ (b : Bool). MatchBool b (Unit {0}) (Holds d_at (register s.hart a))) d keeps)
+
+not_false : (b : Bool) → not b ≡ false → b ≡ true
+not_false true h = refl
+not_false false h = absurd (true≢false h)
+
+jump_before : (rd a : ℕ) (imm : ℤ) (slots : List Slot) → (is_data_register rd || not (is_zero imm)) ≡ false → slots ≡ Wide (Jalr rd 30 imm) ∷ []
+    → IsTransparent (Jalr rd a imm) (Wide (Op And 30 a 25) ∷ Wide (Op Or 30 30 24) ∷ slots)
+jump_before rd a (pos zero) slots b e = subst (λ (v : List Slot). IsTransparent (Jalr rd a (pos 0)) (Wide (Op And 30 a 25) ∷ Wide (Op Or 30 30 24) ∷ v)) (sym e) (jump_transparent rd a)
+jump_before rd a (pos (suc n)) slots b e = absurd (let z : suc n ≡ 0 = eqb-true (suc n) 0 (not_false (suc n == 0) (or_parts (is_data_register rd) (not (suc n == 0)) b).1) in omega arith)
+jump_before rd a (negsuc n) slots b e = absurd (true≢false (or_parts (is_data_register rd) true b).1)
+
+confined_before : (rvc : Bool) (i : Instr) (slots : List Slot) → names_withheld Sfiw i ≡ false → is_barred_jump (Plain i) ≡ false → IsConfined rvc i slots → IsBefore i (before i ++ slots)
+confined_before rvc (Load kind rd a imm) slots n b e =
+    record { transparent = load_before (is_data_register a) (a == 0) rvc kind rd a imm slots refl refl e; first = λ is. absurd (true≢false (sym is)) }
+confined_before rvc (Store width a rs2 imm) slots n b e = record {
+  transparent = store_before (is_data_register a) (a == 0) rvc width a rs2 imm slots (not_own rs2 (or_parts (is_withheld Sfiw a) (is_withheld Sfiw rs2) n).1) refl refl e;
+  first = λ is. absurd (true≢false (sym is));
+}
+confined_before rvc (Jalr rd a imm) slots n b e = record { transparent = jump_before rd a imm slots b e; first = λ is. absurd (true≢false (sym is)) }
+confined_before rvc other slots n b e = record { transparent = alone_transparent other slots (one_for rvc other other slots e); first = λ is. refl }
+
+-- ---- any instruction
+
+no_jump : (i : Instr) (d : ℕ) → destination i ≡ Some d → is_data_register d ≡ true → is_barred_jump (Plain i) ≡ false → is_jump i ≡ false
+no_jump (Jal rd offset) d e typed b = let same : rd ≡ d = cc in absurd (true≢false (sym typed ∙ sym (ap is_data_register same) ∙ b))
+no_jump (Jalr rd a imm) d e typed b = let same : rd ≡ d = cc in absurd (true≢false (sym typed ∙ sym (ap is_data_register same) ∙ (or_parts (is_data_register rd) (not (is_zero imm)) b).0))
+no_jump other d e typed b = refl
+
+-- after what stands before it and it, the mask of what it writes, unless it is a step
+acts : (typed step : Bool) (i : Instr) (d : ℕ) (front slots : List Slot) → is_data_register d ≡ typed → destination i ≡ Some d → is_own d ≡ false → (is_data_register d ≡ true → is_jump i ≡ false)
+    → IsBefore i front → slots ≡ front ++ (if step then [] else if typed then data_mask d d else []) → MatchBool (typed && not step) (KeepsData d i slots) (IsTransparent i slots)
+acts true true i d front slots is e own j t h = subst (λ (v : List Slot). IsTransparent i v) (sym (h ∙ append-nil front)) t.transparent
+acts true false i d front slots is e own j t h = subst (λ (v : List Slot). KeepsData d i v) (sym h) (masked_keeps i d front e (j is) is own t.transparent t.first)
+acts false true i d front slots is e own j t h = subst (λ (v : List Slot). IsTransparent i v) (sym (h ∙ append-nil front)) t.transparent
+acts false false i d front slots is e own j t h = subst (λ (v : List Slot). IsTransparent i v) (sym (h ∙ append-nil front)) t.transparent
+
+acts_by : (to : Option ℕ) (step : Bool) (i : Instr) (front slots : List Slot) → destination i ≡ to → ((d : ℕ) → to ≡ Some d → is_own d ≡ false)
+    → ((d : ℕ) → to ≡ Some d → is_data_register d ≡ true → is_jump i ≡ false) → IsBefore i front → slots ≡ front ++ (if step then [] else mask_after to) → ActsBy to step i slots
+acts_by None true i front slots e own j t h = subst (λ (v : List Slot). IsTransparent i v) (sym (h ∙ append-nil front)) t.transparent
+acts_by None false i front slots e own j t h = subst (λ (v : List Slot). IsTransparent i v) (sym (h ∙ append-nil front)) t.transparent
+acts_by (Some d) step i front slots e own j t h = acts (is_data_register d) step i d front slots refl e (own d refl) (j d refl) t h
+
+around_acts : (rvc step : Bool) (i : Instr) (slots : List Slot) → names_withheld Sfiw i ≡ false → is_barred_jump (Plain i) ≡ false → IsAround rvc step i slots → ActsAs step i slots
+around_acts rvc step i slots n b h =
+    acts_by (destination i) step i (before i ++ h.0) slots refl (λ d e. not_own d (written_free i d e n)) (λ d e typed. no_jump i d e typed b)
+    (confined_before rvc i h.0 n b h.1) (h.2 ∙ sym (append_assoc (before i) h.0 (after step i)))
+
+-- a move by the mask alone
+zero_is : (imm : ℤ) → is_zero imm ≡ true → imm ≡ pos 0
+zero_is (pos n) h = ap pos (eqb-true n 0 h)
+zero_is (negsuc n) h = absurd (true≢false (sym h))
+
+moved_kept : (i j : Instr) (d a : ℕ) → is_data_register d ≡ true → is_own d ≡ false → i ≡ j
+    → ((h : Hart) (m : Bytes) → IsState (record { hart = h; memory = m }) → effect j 4 h m ≡ next (with_register (past h 4) d (register h a)) m) → KeepsData d i (data_mask d a)
+moved_kept i j d a typed own e moves = subst (λ k. KeepsData d k (data_mask d a)) (sym e) (move_keeps j d a typed own moves)
+
+move_acts : (i : Instr) → names_withheld Sfiw i ≡ false → is_move i ≡ true → ActsAs false i (moved i)
+move_acts (OpImm Addi d a imm) n h =
+    let both = and_parts (is_data_register d) (is_zero imm) h in
+    let own = not_own d (or_parts (is_withheld Sfiw d) (is_withheld Sfiw a) n).0 in
+    subst (λ (b : Bool). MatchBool (b && true) (KeepsData d (OpImm Addi d a imm) (data_mask d a)) (IsTransparent (OpImm Addi d a imm) (data_mask d a))) (sym both.0)
+    (moved_kept (OpImm Addi d a imm) (OpImm Addi d a (pos 0)) d a both.0 own (ap (λ z. OpImm Addi d a z) (zero_is imm both.1))
+    (λ g m is. ap (λ v. next (with_register (past g 4) d v) m) (added (register g a) (pos 0) ∙ plus_zero (register g a) (is.hart.words a))))
+move_acts (Op Add d b a) n h =
+    let both = and_parts (is_data_register d) (b == 0) h in
+    let own = not_own d (or_parts (is_withheld Sfiw d) (is_withheld Sfiw b) (or_parts (is_withheld Sfiw d || is_withheld Sfiw b) (is_withheld Sfiw a) n).0).0 in
+    subst (λ (t : Bool). MatchBool (t && true) (KeepsData d (Op Add d b a) (data_mask d a)) (IsTransparent (Op Add d b a) (data_mask d a))) (sym both.0)
+    (moved_kept (Op Add d b a) (Op Add d 0 a) d a both.0 own (ap (λ z. Op Add d z a) (eqb-true b 0 both.1))
+    (λ g m is. let z = is.hart.zero in let w = is.hart.words a in ap (λ v. next (with_register (past g 4) d v) m) (let e : (register g 0 + register g a) % 2 ^ 32 ≡ register g a = omega arith in e)))
+move_acts other n h = absurd (true≢false (sym h))
+
+plain_acts : (moves step rvc : Bool) (i : Instr) (slots : List Slot) → (is_move i && not step) ≡ moves → names_withheld Sfiw i ≡ false → is_barred_jump (Plain i) ≡ false
+    → MatchBool moves (slots ≡ moved i) (IsAround rvc step i slots) → ActsAs step i slots
+plain_acts true true rvc i slots m n b h = absurd (true≢false (sym (and_parts (is_move i) false m).1))
+plain_acts true false rvc i slots m n b h = subst (λ (v : List Slot). ActsAs false i v) (sym h) (move_acts i n (and_parts (is_move i) true m).0)
+plain_acts false step rvc i slots m n b h = around_acts rvc step i slots n b h
+
+-- ---- items
+
+waits_for : (i : Instr) (slot : Slot) → slot_size slot ≡ 4 → ((s : State) → SlotStands i s slot → Stands s i 4) → IsBefore i (slot ∷ [])
+waits_for i slot size stands =
+    let one : IsOneFor i i (slot ∷ []) = record { slot = slot; are = refl; stands = λ s st. subst (λ (n : ℕ). Stands s i n) (sym size) (stands s st) } in
+    record { transparent = alone_transparent i (slot ∷ []) one; first = λ is. refl }
+
+aimed_acts : (j i : Instr) (name line : ℕ) (step : Bool) (slots : List Slot) → IsAimed j i → is_barred_jump (To j name) ≡ false → slots ≡ Jump j name line ∷ [] → ActsAs step i slots
+aimed_acts (Jal rd offset) i name line step slots a b h =
+    let one = (waits_for (Jal rd a.0) (Jump (Jal rd offset) name line) refl (λ s st. st)).transparent in
+    subst (λ (k : Instr). ActsAs step k slots) (sym a.1)
+    (subst (λ (t : Bool). MatchBool (t && not step) (KeepsData rd (Jal rd a.0) slots) (IsTransparent (Jal rd a.0) slots)) (sym b)
+    (subst (λ (v : List Slot). IsTransparent (Jal rd a.0) v) (sym h) one))
+aimed_acts (Branch cond rs1 rs2 offset) i name line step slots a b h =
+    let one = (waits_for (Branch cond rs1 rs2 a.0) (Jump (Branch cond rs1 rs2 offset) name line) refl (λ s st. st)).transparent in
+    subst (λ (k : Instr). ActsAs step k slots) (sym a.1) (subst (λ (v : List Slot). IsTransparent (Branch cond rs1 rs2 a.0) v) (sym h) one)
+aimed_acts _ i name line step slots a b h = absurd a
+
+half_acts : (i : Instr) (slot : Slot) (rd : ℕ) (slots : List Slot) → destination i ≡ Some rd → is_jump i ≡ false → is_withheld Sfiw rd ≡ false → IsBefore i (slot ∷ [])
+    → slots ≡ slot ∷ mask_after (Some rd) → ActsBy (Some rd) false i slots
+half_acts i slot rd slots e j free t h = acts (is_data_register rd) false i rd (slot ∷ []) slots refl e (not_own rd free) (λ typed. j) t h
+
+abbrev is_plain : Body → Bool
+is_plain (Plain i) = true
+is_plain _ = false
+
+pub body_acts : (line : ℕ) (rvc step : Bool) (body : Body) (i : Instr) (slots : List Slot) → MayBe body i → item_names_withheld Sfiw body ≡ false → is_barred_jump body ≡ false
+    → (is_plain body ≡ false → step ≡ false) → IsExpansionOf line rvc step body slots → ActsAs step i slots
+body_acts line rvc step (Plain j) i slots be n b p h =
+    subst (λ (k : Instr). ActsAs step k slots) (sym be) (plain_acts (is_move j && not step) step rvc j slots refl n b h)
+body_acts line rvc step (To j name) i slots be n b p h = aimed_acts j i name line step slots be b h
+body_acts line rvc step (High rd name) i slots be n b p h =
+    subst (λ (t : Bool). ActsAs t i slots) (sym (p refl))
+    (subst (λ (k : Instr). ActsAs false k slots) (sym be.1)
+    (half_acts (Lui rd be.0) (Upper rd name line) rd slots refl refl n (waits_for (Lui rd be.0) (Upper rd name line) refl (λ s st. st)) h))
+body_acts line rvc step (Low rd name) i slots be n b p h =
+    subst (λ (t : Bool). ActsAs t i slots) (sym (p refl))
+    (subst (λ (k : Instr). ActsAs false k slots) (sym be.1)
+    (half_acts (OpImm Addi rd rd be.0) (Lower rd name line) rd slots refl refl n (waits_for (OpImm Addi rd rd be.0) (Lower rd name line) refl (λ s st. st)) h))
+
+-- a step is an instruction that names nothing
+no_step : (labelled : Bool) (body other : Body) → is_plain body ≡ false → (not labelled && is_step_to body other) ≡ false
+no_step labelled (Plain i) other h = absurd (true≢false h)
+no_step true (To i name) other h = refl
+no_step false (To i name) other h = refl
+no_step true (High rd name) other h = refl
+no_step false (High rd name) other h = refl
+no_step true (Low rd name) other h = refl
+no_step false (Low rd name) other h = refl
+
+pub plain_steps : (x : Item) (later : List Item) → is_plain x.body ≡ false → is_step x later ≡ false
+plain_steps x [] h = refl
+plain_steps x (y ∷ later) h = no_step y.labelled x.body y.body h
+
+pub word_expansions_are_transparent : WordExpansionsAreTransparent
+word_expansions_are_transparent x later i slots be p h =
+    body_acts x.line x.rvc (is_step x later) x.body i slots be p.operands p.no_barred_jump (plain_steps x later) h

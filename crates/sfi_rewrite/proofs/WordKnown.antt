@@ -1,0 +1,143 @@
+-- What is known of the slots of a sandbox's items in words: they encode, also alone in a word, and their names are the sandbox's.
+use Rattle.sfi_rewrite.proofs.Prelude.{◌≡◌, ◌<◌, ◌==◌, ◌&&◌, ℕ, List, [], ◌∷◌, ◌++◌, sym, subst, arith, inl, inr, Bool, true, false, MatchBool, Some, All, All-nil, All-cons, All-append, All-head, All-tail, Instr, And, Or, Op, OpImm, Load, Store, Jalr, Jal, Lui, Auipc, Item, Body, Plain, To, High, Low, IsBody, Slot, Wide, Short, Jump, Upper, Lower, IsAlone}
+use Rattle.std.specs.Prelude.{not, ◌||◌, if◌then◌else◌}
+use Rattle.rv_comp.specs.Table.{expansion}
+use Rattle.rv_word.specs.Spelling.{InRange}
+use Rattle.rv_word.specs.Writes.{destination}
+use Rattle.sfi_policy.specs.Registers.{is_data_register}
+use Rattle.sfi_rewrite.specs.words.Expansion.{IsConfined, IsAround, IsExpansionOf, before, after, base_of, data_mask, mask_after, is_move, moved, is_step}
+use Rattle.sfi_rewrite.specs.words.Laying.{Marked, marked, alone, AreExpanded, AreLaidBefore}
+use Rattle.sfi_rewrite.proofs.KnownSlots.{IsKnown, wide_known}
+use Rattle.sfi_rewrite.proofs.WordView.{view, all_in_words}
+
+-- the slot, and the same alone in its word
+abbrev IsKnownBoth : ℕ → Slot → Type 0
+IsKnownBoth count s = IsKnown count s × IsKnown count (alone s)
+
+wide_both : (count : ℕ) (i : Instr) → InRange i → IsKnownBoth count (Wide i)
+wide_both count i h = (wide_known count i h, wide_known count i h)
+
+one : (count : ℕ) (s : Slot) → IsKnownBoth count s → All (IsKnownBoth count) (s ∷ [])
+one count s h = All-cons (IsKnownBoth count) s [] h (All-nil (IsKnownBoth count))
+
+alone_known : (count : ℕ) (rvc : Bool) (i : Instr) (slots : List Slot) → IsAlone rvc i slots → InRange i → All (IsKnownBoth count) slots
+alone_known count false i slots e h = rw e (one count (Wide i) (wide_both count i h))
+alone_known count true i slots e h =
+    elim e [
+      | inl s ↦
+          rw (s.2)
+          (one count (Short s.0) (record { encodes = s.1.meets; name = tt }, wide_known count (expansion s.0) (subst (λ j. InRange j) (sym s.1.expands) h)))
+      | inr w ↦ rw (w.1) (one count (Wide i) (wide_both count i h))
+    ]
+
+and_known : (count d a mask : ℕ) → d < 32 → a < 32 → mask < 32 → IsKnownBoth count (Wide (Op And d a mask))
+unfolding InRange
+and_known count d a mask g h k = (record { encodes = (g, h, k); name = tt }, record { encodes = (g, h, k); name = tt })
+
+or_known : (count d a base : ℕ) → d < 32 → a < 32 → base < 32 → IsKnownBoth count (Wide (Op Or d a base))
+unfolding InRange
+or_known count d a base g h k = (record { encodes = (g, h, k); name = tt }, record { encodes = (g, h, k); name = tt })
+
+mask_known : (count d a : ℕ) → d < 32 → a < 32 → All (IsKnownBoth count) (data_mask d a)
+mask_known count d a g h =
+    All-cons (IsKnownBoth count) (Wide (Op And 31 a 27)) (Wide (Op Or d 31 26) ∷ []) (and_known count 31 a 27 (omega arith) h (omega arith))
+    (one count (Wide (Op Or d 31 26)) (or_known count d 31 26 g (omega arith) (omega arith)))
+
+-- ---- an instruction
+
+chosen_small : (b c : Bool) (a : ℕ) → a < 32 → (if b then a else if c then 26 else 29) < 32
+chosen_small true c a h = h
+chosen_small false true a h = omega arith
+chosen_small false false a h = omega arith
+
+base_small : (a : ℕ) → a < 32 → base_of a < 32
+base_small a h = chosen_small (is_data_register a) (a == 0) a h
+
+confined_known : (count : ℕ) (rvc : Bool) (i : Instr) (slots : List Slot) → IsConfined rvc i slots → InRange i → All (IsKnownBoth count) slots
+unfolding InRange
+confined_known count rvc (Load kind rd a imm) slots e h = alone_known count rvc (Load kind rd (base_of a) imm) slots e (h.0, base_small a h.1, h.2)
+confined_known count rvc (Store width a rs2 imm) slots e h = alone_known count rvc (Store width (base_of a) rs2 imm) slots e (base_small a h.0, h.1, h.2)
+confined_known count rvc (Jalr rd a imm) slots e h = rw e (one count (Wide (Jalr rd 30 imm)) (wide_both count (Jalr rd 30 imm) (h.0, omega arith, h.2)))
+confined_known count rvc other slots e h = alone_known count rvc other slots e h
+
+made_known : (count : ℕ) (none : Bool) (a : ℕ) → a < 32 → All (IsKnownBoth count) (if none then [] else data_mask 29 a)
+made_known count true a h = All-nil (IsKnownBoth count)
+made_known count false a h = mask_known count 29 a (omega arith) h
+
+before_known : (count : ℕ) (i : Instr) → InRange i → All (IsKnownBoth count) (before i)
+unfolding InRange
+before_known count (Load kind rd a imm) h = made_known count (is_data_register a || (a == 0)) a h.1
+before_known count (Store width a rs2 imm) h = made_known count (is_data_register a || (a == 0)) a h.0
+before_known count (Jalr rd a imm) h =
+    All-cons (IsKnownBoth count) (Wide (Op And 30 a 25)) (Wide (Op Or 30 30 24) ∷ []) (and_known count 30 a 25 (omega arith) h.1 (omega arith))
+    (one count (Wide (Op Or 30 30 24)) (or_known count 30 30 24 (omega arith) (omega arith) (omega arith)))
+before_known count _ h = All-nil (IsKnownBoth count)
+
+masks_known : (count : ℕ) (is : Bool) (d : ℕ) → d < 32 → All (IsKnownBoth count) (if is then data_mask d d else [])
+masks_known count true d h = mask_known count d d h h
+masks_known count false d h = All-nil (IsKnownBoth count)
+
+mask_after_known : (count d : ℕ) → d < 32 → All (IsKnownBoth count) (mask_after (Some d))
+mask_after_known count d h = masks_known count (is_data_register d) d h
+
+written_known : (count : ℕ) (i : Instr) → InRange i → All (IsKnownBoth count) (mask_after (destination i))
+unfolding InRange
+written_known count (Op op rd a b) h = mask_after_known count rd h.0
+written_known count (OpImm op rd a imm) h = mask_after_known count rd h.0
+written_known count (Load kind rd a imm) h = mask_after_known count rd h.0
+written_known count (Jal rd offset) h = mask_after_known count rd h.0
+written_known count (Jalr rd a imm) h = mask_after_known count rd h.0
+written_known count (Lui rd imm) h = mask_after_known count rd h.0
+written_known count (Auipc rd imm) h = mask_after_known count rd h.0
+written_known count _ h = All-nil (IsKnownBoth count)
+
+after_known : (count : ℕ) (step : Bool) (i : Instr) → InRange i → All (IsKnownBoth count) (after step i)
+after_known count true i h = All-nil (IsKnownBoth count)
+after_known count false i h = written_known count i h
+
+moved_known : (count : ℕ) (i : Instr) → InRange i → All (IsKnownBoth count) (moved i)
+unfolding InRange
+moved_known count (OpImm op d a imm) h = mask_known count d a h.0 h.1
+moved_known count (Op op d b a) h = mask_known count d a h.0 h.2
+moved_known count _ h = All-nil (IsKnownBoth count)
+
+around_known : (count : ℕ) (rvc step : Bool) (i : Instr) (slots : List Slot) → IsAround rvc step i slots → InRange i → All (IsKnownBoth count) slots
+around_known count rvc step i slots e h =
+    rw (e.2)
+    (All-append (IsKnownBoth count) (before i) (e.0 ++ after step i) (before_known count i h)
+    (All-append (IsKnownBoth count) e.0 (after step i) (confined_known count rvc i e.0 e.1 h) (after_known count step i h)))
+
+plain_known : (count : ℕ) (moves rvc step : Bool) (i : Instr) (slots : List Slot) → MatchBool moves (slots ≡ moved i) (IsAround rvc step i slots) → InRange i → All (IsKnownBoth count) slots
+plain_known count true rvc step i slots e h = rw e (moved_known count i h)
+plain_known count false rvc step i slots e h = around_known count rvc step i slots e h
+
+-- ---- items
+
+named_known : (count : ℕ) (s : Slot) (rd : ℕ) → IsKnownBoth count s → rd < 32 → All (IsKnownBoth count) (s ∷ mask_after (Some rd))
+named_known count s rd h small = All-cons (IsKnownBoth count) s (mask_after (Some rd)) h (mask_after_known count rd small)
+
+expansion_known : (count line : ℕ) (rvc step : Bool) (body : Body) (slots : List Slot) → IsExpansionOf line rvc step body slots → IsBody count body → All (IsKnownBoth count) slots
+expansion_known count line rvc step (Plain i) slots e b = plain_known count (is_move i && not step) rvc step i slots e b.0
+expansion_known count line rvc step (To i name) slots e b =
+    rw e (one count (Jump i name line) (record { encodes = b.0; name = b.2 }, record { encodes = b.0; name = b.2 }))
+expansion_known count line rvc step (High rd name) slots e b =
+    rw e (named_known count (Upper rd name line) rd (record { encodes = b.0; name = b.1 }, record { encodes = b.0; name = b.1 }) b.0)
+expansion_known count line rvc step (Low rd name) slots e b =
+    rw e (named_known count (Lower rd name line) rd (record { encodes = b.0; name = b.1 }, record { encodes = b.0; name = b.1 }) b.0)
+
+all_marked : (P : Slot → Type 0) (l : Bool) (slots : List Slot) → All P slots → All (λ m. P m.1) (marked l slots)
+all_marked P l [] h = All-nil (λ m. P m.1)
+all_marked P l (s ∷ slots) h = All-cons (λ m. P m.1) (l, s) (marked false slots) (All-head P s slots h) (all_marked P false slots (All-tail P s slots h))
+
+expanded_known : (count : ℕ) (items later : List Item) (slots : List Marked) → AreExpanded items later slots → All (λ x. IsBody count x.body) items → All (λ m. IsKnownBoth count m.1) slots
+expanded_known count [] later slots e b = rw e (All-nil (λ m. IsKnownBoth count m.1))
+expanded_known count (x ∷ items) later slots e b =
+    let B : Item → Type 0 = λ y. IsBody count y.body in
+    rw (e.3)
+    (All-append (λ m. IsKnownBoth count m.1) (marked x.labelled e.0) e.1
+    (all_marked (IsKnownBoth count) x.labelled e.0 (expansion_known count x.line x.rvc (is_step x (items ++ later)) x.body e.0 e.2 (All-head B x items b)))
+    (expanded_known count items later e.1 e.4 (All-tail B x items b)))
+
+pub words_known : (count : ℕ) (items later : List Item) (slots : List Slot) → AreLaidBefore later items slots → All (λ x. IsBody count x.body) items → All (IsKnown count) slots
+words_known count items later slots l b =
+    subst (λ v. All (IsKnown count) v) (sym l.2) (all_in_words (IsKnown count) l.0 _ (view l.0) (expanded_known count items later l.0 l.1 b))

@@ -1,0 +1,5 @@
+use Rattle.sfi_rewrite.proofs.WordLaws.{one_word_expansion}
+use Rattle.sfi_rewrite.proofs.laws.one_word_expansion.Goals as goal
+
+pub returns : goal.returns
+returns c = one_word_expansion

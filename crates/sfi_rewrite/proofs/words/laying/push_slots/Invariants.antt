@@ -1,0 +1,12 @@
+use Rattle.sfi_rewrite.proofs.Prelude.{◌≡◌, ◌%◌, ◌≤◌, take, size_of}
+use Rattle.sfi_policy.specs.Formats.{code_most}
+use Rattle.sfi_policy.specs.declared.format.Format.TheVariants.{Sfiw}
+use Rattle.sfi_rewrite.specs.private.Words.{bytes_of, with_slots}
+use Rattle.sfi_rewrite.proofs.words.laying.push_slots.Given as goal
+
+abbrev pub invariant-loop-slot : goal.invariant-loop-slot
+invariant-loop-slot l = record {
+  so_far : l.code ≡ with_slots l.fn.code (take l.slot-index l.slots);
+  aligned : size_of l.code.words % 4 ≡ 0;
+  fits : bytes_of l.code ≤ code_most Sfiw;
+}

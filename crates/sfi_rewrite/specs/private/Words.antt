@@ -1,0 +1,131 @@
+-- Words of private contracts: words while they are filled.
+use Rattle.std.specs.Prelude.{◌≡◌, ◌+◌, ◌%◌, ◌≤◌, ◌<◌, ◌++◌, ℕ, List, [], ◌∷◌, Bool, true, false, Option, Some, None, length, take, drop, slice_index, MatchBool}
+use Rattle.std.specs.List.{All}
+use Rattle.rv_comp.specs.Table.{expansion}
+use Rattle.rv_comp.specs.declared.form.Form16.{Form16}
+use Rattle.sfi_rewrite.specs.declared.slot.Slot.{Slot}
+use Rattle.sfi_rewrite.specs.declared.slot.Slot.TheVariants.{Wide, Short}
+use Rattle.sfi_policy.specs.declared.format.Format.{Format}
+use Rattle.sfi_policy.specs.declared.format.Format.TheVariants.{Sfiw}
+use Rattle.sfi_policy.specs.Formats.{code_most, has_words}
+use Rattle.rv_source.specs.declared.item.Item.{Item}
+use Rattle.sfi_rewrite.specs.declared.fault.RewriteFault.{RewriteFault}
+use Rattle.sfi_rewrite.specs.declared.fault.RewriteFault.TheVariants.{TooLarge}
+use Rattle.sfi_rewrite.specs.Slots.{size_of}
+use Rattle.sfi_rewrite.specs.Faults.{IsPermitted}
+use Rattle.sfi_rewrite.specs.Faults as bundles
+use Rattle.sfi_rewrite.specs.private.Filling as bundles_labels
+use Rattle.sfi_rewrite.specs.words.Expansion.{IsExpansion}
+use Rattle.sfi_rewrite.specs.words.Laying.{Marked, marked, in_words, AreExpanded, AreLaid, IsLabelAt}
+
+-- words, and a 16-bit form that waits for a second one
+pub record WordsSoFar : Type 0 where
+  pub words : List Slot
+  pub waiting : Option Form16
+
+abbrev pub so_far : List Slot → Option Form16 → WordsSoFar
+so_far words waiting = record { words = words; waiting = waiting }
+
+-- the bytes of a word for the form that waits, if one does
+abbrev pub waiting_size : Option Form16 → ℕ
+waiting_size None = 0
+waiting_size (Some f) = 4
+
+-- how many bytes they take, if nothing more comes
+abbrev pub bytes_of : WordsSoFar → ℕ
+bytes_of w = size_of w.words + waiting_size w.waiting
+
+-- how many bytes more they take with that slot
+abbrev pub more_for : Option Form16 → Slot → ℕ
+more_for (Some f) (Short g) = 0
+more_for waiting s = 4
+
+-- the form that waits alone in its word
+abbrev pub ended : List Slot → Option Form16 → WordsSoFar
+ended words None = so_far words None
+ended words (Some f) = so_far (words ++ Wide (expansion f) ∷ []) None
+
+-- the words with one more slot
+abbrev pub with_slot : List Slot → Option Form16 → Slot → WordsSoFar
+with_slot words (Some f) (Short g) = so_far (words ++ Short f ∷ Short g ∷ []) None
+with_slot words None (Short g) = so_far words (Some g)
+with_slot words waiting s = so_far ((ended words waiting).words ++ s ∷ []) None
+
+-- the words with these slots after them, of which no label stands before a second one
+abbrev pub with_slots : WordsSoFar → List Slot → WordsSoFar
+with_slots w [] = w
+with_slots w (s ∷ slots) = with_slots (with_slot w.words w.waiting s) slots
+
+-- the form that waits, as a slot
+abbrev pub waits : Option Form16 → List Marked
+waits None = []
+waits (Some f) = (false, Short f) ∷ []
+
+-- what the words become with more slots after them
+abbrev pub with_more : WordsSoFar → List Marked → List Slot
+with_more w more = w.words ++ in_words (waits w.waiting ++ more)
+
+-- the words with these slots after them are the other words, whatever comes after
+abbrev pub LeadsTo : WordsSoFar → List Marked → WordsSoFar → Type 0
+LeadsTo old slots new = (more : List Marked) → with_more old (slots ++ more) ≡ with_more new more
+
+-- the words are whole
+abbrev pub AreWords : WordsSoFar → Type 0
+AreWords w = size_of w.words % 4 ≡ 0
+
+-- they are whole, and a code region has room for them
+pub record HaveRoom (w : WordsSoFar) : Type 0 where
+  pub aligned : AreWords w
+  pub fits : bytes_of w ≤ code_most Sfiw
+
+-- the form that waits alone in its word where a label comes
+abbrev pub before_label : Bool → List Slot → Option Form16 → WordsSoFar
+before_label false words waiting = so_far words waiting
+before_label true words waiting = ended words waiting
+
+-- the words with the slots of an item after them that stands before those items
+pub record AreWith (x : Item) (later : List Item) (old new : WordsSoFar) : Type 0 where
+  pub expanded : List Slot
+  pub is_expansion : IsExpansion x later expanded
+  pub lead : LeadsTo old (marked x.labelled expanded) new
+
+-- no code region has room for the words
+pub record IsBeyond (sandbox : ℕ) (w : WordsSoFar) (f : RewriteFault) : Type 0 where
+  pub beyond : code_most Sfiw < bytes_of w
+  pub fault : f ≡ TooLarge sandbox
+
+-- no code region has room for those
+pub record HasNoRoom (sandbox : ℕ) (x : Item) (later : List Item) (old : WordsSoFar)
+    (f : RewriteFault) : Type 0 where
+  pub new : WordsSoFar
+  pub are_with : AreWith x later old new
+  pub is_beyond : IsBeyond sandbox new f
+
+-- the words of the first k of the items
+pub record AreOfFirst (k : ℕ) (items : List Item) (w : WordsSoFar) : Type 0 where
+  pub expanded : List Marked
+  pub are_expanded : AreExpanded (take k items) (drop k items) expanded
+  pub lead : LeadsTo (so_far [] None) expanded w
+
+-- none of the items has a fault, and these are their slots
+pub record AreLaidWhole (items : List Item) (slots : List Slot) : Type 0 where
+  pub permitted : All (IsPermitted Sfiw) items
+  pub laid : AreLaid items slots
+  pub fits : size_of slots ≤ code_most Sfiw
+
+-- of each item, and last of the end of the code, the place that a label before it names
+pub record AreLabels (items : List Item) (labels : List ℕ) : Type 0 where
+  pub count : length labels ≡ length items + 1
+  pub each : (k : ℕ) → k ≤ length items → IsLabelAt items k (slice_index labels k)
+
+-- ---- in either kind of code
+
+-- none of the items has a fault, and these are their slots
+abbrev pub AreFaultlessIn : Format → List Item → List Slot → Type 0
+AreFaultlessIn f items slots =
+    MatchBool (has_words f) (AreLaidWhole items slots) (bundles.AreFaultless f items slots)
+
+-- of each item, and last of the end, the place that a label names
+abbrev pub AreLabelsIn : Format → List Item → List ℕ → Type 0
+AreLabelsIn f items labels =
+    MatchBool (has_words f) (AreLabels items labels) (bundles_labels.AreLabels f items labels)

@@ -1,0 +1,6 @@
+-- The expansions and the placement of code in words, its faults, and what its expansions do.
+pub mod Expansion
+pub mod Laying
+pub mod Faults
+pub mod Transparency
+pub mod Samples

@@ -1,0 +1,136 @@
+-- The expansion of an item in code in words: each access is on a data register or on x26, each
+-- indirect jump on x30, and what writes a data register stands before its mask, or is the mask.
+use Rattle.std.specs.Prelude.{◌≡◌, ◌==◌, ◌&&◌, ◌||◌, not, ℕ, ℤ, pos, negsuc, nat_le, nat_lt, List, [], ◌∷◌, ◌++◌, map, Bool, false, MatchBool, Option, Some, None, if◌then◌else◌}
+use Rattle.rv_word.specs.declared.instr.ImmOp.TheVariants.{Addi}
+use Rattle.rv_word.specs.declared.instr.RegOp.TheVariants.{Add, And, Or}
+use Rattle.rv_word.specs.declared.instr.Instr.{Instr}
+use Rattle.rv_word.specs.declared.instr.Instr.TheVariants.{Op, OpImm, Load, Store, Jal, Jalr}
+use Rattle.rv_word.specs.Writes.{destination}
+use Rattle.sfi_policy.specs.Limits.{slack}
+use Rattle.sfi_policy.specs.Registers.{data_base_register, data_mask_register, is_data_register, code_register, offset_register}
+use Rattle.rv_source.specs.declared.item.Body.{Body}
+use Rattle.rv_source.specs.declared.item.Body.TheVariants.{Plain, To, High, Low}
+use Rattle.rv_source.specs.declared.item.Item.{Item}
+use Rattle.sfi_pairs.specs.Pairs.{code_pair}
+use Rattle.sfi_rewrite.specs.declared.slot.Slot.{Slot}
+use Rattle.sfi_rewrite.specs.declared.slot.Slot.TheVariants.{Wide, Jump, Upper, Lower}
+use Rattle.sfi_rewrite.specs.Registers.{address_register}
+use Rattle.sfi_rewrite.specs.Expansion.{IsAlone}
+
+-- `and x31, a, x27`; `or d, x31, x26`: d becomes the address of the data region with the offset of a
+abbrev pub data_mask : ℕ → ℕ → List Slot
+data_mask d a =
+    Wide (Op And offset_register a data_mask_register)
+    ∷ Wide (Op Or d offset_register data_base_register) ∷ []
+
+-- ---- a load, a store, an indirect jump
+
+-- the register by which an access on a goes: a data register itself; for x0 it is x26, since a
+-- masked 0 is the region's first address; for any other x29
+abbrev pub base_of : ℕ → ℕ
+base_of a =
+    if is_data_register a then a else if a == 0 then data_base_register else address_register
+
+-- what makes that register the address that a masks to
+abbrev pub makes_base : ℕ → List Slot
+makes_base a = if is_data_register a || (a == 0) then [] else data_mask address_register a
+
+-- what stands before the instruction: before an indirect jump the pair by which x30 becomes a word's
+-- start in the code region
+abbrev pub before : Instr → List Slot
+before (Load kind rd a imm) = makes_base a
+before (Store width a rs2 imm) = makes_base a
+before (Jalr rd a imm) = map Wide (code_pair code_register a)
+before i = []
+
+-- the instruction on the register that it goes by; an indirect jump has 32 bits
+abbrev pub IsConfined : Bool → Instr → List Slot → Type 0
+IsConfined rvc (Load kind rd a imm) slots = IsAlone rvc (Load kind rd (base_of a) imm) slots
+IsConfined rvc (Store width a rs2 imm) slots = IsAlone rvc (Store width (base_of a) rs2 imm) slots
+IsConfined rvc (Jalr rd a imm) slots = slots ≡ Wide (Jalr rd code_register imm) ∷ []
+IsConfined rvc i slots = IsAlone rvc i slots
+
+-- ---- a write of a data register
+
+-- the mask of that register, if it is one
+abbrev pub mask_after : Option ℕ → List Slot
+mask_after None = []
+mask_after (Some d) = if is_data_register d then data_mask d d else []
+
+-- from -1020 to 1020
+abbrev pub is_small : ℤ → Bool
+is_small (pos n) = nat_le n slack
+is_small (negsuc n) = nat_lt n slack
+
+-- a load or store on d at such an offset
+abbrev pub is_use : ℕ → Instr → Bool
+is_use d (Load kind rd a imm) = (a == d) && is_small imm
+is_use d (Store width a rs2 imm) = (a == d) && is_small imm
+is_use d i = false
+
+-- `addi d, d, k` of a data register, and a use of it
+abbrev pub is_step_to : Body → Body → Bool
+is_step_to (Plain (OpImm Addi d a k)) (Plain i) = is_data_register d && (a == d) && is_use d i
+is_step_to x y = false
+
+-- the item is a step to the first of those after it: no label stands between
+abbrev pub is_step : Item → List Item → Bool
+is_step x [] = false
+is_step x (y ∷ later) = not y.labelled && is_step_to x.body y.body
+
+-- what stands after an instruction, which is a step or not: the mask of what it writes, unless it is a step
+abbrev pub after : Bool → Instr → List Slot
+after step i = if step then [] else mask_after (destination i)
+
+-- ---- a move to a data register
+
+abbrev pub is_zero : ℤ → Bool
+is_zero (pos n) = n == 0
+is_zero (negsuc n) = false
+
+-- `addi d, a, 0` or `add d, x0, a` of a data register d
+abbrev pub is_move : Instr → Bool
+is_move (OpImm Addi d a imm) = is_data_register d && is_zero imm
+is_move (Op Add d b a) = is_data_register d && (b == 0)
+is_move i = false
+
+-- the mask of a into d, which does alone what the move and the mask of d after it do
+abbrev pub moved : Instr → List Slot
+moved (OpImm op d a imm) = data_mask d a
+moved (Op op d b a) = data_mask d a
+moved i = []
+
+-- ---- all
+
+-- the instruction as it is confined, between what stands before it and after it
+abbrev pub IsAround : Bool → Bool → Instr → List Slot → Type 0
+IsAround rvc step i slots =
+    (confined : List Slot) × IsConfined rvc i confined
+    × (slots ≡ before i ++ (confined ++ after step i))
+
+-- that of an instruction, which is a step or not
+abbrev pub IsPlainExpansion : Bool → Bool → Instr → List Slot → Type 0
+IsPlainExpansion rvc step i slots =
+    MatchBool (is_move i && not step) (slots ≡ moved i) (IsAround rvc step i slots)
+
+-- that of the item on a line
+abbrev pub IsExpansionOf : ℕ → Bool → Bool → Body → List Slot → Type 0
+IsExpansionOf line rvc step (Plain i) slots = IsPlainExpansion rvc step i slots
+IsExpansionOf line rvc step (To i name) slots = slots ≡ Jump i name line ∷ []
+IsExpansionOf line rvc step (High rd name) slots =
+    slots ≡ Upper rd name line ∷ mask_after (Some rd)
+IsExpansionOf line rvc step (Low rd name) slots = slots ≡ Lower rd name line ∷ mask_after (Some rd)
+
+-- the slots are the item's, before these items
+abbrev pub IsExpansion : Item → List Item → List Slot → Type 0
+IsExpansion x later slots = IsExpansionOf x.line x.rvc (is_step x later) x.body slots
+
+-- ---- what has none
+
+-- a jal or jalr that writes a data register, whose mask would never be reached; or a jalr with an
+-- offset, which is no form of the expansion of an indirect jump
+abbrev pub is_barred_jump : Body → Bool
+is_barred_jump (Plain (Jal rd offset)) = is_data_register rd
+is_barred_jump (Plain (Jalr rd a imm)) = is_data_register rd || not (is_zero imm)
+is_barred_jump (To (Jal rd offset) name) = is_data_register rd
+is_barred_jump x = false

@@ -1,0 +1,338 @@
+//! What an item of the source becomes in code in words.
+ghost use Rattle.std.specs.Prelude.{◌≡◌, ◌∷◌, ◌++◌, ◌+◌, ◌≤◌, [], Some, length};
+ghost use Rattle.sfi_rewrite.specs.Expansion.{IsAlone};
+ghost use Rattle.sfi_rewrite.specs.words.Expansion.{base_of, data_mask, makes_base, before, mask_after, IsConfined, IsPlainExpansion, IsExpansion, is_step_to, is_step, is_small, is_use, is_zero, is_move, moved, IsAround};
+ghost use Rattle.rv_word.specs.Writes.{destination};
+
+use crate::slot::Slot;
+use arrayvec::ArrayVec;
+use rv_comp::form_of;
+use rv_source::{Body, Item};
+use rv_word::{ImmOp, Instr, Reg, RegOp};
+use sfi_pairs::{code_pair, is_data_register};
+use sfi_policy::{CODE_REGISTER, DATA_BASE_REGISTER, DATA_MASK_REGISTER, OFFSET_REGISTER, SLACK};
+use std::marker::Model;
+
+/// The data register in which the expansions make addresses, x29.
+pub(crate) const ADDRESS_REGISTER: u8 = 29;
+
+/// The most slots of an expansion: a mask, a load, and the mask of what it loads.
+const SLOTS_MOST: usize = 5;
+
+/// An expansion, in order. Contracts see the list of its slots.
+#[derive(Drop)]
+pub(crate) struct WordExpansion {
+    slots: ArrayVec<Slot, SLOTS_MOST>,
+}
+
+impl Model for WordExpansion {
+    ghost use Rattle.std.specs.Prelude.{List};
+    ghost use Rattle.sfi_rewrite.specs.declared.slot.Slot.{Slot};
+
+    ghost Value = { List Slot };
+
+    ghost view = { λ e. e.slots.items };
+}
+
+impl WordExpansion {
+    /// No slot.
+    fn new() -> WordExpansion
+        ensures { result ≡ [] }
+    {
+        WordExpansion {
+            slots: ArrayVec::new(),
+        }
+    }
+
+    /// Adds slots, for which there is room.
+    fn push(&mut self, slots: &[Slot])
+        requires { length self.old + length slots.now ≤ 5 }
+        ensures { self.new ≡ self.old ++ slots.now }
+    {
+        match self.slots.try_extend_from_slice(slots) {
+            Ok(()) => {}
+            Err(_) => unreachable!(),
+        }
+    }
+
+    /// Adds the mask by which `target` becomes the address of the data region with the offset of
+    /// `a`.
+    fn push_mask(&mut self, target: Reg, a: Reg)
+        requires { length self.old + 2 ≤ 5 }
+        ensures { self.new ≡ self.old ++ data_mask target a }
+    {
+        let offset = Reg::numbered(OFFSET_REGISTER);
+        let mask = Instr::Op {
+            op: RegOp::And,
+            rd: offset,
+            rs1: a,
+            rs2: Reg::numbered(DATA_MASK_REGISTER),
+        };
+        let place = Instr::Op {
+            op: RegOp::Or,
+            rd: target,
+            rs1: offset,
+            rs2: Reg::numbered(DATA_BASE_REGISTER),
+        };
+        self.push(&[Slot::Wide(mask), Slot::Wide(place)]);
+    }
+
+    /// Adds the mask of a data register after what writes it; nothing for another register.
+    fn push_mask_after(&mut self, written: Reg)
+        requires { length self.old + 2 ≤ 5 }
+        ensures { self.new ≡ self.old ++ mask_after (Some written) }
+    {
+        if is_data_register(written) {
+            self.push_mask(written, written);
+        }
+    }
+
+    /// In order.
+    pub(crate) fn slots(&self) -> &[Slot]
+        ensures slots { result.now ≡ self.now }
+        ensures few { length self.now ≤ 5 }
+    {
+        &self.slots
+    }
+}
+
+/// The register by which an access on `a` goes.
+fn base_of(a: Reg) -> Reg
+    ensures { result ≡ base_of a }
+{
+    if is_data_register(a) {
+        a
+    } else if a.number() == 0 {
+        Reg::numbered(DATA_BASE_REGISTER)
+    } else {
+        Reg::numbered(ADDRESS_REGISTER)
+    }
+}
+
+/// Adds what makes that register the address that `a` masks to.
+fn push_base(slots: &mut WordExpansion, a: Reg)
+    requires { slots.old ≡ [] }
+    ensures { slots.new ≡ makes_base a }
+{
+    if !is_data_register(a) && a.number() != 0 {
+        slots.push_mask(Reg::numbered(ADDRESS_REGISTER), a);
+    }
+}
+
+/// Adds what stands before the instruction.
+fn push_before(slots: &mut WordExpansion, instr: &Instr)
+    requires { slots.old ≡ [] }
+    ensures { slots.new ≡ before instr.now }
+{
+    match *instr {
+        Instr::Load { rs1, .. } | Instr::Store { rs1, .. } => push_base(slots, rs1),
+        Instr::Jalr { rs1, .. } => {
+            let [first, second] = code_pair(Reg::numbered(CODE_REGISTER), rs1);
+            slots.push(&[Slot::Wide(first), Slot::Wide(second)]);
+        }
+        _ => {}
+    }
+}
+
+/// An instruction that stays as it is, in a 16-bit form where these are asked for and there is one.
+fn alone(rvc: bool, instr: &Instr) -> Slot
+    ensures { IsAlone rvc instr.now (result ∷ []) }
+{
+    if rvc {
+        if let Some(form) = form_of(*instr) {
+            return Slot::Short(form);
+        }
+    }
+    Slot::Wide(*instr)
+}
+
+/// The instruction on the register that it goes by.
+fn confined(rvc: bool, instr: &Instr) -> Slot
+    ensures { IsConfined rvc instr.now (result ∷ []) }
+{
+    match *instr {
+        Instr::Load { kind, rd, rs1, imm } => {
+            let rs1 = base_of(rs1);
+            alone(rvc, &Instr::Load { kind, rd, rs1, imm })
+        }
+        Instr::Store {
+            width,
+            rs1,
+            rs2,
+            imm,
+        } => {
+            let rs1 = base_of(rs1);
+            alone(
+                rvc,
+                &Instr::Store {
+                    width,
+                    rs1,
+                    rs2,
+                    imm,
+                },
+            )
+        }
+        Instr::Jalr { rd, imm, .. } => Slot::Wide(Instr::Jalr {
+            rd,
+            rs1: Reg::numbered(CODE_REGISTER),
+            imm,
+        }),
+        _ => alone(rvc, instr),
+    }
+}
+
+/// The register that an instruction other than a fence has as its first operand.
+fn destination(instr: &Instr) -> Option<Reg>
+    ensures { result ≡ destination instr.now }
+{
+    match *instr {
+        Instr::Op { rd, .. }
+        | Instr::OpImm { rd, .. }
+        | Instr::Load { rd, .. }
+        | Instr::Jal { rd, .. }
+        | Instr::Jalr { rd, .. }
+        | Instr::Lui { rd, .. }
+        | Instr::Auipc { rd, .. } => Some(rd),
+        Instr::Store { .. }
+        | Instr::Branch { .. }
+        | Instr::Fence { .. }
+        | Instr::Ecall
+        | Instr::Ebreak => None,
+    }
+}
+
+/// Whether it is `addi d, a, 0` or `add d, x0, a` of a data register `d`.
+fn is_move(instr: &Instr) -> bool
+    ensures { result ≡ is_move instr.now }
+{
+    match *instr {
+        Instr::OpImm {
+            op: ImmOp::Addi,
+            rd,
+            imm,
+            ..
+        } => is_data_register(rd) && imm == 0,
+        Instr::Op {
+            op: RegOp::Add,
+            rd,
+            rs1,
+            ..
+        } => is_data_register(rd) && rs1.number() == 0,
+        _ => false,
+    }
+}
+
+/// The mask in the place of such a move.
+fn moved(instr: &Instr) -> WordExpansion
+    ensures { result ≡ moved instr.now }
+{
+    let mut slots = WordExpansion::new();
+    match *instr {
+        Instr::OpImm { rd, rs1, .. } => slots.push_mask(rd, rs1),
+        Instr::Op { rd, rs2, .. } => slots.push_mask(rd, rs2),
+        _ => {}
+    }
+    slots
+}
+
+/// The instruction as it is confined, between what stands before it and after it.
+fn around(rvc: bool, step: bool, instr: &Instr) -> WordExpansion
+    ensures { IsAround rvc step instr.now result }
+{
+    let mut slots = WordExpansion::new();
+    push_before(&mut slots, instr);
+    slots.push(&[confined(rvc, instr)]);
+    if step {
+        return slots;
+    }
+    if let Some(written) = destination(instr) {
+        slots.push_mask_after(written);
+    }
+    slots
+}
+
+/// The expansion of an instruction that names no label.
+fn of_plain(rvc: bool, step: bool, instr: &Instr) -> WordExpansion
+    ensures { IsPlainExpansion rvc step instr.now result }
+{
+    if is_move(instr) && !step {
+        return moved(instr);
+    }
+    around(rvc, step, instr)
+}
+
+/// A half of an address, and the mask of the register that it is in.
+fn of_half(half: Slot, rd: Reg) -> WordExpansion
+    ensures { result ≡ half ∷ mask_after (Some rd) }
+{
+    let mut slots = WordExpansion::new();
+    slots.push(&[half]);
+    slots.push_mask_after(rd);
+    slots
+}
+
+/// Whether the number is from -1020 to 1020.
+fn is_small(imm: i32) -> bool
+    ensures { result ≡ is_small imm }
+{
+    -(SLACK as i32) <= imm && imm <= SLACK as i32
+}
+
+/// Whether the instruction is a load or store on the register at such an offset.
+fn is_use(register: Reg, instr: &Instr) -> bool
+    ensures { result ≡ is_use register instr.now }
+{
+    match *instr {
+        Instr::Load { rs1, imm, .. } | Instr::Store { rs1, imm, .. } => {
+            rs1.number() == register.number() && is_small(imm)
+        }
+        _ => false,
+    }
+}
+
+/// Whether the first is `addi d, d, k` of a data register, and the second a use of it.
+fn is_step_to(body: &Body, next: &Body) -> bool
+    ensures { result ≡ is_step_to body.now next.now }
+{
+    match (body, next) {
+        (
+            Body::Plain(
+                Instr::OpImm {
+                    op: ImmOp::Addi,
+                    rd,
+                    rs1,
+                    ..
+                },
+            ),
+            Body::Plain(instr),
+        ) => is_data_register(*rd) && rs1.number() == rd.number() && is_use(*rd, instr),
+        _ => false,
+    }
+}
+
+/// Whether the item is a step to the first of those after it.
+fn is_step(item: &Item, later: &[Item]) -> bool
+    ensures { result ≡ is_step item.now later.now }
+{
+    match later.first() {
+        Some(next) => !next.labelled && is_step_to(&item.body, &next.body),
+        None => false,
+    }
+}
+
+/// The expansion of an item, before those after it.
+pub(crate) fn expand(item: &Item, later: &[Item]) -> WordExpansion
+    ensures { IsExpansion item.now later.now result }
+{
+    let line = item.line;
+    match item.body {
+        Body::Plain(ref instr) => of_plain(item.rvc, is_step(item, later), instr),
+        Body::To(instr, name) => {
+            let mut slots = WordExpansion::new();
+            slots.push(&[Slot::Jump { instr, name, line }]);
+            slots
+        }
+        Body::High(rd, name) => of_half(Slot::Upper { rd, name, line }, rd),
+        Body::Low(rd, name) => of_half(Slot::Lower { rd, name, line }, rd),
+    }
+}
