@@ -7,7 +7,7 @@ use Rattle.sfi_link.specs.Standing.{ImageRunsAs}
 use Rattle.sfi_build.specs.Texts.{IsTextBuild, IsTextMap, IsCleanImage, IsBuildFault, IsWantOfMemory, AnswersBuild, AnswersBuildFault}
 use Rattle.sfi_build.specs.declared.build_fault.BuildFault.{BuildFault}
 use Rattle.sfi_build.specs.declared.build_fault.BuildFault.TheVariants.{Text, Rewrite, Link}
-use Rattle.sfi_rewrite.specs.Faults.{IsSourceFault}
+use Rattle.sfi_rewrite.specs.SourceFaults.{IsSourceFault}
 use Rattle.sfi_rewrite.specs.Rewriting.{AreRewritten}
 use Rattle.sfi_rewrite.specs.declared.fault.RewriteFault.{RewriteFault}
 use Rattle.rv_text.proofs.Facts as texts

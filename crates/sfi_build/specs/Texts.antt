@@ -10,7 +10,7 @@ use Rattle.sfi_image.specs.Images.{IsImage}
 use Rattle.sfi_rules.specs.Findings.{AreImageFindings}
 use Rattle.sfi_rewrite.specs.declared.fault.RewriteFault.TheVariants as rewriter
 use Rattle.sfi_rewrite.specs.Placement.{Placement}
-use Rattle.sfi_rewrite.specs.Faults.{IsSourceFault}
+use Rattle.sfi_rewrite.specs.SourceFaults.{IsSourceFault}
 use Rattle.sfi_rewrite.specs.Rewriting.{AreRewritten}
 use Rattle.sfi_link.specs.declared.fault.LinkFault.TheVariants as linker
 use Rattle.sfi_build.specs.declared.build_fault.BuildFault.{BuildFault}

@@ -6,6 +6,11 @@ use Rattle.rv_word.specs.Numbers.{offset_by}
 use Rattle.rv_word.specs.Writes.{destination, is_register, writes_register}
 use Rattle.rv_word.specs.declared.instr.RegOp.TheVariants.{And, Or}
 use Rattle.sfi_policy.specs.Registers.{is_reserved, is_withheld}
+use Rattle.sfi_policy.specs.Formats.{has_words}
+use Rattle.sfi_policy.specs.declared.format.Format.{Format}
+use Rattle.sfi_policy.specs.declared.format.Format.TheVariants.{Sfi1, Sfi2, Sfiw}
+use Rattle.rv_word.specs.declared.instr.Instr.TheVariants.{Auipc}
+use Rattle.std.proofs.lemmas.Bool.{true≢false}
 use Rattle.sfi_rewrite.specs.Expansion.{jump_to_x31, jump_slots, IsAlone, IsMasked, IsExpansionOf}
 use Rattle.sfi_rewrite.specs.Registers.{names_withheld, item_names_withheld, is_ecall}
 use Rattle.sfi_rules.specs.Pairs.{follows_data_pair}
@@ -114,7 +119,7 @@ before_pair b here earlier i later j p =
     well_written (place b here earlier i later) i (bool.or_right (begins_pair i later || ends_pair earlier i) _ (ap (λ v. not v && precedes_pair later) j ∙ p))
 
 -- what writes the stack pointer
-writer_passes : (b : BundlePlace) (here : ℕ) (earlier : List Instr) (i : Instr) (more : List Slot) → names_withheld i ≡ false → has_stack b.format ≡ true → writes_register 2 i ≡ true
+writer_passes : (b : BundlePlace) (here : ℕ) (earlier : List Instr) (i : Instr) (more : List Slot) → names_withheld Sfi1 i ≡ false → has_stack b.format ≡ true → writes_register 2 i ≡ true
     → stack.jumps_or_loads_x2 (Plain i) ≡ false → PassesBefore b here earlier i (stack.stack_pair ++ more)
 writer_passes b here earlier (Load kind rd a imm) more h f w j later read e =
     record {
@@ -136,7 +141,7 @@ writer_passes b here earlier Ebreak more h f w j later read e = cc
 writer_passes b here earlier i more h f w j later read e = calm b here earlier i later refl (writes_unreserved i h) (before_pair b here earlier i later refl (pair_read more later read)) e
 
 -- an access on the stack pointer that doesn't write it
-access_passes : (b : BundlePlace) (here : ℕ) (earlier : List Instr) (i : Instr) (more : List Slot) → names_withheld i ≡ false → has_stack b.format ≡ true → stack.is_on_x2 i ≡ true
+access_passes : (b : BundlePlace) (here : ℕ) (earlier : List Instr) (i : Instr) (more : List Slot) → names_withheld Sfi1 i ≡ false → has_stack b.format ≡ true → stack.is_on_x2 i ≡ true
     → writes_stack b i ≡ false → PassesBefore b here earlier i more
 access_passes b here earlier (Load kind rd a imm) more h f o w later read e =
     record {
@@ -154,7 +159,7 @@ access_passes b here earlier (Store width a rs2 imm) more h f o w later read e =
 access_passes b here earlier _ more h f o w later read e = cc
 
 -- an instruction that stays as it is, and is none of these
-calm_passes : (b : BundlePlace) (here : ℕ) (earlier : List Instr) (i : Instr) (more : List Slot) → is_calm i ≡ true → names_withheld i ≡ false → writes_stack b i ≡ false
+calm_passes : (b : BundlePlace) (here : ℕ) (earlier : List Instr) (i : Instr) (more : List Slot) → is_calm i ≡ true → names_withheld Sfi1 i ≡ false → writes_stack b i ≡ false
     → PassesBefore b here earlier i more
 calm_passes b here earlier i more c h w later read e = calm b here earlier i later c (writes_unreserved i h) (no_write (place b here earlier i later) i w) e
 
@@ -188,7 +193,7 @@ jump_clean b at names here earlier rd a (pos (suc n)) more h w rest = with_sum b
 jump_clean b at names here earlier rd a (negsuc n) more h w rest = with_sum b at names here earlier rd a (negsuc n) more h w rest
 
 masked_clean : (b : BundlePlace) (at : Bases) (names : List PlacedName) (here : ℕ) (earlier : List Instr) (rvc : Bool) (i : Instr) (count : ℕ) (expanded more : List Slot)
-    → IsMasked rvc i expanded → IsBody count (Plain i) → names_withheld i ≡ false → is_ecall (Plain i) ≡ false → writes_stack b i ≡ false → IsCleanAfter b at names more
+    → IsMasked rvc i expanded → IsBody count (Plain i) → names_withheld Sfi1 i ≡ false → is_ecall (Plain i) ≡ false → writes_stack b i ≡ false → IsCleanAfter b at names more
     → IsCleanly b at names here earlier (expanded ++ more)
 masked_clean b at names here earlier rvc (Load kind rd a imm) count expanded more x body h c w rest =
     subst (λ v. IsCleanly b at names here earlier (v ++ more)) (sym x)
@@ -229,7 +234,7 @@ masked_clean b at names here earlier rvc i count expanded more x body h c w rest
 plain_clean : (b : BundlePlace) (at : Bases) (names : List PlacedName) (here : ℕ) (earlier : List Instr) (writes on rvc : Bool) (i : Instr) (count : ℕ) (expanded more : List Slot)
     → stack.writes_stack b.format i ≡ writes → stack.is_on_stack b.format i ≡ on
     → MatchBool writes (expanded ≡ Wide i ∷ stack.stack_pair) (MatchBool on (IsAlone rvc i expanded) (IsMasked rvc i expanded))
-    → IsBody count (Plain i) → names_withheld i ≡ false → is_ecall (Plain i) ≡ false → stack.is_stack_write b.format (Plain i) ≡ false → IsCleanAfter b at names more
+    → IsBody count (Plain i) → names_withheld Sfi1 i ≡ false → is_ecall (Plain i) ≡ false → stack.is_stack_write b.format (Plain i) ≡ false → IsCleanAfter b at names more
     → IsCleanly b at names here earlier (expanded ++ more)
 plain_clean b at names here earlier true on rvc i count expanded more w o x body h c s rest =
     let both = bool.and_parts (has_stack b.format) (writes_register 2 i) w in
@@ -270,7 +275,7 @@ made_clean b at names here earlier false rd x f o more w r calmly own rest =
     })
 
 body_clean : (b : BundlePlace) (at : Bases) (names : List PlacedName) → AreStarts b at names → (here : ℕ) (earlier : List Instr) (line : ℕ) (rvc : Bool) (body : Body) (count : ℕ)
-    (expanded more : List Slot) → item_names_withheld body ≡ false → is_ecall body ≡ false → stack.is_stack_write b.format body ≡ false → IsBody count body → IsExpansionOf b.format line rvc body expanded
+    (expanded more : List Slot) → item_names_withheld Sfi1 body ≡ false → is_ecall body ≡ false → stack.is_stack_write b.format body ≡ false → IsBody count body → IsExpansionOf b.format line rvc body expanded
     → IsCleanAfter b at names more → IsCleanly b at names here earlier (expanded ++ more)
 body_clean b at names starts here earlier line rvc (Plain i) count expanded more h c s is x rest =
     plain_clean b at names here earlier (stack.writes_stack b.format i) (stack.is_on_stack b.format i) rvc i count expanded more refl refl x is h c s rest
@@ -278,7 +283,7 @@ body_clean b at names starts here earlier line rvc (To j k) count expanded more 
     subst (λ v. IsCleanly b at names here earlier (v ++ more)) (sym x) (jump_to b at names starts here earlier j k line count more h s is rest)
   where
     jump_to : (b : BundlePlace) (at : Bases) (names : List PlacedName) → AreStarts b at names → (here : ℕ) (earlier : List Instr) (j : Instr) (k line count : ℕ) (more : List Slot)
-        → names_withheld j ≡ false → stack.is_stack_write b.format (To j k) ≡ false → IsBody count (To j k) → IsCleanAfter b at names more → IsCleanly b at names here earlier (Jump j k line ∷ more)
+        → names_withheld Sfi1 j ≡ false → stack.is_stack_write b.format (To j k) ≡ false → IsBody count (To j k) → IsCleanAfter b at names more → IsCleanly b at names here earlier (Jump j k line ∷ more)
     jump_to b at names starts here earlier j k line count more h s is rest room bytes =
         let sized = size_of-cons (Jump j k line) more in
         let low : here < 2 ^ 32 = omega arith in
@@ -304,18 +309,45 @@ body_clean b at names starts here earlier line rvc (Low rd k) count expanded mor
 
 -- ---- whole expansions
 
+-- formats in bundles withhold the same registers
+same_names : (f : Format) (i : Instr) → has_words f ≡ false → names_withheld f i ≡ names_withheld Sfi1 i
+same_names Sfi1 i e = refl
+same_names Sfi2 (Op op rd rs1 rs2) e = refl
+same_names Sfi2 (OpImm op rd rs1 imm) e = refl
+same_names Sfi2 (Load kind rd rs1 imm) e = refl
+same_names Sfi2 (Store width rs1 rs2 imm) e = refl
+same_names Sfi2 (Branch cond rs1 rs2 offset) e = refl
+same_names Sfi2 (Jal rd offset) e = refl
+same_names Sfi2 (Jalr rd rs1 imm) e = refl
+same_names Sfi2 (Lui rd imm) e = refl
+same_names Sfi2 (Auipc rd imm) e = refl
+same_names Sfi2 (Fence imm rd rs1) e = refl
+same_names Sfi2 Ecall e = refl
+same_names Sfi2 Ebreak e = refl
+same_names Sfiw i e = absurd (true≢false e)
+
+same_withheld : (f : Format) (body : Body) → has_words f ≡ false → item_names_withheld f body ≡ item_names_withheld Sfi1 body
+same_withheld f (Plain i) e = same_names f i e
+same_withheld f (To i name) e = same_names f i e
+same_withheld Sfi1 (High rd name) e = refl
+same_withheld Sfi1 (Low rd name) e = refl
+same_withheld Sfi2 (High rd name) e = refl
+same_withheld Sfi2 (Low rd name) e = refl
+same_withheld Sfiw (High rd name) e = absurd (true≢false e)
+same_withheld Sfiw (Low rd name) e = absurd (true≢false e)
+
 -- slots that are whole expansions, with what is clean after them, are read whole, without a finding
-pub clean : (b : BundlePlace) (at : Bases) (names : List PlacedName) → AreStarts b at names → (count : ℕ) (slots more : List Slot)
+pub clean : (b : BundlePlace) (at : Bases) (names : List PlacedName) → AreStarts b at names → has_words b.format ≡ false → (count : ℕ) (slots more : List Slot)
     → AreWhole b.format count slots → IsCleanAfter b at names more → IsCleanAfter b at names (slots ++ more)
-clean b at names starts count _ more nothing rest here earlier = rest here earlier
-clean b at names starts count _ more (padding slots w) rest here earlier =
+clean b at names starts bundled count _ more nothing rest here earlier = rest here earlier
+clean b at names starts bundled count _ more (padding slots w) rest here earlier =
     known b at names here earlier c_nop (OpImm Addi 0 0 (pos 0)) (slots ++ more) refl tt
     (calm_passes b here earlier (OpImm Addi 0 0 (pos 0)) (slots ++ more) refl refl (bool.and_right (has_stack b.format) false refl))
-    (clean b at names starts count slots more w rest (here + 2) (OpImm Addi 0 0 (pos 0) ∷ earlier))
-clean b at names starts count _ more (whole_expansion x expanded slots p is e w) rest here earlier =
+    (clean b at names starts bundled count slots more w rest (here + 2) (OpImm Addi 0 0 (pos 0) ∷ earlier))
+clean b at names starts bundled count _ more (whole_expansion x expanded slots p is e w) rest here earlier =
     subst (IsCleanly b at names here earlier) (sym (append_assoc expanded slots more))
-    (body_clean b at names starts here earlier x.line x.rvc x.body count expanded (slots ++ more) p.operands p.no_ecall p.no_stack_write is e
-    (clean b at names starts count slots more w rest))
+    (body_clean b at names starts here earlier x.line x.rvc x.body count expanded (slots ++ more) (sym (same_withheld b.format x.body bundled) ∙ p.operands) p.no_ecall p.no_stack_write is e
+    (clean b at names starts bundled count slots more w rest))
 
 -- c.ebreaks are
 pub clean_fill : (b : BundlePlace) (at : Bases) (names : List PlacedName) (n : ℕ) → IsCleanAfter b at names (replicate n c_ebreak)

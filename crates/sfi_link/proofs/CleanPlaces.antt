@@ -6,6 +6,7 @@ use Rattle.rv_word.specs.Numbers.{modulo, offset_by}
 use Rattle.rv_word.specs.Writes.{writes_register}
 use Rattle.rv_word.specs.declared.instr.RegOp.TheVariants.{And, Or}
 use Rattle.sfi_policy.specs.Registers.{is_reserved, is_withheld}
+use Rattle.sfi_policy.specs.declared.format.Format.TheVariants.{Sfi1}
 use Rattle.sfi_rewrite.specs.Registers.{names_withheld}
 use Rattle.sfi_rules.specs.Findings.{lowest, all_rules, findings_from}
 use Rattle.sfi_rules.specs.Rules.{is_empty, is_bundle_start, breaks_ecall, breaks_reserved, breaks_access, breaks_jump, breaks_target, breaks_end, breaks_stack, may_write_stack, ends_region, is_last_bundle}
@@ -111,7 +112,7 @@ is_calm Ebreak = true
 is_calm _ = false
 
 -- an instruction that names no withheld register writes no reserved one
-pub writes_unreserved : (i : Instr) → names_withheld i ≡ false → breaks_reserved i ≡ false
+pub writes_unreserved : (i : Instr) → names_withheld Sfi1 i ≡ false → breaks_reserved i ≡ false
 writes_unreserved (Op op rd rs1 rs2) h = unreserved rd (or_left (is_withheld rd) (is_withheld rs1) (or_left (is_withheld rd || is_withheld rs1) (is_withheld rs2) h))
 writes_unreserved (OpImm op rd rs1 imm) h = unreserved rd (or_left (is_withheld rd) (is_withheld rs1) h)
 writes_unreserved (Load kind rd rs1 imm) h = unreserved rd (or_left (is_withheld rd) (is_withheld rs1) h)
@@ -174,7 +175,7 @@ lands (pos n) here a e h g = omega (arith, ints)
 lands (negsuc n) here a e h g = back_to n here a (pos here +ℤ negsuc n) e refl h g
 
 pub direct : (b : BundlePlace) (here : ℕ) (earlier : List Instr) (j : Instr) (z : ℤ) (later : List Piece) (names : ℕ) (name : ℕ) → IsBody names (To j name)
-    → names_withheld j ≡ false → stack.is_stack_write b.format (To j name) ≡ false → is_bundle_start b (offset_by here z) ≡ true
+    → names_withheld Sfi1 j ≡ false → stack.is_stack_write b.format (To j name) ≡ false → is_bundle_start b (offset_by here z) ≡ true
     → breaks_end (place b here earlier (with_offset z j) later) (with_offset z j) ≡ false → Passes (place b here earlier (with_offset z j) later)
 direct b here earlier (Jal rd offset) z later names name d h w s e =
     record { v3 = refl; v4 = unreserved rd h; v5 = refl; v6 = refl; v7 = ap not s; v8 = e; v10 = no_write (place b here earlier (Jal rd z) later) (Jal rd z) w }

@@ -3,7 +3,11 @@ use Rattle.sfi_link.proofs.Prelude.{◌≡◌, ℕ, ◌+◌, ◌-◌, ◌*◌, �
 use Rattle.sfi_image.specs.Gates.{is_gate_of}
 use Rattle.sfi_image.specs.Regions.{IsBundleStart}
 use Rattle.sfi_rewrite.specs.declared.placed.PlacedName.TheVariants.{Gate, Code, Data, Unknown}
-use Rattle.sfi_policy.specs.Formats.{has_words}
+use Rattle.std.specs.Prelude.{◌%◌, Bool, false, MatchBool}
+use Rattle.std.proofs.lemmas.Bool.{true≢false}
+use Rattle.sfi_policy.specs.Formats.{has_words, unit}
+use Rattle.sfi_policy.specs.declared.format.Format.TheVariants.{Sfi1, Sfi2, Sfiw}
+use Rattle.sfi_rewrite.specs.Placed.{AreOfItems, AreWholeIn}
 use Rattle.sfi_rules.specs.Findings.{AreFindings, AreFindingsFrom}
 use Rattle.sfi_rules.proofs.Facts.{of_bundles, same_bundle_starts}
 use Rattle.std.proofs.lemmas.Option.{slice_get_within, get_or_from_slice_get}
@@ -21,6 +25,15 @@ use Rattle.sfi_link.proofs.Parts.{lies_well, sixteens, slots_length, listed_at, 
 of_place : (f : PlacedName → Option ℕ) (o : Option PlacedName) (a : ℕ) → of_name f o ≡ Some a → (n : PlacedName) × (o ≡ Some n) × (f n ≡ Some a)
 of_place f None a e = cc
 of_place f (Some n) a e = (n, refl, e)
+
+-- a unit of code in bundles is a bundle, and each bundle holds whole expansions
+bundle_unit : (f : Format) → has_words f ≡ false → unit f ≡ 16
+bundle_unit Sfi1 e = refl
+bundle_unit Sfi2 e = refl
+bundle_unit Sfiw e = absurd (true≢false e)
+
+bundles_whole : (f : Format) (count : ℕ) (bundles : List (List Slot)) → has_words f ≡ false → AreWholeIn f count bundles → All (AreWhole f count) bundles
+bundles_whole f count bundles e whole = subst (λ (b : Bool). MatchBool b (AreOfItems count (slots_of bundles)) (All (AreWhole f count) bundles)) e whole
 
 -- the target of a jump to a name is a bundle start
 target_starts : (given : List Place) → (number : ℕ) (p : Placement) (q : Part) → IsLinked given number p q → (n : PlacedName) → IsPlacedThere p n → (to : ℕ) → target_of (bases_of given number p) n ≡ Some to
@@ -42,7 +55,7 @@ target_starts given number p q linked (Code offset) there to e =
     let well = lies_well given number p q linked in
     let end = well.end in
     let whole = well.even in
-    let even = there.0 in
+    let even : offset % 16 ≡ 0 = ap (λ n. offset % n) (sym (bundle_unit p.format linked.code.bundled)) ∙ there.0 in
     let within = there.1 in
     (record { held = (omega arith, omega arith); aligned = omega arith }, omega arith)
 target_starts given number p q linked (Data offset) there to e = cc
@@ -77,13 +90,14 @@ closed given number p q placed linked =
     let sized = size_of-append (slots_of p.bundles) (replicate code.fill c_ebreak) in
     let fill = size_fill code.fill in
     let n : ℕ = counted.0 - length p.gates in
-    let whole = filled q.format (length p.names) p.bundles placed.bundles (subst (λ (f : Format). All (AreWhole f (length p.names)) p.bundles) (sym linked.format) placed.whole) code.fill n (omega arith) (omega arith) in
+    let whole = filled q.format (length p.names) p.bundles placed.bundles (subst (λ (f : Format). All (AreWhole f (length p.names)) p.bundles) (sym linked.format) (bundles_whole p.format (length p.names) p.bundles linked.code.bundled placed.whole)) code.fill n (omega arith) (omega arith) in
     let count = whole.count in
     let at = bases_of given number p in
     let same : (k : ℕ) → is_gate_of q.gates (q.code_base + 16 * k) ≡ is_gate_of (gates_from at.code p.gates) (at.code + 16 * k) =
     λ k. ap (λ gs. is_gate_of gs (q.code_base + 16 * k)) gates ∙ ap (λ a. is_gate_of (gates_from at.code p.gates) (a + 16 * k)) base in (
       whole.full,
       record {
+        bundled = ap has_words linked.format ∙ linked.code.bundled;
         starts = are_starts given number p q placed linked;
         start = omega arith;
         room = omega arith;
@@ -101,7 +115,7 @@ closed given number p q placed linked =
 pub linked_is_clean : (given : List Place) (number : ℕ) (p : Placement) (q : Part) → IsPlacedPart p → IsLinked given number p q → AreFindings number q []
 linked_is_clean given number p q placed linked =
     let c = closed given number p q placed linked in
-    of_bundles number q [] (ap has_words linked.format ∙ placed.bundled) (closed_is_clean number q (bases_of given number p) p.names (length p.gates) c.0 c.1 c.2)
+    of_bundles number q [] (ap has_words linked.format ∙ linked.code.bundled) (closed_is_clean number q (bases_of given number p) p.names (length p.gates) c.0 c.1 c.2)
 
 pub all_are_clean : (given : List Place) (number : ℕ) (placed : List Placement) (parts : List Part) → All IsPlacedPart placed → AreLinkedFrom given number placed parts → AreFindingsFrom number parts []
 all_are_clean given number [] parts all linked = subst (λ qs. AreFindingsFrom number qs []) (sym linked) refl

@@ -1,5 +1,6 @@
 -- From the code of each sandbox to the image.
-use Rattle.sfi_link.proofs.Prelude.{◌≡◌, ℕ, zero, suc, ◌+◌, ◌-◌, ◌*◌, ◌/◌, ◌^◌, ◌<◌, ◌≤◌, List, [], ◌∷◌, ◌++◌, length, take, drop, get_or, replicate, refl, sym, ap, ◌∙◌, subst, arith, append_assoc, append-nil, length-append, inl, inr, Vec, Global, max, map, Result, Ok, Err, IfOk, All, AllPairs, repeat, cases_lt, length-map, length-take-le, map_push, All-nil, Format, code_most, Sandbox, Span, Part, fields_of, stub, PlacedName, size_of, slots_of, Placement, IsPlacedPart, IsPlacedThere, Place, Bases, LinkFault, place_of, IsRightPlace, spans_at, AreApart, spans, spans_of, bases_of, AreSlots, c_ebreak, needed, HasRoom, IsCodeSize, gates_from, IsLinkedCode, IsLinked, AreLinkedFrom, AreLinked, MayLie, IsSlotFault, HasPartFault, IsPartFault, IsLinkFault, IsNear, AreNear, HasRoomFor, AreWritten, LiesBeside, IsCodeBeside, AreCodes, Links}
+use Rattle.sfi_link.proofs.Prelude.{◌≡◌, ℕ, zero, suc, false, ◌+◌, ◌-◌, ◌*◌, ◌/◌, ◌^◌, ◌<◌, ◌≤◌, List, [], ◌∷◌, ◌++◌, length, take, drop, get_or, replicate, refl, sym, ap, ◌∙◌, subst, arith, append_assoc, append-nil, length-append, inl, inr, Vec, Global, max, map, Result, Ok, Err, IfOk, All, AllPairs, repeat, cases_lt, length-map, length-take-le, map_push, All-nil, Format, code_most, Sandbox, Span, Part, fields_of, stub, PlacedName, size_of, slots_of, Placement, IsPlacedPart, IsPlacedThere, Place, Bases, LinkFault, place_of, IsRightPlace, spans_at, AreApart, spans, spans_of, bases_of, AreSlots, c_ebreak, needed, HasRoom, IsCodeSize, gates_from, IsLinkedCode, IsLinked, AreLinkedFrom, AreLinked, MayLie, IsSlotFault, HasPartFault, IsPartFault, IsLinkFault, IsNear, AreNear, HasRoomFor, AreWritten, LiesBeside, IsCodeBeside, AreCodes, Links}
+use Rattle.sfi_policy.specs.Formats.{has_words}
 use Rattle.rv_source.specs.declared.item.SourceGate.{SourceGate}
 use Rattle.sfi_image.specs.Bounded.{IsBounded}
 use Rattle.sfi_link.specs.Answers.{UnlessMemory, AnswersItems, AnswersFault}
@@ -98,10 +99,10 @@ length_pairs zero = refl
 length_pairs (suc n) = let h = length_pairs n in omega arith
 
 -- the stubs, the slots and so many c.ebreaks that the size is reached
-pub linked_code : (given : List Place) → (number : ℕ) (p : Placement) (at : Bases) (size fill : ℕ) (stubs now code : List ℕ) → at ≡ bases_of given number p → IsCodeSize p.format (needed p) size
+pub linked_code : (given : List Place) → (number : ℕ) (p : Placement) (at : Bases) (size fill : ℕ) (stubs now code : List ℕ) → has_words p.format ≡ false → at ≡ bases_of given number p → IsCodeSize p.format (needed p) size
     → stubs ≡ repeat (length p.gates) stub → AreWritten at p.names (slots_of p.bundles) stubs now → fill ≡ (size - length now) / 2 → code ≡ now ++ repeat fill pair
     → IsLinkedCode given number p code
-linked_code given number p at size fill stubs now code is sized stubs_are written count code_is =
+linked_code given number p at size fill stubs now code bundled is sized stubs_are written count code_is =
     let room = sized.has_room.room in
     let sixteen = (sixteens p.format (needed p) size sized.has_room).1 in
     let stubs_long : length stubs ≡ 16 * length p.gates = ap length stubs_are ∙ length_stubs (length p.gates) in
@@ -116,6 +117,7 @@ linked_code given number p at size fill stubs now code is sized stubs_are writte
     subst (λ n. AreSlots at p.names n (slots_of p.bundles ++ replicate fill c_ebreak) (written.bytes ++ repeat fill pair)) start
     (slots-append at p.names (at.code + length stubs) (slots_of p.bundles) (replicate fill c_ebreak) written.bytes (repeat fill pair) written.spelled (fill_slots at p.names _ fill)) in
     record {
+      bundled = bundled;
       size = subst (IsCodeSize p.format (needed p)) (sym whole) sized;
       fill = fill;
       bytes = written.bytes ++ repeat fill pair;
@@ -142,20 +144,20 @@ code_room given number p at size stubs room lies is stubs_are =
     let bound = code_at_most p.format in
     record { below = omega arith; within = omega arith }
 
-pub part_refused : (given : List Place) → (number : ℕ) (p : Placement) (before : List Span) (at : Bases) (stubs : List ℕ) (f : LinkFault) → at ≡ bases_of given number p → MayLie given number p before → stubs ≡ repeat (length p.gates) stub
+pub part_refused : (given : List Place) → (number : ℕ) (p : Placement) (before : List Span) (at : Bases) (stubs : List ℕ) (f : LinkFault) → has_words p.format ≡ false → at ≡ bases_of given number p → MayLie given number p before → stubs ≡ repeat (length p.gates) stub
     → UnlessMemory (IsSlotFault at p.names (at.code + length stubs) (slots_of p.bundles)) f → UnlessMemory (HasPartFault given number p before) f
-part_refused given number p before at stubs f is may stubs_are h =
+part_refused given number p before at stubs f bundled is may stubs_are h =
     let a : length stubs ≡ 16 * length p.gates = ap length stubs_are ∙ length_stubs (length p.gates) in
     let b = ap (λ (b : Bases). b.code) is in
     let start : at.code + length stubs ≡ (bases_of given number p).start = omega (arith, a, b) in
     let Slots : Bases → ℕ → LinkFault → Type 0 = λ c n g. IsSlotFault c p.names n (slots_of p.bundles) g in
     then_unless (Slots at (at.code + length stubs)) (HasPartFault given number p before)
-    (λ g x. inr (inr (may, subst (λ (c : Bases). Slots c (bases_of given number p).start g) is (subst (λ n. Slots at n g) start x)))) f h
+    (λ g x. inr (bundled, inr (inr (may, subst (λ (c : Bases). Slots c (bases_of given number p).start g) is (subst (λ n. Slots at n g) start x))))) f h
 
 -- what is known of the sandbox that lies beside those spans, or doesn't
-pub place_refused : (given : List Place) (number : ℕ) (p : Placement) (size : ℕ) (before : List Span) → IsCodeSize p.format (needed p) size
+pub place_refused : (given : List Place) (number : ℕ) (p : Placement) (size : ℕ) (before : List Span) → has_words p.format ≡ false → IsCodeSize p.format (needed p) size
     → (IsRightPlace p size (place_of given number) → ¬ AllPairs AreApart (before ++ spans_at p size (place_of given number))) → HasPartFault given number p before (named.Place number)
-place_refused given number p size before sized wrong = inr (inl (λ large. large size sized.has_room, not_there, refl))
+place_refused given number p size before bundled sized wrong = inr (bundled, inr (inl (λ large. large size sized.has_room, not_there, refl)))
   where
     not_there : MayLie given number p before → ⊥
     not_there may =

@@ -1,5 +1,7 @@
 -- One list of sandboxes is made of what is placed, or it has one fault.
 use Rattle.sfi_link.proofs.Prelude.{append_assoc, ◌≡◌, ℕ, ◌+◌, ◌*◌, ◌≤◌, List, [], ◌∷◌, ◌++◌, length, replicate, Option, Some, None, sym, ap, ◌∙◌, subst, arith, inl, inr, length-append, pos, ◌-ℤ◌, repeat, w32, to_le_bytes, Instr, InRange, spelling, Format, Part, fields_of, stub, Slot, Wide, Short, Jump, Upper, Lower, PlacedName, slot_size, size_of, slots_of, Placement, Place, Bases, LinkFault, bases_of, address_at, target_at, with_offset, made_of, IsSlot, AreSlots, place_of, spans_at, Span, AreApart, with_guards, spans_of, spans, AllPairs, c_ebreak, needed, IsCodeSize, IsLinkedCode, IsLinked, AreLinkedFrom, AreLinked, HasSlotFault, IsSlotFault, HasPartFault, IsPartFault, IsLinkFault}
+use Rattle.std.proofs.lemmas.Bool.{true≢false}
+use Rattle.sfi_link.specs.Faults.{HasBundledFault}
 use Rattle.std.proofs.lemmas.Option.{none-some}
 use Rattle.sfi_image.proofs.SpanLists.{front_apart}
 use Rattle.sfi_rewrite.proofs.Sizes.{size_of-append}
@@ -116,28 +118,39 @@ own_spans given number p q linked = of q.code_base q.data_base q.data_size _ _ _
     of : (a b c x y z : ℕ) → a ≡ x → b ≡ y → c ≡ z → two a b c ≡ two x y z
     of a b c x y z e f g = ap (λ n. two n b c) e ∙ ap (λ n. two x n c) f ∙ ap (λ n. two x y n) g
 
-never_part : (given : List Place) → (number : ℕ) (p : Placement) (q : Part) (before : List Span) (f : LinkFault) → IsLinked given number p q → AllPairs AreApart (before ++ spans_of (fields_of q))
-    → HasPartFault given number p before f → ⊥
-never_part given number p q before f linked apart (inl h) = h.0 (length q.code) linked.code.size.has_room
-never_part given number p q before f linked apart (inr (inl h)) =
+never_bundled : (given : List Place) → (number : ℕ) (p : Placement) (q : Part) (before : List Span) (f : LinkFault) → IsLinked given number p q → AllPairs AreApart (before ++ spans_of (fields_of q))
+    → HasBundledFault given number p before f → ⊥
+never_bundled given number p q before f linked apart (inl h) = h.0 (length q.code) linked.code.size.has_room
+never_bundled given number p q before f linked apart (inr (inl h)) =
     h.1 (record {
       size = length q.code;
       least = linked.code.size;
       right = linked.lies;
       apart = subst (λ l. AllPairs AreApart (before ++ l)) (own_spans given number p q linked) apart;
     })
-never_part given number p q before f linked apart (inr (inr h)) = never_slots _ _ _ (slots_of p.bundles) (replicate linked.code.fill c_ebreak) linked.code.bytes f linked.code.slots h.1
+never_bundled given number p q before f linked apart (inr (inr h)) = never_slots _ _ _ (slots_of p.bundles) (replicate linked.code.fill c_ebreak) linked.code.bytes f linked.code.slots h.1
+
+one_of_bundled : (given : List Place) → (number : ℕ) (p : Placement) (before : List Span) (f g : LinkFault) → HasBundledFault given number p before f → HasBundledFault given number p before g → f ≡ g
+one_of_bundled given number p before f g (inl a) (inl b) = a.1 ∙ sym b.1
+one_of_bundled given number p before f g (inl a) (inr (inl b)) = absurd (b.0 a.0)
+one_of_bundled given number p before f g (inl a) (inr (inr b)) = absurd (a.0 b.0.size b.0.least.has_room)
+one_of_bundled given number p before f g (inr (inl a)) (inl b) = absurd (a.0 b.0)
+one_of_bundled given number p before f g (inr (inl a)) (inr (inl b)) = a.2 ∙ sym b.2
+one_of_bundled given number p before f g (inr (inl a)) (inr (inr b)) = absurd (a.1 b.0)
+one_of_bundled given number p before f g (inr (inr a)) (inl b) = absurd (b.0 a.0.size a.0.least.has_room)
+one_of_bundled given number p before f g (inr (inr a)) (inr (inl b)) = absurd (b.1 a.0)
+one_of_bundled given number p before f g (inr (inr a)) (inr (inr b)) = one_slot_fault _ _ _ (slots_of p.bundles) f g a.1 b.1
+
+never_part : (given : List Place) → (number : ℕ) (p : Placement) (q : Part) (before : List Span) (f : LinkFault) → IsLinked given number p q → AllPairs AreApart (before ++ spans_of (fields_of q))
+    → HasPartFault given number p before f → ⊥
+never_part given number p q before f linked apart (inl h) = absurd (true≢false (sym h.0 ∙ linked.code.bundled))
+never_part given number p q before f linked apart (inr h) = never_bundled given number p q before f linked apart h.1
 
 one_of_part : (given : List Place) → (number : ℕ) (p : Placement) (before : List Span) (f g : LinkFault) → HasPartFault given number p before f → HasPartFault given number p before g → f ≡ g
 one_of_part given number p before f g (inl a) (inl b) = a.1 ∙ sym b.1
-one_of_part given number p before f g (inl a) (inr (inl b)) = absurd (b.0 a.0)
-one_of_part given number p before f g (inl a) (inr (inr b)) = absurd (a.0 b.0.size b.0.least.has_room)
-one_of_part given number p before f g (inr (inl a)) (inl b) = absurd (a.0 b.0)
-one_of_part given number p before f g (inr (inl a)) (inr (inl b)) = a.2 ∙ sym b.2
-one_of_part given number p before f g (inr (inl a)) (inr (inr b)) = absurd (a.1 b.0)
-one_of_part given number p before f g (inr (inr a)) (inl b) = absurd (b.0 a.0.size a.0.least.has_room)
-one_of_part given number p before f g (inr (inr a)) (inr (inl b)) = absurd (b.1 a.0)
-one_of_part given number p before f g (inr (inr a)) (inr (inr b)) = one_slot_fault _ _ _ (slots_of p.bundles) f g a.1 b.1
+one_of_part given number p before f g (inl a) (inr b) = absurd (true≢false (sym a.0 ∙ b.0))
+one_of_part given number p before f g (inr a) (inl b) = absurd (true≢false (sym b.0 ∙ a.0))
+one_of_part given number p before f g (inr a) (inr b) = one_of_bundled given number p before f g a.1 b.1
 
 -- ---- of all
 

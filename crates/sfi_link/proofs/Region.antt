@@ -1,5 +1,6 @@
 -- A region of clean bundles has no finding.
 use Rattle.sfi_link.proofs.Prelude.{◌≡◌, ℕ, zero, suc, ◌+◌, ◌-◌, ◌*◌, ◌^◌, ◌<◌, ◌≤◌, List, [], ◌∷◌, ◌++◌, length, take, drop, get_or, Bool, true, false, refl, sym, ap, ◌∙◌, subst, arith, inl, inr, length-append, append_assoc, replicate, ◌==◌, ◌&&◌, not, pos, All, flat_map, repeat, cases_lt, cases_eq, ne_eqb, and_left, and_right, not_from_true, ints, length-replicate, get_or-replicate, get_or_append_left, get_or-append-add, All-head, All-tail, All-nil, All-cons, All-append, All-replicate, Op, Jalr, Ecall, InRange, spelling, Format, Instr, has_stack, c_ebreak, Part, stub, Piece, IsReading, Slot, PlacedName, slot_size, size_of, slots_of, AreWhole, Bases, AreSlots}
+use Rattle.sfi_policy.specs.Formats.{has_words}
 use Rattle.rv_word.specs.declared.instr.RegOp.TheVariants.{And, Or}
 use Rattle.sfi_image.specs.Gates.{is_gate_of}
 use Rattle.sfi_rules.specs.Bundles.{bundle_bytes}
@@ -106,22 +107,22 @@ pub record AreChunks (b : BundlePlace) (here : ℕ) (full : List (List Slot)) (b
   pub all : All IsChunk chunks
   pub each : (k : ℕ) (listed : Bool) → k < length full → IsCleanFrom (record b { address = here + 16 * k; listed = listed }) (here + 16 * k) [] (get_or full k []) (get_or chunks k [])
 
-full_clean : (b : BundlePlace) (at : Bases) (names : List PlacedName) → AreStarts b at names → (count : ℕ) (x : List Slot) → IsFull b.format count x
+full_clean : (b : BundlePlace) (at : Bases) (names : List PlacedName) → AreStarts b at names → has_words b.format ≡ false → (count : ℕ) (x : List Slot) → IsFull b.format count x
     → (here : ℕ) (earlier : List Instr) → IsCleanly b at names here earlier x
-full_clean b at names starts count x f here earlier =
+full_clean b at names starts bundled count x f here earlier =
     subst (IsCleanly b at names here earlier) (sym f.shape)
-    (clean b at names starts count f.front (replicate f.fill c_ebreak) f.whole (clean_fill b at names f.fill) here earlier)
+    (clean b at names starts bundled count f.front (replicate f.fill c_ebreak) f.whole (clean_fill b at names f.fill) here earlier)
 
-chunked : (b : BundlePlace) (at : Bases) (names : List PlacedName) → AreStarts b at names → (here count : ℕ) (full : List (List Slot)) (bytes : List ℕ) → All (IsFull b.format count) full
+chunked : (b : BundlePlace) (at : Bases) (names : List PlacedName) → AreStarts b at names → has_words b.format ≡ false → (here count : ℕ) (full : List (List Slot)) (bytes : List ℕ) → All (IsFull b.format count) full
     → AreSlots at names here (slots_of full) bytes → here + 16 * length full ≤ 2 ^ 32 → AreChunks b here full bytes
-chunked b at names starts here count [] bytes all s room = record { chunks = []; whole = s; count = refl; all = All-nil IsChunk; each = λ k l h. absurd (omega arith) }
-chunked b at names starts here count (x ∷ full) bytes all s room =
+chunked b at names starts bundled here count [] bytes all s room = record { chunks = []; whole = s; count = refl; all = All-nil IsChunk; each = λ k l h. absurd (omega arith) }
+chunked b at names starts bundled here count (x ∷ full) bytes all s room =
     let f = All-head (IsFull b.format count) x full all in
     let c = cut at names here x (slots_of full) bytes s in
     let z = f.size in
     let n : here + size_of x ≡ here + 16 = omega arith in
-    let more = chunked b at names starts (here + 16) count full c.rest (All-tail (IsFull b.format count) x full all) (subst (λ m. AreSlots at names m (slots_of full) c.rest) n c.second) (omega arith) in
-    let one = λ (l : Bool). full_clean (record b { address = here; listed = l }) at names starts count x f here [] (omega arith) c.front c.first in
+    let more = chunked b at names starts bundled (here + 16) count full c.rest (All-tail (IsFull b.format count) x full all) (subst (λ m. AreSlots at names m (slots_of full) c.rest) n c.second) (omega arith) in
+    let one = λ (l : Bool). full_clean (record b { address = here; listed = l }) at names starts bundled count x f here [] (omega arith) c.front c.first in
     record {
       chunks = c.front ∷ more.chunks;
       whole = c.whole ∙ ap (λ l. c.front ++ l) more.whole;
@@ -194,6 +195,7 @@ length_stubs n = let a = ap length (stubs_are n) in let b = length-join (replica
 
 -- the code is stubs, one a gate, and then full bundles, the last of which ends in c.ebreak
 pub record IsClosed (p : Part) (at : Bases) (names : List PlacedName) (stubs : ℕ) (full : List (List Slot)) : Type 0 where
+  pub bundled : has_words p.format ≡ false
   pub starts : (sandbox : ℕ) → AreStarts (place_of sandbox p 0) at names
   pub start : at.start ≡ p.code_base + 16 * stubs
   pub room : p.code_base + length p.code ≤ 2 ^ 32
@@ -217,7 +219,7 @@ region_size p stubs full bytes e n =
 pub closed_is_clean : (sandbox : ℕ) (p : Part) (at : Bases) (names : List PlacedName) (stubs : ℕ) (full : List (List Slot)) → IsClosed p at names stubs full
     → at.start + 16 * length full ≤ 2 ^ 32 → AreFindingsInBundles sandbox p []
 closed_is_clean sandbox p at names stubs full h fits =
-    let c = chunked (place_of sandbox p 0) at names (h.starts sandbox) at.start (length names) full h.bytes h.all h.slots fits in
+    let c = chunked (place_of sandbox p 0) at names (h.starts sandbox) h.bundled at.start (length names) full h.bytes h.all h.slots fits in
     let count = c.count in
     let start = h.start in
     let some = h.some in

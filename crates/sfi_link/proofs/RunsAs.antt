@@ -10,7 +10,9 @@ use Rattle.sfi_link.specs.Standing.{AreResolvedTo, RunsAs, LinkedRunsAs, LinkedI
 use Rattle.sfi_rewrite.specs.Expansion.{jump_slots, IsAlone, IsMasked, IsExpansionOf}
 use Rattle.sfi_rewrite.specs.Rewriting.{IsRewritten, AreRewritten}
 use Rattle.sfi_rewrite.specs.Stack.{is_on_stack, stack_pair, put_back}
-use Rattle.sfi_rewrite.specs.Transparency.{IsAimed, MayBe}
+use Rattle.sfi_policy.specs.Formats.{has_words}
+use Rattle.sfi_rewrite.specs.Transparency.{IsAimed, MayBe, StandsTransparent}
+use Rattle.sfi_rewrite.specs.words.Transparency as words
 use Rattle.sfi_rewrite.specs.Stack.{writes_stack}
 use Rattle.sfi_rewrite.proofs.Facts.{rewritten_is_transparent}
 use Rattle.sfi_link.proofs.CleanPlaces.{made}
@@ -104,7 +106,9 @@ regroup_bytes stubs front mid rest bytes more e f = ap (λ v. stubs ++ v) (e ∙
 item_runs_as : (given : List Place) → (number : ℕ) (s : Sandbox) (p : Placement) (q : Part) (k : ℕ) (x : Item) → IsSandbox s → IsRewritten s p → IsRightPart q
     → IsLinked given number p q → slice_get s.items k ≡ Some x → RunsAs given number s.format s.items p q k x
 item_runs_as given number s p q k x sandbox r right linked at =
-    let st = rewritten_is_transparent s p r k x at in
+    let bundled : has_words s.format ≡ false = ap has_words (sym r.placement.format) ∙ linked.code.bundled in
+    let st : StandsTransparent s.format s.items p k x =
+    subst (λ (b : Bool). MatchBool b (words.StandsTransparent s.items p k x) (StandsTransparent s.format s.items p k x)) bundled (rewritten_is_transparent s p r k x at) in
     let b = bases_of given number p in
     let lead = st.before ++ replicate st.nops c_nop in
     let fill = replicate linked.code.fill c_ebreak in

@@ -4,6 +4,8 @@ use Rattle.rv_comp.specs.Halfwords.{halfword_of}
 use Rattle.rv_word.specs.Numbers.{modulo, minus, IsBetween, IsEven}
 use Rattle.sfi_link.specs.Laws.{SomeLinking}
 use Rattle.sfi_link.specs.declared.fault.LinkFault.TheVariants.{UnknownName, BranchReach, TooLarge, TooManySandboxes}
+use Rattle.std.specs.Prelude.{Bool, true, false}
+use Rattle.sfi_policy.specs.Formats.{has_words}
 use Rattle.sfi_policy.specs.Limits.{data_most}
 use Rattle.std.proofs.Math.Nat.{pow-suc}
 use Rattle.std.proofs.lemmas.List.{append-nil, append_assoc}
@@ -145,10 +147,10 @@ size_or_none f needed =
 
 -- ---- a sandbox
 
-part_made : (given : List Place) → (number : ℕ) (p : Placement) (size : ℕ) (bytes : List ℕ) → IsCodeSize p.format (needed p) size
+part_made : (given : List Place) → (number : ℕ) (p : Placement) (size : ℕ) (bytes : List ℕ) → has_words p.format ≡ false → IsCodeSize p.format (needed p) size
     → IsRightPlace p size (place_of given number) → AreSlots (bases_of given number p) p.names (bases_of given number p).start (slots_of p.bundles) bytes
     → (q : image.Part) × IsLinked given number p q × (length q.code ≡ size)
-part_made given number p size bytes sized lies slots =
+part_made given number p size bytes bundled sized lies slots =
     let at = bases_of given number p in
     let stubs = repeat (length p.gates) stub in
     let now = stubs ++ bytes in
@@ -158,7 +160,7 @@ part_made given number p size bytes sized lies slots =
     record { bytes = bytes; appended = refl; spelled = subst (λ n. AreSlots at p.names n (slots_of p.bundles) bytes) start slots } in
     let fill = (size - length now) / 2 in
     let code = now ++ repeat fill pair in
-    let linked : IsLinkedCode given number p code = linked_code given number p at size fill stubs now code refl sized refl written refl refl in
+    let linked : IsLinkedCode given number p code = linked_code given number p at size fill stubs now code bundled refl sized refl written refl refl in
     let whole : length code ≡ size = one_size p.format (needed p) (length code) size linked.size sized in
     let made = part_of given number p code linked (subst (λ n. IsRightPlace p n (place_of given number)) (sym whole) lies) in
     (made.0, made.1, ap length made.2 ∙ whole)
@@ -192,18 +194,25 @@ made_apart given number p before q size linked long apart =
     let own : spans (q ∷ []) ≡ spans_at p size (place_of given number) = own_spans given number p q linked ∙ ap (λ n. spans_at p n (place_of given number)) long in
     record { part = q; linked = linked; apart = subst (λ l. AllPairs AreApart (before ++ l)) (sym own) apart }
 
-part_or_fault : (given : List Place) (number : ℕ) (p : Placement) (before : List Span) → IsPlacedPart p → IsMade given number p before ⊎ ((f : LinkFault) × HasPartFault given number p before f)
-part_or_fault given number p before right =
+bundled_or_fault : (given : List Place) (number : ℕ) (p : Placement) (before : List Span) → IsPlacedPart p → has_words p.format ≡ false → IsMade given number p before ⊎ ((f : LinkFault) × HasPartFault given number p before f)
+bundled_or_fault given number p before right bundled =
     elim (size_or_none p.format (needed p)) [
-      | inr none ↦ inr (TooLarge number, inl (none, refl))
+      | inr none ↦ inr (TooLarge number, inr (bundled, inl (none, refl)))
       | inl sized ↦ elim (lies_or_not given number p before sized.0 sized.1) [
-        | inr nowhere ↦ inr (named.Place number, inr (inl (λ large. large sized.0 sized.1.has_room, nowhere, refl)))
+        | inr nowhere ↦ inr (named.Place number, inr (bundled, inr (inl (λ large. large sized.0 sized.1.has_room, nowhere, refl))))
         | inl lies ↦ elim (slots_or_fault (bases_of given number p) p.names (bases_of given number p).start (slots_of p.bundles) right.encodes) [
-          | inr wrong ↦ inr (wrong.0, inr (inr (record { size = sized.0; least = sized.1; right = lies.0; apart = lies.1 }, wrong.1)))
-          | inl slots ↦ inl (let made = part_made given number p sized.0 slots.0 sized.1 lies.0 slots.1 in made_apart given number p before made.0 sized.0 made.1 made.2 lies.1)
+          | inr wrong ↦ inr (wrong.0, inr (bundled, inr (inr (record { size = sized.0; least = sized.1; right = lies.0; apart = lies.1 }, wrong.1))))
+          | inl slots ↦ inl (let made = part_made given number p sized.0 slots.0 bundled sized.1 lies.0 slots.1 in made_apart given number p before made.0 sized.0 made.1 made.2 lies.1)
         ]
       ]
     ]
+
+words_or_not : (b : Bool) (given : List Place) (number : ℕ) (p : Placement) (before : List Span) → has_words p.format ≡ b → IsPlacedPart p → IsMade given number p before ⊎ ((f : LinkFault) × HasPartFault given number p before f)
+words_or_not true given number p before e right = inr (named.Words number, inl (e, refl))
+words_or_not false given number p before e right = bundled_or_fault given number p before right e
+
+part_or_fault : (given : List Place) (number : ℕ) (p : Placement) (before : List Span) → IsPlacedPart p → IsMade given number p before ⊎ ((f : LinkFault) × HasPartFault given number p before f)
+part_or_fault given number p before right = words_or_not (has_words p.format) given number p before refl right
 
 -- ---- all
 

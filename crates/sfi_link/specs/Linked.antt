@@ -1,9 +1,9 @@
 -- The sandbox of an image that is made of a placed one.
-use Rattle.std.specs.Prelude.{◌≡◌, ℕ, ◌+◌, ◌*◌, ◌^◌, ◌≤◌, List, [], ◌∷◌, ◌++◌, length, replicate}
+use Rattle.std.specs.Prelude.{◌≡◌, ℕ, ◌+◌, ◌*◌, ◌^◌, ◌≤◌, List, [], ◌∷◌, ◌++◌, false, length, replicate}
 use Rattle.std.specs.List.{repeat, AllPairs}
 use Rattle.rv_comp.specs.declared.form.Form16.TheVariants.{CEbreak}
 use Rattle.sfi_policy.specs.declared.format.Format.{Format}
-use Rattle.sfi_policy.specs.Formats.{code_most}
+use Rattle.sfi_policy.specs.Formats.{code_most, has_words}
 use Rattle.rv_source.specs.declared.item.SourceGate.{SourceGate}
 use Rattle.sfi_policy.specs.Limits.{region_least}
 use Rattle.sfi_image.specs.declared.part.Gate.{Gate}
@@ -52,9 +52,10 @@ gates_from address (g ∷ gates) =
     record { address = address; service = g.service } ∷ gates_from (address + stub_size) gates
 
 -- the code: the stubs, then the bytes of the slots with addresses for names, then c.ebreaks to the
--- region's end, one at least
+-- region's end, one at least; of code in words there is none
 pub record IsLinkedCode (given : List Place) (number : ℕ) (p : Placement)
     (code : List ℕ) : Type 0 where
+  pub bundled : has_words p.format ≡ false
   pub size : IsCodeSize p.format (needed p) (length code)
   pub fill : ℕ
   pub bytes : List ℕ

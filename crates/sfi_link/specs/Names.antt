@@ -55,8 +55,9 @@ map_from given number (s ∷ source) (p ∷ placed) =
     entries_of number (bases_of given number p) (texts_of s) p.names
     ++ map_from given (number + 1) source placed
 
--- what was placed of the source has an image at the given places, and these are the source's gates
--- and labels, with the addresses that they have there
+-- What was placed of the source has an image at the given places, and these are the source's gates
+-- and labels, with the addresses that they have there. (That it was placed of this source is for
+-- who uses this to say: the two are matched by their order, and what has no match is left out.)
 pub record IsLinkedMap (given : List Place) (source : List Sandbox) (placed : List Placement)
     (entries : List MapEntry) : Type 0 where
   pub bytes : List ℕ

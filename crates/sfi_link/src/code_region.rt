@@ -90,7 +90,11 @@ pub(crate) fn linked_code(
         spans.old.items spans.new.items)
         (HasPartFault given.now number part.now spans.old.items) result }
 {
-    let Some(size) = code_size(part.format(), needed(part)) else {
+    let format = part.format();
+    if format.has_words() {
+        return Err(LinkFault::Words { sandbox: number });
+    }
+    let Some(size) = code_size(format, needed(part)) else {
         return Err(LinkFault::TooLarge { sandbox: number });
     };
     if !lies_beside(spans, part, size as u32, place_of(given, number))? {

@@ -176,7 +176,8 @@ fn listed_names(
 
 /// The gates and labels of a source in the image that [`link_at`](crate::link_at) makes of what was
 /// placed of it: sandbox after sandbox, in the order in which their names are first seen, each with
-/// its address. Where that makes no image, the fault is the same.
+/// its address. Where that makes no image, the fault is the same. (That it was placed of this source
+/// is for the caller to say: the two are matched by their order, and what has no match is left out.)
 pub fn names_of(
     alloc: Global,
     source: &Source,
