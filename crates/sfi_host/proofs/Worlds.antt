@@ -1,13 +1,13 @@
 -- A world at its start is safe.
-use Rattle.sfi_host.proofs.Prelude.{◌≡◌, ◌≢◌, inl, inr, Bool, true, false, cond, ℕ, zero, suc, ◌+◌, ◌-◌, ◌%◌, ◌^◌, ◌<◌, ◌≤◌, List, [], ◌∷◌, length, Some, is_some, slice_get, refl, sym, ap, ◌∙◌, subst, arith, get_or_from_slice_get, slice_get_within, slice_index, replicate, map, empty, IsMemory, byte_at, Hart, IsHart, with_register, Part, Span, code_region, IsRightPart, IsRightLayout, RunsSafely, AllRunSafely, CallsTyped, AllCallTyped, IsEnterable, AreEnterable, Bounds, bounds_of, fresh_hart, first_hart, first_seat, with_parts, AreEntered, HaveFirstData, Seat, IsSafeSeat, LiesOutside, IsSafeWorld}
+use Rattle.sfi_host.proofs.Prelude.{◌≡◌, ◌≢◌, Bool, true, false, cond, ℕ, zero, suc, ◌+◌, ◌-◌, ◌%◌, ◌^◌, ◌<◌, ◌≤◌, List, [], ◌∷◌, length, Some, is_some, slice_get, refl, sym, ap, ◌∙◌, subst, arith, get_or_from_slice_get, slice_get_within, slice_index, replicate, map, empty, IsMemory, byte_at, Hart, IsHart, with_register, Part, Span, code_region, IsRightPart, IsRightLayout, RunsSafely, AllRunSafely, CallsTyped, AllCallTyped, IsEnterable, AreEnterable, Bounds, bounds_of, fresh_hart, first_hart, first_seat, with_parts, AreEntered, HaveFirstData, Seat, IsSafeSeat, LiesOutside, IsSafeWorld}
 use Rattle.rv_step.proofs.Harts.{register_is}
 use Rattle.sfi_policy.specs.Formats.{unit, has_words}
 use Rattle.sfi_image.specs.Regions.{IsBundleStart}
 use Rattle.sfi_image.specs.Spans.{data_region}
 use Rattle.sfi_runs.specs.Regions.{IsUnitStart, HasReserved}
-use Rattle.sfi_runs.specs.Typed.{IsTyped, IsNear, IsWordStart}
-use Rattle.sfi_runs.proofs.Entries.{zero_words, some_unit, even_unit, data_register}
-use Rattle.sfi_runs.proofs.Formats.{words, to_word, of_bundle}
+use Rattle.sfi_runs.specs.Typed.{IsTyped}
+use Rattle.sfi_runs.proofs.Entries.{zero_words, some_unit, typed_when}
+use Rattle.sfi_runs.proofs.Formats.{words, of_bundle}
 use Rattle.sfi_host.specs.Entering.{with_typed}
 use Rattle.sfi_image.proofs.Facts.{code_ends}
 use Rattle.sfi_host.proofs.SafeSeats.{ready_safe}
@@ -90,26 +90,7 @@ reserved_at p pc registers fresh = record { code_base = fresh.code_base; code_ma
 pub typed_at : (p : Part) (pc : ℕ) (registers : List ℕ) → 16 ≤ p.data_size → IsUnitStart p pc → AreFreshOf (bounds_of p) pc registers → IsTyped p registers
 typed_at p pc registers least start fresh =
     let stack = fresh.stack in
-    let offset = fresh.offset in
-    let at_base : (a : ℕ) → a ≡ p.data_base → IsNear p 1020 a = λ a e. record { low = omega arith; high = omega arith } in
-    let other : (d r : ℕ) → d ≡ r → slice_index registers r ≡ p.data_base → IsNear p 1020 (slice_index registers d) = λ d r e is. subst (λ (x : ℕ). IsNear p 1020 (slice_index registers x)) (sym e) (at_base (slice_index registers r) is) in
-    record {
-      stack = λ has. (omega arith, omega arith);
-      words = λ has. record {
-        each_data = λ d is. elim (data_register d is) [
-          | inl e ↦ subst (λ (x : ℕ). IsNear p 1020 (slice_index registers x)) (sym e) (record { low = omega arith; high = omega arith })
-          | inr others ↦ elim others [
-            | inl e ↦ other d 3 e (fresh.third has)
-            | inr rest ↦ elim rest [
-              | inl e ↦ other d 4 e (fresh.fourth has)
-              | inr e ↦ other d 29 e (fresh.last has)
-            ]
-          ]
-        ];
-        code = subst (IsWordStart p) (sym (fresh.code has)) (to_word p pc has start);
-        offset = omega arith;
-      };
-    }
+    typed_when p pc registers (omega arith) start (omega arith, omega arith) fresh.third fresh.fourth fresh.last fresh.code fresh.offset
 
 -- an image's start is one of a unit
 pub start_unit : (p : Part) (a : ℕ) → IsBundleStart (code_region p) a → IsUnitStart p a
