@@ -1,12 +1,8 @@
-mod halfwords;
 mod instructions;
-mod machine;
 mod memories;
-mod source_limits;
 mod sources;
 mod steps;
 mod texts;
-mod words;
 
 ghost use Rattle.std.specs.Prelude.{◌<◌};
 

@@ -1,15 +1,10 @@
-mod blocks;
 mod build;
 mod consoles;
 mod entering;
-mod formats;
 mod guests;
 mod image;
 mod image_reading;
-mod link;
-mod names;
 mod options;
-mod pieces;
 mod programs;
 mod rows;
 mod scan;

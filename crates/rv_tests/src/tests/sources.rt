@@ -1,5 +1,6 @@
-//! What texts of the assembler mean, and where and why they are refused.
+//! What texts of the assembler mean, where and why they are refused, and their limits.
 use rv_source::{Body, Item, Names, Source, SourcePart};
+use rv_text::TextCause::{Directive, LabelTwice, Limit, Number, Operands, Register, Word};
 use rv_text::{TextCause, TextFault, parse_source, print_instr};
 use rv_word::Instr;
 use std::alloc::{AllocError, Global};
@@ -110,291 +111,224 @@ fn meaning(alloc: Global, text: &str) -> Result<String, AllocError> {
 }
 
 // The text after a first line that begins a sandbox of 256 bytes.
-pub(super) fn after_sandbox(alloc: Global, text: &str) -> Result<String, AllocError> {
+fn after_sandbox(alloc: Global, text: &str) -> Result<String, AllocError> {
     format!(in alloc; ".sandbox 256\n{text}")
 }
 
-// Each statement once, after `.sandbox 256`.
-const STATEMENTS: &[(&str, &str)] = &[
-    ("", "256 | | | |"),
-    ("  # no more than a comment é\r\n\n", "256 | | | |"),
-    (".gate y 3", "256 | 0=3 | y=Gate(0) | |"),
-    (
-        ".gate y 3\n.gate _z.1 0x5",
-        "256 | 0=3 1=5 | y=Gate(0) _z.1=Gate(1) | |",
-    ),
-    (".data\n.gate y 0", "256 | 0=0 | y=Gate(0) | |"),
-    (
-        "nop\n.option rvc\nnop\n.option norvc\nnop",
-        "256 | | | 2 addi x0, x0, 0; 4c addi x0, x0, 0; 6 addi x0, x0, 0; |",
-    ),
-    (".option rvc\n.gate g 1", "256 | 0=1 | g=Gate(0) | |"),
-    (".data\n.byte -128, 255, 0x7F", "256 | | | | 128 255 127"),
-    (".data\n.half -2, 0x1234", "256 | | | | 254 255 52 18"),
-    (".data\n.half -32768, 65535", "256 | | | | 0 128 255 255"),
-    (
-        ".data\n.word -2147483648, 4294967295",
-        "256 | | | | 0 0 0 128 255 255 255 255",
-    ),
-    (
-        ".data\n.zero 3\nx: .byte 1\ny:",
-        "256 | | x=Data(3) y=Data(4) | | 0 0 0 1",
-    ),
-    ("add a0, a1, a2", "256 | | | 2 add x10, x11, x12; |"),
-    ("addi sp, sp, -16", "256 | | | 2 addi x2, x2, -16; |"),
-    ("srai x8, x8, 31", "256 | | | 2 srai x8, x8, 31; |"),
-    ("lw a0, -4(sp)", "256 | | | 2 lw x10, -4(x2); |"),
-    (
-        "lb a0, 2047(a1)\nlb a0, -2048(a1)",
-        "256 | | | 2 lb x10, 2047(x11); 3 lb x10, -2048(x11); |",
-    ),
-    ("sw a0, 0(fp)", "256 | | | 2 sw x10, 0(x8); |"),
-    (
-        "sw a0, 2047(a1)\nsw a0, -2048(a1)",
-        "256 | | | 2 sw x10, 2047(x11); 3 sw x10, -2048(x11); |",
-    ),
-    ("jalr ra, 4(t0)", "256 | | | 2 jalr x1, 4(x5); |"),
-    (
-        "a: blt a0, a1, a",
-        "256 | | a=Code(0) | 2L blt x10, x11, 0 to 0; |",
-    ),
-    ("jal ra, far", "256 | | far=Unknown | 2 jal x1, 0 to 0; |"),
-    ("lui a0, 0x12345", "256 | | | 2 lui x10, 0x12345; |"),
-    ("auipc a0, 1048575", "256 | | | 2 auipc x10, 0xfffff; |"),
-    ("fence 51, x1, x2", "256 | | | 2 fence 51, x1, x2; |"),
-    ("fence", "256 | | | 2 fence 255, x0, x0; |"),
-    ("ecall\nebreak", "256 | | | 2 ecall; 3 ebreak; |"),
-    (
-        "nop\nret",
-        "256 | | | 2 addi x0, x0, 0; 3 jalr x0, 0(x1); |",
-    ),
-    (
-        "li a0, 0x12345fff",
-        "256 | | | 2 lui x10, 0x12346; 2 addi x10, x10, -1; |",
-    ),
-    ("li a0, 4096", "256 | | | 2 lui x10, 0x1; |"),
-    (
-        "li a0, -2049",
-        "256 | | | 2 lui x10, 0xfffff; 2 addi x10, x10, 2047; |",
-    ),
-    (
-        "x: li a0, 2048",
-        "256 | | x=Code(0) | 2L lui x10, 0x1; 2 addi x10, x10, -2048; |",
-    ),
-    (
-        "li a0, 4294967295",
-        "256 | | | 2 lui x10, 0x0; 2 addi x10, x10, -1; |",
-    ),
-    ("li a0, 2047", "256 | | | 2 addi x10, x0, 2047; |"),
-    ("li a0, -2048", "256 | | | 2 addi x10, x0, -2048; |"),
-    (
-        "mv t6, a0\njr t0",
-        "256 | | | 2 addi x31, x10, 0; 3 jalr x0, 0(x5); |",
-    ),
-    (
-        "j a\ncall b\nb:",
-        "256 | | a=Unknown b=Code(2) | 2 jal x0, 0 to 0; 3 jal x1, 0 to 1; |",
-    ),
-    (
-        "beqz a0, a\nbnez a1, a",
-        "256 | | a=Unknown | 2 beq x10, x0, 0 to 0; 3 bne x11, x0, 0 to 0; |",
-    ),
-    (
-        "la a0, d\n.data\nd:.zero 0",
-        "256 | | d=Data(0) | 2 high x10 of 0; 2 low x10 of 0; |",
-    ),
-    (
-        "add: a0: _1:nop",
-        "256 | | add=Code(0) a0=Code(0) _1=Code(0) | 2L addi x0, x0, 0; |",
-    ),
-    (
-        "j b\na: .sandbox 512\na: b:",
-        "256 | | b=Unknown a=Code(1) | 2 jal x0, 0 to 0; |\n512 | | a=Code(0) b=Code(0) | |",
-    ),
-    (".sandbox 1048576", "256 | | | |\n1048576 | | | |"),
-    // Names of 64 letters, the most that one has.
-    (
-        ".gate gggggggggggggggggggggggggggggggggggggggggggggggggggggggggggggggg 3\nxxxxxxxxxxxxxxxxxxxxxxxxxxxxxxxxxxxxxxxxxxxxxxxxxxxxxxxxxxxxxxxx: j xxxxxxxxxxxxxxxxxxxxxxxxxxxxxxxxxxxxxxxxxxxxxxxxxxxxxxxxxxxxxxxx\nla a0, gggggggggggggggggggggggggggggggggggggggggggggggggggggggggggggggg",
-        "256 | 0=3 | gggggggggggggggggggggggggggggggggggggggggggggggggggggggggggggggg=Gate(0) xxxxxxxxxxxxxxxxxxxxxxxxxxxxxxxxxxxxxxxxxxxxxxxxxxxxxxxxxxxxxxxx=Code(0) | 3L jal x0, 0 to 1; 4 high x10 of 0; 4 low x10 of 0; |",
-    ),
-];
+// Each statement once, after `.sandbox 256`. A row is `TEXT => MEANING`: the text's lines, with `; ` between them, and of each
+// sandbox, with ` & ` between them, `data's size | gates | names | items | bytes`, as `push_part` prints it.
+const STATEMENTS: &str = "
+ => 256 | | | |
+  # no more than a comment é\r; ;  => 256 | | | |
+.gate y 3 => 256 | 0=3 | y=Gate(0) | |
+.gate y 3; .gate _z.1 0x5 => 256 | 0=3 1=5 | y=Gate(0) _z.1=Gate(1) | |
+.data; .gate y 0 => 256 | 0=0 | y=Gate(0) | |
+nop; .option rvc; nop; .option norvc; nop => 256 | | | 2 addi x0, x0, 0; 4c addi x0, x0, 0; 6 addi x0, x0, 0; |
+.option rvc; .gate g 1 => 256 | 0=1 | g=Gate(0) | |
+.data; .byte -128, 255, 0x7F => 256 | | | | 128 255 127
+.data; .half -2, 0x1234 => 256 | | | | 254 255 52 18
+.data; .half -32768, 65535 => 256 | | | | 0 128 255 255
+.data; .word -2147483648, 4294967295 => 256 | | | | 0 0 0 128 255 255 255 255
+.data; .zero 3; x: .byte 1; y: => 256 | | x=Data(3) y=Data(4) | | 0 0 0 1
+add a0, a1, a2 => 256 | | | 2 add x10, x11, x12; |
+addi sp, sp, -16 => 256 | | | 2 addi x2, x2, -16; |
+srai x8, x8, 31 => 256 | | | 2 srai x8, x8, 31; |
+lw a0, -4(sp) => 256 | | | 2 lw x10, -4(x2); |
+lb a0, 2047(a1); lb a0, -2048(a1) => 256 | | | 2 lb x10, 2047(x11); 3 lb x10, -2048(x11); |
+sw a0, 0(fp) => 256 | | | 2 sw x10, 0(x8); |
+sw a0, 2047(a1); sw a0, -2048(a1) => 256 | | | 2 sw x10, 2047(x11); 3 sw x10, -2048(x11); |
+jalr ra, 4(t0) => 256 | | | 2 jalr x1, 4(x5); |
+a: blt a0, a1, a => 256 | | a=Code(0) | 2L blt x10, x11, 0 to 0; |
+jal ra, far => 256 | | far=Unknown | 2 jal x1, 0 to 0; |
+lui a0, 0x12345 => 256 | | | 2 lui x10, 0x12345; |
+auipc a0, 1048575 => 256 | | | 2 auipc x10, 0xfffff; |
+fence 51, x1, x2 => 256 | | | 2 fence 51, x1, x2; |
+fence => 256 | | | 2 fence 255, x0, x0; |
+ecall; ebreak => 256 | | | 2 ecall; 3 ebreak; |
+nop; ret => 256 | | | 2 addi x0, x0, 0; 3 jalr x0, 0(x1); |
+li a0, 0x12345fff => 256 | | | 2 lui x10, 0x12346; 2 addi x10, x10, -1; |
+li a0, 4096 => 256 | | | 2 lui x10, 0x1; |
+li a0, -2049 => 256 | | | 2 lui x10, 0xfffff; 2 addi x10, x10, 2047; |
+x: li a0, 2048 => 256 | | x=Code(0) | 2L lui x10, 0x1; 2 addi x10, x10, -2048; |
+li a0, 4294967295 => 256 | | | 2 lui x10, 0x0; 2 addi x10, x10, -1; |
+li a0, 2047 => 256 | | | 2 addi x10, x0, 2047; |
+li a0, -2048 => 256 | | | 2 addi x10, x0, -2048; |
+mv t6, a0; jr t0 => 256 | | | 2 addi x31, x10, 0; 3 jalr x0, 0(x5); |
+j a; call b; b: => 256 | | a=Unknown b=Code(2) | 2 jal x0, 0 to 0; 3 jal x1, 0 to 1; |
+beqz a0, a; bnez a1, a => 256 | | a=Unknown | 2 beq x10, x0, 0 to 0; 3 bne x11, x0, 0 to 0; |
+la a0, d; .data; d:.zero 0 => 256 | | d=Data(0) | 2 high x10 of 0; 2 low x10 of 0; |
+add: a0: _1:nop => 256 | | add=Code(0) a0=Code(0) _1=Code(0) | 2L addi x0, x0, 0; |
+j b; a: .sandbox 512; a: b: => 256 | | b=Unknown a=Code(1) | 2 jal x0, 0 to 0; | & 512 | | a=Code(0) b=Code(0) | |
+.sandbox 1048576 => 256 | | | | & 1048576 | | | |
+.gate gggggggggggggggggggggggggggggggggggggggggggggggggggggggggggggggg 3; xxxxxxxxxxxxxxxxxxxxxxxxxxxxxxxxxxxxxxxxxxxxxxxxxxxxxxxxxxxxxxxx: j xxxxxxxxxxxxxxxxxxxxxxxxxxxxxxxxxxxxxxxxxxxxxxxxxxxxxxxxxxxxxxxx; la a0, gggggggggggggggggggggggggggggggggggggggggggggggggggggggggggggggg => 256 | 0=3 | gggggggggggggggggggggggggggggggggggggggggggggggggggggggggggggggg=Gate(0) xxxxxxxxxxxxxxxxxxxxxxxxxxxxxxxxxxxxxxxxxxxxxxxxxxxxxxxxxxxxxxxx=Code(0) | 3L jal x0, 0 to 1; 4 high x10 of 0; 4 low x10 of 0; |
+";
 
 // Texts after `.sandbox 256` with a fault on line 2.
 const FAULTS: &[(&str, TextCause)] = &[
-    ("frob a0", TextCause::Word),
-    ("NOP", TextCause::Word),
-    (".format 1", TextCause::Directive),
-    (".foo: nop", TextCause::Word),
-    ("é", TextCause::Word),
-    ("nop 'x", TextCause::Word),
-    ("add a0, -x, a0", TextCause::Word),
-    ("x: --5", TextCause::Word),
-    ("5", TextCause::Operands),
-    (", nop", TextCause::Operands),
-    ("x: : nop", TextCause::Operands),
-    (".sandbox", TextCause::Operands),
-    (".sandbox 300", TextCause::Number),
-    (".sandbox 128", TextCause::Number),
-    (".sandbox 2097152", TextCause::Number),
-    (".sandbox a", TextCause::Number),
-    (".sandbox 256 256", TextCause::Operands),
-    (".gate 1 1", TextCause::Operands),
-    (".gate .y 1", TextCause::Operands),
-    (".gate y", TextCause::Operands),
-    (".gate y 6", TextCause::Number),
-    (".gate y -1", TextCause::Number),
-    (".gate y, 1", TextCause::Number),
-    (".gate y 1 1", TextCause::Operands),
-    ("x: .gate g 1", TextCause::Directive),
-    (".option", TextCause::Operands),
-    (".option rv64", TextCause::Operands),
-    (".option rvc rvc", TextCause::Operands),
-    (".option 1", TextCause::Operands),
-    (".data 1", TextCause::Operands),
-    (".data:", TextCause::Operands),
-    (".byte 1", TextCause::Directive),
-    (".zero 1", TextCause::Directive),
-    (".word", TextCause::Directive),
-    ("add a0, a0, q9", TextCause::Register),
-    ("add a0, , a0", TextCause::Register),
-    ("add a0, a0", TextCause::Operands),
-    ("add a0, a0, a0, a0", TextCause::Operands),
-    ("addi a0, a0, 2048", TextCause::Number),
-    ("addi a0, a0, 99999999999999999999", TextCause::Number),
-    ("addi a0, a0, 0X1", TextCause::Operands),
-    ("slli a0, a0, 32", TextCause::Number),
-    ("lw a0, 2048(a1)", TextCause::Number),
-    ("lw a0, -2049(a1)", TextCause::Number),
-    ("sw a0, 2048(a1)", TextCause::Number),
-    ("sw a0, -2049(a1)", TextCause::Number),
-    ("lw a0, (a1)", TextCause::Number),
-    ("lw a0, 0 a1", TextCause::Operands),
-    ("lw a0, 0(a1", TextCause::Operands),
-    ("sw 5, 0(a1)", TextCause::Register),
-    ("jalr a0, 2048(a1)", TextCause::Number),
-    ("beq a0, a1, 8", TextCause::Operands),
-    ("beq a0, a1", TextCause::Operands),
-    ("jal 5, x", TextCause::Register),
-    ("jal ra, -4", TextCause::Operands),
-    ("lui a0, 1048576", TextCause::Number),
-    ("auipc a0, -1", TextCause::Number),
-    ("fence 4096, x0, x0", TextCause::Number),
-    ("fence 1", TextCause::Operands),
-    ("ecall 1", TextCause::Operands),
-    ("ebreak x0", TextCause::Operands),
-    ("nop nop", TextCause::Operands),
-    ("ret ra", TextCause::Operands),
-    ("li a0 5", TextCause::Operands),
-    ("li a0, 4294967296", TextCause::Number),
-    ("li a0, -2147483649", TextCause::Number),
-    ("mv a0, 5", TextCause::Register),
-    ("jr 5", TextCause::Register),
-    ("j .x", TextCause::Operands),
-    ("j 8", TextCause::Operands),
-    ("call", TextCause::Operands),
-    ("beqz a0, a0, x", TextCause::Operands),
-    ("bnez x, x", TextCause::Register),
-    ("la a0, 0x1800000", TextCause::Operands),
-    ("la x, y", TextCause::Register),
-    ("x: x: nop", TextCause::LabelTwice),
-    ("x: y: x: frob", TextCause::LabelTwice),
-    ("nop : x", TextCause::Word),
-    ("add a0, q9 $", TextCause::Register),
-    ("addi x1, x1, 2048 x", TextCause::Number),
-    ("nop x # frob", TextCause::Operands),
+    ("frob a0", Word),
+    ("NOP", Word),
+    (".format 1", Directive),
+    (".foo: nop", Word),
+    ("é", Word),
+    ("nop 'x", Word),
+    ("add a0, -x, a0", Word),
+    ("x: --5", Word),
+    ("5", Operands),
+    (", nop", Operands),
+    ("x: : nop", Operands),
+    (".sandbox", Operands),
+    (".sandbox 300", Number),
+    (".sandbox 128", Number),
+    (".sandbox 2097152", Number),
+    (".sandbox a", Number),
+    (".sandbox 256 256", Operands),
+    (".gate 1 1", Operands),
+    (".gate .y 1", Operands),
+    (".gate y", Operands),
+    (".gate y 6", Number),
+    (".gate y -1", Number),
+    (".gate y, 1", Number),
+    (".gate y 1 1", Operands),
+    ("x: .gate g 1", Directive),
+    (".option", Operands),
+    (".option rv64", Operands),
+    (".option rvc rvc", Operands),
+    (".option 1", Operands),
+    (".data 1", Operands),
+    (".data:", Operands),
+    (".byte 1", Directive),
+    (".zero 1", Directive),
+    (".word", Directive),
+    ("add a0, a0, q9", Register),
+    ("add a0, , a0", Register),
+    ("add a0, a0", Operands),
+    ("add a0, a0, a0, a0", Operands),
+    ("addi a0, a0, 2048", Number),
+    ("addi a0, a0, 99999999999999999999", Number),
+    ("addi a0, a0, 0X1", Operands),
+    ("slli a0, a0, 32", Number),
+    ("lw a0, 2048(a1)", Number),
+    ("lw a0, -2049(a1)", Number),
+    ("sw a0, 2048(a1)", Number),
+    ("sw a0, -2049(a1)", Number),
+    ("lw a0, (a1)", Number),
+    ("lw a0, 0 a1", Operands),
+    ("lw a0, 0(a1", Operands),
+    ("sw 5, 0(a1)", Register),
+    ("jalr a0, 2048(a1)", Number),
+    ("beq a0, a1, 8", Operands),
+    ("beq a0, a1", Operands),
+    ("jal 5, x", Register),
+    ("jal ra, -4", Operands),
+    ("lui a0, 1048576", Number),
+    ("auipc a0, -1", Number),
+    ("fence 4096, x0, x0", Number),
+    ("fence 1", Operands),
+    ("ecall 1", Operands),
+    ("ebreak x0", Operands),
+    ("nop nop", Operands),
+    ("ret ra", Operands),
+    ("li a0 5", Operands),
+    ("li a0, 4294967296", Number),
+    ("li a0, -2147483649", Number),
+    ("mv a0, 5", Register),
+    ("jr 5", Register),
+    ("j .x", Operands),
+    ("j 8", Operands),
+    ("call", Operands),
+    ("beqz a0, a0, x", Operands),
+    ("bnez x, x", Register),
+    ("la a0, 0x1800000", Operands),
+    ("la x, y", Register),
+    ("x: x: nop", LabelTwice),
+    ("x: y: x: frob", LabelTwice),
+    ("nop : x", Word),
+    ("add a0, q9 $", Register),
+    ("addi x1, x1, 2048 x", Number),
+    ("nop x # frob", Operands),
     // Names of 65 letters.
     (
         "xxxxxxxxxxxxxxxxxxxxxxxxxxxxxxxxxxxxxxxxxxxxxxxxxxxxxxxxxxxxxxxxx:",
-        TextCause::Limit,
+        Limit,
     ),
     (
         "j xxxxxxxxxxxxxxxxxxxxxxxxxxxxxxxxxxxxxxxxxxxxxxxxxxxxxxxxxxxxxxxxx 5",
-        TextCause::Limit,
+        Limit,
     ),
     (
         ".gate xxxxxxxxxxxxxxxxxxxxxxxxxxxxxxxxxxxxxxxxxxxxxxxxxxxxxxxxxxxxxxxxx 9",
-        TextCause::Limit,
+        Limit,
     ),
     (
         "la a0, xxxxxxxxxxxxxxxxxxxxxxxxxxxxxxxxxxxxxxxxxxxxxxxxxxxxxxxxxxxxxxxxx",
-        TextCause::Limit,
+        Limit,
     ),
 ];
 
 // Whole texts, and the line and cause of their fault.
 const WHOLE_FAULTS: &[(&str, u32, TextCause)] = &[
-    ("", 1, TextCause::Directive),
-    ("# nothing\n\n", 1, TextCause::Directive),
-    ("nop", 1, TextCause::Directive),
-    ("x:", 1, TextCause::Directive),
-    (".gate g 1", 1, TextCause::Directive),
-    (".option rvc", 1, TextCause::Directive),
-    (".data", 1, TextCause::Directive),
-    (".byte 300", 1, TextCause::Directive),
-    ("nop 5", 1, TextCause::Directive),
-    ("\nfrob", 2, TextCause::Word),
-    (".sandbox 256\nx: add a0, a0, a0 # y\n$", 3, TextCause::Word),
-    (".sandbox 256\n.option rvc\nfrob", 3, TextCause::Word),
-    (".sandbox 300", 1, TextCause::Number),
-    (".sandbox 256\n.data\nnop", 3, TextCause::Directive),
-    (".sandbox 256\nx: .data\nnop", 3, TextCause::Directive),
-    (".sandbox 256\n.data\n.data", 3, TextCause::Directive),
-    (".sandbox 256\n.data\n.option rvc", 3, TextCause::Directive),
-    (
-        ".sandbox 256\n.data\nx:\n.gate g 1",
-        4,
-        TextCause::Directive,
-    ),
-    (".sandbox 256\nnop\n.gate g 1", 3, TextCause::Directive),
-    (
-        ".sandbox 256\n.gate g 1\n.gate g 9",
-        3,
-        TextCause::LabelTwice,
-    ),
-    (".sandbox 256\n.gate g 1\ng: nop", 3, TextCause::LabelTwice),
-    (".sandbox 256\nx: nop\n.data\nx:", 4, TextCause::LabelTwice),
-    (".sandbox 256\n.data\n.byte 256", 3, TextCause::Number),
-    (".sandbox 256\n.data\n.byte -129", 3, TextCause::Number),
-    (".sandbox 256\n.data\n.half 65536", 3, TextCause::Number),
-    (".sandbox 256\n.data\n.half -32769", 3, TextCause::Number),
-    (
-        ".sandbox 256\n.data\n.word 4294967296",
-        3,
-        TextCause::Number,
-    ),
-    (
-        ".sandbox 256\n.data\n.word -2147483649",
-        3,
-        TextCause::Number,
-    ),
-    (".sandbox 256\n.data\n.word 1,", 3, TextCause::Operands),
-    (".sandbox 256\n.data\n.zero 1048577", 3, TextCause::Number),
-    (
-        ".sandbox 256\n.data\n.zero 256\n.byte 0",
-        4,
-        TextCause::Limit,
-    ),
-    (".sandbox 256\n.data\n.zero 257 1", 3, TextCause::Operands),
+    ("", 1, Directive),
+    ("# nothing\n\n", 1, Directive),
+    ("nop", 1, Directive),
+    ("x:", 1, Directive),
+    (".gate g 1", 1, Directive),
+    (".option rvc", 1, Directive),
+    (".data", 1, Directive),
+    (".byte 300", 1, Directive),
+    ("nop 5", 1, Directive),
+    ("\nfrob", 2, Word),
+    (".sandbox 256\nx: add a0, a0, a0 # y\n$", 3, Word),
+    (".sandbox 256\n.option rvc\nfrob", 3, Word),
+    (".sandbox 300", 1, Number),
+    (".sandbox 256\n.data\nnop", 3, Directive),
+    (".sandbox 256\nx: .data\nnop", 3, Directive),
+    (".sandbox 256\n.data\n.data", 3, Directive),
+    (".sandbox 256\n.data\n.option rvc", 3, Directive),
+    (".sandbox 256\n.data\nx:\n.gate g 1", 4, Directive),
+    (".sandbox 256\nnop\n.gate g 1", 3, Directive),
+    (".sandbox 256\n.gate g 1\n.gate g 9", 3, LabelTwice),
+    (".sandbox 256\n.gate g 1\ng: nop", 3, LabelTwice),
+    (".sandbox 256\nx: nop\n.data\nx:", 4, LabelTwice),
+    (".sandbox 256\n.data\n.byte 256", 3, Number),
+    (".sandbox 256\n.data\n.byte -129", 3, Number),
+    (".sandbox 256\n.data\n.half 65536", 3, Number),
+    (".sandbox 256\n.data\n.half -32769", 3, Number),
+    (".sandbox 256\n.data\n.word 4294967296", 3, Number),
+    (".sandbox 256\n.data\n.word -2147483649", 3, Number),
+    (".sandbox 256\n.data\n.word 1,", 3, Operands),
+    (".sandbox 256\n.data\n.zero 1048577", 3, Number),
+    (".sandbox 256\n.data\n.zero 256\n.byte 0", 4, Limit),
+    (".sandbox 256\n.data\n.zero 257 1", 3, Operands),
 ];
 
-// The text after a first line that begins a sandbox means this.
-fn is_meant(rt: &impl Abort, alloc: Global, text: &str, wanted: &str) -> Result<(), AllocError> {
-    let whole = after_sandbox(alloc, text)?;
-    let meant = meaning(alloc, whole.as_str())?;
-    assert_eq!(rt; meant.as_str().strip_suffix("\n"), Some(wanted), "{text}");
+// The lines of a row's text, after one that begins a sandbox.
+fn lines_of(alloc: Global, text: &str) -> Result<String, AllocError> {
+    let mut lines = String::from_str(alloc, ".sandbox 256")?;
+    for line in text.split("; ") {
+        lines.push_str("\n")?;
+        lines.push_str(line)?;
+    }
+    Ok(lines)
+}
+
+// The row's text means what the row says.
+fn is_meant(rt: &impl Abort, alloc: Global, row: &str) -> Result<(), AllocError> {
+    let (text, wanted) = row.split_once(" => ").unwrap_or((row, ""));
+    let meant = meaning(alloc, lines_of(alloc, text)?.as_str())?;
+    assert!(rt; meant.as_str().lines().eq(wanted.split(" & ")), "{row}");
     Ok(())
 }
 
 #[test]
 fn sources(rt: HostRuntime) -> Result<(), Fail> {
-    for (text, wanted) in STATEMENTS {
-        is_meant(&rt, rt.alloc(), text, wanted)?;
+    for row in STATEMENTS.lines().skip(1) {
+        is_meant(&rt, rt.alloc(), row)?;
     }
     Ok(())
 }
 
 // The text has this fault.
-pub(super) fn is_refused(rt: &impl Abort, alloc: Global, text: &str, line: u32, cause: TextCause) {
+fn is_refused(rt: &impl Abort, alloc: Global, text: &str, line: u32, cause: TextCause) {
     match parse_source(alloc, text) {
         Ok(_) => panic!(rt; "{text}: no fault"),
         Err(fault) => assert_eq!(rt; fault, TextFault { line, cause }, "{text}"),
@@ -416,4 +350,65 @@ fn faults_of_whole_sources(rt: HostRuntime) {
     for (text, line, cause) in WHOLE_FAULTS {
         is_refused(&rt, rt.alloc(), text, *line, *cause);
     }
+}
+
+// ---- texts at the limits of the assembler, and one step beyond
+
+// The text, so many times over, by doubling.
+fn doubled(alloc: Global, text: &str, times: u32) -> Result<String, AllocError> {
+    let mut whole = String::from_str(alloc, text)?;
+    for _ in 0..times {
+        let half = whole.clone()?;
+        whole.push_str(half.as_str())?;
+    }
+    Ok(whole)
+}
+
+// The text has no fault, and the same with something at its end has its limit passed on that line.
+fn is_full(rt: &impl Abort, alloc: Global, text: &str, end: &str, line: u32) -> Result<(), Fail> {
+    assert!(rt; parse_source(alloc, text).is_ok(), "line {line}");
+    let more = format!(in alloc; "{text}{end}")?;
+    is_refused(rt, alloc, more.as_str(), line, Limit);
+    Ok(())
+}
+
+#[test]
+fn gates(rt: HostRuntime) -> Result<(), Fail> {
+    let alloc = rt.alloc();
+    let mut text = String::from_str(alloc, ".sandbox 256\n")?;
+    for k in 0..64 {
+        text.push_str(format!(in alloc; ".gate g{k} 1\n")?.as_str())?;
+    }
+    is_full(&rt, alloc, text.as_str(), ".gate h 1", 66)
+}
+
+// 65536 instructions, the last line once more as one or as a pseudo-instruction of two.
+#[test]
+fn instructions(rt: HostRuntime) -> Result<(), Fail> {
+    let alloc = rt.alloc();
+    let full = after_sandbox(alloc, doubled(alloc, "nop\n", 16)?.as_str())?;
+    is_full(&rt, alloc, full.as_str(), "nop", 65538)?;
+    let pairs = after_sandbox(alloc, doubled(alloc, "la a0, x\n", 15)?.as_str())?;
+    is_full(&rt, alloc, pairs.as_str(), "nop", 32770)
+}
+
+#[test]
+fn data(rt: HostRuntime) -> Result<(), Fail> {
+    let alloc = rt.alloc();
+    let least = ".sandbox 256\n.data\n.zero 256\n";
+    is_full(&rt, alloc, least, ".byte 0", 4)?;
+    let most = ".sandbox 1048576\n.data\n.zero 1048576\n";
+    is_full(&rt, alloc, most, ".byte 0", 4)
+}
+
+// 1048576 bytes, and one more.
+#[test]
+fn bytes(rt: HostRuntime) -> Result<(), Fail> {
+    let alloc = rt.alloc();
+    let mut text = String::from_str(alloc, ".sandbox 256   \n")?;
+    for k in 0..16 {
+        text.push_str(doubled(alloc, "# no statement \n", k)?.as_str())?;
+    }
+    assert_eq!(rt; text.len(), 1048576);
+    is_full(&rt, alloc, text.as_str(), "\n", 1)
 }

@@ -206,3 +206,28 @@ fn an_ecall_is_passed(rt: HostRuntime) {
     after_call(&mut cpu);
     assert!(rt; cpu.pc() == CODE + 4);
 }
+
+// ---- without a checker
+
+const NEIGHBOUR: u32 = 0x0280_0000;
+
+// Two sandboxes' data lies at 01800000 and 02800000. The first one's code is sw x11, 0(x10),
+// which `check` refuses.
+const SANDBOXES: [Call; 4] = [
+    Call::Add(CODE, 256, &[0x23, 0x20, 0xb5, 0x00], Ok(())),
+    Call::Add(DATA, 256, &[], Ok(())),
+    Call::Add(NEIGHBOUR, 256, b"Hi", Ok(())),
+    Call::Load(NEIGHBOUR, Width::One, Some(0x48)),
+];
+
+const AFTER: [Call; 1] = [Call::Load(NEIGHBOUR, Width::One, Some(0))];
+
+#[test]
+fn a_bare_store_reaches_the_neighbour(rt: HostRuntime) {
+    let mut memory = Segments::new(rt.alloc());
+    are_answered(&rt, &mut memory, &SANDBOXES);
+    let mut cpu = Cpu::at(CODE).expect(&rt, "an even pc");
+    cpu.set_reg(Reg::new(10).expect(&rt, "a register"), NEIGHBOUR);
+    assert!(rt; step(&mut cpu, &mut memory) == Outcome::Next);
+    are_answered(&rt, &mut memory, &AFTER);
+}

@@ -1,5 +1,5 @@
 //! Code that tries to get out of its sandbox.
-use super::images::{C_EBREAK, C_NOP, EBREAK, HEAD, PAIR_ON_X0, SFI1, SFI2, SFIW, bytes_of};
+use super::images::{C_EBREAK, C_NOP, EBREAK, HEAD, SFI1, SFI2, SFIW, bytes_of};
 use sfi_check::{Feed, Refusal, StreamAnswer, check, check_stream};
 use sfi_image::Reading;
 use sfi_policy::Format;
@@ -8,6 +8,7 @@ use std::alloc::Global;
 use std::test::Fail;
 
 /// Where an attack breaks its rule.
+#[derive(Clone, Copy)]
 enum Harm {
     Anywhere,
     /// In the first format alone: in the second an access on x2 needs no pair.
@@ -24,7 +25,8 @@ use Harm::{Anywhere, AtEnd, FirstFormat, Jump, SecondFormat};
 
 /// Code, the rule that it breaks, the place of the instruction that does,
 /// counted from its first byte, and where it does.
-struct Attack(&'static str, &'static str, Rule, u32, Harm);
+#[derive(Clone, Copy)]
+struct Attack<'a>(&'a str, &'a str, Rule, u32, Harm);
 
 /// What fills the bundle's bytes before it.
 #[derive(Clone, Copy, Debug, PartialEq, Eq)]
@@ -60,113 +62,83 @@ struct Spot {
 
 const BUNDLES: u32 = 16;
 
-/// x27 or x26 is the second operand of a pair's first or second instruction,
-/// x25 or x24 that of a pair for jumps.
-const ATTACKS: [Attack; 34] = [
-    Attack(
-        "operands of and exchanged",
-        "b3ffad00b3efaf0123a0bf00",
-        Rule::V5,
-        8,
-        Anywhere,
-    ),
-    Attack(
-        "operands of or exchanged",
-        "b37fb501b36ffd0123a0bf00",
-        Rule::V5,
-        8,
-        Anywhere,
-    ),
-    Attack(
-        "x31 changed after the pair",
-        "b37fb501b3efaf01938f0f0123a0bf00",
-        Rule::V5,
-        12,
-        Anywhere,
-    ),
-    Attack(
-        "store on x30",
-        "b37fb501b3efaf012320bf00",
-        Rule::V5,
-        8,
-        Anywhere,
-    ),
-    Attack(
-        "two stores on one pair",
-        "b37fb501b3efaf0123a0bf0023a2bf00",
-        Rule::V5,
-        12,
-        Anywhere,
-    ),
-    Attack(
-        "pair for jumps before a store",
-        "b37f9501b3ef8f0123a0bf00",
-        Rule::V5,
-        8,
-        Anywhere,
-    ),
-    Attack("pair on x0", PAIR_ON_X0, Rule::V5, 8, Anywhere),
-    Attack("c.swsp", "06c60290", Rule::V5, 0, FirstFormat),
-    Attack("store", "2320b500", Rule::V5, 0, Anywhere),
-    Attack("half a pair", "b37fb50123a0bf00", Rule::V5, 4, Anywhere),
-    Attack(
-        "pair for data before a jump",
-        "b37fb501b3efaf0167800f00",
-        Rule::V6,
-        8,
-        Anywhere,
-    ),
-    Attack(
-        "jump 4 bytes further",
-        "b37f9501b3ef8f0167804f00",
-        Rule::V6,
-        8,
-        Anywhere,
-    ),
-    Attack("jump without a pair", "67800000", Rule::V6, 0, Anywhere),
-    Attack("c.jr", "8280", Rule::V6, 0, Anywhere),
-    Attack("c.j -2", "fdbf0290", Rule::V7, 0, Jump(0xffff_fffe)),
-    Attack("beq x0, x0, 8", "63040000", Rule::V7, 0, Jump(8)),
-    Attack("jal x0, 4", "6f004000", Rule::V7, 0, Jump(4)),
-    Attack("c.jal 16", "0128", Rule::V7, 0, Jump(16)),
-    Attack("lw x26", "b37fb501b3efaf0103ad0f00", Rule::V4, 8, Anywhere),
-    Attack(
-        "jalr links x27",
-        "b37f9501b3ef8f01e78d0f00",
-        Rule::V4,
-        8,
-        Anywhere,
-    ),
-    Attack("c.li x24", "014c0290", Rule::V4, 0, Anywhere),
-    // These are accesses without a pair, too: the lowest rule is told.
-    Attack("c.lwsp x24", "024c", Rule::V4, 0, Anywhere),
-    Attack("c.lwsp x25", "824c", Rule::V4, 0, Anywhere),
-    Attack("c.lwsp x26", "024d", Rule::V4, 0, Anywhere),
-    Attack("c.lwsp x27", "824d", Rule::V4, 0, Anywhere),
-    Attack(
-        "ecall after a nop",
-        "1300000073000000",
-        Rule::V3,
-        4,
-        Anywhere,
-    ),
-    Attack("ecall", "73000000", Rule::V3, 0, Anywhere),
-    Attack("longer than 32 bits", "1f000000", Rule::V1, 0, Anywhere),
-    Attack("fence.i", "0f100000", Rule::V1, 0, Anywhere),
-    Attack("no instruction", "00000000", Rule::V1, 0, Anywhere),
-    Attack("addi at the end", "13000000", Rule::V8, 0, AtEnd),
-    Attack("c.addi x2, -16", "41110290", Rule::V10, 0, SecondFormat),
-    Attack("c.addi16sp x2, 16", "41610290", Rule::V10, 0, SecondFormat),
-    Attack(
-        "lw x2",
-        "b37fb501b3efaf0103a10f000290",
-        Rule::V10,
-        8,
-        SecondFormat,
-    ),
-];
+/// Code that breaks a rule. The columns of a row are: where it does, or how far its jump goes, modulo 2^32; the rule; the
+/// place of the instruction that breaks it, counted from the code's first byte; the code; and its name, the rest of the row.
+/// x27 or x26 is the second operand of a pair's first or second instruction, x25 or x24 that of a pair for jumps. `c.lwsp`
+/// into x24 to x27 is an access without a pair, too: the lowest rule is told.
+const ATTACKS: &str = "
+anywhere V5 8 b3ffad00b3efaf0123a0bf00 operands of and exchanged
+anywhere V5 8 b37fb501b36ffd0123a0bf00 operands of or exchanged
+anywhere V5 12 b37fb501b3efaf01938f0f0123a0bf00 x31 changed after the pair
+anywhere V5 8 b37fb501b3efaf012320bf00 store on x30
+anywhere V5 12 b37fb501b3efaf0123a0bf0023a2bf00 two stores on one pair
+anywhere V5 8 b37f9501b3ef8f0123a0bf00 pair for jumps before a store
+anywhere V5 8 3370b5013360a0012320b000 pair on x0
+first V5 0 06c60290 c.swsp
+anywhere V5 0 2320b500 store
+anywhere V5 4 b37fb50123a0bf00 half a pair
+anywhere V6 8 b37fb501b3efaf0167800f00 pair for data before a jump
+anywhere V6 8 b37f9501b3ef8f0167804f00 jump 4 bytes further
+anywhere V6 0 67800000 jump without a pair
+anywhere V6 0 8280 c.jr
+4294967294 V7 0 fdbf0290 c.j -2
+8 V7 0 63040000 beq x0, x0, 8
+4 V7 0 6f004000 jal x0, 4
+16 V7 0 0128 c.jal 16
+anywhere V4 8 b37fb501b3efaf0103ad0f00 lw x26
+anywhere V4 8 b37f9501b3ef8f01e78d0f00 jalr links x27
+anywhere V4 0 014c0290 c.li x24
+anywhere V4 0 024c c.lwsp x24
+anywhere V4 0 824c c.lwsp x25
+anywhere V4 0 024d c.lwsp x26
+anywhere V4 0 824d c.lwsp x27
+anywhere V3 4 1300000073000000 ecall after a nop
+anywhere V3 0 73000000 ecall
+anywhere V1 0 1f000000 longer than 32 bits
+anywhere V1 0 0f100000 fence.i
+anywhere V1 0 00000000 no instruction
+end V8 0 13000000 addi at the end
+second V10 0 41110290 c.addi x2, -16
+second V10 0 41610290 c.addi16sp x2, 16
+second V10 8 b37fb501b3efaf0103a10f000290 lw x2
+";
 
-impl Attack {
+fn harm_of(word: &str) -> Option<Harm> {
+    match word {
+        "anywhere" => Some(Anywhere),
+        "first" => Some(FirstFormat),
+        "second" => Some(SecondFormat),
+        "end" => Some(AtEnd),
+        offset => Some(Jump(offset.parse().ok()?)),
+    }
+}
+
+fn rule_of(word: &str) -> Option<Rule> {
+    match word {
+        "V1" => Some(Rule::V1),
+        "V3" => Some(Rule::V3),
+        "V4" => Some(Rule::V4),
+        "V5" => Some(Rule::V5),
+        "V6" => Some(Rule::V6),
+        "V7" => Some(Rule::V7),
+        "V8" => Some(Rule::V8),
+        "V10" => Some(Rule::V10),
+        _ => None,
+    }
+}
+
+fn attack_of<'a>(line: &'a str) -> Option<Attack<'a>> {
+    let (harm, rest) = line.split_once(' ')?;
+    let (rule, rest) = rest.split_once(' ')?;
+    let (place, rest) = rest.split_once(' ')?;
+    let (code, name) = rest.split_once(' ')?;
+    let rule = rule_of(rule)?;
+    let place = place.parse().ok()?;
+    let harm = harm_of(harm)?;
+    Some(Attack(name, code, rule, place, harm))
+}
+
+impl<'a> Attack<'a> {
     /// How many bytes it has, at most those of a bundle.
     fn len(&self) -> u32 {
         (self.1.len() / 2).min(16) as u32
@@ -261,7 +233,7 @@ fn is_found(alloc: Global, bytes: &[u8], finding: Option<Finding>) -> bool {
 // The attack is found at each place of the bundle where it fits.
 fn is_found_in(
     alloc: Global,
-    attack: &Attack,
+    attack: &Attack<'_>,
     format: Format,
     bundle: u32,
     filler: Filler,
@@ -286,12 +258,15 @@ fn is_found_in(
 // is looked at together, and in the last bundle, which is in none.
 #[test]
 fn attacks_are_found(rt: HostRuntime) -> Result<(), Fail> {
-    for attack in &ATTACKS {
+    for line in ATTACKS.lines().skip(1) {
+        let Some(attack) = attack_of(line) else {
+            return Err(Fail::new(line));
+        };
         for format in [Format::Sfi1, Format::Sfi2] {
             for bundle in [0u32, 3, 4, 7, 15] {
                 for filler in [Nop, CNop, Ebreak] {
                     assert!(rt;
-                        is_found_in(rt.alloc(), attack, format, bundle, filler)?,
+                        is_found_in(rt.alloc(), &attack, format, bundle, filler)?,
                         "{}",
                         attack.0
                     );

@@ -1,5 +1,10 @@
-//! Readers and writers that fail at some call, or that give and take little at a time.
+//! Readers and writers that fail at some call, or that give and take little at a time; inputs as long as a command takes, and
+//! one byte longer; a host that has no memory for a reply, and has it later.
 use super::commands::{COMMANDS, Command};
+use super::images::{SFI1, bytes_of, hi_pieces};
+use rv_mem::{Memory, Pages};
+use sfi_check::check;
+use sfi_host::{Console, GateAnswer, Gates, Guest, RunAnswer, Status, Turn, World};
 use sfi_tool::run_tool;
 use std::alloc::{AllocError, Global};
 use std::io::{self, ErrorKind, Read, Write};
@@ -97,12 +102,18 @@ impl Ended {
     }
 }
 
-// The command over that input.
-fn run(alloc: Global, line: &str, input: &[u8], pace: Pace) -> Result<Ended, AllocError> {
+// The words of a command line.
+fn words_of(alloc: Global, line: &str) -> Result<Vec<String>, AllocError> {
     let mut words = Vec::new(alloc);
     for word in line.split_whitespace() {
         words.push(String::from_str(alloc, word)?)?;
     }
+    Ok(words)
+}
+
+// The command over that input.
+fn run(alloc: Global, line: &str, input: &[u8], pace: Pace) -> Result<Ended, AllocError> {
+    let words = words_of(alloc, line)?;
     let mut reader = Tap {
         rest: input,
         step: pace.step,
@@ -201,5 +212,135 @@ fn commands_end_at_what_fails(rt: HostRuntime) -> Result<(), Fail> {
     for command in &COMMANDS {
         assert!(rt; is_right(rt.alloc(), command)?, "{}", command.line);
     }
+    Ok(())
+}
+
+// ---- long inputs, of which the test keeps one piece
+
+/// Gives bytes again and again, so many in all.
+#[derive(Drop)]
+struct Repeated<'a> {
+    piece: &'a [u8],
+    left: usize,
+}
+
+impl<'a> Read for Repeated<'a> {
+    fn read(&mut self, buf: &mut [u8]) -> io::Result<usize> {
+        let count = buf.len().min(self.piece.len()).min(self.left);
+        buf[..count].copy_from_slice(&self.piece[..count]);
+        self.left -= count;
+        Ok(count)
+    }
+}
+
+/// The most bytes of an input text.
+const LIMIT: usize = 134217728;
+
+// The command over so many bytes of one value ends in status 2, having printed that.
+fn is_refused(
+    alloc: Global,
+    command: &str,
+    byte: u8,
+    count: usize,
+    said: &str,
+) -> Result<bool, AllocError> {
+    let words = words_of(alloc, command)?;
+    let piece = [byte; 65536];
+    let mut reader = Repeated {
+        piece: &piece,
+        left: count,
+    };
+    let mut text = Vec::new(alloc);
+    let status = run_tool(alloc, words.as_slice(), &mut reader, &mut text);
+    Ok(status == 2 && text.as_slice() == said.as_bytes())
+}
+
+#[test]
+fn an_image_above_the_limit(rt: HostRuntime) -> Result<(), Fail> {
+    let said = "input fault too large\n";
+    assert!(rt; is_refused(rt.alloc(), "sfi check", b' ', LIMIT + 1, said)?);
+    Ok(())
+}
+
+#[test]
+fn a_source_above_the_limit(rt: HostRuntime) -> Result<(), Fail> {
+    let said = "input fault too large\n";
+    assert!(rt; is_refused(rt.alloc(), "sfi build", 0xff, LIMIT + 1, said)?);
+    Ok(())
+}
+
+#[test]
+fn a_source_at_the_limit(rt: HostRuntime) -> Result<(), Fail> {
+    let said = "input fault utf8\n";
+    assert!(rt; is_refused(rt.alloc(), "sfi build", 0xff, LIMIT, said)?);
+    Ok(())
+}
+
+// The bytes of an image are read no further than its fault.
+#[test]
+fn bytes_without_end(rt: HostRuntime) -> Result<(), Fail> {
+    let said = "layout fault 1 Magic\n";
+    assert!(rt; is_refused(rt.alloc(), "sfi check --raw", b' ', usize::MAX, said)?);
+    Ok(())
+}
+
+// ---- a host without memory
+
+/// A console whose memory may be gone: then it refuses each put.
+#[derive(Drop)]
+struct Scarce {
+    console: Console,
+    is_gone: bool,
+}
+
+/// The service that appends bytes to the caller's output.
+const PUT: u32 = 1;
+
+impl Gates for Scarce {
+    ghost use Rattle.std.specs.Prelude.{true};
+    ghost use Rattle.sfi_host.specs.Consoles.{console};
+
+    ghost answer = { λ s c. record {
+      reply = (console s.console c).reply;
+      host = record s { console = (console s.console c).host };
+    } };
+
+    ghost may_refuse = { λ s c. true };
+
+    fn call<M: Memory>(&mut self, guest: &mut Guest<'_, M>) -> GateAnswer {
+        if self.is_gone && guest.service() == PUT {
+            return GateAnswer::Memory;
+        }
+        self.console.call(guest)
+    }
+}
+
+/// One turn of the one sandbox.
+const PLAN: [Turn; 1] = [Turn {
+    sandbox: 0,
+    steps: 1000,
+}];
+
+// A refused put ends the plan, and what was done before it stands;
+// the same plan again does the rest.
+#[test]
+fn a_refused_put_is_served_later(rt: HostRuntime) -> Result<(), Fail> {
+    let alloc = rt.alloc();
+    let bytes = bytes_of(alloc, &hi_pieces(SFI1))?;
+    let accepted = check(alloc, bytes.as_slice())?;
+    let mut world = World::load(alloc, &accepted, Pages::new(alloc))?;
+    let mut host = Scarce {
+        console: Console::new(alloc, 1, b"")?,
+        is_gone: true,
+    };
+    let answer = world.run_plan(&PLAN, &mut host);
+    assert_eq!(rt; answer, RunAnswer::Memory { turn: 0 });
+    assert_eq!(rt; world.steps(0), Some(4));
+    assert_eq!(rt; world.status(0), Some(Status::Ready));
+    host.is_gone = false;
+    assert_eq!(rt; world.run_plan(&PLAN, &mut host), RunAnswer::Done);
+    assert_eq!(rt; world.steps(0), Some(19));
+    assert_eq!(rt; world.status(0), Some(Status::Exited(105)));
+    assert_eq!(rt; host.console.output(0), Some(b"Hi".as_slice()));
     Ok(())
 }

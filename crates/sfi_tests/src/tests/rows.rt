@@ -1,8 +1,8 @@
 //! Tests as rows of text: an input, the commands that read it, and what each of them prints.
 //!
-//! A row begins with a line `= NAME`. Each line after it has a word and what belongs to that. The first lines may stand
-//! on that of the name, `= NAME; LINE; LINE`. What stands above the first row of a table is in each of its rows, before
-//! the row's own lines.
+//! A row begins with a line `= NAME`. Each line after it has a word and what belongs to that. Short lines stand together on
+//! one, with `; ` between them, also after the name: `= NAME; LINE; LINE`. What stands above the first row of a table, each
+//! line by itself, is in each of its rows, before the row's own lines.
 //!
 //! The input is the smallest image, and after the word `source` it is empty. These add to it:
 //!
@@ -33,22 +33,14 @@
 //! `fault`, and 3 if it begins with `error:`; else in status 0. A line `status N` says another.
 //!
 //! `# NOTE` is a note. A line with another word, or with no number where one belongs, fails the test.
-mod examples;
-mod formats;
-mod help;
+mod builds;
 mod images;
-mod lengths;
-mod limits;
 mod lines;
-mod listings;
-mod needs;
-mod places;
-mod refused;
 mod reports;
 mod runs;
-mod sources;
 mod texts;
 mod typed;
+mod word_sources;
 mod words;
 
 use super::image::{edited, smallest};
@@ -231,16 +223,17 @@ fn try_rows(rt: &impl Abort, alloc: Global, table: &str, count: usize) -> Result
 fn image_rows(rt: HostRuntime) -> Result<(), Fail> {
     try_rows(&rt, rt.alloc(), images::LAYOUTS, 38)?;
     try_rows(&rt, rt.alloc(), images::RULES, 46)?;
+    try_rows(&rt, rt.alloc(), images::SAFE, 6)?;
     try_rows(&rt, rt.alloc(), images::DIGITS, 6)
 }
 
 #[test]
 fn format_rows(rt: HostRuntime) -> Result<(), Fail> {
-    try_rows(&rt, rt.alloc(), formats::FIRST, 34)?;
-    try_rows(&rt, rt.alloc(), formats::SECOND, 34)?;
-    try_rows(&rt, rt.alloc(), formats::WRITES, 5)?;
-    try_rows(&rt, rt.alloc(), formats::FIRST_WRITES, 3)?;
-    try_rows(&rt, rt.alloc(), formats::KEPT, 3)
+    try_rows(&rt, rt.alloc(), images::FIRST, 34)?;
+    try_rows(&rt, rt.alloc(), images::SECOND, 34)?;
+    try_rows(&rt, rt.alloc(), builds::WRITES, 5)?;
+    try_rows(&rt, rt.alloc(), builds::FIRST_WRITES, 3)?;
+    try_rows(&rt, rt.alloc(), builds::KEPT, 3)
 }
 
 #[test]
@@ -263,29 +256,28 @@ fn typed_runs(rt: HostRuntime) -> Result<(), Fail> {
 }
 
 #[test]
-fn needed_rows(rt: HostRuntime) -> Result<(), Fail> {
-    try_rows(&rt, rt.alloc(), needs::SAFE, 6)
+fn word_source_rows(rt: HostRuntime) -> Result<(), Fail> {
+    try_rows(&rt, rt.alloc(), word_sources::REFUSED, 12)
 }
 
 #[test]
 fn word_rows(rt: HostRuntime) -> Result<(), Fail> {
     try_rows(&rt, rt.alloc(), words::USAGE, 51)?;
-    try_rows(&rt, rt.alloc(), places::ALLOWED, 8)?;
-    try_rows(&rt, rt.alloc(), places::REFUSED, 10)
+    try_rows(&rt, rt.alloc(), words::ALLOWED, 8)?;
+    try_rows(&rt, rt.alloc(), words::REFUSED, 10)
 }
 
 #[test]
 fn help_rows(rt: HostRuntime) -> Result<(), Fail> {
-    try_rows(&rt, rt.alloc(), help::TEXTS, 5)?;
-    try_rows(&rt, rt.alloc(), help::HELP, 21)
+    try_rows(&rt, rt.alloc(), words::TEXTS, 5)?;
+    try_rows(&rt, rt.alloc(), words::HELP, 21)
 }
 
 #[test]
 fn text_rows(rt: HostRuntime) -> Result<(), Fail> {
-    try_rows(&rt, rt.alloc(), examples::BUILDS, 7)?;
-    try_rows(&rt, rt.alloc(), examples::TOUR, 10)?;
-    try_rows(&rt, rt.alloc(), refused::TEXTS, 12)?;
-    try_rows(&rt, rt.alloc(), refused::DIRECTIVES, 13)
+    try_rows(&rt, rt.alloc(), builds::BUILDS, 6)?;
+    try_rows(&rt, rt.alloc(), builds::REFUSED, 12)?;
+    try_rows(&rt, rt.alloc(), builds::DIRECTIVES, 13)
 }
 
 #[test]
@@ -293,7 +285,7 @@ fn report_rows(rt: HostRuntime) -> Result<(), Fail> {
     try_rows(&rt, rt.alloc(), reports::REPORTS, 18)?;
     try_rows(&rt, rt.alloc(), reports::CONVERSIONS, 13)?;
     try_rows(&rt, rt.alloc(), reports::CONVERTED, 3)?;
-    try_rows(&rt, rt.alloc(), listings::LISTINGS, 8)
+    try_rows(&rt, rt.alloc(), reports::LISTINGS, 8)
 }
 
 #[test]
@@ -309,7 +301,7 @@ fn run_rows(rt: HostRuntime) -> Result<(), Fail> {
 
 #[test]
 fn image_limits(rt: HostRuntime) -> Result<(), Fail> {
-    try_rows(&rt, rt.alloc(), limits::IMAGES, 36)
+    try_rows(&rt, rt.alloc(), images::LIMITS, 36)
 }
 
 #[test]
@@ -319,31 +311,21 @@ fn typed_limits(rt: HostRuntime) -> Result<(), Fail> {
 
 #[test]
 fn text_limits(rt: HostRuntime) -> Result<(), Fail> {
-    try_rows(&rt, rt.alloc(), lengths::TEXTS, 15)?;
-    try_rows(&rt, rt.alloc(), lengths::LISTED, 2)
+    try_rows(&rt, rt.alloc(), builds::LIMITS, 15)?;
+    try_rows(&rt, rt.alloc(), builds::LISTED, 3)
 }
 
 #[test]
 fn long_texts(rt: HostRuntime) -> Result<(), Fail> {
-    try_rows(&rt, rt.alloc(), lengths::LONG_TEXTS, 2)
+    try_rows(&rt, rt.alloc(), builds::LONG_TEXTS, 2)
 }
 
 #[test]
 fn too_long_texts(rt: HostRuntime) -> Result<(), Fail> {
-    try_rows(&rt, rt.alloc(), lengths::TOO_LONG_TEXTS, 2)
+    try_rows(&rt, rt.alloc(), builds::TOO_LONG_TEXTS, 2)
 }
 
 #[test]
 fn bytes_at_a_time(rt: HostRuntime) -> Result<(), Fail> {
-    try_rows(&rt, rt.alloc(), lengths::BYTES, 6)
-}
-
-#[test]
-fn words_are_exchanged(rt: HostRuntime) -> Result<(), Fail> {
-    try_rows(&rt, rt.alloc(), examples::PRIMES, 4)
-}
-
-#[test]
-fn frames_in_both_formats(rt: HostRuntime) -> Result<(), Fail> {
-    try_rows(&rt, rt.alloc(), examples::FRAMES, 6)
+    try_rows(&rt, rt.alloc(), runs::BYTES, 6)
 }

@@ -1,5 +1,4 @@
 //! Images as streams of bytes, and the command `check --raw`.
-use super::pieces::Pieces;
 use super::rows::image_of;
 use super::{Outcome, words_of};
 use sfi_check::{StreamAnswer, check_stream};
@@ -7,8 +6,46 @@ use sfi_image::{ByteSource, ReadFault, Reading};
 use sfi_scan::{Finding, Rule};
 use sfi_tool::run_tool;
 use std::alloc::{AllocError, Global};
+use std::io::{self, ErrorKind, Read};
 use std::process::Abort;
 use std::test::Fail;
+
+/// Gives at most so many bytes at a call, fails after so many calls,
+/// and notes the longest buffer that it was to fill.
+#[derive(Drop)]
+struct Pieces<'a> {
+    rest: &'a [u8],
+    step: usize,
+    calls: usize,
+    longest: usize,
+}
+
+impl<'a> Pieces<'a> {
+    fn new(rest: &'a [u8], step: usize, calls: usize) -> Pieces<'a> {
+        Pieces {
+            rest,
+            step,
+            calls,
+            longest: 0,
+        }
+    }
+
+    fn longest(&self) -> usize {
+        self.longest
+    }
+}
+
+impl<'a> Read for Pieces<'a> {
+    fn read(&mut self, buf: &mut [u8]) -> io::Result<usize> {
+        self.longest = self.longest.max(buf.len());
+        if self.calls == 0 {
+            return Err(io::Error::from(ErrorKind::Interrupted));
+        }
+        self.calls -= 1;
+        let len = buf.len().min(self.step);
+        self.rest.read(&mut buf[..len])
+    }
+}
 
 const ACCEPTED: StreamAnswer = StreamAnswer::Accepted {
     sandboxes: 1,
@@ -114,7 +151,7 @@ fn try_pieces(rt: &impl Abort, alloc: Global, step: usize) -> Result<(), Fail> {
 }
 
 #[test]
-fn pieces(rt: HostRuntime) -> Result<(), Fail> {
+fn streams_in_pieces(rt: HostRuntime) -> Result<(), Fail> {
     for step in [1, 7, 16, 4096] {
         try_pieces(&rt, rt.alloc(), step)?;
     }

@@ -1,9 +1,9 @@
-//! Worlds over both forms of memory: the same plans lead to the same slots.
+//! Worlds over segments: plans lead to the same slots as over pages, over which the rows of `sfi run` are.
 ghost use Rattle.std.specs.Prelude.{◌≡◌};
 ghost use Rattle.std.specs.FinMap.{empty};
 
 use super::programs::{HI_IMAGE, READS_IMAGE, YIELDS_IMAGE};
-use rv_mem::{Memory, Pages, Segments};
+use rv_mem::{Memory, Segments};
 use sfi_check::check;
 use sfi_host::{Console, RunAnswer, Status, Turn, World};
 use std::alloc::{AllocError, Global};
@@ -126,16 +126,6 @@ fn runs_over_segments(rt: HostRuntime) -> Result<(), Fail> {
     let alloc = rt.alloc();
     for case in CASES {
         let mut world = world_of(&rt, alloc, Segments::new(alloc), case)?;
-        run_case(&rt, alloc, &mut world, case)?;
-    }
-    Ok(())
-}
-
-#[test]
-fn runs_alike_over_pages(rt: HostRuntime) -> Result<(), Fail> {
-    let alloc = rt.alloc();
-    for case in CASES {
-        let mut world = world_of(&rt, alloc, Pages::new(alloc), case)?;
         run_case(&rt, alloc, &mut world, case)?;
     }
     Ok(())

@@ -153,19 +153,26 @@ pub(super) fn status_told(part: &Part<'_>) -> u8 {
     }
 }
 
+// Adds lines, of which several may stand on one.
+fn push_lines(text: &mut Vec<u8>, lines: &str) -> Result<(), AllocError> {
+    for line in lines.lines() {
+        for part in line.split("; ") {
+            text.extend_from_slice("\n".as_bytes())?;
+            text.extend_from_slice(part.as_bytes())?;
+        }
+    }
+    Ok(())
+}
+
 // Adds the row, with the head's lines after its name, and each of its lines on a line.
 fn push_row(text: &mut Vec<u8>, head: &str, row: &str) -> Result<(), AllocError> {
     let (first, rest) = row.split_once('\n').unwrap_or((row, ""));
-    let (name, _) = first.split_once("; ").unwrap_or((first, ""));
+    let (name, more) = first.split_once("; ").unwrap_or((first, ""));
     text.extend_from_slice("\n= ".as_bytes())?;
     text.extend_from_slice(name.as_bytes())?;
     text.extend_from_slice(head.as_bytes())?;
-    for line in first.split("; ").skip(1) {
-        text.extend_from_slice("\n".as_bytes())?;
-        text.extend_from_slice(line.as_bytes())?;
-    }
-    text.extend_from_slice("\n".as_bytes())?;
-    text.extend_from_slice(rest.as_bytes())
+    push_lines(text, more)?;
+    push_lines(text, rest)
 }
 
 /// The rows of the table, each with the lines of the table's head.

@@ -1,64 +1,37 @@
-//! What `check --report` and `convert` print.
+//! What `check --report`, `convert` and `dis` print.
 
 /// A line for each finding, and then the verdict or the fault.
 pub(super) const REPORTS: &str = "
 $ sfi check --report
 = smallest; > accepted sandboxes=1 bundles=16
 = magic; put 0 53464933; > layout fault 1 Magic
-= no instruction; put 36 00000000
-> 0 01000000 V1 decode .half 0x0000
-> refused findings=1 first=V1 sandbox=0 at=01000000
+= no instruction; put 36 00000000; > 0 01000000 V1 decode .half 0x0000; > refused findings=1 first=V1 sandbox=0 at=01000000
 = ecall across the end; put 36 01000100010001000100010001007300
-> 0 0100000e V2 cross .half 0x0073
-> refused findings=1 first=V2 sandbox=0 at=0100000e
-= stub of no gate; put 36 73000000b3ff9001b3ef8f0167800f00
-> 0 01000000 V3 ecall ecall
-> refused findings=1 first=V3 sandbox=0 at=01000000
-= link in x27; put 36 ef0d0001
-> 0 01000000 V4 reserved jal x27, 16
-> refused findings=1 first=V4 sandbox=0 at=01000000
-= pair on x0; put 36 3370b5013360a0012320b000
-> 0 01000008 V5 access sw x11, 0(x0)
-> refused findings=1 first=V5 sandbox=0 at=01000008
+> 0 0100000e V2 cross .half 0x0073; > refused findings=1 first=V2 sandbox=0 at=0100000e
+= stub of no gate; put 36 73000000b3ff9001b3ef8f0167800f00; > 0 01000000 V3 ecall ecall; > refused findings=1 first=V3 sandbox=0 at=01000000
+= link in x27; put 36 ef0d0001; > 0 01000000 V4 reserved jal x27, 16; > refused findings=1 first=V4 sandbox=0 at=01000000
+= pair on x0; put 36 3370b5013360a0012320b000; > 0 01000008 V5 access sw x11, 0(x0); > refused findings=1 first=V5 sandbox=0 at=01000008
 = c.jr; put 36 82800290; > 0 01000000 V6 jump jalr x0, 0(x1); > refused findings=1 first=V6 sandbox=0 at=01000000
-= jal into a bundle; put 36 6f004000
-> 0 01000000 V7 target jal x0, 4
-> refused findings=1 first=V7 sandbox=0 at=01000000
-= branch at the end; put 288 e30a00fe
-> 0 010000fc V8 end beq x0, x0, -12
-> refused findings=1 first=V8 sandbox=0 at=010000fc
+= jal into a bundle; put 36 6f004000; > 0 01000000 V7 target jal x0, 4; > refused findings=1 first=V7 sandbox=0 at=01000000
+= branch at the end; put 288 e30a00fe; > 0 010000fc V8 end beq x0, x0, -12; > refused findings=1 first=V8 sandbox=0 at=010000fc
 = another stub; put 28 01000000; put 36 73000000b3ff9001b3ef8f0167800f01; insert 36 0000000100000000
-> 0 01000000 V9 gate stub expected
-> refused findings=1 first=V9 sandbox=0 at=01000000
+> 0 01000000 V9 gate stub expected; > refused findings=1 first=V9 sandbox=0 at=01000000
 = both sandboxes, the second in two places of a bundle; put 4 02000000; put 52 00000000
-end 292 1 00000002000100000021800100010000000000020000000000000000
-end 320 1 67800000
-end 324 1 ef0d0001
-end 328 62 73001000
-> 0 01000010 V1 decode .half 0x0000
-> 1 02000000 V6 jump jalr x0, 0(x1)
-> 1 02000004 V4 reserved jal x27, 16
+end 292 1 00000002000100000021800100010000000000020000000000000000; end 320 1 67800000; end 324 1 ef0d0001; end 328 62 73001000
+> 0 01000010 V1 decode .half 0x0000; > 1 02000000 V6 jump jalr x0, 0(x1); > 1 02000004 V4 reserved jal x27, 16
 > refused findings=3 first=V1 sandbox=0 at=01000010
 = masks the stack pointer in the second format; put 0 53464932; put 36 3371b501
-> 0 01000000 V10 stack and x2, x10, x27
-> refused findings=1 first=V10 sandbox=0 at=01000000
+> 0 01000000 V10 stack and x2, x10, x27; > refused findings=1 first=V10 sandbox=0 at=01000000
 = no instruction in a word's second half; put 0 53464957; put 36 01000000
-> 0 01000002 V1 decode .half 0x0000
-> refused findings=1 first=V1 sandbox=0 at=01000002
-= across a word's end; put 0 53464957; put 36 01007300
-> 0 01000002 V2 cross .half 0x0073
-> refused findings=1 first=V2 sandbox=0 at=01000002
+> 0 01000002 V1 decode .half 0x0000; > refused findings=1 first=V1 sandbox=0 at=01000002
+= across a word's end; put 0 53464957; put 36 01007300; > 0 01000002 V2 cross .half 0x0073; > refused findings=1 first=V2 sandbox=0 at=01000002
 = store on a register without a type; put 0 53464957; put 36 2320be00
-> 0 01000000 V5 access sw x11, 0(x28)
-> refused findings=1 first=V5 sandbox=0 at=01000000
+> 0 01000000 V5 access sw x11, 0(x28); > refused findings=1 first=V5 sandbox=0 at=01000000
 = writes x2 and uses it, writes x30, and masks it alone; put 0 53464957; put 36 130100002320b100130f0000337f9501
-> 0 01000004 V10 stack sw x11, 0(x2)
-> 0 01000008 V11 code addi x30, x0, 0
-> 0 01000010 V11 code ebreak
+> 0 01000004 V10 stack sw x11, 0(x2); > 0 01000008 V11 code addi x30, x0, 0; > 0 01000010 V11 code ebreak
 > refused findings=3 first=V10 sandbox=0 at=01000004
 = writes x31; put 0 53464957; put 36 930ff0ff33e1af012320b100
-> 0 01000000 V12 offset addi x31, x0, -1
-> refused findings=1 first=V12 sandbox=0 at=01000000
+> 0 01000000 V12 offset addi x31, x0, -1; > refused findings=1 first=V12 sandbox=0 at=01000000
 ";
 
 /// What is converted, and what isn't.
@@ -69,33 +42,60 @@ $ sfi convert
 = of the second format; put 0 53464932; > convert fault 2 NotOld
 = of the second format, cut short; put 0 53464932; cut 40; > convert fault 2 NotOld
 = of code in words; put 0 53464957; > convert fault 5 Words
-= of code in words, with a finding; put 0 53464957; put 36 2320be00
-> refused findings=1 first=V5 sandbox=0 at=01000000
+= of code in words, with a finding; put 0 53464957; put 36 2320be00; > refused findings=1 first=V5 sandbox=0 at=01000000
 = of code in words, cut short; put 0 53464957; cut 40; > layout fault 3 Short
 = of no format; put 0 53464933; > layout fault 1 Magic
 = less a byte; cut 291; > layout fault 3 Short
 = three bytes; cut 3; > layout fault 3 Short
-= the magic changes alone
->+ 1 534649320100000000000001000100000000800100010000000000010000000000000000
->+ 64 73001000
->
+= the magic changes alone; >+ 1 534649320100000000000001000100000000800100010000000000010000000000000000; >+ 64 73001000; >
 = two letters; source; text image of hi
->+ 1 534649320100000000000001000100000000800100010000200000010200000002000000
->+ 1 00000001010000001000000100000000
->+ 1 73000000b3ff9001b3ef8f0167800f0073000000b3ff9001b3ef8f0167800f00
->+ 1 370580011305050093052000eff05ffd37058001130505000100010001000100
->+ 1 b37fb501b3efaf0103c51f00eff05ffc
->+ 88 0290
->+ 1 4869
->
+>+ 1 534649320100000000000001000100000000800100010000200000010200000002000000; >+ 1 00000001010000001000000100000000
+>+ 1 73000000b3ff9001b3ef8f0167800f0073000000b3ff9001b3ef8f0167800f00; >+ 1 370580011305050093052000eff05ffd37058001130505000100010001000100
+>+ 1 b37fb501b3efaf0103c51f00eff05ffc; >+ 88 0290; >+ 1 4869; >
 = an odd digit; source; + 1 5; > input fault hex odd
 ";
 
 /// What becomes of the new image.
 pub(super) const CONVERTED: &str = "
 = the new image is accepted; $ sfi convert | sfi check; > accepted sandboxes=1 bundles=16
-= what is converted runs alike; source; text image of hi
-$ sfi run
-$ sfi convert | sfi run
-> sandbox=0 exit=105 steps=19 out=4869
+= what is converted runs alike; source; text image of hi; $ sfi run; $ sfi convert | sfi run; > sandbox=0 exit=105 steps=19 out=4869
+";
+
+/// Listings, and faults.
+pub(super) const LISTINGS: &str = "
+$ sfi dis
+= the smallest image
+> sandbox 0 code 01000000 256 data 01800000 256 start 01000000 gates 0 init 0; > 01000000 00100073 ebreak; > 01000004 00100073 ebreak
+> 01000008 00100073 ebreak; > 0100000c 00100073 ebreak; > 01000010 00100073 ebreak; > 01000014 00100073 ebreak; > 01000018 00100073 ebreak
+> 0100001c 00100073 ebreak; > 01000020 00100073 ebreak; > 01000024 00100073 ebreak; > 01000028 00100073 ebreak; > 0100002c 00100073 ebreak
+> 01000030 00100073 ebreak; > 01000034 00100073 ebreak; > 01000038 00100073 ebreak; > 0100003c 00100073 ebreak; > 01000040 00100073 ebreak
+> 01000044 00100073 ebreak; > 01000048 00100073 ebreak; > 0100004c 00100073 ebreak; > 01000050 00100073 ebreak; > 01000054 00100073 ebreak
+> 01000058 00100073 ebreak; > 0100005c 00100073 ebreak; > 01000060 00100073 ebreak; > 01000064 00100073 ebreak; > 01000068 00100073 ebreak
+> 0100006c 00100073 ebreak; > 01000070 00100073 ebreak; > 01000074 00100073 ebreak; > 01000078 00100073 ebreak; > 0100007c 00100073 ebreak
+> 01000080 00100073 ebreak; > 01000084 00100073 ebreak; > 01000088 00100073 ebreak; > 0100008c 00100073 ebreak; > 01000090 00100073 ebreak
+> 01000094 00100073 ebreak; > 01000098 00100073 ebreak; > 0100009c 00100073 ebreak; > 010000a0 00100073 ebreak; > 010000a4 00100073 ebreak
+> 010000a8 00100073 ebreak; > 010000ac 00100073 ebreak; > 010000b0 00100073 ebreak; > 010000b4 00100073 ebreak; > 010000b8 00100073 ebreak
+> 010000bc 00100073 ebreak; > 010000c0 00100073 ebreak; > 010000c4 00100073 ebreak; > 010000c8 00100073 ebreak; > 010000cc 00100073 ebreak
+> 010000d0 00100073 ebreak; > 010000d4 00100073 ebreak; > 010000d8 00100073 ebreak; > 010000dc 00100073 ebreak; > 010000e0 00100073 ebreak
+> 010000e4 00100073 ebreak; > 010000e8 00100073 ebreak; > 010000ec 00100073 ebreak; > 010000f0 00100073 ebreak; > 010000f4 00100073 ebreak
+> 010000f8 00100073 ebreak; > 010000fc 00100073 ebreak
+= half of an ecall; put 36 01000100010001000100010001007300
+> sandbox 0 code 01000000 256 data 01800000 256 start 01000000 gates 0 init 0; > 01000000 0001 addi x0, x0, 0; > 01000002 0001 addi x0, x0, 0
+> 01000004 0001 addi x0, x0, 0; > 01000006 0001 addi x0, x0, 0; > 01000008 0001 addi x0, x0, 0; > 0100000a 0001 addi x0, x0, 0
+> 0100000c 0001 addi x0, x0, 0; > 0100000e .bytes 7300; > 01000010 00100073 ebreak; ..; >; > 010000fc 00100073 ebreak
+= no instruction at the front; put 36 1f000102030405060708090a0b0c0d0e
+> sandbox 0 code 01000000 256 data 01800000 256 start 01000000 gates 0 init 0; > 01000000 .bytes 1f000102030405060708090a0b0c0d0e
+> 01000010 00100073 ebreak; ..; >; > 010000fc 00100073 ebreak
+= a gate and first data; put 28 0100000000000000; put 36 73000000b3ff9001b3ef8f0167800f00; insert 36 0000000105000000
+> sandbox 0 code 01000000 256 data 01800000 256 start 01000000 gates 1 init 0; > gate 01000000 5; > 01000000 00000073 ecall
+> 01000004 0190ffb3 and x31, x1, x25; > 01000008 018fefb3 or x31, x31, x24; > 0100000c 000f8067 jalr x0, 0(x31); > 01000010 00100073 ebreak; ..; >
+> 010000fc 00100073 ebreak
+= the second format; put 0 53464932; put 36 3371b501
+> format SFI2; > sandbox 0 code 01000000 256 data 01800000 256 start 01000000 gates 0 init 0; > 01000000 01b57133 and x2, x10, x27
+> 01000004 00100073 ebreak; ..
+= code in words; put 0 53464957; put 36 33e1af01411106c0
+> format SFIW; > sandbox 0 code 01000000 256 data 01800000 256 start 01000000 gates 0 init 0; > 01000000 01afe133 or x2, x31, x26
+> 01000004 1141 addi x2, x2, -16; > 01000006 c006 sw x1, 0(x2); > 01000008 00100073 ebreak; ..
+= no format; put 0 53464933; > layout fault 1 Magic
+= an odd digit; source; + 1 53464; > input fault hex odd
 ";

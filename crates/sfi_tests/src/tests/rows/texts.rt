@@ -1,6 +1,5 @@
 //! Texts of more than one row, by their names.
 use super::super::programs::{HI, HI_IMAGE, NAMES, READS, READS_IMAGE, YIELDS, YIELDS_IMAGE};
-use super::sources;
 
 // The texts by their names. One table of all of them would take the prover long.
 
@@ -14,21 +13,11 @@ const PROGRAMS: &[(&str, &str)] = &[
     ("names", NAMES),
 ];
 
-const EXAMPLES: &[(&str, &str)] = &[
-    ("hi.s", sources::HI),
-    ("echo.s", sources::ECHO),
-    ("checksum.s", sources::CHECKSUM),
-    ("counter.s", sources::COUNTER),
-    ("primes.s", sources::PRIMES),
-    ("fibonacci.s", sources::FIBONACCI),
-    ("hanoi.s", sources::HANOI),
-    ("sort.s", sources::SORT),
-];
-
 const OTHERS: &[(&str, &str)] = &[
     ("sandbox", SANDBOX),
     ("two sandboxes", TWO_SANDBOXES),
     ("64 gates", GATES),
+    ("16 puts", PUTS),
     ("digits of 64 gates", GATE_DIGITS),
     ("jumps", JUMPS),
     ("stacked", STACKED),
@@ -53,17 +42,13 @@ fn program(name: &str) -> Option<&'static str> {
     named_in(PROGRAMS, name)
 }
 
-fn example(name: &str) -> Option<&'static str> {
-    named_in(EXAMPLES, name)
-}
-
 fn other(name: &str) -> Option<&'static str> {
     named_in(OTHERS, name)
 }
 
 /// The text of that name.
 pub(super) fn text_named(name: &str) -> Option<&'static str> {
-    program(name).or(example(name)).or(other(name))
+    program(name).or(other(name))
 }
 
 // A sandbox that returns.
@@ -79,71 +64,29 @@ ret
 ";
 
 // As many gates as a sandbox may have.
-const GATES: &str = ".sandbox 256
-.gate g0 0
-.gate g1 0
-.gate g2 0
-.gate g3 0
-.gate g4 0
-.gate g5 0
-.gate g6 0
-.gate g7 0
-.gate g8 0
-.gate g9 0
-.gate g10 0
-.gate g11 0
-.gate g12 0
-.gate g13 0
-.gate g14 0
-.gate g15 0
-.gate g16 0
-.gate g17 0
-.gate g18 0
-.gate g19 0
-.gate g20 0
-.gate g21 0
-.gate g22 0
-.gate g23 0
-.gate g24 0
-.gate g25 0
-.gate g26 0
-.gate g27 0
-.gate g28 0
-.gate g29 0
-.gate g30 0
-.gate g31 0
-.gate g32 0
-.gate g33 0
-.gate g34 0
-.gate g35 0
-.gate g36 0
-.gate g37 0
-.gate g38 0
-.gate g39 0
-.gate g40 0
-.gate g41 0
-.gate g42 0
-.gate g43 0
-.gate g44 0
-.gate g45 0
-.gate g46 0
-.gate g47 0
-.gate g48 0
-.gate g49 0
-.gate g50 0
-.gate g51 0
-.gate g52 0
-.gate g53 0
-.gate g54 0
-.gate g55 0
-.gate g56 0
-.gate g57 0
-.gate g58 0
-.gate g59 0
-.gate g60 0
-.gate g61 0
-.gate g62 0
-.gate g63 0
+const GATES: &str =
+    ".sandbox 256\n.gate g0 0\n.gate g1 0\n.gate g2 0\n.gate g3 0\n.gate g4 0\n.gate g5 0\n\
+    .gate g6 0\n.gate g7 0\n.gate g8 0\n.gate g9 0\n.gate g10 0\n.gate g11 0\n.gate g12 0\n\
+    .gate g13 0\n.gate g14 0\n.gate g15 0\n.gate g16 0\n.gate g17 0\n.gate g18 0\n.gate g19 0\n\
+    .gate g20 0\n.gate g21 0\n.gate g22 0\n.gate g23 0\n.gate g24 0\n.gate g25 0\n.gate g26 0\n\
+    .gate g27 0\n.gate g28 0\n.gate g29 0\n.gate g30 0\n.gate g31 0\n.gate g32 0\n.gate g33 0\n\
+    .gate g34 0\n.gate g35 0\n.gate g36 0\n.gate g37 0\n.gate g38 0\n.gate g39 0\n.gate g40 0\n\
+    .gate g41 0\n.gate g42 0\n.gate g43 0\n.gate g44 0\n.gate g45 0\n.gate g46 0\n.gate g47 0\n\
+    .gate g48 0\n.gate g49 0\n.gate g50 0\n.gate g51 0\n.gate g52 0\n.gate g53 0\n.gate g54 0\n\
+    .gate g55 0\n.gate g56 0\n.gate g57 0\n.gate g58 0\n.gate g59 0\n.gate g60 0\n.gate g61 0\n\
+    .gate g62 0\n.gate g63 0\n";
+
+// Puts 65536 bytes 16 times.
+const PUTS: &str = ".sandbox 65536
+.gate put 1
+.gate quit 0
+li s0, 16
+again: la a0, bytes
+li a1, 65536
+call put
+addi s0, s0, -1
+bnez s0, again
+la a0, bytes
 ";
 
 // The digits of 64 gates of service 0, one in each of the first bundles.
