@@ -15,7 +15,6 @@ import os
 import shutil
 import struct
 import subprocess
-import sys
 import tempfile
 
 import images
@@ -123,8 +122,7 @@ def main():
     end = options.seed + options.images
     with tempfile.TemporaryDirectory() as folder:
         same = comparisons(program, folder, range(options.seed, end), range(end, end + 20 * options.images))
-    print(f"{same.count(True)} passed, {same.count(False)} failed")
-    sys.exit(0 if all(same) else 1)
+    measure.end(same)
 
 
 if __name__ == "__main__":

@@ -13,7 +13,6 @@ line `N passed, M failed`.
 import argparse
 import collections
 import random
-import sys
 
 import compare
 import images
@@ -103,8 +102,7 @@ def main():
     same.append(compare_kinds(program))
     same += compare_runs(program, pick, options.images // 20)
     same += [is_needed(program, pick, rule) for rule in word_rules.RULES]
-    print(f"{same.count(True)} passed, {same.count(False)} failed")
-    sys.exit(0 if all(same) else 1)
+    measure.end(same)
 
 
 if __name__ == "__main__":

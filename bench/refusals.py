@@ -11,7 +11,6 @@ import argparse
 import os
 import shutil
 import subprocess
-import sys
 import tempfile
 
 import measure
@@ -99,8 +98,7 @@ def main():
     with tempfile.TemporaryDirectory() as folder:
         library = measure.compiled("refuse.c", os.path.join(folder, "refuse.so"), "-shared", "-fPIC")
         kept = [keeps_its_word(program, words, text, library) for words, text in all_commands]
-    print(f"{kept.count(True)} passed, {kept.count(False)} failed")
-    sys.exit(not all(kept))
+    measure.end(kept)
 
 
 if __name__ == "__main__":

@@ -1,9 +1,9 @@
-# What the shell tests of the examples share: a folder for what is made, $room, and the counts of the last
-# line. A test sources this before all else that it does.
+# What the tests in shell share: a folder for what is made, $room, and the counts of the last line. A test
+# sources this before all else that it does.
 passed=0
 failed=0
 skipped=0
-room=$(mktemp -d)
+room=$(mktemp -d) || exit 1
 trap 'rm -rf "$room"' EXIT
 
 report_as() { # a status, 0 where it passed; what is tried, what is wanted, what is found
@@ -21,10 +21,19 @@ report() { # what is tried, what is wanted, what is found
     report_as "$status" "$@"
 }
 
+succeeds() { # what is tried; a command, which has to end in 0
+    local what=$1
+    shift
+    "$@" >"$room/log" 2>&1
+    report_as $? "$what" "$*" "$(tail -n 30 "$room/log")"
+}
+
 skip() { # how many tests, what, and why
     skipped=$((skipped + $1))
     echo "skipped: $2: $3"
 }
+
+digits_of() { od -An -v -tx1 "$@" | tr -d ' \n'; } # the bytes of a file, or of standard input
 
 has() { command -v "$1" >"$room/which" 2>&1; }
 
@@ -40,6 +49,14 @@ source_of_c() { # a program; nothing where it would take a compiler that isn't t
 
 needs() { # what needs it, a command, the Debian package that has it
     has "$2" || skip 1 "$1" "$2 isn't there (Debian's package $3)"
+}
+
+add_counts() { # the last line of another test; whether it is such a line, and counts anything
+    local form='^([0-9]+) passed, ([0-9]+) failed(, ([0-9]+) skipped)?$'
+    [[ $1 =~ $form ]] && ((BASH_REMATCH[1] + BASH_REMATCH[2] + BASH_REMATCH[4] > 0)) || return
+    passed=$((passed + BASH_REMATCH[1]))
+    failed=$((failed + BASH_REMATCH[2]))
+    skipped=$((skipped + BASH_REMATCH[4]))
 }
 
 finish() {

@@ -78,7 +78,3 @@ class Building(unittest.TestCase):
     def test_without_a_line_of_an_error_the_last_lines_are_told(self):
         _, _, told = self.built(crates(-9, "one\ntwo"))
         self.assertIn("one\ntwo\nsfi: text failed", told)
-
-
-if __name__ == "__main__":
-    unittest.main()

@@ -1,24 +1,20 @@
-#!/usr/bin/env python3
-"""Tests of floating point by sfi-cc: `[SFI=PATH] tools/unit_tests.py tools`. They are skipped where a compiler, GCC's
+"""Tests of floating point by sfi-cc: `tools/unit_tests.py tools`. They are skipped where a compiler, GCC's
 sources or the program isn't there."""
 import glob
 import os
 import shutil
 import subprocess
 import sys
-import tempfile
 import unittest
 from dataclasses import replace
 
-TOOLS = os.path.dirname(os.path.abspath(__file__))
+from testing import COMPILERS, GCC, SFI, SFI_CC, TOOLS, Folder, needs
+
 sys.path.insert(0, os.path.join(TOOLS, "sfi_cc"))
 
 import softfloat
 from sources import GCC_SOURCE
 
-SFI_CC = os.path.join(TOOLS, "sfi-cc")
-SFI = os.environ.get("SFI", os.path.join(os.path.dirname(TOOLS), "crates", "sfi", "out", "sfi"))
-GCC = "riscv64-unknown-elf-gcc"
 SOURCES = GCC_SOURCE.where()
 
 # The sum of bits that the IEEE 754 formats fix: 3.5 * 2, 1/3 in 32 and 64 bits, (3+4i)/(1-2i) = -1+2i, 1.5 ** 5.
@@ -41,14 +37,10 @@ int main(void) {
 """
 
 
-class Floats(unittest.TestCase):
+class Floats(Folder):
     def setUp(self):
-        room = tempfile.TemporaryDirectory()
-        self.addCleanup(room.cleanup)
-        self.folder = room.name
-        self.file = os.path.join(self.folder, "floats.c")
-        with open(self.file, "w", encoding="utf-8") as file:
-            file.write(PROGRAM.replace("CONSTANT", "third > 1 ? 5 : 4"))
+        super().setUp()
+        self.file = self.write("floats.c", PROGRAM.replace("CONSTANT", "third > 1 ? 5 : 4"))
 
     def started(self, *words, **variables):
         return subprocess.Popen([SFI_CC, "-w", "--program", SFI, *words, self.file], stdout=subprocess.PIPE,
@@ -61,7 +53,7 @@ class Floats(unittest.TestCase):
 
     @unittest.skipUnless(SOURCES and os.path.exists(SFI), "GCC's sources or the program isn't there")
     def test_answers(self):
-        for compiler in filter(shutil.which, (GCC, "clang")):
+        for compiler in COMPILERS:
             self.assertIn(b"exit=42 ", self.answer(self.started("--cc", compiler)))
 
     @unittest.skipUnless(SOURCES and os.path.exists(SFI) and shutil.which(GCC), "a compiler or the sources aren't there")
@@ -76,7 +68,7 @@ class Floats(unittest.TestCase):
         self.assertTrue({"muldf3.asm", "divtc3.asm", "fixunssfdi.asm"} <= set(names))
         self.assertEqual([name for name in names if not name.endswith(".asm")], [])
 
-    @unittest.skipUnless(shutil.which(GCC), f"{GCC} isn't there")
+    @needs(GCC)
     def test_sources_that_are_not_there(self):
         lines = self.started("--cc", GCC, GCC_SOURCE="/nowhere").communicate()[1].decode().splitlines()
         self.assertEqual(lines, ["sfi-cc: /nowhere, which GCC_SOURCE names, isn't there"])
@@ -88,8 +80,7 @@ class Floats(unittest.TestCase):
     def test_what_speaks_of_floats(self):
         for text, wanted in (("\tcall\t__muldf3\n", True), ("\ttail\t__floatundisf\n", True), ("\tcall\t__divdc3\n", True),
                              ("\tcall\t__udivdi3\n\tcall\t__popcountsi2\n", False), ("\tcall\tmuldf3\n", False)):
-            with open(self.file, "w", encoding="utf-8") as file:
-                file.write(text)
+            self.write("floats.c", text)
             self.assertEqual(softfloat.speaks_of_floats([self.file]), wanted, text)
 
     def test_every_function(self):
@@ -104,7 +95,3 @@ class Floats(unittest.TestCase):
         self.assertEqual([name for name in names if not softfloat.SOFT_FP.fullmatch(name)], [])
         self.assertEqual([name for name in ("fixdfti", "extendhfsf2", "floattidf", "addxf3")
                           if softfloat.SOFT_FP.fullmatch(name)], [])
-
-
-if __name__ == "__main__":
-    unittest.main()

@@ -1,7 +1,5 @@
-#!/usr/bin/env python3
 """Tests of ./install and tools/release.py: `tools/unit_tests.py tools`. They are skipped where the program or a library
 isn't built, or gcc isn't there."""
-import gzip
 import hashlib
 import os
 import pathlib
@@ -9,17 +7,13 @@ import shutil
 import subprocess
 import sys
 import tarfile
-import tempfile
 import unittest
 
-TOOLS = pathlib.Path(__file__).resolve().parent
-sys.path.insert(0, str(TOOLS))
 import installed
 import libraries
 import version
+from testing import GCC, TOP, Folder, needs
 
-TOP = TOOLS.parent
-GCC = "riscv64-unknown-elf-gcc"
 READY = all(it.is_file() for it in installed.built()) and shutil.which("gcc") and shutil.which("git")
 SMALLEST = (TOP / "examples" / "smallest.hex").read_text(encoding="ascii")
 ACCEPTED = "accepted sandboxes=1 bundles=16\n"
@@ -63,11 +57,9 @@ def tree(folder):
 
 
 @unittest.skipUnless(READY, "the program, a library, gcc or git isn't there")
-class Installing(unittest.TestCase):
+class Installing(Folder):
     def setUp(self):
-        room = tempfile.TemporaryDirectory()
-        self.addCleanup(room.cleanup)
-        self.room = pathlib.Path(room.name)
+        super().setUp()
         self.prefix = self.room / "prefix"
 
     def install(self, *words, top=TOP):
@@ -90,17 +82,17 @@ class Installed(Installing):
         done = run("sfi", "check", given=SMALLEST, env=self.env)
         self.assertEqual((done.stdout, done.returncode), (ACCEPTED, 0))
 
-    @unittest.skipUnless(shutil.which(GCC), f"{GCC} isn't there")
+    @needs(GCC)
     def test_c_becomes_an_image(self):
-        (self.room / "hello.c").write_text(HELLO, encoding="utf-8")
+        self.write("hello.c", HELLO)
         image = run("sfi-cc", "hello.c", env=self.env, cwd=self.room)
         self.assertEqual((image.returncode, image.stderr), (0, ""))
         self.assertIn("exit=105", run("sfi", "run", given=image.stdout, env=self.env).stdout)
 
-    @unittest.skipUnless(shutil.which("pkg-config"), "pkg-config isn't there")
+    @needs("pkg-config")
     def test_programs_are_linked(self):
         for library, (source, told) in TOLD.items():
-            (self.room / "host.c").write_text(source, encoding="utf-8")
+            self.write("host.c", source)
             flags = run("pkg-config", "--cflags", "--libs", library, env=self.env).stdout.split()
             shared = [*flags, f"-Wl,-rpath,{self.prefix}/lib"]
             static = [f"-I{self.prefix}/include", f"{self.prefix}/lib/lib{library}.a"]
@@ -113,7 +105,7 @@ class Installed(Installing):
                     needed = run("readelf", "-d", self.room / "host").stdout
                     self.assertEqual(libraries.shared_name(library) in needed, name == "shared")
 
-    @unittest.skipUnless(shutil.which("pkg-config"), "pkg-config isn't there")
+    @needs("pkg-config")
     def test_the_packages_state_the_version(self):
         for library in TOLD:
             self.assertEqual(run("pkg-config", "--modversion", library, env=self.env).stdout, f"{version.version()}\n")
@@ -125,7 +117,7 @@ class Installed(Installing):
         done = run(sys.executable, "-c", words, given=bytes.fromhex(SMALLEST), env=env)
         self.assertEqual((done.stdout.decode(), done.stderr), ("Trapped(cause=<Cause.BREAK: 3>, address=16777216)\n", b""))
 
-    @unittest.skipUnless(shutil.which("cargo"), "cargo isn't there")
+    @needs("cargo")
     def test_the_crate_for_rust_is_linked(self):
         (self.room / "smallest.image").write_bytes(bytes.fromhex(SMALLEST))
         env = {**self.env, "CARGO_TARGET_DIR": str(self.room / "target")}
@@ -140,7 +132,7 @@ class Installed(Installing):
             names = sorted(it.split()[2] for it in said.splitlines())
             self.assertEqual(names, libraries.calls(libraries.header(library)))
 
-    @unittest.skipUnless(shutil.which("man"), "man isn't there")
+    @needs("man")
     def test_the_manual_is_found(self):
         for page in installed.PAGES:
             found = run("man", "-w", page[:-2], env={**self.env, "MANPATH": str(self.prefix / "share" / "man")})
@@ -290,7 +282,3 @@ class Scratch(Installing):
         self.assertEqual(done.returncode, 1)
         self.assertIn("crates/sfi_c/out/libsfi_c.a isn't built: tools/build_library.py", done.stderr)
         self.assertFalse(self.prefix.exists())
-
-
-if __name__ == "__main__":
-    unittest.main()

@@ -1,5 +1,4 @@
-#!/usr/bin/env python3
-"""Tests of sfi-library: `[SFI=PATH] tools/unit_tests.py tools`. What each program prints is compared with what the C
+"""Tests of sfi-library: `tools/unit_tests.py tools`. What each program prints is compared with what the C
 standard has it print. They are skipped where the compiler, the sources or the program isn't there. The library is kept,
 so that only the first run compiles it."""
 import os
@@ -8,7 +7,8 @@ import subprocess
 import tempfile
 import unittest
 
-from test_floats import GCC, SFI, SFI_CC, SOURCES, TOOLS  # finds the modules of sfi-cc, too
+from test_floats import SOURCES  # finds the modules of sfi-cc, too
+from testing import GCC, SFI, SFI_CC, TOOLS
 from sources import NEWLIB_SOURCE
 
 SFI_LIBRARY = os.path.join(TOOLS, "sfi-library")
@@ -127,7 +127,3 @@ class Library(unittest.TestCase):
         self.assertEqual((done.returncode, done.stderr), (2, f"sfi-library: {os.path.dirname(file)} is there, and is no "
                                                              "library\n"))
         self.assertTrue(os.path.exists(file))
-
-
-if __name__ == "__main__":
-    unittest.main()

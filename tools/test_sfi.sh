@@ -11,7 +11,7 @@ trap 'chmod -R u+w "$room"; rm -rf "$room"' EXIT
 copy=$room/checkout
 out=$copy/crates/sfi/out
 
-report() { # a status, 0 where it passed; its name, and what is found
+holds() { # a status, 0 where it passed; its name, and what is found
     report_as "$1" "$2" "what its name says" "$3"
 }
 
@@ -89,52 +89,52 @@ change() { touch -d "${2:-now}" "$copy/crates/$1"; }
 first_build() {
     call "$copy/sfi" check --raw
     ran check --raw && [ "$(calls)" = 1 ] && says "proving and building the program"
-    report $? "the first call builds the program, and runs it" "$found"
+    holds $? "the first call builds the program, and runs it" "$found"
     [ "$(cat "$out/sfi.log")" = "all that rt printed" ]
-    report $? "what rt prints is kept" "$(cat "$out/sfi.log")"
+    holds $? "what rt prints is kept" "$(cat "$out/sfi.log")"
     call "$copy/sfi" check
     ran check && [ "$(calls)" = 0 ] && [ ! -s "$room/errors" ]
-    report $? "a second call builds nothing, and says nothing" "$found"
+    holds $? "a second call builds nothing, and says nothing" "$found"
 }
 
 which_changes_count() {
     change sfi_tests/src/lib.rt && change ffi/src/lib.rt
     call "$copy/sfi" check
     ran check && [ "$(calls)" = 0 ]
-    report $? "a crate that the program doesn't stand on starts no build" "$found"
+    holds $? "a crate that the program doesn't stand on starts no build" "$found"
     change low/src/tests.rt && change low/src/tests/rows.rt && change low/proofs/tests/Rows.antt
     call "$copy/sfi" check
     ran check && [ "$(calls)" = 0 ]
-    report $? "tests of a crate start no build" "$found"
+    holds $? "tests of a crate start no build" "$found"
     change low/src/lib.rt && change mid/specs/Lib.antt
     call "$copy/sfi" check
     ran check && [ "$(calls)" = 1 ] && says "2 of 3 crates have changed (mid low)"
-    report $? "changed crates are built anew, and told" "$found"
+    holds $? "changed crates are built anew, and told" "$found"
 }
 
 places() {
     mkdir -p "$room/elsewhere" && ln -s "$copy/sfi" "$room/elsewhere/link"
     call "$room/elsewhere/link" check
     ran check && [ "$(ls -A "$room/elsewhere")" = link ]
-    report $? "through a link, which leaves nothing beside it" "$found; $(ls -A "$room/elsewhere")"
+    holds $? "through a link, which leaves nothing beside it" "$found; $(ls -A "$room/elsewhere")"
     rm -r "$room/elsewhere"
     found=$(cd "$copy/crates" && ../sfi check 2>&1)
     [ "$found" = "program check" ]
-    report $? "from another folder" "$found"
+    holds $? "from another folder" "$found"
 }
 
 failing() {
     change low/src/lib.rt && touch "$room/break"
     call "$copy/sfi" check
     says "status 125" && [ ! -s "$room/output" ]
-    report $? "a build that fails ends in 125, and runs nothing" "$found"
+    holds $? "a build that fails ends in 125, and runs nothing" "$found"
     [ "$(tail -n 2 "$room/errors")" = "src/lib.rt:3:5: error: the reason
 sfi: the program can't be built; all that rt printed is in $out/sfi.log" ]
-    report $? "it tells the reason, and where all lines are" "$(tail -n 5 "$room/errors")"
+    holds $? "it tells the reason, and where all lines are" "$(tail -n 5 "$room/errors")"
     call "$copy/sfi" check
     rm "$room/break"
     [ "$(calls)" = 1 ] && says "status 125"
-    report $? "the call after it builds" "$found"
+    holds $? "the call after it builds" "$found"
 }
 
 # The tools that the wrapper calls, without rt.
@@ -150,16 +150,16 @@ where_none_can_be_built() {
     says "program check
 0
 sfi: sources have changed since the program was built, and it can't be built here: the Rattle toolchain isn't"
-    report $? "without the toolchain the program that is there is run" "$found"
+    holds $? "without the toolchain the program that is there is run" "$found"
     mv "$out/sfi" "$room/kept"
     without_rt check
     says "125
 sfi: the program isn't built, and can't be built here: the Rattle toolchain isn't there"
-    report $? "without the toolchain and a program it ends in 125" "$found"
+    holds $? "without the toolchain and a program it ends in 125" "$found"
     without_rt try check
     says "125
 sfi: the Rattle toolchain isn't there"
-    report $? "nor is anything tried there" "$found"
+    holds $? "nor is anything tried there" "$found"
     mv "$room/kept" "$out/sfi"
     if [ "$(id -u)" != 0 ]; then
         chmod a-w "$out"
@@ -172,7 +172,7 @@ sfi: the Rattle toolchain isn't there"
         return
     fi
     ran check && [ "$(calls)" = 0 ] && says "can't be written; this runs it as it is"
-    report $? "where nothing can be written the program that is there is run" "$found"
+    holds $? "where nothing can be written the program that is there is run" "$found"
 }
 
 # Waits until a command succeeds, 10 seconds at most.
@@ -182,7 +182,7 @@ await() {
         "$@" && return
         sleep 0.05
     done
-    report 1 "waiting for: $*" "10 seconds have passed"
+    holds 1 "waiting for: $*" "10 seconds have passed"
 }
 
 statuses() {
@@ -190,7 +190,7 @@ statuses() {
     while IFS=: read -r status told; do
         call "$copy/sfi" "$status"
         [ "$found" = "said $status; $told; status $status" ]
-        report $? "status $status of the program is that of the wrapper, and told if it is 4 or 5" "$found"
+        holds $? "status $status of the program is that of the wrapper, and told if it is 4 or 5" "$found"
     done <<'ROWS'
 0:
 1:
@@ -200,13 +200,13 @@ statuses() {
 ROWS
     call "$copy/sfi" killed
     says "status 137"
-    report $? "where a signal ends the program it ends the wrapper" "$found"
+    holds $? "where a signal ends the program it ends the wrapper" "$found"
     found=$(echo words | "$copy/sfi" copy)
     [ "$found" = words ]
-    report $? "the program reads the wrapper's input" "$found"
+    holds $? "the program reads the wrapper's input" "$found"
     found=$("$copy/sfi" copy 2>&1 <&-)
     [ $? = 1 ]
-    report $? "a closed input is closed for the program" "$found"
+    holds $? "a closed input is closed for the program" "$found"
     rm -f "$room/process"
     ROOM=$room "$copy/sfi" sleep &
     await test -s "$room/process"
@@ -214,7 +214,7 @@ ROWS
     wait "$!" 2>>"$room/errors"
     found="status $?"
     [ "$found" = "status 143" ] && ! kill -0 "$(cat "$room/process")" 2>>"$room/errors"
-    report $? "a signal ends the program, too" "$found"
+    holds $? "a signal ends the program, too" "$found"
 }
 
 tries() {
@@ -223,17 +223,17 @@ tries() {
     call "$copy/sfi" try check --raw
     [ "$found" = "program check --raw; $said; status 0" ] &&
         [ "$(cat "$room/calls")" = "try --seconds 3600 -- check --raw in sfi" ]
-    report $? "a try builds nothing, and says that nothing is proved" "$found; $(cat "$room/calls")"
+    holds $? "a try builds nothing, and says that nothing is proved" "$found; $(cat "$room/calls")"
     call "$copy/sfi" try 4
     says "said 4; $said
 sfi: memory ran out, and nothing was printed (status 4); status 4"
-    report $? "its status is the command's" "$found"
+    holds $? "its status is the command's" "$found"
     found=$(printf 'words\n\n' | PATH=$room/bin:$PATH ROOM=$room "$copy/sfi" try copy 2>"$room/errors" | od -c)
     [ "$found" = "$(printf 'words\n\n' | od -c)" ]
-    report $? "it reads the wrapper's input" "$found"
+    holds $? "it reads the wrapper's input" "$found"
     call "$copy/sfi" try fault
     says "checked: fault" && says "the command didn't end, as the lines above say; status 125"
-    report $? "one that doesn't end is told, by status 125" "$found"
+    holds $? "one that doesn't end is told, by status 125" "$found"
 }
 
 named_program() {
@@ -241,13 +241,13 @@ named_program() {
     change low/src/lib.rt
     call env SFI="$room/other" "$copy/sfi" check --raw
     [ "$found" = "other check --raw; sfi: this runs $room/other, as SFI says; status 3" ] && [ "$(calls)" = 0 ]
-    report $? "a program that SFI names is taken as it is, and named" "$found"
+    holds $? "a program that SFI names is taken as it is, and named" "$found"
     call env SFI="$copy/sfi" "$copy/sfi" check
     ran check && [ "$(calls)" = 1 ]
-    report $? "where SFI names the wrapper it counts for nothing" "$found"
+    holds $? "where SFI names the wrapper it counts for nothing" "$found"
     call env SFI="$room/none" "$copy/sfi" check
     says "status 125" && says "$room/none"
-    report $? "where SFI names no program it ends in 125" "$found"
+    holds $? "where SFI names no program it ends in 125" "$found"
 }
 
 make_copy

@@ -1,16 +1,10 @@
-#!/usr/bin/env python3
-"""Tests of sfi-cc: `[SFI=PATH] tools/unit_tests.py tools`. Where a compiler or the program isn't there, stand-ins that
+"""Tests of sfi-cc: `tools/unit_tests.py tools`. Where a compiler or the program isn't there, stand-ins that
 print or fail as the test wants show what becomes of each step; the tests of the real ones are skipped."""
 import os
 import shutil
 import subprocess
-import tempfile
-import unittest
 
-TOOLS = os.path.dirname(os.path.abspath(__file__))
-SFI_CC = os.path.join(TOOLS, "sfi-cc")
-SFI = os.environ.get("SFI", os.path.join(os.path.dirname(TOOLS), "crates", "sfi", "out", "sfi"))
-GCC = "riscv64-unknown-elf-gcc"
+from testing import GCC, SFI, SFI_CC, Folder, needs, needs_program
 
 HELLO = '#include "gates.h"\n\nint main(void) {\n    put("Hi", 2);\n    return 105;\n}\n'
 ASSEMBLY = "\t.text\n\t.globl\tmain\nmain:\n\tli\ta0,7\n\tret\n"
@@ -22,28 +16,7 @@ FAULT = "source fault 1 Word line 3"
 VERDICT = "refused findings=1 first=V5 sandbox=0 at=01000000"
 
 
-class Folder(unittest.TestCase):
-    """Tests with a folder of their own."""
-
-    def setUp(self):
-        room = tempfile.TemporaryDirectory()
-        self.addCleanup(room.cleanup)
-        self.folder = room.name
-
-    def path(self, name):
-        return os.path.join(self.folder, name)
-
-    def write(self, name, text, mode=0o644):
-        os.makedirs(os.path.dirname(self.path(name)), exist_ok=True)
-        with open(self.path(name), "w", encoding="utf-8") as file:
-            file.write(text)
-        os.chmod(self.path(name), mode)
-        return self.path(name)
-
-    def read(self, name):
-        with open(self.path(name), encoding="utf-8") as file:
-            return file.read()
-
+class Calls(Folder):
     @staticmethod
     def call(*words):
         """The status of a call, its output, and the lines on standard error."""
@@ -51,7 +24,7 @@ class Folder(unittest.TestCase):
         return done.returncode, done.stdout, done.stderr.splitlines()
 
 
-class Steps(Folder):
+class Steps(Calls):
     """What becomes of each step's answer."""
 
     def setUp(self):
@@ -183,8 +156,8 @@ cp {self.folder}/main.asm "$2"
         self.assertEqual(self.call("-O2")[2][-1], "sfi-cc: error: a FILE of C, C++ or assembly is wanted")
 
 
-@unittest.skipUnless(os.access(SFI, os.X_OK), f"{SFI} isn't built")
-class Programs(Folder):
+@needs_program
+class Programs(Calls):
     """Real compilers, and the program itself."""
 
     def runs(self, *words):
@@ -198,12 +171,12 @@ class Programs(Folder):
         for image_format in ("1", "2"):
             self.assertEqual(self.runs("--format", image_format, *words, file), ["sandbox=0", "exit=105", "out=4869"])
 
-    @unittest.skipUnless(shutil.which(GCC), f"{GCC} isn't there")
+    @needs(GCC)
     def test_gcc(self):
         for options in ([], ["-O0", "-g"], ["-Os", "--stack", "65536"]):
             self.compare("--cc", GCC, *options)
 
-    @unittest.skipUnless(shutil.which(GCC), f"{GCC} isn't there")
+    @needs(GCC)
     def test_code_on_the_stack(self):
         """By gcc's own warning, and by the converter where -w takes that away."""
         file = self.write("nested.c", "int apply(int (*f)(int)) { return f(1); }\n"
@@ -213,12 +186,12 @@ class Programs(Folder):
             self.assertEqual((status, image), (1, ""))
             self.assertIn(wanted, "".join(told))
 
-    @unittest.skipUnless(shutil.which("clang") and shutil.which("llc"), "clang or llc isn't there")
+    @needs("clang", "llc")
     def test_clang(self):
         for options in ([], ["-O0", "-g"], ["-Os"]):
             self.compare("--cc", "clang", *options)
 
-    @unittest.skipUnless(shutil.which(GCC), f"{GCC} isn't there")
+    @needs(GCC)
     def test_assembly_and_cpp(self):
         main = self.write("main.cc", '''extern "C" int twice(int number);
 struct Shape { virtual int corners() const = 0; };
@@ -231,12 +204,8 @@ int main() { return twice(19) + corners_of(Square()); }
             for level in ("-O0", "-O2"):
                 self.assertEqual(self.runs("--cc", compiler, level, main, twice), ["sandbox=0", "exit=42", "out="])
 
-    @unittest.skipUnless(shutil.which(GCC), f"{GCC} isn't there")
+    @needs(GCC)
     def test_two_files_of_one_name(self):
         first = self.write("a/part.c", "int other(int);\nint main(void) { return other(40); }\n")
         second = self.write("b/part.c", "int other(int number) { return number + ADDED; }\n")
         self.assertEqual(self.runs("--cc", GCC, "-D", "ADDED=2", first, second), ["sandbox=0", "exit=42", "out="])
-
-
-if __name__ == "__main__":
-    unittest.main()

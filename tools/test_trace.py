@@ -1,23 +1,15 @@
-#!/usr/bin/env python3
-"""Tests of sfi-trace: `[SFI=PATH] tools/unit_tests.py tools`. They are skipped where the program or the library of the
+"""Tests of sfi-trace: `tools/unit_tests.py tools`. They are skipped where the program or the library of the
 runtime isn't built. What is wanted is counted by hand, or is what `sfi run` and `sfi dis` print."""
 import os
-import pathlib
 import re
 import shutil
 import subprocess
-import sys
-import tempfile
 import unittest
 
-TOOLS = pathlib.Path(__file__).resolve().parent
-TOP = TOOLS.parent
-TRACE = TOOLS / "sfi-trace"
-SFI = os.environ.get("SFI", str(TOP / "crates" / "sfi" / "out" / "sfi"))
-GCC = "riscv64-unknown-elf-gcc"
-sys.path.insert(0, str(TOOLS))
 import libraries
+from testing import GCC, SFI, TOOLS, TOP, Folder, needs
 
+TRACE = TOOLS / "sfi-trace"
 READY = os.path.exists(SFI) and os.path.exists(libraries.built("sfi_run")) and shutil.which("gcc")
 # Gates' stubs have 16 bytes each, and a call ends its bundle. The start: an addi, and a jal after two c.nop that fill.
 LOOP = """.sandbox 256
@@ -51,19 +43,10 @@ int main(void) {
 
 
 @unittest.skipUnless(READY, "the program, the library of the runtime or gcc isn't there")
-class Traces(unittest.TestCase):
+class Traces(Folder):
     @classmethod
     def setUpClass(cls):
         cls.library = libraries.make("sfi_run")[1]
-
-    def setUp(self):
-        room = tempfile.TemporaryDirectory()
-        self.addCleanup(room.cleanup)
-        self.room = pathlib.Path(room.name)
-
-    def write(self, name, text):
-        (self.room / name).write_text(text, encoding="utf-8")
-        return self.room / name
 
     def sfi(self, *words, given=""):
         return subprocess.run([SFI, *words], input=given, capture_output=True, text=True, check=True).stdout
@@ -182,7 +165,7 @@ class Profiles(Traces):
         self.assertEqual((rows, steps), ({}, 0))
 
 
-@unittest.skipUnless(shutil.which(GCC), f"{GCC} isn't there")
+@needs(GCC)
 class OfC(Traces):
     def setUp(self):
         super().setUp()
@@ -242,7 +225,3 @@ class Faults(Traces):
         image = (TOP / "examples" / "smallest.hex").read_text(encoding="ascii").replace("73001000", "130c1c00", 1)
         status, lines, said = self.call(self.write("broken.hex", image))
         self.assertEqual((status, lines, said), (1, [], "sfi-trace: rules are broken in the image\n"))
-
-
-if __name__ == "__main__":
-    unittest.main()

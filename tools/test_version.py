@@ -1,15 +1,11 @@
-#!/usr/bin/env python3
 """Tests that all that states the version states the same one, and that a manual page has each option of its tool:
 `tools/unit_tests.py tools`."""
-import pathlib
 import re
 import subprocess
-import sys
 import unittest
 
-TOOLS = pathlib.Path(__file__).resolve().parent
-sys.path.insert(0, str(TOOLS))
 import version
+from testing import TOOLS
 
 
 class Version(unittest.TestCase):
@@ -36,7 +32,3 @@ class Pages(unittest.TestCase):
             for option in set(re.findall(r"^  (-[\w-]+)", said, re.MULTILINE)) - {"-h"}:
                 with self.subTest(tool=tool, option=option):
                     self.assertIn(option, page)
-
-
-if __name__ == "__main__":
-    unittest.main()

@@ -1,8 +1,8 @@
 #!/usr/bin/env python3
-"""Runs the unit tests in the files test_*.py of a folder. The last line is `N passed, M failed`, with `, K skipped`
-if tests are skipped.
+"""Runs the unit tests in the files test_*.py of a folder, or those of one of its files. The last line is `N passed,
+M failed`, with `, K skipped` if tests are skipped. SFI in the environment is the program, that of crates/sfi if absent.
 
-    tools/unit_tests.py FOLDER
+    [SFI=PATH] tools/unit_tests.py FOLDER [FILE]
 """
 import sys
 import unittest
@@ -10,8 +10,8 @@ import unittest
 sys.dont_write_bytecode = True
 
 
-def main(folder):
-    result = unittest.TextTestRunner(stream=sys.stdout).run(unittest.defaultTestLoader.discover(folder))
+def main(folder, pattern="test_*.py"):
+    result = unittest.TextTestRunner(stream=sys.stdout).run(unittest.defaultTestLoader.discover(folder, pattern))
     failed = len(result.failures) + len(result.errors) + len(result.unexpectedSuccesses)
     skipped = len(result.skipped)
     for test, why in result.skipped:

@@ -14,7 +14,7 @@ TOP = pathlib.Path(__file__).resolve().parent.parent
 FIRST = ("crates/sfi_command/src/help.rt", r'pub const VERSION: &str = "(.*)";')
 PLACES = [
     FIRST,
-    ("crates/sfi_tests/src/tests/rows/help.rt", r"> sfi (\d+\.\d+\.\d+); status 3"),
+    ("crates/sfi_tests/src/tests/rows/words.rt", r"> sfi (\d+\.\d+\.\d+); status 3"),
     ("crates/sfi_c/include/sfi.h", r'#define SFI_VERSION "(.*)"'),
     ("crates/sfi_run/include/sfi_run.h", r'#define SFI_RUN_VERSION "(.*)"'),
     ("bindings/python/pyproject.toml", r'^version = "(.*)"'),

@@ -3,7 +3,15 @@
 # program, input, exit code, and the output in hexadecimal.
 set -uo pipefail
 cd "$(dirname "${BASH_SOURCE[0]}")"
-source ./cases.sh
+
+# The inputs of a program: those of its own, and those that all take.
+inputs_of() {
+    case $1 in
+    arithmetic) ls inputs/empty ;;
+    stack | json | regex) ls inputs/empty inputs/"$1"-* ;;
+    *) ls inputs/empty inputs/prose inputs/"$1"-* 2>/dev/null ;;
+    esac
+}
 
 for program in "$@"; do
     for input in $(inputs_of "$program"); do

@@ -55,7 +55,7 @@ make_input() {
 }
 
 run_sandbox() { # program, format
-    "$sfi" run --rounds 1000 --quantum 1000000 --input "$(od -An -v -tx1 "$room/$1.input" | tr -d ' \n')" \
+    "$sfi" run --rounds 1000 --quantum 1000000 --input "$(digits_of "$room/$1.input")" \
         <"$room/$1.hex" >"$room/line"
     echo "$1, format $2: $(sed 's/ out=.*//' "$room/line"), $(wc -l <"$room/$1.input") lines of input" >&2
     sed 's/.* exit=\([0-9]*\) .*/exit=\1/' "$room/line"

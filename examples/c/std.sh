@@ -27,9 +27,9 @@ std_inputs_of() {
 # The exit code and the output of a native program, in the words of `sfi run`.
 native_line() { # program, input
     local output status
-    output=$("$room/native/$1" <"$2" 2>"$room/messages" | od -An -v -tx1 | tr -d ' \n'; exit "${PIPESTATUS[0]}")
+    output=$("$room/native/$1" <"$2" 2>"$room/messages" | digits_of; exit "${PIPESTATUS[0]}")
     status=$?
-    [ "$2" != std/inputs/ends-assertion ] || output=$(assertion_message | od -An -v -tx1 | tr -d ' \n')
+    [ "$2" != std/inputs/ends-assertion ] || output=$(assertion_message | digits_of)
     echo "exit=$status out=$output"
 }
 
@@ -84,7 +84,7 @@ try_pair() { # compiler, format
     local wanted found at="$room/$1" primes
     primes=$(seq 2 99 | factor | awk 'NF == 2 { print $2 }')
     wanted=$(echo "sandbox=0 exit=0 out="
-        echo "sandbox=1 exit=$(($(paste -sd+ <<<"$primes"))) out=$(od -An -v -tx1 <<<"$primes" | tr -d ' \n')")
+        echo "sandbox=1 exit=$(($(paste -sd+ <<<"$primes"))) out=$(digits_of <<<"$primes")")
     found=$({
         python3 ../../tools/asm2sfi --format "$2" "$at/primes_post.asm"
         python3 ../../tools/asm2sfi --format "$2" "$at/primes_take.asm" | grep -v '^\.format'

@@ -87,7 +87,8 @@ bool tell_part(const uint8_t *image, uint32_t length, uint32_t number, struct pa
 
 /* image.c */
 uint32_t little_endian(const uint8_t *bytes);
-uint32_t read_image(const uint8_t *image, uint32_t length, struct sandbox sandboxes[]);
+/* Has the image judged, and reads it, with what run.sh asks for and the input, from these addresses. */
+void read_image(struct world *world, uint32_t arguments, uint32_t image, uint32_t input);
 /* Makes a sandbox that has stopped ready at pc, the first address of one of its bundles, or words, with
    arguments in a0 to a7. Its data stay. False, and nothing is changed, where it is ready or pc isn't such. */
 bool enter_again(struct sandbox *sandbox, uint32_t pc, const uint32_t arguments[ENTRY_ARGUMENTS]);

@@ -28,7 +28,8 @@ static void set_registers(struct sandbox *sandbox, uint32_t pc) {
     frame->x[27] = part->data_size - 1;
 }
 
-uint32_t read_image(const uint8_t *image, uint32_t length, struct sandbox sandboxes[]) {
+/* Answers how many sandboxes there are. */
+static uint32_t read_sandboxes(const uint8_t *image, uint32_t length, struct sandbox sandboxes[]) {
     struct part further;
     for (uint32_t count = 0; count < SANDBOXES_MOST; count++) {
         if (!tell_part(image, length, count, &sandboxes[count].part))
@@ -38,6 +39,14 @@ uint32_t read_image(const uint8_t *image, uint32_t length, struct sandbox sandbo
     if (tell_part(image, length, SANDBOXES_MOST, &further))
         refuse_number("there is room for ", SANDBOXES_MOST, " sandboxes");
     return SANDBOXES_MOST;
+}
+
+void read_image(struct world *world, uint32_t arguments, uint32_t image, uint32_t input) {
+    const uint8_t *bytes = (const uint8_t *)image;
+    world->arguments = (const struct arguments *)arguments;
+    world->input = (const uint8_t *)input;
+    check_image(bytes, world->arguments->image_length);
+    world->count = read_sandboxes(bytes, world->arguments->image_length, world->sandboxes);
 }
 
 bool enter_again(struct sandbox *sandbox, uint32_t pc, const uint32_t arguments[ENTRY_ARGUMENTS]) {

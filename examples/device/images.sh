@@ -33,7 +33,7 @@ END
     riscv64-unknown-elf-gcc -nostdlib -march=rv32imc_zicsr -mabi=ilp32 -mno-relax \
         -Wl,--no-relax,-Ttext="$1",-e0 "$room/code.S" -o "$room/code.elf" || return
     riscv64-unknown-elf-objcopy -O binary -j .text "$room/code.elf" "$room/code.bin" || return
-    text=$(xxd -p "$room/code.bin" | tr -d '\n')
+    text=$(digits_of "$room/code.bin")
     size=256
     while [ $((2 * size)) -lt ${#text} ]; do size=$((2 * size)); done
     printf %s "$text"

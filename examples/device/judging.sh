@@ -1,6 +1,5 @@
-# The checker on the device beside `sfi check`, for both tests. Before: $shared is the folder of checker.sh,
-# $by has the words of run.sh that name the checker. WASM_LIBRARY is the absolute path of the library for
-# wasm64; that of crates/sfi_c at the top if absent.
+# The checker on the device beside `sfi check`. A part of testing.sh. WASM_LIBRARY is the absolute path of the
+# library for wasm64; that of crates/sfi_c at the top if absent.
 
 # Answers whether there is a checker to try; else it is skipped, or has failed.
 make_checker() {
@@ -19,7 +18,7 @@ make_checker() {
 judged() { # what is tried; the image is $room/image.hex
     local wanted found
     wanted=$("$SFI" check <"$room/image.hex"; echo "status $?")
-    found=$(run "${by[@]}" --rounds 1 <"$room/image.hex"; echo "status $?")
+    found=$(run --rounds 1 <"$room/image.hex"; echo "status $?")
     case $found in
     "device: sandbox "*) found=accepted ;; # and there is no place for it
     "device: "*) found=${found#device: } ;;

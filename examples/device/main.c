@@ -6,11 +6,7 @@ static struct world world;
 
 /* start.S calls this in M-mode, before there is a page table. Answers what satp takes. */
 uint32_t load(void) {
-    world.arguments = (const struct arguments *)ARGUMENTS;
-    world.input = (const uint8_t *)INPUT;
-    const uint8_t *image = (const uint8_t *)IMAGE;
-    check_image(image, world.arguments->image_length);
-    world.count = read_image(image, world.arguments->image_length, world.sandboxes);
+    read_image(&world, ARGUMENTS, IMAGE, INPUT);
     for (uint32_t number = 0; number < world.count; number++)
         map_sandbox(number, &world.sandboxes[number].part);
     return finish_page_table();

@@ -10,27 +10,14 @@
 set -uo pipefail
 here=$(cd "$(dirname "${BASH_SOURCE[0]}")" && pwd)
 SFI=$(realpath "${1:-$here/../../sfi}")
-export SFI
+chip=virt
 all=${ALL:-}
 seconds=60
 [ -z "$all" ] || seconds=600 # for the longest output
-source "$here/../harness.sh"
-source "$here/images.sh"
-cd "$here"
-
-for need in "qemu-system-riscv32 qemu-system-misc" "riscv64-unknown-elf-gcc gcc-riscv64-unknown-elf" \
-    "make make" "xxd xxd" "python3 python3"; do
-    needs "the loader for RV32" $need
-done
-[ "$skipped" = 0 ] || finish
+source "$here/testing.sh"
 make -s || { report "make" "the loader" "none" && finish; }
 
-# The lines of run.sh but those of each trap's pc.
-run() { ./run.sh "$@" | sed '/ pc=/d'; }
-
 # ---- Lines beside those of `sfi run`
-
-without_steps() { sed 's/ steps=[0-9]*//'; }
 
 build() { # a source, a format; the image on one line
     grep -v '^\.format' "$1" | sed "1i .format $2" | "$SFI" build
@@ -40,12 +27,11 @@ build() { # a source, a format; the image on one line
 # --steps counts these. Where sandboxes wait for each other, their steps depend on how long turns
 # are, and only their states and output are compared.
 turns=(10000 10)
-by=() # further words for run.sh
 compare() { # what is tried, its image, input, `steps` or `no steps`
     local wanted turn found
     wanted=$("$SFI" run --rounds 10000 --quantum 1000000 --input "$3" <"$2")
     for turn in "${turns[@]}"; do
-        found=$(run "${by[@]}" --steps --seconds "$seconds" --turn "$turn" --input "$3" <"$2")
+        found=$(run --steps --seconds "$seconds" --turn "$turn" --input "$3" <"$2")
         if [ "$4" = steps ]; then
             report "$1, turns of $turn us" "$wanted" "$found"
         else
@@ -54,7 +40,7 @@ compare() { # what is tried, its image, input, `steps` or `no steps`
         fi
     done
     [ -n "$all" ] || return
-    found=$(run "${by[@]}" --seconds "$seconds" --turn 10 --input "$3" <"$2")
+    found=$(run --seconds "$seconds" --turn 10 --input "$3" <"$2")
     report "$1, turns of 10 us by the real clock" "$(without_steps <<<"$wanted")" "$found"
 }
 
@@ -63,7 +49,7 @@ compare_examples() { # format
     for source in ../*.s cases/services.s ${all:+cases/output.s}; do
         name=$(basename "$source" .s)
         build "$source" "$1" >"$room/image.hex"
-        for input in 48656c6c6f ${all:+'' $(xxd -p ../c/inputs/prose | tr -d '\n')}; do
+        for input in 48656c6c6f ${all:+'' $(digits_of ../c/inputs/prose)}; do
             case $name in
             primes) compare "$name, format $1" "$room/image.hex" "$input" "no steps" ;;
             *) compare "$name, format $1" "$room/image.hex" "$input" steps ;;
@@ -80,7 +66,7 @@ compare_programs() { # format
         last=$program
         build "$(source_of_c "$program")" "$1" >"$room/image.hex"
         compare "$program on $input, format $1" "$room/image.hex" \
-            "$(xxd -p "../c/inputs/$input" | tr -d '\n')" steps
+            "$(digits_of "../c/inputs/$input")" steps
     done < <(tac ../c/expected.txt)
 }
 
@@ -416,28 +402,14 @@ esac
 # ---- What the loader finds at its start, and what a vendor adds
 
 source "$here/test_premises.sh"
-source "$here/test_vendor.sh"
-cases=$here/cases code=01000000 on=()
-try_enter
-try_services
-try_interrupts 1
-build cases/outside.s 1 >"$room/image.hex"
-try_report "$room/image.hex"
+try_vendor 01000000 1
 try_report "$room/words.hex"
-try_pcs "$room/image.hex"
 
 # ---- The checker on the device
 
 source "$here/test_checker.sh"
 
 # ---- What run.sh refuses
-
-refused_by_script() { # status, the line; the words of the command line
-    local status=$1 line=$2
-    shift 2
-    report "run.sh $*" "$line"$'\n'"status $status" \
-        "$(run "$@" <"$room/image.hex" 2>&1; echo "status $?")"
-}
 
 for option in --rounds --turn --seconds; do
     most=4294967295

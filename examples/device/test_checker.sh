@@ -1,8 +1,5 @@
 # The checker on the device, for test.sh, whose functions this uses.
 
-shared=$here
-source "$here/judging.sh"
-
 # A stack of 1536 bytes is less than a verdict takes: the access below it is refused.
 try_small_stack() {
     local library=${WASM_LIBRARY:-../../crates/sfi_c/out/wasm64-unknown-unknown/libsfi_c.a}

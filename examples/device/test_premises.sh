@@ -1,16 +1,11 @@
 # What the loader supposes of the machine, for test.sh, whose functions this uses: it reads back what it
 # writes, parks all harts but one, and takes no interrupt as it was found.
 
-boots_at=0x8f000000
+boots_at=0x8f000000 host_at=0x80000000
 
 refused_on() { # what is tried, the reason, words for QEMU; the image is $room/image.hex
     report "$1" "device: $2"$'\nstatus 2' \
         "$(QEMU_OPTIONS=$3 run <"$room/image.hex"; echo "status $?")"
-}
-
-pmp_refused() { # what is tried, the entry; a boot ROM's assembly on standard input
-    refused_on "$1" "entry $2 of physical memory protection isn't as it was written" \
-        "$(boot_rom "$boots_at" 0x80000000)"
 }
 
 "$SFI" build <../hi.s >"$room/image.hex"
@@ -30,7 +25,7 @@ pmp_refused "the window's entry is locked, and off" 14 <<'END'
         li      t0, 0x800000
         csrw    pmpcfg3, t0
 END
-QEMU_OPTIONS=$(boot_rom "$boots_at" 0x80000000 <<'END'
+QEMU_OPTIONS=$(boot_rom "$boots_at" "$host_at" <<'END'
         li      t0, -1
         csrw    pmpaddr3, t0
         li      t0, 0x1f000000
@@ -40,18 +35,7 @@ END
 export QEMU_OPTIONS
 compare "entries that are there already, not locked" "$room/image.hex" '' steps
 # The timer of M-mode is due while the loader prepares its memory.
-QEMU_OPTIONS=$(boot_rom "$boots_at" 0x80000000 <<'END'
-        li      t0, 0x0200bff8
-        lw      t1, 0(t0)
-        addi    t1, t1, 200
-        li      t0, 0x02004000
-        sw      x0, 4(t0)
-        sw      t1, 0(t0)
-        li      t0, -1
-        csrw    mie, t0
-        csrsi   mstatus, 8
-END
-)
+QEMU_OPTIONS=$(interrupts_left_on 0x0200bff8 0x02004000 200 | boot_rom "$boots_at" "$host_at")
 compare "interrupts that were left on" "$room/image.hex" '' steps
 for harts in 2 4; do
     QEMU_OPTIONS="-smp $harts"

@@ -1,11 +1,9 @@
-# What a vendor adds to the host, for test.sh and mcu/test.sh, whose functions `run`, `build` and
-# `without_steps` this uses: services and interrupts of one's own, and calls of a sandbox that has stopped.
-# $cases is the folder of the files, $on has the words of run.sh that name a chip, and sandbox 0's code
-# is at $code.
+# What a vendor adds to the host: services and interrupts of one's own, and calls of a sandbox that has stopped.
+# A part of testing.sh; `build` is that of the test.
 
-try_enter() {
+try_enter() { # where the code of sandbox 0 is
     build "$cases/plugin.s" 1 >"$room/image.hex"
-    local at first=$((16#$code))
+    local at code=$1 first=$((16#$1))
     at=$(printf %x $((first + 48)))
     report "a sandbox that has stopped is called" "sandbox=0 exit=1239 out=61" \
         "$(run --enter "0:$at:1000,200,30,4,2,1,1,1" <"$room/image.hex")"
@@ -54,4 +52,13 @@ try_pcs() { # image
         sed -n 's/\(pc=[0-9a-f]* [0-9a-f]*\) .*/\1/p')
     report "the pc of a trap" "$wanted" \
         "$(./run.sh "${on[@]}" "${by[@]}" --rounds 10 <"$1" | grep ' pc=')"
+}
+
+try_vendor() { # where the code of sandbox 0 is, the interrupt's number
+    try_enter "$1"
+    try_services
+    try_interrupts "$2"
+    build "$cases/outside.s" 1 >"$room/image.hex"
+    try_report "$room/image.hex"
+    try_pcs "$room/image.hex"
 }

@@ -12,13 +12,6 @@ top=$(cd "$here/../.." && pwd)
 most=43008
 source "$here/../harness.sh"
 
-compile() { # a program's name, and the command line that builds it
-    local name=$1
-    shift
-    "$@" >"$room/log" 2>&1
-    report_as $? "$name is built" "$*" "$(cat "$room/log")"
-}
-
 # ---- images, by hand: the smallest one is 64 times ebreak in one sandbox at 01000000
 smallest=$(tr -d ' \n' <"$here/../smallest.hex")
 head=${smallest:0:72}
@@ -44,7 +37,7 @@ put head "${smallest:0:40}"
 put empty ""
 put other_format "53464933${smallest:8}"
 put other_magic 5346493301000000
-put no_sandbox "5346493100000000$(printf ' and more' | od -An -v -tx1 | tr -d ' \n')"
+put no_sandbox "5346493100000000$(printf ' and more' | digits_of)"
 put longer "${smallest}00"
 
 # ---- what is wanted: image, room for findings, exit status, lines
@@ -70,9 +63,7 @@ run_cases() { # a host's name, and its command line
     for one in "${cases[@]}"; do
         IFS='|' read -r image capacity status lines <<<"$one"
         found=$("$@" "$capacity" <"$room/$image.image" 2>&1)
-        found="$?|$(tr '\n' ';' <<<"$found" | sed 's/;$//')"
-        [ "$found" = "$status|$lines" ]
-        report_as $? "$name on $image with room for $capacity" "$status|$lines" "$found"
+        report "$name on $image with room for $capacity" "$status|$lines" "$?|${found//$'\n'/;}"
     done
 }
 
@@ -86,9 +77,7 @@ run_pieces() { # a host's name, and its command line: whatever the size of the p
         before=$image
         for size in "${pieces[@]}"; do
             found=$("$@" "$size" <"$room/$image.image" 2>&1)
-            found="$?|$found"
-            [ "$found" = "$status|${lines##*;}" ]
-            report_as $? "$name on $image, $size bytes at a time" "$status|${lines##*;}" "$found"
+            report "$name on $image, $size bytes at a time" "$status|${lines##*;}" "$?|$found"
         done
     done
 }
@@ -109,12 +98,32 @@ run_tellings() { # a host's name, and its command line
     for one in "${tellings[@]}"; do
         IFS='|' read -r image status lines <<<"$one"
         found=$("$@" <"$room/$image.image" 2>&1)
-        found="$?|${found//$'\n'/;}"
-        [ "$found" = "$status|$lines" ]
-        report_as $? "$name tells of $image" "$status|$lines" "$found"
+        report "$name tells of $image" "$status|$lines" "$?|${found//$'\n'/;}"
     done
 }
-images=$(printf '%s\n' "${cases[@]%%|*}" | uniq | wc -l)
+
+# What a host is tried with that does all of it.
+in_whole=$((${#cases[@]} + $(printf '%s\n' "${cases[@]%%|*}" | uniq | wc -l) * ${#pieces[@]} + ${#tellings[@]}))
+run_whole() { # its name, and its command line
+    run_cases "$@"
+    run_pieces "$@" 0
+    run_tellings "$@" parts
+}
+run_c() { # a machine's name, its library, and how its programs are run; the compiler with its words
+    local on=$1 library=$2 runner=$3 name
+    shift 3
+    for name in host feed parts; do
+        succeeds "$name.c$on" "$@" -std=c99 "${warnings[@]}" "$here/$name.c" "$library" -o "$room/$name$on"
+    done
+    run_cases "host.c$on" $runner "$room/host$on"
+    run_pieces "feed.c$on" $runner "$room/feed$on"
+    run_tellings "parts.c$on" $runner "$room/parts$on"
+}
+refuses_word() { # a program, a word of its command line that is none of its numbers
+    found=$("$room/$1" "$2" <"$room/three.image"; echo "status $?")
+    report "$1.c with '$2'" "status 6" "$found"
+}
+
 # each field of the verdict: image; status, layout fault, sandboxes, bundles and findings; sandbox, address and rule of the first
 verdicts=(
     "first_format|0 0 1 16 0 0 0 0"
@@ -155,8 +164,7 @@ if ! has gcc; then
 fi
 if [ -z "$library" ]; then
     library=$top/crates/sfi_c/out/libsfi_c.a
-    (cd "$top/crates/sfi_c" && rt lib) >"$room/log" 2>&1
-    report_as $? "the library is built" "$library" "$(tail -n 3 "$room/log")"
+    succeeds "the library is built" env -C "$top/crates/sfi_c" rt lib
 fi
 if [ ! -f "$library" ]; then
     echo "there is no library $library"
@@ -165,28 +173,10 @@ fi
 warnings=(-O2 -Wall -Wextra -pedantic -Werror -I"$top/crates/sfi_c/include")
 
 # ---- C, and the header under C++
-compile host.c gcc -std=c99 "${warnings[@]}" "$here/host.c" "$library" -o "$room/host"
-run_cases host.c "$room/host"
-for word in -1 "" 2x 8388609 99999999999999999999; do
-    "$room/host" "$word" <"$room/three.image" >"$room/said"
-    found=$?
-    [ "$found" = 6 ] && [ ! -s "$room/said" ]
-    report_as $? "host.c with room for '$word'" "6, and nothing printed" "$found, $(cat "$room/said")"
-done
-"$room/host" <&- >"$room/said"
-found=$?
-[ "$found" = 5 ] && [ ! -s "$room/said" ]
-report_as $? "host.c without an image" "5, and nothing printed" "$found, $(cat "$room/said")"
-compile feed.c gcc -std=c99 "${warnings[@]}" "$here/feed.c" "$library" -o "$room/feed"
-run_pieces feed.c "$room/feed"
-for word in 0 -1 "" 2x 65537; do
-    "$room/feed" "$word" <"$room/three.image" >"$room/said"
-    found=$?
-    [ "$found" = 6 ] && [ ! -s "$room/said" ]
-    report_as $? "feed.c with pieces of '$word'" "6, and nothing printed" "$found, $(cat "$room/said")"
-done
-compile parts.c gcc -std=c99 "${warnings[@]}" "$here/parts.c" "$library" -o "$room/parts"
-run_tellings parts.c "$room/parts"
+run_c "" "$library" "" gcc
+for word in -1 "" 2x 8388609 99999999999999999999; do refuses_word host "$word"; done
+for word in 0 -1 "" 2x 65537; do refuses_word feed "$word"; done
+report "host.c without an image" "status 5" "$("$room/host" <&-; echo "status $?")"
 # no allocator is linked: of C the library asks for no more than what a compiler copies and fills memory by
 found=$(nm -u "$library" 2>"$room/log" | awk 'NF == 2 { print $2 }' | sort -u | tr '\n' ' ')
 [ -n "$found" ] && ! grep -qvxE 'memcpy|memmove|memset' < <(tr ' ' '\n' <<<"${found% }")
@@ -194,17 +184,16 @@ report_as $? "what the library asks for" "no more than memcpy, memmove and memse
 
 # the host in README.md
 sed -n '/^## Embedding/,/^## Rules/p' "$top/README.md" | sed -n '/^```c$/,/^```$/p' | sed '/^```/d' >"$room/readme.c"
-compile "the host of README.md" gcc "${warnings[@]}" "$room/readme.c" "$library" -o "$room/readme"
+succeeds "the host of README.md" gcc "${warnings[@]}" "$room/readme.c" "$library" -o "$room/readme"
 found=$("$room/readme" <"$room/first_format.image"; echo "$?"; "$room/readme" <"$room/three.image"; echo "$?")
-[ "$found" = $'accepted sandboxes=1 bundles=16\n0\n1' ]
-report_as $? "the host of README.md" "a line and 0, and then 1" "$found"
-compile edges.c gcc -std=c11 "${warnings[@]}" "$here/edges.c" "$library" -o "$room/edges"
+report "the host of README.md" $'accepted sandboxes=1 bundles=16\n0\n1' "$found"
+succeeds edges.c gcc -std=c11 "${warnings[@]}" "$here/edges.c" "$library" -o "$room/edges"
 run_verdicts edges
-compile pieces.c gcc -std=c11 "${warnings[@]}" "$here/pieces.c" "$library" -o "$room/pieces"
+succeeds pieces.c gcc -std=c11 "${warnings[@]}" "$here/pieces.c" "$library" -o "$room/pieces"
 run_verdicts pieces
 
 # ---- many images, in a pool of threads
-compile many.c gcc -std=c11 -pthread "${warnings[@]}" "$here/many.c" "$library" -o "$room/many"
+succeeds many.c gcc -std=c11 -pthread "${warnings[@]}" "$here/many.c" "$library" -o "$room/many"
 run_many() { # the words, and the names of images
     local words=$1
     shift
@@ -213,13 +202,11 @@ run_many() { # the words, and the names of images
 run_many 3 first_format three cut none second_format
 wanted="0|accepted sandboxes=1 bundles=16|first_format.image;1|refused findings=3 first=V5 sandbox=0 at=01000000|three.image;"
 wanted+="2|layout fault 3 Short|cut.image;5||none.image;0|accepted sandboxes=1 bundles=16|second_format.image;1"
-[ "$found" = "$wanted" ]
-report_as $? "many.c on five names" "$wanted" "$found"
+report "many.c on five names" "$wanted" "$found"
 for one in "1 0" "1024 0" "0 6" "1025 6" "2x 6"; do
     read -r words wanted <<<"$one"
     run_many "$words"
-    [ "$found" = "$wanted" ]
-    report_as $? "many.c with $words threads, and no names" "$wanted" "$found"
+    report "many.c with $words threads, and no names" "$wanted" "$found"
 done
 
 if has valgrind; then
@@ -230,15 +217,15 @@ else
     skip 3 "edges.c and pieces.c under valgrind" "valgrind isn't there"
 fi
 if has g++; then
-    compile "the header in C++98" g++ -std=c++98 "${warnings[@]}" -x c++ -fsyntax-only "$top/crates/sfi_c/include/sfi.h"
-    compile "the header in C++17" g++ -std=c++17 "${warnings[@]}" -x c++ -fsyntax-only "$top/crates/sfi_c/include/sfi.h"
+    succeeds "the header in C++98" g++ -std=c++98 "${warnings[@]}" -x c++ -fsyntax-only "$top/crates/sfi_c/include/sfi.h"
+    succeeds "the header in C++17" g++ -std=c++17 "${warnings[@]}" -x c++ -fsyntax-only "$top/crates/sfi_c/include/sfi.h"
 else
     skip 2 "the header in C++" "g++ isn't there"
 fi
 
 # ---- its size: that of the shared library less that of one without it
-compile "the shared library" gcc -shared -o "$room/libsfi.so" -Wl,--whole-archive "$library" -Wl,--no-whole-archive
-compile "a shared library without it" gcc -shared -o "$room/libnone.so" -x c /dev/null
+succeeds "the shared library" gcc -shared -o "$room/libsfi.so" -Wl,--whole-archive "$library" -Wl,--no-whole-archive
+succeeds "a shared library without it" gcc -shared -o "$room/libnone.so" -x c /dev/null
 total() { size "$1" | awk 'NR == 2 { print $1 + $2 + $3 }'; }
 added=$(($(total "$room/libsfi.so") - $(total "$room/libnone.so")))
 [ "$added" -gt 0 ] && [ "$added" -le "$most" ]
@@ -246,55 +233,42 @@ report_as $? "the size of the library" "at most $most bytes" "$added bytes"
 
 # ---- Python and Rust
 if has python3; then
-    run_cases host.py python3 "$here/host.py" "$room/libsfi.so"
-    run_pieces host.py python3 "$here/host.py" "$room/libsfi.so" 0
-    run_tellings host.py python3 "$here/host.py" "$room/libsfi.so" parts
+    run_whole host.py python3 "$here/host.py" "$room/libsfi.so"
 else
-    skip $((${#cases[@]} + images * ${#pieces[@]} + ${#tellings[@]})) "host.py" "python3 isn't there"
+    skip "$in_whole" "host.py" "python3 isn't there"
 fi
 if has rustc; then
-    compile host.rs rustc --edition 2021 -O -D warnings -o "$room/host_rs" "$here/host.rs" -C link-arg="$library"
-    run_cases host.rs "$room/host_rs"
-    run_pieces host.rs "$room/host_rs" 0
-    run_tellings host.rs "$room/host_rs" parts
+    succeeds host.rs rustc --edition 2021 -O -D warnings -o "$room/host_rs" "$here/host.rs" -C link-arg="$library"
+    run_whole host.rs "$room/host_rs"
 else
-    skip $((1 + ${#cases[@]} + images * ${#pieces[@]} + ${#tellings[@]})) "host.rs" "rustc isn't there"
+    skip $((1 + in_whole)) "host.rs" "rustc isn't there"
 fi
 
 # ---- aarch64 and WebAssembly: what tools/build_library.py builds beside the library of x86-64
 arm=$(dirname "$library")/aarch64-unknown-linux-gnu/libsfi_c.a
 module=$(dirname "$library")/wasm64-unknown-unknown/sfi.wasm
 not_built="isn't there: tools/build_library.py builds it"
-on_arm=$((3 + ${#cases[@]} + images * ${#pieces[@]} + ${#tellings[@]}))
 if [ ! -f "$arm" ]; then
-    skip "$on_arm" "host.c, feed.c and parts.c on aarch64" "$arm $not_built"
+    skip $((3 + in_whole)) "the hosts in C on aarch64" "$arm $not_built"
 elif ! has aarch64-linux-gnu-gcc; then
-    skip "$on_arm" "host.c, feed.c and parts.c on aarch64" "aarch64-linux-gnu-gcc isn't there"
+    skip $((3 + in_whole)) "the hosts in C on aarch64" "aarch64-linux-gnu-gcc isn't there"
 elif ! has qemu-aarch64; then
-    skip "$on_arm" "host.c, feed.c and parts.c on aarch64" "qemu-aarch64 isn't there"
+    skip $((3 + in_whole)) "the hosts in C on aarch64" "qemu-aarch64 isn't there"
 else
-    compile "host.c for aarch64" aarch64-linux-gnu-gcc -static -std=c99 "${warnings[@]}" "$here/host.c" "$arm" -o "$room/host_arm"
-    run_cases "host.c on aarch64" qemu-aarch64 "$room/host_arm"
-    compile "feed.c for aarch64" aarch64-linux-gnu-gcc -static -std=c99 "${warnings[@]}" "$here/feed.c" "$arm" -o "$room/feed_arm"
-    run_pieces "feed.c on aarch64" qemu-aarch64 "$room/feed_arm"
-    compile "parts.c for aarch64" aarch64-linux-gnu-gcc -static -std=c99 "${warnings[@]}" "$here/parts.c" "$arm" -o "$room/parts_arm"
-    run_tellings "parts.c on aarch64" qemu-aarch64 "$room/parts_arm"
+    run_c " on aarch64" "$arm" qemu-aarch64 aarch64-linux-gnu-gcc -static
 fi
-in_node=$((${#cases[@]} + images * ${#pieces[@]} + ${#tellings[@]}))
 memory64=()
 if has node && node --experimental-wasm-memory64 -e 0 >"$room/log" 2>&1; then
     memory64=(--experimental-wasm-memory64) # later versions of node have it without
 fi
 if [ ! -f "$module" ]; then
-    skip "$in_node" "host.mjs" "$module $not_built"
+    skip "$in_whole" "host.mjs" "$module $not_built"
 elif ! has node; then
-    skip "$in_node" "host.mjs" "node isn't there"
+    skip "$in_whole" "host.mjs" "node isn't there"
 elif ! node "${memory64[@]}" -e 'process.exit(WebAssembly.validate(new Uint8Array(Buffer.from("0061736d010000000503010401", "hex"))) ? 0 : 1)'; then
-    skip "$in_node" "host.mjs" "this node has no memory of 64 bits"
+    skip "$in_whole" "host.mjs" "this node has no memory of 64 bits"
 else
-    run_cases host.mjs node "${memory64[@]}" --no-warnings "$here/host.mjs" "$module"
-    run_pieces host.mjs node "${memory64[@]}" --no-warnings "$here/host.mjs" "$module" 0
-    run_tellings host.mjs node "${memory64[@]}" --no-warnings "$here/host.mjs" "$module" parts
+    run_whole host.mjs node "${memory64[@]}" --no-warnings "$here/host.mjs" "$module"
 fi
 
 echo "the library has $added bytes"

@@ -2,7 +2,7 @@
  *
  *     console IMAGE [ROUNDS [QUANTUM [INPUT]]]     # IMAGE holds the image's own bytes, INPUT is hexadecimal
  */
-#include "image.h"
+#include "host.h"
 #include <inttypes.h>
 #include <string.h>
 
@@ -66,16 +66,6 @@ static bool serve(struct sfi_run_world *world, uint32_t i, const struct sfi_run_
     return sfi_run_reply(world, i, a0, a1) && call->number != YIELD;
 }
 
-/* A turn of at most so many steps, of which each reply is one: a call for which none is left is served in the next turn. */
-static void turn(struct sfi_run_world *world, uint32_t i, uint32_t steps) {
-    struct sfi_run_event event;
-    uint64_t end = sfi_run_steps(world, i) + steps, now;
-    while ((now = sfi_run_steps(world, i)) < end)
-        if (sfi_run_turn(world, i, (uint32_t)(end - now), &event) != SFI_RUN_CALL || sfi_run_steps(world, i) == end ||
-            !serve(world, i, &event))
-            return;
-}
-
 static void print_line(struct sfi_run_world *world, uint32_t i) {
     static const char *const causes[] = {"", "Fetch", "Illegal", "Break", "Load", "Store"};
     struct sfi_run_event event;
@@ -93,6 +83,7 @@ static void print_line(struct sfi_run_world *world, uint32_t i) {
 
 int main(int count, char **words) {
     struct sfi_run_world world = {0};
+    struct sfi_run_event event;
     if (count < 2)
         return 3;
     load_file(words[1], &world);
@@ -102,7 +93,7 @@ int main(int count, char **words) {
     uint32_t sandboxes = (uint32_t)sfi_run_count(&world);
     for (; rounds > 0; rounds--)
         for (uint32_t i = 0; i < sandboxes; i++)
-            turn(&world, i, (uint32_t)quantum);
+            take_turn(&world, i, (uint32_t)quantum, serve, &event);
     for (uint32_t i = 0; i < sandboxes; i++)
         print_line(&world, i);
     sfi_run_free(&world);

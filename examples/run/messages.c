@@ -4,7 +4,7 @@
  *
  * Each round has a turn of each. When the first has exited, or the rounds are used, what still runs is cut off.
  */
-#include "image.h"
+#include "host.h"
 #include <inttypes.h>
 
 enum { EXIT = 0, YIELD = 3, POST = 4, TAKE = 5, ROOM = 16 };
@@ -47,15 +47,6 @@ static bool serve(struct sfi_run_world *world, uint32_t i, const struct sfi_run_
     return sfi_run_reply(world, i, reply.word, reply.sender) && call->number != YIELD;
 }
 
-static void turn(struct sfi_run_world *world, uint32_t i, uint32_t steps) {
-    struct sfi_run_event event;
-    uint64_t end = sfi_run_steps(world, i) + steps, now;
-    while ((now = sfi_run_steps(world, i)) < end)
-        if (sfi_run_turn(world, i, (uint32_t)(end - now), &event) != SFI_RUN_CALL || sfi_run_steps(world, i) == end ||
-            !serve(world, i, &event))
-            return;
-}
-
 int main(int count, char **words) {
     struct sfi_run_world world = {0};
     struct sfi_run_event event;
@@ -66,7 +57,7 @@ int main(int count, char **words) {
     uint32_t sandboxes = (uint32_t)sfi_run_count(&world);
     for (; rounds > 0 && sfi_run_event(&world, 0, &event) != SFI_RUN_EXITED; rounds--)
         for (uint32_t i = 0; i < sandboxes; i++)
-            turn(&world, i, (uint32_t)quantum);
+            take_turn(&world, i, (uint32_t)quantum, serve, &event);
     for (uint32_t i = 0; i < sandboxes; i++)
         if (sfi_run_event(&world, i, &event) == SFI_RUN_EXITED)
             printf("%" PRIu32 " exited with %" PRIu32 "\n", i, event.number);

@@ -2,7 +2,7 @@
  *
  *     price IMAGE TURNS STEPS
  */
-#include "image.h"
+#include "host.h"
 #include <inttypes.h>
 
 int main(int count, char **words) {

@@ -13,16 +13,13 @@ SFI=$(realpath "${2:-$top/sfi}")
 export SFI
 source "$here/../harness.sh"
 
-needs_tool() { # a command
-    has "$1" || { skip 1 "all hosts" "$1 isn't there" && finish; }
-}
-needs_tool gcc
-needs_tool python3
+needs "all hosts" gcc gcc
+needs "all hosts" python3 python3
+[ "$skipped" = 0 ] || finish
 for file in "$library" "$SFI"; do
     [ -f "$file" ] || { echo "$file isn't there" && exit 1; }
 done
-"$top/tools/libraries.py" sfi_run "$library" "$room/lib" >"$room/log" 2>&1
-report_as $? "the libraries are linked" "$library" "$(cat "$room/log")"
+succeeds "the libraries are linked" "$top/tools/libraries.py" sfi_run "$library" "$room/lib"
 
 # ---- the hosts: a command line for each example of each language
 declare -A hosts=()
@@ -32,8 +29,7 @@ warnings=(-O2 -Wall -Wextra -pedantic -Werror -I"$top/crates/sfi_run/include")
 build_c() {
     local name
     for name in "${examples[@]}"; do
-        gcc -std=c11 "${warnings[@]}" "$here/$name.c" "$room/lib/libsfi_run.a" -o "$room/$name" >"$room/log" 2>&1
-        report_as $? "$name.c is built" "no message" "$(cat "$room/log")"
+        succeeds "$name.c" gcc -std=c11 "${warnings[@]}" "$here/$name.c" "$room/lib/libsfi_run.a" -o "$room/$name"
         hosts[C $name]=$room/$name
     done
 }
@@ -47,9 +43,8 @@ build_arm() {
     done
     [ -f "$arm" ] || { skip 1 "hosts in C on aarch64" "$arm isn't built (tools/build_library.py sfi_run)" && return; }
     for name in "${examples[@]}"; do
-        aarch64-linux-gnu-gcc -static -std=c11 "${warnings[@]}" "$here/$name.c" "$top/crates/sfi_run/c/heap.c" "$arm" \
-            -o "$room/arm_$name" >"$room/log" 2>&1
-        report_as $? "$name.c is built for aarch64" "no message" "$(cat "$room/log")"
+        succeeds "$name.c for aarch64" aarch64-linux-gnu-gcc -static -std=c11 "${warnings[@]}" "$here/$name.c" \
+            "$top/crates/sfi_run/c/heap.c" "$arm" -o "$room/arm_$name"
         hosts[aarch64 $name]="qemu-aarch64 $room/arm_$name"
     done
 }
@@ -58,8 +53,8 @@ build_rust() {
     has cargo || { skip 1 "hosts in Rust" "cargo isn't there" && return; }
     local name
     export CARGO_TARGET_DIR=$room/target CARGO_NET_OFFLINE=true
-    (cd "$top/bindings/rust" && SFI_RUN_LIBRARY=$room/lib/libsfi_run.a RUSTFLAGS="-D warnings" cargo build -q --locked --release --examples) >"$room/log" 2>&1
-    report_as $? "the examples in Rust are built" "no message" "$(cat "$room/log")"
+    succeeds "the examples in Rust" env -C "$top/bindings/rust" SFI_RUN_LIBRARY="$room/lib/libsfi_run.a" \
+        RUSTFLAGS="-D warnings" cargo build -q --locked --release --examples
     for name in "${examples[@]}"; do
         hosts[Rust $name]=$room/target/release/examples/$name
     done
@@ -73,9 +68,8 @@ install_python() {
     if ! python3 -m pip --version >"$room/log" 2>&1; then
         skip 2 "pip install" "python3 has no pip"
     else
-        PIP_DISABLE_PIP_VERSION_CHECK=1 PIP_ROOT_USER_ACTION=ignore python3 -m pip install -q --no-cache-dir --no-index \
-            --target "$room/site" "$top/bindings/python" >"$room/log" 2>&1
-        report_as $? "pip install" "no message" "$(cat "$room/log")"
+        succeeds "pip install" env PIP_DISABLE_PIP_VERSION_CHECK=1 PIP_ROOT_USER_ACTION=ignore python3 -m pip install -q \
+            --no-cache-dir --no-index --target "$room/site" "$top/bindings/python"
         unset SFI_RUN_LIBRARY
         PYTHONPATH=$room/site
         report "the package has its library" "$room/site/sfi_run/libsfi_run.so" \
@@ -118,7 +112,7 @@ examples_beside_run() {
             image "$source" "$format" "$name" || report "$name is built in format $format" image none
             beside_run "$name, format $format" "$name" 48656c6c6f 1:1000 7:13 40:1 3:97 200:1000
         done
-        input=$(head -c 3000 "$here/../c/inputs/prose" | od -An -v -tx1 | tr -d ' \n')
+        input=$(head -c 3000 "$here/../c/inputs/prose" | digits_of)
         for name in base64 crc32 hash json sort stack; do
             source=$(source_of_c "$name")
             [ -n "$source" ] || { skip 1 "$name.c, format $format" "riscv64-unknown-elf-gcc or make isn't there" && continue; }
@@ -238,26 +232,19 @@ header_in_cpp() {
     has g++ || { skip 2 "the header in C++" "g++ isn't there" && return; }
     local standard
     for standard in c++98 c++17; do
-        g++ -std=$standard "${warnings[@]}" -x c++ -fsyntax-only "$top/crates/sfi_run/include/sfi_run.h" >"$room/log" 2>&1
-        report_as $? "the header in $standard" "no message" "$(cat "$room/log")"
+        succeeds "the header in $standard" g++ -std=$standard "${warnings[@]}" -x c++ -fsyntax-only \
+            "$top/crates/sfi_run/include/sfi_run.h"
     done
 }
 
-add() { # a line `N passed, M failed[, K skipped]`
-    local result='^([0-9]+) passed, ([0-9]+) failed(, ([0-9]+) skipped)?$'
-    [[ $1 =~ $result ]] || { report "$2" "N passed, M failed" "$1" && return; }
-    passed=$((passed + BASH_REMATCH[1]))
-    failed=$((failed + BASH_REMATCH[2]))
-    skipped=$((skipped + ${BASH_REMATCH[4]:-0}))
-}
-
 bindings() {
+    local last
     SFI_RUN_LIBRARY=$room/lib/libsfi_run.so "$top/tools/unit_tests.py" "$top/bindings/python/tests" >"$room/log" 2>&1
     head -n -1 "$room/log" | grep -v '^OK$\|^\.*$\|^Ran\|^---'
-    add "$(tail -n 1 "$room/log")" "the tests in Python"
+    last=$(tail -n 1 "$room/log")
+    add_counts "$last" || report "the tests in Python" "N passed, M failed" "$last"
     has cargo || return
-    (cd "$top/bindings/rust" && SFI_RUN_LIBRARY=$room/lib/libsfi_run.a cargo test -q --locked) >"$room/log" 2>&1
-    report_as $? "cargo test" "all passed" "$(tail -n 30 "$room/log")"
+    succeeds "cargo test" env -C "$top/bindings/rust" SFI_RUN_LIBRARY="$room/lib/libsfi_run.a" cargo test -q --locked
 }
 
 build_c

@@ -3,24 +3,21 @@
  *
  *     words IMAGE TEXT ..
  */
-#include "image.h"
+#include "host.h"
 #include <inttypes.h>
 #include <string.h>
 
 enum { EXIT = 0, PRICE = 2, STEPS = 10000 };
 
-/* Serves the sandbox for so many steps in all, however often it calls: how it stands then. */
+static bool serve(struct sfi_run_world *world, uint32_t i, const struct sfi_run_event *call) {
+    if (call->number == EXIT)
+        return !sfi_run_exit(world, i, call->a0);
+    return sfi_run_reply(world, i, call->number == PRICE ? 10 * call->a0 + call->a1 : UINT32_MAX, call->a1);
+}
+
+/* For so many steps in all, however often the plug-in calls: how it stands then. */
 static uint32_t run(struct sfi_run_world *world, struct sfi_run_event *event) {
-    uint64_t end = sfi_run_steps(world, 0) + STEPS, now;
-    while ((now = sfi_run_steps(world, 0)) < end) {
-        if (sfi_run_turn(world, 0, (uint32_t)(end - now), event) != SFI_RUN_CALL || sfi_run_steps(world, 0) == end)
-            break;
-        if (event->number == EXIT)
-            sfi_run_exit(world, 0, event->a0);
-        else
-            sfi_run_reply(world, 0, event->number == PRICE ? 10 * event->a0 + event->a1 : UINT32_MAX, event->a1);
-    }
-    return sfi_run_event(world, 0, event);
+    return take_turn(world, 0, STEPS, serve, event);
 }
 
 /* What the plug-in's table says. It may say anything: each call below answers whether it holds. */

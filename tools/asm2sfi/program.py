@@ -5,7 +5,7 @@ from assembly import Refused
 from instructions import Op
 from linking import Gate
 from operands import Symbol
-from sections import ATEXIT, CodeSection
+from sections import ATEXIT
 
 START = "start"  # the place of what no line of assembly says
 

@@ -1,17 +1,15 @@
-#!/usr/bin/env python3
-"""Tests of asm2sfi: `python3 tools/asm2sfi/test_asm2sfi.py`. The assembly is what gcc 12 and clang 14 write."""
+"""Tests of asm2sfi: `tools/unit_tests.py tools/asm2sfi`. The assembly is what gcc 12 and clang 14 write."""
 import os
 import subprocess
 import sys
-import tempfile
 import unittest
 
 from assembly import Label, Place, Refused, Statement, read_assembly
 from conversion import Options, convert
 from instructions import Converter, Op
 from naming import Names
-from operands import Symbol
 from reading import read_unit, string_bytes
+from testing import Folder
 from writing import code_lines
 
 HERE = Place("a.s", 1)
@@ -359,15 +357,12 @@ class Naming(unittest.TestCase):
         self.assertEqual(names.fresh("put"), "put..n2")
 
 
-class CommandLine(unittest.TestCase):
+class CommandLine(Folder):
     def told(self, *options, output=subprocess.DEVNULL, before=()):
         """The status of a call, before which these words may stand, and the last line on standard error."""
-        with tempfile.TemporaryDirectory() as folder:
-            path = os.path.join(folder, "a.s")
-            with open(path, "w", encoding="utf-8") as file:
-                file.write(MAIN + "\tret\n")
-            words = [*before, sys.executable, "-B", os.path.dirname(os.path.abspath(__file__)), *options, path]
-            ended = subprocess.run(words, stdout=output, stderr=subprocess.PIPE, check=False, text=True)
+        path = self.write("a.s", MAIN + "\tret\n")
+        words = [*before, sys.executable, "-B", os.path.dirname(os.path.abspath(__file__)), *options, path]
+        ended = subprocess.run(words, stdout=output, stderr=subprocess.PIPE, check=False, text=True)
         return ended.returncode, ended.stderr.splitlines()[-1:]
 
     def test_gates(self):
@@ -395,7 +390,3 @@ class CommandLine(unittest.TestCase):
         closing = ("sh", "-c", 'exec "$@" >&-', "sh")
         self.assertEqual(self.told(before=closing),
                          (2, ["asm2sfi: the source can't be written: Bad file descriptor"]))
-
-
-if __name__ == "__main__":
-    unittest.main()

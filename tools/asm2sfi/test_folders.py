@@ -1,12 +1,10 @@
-#!/usr/bin/env python3
 """Tests of folders of assembly: `tools/unit_tests.py tools/asm2sfi`."""
 import os
-import tempfile
-import unittest
 
 from conversion import Options, convert
 from folders import Folders
 from reading import read_unit
+from testing import Folder
 
 MAIN = "\t.text\n\t.globl\tmain\nmain:\n"
 LIBRARY = {  # the files of a folder, with what each defines
@@ -18,17 +16,11 @@ LIBRARY = {  # the files of a folder, with what each defines
 }
 
 
-class FoldersOfAssembly(unittest.TestCase):
+class FoldersOfAssembly(Folder):
     def setUp(self):
-        room = tempfile.TemporaryDirectory()
-        self.addCleanup(room.cleanup)
-        self.folder = room.name
+        super().setUp()
         for name, text in LIBRARY.items():
             self.write(name, text)
-
-    def write(self, name, text):
-        with open(os.path.join(self.folder, name), "w", encoding="utf-8") as file:
-            file.write(text)
 
     def convert(self, text, **options):
         return convert([("a.s", text)], [], Options(passes=(), folders=(self.folder,), **options))
@@ -82,7 +74,3 @@ class FoldersOfAssembly(unittest.TestCase):
         self.write("caller.asm", LIBRARY["caller.asm"].replace("nowhere", "callee"))
         lines = self.source(MAIN + "\tret\n")
         self.assertLess(lines.index("call _start"), lines.index("call main"))
-
-
-if __name__ == "__main__":
-    unittest.main()

@@ -1,7 +1,6 @@
-#!/usr/bin/env python3
 """Compares the model of where `sfi build` places the code with the images that it builds.
 
-    [SFI=PATH] [SEED=N] python3 tools/asm2sfi/test_images.py
+    [SFI=PATH] [SEED=N] tools/unit_tests.py tools/asm2sfi test_images.py
 
 The code is that of each example of examples/c, and random code as it is and packed, in both
 formats. `sfi dis` lists each image: where the model has an instruction, the listing must have
@@ -11,7 +10,6 @@ the Makefile of examples/c makes those that aren't kept: without gcc for RISC-V 
 import os
 import random
 import re
-import shutil
 import subprocess
 import unittest
 
@@ -21,14 +19,12 @@ from packing import packed
 from placement import pass_op, places
 from program import Mark
 from sizes import BUNDLE, MASKED, expansions, number_parts
+from testing import GCC, SFI, TOP, needs, needs_program
 from writing import code_lines
 
-TOP = os.path.dirname(os.path.dirname(os.path.dirname(os.path.abspath(__file__))))
 EXAMPLES = os.path.join(TOP, "examples", "c")
-SFI = os.environ.get("SFI", os.path.join(TOP, "crates", "sfi", "out", "sfi"))
 SEED = int(os.environ.get("SEED", random.randrange(10 ** 6)))
 REGISTERS = "a0 a1 a2 a5 t0 t3 s0 s3".split()
-GCC = "riscv64-unknown-elf-gcc"
 PROGRAMS = 12
 LENGTH = 60
 SPELT = {"mv": "addi", "nop": "addi", "li": "addi", "la": "lui", "j": "jal", "call": "jal", "beqz": "beq", "bnez": "bne",
@@ -105,7 +101,7 @@ def source_of(code, image_format):
     return "\n".join([f".format {image_format}", ".sandbox 4096", *code_lines(code)]) + "\n"
 
 
-@unittest.skipUnless(os.access(SFI, os.X_OK), f"{SFI} isn't built")
+@needs_program
 class Images(unittest.TestCase):
     def compare(self, text, image_format, what):
         """Each piece's first bytes are where the model has them, and the code ends where it
@@ -132,7 +128,7 @@ class Images(unittest.TestCase):
     def test_kept_examples(self):
         self.compare_texts(EXAMPLES)
 
-    @unittest.skipUnless(shutil.which(GCC) and shutil.which("make"), f"{GCC} or make isn't there")
+    @needs(GCC, "make")
     def test_made_examples(self):
         subprocess.run(["make", "-s", "-C", EXAMPLES, "texts"], check=True)
         self.compare_texts(os.path.join(EXAMPLES, "build"))
@@ -146,7 +142,3 @@ class Images(unittest.TestCase):
                 for what, pieces in [("as it is", code), ("packed", packed(code, image_format, Names([])))]:
                     self.compare(source_of(pieces, image_format), image_format,
                                  f"SEED={SEED}, program {number}, format {image_format}, {what}")
-
-
-if __name__ == "__main__":
-    unittest.main()

@@ -1,12 +1,8 @@
-#!/usr/bin/env python3
-"""Tests of how asm2sfi joins files, and of the addresses that the data hold: `python3 tools/asm2sfi/test_linking.py`.
+"""Tests of how asm2sfi joins files, and of the addresses that the data hold: `tools/unit_tests.py tools/asm2sfi`.
 What is wanted follows from what linkers do for C. The last programs are run in both formats, each text also in the
 format that it wasn't packed for; they are skipped where there is no compiler or program."""
-import os
 import re
-import shutil
 import subprocess
-import tempfile
 import unittest
 
 from addresses import FEW
@@ -20,12 +16,8 @@ from sections import DataSection
 from sizes import BUNDLE
 from table import Table, entry, runs_of
 from test_asm2sfi import MAIN, lines_after, lines_of, refusals_of, source, start_of
+from testing import COMPILERS, SFI, SFI_CC, Folder, needs_a_compiler, needs_program
 from words import CODE, DATA, Word
-
-TOP = os.path.dirname(os.path.dirname(os.path.dirname(os.path.abspath(__file__))))
-SFI = os.environ.get("SFI", os.path.join(TOP, "crates", "sfi", "out", "sfi"))
-GCC = "riscv64-unknown-elf-gcc"
-COMPILERS = [compiler for compiler in (GCC, "clang") if shutil.which(compiler)]
 
 
 def of_files(*texts, library=0):
@@ -339,9 +331,9 @@ int main(int count, char **words) {
 OTHER = "int shared = 42;\n"
 
 
-@unittest.skipUnless(os.access(SFI, os.X_OK), f"{SFI} isn't built")
-@unittest.skipUnless(COMPILERS, f"{GCC} and clang aren't there")
-class Programs(unittest.TestCase):
+@needs_program
+@needs_a_compiler
+class Programs(Folder):
     def answer(self, text, image_format):
         text = re.sub(r"^\.format .*$", f".format {image_format}", text, flags=re.MULTILINE)
         image = subprocess.run([SFI, "build"], input=text, stdout=subprocess.PIPE, check=True, text=True).stdout
@@ -349,18 +341,13 @@ class Programs(unittest.TestCase):
         return subprocess.run(run, input=image, stdout=subprocess.PIPE, check=True, text=True).stdout
 
     def try_program(self, compiler, *options):
-        with tempfile.TemporaryDirectory() as room:
-            files = [os.path.join(room, name) for name in ("everything.c", "other.c")]
-            for path, text in zip(files, (EVERYTHING, OTHER)):
-                with open(path, "w", encoding="utf-8") as file:
-                    file.write(text)
-            for packed_for in ("1", "2"):
-                words = [os.path.join(TOP, "tools", "sfi-cc"), "--cc", compiler, "-c", "--format", packed_for, "-fcommon",
-                         *options, *files]
-                text = subprocess.run(words, stdout=subprocess.PIPE, check=True, text=True).stdout
-                for image_format in ("1", "2"):
-                    found = self.answer(text, image_format)
-                    self.assertRegex(found, "exit=42 .*out=6869$", f"{compiler} {options} {packed_for} {image_format}")
+        files = [self.write("everything.c", EVERYTHING), self.write("other.c", OTHER)]
+        for packed_for in ("1", "2"):
+            words = [SFI_CC, "--cc", compiler, "-c", "--format", packed_for, "-fcommon", *options, *files]
+            text = subprocess.run(words, stdout=subprocess.PIPE, check=True, text=True).stdout
+            for image_format in ("1", "2"):
+                found = self.answer(text, image_format)
+                self.assertRegex(found, "exit=42 .*out=6869$", f"{compiler} {options} {packed_for} {image_format}")
 
     def test_everything(self):
         for compiler in COMPILERS:
@@ -375,7 +362,3 @@ class Programs(unittest.TestCase):
         self.assertIn("exit=", self.answer(text, "2"))
         longer = text.replace("\nf20:\n", "\n" + "nop\n" * 9 + "f20:\n")
         self.assertIn("trap=Break", self.answer(longer, "2"))
-
-
-if __name__ == "__main__":
-    unittest.main()

@@ -1,5 +1,4 @@
-#!/usr/bin/env python3
-"""Tests of the passes of asm2sfi: `python3 tools/asm2sfi/test_passes.py`. What is wanted follows
+"""Tests of the passes of asm2sfi: `tools/unit_tests.py tools/asm2sfi`. What is wanted follows
 from docs/SOURCE.md, from the table of RV32C and from the calling convention."""
 import unittest
 
@@ -265,7 +264,3 @@ class Packing(unittest.TestCase):
 
     def test_what_does_not_run_is_not_filled(self):
         self.assertEqual(self.packed("f: j .a; .b: nop; ret; .a: j .b"), ["f:", "j .a", ".b:", "nop", "ret", ".a:", "j .b"])
-
-
-if __name__ == "__main__":
-    unittest.main()

@@ -1,7 +1,6 @@
-#!/usr/bin/env python3
 """Compares random C programs in sandboxes with the same programs compiled natively.
 
-    [SFI=PATH] [SEED=N] [COUNT=N] python3 tools/asm2sfi/test_random.py
+    [SFI=PATH] [SEED=N] [COUNT=N] tools/unit_tests.py tools/asm2sfi test_random.py
 
 Each program goes through gcc at -O0 to -O3 and -Os and, where it is there, through clang at -O2, then
 through the tool with all its passes, and runs in both formats. The same programs are tried each
@@ -10,20 +9,17 @@ so many of them. A failure names its seed. Where a compiler isn't there the test
 import os
 import shutil
 import subprocess
-import tempfile
-import unittest
 
 from conversion import Options, convert
 from random_c import Program
+from testing import GCC, SFI, TOP, Folder, needs, needs_program
 
 HERE = os.path.dirname(os.path.abspath(__file__))
-TOP = os.path.dirname(os.path.dirname(HERE))
 EXAMPLES = os.path.join(TOP, "examples", "c")
-SFI = os.environ.get("SFI", os.path.join(TOP, "crates", "sfi", "out", "sfi"))
 SEED = int(os.environ.get("SEED", 1))
 COUNT = int(os.environ.get("COUNT", 3))
 STACK = 1 << 19  # the programs call themselves some hundred times
-GCC, CLANG, LLC, NATIVE = "riscv64-unknown-elf-gcc", "clang", "llc", "gcc"
+CLANG, LLC, NATIVE = "clang", "llc", "gcc"
 COMMON = ["-march=rv32imc", "-mabi=ilp32", "-ffreestanding", "-fno-builtin", "-fno-jump-tables", "-ffunction-sections",
           "-fdata-sections", "-I", EXAMPLES, "-I", HERE]
 OWN = [f"-ffixed-x{number}" for number in (24, 25, 26, 27, 31)]
@@ -68,26 +64,19 @@ def sandboxed_answer(assembly, library, image_format):
     return " ".join(word for word in words if not word.startswith(("sandbox=", "steps=")))
 
 
-@unittest.skipUnless(os.access(SFI, os.X_OK), f"{SFI} isn't built")
-@unittest.skipUnless(shutil.which(GCC) and shutil.which(NATIVE), f"{GCC} or {NATIVE} isn't there")
-class RandomPrograms(unittest.TestCase):
+@needs_program
+@needs(GCC, NATIVE)
+class RandomPrograms(Folder):
     def test_answers(self):
         with open(os.path.join(HERE, "runtime.asm"), encoding="utf-8") as file:
             library = [("runtime.asm", file.read())]
-        with tempfile.TemporaryDirectory() as folder:
-            for seed in range(SEED, SEED + COUNT):
-                self.compare(seed, library, folder)
+        for seed in range(SEED, SEED + COUNT):
+            self.compare(seed, library)
 
-    def compare(self, seed, library, folder):
-        path = os.path.join(folder, "random.c")
-        with open(path, "w", encoding="utf-8") as file:
-            file.write(Program(seed).text())
-        wanted = native_answer(path, folder)
-        for way, assembly in assemblies(path, folder):
+    def compare(self, seed, library):
+        path = self.write("random.c", Program(seed).text())
+        wanted = native_answer(path, self.folder)
+        for way, assembly in assemblies(path, self.folder):
             for image_format in (1, 2):
                 found = sandboxed_answer(assembly, library, image_format)
                 self.assertEqual(found, wanted, f"SEED={seed}, {way}, format {image_format}")
-
-
-if __name__ == "__main__":
-    unittest.main()

@@ -1,16 +1,8 @@
-#!/usr/bin/env python3
-"""Tests of the functions that compilers call by themselves: `python3 tools/asm2sfi/test_runtime.py`. C programs give
+"""Tests of the functions that compilers call by themselves: `tools/unit_tests.py tools/asm2sfi`. C programs give
 their native answers, by gcc and by clang, in both formats. They are skipped where a compiler or the program isn't there."""
-import os
-import shutil
 import subprocess
-import tempfile
-import unittest
 
-TOP = os.path.dirname(os.path.dirname(os.path.dirname(os.path.abspath(__file__))))
-SFI = os.environ.get("SFI", os.path.join(TOP, "crates", "sfi", "out", "sfi"))
-GCC = "riscv64-unknown-elf-gcc"
-COMPILERS = [compiler for compiler in (GCC, "clang") if shutil.which(compiler)]
+from testing import COMPILERS, SFI, SFI_CC, Folder, needs, needs_a_compiler, needs_program
 
 # `say` mixes each answer into a sum and counts it; the program puts all sums of 64 bits, the lowest byte first.
 FRAME = r'''
@@ -127,45 +119,34 @@ int main(void) {
 '''
 
 
-@unittest.skipUnless(os.access(SFI, os.X_OK), f"{SFI} isn't built")
-@unittest.skipUnless(COMPILERS, f"{GCC} and clang aren't there")
-class Runtime(unittest.TestCase):
-    def setUp(self):
-        room = tempfile.TemporaryDirectory()
-        self.addCleanup(room.cleanup)
-        self.folder = room.name
-
+@needs_program
+@needs_a_compiler
+class Runtime(Folder):
     def native(self, text):
         """What the program puts where it is compiled for this machine."""
-        path = os.path.join(self.folder, "native")
+        path = self.path("native")
         words = ["gcc", "-O1", "-w", "-DNATIVE", "-x", "c", "-", "-o", path]
         subprocess.run(words, input=text.encode(), stderr=subprocess.DEVNULL, check=True)
         return subprocess.run([path], stdout=subprocess.PIPE, check=True).stdout.hex()
 
     def compare(self, text, wanted, options=((), ("-O0",))):
-        path = os.path.join(self.folder, "program.c")
-        with open(path, "w", encoding="utf-8") as file:
-            file.write(text)
+        path = self.write("program.c", text)
         for compiler in COMPILERS:
             for number, more in enumerate(options):
-                words = [os.path.join(TOP, "tools", "sfi-cc"), "--program", SFI, "--cc", compiler, "-w", path, *more,
+                words = [SFI_CC, "--program", SFI, "--cc", compiler, "-w", path, *more,
                          "--format", str(2 - number)]
                 image = subprocess.run(words, stdout=subprocess.PIPE, stderr=subprocess.PIPE, check=True).stdout
                 run = [SFI, "run", "--rounds", "10", "--quantum", "1000000"]
                 found = subprocess.run(run, input=image, stdout=subprocess.PIPE, check=True, text=False).stdout.decode()
                 self.assertRegex(found, wanted, f"{compiler} {more}")
 
-    @unittest.skipUnless(shutil.which("gcc"), "gcc isn't there")
+    @needs("gcc")
     def test_numbers(self):
         self.compare(NUMBERS, f"exit=0 .*out={self.native(NUMBERS)}\n$")
 
-    @unittest.skipUnless(shutil.which("gcc"), "gcc isn't there")
+    @needs("gcc")
     def test_atomics(self):
         self.compare(atomics(), f"exit=0 .*out={self.native(atomics())}\n$")
 
     def test_atomic_objects(self):
         self.compare(OBJECTS, "exit=8 ", ((),))
-
-
-if __name__ == "__main__":
-    unittest.main()

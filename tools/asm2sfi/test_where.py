@@ -1,12 +1,10 @@
-#!/usr/bin/env python3
-"""Tests of what asm2sfi says of an address, and of frames: `python3 tools/asm2sfi/test_where.py`.
+"""Tests of what asm2sfi says of an address, and of frames: `tools/unit_tests.py tools/asm2sfi`.
 
 The addresses of the first tests are counted by the rules of docs/SOURCE.md. The last one follows real traps to their
 lines of C: what `sfi run` prints of a trap is compared with what bench/interpreter.c prints, which also has the pc.
 Where a compiler isn't there its tests are skipped."""
 import os
 import re
-import shutil
 import subprocess
 import sys
 import tempfile
@@ -15,13 +13,10 @@ import unittest
 from assembly import Place
 from conversion import Options, convert, converted
 from lines import source_lines
+from testing import GCC, SFI, SFI_CC, TOP, needs, needs_program
 from where import Image
 
 HERE = os.path.dirname(os.path.abspath(__file__))
-TOP = os.path.dirname(os.path.dirname(HERE))
-SFI = os.environ.get("SFI", os.path.join(TOP, "crates", "sfi", "out", "sfi"))
-SFI_CC = os.path.join(TOP, "tools", "sfi-cc")
-GCC = "riscv64-unknown-elf-gcc"
 
 # In the first format: two stubs, then `call main` at the end of the bundle at 01000020 and `call exit_with` at that of
 # the next; main at 01000040. The data begin 16 bytes above the region's beginning, as the offset 4 wants it.
@@ -177,8 +172,8 @@ class Frames(unittest.TestCase):
             self.assertEqual(refusals_of(body), [], body)
 
 
-@unittest.skipUnless(os.access(SFI, os.X_OK), f"{SFI} isn't built")
-@unittest.skipUnless(shutil.which(GCC), f"{GCC} isn't there")
+@needs_program
+@needs(GCC)
 class Listing(unittest.TestCase):
     """Each load and store that `sfi dis` lists is told as the same one of the program, at the same offset."""
 
@@ -200,8 +195,8 @@ class Listing(unittest.TestCase):
             self.compare(image_format)
 
 
-@unittest.skipUnless(os.access(SFI, os.X_OK), f"{SFI} isn't built")
-@unittest.skipUnless(shutil.which("gcc"), "gcc isn't there")
+@needs_program
+@needs("gcc")
 class Traps(unittest.TestCase):
     """Programs that trap, from C to the line that the trap comes from."""
 
@@ -251,14 +246,10 @@ class Traps(unittest.TestCase):
         full = r"sw \w+, \d+\(sp\); .* the stack has likely overflowed"
         self.follow(compiler, DEEP, "makes the frame", full, ["-O0", "-O2"])
 
-    @unittest.skipUnless(shutil.which(GCC), f"{GCC} isn't there")
+    @needs(GCC)
     def test_gcc(self):
         self.follow_all(GCC)
 
-    @unittest.skipUnless(shutil.which("clang") and shutil.which("llc"), "clang or llc isn't there")
+    @needs("clang", "llc")
     def test_clang(self):
         self.follow_all("clang")
-
-
-if __name__ == "__main__":
-    unittest.main()

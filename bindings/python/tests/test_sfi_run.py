@@ -227,7 +227,3 @@ class Services(unittest.TestCase):
     def test_the_oldest_word_and_its_sender(self):
         self.assertEqual(self.served(5, 8, 9)[:2], (0, 0))
         self.assertEqual(self.served(5, 8, 9, before=[(0, 7), (0, 6)])[:2], (7, 1))
-
-
-if __name__ == "__main__":
-    unittest.main()

@@ -1,6 +1,7 @@
+#!/usr/bin/env python3
 """GCC's torture tests (gcc.c-torture/execute) in sandboxes: what each does, beside what it does natively.
 
-    examples/c/torture.sh [OPTIONS] [NAME ..]
+    examples/c/torture/torture.py [OPTIONS] [NAME ..]
 
 Each test is compiled twice by one compiler: for qemu-riscv32 with picolibc, and by the way of sfi-cc. Where the first exits
 with 0, the second has to, and to print the same. A fixed sample runs, each test in another of the ways, if no names and
@@ -217,7 +218,7 @@ def cases_of(options, room):
 
 
 def parsed(words):
-    parser = argparse.ArgumentParser(prog="torture.sh", description=__doc__.split("\n", maxsplit=1)[0])
+    parser = argparse.ArgumentParser(prog="torture.py", description=__doc__.split("\n", maxsplit=1)[0])
     parser.add_argument("names", nargs="*", metavar="NAME", help="tests that run in each way, in place of the sample")
     parser.add_argument("--all", action="store_true", help="all tests in each way")
     parser.add_argument("--ieee", action="store_true", help="the tests of the folder ieee, all in each way")

@@ -9,11 +9,7 @@ _Static_assert(ENTRIES_EACH * SANDBOXES_MOST <= PMP_ENTRIES, "chip.h");
 static struct world world;
 
 void judge(void) {
-    const uint8_t *image = (const uint8_t *)FLASH_IMAGE;
-    world.arguments = (const struct arguments *)FLASH_ARGUMENTS;
-    world.input = (const uint8_t *)FLASH_INPUT;
-    check_image(image, world.arguments->image_length);
-    world.count = read_image(image, world.arguments->image_length, world.sandboxes);
+    read_image(&world, FLASH_ARGUMENTS, FLASH_IMAGE, FLASH_INPUT);
 }
 
 /* The guard zone below CHIP_RAM is nobody's: chip.h sees to that. */

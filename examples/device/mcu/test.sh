@@ -6,30 +6,11 @@
 #     examples/device/mcu/test.sh [SFI]         # SFI is the program; ./sfi at the top if absent
 set -uo pipefail
 here=$(cd "$(dirname "${BASH_SOURCE[0]}")" && pwd)
-shared=$(realpath "$here/..")
 SFI=$(realpath "${1:-$here/../../../sfi}")
-export SFI
-source "$shared/../harness.sh"
-source "$shared/images.sh"
-source "$shared/judging.sh"
-source "$shared/test_vendor.sh"
+source "$here/../testing.sh"
 source "$here/test_premises.sh"
-cd "$here"
-
-for need in "qemu-system-riscv32 qemu-system-misc" "riscv64-unknown-elf-gcc gcc-riscv64-unknown-elf" \
-    "make make" "xxd xxd" "python3 python3"; do
-    needs "the host for a chip without paging" $need
-done
-[ "$skipped" = 0 ] || finish
-
 by=(--unchecked)
 ! make_checker || by=(--checker "$room/checker/checker.o")
-cases=$shared/cases
-
-without_steps() { sed 's/ steps=[0-9]*//'; }
-
-# The lines of run.sh but those of each trap's pc.
-run() { ./run.sh "${on[@]}" "${by[@]}" "$@" | sed '/ pc=/d'; }
 
 macro() { # of the chip's header
     riscv64-unknown-elf-gcc -E -P -x c -I "chips/$chip" - <<<"#include \"chip.h\"
@@ -189,24 +170,7 @@ try_stacks() {
         "$([ "$stack" -le $(((room_for) / 2)) ] && [ "$module" -le 2048 ] && echo "both at most half")"
 }
 
-# On one chip: a vendor's own files are the same on all.
-try_vendor() {
-    try_enter
-    try_services
-    try_interrupts 3
-    build "$cases/outside.s" 1 >"$room/image.hex"
-    try_report "$room/image.hex"
-    try_pcs "$room/image.hex"
-}
-
 # ---- What run.sh refuses
-
-refused_by_script() { # status, the line; the words of the command line
-    local status=$1 line=$2
-    shift 2
-    report "mcu/run.sh $*" "$line"$'\n'"status $status" \
-        "$(run "$@" <"$room/image.hex" 2>&1; echo "status $?")"
-}
 
 try_script() {
     build "$shared/../hi.s" 1 >"$room/image.hex"
@@ -225,10 +189,9 @@ try_script() {
 }
 
 try_chip() {
-    local flash_code chip_ram host_ram sandboxes_most output_most uart code
+    local flash_code chip_ram host_ram sandboxes_most output_most uart
     read -r flash_code chip_ram host_ram sandboxes_most output_most uart < \
         <(macro "FLASH_CODE CHIP_RAM HOST_RAM SANDBOXES_MOST OUTPUT_MOST UART_TRANSMIT")
-    code=$(printf %08x $((flash_code)))
     on=(--chip "$chip")
     try_sources
     try_accesses "${accesses[@]}"
@@ -244,7 +207,7 @@ try_chip() {
         try_script
         [ "${by[0]}" = --unchecked ] || judge_layouts
         ;;
-    sifive_u) try_vendor ;;
+    sifive_u) try_vendor "$(printf %08x $((flash_code)))" 3 ;; # once: a vendor's own files are the same on all
     esac
 }
 

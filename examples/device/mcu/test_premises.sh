@@ -1,18 +1,6 @@
 # What the host supposes of the chip, for test.sh, whose functions this uses: it reads back what it
 # writes, parks all harts but one, and takes nothing as a boot ROM left it.
 
-# The image is $room/image.hex.
-after_boot() { # what is tried, what is wanted; a boot ROM's assembly on standard input
-    local words
-    words=$(boot_rom "$boots_at" "$flash_host")
-    report "$chip: $1" "$2" "$(QEMU_OPTIONS=$words run --rounds 100 --steps <"$room/image.hex"; echo "status $?")"
-}
-
-pmp_refused() { # what is tried, the entry; a boot ROM's assembly on standard input
-    after_boot "$1" \
-        "device: entry $2 of physical memory protection isn't as it was written"$'\nstatus 2'
-}
-
 # The store is to the guard zone: with the first entry as it was locked it would go through.
 try_entries() {
     head -n 7 "$cases/outside.s" >"$room/store.s"
@@ -52,17 +40,7 @@ END
 
 # The timer is due while the checker judges.
 try_interrupts_left_on() {
-    after_boot "interrupts that were left on" "$1" <<END
-        li      t0, $time
-        lw      t1, 0(t0)
-        addi    t1, t1, 2
-        li      t0, $due
-        sw      x0, 4(t0)
-        sw      t1, 0(t0)
-        li      t0, -1
-        csrw    mie, t0
-        csrsi   mstatus, 8
-END
+    after_boot "interrupts that were left on" "$1" < <(interrupts_left_on "$time" "$due" 2)
 }
 
 # The clock as it is after days, and as its lower word begins anew.
@@ -97,8 +75,8 @@ try_memory() {
 }
 
 try_premises() {
-    local flash_host flash_input time due ram_end boots_at lines
-    read -r flash_host flash_input time due ram_end < \
+    local host_at flash_input time due ram_end boots_at lines
+    read -r host_at flash_input time due ram_end < \
         <(macro "FLASH_HOST FLASH_INPUT TIME TIMER_DUE RAM_END")
     boots_at=$(hex "flash_input + 0x3f000")
     try_entries

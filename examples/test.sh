@@ -1,0 +1,79 @@
+#!/usr/bin/env bash
+# Builds the examples, checks and runs them, and compares what is printed: the tour of the README, and what programs write.
+# The outputs were computed by programs in Python. The steps, which are fewer in the second format, were computed by an
+# interpreter in C or Python that ran the images.
+#
+#     examples/test.sh [PROGRAM]    # PROGRAM is the program sfi
+set -uo pipefail
+unset CDPATH
+here=$(cd "$(dirname "${BASH_SOURCE[0]}")" && pwd)
+SFI=$(realpath "${1:-$here/../sfi}")
+source "$here/harness.sh"
+cd "$here" || exit 1
+[ -f "$SFI" ] || { echo "$SFI isn't there" && exit 1; }
+
+image_of() { # an example, and options: its image
+    "$SFI" build "${@:2}" <"$1.s"
+}
+
+first_format() { # an example: its image without the line `.format 2`
+    sed '/^\.format 2/d' "$1.s" | "$SFI" build
+}
+
+says() { # what is tried, and what is wanted, with status 1 where it is refused; a command, which reads standard input
+    local status=0
+    [[ $2 != *refused* ]] || status=1
+    report "$1" "$2"$'\n'"status $status" "$("$SFI" "${@:3}" 2>&1; echo "status $?")"
+}
+
+# ---- the tour
+chip=(--at 20500000:80000000)
+hi=534649310100000000000001000100000000800100010000200000010200000002000000
+hi+=0000000101000000100000010000000073000000b3ff9001b3ef8f0167800f0073000000b3ff9001b3ef8f0167800f00
+hi+=370580011305050093052000eff05ffd37058001130505000100010001000100b37fb501b3efaf0103c51f00eff05ffc
+hi+=$(printf '0290%.0s' {1..88})4869 # the fill, and the data
+accepted="accepted sandboxes=1 bundles=16"
+says "the smallest image" "$accepted" check <smallest.hex
+says "hi.s to the letter" "$hi" build <hi.s
+says "hi.s is accepted" "$accepted" check < <(image_of hi)
+says "the bytes of hi.s are accepted" "$accepted" check --raw < <(printf '%b' "$(image_of hi | sed 's/../\\x&/g')")
+says "hi.s runs" "sandbox=0 exit=105 steps=19 out=4869" run < <(image_of hi)
+says "hi.s is accepted at a chip's places" "$accepted" check < <(image_of hi "${chip[@]}")
+says "hi.s runs at a chip's places" "sandbox=0 exit=105 steps=19 out=4869" run < <(image_of hi "${chip[@]}")
+report "hi.s is listed" "01000040 01b57fb3 and x31, x10, x27
+01000044 01afefb3 or x31, x31, x26
+01000048 001fc503 lbu x10, 1(x31)" "$(image_of hi | "$SFI" dis | sed -n '/^01000040/,/^01000048/p')"
+says "hi.s with a nop in place of the mask of its load" "0 01000048 V5 access lbu x10, 1(x31)
+refused findings=1 first=V5 sandbox=0 at=01000048" check --report < <(image_of hi | sed s/b37fb501/13000000/)
+for name in echo checksum counter; do
+    report "$name.s is accepted" "accepted sandboxes=1" "$(image_of "$name" | "$SFI" check | cut -d' ' -f1,2)"
+done
+
+# ---- words from sandbox to sandbox
+digits_of_lines() { # lines: the digits of their bytes
+    printf '%s\n' "$@" | digits_of
+}
+
+primes=$(digits_of_lines 02 03 05 07 11 13 17 19 23 29 31 37 41 43 47 53 59 61 67 71 73 79 83 89 97)
+while read -r quantum rounds first second; do
+    says "primes.s by turns of $quantum steps" "sandbox=0 exit=0 steps=$first out=
+sandbox=1 exit=1060 steps=$second out=$primes" run --rounds "$rounds" --quantum "$quantum" < <(image_of primes)
+done <<'END'
+1 10000 3988 4003
+7 1000 3988 3653
+1000 10 3988 1428
+100000 10 4008 1378
+END
+
+# ---- frames on the stack, in both formats
+both_formats() { # an example, its exit, its steps in the second format and in the first, its output's digits, options
+    says "$1.s in the second format" "sandbox=0 exit=$2 steps=$3 out=$5" run --quantum 1000000 "${@:6}" < <(image_of "$1")
+    says "$1.s in the first format" "sandbox=0 exit=$2 steps=$4 out=$5" run --quantum 1000000 "${@:6}" < <(first_format "$1")
+}
+
+both_formats fibonacci 16 154206 200790 "$(digits_of_lines 0 1 1 2 3 5 8 13 21 34 55 89 144 233 377 610)"
+both_formats hanoi 31 2534 4208 "$(digits_of_lines AC AB CB AC BA BC AC AB CB CA BA CB AC AB CB AC BA BC AC BA CB CA BA BC AC AB CB AC BA BC AC)"
+both_formats sort 61 14172 15372 \
+    131718191d1e1e1f20232525292c2e3031343c3c3f44494d4d545c5c60696d71727b7c7f939499999da0a5afafb9bbbecacbd6d6d6d9dadee5e8eefdfe \
+    --input a54dca182530bb1d6d132cded6237b2ed91e3f721fcb1971174494d6493c9d5c3460be31201e69fedaa0eee8b9997f5c7c2999fdafe593253cd654af4d
+finish

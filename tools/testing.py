@@ -1,0 +1,47 @@
+"""What the unit tests share: the program and the compilers that they run, and a folder for what a test makes."""
+import os
+import pathlib
+import shutil
+import tempfile
+import unittest
+
+TOOLS = pathlib.Path(__file__).resolve().parent
+TOP = TOOLS.parent
+SFI = os.environ.get("SFI", str(TOP / "crates" / "sfi" / "out" / "sfi"))
+SFI_CC = str(TOOLS / "sfi-cc")
+GCC = "riscv64-unknown-elf-gcc"
+COMPILERS = [it for it in (GCC, "clang") if shutil.which(it)]
+
+needs_program = unittest.skipUnless(os.access(SFI, os.X_OK), f"{SFI} isn't built")
+needs_a_compiler = unittest.skipUnless(COMPILERS, f"{GCC} and clang aren't there")
+
+
+def needs(*commands):
+    """Skips a test, or all of a class, where one of these commands isn't there."""
+    missing = [it for it in commands if not shutil.which(it)]
+    return unittest.skipIf(missing, f"{' and '.join(missing)} {'is' if len(missing) == 1 else 'are'}n't there")
+
+
+class Folder(unittest.TestCase):
+    """Tests with a folder of their own."""
+
+    def setUp(self):
+        room = tempfile.TemporaryDirectory()
+        self.addCleanup(room.cleanup)
+        self.folder = room.name
+        self.room = pathlib.Path(room.name)
+
+    def path(self, name):
+        return os.path.join(self.folder, name)
+
+    def write(self, name, text, mode=0o644):
+        """The path of a new file."""
+        os.makedirs(os.path.dirname(self.path(name)), exist_ok=True)
+        with open(self.path(name), "w", encoding="utf-8") as file:
+            file.write(text)
+        os.chmod(self.path(name), mode)
+        return self.path(name)
+
+    def read(self, name):
+        with open(self.path(name), encoding="utf-8") as file:
+            return file.read()
