@@ -15,7 +15,7 @@ enum Harm {
     FirstFormat,
     /// In the second format alone: in the first x2 is a register like others.
     SecondFormat,
-    /// Unless so many bytes after its first one a bundle of the region begins.
+    /// Unless so many bytes after its first one a bundle of the region begins, or in words a word.
     Jump(u32),
     /// As the region's last instruction alone.
     AtEnd,
@@ -103,6 +103,59 @@ second V10 0 41610290 c.addi16sp x2, 16
 second V10 8 b37fb501b3efaf0103a10f000290 lw x2
 ";
 
+/// The same of code in words. Where another instruction has to come, its place is that of what comes instead. An `ebreak` at
+/// the end keeps V8 where the region ends there.
+const WORD_ATTACKS: &str = "
+anywhere V5 0 2320b500 store on x10
+anywhere V5 8 b37fb50133e5af012320b500 store on x10 after its pair
+anywhere V5 4 b37fb50123a0bf00 store on the offset register
+anywhere V5 0 83250f00 load on the code register
+anywhere V5 0 2320bc00 store on the code base
+anywhere V10 4 b36ea50123a0be0073001000 data register from x10
+anywhere V10 4 930e0500b37fb501b3eeaf0173001000 mask of another register
+anywhere V10 8 930e0500b3ffbe01b3e1af0173001000 mask put into another register
+anywhere V10 8 930e0500b3ffbe0123a0be0073001000 store between mask and base
+anywhere V10 4 03210d002320b10073001000 store on a register that was loaded
+anywhere V10 4 93814100a3aeb13e73001000 access 1021 bytes after a step
+anywhere V10 4 93814100a3a1b1c073001000 access 1021 bytes before a step
+anywhere V10 4 938141002320b20073001000 step before an access on another register
+anywhere V10 4 938141009381410023a0b10073001000 two steps
+anywhere V10 4 9301420023a0b10073001000 step from another register
+anywhere V10 0 e7010f00 jalr links x3
+anywhere V10 0 6f020000 jal links x4
+anywhere V10 2 41110290 c.addi x2, -16
+anywhere V10 2 2a820290 c.mv x4
+anywhere V6 0 67800000 jump on x1
+anywhere V6 4 337f950167000500 jump on what was masked
+anywhere V6 0 67004f00 jump 4 bytes further
+anywhere V6 0 82800290 c.jr
+anywhere V11 4 337f950167000f00 half a pair
+anywhere V11 4 337f950101000290 c.nop in a pair
+anywhere V11 0 336f850167000f00 code register from x10
+anywhere V11 0 130f4f0067000f00 step of the code register
+anywhere V12 0 b37fa50173001000 offset by the data base
+anywhere V12 0 b3ffad0073001000 operands of and exchanged
+anywhere V12 0 938f1f0073001000 step of the offset register
+anywhere V12 0 832f0d0073001000 load into the offset register
+4294967294 V7 0 fdbf0290 c.j -2
+2 V7 0 09a00290 c.j 2
+6 V7 0 19200290 c.jal 6
+16 V7 0 6f000001 jal 16
+4294967280 V7 0 e30800fe73001000 beq -16
+10 V7 0 6305000073001000 beq 10
+anywhere V4 0 032d0d00 lw x26
+anywhere V4 0 e70d0f00 jalr links x27
+anywhere V4 0 0d4c0290 c.li x24
+anywhere V4 0 824c0290 c.lwsp x25
+anywhere V3 0 73000000 ecall
+anywhere V2 2 0100130001000290 addi across a word's end
+anywhere V2 2 0100670001000290 jalr across a word's end
+anywhere V1 0 1f000000 longer than 32 bits
+anywhere V1 0 0f100000 fence.i
+anywhere V1 0 00000000 no instruction
+end V8 0 13000000 addi at the end
+";
+
 fn harm_of(word: &str) -> Option<Harm> {
     match word {
         "anywhere" => Some(Anywhere),
@@ -116,6 +169,7 @@ fn harm_of(word: &str) -> Option<Harm> {
 fn rule_of(word: &str) -> Option<Rule> {
     match word {
         "V1" => Some(Rule::V1),
+        "V2" => Some(Rule::V2),
         "V3" => Some(Rule::V3),
         "V4" => Some(Rule::V4),
         "V5" => Some(Rule::V5),
@@ -123,6 +177,8 @@ fn rule_of(word: &str) -> Option<Rule> {
         "V7" => Some(Rule::V7),
         "V8" => Some(Rule::V8),
         "V10" => Some(Rule::V10),
+        "V11" => Some(Rule::V11),
+        "V12" => Some(Rule::V12),
         _ => None,
     }
 }
@@ -136,6 +192,19 @@ fn attack_of<'a>(line: &'a str) -> Option<Attack<'a>> {
     let place = place.parse().ok()?;
     let harm = harm_of(harm)?;
     Some(Attack(name, code, rule, place, harm))
+}
+
+/// Whether a bundle begins there, or in words a word.
+fn begins(format: Format, target: u32) -> bool {
+    match format {
+        Format::Sfi1 | Format::Sfi2 => target % 16 == 0,
+        Format::Sfiw => target % 4 == 0,
+    }
+}
+
+/// Whether an attack is tried from this place of a bundle on: in words it begins with one.
+fn is_tried(format: Format, place: u32) -> bool {
+    format != Format::Sfiw || place % 4 == 0
 }
 
 impl<'a> Attack<'a> {
@@ -152,7 +221,7 @@ impl<'a> Attack<'a> {
             SecondFormat => format == Format::Sfi2,
             Jump(offset) => {
                 let target = from.wrapping_add(offset);
-                target % 16 != 0 || target >= 16 * BUNDLES
+                !begins(format, target) || target >= 16 * BUNDLES
             }
             AtEnd => from.wrapping_add(self.len()) == 16 * BUNDLES,
         }
@@ -230,7 +299,7 @@ fn is_found(alloc: Global, bytes: &[u8], finding: Option<Finding>) -> bool {
     }
 }
 
-// The attack is found at each place of the bundle where it fits.
+// The attack is found at each place of the bundle where it is tried and fits.
 fn is_found_in(
     alloc: Global,
     attack: &Attack<'_>,
@@ -239,10 +308,14 @@ fn is_found_in(
     filler: Filler,
 ) -> Result<bool, Fail> {
     for half in 0..8u32 {
+        let place = 2 * half;
+        if !is_tried(format, place) {
+            continue;
+        }
         let spot = Spot {
             format,
             bundle,
-            place: 2 * half,
+            place,
             filler,
         };
         if let Some(bytes) = attack.image(alloc, &spot)? {
@@ -254,24 +327,36 @@ fn is_found_in(
     Ok(true)
 }
 
-// In either format, after each filler, in the first bundle, in each quarter of the block of eight that
-// is looked at together, and in the last bundle, which is in none.
+// The attack is found after each filler, in the first bundle, in each quarter of the block of eight
+// that is looked at together, and in the last bundle, which is in none.
+fn is_found_everywhere(alloc: Global, attack: &Attack<'_>, format: Format) -> Result<bool, Fail> {
+    for bundle in [0u32, 3, 4, 7, 15] {
+        for filler in [Nop, CNop, Ebreak] {
+            if !is_found_in(alloc, attack, format, bundle, filler)? {
+                return Ok(false);
+            }
+        }
+    }
+    Ok(true)
+}
+
 #[test]
 fn attacks_are_found(rt: HostRuntime) -> Result<(), Fail> {
-    for line in ATTACKS.lines().skip(1) {
-        let Some(attack) = attack_of(line) else {
-            return Err(Fail::new(line));
-        };
-        for format in [Format::Sfi1, Format::Sfi2] {
-            for bundle in [0u32, 3, 4, 7, 15] {
-                for filler in [Nop, CNop, Ebreak] {
-                    assert!(rt;
-                        is_found_in(rt.alloc(), &attack, format, bundle, filler)?,
-                        "{}",
-                        attack.0
-                    );
-                }
-            }
+    let tables = [
+        (ATTACKS, Format::Sfi1),
+        (ATTACKS, Format::Sfi2),
+        (WORD_ATTACKS, Format::Sfiw),
+    ];
+    for (table, format) in tables {
+        for line in table.lines().skip(1) {
+            let Some(attack) = attack_of(line) else {
+                return Err(Fail::new(line));
+            };
+            assert!(rt;
+                is_found_everywhere(rt.alloc(), &attack, format)?,
+                "{}",
+                attack.0
+            );
         }
     }
     Ok(())

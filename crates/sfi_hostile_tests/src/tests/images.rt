@@ -70,7 +70,7 @@ fn is_short(alloc: Global, bytes: &[u8]) -> bool {
 #[test]
 fn every_front_is_short(rt: HostRuntime) -> Result<(), Fail> {
     let alloc = rt.alloc();
-    for magic in [SFI1, SFI2] {
+    for magic in [SFI1, SFI2, SFIW] {
         let bytes = bytes_of(alloc, &hi_pieces(magic))?;
         assert_eq!(rt; bytes.len(), 310);
         for len in 0..bytes.len() {
