@@ -5,7 +5,7 @@ use Rattle.std.proofs.lemmas.Bool.{cases_eq}
 use Rattle.std.proofs.lemmas.List.{get_or-take, get_or-drop}
 use Rattle.sfi_masks.specs.declared.masks.Masks.{Masks}
 use Rattle.sfi_masks.specs.Masks.{half_at, is_in, AreMasksBy, IsFreeHalfBy, IsFreeWordBy, IsFreeAccessBy}
-use Rattle.sfi_masks.specs.private.Seen.{Code, may_of, is_on_x2, AreSeen, of_four, free_classes, access_classes}
+use Rattle.sfi_masks.specs.private.Seen.{Code, may_of, on_of, AreSeen, of_four, free_classes, access_classes}
 use Rattle.sfi_masks.proofs.Told.{half_is, word_is, free_half, free_word, free_access}
 
 -- the same of bytes that are the same
@@ -16,8 +16,8 @@ moved code f g m same p = record {
   access_small = p.access_small;
   long = λ i h. p.long i h ∙ ap (λ b. b % 4 == 3) (same (2 * i) (omega arith));
   free = λ i h.
-      p.free i h ∙ ap₂ (λ a b. not (free_classes code a b (f (2 * ((i + 1) % 16) + 1)) == 0)) (same (2 * i) (omega arith)) (same (2 * i + 1) (omega arith))
-      ∙ ap (λ n. not (free_classes code (g (2 * i)) (g (2 * i + 1)) n == 0)) (same (2 * ((i + 1) % 16) + 1) (omega arith));
+      p.free i h ∙ ap₂ (λ a b. not (free_classes code a b (f (2 * ((i + 1) % 16))) (f (2 * ((i + 1) % 16) + 1)) == 0)) (same (2 * i) (omega arith)) (same (2 * i + 1) (omega arith))
+      ∙ ap₂ (λ m n. not (free_classes code (g (2 * i)) (g (2 * i + 1)) m n == 0)) (same (2 * ((i + 1) % 16)) (omega arith)) (same (2 * ((i + 1) % 16) + 1) (omega arith));
   access = λ i h.
       p.access i h ∙ ap₂ (λ a b. not (access_classes code a b (f (2 * ((i + 1) % 16) + 1)) == 0)) (same (2 * i) (omega arith)) (same (2 * i + 1) (omega arith))
       ∙ ap (λ n. not (access_classes code (g (2 * i)) (g (2 * i + 1)) n == 0)) (same (2 * ((i + 1) % 16) + 1) (omega arith));
@@ -72,7 +72,10 @@ module _ (code : Code) (block : List ℕ) (first second third fourth : Masks) wh
       (long_is : (i : ℕ) → i < 64 → is_in m.long i ≡ is_in (of_quarters (λ x. x.long) (i / 16)) (i % 16))
       (free_is : (i : ℕ) → i < 64 → is_in m.free i ≡ is_in (of_quarters (λ x. x.free) (i / 16)) (i % 16))
       (access_is : (i : ℕ) → i < 64 → is_in m.access i ≡ is_in (of_quarters (λ x. x.access) (i / 16)) (i % 16)) where
-    -- the high byte that the vectors take for that of the next halfword
+    -- the bytes that the vectors take for those of the next halfword
+    abbrev next_low : ℕ → ℕ
+    next_low i = byte (32 * (i / 16) + 2 * ((i % 16 + 1) % 16))
+
     abbrev next : ℕ → ℕ
     next i = byte (32 * (i / 16) + (2 * ((i % 16 + 1) % 16) + 1))
 
@@ -85,6 +88,9 @@ module _ (code : Code) (block : List ℕ) (first second third fourth : Masks) wh
     place_high : (i : ℕ) → byte (32 * (i / 16) + (2 * (i % 16) + 1)) ≡ byte (2 * i + 1)
     place_high i = ap byte (let e : 32 * (i / 16) + (2 * (i % 16) + 1) ≡ 2 * i + 1 = omega arith in e)
 
+    place_next_low : (i : ℕ) → i % 8 < 7 → next_low i ≡ byte (2 * i + 2)
+    place_next_low i h = ap byte (let e : 32 * (i / 16) + 2 * ((i % 16 + 1) % 16) ≡ 2 * i + 2 = omega arith in e)
+
     place_next : (i : ℕ) → i % 8 < 7 → next i ≡ byte (2 * i + 3)
     place_next i h = ap byte (let e : 32 * (i / 16) + (2 * ((i % 16 + 1) % 16) + 1) ≡ 2 * i + 3 = omega arith in e)
 
@@ -93,11 +99,11 @@ module _ (code : Code) (block : List ℕ) (first second third fourth : Masks) wh
         let q = at_quarter i h in
         long_is i h ∙ ap (λ n. is_in n (i % 16)) q.long ∙ q.are.long (i % 16) (omega arith) ∙ ap (λ b. b % 4 == 3) (place i)
 
-    free_at : (i : ℕ) → i < 64 → is_in m.free i ≡ not (free_classes code (byte (2 * i)) (byte (2 * i + 1)) (next i) == 0)
+    free_at : (i : ℕ) → i < 64 → is_in m.free i ≡ not (free_classes code (byte (2 * i)) (byte (2 * i + 1)) (next_low i) (next i) == 0)
     free_at i h =
         let q = at_quarter i h in
         free_is i h ∙ ap (λ n. is_in n (i % 16)) q.free ∙ q.are.free (i % 16) (omega arith)
-        ∙ ap₂ (λ a b. not (free_classes code a b (next i) == 0)) (place i) (place_high i)
+        ∙ ap₂ (λ a b. not (free_classes code a b (next_low i) (next i) == 0)) (place i) (place_high i)
 
     access_at : (i : ℕ) → i < 64 → is_in m.access i ≡ not (access_classes code (byte (2 * i)) (byte (2 * i + 1)) (next i) == 0)
     access_at i h =
@@ -105,17 +111,17 @@ module _ (code : Code) (block : List ℕ) (first second third fourth : Masks) wh
         access_is i h ∙ ap (λ n. is_in n (i % 16)) q.access ∙ q.are.access (i % 16) (omega arith)
         ∙ ap₂ (λ a b. not (access_classes code a b (next i) == 0)) (place i) (place_high i)
 
-    pub are_masks : AreMasksBy (may_of code) (is_on_x2 code) block m
+    pub are_masks : AreMasksBy (may_of code) (on_of code) block m
     are_masks = record {
       long = λ i h.
           let half = half_is block i in
           let low : byte (2 * i) % 4 ≡ half_at block i % 4 = omega arith in
           long_at i h ∙ ap (λ n. n == 3) low;
-      short = λ i h free long. subst (IsFreeHalfBy (may_of code) (is_on_x2 code)) (sym (half_is block i))
-          (free_half code (byte (2 * i)) (byte (2 * i + 1)) (next i) (fits (2 * i)) (fits (2 * i + 1)) (fits _) (sym (long_at i h) ∙ long) (not_false _ (sym (free_at i h) ∙ free)));
-      word = λ i inside h free long. subst (IsFreeWordBy (may_of code) (is_on_x2 code)) (sym (word_is block i))
+      short = λ i h free long. subst (IsFreeHalfBy (may_of code) (on_of code)) (sym (half_is block i))
+          (free_half code (byte (2 * i)) (byte (2 * i + 1)) (next_low i) (next i) (fits (2 * i)) (fits (2 * i + 1)) (fits _) (sym (long_at i h) ∙ long) (not_false _ (sym (free_at i h) ∙ free)));
+      word = λ i inside h free long. subst (IsFreeWordBy (may_of code) (on_of code)) (sym (word_is block i))
           (free_word code (byte (2 * i)) (byte (2 * i + 1)) (byte (2 * i + 2)) (byte (2 * i + 3)) (fits (2 * i)) (fits (2 * i + 1)) (fits (2 * i + 2)) (fits (2 * i + 3)) (sym (long_at i h) ∙ long)
-          (ap (λ n. free_classes code (byte (2 * i)) (byte (2 * i + 1)) n == 0) (sym (place_next i inside)) ∙ not_false _ (sym (free_at i h) ∙ free)));
+          (ap₂ (λ m n. free_classes code (byte (2 * i)) (byte (2 * i + 1)) m n == 0) (sym (place_next_low i inside)) (sym (place_next i inside)) ∙ not_false _ (sym (free_at i h) ∙ free)));
       access = λ i inside h access. subst (IsFreeAccessBy (may_of code)) (sym (word_is block i))
           (free_access code (byte (2 * i)) (byte (2 * i + 1)) (byte (2 * i + 2)) (byte (2 * i + 3)) (fits (2 * i)) (fits (2 * i + 1)) (fits (2 * i + 2)) (fits (2 * i + 3))
           (ap (λ n. access_classes code (byte (2 * i)) (byte (2 * i + 1)) n == 0) (sym (place_next i inside)) ∙ not_false _ (sym (access_at i h) ∙ access)));

@@ -8,7 +8,7 @@ use Rattle.rv_comp.specs.mirror.Decoding.{extended, jump_offset, branch_offset}
 use Rattle.rv_comp.specs.mirror.Outlining.{row_of, jump, jump_or_stop, outlined}
 use Rattle.sfi_masks.specs.Masks.{is_free_by}
 use Rattle.sfi_masks.specs.declared.tables.TheConstants.{ALONE, FOLLOWED, NEXT, REST, ALL, PLAIN}
-use Rattle.sfi_masks.specs.private.Seen.{Code, bundles, words, may_of, is_on_x2, byte_classes, half_classes, followed, kept, kept_in_words, kept_of, rest, free_classes, access_classes}
+use Rattle.sfi_masks.specs.private.Seen.{Code, bundles, words, may_of, on_of, is_on_x2, byte_classes, half_classes, followed, kept, kept_in_words, kept_of, rest, classes_with, access_classes}
 use Rattle.sfi_masks.proofs.Fields.{computes, accesses, with_each_funct7}
 
 -- ---- the fields of a halfword
@@ -25,7 +25,7 @@ funct3 high = high / 16 % 8
 -- ---- what is to be told
 
 abbrev pub is_free_half : Code → Option Outline → Bool
-is_free_half code (Some o) = is_free_by (may_of code) (is_on_x2 code) o
+is_free_half code (Some o) = is_free_by (may_of code) (on_of code) o
 is_free_half code None = false
 
 abbrev pub is_free_word : Code → ℕ → ℕ → ℕ → Bool
@@ -235,7 +235,7 @@ module _ (code : Code) (low high : ℕ) (low_fits : low < 256) (high_fits : high
         subst (λ n. access_told code low high following n (kept_of code low high) ≡ true) same both.1,
       )
 
-  pub free_begins : (next : ℕ) → next < 256 → (free_classes code low high next == 0) ≡ false → begins_free code low high (next / 2) ≡ true
+  pub free_begins : (next : ℕ) → next < 256 → (classes_with code low high next 63 == 0) ≡ false → begins_free code low high (next / 2) ≡ true
   unfolding followed rest
   free_begins next h some = elim cases [
     | inl none ↦ absurd (let zero_is : free_of alone others following (byte_classes NEXT next) (mask code) (kept_of code low high) ≡ 0 = rw (none.0, none.1, none.2) (zero_free (byte_classes NEXT next) (mask code) (kept_of code low high)) in let e = eq-eqb _ 0 zero_is in cc)

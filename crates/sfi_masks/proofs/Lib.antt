@@ -4,4 +4,5 @@ pub mod SideBySide
 pub mod Fields
 pub mod Cells
 pub mod Told
+pub mod Bases
 pub mod Block

@@ -10,7 +10,7 @@ use Rattle.rv_word.specs.declared.instr.Instr.{Instr}
 use Rattle.rv_word.specs.declared.outline.Outline.{Outline}
 use Rattle.rv_word.specs.declared.outline.Outline.TheVariants.{Computes, Loads, Stores, Orders, Stops}
 use Rattle.rv_comp.specs.Halfwords.{IsShortSpelling}
-use Rattle.sfi_policy.specs.Registers.{is_reserved, is_data_register, code_register, offset_register, stack_pointer}
+use Rattle.sfi_policy.specs.Registers.{is_reserved, is_data_register, code_register, data_base_register, offset_register, stack_pointer}
 use Rattle.sfi_masks.specs.declared.masks.Masks.{Masks}
 
 -- halfword i of the bytes, and the word that begins there
@@ -35,29 +35,37 @@ abbrev pub may_write_in_words : ℕ → Bool
 may_write_in_words r = not (is_reserved r)
     && not (is_data_register r || (r == code_register) || (r == offset_register))
 
+-- an access on the register needs nothing beside it: x2, where that is a stack pointer
+abbrev pub may_be_on : Bool → ℕ → Bool
+may_be_on stack r = stack && (r == stack_pointer)
+
+-- the same in words: a data register, or the base of the data
+abbrev pub may_be_on_in_words : ℕ → Bool
+may_be_on_in_words r = is_data_register r || (r == data_base_register)
+
 -- ---- what is free
 
--- The instruction writes only registers that may be written. It computes, orders or stops, or accesses
--- memory on x2, if an access on x2 needs nothing beside it (`stack`).
-abbrev pub is_free_by : (ℕ → Bool) → Bool → Outline → Bool
-is_free_by may stack (Computes rd) = may rd
-is_free_by may stack (Loads rd base) = may rd && (stack && (base == stack_pointer))
-is_free_by may stack (Stores base) = stack && (base == stack_pointer)
-is_free_by may stack Orders = true
-is_free_by may stack Stops = true
-is_free_by may stack _ = false
+-- The instruction writes only registers that it may write (`may`). It computes, orders or stops, or
+-- accesses memory on a register on which an access needs nothing beside it (`on`).
+abbrev pub is_free_by : (ℕ → Bool) → (ℕ → Bool) → Outline → Bool
+is_free_by may on (Computes rd) = may rd
+is_free_by may on (Loads rd base) = may rd && on base
+is_free_by may on (Stores base) = on base
+is_free_by may on Orders = true
+is_free_by may on Stops = true
+is_free_by may on _ = false
 
 -- the halfword spells such an instruction
-pub record IsFreeHalfBy (may : ℕ → Bool) (stack : Bool) (half : ℕ) : Type 0 where
+pub record IsFreeHalfBy (may on : ℕ → Bool) (half : ℕ) : Type 0 where
   pub instr : Instr
   pub spelled : IsShortSpelling half instr
-  pub free : is_free_by may stack (outline instr) ≡ true
+  pub free : is_free_by may on (outline instr) ≡ true
 
 -- the word spells such an instruction
-pub record IsFreeWordBy (may : ℕ → Bool) (stack : Bool) (word : ℕ) : Type 0 where
+pub record IsFreeWordBy (may on : ℕ → Bool) (word : ℕ) : Type 0 where
   pub instr : Instr
   pub spelled : IsWordOf word instr
-  pub free : is_free_by may stack (outline instr) ≡ true
+  pub free : is_free_by may on (outline instr) ≡ true
 
 -- the word spells a load or a store that writes no register that it may not; its bits 19:15 name
 -- its base
@@ -70,14 +78,14 @@ pub record IsFreeAccessBy (may : ℕ → Bool) (word : ℕ) : Type 0 where
 -- What the masks tell of the block's 64 halfwords. `long` tells each whose two lowest bits are 11, so
 -- that it begins no instruction of 16 bits, and no other. What `free` or `access` tells is so wherever
 -- an instruction begins there, but of one of 32 bits at a bundle's last halfword they tell nothing.
-pub record AreMasksBy (may : ℕ → Bool) (stack : Bool) (bytes : List ℕ) (m : Masks) : Type 0 where
+pub record AreMasksBy (may on : ℕ → Bool) (bytes : List ℕ) (m : Masks) : Type 0 where
   pub long : (i : ℕ) → i < 64 → is_in m.long i ≡ (half_at bytes i % 4 == 3)
   pub short :
       (i : ℕ) → i < 64 → is_in m.free i ≡ true → is_in m.long i ≡ false
-      → IsFreeHalfBy may stack (half_at bytes i)
+      → IsFreeHalfBy may on (half_at bytes i)
   pub word :
       (i : ℕ) → i % 8 < 7 → i < 64 → is_in m.free i ≡ true → is_in m.long i ≡ true
-      → IsFreeWordBy may stack (word_at bytes i)
+      → IsFreeWordBy may on (word_at bytes i)
   pub access :
       (i : ℕ) → i % 8 < 7 → i < 64 → is_in m.access i ≡ true
       → IsFreeAccessBy may (word_at bytes i)
@@ -88,15 +96,15 @@ pub record AreMasksBy (may : ℕ → Bool) (stack : Bool) (bytes : List ℕ) (m 
 -- last, whatever stands before and after it. Where x2 is a stack pointer, an access on it needs no
 -- pair.
 abbrev pub is_free : Bool → Outline → Bool
-is_free stack o = is_free_by (may_write stack) stack o
+is_free stack o = is_free_by (may_write stack) (may_be_on stack) o
 
 -- the halfword spells such an instruction
 abbrev pub IsFreeHalf : Bool → ℕ → Type 0
-IsFreeHalf stack half = IsFreeHalfBy (may_write stack) stack half
+IsFreeHalf stack half = IsFreeHalfBy (may_write stack) (may_be_on stack) half
 
 -- the word spells such an instruction
 abbrev pub IsFreeWord : Bool → ℕ → Type 0
-IsFreeWord stack word = IsFreeWordBy (may_write stack) stack word
+IsFreeWord stack word = IsFreeWordBy (may_write stack) (may_be_on stack) word
 
 -- the word spells a load or a store that writes no register that it may not
 abbrev pub IsFreeAccess : Bool → ℕ → Type 0
@@ -104,11 +112,10 @@ IsFreeAccess stack word = IsFreeAccessBy (may_write stack) word
 
 -- what the masks tell of a block of bundles
 abbrev pub AreMasks : Bool → List ℕ → Masks → Type 0
-AreMasks stack bytes m = AreMasksBy (may_write stack) stack bytes m
+AreMasks stack bytes m = AreMasksBy (may_write stack) (may_be_on stack) bytes m
 
 -- ---- in words
 
--- what they tell of a block of code in words, where an access on x2, a data register, needs nothing
--- beside it
+-- what they tell of a block of code in words
 abbrev pub AreMasksInWords : List ℕ → Masks → Type 0
-AreMasksInWords bytes m = AreMasksBy may_write_in_words true bytes m
+AreMasksInWords bytes m = AreMasksBy may_write_in_words may_be_on_in_words bytes m

@@ -1,10 +1,11 @@
 //! Steps on vectors of sixteen bytes, by their lanes.
 ghost use Rattle.std.specs.Prelude.{◌≡◌, ℕ, ◌+◌, ◌*◌, ◌%◌, ◌^◌, ◌<◌, ◌==◌, not, length, slice_index, bit_and};
 ghost use Rattle.sfi_masks.specs.Masks.{is_in};
-ghost use Rattle.sfi_masks.specs.private.Seen.{HasLanes, byte_classes, half_classes, followed, kept, kept_in_words, rest};
+ghost use Rattle.sfi_masks.specs.private.Seen.{HasLanes, byte_classes, half_classes, followed, free_in_words, kept, kept_in_words, rest};
 
 use crate::tables::{
-    ALL, ByteTable, FOLLOWED, HalfTable, NEXT, NO_RD, PLAIN, REST, WORDS_EVEN, WORDS_ODD,
+    ALL, BASE_HIGH, BASE_LOW, ByteTable, FOLLOWED, FREE, HalfTable, NEXT, NO_RD, PLAIN, REST,
+    WORDS_EVEN, WORDS_ODD,
 };
 use std::simd::prelude::*;
 
@@ -53,6 +54,19 @@ pub(crate) fn followed_classes(low: u8x16, high: u8x16) -> u8x16
 {
     let next = classes_of_bytes(NEXT, high).rotate_elements_left::<1>();
     classes_of_halves(FOLLOWED, low, high) & next
+}
+
+/// Which classes of [`FOLLOWED`] are free in code in words: the accesses too where their base is one of a
+/// few registers.
+#[inline(always)]
+pub(crate) fn free_in_words(low: u8x16, high: u8x16) -> u8x16
+    ensures { HasLanes result
+        (λ i. free_in_words (slice_index high i) (slice_index low ((i + 1) % 16))) }
+{
+    let next = look_up(BASE_HIGH, low & u8x16::splat(15)).rotate_elements_left::<1>();
+    let base = look_up(BASE_LOW, high >> u8x16::splat(4)) & next;
+    base.simd_eq(u8x16::splat(0))
+        .select(u8x16::splat(FREE), u8x16::splat(ALL))
 }
 
 /// The classes of each halfword that are free in this format only, or not by their first bits.

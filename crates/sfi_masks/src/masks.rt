@@ -4,8 +4,8 @@ ghost use Rattle.sfi_masks.specs.Masks.{AreMasks, AreMasksInWords, is_in};
 ghost use Rattle.sfi_masks.specs.private.Seen.{AreSeen, bundles, words, of_four};
 
 use crate::lanes::{
-    bits_of, classes_of_halves, followed_classes, kept_classes, kept_in_words, long_bits,
-    low_and_high, rest_classes,
+    bits_of, classes_of_halves, followed_classes, free_in_words, kept_classes, kept_in_words,
+    long_bits, low_and_high, rest_classes,
 };
 use crate::tables::{ACCESSES, ALONE, FREE};
 use std::simd::prelude::*;
@@ -52,10 +52,11 @@ fn word_masks_of_quarter(bytes: &[u8]) -> Masks
     let alone = classes_of_halves(ALONE, low, high);
     let followed = followed_classes(low, high);
     let rest = rest_classes(true, low, high);
+    let free = free_in_words(low, high);
     let kept = kept_in_words(low, high);
     Masks {
         long: long_bits(low),
-        free: bits_of((alone | rest | followed & u8x16::splat(FREE)) & kept),
+        free: bits_of((alone | rest | followed & free) & kept),
         access: bits_of(followed & u8x16::splat(ACCESSES) & kept),
     }
 }
@@ -100,7 +101,7 @@ pub fn masks_of(stack: bool, block: &[u8; BLOCK_BYTES]) -> Masks
     }
 }
 
-/// The masks of the block's halfwords in code in words, where accesses on x2 are free.
+/// The masks of the block's halfwords in code in words, where accesses on data registers are free.
 #[inline(always)]
 pub fn word_masks_of(block: &[u8; BLOCK_BYTES]) -> Masks
     ensures { AreMasksInWords block.now result }

@@ -1,15 +1,23 @@
 -- The words of a data pair, and of a step, of code in words, by their bits.
-use Rattle.sfi_scan.proofs.Prelude.{◌≡◌, ℕ, ◌+◌, ◌*◌, ◌/◌, ◌%◌, ◌^◌, ◌<◌, Bool, true, false, ◌⊎◌, inr, sym, ap, ap₂, ◌∙◌, arith, bit_and, nat_eq, OnTrue, eqb-true, and_mask, and_block, Op, Or, spelling, InRange, IsWordOf, Instr, refl, ◌-◌, ◌&&◌, ℤ, pos, negsuc, OpImm, inl}
+use Rattle.sfi_scan.proofs.Prelude.{◌≡◌, ◌≢◌, ℕ, ◌+◌, ◌*◌, ◌/◌, ◌%◌, ◌^◌, ◌<◌, Bool, true, false, not, inr, sym, ap, ap₂, ◌∙◌, arith, bit_and, nat_eq, nat_le, OnTrue, eqb-true, and_mask, and_block, Op, OpImm, Load, Store, Branch, Jal, Jalr, Lui, Auipc, Fence, Ecall, Ebreak, And, Or, spelling, InRange, IsWordOf, Instr, refl, ◌-◌, ◌&&◌, ◌==◌, ℤ, pos, negsuc, inl, Some}
 use Rattle.std.proofs.Common.{eq-eqb}
-use Rattle.std.proofs.lemmas.Bool.{cases_lt}
+use Rattle.std.proofs.lemmas.Bool.{cases_lt, and_from, leb-true, le-leb, lt-ltb}
 use Rattle.std.proofs.lemmas.Int.{ints}
+use Rattle.rv_word.specs.Accesses.{access, IsAccessOf}
+use Rattle.rv_word.specs.Formats.{i_format, s_format}
+use Rattle.rv_word.specs.Functs.{load_funct3, store_funct3}
 use Rattle.rv_word.specs.Numbers.{modulo}
+use Rattle.rv_word.specs.declared.access.Access.{Access}
+use Rattle.rv_word.specs.declared.instr.LoadKind.{LoadKind}
+use Rattle.rv_word.specs.declared.instr.LoadKind.TheVariants.{Lb, Lh, Lw, Lbu, Lhu}
+use Rattle.rv_word.specs.declared.instr.StoreWidth.{StoreWidth}
+use Rattle.rv_word.specs.declared.instr.StoreWidth.TheVariants.{Sb, Sh, Sw}
 use Rattle.rv_word.specs.Spelling.{IsImm12}
 use Rattle.rv_word.specs.declared.instr.ImmOp.TheVariants.{Addi}
 use Rattle.sfi_policy.specs.Registers.{is_data_register}
-use Rattle.sfi_scan.specs.private.WordBlock.{IsMasking, IsPlacing, IsStepOf, IsUseOf, IsUsedStep}
-use Rattle.sfi_rules.specs.words.Rules.{uses}
-use Rattle.sfi_scan.proofs.PairTables.{any_of, kept, masking_word}
+use Rattle.sfi_scan.specs.private.WordBlock.{IsMasking, IsPlacing, IsPair, IsStepOf, IsOffset, IsUseOf, IsUsedStep}
+use Rattle.sfi_rules.specs.words.Rules.{is_small, uses}
+use Rattle.sfi_scan.proofs.PairTables.{any_of, kept, without_any, masking_word}
 
 pub masking_told : (word : ℕ) → word < 2 ^ 32 → (r : Bool) → r ≡ nat_eq (bit_and word kept) 28344243 → OnTrue r (IsMasking word)
 unfolding spelling
@@ -37,9 +45,23 @@ pub placing_told : (word d : ℕ) → word < 2 ^ 32 → bit_and word 4294963327 
 placing_told word d fits e is false data_is = tt
 placing_told word d fits e is true data_is = (d, sym data_is, placing_word word d fits e (is ∙ and_mask (word / 128) 5))
 
-pub or_placing : (word : ℕ) (r : Bool) → OnTrue r (IsPlacing word) → OnTrue r (IsMasking word ⊎ IsPlacing word)
-or_placing word false h = tt
-or_placing word true h = inr h
+-- ---- pairs
+
+code_masking_word : (word : ℕ) → word < 2 ^ 32 → bit_and word kept ≡ 26246963 → IsWordOf word (Op And 30 (any_of word) 25)
+unfolding spelling InRange
+code_masking_word word h e = let is = sym (without_any word h) ∙ e in ((omega arith, omega arith, omega arith), omega (arith, is))
+
+code_placing_word : (word : ℕ) → word ≡ 26177331 → IsWordOf word (Op Or 30 30 24)
+unfolding spelling InRange
+code_placing_word word e = ((omega arith, omega arith, omega arith), omega (arith, e))
+
+pub data_pair : (first second : ℕ) (r : Bool) → IsMasking first → OnTrue r (IsPlacing second) → OnTrue r (IsPair first second)
+data_pair first second false m h = tt
+data_pair first second true m h = inl (m, h)
+
+pub code_pair : (first second : ℕ) → first < 2 ^ 32 → bit_and first kept ≡ 26246963 → (r : Bool) → r ≡ nat_eq second 26177331 → OnTrue r (IsPair first second)
+code_pair first second fits e false is = tt
+code_pair first second fits e true is = inr ((any_of first, code_masking_word first fits e), code_placing_word second (eqb-true _ _ (sym is)))
 
 pub used_step : (word next d : ℕ) → is_data_register d ≡ true → IsStepOf d word → (r : Bool) → OnTrue r (IsUseOf d next) → OnTrue r (IsUsedStep word next)
 used_step word next d h s false u = tt
@@ -62,7 +84,90 @@ pub step_told : (word d : ℕ) → word < 2 ^ 32 → d < 32 → (r : Bool) → r
 step_told word d fits lt false e = tt
 step_told word d fits lt true e = step_word word d fits lt (sym (and_mask word 20) ∙ eqb-true _ _ (sym e))
 
--- what is decoded and passes a test
-pub decoded_use : (d word : ℕ) (i : Instr) → IsWordOf word i → (r : Bool) → r ≡ uses d i → OnTrue r (IsUseOf d word)
-decoded_use d word i h false e = tt
-decoded_use d word i h true e = (i, h, sym e)
+-- ---- the offset of a load or store, by its bits
+
+modulo_small : (z : ℤ) → modulo 12 z < 4096
+modulo_small (pos n) = omega arith
+modulo_small (negsuc n) = omega arith
+
+load_small : (kind : LoadKind) → load_funct3 kind < 8
+load_small Lb = omega arith
+load_small Lh = omega arith
+load_small Lw = omega arith
+load_small Lbu = omega arith
+load_small Lhu = omega arith
+
+store_small : (width : StoreWidth) → store_funct3 width < 8
+store_small Sb = omega arith
+store_small Sh = omega arith
+store_small Sw = omega arith
+
+load_fields : (imm rs1 funct3 rd word : ℕ) → rs1 < 32 → funct3 < 8 → rd < 32 → word ≡ i_format imm rs1 funct3 rd 3 → (word / 1048576 ≡ imm) × (word / 32 % 2 ≡ 0)
+load_fields imm rs1 funct3 rd word a b c e = (omega (arith, a, b, c, e), omega (arith, e))
+
+store_fields : (imm rs2 rs1 funct3 word : ℕ) → imm < 4096 → rs2 < 32 → rs1 < 32 → funct3 < 8 → word ≡ s_format imm rs2 rs1 funct3 35 → (word / 33554432 * 32 + word / 128 % 32 ≡ imm) × (word / 32 % 2 ≡ 1)
+store_fields imm rs2 rs1 funct3 word m a b c e = (omega (arith, m, a, b, c, e), omega (arith, e))
+
+pub load_offset : (word : ℕ) → bit_and (word / 32) 1 ≡ 0 → (i : Instr) → IsWordOf word i → IsOffset i (word / 1048576)
+unfolding spelling InRange
+load_offset word bit (Load kind rd rs1 imm) is = sym (load_fields (modulo 12 imm) rs1 (load_funct3 kind) rd word is.0.1 (load_small kind) is.0.0 is.1).0
+load_offset word bit (Store width rs1 rs2 imm) is =
+    absurd (let one = (store_fields (modulo 12 imm) rs2 rs1 (store_funct3 width) word (modulo_small imm) is.0.1 is.0.0 (store_small width) is.1).1 in let low = sym (and_mask (word / 32) 1) ∙ bit in omega (arith, one, low))
+load_offset word bit (Op op rd rs1 rs2) is = tt
+load_offset word bit (OpImm op rd rs1 imm) is = tt
+load_offset word bit (Branch condition rs1 rs2 offset) is = tt
+load_offset word bit (Jal rd offset) is = tt
+load_offset word bit (Jalr rd rs1 imm) is = tt
+load_offset word bit (Lui rd imm) is = tt
+load_offset word bit (Auipc rd imm) is = tt
+load_offset word bit (Fence imm rd rs1) is = tt
+load_offset word bit Ecall is = tt
+load_offset word bit Ebreak is = tt
+
+pub store_offset : (word : ℕ) → bit_and (word / 32) 1 ≢ 0 → (i : Instr) → IsWordOf word i → IsOffset i (word / 33554432 * 32 + bit_and (word / 128) 31)
+unfolding spelling InRange
+store_offset word bit (Load kind rd rs1 imm) is =
+    absurd (bit (and_mask (word / 32) 1 ∙ (load_fields (modulo 12 imm) rs1 (load_funct3 kind) rd word is.0.1 (load_small kind) is.0.0 is.1).1))
+store_offset word bit (Store width rs1 rs2 imm) is =
+    sym (store_fields (modulo 12 imm) rs2 rs1 (store_funct3 width) word (modulo_small imm) is.0.1 is.0.0 (store_small width) is.1).0 ∙ ap (λ n. word / 33554432 * 32 + n) (sym (and_mask (word / 128) 5))
+store_offset word bit (Op op rd rs1 rs2) is = tt
+store_offset word bit (OpImm op rd rs1 imm) is = tt
+store_offset word bit (Branch condition rs1 rs2 offset) is = tt
+store_offset word bit (Jal rd offset) is = tt
+store_offset word bit (Jalr rd rs1 imm) is = tt
+store_offset word bit (Lui rd imm) is = tt
+store_offset word bit (Auipc rd imm) is = tt
+store_offset word bit (Fence imm rd rs1) is = tt
+store_offset word bit Ecall is = tt
+store_offset word bit Ebreak is = tt
+
+-- ---- the use of a step
+
+near_small : (n : ℕ) (imm : ℤ) → IsImm12 imm → modulo 12 imm ≡ n → nat_le (bit_and (n + 1020) 4095) 2040 ≡ true → is_small imm ≡ true
+near_small n (pos k) range e h =
+    let le = leb-true _ _ h in let same = and_mask (n + 1020) 12 in let high = range.1 in
+    le-leb k 1020 (omega (arith, ints, e, le, same, high))
+near_small n (negsuc k) range e h =
+    let le = leb-true _ _ h in let same = and_mask (n + 1020) 12 in let low = range.0 in
+    lt-ltb k 1020 (omega (arith, ints, e, le, same, low))
+
+uses_at : (d n : ℕ) (i : Instr) (a : Access) → InRange i → access i ≡ Some a → a.base ≡ d → IsOffset i n → nat_le (bit_and (n + 1020) 4095) 2040 ≡ true → uses d i ≡ true
+unfolding InRange
+uses_at d n (Load kind rd rs1 imm) a range e base offset h =
+    let b : a.base ≡ rs1 = cc in
+    and_from (rs1 == d) (is_small imm) (eq-eqb rs1 d (sym b ∙ base)) (near_small n imm range.2 offset h)
+uses_at d n (Store width rs1 rs2 imm) a range e base offset h =
+    let b : a.base ≡ rs1 = cc in
+    and_from (rs1 == d) (is_small imm) (eq-eqb rs1 d (sym b ∙ base)) (near_small n imm range.2 offset h)
+uses_at d n i a range e base offset h = absurd cc
+
+pub same_base : (a b : ℕ) → false ≡ not (a == b) → a ≡ b
+same_base a b e = eqb-true a b (by (a == b) e)
+  where
+    by : (p : Bool) → false ≡ not p → p ≡ true
+    by true e = refl
+    by false e = absurd cc
+
+pub use_told : (d word n : ℕ) (a : Access) → IsAccessOf word a → a.base ≡ d → ((i : Instr) → IsWordOf word i → IsOffset i n) → (r : Bool) → r ≡ nat_le (bit_and (n + 1020) 4095) 2040 → OnTrue r (IsUseOf d word)
+use_told d word n a is base offset false e = tt
+use_told d word n a is base offset true e = (is.instr, is.spelled, uses_at d n is.instr a is.spelled.0 is.accesses base (offset is.instr is.spelled) (sym e))

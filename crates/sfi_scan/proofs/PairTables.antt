@@ -21,7 +21,7 @@ all_right t h = agree_below_at is_right (λ k. true) 32 t refl h
 abbrev pub kept : ℕ
 kept = 0xfff0_7fff
 
-without_any : (n : ℕ) → n < 2 ^ 32 → bit_and n kept ≡ n / 2 ^ 20 * 2 ^ 20 + n % 2 ^ 15
+pub without_any : (n : ℕ) → n < 2 ^ 32 → bit_and n kept ≡ n / 2 ^ 20 * 2 ^ 20 + n % 2 ^ 15
 without_any n h =
     let high = n / 2 ^ 20 in
     let low = n % 2 ^ 20 in

@@ -1,5 +1,5 @@
 -- What of a block of code in words breaks no rule and leaves nothing owed.
-use Rattle.sfi_scan.proofs.Prelude.{◌≡◌, ℕ, ◌+◌, ◌*◌, ◌/◌, ◌%◌, ◌<◌, Bool, true, false, not, ◌&&◌, ◌||◌, ◌==◌, ◌⊎◌, cond, List, [], ◌++◌, length, take, drop, Option, Some, None, bit_and, and_mask, refl, sym, ap, ap₂, ◌∙◌, subst, inl, inr, arith, w16, w32, from_le_bytes, ℤ, and_parts, and_right, or_parts, ne_eqb, eqb-true, is_some, length-take, length-drop, take-take, take_all, drop-drop, drop-take, Instr, Op, OpImm, Load, Store, Branch, Jal, Jalr, Lui, Auipc, Fence, Ecall, Ebreak, And, Or, outline, IsWordOf, is_reserved, BundlePlace, bundle_at, IsWithinBlock, Finding, Spells}
+use Rattle.sfi_scan.proofs.Prelude.{◌≡◌, ℕ, ◌+◌, ◌*◌, ◌/◌, ◌%◌, ◌<◌, Bool, true, false, not, ◌&&◌, ◌||◌, ◌==◌, ◌⊎◌, cond, List, [], ◌++◌, length, take, drop, Option, Some, None, refl, sym, ap, ap₂, ◌∙◌, subst, inl, inr, arith, w16, w32, from_le_bytes, ℤ, and_parts, and_right, or_parts, ne_eqb, eqb-true, is_some, length-take, length-drop, take-take, take_all, drop-drop, drop-take, Instr, Op, OpImm, Load, Store, Branch, Jal, Jalr, Lui, Auipc, Fence, Ecall, Ebreak, And, Or, outline, IsWordOf, is_reserved, BundlePlace, bundle_at, IsWithinBlock, Finding, Spells, OnTrue}
 use Rattle.std.proofs.lemmas.Bool.{not-true, and_left}
 use Rattle.rv_word.specs.Accesses.{access}
 use Rattle.rv_word.specs.Writes.{destination, is_register}
@@ -7,16 +7,18 @@ use Rattle.rv_word.specs.declared.instr.ImmOp.TheVariants.{Addi}
 use Rattle.rv_word.proofs.Facts.{one_spelling}
 use Rattle.rv_word.specs.declared.access.Access.{Access}
 use Rattle.rv_comp.specs.Halfwords.{IsShortSpelling}
-use Rattle.sfi_masks.specs.Masks.{half_at, word_at, may_write_in_words, is_free_by, IsFreeHalfBy, IsFreeWordBy, IsFreeAccessBy}
+use Rattle.sfi_masks.specs.Masks.{half_at, word_at, may_write_in_words, may_be_on_in_words, is_free_by, IsFreeHalfBy, IsFreeWordBy}
 use Rattle.sfi_pairs.specs.Pairs.{is_masking}
 use Rattle.sfi_policy.specs.Registers.{is_data_register}
 use Rattle.sfi_rules.specs.Rules.{breaks_reserved, is_reserved_one}
 use Rattle.sfi_rules.specs.declared.owed.Owed.{Owed}
-use Rattle.sfi_rules.specs.declared.owed.Owed.TheVariants.{Nothing, MaskOrUse}
+use Rattle.sfi_rules.specs.declared.owed.Owed.TheVariants.{Nothing, MaskOrUse, Code}
 use Rattle.sfi_rules.specs.words.Findings.{lowest, found_at, is_at_gate, is_data_one, IsWordFound}
 use Rattle.sfi_rules.specs.words.Owing.{left, joined, is_of_data, is_of_code, owed_by, owed_of, owed_by_data, owed_by_code, owed_next, or_nothing}
 use Rattle.sfi_rules.specs.words.Rules.{breaks_ecall, breaks_access, breaks_jump, breaks_target, breaks_offset, may_access, is_step, uses}
-use Rattle.sfi_scan.specs.private.WordBlock.{bytes_at, IsCleanWord, IsQuietWord, IsSteppedWord, IsMasking, IsPlacing, IsStepOf, IsUseOf, IsUsedStep}
+use Rattle.sfi_scan.specs.private.WordBlock.{bytes_at, IsCleanWord, IsQuietWord, IsSteppedWord, IsMasking, IsPlacing, IsPair, IsPairAt, IsStepOf, IsUseOf, IsUsedStep}
+use Rattle.sfi_scan.specs.private.WordLook.{IsQuietWord as IsQuietThere}
+use Rattle.sfi_scan.proofs.WordLook.{found_wide as found_there}
 use Rattle.sfi_scan.proofs.WordReadings.{word_wide, word_two}
 use Rattle.sfi_scan.proofs.WordRules.{none_found}
 
@@ -175,18 +177,21 @@ module _ (b : BundlePlace) (at size : ℕ) (before : at + size < b.code_base + b
   pub uses_lead : (d : ℕ) (i : Instr) (a : Access) → is_data_register d ≡ true → uses d i ≡ true → access i ≡ Some a → may_write_in_words a.written ≡ true → Leads (MaskOrUse d) i Nothing
   uses_lead d i a h u e free = access_leads (MaskOrUse d) i a (use_meets d i u) e free (use_near d i a h u e)
 
-  on_x2 : (base : ℕ) → (base == 2) ≡ true → may_access base ≡ true
-  on_x2 base e = ap may_access (eqb-true base 2 e)
+  pub uses_free : (d : ℕ) (i : Instr) → is_data_register d ≡ true → uses d i ≡ true → is_free_by may_write_in_words may_be_on_in_words (outline i) ≡ true → Leads (MaskOrUse d) i Nothing
+  uses_free d (Load kind rd rs1 imm) h u f =
+      uses_lead d (Load kind rd rs1 imm) (record { written = rd; base = rs1 }) h u refl (and_parts (may_write_in_words rd) (may_be_on_in_words rs1) f).0
+  uses_free d (Store width rs1 rs2 imm) h u f = uses_lead d (Store width rs1 rs2 imm) (record { written = 0; base = rs1 }) h u refl refl
+  uses_free d i h u f = absurd cc
 
-  pub free_done : (i : Instr) → is_free_by may_write_in_words true (outline i) ≡ true → IsDone i
+  pub free_done : (i : Instr) → is_free_by may_write_in_words may_be_on_in_words (outline i) ≡ true → IsDone i
   free_done (Op op rd rs1 rs2) h = done (Op op rd rs1 rs2) refl refl refl refl (written rd (Op op rd rs1 rs2) refl h)
   free_done (OpImm op rd rs1 imm) h = done (OpImm op rd rs1 imm) refl refl refl refl (written rd (OpImm op rd rs1 imm) refl h)
   free_done (Lui rd imm) h = done (Lui rd imm) refl refl refl refl (written rd (Lui rd imm) refl h)
   free_done (Auipc rd imm) h = done (Auipc rd imm) refl refl refl refl (written rd (Auipc rd imm) refl h)
   free_done (Load kind rd rs1 imm) h =
-      let both = and_parts (may_write_in_words rd) (rs1 == 2) h in
-      load_done (Load kind rd rs1 imm) (record { written = rd; base = rs1 }) refl both.0 (on_x2 rs1 both.1)
-  free_done (Store width rs1 rs2 imm) h = load_done (Store width rs1 rs2 imm) (record { written = 0; base = rs1 }) refl refl (on_x2 rs1 h)
+      let both = and_parts (may_write_in_words rd) (may_be_on_in_words rs1) h in
+      load_done (Load kind rd rs1 imm) (record { written = rd; base = rs1 }) refl both.0 both.1
+  free_done (Store width rs1 rs2 imm) h = load_done (Store width rs1 rs2 imm) (record { written = 0; base = rs1 }) refl refl h
   free_done (Fence imm rd rs1) h = done (Fence imm rd rs1) refl refl refl refl (written_none (Fence imm rd rs1) refl)
   free_done Ebreak h = done Ebreak refl refl refl refl (written_none Ebreak refl)
   free_done (Branch condition rs1 rs2 offset) h = absurd cc
@@ -196,6 +201,16 @@ module _ (b : BundlePlace) (at size : ℕ) (before : at + size < b.code_base + b
 
   pub masking_done : (a : ℕ) → IsDone (Op And 31 a 27)
   masking_done a = done (Op And 31 a 27) refl refl refl refl (record { reserved = refl; offset = refl; own = refl })
+
+  -- x30 put into the code
+  pub code_masking_leads : (a : ℕ) → Leads Nothing (Op And 30 a 25) Code
+  code_masking_leads a = leads Nothing (Op And 30 a 25) Code refl refl refl refl refl (record { reserved = refl; offset = refl; own = refl })
+
+  pub code_placing_leads : Leads Code (Op Or 30 30 24) Nothing
+  code_placing_leads = leads Code (Op Or 30 30 24) Nothing refl refl refl refl refl (record { reserved = refl; offset = refl; own = refl })
+
+  pub code_placing_done : IsDone (Op Or 30 30 24)
+  code_placing_done = done (Op Or 30 30 24) refl refl refl refl (record { reserved = refl; offset = refl; own = refl })
 
   pub placing_done : (d : ℕ) → is_data_register d ≡ true → IsDone (Op Or d 31 26)
   placing_done d h = by (d == 2) (d == 3) (d == 4) (d == 29) refl refl refl refl h
@@ -253,16 +268,22 @@ module _ (block : List ℕ) (long : length block ≡ 128) (i : ℕ) (even : i % 
   pub step_clean : (d : ℕ) → is_data_register d ≡ true → IsStepOf d (word_at block i) → (b : BundlePlace) → IsWithinBlock b → IsCleanWord b block i Nothing (MaskOrUse d)
   step_clean d h s = word_leads Nothing (MaskOrUse d) s.0 s.1 (λ b at before. steps_lead b at 4 before d s.0 h s.2)
 
-  pub use_clean : (d : ℕ) → is_data_register d ≡ true → IsUseOf d (word_at block i) → IsFreeAccessBy may_write_in_words (word_at block i) → (b : BundlePlace) → IsWithinBlock b → IsCleanWord b block i (MaskOrUse d) Nothing
+  pub use_clean : (d : ℕ) → is_data_register d ≡ true → IsUseOf d (word_at block i) → IsFreeWordBy may_write_in_words may_be_on_in_words (word_at block i) → (b : BundlePlace) → IsWithinBlock b → IsCleanWord b block i (MaskOrUse d) Nothing
   use_clean d h u f =
-      let same : u.0 ≡ f.is.instr = one_spelling (word_at block i) u.0 f.is.instr u.1 f.is.spelled in
-      word_leads (MaskOrUse d) Nothing u.0 u.1 (λ b at before. uses_lead b at 4 before d u.0 f.access h u.2 (ap access same ∙ f.is.accesses) f.free)
+      let same : u.0 ≡ f.instr = one_spelling (word_at block i) u.0 f.instr u.1 f.spelled in
+      word_leads (MaskOrUse d) Nothing u.0 u.1 (λ b at before. uses_free b at 4 before d u.0 h u.2 (ap (λ (x : Instr). is_free_by may_write_in_words may_be_on_in_words (outline x)) same ∙ f.free))
 
-  pub free_word_quiet : IsFreeWordBy may_write_in_words true (word_at block i) → IsQuietWord block i
+  pub code_masking_clean : (a : ℕ) → IsWordOf (word_at block i) (Op And 30 a 25) → (b : BundlePlace) → IsWithinBlock b → IsCleanWord b block i Nothing Code
+  code_masking_clean a is = word_leads Nothing Code (Op And 30 a 25) is (λ b at before. code_masking_leads b at 4 before a)
+
+  pub code_placing_clean : IsWordOf (word_at block i) (Op Or 30 30 24) → (b : BundlePlace) → IsWithinBlock b → IsCleanWord b block i Code Nothing
+  code_placing_clean is = word_leads Code Nothing (Op Or 30 30 24) is (λ b at before. code_placing_leads b at 4 before)
+
+  pub code_placing_quiet : IsWordOf (word_at block i) (Op Or 30 30 24) → IsQuietWord block i
+  code_placing_quiet is = quiet_wide (Op Or 30 30 24) is (λ b at before. code_placing_done b at 4 before)
+
+  pub free_word_quiet : IsFreeWordBy may_write_in_words may_be_on_in_words (word_at block i) → IsQuietWord block i
   free_word_quiet f = quiet_wide f.instr f.spelled (λ b at before. free_done b at 4 before f.instr f.free)
-
-  pub access_quiet : (f : IsFreeAccessBy may_write_in_words (word_at block i)) → may_access f.access.base ≡ true → IsQuietWord block i
-  access_quiet f near = quiet_wide f.is.instr f.is.spelled (λ b at before. load_done b at 4 before f.is.instr f.access f.is.accesses f.free near)
 
   pub masking_quiet : IsMasking (word_at block i) → IsQuietWord block i
   masking_quiet m = quiet_wide (Op And 31 m.0 27) m.1 (λ b at before. masking_done b at 4 before m.0)
@@ -278,7 +299,7 @@ module _ (block : List ℕ) (long : length block ≡ 128) (i : ℕ) (even : i % 
       ap (take 2) (drop-take 2 2 (drop (2 * i) block)) ∙ take-take 2 2 (drop 2 (drop (2 * i) block)) (omega arith)
       ∙ ap (take 2) (drop-drop 2 (2 * i) block ∙ ap (λ (k : ℕ). drop k block) (let e : 2 * i + 2 ≡ 2 * (i + 1) = omega arith in e))
 
-  pub free_halves_quiet : IsFreeHalfBy may_write_in_words true (half_at block i) → IsFreeHalfBy may_write_in_words true (half_at block (i + 1)) → IsQuietWord block i
+  pub free_halves_quiet : IsFreeHalfBy may_write_in_words may_be_on_in_words (half_at block i) → IsFreeHalfBy may_write_in_words may_be_on_in_words (half_at block (i + 1)) → IsQuietWord block i
   free_halves_quiet x y b within =
       let end = within.end in
       let c = bundle_at b (i / 8) in
@@ -288,22 +309,49 @@ module _ (block : List ℕ) (long : length block ≡ 128) (i : ℕ) (even : i % 
       (subst (λ (l : List ℕ). IsShortSpelling (from_le_bytes w16 l) y.instr) (sym second_half) y.spelled)
       (free_done c at 2 (omega (arith, end, below)) x.instr x.free) (free_done c (at + 2) 2 (omega (arith, end, below)) y.instr y.free)
 
-  -- what the loops tell of a word
+  -- what the look at it alone tells
+  pub there_clean : (b : BundlePlace) (word : ℕ) → IsWithinBlock b → word ≡ word_at block i → IsQuietThere (bundle_at b (i / 8)) (b.address + 2 * i) Nothing word Nothing → IsCleanWord b block i Nothing Nothing
+  there_clean b word within is quiet =
+      let same : word_at block i ≡ from_le_bytes w32 (take 4 (bytes_at block i)) = ap (from_le_bytes w32) (sym (take-take 4 4 (drop (2 * i) block) (omega arith))) in
+      found_there (bundle_at b (i / 8)) (b.address + 2 * i) Nothing (bytes_at block i) Nothing whole
+      (subst (λ (w : ℕ). IsQuietThere (bundle_at b (i / 8)) (b.address + 2 * i) Nothing w Nothing) (is ∙ same) quiet)
 
-  pub clean_access : IsFreeAccessBy may_write_in_words (word_at block i) → (base : ℕ) → base ≡ bit_and (word_at block i / 32768) 31 → may_access base ≡ true → IsQuietWord block i
-  clean_access f base is may =
-      let same : f.access.base ≡ base = f.base ∙ sym (is ∙ and_mask (word_at block i / 32768) 5) in
-      access_quiet f (ap may_access same ∙ may)
+-- ---- pairs
 
-  pub pair_quiet : (word : ℕ) → word ≡ word_at block i → IsMasking word ⊎ IsPlacing word → IsQuietWord block i
-  pair_quiet word is (inl m) = masking_quiet (subst IsMasking is m)
-  pair_quiet word is (inr p) = placing_quiet (subst IsPlacing is p)
+-- the first word of a pair is quiet, or is seen with the second
+pub first_of_pair : (block : List ℕ) (i : ℕ) → length block ≡ 128 → IsPairAt block i → IsQuietWord block i ⊎ IsSteppedWord block i
+first_of_pair block i long p = by p.pair
+  where
+    low : i < 64
+    low = let below = p.below in omega (arith, below)
+
+    even : (i + 2) % 2 ≡ 0
+    even = let here = p.even in omega (arith, here)
+
+    by : IsPair (word_at block i) (word_at block (i + 2)) → IsQuietWord block i ⊎ IsSteppedWord block i
+    by (inl of_data) = inl (masking_quiet block long i p.even low of_data.0)
+    by (inr of_code) = inr (record {
+      below = p.below;
+      between = Code;
+      step = code_masking_clean block long i p.even low of_code.0.0 of_code.0.1;
+      used = code_placing_clean block long (i + 2) even p.below of_code.1;
+    })
+
+pub second_of_pair : (block : List ℕ) (i : ℕ) → length block ≡ 128 → IsPairAt block i → IsQuietWord block (i + 2)
+second_of_pair block i long p = by p.pair
+  where
+    even : (i + 2) % 2 ≡ 0
+    even = let here = p.even in omega (arith, here)
+
+    by : IsPair (word_at block i) (word_at block (i + 2)) → IsQuietWord block (i + 2)
+    by (inl of_data) = placing_quiet block long (i + 2) even p.below of_data.1
+    by (inr of_code) = code_placing_quiet block long (i + 2) even p.below of_code.1
 
 -- a step and its use
-pub stepped : (block : List ℕ) (i word next : ℕ) → length block ≡ 128 → i % 2 ≡ 0 → i + 2 < 64 → word ≡ word_at block i → next ≡ word_at block (i + 2) → IsFreeAccessBy may_write_in_words (word_at block (i + 2)) → IsUsedStep word next → IsSteppedWord block i
+pub stepped : (block : List ℕ) (i word next : ℕ) → length block ≡ 128 → i % 2 ≡ 0 → i + 2 < 64 → word ≡ word_at block i → next ≡ word_at block (i + 2) → IsFreeWordBy may_write_in_words may_be_on_in_words (word_at block (i + 2)) → IsUsedStep word next → IsSteppedWord block i
 stepped block i word next long even below first second f h = record {
   below = below;
-  register = h.register;
+  between = MaskOrUse h.register;
   step = step_clean block long i even (omega (arith, below)) h.register h.is_data (subst (IsStepOf h.register) first h.step);
   used = use_clean block long (i + 2) (omega (arith, even)) below h.register h.is_data (subst (IsUseOf h.register) second h.used) f;
 }
@@ -311,3 +359,22 @@ stepped block i word next long even below first second f h = record {
 -- the word at a byte
 pub next_is : (block : List ℕ) (at i : ℕ) → at ≡ 2 * (i + 2) → from_le_bytes w32 (take 4 (drop at block)) ≡ word_at block (i + 2)
 next_is block at i e = ap (λ (k : ℕ). from_le_bytes w32 (take 4 (drop k block))) e
+
+-- a pair that is told there
+pub pair_at : (block : List ℕ) (i first second : ℕ) → i % 2 ≡ 0 → i + 2 < 64 → first ≡ word_at block i → second ≡ word_at block (i + 2) → IsPair first second → IsPairAt block i
+pair_at block i first second even below one other h = record {
+  below = below;
+  even = even;
+  pair = subst (λ (n : ℕ). IsPair (word_at block i) n) other (subst (λ (n : ℕ). IsPair n second) one h);
+}
+
+-- a word that a look tells to be clean
+clean_there : (block : List ℕ) (i : ℕ) → length block ≡ 128 → i % 2 ≡ 0 → i < 64 → (b : BundlePlace) (word : ℕ) → IsWithinBlock b → word ≡ word_at block i
+    → (r : Bool) → OnTrue r (IsQuietThere (bundle_at b (i / 8)) (b.address + 2 * i) Nothing word Nothing) → OnTrue r (IsCleanWord b block i Nothing Nothing)
+clean_there block i long even below b word within is false h = tt
+clean_there block i long even below b word within is true h = there_clean block long i even below b word within is h
+
+pub clean_at_bundle : (block : List ℕ) (i : ℕ) → length block ≡ 128 → i % 2 ≡ 0 → i < 64 → (b bundle : BundlePlace) → bundle ≡ bundle_at b (i / 8) → (word : ℕ) → IsWithinBlock b → word ≡ word_at block i
+    → (r : Bool) → OnTrue r (IsQuietThere bundle (b.address + 2 * i) Nothing word Nothing) → OnTrue r (IsCleanWord b block i Nothing Nothing)
+clean_at_bundle block i long even below b bundle at word within is r h =
+    clean_there block i long even below b word within is r (subst (λ (x : BundlePlace). OnTrue r (IsQuietThere x (b.address + 2 * i) Nothing word Nothing)) at h)

@@ -37,6 +37,10 @@ module _ (b : BundlePlace) (at : ℕ) (before : IsBeforeEnd b at 4) where
   pub plain_told : (word : ℕ) (o : Outline) → IsWordThat word o → is_plain b at o ≡ true → IsQuietWord b at Nothing word Nothing
   plain_told word o that h = record { instr = that.instr; spelled = that.spelled; quiet = plain b at 4 that.instr before (ap (is_plain b at) that.does ∙ h) }
 
+  pub plain_by : (word : ℕ) (o : Outline) (outline : Option Outline) → IfSome outline (IsWordThat word) → outline ≡ Some o → (r : Bool) → OnTrue r (is_plain b at o ≡ true) → OnTrue r (IsQuietWord b at Nothing word Nothing)
+  plain_by word o outline that is false h = tt
+  plain_by word o outline that is true h = plain_told word o (subst (λ (x : Option Outline). IfSome x (IsWordThat word)) is that) h
+
   access_plain : (i : Instr) (a : Access) → access i ≡ Some a → is_kept a.written ≡ false → may_access a.base ≡ true → is_plain b at (outline i) ≡ true
   access_plain (Load kind rd rs1 imm) a e f g =
       let written : a.written ≡ rd = ap written_of (sym e) in

@@ -1,14 +1,16 @@
 -- Which words of a block the masks tell to be free, and that these are quiet.
-use Rattle.sfi_scan.proofs.Prelude.{◌≡◌, ℕ, ◌+◌, ◌*◌, ◌/◌, ◌%◌, ◌^◌, ◌<◌, Bool, true, false, not, ◌&&◌, ◌||◌, ◌==◌, ◌⊎◌, inl, inr, List, length, refl, sym, ap, ◌∙◌, arith, bit_and, agree_below_at, and_parts, eqb-true, is_in, IsWithout}
+use Rattle.sfi_scan.proofs.Prelude.{◌≡◌, ℕ, ◌+◌, ◌*◌, ◌/◌, ◌%◌, ◌^◌, ◌<◌, Bool, true, false, not, ◌&&◌, ◌||◌, ◌==◌, ◌⊎◌, inl, inr, List, length, refl, sym, ap, ap₂, ◌∙◌, subst, ◌-◌, arith, bit_and, agree_below_at, and_parts, and_right, eqb-true, is_in, IsWithout, BundlePlace, IsWithinBlock}
 use Rattle.std.specs.Int.RustNames.{bit_or}
+use Rattle.std.proofs.lemmas.Bool.{cases_lt}
+use Rattle.sfi_rules.specs.declared.owed.Owed.TheVariants.{Nothing}
 use Rattle.sfi_masks.specs.Masks.{AreMasksInWords}
 use Rattle.sfi_masks.specs.declared.masks.Masks.{Masks}
 use Rattle.sfi_scan.specs.declared.block.TheConstants.{EVEN}
-use Rattle.sfi_scan.specs.private.WordBlock.{IsQuietWord, IsSteppedWord, IsSeen, IsToldFree}
-use Rattle.sfi_scan.proofs.Bits.{in_and, in_or, in_shr}
+use Rattle.sfi_scan.specs.private.WordBlock.{IsCleanWord, IsPairAt, IsQuietWord, IsSteppedWord, IsSeen, IsToldFree}
+use Rattle.sfi_scan.proofs.Bits.{in_and, in_or, in_shr, in_shl, in_shl_low, shl}
 use Rattle.sfi_scan.proofs.Seen.{stays, no_both}
 use Rattle.sfi_scan.proofs.WordSteps.{in_below}
-use Rattle.sfi_scan.proofs.WordBlock.{free_word_quiet, free_halves_quiet}
+use Rattle.sfi_scan.proofs.WordBlock.{free_word_quiet, free_halves_quiet, first_of_pair, second_of_pair}
 
 even_is : (i : ℕ) → i < 64 → is_in EVEN i ≡ (i % 2 == 0)
 even_is i h = agree_below_at (λ i. is_in EVEN i) (λ i. i % 2 == 0) 64 i refl h
@@ -64,38 +66,86 @@ told_quiet block m n long are lt h = by (is_in m.long (2 * n)) refl h.1
     by false e (inr second) =
         free_halves_quiet block long (2 * n) (omega arith) (omega (arith, lt)) (are.short (2 * n) (omega (arith, lt)) h.0 e) (are.short (2 * n + 1) (omega (arith, lt)) second.1 second.0)
 
--- a word that is left neither among the accesses nor among the pairs is free
-pub left_quiet : (block : List ℕ) (m : Masks) (words clean others pairs left : ℕ) → length block ≡ 128 → AreMasksInWords block m → ((n : ℕ) → n < 32 → is_in words (2 * n) ≡ false → IsToldFree m (2 * n))
-    → IsWithout words clean others → IsWithout others pairs left → ((i : ℕ) → is_in clean i ≡ true → IsQuietWord block i) → ((i : ℕ) → is_in pairs i ≡ true → IsQuietWord block i)
-    → (n : ℕ) → n < 32 → is_in left (2 * n) ≡ false → IsQuietWord block (2 * n)
-left_quiet block m words clean others pairs left long are free first second accesses of_pairs n lt none =
-    by (is_in words (2 * n)) (is_in clean (2 * n)) (is_in pairs (2 * n)) refl refl refl
-  where
-    by : (w c p : Bool) → is_in words (2 * n) ≡ w → is_in clean (2 * n) ≡ c → is_in pairs (2 * n) ≡ p → IsQuietWord block (2 * n)
-    by false c p e f g = told_quiet block m n long are lt (free n lt e)
-    by true true p e f g = accesses (2 * n) f
-    by true false true e f g = of_pairs (2 * n) g
-    by true false false e f g =
-        let one = stays words clean others (2 * n) first (omega (arith, lt)) e f in
-        absurd (no_both (is_in left (2 * n)) (stays others pairs left (2 * n) second (omega (arith, lt)) one g) none)
-
 -- what is left of a mask was in it
 pub stays_in : (a b rest i : ℕ) → IsWithout a b rest → i < 64 → is_in rest i ≡ true → is_in a i ≡ true
 stays_in a b rest i without lt h = (and_parts (is_in a i) (not (is_in b i)) (sym (without i lt) ∙ h)).0
 
--- nor among the steps
-pub left_seen : (block : List ℕ) (m : Masks) (words clean others pairs rest steps left : ℕ) → length block ≡ 128 → AreMasksInWords block m → ((n : ℕ) → n < 32 → is_in words (2 * n) ≡ false → IsToldFree m (2 * n))
-    → IsWithout words clean others → IsWithout others pairs rest → IsWithout rest steps left → ((i : ℕ) → is_in clean i ≡ true → IsQuietWord block i) → ((i : ℕ) → is_in pairs i ≡ true → IsQuietWord block i)
-    → ((i : ℕ) → is_in steps i ≡ true → IsSteppedWord block i) → ((i : ℕ) → is_in steps i ≡ true → is_in rest (i + 2) ≡ false) → (n : ℕ) → n < 32 → is_in left (2 * n) ≡ false → IsSeen block left (2 * n)
-left_seen block m words clean others pairs rest steps left long are free first second third accesses of_pairs stepped apart n lt none =
-    by (is_in rest (2 * n)) (is_in steps (2 * n)) refl refl
-  where
-    by : (r s : Bool) → is_in rest (2 * n) ≡ r → is_in steps (2 * n) ≡ s → IsSeen block left (2 * n)
-    by false s e f = inl (left_quiet block m words clean others pairs rest long are free first second accesses of_pairs n lt e)
-    by true true e f =
-        let one = stepped (2 * n) f in
-        inr (one, third (2 * n + 2) one.below ∙ ap (λ p. p && not (is_in steps (2 * n + 2))) (apart (2 * n) f))
-    by true false e f = absurd (no_both (is_in left (2 * n)) (stays rest steps left (2 * n) third (omega (arith, lt)) e f) none)
+-- what was not in it, or was taken out, is not left
+not_there : (a b rest i : ℕ) → IsWithout a b rest → i < 64 → is_in a i ≡ false → is_in rest i ≡ false
+not_there a b rest i without lt h = without i lt ∙ ap (λ p. p && not (is_in b i)) h
+
+taken_out : (a b rest i : ℕ) → IsWithout a b rest → i < 64 → is_in b i ≡ true → is_in rest i ≡ false
+taken_out a b rest i without lt h = without i lt ∙ and_right (is_in a i) (not (is_in b i)) (ap not h)
+
+or_first : (p q : Bool) → p ≡ true → (p || q) ≡ true
+or_first true q h = refl
+or_first false q h = absurd cc
+
+or_second : (p q : Bool) → q ≡ true → (p || q) ≡ true
+or_second true q h = refl
+or_second false q h = h
+
+-- ---- pairs
+
+pub record AreTwo (words i : ℕ) : Type 0 where
+  pub below : i + 2 < 64
+  pub first : is_in words i ≡ true
+
+pub two_words : (words i : ℕ) → words < 2 ^ 64 → is_in (bit_and words (words / 4)) i ≡ true → AreTwo words i
+two_words words i fits h =
+    let e : 2 + i ≡ i + 2 = omega arith in
+    let both = and_parts (is_in words i) (is_in (words / 4) i) (sym (in_and words (words / 4) i) ∙ h) in
+    let there : is_in words (i + 2) ≡ true = ap (is_in words) (sym e) ∙ sym (in_shr words 2 i) ∙ both.1 in
+    record { below = in_below words (i + 2) fits there; first = both.0 }
+
+-- ---- what is seen of the words that aren't left
+
+module _ (b : BundlePlace) (block : List ℕ) (m : Masks) (words pairs others steps rest plain left : ℕ) (within : IsWithinBlock b) (long : length block ≡ 128) (are : AreMasksInWords block m)
+    (free : (n : ℕ) → n < 32 → is_in words (2 * n) ≡ false → IsToldFree m (2 * n))
+    (first : IsWithout words (bit_or pairs (shl pairs 2)) others) (second : IsWithout others steps rest) (third : IsWithout rest plain left)
+    (of_pairs : (i : ℕ) → is_in pairs i ≡ true → IsPairAt block i)
+    (stepped : (i : ℕ) → is_in steps i ≡ true → IsSteppedWord block i) (apart : (i : ℕ) → is_in steps i ≡ true → is_in others (i + 2) ≡ false)
+    (of_plain : (i : ℕ) → is_in plain i ≡ true → IsCleanWord b block i Nothing Nothing) where
+  gone : (i : ℕ) → i < 64 → is_in others i ≡ false → is_in left i ≡ false
+  gone i lt h = not_there rest plain left i third lt (not_there others steps rest i second lt h)
+
+  first_seen : (i : ℕ) → is_in pairs i ≡ true → IsSeen b block left i
+  first_seen i h = elim (first_of_pair block i long (of_pairs i h)) [
+    | inl quiet ↦ inl (quiet b within)
+    | inr both ↦ inr (both, gone (i + 2) both.below (taken_out words _ others (i + 2) first both.below (in_or pairs (shl pairs 2) (i + 2) ∙ or_second (is_in pairs (i + 2)) (is_in (shl pairs 2) (i + 2)) (shifted both.below))))
+  ]
+    where
+      shifted : i + 2 < 64 → is_in (shl pairs 2) (i + 2) ≡ true
+      shifted lt = let e : i + 2 ≡ 2 + i = omega arith in ap (is_in (shl pairs 2)) e ∙ in_shl pairs 2 i (omega (arith, lt)) ∙ h
+
+  second_seen : (i : ℕ) → i < 64 → is_in (shl pairs 2) i ≡ true → IsSeen b block left i
+  second_seen i lt h = elim (cases_lt i 2) [
+    | inl low ↦ absurd (no_both (is_in (shl pairs 2) i) h (in_shl_low pairs 2 i low lt))
+    | inr high ↦ (let e : i ≡ 2 + (i - 2) = omega (arith, high) in
+        let there : is_in pairs (i - 2) ≡ true = sym (in_shl pairs 2 (i - 2) (omega (arith, high, lt))) ∙ ap (is_in (shl pairs 2)) (sym e) ∙ h in
+        let same : i - 2 + 2 ≡ i = omega (arith, high) in
+        inl (subst (λ (k : ℕ). IsCleanWord b block k Nothing Nothing) same (second_of_pair block (i - 2) long (of_pairs (i - 2) there) b within)))
+  ]
+
+  pub left_seen : (n : ℕ) → n < 32 → is_in left (2 * n) ≡ false → IsSeen b block left (2 * n)
+  left_seen n lt none = by (is_in words (2 * n)) (is_in pairs (2 * n)) (is_in (shl pairs 2) (2 * n)) (is_in steps (2 * n)) (is_in plain (2 * n)) refl refl refl refl refl
+    where
+      low : 2 * n < 64
+      low = omega (arith, lt)
+
+      by : (w p s t q : Bool) → is_in words (2 * n) ≡ w → is_in pairs (2 * n) ≡ p → is_in (shl pairs 2) (2 * n) ≡ s → is_in steps (2 * n) ≡ t → is_in plain (2 * n) ≡ q → IsSeen b block left (2 * n)
+      by false p s t q e f g h k = inl (told_quiet block m n long are lt (free n lt e) b within)
+      by true true s t q e f g h k = first_seen (2 * n) f
+      by true false true t q e f g h k = second_seen (2 * n) low g
+      by true false false true q e f g h k =
+          let one = stepped (2 * n) h in
+          inr (one, gone (2 * n + 2) one.below (apart (2 * n) h))
+      by true false false false true e f g h k = inl (of_plain (2 * n) k)
+      by true false false false false e f g h k =
+          let none_of : is_in (bit_or pairs (shl pairs 2)) (2 * n) ≡ false = in_or pairs (shl pairs 2) (2 * n) ∙ ap₂ (λ x y. x || y) f g in
+          let one = stays words (bit_or pairs (shl pairs 2)) others (2 * n) first low e none_of in
+          let two = stays others steps rest (2 * n) second low one h in
+          absurd (no_both (is_in left (2 * n)) (stays rest plain left (2 * n) third low two k) none)
 
 -- ---- the steps before an access
 

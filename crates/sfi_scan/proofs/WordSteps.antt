@@ -4,7 +4,7 @@ use Rattle.std.proofs.lemmas.Nat.{div_below}
 use Rattle.std.proofs.lemmas.Nat.Bits.{bit_at_above, bit_at-trailing_zeros}
 use Rattle.std.proofs.lemmas.Bool.{cases_lt}
 use Rattle.sfi_rules.specs.declared.owed.Owed.{Owed}
-use Rattle.sfi_rules.specs.declared.owed.Owed.TheVariants.{Nothing, MaskOrUse}
+use Rattle.sfi_rules.specs.declared.owed.Owed.TheVariants.{Nothing}
 use Rattle.sfi_scan.specs.private.WordBlock.{IsSeen, IsCleanWord, AreCleanWords}
 use Rattle.sfi_scan.proofs.Bits.{in_shr, in_zero}
 use Rattle.sfi_scan.proofs.Seen.{no_both}
@@ -43,17 +43,17 @@ first_ahead words at fits some =
 
 -- ---- words that aren't looked at
 
-module _ (b : BundlePlace) (block : List ℕ) (owed : Owed) (words : ℕ) (within : IsWithinBlock b) (others : (n : ℕ) → n < 32 → is_in words (2 * n) ≡ false → IsSeen block words (2 * n)) where
+module _ (b : BundlePlace) (block : List ℕ) (owed : Owed) (words : ℕ) (within : IsWithinBlock b) (others : (n : ℕ) → n < 32 → is_in words (2 * n) ≡ false → IsSeen b block words (2 * n)) where
   -- up to word k, which is looked at or the block's end
   advance : (fuel n k : ℕ) → n ≤ k → k ≤ n + fuel → k ≤ 32 → ((j : ℕ) → 2 * n ≤ j → j < 2 * k → is_in words j ≡ false) → (k ≡ 32) ⊎ (is_in words (2 * k) ≡ true) → AreCleanWords b owed block n Nothing → AreCleanWords b owed block k Nothing
   advance zero n k from enough end none last h = subst (λ (m : ℕ). AreCleanWords b owed block m Nothing) (let e : n ≡ k = omega (arith, from, enough) in e) h
   advance (suc fuel) n k from enough end none last h = elim (cases_lt n k) [
     | inr more ↦ subst (λ (m : ℕ). AreCleanWords b owed block m Nothing) (let e : n ≡ k = omega (arith, from, more) in e) h
     | inl less ↦ elim (others n (omega (arith, less, end)) (none (2 * n) (omega arith) (omega (arith, less)))) [
-      | inl quiet ↦ advance fuel (suc n) k (omega (arith, less)) (omega (arith, enough)) end (λ j low high. none j (omega (arith, low)) high) last (Nothing, h, quiet b within)
+      | inl quiet ↦ advance fuel (suc n) k (omega (arith, less)) (omega (arith, enough)) end (λ j low high. none j (omega (arith, low)) high) last (Nothing, h, quiet)
       | inr both ↦ elim (cases_lt (suc n) k) [
         | inl further ↦ advance fuel (suc (suc n)) k (omega (arith, further)) (omega (arith, enough)) end (λ j low high. none j (omega (arith, low)) high) last
-            (MaskOrUse both.0.register, (Nothing, h, both.0.step b within), subst (λ (i : ℕ). IsCleanWord b block i (MaskOrUse both.0.register) Nothing) (let e : 2 * n + 2 ≡ 2 * suc n = omega arith in e) (both.0.used b within))
+            (both.0.between, (Nothing, h, both.0.step b within), subst (λ (i : ℕ). IsCleanWord b block i both.0.between Nothing) (let e : 2 * n + 2 ≡ 2 * suc n = omega arith in e) (both.0.used b within))
         | inr next ↦ absurd (ends n k (let e : k ≡ suc n = omega (arith, next, less) in e) both.0.below both.1 last)
       ]
     ]

@@ -1,10 +1,10 @@
 -- Words of private contracts: what the tables tell of a halfword, by its bytes.
 use Rattle.std.specs.Prelude.{◌≡◌, ℕ, ◌+◌, ◌*◌, ◌/◌, ◌%◌, ◌^◌, ◌<◌, Bool, true, ◌==◌, not, if◌then◌else◌, List, length, slice_index, bit_and, bit_or}
-use Rattle.sfi_masks.specs.Masks.{is_in, may_write, may_write_in_words}
+use Rattle.sfi_masks.specs.Masks.{is_in, may_write, may_write_in_words, may_be_on, may_be_on_in_words}
 use Rattle.sfi_masks.specs.declared.masks.Masks.{Masks}
 use Rattle.sfi_masks.specs.declared.tables.ByteTable.{ByteTable}
 use Rattle.sfi_masks.specs.declared.tables.HalfTable.{HalfTable}
-use Rattle.sfi_masks.specs.declared.tables.TheConstants.{ALONE, FOLLOWED, NEXT, REST, FREE, ACCESSES, ALL, PLAIN, NO_RD, WORDS_EVEN, WORDS_ODD}
+use Rattle.sfi_masks.specs.declared.tables.TheConstants.{ALONE, FOLLOWED, NEXT, REST, FREE, ACCESSES, ALL, PLAIN, NO_RD, WORDS_EVEN, WORDS_ODD, BASE_LOW, BASE_HIGH}
 
 -- the sixteen lanes of a vector, each by its number
 pub record HasLanes (v : List ℕ) (lane : ℕ → ℕ) : Type 0 where
@@ -32,10 +32,14 @@ abbrev pub may_of : Code → ℕ → Bool
 may_of (bundles stack) r = may_write stack r
 may_of words r = may_write_in_words r
 
--- an access on x2 needs nothing beside it
+-- a 16-bit access on x2 needs nothing beside it
 abbrev pub is_on_x2 : Code → Bool
 is_on_x2 (bundles stack) = stack
 is_on_x2 words = true
+
+abbrev pub on_of : Code → ℕ → Bool
+on_of (bundles stack) r = may_be_on stack r
+on_of words r = may_be_on_in_words r
 
 -- bits 11:7 of the halfword are 2
 abbrev pub names_x2 : ℕ → ℕ → Bool
@@ -59,18 +63,35 @@ kept_of words low high = kept_in_words low high
 unfoldable pub rest : Bool → ℕ → ℕ → ℕ
 rest stack low high = bit_and (half_classes REST low high) (if stack then ALL else PLAIN)
 
--- the classes by which a halfword is seen to be free, and to begin an access
-abbrev pub free_classes : Code → ℕ → ℕ → ℕ → ℕ
-free_classes code low high next =
+-- what bits 15 and 19:16 of a word tell of its base, by its second byte and its third: 0 if an access on
+-- it isn't free in words
+abbrev pub base_classes : ℕ → ℕ → ℕ
+base_classes high low2 = bit_and (slice_index BASE_LOW (high / 16)) (slice_index BASE_HIGH (bit_and low2 15))
+
+-- the classes of FOLLOWED that are free in words, accesses too where their base is told
+unfoldable pub free_in_words : ℕ → ℕ → ℕ
+free_in_words high low2 = if base_classes high low2 == 0 then FREE else ALL
+
+abbrev pub free_followed : Code → ℕ → ℕ → ℕ
+free_followed (bundles stack) high low2 = FREE
+free_followed words high low2 = free_in_words high low2
+
+-- the classes by which a halfword is seen to be free, where these of FOLLOWED are
+abbrev pub classes_with : Code → ℕ → ℕ → ℕ → ℕ → ℕ
+classes_with code low high next free =
     bit_and (bit_or (bit_or (half_classes ALONE low high) (rest (is_on_x2 code) low high))
-    (bit_and (followed low high next) FREE)) (kept_of code low high)
+    (bit_and (followed low high next) free)) (kept_of code low high)
+
+-- the classes by which a halfword is seen to be free, and to begin an access
+abbrev pub free_classes : Code → ℕ → ℕ → ℕ → ℕ → ℕ
+free_classes code low high low2 high2 = classes_with code low high high2 (free_followed code high low2)
 
 abbrev pub access_classes : Code → ℕ → ℕ → ℕ → ℕ
 access_classes code low high next =
     bit_and (bit_and (followed low high next) ACCESSES) (kept_of code low high)
 
--- Of 32 bytes: sixteen bits of each mask, by the bytes of the halfword and the high byte of the next
--- one, which for the last is the first.
+-- Of 32 bytes: sixteen bits of each mask, by the bytes of the halfword and those of the next one, which
+-- for the last is the first.
 pub record AreSeen (code : Code) (byte : ℕ → ℕ) (m : Masks) : Type 0 where
   pub long_small : m.long < 2 ^ 16
   pub free_small : m.free < 2 ^ 16
@@ -78,7 +99,7 @@ pub record AreSeen (code : Code) (byte : ℕ → ℕ) (m : Masks) : Type 0 where
   pub long : (i : ℕ) → i < 16 → is_in m.long i ≡ (byte (2 * i) % 4 == 3)
   pub free :
       (i : ℕ) → i < 16 → is_in m.free i
-      ≡ not (free_classes code (byte (2 * i)) (byte (2 * i + 1)) (byte (2 * ((i + 1) % 16) + 1)) == 0)
+      ≡ not (free_classes code (byte (2 * i)) (byte (2 * i + 1)) (byte (2 * ((i + 1) % 16))) (byte (2 * ((i + 1) % 16) + 1)) == 0)
   pub access :
       (i : ℕ) → i < 16 → is_in m.access i
       ≡ not (access_classes code (byte (2 * i)) (byte (2 * i + 1)) (byte (2 * ((i + 1) % 16) + 1)) == 0)

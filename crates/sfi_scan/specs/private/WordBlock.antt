@@ -1,18 +1,19 @@
 -- Words of private contracts: the first look at a block of eight bundles of code in words, of whose 64
 -- halfwords a mask has a bit each. A word goes by its first halfword.
-use Rattle.std.specs.Prelude.{◌≡◌, ◌+◌, ◌*◌, ◌/◌, ◌⊎◌, ◌<◌, ℕ, zero, suc, List, [], true, false, take, drop}
+use Rattle.std.specs.Prelude.{◌≡◌, ◌+◌, ◌*◌, ◌/◌, ◌%◌, ◌⊎◌, ◌<◌, ℕ, zero, suc, List, [], true, false, take, drop}
 use Rattle.rv_word.specs.Spelling.{IsWordOf}
 use Rattle.rv_word.specs.declared.instr.Instr.{Instr}
-use Rattle.rv_word.specs.declared.instr.Instr.TheVariants.{Op}
+use Rattle.rv_word.specs.Numbers.{modulo}
+use Rattle.rv_word.specs.declared.instr.Instr.TheVariants.{Op, Load, Store}
 use Rattle.rv_word.specs.declared.instr.RegOp.TheVariants.{And, Or}
 use Rattle.sfi_image.specs.declared.bundle.BundlePlace.{BundlePlace}
-use Rattle.sfi_masks.specs.Masks.{is_in}
+use Rattle.sfi_masks.specs.Masks.{is_in, word_at}
 use Rattle.sfi_masks.specs.declared.masks.Masks.{Masks}
 use Rattle.sfi_policy.specs.Limits.{word_size}
-use Rattle.sfi_policy.specs.Registers.{data_base_register, data_mask_register, is_data_register, offset_register}
+use Rattle.sfi_policy.specs.Registers.{code_base_register, code_mask_register, code_register, data_base_register, data_mask_register, is_data_register, offset_register}
 use Rattle.sfi_rules.specs.Bundles.{IsWithinBlock, bundle_at}
 use Rattle.sfi_rules.specs.declared.owed.Owed.{Owed}
-use Rattle.sfi_rules.specs.declared.owed.Owed.TheVariants.{Nothing, MaskOrUse}
+use Rattle.sfi_rules.specs.declared.owed.Owed.TheVariants.{Nothing}
 use Rattle.sfi_rules.specs.words.Findings.{IsWordFound}
 use Rattle.sfi_rules.specs.words.Rules.{is_step, uses}
 
@@ -30,18 +31,19 @@ IsCleanWord b block i owed next =
 abbrev pub IsQuietWord : List ℕ → ℕ → Type 0
 IsQuietWord block i = (b : BundlePlace) → IsWithinBlock b → IsCleanWord b block i Nothing Nothing
 
--- the word and the next one break no rule and leave nothing owed, if nothing is owed before them: between
--- them it is owed that a data register is masked or used
+-- wherever the block stands so, the word and the next one break no rule and leave nothing owed, if nothing
+-- is owed before them; between them this is owed
 pub record IsSteppedWord (block : List ℕ) (i : ℕ) : Type 0 where
   pub below : i + 2 < 64
-  pub register : ℕ
-  pub step : (b : BundlePlace) → IsWithinBlock b → IsCleanWord b block i Nothing (MaskOrUse register)
-  pub used : (b : BundlePlace) → IsWithinBlock b → IsCleanWord b block (i + 2) (MaskOrUse register) Nothing
+  pub between : Owed
+  pub step : (b : BundlePlace) → IsWithinBlock b → IsCleanWord b block i Nothing between
+  pub used : (b : BundlePlace) → IsWithinBlock b → IsCleanWord b block (i + 2) between Nothing
 
--- so it is of a word that isn't left: it is quiet, or is stepped before one that isn't left
-abbrev pub IsSeen : List ℕ → ℕ → ℕ → Type 0
-IsSeen block left i =
-    IsQuietWord block i ⊎ (IsSteppedWord block i × (is_in left (i + 2) ≡ false))
+-- so it is of a word that isn't left: it breaks no rule and leaves nothing owed there, if nothing is owed
+-- before it, or does with the next one, which isn't left
+abbrev pub IsSeen : BundlePlace → List ℕ → ℕ → ℕ → Type 0
+IsSeen b block left i =
+    IsCleanWord b block i Nothing Nothing ⊎ (IsSteppedWord block i × (is_in left (i + 2) ≡ false))
 
 -- the first n words of the block break no rule, where the one is owed before them; the other is owed
 -- after them
@@ -64,9 +66,29 @@ abbrev pub IsPlacing : ℕ → Type 0
 IsPlacing word = (d : ℕ) × (is_data_register d ≡ true)
     × IsWordOf word (Op Or d offset_register data_base_register)
 
+-- the words are a pair of data, or `and x30, a, x25` and `or x30, x30, x24`
+abbrev pub IsCodePair : ℕ → ℕ → Type 0
+IsCodePair first second = ((a : ℕ) × IsWordOf first (Op And code_register a code_mask_register))
+    × IsWordOf second (Op Or code_register code_register code_base_register)
+
+abbrev pub IsPair : ℕ → ℕ → Type 0
+IsPair first second = (IsMasking first × IsPlacing second) ⊎ IsCodePair first second
+
+-- such a pair begins with halfword i
+pub record IsPairAt (block : List ℕ) (i : ℕ) : Type 0 where
+  pub below : i + 2 < 64
+  pub even : i % 2 ≡ 0
+  pub pair : IsPair (word_at block i) (word_at block (i + 2))
+
 -- the word is `addi d, d, k`
 abbrev pub IsStepOf : ℕ → ℕ → Type 0
 IsStepOf d word = (i : Instr) × IsWordOf word i × (is_step d i ≡ true)
+
+-- if it is a load or store, these are the bits of its offset
+abbrev pub IsOffset : Instr → ℕ → Type 0
+IsOffset (Load kind rd rs1 imm) n = modulo 12 imm ≡ n
+IsOffset (Store width rs1 rs2 imm) n = modulo 12 imm ≡ n
+IsOffset _ n = Unit {0}
 
 -- the word is a load or store on d near it
 abbrev pub IsUseOf : ℕ → ℕ → Type 0

@@ -1,18 +1,20 @@
 //! A first look at eight bundles of code in words at once. Bit i of a mask is for the block's halfword i;
 //! a word goes by its first.
-ghost use Rattle.std.specs.Prelude.{◌≡◌, ℕ, ◌+◌, ◌*◌, ◌%◌, ◌<◌, ◌≤◌, ◌⊎◌, true, false, IfSome};
+ghost use Rattle.std.specs.Prelude.{◌≡◌, ℕ, ◌+◌, ◌*◌, ◌%◌, ◌^◌, ◌<◌, ◌≤◌, ◌⊎◌, true, false, IfSome};
 ghost use Rattle.std.specs.Bool.{OnTrue};
-ghost use Rattle.sfi_masks.specs.Masks.{is_in, IsFreeAccessBy, may_write_in_words, word_at as block_word};
+ghost use Rattle.rv_word.specs.Spelling.{IsWordOf};
+ghost use Rattle.rv_word.specs.declared.instr.Instr.{Instr};
+ghost use Rattle.sfi_masks.specs.Masks.{is_in, IsFreeWordBy, may_write_in_words, may_be_on_in_words, word_at as block_word};
 ghost use Rattle.sfi_rules.specs.Bundles.{IsWithinBlock};
 ghost use Rattle.sfi_rules.specs.declared.owed.Owed.TheVariants.{Nothing};
-ghost use Rattle.sfi_scan.specs.private.WordBlock.{IsToldFree, IsQuietWord, IsSteppedWord, IsSeen, IsCleanWord, AreCleanWords, IsMasking, IsPlacing, IsStepOf, IsUseOf, IsUsedStep};
+ghost use Rattle.sfi_scan.specs.private.WordBlock.{IsToldFree, IsSteppedWord, IsSeen, IsCleanWord, AreCleanWords, IsMasking, IsPlacing, IsPair, IsPairAt, IsStepOf, IsOffset, IsUseOf, IsUsedStep};
 
 use crate::block::{EVEN, bundle_at, without};
 use crate::clean::word_at;
 use crate::findings::BundleFindings;
-use crate::words::rules::{may_access, uses};
+use crate::words::look::is_plain_word;
 use crate::words::scan_word;
-use rv_word::{Reg, decode32};
+use rv_word::{Reg, access32};
 use sfi_masks::{BLOCK_BYTES, Masks, word_masks_of};
 use sfi_pairs::is_data_register;
 use sfi_rules::{BundlePlace, Owed};
@@ -27,6 +29,15 @@ const PLACING: u32 = 0x01af_e033;
 
 const DESTINATION: u32 = 0b11111 << 7;
 
+/// `and x30, x0, x25`.
+const CODE_MASKING: u32 = 0x0190_7f33;
+
+/// `or x30, x30, x24`.
+const CODE_PLACING: u32 = 0x018f_6f33;
+
+/// How far beside a stepped data register it may be used.
+const SLACK: u32 = sfi_policy::SLACK;
+
 /// The words that the masks don't tell to be free.
 #[inline(always)]
 fn not_free(masks: Masks) -> u64
@@ -35,27 +46,6 @@ fn not_free(masks: Masks) -> u64
 {
     let short = without(masks.free, masks.long);
     without(EVEN, masks.free & (masks.long | short >> 1))
-}
-
-/// Those of the accesses that are on a register that they may be on.
-#[inline(always)]
-fn clean_accesses(block: &[u8; BLOCK_BYTES], accesses: u64) -> u64
-    requires words { (i : ℕ) → i < 64 → is_in accesses i ≡ true → i % 2 ≡ 0 }
-    requires access { (i : ℕ) → i < 64 → is_in accesses i ≡ true →
-        IsFreeAccessBy may_write_in_words (block_word block.now i) }
-    ensures { (i : ℕ) → is_in result i ≡ true → IsQuietWord block.now i }
-{
-    let mut clean = 0;
-    let mut rest = accesses;
-    while rest != 0 {
-        let i = rest.trailing_zeros() as usize;
-        let word = word_at(block, 2 * i);
-        if may_access(Reg::numbered((word >> 15 & 0b11111) as u8)) {
-            clean |= 1 << i;
-        }
-        rest &= rest - 1;
-    }
-    clean
 }
 
 /// Whether the word is `and x31, a, x27`.
@@ -77,34 +67,38 @@ fn is_placing(word: u32) -> bool
     is_data_register(Reg::numbered((word >> 7 & 0b11111) as u8))
 }
 
-/// Whether the word is one of a data pair.
+/// Whether the words are a pair: of data, or `and x30, a, x25` and `or x30, x30, x24`.
 #[inline(always)]
-fn is_of_pair(word: u32) -> bool
-    ensures { OnTrue result (IsMasking word ⊎ IsPlacing word) }
+fn is_pair(first: u32, second: u32) -> bool
+    ensures { OnTrue result (IsPair first second) }
 {
-    if is_masking(word) {
-        return true;
+    if is_masking(first) {
+        return is_placing(second);
     }
-    is_placing(word)
+    if first & !OPERAND != CODE_MASKING {
+        return false;
+    }
+    second == CODE_PLACING
 }
 
-/// Those of the words that are one of a data pair.
+/// Where pairs of these words begin.
 #[inline(always)]
-fn words_of_pairs(block: &[u8; BLOCK_BYTES], words: u64) -> u64
+fn pairs_in(block: &[u8; BLOCK_BYTES], words: u64) -> u64
     requires { (i : ℕ) → i < 64 → is_in words i ≡ true → i % 2 ≡ 0 }
-    ensures { (i : ℕ) → is_in result i ≡ true → IsQuietWord block.now i }
+    ensures { (i : ℕ) → is_in result i ≡ true → IsPairAt block.now i }
 {
-    let mut of_pairs = 0;
-    let mut rest = words;
+    let mut pairs = 0;
+    let mut rest = words & words >> 2;
     while rest != 0 {
         let i = rest.trailing_zeros() as usize;
-        let word = word_at(block, 2 * i);
-        if is_of_pair(word) {
-            of_pairs |= 1 << i;
+        let first = word_at(block, 2 * i);
+        let second = word_at(block, 2 * i + 4);
+        if is_pair(first, second) {
+            pairs |= 1 << i;
         }
         rest &= rest - 1;
     }
-    of_pairs
+    pairs
 }
 
 /// Whether the word is `addi d, d, k`.
@@ -116,18 +110,36 @@ fn is_step_of(d: Reg, word: u32) -> bool
     word & 0xf_ffff == u32::from(d.number()) * 0x8080 + 0x13
 }
 
+/// The twelve bits of its offset, if it is a load or store.
+#[inline(always)]
+fn offset_bits(word: u32) -> u32
+    ensures small { result < 2 ^ 12 }
+    ensures offset { (i : Instr) → IsWordOf word i → IsOffset i result }
+{
+    // The opcodes of the two differ in bit 5.
+    if word >> 5 & 1 == 0 {
+        word >> 20
+    } else {
+        (word >> 25) * 32 + (word >> 7 & 0b11111)
+    }
+}
+
 /// Whether it is a load or store on d near it.
 #[inline(always)]
 fn is_use_of(d: Reg, word: u32) -> bool
     ensures { OnTrue result (IsUseOf d word) }
 {
-    match decode32(word) {
-        Some(instr) => uses(d.number(), &instr),
-        None => false,
+    let Some(access) = access32(word) else {
+        return false;
+    };
+    if access.base != d {
+        return false;
     }
+    (offset_bits(word) + SLACK & 0xfff) <= 2 * SLACK
 }
 
 /// Whether the word steps a data register, which the next one uses.
+#[inline(always)]
 fn is_used_step(word: u32, next: u32) -> bool
     ensures { OnTrue result (IsUsedStep word next) }
 {
@@ -141,18 +153,18 @@ fn is_used_step(word: u32, next: u32) -> bool
     is_use_of(d, next)
 }
 
-/// Those of the words that step a data register directly before an access that uses it, and that is none
-/// of the words.
+/// Those of the words that step a data register directly before one of the free words, which uses it and
+/// is none of the others.
 #[inline(always)]
-fn used_steps(block: &[u8; BLOCK_BYTES], accesses: u64, words: u64) -> u64
+fn used_steps(block: &[u8; BLOCK_BYTES], free: u64, words: u64) -> u64
     requires words { (i : ℕ) → i < 64 → is_in words i ≡ true → i % 2 ≡ 0 }
-    requires access { (i : ℕ) → i < 64 → i % 2 ≡ 0 → is_in accesses i ≡ true →
-        IsFreeAccessBy may_write_in_words (block_word block.now i) }
+    requires free { (i : ℕ) → i < 64 → i % 2 ≡ 0 → is_in free i ≡ true →
+        IsFreeWordBy may_write_in_words may_be_on_in_words (block_word block.now i) }
     ensures stepped { (i : ℕ) → is_in result i ≡ true → IsSteppedWord block.now i }
     ensures apart { (i : ℕ) → is_in result i ≡ true → is_in words (i + 2) ≡ false }
 {
     let mut steps = 0;
-    let mut rest = without(words & accesses >> 2, words >> 2);
+    let mut rest = without(words & free >> 2, words >> 2);
     while rest != 0 {
         let i = rest.trailing_zeros() as usize;
         let word = word_at(block, 2 * i);
@@ -165,25 +177,59 @@ fn used_steps(block: &[u8; BLOCK_BYTES], accesses: u64, words: u64) -> u64
     steps
 }
 
+/// Whether the word jumps or branches and breaks no rule there.
+#[inline(always)]
+fn is_plain_at(place: &BundlePlace, block: &[u8; BLOCK_BYTES], i: usize) -> bool
+    requires within { IsWithinBlock place.now }
+    requires word { i % 2 ≡ 0 }
+    requires inside { i < 64 }
+    ensures { OnTrue result (IsCleanWord place.now block.now i Nothing Nothing) }
+{
+    let bundle = bundle_at(place, i / 8);
+    let address = place.address + 2 * i as u32;
+    is_plain_word(&bundle, address, word_at(block, 2 * i))
+}
+
+/// Those of the words that jump or branch and break no rule.
+#[inline(always)]
+fn plain_words(place: &BundlePlace, block: &[u8; BLOCK_BYTES], words: u64) -> u64
+    requires within { IsWithinBlock place.now }
+    requires words { (i : ℕ) → i < 64 → is_in words i ≡ true → i % 2 ≡ 0 }
+    ensures { (i : ℕ) → is_in result i ≡ true → IsCleanWord place.now block.now i Nothing Nothing }
+{
+    let mut plain = 0;
+    let mut rest = words;
+    while rest != 0 {
+        let i = rest.trailing_zeros() as usize;
+        if is_plain_at(place, block, i) {
+            plain |= 1 << i;
+        }
+        rest &= rest - 1;
+    }
+    plain
+}
+
 /// The words that aren't seen to break no rule, by themselves or with the next one.
 #[inline(always)]
-fn unseen(block: &[u8; BLOCK_BYTES]) -> u64
+fn unseen(place: &BundlePlace, block: &[u8; BLOCK_BYTES]) -> u64
+    requires { IsWithinBlock place.now }
     ensures words { (i : ℕ) → i < 64 → is_in result i ≡ true → i % 2 ≡ 0 }
     ensures others { (n : ℕ) → n < 32 → is_in result (2 * n) ≡ false →
-        IsSeen block.now result (2 * n) }
+        IsSeen place.now block.now result (2 * n) }
 {
     let masks = word_masks_of(block);
     let words = not_free(masks);
     if words == 0 {
         return 0;
     }
-    let others = without(words, clean_accesses(block, words & masks.access));
-    let rest = without(others, words_of_pairs(block, others));
-    without(rest, used_steps(block, masks.access, rest))
+    let pairs = pairs_in(block, words);
+    let others = without(words, pairs | pairs << 2);
+    let rest = without(others, used_steps(block, masks.free & masks.long, others));
+    without(rest, plain_words(place, block, rest))
 }
 
 /// What is owed after a word that breaks no rule.
-#[inline(always)]
+#[inline(never)]
 fn after_word(
     place: &BundlePlace,
     block: &[u8; BLOCK_BYTES],
@@ -252,7 +298,7 @@ fn after_words(
     requires within { IsWithinBlock place.now }
     requires words { (i : ℕ) → i < 64 → is_in words i ≡ true → i % 2 ≡ 0 }
     requires others { (n : ℕ) → n < 32 → is_in words (2 * n) ≡ false →
-        IsSeen block.now words (2 * n) }
+        IsSeen place.now block.now words (2 * n) }
     ensures { IfSome result (AreCleanWords place.now owed block.now 32) }
 {
     let mut left = owed;
@@ -280,5 +326,5 @@ pub(crate) fn look_at_block(
     requires { IsWithinBlock place.now }
     ensures { IfSome result (AreCleanWords place.now owed block.now 32) }
 {
-    after_words(place, block, unseen(block), owed, findings)
+    after_words(place, block, unseen(place, block), owed, findings)
 }

@@ -146,6 +146,36 @@ fn after_kept(word: u32) -> Option<Owed>
     None
 }
 
+/// Whether a word that does this breaks no rule, and leaves nothing owed, where nothing is owed before it.
+#[inline(always)]
+fn is_plain_by(place: &BundlePlace, address: u32, outline: Option<Outline>) -> bool
+    requires within { IsWithin place.now }
+    requires before_end { IsBeforeEnd place.now address 4 }
+    ensures { (word : ℕ) → IfSome outline (IsWordThat word) →
+        OnTrue result (IsQuietWord place.now address Nothing word Nothing) }
+{
+    match outline {
+        Some(outline) => is_plain(place, address, outline),
+        None => false,
+    }
+}
+
+/// Whether the word jumps or branches, breaks no rule, and leaves nothing owed, where nothing is owed
+/// before it. One reading for each opcode, so that what no such word has is never made.
+#[inline(always)]
+pub(crate) fn is_plain_word(place: &BundlePlace, address: u32, word: u32) -> bool
+    requires within { IsWithin place.now }
+    requires before_end { IsBeforeEnd place.now address 4 }
+    ensures { OnTrue result (IsQuietWord place.now address Nothing word Nothing) }
+{
+    match word & 0b111_1111 {
+        0b110_0011 => is_plain_by(place, address, outline32(word)),
+        0b110_0111 => is_plain_by(place, address, outline32(word)),
+        0b110_1111 => is_plain_by(place, address, outline32(word)),
+        _ => false,
+    }
+}
+
 /// What is owed after a word that neither computes nor accesses memory.
 fn after_outline(place: &BundlePlace, address: u32, word: u32) -> Option<Owed>
     requires within { IsWithin place.now }

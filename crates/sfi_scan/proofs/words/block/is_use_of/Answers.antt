@@ -1,7 +1,6 @@
-use Rattle.sfi_scan.proofs.Prelude.{ap, ◌∙◌}
-use Rattle.sfi_rules.specs.words.Rules.{uses}
-use Rattle.sfi_scan.proofs.BlockPairs.{decoded_use}
+use Rattle.sfi_scan.proofs.Prelude.{refl}
+use Rattle.sfi_scan.proofs.BlockPairs.{same_base, use_told}
 use Rattle.sfi_scan.proofs.words.block.is_use_of.Goals as goal
 
-pub returns-in-Some : goal.returns-in-Some
-returns-in-Some c = decoded_use c.args.d c.args.word c.in-Some.instr c.in-Some.ensures.found c.uses.result (c.uses.ensures ∙ ap (λ n. uses n c.in-Some.instr) c.number.ensures.value)
+pub returns : goal.returns
+returns c = use_told c.args.d c.args.word c.offset_bits.result c.in-Some.access c.in-Some.ensures.found (same_base c.in-Some.access.base c.args.d c.if-ne.ensures) c.offset_bits.ensures.offset _ refl

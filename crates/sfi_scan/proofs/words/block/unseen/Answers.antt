@@ -9,34 +9,32 @@ returns-then-words-eq0-clause-words c i lt h = absurd (let no = sym (in_zero i) 
 pub returns-then-words-eq0-clause-others : goal.returns-then-words-eq0-clause-others
 returns-then-words-eq0-clause-others c n lt none =
     inl (told_quiet c.args.block.now c.word_masks_of-masks.result n c.told-block c.word_masks_of-masks.ensures lt
-    (c.not_free-words.ensures.free n lt (ap (λ m. is_in m (2 * n)) c.if-words-eq0.true ∙ in_zero (2 * n))))
+    (c.not_free-words.ensures.free n lt (ap (λ m. is_in m (2 * n)) c.if-words-eq0.true ∙ in_zero (2 * n))) c.args.place.now c.requires)
 
-pub clean_accesses-requires-clause-words : goal.clean_accesses-requires-clause-words
-clean_accesses-requires-clause-words c i lt h = c.not_free-words.ensures.words i lt (in_rest c.not_free-words.result c.word_masks_of-masks.result.access i h)
-
-pub clean_accesses-requires-clause-access : goal.clean_accesses-requires-clause-access
-clean_accesses-requires-clause-access c i lt h =
-    let even = c.not_free-words.ensures.words i lt (in_rest c.not_free-words.result c.word_masks_of-masks.result.access i h) in
-    c.word_masks_of-masks.ensures.access i (omega (arith, even)) lt (in_rest_other c.not_free-words.result c.word_masks_of-masks.result.access i h)
-
-pub words_of_pairs-requires : goal.words_of_pairs-requires
-words_of_pairs-requires c i lt h = c.not_free-words.ensures.words i lt (stays_in c.not_free-words.result c.clean_accesses.result c.without-others.result i c.without-others.ensures lt h)
+pub pairs_in-pairs-requires : goal.pairs_in-pairs-requires
+pairs_in-pairs-requires c = c.not_free-words.ensures.words
 
 pub used_steps-requires-clause-words : goal.used_steps-requires-clause-words
-used_steps-requires-clause-words c i lt h =
-    c.not_free-words.ensures.words i lt (stays_in c.not_free-words.result c.clean_accesses.result c.without-others.result i c.without-others.ensures lt
-    (stays_in c.without-others.result c.words_of_pairs.result c.without-rest.result i c.without-rest.ensures lt h))
+used_steps-requires-clause-words c i lt h = c.not_free-words.ensures.words i lt (stays_in c.not_free-words.result _ c.without-others.result i c.without-others.ensures lt h)
 
-pub used_steps-requires-clause-access : goal.used_steps-requires-clause-access
-used_steps-requires-clause-access c i lt even h = c.word_masks_of-masks.ensures.access i (omega (arith, even)) lt h
+pub used_steps-requires-clause-free : goal.used_steps-requires-clause-free
+used_steps-requires-clause-free c i lt even h =
+    let m = c.word_masks_of-masks.result in
+    c.word_masks_of-masks.ensures.word i (omega (arith, even)) lt (in_rest m.free m.long i h) (in_rest_other m.free m.long i h)
+
+pub plain_words-requires-clause-words : goal.plain_words-requires-clause-words
+plain_words-requires-clause-words c i lt h =
+    c.not_free-words.ensures.words i lt (stays_in c.not_free-words.result _ c.without-others.result i c.without-others.ensures lt
+    (stays_in c.without-others.result c.used_steps.result c.without-rest.result i c.without-rest.ensures lt h))
 
 pub returns-clause-words : goal.returns-clause-words
 returns-clause-words c i lt h =
-    c.not_free-words.ensures.words i lt (stays_in c.not_free-words.result c.clean_accesses.result c.without-others.result i c.without-others.ensures lt
-    (stays_in c.without-others.result c.words_of_pairs.result c.without-rest.result i c.without-rest.ensures lt
-    (stays_in c.without-rest.result c.used_steps.result c.without.result i c.without.ensures lt h)))
+    c.not_free-words.ensures.words i lt (stays_in c.not_free-words.result _ c.without-others.result i c.without-others.ensures lt
+    (stays_in c.without-others.result c.used_steps.result c.without-rest.result i c.without-rest.ensures lt
+    (stays_in c.without-rest.result c.plain_words.result c.without.result i c.without.ensures lt h)))
 
 pub returns-clause-others : goal.returns-clause-others
 returns-clause-others c =
-    left_seen c.args.block.now c.word_masks_of-masks.result c.not_free-words.result c.clean_accesses.result c.without-others.result c.words_of_pairs.result c.without-rest.result c.used_steps.result c.without.result c.told-block c.word_masks_of-masks.ensures
-    c.not_free-words.ensures.free c.without-others.ensures c.without-rest.ensures c.without.ensures c.clean_accesses.ensures c.words_of_pairs.ensures c.used_steps.ensures.stepped c.used_steps.ensures.apart
+    left_seen c.args.place.now c.args.block.now c.word_masks_of-masks.result c.not_free-words.result c.pairs_in-pairs.result c.without-others.result c.used_steps.result c.without-rest.result c.plain_words.result c.without.result
+    c.requires c.told-block c.word_masks_of-masks.ensures c.not_free-words.ensures.free c.without-others.ensures c.without-rest.ensures c.without.ensures
+    c.pairs_in-pairs.ensures c.used_steps.ensures.stepped c.used_steps.ensures.apart c.plain_words.ensures

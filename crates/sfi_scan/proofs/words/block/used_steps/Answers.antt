@@ -9,7 +9,7 @@ use Rattle.sfi_scan.proofs.words.block.used_steps.Goals.{then-is_used_step, else
 
 pub loop-rest-init : goal.loop-rest-init
 loop-rest-init c = (
-  λ i lt h. before_access c.args.accesses c.args.words c.without-rest.result i c.ranges.accesses.fits c.without-rest.ensures lt h,
+  λ i lt h. before_access c.args.free c.args.words c.without-rest.result i c.ranges.free.fits c.without-rest.ensures lt h,
   λ i h. absurd (let no = sym (in_zero i) ∙ h in cc),
 )
 
@@ -40,7 +40,7 @@ loop-rest-preserved c =
       elim c.if-is_used_step.branch [
         | then-is_used_step w ↦ λ j h.
             in_more w64 (λ (k : ℕ). IsSteppedWord c.args.block.now k × (is_in c.args.words (k + 2) ≡ false)) c.loop-rest.steps i low.0 (
-              stepped c.args.block.now i c.word_at-word.result c.word_at-next.result c.told-block even there.below c.word_at-word.ensures (c.word_at-next.ensures ∙ next_is c.args.block.now (2 * i + 4) i place) (c.requires.access (i + 2) there.below (omega (arith, even)) there.access)
+              stepped c.args.block.now i c.word_at-word.result c.word_at-next.result c.told-block even there.below c.word_at-word.ensures (c.word_at-next.ensures ∙ next_is c.args.block.now (2 * i + 4) i place) (c.requires.free (i + 2) there.below (omega (arith, even)) there.access)
                   (OnTrue_at w.if-is_used_step.true c.is_used_step.ensures),
               there.apart,
             )
