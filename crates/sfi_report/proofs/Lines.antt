@@ -1,12 +1,11 @@
 -- The lines of a bundle: each instruction goes before the lines of what is after it.
-use Rattle.std.proofs.Common.{◌≡◌, ℕ, ◌+◌, ◌-◌, ◌%◌, ◌≤◌, List, [], ◌∷◌, ◌++◌, length, take, drop, refl, sym, ap, ◌∙◌, subst, inl, inr, arith, append_assoc, length-drop}
-use Rattle.std.proofs.lemmas.List.{length-take, append-nil, drop-drop, take_all, drop_all}
+use Rattle.sfi_report.proofs.Prelude.{◌≡◌, ℕ, ◌+◌, ◌-◌, ◌≤◌, List, [], ◌∷◌, ◌++◌, length, take, drop, refl, sym, ap, ◌∙◌, subst, inl, inr, arith, append_assoc, length-take, append-nil, drop-drop, take_all, Read, IsBundleListing, Adds}
+use Rattle.std.proofs.Common.{◌%◌, length-drop}
+use Rattle.std.proofs.lemmas.List.{drop_all}
 use Rattle.rv_word.specs.declared.instr.Instr.{Instr}
 use Rattle.rv_comp.specs.Fronts.{Spells}
-use Rattle.rv_comp.specs.declared.front.Front.TheVariants.{Read}
 use Rattle.sfi_rules.specs.Readings.{Piece, IsReading, IsLongestReading}
-use Rattle.sfi_report.specs.Listing.{instruction_line, rest_line, IsBundleListing}
-use Rattle.sfi_report.specs.private.Added.{Adds}
+use Rattle.sfi_report.specs.Listing.{instruction_line, rest_line}
 
 -- ---- spellings
 

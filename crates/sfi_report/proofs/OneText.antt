@@ -1,17 +1,14 @@
 -- Findings have one report, an image has one listing, and the state of a sandbox one text.
-use Rattle.std.proofs.Common.{◌≡◌, ℕ, zero, suc, ◌+◌, ◌-◌, ◌*◌, List, [], ◌∷◌, ◌++◌, take, drop, sym, ap, ◌∙◌, subst, arith, get_or-take, Some}
-use Rattle.std.specs.List.{flat_map}
+use Rattle.sfi_report.proofs.Prelude.{◌≡◌, ℕ, zero, suc, ◌+◌, ◌-◌, ◌*◌, List, [], ◌∷◌, ◌++◌, take, drop, sym, ap, ◌∙◌, subst, arith, Some, flat_map, Part, format_of, Finding, V1, bundle_bytes, IsFindingLine, gate_line, format_line, IsBundleListing, IsSandboxListing, registers_text}
+use Rattle.std.proofs.Common.{get_or-take}
 use Rattle.rv_comp.specs.declared.front.Front.{Front}
 use Rattle.rv_text.specs.Printed.{printed}
-use Rattle.sfi_image.specs.Spelling.{Part, format_of}
-use Rattle.sfi_rules.specs.declared.finding.Finding.{Finding}
 use Rattle.sfi_rules.specs.declared.rule.Rule.{Rule}
-use Rattle.sfi_rules.specs.declared.rule.Rule.TheVariants.{V1, V2, V9}
-use Rattle.sfi_rules.specs.Bundles.{bundle_bytes}
+use Rattle.sfi_rules.specs.declared.rule.Rule.TheVariants.{V2, V9}
 use Rattle.sfi_report.specs.Digits.{line_end}
-use Rattle.sfi_report.specs.Report.{IsInstructionText, IsPlaceText, line_front, IsFindingLine}
-use Rattle.sfi_report.specs.Listing.{reading_lines, sandbox_line, gate_line, format_line, IsBundleListing, IsListingOfFirst, IsCodeListing, IsSandboxListing, IsListingFrom}
-use Rattle.sfi_report.specs.State.{code_from, place_line, registers_text, state_front}
+use Rattle.sfi_report.specs.Report.{IsInstructionText, IsPlaceText, line_front}
+use Rattle.sfi_report.specs.Listing.{reading_lines, sandbox_line, IsListingOfFirst, IsCodeListing, IsListingFrom}
+use Rattle.sfi_report.specs.State.{code_from, place_line, state_front}
 use Rattle.sfi_report.specs.Laws.{OneReport, OneListing, OneState}
 use Rattle.rv_comp.proofs.Facts.{one_front, one_spelling}
 use Rattle.sfi_rules.proofs.Facts.{one_longest_reading}

@@ -1,5 +1,6 @@
 -- What a number's text is, padded with zeros.
-use Rattle.std.proofs.Common.{◌≡◌, ◌-◌, ℕ, [], length, false, arith, append-nil}
+use Rattle.sfi_report.proofs.Prelude.{◌≡◌, ◌-◌, ℕ, [], length, arith}
+use Rattle.std.proofs.Common.{false, append-nil}
 use Rattle.std.specs.Fmt.{padded_integral, char_count, format_spec, digits}
 use Rattle.sfi_report.specs.Digits.{hex_digits}
 

@@ -1,21 +1,20 @@
 -- Each finding stands at a place of a part: what the code begins with there.
-use Rattle.std.proofs.Common.{◌≡◌, ℕ, zero, suc, ◌+◌, ◌-◌, ◌*◌, ◌%◌, ◌≤◌, Bool, true, false, cond, Option, None, List, [], ◌∷◌, length, take, drop, refl, sym, ap, ◌∙◌, subst, inl, inr, arith, length-drop}
-use Rattle.std.specs.Prelude.{Some, slice_get, MatchBool}
+use Rattle.sfi_report.proofs.Prelude.{◌≡◌, ℕ, zero, suc, ◌+◌, ◌-◌, ◌*◌, ◌≤◌, List, [], ◌∷◌, length, take, drop, refl, sym, ap, ◌∙◌, subst, inl, inr, arith, Some, length-take, drop-drop, Part, V1, Finding, bundle_bytes, Stands}
+use Rattle.std.proofs.Common.{◌%◌, Bool, true, false, cond, Option, None, length-drop}
+use Rattle.std.specs.Prelude.{slice_get, MatchBool}
 use Rattle.std.specs.Int.{w16, from_le_bytes}
 use Rattle.std.specs.List.{All, find}
-use Rattle.std.proofs.lemmas.List.{length-take, drop-drop, drop-take, take-take}
+use Rattle.std.proofs.lemmas.List.{drop-take, take-take}
 use Rattle.std.proofs.lemmas.List.Elements.{All-append}
 use Rattle.rv_word.specs.declared.instr.Instr.{Instr}
 use Rattle.rv_word.specs.declared.length.Length.{Length}
 use Rattle.rv_word.specs.declared.length.Length.TheVariants as lengths
 use Rattle.rv_word.specs.Lengths.{length_of}
 use Rattle.rv_comp.specs.Fronts.{Spells}
-use Rattle.sfi_image.specs.Spelling.{Part}
 use Rattle.sfi_image.specs.declared.bundle.BundlePlace.{BundlePlace}
 use Rattle.sfi_rules.specs.declared.rule.Rule.{Rule}
-use Rattle.sfi_rules.specs.declared.rule.Rule.TheVariants.{V1, V2, V9}
-use Rattle.sfi_rules.specs.declared.finding.Finding.{Finding}
-use Rattle.sfi_rules.specs.Bundles.{place_of, bundle_bytes}
+use Rattle.sfi_rules.specs.declared.rule.Rule.TheVariants.{V2, V9}
+use Rattle.sfi_rules.specs.Bundles.{place_of}
 use Rattle.sfi_rules.specs.Readings.{Piece, IsReading, rest_of}
 use Rattle.sfi_rules.specs.Rules.{breaks}
 use Rattle.sfi_rules.specs.Findings.{broken, lowest, all_rules, findings_from, rest_finding, rule_of_length, AreBundleFindings, AreFindingsOfFirst, AreFindingsInBundles, AreFindings, AreFindingsFrom, AreImageFindings}
@@ -23,7 +22,7 @@ use Rattle.sfi_policy.specs.Formats.{has_words}
 use Rattle.sfi_rules.specs.declared.owed.Owed.{Owed}
 use Rattle.sfi_rules.specs.words.Owing.{owed_next}
 use Rattle.sfi_rules.specs.words.Findings as words
-use Rattle.sfi_report.specs.private.Added.{SpellsFirst, IsPlace, Stands}
+use Rattle.sfi_report.specs.private.{SpellsFirst, IsPlace}
 use Rattle.sfi_rules.proofs.Lowest.{lowest_is}
 use Rattle.sfi_report.proofs.Lines.{spell_even, spell_fits}
 
@@ -37,6 +36,19 @@ pub record StandsIn (sandbox at : ℕ) (bytes : List ℕ) (f : Finding) : Type 0
 
 -- ---- in a bundle
 
+-- what stands after a piece
+after_piece : (sandbox at : ℕ) (rest : List ℕ) (i : Instr) (n : ℕ) → Spells (take n rest) i n
+    → (f : Finding) → StandsIn sandbox (at + n) (drop n rest) f → StandsIn sandbox at rest f
+after_piece sandbox at rest i n spelled f s =
+    let fits = spell_fits rest i n spelled in
+    record {
+      offset = n + s.offset;
+      sandbox_is = s.sandbox_is;
+      address_is = omega (arith, s.address_is);
+      within = omega (arith, s.within, length-drop n rest, fits.1);
+      place = subst (λ (code : List ℕ). IsPlace f.rule code) (drop-drop s.offset n rest) s.place;
+    }
+
 -- at the places of a reading
 reading_stands : (b : BundlePlace) (whole : Bool) (at : ℕ) (earlier : List Instr) (rest : List ℕ) (reading : List Piece) → IsReading rest reading
     → All (StandsIn b.sandbox at rest) (findings_from b whole at earlier reading)
@@ -44,7 +56,7 @@ reading_stands b whole at earlier rest [] h = λ k d g. absurd (omega arith)
 reading_stands b whole at earlier rest (x ∷ later) h =
     All-append (StandsIn b.sandbox at rest) (lowest (record { bundle = b; address = at; earlier = earlier; instr = x.instr; later = later; whole = whole }) all_rules) (findings_from b whole (at + x.size) (x.instr ∷ earlier) later)
     (lowest_is (StandsIn b.sandbox at rest) (record { bundle = b; address = at; earlier = earlier; instr = x.instr; later = later; whole = whole }) all_rules here)
-    (λ k d g. after _ (reading_stands b whole (at + x.size) (x.instr ∷ earlier) (drop x.size rest) later h.1 k d g))
+    (λ k d g. after_piece _ _ _ _ _ h.0 _ (reading_stands b whole (at + x.size) (x.instr ∷ earlier) (drop x.size rest) later h.1 k d g))
   where
     first : SpellsFirst rest
     first = record { instr = x.instr; size = x.size; spelled = h.0 }
@@ -57,17 +69,6 @@ reading_stands b whole at earlier rest (x ∷ later) h =
         place V2 h = absurd cc
         place V9 h = tt
         place _ h = first
-
-    after : (f : Finding) → StandsIn b.sandbox (at + x.size) (drop x.size rest) f → StandsIn b.sandbox at rest f
-    after f s =
-        let fits = spell_fits rest x.instr x.size h.0 in
-        record {
-          offset = x.size + s.offset;
-          sandbox_is = s.sandbox_is;
-          address_is = omega (arith, s.address_is);
-          within = omega (arith, s.within, length-drop x.size rest, fits.1);
-          place = subst (λ (code : List ℕ). IsPlace f.rule code) (drop-drop s.offset x.size rest) s.place;
-        }
 
 -- where a reading ends
 record EndsAt (bytes rest : List ℕ) : Type 0 where
@@ -192,7 +193,7 @@ pieces_stand b at owed rest [] h = λ k d g. absurd (omega arith)
 pieces_stand b at owed rest (x ∷ later) h =
     All-append (StandsIn b.sandbox at rest) (words.found_at b at (words.lowest here)) (words.found_from b (at + x.size) (owed_next owed x.instr) later)
     (first (words.lowest here) refl)
-    (λ k d g. moved_on _ (pieces_stand b (at + x.size) (owed_next owed x.instr) (drop x.size rest) later h.1 k d g))
+    (λ k d g. after_piece _ _ _ _ _ h.0 _ (pieces_stand b (at + x.size) (owed_next owed x.instr) (drop x.size rest) later h.1 k d g))
   where
     here : words.Place
     here = record { bundle = b; address = at; owed = owed; instr = x.instr; size = x.size }
@@ -213,17 +214,6 @@ pieces_stand b at owed rest (x ∷ later) h =
     first : (o : Option Rule) → words.lowest here ≡ o → All (StandsIn b.sandbox at rest) (words.found_at b at o)
     first None e = λ k d g. absurd (omega arith)
     first (Some rule) e = only rule e
-
-    moved_on : (f : Finding) → StandsIn b.sandbox (at + x.size) (drop x.size rest) f → StandsIn b.sandbox at rest f
-    moved_on f s =
-        let fits = spell_fits rest x.instr x.size h.0 in
-        record {
-          offset = x.size + s.offset;
-          sandbox_is = s.sandbox_is;
-          address_is = omega (arith, s.address_is);
-          within = omega (arith, s.within, length-drop x.size rest, fits.1);
-          place = subst (λ (code : List ℕ). IsPlace f.rule code) (drop-drop s.offset x.size rest) s.place;
-        }
 
 word_stands : (b : BundlePlace) (at : ℕ) (owed : Owed) (word : List ℕ) (found : List Finding) (next : Owed) → length word ≡ 4 → words.IsWordFound b at owed word found next → All (StandsIn b.sandbox at word) found
 word_stands b at owed word found next count h =

@@ -1,15 +1,12 @@
 -- The report, one finding more.
-use Rattle.std.proofs.Common.{◌≡◌, ℕ, zero, suc, ◌+◌, ◌-◌, ◌<◌, List, [], ◌∷◌, ◌++◌, length, get_or, take, drop, refl, sym, ap, ◌∙◌, subst, append_assoc, Some}
+use Rattle.sfi_report.proofs.Prelude.{◌≡◌, ℕ, zero, suc, ◌+◌, ◌-◌, List, [], ◌∷◌, ◌++◌, length, get_or, take, drop, refl, sym, ap, ◌∙◌, subst, append_assoc, Some, append-nil, Format, SandboxPart, Part, view, Finding, IsFindingLine, IsReport, Adds, Stands}
+use Rattle.std.proofs.Common.{◌<◌}
 use Rattle.std.specs.Prelude.{slice_get, Result, Ok, Err, OnOk, if◌then◌else◌}
 use Rattle.std.specs.Result.{is_ok}
-use Rattle.std.proofs.lemmas.List.{append-nil, take_more}
-use Rattle.sfi_policy.specs.declared.format.Format.{Format}
-use Rattle.sfi_image.specs.declared.part.SandboxPart.{SandboxPart}
-use Rattle.sfi_image.specs.Spelling.{Part, view, views}
-use Rattle.sfi_rules.specs.declared.finding.Finding.{Finding}
+use Rattle.std.proofs.lemmas.List.{take_more}
+use Rattle.sfi_image.specs.Spelling.{views}
 use Rattle.sfi_report.specs.Digits.{line_end}
-use Rattle.sfi_report.specs.Report.{IsPlaceText, line_front, IsFindingLine, IsReport}
-use Rattle.sfi_report.specs.private.Added.{Adds, Stands}
+use Rattle.sfi_report.specs.Report.{IsPlaceText, line_front}
 
 -- the part of that number
 part_at : (format : Format) (items : List SandboxPart) (k : ℕ) (d : SandboxPart) (p : Part) → slice_get (views format items) k ≡ Some p → view format (get_or items k d) ≡ p

@@ -1,15 +1,12 @@
 -- The listing of sandboxes and of an image, one bundle and one sandbox more.
-use Rattle.std.proofs.Common.{◌≡◌, ℕ, zero, suc, ◌+◌, ◌*◌, ◌<◌, ◌≤◌, List, [], ◌∷◌, ◌++◌, length, get_or, take, drop, refl, sym, ap, ◌∙◌, subst, arith, append_assoc, add-zero}
-use Rattle.std.specs.List.{All, flat_map}
+use Rattle.sfi_report.proofs.Prelude.{◌≡◌, ℕ, zero, suc, ◌+◌, ◌*◌, ◌≤◌, List, [], ◌∷◌, ◌++◌, length, get_or, take, drop, refl, sym, ap, ◌∙◌, subst, arith, append_assoc, flat_map, append-nil, drop-drop, take_all, length-take, Format, SandboxPart, Part, view, format_of, bundle_bytes, Adds, gate_line, IsBundleListing, IsSandboxListing, format_line}
+use Rattle.std.proofs.Common.{◌<◌, add-zero}
+use Rattle.std.specs.List.{All}
 use Rattle.std.specs.Simd.{first_chunks}
-use Rattle.std.proofs.lemmas.List.{take_more, append-nil, drop-drop, take_all, length-map, length-take, get_or-map}
-use Rattle.sfi_policy.specs.declared.format.Format.{Format}
-use Rattle.sfi_image.specs.declared.part.SandboxPart.{SandboxPart}
-use Rattle.sfi_image.specs.Spelling.{Part, view, views, format_of}
+use Rattle.std.proofs.lemmas.List.{take_more, length-map, get_or-map}
+use Rattle.sfi_image.specs.Spelling.{views}
 use Rattle.sfi_image.specs.Parts.{IsRightPart, IsRightLayout}
-use Rattle.sfi_rules.specs.Bundles.{bundle_bytes}
-use Rattle.sfi_report.specs.private.Added.{Adds}
-use Rattle.sfi_report.specs.Listing.{sandbox_line, gate_line, IsBundleListing, IsListingOfFirst, IsCodeListing, IsSandboxListing, IsListingFrom, format_line, IsListing}
+use Rattle.sfi_report.specs.Listing.{sandbox_line, IsListingOfFirst, IsCodeListing, IsListingFrom, IsListing}
 
 -- a chunk of 16 bytes is the bundle of its number
 pub chunk_at : (count k : ℕ) (xs : List ℕ) → k < count → get_or (first_chunks 16 count xs) k [] ≡ take 16 (drop (16 * k) xs)

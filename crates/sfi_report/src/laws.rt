@@ -2,6 +2,7 @@
 ghost use Rattle.sfi_report.specs.Laws.{OneReport, OneListing, OneState};
 
 /// Findings have at most one report.
+#[tactic(auto, using(crate::proofs::OneText::one_report))]
 pub fn one_report()
     ensures { OneReport }
 {}

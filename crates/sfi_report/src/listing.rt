@@ -4,7 +4,7 @@ ghost use Rattle.sfi_policy.specs.Limits.{bundle_size};
 ghost use Rattle.sfi_image.specs.Spelling.{view};
 ghost use Rattle.sfi_image.specs.Parts.{IsRightPart};
 ghost use Rattle.sfi_report.specs.Listing.{instruction_line, rest_line, sandbox_line, region_text, gate_line, format_line, IsBundleListing, IsCodeListing, IsSandboxListing, IsListing};
-ghost use Rattle.sfi_report.specs.private.Added.{Adds};
+ghost use Rattle.sfi_report.specs.private.{Adds};
 
 use crate::digits::{push_eight_digits, push_two_digits, push_word};
 use rv_comp::{Front, read_front};

@@ -3,7 +3,7 @@ ghost use Rattle.std.specs.Prelude.{◌≡◌, ◌≤◌, ◌++◌, OnOk, IfOk, 
 ghost use Rattle.sfi_image.specs.Spelling.{views};
 ghost use Rattle.sfi_rules.specs.Findings.{AreImageFindings};
 ghost use Rattle.sfi_report.specs.Report.{IsFindingLine, IsPlaceText, IsInstructionText, IsReport, line_front, half_text, rule_name};
-ghost use Rattle.sfi_report.specs.private.Added.{Adds, IsPlace, SpellsFirst, Stands};
+ghost use Rattle.sfi_report.specs.private.{Adds, IsPlace, SpellsFirst, Stands};
 
 use crate::digits::{push_eight_digits, push_halfword};
 use rv_comp::{Front, read_front};

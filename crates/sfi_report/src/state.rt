@@ -3,7 +3,7 @@ ghost use Rattle.std.specs.Prelude.{◌≡◌, ◌++◌, OnOk, IfOk, string_byte
 ghost use Rattle.sfi_policy.specs.declared.format.Format.{Format};
 ghost use Rattle.sfi_image.specs.Spelling.{view};
 ghost use Rattle.sfi_report.specs.State.{code_from, register_text, registers_text, state_front, IsStateText};
-ghost use Rattle.sfi_report.specs.private.Added.{Adds, IsPlaceLine};
+ghost use Rattle.sfi_report.specs.private.{Adds, IsPlaceLine};
 
 use crate::digits::push_eight_digits;
 use crate::listing::push_instruction;

@@ -1,6 +1,4 @@
-use Rattle.std.proofs.Common.{◌∙◌, ◌++◌, ap}
-use Rattle.std.specs.Prelude.{string_bytes}
-use Rattle.std.proofs.lemmas.Result.{on_ok_weaker}
+use Rattle.sfi_report.proofs.Prelude.{◌∙◌, ◌++◌, ap, string_bytes, on_ok_weaker}
 use Rattle.sfi_report.proofs.Padding.{padding_is_zeros}
 use Rattle.sfi_report.proofs.digits.push_two_digits.Goals as goal
 

@@ -1,10 +1,5 @@
-use Rattle.std.proofs.Common.{◌≡◌, ◌++◌, ◌∙◌, List, ℕ, refl, sym, ap, subst}
-use Rattle.std.specs.Prelude.{string_bytes}
-use Rattle.sfi_image.specs.declared.part.SandboxPart.{SandboxPart}
-use Rattle.sfi_image.specs.Spelling.{view, format_of}
+use Rattle.sfi_report.proofs.Prelude.{◌≡◌, ◌++◌, ◌∙◌, List, ℕ, refl, sym, ap, subst, string_bytes, SandboxPart, view, format_of, Adds, format_line, IsSandboxListing}
 use Rattle.sfi_image.specs.Parts.{IsRightPart}
-use Rattle.sfi_report.specs.private.Added.{Adds}
-use Rattle.sfi_report.specs.Listing.{format_line, IsSandboxListing}
 use Rattle.sfi_report.proofs.Sandboxes.{right_at, AreListedTo, no_sandboxes, one_sandbox_more, all_sandboxes}
 use Rattle.sfi_report.proofs.listing.listing_text.Goals as goal
 

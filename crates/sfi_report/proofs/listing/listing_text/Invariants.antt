@@ -1,6 +1,4 @@
-use Rattle.std.specs.Prelude.{string_bytes}
-use Rattle.sfi_image.specs.Spelling.{format_of}
-use Rattle.sfi_report.specs.Listing.{format_line}
+use Rattle.sfi_report.proofs.Prelude.{string_bytes, format_of, format_line}
 use Rattle.sfi_report.proofs.Sandboxes.{AreListedTo}
 use Rattle.sfi_report.proofs.listing.listing_text.Given as goal
 

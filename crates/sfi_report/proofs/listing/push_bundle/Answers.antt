@@ -1,7 +1,4 @@
-use Rattle.std.proofs.Common.{◌-◌, inl, inr, take, drop}
-use Rattle.std.specs.Prelude.{string_bytes}
-use Rattle.std.proofs.lemmas.Result.{on_ok_weaker}
-use Rattle.rv_comp.specs.declared.front.Front.TheVariants.{Read}
+use Rattle.sfi_report.proofs.Prelude.{◌-◌, inl, inr, take, drop, string_bytes, on_ok_weaker, Read}
 use Rattle.sfi_report.proofs.Lines.{at_first, next, at_last, at_rest, rest_is}
 use Rattle.sfi_report.proofs.listing.push_bundle.Goals as goal
 

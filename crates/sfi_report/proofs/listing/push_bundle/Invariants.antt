@@ -1,5 +1,4 @@
-use Rattle.std.proofs.Common.{◌-◌}
-use Rattle.std.specs.Prelude.{string_bytes}
+use Rattle.sfi_report.proofs.Prelude.{◌-◌, string_bytes}
 use Rattle.sfi_report.proofs.Lines.{Leads}
 use Rattle.sfi_report.proofs.listing.push_bundle.Given as goal
 

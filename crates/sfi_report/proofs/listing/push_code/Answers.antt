@@ -1,6 +1,5 @@
-use Rattle.std.proofs.Common.{ℕ, ◌/◌, List, length, get_or, [], ◌∙◌, ap, arith}
-use Rattle.std.specs.Prelude.{string_bytes}
-use Rattle.sfi_image.specs.Spelling.{view}
+use Rattle.sfi_report.proofs.Prelude.{ℕ, List, length, get_or, [], ◌∙◌, ap, arith, string_bytes, view}
+use Rattle.std.proofs.Common.{◌/◌}
 use Rattle.sfi_image.proofs.Facts.{whole_bundles}
 use Rattle.sfi_report.proofs.Sandboxes.{empty_listing, one_bundle_more, all_bundles, chunk_at}
 use Rattle.sfi_report.proofs.listing.push_code.Goals as goal

@@ -1,6 +1,4 @@
-use Rattle.std.specs.Prelude.{string_bytes}
-use Rattle.sfi_policy.specs.declared.format.Format.{Format}
-use Rattle.sfi_image.specs.Spelling.{view}
+use Rattle.sfi_report.proofs.Prelude.{string_bytes, Format, view}
 use Rattle.sfi_report.proofs.Sandboxes.{IsListedTo}
 use Rattle.sfi_report.proofs.listing.push_code.Given as goal
 

@@ -1,6 +1,4 @@
-use Rattle.std.proofs.Common.{◌≡◌, ◌++◌, take}
-use Rattle.std.specs.Prelude.{string_bytes}
-use Rattle.std.specs.List.{flat_map}
+use Rattle.sfi_report.proofs.Prelude.{◌≡◌, ◌++◌, take, string_bytes, flat_map}
 use Rattle.sfi_report.specs.Digits.{hex_digits}
 use Rattle.sfi_report.proofs.listing.push_rest.Given as goal
 

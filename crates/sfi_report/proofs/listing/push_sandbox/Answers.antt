@@ -1,11 +1,5 @@
-use Rattle.std.proofs.Common.{◌≡◌, ◌++◌, ◌∙◌, List, ap}
-use Rattle.std.specs.Prelude.{string_bytes}
-use Rattle.std.specs.List.{flat_map}
-use Rattle.std.proofs.lemmas.List.{take_all}
-use Rattle.std.proofs.lemmas.Result.{on_ok_weaker}
+use Rattle.sfi_report.proofs.Prelude.{◌≡◌, ◌++◌, ◌∙◌, List, ap, string_bytes, flat_map, take_all, on_ok_weaker, view, gate_line}
 use Rattle.sfi_image.specs.declared.part.Gate.{Gate}
-use Rattle.sfi_image.specs.Spelling.{view}
-use Rattle.sfi_report.specs.Listing.{gate_line}
 use Rattle.sfi_report.proofs.Sandboxes.{whole_sandbox}
 use Rattle.sfi_report.proofs.listing.push_sandbox.Goals as goal
 

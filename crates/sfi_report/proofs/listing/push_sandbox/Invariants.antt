@@ -1,7 +1,4 @@
-use Rattle.std.proofs.Common.{◌≡◌, ◌++◌, take}
-use Rattle.std.specs.Prelude.{string_bytes}
-use Rattle.std.specs.List.{flat_map}
-use Rattle.sfi_report.specs.Listing.{gate_line}
+use Rattle.sfi_report.proofs.Prelude.{◌≡◌, ◌++◌, take, string_bytes, flat_map, gate_line}
 use Rattle.sfi_report.proofs.listing.push_sandbox.Given as goal
 
 -- the gates so far are listed

@@ -1,7 +1,5 @@
-use Rattle.std.proofs.Common.{◌-◌}
-use Rattle.std.specs.Prelude.{string_bytes}
+use Rattle.sfi_report.proofs.Prelude.{◌-◌, string_bytes, on_ok_weaker}
 use Rattle.std.proofs.lemmas.List.{take_rest}
-use Rattle.std.proofs.lemmas.Result.{on_ok_weaker}
 use Rattle.sfi_report.proofs.Reports.{line_of, text_on_ok}
 use Rattle.sfi_report.proofs.report.push_finding.Goals as goal
 

@@ -1,5 +1,4 @@
-use Rattle.std.proofs.Common.{inl, inr}
-use Rattle.rv_comp.specs.declared.front.Front.TheVariants.{Read}
+use Rattle.sfi_report.proofs.Prelude.{inl, inr, Read}
 use Rattle.sfi_report.proofs.report.push_first_instruction.Goals as goal
 
 pub unreachable-requires : goal.unreachable-requires

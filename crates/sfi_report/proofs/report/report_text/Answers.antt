@@ -1,11 +1,4 @@
-use Rattle.std.proofs.Common.{List, get_or, sym, subst}
-use Rattle.std.specs.Prelude.{string_bytes}
-use Rattle.std.proofs.lemmas.List.{take_all}
-use Rattle.sfi_image.specs.Spelling.{Part, format_of}
-use Rattle.sfi_rules.specs.declared.finding.Finding.{Finding}
-use Rattle.sfi_rules.specs.declared.rule.Rule.TheVariants.{V1}
-use Rattle.sfi_report.specs.private.Added.{Adds, Stands}
-use Rattle.sfi_report.specs.Report.{IsFindingLine, IsReport}
+use Rattle.sfi_report.proofs.Prelude.{List, get_or, sym, subst, string_bytes, take_all, Part, format_of, Finding, V1, Adds, Stands, IsFindingLine, IsReport}
 use Rattle.sfi_report.proofs.Places.{findings_stand}
 use Rattle.sfi_report.proofs.Reports.{one_finding_more}
 use Rattle.sfi_report.proofs.report.report_text.Goals as goal

@@ -1,6 +1,4 @@
-use Rattle.std.proofs.Common.{take}
-use Rattle.std.specs.Prelude.{string_bytes}
-use Rattle.sfi_report.specs.Report.{IsReport}
+use Rattle.sfi_report.proofs.Prelude.{take, string_bytes, IsReport}
 use Rattle.sfi_report.proofs.report.report_text.Given as goal
 
 -- the findings so far are reported

@@ -1,6 +1,4 @@
-use Rattle.std.proofs.Common.{◌≡◌, ◌++◌}
-use Rattle.std.specs.Prelude.{string_bytes}
-use Rattle.sfi_report.specs.State.{registers_text}
+use Rattle.sfi_report.proofs.Prelude.{◌≡◌, ◌++◌, string_bytes, registers_text}
 use Rattle.sfi_report.proofs.state.push_registers.Given as goal
 
 -- the registers so far are written

@@ -1,10 +1,25 @@
-use Rattle.std.proofs.Common.{◌∙◌, ◌++◌, ap, subst, List, ℕ}
-use Rattle.std.specs.Prelude.{string_bytes}
-use Rattle.sfi_image.specs.Spelling.{view}
-use Rattle.sfi_report.specs.State.{code_from, state_front}
-use Rattle.sfi_report.specs.private.Added.{Adds, IsPlaceLine}
-use Rattle.sfi_report.proofs.States.{whole_state}
+use Rattle.sfi_report.proofs.Prelude.{◌∙◌, ◌++◌, ap, subst, List, ℕ, ◌≡◌, string_bytes, view, Part, registers_text, Adds}
+use Rattle.sfi_report.specs.State.{code_from, state_front, IsStateText}
+use Rattle.sfi_report.specs.private.{IsPlaceLine}
+use Rattle.rv_step.specs.State.{Hart}
 use Rattle.sfi_report.proofs.state.state_text.Goals as goal
+
+-- the text of its pieces
+whole_state : (sandbox : ℕ) (p : Part) (h : Hart) (code first placed text : List ℕ) → code ≡ code_from p h.pc
+    → first ≡ state_front sandbox
+    → Adds first placed (IsPlaceLine h.pc code)
+    → text ≡ placed ++ registers_text h 31
+    → IsStateText sandbox p h text
+whole_state sandbox p h code first placed text is begins a e =
+    let place = subst (λ (l : List ℕ). IsPlaceLine h.pc l a.text) is a.text_is in
+    record {
+      front = place.front;
+      front_is = place.front_is;
+      text_is = e
+          ∙ ap (λ (l : List ℕ). l ++ registers_text h 31)
+          (a.new_is ∙ ap (λ (l : List ℕ). l ++ a.text) begins
+          ∙ ap (λ (l : List ℕ). state_front sandbox ++ l) place.text_is);
+    }
 
 pub returns : goal.returns
 returns c = record {
