@@ -19,6 +19,7 @@ pub mod WordView
 pub mod WordKnown
 pub mod ByFormat
 pub mod WordLaid
+pub mod WordMasks
 pub mod WordAside
 pub mod Aside
 pub mod Transparent

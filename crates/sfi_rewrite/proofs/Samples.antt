@@ -1,13 +1,16 @@
 -- States in which the expansions of a load, of an indirect jump and of a write of the stack pointer stand.
 use Rattle.sfi_rewrite.proofs.Prelude.{◌≡◌, ℕ, zero, suc, ◌+◌, ◌-◌, ◌%◌, ◌^◌, ◌<◌, ◌≤◌, List, [], ◌∷◌, ◌++◌, length, take, drop, replicate, true, Option, Some, None, refl, sym, ap, subst, ◌∙◌, ⊎_elim, arith, get_or-drop, slice_index, nat_lt, Contains, pos, flat_map, list_all, and_parts, ltb-true, cases_lt, And, Or, Instr, Op, Load, Jalr, Bytes, IsMemory, byte_at, bytes_at, addresses, address_after, with_bytes, number_of, Hart, IsHart, Stands, effect, after_load, Wide, AreRegions, HasReserved, IsAskedOf, TransparencyCanBeMet}
 use Rattle.rv_comp.specs.Fronts.{Spells}
-use Rattle.rv_step.specs.declared.outcome.Outcome.TheVariants.{Next}
+use Rattle.rv_mem.specs.Bytes.{in_front}
+use Rattle.rv_step.specs.declared.outcome.Outcome.TheVariants.{Next, Trap}
+use Rattle.rv_step.specs.declared.outcome.Cause.TheVariants as cause
 use Rattle.rv_word.specs.Spelling.{spelling, InRange}
 use Rattle.rv_word.specs.declared.instr.LoadKind.TheVariants.{Lw}
 use Rattle.rv_word.specs.declared.instr.RegOp.{RegOp}
 use Rattle.sfi_image.specs.declared.span.Span.{Span}
 use Rattle.sfi_policy.specs.declared.format.Format.TheVariants.{Sfi2}
 use Rattle.sfi_rewrite.specs.Samples.{MeetsTransparent, MeetsKeepsStack, sample_load, sample_jump, sample_push}
+use Rattle.sfi_rewrite.specs.words.Samples.{sample_pop}
 use Rattle.std.proofs.lemmas.Int.{ints}
 use Rattle.std.specs.FinMap.{empty, get-empty}
 use Rattle.std.specs.Int.{w32, to_le_bytes}
@@ -201,6 +204,17 @@ module _ (bytes : List ℕ) (size : length bytes ≡ 12) where
           ap (byte_at (with_code bytes)) e
           ∙ elsewhere with_data 0x01000000 bytes fits (0x01800010 + k) (λ from below. omega (arith, size))
           ∙ there empty 0x01800010 four_zeros (omega arith) k few
+
+  -- beyond them nothing is
+  no_data : bytes_at (with_code bytes) (addresses 0x01800468 4) ≡ None
+  no_data =
+      ap (λ (o : Option ℕ). in_front o (bytes_at (with_code bytes) (0x01800469 ∷ 0x0180046a ∷ 0x0180046b ∷ [])))
+      (elsewhere with_data 0x01000000 bytes fits 0x01800468 (λ from below. omega (arith, size))
+      ∙ elsewhere empty 0x01800010 four_zeros (omega arith) 0x01800468 (λ from below. omega arith)
+      ∙ get-empty nat_cmp 0x01800468)
+
+  pub load_stops : (mask : ℕ) → (effect sample_pop 4 (hart_with mask 0x01000000) (with_code bytes)).outcome ≡ Trap cause.Load 0x01800468
+  load_stops mask = ap (λ (o : Option (List ℕ)). (after_load (option_map number_of o) Lw 2 0x01800468 4 (hart_with mask 0x01000000) (with_code bytes)).outcome) no_data
 
   pub load_done : (mask : ℕ) → (effect sample_load 4 (hart_with mask 0x01000000) (with_code bytes)).outcome ≡ Next
   load_done mask = ap (λ (o : Option (List ℕ)). (after_load (option_map number_of o) Lw 10 0x01800010 4 (hart_with mask 0x01000000) (with_code bytes)).outcome) has_data

@@ -269,7 +269,7 @@ some_expanded (x ∷ items) later =
     let rest = some_expanded items later in
     (marked x.labelled one.0 ++ rest.0, (one.0, rest.0, one.1, refl, rest.1))
 
-some_words : (later items : List Item) → (slots : List Slot) × AreLaidBefore later items slots
+some_words : (later items : List Item) → (slots : List Slot) × AreLaidBefore items later slots
 some_words later items = let e = some_expanded items later in (in_words e.0, (e.0, e.1, refl))
 
 -- words, in bundles

@@ -176,7 +176,7 @@ next_first items k x later old new at l first next =
     }
 
 -- the slots of the first items
-pub first_laid : (items : List Item) (k : ℕ) (w : WordsSoFar) → AreOfFirst k items w → AreLaidBefore (drop k items) (take k items) (ended w.words w.waiting).words
+pub first_laid : (items : List Item) (k : ℕ) (w : WordsSoFar) → AreOfFirst k items w → AreLaidBefore (take k items) (drop k items) (ended w.words w.waiting).words
 first_laid items k w first =
     (first.expanded, first.are_expanded, sym (ended_last w.words w.waiting) ∙ sym (first.lead []) ∙ ap (λ v. in_words v) (append-nil first.expanded))
 
@@ -247,7 +247,7 @@ all_whole items n w slots low p first room e =
     let fits = room.fits in
     rw e (record {
       permitted = subst (All (IsPermitted Sfiw)) all p;
-      laid = subst (λ v. AreLaidBefore v items (ended w.words w.waiting).words) (none_left items n low) (subst (λ v. AreLaidBefore (drop n items) v (ended w.words w.waiting).words) all laid);
+      laid = subst (λ v. AreLaidBefore items v (ended w.words w.waiting).words) (none_left items n low) (subst (λ v. AreLaidBefore v (drop n items) (ended w.words w.waiting).words) all laid);
       fits = omega arith;
     })
   where

@@ -17,13 +17,13 @@ use Rattle.sfi_rewrite.specs.Transparency.{SlotsStand}
 use Rattle.sfi_rewrite.specs.Registers.{is_withheld, names_withheld, item_names_withheld}
 use Rattle.sfi_rewrite.specs.Laws.{WordExpansionsAreTransparent}
 use Rattle.sfi_rewrite.specs.words.Expansion.{IsConfined, IsAround, IsExpansionOf, before, after, data_mask, mask_after, is_move, moved, is_step, is_step_to, is_zero, is_barred_jump}
-use Rattle.sfi_rewrite.specs.words.Transparency.{is_own, HasReserved, IsTransparent, KeepsData, ActsBy, ActsAs}
+use Rattle.sfi_rewrite.specs.words.Transparency.{is_own, HasReserved, masked, meant, IsAskedOf, IsTransparent, KeepsData, ActsBy, ActsAs}
 use Rattle.rv_step.proofs.Facts.{step_keeps_state}
 use Rattle.rv_step.proofs.Pairs.{written_here, written_elsewhere}
 use Rattle.sfi_rewrite.proofs.Sizes.{size_of-append, size_of-cons}
 use Rattle.sfi_rewrite.proofs.Transparent.{stands_at}
 use Rattle.sfi_rewrite.proofs.Aside.{added, plus_zero}
-use Rattle.sfi_rewrite.proofs.WordTransparent.{IsOneFor, one_for, IsNamed, after_mask, mask_leads, mask_keeps, mask_moves, alone_transparent, load_transparent, store_transparent, zero_load_transparent, zero_store_transparent, jump_transparent}
+use Rattle.sfi_rewrite.proofs.WordTransparent.{IsOneFor, one_for, IsNamed, after_mask, mask_leads, mask_elsewhere, mask_leaves, not_31, one_transparent, load_transparent, store_transparent, load_alone, store_alone, jump_transparent}
 
 -- ---- what an instruction writes
 
@@ -64,6 +64,22 @@ writes (Auipc rd imm) n k p d h m e j u done =
 writes (Jal rd offset) n k p d h m e j u done = absurd (true≢false j)
 writes (Jalr rd a imm) n k p d h m e j u done = absurd (true≢false j)
 writes other n k p d h m e j u done = absurd (cc)
+
+-- what an instruction means writes what it writes, and jumps where it does
+meant_writes : (i : Instr) → destination (meant i) ≡ destination i
+meant_writes (Load kind rd a imm) = refl
+meant_writes (Store width a rs2 imm) = refl
+meant_writes other = refl
+
+meant_jumps : (i : Instr) → is_jump (meant i) ≡ is_jump i
+meant_jumps (Load kind rd a imm) = refl
+meant_jumps (Store width a rs2 imm) = refl
+meant_jumps other = refl
+
+meant_auipc : (i : Instr) → is_auipc (meant i) ≡ is_auipc i
+meant_auipc (Load kind rd a imm) = refl
+meant_auipc (Store width a rs2 imm) = refl
+meant_auipc other = refl
 
 -- ---- the register that is written
 
@@ -161,7 +177,7 @@ named_low d some own small = record { some = some; small = omega arith; own = ow
 masked_keeps : (i : Instr) (d : ℕ) (slots : List Slot) → destination i ≡ Some d → is_jump i ≡ false → is_data_register d ≡ true → is_own d ≡ false
     → (t : IsTransparent i slots) → (is_auipc i ≡ true → t.before ≡ []) → KeepsData d i (slots ++ data_mask d d)
 masked_keeps i d slots writer no_jump typed own t first = record {
-  does = λ c d_at s asked done held.
+  does = λ c d_at s asked done.
       let small = low d typed own in
       let some = not_zero d typed in
       let pc_small = asked.is_state.hart.address in
@@ -170,19 +186,12 @@ masked_keeps i d slots writer no_jump typed own t first = record {
       let all_size = size_of-append slots (data_mask d d) in
       let mask_size : size_of (data_mask d d) ≡ 8 = refl in
       let no_size : size_of [] ≡ 0 = refl in
-      let r = t.does c d_at s (record {
-        regions = asked.regions;
-        is_state = asked.is_state;
-        reserved = asked.reserved;
-        stand = stand_before i s slots (data_mask d d) asked.stand;
-        keeps = asked.keeps;
-      }) in
+      let r = t.does c d_at s (asked_before c d_at s asked) in
       let there = r.there in
       let n = slot_size t.last in
       let p = there.hart.pc in
-      let w = writes i 4 n p d s.hart s.memory writer no_jump
-      (λ is. r.place ∙ ap (λ v. address_after s.hart.pc (size_of v)) (first is) ∙ (let z : address_after s.hart.pc 0 ≡ s.hart.pc = omega arith in z)) done in
-      let q = effect i n (with_pc s.hart p) s.memory in
+      let w = writes (meant i) 4 n p d s.hart s.memory (meant_writes i ∙ writer) (meant_jumps i ∙ no_jump)
+      (λ is. r.place ∙ ap (λ v. address_after s.hart.pc (size_of v)) (first (sym (meant_auipc i) ∙ is)) ∙ (let z : address_after s.hart.pc 0 ≡ s.hart.pc = omega arith in z)) done in
       let one = r.result.state in
       let outcome : r.result.outcome ≡ Next = r.same.outcome ∙ ap (λ (x : Stepped). x.outcome) w.there in
       let step : LeadsTo there one = subst (λ (x : Stepped). IsStep there x) (done_is r.result outcome) r.step in
@@ -190,7 +199,7 @@ masked_keeps i d slots writer no_jump typed own t first = record {
       let pc : one.hart.pc ≡ address_after s.hart.pc (size_of slots) =
       r.same.hart.pc ∙ ap (λ (x : Stepped). x.state.hart.pc) w.there ∙ ap (λ v. address_after v n) r.place ∙ omega arith in
       -- registers after it, but those of the expansions
-      let left : (x : ℕ) → is_own x ≡ false → register one.hart x ≡ register (effect i 4 s.hart s.memory).state.hart x =
+      let left : (x : ℕ) → is_own x ≡ false → register one.hart x ≡ register (effect (meant i) 4 s.hart s.memory).state.hart x =
       λ x other. r.same.hart.registers x other ∙ ap (λ (y : Stepped). register y.state.hart x) w.there ∙ sym (ap (λ (y : Stepped). register y.state.hart x) w.here) in
       let elsewhere : (x : ℕ) → is_own x ≡ false → x ≢ d → register one.hart x ≡ register s.hart x =
       λ x other ne. left x other ∙ ap (λ (y : Stepped). register y.state.hart x) w.here ∙ written_elsewhere (past s.hart 4) d w.value x some ne in
@@ -200,22 +209,37 @@ masked_keeps i d slots writer no_jump typed own t first = record {
       let or_stands : Stands (further one 4) (Op Or d 31 26) 4 =
       stands_at (further (further s (size_of slots)) 4) (further one 4) (Op Or d 31 26) 4 (ap (λ v. address_after v 4) pc) memory masks.1.0 in
       let end = after_mask one d d in
-      let kept = mask_keeps c d_at one d asked.regions is_one (reserved_still c d_at s one d small asked.reserved elsewhere) (named_low d some own small)
-      (subst (λ v. Holds d_at v) (sym (left d own)) held) in
+      let named = named_low d some own small in
+      let value = mask_leaves c d_at one d d asked.regions is_one (reserved_still c d_at s one d small asked.reserved elsewhere) named in
       let count : length t.before + (1 + 2) ≡ length (slots ++ data_mask d d) = slots_count t.before t.last slots (data_mask d d) t.slots_are in (
         end,
         subst (λ (v : ℕ). LeadTo v s end) count
             (led_through (length t.before) (1 + 2) s there end r.leads (one, step, mask_leads one d d and_stands or_stands)),
         record {
-          hart = record {
-            pc = ap (λ v. address_after (address_after v 4) 4) pc ∙ omega arith;
-            registers = λ x other. kept x other ∙ left x other;
-          };
+          pc = ap (λ v. address_after (address_after v 4) 4) pc ∙ omega arith;
+          value = value ∙ ap (masked d_at) (left d own);
+          others = λ x other ne. mask_elsewhere one d d x named ne (not_31 x other) ∙ left x other;
           memory = memory ∙ sym (ap (λ (y : Stepped). y.state.memory) w.here);
         },
       );
+  stops = λ c d_at s asked stop. record {
+    before = t.before;
+    last = t.last;
+    rest = data_mask d d;
+    slots_are = ap (λ v. v ++ data_mask d d) t.slots_are ∙ append_assoc t.before (t.last ∷ []) (data_mask d d);
+    does = t.does c d_at s (asked_before c d_at s asked);
+  };
 }
   where
+    asked_before : (c d_at : Span) (s : State) → IsAskedOf i (slots ++ data_mask d d) c d_at s → IsAskedOf i slots c d_at s
+    asked_before c d_at s asked = record {
+      regions = asked.regions;
+      is_state = asked.is_state;
+      reserved = asked.reserved;
+      stand = stand_before i s slots (data_mask d d) asked.stand;
+      keeps = asked.keeps;
+    }
+
     slots_count : (front : List Slot) (last : Slot) (all mask : List Slot) → all ≡ front ++ last ∷ [] → length front + (1 + length mask) ≡ length (all ++ mask)
     slots_count front last all mask e =
         let a = ap (λ v. length (v ++ mask)) e in
@@ -228,28 +252,30 @@ masked_keeps i d slots writer no_jump typed own t first = record {
 
 -- what i leaves is a's value in d
 move_keeps : (i : Instr) (d a : ℕ) → is_data_register d ≡ true → is_own d ≡ false
-    → ((h : Hart) (m : Bytes) → IsState (record { hart = h; memory = m }) → effect i 4 h m ≡ next (with_register (past h 4) d (register h a)) m) → KeepsData d i (data_mask d a)
+    → ((h : Hart) (m : Bytes) → IsState (record { hart = h; memory = m }) → effect (meant i) 4 h m ≡ next (with_register (past h 4) d (register h a)) m) → KeepsData d i (data_mask d a)
 move_keeps i d a typed own moves = record {
-  does = λ c d_at s asked done held.
+  does = λ c d_at s asked done.
       let small = low d typed own in
       let some = not_zero d typed in
       let is = asked.is_state in
       let e = moves s.hart s.memory is in
       let count = is.hart.count in
-      let now : register (effect i 4 s.hart s.memory).state.hart d ≡ register s.hart a =
+      let now : register (effect (meant i) 4 s.hart s.memory).state.hart d ≡ register s.hart a =
       ap (λ (y : Stepped). register y.state.hart d) e ∙ written_here (past s.hart 4) d (register s.hart a) some (omega arith) in
       let end = after_mask s d a in
-      let same = mask_moves c d_at s d a asked.regions is asked.reserved (named_low d some own small) (subst (λ v. Holds d_at v) now held) in (
+      let named = named_low d some own small in (
         end,
         mask_leads s d a asked.stand.0 asked.stand.1.0,
         record {
-          hart = record {
-            pc = (let z : address_after (address_after s.hart.pc 4) 4 ≡ address_after s.hart.pc 8 = omega arith in z);
-            registers = λ x other. same x other ∙ sym (ap (λ (y : Stepped). register y.state.hart x) e);
-          };
+          pc = (let z : address_after (address_after s.hart.pc 4) 4 ≡ address_after s.hart.pc 8 = omega arith in z);
+          value = mask_leaves c d_at s d a asked.regions is asked.reserved named ∙ ap (masked d_at) (sym now);
+          others = λ x other ne.
+              mask_elsewhere s d a x named ne (not_31 x other)
+              ∙ sym (ap (λ (y : Stepped). register y.state.hart x) e ∙ written_elsewhere (past s.hart 4) d (register s.hart a) x some ne);
           memory = sym (ap (λ (y : Stepped). y.state.memory) e);
         },
       );
+  stops = λ c d_at s asked stop. absurd (stop (ap (λ (y : Stepped). y.outcome) (moves s.hart s.memory asked.is_state)));
 }
 
 -- ---- an instruction on the register that it goes by
@@ -259,21 +285,25 @@ record IsBefore (i : Instr) (slots : List Slot) : Type 0 where
   transparent : IsTransparent i slots
   first : is_auipc i ≡ true → transparent.before ≡ []
 
+-- what is asked of the base of an access that gets a mask
+based : (a : ℕ) (d_at : Span) (s : State) → is_data_register a ≡ false → (a == 0) ≡ false → MatchBool (is_data_register a || (a == 0)) (Unit {0}) (Holds d_at (register s.hart a))
+    → Holds d_at (register s.hart a)
+based a d_at s d z keeps =
+    subst (λ (b : Bool). MatchBool b (Unit {0}) (Holds d_at (register s.hart a))) z (subst (λ (b : Bool). MatchBool (b || (a == 0)) (Unit {0}) (Holds d_at (register s.hart a))) d keeps)
+
 load_before : (typed none rvc : Bool) (kind : LoadKind) (rd a : ℕ) (imm : ℤ) (slots : List Slot) → is_data_register a ≡ typed → (a == 0) ≡ none
     → IsAlone rvc (Load kind rd (if typed then a else if none then 26 else 29) imm) slots → IsTransparent (Load kind rd a imm) ((if typed || none then [] else data_mask 29 a) ++ slots)
-load_before true none rvc kind rd a imm slots d z e = alone_transparent (Load kind rd a imm) slots (one_for rvc (Load kind rd a imm) (Load kind rd a imm) slots e)
-load_before false true rvc kind rd a imm slots d z e =
-    subst (λ (b : ℕ). IsTransparent (Load kind rd b imm) slots) (sym (eqb-true a 0 z)) (zero_load_transparent rvc kind rd imm slots e)
-load_before false false rvc kind rd a imm slots d z e =
-    load_transparent rvc kind rd a imm slots e (λ c d_at s keeps. subst (λ (b : Bool). MatchBool b (Unit {0}) (Holds d_at (register s.hart a))) d keeps)
+load_before true true rvc kind rd a imm slots d z e = absurd (not_zero a d (eqb-true a 0 z))
+load_before true false rvc kind rd a imm slots d z e = load_alone rvc kind rd a imm slots (subst (λ (b : Bool). IsAlone rvc (Load kind rd (if b then 26 else a) imm) slots) (sym z) e)
+load_before false true rvc kind rd a imm slots d z e = load_alone rvc kind rd a imm slots (subst (λ (b : Bool). IsAlone rvc (Load kind rd (if b then 26 else a) imm) slots) (sym z) e)
+load_before false false rvc kind rd a imm slots d z e = load_transparent rvc kind rd a imm slots e z (λ c d_at s keeps. based a d_at s d z keeps)
 
 store_before : (typed none rvc : Bool) (width : StoreWidth) (a rs2 : ℕ) (imm : ℤ) (slots : List Slot) → is_own rs2 ≡ false → is_data_register a ≡ typed → (a == 0) ≡ none
     → IsAlone rvc (Store width (if typed then a else if none then 26 else 29) rs2 imm) slots → IsTransparent (Store width a rs2 imm) ((if typed || none then [] else data_mask 29 a) ++ slots)
-store_before true none rvc width a rs2 imm slots own d z e = alone_transparent (Store width a rs2 imm) slots (one_for rvc (Store width a rs2 imm) (Store width a rs2 imm) slots e)
-store_before false true rvc width a rs2 imm slots own d z e =
-    subst (λ (b : ℕ). IsTransparent (Store width b rs2 imm) slots) (sym (eqb-true a 0 z)) (zero_store_transparent rvc width rs2 imm slots e own)
-store_before false false rvc width a rs2 imm slots own d z e =
-    store_transparent rvc width a rs2 imm slots e own (λ c d_at s keeps. subst (λ (b : Bool). MatchBool b (Unit {0}) (Holds d_at (register s.hart a))) d keeps)
+store_before true true rvc width a rs2 imm slots own d z e = absurd (not_zero a d (eqb-true a 0 z))
+store_before true false rvc width a rs2 imm slots own d z e = store_alone rvc width a rs2 imm slots (subst (λ (b : Bool). IsAlone rvc (Store width (if b then 26 else a) rs2 imm) slots) (sym z) e)
+store_before false true rvc width a rs2 imm slots own d z e = store_alone rvc width a rs2 imm slots (subst (λ (b : Bool). IsAlone rvc (Store width (if b then 26 else a) rs2 imm) slots) (sym z) e)
+store_before false false rvc width a rs2 imm slots own d z e = store_transparent rvc width a rs2 imm slots e own z (λ c d_at s keeps. based a d_at s d z keeps)
 
 not_false : (b : Bool) → not b ≡ false → b ≡ true
 not_false true h = refl
@@ -293,7 +323,7 @@ confined_before rvc (Store width a rs2 imm) slots n b e = record {
   first = λ is. absurd (true≢false (sym is));
 }
 confined_before rvc (Jalr rd a imm) slots n b e = record { transparent = jump_before rd a imm slots b e; first = λ is. absurd (true≢false (sym is)) }
-confined_before rvc other slots n b e = record { transparent = alone_transparent other slots (one_for rvc other other slots e); first = λ is. refl }
+confined_before rvc other slots n b e = record { transparent = one_transparent other other slots (one_for rvc other other slots e) refl; first = λ is. refl }
 
 -- ---- any instruction
 
@@ -327,7 +357,7 @@ zero_is (pos n) h = ap pos (eqb-true n 0 h)
 zero_is (negsuc n) h = absurd (true≢false (sym h))
 
 moved_kept : (i j : Instr) (d a : ℕ) → is_data_register d ≡ true → is_own d ≡ false → i ≡ j
-    → ((h : Hart) (m : Bytes) → IsState (record { hart = h; memory = m }) → effect j 4 h m ≡ next (with_register (past h 4) d (register h a)) m) → KeepsData d i (data_mask d a)
+    → ((h : Hart) (m : Bytes) → IsState (record { hart = h; memory = m }) → effect (meant j) 4 h m ≡ next (with_register (past h 4) d (register h a)) m) → KeepsData d i (data_mask d a)
 moved_kept i j d a typed own e moves = subst (λ k. KeepsData d k (data_mask d a)) (sym e) (move_keeps j d a typed own moves)
 
 move_acts : (i : Instr) → names_withheld Sfiw i ≡ false → is_move i ≡ true → ActsAs false i (moved i)
@@ -353,19 +383,19 @@ plain_acts false step rvc i slots m n b h = around_acts rvc step i slots n b h
 
 -- ---- items
 
-waits_for : (i : Instr) (slot : Slot) → slot_size slot ≡ 4 → ((s : State) → SlotStands i s slot → Stands s i 4) → IsBefore i (slot ∷ [])
-waits_for i slot size stands =
+waits_for : (i : Instr) (slot : Slot) → meant i ≡ i → slot_size slot ≡ 4 → ((s : State) → SlotStands i s slot → Stands s i 4) → IsBefore i (slot ∷ [])
+waits_for i slot means size stands =
     let one : IsOneFor i i (slot ∷ []) = record { slot = slot; are = refl; stands = λ s st. subst (λ (n : ℕ). Stands s i n) (sym size) (stands s st) } in
-    record { transparent = alone_transparent i (slot ∷ []) one; first = λ is. refl }
+    record { transparent = one_transparent i i (slot ∷ []) one means; first = λ is. refl }
 
 aimed_acts : (j i : Instr) (name line : ℕ) (step : Bool) (slots : List Slot) → IsAimed j i → is_barred_jump (To j name) ≡ false → slots ≡ Jump j name line ∷ [] → ActsAs step i slots
 aimed_acts (Jal rd offset) i name line step slots a b h =
-    let one = (waits_for (Jal rd a.0) (Jump (Jal rd offset) name line) refl (λ s st. st)).transparent in
+    let one = (waits_for (Jal rd a.0) (Jump (Jal rd offset) name line) refl refl (λ s st. st)).transparent in
     subst (λ (k : Instr). ActsAs step k slots) (sym a.1)
     (subst (λ (t : Bool). MatchBool (t && not step) (KeepsData rd (Jal rd a.0) slots) (IsTransparent (Jal rd a.0) slots)) (sym b)
     (subst (λ (v : List Slot). IsTransparent (Jal rd a.0) v) (sym h) one))
 aimed_acts (Branch cond rs1 rs2 offset) i name line step slots a b h =
-    let one = (waits_for (Branch cond rs1 rs2 a.0) (Jump (Branch cond rs1 rs2 offset) name line) refl (λ s st. st)).transparent in
+    let one = (waits_for (Branch cond rs1 rs2 a.0) (Jump (Branch cond rs1 rs2 offset) name line) refl refl (λ s st. st)).transparent in
     subst (λ (k : Instr). ActsAs step k slots) (sym a.1) (subst (λ (v : List Slot). IsTransparent (Branch cond rs1 rs2 a.0) v) (sym h) one)
 aimed_acts _ i name line step slots a b h = absurd a
 
@@ -385,11 +415,11 @@ body_acts line rvc step (To j name) i slots be n b p h = aimed_acts j i name lin
 body_acts line rvc step (High rd name) i slots be n b p h =
     subst (λ (t : Bool). ActsAs t i slots) (sym (p refl))
     (subst (λ (k : Instr). ActsAs false k slots) (sym be.1)
-    (half_acts (Lui rd be.0) (Upper rd name line) rd slots refl refl n (waits_for (Lui rd be.0) (Upper rd name line) refl (λ s st. st)) h))
+    (half_acts (Lui rd be.0) (Upper rd name line) rd slots refl refl n (waits_for (Lui rd be.0) (Upper rd name line) refl refl (λ s st. st)) h))
 body_acts line rvc step (Low rd name) i slots be n b p h =
     subst (λ (t : Bool). ActsAs t i slots) (sym (p refl))
     (subst (λ (k : Instr). ActsAs false k slots) (sym be.1)
-    (half_acts (OpImm Addi rd rd be.0) (Lower rd name line) rd slots refl refl n (waits_for (OpImm Addi rd rd be.0) (Lower rd name line) refl (λ s st. st)) h))
+    (half_acts (OpImm Addi rd rd be.0) (Lower rd name line) rd slots refl refl n (waits_for (OpImm Addi rd rd be.0) (Lower rd name line) refl refl (λ s st. st)) h))
 
 -- a step is an instruction that names nothing
 no_step : (labelled : Bool) (body other : Body) → is_plain body ≡ false → (not labelled && is_step_to body other) ≡ false

@@ -138,6 +138,6 @@ expanded_known count (x ∷ items) later slots e b =
     (all_marked (IsKnownBoth count) x.labelled e.0 (expansion_known count x.line x.rvc (is_step x (items ++ later)) x.body e.0 e.2 (All-head B x items b)))
     (expanded_known count items later e.1 e.4 (All-tail B x items b)))
 
-pub words_known : (count : ℕ) (items later : List Item) (slots : List Slot) → AreLaidBefore later items slots → All (λ x. IsBody count x.body) items → All (IsKnown count) slots
+pub words_known : (count : ℕ) (items later : List Item) (slots : List Slot) → AreLaidBefore items later slots → All (λ x. IsBody count x.body) items → All (IsKnown count) slots
 words_known count items later slots l b =
     subst (λ v. All (IsKnown count) v) (sym l.2) (all_in_words (IsKnown count) l.0 _ (view l.0) (expanded_known count items later l.0 l.1 b))

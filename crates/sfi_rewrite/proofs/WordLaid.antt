@@ -22,7 +22,7 @@ expanded_one_way (i ∷ items) later a b x y =
     ∙ ap (λ v. marked i.labelled y.0 ++ v) (expanded_one_way items later x.1 y.1 x.4 y.4)
     ∙ sym y.3
 
-pub words_one_way : (later items : List Item) (a b : List Slot) → AreLaidBefore later items a → AreLaidBefore later items b → a ≡ b
+pub words_one_way : (later items : List Item) (a b : List Slot) → AreLaidBefore items later a → AreLaidBefore items later b → a ≡ b
 words_one_way later items a b x y = x.2 ∙ ap (λ v. in_words v) (expanded_one_way items later x.0 y.0 x.1 y.1) ∙ sym y.2
 
 -- ---- the first of the items
@@ -62,7 +62,7 @@ first_split items m j slots h e =
     expanded_split (take m items) (drop m (take j items)) (drop j items) slots (subst (λ v. AreExpanded v (drop j items) slots) parts e)
 
 -- they take no more bytes
-pub first_fits : (items : List Item) (m j : ℕ) (front slots : List Slot) → m ≤ j → AreLaidBefore (drop m items) (take m items) front → AreLaidBefore (drop j items) (take j items) slots
+pub first_fits : (items : List Item) (m j : ℕ) (front slots : List Slot) → m ≤ j → AreLaidBefore (take m items) (drop m items) front → AreLaidBefore (take j items) (drop j items) slots
     → size_of front ≤ size_of slots
 first_fits items m j front slots h f l =
     let s = first_split items m j l.0 h l.1 in
@@ -80,12 +80,12 @@ none_left (x ∷ items) zero h = absurd (omega arith)
 none_left (x ∷ items) (suc n) h = none_left items n (omega arith)
 
 -- all the items are the first of them
-pub all_first : (items : List Item) (slots : List Slot) → AreLaid items slots → AreLaidBefore (drop (length items) items) (take (length items) items) slots
+pub all_first : (items : List Item) (slots : List Slot) → AreLaid items slots → AreLaidBefore (take (length items) items) (drop (length items) items) slots
 all_first items slots l =
-    subst (λ v. AreLaidBefore (drop (length items) items) v slots) (sym (take_all (length items) items (omega arith)))
-    (subst (λ v. AreLaidBefore v items slots) (sym (none_left items (length items) (omega arith))) l)
+    subst (λ v. AreLaidBefore v (drop (length items) items) slots) (sym (take_all (length items) items (omega arith)))
+    (subst (λ v. AreLaidBefore items v slots) (sym (none_left items (length items) (omega arith))) l)
 
-pub laid_aligned : (later items : List Item) (slots : List Slot) → AreLaidBefore later items slots → size_of slots % 4 ≡ 0
+pub laid_aligned : (later items : List Item) (slots : List Slot) → AreLaidBefore items later slots → size_of slots % 4 ≡ 0
 laid_aligned later items slots l = let e = ap size_of l.2 in let a = word_aligned l.0 in omega arith
 
 -- ---- in either kind of code

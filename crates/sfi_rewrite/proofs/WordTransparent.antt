@@ -1,5 +1,6 @@
 -- Each expansion in words does what its instruction does.
-use Rattle.sfi_rewrite.proofs.Prelude.{◌≡◌, ◌≢◌, ℕ, ◌+◌, ◌-◌, ◌*◌, ◌/◌, ◌%◌, ◌^◌, ◌<◌, ◌≤◌, ◌==◌, List, [], ◌∷◌, ◌++◌, Bool, true, false, inl, inr, refl, sym, ap, ◌∙◌, subst, arith, eqb-true, eqb-false, ℤ, pos, bit_and, bit_or, And, Or, LoadKind, Instr, Op, Load, Store, Jalr, code_most, address_after, Hart, State, IsState, register, with_register, with_pc, past, Stands, effect, Slot, Wide, Short, slot_size, IsAlone, AreRegions, SlotStands}
+use Rattle.sfi_rewrite.proofs.Prelude.{◌≡◌, ◌≢◌, ℕ, ◌+◌, ◌-◌, ◌*◌, ◌/◌, ◌%◌, ◌^◌, ◌<◌, ◌≤◌, ◌==◌, List, [], ◌∷◌, ◌++◌, Bool, true, false, inl, inr, refl, sym, ap, ◌∙◌, subst, arith, ℤ, pos, bit_and, bit_or, And, Or, LoadKind, Instr, Op, Load, Store, Jalr, code_most, address_after, Hart, State, IsState, register, with_register, with_pc, past, Stands, effect, Slot, Wide, Short, slot_size, IsAlone, AreRegions, SlotStands}
+use Rattle.std.specs.Prelude.{if◌then◌else◌}
 use Rattle.rv_step.specs.Steps.{further, LeadTo}
 use Rattle.rv_word.specs.Numbers.{offset_by}
 use Rattle.rv_word.specs.declared.instr.StoreWidth.{StoreWidth}
@@ -13,10 +14,11 @@ use Rattle.rv_step.proofs.Facts.{pair_leaves}
 use Rattle.rv_step.proofs.Pairs.{written_here, written_elsewhere}
 use Rattle.sfi_rewrite.specs.Transparency.{SlotsStand}
 use Rattle.sfi_rewrite.specs.words.Expansion.{data_mask}
-use Rattle.sfi_rewrite.specs.words.Transparency.{is_own, HasReserved, IsWordStart, KeepsTo, IsSame, DoesAs, IsTransparent}
-use Rattle.sfi_rewrite.proofs.Unmoved.{unmoved_data, rest_of, in_block}
+use Rattle.sfi_rewrite.specs.words.Transparency.{is_own, HasReserved, IsWordStart, KeepsTo, masked, meant_base, meant, IsSame, DoesAs, IsTransparent}
+use Rattle.sfi_rewrite.proofs.Unmoved.{rest_of, in_block}
 use Rattle.sfi_rewrite.proofs.Transparent.{stands_at, does}
 use Rattle.sfi_rewrite.proofs.Aside.{plus_zero}
+use Rattle.sfi_rewrite.proofs.WordMasks.{masked_data, unmasked_data}
 use Rattle.sfi_rewrite.proofs.WordAside.{Aside, aside_through, aside_own, aside_at, loads_same, stores_same, jumps_same}
 
 -- ---- masks that change nothing
@@ -43,11 +45,6 @@ unmoved_word base size most x region from below aligned =
     ap (λ n. bit_or n base) low ∙ ap (λ n. bit_or (x - q * 2 ^ k) n) base_is
     ∙ in_block q k (x - q * 2 ^ k) (omega arith) ∙ (let z : q * 2 ^ k + (x - q * 2 ^ k) ≡ x = omega arith in z)
 
-pub unmasked_data : (c d : Span) (h : Hart) (x : ℕ) → AreRegions c d → HasReserved c d h → Holds d x → bit_or (bit_and x (register h 27)) (register h 26) ≡ x
-unmasked_data c d h x regions reserved held =
-    ap (λ n. bit_or (bit_and x n) (register h 26)) reserved.data_mask ∙ ap (λ n. bit_or (bit_and x (d.size - 1)) n) reserved.data_base
-    ∙ unmoved_data d.base d.size 256 1048576 x regions.data_placed held.0 held.1
-
 unmasked_word : (c d : Span) (h : Hart) (x : ℕ) → AreRegions c d → HasReserved c d h → IsWordStart c x → bit_or (bit_and x (register h 25)) (register h 24) ≡ x
 unmasked_word c d h x regions reserved start =
     ap (λ n. bit_or (bit_and x n) (register h 24)) reserved.code_mask ∙ ap (λ n. bit_or (bit_and x (c.size - 4)) n) reserved.code_base
@@ -56,8 +53,8 @@ unmasked_word c d h x regions reserved start =
 -- ---- the mask
 
 -- after `and x31, a, x27`
-abbrev masked : State → ℕ → State
-masked s a = record { hart = with_register (past s.hart 4) 31 (bit_and (register s.hart a) (register s.hart 27)); memory = s.memory }
+abbrev offset : State → ℕ → State
+offset s a = record { hart = with_register (past s.hart 4) 31 (bit_and (register s.hart a) (register s.hart 27)); memory = s.memory }
 
 -- after `or d, x31, x26` there
 abbrev placed : State → ℕ → State
@@ -65,24 +62,24 @@ placed s d = record { hart = with_register (past s.hart 4) d (bit_or (register s
 
 -- after the mask
 abbrev pub after_mask : State → ℕ → ℕ → State
-after_mask s d a = placed (masked s a) d
+after_mask s d a = placed (offset s a) d
 
 pub mask_leads : (s : State) (d a : ℕ) → Stands s (Op And 31 a 27) 4 → Stands (further s 4) (Op Or d 31 26) 4 → LeadTo 2 s (after_mask s d a)
 mask_leads s d a first second =
-    let one = masked s a in
+    let one = offset s a in
     (one, does s (Op And 31 a 27) 4 first, (after_mask s d a, does one (Op Or d 31 26) 4 (stands_at (further s 4) one (Op Or d 31 26) 4 refl refl second), refl))
 
 -- x31 has what was masked, and with the base's bits it is in d
 pub mask_value : (s : State) (d a : ℕ) → IsState s → d ≢ 0 → d < 32 → register (after_mask s d a).hart d ≡ bit_or (bit_and (register s.hart a) (register s.hart 27)) (register s.hart 26)
 mask_value s d a is some small =
     let n = is.hart.count in
-    let one = masked s a in
+    let one = offset s a in
     let v = bit_and (register s.hart a) (register s.hart 27) in
-    let offset : register one.hart 31 ≡ v = written_here (past s.hart 4) 31 v (λ e. omega arith) (omega arith) in
+    let kept : register one.hart 31 ≡ v = written_here (past s.hart 4) 31 v (λ e. omega arith) (omega arith) in
     let base : register one.hart 26 ≡ register s.hart 26 = written_elsewhere (past s.hart 4) 31 v 26 (λ e. omega arith) (λ e. omega arith) in
     let count = (aside_own (past s.hart 4) 31 v (λ e. omega arith) refl).count in
     written_here (past one.hart 4) d (bit_or (register one.hart 31) (register one.hart 26)) some (omega arith)
-    ∙ ap (λ x. bit_or x (register one.hart 26)) offset ∙ ap (λ x. bit_or v x) base
+    ∙ ap (λ x. bit_or x (register one.hart 26)) kept ∙ ap (λ x. bit_or v x) base
 
 eight : (pc : ℕ) → address_after (address_after pc 4) 4 ≡ address_after pc 8
 eight pc = omega arith
@@ -90,7 +87,7 @@ eight pc = omega arith
 -- of x29 the mask changes no register but those of the expansions
 mask_aside : (s : State) (a : ℕ) → Aside (after_mask s 29 a).hart (with_pc s.hart (address_after (address_after s.hart.pc 4) 4))
 mask_aside s a =
-    let one = masked s a in
+    let one = offset s a in
     let p = address_after s.hart.pc 4 in
     let q = address_after p 4 in
     let first : Aside one.hart (past s.hart 4) = aside_own (past s.hart 4) 31 (bit_and (register s.hart a) (register s.hart 27)) (λ e. omega arith) refl in
@@ -118,7 +115,7 @@ stays_there pc h = omega arith
 -- what j does from harts with v in b, and else the registers of s, is what i does from these
 abbrev DoesFor : State → Instr → Instr → ℕ → ℕ → ℕ → Type 0
 DoesFor s i j n b v =
-    (h : Hart) → Aside h (with_pc s.hart h.pc) → register h b ≡ v → IsSame (effect j n h s.memory) (effect i n (with_pc s.hart h.pc) s.memory)
+    (h : Hart) → Aside h (with_pc s.hart h.pc) → register h b ≡ v → IsSame (effect j n h s.memory) (effect (meant i) n (with_pc s.hart h.pc) s.memory)
 
 after_base : (s : State) (i j : Instr) (a v : ℕ) (slot : Slot) → IsState s
     → Stands s (Op And 31 a 27) 4 → Stands (further s 4) (Op Or 29 31 26) 4 → Stands (further (further s 4) 4) j (slot_size slot)
@@ -174,23 +171,32 @@ based_transparent i j a slots one held same = record {
       (unmasked_data c d s.hart (register s.hart a) asked.regions asked.reserved (held c d s asked.keeps)) (same s (slot_size one.slot));
 }
 
-pub load_transparent : (rvc : Bool) (kind : LoadKind) (rd a : ℕ) (imm : ℤ) (slots : List Slot) → IsAlone rvc (Load kind rd 29 imm) slots
+-- an access on another register than x0 means itself
+load_meant : (kind : LoadKind) (rd a : ℕ) (imm : ℤ) → (a == 0) ≡ false → meant (Load kind rd a imm) ≡ Load kind rd a imm
+load_meant kind rd a imm some = ap (λ (b : Bool). Load kind rd (if b then 26 else a) imm) some
+
+store_meant : (width : StoreWidth) (a rs2 : ℕ) (imm : ℤ) → (a == 0) ≡ false → meant (Store width a rs2 imm) ≡ Store width a rs2 imm
+store_meant width a rs2 imm some = ap (λ (b : Bool). Store width (if b then 26 else a) rs2 imm) some
+
+pub load_transparent : (rvc : Bool) (kind : LoadKind) (rd a : ℕ) (imm : ℤ) (slots : List Slot) → IsAlone rvc (Load kind rd 29 imm) slots → (a == 0) ≡ false
     → ((c d : Span) (s : State) → KeepsTo c d s.hart (Load kind rd a imm) → Holds d (register s.hart a)) → IsTransparent (Load kind rd a imm) (data_mask 29 a ++ slots)
-load_transparent rvc kind rd a imm slots is held =
+load_transparent rvc kind rd a imm slots is some held =
     based_transparent (Load kind rd a imm) (Load kind rd 29 imm) a slots (one_for rvc (Load kind rd a imm) (Load kind rd 29 imm) slots is) held
-    (λ s n h aside e. loads_same kind rd 29 a imm n h (with_pc s.hart h.pc) s.memory aside e)
+    (λ s n h aside e.
+    subst (λ (k : Instr). IsSame (effect (Load kind rd 29 imm) n h s.memory) (effect k n (with_pc s.hart h.pc) s.memory)) (sym (load_meant kind rd a imm some))
+    (loads_same kind rd 29 a imm n h (with_pc s.hart h.pc) s.memory aside e))
 
-pub store_transparent : (rvc : Bool) (width : StoreWidth) (a rs2 : ℕ) (imm : ℤ) (slots : List Slot) → IsAlone rvc (Store width 29 rs2 imm) slots → is_own rs2 ≡ false
+pub store_transparent : (rvc : Bool) (width : StoreWidth) (a rs2 : ℕ) (imm : ℤ) (slots : List Slot) → IsAlone rvc (Store width 29 rs2 imm) slots → is_own rs2 ≡ false → (a == 0) ≡ false
     → ((c d : Span) (s : State) → KeepsTo c d s.hart (Store width a rs2 imm) → Holds d (register s.hart a)) → IsTransparent (Store width a rs2 imm) (data_mask 29 a ++ slots)
-store_transparent rvc width a rs2 imm slots is other held =
+store_transparent rvc width a rs2 imm slots is other some held =
     based_transparent (Store width a rs2 imm) (Store width 29 rs2 imm) a slots (one_for rvc (Store width a rs2 imm) (Store width 29 rs2 imm) slots is) held
-    (λ s n h aside e. stores_same width 29 a rs2 imm n h (with_pc s.hart h.pc) s.memory aside e other)
+    (λ s n h aside e.
+    subst (λ (k : Instr). IsSame (effect (Store width 29 rs2 imm) n h s.memory) (effect k n (with_pc s.hart h.pc) s.memory)) (sym (store_meant width a rs2 imm some))
+    (stores_same width 29 a rs2 imm n h (with_pc s.hart h.pc) s.memory aside e other))
 
--- one slot, from which j does what i does
-abbrev pub one_transparent : (i j : Instr) (slots : List Slot) → IsOneFor i j slots
-    → ((c d : Span) (s : State) (n : ℕ) → IsState s → HasReserved c d s.hart → KeepsTo c d s.hart i → IsSame (effect j n s.hart s.memory) (effect i n (with_pc s.hart s.hart.pc) s.memory))
-    → IsTransparent i slots
-one_transparent i j slots one same = record {
+-- one slot, in which stands what the instruction means
+abbrev pub one_transparent : (i j : Instr) (slots : List Slot) → IsOneFor i j slots → meant i ≡ j → IsTransparent i slots
+one_transparent i j slots one means = record {
   before = [];
   last = one.slot;
   slots_are = one.are;
@@ -202,34 +208,19 @@ one_transparent i j slots one same = record {
         place = stays_there s.hart.pc asked.is_state.hart.address;
         result = effect j (slot_size one.slot) s.hart s.memory;
         step = does s j (slot_size one.slot) (one.stands s stand.0);
-        same = same c d s (slot_size one.slot) asked.is_state asked.reserved asked.keeps;
+        same =
+            subst (λ (k : Instr). IsSame (effect j (slot_size one.slot) s.hart s.memory) (effect k (slot_size one.slot) (with_pc s.hart s.hart.pc) s.memory)) (sym means)
+            (record { outcome = refl; hart = record { pc = refl; registers = λ x ne. refl }; memory = refl });
       };
 }
 
--- the instruction itself
-abbrev pub alone_transparent : (i : Instr) (slots : List Slot) → IsOneFor i i slots → IsTransparent i slots
-alone_transparent i slots one = one_transparent i i slots one (λ c d s n is reserved keeps. record { outcome = refl; hart = record { pc = refl; registers = λ x ne. refl }; memory = refl })
+pub load_alone : (rvc : Bool) (kind : LoadKind) (rd a : ℕ) (imm : ℤ) (slots : List Slot) → IsAlone rvc (Load kind rd (meant_base a) imm) slots → IsTransparent (Load kind rd a imm) slots
+load_alone rvc kind rd a imm slots is =
+    one_transparent (Load kind rd a imm) (Load kind rd (meant_base a) imm) slots (one_for rvc (Load kind rd a imm) (Load kind rd (meant_base a) imm) slots is) refl
 
--- where x0 lies in the data region, x26 has the same
-zero_based : (c d : Span) (s : State) → IsState s → HasReserved c d s.hart → Holds d (register s.hart 0) → register s.hart 26 ≡ register s.hart 0
-zero_based c d s is reserved held =
-    let z = is.hart.zero in
-    let low = held.0 in
-    reserved.data_base ∙ (let e : d.base ≡ register s.hart 0 = omega arith in e)
-
-here_aside : (h : Hart) → Aside h (with_pc h h.pc)
-here_aside h = record { same = record { pc = refl; registers = λ x ne. refl }; count = refl }
-
-pub zero_load_transparent : (rvc : Bool) (kind : LoadKind) (rd : ℕ) (imm : ℤ) (slots : List Slot) → IsAlone rvc (Load kind rd 26 imm) slots → IsTransparent (Load kind rd 0 imm) slots
-zero_load_transparent rvc kind rd imm slots is =
-    one_transparent (Load kind rd 0 imm) (Load kind rd 26 imm) slots (one_for rvc (Load kind rd 0 imm) (Load kind rd 26 imm) slots is)
-    (λ c d s n state reserved keeps. loads_same kind rd 26 0 imm n s.hart (with_pc s.hart s.hart.pc) s.memory (here_aside s.hart) (zero_based c d s state reserved keeps))
-
-pub zero_store_transparent : (rvc : Bool) (width : StoreWidth) (rs2 : ℕ) (imm : ℤ) (slots : List Slot) → IsAlone rvc (Store width 26 rs2 imm) slots → is_own rs2 ≡ false
-    → IsTransparent (Store width 0 rs2 imm) slots
-zero_store_transparent rvc width rs2 imm slots is other =
-    one_transparent (Store width 0 rs2 imm) (Store width 26 rs2 imm) slots (one_for rvc (Store width 0 rs2 imm) (Store width 26 rs2 imm) slots is)
-    (λ c d s n state reserved keeps. stores_same width 26 0 rs2 imm n s.hart (with_pc s.hart s.hart.pc) s.memory (here_aside s.hart) (zero_based c d s state reserved keeps) other)
+pub store_alone : (rvc : Bool) (width : StoreWidth) (a rs2 : ℕ) (imm : ℤ) (slots : List Slot) → IsAlone rvc (Store width (meant_base a) rs2 imm) slots → IsTransparent (Store width a rs2 imm) slots
+store_alone rvc width a rs2 imm slots is =
+    one_transparent (Store width a rs2 imm) (Store width (meant_base a) rs2 imm) slots (one_for rvc (Store width a rs2 imm) (Store width (meant_base a) rs2 imm) slots is) refl
 
 pub jump_transparent : (rd a : ℕ) → IsTransparent (Jalr rd a (pos 0)) (Wide (Op And 30 a 25) ∷ Wide (Op Or 30 30 24) ∷ Wide (Jalr rd 30 (pos 0)) ∷ [])
 jump_transparent rd a = record {
@@ -250,40 +241,15 @@ pub record IsNamed (d : ℕ) : Type 0 where
   pub own : is_own d ≡ false
 
 -- a register that the mask doesn't write
-mask_elsewhere : (t : State) (d a x : ℕ) → IsNamed d → x ≢ d → x ≢ 31 → register (after_mask t d a).hart x ≡ register t.hart x
+pub mask_elsewhere : (t : State) (d a x : ℕ) → IsNamed d → x ≢ d → x ≢ 31 → register (after_mask t d a).hart x ≡ register t.hart x
 mask_elsewhere t d a x named other apart =
-    let one = masked t a in
+    let one = offset t a in
     written_elsewhere (past one.hart 4) d (bit_or (register one.hart 31) (register one.hart 26)) x named.some other
     ∙ written_elsewhere (past t.hart 4) 31 (bit_and (register t.hart a) (register t.hart 27)) x (λ e. omega arith) apart
 
-not_31 : (x : ℕ) → is_own x ≡ false → x ≢ 31
+pub not_31 : (x : ℕ) → is_own x ≡ false → x ≢ 31
 not_31 x other e = let z = ap is_own e in cc
 
-written_same : (t : State) (d a x : ℕ) (same : Bool) → (x == d) ≡ same → IsState t → IsNamed d → bit_or (bit_and (register t.hart a) (register t.hart 27)) (register t.hart 26) ≡ register t.hart a
-    → is_own x ≡ false → register (after_mask t d a).hart x ≡ register (with_register t.hart d (register t.hart a)) x
-written_same t d a x true is state named e other =
-    let at : x ≡ d = eqb-true x d is in
-    let count = state.hart.count in
-    let low = named.small in
-    subst (λ (y : ℕ). register (after_mask t d a).hart y ≡ register (with_register t.hart d (register t.hart a)) y) (sym at)
-    (mask_value t d a state named.some named.small ∙ e ∙ sym (written_here t.hart d (register t.hart a) named.some (omega arith)))
-written_same t d a x false is state named e other =
-    mask_elsewhere t d a x named (eqb-false x d is) (not_31 x other) ∙ sym (written_elsewhere t.hart d (register t.hart a) x named.some (eqb-false x d is))
-
--- the mask of a number in the data region writes that number, and nothing else but x31
-pub mask_moves : (c d_at : Span) (t : State) (d a : ℕ) → AreRegions c d_at → IsState t → HasReserved c d_at t.hart → IsNamed d → Holds d_at (register t.hart a)
-    → (x : ℕ) → is_own x ≡ false → register (after_mask t d a).hart x ≡ register (with_register t.hart d (register t.hart a)) x
-mask_moves c d_at t d a regions is reserved named held x other =
-    written_same t d a x (x == d) refl is named (unmasked_data c d_at t.hart (register t.hart a) regions reserved held) other
-
-mask_same : (t : State) (d x : ℕ) (same : Bool) → (x == d) ≡ same → IsState t → IsNamed d → bit_or (bit_and (register t.hart d) (register t.hart 27)) (register t.hart 26) ≡ register t.hart d
-    → is_own x ≡ false → register (after_mask t d d).hart x ≡ register t.hart x
-mask_same t d x true is state named e other =
-    let at : x ≡ d = eqb-true x d is in
-    subst (λ (y : ℕ). register (after_mask t d d).hart y ≡ register t.hart y) (sym at) (mask_value t d d state named.some named.small ∙ e)
-mask_same t d x false is state named e other = mask_elsewhere t d d x named (eqb-false x d is) (not_31 x other)
-
--- a data register in the data region stays, and so does each other but x31
-pub mask_keeps : (c d_at : Span) (t : State) (d : ℕ) → AreRegions c d_at → IsState t → HasReserved c d_at t.hart → IsNamed d → Holds d_at (register t.hart d)
-    → (x : ℕ) → is_own x ≡ false → register (after_mask t d d).hart x ≡ register t.hart x
-mask_keeps c d_at t d regions is reserved named held x other = mask_same t d x (x == d) refl is named (unmasked_data c d_at t.hart (register t.hart d) regions reserved held) other
+-- in that one it leaves the address that a masks to
+pub mask_leaves : (c d_at : Span) (t : State) (d a : ℕ) → AreRegions c d_at → IsState t → HasReserved c d_at t.hart → IsNamed d → register (after_mask t d a).hart d ≡ masked d_at (register t.hart a)
+mask_leaves c d_at t d a regions is reserved named = mask_value t d a is named.some named.small ∙ masked_data c d_at t.hart (register t.hart a) regions reserved

@@ -3,7 +3,7 @@ use Rattle.sfi_rewrite.proofs.Prelude.{◌≡◌, ◌%◌, ◌≤◌, Bool, true
 use Rattle.rv_comp.specs.declared.form.Form16.{Form16}
 use Rattle.sfi_rewrite.specs.words.Laying.{Marked, alone, in_words}
 use Rattle.sfi_rewrite.specs.words.Transparency.{AreAsLaid}
-use Rattle.sfi_rewrite.specs.private.Words.{WordsSoFar, so_far, bytes_of, waiting_size, ended, before_label, with_slot, with_more}
+use Rattle.sfi_rewrite.specs.private.Words.{WordsSoFar, so_far, bytes_of, waiting_size, waits, ended, before_label, with_slot, with_more}
 use Rattle.sfi_rewrite.proofs.WordLaying.{slot_leads, ended_leads, ended_last}
 use Rattle.sfi_rewrite.proofs.WordFilled.{slot_bytes, slot_aligned, ended_bytes, ended_aligned, ended_none}
 
@@ -111,6 +111,14 @@ filled : (slots : List Marked) → in_words slots ≡ (ended (fill nothing slots
 filled slots =
     let w = fill nothing slots in
     ap (λ v. in_words v) (sym (append-nil slots)) ∙ fill_leads nothing slots [] ∙ ended_last w.words w.waiting
+
+-- a label begins a word: the words before it are those of the slots before it
+pub words_at_label : (front : List Marked) (s : Slot) (back : List Marked) → in_words (front ++ (true, s) ∷ back) ≡ in_words front ++ in_words ((true, s) ∷ back)
+words_at_label front s back =
+    let w = fill nothing front in
+    let e = ended w.words w.waiting in
+    fill_leads nothing front ((true, s) ∷ back) ∙ ended_leads w.words w.waiting s back ∙ ap (λ o. e.words ++ in_words (waits o ++ (true, s) ∷ back)) (ended_none w.words w.waiting)
+    ∙ ap (λ v. v ++ in_words ((true, s) ∷ back)) (sym (filled front))
 
 word_bytes : (slots : List Marked) → size_of (in_words slots) ≡ bytes_of (fill nothing slots)
 word_bytes slots = ap size_of (filled slots) ∙ ended_bytes (fill nothing slots).words (fill nothing slots).waiting

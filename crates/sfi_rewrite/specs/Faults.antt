@@ -47,7 +47,7 @@ pub record IsTooLarge (f : Format) (end : ℕ) (x : Item) : Type 0 where
   pub next : IsNext f end x nops expanded
   pub beyond : code_most f ≤ end + 2 * nops
 
--- the first of the faults that the item has wherever it stands, in the order of its four
+-- the first of the faults that the item has wherever it stands, in the order of these four lines
 abbrev pub HasItemFault : Format → Item → RewriteFault → Type 0
 HasItemFault f x (ReservedRegister line) = (item_names_withheld f x.body ≡ true) × (line ≡ x.line)
 HasItemFault f x (Ecall line) =

@@ -1,9 +1,13 @@
 -- What holds of every source.
-use Rattle.std.specs.Prelude.{◌≡◌, ◌⊎◌, List}
+use Rattle.std.specs.Prelude.{◌≡◌, ◌⊎◌, ℕ, List, [], ◌∷◌}
+use Rattle.rv_word.specs.declared.instr.RegOp.TheVariants.{Add}
 use Rattle.rv_word.specs.declared.instr.Instr.{Instr}
+use Rattle.rv_step.specs.Values.{result_of}
 use Rattle.sfi_policy.specs.Registers.{stack_pointer}
 use Rattle.sfi_policy.specs.declared.format.Format.{Format}
 use Rattle.sfi_policy.specs.declared.format.Format.TheVariants.{Sfi2, Sfiw}
+use Rattle.sfi_image.specs.declared.span.Span.{Span}
+use Rattle.sfi_image.specs.Spans.{Holds}
 use Rattle.rv_source.specs.declared.item.Item.{Item}
 use Rattle.rv_source.specs.Source.{Sandbox, IsSource}
 use Rattle.sfi_rewrite.specs.declared.slot.Slot.{Slot}
@@ -18,7 +22,7 @@ use Rattle.sfi_rewrite.specs.words.Transparency as words_transparency
 use Rattle.sfi_rewrite.specs.words.Samples as words_samples
 use Rattle.sfi_rewrite.specs.Standing.{StandTransparent}
 use Rattle.sfi_rewrite.specs.Rewriting.{IsRewritten, AreRewritten}
-use Rattle.sfi_rewrite.specs.Transparency.{MayBe, ActsAs}
+use Rattle.sfi_rewrite.specs.Transparency.{AreRegions, MayBe, ActsAs}
 use Rattle.sfi_rewrite.specs.Samples.{MeetsTransparent, MeetsKeepsStack, sample_load, sample_jump, sample_push}
 
 -- an item has at most one expansion in each format
@@ -74,6 +78,14 @@ WordExpansionsAreTransparent =
     → IsPermitted Sfiw x → words.IsExpansion x later slots
     → words_transparency.ActsAs (words.is_step x later) i slots
 
+-- What lies in the data region masks to itself. The mask of a sum is that of the masked number and the
+-- rest: so the halves of an address, each with its mask, leave what the whole masks to.
+abbrev pub MasksCompose : Type 0
+MasksCompose = (code_at data_at : Span) (v w : ℕ) → AreRegions code_at data_at
+    → (Holds data_at v → words_transparency.masked data_at v ≡ v)
+    × (words_transparency.masked data_at (result_of Add (words_transparency.masked data_at v) w)
+    ≡ words_transparency.masked data_at (result_of Add v w))
+
 -- so each item of a source stands transparent in what is placed
 abbrev pub RewrittenIsTransparent : Type 0
 RewrittenIsTransparent = (s : Sandbox) (p : Placement) → IsRewritten s p → StandTransparent s p
@@ -85,10 +97,17 @@ abbrev pub TransparencyCanBeMet : Type 0
 TransparencyCanBeMet = MeetsTransparent Sfi2 sample_load × MeetsTransparent Sfi2 sample_jump
     × MeetsKeepsStack Sfi2 sample_push
 
--- In words, too: in some state the expansion of a load stands, and the load keeps to its sandbox and
--- is done; the same is so of an indirect jump; and in some state that of a write of a data register
--- stands, also of a move to it, and the write leaves it in the data region.
+-- In words, too: in some state the expansion of a load stands, also of one on x0, and the load keeps
+-- to its sandbox and is done; the same is so of an indirect jump and of a step. In some state that of
+-- a write of a data register stands, also of a move to it, and the write leaves it in the data
+-- region; in others a write leaves it outside, and a load into it isn't done.
 abbrev pub WordTransparencyCanBeMet : Type 0
-WordTransparencyCanBeMet = words_samples.MeetsTransparent sample_load × words_samples.MeetsTransparent sample_jump
-    × words_samples.MeetsKeepsData stack_pointer sample_push
-    × words_samples.MeetsKeepsData stack_pointer words_samples.sample_move
+WordTransparencyCanBeMet =
+    words_samples.MeetsTransparent sample_load
+    × words_samples.MeetsTransparent words_samples.sample_low
+    × words_samples.MeetsTransparent sample_jump
+    × words_samples.MeetsStep words_samples.sample_step (words_samples.sample_use ∷ []) sample_push
+    × words_samples.MeetsInside stack_pointer sample_push
+    × words_samples.MeetsInside stack_pointer words_samples.sample_move
+    × words_samples.MeetsOutside stack_pointer words_samples.sample_upper
+    × words_samples.MeetsStop stack_pointer words_samples.sample_pop

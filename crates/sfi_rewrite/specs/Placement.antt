@@ -1,5 +1,5 @@
 -- The placement of a sandbox: its expansions in their places, with names for addresses. What stands
--- in words is kept in bundles of four.
+-- in words is kept in bundles of four words.
 use Rattle.std.specs.Prelude.{◌≡◌, ◌+◌, ◌*◌, ◌≤◌, ◌<◌, ◌++◌, ℕ, List, [], ◌∷◌, length, replicate, Contains, MatchBool}
 use Rattle.std.specs.List.{AllZip}
 use Rattle.sfi_policy.specs.declared.format.Format.{Format}

@@ -1,5 +1,5 @@
 //! What holds of every source. A call costs nothing: it has the statement at hand.
-ghost use Rattle.sfi_rewrite.specs.Laws.{OneExpansion, OneWordExpansion, WordExpansionsAreTransparent, WordTransparencyCanBeMet, OnePlacement, OneRewriting, OneFault, NeverBoth, SomeRewriting, RewrittenIsPlaced, ExpansionsAreTransparent, RewrittenIsTransparent, TransparencyCanBeMet};
+ghost use Rattle.sfi_rewrite.specs.Laws.{OneExpansion, OneWordExpansion, WordExpansionsAreTransparent, WordTransparencyCanBeMet, MasksCompose, OnePlacement, OneRewriting, OneFault, NeverBoth, SomeRewriting, RewrittenIsPlaced, ExpansionsAreTransparent, RewrittenIsTransparent, TransparencyCanBeMet};
 
 /// An item has at most one expansion.
 pub fn one_expansion()
@@ -48,10 +48,15 @@ pub fn expansions_are_transparent()
     ensures { ExpansionsAreTransparent }
 {}
 
-/// In words the expansion of an instruction does what the instruction does, x29 to x31 aside, and
-/// keeps what it leaves in a data register.
+/// In words the expansion of an instruction does what the instruction does, x29 to x31 aside, but
+/// for a data register that it writes: that has its value's offset in the data region.
 pub fn word_expansions_are_transparent()
     ensures { WordExpansionsAreTransparent }
+{}
+
+/// An address of the data region masks to itself, and the masks of an address's halves compose.
+pub fn masks_compose()
+    ensures { MasksCompose }
 {}
 
 /// Each instruction of a source stands transparent in what is placed.

@@ -35,8 +35,8 @@ base_of a =
 abbrev pub makes_base : ℕ → List Slot
 makes_base a = if is_data_register a || (a == 0) then [] else data_mask address_register a
 
--- what stands before the instruction: before an indirect jump the pair by which x30 becomes a word's
--- start in the code region
+-- what stands before the instruction: before an access the mask of its base, if it has one; before an
+-- indirect jump the pair by which x30 becomes a word's start in the code region
 abbrev pub before : Instr → List Slot
 before (Load kind rd a imm) = makes_base a
 before (Store width a rs2 imm) = makes_base a
@@ -73,7 +73,8 @@ abbrev pub is_step_to : Body → Body → Bool
 is_step_to (Plain (OpImm Addi d a k)) (Plain i) = is_data_register d && (a == d) && is_use d i
 is_step_to x y = false
 
--- the item is a step to the first of those after it: no label stands between
+-- The item is a step to the first of those after it: no label stands between. (The rules call any
+-- `addi d, d, k` a step.)
 abbrev pub is_step : Item → List Item → Bool
 is_step x [] = false
 is_step x (y ∷ later) = not y.labelled && is_step_to x.body y.body
@@ -88,16 +89,16 @@ abbrev pub is_zero : ℤ → Bool
 is_zero (pos n) = n == 0
 is_zero (negsuc n) = false
 
--- `addi d, a, 0` or `add d, x0, a` of a data register d
+-- `addi d, a, 0` or `add d, x0, rs2` of a data register d
 abbrev pub is_move : Instr → Bool
 is_move (OpImm Addi d a imm) = is_data_register d && is_zero imm
-is_move (Op Add d b a) = is_data_register d && (b == 0)
+is_move (Op Add d rs1 rs2) = is_data_register d && (rs1 == 0)
 is_move i = false
 
--- the mask of a into d, which does alone what the move and the mask of d after it do
+-- the mask of what is moved into d, which does alone what the move and the mask of d after it do
 abbrev pub moved : Instr → List Slot
 moved (OpImm op d a imm) = data_mask d a
-moved (Op op d b a) = data_mask d a
+moved (Op op d rs1 rs2) = data_mask d rs2
 moved i = []
 
 -- ---- all

@@ -13,7 +13,7 @@ use Rattle.sfi_rewrite.specs.words.Laying.{AreLaidBefore}
 
 -- the slots of the first k of the items, where the others come after them
 abbrev pub AreLaidFirst : ℕ → List Item → List Slot → Type 0
-AreLaidFirst k items slots = AreLaidBefore (drop k items) (take k items) slots
+AreLaidFirst k items slots = AreLaidBefore (take k items) (drop k items) slots
 
 -- the first k of the items have no fault: a code region has room for their slots
 pub record AreFaultless (k : ℕ) (items : List Item) : Type 0 where

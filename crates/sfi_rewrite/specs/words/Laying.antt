@@ -28,8 +28,8 @@ abbrev pub alone : Slot → Slot
 alone (Short f) = Wide (expansion f)
 alone s = s
 
--- The slots in words: of 16-bit forms two share a word, unless a label stands before the second,
--- and what doesn't has a word alone. So each label is at a word's start, and no c.nop is needed.
+-- The slots in words: of 16-bit forms two share a word, unless a label stands before the second; any
+-- other slot has a word alone. So each label is at a word's start, and no c.nop is needed.
 abbrev pub in_words : List Marked → List Slot
 in_words [] = []
 in_words ((labelled, Short f) ∷ (false, Short g) ∷ slots) = Short f ∷ Short g ∷ in_words slots
@@ -37,15 +37,15 @@ in_words ((labelled, s) ∷ slots) = alone s ∷ in_words slots
 
 -- the slots of items, before other items
 abbrev pub AreLaidBefore : List Item → List Item → List Slot → Type 0
-AreLaidBefore later items slots =
+AreLaidBefore items later slots =
     (expanded : List Marked) × AreExpanded items later expanded × (slots ≡ in_words expanded)
 
 -- the slots of all the items
 abbrev pub AreLaid : List Item → List Slot → Type 0
-AreLaid items slots = AreLaidBefore [] items slots
+AreLaid items slots = AreLaidBefore items [] slots
 
 -- what a label before item k names: the end of what stands before it
 abbrev pub IsLabelAt : List Item → ℕ → ℕ → Type 0
 IsLabelAt items k place =
-    (before : List Slot) × AreLaidBefore (drop k items) (take k items) before
+    (before : List Slot) × AreLaidBefore (take k items) (drop k items) before
     × (place ≡ size_of before)

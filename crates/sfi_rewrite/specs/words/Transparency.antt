@@ -1,7 +1,7 @@
 -- What an expansion in words does: within its sandbox it does what its instruction does, the three
--- registers aside that the expansions write; after an instruction that writes a data register, what
--- that leaves in the data region stays.
-use Rattle.std.specs.Prelude.{◌≡◌, ◌+◌, ◌%◌, ◌==◌, ◌||◌, ◌++◌, ℕ, Bool, false, MatchBool, List, [], ◌∷◌, length, map, take, drop, Some, Option, None, not, ◌&&◌, ◌⊎◌}
+-- registers aside that the expansions write; a data register that the instruction writes has the
+-- address of the data region that its value masks to.
+use Rattle.std.specs.Prelude.{◌≡◌, ◌≢◌, ◌+◌, ◌%◌, ◌==◌, ◌||◌, ◌++◌, ℕ, Bool, true, false, MatchBool, List, [], ◌∷◌, length, map, take, drop, Some, Option, None, not, ◌&&◌, ◌⊎◌, if◌then◌else◌}
 use Rattle.std.specs.List.{AllZip}
 use Rattle.rv_word.specs.Numbers.{offset_by}
 use Rattle.rv_word.specs.declared.instr.Instr.{Instr}
@@ -25,7 +25,7 @@ use Rattle.sfi_rewrite.specs.Slots.{slot_size, size_of, slots_of}
 use Rattle.sfi_rewrite.specs.Placement.{Placement}
 use Rattle.sfi_rewrite.specs.Transparency.{AreRegions, SlotsStand, MayBe}
 use Rattle.sfi_rewrite.specs.words.Expansion.{IsExpansion, is_step}
-use Rattle.sfi_rewrite.specs.words.Laying.{Marked, alone, AreExpanded}
+use Rattle.sfi_rewrite.specs.words.Laying.{Marked, alone, AreExpanded, AreLaidBefore}
 
 -- ---- the sandbox
 
@@ -40,23 +40,43 @@ pub record HasReserved (code_at data_at : Span) (h : Hart) : Type 0 where
   pub data_base : register h data_base_register ≡ (reserved_for (unit Sfiw) code_at data_at).data_base
   pub data_mask : register h data_mask_register ≡ (reserved_for (unit Sfiw) code_at data_at).data_mask
 
--- the base of an access lies in the data region; of one on a data register nothing is asked
+-- the base of an access lies in the data region; of one on a data register or on x0 nothing is asked
 abbrev pub IsBased : Span → Hart → ℕ → Type 0
-IsBased data_at h a = MatchBool (is_data_register a) (Unit {0}) (Holds data_at (register h a))
+IsBased data_at h a =
+    MatchBool (is_data_register a || (a == 0)) (Unit {0}) (Holds data_at (register h a))
 
 -- the address is a word's start of the code region
 abbrev pub IsWordStart : Span → ℕ → Type 0
 IsWordStart code_at a = Holds code_at a × (a % unit Sfiw ≡ 0)
 
--- The instruction keeps to the sandbox: the base of a load or store lies in the data region, whatever
--- its offset adds, and a jalr goes to a word's start. Of any other instruction nothing is asked.
+-- The instruction keeps to the sandbox: the base of a load or store, other than a data register and
+-- x0, lies in the data region, whatever the offset adds, and a jalr goes to a word's start. Of any
+-- other instruction nothing is asked.
 abbrev pub KeepsTo : Span → Span → Hart → Instr → Type 0
 KeepsTo code_at data_at h (Load kind rd a imm) = IsBased data_at h a
 KeepsTo code_at data_at h (Store width a rs2 imm) = IsBased data_at h a
 KeepsTo code_at data_at h (Jalr rd a imm) = IsWordStart code_at (offset_by (register h a) imm)
 KeepsTo code_at data_at h i = Unit {0}
 
+-- the address of the data region with the offset of v
+abbrev pub masked : Span → ℕ → ℕ
+masked data_at v = data_at.base + v % data_at.size
+
+-- x26 for x0, since no image's data region holds 0, and a masked 0 is the region's first address
+abbrev pub meant_base : ℕ → ℕ
+meant_base a = if a == 0 then data_base_register else a
+
+-- what the instruction means in a sandbox: an access on x0 is one on x26, any other is itself
+abbrev pub meant : Instr → Instr
+meant (Load kind rd a imm) = Load kind rd (meant_base a) imm
+meant (Store width a rs2 imm) = Store width (meant_base a) rs2 imm
+meant i = i
+
 -- ---- what it does
+
+-- what the instruction, as it is meant, does in the state, where it has 4 bytes
+abbrev pub effect_in : State → Instr → Stepped
+effect_in s i = effect (meant i) 4 s.hart s.memory
 
 -- the harts have one pc, and the same in each register but those of the expansions
 pub record IsSameHart (h k : Hart) : Type 0 where
@@ -80,15 +100,15 @@ pub record IsAskedOf (i : Instr) (slots : List Slot) (code_at data_at : Span)
   pub keeps : KeepsTo code_at data_at s.hart i
 
 -- From this state the steps of the slots before the last are done, and lead to the last one's
--- place. The step there comes to what i does, if it stood there with the last one's length, on the
--- registers and the memory of this state.
+-- place. The step there comes to what i, as it is meant, does, if it stood there with the last one's
+-- length, on the registers and the memory of this state.
 pub record DoesAs (s : State) (i : Instr) (before : List Slot) (last : Slot) : Type 0 where
   pub there : State
   pub leads : LeadTo (length before) s there
   pub place : there.hart.pc ≡ address_after s.hart.pc (size_of before)
   pub result : Stepped
   pub step : IsStep there result
-  pub same : IsSame result (effect i (slot_size last) (with_pc s.hart there.hart.pc) s.memory)
+  pub same : IsSame result (effect (meant i) (slot_size last) (with_pc s.hart there.hart.pc) s.memory)
 
 -- the slots are transparent to the instruction, which the last of them is
 pub record IsTransparent (i : Instr) (slots : List Slot) : Type 0 where
@@ -98,24 +118,39 @@ pub record IsTransparent (i : Instr) (slots : List Slot) : Type 0 where
   pub does : (code_at data_at : Span) (s : State) → IsAskedOf i slots code_at data_at s
       → DoesAs s i before last
 
--- the state after all the slots, where i leaves that of this step
-pub record IsLeft (q : Stepped) (pc : ℕ) (t : State) : Type 0 where
-  pub hart : IsSameHart t.hart (with_pc q.state.hart pc)
+-- The state after all the slots, where an instruction that writes d leaves that of this step: d has
+-- the address of the data region with the offset of what the instruction leaves there, which is that
+-- itself if it lies in the region. All else is as the instruction leaves it.
+pub record IsLeft (data_at : Span) (d : ℕ) (q : Stepped) (end : ℕ) (t : State) : Type 0 where
+  pub pc : t.hart.pc ≡ end
+  pub value : register t.hart d ≡ masked data_at (register q.state.hart d)
+  pub others : (x : ℕ) → is_own x ≡ false → x ≢ d → register t.hart x ≡ register q.state.hart x
   pub memory : t.memory ≡ q.state.memory
 
--- The slots keep what i leaves: wherever they stand, from any state in which i is done and leaves its
--- data register d in the data region, each of their steps is done, and they leave the registers and
--- the memory that i leaves, and the pc after all of them.
+-- From this state the slots stop as i does: the steps of those before one of them are done, and the
+-- step there comes to what i, as it is meant, does.
+pub record StopAs (s : State) (i : Instr) (slots : List Slot) : Type 0 where
+  pub before : List Slot
+  pub last : Slot
+  pub rest : List Slot
+  pub slots_are : slots ≡ before ++ last ∷ rest
+  pub does : DoesAs s i before last
+
+-- The slots keep what i leaves: wherever they stand, from any state in which i, as it is meant, is
+-- done, each of their steps is done, and they leave what it leaves, but for its data register d, which
+-- is masked, and the pc, which is after all of them. Where it isn't done, they stop as it does.
 pub record KeepsData (d : ℕ) (i : Instr) (slots : List Slot) : Type 0 where
   pub does :
       (code_at data_at : Span) (s : State) → IsAskedOf i slots code_at data_at s
-      → (effect i 4 s.hart s.memory).outcome ≡ Next
-      → Holds data_at (register (effect i 4 s.hart s.memory).state.hart d)
+      → (effect_in s i).outcome ≡ Next
       → (t : State) × LeadTo (length slots) s t
-      × IsLeft (effect i 4 s.hart s.memory) (address_after s.hart.pc (size_of slots)) t
+      × IsLeft data_at d (effect_in s i) (address_after s.hart.pc (size_of slots)) t
+  pub stops :
+      (code_at data_at : Span) (s : State) → IsAskedOf i slots code_at data_at s
+      → (effect_in s i).outcome ≢ Next → StopAs s i slots
 
--- what slots are to an instruction with that destination, which is a step or not; a step's are
--- transparent: it stands as it is, and so does the access after it
+-- what slots are to an instruction with that destination, which is a step or not: a step's are
+-- transparent, as it stands without a mask
 abbrev pub ActsBy : Option ℕ → Bool → Instr → List Slot → Type 0
 ActsBy None step i slots = IsTransparent i slots
 ActsBy (Some d) step i slots =
@@ -135,7 +170,7 @@ abbrev pub AreAsLaid : List Slot → List Slot → Type 0
 AreAsLaid slots laid = AllZip IsAsLaid slots laid
 
 -- the expansion of item k in its place, after those of the items before it, some 16-bit forms in
--- 32 bits, which acts as whatever the item may be
+-- 32 bits, which acts as whatever the item may be; after a label it stands where the label names
 pub record StandsTransparent (items : List Item) (p : Placement) (k : ℕ) (x : Item) : Type 0 where
   pub before : List Slot
   pub own : List Slot
@@ -144,6 +179,7 @@ pub record StandsTransparent (items : List Item) (p : Placement) (k : ℕ) (x : 
   pub earlier : List Marked
   pub are_earlier : AreExpanded (take k items) (drop k items) earlier
   pub stand_earlier : AreAsLaid (map (λ m. m.1) earlier) before
+  pub at_label : x.labelled ≡ true → AreLaidBefore (take k items) (drop k items) before
   pub expanded : List Slot
   pub is_expansion : IsExpansion x (drop (k + 1) items) expanded
   pub stands : AreAsLaid expanded own

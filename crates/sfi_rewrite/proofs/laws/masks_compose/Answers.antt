@@ -1,0 +1,5 @@
+use Rattle.sfi_rewrite.proofs.WordMasks as masks
+use Rattle.sfi_rewrite.proofs.laws.masks_compose.Goals as goal
+
+pub returns : goal.returns
+returns c = masks.masks_compose
