@@ -1,6 +1,5 @@
 -- From the code of each sandbox to the image.
-use Rattle.sfi_link.proofs.Prelude.{◌≡◌, ℕ, zero, suc, false, ◌+◌, ◌-◌, ◌*◌, ◌/◌, ◌^◌, ◌<◌, ◌≤◌, List, [], ◌∷◌, ◌++◌, length, take, drop, get_or, replicate, refl, sym, ap, ◌∙◌, subst, arith, append_assoc, append-nil, length-append, inl, inr, Vec, Global, max, map, Result, Ok, Err, IfOk, All, AllPairs, repeat, cases_lt, length-map, length-take-le, map_push, All-nil, Format, code_most, Sandbox, Span, Part, fields_of, stub, PlacedName, size_of, slots_of, Placement, IsPlacedPart, IsPlacedThere, Place, Bases, LinkFault, place_of, IsRightPlace, spans_at, AreApart, spans, spans_of, bases_of, AreSlots, c_ebreak, needed, HasRoom, IsCodeSize, gates_from, IsLinkedCode, IsLinked, AreLinkedFrom, AreLinked, MayLie, IsSlotFault, HasPartFault, IsPartFault, IsLinkFault, IsNear, AreNear, HasRoomFor, AreWritten, LiesBeside, IsCodeBeside, AreCodes, Links}
-use Rattle.sfi_policy.specs.Formats.{has_words}
+use Rattle.sfi_link.proofs.Prelude.{◌≡◌, ℕ, zero, suc, ◌+◌, ◌-◌, ◌*◌, ◌/◌, ◌^◌, ◌<◌, ◌≤◌, List, [], ◌∷◌, ◌++◌, length, take, drop, get_or, replicate, refl, sym, ap, ◌∙◌, subst, arith, append_assoc, append-nil, length-append, inl, inr, Vec, Global, max, map, Result, Ok, Err, IfOk, All, AllPairs, repeat, cases_lt, length-map, length-take-le, map_push, All-nil, Format, code_most, Sandbox, Span, Part, fields_of, stub_of, PlacedName, size_of, slots_of, Placement, IsPlacedPart, IsPlacedThere, Place, Bases, LinkFault, place_of, IsRightPlace, spans_at, AreApart, spans, spans_of, bases_of, AreSlots, c_ebreak, needed, HasRoom, IsCodeSize, gates_from, IsLinkedCode, IsLinked, AreLinkedFrom, AreLinked, MayLie, IsSlotFault, HasPartFault, IsPartFault, IsLinkFault, IsNear, AreNear, HasRoomFor, AreWritten, LiesBeside, IsCodeBeside, AreCodes, Links}
 use Rattle.rv_source.specs.declared.item.SourceGate.{SourceGate}
 use Rattle.sfi_image.specs.Bounded.{IsBounded}
 use Rattle.sfi_link.specs.Answers.{UnlessMemory, AnswersItems, AnswersFault}
@@ -16,7 +15,7 @@ use Rattle.sfi_rewrite.specs.declared.placed.PlacedName.TheVariants as name
 use Rattle.sfi_link.specs.declared.fault.LinkFault.TheVariants as named
 use Rattle.sfi_link.proofs.Unless.{memory_or, then_unless}
 use Rattle.sfi_rewrite.proofs.Sizes.{size_even}
-use Rattle.sfi_link.proofs.Region.{length_stubs}
+use Rattle.sfi_link.proofs.Stubs.{length_stubs}
 use Rattle.sfi_link.proofs.Parts.{sixteens, well_placed}
 use Rattle.sfi_link.proofs.Pushed.{slots-append, split_at, written_length, fill_slots}
 use Rattle.sfi_link.proofs.OneLinking.{one_size, own_spans, one_linking, one_fault, never_both}
@@ -99,13 +98,13 @@ length_pairs zero = refl
 length_pairs (suc n) = let h = length_pairs n in omega arith
 
 -- the stubs, the slots and so many c.ebreaks that the size is reached
-pub linked_code : (given : List Place) → (number : ℕ) (p : Placement) (at : Bases) (size fill : ℕ) (stubs now code : List ℕ) → has_words p.format ≡ false → at ≡ bases_of given number p → IsCodeSize p.format (needed p) size
-    → stubs ≡ repeat (length p.gates) stub → AreWritten at p.names (slots_of p.bundles) stubs now → fill ≡ (size - length now) / 2 → code ≡ now ++ repeat fill pair
+pub linked_code : (given : List Place) → (number : ℕ) (p : Placement) (at : Bases) (size fill : ℕ) (stubs now code : List ℕ) → at ≡ bases_of given number p → IsCodeSize p.format (needed p) size
+    → stubs ≡ repeat (length p.gates) (stub_of p.format) → AreWritten at p.names (slots_of p.bundles) stubs now → fill ≡ (size - length now) / 2 → code ≡ now ++ repeat fill pair
     → IsLinkedCode given number p code
-linked_code given number p at size fill stubs now code bundled is sized stubs_are written count code_is =
+linked_code given number p at size fill stubs now code is sized stubs_are written count code_is =
     let room = sized.has_room.room in
     let sixteen = (sixteens p.format (needed p) size sized.has_room).1 in
-    let stubs_long : length stubs ≡ 16 * length p.gates = ap length stubs_are ∙ length_stubs (length p.gates) in
+    let stubs_long : length stubs ≡ 16 * length p.gates = ap length stubs_are ∙ length_stubs p.format (length p.gates) in
     let now_long = written_length at p.names (slots_of p.bundles) stubs now written in
     let even = size_even (slots_of p.bundles) in
     let filled = length_pairs fill in
@@ -117,26 +116,25 @@ linked_code given number p at size fill stubs now code bundled is sized stubs_ar
     subst (λ n. AreSlots at p.names n (slots_of p.bundles ++ replicate fill c_ebreak) (written.bytes ++ repeat fill pair)) start
     (slots-append at p.names (at.code + length stubs) (slots_of p.bundles) (replicate fill c_ebreak) written.bytes (repeat fill pair) written.spelled (fill_slots at p.names _ fill)) in
     record {
-      bundled = bundled;
       size = subst (IsCodeSize p.format (needed p)) (sym whole) sized;
       fill = fill;
       bytes = written.bytes ++ repeat fill pair;
       slots = subst (λ b. AreSlots b p.names b.start (slots_of p.bundles ++ replicate fill c_ebreak) (written.bytes ++ repeat fill pair)) is slots;
-      code_is = code_is ∙ ap (λ l. l ++ repeat fill pair) (written.appended ∙ ap (λ l. l ++ written.bytes) stubs_are) ∙ append_assoc (repeat (length p.gates) stub) written.bytes (repeat fill pair);
+      code_is = code_is ∙ ap (λ l. l ++ repeat fill pair) (written.appended ∙ ap (λ l. l ++ written.bytes) stubs_are) ∙ append_assoc (repeat (length p.gates) (stub_of p.format)) written.bytes (repeat fill pair);
     }
 
 -- what the slots need has room in the region
-pub written_within : (p : Placement) (at : Bases) (size : ℕ) (stubs now : List ℕ) → IsCodeSize p.format (needed p) size → stubs ≡ repeat (length p.gates) stub → AreWritten at p.names (slots_of p.bundles) stubs now → length now ≤ size
+pub written_within : (p : Placement) (at : Bases) (size : ℕ) (stubs now : List ℕ) → IsCodeSize p.format (needed p) size → stubs ≡ repeat (length p.gates) (stub_of p.format) → AreWritten at p.names (slots_of p.bundles) stubs now → length now ≤ size
 written_within p at size stubs now sized stubs_are written =
     let room = sized.has_room.room in
-    let a = ap length stubs_are ∙ length_stubs (length p.gates) in
+    let a = ap length stubs_are ∙ length_stubs p.format (length p.gates) in
     let b = written_length at p.names (slots_of p.bundles) stubs now written in
     omega arith
 
 pub code_room : (given : List Place) (number : ℕ) (p : Placement) (at : Bases) (size : ℕ) (stubs : List ℕ) → HasRoom p.format (needed p) size → IsRightPlace p size (place_of given number) → at ≡ bases_of given number p
-    → stubs ≡ repeat (length p.gates) stub → HasRoomFor at (length stubs) (size_of (slots_of p.bundles))
+    → stubs ≡ repeat (length p.gates) (stub_of p.format) → HasRoomFor at (length stubs) (size_of (slots_of p.bundles))
 code_room given number p at size stubs room lies is stubs_are =
-    let a = ap length stubs_are ∙ length_stubs (length p.gates) in
+    let a = ap length stubs_are ∙ length_stubs p.format (length p.gates) in
     let b = ap (λ (b : Bases). b.code) is in
     let end = (well_placed p size (place_of given number) lies).0 in
     let fits = room.room in
@@ -144,20 +142,20 @@ code_room given number p at size stubs room lies is stubs_are =
     let bound = code_at_most p.format in
     record { below = omega arith; within = omega arith }
 
-pub part_refused : (given : List Place) → (number : ℕ) (p : Placement) (before : List Span) (at : Bases) (stubs : List ℕ) (f : LinkFault) → has_words p.format ≡ false → at ≡ bases_of given number p → MayLie given number p before → stubs ≡ repeat (length p.gates) stub
+pub part_refused : (given : List Place) → (number : ℕ) (p : Placement) (before : List Span) (at : Bases) (stubs : List ℕ) (f : LinkFault) → at ≡ bases_of given number p → MayLie given number p before → stubs ≡ repeat (length p.gates) (stub_of p.format)
     → UnlessMemory (IsSlotFault at p.names (at.code + length stubs) (slots_of p.bundles)) f → UnlessMemory (HasPartFault given number p before) f
-part_refused given number p before at stubs f bundled is may stubs_are h =
-    let a : length stubs ≡ 16 * length p.gates = ap length stubs_are ∙ length_stubs (length p.gates) in
+part_refused given number p before at stubs f is may stubs_are h =
+    let a : length stubs ≡ 16 * length p.gates = ap length stubs_are ∙ length_stubs p.format (length p.gates) in
     let b = ap (λ (b : Bases). b.code) is in
     let start : at.code + length stubs ≡ (bases_of given number p).start = omega (arith, a, b) in
     let Slots : Bases → ℕ → LinkFault → Type 0 = λ c n g. IsSlotFault c p.names n (slots_of p.bundles) g in
     then_unless (Slots at (at.code + length stubs)) (HasPartFault given number p before)
-    (λ g x. inr (bundled, inr (inr (may, subst (λ (c : Bases). Slots c (bases_of given number p).start g) is (subst (λ n. Slots at n g) start x))))) f h
+    (λ g x. inr (inr (may, subst (λ (c : Bases). Slots c (bases_of given number p).start g) is (subst (λ n. Slots at n g) start x)))) f h
 
 -- what is known of the sandbox that lies beside those spans, or doesn't
-pub place_refused : (given : List Place) (number : ℕ) (p : Placement) (size : ℕ) (before : List Span) → has_words p.format ≡ false → IsCodeSize p.format (needed p) size
+pub place_refused : (given : List Place) (number : ℕ) (p : Placement) (size : ℕ) (before : List Span) → IsCodeSize p.format (needed p) size
     → (IsRightPlace p size (place_of given number) → ¬ AllPairs AreApart (before ++ spans_at p size (place_of given number))) → HasPartFault given number p before (named.Place number)
-place_refused given number p size before bundled sized wrong = inr (bundled, inr (inl (λ large. large size sized.has_room, not_there, refl)))
+place_refused given number p size before sized wrong = inr (inl (λ large. large size sized.has_room, not_there, refl))
   where
     not_there : MayLie given number p before → ⊥
     not_there may =

@@ -1,13 +1,11 @@
 -- One list of sandboxes is made of what is placed, or it has one fault.
-use Rattle.sfi_link.proofs.Prelude.{append_assoc, ◌≡◌, ℕ, ◌+◌, ◌*◌, ◌≤◌, List, [], ◌∷◌, ◌++◌, length, replicate, Option, Some, None, sym, ap, ◌∙◌, subst, arith, inl, inr, length-append, pos, ◌-ℤ◌, repeat, w32, to_le_bytes, Instr, InRange, spelling, Format, Part, fields_of, stub, Slot, Wide, Short, Jump, Upper, Lower, PlacedName, slot_size, size_of, slots_of, Placement, Place, Bases, LinkFault, bases_of, address_at, target_at, with_offset, made_of, IsSlot, AreSlots, place_of, spans_at, Span, AreApart, with_guards, spans_of, spans, AllPairs, c_ebreak, needed, IsCodeSize, IsLinkedCode, IsLinked, AreLinkedFrom, AreLinked, HasSlotFault, IsSlotFault, HasPartFault, IsPartFault, IsLinkFault}
-use Rattle.std.proofs.lemmas.Bool.{true≢false}
-use Rattle.sfi_link.specs.Faults.{HasBundledFault}
+use Rattle.sfi_link.proofs.Prelude.{append_assoc, ◌≡◌, ℕ, ◌+◌, ◌*◌, ◌≤◌, List, [], ◌∷◌, ◌++◌, length, replicate, Option, Some, None, sym, ap, ◌∙◌, subst, arith, inl, inr, length-append, pos, ◌-ℤ◌, repeat, w32, to_le_bytes, Instr, InRange, spelling, Format, Part, fields_of, stub_of, Slot, Wide, Short, Jump, Upper, Lower, PlacedName, slot_size, size_of, slots_of, Placement, Place, Bases, LinkFault, bases_of, address_at, target_at, with_offset, made_of, IsSlot, AreSlots, place_of, spans_at, Span, AreApart, with_guards, spans_of, spans, AllPairs, c_ebreak, needed, IsCodeSize, IsLinkedCode, IsLinked, AreLinkedFrom, AreLinked, HasSlotFault, IsSlotFault, HasPartFault, IsPartFault, IsLinkFault}
 use Rattle.std.proofs.lemmas.Option.{none-some}
 use Rattle.sfi_image.proofs.SpanLists.{front_apart}
 use Rattle.sfi_rewrite.proofs.Sizes.{size_of-append}
 use Rattle.sfi_link.proofs.Sizes.{size_fill}
 use Rattle.sfi_link.proofs.CleanPlaces.{some_same}
-use Rattle.sfi_link.proofs.Region.{length_stubs}
+use Rattle.sfi_link.proofs.Stubs.{length_stubs}
 use Rattle.sfi_link.proofs.Parts.{slots_length}
 
 -- ---- bytes
@@ -26,8 +24,8 @@ one_size f bytes m n a b = let x = a.least n b.has_room in let y = b.least m a.h
 
 code_length : (given : List Place) → (number : ℕ) (p : Placement) (code : List ℕ) (c : IsLinkedCode given number p code) → length code ≡ 16 * length p.gates + (size_of (slots_of p.bundles) + 2 * c.fill)
 code_length given number p code c =
-    let a = ap length c.code_is ∙ length-append (repeat (length p.gates) stub) c.bytes in
-    let b = length_stubs (length p.gates) in
+    let a = ap length c.code_is ∙ length-append (repeat (length p.gates) (stub_of p.format)) c.bytes in
+    let b = length_stubs p.format (length p.gates) in
     let d = slots_length _ _ _ _ c.bytes c.slots in
     let e = size_of-append (slots_of p.bundles) (replicate c.fill c_ebreak) in
     let f = size_fill c.fill in
@@ -41,7 +39,7 @@ one_code given number p xs ys a b =
     let fill : a.fill ≡ b.fill = omega arith in
     let at = bases_of given number p in
     let moved = subst (λ n. AreSlots at p.names at.start (slots_of p.bundles ++ replicate n c_ebreak) a.bytes) fill a.slots in
-    a.code_is ∙ ap (λ l. repeat (length p.gates) stub ++ l) (one_slots at p.names at.start (slots_of p.bundles ++ replicate b.fill c_ebreak) a.bytes b.bytes moved b.slots) ∙ sym b.code_is
+    a.code_is ∙ ap (λ l. repeat (length p.gates) (stub_of p.format) ++ l) (one_slots at p.names at.start (slots_of p.bundles ++ replicate b.fill c_ebreak) a.bytes b.bytes moved b.slots) ∙ sym b.code_is
 
 -- ---- sandboxes
 
@@ -118,39 +116,28 @@ own_spans given number p q linked = of q.code_base q.data_base q.data_size _ _ _
     of : (a b c x y z : ℕ) → a ≡ x → b ≡ y → c ≡ z → two a b c ≡ two x y z
     of a b c x y z e f g = ap (λ n. two n b c) e ∙ ap (λ n. two x n c) f ∙ ap (λ n. two x y n) g
 
-never_bundled : (given : List Place) → (number : ℕ) (p : Placement) (q : Part) (before : List Span) (f : LinkFault) → IsLinked given number p q → AllPairs AreApart (before ++ spans_of (fields_of q))
-    → HasBundledFault given number p before f → ⊥
-never_bundled given number p q before f linked apart (inl h) = h.0 (length q.code) linked.code.size.has_room
-never_bundled given number p q before f linked apart (inr (inl h)) =
+never_part : (given : List Place) → (number : ℕ) (p : Placement) (q : Part) (before : List Span) (f : LinkFault) → IsLinked given number p q → AllPairs AreApart (before ++ spans_of (fields_of q))
+    → HasPartFault given number p before f → ⊥
+never_part given number p q before f linked apart (inl h) = h.0 (length q.code) linked.code.size.has_room
+never_part given number p q before f linked apart (inr (inl h)) =
     h.1 (record {
       size = length q.code;
       least = linked.code.size;
       right = linked.lies;
       apart = subst (λ l. AllPairs AreApart (before ++ l)) (own_spans given number p q linked) apart;
     })
-never_bundled given number p q before f linked apart (inr (inr h)) = never_slots _ _ _ (slots_of p.bundles) (replicate linked.code.fill c_ebreak) linked.code.bytes f linked.code.slots h.1
-
-one_of_bundled : (given : List Place) → (number : ℕ) (p : Placement) (before : List Span) (f g : LinkFault) → HasBundledFault given number p before f → HasBundledFault given number p before g → f ≡ g
-one_of_bundled given number p before f g (inl a) (inl b) = a.1 ∙ sym b.1
-one_of_bundled given number p before f g (inl a) (inr (inl b)) = absurd (b.0 a.0)
-one_of_bundled given number p before f g (inl a) (inr (inr b)) = absurd (a.0 b.0.size b.0.least.has_room)
-one_of_bundled given number p before f g (inr (inl a)) (inl b) = absurd (a.0 b.0)
-one_of_bundled given number p before f g (inr (inl a)) (inr (inl b)) = a.2 ∙ sym b.2
-one_of_bundled given number p before f g (inr (inl a)) (inr (inr b)) = absurd (a.1 b.0)
-one_of_bundled given number p before f g (inr (inr a)) (inl b) = absurd (b.0 a.0.size a.0.least.has_room)
-one_of_bundled given number p before f g (inr (inr a)) (inr (inl b)) = absurd (b.1 a.0)
-one_of_bundled given number p before f g (inr (inr a)) (inr (inr b)) = one_slot_fault _ _ _ (slots_of p.bundles) f g a.1 b.1
-
-never_part : (given : List Place) → (number : ℕ) (p : Placement) (q : Part) (before : List Span) (f : LinkFault) → IsLinked given number p q → AllPairs AreApart (before ++ spans_of (fields_of q))
-    → HasPartFault given number p before f → ⊥
-never_part given number p q before f linked apart (inl h) = absurd (true≢false (sym h.0 ∙ linked.code.bundled))
-never_part given number p q before f linked apart (inr h) = never_bundled given number p q before f linked apart h.1
+never_part given number p q before f linked apart (inr (inr h)) = never_slots _ _ _ (slots_of p.bundles) (replicate linked.code.fill c_ebreak) linked.code.bytes f linked.code.slots h.1
 
 one_of_part : (given : List Place) → (number : ℕ) (p : Placement) (before : List Span) (f g : LinkFault) → HasPartFault given number p before f → HasPartFault given number p before g → f ≡ g
 one_of_part given number p before f g (inl a) (inl b) = a.1 ∙ sym b.1
-one_of_part given number p before f g (inl a) (inr b) = absurd (true≢false (sym a.0 ∙ b.0))
-one_of_part given number p before f g (inr a) (inl b) = absurd (true≢false (sym b.0 ∙ a.0))
-one_of_part given number p before f g (inr a) (inr b) = one_of_bundled given number p before f g a.1 b.1
+one_of_part given number p before f g (inl a) (inr (inl b)) = absurd (b.0 a.0)
+one_of_part given number p before f g (inl a) (inr (inr b)) = absurd (a.0 b.0.size b.0.least.has_room)
+one_of_part given number p before f g (inr (inl a)) (inl b) = absurd (a.0 b.0)
+one_of_part given number p before f g (inr (inl a)) (inr (inl b)) = a.2 ∙ sym b.2
+one_of_part given number p before f g (inr (inl a)) (inr (inr b)) = absurd (a.1 b.0)
+one_of_part given number p before f g (inr (inr a)) (inl b) = absurd (b.0 a.0.size a.0.least.has_room)
+one_of_part given number p before f g (inr (inr a)) (inr (inl b)) = absurd (b.1 a.0)
+one_of_part given number p before f g (inr (inr a)) (inr (inr b)) = one_slot_fault _ _ _ (slots_of p.bundles) f g a.1 b.1
 
 -- ---- of all
 

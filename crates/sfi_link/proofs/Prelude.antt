@@ -19,6 +19,7 @@ pub use Rattle.rv_source.specs.Halves.{upper, lower}
 pub use Rattle.rv_source.specs.Source.{Sandbox, IsBody, IsSandbox}
 pub use Rattle.sfi_policy.specs.Formats.{has_stack, is_stack, code_most}
 pub use Rattle.sfi_pairs.specs.Pairs.{is_masking, is_placing, stub}
+unfoldable pub use Rattle.sfi_link.specs.Stubs.{stub_of}
 pub use Rattle.sfi_policy.specs.declared.format.Format.{Format}
 pub use Rattle.sfi_place.specs.Places.{place_of}
 pub use Rattle.sfi_place.specs.declared.place.Place.{Place}

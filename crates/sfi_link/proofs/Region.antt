@@ -190,9 +190,6 @@ stubs_are : (n : ℕ) → repeat n stub ≡ join (replicate n stub)
 stubs_are zero = refl
 stubs_are (suc n) = ap (λ l. stub ++ l) (stubs_are n)
 
-pub length_stubs : (n : ℕ) → length (repeat n stub) ≡ 16 * n
-length_stubs n = let a = ap length (stubs_are n) in let b = length-join (replicate n stub) (All-replicate IsChunk n stub refl) in let c = length-replicate n stub in omega arith
-
 -- the code is stubs, one a gate, and then full bundles, the last of which ends in c.ebreak
 pub record IsClosed (p : Part) (at : Bases) (names : List PlacedName) (stubs : ℕ) (full : List (List Slot)) : Type 0 where
   pub bundled : has_words p.format ≡ false

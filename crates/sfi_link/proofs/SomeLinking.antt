@@ -1,11 +1,9 @@
 -- What is placed has an image, or a fault.
-use Rattle.sfi_link.proofs.Prelude.{◌≡◌, ℕ, zero, suc, ◌+◌, ◌-◌, ◌/◌, ◌^◌, ◌<◌, ◌≤◌, List, [], ◌∷◌, ◌++◌, length, Option, Some, None, refl, sym, ap, ◌∙◌, subst, arith, inl, inr, ◌⊎◌, ℤ, pos, negsuc, ◌-ℤ◌, All, AllPairs, repeat, w16, w32, to_le_bytes, cases_lt, cases_eq, ints, All-head, All-tail, Instr, OpImm, Branch, Jal, Lui, Addi, InRange, IsReg, IsBranchOffset, IsJumpOffset, spelling, expansion, Format, code_most, upper, lower, stub, Slot, Wide, Short, Jump, Upper, Lower, PlacedName, slot_size, slots_of, Placement, Encodes, IsPlacedPart, Bases, LinkFault, Place, Span, AreApart, spans, place_of, IsRightPlace, spans_at, bases_of, address_at, target_at, with_offset, made_of, IsSlot, AreSlots, needed, HasRoom, IsCodeSize, IsLinkedCode, IsLinked, AreLinkedFrom, AreLinked, AreWritten, MayLie, HasSlotFault, IsSlotFault, HasPartFault, IsPartFault}
+use Rattle.sfi_link.proofs.Prelude.{◌≡◌, ℕ, zero, suc, ◌+◌, ◌-◌, ◌/◌, ◌^◌, ◌<◌, ◌≤◌, List, [], ◌∷◌, ◌++◌, length, Option, Some, None, refl, sym, ap, ◌∙◌, subst, arith, inl, inr, ◌⊎◌, ℤ, pos, negsuc, ◌-ℤ◌, All, AllPairs, repeat, w16, w32, to_le_bytes, cases_lt, cases_eq, ints, All-head, All-tail, Instr, OpImm, Branch, Jal, Lui, Addi, InRange, IsReg, IsBranchOffset, IsJumpOffset, spelling, expansion, Format, code_most, upper, lower, stub_of, Slot, Wide, Short, Jump, Upper, Lower, PlacedName, slot_size, slots_of, Placement, Encodes, IsPlacedPart, Bases, LinkFault, Place, Span, AreApart, spans, place_of, IsRightPlace, spans_at, bases_of, address_at, target_at, with_offset, made_of, IsSlot, AreSlots, needed, HasRoom, IsCodeSize, IsLinkedCode, IsLinked, AreLinkedFrom, AreLinked, AreWritten, MayLie, HasSlotFault, IsSlotFault, HasPartFault, IsPartFault}
 use Rattle.rv_comp.specs.Halfwords.{halfword_of}
 use Rattle.rv_word.specs.Numbers.{modulo, minus, IsBetween, IsEven}
 use Rattle.sfi_link.specs.Laws.{SomeLinking}
 use Rattle.sfi_link.specs.declared.fault.LinkFault.TheVariants.{UnknownName, BranchReach, TooLarge, TooManySandboxes}
-use Rattle.std.specs.Prelude.{Bool, true, false}
-use Rattle.sfi_policy.specs.Formats.{has_words}
 use Rattle.sfi_policy.specs.Limits.{data_most}
 use Rattle.std.proofs.Math.Nat.{pow-suc}
 use Rattle.std.proofs.lemmas.List.{append-nil, append_assoc}
@@ -13,7 +11,7 @@ use Rattle.sfi_image.specs.Spelling as image
 use Rattle.sfi_link.specs.declared.fault.LinkFault.TheVariants as named
 use Rattle.sfi_image.proofs.Deciding.{Decided, decided_both, decided_lt, decided_pairs, decided_apart, decided_region, decided_guard_room}
 use Rattle.sfi_link.proofs.OneLinking.{one_size, own_spans}
-use Rattle.sfi_link.proofs.Region.{length_stubs}
+use Rattle.sfi_link.proofs.Stubs.{length_stubs}
 use Rattle.sfi_image.proofs.Formats.{code_at_most}
 use Rattle.sfi_link.proofs.LinkedClean.{all_are_clean}
 use Rattle.sfi_link.proofs.Parts.{linked_is_right}
@@ -147,20 +145,20 @@ size_or_none f needed =
 
 -- ---- a sandbox
 
-part_made : (given : List Place) → (number : ℕ) (p : Placement) (size : ℕ) (bytes : List ℕ) → has_words p.format ≡ false → IsCodeSize p.format (needed p) size
+part_made : (given : List Place) → (number : ℕ) (p : Placement) (size : ℕ) (bytes : List ℕ) → IsCodeSize p.format (needed p) size
     → IsRightPlace p size (place_of given number) → AreSlots (bases_of given number p) p.names (bases_of given number p).start (slots_of p.bundles) bytes
     → (q : image.Part) × IsLinked given number p q × (length q.code ≡ size)
-part_made given number p size bytes bundled sized lies slots =
+part_made given number p size bytes sized lies slots =
     let at = bases_of given number p in
-    let stubs = repeat (length p.gates) stub in
+    let stubs = repeat (length p.gates) (stub_of p.format) in
     let now = stubs ++ bytes in
-    let long = length_stubs (length p.gates) in
+    let long = length_stubs p.format (length p.gates) in
     let start : at.start ≡ at.code + length stubs = omega arith in
     let written : AreWritten at p.names (slots_of p.bundles) stubs now =
     record { bytes = bytes; appended = refl; spelled = subst (λ n. AreSlots at p.names n (slots_of p.bundles) bytes) start slots } in
     let fill = (size - length now) / 2 in
     let code = now ++ repeat fill pair in
-    let linked : IsLinkedCode given number p code = linked_code given number p at size fill stubs now code bundled refl sized refl written refl refl in
+    let linked : IsLinkedCode given number p code = linked_code given number p at size fill stubs now code refl sized refl written refl refl in
     let whole : length code ≡ size = one_size p.format (needed p) (length code) size linked.size sized in
     let made = part_of given number p code linked (subst (λ n. IsRightPlace p n (place_of given number)) (sym whole) lies) in
     (made.0, made.1, ap length made.2 ∙ whole)
@@ -194,25 +192,18 @@ made_apart given number p before q size linked long apart =
     let own : spans (q ∷ []) ≡ spans_at p size (place_of given number) = own_spans given number p q linked ∙ ap (λ n. spans_at p n (place_of given number)) long in
     record { part = q; linked = linked; apart = subst (λ l. AllPairs AreApart (before ++ l)) (sym own) apart }
 
-bundled_or_fault : (given : List Place) (number : ℕ) (p : Placement) (before : List Span) → IsPlacedPart p → has_words p.format ≡ false → IsMade given number p before ⊎ ((f : LinkFault) × HasPartFault given number p before f)
-bundled_or_fault given number p before right bundled =
+part_or_fault : (given : List Place) (number : ℕ) (p : Placement) (before : List Span) → IsPlacedPart p → IsMade given number p before ⊎ ((f : LinkFault) × HasPartFault given number p before f)
+part_or_fault given number p before right =
     elim (size_or_none p.format (needed p)) [
-      | inr none ↦ inr (TooLarge number, inr (bundled, inl (none, refl)))
+      | inr none ↦ inr (TooLarge number, inl (none, refl))
       | inl sized ↦ elim (lies_or_not given number p before sized.0 sized.1) [
-        | inr nowhere ↦ inr (named.Place number, inr (bundled, inr (inl (λ large. large sized.0 sized.1.has_room, nowhere, refl))))
+        | inr nowhere ↦ inr (named.Place number, inr (inl (λ large. large sized.0 sized.1.has_room, nowhere, refl)))
         | inl lies ↦ elim (slots_or_fault (bases_of given number p) p.names (bases_of given number p).start (slots_of p.bundles) right.encodes) [
-          | inr wrong ↦ inr (wrong.0, inr (bundled, inr (inr (record { size = sized.0; least = sized.1; right = lies.0; apart = lies.1 }, wrong.1))))
-          | inl slots ↦ inl (let made = part_made given number p sized.0 slots.0 bundled sized.1 lies.0 slots.1 in made_apart given number p before made.0 sized.0 made.1 made.2 lies.1)
+          | inr wrong ↦ inr (wrong.0, inr (inr (record { size = sized.0; least = sized.1; right = lies.0; apart = lies.1 }, wrong.1)))
+          | inl slots ↦ inl (let made = part_made given number p sized.0 slots.0 sized.1 lies.0 slots.1 in made_apart given number p before made.0 sized.0 made.1 made.2 lies.1)
         ]
       ]
     ]
-
-words_or_not : (b : Bool) (given : List Place) (number : ℕ) (p : Placement) (before : List Span) → has_words p.format ≡ b → IsPlacedPart p → IsMade given number p before ⊎ ((f : LinkFault) × HasPartFault given number p before f)
-words_or_not true given number p before e right = inr (named.Words number, inl (e, refl))
-words_or_not false given number p before e right = bundled_or_fault given number p before right e
-
-part_or_fault : (given : List Place) (number : ℕ) (p : Placement) (before : List Span) → IsPlacedPart p → IsMade given number p before ⊎ ((f : LinkFault) × HasPartFault given number p before f)
-part_or_fault given number p before right = words_or_not (has_words p.format) given number p before refl right
 
 -- ---- all
 

@@ -1,6 +1,5 @@
 -- Sandboxes at their usual places never meet, so none has a fault of its place.
 use Rattle.sfi_link.proofs.Prelude.{◌≡◌, ℕ, ◌+◌, ◌-◌, ◌*◌, ◌^◌, ◌<◌, ◌≤◌, Vec, Global, Result, Err, List, [], ◌∷◌, ◌++◌, length, get_or, sym, ap, ◌∙◌, subst, arith, inl, inr, All, AllPairs, All-nil, All-cons, All-head, All-tail, All-append, Span, Part, AreApart, spans, with_guards, Slot, Wide, Short, Jump, Upper, Lower, PlacedName, slot_size, Placement, IsPlacedPart, IsPlaced, Bases, LinkFault, Place, IsRightPlace, spans_at, needed, HasRoom, IsCodeSize, IsLinked, MayLie, HasSlotFault, IsSlotFault, HasPartFault, IsPartFault, IsLinkFault, Links}
-use Rattle.sfi_link.specs.Faults.{HasBundledFault}
 use Rattle.std.specs.Prelude.{◌≢◌}
 use Rattle.std.proofs.lemmas.Nat.{pow-add}
 use Rattle.sfi_place.specs.Places.{usual}
@@ -111,18 +110,14 @@ no_slots_place at names here [] k h = h
 no_slots_place at names here (s ∷ slots) k (inl h) = no_slot_place at names here s k h
 no_slots_place at names here (s ∷ slots) k (inr (bytes, one, later)) = no_slots_place at names (here + slot_size s) slots k later
 
-no_bundled_place : (p : Placement) (number : ℕ) (before : List Span) (k : ℕ) → number < 16 → IsPlacedPart p → All (IsBelow number) before → AllPairs AreApart before → HasBundledFault [] number p before (fault.Place k) → ⊥
-no_bundled_place p number before k few right below apart (inl h) = let e = h.1 in cc
-no_bundled_place p number before k few right below apart (inr (inl h)) =
+no_part_place : (p : Placement) (number : ℕ) (before : List Span) (k : ℕ) → number < 16 → IsPlacedPart p → All (IsBelow number) before → AllPairs AreApart before → HasPartFault [] number p before (fault.Place k) → ⊥
+no_part_place p number before k few right below apart (inl h) = let e = h.1 in cc
+no_part_place p number before k few right below apart (inr (inl h)) =
     elim (size_or_none p.format (needed p)) [
       | inl sized ↦ h.1 (free p number sized.0 before few right sized.1 below apart)
       | inr none ↦ h.0 none
     ]
-no_bundled_place p number before k few right below apart (inr (inr h)) = no_slots_place _ _ _ _ k h.1
-
-no_part_place : (p : Placement) (number : ℕ) (before : List Span) (k : ℕ) → number < 16 → IsPlacedPart p → All (IsBelow number) before → AllPairs AreApart before → HasPartFault [] number p before (fault.Place k) → ⊥
-no_part_place p number before k few right below apart (inl h) = let e = h.1 in cc
-no_part_place p number before k few right below apart (inr h) = no_bundled_place p number before k few right below apart h.1
+no_part_place p number before k few right below apart (inr (inr h)) = no_slots_place _ _ _ _ k h.1
 
 no_place : (number : ℕ) (before : List Span) (placed : List Placement) (k : ℕ) → number + length placed ≤ 16 → All IsPlacedPart placed → All (IsBelow number) before → AllPairs AreApart before
     → IsPartFault [] number before placed (fault.Place k) → ⊥

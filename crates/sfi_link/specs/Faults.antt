@@ -1,10 +1,9 @@
 -- Why what is placed can't be linked.
-use Rattle.std.specs.Prelude.{◌≡◌, ◌⊎◌, ℕ, ◌+◌, ◌++◌, ◌<◌, ◌≤◌, pos, ◌-ℤ◌, true, false, List, [], ◌∷◌, length, Option, Some, None}
+use Rattle.std.specs.Prelude.{◌≡◌, ◌⊎◌, ℕ, ◌+◌, ◌++◌, ◌<◌, ◌≤◌, pos, ◌-ℤ◌, List, [], ◌∷◌, length, Option, Some, None}
 use Rattle.std.specs.List.{AllPairs}
 use Rattle.rv_word.specs.declared.instr.Instr.{Instr}
 use Rattle.rv_word.specs.Spelling.{InRange}
 use Rattle.sfi_policy.specs.Limits.{sandboxes_most}
-use Rattle.sfi_policy.specs.Formats.{has_words}
 use Rattle.sfi_image.specs.declared.span.Span.{Span}
 use Rattle.sfi_image.specs.Spelling.{Part}
 use Rattle.sfi_image.specs.Spans.{AreApart, spans}
@@ -17,7 +16,7 @@ use Rattle.sfi_rewrite.specs.Slots.{slot_size, slots_of}
 use Rattle.sfi_rewrite.specs.Placement.{Placement}
 use Rattle.sfi_link.specs.declared.bases.Bases.{Bases}
 use Rattle.sfi_link.specs.declared.fault.LinkFault.{LinkFault}
-use Rattle.sfi_link.specs.declared.fault.LinkFault.TheVariants.{UnknownName, BranchReach, TooLarge, TooManySandboxes, Memory, Words}
+use Rattle.sfi_link.specs.declared.fault.LinkFault.TheVariants.{UnknownName, BranchReach, TooLarge, TooManySandboxes, Memory}
 use Rattle.sfi_link.specs.declared.fault.LinkFault.TheVariants as fault
 use Rattle.sfi_link.specs.Addresses.{address_at, target_at, with_offset, bases_of}
 use Rattle.sfi_link.specs.Code.{IsSlot}
@@ -32,7 +31,6 @@ number_of (TooLarge sandbox) = 3
 number_of TooManySandboxes = 4
 number_of Memory = 5
 number_of (fault.Place sandbox) = 6
-number_of (Words sandbox) = 7
 
 -- ---- of a slot
 
@@ -80,20 +78,14 @@ pub record MayLie (given : List Place) (number : ℕ) (p : Placement) (before : 
   pub right : IsRightPlace p size (place_of given number)
   pub apart : AllPairs AreApart (before ++ spans_at p size (place_of given number))
 
--- the fault of the sandbox of that number, which comes after others in the list, with those spans,
--- where its code is in bundles: being too large goes first, then its place, then its instructions
-abbrev pub HasBundledFault : List Place → ℕ → Placement → List Span → LinkFault → Type 0
-HasBundledFault given number p before f =
+-- the fault of the sandbox of that number, which comes after others in the list, with those spans:
+-- being too large goes first, then its place, then its instructions
+abbrev pub HasPartFault : List Place → ℕ → Placement → List Span → LinkFault → Type 0
+HasPartFault given number p before f =
     (IsTooLarge p × (f ≡ TooLarge number))
     ⊎ ((¬ IsTooLarge p) × (¬ MayLie given number p before) × (f ≡ fault.Place number))
     ⊎ (MayLie given number p before × IsSlotFault (bases_of given number p) p.names
     (bases_of given number p).start (slots_of p.bundles) f)
-
--- the fault of the sandbox: that its code is in words goes first
-abbrev pub HasPartFault : List Place → ℕ → Placement → List Span → LinkFault → Type 0
-HasPartFault given number p before f =
-    ((has_words p.format ≡ true) × (f ≡ Words number))
-    ⊎ ((has_words p.format ≡ false) × HasBundledFault given number p before f)
 
 -- the first of the sandboxes that has a fault has this one; those before it can be linked, and no two
 -- of their spans meet. The first of all has that number, and comes after others in the list, which

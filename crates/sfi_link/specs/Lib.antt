@@ -1,4 +1,5 @@
 pub mod Addresses
+pub mod Stubs
 pub mod Code
 pub mod Lying
 pub mod Linked

@@ -1,15 +1,14 @@
 -- The sandbox of an image that is made of a placed one.
-use Rattle.std.specs.Prelude.{◌≡◌, ℕ, ◌+◌, ◌*◌, ◌^◌, ◌≤◌, List, [], ◌∷◌, ◌++◌, false, length, replicate}
+use Rattle.std.specs.Prelude.{◌≡◌, ℕ, ◌+◌, ◌*◌, ◌^◌, ◌≤◌, List, [], ◌∷◌, ◌++◌, length, replicate}
 use Rattle.std.specs.List.{repeat, AllPairs}
 use Rattle.rv_comp.specs.declared.form.Form16.TheVariants.{CEbreak}
 use Rattle.sfi_policy.specs.declared.format.Format.{Format}
-use Rattle.sfi_policy.specs.Formats.{code_most, has_words}
+use Rattle.sfi_policy.specs.Formats.{code_most}
 use Rattle.rv_source.specs.declared.item.SourceGate.{SourceGate}
 use Rattle.sfi_policy.specs.Limits.{region_least}
 use Rattle.sfi_image.specs.declared.part.Gate.{Gate}
 use Rattle.sfi_image.specs.Spelling.{Part}
 use Rattle.sfi_image.specs.Spans.{AreApart, spans}
-use Rattle.sfi_pairs.specs.Pairs.{stub}
 use Rattle.sfi_place.specs.declared.place.Place.{Place}
 use Rattle.sfi_place.specs.Places.{place_of}
 use Rattle.sfi_rewrite.specs.declared.slot.Slot.{Slot}
@@ -17,6 +16,7 @@ use Rattle.sfi_rewrite.specs.declared.slot.Slot.TheVariants.{Short}
 use Rattle.sfi_rewrite.specs.Slots.{size_of, slots_of}
 use Rattle.sfi_rewrite.specs.Placement.{Placement}
 use Rattle.sfi_link.specs.Addresses.{stub_size, bases_of}
+use Rattle.sfi_link.specs.Stubs.{stub_of}
 use Rattle.sfi_link.specs.Code.{AreSlots}
 use Rattle.sfi_link.specs.Lying.{IsRightPlace}
 
@@ -52,16 +52,15 @@ gates_from address (g ∷ gates) =
     record { address = address; service = g.service } ∷ gates_from (address + stub_size) gates
 
 -- the code: the stubs, then the bytes of the slots with addresses for names, then c.ebreaks to the
--- region's end, one at least; of code in words there is none
+-- region's end, one at least
 pub record IsLinkedCode (given : List Place) (number : ℕ) (p : Placement)
     (code : List ℕ) : Type 0 where
-  pub bundled : has_words p.format ≡ false
   pub size : IsCodeSize p.format (needed p) (length code)
   pub fill : ℕ
   pub bytes : List ℕ
   pub slots : AreSlots (bases_of given number p) p.names (bases_of given number p).start
       (slots_of p.bundles ++ replicate fill c_ebreak) bytes
-  pub code_is : code ≡ repeat (length p.gates) stub ++ bytes
+  pub code_is : code ≡ repeat (length p.gates) (stub_of p.format) ++ bytes
 
 -- the placed sandbox makes that one of the image, as the one of that number, counted from 0,
 -- at its place, where it may lie

@@ -1,6 +1,6 @@
 -- What the linker writes stands for what was placed, in a machine: so each item of a source does in
 -- the image what its instruction does.
-use Rattle.std.specs.Prelude.{◌≡◌, ℕ, ◌+◌, ◌*◌, List, [], ◌∷◌, length, slice_get, Some}
+use Rattle.std.specs.Prelude.{◌≡◌, ℕ, ◌+◌, ◌*◌, List, [], ◌∷◌, MatchBool, length, slice_get, Some}
 use Rattle.rv_word.specs.declared.instr.Instr.{Instr}
 use Rattle.sfi_policy.specs.declared.format.Format.{Format}
 use Rattle.rv_mem.specs.Laws.{Holds}
@@ -19,6 +19,8 @@ use Rattle.sfi_rewrite.specs.Placement.{Placement, IsPlacement}
 use Rattle.sfi_rewrite.specs.Placed.{IsPlacedPart}
 use Rattle.sfi_rewrite.specs.Rewriting.{IsRewritten, AreRewritten}
 use Rattle.sfi_rewrite.specs.Transparency.{AreRegions, SlotsStand, MayBe, StandsTransparent}
+use Rattle.sfi_policy.specs.Formats.{has_words}
+use Rattle.sfi_rewrite.specs.words.Transparency as words
 use Rattle.sfi_link.specs.declared.bases.Bases.{Bases}
 use Rattle.sfi_link.specs.Addresses.{bases_of}
 use Rattle.sfi_link.specs.Code.{resolved}
@@ -43,9 +45,9 @@ AreResolvedTo at names here i (x ∷ slots) =
 abbrev pub place_after : Part → List Slot → ℕ → ℕ
 place_after q before nops = q.start + (size_of before + 2 * nops)
 
--- Item k is an instruction of the image, with the address of its name, if it has one: wherever a
--- memory holds the sandbox's code, its expansion stands at its place for that instruction, in
--- regions in which expansions act as their instructions do (`placed.transparent`).
+-- Where code is in bundles, item k is an instruction of the image, with the address of its name, if it
+-- has one: wherever a memory holds the sandbox's code, its expansion stands at its place for that
+-- instruction, in regions in which expansions act as their instructions do (`placed.transparent`).
 pub record RunsAs (given : List Place) (number : ℕ) (f : Format) (items : List Item)
     (p : Placement) (q : Part) (k : ℕ) (x : Item) : Type 0 where
   pub placed : StandsTransparent f items p k x
@@ -57,12 +59,30 @@ pub record RunsAs (given : List Place) (number : ℕ) (f : Format) (items : List
   pub stands : (s : State) → Holds s.memory q.code_base (length q.code) q.code
       → s.hart.pc ≡ place_after q placed.before placed.nops → SlotsStand instr s placed.expanded
 
+-- The same where code is in words: its slots stand after those of the items before it.
+pub record WordRunsAs (given : List Place) (number : ℕ) (items : List Item) (p : Placement)
+    (q : Part) (k : ℕ) (x : Item) : Type 0 where
+  pub placed : words.StandsTransparent items p k x
+  pub instr : Instr
+  pub may_be : MayBe x.body instr
+  pub resolves : AreResolvedTo (bases_of given number p) p.names
+      (place_after q placed.before 0) instr placed.own
+  pub regions : AreRegions (code_region q) (data_region q)
+  pub stands : (s : State) → Holds s.memory q.code_base (length q.code) q.code
+      → s.hart.pc ≡ place_after q placed.before 0 → SlotsStand instr s placed.own
+
+-- the same, as the format asks
+abbrev pub RunsAsIn : List Place → ℕ → Format → List Item → Placement → Part → ℕ → Item → Type 0
+RunsAsIn given number f items p q k x = MatchBool (has_words f)
+    (WordRunsAs given number items p q k x)
+    (RunsAs given number f items p q k x)
+
 -- each item of a source's sandbox is, in what is linked of it
 abbrev pub LinkedRunsAs : Type 0
 LinkedRunsAs =
     (given : List Place) (number : ℕ) (s : Sandbox) (p : Placement) (q : Part) (k : ℕ) (x : Item)
     → IsSandbox s → IsRewritten s p → IsPlacedPart p → IsLinked given number p q
-    → slice_get s.items k ≡ Some x → RunsAs given number s.format s.items p q k x
+    → slice_get s.items k ≡ Some x → RunsAsIn given number s.format s.items p q k x
 
 -- ---- a build
 
@@ -74,7 +94,7 @@ pub record SandboxRunsAs (given : List Place) (number : ℕ) (s : Sandbox) (q : 
   pub placement : IsPlacement s placed
   pub linked : IsLinked given number placed q
   pub each : (k : ℕ) (x : Item) → slice_get s.items k ≡ Some x
-      → RunsAs given number s.format s.items placed q k x
+      → RunsAsIn given number s.format s.items placed q k x
 
 -- the same of sandboxes in order, the first of which has that number
 abbrev pub SandboxesRunAs : List Place → ℕ → List Sandbox → List Part → Type 0

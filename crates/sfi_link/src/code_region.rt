@@ -17,8 +17,8 @@ use crate::bases::bases_of;
 use crate::code::push_bundles;
 use crate::fault::LinkFault;
 use crate::lying::lies_beside;
+use crate::stub::stub_of;
 use sfi_image::Span;
-use sfi_pairs::STUB;
 use sfi_place::{Place, place_of};
 use sfi_policy::{BUNDLE_BYTES, Format, REGION_LEAST_BYTES};
 use sfi_rewrite::{Bundle, PlacedPart};
@@ -46,7 +46,7 @@ fn needed(part: &PlacedPart) -> usize
     requires { IsPlacedPart part.now }
     ensures { result ≡ needed part.now }
 {
-    STUB.len() * part.gates().len() + size_of_bundles(part.bundles()) + C_EBREAK.len()
+    BUNDLE_BYTES * part.gates().len() + size_of_bundles(part.bundles()) + C_EBREAK.len()
 }
 
 // The least size of a code region of the format in which so many bytes have room, if there is one.
@@ -91,9 +91,6 @@ pub(crate) fn linked_code(
         (HasPartFault given.now number part.now spans.old.items) result }
 {
     let format = part.format();
-    if format.has_words() {
-        return Err(LinkFault::Words { sandbox: number });
-    }
     let Some(size) = code_size(format, needed(part)) else {
         return Err(LinkFault::TooLarge { sandbox: number });
     };
@@ -102,7 +99,7 @@ pub(crate) fn linked_code(
     }
     let at = bases_of(given, number, part);
     let mut code = Vec::with_capacity(alloc, size)?;
-    push_copies(&mut code, &STUB, part.gates().len())?;
+    push_copies(&mut code, stub_of(format), part.gates().len())?;
     push_bundles(&mut code, at, part.names(), part.bundles())?;
     let fill = (size - code.len()) / C_EBREAK.len();
     push_copies(&mut code, &C_EBREAK, fill)?;

@@ -7,8 +7,8 @@ use std::alloc::{AllocError, AllocFailed};
 use thiserror::Error;
 
 /// Why what is placed can't be linked. Too many sandboxes go first, then a place without a sandbox;
-/// then the first sandbox that has a fault counts, with Words before TooLarge, that before its
-/// place, and its place before the faults of its instructions, of which the first counts.
+/// then the first sandbox that has a fault counts, with TooLarge before its place, and its place
+/// before the faults of its instructions, of which the first counts.
 #[derive(Clone, Copy, Debug, PartialEq, Eq, Error)]
 pub enum LinkFault {
     /// The instruction on the line, counted from 1, jumps to a name that is neither a label of the
@@ -35,13 +35,10 @@ pub enum LinkFault {
     /// the first without one.
     #[error("Place sandbox {sandbox}")]
     Place { sandbox: u32 },
-    /// The code of the sandbox, counted from 0, is in words, which aren't linked yet.
-    #[error("Words sandbox {sandbox}")]
-    Words { sandbox: u32 },
 }
 
 impl LinkFault {
-    /// The number by which a refusal is known, from 1 to 7.
+    /// The number by which a refusal is known, from 1 to 6.
     pub fn number(self) -> u32
         ensures { result ≡ number_of self }
     {
@@ -52,7 +49,6 @@ impl LinkFault {
             LinkFault::TooManySandboxes => 4,
             LinkFault::Memory => 5,
             LinkFault::Place { .. } => 6,
-            LinkFault::Words { .. } => 7,
         }
     }
 }

@@ -15,6 +15,7 @@ pub mod laws;
 mod linker;
 mod lying;
 mod names;
+mod stub;
 
 pub use fault::LinkFault;
 pub use linker::{link, link_at};

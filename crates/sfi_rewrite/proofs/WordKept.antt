@@ -105,7 +105,7 @@ own_of false a b c h = h
 not_own : (r : ℕ) → is_withheld Sfiw r ≡ false → is_own r ≡ false
 not_own r h = own_of _ (r == 29) (r == 30) (r == 31) h
 
-written_free : (i : Instr) (d : ℕ) → destination i ≡ Some d → names_withheld Sfiw i ≡ false → is_withheld Sfiw d ≡ false
+pub written_free : (i : Instr) (d : ℕ) → destination i ≡ Some d → names_withheld Sfiw i ≡ false → is_withheld Sfiw d ≡ false
 written_free (Op op rd a b) d e n = let same : rd ≡ d = cc in subst (λ r. is_withheld Sfiw r ≡ false) same (or_parts (is_withheld Sfiw rd) (is_withheld Sfiw a) (or_parts (is_withheld Sfiw rd || is_withheld Sfiw a) (is_withheld Sfiw b) n).0).0
 written_free (OpImm op rd a imm) d e n = let same : rd ≡ d = cc in subst (λ r. is_withheld Sfiw r ≡ false) same (or_parts (is_withheld Sfiw rd) (is_withheld Sfiw a) n).0
 written_free (Load kind rd a imm) d e n = let same : rd ≡ d = cc in subst (λ r. is_withheld Sfiw r ≡ false) same (or_parts (is_withheld Sfiw rd) (is_withheld Sfiw a) n).0

@@ -15,14 +15,14 @@ use Rattle.sfi_rewrite.proofs.WordKept.{body_acts, plain_steps}
 -- ---- slots as they are laid
 
 -- what is laid for slots one after another
-record LaidApart (front back laid : List Slot) : Type 0 where
-  first : List Slot
-  rest : List Slot
-  both : laid ≡ first ++ rest
-  are_first : AreAsLaid front first
-  are_rest : AreAsLaid back rest
+pub record LaidApart (front back laid : List Slot) : Type 0 where
+  pub first : List Slot
+  pub rest : List Slot
+  pub both : laid ≡ first ++ rest
+  pub are_first : AreAsLaid front first
+  pub are_rest : AreAsLaid back rest
 
-apart : (front back laid : List Slot) → AreAsLaid (front ++ back) laid → LaidApart front back laid
+pub apart : (front back laid : List Slot) → AreAsLaid (front ++ back) laid → LaidApart front back laid
 apart [] back laid h = record { first = []; rest = laid; both = refl; are_first = tt; are_rest = h }
 apart (s ∷ front) back [] h = absurd h
 apart (s ∷ front) back (x ∷ laid) h =
@@ -112,7 +112,7 @@ plain_laid : (moves rvc step : Bool) (i : Instr) (slots laid : List Slot) → Ma
 plain_laid true rvc step i slots laid e h = (rvc, wide_stays (moved i) laid (moved_wide i) (subst (λ v. AreAsLaid v laid) e h))
 plain_laid false rvc step i slots laid e h = around_laid rvc step i slots laid e h
 
-body_laid : (line : ℕ) (rvc step : Bool) (body : Body) (slots laid : List Slot) → IsExpansionOf line rvc step body slots → AreAsLaid slots laid → (r : Bool) × IsExpansionOf line r step body laid
+pub body_laid : (line : ℕ) (rvc step : Bool) (body : Body) (slots laid : List Slot) → IsExpansionOf line rvc step body slots → AreAsLaid slots laid → (r : Bool) × IsExpansionOf line r step body laid
 body_laid line rvc step (Plain i) slots laid e h = plain_laid (is_move i && not step) rvc step i slots laid e h
 body_laid line rvc step (To i name) slots laid e h = (rvc, wide_stays (Jump i name line ∷ []) laid (refl, tt) (subst (λ v. AreAsLaid v laid) e h))
 body_laid line rvc step (High rd name) slots laid e h =
@@ -198,11 +198,11 @@ label_words front all rest labelled slots first later some parts both laid l =
 
 -- ---- an item among the others
 
-slots_of_marked : (labelled : Bool) (slots : List Slot) → map (λ m. m.1) (marked labelled slots) ≡ slots
+pub slots_of_marked : (labelled : Bool) (slots : List Slot) → map (λ m. m.1) (marked labelled slots) ≡ slots
 slots_of_marked labelled [] = refl
 slots_of_marked labelled (s ∷ slots) = ap (λ v. s ∷ v) (slots_of_marked false slots)
 
-map_append : (xs ys : List Marked) → map (λ m. m.1) (xs ++ ys) ≡ map (λ m. m.1) xs ++ map (λ m. m.1) ys
+pub map_append : (xs ys : List Marked) → map (λ m. m.1) (xs ++ ys) ≡ map (λ m. m.1) xs ++ map (λ m. m.1) ys
 map_append [] ys = refl
 map_append (x ∷ xs) ys = ap (λ v. x.1 ∷ v) (map_append xs ys)
 

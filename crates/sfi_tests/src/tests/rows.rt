@@ -257,7 +257,14 @@ fn typed_runs(rt: HostRuntime) -> Result<(), Fail> {
 
 #[test]
 fn word_source_rows(rt: HostRuntime) -> Result<(), Fail> {
-    try_rows(&rt, rt.alloc(), word_sources::REFUSED, 12)
+    try_rows(&rt, rt.alloc(), word_sources::EXPANSIONS, 8)?;
+    try_rows(&rt, rt.alloc(), word_sources::STEPS, 8)?;
+    try_rows(&rt, rt.alloc(), word_sources::LAID, 3)?;
+    try_rows(&rt, rt.alloc(), word_sources::IMAGES, 2)?;
+    try_rows(&rt, rt.alloc(), word_sources::REFUSED, 14)?;
+    try_rows(&rt, rt.alloc(), word_sources::FARTHEST, 2)?;
+    try_rows(&rt, rt.alloc(), word_sources::KEPT, 1)?;
+    try_rows(&rt, rt.alloc(), word_sources::MAPS, 1)
 }
 
 #[test]

@@ -1,26 +1,17 @@
-use Rattle.sfi_link.proofs.Prelude.{◌≡◌, ◌++◌, ◌∙◌, length, inl, inr, true, false, Bool, Format, refl, sym, subst, ap, arith, repeat, OnTrue_at, OnFalse_at, err_from_is_err_and, stub, HasRoom}
-use Rattle.sfi_policy.specs.Formats.{has_words}
+use Rattle.sfi_link.proofs.Prelude.{◌≡◌, ◌++◌, ◌∙◌, length, inl, refl, sym, subst, ap, arith, repeat, OnTrue_at, OnFalse_at, err_from_is_err_and, stub_of, HasRoom}
 use Rattle.sfi_link.proofs.Parts.{start_fits}
 use Rattle.sfi_link.proofs.Linking.{near_of, code_room, place_refused, may_lie, part_refused, code_beside, written_within, linked_code}
 use Rattle.sfi_link.proofs.code_region.linked_code.Goals as goal
 
--- what the test of the format found
-told : (is : Bool) (f g : Format) (answer : Bool) → answer ≡ has_words f → f ≡ g → answer ≡ is → has_words g ≡ is
-told is f g answer asked same e = sym (ap has_words same) ∙ sym asked ∙ e
-
-pub returns-then-has_words : goal.returns-then-has_words
-returns-then-has_words c = inl (told true c.format-format.result c.args.part.now.format c.has_words.result c.has_words.ensures c.format-format.ensures c.if-has_words.true, refl)
-
 pub returns-in_default : goal.returns-in_default
 returns-in_default c =
-    inr (told false c.format-format.result c.args.part.now.format c.has_words.result c.has_words.ensures c.format-format.ensures c.if-has_words.false, inl (λ size h. c.in_default.ensures.none size (subst (λ f. HasRoom f c.needed.result size) (sym c.format-format.ensures) (subst (λ n. HasRoom c.args.part.now.format n size) (sym c.needed.ensures) h)), refl))
+    inl (λ size h. c.in_default.ensures.none size (subst (λ f. HasRoom f c.needed.result size) (sym c.format-format.ensures) (subst (λ n. HasRoom c.args.part.now.format n size) (sym c.needed.ensures) h)), refl)
 
 pub returns-then-not-branch : goal.returns-then-not-branch
 returns-then-not-branch c =
     let sized = rw (c.needed.ensures, c.format-format.ensures) at c.in-Some.ensures.least in
     let wrong = rw c.place_of.ensures.is at (OnFalse_at c.if-not-branch.true c.in_ok-lies_beside.ensures.wrong) in
-    place_refused c.args.given.now c.args.number c.args.part.now c.in-Some.size c.args.spans.now.items
-    (told false c.format-format.result c.args.part.now.format c.has_words.result c.has_words.ensures c.format-format.ensures c.if-has_words.false) sized wrong
+    place_refused c.args.given.now c.args.number c.args.part.now c.in-Some.size c.args.spans.now.items sized wrong
 
 pub bases_of-at-requires-clause-fits : goal.bases_of-at-requires-clause-fits
 bases_of-at-requires-clause-fits c =
@@ -37,8 +28,9 @@ push_bundles-requires-clause-near c =
 pub push_bundles-requires-clause-room : goal.push_bundles-requires-clause-room
 push_bundles-requires-clause-room c =
     let p = c.args.part.now in
-    let stubs : c.push_copies.new.code.items ≡ repeat (length p.gates) stub =
-    c.in_ok-push_copies.ensures ∙ ap (λ l. l ++ repeat (length c.gates.result.now) stub) c.in_ok-code.ensures.items ∙ ap (λ gs. repeat (length gs) stub) c.gates.ensures in
+    let stubs : c.push_copies.new.code.items ≡ repeat (length p.gates) (stub_of p.format) =
+    c.in_ok-push_copies.ensures ∙ ap (λ l. l ++ repeat (length c.gates.result.now) c.stub_of.result.now) c.in_ok-code.ensures.items
+    ∙ ap (λ gs. repeat (length gs) c.stub_of.result.now) c.gates.ensures ∙ ap (λ b. repeat (length p.gates) b) (c.stub_of.ensures ∙ ap (λ f. stub_of f) c.format-format.ensures) in
     let sized = rw (c.needed.ensures, c.format-format.ensures) at c.in-Some.ensures.least in
     let lies = rw c.place_of.ensures.is at (OnTrue_at c.if-not-branch.false c.in_ok-lies_beside.ensures.lies) in
     rw c.bundles.ensures (code_room c.args.given.now c.args.number p c.bases_of-at.result c.in-Some.size c.push_copies.new.code.items sized.has_room lies.right c.bases_of-at.ensures.is stubs)
@@ -46,21 +38,22 @@ push_bundles-requires-clause-room c =
 pub returns-in_err-push_bundles : goal.returns-in_err-push_bundles
 returns-in_err-push_bundles c =
     let p = c.args.part.now in
-    let stubs : c.push_copies.new.code.items ≡ repeat (length p.gates) stub =
-    c.in_ok-push_copies.ensures ∙ ap (λ l. l ++ repeat (length c.gates.result.now) stub) c.in_ok-code.ensures.items ∙ ap (λ gs. repeat (length gs) stub) c.gates.ensures in
+    let stubs : c.push_copies.new.code.items ≡ repeat (length p.gates) (stub_of p.format) =
+    c.in_ok-push_copies.ensures ∙ ap (λ l. l ++ repeat (length c.gates.result.now) c.stub_of.result.now) c.in_ok-code.ensures.items
+    ∙ ap (λ gs. repeat (length gs) c.stub_of.result.now) c.gates.ensures ∙ ap (λ b. repeat (length p.gates) b) (c.stub_of.ensures ∙ ap (λ f. stub_of f) c.format-format.ensures) in
     let e = err_from_is_err_and c.from_residual-in_err-push_bundles.result c.from_residual-in_err-push_bundles.ensures.1 in
     let sized = rw (c.needed.ensures, c.format-format.ensures) at c.in-Some.ensures.least in
     let lies = rw c.place_of.ensures.is at (OnTrue_at c.if-not-branch.false c.in_ok-lies_beside.ensures.lies) in
     let h = rw (c.names.ensures, c.bundles.ensures) at c.in_err-push_bundles.ensures in
     let may = may_lie c.args.given.now c.args.number p c.in-Some.size _ _ sized lies in
-    rw (e.1, e.2) (part_refused c.args.given.now c.args.number p _ c.bases_of-at.result c.push_copies.new.code.items c.in_err-push_bundles.field-0.0
-    (told false c.format-format.result c.args.part.now.format c.has_words.result c.has_words.ensures c.format-format.ensures c.if-has_words.false) c.bases_of-at.ensures.is may stubs h)
+    rw (e.1, e.2) (part_refused c.args.given.now c.args.number p _ c.bases_of-at.result c.push_copies.new.code.items c.in_err-push_bundles.field-0.0 c.bases_of-at.ensures.is may stubs h)
 
 pub overflow_sub-fill : goal.overflow_sub-fill
 overflow_sub-fill c =
     let p = c.args.part.now in
-    let stubs : c.push_copies.new.code.items ≡ repeat (length p.gates) stub =
-    c.in_ok-push_copies.ensures ∙ ap (λ l. l ++ repeat (length c.gates.result.now) stub) c.in_ok-code.ensures.items ∙ ap (λ gs. repeat (length gs) stub) c.gates.ensures in
+    let stubs : c.push_copies.new.code.items ≡ repeat (length p.gates) (stub_of p.format) =
+    c.in_ok-push_copies.ensures ∙ ap (λ l. l ++ repeat (length c.gates.result.now) c.stub_of.result.now) c.in_ok-code.ensures.items
+    ∙ ap (λ gs. repeat (length gs) c.stub_of.result.now) c.gates.ensures ∙ ap (λ b. repeat (length p.gates) b) (c.stub_of.ensures ∙ ap (λ f. stub_of f) c.format-format.ensures) in
     let w = rw (c.names.ensures, c.bundles.ensures) at c.in_ok-push_bundles.ensures in
     let sized = rw (c.needed.ensures, c.format-format.ensures) at c.in-Some.ensures.least in
     let h = written_within p c.bases_of-at.result c.in-Some.size c.push_copies.new.code.items c.push_bundles.new.code.items sized stubs w in
@@ -70,13 +63,13 @@ overflow_sub-fill c =
 pub returns : goal.returns
 returns c =
     let p = c.args.part.now in
-    let stubs : c.push_copies.new.code.items ≡ repeat (length p.gates) stub =
-    c.in_ok-push_copies.ensures ∙ ap (λ l. l ++ repeat (length c.gates.result.now) stub) c.in_ok-code.ensures.items ∙ ap (λ gs. repeat (length gs) stub) c.gates.ensures in
+    let stubs : c.push_copies.new.code.items ≡ repeat (length p.gates) (stub_of p.format) =
+    c.in_ok-push_copies.ensures ∙ ap (λ l. l ++ repeat (length c.gates.result.now) c.stub_of.result.now) c.in_ok-code.ensures.items
+    ∙ ap (λ gs. repeat (length gs) c.stub_of.result.now) c.gates.ensures ∙ ap (λ b. repeat (length p.gates) b) (c.stub_of.ensures ∙ ap (λ f. stub_of f) c.format-format.ensures) in
     let w = rw (c.names.ensures, c.bundles.ensures) at c.in_ok-push_bundles.ensures in
     let sized = rw (c.needed.ensures, c.format-format.ensures) at c.in-Some.ensures.least in
     let lies = rw c.place_of.ensures.is at (OnTrue_at c.if-not-branch.false c.in_ok-lies_beside.ensures.lies) in
     let l = c.len.ensures in
-    let made = linked_code c.args.given.now c.args.number p c.bases_of-at.result c.in-Some.size _ c.push_copies.new.code.items c.push_bundles.new.code.items c.push_copies-2.new.code.items
-    (told false c.format-format.result c.args.part.now.format c.has_words.result c.has_words.ensures c.format-format.ensures c.if-has_words.false) c.bases_of-at.ensures.is sized stubs w
+    let made = linked_code c.args.given.now c.args.number p c.bases_of-at.result c.in-Some.size _ c.push_copies.new.code.items c.push_bundles.new.code.items c.push_copies-2.new.code.items c.bases_of-at.ensures.is sized stubs w
     (omega arith) c.in_ok-push_copies-2.ensures in
     code_beside c.args.given.now c.args.number p _ c.in-Some.size _ _ sized made lies

@@ -1,0 +1,443 @@
+-- The expansions of items in words break no rule, as they are laid: before each of them nothing is
+-- owed, or it is the use of the step before it.
+use Rattle.sfi_link.proofs.Prelude.{◌≡◌, ◌⊎◌, ℕ, ◌+◌, ◌^◌, ◌<◌, ◌≤◌, List, [], ◌∷◌, ◌++◌, map, Option, Some, None, Bool, true, false, refl, sym, ap, ◌∙◌, subst, arith, inl, inr, append-nil, ◌==◌, ◌&&◌, ◌||◌, not, or_parts, and_parts, eqb-true, ℤ, pos, negsuc, ◌-ℤ◌, MatchBool, Addi, All, All-head, All-tail, Instr, Op, OpImm, Load, Store, Branch, Jal, Jalr, Lui, Auipc, Fence, Ecall, Ebreak, IsBody, upper, lower, Slot, Wide, Upper, Lower, PlacedName, slot_size, size_of, Bases, target_at, address_at, with_offset, resolved, made_of}
+use Rattle.std.specs.Prelude.{if◌then◌else◌}
+use Rattle.std.proofs.lemmas.Bool.{true≢false, not-false}
+use Rattle.rv_word.specs.Numbers.{offset_by}
+use Rattle.rv_word.specs.Writes.{destination}
+use Rattle.rv_word.specs.declared.instr.RegOp.TheVariants.{Add, And, Or}
+use Rattle.rv_word.specs.declared.instr.LoadKind.{LoadKind}
+use Rattle.rv_word.specs.declared.instr.StoreWidth.{StoreWidth}
+use Rattle.rv_source.specs.declared.item.Body.{Body}
+use Rattle.rv_source.specs.declared.item.Body.TheVariants.{Plain, To, High, Low}
+use Rattle.rv_source.specs.declared.item.Item.{Item}
+use Rattle.sfi_policy.specs.declared.format.Format.TheVariants.{Sfiw}
+use Rattle.sfi_policy.specs.Registers.{is_data_register}
+use Rattle.sfi_rewrite.specs.Expansion.{IsAlone}
+use Rattle.sfi_rewrite.specs.Faults.{IsPermitted}
+use Rattle.sfi_rewrite.specs.Registers.{is_withheld, names_withheld, item_names_withheld, is_ecall}
+use Rattle.sfi_rewrite.specs.words.Expansion.{data_mask, IsAround, IsExpansionOf, IsExpansion, mask_after, is_use, is_step_to, is_step, is_zero, is_move, moved, is_barred_jump}
+use Rattle.sfi_rewrite.specs.words.Laying.{Marked, marked, AreExpanded}
+use Rattle.sfi_rewrite.specs.words.Transparency.{AreAsLaid}
+use Rattle.sfi_rules.specs.declared.owed.Owed.{Owed}
+use Rattle.sfi_rules.specs.declared.owed.Owed.TheVariants as kind
+use Rattle.sfi_rules.specs.Stack.{is_jump}
+use Rattle.sfi_rules.specs.words.Rules.{is_word_start, may_access, places, masks, breaks_ecall}
+use Rattle.sfi_rules.specs.words.Owing.{left}
+use Rattle.sfi_rewrite.proofs.Sizes.{size_of-append}
+use Rattle.sfi_rewrite.proofs.WordStanding.{apart, body_laid, slots_of_marked, map_append}
+use Rattle.sfi_link.proofs.CleanPlaces.{lands, made}
+use Rattle.sfi_link.proofs.WordRules.{IsLawful, Meets}
+use Rattle.sfi_link.proofs.WordOwing.{of_data, free_one, IsFreeOne, unreserved, no_offset, use_is, IsMaskOwed, Owes, owing, owing_as_named}
+use Rattle.sfi_link.proofs.WordSlots.{IsRight, AreRight, right_append, right_known, right_alone, mask_right, after_right}
+
+-- ---- names
+
+-- each name to which a jump may lead is a word's start of the region
+abbrev pub AreWordStarts : ℕ → ℕ → Bases → List PlacedName → Type 0
+AreWordStarts base size at names = (place to : ℕ) → target_at at names place ≡ Some to → (is_word_start base size to ≡ true) × (to < 2 ^ 32)
+
+-- ---- what is owed before an item
+
+-- the item is a use of the data register d
+abbrev pub IsUse : ℕ → Body → Type 0
+IsUse d (Plain i) = (is_data_register d ≡ true) × (is_use d i ≡ true)
+IsUse d _ = ⊥
+
+-- nothing is owed before the item, or a use that it is
+abbrev pub IsOwedTo : Owed → Body → Type 0
+IsOwedTo owed body = (owed ≡ kind.Nothing) ⊎ ((d : ℕ) × (owed ≡ kind.MaskOrUse d) × IsUse d body)
+
+abbrev pub IsOwedBefore : Owed → List Item → Type 0
+IsOwedBefore owed [] = owed ≡ kind.Nothing
+IsOwedBefore owed (x ∷ items) = IsOwedTo owed x.body
+
+-- what is owed after an item, which is a step or not
+abbrev pub owed_past : Bool → Body → Owed
+owed_past true (Plain (OpImm op d a imm)) = kind.MaskOrUse d
+owed_past _ body = kind.Nothing
+
+-- ---- an instruction as it is
+
+-- it breaks no rule wherever it stands, where it writes what is free, and is neither an access nor a jump
+abbrev is_calm : Instr → Bool
+is_calm (Op op rd rs1 rs2) = true
+is_calm (OpImm op rd rs1 imm) = true
+is_calm (Lui rd imm) = true
+is_calm (Auipc rd imm) = true
+is_calm (Fence imm rd rs1) = true
+is_calm Ebreak = true
+is_calm _ = false
+
+calm_lawful : (base size here : ℕ) (i : Instr) → is_calm i ≡ true → IsFreeOne (destination i) → IsLawful base size here i
+calm_lawful base size here (Op op rd rs1 rs2) c f = record { reserved = unreserved (Some rd) f; access = refl; jump = refl; target = refl; offset = no_offset (Op op rd rs1 rs2) (Some rd) refl f }
+calm_lawful base size here (OpImm op rd rs1 imm) c f = record { reserved = unreserved (Some rd) f; access = refl; jump = refl; target = refl; offset = no_offset (OpImm op rd rs1 imm) (Some rd) refl f }
+calm_lawful base size here (Lui rd imm) c f = record { reserved = unreserved (Some rd) f; access = refl; jump = refl; target = refl; offset = no_offset (Lui rd imm) (Some rd) refl f }
+calm_lawful base size here (Auipc rd imm) c f = record { reserved = unreserved (Some rd) f; access = refl; jump = refl; target = refl; offset = no_offset (Auipc rd imm) (Some rd) refl f }
+calm_lawful base size here (Fence imm rd rs1) c f = record { reserved = refl; access = refl; jump = refl; target = refl; offset = refl }
+calm_lawful base size here Ebreak c f = record { reserved = refl; access = refl; jump = refl; target = refl; offset = refl }
+calm_lawful base size here _ c f = absurd (true≢false (sym c))
+
+calm_no_ecall : (i : Instr) → is_calm i ≡ true → (gate : Bool) → breaks_ecall gate i ≡ false
+calm_no_ecall Ecall c gate = absurd (true≢false (sym c))
+calm_no_ecall _ c gate = refl
+
+-- where nothing is owed, or all of it is paid
+paid : (owed : Owed) (i : Instr) (to : Option ℕ) → left owed i ≡ Some kind.Nothing → (w : Owes i to) → Meets owed i w.own
+paid owed i to l w = record { rest = kind.Nothing; pays = l; own = w.own; owes = w.owes; next_is = refl }
+
+free_of : (owed : Owed) (i : Instr) → owed ≡ kind.Nothing → left owed i ≡ Some kind.Nothing
+free_of owed i e = ap (λ o. left o i) e
+
+-- only a load or a store is a use
+abbrev is_access : Instr → Bool
+is_access (Load kind rd a imm) = true
+is_access (Store width a rs2 imm) = true
+is_access _ = false
+
+use_accesses : (d : ℕ) (i : Instr) → is_use d i ≡ true → is_access i ≡ true
+use_accesses d (Load kind rd a imm) h = refl
+use_accesses d (Store width a rs2 imm) h = refl
+use_accesses d _ h = absurd (true≢false (sym h))
+
+-- so nothing is owed before another
+nothing_before : (owed : Owed) (i : Instr) → is_access i ≡ false → IsOwedTo owed (Plain i) → owed ≡ kind.Nothing
+nothing_before owed i n (inl e) = e
+nothing_before owed i n (inr u) = absurd (true≢false (sym (use_accesses u.0 i u.2.1) ∙ n))
+
+-- ---- an access
+
+-- a use pays for it
+use_pays : (d : ℕ) (i : Instr) → masks d i ≡ false → is_use d i ≡ true → left (kind.MaskOrUse d) i ≡ Some kind.Nothing
+use_pays d i m u = let e = sym (use_is d i) ∙ u in rw (m, e) refl
+
+-- an access, for each register that it may be on
+record IsAccess (base size here : ℕ) (f : ℕ → Instr) (to : Option ℕ) : Type 0 where
+  lawful : (b : ℕ) → may_access b ≡ true → IsLawful base size here (f b)
+  no_ecall : (b : ℕ) (gate : Bool) → breaks_ecall gate (f b) ≡ false
+  owes : (b : ℕ) → Owes (f b) to
+  masks_none : (b d : ℕ) → masks d (f b) ≡ false
+  is_on : (b d : ℕ) → is_use d (f b) ≡ true → b ≡ d
+
+access_right : (base size : ℕ) (at : Bases) (names : List PlacedName) (here : ℕ) (owed : Owed) (rvc : Bool) (f : ℕ → Instr) (to : Option ℕ) (a : ℕ) (data_one zero_one : Bool) (confined slots : List Slot)
+    → ((there : ℕ) → IsAccess base size there f to) → is_data_register a ≡ data_one → (a == 0) ≡ zero_one → IsOwedTo owed (Plain (f a))
+    → IsAlone rvc (f (if data_one then a else if zero_one then 26 else 29)) confined
+    → slots ≡ (if data_one || zero_one then [] else data_mask 29 a) ++ (confined ++ mask_after to) → AreRight base size at names here owed slots kind.Nothing
+access_right base size at names here owed rvc f to a true zero_one confined slots is typed z o alone e =
+    let x = is here in
+    let pays : left owed (f a) ≡ Some kind.Nothing = elim o [
+      | inl none ↦ free_of owed (f a) none
+      | inr u ↦ ap (λ p. left p (f a)) u.1 ∙ use_pays u.0 (f a) (x.masks_none a u.0) u.2.1
+    ] in
+    let w = x.owes a in
+    let one = right_alone base size at names here owed w.own rvc (f a) confined alone (record { no_ecall = x.no_ecall a; lawful = x.lawful a (rw typed refl); meets = paid owed (f a) to pays w }) in
+    subst (λ v. AreRight base size at names here owed v kind.Nothing) (sym e)
+    (right_append base size at names here owed w.own kind.Nothing confined (mask_after to) one (after_right base size at names (here + size_of confined) w.own to w.is))
+access_right base size at names here owed rvc f to a false true confined slots is typed z o alone e =
+    let x = is here in
+    let w = x.owes 26 in
+    let one = right_alone base size at names here owed w.own rvc (f 26) confined alone (record { no_ecall = x.no_ecall 26; lawful = x.lawful 26 refl; meets = paid owed (f 26) to (free_of owed (f 26) (nothing_owed o)) w }) in
+    subst (λ v. AreRight base size at names here owed v kind.Nothing) (sym e)
+    (right_append base size at names here owed w.own kind.Nothing confined (mask_after to) one (after_right base size at names (here + size_of confined) w.own to w.is))
+  where
+    nothing_owed : IsOwedTo owed (Plain (f a)) → owed ≡ kind.Nothing
+    nothing_owed (inl e) = e
+    nothing_owed (inr u) = absurd (true≢false (sym u.2.0 ∙ sym (ap is_data_register ((is here).is_on a u.0 u.2.1)) ∙ typed))
+access_right base size at names here owed rvc f to a false false confined slots is typed z o alone e =
+    let x = is (here + 8) in
+    let w = x.owes 29 in
+    let first = subst (λ p. AreRight base size at names here p (data_mask 29 a) kind.Nothing) (sym (nothing_owed o)) (mask_right base size at names here 29 a refl) in
+    let one = right_alone base size at names (here + 8) kind.Nothing w.own rvc (f 29) confined alone (record { no_ecall = x.no_ecall 29; lawful = x.lawful 29 refl; meets = paid kind.Nothing (f 29) to refl w }) in
+    subst (λ v. AreRight base size at names here owed v kind.Nothing) (sym e)
+    (right_append base size at names here owed kind.Nothing kind.Nothing (data_mask 29 a) (confined ++ mask_after to) first
+    (right_append base size at names (here + 8) kind.Nothing w.own kind.Nothing confined (mask_after to) one (after_right base size at names (here + 8 + size_of confined) w.own to w.is)))
+  where
+    nothing_owed : IsOwedTo owed (Plain (f a)) → owed ≡ kind.Nothing
+    nothing_owed (inl e) = e
+    nothing_owed (inr u) = absurd (true≢false (sym u.2.0 ∙ sym (ap is_data_register ((is here).is_on a u.0 u.2.1)) ∙ typed))
+
+load_access : (base size here : ℕ) (kind_of : LoadKind) (rd : ℕ) (imm : ℤ) → is_withheld Sfiw rd ≡ false → IsAccess base size here (λ b. Load kind_of rd b imm) (Some rd)
+load_access base size here kind_of rd imm h = record {
+  lawful = λ b may. record { reserved = unreserved (Some rd) h; access = ap not may; jump = refl; target = refl; offset = no_offset (Load kind_of rd b imm) (Some rd) refl h };
+  no_ecall = λ b gate. refl;
+  owes = λ b. owing (Load kind_of rd b imm) (Some rd) refl (h, refl, λ typed. refl);
+  masks_none = λ b d. refl;
+  is_on = λ b d u. eqb-true b d (and_parts (b == d) _ u).0;
+}
+
+store_access : (base size here : ℕ) (width : StoreWidth) (rs2 : ℕ) (imm : ℤ) → IsAccess base size here (λ b. Store width b rs2 imm) None
+store_access base size here width rs2 imm = record {
+  lawful = λ b may. record { reserved = refl; access = ap not may; jump = refl; target = refl; offset = refl };
+  no_ecall = λ b gate. refl;
+  owes = λ b. owing (Store width b rs2 imm) None refl tt;
+  masks_none = λ b d. refl;
+  is_on = λ b d u. eqb-true b d (and_parts (b == d) _ u).0;
+}
+
+-- ---- an indirect jump
+
+-- the pair by which x30 becomes a word's start, and the jump by it
+jump_right : (base size : ℕ) (at : Bases) (names : List PlacedName) (here rd a : ℕ) (imm : ℤ) (slots : List Slot) → is_withheld Sfiw rd ≡ false → is_data_register rd ≡ false → imm ≡ pos 0
+    → slots ≡ Wide (Op And 30 a 25) ∷ Wide (Op Or 30 30 24) ∷ Wide (Jalr rd 30 imm) ∷ mask_after (Some rd) → AreRight base size at names here kind.Nothing slots kind.Nothing
+jump_right base size at names here rd a imm slots h untyped zero_is e =
+    let w = owing (Jalr rd 30 (pos 0)) (Some rd) refl (h, refl, λ typed. absurd (true≢false (sym typed ∙ untyped))) in
+    subst (λ v. AreRight base size at names here kind.Nothing v kind.Nothing) (sym (e ∙ ap (λ z. Wide (Op And 30 a 25) ∷ Wide (Op Or 30 30 24) ∷ Wide (Jalr rd 30 z) ∷ mask_after (Some rd)) zero_is))
+    (right_known base size at names here kind.Nothing kind.Code kind.Nothing (Wide (Op And 30 a 25)) (Op And 30 a 25) (Wide (Op Or 30 30 24) ∷ Wide (Jalr rd 30 (pos 0)) ∷ mask_after (Some rd)) refl
+    (record {
+      no_ecall = λ gate. refl;
+      lawful = record { reserved = refl; access = refl; jump = refl; target = refl; offset = refl };
+      meets = record { rest = kind.Nothing; pays = refl; own = kind.Code; owes = refl; next_is = refl };
+    })
+    (right_known base size at names (here + 4) kind.Code kind.Nothing kind.Nothing (Wide (Op Or 30 30 24)) (Op Or 30 30 24) (Wide (Jalr rd 30 (pos 0)) ∷ mask_after (Some rd)) refl
+    (record {
+      no_ecall = λ gate. refl;
+      lawful = record { reserved = refl; access = refl; jump = refl; target = refl; offset = refl };
+      meets = record { rest = kind.Nothing; pays = refl; own = kind.Nothing; owes = refl; next_is = refl };
+    })
+    (right_known base size at names (here + 4 + 4) kind.Nothing w.own kind.Nothing (Wide (Jalr rd 30 (pos 0))) (Jalr rd 30 (pos 0)) (mask_after (Some rd)) refl
+    (record {
+      no_ecall = λ gate. refl;
+      lawful = record { reserved = unreserved (Some rd) h; access = refl; jump = refl; target = refl; offset = no_offset (Jalr rd 30 (pos 0)) (Some rd) refl h };
+      meets = paid kind.Nothing (Jalr rd 30 (pos 0)) (Some rd) refl w;
+    })
+    (after_right base size at names (here + 4 + 4 + 4) w.own (Some rd) w.is))))
+
+-- ---- an instruction
+
+-- one that stays as it is, before the mask of what it writes
+calm_right : (base size : ℕ) (at : Bases) (names : List PlacedName) (here : ℕ) (owed : Owed) (rvc : Bool) (i : Instr) (confined slots : List Slot) → is_calm i ≡ true → is_access i ≡ false → names_withheld Sfiw i ≡ false
+    → is_barred_jump (Plain i) ≡ false → IsOwedTo owed (Plain i) → IsAlone rvc i confined → slots ≡ confined ++ mask_after (destination i) → AreRight base size at names here owed slots kind.Nothing
+calm_right base size at names here owed rvc i confined slots c access n b o alone e =
+    let w = owing_as_named i n b in
+    let one = right_alone base size at names here owed w.own rvc i confined alone
+    (record { no_ecall = calm_no_ecall i c; lawful = calm_lawful base size here i c (free_one i n); meets = paid owed i (destination i) (free_of owed i (nothing_before owed i access o)) w }) in
+    subst (λ v. AreRight base size at names here owed v kind.Nothing) (sym e)
+    (right_append base size at names here owed w.own kind.Nothing confined (mask_after (destination i)) one (after_right base size at names (here + size_of confined) w.own (destination i) w.is))
+
+zero_is : (imm : ℤ) → is_zero imm ≡ true → imm ≡ pos 0
+zero_is (pos n) h = ap pos (eqb-true n 0 h)
+zero_is (negsuc n) h = absurd (true≢false (sym h))
+
+-- of no step
+around_right : (base size : ℕ) (at : Bases) (names : List PlacedName) (here : ℕ) (owed : Owed) (rvc : Bool) (i : Instr) (count : ℕ) (slots : List Slot) → IsOwedTo owed (Plain i) → IsBody count (Plain i) → names_withheld Sfiw i ≡ false
+    → is_ecall (Plain i) ≡ false → is_barred_jump (Plain i) ≡ false → IsAround rvc false i slots → AreRight base size at names here owed slots kind.Nothing
+around_right base size at names here owed rvc (Load k rd a imm) count slots o body n c b x =
+    access_right base size at names here owed rvc (λ r. Load k rd r imm) (Some rd) a (is_data_register a) (a == 0) x.0 slots (λ there. load_access base size there k rd imm (or_parts (is_withheld Sfiw rd) (is_withheld Sfiw a) n).0) refl refl o x.1 x.2
+around_right base size at names here owed rvc (Store width a rs2 imm) count slots o body n c b x =
+    access_right base size at names here owed rvc (λ r. Store width r rs2 imm) None a (is_data_register a) (a == 0) x.0 slots (λ there. store_access base size there width rs2 imm) refl refl o x.1 x.2
+around_right base size at names here owed rvc (Jalr rd a imm) count slots o body n c b x =
+    let parts = or_parts (is_data_register rd) (not (is_zero imm)) b in
+    let none = nothing_before owed (Jalr rd a imm) refl o in
+    subst (λ p. AreRight base size at names here p slots kind.Nothing) (sym none)
+    (jump_right base size at names here rd a imm slots (or_parts (is_withheld Sfiw rd) (is_withheld Sfiw a) n).0 parts.0 (zero_is imm (not-false (is_zero imm) parts.1))
+    (x.2 ∙ ap (λ v. Wide (Op And 30 a 25) ∷ Wide (Op Or 30 30 24) ∷ (v ++ mask_after (Some rd))) x.1))
+around_right base size at names here owed rvc Ecall count slots o body n c b x = absurd (true≢false c)
+around_right base size at names here owed rvc (Branch cond rs1 rs2 offset) count slots o body n c b x = absurd body.1
+around_right base size at names here owed rvc (Jal rd offset) count slots o body n c b x = absurd body.1
+around_right base size at names here owed rvc i count slots o body n c b x = calm_right base size at names here owed rvc i x.0 slots refl refl n b o x.1 x.2
+
+-- a step leaves its mask or a use of it owed
+step_meets : (d : ℕ) (k : ℤ) → is_data_register d ≡ true → Meets kind.Nothing (OpImm Addi d d k) (kind.MaskOrUse d)
+step_meets d k typed = of_data (λ e. Meets kind.Nothing (OpImm Addi e e k) (kind.MaskOrUse e)) (record { rest = kind.Nothing; pays = refl; own = kind.MaskOrUse 2; owes = refl; next_is = refl }) (record { rest = kind.Nothing; pays = refl; own = kind.MaskOrUse 3; owes = refl; next_is = refl })
+    (record { rest = kind.Nothing; pays = refl; own = kind.MaskOrUse 4; owes = refl; next_is = refl }) (record { rest = kind.Nothing; pays = refl; own = kind.MaskOrUse 29; owes = refl; next_is = refl }) d typed
+
+-- what a step is
+pub record IsStep (body : Body) : Type 0 where
+  pub data_one : ℕ
+  pub by : ℤ
+  pub typed : is_data_register data_one ≡ true
+  pub is : body ≡ Plain (OpImm Addi data_one data_one by)
+
+step_right : (base size : ℕ) (at : Bases) (names : List PlacedName) (here : ℕ) (owed : Owed) (rvc : Bool) (d : ℕ) (k : ℤ) (slots : List Slot) → IsOwedTo owed (Plain (OpImm Addi d d k)) → is_data_register d ≡ true → names_withheld Sfiw (OpImm Addi d d k) ≡ false
+    → IsAround rvc true (OpImm Addi d d k) slots → AreRight base size at names here owed slots (kind.MaskOrUse d)
+step_right base size at names here owed rvc d k slots o typed n x =
+    let none = nothing_before owed (OpImm Addi d d k) refl o in
+    let one = right_alone base size at names here kind.Nothing (kind.MaskOrUse d) rvc (OpImm Addi d d k) x.0 x.1
+    (record { no_ecall = λ gate. refl; lawful = calm_lawful base size here (OpImm Addi d d k) refl (free_one (OpImm Addi d d k) n); meets = step_meets d k typed }) in
+    subst (λ p. AreRight base size at names here p slots (kind.MaskOrUse d)) (sym none)
+    (subst (λ v. AreRight base size at names here kind.Nothing v (kind.MaskOrUse d)) (sym (x.2 ∙ append-nil x.0)) one)
+
+-- a move by the mask alone
+move_right : (base size : ℕ) (at : Bases) (names : List PlacedName) (here : ℕ) (owed : Owed) (i : Instr) → IsOwedTo owed (Plain i) → is_move i ≡ true → AreRight base size at names here owed (moved i) kind.Nothing
+move_right base size at names here owed (OpImm Addi d a imm) o m =
+    subst (λ p. AreRight base size at names here p (data_mask d a) kind.Nothing) (sym (nothing_before owed (OpImm Addi d a imm) refl o)) (mask_right base size at names here d a (and_parts (is_data_register d) (is_zero imm) m).0)
+move_right base size at names here owed (Op Add d b a) o m =
+    subst (λ p. AreRight base size at names here p (data_mask d a) kind.Nothing) (sym (nothing_before owed (Op Add d b a) refl o)) (mask_right base size at names here d a (and_parts (is_data_register d) (b == 0) m).0)
+move_right base size at names here owed _ o m = absurd (true≢false (sym m))
+
+plain_right : (base size : ℕ) (at : Bases) (names : List PlacedName) (here : ℕ) (owed : Owed) (moves rvc step : Bool) (i : Instr) (count : ℕ) (slots : List Slot) → (is_move i && not step) ≡ moves → IsOwedTo owed (Plain i) → IsBody count (Plain i)
+    → names_withheld Sfiw i ≡ false → is_ecall (Plain i) ≡ false → is_barred_jump (Plain i) ≡ false → (step ≡ true → IsStep (Plain i)) → MatchBool moves (slots ≡ moved i) (IsAround rvc step i slots)
+    → AreRight base size at names here owed slots (owed_past step (Plain i))
+plain_right base size at names here owed true rvc true i count slots m o body n c b s x = absurd (true≢false (sym (and_parts (is_move i) false m).1))
+plain_right base size at names here owed true rvc false i count slots m o body n c b s x =
+    subst (λ v. AreRight base size at names here owed v kind.Nothing) (sym x) (move_right base size at names here owed i o (and_parts (is_move i) true m).0)
+plain_right base size at names here owed false rvc true i count slots m o body n c b s x = as_step (s refl)
+  where
+    plain_of : Instr → Body → Instr
+    plain_of j (Plain k) = k
+    plain_of j _ = j
+
+    as_step : IsStep (Plain i) → AreRight base size at names here owed slots (owed_past true (Plain i))
+    as_step t =
+        let same : i ≡ OpImm Addi t.data_one t.data_one t.by = ap (plain_of i) t.is in
+        let P : Instr → Type 0 = λ j. IsOwedTo owed (Plain j) → names_withheld Sfiw j ≡ false → IsAround rvc true j slots → AreRight base size at names here owed slots (owed_past true (Plain j)) in
+        subst P (sym same) (λ o n x. step_right base size at names here owed rvc t.data_one t.by slots o t.typed n x) o n x
+plain_right base size at names here owed false rvc false i count slots m o body n c b s x = around_right base size at names here owed rvc i count slots o body n c b x
+
+-- ---- an item
+
+-- a jal or branch to a word's start
+aimed_right : (base size here to : ℕ) (j : Instr) (count name : ℕ) → IsBody count (To j name) → names_withheld Sfiw j ≡ false → is_barred_jump (To j name) ≡ false → here < 2 ^ 32 → is_word_start base size to ≡ true → to < 2 ^ 32
+    → IsRight base size here kind.Nothing (with_offset (pos to -ℤ pos here) j) kind.Nothing
+aimed_right base size here to (Jal rd offset) count name body n b low start near =
+    let lands_there : offset_by here (pos to -ℤ pos here) ≡ to = lands (pos to -ℤ pos here) here to refl low near in
+    let w = owing (Jal rd (pos to -ℤ pos here)) (Some rd) refl (n, refl, λ typed. absurd (true≢false (sym typed ∙ b))) in
+    record {
+      no_ecall = λ gate. refl;
+      lawful = record {
+        reserved = unreserved (Some rd) n;
+        access = refl;
+        jump = refl;
+        target = ap (λ a. not (is_word_start base size a)) lands_there ∙ ap not start;
+        offset = no_offset (Jal rd (pos to -ℤ pos here)) (Some rd) refl n;
+      };
+      meets = record { rest = kind.Nothing; pays = refl; own = w.own; owes = w.owes; next_is = untyped rd w.own b w.is };
+    }
+  where
+    untyped : (rd : ℕ) (own : Owed) → is_data_register rd ≡ false → IsMaskOwed own (Some rd) → own ≡ kind.Nothing
+    untyped rd own e m = subst (λ t. MatchBool t ((own ≡ kind.Mask rd) ⊎ (own ≡ kind.MaskOrUse rd)) (own ≡ kind.Nothing)) e m
+aimed_right base size here to (Branch cond rs1 rs2 offset) count name body n b low start near =
+    let lands_there : offset_by here (pos to -ℤ pos here) ≡ to = lands (pos to -ℤ pos here) here to refl low near in
+    record {
+      no_ecall = λ gate. refl;
+      lawful = record {
+        reserved = refl;
+        access = refl;
+        jump = refl;
+        target = ap (λ a. not (is_word_start base size a)) lands_there ∙ ap not start;
+        offset = refl;
+      };
+      meets = record { rest = kind.Nothing; pays = refl; own = kind.Nothing; owes = refl; next_is = refl };
+    }
+aimed_right base size here to _ count name body n b low start near = absurd body.1
+
+-- an instruction made of a name's address, before the mask of what it writes
+made_right : (base size : ℕ) (at : Bases) (names : List PlacedName) (here : ℕ) (x : Slot) (f : ℕ → Instr) (o : Option ℕ) (rd : ℕ) → slot_size x ≡ 4 → resolved at names here x ≡ made_of f o → is_withheld Sfiw rd ≡ false
+    → ((a : ℕ) → (is_calm (f a) ≡ true) × (destination (f a) ≡ Some rd) × (places rd (f a) ≡ false) × (is_jump (f a) ≡ false)) → AreRight base size at names here kind.Nothing (x ∷ mask_after (Some rd)) kind.Nothing
+made_right base size at names here x f o rd four r h calmly = λ i q.
+    let m = made f o i (sym r ∙ q) in
+    let k = calmly m.0 in
+    let w = owing (f m.0) (Some rd) k.1 (h, k.2, λ typed. k.3) in
+    let one : IsRight base size here kind.Nothing (f m.0) w.own =
+    record { no_ecall = calm_no_ecall (f m.0) k.0; lawful = calm_lawful base size here (f m.0) k.0 (subst IsFreeOne (sym k.1) h); meets = paid kind.Nothing (f m.0) (Some rd) refl w } in
+    (w.own, subst (λ j. IsRight base size here kind.Nothing j w.own) (sym m.2) one, after_right base size at names (here + slot_size x) w.own (Some rd) w.is)
+
+body_right : (base size : ℕ) (at : Bases) (names : List PlacedName) → AreWordStarts base size at names → (here : ℕ) (owed : Owed) (line : ℕ) (rvc step : Bool) (body : Body) (count : ℕ) (slots : List Slot) → here + size_of slots ≤ 2 ^ 32
+    → IsOwedTo owed body → IsBody count body → item_names_withheld Sfiw body ≡ false → is_ecall body ≡ false → is_barred_jump body ≡ false → (step ≡ true → IsStep body) → IsExpansionOf line rvc step body slots
+    → AreRight base size at names here owed slots (owed_past step body)
+body_right base size at names starts here owed line rvc step (Plain i) count slots room o is n c b s x =
+    plain_right base size at names here owed (is_move i && not step) rvc step i count slots refl o is n c b s x
+body_right base size at names starts here owed line rvc step (To j k) count slots room o is n c b s x =
+    let none = unowed owed o in
+    let size_is = ap size_of x in
+    let past = no_step step s in
+    subst (λ p. AreRight base size at names here p slots (owed_past step (To j k))) (sym none)
+    (subst (λ p. AreRight base size at names here kind.Nothing slots p) (sym past)
+    (subst (λ v. AreRight base size at names here kind.Nothing v kind.Nothing) (sym x) (λ i q.
+    let m = made (λ to. with_offset (pos to -ℤ pos here) j) (target_at at names k) i q in
+    let t = starts k m.0 m.1 in
+    (kind.Nothing, subst (λ z. IsRight base size here kind.Nothing z kind.Nothing) (sym m.2) (aimed_right base size here m.0 j count k is n b (omega arith) t.0 t.1), refl))))
+  where
+    unowed : (owed : Owed) → IsOwedTo owed (To j k) → owed ≡ kind.Nothing
+    unowed owed (inl e) = e
+    unowed owed (inr u) = absurd u.2
+
+    no_step : (step : Bool) → (step ≡ true → IsStep (To j k)) → owed_past step (To j k) ≡ kind.Nothing
+    no_step true s = refl
+    no_step false s = refl
+body_right base size at names starts here owed line rvc step (High rd k) count slots room o is n c b s x =
+    let none = unowed owed o in
+    let past = no_step step s in
+    subst (λ p. AreRight base size at names here p slots (owed_past step (High rd k))) (sym none)
+    (subst (λ p. AreRight base size at names here kind.Nothing slots p) (sym past)
+    (subst (λ v. AreRight base size at names here kind.Nothing v kind.Nothing) (sym x)
+    (made_right base size at names here (Upper rd k line) (λ address. Lui rd (upper (pos address))) (address_at at names k) rd refl refl n (λ a. (refl, refl, refl, refl)))))
+  where
+    unowed : (owed : Owed) → IsOwedTo owed (High rd k) → owed ≡ kind.Nothing
+    unowed owed (inl e) = e
+    unowed owed (inr u) = absurd u.2
+
+    no_step : (step : Bool) → (step ≡ true → IsStep (High rd k)) → owed_past step (High rd k) ≡ kind.Nothing
+    no_step true s = refl
+    no_step false s = refl
+body_right base size at names starts here owed line rvc step (Low rd k) count slots room o is n c b s x =
+    let none = unowed owed o in
+    let past = no_step step s in
+    subst (λ p. AreRight base size at names here p slots (owed_past step (Low rd k))) (sym none)
+    (subst (λ p. AreRight base size at names here kind.Nothing slots p) (sym past)
+    (subst (λ v. AreRight base size at names here kind.Nothing v kind.Nothing) (sym x)
+    (made_right base size at names here (Lower rd k line) (λ address. OpImm Addi rd rd (lower (pos address))) (address_at at names k) rd refl refl n (λ a. (refl, refl, refl, refl)))))
+  where
+    unowed : (owed : Owed) → IsOwedTo owed (Low rd k) → owed ≡ kind.Nothing
+    unowed owed (inl e) = e
+    unowed owed (inr u) = absurd u.2
+
+    no_step : (step : Bool) → (step ≡ true → IsStep (Low rd k)) → owed_past step (Low rd k) ≡ kind.Nothing
+    no_step true s = refl
+    no_step false s = refl
+
+-- ---- items
+
+-- a step to an item is one, which that uses
+step_to : (x y : Body) → is_step_to x y ≡ true → IsStep x × IsOwedTo (owed_past true x) y
+step_to (Plain (OpImm Addi d a k)) (Plain i) h =
+    let one = and_parts (is_data_register d && (a == d)) (is_use d i) h in
+    let two = and_parts (is_data_register d) (a == d) one.0 in
+    let same = eqb-true a d two.1 in
+    (record { data_one = d; by = k; typed = two.0; is = ap (λ r. Plain (OpImm Addi d r k)) same }, inr (d, refl, (two.0, one.1)))
+step_to _ _ h = absurd (true≢false (sym h))
+
+-- after an item what is owed is owed to the next one
+record IsFollowed (step : Bool) (x : Body) (later : List Item) : Type 0 where
+  steps : step ≡ true → IsStep x
+  owed_next : IsOwedBefore (owed_past step x) later
+
+followed : (x : Item) (later : List Item) → IsFollowed (is_step x later) x.body later
+followed x [] = record { steps = λ h. absurd (true≢false (sym h)); owed_next = refl }
+followed x (y ∷ later) = by (not y.labelled) (is_step_to x.body y.body) refl
+  where
+    by : (l t : Bool) → is_step_to x.body y.body ≡ t → IsFollowed (l && t) x.body (y ∷ later)
+    by true true e = let s = step_to x.body y.body e in record { steps = λ h. s.0; owed_next = s.1 }
+    by true false e = record { steps = λ h. absurd (true≢false (sym h)); owed_next = inl refl }
+    by false t e = record { steps = λ h. absurd (true≢false (sym h)); owed_next = inl refl }
+
+-- nothing is, before any items
+pub nothing_owed : (items : List Item) → IsOwedBefore kind.Nothing items
+nothing_owed [] = refl
+nothing_owed (x ∷ items) = inl refl
+
+-- The slots of items as they are laid. Before them nothing is owed, or it is the use that the first
+-- of them is; after the last nothing.
+pub items_right : (base size : ℕ) (at : Bases) (names : List PlacedName) → AreWordStarts base size at names → (count here : ℕ) (owed : Owed) (items : List Item) (expanded : List Marked) (laid : List Slot) → here + size_of laid ≤ 2 ^ 32
+    → All (IsPermitted Sfiw) items → All (λ x. IsBody count x.body) items → IsOwedBefore owed items → AreExpanded items [] expanded → AreAsLaid (map (λ m. m.1) expanded) laid → AreRight base size at names here owed laid kind.Nothing
+items_right base size at names starts count here owed [] expanded laid room permitted bodies o e l =
+    empty laid (subst (λ v. AreAsLaid (map (λ m. m.1) v) laid) e l)
+  where
+    empty : (laid : List Slot) → AreAsLaid [] laid → AreRight base size at names here owed laid kind.Nothing
+    empty [] l = sym o
+    empty (x ∷ laid) l = absurd l
+items_right base size at names starts count here owed (x ∷ items) expanded laid room permitted bodies o e l =
+    let own = e.0 in
+    let rest = e.1 in
+    let slots : map (λ m. m.1) expanded ≡ own ++ map (λ m. m.1) rest =
+    ap (λ v. map (λ m. m.1) v) e.3 ∙ map_append (marked x.labelled own) rest ∙ ap (λ v. v ++ map (λ m. m.1) rest) (slots_of_marked x.labelled own) in
+    let two = apart own (map (λ m. m.1) rest) laid (subst (λ v. AreAsLaid v laid) slots l) in
+    let sized = ap size_of two.both ∙ size_of-append two.first two.rest in
+    let may = All-head (IsPermitted Sfiw) x items permitted in
+    let body = All-head (λ y. IsBody count y.body) x items bodies in
+    let is = subst (λ v. IsExpansion x v own) (append-nil items) e.2 in
+    let f = followed x items in
+    let laid_is = body_laid x.line x.rvc (is_step x items) x.body own two.first is two.are_first in
+    let first = body_right base size at names starts here owed x.line laid_is.0 (is_step x items) x.body count two.first (omega arith) o body may.operands may.no_ecall may.no_barred_jump f.steps laid_is.1 in
+    let later = items_right base size at names starts count (here + size_of two.first) (owed_past (is_step x items) x.body) items rest two.rest (omega arith) (All-tail (IsPermitted Sfiw) x items permitted) (All-tail (λ y. IsBody count y.body) x items bodies) f.owed_next e.4 two.are_rest in
+    subst (λ v. AreRight base size at names here owed v kind.Nothing) (sym two.both) (right_append base size at names here owed (owed_past (is_step x items) x.body) kind.Nothing two.first two.rest first later)

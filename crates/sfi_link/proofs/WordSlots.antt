@@ -1,0 +1,113 @@
+-- Slots of code in words: their instructions break no rule, one after another, and pay what is owed.
+use Rattle.sfi_link.proofs.Prelude.{◌≡◌, ◌⊎◌, ℕ, ◌+◌, List, [], ◌∷◌, ◌++◌, Option, Some, None, Bool, true, false, refl, sym, ap, ◌∙◌, subst, arith, inl, inr, MatchBool, Instr, Op, Slot, Wide, Short, PlacedName, slot_size, size_of, Bases, resolved}
+use Rattle.std.specs.Prelude.{if◌then◌else◌}
+use Rattle.rv_word.specs.declared.instr.RegOp.TheVariants.{And, Or}
+use Rattle.sfi_policy.specs.Registers.{is_data_register}
+use Rattle.sfi_rewrite.specs.Expansion.{IsAlone}
+use Rattle.sfi_rewrite.specs.words.Expansion.{data_mask, mask_after}
+use Rattle.sfi_rules.specs.declared.owed.Owed.{Owed}
+use Rattle.sfi_rules.specs.declared.owed.Owed.TheVariants as kind
+use Rattle.sfi_rewrite.proofs.Sizes.{size_of-cons}
+use Rattle.sfi_link.proofs.CleanPlaces.{some_same}
+use Rattle.sfi_link.proofs.WordRules.{IsLawful, Meets}
+use Rattle.sfi_link.proofs.WordOwing.{of_data, IsMaskOwed}
+use Rattle.sfi_rules.specs.words.Rules.{breaks_ecall}
+
+-- an instruction that is no ecall breaks no rule there, and is what was owed
+pub record IsRight (base size here : ℕ) (owed : Owed) (i : Instr) (next : Owed) : Type 0 where
+  pub no_ecall : (gate : Bool) → breaks_ecall gate i ≡ false
+  pub lawful : IsLawful base size here i
+  pub meets : Meets owed i next
+
+-- the slots' instructions are, from there on, one after another
+abbrev pub AreRight : ℕ → ℕ → Bases → List PlacedName → ℕ → Owed → List Slot → Owed → Type 0
+AreRight base size at names here owed [] next = next ≡ owed
+AreRight base size at names here owed (s ∷ slots) next =
+    (i : Instr) → resolved at names here s ≡ Some i → (between : Owed) × IsRight base size here owed i between × AreRight base size at names (here + slot_size s) between slots next
+
+pub right_append : (base size : ℕ) (at : Bases) (names : List PlacedName) (here : ℕ) (owed between next : Owed) (xs ys : List Slot) → AreRight base size at names here owed xs between
+    → AreRight base size at names (here + size_of xs) between ys next → AreRight base size at names here owed (xs ++ ys) next
+right_append base size at names here owed between next [] ys a b =
+    let e : here + 0 ≡ here = omega arith in
+    subst (λ n. AreRight base size at names n owed ys next) e (subst (λ o. AreRight base size at names (here + 0) o ys next) a b)
+right_append base size at names here owed between next (s ∷ xs) ys a b = λ i r.
+    let one = a i r in
+    let sized = size_of-cons s xs in
+    let e : here + size_of (s ∷ xs) ≡ here + slot_size s + size_of xs = omega arith in
+    (one.0, one.1, right_append base size at names (here + slot_size s) one.0 between next xs ys one.2 (subst (λ n. AreRight base size at names n between ys next) e b))
+
+-- at an instruction that is known
+pub right_known : (base size : ℕ) (at : Bases) (names : List PlacedName) (here : ℕ) (owed between next : Owed) (s : Slot) (i : Instr) (more : List Slot) → resolved at names here s ≡ Some i
+    → IsRight base size here owed i between → AreRight base size at names (here + slot_size s) between more next → AreRight base size at names here owed (s ∷ more) next
+right_known base size at names here owed between next s i more e one rest = λ j r.
+    (between, subst (λ k. IsRight base size here owed k between) (some_same i j (sym e ∙ r)) one, rest)
+
+pub right_alone : (base size : ℕ) (at : Bases) (names : List PlacedName) (here : ℕ) (owed next : Owed) (rvc : Bool) (i : Instr) (slots : List Slot) → IsAlone rvc i slots → IsRight base size here owed i next
+    → AreRight base size at names here owed slots next
+right_alone base size at names here owed next false i slots a one =
+    subst (λ v. AreRight base size at names here owed v next) (sym a) (right_known base size at names here owed next next (Wide i) i [] refl one refl)
+right_alone base size at names here owed next true i slots (inl f) one =
+    subst (λ v. AreRight base size at names here owed v next) (sym f.2) (right_known base size at names here owed next next (Short f.0) i [] (ap Some f.1.expands) one refl)
+right_alone base size at names here owed next true i slots (inr w) one =
+    subst (λ v. AreRight base size at names here owed v next) (sym w.1) (right_known base size at names here owed next next (Wide i) i [] refl one refl)
+
+-- ---- masks
+
+-- `and x31, a, x27` leaves what is owed, or pays for the mask of a
+masked : (base size here : ℕ) (owed next : Owed) (a : ℕ) → Meets owed (Op And 31 a 27) next → IsRight base size here owed (Op And 31 a 27) next
+masked base size here owed next a m = record {
+  no_ecall = λ gate. refl;
+  lawful = record { reserved = refl; access = refl; jump = refl; target = refl; offset = refl };
+  meets = m;
+}
+
+-- `or d, x31, x26` of a data register pays for its place, where that is owed
+put : (base size here d : ℕ) (owed : Owed) → is_data_register d ≡ true → ((e : ℕ) → e ≡ d → Meets owed (Op Or e 31 26) kind.Nothing) → IsRight base size here owed (Op Or d 31 26) kind.Nothing
+put base size here d owed typed m = record {
+  no_ecall = λ gate. refl;
+  lawful = of_data (λ e. IsLawful base size here (Op Or e 31 26)) (record { reserved = refl; access = refl; jump = refl; target = refl; offset = refl })
+      (record { reserved = refl; access = refl; jump = refl; target = refl; offset = refl }) (record { reserved = refl; access = refl; jump = refl; target = refl; offset = refl })
+      (record { reserved = refl; access = refl; jump = refl; target = refl; offset = refl }) d typed;
+  meets = m d refl;
+}
+
+put_free : (d : ℕ) → is_data_register d ≡ true → Meets kind.Nothing (Op Or d 31 26) kind.Nothing
+put_free d typed = of_data (λ e. Meets kind.Nothing (Op Or e 31 26) kind.Nothing) (record { rest = kind.Nothing; pays = refl; own = kind.Nothing; owes = refl; next_is = refl }) (record { rest = kind.Nothing; pays = refl; own = kind.Nothing; owes = refl; next_is = refl })
+    (record { rest = kind.Nothing; pays = refl; own = kind.Nothing; owes = refl; next_is = refl }) (record { rest = kind.Nothing; pays = refl; own = kind.Nothing; owes = refl; next_is = refl }) d typed
+
+put_owed : (d : ℕ) → is_data_register d ≡ true → Meets (kind.Place d) (Op Or d 31 26) kind.Nothing
+put_owed d typed = of_data (λ e. Meets (kind.Place e) (Op Or e 31 26) kind.Nothing) (record { rest = kind.Nothing; pays = refl; own = kind.Nothing; owes = refl; next_is = refl }) (record { rest = kind.Nothing; pays = refl; own = kind.Nothing; owes = refl; next_is = refl })
+    (record { rest = kind.Nothing; pays = refl; own = kind.Nothing; owes = refl; next_is = refl }) (record { rest = kind.Nothing; pays = refl; own = kind.Nothing; owes = refl; next_is = refl }) d typed
+
+mask_owed : (d : ℕ) → is_data_register d ≡ true → Meets (kind.Mask d) (Op And 31 d 27) (kind.Place d)
+mask_owed d typed = of_data (λ e. Meets (kind.Mask e) (Op And 31 e 27) (kind.Place e)) (record { rest = kind.Place 2; pays = refl; own = kind.Nothing; owes = refl; next_is = refl }) (record { rest = kind.Place 3; pays = refl; own = kind.Nothing; owes = refl; next_is = refl })
+    (record { rest = kind.Place 4; pays = refl; own = kind.Nothing; owes = refl; next_is = refl }) (record { rest = kind.Place 29; pays = refl; own = kind.Nothing; owes = refl; next_is = refl }) d typed
+
+mask_or_use_owed : (d : ℕ) → is_data_register d ≡ true → Meets (kind.MaskOrUse d) (Op And 31 d 27) (kind.Place d)
+mask_or_use_owed d typed = of_data (λ e. Meets (kind.MaskOrUse e) (Op And 31 e 27) (kind.Place e)) (record { rest = kind.Place 2; pays = refl; own = kind.Nothing; owes = refl; next_is = refl }) (record { rest = kind.Place 3; pays = refl; own = kind.Nothing; owes = refl; next_is = refl })
+    (record { rest = kind.Place 4; pays = refl; own = kind.Nothing; owes = refl; next_is = refl }) (record { rest = kind.Place 29; pays = refl; own = kind.Nothing; owes = refl; next_is = refl }) d typed
+
+mask_free : (a : ℕ) → Meets kind.Nothing (Op And 31 a 27) kind.Nothing
+mask_free a = record { rest = kind.Nothing; pays = refl; own = kind.Nothing; owes = refl; next_is = refl }
+
+-- the two of them
+mask_then : (base size : ℕ) (at : Bases) (names : List PlacedName) (here d a : ℕ) (owed between : Owed) → is_data_register d ≡ true → Meets owed (Op And 31 a 27) between → Meets between (Op Or d 31 26) kind.Nothing
+    → AreRight base size at names here owed (data_mask d a) kind.Nothing
+mask_then base size at names here d a owed between typed first second =
+    right_known base size at names here owed between kind.Nothing (Wide (Op And 31 a 27)) (Op And 31 a 27) (Wide (Op Or d 31 26) ∷ []) refl (masked base size here owed between a first)
+    (right_known base size at names (here + 4) between kind.Nothing kind.Nothing (Wide (Op Or d 31 26)) (Op Or d 31 26) [] refl
+    (put base size (here + 4) d between typed (λ e same. subst (λ r. Meets between (Op Or r 31 26) kind.Nothing) (sym same) second)) refl)
+
+-- where nothing is owed
+pub mask_right : (base size : ℕ) (at : Bases) (names : List PlacedName) (here d a : ℕ) → is_data_register d ≡ true → AreRight base size at names here kind.Nothing (data_mask d a) kind.Nothing
+mask_right base size at names here d a typed = mask_then base size at names here d a kind.Nothing kind.Nothing typed (mask_free a) (put_free d typed)
+
+-- after a write of the register
+pub after_right : (base size : ℕ) (at : Bases) (names : List PlacedName) (here : ℕ) (owed : Owed) (to : Option ℕ) → IsMaskOwed owed to → AreRight base size at names here owed (mask_after to) kind.Nothing
+after_right base size at names here owed None m = sym m
+after_right base size at names here owed (Some d) m = by (is_data_register d) refl m
+  where
+    by : (t : Bool) → is_data_register d ≡ t → MatchBool t ((owed ≡ kind.Mask d) ⊎ (owed ≡ kind.MaskOrUse d)) (owed ≡ kind.Nothing) → AreRight base size at names here owed (if t then data_mask d d else []) kind.Nothing
+    by false e m = sym m
+    by true e (inl is) = subst (λ o. AreRight base size at names here o (data_mask d d) kind.Nothing) (sym is) (mask_then base size at names here d d (kind.Mask d) (kind.Place d) e (mask_owed d e) (put_owed d e))
+    by true e (inr is) = subst (λ o. AreRight base size at names here o (data_mask d d) kind.Nothing) (sym is) (mask_then base size at names here d d (kind.MaskOrUse d) (kind.Place d) e (mask_or_use_owed d e) (put_owed d e))
