@@ -10,11 +10,10 @@ use Rattle.sfi_check.specs.Verdict.{HasFindings}
 use Rattle.sfi_check.specs.declared.conversion.ConvertFault.{ConvertFault}
 use Rattle.sfi_check.specs.declared.conversion.ConvertFault.TheVariants.{Refused, NotOld, Stack, Memory}
 use Rattle.sfi_check.specs.declared.refusal.Refusal.TheVariants as refusal
-use Rattle.sfi_answers.specs.private.Converting.{HasFound, AnswersConvertFault}
-use Rattle.sfi_answers.specs.Verdict.{refused_line}
-use Rattle.sfi_answers.specs.commands.Building.{digits_line}
-use Rattle.sfi_answers.specs.commands.Checking.{HasSomeFault}
-use Rattle.sfi_answers.specs.commands.Converting.{SaysConversion, convert}
+use Rattle.sfi_answers.specs.private.{HasFound, AnswersConvertFault}
+use Rattle.sfi_answers.specs.Checking.{refused_line, HasSomeFault}
+use Rattle.sfi_answers.specs.Building.{digits_line}
+use Rattle.sfi_answers.specs.Converting.{SaysConversion, convert}
 use Rattle.sfi_answers.specs.Answers.{Answers, IsStop, AnswersStatus}
 use Rattle.sfi_answers.specs.declared.fault.Stop.{Stop}
 use Rattle.sfi_answers.specs.declared.fault.Stop.TheVariants as stop

@@ -4,9 +4,8 @@ use Rattle.std.specs.Prelude.{IsErrAnd}
 use Rattle.sfi_build.specs.declared.build_fault.BuildFault.{BuildFault}
 use Rattle.sfi_build.specs.Texts.{IsBuildFault, IsWantOfMemory}
 use Rattle.sfi_place.specs.declared.place.Place.{Place}
-use Rattle.sfi_answers.specs.commands.Building.{of_source}
-use Rattle.sfi_answers.specs.Answers.{Answers}
-use Rattle.sfi_answers.specs.Stops.{StopsBuild}
+use Rattle.sfi_answers.specs.Building.{of_source}
+use Rattle.sfi_answers.specs.Answers.{Answers, StopsBuild}
 use Rattle.sfi_answers.specs.declared.fault.Stop.{Stop}
 use Rattle.sfi_answers.specs.declared.fault.Stop.TheVariants as stop
 use Rattle.sfi_answers.specs.declared.verdict.Answer.{Answer}

@@ -8,13 +8,13 @@ use Rattle.sfi_image.specs.Sources.{OneRead, IsChain, Streams, bytes_handed_out,
 use Rattle.sfi_check.specs.Streams.{IsVerdictOn}
 use Rattle.sfi_check.specs.declared.stream_answer.StreamAnswer.{StreamAnswer}
 use Rattle.sfi_io.specs.Hexadecimal.{IsUnreadable, SpellsBytes, is_kept}
-use Rattle.sfi_io.specs.Input.{limit}
+use Rattle.sfi_io.specs.Streams.{limit}
 use Rattle.sfi_io.specs.Pieces.{Leads, or_fault, outcome, prepend, start_of}
 use Rattle.sfi_io.specs.declared.text.TextStop.{TextStop}
 use Rattle.sfi_io.specs.declared.text.TextStop.TheVariants.{TooLarge, Failed}
 use Rattle.sfi_io.proofs.Facts.{comes_to_its_bytes}
 use Rattle.sfi_io.proofs.Leads.{failed_leads, leads_more, leads_nowhere, of_leads}
-use Rattle.sfi_answers.specs.private.Streams.{HandsOut, IsJudged}
+use Rattle.sfi_answers.specs.private.{HandsOut, IsJudged}
 
 end_is_none : (len : ℕ) (answer : Option (List ℕ)) → is_end len answer ≡ true → bytes_of answer ≡ []
 end_is_none len None e = cc e

@@ -10,9 +10,8 @@ use Rattle.sfi_rules.specs.declared.finding.Finding.{Finding}
 use Rattle.sfi_check.specs.declared.stream_answer.StreamAnswer.{StreamAnswer}
 use Rattle.sfi_check.specs.declared.stream_answer.StreamAnswer.TheVariants as answers
 use Rattle.sfi_check.specs.Streams.{AreCounted, IsFaultOf, IsVerdictOn}
-use Rattle.sfi_answers.specs.commands.Checking.{HasSomeFault, SaysVerdict}
-use Rattle.sfi_answers.specs.Verdict.{accepted_text, refused_line, refused_text}
-use Rattle.sfi_answers.specs.private.Streams.{IsJudged}
+use Rattle.sfi_answers.specs.Checking.{HasSomeFault, SaysVerdict, accepted_text, refused_line, refused_text}
+use Rattle.sfi_answers.specs.private.{IsJudged}
 
 -- the line of counted findings is that of the findings
 line_of_count : (count : ℕ) (first : Finding) (found : List Finding) → AreCounted count first found → refused_text count first ≡ refused_line found

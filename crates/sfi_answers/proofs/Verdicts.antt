@@ -6,9 +6,8 @@ use Rattle.sfi_check.specs.declared.refusal.Refusal.TheVariants.{Layout, Finding
 use Rattle.sfi_image.specs.Faults.{IsFault}
 use Rattle.sfi_image.specs.declared.fault.LayoutFault.{LayoutFault}
 use Rattle.sfi_rules.specs.declared.finding.Finding.{Finding}
-use Rattle.sfi_answers.specs.commands.Checking.{IsRefusalText, SaysRefused, on_verdict}
+use Rattle.sfi_answers.specs.Checking.{IsRefusalText, SaysRefused, on_verdict, Refuses}
 use Rattle.sfi_answers.specs.Answers.{Answers}
-use Rattle.sfi_answers.specs.Refusals.{Refuses}
 use Rattle.sfi_answers.specs.declared.fault.Stop.TheVariants as stop
 use Rattle.sfi_answers.specs.declared.verdict.Answer.{Answer}
 

@@ -1,9 +1,51 @@
--- What a command answers on what was read, or why it stops.
-use Rattle.std.specs.Prelude.{◌≡◌, ℕ, List, Result, Ok, Err, IfErr, IfOk, IsErr, string_bytes}
+-- What is said of a command, what it answers on what was read, and why it stops.
+use Rattle.std.specs.Prelude.{◌⊎◌, ℕ, List, ◌≡◌, Result, Ok, Err, IfErr, IfOk, IsErr, string_bytes}
+use Rattle.sfi_io.specs.Hexadecimal.{SpellsBytes, IsUnreadable}
+use Rattle.sfi_io.specs.declared.hexadecimal.HexStop.{HexStop}
+use Rattle.sfi_io.specs.declared.hexadecimal.HexStop.TheVariants as hex
+use Rattle.sfi_build.specs.declared.build_fault.BuildFault.{BuildFault}
+use Rattle.sfi_build.specs.Texts.{IsWantOfMemory}
+use Rattle.sfi_answers.specs.declared.fault.InputFault.TheVariants.{Hex}
 use Rattle.sfi_answers.specs.declared.fault.Stop.{Stop}
 use Rattle.sfi_answers.specs.declared.fault.Stop.TheVariants as stop
 use Rattle.sfi_answers.specs.declared.verdict.Answer.{Answer}
-use Rattle.sfi_answers.specs.Meaning.{Meaning}
+
+-- what is said of a command, by what was read
+pub record Meaning : Type 1 where
+  -- its answer: a status, 0 or 1, and the text that is printed
+  pub says : List ℕ → ℕ → List ℕ → Type 0
+  -- status 0 is due: it can be done
+  pub is_done : List ℕ → Type 0
+  -- status 1 is due: it is refused for findings
+  pub is_refused : List ℕ → Type 0
+  -- status 2 is due: what was read has a fault
+  pub has_fault : List ℕ → Type 0
+
+-- a text spells bytes of which this holds
+abbrev pub SpellsBytesThat : (List ℕ → Type 0) → List ℕ → Type 0
+SpellsBytesThat holds text = (bytes : List ℕ) × SpellsBytes text bytes × holds bytes
+
+-- the command on hexadecimal text: the same is said of the bytes that the text spells; and a text
+-- that spells none has a fault
+abbrev pub on_text : Meaning → Meaning
+on_text command = record {
+  says = λ text status answer. SpellsBytesThat (λ bytes. command.says bytes status answer) text;
+  is_done = SpellsBytesThat command.is_done;
+  is_refused = SpellsBytesThat command.is_refused;
+  has_fault = λ text. IsUnreadable text ⊎ SpellsBytesThat command.has_fault text;
+}
+
+-- where a text spells no bytes, its command stops so
+abbrev pub stop_of : HexStop → Stop
+stop_of (hex.Fault fault) = stop.Input (Hex fault)
+stop_of hex.Memory = stop.Memory
+
+-- a build stops at its fault, or for want of memory
+abbrev pub StopsBuild : BuildFault → Stop → Type 0
+StopsBuild f (stop.Input fault) = ⊥
+StopsBuild f (stop.Layout fault) = ⊥
+StopsBuild f (stop.Build fault) = (fault ≡ f) × ¬ IsWantOfMemory f
+StopsBuild f stop.Memory = Unit {0}
 
 -- a command stops so for want of memory, or for a fault, where its input has one
 abbrev pub IsStop : Type 0 → Stop → Type 0

@@ -1,8 +1,6 @@
-pub mod Verdict
-pub mod MapLines
-pub mod Meaning
-pub mod commands
-pub mod Stops
-pub mod Answers
-pub mod Refusals
 pub mod private
+pub mod Answers
+pub mod Checking
+pub mod Building
+pub mod Converting
+pub mod Listing

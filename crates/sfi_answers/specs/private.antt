@@ -1,4 +1,89 @@
 -- Words that private contracts and proofs alone cite: no public statement rests on them.
-pub mod Converting
-pub mod Sources
-pub mod Streams
+use Rattle.std.specs.Prelude.{◌≡◌, ◌≢◌, ◌⊎◌, List, [], Result, Ok, Err, string_bytes, ℕ, Bool, true, false, ◌++◌, Option, Some, None, IfSome}
+use Rattle.sfi_rules.specs.declared.finding.Finding.{Finding}
+use Rattle.sfi_check.specs.declared.conversion.ConvertFault.{ConvertFault}
+use Rattle.sfi_check.specs.declared.conversion.ConvertFault.TheVariants.{Refused, NotOld, Stack, Memory, Words}
+use Rattle.sfi_check.specs.declared.refusal.Refusal.TheVariants as refusal
+use Rattle.sfi_answers.specs.Checking.{refused_line}
+use Rattle.sfi_answers.specs.declared.fault.Stop.{Stop}
+use Rattle.sfi_answers.specs.declared.fault.Stop.TheVariants as stop
+use Rattle.sfi_answers.specs.declared.verdict.Answer.{Answer}
+use Rattle.sfi_answers.specs.Building.{IsNoSourceText}
+use Rattle.sfi_image.specs.Sources.{bytes_of, is_end}
+use Rattle.sfi_check.specs.Streams.{IsVerdictOn}
+use Rattle.sfi_check.specs.declared.stream_answer.StreamAnswer.{StreamAnswer}
+use Rattle.sfi_io.specs.Pieces.{Leads}
+use Rattle.sfi_io.specs.declared.text.TextStop.{TextStop}
+use Rattle.sfi_answers.specs.declared.text.TextState.{TextState}
+use Rattle.sfi_answers.specs.declared.text.TextState.TheVariants.{Reading, Ended, Stopped}
+
+-- ---- bytes that are not converted
+
+-- the fault is these findings, of either format
+abbrev pub HasFound : ConvertFault → List Finding → Type 0
+HasFound (Refused (refusal.Layout k)) found = ⊥
+HasFound (Refused (refusal.Findings others)) found = others.items ≡ found
+HasFound (Refused refusal.Memory) found = ⊥
+HasFound NotOld found = ⊥
+HasFound (Stack others) found = others.items ≡ found
+HasFound Memory found = ⊥
+HasFound Words found = ⊥
+
+-- where the fault is findings, there is at least one
+abbrev pub HoldsSome : ConvertFault → Type 0
+HoldsSome fault = (found : List Finding) → HasFound fault found → found ≢ []
+
+-- the answer on bytes that are not converted for this fault
+abbrev pub AnswersConvertFault : ConvertFault → Result Answer Stop → Type 0
+AnswersConvertFault fault (Ok answer) = (answer.status ≡ 1) × ((found : List Finding)
+    × HasFound fault found × (string_bytes answer.text ≡ refused_line found))
+AnswersConvertFault fault (Err (stop.Input other)) = (fault ≡ NotOld) ⊎ (fault ≡ Words)
+AnswersConvertFault fault (Err (stop.Layout k)) = fault ≡ Refused (refusal.Layout k)
+AnswersConvertFault fault (Err (stop.Build other)) = ⊥
+AnswersConvertFault fault (Err stop.Memory) = Unit {0}
+
+-- ---- a source text that isn't read
+
+-- a source text isn't read only where what was read is none
+abbrev pub IsSourceStop : List ℕ → Stop → Type 0
+IsSourceStop input (stop.Input fault) = IsNoSourceText input
+IsSourceStop input (stop.Layout fault) = ⊥
+IsSourceStop input (stop.Build fault) = ⊥
+IsSourceStop input stop.Memory = ⊥
+
+-- ---- bytes of which a stream hands out a front, and the bytes that a text spells as such a stream
+
+-- these are all the bytes, of which a stream gave a front, and all where it found the end, and the
+-- answer is the verdict on what it gave
+pub record IsJudged (answer : StreamAnswer) (all : List ℕ) : Type 0 where
+  pub given : List ℕ
+  pub rest : List ℕ
+  pub ends : Bool
+  pub all_are : all ≡ given ++ rest
+  pub none_left : ends ≡ true → rest ≡ []
+  pub verdict : IsVerdictOn given ends answer
+
+-- what is known to come of a text: after its end nothing, and after a stop no more than that
+abbrev pub known :
+    TextState → Option (Result (List ℕ) TextStop) → Option (Result (List ℕ) TextStop)
+known Reading told = told
+known Ended told = Some (Ok [])
+known (Stopped stop) told = Some (Err stop)
+
+abbrev pub is_stopped : TextState → Bool
+is_stopped Reading = false
+is_stopped Ended = false
+is_stopped (Stopped stop) = true
+
+-- whether a read failed, after one more
+abbrev pub fails : Bool → Option (List ℕ) → Bool
+fails before None = true
+fails before (Some bytes) = before
+
+-- one read of such a stream: what was known to come of the text before, and whether a read had
+-- failed; the length of the buffer and the bytes that were handed out; and the same after it
+pub record HandsOut (known : Option (Result (List ℕ) TextStop)) (was : Bool) (len : ℕ)
+    (answer : Option (List ℕ)) (after : Option (Result (List ℕ) TextStop)) (is : Bool) : Type 0 where
+  pub leads : Leads known after (bytes_of answer)
+  pub at_end : is_end len answer ≡ true → IfSome after (λ r. r ≡ Ok [])
+  pub failed : is ≡ fails was answer

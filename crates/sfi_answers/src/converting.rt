@@ -2,10 +2,10 @@
 
 ghost use Rattle.std.specs.Prelude.{◌≡◌, ◌≢◌, [], IfOk, string_bytes};
 ghost use Rattle.sfi_check.specs.declared.conversion.ConvertFault.TheVariants.{Refused};
-ghost use Rattle.sfi_answers.specs.private.Converting.{AnswersConvertFault, HoldsSome};
+ghost use Rattle.sfi_answers.specs.private.{AnswersConvertFault, HoldsSome};
 ghost use Rattle.sfi_answers.specs.Answers.{Answers};
-ghost use Rattle.sfi_answers.specs.Verdict.{refused_line};
-ghost use Rattle.sfi_answers.specs.commands.Converting.{convert};
+ghost use Rattle.sfi_answers.specs.Checking.{refused_line};
+ghost use Rattle.sfi_answers.specs.Converting.{convert};
 
 use crate::fault::{InputFault, Stop};
 use crate::verdict::{Answer, digits_line, refused_line};

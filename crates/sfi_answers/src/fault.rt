@@ -3,7 +3,7 @@
 ghost use Rattle.std.specs.Prelude.{◌≡◌, ◌≢◌, IfOk};
 ghost use Rattle.sfi_image.specs.declared.fault.LayoutFault.{LayoutFault};
 ghost use Rattle.sfi_image.specs.Faults.{number_of};
-ghost use Rattle.sfi_answers.specs.Stops.{StopsBuild, stop_of};
+ghost use Rattle.sfi_answers.specs.Answers.{StopsBuild, stop_of};
 ghost use Rattle.sfi_answers.specs.declared.fault.Stop.TheVariants.{Memory};
 
 use crate::verdict::Answer;

@@ -6,7 +6,6 @@ mod checking;
 mod converting;
 mod fault;
 mod listing;
-mod map_lines;
 mod raw;
 mod text;
 mod verdict;

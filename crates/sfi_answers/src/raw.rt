@@ -2,8 +2,8 @@
 
 ghost use Rattle.std.specs.Prelude.{◌≡◌, ◌<◌, ◌≤◌, ℕ, List, Bool, true, false, IfOk, IfSome, string_bytes};
 ghost use Rattle.sfi_check.specs.Streams.{IsVerdictOn};
-ghost use Rattle.sfi_answers.specs.commands.Checking.{HasSomeFault, check};
-ghost use Rattle.sfi_answers.specs.private.Streams.{IsJudged};
+ghost use Rattle.sfi_answers.specs.Checking.{HasSomeFault, check};
+ghost use Rattle.sfi_answers.specs.private.{IsJudged};
 
 use crate::fault::{fault_numbered, layout_line};
 use crate::verdict::{Answer, accepted_line, refused_line};

@@ -1,8 +1,8 @@
 //! The command `check` on a text, which is read in pieces.
 
 ghost use Rattle.std.specs.Prelude.{◌≡◌, ◌<◌, ◌≤◌, false, IfOk, IfSome, string_bytes};
-ghost use Rattle.sfi_answers.specs.Meaning.{on_text};
-ghost use Rattle.sfi_answers.specs.commands.Checking.{check};
+ghost use Rattle.sfi_answers.specs.Answers.{on_text};
+ghost use Rattle.sfi_answers.specs.Checking.{check};
 
 use crate::fault::{InputFault, Stop, TOO_LARGE_LINE, stop_answer};
 use crate::raw::stream_answer;
@@ -31,7 +31,7 @@ struct SpelledBytes<'a, R: Read> {
 
 impl<'a, R: Read> ByteSource for SpelledBytes<'a, R> {
     ghost use Rattle.sfi_io.specs.Pieces.{to_come};
-    ghost use Rattle.sfi_answers.specs.private.Streams.{HandsOut, is_stopped, known};
+    ghost use Rattle.sfi_answers.specs.private.{HandsOut, is_stopped, known};
 
     ghost reads = { λ s n answer t. HandsOut (known s.state (to_come R.remaining s.text))
         (is_stopped s.state) n answer (known t.state (to_come R.remaining t.text))
@@ -71,7 +71,7 @@ impl<'a, R: Read> ByteSource for SpelledBytes<'a, R> {
 impl<'a, R: Read> SpelledBytes<'a, R> {
     ghost use Rattle.std.specs.Prelude.{[], Err, IfErr, IsOk, Some};
     ghost use Rattle.sfi_io.specs.Pieces.{Leads, to_come};
-    ghost use Rattle.sfi_answers.specs.private.Streams.{known};
+    ghost use Rattle.sfi_answers.specs.private.{known};
 
     /// Reads the text to its end, and says its fault.
     fn end(&mut self) -> Result<(), TextStop>

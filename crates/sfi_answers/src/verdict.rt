@@ -1,8 +1,8 @@
 //! What a command answers.
 
 ghost use Rattle.std.specs.Prelude.{◌≡◌, IfOk, string_bytes};
-ghost use Rattle.sfi_answers.specs.Verdict.{accepted_text, refused_text};
-ghost use Rattle.sfi_answers.specs.commands.Building.{digits_line};
+ghost use Rattle.sfi_answers.specs.Checking.{accepted_text, refused_text};
+ghost use Rattle.sfi_answers.specs.Building.{digits_line};
 
 use sfi_report::push_eight_digits;
 use sfi_rules::Finding;

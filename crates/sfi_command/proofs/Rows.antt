@@ -9,8 +9,7 @@ use Rattle.clap.specs.declared.builder.arg.Arg.{Arg}
 use Rattle.clap.specs.declared.builder.command.Command.{Command}
 use Rattle.sfi_command.specs.declared.commands.CommandRow.{CommandRow}
 use Rattle.sfi_command.specs.declared.commands.OptionRow.{OptionRow}
-use Rattle.sfi_command.specs.private.Command.{IsCommandOf}
-use Rattle.sfi_command.specs.private.Rows.{rule_of_row, shape_of_row, with_all}
+use Rattle.sfi_command.specs.private.{IsCommandOf, rule_of_row, shape_of_row, with_all}
 
 -- what the first elements of a list map to, and one more
 pub map-take_more : {A B : Type 0} (f : A → B) (xs : List A) (k : ℕ) (d : A) → k < length xs

@@ -25,9 +25,8 @@ use Rattle.clap.specs.Simple.{App, is_simple, subcommand_of, subcommand_rows, Ha
 use Rattle.clap.specs.declared.parser.matches.ArgMatches.{ArgMatches}
 use Rattle.clap.specs.declared.parser.matches.ArgMatches.TheViews.{out-ArgMatches}
 use Rattle.clap.proofs.OnLiterals.{clap_on_literals}
-use Rattle.sfi_command.specs.Command.{sfi, quantum_most, rounds_most, texts_of, Names, NamesNoInput, Asks, IsCount, IsFaultOf, IsInputOf, IsNoInput}
-use Rattle.sfi_command.specs.private.Command.{NamesNothing, IsFaultOfNamed, IsInputFault}
-use Rattle.sfi_command.specs.Numbers.{number_of}
+use Rattle.sfi_command.specs.Command.{sfi, quantum_most, rounds_most, texts_of, Names, NamesNoInput, Asks, IsCount, IsFaultOf, IsInputOf, IsNoInput, number_of}
+use Rattle.sfi_command.specs.private.{NamesNothing, IsFaultOfNamed, IsInputFault}
 use Rattle.sfi_command.specs.declared.job.Job.{Job}
 use Rattle.sfi_command.specs.declared.job.Job.TheVariants.{Check, Dis, Build, Map, Run, Convert}
 use Rattle.sfi_command.specs.declared.job.JobFault.{JobFault}

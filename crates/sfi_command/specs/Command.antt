@@ -1,5 +1,5 @@
 -- The command line of `sfi`, and the job that its words ask for.
-use Rattle.std.specs.Prelude.{◌≡◌, ◌↔◌, ◌≤◌, IsTrue, IsErr, ℕ, pos, Ok, List, [], ◌∷◌, Bool, Option, Some, None, codes, find, true}
+use Rattle.std.specs.Prelude.{◌≡◌, ◌↔◌, ◌≤◌, IsTrue, IsErr, ℕ, pos, Ok, List, [], ◌∷◌, Bool, Option, Some, None, codes, find, true, false}
 use Rattle.std.specs.Option.{option_map_or}
 use Rattle.std.specs.Str.{bytes_eq}
 use Rattle.std.specs.Str.Parse.{IsNumeral, digits_value, without_leading_plus}
@@ -165,3 +165,18 @@ abbrev pub IsFaultOf : List Text → JobFault → Type 0
 IsFaultOf words (Usage text) = AsksNothing words
 IsFaultOf words Hex = AsksNoInput words
 IsFaultOf words Memory = Unit {0}
+
+-- ---- what a job reads
+
+-- whether the job reads an image's own bytes, and no text
+abbrev pub is_raw : Job → Bool
+is_raw (Check raw report) = raw
+is_raw _ = false
+
+-- ---- the numbers of the faults
+
+-- the number of a fault of the command line
+abbrev pub number_of : JobFault → ℕ
+number_of (Usage text) = 1
+number_of Hex = 2
+number_of Memory = 3

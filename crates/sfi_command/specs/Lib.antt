@@ -1,5 +1,3 @@
-pub mod Numbers
-pub mod Jobs
 pub mod Places
-pub mod Command
 pub mod private
+pub mod Command

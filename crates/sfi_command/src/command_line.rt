@@ -6,11 +6,9 @@ ghost use Rattle.clap.specs.Simple.{Shape, app_of, new_app, with_subcommand};
 ghost use Rattle.clap.specs.Values.{kind_of};
 ghost use Rattle.clap.specs.Walk.{first_of, rows_of, rule_of};
 ghost use Rattle.clap.specs.declared.builder.command.Command.TheViews.{out-Command};
-ghost use Rattle.sfi_command.specs.Command.{build, check, convert, count_rule, dis, flag_rule, input_rule, map_names, places_rule, program, quantum_most, rounds_most, run, sfi, texts_of, Asks, IsFaultOf, IsCount, IsGiven, IsInputOf, Names};
+ghost use Rattle.sfi_command.specs.Command.{build, check, convert, count_rule, dis, flag_rule, input_rule, map_names, places_rule, program, quantum_most, rounds_most, run, sfi, texts_of, Asks, IsFaultOf, IsCount, IsGiven, IsInputOf, Names, number_of};
 ghost use Rattle.sfi_command.specs.Places.{SpellPlaces};
-ghost use Rattle.sfi_command.specs.private.Command.{IsCommandOf, IsFaultOfNamed, IsInputFault};
-ghost use Rattle.sfi_command.specs.private.Places.{ArePlacesFault};
-ghost use Rattle.sfi_command.specs.Numbers.{number_of};
+ghost use Rattle.sfi_command.specs.private.{IsCommandOf, IsFaultOfNamed, IsInputFault, ArePlacesFault};
 
 use crate::commands::{QUANTUM_MOST, ROUNDS_MOST, program};
 use crate::escaped::escaped;

@@ -5,8 +5,7 @@ ghost use Rattle.clap.specs.Simple.{app_of, new_app};
 ghost use Rattle.clap.specs.Walk.{rule_of};
 ghost use Rattle.clap.specs.declared.builder.command.Command.TheViews.{out-Command};
 ghost use Rattle.sfi_command.specs.Command.{program, sfi};
-ghost use Rattle.sfi_command.specs.private.Command.{IsCommandOf};
-ghost use Rattle.sfi_command.specs.private.Rows.{named_rule, rule_of_row, shape_of_row, with_all};
+ghost use Rattle.sfi_command.specs.private.{IsCommandOf, named_rule, rule_of_row, shape_of_row, with_all};
 
 use crate::help;
 use clap::{Arg, ArgAction, Command, value_parser};

@@ -1,8 +1,7 @@
 //! What the words of a command line ask for.
 
 ghost use Rattle.std.specs.Prelude.{◌≡◌, ◌≢◌};
-ghost use Rattle.sfi_command.specs.Jobs.{is_raw};
-ghost use Rattle.sfi_command.specs.Numbers.{number_of};
+ghost use Rattle.sfi_command.specs.Command.{is_raw, number_of};
 ghost use Rattle.sfi_command.specs.declared.job.JobFault.TheVariants.{Memory};
 
 use sfi_place::Place;

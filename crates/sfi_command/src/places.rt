@@ -2,7 +2,7 @@
 
 ghost use Rattle.std.specs.Prelude.{◌≡◌, ℕ, IfErr, IfOk, IfSome, map};
 ghost use Rattle.sfi_command.specs.Places.{SpellsAddress, SpellsPlace, SpellPlaces};
-ghost use Rattle.sfi_command.specs.private.Places.{ArePlacesFault};
+ghost use Rattle.sfi_command.specs.private.{ArePlacesFault};
 ghost use Rattle.sfi_place.specs.declared.place.Place.{Place};
 
 use crate::job::{JobFault, usage_fault};

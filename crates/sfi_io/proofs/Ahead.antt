@@ -1,22 +1,19 @@
 -- What is known of a text that is read in pieces.
-use Rattle.std.proofs.Common.{◌≡◌, ◌≢◌, inl, inr, ℕ, ◌+◌, ◌-◌, ◌*◌, ◌%◌, ◌<◌, ◌≤◌, ◌==◌, Bool, true, false, List, [], ◌∷◌, ◌++◌, length, length-append, take, drop, Option, Some, None, IfSome, Result, Ok, Err, refl, sym, ap, ◌∙◌, subst, arith, append_assoc, append-nil}
-use Rattle.std.proofs.lemmas.Bool.Decides.{nat_tests}
-use Rattle.std.proofs.lemmas.List.{drop_all, length-drop, length-take, length-take-le, drop-drop, drop-take, take-append-drop}
+use Rattle.sfi_io.proofs.Prelude.{◌≡◌, inl, inr, ℕ, ◌+◌, ◌-◌, ◌*◌, ◌%◌, ◌<◌, ◌≤◌, ◌==◌, Bool, true, false, List, [], ◌∷◌, ◌++◌, length, take, drop, Option, Some, None, Result, Ok, Err, refl, sym, ap, ◌∙◌, subst, arith, append_assoc, nat_tests, length-drop, length-take-le, take-append-drop, filter, nat_lt, slice_index, if◌then◌else◌, decode_of, decode_pairs, digit_or_error, hex_digit_value, FromHexError, OddLength, InvalidHexCharacter, InvalidStringLength, OutOfMemory, Fault, TooLarge, is_kept, limit, Leads, or_fault, outcome, prepend, waiting, GoesOn, SpellsFront}
+use Rattle.std.proofs.Common.{◌≢◌, length-append, IfSome, append-nil}
+use Rattle.std.proofs.lemmas.List.{drop_all, length-take, drop-drop, drop-take}
 use Rattle.std.proofs.lemmas.List.Elements.{filter-append}
 use Rattle.std.proofs.lemmas.List.Sums.{count_by-le-length, length-filter}
-use Rattle.std.specs.Prelude.{filter, is_some, nat_lt, option_map, slice_index, if◌then◌else◌}
-use Rattle.hex.specs.Hex.{decode_of, decode_pairs, digit_or_error, hex_digit_value, value_at}
-use Rattle.hex.specs.declared.error.FromHexError.{FromHexError}
-use Rattle.hex.specs.declared.error.FromHexError.TheVariants.{OddLength, InvalidHexCharacter, InvalidStringLength, OutOfMemory}
+use Rattle.std.specs.Prelude.{is_some, option_map}
+use Rattle.hex.specs.Hex.{value_at}
 use Rattle.sfi_io.specs.declared.hexadecimal.HexFault.{HexFault}
 use Rattle.sfi_io.specs.declared.hexadecimal.HexFault.TheVariants.{Odd, Digit}
 use Rattle.sfi_io.specs.declared.text.TextStop.{TextStop}
-use Rattle.sfi_io.specs.declared.text.TextStop.TheVariants.{Fault, TooLarge, Failed}
+use Rattle.sfi_io.specs.declared.text.TextStop.TheVariants.{Failed}
 use Rattle.std.specs.Io.KnownBytes.{Consumes, IsAtEnd}
-use Rattle.sfi_io.specs.Hexadecimal.{is_kept, IsHexFault}
-use Rattle.sfi_io.specs.Input.{limit}
-use Rattle.sfi_io.specs.Pieces.{Ahead, Leads, ahead_of, decode_from, or_fault, outcome, prepend, waiting}
-use Rattle.sfi_io.specs.private.{AreLeft, ComesNoPair, GoesOn, IsAfter, IsBadPair, IsErrorOf, IsNoPair, IsOver, IsReadStop, IsStopOf, IsWrongPlace, SpellsFront}
+use Rattle.sfi_io.specs.Hexadecimal.{IsHexFault}
+use Rattle.sfi_io.specs.Pieces.{Ahead, ahead_of, decode_from}
+use Rattle.sfi_io.specs.private.{AreLeft, ComesNoPair, IsAfter, IsBadPair, IsErrorOf, IsNoPair, IsOver, IsReadStop, IsStopOf, IsWrongPlace}
 use Rattle.sfi_io.proofs.Leads.{leads_by}
 use Rattle.sfi_io.proofs.Fronts.{at_kept, no_pair, spells_nothing, spells_more, pairs_before, pairs_twice}
 
@@ -113,10 +110,6 @@ none_spelled digits others s = by s.front (pairs_twice 0 s.front [] (s.spelled 0
     by [] count e = e
     by (x ∷ front) count e = absurd (omega (arith, count))
 
-pub counts_first : (a : Option Ahead) (high : Option ℕ) → Counts a a high (waits high)
-counts_first None high = tt
-counts_first (Some a) high = (refl, omega arith)
-
 -- what is held is counted
 counts_held : (first : Option Ahead) (read made : ℕ) (high : Option ℕ) (held : List ℕ) (known : Option (List ℕ)) (count : ℕ) → Counts first (ahead_of read made high held known) high count
     → Counts first (ahead_of read made high [] known) high (count + length (filter is_kept held))
@@ -151,14 +144,6 @@ counts_all (Some first) (Some now) high count h over =
     length_nothing : (high : Option ℕ) → length (waiting high []) ≡ waits high
     length_nothing None = refl
     length_nothing (Some h) = refl
-
--- a stop after some of a text was counted is one of the text
-pub stops_counting : (first now : Option Ahead) (high : Option ℕ) (count : ℕ) (stop : TextStop) → Counts first now high count → IfSome now (IsReadStop stop) → IfSome first (IsReadStop stop)
-stops_counting None now high count stop h is = tt
-stops_counting (Some first) None high count stop h is = absurd h
-stops_counting (Some first) (Some now) high count (Fault f) h is = absurd is
-stops_counting (Some first) (Some now) high count TooLarge h is = omega (arith, h.0, is)
-stops_counting (Some first) (Some now) high count Failed h is = tt
 
 -- ---- what comes of a text
 
@@ -280,12 +265,6 @@ digit_fault read made count high first low held (Some rest) fault is comes left 
     let error = pair_error high first low made count comes.0 fault is comes.2 (sym left.0 ∙ ap length comes.1) odd digit in
     error_comes (record { whole = read + length rest; place = 2 * made; digits = waiting high (filter is_kept (held ++ rest)) }) fault left.1
     (subst (λ (l : List ℕ). IsErrorOf fault (decode_from (2 * made) l)) (sym comes.1) error)
-
--- a text that ends where a digit waits
-pub odd_end : (a : Option Ahead) (high : Option ℕ) (first : ℕ) → high ≡ Some first → IsOver a high → IfSome a (IsStopOf (Fault Odd))
-odd_end None high first is over = tt
-odd_end (Some a) high first is over =
-    error_comes a Odd over.1 (ap (decode_from a.place) (over.0 ∙ ap (λ (h : Option ℕ). waiting h []) is))
 
 pub text_end : (a : Option Ahead) (high : Option ℕ) → high ≡ None → IsOver a high → IfSome (option_map outcome a) (λ r. r ≡ Ok [])
 text_end None high is over = tt

@@ -1,13 +1,10 @@
 -- The table of the bytes' classes, seen right at each byte.
-use Rattle.std.proofs.Common.{◌≡◌, ℕ, ◌<◌, ◌+◌, ◌*◌, ◌==◌, ◌≤◌, ◌%◌, Bool, true, false, cond, refl, sym, ap, ◌∙◌, arith, Option, Some, None, Ok, inl, inr, ◌⊎◌}
-use Rattle.std.specs.Prelude.{not, slice_index, nat_lt, if◌then◌else◌}
+use Rattle.sfi_io.proofs.Prelude.{◌≡◌, ℕ, ◌<◌, ◌+◌, ◌*◌, ◌==◌, ◌≤◌, ◌%◌, Bool, true, false, refl, sym, ap, ◌∙◌, arith, Option, Some, None, Ok, inl, inr, not, slice_index, nat_lt, if◌then◌else◌, nat_tests, hex_digit_value, digit_or_error, is_kept, IsByteOf}
+use Rattle.std.proofs.Common.{cond, ◌⊎◌}
 use Rattle.std.proofs.lemmas.Bool.{agree_below, agree_below_at}
-use Rattle.std.proofs.lemmas.Bool.Decides.{nat_tests}
 use Rattle.std.specs.Int.Bits.{bit_or}
 use Rattle.std.proofs.lemmas.Nat.{le_or_l, le_or_r, or_lt}
-use Rattle.hex.specs.Hex.{hex_digit_value, pair_value, digit_or_error, value_at}
-use Rattle.sfi_io.specs.Hexadecimal.{is_kept}
-use Rattle.sfi_io.specs.private.{IsByteOf}
+use Rattle.hex.specs.Hex.{pair_value, value_at}
 use Rattle.sfi_io.specs.declared.hexadecimal.TheConstants.{CLASSES}
 
 -- a test that passes at each byte by computation
@@ -63,9 +60,6 @@ pair_is a b h v e f i =
     let high : value_at a i ≡ Ok h = ap (digit_or_error a i) e in
     let low : value_at b (i + 1) ≡ Ok v = ap (digit_or_error b (i + 1)) f in
     rw (high, low) refl
-
-pub digit_small : (c v : ℕ) → hex_digit_value c ≡ Some v → v < 16
-digit_small c v e = grind (arith, nat_tests, e)
 
 -- ---- a digit's value by arithmetic
 

@@ -1,15 +1,8 @@
 -- What holds of texts that are read in pieces. Crates above cite this.
-use Rattle.std.proofs.Common.{◌≡◌, ◌∙◌, ℕ, arith, Bool, true, false, List, Result, Ok, Err, length, ◌≤◌, refl, sym, ap}
-use Rattle.std.proofs.lemmas.Bool.Decides.{nat_tests}
-use Rattle.std.specs.Prelude.{filter, nat_lt, if◌then◌else◌}
-use Rattle.hex.specs.Hex.{decode_of}
-use Rattle.hex.specs.declared.error.FromHexError.{FromHexError}
-use Rattle.hex.specs.declared.error.FromHexError.TheVariants.{OddLength, InvalidHexCharacter, InvalidStringLength, OutOfMemory}
-use Rattle.sfi_io.specs.Hexadecimal.{SpellsBytes, is_kept}
-use Rattle.sfi_io.specs.Input.{limit}
+use Rattle.sfi_io.proofs.Prelude.{◌≡◌, ◌∙◌, ℕ, arith, Bool, true, false, List, Result, Ok, Err, length, ◌≤◌, refl, sym, ap, nat_tests, filter, nat_lt, if◌then◌else◌, decode_of, FromHexError, OddLength, InvalidHexCharacter, InvalidStringLength, OutOfMemory, is_kept, limit, or_fault, outcome, TooLarge}
+use Rattle.sfi_io.specs.Hexadecimal.{SpellsBytes}
 use Rattle.sfi_io.specs.Laws.{ComesToItsBytes, ComesToItsFault}
-use Rattle.sfi_io.specs.Pieces.{or_fault, outcome, start_of}
-use Rattle.sfi_io.specs.declared.text.TextStop.TheVariants.{TooLarge}
+use Rattle.sfi_io.specs.Pieces.{start_of}
 use Rattle.sfi_io.proofs.Ahead.{keeps_limit}
 use Rattle.sfi_io.proofs.Faults.{fault_comes}
 

@@ -1,18 +1,12 @@
 -- Which errors a decoding has, and the fault that a text comes to.
-use Rattle.std.proofs.Common.{◌≡◌, ℕ, ◌+◌, ◌*◌, ◌≤◌, arith, Bool, true, false, List, [], ◌∷◌, length, Option, Some, None, Result, Ok, Err, refl, ap, subst}
-use Rattle.std.proofs.lemmas.Bool.Decides.{nat_tests}
-use Rattle.std.specs.Prelude.{filter, nat_lt, if◌then◌else◌, ◌==◌, ◌%◌}
-use Rattle.hex.specs.Hex.{decode_of, decode_pairs, digit_or_error, hex_digit_value, ◌>>=◌}
-use Rattle.hex.specs.declared.error.FromHexError.{FromHexError}
-use Rattle.hex.specs.declared.error.FromHexError.TheVariants.{OddLength, InvalidHexCharacter, InvalidStringLength, OutOfMemory}
-use Rattle.sfi_io.specs.Hexadecimal.{IsHexFault, is_kept}
-use Rattle.sfi_io.specs.Input.{limit}
+use Rattle.sfi_io.proofs.Prelude.{◌≡◌, ℕ, ◌+◌, ◌*◌, ◌≤◌, arith, Bool, true, false, List, [], ◌∷◌, length, Option, Some, None, Result, Ok, Err, refl, ap, subst, nat_tests, filter, nat_lt, if◌then◌else◌, ◌==◌, ◌%◌, decode_of, decode_pairs, digit_or_error, hex_digit_value, FromHexError, OddLength, InvalidHexCharacter, InvalidStringLength, OutOfMemory, is_kept, limit, or_fault, outcome, Fault, TooLarge}
+use Rattle.hex.specs.Hex.{◌>>=◌}
+use Rattle.sfi_io.specs.Hexadecimal.{IsHexFault}
 use Rattle.sfi_io.specs.Laws.{ComesToItsFault}
-use Rattle.sfi_io.specs.Pieces.{or_fault, outcome, start_of}
+use Rattle.sfi_io.specs.Pieces.{start_of}
 use Rattle.sfi_io.specs.private.{IsErrorOf}
 use Rattle.sfi_io.specs.declared.hexadecimal.HexFault.{HexFault}
 use Rattle.sfi_io.specs.declared.hexadecimal.HexFault.TheVariants.{Odd, Digit}
-use Rattle.sfi_io.specs.declared.text.TextStop.TheVariants.{Fault, TooLarge}
 use Rattle.sfi_io.proofs.Ahead.{error_comes}
 
 -- what a decoding of any room comes to: no error but an odd length or a bad digit

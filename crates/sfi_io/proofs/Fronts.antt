@@ -1,14 +1,11 @@
 -- The front of a text, decoded from place to place.
-use Rattle.std.proofs.Common.{◌≡◌, ℕ, ◌+◌, ◌-◌, ◌*◌, ◌<◌, ◌≤◌, Bool, true, false, zero, suc, List, [], ◌∷◌, ◌++◌, length, length-append, take, drop, Option, Some, Result, Ok, Err, refl, sym, ap, ◌∙◌, subst, arith, append_assoc}
-use Rattle.std.proofs.lemmas.List.{drop_more, take_more, get_or-take, length-drop, length-take-le, take-append-le, drop-drop, take_all, get_or-drop}
+use Rattle.sfi_io.proofs.Prelude.{◌≡◌, ℕ, ◌+◌, ◌-◌, ◌*◌, ◌<◌, ◌≤◌, Bool, true, false, List, [], ◌∷◌, ◌++◌, length, take, drop, Option, Some, Result, Ok, Err, refl, sym, ap, ◌∙◌, subst, arith, append_assoc, length-drop, length-take-le, take_all, not, filter, slice_index, decode_pairs, FromHexError, is_kept, prepend, waiting, IsByteOf, SpellsFront}
+use Rattle.std.proofs.Common.{zero, suc, length-append}
+use Rattle.std.proofs.lemmas.List.{drop_more, take_more, get_or-take, take-append-le, drop-drop, get_or-drop}
 use Rattle.std.proofs.Math.Seq.{take-append-add}
 use borrow.Rule.Slice.PartMut.{put_mid, post_of}
-use Rattle.std.specs.Prelude.{not, filter, slice_index, slice_set}
-use Rattle.hex.specs.Hex.{decode_pairs, pair_value, ◌>>=◌}
-use Rattle.hex.specs.declared.error.FromHexError.{FromHexError}
-use Rattle.sfi_io.specs.Hexadecimal.{is_kept}
-use Rattle.sfi_io.specs.Pieces.{prepend, waiting}
-use Rattle.sfi_io.specs.private.{IsByteOf, SpellsFront}
+use Rattle.std.specs.Prelude.{slice_set}
+use Rattle.hex.specs.Hex.{pair_value, ◌>>=◌}
 
 -- ---- what counts of a text from a place on
 

@@ -1,11 +1,10 @@
 -- Vectors of 32 bytes by their lanes.
-use Rattle.std.proofs.Common.{◌≡◌, ℕ, ◌+◌, ◌*◌, ◌%◌, ◌<◌, ◌≤◌, ◌^◌, Bool, true, false, cond, List, [], ◌∷◌, ◌++◌, map, length, get_or, replicate, take, drop, refl, sym, ap, ap₂, ◌∙◌, subst, arith, w8, eqb, eqb-true}
-use Rattle.std.specs.Prelude.{slice_index, not}
+use Rattle.sfi_io.proofs.Prelude.{◌≡◌, ℕ, ◌+◌, ◌*◌, ◌%◌, ◌<◌, ◌≤◌, Bool, true, false, List, [], ◌∷◌, ◌++◌, length, take, drop, refl, sym, ap, ◌∙◌, subst, arith, slice_index, not, take_all, take-append-drop, length-drop, nat_tests}
+use Rattle.std.proofs.Common.{◌^◌, cond, map, get_or, replicate, ap₂, w8, eqb, eqb-true}
 use Rattle.std.proofs.lemmas.Bool.{agree_below_at}
-use Rattle.std.proofs.lemmas.List.{get_or-map, length-map, take_all, take-append-drop, length-drop}
+use Rattle.std.proofs.lemmas.List.{get_or-map, length-map}
 use Rattle.std.proofs.lemmas.Simd.{length-zip2, get_or-zip2, length-replicate, get_or-replicate, tops_compared, length-sel_l, get_or-sel_l, zip2_splat_left, mask_l-mod, leading_from_mask_l, trailing_mask_l}
 use Rattle.std.proofs.lemmas.List.Sums.{prefix_len-le-length, prefix_len_passes}
-use Rattle.std.proofs.lemmas.Bool.Decides.{nat_tests}
 use Rattle.std.specs.List.{prefix_len}
 use lib.Count.{count_trailing_zeros}
 use lib.Dec.{leb}

@@ -1,8 +1,8 @@
 -- What is known to come of a text, after some of it. Crates above cite this.
-use Rattle.std.proofs.Common.{◌≡◌, ◌⊎◌, inl, inr, ℕ, List, [], ◌++◌, Option, Some, None, Result, Ok, Err, refl, sym, ap, ◌∙◌, subst, append_assoc}
-use Rattle.sfi_io.specs.Pieces.{Leads, prepend}
+use Rattle.sfi_io.proofs.Prelude.{◌≡◌, inl, inr, ℕ, List, [], ◌++◌, Option, Some, None, Result, Ok, Err, refl, sym, ap, ◌∙◌, subst, append_assoc, Leads, prepend, Fault, TooLarge}
+use Rattle.std.proofs.Common.{◌⊎◌}
 use Rattle.sfi_io.specs.declared.text.TextStop.{TextStop}
-use Rattle.sfi_io.specs.declared.text.TextStop.TheVariants.{Fault, TooLarge, Failed}
+use Rattle.sfi_io.specs.declared.text.TextStop.TheVariants.{Failed}
 
 pub leads_by : (first then_ : Result (List ℕ) TextStop) (bytes : List ℕ) → first ≡ prepend bytes then_ → Leads (Some first) (Some then_) bytes
 leads_by first (Ok others) bytes h = h

@@ -1,3 +1,4 @@
+pub mod Prelude
 pub mod Classes
 pub mod Ahead
 pub mod Faults

@@ -6,7 +6,7 @@ use Rattle.sfi_io.specs.declared.hexadecimal.HexFault.{HexFault}
 use Rattle.sfi_io.specs.declared.hexadecimal.HexFault.TheVariants.{Odd, Digit}
 use Rattle.sfi_io.specs.declared.hexadecimal.HexStop.{HexStop}
 use Rattle.sfi_io.specs.declared.hexadecimal.HexStop.TheVariants.{Fault, Memory}
-use Rattle.sfi_io.specs.Input.{limit}
+use Rattle.sfi_io.specs.Streams.{limit}
 
 -- a byte that counts: no space, tab, CR or LF
 abbrev pub is_kept : ℕ → Bool

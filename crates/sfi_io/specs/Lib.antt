@@ -1,6 +1,5 @@
-pub mod Input
 pub mod Hexadecimal
 pub mod Pieces
 pub mod Laws
-pub mod Output
 pub mod private
+pub mod Streams

@@ -4,12 +4,10 @@
 
 mod front;
 mod hexadecimal;
-mod input;
 pub mod laws;
-mod output;
+mod streams;
 mod text;
 
 pub use hexadecimal::{HexFault, HexStop, bytes_of};
-pub use input::{INPUT_LIMIT, Input, ReadStop, read_input};
-pub use output::write_out;
+pub use streams::{INPUT_LIMIT, Input, ReadStop, read_input, write_out};
 pub use text::{HexReader, TextStop};

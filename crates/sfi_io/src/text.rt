@@ -1,11 +1,11 @@
 //! Hexadecimal text that is read in pieces.
 
 ghost use Rattle.std.specs.Prelude.{◌≤◌, ◌+◌, ◌-◌};
-ghost use Rattle.sfi_io.specs.Input.{limit};
+ghost use Rattle.sfi_io.specs.Streams.{limit};
 
 use crate::front::{decode_front, pair_fault};
 use crate::hexadecimal::{HexFault, digits_in};
-use crate::input::INPUT_LIMIT;
+use crate::streams::INPUT_LIMIT;
 use std::io::Read;
 
 /// How many bytes of a text are held at a time, at most.

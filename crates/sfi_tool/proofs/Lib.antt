@@ -1,6 +1,4 @@
-pub mod Texts
-pub mod TooLarge
-pub mod Statuses
-pub mod Rounds
+pub mod Prelude
 pub mod Told
-pub mod Said
+pub mod Rounds
+pub mod Jobs

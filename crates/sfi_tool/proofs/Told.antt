@@ -1,25 +1,19 @@
 -- What is told of a sandbox, and of one sandbox more.
-use Rattle.std.proofs.Common.{◌≡◌, ◌⊎◌, ℕ, suc, ◌+◌, List, [], ◌++◌, Option, Some, None, refl, sym, ap, ◌∙◌, subst, arith, append_assoc, inl, inr}
-use Rattle.std.specs.Prelude.{slice_get, Result, Ok, Err, OnOk, if◌then◌else◌}
+use Rattle.sfi_tool.proofs.Prelude.{◌≡◌, ℕ, List, refl, sym, ap, ◌∙◌, subst, arith, inl, slice_get, Result, Part, view, views, AreTold, Adds}
+use Rattle.std.proofs.Common.{◌⊎◌, suc, ◌+◌, [], ◌++◌, Option, Some, None, append_assoc, inr}
+use Rattle.std.specs.Prelude.{Ok, Err, OnOk, if◌then◌else◌}
 use Rattle.std.specs.Result.{is_ok}
 use Rattle.std.specs.Option.{option_map}
-use Rattle.std.proofs.lemmas.List.{append-nil}
 use Rattle.std.proofs.lemmas.Option.{slice_get-map}
 use Rattle.rv_step.specs.declared.outcome.Cause.{Cause}
 use Rattle.rv_step.specs.State.{Hart}
 use Rattle.sfi_policy.specs.declared.format.Format.{Format}
 use Rattle.sfi_image.specs.declared.part.SandboxPart.{SandboxPart}
-use Rattle.sfi_image.specs.Spelling.{Part, view, views}
 use Rattle.sfi_report.specs.State.{IsStateText}
 use Rattle.sfi_host.specs.Slots.{Slot}
 use Rattle.sfi_host.specs.declared.status.Status.{Status}
 use Rattle.sfi_host.specs.declared.status.Status.TheVariants.{Ready, Exited, Trapped}
-use Rattle.sfi_tool.specs.RunLines.{AreTold, IsTold, IsToldOf}
-use Rattle.sfi_tool.specs.private.Told.{Adds}
-
--- nothing is added
-pub adds_nothing : (old : List ℕ) (is : List ℕ → Type 0) → is [] → Adds old old is
-adds_nothing old is h = record { text = []; text_is = h; new_is = sym (append-nil old) }
+use Rattle.sfi_tool.specs.Running.{IsTold, IsToldOf}
 
 -- it has exited
 pub exited : (sandbox : ℕ) (p : Part) (o : Option Slot) (n : ℕ) → Some (Exited n) ≡ option_map (λ (s : Slot). s.status) o → IsToldOf sandbox (Some p) o []

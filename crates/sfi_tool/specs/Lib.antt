@@ -1,5 +1,3 @@
-pub mod RunLines
-pub mod commands
-pub mod Says
-pub mod Run
 pub mod private
+pub mod Running
+pub mod Says

@@ -1,13 +1,16 @@
--- What the job that was asked for answers on what was read.
-use Rattle.std.specs.Prelude.{ℕ, List, true, false}
+-- What the job that was asked for answers on what was read, and what a run of the program writes.
+use Rattle.std.specs.Prelude.{ℕ, List, true, false, ◌⊎◌, Option, IfSome}
 use Rattle.sfi_command.specs.declared.job.Job.{Job}
 use Rattle.sfi_command.specs.declared.job.Job.TheVariants.{Check, Dis, Build, Map, Run, Convert}
-use Rattle.sfi_answers.specs.Meaning.{Meaning, on_text}
-use Rattle.sfi_answers.specs.commands.Checking.{check}
-use Rattle.sfi_answers.specs.commands.Listing.{dis}
-use Rattle.sfi_answers.specs.commands.Building.{build, map}
-use Rattle.sfi_tool.specs.commands.Running.{run}
-use Rattle.sfi_answers.specs.commands.Converting.{convert}
+use Rattle.sfi_answers.specs.Answers.{Meaning, on_text}
+use Rattle.sfi_answers.specs.Checking.{check}
+use Rattle.sfi_answers.specs.Listing.{dis}
+use Rattle.sfi_answers.specs.Building.{build, map}
+use Rattle.sfi_tool.specs.Running.{run}
+use Rattle.sfi_answers.specs.Converting.{convert}
+use Rattle.std.specs.Io.KnownBytes.{Appends}
+use Rattle.clap.specs.Walk.{Text}
+use Rattle.sfi_command.specs.Command.{Asks, AsksNoInput}
 
 -- what is said of each job, by its command. All read hexadecimal text, but for a check of an
 -- image's own bytes, and a build and a map of a source text
@@ -36,3 +39,27 @@ IsRefused job = (meaning_of job).is_refused
 -- status 2 is due
 abbrev pub HasInputFault : Job → List ℕ → Type 0
 HasInputFault job = (meaning_of job).has_fault
+
+-- ---- a run of the program, where its reader and writer tell their bytes
+
+-- the words ask for a job, and its answer on the bytes read, with this status, was written
+pub record WritesAnswer (words : List Text) (input old new : Option (List ℕ))
+    (status : ℕ) : Type 0 where
+  pub job : Job
+  pub asked : Asks words job
+  pub wrote :
+      IfSome input (λ bytes. (text : List ℕ) × Says job bytes status text × Appends old new text)
+
+-- the words ask for a job, and the bytes read have one of its faults
+pub record MeetsInputFault (words : List Text) (input : Option (List ℕ)) : Type 0 where
+  pub job : Job
+  pub asked : Asks words job
+  pub fault : IfSome input (HasInputFault job)
+
+-- that, or the words ask for a run whose input spells no bytes
+abbrev pub MeetsFault : List Text → Option (List ℕ) → Type 0
+MeetsFault words input = MeetsInputFault words input ⊎ AsksNoInput words
+
+-- all that was written before stays as it was, and a text follows it, maybe an empty one
+abbrev pub OnlyAppends : Option (List ℕ) → Option (List ℕ) → Type 0
+OnlyAppends old new = (text : List ℕ) × Appends old new text

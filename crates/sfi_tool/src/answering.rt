@@ -1,8 +1,8 @@
 //! What a job answers on the text that was read.
 
 ghost use Rattle.std.specs.Prelude.{◌≡◌, ◌≤◌, ◌<◌, false, length, IfOk, string_bytes};
-ghost use Rattle.sfi_command.specs.Jobs.{is_raw};
-ghost use Rattle.sfi_io.specs.Input.{limit};
+ghost use Rattle.sfi_command.specs.Command.{is_raw};
+ghost use Rattle.sfi_io.specs.Streams.{limit};
 ghost use Rattle.sfi_tool.specs.Says.{HasInputFault, IsDone, IsRefused, Says, meaning_of};
 ghost use Rattle.sfi_answers.specs.Answers.{Answers};
 
@@ -49,7 +49,7 @@ fn job_answer(alloc: Global, job: &Job, text: &[u8]) -> Result<Answer, Stop>
 /// A text above 134217728 bytes goes first. Of an image's digits an odd number goes next, then the
 /// first byte that is no digit, and then the layout; of a source, that it is no UTF-8, and then its own
 /// faults. The one error is that an allocation was refused.
-#[tactic(auto, using(crate::proofs::TooLarge::too_large, crate::proofs::TooLarge::not_done, crate::proofs::TooLarge::not_refused))]
+#[tactic(auto, using(crate::proofs::Jobs::too_large, crate::proofs::Jobs::not_done, crate::proofs::Jobs::not_refused))]
 pub fn answer(alloc: Global, job: &Job, text: &[u8]) -> Result<Answer, AllocError>
     requires { is_raw job.now ≡ false }
 

@@ -2,7 +2,6 @@
 #![tactic(auto)]
 
 mod answering;
-mod plan;
 mod run_lines;
 mod running;
 mod states;

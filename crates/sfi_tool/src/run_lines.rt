@@ -3,7 +3,7 @@
 ghost use Rattle.std.specs.Prelude.{◌≡◌, ◌++◌, OnOk, IfOk, slice_get, string_bytes};
 ghost use Rattle.sfi_host.specs.Consoles.{output_of};
 ghost use Rattle.sfi_host.specs.Worlds.{slots_of};
-ghost use Rattle.sfi_tool.specs.RunLines.{cause_name, line_of, run_line, run_lines, status_text};
+ghost use Rattle.sfi_tool.specs.Running.{cause_name, line_of, run_line, run_lines, status_text};
 
 use rv_mem::Memory;
 use rv_step::Cause;

@@ -1,19 +1,54 @@
-//! The command `run`.
-
-ghost use Rattle.std.specs.Prelude.{◌≡◌, IfOk, string_bytes, length};
+//! The command `run`, and the turns of a run.
+ghost use Rattle.std.specs.Prelude.{◌≡◌, IfOk, OnOk, string_bytes, length};
 ghost use Rattle.sfi_host.specs.Worlds.{slots_of};
-ghost use Rattle.sfi_tool.specs.RunLines.{IsRunText, IsRunTextOf};
+ghost use Rattle.sfi_tool.specs.Running.{round_of, IsRunText, IsRunTextOf, run};
+ghost use Rattle.sfi_tool.specs.private.{AreTaken};
 ghost use Rattle.sfi_answers.specs.Answers.{Answers};
-ghost use Rattle.sfi_tool.specs.commands.Running.{run};
 
-use crate::plan::take_rounds;
 use crate::run_lines::run_lines;
 use crate::states::push_states;
 use rv_mem::{Memory, Pages};
 use sfi_answers::{Answer, Stop, refusal_answer};
 use sfi_check::{Accepted, check};
-use sfi_host::{Console, World};
+use sfi_host::{Console, RunAnswer, Turn, World};
 use std::alloc::{AllocError, Global};
+
+/// One turn of so many steps for each of so many sandboxes, in order.
+fn round_of(alloc: Global, quantum: u32, count: u32) -> Result<Vec<Turn>, AllocError>
+    ensures { IfOk result (λ turns. turns.items ≡ round_of quantum count) }
+{
+    let mut turns = Vec::with_capacity(alloc, count as usize)?;
+    for sandbox in 0..count {
+        turns.push(Turn {
+            sandbox,
+            steps: quantum,
+        })?;
+    }
+    Ok(turns)
+}
+
+/// So many rounds of so many sandboxes. Where the console has no memory for a reply, no further
+/// turn is taken.
+pub(crate) fn take_rounds<M: Memory>(
+    alloc: Global,
+    rounds: u32,
+    quantum: u32,
+    count: u32,
+    world: &mut World<M>,
+    console: &mut Console,
+) -> Result<(), AllocError>
+    ensures { OnOk result (AreTaken rounds quantum count
+        (slots_of world.old) console.old (slots_of world.new) console.new) }
+{
+    let round = round_of(alloc, quantum, count)?;
+    for _ in 0..rounds {
+        match world.run_plan(&round, console) {
+            RunAnswer::Done => {}
+            RunAnswer::Memory { .. } => return Err(AllocError),
+        }
+    }
+    Ok(())
+}
 
 /// The lines of the sandboxes of an image, and with a report what is told of each.
 fn said<M: Memory>(

@@ -5,8 +5,8 @@ ghost use Rattle.sfi_host.specs.Worlds.{slots_of};
 ghost use Rattle.sfi_image.specs.Spelling.{view, views};
 ghost use Rattle.sfi_policy.specs.declared.format.Format.{Format};
 ghost use Rattle.sfi_report.specs.State.{IsStateText};
-ghost use Rattle.sfi_tool.specs.RunLines.{AreTold, IsToldOf};
-ghost use Rattle.sfi_tool.specs.private.Told.{Adds};
+ghost use Rattle.sfi_tool.specs.Running.{AreTold, IsToldOf};
+ghost use Rattle.sfi_report.specs.private.{Adds};
 
 use rv_mem::Memory;
 use rv_step::Cpu;

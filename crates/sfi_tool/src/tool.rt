@@ -2,14 +2,11 @@
 
 ghost use Rattle.std.specs.Prelude.{◌≡◌, ◌<◌, ◌≤◌, ◌≢◌, IfOk, IfSome, Some, map, string_bytes, false, true};
 ghost use Rattle.std.specs.Io.KnownBytes.{Appends};
-ghost use Rattle.sfi_command.specs.Command.{Asks, AsksNothing};
-ghost use Rattle.sfi_command.specs.Jobs.{is_raw};
-ghost use Rattle.sfi_command.specs.Numbers.{number_of};
+ghost use Rattle.sfi_command.specs.Command.{Asks, AsksNothing, is_raw, number_of};
 ghost use Rattle.sfi_command.specs.declared.job.Job.{Job};
 ghost use Rattle.sfi_command.specs.declared.job.Job.TheVariants.{Check};
-ghost use Rattle.sfi_tool.specs.Run.{WritesAnswer, MeetsFault, OnlyAppends};
-ghost use Rattle.sfi_tool.specs.Says.{HasInputFault, Says};
-ghost use Rattle.sfi_tool.specs.private.Says.{Runs};
+ghost use Rattle.sfi_tool.specs.Says.{WritesAnswer, MeetsFault, OnlyAppends, HasInputFault, Says};
+ghost use Rattle.sfi_tool.specs.private.{Runs};
 
 use crate::answering::answer;
 use sfi_answers::{Answer, TOO_LARGE_LINE, raw_answer, text_answer};

@@ -1,5 +1,5 @@
 use Rattle.sfi_build.specs.Texts.{IsTextBuild}
-use Rattle.sfi_answers.specs.commands.Building.{digits_line}
+use Rattle.sfi_answers.specs.Building.{digits_line}
 use Rattle.sfi_answers.proofs.Sources.{not_made}
 use Rattle.sfi_answers.proofs.building.build_answer.Goals as goal
 

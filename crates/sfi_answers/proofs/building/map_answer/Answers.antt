@@ -1,5 +1,5 @@
 use Rattle.sfi_build.specs.Texts.{IsTextMap}
-use Rattle.sfi_answers.specs.MapLines.{map_lines}
+use Rattle.sfi_answers.specs.Building.{map_lines}
 use Rattle.sfi_answers.proofs.Sources.{not_made}
 use Rattle.sfi_answers.proofs.building.map_answer.Goals as goal
 

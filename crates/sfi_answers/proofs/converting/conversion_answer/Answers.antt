@@ -1,5 +1,5 @@
 use Rattle.std.proofs.Common.{◌∙◌, ap, refl}
-use Rattle.sfi_answers.specs.commands.Building.{digits_line}
+use Rattle.sfi_answers.specs.Building.{digits_line}
 use Rattle.sfi_answers.proofs.Conversions.{converted, not_converted}
 use Rattle.sfi_answers.proofs.converting.conversion_answer.Goals as goal
 

@@ -1,6 +1,6 @@
 use Rattle.std.proofs.Common.{◌∙◌, refl, sym, subst}
 use Rattle.sfi_check.specs.declared.conversion.ConvertFault.{ConvertFault}
-use Rattle.sfi_answers.specs.private.Converting.{HasFound, HoldsSome}
+use Rattle.sfi_answers.specs.private.{HasFound, HoldsSome}
 use Rattle.sfi_answers.proofs.converting.fault_answer.Goals as goal
 
 pub refused_answer-requires : goal.refused_answer-requires

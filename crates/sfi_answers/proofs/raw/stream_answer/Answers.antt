@@ -1,7 +1,7 @@
 use Rattle.std.proofs.Common.{subst}
 use Rattle.sfi_check.specs.declared.stream_answer.StreamAnswer.{StreamAnswer}
 use Rattle.sfi_check.specs.Streams.{IsVerdictOn}
-use Rattle.sfi_answers.specs.private.Streams.{IsJudged}
+use Rattle.sfi_answers.specs.private.{IsJudged}
 use Rattle.sfi_answers.proofs.Streamed.{some_fault, says_accepted, says_refused, has_fault}
 use Rattle.sfi_answers.proofs.raw.stream_answer.Goals as goal
 

@@ -2,9 +2,9 @@ use Rattle.std.proofs.Common.{◌∙◌, false, inl, inr, sym}
 use Rattle.std.specs.Prelude.{string_bytes}
 use Rattle.std.proofs.lemmas.Result.{IfOk-weaker}
 use Rattle.sfi_io.specs.Pieces.{to_come}
-use Rattle.sfi_answers.specs.commands.Checking.{check}
-use Rattle.sfi_answers.specs.Meaning.{on_text}
-use Rattle.sfi_answers.specs.private.Streams.{known, is_stopped}
+use Rattle.sfi_answers.specs.Checking.{check}
+use Rattle.sfi_answers.specs.Answers.{on_text}
+use Rattle.sfi_answers.specs.private.{known, is_stopped}
 use Rattle.sfi_answers.specs.declared.text.TextState.TheVariants.{Reading}
 use Rattle.sfi_answers.proofs.Spelled.{says_text, stops_text}
 use Rattle.sfi_answers.proofs.text.text_answer.Goals as goal

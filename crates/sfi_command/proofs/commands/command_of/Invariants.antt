@@ -1,7 +1,6 @@
 use Rattle.std.proofs.Common.{map, take}
 use Rattle.clap.specs.Simple.{new_shape}
-use Rattle.sfi_command.specs.private.Command.{IsCommandOf}
-use Rattle.sfi_command.specs.private.Rows.{rule_of_row}
+use Rattle.sfi_command.specs.private.{IsCommandOf, rule_of_row}
 use Rattle.sfi_command.proofs.commands.command_of.Given as goal
 
 abbrev pub invariant-loop-option : goal.invariant-loop-option

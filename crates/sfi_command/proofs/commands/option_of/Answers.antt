@@ -4,7 +4,7 @@ use Rattle.clap.specs.Walk.{Rule, rule_of}
 use Rattle.clap.specs.declared.builder.action.ArgAction.TheVariants.{Append, SetTrue}
 use Rattle.clap.specs.declared.builder.value_parser.ValueParser.{ValueParser}
 use Rattle.clap.specs.declared.builder.value_parser.ValueParser.TheVariants.{Signed}
-use Rattle.sfi_command.specs.private.Rows.{rule_taking}
+use Rattle.sfi_command.specs.private.{rule_taking}
 use Rattle.sfi_command.proofs.commands.option_of.Goals as goal
 
 pub returns-in-Nothing-clause-rule : goal.returns-in-Nothing-clause-rule

@@ -1,4 +1,4 @@
-use Rattle.std.proofs.Common.{◌≡◌, ◌+◌, ◌∙◌, ℕ, rules, inr, ap, sym, subst, slice_index}
+use Rattle.sfi_io.proofs.Prelude.{◌≡◌, ◌+◌, ◌∙◌, ℕ, rules, inr, ap, sym, subst, slice_index}
 use Rattle.sfi_io.specs.private.{IsBadPair}
 use Rattle.sfi_io.proofs.Fronts.{stands_first, stands_step, left_is, first_left}
 use Rattle.sfi_io.proofs.front.decode_front.Goals as goal

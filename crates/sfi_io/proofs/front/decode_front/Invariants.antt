@@ -1,4 +1,4 @@
-use Rattle.std.proofs.Common.{length, ◌-◌}
+use Rattle.sfi_io.proofs.Prelude.{length, ◌-◌}
 use Rattle.sfi_io.proofs.Fronts.{Stands}
 use Rattle.sfi_io.proofs.front.decode_front.Given as goal
 

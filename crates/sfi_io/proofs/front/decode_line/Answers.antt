@@ -1,8 +1,4 @@
-use Rattle.std.proofs.Common.{◌*◌, ◌++◌, ℕ, List, arith, subst, sym, drop, take}
-use Rattle.std.proofs.lemmas.List.{length-take-le}
-use Rattle.std.specs.Prelude.{filter, slice_index}
-use Rattle.sfi_io.specs.Hexadecimal.{is_kept}
-use Rattle.sfi_io.specs.private.{SpellsFront}
+use Rattle.sfi_io.proofs.Prelude.{◌*◌, ◌++◌, ℕ, List, arith, subst, sym, drop, take, length-take-le, filter, slice_index, is_kept, SpellsFront}
 use Rattle.sfi_io.proofs.Fronts.{at_white, spells_pairs, white_is}
 use Rattle.sfi_io.proofs.front.decode_line.Goals as goal
 

@@ -1,4 +1,4 @@
-use Rattle.std.proofs.Common.{None, rules}
+use Rattle.sfi_io.proofs.Prelude.{None, rules}
 use Rattle.sfi_io.proofs.Fronts.{stands_first, stands_step, left_is}
 use Rattle.sfi_io.proofs.front.decode_lines.Goals as goal
 

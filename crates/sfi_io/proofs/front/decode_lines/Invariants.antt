@@ -1,4 +1,4 @@
-use Rattle.std.proofs.Common.{length, ◌-◌, None}
+use Rattle.sfi_io.proofs.Prelude.{length, ◌-◌, None}
 use Rattle.sfi_io.proofs.Fronts.{Stands}
 use Rattle.sfi_io.proofs.front.decode_lines.Given as goal
 

@@ -1,8 +1,4 @@
-use Rattle.std.proofs.Common.{ℕ, List, sym, subst}
-use Rattle.std.specs.Prelude.{filter, drop}
-use Rattle.sfi_io.specs.Hexadecimal.{is_kept}
-use Rattle.sfi_io.specs.Pieces.{waiting}
-use Rattle.sfi_io.specs.private.{SpellsFront}
+use Rattle.sfi_io.proofs.Prelude.{ℕ, List, sym, subst, filter, drop, is_kept, waiting, SpellsFront}
 use Rattle.sfi_io.proofs.Fronts.{spells_white, spells_nothing, spells_low, spells_waiting, first_put}
 use Rattle.sfi_io.proofs.front.decode_next.Goals as goal
 

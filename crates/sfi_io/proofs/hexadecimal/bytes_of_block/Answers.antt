@@ -1,6 +1,5 @@
-use Rattle.std.proofs.Common.{◌<◌, ◌+◌, ◌*◌, ◌∙◌, ℕ, arith, ap, sym, subst, bit_or, slice_index}
-use Rattle.hex.specs.Hex.{hex_digit_value}
-use Rattle.sfi_io.specs.private.{IsByteOf}
+use Rattle.sfi_io.proofs.Prelude.{◌<◌, ◌+◌, ◌*◌, ◌∙◌, ℕ, arith, ap, sym, subst, slice_index, hex_digit_value, IsByteOf}
+use Rattle.std.proofs.Common.{bit_or}
 use Rattle.sfi_io.proofs.Lanes.{own, zipped}
 use Rattle.sfi_io.proofs.Classes.{both_small, byte_of_values}
 use Rattle.sfi_io.proofs.hexadecimal.bytes_of_block.Goals as goal

@@ -1,7 +1,5 @@
-use Rattle.std.proofs.Common.{◌≡◌, ◌∙◌, ◌+◌, ◌++◌, ◌≤◌, ℕ, List, Ok, ap, sym, inl, inr, arith, length, take}
-use Rattle.std.proofs.lemmas.List.{length-take-le, take-append-le, take_all}
-use Rattle.std.specs.Prelude.{filter}
-use Rattle.sfi_io.specs.Hexadecimal.{is_kept}
+use Rattle.sfi_io.proofs.Prelude.{◌≡◌, ◌∙◌, ◌+◌, ◌++◌, ◌≤◌, ℕ, List, Ok, ap, sym, inl, inr, arith, length, take, length-take-le, take_all, filter, is_kept}
+use Rattle.std.proofs.lemmas.List.{take-append-le}
 use Rattle.sfi_io.proofs.Ahead.{half, text_fault, text_odd, text_whole}
 use Rattle.sfi_io.proofs.Fronts.{left_is}
 use Rattle.sfi_io.proofs.hexadecimal.decoded.Goals as goal

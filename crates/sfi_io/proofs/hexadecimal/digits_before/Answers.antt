@@ -1,4 +1,4 @@
-use Rattle.std.proofs.Common.{arith}
+use Rattle.sfi_io.proofs.Prelude.{arith}
 use Rattle.sfi_io.proofs.Lanes.{none_other, first_other_most, before_other}
 use Rattle.sfi_io.proofs.hexadecimal.digits_before.Goals as goal
 

@@ -1,6 +1,4 @@
-use Rattle.std.proofs.Common.{◌≡◌, ◌≤◌, ◌+◌, length, drop}
-use Rattle.std.specs.Prelude.{filter}
-use Rattle.sfi_io.specs.Hexadecimal.{is_kept}
+use Rattle.sfi_io.proofs.Prelude.{◌≡◌, ◌≤◌, ◌+◌, length, drop, filter, is_kept}
 use Rattle.sfi_io.proofs.hexadecimal.digits_in.Given as goal
 
 abbrev pub invariant-loop-at : goal.invariant-loop-at

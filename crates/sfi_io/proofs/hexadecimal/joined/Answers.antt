@@ -1,4 +1,4 @@
-use Rattle.std.proofs.Common.{◌+◌, ◌*◌, ◌%◌, arith}
+use Rattle.sfi_io.proofs.Prelude.{◌+◌, ◌*◌, ◌%◌, arith}
 use Rattle.sfi_io.proofs.Lanes.{own, splat, zipped}
 use Rattle.sfi_io.proofs.hexadecimal.joined.Goals as goal
 

@@ -1,4 +1,5 @@
-use Rattle.std.proofs.Common.{◌∙◌, ◌+◌, ◌-◌, ◌%◌, ap, sym, arith, bit_or, slice_index, nat_lt, Fits, w8, ℕ, Some}
+use Rattle.sfi_io.proofs.Prelude.{◌∙◌, ◌+◌, ◌-◌, ◌%◌, ap, sym, arith, slice_index, nat_lt, ℕ, Some}
+use Rattle.std.proofs.Common.{bit_or, Fits, w8}
 use Rattle.std.proofs.lemmas.Simd.{Each1-get_or}
 use Rattle.sfi_io.proofs.Classes.{value_is}
 use Rattle.sfi_io.proofs.Lanes.{own, splat, zipped, chosen}

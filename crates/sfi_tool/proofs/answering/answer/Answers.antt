@@ -1,5 +1,5 @@
-use Rattle.std.proofs.Common.{arith}
-use Rattle.sfi_tool.proofs.Statuses.{status_of_answer}
+use Rattle.sfi_tool.proofs.Prelude.{arith}
+use Rattle.sfi_tool.proofs.Jobs.{status_of_answer}
 use Rattle.sfi_tool.proofs.answering.answer.Goals as goal
 
 pub returns-in-Ok-clause-statuses : goal.returns-in-Ok-clause-statuses

@@ -1,16 +1,17 @@
-use Rattle.std.proofs.Common.{◌≡◌, ◌∙◌, ℕ, Bool, false, List, Result, ap, sym, subst}
+use Rattle.sfi_tool.proofs.Prelude.{◌≡◌, ◌∙◌, ℕ, Bool, List, Result, ap, sym, subst}
+use Rattle.std.proofs.Common.{false}
 use Rattle.sfi_tool.specs.Says.{meaning_of}
-use Rattle.sfi_answers.specs.commands.Checking.{check}
-use Rattle.sfi_answers.specs.commands.Converting.{convert}
-use Rattle.sfi_answers.specs.commands.Listing.{dis}
-use Rattle.sfi_tool.specs.commands.Running.{run}
+use Rattle.sfi_answers.specs.Checking.{check}
+use Rattle.sfi_answers.specs.Converting.{convert}
+use Rattle.sfi_answers.specs.Listing.{dis}
+use Rattle.sfi_tool.specs.Running.{run}
 use Rattle.sfi_answers.specs.declared.fault.Stop.{Stop}
 use Rattle.sfi_answers.specs.declared.verdict.Answer.{Answer}
 use Rattle.sfi_answers.specs.Answers.{Answers}
-use Rattle.sfi_command.specs.Jobs.{is_raw}
+use Rattle.sfi_command.specs.Command.{is_raw}
 use Rattle.sfi_command.specs.declared.job.Job.{Job}
 use Rattle.sfi_command.specs.declared.job.Job.TheVariants.{Check}
-use Rattle.sfi_tool.proofs.Texts.{on_bytes}
+use Rattle.sfi_tool.proofs.Jobs.{on_bytes}
 use Rattle.sfi_tool.proofs.answering.job_answer.Goals as goal
 
 -- what a command answers is the job's answer, where that job was asked for

@@ -1,5 +1,5 @@
-use Rattle.std.proofs.Common.{inl, refl}
-use Rattle.sfi_tool.specs.commands.Running.{SaysRun}
+use Rattle.sfi_tool.proofs.Prelude.{inl, refl}
+use Rattle.sfi_tool.specs.Running.{SaysRun}
 use Rattle.sfi_answers.proofs.Verdicts.{accepted}
 use Rattle.sfi_tool.proofs.running.run_answer.Goals as goal
 

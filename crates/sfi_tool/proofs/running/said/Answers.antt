@@ -1,11 +1,7 @@
-use Rattle.std.proofs.Common.{◌∙◌, List, length, ap, subst, arith}
-use Rattle.std.specs.Prelude.{string_bytes}
+use Rattle.sfi_tool.proofs.Prelude.{◌∙◌, List, length, ap, subst, arith, string_bytes, slots_of, Part, view, AreTold, Adds}
 use Rattle.std.proofs.lemmas.List.{length-map}
-use Rattle.sfi_host.specs.Worlds.{slots_of}
-use Rattle.sfi_image.specs.Spelling.{Part, format_of, view}
-use Rattle.sfi_tool.specs.RunLines.{AreTold}
-use Rattle.sfi_tool.specs.private.Told.{Adds}
-use Rattle.sfi_tool.proofs.Said.{lines_and_told}
+use Rattle.sfi_image.specs.Spelling.{format_of}
+use Rattle.sfi_tool.proofs.Rounds.{lines_and_told}
 use Rattle.sfi_tool.proofs.running.said.Goals as goal
 
 pub push_states-requires : goal.push_states-requires

@@ -1,5 +1,4 @@
-use Rattle.std.specs.Prelude.{string_bytes}
-use Rattle.sfi_image.specs.Spelling.{view}
+use Rattle.sfi_tool.proofs.Prelude.{string_bytes, view}
 use Rattle.sfi_report.specs.State.{IsStateText}
 use Rattle.sfi_tool.proofs.Told.{adds_text}
 use Rattle.sfi_tool.proofs.states.push_state.Goals as goal

@@ -1,11 +1,7 @@
-use Rattle.std.proofs.Common.{◌≡◌, ◌∙◌, ℕ, Some, length, slice_get, sym, ap, subst, arith}
-use Rattle.std.specs.Prelude.{string_bytes}
+use Rattle.sfi_tool.proofs.Prelude.{◌≡◌, ◌∙◌, ℕ, length, slice_get, sym, ap, subst, arith, string_bytes, slots_of, view, views, AreTold, Adds}
+use Rattle.std.proofs.Common.{Some}
 use Rattle.std.proofs.lemmas.List.{length-map}
 use Rattle.std.proofs.lemmas.Option.{slice_get-get_or}
-use Rattle.sfi_host.specs.Worlds.{slots_of}
-use Rattle.sfi_image.specs.Spelling.{view, views}
-use Rattle.sfi_tool.specs.RunLines.{AreTold}
-use Rattle.sfi_tool.specs.private.Told.{Adds}
 use Rattle.sfi_tool.proofs.Told.{part_told, one_more_told}
 use Rattle.sfi_tool.proofs.states.push_states.Goals as goal
 

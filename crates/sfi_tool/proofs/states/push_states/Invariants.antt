@@ -1,9 +1,5 @@
-use Rattle.std.specs.Prelude.{string_bytes}
+use Rattle.sfi_tool.proofs.Prelude.{string_bytes, slots_of, views, AreTold, Adds}
 use Rattle.sfi_policy.specs.declared.format.Format.{Format}
-use Rattle.sfi_host.specs.Worlds.{slots_of}
-use Rattle.sfi_image.specs.Spelling.{views}
-use Rattle.sfi_tool.specs.RunLines.{AreTold}
-use Rattle.sfi_tool.specs.private.Told.{Adds}
 use Rattle.sfi_tool.proofs.states.push_states.Given as goal
 
 -- the first sandboxes are told of

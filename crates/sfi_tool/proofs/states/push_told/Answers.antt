@@ -1,8 +1,5 @@
-use Rattle.std.proofs.Common.{slice_get}
-use Rattle.std.specs.Prelude.{string_bytes}
+use Rattle.sfi_tool.proofs.Prelude.{slice_get, string_bytes, slots_of, view}
 use Rattle.std.proofs.lemmas.Result.{on_ok_weaker}
-use Rattle.sfi_host.specs.Worlds.{slots_of}
-use Rattle.sfi_image.specs.Spelling.{view}
 use Rattle.sfi_tool.proofs.Told.{adds_told, not_exited}
 use Rattle.sfi_tool.proofs.states.push_told.Goals as goal
 

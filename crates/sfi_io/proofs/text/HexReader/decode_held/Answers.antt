@@ -1,5 +1,5 @@
-use Rattle.std.proofs.Common.{◌+◌, ◌-◌, ◌<◌, ◌≤◌, arith, rules, inl, inr, length, take, drop}
-use Rattle.std.proofs.lemmas.List.{length-drop, length-take}
+use Rattle.sfi_io.proofs.Prelude.{◌+◌, ◌-◌, ◌<◌, ◌≤◌, arith, rules, inl, inr, length, take, drop, length-drop}
+use Rattle.std.proofs.lemmas.List.{length-take}
 use Rattle.sfi_io.proofs.Ahead.{advanced, comes}
 use Rattle.sfi_io.proofs.text.HexReader.decode_held.Goals as goal
 

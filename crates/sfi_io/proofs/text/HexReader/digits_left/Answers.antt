@@ -1,5 +1,5 @@
-use Rattle.std.proofs.Common.{◌+◌, ◌-◌, ℕ, Option, arith, subst, sym, take, drop}
-use Rattle.sfi_io.specs.Pieces.{ahead, ahead_of}
+use Rattle.sfi_io.proofs.Prelude.{◌+◌, ◌-◌, ℕ, Option, arith, subst, sym, take, drop, ahead}
+use Rattle.sfi_io.specs.Pieces.{ahead_of}
 use Rattle.sfi_io.proofs.Ahead.{Counts, counted, counts_all, counts_on}
 use Rattle.sfi_io.proofs.text.HexReader.digits_left.Goals as goal
 

@@ -1,6 +1,4 @@
-use Rattle.std.proofs.Common.{◌≤◌, ◌+◌, ◌-◌}
-use Rattle.sfi_io.specs.Pieces.{ahead}
-use Rattle.sfi_io.specs.Input.{limit}
+use Rattle.sfi_io.proofs.Prelude.{◌≤◌, ◌+◌, ◌-◌, ahead, limit}
 use Rattle.sfi_io.proofs.Ahead.{Counts}
 use Rattle.sfi_io.proofs.text.HexReader.digits_left.Given as goal
 

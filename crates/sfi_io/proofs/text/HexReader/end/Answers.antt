@@ -1,4 +1,4 @@
-use Rattle.sfi_io.specs.Pieces.{ahead}
+use Rattle.sfi_io.proofs.Prelude.{ahead}
 use Rattle.sfi_io.proofs.Ahead.{text_end}
 use Rattle.sfi_io.proofs.text.HexReader.end.Goals as goal
 

@@ -1,4 +1,4 @@
-use Rattle.std.proofs.Common.{take, drop, ◌-◌}
+use Rattle.sfi_io.proofs.Prelude.{take, drop, ◌-◌}
 use Rattle.sfi_io.proofs.Ahead.{digit_fault}
 use Rattle.sfi_io.proofs.text.HexReader.fault.Goals as goal
 

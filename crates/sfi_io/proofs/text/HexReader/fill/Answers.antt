@@ -1,4 +1,4 @@
-use Rattle.std.proofs.Common.{rules, ◌≡◌, ◌-◌, ℕ, ap, arith, take, drop}
+use Rattle.sfi_io.proofs.Prelude.{rules, ◌≡◌, ◌-◌, ℕ, ap, arith, take, drop}
 use Rattle.sfi_io.proofs.Ahead.{filled, over, too_large}
 use Rattle.sfi_io.proofs.text.HexReader.fill.Goals as goal
 

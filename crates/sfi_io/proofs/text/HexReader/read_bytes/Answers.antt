@@ -1,8 +1,6 @@
-use Rattle.std.proofs.Common.{◌≡◌, ◌≢◌, ℕ, [], arith, inl, inr, refl, sym, ◌∙◌, subst, length, take}
-use Rattle.std.proofs.lemmas.Bool.Decides.{nat_tests}
+use Rattle.sfi_io.proofs.Prelude.{◌≡◌, ℕ, [], arith, inl, inr, refl, sym, ◌∙◌, subst, length, take, nat_tests, ahead, GoesOn}
+use Rattle.std.proofs.Common.{◌≢◌}
 use Rattle.std.proofs.lemmas.Result.{IfOk-weaker, IfErr-weaker}
-use Rattle.sfi_io.specs.Pieces.{ahead}
-use Rattle.sfi_io.specs.private.{GoesOn}
 use Rattle.sfi_io.proofs.Ahead.{goes_more, goes_nowhere, leads, made_nothing, read_stop, stop_before, stops}
 use Rattle.sfi_io.proofs.text.HexReader.read_bytes.Goals as goal
 

@@ -1,7 +1,4 @@
-use Rattle.std.proofs.Common.{◌≡◌, ◌-◌, length, []}
-use Rattle.sfi_io.specs.Input.{limit}
-use Rattle.sfi_io.specs.Pieces.{ahead}
-use Rattle.sfi_io.specs.private.{GoesOn}
+use Rattle.sfi_io.proofs.Prelude.{◌≡◌, ◌-◌, length, [], limit, ahead, GoesOn}
 use Rattle.sfi_io.proofs.text.HexReader.read_bytes.Given as goal
 
 abbrev pub invariant-loop-buf : goal.invariant-loop-buf

@@ -1,4 +1,4 @@
-use Rattle.std.proofs.Common.{◌++◌, ◌∙◌, take}
+use Rattle.sfi_io.proofs.Prelude.{◌++◌, ◌∙◌, take}
 use Rattle.sfi_io.specs.Pieces.{to_come}
 use Rattle.sfi_io.proofs.Leads.{leads_more}
 use Rattle.sfi_io.proofs.text.HexReader.read_rest.Goals as goal

@@ -1,5 +1,5 @@
-use Rattle.std.proofs.Common.{◌≡◌, length, ℕ, List}
-use Rattle.sfi_io.specs.Pieces.{most_to_come, to_come, Leads}
+use Rattle.sfi_io.proofs.Prelude.{◌≡◌, length, ℕ, List, Leads}
+use Rattle.sfi_io.specs.Pieces.{most_to_come, to_come}
 use Rattle.sfi_io.proofs.text.HexReader.read_rest.Given as goal
 
 abbrev pub invariant-loop-stop : goal.invariant-loop-stop

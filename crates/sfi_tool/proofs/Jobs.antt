@@ -1,0 +1,86 @@
+-- What a job answers on a text: by the bytes that it spells, with which statuses, and above the limit.
+use Rattle.sfi_tool.proofs.Prelude.{◌≡◌, ℕ, List, Result, sym, subst, inl, arith, Bool, length}
+use Rattle.std.proofs.Common.{inr, ◌≤◌, true, false, ◌<◌}
+use Rattle.std.specs.Prelude.{IsErr}
+use Rattle.std.proofs.lemmas.Result.{IfOk-weaker, IfErr-weaker}
+use Rattle.sfi_io.specs.Hexadecimal.{IsUnreadable, SpellsBytes}
+use Rattle.sfi_answers.specs.Answers.{Meaning, on_text, Answers, IsStop}
+use Rattle.sfi_answers.specs.declared.fault.Stop.{Stop}
+use Rattle.sfi_answers.specs.declared.fault.Stop.TheVariants as stop
+use Rattle.sfi_answers.specs.declared.verdict.Answer.{Answer}
+use Rattle.sfi_tool.specs.Says.{Says, HasInputFault, IsDone, IsRefused}
+use Rattle.sfi_answers.specs.Checking.{SaysVerdict}
+use Rattle.sfi_tool.specs.Running.{SaysRun}
+use Rattle.sfi_answers.specs.Converting.{SaysConversion}
+use Rattle.sfi_command.specs.declared.job.Job.{Job}
+use Rattle.sfi_command.specs.declared.job.Job.TheVariants.{Check, Dis, Build, Map, Run, Convert}
+use Rattle.sfi_command.specs.Command.{is_raw}
+use Rattle.sfi_io.specs.Streams.{limit}
+
+-- a fault that follows from another
+stops_more : (P Q : Type 0) → (P → Q) → (s : Stop) → IsStop P s → IsStop Q s
+stops_more P Q follows (stop.Input fault) is = follows is
+stops_more P Q follows (stop.Layout fault) is = follows is
+stops_more P Q follows (stop.Build fault) is = follows is
+stops_more P Q follows stop.Memory is = tt
+
+pub on_bytes : (command : Meaning) (text bytes read : List ℕ) (r : Result Answer Stop) → SpellsBytes text bytes
+    → ((b : List ℕ) → SpellsBytes text b → bytes ≡ b) → (¬ IsUnreadable text) → read ≡ bytes → Answers command read r → Answers (on_text command) text r
+on_bytes command text bytes read r spells one readable same read_says = record {
+  says = IfOk-weaker r _ _ (λ x h. (bytes, spells, h)) a.says;
+  stop = IfErr-weaker r _ _ (stops_more (command.has_fault bytes) ((on_text command).has_fault text) (λ h. inr (bytes, spells, h))) a.stop;
+  only_done = λ h. a.only_done (subst command.is_done (sym (one h.0 h.1)) h.2);
+  only_refused = λ h. a.only_refused (subst command.is_refused (sym (one h.0 h.1)) h.2);
+  only_fault = fault;
+}
+  where
+    a : Answers command bytes r
+    a = subst (λ (b : List ℕ). Answers command b r) same read_says
+
+    fault : (on_text command).has_fault text → IsErr r
+    fault (inl unreadable) = absurd (readable unreadable)
+    fault (inr h) = a.only_fault (subst command.has_fault (sym (one h.0 h.1)) h.2)
+
+-- ---- statuses
+
+of_verdict : (report : Bool) (bytes : List ℕ) (status : ℕ) (text : List ℕ) → SaysVerdict report bytes status text → status ≤ 1
+of_verdict report bytes status text (inl accepted) = omega (arith, accepted.status_is)
+of_verdict report bytes status text (inr refused) = omega (arith, refused.status_is)
+
+of_run : (rounds quantum : ℕ) (given : List ℕ) (report : Bool) (bytes : List ℕ) (status : ℕ) (text : List ℕ) → SaysRun rounds quantum given report bytes status text → status ≤ 1
+of_run rounds quantum given report bytes status text (inl ran) = omega (arith, ran.status_is)
+of_run rounds quantum given report bytes status text (inr refused) = omega (arith, refused.status_is)
+
+of_conversion : (bytes : List ℕ) (status : ℕ) (text : List ℕ) → SaysConversion bytes status text → status ≤ 1
+of_conversion bytes status text (inl converted) = omega (arith, converted.status_is)
+of_conversion bytes status text (inr (inl refused)) = omega (arith, refused.1.status_is)
+of_conversion bytes status text (inr (inr stack)) = omega (arith, stack.status_is)
+
+pub status_of_answer : (job : Job) (input : List ℕ) (status : ℕ) (text : List ℕ) → Says job input status text → status ≤ 1
+status_of_answer (Check true report) input status text says = of_verdict report input status text says
+status_of_answer (Check false report) input status text says = of_verdict report says.0 status text says.2
+status_of_answer Dis input status text says = omega (arith, says.2.status_is)
+status_of_answer (Build places) input status text says = omega (arith, says.status_is)
+status_of_answer (Map places) input status text says = omega (arith, says.status_is)
+status_of_answer (Run rounds quantum given report) input status text says = of_run rounds quantum given.items report says.0 status text says.2
+status_of_answer Convert input status text says = of_conversion says.0 status text says.2
+
+-- ---- a text above its limit
+
+-- is a fault to each job that reads a text
+pub too_large : (job : Job) (text : List ℕ) → is_raw job ≡ false → limit < length text → HasInputFault job text
+too_large (Check true report) text read over = absurd (cc)
+too_large _ text read over = inl (inl over)
+
+-- no such job is done on it
+pub not_done : (job : Job) (text : List ℕ) → is_raw job ≡ false → limit < length text → IsDone job text → ⊥
+not_done (Check true report) text read over done = absurd (cc)
+not_done _ text read over done = absurd (omega (arith, over, done.1.short))
+
+-- nor refused
+pub not_refused : (job : Job) (text : List ℕ) → is_raw job ≡ false → limit < length text → IsRefused job text → ⊥
+not_refused (Check true report) text read over refused = absurd (cc)
+not_refused Dis text read over refused = absurd refused.2
+not_refused (Build places) text read over refused = absurd refused
+not_refused (Map places) text read over refused = absurd refused
+not_refused _ text read over refused = absurd (omega (arith, over, refused.1.short))

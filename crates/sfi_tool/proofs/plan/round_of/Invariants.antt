@@ -1,6 +1,0 @@
-use Rattle.std.proofs.Common.{◌≡◌}
-use Rattle.sfi_tool.specs.RunLines.{round_of}
-use Rattle.sfi_tool.proofs.plan.round_of.Given as goal
-
-abbrev pub invariant-loop-sandbox : goal.invariant-loop-sandbox
-invariant-loop-sandbox l = l.turns.items ≡ round_of l.quantum l.sandbox

@@ -1,8 +1,0 @@
-use Rattle.sfi_host.specs.Worlds.{slots_of}
-use Rattle.sfi_tool.specs.private.Rounds.{AreTaken}
-use Rattle.sfi_tool.proofs.plan.take_rounds.Given as goal
-
--- so many rounds are taken
-abbrev pub invariant-loop : goal.invariant-loop
-invariant-loop g l =
-    AreTaken l.counter l.quantum l.count (slots_of l.fn.world) l.fn.console (slots_of l.world) l.console

@@ -1,2 +1,0 @@
--- The command that stands on a host; `sfi_answers` has the others.
-pub mod Running
