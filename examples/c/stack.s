@@ -706,12 +706,14 @@ li t3,0
 nop
 _.L5..1:
 .option rvc
-addi sp,sp,-16
+addi sp,sp,-32
+sw s0,28(sp)
+sw s1,24(sp)
+sw s2,20(sp)
+sw s3,16(sp)
 .option norvc
-sw s0,12(sp)
-sw s1,8(sp)
-sw s2,4(sp)
-sw s3,0(sp)
+sw s4,12(sp)
+sw s5,8(sp)
 li t1,0
 _.L6..1:
 srli a6,a7,28
@@ -727,54 +729,54 @@ slli a7,a7,1
 j _.L8..1
 _.L27..1:
 .option norvc
-li t4,31
+li t0,31
 srli a6,a0,1
-sub t4,t4,t1
+sub t0,t0,t1
 beq a3,zero,_.L10..1
-srli t5,a2,1
-srl t5,t5,t4
-or a7,a7,t5
-slli t5,a1,31
-or t5,t5,a6
+srli t2,a2,1
+srl t2,t2,t0
+or a7,a7,t2
+slli t2,a1,31
+or t2,t2,a6
 j _.L11..1
 _.L10..1:
 sll a5,a5,t1
-srl a6,a6,t4
+srl a6,a6,t0
 or a5,a5,a6
-sll t5,a0,t1
+sll t2,a0,t1
 _.L11..1:
-slli s3,a7,16
-srli s2,a7,16
-srli s3,s3,16
+slli s4,a7,16
+srli s3,a7,16
+srli s4,s4,16
 .option rvc
 li a6,0
-li t0,2
+li s0,2
 _.L15..1:
-divu s1,a5,s2
-remu t2,a5,s2
-srli a5,t5,16
-mul s0,s1,s3
-slli t2,t2,16
-or a5,a5,t2
-add t2,zero,s1
-bgeu a5,s0,_.L12..1
-addi t2,s1,-1
+divu s2,a5,s3
+remu s5,a5,s3
+srli a5,t2,16
+mul s1,s2,s4
+slli s5,s5,16
+or a5,a5,s5
+add s5,zero,s2
+bgeu a5,s1,_.L12..1
+addi s5,s2,-1
 add a5,a5,a7
 bltu a5,a7,_.L12..1
-bgeu a5,s0,_.L12..1
-addi t2,s1,-2
+bgeu a5,s1,_.L12..1
+addi s5,s2,-2
 add a5,a5,a7
 _.L12..1:
 slli a6,a6,16
-addi t0,t0,-1
-sub a5,a5,s0
-or a6,a6,t2
-slli t5,t5,16
-bne t0,zero,_.L15..1
+addi s0,s0,-1
+sub a5,a5,s1
+or a6,a6,s5
+slli t2,t2,16
+bne s0,zero,_.L15..1
 beq a3,zero,_.L16..1
-srl t4,a6,t4
-sltu a6,zero,t4
-sub a6,t4,a6
+srl t0,a6,t0
+sltu a6,zero,t0
+sub a6,t0,a6
 mul a7,a2,a6
 mulhu t1,a2,a6
 sub a7,a0,a7
@@ -812,14 +814,14 @@ li a1,-1
 ret
 _.L4..1:
 .option norvc
-lw s0,12(sp)
-lw s1,8(sp)
-lw s2,4(sp)
-lw s3,0(sp)
+lw s0,28(sp)
+lw s1,24(sp)
+lw s2,20(sp)
+lw s3,16(sp)
 .option rvc
-addi sp,sp,16
-.option norvc
-nop
+lw s4,12(sp)
+lw s5,8(sp)
+addi sp,sp,32
 ret
 divided..1:
 or a5,a1,a3
@@ -827,7 +829,6 @@ bne a5,zero,_.L29..1
 beq a2,zero,_.L29..1
 beq a4,zero,_.L31..1
 remu a0,a0,a2
-.option rvc
 li a1,0
 j next..1..n3
 next..1..n3:
@@ -844,7 +845,7 @@ signed_divided..1:
 or t3,a1,a3
 bge t3,zero,_.L38..1
 .option norvc
-add a6,zero,a3
+nop
 nop
 .option rvc
 addi sp,sp,-32
@@ -852,17 +853,17 @@ sw s2,16(sp)
 sw s3,12(sp)
 srai s2,a3,31
 srai s3,a1,31
+xor t1,a2,s2
 xor a7,a0,s3
-xor a3,a2,s2
-sub a2,a3,s2
+sub a2,t1,s2
 sub a0,a7,s3
-xor a6,a6,s2
+xor a3,a3,s2
 xor a1,a1,s3
-sltu a3,a3,a2
-sub a6,a6,s2
+sltu t1,t1,a2
 sltu a7,a7,a0
+sub a3,a3,s2
 sub a1,a1,s3
-sub a3,a6,a3
+sub a3,a3,t1
 sub a1,a1,a7
 .option norvc
 sw s0,24(sp)

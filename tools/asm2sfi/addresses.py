@@ -1,10 +1,11 @@
 """How the program's start writes the addresses that the data hold, before main: one by one, or by a table."""
 from instructions import Op
 from program import START
-from table import Table
+from table import Table, TableOfWords
+from typed import WORDS
 from words import sorted_out, write_known
 
-FEW = {1: 10, 2: 20}  # by format: so many take fewer bytes one by one
+FEW = {1: 10, 2: 20, WORDS: 20}  # by format: so many take fewer bytes one by one
 REACH = 2047
 
 
@@ -37,7 +38,8 @@ class OneByOne:
 def addresses_of(linked, layout, names, image_format):
     """How the start writes the addresses that the data hold, and what of them is refused. Closes the layout."""
     words, known, refusals = sorted_out(linked, layout)
-    way = (OneByOne if len(words) <= FEW[image_format] else Table)(words, layout, names)
+    table = TableOfWords if image_format == WORDS else Table
+    way = (OneByOne if len(words) <= FEW[image_format] else table)(words, layout, names)
     layout.close()
     write_known(known, layout)
     return way, refusals

@@ -1,19 +1,46 @@
 """The passes that make the code cheaper, in the order in which they run. The code does the same
 without them."""
+from control import successors
+from hoisting import with_hoisted_masks
+from instructions import written
 from known import with_known_places
-from packing import packed
-from pointing import with_pointing
+from liveness import without_unread
+from packing import packed, shortened
 from placement import with_near_branches
+from pointing import with_pointing
+from raising import with_raised_steps
+from sharing import with_shared_masks
+from stepping import with_steps
+from targeting import with_targets
+from typed import DATA, WORDS, free_addresses, with_plain_jumps
 
-PASSES = ("known", "pointing", "packing")
+PASSES = ("known", "pointing", "packing", "hoisting", "sharing", "targeting", "stepping")
 
 
 def improved(code, passes, image_format, layout, names):
-    """The code after the passes that are named. Each branch reaches its label."""
+    """The code after the passes that are named and that the format has. Each branch reaches its label."""
     if "known" in passes:
         code = with_known_places(code, layout)
+    if image_format == WORDS:
+        return with_near_branches(improved_words(code, passes, names), names, (WORDS,))
     if "pointing" in passes and image_format == 2:
         code = with_pointing(code, names)
     if "packing" in passes:
         code = packed(code, image_format, names)
     return with_near_branches(code, names)
+
+
+def improved_words(code, passes, names):
+    """Code in words after its own passes."""
+    code = with_plain_jumps(code)
+    registers = free_addresses(code)
+    if "hoisting" in passes:
+        code = with_hoisted_masks(code, names, registers)
+        code = without_unread(code, successors(code))
+    if "sharing" in passes:
+        code = with_shared_masks(code, registers)
+    if "targeting" in passes:
+        code = with_targets(code)
+    if "stepping" in passes:
+        code = with_raised_steps(with_steps(code), registers)
+    return [piece if piece.is_mark or written(piece) in DATA else shortened(piece) for piece in code]

@@ -22,13 +22,13 @@ class Margins:
     above: int = 0
 
 
-def margins(ops, symbols):
+def margins(ops, symbols, step=0):
     """The room that the loads and stores of a program need, and the symbols that it speaks of: a loop may begin before
-    its first object. The stack pointer always lies in the region."""
+    its first object. The stack pointer always lies in the region. A pointer may lie one step beside such a base."""
     offsets = [offset for op in ops if is_access(op) for offset, base in [offset_and_base(op)] if base != "sp"]
     below = max([0, *offsets, *(-symbol.addend for symbol in symbols)])
     above = max([0, *(-offset for offset in offsets)])
-    return Margins(rounded(below), rounded(above))
+    return Margins(rounded(below + step), rounded(above + step))
 
 
 def rounded(count):

@@ -1,18 +1,18 @@
 """What `sfi build` takes at most, told before it refuses the text: docs/SOURCE.md has its faults."""
 from assembly import Refused
-from placement import next_bundle, pass_op, places
+from placement import next_bundle, spans
 from program import START
 from sizes import BUNDLE
+from typed import WORDS
 
-MOST_CODE = {1: 1 << 16, 2: 1 << 20}  # bytes in each format, with the gates' stubs
+MOST_CODE = {1: 1 << 16, 2: 1 << 20, WORDS: 1 << 20}  # bytes in each format, with the gates' stubs
 MOST_INSTRUCTIONS = 1 << 16
 MOST_TEXT = 1 << 20  # bytes
 
 
 def code_size(code, gates, image_format):
     """The bytes of the code in whole bundles, with the gates' stubs."""
-    end = pass_op(code[-1], places(code, image_format)[-1], image_format)[1]
-    return BUNDLE * len(gates) + next_bundle(end)
+    return BUNDLE * len(gates) + next_bundle(spans(code, image_format)[-1][1])
 
 
 def check_code(code, gates, image_format):

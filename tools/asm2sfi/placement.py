@@ -1,13 +1,15 @@
 """Where `sfi build` places each instruction, and branches that don't reach their labels.
 
 A branch reaches from 4096 bytes before it to 4094 after it. One that doesn't is inverted, over a
-jump. A text is right in both formats, so each branch reaches in both."""
+jump. A text in bundles is right in both formats that have them, so each branch reaches in both."""
 from dataclasses import replace
 
 from control import INVERSE, is_branch, is_call, labels_of
 from instructions import Op
 from program import Mark
 from sizes import BUNDLE, expansions
+from typed import WORDS
+from word_places import word_spans
 
 NEAREST, FARTHEST = -4096, 4094
 FORMATS = (1, 2)
@@ -32,22 +34,29 @@ def pass_op(op, place, image_format):
     return first, place
 
 
-def places(code, image_format):
-    """The place of each piece, from the place of the first. A label begins a bundle."""
+def spans(code, image_format):
+    """Where each piece begins and ends, from the place of the first. A label begins a bundle, or a word."""
+    if image_format == WORDS:
+        return word_spans(code)
     found, end = [], 0
     for piece in code:
         if piece.is_mark:
             start = end = next_bundle(end)
         else:
             start, end = pass_op(piece, end, image_format)
-        found.append(start)
+        found.append((start, end))
     return found
 
 
-def far_branches(code):
+def places(code, image_format):
+    """The place of each piece, from the place of the first."""
+    return [start for start, _ in spans(code, image_format)]
+
+
+def far_branches(code, formats=FORMATS):
     """The numbers of the branches that don't reach their labels in one of the formats."""
     found, at = set(), labels_of(code)
-    for image_format in FORMATS:
+    for image_format in formats:
         place = places(code, image_format)
         for number, piece in enumerate(code):
             target = None if piece.is_mark or not is_branch(piece) else at.get(piece.operands[-1])
@@ -67,10 +76,10 @@ def over_jump(op, names):
     return [inverted(op, over), Op("j", op.operands[-1:], op.place), Mark(over, True)]
 
 
-def with_near_branches(code, names):
+def with_near_branches(code, names, formats=FORMATS):
     """The code in which each branch reaches its label. Each jump lengthens the code, so it's
     looked at again."""
-    while far := far_branches(code):
+    while far := far_branches(code, formats):
         code = [piece for number, old in enumerate(code)
                 for piece in (over_jump(old, names) if number in far else [old])]
     return code

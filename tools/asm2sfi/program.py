@@ -8,16 +8,19 @@ from operands import Symbol
 from sections import ATEXIT
 
 START = "start"  # the place of what no line of assembly says
+MOST_TAKEN = 2048  # of the stack by one instruction
 
 
 @dataclass(frozen=True)
 class Mark:
     """A label in the code. Compilers begin the names of those inside a function with a point. Where it is `taken`, the
-    data hold its address."""
+    data hold its address. It has no instruction's word, and does nothing to registers."""
     name: str
     inside: bool = False
     taken: bool = False
     is_mark = True
+    word = ""
+    operands = ()
 
 
 class CodeWriter:
@@ -88,7 +91,8 @@ class CodeWriter:
     def start(self, main, leave, above, addresses):
         """Leaves room above the stack, writes the addresses that the data hold, hands the destructors to `atexit`, calls
         the constructors and then main, without arguments, and exits with what that answers."""
-        yield from addresses.ops(self, [Op("addi", ("sp", "sp", str(-above)), START)] if above else [])
+        parts = [min(above - taken, MOST_TAKEN) for taken in range(0, above, MOST_TAKEN)]
+        yield from addresses.ops(self, [Op("addi", ("sp", "sp", str(-part)), START) for part in parts])
         for index, symbol, place in self.linked.destructors:
             yield self.named(index, Op("la", ("a0", symbol), place))
             yield self.named(index, Op("call", (ATEXIT,), place))

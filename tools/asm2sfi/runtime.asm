@@ -22,11 +22,13 @@ long_divided:
 	mv	a7,a3
 	li	t3,0
 .L5:
-	addi	sp,sp,-16
-	sw	s0,12(sp)
-	sw	s1,8(sp)
-	sw	s2,4(sp)
-	sw	s3,0(sp)
+	addi	sp,sp,-32
+	sw	s0,28(sp)
+	sw	s1,24(sp)
+	sw	s2,20(sp)
+	sw	s3,16(sp)
+	sw	s4,12(sp)
+	sw	s5,8(sp)
 	li	t1,0
 .L6:
 	srli	a6,a7,28
@@ -40,53 +42,53 @@ long_divided:
 	slli	a7,a7,1
 	j	.L8
 .L27:
-	li	t4,31
+	li	t0,31
 	srli	a6,a0,1
-	sub	t4,t4,t1
+	sub	t0,t0,t1
 	beq	a3,zero,.L10
-	srli	t5,a2,1
-	srl	t5,t5,t4
-	or	a7,a7,t5
-	slli	t5,a1,31
-	or	t5,t5,a6
+	srli	t2,a2,1
+	srl	t2,t2,t0
+	or	a7,a7,t2
+	slli	t2,a1,31
+	or	t2,t2,a6
 	j	.L11
 .L10:
 	sll	a5,a5,t1
-	srl	a6,a6,t4
+	srl	a6,a6,t0
 	or	a5,a5,a6
-	sll	t5,a0,t1
+	sll	t2,a0,t1
 .L11:
-	slli	s3,a7,16
-	srli	s2,a7,16
-	srli	s3,s3,16
+	slli	s4,a7,16
+	srli	s3,a7,16
+	srli	s4,s4,16
 	li	a6,0
-	li	t0,2
+	li	s0,2
 .L15:
-	divu	s1,a5,s2
-	remu	t2,a5,s2
-	srli	a5,t5,16
-	mul	s0,s1,s3
-	slli	t2,t2,16
-	or	a5,a5,t2
-	mv	t2,s1
-	bleu	s0,a5,.L12
+	divu	s2,a5,s3
+	remu	s5,a5,s3
+	srli	a5,t2,16
+	mul	s1,s2,s4
+	slli	s5,s5,16
+	or	a5,a5,s5
+	mv	s5,s2
+	bleu	s1,a5,.L12
 	add	a5,a7,a5
-	addi	t2,s1,-1
+	addi	s5,s2,-1
 	bltu	a5,a7,.L12
-	bleu	s0,a5,.L12
-	addi	t2,s1,-2
+	bleu	s1,a5,.L12
+	addi	s5,s2,-2
 	add	a5,a5,a7
 .L12:
 	slli	a6,a6,16
-	addi	t0,t0,-1
-	sub	a5,a5,s0
-	or	a6,a6,t2
-	slli	t5,t5,16
-	bne	t0,zero,.L15
+	addi	s0,s0,-1
+	sub	a5,a5,s1
+	or	a6,a6,s5
+	slli	t2,t2,16
+	bne	s0,zero,.L15
 	beq	a3,zero,.L16
-	srl	t4,a6,t4
-	snez	a6,t4
-	sub	a6,t4,a6
+	srl	t0,a6,t0
+	snez	a6,t0
+	sub	a6,t0,a6
 	mul	a7,a2,a6
 	mulhu	t1,a2,a6
 	sub	a7,a0,a7
@@ -120,11 +122,13 @@ long_divided:
 	li	a1,-1
 	ret
 .L4:
-	lw	s0,12(sp)
-	lw	s1,8(sp)
-	lw	s2,4(sp)
-	lw	s3,0(sp)
-	addi	sp,sp,16
+	lw	s0,28(sp)
+	lw	s1,24(sp)
+	lw	s2,20(sp)
+	lw	s3,16(sp)
+	lw	s4,12(sp)
+	lw	s5,8(sp)
+	addi	sp,sp,32
 	jr	ra
 	.size	long_divided, .-long_divided
 	.section	.text.divided,"ax",@progbits
@@ -156,18 +160,17 @@ signed_divided:
 	sw	s3,12(sp)
 	srai	s2,a3,31
 	srai	s3,a1,31
-	mv	a6,a3
+	xor	t1,a2,s2
 	xor	a7,a0,s3
-	xor	a3,a2,s2
-	sub	a2,a3,s2
+	sub	a2,t1,s2
 	sub	a0,a7,s3
-	xor	a6,a6,s2
+	xor	a3,a3,s2
 	xor	a1,a1,s3
-	sgtu	a3,a2,a3
-	sub	a6,a6,s2
+	sgtu	t1,a2,t1
 	sgtu	a7,a0,a7
+	sub	a3,a3,s2
 	sub	a1,a1,s3
-	sub	a3,a6,a3
+	sub	a3,a3,t1
 	sub	a1,a1,a7
 	sw	s0,24(sp)
 	sw	s1,20(sp)

@@ -4,7 +4,7 @@ The words of the data hold what is known beforehand, and the start adds a base t
 offset in the data, and the base that of the data. For code it is a number of bundles, less HALF: for the first format in
 the word's lower half, for the second one in its upper half, each where that format has the code. Which format it is the
 start sees by a 0 that it writes to `sp`: the second one makes an address of the data of it. Differences of two places in
-the code are such numbers, too, and their base is 0.
+the code are such numbers, too, and their base is 0. For code in words it is the distance from the start, in bytes.
 
 The table says where these words are. An entry has 32 bits, for a run of words at equal distances: from the lowest bit 20
 of the first word's offset in the data, 6 of the number of words, 5 of their distance in words, and 1 that says whether it
@@ -74,6 +74,17 @@ add a4, a4, t2
 addi a3, a3, -1
 bnez a3, {code}
 j {entry}"""
+CODE_BASE_OF_WORDS = """
+la a2, {first}"""
+CODE_WORDS_OF_WORDS = """
+{code}:
+lw a5, 0(a4)
+add a5, a5, a2
+sw a5, 0(a4)
+add a4, a4, t2
+addi a3, a3, -1
+bnez a3, {code}
+j {entry}"""
 END = """
 {end}:"""
 SECOND_PART = """
@@ -118,6 +129,8 @@ def parsed(text):
 
 class Table:
     """Many addresses, written by loops over a table of where they are."""
+
+    detect, code_base, code_words = DETECT, CODE_BASE, CODE_WORDS
 
     def __init__(self, words, layout, names):
         self.words, self.layout = words, layout
@@ -165,14 +178,14 @@ class Table:
 
     def parts(self):
         has_code, has_differences = bool(self.kinds - {DATA}), DIFFERENCE in self.kinds
-        yield DETECT if has_code else ""
+        yield self.detect if has_code else ""
         yield BASES
-        yield WITHOUT_BASE if has_differences else CODE_BASE if has_code else ""
+        yield WITHOUT_BASE if has_differences else self.code_base if has_code else ""
         yield ENTRY
         yield TO_CODE if has_code and DATA in self.kinds else ""
         yield DATA_WORDS if DATA in self.kinds else ""
-        yield CODE_WORDS if has_code else ""
-        yield SECOND_PART + CODE_BASE + "\nj {entry}" + DONE if has_differences else END
+        yield self.code_words if has_code else ""
+        yield SECOND_PART + self.code_base + "\nj {entry}" + DONE if has_differences else END
         yield COMPARE if self.last else ""
 
     def complete(self, code, gates, image_format):
@@ -189,3 +202,16 @@ class Table:
             if not -HALF <= halves[image_format - 1] < HALF:
                 raise Refused(word.stored.place, "a difference of places in the code that lie too far apart")
             word.section.put_word(word.stored.offset, (halves[1] << 16) + halves[0] % (1 << 16))
+
+
+class TableOfWords(Table):
+    """The same for code in words, of which a text has no other format."""
+
+    detect, code_base, code_words = "", CODE_BASE_OF_WORDS, CODE_WORDS_OF_WORDS
+
+    def complete(self, code, gates, image_format):
+        at = {piece.name: place for piece, place in zip(code, places(code, image_format)) if piece.is_mark}
+        at.update((gate.name, BUNDLE * (number - len(gates))) for number, gate in enumerate(gates))
+        for word, texts in self.texts:
+            less = texts[1] if len(texts) > 1 else self.names["first"]
+            word.section.put_word(word.stored.offset, at[texts[0]] - at[less])

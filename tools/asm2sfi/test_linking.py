@@ -1,6 +1,6 @@
 """Tests of how asm2sfi joins files, and of the addresses that the data hold: `tools/unit_tests.py tools/asm2sfi`.
-What is wanted follows from what linkers do for C. The last programs are run in both formats, each text also in the
-format that it wasn't packed for; they are skipped where there is no compiler or program."""
+What is wanted follows from what linkers do for C. The last programs are run in each format that the program builds, a text in
+bundles also in the format that it wasn't packed for; they are skipped where there is no compiler or program."""
 import re
 import subprocess
 import unittest
@@ -16,7 +16,8 @@ from sections import DataSection
 from sizes import BUNDLE
 from table import Table, entry, runs_of
 from test_asm2sfi import MAIN, lines_after, lines_of, refusals_of, source, start_of
-from testing import COMPILERS, SFI, SFI_CC, Folder, needs_a_compiler, needs_program
+from testing import COMPILERS, SFI, SFI_CC, Folder, formats_built, needs_a_compiler, needs_program
+from typed import WORDS
 from words import CODE, DATA, Word
 
 
@@ -237,7 +238,7 @@ class Limits(unittest.TestCase):
                           "format 2 has room for 1048576"])
         self.assertEqual(refusals_of(MAIN + "\tnop\n" * 65534 + "\tret\n", passes=()),
                          ["start: 65537 instructions are 1 more than `sfi build` takes"])
-        self.assertEqual(MOST_CODE, {1: 65536, 2: 1048576})
+        self.assertEqual(MOST_CODE, {1: 65536, 2: 1048576, WORDS: 1048576})
 
     def test_text(self):
         check_text("x" * MOST_TEXT)
@@ -342,10 +343,10 @@ class Programs(Folder):
 
     def try_program(self, compiler, *options):
         files = [self.write("everything.c", EVERYTHING), self.write("other.c", OTHER)]
-        for packed_for in ("1", "2"):
+        for packed_for in formats_built():
             words = [SFI_CC, "--cc", compiler, "-c", "--format", packed_for, "-fcommon", *options, *files]
             text = subprocess.run(words, stdout=subprocess.PIPE, check=True, text=True).stdout
-            for image_format in ("1", "2"):
+            for image_format in (WORDS,) if packed_for == WORDS else ("1", "2"):
                 found = self.answer(text, image_format)
                 self.assertRegex(found, "exit=42 .*out=6869$", f"{compiler} {options} {packed_for} {image_format}")
 

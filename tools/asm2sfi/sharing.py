@@ -1,0 +1,200 @@
+"""Several accesses on one base by way of a data register, in code in words, within a block and over the blocks after it.
+
+There an access on a data register is itself, where one on another register gets two masks. So the base of an access is put
+in a data register that compilers leave alone, and later accesses on it, and on what it becomes by sums with numbers, are
+on that register. Accesses on what is a sum with the stack pointer are on the stack pointer.
+
+A base that leads to an object lies in the data region (`layout`), so that the data register is equal to it at the access
+before which it's set, and the later accesses are at the same addresses as before."""
+from control import Blocks, is_call
+from dependences import bits, reads, writes
+from instructions import offset_and_base, written
+from known import KEPT_BY_CALLS
+from operands import REGISTERS
+from typed import DATA, HIGHEST, LOWEST, masked_base, on_base, set_to, step_of
+
+
+class Held:
+    """What data registers hold: for each the registers that are it less a number."""
+
+    def __init__(self, held=None):
+        self.held = {"sp": {}, **{name: dict(others) for name, others in (held or {}).items()}}
+
+    def find(self, base, offset):
+        """The data register on which an access on a base may be, and its offset there, or None."""
+        for name, others in self.held.items():
+            if base in others and LOWEST <= offset - others[base] <= HIGHEST:
+                return name, offset - others[base]
+        return None
+
+    def set(self, name, base):
+        self.held[name] = {base: 0}
+
+    def take(self, op):
+        """Changes what is held by an instruction of the program."""
+        target = written(op)
+        if is_call(op):
+            self.held = {"sp": {name: less for name, less in self.held["sp"].items() if name in KEPT_BY_CALLS}}
+        elif target in DATA:
+            step, others = step_of(op, target), self.held.get(target, {})
+            self.held[target] = {} if step is None else {other: less + step for other, less in others.items()}
+        elif target:
+            self.take_sum(target, *sum_of(op))
+
+    def take_sum(self, target, source, count):
+        """The same where a register becomes the sum of another and a number, or of None."""
+        for name, others in self.held.items():
+            less = -count if source == name else others[source] - count if source in others else None
+            others.pop(target, None)
+            if less is not None:
+                others[target] = less
+
+    def common(self, other):
+        """What two have in common."""
+        return Held({name: dict(others.items() & other.held.get(name, {}).items()) for name, others in self.held.items()})
+
+
+def sum_of(op):
+    """The register and the number of which an instruction is the sum, or None and 0."""
+    if op.word == "mv":
+        return op.operands[1], 0
+    if op.word == "add" and op.operands[1] == "zero":
+        return op.operands[2], 0
+    return (op.operands[1], int(op.operands[2])) if op.word == "addi" else (None, 0)
+
+
+def before_pieces(code, needs, kills, out):
+    """What is wanted before each piece of some code, as bits, from what is wanted after it all."""
+    found = []
+    for piece in reversed(code):
+        out = out & ~kills(piece) | needs(piece)
+        found.append(out)
+    return found[::-1]
+
+
+class Wanted:
+    """For each piece of the code the registers that are wanted after it: as bits, by what each piece needs and kills. What
+    the blocks in `cut` want isn't wanted before them."""
+
+    def __init__(self, code, blocks, needs, kills, cut=()):
+        self.after = [0] * len(code)
+        ranges = list(zip(blocks.starts, blocks.ends))
+        bodies = [code[start:end] for start, end in ranges]
+        everything = (1 << 32) - 1
+        kept = [before_pieces(body, lambda _: 0, kills, everything)[0] for body in bodies]
+        own = [before_pieces(body, needs, kills, 0)[0] for body in bodies]
+        found, waiting = list(own), list(range(len(own)))
+        while waiting:
+            block = waiting.pop()
+            for other in () if block in cut else blocks.before[block]:
+                new = found[other] | found[block] & kept[other]
+                if new != found[other]:
+                    found[other] = new
+                    waiting.append(other)
+        for block, (start, end) in enumerate(ranges):
+            out = 0
+            for other in blocks.following[block]:
+                out |= 0 if other in cut else found[other]
+            self.after[start:end] = [*before_pieces(bodies[block], needs, kills, out)[1:], out]
+
+
+def bit(name):
+    return 0 if name is None else 1 << REGISTERS[name]
+
+
+def accessed(piece):
+    return bit(masked_base(piece))
+
+
+def forgotten(piece):
+    """The registers of which a piece makes something else than a sum with a number; all for a call."""
+    if is_call(piece):
+        return (1 << 32) - 1
+    target = written(piece)
+    return 0 if target is None or step_of(piece, target) is not None else bits(writes(piece))
+
+
+def read_bits(piece):
+    return bits(reads(piece))
+
+
+def written_bits(piece):
+    return bits(writes(piece))
+
+
+class Sharer:
+    """Puts bases in data registers that nothing else in the program needs."""
+
+    def __init__(self, code, registers):
+        self.code, self.registers = code, registers
+        self.blocks = Blocks(code)
+        rank = {block: number for number, block in enumerate(self.blocks.order)}
+        self.empty = {block for block in rank if block in self.blocks.entries
+                      or any(rank.get(other, len(rank)) >= rank[block] for other in self.blocks.before[block])}
+        self.later = Wanted(code, self.blocks, accessed, forgotten, self.empty).after
+        self.live = Wanted(code, self.blocks, read_bits, written_bits).after
+
+    def shared(self):
+        ends, found = {}, {}
+        for block in self.blocks.order:
+            held = self.held_before(block, ends)
+            found[block] = list(self.pass_block(block, held))
+            ends[block] = held
+        return [piece for block, (start, end) in enumerate(zip(self.blocks.starts, self.blocks.ends))
+                for piece in found.get(block, self.code[start:end])]
+
+    def held_before(self, block, ends):
+        """What is held where a block begins, on each way there: nothing where one leads back from later."""
+        before = self.blocks.before[block]
+        if block in self.empty:
+            return Held()
+        held = Held(ends[before[0]].held)
+        for other in before[1:]:
+            held = held.common(ends[other])
+        return held
+
+    def pass_block(self, block, held):
+        for number in range(self.blocks.starts[block], self.blocks.ends[block]):
+            piece, found = self.code[number], None
+            base = masked_base(piece)
+            if base:
+                offset = offset_and_base(piece)[0]
+                found = held.find(base, offset)
+                register = None if found else self.register_for(number, base, held)
+                if register:
+                    yield set_to(register, base)
+                    held.set(register, base)
+                    found = register, offset
+            if not piece.is_mark:
+                held.take(piece)
+            yield on_base(piece, *found) if found else piece
+
+    def register_for(self, number, base, held):
+        """A data register for the base of an access, if the base is accessed later, too: one that holds nothing that is."""
+        later = self.later[number]
+        if base in writes(self.code[number]) or not later & bit(base):
+            return None
+        free = [name for name in self.registers if not self.is_live(number, name)]
+        for name in free:
+            if not any(later & bit(other) for other in held.held.get(name, ())):
+                return name
+        return self.farthest(number, base, free, held)
+
+    def farthest(self, number, base, free, held):
+        """The register whose next access is the farthest in the block, if that is farther than the base's next one."""
+        best = max(free, key=lambda name: self.next_access(number, held.held[name]), default=None)
+        is_farther = best and self.next_access(number, held.held[best]) > self.next_access(number, {base})
+        return best if is_farther else None
+
+    def next_access(self, number, names):
+        """The number of the next access on one of some bases in the block, or its end."""
+        end = self.blocks.ends[self.blocks.block_of[number]]
+        return next((at for at in range(number + 1, end) if masked_base(self.code[at]) in names), end)
+
+    def is_live(self, number, name):
+        """Whether a data register holds something before a piece that the code from there on reads."""
+        return bool((self.live[number] & ~written_bits(self.code[number]) | read_bits(self.code[number])) & bit(name))
+
+
+def with_shared_masks(code, registers):
+    return Sharer(code, registers).shared()
