@@ -4,7 +4,7 @@ import os
 import shutil
 import subprocess
 
-from testing import GCC, SFI, SFI_CC, Folder, needs, needs_program
+from testing import GCC, SFI, SFI_CC, Folder, formats_built, needs, needs_program
 
 HELLO = '#include "gates.h"\n\nint main(void) {\n    put("Hi", 2);\n    return 105;\n}\n'
 ASSEMBLY = "\t.text\n\t.globl\tmain\nmain:\n\tli\ta0,7\n\tret\n"
@@ -130,7 +130,7 @@ cp {self.folder}/main.asm "$2"
 
     def test_source_text(self):
         rows = [(["--format", "1"], ".format 1"), ([], ".format 2"), (["--stack", "100000"], ".sandbox 131072"),
-                (["--data", "65536"], ".sandbox 65536")]
+                (["--data", "65536"], ".sandbox 65536"), (["--format", "words"], ".format words")]
         for options, line in rows:
             status, text, told = self.made("-c", *options, build="exit 9")
             self.assertEqual((status, told), (0, []))
@@ -149,7 +149,10 @@ cp {self.folder}/main.asm "$2"
         self.assertIn("-O1 -I headers -DX=1 -include other.c", " ".join(words))
         self.assertEqual(words[-1], self.file)
         self.assertLess(words.index("-O2"), words.index("-O1"))
-        for options, told in [(["--format", "3"], "argument --format: invalid choice: '3' (choose from '1', '2')"),
+        self.assertNotIn("-ffixed-x30", words)
+        self.made("--format", "words")
+        self.assertIn("-ffixed-x29 -ffixed-x30", self.read("words").splitlines()[-1])
+        for options, told in [(["--format", "3"], "argument --format: invalid choice: '3' (choose from '1', '2', 'words')"),
                               (["--stack"], "argument --stack: expected one argument")]:
             status, output, lines = self.call(self.file, *options)
             self.assertEqual((status, output, lines[-1]), (2, "", f"sfi-cc: error: {told}"))
@@ -168,7 +171,7 @@ class Programs(Calls):
 
     def compare(self, *words):
         file = self.write("hello.c", HELLO)
-        for image_format in ("1", "2"):
+        for image_format in formats_built():
             self.assertEqual(self.runs("--format", image_format, *words, file), ["sandbox=0", "exit=105", "out=4869"])
 
     @needs(GCC)

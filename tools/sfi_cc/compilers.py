@@ -9,15 +9,15 @@ TOOLS = os.path.dirname(os.path.dirname(os.path.abspath(__file__)))
 TOP = os.path.dirname(TOOLS)
 GCC, CLANG = "riscv64-unknown-elf-gcc", "clang"
 RESERVED = (24, 25, 26, 27, 31)  # the sandbox's own registers
+RESERVED_IN_WORDS = (*RESERVED, 29, 30)  # those of code in words, which a library keeps free for every format
 LEVELS = {"-O": "-O1", "-Og": "-O1", "-Os": "-O2", "-Oz": "-O2", "-Ofast": "-O3"}  # those that llc hasn't
 CASES = 64  # of more cases a `switch` is cheaper by a table of addresses than by branches
 COMMON = ["-march=rv32imc", "-mabi=ilp32", "-fno-builtin", "-ffunction-sections", "-fdata-sections"]
-FIXED = ["-Werror=trampolines", f"--param=case-values-threshold={CASES}", *(f"-ffixed-x{number}" for number in RESERVED)]
+OF_GCC = ["-Werror=trampolines", f"--param=case-values-threshold={CASES}"]
 PLUS_PLUS = ["-fno-exceptions", "-fno-rtti", "-fno-threadsafe-statics"]
 LAST = ["-fno-lto"]  # what outweighs the options that are given
 TARGET = ["--target=riscv32-unknown-elf", "-fno-jump-tables"]  # llc makes tables of any five cases, or none
-LLC = ["-march=riscv32", "-target-abi=ilp32", "--function-sections", "--data-sections",
-       "-mattr=+m,+c," + ",".join(f"+reserve-x{number}" for number in RESERVED)]
+LLC = ["-march=riscv32", "-target-abi=ilp32", "--function-sections", "--data-sections"]
 HEADERS = ["-I", os.path.join(TOP, "examples", "c")]
 SOURCES = (".c", ".i")
 PLUS_PLUS_SOURCES = (".cc", ".cpp", ".cxx", ".C", ".ii")
@@ -86,28 +86,35 @@ def version(compiler):
     return ran([compiler, "--version"])[0].decode("utf-8", "replace")
 
 
-def by_gcc(compiler, given, file, assembly):
-    return ran([compiler, "-S", "-O2", *COMMON, *FIXED, *language(file), *given, *LAST, *HEADERS, "-o", assembly, file])[1]
+def reserved(image_format):
+    """The registers that are the sandbox's own in a format."""
+    return RESERVED_IN_WORDS if image_format == "words" else RESERVED
 
 
-def by_clang(compiler, given, file, assembly):
+def by_gcc(compiler, given, file, assembly, registers):
+    fixed = [*OF_GCC, *(f"-ffixed-x{number}" for number in registers)]
+    return ran([compiler, "-S", "-O2", *COMMON, *fixed, *language(file), *given, *LAST, *HEADERS, "-o", assembly, file])[1]
+
+
+def by_clang(compiler, given, file, assembly, registers):
     """clang in two steps: in one, version 14 doesn't keep the sandbox's own registers free."""
     middle = assembly + ".bc"
     folder, name = os.path.split(compiler)
     llc = os.path.join(folder, name.replace("clang", "llc"))
     first = ran([compiler, "-c", "-emit-llvm", "-O2", *TARGET, *COMMON, *language(file), *given, *LAST, *HEADERS,
                  "-o", middle, file])
-    return first[1] + ran([llc, level(given), *LLC, "-o", assembly, middle])[1]
+    machine = "-mattr=+m,+c," + ",".join(f"+reserve-x{number}" for number in registers)
+    return first[1] + ran([llc, level(given), *LLC, machine, "-o", assembly, middle])[1]
 
 
-def preprocessed(compiler, given, file, assembly):
+def preprocessed(compiler, given, file, assembly, _):
     target = TARGET if "clang" in os.path.basename(compiler) else []
     return ran([compiler, "-E", *target, *COMMON, *given, *HEADERS, "-o", assembly, file])[1]
 
 
-def compiled(compiler, given, file, place):
-    """The path of a file's assembly, and what the compiler said. Each has a folder `place` of its own, since two may
-    have one name."""
+def compiled(compiler, given, file, place, registers=RESERVED_IN_WORDS):
+    """The path of a file's assembly, which leaves some registers alone, and what the compiler said. Each has a folder
+    `place` of its own, since two may have one name."""
     if file.endswith(ASSEMBLY):
         return file, b""
     os.mkdir(place)
@@ -115,13 +122,13 @@ def compiled(compiler, given, file, place):
     compile_one = by_clang if "clang" in os.path.basename(compiler) else by_gcc
     if file.endswith(WITH_MACROS):
         compile_one = preprocessed
-    return assembly, compile_one(compiler, given, file, assembly)
+    return assembly, compile_one(compiler, given, file, assembly, registers)
 
 
-def all_compiled(compiler, given, files, folder):
+def all_compiled(compiler, given, files, folder, registers):
     """The paths of the assembly of each file. Compilers run side by side; what they say is told in the files' order."""
     with ThreadPoolExecutor(os.cpu_count()) as pool:
         places = [os.path.join(folder, str(number)) for number in range(len(files))]
-        for assembly, said in pool.map(lambda file, place: compiled(compiler, given, file, place), files, places):
+        for assembly, said in pool.map(lambda file, place: compiled(compiler, given, file, place, registers), files, places):
             tell(said)
             yield assembly

@@ -5,7 +5,7 @@ import shutil
 from concurrent.futures import ThreadPoolExecutor
 
 import softfloat
-from compilers import Failed, compiled, version
+from compilers import RESERVED_IN_WORDS, Failed, compiled, version
 from kept import kept
 from sources import GCC_SOURCE, NEWLIB_SOURCE, identity, unpacked
 
@@ -86,5 +86,5 @@ def folder_of(compiler, heap):
         with open(path, encoding="utf-8") as file:
             own.append(file.read())
     words = [version(compiler), str(heap), identity(NEWLIB_SOURCE.where()), identity(GCC_SOURCE.where()), *own, *OPTIONS,
-             *sorted(LEFT_OUT), *FOLDERS, *POSIX, str(VARIANTS)]
+             *sorted(LEFT_OUT), *FOLDERS, *POSIX, str(VARIANTS), str(RESERVED_IN_WORDS)]
     return kept("newlib", words, lambda folder: compile_all(compiler, heap, folder))

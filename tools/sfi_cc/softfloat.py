@@ -6,7 +6,7 @@ import re
 import shutil
 from concurrent.futures import ThreadPoolExecutor
 
-from compilers import compiled, version
+from compilers import RESERVED_IN_WORDS, compiled, version
 from kept import kept
 from sources import GCC_SOURCE, identity, unpacked
 
@@ -71,5 +71,5 @@ def folder_of(compiler):
     """The folder of assembly that a compiler made of these functions; None where the sources aren't there."""
     if GCC_SOURCE.where() is None:
         return None
-    words = [version(compiler), identity(GCC_SOURCE.where()), *LIBGCC2, SOFT_FP.pattern, *MODES]
+    words = [version(compiler), identity(GCC_SOURCE.where()), *LIBGCC2, SOFT_FP.pattern, *MODES, str(RESERVED_IN_WORDS)]
     return kept("softfloat", words, lambda folder: compile_all(compiler, unpacked(GCC_SOURCE, *PARTS), folder))
