@@ -61,7 +61,7 @@ def row(name, program, folder):
     assembly = os.path.join(compiled.EXAMPLES, "build", name + ".asm")
     without, answer = plain(assembly, words, program, folder)
     cells = [f"{name}, {compiled.CASES[name]}", f"{without:,}"]
-    for image_format in compiled.FORMATS:
+    for image_format in (1, 2):
         steps, found = sandboxed(assembly, words, image_format, program, folder)
         if found != answer:
             raise SystemExit(f"bench: {name}: the answers differ")

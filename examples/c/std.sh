@@ -1,8 +1,9 @@
 # The programs of std, which use standard headers alone, and two programs that are one image: compiled by each compiler
-# that is there, and compared with what native gcc makes of std, in both formats.
+# that is there, without the registers that are the sandbox's own in any format, and compared with what native gcc makes of
+# std, in each of $formats.
 std_programs="base64 json_tokens matrix_product functions ends"
-owns="-ffixed-x24 -ffixed-x25 -ffixed-x26 -ffixed-x27 -ffixed-x31"
-reserved="+reserve-x24,+reserve-x25,+reserve-x26,+reserve-x27,+reserve-x31"
+owns=$(printf -- '-ffixed-x%s ' 24 25 26 27 29 30 31)
+reserved=$(printf -- ',+reserve-x%s' 24 25 26 27 29 30 31)
 machine="-std=c11 -O2 -Wall -Wextra -Werror -march=rv32imc -mabi=ilp32 -fno-builtin -fno-jump-tables
     -ffunction-sections -fdata-sections -I include -I ."
 
@@ -12,7 +13,7 @@ compile_by_gcc() { # C file, assembly file
 
 compile_by_clang() { # C file, assembly file
     clang -S -emit-llvm --target=riscv32-unknown-elf $machine -o "$2.ll" "$1" &&
-        llc -O2 -march=riscv32 -target-abi=ilp32 --function-sections --data-sections -mattr="+m,+c,$reserved" \
+        llc -O2 -march=riscv32 -target-abi=ilp32 --function-sections --data-sections -mattr="+m,+c$reserved" \
             -o "$2" "$2.ll"
 }
 
@@ -107,8 +108,9 @@ try_compiler() { # compiler
         return
     fi
     passed=$((passed + 1))
-    try_format "$1" 1
-    try_format "$1" 2
+    for format in $formats; do
+        try_format "$1" "$format"
+    done
     try_linking "$1"
 }
 

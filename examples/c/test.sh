@@ -1,5 +1,5 @@
 #!/usr/bin/env bash
-# Builds, checks and runs the C examples in both formats, on each input of expected.txt, and compares what they do with
+# Builds, checks and runs the C examples in each format, on each input of expected.txt, and compares what they do with
 # what the native programs did. Then reads the headers as C++, and compiles the programs of std.sh and compares them
 # with native ones. Without a compiler only the examples are tried whose source text is kept.
 #
@@ -11,6 +11,14 @@ sfi=$(realpath "${1:-$here/../../sfi}")
 cd "$here" || exit 1
 source ../harness.sh
 source ./std.sh
+
+text_of() { # program, format; nothing where it would take a compiler that isn't there
+    if [ "$2" != words ]; then
+        source_of_c "$1"
+    elif has riscv64-unknown-elf-gcc && has make; then
+        make -s "build/words/$1.s" >&2 && echo "build/words/$1.s"
+    fi
+}
 
 make_image() { # program, format, source text
     grep -v '^\.format' "$3" | sed "1i .format $2" | "$sfi" build >"$room/$1.$2"
@@ -36,9 +44,14 @@ headers_in_cpp() {
     done
 }
 
-for format in 1 2; do
+formats="1 2 words"
+if ! printf '.format words\n.sandbox 256\nebreak\n' | "$sfi" build >"$room/words"; then
+    skip 1 "the examples in words" "sfi build doesn't take them yet: $(cat "$room/words")"
+    formats="1 2"
+fi
+for format in $formats; do
     for program in $(cut -d' ' -f1 expected.txt | uniq); do
-        text=$(source_of_c "$program")
+        text=$(text_of "$program" "$format")
         if [ -z "$text" ]; then
             skip "$(grep -c "^$program " expected.txt)" "$program, format $format" "riscv64-unknown-elf-gcc or make isn't there"
             continue

@@ -2,10 +2,10 @@
 
     [SFI=PATH] [SEED=N] tools/unit_tests.py tools/asm2sfi test_images.py
 
-The code is that of each example of examples/c, and random code as it is and packed, in both
-formats. `sfi dis` lists each image: where the model has an instruction, the listing must have
-the one that its expansion begins with, of the same size. The seed of the random code is printed
-first; SEED=N in the environment takes another. The examples are read as source texts, of which
+The code is that of each example of examples/c, and random code as it is and packed, in each format
+that the program builds. `sfi dis` lists each image: where the model has an instruction, the listing
+must have the one that its expansion begins with, of the same size. The seed of the random code is
+printed first; SEED=N in the environment takes another. The examples are read as source texts, of which
 the Makefile of examples/c makes those that aren't kept: without gcc for RISC-V they are skipped."""
 import os
 import random
@@ -16,10 +16,11 @@ import unittest
 from instructions import Op, written
 from naming import Names
 from packing import packed
-from placement import pass_op, places
+from placement import spans
 from program import Mark
 from sizes import BUNDLE, MASKED, expansions, number_parts
-from testing import GCC, SFI, TOP, needs, needs_program
+from testing import GCC, SFI, TOP, formats_built, needs, needs_program
+from typed import ADDRESSES, WORDS, is_free_step, is_move, masked_base, with_plain_jumps
 from writing import code_lines
 
 EXAMPLES = os.path.join(TOP, "examples", "c")
@@ -45,8 +46,15 @@ def listed_places(image):
     return found
 
 
+def first_word(op, following):
+    """The name of what an instruction's expansion in code in words begins with."""
+    is_masked = masked_base(op) or op.word in ("ret", "jr", "jalr") or is_move(op) and not is_free_step(op, following)
+    word = number_parts(op)[0].word if op.word == "li" else op.word
+    return "and" if is_masked else SPELT.get(word, word)
+
+
 def first_instruction(op, image_format):
-    """The bytes and the name of what an instruction's expansion begins with."""
+    """The bytes and the name of what an instruction's expansion in bundles begins with."""
     size = expansions(op, image_format)[0][0]
     writes_stack = image_format == 2 and written(op) == "sp"
     if size == MASKED and not writes_stack:
@@ -77,6 +85,7 @@ def read_source(text):
 
 def random_op(source):
     a, b, c = (source.choice(REGISTERS) for _ in range(3))
+    data = source.choice(("sp", *ADDRESSES))
     number = source.choice([0, 1, 4, 8, 31, -32, 32, 100, -100, 252, 256, 1020])
     return source.choice([
         Op("add", (a, a, b), None), Op("add", (a, "zero", b), None), Op("sub", (a, a, b), None), Op("xor", (a, b, c), None),
@@ -87,7 +96,9 @@ def random_op(source):
         Op("slli", (a, a, "3"), None), Op("srai", (a, a, "3"), None), Op("mul", (a, a, b), None), Op("mv", (a, b), None),
         Op("la", (a, "start"), None), Op("call", ("start",), None), Op("jalr", ("ra", f"{number}({a})"), None),
         Op("ret", (), None), Op("beqz", (a, "start"), None), Op("nop", (), None), Op("mv", ("sp", a), None),
-        Op("lw", ("sp", "4(sp)"), None), Op("ebreak", (), None), Op("fence", (), None), Op("li", ("sp", "123456"), None)])
+        Op("lw", ("sp", "4(sp)"), None), Op("ebreak", (), None), Op("fence", (), None), Op("li", ("sp", "123456"), None),
+        Op("addi", (data, data, str(number)), None), Op("lw", (a, f"{number}({data})"), None), Op("mv", (data, a), None),
+        Op("la", (data, "start"), None), Op("li", (data, str(source.choice([0, 4096, 4100]))), None)])
 
 
 def random_code(source):
@@ -108,20 +119,22 @@ class Images(unittest.TestCase):
         says. Gates come first."""
         gates, code = read_source(text)
         listed = listed_places(built(text))
-        found = places(code, image_format)
-        for piece, place in zip(code, found):
+        found = spans(code, image_format)
+        for piece, following, (place, _) in zip(code, [*code[1:], None], found):
             size, word = listed[place + BUNDLE * gates]
-            if not piece.is_mark:
+            if image_format == WORDS and not piece.is_mark:
+                self.assertEqual(word, first_word(piece, following), f"{what}: {piece}")
+            elif not piece.is_mark:
                 self.assertEqual((size, word), first_instruction(piece, image_format), f"{what}: {piece}")
-        end = pass_op(code[-1], found[-1], image_format)[1] + BUNDLE * gates
+        end = found[-1][1] + BUNDLE * gates
         last = max(place for place in listed if place < end)
         self.assertEqual(last + listed[last][0], end, what)
 
-    def compare_texts(self, folder):
+    def compare_texts(self, folder, formats=(1, 2)):
         for name in sorted(file for file in os.listdir(folder) if file.endswith(".s")):
             with open(os.path.join(folder, name), encoding="utf-8") as file:
                 text = file.read()
-            for image_format in (1, 2):
+            for image_format in formats:
                 text = re.sub(r"^\.format .*$", f".format {image_format}", text, flags=re.MULTILINE)
                 self.compare(text, image_format, f"{name}, format {image_format}")
 
@@ -132,6 +145,8 @@ class Images(unittest.TestCase):
     def test_made_examples(self):
         subprocess.run(["make", "-s", "-C", EXAMPLES, "texts"], check=True)
         self.compare_texts(os.path.join(EXAMPLES, "build"))
+        if WORDS in formats_built():
+            self.compare_texts(os.path.join(EXAMPLES, "build", "words"), [WORDS])
 
     def test_random_code(self):
         print(f"SEED={SEED}", flush=True)
@@ -142,3 +157,5 @@ class Images(unittest.TestCase):
                 for what, pieces in [("as it is", code), ("packed", packed(code, image_format, Names([])))]:
                     self.compare(source_of(pieces, image_format), image_format,
                                  f"SEED={SEED}, program {number}, format {image_format}, {what}")
+            if WORDS in formats_built():
+                self.compare(source_of(with_plain_jumps(code), WORDS), WORDS, f"SEED={SEED}, program {number}, in words")

@@ -3,28 +3,29 @@
     [SFI=PATH] [SEED=N] [COUNT=N] tools/unit_tests.py tools/asm2sfi test_random.py
 
 Each program goes through gcc at -O0 to -O3 and -Os and, where it is there, through clang at -O2, then
-through the tool with all its passes, and runs in both formats. The same programs are tried each
-time, so that the gate's answer can be repeated; SEED=N in the environment takes others, and COUNT=N
-so many of them. A failure names its seed. Where a compiler isn't there the test is skipped."""
+through the tool with all its passes, and runs in each format that the program builds. The same
+programs are tried each time, so that the gate's answer can be repeated; SEED=N in the environment
+takes others, and COUNT=N so many of them. A failure names its seed. Where a compiler isn't there the
+test is skipped."""
 import os
 import shutil
 import subprocess
 
 from conversion import Options, convert
 from random_c import Program
-from testing import GCC, SFI, TOP, Folder, needs, needs_program
+from testing import GCC, SFI, TOP, Folder, formats_built, needs, needs_program
+from typed import OWN, WORDS
 
 HERE = os.path.dirname(os.path.abspath(__file__))
 EXAMPLES = os.path.join(TOP, "examples", "c")
 SEED = int(os.environ.get("SEED", 1))
 COUNT = int(os.environ.get("COUNT", 3))
 STACK = 1 << 19  # the programs call themselves some hundred times
+BUNDLED = (24, 25, 26, 27, 31)  # the sandbox's own registers in the first two formats
 CLANG, LLC, NATIVE = "clang", "llc", "gcc"
 COMMON = ["-march=rv32imc", "-mabi=ilp32", "-ffreestanding", "-fno-builtin", "-fno-jump-tables", "-ffunction-sections",
           "-fdata-sections", "-I", EXAMPLES, "-I", HERE]
-OWN = [f"-ffixed-x{number}" for number in (24, 25, 26, 27, 31)]
 GCC_WAYS = [["-O0"], ["-O1"], ["-O2", "-fno-section-anchors", "-mno-explicit-relocs"], ["-Os"], ["-O3", "-funroll-loops"]]
-RESERVED = ",".join(f"+reserve-x{number}" for number in (24, 25, 26, 27, 31))
 
 
 def run(*words, data=None):
@@ -41,16 +42,24 @@ def native_answer(path, folder):
     return f"exit={done.returncode} out={done.stdout.hex()}"
 
 
-def assemblies(path, folder):
-    """What each compiler makes of a program, with its words."""
+def ways():
+    """The registers that are the sandbox's own, with the formats that have them, as far as the program builds these."""
+    yield BUNDLED, (1, 2)
+    if WORDS in formats_built():
+        yield (*BUNDLED, *OWN.values()), (WORDS,)
+
+
+def assemblies(path, folder, own):
+    """What each compiler makes of a program without some registers, with its words."""
+    fixed = [f"-ffixed-x{number}" for number in own]
     for way in GCC_WAYS:
-        done = run(GCC, "-S", "-w", *way, *COMMON, *OWN, "-o", "-", path)
+        done = run(GCC, "-S", "-w", *way, *COMMON, *fixed, "-o", "-", path)
         yield "gcc " + " ".join(way), done.stdout.decode()
     if shutil.which(CLANG) and shutil.which(LLC):
         middle = os.path.join(folder, "middle.ll")
         run(CLANG, "-S", "-w", "-emit-llvm", "-O2", "--target=riscv32-unknown-elf", *COMMON, "-o", middle, path)
         done = run(LLC, "-O2", "-march=riscv32", "-target-abi=ilp32", "--function-sections", "--data-sections",
-                   f"-mattr=+m,+c,{RESERVED}", "-o", "-", middle)
+                   "-mattr=+m,+c," + ",".join(f"+reserve-x{number}" for number in own), "-o", "-", middle)
         yield "clang -O2", done.stdout.decode()
 
 
@@ -71,12 +80,10 @@ class RandomPrograms(Folder):
         with open(os.path.join(HERE, "runtime.asm"), encoding="utf-8") as file:
             library = [("runtime.asm", file.read())]
         for seed in range(SEED, SEED + COUNT):
-            self.compare(seed, library)
-
-    def compare(self, seed, library):
-        path = self.write("random.c", Program(seed).text())
-        wanted = native_answer(path, self.folder)
-        for way, assembly in assemblies(path, self.folder):
-            for image_format in (1, 2):
-                found = sandboxed_answer(assembly, library, image_format)
-                self.assertEqual(found, wanted, f"SEED={seed}, {way}, format {image_format}")
+            path = self.write("random.c", Program(seed).text())
+            wanted = native_answer(path, self.folder)
+            for own, formats in ways():
+                for way, assembly in assemblies(path, self.folder, own):
+                    for image_format in formats:
+                        found = sandboxed_answer(assembly, library, image_format)
+                        self.assertEqual(found, wanted, f"SEED={seed}, {way}, format {image_format}")

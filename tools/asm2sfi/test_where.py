@@ -13,7 +13,7 @@ import unittest
 from assembly import Place
 from conversion import Options, convert, converted
 from lines import source_lines
-from testing import GCC, SFI, SFI_CC, TOP, needs, needs_program
+from testing import GCC, SFI, SFI_CC, TOP, formats_built, needs, needs_program
 from where import Image
 
 HERE = os.path.dirname(os.path.abspath(__file__))
@@ -191,7 +191,7 @@ class Listing(unittest.TestCase):
             self.assertRegex(line, rf"^{address}: .*: {word} \w+, {offset}\(")
 
     def test_json(self):
-        for image_format in ("1", "2"):
+        for image_format in formats_built():
             self.compare(image_format)
 
 
@@ -232,17 +232,17 @@ class Traps(unittest.TestCase):
         told = self.output([SFI_CC, "--where", found.group(2), "--where", found.group(1), "-g", *options, path])
         return told.splitlines()
 
-    def follow(self, compiler, text, mark, wanted, levels):
+    def follow(self, compiler, text, mark, wanted, levels, formats=("1", "2")):
         number = next(number for number, line in enumerate(text.splitlines(), 1) if mark in line)
         for level in levels:
-            for image_format in ("1", "2"):
+            for image_format in formats:
                 way = ["--cc", compiler, level, "--format", image_format]
                 told = self.trap(text, *way)
                 self.assertRegex(told[0], rf"trap\.c:{number} \(trap\.asm:\d+\): {wanted}", f"{way}")
                 self.assertRegex(told[1], r"in the guard zone, .* the stack has likely overflowed", f"{way}")
 
     def follow_all(self, compiler):
-        self.follow(compiler, BAD, "at[-5]", r"sw a1, -20\(a0\)$", ["-O1", "-O2"])
+        self.follow(compiler, BAD, "at[-5]", r"sw a1, -20\((a0|gp)\)$", ["-O1", "-O2"], formats_built())
         full = r"sw \w+, \d+\(sp\); .* the stack has likely overflowed"
         self.follow(compiler, DEEP, "makes the frame", full, ["-O0", "-O2"])
 

@@ -30,8 +30,9 @@ sys.dont_write_bytecode = True
 sys.path[:0] = [os.path.join(TOP, "tools", "sfi_cc"), os.path.join(TOP, "tools", "asm2sfi")]
 
 import softfloat
-from compilers import GCC, Failed, compiled, ran, version
+from compilers import GCC, RESERVED_IN_WORDS, Failed, compiled, ran, reserved, version
 from conversion import Options, convert
+from typed import WORDS, format_of
 from kept import kept
 from sources import GCC_SOURCE, unpacked
 
@@ -58,7 +59,7 @@ class Case:
     name: str
     compiler: str
     level: str
-    image_format: int
+    image_format: object
 
     def __str__(self):
         return f"{self.name} by {self.compiler} {self.level}, format {self.image_format}"
@@ -140,7 +141,7 @@ def sandboxed(room, case, place):
     """The status and the output in a sandbox, or why there are none."""
     try:
         given = [*QUIET[:1 + (case.compiler == "clang")], *room.hosted, *room.options(case)]
-        assembly, _ = compiled(COMPILERS[case.compiler], given, room.source(case), place)
+        assembly, _ = compiled(COMPILERS[case.compiler], given, room.source(case), place, reserved(case.image_format))
     except Failed as failed:
         return "refused: " + next((line for line in failed.told.decode("latin-1").splitlines() if "error" in line), "?")
     text, why = converted(room, case, assembly)
@@ -185,7 +186,7 @@ def small_library(compiler):
             shutil.rmtree(os.path.join(folder, "room"))
 
     texts = [open(path, encoding="utf-8").read() for path in paths + sorted(glob.glob(os.path.join(include, "*.h")))]
-    return kept("library", [version(compiler), str(HEAP), *texts], make)
+    return kept("library", [version(compiler), str(HEAP), str(RESERVED_IN_WORDS), *texts], make)
 
 
 def room_of(options, folder):
@@ -224,7 +225,7 @@ def parsed(words):
     parser.add_argument("--ieee", action="store_true", help="the tests of the folder ieee, all in each way")
     parser.add_argument("--compiler", action="append", choices=COMPILERS, help="gcc and clang if absent")
     parser.add_argument("--level", action="append", choices=LEVELS, help="such as --level=-O2; all if absent")
-    parser.add_argument("--format", action="append", type=int, choices=(1, 2), help="both if absent")
+    parser.add_argument("--format", action="append", type=format_of, choices=(1, 2, WORDS), help="1 and 2 if absent")
     parser.add_argument("--library", metavar="FOLDER", help="a C library of tools/sfi-library in place of the small one")
     parser.add_argument("--jobs", type=int, default=2, help="how many run side by side; 2 if absent")
     parser.add_argument("--program", default=os.path.join(TOP, "sfi"), help="the program sfi; ./sfi at the top if absent")
