@@ -9,7 +9,7 @@ use Rattle.sfi_check.specs.declared.stream_answer.StreamAnswer.TheVariants.{Acce
 use Rattle.sfi_check.specs.Verdict.{HasFindings}
 use Rattle.sfi_check.specs.Streams.{IsFaultOf, AreCounted, IsVerdictOn}
 use Rattle.sfi_c.specs.Verdicts.{no_image, refusal, IsAcceptance, IsRefusal, IsLayoutFault}
-use Rattle.sfi_c.specs.private.Reads.{verdict_of}
+use Rattle.sfi_c.specs.private.{verdict_of}
 
 pub accepted : (bytes : List ℕ) (a : StreamAnswer) → IsVerdictOn bytes true a → (verdict_of a).status ≡ 0 → IsAcceptance bytes (verdict_of a)
 accepted bytes (Accepted sandboxes bundles) v e =

@@ -1,12 +1,16 @@
--- Findings that are written to an array after those before them.
-use Rattle.std.proofs.Common.{◌≡◌, ◌∙◌, ℕ, ◌+◌, ◌-◌, List, [], ◌++◌, length, sym, ap, arith}
+-- Findings that are handed over, and written to an array after those before them.
+use Rattle.std.proofs.Common.{◌≡◌, ◌∙◌, ℕ, ◌+◌, ◌-◌, List, [], ◌++◌, length, sym, ap, arith, ◌∷◌, true, refl, subst}
 use Rattle.std.specs.Prelude.{take, drop, min}
 use Rattle.std.proofs.lemmas.List.{length-append}
 use Rattle.sfi_rules.specs.declared.finding.Finding.{Finding}
 use Rattle.sfi_c.specs.declared.finding.SfiFinding.{SfiFinding}
 use Rattle.sfi_c.specs.Verdicts.{finding_for_c, with_findings}
-use Rattle.sfi_c.specs.private.Rooms.{Has}
+use Rattle.sfi_c.specs.private.{Has}
 use Rattle.sfi_c.proofs.Writing.{over, with_is, over_length, written_after}
+use Rattle.sfi_check.specs.declared.stream_answer.StreamAnswer.{StreamAnswer}
+use Rattle.sfi_check.specs.Verdict.{HasFindings}
+use Rattle.sfi_check.specs.Streams.{IsVerdictOn, IfFindings, AreHandedOver}
+use Rattle.sfi_check.proofs.Facts.{one_list_of_findings}
 
 -- the array before has these findings; then others are written after them, as many as there is room for
 pub filled : (first : List SfiFinding) (before found : List Finding) (array after : List SfiFinding) (written from count : ℕ) → Has first before array written
@@ -25,3 +29,11 @@ filled first before found array after written from count has from_is after_is co
 -- at first it has none
 pub at_first : (first : List SfiFinding) → Has first [] first 0
 at_first first = record { array_is = sym (with_is finding_for_c [] first); written_is = omega arith }
+
+-- ---- what was handed over on the way to an answer, where the bytes have findings
+
+pub handed_over : (image : List ℕ) (a : StreamAnswer) (got found : List Finding) → IsVerdictOn image true a → AreHandedOver image got a → HasFindings image found → got ≡ found
+handed_over image a got [] judged handed has = absurd (has.some refl)
+handed_over image a got (x ∷ xs) judged handed has =
+    let is = judged.only_findings refl (x ∷ xs) has x refl in
+    one_list_of_findings image got (x ∷ xs) (subst (λ (b : StreamAnswer). IfFindings (λ count first. HasFindings image got) b) is handed.findings) has

@@ -1,13 +1,13 @@
 -- What a look-up says, and of which bytes.
-use Rattle.std.proofs.Common.{◌≡◌, ◌≢◌, ◌∙◌, ℕ, zero, suc, ◌<◌, List, [], ◌∷◌, length, Some, Result, Ok, Err, IfErr, refl, sym, ap, arith, inl, inr}
+use Rattle.std.proofs.Common.{◌≡◌, ◌≢◌, ◌∙◌, ℕ, ◌<◌, List, length, Some, Result, Ok, Err, IfErr, refl, sym, ap, arith, inl, inr}
 use Rattle.std.specs.Prelude.{slice_get}
 use Rattle.std.proofs.lemmas.Option.{slice_get_within}
 use Rattle.sfi_image.specs.Spelling.{Part}
 use Rattle.sfi_image.proofs.Facts.{one_image, never_both}
-use Rattle.sfi_c.specs.declared.lookup.Lookup.{Lookup}
-use Rattle.sfi_c.specs.declared.lookup.Lookup.TheVariants.{Found, Beyond, NoImage}
+use Rattle.sfi_c.specs.declared.looking.Lookup.{Lookup}
+use Rattle.sfi_c.specs.declared.looking.Lookup.TheVariants.{Found, Beyond, NoImage}
 use Rattle.sfi_c.specs.Parts.{lookup_number, IsSandboxOf, IsBeyond, IsBeyondGates}
-use Rattle.sfi_c.specs.private.Lookups.{HasPart, HasGate, HasFault, IsSaid, said_by}
+use Rattle.sfi_c.specs.private.{HasPart, HasGate, HasFault, IsSaid, said_by}
 
 pub is_found : (l : Lookup) → lookup_number l ≡ 0 → l ≡ Found
 is_found Found e = refl

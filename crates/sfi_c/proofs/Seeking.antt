@@ -14,10 +14,10 @@ use Rattle.sfi_image.specs.Fronts.{head}
 use Rattle.sfi_image.specs.Images.{IsImage}
 use Rattle.sfi_image.specs.Cursor.{HasPassed, IsViewOf, unread}
 use Rattle.sfi_image.proofs.CursorSteps.{passed_bytes}
-use Rattle.sfi_c.specs.declared.lookup.Lookup.{Lookup}
-use Rattle.sfi_c.specs.declared.lookup.Lookup.TheVariants.{Found, Beyond}
+use Rattle.sfi_c.specs.declared.looking.Lookup.{Lookup}
+use Rattle.sfi_c.specs.declared.looking.Lookup.TheVariants.{Found, Beyond}
 use Rattle.sfi_c.specs.Parts.{IsSandboxOf, IsBeyond, sandbox_offset}
-use Rattle.sfi_c.specs.private.Lookups.{HasPart, HasFault, IsSaid, said_by}
+use Rattle.sfi_c.specs.private.{HasPart, HasFault, IsSaid, said_by}
 use Rattle.sfi_c.proofs.Lookups.{part_said}
 use Rattle.sfi_c.proofs.Places.{length-head}
 

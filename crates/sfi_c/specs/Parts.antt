@@ -6,8 +6,8 @@ use Rattle.sfi_policy.specs.declared.format.Format.TheVariants.{Sfi1, Sfi2, Sfiw
 use Rattle.sfi_image.specs.declared.part.Gate.{Gate}
 use Rattle.sfi_image.specs.Spelling.{Part, part, magic_bytes, number_bytes, fields_bytes, gate_bytes}
 use Rattle.sfi_image.specs.Images.{IsImage}
-use Rattle.sfi_c.specs.declared.lookup.Lookup.{Lookup}
-use Rattle.sfi_c.specs.declared.lookup.Lookup.TheVariants.{Found, Beyond, NoImage}
+use Rattle.sfi_c.specs.declared.looking.Lookup.{Lookup}
+use Rattle.sfi_c.specs.declared.looking.Lookup.TheVariants.{Found, Beyond, NoImage}
 use Rattle.sfi_c.specs.declared.part.SfiGate.{SfiGate}
 use Rattle.sfi_c.specs.declared.part.SfiPart.{SfiPart}
 use Rattle.sfi_c.specs.Arrays.{with_front}

@@ -10,9 +10,16 @@ use Rattle.sfi_check.specs.Verdict.{HasFindings, bundle_count}
 use Rattle.sfi_safety.specs.Clean.{IsAccepted}
 use Rattle.sfi_c.specs.declared.finding.SfiFinding.{SfiFinding}
 use Rattle.sfi_c.specs.declared.verdict.SfiVerdict.{SfiVerdict}
-use Rattle.sfi_c.specs.declared.status.Status.TheVariants.{Accepted, Refused, NoImage}
+use Rattle.sfi_c.specs.declared.verdict.Status.TheVariants.{Accepted, Refused, NoImage}
 use Rattle.sfi_c.specs.Arrays.{with_front}
-use Rattle.sfi_c.specs.Statuses.{number_of}
+use Rattle.sfi_c.specs.declared.verdict.Status.{Status}
+
+-- ---- the numbers of the statuses
+
+abbrev pub number_of : Status → ℕ
+number_of Accepted = 0
+number_of Refused = 1
+number_of NoImage = 2
 
 -- ---- findings
 

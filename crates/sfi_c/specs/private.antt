@@ -1,4 +1,83 @@
 -- Words that private contracts and proofs alone cite: no public statement rests on them.
-pub mod Lookups
-pub mod Reads
-pub mod Rooms
+use Rattle.std.specs.Prelude.{◌≡◌, ◌↔◌, ℕ, ◌<◌, List, length, Result, Ok, Err, [], ◌++◌, min}
+use Rattle.sfi_image.specs.declared.fault.LayoutFault.{LayoutFault}
+use Rattle.sfi_image.specs.Spelling.{Part}
+use Rattle.sfi_image.specs.Faults.{IsFault}
+use Rattle.sfi_c.specs.declared.looking.Lookup.{Lookup}
+use Rattle.sfi_c.specs.declared.looking.Lookup.TheVariants.{Found, Beyond, NoImage}
+use Rattle.sfi_c.specs.Parts.{IsSandboxOf}
+use Rattle.sfi_check.specs.declared.stream_answer.StreamAnswer.{StreamAnswer}
+use Rattle.sfi_check.specs.declared.stream_answer.StreamAnswer.TheVariants.{Accepted, Layout, Findings, ReadFault}
+use Rattle.sfi_c.specs.declared.verdict.SfiVerdict.{SfiVerdict}
+use Rattle.sfi_c.specs.Verdicts.{no_finding, acceptance, refusal, no_image, with_findings}
+use Rattle.std.proofs.Common.{sym, subst, append_assoc}
+use Rattle.std.proofs.lemmas.List.{append-nil}
+use Rattle.sfi_rules.specs.declared.finding.Finding.{Finding}
+use Rattle.sfi_c.specs.declared.finding.SfiFinding.{SfiFinding}
+
+-- ---- what a look-up says, and of which bytes
+
+-- the bytes are an image with a sandbox of that number
+abbrev pub HasPart : List ℕ → ℕ → Type 0
+HasPart bytes number = (p : Part) × IsSandboxOf bytes number p
+
+-- and with a gate of that index there
+abbrev pub HasGate : List ℕ → ℕ → ℕ → Type 0
+HasGate bytes number index = (p : Part) × IsSandboxOf bytes number p × (index < length p.gates)
+
+-- they are no image
+abbrev pub HasFault : List ℕ → Type 0
+HasFault bytes = (k : LayoutFault) × IsFault bytes k
+
+-- what is asked for is there, is beyond what there is, or the bytes are no image: each is said
+-- exactly where it is so
+pub record IsSaid (there further fault : Type 0) (said : Lookup) : Type 0 where
+  pub found : (said ≡ Found) ↔ there
+  pub beyond : (said ≡ Beyond) ↔ further
+  pub layout : (said ≡ NoImage) ↔ fault
+
+-- what is said where this was sought
+abbrev pub said_by : {X : Type 0} → Result X Lookup → Lookup
+said_by (Ok x) = Found
+said_by (Err l) = l
+
+-- ---- what the numbers mean
+
+-- the verdict by an answer; no read fails
+abbrev pub verdict_of : StreamAnswer → SfiVerdict
+verdict_of (Accepted sandboxes bundles) = acceptance sandboxes bundles
+verdict_of (Layout number) = no_image number
+verdict_of (Findings count first) = refusal count first
+verdict_of ReadFault = record {
+  status = 3;
+  layout_fault = 0;
+  sandboxes = 0;
+  bundles = 0;
+  findings = 0;
+  first = no_finding;
+}
+
+-- ---- arrays
+
+-- of what the array was at first: it has these findings, and so many elements are written
+pub record Has (first : List SfiFinding) (found : List Finding) (array : List SfiFinding)
+    (written : ℕ) : Type 0 where
+  pub array_is : array ≡ with_findings found first
+  pub written_is : written ≡ min (length found) (length first)
+
+-- whatever it had, it then has the new findings after them
+abbrev pub Takes : List SfiFinding → ℕ → List Finding → List SfiFinding → ℕ → Type 0
+Takes array written found after written_after =
+    (first : List SfiFinding) (before : List Finding) → Has first before array written
+    → Has first (before ++ found) after written_after
+
+pub takes_none : (array : List SfiFinding) (n : ℕ) → Takes array n [] array n
+takes_none array n = λ first before has.
+    subst (λ (l : List Finding). Has first l array n) (sym (append-nil before)) has
+
+pub takes_more : (array : List SfiFinding) (n : ℕ) (xs : List Finding) (then : List SfiFinding)
+    (m : ℕ) (ys : List Finding) (after : List SfiFinding) (k : ℕ) → Takes array n xs then m
+    → Takes then m ys after k → Takes array n (xs ++ ys) after k
+takes_more array n xs then m ys after k one two = λ first before has.
+    subst (λ (l : List Finding). Has first l after k) (append_assoc before xs ys)
+    (two first (before ++ xs) (one first before has))

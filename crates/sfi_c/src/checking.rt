@@ -6,14 +6,11 @@ ghost use Rattle.sfi_image.specs.Faults.{IsFault, number_of as fault_number};
 ghost use Rattle.sfi_rules.specs.declared.finding.Finding.{Finding};
 ghost use Rattle.sfi_check.specs.Verdict.{HasFindings, bundle_count};
 ghost use Rattle.sfi_safety.specs.Clean.{IsAccepted};
-ghost use Rattle.sfi_c.specs.private.Reads.{verdict_of};
-ghost use Rattle.sfi_c.specs.Statuses.{number_of};
-ghost use Rattle.sfi_c.specs.Verdicts.{with_findings, acceptance, refusal, no_image, IsAcceptance, IsRefusal, IsLayoutFault};
+ghost use Rattle.sfi_c.specs.private.{verdict_of};
+ghost use Rattle.sfi_c.specs.Verdicts.{number_of, with_findings, acceptance, refusal, no_image, IsAcceptance, IsRefusal, IsLayoutFault};
 
-use crate::array::Array;
-use crate::finding::{SfiFinding, write_findings};
-use crate::status::Status;
-use crate::verdict::{SfiVerdict, acceptance, no_image, refusal};
+use crate::finding::{Array, SfiFinding, write_findings};
+use crate::verdict::{SfiVerdict, Status, acceptance, no_image, refusal};
 use sfi_check::{StreamAnswer, check_into};
 
 /// The verdict by that answer.

@@ -6,14 +6,12 @@ ghost use Rattle.sfi_image.specs.Faults.{IsFault, number_of as fault_number};
 ghost use Rattle.sfi_rules.specs.declared.finding.Finding.{Finding};
 ghost use Rattle.sfi_check.specs.Verdict.{HasFindings, bundle_count};
 ghost use Rattle.sfi_safety.specs.Clean.{IsAccepted};
-ghost use Rattle.sfi_c.specs.Statuses.{number_of};
+ghost use Rattle.sfi_c.specs.Verdicts.{number_of, acceptance, refusal, no_image, IsAcceptance, IsRefusal, IsLayoutFault};
 ghost use Rattle.sfi_c.specs.Streams.{IsStreamOf};
-ghost use Rattle.sfi_c.specs.Verdicts.{acceptance, refusal, no_image, IsAcceptance, IsRefusal, IsLayoutFault};
 
 use crate::checking::verdict_of;
-use crate::status::Status;
 use crate::stream::{SfiStream, feed_of, kept};
-use crate::verdict::SfiVerdict;
+use crate::verdict::{SfiVerdict, Status};
 use sfi_check::Feed;
 
 /// Begins an image: no byte of it was fed. What the stream held before doesn't matter.

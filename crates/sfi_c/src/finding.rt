@@ -1,7 +1,8 @@
-//! Findings as C sees them.
+//! Findings as C sees them, and an array as a sink of findings.
 ghost use Rattle.std.specs.Prelude.{◌≡◌};
 ghost use Rattle.sfi_c.specs.Verdicts.{finding_for_c, no_finding, with_findings};
 
+use sfi_check::FindingSink;
 use sfi_scan::{BundleFindings, Finding};
 
 /// A rule that is broken, and where: `struct sfi_finding`.
@@ -49,4 +50,37 @@ pub(crate) fn write_findings(found: &BundleFindings, array: &mut [SfiFinding])
         };
         array[i] = finding_for_c(finding);
     }
+}
+
+/// An array, of which so many elements are written.
+#[derive(Drop)]
+pub(crate) struct Array<'a> {
+    pub(crate) elements: &'a mut [SfiFinding],
+    pub(crate) written: usize,
+}
+
+impl<'a> FindingSink for Array<'a> {
+    ghost use Rattle.std.specs.Prelude.{◌≡◌};
+    ghost use Rattle.std.proofs.Common.{refl, ◌∙◌};
+    ghost use Rattle.sfi_c.specs.private.{Takes, takes_none, takes_more};
+
+    // The array stays the same one.
+    ghost takes = { λ s found t. (t.elements.ghost_name ≡ s.elements.ghost_name)
+        × Takes s.elements.now s.written found t.elements.now t.written };
+
+    fn put(&mut self, found: &BundleFindings) {
+        let from = self.written.min(self.elements.len());
+        let room = &mut self.elements[from..];
+        let count = found.count().min(room.len());
+        write_findings(found, room);
+        self.written = from + count;
+    }
+
+    ghost none = { λ s. (refl, takes_none s.elements.now s.written) };
+
+    ghost more = { λ s t u xs ys one two. (
+      two.0 ∙ one.0,
+      takes_more s.elements.now
+          s.written xs t.elements.now t.written ys u.elements.now u.written one.1 two.1,
+    ) };
 }

@@ -5,24 +5,19 @@
 //! contracts hold for a caller that passes what the header asks for: nothing checks it.
 #![tactic(auto)]
 
-mod array;
 mod checking;
 mod feeding;
 mod finding;
 mod looking;
-mod lookup;
 mod part;
 mod stage;
-mod status;
 mod stream;
 mod verdict;
 
 pub use checking::{sfi_c_check, sfi_c_findings};
 pub use feeding::{sfi_c_begin, sfi_c_end, sfi_c_feed};
 pub use finding::SfiFinding;
-pub use looking::{sfi_c_gate, sfi_c_gates, sfi_c_part};
-pub use lookup::Lookup;
+pub use looking::{Lookup, sfi_c_gate, sfi_c_gates, sfi_c_part};
 pub use part::{SfiGate, SfiPart};
-pub use status::Status;
 pub use stream::SfiStream;
-pub use verdict::SfiVerdict;
+pub use verdict::{SfiVerdict, Status};

@@ -1,15 +1,59 @@
 //! The calls by which C reads what is in an image.
 ghost use Rattle.std.specs.Prelude.{◌≡◌, ◌≢◌, ◌+◌, ◌<◌, ◌≤◌, length, slice_get, Some, IfOk, IfErr};
+ghost use Rattle.sfi_c.specs.declared.looking.Lookup.TheVariants.{NoImage};
+ghost use Rattle.sfi_c.specs.private.{said_by, HasPart, HasGate, HasFault, IsSaid};
 ghost use Rattle.sfi_image.specs.declared.fault.LayoutFault.{LayoutFault};
 ghost use Rattle.sfi_image.specs.Spelling.{Part, part};
 ghost use Rattle.sfi_image.specs.Cursor.{IsViewOf};
 ghost use Rattle.sfi_image.specs.Faults.{IsFault};
 ghost use Rattle.sfi_c.specs.Parts.{lookup_number, sandbox_offset, IsSandboxOf, IsPartOf, IsBeyond, IsGateOf, IsBeyondGates, AreGatesOf};
-ghost use Rattle.sfi_c.specs.private.Lookups.{HasPart, HasGate, HasFault, IsSaid, said_by};
 
-use crate::lookup::{Lookup, said_by};
 use crate::part::{SfiGate, SfiPart, gate_told, part_told, write_gates};
-use sfi_image::{Gate, ImageCursor, PartView};
+use sfi_image::{Gate, ImageCursor, LayoutFault, PartView};
+
+/// What is said of a sandbox or a gate that was asked for.
+#[derive(Clone, Copy, PartialEq, Eq, Debug)]
+pub enum Lookup {
+    /// The image has it.
+    Found,
+    /// The image has fewer.
+    Beyond,
+    /// The bytes are no image.
+    NoImage,
+}
+
+impl Lookup {
+    ghost use Rattle.sfi_c.specs.Parts.{lookup_number};
+
+    /// The number by which C knows it, 0 to 2.
+    pub fn number(self) -> u32
+        ensures { result ≡ lookup_number self }
+    {
+        match self {
+            Lookup::Found => 0,
+            Lookup::Beyond => 1,
+            Lookup::NoImage => 2,
+        }
+    }
+}
+
+impl From<LayoutFault> for Lookup {
+    ghost from_gives = { λ _ l. l ≡ NoImage };
+
+    fn from(_fault: LayoutFault) -> Lookup {
+        Lookup::NoImage
+    }
+}
+
+/// What is said: that it was found, or why not.
+pub(crate) fn said_by<T>(sought: &Result<T, Lookup>) -> Lookup
+    ensures { result ≡ said_by sought.now }
+{
+    match sought {
+        Ok(_) => Lookup::Found,
+        Err(lookup) => *lookup,
+    }
+}
 
 /// The sandbox of that number, and where it ends, counted from the image's first byte.
 fn look_up<'a>(image: &'a [u8], number: u32) -> Result<(PartView<'a>, usize), Lookup>

@@ -3,8 +3,33 @@ ghost use Rattle.std.specs.Prelude.{◌≡◌};
 ghost use Rattle.sfi_c.specs.Verdicts.{acceptance, refusal, no_image};
 
 use crate::finding::{SfiFinding, finding_for_c, no_finding};
-use crate::status::Status;
 use sfi_rules::Finding;
+
+/// What a verdict says of the bytes.
+#[derive(Clone, Copy, PartialEq, Eq, Debug)]
+pub enum Status {
+    /// They are an image in which no rule is broken.
+    Accepted,
+    /// They are an image in which rules are broken.
+    Refused,
+    /// They are no image.
+    NoImage,
+}
+
+impl Status {
+    ghost use Rattle.sfi_c.specs.Verdicts.{number_of};
+
+    /// The number by which C knows it, 0 to 2.
+    pub fn number(self) -> u32
+        ensures { result ≡ number_of self }
+    {
+        match self {
+            Status::Accepted => 0,
+            Status::Refused => 1,
+            Status::NoImage => 2,
+        }
+    }
+}
 
 /// The verdict on an image: `struct sfi_verdict`. What its status doesn't speak of is 0.
 #[repr(C)]

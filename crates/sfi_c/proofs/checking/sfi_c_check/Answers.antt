@@ -1,5 +1,5 @@
 use Rattle.std.proofs.Common.{◌∙◌, ap, ◌∷◌, refl}
-use Rattle.sfi_c.specs.private.Reads.{verdict_of}
+use Rattle.sfi_c.specs.private.{verdict_of}
 use Rattle.sfi_c.proofs.Answering as by
 use Rattle.sfi_c.proofs.checking.sfi_c_check.Goals as goal
 

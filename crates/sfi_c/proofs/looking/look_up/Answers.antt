@@ -1,5 +1,5 @@
 use Rattle.std.proofs.lemmas.Result.{err_from_is_err_and}
-use Rattle.sfi_c.specs.declared.lookup.Lookup.TheVariants.{NoImage}
+use Rattle.sfi_c.specs.declared.looking.Lookup.TheVariants.{NoImage}
 use Rattle.sfi_c.proofs.Lookups.{part_said}
 use Rattle.sfi_c.proofs.Seeking.{begun, found_here, not_here, sought_said, sought_found, sought_missing}
 use Rattle.sfi_c.proofs.looking.look_up.Goals as goal

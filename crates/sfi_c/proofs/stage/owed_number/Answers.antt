@@ -1,6 +1,10 @@
-use Rattle.std.proofs.Common.{sym, ◌∙◌, arith}
-use Rattle.sfi_c.proofs.Owing.{owed_back}
+use Rattle.std.proofs.Common.{◌≡◌, ◌∙◌, ℕ, ◌+◌, ◌*◌, ◌/◌, ◌%◌, ◌<◌, sym, ap₂, arith}
+use Rattle.sfi_c.specs.Streams.{owed_by, owed_of}
 use Rattle.sfi_c.proofs.stage.owed_number.Goals as goal
+
+-- what is owed, back from its number
+owed_back : (kind register : ℕ) → kind < 8 → register < 256 → owed_of (8 * register + kind) ≡ owed_by kind register
+owed_back kind register low small = ap₂ owed_by (let e : (8 * register + kind) % 8 ≡ kind = omega arith in e) (let e : (8 * register + kind) / 8 % 256 ≡ register = omega arith in e)
 
 pub returns-in-Mask : goal.returns-in-Mask
 returns-in-Mask c = owed_back 2 c.in-Mask.register (omega arith) (omega arith) ∙ sym c.in-Mask.is

@@ -5,7 +5,7 @@ use Rattle.std.proofs.lemmas.List.{append-nil, length-drop, take_all}
 use Rattle.sfi_c.specs.declared.finding.SfiFinding.{SfiFinding}
 use Rattle.sfi_c.specs.Verdicts.{with_findings}
 use Rattle.sfi_c.proofs.Filling.{filled}
-use Rattle.sfi_c.proofs.array.ArrayFindingSink.put.Goals as goal
+use Rattle.sfi_c.proofs.finding.ArrayFindingSink.put.Goals as goal
 
 pub returns : goal.returns
 returns c = (
