@@ -1,6 +1,6 @@
 //! From a text to an image.
 //!
-//! [`build`] reads a text, places its instructions in bundles and links them; [`build_at`] does the
+//! [`build`] reads a text, places its instructions in bundles or in words and links them; [`build_at`] does the
 //! same at places that the caller gives. [`names_at`] answers the addresses of the text's gates and
 //! labels in that image.
 #![tactic(auto)]

@@ -12,7 +12,7 @@ use Rattle.sfi_link.specs.declared.bases.Bases.{Bases}
 
 -- ---- where a sandbox lies
 
--- each gate's stub is one bundle
+-- each gate's stub has 16 bytes, as a bundle has
 abbrev pub stub_size : ℕ
 stub_size = bundle_size
 

@@ -59,7 +59,8 @@ pub record RunsAs (given : List Place) (number : ℕ) (f : Format) (items : List
   pub stands : (s : State) → Holds s.memory q.code_base (length q.code) q.code
       → s.hart.pc ≡ place_after q placed.before placed.nops → SlotsStand instr s placed.expanded
 
--- The same where code is in words: its slots stand after those of the items before it.
+-- The same where code is in words: the item's slots, as laid, stand directly after those of the items
+-- before it.
 pub record WordRunsAs (given : List Place) (number : ℕ) (items : List Item) (p : Placement)
     (q : Part) (k : ℕ) (x : Item) : Type 0 where
   pub placed : words.StandsTransparent items p k x
@@ -71,13 +72,13 @@ pub record WordRunsAs (given : List Place) (number : ℕ) (items : List Item) (p
   pub stands : (s : State) → Holds s.memory q.code_base (length q.code) q.code
       → s.hart.pc ≡ place_after q placed.before 0 → SlotsStand instr s placed.own
 
--- the same, as the format asks
+-- item k runs as its format has it: `RunsAs` or `WordRunsAs`
 abbrev pub RunsAsIn : List Place → ℕ → Format → List Item → Placement → Part → ℕ → Item → Type 0
 RunsAsIn given number f items p q k x = MatchBool (has_words f)
     (WordRunsAs given number items p q k x)
     (RunsAs given number f items p q k x)
 
--- each item of a source's sandbox is, in what is linked of it
+-- each item of a source's sandbox runs so in what is linked of it
 abbrev pub LinkedRunsAs : Type 0
 LinkedRunsAs =
     (given : List Place) (number : ℕ) (s : Sandbox) (p : Placement) (q : Part) (k : ℕ) (x : Item)

@@ -29,7 +29,7 @@ pub(crate) fn bases_of(given: &[Place], number: u32, part: &PlacedPart) -> Bases
     let place = place_of(given, number);
     Bases {
         code: place.code_base,
-        // Each gate's stub is one bundle.
+        // Each gate's stub has 16 bytes, as a bundle has.
         start: place.code_base + BUNDLE_SIZE * part.gates().len() as u32,
         data: place.data_base,
     }

@@ -26,7 +26,8 @@ use std::alloc::{AllocError, Global};
 
 const C_EBREAK: [u8; 2] = [0x02, 0x90];
 
-// How many bytes the slots of bundles take. Each bundle but the last is full.
+// How many bytes the slots of bundles take, no more than any format's code may have. Each bundle but the
+// last is full.
 fn size_of_bundles(bundles: &[Bundle]) -> usize
     requires full { AreBundles bundles.now }
     requires fits { size_of (slots_of bundles.now) ≤ code_most Sfi2 }

@@ -1,16 +1,16 @@
-//! A gate's bundle, which each format has its own of.
+//! A gate's stub: 16 bytes, those of code in bundles or those of code in words.
 ghost use Rattle.std.specs.Prelude.{◌≡◌};
 ghost use Rattle.sfi_link.specs.Stubs.{stub_of};
 
 use sfi_pairs::STUB;
 use sfi_policy::{BUNDLE_BYTES, Format};
 
-/// That of code in words: `ecall`, `and x30, x1, x25`, `or x30, x30, x24`, `jalr x0, 0(x30)`.
+/// A gate's stub in code in words: `ecall`, `and x30, x1, x25`, `or x30, x30, x24`, `jalr x0, 0(x30)`.
 const WORD_STUB: [u8; BUNDLE_BYTES] = [
     0x73, 0x00, 0x00, 0x00, 0x33, 0xff, 0x90, 0x01, 0x33, 0x6f, 0x8f, 0x01, 0x67, 0x00, 0x0f, 0x00,
 ];
 
-/// The bytes of a gate's bundle in the format.
+/// The bytes of a gate's stub in the format.
 pub(crate) fn stub_of(format: Format) -> &'static [u8; BUNDLE_BYTES]
     ensures { result.now ≡ stub_of format }
 {
