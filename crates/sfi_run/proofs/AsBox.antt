@@ -1,8 +1,7 @@
 -- A held world owns what a box of it owns.
+use Rattle.sfi_run.proofs.Prelude.{[], plain, Bx}
 use mir.Syntax.{impl, tnil, dnil}
-use mathlib.Core.List.{[]}
-use denote.Signature.{Slot, plain}
-use Rattle.std.proofs.BoxSteps.Form.{Bx}
+use denote.Signature.{Slot}
 use Rattle.std.specs.contracts.alloc.Global as Heap
 use Rattle.std.specs.contracts.impls.GlobalAllocator.TheImpl.{ghosts, dict}
 use Rattle.std.proofs.alloc.Global.TheLaws as heap

@@ -1,2 +1,2 @@
+pub mod Prelude
 pub mod AsBox
-pub mod Flagged

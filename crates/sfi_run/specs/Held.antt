@@ -1,5 +1,5 @@
--- What a held world owns.
-use Rattle.std.specs.Prelude.{Option, Some, None}
+-- What a held world owns, and whether there is one, as a number.
+use Rattle.std.specs.Prelude.{Option, Some, None, ℕ}
 use base.Fml.{Fml, ftrue}
 use base.Stored.{Coded}
 use denote.RattleType.{RattleType}
@@ -24,3 +24,7 @@ held_owns alloc p (Some w) = box_owns (ghosts.dealloc_token alloc) world_row p w
 
 abbrev pub held_coded : Coded (Option Sandboxes)
 held_coded = coded_option world_row.coded
+
+abbrev pub flag_of : {A : Type 0} → Option A → ℕ
+flag_of None = 0
+flag_of (Some x) = 1

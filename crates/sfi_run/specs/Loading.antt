@@ -8,8 +8,8 @@ use Rattle.sfi_rules.specs.declared.finding.Finding.{Finding}
 use Rattle.sfi_check.specs.Verdict.{HasFindings}
 use Rattle.sfi_host.specs.Loading.{first_seat, with_parts}
 use Rattle.sfi_host.specs.Worlds.{Sandboxes}
-use Rattle.sfi_run.specs.declared.loading.LoadFault.{LoadFault}
-use Rattle.sfi_run.specs.declared.loading.LoadFault.TheVariants.{Refused, NoImage, Memory}
+use Rattle.sfi_run.specs.declared.worlds.LoadFault.{LoadFault}
+use Rattle.sfi_run.specs.declared.worlds.LoadFault.TheVariants.{Refused, NoImage, Memory}
 
 -- the world of an image, before any turn
 abbrev pub first_world : List Part → Sandboxes

@@ -7,12 +7,10 @@ ghost use Rattle.sfi_host.specs.Entering.{MayEnterAt};
 ghost use Rattle.sfi_host.specs.Reading.{hart_at, data_region_at};
 ghost use Rattle.sfi_host.specs.Worlds.{Sandboxes, slots_of, steps_at, IsSafeWorld};
 ghost use Rattle.sfi_run.specs.Changes.{HasWritten, HasEntered};
-ghost use Rattle.sfi_run.specs.Regions.{span_told};
-ghost use Rattle.sfi_run.specs.Registers.{AreRegistersOf};
+ghost use Rattle.sfi_run.specs.Told.{span_told, AreRegistersOf};
 
 use crate::holding::SfiRunWorld;
-use crate::region::SfiRunRegion;
-use crate::registers::SfiRunRegisters;
+use crate::told::{SfiRunRegion, SfiRunRegisters};
 use rv_mem::Pages;
 use sfi_host::World;
 use std::alloc::Global;

@@ -2,7 +2,7 @@
 ghost use Rattle.std.specs.Prelude.{◌≡◌, Option, None, Some};
 ghost use Rattle.std.specs.Option.{option_map};
 ghost use Rattle.sfi_host.specs.Worlds.{Sandboxes};
-ghost use Rattle.sfi_run.specs.Flags.{flag_of};
+ghost use Rattle.sfi_run.specs.Held.{flag_of};
 
 use crate::held::Held;
 use rv_mem::Pages;

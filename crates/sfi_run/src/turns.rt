@@ -4,10 +4,10 @@ ghost use Rattle.std.specs.Bool.{OnTrue, OnFalse};
 ghost use Rattle.sfi_host.specs.Waiting.{IsAtCall};
 ghost use Rattle.sfi_host.specs.Worlds.{Sandboxes, slots_of};
 ghost use Rattle.sfi_run.specs.Changes.{HasRunToCall, HasReplied};
-ghost use Rattle.sfi_run.specs.Events.{none_event, IsEventOf};
+ghost use Rattle.sfi_run.specs.Told.{none_event, IsEventOf};
 
-use crate::event::SfiRunEvent;
 use crate::holding::SfiRunWorld;
+use crate::told::SfiRunEvent;
 use rv_mem::Pages;
 use sfi_host::{Later, Turn, World};
 use std::alloc::Global;

@@ -1,7 +1,6 @@
-use Rattle.std.proofs.Common.{◌≡◌, ◌↔◌, IsTrue, Some, ap, ◌∙◌, subst}
-use Rattle.std.proofs.lemmas.Option.{same_Some}
+use Rattle.sfi_run.proofs.Prelude.{◌≡◌, ◌↔◌, IsTrue, Some, ap, ◌∙◌, same_Some, Sandboxes, slots_of}
+use Rattle.std.proofs.Common.{subst}
 use Rattle.sfi_host.specs.Waiting.{IsAtCall}
-use Rattle.sfi_host.specs.Worlds.{Sandboxes, slots_of}
 use Rattle.sfi_run.proofs.turns.sfi_run_reply.Goals as goal
 
 pub returns-clause-may : goal.returns-clause-may

@@ -1,6 +1,7 @@
-use Rattle.std.proofs.Common.{◌≡◌, inl, inr, ⊎_elim, ap, ◌∙◌}
+use Rattle.sfi_run.proofs.Prelude.{◌≡◌, ap, ◌∙◌}
+use Rattle.std.proofs.Common.{inl, inr, ⊎_elim}
 use Rattle.sfi_run.specs.Loading.{fault_number}
-use Rattle.sfi_run.specs.declared.loading.LoadFault.TheVariants.{Refused, NoImage, Memory}
+use Rattle.sfi_run.specs.declared.worlds.LoadFault.TheVariants.{Refused, NoImage, Memory}
 use Rattle.sfi_run.proofs.worlds.sfi_run_load.Goals as goal
 
 pub returns-in-Ok-clause-only_refused : goal.returns-in-Ok-clause-only_refused

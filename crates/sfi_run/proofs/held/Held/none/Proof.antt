@@ -1,38 +1,20 @@
 -- `none` makes a struct that owns nothing beside its fields.
-use mathlib.Core.Path.{refl, sym, subst}
-use mathlib.Core.List.{List, [], ◌∷◌, ◌++◌}
-use seplogic.Ra.Ura.{Ura}
-use mir.Val.{Val, vstruct, vcons, vnil, has_ty}
-use base.Logic.{SProp, ent, emp, id⊢}
-use base.Fml.{ftrue, fsep}
-use prog.Memory.{Memory}
-use prog.Routine.{Routine}
-use prog.Wp.{WpFn, Tables}
-use types.Logic.{Logic}
-use contract.Monad.{Fun}
-use contract.Running.{tables, tables_of}
-use sound.WpLaws.{WpFn-mono}
-use types.Kit.{Item, ‵, raw, ◌⊛◌, ◌$◌, ◌∵◌, !, qed, by, move, drop, use1, join, split, fsplit, fjoin, feq_i, fpack, suffices, done}
-use types.Part.{agg}
-use types.Run.{lit, no_more, and_then, returns, enter}
-use types.ByLocal.{alloc_all, pass_all, free_all, look_at, get, sets}
-use denote.Exit.{yes}
+use Rattle.sfi_run.proofs.Prelude.{refl, sym, subst, List, [], ◌∷◌, ◌++◌, Ura, Val, SProp, ent, id⊢, ftrue, fsep, Memory, Routine, WpFn, Tables, Logic, Fun, tables, tables_of, WpFn-mono, Item, ‵, raw, ◌⊛◌, ◌$◌, ◌∵◌, !, qed, by, move, drop, use1, join, split, fsplit, fjoin, suffices, done, agg, no_more, and_then, returns, enter, alloc_all, pass_all, free_all, look_at, get, sets, yes, type_at, plain, nothing, triple_of, entered, says, Stays, stay_dropped, walk_of, ends_at, Goes-dropped, walk_Meets, P}
+use mir.Val.{vstruct, vcons, vnil, has_ty}
+use base.Logic.{emp}
+use types.Kit.{feq_i, fpack}
+use types.Run.{lit}
 use denote.Param.{layout}
 use denote.RattleType.{Valss}
 use denote.RawPtr.{RawPtr, null_ptr, ptr_val}
 use denote.Struct.Owning.{shape}
 use denote.Struct.Struct.{within}
-use denote.Signature.{type_at, plain}
-use denote.Steps.{nothing}
-use denote.Triple.Spec.{triple_of}
-use denote.Triple.Table.{entered}
-use denote.Triple.Walked.{says, Stays, stay_dropped, walk_of, ends_at, Goes-dropped, walk_Meets}
 use Rattle.std.proofs.Common.{None, lit<}
 use Rattle.std.proofs.ResultValues.{and_tt}
 use Rattle.std.proofs.cell.Inside.{Good}
 use Rattle.std.specs.contracts.alloc.Global as Heap
 use Rattle.std.proofs.alloc.Calls.{handle_tells}
-use Rattle.std.proofs.BoxSteps.Form.{P, owning}
+use Rattle.std.proofs.BoxSteps.Form.{owning}
 use Rattle.sfi_run.proofs.AsBox.{E}
 use Rattle.sfi_run.specs.contracts.held.Held.none as F
 use Rattle.sfi_run.specs.contracts.held.Held.none.Key.{name as #self}

@@ -1,40 +1,26 @@
 -- `into_box` hands what the parts own to `from_raw`.
-use mathlib.Core.Path.{◌≡◌, refl, sym, subst, ap}
-use mathlib.Core.List.{List, [], ◌∷◌, ◌++◌}
+use Rattle.sfi_run.proofs.Prelude.{refl, sym, subst, List, [], ◌∷◌, ◌++◌, Ura, Val, SProp, ent, id⊢, ftrue, fsep, Memory, Routine, WpFn, Tables, Logic, Fun, fact, tables, tables_of, WpFn-mono, Item, ‵, raw, ◌⊛◌, ◌$◌, ◌∵◌, !, qed, by, move, drop, use1, join, split, rewrite, fsplit, fjoin, suffices, done, whole, sub, stop, fld, no_more, and_then, of_opd, returns, enter, alloc_all, pass_all, free_all, look_at, get, get_in, sets, plain, heard, nothing, triple_of, entered, says, Stays, stay_dropped, walk_of, ends_at, walk_Meets, Bx, D, P, B, word, box_typed, box_out, box_in}
+use mathlib.Core.Path.{◌≡◌, ap}
 use lib.Dec.{T}
-use seplogic.Ra.Ura.{Ura}
 use mir.Syntax.{Fn, Body, place, copy, assign, rv_opd, seq, return}
 use mir.MapTy.{inst_fn}
-use mir.Val.{Val, vptr, has_ty, WT}
-use base.Logic.{SProp, ent, id⊢}
-use base.Fml.{ftrue, fsep, flft}
+use mir.Val.{vptr, has_ty, WT}
+use base.Fml.{flft}
 use contract.BorrowLft.{◌⊑◌}
-use prog.Memory.{Memory}
-use prog.Routine.{Routine}
-use prog.Wp.{WpFn, Tables}
-use types.Logic.{Logic}
-use contract.Monad.{Fun, fact}
-use contract.Running.{tables, tables_of}
-use sound.WpLaws.{fm_of, WpFn-mono}
-use types.Kit.{Item, at_ret, ‵, raw, ◌⊛◌, some, later, ◌$◌, ◌∵◌, !, qed, by, move, drop, use1, join, split, split3, pick, rewrite, fsplit, fjoin, feq_i, suffices, await, done}
-use types.Part.{whole, sub}
-use types.Run.{stop, fld, no_more, and_then, of_opd, returns, enter, first, blocks, exec}
-use types.ByLocal.{alloc_all, pass_all, free_all, look_at, get, get_in, sets, lands_last, env}
+use sound.WpLaws.{fm_of}
+use types.Kit.{at_ret, some, later, split3, pick, feq_i, await}
+use types.Run.{first, blocks, exec}
+use types.ByLocal.{lands_last, env}
 use denote.RattleType.{RattleType}
 use denote.Exit.{no}
 use denote.RawPtr.{block_ptr}
-use denote.Signature.{plain}
-use denote.Steps.{heard, nothing, only}
+use denote.Steps.{only}
 use denote.Triple.Call.{calls_at_last}
 use denote.Triple.Clauses.{Ended, Clauses}
-use denote.Triple.Spec.{triple_of}
 use denote.Triple.Statement.{Triple, Contract}
-use denote.Triple.Table.{entered}
-use denote.Triple.Walked.{says, Stays, stay_dropped, walk_of, ends_at, walk_Meets}
 use Rattle.std.proofs.alloc.Calls.{token, Goes-blank}
 use Rattle.std.specs.Box.Ownership.{box_owns}
-use Rattle.std.proofs.BoxSteps.Form.{Bx, D, R, P, B, args, box_ty, word, box_typed}
-use Rattle.std.proofs.BoxSteps.Steps.{box_out, box_in}
+use Rattle.std.proofs.BoxSteps.Form.{R, args, box_ty}
 use Rattle.sfi_run.specs.contracts.parts.Parts as parts
 use Rattle.std.specs.contracts.boxed.Box.from_raw as Fr
 use Rattle.std.proofs.boxed.Box.from_raw.Symbol as raw_sym

@@ -2,7 +2,7 @@ use Rattle.std.proofs.Common.{Err, List, subst}
 use Rattle.sfi_image.specs.Spelling.{Part}
 use Rattle.sfi_check.specs.Verdict.{AnswersLayout, AnswersFindings}
 use Rattle.sfi_check.specs.declared.refusal.Refusal.{Refusal}
-use Rattle.sfi_run.proofs.loading.load.Goals as goal
+use Rattle.sfi_run.proofs.worlds.load.Goals as goal
 
 pub returns-in-Ok-clause-only_refused : goal.returns-in-Ok-clause-only_refused
 returns-in-Ok-clause-only_refused c found has = absurd (c.in-Ok.ensures.only_findings found has)

@@ -1,5 +1,6 @@
-use Rattle.std.proofs.Common.{◌≡◌, length, take}
-use Rattle.sfi_run.proofs.registers.SfiRunRegisters.of.Given as goal
+use Rattle.sfi_run.proofs.Prelude.{◌≡◌}
+use Rattle.std.proofs.Common.{length, take}
+use Rattle.sfi_run.proofs.told.SfiRunRegisters.of.Given as goal
 
 abbrev pub invariant-loop-number : goal.invariant-loop-number
 invariant-loop-number l = record {

@@ -1,4 +1,4 @@
--- What C is told of a sandbox, and what each number means.
+-- What C is told of a sandbox: how it stands, its pc and registers, and where its data lie.
 use Rattle.std.specs.Prelude.{◌≡◌, ℕ, ◌⊎◌, List, Option, Some, None}
 use Rattle.rv_step.specs.declared.outcome.Cause.{Cause}
 use Rattle.rv_step.specs.declared.outcome.Cause.TheVariants.{Fetch, Illegal, Break, Load, Store}
@@ -8,7 +8,11 @@ use Rattle.sfi_host.specs.declared.status.Status.TheVariants.{Ready, Exited, Tra
 use Rattle.sfi_host.specs.Slots.{Slot}
 use Rattle.sfi_host.specs.Waiting.{IsAtCall, Waits}
 use Rattle.sfi_host.specs.Worlds.{status_at}
-use Rattle.sfi_run.specs.declared.event.SfiRunEvent.{SfiRunEvent}
+use Rattle.sfi_run.specs.declared.told.SfiRunEvent.{SfiRunEvent}
+use Rattle.rv_step.specs.State.{Hart}
+use Rattle.sfi_run.specs.declared.told.SfiRunRegisters.{SfiRunRegisters}
+use Rattle.sfi_image.specs.declared.span.Span.{Span}
+use Rattle.sfi_run.specs.declared.told.SfiRunRegion.{SfiRunRegion}
 
 -- ---- a trap's cause, by number
 
@@ -63,3 +67,15 @@ abbrev pub IsEventOf : List Slot → ℕ → SfiRunEvent → Type 0
 IsEventOf slots i e =
     ((r : Request) × Waits slots i r × (e ≡ call_event r))
     ⊎ ((IsAtCall slots i → ⊥) × (e ≡ status_event (status_at slots i)))
+
+-- ---- the pc and the registers
+
+-- pc, and the registers in the order of their numbers
+pub record AreRegistersOf (h : Hart) (told : SfiRunRegisters) : Type 0 where
+  pub pc : told.pc ≡ h.pc
+  pub x : told.x ≡ h.registers
+
+-- ---- where the data lie
+
+abbrev pub span_told : SfiRunRegion → Span
+span_told r = record { base = r.base; size = r.size }

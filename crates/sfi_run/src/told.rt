@@ -1,11 +1,12 @@
-//! What C is told of a sandbox.
+//! What C is told of a sandbox: how it stands, its pc and registers, and where its data lie.
 ghost use Rattle.std.specs.Prelude.{◌≡◌, ◌↔◌, IfSome, IsSome};
 ghost use Rattle.sfi_host.specs.Waiting.{IsAtCall, Waits};
 ghost use Rattle.sfi_host.specs.Worlds.{slots_of};
 
 use rv_mem::Pages;
-use rv_step::Cause;
-use sfi_host::{Request, Status, World};
+use rv_step::{Cause, Cpu};
+use rv_word::Reg;
+use sfi_host::{Region, Request, Status, World};
 
 /// How a sandbox stands: `struct sfi_run_event`. What its kind doesn't speak of is 0.
 #[repr(C)]
@@ -22,7 +23,7 @@ pub struct SfiRunEvent {
 }
 
 impl SfiRunEvent {
-    ghost use Rattle.sfi_run.specs.Events.{cause_number, call_event, status_event, none_event, IsEventOf};
+    ghost use Rattle.sfi_run.specs.Told.{cause_number, call_event, status_event, none_event, IsEventOf};
 
     fn plain(kind: u32, number: u32, a0: u32) -> SfiRunEvent
         ensures { result ≡ record { kind = kind; number = number; a0 = a0; a1 = 0 } }
@@ -87,6 +88,53 @@ impl SfiRunEvent {
         match waiting {
             Some(request) => SfiRunEvent::of_call(request),
             None => SfiRunEvent::of_status(world.status(sandbox)),
+        }
+    }
+}
+
+/// pc, and x0 to x31: `struct sfi_run_registers`.
+#[repr(C)]
+#[derive(Clone, Copy, PartialEq, Eq, Debug)]
+pub struct SfiRunRegisters {
+    pub pc: u32,
+    pub x: [u32; 32],
+}
+
+impl SfiRunRegisters {
+    ghost use Rattle.sfi_run.specs.Told.{AreRegistersOf};
+
+    /// What it holds.
+    pub(crate) fn of(cpu: &Cpu) -> SfiRunRegisters
+        ensures { AreRegistersOf cpu.now result }
+    {
+        let pc = cpu.pc();
+        let mut x = [0; 32];
+        for number in 0..32 {
+            x[number] = cpu.reg(Reg::numbered(number as u8));
+        }
+        SfiRunRegisters { pc, x }
+    }
+}
+
+/// So many addresses from a first one on: `struct sfi_run_region`.
+#[repr(C)]
+#[derive(Clone, Copy, PartialEq, Eq, Debug)]
+pub struct SfiRunRegion {
+    pub base: u32,
+    pub size: u32,
+}
+
+impl SfiRunRegion {
+    ghost use Rattle.sfi_host.specs.Regions.{span_of};
+    ghost use Rattle.sfi_run.specs.Told.{span_told};
+
+    /// The same addresses.
+    pub(crate) fn of(region: Region) -> SfiRunRegion
+        ensures { span_told result ≡ span_of region }
+    {
+        SfiRunRegion {
+            base: region.base,
+            size: region.size,
         }
     }
 }
