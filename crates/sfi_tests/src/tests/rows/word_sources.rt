@@ -123,6 +123,6 @@ source
 | .format words
 | .sandbox 256
 $ sfi map
-= a label among 16-bit forms; | .option rvc; | a: mv a0, a1; | b: mv a1, a2; | mv a2, a3; | c: lw a0, 0(a1); | d:
+= a label among 16-bit forms; | .option rvc; | a: add a0, a0, a1; | b: add a1, a1, a2; | add a2, a2, a3; | c: lw a0, 0(a1); | d:
 > sandbox=0 code a at=01000000; > sandbox=0 code b at=01000004; > sandbox=0 code c at=01000008; > sandbox=0 code d at=01000014
 ";
