@@ -1,5 +1,5 @@
 -- From one word of a block that has to be looked at to the next.
-use Rattle.sfi_scan.proofs.Prelude.{◌≡◌, ◌≢◌, ℕ, zero, suc, ◌+◌, ◌-◌, ◌*◌, ◌/◌, ◌%◌, ◌^◌, ◌<◌, ◌≤◌, true, false, ◌==◌, ◌⊎◌, inl, inr, List, sym, ap, ◌∙◌, subst, arith, w64, pow_pos, trailing_zeros, is_in, BundlePlace, IsWithinBlock}
+use Rattle.sfi_scan.proofs.Prelude.{◌≡◌, ◌≢◌, ℕ, zero, suc, ◌+◌, ◌-◌, ◌*◌, ◌/◌, ◌%◌, ◌^◌, ◌<◌, ◌≤◌, true, false, ◌==◌, ◌⊎◌, inl, inr, List, refl, sym, ap, ◌∙◌, subst, arith, w64, pow_pos, trailing_zeros, is_in, BundlePlace, IsWithinBlock}
 use Rattle.std.proofs.lemmas.Nat.{div_below}
 use Rattle.std.proofs.lemmas.Nat.Bits.{bit_at_above, bit_at-trailing_zeros}
 use Rattle.std.proofs.lemmas.Bool.{cases_lt}
@@ -96,3 +96,9 @@ even_there words n at i even place end (inr one) = elim (cases_lt i 64) [
   | inl less ↦ even i less (one less)
   | inr more ↦ (let all : i ≡ 64 = omega (arith, more, end) in omega (arith, all))
 ]
+
+-- where no word is left, and nothing is owed before the block
+pub all_seen : (b : BundlePlace) (block : List ℕ) (owed : Owed) (words : ℕ) → IsWithinBlock b → ((n : ℕ) → n < 32 → is_in words (2 * n) ≡ false → IsSeen b block words (2 * n)) → words ≡ 0 → owed ≡ Nothing
+    → AreCleanWords b owed block 32 Nothing
+all_seen b block owed words within others none nothing =
+    reached b block owed words within others Nothing 0 0 64 refl (omega arith) (omega arith) refl (λ j from less. ap (λ m. is_in m j) none ∙ in_zero j) (inr (λ less. absurd (omega (arith, less)))) (inr refl) (sym nothing)

@@ -314,6 +314,13 @@ fn after_words(
     Some(left)
 }
 
+#[inline(always)]
+fn is_nothing(owed: Owed) -> bool
+    ensures { OnTrue result (owed ≡ Nothing) }
+{
+    matches!(owed, Owed::Nothing)
+}
+
 /// What is owed after the block, if it is seen to break no rule. None of its bundles is the region's
 /// last, nor a gate's.
 #[inline(always)]
@@ -326,5 +333,12 @@ pub(crate) fn look_at_block(
     requires { IsWithinBlock place.now }
     ensures { IfSome result (AreCleanWords place.now owed block.now 32) }
 {
-    after_words(place, block, unseen(place, block), owed, findings)
+    let words = unseen(place, block);
+    if words == 0 {
+        // Of most blocks nothing is left.
+        if is_nothing(owed) {
+            return Some(Owed::Nothing);
+        }
+    }
+    after_words(place, block, words, owed, findings)
 }
