@@ -1,8 +1,8 @@
 -- Accesses that are free in words, by their base.
 use Rattle.std.proofs.Common.{◌≡◌, ℕ, zero, suc, ◌+◌, ◌*◌, ◌/◌, ◌%◌, ◌<◌, ◌≤◌, Bool, true, false, ◌==◌, ◌&&◌, ◌||◌, min, refl, sym, ap, ◌∙◌, ◌⊎◌, inl, inr, arith, bit_and, bit_or, eqb-true, Some}
-use Rattle.std.specs.Prelude.{max, slice_index}
+use Rattle.std.specs.Prelude.{max, slice_index, if◌then◌else◌}
 use Rattle.std.specs.Int.{bit_at}
-use Rattle.std.proofs.lemmas.Bool.{agree_below, agree_below_at, and_from, eqb-false, ne_eqb}
+use Rattle.std.proofs.lemmas.Bool.{and_parts, agree_below, agree_below_at, and_from, eqb-false, ne_eqb}
 use Rattle.std.proofs.lemmas.Nat.{and_mask}
 use Rattle.std.proofs.lemmas.Nat.Bits.{bit_at-lt, bit_at_and, bit_at_or, bit_at-suc, bit_at-zero, bit_at_lowest}
 use Rattle.rv_word.specs.Accesses.{access}
@@ -11,8 +11,8 @@ use Rattle.rv_word.specs.declared.access.Access.{Access}
 use Rattle.rv_word.specs.declared.instr.Instr.{Instr}
 use Rattle.rv_word.specs.declared.instr.Instr.TheVariants.{Load, Store}
 use Rattle.sfi_masks.specs.Masks.{is_in, may_be_on_in_words, is_free_by, IsFreeWordBy, IsFreeAccessBy}
-use Rattle.sfi_masks.specs.declared.tables.TheConstants.{BASE_LOW, BASE_HIGH}
-use Rattle.sfi_masks.specs.private.Seen.{base_classes}
+use Rattle.sfi_masks.specs.declared.tables.TheConstants.{ON_EVEN, ON_ODD}
+use Rattle.sfi_masks.specs.private.Seen.{free_in_words}
 use Rattle.sfi_masks.proofs.Fields.{accesses}
 
 -- ---- a bit of a number that isn't 0
@@ -81,23 +81,30 @@ split a f k some =
 
 -- ---- the base
 
+free_at : ℕ → ℕ → ℕ
+free_at high n = if bit_and high 128 == 128 then slice_index ON_ODD n else slice_index ON_EVEN n
+
 base_cell : ℕ → ℕ → Bool
-base_cell high n = elim (bit_and (slice_index BASE_LOW (high / 16)) (slice_index BASE_HIGH n) == 0) [ true ↦ true | false ↦ may_be_on_in_words (high / 128 + 2 * n) ]
+base_cell high n = (free_at high n == 63) || ((free_at high n == 255) && may_be_on_in_words (high / 128 + 2 * n))
 
 all_bases : agree_below (λ high. agree_below (λ n. base_cell high n) (λ n. true) 16) (λ high. true) 256 ≡ true
-unfolding base_cell
+unfolding base_cell free_at
 all_bases = refl
 
-told_base : (b c : Bool) → b ≡ false → (elim b [ true ↦ true | false ↦ c ]) ≡ true → c ≡ true
-told_base true c e h = absurd cc
-told_base false c e h = h
+first_or_second : (p q : Bool) → (p || q) ≡ true → (p ≡ true) ⊎ (q ≡ true)
+first_or_second true q h = inl refl
+first_or_second false q h = inr h
 
-pub base_told : (high low2 : ℕ) → high < 256 → (base_classes high low2 == 0) ≡ false → may_be_on_in_words (high / 128 + 2 * (low2 % 16)) ≡ true
-unfolding base_cell
-base_told high low2 h some =
-    let same = and_mask low2 4 in
+-- no access is free, or each that is on the base
+pub base_told : (high low2 : ℕ) → high < 256 → (free_in_words high low2 ≡ 63) ⊎ ((free_in_words high low2 ≡ 255) × (may_be_on_in_words (high / 128 + 2 * (low2 % 16)) ≡ true))
+unfolding free_in_words base_cell free_at
+base_told high low2 h =
+    let same : free_at high (bit_and low2 15) ≡ free_at high (low2 % 16) = ap (free_at high) (and_mask low2 4) in
     let cell = agree_below_at (λ n. base_cell high n) (λ n. true) 16 (low2 % 16) (agree_below_at (λ m. agree_below (λ n. base_cell m n) (λ n. true) 16) (λ m. true) 256 high all_bases h) (omega arith) in
-    told_base _ _ (ap (λ n. bit_and (slice_index BASE_LOW (high / 16)) (slice_index BASE_HIGH n) == 0) (sym same) ∙ some) cell
+    elim (first_or_second (free_at high (low2 % 16) == 63) ((free_at high (low2 % 16) == 255) && may_be_on_in_words (high / 128 + 2 * (low2 % 16))) cell) [
+      | inl few ↦ inl (same ∙ eqb-true _ _ few)
+      | inr all ↦ (let both = and_parts (free_at high (low2 % 16) == 255) (may_be_on_in_words (high / 128 + 2 * (low2 % 16))) all in inr (same ∙ eqb-true _ _ both.0, both.1))
+    ]
 
 -- ---- an access on such a base
 

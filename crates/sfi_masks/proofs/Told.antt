@@ -1,6 +1,6 @@
 -- What the classes tell of the instruction that begins with a halfword.
-use Rattle.std.proofs.Common.{◌≡◌, ℕ, ◌+◌, ◌*◌, ◌/◌, ◌%◌, ◌<◌, Bool, true, false, cond, ◌==◌, List, take, drop, get_or, refl, ap, ◌∙◌, sym, subst, inl, inr, ◌⊎◌, bit_or, arith, Option, Some, None, IfSome}
-use Rattle.std.specs.Prelude.{slice_index, if◌then◌else◌}
+use Rattle.std.proofs.Common.{◌≡◌, ℕ, ◌+◌, ◌*◌, ◌/◌, ◌%◌, ◌<◌, Bool, true, false, cond, ◌==◌, List, take, drop, get_or, ap, ◌∙◌, sym, subst, inl, inr, ◌⊎◌, bit_or, arith, Option, Some, None, IfSome}
+use Rattle.std.specs.Prelude.{slice_index}
 use Rattle.std.proofs.lemmas.Bool.{and_parts}
 use Rattle.std.proofs.lemmas.List.{get_or-take, get_or-drop}
 use Rattle.rv_word.specs.declared.outline.Outline.{Outline}
@@ -13,7 +13,7 @@ use Rattle.rv_comp.specs.Halfwords.{IsHalfwordThat}
 use Rattle.rv_comp.specs.mirror.Outlining.{outlined}
 use Rattle.sfi_masks.specs.Masks.{half_at, word_at, is_free_by, IsFreeHalfBy, IsFreeWordBy, IsFreeAccessBy}
 use Rattle.sfi_masks.specs.declared.tables.TheConstants.{ALONE}
-use Rattle.sfi_masks.specs.private.Seen.{Code, bundles, words, may_of, on_of, base_classes, half_classes, followed, rest, kept_of, classes_with, free_classes, free_in_words, access_classes}
+use Rattle.sfi_masks.specs.private.Seen.{Code, bundles, words, may_of, on_of, half_classes, followed, rest, kept_of, classes_with, free_classes, access_classes}
 use Rattle.sfi_masks.proofs.Fields.{computes, accesses, that_computes, that_accesses}
 use Rattle.sfi_masks.proofs.Cells.{opcode, rd, funct3, is_free_half, is_free_word, begins_free, begins_access, free_begins, access_begins}
 use Rattle.sfi_masks.proofs.Bases.{split, base_told, access_free, access_long}
@@ -104,37 +104,32 @@ free_access code low high low2 high2 p q r s some =
 
 -- ---- what is free, in words with the accesses whose base is told
 
-by_base : (P : Type 0) (b : Bool) (one other : ℕ) (f : ℕ → ℕ) → (b ≡ true → (f one == 0) ≡ false → P) → (b ≡ false → (f other == 0) ≡ false → P) → (f (if b then one else other) == 0) ≡ false → P
-by_base P true one other f p q some = p refl some
-by_base P false one other f p q some = q refl some
-
 split_words : (low high next : ℕ) → (classes_with words low high next 255 == 0) ≡ false → ((classes_with words low high next 63 == 0) ≡ false) ⊎ ((access_classes words low high next == 0) ≡ false)
 split_words low high next some = split (bit_or (half_classes ALONE low high) (rest true low high)) (followed low high next) (kept_of words low high) some
 
 pub free_word : (code : Code) (low high low2 high2 : ℕ) → low < 256 → high < 256 → low2 < 256 → high2 < 256 → (low % 4 == 3) ≡ true
     → (free_classes code low high low2 high2 == 0) ≡ false → IsFreeWordBy (may_of code) (on_of code) (word_of low high low2 high2)
-unfolding free_in_words
 free_word (bundles stack) low high low2 high2 p q r s long some = word_with (bundles stack) low high low2 high2 p q r s long some
-free_word words low high low2 high2 p q r s long some =
-    by_base (IsFreeWordBy (may_of words) (on_of words) (word_of low high low2 high2)) (base_classes high low2 == 0) 63 255 (λ n. classes_with words low high high2 n)
-    (λ none few. word_with words low high low2 high2 p q r s long few)
-    (λ told all. elim (split_words low high high2 all) [
-      | inl few ↦ word_with words low high low2 high2 p q r s long few
-      | inr some ↦ (let f = free_access words low high low2 high2 p q r s some in access_free (may_of words) (on_of words) (word_of low high low2 high2) f (base_is f (base_told high low2 q told)))
-    ]) some
+free_word words low high low2 high2 p q r s long some = elim (base_told high low2 q) [
+  | inl few ↦ word_with words low high low2 high2 p q r s long (ap (λ n. classes_with words low high high2 n == 0) (sym few) ∙ some)
+  | inr told ↦ elim (split_words low high high2 (ap (λ n. classes_with words low high high2 n == 0) (sym told.0) ∙ some)) [
+    | inl few ↦ word_with words low high low2 high2 p q r s long few
+    | inr access ↦ (let f = free_access words low high low2 high2 p q r s access in access_free (may_of words) (on_of words) (word_of low high low2 high2) f (base_is f told.1))
+  ]
+]
   where
     base_is : (f : IsFreeAccessBy (may_of words) (word_of low high low2 high2)) → on_of words (rs1 high low2) ≡ true → on_of words f.access.base ≡ true
     base_is f h = ap (on_of words) (let b = f.base in let e : f.access.base ≡ rs1 high low2 = omega (arith, b, p, q, r, s) in e) ∙ h
 
 pub free_half : (code : Code) (low high low2 next : ℕ) → low < 256 → high < 256 → next < 256 → (low % 4 == 3) ≡ false
     → (free_classes code low high low2 next == 0) ≡ false → IsFreeHalfBy (may_of code) (on_of code) (low + 256 * high)
-unfolding free_in_words begins_access
+unfolding begins_access
 free_half (bundles stack) low high low2 next l h n short some = half_with (bundles stack) low high next l h n short some
-free_half words low high low2 next l h n short some =
-    by_base (IsFreeHalfBy (may_of words) (on_of words) (low + 256 * high)) (base_classes high low2 == 0) 63 255 (λ m. classes_with words low high next m)
-    (λ none few. half_with words low high next l h n short few)
-    (λ told all. elim (split_words low high next all) [
-      | inl few ↦ half_with words low high next l h n short few
-      | inr some ↦ (let access = and_parts (accesses (opcode low) (funct3 high)) _ (access_begins words low high l h next n some) in
-          absurd (let no = sym (ap (λ m. m == 3) (access_long low (funct3 high) access.0)) ∙ short in cc))
-    ]) some
+free_half words low high low2 next l h n short some = elim (base_told high low2 h) [
+  | inl few ↦ half_with words low high next l h n short (ap (λ m. classes_with words low high next m == 0) (sym few) ∙ some)
+  | inr told ↦ elim (split_words low high next (ap (λ m. classes_with words low high next m == 0) (sym told.0) ∙ some)) [
+    | inl few ↦ half_with words low high next l h n short few
+    | inr access ↦ (let begins = and_parts (accesses (opcode low) (funct3 high)) _ (access_begins words low high l h next n access) in
+        absurd (let no = sym (ap (λ m. m == 3) (access_long low (funct3 high) begins.0)) ∙ short in cc))
+  ]
+]

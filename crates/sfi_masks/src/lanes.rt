@@ -4,8 +4,8 @@ ghost use Rattle.sfi_masks.specs.Masks.{is_in};
 ghost use Rattle.sfi_masks.specs.private.Seen.{HasLanes, byte_classes, half_classes, followed, free_in_words, kept, kept_in_words, rest};
 
 use crate::tables::{
-    ALL, BASE_HIGH, BASE_LOW, ByteTable, FOLLOWED, FREE, HalfTable, NEXT, NO_RD, PLAIN, REST,
-    WORDS_EVEN, WORDS_ODD,
+    ALL, ByteTable, FOLLOWED, HalfTable, NEXT, NO_RD, ON_EVEN, ON_ODD, PLAIN, REST, WORDS_EVEN,
+    WORDS_ODD,
 };
 use std::simd::prelude::*;
 
@@ -63,10 +63,11 @@ pub(crate) fn free_in_words(low: u8x16, high: u8x16) -> u8x16
     ensures { HasLanes result
         (λ i. free_in_words (slice_index high i) (slice_index low ((i + 1) % 16))) }
 {
-    let next = look_up(BASE_HIGH, low & u8x16::splat(15)).rotate_elements_left::<1>();
-    let base = look_up(BASE_LOW, high >> u8x16::splat(4)) & next;
-    base.simd_eq(u8x16::splat(0))
-        .select(u8x16::splat(FREE), u8x16::splat(ALL))
+    let odd = look_up(ON_ODD, low & u8x16::splat(15)).rotate_elements_left::<1>();
+    let even = look_up(ON_EVEN, low & u8x16::splat(15)).rotate_elements_left::<1>();
+    (high & u8x16::splat(0x80))
+        .simd_eq(u8x16::splat(0x80))
+        .select(odd, even)
 }
 
 /// The classes of each halfword that are free in this format only, or not by their first bits.

@@ -173,9 +173,13 @@ pub(crate) const WORDS_EVEN: [u8; 16] = [
     ALL, NO_RD, NO_RD, ALL, ALL, ALL, ALL, ALL, ALL, ALL, ALL, ALL, ALL, ALL, ALL, NO_RD,
 ];
 
-/// By bits 15:12 of a word's first halfword, bit 0 where its bit 15 is 0, and else bit 1.
-pub(crate) const BASE_LOW: [u8; 16] = [1, 1, 1, 1, 1, 1, 1, 1, 2, 2, 2, 2, 2, 2, 2, 2];
+/// By bits 19:16 of a word, where bits 19:15 name an odd register: the classes of [`FOLLOWED`] that are free in
+/// code in words, accesses too on x3 and x29.
+pub(crate) const ON_ODD: [u8; 16] = [
+    FREE, ALL, FREE, FREE, FREE, FREE, FREE, FREE, FREE, FREE, FREE, FREE, FREE, FREE, ALL, FREE,
+];
 
-/// By bits 3:0 of its second halfword, the bits of those before which bits 19:15 of the word name a
-/// register on which an access is free in code in words: 4 and 26 with bit 0, 29 with bit 1, 2 and 3.
-pub(crate) const BASE_HIGH: [u8; 16] = [0, 3, 1, 0, 0, 0, 0, 0, 0, 0, 0, 0, 0, 1, 2, 0];
+/// The same where they name an even one: on x2, x4 and x26.
+pub(crate) const ON_EVEN: [u8; 16] = [
+    FREE, ALL, ALL, FREE, FREE, FREE, FREE, FREE, FREE, FREE, FREE, FREE, FREE, ALL, FREE, FREE,
+];

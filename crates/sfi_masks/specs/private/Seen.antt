@@ -4,7 +4,7 @@ use Rattle.sfi_masks.specs.Masks.{is_in, may_write, may_write_in_words, may_be_o
 use Rattle.sfi_masks.specs.declared.masks.Masks.{Masks}
 use Rattle.sfi_masks.specs.declared.tables.ByteTable.{ByteTable}
 use Rattle.sfi_masks.specs.declared.tables.HalfTable.{HalfTable}
-use Rattle.sfi_masks.specs.declared.tables.TheConstants.{ALONE, FOLLOWED, NEXT, REST, FREE, ACCESSES, ALL, PLAIN, NO_RD, WORDS_EVEN, WORDS_ODD, BASE_LOW, BASE_HIGH}
+use Rattle.sfi_masks.specs.declared.tables.TheConstants.{ALONE, FOLLOWED, NEXT, REST, FREE, ACCESSES, ALL, PLAIN, NO_RD, WORDS_EVEN, WORDS_ODD, ON_EVEN, ON_ODD}
 
 -- the sixteen lanes of a vector, each by its number
 pub record HasLanes (v : List ℕ) (lane : ℕ → ℕ) : Type 0 where
@@ -63,14 +63,12 @@ kept_of words low high = kept_in_words low high
 unfoldable pub rest : Bool → ℕ → ℕ → ℕ
 rest stack low high = bit_and (half_classes REST low high) (if stack then ALL else PLAIN)
 
--- what bits 15 and 19:16 of a word tell of its base, by its second byte and its third: 0 if an access on
--- it isn't free in words
-abbrev pub base_classes : ℕ → ℕ → ℕ
-base_classes high low2 = bit_and (slice_index BASE_LOW (high / 16)) (slice_index BASE_HIGH (bit_and low2 15))
-
--- the classes of FOLLOWED that are free in words, accesses too where their base is told
+-- the classes of FOLLOWED that are free in words, by a word's second byte and its third: by bit 15 its base is
+-- odd, or even
 unfoldable pub free_in_words : ℕ → ℕ → ℕ
-free_in_words high low2 = if base_classes high low2 == 0 then FREE else ALL
+free_in_words high low2 =
+    if bit_and high 128 == 128 then slice_index ON_ODD (bit_and low2 15)
+    else slice_index ON_EVEN (bit_and low2 15)
 
 abbrev pub free_followed : Code → ℕ → ℕ → ℕ
 free_followed (bundles stack) high low2 = FREE
