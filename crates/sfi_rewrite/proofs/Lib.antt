@@ -12,6 +12,7 @@ pub mod OneWay
 pub mod OneFault
 pub mod Sources
 pub mod Unmoved
+pub mod Masks
 pub mod WordLaying
 pub mod WordFilled
 pub mod WordItems
@@ -19,7 +20,6 @@ pub mod WordView
 pub mod WordKnown
 pub mod ByFormat
 pub mod WordLaid
-pub mod WordMasks
 pub mod WordAside
 pub mod Aside
 pub mod Transparent

@@ -2,7 +2,7 @@
 pub use Rattle.std.proofs.Common.{◌≡◌, ◌≢◌, ℕ, ◌+◌, ◌%◌, ◌^◌, ◌<◌, ◌==◌, Bool, true, false, cond, List, length, length-set, set, get_or, Option, Some, None, is_some, refl, sym, ap, ◌∙◌, subst, arith, ⊎_elim, ℤ, pos, negsuc, ◌+ℤ◌, replicate, ◌-◌, ◌≤◌, ◌*◌, [], ◌∷◌, ◌++◌, append_assoc, append-nil, length-append, zero, suc, inl, inr, take, drop, map, ◌/◌, get_or-drop, length-take, Fits, w64, rules, ◌⊎◌, ◌&&◌}
 pub use Rattle.std.specs.Prelude.{MatchBool, slice_get, slice_index, IsTrue, ◌↔◌, Contains, MatchOption, nat_lt, Err, bit_and, bit_or}
 pub use Rattle.std.proofs.lemmas.Bool.{cases_lt, eqb-true, eqb-false, cases_order, and_parts, ltb-true, cases_eq, cases_Bool, false≢true, true≢false, and_right, or_parts}
-pub use Rattle.std.proofs.lemmas.List.{get_or-set_same, get_or-set_other, get_or_past, get_or_push, take_more, get_or_append_left, get_or-take, take-take, take_all, length-take-le, length-map, get_or_default, set-get_or, drop_more}
+pub use Rattle.std.proofs.lemmas.List.{get_or-set_same, get_or-set_other, get_or_past, get_or_push, take_more, get_or_append_left, get_or-take, take-take, take_all, length-take-le, length-map, get_or_default, drop_more}
 pub use Rattle.std.proofs.lemmas.List.Elements.{All-push, All-nil, All-cons, All-head, All-tail, All-append, All-replicate, All-map, All-contains_itself, Contains-append_right, All-get_or}
 pub use Rattle.std.proofs.lemmas.Option.{slice_get-get_or, slice_get_within, get_or_from_slice_get}
 pub use Rattle.std.specs.List.{All, AllZip, flat_map, list_all}
@@ -31,7 +31,7 @@ pub use Rattle.sfi_rewrite.specs.Places.{AreLaidFrom, FillsGap, IsNext, next_bun
 pub use Rattle.sfi_rewrite.specs.Rewriting.{IsRewritten, AreRewritten, AnswersFault}
 pub use Rattle.sfi_rewrite.specs.Slots.{size_of, slots_of, c_nop, slot_size}
 pub use Rattle.sfi_rewrite.specs.Stack.{writes_stack, is_on_stack, stack_pair, put_back, is_stack_write, jumps_or_loads_x2}
-pub use Rattle.sfi_rewrite.specs.Transparency.{IsSameAside, AreRegions, HasReserved, IsAskedOf, SlotStands, IsTransparent, at_pc, KeepsStack, ActsAs, IsAimed, MayBe, DoesAs}
+pub use Rattle.sfi_rewrite.specs.Transparency.{IsSameAside, AreRegions, HasReserved, IsAskedOf, SlotStands, IsTransparent, put_back_at, KeepsStack, ActsAs, IsAimed, MayBe, DoesAs}
 pub use Rattle.sfi_rewrite.specs.Standing.{StandTransparent}
 pub use Rattle.sfi_rewrite.specs.declared.fault.RewriteFault.{RewriteFault}
 pub use Rattle.sfi_rewrite.specs.declared.placed.PlacedName.{PlacedName}

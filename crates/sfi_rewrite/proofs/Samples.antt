@@ -1,5 +1,5 @@
--- States in which the expansions of a load, of an indirect jump and of a write of the stack pointer stand.
-use Rattle.sfi_rewrite.proofs.Prelude.{◌≡◌, ℕ, zero, suc, ◌+◌, ◌-◌, ◌%◌, ◌^◌, ◌<◌, ◌≤◌, List, [], ◌∷◌, ◌++◌, length, take, drop, replicate, true, Option, Some, None, refl, sym, ap, subst, ◌∙◌, ⊎_elim, arith, get_or-drop, slice_index, nat_lt, Contains, pos, flat_map, list_all, and_parts, ltb-true, cases_lt, And, Or, Instr, Op, Load, Jalr, Bytes, IsMemory, byte_at, bytes_at, addresses, address_after, with_bytes, number_of, Hart, IsHart, Stands, effect, after_load, Wide, AreRegions, HasReserved, IsAskedOf, TransparencyCanBeMet}
+-- States in which the expansions of a load, of an indirect jump and of writes of the stack pointer stand.
+use Rattle.sfi_rewrite.proofs.Prelude.{◌≡◌, ℕ, zero, suc, ◌+◌, ◌-◌, ◌%◌, ◌^◌, ◌<◌, ◌≤◌, List, [], ◌∷◌, ◌++◌, length, take, drop, replicate, true, false, Option, Some, None, refl, sym, ap, subst, ◌∙◌, ⊎_elim, arith, get_or-drop, slice_index, nat_lt, Contains, pos, flat_map, list_all, and_parts, ltb-true, cases_lt, And, Or, Instr, Op, Load, Jalr, Bytes, IsMemory, byte_at, bytes_at, addresses, address_after, with_bytes, number_of, Hart, IsHart, Stands, effect, after_load, Wide, AreRegions, HasReserved, IsAskedOf, TransparencyCanBeMet, writes_stack}
 use Rattle.rv_comp.specs.Fronts.{Spells}
 use Rattle.rv_mem.specs.Bytes.{in_front}
 use Rattle.rv_step.specs.declared.outcome.Outcome.TheVariants.{Next, Trap}
@@ -9,8 +9,8 @@ use Rattle.rv_word.specs.declared.instr.LoadKind.TheVariants.{Lw}
 use Rattle.rv_word.specs.declared.instr.RegOp.{RegOp}
 use Rattle.sfi_image.specs.declared.span.Span.{Span}
 use Rattle.sfi_policy.specs.declared.format.Format.TheVariants.{Sfi2}
-use Rattle.sfi_rewrite.specs.Samples.{MeetsTransparent, MeetsKeepsStack, sample_load, sample_jump, sample_push}
-use Rattle.sfi_rewrite.specs.words.Samples.{sample_pop}
+use Rattle.sfi_rewrite.specs.Expansion.{IsPlainExpansion}
+use Rattle.sfi_rewrite.specs.Samples.{MeetsTransparent, MeetsKeepsStack, MeetsInside, MeetsOutside, MeetsStop, sample_load, sample_jump, sample_push, sample_upper, sample_pop}
 use Rattle.std.proofs.lemmas.Int.{ints}
 use Rattle.std.specs.FinMap.{empty, get-empty}
 use Rattle.std.specs.Int.{w32, to_le_bytes}
@@ -87,14 +87,23 @@ pub push : IsSpelled sample_push
 unfolding InRange
 push = word_spells sample_push (omega arith, omega arith, (omega (arith, ints), omega (arith, ints)))
 
+pub upper : IsSpelled sample_upper
+unfolding InRange
+upper = word_spells sample_upper (omega arith, omega arith)
+
+pub pop : IsSpelled sample_pop
+unfolding InRange
+pop = word_spells sample_pop (omega arith, omega arith, (omega (arith, ints), omega (arith, ints)))
+
 abbrev load_words : List ℕ
 load_words = words_of (Op And 31 11 27 ∷ Op Or 31 31 26 ∷ Load Lw 10 31 (pos 0) ∷ [])
 
 abbrev jump_words : List ℕ
 jump_words = words_of (Op And 31 12 25 ∷ Op Or 31 31 24 ∷ Jalr 1 31 (pos 0) ∷ [])
 
-abbrev push_words : List ℕ
-push_words = words_of (sample_push ∷ Op And 2 2 27 ∷ Op Or 2 2 26 ∷ [])
+-- the words of an instruction and the pair that puts the stack pointer back
+abbrev put_back_words : Instr → List ℕ
+put_back_words i = words_of (i ∷ Op And 2 2 27 ∷ Op Or 2 2 26 ∷ [])
 
 load_small : (k : ℕ) → slice_index load_words k < 256
 unfolding spelling
@@ -104,9 +113,17 @@ jump_small : (k : ℕ) → slice_index jump_words k < 256
 unfolding spelling
 jump_small = each_below 256 jump_words (omega arith) refl
 
-push_small : (k : ℕ) → slice_index push_words k < 256
+push_small : (k : ℕ) → slice_index (put_back_words sample_push) k < 256
 unfolding spelling
-push_small = each_below 256 push_words (omega arith) refl
+push_small = each_below 256 (put_back_words sample_push) (omega arith) refl
+
+upper_small : (k : ℕ) → slice_index (put_back_words sample_upper) k < 256
+unfolding spelling
+upper_small = each_below 256 (put_back_words sample_upper) (omega arith) refl
+
+pop_small : (k : ℕ) → slice_index (put_back_words sample_pop) k < 256
+unfolding spelling
+pop_small = each_below 256 (put_back_words sample_pop) (omega arith) refl
 
 -- ---- the memory
 
@@ -230,7 +247,7 @@ asked_of i j k l first second third small =
       stand = (stands words refl 240 0 j (omega arith) refl first, (stands words refl 240 4 k (omega arith) refl second, (stands words refl 240 8 l (omega arith) refl third, tt)));
     }
 
--- ---- the three
+-- ---- the samples
 
 load_met : MeetsTransparent Sfi2 sample_load
 load_met = record {
@@ -258,18 +275,27 @@ jump_met = record {
   done = refl;
 }
 
-push_met : MeetsKeepsStack Sfi2 sample_push
-push_met = record {
-  writes = refl;
-  slots = Wide sample_push ∷ Wide (Op And 2 2 27) ∷ Wide (Op Or 2 2 26) ∷ [];
-  expansion = refl;
+-- what writes x2, and the pair
+abbrev written_met : (i : Instr) → writes_stack Sfi2 i ≡ true → IsPlainExpansion Sfi2 false i (Wide i ∷ Wide (Op And 2 2 27) ∷ Wide (Op Or 2 2 26) ∷ []) → IsSpelled i
+    → ((k : ℕ) → slice_index (put_back_words i) k < 256) → MeetsKeepsStack Sfi2 i
+written_met i writes expansion spelled small = record {
+  writes = writes;
+  slots = Wide i ∷ Wide (Op And 2 2 27) ∷ Wide (Op Or 2 2 26) ∷ [];
+  expansion = expansion;
   code_at = code_at;
   data_at = data_at;
-  state = record { hart = hart 0x01000000; memory = with_code push_words };
-  asked = asked_of sample_push sample_push (Op And 2 2 27) (Op Or 2 2 26) push (op_spelled And 2 2 27 (omega arith) (omega arith) (omega arith)) (op_spelled Or 2 2 26 (omega arith) (omega arith) (omega arith)) push_small;
-  done = refl;
-  stays = (omega arith, omega arith);
+  state = record { hart = hart 0x01000000; memory = with_code (put_back_words i) };
+  asked = asked_of i i (Op And 2 2 27) (Op Or 2 2 26) spelled (op_spelled And 2 2 27 (omega arith) (omega arith) (omega arith)) (op_spelled Or 2 2 26 (omega arith) (omega arith) (omega arith)) small;
 }
 
+push_met : MeetsInside Sfi2 sample_push
+push_met = (written_met sample_push refl refl push push_small, refl, (omega arith, omega arith))
+
+upper_met : MeetsOutside Sfi2 sample_upper
+upper_met = (written_met sample_upper refl refl upper upper_small, refl, λ held. let below = held.1 in omega arith)
+
+pop_met : MeetsStop Sfi2 sample_pop
+pop_met = (written_met sample_pop refl refl pop pop_small, λ done. let e = sym (load_stops (put_back_words sample_pop) refl 240) ∙ done in cc)
+
 pub met : TransparencyCanBeMet
-met = (load_met, jump_met, push_met)
+met = (load_met, jump_met, push_met, upper_met, pop_met)

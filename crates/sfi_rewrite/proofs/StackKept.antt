@@ -1,17 +1,18 @@
 -- What each expansion does.
-use Rattle.sfi_rewrite.proofs.Prelude.{◌≡◌, ◌≢◌, ℕ, ◌+◌, ◌==◌, ◌&&◌, List, [], ◌∷◌, set, get_or, Bool, true, false, cond, Option, Some, None, refl, sym, ap, ◌∙◌, subst, arith, bit_and, bit_or, MatchBool, eqb-true, true≢false, and_parts, and_right, set-get_or, And, Or, LoadKind, Instr, Op, OpImm, Load, Branch, Jal, Jalr, Lui, Auipc, Format, has_stack, is_stack, Bytes, address_after, loaded, Hart, State, IsState, register, with_register, with_pc, past, Stepped, Stands, after_load, effect, IsStep, Body, Plain, To, High, Low, Slot, Wide, Jump, Upper, Lower, slot_size, IsAlone, IsMasked, IsExpansionOf, writes_stack, is_on_stack, is_stack_write, jumps_or_loads_x2, stack_pair, put_back, ExpansionsAreTransparent, AreRegions, HasReserved, SlotStands, IsTransparent, at_pc, KeepsStack, ActsAs, IsAimed, MayBe}
+use Rattle.sfi_rewrite.proofs.Prelude.{◌≡◌, ◌≢◌, ℕ, ◌+◌, ◌==◌, ◌&&◌, List, [], ◌∷◌, Bool, true, false, Option, Some, None, refl, sym, ap, ◌∙◌, subst, arith, bit_and, bit_or, MatchBool, eqb-true, true≢false, and_parts, and_right, And, Or, LoadKind, Instr, Op, OpImm, Load, Branch, Jal, Jalr, Lui, Auipc, Format, has_stack, is_stack, Bytes, address_after, loaded, Hart, State, IsState, register, with_register, with_pc, past, Stepped, Stands, after_load, effect, IsStep, Body, Plain, To, High, Low, Slot, Wide, Jump, Upper, Lower, slot_size, IsAlone, IsMasked, IsExpansionOf, writes_stack, is_on_stack, is_stack_write, jumps_or_loads_x2, stack_pair, put_back, ExpansionsAreTransparent, AreRegions, HasReserved, SlotStands, IsTransparent, put_back_at, KeepsStack, ActsAs, IsAimed, MayBe}
 use Rattle.rv_step.specs.Steps.{further, StandInRow, LeadsTo, LeadTo}
 use Rattle.rv_step.specs.Values.{load_size}
 use Rattle.rv_step.specs.declared.outcome.Outcome.TheVariants.{Next}
 use Rattle.rv_word.specs.Numbers.{offset_by}
 use Rattle.rv_word.specs.Writes.{writes_register}
 use Rattle.rv_word.specs.declared.instr.ImmOp.TheVariants.{Addi}
-use Rattle.sfi_image.specs.Spans.{Holds}
 use Rattle.sfi_image.specs.declared.span.Span.{Span}
 use Rattle.sfi_rewrite.specs.Registers.{names_withheld, item_names_withheld}
+use Rattle.sfi_rewrite.specs.Transparency.{masked}
 use Rattle.rv_step.proofs.Facts.{pair_leaves, step_keeps_state}
 use Rattle.rv_step.proofs.Pairs.{written_elsewhere}
-use Rattle.sfi_rewrite.proofs.Transparent.{stands_at, does, twelve, unmasked_data, alone_transparent, named_transparent, of_masked}
+use Rattle.sfi_rewrite.proofs.Masks.{masked_data}
+use Rattle.sfi_rewrite.proofs.Transparent.{stands_at, does, twelve, alone_transparent, named_transparent, of_masked}
 
 abbrev is_jump : Instr → Bool
 is_jump (Jal rd offset) = true
@@ -43,20 +44,12 @@ writes_alone _ h m e j done = absurd (cc)
 
 -- ---- the pair after it
 
-kept : (b : Bool) (l : List ℕ) (t : ℕ) → cond b l (set l t (get_or l t 0)) ≡ l
-kept true l t = refl
-kept false l t = set-get_or l t 0
-
--- a register that is written its own value
-written_same : (h : Hart) (t pc : ℕ) → with_register (with_pc h pc) t (register h t) ≡ with_pc h pc
-written_same h t pc = ap (λ (l : List ℕ). let k : Hart = record { pc = pc; registers = l } in k) (kept (t == 0) h.registers t)
-
 -- from the state after i, of which we know that it is s with x2 written
 from_there : (c d : Span) (s one : State) (v : ℕ) → AreRegions c d → IsState one → HasReserved c d s.hart
     → one ≡ record { hart = with_register (past s.hart 4) 2 v; memory = s.memory }
     → Stands (further s 4) (Op And 2 2 27) 4 → Stands (further (further s 4) 4) (Op Or 2 2 26) 4
-    → Holds d (register one.hart 2) → LeadTo 2 one (at_pc one (address_after s.hart.pc 12))
-from_there c d s one v regions is reserved e second third held =
+    → LeadTo 2 one (put_back_at d one (address_after s.hart.pc 12))
+from_there c d s one v regions is reserved e second third =
     let h = one.hart in
     let pc : h.pc ≡ address_after s.hart.pc 4 = ap (λ (x : State). x.hart.pc) e in
     let memory : one.memory ≡ s.memory = ap (λ (x : State). x.memory) e in
@@ -74,10 +67,10 @@ from_there c d s one v regions is reserved e second third held =
       (stands_at (further (further s 4) 4) (further one 4) (Op Or 2 2 26) 4 (ap (λ p. address_after p 4) pc) memory third, tt),
     ) in
     let left = pair_leaves one 2 2 27 26 is (λ z. omega arith) (λ z. omega arith) row in
-    let value = unmasked_data c d h (register h 2) regions now held in
+    let value = masked_data c d h (register h 2) regions now in
     let end : address_after h.pc 8 ≡ address_after s.hart.pc 12 = ap (λ p. address_after p 8) pc ∙ twelve s.hart.pc in
-    let state : with_register (past h 8) 2 (bit_or (bit_and (register h 2) (register h 27)) (register h 26)) ≡ with_pc h (address_after s.hart.pc 12) =
-    ap (λ n. with_register (past h 8) 2 n) value ∙ written_same h 2 (address_after h.pc 8) ∙ ap (λ p. with_pc h p) end in
+    let state : with_register (past h 8) 2 (bit_or (bit_and (register h 2) (register h 27)) (register h 26)) ≡ with_register (with_pc h (address_after s.hart.pc 12)) 2 (masked d (register h 2)) =
+    ap (λ n. with_register (past h 8) 2 n) value ∙ ap (λ p. with_register (with_pc h p) 2 (masked d (register h 2))) end in
     subst (λ (k : Hart). LeadTo 2 one (record { hart = k; memory = one.memory })) state left
 
 done_is : (x : Stepped) → x.outcome ≡ Next → x ≡ record { outcome = Next; state = x.state }
@@ -87,7 +80,7 @@ done_is x e = ap (λ o. let y : Stepped = record { outcome = o; state = x.state 
 keeps_stack : (i : Instr) (x : Slot) → writes_register 2 i ≡ true → is_jump i ≡ false → slot_size x ≡ 4 → ((s : State) → SlotStands i s x → Stands s i 4)
     → KeepsStack i (x ∷ stack_pair)
 keeps_stack i x writes no_jump size stands = record {
-  does = λ c d s asked done after.
+  does = λ c d s asked done.
       let regions = asked.regions in let is = asked.is_state in let reserved = asked.reserved in let stand = asked.stand in
       let r = effect i 4 s.hart s.memory in
       let step : LeadsTo s r.state = subst (λ (y : Stepped). IsStep s y) (done_is r done) (does s i 4 (stands s stand.0)) in
@@ -95,8 +88,9 @@ keeps_stack i x writes no_jump size stands = record {
       let second : Stands (further s 4) (Op And 2 2 27) 4 = subst (λ (n : ℕ). Stands (further s n) (Op And 2 2 27) 4) size stand.1.0 in
       let third : Stands (further (further s 4) 4) (Op Or 2 2 26) 4 = subst (λ (n : ℕ). Stands (further (further s n) 4) (Op Or 2 2 26) 4) size stand.1.1.0 in
       let end : 12 ≡ 0 + slot_size x + 4 + 4 = omega arith in
-      subst (λ (n : ℕ). LeadTo 3 s (at_pc r.state (address_after s.hart.pc n))) end
-      (r.state, step, from_there c d s r.state only.value regions (step_keeps_state s _ is step) reserved only.state second third after);
+      subst (λ (n : ℕ). LeadTo 3 s (put_back_at d r.state (address_after s.hart.pc n))) end
+      (r.state, step, from_there c d s r.state only.value regions (step_keeps_state s _ is step) reserved only.state second third);
+  stops = λ c d s asked stop. does s i 4 (stands s asked.stand.0);
 }
 
 -- ---- the expansions

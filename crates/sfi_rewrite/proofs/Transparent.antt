@@ -8,14 +8,14 @@ use Rattle.rv_word.specs.Numbers.{offset_by}
 use Rattle.rv_word.specs.declared.instr.ImmOp.TheVariants.{Addi}
 use Rattle.rv_word.specs.declared.instr.StoreWidth.{StoreWidth}
 use Rattle.sfi_image.specs.Regions.{IsBundleStart}
-use Rattle.sfi_image.specs.Spans.{Holds}
 use Rattle.sfi_image.specs.declared.span.Span.{Span}
 use Rattle.sfi_policy.specs.declared.format.Format.{Format}
 use Rattle.sfi_policy.specs.declared.format.Format.TheVariants.{Sfi1, Sfi2, Sfiw}
 use Rattle.sfi_rewrite.specs.Registers.{is_withheld, names_withheld}
 use Rattle.rv_step.proofs.Facts.{pair_leaves, step_keeps_state}
 use Rattle.rv_step.proofs.Pairs.{written_here}
-use Rattle.sfi_rewrite.proofs.Unmoved.{unmoved_data, unmoved_code}
+use Rattle.sfi_rewrite.proofs.Unmoved.{unmoved_code}
+use Rattle.sfi_rewrite.proofs.Masks.{unmasked_data}
 use Rattle.sfi_rewrite.proofs.Aside.{Aside, aside_scratch, loads_same, stores_same, jumps_same, plus_zero, added, plus_fits}
 
 -- ---- what stands at a pc
@@ -43,11 +43,6 @@ pair_to : (s : State) (a mask base v : ℕ) → IsState s → base ≢ 31 → St
     → bit_or (bit_and (register s.hart a) (register s.hart mask)) (register s.hart base) ≡ v → LeadTo 2 s (scratched s (address_after s.hart.pc 8) v)
 pair_to s a mask base v is apart stand e =
     subst (λ (n : ℕ). LeadTo 2 s (scratched s (address_after s.hart.pc 8) n)) e (pair_leaves s 31 a mask base is (λ z. omega arith) apart stand)
-
-pub unmasked_data : (c d : Span) (h : Hart) (x : ℕ) → AreRegions c d → HasReserved c d h → Holds d x → bit_or (bit_and x (register h 27)) (register h 26) ≡ x
-unmasked_data c d h x regions reserved held =
-    ap (λ n. bit_or (bit_and x n) (register h 26)) reserved.data_mask ∙ ap (λ n. bit_or (bit_and x (d.size - 1)) n) reserved.data_base
-    ∙ unmoved_data d.base d.size 256 1048576 x regions.data_placed held.0 held.1
 
 unmasked_code : (c d : Span) (h : Hart) (x : ℕ) → AreRegions c d → HasReserved c d h → IsBundleStart c x → bit_or (bit_and x (register h 25)) (register h 24) ≡ x
 unmasked_code c d h x regions reserved start =

@@ -1,7 +1,7 @@
--- A number that lies in a region stays as it is under the region's mask and bits.
+-- A bundle start that lies in a code region stays as it is under the region's mask and bits.
 use Rattle.std.proofs.Common.{◌≡◌, ℕ, ◌+◌, ◌-◌, ◌*◌, ◌/◌, ◌%◌, ◌^◌, ◌<◌, ◌≤◌, ap, ◌∙◌, arith}
 use Rattle.sfi_image.specs.Regions.{IsRegion}
-use Rattle.std.proofs.lemmas.Nat.{and_mask, or_shifted, or_comm, mod-mul-add, pow-add}
+use Rattle.std.proofs.lemmas.Nat.{or_shifted, or_comm, mod-mul-add, pow-add}
 use Rattle.std.proofs.lemmas.Nat.Bits.{and_high}
 use Rattle.std.specs.Int.Bits.{bit_and, bit_or}
 use Rattle.sfi_image.proofs.Bundles.{exponent_le}
@@ -16,19 +16,7 @@ rest_of q b x from below =
     let is : x ≡ q * b + r = omega arith in
     ap (λ n. n % b) is ∙ mod-mul-add q b r (omega arith)
 
--- the mask of size less 1
-pub unmoved_data : (base size least most x : ℕ) → IsRegion base size least most → base ≤ x → x < base + size → bit_or (bit_and x (size - 1)) base ≡ x
-unmoved_data base size least most x region from below =
-    let k = region.power in
-    let q = region.multiple in
-    let size_is : size ≡ 2 ^ k = region.size_is in
-    let base_is : base ≡ q * 2 ^ k = region.base_is ∙ ap (λ n. q * n) region.size_is in
-    let low_part : bit_and x (size - 1) ≡ x % 2 ^ k = ap (λ n. bit_and x (n - 1)) region.size_is ∙ and_mask x k in
-    let rest : x % 2 ^ k ≡ x - q * 2 ^ k = rest_of q (2 ^ k) x (omega arith) (omega arith) in
-    ap (λ n. bit_or n base) (low_part ∙ rest) ∙ ap (λ n. bit_or (x - q * 2 ^ k) n) base_is
-    ∙ in_block q k (x - q * 2 ^ k) (omega arith) ∙ (let z : q * 2 ^ k + (x - q * 2 ^ k) ≡ x = omega arith in z)
-
--- the mask of size less 16
+-- under the mask of size less 16
 pub unmoved_code : (base size most x : ℕ) → IsRegion base size 256 most → base ≤ x → x < base + size → x % 16 ≡ 0 → bit_or (bit_and x (size - 16)) base ≡ x
 unmoved_code base size most x region from below aligned =
     let k = region.power in

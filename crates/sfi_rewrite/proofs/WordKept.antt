@@ -13,11 +13,11 @@ use Rattle.sfi_policy.specs.declared.format.Format.TheVariants.{Sfiw}
 use Rattle.sfi_policy.specs.Registers.{is_data_register}
 use Rattle.sfi_image.specs.Spans.{Holds}
 use Rattle.sfi_image.specs.declared.span.Span.{Span}
-use Rattle.sfi_rewrite.specs.Transparency.{SlotsStand}
+use Rattle.sfi_rewrite.specs.Transparency.{masked, SlotsStand}
 use Rattle.sfi_rewrite.specs.Registers.{is_withheld, names_withheld, item_names_withheld}
 use Rattle.sfi_rewrite.specs.Laws.{WordExpansionsAreTransparent}
 use Rattle.sfi_rewrite.specs.words.Expansion.{IsConfined, IsAround, IsExpansionOf, before, after, data_mask, mask_after, is_move, moved, is_step, is_step_to, is_zero, is_barred_jump}
-use Rattle.sfi_rewrite.specs.words.Transparency.{is_own, HasReserved, masked, meant, IsAskedOf, IsTransparent, KeepsData, ActsBy, ActsAs}
+use Rattle.sfi_rewrite.specs.words.Transparency.{is_own, HasReserved, meant, IsAskedOf, IsTransparent, KeepsData, ActsBy, ActsAs}
 use Rattle.rv_step.proofs.Facts.{step_keeps_state}
 use Rattle.rv_step.proofs.Pairs.{written_here, written_elsewhere}
 use Rattle.sfi_rewrite.proofs.Sizes.{size_of-append, size_of-cons}

@@ -4,13 +4,13 @@ use Rattle.rv_word.specs.Spelling.{spelling, InRange}
 use Rattle.rv_word.specs.Writes.{destination}
 use Rattle.rv_word.specs.declared.instr.LoadKind.TheVariants.{Lw}
 use Rattle.sfi_rewrite.specs.Laws.{WordTransparencyCanBeMet}
-use Rattle.sfi_rewrite.specs.Samples.{sample_load, sample_jump, sample_push}
-use Rattle.sfi_rewrite.specs.words.Samples.{MeetsTransparent, MeetsStep, MeetsKeepsData, MeetsInside, MeetsOutside, MeetsStop, sample_low, sample_move, sample_upper, sample_pop, sample_step, sample_use}
+use Rattle.sfi_rewrite.specs.Samples.{sample_load, sample_jump, sample_push, sample_upper, sample_pop}
+use Rattle.sfi_rewrite.specs.words.Samples.{MeetsTransparent, MeetsStep, MeetsKeepsData, MeetsInside, MeetsOutside, MeetsStop, sample_low, sample_move, sample_step, sample_use}
 use Rattle.sfi_rewrite.specs.words.Expansion.{IsPlainExpansion}
 use Rattle.sfi_rewrite.specs.words.Transparency.{HasReserved, KeepsTo, IsAskedOf}
 use Rattle.std.proofs.lemmas.Int.{ints}
 use Rattle.rv_comp.proofs.Facts.{word_spells}
-use Rattle.sfi_rewrite.proofs.Samples.{code_at, data_at, regions, hart_with, each_below, IsSpelled, words_of, op_spelled, push, with_code, is_memory, stands, load_done, load_stops}
+use Rattle.sfi_rewrite.proofs.Samples.{code_at, data_at, regions, hart_with, each_below, IsSpelled, words_of, op_spelled, push, upper, pop, with_code, is_memory, stands, load_done, load_stops}
 
 -- the hart of code in words of 4 bytes
 abbrev hart : Hart
@@ -39,14 +39,6 @@ jump_x30 = word_spells (Jalr 1 30 (pos 0)) (omega arith, omega arith, (omega (ar
 low_x26 : IsSpelled (Load Lw 10 26 (pos 16))
 unfolding InRange
 low_x26 = word_spells (Load Lw 10 26 (pos 16)) (omega arith, omega arith, (omega (arith, ints), omega (arith, ints)))
-
-upper : IsSpelled sample_upper
-unfolding InRange
-upper = word_spells sample_upper (omega arith, omega arith)
-
-pop : IsSpelled sample_pop
-unfolding InRange
-pop = word_spells sample_pop (omega arith, omega arith, (omega (arith, ints), omega (arith, ints)))
 
 abbrev load_words : List ℕ
 load_words = words_of (Op And 31 11 27 ∷ Op Or 29 31 26 ∷ Load Lw 10 29 (pos 0) ∷ [])

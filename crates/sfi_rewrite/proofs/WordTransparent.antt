@@ -12,13 +12,13 @@ use Rattle.std.proofs.lemmas.Nat.{pow-add}
 use Rattle.std.proofs.lemmas.Nat.Bits.{and_high}
 use Rattle.rv_step.proofs.Facts.{pair_leaves}
 use Rattle.rv_step.proofs.Pairs.{written_here, written_elsewhere}
-use Rattle.sfi_rewrite.specs.Transparency.{SlotsStand}
+use Rattle.sfi_rewrite.specs.Transparency.{masked, SlotsStand}
 use Rattle.sfi_rewrite.specs.words.Expansion.{data_mask}
-use Rattle.sfi_rewrite.specs.words.Transparency.{is_own, HasReserved, IsWordStart, KeepsTo, masked, meant_base, meant, IsSame, DoesAs, IsTransparent}
+use Rattle.sfi_rewrite.specs.words.Transparency.{is_own, HasReserved, IsWordStart, KeepsTo, meant_base, meant, IsSame, DoesAs, IsTransparent}
 use Rattle.sfi_rewrite.proofs.Unmoved.{rest_of, in_block}
 use Rattle.sfi_rewrite.proofs.Transparent.{stands_at, does}
 use Rattle.sfi_rewrite.proofs.Aside.{plus_zero}
-use Rattle.sfi_rewrite.proofs.WordMasks.{masked_data, unmasked_data}
+use Rattle.sfi_rewrite.proofs.Masks.{masked_in_words, unmasked_in_words}
 use Rattle.sfi_rewrite.proofs.WordAside.{Aside, aside_through, aside_own, aside_at, loads_same, stores_same, jumps_same}
 
 -- ---- masks that change nothing
@@ -168,7 +168,7 @@ based_transparent i j a slots one held same = record {
   does = λ c d s asked.
       let stand : SlotsStand i (further (further s 4) 4) (one.slot ∷ []) = subst (λ (v : List Slot). SlotsStand i (further (further s 4) 4) v) one.are asked.stand.1.1 in
       after_base s i j a (register s.hart a) one.slot asked.is_state asked.stand.0 asked.stand.1.0 (one.stands (further (further s 4) 4) stand.0)
-      (unmasked_data c d s.hart (register s.hart a) asked.regions asked.reserved (held c d s asked.keeps)) (same s (slot_size one.slot));
+      (unmasked_in_words c d s.hart (register s.hart a) asked.regions asked.reserved (held c d s asked.keeps)) (same s (slot_size one.slot));
 }
 
 -- an access on another register than x0 means itself
@@ -252,4 +252,4 @@ not_31 x other e = let z = ap is_own e in cc
 
 -- in that one it leaves the address that a masks to
 pub mask_leaves : (c d_at : Span) (t : State) (d a : ℕ) → AreRegions c d_at → IsState t → HasReserved c d_at t.hart → IsNamed d → register (after_mask t d a).hart d ≡ masked d_at (register t.hart a)
-mask_leaves c d_at t d a regions is reserved named = mask_value t d a is named.some named.small ∙ masked_data c d_at t.hart (register t.hart a) regions reserved
+mask_leaves c d_at t d a regions is reserved named = mask_value t d a is named.some named.small ∙ masked_in_words c d_at t.hart (register t.hart a) regions reserved

@@ -22,8 +22,8 @@ use Rattle.sfi_rewrite.specs.words.Transparency as words_transparency
 use Rattle.sfi_rewrite.specs.words.Samples as words_samples
 use Rattle.sfi_rewrite.specs.Standing.{StandTransparent}
 use Rattle.sfi_rewrite.specs.Rewriting.{IsRewritten, AreRewritten}
-use Rattle.sfi_rewrite.specs.Transparency.{AreRegions, MayBe, ActsAs}
-use Rattle.sfi_rewrite.specs.Samples.{MeetsTransparent, MeetsKeepsStack, sample_load, sample_jump, sample_push}
+use Rattle.sfi_rewrite.specs.Transparency.{AreRegions, masked, MayBe, ActsAs}
+use Rattle.sfi_rewrite.specs.Samples.{MeetsTransparent, MeetsInside, MeetsOutside, MeetsStop, sample_load, sample_jump, sample_push, sample_upper, sample_pop}
 
 -- an item has at most one expansion in each format
 abbrev pub OneExpansion : Type 0
@@ -82,9 +82,8 @@ WordExpansionsAreTransparent =
 -- rest: so the halves of an address, each with its mask, leave what the whole masks to.
 abbrev pub MasksCompose : Type 0
 MasksCompose = (code_at data_at : Span) (v w : ℕ) → AreRegions code_at data_at
-    → (Holds data_at v → words_transparency.masked data_at v ≡ v)
-    × (words_transparency.masked data_at (result_of Add (words_transparency.masked data_at v) w)
-    ≡ words_transparency.masked data_at (result_of Add v w))
+    → (Holds data_at v → masked data_at v ≡ v)
+    × (masked data_at (result_of Add (masked data_at v) w) ≡ masked data_at (result_of Add v w))
 
 -- so each item of a source stands transparent in what is placed
 abbrev pub RewrittenIsTransparent : Type 0
@@ -92,10 +91,11 @@ RewrittenIsTransparent = (s : Sandbox) (p : Placement) → IsRewritten s p → S
 
 -- What transparency asks can be met: in some state the expansion of a load stands, and the load
 -- keeps to its sandbox and is done; in some state the same is so of an indirect jump; in some state
--- that of a write of the stack pointer stands, and the write leaves it in the data region.
+-- that of a write of the stack pointer stands, and the write leaves it in the data region; in others
+-- a write leaves it outside, and a load into it isn't done.
 abbrev pub TransparencyCanBeMet : Type 0
 TransparencyCanBeMet = MeetsTransparent Sfi2 sample_load × MeetsTransparent Sfi2 sample_jump
-    × MeetsKeepsStack Sfi2 sample_push
+    × MeetsInside Sfi2 sample_push × MeetsOutside Sfi2 sample_upper × MeetsStop Sfi2 sample_pop
 
 -- In words, too: in some state the expansion of a load stands, also of one on x0, and the load keeps
 -- to its sandbox and is done; the same is so of an indirect jump and of a step. In some state that of
@@ -109,5 +109,5 @@ WordTransparencyCanBeMet =
     × words_samples.MeetsStep words_samples.sample_step (words_samples.sample_use ∷ []) sample_push
     × words_samples.MeetsInside stack_pointer sample_push
     × words_samples.MeetsInside stack_pointer words_samples.sample_move
-    × words_samples.MeetsOutside stack_pointer words_samples.sample_upper
-    × words_samples.MeetsStop stack_pointer words_samples.sample_pop
+    × words_samples.MeetsOutside stack_pointer sample_upper
+    × words_samples.MeetsStop stack_pointer sample_pop

@@ -1,6 +1,6 @@
--- What an expansion does: within its sandbox it does what its instruction does, x31 aside; before
--- the pair that puts the stack pointer back, what its instruction leaves stays.
-use Rattle.std.specs.Prelude.{◌≡◌, ◌≢◌, ◌++◌, ℕ, ℤ, MatchBool, List, [], ◌∷◌, length, take, replicate}
+-- What an expansion does: within its sandbox it does what its instruction does, x31 aside; a stack
+-- pointer that the instruction writes has the address of the data region that its value masks to.
+use Rattle.std.specs.Prelude.{◌≡◌, ◌≢◌, ◌+◌, ◌%◌, ◌++◌, ℕ, ℤ, MatchBool, List, [], ◌∷◌, length, take, replicate}
 use Rattle.rv_word.specs.Numbers.{offset_by}
 use Rattle.rv_word.specs.declared.instr.Instr.{Instr}
 use Rattle.rv_word.specs.declared.instr.ImmOp.TheVariants.{Addi}
@@ -10,7 +10,7 @@ use Rattle.sfi_policy.specs.Limits.{bundle_size}
 use Rattle.sfi_policy.specs.declared.format.Format.{Format}
 use Rattle.rv_mem.specs.Bytes.{address_after}
 use Rattle.rv_step.specs.declared.outcome.Outcome.TheVariants.{Next}
-use Rattle.rv_step.specs.State.{Hart, State, IsState, register, with_pc}
+use Rattle.rv_step.specs.State.{Hart, State, IsState, register, with_register, with_pc}
 use Rattle.rv_step.specs.Step.{Stepped, Stands, effect, IsStep}
 use Rattle.rv_step.specs.Steps.{further, LeadTo}
 use Rattle.rv_source.specs.declared.item.Body.{Body}
@@ -51,6 +51,10 @@ KeepsTo code_at data_at h (Load kind rd a imm) = Holds data_at (register h a)
 KeepsTo code_at data_at h (Store width a rs2 imm) = Holds data_at (register h a)
 KeepsTo code_at data_at h (Jalr rd a imm) = IsBundleStart code_at (offset_by (register h a) imm)
 KeepsTo code_at data_at h _ = Unit {0}
+
+-- the address of the data region with the offset of v
+abbrev pub masked : Span → ℕ → ℕ
+masked data_at v = data_at.base + v % data_at.size
 
 -- ---- what stands there
 
@@ -106,20 +110,33 @@ pub record IsTransparent (i : Instr) (slots : List Slot) : Type 0 where
 
 -- ---- before the pair that puts the stack pointer back
 
--- the same state at another pc
-abbrev pub at_pc : State → ℕ → State
-at_pc s pc = record { hart = with_pc s.hart pc; memory = s.memory }
+-- what the line of i does in the state, where i has 4 bytes
+abbrev pub effect_in : State → Instr → Stepped
+effect_in s i = effect i 4 s.hart s.memory
 
--- The slots keep what i leaves: wherever they stand, from any state in which the line of i, there,
--- is done and leaves the stack pointer in the data region, each of their steps is done, and they
--- leave the registers and the memory that i leaves, and the pc after all of them.
+-- The state at this pc with the stack pointer put back: it has the address of the data region with
+-- the offset of what it had, which is that itself if it lies in the region.
+abbrev pub put_back_at : Span → State → ℕ → State
+put_back_at data_at s pc =
+    record {
+      hart =
+          with_register (with_pc s.hart pc) stack_pointer (masked data_at (register s.hart stack_pointer));
+      memory = s.memory;
+    }
+
+-- The slots keep what i leaves: wherever they stand, from any state in which the line of i, there, is
+-- done, each of their steps is done, and they leave the registers and the memory that i leaves, but
+-- for the stack pointer, which is put back, and the pc, which is after all of them. Where it isn't
+-- done, their first step stops as it does.
 pub record KeepsStack (i : Instr) (slots : List Slot) : Type 0 where
   pub does :
       (code_at data_at : Span) (s : State) → IsAskedOf i slots code_at data_at s
-      → (effect i 4 s.hart s.memory).outcome ≡ Next
-      → Holds data_at (register (effect i 4 s.hart s.memory).state.hart stack_pointer)
+      → (effect_in s i).outcome ≡ Next
       → LeadTo (length slots) s
-      (at_pc (effect i 4 s.hart s.memory).state (address_after s.hart.pc (size_of slots)))
+      (put_back_at data_at (effect_in s i).state (address_after s.hart.pc (size_of slots)))
+  pub stops :
+      (code_at data_at : Span) (s : State) → IsAskedOf i slots code_at data_at s
+      → (effect_in s i).outcome ≢ Next → IsStep s (effect_in s i)
 
 -- what an expansion of the format is to its instruction
 abbrev pub ActsAs : Format → Instr → List Slot → Type 0

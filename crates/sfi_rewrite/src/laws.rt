@@ -42,8 +42,8 @@ pub fn rewritten_is_placed()
     ensures { RewrittenIsPlaced }
 {}
 
-/// In bundles the expansion of an instruction does what the instruction does, x31 aside; after an
-/// instruction that writes the stack pointer it keeps what that leaves.
+/// In bundles the expansion of an instruction does what the instruction does, x31 aside, but for a
+/// stack pointer that it writes: that has its value's offset in the data region.
 pub fn expansions_are_transparent()
     ensures { ExpansionsAreTransparent }
 {}

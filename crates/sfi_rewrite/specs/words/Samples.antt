@@ -5,7 +5,7 @@ use Rattle.rv_word.specs.declared.instr.ImmOp.TheVariants.{Addi}
 use Rattle.rv_word.specs.declared.instr.LoadKind.TheVariants.{Lw}
 use Rattle.rv_word.specs.declared.instr.StoreWidth.TheVariants.{Sw}
 use Rattle.rv_word.specs.declared.instr.Instr.{Instr}
-use Rattle.rv_word.specs.declared.instr.Instr.TheVariants.{OpImm, Load, Store, Lui}
+use Rattle.rv_word.specs.declared.instr.Instr.TheVariants.{OpImm, Load, Store}
 use Rattle.rv_word.specs.Writes.{destination}
 use Rattle.rv_step.specs.declared.outcome.Outcome.TheVariants.{Next}
 use Rattle.rv_step.specs.State.{State, register}
@@ -77,14 +77,6 @@ sample_low = Load Lw 10 0 (pos 16)
 -- `addi x2, x11, 0`
 abbrev pub sample_move : Instr
 sample_move = OpImm Addi stack_pointer 11 (pos 0)
-
--- `lui x2, 0x1801`
-abbrev pub sample_upper : Instr
-sample_upper = Lui stack_pointer 0x1801
-
--- `lw x2, 1000(x2)`
-abbrev pub sample_pop : Instr
-sample_pop = Load Lw stack_pointer stack_pointer (pos 1000)
 
 -- `addi x2, x2, -16`, and `sw x1, 12(x2)` to stand after it
 abbrev pub sample_step : Item

@@ -23,7 +23,7 @@ use Rattle.sfi_rewrite.specs.declared.slot.Slot.{Slot}
 use Rattle.sfi_rewrite.specs.Registers.{address_register}
 use Rattle.sfi_rewrite.specs.Slots.{slot_size, size_of, slots_of}
 use Rattle.sfi_rewrite.specs.Placement.{Placement}
-use Rattle.sfi_rewrite.specs.Transparency.{AreRegions, SlotsStand, MayBe}
+use Rattle.sfi_rewrite.specs.Transparency.{AreRegions, masked, SlotsStand, MayBe}
 use Rattle.sfi_rewrite.specs.words.Expansion.{IsExpansion, is_step}
 use Rattle.sfi_rewrite.specs.words.Laying.{Marked, alone, AreExpanded, AreLaidBefore}
 
@@ -57,10 +57,6 @@ KeepsTo code_at data_at h (Load kind rd a imm) = IsBased data_at h a
 KeepsTo code_at data_at h (Store width a rs2 imm) = IsBased data_at h a
 KeepsTo code_at data_at h (Jalr rd a imm) = IsWordStart code_at (offset_by (register h a) imm)
 KeepsTo code_at data_at h i = Unit {0}
-
--- the address of the data region with the offset of v
-abbrev pub masked : Span → ℕ → ℕ
-masked data_at v = data_at.base + v % data_at.size
 
 -- x26 for x0, since no image's data region holds 0, and a masked 0 is the region's first address
 abbrev pub meant_base : ℕ → ℕ

@@ -1,4 +1,4 @@
-use Rattle.sfi_rewrite.proofs.WordMasks as masks
+use Rattle.sfi_rewrite.proofs.Masks as masks
 use Rattle.sfi_rewrite.proofs.laws.masks_compose.Goals as goal
 
 pub returns : goal.returns

@@ -1,5 +1,5 @@
 -- What a data mask makes of a number: the address of the region with its offset.
-use Rattle.sfi_rewrite.proofs.Prelude.{◌≡◌, ℕ, ◌+◌, ◌-◌, ◌*◌, ◌/◌, ◌%◌, ◌^◌, ◌<◌, ◌≤◌, sym, ap, ◌∙◌, arith, bit_and, bit_or, Hart, register, AreRegions}
+use Rattle.sfi_rewrite.proofs.Prelude.{◌≡◌, ℕ, ◌+◌, ◌-◌, ◌*◌, ◌/◌, ◌%◌, ◌^◌, ◌<◌, ◌≤◌, sym, ap, ◌∙◌, arith, bit_and, bit_or, Hart, register, AreRegions, HasReserved}
 use Rattle.std.proofs.Common.{mul_assoc}
 use Rattle.std.proofs.lemmas.Nat.{and_mask, div-add-mod', mod_low, pow-add}
 use Rattle.rv_step.specs.Values.{result_of}
@@ -9,7 +9,8 @@ use Rattle.sfi_image.specs.Spans.{Holds}
 use Rattle.sfi_image.specs.declared.span.Span.{Span}
 use Rattle.sfi_image.proofs.Bundles.{exponent_le}
 use Rattle.sfi_rewrite.specs.Laws.{MasksCompose}
-use Rattle.sfi_rewrite.specs.words.Transparency.{HasReserved, masked}
+use Rattle.sfi_rewrite.specs.Transparency.{masked}
+use Rattle.sfi_rewrite.specs.words.Transparency as words
 use Rattle.sfi_rewrite.proofs.Unmoved.{rest_of, in_block}
 
 -- under the mask of size less 1 and the base's bits a number becomes an address of the region
@@ -25,10 +26,16 @@ moved_data base size most x region =
     ap (λ n. bit_or n base) low_part ∙ ap (λ n. bit_or (x % 2 ^ k) n) base_is ∙ in_block q k (x % 2 ^ k) below
     ∙ ap (λ n. n + x % 2 ^ k) (sym base_is) ∙ ap (λ n. base + x % n) (sym region.size_is)
 
+-- so under x27 and x26, while a sandbox of these regions runs
+masked_by : (c d : Span) (h : Hart) (x : ℕ) → AreRegions c d → register h 27 ≡ d.size - 1 → register h 26 ≡ d.base → bit_or (bit_and x (register h 27)) (register h 26) ≡ masked d x
+masked_by c d h x regions mask base =
+    ap (λ n. bit_or (bit_and x n) (register h 26)) mask ∙ ap (λ n. bit_or (bit_and x (d.size - 1)) n) base ∙ moved_data d.base d.size 1048576 x regions.data_placed
+
 pub masked_data : (c d : Span) (h : Hart) (x : ℕ) → AreRegions c d → HasReserved c d h → bit_or (bit_and x (register h 27)) (register h 26) ≡ masked d x
-masked_data c d h x regions reserved =
-    ap (λ n. bit_or (bit_and x n) (register h 26)) reserved.data_mask ∙ ap (λ n. bit_or (bit_and x (d.size - 1)) n) reserved.data_base
-    ∙ moved_data d.base d.size 1048576 x regions.data_placed
+masked_data c d h x regions reserved = masked_by c d h x regions reserved.data_mask reserved.data_base
+
+pub masked_in_words : (c d : Span) (h : Hart) (x : ℕ) → AreRegions c d → words.HasReserved c d h → bit_or (bit_and x (register h 27)) (register h 26) ≡ masked d x
+masked_in_words c d h x regions reserved = masked_by c d h x regions reserved.data_mask reserved.data_base
 
 -- what lies in the region is its own address there
 masked_held : (c d : Span) (x : ℕ) → AreRegions c d → Holds d x → masked d x ≡ x
@@ -43,6 +50,9 @@ masked_held c d x regions held =
 
 pub unmasked_data : (c d : Span) (h : Hart) (x : ℕ) → AreRegions c d → HasReserved c d h → Holds d x → bit_or (bit_and x (register h 27)) (register h 26) ≡ x
 unmasked_data c d h x regions reserved held = masked_data c d h x regions reserved ∙ masked_held c d x regions held
+
+pub unmasked_in_words : (c d : Span) (h : Hart) (x : ℕ) → AreRegions c d → words.HasReserved c d h → Holds d x → bit_or (bit_and x (register h 27)) (register h 26) ≡ x
+unmasked_in_words c d h x regions reserved held = masked_in_words c d h x regions reserved ∙ masked_held c d x regions held
 
 -- ---- sums
 
