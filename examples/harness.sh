@@ -39,11 +39,15 @@ has() { command -v "$1" >"$room/which" 2>&1; }
 
 # The source text of a program of examples/c: the one that is kept, or what the Makefile there makes of the C.
 programs=$(cd "$(dirname "${BASH_SOURCE[0]}")/c" && pwd)
-source_of_c() { # a program; nothing where it would take a compiler that isn't there
-    if [ -f "$programs/$1.s" ]; then
-        echo "$programs/$1.s"
-    elif has riscv64-unknown-elf-gcc && has make; then
-        make -s -C "$programs" "build/$1.s" >&2 && echo "$programs/build/$1.s"
+source_of_c() { # a program, a format; nothing where it would take a compiler that isn't there
+    local made=build/$1.s
+    if [ "$2" = words ]; then
+        made=build/words/$1.s
+    elif [ -f "$programs/$1.s" ]; then
+        made=$1.s
+    fi
+    if [ "$made" = "$1.s" ] || { has riscv64-unknown-elf-gcc && has make && make -s -C "$programs" "$made" >&2; }; then
+        echo "$programs/$made"
     fi
 }
 

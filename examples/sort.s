@@ -60,14 +60,14 @@ copy:   lbu  t3, 0(t1)
 choose: beqz a1, merged
         beqz a2, first
         lbu  t3, 0(t0)
-        lbu  t4, 0(t1)
-        bltu t4, t3, second
+        lbu  a6, 0(t1)
+        bltu a6, t3, second
 first:  lbu  t3, 0(t0)
         sb   t3, 0(a0)
         addi t0, t0, 1
         addi a1, a1, -1
         j    next
-second: sb   t4, 0(a0)
+second: sb   a6, 0(a0)
         addi t1, t1, 1
         addi a2, a2, -1
 next:   addi a0, a0, 1

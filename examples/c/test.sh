@@ -12,14 +12,6 @@ cd "$here" || exit 1
 source ../harness.sh
 source ./std.sh
 
-text_of() { # program, format; nothing where it would take a compiler that isn't there
-    if [ "$2" != words ]; then
-        source_of_c "$1"
-    elif has riscv64-unknown-elf-gcc && has make; then
-        make -s "build/words/$1.s" >&2 && echo "build/words/$1.s"
-    fi
-}
-
 make_image() { # program, format, source text
     grep -v '^\.format' "$3" | sed "1i .format $2" | "$sfi" build >"$room/$1.$2"
 }
@@ -51,7 +43,7 @@ if ! printf '.format words\n.sandbox 256\nebreak\n' | "$sfi" build >"$room/words
 fi
 for format in $formats; do
     for program in $(cut -d' ' -f1 expected.txt | uniq); do
-        text=$(text_of "$program" "$format")
+        text=$(source_of_c "$program" "$format")
         if [ -z "$text" ]; then
             skip "$(grep -c "^$program " expected.txt)" "$program, format $format" "riscv64-unknown-elf-gcc or make isn't there"
             continue

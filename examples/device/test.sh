@@ -64,13 +64,13 @@ compare_programs() { # format
     while read -r program input _; do
         [ "$program" = "$last" ] && [ -z "$all" ] && continue
         last=$program
-        build "$(source_of_c "$program")" "$1" >"$room/image.hex"
+        build "$(source_of_c "$program" "$1")" "$1" >"$room/image.hex"
         compare "$program on $input, format $1" "$room/image.hex" \
             "$(digits_of "../c/inputs/$input")" steps
     done < <(tac ../c/expected.txt)
 }
 
-for format in 1 2; do
+for format in 1 2 words; do
     compare_examples "$format"
     compare_programs "$format"
 done
@@ -177,6 +177,7 @@ compare_accesses() { # data size, format, base register
 for size in 256 2048 4096 ${all:+512 1024 65536}; do
     compare_accesses "$size" 1 a0
     compare_accesses "$size" 2 sp # without masks, and in 16 bits where the offset allows that
+    compare_accesses "$size" words gp
 done
 
 # ---- Images that no build makes: other addresses, and 16-bit accesses on a masked register

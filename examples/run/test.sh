@@ -106,7 +106,7 @@ beside_run() { # what is tried, the image's name, the input, and the lengths: ro
 
 examples_beside_run() {
     local source format name input
-    for format in 1 2; do
+    for format in 1 2 words; do
         for source in "$here"/../*.s "$here"/*.s; do
             name=$(basename "$source" .s)
             image "$source" "$format" "$name" || report "$name is built in format $format" image none
@@ -114,7 +114,7 @@ examples_beside_run() {
         done
         input=$(head -c 3000 "$here/../c/inputs/prose" | digits_of)
         for name in base64 crc32 hash json sort stack; do
-            source=$(source_of_c "$name")
+            source=$(source_of_c "$name" "$format")
             [ -n "$source" ] || { skip 1 "$name.c, format $format" "riscv64-unknown-elf-gcc or make isn't there" && continue; }
             image "$source" "$format" "$name" || report "$name is built in format $format" image none
             beside_run "$name.c, format $format" "$name" "$input" 1:100000 300:7 50:9999 100:1000000
