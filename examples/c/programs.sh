@@ -1,7 +1,7 @@
 #!/usr/bin/env bash
 # Three libraries from GCC's sources as they are, zlib, libdecnumber and libiberty's demangler, each with a program of ours
-# in `programs`: natively, and by sfi-cc with the C library of tools/sfi-library, in both formats where the first has room
-# for the code. The outputs are compared. It takes some minutes, and isn't part of ./test.
+# in `programs`: natively, and by sfi-cc with the C library of tools/sfi-library, in each format, the first where it has
+# room for the code. The outputs are compared. It takes some minutes, and isn't part of ./test.
 #
 #     examples/c/programs.sh LIBRARY [SFI]     # LIBRARY is the folder that tools/sfi-library made
 set -uo pipefail
@@ -83,7 +83,7 @@ for program in zlib decnumber demangle; do
     make_input "$program"
     gcc $(options_of "$program") -o "$room/native" "$program.c" $(files_of "$program") || exit 1
     { "$room/native" <"$room/$program.input" >"$room/output"; echo "exit=$?"; cat "$room/output"; } >"$room/$program.wanted"
-    for format in 2 1; do
+    for format in $(formats_built); do
         try_program "$program" "$format"
     done
 done

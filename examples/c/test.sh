@@ -36,11 +36,8 @@ headers_in_cpp() {
     done
 }
 
-formats="1 2 words"
-if ! printf '.format words\n.sandbox 256\nebreak\n' | "$sfi" build >"$room/words"; then
-    skip 1 "the examples in words" "sfi build doesn't take them yet: $(cat "$room/words")"
-    formats="1 2"
-fi
+formats=$(formats_built)
+[[ $formats = *words* ]] || skip 1 "the examples in words" "sfi build answers $(cat "$room/words")"
 for format in $formats; do
     for program in $(cut -d' ' -f1 expected.txt | uniq); do
         text=$(source_of_c "$program" "$format")

@@ -6,6 +6,7 @@ from instructions import written
 from known import with_known_places
 from liveness import without_unread
 from packing import packed, shortened
+from pairing import with_pairs
 from placement import with_near_branches
 from pointing import with_pointing
 from raising import with_raised_steps
@@ -14,7 +15,7 @@ from stepping import with_steps
 from targeting import with_targets
 from typed import DATA, WORDS, free_addresses, with_plain_jumps
 
-PASSES = ("known", "pointing", "packing", "hoisting", "sharing", "targeting", "stepping")
+PASSES = ("known", "pointing", "packing", "hoisting", "sharing", "targeting", "stepping", "pairing")
 
 
 def improved(code, passes, image_format, layout, names):
@@ -43,4 +44,5 @@ def improved_words(code, passes, names):
         code = with_targets(code)
     if "stepping" in passes:
         code = with_raised_steps(with_steps(code), registers)
-    return [piece if piece.is_mark or written(piece) in DATA else shortened(piece) for piece in code]
+    code = [piece if piece.is_mark or written(piece) in DATA else shortened(piece) for piece in code]
+    return with_pairs(code) if "pairing" in passes else code

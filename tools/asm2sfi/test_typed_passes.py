@@ -6,6 +6,7 @@ from deriving import derived
 from hoisting import FAR, distances, with_hoisted_masks
 from loops import loops_of
 from naming import Names
+from pairing import with_pairs
 from raising import with_raised_steps
 from sharing import with_shared_masks
 from stepping import with_steps
@@ -246,6 +247,22 @@ class Deriving(unittest.TestCase):
         body = code("addi a1,a1,1; add a3,a1,a2; lw a0,0(a3); lw a4,0(a5); lw a3,4(a3); lw a4,8(a3)")
         found = derived(body, 2, 256)
         self.assertEqual((found.accesses, found.temporary(), lines(found.made)), ([2, 4], {"a3"}, ["add a3, a1, a2"]))
+
+
+class Pairing(unittest.TestCase):
+    def test_rows(self):
+        rows = [
+            ("nop; xori a1,a1,1; addi a2,a2,1; xori a3,a3,1", "nop; addi a2,a2,1; xori a1,a1,1; xori a3,a3,1"),
+            ("xori a1,a1,1; nop; xori a3,a3,1; nop; lw a0,4(sp); nop", "xori a1,a1,1; nop; nop; xori a3,a3,1; lw a0,4(sp); nop"),
+            ("nop; xori a1,a1,1; addi a1,a1,1", None),
+            ("nop; sw a1,0(gp); lw a0,4(sp)", None),
+            ("nop; xori a1,a1,1; .a: nop", None),
+            ("nop; addi gp,gp,64; lw a1,0(gp); addi a2,a2,1", "nop; addi a2,a2,1; addi gp,gp,64; lw a1,0(gp)"),
+            ("nop; mv gp,a5; lw a1,0(gp); addi gp,gp,4; lw a2,0(gp)", None),
+            ("nop; " + "xori a1,a1,1; " * 32 + "addi a2,a2,1", None),
+        ]
+        for text, wanted in rows:
+            self.assertEqual(lines(with_pairs(code(text))), lines(code(wanted or text)), text)
 
 
 class Targeting(unittest.TestCase):
