@@ -4,7 +4,7 @@ import os
 import shutil
 import subprocess
 
-from testing import GCC, SFI, SFI_CC, Folder, formats_built, needs, needs_program
+from testing import FORMATS, GCC, SFI, SFI_CC, Folder, needs, needs_program
 
 HELLO = '#include "gates.h"\n\nint main(void) {\n    put("Hi", 2);\n    return 105;\n}\n'
 ASSEMBLY = "\t.text\n\t.globl\tmain\nmain:\n\tli\ta0,7\n\tret\n"
@@ -171,7 +171,7 @@ class Programs(Calls):
 
     def compare(self, *words):
         file = self.write("hello.c", HELLO)
-        for image_format in formats_built():
+        for image_format in FORMATS:
             self.assertEqual(self.runs("--format", image_format, *words, file), ["sandbox=0", "exit=105", "out=4869"])
 
     @needs(GCC)

@@ -1,9 +1,7 @@
 """What the unit tests share: the program and the compilers that they run, and a folder for what a test makes."""
-import functools
 import os
 import pathlib
 import shutil
-import subprocess
 import tempfile
 import unittest
 
@@ -12,18 +10,11 @@ TOP = TOOLS.parent
 SFI = os.environ.get("SFI", str(TOP / "crates" / "sfi" / "out" / "sfi"))
 SFI_CC = str(TOOLS / "sfi-cc")
 GCC = "riscv64-unknown-elf-gcc"
+FORMATS = ("1", "2", "words")
 COMPILERS = [it for it in (GCC, "clang") if shutil.which(it)]
 
 needs_program = unittest.skipUnless(os.access(SFI, os.X_OK), f"{SFI} isn't built")
 needs_a_compiler = unittest.skipUnless(COMPILERS, f"{GCC} and clang aren't there")
-
-
-@functools.lru_cache(maxsize=None)
-def formats_built():
-    """The formats that the program builds: code in words is one where it links that."""
-    text = b".format words\n.sandbox 256\nebreak\n"
-    done = subprocess.run([SFI, "build"], input=text, stdout=subprocess.PIPE, check=False)
-    return ("1", "2") if done.returncode else ("1", "2", "words")
 
 
 def needs(*commands):

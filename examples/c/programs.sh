@@ -83,7 +83,7 @@ for program in zlib decnumber demangle; do
     make_input "$program"
     gcc $(options_of "$program") -o "$room/native" "$program.c" $(files_of "$program") || exit 1
     { "$room/native" <"$room/$program.input" >"$room/output"; echo "exit=$?"; cat "$room/output"; } >"$room/$program.wanted"
-    for format in $(formats_built); do
+    for format in $formats; do
         try_program "$program" "$format"
     done
 done

@@ -36,8 +36,6 @@ headers_in_cpp() {
     done
 }
 
-formats=$(formats_built)
-[[ $formats = *words* ]] || skip 1 "the examples in words" "sfi build answers $(cat "$room/words")"
 for format in $formats; do
     for program in $(cut -d' ' -f1 expected.txt | uniq); do
         text=$(source_of_c "$program" "$format")

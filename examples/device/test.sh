@@ -70,7 +70,7 @@ compare_programs() { # format
     done < <(tac ../c/expected.txt)
 }
 
-for format in 1 2 words; do
+for format in $formats; do
     compare_examples "$format"
     compare_programs "$format"
 done

@@ -12,7 +12,7 @@ try_checker() {
     local number format
     by=(--checker "$room/checker/checker.o")
     turns=(10000)
-    for format in 1 2 words; do
+    for format in $formats; do
         compare_examples "$format"
         compare_programs "$format"
         judge_flips "$format"

@@ -106,7 +106,7 @@ beside_run() { # what is tried, the image's name, the input, and the lengths: ro
 
 examples_beside_run() {
     local source format name input
-    for format in 1 2 words; do
+    for format in $formats; do
         for source in "$here"/../*.s "$here"/*.s; do
             name=$(basename "$source" .s)
             image "$source" "$format" "$name" || report "$name is built in format $format" image none

@@ -19,7 +19,7 @@ from packing import packed
 from placement import spans
 from program import Mark
 from sizes import BUNDLE, MASKED, expansions, number_parts
-from testing import GCC, SFI, TOP, formats_built, needs, needs_program
+from testing import GCC, SFI, TOP, needs, needs_program
 from typed import ADDRESSES, WORDS, is_free_step, is_move, masked_base, with_plain_jumps
 from writing import code_lines
 
@@ -145,8 +145,7 @@ class Images(unittest.TestCase):
     def test_made_examples(self):
         subprocess.run(["make", "-s", "-C", EXAMPLES, "texts"], check=True)
         self.compare_texts(os.path.join(EXAMPLES, "build"))
-        if WORDS in formats_built():
-            self.compare_texts(os.path.join(EXAMPLES, "build", "words"), [WORDS])
+        self.compare_texts(os.path.join(EXAMPLES, "build", "words"), [WORDS])
 
     def test_random_code(self):
         print(f"SEED={SEED}", flush=True)
@@ -157,5 +156,4 @@ class Images(unittest.TestCase):
                 for what, pieces in [("as it is", code), ("packed", packed(code, image_format, Names([])))]:
                     self.compare(source_of(pieces, image_format), image_format,
                                  f"SEED={SEED}, program {number}, format {image_format}, {what}")
-            if WORDS in formats_built():
-                self.compare(source_of(with_plain_jumps(code), WORDS), WORDS, f"SEED={SEED}, program {number}, in words")
+            self.compare(source_of(with_plain_jumps(code), WORDS), WORDS, f"SEED={SEED}, program {number}, in words")

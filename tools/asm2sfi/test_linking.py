@@ -16,7 +16,7 @@ from sections import DataSection
 from sizes import BUNDLE
 from table import Table, entry, runs_of
 from test_asm2sfi import MAIN, lines_after, lines_of, refusals_of, source, start_of
-from testing import COMPILERS, SFI, SFI_CC, Folder, formats_built, needs_a_compiler, needs_program
+from testing import COMPILERS, FORMATS, SFI, SFI_CC, Folder, needs_a_compiler, needs_program
 from typed import WORDS
 from words import CODE, DATA, Word
 
@@ -343,7 +343,7 @@ class Programs(Folder):
 
     def try_program(self, compiler, *options):
         files = [self.write("everything.c", EVERYTHING), self.write("other.c", OTHER)]
-        for packed_for in formats_built():
+        for packed_for in FORMATS:
             words = [SFI_CC, "--cc", compiler, "-c", "--format", packed_for, "-fcommon", *options, *files]
             text = subprocess.run(words, stdout=subprocess.PIPE, check=True, text=True).stdout
             for image_format in (WORDS,) if packed_for == WORDS else ("1", "2"):

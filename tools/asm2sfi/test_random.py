@@ -13,7 +13,7 @@ import subprocess
 
 from conversion import Options, convert
 from random_c import Program
-from testing import GCC, SFI, TOP, Folder, formats_built, needs, needs_program
+from testing import GCC, SFI, TOP, Folder, needs, needs_program
 from typed import OWN, WORDS
 
 HERE = os.path.dirname(os.path.abspath(__file__))
@@ -42,11 +42,8 @@ def native_answer(path, folder):
     return f"exit={done.returncode} out={done.stdout.hex()}"
 
 
-def ways():
-    """The registers that are the sandbox's own, with the formats that have them, as far as the program builds these."""
-    yield BUNDLED, (1, 2)
-    if WORDS in formats_built():
-        yield (*BUNDLED, *OWN.values()), (WORDS,)
+# The registers that are the sandbox's own, with the formats that have them.
+WAYS = [(BUNDLED, (1, 2)), ((*BUNDLED, *OWN.values()), (WORDS,))]
 
 
 def assemblies(path, folder, own):
@@ -82,7 +79,7 @@ class RandomPrograms(Folder):
         for seed in range(SEED, SEED + COUNT):
             path = self.write("random.c", Program(seed).text())
             wanted = native_answer(path, self.folder)
-            for own, formats in ways():
+            for own, formats in WAYS:
                 for way, assembly in assemblies(path, self.folder, own):
                     for image_format in formats:
                         found = sandboxed_answer(assembly, library, image_format)

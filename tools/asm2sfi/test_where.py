@@ -13,7 +13,7 @@ import unittest
 from assembly import Place
 from conversion import Options, convert, converted
 from lines import source_lines
-from testing import GCC, SFI, SFI_CC, TOP, formats_built, needs, needs_program
+from testing import FORMATS, GCC, SFI, SFI_CC, TOP, needs, needs_program
 from where import Image
 
 HERE = os.path.dirname(os.path.abspath(__file__))
@@ -191,7 +191,7 @@ class Listing(unittest.TestCase):
             self.assertRegex(line, rf"^{address}: .*: {word} \w+, {offset}\(")
 
     def test_json(self):
-        for image_format in formats_built():
+        for image_format in FORMATS:
             self.compare(image_format)
 
 
@@ -242,7 +242,7 @@ class Traps(unittest.TestCase):
                 self.assertRegex(told[1], r"in the guard zone, .* the stack has likely overflowed", f"{way}")
 
     def follow_all(self, compiler):
-        self.follow(compiler, BAD, "at[-5]", r"sw a1, -20\((a0|gp)\)$", ["-O1", "-O2"], formats_built())
+        self.follow(compiler, BAD, "at[-5]", r"sw a1, -20\((a0|gp)\)$", ["-O1", "-O2"], FORMATS)
         full = r"sw \w+, \d+\(sp\); .* the stack has likely overflowed"
         self.follow(compiler, DEEP, "makes the frame", full, ["-O0", "-O2"])
 
