@@ -98,20 +98,21 @@ class Hoister:
 
     def hoisted(self):
         done = set()
-        while self.improves_one(done):
+        while self.improves(done):
             pass
         return self.code.pieces
 
-    def improves_one(self, done):
-        """Looks at the loops that aren't done, up to one that changes; whether one did."""
+    def improves(self, done):
+        """Changes loops that aren't done, as far as they have nothing to do with each other; whether one changed."""
+        placing, has_changed = Placing(self.code, self.names), False
         for loop in loops_of(self.code.pieces, self.outer):
             plan = None if loop.name() in done else self.plan(loop)
-            code = Placing(self.code, loop, self.names).placed(plan) if plan else None
-            if code:
-                self.code = code
-                return True
-            done.add(loop.name())
-        return False
+            if plan is None:
+                done.add(loop.name())
+            elif placing.place(loop, plan):
+                has_changed = True
+        self.code = placing.placed() if has_changed else self.code
+        return has_changed
 
     def plan(self, loop):
         """What gains most, or None."""

@@ -42,63 +42,85 @@ class Code:
 
 
 class Placing:
-    """Puts a loop in its place."""
+    """Puts loops in their places that have nothing to do with each other."""
 
-    def __init__(self, code, loop, names):
-        self.code, self.loop, self.names = code, loop, names
-        self.pieces = list(code.pieces)
+    def __init__(self, code, names):
+        self.code, self.names = code, names
+        self.pieces, self.changed = list(code.pieces), set()  # the numbers of those that may have changed
         self.before, self.after = {}, {}  # what is put before and after some pieces, by number
-        self.apart = []  # what is reached by jumps alone, with what is alive there
+        self.apart = {}  # what control reaches by jumps alone, with what is alive there, by the number that it's put before
 
-    def placed(self, plan):
-        """The code with what the plan makes of the loop; None if ways to it or out of it have no place."""
+    def place(self, loop, plan):
+        """Puts what a plan makes of a loop in its place, unless a way to it or out of it has none, or has changed; whether
+        it did."""
+        apart, jumps = self.code.place_apart(loop), self.jumps_to(loop)
+        moves = {exit: self.moves(plan.back, loop, *exit) for exit in loop.exits()}
+        has_places = apart is not None or not self.is_entered_apart(loop, jumps) and not any(
+            found for (_, target), found in moves.items() if target is not None)
+        if not has_places or not self.changed.isdisjoint([*loop.numbers, *jumps]):
+            return False
+        self.changed.update(loop.numbers, jumps)
         for index, pieces in plan.changes.items():
-            number = self.loop.numbers[index]
+            number = loop.numbers[index]
             self.pieces[number], *self.after[number] = pieces
-        for index, target in self.loop.exits():
-            self.lead_out(plan.back, index, target)
-        self.lead_in(plan.before)
-        place = self.code.place_apart(self.loop)
-        return None if self.apart and place is None else self.joined(place)
+        for (index, target), found in moves.items():
+            self.lead_out(loop, index, target, found, apart)
+        self.lead_in(loop, jumps, plan.before, apart)
+        return True
 
-    def lead_out(self, back, index, target):
-        """Sets the registers back that may be read where the loop is left."""
-        number, alive = self.loop.numbers[index], self.code.alive_out(self.loop, index, target)
-        moves = [Op("mv", pair, None) for pair in back if alive & bits((pair[0],))]
+    def moves(self, back, loop, index, target):
+        """What sets the registers back that may be read where a loop is left."""
+        alive = self.code.alive_out(loop, index, target)
+        return [Op("mv", pair, None) for pair in back if alive & bits((pair[0],))]
+
+    def lead_out(self, loop, index, target, moves, apart):
+        """Puts these where the loop is left."""
+        number = loop.numbers[index]
         if target is None:
             self.after[number] = [*self.after.get(number, []), *moves]
         elif moves:
             way = self.names.fresh("leave..1")
-            self.set_apart([Mark(way, True), *moves, Op("j", (target,), self.pieces[number].place)], alive)
+            pieces = [Mark(way, True), *moves, Op("j", (target,), self.pieces[number].place)]
+            self.set_apart(apart, pieces, self.code.alive_at(target))
             self.pieces[number] = going_to(self.pieces[number], way)
 
-    def lead_in(self, before):
+    def lead_in(self, loop, jumps, before, apart):
         """Puts what goes before the loop on each way to it from elsewhere."""
-        loop, name = self.loop, self.loop.name()
-        head, inside = loop.numbers[loop.head], set(loop.numbers)
-        jumps = [number for number, piece in enumerate(self.pieces)
-                 if number not in inside and is_goto(piece) and piece.operands[-1] == name]
-        follows_itself = head - 1 in inside and goes_on(self.pieces[head - 1])
-        if follows_itself and len(jumps) == 1 and is_jump(self.pieces[jumps[0]]):
+        head, is_apart = loop.numbers[loop.head], self.is_entered_apart(loop, jumps)
+        if self.follows_itself(loop) and not is_apart:
             self.before[jumps[0]] = before
             return
         start = self.names.fresh("enter..1")
         for number in jumps:
             self.pieces[number] = going_to(self.pieces[number], start)
-        if follows_itself:
-            self.set_apart([Mark(start, True), *before, Op("j", (name,), None)], self.code.alive[head])
+        if is_apart:
+            self.set_apart(apart, [Mark(start, True), *before, Op("j", (loop.name(),), None)], self.code.alive[head])
         else:
             self.before[head] = [Mark(start, True)] * bool(jumps) + before
 
-    def set_apart(self, pieces, alive):
-        self.apart += [(piece, alive) for piece in pieces]
+    def jumps_to(self, loop):
+        """The numbers of the pieces elsewhere that go to a loop's head."""
+        inside = set(loop.numbers)
+        return [number for number, piece in enumerate(self.code.pieces)
+                if is_goto(piece) and piece.operands[-1] == loop.name() and number not in inside]
 
-    def joined(self, place):
+    def follows_itself(self, loop):
+        """Whether control goes on to a loop's head from the loop."""
+        before = loop.numbers[loop.head] - 1
+        return before in loop.numbers and goes_on(self.code.pieces[before])
+
+    def is_entered_apart(self, loop, jumps):
+        """Whether what goes before a loop can stand neither directly before its head nor before the only jump there."""
+        return self.follows_itself(loop) and not (len(jumps) == 1 and is_jump(self.code.pieces[jumps[0]]))
+
+    def set_apart(self, place, pieces, alive):
+        self.apart.setdefault(place, []).extend((piece, alive) for piece in pieces)
+
+    def placed(self):
+        """The code with these loops."""
         lines = []
         for number, piece in enumerate(self.pieces):
-            lines += self.apart if number == place else []
-            alive = self.code.alive[number]
-            lines += [(other, alive) for other in [*self.before.get(number, []), piece]]
+            lines += self.apart.get(number, [])
+            lines += [(other, self.code.alive[number]) for other in [*self.before.get(number, []), piece]]
             lines += [(other, self.code.alive_after(number)) for other in self.after.get(number, [])]
-        lines += self.apart if place == len(self.pieces) else []
-        return Code(*map(list, zip(*lines)))
+        return Code(*map(list, zip(*lines, *self.apart.get(len(self.pieces), []))))

@@ -3,11 +3,25 @@
 A step `addi d, d, k` directly before an access on d that is in reach needs no masks. Where each way to a step comes from
 such an access, and each way from there leads to such a step or to where d isn't read again, the step goes before the access.
 What stands between reads d after it's k more: the offsets of accesses and sums change by k."""
+from dataclasses import dataclass
+
 from control import predecessors, successors
 from dependences import reads, writes
 from functions import functions
 from stepping import costly_steps, less
 from typed import has_only_base, is_free_step, may_follow_step, step_of
+
+
+@dataclass
+class Raised:
+    """Steps of a register that are raised: what each piece becomes that changes, by its number, and the numbers of all pieces
+    on the ways up."""
+    name: str
+    changes: dict
+    ways: set
+
+    def is_apart(self, other):
+        return self.name != other.name or not self.ways & other.ways
 
 
 class Ways:
@@ -20,8 +34,7 @@ class Ways:
         self.before = predecessors(self.following)
 
     def raised(self, number):
-        """What each piece becomes that changes where a step is raised, with others like it on other ways, by its number; None
-        if it can't be raised."""
+        """A step as it is raised, with others like it on other ways; None if it can't be."""
         step = self.code[number]
         name, count = step.operands[0], step_of(step, step.operands[0])
         found = self.way_up({number}, name, count)
@@ -33,7 +46,7 @@ class Ways:
         if None in changes.values() or not all(self.may_take_step(place, changes[place], name) for place in accesses):
             return None
         changed = {place: [step] * (place in accesses) + [piece] for place, piece in changes.items()}
-        return {**dict.fromkeys(steps, ()), **changed}
+        return Raised(name, {**dict.fromkeys(steps, ()), **changed}, steps | accesses | between)
 
     def way_up(self, steps, name, count):
         """Some steps and others like them to which the same ways lead, the accesses from which they come, and what stands
@@ -101,24 +114,28 @@ class Ways:
         return may_follow_step(piece, name) and not (earlier and is_free_step(earlier, self.code[place]))
 
 
-def with_changes(code, changes):
-    return [piece for number, old in enumerate(code) for piece in changes.get(number, [old])]
+def raised_apart(code, ways, registers, stay):
+    """Steps of some registers as they are raised, of which none changes the ways of another. Those that can't be are added to
+    the steps that stay, by identity."""
+    found = []
+    for number in costly_steps(code):
+        step = code[number]
+        if step.operands[0] in registers and id(step) not in stay:
+            raised = ways.raised(number)
+            if raised is None:
+                stay.add(id(step))
+            elif all(raised.is_apart(other) for other in found):
+                found.append(raised)
+    return found
 
 
 def raised_in(function, registers):
     """The code of a function with the steps of some registers raised, as far as that is possible."""
-    code, stay = function.code, set()  # the steps that stay, by identity
-    while True:
-        ways = Ways(code, successors(code), function.entries(code))
-        for number in costly_steps(code):
-            step = code[number]
-            changes = ways.raised(number) if step.operands[0] in registers and id(step) not in stay else None
-            if changes:
-                code = with_changes(code, changes)
-                break
-            stay.add(id(step))
-        else:
-            return code
+    code, stay = function.code, set()
+    while found := raised_apart(code, Ways(code, successors(code), function.entries(code)), registers, stay):
+        changes = {number: pieces for raised in found for number, pieces in raised.changes.items()}
+        code = [piece for number, old in enumerate(code) for piece in changes.get(number, [old])]
+    return code
 
 
 def with_raised_steps(code, registers):
