@@ -290,7 +290,7 @@ CANNOT_PASS = {
     "cdivchkld": "newlib has no mathematical functions of long double",
 }
 WANT_LIBRARY = set("""20210505-1 920501-8 930513-1 980709-1 990826-0 fprintf-1 fprintf-chk-1 gofast pr56982 vfprintf-1
-                      fp-cmp-1 fp-cmp-2 fp-cmp-3""".split())  # FILE, floating point in printf, or more headers
+                      fp-cmp-1 fp-cmp-2 fp-cmp-3 struct-ret-1""".split())  # FILE, floating point in printf, or more headers
 WANT_BUILTINS = set("20020314-1 20020720-1 20021113-1 20030125-1 20040223-1 941202-1 pr22061-1".split())
 
 
