@@ -41,6 +41,7 @@ QEMU = "qemu-riscv32"
 TESTS = "gcc/testsuite/gcc.c-torture/execute"
 COMPILERS = {"gcc": GCC, "clang": "clang"}
 LEVELS = ("-O0", "-O1", "-O2", "-O3", "-Os")
+FORMATS = (1, 2, WORDS)
 PACKAGES = {GCC: "gcc-riscv64-unknown-elf", "clang": "clang", "llc": "llvm", QEMU: "qemu-user"}
 SAMPLE, SEED = 120, 1
 STACKS = (540000, 65536)  # the second where the data leave no room for the first
@@ -225,12 +226,12 @@ def parsed(words):
     parser.add_argument("--ieee", action="store_true", help="the tests of the folder ieee, all in each way")
     parser.add_argument("--compiler", action="append", choices=COMPILERS, help="gcc and clang if absent")
     parser.add_argument("--level", action="append", choices=LEVELS, help="such as --level=-O2; all if absent")
-    parser.add_argument("--format", action="append", type=format_of, choices=(1, 2, WORDS), help="1 and 2 if absent")
+    parser.add_argument("--format", action="append", type=format_of, choices=FORMATS, help="all if absent")
     parser.add_argument("--library", metavar="FOLDER", help="a C library of tools/sfi-library in place of the small one")
     parser.add_argument("--jobs", type=int, default=2, help="how many run side by side; 2 if absent")
     parser.add_argument("--program", default=os.path.join(TOP, "sfi"), help="the program sfi; ./sfi at the top if absent")
     options = parser.parse_args(words)
-    options.level, options.format = options.level or LEVELS, options.format or (1, 2)
+    options.level, options.format = options.level or LEVELS, options.format or FORMATS
     options.asked = options.compiler
     options.compiler = options.compiler or [name for name in COMPILERS if shutil.which(name) or name == "gcc"]
     return options
