@@ -45,13 +45,14 @@ def built(program, text):
 
 
 def example_images(program):
-    """The examples' images, those of the C programs too, where they can be made; each source in both formats."""
+    """The examples' images, those of the C programs too, where they can be made; each source in both formats of bundles."""
     if shutil.which("make"):
         subprocess.run(["make", "-s", "-C", os.path.join(EXAMPLES, "c"), "texts"], check=False)
     made = [bytes.fromhex(measure.contents(path).decode()) for path in glob.glob(os.path.join(EXAMPLES, "*.hex"))]
     for path in sorted(glob.glob(os.path.join(EXAMPLES, "**", "*.s"), recursive=True)):
         text = measure.contents(path).replace(b".format 2\n", b"")
-        made += built(program, text) + built(program, b".format 2\n" + text)
+        if b".format words\n" not in text:
+            made += built(program, text) + built(program, b".format 2\n" + text)
     return made
 
 
