@@ -53,6 +53,10 @@ source_of_c() { # a program, a format; nothing where it would take a compiler th
 
 formats="1 2 words"
 
+in_format() { # a source text's file, a format; the text in that format
+    grep -v '^\.format' "$1" | sed "1i .format $2"
+}
+
 needs() { # what needs it, a command, the Debian package that has it
     has "$2" || skip 1 "$1" "$2 isn't there (Debian's package $3)"
 }

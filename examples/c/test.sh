@@ -13,7 +13,7 @@ source ../harness.sh
 source ./std.sh
 
 make_image() { # program, format, source text
-    grep -v '^\.format' "$3" | sed "1i .format $2" | "$sfi" build >"$room/$1.$2"
+    in_format "$3" "$2" | "$sfi" build >"$room/$1.$2"
 }
 
 check_image() { # program, format

@@ -20,7 +20,7 @@ make -s || { report "make" "the loader" "none" && finish; }
 # ---- Lines beside those of `sfi run`
 
 build() { # a source, a format; the image on one line
-    grep -v '^\.format' "$1" | sed "1i .format $2" | "$SFI" build
+    in_format "$1" "$2" | "$SFI" build
 }
 
 # Turns of 10 ms are longer than most runs, those of 10 us some 10000 instructions: the clock of

@@ -89,7 +89,7 @@ languages() { # an example: the languages that have a host of it
 
 # ---- the console, beside `sfi run`
 image() { # a source, a format, a name: the image as text and as bytes
-    grep -v '^\.format' "$1" | sed "1i .format $2" | "$SFI" build >"$room/$3.hex" && xxd -r -p "$room/$3.hex" >"$room/$3.image"
+    in_format "$1" "$2" | "$SFI" build >"$room/$3.hex" && xxd -r -p "$room/$3.hex" >"$room/$3.image"
 }
 
 beside_run() { # what is tried, the image's name, the input, and the lengths: rounds:quantum

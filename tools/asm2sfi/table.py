@@ -53,38 +53,26 @@ srli t2, t2, 27
 slli t2, t2, 2"""
 TO_CODE = """
 blt s1, zero, {code}"""
-DATA_WORDS = """
-{word}:
+
+
+def each_word(label, change):
+    """The loop from a label over the words of a table's entry, in a5 one by one: what it does with each of them is `change`."""
+    return f"""
+{{{label}}}:
 lw a5, 0(a4)
-add a5, a5, t0
+{change}
 sw a5, 0(a4)
 add a4, a4, t2
 addi a3, a3, -1
-bnez a3, {word}
-j {entry}"""
-CODE_WORDS = """
-{code}:
-lw a5, 0(a4)
-srl a5, a5, t1
-slli a5, a5, 16
-srai a5, a5, 12
-add a5, a5, a2
-sw a5, 0(a4)
-add a4, a4, t2
-addi a3, a3, -1
-bnez a3, {code}
-j {entry}"""
+bnez a3, {{{label}}}
+j {{entry}}"""
+
+
+DATA_WORDS = each_word("word", "add a5, a5, t0")
+CODE_WORDS = each_word("code", "srl a5, a5, t1\nslli a5, a5, 16\nsrai a5, a5, 12\nadd a5, a5, a2")
 CODE_BASE_OF_WORDS = """
 la a2, {first}"""
-CODE_WORDS_OF_WORDS = """
-{code}:
-lw a5, 0(a4)
-add a5, a5, a2
-sw a5, 0(a4)
-add a4, a4, t2
-addi a3, a3, -1
-bnez a3, {code}
-j {entry}"""
+CODE_WORDS_OF_WORDS = each_word("code", "add a5, a5, a2")
 END = """
 {end}:"""
 SECOND_PART = """

@@ -30,7 +30,7 @@ build() { # a source, a format; the image of its sandboxes, which are as many as
     local count
     count=$(grep -c '^\.sandbox' "$1")
     # shellcheck disable=SC2046 # words
-    grep -v '^\.format' "$1" | sed "1i .format $2" | "$SFI" build $(at $(seq 0 $((count - 1))))
+    in_format "$1" "$2" | "$SFI" build $(at $(seq 0 $((count - 1))))
 }
 
 compare() { # what is tried; its input. The image is $room/image.hex
