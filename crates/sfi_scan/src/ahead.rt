@@ -34,7 +34,7 @@ fn none_ahead() -> Ahead
     }
 }
 
-/// Those that these bytes are read as, the last of a bundle.
+/// The two that a bundle's last bytes begin with.
 pub(crate) fn read_ahead(bytes: &[u8]) -> Ahead
     ensures { (later : List Piece) → IsLongestReading bytes.now later → result ≡ ahead later }
 {

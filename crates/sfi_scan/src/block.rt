@@ -42,10 +42,10 @@ pub(crate) fn without(mask: u64, other: u64) -> u64
     mask & !other
 }
 
-/// Where instructions begin, where these are the halfwords that begin one of 32 bits if they begin
-/// one: of such halfwords side by side every second one is a second half. The carries of one
-/// addition find them (Langdale and Lemire, "Parsing Gigabytes of JSON per Second", 2019). Nothing
-/// rests on this: [`are_starts`] sees whether it is right.
+/// Guesses where instructions begin. A halfword of `long` begins 32 bits if it begins any; in a run
+/// of these, alternate halfwords are second halves. The carries of one addition find them (Langdale
+/// and Lemire, "Parsing Gigabytes of JSON per Second", 2019). Nothing rests on this: [`are_starts`]
+/// sees whether it is right.
 #[inline(always)]
 fn starts_of(long: u64) -> u64 {
     let follows = long << 1;
@@ -79,7 +79,7 @@ fn three_words(words: u64) -> u64
     words & words >> 2 & words >> 4 & FIRST_THREE
 }
 
-/// The bundle of the block of that number.
+/// The place of the block's bundle so numbered.
 #[inline(always)]
 pub(crate) fn bundle_at(place: &BundlePlace, bundle: usize) -> BundlePlace
     requires within { IsWithinBlock place.now }
@@ -103,7 +103,7 @@ fn half_of(block: &[u8; BLOCK_BYTES], i: usize) -> u16
     half_at(block, 2 * i)
 }
 
-/// The word that begins with it.
+/// The word that begins with halfword `i`.
 #[inline(always)]
 fn word_of(block: &[u8; BLOCK_BYTES], i: usize) -> u32
     requires place { i < 64 }
@@ -251,7 +251,8 @@ fn is_written(block: &[u8; BLOCK_BYTES], words: u64, i: usize) -> bool
     is_stack_write(word_of(block, i))
 }
 
-/// Those of these places at which the stack pointer is written and put back, and those of its pairs.
+/// Those of these places that write the stack pointer and put it back, with both words of each
+/// pair.
 #[inline(always)]
 fn stack_writes(stack: bool, block: &[u8; BLOCK_BYTES], words: u64, places: u64) -> u64
     ensures stack { (i : ℕ) → is_in result i ≡ true → stack ≡ true }
@@ -273,7 +274,7 @@ fn stack_writes(stack: bool, block: &[u8; BLOCK_BYTES], words: u64, places: u64)
     written
 }
 
-/// The starts at which a rule isn't seen to be kept: some in each bundle that isn't seen clean.
+/// A mask with bits in each bundle that isn't seen clean: at its doubtful starts, or everywhere.
 #[inline(always)]
 fn unclean(place: &BundlePlace, stack: bool, block: &[u8; BLOCK_BYTES]) -> u64
     requires within { IsWithinBlock place.now }

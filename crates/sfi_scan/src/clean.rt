@@ -26,8 +26,8 @@ use sfi_pairs::is_reserved;
 use sfi_policy::BUNDLE_BYTES;
 use sfi_rules::BundlePlace;
 
-/// The words of the two instructions directly before a place in its bundle. 0 stands for a 16-bit
-/// form, and where there is none: neither is one of a pair.
+/// The words of the two instructions directly before a place in its bundle. Both are 0, which no
+/// pair has, unless both are 32-bit instructions.
 #[derive(Clone, Copy)]
 pub(crate) struct Words {
     pub(crate) first: u32,
@@ -58,8 +58,7 @@ pub(crate) fn word_at(bytes: &[u8], at: usize) -> u32
     u32::from_le_bytes(*word)
 }
 
-/// The words before a place, where the instructions that end there have 32 bits each from another
-/// place on.
+/// The two words before `at`, if all instructions between `from` and `at` have 32 bits.
 #[inline(always)]
 fn words_before(bytes: &[u8; BUNDLE_BYTES], at: usize, from: usize) -> Words
     requires order { from ≤ at }
@@ -266,8 +265,7 @@ fn is_clean_word(
     }
 }
 
-/// Whether the word is an instruction that computes into the stack pointer, or loads into it from
-/// near it.
+/// Whether the word is an instruction that computes into the stack pointer, or loads into it by it.
 pub(crate) fn is_stack_write(word: u32) -> bool
     ensures { OnTrue result (IsStackWrite word) }
 {
@@ -345,7 +343,8 @@ fn looks_clean(place: &BundlePlace, stack: bool, bytes: &[u8; BUNDLE_BYTES]) -> 
     true
 }
 
-/// The same. What it has to say of the first format is as quick as if there were no second.
+/// Whether the bundle is seen clean: `looks_clean`, compiled once per kind of format, so that the
+/// first pays nothing for the second.
 pub(crate) fn is_seen_clean(place: &BundlePlace, bytes: &[u8; BUNDLE_BYTES]) -> bool
     requires { IsWithin place.now }
     ensures { OnTrue result (AreReadingFindings place.now bytes.now []) }

@@ -24,7 +24,7 @@ pub const IN_BLOCKS: bool = true;
 /// Bundle by bundle: less machine code, a fifth of it where there are no vectors.
 pub const BUNDLE_BY_BUNDLE: bool = false;
 
-/// The place of the bundle that so many bytes of the stretch lie before.
+/// The place of the stretch's bundle that `before` bytes precede.
 #[inline(always)]
 pub(crate) fn place_after(place: &BundlePlace, before: usize) -> BundlePlace
     requires { place.now.address + before < 2 ^ 32 }
@@ -104,8 +104,8 @@ pub(crate) fn is_before_last(place: &BundlePlace) -> bool
     place.code_size - (place.address - place.code_base) >= BLOCK_BYTES as u32 + BUNDLE_SIZE
 }
 
-/// Scans the front of a stretch, and says how many bytes: a block, if the code is scanned in blocks, its
-/// bundles are plain and their bytes are there, and else the first bundle.
+/// Scans a block at the stretch's front, if scanning in blocks and its eight bundles are there and
+/// plain, else the first bundle; says how many bytes that was.
 #[inline(always)]
 fn scan_front<F: FindingSink, const BLOCKS: bool>(
     place: &BundlePlace,
@@ -129,7 +129,8 @@ fn scan_front<F: FindingSink, const BLOCKS: bool>(
     BUNDLE_BYTES
 }
 
-/// Scans a stretch of bundles, of which the first lies at that place, and hands the findings of each to the sink, in order.
+/// Scans a stretch of bundles, of which the first lies at `place`, and hands the findings of each
+/// to the sink, in order.
 pub fn scan_code<F: FindingSink, const BLOCKS: bool>(place: &BundlePlace, code: &[u8], sink: &mut F)
     requires { (n : ℕ) × IsStretch place.now code.now n }
     ensures { (n : ℕ) → IsStretch place.now code.now n → IsScanned F.takes place.now code.now n sink.old sink.new }
@@ -141,9 +142,8 @@ pub fn scan_code<F: FindingSink, const BLOCKS: bool>(place: &BundlePlace, code: 
     }
 }
 
-/// Scans a stretch of code of any format, before which this is owed: bundles, of which the first lies at
-/// that place, or words. Hands the findings to the sink, in order, and answers what is owed after it: in
-/// bundles nothing.
+/// Scans a stretch of code of any format at `place`, before which `owed` is owed. Hands the
+/// findings to the sink, in order, and answers what is owed after it: in bundles nothing.
 pub fn scan_stretch<F: FindingSink, const BLOCKS: bool>(
     place: &BundlePlace,
     code: &[u8],

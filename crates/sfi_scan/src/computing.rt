@@ -7,7 +7,7 @@ ghost use Rattle.sfi_scan.specs.private.FirstLook.{IsFreeHalf};
 
 use crate::rules::STACK;
 
-/// By bits 15:9 of a halfword and its bits 1:0: a mask. A halfword with any of these bits set is a
+/// Masks, by a halfword's bits 15:9 and 1:0. A halfword that shares a set bit with its mask is a
 /// form that computes into a register that isn't reserved. Beside each line stand bits 15:11; its
 /// 16 entries go by bits 10:9, and then by bits 1:0.
 const COMPUTING: [u16; 512] = [
@@ -46,7 +46,7 @@ const COMPUTING: [u16; 512] = [
 ];
 
 /// Whether the halfword is seen to compute into a register that is neither reserved nor a stack
-/// pointer. What has 2 in its bits 11:7 isn't seen where x2 is one.
+/// pointer. Where x2 is one, 2 in bits 11:7 isn't seen.
 #[inline(always)]
 pub(crate) fn is_free_half(stack: bool, halfword: u16) -> bool
     ensures { (b : BundlePlace) → stack ≡ has_stack b.format →

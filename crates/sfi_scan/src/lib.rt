@@ -1,6 +1,6 @@
 //! The scan: the places of an image where the rules of `sfi_rules` are broken.
 //!
-//! Code is read in bundles, aligned blocks of 16 bytes (Yee and others, 2009, "Native Client"). An
+//! Code is read in bundles, 16 aligned bytes each (Yee and others, 2009, "Native Client"). An
 //! access and an indirect jump stand after a masked pair in the same bundle (Wahbe and others,
 //! 1993, "Efficient Software-Based Fault Isolation"). In the second format an access on the stack
 //! pointer x2 needs no pair; instead a write to x2 is of such a pair, or has one directly after it,

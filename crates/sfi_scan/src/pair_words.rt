@@ -15,7 +15,7 @@ const OPERAND: u32 = 0b11111 << 15;
 /// The operation of both words, on two registers.
 const OP: u32 = 0b011_0011;
 
-// `and target, x0, x27`. No word has all bits without its operand.
+// `and target, x0, x27`. `none`: no word with its operand bits cleared.
 macro_rules! masking {
     (none) => {
         u32::MAX
@@ -41,12 +41,12 @@ macro_rules! by_register {
     };
 }
 
-/// A pair's first word but for its operand, by the register; none of x0 and the reserved ones.
+/// A data pair's first word without its operand, by the register; none of x0 and the reserved ones.
 const MASKING: [u32; 32] = by_register!(
     masking, none 1 2 3 4 5 6 7 8 9 10 11 12 13 14 15 16 17 18 19 20 21 22 23
     none none none none 28 29 30 31
 );
-/// Its second word.
+/// A data pair's second word, by the register.
 const PLACING: [u32; 32] = by_register!(
     placing, none 1 2 3 4 5 6 7 8 9 10 11 12 13 14 15 16 17 18 19 20 21 22 23
     none none none none 28 29 30 31

@@ -50,7 +50,7 @@ pub fn scan_part_as(
     found.into_result()
 }
 
-/// The same for an image of the first format.
+/// Scans as `scan_part_as` does, for an image of the first format.
 pub fn scan_part(
     alloc: Global,
     sandbox: u32,

@@ -13,10 +13,10 @@ pub trait FindingSink {
     fn put(&mut self, found: &BundleFindings)
         ensures { takes self.old found.now self.new };
 
-    // It is as if it took none before the first.
+    // Taking no finding leaves it unchanged.
     ghost none: { (s : Self) → takes s [] s };
 
-    // What it took first and what it took then are what it took.
+    // Taking one list and then another is taking both joined.
     ghost more: { (s t u : Self) (xs ys : List Finding) → takes s xs t → takes t ys u
         → takes s (xs ++ ys) u };
 }

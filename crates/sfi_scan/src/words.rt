@@ -205,8 +205,8 @@ fn look_at_front<const BLOCKS: bool>(
     }
 }
 
-/// Scans the front of a stretch, and answers how many bytes, and what is owed after them: a block that is
-/// seen to break no rule, and else the first bundle.
+/// Scans a block at the stretch's front, if it is seen to break no rule, else the first bundle;
+/// says how many bytes that was, and what is owed after them.
 #[inline(always)]
 fn scan_front<F: FindingSink, const BLOCKS: bool>(
     place: &BundlePlace,

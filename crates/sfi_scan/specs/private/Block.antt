@@ -38,7 +38,7 @@ IsWithout a b rest = (i : ℕ) → i < 64 → is_in rest i ≡ (is_in a i && not
 abbrev pub offset : ℕ → ℕ
 offset i = 2 * (i % 8)
 
--- from where to there the bundle's bytes are known to be words
+-- from which byte to `at` the bundle's bytes are known to be words
 abbrev pub words_from : ℕ → ℕ → ℕ → ℕ
 words_from after i at = cond (is_in after i) (at - 8) at
 
@@ -47,8 +47,8 @@ abbrev pub IsSpelledAt : Bool → List ℕ → ℕ → Instr → Type 0
 IsSpelledAt true bytes at i = IsWordOf (word_at bytes at) i
 IsSpelledAt false bytes at i = IsShortSpelling (half_at bytes at) i
 
--- halfword i stands at this place of this bundle, and an instruction that breaks no rule there
--- begins with it
+-- at this place of this bundle an instruction begins that breaks no rule there; i indexes `after`
+-- alone
 abbrev pub IsCleanIn : BundlePlace → List ℕ → Bool → ℕ → ℕ → ℕ → ℕ → Type 0
 IsCleanIn b block wide after i bundle at =
     IsCleanOne (bundle_at b bundle) ((bundle_at b bundle).address + at)

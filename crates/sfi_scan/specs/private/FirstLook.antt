@@ -56,8 +56,7 @@ is_protected b r = is_reserved r || is_stack b.format r
 abbrev pub is_clean_access : BundlePlace → Access → List Instr → Bool
 is_clean_access b a earlier = not (is_protected b a.written) && may_access b a.base earlier
 
--- an instruction that does this at the address breaks none of V3 to V7 and V10,
--- nor does it if it is listed
+-- an instruction that does this at the address breaks none of V3 to V7 and V10, listed or not
 abbrev pub is_clean : BundlePlace → ℕ → List Instr → Outline → Bool
 is_clean b at earlier (Computes rd) = not (is_protected b rd)
 is_clean b at earlier (Loads rd base) = not (is_protected b rd) && may_access b base earlier
@@ -71,8 +70,8 @@ is_clean b at earlier Orders = true
 is_clean b at earlier Calls = false
 is_clean b at earlier Stops = true
 
--- what is spelled is an instruction that breaks none of them where this is so of the two nearest
--- instructions before it
+-- an instruction is spelled that breaks none of them after any two instructions of which `are`
+-- holds
 pub record IsCleanOne (b : BundlePlace) (at : ℕ) (are : Before → Type 0)
     (spell : Instr → Type 0) : Type 0 where
   pub instr : Instr
@@ -86,8 +85,8 @@ pub record IsFreeHalf (b : BundlePlace) (h : ℕ) : Type 0 where
   pub does : IsHalfwordThat h (Computes rd)
   pub free : is_protected b rd ≡ false
 
--- the word is an instruction that writes the stack pointer: it computes into it,
--- or loads into it from near it
+-- the word is an instruction that writes the stack pointer: it computes into it, or loads into it
+-- by it
 pub record IsStackWrite (word : ℕ) : Type 0 where
   pub instr : Instr
   pub spelled : IsWordOf word instr

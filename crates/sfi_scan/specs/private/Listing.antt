@@ -1,4 +1,4 @@
--- Laws of a list that takes findings: it takes none, and takes some one after another.
+-- Lemmas that `FindingList`'s impl cites: it takes no findings, and some findings after others.
 use Rattle.std.proofs.Common.{List, Bool, [], ◌++◌, ap, sym, ◌∙◌, append_assoc}
 use Rattle.std.proofs.lemmas.List.{append-nil}
 use Rattle.sfi_rules.specs.declared.finding.Finding.{Finding}

@@ -21,7 +21,7 @@ use Rattle.sfi_rules.specs.words.Rules.{is_step, uses}
 abbrev pub bytes_at : List ℕ → ℕ → List ℕ
 bytes_at block i = take word_size (drop (2 * i) block)
 
--- it breaks no rule there, where the one is owed before it; the other is owed after it
+-- the word breaks no rule there, with `owed` before it and `next` after it
 abbrev pub IsCleanWord : BundlePlace → List ℕ → ℕ → Owed → Owed → Type 0
 IsCleanWord b block i owed next =
     IsWordFound (bundle_at b (i / 8)) (b.address + 2 * i) owed (bytes_at block i) [] next
@@ -31,22 +31,21 @@ IsCleanWord b block i owed next =
 abbrev pub IsQuietWord : List ℕ → ℕ → Type 0
 IsQuietWord block i = (b : BundlePlace) → IsWithinBlock b → IsCleanWord b block i Nothing Nothing
 
--- wherever the block stands so, the word and the next one break no rule and leave nothing owed, if nothing
--- is owed before them; between them this is owed
+-- wherever the block stands so, the word and the next one break no rule and leave nothing owed, if
+-- nothing is owed before them; `between` is owed between them
 pub record IsSteppedWord (block : List ℕ) (i : ℕ) : Type 0 where
   pub below : i + 2 < 64
   pub between : Owed
   pub step : (b : BundlePlace) → IsWithinBlock b → IsCleanWord b block i Nothing between
   pub used : (b : BundlePlace) → IsWithinBlock b → IsCleanWord b block (i + 2) between Nothing
 
--- so it is of a word that isn't left: it breaks no rule and leaves nothing owed there, if nothing is owed
--- before it, or does with the next one, which isn't left
+-- with nothing owed before it, the word breaks no rule and nothing is owed after it; or this holds
+-- of it with the next word, whose bit in `left` isn't set
 abbrev pub IsSeen : BundlePlace → List ℕ → ℕ → ℕ → Type 0
 IsSeen b block left i =
     IsCleanWord b block i Nothing Nothing ⊎ (IsSteppedWord block i × (is_in left (i + 2) ≡ false))
 
--- the first n words of the block break no rule, where the one is owed before them; the other is owed
--- after them
+-- the first n words of the block break no rule, with `owed` before them and `next` after them
 abbrev pub AreCleanWords : BundlePlace → Owed → List ℕ → ℕ → Owed → Type 0
 AreCleanWords b owed block zero next = next ≡ owed
 AreCleanWords b owed block (suc n) next =
@@ -66,11 +65,12 @@ abbrev pub IsPlacing : ℕ → Type 0
 IsPlacing word = (d : ℕ) × (is_data_register d ≡ true)
     × IsWordOf word (Op Or d offset_register data_base_register)
 
--- the words are a pair of data, or `and x30, a, x25` and `or x30, x30, x24`
+-- the words are `and x30, a, x25` and `or x30, x30, x24`
 abbrev pub IsCodePair : ℕ → ℕ → Type 0
 IsCodePair first second = ((a : ℕ) × IsWordOf first (Op And code_register a code_mask_register))
     × IsWordOf second (Op Or code_register code_register code_base_register)
 
+-- the words are these, or a pair of data
 abbrev pub IsPair : ℕ → ℕ → Type 0
 IsPair first second = (IsMasking first × IsPlacing second) ⊎ IsCodePair first second
 

@@ -37,8 +37,8 @@ is_plain b at Stops = true
 abbrev pub IsBeforeEnd : BundlePlace → ℕ → ℕ → Type 0
 IsBeforeEnd b at size = at + size < b.code_base + b.code_size
 
--- the instruction of so many bytes breaks no rule at the address, before which the first is owed;
--- the other is owed after it
+-- the instruction of `size` bytes breaks no rule at the address, with `owed` before it and `next`
+-- after it
 pub record IsQuiet (b : BundlePlace) (at size : ℕ) (owed : Owed) (instr : Instr) (next : Owed)
     : Type 0 where
   pub none :

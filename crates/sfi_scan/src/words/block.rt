@@ -19,14 +19,16 @@ use sfi_masks::{BLOCK_BYTES, Masks, word_masks_of};
 use sfi_pairs::is_data_register;
 use sfi_rules::{BundlePlace, Owed};
 
-/// `and x31, x0, x27`, and the bits of its first operand.
+/// `and x31, x0, x27`.
 const MASKING: u32 = 0x01b0_7fb3;
 
+/// The bits of a word that name its first operand.
 const OPERAND: u32 = 0b11111 << 15;
 
-/// `or x0, x31, x26`, and the bits of its destination.
+/// `or x0, x31, x26`.
 const PLACING: u32 = 0x01af_e033;
 
+/// The bits of a word that name its destination.
 const DESTINATION: u32 = 0b11111 << 7;
 
 /// `and x30, x0, x25`.
@@ -56,7 +58,7 @@ fn is_masking(word: u32) -> bool
     word & !OPERAND == MASKING
 }
 
-/// Whether it is `or d, x31, x26`, where d is a data register.
+/// Whether the word is `or d, x31, x26`, where d is a data register.
 #[inline(always)]
 fn is_placing(word: u32) -> bool
     ensures { OnTrue result (IsPlacing word) }
@@ -110,7 +112,7 @@ fn is_step_of(d: Reg, word: u32) -> bool
     word & 0xf_ffff == u32::from(d.number()) * 0x8080 + 0x13
 }
 
-/// The twelve bits of its offset, if it is a load or store.
+/// The twelve bits of the word's offset, if it is a load or store.
 #[inline(always)]
 fn offset_bits(word: u32) -> u32
     ensures small { result < 2 ^ 12 }
@@ -124,7 +126,7 @@ fn offset_bits(word: u32) -> u32
     }
 }
 
-/// Whether it is a load or store on d near it.
+/// Whether the word accesses memory on d, at most `SLACK` beside it.
 #[inline(always)]
 fn is_use_of(d: Reg, word: u32) -> bool
     ensures { OnTrue result (IsUseOf d word) }
@@ -153,8 +155,8 @@ fn is_used_step(word: u32, next: u32) -> bool
     is_use_of(d, next)
 }
 
-/// Those of the words that step a data register directly before one of the free words, which uses it and
-/// is none of the others.
+/// Those of the words that step a data register directly before its use, a free word that isn't
+/// among these words.
 #[inline(always)]
 fn used_steps(block: &[u8; BLOCK_BYTES], free: u64, words: u64) -> u64
     requires words { (i : ℕ) → i < 64 → is_in words i ≡ true → i % 2 ≡ 0 }
@@ -209,7 +211,7 @@ fn plain_words(place: &BundlePlace, block: &[u8; BLOCK_BYTES], words: u64) -> u6
     plain
 }
 
-/// The words that aren't seen to break no rule, by themselves or with the next one.
+/// The words that aren't seen to be clean, by themselves or with the next one.
 #[inline(always)]
 fn unseen(place: &BundlePlace, block: &[u8; BLOCK_BYTES]) -> u64
     requires { IsWithinBlock place.now }
@@ -286,7 +288,7 @@ fn next_of(words: u64, at: usize, owed: Owed) -> usize
     }
 }
 
-/// What is owed after the block, where none of these words breaks a rule; the others are seen to.
+/// What is owed after the block, if none of these words breaks a rule; no other word does.
 #[inline(always)]
 fn after_words(
     place: &BundlePlace,

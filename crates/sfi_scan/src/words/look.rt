@@ -1,6 +1,6 @@
 //! A first look at a word of code in words: whether it breaks no rule, and what is owed after it.
-//! It goes by the word's bits, and decodes only a write of a typed register that isn't of a pair, and
-//! what comes after a step, so it is quick. A word of which it tells nothing may still break no rule.
+//! It goes by the word's bits, and decodes only writes of typed registers outside data pairs, and
+//! what follows a step, so it is quick. A word of which it tells nothing may still break no rule.
 ghost use Rattle.std.specs.Prelude.{◌≡◌, ◌+◌, ◌<◌, ◌==◌, ◌&&◌, ◌||◌, not, ℕ, true, IfSome, length, []};
 ghost use Rattle.std.specs.Bool.{OnTrue};
 ghost use Rattle.rv_word.specs.Numbers.{bits};
@@ -85,7 +85,7 @@ fn rd_of(word: u32) -> Reg
     Reg::numbered((word >> 7 & 0b11111) as u8)
 }
 
-/// The register that its bits 19:15 name.
+/// The register that the word's bits 19:15 name.
 #[inline(always)]
 fn rs1_of(word: u32) -> Reg {
     Reg::numbered((word >> 15 & 0b11111) as u8)
@@ -160,8 +160,8 @@ fn is_plain_by(place: &BundlePlace, address: u32, outline: Option<Outline>) -> b
     }
 }
 
-/// Whether the word jumps or branches, breaks no rule, and leaves nothing owed, where nothing is owed
-/// before it. One reading for each opcode, so that what no such word has is never made.
+/// Whether the word jumps or branches, breaks no rule, and leaves nothing owed, where nothing is
+/// owed before it. A call for each opcode, so that the compiler drops outlines that it cannot have.
 #[inline(always)]
 pub(crate) fn is_plain_word(place: &BundlePlace, address: u32, word: u32) -> bool
     requires within { IsWithin place.now }
@@ -274,7 +274,7 @@ fn is_use(place: &BundlePlace, address: u32, d: u8, word: u32) -> bool
     is_plain(place, address, outline_of(instr))
 }
 
-/// What is owed after a word before which this is owed, if not nothing.
+/// What is owed after a word before which `owed`, which isn't nothing, is owed.
 #[inline(never)]
 fn after_owed(place: &BundlePlace, address: u32, owed: Owed, word: u32) -> Option<Owed>
     requires within { IsWithin place.now }

@@ -1,4 +1,4 @@
-//! What is owed to what comes: the state of a scan.
+//! What the next instructions owe: the state of a scan.
 ghost use Rattle.std.specs.Prelude.{◌≡◌};
 ghost use Rattle.rv_word.specs.Writes.{destination};
 ghost use Rattle.sfi_rules.specs.words.Owing.{left, owed_by_data, owed_by_code, owed_by, owed_next, is_of_data, is_of_code};

@@ -1,4 +1,4 @@
-//! The rules, each as a test on an instruction and what comes after it.
+//! The rules, each as a test on an instruction and what is owed before it.
 ghost use Rattle.std.specs.Prelude.{◌≡◌};
 ghost use Rattle.sfi_pairs.specs.Pairs.{is_placing};
 ghost use Rattle.sfi_rules.specs.Bundles.{IsWithin};
