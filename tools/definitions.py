@@ -24,6 +24,7 @@ CRATES = TOP / "crates"
 PROOFS = TOP / "docs" / "PROOFS.md"
 NAME = re.compile(r"[A-Za-z_][A-Za-z_0-9]*")
 IMPORT = re.compile(r"use Rattle\.(\w+)\.specs\.([\w.]+)\.\{([^}]*)\}")
+WHOLE = re.compile(r"use Rattle\.(\w+)\.specs\.([\w.]+) as (\w+)")
 DECLARED = re.compile(r"(?:(?:abbrev|unfoldable|pub) )+(record |data )?(\S+)|(record |data )(\S+)")
 NOT_LISTED = ("private", "mirror", "declared")
 HEAD = """# Definitions
@@ -63,6 +64,12 @@ def imports(text):
     return found
 
 
+def qualified(text, body):
+    """The words that a part of a text cites by the name which the text gives to their whole file: `words.Word`."""
+    files = {name: (crate, file) for crate, file, name in WHOLE.findall(text)}
+    return {(*files[name], word) for name, word in re.findall(r"\b(\w+)\.([A-Za-z_]\w*)", body) if name in files}
+
+
 def declarations(text):
     """The declarations of a file of definitions: of each its kind, its name, its lines, the comment above, and its line's number."""
     found, comment, is_open = [], [], False
@@ -100,7 +107,7 @@ def words_of(crate, file, text):
     known = imports(text)
     for word, body in texts.values():
         used = names_in(body)
-        word.names = {known[name] for name in used & known.keys()}
+        word.names = {known[name] for name in used & known.keys()} | qualified(text, body)
         word.names |= {found[name].key for name in used & found.keys()} - {word.key}
     return found
 
@@ -146,9 +153,9 @@ def cited(words):
             continue
         text = path.read_text(encoding="utf-8")
         known = imports(text)
-        for name in names_in(clauses(text)) & known.keys():
-            if known[name] in words:
-                found.setdefault(words[known[name]].key, str(path.relative_to(CRATES)))
+        named = {known[name] for name in names_in(clauses(text)) & known.keys()} | qualified(text, clauses(text))
+        for name in named & words.keys():
+            found.setdefault(words[name].key, str(path.relative_to(CRATES)))
     return found
 
 
@@ -303,10 +310,14 @@ def compared(path, text):
 
 SPECS = {
     "A": """use Rattle.c.specs.B.{far}
+use Rattle.c.specs.B as whole
 -- how near
 -- it is
 abbrev pub near : ℕ
 near = far + part.x
+-- how wide
+abbrev pub wide : whole.Kind
+wide = whole.One
 -- other
 pub part : ℕ
 part = 1
@@ -346,7 +357,8 @@ def checked_itself():
         "imports": imports(CODE)["close"] == ("c", "A", "near"),
         "clauses": "close" in names_in(clauses(CODE)) and "other" not in names_in(clauses(CODE)),
         "names": words["c", "A", "near"].names == {("c", "B", "far"), ("c", "A", "part")},
-        "comments": words["c", "A", "near"].comment == "how near it is" and words["c", "A", "near"].line == 4,
+        "qualified": words["c", "A", "wide"].names == {("c", "B", "Kind"), ("c", "B", "One")},
+        "comments": words["c", "A", "near"].comment == "how near it is" and words["c", "A", "near"].line == 5,
         "constructors": words["c", "B", "Two"].key == ("c", "B", "Kind"),
         "sources": sources("# note\na B: C: d\n") == {("a", "B"): "C: d"},
         "contracts": contracts(ITEMS) == [("rv_word", "laws"), ("rv_word", "f"), ("rv_word", "only")],
