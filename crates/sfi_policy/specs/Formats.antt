@@ -37,6 +37,6 @@ has_words Sfi1 = false
 has_words Sfi2 = false
 has_words Sfiw = true
 
--- the register of that number is the stack pointer
+-- the register of that number is the format's stack pointer
 abbrev pub is_stack : Format → ℕ → Bool
 is_stack f r = has_stack f && (r == stack_pointer)

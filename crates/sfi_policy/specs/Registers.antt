@@ -17,7 +17,7 @@ data_base_register = 26
 abbrev pub data_mask_register : ℕ
 data_mask_register = 27
 
--- in it the expansions make addresses
+-- in it the expansions of code in bundles make addresses
 abbrev pub scratch : ℕ
 scratch = 31
 
@@ -27,7 +27,7 @@ stack_pointer = 2
 
 -- ---- the typed registers of code in words
 
--- a data register, which lies in the data region or near it: x2, x3, x4 or x29
+-- a data register, x2, x3, x4 or x29: it holds an address in the data region or near it
 abbrev pub is_data_register : ℕ → Bool
 is_data_register r = (r == 2) || (r == 3) || (r == 4) || (r == 29)
 
@@ -50,6 +50,6 @@ abbrev pub is_reserved : ℕ → Bool
 is_reserved r = (r == code_base_register) || (r == code_mask_register) || (r == data_base_register)
     || (r == data_mask_register)
 
--- one that a source may not name: a reserved one, or the one of the expansions
+-- one that a source of code in bundles may not name: a reserved one, or that of its expansions
 abbrev pub is_withheld : ℕ → Bool
 is_withheld r = is_reserved r || (r == scratch)

@@ -1,11 +1,11 @@
 //! What a sandbox is confined by: its limits, the formats of images, and the registers that have a
 //! part in that.
 //!
-//! Each has its name here, and crates above cite it by that; the table of halfwords of the first
-//! look (`sfi_scan`) has the registers in its entries, and is proved to agree. The definitions in
+//! Each has its name here, and crates above cite it by that; the tables of the first looks (`sfi_masks`,
+//! `sfi_scan`) have the registers in their entries, and are proved to agree. The definitions in
 //! `specs/` decide; the constants are proved to agree with them ([`limits_agree`],
 //! [`registers_agree`]). No instruction is known here, so that images don't wait for them: the pairs
-//! and a gate's stub are `sfi_pairs`.
+//! and a gate's stub are in `sfi_pairs`.
 #![tactic(auto)]
 
 mod format;

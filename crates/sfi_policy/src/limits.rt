@@ -33,7 +33,7 @@ pub const NAME_MOST: u32 = 64;
 /// How far below its data region's end a sandbox's stack pointer lies at first.
 pub const FIRST_FRAME: u32 = 16;
 
-/// How far beside its data region a data register of code in words may lie.
+/// How many bytes beside its data region the address in a data register of code in words may lie.
 pub const SLACK: u32 = 1020;
 
 /// `REGION_LEAST`, as a length of bytes.

@@ -12,7 +12,7 @@ pub const DATA_BASE_REGISTER: u8 = 26;
 /// x27, which holds the data size less 1: the mask of a data address.
 pub const DATA_MASK_REGISTER: u8 = 27;
 
-/// x31, in which the expansions make addresses.
+/// x31, in which the expansions of code in bundles make addresses.
 pub const SCRATCH: u8 = 31;
 
 /// x2, the stack pointer of a format that has one.
