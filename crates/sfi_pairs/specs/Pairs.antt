@@ -1,6 +1,6 @@
 -- The masked pairs (Wahbe and others, "Efficient Software-Based Fault Isolation", 1993): an `and`
--- keeps an address's offset in the region, of a code address that of its bundle,
--- and an `or` sets the region's bits.
+-- keeps an address's offset in the region, of a code address the offset of its bundle, or in code in
+-- words of its word, and an `or` sets the region's bits.
 use Rattle.std.specs.Prelude.{◌==◌, ◌&&◌, ℕ, pos, List, [], ◌∷◌, ◌++◌, Bool, false}
 use Rattle.rv_word.specs.declared.instr.RegOp.TheVariants.{And, Or}
 use Rattle.rv_word.specs.declared.instr.Instr.{Instr}
@@ -25,8 +25,8 @@ pair mask base target a = masking_instr mask target a ∷ placing_instr base tar
 abbrev pub data_pair : ℕ → ℕ → List Instr
 data_pair target a = pair data_mask_register data_base_register target a
 
--- `and target, a, x25`, `or target, target, x24`:
--- the target becomes a bundle start of the code region
+-- `and target, a, x25`, `or target, target, x24`: the target becomes a bundle start of the code region,
+-- or in code in words a word's start
 abbrev pub code_pair : ℕ → ℕ → List Instr
 code_pair target a = pair code_mask_register code_base_register target a
 
@@ -49,8 +49,8 @@ is_pair mask base target first second =
 
 -- ---- a gate
 
--- a gate's bundle: it asks the host, and then goes by a code pair to the bundle start that x1 leads
--- to
+-- a gate's bundle, in code in bundles: an ecall, the code pair that makes a bundle start of x1 in x31, and
+-- a jump to that
 abbrev pub gate_stub : List Instr
 gate_stub = Ecall ∷ (code_pair scratch return_register ++ Jalr 0 scratch (pos 0) ∷ [])
 

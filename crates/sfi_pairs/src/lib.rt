@@ -1,6 +1,6 @@
 //! What a sandbox is confined by in its instructions: the masked pairs (Wahbe, Lucco, Anderson and
-//! Graham, "Efficient Software-Based Fault Isolation", 1993), a gate's stub, and which registers
-//! these alone may name.
+//! Graham, "Efficient Software-Based Fault Isolation", 1993), a gate's stub, and the tests of the
+//! registers that have a part in that.
 //!
 //! The definitions in `specs/` decide; the stub's bytes are proved to agree ([`stub_agrees`]).
 #![tactic(auto)]

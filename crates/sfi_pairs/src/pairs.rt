@@ -35,8 +35,8 @@ pub fn data_pair(target: Reg, a: Reg) -> [Instr; 2]
     pair(mask, Reg::numbered(DATA_BASE_REGISTER), target, a)
 }
 
-/// The pair after which the target is a bundle start of the code region,
-/// with the offset of `a`'s bundle.
+/// The pair after which the target is a bundle start of the code region, with the offset of `a`'s
+/// bundle, or in code in words a word's start, with the offset of `a`'s word.
 #[inline]
 pub fn code_pair(target: Reg, a: Reg) -> [Instr; 2]
     ensures { result ≡ code_pair target a }

@@ -1,4 +1,4 @@
-//! A gate's bundle.
+//! A gate's bundle, in code in bundles.
 use sfi_policy::BUNDLE_BYTES;
 
 /// `ecall`, `and x31, x1, x25`, `or x31, x31, x24`, `jalr x0, 0(x31)`.
