@@ -24,7 +24,7 @@ rule_of_length Wide = V2
 rule_of_length Short = V1
 rule_of_length Longer = V1
 
--- at the place of what a reading leaves, V2 or else V1
+-- what is found of the bytes that a reading leaves: V2 or else V1 at their address, and nothing of none
 abbrev pub rest_finding : BundlePlace → ℕ → List ℕ → List Finding
 rest_finding b at [] = []
 rest_finding b at (low ∷ high ∷ []) =

@@ -20,7 +20,7 @@ pub record IsWithinBlock (b : BundlePlace) : Type 0 where
   pub end : b.address + 9 * bundle_size ≤ b.code_base + b.code_size
   pub addresses : b.code_base + b.code_size ≤ 2 ^ 32
 
--- the place of the block's bundle of that number, counted from 0, which is no listed gate
+-- the place of the block's bundle of that number, counted from 0; a block has no listed gate
 abbrev pub bundle_at : BundlePlace → ℕ → BundlePlace
 bundle_at b n = record b { address = b.address + bundle_size * n; listed = false }
 

@@ -5,6 +5,7 @@ use Rattle.sfi_rules.specs.declared.rule.Rule.{Rule}
 use Rattle.sfi_rules.specs.declared.rule.Rule.TheVariants.{V1, V2, V3, V4, V5, V6, V7, V8, V9, V10, V11, V12}
 use Rattle.sfi_rules.specs.Broken.{all_rules}
 
+-- the number by which a rule is known
 abbrev pub number_of : Rule → ℕ
 number_of V1 = 1
 number_of V2 = 2

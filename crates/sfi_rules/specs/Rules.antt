@@ -23,6 +23,7 @@ pub record Place : Type 0 where
   pub later : List Piece  -- those after it
   pub whole : Bool  -- the reading leaves nothing of the bundle
 
+-- the list has no elements
 abbrev pub is_empty : {A : Type 0} → List A → Bool
 is_empty [] = true
 is_empty (x ∷ xs) = false
@@ -37,6 +38,7 @@ abbrev pub breaks_ecall : Place → Instr → Bool
 breaks_ecall x Ecall = not (is_empty x.earlier && x.bundle.listed)
 breaks_ecall x _ = false
 
+-- it is a reserved register's number
 abbrev pub is_reserved_one : Option ℕ → Bool
 is_reserved_one None = false
 is_reserved_one (Some r) = is_reserved r
@@ -77,6 +79,7 @@ ends_region (Jalr rd rs1 imm) = true
 ends_region Ebreak = true
 ends_region _ = false
 
+-- the code region ends after the bundle
 abbrev pub is_last_bundle : BundlePlace → Bool
 is_last_bundle b = b.address + bundle_size == b.code_base + b.code_size
 

@@ -36,7 +36,8 @@ pub fn first_format_finds_no_v10()
     ensures { FirstFormatFindsNoV10 }
 {}
 
-/// Where no rule is broken, the second format's findings of the same sandboxes are V10 alone.
+/// Where no rule is broken in code in bundles, the second format's findings of the same sandboxes are
+/// V10 alone.
 pub fn clean_breaks_stack_alone()
     ensures { CleanBreaksStackAlone }
 {}

@@ -31,7 +31,7 @@ pub record Place : Type 0 where
   pub instr : Instr
   pub size : ℕ  -- its length in bytes
 
--- it is a data register's number
+-- there is a number, and it is a data register's
 abbrev pub is_data_one : Option ℕ → Bool
 is_data_one None = false
 is_data_one (Some d) = is_data_register d
@@ -79,7 +79,7 @@ lowest x = find (λ rule. breaks x rule) all_rules
 
 -- ---- of a word
 
--- that rule broken there, if it is one
+-- the finding of that rule there, if there is a rule
 abbrev pub found_at : BundlePlace → ℕ → Option Rule → List Finding
 found_at b at None = []
 found_at b at (Some rule) = broken b at rule ∷ []

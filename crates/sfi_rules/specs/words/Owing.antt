@@ -10,7 +10,7 @@ use Rattle.sfi_rules.specs.declared.owed.Owed.{Owed}
 use Rattle.sfi_rules.specs.declared.owed.Owed.TheVariants.{Nothing, Mask, Place, MaskOrUse, Code}
 use Rattle.sfi_rules.specs.words.Rules.{places, masks, is_step, uses}
 
--- what of a debt is left after this instruction; None: it isn't the instruction that was owed
+-- what of it is still owed after this instruction; None: the instruction isn't one that was owed
 abbrev pub left : Owed → Instr → Option Owed
 left Nothing i = Some Nothing
 left (Mask d) i = if masks d i then Some (Place d) else None
@@ -31,7 +31,7 @@ owed_by_code i =
     if is_placing code_base_register code_register i then Some Nothing
     else if is_masking code_mask_register code_register i then Some Code else None
 
--- the same by the register that is written: a write of no typed one asks nothing
+-- the same by the register that is written: a write of neither a data register nor x30 asks nothing
 abbrev pub owed_of : Option ℕ → Instr → Option Owed
 owed_of None i = Some Nothing
 owed_of (Some d) i =
@@ -42,13 +42,13 @@ owed_of (Some d) i =
 abbrev pub owed_by : Instr → Option Owed
 owed_by i = owed_of (destination i) i
 
--- the debt, or none where the instruction is wrong in itself (it is found there)
+-- what is owed, and nothing where no next instruction can make this one right (it is found itself)
 abbrev pub or_nothing : Option Owed → Owed
 or_nothing None = Nothing
 or_nothing (Some o) = o
 
--- what is still owed, or else what the instruction owes itself (one that leaves something owed writes
--- x31 alone, so it starts no debt)
+-- what is still owed after the instruction, or else what must come after it by what it writes (one
+-- after which something is still owed writes x31 alone, so by itself it asks nothing)
 abbrev pub joined : Option Owed → Option Owed → Owed
 joined None own = or_nothing own
 joined (Some Nothing) own = or_nothing own

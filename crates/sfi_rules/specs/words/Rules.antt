@@ -16,11 +16,12 @@ use Rattle.sfi_rules.specs.Stack.{is_jump}
 
 -- ---- what the rules look for
 
--- `and rd, a, b` and `or rd, a, b`
+-- `and rd, a, b`
 abbrev pub is_and : ℕ → ℕ → ℕ → Instr → Bool
 is_and rd a b (Op And x y z) = (x == rd) && (y == a) && (z == b)
 is_and rd a b _ = false
 
+-- `or rd, a, b`
 abbrev pub is_or : ℕ → ℕ → ℕ → Instr → Bool
 is_or rd a b (Op Or x y z) = (x == rd) && (y == a) && (z == b)
 is_or rd a b _ = false
@@ -43,7 +44,7 @@ abbrev pub begins_masking : ℕ → List Piece → Bool
 begins_masking d [] = false
 begins_masking d (x ∷ later) = masks d x.instr && begins_placing d later
 
--- from -1020 to 1020
+-- the offset is from -1020 to 1020
 abbrev pub is_small : ℤ → Bool
 is_small (pos n) = nat_le n slack
 is_small (negsuc n) = nat_lt n slack
@@ -53,7 +54,7 @@ abbrev pub is_step : ℕ → Instr → Bool
 is_step d (OpImm Addi rd rs1 imm) = (rd == d) && (rs1 == d)
 is_step d _ = false
 
--- a load or store on d at such an offset
+-- a load or store on d with an offset from -1020 to 1020
 abbrev pub uses : ℕ → Instr → Bool
 uses d (Load kind rd rs1 imm) = (rs1 == d) && is_small imm
 uses d (Store width rs1 rs2 imm) = (rs1 == d) && is_small imm
@@ -75,16 +76,17 @@ begins_code (x ∷ later) = is_placing code_base_register code_register x.instr
 abbrev pub breaks_width : ℕ → ℕ → Bool
 breaks_width at size = (size == 4) && not (at % 4 == 0)
 
--- V3: an ecall that isn't at a listed gate (the first says whether one is there)
+-- V3: an ecall that isn't at a listed gate (`gate` says whether one is there). V4 is that of bundles,
+-- `breaks_reserved`.
 abbrev pub breaks_ecall : Bool → Instr → Bool
 breaks_ecall gate Ecall = not gate
 breaks_ecall gate _ = false
 
--- V5: a load or store on a register that is neither a data register nor x26
--- (V4 is that of bundles, `breaks_reserved`: it writes one of x24 to x27)
+-- an access may be on this base: a data register or x26
 abbrev pub may_access : ℕ → Bool
 may_access base = is_data_register base || (base == data_base_register)
 
+-- V5: a load or store on a register that is neither a data register nor x26
 abbrev pub breaks_access : Instr → Bool
 breaks_access (Load kind rd rs1 imm) = not (may_access rs1)
 breaks_access (Store width rs1 rs2 imm) = not (may_access rs1)
@@ -111,13 +113,15 @@ breaks_target base size at _ = false
 abbrev pub breaks_end : Instr → List Piece → Bool
 breaks_end i later = is_empty later && not (ends_region i)
 
--- (a) it is `or d, x31, x26`; (b) it goes on, and d is masked next; (c) it is a step of d,
--- which is used next
+-- Of an instruction that writes d: (a) it is `or d, x31, x26`; or (b) it is no jump, and d is masked
+-- and placed next; or (c) it is `addi d, d, k`, and the next one is a load or store on d with a small
+-- offset.
 abbrev pub may_write_data : ℕ → Instr → List Piece → Bool
 may_write_data d i later =
     places d i || (not (is_jump i) && begins_masking d later)
     || (is_step d i && begins_using d later)
 
+-- the register that it writes, if it writes one, is a data register, and it may not write that
 abbrev pub breaks_data_of : Option ℕ → Instr → List Piece → Bool
 breaks_data_of None i later = false
 breaks_data_of (Some d) i later = is_data_register d && not (may_write_data d i later)
@@ -126,7 +130,8 @@ breaks_data_of (Some d) i later = is_data_register d && not (may_write_data d i 
 abbrev pub breaks_data : Instr → List Piece → Bool
 breaks_data i later = breaks_data_of (destination i) i later
 
--- it is `or x30, x30, x24`, or `and x30, a, x25` directly before that
+-- of an instruction that writes x30: it is `or x30, x30, x24`, or `and x30, a, x25` directly before
+-- that
 abbrev pub may_write_code : Instr → List Piece → Bool
 may_write_code i later = is_placing code_base_register code_register i
     || (is_masking code_mask_register code_register i && begins_code later)
