@@ -6,7 +6,7 @@ use Rattle.rv_word.specs.declared.instr.Instr.{Instr}
 use Rattle.rv_word.specs.declared.instr.Instr.TheVariants.{Op}
 use Rattle.sfi_pairs.specs.Pairs.{masking_instr, placing_instr, pair, is_masking, is_placing, is_pair}
 
-masking_is : (mask target : ℕ) (i : Instr) → is_masking mask target i ≡ true → (a : ℕ) × (i ≡ masking_instr mask target a)
+pub masking_is : (mask target : ℕ) (i : Instr) → is_masking mask target i ≡ true → (a : ℕ) × (i ≡ masking_instr mask target a)
 masking_is mask target (Op And rd rs1 rs2) h =
     let both = and_parts (rd == target) (rs2 == mask) h in
     let e1 = eqb-true rd target both.0 in
@@ -14,7 +14,7 @@ masking_is mask target (Op And rd rs1 rs2) h =
     (rs1, cc)
 masking_is mask target _ h = absurd (false≢true h)
 
-placing_is : (base target : ℕ) (i : Instr) → is_placing base target i ≡ true → i ≡ placing_instr base target
+pub placing_is : (base target : ℕ) (i : Instr) → is_placing base target i ≡ true → i ≡ placing_instr base target
 placing_is base target (Op Or rd rs1 rs2) h =
     let outer = and_parts ((rd == target) && (rs1 == target)) (rs2 == base) h in
     let inner = and_parts (rd == target) (rs1 == target) outer.0 in

@@ -25,8 +25,8 @@ pair mask base target a = masking_instr mask target a ∷ placing_instr base tar
 abbrev pub data_pair : ℕ → ℕ → List Instr
 data_pair target a = pair data_mask_register data_base_register target a
 
--- `and target, a, x25`, `or target, target, x24`: the target becomes a bundle start of the code region,
--- or in code in words a word's start
+-- `and target, a, x25`, `or target, target, x24`: the target becomes a bundle start of the code
+-- region, or in code in words a word's start
 abbrev pub code_pair : ℕ → ℕ → List Instr
 code_pair target a = pair code_mask_register code_base_register target a
 
@@ -49,8 +49,8 @@ is_pair mask base target first second =
 
 -- ---- a gate
 
--- a gate's bundle, in code in bundles: an ecall, the code pair that makes a bundle start of x1 in x31, and
--- a jump to that
+-- a gate's bundle, in code in bundles: an ecall, the code pair that makes a bundle start of x1 in x31,
+-- and a jump to that
 abbrev pub gate_stub : List Instr
 gate_stub = Ecall ∷ (code_pair scratch return_register ++ Jalr 0 scratch (pos 0) ∷ [])
 
