@@ -11,9 +11,9 @@ use Rattle.sfi_image.specs.Spelling.{Part}
 use Rattle.sfi_runs.specs.Regions.{InCode, InGuard, IsUnitStart, HasReserved, HasCode, HasEmptyGuards}
 use Rattle.sfi_runs.specs.Typed.{IsTyped}
 
--- A sandbox may be entered here: at the start of any bundle, or word, with the reserved registers
--- set and the typed ones holding what their types say (in the second format, a stack pointer in the
--- data). All else is arbitrary.
+-- A sandbox may be entered here: at the start of any bundle, or word, with the reserved registers set,
+-- the typed ones holding what their types say (in the second format, a stack pointer in the data), the
+-- image's code in memory, and no byte in the guard zones. All else is arbitrary.
 pub record IsEntry (p : Part) (s : State) : Type 0 where
   pub state : IsState s
   pub start : IsUnitStart p s.hart.pc

@@ -33,8 +33,8 @@ IsTrap Next = ⊥
 IsTrap Call = ⊥
 IsTrap (Trap cause at) = Unit {0}
 
--- Each access lies in the data and the guards together, and a step with a guard address among its
--- accesses traps. A call is at a listed gate.
+-- Each address that the step accesses lies in the data region or in a guard zone, and if one lies in a
+-- guard zone, the step traps. A call is at a listed gate.
 pub record IsSafeStep (p : Part) (s : State) (r : Stepped) : Type 0 where
   pub within :
       (i : Instr) (n : ℕ) → Stands s i n → (a : ℕ) → Accesses i s.hart a → InData p a ⊎ InGuard p a

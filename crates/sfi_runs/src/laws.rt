@@ -21,12 +21,12 @@ pub fn goes_on_safely()
     ensures { GoesOnSafely }
 {}
 
-/// A sandbox with a right layout can be entered.
+/// A sandbox that passes its tests can be entered at the start of each bundle, or word.
 pub fn can_be_entered()
     ensures { CanBeEntered }
 {}
 
-/// It has an entry at the start of each bundle, or word.
+/// So it has an entry there.
 pub fn has_entries()
     ensures { HasEntries }
 {}
