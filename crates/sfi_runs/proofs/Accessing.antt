@@ -1,5 +1,7 @@
 -- Where an access on a register in or near the data falls, what it tells of the register where it was done, and which registers a write leaves alone.
-use Rattle.sfi_runs.proofs.Prelude.{◌≡◌, ◌≢◌, ℕ, suc, ◌+◌, ◌-◌, ◌%◌, ◌^◌, ◌<◌, ◌≤◌, ◌⊎◌, List, length, get_or, set, false, ◌||◌, ◌==◌, refl, sym, ◌∙◌, subst, inl, inr, ⊎_elim, arith, cases_lt, or_parts, eqb-false, cond_both, get_or-set_other, length-set, ℤ, pos, negsuc, ◌+ℤ◌, ints, slice_index, Contains, range_with_len, length-map, offset_by, IsImm12, InRange, Load, Store, LoadKind, Lb, Lh, Lw, Lbu, Lhu, StoreWidth, Sb, Sh, Sw, address_after, addresses, Hart, with_register, word, load_size, store_size, Part, HasGuardRoom, InData, InGuard, HasReserved, IsNear}
+use Rattle.sfi_runs.proofs.Prelude.{◌≡◌, ◌≢◌, ℕ, suc, ◌+◌, ◌-◌, ◌%◌, ◌^◌, ◌<◌, ◌≤◌, ◌⊎◌, List, length, get_or, set, false, ◌||◌, ◌==◌, refl, sym, ap, ◌∙◌, subst, inl, inr, ⊎_elim, arith, cases_lt, or_parts, eqb-false, cond_both, get_or-set_other, length-set, ℤ, pos, negsuc, ◌+ℤ◌, ints, slice_index, Contains, range_with_len, length-map, offset_by, IsImm12, InRange, Load, Store, LoadKind, Lb, Lh, Lw, Lbu, Lhu, StoreWidth, Sb, Sh, Sw, address_after, addresses, Hart, register, with_register, word, load_size, store_size, Part, HasGuardRoom, InData, InGuard, HasReserved, IsNear}
+use Rattle.std.proofs.lemmas.Bool.{cond-false, ne_eqb}
+use Rattle.std.proofs.lemmas.List.{get_or-set_same}
 use Rattle.rv_word.specs.declared.instr.RegOp.TheVariants.{Add}
 use Rattle.rv_step.specs.Values.{result_of}
 use Rattle.sfi_policy.specs.Registers.{is_reserved}
@@ -139,6 +141,11 @@ kept r value j h ne =
     cond_both (r == 0) h.registers (set h.registers r value) (λ (l : List ℕ). get_or l j 0 ≡ get_or h.registers j 0)
     (λ e. refl)
     (λ e. get_or-set_other h.registers r j value 0 ne)
+
+-- and it leaves its value in its own register
+pub written : (r value : ℕ) (h : Hart) → r ≢ 0 → r < length h.registers → register (with_register h r value) r ≡ value
+written r value h ne within =
+    ap (λ (l : List ℕ). get_or l r 0) (cond-false (r == 0) h.registers (set h.registers r value) (ne_eqb r 0 ne)) ∙ get_or-set_same h.registers r value 0 within
 
 pub count_kept : (r value : ℕ) (h : Hart) → length (with_register h r value).registers ≡ length h.registers
 count_kept r value h =

@@ -6,5 +6,6 @@ pub mod Formats
 pub mod Masks
 pub mod Safe
 pub mod Stepping
+pub mod Standing
 pub mod Turning
 pub mod Facts

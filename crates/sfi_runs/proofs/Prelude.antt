@@ -1,5 +1,5 @@
 -- Words of std and of definitions that many proofs of this crate use.
-pub use Rattle.std.proofs.Common.{◌≡◌, ◌≢◌, ℕ, zero, suc, ◌+◌, ◌-◌, ◌*◌, ◌/◌, ◌%◌, ◌^◌, ◌<◌, ◌≤◌, ◌⊎◌, List, [], ◌∷◌, ◌++◌, length, get_or, set, map, Bool, true, false, cond, ◌&&◌, ◌||◌, ◌==◌, refl, sym, ap, ◌∙◌, subst, inl, inr, ⊎_elim, arith, Option, Some, None, add-zero}
+pub use Rattle.std.proofs.Common.{◌≡◌, ◌≢◌, ℕ, zero, suc, ◌+◌, ◌-◌, ◌%◌, ◌^◌, ◌<◌, ◌≤◌, ◌⊎◌, List, [], ◌∷◌, length, get_or, set, map, Bool, true, false, cond, ◌||◌, ◌==◌, refl, sym, ap, ◌∙◌, subst, inl, inr, ⊎_elim, arith, Option, Some, None, add-zero}
 pub use Rattle.std.specs.Prelude.{ℤ, pos, negsuc, ◌+ℤ◌, slice_index, slice_get, is_some, IsSome}
 pub use Rattle.std.proofs.lemmas.Bool.{cases_lt, or_parts, eqb-false, cond_both, or_cases, eqb-true, false≢true}
 pub use Rattle.std.proofs.lemmas.Int.{ints}
@@ -23,14 +23,14 @@ pub use Rattle.rv_step.specs.declared.outcome.Outcome.{Outcome}
 pub use Rattle.rv_step.specs.declared.outcome.Outcome.TheVariants.{Next, Call, Trap}
 pub use Rattle.sfi_image.specs.Gates.{is_gate_of}
 pub use Rattle.sfi_image.specs.Parts.{IsRightPart}
-pub use Rattle.sfi_image.specs.Regions.{IsRegion, HasGuardRoom}
+pub use Rattle.sfi_image.specs.Regions.{HasGuardRoom}
 pub use Rattle.sfi_image.specs.Spans.{code_region, AreApart, guarded_region, Holds}
 pub use Rattle.sfi_image.specs.Spelling.{Part}
 pub use Rattle.sfi_image.specs.declared.part.Gate.{Gate}
 pub use Rattle.sfi_runs.specs.Laws.{SafeTurns, SafeStaysSafe, SafeFetches, GoesOnSafely, CanBeEntered}
 pub use Rattle.sfi_runs.specs.Regions.{InData, InGuard, IsUnitStart, HasReserved, IsGate, HasCode, HasEmptyGuards}
 pub use Rattle.sfi_runs.specs.Typed.{IsNear, IsTyped}
-pub use Rattle.sfi_runs.specs.Runs.{Turn, IsTurn, IsRun, after_step, after_turn, IsEntry, Steps, Replies, IsReply, KeepsBytes, Changes, IsChange}
+pub use Rattle.sfi_runs.specs.Runs.{Turn, IsTurn, IsRun, after_turn, IsEntry, Steps, Replies, IsReply, KeepsBytes, Changes, IsChange}
 pub use Rattle.sfi_runs.specs.Safety.{IsSafeRun, RunsSafelyFrom, RunsSafely, IsSafeStep, IsTrap, IsSafeState, IsSafeTurn}
 pub use Rattle.sfi_runs.specs.Calls.{after_turns, CallsTyped}
 pub use Rattle.sfi_runs.specs.Kept.{KeepsAll}

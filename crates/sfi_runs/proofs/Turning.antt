@@ -1,5 +1,5 @@
 -- What a reply and a change by others keep, and that runs are safe where each turn keeps a good state.
-use Rattle.sfi_runs.proofs.Prelude.{ℕ, ◌+◌, List, [], ◌∷◌, length, Option, Some, None, refl, sym, ap, ◌∙◌, subst, arith, Ecall, Call, State, Stands, IsStep, unchanged, Bytes, Part, HasReserved, HasCode, HasEmptyGuards, KeepsBytes, KeepsAll, IsTyped, IsEntry, IsReply, IsChange, Turn, Changes, IsTurn, IsRun, after_turn, after_turns, IsSafeState, IsSafeTurn, IsSafeRun, RunsSafely, CallsTyped}
+use Rattle.sfi_runs.proofs.Prelude.{ℕ, ◌+◌, List, [], ◌∷◌, length, Option, Some, None, refl, sym, ap, ◌∙◌, subst, arith, Ecall, Call, State, Stands, IsStep, unchanged, Bytes, Part, HasReserved, HasCode, HasEmptyGuards, KeepsBytes, KeepsAll, IsTyped, IsEntry, IsReply, IsChange, Turn, Changes, IsTurn, IsRun, after_turn, after_turns, IsSafeState, IsSafeTurn, IsSafeRun, RunsSafely, CallsTyped, Stepped, Steps, Replies, IsSafeStep}
 use Rattle.std.specs.Prelude.{IfSome}
 use Rattle.rv_comp.specs.declared.front.Front.TheVariants.{Read}
 
@@ -36,8 +36,14 @@ change_keeps p s after kept c = record {
 }
 
 -- a step at an ecall comes to a call
-pub call_step : (s : State) (n : ℕ) → Stands s Ecall n → IsStep s (unchanged Call s.hart s.memory)
+call_step : (s : State) (n : ℕ) → Stands s Ecall n → IsStep s (unchanged Call s.hart s.memory)
 call_step s n stands = record { front = Read Ecall n; at_pc = stands; result = refl }
+
+-- a turn is safe where each step is
+pub turn_safe : (p : Part) (s : State) → ((r : Stepped) → IsStep s r → IsSafeStep p s r) → (turn : Turn) → IsTurn p s turn → IsSafeTurn p s turn
+turn_safe p s steps (Steps r) h = steps r h
+turn_safe p s steps (Replies after) h = (steps (unchanged Call s.hart s.memory) (call_step s h.size h.asked)).called refl
+turn_safe p s steps (Changes after) h = tt
 
 -- ---- runs
 
