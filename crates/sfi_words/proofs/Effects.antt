@@ -1,9 +1,9 @@
 -- What each instruction does: which register it writes, where it goes, and that only what breaks V3 or V6 leaves.
-use Rattle.sfi_words.proofs.Prelude.{◌≡◌, ◌≢◌, ℕ, ◌+◌, ◌*◌, ◌%◌, ◌^◌, ◌<◌, ◌≤◌, ◌⊎◌, List, length, get_or, set, Bool, true, false, cond, not, ◌&&◌, ◌==◌, refl, sym, ap, ◌∙◌, subst, inl, inr, arith, Option, Some, None, ℤ, pos, negsuc, slice_index, is_some, and_parts, eqb-true, leb-true, ltb-true, not-false, false≢true, cond-false, ne_eqb, get_or-set_same, offset_by, destination, Instr, Op, OpImm, Load, Store, Branch, Jal, Jalr, Lui, Auipc, Fence, Ecall, Ebreak, RegOp, Addi, LoadKind, Bytes, bytes_at, address_after, addresses, loaded, Hart, register, with_register, with_pc, past, even_of, effect, after_load, next, unchanged, word, result_of, load_size, store_size, is_taken, extended, Outcome, Next, Call, Trap, is_reserved, Part, is_gate_of, IsGate, breaks_reserved, ends_region, IsWordStart, HasReserved, is_word_start, breaks_ecall, breaks_jump, breaks_target}
+use Rattle.sfi_words.proofs.Prelude.{◌≡◌, ◌≢◌, ℕ, ◌+◌, ◌*◌, ◌%◌, ◌^◌, ◌<◌, ◌≤◌, ◌⊎◌, List, length, Bool, true, false, cond, not, ◌&&◌, ◌==◌, refl, sym, ap, ◌∙◌, subst, inl, inr, arith, Option, Some, None, ℤ, pos, negsuc, slice_index, is_some, and_parts, eqb-true, leb-true, ltb-true, not-false, false≢true, offset_by, destination, Instr, Op, OpImm, Load, Store, Branch, Jal, Jalr, Lui, Auipc, Fence, Ecall, Ebreak, RegOp, Addi, LoadKind, Bytes, bytes_at, address_after, addresses, loaded, Hart, register, with_register, with_pc, past, even_of, effect, after_load, next, unchanged, word, result_of, load_size, store_size, is_taken, extended, Outcome, Next, Call, Trap, is_reserved, Part, is_gate_of, IsGate, breaks_reserved, ends_region, IsWordStart, HasReserved, is_word_start, breaks_ecall, breaks_jump, breaks_target}
 use Rattle.std.specs.Prelude.{nat_le, nat_lt}
 use Rattle.rv_step.specs.declared.outcome.Cause.TheVariants as cause
 use Rattle.rv_step.specs.Values.{register_op}
-use Rattle.sfi_runs.proofs.Accessing.{kept, count_kept}
+use Rattle.sfi_runs.proofs.Accessing.{kept, count_kept, written}
 use Rattle.sfi_runs.proofs.Stepping.{gate_of}
 
 -- ---- the register that it writes
@@ -65,10 +65,6 @@ reserved_stay p i h h' w free has = record {
 }
 
 -- an operation leaves its result
-written : (t value : ℕ) (h : Hart) → t ≢ 0 → t < length h.registers → register (with_register h t value) t ≡ value
-written t value h ne within =
-    ap (λ (l : List ℕ). get_or l t 0) (cond-false (t == 0) h.registers (set h.registers t value) (ne_eqb t 0 ne)) ∙ get_or-set_same h.registers t value 0 within
-
 pub result_there : (i : Instr) (op : RegOp) (t a b n : ℕ) (h : Hart) (m : Bytes) → i ≡ Op op t a b → t ≢ 0 → t < length h.registers
     → register (effect i n h m).state.hart t ≡ result_of op (register h a) (register h b)
 result_there i op t a b n h m e ne within =

@@ -70,10 +70,6 @@ none_of x h = lowest_is x ∙ all_false _ _ _ _ _ _ _ _ _ h
 
 -- ---- what is owed after it
 
-some_of : {A : Type 0} (o : Option A) → is_some o ≡ true → (a : A) × (o ≡ Some a)
-some_of (Some a) h = (a, refl)
-some_of None h = absurd cc
-
 is_there : (c : Bool) → (true && not c) ≡ false → c ≡ true
 is_there c e = not-false c e
 

@@ -4,8 +4,9 @@ use Rattle.sfi_policy.specs.Formats.{code_most}
 use Rattle.sfi_runs.proofs.Accessing.{imm12_within, near_access, stepped, used, first_address, load_sized, store_sized, load_range, store_range}
 use Rattle.sfi_runs.proofs.Formats.{words as word_unit}
 use Rattle.sfi_runs.proofs.Masks as at
-use Rattle.sfi_words.proofs.Masks.{masked_code}
-use Rattle.sfi_words.proofs.Tests.{data_register, writes_it, writes_other, or_is, placing_is, masking_is, step_is, small_within}
+use Rattle.sfi_pairs.proofs.Facts.{masking_is, placing_is}
+use Rattle.sfi_runs.proofs.Masks.{masked_code}
+use Rattle.sfi_words.proofs.Tests.{data_register, writes_it, writes_other, or_is, step_is, small_within}
 use Rattle.sfi_words.proofs.Effects.{writes, others_stay, result_there, step_there, is_flow}
 
 step_range : (d : ℕ) (imm : ℤ) → InRange (OpImm Addi d d imm) → IsImm12 imm
@@ -198,7 +199,7 @@ module _ (p : Part) (words : has_words p.format ≡ true) (right : IsRightPart p
         let again = at.placed_again p.code_base (length p.code) 256 (code_most p.format) (register h 30) right.code_placed (record { from = start.held.0; below = start.held.1 }) in
         subst (λ (a : ℕ). IsWordStart p a) (sym again) start
     code_placed (inr (e, (y, masked))) =
-        let lies = masked_code p.code_base (length p.code) (code_most p.format) y right.code_placed in
+        let lies = masked_code p.code_base (length p.code) (code_most p.format) 2 y (omega arith) right.code_placed in
         let mask : register h 30 ≡ bit_and y (length p.code - 4) = masked ∙ ap (λ (u : ℕ). bit_and y (length p.code - u)) (word_unit p.format words) in
         subst (λ (a : ℕ). IsWordStart p (bit_or a p.code_base)) (sym mask) (record { held = (lies.0.from, lies.0.below); aligned = lies.1 })
 

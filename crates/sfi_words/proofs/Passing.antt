@@ -73,13 +73,6 @@ with_last p at o e past h =
     let r = at_last p at past in
     record { rest = r; met = nothing_meets o r.pieces both.0; end = rw both.1 (no_end (is_empty r.pieces)) }
 
-pub with_end : (p : Part) (at : ℕ) (o : Owed) (e : Bool) → length p.code ≤ at → IsCleanWith p at o e → (is_nothing o && e) ≡ true
-with_end p at o e past c =
-    let none = none_there (drop at p.code) (no_bytes p at past) c.rest.pieces c.rest.reading in
-    let met : meets o [] ≡ true = subst (λ (l : List Piece). meets o l ≡ true) none c.met in
-    let end : not e ≡ false = subst (λ (l : List Piece). (is_empty l && not e) ≡ false) none c.end in
-    and_from (is_nothing o) e (owes_none o met) (not-false e end)
-
 keeps_from : (i : Instr) (later : List Piece) → breaks_data i later ≡ false → breaks_code i later ≡ false → keeps i later ≡ true
 keeps_from i later d c = rw (d, c) refl
 

@@ -1,8 +1,8 @@
 -- Each word's start is a place of the code's reading, and so is what stands after one; the one instruction there is the reading's.
-use Rattle.sfi_words.proofs.Prelude.{◌≡◌, ℕ, ◌+◌, ◌-◌, ◌%◌, ◌<◌, ◌≤◌, ◌⊎◌, List, [], ◌∷◌, length, take, drop, get_or, Bool, true, false, not, ◌==◌, refl, sym, ap, ◌∙◌, subst, ⊎_elim, arith, Some, add-zero, get_or-take, get_or-drop, slice_index, length-take, length-drop, drop-drop, cases_lt, eqb-true, eq-eqb, false≢true, Spells, Bytes, byte_at, bytes_at, address_after, addresses, Hart, Stands, Part, Piece, IsReading, rest_of, is_empty, ends_region, InCode, HasCode, IsWordStart, breaks_width, BreakNone, IsCleanPart, AreKnown, IsPlace, IsAtPlace, AreWordsTyped}
+use Rattle.sfi_words.proofs.Prelude.{◌≡◌, ℕ, ◌+◌, ◌-◌, ◌%◌, ◌<◌, ◌≤◌, ◌⊎◌, List, [], ◌∷◌, length, take, drop, Bool, true, false, not, ◌==◌, refl, sym, ap, ◌∙◌, subst, ⊎_elim, arith, add-zero, length-take, length-drop, drop-drop, cases_lt, eqb-true, eq-eqb, false≢true, Spells, Bytes, address_after, Hart, Stands, Part, Piece, IsReading, rest_of, is_empty, ends_region, HasCode, IsWordStart, breaks_width, BreakNone, IsCleanPart, AreKnown, IsPlace, IsAtPlace, AreWordsTyped, IsSafeState}
 use Rattle.rv_comp.proofs.Facts.{spelled_length, spelled_some, two_lengths}
 use Rattle.sfi_image.proofs.Facts.{code_ends}
-use Rattle.sfi_runs.proofs.Stepping.{read_all}
+use Rattle.sfi_runs.proofs.Standing.{stands_there, state_safe}
 use Rattle.sfi_words.proofs.Masks.{whole_words}
 use Rattle.sfi_words.proofs.Known.{typed_known}
 
@@ -36,9 +36,6 @@ sized p bytes offset x base spelled kept =
 module _ (p : Part) (clean : IsCleanPart p) where
   base_aligned : p.code_base % 4 ≡ 0
   base_aligned = (whole_words p clean.right).0
-
-  size_aligned : length p.code % 4 ≡ 0
-  size_aligned = (whole_words p clean.right).1
 
   -- ---- a word's start
 
@@ -84,20 +81,10 @@ module _ (p : Part) (clean : IsCleanPart p) where
     abbrev here : Piece
     here = at.place.here
 
-    bytes_here : List ℕ
-    bytes_here = take at.place.here.size (drop at.offset p.code)
-
-    spelled_here : Spells bytes_here at.place.here.instr at.place.here.size
-    unfolding bytes_here
-    spelled_here = at.place.reading.0
-
-    lies_here : LiesIn (drop at.offset p.code) at.place.here
-    lies_here = lies_in (drop at.offset p.code) at.place.here at.place.reading.0
-
     -- it lies in the code
     pub here_within : (0 < at.place.here.size) × (at.offset + at.place.here.size ≤ length p.code)
     here_within =
-        let l = lies_here in
+        let l = lies_in (drop at.offset p.code) at.place.here at.place.reading.0 in
         let some : 0 < at.place.here.size = l.some in
         let within : at.place.here.size ≤ length (drop at.offset p.code) = l.within in
         (some, omega (arith, length-drop at.offset p.code))
@@ -143,47 +130,8 @@ module _ (p : Part) (clean : IsCleanPart p) where
 
     -- ---- the one instruction there
 
-    byte_here : (k : ℕ) → k < at.place.here.size → get_or bytes_here k 0 ≡ get_or p.code (at.offset + k) 0
-    unfolding bytes_here
-    byte_here k below = get_or-take at.place.here.size (drop at.offset p.code) k 0 below ∙ get_or-drop at.offset p.code k 0
-
-    length_here : length bytes_here ≡ at.place.here.size
-    unfolding bytes_here
-    length_here = lies_here.all
-
-    there_here : (m : Bytes) → HasCode p m → (k : ℕ) → k < length bytes_here → byte_at m (address_after h.pc k) ≡ Some (slice_index bytes_here k)
-    there_here m code k below =
-        let size = here_within in
-        let within : at.offset + at.place.here.size ≤ length p.code = size.1 in
-        let below' : k < at.place.here.size = subst (λ n. k < n) length_here below in
-        let end = code_ends p clean.right in
-        let pc : h.pc ≡ p.code_base + at.offset = at.pc in
-        let j = at.offset + k in
-        let same : address_after h.pc k ≡ p.code_base + j = omega arith in
-        let inside : j < length p.code = omega arith in
-        ap (byte_at m) same ∙ code j inside ∙ ap Some (sym (byte_here k below'))
-
-    pub pc_in_code : InCode p h.pc
-    pc_in_code =
-        let size = here_within in
-        let some : 0 < at.place.here.size = size.0 in
-        let within : at.offset + at.place.here.size ≤ length p.code = size.1 in
-        let pc : h.pc ≡ p.code_base + at.offset = at.pc in
-        (omega arith, omega arith)
-
-    pub byte_in_code : (k : ℕ) → k < at.place.here.size → InCode p (address_after h.pc k)
-    byte_in_code k below =
-        let size = here_within in
-        let within : at.offset + at.place.here.size ≤ length p.code = size.1 in
-        let end = code_ends p clean.right in
-        let pc : h.pc ≡ p.code_base + at.offset = at.pc in
-        let e : address_after h.pc k ≡ h.pc + k = omega arith in
-        (omega arith, omega arith)
-
-    read_here : (m : Bytes) → HasCode p m → bytes_at m (addresses h.pc at.place.here.size) ≡ Some bytes_here
-    read_here m code =
-        subst (λ (n : ℕ). bytes_at m (addresses h.pc n) ≡ Some bytes_here) length_here
-        (read_all m (address_after h.pc) 0 bytes_here (λ k below. let e : k ≡ 0 + k = omega arith in subst (λ (j : ℕ). byte_at m (address_after h.pc j) ≡ Some (slice_index bytes_here k)) e (there_here m code k below)))
-
     pub present : (m : Bytes) → HasCode p m → Stands (record { hart = h; memory = m }) at.place.here.instr at.place.here.size
-    present m code = record { bytes = bytes_here; there = read_here m code; spelled = spelled_here }
+    present m code = stands_there p clean.right h at.offset at.place.here.size at.pc here_within.1 m at.place.here.instr code at.place.reading.0
+
+    pub safe_here : (m : Bytes) → HasCode p m → IsSafeState p (record { hart = h; memory = m })
+    safe_here m code = state_safe p clean.right h at.offset at.place.here.size at.pc here_within.1 m at.place.here.instr code at.place.reading.0

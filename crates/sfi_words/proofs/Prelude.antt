@@ -1,11 +1,9 @@
 -- Words of std and of definitions that the proofs of this crate use.
-pub use Rattle.std.proofs.Common.{◌≡◌, ◌≢◌, ℕ, zero, suc, ◌+◌, ◌-◌, ◌*◌, ◌/◌, ◌%◌, ◌^◌, ◌<◌, ◌≤◌, ◌⊎◌, List, [], ◌∷◌, length, get_or, set, take, drop, Bool, true, false, cond, not, ◌&&◌, ◌||◌, ◌==◌, refl, sym, ap, ◌∙◌, subst, inl, inr, ⊎_elim, arith, Option, Some, None, map, add-zero, get_or-take, get_or-drop}
-pub use Rattle.std.specs.Prelude.{ℤ, pos, negsuc, ◌+ℤ◌, slice_index, is_some, IsSome, bit_and, bit_or}
-pub use Rattle.std.proofs.lemmas.Bool.{cases_lt, or_parts, eqb-false, cond-false, ne_eqb, and_parts, or_cases, eqb-true, eq-eqb, not-false, false≢true, cases_Bool, leb-true, ltb-true}
-pub use Rattle.std.proofs.lemmas.Int.{ints}
-pub use Rattle.std.proofs.lemmas.List.{get_or-set_same, length-map, length-take, length-drop, drop-drop}
-pub use Rattle.std.specs.List.{Contains, range_with_len}
-pub use Rattle.rv_word.specs.Numbers.{offset_by, minus}
+pub use Rattle.std.proofs.Common.{◌≡◌, ◌≢◌, ℕ, ◌+◌, ◌-◌, ◌*◌, ◌%◌, ◌^◌, ◌<◌, ◌≤◌, ◌⊎◌, List, [], ◌∷◌, length, take, drop, Bool, true, false, cond, not, ◌&&◌, ◌||◌, ◌==◌, refl, sym, ap, ◌∙◌, subst, inl, inr, ⊎_elim, arith, Option, Some, None, add-zero}
+pub use Rattle.std.specs.Prelude.{ℤ, pos, negsuc, slice_index, is_some, bit_and, bit_or}
+pub use Rattle.std.proofs.lemmas.Bool.{cases_lt, and_parts, or_cases, eqb-true, eq-eqb, not-false, false≢true, cases_Bool, leb-true, ltb-true}
+pub use Rattle.std.proofs.lemmas.List.{length-take, length-drop, drop-drop}
+pub use Rattle.rv_word.specs.Numbers.{offset_by}
 pub use Rattle.rv_word.specs.Spelling.{IsImm12}
 unfoldable pub use Rattle.rv_word.specs.Spelling.{InRange}
 pub use Rattle.rv_word.specs.Writes.{destination, is_register, writes_register}
@@ -15,11 +13,8 @@ pub use Rattle.rv_word.specs.declared.instr.RegOp.{RegOp}
 pub use Rattle.rv_word.specs.declared.instr.RegOp.TheVariants.{And, Or, Add}
 pub use Rattle.rv_word.specs.declared.instr.ImmOp.TheVariants.{Addi}
 pub use Rattle.rv_word.specs.declared.instr.LoadKind.{LoadKind}
-pub use Rattle.rv_word.specs.declared.instr.LoadKind.TheVariants.{Lb, Lh, Lw, Lbu, Lhu}
-pub use Rattle.rv_word.specs.declared.instr.StoreWidth.{StoreWidth}
-pub use Rattle.rv_word.specs.declared.instr.StoreWidth.TheVariants.{Sb, Sh, Sw}
 pub use Rattle.rv_comp.specs.Fronts.{Spells}
-pub use Rattle.rv_mem.specs.Bytes.{Bytes, byte_at, bytes_at, address_after, addresses, loaded, stored}
+pub use Rattle.rv_mem.specs.Bytes.{Bytes, bytes_at, address_after, addresses, loaded}
 pub use Rattle.rv_step.specs.Access.{Accesses}
 pub use Rattle.rv_step.specs.State.{Hart, State, register, with_register, with_pc, past, even_of}
 pub use Rattle.rv_step.specs.Step.{Stepped, Stands, IsStep, effect, after_load, next, unchanged}
@@ -29,19 +24,17 @@ pub use Rattle.rv_step.specs.declared.outcome.Outcome.TheVariants.{Next, Call, T
 pub use Rattle.sfi_pairs.specs.Pairs.{is_masking, is_placing}
 pub use Rattle.sfi_policy.specs.Registers.{is_reserved, is_data_register}
 pub use Rattle.sfi_image.specs.Spelling.{Part}
-pub use Rattle.sfi_image.specs.Spans.{Holds, code_region, guarded_region}
-pub use Rattle.sfi_image.specs.Regions.{IsRegion, HasGuardRoom}
 pub use Rattle.sfi_image.specs.Gates.{is_gate_of}
 pub use Rattle.sfi_rules.specs.Readings.{Piece, IsReading, rest_of}
 pub use Rattle.sfi_rules.specs.Rules.{is_empty, breaks_reserved, ends_region}
 pub use Rattle.sfi_rules.specs.Stack.{is_jump}
-pub use Rattle.sfi_runs.specs.Regions.{InCode, InData, InGuard, IsGate, HasReserved, HasCode, HasEmptyGuards}
+pub use Rattle.sfi_runs.specs.Regions.{InCode, InData, InGuard, IsGate, HasReserved, HasCode}
 pub use Rattle.sfi_runs.specs.Runs.{IsReply, IsChange, IsTurn, Turn, Steps, Replies, Changes, after_step, after_turn}
 pub use Rattle.sfi_runs.specs.Safety.{IsSafeState, IsSafeStep, IsSafeTurn}
 pub use Rattle.sfi_runs.specs.Typed.{IsWordStart, IsNear, AreWordsTyped}
 pub use Rattle.sfi_policy.specs.Formats.{has_words}
 pub use Rattle.sfi_image.specs.Parts.{IsRightPart}
-pub use Rattle.sfi_rules.specs.words.Rules.{is_and, is_or, places, masks, begins_placing, begins_masking, is_small, is_step, uses, begins_using, begins_code, breaks_width, breaks_ecall, may_access, breaks_access, breaks_jump, is_word_start, breaks_target, breaks_end, may_write_data, breaks_data_of, breaks_data, may_write_code, breaks_code, breaks_offset}
-pub use Rattle.sfi_words.specs.Code.{BreaksNone, BreakNone, AreWordsClean, IsCleanPart}
+pub use Rattle.sfi_rules.specs.words.Rules.{is_and, is_or, places, masks, begins_placing, begins_masking, is_small, is_step, uses, begins_using, begins_code, breaks_width, breaks_ecall, may_access, breaks_access, breaks_jump, is_word_start, breaks_target, may_write_data, breaks_data_of, breaks_data, may_write_code, breaks_code, breaks_offset}
+pub use Rattle.sfi_words.specs.Code.{BreakNone, IsCleanPart}
 pub use Rattle.sfi_words.specs.Places.{IsKnown, IsCodeKnown, AreKnown, IsPlace, IsAtPlace, IsGood, IsGoodIf}
 pub use Rattle.sfi_words.specs.Laws.{EntryIsGood, TurnKeeps, CleanRunsSafely}

@@ -1,11 +1,9 @@
 -- What a scan keeps: the sandbox is clean where the rest of its code is.
-use Rattle.std.proofs.Common.{◌≡◌, ◌↔◌, ℕ, ◌+◌, ◌<◌, ◌≤◌, List, [], ◌∷◌, length, drop, refl, sym, ap, subst, arith, add-zero}
+use Rattle.std.proofs.Common.{◌≡◌, ◌↔◌, ℕ, ◌+◌, ◌≤◌, List, [], ◌∷◌, length, drop, refl, sym, subst, arith, add-zero}
 use Rattle.std.proofs.lemmas.List.{length-drop}
 use Rattle.sfi_image.specs.Spelling.{Part}
 use Rattle.sfi_rules.specs.Readings.{Piece, IsReading, rest_of}
 use Rattle.sfi_words.specs.Code.{BreakNone, AreWordsClean}
-use Rattle.sfi_words.proofs.After.{none_there}
-use Rattle.sfi_rules.proofs.Readings.{IsStuck}
 
 -- from the offset on the code is read whole, and none breaks a rule
 pub record IsCleanFrom (p : Part) (at : ℕ) : Type 0 where
@@ -35,11 +33,3 @@ at_last p at past = record {
     empty : (l : List ℕ) → length l ≡ 0 → l ≡ []
     empty [] e = refl
     empty (x ∷ l) e = absurd (omega arith)
-
--- where nothing stands, it is not clean
-pub stuck : (p : Part) (at : ℕ) → at < length p.code → IsStuck (drop at p.code) → IsCleanFrom p at → ⊥
-stuck p at below none c =
-    let e = none_there (drop at p.code) none c.pieces c.reading in
-    let gone : drop at p.code ≡ [] = subst (λ (l : List Piece). rest_of (drop at p.code) l ≡ []) e c.whole in
-    let zero : length (drop at p.code) ≡ 0 = ap length gone in
-    omega (arith, zero, length-drop at p.code)

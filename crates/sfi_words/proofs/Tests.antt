@@ -1,5 +1,5 @@
 -- What passes a test of the rules.
-use Rattle.sfi_words.proofs.Prelude.{◌≡◌, ◌≢◌, ℕ, ◌<◌, true, false, ◌&&◌, ◌||◌, ◌==◌, refl, sym, ap, ◌∙◌, arith, ⊎_elim, Option, Some, None, ℤ, pos, negsuc, and_parts, or_cases, eqb-true, eq-eqb, false≢true, leb-true, ltb-true, destination, is_register, writes_register, Instr, Op, OpImm, And, Or, Addi, is_masking, is_placing, is_data_register, is_or, is_small, is_step}
+use Rattle.sfi_words.proofs.Prelude.{◌≡◌, ◌≢◌, ℕ, ◌<◌, true, false, ◌&&◌, ◌||◌, ◌==◌, refl, sym, ap, ◌∙◌, arith, ⊎_elim, Option, Some, None, ℤ, pos, negsuc, and_parts, or_cases, eqb-true, eq-eqb, false≢true, leb-true, ltb-true, destination, is_register, writes_register, Instr, Op, OpImm, Or, Addi, is_data_register, is_or, is_small, is_step}
 use Rattle.sfi_runs.proofs.Accessing.{IsWithin}
 
 -- ---- signed numbers
@@ -52,24 +52,6 @@ or_is rd a b (Op Or x y z) h =
     let e3 = eqb-true z b outer.1 in
     cc
 or_is rd a b _ h = absurd (false≢true h)
-
-pub placing_is : (base t : ℕ) (i : Instr) → is_placing base t i ≡ true → i ≡ Op Or t t base
-placing_is base t (Op Or x y z) h =
-    let outer = and_parts ((x == t) && (y == t)) (z == base) h in
-    let inner = and_parts (x == t) (y == t) outer.0 in
-    let e1 = eqb-true x t inner.0 in
-    let e2 = eqb-true y t inner.1 in
-    let e3 = eqb-true z base outer.1 in
-    cc
-placing_is base t _ h = absurd (false≢true h)
-
-pub masking_is : (mask t : ℕ) (i : Instr) → is_masking mask t i ≡ true → (a : ℕ) × (i ≡ Op And t a mask)
-masking_is mask t (Op And x y z) h =
-    let both = and_parts (x == t) (z == mask) h in
-    let e1 = eqb-true x t both.0 in
-    let e2 = eqb-true z mask both.1 in
-    (y, cc)
-masking_is mask t _ h = absurd (false≢true h)
 
 pub step_is : (d : ℕ) (i : Instr) → is_step d i ≡ true → (imm : ℤ) × (i ≡ OpImm Addi d d imm)
 step_is d (OpImm Addi x y imm) h =

@@ -1,18 +1,15 @@
 -- Each turn keeps a good state, and so does each run.
-use Rattle.sfi_words.proofs.Prelude.{◌≡◌, ℕ, ◌<◌, List, ◌∷◌, refl, sym, ap, ◌∙◌, subst, Ecall, address_after, Call, State, Stands, unchanged, Part, ends_region, IsGate, IsReply, IsChange, Turn, Steps, Replies, Changes, IsTurn, after_turn, IsSafeState, IsSafeTurn, AreKnown, IsCleanPart, IsGood, IsGoodIf, EntryIsGood, TurnKeeps, CleanRunsSafely}
+use Rattle.sfi_words.proofs.Prelude.{◌≡◌, ℕ, List, ◌∷◌, sym, ap, ◌∙◌, subst, Ecall, address_after, State, Part, ends_region, IsReply, IsChange, Turn, Steps, Replies, Changes, IsTurn, after_turn, AreKnown, IsCleanPart, IsGood, IsGoodIf, EntryIsGood, TurnKeeps, CleanRunsSafely}
 use Rattle.rv_comp.proofs.Facts.{ecall_is_wide}
 use Rattle.sfi_runs.proofs.Formats.{to_word, of_words_typed}
-use Rattle.sfi_runs.proofs.Turning.{entry_keeps, reply_keeps, change_keeps, call_step, runs_safely, calls_typed}
+use Rattle.sfi_runs.proofs.Turning.{entry_keeps, reply_keeps, change_keeps, turn_safe, runs_safely, calls_typed}
 use Rattle.sfi_words.specs.Laws.{CleanCallsTyped}
 use Rattle.sfi_words.proofs.Known.{typed_known, typed_at_ecall}
-use Rattle.sfi_words.proofs.Places.{at_start, goes_on, pc_in_code, byte_in_code}
-use Rattle.sfi_words.proofs.Stepping.{only, stands_here, step_good, step_safe}
+use Rattle.sfi_words.proofs.Places.{at_start, goes_on, safe_here}
+use Rattle.sfi_words.proofs.Stepping.{only, step_good, step_safe}
 
 module _ (p : Part) (clean : IsCleanPart p) where
   module _ (s : State) (good : IsGood p s) where
-    gate_here : (n : ℕ) → Stands s Ecall n → IsGate p s.hart.pc
-    gate_here n asked = (step_safe p s clean good (unchanged Call s.hart s.memory) (call_step s n asked)).called refl
-
     reply_good : (after : State) → IsReply p s after → IsGood p after
     reply_good after r =
         let e = only p s clean good Ecall r.size r.asked in
@@ -40,21 +37,8 @@ module _ (p : Part) (clean : IsCleanPart p) where
     turn_good (Replies after) h = reply_good after h
     turn_good (Changes after) h = change_good after h
 
-    turn_safe : (turn : Turn) → IsTurn p s turn → IsSafeTurn p s turn
-    turn_safe (Steps r) h = step_safe p s clean good r h
-    turn_safe (Replies after) h = gate_here h.size h.asked
-    turn_safe (Changes after) h = tt
-
-    state_safe : IsSafeState p s
-    state_safe = record {
-      code = good.kept.code;
-      present = record { instr = good.place.place.here.instr; size = good.place.place.here.size; stands = stands_here p s clean good };
-      pc = pc_in_code p clean s.hart good.place;
-      instruction = λ i n stands k below. byte_in_code p clean s.hart good.place k (subst (λ (m : ℕ). k < m) (only p s clean good i n stands).1 below);
-    }
-
 pub turn_keeps : TurnKeeps
-turn_keeps p s turn clean good h = (state_safe p clean s good, turn_safe p clean s good turn h, turn_good p clean s good turn h)
+turn_keeps p s turn clean good h = (safe_here p clean s.hart good.place s.memory good.kept.code, turn_safe p s (step_safe p s clean good) turn h, turn_good p clean s good turn h)
 
 -- ---- runs
 
