@@ -42,8 +42,9 @@ StackInDataBefore p earlier (here ∷ later) registers =
     ⊎ ((begins_pair here.instr later || ends_pair earlier here.instr) ≡ true)
 
 -- pc is at an offset of a bundle from which the rest is read whole and has no finding, if `earlier`
--- stood before it. That is any list, the nearest first, whose marks the registers bear, and it is
--- empty at the bundle's start alone. So there are more such places than a run reaches.
+-- stood before it. That is any list of instructions, the nearest first, which the bundle need not have:
+-- the registers only hold what its first two leave. It is empty at the bundle's start alone. So there
+-- are more such places than a run reaches.
 pub record IsAtPlace (sandbox : ℕ) (p : Part) (h : Hart) : Type 0 where
   pub number : ℕ
   pub within : bundle_size * number + bundle_size ≤ length p.code

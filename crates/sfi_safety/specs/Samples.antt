@@ -27,6 +27,7 @@ words_of is = map spelling is
 abbrev pub bytes_of : List ℕ → List ℕ
 bytes_of words = flat_map (λ w. to_le_bytes w32 w) words
 
+-- what a sample has of its own
 pub record Sample : Type 0 where
   pub format : Format
   pub gates : List Gate
@@ -59,6 +60,7 @@ code_as f is = record { format = f; gates = []; first_words = words_of is; last_
 abbrev pub code : List Instr → Sample
 code is = code_as Sfi1 is
 
+-- `addi x0, x0, 0`
 abbrev pub nop : Instr
 nop = OpImm Addi 0 0 (pos 0)
 
