@@ -7,7 +7,7 @@ use Rattle.sfi_rules.specs.declared.rule.Rule.{Rule}
 use Rattle.sfi_rules.specs.declared.rule.Rule.TheVariants.{V1, V2, V3, V4, V5, V6, V7, V8, V9, V10, V11, V12}
 use Rattle.rv_comp.proofs.Facts.{word_spells}
 use Rattle.sfi_safety.proofs.NeededBundles.{undecodable_unsafe, crossing_store_unsafe, running_off_the_end_unsafe, gate_comes_back_elsewhere_unsafe}
-use Rattle.sfi_safety.proofs.Readings.{IsSpelled, op_spelled, store_spelled, ebreak_spelled, code_findings, four, four_longest, wide, ecall_spelled, jalr_past, BrokenIn, found_in_both}
+use Rattle.sfi_safety.proofs.Readings.{IsSpelled, op_spelled, store_spelled, addi_x2, ebreak_spelled, code_findings, four, four_longest, wide, ecall_spelled, jalr_past, BrokenIn, found_in_both}
 use Rattle.sfi_safety.proofs.Samples.{IsSample, without_gates, hart, stack_hart, then_step, reaches, calls_elsewhere, has_left, past_end, needed, InBoth, of_both, breaks_alone}
 
 -- ---- the words
@@ -19,10 +19,6 @@ jal_x26 = word_spells (Jal 26 (pos 16)) (omega arith, ((omega (arith, ints), ome
 jal_back : IsSpelled (Jal 0 (minus 8))
 unfolding InRange
 jal_back = word_spells (Jal 0 (minus 8)) (omega arith, ((omega (arith, ints), omega (arith, ints)), refl))
-
-addi_x2 : IsSpelled (OpImm Addi 2 0 (pos 0))
-unfolding InRange
-addi_x2 = word_spells (OpImm Addi 2 0 (pos 0)) (omega arith, omega arith, (omega (arith, ints), omega (arith, ints)))
 
 -- ---- the one rule that is broken in a bundle of four words
 

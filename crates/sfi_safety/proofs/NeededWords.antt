@@ -9,7 +9,7 @@ use Rattle.sfi_runs.specs.Regions.{InCode}
 use Rattle.sfi_safety.specs.Needed.{IsOwedBefore, EachRuleOfWordsIsNeeded}
 use Rattle.sfi_safety.specs.Samples.{Sample, sandbox, nop}
 use Rattle.sfi_safety.specs.WordSamples.{undecodable_word, crossing_words, ecall_in_words, data_base_written, untyped_base, jump_past_its_register, jump_out, nop_at_the_end, data_register_not_put_back, code_register_not_put_back, offset_not_masked}
-use Rattle.sfi_safety.proofs.Readings.{IsSpelled, op_spelled, store_spelled, ebreak_spelled, ecall_spelled, nothing_begins, wide}
+use Rattle.sfi_safety.proofs.Readings.{IsSpelled, op_spelled, store_spelled, addi_x2, ebreak_spelled, ecall_spelled, nothing_begins, wide}
 use Rattle.sfi_safety.proofs.Samples.{IsSample, without_gates, then_step, reaches, calls_elsewhere, has_left, past_end}
 use Rattle.sfi_safety.proofs.NeededBundles.{undecodable_runs, nop_spelled, short_nop, store_across, nop_next, half_begins_nothing}
 use Rattle.sfi_safety.proofs.Undecodable.{ones_begin_nothing}
@@ -33,10 +33,6 @@ jalr_x30 = word_spells (Jalr 0 30 (pos 0)) (omega arith, omega arith, (omega (ar
 jal_out : IsSpelled (Jal 0 (pos 256))
 unfolding InRange
 jal_out = word_spells (Jal 0 (pos 256)) (omega arith, ((omega (arith, ints), omega (arith, ints)), refl))
-
-addi_x2 : IsSpelled (OpImm Addi 2 0 (pos 0))
-unfolding InRange
-addi_x2 = word_spells (OpImm Addi 2 0 (pos 0)) (omega arith, omega arith, (omega (arith, ints), omega (arith, ints)))
 
 addi_x30 : IsSpelled (OpImm Addi 30 0 (pos 0))
 unfolding InRange

@@ -1,33 +1,16 @@
 -- After an instruction the registers hold what it and the one before it leave: of a pair, an address of its region.
-use Rattle.sfi_safety.proofs.Prelude.{◌≡◌, ◌≢◌, ℕ, ◌-◌, ◌<◌, List, [], ◌∷◌, length, get_or, set, true, not, ◌&&◌, ◌==◌, refl, sym, ap, ◌∙◌, subst, arith, slice_index, and_parts, and_from, cond-false, ne_eqb, not-true, false≢true, eqb-false, get_or-set_same, And, Or, Instr, Op, InRange, code_most, Hart, register, with_register, result_of, Part, code_region, IsBundleStart, InData, Leaves, follows_mask, WritesResult, InstructionLeaves}
+use Rattle.sfi_safety.proofs.Prelude.{◌≡◌, ◌≢◌, ℕ, ◌-◌, ◌<◌, List, [], ◌∷◌, length, true, not, ◌&&◌, ◌==◌, sym, ap, ◌∙◌, subst, arith, slice_index, and_parts, and_from, not-true, false≢true, eqb-false, And, Or, Instr, Op, InRange, code_most, Hart, register, result_of, Part, code_region, IsBundleStart, InData, Leaves, follows_mask, WritesResult, InstructionLeaves}
 use Rattle.rv_word.specs.declared.instr.RegOp.{RegOp}
-use Rattle.sfi_pairs.specs.Pairs.{masking_instr, placing_instr, is_masking, is_placing}
+use Rattle.sfi_pairs.specs.Pairs.{is_masking, is_placing}
 use Rattle.sfi_policy.specs.Registers.{is_reserved}
 use Rattle.sfi_rules.specs.Pairs.{follows_pair}
 use Rattle.std.specs.Prelude.{bit_and, bit_or}
 use Rattle.sfi_runs.proofs.Formats.{bundles as bundle_unit}
-use Rattle.sfi_runs.proofs.Masks.{masked_data}
-use Rattle.sfi_safety.proofs.Masks.{masked_code}
-use Rattle.sfi_pairs.proofs.Facts.{pairs_are_found}
+use Rattle.sfi_runs.proofs.Accessing.{written}
+use Rattle.sfi_runs.proofs.Masks.{masked_data, masked_code}
+use Rattle.sfi_pairs.proofs.Facts.{masking_is, placing_is}
 
 -- ---- the two instructions of a pair
-
--- each instruction of a pair passes its own test
-both_pass : (mask base t a : ℕ) → (is_masking mask t (masking_instr mask t a) ≡ true) × (is_placing base t (placing_instr base t) ≡ true)
-both_pass mask base t a =
-    and_parts (is_masking mask t (masking_instr mask t a)) (is_placing base t (placing_instr base t))
-    ((pairs_are_found mask base t (masking_instr mask t a) (placing_instr base t)).1 (a, refl))
-
--- so what passes the test is found, beside the other of a pair
-masking_is : (mask t : ℕ) (i : Instr) → is_masking mask t i ≡ true → (a : ℕ) × (i ≡ masking_instr mask t a)
-masking_is mask t i h =
-    let found = (pairs_are_found mask 0 t i (placing_instr 0 t)).0 (and_from (is_masking mask t i) (is_placing 0 t (placing_instr 0 t)) h (both_pass mask 0 t 0).1) in
-    (found.0, let e = found.1 in cc)
-
-placing_is : (base t : ℕ) (i : Instr) → is_placing base t i ≡ true → i ≡ placing_instr base t
-placing_is base t i h =
-    let found = (pairs_are_found 0 base t (masking_instr 0 t 0) i).0 (and_from (is_masking 0 t (masking_instr 0 t 0)) (is_placing base t i) (both_pass 0 base t 0).0 h) in
-    let e = found.1 in cc
 
 -- the `or` is directly before, the `and` before it, and the target is not x0
 record IsPair (mask base t : ℕ) (i : Instr) (earlier : List Instr) : Type 0 where
@@ -57,10 +40,6 @@ mask_parts mask t first earlier h =
 target_in_range : (op : RegOp) (t a b : ℕ) → InRange (Op op t a b) → t < 32
 unfolding InRange
 target_in_range op t a b h = h.0
-
-written : (t value : ℕ) (h : Hart) → t ≢ 0 → t < length h.registers → register (with_register h t value) t ≡ value
-written t value h ne within =
-    ap (λ (l : List ℕ). get_or l t 0) (cond-false (t == 0) h.registers (set h.registers t value) (ne_eqb t 0 ne)) ∙ get_or-set_same h.registers t value 0 within
 
 result_there : (op : RegOp) (t a b : ℕ) (i : Instr) (before after : Hart) → i ≡ Op op t a b → t ≢ 0 → length before.registers ≡ 32 → InRange i → WritesResult i before after → register after t ≡ result_of op (register before a) (register before b)
 result_there op t a b i before after e ne count range writes =
@@ -101,7 +80,7 @@ leaves_after p before after i earlier right bundles count reserved range writes 
       let x = had.code_mask t pair.mask_before in
       let value = after_placing 24 t i before after pair.placing pair.target count range writes in
       let value' : register after t ≡ bit_or (bit_and x.0 (length p.code - 16)) p.code_base = value ∙ ap (λ n. bit_or n (register before 24)) (x.1 ∙ ap (λ u. bit_and x.0 (length p.code - u)) (bundle_unit p.format bundles)) ∙ ap (λ n. bit_or (bit_and x.0 (length p.code - 16)) n) reserved.code_base in
-      let placed = masked_code p.code_base (length p.code) (code_most p.format) x.0 right.code_placed in
+      let placed = masked_code p.code_base (length p.code) (code_most p.format) 4 x.0 (omega arith) right.code_placed in
       subst (λ n. IsBundleStart (code_region p) n) (sym value') (record { held = (placed.0.from, placed.0.below); aligned = placed.1 });
   data_mask = λ t h.
       let parts = mask_parts 27 t i earlier h in

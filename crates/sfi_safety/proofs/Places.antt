@@ -1,11 +1,12 @@
 -- A hart at a bundle start is at that bundle's first piece, and the one instruction there is the reading's.
-use Rattle.sfi_safety.proofs.Prelude.{◌≡◌, ℕ, zero, suc, ◌+◌, ◌-◌, ◌*◌, ◌/◌, ◌%◌, ◌<◌, ◌≤◌, List, [], ◌∷◌, ◌++◌, length, get_or, take, drop, Some, true, refl, sym, ap, ◌∙◌, subst, inl, inr, ⊎_elim, arith, get_or-drop, get_or-take, add-zero, slice_index, cases_lt, Spells, Bytes, byte_at, bytes_at, address_after, addresses, Hart, Stands, Part, code_region, IsBundleStart, BundlePlace, Finding, place_of, bundle_bytes, Piece, IsReading, rest_of, is_empty, findings_from, rest_finding, AreReadingFindings, AreBundleFindings, AreFindingsOfFirst, StackInData, HasCode, AreCleanBundles, IsAtPlace}
+use Rattle.sfi_safety.proofs.Prelude.{◌≡◌, ℕ, zero, suc, ◌+◌, ◌-◌, ◌*◌, ◌/◌, ◌%◌, ◌<◌, ◌≤◌, List, [], ◌∷◌, ◌++◌, length, take, drop, true, refl, sym, ap, ◌∙◌, subst, inl, inr, ⊎_elim, arith, add-zero, cases_lt, Spells, Bytes, Hart, Stands, Part, code_region, IsBundleStart, BundlePlace, Finding, place_of, bundle_bytes, Piece, IsReading, rest_of, is_empty, findings_from, rest_finding, AreReadingFindings, AreBundleFindings, AreFindingsOfFirst, StackInData, HasCode, AreCleanBundles, IsAtPlace, IsSafeState}
 use Rattle.rv_comp.proofs.Facts.{spelled_length, spelled_some}
 use Rattle.std.proofs.Common.{length-take, length-drop}
+use Rattle.std.proofs.lemmas.List.{take-take, drop-take, drop-drop}
 use Rattle.sfi_runs.specs.Regions.{InCode}
 use Rattle.sfi_safety.proofs.PairResult.{leaves_nothing}
-use Rattle.sfi_runs.proofs.Stepping.{read_all}
-use Rattle.sfi_image.proofs.Facts.{whole_bundles, code_ends}
+use Rattle.sfi_runs.proofs.Standing.{pc_within, stands_there, state_safe}
+use Rattle.sfi_image.proofs.Facts.{whole_bundles}
 
 -- ---- a bundle without a finding
 
@@ -111,51 +112,31 @@ module _ (sandbox : ℕ) (p : Part) (h : Hart) (clean : AreCleanBundles sandbox 
       let all : length (take at.here.size (drop at.offset bundle)) ≡ at.here.size = length_here in
       omega (arith, cut, left, all, sixteen, some)
 
-  byte_here : (k : ℕ) → k < at.here.size → get_or bytes_here k 0 ≡ get_or p.code (16 * at.number + at.offset + k) 0
-  unfolding bytes_here
-  byte_here k below =
-      let within = here_within in
-      let place : 16 * at.number + (at.offset + k) ≡ 16 * at.number + at.offset + k = omega arith in
-      let inside : at.offset + k < 16 = omega arith in
-      get_or-take at.here.size (drop at.offset (bundle_bytes p at.number)) k 0 below
-      ∙ get_or-drop at.offset (bundle_bytes p at.number) k 0
-      ∙ get_or-take 16 (drop (16 * at.number) p.code) (at.offset + k) 0 inside
-      ∙ get_or-drop (16 * at.number) p.code (at.offset + k) 0
-      ∙ ap (λ n. get_or p.code n 0) place
+  -- what is cut from a bundle is cut from the code
+  in_code : (code : List ℕ) (at offset n : ℕ) → offset + n ≤ 16 → take n (drop offset (take 16 (drop at code))) ≡ take n (drop (at + offset) code)
+  in_code code at offset n within =
+      let m = 16 - offset in
+      let whole : 16 ≡ offset + m = omega arith in
+      ap (λ k. take n (drop offset (take k (drop at code)))) whole ∙ ap (take n) (drop-take offset m (drop at code))
+      ∙ take-take n m (drop offset (drop at code)) (omega arith) ∙ ap (take n) (drop-drop offset at code)
 
-  there_here : (m : Bytes) → HasCode p m → (k : ℕ) → k < length bytes_here → byte_at m (address_after h.pc k) ≡ Some (slice_index bytes_here k)
-  there_here m code k below =
+  pc_is : h.pc ≡ p.code_base + (16 * at.number + at.offset)
+  pc_is = let pc = at.pc in omega arith
+
+  inside : 16 * at.number + at.offset + at.here.size ≤ length p.code
+  inside =
       let size = here_within in
-      let below' : k < at.here.size = subst (λ n. k < n) length_here below in
       let within : 16 * at.number + 16 ≤ length p.code = at.within in
-      let end = code_ends p clean.right in
-      let pc : h.pc ≡ p.code_base + 16 * at.number + at.offset = at.pc in
-      let j = 16 * at.number + at.offset + k in
-      let same : address_after h.pc k ≡ p.code_base + j = omega arith in
-      let inside : j < length p.code = omega arith in
-      ap (byte_at m) same ∙ code j inside ∙ ap Some (sym (byte_here k below'))
+      omega arith
 
   pub pc_in_code : InCode p h.pc
-  pc_in_code =
-      let size = here_within in
-      let some = here_some in
-      let pc : h.pc ≡ p.code_base + 16 * at.number + at.offset = at.pc in
-      let within : 16 * at.number + 16 ≤ length p.code = at.within in
-      (omega arith, omega arith)
+  pc_in_code = pc_within p clean.right h (16 * at.number + at.offset) at.here.size pc_is inside here_some
 
-  pub byte_in_code : (k : ℕ) → k < at.here.size → InCode p (address_after h.pc k)
-  byte_in_code k below =
-      let size = here_within in
-      let end = code_ends p clean.right in
-      let pc : h.pc ≡ p.code_base + 16 * at.number + at.offset = at.pc in
-      let within : 16 * at.number + 16 ≤ length p.code = at.within in
-      let e : address_after h.pc k ≡ h.pc + k = omega arith in
-      (omega arith, omega arith)
-
-  read_here : (m : Bytes) → HasCode p m → bytes_at m (addresses h.pc at.here.size) ≡ Some bytes_here
-  read_here m code =
-      subst (λ (n : ℕ). bytes_at m (addresses h.pc n) ≡ Some bytes_here) length_here
-      (read_all m (address_after h.pc) 0 bytes_here (λ k below. let e : k ≡ 0 + k = omega arith in subst (λ (j : ℕ). byte_at m (address_after h.pc j) ≡ Some (slice_index bytes_here k)) e (there_here m code k below)))
+  spelled_there : Spells (take at.here.size (drop (16 * at.number + at.offset) p.code)) at.here.instr at.here.size
+  spelled_there = subst (λ (bytes : List ℕ). Spells bytes at.here.instr at.here.size) (in_code p.code (16 * at.number) at.offset at.here.size here_within) at.reading.0
 
   pub present : (m : Bytes) → HasCode p m → Stands (record { hart = h; memory = m }) at.here.instr at.here.size
-  present m code = record { bytes = bytes_here; there = read_here m code; spelled = spelled_here }
+  present m code = stands_there p clean.right h (16 * at.number + at.offset) at.here.size pc_is inside m at.here.instr code spelled_there
+
+  pub safe_here : (m : Bytes) → HasCode p m → IsSafeState p (record { hart = h; memory = m })
+  safe_here m code = state_safe p clean.right h (16 * at.number + at.offset) at.here.size pc_is inside m at.here.instr code spelled_there

@@ -1,31 +1,31 @@
 -- Words of std and of definitions that many proofs of this crate use.
-pub use Rattle.std.proofs.Common.{◌≡◌, ◌≢◌, ℕ, suc, ◌+◌, ◌-◌, ◌%◌, ◌^◌, ◌<◌, ◌≤◌, ◌⊎◌, List, length, get_or, set, false, ◌||◌, ◌==◌, refl, sym, ◌∙◌, subst, inl, inr, ⊎_elim, arith, zero, ◌*◌, Bool, true, [], ◌++◌, take, drop, ap, ◌∷◌, Option, Some, None, cond, ◌/◌, not, ◌&&◌, add-zero, get_or-take, map, get_or-drop, replicate}
-pub use Rattle.std.specs.Prelude.{ℤ, pos, negsuc, ◌+ℤ◌, slice_index, slice_get, is_some, filter, nat_lt, nat_le, IsSome}
-pub use Rattle.std.proofs.lemmas.Bool.{cases_lt, or_parts, eqb-false, cond_both, and_parts, or_cases, eqb-true, not-false, and_from, cond-false, ne_eqb, not-true, false≢true, ltb-true, cases_Bool, or_left, or_right, leb-true}
+pub use Rattle.std.proofs.Common.{◌≡◌, ◌≢◌, ℕ, suc, ◌+◌, ◌-◌, ◌%◌, ◌^◌, ◌<◌, ◌≤◌, ◌⊎◌, List, length, get_or, false, ◌||◌, ◌==◌, refl, sym, ◌∙◌, subst, inl, inr, ⊎_elim, arith, zero, ◌*◌, Bool, true, [], ◌++◌, take, drop, ap, ◌∷◌, Option, Some, None, cond, ◌/◌, not, ◌&&◌, add-zero, get_or-take, get_or-drop, replicate}
+pub use Rattle.std.specs.Prelude.{ℤ, pos, negsuc, slice_index, is_some, filter, nat_lt}
+pub use Rattle.std.proofs.lemmas.Bool.{cases_lt, eqb-false, and_parts, or_cases, eqb-true, not-false, and_from, not-true, false≢true, ltb-true, cases_Bool, or_left, or_right}
 pub use Rattle.std.proofs.lemmas.Int.{ints}
-pub use Rattle.std.proofs.lemmas.List.{get_or-set_other, length-set, length-map, drop-drop, append-nil, get_or-set_same}
-pub use Rattle.std.specs.List.{Contains, range_with_len, All, list_all}
+pub use Rattle.std.proofs.lemmas.List.{drop-drop, append-nil}
+pub use Rattle.std.specs.List.{Contains, All, list_all}
 pub use Rattle.rv_word.specs.Numbers.{offset_by, minus}
 pub use Rattle.rv_word.specs.Spelling.{IsImm12, IsWordOf}
 unfoldable pub use Rattle.rv_word.specs.Spelling.{InRange, spelling}
 pub use Rattle.rv_word.specs.declared.instr.Instr.{Instr}
 pub use Rattle.rv_word.specs.declared.instr.Instr.TheVariants.{Load, Store, Ecall, Op, OpImm, Branch, Jal, Jalr, Lui, Auipc, Fence, Ebreak}
 pub use Rattle.rv_word.specs.declared.instr.RegOp.TheVariants.{And, Or}
-pub use Rattle.rv_word.specs.declared.instr.StoreWidth.TheVariants.{Sb, Sh, Sw}
+pub use Rattle.rv_word.specs.declared.instr.StoreWidth.TheVariants.{Sb, Sw}
 pub use Rattle.rv_comp.specs.Fronts.{Spells}
-pub use Rattle.rv_mem.specs.Bytes.{address_after, addresses, Bytes, bytes_at, loaded, stored, IsMemory, byte_at, in_front}
+pub use Rattle.rv_mem.specs.Bytes.{address_after, addresses, Bytes, bytes_at, loaded, stored, byte_at, in_front}
 pub use Rattle.rv_step.specs.Access.{Accesses}
 pub use Rattle.rv_step.specs.State.{Hart, with_register, State, register, with_pc, past, even_of, IsHart}
 pub use Rattle.rv_step.specs.Step.{Stands, effect, after_load, next, unchanged, Stepped, IsStep}
-pub use Rattle.rv_step.specs.Values.{word, load_size, store_size, extended, is_taken, result_of}
+pub use Rattle.rv_step.specs.Values.{load_size, store_size, extended, is_taken, result_of}
 pub use Rattle.rv_step.specs.declared.outcome.Outcome.TheVariants.{Next, Call, Trap}
 pub use Rattle.sfi_policy.specs.Formats.{code_most, has_stack, has_words, is_stack}
 pub use Rattle.sfi_policy.specs.declared.format.Format.{Format}
 pub use Rattle.sfi_policy.specs.declared.format.Format.TheVariants.{Sfi1, Sfi2, Sfiw}
 pub use Rattle.sfi_image.specs.Gates.{is_gate_of, AreGates}
 pub use Rattle.sfi_image.specs.Parts.{IsRightPart, AreRight, IsRightLayout, AreOf}
-pub use Rattle.sfi_image.specs.Regions.{IsBundleStart, IsRegion}
-pub use Rattle.sfi_image.specs.Spans.{code_region, AreApart, guarded_region, Holds}
+pub use Rattle.sfi_image.specs.Regions.{IsBundleStart}
+pub use Rattle.sfi_image.specs.Spans.{code_region, AreApart, guarded_region}
 pub use Rattle.sfi_image.specs.Spelling.{Part, AreGateWords}
 pub use Rattle.sfi_image.specs.declared.part.Gate.{Gate}
 pub use Rattle.sfi_rules.specs.Bundles.{place_of, bundle_bytes}
@@ -38,10 +38,10 @@ pub use Rattle.sfi_safety.specs.Laws.{CleanCallsTyped, InstructionLeaves, TurnKe
 pub use Rattle.sfi_safety.specs.Leaving.{Leaves, WritesResult, follows_mask}
 pub use Rattle.sfi_safety.specs.Needed.{BreaksAloneInBundle, IsNeeded, EachRuleIsNeeded, HasOneFinding, HasUnsafeRun, StoresByte, IsAcceptedAndRuns, IsStricter, BreaksNoOther}
 pub use Rattle.sfi_safety.specs.Places.{IsCleanPart, AreCleanBundles, IsGood, IsGoodIf, StackInDataBefore, IsAtPlace}
-pub use Rattle.sfi_runs.specs.Regions.{InData, InGuard, HasReserved, IsGate, HasCode, HasEmptyGuards}
+pub use Rattle.sfi_runs.specs.Regions.{InData, InGuard, HasReserved, IsGate, HasCode}
 pub use Rattle.sfi_runs.specs.Typed.{StackInData}
 pub use Rattle.sfi_runs.specs.Runs.{Turn, IsRun, after_turn, IsEntry, Steps, Replies, IsReply, IsTurn, after_step, KeepsBytes, Changes, IsChange}
-pub use Rattle.sfi_runs.specs.Safety.{AllRunSafely, IsSafeRun, RunsSafelyFrom, RunsSafely, IsSafeStep, IsTrap, IsSafeState, IsSafeTurn}
+pub use Rattle.sfi_runs.specs.Safety.{AllRunSafely, IsSafeRun, RunsSafely, IsSafeStep, IsSafeState}
 pub use Rattle.sfi_safety.specs.Clean.{IsClean, IsAccepted, MayRun}
 pub use Rattle.sfi_runs.specs.Typed.{IsTyped}
 pub use Rattle.sfi_runs.specs.Regions.{IsUnitStart}

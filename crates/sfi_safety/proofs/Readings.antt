@@ -1,5 +1,6 @@
 -- What the samples' bundles are read as, and the findings of a sample.
-use Rattle.sfi_safety.proofs.Prelude.{Format, Sfi1, Sfi2, Sfiw, Gate, is_gate_of, ◌≡◌, ℕ, suc, ◌+◌, ◌-◌, ◌*◌, ◌≤◌, List, [], ◌∷◌, ◌++◌, length, take, drop, true, false, refl, sym, ap, ◌∙◌, subst, inr, arith, get_or-take, false≢true, append-nil, Instr, Ebreak, spelling, InRange, Spells, BundlePlace, Finding, place_of, bundle_bytes, Piece, IsReading, IsLongestReading, rest_of, is_empty, findings_from, rest_finding, AreBundleFindings, AreFindingsOfFirst, AreFindingsInBundles, Op, Store, pos, nat_lt, ◌&&◌, and_parts, ltb-true, ints, Ecall, Jalr, has_words, filter, breaks, all_rules}
+use Rattle.sfi_safety.proofs.Prelude.{Format, Sfi1, Sfi2, Sfiw, Gate, is_gate_of, ◌≡◌, ℕ, suc, ◌+◌, ◌-◌, ◌*◌, ◌≤◌, List, [], ◌∷◌, ◌++◌, length, take, drop, true, false, refl, sym, ap, ◌∙◌, subst, inr, arith, get_or-take, false≢true, append-nil, Instr, Ebreak, spelling, InRange, Spells, OpImm, BundlePlace, Finding, place_of, bundle_bytes, Piece, IsReading, IsLongestReading, rest_of, is_empty, findings_from, rest_finding, AreBundleFindings, AreFindingsOfFirst, AreFindingsInBundles, Op, Store, pos, nat_lt, ◌&&◌, and_parts, ltb-true, ints, Ecall, Jalr, has_words, filter, breaks, all_rules}
+use Rattle.rv_word.specs.declared.instr.ImmOp.TheVariants.{Addi}
 use Rattle.rv_word.specs.declared.instr.RegOp.{RegOp}
 use Rattle.rv_word.specs.declared.instr.StoreWidth.{StoreWidth}
 use Rattle.sfi_safety.specs.Samples.{Sample, sandbox, words_of, bytes_of, code_as}
@@ -92,6 +93,10 @@ op_spelled op rd a b e =
 pub store_spelled : (width : StoreWidth) (a b : ℕ) → (nat_lt a 32 && nat_lt b 32) ≡ true → IsSpelled (Store width a b (pos 0))
 unfolding InRange
 store_spelled width a b e = let x = and_parts (nat_lt a 32) (nat_lt b 32) e in word_spells (Store width a b (pos 0)) (ltb-true a 32 x.0, ltb-true b 32 x.1, (omega (arith, ints), omega (arith, ints)))
+
+pub addi_x2 : IsSpelled (OpImm Addi 2 0 (pos 0))
+unfolding InRange
+addi_x2 = word_spells (OpImm Addi 2 0 (pos 0)) (omega arith, omega arith, (omega (arith, ints), omega (arith, ints)))
 
 pub ebreak_spelled : IsSpelled Ebreak
 unfolding InRange

@@ -1,5 +1,5 @@
 -- One step from a good state is safe, and leads to a good state.
-use Rattle.sfi_safety.proofs.Prelude.{◌≡◌, ℕ, ◌+◌, ◌*◌, ◌%◌, ◌^◌, ◌<◌, ◌≤◌, ◌⊎◌, List, [], ◌∷◌, length, true, ◌&&◌, ◌==◌, refl, sym, ap, ◌∙◌, subst, arith, add-zero, nat_lt, nat_le, and_parts, eqb-true, leb-true, ltb-true, false≢true, Instr, Next, Call, Trap, Accesses, State, Stepped, Stands, IsStep, effect, Part, code_region, IsBundleStart, place_of, is_empty, is_bundle_start, InData, InGuard, IsGate, after_step, IsSafeStep, AreCleanBundles, IsGood, IsGoodIf}
+use Rattle.sfi_safety.proofs.Prelude.{◌≡◌, ℕ, ◌+◌, ◌*◌, ◌^◌, ◌<◌, ◌≤◌, ◌⊎◌, List, [], ◌∷◌, length, true, refl, sym, ap, ◌∙◌, subst, arith, add-zero, false≢true, Instr, Next, Call, Trap, Accesses, State, Stepped, Stands, IsStep, effect, Part, place_of, is_empty, InData, InGuard, IsGate, after_step, IsSafeStep, AreCleanBundles, IsGood, IsGoodIf}
 use Rattle.rv_step.specs.declared.outcome.Outcome.{Outcome}
 use Rattle.sfi_safety.proofs.Places.{pc_in_code, present}
 use Rattle.sfi_safety.proofs.NextPlace.{place_here, rules_kept, goes_on}
@@ -10,14 +10,7 @@ use Rattle.rv_step.proofs.Facts.{one_instruction, stopped_stays}
 use Rattle.sfi_runs.proofs.Stepping.{gate_of}
 use Rattle.sfi_runs.proofs.Stepping as steps
 use Rattle.sfi_image.proofs.Facts.{code_ends}
-
--- ---- regions
-
-bundle_start : (sandbox : ℕ) (p : Part) (n a : ℕ) → is_bundle_start (place_of sandbox p n) a ≡ true → IsBundleStart (code_region p) a
-bundle_start sandbox p n a h =
-    let x = and_parts (nat_le p.code_base a && nat_lt a (p.code_base + length p.code)) (a % 16 == 0) h in
-    let y = and_parts (nat_le p.code_base a) (nat_lt a (p.code_base + length p.code)) x.0 in
-    record { held = (leb-true p.code_base a y.0, ltb-true a (p.code_base + length p.code) y.1); aligned = eqb-true (a % 16) 0 x.1 }
+use Rattle.sfi_rules.proofs.Facts.{same_bundle_starts}
 
 no_earlier : {A : Type 0} (xs : List A) → is_empty xs ≡ true → xs ≡ []
 no_earlier [] h = refl
@@ -57,7 +50,7 @@ module _ (sandbox : ℕ) (p : Part) (s : State) (clean : AreCleanBundles sandbox
         gate = λ e listed.
             let first : p.code_base + 16 * at.number ≡ s.hart.pc = sym (at.pc ∙ ap (λ (n : ℕ). p.code_base + 16 * at.number + n) (at.first (no_earlier at.earlier e)) ∙ add-zero (p.code_base + 16 * at.number)) in
             subst (λ (a : ℕ). IsGate p a) first (gate_of p.gates (p.code_base + 16 * at.number) listed);
-        is_start = bundle_start sandbox p at.number;
+        is_start = λ a is. (same_bundle_starts (place_of sandbox p at.number) a).0 is;
         goes = λ h' pc goes leaves stack. goes_on sandbox p s.hart h' clean at pc goes leaves stack;
         start = λ h' start stack. at_start sandbox p h' clean start stack;
       }

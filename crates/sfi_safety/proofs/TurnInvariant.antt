@@ -1,12 +1,12 @@
 -- Each turn keeps a good state, and so does each run.
-use Rattle.sfi_safety.proofs.Prelude.{◌≡◌, ℕ, ◌<◌, List, ◌∷◌, false, refl, sym, ap, ◌∙◌, subst, Instr, Ecall, InRange, address_after, Call, State, Stands, unchanged, Part, ends_region, IsGate, IsReply, IsChange, Turn, Steps, Replies, Changes, IsTurn, after_turn, IsSafeState, IsSafeTurn, RunsSafely, Leaves, StackInDataBefore, IsTyped, AreCleanBundles, IsGood, IsGoodIf, EntryIsGood, TurnKeeps}
+use Rattle.sfi_safety.proofs.Prelude.{◌≡◌, ℕ, List, ◌∷◌, false, sym, ap, ◌∙◌, subst, Instr, Ecall, InRange, address_after, State, Stands, Part, ends_region, IsReply, IsChange, Turn, Steps, Replies, Changes, IsTurn, after_turn, RunsSafely, Leaves, StackInDataBefore, IsTyped, AreCleanBundles, IsGood, IsGoodIf, EntryIsGood, TurnKeeps}
 use Rattle.sfi_runs.specs.Calls.{CallsTyped}
 use Rattle.sfi_runs.proofs.Formats.{to_bundle, of_stack}
-use Rattle.sfi_runs.proofs.Turning.{entry_keeps, reply_keeps, change_keeps, call_step, runs_safely, calls_typed}
-use Rattle.sfi_safety.proofs.Places.{at_start, pc_in_code, byte_in_code}
+use Rattle.sfi_runs.proofs.Turning.{entry_keeps, reply_keeps, change_keeps, turn_safe, runs_safely, calls_typed}
+use Rattle.sfi_safety.proofs.Places.{at_start, safe_here}
 use Rattle.sfi_safety.proofs.NextPlace.{goes_on}
 use Rattle.sfi_safety.proofs.Stacking.{is_of_pair, stack_here, stack_lies}
-use Rattle.sfi_safety.proofs.Stepping.{only, stands_here, step_good, step_safe}
+use Rattle.sfi_safety.proofs.Stepping.{only, step_good, step_safe}
 use Rattle.rv_comp.proofs.Facts.{ecall_is_wide}
 use Rattle.sfi_safety.proofs.PairResult.{leaves_after}
 
@@ -18,9 +18,6 @@ ecall_in_range = tt
 
 module _ (sandbox : ℕ) (p : Part) (clean : AreCleanBundles sandbox p) where
   module _ (s : State) (good : IsGood sandbox p s) where
-    gate_here : (n : ℕ) → Stands s Ecall n → IsGate p s.hart.pc
-    gate_here n asked = (step_safe sandbox p s clean good (unchanged Call s.hart s.memory) (call_step s n asked)).called refl
-
     reply_good : (after : State) → IsReply p s after → IsGood sandbox p after
     reply_good after r =
         let at = good.place in
@@ -62,22 +59,9 @@ module _ (sandbox : ℕ) (p : Part) (clean : AreCleanBundles sandbox p) where
     turn_good (Replies after) h = reply_good after h
     turn_good (Changes after) h = change_good after h
 
-    turn_safe : (turn : Turn) → IsTurn p s turn → IsSafeTurn p s turn
-    turn_safe (Steps r) h = step_safe sandbox p s clean good r h
-    turn_safe (Replies after) h = gate_here h.size h.asked
-    turn_safe (Changes after) h = tt
-
-    state_safe : IsSafeState p s
-    state_safe = record {
-      code = good.kept.code;
-      present = record { instr = good.place.here.instr; size = good.place.here.size; stands = stands_here sandbox p s clean good };
-      pc = pc_in_code sandbox p s.hart clean good.place;
-      instruction = λ i n stands k below. byte_in_code sandbox p s.hart clean good.place k (subst (λ (m : ℕ). k < m) (only sandbox p s clean good i n stands).1 below);
-    }
-
 pub turn_keeps : TurnKeeps
 turn_keeps sandbox p s turn clean good h =
-    (state_safe sandbox p clean s good, turn_safe sandbox p clean s good turn h, turn_good sandbox p clean s good turn h)
+    (safe_here sandbox p s.hart clean good.place s.memory good.kept.code, turn_safe p s (step_safe sandbox p s clean good) turn h, turn_good sandbox p clean s good turn h)
 
 -- ---- runs
 
