@@ -1,14 +1,11 @@
 pub mod Prelude
-pub mod Masks
 pub mod Tests
 pub mod Effects
 pub mod Known
 pub mod Places
 pub mod Stepping
 pub mod Turns
-pub mod After
 pub mod Owing
-pub mod Scanning
 pub mod Passing
 pub mod Judging
 pub mod Telling

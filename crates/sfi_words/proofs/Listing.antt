@@ -16,7 +16,7 @@ use Rattle.sfi_rules.specs.declared.finding.Finding.{Finding}
 use Rattle.sfi_rules.specs.declared.owed.Owed.{Owed}
 use Rattle.sfi_rules.specs.words.Findings.{is_at_gate, IsWordFound, AreFoundInWords, AreFoundOfFirst}
 use Rattle.sfi_words.specs.Laws.{FindsWhatIsBroken}
-use Rattle.sfi_words.proofs.Masks as masks
+use Rattle.sfi_words.proofs.Places as places
 use Rattle.sfi_words.proofs.Telling.{Tells, IsPlaceIn, IsLeft, IsGateOf, Code, tells_first, told, word_tells}
 
 -- ---- the gate of a bundle
@@ -90,6 +90,6 @@ module _ (sandbox : ℕ) (p : Part) (right : IsRightPart p) (base : p.code_base 
 
 pub finds : FindsWhatIsBroken
 finds sandbox p found right h =
-    let whole = masks.whole p right in
+    let whole = places.bundles_whole p right in
     let all = h.2 in
     told p (16 * h.0) h.1 found (omega arith) (first_tell sandbox p right whole.0 h.0 found h.1 (omega arith) h.3)

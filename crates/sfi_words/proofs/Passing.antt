@@ -1,5 +1,5 @@
 -- What a scan in one pass keeps: the sandbox is clean where the rest of its code is, and what is owed comes.
-use Rattle.std.proofs.Common.{◌≡◌, ◌↔◌, ℕ, ◌+◌, ◌≤◌, List, [], ◌∷◌, length, take, drop, Bool, true, false, not, ◌&&◌, Option, Some, refl, sym, ap, ◌∙◌, subst, arith}
+use Rattle.std.proofs.Common.{◌≡◌, ◌↔◌, ℕ, ◌+◌, ◌≤◌, List, [], ◌∷◌, length, take, drop, Bool, true, false, not, ◌&&◌, Option, Some, refl, sym, ap, ◌∙◌, subst, arith, add-zero}
 use Rattle.std.proofs.lemmas.Bool.{and_parts, and_from, not-true, not-false}
 use Rattle.std.proofs.lemmas.List.{length-drop, drop-drop}
 use Rattle.rv_word.specs.declared.instr.Instr.{Instr}
@@ -12,12 +12,67 @@ use Rattle.sfi_rules.specs.words.Rules.{breaks_width, breaks_ecall, breaks_acces
 use Rattle.sfi_words.specs.Code.{BreaksNone, BreakNone, AreWordsClean}
 use Rattle.sfi_rules.specs.declared.owed.Owed.{Owed}
 use Rattle.sfi_rules.specs.declared.owed.Owed.TheVariants.{Nothing, Mask, Place, MaskOrUse, Code}
-use Rattle.sfi_words.proofs.After.{begins, none_there}
-use Rattle.sfi_rules.proofs.Readings.{IsStuck, spelled_within}
+use Rattle.sfi_rules.proofs.Readings.{IsStuck, spelled_within, front_one}
 use Rattle.sfi_words.proofs.Owing.{meets, meets_if, owed_after, is_nothing, keeps, after_is}
 use Rattle.sfi_rules.specs.words.Findings.{fails_data, fails_code}
 use Rattle.sfi_words.proofs.Judging.{none_failing}
-use Rattle.sfi_words.proofs.Scanning.{IsCleanFrom, at_first, at_last}
+
+-- ---- what comes after a place, where the rest is read whole, is what is read there
+
+-- a whole reading begins with it, and goes on with a whole reading of what follows
+record Begins (bytes : List ℕ) (i : Instr) (n : ℕ) (later : List Piece) : Type 0 where
+  pub rest : List Piece
+  pub is : later ≡ record { instr = i; size = n } ∷ rest
+  pub reading : IsReading (drop n bytes) rest
+  pub whole : rest_of (drop n bytes) rest ≡ []
+
+begins : (bytes : List ℕ) (i : Instr) (n : ℕ) → Spells (take n bytes) i n → (later : List Piece) → IsReading bytes later → rest_of bytes later ≡ [] → Begins bytes i n later
+begins bytes i n s [] h whole = absurd (let w = spelled_within bytes i n s in let none : length bytes ≡ 0 = ap length whole in omega (arith, w.0, w.1))
+begins bytes i n s (x ∷ rest) h whole =
+    let e = front_one bytes x (record { instr = i; size = n }) h.0 s in
+    record {
+      rest = rest;
+      is = ap (λ (y : Piece). y ∷ rest) e;
+      reading = subst (λ (y : Piece). IsReading (drop y.size bytes) rest) e h.1;
+      whole = subst (λ (y : Piece). rest_of (drop y.size bytes) rest ≡ []) e whole;
+    }
+
+none_there : (bytes : List ℕ) → IsStuck bytes → (later : List Piece) → IsReading bytes later → later ≡ []
+none_there bytes stuck [] h = refl
+none_there bytes stuck (x ∷ rest) h = absurd (stuck x.instr x.size h.0)
+
+-- ---- the rest of the code
+
+-- from the offset on the code is read whole, and none breaks a rule
+pub record IsCleanFrom (p : Part) (at : ℕ) : Type 0 where
+  pub pieces : List Piece
+  pub reading : IsReading (drop at p.code) pieces
+  pub whole : rest_of (drop at p.code) pieces ≡ []
+  pub none : BreakNone p (p.code_base + at) pieces
+
+abbrev pub IsSameFrom : Part → ℕ → Type 0
+IsSameFrom p at = AreWordsClean p ↔ IsCleanFrom p at
+
+at_first : (p : Part) → IsSameFrom p 0
+at_first p = (
+  λ c. record { pieces = c.reading; reading = c.is_reading; whole = c.whole; none = subst (λ (a : ℕ). BreakNone p a c.reading) (sym (add-zero p.code_base)) c.none },
+  λ c. record { reading = c.pieces; is_reading = c.reading; whole = c.whole; none = subst (λ (a : ℕ). BreakNone p a c.pieces) (add-zero p.code_base) c.none },
+)
+
+-- at the code's end nothing is left
+at_last : (p : Part) (at : ℕ) → length p.code ≤ at → IsCleanFrom p at
+at_last p at past = record {
+  pieces = [];
+  reading = tt;
+  whole = empty (drop at p.code) (omega (arith, length-drop at p.code));
+  none = tt;
+}
+  where
+    empty : (l : List ℕ) → length l ≡ 0 → l ≡ []
+    empty [] e = refl
+    empty (x ∷ l) e = absurd (omega arith)
+
+-- ---- and what is owed
 
 pub record IsCleanWith (p : Part) (at : ℕ) (owed : Owed) (ended : Bool) : Type 0 where
   pub rest : IsCleanFrom p at
@@ -46,13 +101,6 @@ with_first p = (
   λ c. let r = (at_first p).0 c in record { rest = r; met = refl; end = no_end (is_empty r.pieces) },
   λ c. (at_first p).1 c.rest,
 )
-
-owes_none : (o : Owed) → meets o [] ≡ true → is_nothing o ≡ true
-owes_none Nothing h = refl
-owes_none (Mask d) h = h
-owes_none (Place d) h = h
-owes_none (MaskOrUse d) h = h
-owes_none Code h = h
 
 nothing_meets : (o : Owed) (later : List Piece) → is_nothing o ≡ true → meets o later ≡ true
 nothing_meets Nothing later h = refl

@@ -1,24 +1,12 @@
 -- Each word's start is a place of the code's reading, and so is what stands after one; the one instruction there is the reading's.
-use Rattle.sfi_words.proofs.Prelude.{◌≡◌, ℕ, ◌+◌, ◌-◌, ◌%◌, ◌<◌, ◌≤◌, ◌⊎◌, List, [], ◌∷◌, length, take, drop, Bool, true, false, not, ◌==◌, refl, sym, ap, ◌∙◌, subst, ⊎_elim, arith, add-zero, length-take, length-drop, drop-drop, cases_lt, eqb-true, eq-eqb, false≢true, Spells, Bytes, address_after, Hart, Stands, Part, Piece, IsReading, rest_of, is_empty, ends_region, HasCode, IsWordStart, breaks_width, BreakNone, IsCleanPart, AreKnown, IsPlace, IsAtPlace, AreWordsTyped, IsSafeState}
-use Rattle.rv_comp.proofs.Facts.{spelled_length, spelled_some, two_lengths}
-use Rattle.sfi_image.proofs.Facts.{code_ends}
+use Rattle.sfi_words.proofs.Prelude.{◌≡◌, ℕ, ◌+◌, ◌-◌, ◌%◌, ◌<◌, ◌≤◌, ◌⊎◌, List, [], ◌∷◌, length, take, drop, Bool, true, false, not, ◌==◌, refl, sym, ap, ◌∙◌, subst, ⊎_elim, arith, add-zero, length-drop, drop-drop, cases_lt, eqb-true, eq-eqb, false≢true, Spells, Bytes, address_after, Hart, Stands, Part, Piece, IsReading, rest_of, is_empty, ends_region, HasCode, IsWordStart, breaks_width, BreakNone, IsCleanPart, AreKnown, IsPlace, IsAtPlace, AreWordsTyped, IsSafeState, IsRightPart}
+use Rattle.rv_comp.proofs.Facts.{two_lengths}
+use Rattle.sfi_image.proofs.Facts.{code_ends, whole_bundles}
+use Rattle.sfi_rules.proofs.Readings.{spelled_within}
 use Rattle.sfi_runs.proofs.Standing.{stands_there, state_safe}
-use Rattle.sfi_words.proofs.Masks.{whole_words}
 use Rattle.sfi_words.proofs.Known.{typed_known}
 
 -- ---- pieces
-
--- a piece that is spelled at the head of bytes lies within them
-record LiesIn (bytes : List ℕ) (x : Piece) : Type 0 where
-  pub some : 0 < x.size
-  pub within : x.size ≤ length bytes
-  pub all : length (take x.size bytes) ≡ x.size
-
-lies_in : (bytes : List ℕ) (x : Piece) → Spells (take x.size bytes) x.instr x.size → LiesIn bytes x
-lies_in bytes x h =
-    let cut = length-take x.size bytes in
-    let all : length (take x.size bytes) ≡ x.size = spelled_length (take x.size bytes) x.instr x.size h in
-    record { some = spelled_some (take x.size bytes) x.instr x.size h; within = omega (arith, cut, all); all = all }
 
 -- its size is 2, or 4 at a multiple of 4
 sized : (p : Part) (bytes : List ℕ) (offset : ℕ) (x : Piece) → p.code_base % 4 ≡ 0 → Spells (take x.size bytes) x.instr x.size → breaks_width (p.code_base + offset) x.size ≡ false
@@ -33,9 +21,15 @@ sized p bytes offset x base spelled kept =
     Rattle.std.proofs.Common.inr (four, omega arith))
     (two_lengths (take x.size bytes) x.instr x.size spelled)
 
+-- the code's base is a multiple of 16, and its size too
+pub bundles_whole : (p : Part) → IsRightPart p → (p.code_base % 16 ≡ 0) × (length p.code % 16 ≡ 0)
+bundles_whole p right =
+    let bundles = whole_bundles p.format p.code_base (length p.code) right.code_base right.code_placed in
+    (let e = bundles.3 in omega arith, let e = bundles.2 in omega arith)
+
 module _ (p : Part) (clean : IsCleanPart p) where
   base_aligned : p.code_base % 4 ≡ 0
-  base_aligned = (whole_words p clean.right).0
+  base_aligned = let both = bundles_whole p clean.right in omega (arith, both.0)
 
   -- ---- a word's start
 
@@ -78,16 +72,11 @@ module _ (p : Part) (clean : IsCleanPart p) where
       record { offset = k; place = place; pc = omega arith; even = omega arith; known = typed_known p h.registers (place.here ∷ place.later) typed }
 
   module _ (h : Hart) (at : IsAtPlace p h) where
-    abbrev here : Piece
-    here = at.place.here
-
     -- it lies in the code
     pub here_within : (0 < at.place.here.size) × (at.offset + at.place.here.size ≤ length p.code)
     here_within =
-        let l = lies_in (drop at.offset p.code) at.place.here at.place.reading.0 in
-        let some : 0 < at.place.here.size = l.some in
-        let within : at.place.here.size ≤ length (drop at.offset p.code) = l.within in
-        (some, omega (arith, length-drop at.offset p.code))
+        let w = spelled_within (drop at.offset p.code) at.place.here.instr at.place.here.size at.place.reading.0 in
+        (w.0, omega (arith, w.0, w.1, length-drop at.offset p.code))
 
     -- ---- what stands after it
 
@@ -109,9 +98,9 @@ module _ (p : Part) (clean : IsCleanPart p) where
         let whole : rest_of (drop (offset + n) p.code) (x ∷ later) ≡ [] = subst (λ (bytes : List ℕ). rest_of bytes (x ∷ later) ≡ []) moved (subst (λ (l : List Piece). rest_of (drop n (drop offset p.code)) l ≡ []) is at.place.whole) in
         let sum : p.code_base + offset + n ≡ p.code_base + (offset + n) = omega arith in
         let none : BreakNone p (p.code_base + (offset + n)) (x ∷ later) = subst (λ (a : ℕ). BreakNone p a (x ∷ later)) sum (subst (λ (l : List Piece). BreakNone p (p.code_base + offset + n) l) is at.place.none.1) in
-        let lies = lies_in (drop (offset + n) p.code) x reading.0 in
-        let a : 0 < x.size = lies.some in
-        let b : x.size ≤ length (drop (offset + n) p.code) = lies.within in
+        let lies = spelled_within (drop (offset + n) p.code) x.instr x.size reading.0 in
+        let a : 0 < x.size = lies.0 in
+        let b : x.size ≤ length (drop (offset + n) p.code) = lies.1 in
         let inside : offset + n < length p.code = omega (arith, length-drop (offset + n) p.code) in
         let end = code_ends p clean.right in
         let pc : h.pc ≡ p.code_base + offset = at.pc in

@@ -2,7 +2,7 @@
 pub use Rattle.std.proofs.Common.{◌≡◌, ◌≢◌, ℕ, ◌+◌, ◌-◌, ◌*◌, ◌%◌, ◌^◌, ◌<◌, ◌≤◌, ◌⊎◌, List, [], ◌∷◌, length, take, drop, Bool, true, false, cond, not, ◌&&◌, ◌||◌, ◌==◌, refl, sym, ap, ◌∙◌, subst, inl, inr, ⊎_elim, arith, Option, Some, None, add-zero}
 pub use Rattle.std.specs.Prelude.{ℤ, pos, negsuc, slice_index, is_some, bit_and, bit_or}
 pub use Rattle.std.proofs.lemmas.Bool.{cases_lt, and_parts, or_cases, eqb-true, eq-eqb, not-false, false≢true, cases_Bool, leb-true, ltb-true}
-pub use Rattle.std.proofs.lemmas.List.{length-take, length-drop, drop-drop}
+pub use Rattle.std.proofs.lemmas.List.{length-drop, drop-drop}
 pub use Rattle.rv_word.specs.Numbers.{offset_by}
 pub use Rattle.rv_word.specs.Spelling.{IsImm12}
 unfoldable pub use Rattle.rv_word.specs.Spelling.{InRange}
@@ -28,9 +28,9 @@ pub use Rattle.sfi_image.specs.Gates.{is_gate_of}
 pub use Rattle.sfi_rules.specs.Readings.{Piece, IsReading, rest_of}
 pub use Rattle.sfi_rules.specs.Rules.{is_empty, breaks_reserved, ends_region}
 pub use Rattle.sfi_rules.specs.Stack.{is_jump}
-pub use Rattle.sfi_runs.specs.Regions.{InCode, InData, InGuard, IsGate, HasReserved, HasCode}
+pub use Rattle.sfi_runs.specs.Regions.{InData, InGuard, IsGate, HasReserved, HasCode}
 pub use Rattle.sfi_runs.specs.Runs.{IsReply, IsChange, IsTurn, Turn, Steps, Replies, Changes, after_step, after_turn}
-pub use Rattle.sfi_runs.specs.Safety.{IsSafeState, IsSafeStep, IsSafeTurn}
+pub use Rattle.sfi_runs.specs.Safety.{IsSafeState, IsSafeStep}
 pub use Rattle.sfi_runs.specs.Typed.{IsWordStart, IsNear, AreWordsTyped}
 pub use Rattle.sfi_policy.specs.Formats.{has_words}
 pub use Rattle.sfi_image.specs.Parts.{IsRightPart}
