@@ -29,7 +29,7 @@ pub record AreRight (ps : List Part) : Type 0 where
 abbrev pub AreOf : Format → List Part → Type 0
 AreOf format ps = All (λ p. p.format ≡ format) ps
 
--- one such sandbox at least and as many as an image may have, of one format
+-- from one such sandbox to `sandboxes_most`, of one format
 pub record IsRightLayout (ps : List Part) : Type 0 where
   pub at_least_one : 1 ≤ length ps
   pub at_most : length ps ≤ sandboxes_most

@@ -45,9 +45,10 @@ AreResolvedTo at names here i (x ∷ slots) =
 abbrev pub place_after : Part → List Slot → ℕ → ℕ
 place_after q before nops = q.start + (size_of before + 2 * nops)
 
--- Where code is in bundles, item k is an instruction of the image, with the address of its name, if it
--- has one: wherever a memory holds the sandbox's code, its expansion stands at its place for that
--- instruction, in regions in which expansions act as their instructions do (`placed.transparent`).
+-- Where code is in bundles, item k is an instruction of the image, with the address of its name, if
+-- it has one: wherever a memory holds the code of q and pc is at the item's place, its slots stand
+-- for `instr`; the regions of q are such as transparency asks for (`placed.transparent` has the
+-- rest).
 pub record RunsAs (given : List Place) (number : ℕ) (f : Format) (items : List Item)
     (p : Placement) (q : Part) (k : ℕ) (x : Item) : Type 0 where
   pub placed : StandsTransparent f items p k x

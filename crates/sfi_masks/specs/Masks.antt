@@ -75,9 +75,9 @@ pub record IsFreeAccessBy (may : ℕ → Bool) (word : ℕ) : Type 0 where
   pub base : access.base ≡ bits word 19 15
   pub free : may access.written ≡ true
 
--- What the masks tell of the block's 64 halfwords. `long` tells each whose two lowest bits are 11, so
--- that it begins no instruction of 16 bits, and no other. What `free` or `access` tells is so wherever
--- an instruction begins there, but of one of 32 bits at a bundle's last halfword they tell nothing.
+-- What the masks tell of the block's 64 halfwords. `long` has exactly those whose two lowest bits
+-- are 11; these begin no instruction of 16 bits. What `free` or `access` tells is so wherever an
+-- instruction begins there, but of one of 32 bits at a bundle's last halfword they tell nothing.
 pub record AreMasksBy (may on : ℕ → Bool) (bytes : List ℕ) (m : Masks) : Type 0 where
   pub long : (i : ℕ) → i < 64 → is_in m.long i ≡ (half_at bytes i % 4 == 3)
   pub short :
@@ -116,6 +116,7 @@ AreMasks stack bytes m = AreMasksBy (may_write stack) (may_be_on stack) bytes m
 
 -- ---- in words
 
--- what they tell of a block of code in words
+-- What they tell of a block of code in words: a free instruction breaks none of V3 to V7 and V10 to
+-- V12 where nothing is owed before it, and leaves nothing owed.
 abbrev pub AreMasksInWords : List ℕ → Masks → Type 0
 AreMasksInWords bytes m = AreMasksBy may_write_in_words may_be_on_in_words bytes m

@@ -1,6 +1,5 @@
-//! Eight bundles of code looked at at once: which halfwords begin no instruction of 16 bits, which begin
-//! an instruction that breaks no rule in a plain bundle whatever stands beside it, and which a load or
-//! a store.
+//! Eight bundles of code looked at at once: which halfwords begin no instruction of 16 bits, which
+//! begin an instruction that breaks no rule by itself, and which a load or a store.
 //!
 //! Vectors of bytes answer for 16 halfwords together. Each of the four nibbles of a halfword looks
 //! up a table of sixteen bytes; a bit that all four entries have is a class that the halfword is in

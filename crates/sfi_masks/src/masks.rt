@@ -18,7 +18,8 @@ pub const BLOCK_BYTES: usize = 128;
 pub struct Masks {
     /// Its two lowest bits are 11: it begins no instruction of 16 bits.
     pub long: u64,
-    /// It begins an instruction that breaks no rule in a plain bundle, whatever stands beside it.
+    /// It begins an instruction that breaks no rule: in a plain bundle whatever stands beside it,
+    /// in words where nothing is owed before it, and then it leaves nothing owed.
     pub free: u64,
     /// It begins a load or a store of 32 bits that writes no register that it may not.
     pub access: u64,

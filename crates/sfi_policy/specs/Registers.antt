@@ -17,7 +17,7 @@ data_base_register = 26
 abbrev pub data_mask_register : ℕ
 data_mask_register = 27
 
--- in it the expansions of code in bundles make addresses
+-- in it the expansions of code in bundles make addresses; in words it holds offsets
 abbrev pub scratch : ℕ
 scratch = 31
 

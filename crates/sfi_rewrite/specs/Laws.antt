@@ -25,7 +25,7 @@ use Rattle.sfi_rewrite.specs.Rewriting.{IsRewritten, AreRewritten}
 use Rattle.sfi_rewrite.specs.Transparency.{AreRegions, masked, MayBe, ActsAs}
 use Rattle.sfi_rewrite.specs.Samples.{MeetsTransparent, MeetsInside, MeetsOutside, MeetsStop, sample_load, sample_jump, sample_push, sample_upper, sample_pop}
 
--- an item has at most one expansion in each format
+-- an item has at most one expansion by the rows of bundles, in each format
 abbrev pub OneExpansion : Type 0
 OneExpansion = (f : Format) (x : Item) (slots others : List Slot) → IsExpansion f x slots
     → IsExpansion f x others → slots ≡ others
@@ -65,13 +65,13 @@ abbrev pub RewrittenIsPlaced : Type 0
 RewrittenIsPlaced = (source : List Sandbox) (placed : List Placement) → IsSource source
     → AreRewritten source placed → IsPlaced placed
 
--- the expansion of a permitted item acts as the item's instruction
+-- the expansion of a permitted item, by the rows of bundles, acts as the item's instruction
 abbrev pub ExpansionsAreTransparent : Type 0
 ExpansionsAreTransparent =
     (f : Format) (x : Item) (i : Instr) (slots : List Slot) → MayBe x.body i → IsPermitted f x
     → IsExpansion f x slots → ActsAs f i slots
 
--- so does that of code in words
+-- in words the expansion of a permitted item acts as the item's instruction
 abbrev pub WordExpansionsAreTransparent : Type 0
 WordExpansionsAreTransparent =
     (x : Item) (later : List Item) (i : Instr) (slots : List Slot) → MayBe x.body i
@@ -85,7 +85,7 @@ MasksCompose = (code_at data_at : Span) (v w : ℕ) → AreRegions code_at data_
     → (Holds data_at v → masked data_at v ≡ v)
     × (masked data_at (result_of Add (masked data_at v) w) ≡ masked data_at (result_of Add v w))
 
--- so each item of a source stands transparent in what is placed
+-- each item of a source stands transparent in what is placed
 abbrev pub RewrittenIsTransparent : Type 0
 RewrittenIsTransparent = (s : Sandbox) (p : Placement) → IsRewritten s p → StandTransparent s p
 

@@ -43,13 +43,14 @@ pub fn rewritten_is_placed()
 {}
 
 /// In bundles the expansion of an instruction does what the instruction does, x31 aside, but for a
-/// stack pointer that it writes: that has its value's offset in the data region.
+/// stack pointer that it writes: that is the address in the data region that its value masks to.
 pub fn expansions_are_transparent()
     ensures { ExpansionsAreTransparent }
 {}
 
 /// In words the expansion of an instruction does what the instruction does, x29 to x31 aside, but
-/// for a data register that it writes: that has its value's offset in the data region.
+/// for a data register that it writes and is no step of: that is the address in the data region that
+/// its value masks to.
 pub fn word_expansions_are_transparent()
     ensures { WordExpansionsAreTransparent }
 {}

@@ -1,4 +1,4 @@
--- The rules in order, and what is found of one: at an instruction, or where none is read.
+-- The rules in order, and a broken one's finding, at an instruction or where none is read.
 use Rattle.std.specs.Prelude.{ℕ, List, [], ◌∷◌}
 use Rattle.std.specs.Int.{w16, from_le_bytes}
 use Rattle.rv_word.specs.declared.length.Length.{Length}

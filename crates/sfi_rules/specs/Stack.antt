@@ -1,5 +1,5 @@
--- The stack pointer x2, of a format that has one: it lies in the data region wherever it is used,
--- so an access on it needs no pair, and what writes it is followed by the pair that puts it back.
+-- The stack pointer x2, of a format that has one: it lies in the data region at each access on it,
+-- which needs no pair, and what writes it is followed by the pair that puts it back.
 use Rattle.std.specs.Prelude.{◌&&◌, List, [], ◌∷◌, Bool, true, false}
 use Rattle.rv_word.specs.declared.instr.Instr.{Instr}
 use Rattle.rv_word.specs.declared.instr.Instr.TheVariants.{Jal, Jalr}

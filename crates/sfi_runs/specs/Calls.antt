@@ -26,7 +26,7 @@ pub record GoesSafelyFrom (p : Part) (s : State) : Type 0 where
   pub safe : RunsSafelyFrom p s
   pub calls : CallsTypedFrom p s
 
--- so it does in every run from every state in which the sandbox may be entered
+-- it calls so in every run from every state in which the sandbox may be entered
 pub record CallsTyped (p : Part) : Type 0 where
   pub from : (s : State) → IsEntry p s → CallsTypedFrom p s
 

@@ -36,8 +36,8 @@ pub record KeepsReserved (before after : Hart) : Type 0 where
   pub data_base : register after data_base_register ≡ register before data_base_register
   pub data_mask : register after data_mask_register ≡ register before data_mask_register
 
--- a reply to the ecall at pc: it goes on after that, with the typed registers holding what their
--- types say. The other registers and all other memory are arbitrary.
+-- a reply to the ecall at pc: it goes on after that, and keeps the reserved registers, the code and
+-- empty guards; the typed registers hold what their types say. All else is arbitrary.
 pub record IsReply (p : Part) (before after : State) : Type 0 where
   pub size : ℕ
   pub asked : Stands before Ecall size
@@ -47,9 +47,9 @@ pub record IsReply (p : Part) (before after : State) : Type 0 where
   pub typed : IsTyped p after.hart.registers
   pub bytes : KeepsBytes p before.memory after.memory
 
--- A change of the memory alone, by others. All other memory is arbitrary: it need not even be
--- bytes, so that the states after it may be none of a real machine,
--- and what is said of runs holds of them too.
+-- A change by others of memory alone, which keeps the code and empty guards. All other memory is
+-- arbitrary, even no bytes: then no real machine has the state, and what is said of runs still
+-- holds.
 pub record IsChange (p : Part) (before after : State) : Type 0 where
   pub pc : after.hart.pc ≡ before.hart.pc
   pub registers : after.hart.registers ≡ before.hart.registers

@@ -106,7 +106,7 @@ pub record HasOneFinding (p : Part) (found : Finding) : Type 0 where
   pub found_are : AreImageFindings (p ∷ []) (found ∷ [])
 
 -- The rule is needed: the image of this sandbox has a right layout and one finding, that rule at
--- this address, where no other is broken, and from an entry it has a run that is not safe.
+-- this address (`BreaksNoOther`), and from an entry it has a run that is not safe.
 pub record IsNeeded (rule : Rule) (address : ℕ) (p : Part) : Type 0 where
   pub refused : HasOneFinding p (record { sandbox = 0; address = address; rule = rule })
   pub no_other : BreaksNoOther rule address p
@@ -114,7 +114,7 @@ pub record IsNeeded (rule : Rule) (address : ℕ) (p : Part) : Type 0 where
   pub is_entry : IsEntry p entry
   pub runs_unsafely : HasUnsafeRun p entry
 
--- In each format whose code is in bundles each of the ten rules is, V10 where it has a stack
+-- In each format whose code is in bundles each of the ten rules is needed, V10 where it has a stack
 -- pointer. (Of V9 this says that its finding may not be passed over, not that no other rule would
 -- refuse the image.)
 abbrev pub EachRuleIsNeeded : Type 0

@@ -45,12 +45,14 @@ on_of words r = may_be_on_in_words r
 abbrev pub names_x2 : ℕ → ℕ → Bool
 names_x2 low high = bit_or (bit_and low 128) (bit_and high 15) == 1
 
--- the classes that a halfword may be free by, or an access
+-- the classes that count for a halfword: where its bits 11:7 name x2, a stack pointer, only those that
+-- don't write that register
 unfoldable pub kept : Bool → ℕ → ℕ → ℕ
 kept stack low high =
     if stack then (if names_x2 low high then NO_RD else ALL) else ALL
 
--- the same in words: bits 11:7 are odd, or even
+-- the classes that count in words: where bits 11:7 name a typed register, only those that don't write
+-- it; a table each for odd and even numbers
 unfoldable pub kept_in_words : ℕ → ℕ → ℕ
 kept_in_words low high =
     if bit_and low 128 == 128 then slice_index WORDS_ODD (bit_and high 15)
@@ -63,8 +65,8 @@ kept_of words low high = kept_in_words low high
 unfoldable pub rest : Bool → ℕ → ℕ → ℕ
 rest stack low high = bit_and (half_classes REST low high) (if stack then ALL else PLAIN)
 
--- the classes of FOLLOWED that are free in words, by a word's second byte and its third: by bit 15 its base is
--- odd, or even
+-- the classes of FOLLOWED that are free in words: those that compute, and the accesses where bits 19:15
+-- name a base that needs nothing beside it; a table each for odd and even numbers
 unfoldable pub free_in_words : ℕ → ℕ → ℕ
 free_in_words high low2 =
     if bit_and high 128 == 128 then slice_index ON_ODD (bit_and low2 15)

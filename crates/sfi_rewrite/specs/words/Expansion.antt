@@ -1,5 +1,6 @@
 -- The expansion of an item in code in words: each access is on a data register or on x26, each
--- indirect jump on x30, and what writes a data register stands before its mask, or is the mask.
+-- indirect jump on x30, and what writes a data register stands before its mask, is the mask, or is
+-- a step before its use.
 use Rattle.std.specs.Prelude.{◌≡◌, ◌==◌, ◌&&◌, ◌||◌, not, ℕ, ℤ, pos, negsuc, nat_le, nat_lt, List, [], ◌∷◌, ◌++◌, map, Bool, false, MatchBool, Option, Some, None, if◌then◌else◌}
 use Rattle.rv_word.specs.declared.instr.ImmOp.TheVariants.{Addi}
 use Rattle.rv_word.specs.declared.instr.RegOp.TheVariants.{Add, And, Or}
@@ -129,7 +130,7 @@ IsExpansion x later slots = IsExpansionOf x.line x.rvc (is_step x later) x.body 
 -- ---- what has none
 
 -- a jal or jalr that writes a data register, whose mask would never be reached; or a jalr with an
--- offset, which is no form of the expansion of an indirect jump
+-- offset other than 0, which is no form of the expansion of an indirect jump
 abbrev pub is_barred_jump : Body → Bool
 is_barred_jump (Plain (Jal rd offset)) = is_data_register rd
 is_barred_jump (Plain (Jalr rd a imm)) = is_data_register rd || not (is_zero imm)

@@ -70,7 +70,7 @@ abbrev pub begins_code : List Piece → Bool
 begins_code [] = false
 begins_code (x ∷ later) = is_placing code_base_register code_register x.instr
 
--- ---- the rules, each at an instruction at an address of so many bytes, before others
+-- ---- the rules, each by an instruction, its address and size, and those after it
 
 -- V2: a 32-bit instruction that isn't at a multiple of 4
 abbrev pub breaks_width : ℕ → ℕ → Bool
