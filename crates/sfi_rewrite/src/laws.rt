@@ -49,8 +49,8 @@ pub fn expansions_are_transparent()
 {}
 
 /// In words the expansion of an instruction does what the instruction does, x29 to x31 aside, but
-/// for a data register that it writes and is no step of: that is the address in the data region that
-/// its value masks to.
+/// for a data register that it writes: that is the address in the data region that its value masks
+/// to, unless the instruction is a step.
 pub fn word_expansions_are_transparent()
     ensures { WordExpansionsAreTransparent }
 {}
