@@ -1,9 +1,9 @@
 -- What a place without a finding keeps, and that the machine goes on from it to a place again.
-use Rattle.sfi_safety.proofs.Prelude.{◌≡◌, ◌≢◌, ℕ, ◌+◌, ◌*◌, ◌<◌, ◌≤◌, List, [], ◌∷◌, length, take, drop, Bool, true, false, not, ◌&&◌, ◌==◌, refl, ap, ◌∙◌, subst, arith, eqb-false, drop-drop, Spells, address_after, Hart, Part, place_of, bundle_bytes, Piece, IsReading, rest_of, Place, breaks_ecall, breaks_reserved, breaks_access, breaks_jump, breaks_target, breaks_end, breaks_stack, ends_region, is_empty, lowest, all_rules, findings_from, Leaves, AreCleanBundles, StackInDataBefore, IsAtPlace}
+use Rattle.sfi_safety.proofs.Prelude.{◌≡◌, ◌≢◌, ℕ, ◌+◌, ◌*◌, ◌<◌, ◌≤◌, List, [], ◌∷◌, length, drop, Bool, true, false, not, ◌&&◌, ◌==◌, refl, ap, ◌∙◌, subst, arith, eqb-false, drop-drop, address_after, Hart, Part, place_of, bundle_bytes, Piece, IsReading, rest_of, Place, breaks_ecall, breaks_reserved, breaks_access, breaks_jump, breaks_target, breaks_end, breaks_stack, ends_region, is_empty, lowest, all_rules, findings_from, Leaves, AreCleanBundles, StackInDataBefore, IsAtPlace}
 use Rattle.sfi_rules.specs.declared.rule.Rule.TheVariants.{V3, V4, V5, V6, V7, V8, V10}
-use Rattle.rv_comp.proofs.Facts.{spelled_length, spelled_some}
-use Rattle.std.proofs.Common.{length-take, length-drop}
+use Rattle.std.proofs.Common.{length-drop}
 use Rattle.sfi_rules.proofs.Lowest.{kept}
+use Rattle.sfi_rules.proofs.Readings.{spelled_within}
 use Rattle.sfi_image.proofs.Facts.{whole_bundles, code_ends}
 use Rattle.sfi_safety.proofs.Places.{nothing_before, at_start, bundle_length, here_within}
 
@@ -52,14 +52,6 @@ only_the_first true false third fourth h a b c = absurd cc
 only_the_first true true false fourth h a b c = absurd cc
 only_the_first true true true true h a b c = absurd cc
 
--- something is spelled at the head of what is left, so something is left
-something_left : (bytes : List ℕ) (x : Piece) → Spells (take x.size bytes) x.instr x.size → 0 < length bytes
-something_left bytes x h =
-    let cut = length-take x.size bytes in
-    let all : length (take x.size bytes) ≡ x.size = spelled_length (take x.size bytes) x.instr x.size h in
-    let some = spelled_some (take x.size bytes) x.instr x.size h in
-    omega (arith, cut, all, some)
-
 module _ (sandbox : ℕ) (p : Part) (h h' : Hart) (clean : AreCleanBundles sandbox p) (at : IsAtPlace sandbox p h) where
   -- after the last piece of a bundle that is not the region's last
   over_the_end : at.later ≡ [] → h'.pc ≡ address_after h.pc at.here.size → ends_region at.here.instr ≡ false → StackInDataBefore p (at.here.instr ∷ at.earlier) at.later h'.registers → IsAtPlace sandbox p h'
@@ -98,11 +90,11 @@ module _ (sandbox : ℕ) (p : Part) (h h' : Hart) (clean : AreCleanBundles sandb
       let within : 16 * b + 16 ≤ length p.code = at.within in
       let moved : drop at.here.size (drop at.offset (bundle_bytes p b)) ≡ drop (at.offset + at.here.size) (bundle_bytes p b) = drop-drop at.here.size at.offset (bundle_bytes p b) in
       let reading = subst (λ (l : List Piece). IsReading (drop at.here.size (drop at.offset (bundle_bytes p b))) l) is at.reading.1 in
-      let some = something_left (drop at.here.size (drop at.offset (bundle_bytes p b))) x reading.0 in
+      let some = spelled_within (drop at.here.size (drop at.offset (bundle_bytes p b))) x.instr x.size reading.0 in
       let sixteen : length (bundle_bytes p b) ≡ 16 = bundle_length p b within in
       let left = length-drop at.here.size (drop at.offset (bundle_bytes p b)) in
       let left' = length-drop at.offset (bundle_bytes p b) in
-      let inside : at.offset + at.here.size < 16 = omega (arith, some, sixteen, left, left') in
+      let inside : at.offset + at.here.size < 16 = omega (arith, some.0, some.1, sixteen, left, left') in
       let sum : p.code_base + 16 * b + at.offset + at.here.size ≡ p.code_base + 16 * b + (at.offset + at.here.size) = omega arith in
       record {
         number = b;

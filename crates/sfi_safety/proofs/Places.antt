@@ -1,6 +1,6 @@
 -- A hart at a bundle start is at that bundle's first piece, and the one instruction there is the reading's.
 use Rattle.sfi_safety.proofs.Prelude.{◌≡◌, ℕ, zero, suc, ◌+◌, ◌-◌, ◌*◌, ◌/◌, ◌%◌, ◌<◌, ◌≤◌, List, [], ◌∷◌, ◌++◌, length, take, drop, true, refl, sym, ap, ◌∙◌, subst, inl, inr, ⊎_elim, arith, add-zero, cases_lt, Spells, Bytes, Hart, Stands, Part, code_region, IsBundleStart, BundlePlace, Finding, place_of, bundle_bytes, Piece, IsReading, rest_of, is_empty, findings_from, rest_finding, AreReadingFindings, AreBundleFindings, AreFindingsOfFirst, StackInData, HasCode, AreCleanBundles, IsAtPlace, IsSafeState}
-use Rattle.rv_comp.proofs.Facts.{spelled_length, spelled_some}
+use Rattle.sfi_rules.proofs.Readings.{spelled_within}
 use Rattle.std.proofs.Common.{length-take, length-drop}
 use Rattle.std.proofs.lemmas.List.{take-take, drop-take, drop-drop}
 use Rattle.sfi_runs.specs.Regions.{InCode}
@@ -87,30 +87,15 @@ at_start sandbox p h clean start stack =
 -- ---- the one instruction there
 
 module _ (sandbox : ℕ) (p : Part) (h : Hart) (clean : AreCleanBundles sandbox p) (at : IsAtPlace sandbox p h) where
-  bytes_here : List ℕ
-  bytes_here = take at.here.size (drop at.offset (bundle_bytes p at.number))
-
-  spelled_here : Spells bytes_here at.here.instr at.here.size
-  unfolding bytes_here
-  spelled_here = at.reading.0
-
-  length_here : length bytes_here ≡ at.here.size
-  length_here = spelled_length bytes_here at.here.instr at.here.size spelled_here
-
-  pub here_some : 0 < at.here.size
-  here_some = spelled_some bytes_here at.here.instr at.here.size spelled_here
-
   -- it lies in the bundle
+  within_here : (0 < at.here.size) × (at.here.size ≤ length (drop at.offset (bundle_bytes p at.number)))
+  within_here = spelled_within (drop at.offset (bundle_bytes p at.number)) at.here.instr at.here.size at.reading.0
+
   pub here_within : at.offset + at.here.size ≤ 16
-  unfolding bytes_here
   here_within =
       let bundle = bundle_bytes p at.number in
-      let some = here_some in
-      let sixteen : length bundle ≡ 16 = bundle_length p at.number at.within in
-      let cut = length-take at.here.size (drop at.offset bundle) in
-      let left = length-drop at.offset bundle in
-      let all : length (take at.here.size (drop at.offset bundle)) ≡ at.here.size = length_here in
-      omega (arith, cut, left, all, sixteen, some)
+      let w = within_here in
+      omega (arith, w.0, w.1, length-drop at.offset bundle, bundle_length p at.number at.within)
 
   -- what is cut from a bundle is cut from the code
   in_code : (code : List ℕ) (at offset n : ℕ) → offset + n ≤ 16 → take n (drop offset (take 16 (drop at code))) ≡ take n (drop (at + offset) code)
@@ -130,7 +115,7 @@ module _ (sandbox : ℕ) (p : Part) (h : Hart) (clean : AreCleanBundles sandbox 
       omega arith
 
   pub pc_in_code : InCode p h.pc
-  pc_in_code = pc_within p clean.right h (16 * at.number + at.offset) at.here.size pc_is inside here_some
+  pc_in_code = pc_within p clean.right h (16 * at.number + at.offset) at.here.size pc_is inside within_here.0
 
   spelled_there : Spells (take at.here.size (drop (16 * at.number + at.offset) p.code)) at.here.instr at.here.size
   spelled_there = subst (λ (bytes : List ℕ). Spells bytes at.here.instr at.here.size) (in_code p.code (16 * at.number) at.offset at.here.size here_within) at.reading.0

@@ -20,19 +20,19 @@ clean_words sandbox p clean has = record {
   clean = (words_facts.finds_what_is_broken sandbox p [] clean.right (in_words sandbox p [] has clean.none_found)).0 refl;
 }
 
-pub clean_runs : CleanRunsSafely
-clean_runs sandbox p clean = by (has_words p.format) refl
+-- what holds in bundles and in words holds in any format
+in_any : (Q : Part → Type 0) → ((sandbox : ℕ) (p : Part) → AreCleanBundles sandbox p → Q p) → ((p : Part) → words.IsCleanPart p → Q p) → (sandbox : ℕ) (p : Part) → IsCleanPart sandbox p → Q p
+in_any Q of_bundles of_words sandbox p clean = by (has_words p.format) refl
   where
-    by : (b : Bool) → has_words p.format ≡ b → RunsSafely p
-    by true has = words_facts.clean_runs_safely p (clean_words sandbox p clean has)
-    by false none = bundles_run sandbox p (clean_bundles sandbox p clean none)
+    by : (b : Bool) → has_words p.format ≡ b → Q p
+    by true has = of_words p (clean_words sandbox p clean has)
+    by false none = of_bundles sandbox p (clean_bundles sandbox p clean none)
+
+pub clean_runs : CleanRunsSafely
+clean_runs = in_any RunsSafely bundles_run words_facts.clean_runs_safely
 
 pub clean_calls : CleanCallsTyped
-clean_calls sandbox p clean = by (has_words p.format) refl
-  where
-    by : (b : Bool) → has_words p.format ≡ b → CallsTyped p
-    by true has = words_facts.clean_calls_typed p (clean_words sandbox p clean has)
-    by false none = bundles_call sandbox p (clean_bundles sandbox p clean none)
+clean_calls = in_any CallsTyped bundles_call words_facts.clean_calls_typed
 
 -- ---- an image
 
