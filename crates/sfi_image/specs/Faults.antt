@@ -29,11 +29,11 @@ number_of Init = 9
 number_of Overlap = 10
 number_of Trailing = 11
 
--- after these gates the next pair is cut short
+-- after these gates there is one more, which is cut short
 abbrev pub IsGateShort : Fields → List Gate → List ℕ → LayoutFault → Type 0
 IsGateShort f gs rest k = (length gs < f.gate_count) × (length rest < gate_bytes) × (k ≡ Short)
 
--- the next pair is no gate after these
+-- after these gates there is one more, with which they are no right gates
 abbrev pub IsGateWrong : Fields → List Gate → List ℕ → LayoutFault → Type 0
 IsGateWrong f gs rest k =
     (length gs < f.gate_count) × (g : Gate) × (after : List ℕ)
@@ -45,7 +45,7 @@ abbrev pub AreContentsShort : Fields → List Gate → List ℕ → LayoutFault 
 AreContentsShort f gs rest k =
     (length gs ≡ f.gate_count) × (length rest < f.code_size + f.init_len) × (k ≡ Short)
 
--- after right gates one of these is so
+-- after right gates one of these three faults comes
 abbrev pub IsBodyFault : Fields → List ℕ → LayoutFault → Type 0
 IsBodyFault f bytes k = (gs : List Gate) × (rest : List ℕ)
     × (bytes ≡ flat_map gate gs ++ rest) × All AreGateWords gs × AreGates (code_span f) gs

@@ -18,9 +18,9 @@ use Rattle.sfi_image.specs.declared.fault.LayoutFault.TheVariants.{Short, Traili
 use Rattle.sfi_image.specs.Faults.{IsFault, number_of}
 use Rattle.sfi_image.specs.Images.{IsImage}
 
--- Nothing, or the magic of a format; with the count and so many whole sandboxes, of which there is
--- one more; after these the fields of the next and its gates so far; all its gates, and its code so
--- far; all its code, and its first data bytes so far; or the whole image.
+-- What was read: nothing; the magic of a format; then the count and so many whole sandboxes, after
+-- which another comes; of that one the fields and its gates so far; all its gates, and its code so far;
+-- all its code, and its first data bytes so far; or the whole image.
 pub data Front : Type 0 where
   Empty : Front
   AfterMagic : Format → Front
@@ -65,7 +65,7 @@ pub record IsOpened (n : ℕ) (ps : List Part) (f : Fields) (gs : List Gate) : T
   pub gate_words : All AreGateWords gs
   pub gates : AreGates (code_span f) gs
 
--- all that was read passes its tests, and each stage isn't over
+-- all that was read passes its tests, and after what isn't whole another sandbox, gate or byte comes
 abbrev pub IsRightFront : Front → Type 0
 IsRightFront Empty = Unit {0}
 IsRightFront (AfterMagic format) = Unit {0}
@@ -139,22 +139,22 @@ part_of f gs code init = record {
   init = init;
 }
 
--- after so many whole sandboxes
+-- the front after so many whole sandboxes
 abbrev pub after_parts : Format → ℕ → List Part → Front
 after_parts format n ps = cond (length ps == n) (Whole ps) (AfterCount format n ps)
 
--- after so many first data bytes of the next
+-- the front after so many first data bytes of the next one
 abbrev pub after_init : ℕ → List Part → Fields → List Gate → List ℕ → List ℕ → Front
 after_init n ps f gs code init =
     cond (length init == f.init_len) (after_parts f.format n (ps ++ part_of f gs code init ∷ []))
     (InInit n ps f gs code init)
 
--- after so much of its code
+-- the front after so much of its code
 abbrev pub after_code : ℕ → List Part → Fields → List Gate → List ℕ → Front
 after_code n ps f gs code =
     cond (length code == f.code_size) (after_init n ps f gs code []) (InCode n ps f gs code)
 
--- after so many of its gates
+-- the front after so many of its gates
 abbrev pub after_gates : ℕ → List Part → Fields → List Gate → Front
 after_gates n ps f gs = cond (length gs == f.gate_count) (InCode n ps f gs []) (InGates n ps f gs)
 
@@ -181,7 +181,7 @@ abbrev pub HasFaultNumberWhateverFollows : List ℕ → ℕ → Type 0
 HasFaultNumberWhateverFollows bytes n =
     (k : LayoutFault) × (number_of k ≡ n) × HasFaultWhateverFollows bytes k
 
--- fewer bytes than come next
+-- so many bytes are fewer than come next
 abbrev pub IsLess : ℕ → Want → Type 0
 IsLess len (wants.Field n) = len < n
 IsLess len (wants.Bundle place) = len < bundle_size

@@ -32,12 +32,14 @@ pub record ReaderState : Type 0 where
 
 -- ---- of which fronts: `StandsFor`, and its parts, which only private contracts name themselves
 
+-- the reader keeps what follows from the format, the count and these whole sandboxes
 pub record KeepsHead (r : ReaderState) (format : Format) (n : ℕ) (ps : List Part) : Type 0 where
   pub of : r.fields.format ≡ format
   pub count : r.count ≡ n
   pub begun : r.begun ≡ length ps
   pub spans : r.spans ≡ spans ps
 
+-- it keeps what follows from these sandboxes, the fields of the next one and its gates so far
 pub record KeepsFields (r : ReaderState) (n : ℕ) (ps : List Part) (f : Fields)
     (gs : List Gate) : Type 0 where
   pub count : r.count ≡ n
@@ -61,6 +63,7 @@ pub record AreRest (at : ℕ) (gs : List Gate) (ahead : List ℕ) : Type 0 where
   pub ahead_are : AreAhead at ahead
   pub same : (a : ℕ) → at ≤ a → is_one_of ahead a ≡ is_gate_of gs a
 
+-- the same, how many bytes of its code are read, and which of its gates lie after these
 pub record KeepsCode (r : ReaderState) (n : ℕ) (ps : List Part) (f : Fields) (gs : List Gate)
     (code : List ℕ) : Type 0 where
   pub head : KeepsFields r n ps f gs
@@ -69,6 +72,7 @@ pub record KeepsCode (r : ReaderState) (n : ℕ) (ps : List Part) (f : Fields) (
   pub passed : r.passed ≤ length r.gates
   pub rest : AreRest (f.code_base + length code) gs (drop r.passed r.gates)
 
+-- what it keeps is that of the front
 abbrev pub Keeps : ReaderState → Front → Type 0
 Keeps r Empty = (r.next ≡ next.Magic) × (r.spans ≡ [])
 Keeps r (AfterMagic format) = (r.next ≡ next.Count) × (r.spans ≡ []) × (r.fields.format ≡ format)
@@ -114,6 +118,7 @@ part_most = 1 + gates_most + code_most Sfi2 + data_most + 1
 abbrev pub left_most : ℕ
 left_most = sandboxes_most * part_most + 2
 
+-- what is left before this comes next
 abbrev pub left_by : Next → ReaderState → ℕ
 left_by next.Magic r = left_most
 left_by next.Count r = sandboxes_most * part_most + 1

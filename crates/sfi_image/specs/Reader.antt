@@ -2,6 +2,7 @@
 use Rattle.sfi_image.specs.declared.layout_reader.LayoutReader.TheInside.{Inside}
 use Rattle.sfi_image.specs.Keeping.{ReaderState}
 
+-- what a reader with these fields keeps
 abbrev pub kept : Inside → ReaderState
 kept a = record {
   next = a.next;

@@ -6,7 +6,8 @@ use Rattle.sfi_image.specs.declared.span.Span.{Span}
 use Rattle.sfi_image.specs.Spelling.{Part}
 use Rattle.sfi_image.specs.Spans.{code_region, data_region}
 
--- what they hold while a sandbox runs whose code, in units of so many bytes, and data lie so
+-- what they hold while a sandbox runs whose code, in units of so many bytes, lies in the first span,
+-- and its data in the second
 abbrev pub reserved_for : ℕ → Span → Span → Reserved
 reserved_for unit_size code_at data_at = record {
   code_base = code_at.base;

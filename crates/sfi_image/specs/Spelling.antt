@@ -9,8 +9,7 @@ use Rattle.sfi_image.specs.declared.part.Gate.{Gate}
 use Rattle.sfi_image.specs.declared.fields.Fields.{Fields}
 use Rattle.sfi_image.specs.declared.part.SandboxPart.{SandboxPart}
 
--- one sandbox, without where its bytes lie in memory; the code size, the gate count and the init
--- length are its lists' lengths
+-- one sandbox of an image; its code size, gate count and init length are the lengths of its lists
 pub record Part : Type 0 where
   pub format : Format  -- that of its image
   pub code_base : ℕ
@@ -21,7 +20,7 @@ pub record Part : Type 0 where
   pub code : List ℕ
   pub init : List ℕ
 
--- what a value of the program stands for, in an image of this format
+-- the sandbox that the program's value stands for, in an image of this format
 abbrev pub view : Format → SandboxPart → Part
 view f p = record {
   format = f;
@@ -34,7 +33,7 @@ view f p = record {
   init = p.init.now;
 }
 
--- what a list of them stands for
+-- the sandboxes that a list of such values stands for
 abbrev pub views : Format → List SandboxPart → List Part
 views f ps = map (view f) ps
 
@@ -97,11 +96,11 @@ spelling ps = magic (format_of ps) ++ (number (length ps) ++ flat_map part ps)
 
 -- ---- what four bytes can hold
 
--- the number is one of 32 bits
+-- the number has 32 bits
 abbrev pub IsWord : ℕ → Type 0
 IsWord n = n < 2 ^ 32
 
--- each of the seven fields is one
+-- each of the seven fields has 32 bits
 pub record AreFieldWords (f : Fields) : Type 0 where
   pub code_base : IsWord f.code_base
   pub code_size : IsWord f.code_size
@@ -111,12 +110,12 @@ pub record AreFieldWords (f : Fields) : Type 0 where
   pub gate_count : IsWord f.gate_count
   pub init_len : IsWord f.init_len
 
--- both numbers of a gate are
+-- both numbers of a gate have
 pub record AreGateWords (g : Gate) : Type 0 where
   pub address : IsWord g.address
   pub service : IsWord g.service
 
--- each number of a sandbox is
+-- each number of a sandbox has
 pub record AreWords (p : Part) : Type 0 where
   pub fields : AreFieldWords (fields_of p)
   pub gates : All AreGateWords p.gates

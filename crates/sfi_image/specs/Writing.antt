@@ -11,7 +11,7 @@ use Rattle.sfi_image.specs.Gates.{AreGates}
 use Rattle.sfi_image.specs.Parts.{AreRight}
 use Rattle.sfi_image.specs.Tests.{IsFirstFault, field_tests}
 
--- after right gates the next one is none
+-- some first gates are right, and with the one after them they are not
 abbrev pub HasWrongGate : Span → List Gate → Type 0
 HasWrongGate region gs = (front : List Gate) × (g : Gate) × (more : List Gate)
     × (gs ≡ front ++ g ∷ more) × AreGates region front × (¬ AreGates region (front ++ g ∷ []))
