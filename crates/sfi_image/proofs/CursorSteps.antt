@@ -11,16 +11,10 @@ use denote.Ref.{Bor}
 use Rattle.sfi_image.proofs.Cancelling.{same_fields, length-fields, length-gate}
 use Rattle.sfi_image.proofs.Ending.{code_short, cut_short, trails, whole_is_image}
 use Rattle.sfi_image.proofs.Standing.{region}
-use Rattle.sfi_image.proofs.Views.{same_format}
+use Rattle.sfi_image.proofs.Formats.{same_format}
 use Rattle.sfi_image.proofs.Following.{fields_again, parts_bytes, flat_gate, head_push}
 
 -- ---- which front it is
-
-more_parts : (format : Format) (n : ℕ) (ps : List Part) → length ps < n → after_parts format n ps ≡ AfterCount format n ps
-more_parts format n ps lt = rw (ne_eqb (length ps) n (λ e. omega arith)) refl
-
-all_parts : (format : Format) (n : ℕ) (ps : List Part) → length ps ≡ n → after_parts format n ps ≡ Whole ps
-all_parts format n ps e = rw (eq-eqb (length ps) n e) refl
 
 pub more_gates : (n : ℕ) (ps : List Part) (f : Fields) (gs : List Gate) → length gs < f.gate_count → after_gates n ps f gs ≡ InGates n ps f gs
 more_gates n ps f gs lt = rw (ne_eqb (length gs) f.gate_count (λ e. omega arith)) refl
@@ -143,13 +137,6 @@ viewed f gs v e gates g c i words = record {
 }
 
 -- ---- from sandbox to sandbox
-
--- at first none is passed
-pub none_passed : (bytes : List ℕ) (format : Format) (n : ℕ) (c : ImageCursor) → HasRead bytes (AfterCount format n []) c → HasPassed bytes format n [] c
-none_passed bytes format n c h = record {
-  one_format = λ k d lt. absurd (omega arith);
-  read = at_front (sym (more_parts format n [] h.stands.right.1)) h;
-}
 
 module _ (bytes : List ℕ) (format : Format) (n : ℕ) (ps : List Part) (c : ImageCursor) (h : HasPassed bytes format n ps c) where
   -- the reader keeps the format

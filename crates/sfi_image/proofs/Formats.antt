@@ -1,5 +1,7 @@
--- What holds of each format.
-use Rattle.sfi_image.proofs.Prelude.{◌≡◌, ℕ, ◌+◌, ◌≤◌, List, ◌++◌, length, get_or, take, refl, ap, arith, Format, Sfi1, Sfi2, Sfiw, magic, code_most}
+-- What holds of each format, and of parts of one.
+use Rattle.sfi_image.proofs.Prelude.{◌≡◌, ℕ, zero, suc, ◌+◌, ◌≤◌, List, [], ◌∷◌, ◌++◌, length, get_or, take, refl, ap, arith, length-append, Format, Sfi1, Sfi2, Sfiw, magic, code_most, Part, views, format_of, AreOf}
+use Rattle.sfi_image.specs.declared.part.SandboxPart.{SandboxPart}
+use Rattle.sfi_policy.proofs.Formats.{length_of_magic}
 
 -- no code region is larger than this
 pub code_at_most : (f : Format) → code_most f ≤ 1048576
@@ -21,13 +23,30 @@ one_magic Sfiw Sfi2 e = absurd (let last : 87 ≡ 50 = ap (λ (l : List ℕ). ge
 one_magic Sfiw Sfiw e = refl
 
 pub length-magic : (f : Format) (r : List ℕ) → length (magic f ++ r) ≡ 4 + length r
-unfolding magic
-length-magic Sfi1 r = omega arith
-length-magic Sfi2 r = omega arith
-length-magic Sfiw r = omega arith
+length-magic f r = omega (arith, length-append (magic f) r, length_of_magic f)
 
 pub take-magic : (f : Format) (r : List ℕ) → take 4 (magic f ++ r) ≡ magic f
 unfolding magic
 take-magic Sfi1 r = refl
 take-magic Sfi2 r = refl
 take-magic Sfiw r = refl
+
+-- ---- parts of one
+
+-- the first one tells it
+pub same_format : {format : Format} (ps : List Part) → AreOf format ps → 1 ≤ length ps → format_of ps ≡ format
+same_format [] are some = absurd (omega arith)
+same_format (p ∷ ps) are some = are 0 p (omega arith)
+
+-- the parts that are seen in a format have it
+pub views_have : (f : Format) (items : List SandboxPart) → AreOf f (views f items)
+views_have f [] k d below = absurd (omega arith)
+views_have f (x ∷ items) zero d below = refl
+views_have f (x ∷ items) (suc k) d below = views_have f items k d (omega (arith, below))
+
+pub views_of : (f : Format) (items : List SandboxPart) → AreOf (format_of (views f items)) (views f items)
+views_of f [] = λ k d below. absurd (omega arith)
+views_of f (x ∷ items) = views_have f (x ∷ items)
+
+pub format_is : (f : Format) (items : List SandboxPart) → 1 ≤ length (views f items) → format_of (views f items) ≡ f
+format_is f items = same_format (views f items) (views_have f items)

@@ -1,16 +1,14 @@
 pub mod Prelude
 pub mod Numbers
+pub mod Formats
 pub mod Regions
 pub mod GateLists
 pub mod SpanLists
 pub mod FieldTests
 pub mod PartLists
-pub mod Whole
 pub mod Cancelling
 pub mod OneReading
 pub mod Deciding
-pub mod Formats
-pub mod Views
 pub mod Fronts
 pub mod SomeReading
 pub mod Refused

@@ -1,7 +1,7 @@
 -- Words of std and of definitions that many proofs of this crate use.
-pub use Rattle.std.proofs.Common.{◌≡◌, ℕ, ◌+◌, ◌-◌, ◌*◌, ◌^◌, ◌<◌, ◌≤◌, length, ap, ◌∙◌, ⊎_elim, arith, List, [], ◌∷◌, ◌++◌, take, refl, sym, append_assoc, inl, inr, ◌⊎◌, ◌%◌, suc, Option, Some, None, subst, get_or, drop, map, lt_trans, ltb, ◌↔◌, IsTrue, Bool, true, Result, Ok, Err, eqb, cond, ◌/◌, false, zero, below_more, ◌==◌, rules}
+pub use Rattle.std.proofs.Common.{◌≡◌, ℕ, ◌+◌, ◌-◌, ◌*◌, ◌^◌, ◌<◌, ◌≤◌, length, ap, ◌∙◌, ⊎_elim, arith, List, [], ◌∷◌, ◌++◌, take, refl, sym, append_assoc, inl, inr, ◌⊎◌, ◌%◌, suc, Option, Some, None, subst, get_or, drop, map, lt_trans, ltb, ◌↔◌, IsTrue, Bool, true, Result, Ok, Err, eqb, ◌/◌, false, zero, below_more, ◌==◌, rules}
 pub use Rattle.std.specs.Prelude.{count_ones, slice_get, nat_lt, IfErr, nat_le, ◌≢◌, slice_index_or}
-pub use Rattle.std.proofs.lemmas.Bool.{cases_lt, cases_eq, eqb-true, eq-eqb, ltb-true, lt-ltb, cases_Bool, ne_eqb, eqb-false}
+pub use Rattle.std.proofs.lemmas.Bool.{cases_lt, cases_eq, eqb-true, eq-eqb, ltb-true, lt-ltb, cases_Bool, ne_eqb}
 pub use Rattle.std.proofs.lemmas.Bool.Decides.{eqb_tells, nat_tests, Decides-eqb}
 pub use Rattle.std.proofs.lemmas.Grind.{flat_map-append}
 pub use Rattle.std.proofs.lemmas.List.{append_cancel_left, length-append, append-nil, take-append-drop, length-take, length-drop, get_or-drop, get_or_past, length-map, length_push, get_or_append_left, get_or_push, get_or-take, take_more, map_push, get_or_default, get_or-append_right, drop-drop, take_all, take-map}
@@ -16,7 +16,7 @@ pub use Rattle.sfi_policy.specs.declared.format.Format.{Format}
 pub use Rattle.sfi_policy.specs.declared.format.Format.TheVariants.{Sfi1, Sfi2, Sfiw}
 pub use Rattle.sfi_image.specs.Bounded.{IsBounded}
 pub use Rattle.sfi_image.specs.Faults.{IsFault, IsBodyFault, IsPartFault, ArePartsFault, IsCountFault, IsGateShort, IsGateWrong, AreContentsShort}
-pub use Rattle.sfi_image.specs.Fronts.{front, head, IsRightFront, CutShort, Trails, WholeIsImage, Front, IsHead, IsOpened, part_of, after_parts, after_init, after_code, after_gates, Follows, want_of, IsLess, HasFaultWhateverFollows, IsLengthOf, AreBundlesWithin, IsLongestStretch, IsStretchLength}
+pub use Rattle.sfi_image.specs.Fronts.{front, head, IsRightFront, CutShort, Trails, WholeIsImage, Front, IsHead, IsOpened, part_of, after_parts, after_init, after_code, after_gates, Follows, want_of, HasFaultWhateverFollows, IsLengthOf, AreBundlesWithin, IsLongestStretch, IsStretchLength}
 pub use Rattle.sfi_image.specs.Fronts.Front.{Empty, AfterMagic, AfterCount, InGates, InCode, InInit, Whole}
 pub use Rattle.sfi_image.specs.Gates.{AreGates, is_gate_of}
 pub use Rattle.sfi_image.specs.Images.{IsImage}

@@ -1,12 +1,12 @@
 -- Bytes have an image or a fault.
-use Rattle.sfi_image.proofs.Prelude.{◌≡◌, ℕ, ◌+◌, ◌<◌, ◌≤◌, List, [], ◌∷◌, ◌++◌, length, take, drop, refl, sym, ap, subst, ◌∙◌, arith, zero, suc, inl, inr, ◌⊎◌, Some, None, Option, AllPairs, flat_map, cases_lt, take-append-drop, length-take, length-drop, All-nil, Format, Sfi1, Sfi2, Sfiw, magic, Gate, Fields, Span, LayoutFault, Magic, Count, Short, Trailing, Part, fields_of, number, fields, part, AreFieldWords, AreApart, code_span, spans_of, IsRightPart, AreOf, AreRight, IsFirstFault, field_tests, IsImage, IsBodyFault, IsPartFault, ArePartsFault, IsCountFault, IsFault}
+use Rattle.sfi_image.proofs.Prelude.{◌≡◌, ℕ, ◌+◌, ◌<◌, ◌≤◌, List, [], ◌∷◌, ◌++◌, length, take, drop, refl, sym, ap, subst, ◌∙◌, arith, zero, suc, inl, inr, ◌⊎◌, Some, None, Option, AllPairs, flat_map, cases_lt, take-append-drop, length-take, length-drop, All-nil, Format, Sfi1, Sfi2, Sfiw, magic, Gate, Fields, Span, LayoutFault, Magic, Count, Short, Trailing, Part, fields_of, number, fields, part, AreFieldWords, AreApart, code_span, spans_of, IsRightPart, AreOf, AreRight, IsFirstFault, field_tests, IsImage, IsBodyFault, IsPartFault, ArePartsFault, IsCountFault, IsFault, spelling}
 use Rattle.sfi_image.specs.Laws.{SomeReading}
 use Rattle.sfi_image.specs.declared.fault.LayoutFault.TheVariants.{Gates}
 use Rattle.sfi_image.proofs.Numbers.{IsBytes}
 use Rattle.sfi_image.proofs.GateLists.{GatesRead, GatesRead-push}
 use Rattle.sfi_image.proofs.FieldTests.{right_part}
 use Rattle.sfi_image.proofs.PartLists.{PartsRead, PartsRead-push, part_read, parts_right, trailing, all_read}
-use Rattle.sfi_image.proofs.Whole.{magic_wrong, after_magic, whole}
+use Rattle.sfi_image.proofs.Formats.{same_format}
 use Rattle.sfi_image.proofs.Deciding.{decided_le, decided_both, decided_same, decided_gates, some_first_fault}
 use Rattle.sfi_image.proofs.Fronts.{Front, IsBytes-from_all, IsBytes-drop, number_front, gate_front, fields_front}
 
@@ -172,12 +172,21 @@ count_or_fault format bytes small =
           ]
     ]
 
+-- after the magic and the count so many right sandboxes, and nothing after them
+whole : (format : Format) (bytes after : List ℕ) (n : ℕ) (ps : List Part) → take 4 bytes ≡ magic format → drop 4 bytes ≡ number n ++ after → 1 ≤ n → n ≤ 16
+    → after ≡ flat_map part ps → AreOf format ps → AreRight ps → length ps ≡ n → IsImage bytes ps
+unfolding spelling
+whole format bytes after n ps is counted low high parts are right len = record {
+  bytes_are = sym (take-append-drop 4 bytes) ∙ rw (is, counted, parts, len, same_format ps are (omega (arith, len))) refl;
+  layout = record { at_least_one = omega (arith, len); at_most = omega (arith, len); one_format = subst (λ (f : Format). AreOf f ps) (sym (same_format ps are (omega (arith, len)))) are; right = right };
+}
+
 after_front : (format : Format) (bytes : List ℕ) → take 4 bytes ≡ magic format → IsBytes bytes → ((ps : List Part) × IsImage bytes ps) ⊎ ((k : LayoutFault) × IsFault bytes k)
 after_front format bytes is small =
     elim (count_or_fault format (drop 4 bytes) (IsBytes-drop 4 bytes small)) [
       | inl read ↦
-          inl (read.parts.0, whole format bytes (take 4 bytes) (drop 4 bytes) read.rest read.count read.parts.0 refl refl is read.bytes_are read.least read.most read.parts.1 read.parts.2 read.parts.3 read.parts.4)
-      | inr fault ↦ inr (fault.0, after_magic format bytes (take 4 bytes) (drop 4 bytes) fault.0 refl refl is fault.1)
+          inl (read.parts.0, whole format bytes read.rest read.count read.parts.0 is read.bytes_are read.least read.most read.parts.1 read.parts.2 read.parts.3 read.parts.4)
+      | inr fault ↦ inr (fault.0, inr (inr (format, drop 4 bytes, sym (take-append-drop 4 bytes) ∙ ap (λ (l : List ℕ). l ++ drop 4 bytes) is, fault.1)))
     ]
 
 neither : (bytes : List ℕ) → (take 4 bytes ≡ magic Sfi1 → ⊥) → (take 4 bytes ≡ magic Sfi2 → ⊥) → (take 4 bytes ≡ magic Sfiw → ⊥) → (format : Format) → take 4 bytes ≡ magic format → ⊥
@@ -195,7 +204,7 @@ some_reading bytes all =
           | inl is ↦ after_front Sfi2 bytes is (IsBytes-from_all bytes all)
           | inr others ↦ elim (decided_same (take 4 bytes) (magic Sfiw)) [
             | inl is ↦ after_front Sfiw bytes is (IsBytes-from_all bytes all)
-            | inr none ↦ inr (Magic, magic_wrong bytes (take 4 bytes) long refl (neither bytes other others none))
+            | inr none ↦ inr (Magic, inr (inl (long, neither bytes other others none, refl)))
           ]
         ]
       ]

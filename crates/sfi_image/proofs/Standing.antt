@@ -7,9 +7,8 @@ use Rattle.sfi_image.specs.declared.want.Next.TheVariants as next
 use Rattle.sfi_image.proofs.FieldTests.{all_pass}
 use Rattle.sfi_image.proofs.PartLists.{spans_push}
 use Rattle.sfi_image.proofs.Bundles.{whole_bundles}
-use Rattle.sfi_image.proofs.Formats.{code_at_most}
+use Rattle.sfi_image.proofs.Formats.{code_at_most, same_format}
 use Rattle.sfi_image.proofs.Following.{fields_again, finished, following_bytes}
-use Rattle.sfi_image.proofs.Views.{same_format}
 
 -- one step, from where it leads
 pub leads : (x : Front) (s : List ℕ) (r : ReaderState) (y : Front) → IsRightFront x → Follows x s y → StandsFor r y → Leads x s r

@@ -1,5 +1,5 @@
 use Rattle.sfi_image.proofs.Prelude.{◌≡◌, ◌<◌, take, List, [], ◌∷◌, ◌++◌, false, ℕ, eqb, sym, ap, subst, arith, append_assoc, ◌∙◌, take_all, take-map, length-map, eq-eqb, Span, Part, view, views, AreRight}
-use Rattle.sfi_image.proofs.Views.{views_of}
+use Rattle.sfi_image.proofs.Formats.{views_of}
 use Rattle.sfi_image.proofs.Refused.{StartRight, StartRight-push, start_right, wrong_part, map_at, map_more_at}
 use Rattle.sfi_image.proofs.layout.check_layout.Goals as goal
 

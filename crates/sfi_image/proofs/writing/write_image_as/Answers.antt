@@ -1,5 +1,5 @@
 use Rattle.sfi_image.proofs.Prelude.{arith, length-map, view, views}
-use Rattle.sfi_image.proofs.Views.{views_of}
+use Rattle.sfi_image.proofs.Formats.{views_of}
 use Rattle.sfi_image.proofs.OneRefusal.{only_image, only_fault, fault_as_read}
 use Rattle.sfi_image.proofs.writing.write_image_as.Goals as goal
 

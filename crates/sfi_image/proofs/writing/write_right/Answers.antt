@@ -1,6 +1,6 @@
 use Rattle.sfi_image.proofs.Prelude.{◌≡◌, sym, subst, arith, ap, ◌∙◌, append_assoc, ◌++◌, take, length, List, flat_map, take_all, length-map, magic, view, views, part, spelling, format_of, number, IsRightPart}
 use Rattle.sfi_image.specs.declared.part.SandboxPart.{SandboxPart}
-use Rattle.sfi_image.proofs.Views.{format_is}
+use Rattle.sfi_image.proofs.Formats.{format_is}
 use Rattle.sfi_image.proofs.Refused.{map_at}
 use Rattle.sfi_image.proofs.writing.write_right.Goals as goal
 

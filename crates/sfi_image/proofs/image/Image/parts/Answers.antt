@@ -1,5 +1,5 @@
 use Rattle.sfi_image.proofs.Prelude.{sym, ◌∙◌, ap, Format, views, format_of}
-use Rattle.sfi_image.proofs.Views.{format_is}
+use Rattle.sfi_image.proofs.Formats.{format_is}
 use Rattle.sfi_image.proofs.image.Image.parts.Goals as goal
 
 pub returns-clause-parts : goal.returns-clause-parts
