@@ -3,6 +3,7 @@ use Rattle.sfi_image.proofs.Prelude.{◌≡◌, ℕ, suc, ◌+◌, ◌*◌, ◌%
 use Rattle.std.proofs.Math.Bool.{or-false}
 use Rattle.std.proofs.Math.Dec.{ltb}
 use Rattle.std.proofs.lemmas.Bool.{ltb-false}
+use Rattle.sfi_image.specs.Keeping.{HasStopped}
 use Rattle.sfi_image.specs.declared.want.Next.TheVariants as next
 use Rattle.sfi_image.proofs.FieldTests.{all_pass}
 use Rattle.sfi_image.proofs.PartLists.{spans_push}
@@ -15,8 +16,9 @@ pub leads : (x : Front) (s : List ℕ) (r : ReaderState) (y : Front) → IsRight
 leads x s r y right follows stands = record { to = y; stands = stands; follows = follows; bytes = following_bytes x s y right follows }
 
 -- a reader after a step is one
-pub still_reader : (x : Front) (s : List ℕ) (r : ReaderState) → Leads x s r → IsReader r
-still_reader x s r l = inr (l.to, l.stands)
+pub still_reader : (old new : ReaderState) (s : List ℕ) → IsReader old → (HasStopped old → ⊥) → ((x : Front) → StandsFor old x → Leads x s new) → IsReader new
+still_reader old new s (inl stopped) goes on = absurd (goes stopped)
+still_reader old new s (inr x) goes on = let l = on x.0 x.1 in inr (l.to, l.stands)
 
 -- ---- magic and count
 

@@ -1,4 +1,4 @@
-use Rattle.sfi_image.proofs.Prelude.{◌≡◌, ◌∙◌, ◌+◌, ◌-◌, length, ap, drop, refl, sym, subst, arith, inl, inr, List, ℕ, AreBundlesWithin, ReaderState, StandsFor, count_below, kept}
+use Rattle.sfi_image.proofs.Prelude.{◌≡◌, ◌∙◌, ◌+◌, ◌-◌, length, ap, drop, refl, sym, subst, arith, List, ℕ, AreBundlesWithin, ReaderState, StandsFor, count_below, kept}
 use Rattle.sfi_image.specs.declared.want.Next.TheVariants as next
 use Rattle.sfi_image.proofs.Standing.{still_reader}
 use Rattle.sfi_image.proofs.Places.{code_next}
@@ -26,10 +26,7 @@ invariant_of-self c =
     let len = subst (λ (r : ReaderState). AreBundlesWithin (r.fields.code_size - r.code_read) (length c.args.code.now)) (sym c.self.view_is) c.requires.len in
     let passed = c.passed_before-self-inside.ensures ∙ ap (λ (a : ℕ). old.passed + count_below a (drop old.passed c.as_slice.result.now)) c.address_after-end.ensures
     ∙ ap (λ (l : List ℕ). old.passed + count_below (old.fields.code_base + (old.code_read + length c.args.code.now)) (drop old.passed l)) c.as_slice.ensures in
-    elim c.self.invariant [
-      | inl stopped ↦ absurd cc
-      | inr x ↦ still_reader x.0 c.args.code.now _ (code_leads old _ x.0 c.args.code.now x.1 is len refl refl refl refl refl passed refl refl c.next_code-self-inside.ensures)
-    ]
+    still_reader old _ c.args.code.now c.self.invariant (λ stopped. absurd cc) (λ x h. code_leads old _ x c.args.code.now h is len refl refl refl refl refl passed refl refl c.next_code-self-inside.ensures)
 
 pub returns-clause-takes : goal.returns-clause-takes
 returns-clause-takes c =

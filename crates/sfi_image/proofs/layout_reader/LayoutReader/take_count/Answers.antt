@@ -1,4 +1,4 @@
-use Rattle.sfi_image.proofs.Prelude.{◌≡◌, refl, sym, subst, inl, inr, arith, number, ReaderState, StandsFor, kept}
+use Rattle.sfi_image.proofs.Prelude.{◌≡◌, refl, sym, subst, arith, number, ReaderState, StandsFor, kept}
 use Rattle.sfi_image.specs.declared.want.Next.TheVariants as next
 use Rattle.sfi_image.proofs.Standing.{count_leads, still_reader}
 use Rattle.sfi_image.proofs.Steps.{count_fault, no_rest}
@@ -18,10 +18,7 @@ invariant_of-self-2 c =
     let old = kept c.self.inside in
     let e = no_rest c.args.bytes.now (number c.number_at-count.result.0) _ c.number_at-count.ensures.front (omega (arith, c.number_at-count.ensures.len, c.requires.len)) in
     let is : old.next ≡ next.Count = subst (λ (r : ReaderState). r.next ≡ next.Count) (sym c.self.view_is) c.requires.next in
-    elim c.self.invariant [
-      | inl stopped ↦ absurd cc
-      | inr x ↦ still_reader x.0 c.args.bytes.now _ (count_leads old x.0 c.args.bytes.now c.number_at-count.result.0 x.1 is e (omega arith) (omega arith))
-    ]
+    still_reader old _ c.args.bytes.now c.self.invariant (λ stopped. absurd cc) (λ x h. count_leads old x c.args.bytes.now c.number_at-count.result.0 h is e (omega arith) (omega arith))
 
 pub returns-clause-takes : goal.returns-clause-takes
 returns-clause-takes c =

@@ -1,4 +1,4 @@
-use Rattle.sfi_image.proofs.Prelude.{◌≡◌, ◌∙◌, ◌++◌, ◌∷◌, [], ap, length, refl, sym, subst, arith, inl, inr, List, append_assoc, None, Some, All, AllPairs, Span, fields, AreApart, code_span, IsBounded, IsFirstFault, field_tests, ReaderState, StandsFor, kept, length_push}
+use Rattle.sfi_image.proofs.Prelude.{◌≡◌, ◌∙◌, ◌++◌, ◌∷◌, [], ap, length, refl, sym, subst, arith, List, append_assoc, None, Some, All, AllPairs, Span, fields, AreApart, code_span, IsBounded, IsFirstFault, field_tests, ReaderState, StandsFor, kept, length_push}
 use Rattle.sfi_image.specs.declared.want.Next.TheVariants as next
 use Rattle.sfi_image.proofs.Standing.{still_reader}
 use Rattle.sfi_image.proofs.Places.{fields_next}
@@ -54,10 +54,7 @@ invariant_of-self-2 c =
     let passed : IsFirstFault old.spans c.fields_at.result.0 field_tests None = subst (λ (b : List Span). IsFirstFault b c.fields_at.result.0 field_tests None) c.as_slice.ensures c.in-Ok.ensures.passed in
     let spans_are = c.push-2.ensures ∙ ap (λ (b : List Span). b ++ c.in-Ok.own.guarded ∷ []) c.push.ensures ∙ append_assoc old.spans (c.in-Ok.own.code ∷ []) (c.in-Ok.own.guarded ∷ [])
     ∙ ap (λ (b : Span). old.spans ++ b ∷ c.in-Ok.own.guarded ∷ []) c.in-Ok.ensures.code ∙ ap (λ (b : Span). old.spans ++ code_span c.fields_at.result.0 ∷ b ∷ []) c.in-Ok.ensures.guarded in
-    elim c.self.invariant [
-      | inl stopped ↦ absurd cc
-      | inr x ↦ still_reader x.0 c.args.bytes.now _ (fields_leads old _ x.0 c.args.bytes.now c.fields_at.result.0 x.1 is e c.fields_at.ensures.words c.fields_at.ensures.format passed refl refl spans_are refl c.clear.ensures refl refl refl c.next_gate-self-inside.ensures)
-    ]
+    still_reader old _ c.args.bytes.now c.self.invariant (λ stopped. absurd cc) (λ x h. fields_leads old _ x c.args.bytes.now c.fields_at.result.0 h is e c.fields_at.ensures.words c.fields_at.ensures.format passed refl refl spans_are refl c.clear.ensures refl refl refl c.next_gate-self-inside.ensures)
 
 pub returns-clause-takes : goal.returns-clause-takes
 returns-clause-takes c =

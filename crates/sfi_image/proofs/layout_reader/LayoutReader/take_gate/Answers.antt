@@ -1,4 +1,4 @@
-use Rattle.sfi_image.proofs.Prelude.{◌≡◌, ◌∙◌, ◌++◌, ◌∷◌, [], ap, map, refl, sym, subst, arith, inl, inr, List, ℕ, Gate, gate, code_span, AreGates, ReaderState, StandsFor, next_gate, kept}
+use Rattle.sfi_image.proofs.Prelude.{◌≡◌, ◌∙◌, ◌++◌, ◌∷◌, [], ap, map, refl, sym, subst, arith, List, ℕ, Gate, gate, code_span, AreGates, ReaderState, StandsFor, next_gate, kept}
 use Rattle.sfi_image.specs.declared.want.Next.TheVariants as next
 use Rattle.sfi_image.proofs.Standing.{still_reader}
 use Rattle.sfi_image.proofs.Places.{gate_next}
@@ -32,10 +32,7 @@ invariant_of-self-2 c =
     let may : (gs : List Gate) → map (λ h. h.address) gs ≡ old.gates → AreGates (code_span old.fields) gs → AreGates (code_span old.fields) (gs ++ c.gate_at.result.0 ∷ []) =
     λ gs same are. (c.if-not-is_next_address.ensures.next gs (same ∙ sym slice) are).0 refl in
     let to = c.next_gate-self-inside.ensures ∙ ap (λ (j : ℕ). next_gate j old.fields.gate_count) c.len.ensures.value in
-    elim c.self.invariant [
-      | inl stopped ↦ absurd cc
-      | inr x ↦ still_reader x.0 c.args.bytes.now _ (gate_leads old _ x.0 c.args.bytes.now c.gate_at.result.0 x.1 is e c.gate_at.ensures.words may refl refl refl refl c.push.ensures refl refl refl to)
-    ]
+    still_reader old _ c.args.bytes.now c.self.invariant (λ stopped. absurd cc) (λ x h. gate_leads old _ x c.args.bytes.now c.gate_at.result.0 h is e c.gate_at.ensures.words may refl refl refl refl c.push.ensures refl refl refl to)
 
 pub returns-clause-takes : goal.returns-clause-takes
 returns-clause-takes c =

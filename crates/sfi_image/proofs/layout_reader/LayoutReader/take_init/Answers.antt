@@ -1,4 +1,4 @@
-use Rattle.sfi_image.proofs.Prelude.{◌≡◌, ◌+◌, ◌≤◌, length, refl, sym, subst, arith, inl, inr, ReaderState, StandsFor, kept}
+use Rattle.sfi_image.proofs.Prelude.{◌≡◌, ◌+◌, ◌≤◌, length, refl, sym, subst, arith, ReaderState, StandsFor, kept}
 use Rattle.sfi_image.specs.declared.want.Next.TheVariants as next
 use Rattle.sfi_image.proofs.Standing.{still_reader}
 use Rattle.sfi_image.proofs.Places.{init_next}
@@ -18,10 +18,7 @@ invariant_of-self c =
     let old = kept c.self.inside in
     let is : old.next ≡ next.Init = subst (λ (r : ReaderState). r.next ≡ next.Init) (sym c.self.view_is) c.requires.next in
     let room = subst (λ (r : ReaderState). length c.args.bytes.now + r.init_read ≤ r.fields.init_len) (sym c.self.view_is) c.requires.room in
-    elim c.self.invariant [
-      | inl stopped ↦ absurd cc
-      | inr x ↦ still_reader x.0 c.args.bytes.now _ (init_leads old _ x.0 c.args.bytes.now x.1 is c.requires.len room refl refl refl refl refl refl c.next_init-self-inside.ensures)
-    ]
+    still_reader old _ c.args.bytes.now c.self.invariant (λ stopped. absurd cc) (λ x h. init_leads old _ x c.args.bytes.now h is c.requires.len room refl refl refl refl refl refl c.next_init-self-inside.ensures)
 
 pub returns-clause-takes : goal.returns-clause-takes
 returns-clause-takes c =

@@ -1,4 +1,4 @@
-use Rattle.sfi_image.proofs.Prelude.{◌≡◌, refl, sym, subst, inl, inr, ReaderState, StandsFor, kept}
+use Rattle.sfi_image.proofs.Prelude.{◌≡◌, refl, sym, subst, ReaderState, StandsFor, kept}
 use Rattle.sfi_image.specs.declared.want.Next.TheVariants as next
 use Rattle.sfi_image.proofs.Standing.{magic_leads, still_reader}
 use Rattle.sfi_image.proofs.Steps.{magic_fault}
@@ -11,10 +11,7 @@ pub invariant_of-self-2 : goal.invariant_of-self-2
 invariant_of-self-2 c =
     let old = kept c.self.inside in
     let is : old.next ≡ next.Magic = subst (λ (r : ReaderState). r.next ≡ next.Magic) (sym c.self.view_is) c.requires.next in
-    elim c.self.invariant [
-      | inl stopped ↦ absurd cc
-      | inr x ↦ still_reader x.0 c.args.bytes.now _ (magic_leads old _ x.0 c.args.bytes.now c.in-Some.format x.1 is c.in-Some.ensures.found refl refl refl)
-    ]
+    still_reader old _ c.args.bytes.now c.self.invariant (λ stopped. absurd cc) (λ x h. magic_leads old _ x c.args.bytes.now c.in-Some.format h is c.in-Some.ensures.found refl refl refl)
 
 pub returns-clause-takes : goal.returns-clause-takes
 returns-clause-takes c =
