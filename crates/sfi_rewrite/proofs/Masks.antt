@@ -1,7 +1,7 @@
--- What a data mask makes of a number: the address of the region with its offset.
-use Rattle.sfi_rewrite.proofs.Prelude.{◌≡◌, ℕ, ◌+◌, ◌-◌, ◌*◌, ◌/◌, ◌%◌, ◌^◌, ◌<◌, ◌≤◌, sym, ap, ◌∙◌, arith, bit_and, bit_or, Hart, register, AreRegions, HasReserved}
+-- What the masks make of a number: a data mask the address of the region with its offset.
+use Rattle.sfi_rewrite.proofs.Prelude.{◌≡◌, ℕ, ◌+◌, ◌-◌, ◌*◌, ◌/◌, ◌%◌, ◌^◌, ◌<◌, ◌≤◌, sym, ap, ◌∙◌, arith, bit_and, bit_or, code_most, Hart, register, AreRegions, HasReserved}
 use Rattle.std.proofs.Common.{mul_assoc}
-use Rattle.std.proofs.lemmas.Nat.{and_mask, div-add-mod', mod_low, pow-add}
+use Rattle.std.proofs.lemmas.Nat.{and_mask, div-add-mod', mod_low, pow-add, or_shifted, or_comm, mod-mul-add, pow_pos}
 use Rattle.rv_step.specs.Values.{result_of}
 use Rattle.rv_word.specs.declared.instr.RegOp.TheVariants.{Add}
 use Rattle.sfi_image.specs.Regions.{IsRegion}
@@ -10,8 +10,40 @@ use Rattle.sfi_image.specs.declared.span.Span.{Span}
 use Rattle.sfi_image.proofs.Bundles.{exponent_le}
 use Rattle.sfi_rewrite.specs.Laws.{MasksCompose}
 use Rattle.sfi_rewrite.specs.Transparency.{masked}
-use Rattle.sfi_rewrite.specs.words.Transparency as words
-use Rattle.sfi_rewrite.proofs.Unmoved.{rest_of, in_block}
+use Rattle.std.proofs.Math.Arith.{mod-mul}
+use Rattle.std.proofs.lemmas.Nat.Bits.{and_high}
+
+-- ---- masks that change nothing, or no place in a region
+
+pub in_block : (q k r : ℕ) → r < 2 ^ k → bit_or r (q * 2 ^ k) ≡ q * 2 ^ k + r
+in_block q k r h = or_comm r (q * 2 ^ k) ∙ or_shifted q k r h
+
+-- a number in the block of that many is its rest
+pub rest_of : (q b x : ℕ) → q * b ≤ x → x < q * b + b → x % b ≡ x - q * b
+rest_of q b x from below =
+    let r = x - q * b in
+    let is : x ≡ q * b + r = omega arith in
+    ap (λ n. n % b) is ∙ mod-mul-add q b r (omega arith)
+
+-- under the mask of the size less a unit of at most 256 bytes, where the number is a multiple of the unit
+pub unmoved : (u base size most x : ℕ) → u ≤ 8 → IsRegion base size 256 most → base ≤ x → x < base + size → x % 2 ^ u ≡ 0 → bit_or (bit_and x (size - 2 ^ u)) base ≡ x
+unmoved u base size most x short region from below aligned =
+    let k = region.power in
+    let q = region.multiple in
+    let size_is : size ≡ 2 ^ k = region.size_is in
+    let at_least : 256 ≤ size = region.at_least in
+    let wide : 8 ≤ k = exponent_le 8 k (omega arith) in
+    let j = k - u in
+    let k_is : k ≡ j + u = omega arith in
+    let power : 2 ^ k ≡ 2 ^ j * 2 ^ u = ap (λ n. 2 ^ n) k_is ∙ pow-add 2 j u in
+    let base_is : base ≡ q * 2 ^ k = region.base_is ∙ ap (λ n. q * n) region.size_is in
+    let rest : x % 2 ^ k ≡ x - q * 2 ^ k = rest_of q (2 ^ k) x (omega arith) (omega arith) in
+    let digits : x % 2 ^ k ≡ x / 2 ^ u % 2 ^ j * 2 ^ u + x % 2 ^ u = ap (λ n. x % n) power ∙ mod-mul x (pow_pos j) (pow_pos u) in
+    let mask : size - 2 ^ u ≡ 2 ^ (j + u) - 2 ^ u = ap (λ n. n - 2 ^ u) (region.size_is ∙ ap (λ n. 2 ^ n) k_is) in
+    let high_part : bit_and x (size - 2 ^ u) ≡ x / 2 ^ u % 2 ^ j * 2 ^ u = ap (λ n. bit_and x n) mask ∙ and_high x j u in
+    let low : bit_and x (size - 2 ^ u) ≡ x - q * 2 ^ k = omega arith in
+    ap (λ n. bit_or n base) low ∙ ap (λ n. bit_or (x - q * 2 ^ k) n) base_is
+    ∙ in_block q k (x - q * 2 ^ k) (omega arith) ∙ (let z : q * 2 ^ k + (x - q * 2 ^ k) ≡ x = omega arith in z)
 
 -- under the mask of size less 1 and the base's bits a number becomes an address of the region
 moved_data : (base size most x : ℕ) → IsRegion base size 256 most → bit_or (bit_and x (size - 1)) base ≡ base + x % size
@@ -27,15 +59,10 @@ moved_data base size most x region =
     ∙ ap (λ n. n + x % 2 ^ k) (sym base_is) ∙ ap (λ n. base + x % n) (sym region.size_is)
 
 -- so under x27 and x26, while a sandbox of these regions runs
-masked_by : (c d : Span) (h : Hart) (x : ℕ) → AreRegions c d → register h 27 ≡ d.size - 1 → register h 26 ≡ d.base → bit_or (bit_and x (register h 27)) (register h 26) ≡ masked d x
-masked_by c d h x regions mask base =
-    ap (λ n. bit_or (bit_and x n) (register h 26)) mask ∙ ap (λ n. bit_or (bit_and x (d.size - 1)) n) base ∙ moved_data d.base d.size 1048576 x regions.data_placed
-
-pub masked_data : (c d : Span) (h : Hart) (x : ℕ) → AreRegions c d → HasReserved c d h → bit_or (bit_and x (register h 27)) (register h 26) ≡ masked d x
-masked_data c d h x regions reserved = masked_by c d h x regions reserved.data_mask reserved.data_base
-
-pub masked_in_words : (c d : Span) (h : Hart) (x : ℕ) → AreRegions c d → words.HasReserved c d h → bit_or (bit_and x (register h 27)) (register h 26) ≡ masked d x
-masked_in_words c d h x regions reserved = masked_by c d h x regions reserved.data_mask reserved.data_base
+pub masked_data : (u : ℕ) (c d : Span) (h : Hart) (x : ℕ) → AreRegions c d → HasReserved u c d h → bit_or (bit_and x (register h 27)) (register h 26) ≡ masked d x
+masked_data u c d h x regions reserved =
+    ap (λ n. bit_or (bit_and x n) (register h 26)) reserved.data_mask ∙ ap (λ n. bit_or (bit_and x (d.size - 1)) n) reserved.data_base
+    ∙ moved_data d.base d.size 1048576 x regions.data_placed
 
 -- what lies in the region is its own address there
 masked_held : (c d : Span) (x : ℕ) → AreRegions c d → Holds d x → masked d x ≡ x
@@ -48,11 +75,15 @@ masked_held c d x regions held =
     let rest : x % d.size ≡ x - q * d.size = rest_of q d.size x (omega arith) (omega arith) in
     omega arith
 
-pub unmasked_data : (c d : Span) (h : Hart) (x : ℕ) → AreRegions c d → HasReserved c d h → Holds d x → bit_or (bit_and x (register h 27)) (register h 26) ≡ x
-unmasked_data c d h x regions reserved held = masked_data c d h x regions reserved ∙ masked_held c d x regions held
+pub unmasked_data : (u : ℕ) (c d : Span) (h : Hart) (x : ℕ) → AreRegions c d → HasReserved u c d h → Holds d x → bit_or (bit_and x (register h 27)) (register h 26) ≡ x
+unmasked_data u c d h x regions reserved held = masked_data u c d h x regions reserved ∙ masked_held c d x regions held
 
-pub unmasked_in_words : (c d : Span) (h : Hart) (x : ℕ) → AreRegions c d → words.HasReserved c d h → Holds d x → bit_or (bit_and x (register h 27)) (register h 26) ≡ x
-unmasked_in_words c d h x regions reserved held = masked_in_words c d h x regions reserved ∙ masked_held c d x regions held
+-- a unit's start that lies in the code stays as it is under x25 and x24
+pub unmasked_code : (u : ℕ) (c d : Span) (h : Hart) (x : ℕ) → u ≤ 8 → AreRegions c d → HasReserved (2 ^ u) c d h → Holds c x → x % 2 ^ u ≡ 0
+    → bit_or (bit_and x (register h 25)) (register h 24) ≡ x
+unmasked_code u c d h x short regions reserved held aligned =
+    ap (λ n. bit_or (bit_and x n) (register h 24)) reserved.code_mask ∙ ap (λ n. bit_or (bit_and x (c.size - 2 ^ u)) n) reserved.code_base
+    ∙ unmoved u c.base c.size (code_most regions.format) x short regions.code_placed held.0 held.1 aligned
 
 -- ---- sums
 

@@ -1,9 +1,8 @@
 -- One item after another.
-use Rattle.sfi_rewrite.proofs.Prelude.{◌≡◌, ℕ, ◌+◌, ◌*◌, ◌%◌, ◌<◌, ◌≤◌, List, [], ◌∷◌, ◌++◌, length, take, get_or, replicate, refl, sym, ap, ◌∙◌, subst, arith, Some, append_assoc, inl, inr, length-append, Bool, slice_get, take_more, get_or_append_left, get_or_push, All-push, All-nil, cases_lt, slice_get-get_or, Format, code_most, Item, IsBody, Slot, RewriteFault, size_of, c_nop, IsExpansion, is_call, next_bundle, FillsGap, IsNext, IsLabelAt, HasNext, HaveBodies, AreLabels, largest, IsPermitted, AreFaultless, IsTooLarge, HasItemFault, HasFault, UnlessMemory, IsItemFault}
+use Rattle.sfi_rewrite.proofs.Prelude.{◌≡◌, ℕ, ◌+◌, ◌*◌, ◌%◌, ◌<◌, ◌≤◌, List, [], ◌∷◌, ◌++◌, length, take, drop, get_or, replicate, refl, sym, ap, ◌∙◌, subst, arith, Some, append_assoc, inl, inr, length-append, Bool, slice_get, take_more, drop_more, get_or_append_left, get_or_push, All-push, All-nil, cases_lt, slice_get-get_or, Format, code_most, Item, IsBody, Slot, RewriteFault, size_of, c_nop, IsExpansion, is_call, next_bundle, FillsGap, IsNext, IsLabelAt, HasNext, HaveBodies, AreLabels, largest, IsPermitted, AreFaultless, IsTooLarge, HasItemFault, HasFault, UnlessMemory, IsItemFault}
 use Rattle.sfi_policy.specs.declared.format.Format.TheVariants.{Sfi1, Sfi2, Sfiw}
 use Rattle.sfi_rewrite.specs.declared.fault.RewriteFault.TheVariants.{TooLarge, Memory}
-use Rattle.sfi_rewrite.proofs.Sizes.{size_of-append, size_even, size_nops}
-use Rattle.sfi_rewrite.proofs.Expansions.{IsOne, expansion_one}
+use Rattle.sfi_rewrite.proofs.Sizes.{size_of-append, size_even, size_nops, IsOne, expansion_one}
 use Rattle.sfi_rewrite.proofs.Laid.{laid_push}
 
 -- ---- the room of a format
@@ -88,16 +87,17 @@ has_next f x code then now expanded slots call end size nops e s n c z g t w l =
 -- ---- all items
 
 -- the item that stands at the place
-record IsAt (items : List Item) (k : ℕ) (x : Item) : Type 0 where
-  more : take (k + 1) items ≡ take k items ++ x ∷ []
-  at : slice_get items k ≡ Some x
+pub record StandsAt (items : List Item) (k : ℕ) (x : Item) : Type 0 where
+  pub more : take (k + 1) items ≡ take k items ++ x ∷ []
+  pub from : drop k items ≡ x ∷ drop (k + 1) items
+  pub at : slice_get items k ≡ Some x
 
-is_at : (items : List Item) (k : ℕ) (x : Item) → k < length items → x ≡ get_or items k x → IsAt items k x
-is_at items k x h e =
-    record {
-      more = take_more items k x h ∙ ap (λ y. take k items ++ y ∷ []) (sym e);
-      at = slice_get-get_or items k x h ∙ ap Some (sym e);
-    }
+pub stands_at : (items : List Item) (k : ℕ) (x : Item) → k < length items → x ≡ get_or items k x → StandsAt items k x
+stands_at items k x h e = record {
+  more = take_more items k x h ∙ ap (λ y. take k items ++ y ∷ []) (sym e);
+  from = drop_more items k x h ∙ ap (λ y. y ∷ drop (k + 1) items) (sym e);
+  at = slice_get-get_or items k x h ∙ ap Some (sym e);
+}
 
 pub none_faultless : (f : Format) (items : List Item) (code : List Slot) → code ≡ [] → AreFaultless f (take 0 items) code
 none_faultless f items code e = rw e (record { laid = refl; permitted = All-nil (IsPermitted f); fits = some_room f })
@@ -105,7 +105,7 @@ none_faultless f items code e = rw e (record { laid = refl; permitted = All-nil 
 pub one_more : (f : Format) (items : List Item) (k : ℕ) (x : Item) (code now : List Slot)
     → k < length items → x ≡ get_or items k x → AreFaultless f (take k items) code → IsPermitted f x → HasNext f code x now → AreFaultless f (take (k + 1) items) now
 one_more f items k x code now h e l p n =
-    let at = is_at items k x h e in
+    let at = stands_at items k x h e in
     rw (at.more, n.slots) (record {
       laid = laid_push f 0 (take k items) code x n.nops n.expanded l.laid (subst (λ (m : ℕ). IsNext f m x n.nops n.expanded) (let z : size_of code ≡ 0 + size_of code = omega arith in z) n.next);
       permitted = All-push (IsPermitted f) (take k items) x l.permitted p;
@@ -115,46 +115,50 @@ one_more f items k x code now h e l p n =
 pub label_here : (f : Format) (items : List Item) (k end place : ℕ) (code : List Slot) → AreFaultless f (take k items) code → end ≡ size_of code → place ≡ next_bundle end → IsLabelAt f items k place
 label_here f items k end place code l e p = (code, l.laid, p ∙ ap next_bundle e)
 
+-- ---- labels: P k is what the label before item k names
+
 -- one more label
-pub label_push : (f : Format) (items : List Item) (labels now : List ℕ) (n place : ℕ)
-    → length labels ≡ n → ((k : ℕ) → k < n → IsLabelAt f items k (get_or labels k 0)) → IsLabelAt f items n place → now ≡ labels ++ place ∷ []
-    → (k : ℕ) → k < n + 1 → IsLabelAt f items k (get_or now k 0)
-label_push f items labels now n place l each here e k h =
+pub label_push : (P : ℕ → ℕ → Type 0) (labels now : List ℕ) (n place : ℕ)
+    → length labels ≡ n → ((k : ℕ) → k < n → P k (get_or labels k 0)) → P n place → now ≡ labels ++ place ∷ []
+    → (k : ℕ) → k < n + 1 → P k (get_or now k 0)
+label_push P labels now n place l each here e k h =
     elim (cases_lt k n) [
       | inl b ↦
           let same : get_or now k 0 ≡ get_or labels k 0 =
           ap (λ v. get_or v k 0) e ∙ get_or_append_left labels (place ∷ []) 0 k (let z : k < length labels = omega arith in z) in
-          subst (λ (p : ℕ). IsLabelAt f items k p) (sym same) (each k b)
+          subst (P k) (sym same) (each k b)
       | inr b ↦
           let at : n ≡ k = omega arith in
           let same : get_or now n 0 ≡ place = ap (λ v. get_or v n 0) e ∙ get_or_push labels place 0 n l in
-          subst (λ (m : ℕ). IsLabelAt f items m (get_or now m 0)) at (subst (λ (p : ℕ). IsLabelAt f items n p) (sym same) here)
+          subst (λ (m : ℕ). P m (get_or now m 0)) at (subst (P n) (sym same) here)
     ]
 
 pub label_count : (labels now : List ℕ) (n place : ℕ) → length labels ≡ n → now ≡ labels ++ place ∷ [] → length now ≡ n + 1
 label_count labels now n place l e = ap length e ∙ length-append labels (place ∷ []) ∙ (omega arith)
+
+pub all_labels : (P : ℕ → ℕ → Type 0) (count : ℕ) (labels now : List ℕ) (n place : ℕ)
+    → count ≤ n → n ≤ count → length labels ≡ n → ((k : ℕ) → k < n → P k (get_or labels k 0)) → P n place → now ≡ labels ++ place ∷ [] → AreLabels P count now
+all_labels P count labels now n place low high l each here e =
+    record {
+      count = label_count labels now n place l e ∙ (omega arith);
+      each = λ k h. label_push P labels now n place l each here e k (omega arith);
+    }
 
 -- ---- faults
 
 pub item_fault : (format : Format) (sandbox : ℕ) (items : List Item) (k : ℕ) (x : Item) (code : List Slot) (f : RewriteFault)
     → k < length items → x ≡ get_or items k x → AreFaultless format (take k items) code → UnlessMemory (HasFault format sandbox (size_of code) x) f → UnlessMemory (IsItemFault format sandbox items) f
 item_fault format sandbox items k x code Memory h e l f = tt
-item_fault format sandbox items k x code _ h e l f = record { index = k; item = x; at = (is_at items k x h e).at; before = code; faultless = l; has = f }
+item_fault format sandbox items k x code _ h e l f = record { index = k; item = x; at = (stands_at items k x h e).at; before = code; faultless = l; has = f }
 
 -- a fault that the item has wherever it stands
+pub has_fault : (format : Format) (sandbox end : ℕ) (x : Item) (f : RewriteFault) → HasItemFault format x f → HasFault format sandbox end x f
+has_fault format sandbox end x (TooLarge number) h = absurd h
+has_fault format sandbox end x _ h = h
+
 pub found_fault : (format : Format) (sandbox end : ℕ) (x : Item) (f : RewriteFault) → HasItemFault format x f → UnlessMemory (HasFault format sandbox end x) f
-found_fault format sandbox end x (TooLarge number) h = absurd h
 found_fault format sandbox end x Memory h = tt
-found_fault format sandbox end x _ h = h
+found_fault format sandbox end x f h = has_fault format sandbox end x f h
 
 pub body_at : (items : List Item) (k : ℕ) (x : Item) → k < length items → x ≡ get_or items k x → HaveBodies items → (count : ℕ) × IsBody count x.body
 body_at items k x h e b = subst (λ (y : Item). (count : ℕ) × IsBody count y.body) (sym e) (b k x h)
-
-pub all_labels : (f : Format) (items : List Item) (labels now : List ℕ) (n place : ℕ)
-    → length items ≤ n → n ≤ length items → length labels ≡ n → ((k : ℕ) → k < n → IsLabelAt f items k (get_or labels k 0)) → IsLabelAt f items n place
-    → now ≡ labels ++ place ∷ [] → AreLabels f items now
-all_labels f items labels now n place low high l each here e =
-    record {
-      count = label_count labels now n place l e ∙ (omega arith);
-      each = λ k h. label_push f items labels now n place l each here e k (omega arith);
-    }

@@ -5,10 +5,11 @@ use Rattle.std.proofs.Math.Seq.{drop-cons}
 use Rattle.sfi_rewrite.specs.declared.fault.RewriteFault.TheVariants.{Ecall}
 use Rattle.sfi_policy.specs.declared.format.Format.TheVariants.{Sfi1, Sfi2, Sfiw}
 use Rattle.sfi_rewrite.specs.SourceFaults.{IsFaultIn, IsSandboxFault}
+use Rattle.sfi_rewrite.specs.Registers.{item_names_withheld, is_ecall}
+use Rattle.sfi_rewrite.specs.Stack.{is_stack_write}
 use Rattle.sfi_rewrite.specs.words.Faults as words
 use Rattle.sfi_rewrite.proofs.WordLaid.{first_fits, AreFaultlessAll}
-use Rattle.sfi_rewrite.proofs.Sizes.{size_of-append}
-use Rattle.sfi_rewrite.proofs.Expansions.{expansion_one}
+use Rattle.sfi_rewrite.proofs.Sizes.{size_of-append, expansion_one}
 use Rattle.sfi_rewrite.proofs.Laid.{laid_split, laid_one_way, next_one_way, size_next}
 
 -- ---- items
@@ -25,64 +26,45 @@ not_permitted format x (Jump line) h p = both_ways _ h.3 p.no_barred_jump
 not_permitted format x (TooLarge number) h p = h
 not_permitted format x Memory h p = h
 
--- it has one of these
-item_one_way : (format : Format) (x : Item) (f g : RewriteFault) → HasItemFault format x f → HasItemFault format x g → f ≡ g
-item_one_way format x (ReservedRegister line) (ReservedRegister other) h k = ap ReservedRegister (h.1 ∙ sym k.1)
-item_one_way format x (ReservedRegister line) (Ecall other) h k = absurd (both_ways _ h.0 k.0)
-item_one_way format x (ReservedRegister line) (StackWrite other) h k = absurd (both_ways _ h.0 k.0)
-item_one_way format x (ReservedRegister line) (Jump other) h k = absurd (both_ways _ h.0 k.0)
-item_one_way format x (ReservedRegister line) (TooLarge number) h k = absurd k
-item_one_way format x (ReservedRegister line) Memory h k = absurd k
-item_one_way format x (Ecall line) (ReservedRegister other) h k = absurd (both_ways _ k.0 h.0)
-item_one_way format x (Ecall line) (Ecall other) h k = ap Ecall (h.2 ∙ sym k.2)
-item_one_way format x (Ecall line) (StackWrite other) h k = absurd (both_ways _ h.1 k.1)
-item_one_way format x (Ecall line) (Jump other) h k = absurd (both_ways _ h.1 k.1)
-item_one_way format x (Ecall line) (TooLarge number) h k = absurd k
-item_one_way format x (Ecall line) Memory h k = absurd k
-item_one_way format x (StackWrite line) (ReservedRegister other) h k = absurd (both_ways _ k.0 h.0)
-item_one_way format x (StackWrite line) (Ecall other) h k = absurd (both_ways _ k.1 h.1)
-item_one_way format x (StackWrite line) (StackWrite other) h k = ap StackWrite (h.3 ∙ sym k.3)
-item_one_way format x (StackWrite line) (Jump other) h k = absurd (both_ways _ h.2 k.2)
-item_one_way format x (StackWrite line) (TooLarge number) h k = absurd k
-item_one_way format x (StackWrite line) Memory h k = absurd k
-item_one_way format x (Jump line) (ReservedRegister other) h k = absurd (both_ways _ k.0 h.0)
-item_one_way format x (Jump line) (Ecall other) h k = absurd (both_ways _ k.1 h.1)
-item_one_way format x (Jump line) (StackWrite other) h k = absurd (both_ways _ k.2 h.2)
-item_one_way format x (Jump line) (Jump other) h k = ap Jump (h.4 ∙ sym k.4)
-item_one_way format x (Jump line) (TooLarge number) h k = absurd k
-item_one_way format x (Jump line) Memory h k = absurd k
-item_one_way format x (TooLarge number) g h k = absurd h
-item_one_way format x Memory g h k = absurd h
+-- the first of these that an item on the line has, where it has one
+abbrev first_fault : (names calls writes : Bool) → ℕ → RewriteFault
+first_fault true calls writes line = ReservedRegister line
+first_fault false true writes line = Ecall line
+first_fault false false true line = StackWrite line
+first_fault false false false line = Jump line
+
+is_first : (format : Format) (x : Item) (f : RewriteFault) → HasItemFault format x f → f ≡ first_fault (item_names_withheld format x.body) (is_ecall x.body) (is_stack_write format x.body) x.line
+is_first format x (ReservedRegister line) h = ap ReservedRegister h.1 ∙ sym (ap (λ n. first_fault n (is_ecall x.body) (is_stack_write format x.body) x.line) h.0)
+is_first format x (Ecall line) h =
+    ap Ecall h.2 ∙ sym (ap (λ n. first_fault n (is_ecall x.body) (is_stack_write format x.body) x.line) h.0 ∙ ap (λ c. first_fault false c (is_stack_write format x.body) x.line) h.1)
+is_first format x (StackWrite line) h =
+    ap StackWrite h.3
+    ∙ sym (ap (λ n. first_fault n (is_ecall x.body) (is_stack_write format x.body) x.line) h.0 ∙ ap (λ c. first_fault false c (is_stack_write format x.body) x.line) h.1
+    ∙ ap (λ w. first_fault false false w x.line) h.2)
+is_first format x (Jump line) h =
+    ap Jump h.4
+    ∙ sym (ap (λ n. first_fault n (is_ecall x.body) (is_stack_write format x.body) x.line) h.0 ∙ ap (λ c. first_fault false c (is_stack_write format x.body) x.line) h.1
+    ∙ ap (λ w. first_fault false false w x.line) h.2)
+is_first format x (TooLarge number) h = absurd h
+is_first format x Memory h = absurd h
 
 -- the item has a fault of an instruction, or is permitted and too large
 abbrev IsEither : Format → ℕ → Item → RewriteFault → Type 0
 IsEither format sandbox x f = HasItemFault format x f ⊎ (IsPermitted format x × (f ≡ TooLarge sandbox))
 
 either_one_way : (format : Format) (sandbox : ℕ) (x : Item) (f g : RewriteFault) → IsEither format sandbox x f → IsEither format sandbox x g → f ≡ g
-either_one_way format sandbox x f g (inl h) (inl k) = item_one_way format x f g h k
+either_one_way format sandbox x f g (inl h) (inl k) = is_first format x f h ∙ sym (is_first format x g k)
 either_one_way format sandbox x f g (inl h) (inr k) = absurd (not_permitted format x f h k.0)
 either_one_way format sandbox x f g (inr h) (inl k) = absurd (not_permitted format x g k h.0)
 either_one_way format sandbox x f g (inr h) (inr k) = h.1 ∙ sym k.1
 
 either : (format : Format) (sandbox end : ℕ) (x : Item) (f : RewriteFault) → HasFault format sandbox end x f → IsEither format sandbox x f
-either format sandbox end x (ReservedRegister line) h = inl h
-either format sandbox end x (Ecall line) h = inl h
-either format sandbox end x (StackWrite line) h = inl h
-either format sandbox end x (Jump line) h = inl h
 either format sandbox end x (TooLarge number) h = inr (h.0, ap TooLarge h.2)
-either format sandbox end x Memory h = absurd h
-
--- an item has one fault
-fault_one_way : (format : Format) (sandbox end : ℕ) (x : Item) (f g : RewriteFault) → HasFault format sandbox end x f → HasFault format sandbox end x g → f ≡ g
-fault_one_way format sandbox end x f g h k = either_one_way format sandbox x f g (either format sandbox end x f h) (either format sandbox end x g k)
+either format sandbox end x _ h = inl h
 
 word_either : (sandbox : ℕ) (items : List Item) (k : ℕ) (x : Item) (f : RewriteFault) → words.HasFault sandbox items k x f → IsEither Sfiw sandbox x f
-word_either sandbox items k x (ReservedRegister line) h = inl h
-word_either sandbox items k x (Ecall line) h = inl h
-word_either sandbox items k x (StackWrite line) h = inl h
-word_either sandbox items k x (Jump line) h = inl h
 word_either sandbox items k x (TooLarge number) h = inr (h.0, ap TooLarge h.2)
-word_either sandbox items k x Memory h = absurd h
+word_either sandbox items k x _ h = inl h
 
 -- no item of some without a fault is too large
 fits_at : (format : Format) (items : List Item) (slots before : List Slot) (k : ℕ) (x : Item)
@@ -110,11 +92,7 @@ permitted_at format items k x p h at = subst (λ (y : Item). IsPermitted format 
 no_fault_in : (format : Format) (sandbox : ℕ) (items : List Item) (slots before : List Slot) (k : ℕ) (x : Item) (f : RewriteFault)
     → AreFaultless format items slots → k < length items → get_or items k x ≡ x → AreLaidFrom format 0 (take k items) before → HasFault format sandbox (size_of before) x f → ⊥
 no_fault_in format sandbox items slots before k x (TooLarge number) a h at b f = fits_at format items slots before k x a h at b f.1
-no_fault_in format sandbox items slots before k x (ReservedRegister line) a h at b f = not_permitted format x (ReservedRegister line) f (permitted_at format items k x a.permitted h at)
-no_fault_in format sandbox items slots before k x (Ecall line) a h at b f = not_permitted format x (Ecall line) f (permitted_at format items k x a.permitted h at)
-no_fault_in format sandbox items slots before k x (StackWrite line) a h at b f = not_permitted format x (StackWrite line) f (permitted_at format items k x a.permitted h at)
-no_fault_in format sandbox items slots before k x (Jump line) a h at b f = not_permitted format x (Jump line) f (permitted_at format items k x a.permitted h at)
-no_fault_in format sandbox items slots before k x Memory a h at b f = f
+no_fault_in format sandbox items slots before k x other a h at b f = not_permitted format x other f (permitted_at format items k x a.permitted h at)
 
 -- a fault's item doesn't stand before what has no fault
 item_before : (format : Format) (sandbox : ℕ) (items : List Item) (f : RewriteFault) (j : ℕ) (slots : List Slot)
@@ -124,24 +102,23 @@ item_before format sandbox items f j slots a g low high =
     no_fault_in format sandbox (take j items) slots a.before a.index a.item f g (omega arith) (get_or-take j items a.index a.item low ∙ get_or_from_slice_get items a.index a.item a.item a.at)
     (subst (λ (v : List Item). AreLaidFrom format 0 v a.before) (sym (take-take a.index j items (omega arith))) a.faultless.laid) a.has
 
+-- two elements of a list are one, where neither can stand before the other
+one_place : {A : Type 0} (xs : List A) (i j : ℕ) (x y : A) → slice_get xs i ≡ Some x → slice_get xs j ≡ Some y
+    → (i < j → j ≤ length xs → ⊥) → (j < i → i ≤ length xs → ⊥) → (i ≡ j) × (x ≡ y)
+one_place xs i j x y at there before after =
+    elim (cases_order i j) [
+      | inl e ↦ (e, let same : Some x ≡ Some y = sym at ∙ ap (λ (k : ℕ). slice_get xs k) e ∙ there in cc)
+      | inr other ↦
+          let m = slice_get_within xs i x at in
+          let n = slice_get_within xs j y there in
+          elim other [ inl low ↦ absurd (before low (omega arith)) | inr low ↦ absurd (after low (omega arith)) ]
+    ]
+
 pub item_fault_one_way : (format : Format) (sandbox : ℕ) (items : List Item) (f g : RewriteFault) → IsItemFault format sandbox items f → IsItemFault format sandbox items g → f ≡ g
 item_fault_one_way format sandbox items f g a b =
-    elim (cases_order a.index b.index) [
-      | inl e ↦
-          let i : Some a.item ≡ Some b.item = sym a.at ∙ ap (λ (k : ℕ). slice_get items k) e ∙ b.at in
-          let x : a.item ≡ b.item = cc in
-          let l : AreLaidFrom format 0 (take b.index items) a.before = subst (λ (k : ℕ). AreLaidFrom format 0 (take k items) a.before) e a.faultless.laid in
-          let same : a.before ≡ b.before = laid_one_way format 0 (take b.index items) a.before b.before l b.faultless.laid in
-          fault_one_way format sandbox (size_of b.before) b.item f g
-          (subst (λ (y : Item). HasFault format sandbox (size_of b.before) y f) x (subst (λ (v : List Slot). HasFault format sandbox (size_of v) a.item f) same a.has)) b.has
-      | inr other ↦
-          let m = slice_get_within items a.index a.item a.at in
-          let n = slice_get_within items b.index b.item b.at in
-          elim other [
-            | inl low ↦ absurd (item_before format sandbox items f b.index b.before a b.faultless low (omega arith))
-            | inr low ↦ absurd (item_before format sandbox items g a.index a.before b a.faultless low (omega arith))
-          ]
-    ]
+    let one = one_place items a.index b.index a.item b.item a.at b.at (item_before format sandbox items f b.index b.before a b.faultless) (item_before format sandbox items g a.index a.before b a.faultless) in
+    either_one_way format sandbox b.item f g
+    (subst (λ (x : Item). IsEither format sandbox x f) one.1 (either format sandbox (size_of a.before) a.item f a.has)) (either format sandbox (size_of b.before) b.item g b.has)
 
 bundles_have_none : (format : Format) (sandbox : ℕ) (items : List Item) (slots : List Slot) (f : RewriteFault) → AreFaultless format items slots → IsItemFault format sandbox items f → ⊥
 bundles_have_none format sandbox items slots f l a =
@@ -170,20 +147,9 @@ word_before sandbox items f j a g low high =
 
 word_fault_one_way : (sandbox : ℕ) (items : List Item) (f g : RewriteFault) → words.IsItemFault sandbox items f → words.IsItemFault sandbox items g → f ≡ g
 word_fault_one_way sandbox items f g a b =
-    elim (cases_order a.index b.index) [
-      | inl e ↦
-          let i : Some a.item ≡ Some b.item = sym a.at ∙ ap (λ (k : ℕ). slice_get items k) e ∙ b.at in
-          let x : a.item ≡ b.item = cc in
-          either_one_way Sfiw sandbox b.item f g
-          (subst (λ (y : Item). IsEither Sfiw sandbox y f) x (word_either sandbox items a.index a.item f a.has)) (word_either sandbox items b.index b.item g b.has)
-      | inr other ↦
-          let m = slice_get_within items a.index a.item a.at in
-          let n = slice_get_within items b.index b.item b.at in
-          elim other [
-            | inl low ↦ absurd (word_before sandbox items f b.index a b.before low (omega arith))
-            | inr low ↦ absurd (word_before sandbox items g a.index b a.before low (omega arith))
-          ]
-    ]
+    let one = one_place items a.index b.index a.item b.item a.at b.at (word_before sandbox items f b.index a b.before) (word_before sandbox items g a.index b a.before) in
+    either_one_way Sfiw sandbox b.item f g
+    (subst (λ (x : Item). IsEither Sfiw sandbox x f) one.1 (word_either sandbox items a.index a.item f a.has)) (word_either sandbox items b.index b.item g b.has)
 
 -- ---- in either kind of code
 
@@ -210,20 +176,9 @@ sandbox_before source f j a g low high =
 
 pub source_fault_one_way : (source : List Sandbox) (f g : RewriteFault) → IsSourceFault source f → IsSourceFault source g → f ≡ g
 source_fault_one_way source f g a b =
-    elim (cases_order a.number b.number) [
-      | inl e ↦
-          let i : Some a.sandbox ≡ Some b.sandbox = sym a.at ∙ ap (λ (k : ℕ). slice_get source k) e ∙ b.at in
-          let s : a.sandbox ≡ b.sandbox = cc in
-          fault_in_one_way b.sandbox.format b.number b.sandbox.items f g
-          (subst (λ (n : ℕ). IsSandboxFault n b.sandbox f) e (subst (λ (v : Sandbox). IsSandboxFault a.number v f) s a.has)) b.has
-      | inr other ↦
-          let m = slice_get_within source a.number a.sandbox a.at in
-          let n = slice_get_within source b.number b.sandbox b.at in
-          elim other [
-            | inl low ↦ absurd (sandbox_before source f b.number a b.before low (omega arith))
-            | inr low ↦ absurd (sandbox_before source g a.number b a.before low (omega arith))
-          ]
-    ]
+    let one = one_place source a.number b.number a.sandbox b.sandbox a.at b.at (sandbox_before source f b.number a b.before) (sandbox_before source g a.number b a.before) in
+    fault_in_one_way b.sandbox.format b.number b.sandbox.items f g
+    (subst (λ (n : ℕ). IsSandboxFault n b.sandbox f) one.0 (subst (λ (v : Sandbox). IsSandboxFault a.number v f) one.1 a.has)) b.has
 
 -- ---- a source that is rewritten
 

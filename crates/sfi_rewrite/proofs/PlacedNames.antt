@@ -1,7 +1,5 @@
 -- What names name, by the places of the labels.
-use Rattle.sfi_rewrite.proofs.Prelude.{◌≡◌, ℕ, ◌+◌, ◌<◌, List, [], ◌∷◌, ◌++◌, length, map, take, get_or, refl, sym, ap, ◌∙◌, subst, arith, Some, None, Option, slice_get, slice_index, All, AllZip, length-map, take_more, All-map, slice_get-get_or, Named, Code, Unknown, Sandbox, IsSandbox, IsThere, named, PlacedName, IsPlacedName, HasLabel, placed_of, ◌≤◌, Format, Item}
-use Rattle.sfi_policy.specs.declared.format.Format.TheVariants.{Sfi1, Sfi2, Sfiw}
-use Rattle.sfi_rewrite.specs.Placement.{IsLabelIn}
+use Rattle.sfi_rewrite.proofs.Prelude.{◌≡◌, ℕ, ◌+◌, ◌<◌, List, [], ◌∷◌, ◌++◌, length, map, take, get_or, refl, sym, ap, ◌∙◌, subst, arith, Some, None, Option, slice_get, slice_index, All, AllZip, length-map, take_more, All-map, slice_get-get_or, Named, Code, Unknown, Sandbox, IsSandbox, IsThere, named, PlacedName, IsPlacedName, HasLabel, placed_of}
 use Rattle.sfi_rewrite.specs.private.Words.{AreLabelsIn}
 
 pub zip_push : {A B : Type 0} (R : A → B → Type 0) (xs : List A) (ys : List B) (x : A) (y : B) → AllZip R xs ys → R x y → AllZip R (xs ++ x ∷ []) (ys ++ y ∷ [])
@@ -30,19 +28,8 @@ each_there s h = All-map (IsThere s) (λ e. e.1) s.names (λ k d l. (h.names k d
 pub there_at : (s : Sandbox) (k : ℕ) (n : Named) → IsSandbox s → k < length (named s) → n ≡ get_or (named s) k n → IsThere s n
 there_at s k n h l e = subst (λ (m : Named). IsThere s m) (sym e) (each_there s h k n l)
 
--- in bundles and in words
-labels_count : (f : Format) (items : List Item) (labels : List ℕ) → AreLabelsIn f items labels → length labels ≡ length items + 1
-labels_count Sfi1 items labels a = a.count
-labels_count Sfi2 items labels a = a.count
-labels_count Sfiw items labels a = a.count
-
-label_of : (f : Format) (items : List Item) (labels : List ℕ) (k : ℕ) → AreLabelsIn f items labels → k ≤ length items → IsLabelIn f items k (slice_index labels k)
-label_of Sfi1 items labels k a h = a.each k h
-label_of Sfi2 items labels k a h = a.each k h
-label_of Sfiw items labels k a h = a.each k h
-
 has_label : (s : Sandbox) (labels : List ℕ) (n : Named) → AreLabelsIn s.format s.items labels → IsThere s n → HasLabel (length labels) n
-has_label s labels (Code k) a t = let c = labels_count s.format s.items labels a in omega arith
+has_label s labels (Code k) a t = let c = a.count in omega arith
 has_label s labels _ a t = tt
 
 pub label_at : (s : Sandbox) (labels : List ℕ) (k : ℕ) (n : Named) (found : Option Named)
@@ -50,7 +37,7 @@ pub label_at : (s : Sandbox) (labels : List ℕ) (k : ℕ) (n : Named) (found : 
 label_at s labels k n found h a l e f = has_label s labels n a (there_at s k n h l (name_at (named s) k n found l e f))
 
 is_placed_name : (s : Sandbox) (labels : List ℕ) (n : Named) → AreLabelsIn s.format s.items labels → IsThere s n → IsPlacedName s.format s.items n (placed_of labels n)
-is_placed_name s labels (Code k) a t = (slice_index labels k, label_of s.format s.items labels k a t, refl)
+is_placed_name s labels (Code k) a t = (slice_index labels k, a.each k t, refl)
 is_placed_name s labels _ a t = refl
 
 -- one more name

@@ -1,5 +1,5 @@
 -- States in which the expansions of a load, of an indirect jump and of writes of the stack pointer stand.
-use Rattle.sfi_rewrite.proofs.Prelude.{◌≡◌, ℕ, zero, suc, ◌+◌, ◌-◌, ◌%◌, ◌^◌, ◌<◌, ◌≤◌, List, [], ◌∷◌, ◌++◌, length, take, drop, replicate, true, false, Option, Some, None, refl, sym, ap, subst, ◌∙◌, ⊎_elim, arith, get_or-drop, slice_index, nat_lt, Contains, pos, flat_map, list_all, and_parts, ltb-true, cases_lt, And, Or, Instr, Op, Load, Jalr, Bytes, IsMemory, byte_at, bytes_at, addresses, address_after, with_bytes, number_of, Hart, IsHart, Stands, effect, after_load, Wide, AreRegions, HasReserved, IsAskedOf, TransparencyCanBeMet, writes_stack}
+use Rattle.sfi_rewrite.proofs.Prelude.{◌≡◌, ℕ, zero, suc, ◌+◌, ◌-◌, ◌%◌, ◌^◌, ◌<◌, ◌≤◌, List, [], ◌∷◌, ◌++◌, length, take, drop, replicate, true, false, Option, Some, None, refl, sym, ap, subst, ◌∙◌, ⊎_elim, arith, get_or-drop, slice_index, nat_lt, Contains, pos, flat_map, list_all, and_parts, ltb-true, cases_lt, And, Or, Instr, Op, Load, Jalr, Bytes, IsMemory, byte_at, bytes_at, addresses, address_after, with_bytes, number_of, Hart, IsHart, Stands, effect, after_load, Wide, State, AreRegions, IsAskedOf, TransparencyCanBeMet}
 use Rattle.rv_comp.specs.Fronts.{Spells}
 use Rattle.rv_mem.specs.Bytes.{in_front}
 use Rattle.rv_step.specs.declared.outcome.Outcome.TheVariants.{Next, Trap}
@@ -10,7 +10,7 @@ use Rattle.rv_word.specs.declared.instr.RegOp.{RegOp}
 use Rattle.sfi_image.specs.declared.span.Span.{Span}
 use Rattle.sfi_policy.specs.declared.format.Format.TheVariants.{Sfi2}
 use Rattle.sfi_rewrite.specs.Expansion.{IsPlainExpansion}
-use Rattle.sfi_rewrite.specs.Samples.{MeetsTransparent, MeetsKeepsStack, MeetsInside, MeetsOutside, MeetsStop, sample_load, sample_jump, sample_push, sample_upper, sample_pop}
+use Rattle.sfi_rewrite.specs.Samples.{MeetsExpansion, MeetsTransparent, MeetsInside, MeetsOutside, MeetsStop, sample_load, sample_jump, sample_push, sample_upper, sample_pop}
 use Rattle.std.proofs.lemmas.Int.{ints}
 use Rattle.std.specs.FinMap.{empty, get-empty}
 use Rattle.std.specs.Int.{w32, to_le_bytes}
@@ -35,33 +35,26 @@ regions = record {
   data_placed = record { power = 8; size_is = refl; at_least = omega arith; at_most = omega arith; multiple = 98304; base_is = refl };
 }
 
--- x2 and x11 point into the data, x12 to a bundle start of the code, the reserved registers have their values, with that mask of the code, and all others are 0
+-- x2 and x11 point into the data, x12 to a bundle start of the code, the reserved registers have their values, for code in units of so many bytes, and all others are 0
 abbrev pub hart_with : ℕ → ℕ → Hart
-hart_with mask pc = record {
+hart_with unit_size pc = record {
   pc = pc;
-  registers = 0 ∷ 0 ∷ 0x01800080 ∷ replicate 8 0 ++ (0x01800010 ∷ 0x01000010 ∷ (replicate 11 0 ++ (0x01000000 ∷ mask ∷ 0x01800000 ∷ 255 ∷ 0 ∷ 0 ∷ 0 ∷ 0 ∷ [])));
+  registers = 0 ∷ 0 ∷ 0x01800080 ∷ replicate 8 0 ++ (0x01800010 ∷ 0x01000010 ∷ (replicate 11 0 ++ (0x01000000 ∷ (256 - unit_size) ∷ 0x01800000 ∷ 255 ∷ 0 ∷ 0 ∷ 0 ∷ 0 ∷ [])));
 }
-
--- that of code in bundles of 16 bytes
-abbrev hart : ℕ → Hart
-hart pc = hart_with 240 pc
 
 pub each_below : (n : ℕ) (xs : List ℕ) → 0 < n → list_all (λ x. nat_lt x n) xs ≡ true → (k : ℕ) → slice_index xs k < n
 each_below n [] some h k = some
 each_below n (x ∷ xs) some h zero = ltb-true x n (and_parts (nat_lt x n) (list_all (λ y. nat_lt y n) xs) h).0
 each_below n (x ∷ xs) some h (suc k) = each_below n xs some (and_parts (nat_lt x n) (list_all (λ y. nat_lt y n) xs) h).1 k
 
-is_hart : IsHart (hart 0x01000000)
-is_hart = record {
+pub is_hart : (unit_size : ℕ) → list_all (λ x. nat_lt x (2 ^ 32)) (hart_with unit_size 0x01000000).registers ≡ true → IsHart (hart_with unit_size 0x01000000)
+is_hart unit_size small = record {
   even = refl;
   address = omega arith;
   count = refl;
-  words = each_below (2 ^ 32) (hart 0x01000000).registers (omega arith) refl;
+  words = each_below (2 ^ 32) (hart_with unit_size 0x01000000).registers (omega arith) small;
   zero = refl;
 }
-
-reserved : HasReserved code_at data_at (hart 0x01000000)
-reserved = record { code_base = refl; code_mask = refl; data_base = refl; data_mask = refl }
 
 -- ---- the words
 
@@ -197,9 +190,9 @@ module _ (bytes : List ℕ) (size : length bytes ≡ 12) where
       (placed_is empty 0x01800010 four_zeros (omega arith) empty_is (each_below 256 four_zeros (omega arith) refl))
       small
 
-  pub stands : (mask at : ℕ) (i : Instr) → at + 4 ≤ 12 → length (take 4 (drop at bytes)) ≡ 4 → Spells (take 4 (drop at bytes)) i 4
-      → Stands (record { hart = hart_with mask (0x01000000 + at); memory = with_code bytes }) i 4
-  stands mask at i within four spelled = record {
+  pub stands : (unit_size at : ℕ) (i : Instr) → at + 4 ≤ 12 → length (take 4 (drop at bytes)) ≡ 4 → Spells (take 4 (drop at bytes)) i 4
+      → Stands (record { hart = hart_with unit_size (0x01000000 + at); memory = with_code bytes }) i 4
+  stands unit_size at i within four spelled = record {
     bytes = take 4 (drop at bytes);
     there = (read_is_held (with_code bytes) (0x01000000 + at) 4 (take 4 (drop at bytes))).1 (record { count = four; each = each });
     spelled = spelled;
@@ -230,72 +223,89 @@ module _ (bytes : List ℕ) (size : length bytes ≡ 12) where
       ∙ elsewhere empty 0x01800010 four_zeros (omega arith) 0x01800468 (λ from below. omega arith)
       ∙ get-empty nat_cmp 0x01800468)
 
-  pub load_stops : (mask : ℕ) → (effect sample_pop 4 (hart_with mask 0x01000000) (with_code bytes)).outcome ≡ Trap cause.Load 0x01800468
-  load_stops mask = ap (λ (o : Option (List ℕ)). (after_load (option_map number_of o) Lw 2 0x01800468 4 (hart_with mask 0x01000000) (with_code bytes)).outcome) no_data
+  pub load_stops : (unit_size : ℕ) → (effect sample_pop 4 (hart_with unit_size 0x01000000) (with_code bytes)).outcome ≡ Trap cause.Load 0x01800468
+  load_stops unit_size = ap (λ (o : Option (List ℕ)). (after_load (option_map number_of o) Lw 2 0x01800468 4 (hart_with unit_size 0x01000000) (with_code bytes)).outcome) no_data
 
-  pub load_done : (mask : ℕ) → (effect sample_load 4 (hart_with mask 0x01000000) (with_code bytes)).outcome ≡ Next
-  load_done mask = ap (λ (o : Option (List ℕ)). (after_load (option_map number_of o) Lw 10 0x01800010 4 (hart_with mask 0x01000000) (with_code bytes)).outcome) has_data
+  pub load_done : (unit_size : ℕ) → (effect sample_load 4 (hart_with unit_size 0x01000000) (with_code bytes)).outcome ≡ Next
+  load_done unit_size = ap (λ (o : Option (List ℕ)). (after_load (option_map number_of o) Lw 10 0x01800010 4 (hart_with unit_size 0x01000000) (with_code bytes)).outcome) has_data
+
+-- the state in which these words stand at the code base
+abbrev pub state_of : ℕ → List ℕ → State
+state_of unit_size words = record { hart = hart_with unit_size 0x01000000; memory = with_code words }
 
 -- three instructions that stand at the code base, for one
-asked_of : (i j k l : Instr) → IsSpelled j → IsSpelled k → IsSpelled l → ((n : ℕ) → slice_index (words_of (j ∷ k ∷ l ∷ [])) n < 256)
-    → IsAskedOf i (Wide j ∷ Wide k ∷ Wide l ∷ []) code_at data_at (record { hart = hart 0x01000000; memory = with_code (words_of (j ∷ k ∷ l ∷ [])) })
-asked_of i j k l first second third small =
+pub asked_of : (unit_size : ℕ) → list_all (λ x. nat_lt x (2 ^ 32)) (hart_with unit_size 0x01000000).registers ≡ true
+    → (i j k l : Instr) → IsSpelled j → IsSpelled k → IsSpelled l → ((n : ℕ) → slice_index (words_of (j ∷ k ∷ l ∷ [])) n < 256)
+    → IsAskedOf unit_size i (Wide j ∷ Wide k ∷ Wide l ∷ []) code_at data_at (state_of unit_size (words_of (j ∷ k ∷ l ∷ [])))
+asked_of unit_size masks i j k l first second third small =
     let words = words_of (j ∷ k ∷ l ∷ []) in record {
       regions = regions;
-      is_state = record { hart = is_hart; memory = is_memory words refl small };
-      reserved = reserved;
-      stand = (stands words refl 240 0 j (omega arith) refl first, (stands words refl 240 4 k (omega arith) refl second, (stands words refl 240 8 l (omega arith) refl third, tt)));
+      is_state = record { hart = is_hart unit_size masks; memory = is_memory words refl small };
+      reserved = record { code_base = refl; code_mask = refl; data_base = refl; data_mask = refl };
+      stand = (
+        stands words refl unit_size 0 j (omega arith) refl first,
+        (stands words refl unit_size 4 k (omega arith) refl second, (stands words refl unit_size 8 l (omega arith) refl third, tt)),
+      );
     }
 
 -- ---- the samples
 
 load_met : MeetsTransparent Sfi2 sample_load
-load_met = record {
-  writes = refl;
-  slots = Wide (Op And 31 11 27) ∷ Wide (Op Or 31 31 26) ∷ Wide (Load Lw 10 31 (pos 0)) ∷ [];
-  expansion = refl;
-  code_at = code_at;
-  data_at = data_at;
-  state = record { hart = hart 0x01000000; memory = with_code load_words };
-  asked = asked_of sample_load (Op And 31 11 27) (Op Or 31 31 26) (Load Lw 10 31 (pos 0)) (op_spelled And 31 11 27 (omega arith) (omega arith) (omega arith)) (op_spelled Or 31 31 26 (omega arith) (omega arith) (omega arith)) load_x31 load_small;
-  keeps = (omega arith, omega arith);
-  done = load_done load_words refl 240;
-}
+load_met = (
+  record {
+    slots = Wide (Op And 31 11 27) ∷ Wide (Op Or 31 31 26) ∷ Wide (Load Lw 10 31 (pos 0)) ∷ [];
+    expansion = refl;
+    code_at = code_at;
+    data_at = data_at;
+    state = state_of 16 load_words;
+    asked =
+        asked_of 16 refl sample_load (Op And 31 11 27) (Op Or 31 31 26) (Load Lw 10 31 (pos 0)) (op_spelled And 31 11 27 (omega arith) (omega arith) (omega arith))
+        (op_spelled Or 31 31 26 (omega arith) (omega arith) (omega arith)) load_x31 load_small;
+  },
+  refl,
+  (omega arith, omega arith),
+  load_done load_words refl 16,
+)
 
 jump_met : MeetsTransparent Sfi2 sample_jump
-jump_met = record {
-  writes = refl;
-  slots = Wide (Op And 31 12 25) ∷ Wide (Op Or 31 31 24) ∷ Wide (Jalr 1 31 (pos 0)) ∷ [];
-  expansion = refl;
-  code_at = code_at;
-  data_at = data_at;
-  state = record { hart = hart 0x01000000; memory = with_code jump_words };
-  asked = asked_of sample_jump (Op And 31 12 25) (Op Or 31 31 24) (Jalr 1 31 (pos 0)) (op_spelled And 31 12 25 (omega arith) (omega arith) (omega arith)) (op_spelled Or 31 31 24 (omega arith) (omega arith) (omega arith)) jump_x31 jump_small;
-  keeps = record { held = (omega arith, omega arith); aligned = refl };
-  done = refl;
-}
+jump_met = (
+  record {
+    slots = Wide (Op And 31 12 25) ∷ Wide (Op Or 31 31 24) ∷ Wide (Jalr 1 31 (pos 0)) ∷ [];
+    expansion = refl;
+    code_at = code_at;
+    data_at = data_at;
+    state = state_of 16 jump_words;
+    asked =
+        asked_of 16 refl sample_jump (Op And 31 12 25) (Op Or 31 31 24) (Jalr 1 31 (pos 0)) (op_spelled And 31 12 25 (omega arith) (omega arith) (omega arith))
+        (op_spelled Or 31 31 24 (omega arith) (omega arith) (omega arith)) jump_x31 jump_small;
+  },
+  refl,
+  record { held = (omega arith, omega arith); aligned = refl },
+  refl,
+)
 
 -- what writes x2, and the pair
-abbrev written_met : (i : Instr) → writes_stack Sfi2 i ≡ true → IsPlainExpansion Sfi2 false i (Wide i ∷ Wide (Op And 2 2 27) ∷ Wide (Op Or 2 2 26) ∷ []) → IsSpelled i
-    → ((k : ℕ) → slice_index (put_back_words i) k < 256) → MeetsKeepsStack Sfi2 i
-written_met i writes expansion spelled small = record {
-  writes = writes;
+abbrev written_met : (i : Instr) → IsPlainExpansion Sfi2 false i (Wide i ∷ Wide (Op And 2 2 27) ∷ Wide (Op Or 2 2 26) ∷ []) → IsSpelled i
+    → ((k : ℕ) → slice_index (put_back_words i) k < 256) → MeetsExpansion Sfi2 i
+written_met i expansion spelled small = record {
   slots = Wide i ∷ Wide (Op And 2 2 27) ∷ Wide (Op Or 2 2 26) ∷ [];
   expansion = expansion;
   code_at = code_at;
   data_at = data_at;
-  state = record { hart = hart 0x01000000; memory = with_code (put_back_words i) };
-  asked = asked_of i i (Op And 2 2 27) (Op Or 2 2 26) spelled (op_spelled And 2 2 27 (omega arith) (omega arith) (omega arith)) (op_spelled Or 2 2 26 (omega arith) (omega arith) (omega arith)) small;
+  state = state_of 16 (put_back_words i);
+  asked =
+      asked_of 16 refl i i (Op And 2 2 27) (Op Or 2 2 26) spelled (op_spelled And 2 2 27 (omega arith) (omega arith) (omega arith))
+      (op_spelled Or 2 2 26 (omega arith) (omega arith) (omega arith)) small;
 }
 
 push_met : MeetsInside Sfi2 sample_push
-push_met = (written_met sample_push refl refl push push_small, refl, (omega arith, omega arith))
+push_met = (written_met sample_push refl push push_small, refl, (refl, (omega arith, omega arith)))
 
 upper_met : MeetsOutside Sfi2 sample_upper
-upper_met = (written_met sample_upper refl refl upper upper_small, refl, λ held. let below = held.1 in omega arith)
+upper_met = (written_met sample_upper refl upper upper_small, refl, (refl, λ held. let below = held.1 in omega arith))
 
 pop_met : MeetsStop Sfi2 sample_pop
-pop_met = (written_met sample_pop refl refl pop pop_small, λ done. let e = sym (load_stops (put_back_words sample_pop) refl 240) ∙ done in cc)
+pop_met = (written_met sample_pop refl pop pop_small, refl, λ done. let e = sym (load_stops (put_back_words sample_pop) refl 16) ∙ done in cc)
 
 pub met : TransparencyCanBeMet
 met = (load_met, jump_met, push_met, upper_met, pop_met)

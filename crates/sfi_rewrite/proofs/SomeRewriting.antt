@@ -18,11 +18,10 @@ use Rattle.std.proofs.lemmas.Map.Made.{Contains-tail}
 use Rattle.rv_comp.proofs.Facts.{some_first_form}
 use Rattle.sfi_rewrite.specs.declared.fault.RewriteFault.TheVariants as fault
 use Rattle.sfi_rewrite.specs.declared.placed.PlacedName.TheVariants as placed
-use Rattle.sfi_rewrite.proofs.Sizes.{size_even, size_of-append, size_of-cons}
-use Rattle.sfi_rewrite.proofs.Expansions.{expansion_one}
+use Rattle.sfi_rewrite.proofs.Sizes.{size_even, size_of-append, size_of-cons, expansion_one}
 use Rattle.sfi_rewrite.proofs.Bundles.{slots_of-push, begun, grown, nop_fits}
 use Rattle.sfi_rewrite.proofs.Laid.{laid_split}
-use Rattle.sfi_rewrite.proofs.OneByOne.{too_large, fits_bundle, has_next, none_faultless, one_more}
+use Rattle.sfi_rewrite.proofs.OneByOne.{has_fault, too_large, fits_bundle, has_next, none_faultless, one_more}
 use Rattle.sfi_rewrite.proofs.Sources.{faulty, parts_push}
 
 -- ---- the expansion of an item
@@ -161,22 +160,9 @@ permitted_or_not f x =
       ]
     ]
 
--- a fault that the item has wherever it stands
-has_fault : (f : Format) (sandbox end : ℕ) (x : Item) (e : RewriteFault) → HasItemFault f x e → HasFault f sandbox end x e
-has_fault f sandbox end x (fault.TooLarge number) h = absurd h
-has_fault f sandbox end x (fault.ReservedRegister line) h = h
-has_fault f sandbox end x (fault.Ecall line) h = h
-has_fault f sandbox end x (fault.StackWrite line) h = h
-has_fault f sandbox end x (fault.Jump line) h = h
-has_fault f sandbox end x fault.Memory h = absurd h
-
 has_word_fault : (sandbox : ℕ) (items : List Item) (k : ℕ) (x : Item) (e : RewriteFault) → HasItemFault Sfiw x e → words.HasFault sandbox items k x e
 has_word_fault sandbox items k x (fault.TooLarge number) h = absurd h
-has_word_fault sandbox items k x (fault.ReservedRegister line) h = h
-has_word_fault sandbox items k x (fault.Ecall line) h = h
-has_word_fault sandbox items k x (fault.StackWrite line) h = h
-has_word_fault sandbox items k x (fault.Jump line) h = h
-has_word_fault sandbox items k x fault.Memory h = absurd h
+has_word_fault sandbox items k x _ h = h
 
 -- the slots with the item's after them
 record Longer (f : Format) (code : List Slot) (x : Item) : Type 0 where

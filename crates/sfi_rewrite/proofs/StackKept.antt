@@ -14,7 +14,7 @@ use Rattle.rv_step.proofs.Pairs.{written_elsewhere}
 use Rattle.sfi_rewrite.proofs.Masks.{masked_data}
 use Rattle.sfi_rewrite.proofs.Transparent.{stands_at, does, twelve, alone_transparent, named_transparent, of_masked}
 
-abbrev is_jump : Instr → Bool
+abbrev pub is_jump : Instr → Bool
 is_jump (Jal rd offset) = true
 is_jump (Jalr rd rs1 imm) = true
 is_jump _ = false
@@ -45,7 +45,7 @@ writes_alone _ h m e j done = absurd (cc)
 -- ---- the pair after it
 
 -- from the state after i, of which we know that it is s with x2 written
-from_there : (c d : Span) (s one : State) (v : ℕ) → AreRegions c d → IsState one → HasReserved c d s.hart
+from_there : (c d : Span) (s one : State) (v : ℕ) → AreRegions c d → IsState one → HasReserved 16 c d s.hart
     → one ≡ record { hart = with_register (past s.hart 4) 2 v; memory = s.memory }
     → Stands (further s 4) (Op And 2 2 27) 4 → Stands (further (further s 4) 4) (Op Or 2 2 26) 4
     → LeadTo 2 one (put_back_at d one (address_after s.hart.pc 12))
@@ -55,7 +55,7 @@ from_there c d s one v regions is reserved e second third =
     let memory : one.memory ≡ s.memory = ap (λ (x : State). x.memory) e in
     let other : (r : ℕ) → r ≢ 2 → register h r ≡ register s.hart r =
     λ r ne. ap (λ (x : State). register x.hart r) e ∙ written_elsewhere (past s.hart 4) 2 v r (λ z. omega arith) ne in
-    let now : HasReserved c d h =
+    let now : HasReserved 16 c d h =
     record {
       code_base = other 24 (λ z. omega arith) ∙ reserved.code_base;
       code_mask = other 25 (λ z. omega arith) ∙ reserved.code_mask;
@@ -67,13 +67,13 @@ from_there c d s one v regions is reserved e second third =
       (stands_at (further (further s 4) 4) (further one 4) (Op Or 2 2 26) 4 (ap (λ p. address_after p 4) pc) memory third, tt),
     ) in
     let left = pair_leaves one 2 2 27 26 is (λ z. omega arith) (λ z. omega arith) row in
-    let value = masked_data c d h (register h 2) regions now in
+    let value = masked_data 16 c d h (register h 2) regions now in
     let end : address_after h.pc 8 ≡ address_after s.hart.pc 12 = ap (λ p. address_after p 8) pc ∙ twelve s.hart.pc in
     let state : with_register (past h 8) 2 (bit_or (bit_and (register h 2) (register h 27)) (register h 26)) ≡ with_register (with_pc h (address_after s.hart.pc 12)) 2 (masked d (register h 2)) =
     ap (λ n. with_register (past h 8) 2 n) value ∙ ap (λ p. with_register (with_pc h p) 2 (masked d (register h 2))) end in
     subst (λ (k : Hart). LeadTo 2 one (record { hart = k; memory = one.memory })) state left
 
-done_is : (x : Stepped) → x.outcome ≡ Next → x ≡ record { outcome = Next; state = x.state }
+pub done_is : (x : Stepped) → x.outcome ≡ Next → x ≡ record { outcome = Next; state = x.state }
 done_is x e = ap (λ o. let y : Stepped = record { outcome = o; state = x.state } in y) e
 
 -- i and the pair

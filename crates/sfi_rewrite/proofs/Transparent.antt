@@ -1,22 +1,22 @@
 -- Each expansion does what its instruction does.
-use Rattle.sfi_rewrite.proofs.Prelude.{◌≡◌, ◌≢◌, ℕ, zero, suc, ◌-◌, ◌^◌, ◌<◌, List, [], ◌∷◌, ◌++◌, Bool, true, false, refl, sym, ap, ◌∙◌, subst, arith, inl, inr, ℤ, pos, negsuc, bit_and, bit_or, or_parts, And, Or, LoadKind, Instr, Op, OpImm, Load, Store, Jalr, code_most, address_after, Hart, State, IsState, register, with_register, with_pc, Stands, effect, IsStep, Slot, Wide, Short, slot_size, data_pair_slots, code_pair_slots, jump_to_x31, jump_slots, IsAlone, IsMasked, AreRegions, HasReserved, SlotStands, IsSameAside, DoesAs, IsTransparent}
+use Rattle.sfi_rewrite.proofs.Prelude.{◌≡◌, ◌≢◌, ℕ, zero, suc, ◌^◌, ◌<◌, List, [], ◌∷◌, ◌++◌, Bool, true, false, refl, sym, ap, ◌∙◌, subst, arith, inl, inr, ℤ, pos, negsuc, bit_and, bit_or, or_parts, And, Or, LoadKind, Instr, Op, OpImm, Load, Store, Jalr, address_after, Hart, State, IsState, register, with_register, with_pc, Stands, effect, IsStep, Slot, Wide, Short, slot_size, data_pair_slots, code_pair_slots, jump_to_x31, jump_slots, IsAlone, IsMasked, SlotStands, IsSameAside, DoesAs, IsTransparent}
 use Rattle.rv_comp.specs.Table.{expansion}
 use Rattle.rv_comp.specs.declared.form.Form16.{Form16}
 use Rattle.rv_comp.specs.declared.front.Front.TheVariants.{Read}
+use Rattle.std.proofs.lemmas.Bool.{ne_eqb}
 use Rattle.rv_step.specs.Steps.{further, StandInRow, LeadsTo, LeadTo}
 use Rattle.rv_word.specs.Numbers.{offset_by}
 use Rattle.rv_word.specs.declared.instr.ImmOp.TheVariants.{Addi}
 use Rattle.rv_word.specs.declared.instr.StoreWidth.{StoreWidth}
 use Rattle.sfi_image.specs.Regions.{IsBundleStart}
-use Rattle.sfi_image.specs.declared.span.Span.{Span}
 use Rattle.sfi_policy.specs.declared.format.Format.{Format}
 use Rattle.sfi_policy.specs.declared.format.Format.TheVariants.{Sfi1, Sfi2, Sfiw}
 use Rattle.sfi_rewrite.specs.Registers.{is_withheld, names_withheld}
+use Rattle.sfi_rewrite.specs.Transparency.{is_scratch}
 use Rattle.rv_step.proofs.Facts.{pair_leaves, step_keeps_state}
 use Rattle.rv_step.proofs.Pairs.{written_here}
-use Rattle.sfi_rewrite.proofs.Unmoved.{unmoved_code}
-use Rattle.sfi_rewrite.proofs.Masks.{unmasked_data}
-use Rattle.sfi_rewrite.proofs.Aside.{Aside, aside_scratch, loads_same, stores_same, jumps_same, plus_zero, added, plus_fits}
+use Rattle.sfi_rewrite.proofs.Masks.{unmasked_data, unmasked_code}
+use Rattle.sfi_rewrite.proofs.Aside.{Aside, aside_own, loads_same, stores_same, jumps_same, plus_zero, added, plus_fits}
 
 -- ---- what stands at a pc
 
@@ -44,12 +44,7 @@ pair_to : (s : State) (a mask base v : ℕ) → IsState s → base ≢ 31 → St
 pair_to s a mask base v is apart stand e =
     subst (λ (n : ℕ). LeadTo 2 s (scratched s (address_after s.hart.pc 8) n)) e (pair_leaves s 31 a mask base is (λ z. omega arith) apart stand)
 
-unmasked_code : (c d : Span) (h : Hart) (x : ℕ) → AreRegions c d → HasReserved c d h → IsBundleStart c x → bit_or (bit_and x (register h 25)) (register h 24) ≡ x
-unmasked_code c d h x regions reserved start =
-    ap (λ n. bit_or (bit_and x n) (register h 24)) reserved.code_mask ∙ ap (λ n. bit_or (bit_and x (c.size - 16)) n) reserved.code_base
-    ∙ unmoved_code c.base c.size (code_most regions.format) x regions.code_placed start.held.0 start.held.1 start.aligned
-
-eight : (pc : ℕ) → address_after (address_after pc 4) 4 ≡ address_after pc 8
+pub eight : (pc : ℕ) → address_after (address_after pc 4) 4 ≡ address_after pc 8
 eight pc = omega arith
 
 pub twelve : (pc : ℕ) → address_after (address_after pc 4) 8 ≡ address_after pc 12
@@ -60,17 +55,21 @@ scratch_is s pc v is = let n = is.hart.count in written_here (with_pc s.hart pc)
 
 -- ---- a pair and what stands after it
 
--- from harts with v in x31, and else the registers of s, j does what i does from these
-abbrev DoesFor : State → Instr → Instr → ℕ → Type 0
-DoesFor s i j v =
-    (h : Hart) → Aside h (with_pc s.hart h.pc) → register h 31 ≡ v → IsSameAside (effect j 4 h s.memory) (effect i 4 (with_pc s.hart h.pc) s.memory)
+-- from harts with v in the register b, and else the registers of s, j does what i does from these
+abbrev pub DoesFor : (is_own : ℕ → Bool) (s : State) (i j : Instr) (n b v : ℕ) → Type 0
+DoesFor is_own s i j n b v =
+    (h : Hart) → Aside is_own h (with_pc s.hart h.pc) → register h b ≡ v → IsSameAside is_own (effect j n h s.memory) (effect i n (with_pc s.hart h.pc) s.memory)
+
+-- x31 was written
+aside_scratch : (h : Hart) (v pc : ℕ) → Aside is_scratch (with_register (with_pc h pc) 31 v) (with_pc h pc)
+aside_scratch h v pc = aside_own is_scratch (with_pc h pc) 31 v (λ e. omega arith) refl
 
 -- three slots: the last does from after the pair what i does
 after_pair : (s : State) (i j : Instr) (a mask base v : ℕ) → IsState s → base ≢ 31
     → Stands s (Op And 31 a mask) 4 → Stands (further s 4) (Op Or 31 31 base) 4 → Stands (further (further s 4) 4) j 4
     → bit_or (bit_and (register s.hart a) (register s.hart mask)) (register s.hart base) ≡ v
-    → DoesFor s i j v
-    → DoesAs s i (Wide (Op And 31 a mask) ∷ Wide (Op Or 31 31 base) ∷ []) (Wide j)
+    → DoesFor is_scratch s i j 4 31 v
+    → DoesAs is_scratch s i (Wide (Op And 31 a mask) ∷ Wide (Op Or 31 31 base) ∷ []) (Wide j)
 after_pair s i j a mask base v is apart first second third e same =
     let pc = address_after s.hart.pc 8 in
     let there = scratched s pc v in
@@ -84,7 +83,7 @@ after_pair s i j a mask base v is apart first second third e same =
     }
 
 -- x31 was written twice
-aside_twice : (s : State) (p q v w : ℕ) → Aside (scratched (scratched s p v) q w).hart (with_pc s.hart q)
+aside_twice : (s : State) (p q v w : ℕ) → Aside is_scratch (scratched (scratched s p v) q w).hart (with_pc s.hart q)
 aside_twice s p q v w =
     let one = aside_scratch s.hart v p in
     let two = aside_scratch (scratched s p v).hart w q in
@@ -94,8 +93,8 @@ aside_twice s p q v w =
 after_sum : (s : State) (i j : Instr) (a mask base : ℕ) (imm : ℤ) → IsState s → mask ≢ 31 → base ≢ 31
     → Stands s (OpImm Addi 31 a imm) 4 → Stands (further s 4) (Op And 31 31 mask) 4 → Stands (further (further s 4) 4) (Op Or 31 31 base) 4 → Stands (further (further (further s 4) 4) 4) j 4
     → bit_or (bit_and (offset_by (register s.hart a) imm) (register s.hart mask)) (register s.hart base) ≡ offset_by (register s.hart a) imm
-    → DoesFor s i j (offset_by (register s.hart a) imm)
-    → DoesAs s i (Wide (OpImm Addi 31 a imm) ∷ Wide (Op And 31 31 mask) ∷ Wide (Op Or 31 31 base) ∷ []) (Wide j)
+    → DoesFor is_scratch s i j 4 31 (offset_by (register s.hart a) imm)
+    → DoesAs is_scratch s i (Wide (OpImm Addi 31 a imm) ∷ Wide (Op And 31 31 mask) ∷ Wide (Op Or 31 31 base) ∷ []) (Wide j)
 after_sum s i j a mask base imm is ne apart first second third fourth e same =
     let v = offset_by (register s.hart a) imm in
     let p = address_after s.hart.pc 4 in
@@ -107,8 +106,8 @@ after_sum s i j a mask base imm is ne apart first second third fourth e same =
     let aside = aside_scratch s.hart v p in
     let value : bit_or (bit_and (register one.hart 31) (register one.hart mask)) (register one.hart base) ≡ v =
     ap (λ n. bit_or (bit_and n (register one.hart mask)) (register one.hart base)) (scratch_is s p v is)
-    ∙ ap (λ n. bit_or (bit_and v n) (register one.hart base)) (aside.registers mask ne)
-    ∙ ap (λ n. bit_or (bit_and v (register s.hart mask)) n) (aside.registers base apart)
+    ∙ ap (λ n. bit_or (bit_and v n) (register one.hart base)) (aside.registers mask (ne_eqb mask 31 ne))
+    ∙ ap (λ n. bit_or (bit_and v (register s.hart mask)) n) (aside.registers base (ne_eqb base 31 apart))
     ∙ e in
     let row : StandInRow one (Op And 31 31 mask ∷ Op Or 31 31 base ∷ []) =
     (stands_at (further s 4) one (Op And 31 31 mask) 4 refl refl second, (stands_at (further (further s 4) 4) (further one 4) (Op Or 31 31 base) 4 refl refl third, tt)) in
@@ -131,8 +130,8 @@ load_transparent kind rd a imm = record {
   does = λ c d s asked keeps.
       let regions = asked.regions in let is = asked.is_state in let reserved = asked.reserved in let stand = asked.stand in
       after_pair s (Load kind rd a imm) (Load kind rd 31 imm) a 27 26 (register s.hart a) is (λ z. omega arith) stand.0 stand.1.0 stand.1.1.0
-      (unmasked_data c d s.hart (register s.hart a) regions reserved keeps)
-      (λ h aside e. loads_same kind rd a imm h (with_pc s.hart h.pc) s.memory aside e);
+      (unmasked_data 16 c d s.hart (register s.hart a) regions reserved keeps)
+      (λ h aside e. loads_same is_scratch kind rd 31 a imm 4 h (with_pc s.hart h.pc) s.memory aside e);
 }
 
 store_transparent : (width : StoreWidth) (a rs2 : ℕ) (imm : ℤ) → rs2 ≢ 31 → IsTransparent (Store width a rs2 imm) (data_pair_slots a ++ Wide (Store width 31 rs2 imm) ∷ [])
@@ -143,8 +142,8 @@ store_transparent width a rs2 imm ne = record {
   does = λ c d s asked keeps.
       let regions = asked.regions in let is = asked.is_state in let reserved = asked.reserved in let stand = asked.stand in
       after_pair s (Store width a rs2 imm) (Store width 31 rs2 imm) a 27 26 (register s.hart a) is (λ z. omega arith) stand.0 stand.1.0 stand.1.1.0
-      (unmasked_data c d s.hart (register s.hart a) regions reserved keeps)
-      (λ h aside e. stores_same width a rs2 imm h (with_pc s.hart h.pc) s.memory aside e ne);
+      (unmasked_data 16 c d s.hart (register s.hart a) regions reserved keeps)
+      (λ h aside e. stores_same is_scratch width 31 a rs2 imm 4 h (with_pc s.hart h.pc) s.memory aside e (ne_eqb rs2 31 ne));
 }
 
 -- a jump's offset is 0
@@ -158,8 +157,8 @@ jump_transparent rd a = record {
       let v = register s.hart a in
       let to = plus_zero v (is.hart.words a) in
       after_pair s (Jalr rd a (pos 0)) (Jalr rd 31 (pos 0)) a 25 24 v is (λ z. omega arith) stand.0 stand.1.0 stand.1.1.0
-      (unmasked_code c d s.hart v regions reserved (subst (λ (n : ℕ). IsBundleStart c n) to keeps))
-      (λ h aside e. jumps_same rd a (pos 0) h (with_pc s.hart h.pc) s.memory aside (ap (λ n. offset_by n (pos 0)) e));
+      (let start = subst (λ (n : ℕ). IsBundleStart c n) to keeps in unmasked_code 4 c d s.hart v (omega arith) regions reserved start.held start.aligned)
+      (λ h aside e. jumps_same is_scratch rd 31 a (pos 0) h (with_pc s.hart h.pc) s.memory aside (ap (λ n. offset_by n (pos 0)) e));
 }
 
 -- it isn't
@@ -172,8 +171,8 @@ sum_transparent rd a imm = record {
       let regions = asked.regions in let is = asked.is_state in let reserved = asked.reserved in let stand = asked.stand in
       let v = offset_by (register s.hart a) imm in
       after_sum s (Jalr rd a imm) (Jalr rd 31 (pos 0)) a 25 24 imm is (λ z. omega arith) (λ z. omega arith) stand.0 stand.1.0 stand.1.1.0 stand.1.1.1.0
-      (unmasked_code c d s.hart v regions reserved keep)
-      (λ h aside e. jumps_same rd a imm h (with_pc s.hart h.pc) s.memory aside (ap (λ n. offset_by n (pos 0)) e ∙ plus_zero v (plus_fits (register s.hart a) imm)));
+      (unmasked_code 4 c d s.hart v (omega arith) regions reserved keep.held keep.aligned)
+      (λ h aside e. jumps_same is_scratch rd 31 a imm h (with_pc s.hart h.pc) s.memory aside (ap (λ n. offset_by n (pos 0)) e ∙ plus_zero v (plus_fits (register s.hart a) imm)));
 }
 
 jumps_transparent : (rd a : ℕ) (imm : ℤ) → IsTransparent (Jalr rd a imm) (jump_slots rd a imm)
@@ -186,24 +185,20 @@ jumps_transparent rd a (negsuc n) = sum_transparent rd a (negsuc n)
 stays_there : (pc : ℕ) → pc < 2 ^ 32 → pc ≡ address_after pc 0
 stays_there pc h = omega arith
 
-same_alone : (i : Instr) (n : ℕ) (s : State) → IsSameAside (effect i n s.hart s.memory) (effect i n (with_pc s.hart s.hart.pc) s.memory)
-same_alone i n s = record { outcome = refl; pc = refl; registers = λ x ne. refl; memory = refl }
+-- what stands for an instruction does it
+pub one_does : (is_own : ℕ → Bool) (s : State) (i : Instr) (x : Slot) → IsState s → Stands s i (slot_size x) → DoesAs is_own s i [] x
+one_does is_own s i x is stand = record {
+  there = s;
+  leads = refl;
+  place = stays_there s.hart.pc is.hart.address;
+  result = effect i (slot_size x) s.hart s.memory;
+  step = does s i (slot_size x) stand;
+  same = record { outcome = refl; pc = refl; registers = λ r other. refl; memory = refl };
+}
 
 -- one slot, which stands for the instruction
 one_transparent : (i : Instr) (x : Slot) → ((s : State) → SlotStands i s x → Stands s i (slot_size x)) → IsTransparent i (x ∷ [])
-one_transparent i x stands = record {
-  before = [];
-  last = x;
-  slots_are = refl;
-  does = λ c d s asked keeps. record {
-    there = s;
-    leads = refl;
-    place = stays_there s.hart.pc asked.is_state.hart.address;
-    result = effect i (slot_size x) s.hart s.memory;
-    step = does s i (slot_size x) (stands s asked.stand.0);
-    same = same_alone i (slot_size x) s;
-  };
-}
+one_transparent i x stands = record { before = []; last = x; slots_are = refl; does = λ c d s asked keeps. one_does is_scratch s i x asked.is_state (stands s asked.stand.0) }
 
 wide_transparent : (i : Instr) → IsTransparent i (Wide i ∷ [])
 wide_transparent i = one_transparent i (Wide i) (λ s stand. stand)

@@ -1,8 +1,7 @@
 -- The bundles of a placement are whole expansions and c.nops: no expansion was cut.
 use Rattle.sfi_rewrite.proofs.Prelude.{◌≡◌, ℕ, zero, suc, ◌+◌, ◌*◌, ◌%◌, ◌<◌, ◌≤◌, List, [], ◌∷◌, ◌++◌, replicate, refl, sym, ap, ◌∙◌, subst, arith, append_assoc, append-nil, All, All-nil, All-cons, All-head, All-tail, Format, Item, IsBody, Slot, size_of, slots_of, c_nop, AreLaidFrom, AreBundles, IsPermitted, AreWhole, nothing, padding}
 use Rattle.sfi_rewrite.specs.Placed.{expansion}
-use Rattle.sfi_rewrite.proofs.Sizes.{size_of-append, size_even, size_at_least, begins_with}
-use Rattle.sfi_rewrite.proofs.Expansions.{expansion_one}
+use Rattle.sfi_rewrite.proofs.Sizes.{size_of-append, size_even, size_at_least, begins_with, expansion_one}
 use Rattle.sfi_rewrite.proofs.Laid.{size_next}
 
 whole-append : (f : Format) (count : ℕ) (xs ys : List Slot) → AreWhole f count xs → AreWhole f count ys → AreWhole f count (xs ++ ys)

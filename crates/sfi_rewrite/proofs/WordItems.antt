@@ -1,16 +1,17 @@
 -- The items of code in words, laid one after another.
-use Rattle.sfi_rewrite.proofs.Prelude.{◌≡◌, ℕ, zero, suc, ◌+◌, ◌<◌, ◌≤◌, Bool, true, false, List, [], ◌∷◌, ◌++◌, length, take, drop, get_or, Some, None, refl, sym, ap, ◌∙◌, subst, arith, append_assoc, append-nil, true≢false, inl, inr, cases_lt, MatchBool, ◌&&◌, and_parts, slice_get, take_more, drop_more, take_all, All, All-push, slice_get-get_or, get_or_append_left, get_or_push, length-append, Instr, Load, Store, Jalr, Body, Plain, To, High, Low, Item, Slot, Wide, Upper, Lower, Short, Jump, IsAlone, IsPermitted, HasItemFault, UnlessMemory, RewriteFault, Op, OpImm, And, Or}
+use Rattle.sfi_rewrite.proofs.Prelude.{◌≡◌, ℕ, ◌+◌, ◌<◌, ◌≤◌, Bool, true, false, List, [], ◌∷◌, ◌++◌, length, take, drop, get_or, Some, refl, sym, ap, ◌∙◌, subst, arith, append_assoc, append-nil, true≢false, inl, inr, MatchBool, ◌&&◌, and_parts, take_more, take_all, All, All-push, Instr, Load, Store, Jalr, Body, Plain, To, High, Low, Item, Slot, Wide, Upper, Lower, Short, Jump, IsAlone, IsPermitted, HasItemFault, UnlessMemory, RewriteFault, Op, OpImm, And, Or}
 use Rattle.sfi_policy.specs.Formats.{code_most}
 use Rattle.sfi_policy.specs.declared.format.Format.TheVariants.{Sfiw}
 use Rattle.std.specs.Prelude.{not}
-use Rattle.std.proofs.lemmas.List.{take-append-drop}
+use Rattle.std.proofs.lemmas.List.{take-append-drop, drop_all}
 use Rattle.std.proofs.lemmas.Result.{IfOk-weaker, IfErr-weaker}
 use Rattle.std.specs.Prelude.{Result, IfOk, IfErr}
 use Rattle.sfi_rewrite.specs.declared.fault.RewriteFault.TheVariants.{TooLarge, Memory}
 use Rattle.sfi_rewrite.specs.words.Expansion.{IsConfined, IsAround, IsExpansionOf, IsExpansion, before, after, base_of, is_step, is_move, moved, mask_after}
 use Rattle.sfi_rewrite.specs.words.Laying.{Marked, marked, in_words, AreExpanded, AreLaidBefore, IsLabelAt}
 use Rattle.sfi_rewrite.specs.words.Faults as words
-use Rattle.sfi_rewrite.specs.private.Words.{WordsSoFar, so_far, bytes_of, waiting_size, more_for, ended, before_label, with_slot, with_slots, with_more, LeadsTo, HaveRoom, AreWith, IsBeyond, HasNoRoom, AreOfFirst, AreLaidWhole, AreLabels}
+use Rattle.sfi_rewrite.specs.private.Words.{WordsSoFar, bytes_of, waiting_size, more_for, ended, before_label, with_slot, with_slots, with_more, LeadsTo, HaveRoom, AreWith, IsBeyond, HasNoRoom, AreOfFirst, AreLaidWhole}
+use Rattle.sfi_rewrite.proofs.OneByOne.{StandsAt}
 use Rattle.sfi_rewrite.proofs.WordLaying.{ended_leads, ended_last}
 use Rattle.sfi_rewrite.proofs.WordFilled.{slot_bytes, slot_aligned, ended_bytes, ended_aligned, ended_none, slots_append, slots_push, slots_more, slots_lead}
 
@@ -42,10 +43,10 @@ beyond sandbox old code slots k s h at e over =
 -- ---- an item's slots
 
 -- some slots
-record AreSome (slots : List Slot) : Type 0 where
-  first : Slot
-  rest : List Slot
-  are : slots ≡ first ∷ rest
+pub record AreSome (slots : List Slot) : Type 0 where
+  pub first : Slot
+  pub rest : List Slot
+  pub are : slots ≡ first ∷ rest
 
 alone_some : (rvc : Bool) (i : Instr) (slots : List Slot) → IsAlone rvc i slots → AreSome slots
 alone_some false i slots e = record { first = Wide i; rest = []; are = e }
@@ -71,7 +72,7 @@ plain_some : (move step rvc : Bool) (i : Instr) (slots : List Slot) → (move �
 plain_some true step rvc i slots m e = subst AreSome (sym e) (moved_some i (m refl))
 plain_some false step rvc i slots m e = subst AreSome (sym e.2) (append_some (before i) e.0 (after step i) (confined_some rvc i e.0 e.1))
 
-expansion_of_some : (line : ℕ) (rvc step : Bool) (body : Body) (slots : List Slot) → IsExpansionOf line rvc step body slots → AreSome slots
+pub expansion_of_some : (line : ℕ) (rvc step : Bool) (body : Body) (slots : List Slot) → IsExpansionOf line rvc step body slots → AreSome slots
 expansion_of_some line rvc step (Plain i) slots e = plain_some (is_move i && not step) step rvc i slots (λ both. (and_parts (is_move i) (not step) both).0) e
 expansion_of_some line rvc step (To i name) slots e = record { first = Jump i name line; rest = []; are = e }
 expansion_of_some line rvc step (High rd name) slots e = record { first = Upper rd name line; rest = mask_after (Some rd); are = e }
@@ -140,24 +141,8 @@ expanded_push (y ∷ items) x later slots expanded e is =
       expanded_push items x later e.1 expanded e.4 is,
     )
 
--- the item that stands at the place
-pub record StandsAt (items : List Item) (k : ℕ) (x : Item) : Type 0 where
-  pub more : take (k + 1) items ≡ take k items ++ x ∷ []
-  pub from : drop k items ≡ x ∷ drop (k + 1) items
-  pub at : slice_get items k ≡ Some x
-
-pub stands_at : (items : List Item) (k : ℕ) (x : Item) → k < length items → x ≡ get_or items k x → StandsAt items k x
-stands_at items k x h e = record {
-  more = take_more items k x h ∙ ap (λ y. take k items ++ y ∷ []) (sym e);
-  from = drop_more items k x h ∙ ap (λ y. y ∷ drop (k + 1) items) (sym e);
-  at = slice_get-get_or items k x h ∙ ap Some (sym e);
-}
-
 pub next_permitted : (items : List Item) (k : ℕ) (x : Item) → StandsAt items k x → All (IsPermitted Sfiw) (take k items) → IsPermitted Sfiw x → All (IsPermitted Sfiw) (take (k + 1) items)
 next_permitted items k x at p is = subst (All (IsPermitted Sfiw)) (sym at.more) (All-push (IsPermitted Sfiw) (take k items) x p is)
-
-pub none_first : (items : List Item) → AreOfFirst 0 items (so_far [] None)
-none_first items = record { expanded = []; are_expanded = refl; lead = λ more. refl }
 
 pub next_first : (items : List Item) (k : ℕ) (x : Item) (later : List Item) (old new : WordsSoFar)
     → StandsAt items k x → later ≡ drop (k + 1) items → AreOfFirst k items old → AreWith x later old new → AreOfFirst (k + 1) items new
@@ -182,31 +167,6 @@ first_laid items k w first =
 
 pub first_label : (items : List Item) (k place : ℕ) (w : WordsSoFar) → AreOfFirst k items w → place ≡ bytes_of w → IsLabelAt items k place
 first_label items k place w first e = ((ended w.words w.waiting).words, first_laid items k w first, e ∙ sym (ended_bytes w.words w.waiting))
-
--- one more label
-pub next_label : (items : List Item) (labels now : List ℕ) (n place : ℕ)
-    → length labels ≡ n → ((k : ℕ) → k < n → IsLabelAt items k (get_or labels k 0)) → IsLabelAt items n place → now ≡ labels ++ place ∷ []
-    → (k : ℕ) → k < n + 1 → IsLabelAt items k (get_or now k 0)
-next_label items labels now n place l each here e k h =
-    elim (cases_lt k n) [
-      | inl b ↦
-          let same : get_or now k 0 ≡ get_or labels k 0 =
-          ap (λ v. get_or v k 0) e ∙ get_or_append_left labels (place ∷ []) 0 k (let z : k < length labels = omega arith in z) in
-          subst (λ (p : ℕ). IsLabelAt items k p) (sym same) (each k b)
-      | inr b ↦
-          let at : n ≡ k = omega arith in
-          let same : get_or now n 0 ≡ place = ap (λ v. get_or v n 0) e ∙ get_or_push labels place 0 n l in
-          subst (λ (m : ℕ). IsLabelAt items m (get_or now m 0)) at (subst (λ (p : ℕ). IsLabelAt items n p) (sym same) here)
-    ]
-
-pub all_labels : (items : List Item) (labels now : List ℕ) (n place : ℕ)
-    → length items ≤ n → n ≤ length items → length labels ≡ n → ((k : ℕ) → k < n → IsLabelAt items k (get_or labels k 0)) → IsLabelAt items n place
-    → now ≡ labels ++ place ∷ [] → AreLabels items now
-all_labels items labels now n place low high l each here e =
-    record {
-      count = ap length e ∙ length-append labels (place ∷ []) ∙ (omega arith);
-      each = λ k h. next_label items labels now n place l each here e k (omega arith);
-    }
 
 -- ---- faults
 
@@ -247,12 +207,6 @@ all_whole items n w slots low p first room e =
     let fits = room.fits in
     rw e (record {
       permitted = subst (All (IsPermitted Sfiw)) all p;
-      laid = subst (λ v. AreLaidBefore items v (ended w.words w.waiting).words) (none_left items n low) (subst (λ v. AreLaidBefore v (drop n items) (ended w.words w.waiting).words) all laid);
+      laid = subst (λ v. AreLaidBefore items v (ended w.words w.waiting).words) (drop_all n items low) (subst (λ v. AreLaidBefore v (drop n items) (ended w.words w.waiting).words) all laid);
       fits = omega arith;
     })
-  where
-    none_left : (items : List Item) (n : ℕ) → length items ≤ n → drop n items ≡ []
-    none_left [] zero h = refl
-    none_left [] (suc n) h = refl
-    none_left (x ∷ items) zero h = absurd (omega arith)
-    none_left (x ∷ items) (suc n) h = none_left items n (omega arith)

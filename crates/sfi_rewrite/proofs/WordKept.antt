@@ -1,5 +1,5 @@
 -- The expansion in words acts as its instruction: what writes a data register keeps what that leaves.
-use Rattle.sfi_rewrite.proofs.Prelude.{◌≡◌, ◌≢◌, ℕ, zero, suc, ◌+◌, ◌*◌, ◌%◌, ◌^◌, ◌<◌, ◌==◌, ◌&&◌, List, [], ◌∷◌, ◌++◌, length, Bool, true, false, MatchBool, Option, Some, None, refl, sym, ap, ◌∙◌, subst, arith, length-append, append_assoc, append-nil, eqb-true, true≢false, and_parts, or_parts, ℤ, pos, negsuc, And, Or, LoadKind, Instr, Op, OpImm, Load, Store, Jal, Jalr, Branch, Lui, Auipc, Bytes, address_after, loaded, Hart, State, IsState, register, with_register, with_pc, past, Stepped, Stands, next, after_load, effect, IsStep, Item, Body, Plain, To, High, Low, Slot, Wide, Jump, Upper, Lower, slot_size, size_of, IsAlone, SlotStands, IsAimed, MayBe}
+use Rattle.sfi_rewrite.proofs.Prelude.{◌≡◌, ◌≢◌, ℕ, zero, suc, ◌+◌, ◌*◌, ◌%◌, ◌^◌, ◌<◌, ◌==◌, ◌&&◌, List, [], ◌∷◌, ◌++◌, length, Bool, true, false, MatchBool, Option, Some, None, refl, sym, ap, ◌∙◌, subst, arith, length-append, append_assoc, append-nil, eqb-true, true≢false, and_parts, or_parts, ℤ, pos, negsuc, And, Or, LoadKind, Instr, Op, OpImm, Load, Store, Jal, Jalr, Branch, Lui, Auipc, Bytes, address_after, loaded, Hart, State, IsState, register, with_register, with_pc, past, Stepped, Stands, next, after_load, effect, IsStep, Item, Body, Plain, To, High, Low, Slot, Wide, Jump, Upper, Lower, slot_size, size_of, IsAlone, HasReserved, SlotStands, IsAskedOf, IsAimed, MayBe}
 use Rattle.std.specs.Prelude.{not, ◌||◌, if◌then◌else◌}
 use Rattle.rv_word.specs.Writes.{destination}
 use Rattle.rv_word.specs.Numbers.{offset_by}
@@ -17,20 +17,16 @@ use Rattle.sfi_rewrite.specs.Transparency.{masked, SlotsStand}
 use Rattle.sfi_rewrite.specs.Registers.{is_withheld, names_withheld, item_names_withheld}
 use Rattle.sfi_rewrite.specs.Laws.{WordExpansionsAreTransparent}
 use Rattle.sfi_rewrite.specs.words.Expansion.{IsConfined, IsAround, IsExpansionOf, before, after, data_mask, mask_after, is_move, moved, is_step, is_step_to, is_zero, is_barred_jump}
-use Rattle.sfi_rewrite.specs.words.Transparency.{is_own, HasReserved, meant, IsAskedOf, IsTransparent, KeepsData, ActsBy, ActsAs}
+use Rattle.sfi_rewrite.specs.words.Transparency.{is_own, meant, IsTransparent, KeepsData, ActsBy, ActsAs}
 use Rattle.rv_step.proofs.Facts.{step_keeps_state}
 use Rattle.rv_step.proofs.Pairs.{written_here, written_elsewhere}
 use Rattle.sfi_rewrite.proofs.Sizes.{size_of-append, size_of-cons}
 use Rattle.sfi_rewrite.proofs.Transparent.{stands_at}
+use Rattle.sfi_rewrite.proofs.StackKept.{is_jump, done_is}
 use Rattle.sfi_rewrite.proofs.Aside.{added, plus_zero}
 use Rattle.sfi_rewrite.proofs.WordTransparent.{IsOneFor, one_for, IsNamed, after_mask, mask_leads, mask_elsewhere, mask_leaves, not_31, one_transparent, load_transparent, store_transparent, load_alone, store_alone, jump_transparent}
 
 -- ---- what an instruction writes
-
-abbrev is_jump : Instr → Bool
-is_jump (Jal rd offset) = true
-is_jump (Jalr rd rs1 imm) = true
-is_jump _ = false
 
 abbrev is_auipc : Instr → Bool
 is_auipc (Auipc rd imm) = true
@@ -155,14 +151,11 @@ led_state (suc n) s t a is = led_state n a.0 t a.2 (step_keeps_state s (record {
 one_step : (s t : State) → LeadsTo s t → LeadTo 1 s t
 one_step s t a = (t, a, refl)
 
-done_is : (x : Stepped) → x.outcome ≡ Next → x ≡ record { outcome = Next; state = x.state }
-done_is x e = ap (λ o. let y : Stepped = record { outcome = o; state = x.state } in y) e
-
 -- ---- the mask after a write
 
 -- the reserved registers where d alone was written, and the expansions' own
-reserved_still : (c d_at : Span) (s t : State) (d : ℕ) → d < 5 → HasReserved c d_at s.hart
-    → ((x : ℕ) → is_own x ≡ false → x ≢ d → register t.hart x ≡ register s.hart x) → HasReserved c d_at t.hart
+reserved_still : (c d_at : Span) (s t : State) (d : ℕ) → d < 5 → HasReserved 4 c d_at s.hart
+    → ((x : ℕ) → is_own x ≡ false → x ≢ d → register t.hart x ≡ register s.hart x) → HasReserved 4 c d_at t.hart
 reserved_still c d_at s t d small reserved same = record {
   code_base = same 24 refl (λ e. omega arith) ∙ reserved.code_base;
   code_mask = same 25 refl (λ e. omega arith) ∙ reserved.code_mask;
@@ -177,7 +170,7 @@ named_low d some own small = record { some = some; small = omega arith; own = ow
 masked_keeps : (i : Instr) (d : ℕ) (slots : List Slot) → destination i ≡ Some d → is_jump i ≡ false → is_data_register d ≡ true → is_own d ≡ false
     → (t : IsTransparent i slots) → (is_auipc i ≡ true → t.before ≡ []) → KeepsData d i (slots ++ data_mask d d)
 masked_keeps i d slots writer no_jump typed own t first = record {
-  does = λ c d_at s asked done.
+  does = λ c d_at s asked keeps done.
       let small = low d typed own in
       let some = not_zero d typed in
       let pc_small = asked.is_state.hart.address in
@@ -186,7 +179,7 @@ masked_keeps i d slots writer no_jump typed own t first = record {
       let all_size = size_of-append slots (data_mask d d) in
       let mask_size : size_of (data_mask d d) ≡ 8 = refl in
       let no_size : size_of [] ≡ 0 = refl in
-      let r = t.does c d_at s (asked_before c d_at s asked) in
+      let r = t.does c d_at s (asked_before c d_at s asked) keeps in
       let there = r.there in
       let n = slot_size t.last in
       let p = there.hart.pc in
@@ -197,10 +190,10 @@ masked_keeps i d slots writer no_jump typed own t first = record {
       let step : LeadsTo there one = subst (λ (x : Stepped). IsStep there x) (done_is r.result outcome) r.step in
       let memory : one.memory ≡ s.memory = r.same.memory ∙ ap (λ (x : Stepped). x.state.memory) w.there in
       let pc : one.hart.pc ≡ address_after s.hart.pc (size_of slots) =
-      r.same.hart.pc ∙ ap (λ (x : Stepped). x.state.hart.pc) w.there ∙ ap (λ v. address_after v n) r.place ∙ omega arith in
+      r.same.pc ∙ ap (λ (x : Stepped). x.state.hart.pc) w.there ∙ ap (λ v. address_after v n) r.place ∙ omega arith in
       -- registers after it, but those of the expansions
       let left : (x : ℕ) → is_own x ≡ false → register one.hart x ≡ register (effect (meant i) 4 s.hart s.memory).state.hart x =
-      λ x other. r.same.hart.registers x other ∙ ap (λ (y : Stepped). register y.state.hart x) w.there ∙ sym (ap (λ (y : Stepped). register y.state.hart x) w.here) in
+      λ x other. r.same.registers x other ∙ ap (λ (y : Stepped). register y.state.hart x) w.there ∙ sym (ap (λ (y : Stepped). register y.state.hart x) w.here) in
       let elsewhere : (x : ℕ) → is_own x ≡ false → x ≢ d → register one.hart x ≡ register s.hart x =
       λ x other ne. left x other ∙ ap (λ (y : Stepped). register y.state.hart x) w.here ∙ written_elsewhere (past s.hart 4) d w.value x some ne in
       let is_one : IsState one = led_state (length t.before + 1) s one (led_through (length t.before) 1 s there one r.leads (one_step there one step)) asked.is_state in
@@ -222,22 +215,21 @@ masked_keeps i d slots writer no_jump typed own t first = record {
           memory = memory ∙ sym (ap (λ (y : Stepped). y.state.memory) w.here);
         },
       );
-  stops = λ c d_at s asked stop. record {
+  stops = λ c d_at s asked keeps stop. record {
     before = t.before;
     last = t.last;
     rest = data_mask d d;
     slots_are = ap (λ v. v ++ data_mask d d) t.slots_are ∙ append_assoc t.before (t.last ∷ []) (data_mask d d);
-    does = t.does c d_at s (asked_before c d_at s asked);
+    does = t.does c d_at s (asked_before c d_at s asked) keeps;
   };
 }
   where
-    asked_before : (c d_at : Span) (s : State) → IsAskedOf i (slots ++ data_mask d d) c d_at s → IsAskedOf i slots c d_at s
+    asked_before : (c d_at : Span) (s : State) → IsAskedOf 4 i (slots ++ data_mask d d) c d_at s → IsAskedOf 4 i slots c d_at s
     asked_before c d_at s asked = record {
       regions = asked.regions;
       is_state = asked.is_state;
       reserved = asked.reserved;
       stand = stand_before i s slots (data_mask d d) asked.stand;
-      keeps = asked.keeps;
     }
 
     slots_count : (front : List Slot) (last : Slot) (all mask : List Slot) → all ≡ front ++ last ∷ [] → length front + (1 + length mask) ≡ length (all ++ mask)
@@ -254,7 +246,7 @@ masked_keeps i d slots writer no_jump typed own t first = record {
 move_keeps : (i : Instr) (d a : ℕ) → is_data_register d ≡ true → is_own d ≡ false
     → ((h : Hart) (m : Bytes) → IsState (record { hart = h; memory = m }) → effect (meant i) 4 h m ≡ next (with_register (past h 4) d (register h a)) m) → KeepsData d i (data_mask d a)
 move_keeps i d a typed own moves = record {
-  does = λ c d_at s asked done.
+  does = λ c d_at s asked keeps done.
       let small = low d typed own in
       let some = not_zero d typed in
       let is = asked.is_state in
@@ -275,7 +267,7 @@ move_keeps i d a typed own moves = record {
           memory = sym (ap (λ (y : Stepped). y.state.memory) e);
         },
       );
-  stops = λ c d_at s asked stop. absurd (stop (ap (λ (y : Stepped). y.outcome) (moves s.hart s.memory asked.is_state)));
+  stops = λ c d_at s asked keeps stop. absurd (stop (ap (λ (y : Stepped). y.outcome) (moves s.hart s.memory asked.is_state)));
 }
 
 -- ---- an instruction on the register that it goes by

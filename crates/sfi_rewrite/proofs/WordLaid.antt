@@ -1,16 +1,44 @@
 -- What is laid in words: that there is one way, and a beginning of the items.
-use Rattle.sfi_rewrite.proofs.Prelude.{◌≡◌, ℕ, zero, suc, ◌%◌, ◌≤◌, List, [], ◌∷◌, ◌++◌, length, take, drop, refl, sym, ap, ◌∙◌, subst, arith, append_assoc, take_all, take-take, All, MatchBool, Format, Item, Slot, size_of, IsPermitted, AreFaultless, AreLaidFrom}
+use Rattle.sfi_rewrite.proofs.Prelude.{◌≡◌, ℕ, zero, suc, ◌%◌, ◌≤◌, List, [], ◌∷◌, ◌++◌, length, take, drop, refl, sym, ap, ◌∙◌, subst, arith, append_assoc, take_all, take-take, All, MatchBool, Format, Item, Slot, size_of, IsPermitted, AreFaultless, AreLaidFrom, Bool, true, false, ◌&&◌, Instr, Load, Store, Jalr, Body, Plain, RewriteFault, UnlessMemory, IsItemFault, IsLabelAt, AreLabels}
 use Rattle.sfi_policy.specs.Formats.{code_most, has_words}
 use Rattle.sfi_policy.specs.declared.format.Format.TheVariants.{Sfi1, Sfi2, Sfiw}
-use Rattle.std.proofs.lemmas.List.{take-append-drop}
-use Rattle.sfi_rewrite.specs.words.Expansion.{IsExpansion}
+use Rattle.std.proofs.lemmas.List.{take-append-drop, drop_all}
+use Rattle.sfi_rewrite.specs.words.Expansion.{IsExpansion, before, after, base_of, IsConfined, IsAround, IsExpansionOf, is_step, is_move, moved}
 use Rattle.sfi_rewrite.specs.words.Laying.{Marked, marked, in_words, AreExpanded, AreLaidBefore, AreLaid}
 use Rattle.sfi_rewrite.specs.words.Faults as words
 use Rattle.sfi_rewrite.specs.Placement.{AreLaidIn}
-use Rattle.sfi_rewrite.specs.private.Words.{AreFaultlessIn}
-use Rattle.sfi_rewrite.proofs.Laid.{laid_one_way}
-use Rattle.sfi_rewrite.proofs.WordLaws.{one_word_expansion}
+use Rattle.sfi_rewrite.specs.private.Words.{AreFaultlessIn, AreLaidWhole, AreLabelsIn}
+use Rattle.sfi_rewrite.proofs.Laid.{laid_one_way, alone_one_way}
 use Rattle.sfi_rewrite.proofs.WordView.{words_more, word_aligned}
+use Rattle.std.specs.Prelude.{not}
+use Rattle.sfi_rewrite.specs.Laws.{OneWordExpansion}
+use Rattle.sfi_rewrite.specs.declared.fault.RewriteFault.TheVariants.{Memory}
+use Rattle.sfi_rewrite.specs.SourceFaults.{IsFaultIn}
+use Rattle.sfi_rewrite.specs.words.Laying as words_laying
+
+-- ---- an item has one expansion, before the items after it
+
+confined_one_way : (rvc : Bool) (i : Instr) (a b : List Slot) → IsConfined rvc i a → IsConfined rvc i b → a ≡ b
+confined_one_way rvc (Load kind rd rs1 imm) a b x y = alone_one_way rvc (Load kind rd (base_of rs1) imm) a b x y
+confined_one_way rvc (Store width rs1 rs2 imm) a b x y = alone_one_way rvc (Store width (base_of rs1) rs2 imm) a b x y
+confined_one_way rvc (Jalr rd rs1 imm) a b x y = x ∙ sym y
+confined_one_way rvc other a b x y = alone_one_way rvc other a b x y
+
+around_one_way : (rvc step : Bool) (i : Instr) (a b : List Slot) → IsAround rvc step i a → IsAround rvc step i b → a ≡ b
+around_one_way rvc step i a b (x, confined, is) (y, other, same) =
+    is ∙ ap (λ v. before i ++ (v ++ after step i)) (confined_one_way rvc i x y confined other) ∙ sym same
+
+plain_one_way : (moves rvc step : Bool) (i : Instr) (a b : List Slot)
+    → MatchBool moves (a ≡ moved i) (IsAround rvc step i a) → MatchBool moves (b ≡ moved i) (IsAround rvc step i b) → a ≡ b
+plain_one_way true rvc step i a b x y = x ∙ sym y
+plain_one_way false rvc step i a b x y = around_one_way rvc step i a b x y
+
+expansion_of_one_way : (line : ℕ) (rvc step : Bool) (body : Body) (a b : List Slot) → IsExpansionOf line rvc step body a → IsExpansionOf line rvc step body b → a ≡ b
+expansion_of_one_way line rvc step (Plain i) a b x y = plain_one_way (is_move i && not step) rvc step i a b x y
+expansion_of_one_way line rvc step other a b x y = x ∙ sym y
+
+pub one_word_expansion : OneWordExpansion
+one_word_expansion x later a b h g = expansion_of_one_way x.line x.rvc (is_step x later) x.body a b h g
 
 -- ---- one way
 
@@ -73,17 +101,11 @@ first_fits items m j front slots h f l =
     let b = ap size_of (l.2 ∙ ap (λ v. in_words v) s.both) in
     omega arith
 
-none_left : (items : List Item) (n : ℕ) → length items ≤ n → drop n items ≡ []
-none_left [] zero h = refl
-none_left [] (suc n) h = refl
-none_left (x ∷ items) zero h = absurd (omega arith)
-none_left (x ∷ items) (suc n) h = none_left items n (omega arith)
-
 -- all the items are the first of them
 pub all_first : (items : List Item) (slots : List Slot) → AreLaid items slots → AreLaidBefore (take (length items) items) (drop (length items) items) slots
 all_first items slots l =
     subst (λ v. AreLaidBefore v (drop (length items) items) slots) (sym (take_all (length items) items (omega arith)))
-    (subst (λ v. AreLaidBefore items v slots) (sym (none_left items (length items) (omega arith))) l)
+    (subst (λ v. AreLaidBefore items v slots) (sym (drop_all (length items) items (omega arith))) l)
 
 pub laid_aligned : (later items : List Item) (slots : List Slot) → AreLaidBefore items later slots → size_of slots % 4 ≡ 0
 laid_aligned later items slots l = let e = ap size_of l.2 in let a = word_aligned l.0 in omega arith
@@ -126,3 +148,36 @@ all_fit Sfiw items slots l a =
     let same = ap size_of (words_one_way (drop (length items) items) (take (length items) items) slots a.slots (all_first items slots l) a.laid) in
     let fits = a.fits in
     record { permitted = subst (All (IsPermitted Sfiw)) (take_all (length items) items (omega arith)) a.permitted; fits = omega arith }
+
+-- ---- what is laid in either, as the format asks
+
+pub faultless_words : (f : Format) (items : List Item) (slots : List Slot) → has_words f ≡ true → AreLaidWhole items slots → AreFaultlessIn f items slots
+faultless_words f items slots e h = subst (λ (w : Bool). MatchBool w (AreLaidWhole items slots) (AreFaultless f items slots)) (sym e) h
+
+pub faultless_bundles : (f : Format) (items : List Item) (slots : List Slot) → has_words f ≡ false → AreFaultless f items slots → AreFaultlessIn f items slots
+faultless_bundles f items slots e h = subst (λ (w : Bool). MatchBool w (AreLaidWhole items slots) (AreFaultless f items slots)) (sym e) h
+
+labels_as : (f : Format) (items : List Item) (labels : List ℕ) (w : Bool) → has_words f ≡ w
+    → AreLabels (λ k place. MatchBool w (words_laying.IsLabelAt items k place) (IsLabelAt f items k place)) (length items) labels → AreLabelsIn f items labels
+labels_as f items labels w e h =
+    subst (λ (v : Bool). AreLabels (λ k place. MatchBool v (words_laying.IsLabelAt items k place) (IsLabelAt f items k place)) (length items) labels) (sym e) h
+
+pub labels_words : (f : Format) (items : List Item) (labels : List ℕ) → has_words f ≡ true → AreLabels (words_laying.IsLabelAt items) (length items) labels → AreLabelsIn f items labels
+labels_words f items labels e h = labels_as f items labels true e h
+
+pub labels_bundles : (f : Format) (items : List Item) (labels : List ℕ) → has_words f ≡ false → AreLabels (IsLabelAt f items) (length items) labels → AreLabelsIn f items labels
+labels_bundles f items labels e h = labels_as f items labels false e h
+
+unless_weaker : (P Q : RewriteFault → Type 0) (f : RewriteFault) → ((g : RewriteFault) → P g → Q g) → UnlessMemory P f → UnlessMemory Q f
+unless_weaker P Q Memory h p = tt
+unless_weaker P Q f h p = h f p
+
+pub fault_words : (f : Format) (sandbox : ℕ) (items : List Item) (e : RewriteFault) → has_words f ≡ true → UnlessMemory (words.IsItemFault sandbox items) e → UnlessMemory (IsFaultIn f sandbox items) e
+fault_words f sandbox items e w h =
+    unless_weaker (words.IsItemFault sandbox items) (IsFaultIn f sandbox items) e
+    (λ g p. subst (λ (b : Bool). MatchBool b (words.IsItemFault sandbox items g) (IsItemFault f sandbox items g)) (sym w) p) h
+
+pub fault_bundles : (f : Format) (sandbox : ℕ) (items : List Item) (e : RewriteFault) → has_words f ≡ false → UnlessMemory (IsItemFault f sandbox items) e → UnlessMemory (IsFaultIn f sandbox items) e
+fault_bundles f sandbox items e w h =
+    unless_weaker (IsItemFault f sandbox items) (IsFaultIn f sandbox items) e
+    (λ g p. subst (λ (b : Bool). MatchBool b (words.IsItemFault sandbox items g) (IsItemFault f sandbox items g)) (sym w) p) h

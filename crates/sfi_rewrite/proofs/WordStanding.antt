@@ -1,7 +1,7 @@
 -- Each item of code in words stands transparent in what is placed.
-use Rattle.sfi_rewrite.proofs.Prelude.{◌≡◌, ℕ, ◌+◌, ◌<◌, ◌&&◌, ◌==◌, arith, and_parts, true≢false, List, [], ◌∷◌, ◌++◌, Bool, true, false, MatchBool, length, map, take, drop, Option, Some, None, refl, sym, ap, ◌∙◌, subst, inl, inr, ◌⊎◌, append-nil, All, All-get_or, slice_get, drop_more, get_or_from_slice_get, slice_get_within, Instr, Op, OpImm, Load, Store, Jalr, Item, Body, Plain, To, High, Low, Slot, Wide, Short, Jump, Upper, Lower, slots_of, IsAlone, IsPermitted, MayBe, Placement}
+use Rattle.sfi_rewrite.proofs.Prelude.{◌≡◌, ℕ, ◌+◌, ◌<◌, ◌&&◌, ◌==◌, arith, true≢false, List, [], ◌∷◌, ◌++◌, Bool, true, false, MatchBool, length, map, take, drop, Option, Some, None, refl, sym, ap, ◌∙◌, subst, inl, inr, ◌⊎◌, append-nil, All, All-get_or, slice_get, drop_more, get_or_from_slice_get, slice_get_within, Instr, Op, OpImm, Load, Store, Jalr, Item, Body, Plain, To, High, Low, Slot, Wide, Short, Jump, Upper, Lower, slots_of, IsAlone, IsPermitted, MayBe, Placement}
 use Rattle.std.specs.Prelude.{not, ◌||◌, if◌then◌else◌}
-use Rattle.std.proofs.lemmas.List.{take-append-drop}
+use Rattle.std.proofs.lemmas.List.{take-append-drop, map-append}
 use Rattle.rv_word.specs.Writes.{destination}
 use Rattle.sfi_policy.specs.declared.format.Format.TheVariants.{Sfiw}
 use Rattle.sfi_policy.specs.Registers.{is_data_register}
@@ -10,6 +10,7 @@ use Rattle.sfi_rewrite.specs.words.Laying.{Marked, marked, alone, in_words, AreE
 use Rattle.sfi_rewrite.specs.words.Transparency.{AreAsLaid, ActsAs, StandsTransparent}
 use Rattle.sfi_rewrite.proofs.WordView.{view, as_laid, words_at_label}
 use Rattle.sfi_rewrite.proofs.WordLaid.{expanded_split}
+use Rattle.sfi_rewrite.proofs.WordItems.{AreSome, expansion_of_some}
 use Rattle.sfi_rewrite.proofs.WordKept.{body_acts, plain_steps}
 
 -- ---- slots as they are laid
@@ -41,10 +42,6 @@ wide_stays (s ∷ slots) [] w h = absurd h
 wide_stays (s ∷ slots) (x ∷ laid) w h =
     let first : x ≡ s = elim h.0 [ inl e ↦ e | inr e ↦ e ∙ w.0 ] in
     ap (λ y. y ∷ laid) first ∙ ap (λ v. s ∷ v) (wide_stays slots laid w.1 h.1)
-
-wide_append : (xs ys : List Slot) → AreWide xs → AreWide ys → AreWide (xs ++ ys)
-wide_append [] ys a b = b
-wide_append (x ∷ xs) ys a b = (a.0, wide_append xs ys a.1 b)
 
 made_wide : (none : Bool) (d a : ℕ) → AreWide (if none then [] else data_mask d a)
 made_wide true d a = tt
@@ -125,45 +122,6 @@ laid_acts x later expanded own i be p is h =
     let r = body_laid x.line x.rvc (is_step x later) x.body expanded own is h in
     body_acts x.line r.0 (is_step x later) x.body i own be p.operands p.no_barred_jump (plain_steps x later) r.1
 
--- ---- an expansion has a slot at least
-
-abbrev IsSome : List Slot → Type 0
-IsSome slots = (s : Slot) × (rest : List Slot) × (slots ≡ s ∷ rest)
-
-alone_some : (rvc : Bool) (i : Instr) (slots : List Slot) → IsAlone rvc i slots → IsSome slots
-alone_some false i slots e = (Wide i, [], e)
-alone_some true i slots (inl f) = (Short f.0, [], f.2)
-alone_some true i slots (inr w) = (Wide i, [], w.1)
-
-confined_some : (rvc : Bool) (i : Instr) (slots : List Slot) → IsConfined rvc i slots → IsSome slots
-confined_some rvc (Load kind rd a imm) slots e = alone_some rvc (Load kind rd (base_of a) imm) slots e
-confined_some rvc (Store width a rs2 imm) slots e = alone_some rvc (Store width (base_of a) rs2 imm) slots e
-confined_some rvc (Jalr rd a imm) slots e = (Wide (Jalr rd 30 imm), [], e)
-confined_some rvc other slots e = alone_some rvc other slots e
-
-some_after : (front slots : List Slot) → IsSome slots → IsSome (front ++ slots)
-some_after [] slots h = h
-some_after (s ∷ front) slots h = (s, front ++ slots, refl)
-
-some_before : (slots back : List Slot) → IsSome slots → IsSome (slots ++ back)
-some_before slots back h = (h.0, h.1 ++ back, ap (λ v. v ++ back) h.2)
-
-moved_some : (i : Instr) → is_move i ≡ true → IsSome (moved i)
-moved_some (OpImm op d a imm) h = (_, _, refl)
-moved_some (Op op d rs1 rs2) h = (_, _, refl)
-moved_some other h = absurd (true≢false (sym h))
-
-plain_some : (moves rvc step : Bool) (i : Instr) (slots : List Slot) → (is_move i && not step) ≡ moves → MatchBool moves (slots ≡ moved i) (IsAround rvc step i slots) → IsSome slots
-plain_some true rvc step i slots m h = subst (λ v. IsSome v) (sym h) (moved_some i (and_parts (is_move i) (not step) m).0)
-plain_some false rvc step i slots m h =
-    subst (λ v. IsSome v) (sym h.2) (some_after (before i) (h.0 ++ after step i) (some_before h.0 (after step i) (confined_some rvc i h.0 h.1)))
-
-body_some : (line : ℕ) (rvc step : Bool) (body : Body) (slots : List Slot) → IsExpansionOf line rvc step body slots → IsSome slots
-body_some line rvc step (Plain i) slots h = plain_some (is_move i && not step) rvc step i slots refl h
-body_some line rvc step (To i name) slots h = (Jump i name line, [], h)
-body_some line rvc step (High rd name) slots h = (Upper rd name line, mask_after (Some rd), h)
-body_some line rvc step (Low rd name) slots h = (Lower rd name line, mask_after (Some rd), h)
-
 -- ---- what stands before a label
 
 same_front : (a b c d : List Slot) → a ++ b ≡ c ++ d → length a ≡ length c → a ≡ c
@@ -181,14 +139,14 @@ laid_length [] (x ∷ laid) h = absurd h
 laid_length (s ∷ slots) [] h = absurd h
 laid_length (s ∷ slots) (x ∷ laid) h = let rest = laid_length slots laid h.1 in omega arith
 
-words_before : (front : List Marked) (labelled : Bool) (slots : List Slot) (rest : List Marked) → labelled ≡ true → IsSome slots
+words_before : (front : List Marked) (labelled : Bool) (slots : List Slot) (rest : List Marked) → labelled ≡ true → AreSome slots
     → in_words (front ++ (marked labelled slots ++ rest)) ≡ in_words front ++ in_words (marked labelled slots ++ rest)
 words_before front true slots rest l some =
-    subst (λ v. in_words (front ++ (marked true v ++ rest)) ≡ in_words front ++ in_words (marked true v ++ rest)) (sym some.2) (words_at_label front some.0 (marked false some.1 ++ rest))
+    subst (λ v. in_words (front ++ (marked true v ++ rest)) ≡ in_words front ++ in_words (marked true v ++ rest)) (sym some.are) (words_at_label front some.first (marked false some.rest ++ rest))
 words_before front false slots rest l some = absurd (true≢false (sym l))
 
 -- what is laid before a slot with a label are the words of the slots before it
-label_words : (front all rest : List Marked) (labelled : Bool) (slots first later : List Slot) → IsSome slots → all ≡ front ++ (marked labelled slots ++ rest) → in_words all ≡ first ++ later
+label_words : (front all rest : List Marked) (labelled : Bool) (slots first later : List Slot) → AreSome slots → all ≡ front ++ (marked labelled slots ++ rest) → in_words all ≡ first ++ later
     → AreAsLaid (map (λ m. m.1) front) first → labelled ≡ true → first ≡ in_words front
 label_words front all rest labelled slots first later some parts both laid l =
     let lengths : length first ≡ length (in_words front) =
@@ -198,13 +156,9 @@ label_words front all rest labelled slots first later some parts both laid l =
 
 -- ---- an item among the others
 
-pub slots_of_marked : (labelled : Bool) (slots : List Slot) → map (λ m. m.1) (marked labelled slots) ≡ slots
+slots_of_marked : (labelled : Bool) (slots : List Slot) → map (λ m. m.1) (marked labelled slots) ≡ slots
 slots_of_marked labelled [] = refl
 slots_of_marked labelled (s ∷ slots) = ap (λ v. s ∷ v) (slots_of_marked false slots)
-
-pub map_append : (xs ys : List Marked) → map (λ m. m.1) (xs ++ ys) ≡ map (λ m. m.1) xs ++ map (λ m. m.1) ys
-map_append [] ys = refl
-map_append (x ∷ xs) ys = ap (λ v. x.1 ∷ v) (map_append xs ys)
 
 pub stands_in_words : (items : List Item) (p : Placement) (slots : List Slot) (k : ℕ) (x : Item) → AreLaid items slots → slots_of p.bundles ≡ slots → All (IsPermitted Sfiw) items
     → slice_get items k ≡ Some x → StandsTransparent items p k x
@@ -218,14 +172,14 @@ stands_in_words items p slots k x l code permitted at =
     let expanded = rest.0 in
     let expansion : IsExpansion x (drop (k + 1) items) expanded = subst (λ v. IsExpansion x v expanded) (append-nil (drop (k + 1) items)) rest.2 in
     let all : map (λ m. m.1) l.0 ≡ map (λ m. m.1) s.front ++ (expanded ++ map (λ m. m.1) rest.1) =
-    ap (λ v. map (λ m. m.1) v) s.both ∙ map_append s.front s.back
-    ∙ ap (λ v. map (λ m. m.1) s.front ++ v) (ap (λ v. map (λ m. m.1) v) rest.3 ∙ map_append (marked x.labelled expanded) rest.1 ∙ ap (λ v. v ++ map (λ m. m.1) rest.1) (slots_of_marked x.labelled expanded)) in
+    ap (λ v. map (λ m. m.1) v) s.both ∙ map-append (λ m. m.1) s.front s.back
+    ∙ ap (λ v. map (λ m. m.1) s.front ++ v) (ap (λ v. map (λ m. m.1) v) rest.3 ∙ map-append (λ m. m.1) (marked x.labelled expanded) rest.1 ∙ ap (λ v. v ++ map (λ m. m.1) rest.1) (slots_of_marked x.labelled expanded)) in
     let laid : AreAsLaid (map (λ m. m.1) s.front ++ (expanded ++ map (λ m. m.1) rest.1)) (in_words l.0) = subst (λ v. AreAsLaid v (in_words l.0)) all (as_laid l.0 (in_words l.0) (view l.0)) in
     let one = apart (map (λ m. m.1) s.front) (expanded ++ map (λ m. m.1) rest.1) (in_words l.0) laid in
     let two = apart expanded (map (λ m. m.1) rest.1) one.rest one.are_rest in
     let earlier : AreExpanded (take k items) (drop k items) s.front = subst (λ v. AreExpanded (take k items) v s.front) (append-nil (drop k items)) s.before in
     let all_parts : l.0 ≡ s.front ++ (marked x.labelled expanded ++ rest.1) = s.both ∙ ap (λ v. s.front ++ v) rest.3 in
-    let some : IsSome expanded = body_some x.line x.rvc (is_step x (drop (k + 1) items)) x.body expanded expansion in
+    let some = expansion_of_some x.line x.rvc (is_step x (drop (k + 1) items)) x.body expanded expansion in
     let may : IsPermitted Sfiw x = subst (IsPermitted Sfiw) is (All-get_or (IsPermitted Sfiw) items k x within permitted) in
     record {
       before = one.first;

@@ -1,54 +1,19 @@
 -- Each expansion in words does what its instruction does.
-use Rattle.sfi_rewrite.proofs.Prelude.{◌≡◌, ◌≢◌, ℕ, ◌+◌, ◌-◌, ◌*◌, ◌/◌, ◌%◌, ◌^◌, ◌<◌, ◌≤◌, ◌==◌, List, [], ◌∷◌, ◌++◌, Bool, true, false, inl, inr, refl, sym, ap, ◌∙◌, subst, arith, ℤ, pos, bit_and, bit_or, And, Or, LoadKind, Instr, Op, Load, Store, Jalr, code_most, address_after, Hart, State, IsState, register, with_register, with_pc, past, Stands, effect, Slot, Wide, Short, slot_size, IsAlone, AreRegions, SlotStands}
+use Rattle.sfi_rewrite.proofs.Prelude.{◌≡◌, ◌≢◌, ℕ, ◌<◌, ◌==◌, List, [], ◌∷◌, ◌++◌, Bool, true, false, inl, inr, refl, sym, ap, ◌∙◌, subst, arith, ℤ, pos, bit_and, bit_or, And, Or, LoadKind, Instr, Op, Load, Store, Jalr, address_after, State, IsState, register, with_register, with_pc, past, Stands, effect, Slot, Wide, Short, slot_size, IsAlone, AreRegions, HasReserved, SlotStands, IsSameAside, DoesAs}
 use Rattle.std.specs.Prelude.{if◌then◌else◌}
 use Rattle.rv_step.specs.Steps.{further, LeadTo}
 use Rattle.rv_word.specs.Numbers.{offset_by}
 use Rattle.rv_word.specs.declared.instr.StoreWidth.{StoreWidth}
-use Rattle.sfi_image.specs.Regions.{IsRegion}
 use Rattle.sfi_image.specs.Spans.{Holds}
 use Rattle.sfi_image.specs.declared.span.Span.{Span}
-use Rattle.sfi_image.proofs.Bundles.{exponent_le}
-use Rattle.std.proofs.lemmas.Nat.{pow-add}
-use Rattle.std.proofs.lemmas.Nat.Bits.{and_high}
 use Rattle.rv_step.proofs.Facts.{pair_leaves}
 use Rattle.rv_step.proofs.Pairs.{written_here, written_elsewhere}
 use Rattle.sfi_rewrite.specs.Transparency.{masked, SlotsStand}
 use Rattle.sfi_rewrite.specs.words.Expansion.{data_mask}
-use Rattle.sfi_rewrite.specs.words.Transparency.{is_own, HasReserved, IsWordStart, KeepsTo, meant_base, meant, IsSame, DoesAs, IsTransparent}
-use Rattle.sfi_rewrite.proofs.Unmoved.{rest_of, in_block}
-use Rattle.sfi_rewrite.proofs.Transparent.{stands_at, does}
-use Rattle.sfi_rewrite.proofs.Aside.{plus_zero}
-use Rattle.sfi_rewrite.proofs.Masks.{masked_in_words, unmasked_in_words}
-use Rattle.sfi_rewrite.proofs.WordAside.{Aside, aside_through, aside_own, aside_at, loads_same, stores_same, jumps_same}
-
--- ---- masks that change nothing
-
--- the mask of size less 4
-unmoved_word : (base size most x : ℕ) → IsRegion base size 256 most → base ≤ x → x < base + size → x % 4 ≡ 0 → bit_or (bit_and x (size - 4)) base ≡ x
-unmoved_word base size most x region from below aligned =
-    let k = region.power in
-    let q = region.multiple in
-    let size_is : size ≡ 2 ^ k = region.size_is in
-    let at_least : 256 ≤ size = region.at_least in
-    let wide : 8 ≤ k = exponent_le 8 k (omega arith) in
-    let j = k - 2 in
-    let k_is : k ≡ j + 2 = omega arith in
-    let power : 2 ^ k ≡ 2 ^ j * 4 = ap (λ n. 2 ^ n) k_is ∙ pow-add 2 j 2 in
-    let base_is : base ≡ q * 2 ^ k = region.base_is ∙ ap (λ n. q * n) region.size_is in
-    let block : q * 2 ^ k ≡ (q * 2 ^ j) * 4 = ap (λ n. q * n) power ∙ omega arith in
-    let y = x / 4 in
-    let x_is : x ≡ y * 4 = omega arith in
-    let rest : y % 2 ^ j ≡ y - q * 2 ^ j = rest_of q (2 ^ j) y (omega arith) (omega arith) in
-    let size_is' : size - 4 ≡ 2 ^ (j + 2) - 2 ^ 2 = ap (λ n. n - 4) (region.size_is ∙ ap (λ n. 2 ^ n) k_is) in
-    let high_part : bit_and x (size - 4) ≡ y % 2 ^ j * 4 = ap (λ n. bit_and x n) size_is' ∙ and_high x j 2 in
-    let low : bit_and x (size - 4) ≡ x - q * 2 ^ k = (let e = high_part ∙ ap (λ n. n * 4) rest in omega arith) in
-    ap (λ n. bit_or n base) low ∙ ap (λ n. bit_or (x - q * 2 ^ k) n) base_is
-    ∙ in_block q k (x - q * 2 ^ k) (omega arith) ∙ (let z : q * 2 ^ k + (x - q * 2 ^ k) ≡ x = omega arith in z)
-
-unmasked_word : (c d : Span) (h : Hart) (x : ℕ) → AreRegions c d → HasReserved c d h → IsWordStart c x → bit_or (bit_and x (register h 25)) (register h 24) ≡ x
-unmasked_word c d h x regions reserved start =
-    ap (λ n. bit_or (bit_and x n) (register h 24)) reserved.code_mask ∙ ap (λ n. bit_or (bit_and x (c.size - 4)) n) reserved.code_base
-    ∙ unmoved_word c.base c.size (code_most regions.format) x regions.code_placed start.0.0 start.0.1 start.1
+use Rattle.sfi_rewrite.specs.words.Transparency.{is_own, IsWordStart, KeepsTo, meant_base, meant, IsTransparent}
+use Rattle.sfi_rewrite.proofs.Transparent.{stands_at, does, eight, DoesFor, one_does}
+use Rattle.sfi_rewrite.proofs.Masks.{masked_data, unmasked_data, unmasked_code}
+use Rattle.sfi_rewrite.proofs.Aside.{Aside, plus_zero, aside_through, aside_own, aside_at, loads_same, stores_same, jumps_same}
 
 -- ---- the mask
 
@@ -77,22 +42,19 @@ mask_value s d a is some small =
     let v = bit_and (register s.hart a) (register s.hart 27) in
     let kept : register one.hart 31 ≡ v = written_here (past s.hart 4) 31 v (λ e. omega arith) (omega arith) in
     let base : register one.hart 26 ≡ register s.hart 26 = written_elsewhere (past s.hart 4) 31 v 26 (λ e. omega arith) (λ e. omega arith) in
-    let count = (aside_own (past s.hart 4) 31 v (λ e. omega arith) refl).count in
+    let count = (aside_own is_own (past s.hart 4) 31 v (λ e. omega arith) refl).count in
     written_here (past one.hart 4) d (bit_or (register one.hart 31) (register one.hart 26)) some (omega arith)
     ∙ ap (λ x. bit_or x (register one.hart 26)) kept ∙ ap (λ x. bit_or v x) base
 
-eight : (pc : ℕ) → address_after (address_after pc 4) 4 ≡ address_after pc 8
-eight pc = omega arith
-
 -- of x29 the mask changes no register but those of the expansions
-mask_aside : (s : State) (a : ℕ) → Aside (after_mask s 29 a).hart (with_pc s.hart (address_after (address_after s.hart.pc 4) 4))
+mask_aside : (s : State) (a : ℕ) → Aside is_own (after_mask s 29 a).hart (with_pc s.hart (address_after (address_after s.hart.pc 4) 4))
 mask_aside s a =
     let one = offset s a in
     let p = address_after s.hart.pc 4 in
     let q = address_after p 4 in
-    let first : Aside one.hart (past s.hart 4) = aside_own (past s.hart 4) 31 (bit_and (register s.hart a) (register s.hart 27)) (λ e. omega arith) refl in
-    let second : Aside (after_mask s 29 a).hart (past one.hart 4) = aside_own (past one.hart 4) 29 (bit_or (register one.hart 31) (register one.hart 26)) (λ e. omega arith) refl in
-    aside_through (after_mask s 29 a).hart (past one.hart 4) (with_pc s.hart q) second (aside_at one.hart (past s.hart 4) q q refl first)
+    let first = aside_own is_own (past s.hart 4) 31 (bit_and (register s.hart a) (register s.hart 27)) (λ e. omega arith) refl in
+    let second = aside_own is_own (past one.hart 4) 29 (bit_or (register one.hart 31) (register one.hart 26)) (λ e. omega arith) refl in
+    aside_through is_own (after_mask s 29 a).hart (past one.hart 4) (with_pc s.hart q) second (aside_at is_own one.hart (past s.hart 4) q q refl first)
 
 -- ---- one slot for an instruction
 
@@ -107,19 +69,11 @@ one_for false i j slots e = record { slot = Wide j; are = e; stands = λ s st. s
 one_for true i j slots (inl f) = record { slot = Short f.0; are = f.2; stands = λ s st. subst (λ (k : Instr). Stands s k 2) f.1.expands st }
 one_for true i j slots (inr w) = record { slot = Wide j; are = w.1; stands = λ s st. st }
 
-pub stays_there : (pc : ℕ) → pc < 2 ^ 32 → pc ≡ address_after pc 0
-stays_there pc h = omega arith
-
 -- ---- an access after the mask, a jump after the pair
-
--- what j does from harts with v in b, and else the registers of s, is what i does from these
-abbrev DoesFor : State → Instr → Instr → ℕ → ℕ → ℕ → Type 0
-DoesFor s i j n b v =
-    (h : Hart) → Aside h (with_pc s.hart h.pc) → register h b ≡ v → IsSame (effect j n h s.memory) (effect (meant i) n (with_pc s.hart h.pc) s.memory)
 
 after_base : (s : State) (i j : Instr) (a v : ℕ) (slot : Slot) → IsState s
     → Stands s (Op And 31 a 27) 4 → Stands (further s 4) (Op Or 29 31 26) 4 → Stands (further (further s 4) 4) j (slot_size slot)
-    → bit_or (bit_and (register s.hart a) (register s.hart 27)) (register s.hart 26) ≡ v → DoesFor s i j (slot_size slot) 29 v → DoesAs s i (data_mask 29 a) slot
+    → bit_or (bit_and (register s.hart a) (register s.hart 27)) (register s.hart 26) ≡ v → DoesFor is_own s (meant i) j (slot_size slot) 29 v → DoesAs is_own s (meant i) (data_mask 29 a) slot
 after_base s i j a v slot is first second third e same =
     let there = after_mask s 29 a in
     record {
@@ -138,21 +92,21 @@ jumping s a = record {
   memory = s.memory;
 }
 
-jump_based : (rd a : ℕ) (c d : Span) (s : State) → AreRegions c d → IsState s → HasReserved c d s.hart → IsWordStart c (register s.hart a)
+jump_based : (rd a : ℕ) (c d : Span) (s : State) → AreRegions c d → IsState s → HasReserved 4 c d s.hart → IsWordStart c (register s.hart a)
     → Stands s (Op And 30 a 25) 4 → Stands (further s 4) (Op Or 30 30 24) 4 → Stands (further (further s 4) 4) (Jalr rd 30 (pos 0)) 4
-    → DoesAs s (Jalr rd a (pos 0)) (Wide (Op And 30 a 25) ∷ Wide (Op Or 30 30 24) ∷ []) (Wide (Jalr rd 30 (pos 0)))
+    → DoesAs is_own s (Jalr rd a (pos 0)) (Wide (Op And 30 a 25) ∷ Wide (Op Or 30 30 24) ∷ []) (Wide (Jalr rd 30 (pos 0)))
 jump_based rd a c d s regions is reserved start first second third =
     let there = jumping s a in
     let n = is.hart.count in
     let value : register there.hart 30 ≡ register s.hart a =
-    written_here (past s.hart 8) 30 _ (λ e. omega arith) (omega arith) ∙ unmasked_word c d s.hart (register s.hart a) regions reserved start in
+    written_here (past s.hart 8) 30 _ (λ e. omega arith) (omega arith) ∙ unmasked_code 2 c d s.hart (register s.hart a) (omega arith) regions reserved start.0 start.1 in
     record {
       there = there;
       leads = pair_leaves s 30 a 25 24 is (λ z. omega arith) (λ z. omega arith) (first, (second, tt));
       place = refl;
       result = effect (Jalr rd 30 (pos 0)) 4 there.hart s.memory;
       step = does there (Jalr rd 30 (pos 0)) 4 (stands_at (further (further s 4) 4) there (Jalr rd 30 (pos 0)) 4 (sym (eight s.hart.pc)) refl third);
-      same = jumps_same rd 30 a (pos 0) there.hart (with_pc s.hart there.hart.pc) s.memory (aside_own (past s.hart 8) 30 _ (λ e. omega arith) refl) (ap (λ x. offset_by x (pos 0)) value);
+      same = jumps_same is_own rd 30 a (pos 0) there.hart (with_pc s.hart there.hart.pc) s.memory (aside_own is_own (past s.hart 8) 30 _ (λ e. omega arith) refl) (ap (λ x. offset_by x (pos 0)) value);
     }
 
 -- ---- the expansions
@@ -160,15 +114,15 @@ jump_based rd a c d s regions is reserved start first second third =
 -- the access on x29 after the mask
 pub based_transparent : (i j : Instr) (a : ℕ) (slots : List Slot) → IsOneFor i j slots
     → ((c d : Span) (s : State) → KeepsTo c d s.hart i → Holds d (register s.hart a))
-    → ((s : State) (n : ℕ) → DoesFor s i j n 29 (register s.hart a)) → IsTransparent i (data_mask 29 a ++ slots)
+    → ((s : State) (n : ℕ) → DoesFor is_own s (meant i) j n 29 (register s.hart a)) → IsTransparent i (data_mask 29 a ++ slots)
 based_transparent i j a slots one held same = record {
   before = data_mask 29 a;
   last = one.slot;
   slots_are = ap (λ v. data_mask 29 a ++ v) one.are;
-  does = λ c d s asked.
+  does = λ c d s asked keeps.
       let stand : SlotsStand i (further (further s 4) 4) (one.slot ∷ []) = subst (λ (v : List Slot). SlotsStand i (further (further s 4) 4) v) one.are asked.stand.1.1 in
       after_base s i j a (register s.hart a) one.slot asked.is_state asked.stand.0 asked.stand.1.0 (one.stands (further (further s 4) 4) stand.0)
-      (unmasked_in_words c d s.hart (register s.hart a) asked.regions asked.reserved (held c d s asked.keeps)) (same s (slot_size one.slot));
+      (unmasked_data 4 c d s.hart (register s.hart a) asked.regions asked.reserved (held c d s keeps)) (same s (slot_size one.slot));
 }
 
 -- an access on another register than x0 means itself
@@ -183,16 +137,16 @@ pub load_transparent : (rvc : Bool) (kind : LoadKind) (rd a : ℕ) (imm : ℤ) (
 load_transparent rvc kind rd a imm slots is some held =
     based_transparent (Load kind rd a imm) (Load kind rd 29 imm) a slots (one_for rvc (Load kind rd a imm) (Load kind rd 29 imm) slots is) held
     (λ s n h aside e.
-    subst (λ (k : Instr). IsSame (effect (Load kind rd 29 imm) n h s.memory) (effect k n (with_pc s.hart h.pc) s.memory)) (sym (load_meant kind rd a imm some))
-    (loads_same kind rd 29 a imm n h (with_pc s.hart h.pc) s.memory aside e))
+    subst (λ (k : Instr). IsSameAside is_own (effect (Load kind rd 29 imm) n h s.memory) (effect k n (with_pc s.hart h.pc) s.memory)) (sym (load_meant kind rd a imm some))
+    (loads_same is_own kind rd 29 a imm n h (with_pc s.hart h.pc) s.memory aside e))
 
 pub store_transparent : (rvc : Bool) (width : StoreWidth) (a rs2 : ℕ) (imm : ℤ) (slots : List Slot) → IsAlone rvc (Store width 29 rs2 imm) slots → is_own rs2 ≡ false → (a == 0) ≡ false
     → ((c d : Span) (s : State) → KeepsTo c d s.hart (Store width a rs2 imm) → Holds d (register s.hart a)) → IsTransparent (Store width a rs2 imm) (data_mask 29 a ++ slots)
 store_transparent rvc width a rs2 imm slots is other some held =
     based_transparent (Store width a rs2 imm) (Store width 29 rs2 imm) a slots (one_for rvc (Store width a rs2 imm) (Store width 29 rs2 imm) slots is) held
     (λ s n h aside e.
-    subst (λ (k : Instr). IsSame (effect (Store width 29 rs2 imm) n h s.memory) (effect k n (with_pc s.hart h.pc) s.memory)) (sym (store_meant width a rs2 imm some))
-    (stores_same width 29 a rs2 imm n h (with_pc s.hart h.pc) s.memory aside e other))
+    subst (λ (k : Instr). IsSameAside is_own (effect (Store width 29 rs2 imm) n h s.memory) (effect k n (with_pc s.hart h.pc) s.memory)) (sym (store_meant width a rs2 imm some))
+    (stores_same is_own width 29 a rs2 imm n h (with_pc s.hart h.pc) s.memory aside e other))
 
 -- one slot, in which stands what the instruction means
 abbrev pub one_transparent : (i j : Instr) (slots : List Slot) → IsOneFor i j slots → meant i ≡ j → IsTransparent i slots
@@ -200,18 +154,9 @@ one_transparent i j slots one means = record {
   before = [];
   last = one.slot;
   slots_are = one.are;
-  does = λ c d s asked.
+  does = λ c d s asked keeps.
       let stand : SlotsStand i s (one.slot ∷ []) = subst (λ (v : List Slot). SlotsStand i s v) one.are asked.stand in
-      record {
-        there = s;
-        leads = refl;
-        place = stays_there s.hart.pc asked.is_state.hart.address;
-        result = effect j (slot_size one.slot) s.hart s.memory;
-        step = does s j (slot_size one.slot) (one.stands s stand.0);
-        same =
-            subst (λ (k : Instr). IsSame (effect j (slot_size one.slot) s.hart s.memory) (effect k (slot_size one.slot) (with_pc s.hart s.hart.pc) s.memory)) (sym means)
-            (record { outcome = refl; hart = record { pc = refl; registers = λ x ne. refl }; memory = refl });
-      };
+      subst (λ (k : Instr). DoesAs is_own s k [] one.slot) (sym means) (one_does is_own s j one.slot asked.is_state (one.stands s stand.0));
 }
 
 pub load_alone : (rvc : Bool) (kind : LoadKind) (rd a : ℕ) (imm : ℤ) (slots : List Slot) → IsAlone rvc (Load kind rd (meant_base a) imm) slots → IsTransparent (Load kind rd a imm) slots
@@ -227,9 +172,9 @@ jump_transparent rd a = record {
   before = Wide (Op And 30 a 25) ∷ Wide (Op Or 30 30 24) ∷ [];
   last = Wide (Jalr rd 30 (pos 0));
   slots_are = refl;
-  does = λ c d s asked.
+  does = λ c d s asked keeps.
       let to = plus_zero (register s.hart a) (asked.is_state.hart.words a) in
-      jump_based rd a c d s asked.regions asked.is_state asked.reserved (subst (λ (n : ℕ). IsWordStart c n) to asked.keeps) asked.stand.0 asked.stand.1.0 asked.stand.1.1.0;
+      jump_based rd a c d s asked.regions asked.is_state asked.reserved (subst (λ (n : ℕ). IsWordStart c n) to keeps) asked.stand.0 asked.stand.1.0 asked.stand.1.1.0;
 }
 
 -- ---- the mask after a write of a data register
@@ -251,5 +196,5 @@ pub not_31 : (x : ℕ) → is_own x ≡ false → x ≢ 31
 not_31 x other e = let z = ap is_own e in cc
 
 -- in that one it leaves the address that a masks to
-pub mask_leaves : (c d_at : Span) (t : State) (d a : ℕ) → AreRegions c d_at → IsState t → HasReserved c d_at t.hart → IsNamed d → register (after_mask t d a).hart d ≡ masked d_at (register t.hart a)
-mask_leaves c d_at t d a regions is reserved named = mask_value t d a is named.some named.small ∙ masked_in_words c d_at t.hart (register t.hart a) regions reserved
+pub mask_leaves : (c d_at : Span) (t : State) (d a : ℕ) → AreRegions c d_at → IsState t → HasReserved 4 c d_at t.hart → IsNamed d → register (after_mask t d a).hart d ≡ masked d_at (register t.hart a)
+mask_leaves c d_at t d a regions is reserved named = mask_value t d a is named.some named.small ∙ masked_data 4 c d_at t.hart (register t.hart a) regions reserved

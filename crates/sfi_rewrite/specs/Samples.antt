@@ -1,14 +1,16 @@
 -- That the premises of transparency can be met: an expansion stands in some state, and all that is
 -- asked of its regions and that state holds at once.
-use Rattle.std.specs.Prelude.{◌≡◌, ◌≢◌, List, pos, true, false}
+use Rattle.std.specs.Prelude.{◌≡◌, ◌≢◌, ℕ, List, pos, true, false}
 use Rattle.rv_word.specs.declared.instr.ImmOp.TheVariants.{Addi}
 use Rattle.rv_word.specs.declared.instr.LoadKind.TheVariants.{Lw}
 use Rattle.rv_word.specs.declared.instr.Instr.{Instr}
 use Rattle.rv_word.specs.declared.instr.Instr.TheVariants.{Load, Jalr, OpImm, Lui}
 use Rattle.rv_word.specs.Numbers.{minus}
+use Rattle.sfi_policy.specs.Limits.{bundle_size}
 use Rattle.sfi_policy.specs.declared.format.Format.{Format}
 use Rattle.rv_step.specs.declared.outcome.Outcome.TheVariants.{Next}
 use Rattle.rv_step.specs.State.{State, register}
+use Rattle.rv_step.specs.Step.{Stepped}
 use Rattle.sfi_policy.specs.Registers.{stack_pointer}
 use Rattle.sfi_image.specs.declared.span.Span.{Span}
 use Rattle.sfi_image.specs.Spans.{Holds}
@@ -17,42 +19,48 @@ use Rattle.sfi_rewrite.specs.Stack.{writes_stack}
 use Rattle.sfi_rewrite.specs.Expansion.{IsPlainExpansion}
 use Rattle.sfi_rewrite.specs.Transparency.{KeepsTo, IsAskedOf, effect_in}
 
--- the expansion of i in 32-bit slots, and all that IsTransparent asks of its regions and its state,
--- in which i is done
-pub record MeetsTransparent (f : Format) (i : Instr) : Type 0 where
-  pub writes : writes_stack f i ≡ false
+-- an expansion, regions and a state, and what is asked of these where its slots stand for i, in code in
+-- units of so many bytes
+pub record Meets (unit_size : ℕ) (i : Instr) (IsExpanded : List Slot → Type 0) : Type 0 where
   pub slots : List Slot
-  pub expansion : IsPlainExpansion f false i slots
+  pub expansion : IsExpanded slots
   pub code_at : Span
   pub data_at : Span
   pub state : State
-  pub asked : IsAskedOf i slots code_at data_at state
-  pub keeps : KeepsTo code_at data_at state.hart i
-  pub done : (effect_in state i).outcome ≡ Next
+  pub asked : IsAskedOf unit_size i slots code_at data_at state
 
--- the same of an instruction that writes the stack pointer, and all that KeepsStack asks
-pub record MeetsKeepsStack (f : Format) (i : Instr) : Type 0 where
-  pub writes : writes_stack f i ≡ true
-  pub slots : List Slot
-  pub expansion : IsPlainExpansion f false i slots
-  pub code_at : Span
-  pub data_at : Span
-  pub state : State
-  pub asked : IsAskedOf i slots code_at data_at state
+-- the step is done, and leaves the register in the data region
+abbrev pub LeavesInside : Span → ℕ → Stepped → Type 0
+LeavesInside data_at d r = (r.outcome ≡ Next) × Holds data_at (register r.state.hart d)
 
--- and it is done, and leaves the stack pointer in the data region
+-- the step is done, and leaves the register outside of the data region
+abbrev pub LeavesOutside : Span → ℕ → Stepped → Type 0
+LeavesOutside data_at d r = (r.outcome ≡ Next) × (Holds data_at (register r.state.hart d) → ⊥)
+
+-- the expansion of i in 32-bit slots
+abbrev pub MeetsExpansion : Format → Instr → Type 0
+MeetsExpansion f i = Meets bundle_size i (IsPlainExpansion f false i)
+
+-- all that IsTransparent asks, and i is done
+abbrev pub MeetsTransparent : Format → Instr → Type 0
+MeetsTransparent f i = (m : MeetsExpansion f i) × (writes_stack f i ≡ false)
+    × KeepsTo m.code_at m.data_at m.state.hart i × ((effect_in m.state i).outcome ≡ Next)
+
+-- all that KeepsStack asks of an instruction that writes the stack pointer, and it is done and leaves
+-- it in the data region
 abbrev pub MeetsInside : Format → Instr → Type 0
-MeetsInside f i = (m : MeetsKeepsStack f i) × ((effect_in m.state i).outcome ≡ Next)
-    × Holds m.data_at (register (effect_in m.state i).state.hart stack_pointer)
+MeetsInside f i = (m : MeetsExpansion f i) × (writes_stack f i ≡ true)
+    × LeavesInside m.data_at stack_pointer (effect_in m.state i)
 
--- and it is done, and leaves the stack pointer outside of the data region
+-- the same, but it leaves it outside
 abbrev pub MeetsOutside : Format → Instr → Type 0
-MeetsOutside f i = (m : MeetsKeepsStack f i) × ((effect_in m.state i).outcome ≡ Next)
-    × (Holds m.data_at (register (effect_in m.state i).state.hart stack_pointer) → ⊥)
+MeetsOutside f i = (m : MeetsExpansion f i) × (writes_stack f i ≡ true)
+    × LeavesOutside m.data_at stack_pointer (effect_in m.state i)
 
--- and it isn't done
+-- the same, but it isn't done
 abbrev pub MeetsStop : Format → Instr → Type 0
-MeetsStop f i = (m : MeetsKeepsStack f i) × ((effect_in m.state i).outcome ≢ Next)
+MeetsStop f i = (m : MeetsExpansion f i) × (writes_stack f i ≡ true)
+    × ((effect_in m.state i).outcome ≢ Next)
 
 -- ---- the samples
 

@@ -1,6 +1,6 @@
 -- What an expansion does: within its sandbox it does what its instruction does, x31 aside; a stack
 -- pointer that the instruction writes has the address of the data region that its value masks to.
-use Rattle.std.specs.Prelude.{◌≡◌, ◌≢◌, ◌+◌, ◌%◌, ◌++◌, ℕ, ℤ, MatchBool, List, [], ◌∷◌, length, take, replicate}
+use Rattle.std.specs.Prelude.{◌≡◌, ◌≢◌, ◌+◌, ◌%◌, ◌==◌, ◌++◌, ℕ, ℤ, Bool, false, MatchBool, List, [], ◌∷◌, length, take, replicate}
 use Rattle.rv_word.specs.Numbers.{offset_by}
 use Rattle.rv_word.specs.declared.instr.Instr.{Instr}
 use Rattle.rv_word.specs.declared.instr.ImmOp.TheVariants.{Addi}
@@ -36,12 +36,13 @@ pub record AreRegions (code_at data_at : Span) : Type 0 where
   pub code_placed : IsCodeRegion format code_at.base code_at.size
   pub data_placed : IsDataRegion data_at.base data_at.size
 
--- the reserved registers hold what they do while a sandbox of these regions runs
-pub record HasReserved (code_at data_at : Span) (h : Hart) : Type 0 where
-  pub code_base : register h code_base_register ≡ (reserved_for bundle_size code_at data_at).code_base
-  pub code_mask : register h code_mask_register ≡ (reserved_for bundle_size code_at data_at).code_mask
-  pub data_base : register h data_base_register ≡ (reserved_for bundle_size code_at data_at).data_base
-  pub data_mask : register h data_mask_register ≡ (reserved_for bundle_size code_at data_at).data_mask
+-- the reserved registers hold what they do while a sandbox of these regions runs, whose code is in
+-- units of so many bytes
+pub record HasReserved (unit_size : ℕ) (code_at data_at : Span) (h : Hart) : Type 0 where
+  pub code_base : register h code_base_register ≡ (reserved_for unit_size code_at data_at).code_base
+  pub code_mask : register h code_mask_register ≡ (reserved_for unit_size code_at data_at).code_mask
+  pub data_base : register h data_base_register ≡ (reserved_for unit_size code_at data_at).data_base
+  pub data_mask : register h data_mask_register ≡ (reserved_for unit_size code_at data_at).data_mask
 
 -- The instruction keeps to the sandbox: a load's or store's base register lies in the data region,
 -- whatever its offset adds, and a jalr goes to a bundle start of the code region. Of any other
@@ -71,32 +72,37 @@ SlotsStand i s (x ∷ slots) = SlotStands i s x × SlotsStand i (further s (slot
 
 -- ---- what it does
 
--- the steps came to the same, x31 aside: one outcome, with one cause and one address, one pc,
--- one memory
-pub record IsSameAside (r q : Stepped) : Type 0 where
+-- x31, the register that the expansions in bundles write
+abbrev pub is_scratch : ℕ → Bool
+is_scratch r = r == scratch
+
+-- the steps came to the same, the expansions' own registers aside: one outcome, with one cause and
+-- one address, one pc, one memory
+pub record IsSameAside (is_own : ℕ → Bool) (r q : Stepped) : Type 0 where
   pub outcome : r.outcome ≡ q.outcome
   pub pc : r.state.hart.pc ≡ q.state.hart.pc
-  pub registers : (x : ℕ) → x ≢ scratch → register r.state.hart x ≡ register q.state.hart x
+  pub registers : (x : ℕ) → is_own x ≡ false → register r.state.hart x ≡ register q.state.hart x
   pub memory : r.state.memory ≡ q.state.memory
 
 -- From this state the steps of the slots before the last are done, and lead to the last one's
 -- place. The step there comes to what the line of i does, if i stood there with the last one's
--- length, on the registers and the memory of this state, x31 aside.
-pub record DoesAs (s : State) (i : Instr) (before : List Slot) (last : Slot) : Type 0 where
+-- length, on the registers and the memory of this state, the expansions' own registers aside.
+pub record DoesAs (is_own : ℕ → Bool) (s : State) (i : Instr) (before : List Slot)
+    (last : Slot) : Type 0 where
   pub there : State
   pub leads : LeadTo (length before) s there
   pub place : there.hart.pc ≡ address_after s.hart.pc (size_of before)
   pub result : Stepped
   pub step : IsStep there result
-  pub same : IsSameAside result (effect i (slot_size last) (with_pc s.hart there.hart.pc) s.memory)
+  pub same : IsSameAside is_own result (effect i (slot_size last) (with_pc s.hart there.hart.pc) s.memory)
 
--- What is asked wherever slots stand for i: regions of a sandbox, a state of the machine, the
--- reserved registers, and the slots from pc on.
-pub record IsAskedOf (i : Instr) (slots : List Slot) (code_at data_at : Span)
+-- What is asked wherever slots stand for i, in code in units of so many bytes: regions of a sandbox,
+-- a state of the machine, the reserved registers, and the slots from pc on.
+pub record IsAskedOf (unit_size : ℕ) (i : Instr) (slots : List Slot) (code_at data_at : Span)
     (s : State) : Type 0 where
   pub regions : AreRegions code_at data_at
   pub is_state : IsState s
-  pub reserved : HasReserved code_at data_at s.hart
+  pub reserved : HasReserved unit_size code_at data_at s.hart
   pub stand : SlotsStand i s slots
 
 -- The slots are transparent to the instruction: wherever they stand, from any state in which the
@@ -105,8 +111,8 @@ pub record IsTransparent (i : Instr) (slots : List Slot) : Type 0 where
   pub before : List Slot
   pub last : Slot
   pub slots_are : slots ≡ before ++ last ∷ []
-  pub does : (code_at data_at : Span) (s : State) → IsAskedOf i slots code_at data_at s
-      → KeepsTo code_at data_at s.hart i → DoesAs s i before last
+  pub does : (code_at data_at : Span) (s : State) → IsAskedOf bundle_size i slots code_at data_at s
+      → KeepsTo code_at data_at s.hart i → DoesAs is_scratch s i before last
 
 -- ---- before the pair that puts the stack pointer back
 
@@ -130,12 +136,12 @@ put_back_at data_at s pc =
 -- done, their first step stops as it does.
 pub record KeepsStack (i : Instr) (slots : List Slot) : Type 0 where
   pub does :
-      (code_at data_at : Span) (s : State) → IsAskedOf i slots code_at data_at s
+      (code_at data_at : Span) (s : State) → IsAskedOf bundle_size i slots code_at data_at s
       → (effect_in s i).outcome ≡ Next
       → LeadTo (length slots) s
       (put_back_at data_at (effect_in s i).state (address_after s.hart.pc (size_of slots)))
   pub stops :
-      (code_at data_at : Span) (s : State) → IsAskedOf i slots code_at data_at s
+      (code_at data_at : Span) (s : State) → IsAskedOf bundle_size i slots code_at data_at s
       → (effect_in s i).outcome ≢ Next → IsStep s (effect_in s i)
 
 -- what an expansion of the format is to its instruction

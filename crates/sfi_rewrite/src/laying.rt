@@ -3,6 +3,7 @@ ghost use Rattle.std.specs.Prelude.{◌≡◌, ◌<◌, ◌≤◌, ◌+◌, ◌*
 ghost use Rattle.sfi_policy.specs.Formats.{code_most};
 ghost use Rattle.rv_source.specs.Source.{IsBody};
 ghost use Rattle.sfi_rewrite.specs.Slots.{size_of};
+ghost use Rattle.sfi_rewrite.specs.Places.{IsLabelAt};
 ghost use Rattle.sfi_rewrite.specs.private.Filling.{HasNext, HaveBodies, AreLabels};
 ghost use Rattle.sfi_rewrite.specs.Faults.{IsPermitted, AreFaultless, HasFault, UnlessMemory, IsItemFault};
 
@@ -60,7 +61,7 @@ pub(crate) fn lay_items(
 ) -> Result<Laid, RewriteFault>
     requires { HaveBodies items.now }
     ensures faultless { IfOk result (λ l. AreFaultless format items.now l.code) }
-    ensures labels { IfOk result (λ l. AreLabels format items.now l.labels.items) }
+    ensures labels { IfOk result (λ l. AreLabels (IsLabelAt format items.now) (length items.now) l.labels.items) }
     ensures refused { IfErr result (UnlessMemory (IsItemFault format sandbox items.now)) }
 {
     let mut code = Filling::new(alloc);

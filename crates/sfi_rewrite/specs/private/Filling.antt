@@ -14,7 +14,7 @@ use Rattle.sfi_rewrite.specs.declared.slot.Slot.{Slot}
 use Rattle.sfi_rewrite.specs.Slots.{size_of, slots_of, c_nop}
 use Rattle.sfi_rewrite.specs.declared.placed.PlacedName.{PlacedName}
 use Rattle.sfi_rewrite.specs.declared.placed.PlacedName.TheVariants as placed
-use Rattle.sfi_rewrite.specs.Places.{IsNext, IsLabelAt}
+use Rattle.sfi_rewrite.specs.Places.{IsNext}
 use Rattle.sfi_rewrite.specs.Placement.{FillsEndIn, AreBundles}
 
 -- the most bytes of a sandbox's code in any format, its gates' stubs not counted
@@ -43,10 +43,10 @@ pub record HasNext (f : Format) (old : List Slot) (x : Item) (new : List Slot) :
 abbrev pub HaveBodies : List Item → Type 0
 HaveBodies items = All (λ x. (count : ℕ) × IsBody count x.body) items
 
--- of each item, and last of the end of the code, the place that a label before it names
-pub record AreLabels (f : Format) (items : List Item) (labels : List ℕ) : Type 0 where
-  pub count : length labels ≡ length items + 1
-  pub each : (k : ℕ) → k ≤ length items → IsLabelAt f items k (slice_index labels k)
+-- of each of so many items, and last of the end of the code, a place that is one of a label before it
+pub record AreLabels (IsLabel : ℕ → ℕ → Type 0) (items : ℕ) (labels : List ℕ) : Type 0 where
+  pub count : length labels ≡ items + 1
+  pub each : (k : ℕ) → k ≤ items → IsLabel k (slice_index labels k)
 
 -- where a label stands before an item, there is a place of it among so many
 abbrev pub HasLabel : ℕ → Named → Type 0

@@ -1,5 +1,5 @@
 -- Words of private contracts: words while they are filled.
-use Rattle.std.specs.Prelude.{◌≡◌, ◌+◌, ◌%◌, ◌≤◌, ◌<◌, ◌++◌, ℕ, List, [], ◌∷◌, Bool, true, false, Option, Some, None, length, take, drop, slice_index, MatchBool}
+use Rattle.std.specs.Prelude.{◌≡◌, ◌+◌, ◌%◌, ◌≤◌, ◌<◌, ◌++◌, ℕ, List, [], ◌∷◌, Bool, true, false, Option, Some, None, length, take, drop, MatchBool}
 use Rattle.std.specs.List.{All}
 use Rattle.rv_comp.specs.Table.{expansion}
 use Rattle.rv_comp.specs.declared.form.Form16.{Form16}
@@ -14,9 +14,10 @@ use Rattle.sfi_rewrite.specs.declared.fault.RewriteFault.TheVariants.{TooLarge}
 use Rattle.sfi_rewrite.specs.Slots.{size_of}
 use Rattle.sfi_rewrite.specs.Faults.{IsPermitted}
 use Rattle.sfi_rewrite.specs.Faults as bundles
-use Rattle.sfi_rewrite.specs.private.Filling as bundles_labels
+use Rattle.sfi_rewrite.specs.Placement.{IsLabelIn}
+use Rattle.sfi_rewrite.specs.private.Filling.{AreLabels}
 use Rattle.sfi_rewrite.specs.words.Expansion.{IsExpansion}
-use Rattle.sfi_rewrite.specs.words.Laying.{Marked, marked, in_words, AreExpanded, AreLaid, IsLabelAt}
+use Rattle.sfi_rewrite.specs.words.Laying.{Marked, marked, in_words, AreExpanded, AreLaid}
 
 -- words, and a 16-bit form that waits for a second one
 pub record WordsSoFar : Type 0 where
@@ -113,11 +114,6 @@ pub record AreLaidWhole (items : List Item) (slots : List Slot) : Type 0 where
   pub laid : AreLaid items slots
   pub fits : size_of slots ≤ code_most Sfiw
 
--- of each item, and last of the end of the code, the place that a label before it names
-pub record AreLabels (items : List Item) (labels : List ℕ) : Type 0 where
-  pub count : length labels ≡ length items + 1
-  pub each : (k : ℕ) → k ≤ length items → IsLabelAt items k (slice_index labels k)
-
 -- ---- in either kind of code
 
 -- none of the items has a fault, and these are their slots
@@ -125,7 +121,6 @@ abbrev pub AreFaultlessIn : Format → List Item → List Slot → Type 0
 AreFaultlessIn f items slots =
     MatchBool (has_words f) (AreLaidWhole items slots) (bundles.AreFaultless f items slots)
 
--- of each item, and last of the end, the place that a label names
+-- of each item, and last of the end of the code, the place that a label before it names
 abbrev pub AreLabelsIn : Format → List Item → List ℕ → Type 0
-AreLabelsIn f items labels =
-    MatchBool (has_words f) (AreLabels items labels) (bundles_labels.AreLabels f items labels)
+AreLabelsIn f items labels = AreLabels (IsLabelIn f items) (length items) labels

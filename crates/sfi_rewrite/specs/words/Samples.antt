@@ -8,65 +8,49 @@ use Rattle.rv_word.specs.declared.instr.Instr.{Instr}
 use Rattle.rv_word.specs.declared.instr.Instr.TheVariants.{OpImm, Load, Store}
 use Rattle.rv_word.specs.Writes.{destination}
 use Rattle.rv_step.specs.declared.outcome.Outcome.TheVariants.{Next}
-use Rattle.rv_step.specs.State.{State, register}
 use Rattle.rv_source.specs.declared.item.Body.TheVariants.{Plain}
 use Rattle.rv_source.specs.declared.item.Item.{Item}
+use Rattle.sfi_policy.specs.Formats.{unit}
 use Rattle.sfi_policy.specs.Registers.{is_data_register, stack_pointer}
-use Rattle.sfi_image.specs.declared.span.Span.{Span}
-use Rattle.sfi_image.specs.Spans.{Holds}
-use Rattle.sfi_rewrite.specs.declared.slot.Slot.{Slot}
-use Rattle.sfi_rewrite.specs.Samples.{sample_push}
+use Rattle.sfi_policy.specs.declared.format.Format.TheVariants.{Sfiw}
+use Rattle.sfi_rewrite.specs.Samples.{Meets, LeavesInside, LeavesOutside, sample_push}
 use Rattle.sfi_rewrite.specs.words.Expansion.{mask_after, is_step, IsPlainExpansion, IsExpansion}
-use Rattle.sfi_rewrite.specs.words.Transparency.{effect_in, IsAskedOf}
+use Rattle.sfi_rewrite.specs.words.Transparency.{KeepsTo, effect_in}
 
--- the expansion of i, which is no step and writes no data register, in 32-bit slots, and all that
--- IsTransparent asks of its regions and its state, in which i is done
-pub record MeetsTransparent (i : Instr) : Type 0 where
-  pub writes : mask_after (destination i) ≡ []
-  pub slots : List Slot
-  pub expansion : IsPlainExpansion false false i slots
-  pub code_at : Span
-  pub data_at : Span
-  pub state : State
-  pub asked : IsAskedOf i slots code_at data_at state
-  pub done : (effect_in state i).outcome ≡ Next
+-- the expansion of i, which is no step, in 32-bit slots
+abbrev pub MeetsExpansion : Instr → Type 0
+MeetsExpansion i = Meets (unit Sfiw) i (IsPlainExpansion false false i)
 
--- the same of an item that is a step to the first of those after it
-pub record MeetsStep (x : Item) (later : List Item) (i : Instr) : Type 0 where
-  pub body : x.body ≡ Plain i
-  pub step : is_step x later ≡ true
-  pub slots : List Slot
-  pub expansion : IsExpansion x later slots
-  pub code_at : Span
-  pub data_at : Span
-  pub state : State
-  pub asked : IsAskedOf i slots code_at data_at state
-  pub done : (effect_in state i).outcome ≡ Next
+-- all that IsTransparent asks where i writes no data register, and i is done
+abbrev pub MeetsTransparent : Instr → Type 0
+MeetsTransparent i = (m : MeetsExpansion i) × (mask_after (destination i) ≡ [])
+    × KeepsTo m.code_at m.data_at m.state.hart i × ((effect_in m.state i).outcome ≡ Next)
 
--- the expansion of an instruction that writes the data register d, and all that KeepsData asks
-pub record MeetsKeepsData (d : ℕ) (i : Instr) : Type 0 where
-  pub writes : destination i ≡ Some d
-  pub typed : is_data_register d ≡ true
-  pub slots : List Slot
-  pub expansion : IsPlainExpansion false false i slots
-  pub code_at : Span
-  pub data_at : Span
-  pub state : State
-  pub asked : IsAskedOf i slots code_at data_at state
+-- all that it asks of the instruction of an item that is a step to the first of those after it
+abbrev pub MeetsStep : Item → List Item → Instr → Type 0
+MeetsStep x later i = (m : Meets (unit Sfiw) i (IsExpansion x later)) × (x.body ≡ Plain i)
+    × (is_step x later ≡ true) × KeepsTo m.code_at m.data_at m.state.hart i
+    × ((effect_in m.state i).outcome ≡ Next)
 
--- and it is done, and leaves d in the data region
+-- i writes the data register, and keeps to its sandbox
+abbrev pub WritesData : (d : ℕ) (i : Instr) → MeetsExpansion i → Type 0
+WritesData d i m = (destination i ≡ Some d) × (is_data_register d ≡ true)
+    × KeepsTo m.code_at m.data_at m.state.hart i
+
+-- all that KeepsData asks of an instruction that writes the data register, and it is done and leaves it
+-- in the data region
 abbrev pub MeetsInside : ℕ → Instr → Type 0
-MeetsInside d i = (m : MeetsKeepsData d i) × ((effect_in m.state i).outcome ≡ Next)
-    × Holds m.data_at (register (effect_in m.state i).state.hart d)
+MeetsInside d i = (m : MeetsExpansion i) × WritesData d i m
+    × LeavesInside m.data_at d (effect_in m.state i)
 
--- and it is done, and leaves d outside of the data region
+-- the same, but it leaves it outside
 abbrev pub MeetsOutside : ℕ → Instr → Type 0
-MeetsOutside d i = (m : MeetsKeepsData d i) × ((effect_in m.state i).outcome ≡ Next)
-    × (Holds m.data_at (register (effect_in m.state i).state.hart d) → ⊥)
+MeetsOutside d i = (m : MeetsExpansion i) × WritesData d i m
+    × LeavesOutside m.data_at d (effect_in m.state i)
 
--- and it isn't done
+-- the same, but it isn't done
 abbrev pub MeetsStop : ℕ → Instr → Type 0
-MeetsStop d i = (m : MeetsKeepsData d i) × ((effect_in m.state i).outcome ≢ Next)
+MeetsStop d i = (m : MeetsExpansion i) × WritesData d i m × ((effect_in m.state i).outcome ≢ Next)
 
 -- ---- the samples
 

@@ -1,7 +1,6 @@
 -- What an expansion in words does: within its sandbox it does what its instruction does, the three
 -- registers aside that the expansions write; a data register that the instruction writes has the
--- address of the data region that its value masks to, but for a step, which leaves there what its
--- instruction does.
+-- address of the data region that its value masks to.
 use Rattle.std.specs.Prelude.{◌≡◌, ◌≢◌, ◌+◌, ◌%◌, ◌==◌, ◌||◌, ◌++◌, ℕ, Bool, true, false, MatchBool, List, [], ◌∷◌, length, map, take, drop, Some, Option, None, not, ◌&&◌, ◌⊎◌, if◌then◌else◌}
 use Rattle.std.specs.List.{AllZip}
 use Rattle.rv_word.specs.Numbers.{offset_by}
@@ -10,21 +9,20 @@ use Rattle.rv_word.specs.declared.instr.Instr.TheVariants.{Load, Store, Jalr}
 use Rattle.rv_word.specs.Writes.{destination}
 use Rattle.rv_mem.specs.Bytes.{address_after}
 use Rattle.rv_step.specs.declared.outcome.Outcome.TheVariants.{Next}
-use Rattle.rv_step.specs.State.{Hart, State, IsState, register, with_pc}
-use Rattle.rv_step.specs.Step.{Stepped, effect, IsStep}
+use Rattle.rv_step.specs.State.{Hart, State, register}
+use Rattle.rv_step.specs.Step.{Stepped, effect}
 use Rattle.rv_step.specs.Steps.{LeadTo}
 use Rattle.rv_source.specs.declared.item.Item.{Item}
-use Rattle.sfi_policy.specs.Registers.{code_base_register, code_mask_register, data_base_register, data_mask_register, is_data_register, code_register, offset_register}
+use Rattle.sfi_policy.specs.Registers.{data_base_register, is_data_register, code_register, offset_register}
 use Rattle.sfi_policy.specs.Formats.{unit}
 use Rattle.sfi_policy.specs.declared.format.Format.TheVariants.{Sfiw}
 use Rattle.sfi_image.specs.declared.span.Span.{Span}
 use Rattle.sfi_image.specs.Spans.{Holds}
-use Rattle.sfi_image.specs.Registers.{reserved_for}
 use Rattle.sfi_rewrite.specs.declared.slot.Slot.{Slot}
 use Rattle.sfi_rewrite.specs.Registers.{address_register}
-use Rattle.sfi_rewrite.specs.Slots.{slot_size, size_of, slots_of}
+use Rattle.sfi_rewrite.specs.Slots.{size_of, slots_of}
 use Rattle.sfi_rewrite.specs.Placement.{Placement}
-use Rattle.sfi_rewrite.specs.Transparency.{AreRegions, masked, SlotsStand, MayBe}
+use Rattle.sfi_rewrite.specs.Transparency.{masked, DoesAs, IsAskedOf, MayBe}
 use Rattle.sfi_rewrite.specs.words.Expansion.{IsExpansion, is_step}
 use Rattle.sfi_rewrite.specs.words.Laying.{Marked, alone, AreExpanded, AreLaidBefore}
 
@@ -33,13 +31,6 @@ use Rattle.sfi_rewrite.specs.words.Laying.{Marked, alone, AreExpanded, AreLaidBe
 -- a register that the expansions write, and no source names
 abbrev pub is_own : ℕ → Bool
 is_own r = (r == address_register) || (r == code_register) || (r == offset_register)
-
--- the reserved registers hold what they do while a sandbox of these regions runs
-pub record HasReserved (code_at data_at : Span) (h : Hart) : Type 0 where
-  pub code_base : register h code_base_register ≡ (reserved_for (unit Sfiw) code_at data_at).code_base
-  pub code_mask : register h code_mask_register ≡ (reserved_for (unit Sfiw) code_at data_at).code_mask
-  pub data_base : register h data_base_register ≡ (reserved_for (unit Sfiw) code_at data_at).data_base
-  pub data_mask : register h data_mask_register ≡ (reserved_for (unit Sfiw) code_at data_at).data_mask
 
 -- the base of an access lies in the data region; of one on a data register or on x0 nothing is asked
 abbrev pub IsBased : Span → Hart → ℕ → Type 0
@@ -75,50 +66,17 @@ meant i = i
 abbrev pub effect_in : State → Instr → Stepped
 effect_in s i = effect (meant i) 4 s.hart s.memory
 
--- the harts have one pc, and the same in each register but those of the expansions
-pub record IsSameHart (h k : Hart) : Type 0 where
-  pub pc : h.pc ≡ k.pc
-  pub registers : (x : ℕ) → is_own x ≡ false → register h x ≡ register k x
-
--- the steps came to the same, those registers aside
-pub record IsSame (r q : Stepped) : Type 0 where
-  pub outcome : r.outcome ≡ q.outcome
-  pub hart : IsSameHart r.state.hart q.state.hart
-  pub memory : r.state.memory ≡ q.state.memory
-
--- what is asked wherever slots stand for i: regions of a sandbox, a state of the machine, the
--- reserved registers, the slots from pc on, and that the instruction keeps to the sandbox
-pub record IsAskedOf (i : Instr) (slots : List Slot) (code_at data_at : Span)
-    (s : State) : Type 0 where
-  pub regions : AreRegions code_at data_at
-  pub is_state : IsState s
-  pub reserved : HasReserved code_at data_at s.hart
-  pub stand : SlotsStand i s slots
-  pub keeps : KeepsTo code_at data_at s.hart i
-
--- From this state the steps of the slots before the last are done, and lead to the last one's
--- place. The step there comes to what i, as it is meant, does, x29 to x31 aside, if it stood there
--- with the last one's length, on the registers and the memory of this state.
-pub record DoesAs (s : State) (i : Instr) (before : List Slot) (last : Slot) : Type 0 where
-  pub there : State
-  pub leads : LeadTo (length before) s there
-  pub place : there.hart.pc ≡ address_after s.hart.pc (size_of before)
-  pub result : Stepped
-  pub step : IsStep there result
-  pub same : IsSame result (effect (meant i) (slot_size last) (with_pc s.hart there.hart.pc) s.memory)
-
--- wherever the slots stand, the steps of all but the last are done, and that of the last comes to
--- what i, as it is meant, does
+-- the slots are transparent to the instruction, as it is meant: the last of them does what it does
 pub record IsTransparent (i : Instr) (slots : List Slot) : Type 0 where
   pub before : List Slot
   pub last : Slot
   pub slots_are : slots ≡ before ++ last ∷ []
-  pub does : (code_at data_at : Span) (s : State) → IsAskedOf i slots code_at data_at s
-      → DoesAs s i before last
+  pub does : (code_at data_at : Span) (s : State) → IsAskedOf (unit Sfiw) i slots code_at data_at s
+      → KeepsTo code_at data_at s.hart i → DoesAs is_own s (meant i) before last
 
--- The state after all the slots, where an instruction that writes d leaves that of q: pc is `end`;
--- d has the address in the data region that its value in q masks to, which is that value if it lies
--- there; each other register but x29 to x31, and the memory, are as in q.
+-- The state after all the slots, where an instruction that writes d leaves that of this step: d has
+-- the address of the data region with the offset of what the instruction leaves there, which is that
+-- itself if it lies in the region. All else is as the instruction leaves it.
 pub record IsLeft (data_at : Span) (d : ℕ) (q : Stepped) (end : ℕ) (t : State) : Type 0 where
   pub pc : t.hart.pc ≡ end
   pub value : register t.hart d ≡ masked data_at (register q.state.hart d)
@@ -132,24 +90,23 @@ pub record StopAs (s : State) (i : Instr) (slots : List Slot) : Type 0 where
   pub last : Slot
   pub rest : List Slot
   pub slots_are : slots ≡ before ++ last ∷ rest
-  pub does : DoesAs s i before last
+  pub does : DoesAs is_own s (meant i) before last
 
 -- The slots keep what i leaves: wherever they stand, from any state in which i, as it is meant, is
--- done, each of their steps is done, and they leave what it leaves, x29 to x31 aside, but for its
--- data register d, which is masked, and the pc, which is after all of them. Where it isn't done,
--- they stop as it does.
+-- done, each of their steps is done, and they leave what it leaves, but for its data register d, which
+-- is masked, and the pc, which is after all of them. Where it isn't done, they stop as it does.
 pub record KeepsData (d : ℕ) (i : Instr) (slots : List Slot) : Type 0 where
   pub does :
-      (code_at data_at : Span) (s : State) → IsAskedOf i slots code_at data_at s
-      → (effect_in s i).outcome ≡ Next
+      (code_at data_at : Span) (s : State) → IsAskedOf (unit Sfiw) i slots code_at data_at s
+      → KeepsTo code_at data_at s.hart i → (effect_in s i).outcome ≡ Next
       → (t : State) × LeadTo (length slots) s t
       × IsLeft data_at d (effect_in s i) (address_after s.hart.pc (size_of slots)) t
   pub stops :
-      (code_at data_at : Span) (s : State) → IsAskedOf i slots code_at data_at s
-      → (effect_in s i).outcome ≢ Next → StopAs s i slots
+      (code_at data_at : Span) (s : State) → IsAskedOf (unit Sfiw) i slots code_at data_at s
+      → KeepsTo code_at data_at s.hart i → (effect_in s i).outcome ≢ Next → StopAs s i slots
 
--- what the slots are to i, whose destination is given: where i writes a data register and is no
--- step, they keep what it leaves, masked; else they are transparent to it
+-- what slots are to an instruction with that destination, which is a step or not: a step's are
+-- transparent, as it stands without a mask
 abbrev pub ActsBy : Option ℕ → Bool → Instr → List Slot → Type 0
 ActsBy None step i slots = IsTransparent i slots
 ActsBy (Some d) step i slots =
@@ -160,7 +117,7 @@ ActsAs step i slots = ActsBy (destination i) step i slots
 
 -- ---- what is placed
 
--- `laid` is s, or s in 32 bits
+-- the second slot is the first, or that as it has a word alone
 abbrev pub IsAsLaid : Slot → Slot → Type 0
 IsAsLaid s laid = (laid ≡ s) ⊎ (laid ≡ alone s)
 

@@ -1,6 +1,8 @@
 //! The items of a sandbox of code in words, laid one after another.
 ghost use Rattle.std.specs.Prelude.{◌≡◌, ◌<◌, ◌+◌, IfOk, IfErr, length, drop};
-ghost use Rattle.sfi_rewrite.specs.private.Words.{before_label, with_slots, HaveRoom, AreWith, HasNoRoom, IsBeyond, AreLaidWhole, AreLabels};
+ghost use Rattle.sfi_rewrite.specs.private.Words.{before_label, with_slots, HaveRoom, AreWith, HasNoRoom, IsBeyond, AreLaidWhole};
+ghost use Rattle.sfi_rewrite.specs.private.Filling.{AreLabels};
+ghost use Rattle.sfi_rewrite.specs.words.Laying.{IsLabelAt};
 ghost use Rattle.sfi_rewrite.specs.Faults.{UnlessMemory};
 ghost use Rattle.sfi_rewrite.specs.words.Faults.{IsItemFault};
 
@@ -72,7 +74,7 @@ pub(crate) fn lay_in_words(
     items: &[Item],
 ) -> Result<Laid, RewriteFault>
     ensures faultless { IfOk result (λ l. AreLaidWhole items.now l.code) }
-    ensures labels { IfOk result (λ l. AreLabels items.now l.labels.items) }
+    ensures labels { IfOk result (λ l. AreLabels (IsLabelAt items.now) (length items.now) l.labels.items) }
     ensures refused { IfErr result (UnlessMemory (IsItemFault sandbox items.now)) }
 {
     let mut code = WordFilling::new(alloc);

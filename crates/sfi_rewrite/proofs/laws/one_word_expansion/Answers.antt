@@ -1,4 +1,4 @@
-use Rattle.sfi_rewrite.proofs.WordLaws.{one_word_expansion}
+use Rattle.sfi_rewrite.proofs.WordLaid.{one_word_expansion}
 use Rattle.sfi_rewrite.proofs.laws.one_word_expansion.Goals as goal
 
 pub returns : goal.returns

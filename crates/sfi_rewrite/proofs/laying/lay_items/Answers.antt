@@ -1,3 +1,5 @@
+use Rattle.std.proofs.Common.{length}
+use Rattle.sfi_rewrite.specs.Places.{IsLabelAt}
 use Rattle.sfi_rewrite.specs.Slots.{size_of}
 use Rattle.std.proofs.lemmas.Result.{err_from_is_err_and}
 use Rattle.sfi_rewrite.proofs.OneByOne.{one_more, label_here, label_push, label_count, item_fault, found_fault, body_at, all_labels}
@@ -28,7 +30,7 @@ loop-item-preserved c = record {
       c.loop-item-test.true c.item-item.is c.loop-item.invariant.faultless c.in_ok-permit.ensures.permitted c.in_ok-lay_item.ensures.laid;
   count = label_count c.loop-item.labels.items c.push.new.self.items c.loop-item.item-index c.next_bundle.result c.loop-item.invariant.count c.in_ok-push.ensures.items;
   labels =
-      label_push c.args.format c.args.items.now c.loop-item.labels.items c.push.new.self.items c.loop-item.item-index c.next_bundle.result
+      label_push (IsLabelAt c.args.format c.args.items.now) c.loop-item.labels.items c.push.new.self.items c.loop-item.item-index c.next_bundle.result
       c.loop-item.invariant.count c.loop-item.invariant.labels
       (label_here c.args.format c.args.items.now c.loop-item.item-index c.end.result c.next_bundle.result c.loop-item.code c.loop-item.invariant.faultless c.end.ensures c.next_bundle.ensures)
       c.in_ok-push.ensures.items;
@@ -36,7 +38,7 @@ loop-item-preserved c = record {
 
 pub returns-clause-labels : goal.returns-clause-labels
 returns-clause-labels c =
-    all_labels c.args.format c.args.items.now c.loop-item.labels.items c.push-2.new.self.items c.loop-item.item-index c.next_bundle-2.result
+    all_labels (IsLabelAt c.args.format c.args.items.now) (length c.args.items.now) c.loop-item.labels.items c.push-2.new.self.items c.loop-item.item-index c.next_bundle-2.result
     c.loop-item-test.false c.loop-item.auto.item-index-end c.loop-item.invariant.count c.loop-item.invariant.labels
     (label_here c.args.format c.args.items.now c.loop-item.item-index c.end-2.result c.next_bundle-2.result c.loop-item.code c.loop-item.invariant.faultless c.end-2.ensures c.next_bundle-2.ensures)
     c.in_ok-push-2.ensures.items

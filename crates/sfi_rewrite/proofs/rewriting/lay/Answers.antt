@@ -1,10 +1,10 @@
-use Rattle.sfi_rewrite.proofs.Prelude.{◌∙◌, sym, AreFaultless, UnlessMemory, IsItemFault}
+use Rattle.sfi_rewrite.proofs.Prelude.{◌∙◌, sym, length, AreLabels, IsLabelAt, AreFaultless, UnlessMemory, IsItemFault}
 use Rattle.std.proofs.lemmas.Result.{IfOk-weaker, IfErr-weaker}
 use Rattle.sfi_rewrite.specs.SourceFaults.{IsFaultIn}
 use Rattle.sfi_rewrite.specs.words.Faults as words
-use Rattle.sfi_rewrite.specs.private.Filling as bundles
-use Rattle.sfi_rewrite.specs.private.Words.{AreLaidWhole, AreLabels, AreFaultlessIn, AreLabelsIn}
-use Rattle.sfi_rewrite.proofs.ByFormat.{faultless_words, faultless_bundles, labels_words, labels_bundles, fault_words, fault_bundles}
+use Rattle.sfi_rewrite.specs.words.Laying as words_laying
+use Rattle.sfi_rewrite.specs.private.Words.{AreLaidWhole, AreFaultlessIn, AreLabelsIn}
+use Rattle.sfi_rewrite.proofs.WordLaid.{faultless_words, faultless_bundles, labels_words, labels_bundles, fault_words, fault_bundles}
 use Rattle.sfi_rewrite.proofs.rewriting.lay.Goals as goal
 
 pub returns-then-has_words-clause-faultless : goal.returns-then-has_words-clause-faultless
@@ -14,7 +14,7 @@ returns-then-has_words-clause-faultless c =
 
 pub returns-then-has_words-clause-labels : goal.returns-then-has_words-clause-labels
 returns-then-has_words-clause-labels c =
-    IfOk-weaker c.lay_in_words.result (λ l. AreLabels c.args.items.now l.labels.items) (λ l. AreLabelsIn c.args.format c.args.items.now l.labels.items)
+    IfOk-weaker c.lay_in_words.result (λ l. AreLabels (words_laying.IsLabelAt c.args.items.now) (length c.args.items.now) l.labels.items) (λ l. AreLabelsIn c.args.format c.args.items.now l.labels.items)
     (λ l h. labels_words c.args.format c.args.items.now l.labels.items (sym c.has_words.ensures ∙ c.if-has_words.true) h) c.lay_in_words.ensures.labels
 
 pub returns-then-has_words-clause-refused : goal.returns-then-has_words-clause-refused
@@ -29,7 +29,7 @@ returns-else-has_words-clause-faultless c =
 
 pub returns-else-has_words-clause-labels : goal.returns-else-has_words-clause-labels
 returns-else-has_words-clause-labels c =
-    IfOk-weaker c.lay_items.result (λ l. bundles.AreLabels c.args.format c.args.items.now l.labels.items) (λ l. AreLabelsIn c.args.format c.args.items.now l.labels.items)
+    IfOk-weaker c.lay_items.result (λ l. AreLabels (IsLabelAt c.args.format c.args.items.now) (length c.args.items.now) l.labels.items) (λ l. AreLabelsIn c.args.format c.args.items.now l.labels.items)
     (λ l h. labels_bundles c.args.format c.args.items.now l.labels.items (sym c.has_words.ensures ∙ c.if-has_words.false) h) c.lay_items.ensures.labels
 
 pub returns-else-has_words-clause-refused : goal.returns-else-has_words-clause-refused

@@ -1,7 +1,8 @@
-use Rattle.std.proofs.Common.{arith, ap, ◌∙◌}
+use Rattle.std.proofs.Common.{arith, ap, ◌∙◌, length}
+use Rattle.sfi_rewrite.specs.words.Laying.{IsLabelAt}
 use Rattle.std.proofs.lemmas.Result.{err_from_is_err_and}
-use Rattle.sfi_rewrite.proofs.OneByOne.{label_count}
-use Rattle.sfi_rewrite.proofs.WordItems.{stands_at, next_first, next_permitted, first_label, next_label, all_labels, item_fault, room_fault, all_whole}
+use Rattle.sfi_rewrite.proofs.OneByOne.{stands_at, label_push, label_count, all_labels}
+use Rattle.sfi_rewrite.proofs.WordItems.{next_first, next_permitted, first_label, item_fault, room_fault, all_whole}
 use Rattle.sfi_rewrite.proofs.words.laying.lay_in_words.Goals as goal
 
 pub returns-in_err-permit-clause-refused : goal.returns-in_err-permit-clause-refused
@@ -34,7 +35,7 @@ loop-number-preserved c =
       fits = c.in_ok-lay_item.ensures.room.fits;
       count = label_count c.loop-number.labels.items c.push.new.self.items c.loop-number.number c.place.result c.loop-number.invariant.count c.in_ok-push.ensures.items;
       labels =
-          next_label c.args.items.now c.loop-number.labels.items c.push.new.self.items c.loop-number.number c.place.result c.loop-number.invariant.count c.loop-number.invariant.labels
+          label_push (IsLabelAt c.args.items.now) c.loop-number.labels.items c.push.new.self.items c.loop-number.number c.place.result c.loop-number.invariant.count c.loop-number.invariant.labels
           (first_label c.args.items.now c.loop-number.number c.place.result c.loop-number.code c.loop-number.invariant.first c.place.ensures) c.in_ok-push.ensures.items;
     }
 
@@ -45,6 +46,6 @@ returns-clause-faultless c =
 
 pub returns-clause-labels : goal.returns-clause-labels
 returns-clause-labels c =
-    all_labels c.args.items.now c.loop-number.labels.items c.push-2.new.self.items c.loop-number.number c.place-2.result (omega (arith, c.loop-number-test.false)) c.loop-number.invariant.within
+    all_labels (IsLabelAt c.args.items.now) (length c.args.items.now) c.loop-number.labels.items c.push-2.new.self.items c.loop-number.number c.place-2.result (omega (arith, c.loop-number-test.false)) c.loop-number.invariant.within
     c.loop-number.invariant.count c.loop-number.invariant.labels
     (first_label c.args.items.now c.loop-number.number c.place-2.result c.loop-number.code c.loop-number.invariant.first c.place-2.ensures) c.in_ok-push-2.ensures.items
