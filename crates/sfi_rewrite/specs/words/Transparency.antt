@@ -1,6 +1,7 @@
 -- What an expansion in words does: within its sandbox it does what its instruction does, the three
 -- registers aside that the expansions write; a data register that the instruction writes has the
--- address of the data region that its value masks to.
+-- address of the data region that its value masks to, but for a step, which leaves there what its
+-- instruction does.
 use Rattle.std.specs.Prelude.{◌≡◌, ◌≢◌, ◌+◌, ◌%◌, ◌==◌, ◌||◌, ◌++◌, ℕ, Bool, true, false, MatchBool, List, [], ◌∷◌, length, map, take, drop, Some, Option, None, not, ◌&&◌, ◌⊎◌, if◌then◌else◌}
 use Rattle.std.specs.List.{AllZip}
 use Rattle.rv_word.specs.Numbers.{offset_by}
@@ -66,7 +67,8 @@ meant i = i
 abbrev pub effect_in : State → Instr → Stepped
 effect_in s i = effect (meant i) 4 s.hart s.memory
 
--- the slots are transparent to the instruction, as it is meant: the last of them does what it does
+-- wherever the slots stand, the steps of all but the last are done, and that of the last comes to what
+-- i, as it is meant, does, x29 to x31 aside
 pub record IsTransparent (i : Instr) (slots : List Slot) : Type 0 where
   pub before : List Slot
   pub last : Slot
@@ -74,9 +76,9 @@ pub record IsTransparent (i : Instr) (slots : List Slot) : Type 0 where
   pub does : (code_at data_at : Span) (s : State) → IsAskedOf (unit Sfiw) i slots code_at data_at s
       → KeepsTo code_at data_at s.hart i → DoesAs is_own s (meant i) before last
 
--- The state after all the slots, where an instruction that writes d leaves that of this step: d has
--- the address of the data region with the offset of what the instruction leaves there, which is that
--- itself if it lies in the region. All else is as the instruction leaves it.
+-- The state after all the slots, where an instruction that writes d leaves that of q: pc is `end`;
+-- d has the address in the data region that its value in q masks to, which is that value if it lies
+-- there; each other register but x29 to x31, and the memory, are as in q.
 pub record IsLeft (data_at : Span) (d : ℕ) (q : Stepped) (end : ℕ) (t : State) : Type 0 where
   pub pc : t.hart.pc ≡ end
   pub value : register t.hart d ≡ masked data_at (register q.state.hart d)
@@ -93,8 +95,9 @@ pub record StopAs (s : State) (i : Instr) (slots : List Slot) : Type 0 where
   pub does : DoesAs is_own s (meant i) before last
 
 -- The slots keep what i leaves: wherever they stand, from any state in which i, as it is meant, is
--- done, each of their steps is done, and they leave what it leaves, but for its data register d, which
--- is masked, and the pc, which is after all of them. Where it isn't done, they stop as it does.
+-- done, each of their steps is done, and they leave what it leaves, x29 to x31 aside, but for its
+-- data register d, which is masked, and the pc, which is after all of them. Where it isn't done,
+-- they stop as it does.
 pub record KeepsData (d : ℕ) (i : Instr) (slots : List Slot) : Type 0 where
   pub does :
       (code_at data_at : Span) (s : State) → IsAskedOf (unit Sfiw) i slots code_at data_at s
@@ -105,8 +108,8 @@ pub record KeepsData (d : ℕ) (i : Instr) (slots : List Slot) : Type 0 where
       (code_at data_at : Span) (s : State) → IsAskedOf (unit Sfiw) i slots code_at data_at s
       → KeepsTo code_at data_at s.hart i → (effect_in s i).outcome ≢ Next → StopAs s i slots
 
--- what slots are to an instruction with that destination, which is a step or not: a step's are
--- transparent, as it stands without a mask
+-- what the slots are to i, whose destination is given: where i writes a data register and is no
+-- step, they keep what it leaves, masked; else they are transparent to it
 abbrev pub ActsBy : Option ℕ → Bool → Instr → List Slot → Type 0
 ActsBy None step i slots = IsTransparent i slots
 ActsBy (Some d) step i slots =
@@ -117,7 +120,7 @@ ActsAs step i slots = ActsBy (destination i) step i slots
 
 -- ---- what is placed
 
--- the second slot is the first, or that as it has a word alone
+-- `laid` is s, or s in 32 bits
 abbrev pub IsAsLaid : Slot → Slot → Type 0
 IsAsLaid s laid = (laid ≡ s) ⊎ (laid ≡ alone s)
 
