@@ -8,7 +8,7 @@ use Rattle.sfi_report.specs.Digits.{hex_digits, line_end}
 use Rattle.hex.specs.Hex.{encode_lower}
 use Rattle.sfi_build.specs.declared.build_fault.BuildFault.{BuildFault}
 use Rattle.sfi_build.specs.Texts.{IsTextBuild, IsTextMap, IsBuildFault}
-use Rattle.sfi_place.specs.declared.place.Place.{Place}
+use Rattle.sfi_policy.specs.declared.place.Place.{Place}
 use Rattle.sfi_io.specs.Streams.{limit}
 use Rattle.sfi_answers.specs.Answers.{Meaning}
 

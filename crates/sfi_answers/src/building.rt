@@ -9,7 +9,7 @@ use crate::fault::{InputFault, Stop};
 use crate::verdict::{Answer, digits_line};
 use sfi_build::{build_at, names_at};
 use sfi_link::{NameAddress, NameKind};
-use sfi_place::Place;
+use sfi_policy::Place;
 use sfi_report::push_eight_digits;
 use std::alloc::{AllocError, Global};
 

@@ -1,6 +1,6 @@
 -- What holds of every text.
 use Rattle.std.specs.Prelude.{◌⊎◌, ℕ, List}
-use Rattle.sfi_place.specs.declared.place.Place.{Place}
+use Rattle.sfi_policy.specs.declared.place.Place.{Place}
 use Rattle.sfi_build.specs.declared.build_fault.BuildFault.{BuildFault}
 use Rattle.sfi_build.specs.Texts.{IsTextBuild, IsBuildFault}
 

@@ -5,7 +5,7 @@ use Rattle.rv_text.specs.Causes.{memory}
 use Rattle.rv_source.specs.Source.{Sandbox}
 use Rattle.rv_text.specs.Texts.{MeansSource, IsFault}
 use Rattle.sfi_image.specs.Spelling.{Part}
-use Rattle.sfi_place.specs.declared.place.Place.{Place}
+use Rattle.sfi_policy.specs.declared.place.Place.{Place}
 use Rattle.sfi_image.specs.Images.{IsImage}
 use Rattle.sfi_rules.specs.Findings.{AreImageFindings}
 use Rattle.sfi_rewrite.specs.declared.fault.RewriteFault.TheVariants as rewriter

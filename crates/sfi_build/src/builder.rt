@@ -14,7 +14,7 @@ ghost use Rattle.sfi_build.specs.Texts.{IsTextBuild, IsTextMap, IsCleanImage, Is
 use crate::build_fault::BuildFault;
 use rv_text::parse_source;
 use sfi_link::{NameAddress, link_at, names_of};
-use sfi_place::Place;
+use sfi_policy::Place;
 use sfi_rewrite::rewrite;
 use std::alloc::Global;
 

@@ -12,4 +12,4 @@ pub mod laws;
 pub use build_fault::BuildFault;
 pub use builder::{build, build_at, names_at};
 pub use sfi_link::{NameAddress, NameKind};
-pub use sfi_place::Place;
+pub use sfi_policy::Place;

@@ -2,7 +2,7 @@
 use Rattle.std.specs.Prelude.{◌≡◌, ◌≤◌, ◌++◌, ℕ, List, [], ◌∷◌, codes, length}
 use Rattle.std.specs.Str.Parse.{IsNumeral, digits_value}
 use Rattle.clap.specs.Walk.{Text}
-use Rattle.sfi_place.specs.declared.place.Place.{Place}
+use Rattle.sfi_policy.specs.declared.place.Place.{Place}
 
 -- the text spells this address: 1 to 8 hexadecimal digits, of either case
 pub record SpellsAddress (text : Text) (address : ℕ) : Type 0 where

@@ -17,7 +17,7 @@ use crate::places::parse_places;
 use clap::error::ErrorKind;
 use clap::{ArgMatches, Error};
 use hex::FromHexError;
-use sfi_place::Place;
+use sfi_policy::Place;
 use std::alloc::{AllocError, Global};
 
 const RAW_REPORT: &str = "\

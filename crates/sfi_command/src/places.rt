@@ -3,10 +3,10 @@
 ghost use Rattle.std.specs.Prelude.{◌≡◌, ℕ, IfErr, IfOk, IfSome, map};
 ghost use Rattle.sfi_command.specs.Places.{SpellsAddress, SpellsPlace, SpellPlaces};
 ghost use Rattle.sfi_command.specs.private.{ArePlacesFault};
-ghost use Rattle.sfi_place.specs.declared.place.Place.{Place};
+ghost use Rattle.sfi_policy.specs.declared.place.Place.{Place};
 
 use crate::job::{JobFault, usage_fault};
-use sfi_place::Place;
+use sfi_policy::Place;
 use std::alloc::Global;
 
 // The most digits of an address.

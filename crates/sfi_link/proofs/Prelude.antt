@@ -21,8 +21,8 @@ pub use Rattle.sfi_policy.specs.Formats.{has_stack, is_stack, code_most}
 pub use Rattle.sfi_pairs.specs.Pairs.{is_masking, is_placing, stub}
 unfoldable pub use Rattle.sfi_link.specs.Stubs.{stub_of}
 pub use Rattle.sfi_policy.specs.declared.format.Format.{Format}
-pub use Rattle.sfi_place.specs.Places.{place_of}
-pub use Rattle.sfi_place.specs.declared.place.Place.{Place}
+pub use Rattle.sfi_policy.specs.Places.{place_of}
+pub use Rattle.sfi_policy.specs.declared.place.Place.{Place}
 pub use Rattle.sfi_image.specs.Spans.{AreApart, with_guards, spans, spans_of, code_region}
 pub use Rattle.sfi_image.specs.Spelling.{Part, fields_of, format_of, views, view}
 pub use Rattle.sfi_image.specs.declared.span.Span.{Span}

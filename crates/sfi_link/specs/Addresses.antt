@@ -3,8 +3,8 @@ use Rattle.std.specs.Prelude.{ℕ, ◌+◌, ◌*◌, ℤ, List, length, slice_ge
 use Rattle.rv_word.specs.declared.instr.Instr.{Instr}
 use Rattle.rv_word.specs.declared.instr.Instr.TheVariants.{Branch, Jal}
 use Rattle.sfi_policy.specs.Limits.{bundle_size}
-use Rattle.sfi_place.specs.declared.place.Place.{Place}
-use Rattle.sfi_place.specs.Places.{place_of}
+use Rattle.sfi_policy.specs.declared.place.Place.{Place}
+use Rattle.sfi_policy.specs.Places.{place_of}
 use Rattle.sfi_rewrite.specs.declared.placed.PlacedName.{PlacedName}
 use Rattle.sfi_rewrite.specs.declared.placed.PlacedName.TheVariants.{Gate, Code, Data, Unknown}
 use Rattle.sfi_rewrite.specs.Placement.{Placement}

@@ -5,7 +5,7 @@ use Rattle.rv_source.specs.Source.{Sandbox}
 use Rattle.sfi_image.specs.Spelling.{Part, spelling}
 use Rattle.sfi_image.specs.Images.{IsImage}
 use Rattle.sfi_rules.specs.Findings.{AreImageFindings}
-use Rattle.sfi_place.specs.declared.place.Place.{Place}
+use Rattle.sfi_policy.specs.declared.place.Place.{Place}
 use Rattle.sfi_rewrite.specs.Placement.{Placement, IsPlacement}
 use Rattle.sfi_link.specs.Linked.{AreLinked}
 

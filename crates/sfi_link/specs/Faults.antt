@@ -7,8 +7,8 @@ use Rattle.sfi_policy.specs.Limits.{sandboxes_most}
 use Rattle.sfi_image.specs.declared.span.Span.{Span}
 use Rattle.sfi_image.specs.Spelling.{Part}
 use Rattle.sfi_image.specs.Spans.{AreApart, spans}
-use Rattle.sfi_place.specs.declared.place.Place.{Place}
-use Rattle.sfi_place.specs.Places.{place_of}
+use Rattle.sfi_policy.specs.declared.place.Place.{Place}
+use Rattle.sfi_policy.specs.Places.{place_of}
 use Rattle.sfi_rewrite.specs.declared.slot.Slot.{Slot}
 use Rattle.sfi_rewrite.specs.declared.slot.Slot.TheVariants.{Wide, Short, Jump, Upper, Lower}
 use Rattle.sfi_rewrite.specs.declared.placed.PlacedName.{PlacedName}

@@ -2,7 +2,7 @@
 use Rattle.std.specs.Prelude.{◌≡◌, ◌⊎◌, ℕ, ◌≤◌, List, [], length}
 use Rattle.sfi_image.specs.Spelling.{Part}
 use Rattle.sfi_image.specs.Parts.{IsRightLayout}
-use Rattle.sfi_place.specs.declared.place.Place.{Place}
+use Rattle.sfi_policy.specs.declared.place.Place.{Place}
 use Rattle.sfi_rules.specs.Findings.{AreFindings}
 use Rattle.sfi_rewrite.specs.Placement.{Placement}
 use Rattle.sfi_rewrite.specs.Placed.{IsPlacedPart, IsPlaced}

@@ -9,8 +9,8 @@ use Rattle.sfi_policy.specs.Limits.{region_least}
 use Rattle.sfi_image.specs.declared.part.Gate.{Gate}
 use Rattle.sfi_image.specs.Spelling.{Part}
 use Rattle.sfi_image.specs.Spans.{AreApart, spans}
-use Rattle.sfi_place.specs.declared.place.Place.{Place}
-use Rattle.sfi_place.specs.Places.{place_of}
+use Rattle.sfi_policy.specs.declared.place.Place.{Place}
+use Rattle.sfi_policy.specs.Places.{place_of}
 use Rattle.sfi_rewrite.specs.declared.slot.Slot.{Slot}
 use Rattle.sfi_rewrite.specs.declared.slot.Slot.TheVariants.{Short}
 use Rattle.sfi_rewrite.specs.Slots.{size_of, slots_of}

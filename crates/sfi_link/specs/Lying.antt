@@ -4,7 +4,7 @@ use Rattle.sfi_image.specs.declared.span.Span.{Span}
 use Rattle.sfi_image.specs.Spelling.{IsWord}
 use Rattle.sfi_image.specs.Spans.{with_guards}
 use Rattle.sfi_image.specs.Regions.{IsCodeRegion, IsDataRegion, HasGuardRoom}
-use Rattle.sfi_place.specs.declared.place.Place.{Place}
+use Rattle.sfi_policy.specs.declared.place.Place.{Place}
 use Rattle.sfi_rewrite.specs.Placement.{Placement}
 
 -- its code, of that size, and its data may begin there: each a multiple of its region's size, with

@@ -4,8 +4,7 @@ ghost use Rattle.sfi_rewrite.specs.Placed.{IsPlacedPart};
 ghost use Rattle.sfi_link.specs.Addresses.{bases_of};
 ghost use Rattle.sfi_policy.specs.Limits.{sandboxes_most};
 
-use sfi_place::{Place, place_of};
-use sfi_policy::BUNDLE_SIZE;
+use sfi_policy::{BUNDLE_SIZE, Place, place_of};
 use sfi_rewrite::PlacedPart;
 
 /// Where the regions of a sandbox begin.

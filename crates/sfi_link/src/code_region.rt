@@ -19,8 +19,7 @@ use crate::fault::LinkFault;
 use crate::lying::lies_beside;
 use crate::stub::stub_of;
 use sfi_image::Span;
-use sfi_place::{Place, place_of};
-use sfi_policy::{BUNDLE_BYTES, Format, REGION_LEAST_BYTES};
+use sfi_policy::{BUNDLE_BYTES, Format, Place, REGION_LEAST_BYTES, place_of};
 use sfi_rewrite::{Bundle, PlacedPart};
 use std::alloc::{AllocError, Global};
 

@@ -20,4 +20,4 @@ mod stub;
 pub use fault::LinkFault;
 pub use linker::{link, link_at};
 pub use names::{NameAddress, NameKind, names_of};
-pub use sfi_place::Place;
+pub use sfi_policy::Place;

@@ -7,7 +7,7 @@ ghost use Rattle.sfi_rewrite.specs.Placed.{IsPlacedPart, IsPlaced, AreOf};
 ghost use Rattle.sfi_link.specs.declared.fault.LinkFault.{LinkFault};
 ghost use Rattle.sfi_link.specs.declared.fault.LinkFault.TheVariants.{TooManySandboxes};
 ghost use Rattle.sfi_link.specs.declared.fault.LinkFault.TheVariants as fault;
-ghost use Rattle.sfi_place.specs.Places.{place_of};
+ghost use Rattle.sfi_policy.specs.Places.{place_of};
 ghost use Rattle.sfi_link.specs.Lying.{IsRightPlace};
 ghost use Rattle.sfi_link.specs.Linked.{gates_from, IsLinkedCode, IsLinked, AreLinkedFrom};
 ghost use Rattle.sfi_link.specs.Building.{IsLinkedImage, ArePlacements, IsBuild};
@@ -21,8 +21,7 @@ use crate::code_region::linked_code;
 use crate::fault::LinkFault;
 use rv_source::SourceGate;
 use sfi_image::{Gate, ImageFault, SandboxPart, write_image_as};
-use sfi_place::Place;
-use sfi_policy::{BUNDLE_SIZE, Format, SANDBOX_COUNT_MOST};
+use sfi_policy::{BUNDLE_SIZE, Format, Place, SANDBOX_COUNT_MOST};
 use sfi_rewrite::{Placed, PlacedPart};
 use std::alloc::{AllocError, Global};
 

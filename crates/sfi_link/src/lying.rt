@@ -8,8 +8,7 @@ ghost use Rattle.sfi_link.specs.Lying.{IsRightPlace, spans_at};
 ghost use Rattle.sfi_link.specs.private.Near.{LiesBeside};
 
 use sfi_image::{Span, are_all_apart, has_guard_room, is_region, with_guards};
-use sfi_place::Place;
-use sfi_policy::{DATA_MOST, REGION_LEAST};
+use sfi_policy::{DATA_MOST, Place, REGION_LEAST};
 use sfi_rewrite::PlacedPart;
 use std::alloc::AllocError;
 

@@ -17,7 +17,7 @@ use crate::bases::{Bases, bases_of};
 use crate::fault::LinkFault;
 use crate::linker::link_at;
 use rv_source::{Names, Source, SourcePart};
-use sfi_place::Place;
+use sfi_policy::Place;
 use sfi_rewrite::{Placed, PlacedName, PlacedPart};
 use std::alloc::{AllocError, Global};
 use std::marker::Model;

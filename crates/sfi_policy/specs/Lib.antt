@@ -1,3 +1,4 @@
 pub mod Limits
 pub mod Registers
 pub mod Formats
+pub mod Places

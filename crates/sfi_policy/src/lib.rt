@@ -1,5 +1,5 @@
-//! What a sandbox is confined by: its limits, the formats of images, and the registers that have a
-//! part in that.
+//! What a sandbox is confined by: its limits, the formats of images, the registers that have a part
+//! in that, and where its regions begin.
 //!
 //! Each has its name here, and crates above cite it by that; the tables of the first looks (`sfi_masks`,
 //! `sfi_scan`) have the registers in their entries, and are proved to agree. The definitions in
@@ -11,6 +11,7 @@
 mod format;
 mod laws;
 mod limits;
+mod place;
 mod registers;
 
 pub use format::Format;
@@ -20,6 +21,7 @@ pub use limits::{
     ITEM_COUNT_MOST, ITEMS_MOST, NAME_MOST, NAME_MOST_BYTES, REGION_LEAST, REGION_LEAST_BYTES,
     SANDBOX_COUNT_MOST, SANDBOXES_MOST, SERVICE_MOST, SLACK,
 };
+pub use place::{Place, place_of};
 pub use registers::{
     CODE_BASE_REGISTER, CODE_MASK_REGISTER, CODE_REGISTER, DATA_BASE_REGISTER, DATA_MASK_REGISTER,
     OFFSET_REGISTER, SCRATCH, STACK_POINTER,

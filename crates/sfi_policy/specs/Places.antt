@@ -1,6 +1,6 @@
 -- Where the regions of each sandbox lie.
 use Rattle.std.specs.Prelude.{ℕ, ◌+◌, ◌*◌, List, slice_get, Option, Some, None}
-use Rattle.sfi_place.specs.declared.place.Place.{Place}
+use Rattle.sfi_policy.specs.declared.place.Place.{Place}
 
 -- the first code base, and how far the code of one sandbox lies from that of the next
 abbrev pub sandbox_stride : ℕ
