@@ -1,6 +1,6 @@
 -- Stretches of bundles: their parts, and the findings of one after another.
 use Rattle.std.specs.Simd.{first_chunks}
-use Rattle.sfi_scan.proofs.Prelude.{get_or, ◌≡◌, ℕ, zero, suc, ◌+◌, ◌-◌, ◌*◌, ◌<◌, ◌≤◌, ◌==◌, ◌&&◌, Bool, true, false, List, [], ◌++◌, length, take, drop, refl, sym, ap, ◌∙◌, subst, arith, ne_eqb, append-nil, append_assoc, length-append, length-drop, drop-drop, drop-take, take-take, take_all, inr, BundlePlace, Finding, Part, bundle_at, block_bundle, bundle_bytes, place_of, AreBundleFindings, AreReadingFindings, AreFindingsOfFirst}
+use Rattle.sfi_scan.proofs.Prelude.{get_or, ◌≡◌, ℕ, zero, suc, ◌+◌, ◌-◌, ◌*◌, ◌<◌, ◌≤◌, false, List, [], ◌++◌, length, take, drop, refl, sym, ap, ◌∙◌, subst, arith, append-nil, append_assoc, length-append, length-drop, drop-drop, drop-take, take-take, take_all, inr, BundlePlace, Finding, Part, bundle_at, block_bundle, bundle_bytes, place_of, AreBundleFindings, AreReadingFindings, AreFindingsOfFirst}
 use Rattle.sfi_scan.specs.Stretches.{IsStretch, IsScanned, stretch_place, AreStretchFindings}
 use Rattle.sfi_scan.specs.private.Scanning.{IsFrontScanned}
 
@@ -28,18 +28,6 @@ place_on b (suc k) (suc i) = ap (λ (a : ℕ). record b { address = a; listed = 
 pub plain_place : (b : BundlePlace) (i : ℕ) → b.listed ≡ false → stretch_place b i ≡ bundle_at b i
 plain_place b zero e = rw (← e) (ap (λ (a : ℕ). record b { address = a; listed = b.listed }) (let e : b.address ≡ b.address + 16 * 0 = omega arith in e))
 plain_place b (suc i) e = refl
-
-pub place_after_is : (b : BundlePlace) (before n : ℕ) → before ≡ 16 * n → record b { address = b.address + before; listed = b.listed && (before == 0) } ≡ stretch_place b n
-place_after_is b before zero e = subst (λ (k : ℕ). record b { address = b.address + k; listed = b.listed && (k == 0) } ≡ b) (sym e) (ap (λ (a : ℕ). record b { address = a; listed = b.listed && true }) (let e : b.address + 0 ≡ b.address = omega arith in e) ∙ ap (λ (l : Bool). record b { listed = l }) (and_true b.listed))
-  where
-    and_true : (x : Bool) → (x && true) ≡ x
-    and_true true = refl
-    and_true false = refl
-place_after_is b before (suc n) e = subst (λ (k : ℕ). record b { address = b.address + k; listed = b.listed && (k == 0) } ≡ bundle_at b (suc n)) (sym e) (ap (λ (l : Bool). record b { address = b.address + 16 * suc n; listed = l }) (ap (λ (x : Bool). b.listed && x) (ne_eqb (16 * suc n) 0 (λ z. omega arith)) ∙ and_false b.listed))
-  where
-    and_false : (x : Bool) → (x && false) ≡ false
-    and_false true = refl
-    and_false false = refl
 
 -- what is left of a stretch is one
 pub stretch_rest : (b : BundlePlace) (xs : List ℕ) (k n : ℕ) → k ≤ n → IsStretch b xs n → IsStretch (stretch_place b k) (drop (16 * k) xs) (n - k)

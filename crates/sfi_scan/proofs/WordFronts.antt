@@ -1,11 +1,11 @@
 -- The clean words of a block as the bundles of a stretch without findings.
-use Rattle.sfi_scan.proofs.Prelude.{◌≡◌, ℕ, zero, suc, ◌+◌, ◌-◌, ◌*◌, ◌/◌, ◌<◌, ◌≤◌, List, [], length, take, drop, Option, Some, None, IfSome, false, refl, sym, ap, ◌∙◌, subst, arith, take-take, drop-drop, drop-take, BundlePlace, bundle_at, block_bundle}
+use Rattle.sfi_scan.proofs.Prelude.{◌≡◌, ℕ, zero, suc, ◌+◌, ◌-◌, ◌*◌, ◌/◌, ◌<◌, ◌≤◌, List, [], length, take, drop, length-drop, min, false, refl, sym, ap, ◌∙◌, subst, arith, take-take, drop-drop, drop-take, BundlePlace, bundle_at, block_bundle, IsWithin}
 use Rattle.sfi_rules.specs.declared.owed.Owed.{Owed}
 use Rattle.sfi_rules.specs.words.Findings.{AreFoundInBundle, IsWordFound}
-use Rattle.sfi_scan.specs.Stretches.{AreWordStretchFindings}
+use Rattle.sfi_scan.specs.Stretches.{IsStretch, AreWordStretchFindings, stretch_place}
 use Rattle.sfi_scan.specs.private.Scanning.{IsFrontClean}
 use Rattle.sfi_scan.specs.private.WordBlock.{bytes_at, IsCleanWord, AreCleanWords}
-use Rattle.sfi_scan.proofs.Stretches.{plain_place, front_bundle}
+use Rattle.sfi_scan.proofs.Stretches.{plain_place, place_on, place_address, place_base, place_size, front_bundle, rest_bundle}
 use Rattle.sfi_scan.proofs.WordStretches.{words_same}
 
 -- word n of bundle k
@@ -27,26 +27,86 @@ word_in_bundle b block m k n owed next is less h =
     (subst (λ (a : ℕ). IsWordFound (bundle_at b k) a owed (bytes_at block (2 * m)) [] next) address
     (subst (λ (j : ℕ). IsWordFound (bundle_at b j) (b.address + 2 * (2 * m)) owed (bytes_at block (2 * m)) [] next) place h))
 
-pub clean_stretch : (b : BundlePlace) (owed : Owed) (block : List ℕ) → b.listed ≡ false → (k : ℕ) (next : Owed) → AreCleanWords b owed block (4 * k) next → AreWordStretchFindings b owed block k [] next
-clean_stretch b owed block plain zero next h = (refl, h)
-clean_stretch b owed block plain (suc k) next h =
-    let four = subst (λ (m : ℕ). AreCleanWords b owed block m next) (let e : 4 * suc k ≡ suc (suc (suc (suc (4 * k)))) = omega arith in e) h in
+-- four words of a block from its bundle k on
+bundle_found : (b : BundlePlace) (owed next : Owed) (block : List ℕ) (from k m : ℕ) → m ≡ 4 * k → (w : ℕ) → 4 * from + w ≡ m → AreCleanWords b owed block (4 * from) (suc (suc (suc (suc w)))) next
+    → (before : Owed) × AreCleanWords b owed block (4 * from) w before × AreFoundInBundle (bundle_at b k) before (block_bundle block k) [] next
+bundle_found b owed next block from k m is w at four =
     let three = four.1 in
     let two = three.1 in
     let one = two.1 in
-    let word3 = word_in_bundle b block (suc (suc (suc (4 * k)))) k 3 four.0 next (omega arith) (omega arith) four.2 in
-    let word2 = word_in_bundle b block (suc (suc (4 * k))) k 2 three.0 four.0 (omega arith) (omega arith) three.2 in
-    let word1 = word_in_bundle b block (suc (4 * k)) k 1 two.0 three.0 (omega arith) (omega arith) two.2 in
-    let word0 = word_in_bundle b block (4 * k) k 0 one.0 two.0 (omega arith) (omega arith) one.2 in
-    let bundle : AreFoundInBundle (bundle_at b k) one.0 (block_bundle block k) [] next
-    = ([], [], four.0, ([], [], three.0, ([], [], two.0, ([], [], one.0, (refl, refl), word0, refl), word1, refl), word2, refl), word3, refl) in
-    ([], [], one.0, clean_stretch b owed block plain k one.0 one.1, subst (λ (c : BundlePlace). AreFoundInBundle c one.0 (block_bundle block k) [] next) (sym (plain_place b k plain)) bundle, refl)
+    let word3 = word_in_bundle b block (4 * from + suc (suc (suc w))) k 3 four.0 next (omega (arith, is, at)) (omega arith) four.2 in
+    let word2 = word_in_bundle b block (4 * from + suc (suc w)) k 2 three.0 four.0 (omega (arith, is, at)) (omega arith) three.2 in
+    let word1 = word_in_bundle b block (4 * from + suc w) k 1 two.0 three.0 (omega (arith, is, at)) (omega arith) two.2 in
+    let word0 = word_in_bundle b block (4 * from + w) k 0 one.0 two.0 (omega (arith, is, at)) (omega arith) one.2 in
+    (one.0, one.1, ([], [], four.0, ([], [], three.0, ([], [], two.0, ([], [], one.0, (refl, refl), word0, refl), word1, refl), word2, refl), word3, refl))
 
-pub front_found : (b : BundlePlace) (owed : Owed) (bytes : List ℕ) (next : Owed) → IsFrontClean b owed bytes next → AreWordStretchFindings b owed bytes 8 [] next
-front_found b owed bytes next h = words_same b owed (take 128 bytes) bytes 8 [] next (λ i less. front_bundle 8 i bytes less) (clean_stretch b owed (take 128 bytes) h.unlisted 8 next h.clean)
+-- the clean words from a bundle on, as a stretch that begins there
+pub clean_stretch : (b : BundlePlace) (owed : Owed) (block : List ℕ) (from : ℕ) → b.listed ≡ false → (k : ℕ) (next : Owed) → AreCleanWords b owed block (4 * from) (4 * k) next
+    → AreWordStretchFindings (stretch_place b from) owed (drop (16 * from) block) k [] next
+clean_stretch b owed block from plain zero next h = (refl, h)
+clean_stretch b owed block from plain (suc k) next h =
+    let four = subst (λ (m : ℕ). AreCleanWords b owed block (4 * from) m next) (let e : 4 * suc k ≡ suc (suc (suc (suc (4 * k)))) = omega arith in e) h in
+    let last = bundle_found b owed next block from (from + k) (4 * (from + k)) refl (4 * k) (omega arith) four in
+    let place : bundle_at b (from + k) ≡ stretch_place (stretch_place b from) k = sym (place_on b from k ∙ plain_place b (from + k) plain) in (
+      [],
+      [],
+      last.0,
+      clean_stretch b owed block from plain k last.0 last.1,
+      subst (λ (c : BundlePlace). AreFoundInBundle c last.0 (block_bundle (drop (16 * from) block) k) [] next) place
+          (subst (λ (l : List ℕ). AreFoundInBundle (bundle_at b (from + k)) last.0 l [] next) (sym (rest_bundle from k block)) last.2),
+      refl,
+    )
 
--- what a look at the first eight bundles tells
-pub front_told : (b : BundlePlace) (owed : Owed) (block bytes : List ℕ) → b.listed ≡ false → 128 ≤ length bytes → block ≡ take 128 bytes → (o : Option Owed) → IfSome o (AreCleanWords b owed block 32) → IfSome o (IsFrontClean b owed bytes)
-front_told b owed block bytes plain inside same None h = tt
-front_told b owed block bytes plain inside same (Some next) h =
-    record { unlisted = plain; inside = inside; clean = subst (λ (l : List ℕ). AreCleanWords b owed l 32 next) same h }
+-- what a look at a block of a stretch tells, from that many bundles of it on
+pub block_seen : (b : BundlePlace) (owed next : Owed) (code : List ℕ) (m j k : ℕ) → k ≡ m + j → j < 8 → (stretch_place b m).listed ≡ false → 16 * m + 128 ≤ length code
+    → AreCleanWords (stretch_place b m) owed (take 128 (drop (16 * m) code)) (4 * j) (4 * (8 - j)) next
+    → IsFrontClean (stretch_place b k) owed (drop (16 * k) code) (128 - 16 * j) next
+block_seen b owed next code m j k is inside plain whole h =
+    let block = take 128 (drop (16 * m) code) in
+    let place : stretch_place (stretch_place b m) j ≡ stretch_place b k = place_on b m j ∙ ap (stretch_place b) (sym is) in
+    record {
+      bundles = 8 - j;
+      len_is = omega (arith, inside);
+      some = omega (arith, inside);
+      inside = omega (arith, is, inside, whole, length-drop (16 * k) code);
+      clean = words_same (stretch_place b k) owed (drop (16 * j) block) (drop (16 * k) code) (8 - j) [] next same
+          (subst (λ (c : BundlePlace). AreWordStretchFindings c owed (drop (16 * j) block) (8 - j) [] next) place (clean_stretch (stretch_place b m) owed block j plain (8 - j) next h));
+    }
+  where
+    same : (i : ℕ) → i < 8 - j → block_bundle (drop (16 * j) (take 128 (drop (16 * m) code))) i ≡ block_bundle (drop (16 * k) code) i
+    same i less =
+        rest_bundle j i (take 128 (drop (16 * m) code)) ∙ front_bundle 8 (j + i) (drop (16 * m) code) (omega (arith, less)) ∙ rest_bundle m (j + i) code
+        ∙ ap (block_bundle code) (let e : m + (j + i) ≡ k + i = omega (arith, is) in e) ∙ sym (rest_bundle k i code)
+
+-- where the block begins that a stretch of n bundles is looked at by, from bundle k on
+pub record IsStart (n k start len : ℕ) : Type 0 where
+  pub first : ℕ
+  pub before : ℕ
+  pub is : k ≡ first + before
+  pub inside : before < 8
+  pub below : first < n
+  pub start_is : start ≡ 16 * first
+  pub whole : 16 * first + 128 ≤ len
+
+pub start_at : (n k at start len : ℕ) → len ≡ 16 * n → at ≡ 16 * k → k < n → 128 ≤ len → start ≡ min at (len - 128) → IsStart n k start len
+start_at n k at start len whole is less room here = record {
+  first = min k (n - 8);
+  before = k - min k (n - 8);
+  is = omega arith;
+  inside = omega (arith, whole, less, room);
+  below = omega (arith, whole, less, room);
+  start_is = omega (arith, whole, is, room, here);
+  whole = omega (arith, whole, less, room);
+}
+
+-- a bundle of a stretch lies in its region
+pub within_stretch : (b : BundlePlace) (code : List ℕ) (n k : ℕ) → IsStretch b code n → k < n → IsWithin (stretch_place b k)
+within_stretch b code n k run less =
+    let whole = run.whole in
+    let base = run.base in
+    let end = run.end in
+    record {
+      base = omega (arith, base, place_base b k, place_address b k);
+      end = omega (arith, end, whole, less, place_base b k, place_address b k, place_size b k);
+      addresses = omega (arith, run.addresses, place_base b k, place_size b k);
+    }

@@ -41,20 +41,21 @@ first_ahead words at fits some =
           ap (is_in words) (sym e) ∙ sym (in_shr words at (j - at)) ∙ ap (λ n. n == 1) (all.2 (j - at) (omega (arith, from, less)));
     }
 
--- ---- words that aren't looked at
+-- ---- words that aren't looked at, of those from word `from` on
 
-module _ (b : BundlePlace) (block : List ℕ) (owed : Owed) (words : ℕ) (within : IsWithinBlock b) (others : (n : ℕ) → n < 32 → is_in words (2 * n) ≡ false → IsSeen b block words (2 * n)) where
-  -- up to word k, which is looked at or the block's end
-  advance : (fuel n k : ℕ) → n ≤ k → k ≤ n + fuel → k ≤ 32 → ((j : ℕ) → 2 * n ≤ j → j < 2 * k → is_in words j ≡ false) → (k ≡ 32) ⊎ (is_in words (2 * k) ≡ true) → AreCleanWords b owed block n Nothing → AreCleanWords b owed block k Nothing
-  advance zero n k from enough end none last h = subst (λ (m : ℕ). AreCleanWords b owed block m Nothing) (let e : n ≡ k = omega (arith, from, enough) in e) h
-  advance (suc fuel) n k from enough end none last h = elim (cases_lt n k) [
-    | inr more ↦ subst (λ (m : ℕ). AreCleanWords b owed block m Nothing) (let e : n ≡ k = omega (arith, from, more) in e) h
-    | inl less ↦ elim (others n (omega (arith, less, end)) (none (2 * n) (omega arith) (omega (arith, less)))) [
+module _ (b : BundlePlace) (block : List ℕ) (owed : Owed) (words from : ℕ) (within : IsWithinBlock b) (others : (n : ℕ) → n < 32 → is_in words (2 * n) ≡ false → IsSeen b block words (2 * n)) where
+  -- up to the one that is looked at, or the block's end
+  advance : (fuel n k : ℕ) → n ≤ k → k ≤ n + fuel → from + k ≤ 32 → ((j : ℕ) → 2 * (from + n) ≤ j → j < 2 * (from + k) → is_in words j ≡ false) → (from + k ≡ 32) ⊎ (is_in words (2 * (from + k)) ≡ true)
+      → AreCleanWords b owed block from n Nothing → AreCleanWords b owed block from k Nothing
+  advance zero n k less enough end none last h = subst (λ (m : ℕ). AreCleanWords b owed block from m Nothing) (let e : n ≡ k = omega (arith, less, enough) in e) h
+  advance (suc fuel) n k le enough end none last h = elim (cases_lt n k) [
+    | inr more ↦ subst (λ (m : ℕ). AreCleanWords b owed block from m Nothing) (let e : n ≡ k = omega (arith, le, more) in e) h
+    | inl less ↦ elim (others (from + n) (omega (arith, less, end)) (none (2 * (from + n)) (omega arith) (omega (arith, less)))) [
       | inl quiet ↦ advance fuel (suc n) k (omega (arith, less)) (omega (arith, enough)) end (λ j low high. none j (omega (arith, low)) high) last (Nothing, h, quiet)
       | inr both ↦ elim (cases_lt (suc n) k) [
         | inl further ↦ advance fuel (suc (suc n)) k (omega (arith, further)) (omega (arith, enough)) end (λ j low high. none j (omega (arith, low)) high) last
-            (both.0.between, (Nothing, h, both.0.step b within), subst (λ (i : ℕ). IsCleanWord b block i both.0.between Nothing) (let e : 2 * n + 2 ≡ 2 * suc n = omega arith in e) (both.0.used b within))
-        | inr next ↦ absurd (ends n k (let e : k ≡ suc n = omega (arith, next, less) in e) both.0.below both.1 last)
+            (both.0.between, (Nothing, h, both.0.step b within), subst (λ (i : ℕ). IsCleanWord b block i both.0.between Nothing) (let e : 2 * (from + n) + 2 ≡ 2 * (from + suc n) = omega arith in e) (both.0.used b within))
+        | inr next ↦ absurd (ends (from + n) (from + k) (let e : from + k ≡ suc (from + n) = omega (arith, next, less) in e) both.0.below both.1 last)
       ]
     ]
   ]
@@ -64,30 +65,30 @@ module _ (b : BundlePlace) (block : List ℕ) (owed : Owed) (words : ℕ) (withi
       ends n k next below apart (inr there) = no_both (is_in words (2 * n + 2)) (ap (is_in words) (let e : 2 * n + 2 ≡ 2 * k = omega (arith, next) in e) ∙ there) apart
 
   -- as far as where the look goes on
-  pub reached : (left : Owed) (n at i : ℕ) → at ≡ 2 * n → at ≤ i → i ≤ 64 → i % 2 ≡ 0 → ((j : ℕ) → at ≤ j → j < i → is_in words j ≡ false) → (i ≡ at) ⊎ (i < 64 → is_in words i ≡ true) → (i ≡ at) ⊎ (left ≡ Nothing)
-      → AreCleanWords b owed block n left → AreCleanWords b owed block (i / 2) left
-  reached left n at i place from end even none one skipped h = by one skipped
+  pub reached : (left : Owed) (n k at i : ℕ) → at ≡ 2 * (from + n) → i ≡ 2 * (from + k) → at ≤ i → i ≤ 64 → ((j : ℕ) → at ≤ j → j < i → is_in words j ≡ false) → (i ≡ at) ⊎ (i < 64 → is_in words i ≡ true) → (i ≡ at) ⊎ (left ≡ Nothing)
+      → AreCleanWords b owed block from n left → AreCleanWords b owed block from k left
+  reached left n k at i place here ahead end none one skipped h = by one skipped
     where
-      right_there : i ≡ at → AreCleanWords b owed block (i / 2) left
-      right_there same = subst (λ (m : ℕ). AreCleanWords b owed block m left) (let e : n ≡ i / 2 = omega (arith, place, same) in e) h
+      right_there : i ≡ at → AreCleanWords b owed block from k left
+      right_there same = subst (λ (m : ℕ). AreCleanWords b owed block from m left) (let e : n ≡ k = omega (arith, place, here, same) in e) h
 
-      last : (i < 64 → is_in words i ≡ true) → (i / 2 ≡ 32) ⊎ (is_in words (2 * (i / 2)) ≡ true)
+      last : (i < 64 → is_in words i ≡ true) → (from + k ≡ 32) ⊎ (is_in words (2 * (from + k)) ≡ true)
       last there = elim (cases_lt i 64) [
-        | inl less ↦ inr (ap (is_in words) (let e : 2 * (i / 2) ≡ i = omega (arith, even) in e) ∙ there less)
-        | inr more ↦ inl (let all : i ≡ 64 = omega (arith, more, end) in omega (arith, all))
+        | inl less ↦ inr (ap (is_in words) (sym here) ∙ there less)
+        | inr more ↦ inl (omega (arith, more, end, here))
       ]
 
-      by : (i ≡ at) ⊎ (i < 64 → is_in words i ≡ true) → (i ≡ at) ⊎ (left ≡ Nothing) → AreCleanWords b owed block (i / 2) left
+      by : (i ≡ at) ⊎ (i < 64 → is_in words i ≡ true) → (i ≡ at) ⊎ (left ≡ Nothing) → AreCleanWords b owed block from k left
       by (inl same) s = right_there same
       by (inr there) (inl same) = right_there same
       by (inr there) (inr nothing) =
-          subst (λ (o : Owed). AreCleanWords b owed block (i / 2) o) (sym nothing)
-          (advance (i / 2) n (i / 2) (omega (arith, place, from)) (omega arith) (omega (arith, end)) (λ j low high. none j (omega (arith, place, low)) (omega (arith, high, even))) (last there)
-          (subst (λ (o : Owed). AreCleanWords b owed block n o) nothing h))
+          subst (λ (o : Owed). AreCleanWords b owed block from k o) (sym nothing)
+          (advance k n k (omega (arith, place, here, ahead)) (omega arith) (omega (arith, here, end)) (λ j low high. none j (omega (arith, place, low)) (omega (arith, here, high))) (last there)
+          (subst (λ (o : Owed). AreCleanWords b owed block from n o) nothing h))
 
 -- and past the word there
-pub passed : (b : BundlePlace) (block : List ℕ) (owed left next : Owed) (i : ℕ) → i % 2 ≡ 0 → AreCleanWords b owed block (i / 2) left → IsCleanWord b block i left next → AreCleanWords b owed block (suc (i / 2)) next
-passed b block owed left next i even h word = (left, h, subst (λ (j : ℕ). IsCleanWord b block j left next) (let e : i ≡ 2 * (i / 2) = omega (arith, even) in e) word)
+pub passed : (b : BundlePlace) (block : List ℕ) (owed left next : Owed) (from n i : ℕ) → i ≡ 2 * (from + n) → AreCleanWords b owed block from n left → IsCleanWord b block i left next → AreCleanWords b owed block from (suc n) next
+passed b block owed left next from n i here h word = (left, h, subst (λ (j : ℕ). IsCleanWord b block j left next) here word)
 
 -- the place where the look goes on is a word's
 pub even_there : (words n at i : ℕ) → ((j : ℕ) → j < 64 → is_in words j ≡ true → j % 2 ≡ 0) → at ≡ 2 * n → i ≤ 64 → (i ≡ at) ⊎ (i < 64 → is_in words i ≡ true) → i % 2 ≡ 0
@@ -97,8 +98,8 @@ even_there words n at i even place end (inr one) = elim (cases_lt i 64) [
   | inr more ↦ (let all : i ≡ 64 = omega (arith, more, end) in omega (arith, all))
 ]
 
--- where no word is left, and nothing is owed before the block
-pub all_seen : (b : BundlePlace) (block : List ℕ) (owed : Owed) (words : ℕ) → IsWithinBlock b → ((n : ℕ) → n < 32 → is_in words (2 * n) ≡ false → IsSeen b block words (2 * n)) → words ≡ 0 → owed ≡ Nothing
-    → AreCleanWords b owed block 32 Nothing
-all_seen b block owed words within others none nothing =
-    reached b block owed words within others Nothing 0 0 64 refl (omega arith) (omega arith) refl (λ j from less. ap (λ m. is_in m j) none ∙ in_zero j) (inr (λ less. absurd (omega (arith, less)))) (inr refl) (sym nothing)
+-- where no word is left, and nothing is owed before the first
+pub all_seen : (b : BundlePlace) (block : List ℕ) (owed : Owed) (words from : ℕ) → from < 32 → IsWithinBlock b → ((n : ℕ) → n < 32 → is_in words (2 * n) ≡ false → IsSeen b block words (2 * n)) → words ≡ 0 → owed ≡ Nothing
+    → AreCleanWords b owed block from (32 - from) Nothing
+all_seen b block owed words from inside within others none nothing =
+    reached b block owed words from within others Nothing 0 (32 - from) (2 * from) 64 (omega arith) (omega (arith, inside)) (omega (arith, inside)) (omega arith) (λ j low less. ap (λ m. is_in m j) none ∙ in_zero j) (inr (λ less. absurd (omega (arith, less)))) (inr refl) (sym nothing)

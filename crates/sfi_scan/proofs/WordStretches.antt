@@ -1,5 +1,5 @@
 -- Stretches of code in words: the findings of one after another, and those of a stretch in a part.
-use Rattle.sfi_scan.proofs.Prelude.{◌≡◌, ℕ, zero, suc, ◌+◌, ◌-◌, ◌*◌, ◌<◌, Bool, true, false, List, [], ◌++◌, length, take, drop, length-append, take_all, refl, sym, ap, ◌∙◌, subst, arith, append-nil, append_assoc, BundlePlace, Finding, Part, block_bundle, bundle_bytes, place_of, AreFindingsOfFirst}
+use Rattle.sfi_scan.proofs.Prelude.{◌≡◌, ℕ, zero, suc, ◌+◌, ◌-◌, ◌<◌, Bool, true, false, List, [], ◌++◌, length, take, length-append, take_all, refl, sym, ap, ◌∙◌, subst, arith, append-nil, append_assoc, BundlePlace, Finding, Part, block_bundle, bundle_bytes, place_of, AreFindingsOfFirst}
 use Rattle.std.specs.Prelude.{MatchBool}
 use Rattle.sfi_policy.specs.Formats.{has_words}
 use Rattle.sfi_rules.specs.declared.owed.Owed.{Owed}
@@ -7,8 +7,7 @@ use Rattle.sfi_rules.specs.declared.owed.Owed.TheVariants.{Nothing}
 use Rattle.sfi_rules.specs.Findings.{AreFoundUpTo}
 use Rattle.sfi_rules.specs.words.Findings.{AreFoundInBundle, AreFoundOfFirst}
 use Rattle.sfi_scan.specs.Stretches.{stretch_place, AreStretchFindings, AreWordStretchFindings, AreFoundInStretch, IsWordCodeScanned}
-use Rattle.sfi_scan.specs.private.Scanning.{IsWordFrontScanned}
-use Rattle.sfi_scan.proofs.Stretches.{stretch_in_part, tail_is}
+use Rattle.sfi_scan.proofs.Stretches.{stretch_in_part}
 
 -- one bundle more
 pub words_push : (b : BundlePlace) (owed : Owed) (xs : List ℕ) (n : ℕ) (front last : List Finding) (between next : Owed) → AreWordStretchFindings b owed xs n front between
@@ -63,13 +62,6 @@ module _ {F : Type 0} (takes : F → List Finding → F → Type 0) where
     few = omega (arith, one.few, two.few, length-append one.found two.found);
     handed = more s t u one.found two.found one.handed two.handed;
   }
-
--- the front of what is left of a stretch after so many bundles
-pub words_rest : {F : Type 0} {takes : F → List Finding → F → Type 0} {c : BundlePlace} {owed next : Owed} {at len : ℕ} {s t : F} (b : BundlePlace) (code : List ℕ) (k : ℕ) → at ≡ 16 * k → c ≡ stretch_place b k
-    → IsWordFrontScanned takes c owed (take (length code - at) (drop at code)) len next s t → IsWordFrontScanned takes (stretch_place b k) owed (drop (16 * k) code) len next s t
-words_rest {takes = takes} {owed = owed} {next = next} {at = at} {len = len} {s = s} {t = t} b code k is place h =
-    subst (λ (l : List ℕ). IsWordFrontScanned takes (stretch_place b k) owed l len next s t) (tail_is at code ∙ ap (λ (a : ℕ). drop a code) is)
-    (subst (λ (c : BundlePlace). IsWordFrontScanned takes c owed (take (length code - at) (drop at code)) len next s t) place h)
 
 -- ---- in a part
 

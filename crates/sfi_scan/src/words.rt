@@ -1,10 +1,11 @@
 //! The scan of code in words, 16 bytes at a time.
-ghost use Rattle.std.specs.Prelude.{◌≡◌, ◌+◌, ◌*◌, ◌≤◌, ◌<◌, ◌++◌, ℕ, List, Some, IfSome, length};
+ghost use Rattle.std.specs.Prelude.{◌≡◌, ◌+◌, ◌*◌, ◌≤◌, ◌<◌, ◌++◌, ℕ, List, Some, IfSome, drop, length};
+ghost use Rattle.sfi_policy.specs.Limits.{bundle_size};
 ghost use Rattle.sfi_rules.specs.Bundles.{IsWithin};
 ghost use Rattle.sfi_rules.specs.declared.finding.Finding.{Finding};
 ghost use Rattle.sfi_rules.specs.words.Findings.{IsWordFound, AreFoundInBundle, found_at, lowest};
 ghost use Rattle.sfi_rules.specs.words.Owing.{owed_next};
-ghost use Rattle.sfi_scan.specs.Stretches.{IsStretch, IsWordCodeScanned};
+ghost use Rattle.sfi_scan.specs.Stretches.{IsStretch, IsWordCodeScanned, stretch_place};
 ghost use Rattle.sfi_scan.specs.private.Inside.{IsInside};
 ghost use Rattle.sfi_scan.specs.private.Scanning.{IsFrontClean, IsWordFrontScanned};
 
@@ -178,53 +179,65 @@ fn scan_one<F: FindingSink>(
     next
 }
 
-/// What is owed after the eight bundles at a stretch's front, if they are there, the code is scanned in
-/// blocks, and they are seen to break no rule.
+/// How many bytes of a stretch, from byte `at` on, a look at a block sees to break no rule, and what
+/// is owed after them: the next eight bundles; where fewer are left, all of these, in the stretch's
+/// last block.
 #[inline(always)]
 fn look_at_front<const BLOCKS: bool>(
     place: &BundlePlace,
-    rest: &[u8],
+    code: &[u8],
+    at: usize,
     owed: Owed,
     findings: &mut BundleFindings,
-) -> Option<Owed>
-    requires { IsWithin place.now }
-    ensures { IfSome result (IsFrontClean place.now owed rest.now) }
+) -> Option<(usize, Owed)>
+    requires { (n : ℕ) × (k : ℕ) × IsStretch place.now code.now n × (at ≡ bundle_size * k) × (k < n) }
+    ensures { (k : ℕ) → at ≡ bundle_size * k → IfSome result (λ seen.
+        IsFrontClean (stretch_place place.now k) owed (drop (bundle_size * k) code.now) seen.0 seen.1) }
 {
     if !BLOCKS {
         return None;
     }
-    if place.listed {
+    if code.len() < BLOCK_BYTES {
         return None;
     }
-    if !is_before_last(place) {
+    let start = at.min(code.len() - BLOCK_BYTES);
+    let first = place_after(place, start);
+    if first.listed {
         return None;
     }
-    match rest.first_chunk::<BLOCK_BYTES>() {
-        Some(block) => look_at_block(place, block, owed, findings),
-        None => None,
+    if !is_before_last(&first) {
+        return None;
     }
+    let Some(block) = code[start..].first_chunk::<BLOCK_BYTES>() else {
+        unreachable!();
+    };
+    let before = at - start;
+    let next = look_at_block(&first, block, before / 4, owed, findings)?;
+    Some((BLOCK_BYTES - before, next))
 }
 
-/// Scans a block at the stretch's front, if it is seen to break no rule, else the first bundle;
-/// says how many bytes that was, and what is owed after them.
+/// Scans a stretch from byte `at` on: a block, as far as it comes after `at`, if it is seen to break
+/// no rule, else the next bundle. Says how many bytes that was, and what is owed after them.
 #[inline(always)]
 fn scan_front<F: FindingSink, const BLOCKS: bool>(
     place: &BundlePlace,
-    rest: &[u8],
+    code: &[u8],
+    at: usize,
     owed: Owed,
     sink: &mut F,
     findings: &mut BundleFindings,
 ) -> (usize, Owed)
-    requires { (n : ℕ) × IsStretch place.now rest.now n × (1 ≤ n) }
-    ensures { IsWordFrontScanned F.takes place.now owed rest.now result.0 result.1 sink.old sink.new }
+    requires { (n : ℕ) × (k : ℕ) × IsStretch place.now code.now n × (at ≡ bundle_size * k) × (k < n) }
+    ensures { (k : ℕ) → at ≡ bundle_size * k → IsWordFrontScanned F.takes
+        (stretch_place place.now k) owed (drop (bundle_size * k) code.now) result.0 result.1 sink.old sink.new }
 {
-    if let Some(next) = look_at_front::<BLOCKS>(place, rest, owed, findings) {
-        return (BLOCK_BYTES, next);
+    if let Some(seen) = look_at_front::<BLOCKS>(place, code, at, owed, findings) {
+        return seen;
     }
-    let Some(bundle) = rest.first_chunk::<BUNDLE_BYTES>() else {
+    let Some(bundle) = code[at..].first_chunk::<BUNDLE_BYTES>() else {
         unreachable!();
     };
-    let next = scan_one(place, bundle, owed, sink, findings);
+    let next = scan_one(&place_after(place, at), bundle, owed, sink, findings);
     (BUNDLE_BYTES, next)
 }
 
@@ -243,13 +256,7 @@ pub(crate) fn scan_words_as<F: FindingSink, const BLOCKS: bool>(
     let mut left = owed;
     let mut at = 0;
     while at < code.len() {
-        let (size, next) = scan_front::<F, BLOCKS>(
-            &place_after(place, at),
-            &code[at..],
-            left,
-            sink,
-            &mut findings,
-        );
+        let (size, next) = scan_front::<F, BLOCKS>(place, code, at, left, sink, &mut findings);
         at += size;
         left = next;
     }

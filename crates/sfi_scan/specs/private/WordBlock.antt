@@ -45,11 +45,13 @@ abbrev pub IsSeen : BundlePlace → List ℕ → ℕ → ℕ → Type 0
 IsSeen b block left i =
     IsCleanWord b block i Nothing Nothing ⊎ (IsSteppedWord block i × (is_in left (i + 2) ≡ false))
 
--- the first n words of the block break no rule, with `owed` before them and `next` after them
-abbrev pub AreCleanWords : BundlePlace → Owed → List ℕ → ℕ → Owed → Type 0
-AreCleanWords b owed block zero next = next ≡ owed
-AreCleanWords b owed block (suc n) next =
-    (between : Owed) × AreCleanWords b owed block n between × IsCleanWord b block (2 * n) between next
+-- n words of the block, from word `from` on, break no rule, with `owed` before them and `next` after
+-- them
+abbrev pub AreCleanWords : BundlePlace → Owed → List ℕ → ℕ → ℕ → Owed → Type 0
+AreCleanWords b owed block from zero next = next ≡ owed
+AreCleanWords b owed block from (suc n) next =
+    (between : Owed) × AreCleanWords b owed block from n between
+    × IsCleanWord b block (2 * (from + n)) between next
 
 -- the masks tell the word to be a free instruction of 32 bits, or two free ones of 16
 abbrev pub IsToldFree : Masks → ℕ → Type 0

@@ -1,6 +1,6 @@
 //! A first look at eight bundles of code in words at once. Bit i of a mask is for the block's halfword i;
 //! a word goes by its first.
-ghost use Rattle.std.specs.Prelude.{◌≡◌, ℕ, ◌+◌, ◌*◌, ◌%◌, ◌^◌, ◌<◌, ◌≤◌, ◌⊎◌, true, false, IfSome};
+ghost use Rattle.std.specs.Prelude.{◌≡◌, ℕ, ◌+◌, ◌-◌, ◌*◌, ◌%◌, ◌^◌, ◌<◌, ◌≤◌, ◌⊎◌, true, false, IfSome};
 ghost use Rattle.std.specs.Bool.{OnTrue};
 ghost use Rattle.rv_word.specs.Spelling.{IsWordOf};
 ghost use Rattle.rv_word.specs.declared.instr.Instr.{Instr};
@@ -288,12 +288,14 @@ fn next_of(words: u64, at: usize, owed: Owed) -> usize
     }
 }
 
-/// What is owed after the block, if none of these words breaks a rule; no other word does.
+/// What is owed after the block, if none of these words, from word `from` on, breaks a rule; no other
+/// word does.
 #[inline(always)]
 fn after_words(
     place: &BundlePlace,
     block: &[u8; BLOCK_BYTES],
     words: u64,
+    from: usize,
     owed: Owed,
     findings: &mut BundleFindings,
 ) -> Option<Owed>
@@ -301,10 +303,11 @@ fn after_words(
     requires words { (i : ℕ) → i < 64 → is_in words i ≡ true → i % 2 ≡ 0 }
     requires others { (n : ℕ) → n < 32 → is_in words (2 * n) ≡ false →
         IsSeen place.now block.now words (2 * n) }
-    ensures { IfSome result (AreCleanWords place.now owed block.now 32) }
+    requires inside { from < 32 }
+    ensures { IfSome result (AreCleanWords place.now owed block.now from (32 - from)) }
 {
     let mut left = owed;
-    let mut at = 0;
+    let mut at = 2 * from;
     while at < 64 {
         let i = next_of(words, at, left);
         if i == 64 {
@@ -323,17 +326,19 @@ fn is_nothing(owed: Owed) -> bool
     matches!(owed, Owed::Nothing)
 }
 
-/// What is owed after the block, if it is seen to break no rule. None of its bundles is the region's
-/// last, nor a gate's.
+/// What is owed after the block, if its words from word `from` on, before which this is owed, are seen to
+/// break no rule. None of its bundles is the region's last, nor a gate's.
 #[inline(always)]
 pub(crate) fn look_at_block(
     place: &BundlePlace,
     block: &[u8; BLOCK_BYTES],
+    from: usize,
     owed: Owed,
     findings: &mut BundleFindings,
 ) -> Option<Owed>
-    requires { IsWithinBlock place.now }
-    ensures { IfSome result (AreCleanWords place.now owed block.now 32) }
+    requires within { IsWithinBlock place.now }
+    requires inside { from < 32 }
+    ensures { IfSome result (AreCleanWords place.now owed block.now from (32 - from)) }
 {
     let words = unseen(place, block);
     if words == 0 {
@@ -342,5 +347,7 @@ pub(crate) fn look_at_block(
             return Some(Owed::Nothing);
         }
     }
-    after_words(place, block, words, owed, findings)
+    // Of a copy, so that in most blocks the place itself is never put together in memory.
+    let there = *place;
+    after_words(&there, block, words, from, owed, findings)
 }
