@@ -122,30 +122,30 @@ pub(crate) const BLOCK: usize = 64;
 
 /// Each digit's value, found by arithmetic on all side by side; 16 or more for any other byte.
 #[inline(always)]
-fn values_of(bytes: u8x32) -> u8x32
-    ensures size { length result ≡ 32 }
-    ensures each { (k : ℕ) → k < 32 → slice_index result k < 16
+fn values_of(bytes: u8x64) -> u8x64
+    ensures size { length result ≡ 64 }
+    ensures each { (k : ℕ) → k < 64 → slice_index result k < 16
         → hex_digit_value (slice_index bytes k) ≡ Some (slice_index result k) }
 {
-    let figures = bytes - u8x32::splat(b'0');
-    let letters = ((bytes - u8x32::splat(1)) | u8x32::splat(32)) - u8x32::splat(86);
-    bytes
-        .simd_lt(u8x32::splat(b'9' + 1))
-        .select(figures, letters)
+    // The figures are the largest ten of these sums, and then the only ones that come below 16.
+    let sums = bytes + u8x64::splat(255 - b'9');
+    let figures = sums.saturating_sub(u8x64::splat(6)) + u8x64::splat(16);
+    let letters = ((bytes - u8x64::splat(1)) | u8x64::splat(32)) - u8x64::splat(86);
+    figures.simd_min(letters)
 }
 
-/// How many values come before the first that is no digit's.
+/// How many pairs of values come before the first value that is no digit's.
 #[inline(always)]
-fn digits_before(values: u8x32) -> usize
+fn pairs_before(values: u8x64) -> usize
+    requires { length values ≡ 64 }
     ensures most { result ≤ 32 }
-    ensures digits { (k : ℕ) → k < result → slice_index values k < 16 }
+    ensures digits { (k : ℕ) → k < 2 * result → slice_index values k < 16 }
 {
-    let others = values.simd_ge(u8x32::splat(WHITE)).to_bitmask();
-    if others == 0 {
-        BLOCK / 2
-    } else {
-        others.trailing_zeros() as usize
+    if (values & u8x64::splat(240)).reduce_or() == 0 {
+        return BLOCK / 2;
     }
+    let others = values.simd_ge(u8x64::splat(WHITE)).to_bitmask();
+    others.trailing_zeros() as usize / 2
 }
 
 /// The bytes of the pairs of digits that a block begins with: the first `pairs` of `bytes`.
@@ -155,29 +155,18 @@ pub(crate) struct BlockBytes {
     pub(crate) pairs: usize,
 }
 
-/// The first digits of a block's pairs, and the second ones.
-#[inline(always)]
-fn first_and_second(block: &[u8]) -> (u8x32, u8x32)
-    requires { length block.now ≡ 64 }
-    ensures sizes { (length result.0 ≡ 32) × (length result.1 ≡ 32) }
-    ensures first { (k : ℕ) → k < 32 → slice_index result.0 k ≡ slice_index block.now (2 * k) }
-    ensures second { (k : ℕ) → k < 32
-        → slice_index result.1 k ≡ slice_index block.now (2 * k + 1) }
-{
-    let front = u8x32::from_slice(block);
-    let back = u8x32::from_slice(&block[32..]);
-    front.deinterleave(back)
-}
-
 /// The byte of each pair of values that are digits'.
 #[inline(always)]
-fn joined(high: u8x32, low: u8x32) -> [u8; BLOCK / 2]
-    requires { (length high ≡ 32) × (length low ≡ 32) }
+fn joined(values: u8x64) -> [u8; BLOCK / 2]
+    requires { length values ≡ 64 }
     ensures size { length result ≡ 32 }
-    ensures each { (k : ℕ) → k < 32 → slice_index high k < 16 → slice_index low k < 16
-        → slice_index result k ≡ slice_index high k * 16 + slice_index low k }
+    ensures each { (k : ℕ) → k < 32 → slice_index values (2 * k) < 16
+        → slice_index values (2 * k + 1) < 16
+        → slice_index result k ≡ slice_index values (2 * k) * 16 + slice_index values (2 * k + 1) }
 {
-    (high * u8x32::splat(16) + low).to_array()
+    // The product's upper byte is the first value, 16 times, and the second.
+    let products = u16x32::from_le_bytes(values) * u16x32::splat(4097);
+    (products >> 8).cast::<u8>().to_array()
 }
 
 /// What a block begins with.
@@ -189,12 +178,10 @@ pub(crate) fn bytes_of_block(block: &[u8]) -> BlockBytes
     ensures each { (k : ℕ) → k < result.pairs → IsByteOf (slice_index block.now (2 * k))
         (slice_index block.now (2 * k + 1)) (slice_index result.bytes k) }
 {
-    let (first, second) = first_and_second(block);
-    let high = values_of(first);
-    let low = values_of(second);
+    let values = values_of(u8x64::from_slice(block));
     BlockBytes {
-        bytes: joined(high, low),
-        pairs: digits_before(high | low),
+        bytes: joined(values),
+        pairs: pairs_before(values),
     }
 }
 

@@ -1,12 +1,11 @@
-use Rattle.sfi_io.proofs.Prelude.{◌+◌, ◌*◌, ◌%◌, arith}
-use Rattle.sfi_io.proofs.Lanes.{own, splat, zipped}
+use Rattle.sfi_io.proofs.Prelude.{◌∙◌, ◌*◌, ◌%◌}
+use Rattle.std.proofs.Common.{◌/◌, ◌^◌, w8}
+use Rattle.std.proofs.lemmas.Simd.{below_from_Fits}
+use Rattle.sfi_io.proofs.Lanes.{splat, zipped, paired, joins}
 use Rattle.sfi_io.proofs.hexadecimal.joined.Goals as goal
-
-pub returns-clause-size : goal.returns-clause-size
-returns-clause-size c =
-    (zipped (λ a b. (a + b) % 256) _ _ _ _ (zipped (λ a b. (a * b) % 256) _ _ _ _ (own c.args.high c.requires.0) (splat 16)) (own c.args.low c.requires.1)).count
 
 pub returns-clause-each : goal.returns-clause-each
 returns-clause-each c k lt high low =
-    let is = zipped (λ a b. (a + b) % 256) _ _ _ _ (zipped (λ a b. (a * b) % 256) _ _ _ _ (own c.args.high c.requires.0) (splat 16)) (own c.args.low c.requires.1) in
-    omega (arith, is.lanes k lt, high, low)
+    let pairs = paired c.args.values c.requires (below_from_Fits w8 c.args.values c.fits-values.1) in
+    let products = zipped 32 (λ a b. (a * b) % 65536) _ _ _ _ pairs (splat 32 4097) in
+    (zipped 32 (λ a b. a / 2 ^ b) _ _ _ _ products (splat 32 8)).lanes k lt ∙ joins _ _ high low

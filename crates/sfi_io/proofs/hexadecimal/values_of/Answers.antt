@@ -5,21 +5,28 @@ use Rattle.sfi_io.proofs.Classes.{value_is}
 use Rattle.sfi_io.proofs.Lanes.{own, splat, zipped, chosen}
 use Rattle.sfi_io.proofs.hexadecimal.values_of.Goals as goal
 
+abbrev added : ℕ → ℕ → ℕ
+added a b = (a + b) % 256
+
 abbrev wrapped : ℕ → ℕ → ℕ
 wrapped a b = (a + (256 - b)) % 256
 
 pub returns-clause-size : goal.returns-clause-size
 returns-clause-size c =
-    let bytes = own c.args.bytes c.fits-bytes.0 in
-    let figures = zipped wrapped _ _ _ _ bytes (splat 48) in
-    let letters = zipped wrapped _ _ _ _ (zipped bit_or _ _ _ _ (zipped wrapped _ _ _ _ bytes (splat 1)) (splat 32)) (splat 86) in
-    (chosen nat_lt _ _ _ _ _ _ 58 bytes figures letters).count
+    let bytes = own 64 c.args.bytes c.fits-bytes.0 in
+    let sums = zipped 64 added _ _ _ _ bytes (splat 64 198) in
+    let larger = chosen 64 nat_lt _ _ _ _ _ _ _ _ sums (splat 64 6) (splat 64 6) sums in
+    let figures = zipped 64 added _ _ _ _ (zipped 64 wrapped _ _ _ _ larger (splat 64 6)) (splat 64 16) in
+    let letters = zipped 64 wrapped _ _ _ _ (zipped 64 bit_or _ _ _ _ (zipped 64 wrapped _ _ _ _ bytes (splat 64 1)) (splat 64 32)) (splat 64 86) in
+    (chosen 64 nat_lt _ _ _ _ _ _ _ _ figures letters figures letters).count
 
 pub returns-clause-each : goal.returns-clause-each
 returns-clause-each c k lt small =
-    let bytes = own c.args.bytes c.fits-bytes.0 in
-    let figures = zipped wrapped _ _ _ _ bytes (splat 48) in
-    let letters = zipped wrapped _ _ _ _ (zipped bit_or _ _ _ _ (zipped wrapped _ _ _ _ bytes (splat 1)) (splat 32)) (splat 86) in
-    let is = (chosen nat_lt _ _ _ _ _ _ 58 bytes figures letters).lanes k lt in
+    let bytes = own 64 c.args.bytes c.fits-bytes.0 in
+    let sums = zipped 64 added _ _ _ _ bytes (splat 64 198) in
+    let larger = chosen 64 nat_lt _ _ _ _ _ _ _ _ sums (splat 64 6) (splat 64 6) sums in
+    let figures = zipped 64 added _ _ _ _ (zipped 64 wrapped _ _ _ _ larger (splat 64 6)) (splat 64 16) in
+    let letters = zipped 64 wrapped _ _ _ _ (zipped 64 bit_or _ _ _ _ (zipped 64 wrapped _ _ _ _ bytes (splat 64 1)) (splat 64 32)) (splat 64 86) in
+    let is = (chosen 64 nat_lt _ _ _ _ _ _ _ _ figures letters figures letters).lanes k lt in
     let fits = (Each1-get_or (Fits w8) c.args.bytes k 0 (omega (arith, lt, c.fits-bytes.0)) c.fits-bytes.1).fits in
     value_is (slice_index c.args.bytes k) fits (omega (arith, is, small)) ∙ ap Some (sym is)
