@@ -1,5 +1,5 @@
 -- Vectors by their lanes.
-use Rattle.sfi_io.proofs.Prelude.{◌≡◌, ℕ, ◌+◌, ◌*◌, ◌%◌, ◌<◌, ◌≤◌, Bool, true, false, List, [], ◌∷◌, length, refl, sym, ap, ◌∙◌, subst, arith, inl, inr, slice_index, not, nat_tests}
+use Rattle.sfi_io.proofs.Prelude.{◌≡◌, ℕ, ◌+◌, ◌*◌, ◌%◌, ◌<◌, Bool, false, List, [], ◌∷◌, length, refl, sym, ap, ◌∙◌, subst, arith, inl, inr, slice_index, not, nat_tests}
 use Rattle.std.proofs.Common.{◌/◌, ◌^◌, zero, suc, cond, map, get_or, replicate, ap₂, w8, bit_or}
 use Rattle.std.proofs.lemmas.Bool.{cases_lt}
 use Rattle.std.proofs.lemmas.List.{length-map}

@@ -3,11 +3,11 @@
 ghost use Rattle.std.specs.Prelude.{◌≡◌, ◌⊎◌, ◌*◌, ◌+◌, ◌%◌, ◌<◌, ◌≤◌, ℕ, drop, filter, length, slice_index, take, true};
 ghost use Rattle.sfi_io.specs.Hexadecimal.{is_kept};
 ghost use Rattle.sfi_io.specs.Streams.{limit};
-ghost use Rattle.sfi_io.specs.private.{IsBadPair, IsByteOf, IsWrongPlace, SpellsFront};
+ghost use Rattle.sfi_io.specs.private.{IsBadPair, IsWrongPlace, SpellsFront};
 ghost use Rattle.sfi_io.specs.Pieces.{waiting};
 ghost use Rattle.sfi_io.specs.declared.hexadecimal.HexFault.TheVariants.{Odd, Digit};
 
-use crate::hexadecimal::{BLOCK, HexFault, byte_of, bytes_of_block, digit_value, is_white};
+use crate::hexadecimal::{BLOCK, HexFault, byte_of, decode_block, digit_value, is_white};
 
 /// How far a text was decoded: how many of its bytes were read, how many bytes they make, and a
 /// first digit whose second didn't come yet.
@@ -16,22 +16,6 @@ pub(crate) struct Front {
     pub(crate) taken: usize,
     pub(crate) made: usize,
     pub(crate) high: Option<u8>,
-}
-
-/// Writes the bytes of the pairs of digits that a block begins with, and says how many they are.
-/// What is written after them is no part of the text.
-#[inline(always)]
-fn decode_block(block: &[u8], out: &mut [u8]) -> usize
-    requires block { length block.now ≡ 64 }
-    requires room { length out.old ≡ 32 }
-    ensures most { result ≤ 32 }
-    ensures size { length out.new ≡ 32 }
-    ensures each { (k : ℕ) → k < result → IsByteOf (slice_index block.now (2 * k))
-        (slice_index block.now (2 * k + 1)) (slice_index out.new k) }
-{
-    let front = bytes_of_block(block);
-    out.copy_from_slice(&front.bytes);
-    front.pairs
 }
 
 /// How much of a text was decoded, by pairs of digits that stand together: how many of its bytes were
@@ -76,9 +60,12 @@ fn decode_lines(text: &[u8], out: &mut [u8]) -> Blocks
     ensures spells { SpellsFront (filter is_kept text.now)
         (filter is_kept (drop result.taken text.now)) (take result.made out.new) }
 {
+    // A line, with a byte after it, and the room for its bytes are there before these places.
+    let last = text.len().saturating_sub(BLOCK);
+    let full = out.len().saturating_sub(BLOCK / 2 - 1);
     let mut taken: usize = 0;
     let mut made: usize = 0;
-    while text.len() - taken > BLOCK && out.len() - made >= BLOCK / 2 {
+    while taken < last && made < full {
         let line = decode_line(&text[taken..], &mut out[made..]);
         taken += line.taken;
         made += line.made;

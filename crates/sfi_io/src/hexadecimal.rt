@@ -148,13 +148,6 @@ fn pairs_before(values: u8x64) -> usize
     others.trailing_zeros() as usize / 2
 }
 
-/// The bytes of the pairs of digits that a block begins with: the first `pairs` of `bytes`.
-#[derive(Drop)]
-pub(crate) struct BlockBytes {
-    pub(crate) bytes: [u8; BLOCK / 2],
-    pub(crate) pairs: usize,
-}
-
 /// The byte of each pair of values that are digits'.
 #[inline(always)]
 fn joined(values: u8x64) -> [u8; BLOCK / 2]
@@ -169,20 +162,20 @@ fn joined(values: u8x64) -> [u8; BLOCK / 2]
     (products >> 8).cast::<u8>().to_array()
 }
 
-/// What a block begins with.
+/// Writes the bytes of the pairs of digits that a block begins with, and says how many they are.
+/// What is written after them is no part of the text.
 #[inline(always)]
-pub(crate) fn bytes_of_block(block: &[u8]) -> BlockBytes
-    requires { length block.now ≡ 64 }
-    ensures most { result.pairs ≤ 32 }
-    ensures size { length result.bytes ≡ 32 }
-    ensures each { (k : ℕ) → k < result.pairs → IsByteOf (slice_index block.now (2 * k))
-        (slice_index block.now (2 * k + 1)) (slice_index result.bytes k) }
+pub(crate) fn decode_block(block: &[u8], out: &mut [u8]) -> usize
+    requires block { length block.now ≡ 64 }
+    requires room { length out.old ≡ 32 }
+    ensures most { result ≤ 32 }
+    ensures size { length out.new ≡ 32 }
+    ensures each { (k : ℕ) → k < result → IsByteOf (slice_index block.now (2 * k))
+        (slice_index block.now (2 * k + 1)) (slice_index out.new k) }
 {
     let values = values_of(u8x64::from_slice(block));
-    BlockBytes {
-        bytes: joined(values),
-        pairs: pairs_before(values),
-    }
+    out.copy_from_slice(&joined(values));
+    pairs_before(values)
 }
 
 /// The bytes that the text's digits spell.

@@ -8,8 +8,8 @@ use crate::hexadecimal::{HexFault, digits_in};
 use crate::streams::INPUT_LIMIT;
 use std::io::Read;
 
-/// How many bytes of a text are held at a time, at most.
-const PIECE: usize = 16384;
+/// How many bytes of a text are held at a time, at most: 252 lines of 64 digits, each with its end.
+const PIECE: usize = 16380;
 
 /// Why a text that is read gives no more bytes.
 #[derive(Clone, Copy)]
@@ -33,7 +33,7 @@ struct HeldText {
     made: usize,
     // A first digit that waits for its second.
     high: Option<u8>,
-    ghost inside: { (at ≤ end) × (end ≤ 16384) },
+    ghost inside: { (at ≤ end) × (end ≤ 16380) },
     ghost fewer: { (made + (end - at) ≤ read) × (read ≤ limit) },
 }
 
