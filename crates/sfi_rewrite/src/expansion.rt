@@ -1,10 +1,11 @@
 //! What an item of the source becomes in a format.
-ghost use Rattle.std.specs.Prelude.{◌≡◌, ◌++◌, ◌∷◌, ◌≤◌, [], length, map};
+ghost use Rattle.std.specs.Prelude.{◌≡◌, ◌+◌, ◌++◌, ◌∷◌, ◌≤◌, [], length, map};
 ghost use Rattle.sfi_rewrite.specs.Expansion.{jump_slots, IsAlone, IsMasked, IsPlainExpansion, IsExpansion};
 ghost use Rattle.sfi_rewrite.specs.Stack.{stack_pair, put_back, is_on_x2};
 ghost use Rattle.sfi_rewrite.specs.declared.slot.Slot.TheVariants.{Wide};
 
 use crate::slot::Slot;
+use arrayvec::ArrayVec;
 use rv_comp::form_of;
 use rv_source::{Body, Item};
 use rv_word::{ImmOp, Instr, Reg};
@@ -12,46 +13,61 @@ use sfi_pairs::{code_pair, data_pair};
 use sfi_policy::{Format, SCRATCH, STACK_POINTER};
 use std::marker::Model;
 
-/// What stands in the array where an expansion has no slot.
-const BLANK: Slot = Slot::Wide(Instr::Ebreak);
+/// The most slots of an expansion: in words a mask, a load, and the mask of what it loads.
+const SLOTS_MOST: usize = 5;
 
-/// An expansion: at most four slots, in an array. Contracts see the list of them.
+/// An expansion, in order. Contracts see the list of its slots.
 #[derive(Drop)]
 pub(crate) struct Expansion {
-    slots: [Slot; 4],
-    count: usize,
+    slots: ArrayVec<Slot, SLOTS_MOST>,
 }
 
 impl Model for Expansion {
-    ghost use Rattle.std.specs.Prelude.{List, length, take, ◌≤◌, ◌≡◌};
+    ghost use Rattle.std.specs.Prelude.{List};
     ghost use Rattle.sfi_rewrite.specs.declared.slot.Slot.{Slot};
 
     ghost Value = { List Slot };
 
-    ghost view = { λ e. take e.count e.slots };
-
-    ghost invariant = { λ e. (e.count ≤ 4) × (length e.slots ≡ 4) };
+    ghost view = { λ e. e.slots.items };
 }
 
 impl Expansion {
-    fn of_one(slot: Slot) -> Expansion
-        ensures { result ≡ slot ∷ [] }
+    /// No slot.
+    pub(crate) fn new() -> Expansion
+        ensures { result ≡ [] }
     {
         Expansion {
-            slots: [slot; 4],
-            count: 1,
+            slots: ArrayVec::new(),
         }
     }
 
+    /// Adds slots, for which there is room.
+    pub(crate) fn push(&mut self, slots: &[Slot])
+        requires { length self.old + length slots.now ≤ 5 }
+        ensures { self.new ≡ self.old ++ slots.now }
+    {
+        match self.slots.try_extend_from_slice(slots) {
+            Ok(()) => {}
+            Err(_) => unreachable!(),
+        }
+    }
+
+    /// These slots.
+    pub(crate) fn of(slots: &[Slot]) -> Expansion
+        requires { length slots.now ≤ 5 }
+        ensures { result ≡ slots.now }
+    {
+        let mut expansion = Expansion::new();
+        expansion.push(slots);
+        expansion
+    }
+
     /// A pair, and what stands after it.
-    fn of_three(pair: [Instr; 2], last: Slot) -> Expansion
+    fn of_pair(pair: [Instr; 2], last: Slot) -> Expansion
         ensures { result ≡ map Wide pair ++ last ∷ [] }
     {
         let [first, second] = pair;
-        Expansion {
-            slots: [Slot::Wide(first), Slot::Wide(second), last, BLANK],
-            count: 3,
-        }
+        Expansion::of(&[Slot::Wide(first), Slot::Wide(second), last])
     }
 
     /// What writes the stack pointer, and the pair that puts it back.
@@ -60,10 +76,7 @@ impl Expansion {
     {
         let stack_pointer = Reg::numbered(STACK_POINTER);
         let [mask, place] = data_pair(stack_pointer, stack_pointer);
-        Expansion {
-            slots: [first, Slot::Wide(mask), Slot::Wide(place), BLANK],
-            count: 3,
-        }
+        Expansion::of(&[first, Slot::Wide(mask), Slot::Wide(place)])
     }
 
     /// One slot, before that pair if the slot writes the stack pointer.
@@ -73,27 +86,16 @@ impl Expansion {
         if writes_stack {
             Expansion::with_stack_pair(first)
         } else {
-            Expansion::of_one(first)
-        }
-    }
-
-    /// A sum, a pair, and what stands after it.
-    fn of_four(sum: Slot, pair: [Instr; 2], last: Slot) -> Expansion
-        ensures { result ≡ sum ∷ (map Wide pair ++ last ∷ []) }
-    {
-        let [first, second] = pair;
-        Expansion {
-            slots: [sum, Slot::Wide(first), Slot::Wide(second), last],
-            count: 4,
+            Expansion::of(&[first])
         }
     }
 
     /// In order.
     pub(crate) fn slots(&self) -> &[Slot]
         ensures slots { result.now ≡ self.now }
-        ensures few { length self.now ≤ 4 }
+        ensures few { length self.now ≤ 5 }
     {
-        &self.slots[..self.count]
+        &self.slots
     }
 }
 
@@ -108,7 +110,7 @@ fn of_jump(rd: Reg, a: Reg, imm: i32) -> Expansion
         imm: 0,
     });
     if imm == 0 {
-        return Expansion::of_three(code_pair(scratch, a), last);
+        return Expansion::of_pair(code_pair(scratch, a), last);
     }
     let sum = Slot::Wide(Instr::OpImm {
         op: ImmOp::Addi,
@@ -116,20 +118,20 @@ fn of_jump(rd: Reg, a: Reg, imm: i32) -> Expansion
         rs1: a,
         imm,
     });
-    Expansion::of_four(sum, code_pair(scratch, scratch), last)
+    let [mask, place] = code_pair(scratch, scratch);
+    Expansion::of(&[sum, Slot::Wide(mask), Slot::Wide(place), last])
 }
 
-/// The expansion of an instruction that stays as it is,
-/// in a 16-bit form where these are asked for and there is one.
-fn alone(rvc: bool, instr: &Instr) -> Expansion
-    ensures { IsAlone rvc instr.now result }
+/// An instruction that stays as it is, in a 16-bit form where these are asked for and there is one.
+pub(crate) fn alone(rvc: bool, instr: &Instr) -> Slot
+    ensures { IsAlone rvc instr.now (result ∷ []) }
 {
     if rvc {
         if let Some(form) = form_of(*instr) {
-            return Expansion::of_one(Slot::Short(form));
+            return Slot::Short(form);
         }
     }
-    Expansion::of_one(Slot::Wide(*instr))
+    Slot::Wide(*instr)
 }
 
 /// The expansion of an instruction that has nothing to do with a stack pointer.
@@ -145,7 +147,7 @@ fn of_masked(rvc: bool, instr: &Instr) -> Expansion
                 rs1: scratch,
                 imm,
             };
-            Expansion::of_three(data_pair(scratch, rs1), Slot::Wide(access))
+            Expansion::of_pair(data_pair(scratch, rs1), Slot::Wide(access))
         }
         Instr::Store {
             width,
@@ -159,7 +161,7 @@ fn of_masked(rvc: bool, instr: &Instr) -> Expansion
                 rs2,
                 imm,
             };
-            Expansion::of_three(data_pair(scratch, rs1), Slot::Wide(access))
+            Expansion::of_pair(data_pair(scratch, rs1), Slot::Wide(access))
         }
         Instr::Jalr { rd, rs1, imm } => of_jump(rd, rs1, imm),
         Instr::Op { .. }
@@ -170,7 +172,7 @@ fn of_masked(rvc: bool, instr: &Instr) -> Expansion
         | Instr::Auipc { .. }
         | Instr::Fence { .. }
         | Instr::Ecall
-        | Instr::Ebreak => alone(rvc, instr),
+        | Instr::Ebreak => Expansion::of(&[alone(rvc, instr)]),
     }
 }
 
@@ -191,7 +193,7 @@ fn of_plain(format: Format, rvc: bool, instr: &Instr) -> Expansion
     if format.has_stack() && instr.writes_register(STACK_POINTER) {
         Expansion::with_stack_pair(Slot::Wide(*instr))
     } else if format.has_stack() && is_on_x2(instr) {
-        alone(rvc, instr)
+        Expansion::of(&[alone(rvc, instr)])
     } else {
         of_masked(rvc, instr)
     }
@@ -204,7 +206,7 @@ pub(crate) fn expand(format: Format, item: &Item) -> Expansion
     let line = item.line;
     match item.body {
         Body::Plain(ref instr) => of_plain(format, item.rvc, instr),
-        Body::To(instr, name) => Expansion::of_one(Slot::Jump { instr, name, line }),
+        Body::To(instr, name) => Expansion::of(&[Slot::Jump { instr, name, line }]),
         Body::High(rd, name) => {
             Expansion::put_back(Slot::Upper { rd, name, line }, format.is_stack(rd.number()))
         }

@@ -1,98 +1,46 @@
 //! What an item of the source becomes in code in words.
 ghost use Rattle.std.specs.Prelude.{◌≡◌, ◌∷◌, ◌++◌, ◌+◌, ◌≤◌, [], Some, length};
-ghost use Rattle.sfi_rewrite.specs.Expansion.{IsAlone};
 ghost use Rattle.sfi_rewrite.specs.words.Expansion.{base_of, data_mask, makes_base, before, mask_after, IsConfined, IsPlainExpansion, IsExpansion, is_step_to, is_step, is_small, is_use, is_zero, is_move, moved, IsAround};
 ghost use Rattle.rv_word.specs.Writes.{destination};
 
+use crate::expansion::{Expansion, alone};
 use crate::slot::Slot;
-use arrayvec::ArrayVec;
-use rv_comp::form_of;
 use rv_source::{Body, Item};
 use rv_word::{ImmOp, Instr, Reg, RegOp};
 use sfi_pairs::{code_pair, is_data_register};
 use sfi_policy::{CODE_REGISTER, DATA_BASE_REGISTER, DATA_MASK_REGISTER, OFFSET_REGISTER, SLACK};
-use std::marker::Model;
 
 /// The data register in which the expansions make addresses, x29.
 pub(crate) const ADDRESS_REGISTER: u8 = 29;
 
-/// The most slots of an expansion: a mask, a load, and the mask of what it loads.
-const SLOTS_MOST: usize = 5;
-
-/// An expansion, in order. Contracts see the list of its slots.
-#[derive(Drop)]
-pub(crate) struct WordExpansion {
-    slots: ArrayVec<Slot, SLOTS_MOST>,
+/// Adds the mask by which `target` becomes the address of the data region with the offset of `a`.
+fn push_mask(slots: &mut Expansion, target: Reg, a: Reg)
+    requires { length slots.old + 2 ≤ 5 }
+    ensures { slots.new ≡ slots.old ++ data_mask target a }
+{
+    let offset = Reg::numbered(OFFSET_REGISTER);
+    let mask = Instr::Op {
+        op: RegOp::And,
+        rd: offset,
+        rs1: a,
+        rs2: Reg::numbered(DATA_MASK_REGISTER),
+    };
+    let place = Instr::Op {
+        op: RegOp::Or,
+        rd: target,
+        rs1: offset,
+        rs2: Reg::numbered(DATA_BASE_REGISTER),
+    };
+    slots.push(&[Slot::Wide(mask), Slot::Wide(place)]);
 }
 
-impl Model for WordExpansion {
-    ghost use Rattle.std.specs.Prelude.{List};
-    ghost use Rattle.sfi_rewrite.specs.declared.slot.Slot.{Slot};
-
-    ghost Value = { List Slot };
-
-    ghost view = { λ e. e.slots.items };
-}
-
-impl WordExpansion {
-    /// No slot.
-    fn new() -> WordExpansion
-        ensures { result ≡ [] }
-    {
-        WordExpansion {
-            slots: ArrayVec::new(),
-        }
-    }
-
-    /// Adds slots, for which there is room.
-    fn push(&mut self, slots: &[Slot])
-        requires { length self.old + length slots.now ≤ 5 }
-        ensures { self.new ≡ self.old ++ slots.now }
-    {
-        match self.slots.try_extend_from_slice(slots) {
-            Ok(()) => {}
-            Err(_) => unreachable!(),
-        }
-    }
-
-    /// Adds the mask by which `target` becomes the address of the data region with the offset of
-    /// `a`.
-    fn push_mask(&mut self, target: Reg, a: Reg)
-        requires { length self.old + 2 ≤ 5 }
-        ensures { self.new ≡ self.old ++ data_mask target a }
-    {
-        let offset = Reg::numbered(OFFSET_REGISTER);
-        let mask = Instr::Op {
-            op: RegOp::And,
-            rd: offset,
-            rs1: a,
-            rs2: Reg::numbered(DATA_MASK_REGISTER),
-        };
-        let place = Instr::Op {
-            op: RegOp::Or,
-            rd: target,
-            rs1: offset,
-            rs2: Reg::numbered(DATA_BASE_REGISTER),
-        };
-        self.push(&[Slot::Wide(mask), Slot::Wide(place)]);
-    }
-
-    /// Adds the mask of a data register after what writes it; nothing for another register.
-    fn push_mask_after(&mut self, written: Reg)
-        requires { length self.old + 2 ≤ 5 }
-        ensures { self.new ≡ self.old ++ mask_after (Some written) }
-    {
-        if is_data_register(written) {
-            self.push_mask(written, written);
-        }
-    }
-
-    /// In order.
-    pub(crate) fn slots(&self) -> &[Slot]
-        ensures slots { result.now ≡ self.now }
-        ensures few { length self.now ≤ 5 }
-    {
-        &self.slots
+/// Adds the mask of a data register after what writes it; nothing for another register.
+fn push_mask_after(slots: &mut Expansion, written: Reg)
+    requires { length slots.old + 2 ≤ 5 }
+    ensures { slots.new ≡ slots.old ++ mask_after (Some written) }
+{
+    if is_data_register(written) {
+        push_mask(slots, written, written);
     }
 }
 
@@ -110,17 +58,17 @@ fn base_of(a: Reg) -> Reg
 }
 
 /// Adds what makes that register the address that `a` masks to.
-fn push_base(slots: &mut WordExpansion, a: Reg)
+fn push_base(slots: &mut Expansion, a: Reg)
     requires { slots.old ≡ [] }
     ensures { slots.new ≡ makes_base a }
 {
     if !is_data_register(a) && a.number() != 0 {
-        slots.push_mask(Reg::numbered(ADDRESS_REGISTER), a);
+        push_mask(slots, Reg::numbered(ADDRESS_REGISTER), a);
     }
 }
 
 /// Adds what stands before the instruction.
-fn push_before(slots: &mut WordExpansion, instr: &Instr)
+fn push_before(slots: &mut Expansion, instr: &Instr)
     requires { slots.old ≡ [] }
     ensures { slots.new ≡ before instr.now }
 {
@@ -132,18 +80,6 @@ fn push_before(slots: &mut WordExpansion, instr: &Instr)
         }
         _ => {}
     }
-}
-
-/// An instruction that stays as it is, in a 16-bit form where these are asked for and there is one.
-fn alone(rvc: bool, instr: &Instr) -> Slot
-    ensures { IsAlone rvc instr.now (result ∷ []) }
-{
-    if rvc {
-        if let Some(form) = form_of(*instr) {
-            return Slot::Short(form);
-        }
-    }
-    Slot::Wide(*instr)
 }
 
 /// The instruction on the register that it goes by.
@@ -223,36 +159,36 @@ fn is_move(instr: &Instr) -> bool
 }
 
 /// The mask in the place of such a move.
-fn moved(instr: &Instr) -> WordExpansion
+fn moved(instr: &Instr) -> Expansion
     ensures { result ≡ moved instr.now }
 {
-    let mut slots = WordExpansion::new();
+    let mut slots = Expansion::new();
     match *instr {
-        Instr::OpImm { rd, rs1, .. } => slots.push_mask(rd, rs1),
-        Instr::Op { rd, rs2, .. } => slots.push_mask(rd, rs2),
+        Instr::OpImm { rd, rs1, .. } => push_mask(&mut slots, rd, rs1),
+        Instr::Op { rd, rs2, .. } => push_mask(&mut slots, rd, rs2),
         _ => {}
     }
     slots
 }
 
 /// The instruction as it is confined, between what stands before it and after it.
-fn around(rvc: bool, step: bool, instr: &Instr) -> WordExpansion
+fn around(rvc: bool, step: bool, instr: &Instr) -> Expansion
     ensures { IsAround rvc step instr.now result }
 {
-    let mut slots = WordExpansion::new();
+    let mut slots = Expansion::new();
     push_before(&mut slots, instr);
     slots.push(&[confined(rvc, instr)]);
     if step {
         return slots;
     }
     if let Some(written) = destination(instr) {
-        slots.push_mask_after(written);
+        push_mask_after(&mut slots, written);
     }
     slots
 }
 
 /// The expansion of an instruction that names no label.
-fn of_plain(rvc: bool, step: bool, instr: &Instr) -> WordExpansion
+fn of_plain(rvc: bool, step: bool, instr: &Instr) -> Expansion
     ensures { IsPlainExpansion rvc step instr.now result }
 {
     if is_move(instr) && !step {
@@ -262,12 +198,11 @@ fn of_plain(rvc: bool, step: bool, instr: &Instr) -> WordExpansion
 }
 
 /// A half of an address, and the mask of the register that it is in.
-fn of_half(half: Slot, rd: Reg) -> WordExpansion
+fn of_half(half: Slot, rd: Reg) -> Expansion
     ensures { result ≡ half ∷ mask_after (Some rd) }
 {
-    let mut slots = WordExpansion::new();
-    slots.push(&[half]);
-    slots.push_mask_after(rd);
+    let mut slots = Expansion::of(&[half]);
+    push_mask_after(&mut slots, rd);
     slots
 }
 
@@ -321,17 +256,13 @@ fn is_step(item: &Item, later: &[Item]) -> bool
 }
 
 /// The expansion of an item, before those after it.
-pub(crate) fn expand(item: &Item, later: &[Item]) -> WordExpansion
+pub(crate) fn expand(item: &Item, later: &[Item]) -> Expansion
     ensures { IsExpansion item.now later.now result }
 {
     let line = item.line;
     match item.body {
         Body::Plain(ref instr) => of_plain(item.rvc, is_step(item, later), instr),
-        Body::To(instr, name) => {
-            let mut slots = WordExpansion::new();
-            slots.push(&[Slot::Jump { instr, name, line }]);
-            slots
-        }
+        Body::To(instr, name) => Expansion::of(&[Slot::Jump { instr, name, line }]),
         Body::High(rd, name) => of_half(Slot::Upper { rd, name, line }, rd),
         Body::Low(rd, name) => of_half(Slot::Lower { rd, name, line }, rd),
     }
