@@ -21,7 +21,7 @@ fn is_above_all(gates: &[Gate], address: u32) -> bool
     }
 }
 
-// The gate may come next after these.
+// The gate may come next after these gates.
 pub(crate) fn is_next_gate(fields: &Fields, gates: &[Gate], gate: Gate) -> bool
     requires { AreGates (code_span fields.now) gates.now }
     ensures next { IsTrue result ↔ AreGates (code_span fields.now) (gates.now ++ gate ∷ []) }

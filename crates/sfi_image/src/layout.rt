@@ -31,7 +31,8 @@ fn capped(len: usize) -> u32
     }
 }
 
-// The number; a contract that sees it by a reference doesn't know that it has 32 bits.
+// The number, of which the contract says that it has 32 bits: where it is seen by a reference, nothing
+// says so.
 fn word(number: u32) -> u32
     ensures value { result ≡ number }
     ensures word { IsWord result }

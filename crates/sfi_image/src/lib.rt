@@ -3,7 +3,7 @@
 //! An image is the four bytes of its format, `SFI1`, `SFI2` or `SFIW`, a count from 1 to 16, and for
 //! each sandbox seven numbers, its gates, its code and its first data bytes. Each number has 32 bits,
 //! little-endian. Code and data lie in power-of-two regions with guard zones round the data, so
-//! that one mask and one or confine an address (Wahbe, Lucco, Anderson and Graham, "Efficient
+//! that one `and` and one `or` confine an address (Wahbe, Lucco, Anderson and Graham, "Efficient
 //! Software-Based Fault Isolation", 1993), and gates lie at the starts of 16-byte bundles (Yee and
 //! others, "Native Client", 2009).
 //!

@@ -3,7 +3,7 @@
 /// A gate: the only place where control may leave a sandbox.
 #[derive(Clone, Copy, PartialEq, Eq)]
 pub struct Gate {
-    /// The bundle in which its stub lies.
+    /// The first address of the bundle in which its stub lies.
     pub address: u32,
     /// What the host is asked for, at most `SERVICE_MOST` of `sfi_policy` in an image.
     pub service: u32,

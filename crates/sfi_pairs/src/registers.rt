@@ -19,7 +19,8 @@ pub fn is_reserved(register: Reg) -> bool
         || number == DATA_MASK_REGISTER
 }
 
-/// Whether a source may not name the register: it is reserved, or the one of the expansions.
+/// Whether a source of code in bundles may not name the register: it is reserved, or that of its
+/// expansions.
 pub fn is_withheld(register: Reg) -> bool
     ensures { result ≡ is_withheld register }
 {
