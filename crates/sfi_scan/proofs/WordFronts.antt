@@ -1,5 +1,5 @@
 -- The clean words of a block as the bundles of a stretch without findings.
-use Rattle.sfi_scan.proofs.Prelude.{◌≡◌, ℕ, zero, suc, ◌+◌, ◌-◌, ◌*◌, ◌/◌, ◌<◌, ◌≤◌, List, [], length, take, drop, length-drop, min, false, refl, sym, ap, ◌∙◌, subst, arith, take-take, drop-drop, drop-take, BundlePlace, bundle_at, block_bundle, IsWithin}
+use Rattle.sfi_scan.proofs.Prelude.{◌≡◌, ℕ, zero, suc, ◌+◌, ◌-◌, ◌*◌, ◌/◌, ◌<◌, ◌≤◌, List, [], length, take, drop, min, false, refl, sym, ap, ◌∙◌, subst, arith, take-take, drop-drop, drop-take, BundlePlace, bundle_at, block_bundle, IsWithin}
 use Rattle.sfi_rules.specs.declared.owed.Owed.{Owed}
 use Rattle.sfi_rules.specs.words.Findings.{AreFoundInBundle, IsWordFound}
 use Rattle.sfi_scan.specs.Stretches.{IsStretch, AreWordStretchFindings, stretch_place}
@@ -58,17 +58,17 @@ clean_stretch b owed block from plain (suc k) next h =
     )
 
 -- what a look at a block of a stretch tells, from that many bundles of it on
-pub block_seen : (b : BundlePlace) (owed next : Owed) (code : List ℕ) (m j k : ℕ) → k ≡ m + j → j < 8 → (stretch_place b m).listed ≡ false → 16 * m + 128 ≤ length code
+pub block_seen : (b : BundlePlace) (owed next : Owed) (code : List ℕ) (m j k end : ℕ) → k ≡ m + j → j < 8 → end ≡ 16 * m + 128 → (stretch_place b m).listed ≡ false → 16 * m + 128 ≤ length code
     → AreCleanWords (stretch_place b m) owed (take 128 (drop (16 * m) code)) (4 * j) (4 * (8 - j)) next
-    → IsFrontClean (stretch_place b k) owed (drop (16 * k) code) (128 - 16 * j) next
-block_seen b owed next code m j k is inside plain whole h =
+    → IsFrontClean b owed code k end next
+block_seen b owed next code m j k end is inside last plain whole h =
     let block = take 128 (drop (16 * m) code) in
     let place : stretch_place (stretch_place b m) j ≡ stretch_place b k = place_on b m j ∙ ap (stretch_place b) (sym is) in
     record {
       bundles = 8 - j;
-      len_is = omega (arith, inside);
+      end_is = omega (arith, is, inside, last);
       some = omega (arith, inside);
-      inside = omega (arith, is, inside, whole, length-drop (16 * k) code);
+      inside = omega (arith, last, whole);
       clean = words_same (stretch_place b k) owed (drop (16 * j) block) (drop (16 * k) code) (8 - j) [] next same
           (subst (λ (c : BundlePlace). AreWordStretchFindings c owed (drop (16 * j) block) (8 - j) [] next) place (clean_stretch (stretch_place b m) owed block j plain (8 - j) next h));
     }

@@ -100,8 +100,8 @@ two_words words i fits h =
 
 -- ---- what is seen of the words that aren't left
 
-module _ (b : BundlePlace) (block : List ℕ) (m : Masks) (words pairs others steps rest plain left : ℕ) (within : IsWithinBlock b) (long : length block ≡ 128) (are : AreMasksInWords block m)
-    (free : (n : ℕ) → n < 32 → is_in words (2 * n) ≡ false → IsToldFree m (2 * n))
+module _ (b : BundlePlace) (block : List ℕ) (words pairs others steps rest plain left : ℕ) (within : IsWithinBlock b) (long : length block ≡ 128)
+    (quiet : (n : ℕ) → n < 32 → is_in words (2 * n) ≡ false → IsQuietWord block (2 * n))
     (first : IsWithout words (bit_or pairs (shl pairs 2)) others) (second : IsWithout others steps rest) (third : IsWithout rest plain left)
     (of_pairs : (i : ℕ) → is_in pairs i ≡ true → IsPairAt block i)
     (stepped : (i : ℕ) → is_in steps i ≡ true → IsSteppedWord block i) (apart : (i : ℕ) → is_in steps i ≡ true → is_in others (i + 2) ≡ false)
@@ -111,7 +111,7 @@ module _ (b : BundlePlace) (block : List ℕ) (m : Masks) (words pairs others st
 
   first_seen : (i : ℕ) → is_in pairs i ≡ true → IsSeen b block left i
   first_seen i h = elim (first_of_pair block i long (of_pairs i h)) [
-    | inl quiet ↦ inl (quiet b within)
+    | inl alone ↦ inl (alone b within)
     | inr both ↦ inr (both, gone (i + 2) both.below (taken_out words _ others (i + 2) first both.below (in_or pairs (shl pairs 2) (i + 2) ∙ or_second (is_in pairs (i + 2)) (is_in (shl pairs 2) (i + 2)) (shifted both.below))))
   ]
     where
@@ -134,7 +134,7 @@ module _ (b : BundlePlace) (block : List ℕ) (m : Masks) (words pairs others st
       low = omega (arith, lt)
 
       by : (w p s t q : Bool) → is_in words (2 * n) ≡ w → is_in pairs (2 * n) ≡ p → is_in (shl pairs 2) (2 * n) ≡ s → is_in steps (2 * n) ≡ t → is_in plain (2 * n) ≡ q → IsSeen b block left (2 * n)
-      by false p s t q e f g h k = inl (told_quiet block m n long are lt (free n lt e) b within)
+      by false p s t q e f g h k = inl (quiet n lt e b within)
       by true true s t q e f g h k = first_seen (2 * n) f
       by true false true t q e f g h k = second_seen (2 * n) low g
       by true false false true q e f g h k =

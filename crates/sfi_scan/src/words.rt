@@ -1,11 +1,11 @@
 //! The scan of code in words, 16 bytes at a time.
-ghost use Rattle.std.specs.Prelude.{◌≡◌, ◌+◌, ◌*◌, ◌≤◌, ◌<◌, ◌++◌, ℕ, List, Some, IfSome, drop, length};
+ghost use Rattle.std.specs.Prelude.{◌≡◌, ◌+◌, ◌*◌, ◌≤◌, ◌<◌, ◌++◌, ℕ, List, Some, IfSome, length};
 ghost use Rattle.sfi_policy.specs.Limits.{bundle_size};
 ghost use Rattle.sfi_rules.specs.Bundles.{IsWithin};
 ghost use Rattle.sfi_rules.specs.declared.finding.Finding.{Finding};
 ghost use Rattle.sfi_rules.specs.words.Findings.{IsWordFound, AreFoundInBundle, found_at, lowest};
 ghost use Rattle.sfi_rules.specs.words.Owing.{owed_next};
-ghost use Rattle.sfi_scan.specs.Stretches.{IsStretch, IsWordCodeScanned, stretch_place};
+ghost use Rattle.sfi_scan.specs.Stretches.{IsStretch, IsWordCodeScanned};
 ghost use Rattle.sfi_scan.specs.private.Inside.{IsInside};
 ghost use Rattle.sfi_scan.specs.private.Scanning.{IsFrontClean, IsWordFrontScanned};
 
@@ -179,9 +179,9 @@ fn scan_one<F: FindingSink>(
     next
 }
 
-/// How many bytes of a stretch, from byte `at` on, a look at a block sees to break no rule, and what
-/// is owed after them: the next eight bundles; where fewer are left, all of these, in the stretch's
-/// last block.
+/// Up to where a look at a block sees a stretch, from byte `at` on, to break no rule, and what is
+/// owed there: over the next eight bundles; where fewer are left, over all of these, in the
+/// stretch's last block.
 #[inline(always)]
 fn look_at_front<const BLOCKS: bool>(
     place: &BundlePlace,
@@ -192,7 +192,7 @@ fn look_at_front<const BLOCKS: bool>(
 ) -> Option<(usize, Owed)>
     requires { (n : ℕ) × (k : ℕ) × IsStretch place.now code.now n × (at ≡ bundle_size * k) × (k < n) }
     ensures { (k : ℕ) → at ≡ bundle_size * k → IfSome result (λ seen.
-        IsFrontClean (stretch_place place.now k) owed (drop (bundle_size * k) code.now) seen.0 seen.1) }
+        IsFrontClean place.now owed code.now k seen.0 seen.1) }
 {
     if !BLOCKS {
         return None;
@@ -208,16 +208,16 @@ fn look_at_front<const BLOCKS: bool>(
     if !is_before_last(&first) {
         return None;
     }
-    let Some(block) = code[start..].first_chunk::<BLOCK_BYTES>() else {
+    let end = start + BLOCK_BYTES;
+    let Some(block) = code[start..end].first_chunk::<BLOCK_BYTES>() else {
         unreachable!();
     };
-    let before = at - start;
-    let next = look_at_block(&first, block, before / 4, owed, findings)?;
-    Some((BLOCK_BYTES - before, next))
+    let next = look_at_block(&first, block, (at - start) / 4, owed, findings)?;
+    Some((end, next))
 }
 
 /// Scans a stretch from byte `at` on: a block, as far as it comes after `at`, if it is seen to break
-/// no rule, else the next bundle. Says how many bytes that was, and what is owed after them.
+/// no rule, else the next bundle. Says up to where, and what is owed there.
 #[inline(always)]
 fn scan_front<F: FindingSink, const BLOCKS: bool>(
     place: &BundlePlace,
@@ -228,8 +228,8 @@ fn scan_front<F: FindingSink, const BLOCKS: bool>(
     findings: &mut BundleFindings,
 ) -> (usize, Owed)
     requires { (n : ℕ) × (k : ℕ) × IsStretch place.now code.now n × (at ≡ bundle_size * k) × (k < n) }
-    ensures { (k : ℕ) → at ≡ bundle_size * k → IsWordFrontScanned F.takes
-        (stretch_place place.now k) owed (drop (bundle_size * k) code.now) result.0 result.1 sink.old sink.new }
+    ensures { (k : ℕ) → at ≡ bundle_size * k
+        → IsWordFrontScanned F.takes place.now owed code.now k result.0 result.1 sink.old sink.new }
 {
     if let Some(seen) = look_at_front::<BLOCKS>(place, code, at, owed, findings) {
         return seen;
@@ -238,7 +238,7 @@ fn scan_front<F: FindingSink, const BLOCKS: bool>(
         unreachable!();
     };
     let next = scan_one(&place_after(place, at), bundle, owed, sink, findings);
-    (BUNDLE_BYTES, next)
+    (at + BUNDLE_BYTES, next)
 }
 
 /// Scans a stretch of code in words, in blocks or bundle by bundle.
@@ -256,8 +256,8 @@ pub(crate) fn scan_words_as<F: FindingSink, const BLOCKS: bool>(
     let mut left = owed;
     let mut at = 0;
     while at < code.len() {
-        let (size, next) = scan_front::<F, BLOCKS>(place, code, at, left, sink, &mut findings);
-        at += size;
+        let (end, next) = scan_front::<F, BLOCKS>(place, code, at, left, sink, &mut findings);
+        at = end;
         left = next;
     }
     left

@@ -7,7 +7,7 @@ ghost use Rattle.rv_word.specs.declared.instr.Instr.{Instr};
 ghost use Rattle.sfi_masks.specs.Masks.{is_in, IsFreeWordBy, may_write_in_words, may_be_on_in_words, word_at as block_word};
 ghost use Rattle.sfi_rules.specs.Bundles.{IsWithinBlock};
 ghost use Rattle.sfi_rules.specs.declared.owed.Owed.TheVariants.{Nothing};
-ghost use Rattle.sfi_scan.specs.private.WordBlock.{IsToldFree, IsSteppedWord, IsSeen, IsCleanWord, AreCleanWords, IsMasking, IsPlacing, IsPair, IsPairAt, IsStepOf, IsOffset, IsUseOf, IsUsedStep};
+ghost use Rattle.sfi_scan.specs.private.WordBlock.{IsToldFree, IsQuietWord, IsSteppedWord, IsSeen, IsCleanWord, AreCleanWords, IsMasking, IsPlacing, IsPair, IsPairAt, IsStepOf, IsOffset, IsUseOf, IsUsedStep};
 
 use crate::block::{EVEN, bundle_at, without};
 use crate::clean::word_at;
@@ -211,22 +211,22 @@ fn plain_words(place: &BundlePlace, block: &[u8; BLOCK_BYTES], words: u64) -> u6
     plain
 }
 
-/// The words that aren't seen to be clean, by themselves or with the next one.
+/// Those of the words that aren't seen to be clean, by themselves or with the next one; `free` has
+/// free instructions of 32 bits.
 #[inline(always)]
-fn unseen(place: &BundlePlace, block: &[u8; BLOCK_BYTES]) -> u64
-    requires { IsWithinBlock place.now }
+fn unseen(place: &BundlePlace, block: &[u8; BLOCK_BYTES], words: u64, free: u64) -> u64
+    requires within { IsWithinBlock place.now }
+    requires words { (i : ℕ) → i < 64 → is_in words i ≡ true → i % 2 ≡ 0 }
+    requires quiet { (n : ℕ) → n < 32 → is_in words (2 * n) ≡ false → IsQuietWord block.now (2 * n) }
+    requires free { (i : ℕ) → i < 64 → i % 2 ≡ 0 → is_in free i ≡ true →
+        IsFreeWordBy may_write_in_words may_be_on_in_words (block_word block.now i) }
     ensures words { (i : ℕ) → i < 64 → is_in result i ≡ true → i % 2 ≡ 0 }
     ensures others { (n : ℕ) → n < 32 → is_in result (2 * n) ≡ false →
         IsSeen place.now block.now result (2 * n) }
 {
-    let masks = word_masks_of(block);
-    let words = not_free(masks);
-    if words == 0 {
-        return 0;
-    }
     let pairs = pairs_in(block, words);
     let others = without(words, pairs | pairs << 2);
-    let rest = without(others, used_steps(block, masks.free & masks.long, others));
+    let rest = without(others, used_steps(block, free, others));
     without(rest, plain_words(place, block, rest))
 }
 
@@ -319,6 +319,30 @@ fn after_words(
     Some(left)
 }
 
+/// The same of a block in which all but these words break no rule and leave nothing owed; `free` tells free
+/// instructions of 32 bits. It is no part of its callers, whose loop over blocks stays short so.
+#[inline(never)]
+fn look_closer(
+    place: &BundlePlace,
+    block: &[u8; BLOCK_BYTES],
+    words: u64,
+    free: u64,
+    from: usize,
+    owed: Owed,
+    findings: &mut BundleFindings,
+) -> Option<Owed>
+    requires within { IsWithinBlock place.now }
+    requires words { (i : ℕ) → i < 64 → is_in words i ≡ true → i % 2 ≡ 0 }
+    requires quiet { (n : ℕ) → n < 32 → is_in words (2 * n) ≡ false → IsQuietWord block.now (2 * n) }
+    requires free { (i : ℕ) → i < 64 → i % 2 ≡ 0 → is_in free i ≡ true →
+        IsFreeWordBy may_write_in_words may_be_on_in_words (block_word block.now i) }
+    requires inside { from < 32 }
+    ensures { IfSome result (AreCleanWords place.now owed block.now from (32 - from)) }
+{
+    let left = unseen(place, block, words, free);
+    after_words(place, block, left, from, owed, findings)
+}
+
 #[inline(always)]
 fn is_nothing(owed: Owed) -> bool
     ensures { OnTrue result (owed ≡ Nothing) }
@@ -340,14 +364,15 @@ pub(crate) fn look_at_block(
     requires inside { from < 32 }
     ensures { IfSome result (AreCleanWords place.now owed block.now from (32 - from)) }
 {
-    let words = unseen(place, block);
+    let masks = word_masks_of(block);
+    let words = not_free(masks);
     if words == 0 {
-        // Of most blocks nothing is left.
         if is_nothing(owed) {
             return Some(Owed::Nothing);
         }
     }
-    // Of a copy, so that in most blocks the place itself is never put together in memory.
+    // Of a copy, so that the place isn't put together in memory where it isn't needed.
     let there = *place;
-    after_words(&there, block, words, from, owed, findings)
+    let free = masks.free & masks.long;
+    look_closer(&there, block, words, free, from, owed, findings)
 }

@@ -1,8 +1,6 @@
-use Rattle.sfi_scan.proofs.Prelude.{◌≡◌, ◌∙◌, ◌-◌, ◌*◌, ◌/◌, ◌<◌, ℕ, List, take, drop, length, false, sym, ap, subst, arith, BundlePlace, IsWithin}
-use Rattle.sfi_scan.specs.private.Scanning.{IsFrontClean}
+use Rattle.sfi_scan.proofs.Prelude.{◌≡◌, ◌∙◌, ◌+◌, ◌-◌, ◌*◌, ◌/◌, ◌<◌, ℕ, List, take, drop, length, take-take, false, sym, ap, subst, arith, BundlePlace, IsWithin}
 use Rattle.sfi_scan.specs.private.WordBlock.{AreCleanWords}
 use Rattle.sfi_scan.specs.Stretches.{stretch_place}
-use Rattle.sfi_scan.proofs.Stretches.{tail_is}
 use Rattle.sfi_scan.proofs.WordFronts.{start_at, block_seen, within_stretch}
 use Rattle.sfi_scan.proofs.words.look_at_front.Goals as goal
 
@@ -40,15 +38,14 @@ returns g c = λ k at.
     let few = start.inside in
     let first = c.place_after-first.ensures m start.start_is in
     let chunk = c.in-Some.ensures.cases in
-    let block : c.in-Some.block.now ≡ take 128 (drop (16 * m) code) = chunk.same ∙ ap (take 128) (tail_is c.min-start.result code ∙ ap (λ (a : ℕ). drop a code) first_is) in
+    let slice : take 128 (take (c.min-start.result + 128 - c.min-start.result) (drop c.min-start.result code)) ≡ take 128 (drop (16 * m) code) = take-take 128 (c.min-start.result + 128 - c.min-start.result) (drop c.min-start.result code) (omega arith) ∙ ap (λ (a : ℕ). take 128 (drop a code)) first_is in
+    let block : c.in-Some.block.now ≡ take 128 (drop (16 * m) code) = chunk.same ∙ slice in
     let from : (c.args.at - c.min-start.result) / 4 ≡ 4 * j = omega (arith, at, is, first_is) in
     let count : 32 - (c.args.at - c.min-start.result) / 4 ≡ 4 * (8 - j) = omega (arith, from, few) in
-    let size : 128 - 16 * j ≡ 128 - (c.args.at - c.min-start.result) = omega (arith, at, is, first_is) in
     let words : AreCleanWords (stretch_place b m) owed (take 128 (drop (16 * m) code)) (4 * j) (4 * (8 - j)) next =
     subst (λ (n : ℕ). AreCleanWords (stretch_place b m) owed (take 128 (drop (16 * m) code)) (4 * j) n next) count
     (subst (λ (n : ℕ). AreCleanWords (stretch_place b m) owed (take 128 (drop (16 * m) code)) n (32 - (c.args.at - c.min-start.result) / 4) next) from
     (subst (λ (l : List ℕ). AreCleanWords (stretch_place b m) owed l ((c.args.at - c.min-start.result) / 4) (32 - (c.args.at - c.min-start.result) / 4) next) block
     (subst (λ (x : BundlePlace). AreCleanWords x owed c.in-Some.block.now ((c.args.at - c.min-start.result) / 4) (32 - (c.args.at - c.min-start.result) / 4) next) first
     c.in_ok-next.ensures))) in
-    subst (λ (l : ℕ). IsFrontClean (stretch_place b k) owed (drop (16 * k) code) l next) size
-    (block_seen b owed next code m j k is few (subst (λ (x : BundlePlace). x.listed ≡ false) first c.if-first.false) start.whole words)
+    block_seen b owed next code m j k (c.min-start.result + 128) is few (omega (arith, first_is)) (subst (λ (x : BundlePlace). x.listed ≡ false) first c.if-first.false) start.whole words

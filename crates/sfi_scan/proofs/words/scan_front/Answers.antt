@@ -1,4 +1,4 @@
-use Rattle.sfi_scan.proofs.Prelude.{◌≡◌, ◌∙◌, ◌-◌, ◌*◌, ℕ, List, [], take, drop, length, refl, sym, ap, subst, arith, BundlePlace, block_bundle, IsWithin}
+use Rattle.sfi_scan.proofs.Prelude.{◌≡◌, ◌∙◌, ◌-◌, ◌*◌, ℕ, List, [], take, drop, length, sym, ap, subst, arith, length-drop, BundlePlace, block_bundle, IsWithin}
 use Rattle.sfi_scan.specs.Stretches.{IsWordCodeScanned}
 use Rattle.sfi_scan.proofs.Stretches.{front_bundle, tail_is}
 use Rattle.sfi_scan.proofs.WordFronts.{within_stretch}
@@ -10,7 +10,7 @@ returns-in-Some g c = λ k at.
     let seen = c.in-Some.ensures k at in
     record {
       bundles = seen.bundles;
-      len_is = seen.len_is;
+      end_is = seen.end_is;
       some = seen.some;
       inside = seen.inside;
       scanned = record {
@@ -43,9 +43,9 @@ returns g c = λ k at.
     let rest : take (length code - c.args.at) (drop c.args.at code) ≡ drop (16 * k) code = tail_is c.args.at code ∙ ap (λ (a : ℕ). drop a code) at in
     record {
       bundles = 1;
-      len_is = refl;
+      end_is = omega (arith, at);
       some = omega arith;
-      inside = omega (arith, chunk.enough, ap length rest);
+      inside = omega (arith, chunk.enough, at, ap length rest, length-drop (16 * k) code);
       scanned = subst (λ (b : BundlePlace). IsWordCodeScanned g.F.FindingSink.takes b c.args.owed (drop (16 * k) code) 1 c.scan_one-next.result c.args.sink.now c.scan_one-next.new.sink) (c.place_after.ensures k at)
           (words_scanned_same g.F.FindingSink.takes c.place_after.result c.args.owed c.in-Some-first_chunk.bundle.now (drop (16 * k) code) 1 c.scan_one-next.result c.args.sink.now c.scan_one-next.new.sink
           (λ i less. ap (λ (l : List ℕ). block_bundle l i) (chunk.same ∙ ap (take 16) rest) ∙ front_bundle 1 i (drop (16 * k) code) less) c.scan_one-next.ensures);

@@ -1,4 +1,4 @@
-use Rattle.sfi_scan.proofs.Prelude.{◌≡◌, ◌+◌, ◌*◌, ℕ, drop, refl, subst, arith, length-drop}
+use Rattle.sfi_scan.proofs.Prelude.{◌≡◌, ◌+◌, ◌*◌, ℕ, drop, refl, subst, arith}
 use Rattle.sfi_scan.specs.Stretches.{IsWordCodeScanned, stretch_place}
 use Rattle.sfi_scan.proofs.Stretches.{place_on, rest_bundle}
 use Rattle.sfi_scan.proofs.WordStretches.{words_scanned_more, words_scanned_none}
@@ -7,36 +7,30 @@ use Rattle.sfi_scan.proofs.words.scan_words_as.Goals as goal
 pub loop-at-init : goal.loop-at-init
 loop-at-init g c = (0, refl, omega arith, words_scanned_none g.F.FindingSink.takes c.args.place.now c.args.owed c.args.code.now c.args.sink.now (g.met.F.FindingSink.none c.args.sink.now))
 
-pub scan_front-size-requires : goal.scan_front-size-requires
-scan_front-size-requires g c =
+pub scan_front-end-requires : goal.scan_front-end-requires
+scan_front-end-requires g c =
     let run = c.requires.1 in
     let whole = run.whole in
     let at = c.loop-at.invariant.1 in
     let inside = c.loop-at-test.true in
     (c.requires.0, c.loop-at.invariant.0, run, at, omega (arith, whole, at, inside))
 
-pub overflow_add-at : goal.overflow_add-at
-overflow_add-at g c =
-    let k = c.loop-at.invariant.0 in
-    let at = c.loop-at.invariant.1 in
-    let front = c.scan_front-size.ensures k at in
-    omega (arith, at, front.inside, length-drop (16 * k) c.args.code.now)
-
 pub loop-at-smaller : goal.loop-at-smaller
 loop-at-smaller g c =
-    let front = c.scan_front-size.ensures c.loop-at.invariant.0 c.loop-at.invariant.1 in
-    omega (arith, front.len_is, front.some)
+    let at = c.loop-at.invariant.1 in
+    let front = c.scan_front-end.ensures c.loop-at.invariant.0 at in
+    omega (arith, at, front.end_is, front.some, front.inside)
 
 pub loop-at-preserved : goal.loop-at-preserved
 loop-at-preserved g c =
     let k = c.loop-at.invariant.0 in
     let at = c.loop-at.invariant.1 in
     let code = c.args.code.now in
-    let front = c.scan_front-size.ensures k at in (
+    let front = c.scan_front-end.ensures k at in (
       k + front.bundles,
-      omega (arith, at, front.len_is),
-      omega (arith, at, front.inside, length-drop (16 * k) code),
-      words_scanned_more g.F.FindingSink.takes g.met.F.FindingSink.more (stretch_place c.args.place.now k) c.args.place.now c.args.owed (drop (16 * k) code) code k front.bundles c.loop-at.left _ c.args.sink.now c.loop-at.sink c.scan_front-size.new.sink
+      front.end_is,
+      front.inside,
+      words_scanned_more g.F.FindingSink.takes g.met.F.FindingSink.more (stretch_place c.args.place.now k) c.args.place.now c.args.owed (drop (16 * k) code) code k front.bundles c.loop-at.left _ c.args.sink.now c.loop-at.sink c.scan_front-end.new.sink
           (λ i less. place_on c.args.place.now k i) (λ i less. rest_bundle k i code) c.loop-at.invariant.3 front.scanned,
     )
 
