@@ -1,8 +1,8 @@
 -- A world of which one sandbox changed: it took a turn, or its data were written from outside.
-use Rattle.sfi_host.proofs.Prelude.{◌≡◌, ◌≢◌, ⊎_elim, ℕ, ◌+◌, List, Some, set, slice_get, sym, ap, ◌∙◌, subst, refl, cases_eq, map-set, same_Some, Bytes, IsMemory, Holds, Part, InCode, Program, Sandbox, AreEnterable, seat_of, seats_of, world_of, Bounds, Slot, bounds_of, Seat, Sandboxes, slot_of, slots_of, IsSafeSeat, IsSafeWorld, StaysOutside, StaysOutsideData, state_in, bounds_in, IsChange, bytes_in, bytes_outside, IsWhole}
+use Rattle.sfi_host.proofs.Prelude.{◌≡◌, ◌≢◌, ◌<◌, ⊎_elim, ℕ, ◌+◌, List, length, get_or, Some, set, slice_get, sym, ap, ◌∙◌, subst, refl, cases_eq, map-set, length-map, same_Some, arith, Bytes, IsMemory, Holds, Part, InCode, Program, Sandbox, AreEnterable, seat_of, seats_of, world_of, Bounds, Slot, bounds_of, Seat, Sandboxes, slot_of, slots_of, IsSafeSeat, IsSafeWorld, StaysOutside, StaysOutsideData, state_in, bounds_in, IsChange, bytes_in, bytes_outside, IsWhole}
 use Rattle.sfi_host.specs.Changing.{OthersAreSame, AreChanges}
-use Rattle.sfi_host.specs.Programs.{AreDecoded}
-use Rattle.sfi_host.proofs.Asked.{seat_at}
+use Rattle.sfi_host.specs.Programs.{IsDecoded, AreDecoded}
+use Rattle.sfi_host.proofs.Asked.{found, seat_at}
 use Rattle.sfi_host.proofs.Decoding.{are_decoded}
 use Rattle.sfi_host.proofs.Neighbours.{slots_are, world_safe, get_set_other, set_itself, neighbours_are}
 use Rattle.sfi_host.proofs.SafeSeats as keep
@@ -72,6 +72,21 @@ module _ (m n : Bytes) (items : List Sandbox) (programs : List Program) (i : ℕ
   pub turn_taken : (w : Sandboxes) → world_of m items ≡ w → AfterTurn w programs i (slot_of m (seat_of x)) (slot_of n (seat_of new)) (world_of n (set items i new))
   turn_taken w view =
       subst (λ (y : Sandboxes × List Seat). AfterTurn y.0 programs i (slot_of m (seat_of x)) (slot_of n (seat_of new)) (record { bytes = n; seats = y.1 })) (λ k. (view k, sym (map-set seat_of items i new) k)) by_seats
+
+-- the sandbox of a world that is looked up there may run, and is put back
+module _ (m : Bytes) (items : List Sandbox) (programs : List Program) (i : ℕ) (x : Sandbox) (inside : IsKept (world_of m items) programs) (below : i < length items) (is : x ≡ get_or items i x) where
+  there : slice_get items i ≡ Some x
+  there = found items items i x refl below is
+
+  pub may_run : (p : Program) → p ≡ get_or programs i p → IsSafeSeat m (seat_of x) × IsDecoded (seat_of x).bounds.code m p
+  may_run p program =
+      let count : length programs ≡ length items = inside.1.count ∙ length-map items seat_of in
+      let at : slice_get (seats_of items) i ≡ Some (seat_of x) = seat_at items i x there in
+      (inside.0.each i (seat_of x) at, inside.1.each i p (seat_of x) (found programs programs i p refl (omega (arith, below, count)) program) at)
+
+  module _ (n : Bytes) (new : Sandbox) (bounds : (seat_of new).bounds ≡ (seat_of x).bounds) (safe : IsSafeSeat n (seat_of new)) (others : StaysOutside (seat_of x).bounds.data m n) where
+    pub put_back : (w : Sandboxes) → world_of m items ≡ w → AfterTurn w programs i (slot_of m (seat_of x)) (slot_of n (seat_of new)) (world_of n (set items i new))
+    put_back = turn_taken m n items programs i x new inside there bounds safe others
 
 -- ---- data that are written
 

@@ -1,6 +1,6 @@
-use Rattle.sfi_host.proofs.Prelude.{◌≡◌, ◌<◌, length, set, slice_get, sym, ap, ◌∙◌, arith, length-map, slice_get_past, refl, seat_of, world_of, Sandboxes, slot_of, slots_of}
-use Rattle.sfi_host.proofs.Asked.{found, no_slot, seat_at}
-use Rattle.sfi_host.proofs.Changing.{AfterTurn, turn_taken}
+use Rattle.sfi_host.proofs.Prelude.{set, slice_get, sym, ap, ◌∙◌, arith, slice_get_past, seat_of, world_of, Sandboxes, slot_of, slots_of}
+use Rattle.sfi_host.proofs.Asked.{no_slot}
+use Rattle.sfi_host.proofs.Changing.{AfterTurn, may_run, put_back}
 use Rattle.sfi_host.proofs.Quiet.{no_sandbox, quiet_plan}
 use Rattle.sfi_host.proofs.world.World.take_quiet_turn.Given as given
 use Rattle.sfi_host.proofs.world.World.take_quiet_turn.Goals as goal
@@ -15,27 +15,15 @@ returns-then-place-len-clause-ran g c machine is =
 
 pub run_quietly-requires : goal.run_quietly-requires
 run_quietly-requires g c =
-    let items = c.self.inside.sandboxes.items in
-    let programs = c.self.inside.programs.items in
-    let i = c.args.turn.sandbox in
-    let x = c.index_mut.result.now in
-    let below : i < length items = omega (arith, c.len.ensures, c.if-place-len.false) in
-    let count : length programs ≡ length items = c.self.invariant.1.count ∙ length-map items seat_of in
-    let there = seat_at items i x (found items items i x refl below c.index_mut.ensures.value) in
-    record {
-      safe = c.self.invariant.0.each i (seat_of x) there;
-      decoded = c.self.invariant.1.each i c.index.result.now (seat_of x) (found programs programs i c.index.result.now refl (omega (arith, below, count)) c.index.ensures) there;
-    }
+    let runs = may_run (g.M.Memory.bytes c.self.inside.memory) c.self.inside.sandboxes.items c.self.inside.programs.items c.args.turn.sandbox c.index_mut.result.now c.self.invariant (omega (arith, c.len.ensures, c.if-place-len.false)) c.index_mut.ensures.value
+    c.index.result.now c.index.ensures in
+    record { safe = runs.0; decoded = runs.1 }
 
 taken : (g : given.Over) (c : goal.After-self-1 g) → AfterTurn c.args.self.now c.self.inside.programs.items c.args.turn.sandbox (slot_of (g.M.Memory.bytes c.self.inside.memory) (seat_of c.index_mut.result.now))
     (slot_of (g.M.Memory.bytes c.run_quietly.new.memory) (seat_of c.run_quietly.new.sandbox)) (world_of (g.M.Memory.bytes c.run_quietly.new.memory) (set c.self.inside.sandboxes.items c.args.turn.sandbox c.run_quietly.new.sandbox))
 taken g c =
-    let items = c.self.inside.sandboxes.items in
-    let i = c.args.turn.sandbox in
-    let x = c.index_mut.result.now in
-    turn_taken (g.M.Memory.bytes c.self.inside.memory) (g.M.Memory.bytes c.run_quietly.new.memory) items c.self.inside.programs.items i x c.run_quietly.new.sandbox
-    c.self.invariant (found items items i x refl (omega (arith, c.len.ensures, c.if-place-len.false)) c.index_mut.ensures.value) c.run_quietly.ensures.bounds c.run_quietly.ensures.safe c.run_quietly.ensures.others
-    c.args.self.now c.self.view_is
+    put_back (g.M.Memory.bytes c.self.inside.memory) c.self.inside.sandboxes.items c.self.inside.programs.items c.args.turn.sandbox c.index_mut.result.now c.self.invariant (omega (arith, c.len.ensures, c.if-place-len.false)) c.index_mut.ensures.value
+    (g.M.Memory.bytes c.run_quietly.new.memory) c.run_quietly.new.sandbox c.run_quietly.ensures.bounds c.run_quietly.ensures.safe c.run_quietly.ensures.others c.args.self.now c.self.view_is
 
 pub invariant_of-self : goal.invariant_of-self
 invariant_of-self g c = (taken g c).kept

@@ -1,8 +1,8 @@
-use Rattle.sfi_host.proofs.Prelude.{◌≡◌, ◌<◌, List, [], ◌∷◌, None, length, set, slice_get, refl, sym, ap, ◌∙◌, subst, arith, length-map, slice_get_past, Slot, IsJoint, IsCutJoint, seat_of, world_of, Sandboxes, slot_of, slots_of}
-use Rattle.sfi_host.proofs.Asked.{found, no_slot, seat_at}
+use Rattle.sfi_host.proofs.Prelude.{List, [], ◌∷◌, None, set, slice_get, sym, ap, ◌∙◌, subst, arith, slice_get_past, Slot, IsJoint, IsCutJoint, seat_of, world_of, Sandboxes, slot_of, slots_of}
+use Rattle.sfi_host.proofs.Asked.{no_slot}
 use Rattle.sfi_host.proofs.Neighbours.{get_set_same}
 use Rattle.sfi_host.proofs.Plans.{none_then, one_joint, one_turn, cut_turn}
-use Rattle.sfi_host.proofs.Changing.{AfterTurn, turn_taken}
+use Rattle.sfi_host.proofs.Changing.{AfterTurn, may_run, put_back}
 use Rattle.sfi_host.proofs.world.World.take_turn.Given as given
 use Rattle.sfi_host.proofs.world.World.take_turn.Goals as goal
 
@@ -17,27 +17,15 @@ returns-then-place-len-clause-whole g c whole machine is =
 
 pub run_turn-requires : goal.run_turn-requires
 run_turn-requires g c =
-    let items = c.self.inside.sandboxes.items in
-    let programs = c.self.inside.programs.items in
-    let i = c.args.turn.sandbox in
-    let x = c.index_mut.result.now in
-    let below : i < length items = omega (arith, c.len.ensures, c.if-place-len.false) in
-    let count : length programs ≡ length items = c.self.invariant.1.count ∙ length-map items seat_of in
-    let there = seat_at items i x (found items items i x refl below c.index_mut.ensures.value) in
-    record {
-      safe = c.self.invariant.0.each i (seat_of x) there;
-      decoded = c.self.invariant.1.each i c.index.result.now (seat_of x) (found programs programs i c.index.result.now refl (omega (arith, below, count)) c.index.ensures) there;
-    }
+    let runs = may_run (g.M.Memory.bytes c.self.inside.memory) c.self.inside.sandboxes.items c.self.inside.programs.items c.args.turn.sandbox c.index_mut.result.now c.self.invariant (omega (arith, c.len.ensures, c.if-place-len.false)) c.index_mut.ensures.value
+    c.index.result.now c.index.ensures in
+    record { safe = runs.0; decoded = runs.1 }
 
 taken : (g : given.Over) (c : goal.After-self-1 g) → AfterTurn c.args.self.now c.self.inside.programs.items c.args.turn.sandbox (slot_of (g.M.Memory.bytes c.self.inside.memory) (seat_of c.index_mut.result.now))
     (slot_of (g.M.Memory.bytes c.run_turn.new.memory) (seat_of c.run_turn.new.sandbox)) (world_of (g.M.Memory.bytes c.run_turn.new.memory) (set c.self.inside.sandboxes.items c.args.turn.sandbox c.run_turn.new.sandbox))
 taken g c =
-    let items = c.self.inside.sandboxes.items in
-    let i = c.args.turn.sandbox in
-    let x = c.index_mut.result.now in
-    turn_taken (g.M.Memory.bytes c.self.inside.memory) (g.M.Memory.bytes c.run_turn.new.memory) items c.self.inside.programs.items i x c.run_turn.new.sandbox
-    c.self.invariant (found items items i x refl (omega (arith, c.len.ensures, c.if-place-len.false)) c.index_mut.ensures.value) c.run_turn.ensures.bounds c.run_turn.ensures.safe c.run_turn.ensures.others
-    c.args.self.now c.self.view_is
+    put_back (g.M.Memory.bytes c.self.inside.memory) c.self.inside.sandboxes.items c.self.inside.programs.items c.args.turn.sandbox c.index_mut.result.now c.self.invariant (omega (arith, c.len.ensures, c.if-place-len.false)) c.index_mut.ensures.value
+    (g.M.Memory.bytes c.run_turn.new.memory) c.run_turn.new.sandbox c.run_turn.ensures.bounds c.run_turn.ensures.safe c.run_turn.ensures.others c.args.self.now c.self.view_is
 
 pub invariant_of-self : goal.invariant_of-self
 invariant_of-self g c = (taken g c).kept
