@@ -7,7 +7,7 @@ ghost use Rattle.sfi_host.specs.Guests.{asked, HasData, SameMemory};
 
 use crate::gates::{GateAnswer, Gates};
 use crate::guest::Guest;
-use crate::handing::refuse;
+use crate::handover::refuse;
 use crate::message::Message;
 use crate::services::{EXIT, POST, YIELD};
 use crate::session::Session;

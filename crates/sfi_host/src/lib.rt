@@ -9,25 +9,23 @@
 //! to alone with the replies that it got.
 #![tactic(auto)]
 
-mod asking;
+mod calls;
 mod console;
-mod entering;
 mod entry;
 mod gates;
 mod guest;
-mod handing;
+mod handover;
 pub mod laws;
 mod loading;
 mod message;
 mod places;
 mod program;
 mod region;
-mod running;
 mod sandbox;
 mod services;
 mod session;
 mod status;
-mod taking;
+mod steps;
 mod turn;
 mod waiting;
 mod world;

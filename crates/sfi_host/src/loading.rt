@@ -5,9 +5,8 @@ ghost use Rattle.sfi_image.specs.Parts.{IsRightPart, IsRightLayout};
 ghost use Rattle.sfi_host.specs.Loading.{first_seat, with_part, with_parts};
 ghost use Rattle.sfi_host.specs.Sandboxes.{seat_of, seats_of};
 
-use crate::entering::fresh_cpu;
 use crate::region::Region;
-use crate::sandbox::Sandbox;
+use crate::sandbox::{Sandbox, fresh_cpu};
 use crate::status::Status;
 use rv_mem::Memory;
 use sfi_image::SandboxPart;

@@ -1,10 +1,20 @@
-//! One sandbox of a world.
+//! A sandbox of a world, and how it is entered.
+ghost use Rattle.std.specs.Prelude.{◌≡◌, ◌%◌, ◌+◌, ◌<◌, ◌≤◌, ◌^◌, ◌↔◌, IsTrue};
+ghost use Rattle.rv_step.specs.State.{IsHart};
+ghost use Rattle.sfi_host.specs.Arguments.{a0_register};
+ghost use Rattle.sfi_host.specs.Entering.{MayEnter, fresh_hart, typed_for, with_registers, entered_seat};
+ghost use Rattle.sfi_host.specs.Regions.{span_of};
+ghost use Rattle.sfi_host.specs.Sandboxes.{seat_of};
 
 use crate::region::Region;
 use crate::status::Status;
 use rv_step::Cpu;
+use rv_word::Reg;
 use sfi_image::Gate;
-use sfi_policy::Format;
+use sfi_policy::{
+    CODE_BASE_REGISTER, CODE_MASK_REGISTER, CODE_REGISTER, DATA_BASE_REGISTER, DATA_MASK_REGISTER,
+    FIRST_FRAME, Format, STACK_POINTER,
+};
 
 /// Where a sandbox lies, its pc and registers, what it may still do, and how many steps it did. Its
 /// bytes lie in the world's memory.
@@ -25,3 +35,84 @@ pub const A0_REGISTER: u8 = 10;
 
 /// x11, which is a1: the second argument register, and the second result register.
 pub const A1_REGISTER: u8 = 11;
+
+// Gives the typed registers, where code is in words, what they hold at an entry there.
+fn set_typed(format: Format, data_at: Region, pc: u32, cpu: &mut Cpu)
+    requires pc { cpu.old.pc ≡ pc }
+    requires hart { IsHart cpu.old }
+    ensures typed { cpu.new ≡ typed_for format (span_of data_at) cpu.old }
+    ensures hart { IsHart cpu.new }
+{
+    if !format.has_words() {
+        return;
+    }
+    cpu.set_reg(Reg::numbered(3), data_at.base);
+    cpu.set_reg(Reg::numbered(4), data_at.base);
+    cpu.set_reg(Reg::numbered(29), data_at.base);
+    cpu.set_reg(Reg::numbered(CODE_REGISTER), pc);
+}
+
+/// The pc and registers at an entry without arguments.
+pub(crate) fn fresh_cpu(format: Format, code_at: Region, data_at: Region, pc: u32) -> Cpu
+    requires even { pc % 2 ≡ 0 }
+    requires code_size { 16 ≤ code_at.size }
+    requires data_size { 16 ≤ data_at.size }
+    requires data_end { data_at.base + data_at.size < 2 ^ 32 }
+    ensures fresh { result ≡ fresh_hart format (span_of code_at) (span_of data_at) pc }
+    ensures hart { IsHart result }
+{
+    let mut cpu = Cpu::at(pc).unwrap();
+    set_typed(format, data_at, pc, &mut cpu);
+    cpu.set_reg(
+        Reg::numbered(STACK_POINTER),
+        data_at.base + data_at.size - FIRST_FRAME,
+    );
+    cpu.set_reg(Reg::numbered(CODE_BASE_REGISTER), code_at.base);
+    cpu.set_reg(
+        Reg::numbered(CODE_MASK_REGISTER),
+        code_at.size - format.unit(),
+    );
+    cpu.set_reg(Reg::numbered(DATA_BASE_REGISTER), data_at.base);
+    cpu.set_reg(Reg::numbered(DATA_MASK_REGISTER), data_at.size - 1);
+    cpu
+}
+
+// Puts the arguments into the registers from a0 on.
+fn set_arguments(cpu: &mut Cpu, arguments: &[u32; 8])
+    requires hart { IsHart cpu.old }
+    ensures put { cpu.new ≡ with_registers cpu.old a0_register arguments.now }
+    ensures hart { IsHart cpu.new }
+{
+    for k in 0..8 {
+        cpu.set_reg(Reg::numbered(A0_REGISTER + k), arguments[k as usize]);
+    }
+}
+
+impl Sandbox {
+    /// Whether it has stopped, and a unit of its code, a bundle or a word, begins at the address.
+    pub fn may_enter(&self, pc: u32) -> bool
+        ensures { IsTrue result ↔ MayEnter (seat_of self.now).bounds self.now.status pc }
+    {
+        match self.status {
+            Status::Ready => return false,
+            Status::Exited(_) => {}
+            Status::Trapped(_, _) => {}
+        }
+        self.code.holds(pc) && pc % self.format.unit() == 0
+    }
+
+    /// Makes it ready at the address.
+    pub fn enter(&mut self, pc: u32, arguments: &[u32; 8])
+        requires even { pc % 2 ≡ 0 }
+        requires code_size { 16 ≤ self.old.code.size }
+        requires data_size { 16 ≤ self.old.data.size }
+        requires data_end { self.old.data.base + self.old.data.size < 2 ^ 32 }
+        ensures entered { seat_of self.new ≡ entered_seat (seat_of self.old) pc arguments.now }
+        ensures hart { IsHart self.new.cpu }
+    {
+        let mut cpu = fresh_cpu(self.format, self.code, self.data, pc);
+        set_arguments(&mut cpu, arguments);
+        self.cpu = cpu;
+        self.status = Status::Ready;
+    }
+}

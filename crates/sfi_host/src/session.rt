@@ -7,7 +7,7 @@ ghost use Rattle.sfi_host.specs.Consoles.{new_session, appended, put, get, has_b
 
 use crate::gates::GateAnswer;
 use crate::guest::Guest;
-use crate::handing::{append, may_hand, refuse};
+use crate::handover::{append, may_hand, refuse};
 use crate::message::Message;
 use crate::services::{GET, PUT, TAKE};
 use arrayvec::ArrayVec;

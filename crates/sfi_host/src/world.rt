@@ -17,16 +17,15 @@ ghost use Rattle.sfi_host.specs.Loading.{first_seat, with_parts, AreEntered, Hav
 ghost use Rattle.sfi_host.specs.Waiting.{IsAtCall, Waits, to_call, later_reply, later_answer};
 ghost use Rattle.sfi_host.specs.Worlds.{slots_of, status_at, steps_at, data_byte_of, HaveStoppedThemselves, IsSafeWorld, StaysOutsideData};
 
-use crate::asking::{ask, asked_by};
+use crate::calls::{ask, asked_by};
 use crate::gates::Gates;
 use crate::guest::Request;
 use crate::loading::load_parts;
 use crate::program::{Program, decode_all};
 use crate::region::Region;
-use crate::running::{run_quietly, run_turn};
 use crate::sandbox::Sandbox;
 use crate::status::Status;
-use crate::turn::{RunAnswer, StepResult, Turn};
+use crate::turn::{RunAnswer, StepResult, Turn, run_quietly, run_turn};
 use crate::waiting::Later;
 use rv_mem::Memory;
 use rv_step::Cpu;
