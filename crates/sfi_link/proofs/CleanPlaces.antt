@@ -1,5 +1,5 @@
 -- No rule is broken at the place of an instruction.
-use Rattle.sfi_link.proofs.Prelude.{◌≡◌, ℕ, ◌+◌, ◌^◌, ◌<◌, List, [], ◌∷◌, ◌++◌, length, take, drop, Option, Some, None, Bool, true, false, refl, sym, ap, ◌∙◌, subst, arith, length-append, ℤ, pos, negsuc, ◌+ℤ◌, ◌-ℤ◌, ◌==◌, ◌&&◌, ◌||◌, not, and_right, or_parts, ints, Instr, Op, OpImm, Load, Branch, Jal, Jalr, Lui, Auipc, Fence, Ebreak, Spells, expansion, has_stack, is_stack, IsBody, Piece, IsReading, rest_of, is_masking, is_placing, Slot, Wide, Short, PlacedName, slot_size, size_of, Bases, target_at, with_offset, resolved, made_of, IsSlot}
+use Rattle.sfi_link.proofs.Prelude.{◌≡◌, ℕ, ◌+◌, ◌^◌, ◌<◌, List, [], ◌∷◌, ◌++◌, length, take, drop, Option, Some, None, Bool, true, false, refl, sym, ap, ◌∙◌, subst, arith, length-append, ℤ, pos, negsuc, ◌+ℤ◌, ◌-ℤ◌, ◌==◌, ◌&&◌, ◌||◌, not, and_right, or_parts, ints, Instr, Op, OpImm, Load, Branch, Jal, Jalr, Lui, Auipc, Fence, Ebreak, Spells, expansion, has_stack, is_stack, IsBody, Piece, IsReading, rest_of, is_masking, is_placing, Slot, Wide, Short, PlacedName, slot_size, size_of, Bases, target_at, with_offset, resolved, made_of, IsSlot, ◌≤◌, length-take, ⊎_elim, IsLongestReading}
 use Rattle.rv_comp.specs.declared.form.Form16.TheVariants.{CEbreak}
 use Rattle.rv_source.specs.declared.item.Body.TheVariants.{To}
 use Rattle.rv_word.specs.Numbers.{modulo, offset_by}
@@ -15,9 +15,10 @@ use Rattle.sfi_image.specs.declared.bundle.BundlePlace.{BundlePlace}
 use Rattle.std.proofs.Math.Seq.{take-append_seam, drop-append_seam}
 use Rattle.sfi_rules.specs.Rules.{Place}
 use Rattle.sfi_rewrite.specs.Stack as stack
-use Rattle.rv_comp.proofs.Facts.{word_spells, spelled_length}
+use Rattle.rv_comp.proofs.Facts.{word_spells, spelled_length, two_lengths}
 use Rattle.sfi_link.proofs.Written.{short_spells}
 use Rattle.sfi_rewrite.proofs.Sizes.{size_of-cons}
+use Rattle.sfi_rules.proofs.Readings.{front_one}
 
 -- ---- what is asked of names, and what of ends
 
@@ -248,3 +249,28 @@ slot_spells at names here _ bytes x = subst (λ (l : List ℕ). Spells l x.instr
 pub lone_ends : (at : Bases) (names : List PlacedName) (here : ℕ) (s : Slot) (i : Instr) → resolved at names here s ≡ Some i → is_end s ≡ true → ends_region i ≡ true
 lone_ends at names here (Short CEbreak) i r h = ap ends_region (sym (some_same Ebreak i r))
 lone_ends at names here _ i r h = cc
+
+-- ---- a reading that can't go on is the longest
+
+-- nothing is spelled at the front of no bytes
+nothing_there : (x : Piece) → Spells (take x.size []) x.instr x.size → ⊥
+nothing_there x h =
+    let cut = length-take x.size (none) in
+    let all = spelled_length (take x.size none) x.instr x.size h in
+    ⊎_elim (λ (e : x.size ≡ 2). omega (arith, cut, all, e)) (λ (e : x.size ≡ 4). omega (arith, cut, all, e)) (two_lengths (take x.size none) x.instr x.size h)
+  where
+    none : List ℕ
+    none = []
+
+-- a reading that leaves nothing is the longest
+pub whole_is_longest : (bytes : List ℕ) (reading : List Piece) → IsReading bytes reading → rest_of bytes reading ≡ [] → IsLongestReading bytes reading
+whole_is_longest bytes reading is whole = record { is_reading = is; longest = λ other h. no_more bytes reading other is whole h }
+  where
+    no_more : (bytes : List ℕ) (reading other : List Piece) → IsReading bytes reading → rest_of bytes reading ≡ [] → IsReading bytes other → length other ≤ length reading
+    no_more bytes reading [] is whole h = omega arith
+    no_more bytes [] (y ∷ other) is whole h = absurd (nothing_there y (subst (λ (l : List ℕ). Spells (take y.size l) y.instr y.size) whole h.0))
+    no_more bytes (x ∷ reading) (y ∷ other) is whole h =
+        let e = front_one bytes x y is.0 h.0 in
+        let n : drop y.size bytes ≡ drop x.size bytes = ap (λ (z : Piece). drop z.size bytes) (sym e) in
+        let more = no_more (drop x.size bytes) reading other is.1 whole (subst (λ (l : List ℕ). IsReading l other) n h.1) in
+        omega arith

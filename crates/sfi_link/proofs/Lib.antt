@@ -1,7 +1,5 @@
 pub mod Prelude
 pub mod Written
-pub mod Unless
-pub mod Stuck
 pub mod Sizes
 pub mod Stubs
 pub mod CleanPlaces
@@ -15,11 +13,10 @@ pub mod WordOwing
 pub mod WordSlots
 pub mod WordItems
 pub mod WordRegion
+pub mod OneLinking
 pub mod LinkedClean
 pub mod SlotsThere
 pub mod RunsAs
-pub mod OneLinking
-pub mod Lies
 pub mod Pushed
 pub mod Linking
 pub mod SomeLinking

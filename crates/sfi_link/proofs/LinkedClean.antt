@@ -1,5 +1,5 @@
 -- What is made of a placed sandbox breaks no rule.
-use Rattle.sfi_link.proofs.Prelude.{◌≡◌, ℕ, ◌+◌, ◌-◌, ◌*◌, ◌^◌, ◌<◌, ◌≤◌, List, [], ◌∷◌, length, replicate, Option, Some, None, refl, sym, ap, ◌∙◌, subst, arith, length-append, slice_get, All, repeat, All-head, All-tail, Format, Part, stub_of, Slot, PlacedName, size_of, slots_of, Placement, AreWhole, IsPlacedPart, IsPlacedThere, Place, bases_of, of_name, target_of, AreSlots, c_ebreak, needed, gates_from, IsLinked, AreLinkedFrom}
+use Rattle.sfi_link.proofs.Prelude.{◌≡◌, ℕ, ◌+◌, ◌-◌, ◌*◌, ◌^◌, ◌<◌, ◌≤◌, List, [], ◌∷◌, length, Option, Some, None, refl, sym, ap, ◌∙◌, subst, arith, slice_get, All, repeat, All-head, All-tail, Format, Part, stub_of, Slot, PlacedName, size_of, slots_of, Placement, AreWhole, IsPlacedPart, IsPlacedThere, Place, bases_of, of_name, target_at, target_of, AreSlots, needed, gates_from, IsLinked, AreLinkedFrom}
 use Rattle.sfi_image.specs.Gates.{is_gate_of}
 use Rattle.sfi_image.specs.Regions.{IsBundleStart}
 use Rattle.sfi_rewrite.specs.declared.placed.PlacedName.TheVariants.{Gate, Code, Data, Unknown}
@@ -13,16 +13,15 @@ use Rattle.sfi_rules.proofs.Facts.{of_bundles, of_words, same_bundle_starts}
 use Rattle.std.proofs.lemmas.Option.{slice_get_within, get_or_from_slice_get}
 use Rattle.sfi_rules.specs.Bundles.{place_of}
 use Rattle.sfi_rules.specs.declared.owed.Owed.TheVariants as kind
-use Rattle.sfi_rewrite.proofs.Sizes.{size_of-append}
 use Rattle.sfi_rewrite.proofs.WordView.{InWords, view, as_laid, word_aligned}
 use Rattle.sfi_link.proofs.WordItems.{AreWordStarts, nothing_owed, items_right}
 use Rattle.sfi_link.proofs.WordRegion.{IsFilled, filled_is_clean}
-use Rattle.sfi_link.proofs.Sizes.{size_fill}
 use Rattle.sfi_link.proofs.CleanPlaces.{AreStarts, some_same}
-use Rattle.sfi_link.proofs.Stubs.{bundle_stub, length_stubs}
+use Rattle.sfi_link.proofs.Stubs.{bundle_stub}
 use Rattle.sfi_link.proofs.Region.{IsClosed, closed_is_clean}
 use Rattle.sfi_link.proofs.Filled.{filled}
-use Rattle.sfi_link.proofs.Parts.{lies_well, sixteens, slots_length, listed_at, listed_only}
+use Rattle.sfi_link.proofs.Parts.{lies_well, sixteens, listed_at, listed_only}
+use Rattle.sfi_link.proofs.OneLinking.{code_length}
 
 -- ---- names
 
@@ -40,41 +39,66 @@ bundle_unit Sfiw e = absurd (true≢false e)
 bundles_whole : (f : Format) (count : ℕ) (bundles : List (List Slot)) → has_words f ≡ false → AreWholeIn f count bundles → All (AreWhole f count) bundles
 bundles_whole f count bundles e whole = subst (λ (b : Bool). MatchBool b (AreOfItems count (slots_of bundles)) (All (AreWhole f count) bundles)) e whole
 
--- the target of a jump to a name is a bundle start
-target_starts : (given : List Place) → (number : ℕ) (p : Placement) (q : Part) → has_words p.format ≡ false → IsLinked given number p q → (n : PlacedName) → IsPlacedThere p n → (to : ℕ) → target_of (bases_of given number p) n ≡ Some to
-    → IsBundleStart (record { base = q.code_base; size = length q.code }) to × (to < 2 ^ 32)
-target_starts given number p q bundled linked (Gate k) there to e =
+-- the unit divides a bundle, and so what lies so many bytes after a bundle start
+after_bundle : (f : Format) (start offset to : ℕ) → to ≡ start + offset → start % 16 ≡ 0 → offset % unit f ≡ 0 → to % unit f ≡ 0
+after_bundle Sfi1 start offset to e whole even = omega arith
+after_bundle Sfi2 start offset to e whole even = omega arith
+after_bundle Sfiw start offset to e whole even = omega arith
+
+zero_even : (f : Format) → 0 % unit f ≡ 0
+zero_even Sfi1 = refl
+zero_even Sfi2 = refl
+zero_even Sfiw = refl
+
+-- an address of the code at which the sandbox may be entered
+record IsStart (p : Placement) (q : Part) (to : ℕ) : Type 0 where
+  from : q.code_base ≤ to
+  below : to < q.code_base + length q.code
+  aligned : to % unit p.format ≡ 0
+  small : to < 2 ^ 32
+
+-- the target of a jump to a name is one
+target_starts : (given : List Place) → (number : ℕ) (p : Placement) (q : Part) → IsLinked given number p q → (n : PlacedName) → IsPlacedThere p n → (to : ℕ) → target_of (bases_of given number p) n ≡ Some to → IsStart p q to
+target_starts given number p q linked (Gate k) there to e =
     let is = some_same ((bases_of given number p).code + 16 * k) to e in
     let base = linked.code_base in
     let room = linked.code.size.has_room.room in
-    let most = linked.code.size.has_room.at_most in
     let well = lies_well given number p q linked in
     let end = well.end in
     let whole = well.even in
-    (record { held = (omega arith, omega arith); aligned = omega arith }, omega arith)
-target_starts given number p q bundled linked (Code offset) there to e =
+    record { from = omega arith; below = omega arith; aligned = after_bundle p.format to 0 to (omega arith) (omega arith) (zero_even p.format); small = omega arith }
+target_starts given number p q linked (Code offset) there to e =
     let is = some_same ((bases_of given number p).start + offset) to e in
     let base = linked.code_base in
     let room = linked.code.size.has_room.room in
-    let most = linked.code.size.has_room.at_most in
     let well = lies_well given number p q linked in
     let end = well.end in
     let whole = well.even in
-    let even : offset % 16 ≡ 0 = ap (λ n. offset % n) (sym (bundle_unit p.format bundled)) ∙ there.0 in
     let within = there.1 in
-    (record { held = (omega arith, omega arith); aligned = omega arith }, omega arith)
-target_starts given number p q bundled linked (Data offset) there to e = cc
-target_starts given number p q bundled linked Unknown there to e = cc
+    record { from = omega arith; below = omega arith; aligned = after_bundle p.format (bases_of given number p).start offset to (omega arith) (omega arith) there.0; small = omega arith }
+target_starts given number p q linked (Data offset) there to e = cc
+target_starts given number p q linked Unknown there to e = cc
 
-are_starts : (given : List Place) → (number : ℕ) (p : Placement) (q : Part) → has_words p.format ≡ false → IsPlacedPart p → IsLinked given number p q → (sandbox : ℕ) → AreStarts (place_of sandbox q 0) (bases_of given number p) p.names
-are_starts given number p q bundled placed linked sandbox place to e =
+name_starts : (given : List Place) → (number : ℕ) (p : Placement) (q : Part) → IsPlacedPart p → IsLinked given number p q → (place to : ℕ) → target_at (bases_of given number p) p.names place ≡ Some to → IsStart p q to
+name_starts given number p q placed linked place to e =
     let found = of_place (target_of (bases_of given number p)) (slice_get p.names place) to e in
     let within = slice_get_within p.names place found.0 found.1 in
     let there : IsPlacedThere p found.0 = subst (IsPlacedThere p) (get_or_from_slice_get p.names place found.0 found.0 found.1) (placed.names place found.0 within) in
-    let start = target_starts given number p q bundled linked found.0 there to found.2 in
-    ((same_bundle_starts (place_of sandbox q 0) to).1 start.0, start.1)
+    target_starts given number p q linked found.0 there to found.2
+
+are_starts : (given : List Place) → (number : ℕ) (p : Placement) (q : Part) → has_words p.format ≡ false → IsPlacedPart p → IsLinked given number p q → (sandbox : ℕ) → AreStarts (place_of sandbox q 0) (bases_of given number p) p.names
+are_starts given number p q bundled placed linked sandbox place to e =
+    let s = name_starts given number p q placed linked place to e in
+    let start : IsBundleStart (record { base = q.code_base; size = length q.code }) to = record { held = (s.from, s.below); aligned = ap (λ n. to % n) (sym (bundle_unit p.format bundled)) ∙ s.aligned } in
+    ((same_bundle_starts (place_of sandbox q 0) to).1 start, s.small)
 
 -- ---- a sandbox
+
+-- the gates are listed at the addresses that their stubs have
+same_gates : (given : List Place) → (number : ℕ) (p : Placement) (q : Part) → IsLinked given number p q
+    → (k : ℕ) → is_gate_of q.gates (q.code_base + 16 * k) ≡ is_gate_of (gates_from (bases_of given number p).code p.gates) ((bases_of given number p).code + 16 * k)
+same_gates given number p q linked k =
+    ap (λ gs. is_gate_of gs (q.code_base + 16 * k)) linked.gates ∙ ap (λ a. is_gate_of (gates_from (bases_of given number p).code p.gates) (a + 16 * k)) linked.code_base
 
 closed : (given : List Place) → (number : ℕ) (p : Placement) (q : Part) → has_words p.format ≡ false → IsPlacedPart p → IsLinked given number p q
     → (full : List (List Slot)) × IsClosed q (bases_of given number p) p.names (length p.gates) full × ((bases_of given number p).start + 16 * length full ≤ 2 ^ 32)
@@ -89,17 +113,12 @@ closed given number p q bundled placed linked =
     let start = linked.start in
     let counted = sixteens p.format (needed p) (length q.code) code.size.has_room in
     let sixteen = counted.1 in
-    let long = ap length code.code_is ∙ length-append (repeat (length p.gates) (stub_of p.format)) code.bytes in
-    let stubs = length_stubs p.format (length p.gates) in
-    let bytes = slots_length _ _ _ _ code.bytes code.slots in
-    let sized = size_of-append (slots_of p.bundles) (replicate code.fill c_ebreak) in
-    let fill = size_fill code.fill in
+    let long = code_length given number p q.code code in
     let n : ℕ = counted.0 - length p.gates in
     let whole = filled q.format (length p.names) p.bundles placed.bundles (subst (λ (f : Format). All (AreWhole f (length p.names)) p.bundles) (sym linked.format) (bundles_whole p.format (length p.names) p.bundles bundled placed.whole)) code.fill n (omega arith) (omega arith) in
     let count = whole.count in
     let at = bases_of given number p in
-    let same : (k : ℕ) → is_gate_of q.gates (q.code_base + 16 * k) ≡ is_gate_of (gates_from at.code p.gates) (at.code + 16 * k) =
-    λ k. ap (λ gs. is_gate_of gs (q.code_base + 16 * k)) gates ∙ ap (λ a. is_gate_of (gates_from at.code p.gates) (a + 16 * k)) base in (
+    let same = same_gates given number p q linked in (
       whole.full,
       record {
         bundled = ap has_words linked.format ∙ bundled;
@@ -133,37 +152,11 @@ words_format Sfiw e = refl
 words_whole : (f : Format) (count : ℕ) (bundles : List (List Slot)) → has_words f ≡ true → AreWholeIn f count bundles → AreOfItems count (slots_of bundles)
 words_whole f count bundles e whole = subst (λ (b : Bool). MatchBool b (AreOfItems count (slots_of bundles)) (All (AreWhole f count) bundles)) e whole
 
--- the target of a jump to a name is a word's start
-target_words : (given : List Place) → (number : ℕ) (p : Placement) (q : Part) → p.format ≡ Sfiw → IsLinked given number p q → (n : PlacedName) → IsPlacedThere p n → (to : ℕ) → target_of (bases_of given number p) n ≡ Some to
-    → (q.code_base ≤ to) × (to < q.code_base + length q.code) × (to % 4 ≡ 0) × (to < 2 ^ 32)
-target_words given number p q words linked (Gate k) there to e =
-    let is = some_same ((bases_of given number p).code + 16 * k) to e in
-    let base = linked.code_base in
-    let room = linked.code.size.has_room.room in
-    let well = lies_well given number p q linked in
-    let end = well.end in
-    let whole = well.even in
-    (omega arith, omega arith, omega arith, omega arith)
-target_words given number p q words linked (Code offset) there to e =
-    let is = some_same ((bases_of given number p).start + offset) to e in
-    let base = linked.code_base in
-    let room = linked.code.size.has_room.room in
-    let well = lies_well given number p q linked in
-    let end = well.end in
-    let whole = well.even in
-    let even : offset % 4 ≡ 0 = ap (λ f. offset % unit f) (sym words) ∙ there.0 in
-    let within = there.1 in
-    (omega arith, omega arith, omega arith, omega arith)
-target_words given number p q words linked (Data offset) there to e = cc
-target_words given number p q words linked Unknown there to e = cc
-
 are_word_starts : (given : List Place) → (number : ℕ) (p : Placement) (q : Part) → p.format ≡ Sfiw → IsPlacedPart p → IsLinked given number p q → AreWordStarts q.code_base (length q.code) (bases_of given number p) p.names
 are_word_starts given number p q words placed linked place to e =
-    let found = of_place (target_of (bases_of given number p)) (slice_get p.names place) to e in
-    let within = slice_get_within p.names place found.0 found.1 in
-    let there : IsPlacedThere p found.0 = subst (IsPlacedThere p) (get_or_from_slice_get p.names place found.0 found.0 found.1) (placed.names place found.0 within) in
-    let start = target_words given number p q words linked found.0 there to found.2 in
-    (and_from _ _ (and_from _ _ (le-leb q.code_base to start.0) (lt-ltb to (q.code_base + length q.code) start.1)) (eq-eqb (to % 4) 0 start.2), start.3)
+    let s = name_starts given number p q placed linked place to e in
+    let aligned : to % 4 ≡ 0 = ap (λ f. to % unit f) (sym words) ∙ s.aligned in
+    (and_from _ _ (and_from _ _ (le-leb q.code_base to s.from) (lt-ltb to (q.code_base + length q.code) s.below)) (eq-eqb (to % 4) 0 aligned), s.small)
 
 words_filled : (given : List Place) → (number : ℕ) (p : Placement) (q : Part) → p.format ≡ Sfiw → IsPlacedPart p → IsLinked given number p q → (of : AreOfItems (length p.names) (slots_of p.bundles))
     → IsFilled q (bases_of given number p) p.names (length p.gates) of.laid.0 (slots_of p.bundles)
@@ -179,13 +172,7 @@ words_filled given number p q words placed linked of =
     let laid = of.laid.2 in
     let in_words : InWords of.laid.0 (slots_of p.bundles) = subst (λ v. InWords of.laid.0 v) (sym laid) (view of.laid.0) in
     let aligned : size_of (slots_of p.bundles) % 4 ≡ 0 = ap (λ v. size_of v % 4) laid ∙ word_aligned of.laid.0 in
-    let long = ap length code.code_is ∙ length-append (repeat (length p.gates) (stub_of p.format)) code.bytes in
-    let stubs = length_stubs p.format (length p.gates) in
-    let bytes = slots_length _ _ _ _ code.bytes code.slots in
-    let sized = size_of-append (slots_of p.bundles) (replicate code.fill c_ebreak) in
-    let fill = size_fill code.fill in
-    let same : (k : ℕ) → is_gate_of q.gates (q.code_base + 16 * k) ≡ is_gate_of (gates_from at.code p.gates) (at.code + 16 * k) =
-    λ k. ap (λ gs. is_gate_of gs (q.code_base + 16 * k)) gates ∙ ap (λ a. is_gate_of (gates_from at.code p.gates) (a + 16 * k)) base in
+    let long = code_length given number p q.code code in
     record {
       start = omega arith;
       bytes = code.bytes;
@@ -199,7 +186,7 @@ words_filled given number p q words placed linked of =
       size = counted.1;
       right = items_right q.code_base (length q.code) at p.names (are_word_starts given number p q words placed linked) (length p.names) at.start kind.Nothing of.items of.laid.0 (slots_of p.bundles) (omega arith) of.permitted of.bodies
           (nothing_owed of.items) of.laid.1 (as_laid of.laid.0 (slots_of p.bundles) in_words);
-      listed = λ k below. same k ∙ listed_at at.code p.gates k below;
+      listed = λ k below. same_gates given number p q linked k ∙ listed_at at.code p.gates k below;
     }
 
 words_clean : (given : List Place) (number : ℕ) (p : Placement) (q : Part) → has_words p.format ≡ true → IsPlacedPart p → IsLinked given number p q → AreFindings number q []

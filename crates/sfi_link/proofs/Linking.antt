@@ -1,5 +1,5 @@
 -- From the code of each sandbox to the image.
-use Rattle.sfi_link.proofs.Prelude.{◌≡◌, ℕ, zero, suc, ◌+◌, ◌-◌, ◌*◌, ◌/◌, ◌^◌, ◌<◌, ◌≤◌, List, [], ◌∷◌, ◌++◌, length, take, drop, get_or, replicate, refl, sym, ap, ◌∙◌, subst, arith, append_assoc, append-nil, length-append, inl, inr, Vec, Global, max, map, Result, Ok, Err, IfOk, All, AllPairs, repeat, cases_lt, length-map, length-take-le, map_push, All-nil, Format, code_most, Sandbox, Span, Part, fields_of, stub_of, PlacedName, size_of, slots_of, Placement, IsPlacedPart, IsPlacedThere, Place, Bases, LinkFault, place_of, IsRightPlace, spans_at, AreApart, spans, spans_of, bases_of, AreSlots, c_ebreak, needed, HasRoom, IsCodeSize, gates_from, IsLinkedCode, IsLinked, AreLinkedFrom, AreLinked, MayLie, IsSlotFault, HasPartFault, IsPartFault, IsLinkFault, IsNear, AreNear, HasRoomFor, AreWritten, LiesBeside, IsCodeBeside, AreCodes, Links}
+use Rattle.sfi_link.proofs.Prelude.{◌≡◌, ℕ, zero, suc, ◌+◌, ◌-◌, ◌*◌, ◌/◌, ◌^◌, ◌<◌, ◌≤◌, List, [], ◌∷◌, ◌++◌, length, take, drop, get_or, replicate, refl, sym, ap, ◌∙◌, subst, arith, append_assoc, append-nil, length-append, inl, inr, Vec, Global, max, map, Result, Ok, Err, IfOk, All, AllPairs, repeat, cases_lt, length-map, length-take-le, map_push, All-nil, Format, code_most, Sandbox, Span, Part, fields_of, stub_of, PlacedName, size_of, slots_of, Placement, IsPlacedPart, IsPlacedThere, Place, Bases, LinkFault, place_of, IsRightPlace, spans_at, AreApart, spans, spans_of, bases_of, AreSlots, c_ebreak, needed, HasRoom, IsCodeSize, gates_from, IsLinkedCode, IsLinked, AreLinkedFrom, AreLinked, MayLie, IsSlotFault, HasPartFault, IsPartFault, IsLinkFault, IsNear, AreNear, HasRoomFor, AreWritten, LiesBeside, IsCodeBeside, AreCodes, Links, All-push, with_guards}
 use Rattle.rv_source.specs.declared.item.SourceGate.{SourceGate}
 use Rattle.sfi_image.specs.Bounded.{IsBounded}
 use Rattle.sfi_link.specs.Answers.{UnlessMemory, AnswersItems, AnswersFault}
@@ -13,11 +13,10 @@ use Rattle.sfi_image.proofs.Formats.{code_at_most}
 use Rattle.sfi_image.proofs.SpanLists.{front_apart}
 use Rattle.sfi_rewrite.specs.declared.placed.PlacedName.TheVariants as name
 use Rattle.sfi_link.specs.declared.fault.LinkFault.TheVariants as named
-use Rattle.sfi_link.proofs.Unless.{memory_or, then_unless}
 use Rattle.sfi_rewrite.proofs.Sizes.{size_even}
 use Rattle.sfi_link.proofs.Stubs.{length_stubs}
 use Rattle.sfi_link.proofs.Parts.{sixteens, well_placed}
-use Rattle.sfi_link.proofs.Pushed.{slots-append, split_at, written_length, fill_slots}
+use Rattle.sfi_link.proofs.Pushed.{slots-append, split_at, written_length, fill_slots, memory_or, then_unless}
 use Rattle.sfi_link.proofs.OneLinking.{one_size, own_spans, one_linking, one_fault, never_both}
 
 -- ---- the code size
@@ -61,6 +60,33 @@ small_size f needed low = record {
 pub no_room : (f : Format) (needed size : ℕ) → code_most f < needed → HasRoom f needed size → ⊥
 no_room f needed size large h = let a = h.room in let b = h.at_most in omega arith
 
+-- ---- a sandbox that lies beside others
+
+pub code_bounded : (p : Placement) (size : ℕ) (place : Place) → IsRightPlace p size place → IsBounded (record { base = place.code_base; size = size })
+code_bounded p size place lies =
+    let word = lies.word in
+    let low = lies.code.at_least in
+    let most = lies.code.at_most in
+    let bound = code_at_most p.format in
+    record { some = omega arith; end = omega arith }
+
+pub guarded_bounded : (p : Placement) (size : ℕ) (place : Place) → IsRightPlace p size place → IsBounded (with_guards (record { base = place.data_base; size = p.data_size }))
+guarded_bounded p size place lies = let above = lies.guard_room.above in record { some = omega arith; end = omega arith }
+
+-- its spans come after the old ones
+pub lies_beside : (p : Placement) (size : ℕ) (place : Place) (old new : List Span) → IsRightPlace p size place → All IsBounded old → AllPairs AreApart (old ++ spans_at p size place) → new ≡ old ++ spans_at p size place
+    → LiesBeside p size place old new
+lies_beside p size place old new right bounded apart is =
+    let code : Span = record { base = place.code_base; size = size } in
+    let guarded : Span = with_guards (record { base = place.data_base; size = p.data_size }) in
+    let both = All-push IsBounded (old ++ code ∷ []) guarded (All-push IsBounded old code bounded (code_bounded p size place right)) (guarded_bounded p size place right) in
+    record {
+      right = right;
+      spans_are = is;
+      bounded = subst (All IsBounded) (append_assoc old (code ∷ []) (guarded ∷ []) ∙ sym is) both;
+      apart = subst (AllPairs AreApart) (sym is) apart;
+    }
+
 -- ---- what is near
 
 near_name : (given : List Place) (number : ℕ) (p : Placement) (size : ℕ) → IsPlacedPart p → HasRoom p.format (needed p) size → IsRightPlace p size (place_of given number) → (n : PlacedName) → IsPlacedThere p n
@@ -88,6 +114,12 @@ pub near_of : (given : List Place) (number : ℕ) (p : Placement) (size : ℕ) �
 near_of given number p size placed room lies = λ k d lt. near_name given number p size placed room lies (get_or p.names k d) (placed.names k d lt)
 
 -- ---- the code of one sandbox
+
+-- the stubs of the gates, in the sandbox's format, come first
+pub stubs_pushed : (p : Placement) (code old stub : List ℕ) (gates : List SourceGate) (f : Format) → code ≡ old ++ repeat (length gates) stub → old ≡ [] → gates ≡ p.gates → stub ≡ stub_of f → f ≡ p.format
+    → code ≡ repeat (length p.gates) (stub_of p.format)
+stubs_pushed p code old stub gates f pushed none same is format =
+    pushed ∙ ap (λ l. l ++ repeat (length gates) stub) none ∙ ap (λ gs. repeat (length gs) stub) same ∙ ap (λ b. repeat (length p.gates) b) (is ∙ ap (λ g. stub_of g) format)
 
 -- the bytes of a c.ebreak
 abbrev pub pair : List ℕ

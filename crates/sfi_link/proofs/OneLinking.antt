@@ -22,7 +22,7 @@ one_slots at names here (s ∷ slots) xs ys (f, r, one, others, e) (g, t, two, m
 pub one_size : (f : Format) (bytes m n : ℕ) → IsCodeSize f bytes m → IsCodeSize f bytes n → m ≡ n
 one_size f bytes m n a b = let x = a.least n b.has_room in let y = b.least m a.has_room in omega arith
 
-code_length : (given : List Place) → (number : ℕ) (p : Placement) (code : List ℕ) (c : IsLinkedCode given number p code) → length code ≡ 16 * length p.gates + (size_of (slots_of p.bundles) + 2 * c.fill)
+pub code_length : (given : List Place) → (number : ℕ) (p : Placement) (code : List ℕ) (c : IsLinkedCode given number p code) → length code ≡ 16 * length p.gates + (size_of (slots_of p.bundles) + 2 * c.fill)
 code_length given number p code c =
     let a = ap length c.code_is ∙ length-append (repeat (length p.gates) (stub_of p.format)) c.bytes in
     let b = length_stubs p.format (length p.gates) in

@@ -1,12 +1,26 @@
 -- Slots written one after another.
-use Rattle.sfi_link.proofs.Prelude.{◌≡◌, ℕ, zero, suc, ◌+◌, ◌<◌, ◌≤◌, List, [], ◌∷◌, ◌++◌, length, take, drop, get_or, replicate, Some, refl, sym, ap, ◌∙◌, subst, arith, append_assoc, append-nil, length-append, drop-cons, add-one, inl, inr, ℤ, pos, All, repeat, w32, to_le_bytes, take_more, take-append-drop, get_or_append_left, get_or-append-add, ints, Instr, OpImm, Addi, InRange, IsReg, IsImm12, spelling, expansion, lower, Slot, Lower, PlacedName, slot_size, size_of, slots_of, Bases, LinkFault, address_at, AreSlots, made_of, c_ebreak, HasRoomFor, IsPushed, AreWritten, HasSlotFault, IsSlotFault}
+use Rattle.sfi_link.proofs.Prelude.{◌≡◌, ℕ, zero, suc, ◌+◌, ◌<◌, ◌≤◌, List, [], ◌∷◌, ◌++◌, length, take, drop, get_or, replicate, Some, refl, sym, ap, ◌∙◌, subst, arith, append_assoc, append-nil, length-append, drop-cons, add-one, inl, inr, ℤ, pos, All, repeat, w32, to_le_bytes, take_more, take-append-drop, get_or_append_left, get_or-append-add, ints, Instr, OpImm, Addi, InRange, IsReg, IsImm12, spelling, expansion, lower, Slot, Lower, PlacedName, slot_size, size_of, slots_of, Bases, LinkFault, address_at, AreSlots, made_of, c_ebreak, HasRoomFor, IsPushed, AreWritten, HasSlotFault, IsSlotFault, ◌⊎◌}
 use Rattle.rv_comp.specs.declared.form.Form16.TheVariants.{CEbreak}
 use Rattle.sfi_link.specs.Answers.{UnlessMemory}
 use Rattle.std.proofs.lemmas.Grind.{flat_map-append}
 use Rattle.std.proofs.lemmas.List.Sums.{sum_by-take-le}
-use Rattle.sfi_link.proofs.Unless.{then_unless}
 use Rattle.sfi_rewrite.proofs.Sizes.{size_of-cons, size_of-append}
 use Rattle.sfi_link.proofs.Parts.{slots_length}
+use Rattle.sfi_link.specs.declared.fault.LinkFault.TheVariants.{Memory}
+
+-- ---- what is said of a fault, unless memory ran out
+
+-- memory ran out, or it holds
+pub memory_or : (P : LinkFault → Type 0) (f : LinkFault) → UnlessMemory P f → (f ≡ Memory) ⊎ P f
+memory_or P Memory h = inl refl
+memory_or P _ h = inr h
+
+-- and what follows from it is said of the fault too
+pub then_unless : (P Q : LinkFault → Type 0) → ((f : LinkFault) → P f → Q f) → (f : LinkFault) → UnlessMemory P f → UnlessMemory Q f
+then_unless P Q step Memory h = tt
+then_unless P Q step f h = step f h
+
+-- ---- slots
 
 lower_fits : (z : ℤ) → IsImm12 (lower z)
 lower_fits z = (omega (arith, ints), omega (arith, ints))
@@ -43,9 +57,6 @@ written_length at names slots old new w =
     let a = slots_length at names (at.code + length old) slots w.bytes w.spelled in
     let b = ap length w.appended ∙ length-append old w.bytes in
     omega arith
-
-pub none_written : (at : Bases) (names : List PlacedName) (old : List ℕ) → AreWritten at names [] old old
-none_written at names old = record { bytes = []; appended = sym (append-nil old); spelled = refl }
 
 pub written-append : (at : Bases) (names : List PlacedName) (xs ys : List Slot) (old now new : List ℕ) → AreWritten at names xs old now → AreWritten at names ys now new → AreWritten at names (xs ++ ys) old new
 written-append at names xs ys old now new v w =

@@ -1,5 +1,5 @@
 -- A region of clean bundles has no finding.
-use Rattle.sfi_link.proofs.Prelude.{◌≡◌, ℕ, zero, suc, ◌+◌, ◌-◌, ◌*◌, ◌^◌, ◌<◌, ◌≤◌, List, [], ◌∷◌, ◌++◌, length, take, drop, get_or, Bool, true, false, refl, sym, ap, ◌∙◌, subst, arith, inl, inr, length-append, append_assoc, replicate, ◌==◌, ◌&&◌, not, pos, All, flat_map, repeat, cases_lt, cases_eq, ne_eqb, and_left, and_right, not_from_true, ints, length-replicate, get_or-replicate, get_or_append_left, get_or-append-add, All-head, All-tail, All-nil, All-cons, All-append, All-replicate, Op, Jalr, Ecall, InRange, spelling, Format, Instr, has_stack, c_ebreak, Part, stub, Piece, IsReading, Slot, PlacedName, slot_size, size_of, slots_of, AreWhole, Bases, AreSlots}
+use Rattle.sfi_link.proofs.Prelude.{◌≡◌, ℕ, zero, suc, ◌+◌, ◌-◌, ◌*◌, ◌^◌, ◌<◌, ◌≤◌, List, [], ◌∷◌, ◌++◌, length, take, drop, get_or, Bool, true, false, refl, sym, ap, ◌∙◌, subst, arith, inl, inr, length-append, append_assoc, replicate, ◌==◌, ◌&&◌, not, pos, All, repeat, cases_lt, cases_eq, ne_eqb, and_left, and_right, not_from_true, ints, length-replicate, get_or-replicate, get_or_append_left, get_or-append-add, All-head, All-tail, All-nil, All-cons, All-append, All-replicate, Op, Jalr, Ecall, InRange, spelling, Format, Instr, has_stack, c_ebreak, Part, stub, Piece, IsReading, Slot, PlacedName, slot_size, size_of, slots_of, AreWhole, Bases, AreSlots}
 use Rattle.sfi_policy.specs.Formats.{has_words}
 use Rattle.rv_word.specs.declared.instr.RegOp.TheVariants.{And, Or}
 use Rattle.sfi_image.specs.Gates.{is_gate_of}
@@ -10,15 +10,13 @@ use Rattle.sfi_image.specs.declared.bundle.BundlePlace.{BundlePlace}
 use Rattle.std.proofs.Math.Seq.{take-append_seam, drop-append-add}
 use Rattle.sfi_rules.specs.Bundles.{place_of}
 use Rattle.rv_comp.proofs.Facts.{word_spells}
-use Rattle.sfi_link.proofs.Stuck.{whole_is_longest}
 use Rattle.sfi_rewrite.proofs.Sizes.{size_of-cons}
-use Rattle.sfi_link.proofs.CleanPlaces.{AreStarts, ends_slots, ends_well, IsEndFine, IsCleanFrom}
+use Rattle.sfi_link.proofs.CleanPlaces.{AreStarts, ends_slots, ends_well, IsEndFine, IsCleanFrom, whole_is_longest}
 use Rattle.sfi_link.proofs.Clean.{IsCleanly, clean, clean_fill}
+use Rattle.sfi_link.proofs.Sizes.{join}
+use Rattle.std.proofs.lemmas.Grind.{flat_map-append}
 
 -- ---- bundles by their number
-
-abbrev pub join : List (List ℕ) → List ℕ
-join chunks = flat_map (λ (c : List ℕ). c) chunks
 
 abbrev pub IsChunk : List ℕ → Type 0
 IsChunk c = length c ≡ 16
@@ -42,10 +40,6 @@ length-join (c ∷ chunks) h =
     let m = length-join chunks (All-tail IsChunk c chunks h) in
     let e = length-append c (join chunks) in
     omega arith
-
-join-append : (xs ys : List (List ℕ)) → join (xs ++ ys) ≡ join xs ++ join ys
-join-append [] ys = refl
-join-append (x ∷ xs) ys = ap (λ l. x ++ l) (join-append xs ys) ∙ sym (append_assoc x (join xs) (join ys))
 
 -- bundles without findings
 none_of_first : (sandbox : ℕ) (p : Part) (chunks : List (List ℕ)) → p.code ≡ join chunks → All IsChunk chunks
@@ -96,10 +90,7 @@ pub record IsFull (f : Format) (count : ℕ) (slots : List Slot) : Type 0 where
   pub shape : slots ≡ front ++ replicate fill c_ebreak
   pub whole : AreWhole f count front
 
--- the bundle whose first byte stands there
-abbrev bundle_at : BundlePlace → ℕ → BundlePlace
-bundle_at b at = record b { address = at }
-
+-- the bundles' bytes, of which each is without findings in its place
 pub record AreChunks (b : BundlePlace) (here : ℕ) (full : List (List Slot)) (bytes : List ℕ) : Type 0 where
   pub chunks : List (List ℕ)
   pub whole : bytes ≡ join chunks
@@ -226,7 +217,7 @@ closed_is_clean sandbox p at names stubs full h fits =
     let many : length (replicate stubs stub) ≡ stubs = length-replicate stubs stub in
     let all_many : length (replicate stubs stub ++ c.chunks) ≡ length (replicate stubs stub) + length c.chunks = length-append (replicate stubs stub) c.chunks in
     let code : p.code ≡ join (replicate stubs stub ++ c.chunks) =
-    h.code ∙ ap (λ l. repeat stubs stub ++ l) c.whole ∙ ap (λ l. l ++ join c.chunks) (stubs_are stubs) ∙ sym (join-append (replicate stubs stub) c.chunks) in
+    h.code ∙ ap (λ l. repeat stubs stub ++ l) c.whole ∙ ap (λ l. l ++ join c.chunks) (stubs_are stubs) ∙ sym (flat_map-append (λ c. c) (replicate stubs stub) c.chunks) in
     none_of_region sandbox p (replicate stubs stub ++ c.chunks) code (All-append IsChunk (replicate stubs stub) c.chunks (All-replicate IsChunk stubs stub refl) c.all)
     (λ k less. elim (cases_lt k stubs) [
       | inl low ↦

@@ -1,5 +1,5 @@
 -- Each item of a source does in the image what its instruction does.
-use Rattle.sfi_link.proofs.Prelude.{◌≡◌, ℕ, ◌+◌, ◌*◌, ◌^◌, ◌≤◌, List, [], ◌∷◌, ◌++◌, length, length-append, replicate, Some, Bool, true, false, refl, sym, ap, ◌∙◌, subst, arith, append_assoc, inl, inr, slice_index, pos, ℤ, negsuc, zero, suc, ◌-ℤ◌, MatchBool, slice_get, repeat, All, get_or_append_left, get_or-append-add, Instr, Op, OpImm, Load, Store, Branch, Jal, Jalr, Lui, Addi, Format, is_stack, upper, lower, Sandbox, IsSandbox, IsBody, Part, stub_of, Slot, Wide, Short, PlacedName, size_of, slots_of, c_nop, Placement, Place, Bases, bases_of, with_offset, target_at, address_at, AreSlots, c_ebreak, IsLinked, AreLinkedFrom, All-head, All-tail}
+use Rattle.sfi_link.proofs.Prelude.{◌≡◌, ℕ, ◌+◌, ◌*◌, ◌^◌, ◌≤◌, List, [], ◌∷◌, ◌++◌, length, length-append, replicate, Some, Bool, true, false, refl, sym, ap, ◌∙◌, subst, arith, append_assoc, inl, inr, slice_index, pos, ℤ, negsuc, zero, suc, ◌-ℤ◌, MatchBool, slice_get, repeat, All, get_or_append_left, get_or-append-add, Instr, Op, OpImm, Load, Store, Branch, Jal, Jalr, Lui, Addi, Format, is_stack, upper, lower, Sandbox, IsSandbox, IsBody, Part, stub_of, Slot, Wide, Short, Jump, Upper, Lower, PlacedName, size_of, slots_of, c_nop, Placement, Place, Bases, bases_of, with_offset, target_at, address_at, AreSlots, c_ebreak, IsLinked, AreLinkedFrom, All-head, All-tail}
 use Rattle.rv_mem.specs.Bytes.{Bytes, byte_at, address_after}
 use Rattle.rv_mem.specs.Laws.{Holds}
 use Rattle.rv_step.specs.State.{State}
@@ -7,7 +7,7 @@ use Rattle.rv_source.specs.declared.item.Body.{Body}
 use Rattle.rv_source.specs.declared.item.Body.TheVariants.{Plain, To, High, Low}
 use Rattle.rv_source.specs.declared.item.Item.{Item}
 use Rattle.sfi_image.specs.Parts.{IsRightPart}
-use Rattle.sfi_link.specs.Standing.{AreResolvedTo, RunsAs, WordRunsAs, RunsAsIn, LinkedRunsAs, LinkedImagesRunAs, SandboxesRunAs}
+use Rattle.sfi_link.specs.Standing.{AreResolvedTo, RunsAt, RunsAs, WordRunsAs, RunsAsIn, LinkedRunsAs, LinkedImagesRunAs, SandboxesRunAs}
 use Rattle.sfi_rewrite.specs.Expansion.{jump_slots, IsAlone, IsMasked, IsExpansionOf}
 use Rattle.sfi_rewrite.specs.Rewriting.{IsRewritten, AreRewritten}
 use Rattle.sfi_rewrite.specs.Stack.{is_on_stack, stack_pair, put_back}
@@ -29,65 +29,7 @@ use Rattle.sfi_link.proofs.Region.{AreCut, cut}
 use Rattle.sfi_rewrite.proofs.Sizes.{size_of-append, size_nops}
 use Rattle.sfi_link.proofs.Parts.{slots_length, lies_well, linked_right}
 
--- ---- which instruction an item becomes
-
-record Becomes (at : Bases) (names : List PlacedName) (here : ℕ) (body : Body) (slots : List Slot) : Type 0 where
-  instr : Instr
-  may_be : MayBe body instr
-  goes : AreResolvedTo at names here instr slots
-
-plainly : (at : Bases) (names : List PlacedName) (here : ℕ) (i : Instr) (slots expanded : List Slot) → slots ≡ expanded → AreResolvedTo at names here i expanded → Becomes at names here (Plain i) slots
-plainly at names here i slots expanded e h = record { instr = i; may_be = refl; goes = subst (λ (l : List Slot). AreResolvedTo at names here i l) (sym e) h }
-
-alone : (at : Bases) (names : List PlacedName) (here : ℕ) (rvc : Bool) (i : Instr) (slots : List Slot) → IsAlone rvc i slots → Becomes at names here (Plain i) slots
-alone at names here false i slots e = plainly at names here i slots (Wide i ∷ []) e (tt, tt)
-alone at names here true i slots (inl s) = plainly at names here i slots (Short s.0 ∷ []) s.2 (tt, tt)
-alone at names here true i slots (inr w) = plainly at names here i slots (Wide i ∷ []) w.1 (tt, tt)
-
-jumping : (at : Bases) (names : List PlacedName) (here : ℕ) (rd a : ℕ) (imm : ℤ) (slots : List Slot) → slots ≡ jump_slots rd a imm → Becomes at names here (Plain (Jalr rd a imm)) slots
-jumping at names here rd a (pos zero) slots e = plainly at names here (Jalr rd a (pos zero)) slots (jump_slots rd a (pos zero)) e (tt, (tt, (tt, tt)))
-jumping at names here rd a (pos (suc n)) slots e = plainly at names here (Jalr rd a (pos (suc n))) slots (jump_slots rd a (pos (suc n))) e (tt, (tt, (tt, (tt, tt))))
-jumping at names here rd a (negsuc n) slots e = plainly at names here (Jalr rd a (negsuc n)) slots (jump_slots rd a (negsuc n)) e (tt, (tt, (tt, (tt, tt))))
-
-aimed : (j i : Instr) (z : ℤ) (count name : ℕ) → IsBody count (To j name) → i ≡ with_offset z j → IsAimed j i
-aimed (Jal rd offset) i z count name b e = (z, e)
-aimed (Branch cond rs1 rs2 offset) i z count name b e = (z, e)
-aimed _ i z count name b e = absurd b.1
-
--- the pair that puts the stack pointer back waits for no name
-pair_for : (at : Bases) (names : List PlacedName) (here : ℕ) (i : Instr) (writes : Bool) → AreResolvedTo at names here i (put_back writes)
-pair_for at names here i false = tt
-pair_for at names here i true = (tt, (tt, tt))
-
-masked : (at : Bases) (names : List PlacedName) (here : ℕ) (rvc : Bool) (i : Instr) (slots : List Slot) → IsMasked rvc i slots → Becomes at names here (Plain i) slots
-masked at names here rvc (Load kind rd a imm) slots e = plainly at names here (Load kind rd a imm) slots _ e (tt, (tt, (tt, tt)))
-masked at names here rvc (Store width a rs2 imm) slots e = plainly at names here (Store width a rs2 imm) slots _ e (tt, (tt, (tt, tt)))
-masked at names here rvc (Jalr rd a imm) slots e = jumping at names here rd a imm slots e
-masked at names here rvc i slots e = alone at names here rvc i slots e
-
-plain : (at : Bases) (names : List PlacedName) (here : ℕ) (writes on rvc : Bool) (i : Instr) (slots : List Slot)
-    → MatchBool writes (slots ≡ Wide i ∷ stack_pair) (MatchBool on (IsAlone rvc i slots) (IsMasked rvc i slots)) → Becomes at names here (Plain i) slots
-plain at names here true on rvc i slots e = plainly at names here i slots (Wide i ∷ stack_pair) e (tt, (tt, (tt, tt)))
-plain at names here false true rvc i slots e = alone at names here rvc i slots e
-plain at names here false false rvc i slots e = masked at names here rvc i slots e
-
-becomes : (f : Format) (at : Bases) (names : List PlacedName) (here line count : ℕ) (rvc : Bool) (body : Body) (slots : List Slot) (bytes : List ℕ)
-    → IsBody count body → IsExpansionOf f line rvc body slots → AreSlots at names here slots bytes → Becomes at names here body slots
-becomes f at names here line count rvc (Plain i) slots bytes b e h = plain at names here (writes_stack f i) (is_on_stack f i) rvc i slots e
-becomes f at names here line count rvc (To j name) slots bytes b e h =
-    let g = subst (λ (l : List Slot). AreSlots at names here l bytes) e h in
-    let m = made (λ to. with_offset (pos to -ℤ pos here) j) (target_at at names name) g.2.instr g.2.resolves in
-    record { instr = g.2.instr; may_be = aimed j g.2.instr (pos m.0 -ℤ pos here) count name b m.2; goes = subst (λ (l : List Slot). AreResolvedTo at names here g.2.instr l) (sym e) (g.2.resolves, tt) }
-becomes f at names here line count rvc (High rd name) slots bytes b e h =
-    let g = subst (λ (l : List Slot). AreSlots at names here l bytes) e h in
-    let m = made (λ address. Lui rd (upper (pos address))) (address_at at names name) g.2.instr g.2.resolves in
-    record { instr = g.2.instr; may_be = (upper (pos m.0), m.2); goes = subst (λ (l : List Slot). AreResolvedTo at names here g.2.instr l) (sym e) (g.2.resolves, pair_for at names (here + 4) g.2.instr (is_stack f rd)) }
-becomes f at names here line count rvc (Low rd name) slots bytes b e h =
-    let g = subst (λ (l : List Slot). AreSlots at names here l bytes) e h in
-    let m = made (λ address. OpImm Addi rd rd (lower (pos address))) (address_at at names name) g.2.instr g.2.resolves in
-    record { instr = g.2.instr; may_be = (lower (pos m.0), m.2); goes = subst (λ (l : List Slot). AreResolvedTo at names here g.2.instr l) (sym e) (g.2.resolves, pair_for at names (here + 4) g.2.instr (is_stack f rd)) }
-
--- ---- which instruction an item of code in words becomes
+-- ---- slots that wait for no name
 
 -- none of the slots waits for a name
 abbrev AreBare : List Slot → Type 0
@@ -146,29 +88,85 @@ bare_plain true rvc step i slots e = subst AreBare (sym e) (bare_moved i)
 bare_plain false rvc step i slots e =
     subst AreBare (sym e.2) (bare_append (before i) (e.0 ++ after step i) (bare_before i) (bare_append e.0 (after step i) (bare_confined rvc i e.0 e.1) (bare_after step i)))
 
-becomes_in_words : (at : Bases) (names : List PlacedName) (here line count : ℕ) (rvc step : Bool) (body : Body) (slots : List Slot) (bytes : List ℕ)
-    → IsBody count body → words_expansion.IsExpansionOf line rvc step body slots → AreSlots at names here slots bytes → Becomes at names here body slots
-becomes_in_words at names here line count rvc step (Plain i) slots bytes b e h =
-    record { instr = i; may_be = refl; goes = bare_goes at names here i slots (bare_plain (is_move i && not step) rvc step i slots e) }
-becomes_in_words at names here line count rvc step (To j name) slots bytes b e h =
+-- in bundles
+bare_jump : (rd a : ℕ) (imm : ℤ) → AreBare (jump_slots rd a imm)
+bare_jump rd a (pos zero) = tt
+bare_jump rd a (pos (suc n)) = tt
+bare_jump rd a (negsuc n) = tt
+
+bare_masked : (rvc : Bool) (i : Instr) (slots : List Slot) → IsMasked rvc i slots → AreBare slots
+bare_masked rvc (Load kind rd a imm) slots e = subst AreBare (sym e) tt
+bare_masked rvc (Store width a rs2 imm) slots e = subst AreBare (sym e) tt
+bare_masked rvc (Jalr rd a imm) slots e = subst AreBare (sym e) (bare_jump rd a imm)
+bare_masked rvc i slots e = bare_alone rvc i slots e
+
+bare_bundled : (writes on rvc : Bool) (i : Instr) (slots : List Slot)
+    → MatchBool writes (slots ≡ Wide i ∷ stack_pair) (MatchBool on (IsAlone rvc i slots) (IsMasked rvc i slots)) → AreBare slots
+bare_bundled true on rvc i slots e = subst AreBare (sym e) tt
+bare_bundled false true rvc i slots e = bare_alone rvc i slots e
+bare_bundled false false rvc i slots e = bare_masked rvc i slots e
+
+bare_pair : (writes : Bool) → AreBare (put_back writes)
+bare_pair false = tt
+bare_pair true = tt
+
+-- ---- which instruction an item becomes
+
+-- of an item's slots the first waits for its name, if it has one, and no other
+abbrev AwaitName : Body → List Slot → Type 0
+AwaitName (Plain i) slots = AreBare slots
+AwaitName (To i name) slots = (line : ℕ) × (rest : List Slot) × (slots ≡ Jump i name line ∷ rest) × AreBare rest
+AwaitName (High rd name) slots = (line : ℕ) × (rest : List Slot) × (slots ≡ Upper rd name line ∷ rest) × AreBare rest
+AwaitName (Low rd name) slots = (line : ℕ) × (rest : List Slot) × (slots ≡ Lower rd name line ∷ rest) × AreBare rest
+
+await_in_bundles : (f : Format) (line : ℕ) (rvc : Bool) (body : Body) (slots : List Slot) → IsExpansionOf f line rvc body slots → AwaitName body slots
+await_in_bundles f line rvc (Plain i) slots e = bare_bundled (writes_stack f i) (is_on_stack f i) rvc i slots e
+await_in_bundles f line rvc (To i name) slots e = (line, [], e, tt)
+await_in_bundles f line rvc (High rd name) slots e = (line, put_back (is_stack f rd), e, bare_pair (is_stack f rd))
+await_in_bundles f line rvc (Low rd name) slots e = (line, put_back (is_stack f rd), e, bare_pair (is_stack f rd))
+
+await_in_words : (line : ℕ) (rvc step : Bool) (body : Body) (slots : List Slot) → words_expansion.IsExpansionOf line rvc step body slots → AwaitName body slots
+await_in_words line rvc step (Plain i) slots e = bare_plain (is_move i && not step) rvc step i slots e
+await_in_words line rvc step (To i name) slots e = (line, [], e, tt)
+await_in_words line rvc step (High rd name) slots e = (line, mask_after (Some rd), e, bare_mask (Some rd))
+await_in_words line rvc step (Low rd name) slots e = (line, mask_after (Some rd), e, bare_mask (Some rd))
+
+aimed : (j i : Instr) (z : ℤ) (count name : ℕ) → IsBody count (To j name) → i ≡ with_offset z j → IsAimed j i
+aimed (Jal rd offset) i z count name b e = (z, e)
+aimed (Branch cond rs1 rs2 offset) i z count name b e = (z, e)
+aimed _ i z count name b e = absurd b.1
+
+record Becomes (at : Bases) (names : List PlacedName) (here : ℕ) (body : Body) (slots : List Slot) : Type 0 where
+  instr : Instr
+  may_be : MayBe body instr
+  goes : AreResolvedTo at names here instr slots
+
+becomes : (at : Bases) (names : List PlacedName) (here count : ℕ) (body : Body) (slots : List Slot) (bytes : List ℕ)
+    → IsBody count body → AwaitName body slots → AreSlots at names here slots bytes → Becomes at names here body slots
+becomes at names here count (Plain i) slots bytes b w h = record { instr = i; may_be = refl; goes = bare_goes at names here i slots w }
+becomes at names here count (To j name) slots bytes b (line, rest, e, bare) h =
     let g = subst (λ (l : List Slot). AreSlots at names here l bytes) e h in
     let m = made (λ to. with_offset (pos to -ℤ pos here) j) (target_at at names name) g.2.instr g.2.resolves in
-    record { instr = g.2.instr; may_be = aimed j g.2.instr (pos m.0 -ℤ pos here) count name b m.2; goes = subst (λ (l : List Slot). AreResolvedTo at names here g.2.instr l) (sym e) (g.2.resolves, tt) }
-becomes_in_words at names here line count rvc step (High rd name) slots bytes b e h =
+    record {
+      instr = g.2.instr;
+      may_be = aimed j g.2.instr (pos m.0 -ℤ pos here) count name b m.2;
+      goes = subst (λ (l : List Slot). AreResolvedTo at names here g.2.instr l) (sym e) (g.2.resolves, bare_goes at names (here + 4) g.2.instr rest bare);
+    }
+becomes at names here count (High rd name) slots bytes b (line, rest, e, bare) h =
     let g = subst (λ (l : List Slot). AreSlots at names here l bytes) e h in
     let m = made (λ address. Lui rd (upper (pos address))) (address_at at names name) g.2.instr g.2.resolves in
     record {
       instr = g.2.instr;
       may_be = (upper (pos m.0), m.2);
-      goes = subst (λ (l : List Slot). AreResolvedTo at names here g.2.instr l) (sym e) (g.2.resolves, bare_goes at names (here + 4) g.2.instr (mask_after (Some rd)) (bare_mask (Some rd)));
+      goes = subst (λ (l : List Slot). AreResolvedTo at names here g.2.instr l) (sym e) (g.2.resolves, bare_goes at names (here + 4) g.2.instr rest bare);
     }
-becomes_in_words at names here line count rvc step (Low rd name) slots bytes b e h =
+becomes at names here count (Low rd name) slots bytes b (line, rest, e, bare) h =
     let g = subst (λ (l : List Slot). AreSlots at names here l bytes) e h in
     let m = made (λ address. OpImm Addi rd rd (lower (pos address))) (address_at at names name) g.2.instr g.2.resolves in
     record {
       instr = g.2.instr;
       may_be = (lower (pos m.0), m.2);
-      goes = subst (λ (l : List Slot). AreResolvedTo at names here g.2.instr l) (sym e) (g.2.resolves, bare_goes at names (here + 4) g.2.instr (mask_after (Some rd)) (bare_mask (Some rd)));
+      goes = subst (λ (l : List Slot). AreResolvedTo at names here g.2.instr l) (sym e) (g.2.resolves, bare_goes at names (here + 4) g.2.instr rest bare);
     }
 
 -- ---- where it stands in the code
@@ -231,43 +229,38 @@ are_there given number p q lead own after linked placed =
 
 -- ---- an item
 
-bundled_runs_as : (given : List Place) → (number : ℕ) (s : Sandbox) (p : Placement) (q : Part) (k : ℕ) (x : Item) → IsBody (length s.names) x.body → IsRightPart q → IsLinked given number p q
-    → StandsTransparent s.format s.items p k x → RunsAs given number s.format s.items p q k x
-bundled_runs_as given number s p q k x body right linked st =
+runs_at : (given : List Place) → (number : ℕ) (p : Placement) (q : Part) (x : Item) (count : ℕ) (lead own after : List Slot) (offset : ℕ) → IsBody count x.body → IsRightPart q → IsLinked given number p q
+    → slots_of p.bundles ≡ lead ++ (own ++ after) → size_of lead ≡ offset → AwaitName x.body own → RunsAt given number p q x own offset
+runs_at given number p q x count lead own after offset body right linked placed size waits =
     let b = bases_of given number p in
-    let nops = replicate st.nops c_nop in
-    let lead = st.before ++ nops in
-    let there = are_there given number p q lead st.expanded st.after linked (st.placed ∙ sym (append_assoc st.before nops (st.expanded ++ st.after))) in
-    let is = becomes s.format b p.names (q.start + size_of lead) x.line (length s.names) x.rvc x.body st.expanded there.bytes body st.next.expansion there.slots in
-    let place : q.start + size_of lead ≡ q.start + (size_of st.before + 2 * st.nops) =
-    (let d = size_of-append st.before nops in
-    let e = size_nops st.nops in
-    omega arith) in
+    let there = are_there given number p q lead own after linked placed in
+    let is = becomes b p.names (q.start + size_of lead) count x.body own there.bytes body waits there.slots in
+    let place : q.start + size_of lead ≡ q.start + offset = ap (λ n. q.start + n) size in
     record {
-      placed = st;
       instr = is.instr;
       may_be = is.may_be;
-      resolves = subst (λ (n : ℕ). AreResolvedTo b p.names n is.instr st.expanded) place is.goes;
+      resolves = subst (λ (n : ℕ). AreResolvedTo b p.names n is.instr own) place is.goes;
       regions = record { format = q.format; code_placed = right.code_placed; data_placed = right.data_placed };
       stands = λ t code pc. there.stand is.instr is.goes t code (pc ∙ sym place);
     }
 
+bundled_runs_as : (given : List Place) → (number : ℕ) (s : Sandbox) (p : Placement) (q : Part) (k : ℕ) (x : Item) → IsBody (length s.names) x.body → IsRightPart q → IsLinked given number p q
+    → StandsTransparent s.format s.items p k x → RunsAs given number s.format s.items p q k x
+bundled_runs_as given number s p q k x body right linked st =
+    let nops = replicate st.nops c_nop in
+    let size : size_of (st.before ++ nops) ≡ size_of st.before + 2 * st.nops =
+    (let d = size_of-append st.before nops in
+    let e = size_nops st.nops in
+    omega arith) in
+    let waits = await_in_bundles s.format x.line x.rvc x.body st.expanded st.next.expansion in
+    (st, runs_at given number p q x (length s.names) (st.before ++ nops) st.expanded st.after (size_of st.before + 2 * st.nops) body right linked (st.placed ∙ sym (append_assoc st.before nops (st.expanded ++ st.after))) size waits)
+
 words_run_as : (given : List Place) → (number : ℕ) (s : Sandbox) (p : Placement) (q : Part) (k : ℕ) (x : Item) → IsBody (length s.names) x.body → IsRightPart q → IsLinked given number p q
     → words.StandsTransparent s.items p k x → WordRunsAs given number s.items p q k x
 words_run_as given number s p q k x body right linked st =
-    let b = bases_of given number p in
-    let there = are_there given number p q st.before st.own st.after linked st.placed in
-    let laid = body_laid x.line x.rvc (is_step x (drop (k + 1) s.items)) x.body st.expanded st.own st.is_expansion st.stands in
-    let is = becomes_in_words b p.names (q.start + size_of st.before) x.line (length s.names) laid.0 (is_step x (drop (k + 1) s.items)) x.body st.own there.bytes body laid.1 there.slots in
-    let place : q.start + size_of st.before ≡ q.start + (size_of st.before + 2 * 0) = omega arith in
-    record {
-      placed = st;
-      instr = is.instr;
-      may_be = is.may_be;
-      resolves = subst (λ (n : ℕ). AreResolvedTo b p.names n is.instr st.own) place is.goes;
-      regions = record { format = q.format; code_placed = right.code_placed; data_placed = right.data_placed };
-      stands = λ t code pc. there.stand is.instr is.goes t code (pc ∙ sym place);
-    }
+    let step = is_step x (drop (k + 1) s.items) in
+    let laid = body_laid x.line x.rvc step x.body st.expanded st.own st.is_expansion st.stands in
+    (st, runs_at given number p q x (length s.names) st.before st.own st.after (size_of st.before) body right linked st.placed refl (await_in_words x.line laid.0 step x.body st.own laid.1))
 
 item_runs_as : (given : List Place) → (number : ℕ) (s : Sandbox) (p : Placement) (q : Part) (k : ℕ) (x : Item) → IsSandbox s → IsRewritten s p → IsRightPart q
     → IsLinked given number p q → slice_get s.items k ≡ Some x → RunsAsIn given number s.format s.items p q k x

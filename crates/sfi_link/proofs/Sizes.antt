@@ -1,5 +1,5 @@
--- How many bytes slots take.
-use Rattle.sfi_link.proofs.Prelude.{◌≡◌, ℕ, ◌+◌, ◌*◌, ◌<◌, List, [], ◌∷◌, ◌++◌, length, replicate, subst, ap, ◌∙◌, arith, Slot, Short, slot_size, size_of, slots_of, AreBundles, c_ebreak}
+-- How many bytes slots take, and lists of bytes one after another.
+use Rattle.sfi_link.proofs.Prelude.{◌≡◌, ℕ, ◌+◌, ◌*◌, ◌<◌, List, [], ◌∷◌, ◌++◌, length, replicate, flat_map, subst, ap, ◌∙◌, arith, Slot, Short, slot_size, size_of, slots_of, AreBundles, c_ebreak}
 use Rattle.std.proofs.lemmas.List.Folds.{sum_by-replicate}
 use Rattle.sfi_rewrite.proofs.Sizes.{size_of-append}
 
@@ -26,3 +26,7 @@ slot_some _ = omega arith
 
 pub size_fill : (n : ℕ) → size_of (replicate n c_ebreak) ≡ 2 * n
 size_fill n = let e = sum_by-replicate slot_size n c_ebreak in omega arith
+
+-- bytes in pieces, one after another
+abbrev pub join : List (List ℕ) → List ℕ
+join pieces = flat_map (λ (p : List ℕ). p) pieces

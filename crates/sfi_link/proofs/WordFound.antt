@@ -1,5 +1,5 @@
 -- Where each word of the code is quiet, nothing is found.
-use Rattle.sfi_link.proofs.Prelude.{◌≡◌, ℕ, suc, ◌+◌, ◌-◌, ◌*◌, ◌/◌, ◌<◌, List, [], ◌∷◌, ◌++◌, length, take, drop, refl, sym, ap, ◌∙◌, subst, arith, inl, inr, append_assoc, length-append, cases_eq, flat_map, Part, Piece, IsReading, rest_of}
+use Rattle.sfi_link.proofs.Prelude.{◌≡◌, ℕ, suc, ◌+◌, ◌-◌, ◌*◌, ◌/◌, ◌<◌, List, [], ◌∷◌, ◌++◌, length, take, drop, refl, sym, ap, ◌∙◌, subst, arith, inl, inr, append_assoc, length-append, cases_eq, Part, Piece, IsReading, rest_of}
 use Rattle.std.specs.Prelude.{cond}
 use Rattle.std.proofs.lemmas.List.{drop-drop, drop-take, take-take}
 use Rattle.std.proofs.Math.Seq.{take-append_seam, drop-append_seam}
@@ -10,7 +10,8 @@ use Rattle.sfi_rules.specs.Broken.{rest_finding}
 use Rattle.sfi_rules.specs.Rules.{is_empty}
 use Rattle.sfi_rules.specs.Bundles.{place_of, bundle_bytes}
 use Rattle.sfi_rules.specs.words.Findings.{found_from, owed_past, IsWordFound, AreFoundInWords, AreFoundOfFirst, AreFindingsInWords}
-use Rattle.sfi_link.proofs.Stuck.{whole_is_longest}
+use Rattle.sfi_link.proofs.CleanPlaces.{whole_is_longest}
+use Rattle.sfi_link.proofs.Sizes.{join}
 
 -- ---- one word
 
@@ -33,13 +34,6 @@ quiet_found b at owed word next q = record {
 }
 
 -- ---- one after another
-
-abbrev pub join : List (List ℕ) → List ℕ
-join words = flat_map (λ (w : List ℕ). w) words
-
-pub join_append : (xs ys : List (List ℕ)) → join (xs ++ ys) ≡ join xs ++ join ys
-join_append [] ys = refl
-join_append (x ∷ xs) ys = ap (λ l. x ++ l) (join_append xs ys) ∙ sym (append_assoc x (join xs) (join ys))
 
 -- words one after another are quiet, the first of which is the code's word of that number
 abbrev pub AreQuiet : ℕ → Part → ℕ → Owed → List (List ℕ) → Owed → Type 0

@@ -3,6 +3,7 @@
 use Rattle.sfi_link.proofs.Prelude.{◌≡◌, ◌⊎◌, ℕ, ◌+◌, ◌^◌, ◌<◌, ◌≤◌, List, [], ◌∷◌, ◌++◌, map, Option, Some, None, Bool, true, false, refl, sym, ap, ◌∙◌, subst, arith, inl, inr, append-nil, ◌==◌, ◌&&◌, ◌||◌, not, or_parts, and_parts, eqb-true, ℤ, pos, negsuc, ◌-ℤ◌, MatchBool, Addi, All, All-head, All-tail, Instr, Op, OpImm, Load, Store, Branch, Jal, Jalr, Lui, Auipc, Fence, Ecall, Ebreak, IsBody, upper, lower, Slot, Wide, Upper, Lower, PlacedName, slot_size, size_of, Bases, target_at, address_at, with_offset, resolved, made_of}
 use Rattle.std.specs.Prelude.{if◌then◌else◌}
 use Rattle.std.proofs.lemmas.Bool.{true≢false, not-false}
+use Rattle.std.proofs.lemmas.List.{map-append}
 use Rattle.rv_word.specs.Numbers.{offset_by}
 use Rattle.rv_word.specs.Writes.{destination}
 use Rattle.rv_word.specs.declared.instr.RegOp.TheVariants.{Add, And, Or}
@@ -25,8 +26,8 @@ use Rattle.sfi_rules.specs.Stack.{is_jump}
 use Rattle.sfi_rules.specs.words.Rules.{is_word_start, may_access, places, masks, breaks_ecall}
 use Rattle.sfi_rules.specs.words.Owing.{left}
 use Rattle.sfi_rewrite.proofs.Sizes.{size_of-append}
-use Rattle.sfi_rewrite.proofs.WordStanding.{apart, body_laid, slots_of_marked, map_append}
-use Rattle.sfi_link.proofs.CleanPlaces.{lands, made}
+use Rattle.sfi_rewrite.proofs.WordStanding.{apart, body_laid, slots_of_marked}
+use Rattle.sfi_link.proofs.CleanPlaces.{is_calm, lands, made}
 use Rattle.sfi_link.proofs.WordRules.{IsLawful, Meets}
 use Rattle.sfi_link.proofs.WordOwing.{of_data, free_one, IsFreeOne, unreserved, no_offset, use_is, IsMaskOwed, Owes, owing, owing_as_named}
 use Rattle.sfi_link.proofs.WordSlots.{IsRight, AreRight, right_append, right_known, right_alone, mask_right, after_right}
@@ -59,16 +60,7 @@ owed_past _ body = kind.Nothing
 
 -- ---- an instruction as it is
 
--- it breaks no rule wherever it stands, where it writes what is free, and is neither an access nor a jump
-abbrev is_calm : Instr → Bool
-is_calm (Op op rd rs1 rs2) = true
-is_calm (OpImm op rd rs1 imm) = true
-is_calm (Lui rd imm) = true
-is_calm (Auipc rd imm) = true
-is_calm (Fence imm rd rs1) = true
-is_calm Ebreak = true
-is_calm _ = false
-
+-- what is calm breaks no rule wherever it stands, where it writes what is free
 calm_lawful : (base size here : ℕ) (i : Instr) → is_calm i ≡ true → IsFreeOne (destination i) → IsLawful base size here i
 calm_lawful base size here (Op op rd rs1 rs2) c f = record { reserved = unreserved (Some rd) f; access = refl; jump = refl; target = refl; offset = no_offset (Op op rd rs1 rs2) (Some rd) refl f }
 calm_lawful base size here (OpImm op rd rs1 imm) c f = record { reserved = unreserved (Some rd) f; access = refl; jump = refl; target = refl; offset = no_offset (OpImm op rd rs1 imm) (Some rd) refl f }
@@ -119,6 +111,11 @@ record IsAccess (base size here : ℕ) (f : ℕ → Instr) (to : Option ℕ) : T
   masks_none : (b d : ℕ) → masks d (f b) ≡ false
   is_on : (b d : ℕ) → is_use d (f b) ≡ true → b ≡ d
 
+-- nothing is owed before an access on another register than a data register
+unowed_base : (base size here : ℕ) (owed : Owed) (f : ℕ → Instr) (to : Option ℕ) (a : ℕ) → IsAccess base size here f to → is_data_register a ≡ false → IsOwedTo owed (Plain (f a)) → owed ≡ kind.Nothing
+unowed_base base size here owed f to a is typed (inl e) = e
+unowed_base base size here owed f to a is typed (inr u) = absurd (true≢false (sym u.2.0 ∙ sym (ap is_data_register (is.is_on a u.0 u.2.1)) ∙ typed))
+
 access_right : (base size : ℕ) (at : Bases) (names : List PlacedName) (here : ℕ) (owed : Owed) (rvc : Bool) (f : ℕ → Instr) (to : Option ℕ) (a : ℕ) (data_one zero_one : Bool) (confined slots : List Slot)
     → ((there : ℕ) → IsAccess base size there f to) → is_data_register a ≡ data_one → (a == 0) ≡ zero_one → IsOwedTo owed (Plain (f a))
     → IsAlone rvc (f (if data_one then a else if zero_one then 26 else 29)) confined
@@ -136,25 +133,17 @@ access_right base size at names here owed rvc f to a true zero_one confined slot
 access_right base size at names here owed rvc f to a false true confined slots is typed z o alone e =
     let x = is here in
     let w = x.owes 26 in
-    let one = right_alone base size at names here owed w.own rvc (f 26) confined alone (record { no_ecall = x.no_ecall 26; lawful = x.lawful 26 refl; meets = paid owed (f 26) to (free_of owed (f 26) (nothing_owed o)) w }) in
+    let one = right_alone base size at names here owed w.own rvc (f 26) confined alone (record { no_ecall = x.no_ecall 26; lawful = x.lawful 26 refl; meets = paid owed (f 26) to (free_of owed (f 26) (unowed_base base size here owed f to a (is here) typed o)) w }) in
     subst (λ v. AreRight base size at names here owed v kind.Nothing) (sym e)
     (right_append base size at names here owed w.own kind.Nothing confined (mask_after to) one (after_right base size at names (here + size_of confined) w.own to w.is))
-  where
-    nothing_owed : IsOwedTo owed (Plain (f a)) → owed ≡ kind.Nothing
-    nothing_owed (inl e) = e
-    nothing_owed (inr u) = absurd (true≢false (sym u.2.0 ∙ sym (ap is_data_register ((is here).is_on a u.0 u.2.1)) ∙ typed))
 access_right base size at names here owed rvc f to a false false confined slots is typed z o alone e =
     let x = is (here + 8) in
     let w = x.owes 29 in
-    let first = subst (λ p. AreRight base size at names here p (data_mask 29 a) kind.Nothing) (sym (nothing_owed o)) (mask_right base size at names here 29 a refl) in
+    let first = subst (λ p. AreRight base size at names here p (data_mask 29 a) kind.Nothing) (sym (unowed_base base size here owed f to a (is here) typed o)) (mask_right base size at names here 29 a refl) in
     let one = right_alone base size at names (here + 8) kind.Nothing w.own rvc (f 29) confined alone (record { no_ecall = x.no_ecall 29; lawful = x.lawful 29 refl; meets = paid kind.Nothing (f 29) to refl w }) in
     subst (λ v. AreRight base size at names here owed v kind.Nothing) (sym e)
     (right_append base size at names here owed kind.Nothing kind.Nothing (data_mask 29 a) (confined ++ mask_after to) first
     (right_append base size at names (here + 8) kind.Nothing w.own kind.Nothing confined (mask_after to) one (after_right base size at names (here + 8 + size_of confined) w.own to w.is)))
-  where
-    nothing_owed : IsOwedTo owed (Plain (f a)) → owed ≡ kind.Nothing
-    nothing_owed (inl e) = e
-    nothing_owed (inr u) = absurd (true≢false (sym u.2.0 ∙ sym (ap is_data_register ((is here).is_on a u.0 u.2.1)) ∙ typed))
 
 load_access : (base size here : ℕ) (kind_of : LoadKind) (rd : ℕ) (imm : ℤ) → is_withheld Sfiw rd ≡ false → IsAccess base size here (λ b. Load kind_of rd b imm) (Some rd)
 load_access base size here kind_of rd imm h = record {
@@ -332,59 +321,47 @@ made_right base size at names here x f o rd four r h calmly = λ i q.
     record { no_ecall = calm_no_ecall (f m.0) k.0; lawful = calm_lawful base size here (f m.0) k.0 (subst IsFreeOne (sym k.1) h); meets = paid kind.Nothing (f m.0) (Some rd) refl w } in
     (w.own, subst (λ j. IsRight base size here kind.Nothing j w.own) (sym m.2) one, after_right base size at names (here + slot_size x) w.own (Some rd) w.is)
 
+-- nothing is owed before an item with a name, nor after it
+abbrev has_name : Body → Bool
+has_name (Plain i) = false
+has_name _ = true
+
+unowed : (owed : Owed) (body : Body) → has_name body ≡ true → IsOwedTo owed body → owed ≡ kind.Nothing
+unowed owed body n (inl e) = e
+unowed owed (Plain i) n (inr u) = absurd (true≢false (sym n))
+unowed owed _ n (inr u) = absurd u.2
+
+none_past : (step : Bool) (body : Body) → has_name body ≡ true → owed_past step body ≡ kind.Nothing
+none_past step (Plain i) n = absurd (true≢false (sym n))
+none_past true _ n = refl
+none_past false _ n = refl
+
+named_right : (base size : ℕ) (at : Bases) (names : List PlacedName) (here : ℕ) (owed : Owed) (step : Bool) (body : Body) (slots : List Slot) → has_name body ≡ true → IsOwedTo owed body
+    → AreRight base size at names here kind.Nothing slots kind.Nothing → AreRight base size at names here owed slots (owed_past step body)
+named_right base size at names here owed step body slots n o right =
+    subst (λ p. AreRight base size at names here p slots (owed_past step body)) (sym (unowed owed body n o))
+    (subst (λ p. AreRight base size at names here kind.Nothing slots p) (sym (none_past step body n)) right)
+
 body_right : (base size : ℕ) (at : Bases) (names : List PlacedName) → AreWordStarts base size at names → (here : ℕ) (owed : Owed) (line : ℕ) (rvc step : Bool) (body : Body) (count : ℕ) (slots : List Slot) → here + size_of slots ≤ 2 ^ 32
     → IsOwedTo owed body → IsBody count body → item_names_withheld Sfiw body ≡ false → is_ecall body ≡ false → is_barred_jump body ≡ false → (step ≡ true → IsStep body) → IsExpansionOf line rvc step body slots
     → AreRight base size at names here owed slots (owed_past step body)
 body_right base size at names starts here owed line rvc step (Plain i) count slots room o is n c b s x =
     plain_right base size at names here owed (is_move i && not step) rvc step i count slots refl o is n c b s x
 body_right base size at names starts here owed line rvc step (To j k) count slots room o is n c b s x =
-    let none = unowed owed o in
     let size_is = ap size_of x in
-    let past = no_step step s in
-    subst (λ p. AreRight base size at names here p slots (owed_past step (To j k))) (sym none)
-    (subst (λ p. AreRight base size at names here kind.Nothing slots p) (sym past)
+    named_right base size at names here owed step (To j k) slots refl o
     (subst (λ v. AreRight base size at names here kind.Nothing v kind.Nothing) (sym x) (λ i q.
     let m = made (λ to. with_offset (pos to -ℤ pos here) j) (target_at at names k) i q in
     let t = starts k m.0 m.1 in
-    (kind.Nothing, subst (λ z. IsRight base size here kind.Nothing z kind.Nothing) (sym m.2) (aimed_right base size here m.0 j count k is n b (omega arith) t.0 t.1), refl))))
-  where
-    unowed : (owed : Owed) → IsOwedTo owed (To j k) → owed ≡ kind.Nothing
-    unowed owed (inl e) = e
-    unowed owed (inr u) = absurd u.2
-
-    no_step : (step : Bool) → (step ≡ true → IsStep (To j k)) → owed_past step (To j k) ≡ kind.Nothing
-    no_step true s = refl
-    no_step false s = refl
+    (kind.Nothing, subst (λ z. IsRight base size here kind.Nothing z kind.Nothing) (sym m.2) (aimed_right base size here m.0 j count k is n b (omega arith) t.0 t.1), refl)))
 body_right base size at names starts here owed line rvc step (High rd k) count slots room o is n c b s x =
-    let none = unowed owed o in
-    let past = no_step step s in
-    subst (λ p. AreRight base size at names here p slots (owed_past step (High rd k))) (sym none)
-    (subst (λ p. AreRight base size at names here kind.Nothing slots p) (sym past)
+    named_right base size at names here owed step (High rd k) slots refl o
     (subst (λ v. AreRight base size at names here kind.Nothing v kind.Nothing) (sym x)
-    (made_right base size at names here (Upper rd k line) (λ address. Lui rd (upper (pos address))) (address_at at names k) rd refl refl n (λ a. (refl, refl, refl, refl)))))
-  where
-    unowed : (owed : Owed) → IsOwedTo owed (High rd k) → owed ≡ kind.Nothing
-    unowed owed (inl e) = e
-    unowed owed (inr u) = absurd u.2
-
-    no_step : (step : Bool) → (step ≡ true → IsStep (High rd k)) → owed_past step (High rd k) ≡ kind.Nothing
-    no_step true s = refl
-    no_step false s = refl
+    (made_right base size at names here (Upper rd k line) (λ address. Lui rd (upper (pos address))) (address_at at names k) rd refl refl n (λ a. (refl, refl, refl, refl))))
 body_right base size at names starts here owed line rvc step (Low rd k) count slots room o is n c b s x =
-    let none = unowed owed o in
-    let past = no_step step s in
-    subst (λ p. AreRight base size at names here p slots (owed_past step (Low rd k))) (sym none)
-    (subst (λ p. AreRight base size at names here kind.Nothing slots p) (sym past)
+    named_right base size at names here owed step (Low rd k) slots refl o
     (subst (λ v. AreRight base size at names here kind.Nothing v kind.Nothing) (sym x)
-    (made_right base size at names here (Lower rd k line) (λ address. OpImm Addi rd rd (lower (pos address))) (address_at at names k) rd refl refl n (λ a. (refl, refl, refl, refl)))))
-  where
-    unowed : (owed : Owed) → IsOwedTo owed (Low rd k) → owed ≡ kind.Nothing
-    unowed owed (inl e) = e
-    unowed owed (inr u) = absurd u.2
-
-    no_step : (step : Bool) → (step ≡ true → IsStep (Low rd k)) → owed_past step (Low rd k) ≡ kind.Nothing
-    no_step true s = refl
-    no_step false s = refl
+    (made_right base size at names here (Lower rd k line) (λ address. OpImm Addi rd rd (lower (pos address))) (address_at at names k) rd refl refl n (λ a. (refl, refl, refl, refl))))
 
 -- ---- items
 
@@ -430,7 +407,7 @@ items_right base size at names starts count here owed (x ∷ items) expanded lai
     let own = e.0 in
     let rest = e.1 in
     let slots : map (λ m. m.1) expanded ≡ own ++ map (λ m. m.1) rest =
-    ap (λ v. map (λ m. m.1) v) e.3 ∙ map_append (marked x.labelled own) rest ∙ ap (λ v. v ++ map (λ m. m.1) rest) (slots_of_marked x.labelled own) in
+    ap (λ v. map (λ m. m.1) v) e.3 ∙ map-append (λ m. m.1) (marked x.labelled own) rest ∙ ap (λ v. v ++ map (λ m. m.1) rest) (slots_of_marked x.labelled own) in
     let two = apart own (map (λ m. m.1) rest) laid (subst (λ v. AreAsLaid v laid) slots l) in
     let sized = ap size_of two.both ∙ size_of-append two.first two.rest in
     let may = All-head (IsPermitted Sfiw) x items permitted in

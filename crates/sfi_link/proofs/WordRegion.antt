@@ -19,10 +19,11 @@ use Rattle.sfi_link.proofs.CleanPlaces.{slot_spells, some_same}
 use Rattle.sfi_link.proofs.Stubs.{length_stubs}
 use Rattle.sfi_link.proofs.Region.{cut}
 use Rattle.sfi_link.proofs.Parts.{slots_length}
-use Rattle.sfi_link.proofs.Sizes.{size_fill}
-use Rattle.sfi_link.proofs.WordFound.{IsQuiet, join, join_append, AreQuiet, quiet_append, length_join, quiet_is_clean}
+use Rattle.sfi_link.proofs.Sizes.{join, size_fill}
+use Rattle.sfi_link.proofs.WordFound.{IsQuiet, AreQuiet, quiet_append, length_join, quiet_is_clean}
 use Rattle.sfi_link.proofs.WordRules.{IsLawful, Meets, place, quiet_end, quiet_piece}
 use Rattle.sfi_link.proofs.WordSlots.{IsRight, AreRight}
+use Rattle.std.proofs.lemmas.Grind.{flat_map-append}
 
 -- ---- a word
 
@@ -87,7 +88,7 @@ both_words : (sandbox : ℕ) (p : Part) (n m : ℕ) (owed between next : Owed) (
 both_words sandbox p n m owed between next front back bytes e long up a b =
     let count = length_join sandbox p n owed between a.words a.quiet in
     let same = ap length a.bytes_are in
-    let all : bytes ≡ join (a.words ++ b.words) = e ∙ ap (λ l. l ++ back) a.bytes_are ∙ ap (λ l. join a.words ++ l) b.bytes_are ∙ sym (join_append a.words b.words) in
+    let all : bytes ≡ join (a.words ++ b.words) = e ∙ ap (λ l. l ++ back) a.bytes_are ∙ ap (λ l. join a.words ++ l) b.bytes_are ∙ sym (flat_map-append (λ w. w) a.words b.words) in
     record { words = a.words ++ b.words; bytes_are = all; quiet = quiet_append sandbox p n m owed between next a.words b.words (omega arith) a.quiet b.quiet }
 
 pub slots_quiet : (sandbox : ℕ) (p : Part) (at : Bases) (names : List PlacedName) (expanded : List Marked) (slots : List Slot) → InWords expanded slots → (n here : ℕ) (owed next : Owed) (bytes : List ℕ) → here ≡ p.code_base + 4 * n

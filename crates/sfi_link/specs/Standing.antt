@@ -41,37 +41,29 @@ AreResolvedTo at names here i (x ∷ slots) =
 
 -- ---- the source in the image
 
--- the address in the image of what stands after these slots of the code and so many c.nops
-abbrev pub place_after : Part → List Slot → ℕ → ℕ
-place_after q before nops = q.start + (size_of before + 2 * nops)
-
--- Where code is in bundles, item k is an instruction of the image, with the address of its name, if
--- it has one: wherever a memory holds the code of q and pc is at the item's place, its slots stand
--- for `instr`; the regions of q are such as transparency asks for (`placed.transparent` has the
--- rest).
-pub record RunsAs (given : List Place) (number : ℕ) (f : Format) (items : List Item)
-    (p : Placement) (q : Part) (k : ℕ) (x : Item) : Type 0 where
-  pub placed : StandsTransparent f items p k x
+-- Slots at byte `offset` of a sandbox's code are in the image an instruction that the item may be,
+-- with the address of its name, if it has one: wherever a memory holds the code of q and pc is at
+-- their place, they stand for `instr`; the regions of q are such as transparency asks for.
+pub record RunsAt (given : List Place) (number : ℕ) (p : Placement) (q : Part) (x : Item)
+    (slots : List Slot) (offset : ℕ) : Type 0 where
   pub instr : Instr
   pub may_be : MayBe x.body instr
-  pub resolves : AreResolvedTo (bases_of given number p) p.names
-      (place_after q placed.before placed.nops) instr placed.expanded
+  pub resolves : AreResolvedTo (bases_of given number p) p.names (q.start + offset) instr slots
   pub regions : AreRegions (code_region q) (data_region q)
   pub stands : (s : State) → Holds s.memory q.code_base (length q.code) q.code
-      → s.hart.pc ≡ place_after q placed.before placed.nops → SlotsStand instr s placed.expanded
+      → s.hart.pc ≡ q.start + offset → SlotsStand instr s slots
+
+-- Where code is in bundles, item k's expansion runs so, and it acts as the item's instruction
+-- (`transparent`): it stands after those of the items before it and its c.nops.
+abbrev pub RunsAs : List Place → ℕ → Format → List Item → Placement → Part → ℕ → Item → Type 0
+RunsAs given number f items p q k x = (st : StandsTransparent f items p k x)
+    × RunsAt given number p q x st.expanded (size_of st.before + 2 * st.nops)
 
 -- The same where code is in words: the item's slots, as laid, stand directly after those of the items
 -- before it.
-pub record WordRunsAs (given : List Place) (number : ℕ) (items : List Item) (p : Placement)
-    (q : Part) (k : ℕ) (x : Item) : Type 0 where
-  pub placed : words.StandsTransparent items p k x
-  pub instr : Instr
-  pub may_be : MayBe x.body instr
-  pub resolves : AreResolvedTo (bases_of given number p) p.names
-      (place_after q placed.before 0) instr placed.own
-  pub regions : AreRegions (code_region q) (data_region q)
-  pub stands : (s : State) → Holds s.memory q.code_base (length q.code) q.code
-      → s.hart.pc ≡ place_after q placed.before 0 → SlotsStand instr s placed.own
+abbrev pub WordRunsAs : List Place → ℕ → List Item → Placement → Part → ℕ → Item → Type 0
+WordRunsAs given number items p q k x = (st : words.StandsTransparent items p k x)
+    × RunsAt given number p q x st.own (size_of st.before)
 
 -- item k runs as its format has it: `RunsAs` or `WordRunsAs`
 abbrev pub RunsAsIn : List Place → ℕ → Format → List Item → Placement → Part → ℕ → Item → Type 0

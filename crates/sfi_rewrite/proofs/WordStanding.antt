@@ -156,7 +156,7 @@ label_words front all rest labelled slots first later some parts both laid l =
 
 -- ---- an item among the others
 
-slots_of_marked : (labelled : Bool) (slots : List Slot) → map (λ m. m.1) (marked labelled slots) ≡ slots
+pub slots_of_marked : (labelled : Bool) (slots : List Slot) → map (λ m. m.1) (marked labelled slots) ≡ slots
 slots_of_marked labelled [] = refl
 slots_of_marked labelled (s ∷ slots) = ap (λ v. s ∷ v) (slots_of_marked false slots)
 

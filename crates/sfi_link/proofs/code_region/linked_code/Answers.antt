@@ -1,6 +1,6 @@
-use Rattle.sfi_link.proofs.Prelude.{◌≡◌, ◌++◌, ◌∙◌, length, inl, refl, sym, subst, ap, arith, repeat, OnTrue_at, OnFalse_at, err_from_is_err_and, stub_of, HasRoom}
+use Rattle.sfi_link.proofs.Prelude.{inl, refl, sym, subst, arith, OnTrue_at, OnFalse_at, err_from_is_err_and, HasRoom}
 use Rattle.sfi_link.proofs.Parts.{start_fits}
-use Rattle.sfi_link.proofs.Linking.{near_of, code_room, place_refused, may_lie, part_refused, code_beside, written_within, linked_code}
+use Rattle.sfi_link.proofs.Linking.{stubs_pushed, near_of, code_room, place_refused, may_lie, part_refused, code_beside, written_within, linked_code}
 use Rattle.sfi_link.proofs.code_region.linked_code.Goals as goal
 
 pub returns-in_default : goal.returns-in_default
@@ -28,9 +28,7 @@ push_bundles-requires-clause-near c =
 pub push_bundles-requires-clause-room : goal.push_bundles-requires-clause-room
 push_bundles-requires-clause-room c =
     let p = c.args.part.now in
-    let stubs : c.push_copies.new.code.items ≡ repeat (length p.gates) (stub_of p.format) =
-    c.in_ok-push_copies.ensures ∙ ap (λ l. l ++ repeat (length c.gates.result.now) c.stub_of.result.now) c.in_ok-code.ensures.items
-    ∙ ap (λ gs. repeat (length gs) c.stub_of.result.now) c.gates.ensures ∙ ap (λ b. repeat (length p.gates) b) (c.stub_of.ensures ∙ ap (λ f. stub_of f) c.format-format.ensures) in
+    let stubs = stubs_pushed p _ _ _ _ _ c.in_ok-push_copies.ensures c.in_ok-code.ensures.items c.gates.ensures c.stub_of.ensures c.format-format.ensures in
     let sized = rw (c.needed.ensures, c.format-format.ensures) at c.in-Some.ensures.least in
     let lies = rw c.place_of.ensures.is at (OnTrue_at c.if-not-branch.false c.in_ok-lies_beside.ensures.lies) in
     rw c.bundles.ensures (code_room c.args.given.now c.args.number p c.bases_of-at.result c.in-Some.size c.push_copies.new.code.items sized.has_room lies.right c.bases_of-at.ensures.is stubs)
@@ -38,9 +36,7 @@ push_bundles-requires-clause-room c =
 pub returns-in_err-push_bundles : goal.returns-in_err-push_bundles
 returns-in_err-push_bundles c =
     let p = c.args.part.now in
-    let stubs : c.push_copies.new.code.items ≡ repeat (length p.gates) (stub_of p.format) =
-    c.in_ok-push_copies.ensures ∙ ap (λ l. l ++ repeat (length c.gates.result.now) c.stub_of.result.now) c.in_ok-code.ensures.items
-    ∙ ap (λ gs. repeat (length gs) c.stub_of.result.now) c.gates.ensures ∙ ap (λ b. repeat (length p.gates) b) (c.stub_of.ensures ∙ ap (λ f. stub_of f) c.format-format.ensures) in
+    let stubs = stubs_pushed p _ _ _ _ _ c.in_ok-push_copies.ensures c.in_ok-code.ensures.items c.gates.ensures c.stub_of.ensures c.format-format.ensures in
     let e = err_from_is_err_and c.from_residual-in_err-push_bundles.result c.from_residual-in_err-push_bundles.ensures.1 in
     let sized = rw (c.needed.ensures, c.format-format.ensures) at c.in-Some.ensures.least in
     let lies = rw c.place_of.ensures.is at (OnTrue_at c.if-not-branch.false c.in_ok-lies_beside.ensures.lies) in
@@ -51,9 +47,7 @@ returns-in_err-push_bundles c =
 pub overflow_sub-fill : goal.overflow_sub-fill
 overflow_sub-fill c =
     let p = c.args.part.now in
-    let stubs : c.push_copies.new.code.items ≡ repeat (length p.gates) (stub_of p.format) =
-    c.in_ok-push_copies.ensures ∙ ap (λ l. l ++ repeat (length c.gates.result.now) c.stub_of.result.now) c.in_ok-code.ensures.items
-    ∙ ap (λ gs. repeat (length gs) c.stub_of.result.now) c.gates.ensures ∙ ap (λ b. repeat (length p.gates) b) (c.stub_of.ensures ∙ ap (λ f. stub_of f) c.format-format.ensures) in
+    let stubs = stubs_pushed p _ _ _ _ _ c.in_ok-push_copies.ensures c.in_ok-code.ensures.items c.gates.ensures c.stub_of.ensures c.format-format.ensures in
     let w = rw (c.names.ensures, c.bundles.ensures) at c.in_ok-push_bundles.ensures in
     let sized = rw (c.needed.ensures, c.format-format.ensures) at c.in-Some.ensures.least in
     let h = written_within p c.bases_of-at.result c.in-Some.size c.push_copies.new.code.items c.push_bundles.new.code.items sized stubs w in
@@ -63,9 +57,7 @@ overflow_sub-fill c =
 pub returns : goal.returns
 returns c =
     let p = c.args.part.now in
-    let stubs : c.push_copies.new.code.items ≡ repeat (length p.gates) (stub_of p.format) =
-    c.in_ok-push_copies.ensures ∙ ap (λ l. l ++ repeat (length c.gates.result.now) c.stub_of.result.now) c.in_ok-code.ensures.items
-    ∙ ap (λ gs. repeat (length gs) c.stub_of.result.now) c.gates.ensures ∙ ap (λ b. repeat (length p.gates) b) (c.stub_of.ensures ∙ ap (λ f. stub_of f) c.format-format.ensures) in
+    let stubs = stubs_pushed p _ _ _ _ _ c.in_ok-push_copies.ensures c.in_ok-code.ensures.items c.gates.ensures c.stub_of.ensures c.format-format.ensures in
     let w = rw (c.names.ensures, c.bundles.ensures) at c.in_ok-push_bundles.ensures in
     let sized = rw (c.needed.ensures, c.format-format.ensures) at c.in-Some.ensures.least in
     let lies = rw c.place_of.ensures.is at (OnTrue_at c.if-not-branch.false c.in_ok-lies_beside.ensures.lies) in

@@ -1,5 +1,5 @@
 use Rattle.sfi_link.proofs.Prelude.{◌≡◌, ◌∙◌, ◌++◌, ◌∷◌, [], false, true, refl, sym, ap, subst, append_assoc, AllPairs, AreApart, with_guards, spans_at}
-use Rattle.sfi_link.proofs.Lies.{lies_beside}
+use Rattle.sfi_link.proofs.Linking.{lies_beside}
 use Rattle.sfi_link.proofs.lying.lies_beside.Goals as goal
 
 pub are_all_apart-requires-clause-apart : goal.are_all_apart-requires-clause-apart
