@@ -1,10 +1,10 @@
 -- What each expansion does.
-use Rattle.sfi_rewrite.proofs.Prelude.{◌≡◌, ◌≢◌, ℕ, ◌+◌, ◌==◌, ◌&&◌, List, [], ◌∷◌, Bool, true, false, Option, Some, None, refl, sym, ap, ◌∙◌, subst, arith, bit_and, bit_or, MatchBool, eqb-true, true≢false, and_parts, and_right, And, Or, LoadKind, Instr, Op, OpImm, Load, Branch, Jal, Jalr, Lui, Auipc, Format, has_stack, is_stack, Bytes, address_after, loaded, Hart, State, IsState, register, with_register, with_pc, past, Stepped, Stands, after_load, effect, IsStep, Body, Plain, To, High, Low, Slot, Wide, Jump, Upper, Lower, slot_size, IsAlone, IsMasked, IsExpansionOf, writes_stack, is_on_stack, is_stack_write, jumps_or_loads_x2, stack_pair, put_back, ExpansionsAreTransparent, AreRegions, HasReserved, SlotStands, IsTransparent, put_back_at, KeepsStack, ActsAs, IsAimed, MayBe}
+use Rattle.sfi_rewrite.proofs.Prelude.{◌≡◌, ◌≢◌, ℕ, ◌+◌, ◌*◌, ◌%◌, ◌^◌, next, ◌==◌, ◌&&◌, List, [], ◌∷◌, Bool, true, false, Option, Some, None, refl, sym, ap, ◌∙◌, subst, arith, bit_and, bit_or, MatchBool, eqb-true, true≢false, and_parts, and_right, And, Or, LoadKind, Instr, Op, OpImm, Load, Branch, Jal, Jalr, Lui, Auipc, Format, has_stack, is_stack, Bytes, address_after, loaded, Hart, State, IsState, register, with_register, with_pc, past, Stepped, Stands, after_load, effect, IsStep, Body, Plain, To, High, Low, Slot, Wide, Jump, Upper, Lower, slot_size, IsAlone, IsMasked, IsExpansionOf, writes_stack, is_on_stack, is_stack_write, jumps_or_loads_x2, stack_pair, put_back, ExpansionsAreTransparent, AreRegions, HasReserved, SlotStands, IsTransparent, put_back_at, KeepsStack, ActsAs, IsAimed, MayBe}
 use Rattle.rv_step.specs.Steps.{further, StandInRow, LeadsTo, LeadTo}
 use Rattle.rv_step.specs.Values.{load_size}
 use Rattle.rv_step.specs.declared.outcome.Outcome.TheVariants.{Next}
 use Rattle.rv_word.specs.Numbers.{offset_by}
-use Rattle.rv_word.specs.Writes.{writes_register}
+use Rattle.rv_word.specs.Writes.{writes_register, is_register, destination}
 use Rattle.rv_word.specs.declared.instr.ImmOp.TheVariants.{Addi}
 use Rattle.sfi_image.specs.declared.span.Span.{Span}
 use Rattle.sfi_rewrite.specs.Registers.{names_withheld, item_names_withheld}
@@ -21,26 +21,43 @@ is_jump _ = false
 
 -- ---- what an instruction writes
 
--- the step has written x2 and nothing else
-record WritesX2 (x : Stepped) (h : Hart) (m : Bytes) : Type 0 where
-  value : ℕ
-  state : x.state ≡ record { hart = with_register (past h 4) 2 value; memory = m }
+abbrev pub is_auipc : Instr → Bool
+is_auipc (Auipc rd imm) = true
+is_auipc _ = false
 
-here : (x : Stepped) (h : Hart) (m : Bytes) (rd v : ℕ) → (rd == 2) ≡ true → x.state ≡ record { hart = with_register (past h 4) rd v; memory = m } → WritesX2 x h m
-here x h m rd v e is =
-    record { value = v; state = subst (λ (k : ℕ). x.state ≡ record { hart = with_register (past h 4) k v; memory = m }) (eqb-true rd 2 e) is }
+-- at the pc p with k bytes i writes what it writes with n bytes at the hart's own, in d alone
+pub record Writes (i : Instr) (n k p d : ℕ) (h : Hart) (m : Bytes) : Type 0 where
+  pub value : ℕ
+  pub here : effect i n h m ≡ next (with_register (past h n) d value) m
+  pub there : effect i k (with_pc h p) m ≡ next (with_register (past (with_pc h p) k) d value) m
 
-load_writes : (o : Option ℕ) (kind : LoadKind) (rd at : ℕ) (h : Hart) (m : Bytes) → (rd == 2) ≡ true → (after_load o kind rd at 4 h m).outcome ≡ Next → WritesX2 (after_load o kind rd at 4 h m) h m
-load_writes None kind rd at h m e done = absurd (cc)
-load_writes (Some v) kind rd at h m e done = here _ h m rd _ e refl
+load_writes : (o : Option ℕ) (kind : LoadKind) (rd at n k p : ℕ) (h : Hart) (m : Bytes) → (after_load o kind rd at n h m).outcome ≡ Next
+    → (v : ℕ) × (after_load o kind rd at n h m ≡ next (with_register (past h n) rd v) m) × (after_load o kind rd at k (with_pc h p) m ≡ next (with_register (past (with_pc h p) k) rd v) m)
+load_writes None kind rd at n k p h m done = absurd (cc)
+load_writes (Some v) kind rd at n k p h m done = (_, refl, refl)
 
-writes_alone : (i : Instr) (h : Hart) (m : Bytes) → writes_register 2 i ≡ true → is_jump i ≡ false → (effect i 4 h m).outcome ≡ Next → WritesX2 (effect i 4 h m) h m
-writes_alone (Op op rd rs1 rs2) h m e j done = here _ h m rd _ e refl
-writes_alone (OpImm op rd rs1 imm) h m e j done = here _ h m rd _ e refl
-writes_alone (Load kind rd rs1 imm) h m e j done = load_writes (loaded m (offset_by (register h rs1) imm) (load_size kind)) kind rd (offset_by (register h rs1) imm) h m e done
-writes_alone (Lui rd imm) h m e j done = here _ h m rd _ e refl
-writes_alone (Auipc rd imm) h m e j done = here _ h m rd _ e refl
-writes_alone _ h m e j done = absurd (cc)
+-- of a jump nothing is said, and of auipc where the pc is the same
+pub writes : (i : Instr) (n k p d : ℕ) (h : Hart) (m : Bytes) → destination i ≡ Some d → is_jump i ≡ false → (is_auipc i ≡ true → p ≡ h.pc) → (effect i n h m).outcome ≡ Next → Writes i n k p d h m
+writes (Op op rd a b) n k p d h m e j u done = let same : rd ≡ d = cc in subst (λ r. Writes (Op op rd a b) n k p r h m) same (record { value = _; here = refl; there = refl })
+writes (OpImm op rd a imm) n k p d h m e j u done = let same : rd ≡ d = cc in subst (λ r. Writes (OpImm op rd a imm) n k p r h m) same (record { value = _; here = refl; there = refl })
+writes (Load kind rd a imm) n k p d h m e j u done =
+    let same : rd ≡ d = cc in
+    let w = load_writes (loaded m (offset_by (register h a) imm) (load_size kind)) kind rd (offset_by (register h a) imm) n k p h m done in
+    subst (λ r. Writes (Load kind rd a imm) n k p r h m) same (record { value = w.0; here = w.1; there = w.2 })
+writes (Lui rd imm) n k p d h m e j u done = let same : rd ≡ d = cc in subst (λ r. Writes (Lui rd imm) n k p r h m) same (record { value = _; here = refl; there = refl })
+writes (Auipc rd imm) n k p d h m e j u done =
+    let same : rd ≡ d = cc in
+    let at = u refl in
+    subst (λ r. Writes (Auipc rd imm) n k p r h m) same
+    (record { value = (h.pc + imm * 4096) % 2 ^ 32; here = refl; there = ap (λ (q : ℕ). next (with_register (past (with_pc h p) k) rd ((q + imm * 4096) % 2 ^ 32)) m) at })
+writes (Jal rd offset) n k p d h m e j u done = absurd (true≢false j)
+writes (Jalr rd a imm) n k p d h m e j u done = absurd (true≢false j)
+writes other n k p d h m e j u done = absurd (cc)
+
+-- the register that it writes
+destined : (o : Option ℕ) (r : ℕ) → is_register r o ≡ true → o ≡ Some r
+destined None r h = absurd (true≢false (sym h))
+destined (Some d) r h = ap Some (eqb-true d r h)
 
 -- ---- the pair after it
 
@@ -79,17 +96,17 @@ done_is x e = ap (λ o. let y : Stepped = record { outcome = o; state = x.state 
 -- i and the pair
 keeps_stack : (i : Instr) (x : Slot) → writes_register 2 i ≡ true → is_jump i ≡ false → slot_size x ≡ 4 → ((s : State) → SlotStands i s x → Stands s i 4)
     → KeepsStack i (x ∷ stack_pair)
-keeps_stack i x writes no_jump size stands = record {
+keeps_stack i x writer no_jump size stands = record {
   does = λ c d s asked done.
       let regions = asked.regions in let is = asked.is_state in let reserved = asked.reserved in let stand = asked.stand in
       let r = effect i 4 s.hart s.memory in
       let step : LeadsTo s r.state = subst (λ (y : Stepped). IsStep s y) (done_is r done) (does s i 4 (stands s stand.0)) in
-      let only = writes_alone i s.hart s.memory writes no_jump done in
+      let only = writes i 4 4 s.hart.pc 2 s.hart s.memory (destined (destination i) 2 writer) no_jump (λ u. refl) done in
       let second : Stands (further s 4) (Op And 2 2 27) 4 = subst (λ (n : ℕ). Stands (further s n) (Op And 2 2 27) 4) size stand.1.0 in
       let third : Stands (further (further s 4) 4) (Op Or 2 2 26) 4 = subst (λ (n : ℕ). Stands (further (further s n) 4) (Op Or 2 2 26) 4) size stand.1.1.0 in
       let end : 12 ≡ 0 + slot_size x + 4 + 4 = omega arith in
       subst (λ (n : ℕ). LeadTo 3 s (put_back_at d r.state (address_after s.hart.pc n))) end
-      (r.state, step, from_there c d s r.state only.value regions (step_keeps_state s _ is step) reserved only.state second third);
+      (r.state, step, from_there c d s r.state only.value regions (step_keeps_state s _ is step) reserved (ap (λ (y : Stepped). y.state) only.here) second third);
   stops = λ c d s asked stop. does s i 4 (stands s asked.stand.0);
 }
 

@@ -20,9 +20,12 @@ use Rattle.sfi_rewrite.proofs.Aside.{Aside, aside_own, loads_same, stores_same, 
 
 -- ---- what stands at a pc
 
--- the state at this pc, with this value in x31
+-- the state at this pc, with this value in the register t
+abbrev written_at : State → (t pc v : ℕ) → State
+written_at s t pc v = record { hart = with_register (with_pc s.hart pc) t v; memory = s.memory }
+
 abbrev scratched : State → ℕ → ℕ → State
-scratched s pc v = record { hart = with_register (with_pc s.hart pc) 31 v; memory = s.memory }
+scratched s pc v = written_at s 31 pc v
 
 -- what stands there is told by pc and memory
 pub stands_at : (s t : State) (i : Instr) (n : ℕ) → t.hart.pc ≡ s.hart.pc → t.memory ≡ s.memory → Stands s i n → Stands t i n
@@ -38,11 +41,11 @@ not_withheld Sfiw r h = λ e. cc
 
 -- ---- a pair at pc
 
--- after a pair on x31 whose masked value is v
-pair_to : (s : State) (a mask base v : ℕ) → IsState s → base ≢ 31 → StandInRow s (Op And 31 a mask ∷ Op Or 31 31 base ∷ [])
-    → bit_or (bit_and (register s.hart a) (register s.hart mask)) (register s.hart base) ≡ v → LeadTo 2 s (scratched s (address_after s.hart.pc 8) v)
-pair_to s a mask base v is apart stand e =
-    subst (λ (n : ℕ). LeadTo 2 s (scratched s (address_after s.hart.pc 8) n)) e (pair_leaves s 31 a mask base is (λ z. omega arith) apart stand)
+-- after a pair on t whose masked value is v
+pair_to : (t : ℕ) (s : State) (a mask base v : ℕ) → IsState s → t ≢ 0 → base ≢ t → StandInRow s (Op And t a mask ∷ Op Or t t base ∷ [])
+    → bit_or (bit_and (register s.hart a) (register s.hart mask)) (register s.hart base) ≡ v → LeadTo 2 s (written_at s t (address_after s.hart.pc 8) v)
+pair_to t s a mask base v is some apart stand e =
+    subst (λ (n : ℕ). LeadTo 2 s (written_at s t (address_after s.hart.pc 8) n)) e (pair_leaves s t a mask base is some apart stand)
 
 pub eight : (pc : ℕ) → address_after (address_after pc 4) 4 ≡ address_after pc 8
 eight pc = omega arith
@@ -50,8 +53,11 @@ eight pc = omega arith
 pub twelve : (pc : ℕ) → address_after (address_after pc 4) 8 ≡ address_after pc 12
 twelve pc = omega arith
 
+value_is : (t : ℕ) (s : State) (pc v : ℕ) → IsState s → t ≢ 0 → t < 32 → register (written_at s t pc v).hart t ≡ v
+value_is t s pc v is some small = let n = is.hart.count in written_here (with_pc s.hart pc) t v some (omega arith)
+
 scratch_is : (s : State) (pc v : ℕ) → IsState s → register (scratched s pc v).hart 31 ≡ v
-scratch_is s pc v is = let n = is.hart.count in written_here (with_pc s.hart pc) 31 v (λ e. omega arith) (omega arith)
+scratch_is s pc v is = value_is 31 s pc v is (λ e. omega arith) (omega arith)
 
 -- ---- a pair and what stands after it
 
@@ -64,22 +70,22 @@ DoesFor is_own s i j n b v =
 aside_scratch : (h : Hart) (v pc : ℕ) → Aside is_scratch (with_register (with_pc h pc) 31 v) (with_pc h pc)
 aside_scratch h v pc = aside_own is_scratch (with_pc h pc) 31 v (λ e. omega arith) refl
 
--- three slots: the last does from after the pair what i does
-after_pair : (s : State) (i j : Instr) (a mask base v : ℕ) → IsState s → base ≢ 31
-    → Stands s (Op And 31 a mask) 4 → Stands (further s 4) (Op Or 31 31 base) 4 → Stands (further (further s 4) 4) j 4
+-- three slots: the last does from after the pair on t what i does
+pub after_pair : (is_own : ℕ → Bool) (t : ℕ) (s : State) (i j : Instr) (a mask base v : ℕ) → t ≢ 0 → t < 32 → is_own t ≡ true → IsState s → base ≢ t
+    → Stands s (Op And t a mask) 4 → Stands (further s 4) (Op Or t t base) 4 → Stands (further (further s 4) 4) j 4
     → bit_or (bit_and (register s.hart a) (register s.hart mask)) (register s.hart base) ≡ v
-    → DoesFor is_scratch s i j 4 31 v
-    → DoesAs is_scratch s i (Wide (Op And 31 a mask) ∷ Wide (Op Or 31 31 base) ∷ []) (Wide j)
-after_pair s i j a mask base v is apart first second third e same =
+    → DoesFor is_own s i j 4 t v
+    → DoesAs is_own s i (Wide (Op And t a mask) ∷ Wide (Op Or t t base) ∷ []) (Wide j)
+after_pair is_own t s i j a mask base v some small own is apart first second third e same =
     let pc = address_after s.hart.pc 8 in
-    let there = scratched s pc v in
+    let there = written_at s t pc v in
     record {
       there = there;
-      leads = pair_to s a mask base v is apart (first, (second, tt)) e;
+      leads = pair_to t s a mask base v is some apart (first, (second, tt)) e;
       place = refl;
       result = effect j 4 there.hart s.memory;
       step = does there j 4 (stands_at (further (further s 4) 4) there j 4 (sym (eight s.hart.pc)) refl third);
-      same = same there.hart (aside_scratch s.hart v pc) (scratch_is s pc v is);
+      same = same there.hart (aside_own is_own (with_pc s.hart pc) t v some own) (value_is t s pc v is some small);
     }
 
 -- x31 was written twice
@@ -113,7 +119,7 @@ after_sum s i j a mask base imm is ne apart first second third fourth e same =
     (stands_at (further s 4) one (Op And 31 31 mask) 4 refl refl second, (stands_at (further (further s 4) 4) (further one 4) (Op Or 31 31 base) 4 refl refl third, tt)) in
     record {
       there = there;
-      leads = (one, step, pair_to one 31 mask base v is_one apart row value);
+      leads = (one, step, pair_to 31 one 31 mask base v is_one (λ z. omega arith) apart row value);
       place = twelve s.hart.pc;
       result = effect j 4 there.hart s.memory;
       step = does there j 4 (stands_at (further (further (further s 4) 4) 4) there j 4 (sym (eight p)) refl fourth);
@@ -129,7 +135,7 @@ load_transparent kind rd a imm = record {
   slots_are = refl;
   does = λ c d s asked keeps.
       let regions = asked.regions in let is = asked.is_state in let reserved = asked.reserved in let stand = asked.stand in
-      after_pair s (Load kind rd a imm) (Load kind rd 31 imm) a 27 26 (register s.hart a) is (λ z. omega arith) stand.0 stand.1.0 stand.1.1.0
+      after_pair is_scratch 31 s (Load kind rd a imm) (Load kind rd 31 imm) a 27 26 (register s.hart a) (λ z. omega arith) (omega arith) refl is (λ z. omega arith) stand.0 stand.1.0 stand.1.1.0
       (unmasked_data 16 c d s.hart (register s.hart a) regions reserved keeps)
       (λ h aside e. loads_same is_scratch kind rd 31 a imm 4 h (with_pc s.hart h.pc) s.memory aside e);
 }
@@ -141,7 +147,7 @@ store_transparent width a rs2 imm ne = record {
   slots_are = refl;
   does = λ c d s asked keeps.
       let regions = asked.regions in let is = asked.is_state in let reserved = asked.reserved in let stand = asked.stand in
-      after_pair s (Store width a rs2 imm) (Store width 31 rs2 imm) a 27 26 (register s.hart a) is (λ z. omega arith) stand.0 stand.1.0 stand.1.1.0
+      after_pair is_scratch 31 s (Store width a rs2 imm) (Store width 31 rs2 imm) a 27 26 (register s.hart a) (λ z. omega arith) (omega arith) refl is (λ z. omega arith) stand.0 stand.1.0 stand.1.1.0
       (unmasked_data 16 c d s.hart (register s.hart a) regions reserved keeps)
       (λ h aside e. stores_same is_scratch width 31 a rs2 imm 4 h (with_pc s.hart h.pc) s.memory aside e (ne_eqb rs2 31 ne));
 }
@@ -156,7 +162,7 @@ jump_transparent rd a = record {
       let regions = asked.regions in let is = asked.is_state in let reserved = asked.reserved in let stand = asked.stand in
       let v = register s.hart a in
       let to = plus_zero v (is.hart.words a) in
-      after_pair s (Jalr rd a (pos 0)) (Jalr rd 31 (pos 0)) a 25 24 v is (λ z. omega arith) stand.0 stand.1.0 stand.1.1.0
+      after_pair is_scratch 31 s (Jalr rd a (pos 0)) (Jalr rd 31 (pos 0)) a 25 24 v (λ z. omega arith) (omega arith) refl is (λ z. omega arith) stand.0 stand.1.0 stand.1.1.0
       (let start = subst (λ (n : ℕ). IsBundleStart c n) to keeps in unmasked_code 4 c d s.hart v (omega arith) regions reserved start.held start.aligned)
       (λ h aside e. jumps_same is_scratch rd 31 a (pos 0) h (with_pc s.hart h.pc) s.memory aside (ap (λ n. offset_by n (pos 0)) e));
 }

@@ -1,12 +1,10 @@
 -- The expansion in words acts as its instruction: what writes a data register keeps what that leaves.
-use Rattle.sfi_rewrite.proofs.Prelude.{◌≡◌, ◌≢◌, ℕ, zero, suc, ◌+◌, ◌*◌, ◌%◌, ◌^◌, ◌<◌, ◌==◌, ◌&&◌, List, [], ◌∷◌, ◌++◌, length, Bool, true, false, MatchBool, Option, Some, None, refl, sym, ap, ◌∙◌, subst, arith, length-append, append_assoc, append-nil, eqb-true, true≢false, and_parts, or_parts, ℤ, pos, negsuc, And, Or, LoadKind, Instr, Op, OpImm, Load, Store, Jal, Jalr, Branch, Lui, Auipc, Bytes, address_after, loaded, Hart, State, IsState, register, with_register, with_pc, past, Stepped, Stands, next, after_load, effect, IsStep, Item, Body, Plain, To, High, Low, Slot, Wide, Jump, Upper, Lower, slot_size, size_of, IsAlone, HasReserved, SlotStands, IsAskedOf, IsAimed, MayBe}
+use Rattle.sfi_rewrite.proofs.Prelude.{◌≡◌, ◌≢◌, ℕ, zero, suc, ◌+◌, ◌%◌, ◌^◌, ◌<◌, ◌==◌, ◌&&◌, List, [], ◌∷◌, ◌++◌, length, Bool, true, false, MatchBool, Option, Some, None, refl, sym, ap, ◌∙◌, subst, arith, length-append, append_assoc, append-nil, eqb-true, true≢false, and_parts, or_parts, ℤ, pos, negsuc, And, Or, LoadKind, Instr, Op, OpImm, Load, Store, Jal, Jalr, Branch, Lui, Auipc, Bytes, address_after, Hart, State, IsState, register, with_register, with_pc, past, Stepped, Stands, next, effect, IsStep, Item, Body, Plain, To, High, Low, Slot, Wide, Jump, Upper, Lower, slot_size, size_of, IsAlone, HasReserved, SlotStands, IsAskedOf, IsAimed, MayBe}
 use Rattle.std.specs.Prelude.{not, ◌||◌, if◌then◌else◌}
 use Rattle.rv_word.specs.Writes.{destination}
-use Rattle.rv_word.specs.Numbers.{offset_by}
 use Rattle.rv_word.specs.declared.instr.ImmOp.TheVariants.{Addi}
 use Rattle.rv_word.specs.declared.instr.StoreWidth.{StoreWidth}
 use Rattle.rv_word.specs.declared.instr.RegOp.TheVariants.{Add}
-use Rattle.rv_step.specs.Values.{load_size}
 use Rattle.rv_step.specs.Steps.{further, LeadsTo, LeadTo}
 use Rattle.rv_step.specs.declared.outcome.Outcome.TheVariants.{Next}
 use Rattle.sfi_policy.specs.declared.format.Format.TheVariants.{Sfiw}
@@ -22,44 +20,11 @@ use Rattle.rv_step.proofs.Facts.{step_keeps_state}
 use Rattle.rv_step.proofs.Pairs.{written_here, written_elsewhere}
 use Rattle.sfi_rewrite.proofs.Sizes.{size_of-append, size_of-cons}
 use Rattle.sfi_rewrite.proofs.Transparent.{stands_at}
-use Rattle.sfi_rewrite.proofs.StackKept.{is_jump, done_is}
+use Rattle.sfi_rewrite.proofs.StackKept.{is_jump, is_auipc, writes, done_is}
 use Rattle.sfi_rewrite.proofs.Aside.{added, plus_zero}
 use Rattle.sfi_rewrite.proofs.WordTransparent.{IsOneFor, one_for, IsNamed, after_mask, mask_leads, mask_elsewhere, mask_leaves, not_31, one_transparent, load_transparent, store_transparent, load_alone, store_alone, jump_transparent}
 
 -- ---- what an instruction writes
-
-abbrev is_auipc : Instr → Bool
-is_auipc (Auipc rd imm) = true
-is_auipc _ = false
-
--- at the pc p with k bytes i writes what it writes with n bytes at the hart's own, in d alone
-record Writes (i : Instr) (n k p d : ℕ) (h : Hart) (m : Bytes) : Type 0 where
-  value : ℕ
-  here : effect i n h m ≡ next (with_register (past h n) d value) m
-  there : effect i k (with_pc h p) m ≡ next (with_register (past (with_pc h p) k) d value) m
-
-load_writes : (o : Option ℕ) (kind : LoadKind) (rd at n k p : ℕ) (h : Hart) (m : Bytes) → (after_load o kind rd at n h m).outcome ≡ Next
-    → (v : ℕ) × (after_load o kind rd at n h m ≡ next (with_register (past h n) rd v) m) × (after_load o kind rd at k (with_pc h p) m ≡ next (with_register (past (with_pc h p) k) rd v) m)
-load_writes None kind rd at n k p h m done = absurd (cc)
-load_writes (Some v) kind rd at n k p h m done = (_, refl, refl)
-
--- of a jump nothing is said, and of auipc where the pc is the same
-writes : (i : Instr) (n k p d : ℕ) (h : Hart) (m : Bytes) → destination i ≡ Some d → is_jump i ≡ false → (is_auipc i ≡ true → p ≡ h.pc) → (effect i n h m).outcome ≡ Next → Writes i n k p d h m
-writes (Op op rd a b) n k p d h m e j u done = let same : rd ≡ d = cc in subst (λ r. Writes (Op op rd a b) n k p r h m) same (record { value = _; here = refl; there = refl })
-writes (OpImm op rd a imm) n k p d h m e j u done = let same : rd ≡ d = cc in subst (λ r. Writes (OpImm op rd a imm) n k p r h m) same (record { value = _; here = refl; there = refl })
-writes (Load kind rd a imm) n k p d h m e j u done =
-    let same : rd ≡ d = cc in
-    let w = load_writes (loaded m (offset_by (register h a) imm) (load_size kind)) kind rd (offset_by (register h a) imm) n k p h m done in
-    subst (λ r. Writes (Load kind rd a imm) n k p r h m) same (record { value = w.0; here = w.1; there = w.2 })
-writes (Lui rd imm) n k p d h m e j u done = let same : rd ≡ d = cc in subst (λ r. Writes (Lui rd imm) n k p r h m) same (record { value = _; here = refl; there = refl })
-writes (Auipc rd imm) n k p d h m e j u done =
-    let same : rd ≡ d = cc in
-    let at = u refl in
-    subst (λ r. Writes (Auipc rd imm) n k p r h m) same
-    (record { value = (h.pc + imm * 4096) % 2 ^ 32; here = refl; there = ap (λ (q : ℕ). next (with_register (past (with_pc h p) k) rd ((q + imm * 4096) % 2 ^ 32)) m) at })
-writes (Jal rd offset) n k p d h m e j u done = absurd (true≢false j)
-writes (Jalr rd a imm) n k p d h m e j u done = absurd (true≢false j)
-writes other n k p d h m e j u done = absurd (cc)
 
 -- what an instruction means writes what it writes, and jumps where it does
 meant_writes : (i : Instr) → destination (meant i) ≡ destination i

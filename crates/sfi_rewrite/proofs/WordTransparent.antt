@@ -6,12 +6,11 @@ use Rattle.rv_word.specs.Numbers.{offset_by}
 use Rattle.rv_word.specs.declared.instr.StoreWidth.{StoreWidth}
 use Rattle.sfi_image.specs.Spans.{Holds}
 use Rattle.sfi_image.specs.declared.span.Span.{Span}
-use Rattle.rv_step.proofs.Facts.{pair_leaves}
 use Rattle.rv_step.proofs.Pairs.{written_here, written_elsewhere}
 use Rattle.sfi_rewrite.specs.Transparency.{masked, SlotsStand}
 use Rattle.sfi_rewrite.specs.words.Expansion.{data_mask}
 use Rattle.sfi_rewrite.specs.words.Transparency.{is_own, IsWordStart, KeepsTo, meant_base, meant, IsTransparent}
-use Rattle.sfi_rewrite.proofs.Transparent.{stands_at, does, eight, DoesFor, one_does}
+use Rattle.sfi_rewrite.proofs.Transparent.{stands_at, does, eight, DoesFor, after_pair, one_does}
 use Rattle.sfi_rewrite.proofs.Masks.{masked_data, unmasked_data, unmasked_code}
 use Rattle.sfi_rewrite.proofs.Aside.{Aside, plus_zero, aside_through, aside_own, aside_at, loads_same, stores_same, jumps_same}
 
@@ -69,7 +68,7 @@ one_for false i j slots e = record { slot = Wide j; are = e; stands = λ s st. s
 one_for true i j slots (inl f) = record { slot = Short f.0; are = f.2; stands = λ s st. subst (λ (k : Instr). Stands s k 2) f.1.expands st }
 one_for true i j slots (inr w) = record { slot = Wide j; are = w.1; stands = λ s st. st }
 
--- ---- an access after the mask, a jump after the pair
+-- ---- an access after the mask
 
 after_base : (s : State) (i j : Instr) (a v : ℕ) (slot : Slot) → IsState s
     → Stands s (Op And 31 a 27) 4 → Stands (further s 4) (Op Or 29 31 26) 4 → Stands (further (further s 4) 4) j (slot_size slot)
@@ -83,30 +82,6 @@ after_base s i j a v slot is first second third e same =
       result = effect j (slot_size slot) there.hart s.memory;
       step = does there j (slot_size slot) (stands_at (further (further s 4) 4) there j (slot_size slot) refl refl third);
       same = same there.hart (mask_aside s a) (mask_value s 29 a is (λ z. omega arith) (omega arith) ∙ e);
-    }
-
--- after the code pair on x30
-abbrev jumping : State → ℕ → State
-jumping s a = record {
-  hart = with_register (past s.hart 8) 30 (bit_or (bit_and (register s.hart a) (register s.hart 25)) (register s.hart 24));
-  memory = s.memory;
-}
-
-jump_based : (rd a : ℕ) (c d : Span) (s : State) → AreRegions c d → IsState s → HasReserved 4 c d s.hart → IsWordStart c (register s.hart a)
-    → Stands s (Op And 30 a 25) 4 → Stands (further s 4) (Op Or 30 30 24) 4 → Stands (further (further s 4) 4) (Jalr rd 30 (pos 0)) 4
-    → DoesAs is_own s (Jalr rd a (pos 0)) (Wide (Op And 30 a 25) ∷ Wide (Op Or 30 30 24) ∷ []) (Wide (Jalr rd 30 (pos 0)))
-jump_based rd a c d s regions is reserved start first second third =
-    let there = jumping s a in
-    let n = is.hart.count in
-    let value : register there.hart 30 ≡ register s.hart a =
-    written_here (past s.hart 8) 30 _ (λ e. omega arith) (omega arith) ∙ unmasked_code 2 c d s.hart (register s.hart a) (omega arith) regions reserved start.0 start.1 in
-    record {
-      there = there;
-      leads = pair_leaves s 30 a 25 24 is (λ z. omega arith) (λ z. omega arith) (first, (second, tt));
-      place = refl;
-      result = effect (Jalr rd 30 (pos 0)) 4 there.hart s.memory;
-      step = does there (Jalr rd 30 (pos 0)) 4 (stands_at (further (further s 4) 4) there (Jalr rd 30 (pos 0)) 4 (sym (eight s.hart.pc)) refl third);
-      same = jumps_same is_own rd 30 a (pos 0) there.hart (with_pc s.hart there.hart.pc) s.memory (aside_own is_own (past s.hart 8) 30 _ (λ e. omega arith) refl) (ap (λ x. offset_by x (pos 0)) value);
     }
 
 -- ---- the expansions
@@ -173,8 +148,11 @@ jump_transparent rd a = record {
   last = Wide (Jalr rd 30 (pos 0));
   slots_are = refl;
   does = λ c d s asked keeps.
-      let to = plus_zero (register s.hart a) (asked.is_state.hart.words a) in
-      jump_based rd a c d s asked.regions asked.is_state asked.reserved (subst (λ (n : ℕ). IsWordStart c n) to keeps) asked.stand.0 asked.stand.1.0 asked.stand.1.1.0;
+      let v = register s.hart a in
+      let start = subst (λ (n : ℕ). IsWordStart c n) (plus_zero v (asked.is_state.hart.words a)) keeps in
+      after_pair is_own 30 s (Jalr rd a (pos 0)) (Jalr rd 30 (pos 0)) a 25 24 v (λ z. omega arith) (omega arith) refl asked.is_state (λ z. omega arith) asked.stand.0 asked.stand.1.0 asked.stand.1.1.0
+      (unmasked_code 2 c d s.hart v (omega arith) asked.regions asked.reserved start.0 start.1)
+      (λ h aside e. jumps_same is_own rd 30 a (pos 0) h (with_pc s.hart h.pc) s.memory aside (ap (λ n. offset_by n (pos 0)) e));
 }
 
 -- ---- the mask after a write of a data register
