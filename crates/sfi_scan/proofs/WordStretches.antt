@@ -1,5 +1,5 @@
 -- Stretches of code in words: the findings of one after another, and those of a stretch in a part.
-use Rattle.sfi_scan.proofs.Prelude.{◌≡◌, ℕ, zero, suc, ◌+◌, ◌-◌, ◌<◌, Bool, true, false, List, [], ◌++◌, length, take, length-append, take_all, refl, sym, ap, ◌∙◌, subst, arith, append-nil, append_assoc, BundlePlace, Finding, Part, block_bundle, bundle_bytes, place_of, AreFindingsOfFirst}
+use Rattle.sfi_scan.proofs.Prelude.{◌≡◌, ℕ, zero, suc, ◌+◌, ◌-◌, ◌<◌, Bool, true, false, List, [], ◌++◌, length, length-append, take_all, refl, sym, ap, ◌∙◌, subst, arith, append-nil, append_assoc, BundlePlace, Finding, Part, block_bundle, bundle_bytes, place_of, AreFindingsOfFirst}
 use Rattle.std.specs.Prelude.{MatchBool}
 use Rattle.sfi_policy.specs.Formats.{has_words}
 use Rattle.sfi_rules.specs.declared.owed.Owed.{Owed}

@@ -1,4 +1,4 @@
-use Rattle.sfi_scan.proofs.Prelude.{◌*◌, inl, arith, OnTrue_at}
+use Rattle.sfi_scan.proofs.Prelude.{inl, arith, OnTrue_at}
 use Rattle.sfi_scan.proofs.Bits.{in_rest, in_rest_other}
 use Rattle.sfi_scan.proofs.WordMarks.{told_quiet}
 use Rattle.sfi_scan.proofs.WordSteps.{all_seen}
