@@ -13,7 +13,7 @@ use Rattle.sfi_rewrite.specs.Transparency.{masked}
 use Rattle.std.proofs.Math.Arith.{mod-mul}
 use Rattle.std.proofs.lemmas.Nat.Bits.{and_high}
 
--- ---- masks that change nothing, or no place in a region
+-- ---- a number under a mask
 
 pub in_block : (q k r : ℕ) → r < 2 ^ k → bit_or r (q * 2 ^ k) ≡ q * 2 ^ k + r
 in_block q k r h = or_comm r (q * 2 ^ k) ∙ or_shifted q k r h

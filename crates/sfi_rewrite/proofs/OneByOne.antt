@@ -115,7 +115,7 @@ one_more f items k x code now h e l p n =
 pub label_here : (f : Format) (items : List Item) (k end place : ℕ) (code : List Slot) → AreFaultless f (take k items) code → end ≡ size_of code → place ≡ next_bundle end → IsLabelAt f items k place
 label_here f items k end place code l e p = (code, l.laid, p ∙ ap next_bundle e)
 
--- ---- labels: P k is what the label before item k names
+-- ---- labels: P k place says that a label before item k names that place
 
 -- one more label
 pub label_push : (P : ℕ → ℕ → Type 0) (labels now : List ℕ) (n place : ℕ)

@@ -26,7 +26,7 @@ not_permitted format x (Jump line) h p = both_ways _ h.3 p.no_barred_jump
 not_permitted format x (TooLarge number) h p = h
 not_permitted format x Memory h p = h
 
--- the first of these that an item on the line has, where it has one
+-- which fault the item on the line has, where it has one, by the first three tests
 abbrev first_fault : (names calls writes : Bool) → ℕ → RewriteFault
 first_fault true calls writes line = ReservedRegister line
 first_fault false true writes line = Ecall line

@@ -149,7 +149,7 @@ all_fit Sfiw items slots l a =
     let fits = a.fits in
     record { permitted = subst (All (IsPermitted Sfiw)) (take_all (length items) items (omega arith)) a.permitted; fits = omega arith }
 
--- ---- what is laid in either, as the format asks
+-- ---- in bundles or in words, by the format
 
 pub faultless_words : (f : Format) (items : List Item) (slots : List Slot) → has_words f ≡ true → AreLaidWhole items slots → AreFaultlessIn f items slots
 faultless_words f items slots e h = subst (λ (w : Bool). MatchBool w (AreLaidWhole items slots) (AreFaultless f items slots)) (sym e) h

@@ -43,7 +43,8 @@ pub record HasNext (f : Format) (old : List Slot) (x : Item) (new : List Slot) :
 abbrev pub HaveBodies : List Item → Type 0
 HaveBodies items = All (λ x. (count : ℕ) × IsBody count x.body) items
 
--- of each of so many items, and last of the end of the code, a place that is one of a label before it
+-- The places that labels name: one before each of so many items, and last one at the end of the code.
+-- IsLabel k place says that a label before item k names that place.
 pub record AreLabels (IsLabel : ℕ → ℕ → Type 0) (items : ℕ) (labels : List ℕ) : Type 0 where
   pub count : length labels ≡ items + 1
   pub each : (k : ℕ) → k ≤ items → IsLabel k (slice_index labels k)
