@@ -16,14 +16,14 @@ use Rattle.rv_text.specs.Stated.{Stated, format, sandbox, within, StatedWithin, 
 abbrev pub IsFree : List ℕ → Begun → Type 0
 IsFree name b = meaning b.sandbox.names name ≡ Unknown
 
--- a label of this name may come in the sandbox begun last, and leads to the next source so far
+-- a label of this name may come in the sandbox begun last, and changes `old` to `new`
 abbrev pub Labels : List ℕ → SoFar → SoFar → Type 0
 Labels name old new =
     (b : Begun) × (old.begun ≡ Some b) × (length name ≤ name_most) × IsFree name b
     × (new ≡ record old { begun = Some (with_label name b) })
 
 -- a label of this name is refused: no sandbox was begun, the name is too long,
--- or it is there already
+-- or a label or a gate has it already
 abbrev pub RefusesLabel : List ℕ → SoFar → TextCause → Type 0
 RefusesLabel name old e =
     ((old.begun ≡ None) × (e ≡ cause.Directive))
@@ -40,8 +40,8 @@ MayCome place.Gates s = IsSomeAnd s.begun (λ b. b.opened ≡ false)
 MayCome place.Code s = IsSomeAnd s.begun (λ b. b.in_data ≡ false)
 MayCome place.Data s = IsSomeAnd s.begun (λ b. b.in_data ≡ true)
 
--- how many gates, instructions and data bytes a sandbox may have:
--- of bytes those that it was begun with
+-- `b` has room for what is stated: for gates and instructions up to a limit, for bytes up to the
+-- size of data with which it was begun
 abbrev pub Fits : StatedWithin → Begun → Type 0
 Fits (gate name service) b = length b.sandbox.gates + 1 ≤ gates_most
 Fits (bytes values) b = length b.sandbox.bytes + length values ≤ b.sandbox.data_size
@@ -64,13 +64,13 @@ with_stated line (address rd name) b = with_bodies line
     (High rd (place_of b.sandbox.names name) ∷ Low rd (place_of b.sandbox.names name) ∷ [])
     (with_names (met b.sandbox.names name) b)
 
--- a statement of a line goes on with the sandbox begun last, and fits there
+-- what a line states within a sandbox fits in the sandbox begun last, and changes `old` to `new`
 abbrev pub GoesOn : ℕ → StatedWithin → SoFar → SoFar → Type 0
 GoesOn line s old new =
     (b : Begun) × (old.begun ≡ Some b) × Fits s b
     × (new ≡ record old { begun = Some (with_stated line s b) })
 
--- a statement of a line, which may come there, leads to the next source so far
+-- what a line states, where it may come after `old`, changes `old` to `new`
 abbrev pub Does : ℕ → Stated → SoFar → SoFar → Type 0
 Does line (format value) old new = new ≡ record old { format = Some value }
 Does line (sandbox size) old new = new ≡ with_sandbox size old

@@ -15,107 +15,107 @@ use Rattle.rv_text.specs.Stated.{Stated}
 use Rattle.rv_text.specs.SoFar.{Begun, SoFar}
 use Rattle.rv_text.specs.Effects.{IsFree, Labels, RefusesLabel, MayCome, Does, HasNoRoom}
 
--- the text begins with a name that a label or a gate may have, and then this
+-- `text` begins with `name`, which a label or a gate may have, and `rest` follows it
 abbrev pub BeginsWithName : List ℕ → List ℕ → List ℕ → Type 0
 BeginsWithName text name rest = Takes text name rest × IsLabel name
 
--- the text begins with a label: a name and a colon, and then this
+-- `text` begins with a label, which is `name` and a colon, and `rest` follows it
 abbrev pub BeginsWithLabel : List ℕ → List ℕ → List ℕ → Type 0
 BeginsWithLabel text name rest =
     (after : List ℕ) × BeginsWithName text name after × Takes after (codes ":") rest
 
--- no label stands at the front of the text
+-- `text` begins with no label
 abbrev pub HasNoLabel : List ℕ → Type 0
 HasNoLabel text = (name rest : List ℕ) → BeginsWithLabel text name rest → ⊥
 
--- the labels of these names stand at the front of the text, and lead from the source so far to the
--- next one, and to the text after them
+-- `text` begins with labels of these names, which change the source so far from `old` to `new`,
+-- and `rest` follows them
 abbrev pub LabelsLead : List (List ℕ) → SoFar → List ℕ → SoFar → List ℕ → Type 0
 LabelsLead [] old text new rest = (new ≡ old) × (rest ≡ text)
 LabelsLead (name ∷ names) old text new rest =
     (next : SoFar) × (after : List ℕ) × BeginsWithLabel text name after × Labels name old next
     × LabelsLead names next after new rest
 
--- all the labels at the front of the text lead from the source so far to the next one,
--- and to the text after them
+-- the labels at the front of `text` change the source so far from `old` to `new`, and `rest`,
+-- which begins with no label, follows them
 pub record PassesLabels (old : SoFar) (text : List ℕ) (new : SoFar) (rest : List ℕ) : Type 0 where
   pub names : List (List ℕ)
   pub lead : LabelsLead names old text new rest
   pub all : HasNoLabel rest
 
--- the text begins with a name that is there already
+-- `text` begins with a name that a label or a gate of `b` has
 abbrev pub IsTaken : Begun → List ℕ → Type 0
 IsTaken b text =
     (name : List ℕ) × (rest : List ℕ) × BeginsWithName text name rest × (IsFree name b → ⊥)
 
--- it is a gate, and after its keyword stands a name that is there already
+-- `k` is `.gate`, and the name after it is one that a label or a gate of the sandbox begun last has
 abbrev pub IsGateTwice : Keyword → SoFar → List ℕ → Type 0
 IsGateTwice k s text =
     (k ≡ keyword.Directive directive.Gate) × ((b : Begun) × (s.begun ≡ Some b) × IsTaken b text)
 
--- a statement of this keyword and line, with this text after it, may come there, and leads from the
--- source so far to the next one
+-- the statement of keyword `k` and the text after it may come after `old`, and on this line changes
+-- it to `new`
 abbrev pub LeadsAfter : Keyword → ℕ → SoFar → List ℕ → SoFar → Type 0
 LeadsAfter k line old text new =
     MayCome (place_of_keyword k) old × (IsGateTwice k old text → ⊥)
     × ((s : Stated) × StatesAfter k text s × Does line s old new)
 
--- the text is a statement of this line, which leads from the source so far to the next one
+-- `text` is a statement, which on this line changes the source so far from `old` to `new`
 abbrev pub StatementLeads : ℕ → SoFar → List ℕ → SoFar → Type 0
 StatementLeads line old text new =
     (k : Keyword) × (rest : List ℕ) × Takes text (keyword_name k) rest
     × LeadsAfter k line old rest new
 
--- nothing is left of the line, or a statement leads on
+-- `text`, which follows the labels of a line, is blank and changes nothing, or is a statement
 abbrev pub RestLeads : ℕ → SoFar → List ℕ → SoFar → Type 0
 RestLeads line old text new = (IsBlank text × (new ≡ old)) ⊎ StatementLeads line old text new
 
--- a line leads from the source so far to the next one: by its labels, each with its colon,
--- and then by a statement or not
+-- the line `text` changes the source so far from `old` to `new`: by its labels, and then by its
+-- statement, if it has one
 abbrev pub Leads : ℕ → SoFar → List ℕ → SoFar → Type 0
 Leads line old text new =
     (next : SoFar) × (rest : List ℕ) × PassesLabels old text next rest
     × RestLeads line next rest new
 
--- one of the labels at the front of the text, after others that lead on, is refused for this cause
+-- `text` begins with labels, of which the last is refused for cause `e`, and none before it
 abbrev pub LabelRefused : SoFar → List ℕ → TextCause → Type 0
 LabelRefused old text e =
     (names : List (List ℕ)) × (next : SoFar) × (rest : List ℕ) × (name : List ℕ) × (after : List ℕ)
     × LabelsLead names old text next rest × BeginsWithLabel rest name after
     × RefusesLabel name next e
 
--- the text states with this keyword what the sandbox begun last has no room for
+-- keyword `k` and the text after it state what the sandbox begun last has no room for
 abbrev pub PassesLimit : Keyword → SoFar → List ℕ → Type 0
 PassesLimit k s text =
     (st : Stated) × StatesAfter k text st × HasNoRoom st s
 
--- the text after a keyword that may come there is refused for this cause
+-- the text after keyword `k`, which may come after `s`, is refused for cause `e`
 abbrev pub OperandsRefused : Keyword → SoFar → List ℕ → TextCause → Type 0
 OperandsRefused k s text e =
     (IsGateTwice k s text × (e ≡ cause.LabelTwice))
     ⊎ ((IsGateTwice k s text → ⊥)
     × (RefusedWith k text e ⊎ (PassesLimit k s text × (e ≡ cause.Limit))))
 
--- a statement of this keyword, with this text after it, is refused for this cause
+-- the statement of keyword `k` and the text after it is refused for cause `e`
 abbrev pub RefusedAfter : Keyword → SoFar → List ℕ → TextCause → Type 0
 RefusedAfter k s text e =
     ((MayCome (place_of_keyword k) s → ⊥) × (e ≡ cause.Directive))
     ⊎ (MayCome (place_of_keyword k) s × OperandsRefused k s text e)
 
--- a statement with this first token and this rest is refused for this cause
+-- the statement of `token` and the rest after it is refused for cause `e`
 abbrev pub RefusedFrom : SoFar → List ℕ → List ℕ → TextCause → Type 0
 RefusedFrom s token rest e =
     NameRefused token e
     ⊎ ((k : Keyword) × (keyword_name k ≡ token) × RefusedAfter k s rest e)
 
--- the text after the labels is no statement that may come there: its first token that departs from
--- one does so for this cause
+-- `text`, which follows the labels of a line, is no statement that may come after `s`: `e` is the
+-- cause of its first token that departs from one
 abbrev pub StatementRefused : SoFar → List ℕ → TextCause → Type 0
 StatementRefused s text e =
     Unformed text e
     ⊎ ((token : List ℕ) × (rest : List ℕ) × Takes text token rest × RefusedFrom s token rest e)
 
--- a line is refused after the source so far: its first token that departs does so for this cause
+-- the line `text` is refused after `old`: `e` is the cause of its first token that departs
 abbrev pub LineRefused : SoFar → List ℕ → TextCause → Type 0
 LineRefused old text e =
     LabelRefused old text e

@@ -22,41 +22,41 @@ use Rattle.rv_text.specs.Constants.{data_bytes}
 use Rattle.rv_text.specs.Keywords.{directive_form, directive_states, pseudo_form, pseudo_states, branch_form, branch_states, jal_form, jal_states, data_kind, keyword_name}
 use Rattle.rv_text.specs.Stated.{Stated, within, bytes, plain}
 
--- the tokens stand at the parts of the form, and with these operands state this
+-- `tokens` stand at the parts of `form`, and their operands state `s`
 abbrev pub IsRow : List Part → (OperandValues → Stated) → List (List ℕ) → Stated → Type 0
 IsRow form states tokens s = (o : OperandValues) × HasForm o form tokens × (s ≡ states o)
 
--- the tokens after the name are those of an instruction: a branch and a jal go to a name, and each
--- of the others has the operands that it has in the text of one instruction
+-- an instruction's name with `tokens` after it states `s`: a branch and a jal go to a name, and any
+-- other has the operands that it has in the text of one instruction
 abbrev pub IsInstr : Mnemonic → List (List ℕ) → Stated → Type 0
 IsInstr (mnemonic.Branch cond) tokens s = IsRow branch_form (branch_states cond) tokens s
 IsInstr mnemonic.Jal tokens s = IsRow jal_form jal_states tokens s
 IsInstr name tokens s =
     (i : Instr) × Spells i (name_of name ∷ tokens) × (s ≡ within (plain (i ∷ [])))
 
--- the token writes a number of this kind
+-- `token` writes `z`, a number of this kind
 abbrev pub Writes : NumberKind → List ℕ → ℤ → Type 0
 Writes kind token z = IsNumber token z × IsNumberOf kind z
 
--- the tokens are such numbers, each after a comma
+-- `tokens` write `numbers`, which are of this kind, each after a comma
 abbrev pub AreMore : NumberKind → List ℤ → List (List ℕ) → Type 0
 AreMore kind [] [] = Unit {0}
 AreMore kind (z ∷ numbers) (comma ∷ token ∷ tokens) =
     (comma ≡ codes ",") × Writes kind token z × AreMore kind numbers tokens
 AreMore kind _ _ = ⊥
 
--- the tokens are such numbers with commas between, one at least
+-- `tokens` write `numbers`, which are of this kind, with commas between: one number at least
 abbrev pub AreNumbers : NumberKind → List ℤ → List (List ℕ) → Type 0
 AreNumbers kind (z ∷ numbers) (token ∷ tokens) = Writes kind token z × AreMore kind numbers tokens
 AreNumbers kind _ _ = ⊥
 
--- the tokens are a list of data of this width
+-- `tokens` are a list of data of this width, which states `s`
 abbrev pub IsData : DataWidth → List (List ℕ) → Stated → Type 0
 IsData width tokens s =
     (numbers : List ℤ) × AreNumbers (data_kind width) numbers tokens
     × (s ≡ within (bytes (flat_map (data_bytes width) numbers)))
 
--- the tokens after this keyword make it a statement, and this is what it states
+-- keyword `k` with `tokens` after it is a statement, which states `s`
 abbrev pub After : Keyword → List (List ℕ) → Stated → Type 0
 After (keyword.Instr name) tokens s = IsInstr name tokens s
 After (keyword.Pseudo name) tokens s = IsRow (pseudo_form name) (pseudo_states name) tokens s
@@ -64,25 +64,25 @@ After (keyword.Directive name) tokens s =
     IsRow (directive_form name) (directive_states name) tokens s
 After (keyword.Numbers width) tokens s = IsData width tokens s
 
--- the text after this keyword states this with it
+-- keyword `k` with `text` after it states `s`
 abbrev pub StatesAfter : Keyword → List ℕ → Stated → Type 0
 StatesAfter k text s = (tokens : List (List ℕ)) × AreTokens text tokens × After k tokens s
 
--- no number of this kind stands at the front of the text, for this cause
+-- `text` begins with no number of this kind, and `e` is the cause
 abbrev pub NumberDeparts : NumberKind → List ℕ → TextCause → Type 0
 NumberDeparts kind text e =
     Unformed text e
     ⊎ (Missing text e
     ⊎ ((token : List ℕ) × (rest : List ℕ) × Takes text token rest × Differs (Number kind) token e))
 
--- neither the text's end nor a comma and such a number stands there, for this cause
+-- `text` isn't blank and doesn't begin with a comma and a number of this kind; `e` is the cause
 abbrev pub MoreDeparts : NumberKind → List ℕ → TextCause → Type 0
 MoreDeparts kind text e =
     Unformed text e
     ⊎ ((token : List ℕ) × (rest : List ℕ) × Takes text token rest
     × (Differs Comma token e ⊎ ((token ≡ codes ",") × NumberDeparts kind rest e)))
 
--- such numbers, each after a comma, lead from the text to the rest
+-- `text` begins with `numbers`, which are of this kind, each after a comma, and `rest` follows them
 abbrev pub LeadsByMore : NumberKind → List ℤ → List ℕ → List ℕ → Type 0
 LeadsByMore kind [] text rest = text ≡ rest
 LeadsByMore kind (z ∷ numbers) text rest =
@@ -90,7 +90,7 @@ LeadsByMore kind (z ∷ numbers) text rest =
     × Takes text comma after × (comma ≡ codes ",")
     × Takes after token next × Writes kind token z × LeadsByMore kind numbers next rest
 
--- the first token of the text that departs from a list of such numbers does so for this cause
+-- `text` is no list of numbers of this kind: `e` is the cause of its first token that departs
 abbrev pub ListDeparts : NumberKind → List ℕ → TextCause → Type 0
 ListDeparts kind text e =
     NumberDeparts kind text e
@@ -98,25 +98,25 @@ ListDeparts kind text e =
     × ((numbers : List ℤ) × (last : List ℕ) × LeadsByMore kind numbers rest last
     × MoreDeparts kind last e))
 
--- the first token after an instruction's name that departs from it does so for this cause: from a
--- branch or a jal to a name, or from any other instruction
+-- `text` doesn't give the operands of an instruction, where a branch and a jal go to a name: `e` is
+-- the cause of its first token that departs
 abbrev pub InstrDeparts : Mnemonic → List ℕ → TextCause → Type 0
 InstrDeparts (mnemonic.Branch cond) text e = Departs branch_form text e
 InstrDeparts mnemonic.Jal text e = Departs jal_form text e
 InstrDeparts name text e = OperandsDepart name text e
 
--- the text after this keyword states nothing with it, for the cause of the first token that departs
+-- keyword `k` with `text` after it states nothing: `e` is the cause of the first token that departs
 abbrev pub RefusedWith : Keyword → List ℕ → TextCause → Type 0
 RefusedWith (keyword.Instr name) text e = InstrDeparts name text e
 RefusedWith (keyword.Pseudo name) text e = Departs (pseudo_form name) text e
 RefusedWith (keyword.Directive name) text e = Departs (directive_form name) text e
 RefusedWith (keyword.Numbers width) text e = ListDeparts (data_kind width) text e
 
--- the token is a name, and no statement's
+-- `token` is a name, and no keyword
 abbrev pub IsNoKeyword : List ℕ → Type 0
 IsNoKeyword token = IsName token × ((k : Keyword) → keyword_name k ≡ token → ⊥)
 
--- a statement's first token is no keyword, for this cause
+-- `token`, with which a statement begins, is no keyword, and `e` is the cause
 abbrev pub NameRefused : List ℕ → TextCause → Type 0
 NameRefused token e =
     ((IsName token → ⊥) × (e ≡ cause.Operands)) ⊎ (IsNoKeyword token × (e ≡ cause.Word))

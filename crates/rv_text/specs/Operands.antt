@@ -27,13 +27,13 @@ abbrev pub mode_name : Bool → List ℕ
 mode_name true = codes "rvc"
 mode_name false = codes "norvc"
 
--- the token says the format: by its number, or that of code in words by `words`
+-- `token` says the format: 1 is SFI1, 2 is SFI2, and `words` is SFIW
 abbrev pub SaysFormat : List ℕ → Format → Type 0
 SaysFormat token Sfi1 = IsNumber token (pos 1)
 SaysFormat token Sfi2 = IsNumber token (pos 2)
 SaysFormat token Sfiw = token ≡ codes "words"
 
--- the token stands at this part of a statement with these operands
+-- `token` stands at this part of a statement with the operands `o`
 abbrev pub Stands : OperandValues → Part → List ℕ → Type 0
 Stands o Rd token = IsRegister token o.rd
 Stands o Rs1 token = IsRegister token o.rs1
@@ -46,17 +46,17 @@ Stands o Comma token = token ≡ codes ","
 Stands o Open token = token ≡ codes "("
 Stands o Close token = token ≡ codes ")"
 
--- the tokens stand at the parts of the form, one each
+-- `tokens` stand at the parts of `form`, one at each
 abbrev pub HasForm : OperandValues → List Part → List (List ℕ) → Type 0
 HasForm o [] [] = Unit {0}
 HasForm o (part ∷ form) (token ∷ tokens) = Stands o part token × HasForm o form tokens
 HasForm o _ _ = ⊥
 
--- the cause where this token stands in a name's place and isn't one, or is too long
+-- the cause for which `token` is refused where the name of a label or a gate should stand
 abbrev pub label_cause : List ℕ → TextCause
 label_cause token = if is_too_long token then cause.Limit else cause.Operands
 
--- the cause where this token stands at this part and may not
+-- the cause for which `token` is refused at this part
 abbrev pub part_cause : Part → List ℕ → TextCause
 part_cause Rd token = cause.Register
 part_cause Rs1 token = cause.Register
@@ -66,23 +66,23 @@ part_cause Name token = label_cause token
 part_cause ImageFormat token = cause.Number
 part_cause _ token = cause.Operands
 
--- no token can be formed at the front of the text
+-- no token can be formed at the front of `text`, and `e` is the cause
 abbrev pub Unformed : List ℕ → TextCause → Type 0
 Unformed text e = IsStuck text × (e ≡ cause.Word)
 
--- the text has no token where one should stand
+-- `text` is blank where a token should stand, and `e` is the cause
 abbrev pub Missing : List ℕ → TextCause → Type 0
 Missing text e = IsBlank text × (e ≡ cause.Operands)
 
--- a token stands where none should
+-- `text` begins with a token where none should stand, and `e` is the cause
 abbrev pub Beyond : List ℕ → TextCause → Type 0
 Beyond text e = (token : List ℕ) × (rest : List ℕ) × Takes text token rest × (e ≡ cause.Operands)
 
--- the token can't stand at this part
+-- `token` can't stand at this part, and `e` is the cause
 abbrev pub Differs : Part → List ℕ → TextCause → Type 0
 Differs part token e = ((o : OperandValues) → Stands o part token → ⊥) × (e ≡ part_cause part token)
 
--- the first token of the text that departs from the form does so for this cause
+-- `text` doesn't give the operands of `form`: `e` is the cause of its first token that departs
 abbrev pub Departs : List Part → List ℕ → TextCause → Type 0
 Departs [] text e = Unformed text e ⊎ Beyond text e
 Departs (part ∷ form) text e =

@@ -22,22 +22,22 @@ pub record Begun : Type 0 where
   -- it has a label or an instruction
   pub opened : Bool
 
--- the format, if the text has said it, the sandboxes that are finished, and the one begun last
+-- the format, if the text has said it, the finished sandboxes, and the sandbox begun last
 pub record SoFar : Type 0 where
   pub format : Option Format
   pub finished : List Sandbox
   pub begun : Option Begun
 
--- before the first line
+-- the source so far before the first line
 abbrev pub nothing : SoFar
 nothing = record { format = None; finished = []; begun = None }
 
--- the format: SFI1 where the text says none
+-- the format that the text says, or SFI1 where it says none
 abbrev pub format_or_sfi1 : Option Format → Format
 format_or_sfi1 None = Sfi1
 format_or_sfi1 (Some format) = format
 
--- a sandbox at its beginning: it has a format and data bytes, and nothing else
+-- a sandbox at its beginning: it has a format and a size of data, and nothing else
 abbrev pub begin : Format → ℕ → Begun
 begin format size =
     record {
@@ -55,16 +55,16 @@ begin format size =
       opened = false;
     }
 
--- the sandbox of the one begun last
+-- the sandbox begun last, if one was begun
 abbrev pub last_sandbox : Option Begun → List Sandbox
 last_sandbox None = []
 last_sandbox (Some b) = b.sandbox ∷ []
 
--- the sandboxes that have been begun
+-- all sandboxes that were begun
 abbrev pub sandboxes : SoFar → List Sandbox
 sandboxes s = s.finished ++ last_sandbox s.begun
 
--- a sandbox with so many data bytes begins
+-- the source so far after a `.sandbox` with `size` bytes of data
 abbrev pub with_sandbox : ℕ → SoFar → SoFar
 with_sandbox size s =
     record {
@@ -77,12 +77,11 @@ with_sandbox size s =
 abbrev pub with_names : List (List ℕ × Named) → Begun → Begun
 with_names names b = record b { sandbox = record b.sandbox { names = names } }
 
--- what a label names there: the place before the next instruction or, in the data part,
--- after the bytes so far
+-- what a label names at the end of `b`: the next instruction or, in the data part, the next byte
 abbrev pub here : Begun → Named
 here b = if b.in_data then Data (length b.sandbox.bytes) else Code (length b.sandbox.items)
 
--- the sandbox after a label
+-- the sandbox after a label of this name
 abbrev pub with_label : List ℕ → Begun → Begun
 with_label name b =
     record (with_names (placed b.sandbox.names name (here b)) b) {
@@ -90,7 +89,7 @@ with_label name b =
       opened = true;
     }
 
--- the sandbox with one more gate
+-- the sandbox after a gate of this name and service
 abbrev pub with_gate : List ℕ → ℕ → Begun → Begun
 with_gate name service b =
     record b {
@@ -101,14 +100,15 @@ with_gate name service b =
       };
     }
 
--- the items of these bodies, on one line: a label before the first is before none of the others
+-- the items of `bodies`, all of one line: `labelled` says whether a label stands before the first,
+-- and none stands before another
 abbrev pub items_of : ℕ → Bool → Bool → List Body → List Item
 items_of line rvc labelled [] = []
 items_of line rvc labelled (body ∷ bodies) =
     record { line = line; labelled = labelled; rvc = rvc; body = body }
     ∷ items_of line rvc false bodies
 
--- the sandbox with these instructions of a line after the others, one at least
+-- the sandbox after the instructions of a line, of which there is one at least
 abbrev pub with_bodies : ℕ → List Body → Begun → Begun
 with_bodies line bodies b =
     record b {
@@ -118,6 +118,6 @@ with_bodies line bodies b =
       opened = true;
     }
 
--- the sandbox with these data bytes after the others
+-- the sandbox after more bytes of data
 abbrev pub with_bytes : List ℕ → Begun → Begun
 with_bytes bytes b = record b { sandbox = record b.sandbox { bytes = b.sandbox.bytes ++ bytes } }

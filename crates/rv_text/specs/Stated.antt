@@ -24,7 +24,7 @@ pub data StatedWithin : Type 0 where
 pub data Stated : Type 0 where
   -- the format of the source is this one
   format : (value : Format) → Stated
-  -- a sandbox begins, with so many bytes of data
+  -- a sandbox with `size` bytes of data begins
   sandbox : (size : ℕ) → Stated
-  -- what goes on within a sandbox
+  -- something within the sandbox begun last
   within : (what : StatedWithin) → Stated

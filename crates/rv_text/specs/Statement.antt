@@ -28,12 +28,12 @@ mnemonic_of (instr.Fence imm rd rs1) = mnemonic.Fence
 mnemonic_of instr.Ecall = mnemonic.Ecall
 mnemonic_of instr.Ebreak = mnemonic.Ebreak
 
--- these registers and this number
+-- operands of these registers and this number
 abbrev pub operands : ℕ → ℕ → ℕ → ℤ → OperandValues
 operands rd rs1 rs2 number =
     record { rd = rd; rs1 = rs1; rs2 = rs2; number = number; name = []; compressed = false; format = Sfi1 }
 
--- its operands by their places; those that its form lacks are 0 or none
+-- an instruction's operands; those that its form lacks are 0 or none
 abbrev pub operands_of : Instr → OperandValues
 operands_of (instr.Op op rd rs1 rs2) = operands rd rs1 rs2 (pos 0)
 operands_of (instr.OpImm op rd rs1 imm) = operands rd rs1 0 imm
@@ -52,7 +52,7 @@ operands_of instr.Ebreak = operands 0 0 0 (pos 0)
 abbrev pub full_fence : Instr
 full_fence = instr.Fence 255 0 0
 
--- the tokens are the instruction's name and its operands; a full fence may leave them out
+-- the tokens are the name and the operands of `i`; a full fence may leave out its operands
 abbrev pub Spells : Instr → List (List ℕ) → Type 0
 Spells i [] = ⊥
 Spells i (name ∷ tokens) =
@@ -64,27 +64,27 @@ Spells i (name ∷ tokens) =
 abbrev pub Means : List ℕ → Instr → Type 0
 Means text i = (tokens : List (List ℕ)) × AreTokens text tokens × Spells i tokens
 
--- the text after the name is that of a fence without operands
+-- an instruction's `name` with `rest` after it is a fence without operands
 abbrev pub IsBareFence : Mnemonic → List ℕ → Type 0
 IsBareFence name rest = (name ≡ mnemonic.Fence) × IsBlank rest
 
--- the first token after an instruction's name that departs from its operands does so for this
--- cause; none departs from a fence without operands
+-- `rest` doesn't give the operands of the instruction `name`, which is no fence without operands:
+-- `e` is the cause of its first token that departs
 abbrev pub OperandsDepart : Mnemonic → List ℕ → TextCause → Type 0
 OperandsDepart name rest e = (IsBareFence name rest → ⊥) × Departs (form_of name) rest e
 
--- the token is a name that no instruction has, a pseudo-instruction's too
+-- `token` is a name that no instruction has; it may be a pseudo-instruction's
 abbrev pub IsUnknown : List ℕ → Type 0
 IsUnknown token = IsName token × ((m : Mnemonic) → name_of m ≡ token → ⊥)
 
--- a text with this first token and this rest is refused for this cause
+-- the text of `token` and the rest after it is refused for cause `e`
 abbrev pub RefusedAt : List ℕ → List ℕ → TextCause → Type 0
 RefusedAt token rest e =
     ((IsName token → ⊥) × (e ≡ cause.Operands))
     ⊎ ((IsUnknown token × (e ≡ cause.Word))
     ⊎ ((m : Mnemonic) × (name_of m ≡ token) × OperandsDepart m rest e))
 
--- the text means nothing: the first token that departs from an instruction does so for this cause
+-- `text` means no instruction: `e` is the cause of its first token that departs from one
 abbrev pub Refused : List ℕ → TextCause → Type 0
 Refused text e =
     Unformed text e

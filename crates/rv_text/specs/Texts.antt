@@ -12,7 +12,7 @@ use Rattle.rv_text.specs.Leads.{Leads, LineRefused}
 abbrev pub most_bytes : ℕ
 most_bytes = 1048576
 
--- the lines of a text, between its line feeds; after the last one stands an empty line
+-- the lines of `text`, which line feeds divide; after a last line feed comes an empty line
 abbrev pub lines : List ℕ → List (List ℕ)
 lines text = slice_split (λ c. c == 10) text
 
@@ -20,28 +20,28 @@ lines text = slice_split (λ c. c == 10) text
 abbrev pub uncommented : List ℕ → List ℕ
 uncommented line = before_first (λ c. c == 35) line
 
--- these lines, of which the first has this number, lead from the source so far to the next one
+-- lines, of which the first has number `line`, change the source so far from `old` to `new`
 abbrev pub LinesLead : ℕ → SoFar → List (List ℕ) → SoFar → Type 0
 LinesLead line old [] new = new ≡ old
 LinesLead line old (text ∷ texts) new =
     (next : SoFar) × Leads line old (uncommented text) next × LinesLead (line + 1) next texts new
 
--- the text is within its limit, and its lines lead from nothing to this source so far
+-- `text` is within its limit, and its lines change the source so far from nothing to `new`
 pub record LeadsFromNothing (text : List ℕ) (new : SoFar) : Type 0 where
   pub within : length text ≤ most_bytes
   pub lead : LinesLead 1 nothing (lines text) new
 
--- the text means these sandboxes: its lines lead to them, and begin one at least
+-- `text` means the sandboxes `parts`: its lines make them, and begin one at least
 abbrev pub MeansSource : List ℕ → List Sandbox → Type 0
 MeansSource text parts =
     (new : SoFar) × (last : Begun)
     × LeadsFromNothing text new × (new.begun ≡ Some last) × (parts ≡ sandboxes new)
 
--- the line of this number is refused with this fault
+-- `text`, as the line of this number, is refused with fault `f`
 abbrev pub LineFault : ℕ → SoFar → List ℕ → TextFault → Type 0
 LineFault line old text f = LineRefused old (uncommented text) f.cause × (f.line ≡ line)
 
--- the first of these lines that leads nowhere is refused with this fault
+-- one of the lines is refused with fault `f`, and none before it; `line` is the first one's number
 abbrev pub FirstRefused : ℕ → SoFar → List (List ℕ) → TextFault → Type 0
 FirstRefused line old [] f = ⊥
 FirstRefused line old (text ∷ texts) f =
@@ -49,11 +49,11 @@ FirstRefused line old (text ∷ texts) f =
     ⊎ ((next : SoFar) × Leads line old (uncommented text) next
     × FirstRefused (line + 1) next texts f)
 
--- the fault of line 1 with this cause
+-- the fault of line 1 for cause `e`
 abbrev pub first_line : TextCause → TextFault
 first_line e = record { line = 1; cause = e }
 
--- the fault of a text: it is above its limit, or a line is refused, or no line begins a sandbox
+-- the fault of `text` is `f`: it is above its limit, a line is refused, or none begins a sandbox
 abbrev pub IsFault : List ℕ → TextFault → Type 0
 IsFault text f =
     ((most_bytes < length text) × (f ≡ first_line cause.Limit))

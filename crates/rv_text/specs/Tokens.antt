@@ -9,22 +9,22 @@ use Rattle.rv_source.specs.Names.{IsName, begins_label}
 abbrev pub is_space : ℕ → Bool
 is_space c = (c == 32) || ((c == 9) || (c == 13))
 
--- nothing but such stands there
+-- `text` has nothing but spaces, tabs and carriage returns
 abbrev pub IsBlank : List ℕ → Type 0
 IsBlank text = AllByRecursion (λ c. IsTrue (is_space c)) text
 
--- it begins as the name of a label, and has more bytes than a name may have
+-- `text` begins as a label's name does, and has more bytes than a name may have
 abbrev pub is_too_long : List ℕ → Bool
 is_too_long text = begins_label text && nat_lt name_most (length text)
 
--- decimal digits, or `0x` and hexadecimal digits, write n
+-- `text` writes `n` in decimal digits, or in hexadecimal digits after `0x`
 abbrev pub IsMagnitude : List ℕ → ℕ → Type 0
 IsMagnitude text n =
     (IsNumeral 10 text × (n ≡ digits_value 10 text))
     ⊎ ((digits : List ℕ) × (text ≡ codes "0x" ++ digits)
     × IsNumeral 16 digits × (n ≡ digits_value 16 digits))
 
--- a magnitude, perhaps after a minus, writes z
+-- `text` writes `z`: a magnitude, with or without a minus before it
 abbrev pub IsNumber : List ℕ → ℤ → Type 0
 IsNumber text z =
     ((n : ℕ) × IsMagnitude text n × (z ≡ pos n))
@@ -35,15 +35,15 @@ IsNumber text z =
 abbrev pub is_mark : ℕ → Bool
 is_mark c = (c == 44) || ((c == 58) || ((c == 40) || (c == 41)))
 
--- one of these
+-- `text` is one mark
 abbrev pub IsMark : List ℕ → Type 0
 IsMark text = (c : ℕ) × IsTrue (is_mark c) × (text ≡ c ∷ [])
 
--- a name, a number or a mark
+-- `text` is a name, a number or a mark
 abbrev pub IsToken : List ℕ → Type 0
 IsToken text = IsName text ⊎ (((z : ℤ) × IsNumber text z) ⊎ IsMark text)
 
--- the first token of the text, the longest that stands there, and what follows it
+-- the first token of `text` is `token`, the longest that stands there, and `rest` follows it
 pub record Takes (text token rest : List ℕ) : Type 0 where
   pub gap : List ℕ
   pub blank : IsBlank gap
@@ -52,17 +52,17 @@ pub record Takes (text token rest : List ℕ) : Type 0 where
   pub longest : (other more : List ℕ)
       → token ++ rest ≡ other ++ more → IsToken other → length other ≤ length token
 
--- these tokens, in order, lead from the text to the rest
+-- `text` begins with `tokens`, in their order, and `rest` follows them
 abbrev pub LeadsTo : List ℕ → List (List ℕ) → List ℕ → Type 0
 LeadsTo text [] rest = text ≡ rest
 LeadsTo text (token ∷ tokens) rest =
     (after : List ℕ) × Takes text token after × LeadsTo after tokens rest
 
--- the text's tokens
+-- `tokens` are all the tokens of `text`
 abbrev pub AreTokens : List ℕ → List (List ℕ) → Type 0
 AreTokens text tokens = (rest : List ℕ) × LeadsTo text tokens rest × IsBlank rest
 
--- no token can be formed at the front of the text, and something is there
+-- `text` is not blank, and no token can be formed at its front
 pub record IsStuck (text : List ℕ) : Type 0 where
   pub nothing : (token rest : List ℕ) → Takes text token rest → ⊥
   pub something : IsBlank text → ⊥

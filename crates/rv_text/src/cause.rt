@@ -10,17 +10,17 @@ use std::fmt;
 /// Why a text means nothing. Its text is its bare name.
 #[derive(Clone, Copy, Debug, PartialEq, Eq)]
 pub enum TextCause {
-    /// No token can be formed, or a statement's first name is none that is known.
+    /// No token can be formed, or a statement begins with a name that is no keyword.
     Word,
     /// Something else stands in a register's place.
     Register,
     /// Something else stands in a number's place, or a number that is out of its range.
     Number,
-    /// A token is missing, is too many, or isn't the expected name or mark.
+    /// A token is missing, one more stands than is expected, or one isn't the expected name or mark.
     Operands,
-    /// The name is there already.
+    /// A label or a gate has the name already.
     LabelTwice,
-    /// The statement may not stand there.
+    /// The statement may not come there.
     Directive,
     /// Something is longer or more than is allowed.
     Limit,

@@ -14,28 +14,28 @@ use crate::statement::SandboxStatement;
 use rv_word::{ImmOp, Instr, Reg};
 use std::alloc::AllocError;
 
-/// What 32 bits hold of the number.
+/// The low 32 bits of the number.
 fn low_word(number: i64) -> u32
     ensures { result ≡ modulo 32 number }
 {
     number.rem_euclid(1 << 32) as u32
 }
 
-/// What 16 bits hold of it.
+/// The low 16 bits of the number.
 fn low_half(number: i64) -> u16
     ensures { result ≡ modulo 16 number }
 {
     number.rem_euclid(1 << 16) as u16
 }
 
-/// What 8 bits hold of it.
+/// The low 8 bits of the number.
 fn low_byte(number: i64) -> u8
     ensures { result ≡ modulo 8 number }
 {
     number.rem_euclid(1 << 8) as u8
 }
 
-/// The number + 2048, as 32 bits hold it.
+/// The low 32 bits of the number + 2048.
 fn rounded(number: i64) -> u32
     requires { IsNumberOf NumberKind.Word number }
     ensures { result ≡ rounded number }
@@ -43,7 +43,7 @@ fn rounded(number: i64) -> u32
     low_word(number + 2048)
 }
 
-/// The number of the lui that comes nearest.
+/// The immediate of the lui that comes nearest to the number.
 fn upper(number: i64) -> u32
     requires { IsNumberOf NumberKind.Word number }
     ensures { result ≡ upper number }
@@ -51,7 +51,7 @@ fn upper(number: i64) -> u32
     rounded(number) / 4096
 }
 
-/// What the addi after it adds: -2048 to 2047.
+/// What the addi after that lui adds: -2048 to 2047.
 fn lower(number: i64) -> i32
     requires { IsNumberOf NumberKind.Word number }
     ensures { result ≡ lower number }
@@ -95,7 +95,7 @@ pub fn constant<'a>(rd: Reg, number: i64) -> SandboxStatement<'a>
     }
 }
 
-/// Puts the bytes of a number after the others, the lowest first.
+/// Appends the bytes of a number, the lowest first.
 pub fn push_number(bytes: &mut Vec<u8>, width: DataWidth, number: i64) -> Result<(), AllocError>
     ensures { OnOk result (bytes.new.items ≡ bytes.old.items ++ data_bytes width number) }
 {

@@ -29,8 +29,7 @@ fn read_first(kind: NumberKind, text: &str) -> Result<(i64, &str), TextCause>
     }
 }
 
-/// Reads the number at the front of the text, whose bytes go after the others, and answers what
-/// follows it.
+/// Reads the number at the front of the text, appends its bytes, and returns what follows it.
 fn read_one<'a>(bytes: &mut Vec<u8>, width: DataWidth, text: &'a str) -> Result<&'a str, TextCause>
     ensures ok { IfOk result (λ rest.
         ReadsOne width bytes.old.items bytes.new.items text.now rest.now) }
@@ -46,8 +45,8 @@ fn read_one<'a>(bytes: &mut Vec<u8>, width: DataWidth, text: &'a str) -> Result<
     }
 }
 
-/// Reads the number after the comma at the front of the text, as `read_one`; `None` at the
-/// text's end.
+/// Reads a comma at the front of the text and then a number, as `read_one` does; returns `None` for
+/// a blank text.
 fn read_another<'a>(
     bytes: &mut Vec<u8>,
     width: DataWidth,
@@ -72,7 +71,7 @@ fn read_another<'a>(
     }
 }
 
-/// Reads the numbers of the text, each after a comma.
+/// Reads the numbers of the text, each after a comma, and appends their bytes.
 fn read_more(bytes: &mut Vec<u8>, width: DataWidth, text: &str) -> Result<(), TextCause>
     ensures ok { OnOk result (ReadsMore width bytes.old.items bytes.new.items text.now) }
     ensures cause { IfErr result (λ e.

@@ -50,7 +50,7 @@ impl Model for Draft {
 }
 
 impl Draft {
-    /// A sandbox of this format with so many bytes of data, and nothing else.
+    /// A sandbox of this format with `data_size` bytes of data, and nothing else.
     pub fn new(alloc: Global, format: Format, data_size: u32) -> Draft
         ensures { result ≡ begin format data_size }
     {
@@ -103,7 +103,7 @@ impl Draft {
         }
     }
 
-    /// Puts a label here.
+    /// Gives the name to a label that stands here.
     pub fn label(&mut self, alloc: Global, name: &str) -> Result<(), TextCause>
         ensures labelled { OnOk result (self.new ≡ with_label name.now self.old) }
         ensures memory { IfErr result (λ e. e ≡ cause.Memory) }
@@ -160,7 +160,7 @@ impl Draft {
         Ok(())
     }
 
-    /// Adds bytes of data that are 0.
+    /// Adds `count` bytes of data that are 0.
     fn push_zeros(&mut self, count: u32) -> Result<(), TextCause>
         ensures { AddsUpTo self.old.sandbox.data_size
             (length self.old.sandbox.bytes + count) result self.new
@@ -174,7 +174,7 @@ impl Draft {
         Ok(())
     }
 
-    /// Adds an instruction of this line.
+    /// Adds an instruction of the line of this number.
     fn push(&mut self, line: u32, body: Body) -> Result<(), TextCause>
         ensures { AddsUpTo items_most (length self.old.sandbox.items + 1) result self.new
             (with_bodies line (body ∷ []) self.old) }
@@ -193,7 +193,7 @@ impl Draft {
         Ok(())
     }
 
-    /// The place of a name that an instruction goes to, and that is met here.
+    /// Enters a name that an instruction goes to in the table of names, and returns its place there.
     fn meet(&mut self, alloc: Global, name: &str) -> Result<usize, TextCause>
         ensures met { OnOk result
             (self.new ≡ with_names (met self.old.sandbox.names name.now) self.old) }
@@ -203,7 +203,7 @@ impl Draft {
         Ok(self.names.meet(alloc, name)?)
     }
 
-    /// Adds two instructions of this line.
+    /// Adds two instructions of the line of this number.
     fn push_two(&mut self, line: u32, first: Body, second: Body) -> Result<(), TextCause>
         ensures { AddsUpTo items_most (length self.old.sandbox.items + 2) result self.new
             (with_bodies line (first ∷ second ∷ []) self.old) }
@@ -212,7 +212,7 @@ impl Draft {
         self.push(line, second)
     }
 
-    /// Adds what a statement of this line states.
+    /// Adds what the line of this number states.
     pub fn state(
         &mut self,
         alloc: Global,

@@ -122,7 +122,7 @@ fn is_power_of_two(number: u64) -> bool
     number.is_power_of_two()
 }
 
-/// Whether a data region may have so many bytes.
+/// Whether a data region may have `number` bytes.
 fn is_size(number: u64) -> bool
     ensures { IsTrue result ↔ IsDataSize number }
 {

@@ -32,12 +32,12 @@ pub fn printed_reads_back()
     ensures { PrintedReadsBack }
 {}
 
-/// A line leads from a source so far to one next one at most.
+/// A line changes a source so far in one way at most.
 pub fn leads_once()
     ensures { LeadsOnce }
 {}
 
-/// A line that leads on is refused for no cause.
+/// A line that changes the source so far is refused for no cause.
 pub fn leading_is_not_refused()
     ensures { LeadingIsNotRefused }
 {}
@@ -62,8 +62,7 @@ pub fn meant_has_no_fault()
     ensures { MeantHasNoFault }
 {}
 
-/// A text means a source, or has a fault: `parse_source` answers the one that it is,
-/// unless memory runs out.
+/// A text means a source, or has a fault: `parse_source` returns it, unless memory runs out.
 pub fn some_source()
     ensures { SomeSource }
 {}

@@ -22,8 +22,8 @@ use crate::statement::{SandboxStatement, Statement};
 use rv_word::Cond;
 use std::alloc::Global;
 
-/// The keyword that a statement's first token is: `Word` for a name that is none, `Operands` for
-/// what is no name.
+/// The keyword with which a statement begins: `Word` for any other name, `Operands` for what is no
+/// name.
 pub fn read_keyword(token: &str) -> Result<Keyword, TextCause>
     requires { IsToken token.now }
     ensures ok { IfOk result (λ k. keyword_name k ≡ token.now) }
@@ -129,7 +129,7 @@ fn read_after<'a>(
 ///
 /// The cause of a refusal is that of the first token that departs: `Register` and `Number` for
 /// what stands in the place of one, `Limit` for a name that is too long, `Word` for what
-/// forms no token, `Operands` for any other, for one that is too many and for one that is missing.
+/// forms no token, `Operands` for any other, for one beyond the last and for one that is missing.
 /// Only a list of data takes memory.
 pub fn read_statement<'a>(
     alloc: Global,

@@ -27,7 +27,7 @@ fn is_name(token: &str) -> bool
     }
 }
 
-/// Why a token that is no statement's name is refused in the place of one.
+/// Why a token is refused with which a statement begins, and which is no keyword.
 pub fn name_cause(token: &str) -> TextCause
     requires { IsToken token.now }
     ensures { (IsName token.now × (result ≡ cause.Word))
@@ -40,7 +40,7 @@ pub fn name_cause(token: &str) -> TextCause
     }
 }
 
-/// Whether it is a fence that leaves out its operands.
+/// Whether the instruction is a fence without operands.
 fn is_bare_fence(name: Mnemonic, rest: &str) -> bool
     ensures { IsTrue result ↔ IsBareFence name rest.now }
 {
@@ -91,7 +91,7 @@ fn after_token(token: &str, rest: &str) -> Result<Instr, TextCause>
 /// or hexadecimal after `0x`, and a fence may leave out its operands. The cause of a refusal is
 /// that of the first token that departs from this: `Word` for a first name that no instruction has
 /// and for what forms no token, `Register` and `Number` for what stands in the place of one,
-/// `Operands` for any other token, for one that is too many and for one that is missing.
+/// `Operands` for any other token, for one beyond the last operand and for one that is missing.
 pub fn parse_instr(text: &str) -> Result<Instr, TextCause>
     ensures means { IfOk result (λ i. Means text.now i) }
     ensures only { (i : Instr) → Means text.now i → result ≡ Ok i }

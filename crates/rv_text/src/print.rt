@@ -57,7 +57,7 @@ fn push_number(out: &mut String, kind: NumberKind, number: i64) -> Result<(), Al
     }
 }
 
-/// What stands for the format after `.format`.
+/// What stands after `.format` for the format.
 fn format_name(format: Format) -> &'static str
     ensures { result.now ≡ format_name format }
 {
@@ -123,8 +123,8 @@ pub fn push_instr(out: &mut String, instr: &Instr) -> Result<(), AllocError>
 ///
 /// Registers are x0 to x31 and numbers are decimal, those of lui and auipc hexadecimal. A fence
 /// prints its three fields as numbers, ecall and ebreak their name alone, and nothing prints as a
-/// pseudo-instruction. LLVM's disassembler prints the same with numeric registers and no aliases,
-/// but for a fence's fields and the decimal numbers of its lui and auipc.
+/// pseudo-instruction. LLVM's disassembler, with numeric registers and no aliases, prints the text
+/// too, but for a fence's fields and for the numbers of lui and auipc, which are decimal there.
 pub fn print_instr(alloc: Global, instr: &Instr) -> Result<String, AllocError>
     ensures text { IfOk result (λ text. string_bytes text ≡ printed instr.now) }
     ensures reads_back { IfOk result (λ text.

@@ -1,4 +1,4 @@
-//! The source so far, and how the lines of a text lead it on.
+//! The source so far, and how the lines of a text change it.
 ghost use Rattle.std.specs.Prelude.{◌≡◌, ◌⊎◌, ◌↔◌, ◌++◌, List, ℕ, None, Some, IsTrue, IfOk, IfErr, OnOk, MatchOption, codes};
 ghost use Rattle.rv_text.specs.declared.cause.TextCause.TheVariants as cause;
 ghost use Rattle.rv_text.specs.Effects.{Labels, RefusesLabel, MayCome, Does, HasNoRoom};
@@ -25,7 +25,7 @@ use std::alloc::Global;
 use std::marker::Model;
 
 /// The source so far: its format, if the text has said it, the sandboxes that are finished,
-/// and the one begun last.
+/// and the sandbox begun last.
 #[derive(Drop)]
 pub struct Progress {
     format: Option<Format>,
@@ -42,7 +42,7 @@ impl Model for Progress {
         record { format = p.format; finished = p.finished.items; begun = p.begun } };
 }
 
-/// What follows a colon that a text begins with.
+/// What follows the colon with which a text begins.
 fn without_colon(text: &str) -> Option<&str>
     ensures { MatchOption result ((rest : List ℕ) → text.now ≡ codes ":" ++ rest → ⊥)
         (λ rest. text.now ≡ codes ":" ++ rest.now) }
@@ -76,7 +76,8 @@ fn label_name(text: &str) -> Option<(&str, &str)>
     }
 }
 
-/// What follows the colon of a label, where this token and what follows it begin with one.
+/// What follows the colon of a label, where `token` is a label's name and `after` begins with a
+/// colon.
 fn after_label<'a>(token: &str, after: &'a str) -> Option<&'a str>
     requires { IsToken token.now }
     ensures { MatchOption result
@@ -90,7 +91,7 @@ fn after_label<'a>(token: &str, after: &'a str) -> Option<&'a str>
     }
 }
 
-/// What a line, or what is left of it, begins with.
+/// What a line, or the rest of it, begins with.
 #[derive(Clone, Copy)]
 enum Front<'a> {
     /// A label: its name, and what follows its colon.
@@ -114,7 +115,7 @@ fn front_of(text: &str) -> Front<'_>
     }
 }
 
-/// Whether the name at the front of a text is there already.
+/// Whether a text begins with a name that a label or a gate has already.
 fn is_taken(draft: &Draft, text: &str) -> bool
     ensures { IsTrue result ↔ IsTaken draft.now text.now }
 {
@@ -125,7 +126,7 @@ fn is_taken(draft: &Draft, text: &str) -> bool
 }
 
 impl Progress {
-    /// Nothing yet.
+    /// The source so far before the first line.
     pub fn new(alloc: Global) -> Progress
         ensures { result ≡ nothing }
     {
@@ -151,7 +152,7 @@ impl Progress {
         }
     }
 
-    /// Puts a label here.
+    /// Gives the name to a label that stands here.
     fn label(&mut self, alloc: Global, name: &str) -> Result<(), TextCause>
         ensures labels { OnOk result (Labels name.now self.old self.new) }
         ensures cause { IfErr result (λ e. (e ≡ cause.Memory) ⊎ RefusesLabel name.now self.old e) }
@@ -170,7 +171,7 @@ impl Progress {
         }
     }
 
-    /// Puts the labels at the front of a line, and gives what stands after them.
+    /// Reads the labels at the front of a line, and returns what stands after them.
     fn labels<'a>(&mut self, alloc: Global, line: &'a str) -> Result<Next<'a>, TextCause>
         ensures passes { IfOk result (λ next. PassesTo self.old line.now self.new next) }
         ensures cause { IfErr result (λ e. (e ≡ cause.Memory) ⊎ LabelRefused self.old line.now e) }
@@ -187,7 +188,7 @@ impl Progress {
         }
     }
 
-    /// Whether it is a gate whose name, after this keyword, is there already.
+    /// Whether the statement is a gate, and a label or a gate has its name already.
     fn is_gate_twice(&self, keyword: Keyword, text: &str) -> bool
         ensures { IsTrue result ↔ IsGateTwice keyword self.now text.now }
     {
@@ -207,7 +208,7 @@ impl Progress {
         }
     }
 
-    /// Begins a sandbox after those so far.
+    /// Begins a sandbox with `data_size` bytes of data.
     fn begin(&mut self, alloc: Global, data_size: u32) -> Result<(), TextCause>
         ensures begins { OnOk result (self.new ≡ with_sandbox data_size self.old) }
         ensures memory { IfErr result (λ e. e ≡ cause.Memory) }
@@ -219,7 +220,7 @@ impl Progress {
         Ok(())
     }
 
-    /// Does what a statement of this line states, which may come here.
+    /// Does what the line of this number states, which may come here.
     fn state(
         &mut self,
         alloc: Global,
@@ -244,7 +245,7 @@ impl Progress {
         }
     }
 
-    /// Does what this keyword states with the text after it.
+    /// Does what a keyword states with the text after it.
     fn after_keyword(
         &mut self,
         alloc: Global,
@@ -266,7 +267,7 @@ impl Progress {
         self.state(alloc, line, &statement)
     }
 
-    /// Does what a statement with this first token and this rest states.
+    /// Does what the statement of `token` and the rest after it states.
     fn statement(
         &mut self,
         alloc: Global,
@@ -283,7 +284,7 @@ impl Progress {
         self.after_keyword(alloc, line, keyword, rest)
     }
 
-    /// Goes on by a line, which has no comment.
+    /// Reads a line, which has no comment.
     pub fn line(&mut self, alloc: Global, line: u32, text: &str) -> Result<(), TextCause>
         ensures leads { OnOk result (Leads line self.old text.now self.new) }
         ensures cause { IfErr result (λ e. (e ≡ cause.Memory) ⊎ LineRefused self.old text.now e) }
@@ -295,7 +296,7 @@ impl Progress {
         }
     }
 
-    /// The source after the last line of a text, whose lines lead to it from nothing.
+    /// The source that a text means whose lines were all read.
     pub fn finish(self, text: &str) -> Result<Source, TextFault>
         requires { LeadsFromNothing text.now self }
         ensures source { IfOk result (λ s. MeansSource text.now s) }

@@ -64,7 +64,7 @@ pub fn read_number(token: &str, kind: NumberKind) -> Result<i64, TextCause>
     }
 }
 
-/// Whether a letter or `_` stands at the front.
+/// Whether the token begins with a letter or `_`.
 fn begins_label(token: &str) -> bool
     ensures { result ≡ begins_label token.now }
 {
@@ -82,7 +82,7 @@ pub fn is_label(token: &str) -> bool
     begins_label(token)
 }
 
-/// Whether it is such a name but for its length: it has more bytes than a name may have.
+/// Whether the token begins as a label's name does, and has more bytes than a name may have.
 fn is_too_long(token: &str) -> bool
     ensures { result ≡ is_too_long token.now }
 {
@@ -139,7 +139,7 @@ fn read_format(token: &str) -> Result<Format, TextCause>
 }
 
 impl<'a> Operands<'a> {
-    /// Puts in the operand that the token gives at this part.
+    /// Sets the operand that the token gives at this part.
     fn put(&mut self, part: Part, token: &'a str) -> Result<(), TextCause>
         requires { IsToken token.now }
         ensures stands { OnOk result (Stands (values_of self.new) part token.now) }
@@ -213,8 +213,7 @@ impl<'a> Operands<'a> {
     }
 }
 
-/// Puts in the operands of this form, which are all of the text;
-/// an operand's range is tested where it stands.
+/// Sets the operands of this form, which are all of the text; the range of each is tested.
 fn fill<'a>(form: &[Part], text: &'a str, operands: &mut Operands<'a>) -> Result<(), TextCause>
     requires { IsTrue (has_no_repeat form.now) }
     ensures reads { OnOk result (Reads (values_of operands.new) form.now text.now) }

@@ -36,7 +36,7 @@ impl Directive {
     }
 }
 
-/// An addi of 0: the register takes the value of the other.
+/// An addi of 0: `rd` takes the value of `rs1`.
 fn add_zero(rd: Reg, rs1: Reg) -> Instr
     ensures { result ≡ instr.OpImm Addi rd rs1 (pos 0) }
 {

@@ -8,9 +8,9 @@ use sfi_policy::Format;
 pub enum Statement<'a> {
     /// `.format N`, or `.format words`: the format of the source is this one.
     Format(Format),
-    /// `.sandbox N`: a sandbox begins, with so many bytes of data.
+    /// `.sandbox N`: a sandbox with N bytes of data begins.
     Sandbox { data_size: u32 },
-    /// What goes on within a sandbox.
+    /// Something within the sandbox begun last.
     Within(SandboxStatement<'a>),
 }
 
@@ -28,11 +28,11 @@ pub enum SandboxStatement<'a> {
     Data,
     /// `.word`, `.half` and `.byte`: these bytes of data.
     Bytes(Vec<u8>),
-    /// `.zero N`: so many bytes of data that are 0.
+    /// `.zero N`: N bytes of data that are 0.
     Zeros(u32),
     /// One instruction that names no place.
     One(Instr),
-    /// Two of them, of a `li` whose number takes two.
+    /// The two instructions of a `li` whose number takes two.
     Two(Instr, Instr),
     /// A jump or a branch to the place of this name; its offset is 0.
     Jump { instr: Instr, name: &'a str },

@@ -52,7 +52,7 @@ fn fault_at(line: u32, cause: TextCause) -> TextFault
     }
 }
 
-/// Goes on by the line of this number.
+/// Reads the line of this number.
 fn read_line(
     progress: &mut Progress,
     alloc: Global,
@@ -68,7 +68,7 @@ fn read_line(
     }
 }
 
-/// Goes on by the lines of a text.
+/// Reads the lines of a text.
 fn read_lines(progress: &mut Progress, alloc: Global, text: &str) -> Result<(), TextFault>
     requires { length text.now ≤ most_bytes }
     ensures lead { OnOk result (LinesLead 1 progress.old (lines text.now) progress.new) }

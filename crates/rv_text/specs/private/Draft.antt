@@ -4,8 +4,8 @@ use Rattle.rv_text.specs.declared.cause.TextCause.{TextCause}
 use Rattle.rv_text.specs.declared.cause.TextCause.TheVariants as cause
 use Rattle.rv_text.specs.SoFar.{Begun}
 
--- so many are no more than the most, and the sandbox becomes this one; or they are more,
--- or memory is refused
+-- where `count` is at most `most`, the sandbox becomes `after`, unless memory is refused;
+-- where it is more, the limit is the cause
 abbrev pub AddsUpTo : {T : Type 0} → ℕ → ℕ → Result T TextCause → Begun → Begun → Type 0
 AddsUpTo most count result new after =
     MatchResult result (λ _. (count ≤ most) × (new ≡ after))

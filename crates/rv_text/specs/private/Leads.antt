@@ -9,18 +9,17 @@ use Rattle.rv_text.specs.SoFar.{SoFar}
 use Rattle.rv_text.specs.Leads.{BeginsWithLabel, HasNoLabel, PassesLabels, LeadsAfter}
 use Rattle.rv_text.specs.private.Next.{IsNext}
 
--- a label and what follows its colon, or what stands there in place of one
+-- `text` begins with a label, and `rest` follows its colon; or with something else, which is `next`
 abbrev pub IsFront : List ℕ → Front → Type 0
 IsFront text (Label name rest) = BeginsWithLabel text name.now rest.now
 IsFront text (Other next) = HasNoLabel text × IsNext text next
 
--- all the labels at the front of the text lead from the source so far to the next one,
--- and this stands after them
+-- the labels at the front of `text` change the source so far from `old` to `new`, and `next` stands
+-- after them
 abbrev pub PassesTo : SoFar → List ℕ → SoFar → Next → Type 0
 PassesTo old text new next = (rest : List ℕ) × PassesLabels old text new rest × IsNext rest next
 
--- a statement of this line with this first token and this rest leads from the source so far to the
--- next one
+-- the statement of `token` and the rest after it changes the source so far from `old` to `new`
 abbrev pub LeadsFrom : ℕ → List ℕ → List ℕ → SoFar → SoFar → Type 0
 LeadsFrom line token rest old new =
     (k : Keyword) × (keyword_name k ≡ token) × LeadsAfter k line old rest new

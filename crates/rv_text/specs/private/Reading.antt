@@ -13,14 +13,14 @@ use Rattle.rv_text.specs.Operands.{OperandValues, Stands}
 use Rattle.rv_text.specs.Statement.{mnemonic_of, operands_of, full_fence}
 use Rattle.rv_text.specs.Mnemonics.{name_of}
 
--- the text's tokens stand at the parts of the form, one each
+-- the tokens of `text` stand at the parts of `form`, one at each
 abbrev pub Reads : OperandValues → List Part → List ℕ → Type 0
 Reads o [] text = IsBlank text
 Reads o (part ∷ form) text =
     (token : List ℕ) × (rest : List ℕ) × Takes text token rest
     × Stands o part token × Reads o form rest
 
--- two statements have the same operand at a part; a mark has none
+-- `a` and `b` agree in the operand of this part; a mark has none
 abbrev pub SameAt : Part → OperandValues → OperandValues → Type 0
 SameAt Rd a b = a.rd ≡ b.rd
 SameAt Rs1 a b = a.rs1 ≡ b.rs1
@@ -31,7 +31,7 @@ SameAt Mode a b = a.compressed ≡ b.compressed
 SameAt ImageFormat a b = a.format ≡ b.format
 SameAt _ a b = Unit {0}
 
--- two statements have the same operands at the parts of a form
+-- `a` and `b` agree in the operands of `form`
 abbrev pub AgreesOn : List Part → OperandValues → OperandValues → Type 0
 AgreesOn form a b = AllByRecursion (λ part. SameAt part a b) form
 
@@ -48,7 +48,7 @@ slot Comma = 7
 slot Open = 8
 slot Close = 9
 
--- the operand is one that can stand at this part
+-- the operand of `o` at this part is one that can stand there
 abbrev pub Suits : OperandValues → Part → Type 0
 Suits o Rd = o.rd < 32
 Suits o Rs1 = o.rs1 < 32
@@ -70,19 +70,19 @@ abbrev pub has_no_repeat : List Part → Bool
 has_no_repeat [] = true
 has_no_repeat (part ∷ form) = (nat_lt 6 (slot part) || is_fresh part form) && has_no_repeat form
 
--- the text after the instruction's name gives its operands, or nothing for a fence alone
+-- `rest`, after the name of `i`, gives its operands; after the name of a fence it may be blank
 abbrev pub Follows : List ℕ → Instr → Type 0
 Follows rest i =
     Reads (operands_of i) (form_of (mnemonic_of i)) rest ⊎ ((i ≡ full_fence) × IsBlank rest)
 
--- the instruction has this name, and the text after it gives its operands
+-- the instruction `i` has this name, and `rest` gives its operands
 abbrev pub FollowsName : List ℕ → Mnemonic → Instr → Type 0
 FollowsName rest name i = (mnemonic_of i ≡ name) × Follows rest i
 
--- each operand but the one at this part is as it was
+-- `new` has the operands of `old`, but for the operand of this part
 abbrev pub KeepsOthers : Part → OperandValues → OperandValues → Type 0
 KeepsOthers part old new = (p : Part) → slot p ≢ slot part → SameAt p new old
 
--- the instruction has this token as its name, and the text after it gives its operands
+-- the name of the instruction `i` is `token`, and `rest` gives its operands
 abbrev pub FollowsToken : List ℕ → List ℕ → Instr → Type 0
 FollowsToken token rest i = (name_of (mnemonic_of i) ≡ token) × Follows rest i

@@ -9,23 +9,23 @@ use Rattle.rv_source.specs.Names.{begins_name, continues_name}
 unfoldable pub body_of : List ℕ → List ℕ
 body_of text = drop (prefix_len is_space text) text
 
--- `0x` and a hexadecimal digit stand there
+-- `text` begins with `0x` and a hexadecimal digit
 abbrev pub begins_hex : List ℕ → Bool
 begins_hex text =
     (slice_index text 0 == 48)
     && ((slice_index text 1 == 120) && is_ascii_hexdigit (slice_index text 2))
 
--- the length of the longest magnitude, 0 where none stands there
+-- the length of the longest magnitude with which `text` begins; 0 where it begins with none
 unfoldable pub magnitude_len : List ℕ → ℕ
 magnitude_len text =
     if begins_hex text then 2 + prefix_len is_ascii_hexdigit (drop 2 text)
     else prefix_len is_ascii_digit text
 
--- the length of a number whose magnitude, after its minus, has this length
+-- the length of a minus and a magnitude of length `n`; 0 where there is no magnitude
 abbrev pub after_sign : ℕ → ℕ
 after_sign n = if n == 0 then 0 else n + 1
 
--- the length of the longest token, 0 where none stands there
+-- the length of the longest token with which a text begins; 0 where it begins with none
 unfoldable pub token_len : List ℕ → ℕ
 token_len [] = 0
 token_len (c ∷ cs) =

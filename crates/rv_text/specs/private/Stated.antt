@@ -31,8 +31,7 @@ stated (statement.Format value) = format value
 stated (statement.Sandbox size) = sandbox size
 stated (statement.Within what) = within (stated_within what)
 
--- each number, name and instruction is in range; a jump or a branch by name has offset 0,
--- and none stands among the others
+-- each number, name and instruction is in range; a jump or a branch goes to a name, with offset 0
 abbrev pub IsRightWithin : StatedWithin → Type 0
 IsRightWithin (gate name service) = IsShortLabel name × (service ≤ service_most)
 IsRightWithin (bytes values) = All (λ b. b < 256) values

@@ -2,7 +2,7 @@
 use Rattle.std.specs.Prelude.{◌≡◌, ℕ, ◌<◌, List, ◌∷◌, length}
 use Rattle.rv_text.specs.Texts.{lines}
 
--- the text begins with this line and a line feed, and then this
+-- `text` begins with `line` and a line feed, and `rest` follows them
 pub record BeginsWithLine (text line rest : List ℕ) : Type 0 where
   pub first : lines text ≡ line ∷ lines rest
   pub shorter : length rest < length text
