@@ -320,8 +320,8 @@ fn after_words(
 }
 
 /// The same of a block in which all but these words break no rule and leave nothing owed; `free` tells free
-/// instructions of 32 bits. It is no part of its callers, whose loop over blocks stays short so.
-#[inline(never)]
+/// instructions of 32 bits.
+#[inline(always)]
 fn look_closer(
     place: &BundlePlace,
     block: &[u8; BLOCK_BYTES],
