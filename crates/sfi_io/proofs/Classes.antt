@@ -1,8 +1,8 @@
 -- The table of the bytes' classes, seen right at each byte.
-use Rattle.sfi_io.proofs.Prelude.{◌≡◌, ℕ, ◌<◌, ◌+◌, ◌*◌, ◌==◌, ◌≤◌, ◌%◌, Bool, true, false, refl, sym, ap, ◌∙◌, arith, Option, Some, None, Ok, inl, inr, not, slice_index, nat_lt, if◌then◌else◌, nat_tests, hex_digit_value, digit_or_error, is_kept, IsByteOf}
+use Rattle.sfi_io.proofs.Prelude.{◌≡◌, ℕ, ◌<◌, ◌+◌, ◌-◌, ◌*◌, ◌==◌, ◌≤◌, ◌%◌, Bool, true, false, refl, sym, ap, ◌∙◌, arith, Option, Some, None, Ok, inl, inr, not, slice_index, nat_lt, if◌then◌else◌, nat_tests, hex_digit_value, digit_or_error, is_kept, IsByteOf}
 use Rattle.std.proofs.Common.{cond, ◌⊎◌}
 use Rattle.std.proofs.lemmas.Bool.{agree_below, agree_below_at}
-use Rattle.std.specs.Int.Bits.{bit_and, bit_or}
+use Rattle.std.specs.Int.Bits.{bit_and, bit_or, bit_xor}
 use Rattle.std.proofs.lemmas.Nat.{le_or_l, le_or_r, or_lt}
 use Rattle.hex.specs.Hex.{pair_value, value_at}
 use Rattle.sfi_io.specs.declared.hexadecimal.TheConstants.{CLASSES}
@@ -73,28 +73,28 @@ then_true true b e h = h
 then_true false b e h = cc e
 
 abbrev figure : ℕ → ℕ
-figure b = let sum = (b + 198) % 256 in ((cond (nat_lt sum 6) 6 sum + 250) % 256 + 16) % 256
+figure b = let sum = (b + 198) % 256 in (cond (nat_lt sum 6) 6 sum + 250) % 256
 
 abbrev letter : ℕ → ℕ
-letter b = (bit_or ((b + 255) % 256) 32 + 170) % 256
+letter b = (bit_or ((b + 255) % 256) 32 + 154) % 256
 
 -- what a lane of the vectors makes of a byte
 abbrev pub value : ℕ → ℕ
-value b = cond (nat_lt (figure b) (letter b)) (figure b) (letter b)
+value b = cond (nat_lt (figure b) (letter b)) (letter b) (figure b)
 
-pub value_is : (c : ℕ) → c < 256 → value c < 16 → hex_digit_value c ≡ Some (value c)
+pub value_is : (c : ℕ) → c < 256 → 240 ≤ value c → hex_digit_value c ≡ Some (value c - 240)
 unfolding implies
-value_is c lt small =
-    let near : nat_lt (value c) 16 ≡ true = grind (arith, nat_tests, small) in
-    let all = below_256 (λ b. implies (nat_lt (value b) 16) (same (Some (value b)) (hex_digit_value b))) refl c lt in
+value_is c lt large =
+    let near : not (nat_lt (value c) 240) ≡ true = grind (arith, nat_tests, large) in
+    let all = below_256 (λ b. implies (not (nat_lt (value b) 240)) (same (Some (value b - 240)) (hex_digit_value b))) refl c lt in
     sym (same_is _ _ (then_true _ _ near all))
 
-pub small_is : (c : ℕ) → c < 256 → bit_and c 240 ≡ 0 → c < 16
+pub large_is : (c : ℕ) → c < 256 → bit_and (bit_xor c 240) 240 ≡ 0 → 240 ≤ c
 unfolding implies
-small_is c lt none =
-    let no_bit : (bit_and c 240 == 0) ≡ true = grind (arith, nat_tests, none) in
-    let small = then_true _ _ no_bit (below_256 (λ b. implies (bit_and b 240 == 0) (nat_lt b 16)) refl c lt) in
-    grind (arith, nat_tests, small)
+large_is c lt none =
+    let no_bit : (bit_and (bit_xor c 240) 240 == 0) ≡ true = grind (arith, nat_tests, none) in
+    let large = then_true _ _ no_bit (below_256 (λ b. implies (bit_and (bit_xor b 240) 240 == 0) (not (nat_lt b 240))) refl c lt) in
+    grind (arith, nat_tests, large)
 
 -- the byte of two values that are digits'
 pub byte_of_values : (a b h v : ℕ) → a < 256 → b < 256 → hex_digit_value a ≡ Some h → hex_digit_value b ≡ Some v → IsByteOf a b (h * 16 + v)

@@ -1,14 +1,13 @@
 -- Vectors by their lanes.
-use Rattle.sfi_io.proofs.Prelude.{◌≡◌, ℕ, ◌+◌, ◌*◌, ◌%◌, ◌<◌, Bool, false, List, [], ◌∷◌, length, refl, sym, ap, ◌∙◌, subst, arith, inl, inr, slice_index, not, nat_tests}
+use Rattle.sfi_io.proofs.Prelude.{◌≡◌, ℕ, ◌+◌, ◌-◌, ◌*◌, ◌%◌, ◌<◌, ◌≤◌, Bool, false, List, [], ◌∷◌, length, refl, sym, ap, ◌∙◌, subst, arith, inl, inr, slice_index, not, nat_lt, nat_tests}
 use Rattle.std.proofs.Common.{◌/◌, ◌^◌, zero, suc, cond, map, get_or, replicate, ap₂, w8, bit_or}
 use Rattle.std.proofs.lemmas.Bool.{cases_lt}
 use Rattle.std.proofs.lemmas.List.{length-map}
 use Rattle.std.proofs.lemmas.Nat.{le_or_l, le_or_r, trailing_le}
-use Rattle.std.proofs.lemmas.Simd.{length-zip2, get_or-zip2, length-replicate, get_or-replicate, tops_compared, length-sel_l, get_or-sel_l, zip2_splat_left, mask_l-mod, leading_from_mask_l, trailing_mask_l, get_or_wider}
+use Rattle.std.proofs.lemmas.Simd.{length-zip2, get_or-zip2, length-replicate, get_or-replicate, tops_compared, length-sel_l, get_or-sel_l, zip2_splat, mask_l-mod, leading_from_mask_l, trailing_mask_l, get_or_wider}
 use Rattle.std.proofs.lemmas.List.Sums.{prefix_len_passes}
 use Rattle.std.specs.List.{prefix_len}
 use lib.Count.{count_trailing_zeros}
-use lib.Dec.{leb}
 use lib.Lanes.{Each1, zip2, chunk, top, sel_l, mask_l, fold_l, number_l, digits_l}
 
 -- v has n lanes, and lane i is a i
@@ -62,10 +61,10 @@ paired bytes count fits = record {
       ∙ ap (λ (k : ℕ). slice_index bytes (2 * i) + 256 * slice_index bytes k) (omega arith);
 }
 
-pub joins : (a b : ℕ) → a < 16 → b < 16 → (a + 256 * b) * 4097 % 65536 / 256 ≡ a * 16 + b
-joins a b p q = omega arith
+pub joins : (a b : ℕ) → a < 256 → b < 256 → 240 ≤ a → 240 ≤ b → ((a + 256 * b) * 4097 % 65536 / 256 + 16) % 256 ≡ (a - 240) * 16 + (b - 240)
+joins a b f g p q = omega arith
 
--- ---- how many lanes come before the first of 16 or more
+-- ---- how many lanes come before the first below 240
 
 start_is : (xs : List ℕ) (a : ℕ) → fold_l bit_or a xs ≡ 0 → a ≡ 0
 start_is [] a e = e
@@ -77,21 +76,21 @@ no_bits (x ∷ xs) a zero e = omega (arith, start_is xs (bit_or a x) e, le_or_r 
 no_bits (x ∷ xs) a (suc i) e = no_bits xs (bit_or a x) i e
 
 abbrev is_other : ℕ → Bool
-is_other x = leb 16 x
+is_other x = nat_lt x 240
 
--- what a comparison with 16 gives as a number
+-- what a comparison with 240 gives as a number
 abbrev others : List ℕ → ℕ
-others v = mask_l (map (top 7) (zip2 (λ a b. cond (leb a b) 255 0) (replicate 64 16) v)) % 2 ^ 64
+others v = mask_l (map (top 7) (zip2 (λ a b. cond (nat_lt a b) 255 0) v (replicate 64 240))) % 2 ^ 64
 
 others_is : (v : List ℕ) → length v ≡ 64 → others v ≡ mask_l (map is_other v)
 others_is v count =
-    ap (λ (l : List Bool). mask_l l % 2 ^ 64) (tops_compared w8 leb (replicate 64 16) v ∙ zip2_splat_left leb 16 64 v count)
+    ap (λ (l : List Bool). mask_l l % 2 ^ 64) (tops_compared w8 nat_lt v (replicate 64 240) ∙ zip2_splat nat_lt v 64 240 count)
     ∙ mask_l-mod (map is_other v) 64 (omega (arith, length-map v is_other, count))
 
-digit_at : (v : List ℕ) (k : ℕ) → k < prefix_len (λ x. not (is_other x)) v → slice_index v k < 16
+digit_at : (v : List ℕ) (k : ℕ) → k < prefix_len (λ x. not (is_other x)) v → 240 ≤ slice_index v k
 digit_at v k lt = let e = prefix_len_passes (λ x. not (is_other x)) v k 0 lt in grind (arith, nat_tests, e)
 
-pub before_other : (v : List ℕ) → length v ≡ 64 → (k : ℕ) → k < count_trailing_zeros 64 (others v) → slice_index v k < 16
+pub before_other : (v : List ℕ) → length v ≡ 64 → (k : ℕ) → k < count_trailing_zeros 64 (others v) → 240 ≤ slice_index v k
 before_other v count k lt =
     elim (cases_lt 0 (others v)) [
       | inl some ↦

@@ -1,6 +1,6 @@
 //! Hexadecimal text with white space in it.
 
-ghost use Rattle.std.specs.Prelude.{◌≡◌, ◌⊎◌, ◌<◌, ◌≤◌, ◌+◌, ◌*◌, ◌%◌, ◌≢◌, ℕ, List, not, IfOk, IfErr, IfSome, IsErr, IsNone, None, Ok, Some, filter, length, slice_index, take, true};
+ghost use Rattle.std.specs.Prelude.{◌≡◌, ◌⊎◌, ◌<◌, ◌≤◌, ◌+◌, ◌-◌, ◌*◌, ◌%◌, ◌≢◌, ℕ, List, not, IfOk, IfErr, IfSome, IsErr, IsNone, None, Ok, Some, filter, length, slice_index, take, true};
 ghost use Rattle.sfi_io.specs.declared.hexadecimal.TheConstants.{CLASSES};
 ghost use Rattle.hex.specs.Hex.{decode_of, hex_digit_value, pair_value};
 ghost use Rattle.sfi_io.specs.Hexadecimal.{is_kept, GivesBytes, IsHexStop, IsUnreadable, SpellsBytes};
@@ -120,46 +120,45 @@ pub(crate) fn byte_of(high: u8, low: u8) -> Option<u8>
 /// How many digits are read at a time, where so many stand there.
 pub(crate) const BLOCK: usize = 64;
 
-/// Each digit's value, found by arithmetic on all side by side; 16 or more for any other byte.
+/// Each digit's value and 240, found by arithmetic on all side by side; less for any other byte.
 #[inline(always)]
 fn values_of(bytes: u8x64) -> u8x64
     ensures size { length result ≡ 64 }
-    ensures each { (k : ℕ) → k < 64 → slice_index result k < 16
-        → hex_digit_value (slice_index bytes k) ≡ Some (slice_index result k) }
+    ensures each { (k : ℕ) → k < 64 → 240 ≤ slice_index result k
+        → hex_digit_value (slice_index bytes k) ≡ Some (slice_index result k - 240) }
 {
-    // The figures are the largest ten of these sums, and then the only ones that come below 16.
-    let sums = bytes + u8x64::splat(255 - b'9');
-    let figures = sums.saturating_sub(u8x64::splat(6)) + u8x64::splat(16);
-    let letters = ((bytes - u8x64::splat(1)) | u8x64::splat(32)) - u8x64::splat(86);
-    figures.simd_min(letters)
+    // Of the sums the figures' are the largest ten.
+    let figures = (bytes + u8x64::splat(255 - b'9')).saturating_sub(u8x64::splat(6));
+    let letters = ((bytes - u8x64::splat(1)) | u8x64::splat(32)) + u8x64::splat(154);
+    figures.simd_max(letters)
 }
 
-/// How many pairs of values come before the first value that is no digit's.
+/// How many pairs of such sums come before the first that is no digit's.
 #[inline(always)]
 fn pairs_before(values: u8x64) -> usize
     requires { length values ≡ 64 }
     ensures most { result ≤ 32 }
-    ensures digits { (k : ℕ) → k < 2 * result → slice_index values k < 16 }
+    ensures digits { (k : ℕ) → k < 2 * result → 240 ≤ slice_index values k }
 {
-    if (values & u8x64::splat(240)).reduce_or() == 0 {
+    if ((values ^ u8x64::splat(240)) & u8x64::splat(240)).reduce_or() == 0 {
         return BLOCK / 2;
     }
-    let others = values.simd_ge(u8x64::splat(WHITE)).to_bitmask();
+    let others = values.simd_lt(u8x64::splat(240)).to_bitmask();
     others.trailing_zeros() as usize / 2
 }
 
-/// The byte of each pair of values that are digits'.
+/// The byte of each pair of such sums that are digits'.
 #[inline(always)]
 fn joined(values: u8x64) -> [u8; BLOCK / 2]
     requires { length values ≡ 64 }
     ensures size { length result ≡ 32 }
-    ensures each { (k : ℕ) → k < 32 → slice_index values (2 * k) < 16
-        → slice_index values (2 * k + 1) < 16
-        → slice_index result k ≡ slice_index values (2 * k) * 16 + slice_index values (2 * k + 1) }
+    ensures each { (k : ℕ) → k < 32 → 240 ≤ slice_index values (2 * k)
+        → 240 ≤ slice_index values (2 * k + 1) → slice_index result k
+        ≡ (slice_index values (2 * k) - 240) * 16 + (slice_index values (2 * k + 1) - 240) }
 {
-    // The product's upper byte is the first value, 16 times, and the second.
+    // The product's upper byte is the first value, 16 times, and the second, and 240.
     let products = u16x32::from_le_bytes(values) * u16x32::splat(4097);
-    (products >> 8).cast::<u8>().to_array()
+    ((products >> 8).cast::<u8>() + u8x32::splat(16)).to_array()
 }
 
 /// Writes the bytes of the pairs of digits that a block begins with, and says how many they are.
