@@ -83,11 +83,14 @@ fn decode_lines(text: &[u8], out: &mut [u8]) -> Blocks
     let mut made: usize = 0;
     while taken < last && made < full {
         let line = decode_line(&text[taken..], &mut out[made..]);
+        if line.made < 8 {
+            return Blocks {
+                taken: taken + line.taken,
+                made: made + line.made,
+            };
+        }
         taken += line.taken;
         made += line.made;
-        if line.made < 8 {
-            return Blocks { taken, made };
-        }
     }
     Blocks { taken, made }
 }
