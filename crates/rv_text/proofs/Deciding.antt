@@ -162,6 +162,9 @@ format_or_not token is_token =
       ]
     ]
 
+text_or_not : (text token : List ℕ) → ((o : OperandValues) × (token ≡ text)) ⊎ ((o : OperandValues) → token ≡ text → ⊥)
+text_or_not text token = elim (decided_same token text) [ inl is ↦ inl (operands 0 0 0 (pos 0), is) | inr not ↦ inr (λ o h. not h) ]
+
 pub stands_or_not : (part : Part) (token : List ℕ) → IsToken token → StandsOrNot part token
 stands_or_not Rd token is_token =
     elim (register_or_not token) [
@@ -190,6 +193,6 @@ stands_or_not Name token is_token =
     ]
 stands_or_not Mode token is_token = mode_or_not token
 stands_or_not ImageFormat token is_token = format_or_not token is_token
-stands_or_not Comma token is_token = elim (decided_same token (codes ",")) [ inl is ↦ inl (operands 0 0 0 (pos 0), is) | inr not ↦ inr (λ o h. not h) ]
-stands_or_not Open token is_token = elim (decided_same token (codes "(")) [ inl is ↦ inl (operands 0 0 0 (pos 0), is) | inr not ↦ inr (λ o h. not h) ]
-stands_or_not Close token is_token = elim (decided_same token (codes ")")) [ inl is ↦ inl (operands 0 0 0 (pos 0), is) | inr not ↦ inr (λ o h. not h) ]
+stands_or_not Comma token is_token = text_or_not (codes ",") token
+stands_or_not Open token is_token = text_or_not (codes "(") token
+stands_or_not Close token is_token = text_or_not (codes ")") token

@@ -1,5 +1,5 @@
--- The table of keywords finds just those that the definitions give.
-use Rattle.rv_text.proofs.Prelude.{◌≡◌, ℕ, ◌<◌, nat_lt, List, sym, ap, ◌∙◌, Option, Some, None, IfSome, IfNone, refl, slice_index, slice_index_or, slice_get-get_or, same_Some, ltb-true, Mnemonic, Keyword, Nop, name_of, keyword_name}
+-- The table of keywords finds those that the definitions give, and no others; each is a name.
+use Rattle.rv_text.proofs.Prelude.{◌≡◌, ℕ, ◌<◌, Bool, true, false, ◌&&◌, nat_lt, List, [], ◌∷◌, list_all, and_parts, false≢true, begins_name, continues_name, IsName, sym, ap, ◌∙◌, Option, Some, None, IfSome, IfNone, refl, slice_index, slice_index_or, slice_get-get_or, same_Some, ltb-true, Mnemonic, Keyword, Nop, name_of, keyword_name}
 use Rattle.rv_text.specs.declared.keyword.DataWidth.TheVariants.{Word}
 use Rattle.rv_text.specs.declared.keyword.TheConstants.{ALL, PLACES}
 use Rattle.rv_text.specs.declared.mnemonic.Mnemonic.TheVariants.{Op, OpImm, Load, Store, Branch, Jal}
@@ -8,23 +8,46 @@ use Rattle.rv_word.specs.declared.instr.ImmOp.TheVariants.{Addi}
 use Rattle.rv_word.specs.declared.instr.LoadKind.TheVariants.{Lb}
 use Rattle.rv_word.specs.declared.instr.RegOp.TheVariants.{Add}
 use Rattle.rv_word.specs.declared.instr.StoreWidth.TheVariants.{Sb}
+use Rattle.rv_text.proofs.Lexing.{Passes}
 use Rattle.rv_text.proofs.RegisterNames.{below}
 use Rattle.rv_text.specs.declared.keyword.Keyword.TheVariants as keyword
 use Rattle.rv_text.specs.declared.keyword.Directive.TheVariants.{Sandbox}
 use Rattle.rv_text.specs.private.Lookup.{hash, candidate, mnemonic_in}
 
--- each keyword is the candidate of its name, by computation
-candidate_own : (k : Keyword) → candidate (keyword_name k) ≡ k
+-- each name begins with a letter, and goes on with letters, digits, `_` and `.`
+abbrev is_name : List ℕ → Bool
+is_name [] = false
+is_name (c ∷ cs) = begins_name c && list_all continues_name cs
+
+all_pass : (p : ℕ → Bool) (text : List ℕ) → list_all p text ≡ true → Passes p text
+all_pass p [] h = tt
+all_pass p (c ∷ cs) h = let parts = and_parts _ _ h in (parts.0, all_pass p cs parts.1)
+
+name_from : (text : List ℕ) → is_name text ≡ true → IsName text
+name_from [] h = absurd (false≢true h)
+name_from (c ∷ cs) h = let parts = and_parts _ _ h in (parts.0, all_pass continues_name cs parts.1)
+
+-- each keyword is the candidate of its name, which is a name, by computation
+keyword_own : (k : Keyword) → (candidate (keyword_name k) ≡ k) × (is_name (keyword_name k) ≡ true)
 unfolding candidate hash
-candidate_own (keyword.Instr (Op Add)) = refl
-candidate_own (keyword.Instr (OpImm Addi)) = refl
-candidate_own (keyword.Instr (Load Lb)) = refl
-candidate_own (keyword.Instr (Store Sb)) = refl
-candidate_own (keyword.Instr (Branch Beq)) = refl
-candidate_own (keyword.Pseudo Nop) = refl
-candidate_own (keyword.Directive Sandbox) = refl
-candidate_own (keyword.Numbers Word) = refl
-candidate_own _ = refl
+keyword_own (keyword.Instr (Op Add)) = (refl, refl)
+keyword_own (keyword.Instr (OpImm Addi)) = (refl, refl)
+keyword_own (keyword.Instr (Load Lb)) = (refl, refl)
+keyword_own (keyword.Instr (Store Sb)) = (refl, refl)
+keyword_own (keyword.Instr (Branch Beq)) = (refl, refl)
+keyword_own (keyword.Pseudo Nop) = (refl, refl)
+keyword_own (keyword.Directive Sandbox) = (refl, refl)
+keyword_own (keyword.Numbers Word) = (refl, refl)
+keyword_own _ = (refl, refl)
+
+candidate_own : (k : Keyword) → candidate (keyword_name k) ≡ k
+candidate_own k = (keyword_own k).0
+
+pub keyword_named : (k : Keyword) → IsName (keyword_name k)
+keyword_named k = name_from (keyword_name k) (keyword_own k).1
+
+pub name_is_name : (m : Mnemonic) → IsName (name_of m)
+name_is_name m = keyword_named (keyword.Instr m)
 
 -- a name has one keyword
 pub keyword_unique : (j k : Keyword) → keyword_name j ≡ keyword_name k → j ≡ k

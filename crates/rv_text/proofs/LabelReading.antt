@@ -1,6 +1,7 @@
 -- What is read of labels at the front of a line.
-use Rattle.rv_text.proofs.Prelude.{◌≡◌, ◌↔◌, refl, sym, ap, subst, ℕ, Bool, true, false, not, IsTrue, List, [], ◌∷◌, ◌++◌, true≢false, codes, length, arith, ◌<◌, ◌⊎◌, inl, inr, ◌∙◌, take, drop, Option, Some, None, Bor, MatchOption, Takes, IsLabel, Begun, SoFar, IsFree, Labels, RefusesLabel, BeginsWithName, BeginsWithLabel, HasNoLabel, LabelsLead, IsTaken, LabelRefused, TextCause, body_of, token_len}
+use Rattle.rv_text.proofs.Prelude.{◌≡◌, ◌↔◌, refl, sym, ap, subst, ℕ, Bool, true, false, not, IsTrue, List, [], ◌∷◌, ◌++◌, true≢false, codes, length, arith, ◌<◌, ◌⊎◌, inl, inr, ◌∙◌, take, drop, Option, Some, None, Bor, MatchOption, Takes, IsLabel, Begun, SoFar, IsFree, Labels, RefusesLabel, BeginsWithName, BeginsWithLabel, HasNoLabel, LabelsLead, IsTaken, LabelRefused, TextCause, Named, Unknown, meaning, body_of, token_len}
 use Rattle.rv_text.specs.declared.cause.TextCause.TheVariants as cause
+use Rattle.rv_text.proofs.Decided.{Decided}
 use Rattle.rv_text.proofs.Taking.{takes_unique, takes_body, takes_found, takes_shorter}
 use Rattle.rv_text.proofs.Lexing.{token_at_mark}
 
@@ -43,6 +44,14 @@ pub no_label : (text token after : List ℕ) → Takes text token after
 no_label text token after takes none name rest (a, begun, colon) =
     let same = takes_unique begun.0 takes in
     none rest (subst IsLabel same.0 begun.1) (subst (λ t. Takes t (codes ":") rest) same.1 colon)
+
+unknown_or_not : (what : Named) → Decided (what ≡ Unknown)
+unknown_or_not Unknown = inl refl
+unknown_or_not _ = inr (λ e. cc)
+
+-- a name is free or not
+pub free_or_not : (name : List ℕ) (b : Begun) → Decided (IsFree name b)
+free_or_not name b = unknown_or_not (meaning b.sandbox.names name)
 
 -- whether the name at the front is there already
 pub taken : (b : Begun) (text name rest : List ℕ) (free : Bool) → BeginsWithName text name rest → (IsTrue free ↔ IsFree name b)

@@ -1,5 +1,5 @@
 -- The token length that the lexer computes is that of the longest token.
-use Rattle.rv_text.proofs.Prelude.{◌≡◌, ℕ, ◌+◌, ◌<◌, ◌≤◌, Bool, true, false, cond, List, [], ◌∷◌, ◌++◌, length, get_or, take, drop, inl, inr, ⊎_elim, refl, sym, ap, ◌∙◌, subst, arith, lit<, length-append, zero, suc, pos, neg_ℤ, IsTrue, ◌==◌, AllByRecursion, prefix_len, prefix_len-le-length, cases_Bool, cond_both, eqb-true, nat_tests, is_space, IsBlank, IsMagnitude, is_mark, IsToken, begins_name, continues_name, begins_hex, after_sign}
+use Rattle.rv_text.proofs.Prelude.{◌≡◌, ℕ, ◌+◌, ◌<◌, ◌≤◌, Bool, true, false, cond, List, [], ◌∷◌, ◌++◌, length, get_or, take, drop, inl, inr, ⊎_elim, refl, sym, ap, ◌∙◌, subst, arith, length-append, zero, suc, pos, neg_ℤ, IsTrue, ◌==◌, ◌||◌, ◌⊎◌, AllByRecursion, prefix_len, prefix_len-le-length, cases_Bool, cond_both, eqb-true, nat_tests, is_space, IsBlank, IsMagnitude, is_mark, IsMark, IsToken, begins_name, continues_name, begins_hex, after_sign}
 use Rattle.std.proofs.lemmas.List.Folds.{length-prefix_len}
 use Rattle.std.proofs.lemmas.Str.{IsCharBoundary-start, IsCharBoundary-after_ascii}
 use Rattle.std.specs.Char.{is_ascii_digit, is_ascii_hexdigit, digit_value}
@@ -194,23 +194,52 @@ token_found (c ∷ cs) h =
     (λ _. cond_both (c == 45) _ _ P (λ e. subst (λ (d : ℕ). 0 < after_sign (magnitude_len cs) → IsToken (take (after_sign (magnitude_len cs)) (d ∷ cs))) (sym (eqb-true c 45 e)) (sign_found cs))
     (λ _. number_found (c ∷ cs)))) h
 
-name_begins : (c : ℕ) → begins_name c ≡ true → is_space c ≡ false
-name_begins c h = grind (arith, nat_tests)
+-- each byte of a name and of a number
+abbrev pub is_word : ℕ → Bool
+is_word c = continues_name c || c == 45
+
+begins_word : (c : ℕ) → begins_name c ≡ true → is_word c ≡ true
+begins_word c h = grind (arith, nat_tests)
+
+continues_word : (c : ℕ) → continues_name c ≡ true → is_word c ≡ true
+continues_word c h = grind (arith, nat_tests)
+
+digit_word : (c : ℕ) → is_ascii_digit c ≡ true → is_word c ≡ true
+digit_word c h = grind (arith, nat_tests)
+
+hex_word : (c : ℕ) → is_ascii_hexdigit c ≡ true → is_word c ≡ true
+hex_word c h = grind (arith, nat_tests)
+
+magnitude_word : (text : List ℕ) (n : ℕ) → IsMagnitude text n → Passes is_word text
+magnitude_word text n (inl h) = all_by _ _ digit_word text (numeral_passes text h.0.1)
+magnitude_word text n (inr (ds, e, h, v)) = rw e (refl, (refl, all_by _ _ hex_word ds (hex_passes ds h.1)))
+
+-- a token is a name or a number, or one mark
+pub token_bytes : (token : List ℕ) → IsToken token → Passes is_word token ⊎ IsMark token
+token_bytes [] (inl name) = absurd name
+token_bytes (c ∷ cs) (inl name) = inl (begins_word c name.0, all_by _ _ continues_word cs name.1)
+token_bytes token (inr (inl (z, inl (n, h, e)))) = inl (magnitude_word token n h)
+token_bytes token (inr (inl (z, inr (n, digits, e, h, v)))) = inl (rw e (refl, magnitude_word digits n h))
+token_bytes token (inr (inr mark)) = inr mark
+
+word_begins : (c : ℕ) → is_word c ≡ true → is_space c ≡ false
+word_begins c h = grind (arith, nat_tests)
 
 mark_begins : (c : ℕ) → is_mark c ≡ true → is_space c ≡ false
 mark_begins c h = grind (arith, nat_tests)
 
-digit_begins : (c : ℕ) → is_ascii_digit c ≡ true → is_space c ≡ false
-digit_begins c h = grind (arith, nat_tests)
-
 -- a token doesn't begin with a space
 pub token_begins : (token : List ℕ) → IsToken token → (c : ℕ) × (cs : List ℕ) × (token ≡ c ∷ cs) × (is_space c ≡ false)
-token_begins [] (inl name) = absurd name
-token_begins (c ∷ cs) (inl name) = (c, cs, refl, name_begins c name.0)
-token_begins [] (inr (inl (z, inl (n, h, e)))) = absurd (omega (arith, magnitude_within [] [] n h))
-token_begins (c ∷ cs) (inr (inl (z, inl (n, h, e)))) = (c, cs, refl, digit_begins c (digit_first c cs n h))
-token_begins token (inr (inl (z, inr (n, digits, e, h, v)))) = (45, digits, e, refl)
-token_begins token (inr (inr (c, h, e))) = (c, [], e, mark_begins c h)
+token_begins [] is_token = absurd (omega (arith, token_within [] [] is_token))
+token_begins (c ∷ cs) is_token = (
+  c,
+  cs,
+  refl,
+  elim (token_bytes (c ∷ cs) is_token) [
+    | inl word ↦ word_begins c word.0
+    | inr (d, mark, e) ↦ let same : d ≡ c = cc in subst (λ x. is_space x ≡ false) same (mark_begins d mark)
+  ],
+)
 
 magnitude_len-le : (text : List ℕ) → magnitude_len text ≤ length text
 magnitude_len-le text =
@@ -237,34 +266,20 @@ token_len-le (c ∷ cs) =
 abbrev pub AllAscii : List ℕ → Type 0
 AllAscii text = AllByRecursion (λ c. c < 128) text
 
-begins_ascii : (c : ℕ) → begins_name c ≡ true → c < 128
-begins_ascii c h = grind (arith, nat_tests)
-
-continues_ascii : (c : ℕ) → continues_name c ≡ true → c < 128
-continues_ascii c h = grind (arith, nat_tests)
-
-digit_ascii : (c : ℕ) → is_ascii_digit c ≡ true → c < 128
-digit_ascii c h = grind (arith, nat_tests)
-
-hex_ascii : (c : ℕ) → is_ascii_hexdigit c ≡ true → c < 128
-hex_ascii c h = grind (arith, nat_tests)
+word_ascii : (c : ℕ) → is_word c ≡ true → c < 128
+word_ascii c h = grind (arith, nat_tests)
 
 mark_ascii : (c : ℕ) → is_mark c ≡ true → c < 128
 mark_ascii c h = grind (arith, nat_tests)
 
-pub space_ascii : (c : ℕ) → is_space c ≡ true → c < 128
+space_ascii : (c : ℕ) → is_space c ≡ true → c < 128
 space_ascii c h = grind (arith, nat_tests)
 
-magnitude_ascii : (text : List ℕ) (n : ℕ) → IsMagnitude text n → AllAscii text
-magnitude_ascii text n (inl h) = all_by _ (λ c. c < 128) digit_ascii text (numeral_passes text h.0.1)
-magnitude_ascii text n (inr (ds, e, h, v)) = rw e (lit< tt, (lit< tt, all_by _ (λ c. c < 128) hex_ascii ds (hex_passes ds h.1)))
-
 pub token_ascii : (token : List ℕ) → IsToken token → AllAscii token
-token_ascii [] (inl name) = absurd name
-token_ascii (c ∷ cs) (inl name) = (begins_ascii c name.0, all_by _ (λ c. c < 128) continues_ascii cs name.1)
-token_ascii token (inr (inl (z, inl (n, h, e)))) = magnitude_ascii token n h
-token_ascii token (inr (inl (z, inr (n, digits, e, h, v)))) = rw e (lit< tt, magnitude_ascii digits n h)
-token_ascii token (inr (inr (c, h, e))) = rw e (mark_ascii c h, tt)
+token_ascii token is_token = elim (token_bytes token is_token) [
+  | inl word ↦ all_by _ (λ c. c < 128) word_ascii token word
+  | inr (c, mark, e) ↦ rw e (mark_ascii c mark, tt)
+]
 
 pub blank_ascii : (text : List ℕ) → IsBlank text → AllAscii text
 blank_ascii text h = all_by _ (λ c. c < 128) space_ascii text h

@@ -21,7 +21,7 @@ pub mod Refusals
 pub mod Answers
 pub mod Lists
 pub mod Right
-pub mod Adding
+pub mod Halves
 pub mod Lines
 pub mod Longest
 pub mod Printing

@@ -1,7 +1,6 @@
 -- Where a token ends: at a mark, at a space, at the end of the text.
-use Rattle.rv_text.proofs.Prelude.{◌≡◌, ℕ, ◌≤◌, Bool, true, false, ◌||◌, List, [], ◌∷◌, ◌++◌, length, length-append, ◌⊎◌, inl, inr, ⊎_elim, refl, sym, ap, ◌∙◌, subst, arith, AllByRecursion, nat_tests, false≢true, is_space, IsBlank, IsMagnitude, is_mark, IsToken, Takes, begins_name, continues_name, token_len}
-use Rattle.std.specs.Char.{is_ascii_digit, is_ascii_hexdigit}
-use Rattle.rv_text.proofs.Lexing.{all_by, numeral_passes, hex_passes, token_within, token_at_mark}
+use Rattle.rv_text.proofs.Prelude.{◌≡◌, ℕ, ◌≤◌, Bool, true, false, ◌||◌, List, [], ◌∷◌, ◌++◌, length, length-append, ◌⊎◌, inl, inr, ⊎_elim, refl, sym, ap, ◌∙◌, subst, arith, AllByRecursion, nat_tests, false≢true, is_space, IsBlank, is_mark, IsToken, Takes, token_len}
+use Rattle.rv_text.proofs.Lexing.{all_by, is_word, token_bytes, token_within, token_at_mark}
 
 -- a mark or a space ends the token before it
 abbrev pub ends_word : ℕ → Bool
@@ -10,29 +9,15 @@ ends_word c = is_mark c || is_space c
 abbrev Plain : List ℕ → Type 0
 Plain text = AllByRecursion (λ c. ends_word c ≡ false) text
 
-begins_plain : (c : ℕ) → begins_name c ≡ true → ends_word c ≡ false
-begins_plain c h = grind (arith, nat_tests)
-
-continues_plain : (c : ℕ) → continues_name c ≡ true → ends_word c ≡ false
-continues_plain c h = grind (arith, nat_tests)
-
-digit_plain : (c : ℕ) → is_ascii_digit c ≡ true → ends_word c ≡ false
-digit_plain c h = grind (arith, nat_tests)
-
-hex_plain : (c : ℕ) → is_ascii_hexdigit c ≡ true → ends_word c ≡ false
-hex_plain c h = grind (arith, nat_tests)
-
-magnitude_plain : (text : List ℕ) (n : ℕ) → IsMagnitude text n → Plain text
-magnitude_plain text n (inl h) = all_by _ (λ c. ends_word c ≡ false) digit_plain text (numeral_passes text h.0.1)
-magnitude_plain text n (inr (ds, e, h, v)) = rw e (refl, (refl, all_by _ (λ c. ends_word c ≡ false) hex_plain ds (hex_passes ds h.1)))
+word_plain : (c : ℕ) → is_word c ≡ true → ends_word c ≡ false
+word_plain c h = grind (arith, nat_tests)
 
 -- a token is one mark, or has none and no space
 token_plain : (token : List ℕ) → IsToken token → Plain token ⊎ (length token ≡ 1)
-token_plain [] (inl name) = absurd name
-token_plain (c ∷ cs) (inl name) = inl (begins_plain c name.0, all_by _ (λ c. ends_word c ≡ false) continues_plain cs name.1)
-token_plain token (inr (inl (z, inl (n, h, e)))) = inl (magnitude_plain token n h)
-token_plain token (inr (inl (z, inr (n, digits, e, h, v)))) = inl (rw e (refl, magnitude_plain digits n h))
-token_plain token (inr (inr (c, h, e))) = inr (ap length e ∙ omega arith)
+token_plain token is_token = elim (token_bytes token is_token) [
+  | inl word ↦ inl (all_by _ (λ c. ends_word c ≡ false) word_plain token word)
+  | inr (c, mark, e) ↦ inr (ap length e ∙ omega arith)
+]
 
 -- what is plain goes no further than the first byte that ends a word
 plain_within : (token other more rest : List ℕ) (c : ℕ) → token ++ (c ∷ rest) ≡ other ++ more → ends_word c ≡ true → Plain other → length other ≤ length token

@@ -4,8 +4,7 @@ use Rattle.rv_text.specs.declared.fault.TextFault.{TextFault}
 use Rattle.rv_text.specs.declared.cause.TextCause.TheVariants as cause
 use Rattle.rv_text.proofs.Taking.{takes_unique, blank_takes_none}
 use Rattle.rv_text.proofs.Fronts.{One, either_one, token_at, token_one}
-use Rattle.rv_text.proofs.Keywords.{keyword_unique}
-use Rattle.rv_text.proofs.Printing.{keyword_named}
+use Rattle.rv_text.proofs.Keywords.{keyword_unique, keyword_named}
 use Rattle.rv_text.proofs.Lines.{states_one, states_not, refused_one}
 
 -- Labels.

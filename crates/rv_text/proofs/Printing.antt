@@ -1,52 +1,13 @@
 -- What a printed word of each kind is: a name, a register, a decimal or a hexadecimal number.
-use Rattle.rv_text.proofs.Prelude.{◌≡◌, ℕ, ◌<◌, ◌^◌, Bool, true, false, ◌&&◌, List, [], ◌∷◌, ◌++◌, inl, inr, refl, sym, arith, suc, ℤ, pos, negsuc, codes, list_all, ints, and_parts, false≢true, nat_tests, Mnemonic, Keyword, Nop, keyword_name, NumberKind, Upper, IsNumber, IsToken, begins_name, continues_name, IsName, name_of, IsNumberOf, number_text}
+use Rattle.rv_text.proofs.Prelude.{◌≡◌, ℕ, ◌<◌, ◌^◌, true, false, ◌++◌, inl, inr, refl, sym, arith, suc, ℤ, pos, negsuc, codes, ints, nat_tests, Mnemonic, NumberKind, Upper, IsNumber, IsToken, continues_name, name_of, IsNumberOf, number_text}
 use Rattle.rv_text.specs.Registers.{x_name}
-use Rattle.rv_text.specs.declared.keyword.DataWidth.TheVariants.{Word}
-use Rattle.rv_text.specs.declared.mnemonic.Mnemonic.TheVariants.{Op, OpImm, Load, Store, Branch}
 use Rattle.rv_text.specs.private.Numbers.{IsInReach}
-use Rattle.rv_word.specs.declared.instr.Cond.TheVariants.{Beq}
-use Rattle.rv_word.specs.declared.instr.ImmOp.TheVariants.{Addi}
-use Rattle.rv_word.specs.declared.instr.LoadKind.TheVariants.{Lb}
-use Rattle.rv_word.specs.declared.instr.RegOp.TheVariants.{Add}
-use Rattle.rv_word.specs.declared.instr.StoreWidth.TheVariants.{Sb}
 use Rattle.std.proofs.lemmas.Fmt.{decimal_is_IsNumeral, digits_is_IsNumeral}
 use Rattle.std.specs.Char.{is_ascii_digit}
 use Rattle.std.specs.Fmt.{decimal, signed_decimal, digits}
-use Rattle.rv_text.specs.declared.keyword.Keyword.TheVariants as keyword
-use Rattle.rv_text.specs.declared.keyword.Directive.TheVariants.{Sandbox}
-use Rattle.rv_text.proofs.Lexing.{Passes, all_by, numeral_passes}
+use Rattle.rv_text.proofs.Keywords.{name_is_name}
+use Rattle.rv_text.proofs.Lexing.{all_by, numeral_passes}
 use Rattle.rv_text.proofs.Numbers.{kind_in_reach}
-
--- each name begins with a letter, and goes on with letters, digits, `_` and `.`
-abbrev pub is_name : List ℕ → Bool
-is_name [] = false
-is_name (c ∷ cs) = begins_name c && list_all continues_name cs
-
-all_pass : (p : ℕ → Bool) (text : List ℕ) → list_all p text ≡ true → Passes p text
-all_pass p [] h = tt
-all_pass p (c ∷ cs) h = let parts = and_parts _ _ h in (parts.0, all_pass p cs parts.1)
-
-pub name_from : (text : List ℕ) → is_name text ≡ true → IsName text
-name_from [] h = absurd (false≢true h)
-name_from (c ∷ cs) h = let parts = and_parts _ _ h in (parts.0, all_pass continues_name cs parts.1)
-
--- the first words of statements are names, by computation
-keyword_is_name : (k : Keyword) → is_name (keyword_name k) ≡ true
-keyword_is_name (keyword.Instr (Op Add)) = refl
-keyword_is_name (keyword.Instr (OpImm Addi)) = refl
-keyword_is_name (keyword.Instr (Load Lb)) = refl
-keyword_is_name (keyword.Instr (Store Sb)) = refl
-keyword_is_name (keyword.Instr (Branch Beq)) = refl
-keyword_is_name (keyword.Pseudo Nop) = refl
-keyword_is_name (keyword.Directive Sandbox) = refl
-keyword_is_name (keyword.Numbers Word) = refl
-keyword_is_name _ = refl
-
-pub keyword_named : (k : Keyword) → IsName (keyword_name k)
-keyword_named k = name_from (keyword_name k) (keyword_is_name k)
-
-pub name_is_name : (m : Mnemonic) → IsName (name_of m)
-name_is_name m = keyword_named (keyword.Instr m)
 
 pub name_token : (m : Mnemonic) → IsToken (name_of m)
 name_token m = inl (name_is_name m)

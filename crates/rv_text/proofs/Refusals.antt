@@ -1,11 +1,10 @@
 -- A text is refused for one cause at most, and for none where it means an instruction.
 use Rattle.rv_text.proofs.Prelude.{◌≡◌, ℕ, List, [], ◌∷◌, ◌⊎◌, inl, inr, sym, ap, ◌∙◌, subst, Instr, TextCause, Mnemonic, Part, IsName, name_of, form_of, OperandValues, Stands, Differs, Departs, Reads, FollowsToken, mnemonic_of, operands_of, OperandsDepart, RefusedAt, OneCause, MeantIsNotRefused}
 use Rattle.rv_text.specs.declared.cause.TextCause.TheVariants as cause
-use Rattle.rv_text.proofs.Keywords.{name_unique}
+use Rattle.rv_text.proofs.Keywords.{name_unique, name_is_name}
 use Rattle.rv_text.proofs.Taking.{takes_unique, blank_takes_none}
 use Rattle.rv_text.proofs.Fronts.{One, either_one, fixed_one, token_one, front_at, front_one}
 use Rattle.rv_text.proofs.Meaning.{meant, first_token}
-use Rattle.rv_text.proofs.Printing.{name_is_name}
 
 -- the first token can't stand at this part, or what follows departs from the others
 abbrev AtPart : Part → List Part → List ℕ → List ℕ → TextCause → Type 0

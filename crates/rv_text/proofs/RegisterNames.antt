@@ -1,6 +1,7 @@
 -- The table of the names of registers has just those that the definitions give.
-use Rattle.rv_text.proofs.Prelude.{◌≡◌, ℕ, ◌+◌, ◌*◌, ◌%◌, ◌<◌, Bool, true, ◌&&◌, ◌||◌, List, [], ◌∷◌, map, get_or, slice_index, slice_index_or, length, zero, suc, ◌⊎◌, inl, inr, ⊎_elim, refl, sym, ap, ◌∙◌, subst, subst₂, arith, zero-add, Some, bytes_eq, nat_lt, codes, ◌==◌, list_all, range_with_len, bytes_eq-Decides, AllPass-from_list_all, get_or_from_slice_get, slice_get-get_or, and_parts, ltb-true, eqb-true, or_cases}
+use Rattle.rv_text.proofs.Prelude.{◌≡◌, ℕ, ◌+◌, ◌*◌, ◌%◌, ◌<◌, Bool, true, ◌&&◌, ◌||◌, List, [], ◌∷◌, map, get_or, slice_index, slice_index_or, length, ◌⊎◌, inl, inr, ⊎_elim, refl, sym, ap, ◌∙◌, subst, subst₂, arith, zero-add, Some, bytes_eq, nat_lt, codes, ◌==◌, list_all, range_with_len, bytes_eq-Decides, AllPass-from_list_all, get_or_from_slice_get, slice_get-get_or, and_parts, ltb-true, eqb-true, or_cases}
 use Rattle.rv_text.specs.Registers.{abi_names, x_name, IsRegister}
+use Rattle.std.proofs.lemmas.List.{get_or-map, length-map}
 use Rattle.std.proofs.lemmas.List.FromFn.{length-range_with_len, get_or-range_with_len}
 use Rattle.std.specs.Fmt.{digits}
 use Rattle.rv_text.proofs.Decided.{decided_same}
@@ -65,13 +66,10 @@ pub at_hash : (text : List ℕ) (h : ℕ) → h ≡ hash 0 37 text → slice_ind
 unfolding name_place
 at_hash text h e = ap (λ n. slice_index PLACES.now n) e
 
-at_map : {A : Type 0} (xs : List A) (now : A → List ℕ) (p : ℕ) (d : A) → p < length (map now xs) → now (slice_index_or xs p d) ≡ get_or (map now xs) p []
-at_map [] now p d lt = absurd (omega arith)
-at_map (x ∷ xs) now zero d lt = refl
-at_map (x ∷ xs) now (suc p) d lt = at_map xs now p d (omega arith)
-
 pub at_place : {A : Type 0} (xs : List A) (now : A → List ℕ) (p : ℕ) (d : A) → map now xs ≡ register_names → p < 65 → now (slice_index_or xs p d) ≡ name_at p
-at_place xs now p d e lt = at_map xs now p d (subst (λ l. p < length l) (sym e) lt) ∙ ap (λ l. get_or l p []) e
+at_place xs now p d e lt =
+    let within : p < length xs = subst (λ n. p < n) (sym (ap length e) ∙ length-map xs now) lt in
+    sym (get_or-map now xs p d [] within) ∙ ap (λ l. get_or l p []) e
 
 pub some_name : (text : List ℕ) (p r : ℕ) → p < 65 → r ≡ register_at p → name_at p ≡ text → IsRegister text r
 some_name text p r lt e is = subst₂ IsRegister is (sym e) (named p lt)

@@ -1,5 +1,5 @@
 -- What a line states is in range.
-use Rattle.rv_text.proofs.Prelude.{rules, ◌≡◌, ℕ, ◌^◌, ◌<◌, ◌≤◌, Bool, true, false, cond, List, [], ◌∷◌, length, inl, inr, refl, sym, ap, ◌∙◌, subst, arith, ℤ, pos, negsuc, ◌+ℤ◌, unsigned_abs, ◌==◌, All, flat_map, ints, Instr, modulo, IsImm12, Mnemonic, Part, Nop, Li, DataWidth, Keyword, IsDataSize, IsStraight, name_of, form_of, IsNumberOf, OperandValues, HasForm, AllSuit, mnemonic_of, operands_of, Spells, is_small, add_lower, constant, data_bytes, directive_form, directive_states, pseudo_form, pseudo_states, branch_form, branch_states, jal_form, jal_states, place_of_keyword, IsRow, After, Stated, within, plain, IsRightStatement, place_of_stated}
+use Rattle.rv_text.proofs.Prelude.{rules, ◌≡◌, ℕ, ◌^◌, ◌<◌, ◌≤◌, Bool, true, false, cond, List, [], ◌∷◌, length, inl, inr, refl, sym, ap, ◌∙◌, subst, arith, ℤ, pos, negsuc, unsigned_abs, ◌==◌, All, flat_map, ints, Instr, IsImm12, Mnemonic, Part, Nop, Li, DataWidth, Keyword, IsDataSize, IsStraight, name_of, form_of, IsNumberOf, OperandValues, HasForm, AllSuit, mnemonic_of, operands_of, Spells, is_small, add_lower, constant, data_bytes, directive_form, directive_states, pseudo_form, pseudo_states, branch_form, branch_states, jal_form, jal_states, place_of_keyword, IsRow, After, Stated, within, plain, IsRightStatement, place_of_stated}
 use Rattle.rv_source.specs.Halves.{upper, lower}
 use Rattle.rv_text.specs.declared.keyword.DataWidth.TheVariants.{Word, Half, Byte}
 use Rattle.rv_text.specs.declared.keyword.Directive.{Directive}
@@ -17,6 +17,7 @@ use Rattle.rv_text.specs.declared.keyword.Keyword.TheVariants as keyword
 use Rattle.rv_text.specs.declared.form.NumberKind.TheVariants as kind
 use Rattle.rv_text.proofs.Keywords.{name_unique}
 use Rattle.rv_text.proofs.Forms.{stands_suits}
+use Rattle.rv_text.proofs.Halves.{upper_below, lower_imm}
 use Rattle.rv_text.proofs.Ranges.{fits_in_range, full_fence_in_range}
 
 -- operands that tokens give fit their form
@@ -57,17 +58,6 @@ jal_in_range rd d = (d, ((omega (arith, ints), omega (arith, ints)), refl))
 
 zero_imm : IsImm12 (pos 0)
 zero_imm = (omega (arith, ints), omega (arith, ints))
-
--- the halves of a number
-modulo_below : (z : ℤ) → modulo 32 z < 2 ^ 32
-modulo_below (pos n) = omega arith
-modulo_below (negsuc n) = omega arith
-
-upper_below : (z : ℤ) → upper z < 2 ^ 20
-upper_below z = omega (arith, modulo_below (z +ℤ pos 2048))
-
-lower_imm : (z : ℤ) → IsImm12 (lower z)
-lower_imm z = (omega (arith, ints), omega (arith, ints))
 
 small_imm : (z : ℤ) → is_small z ≡ true → IsImm12 z
 small_imm z h = (grind (arith, ints), grind (arith, ints))

@@ -56,10 +56,10 @@ there_stays s t (Code k) g i b h = omega (arith, i, h)
 there_stays s t (Data o) g i b h = omega (arith, b, h)
 there_stays s t Unknown g i b h = tt
 
-entry_stays : (s t : Sandbox) → length s.gates ≤ length t.gates → length s.items ≤ length t.items → length s.bytes ≤ length t.bytes
-    → (e : List ℕ × Named) → IsEntry s e → IsEntry t e
-entry_stays s t g i b e h =
-    record { name = h.name; there = there_stays s t e.1 g i b h.there }
+entries_stay : (s t : Sandbox) → length s.gates ≤ length t.gates → length s.items ≤ length t.items → length s.bytes ≤ length t.bytes
+    → (names : List (List ℕ × Named)) → AllByRecursion (IsEntry s) names → AllByRecursion (IsEntry t) names
+entries_stay s t g i b names h =
+    all_by (IsEntry s) (IsEntry t) (λ e h. record { name = h.name; there = there_stays s t e.1 g i b h.there }) names h
 
 -- a body's name stays one of them where there are more
 body_stays : (n m : ℕ) (body : Body) → n ≤ m → IsBody n body → IsBody m body
@@ -135,7 +135,7 @@ placed_right b d name what labelled opened free is_label there apart flag =
         name = placed_stays b.sandbox.names name what (Gate k) g.name free (λ e. cc) (d.gates k g at).name;
       };
       names = placed_all (IsEntry s) b.sandbox.names name what
-          (all_by (IsEntry b.sandbox) (IsEntry s) (λ e h. entry_stays b.sandbox s (omega arith) (omega arith) (omega arith) e h) b.sandbox.names d.names)
+          (entries_stay b.sandbox s (omega arith) (omega arith) (omega arith) b.sandbox.names d.names)
           (record { name = is_label; there = there_stays b.sandbox s what (omega arith) (omega arith) (omega arith) there });
       differ = placed_differ b.sandbox.names name what d.differ;
       item_count = d.item_count;
@@ -209,7 +209,7 @@ bodies_right line bodies b d all some fits =
       data_size = d.data_size;
       gate_count = d.gate_count;
       gates = λ k g at. record { service = (d.gates k g at).service; name = (d.gates k g at).name };
-      names = all_by (IsEntry b.sandbox) (IsEntry s) (λ e h. entry_stays b.sandbox s (omega arith) (omega (arith, long)) (omega arith) e h) b.sandbox.names d.names;
+      names = entries_stay b.sandbox s (omega arith) (omega (arith, long)) (omega arith) b.sandbox.names d.names;
       differ = d.differ;
       item_count = omega (arith, long, fits);
       items = λ k i at. item k i (split_get b.sandbox.items more k i at);
@@ -248,7 +248,7 @@ bytes_right values b d all fits =
       data_size = d.data_size;
       gate_count = d.gate_count;
       gates = λ k g at. record { service = (d.gates k g at).service; name = (d.gates k g at).name };
-      names = all_by (IsEntry b.sandbox) (IsEntry s) (λ e h. entry_stays b.sandbox s (omega arith) (omega arith) (omega (arith, long)) e h) b.sandbox.names d.names;
+      names = entries_stay b.sandbox s (omega arith) (omega arith) (omega (arith, long)) b.sandbox.names d.names;
       differ = d.differ;
       item_count = d.item_count;
       items = λ k i at. record { labelled = (d.items k i at).labelled; body = (d.items k i at).body };
@@ -272,7 +272,7 @@ gate_right name service b d free is_label known_service fits =
       gate_count = omega (arith, long, fits);
       gates = λ k g at. gate k g (split_get b.sandbox.gates (added ∷ []) k g at);
       names = placed_all (IsEntry s) b.sandbox.names name what
-          (all_by (IsEntry b.sandbox) (IsEntry s) (λ e h. entry_stays b.sandbox s (omega (arith, long)) (omega arith) (omega arith) e h) b.sandbox.names d.names)
+          (entries_stay b.sandbox s (omega (arith, long)) (omega arith) (omega arith) b.sandbox.names d.names)
           (record { name = is_label; there = omega (arith, long) });
       differ = placed_differ b.sandbox.names name what d.differ;
       item_count = d.item_count;

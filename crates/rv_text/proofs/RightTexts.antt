@@ -1,5 +1,5 @@
 -- What a text means is right: by its lines, from nothing.
-use Rattle.rv_text.proofs.Prelude.{◌≡◌, refl, sym, ap, subst, ◌∙◌, ℕ, ◌+◌, inl, inr, List, [], ◌∷◌, ◌++◌, Option, None, Some, map, length, length-append, arith, All, AllByRecursion, same_Some, none-some, Instr, InRange, Named, Unknown, Keyword, Takes, IsLabel, place_of_keyword, StatesAfter, Stated, format, sandbox, within, StatedWithin, gate, compressed, data_part, bytes, plain, jump, address, IsRightWithin, IsRightStatement, place_of_stated, meaning, place_of, met, IsStraight, Sandbox, IsBody, IsSandbox, AreOf, format_of, Begun, SoFar, format_or_sfi1, with_label, with_names, nothing, last_sandbox, sandboxes, IsFree, Labels, Fits, MayCome, GoesOn, Does, with_stated, BeginsWithName, LabelsLead, IsTaken, LeadsAfter, RestLeads, Leads, uncommented, lines, LinesLead, MeansSource}
+use Rattle.rv_text.proofs.Prelude.{◌≡◌, refl, sym, ap, subst, ◌∙◌, ℕ, ◌+◌, inl, inr, Bool, true, List, [], ◌∷◌, ◌++◌, Option, None, Some, map, length, length-append, arith, All, AllByRecursion, same_Some, none-some, Instr, InRange, Keyword, Takes, IsLabel, place_of_keyword, StatesAfter, Stated, format, sandbox, within, StatedWithin, gate, compressed, data_part, bytes, plain, jump, address, IsRightWithin, IsRightStatement, place_of_stated, meaning, place_of, met, IsStraight, Sandbox, IsBody, IsSandbox, AreOf, format_of, Begun, SoFar, format_or_sfi1, with_label, with_names, nothing, last_sandbox, sandboxes, IsFree, Labels, Fits, MayCome, GoesOn, Does, with_stated, BeginsWithName, LabelsLead, IsTaken, LeadsAfter, RestLeads, Leads, uncommented, lines, LinesLead, MeansSource}
 use Rattle.rv_source.specs.declared.item.Body.TheVariants.{Plain, To, High, Low}
 use Rattle.sfi_policy.specs.declared.format.Format.{Format}
 use Rattle.std.proofs.lemmas.List.{length-map}
@@ -10,6 +10,7 @@ use Rattle.rv_text.specs.declared.keyword.Keyword.TheVariants as keyword
 use Rattle.rv_text.specs.declared.statement.Place.TheVariants as place
 use Rattle.rv_text.proofs.Placing.{place_among}
 use Rattle.rv_text.proofs.Counting.{few_sandboxes}
+use Rattle.rv_text.proofs.LabelReading.{free_or_not}
 use Rattle.rv_text.proofs.Right.{after_right, after_place}
 use Rattle.rv_text.proofs.RightSources.{IsDraft, all_append, finished, begun_right, label_right, met_right, bodies_right, bytes_right, gate_right}
 
@@ -48,15 +49,18 @@ plain_bodies : (n : ℕ) (instrs : List Instr) → AllByRecursion (λ i. InRange
 plain_bodies n [] h = tt
 plain_bodies n (i ∷ instrs) h = (h.0, plain_bodies n instrs h.1)
 
+-- whether its data follow, and whether 16-bit forms are taken, leaves a sandbox right
+flags_right : (b : Begun) (in_data rvc : Bool) → IsDraft b → IsDraft (record b { in_data = in_data; rvc = rvc })
+flags_right b in_data rvc d =
+    record { data_size = d.data_size; gate_count = d.gate_count; gates = d.gates; names = d.names; differ = d.differ; item_count = d.item_count; items = d.items; labelled = d.labelled; byte_count = d.byte_count; bytes = d.bytes }
+
 -- each sandbox after a statement is right
 goes_right : (line : ℕ) (s : StatedWithin) (b : Begun) → IsRightWithin s → ((name : List ℕ) (service : ℕ) → s ≡ gate name service → IsFree name b)
     → Fits s b → IsDraft b → IsDraft (with_stated line s b)
 goes_right line (gate name service) b right free fits d =
     gate_right name service b d (free name service refl) right.0 right.1 fits
-goes_right line (compressed rvc) b right free fits d =
-    record { data_size = d.data_size; gate_count = d.gate_count; gates = d.gates; names = d.names; differ = d.differ; item_count = d.item_count; items = d.items; labelled = d.labelled; byte_count = d.byte_count; bytes = d.bytes }
-goes_right line data_part b right free fits d =
-    record { data_size = d.data_size; gate_count = d.gate_count; gates = d.gates; names = d.names; differ = d.differ; item_count = d.item_count; items = d.items; labelled = d.labelled; byte_count = d.byte_count; bytes = d.bytes }
+goes_right line (compressed rvc) b right free fits d = flags_right b b.in_data rvc d
+goes_right line data_part b right free fits d = flags_right b true b.rvc d
 goes_right line (bytes values) b right free fits d = bytes_right values b d (recursion_from_All _ values right) fits
 goes_right line (plain instrs) b right free fits d =
     bodies_right line (map Plain instrs) b d (plain_bodies _ instrs (recursion_from_All _ instrs right.1))
@@ -138,11 +142,8 @@ gate_begins text name service (token ∷ tokens, (last, (after, takes, leads), b
 
 -- a name that isn't taken is free
 not_taken : (b : Begun) (text name rest : List ℕ) → BeginsWithName text name rest → (IsTaken b text → ⊥) → IsFree name b
-not_taken b text name rest begins none = decide (meaning b.sandbox.names name) refl
-  where
-    decide : (what : Named) → meaning b.sandbox.names name ≡ what → IsFree name b
-    decide Unknown is = is
-    decide _ is = absurd (none (name, rest, begins, λ free. cc))
+not_taken b text name rest begins none =
+    elim (free_or_not name b) [ inl free ↦ free | inr not ↦ absurd (none (name, rest, begins, not)) ]
 
 after_leads : (k : Keyword) (line : ℕ) (old new : SoFar) (text : List ℕ) → LeadsAfter k line old text new → IsRightSoFar old → IsRightSoFar new
 after_leads k line old new text (stands, once, (s, (tokens, are, after_k), does)) so_far =

@@ -1,15 +1,14 @@
 -- A text means an instruction or is refused; a text means a source or has a fault.
-use Rattle.rv_text.proofs.Prelude.{◌≡◌, ℕ, zero, suc, ◌+◌, ◌≤◌, Bool, List, [], ◌∷◌, ◌++◌, length, ◌⊎◌, inl, inr, refl, sym, ◌∙◌, subst, arith, Option, Some, None, codes, cases_lt, cases_eq, same_Some, none-some, Named, Unknown, meaning, TextCause, Keyword, Mnemonic, Takes, name_of, keyword_name, place_of_keyword, Stated, StatedWithin, format, sandbox, within, gate, compressed, data_part, IsRightStatement, place_within, place_of_stated, Begun, SoFar, nothing, sandboxes, begin, format_or_sfi1, with_label, IsFree, Labels, RefusesLabel, MayCome, Fits, with_stated, Does, HasNoRoom, BeginsWithName, BeginsWithLabel, HasNoLabel, LabelsLead, PassesLabels, IsTaken, IsGateTwice, LeadsAfter, RestLeads, Leads, LabelRefused, RefusedAfter, StatementRefused, LineRefused, most_bytes, lines, uncommented, LinesLead, FirstRefused, first_line, SomeMeaning, SomeSource}
+use Rattle.rv_text.proofs.Prelude.{◌≡◌, ℕ, zero, suc, ◌+◌, ◌≤◌, Bool, List, [], ◌∷◌, ◌++◌, length, ◌⊎◌, inl, inr, refl, sym, ◌∙◌, subst, arith, Option, Some, None, codes, cases_lt, same_Some, none-some, TextCause, Keyword, Mnemonic, Takes, name_of, keyword_name, place_of_keyword, Stated, StatedWithin, format, sandbox, within, gate, compressed, data_part, IsRightStatement, place_within, place_of_stated, Begun, SoFar, nothing, sandboxes, begin, format_or_sfi1, with_label, IsFree, Labels, RefusesLabel, MayCome, Fits, with_stated, Does, HasNoRoom, BeginsWithName, BeginsWithLabel, HasNoLabel, LabelsLead, PassesLabels, IsTaken, IsGateTwice, LeadsAfter, RestLeads, Leads, LabelRefused, RefusedAfter, StatementRefused, LineRefused, most_bytes, lines, uncommented, LinesLead, FirstRefused, first_line, SomeMeaning, SomeSource}
 use Rattle.rv_text.specs.declared.fault.TextFault.{TextFault}
 use Rattle.rv_text.specs.declared.statement.Place.{Place}
-use Rattle.sfi_policy.specs.declared.format.Format.TheVariants.{Sfi1, Sfi2}
 use Rattle.std.specs.Option.{IsSomeAnd}
 use Rattle.rv_text.specs.declared.cause.TextCause.TheVariants as cause
 use Rattle.rv_text.specs.declared.keyword.Directive.TheVariants as directive
 use Rattle.rv_text.specs.declared.keyword.Keyword.TheVariants as keyword
 use Rattle.rv_text.specs.declared.statement.Place.TheVariants as place
 use Rattle.rv_text.proofs.Keywords.{no_mnemonic_of_name}
-use Rattle.rv_text.proofs.LabelReading.{other_name, no_colon, one_more, label_shortens}
+use Rattle.rv_text.proofs.LabelReading.{other_name, no_colon, free_or_not, one_more, label_shortens}
 use Rattle.rv_text.proofs.Meaning.{means}
 use Rattle.rv_text.proofs.Right.{after_right, after_place}
 use Rattle.rv_text.proofs.Taking.{takes_unique, blank_takes_none}
@@ -67,13 +66,6 @@ may_or_not place.Outside s = inl tt
 may_or_not place.Gates s = begun_and s.begun (λ b. b.opened) _
 may_or_not place.Code s = begun_and s.begun (λ b. b.in_data) _
 may_or_not place.Data s = begun_and s.begun (λ b. b.in_data) _
-
-unknown_or_not : (what : Named) → Decided (what ≡ Unknown)
-unknown_or_not Unknown = inl refl
-unknown_or_not _ = inr (λ e. cc)
-
-free_or_not : (name : List ℕ) (b : Begun) → Decided (IsFree name b)
-free_or_not name b = unknown_or_not (meaning b.sandbox.names name)
 
 -- ---- labels
 

@@ -68,7 +68,7 @@ pub fn some_source()
 {}
 
 /// The lui and the addi that `li` stands for add up to its number.
-#[tactic(auto, using(crate::proofs::Adding::add_up))]
+#[tactic(auto, using(crate::proofs::Halves::add_up))]
 pub fn constants_add_up()
     ensures { ConstantsAddUp }
 {}
