@@ -116,6 +116,7 @@ impl Mnemonic {
     }
 }
 
+#[tactic(auto, using(crate::proofs::Powers::power_test))]
 fn is_power_of_two(number: u64) -> bool
     ensures { IsTrue result ↔ IsPowerOfTwo number }
 {

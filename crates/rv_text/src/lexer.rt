@@ -127,6 +127,7 @@ fn token_len(text: &[u8]) -> usize
 }
 
 /// The text after its leading spaces.
+#[tactic(auto, using(crate::proofs::Taking::gap_boundary), unfolding(crate::specs::private::Scan::body_of))]
 pub fn body(text: &str) -> &str
     ensures { result.now ≡ body_of text.now }
 {

@@ -47,6 +47,7 @@ pub fn read_mark(token: &str, mark: &str) -> Result<(), TextCause>
 }
 
 /// The number of this kind that the token writes.
+#[tactic(auto, using(crate::proofs::Numbers::kind_in_reach))]
 pub fn read_number(token: &str, kind: NumberKind) -> Result<i64, TextCause>
     ensures ok { IfOk result (λ z. IsNumber token.now z × IsNumberOf kind z) }
     ensures err { OnErr result ((z : ℤ) → IsNumber token.now z → IsNumberOf kind z → ⊥) }

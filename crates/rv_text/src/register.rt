@@ -45,6 +45,7 @@ fn name_place(name: &str) -> usize
 }
 
 /// The name at this place.
+#[tactic(auto, using(crate::proofs::RegisterNames::at_place))]
 fn name_at(place: usize) -> &'static str
     requires { place < 65 }
     ensures { result.now ≡ name_at place }
