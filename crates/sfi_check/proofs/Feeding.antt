@@ -20,9 +20,6 @@ fed_held {T} f bytes e h = subst (λ (o : Option ℕ). IsFedBy T o f bytes) e h
 pub fed_fault : {T : List Finding → Type 0} (f : Feed) (bytes : List ℕ) (number : ℕ) → f.fault ≡ Some number → IsFedFinding T f bytes → HasFaultNumberWhateverFollows bytes number × HoldsOfSome T
 fed_fault {T} f bytes number e h = subst (λ (o : Option ℕ). IsFedBy T o f bytes) e h
 
-pub fault_fed : {T : List Finding → Type 0} (f : Feed) (bytes : List ℕ) (number : ℕ) → f.fault ≡ Some number → HasFaultNumberWhateverFollows bytes number × HoldsOfSome T → IsFedFinding T f bytes
-fault_fed {T} f bytes number e h = subst (λ (o : Option ℕ). IsFedBy T o f bytes) (sym e) h
-
 -- ---- what else holds of what it found
 
 held_as : {T U : List Finding → Type 0} (f : Feed) (bytes : List ℕ) (h : IsHeld T f bytes) → U h.at.tallies.found → IsHeld U f bytes

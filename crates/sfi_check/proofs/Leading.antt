@@ -50,13 +50,6 @@ bundle_within x b right w =
     let inside = there.3 in
     rw (i.place_is) (record { base = omega arith; end = omega arith; addresses = omega (arith, placed.4) })
 
-pub bundle_sandbox : (x : Front) (b : BundlePlace) → IsRightFront x → wants.Bundle b ≡ want_of x → b.sandbox < 16
-bundle_sandbox x b right w =
-    let i = in_code x b w in
-    let there = rw (i.front_is) at right in
-    let number = ap (λ (p : BundlePlace). p.sandbox) i.place_is in
-    omega (arith, number, there.0.more, there.0.before.at_most)
-
 -- ---- where others do
 
 pub field_len : (x : Front) (len : ℕ) → wants.Field len ≡ want_of x → (1 ≤ len) × (len ≤ 28)

@@ -1,5 +1,5 @@
 -- What the refusal of bytes with a fault says, and what no refusal says of an image.
-use Rattle.sfi_check.proofs.Prelude.{◌≡◌, ◌≢◌, ◌⊎◌, ℕ, List, [], Bool, true, false, Err, refl, sym, ◌∙◌, inl, inr, subst, append-nil, Part, IsFault, HasFaultNumberWhateverFollows, Finding, IsAccepted, HasFindings, IsVerdictOn, IsFaultOf, StreamAnswer}
+use Rattle.sfi_check.proofs.Prelude.{◌≡◌, ◌≢◌, ◌⊎◌, ℕ, List, [], Bool, true, false, Err, refl, ◌∙◌, inl, inr, subst, append-nil, Part, IsFault, HasFaultNumberWhateverFollows, Finding, IsAccepted, IsVerdictOn, IsFaultOf, StreamAnswer}
 use Rattle.sfi_check.specs.Refusals.{refusal_of, IfLayoutFault, IfFindings}
 use Rattle.sfi_check.specs.declared.refusal.Refusal.{Refusal}
 use Rattle.sfi_check.specs.declared.refusal.Refusal.TheVariants as refusals
@@ -37,11 +37,6 @@ accepted_by bytes (answers.Findings count first) ps v others came image = absurd
 accepted_by bytes answers.ReadFault ps v others came image = absurd (came refl)
 
 -- ---- and those that it does
-
-pub listed_means : (bytes : List ℕ) (found : List Finding) (r : Refusal) → HasFindings bytes found → IfFindings (λ l. l ≡ found) r → IfFindings (HasFindings bytes) r
-listed_means bytes found (refusals.Layout k) has is = tt
-listed_means bytes found (refusals.Findings l) has is = subst (λ (l : List Finding). HasFindings bytes l) (sym is) has
-listed_means bytes found refusals.Memory has is = tt
 
 pub listed_answers : (found others : List Finding) (r : Refusal) → found ≡ others → IfLayoutFault (λ k. ⊥) r → IfFindings (λ l. l ≡ found) r → AnswersFindings {A = List Part} others (Err r)
 listed_answers found others (refusals.Layout k) same none is = absurd none
