@@ -1,5 +1,5 @@
--- The lines of a bundle: each instruction goes before the lines of what is after it.
-use Rattle.sfi_report.proofs.Prelude.{◌≡◌, ℕ, ◌+◌, ◌-◌, ◌≤◌, List, [], ◌∷◌, ◌++◌, length, take, drop, refl, sym, ap, ◌∙◌, subst, inl, inr, arith, append_assoc, length-take, append-nil, drop-drop, take_all, Read, IsBundleListing, Adds}
+-- The lines of a unit: each instruction goes before the lines of what is after it.
+use Rattle.sfi_report.proofs.Prelude.{◌≡◌, ℕ, ◌+◌, ◌-◌, ◌≤◌, List, [], ◌∷◌, ◌++◌, length, take, drop, refl, sym, ap, ◌∙◌, subst, inl, inr, arith, append_assoc, length-take, append-nil, drop-drop, take_all, Read, IsUnitListing, Adds}
 use Rattle.std.proofs.Common.{◌%◌, length-drop}
 use Rattle.std.proofs.lemmas.List.{drop_all}
 use Rattle.rv_word.specs.declared.instr.Instr.{Instr}
@@ -52,7 +52,7 @@ longest_of_stuck bytes stuck = record { is_reading = tt; longest = most }
 
 line_then : (at : ℕ) (bytes : List ℕ) (i : Instr) (n : ℕ) (rest : List ℕ) → Spells (take n bytes) i n
     → ((j : Instr) (m : ℕ) → Spells (take m bytes) j m → Read i n ≡ Read j m)
-    → IsBundleListing (at + n) (drop n bytes) rest → IsBundleListing at bytes (instruction_line at (take n bytes) i ++ rest)
+    → IsUnitListing (at + n) (drop n bytes) rest → IsUnitListing at bytes (instruction_line at (take n bytes) i ++ rest)
 line_then at bytes i n rest s only h =
     record {
       reading = record { instr = i; size = n } ∷ h.reading;
@@ -60,49 +60,45 @@ line_then at bytes i n rest s only h =
       text_is = ap (λ t. instruction_line at (take n bytes) i ++ t) h.text_is;
     }
 
-stuck_lines : (at : ℕ) (bytes : List ℕ) → ((i : Instr) (n : ℕ) → Spells (take n bytes) i n → ⊥) → IsBundleListing at bytes (rest_line at bytes)
+stuck_lines : (at : ℕ) (bytes : List ℕ) → ((i : Instr) (n : ℕ) → Spells (take n bytes) i n → ⊥) → IsUnitListing at bytes (rest_line at bytes)
 stuck_lines at bytes stuck = record { reading = []; longest = longest_of_stuck bytes stuck; text_is = refl }
 
--- ---- the walk over a bundle
+-- ---- the walk over a unit
 
 -- at this place, with these lines so far
 pub record Leads (address : ℕ) (bytes : List ℕ) (at : ℕ) (old new : List ℕ) : Type 0 where
   pub lines : List ℕ
   pub new_is : new ≡ old ++ lines
-  pub within : at ≤ 16
-  pub leads : (rest : List ℕ) → IsBundleListing (address + at) (drop at bytes) rest → IsBundleListing address bytes (lines ++ rest)
+  pub within : at ≤ length bytes
+  pub leads : (rest : List ℕ) → IsUnitListing (address + at) (drop at bytes) rest → IsUnitListing address bytes (lines ++ rest)
 
 pub at_first : (address : ℕ) (bytes old : List ℕ) → Leads address bytes 0 old old
 at_first address bytes old = record {
   lines = [];
   new_is = sym (append-nil old);
   within = omega arith;
-  leads = λ rest h. subst (λ a. IsBundleListing a bytes rest) (let same : address + 0 ≡ address = omega arith in same) h;
+  leads = λ rest h. subst (λ a. IsUnitListing a bytes rest) (let same : address + 0 ≡ address = omega arith in same) h;
 }
 
--- what is left of the bundle, as a slice of its 16 bytes
-pub rest_is : (at : ℕ) (bytes : List ℕ) → length bytes ≡ 16 → take (16 - at) (drop at bytes) ≡ drop at bytes
-rest_is at bytes e = take_all (16 - at) (drop at bytes) (omega (arith, length-drop at bytes))
-
-pub next : (address : ℕ) (bytes : List ℕ) (at n : ℕ) (i : Instr) (rest old new more : List ℕ) → length bytes ≡ 16 → rest ≡ drop at bytes
+pub next : (address : ℕ) (bytes : List ℕ) (at n : ℕ) (i : Instr) (rest old new more : List ℕ) → rest ≡ drop at bytes
     → Leads address bytes at old new
     → Spells (take n rest) i n
     → ((j : Instr) (m : ℕ) → Spells (take m rest) j m → Read i n ≡ Read j m)
     → more ≡ new ++ instruction_line (address + at) (take n rest) i
     → Leads address bytes (at + n) old more
-next address bytes at n i rest old new more count is so_far s only e =
+next address bytes at n i rest old new more is so_far s only e =
     let line = instruction_line (address + at) (take n rest) i in
     record {
       lines = so_far.lines ++ line;
       new_is = e ∙ ap (λ t. t ++ line) so_far.new_is ∙ append_assoc old so_far.lines line;
       within = omega (arith, spell_fits rest i n s, ap length is, length-drop at bytes, so_far.within);
       leads = λ later h.
-          let moved = subst (λ a. IsBundleListing a (drop (at + n) bytes) later) (let same : address + (at + n) ≡ address + at + n = omega arith in same) h in
+          let moved = subst (λ a. IsUnitListing a (drop (at + n) bytes) later) (let same : address + (at + n) ≡ address + at + n = omega arith in same) h in
           let left : drop (at + n) bytes ≡ drop n rest = sym (drop-drop n at bytes) ∙ ap (drop n) (sym is) in
-          let here = subst (λ (b : List ℕ). IsBundleListing (address + at + n) b later) left moved in
+          let here = subst (λ (b : List ℕ). IsUnitListing (address + at + n) b later) left moved in
           let lines = line_then (address + at) rest i n later s only here in
-          let lines' = subst (λ (b : List ℕ). IsBundleListing (address + at) b (line ++ later)) is lines in
-          subst (λ (t : List ℕ). IsBundleListing address bytes t) (sym (append_assoc so_far.lines line later)) (so_far.leads (line ++ later) lines');
+          let lines' = subst (λ (b : List ℕ). IsUnitListing (address + at) b (line ++ later)) is lines in
+          subst (λ (t : List ℕ). IsUnitListing address bytes t) (sym (append_assoc so_far.lines line later)) (so_far.leads (line ++ later) lines');
     }
 
 -- where nothing is spelled
@@ -110,10 +106,10 @@ pub at_rest : (address : ℕ) (bytes : List ℕ) (at : ℕ) (rest old new more :
     → Leads address bytes at old new
     → ((i : Instr) (n : ℕ) → Spells (take n rest) i n → ⊥)
     → more ≡ new ++ rest_line (address + at) rest
-    → Adds old more (IsBundleListing address bytes)
+    → Adds old more (IsUnitListing address bytes)
 at_rest address bytes at rest old new more is so_far stuck e =
     let line = rest_line (address + at) rest in
-    let lines = subst (λ (b : List ℕ). IsBundleListing (address + at) b line) is (stuck_lines (address + at) rest stuck) in
+    let lines = subst (λ (b : List ℕ). IsUnitListing (address + at) b line) is (stuck_lines (address + at) rest stuck) in
     record {
       text = so_far.lines ++ line;
       text_is = so_far.leads line lines;
@@ -121,8 +117,8 @@ at_rest address bytes at rest old new more is so_far stuck e =
     }
 
 -- after the last byte
-pub at_last : (address : ℕ) (bytes : List ℕ) (at : ℕ) (old new : List ℕ) → length bytes ≡ 16 → 16 ≤ at
-    → Leads address bytes at old new → Adds old new (IsBundleListing address bytes)
-at_last address bytes at old new count over so_far =
-    let none : [] ≡ drop at bytes = sym (drop_all at bytes (omega arith)) in
+pub at_last : (address : ℕ) (bytes : List ℕ) (at : ℕ) (old new : List ℕ) → length bytes ≤ at
+    → Leads address bytes at old new → Adds old new (IsUnitListing address bytes)
+at_last address bytes at old new over so_far =
+    let none : [] ≡ drop at bytes = sym (drop_all at bytes over) in
     at_rest address bytes at [] old new new none so_far (λ i n s. let fits = spell_fits [] i n s in omega arith) (sym (append-nil new))

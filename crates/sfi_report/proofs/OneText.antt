@@ -1,13 +1,15 @@
 -- Findings have one report, an image has one listing, and the state of a sandbox one text.
-use Rattle.sfi_report.proofs.Prelude.{◌≡◌, ℕ, zero, suc, ◌+◌, ◌-◌, ◌*◌, List, [], ◌∷◌, ◌++◌, take, drop, sym, ap, ◌∙◌, subst, arith, Some, flat_map, Part, format_of, Finding, V1, bundle_bytes, IsFindingLine, gate_line, format_line, IsBundleListing, IsSandboxListing, registers_text}
+use Rattle.sfi_report.proofs.Prelude.{◌≡◌, ℕ, zero, suc, ◌+◌, ◌-◌, ◌*◌, List, [], ◌∷◌, ◌++◌, take, drop, sym, ap, ◌∙◌, subst, arith, Some, flat_map, Part, format_of, Format, Finding, V1, IsFindingLine, gate_line, format_line, IsUnitListing, IsSandboxListing, registers_text}
 use Rattle.std.proofs.Common.{get_or-take}
 use Rattle.rv_comp.specs.declared.front.Front.{Front}
 use Rattle.rv_text.specs.Printed.{printed}
+use Rattle.sfi_policy.specs.Formats.{unit}
+use Rattle.sfi_policy.specs.declared.format.Format.TheVariants.{Sfi1, Sfi2, Sfiw}
 use Rattle.sfi_rules.specs.declared.rule.Rule.{Rule}
 use Rattle.sfi_rules.specs.declared.rule.Rule.TheVariants.{V2, V9}
 use Rattle.sfi_report.specs.Digits.{line_end}
 use Rattle.sfi_report.specs.Report.{IsInstructionText, IsPlaceText, line_front}
-use Rattle.sfi_report.specs.Listing.{reading_lines, sandbox_line, IsListingOfFirst, IsCodeListing, IsListingFrom}
+use Rattle.sfi_report.specs.Listing.{reading_lines, unit_bytes, sandbox_line, IsListingOfFirst, IsCodeListing, IsListingFrom}
 use Rattle.sfi_report.specs.State.{code_from, place_line, state_front}
 use Rattle.sfi_report.specs.Laws.{OneReport, OneListing, OneState}
 use Rattle.rv_comp.proofs.Facts.{one_front, one_spelling}
@@ -43,20 +45,25 @@ one_report ps (f ∷ found) text other a b =
 
 -- ---- listings
 
-one_bundle : (at : ℕ) (bytes text other : List ℕ) → IsBundleListing at bytes text → IsBundleListing at bytes other → text ≡ other
-one_bundle at bytes text other a b = a.text_is ∙ ap (reading_lines at bytes) (one_longest_reading bytes a.reading b.reading a.longest b.longest) ∙ sym b.text_is
+one_unit : (at : ℕ) (bytes text other : List ℕ) → IsUnitListing at bytes text → IsUnitListing at bytes other → text ≡ other
+one_unit at bytes text other a b = a.text_is ∙ ap (reading_lines at bytes) (one_longest_reading bytes a.reading b.reading a.longest b.longest) ∙ sym b.text_is
 
 one_of_first : (p : Part) (n : ℕ) (text other : List ℕ) → IsListingOfFirst p n text → IsListingOfFirst p n other → text ≡ other
 one_of_first p zero text other a b = a ∙ sym b
 one_of_first p (suc n) text other a b =
     let front = one_of_first p n a.0 b.0 a.2 b.2 in
-    let last = one_bundle (p.code_base + 16 * n) (bundle_bytes p n) a.1 b.1 a.3 b.3 in
+    let last = one_unit (p.code_base + unit p.format * n) (unit_bytes p n) a.1 b.1 a.3 b.3 in
     a.4 ∙ ap (λ l. l ++ a.1) front ∙ ap (λ l. b.0 ++ l) last ∙ sym b.4
+
+one_count : (format : Format) (n m : ℕ) → unit format * n ≡ unit format * m → n ≡ m
+one_count Sfi1 n m e = let same : 16 * n ≡ 16 * m = e in omega arith
+one_count Sfi2 n m e = let same : 16 * n ≡ 16 * m = e in omega arith
+one_count Sfiw n m e = let same : 4 * n ≡ 4 * m = e in omega arith
 
 one_code : (p : Part) (text other : List ℕ) → IsCodeListing p text → IsCodeListing p other → text ≡ other
 one_code p text other a b =
-    let same : a.bundles ≡ b.bundles = let e = a.whole in let f = b.whole in omega arith in
-    one_of_first p b.bundles text other (subst (λ n. IsListingOfFirst p n text) same a.text_is) b.text_is
+    let same = one_count p.format a.units b.units (sym a.whole ∙ b.whole) in
+    one_of_first p b.units text other (subst (λ n. IsListingOfFirst p n text) same a.text_is) b.text_is
 
 one_sandbox : (sandbox : ℕ) (p : Part) (text other : List ℕ) → IsSandboxListing sandbox p text → IsSandboxListing sandbox p other → text ≡ other
 one_sandbox sandbox p text other a b =

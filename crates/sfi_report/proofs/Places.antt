@@ -1,5 +1,5 @@
 -- Each finding stands at a place of a part: what the code begins with there.
-use Rattle.sfi_report.proofs.Prelude.{◌≡◌, ℕ, zero, suc, ◌+◌, ◌-◌, ◌*◌, ◌≤◌, List, [], ◌∷◌, length, take, drop, refl, sym, ap, ◌∙◌, subst, inl, inr, arith, Some, length-take, drop-drop, Part, V1, Finding, bundle_bytes, Stands}
+use Rattle.sfi_report.proofs.Prelude.{◌≡◌, ℕ, zero, suc, ◌+◌, ◌-◌, ◌*◌, ◌≤◌, List, [], ◌∷◌, length, take, drop, refl, sym, ap, ◌∙◌, subst, inl, inr, arith, Some, length-take, drop-drop, Part, V1, Finding, Stands}
 use Rattle.std.proofs.Common.{◌%◌, Bool, true, false, cond, Option, None, length-drop}
 use Rattle.std.specs.Prelude.{slice_get, MatchBool}
 use Rattle.std.specs.Int.{w16, from_le_bytes}
@@ -14,7 +14,7 @@ use Rattle.rv_comp.specs.Fronts.{Spells}
 use Rattle.sfi_image.specs.declared.bundle.BundlePlace.{BundlePlace}
 use Rattle.sfi_rules.specs.declared.rule.Rule.{Rule}
 use Rattle.sfi_rules.specs.declared.rule.Rule.TheVariants.{V2, V9}
-use Rattle.sfi_rules.specs.Bundles.{place_of}
+use Rattle.sfi_rules.specs.Bundles.{bundle_bytes, place_of}
 use Rattle.sfi_rules.specs.Readings.{Piece, IsReading, rest_of}
 use Rattle.sfi_rules.specs.Rules.{breaks}
 use Rattle.sfi_rules.specs.Findings.{broken, lowest, all_rules, findings_from, rest_finding, rule_of_length, AreBundleFindings, AreFindingsOfFirst, AreFindingsInBundles, AreFindings, AreFindingsFrom, AreImageFindings}

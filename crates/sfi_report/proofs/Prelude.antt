@@ -8,10 +8,9 @@ pub use Rattle.rv_comp.specs.declared.front.Front.TheVariants.{Read}
 pub use Rattle.sfi_image.specs.Spelling.{view, format_of, Part}
 pub use Rattle.sfi_image.specs.declared.part.SandboxPart.{SandboxPart}
 pub use Rattle.sfi_policy.specs.declared.format.Format.{Format}
-pub use Rattle.sfi_rules.specs.Bundles.{bundle_bytes}
 pub use Rattle.sfi_rules.specs.declared.finding.Finding.{Finding}
 pub use Rattle.sfi_rules.specs.declared.rule.Rule.TheVariants.{V1}
-pub use Rattle.sfi_report.specs.Listing.{gate_line, IsBundleListing, IsSandboxListing}
+pub use Rattle.sfi_report.specs.Listing.{gate_line, IsUnitListing, IsSandboxListing}
 unfoldable pub use Rattle.sfi_report.specs.Listing.{format_line}
 pub use Rattle.sfi_report.specs.Report.{IsFindingLine, IsReport}
 pub use Rattle.sfi_report.specs.State.{registers_text}

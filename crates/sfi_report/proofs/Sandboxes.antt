@@ -1,45 +1,65 @@
--- The listing of sandboxes and of an image, one bundle and one sandbox more.
-use Rattle.sfi_report.proofs.Prelude.{◌≡◌, ℕ, zero, suc, ◌+◌, ◌*◌, ◌≤◌, List, [], ◌∷◌, ◌++◌, length, get_or, take, drop, refl, sym, ap, ◌∙◌, subst, arith, append_assoc, flat_map, append-nil, drop-drop, take_all, length-take, Format, SandboxPart, Part, view, format_of, bundle_bytes, Adds, gate_line, IsBundleListing, IsSandboxListing, format_line}
-use Rattle.std.proofs.Common.{◌<◌, add-zero}
+-- The listing of sandboxes and of an image, one unit and one sandbox more.
+use Rattle.sfi_report.proofs.Prelude.{◌≡◌, ℕ, zero, suc, ◌+◌, ◌*◌, ◌≤◌, List, [], ◌∷◌, ◌++◌, length, get_or, take, drop, refl, sym, ap, ◌∙◌, subst, arith, append_assoc, flat_map, append-nil, drop-drop, take_all, length-take, Format, SandboxPart, Part, view, format_of, Adds, gate_line, IsUnitListing, IsSandboxListing, format_line}
+use Rattle.std.proofs.Common.{◌<◌, ◌^◌, add-zero}
 use Rattle.std.specs.List.{All}
-use Rattle.std.specs.Simd.{first_chunks}
 use Rattle.std.proofs.lemmas.List.{take_more, length-map, get_or-map}
+use Rattle.sfi_policy.specs.Formats.{unit}
+use Rattle.sfi_policy.specs.declared.format.Format.TheVariants.{Sfi1, Sfi2, Sfiw}
 use Rattle.sfi_image.specs.Spelling.{views}
 use Rattle.sfi_image.specs.Parts.{IsRightPart, IsRightLayout}
+use Rattle.sfi_image.proofs.Facts.{whole_bundles}
 use Rattle.sfi_report.specs.Listing.{sandbox_line, IsListingOfFirst, IsCodeListing, IsListingFrom, IsListing}
 
--- a chunk of 16 bytes is the bundle of its number
-pub chunk_at : (count k : ℕ) (xs : List ℕ) → k < count → get_or (first_chunks 16 count xs) k [] ≡ take 16 (drop (16 * k) xs)
-chunk_at zero k xs h = absurd (omega arith)
-chunk_at (suc count) zero xs h = refl
-chunk_at (suc count) (suc k) xs h =
-    chunk_at count k (drop 16 xs) (omega arith)
-    ∙ ap (take 16) (drop-drop (16 * k) 16 xs ∙ ap (λ n. drop n xs) (let e : 16 + 16 * k ≡ 16 * suc k = omega arith in e))
+-- before the end of whole bundles there is a whole unit, and one unit more is that many
+unit_there : (format : Format) (n m at size : ℕ) → size ≡ 16 * n → at ≡ unit format * m → at < size → (at + unit format ≤ size) × (at + unit format ≡ unit format * suc m)
+unit_there Sfi1 n m at size whole e less = let same : at ≡ 16 * m = e in (omega arith, omega arith)
+unit_there Sfi2 n m at size whole e less = let same : at ≡ 16 * m = e in (omega arith, omega arith)
+unit_there Sfiw n m at size whole e less = let same : at ≡ 4 * m = e in (omega arith, omega arith)
 
--- the listing of the first bundles after the text
-pub record IsListedTo (p : Part) (n : ℕ) (old new : List ℕ) : Type 0 where
+-- the listing of the units before this offset after the text
+pub record IsListedTo (p : Part) (at : ℕ) (old new : List ℕ) : Type 0 where
+  pub units : ℕ
+  pub at_is : at ≡ unit p.format * units
+  pub within : at ≤ length p.code
   pub text : List ℕ
-  pub text_is : IsListingOfFirst p n text
+  pub text_is : IsListingOfFirst p units text
   pub new_is : new ≡ old ++ text
 
 pub empty_listing : (p : Part) (old : List ℕ) → IsListedTo p 0 old old
-empty_listing p old = record { text = []; text_is = refl; new_is = sym (append-nil old) }
+empty_listing p old = record { units = 0; at_is = zero_times (unit p.format); within = omega arith; text = []; text_is = refl; new_is = sym (append-nil old) }
+  where
+    zero_times : (n : ℕ) → 0 ≡ n * 0
+    zero_times n = omega arith
 
-pub one_bundle_more : (p : Part) (n : ℕ) (bytes old new more : List ℕ) → bytes ≡ bundle_bytes p n
-    → IsListedTo p n old new → Adds new more (IsBundleListing (p.code_base + 16 * n) bytes) → IsListedTo p (n + 1) old more
-one_bundle_more p n bytes old new more is so_far here =
-    let here' = subst (λ (b : List ℕ). IsBundleListing (p.code_base + 16 * n) b here.text) is here.text_is in
-    let text = so_far.text ++ here.text in
-    let listed : IsListingOfFirst p (suc n) text = (so_far.text, here.text, so_far.text_is, here', refl) in
+-- the next unit ends within the code, and that at or below 2 ^ 32
+pub unit_fits : (p : Part) (size at : ℕ) (old new : List ℕ) → IsRightPart p → size ≡ unit p.format → IsListedTo p at old new → at < length p.code
+    → (at + size ≤ length p.code) × (p.code_base + length p.code ≤ 2 ^ 32)
+unit_fits p size at old new right is so_far less =
+    let whole = whole_bundles p.format p.code_base (length p.code) right.code_base right.code_placed in
+    let there = unit_there p.format whole.0 so_far.units at (length p.code) whole.2 so_far.at_is less in
+    (subst (λ n. at + n ≤ length p.code) (sym is) there.0, whole.4)
+
+pub one_unit_more : (p : Part) (size at : ℕ) (old new more : List ℕ) → IsRightPart p → size ≡ unit p.format → at < length p.code → IsListedTo p at old new
+    → Adds new more (IsUnitListing (p.code_base + at) (take size (drop at p.code))) → IsListedTo p (at + size) old more
+one_unit_more p size at old new more right is less so_far here =
+    let n = so_far.units in
+    let whole = whole_bundles p.format p.code_base (length p.code) right.code_base right.code_placed in
+    let there = unit_there p.format whole.0 n at (length p.code) whole.2 so_far.at_is less in
+    let sized = subst (λ m. IsUnitListing (p.code_base + at) (take m (drop at p.code)) here.text) is here.text_is in
+    let last = subst (λ k. IsUnitListing (p.code_base + k) (take (unit p.format) (drop k p.code)) here.text) so_far.at_is sized in
     record {
-      text = text;
-      text_is = subst (λ k. IsListingOfFirst p k text) (let k : suc n ≡ n + 1 = omega arith in k) listed;
+      units = suc n;
+      at_is = ap (λ m. at + m) is ∙ there.1;
+      within = (unit_fits p size at old new right is so_far less).0;
+      text = so_far.text ++ here.text;
+      text_is = (so_far.text, here.text, so_far.text_is, last, refl);
       new_is = here.new_is ∙ ap (λ t. t ++ here.text) so_far.new_is ∙ append_assoc old so_far.text here.text;
     }
 
-pub all_bundles : (p : Part) (n : ℕ) (old new : List ℕ) → length p.code ≡ 16 * n → IsListedTo p n old new → Adds old new (IsCodeListing p)
-all_bundles p n old new whole so_far =
-    record { text = so_far.text; text_is = record { bundles = n; whole = whole; text_is = so_far.text_is }; new_is = so_far.new_is }
+pub all_units : (p : Part) (at : ℕ) (old new : List ℕ) → length p.code ≤ at → IsListedTo p at old new → Adds old new (IsCodeListing p)
+all_units p at old new over so_far =
+    let all : length p.code ≡ at = omega (arith, so_far.within) in
+    record { text = so_far.text; text_is = record { units = so_far.units; whole = all ∙ so_far.at_is; text_is = so_far.text_is }; new_is = so_far.new_is }
 
 -- a sandbox's listing: its fields and gates, and then its code
 pub whole_sandbox : (sandbox : ℕ) (p : Part) (old fields gates new : List ℕ)

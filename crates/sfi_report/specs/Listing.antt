@@ -5,14 +5,13 @@ use Rattle.rv_word.specs.declared.instr.Instr.{Instr}
 use Rattle.sfi_policy.specs.declared.format.Format.{Format}
 use Rattle.sfi_policy.specs.declared.format.Format.TheVariants.{Sfi1, Sfi2, Sfiw}
 use Rattle.rv_text.specs.Printed.{printed}
-use Rattle.sfi_policy.specs.Limits.{bundle_size}
+use Rattle.sfi_policy.specs.Formats.{unit}
 use Rattle.sfi_image.specs.Spelling.{Part, format_of}
 use Rattle.sfi_image.specs.declared.part.Gate.{Gate}
-use Rattle.sfi_rules.specs.Bundles.{bundle_bytes}
 use Rattle.sfi_rules.specs.Readings.{Piece, IsLongestReading}
 use Rattle.sfi_report.specs.Digits.{hex_digits, line_end, word_digits}
 
--- ---- of a bundle
+-- ---- of a unit of code
 
 -- an instruction: its address, its number, its text
 abbrev pub instruction_line : ℕ → List ℕ → Instr → List ℕ
@@ -33,7 +32,7 @@ reading_lines at bytes (x ∷ reading) =
     ++ reading_lines (at + x.size) (drop x.size bytes) reading
 
 -- the lines of the longest reading
-pub record IsBundleListing (at : ℕ) (bytes text : List ℕ) : Type 0 where
+pub record IsUnitListing (at : ℕ) (bytes text : List ℕ) : Type 0 where
   pub reading : List Piece
   pub longest : IsLongestReading bytes reading
   pub text_is : text ≡ reading_lines at bytes reading
@@ -58,19 +57,23 @@ sandbox_line sandbox p =
 abbrev pub gate_line : Gate → List ℕ
 gate_line g = codes "gate " ++ hex_digits 8 g.address ++ codes " " ++ decimal g.service ++ line_end
 
--- the first n bundles of its code
+-- the bytes of its code's unit of that number
+abbrev pub unit_bytes : Part → ℕ → List ℕ
+unit_bytes p n = take (unit p.format) (drop (unit p.format * n) p.code)
+
+-- the first n units of its code
 abbrev pub IsListingOfFirst : Part → ℕ → List ℕ → Type 0
 IsListingOfFirst p zero text = text ≡ []
 IsListingOfFirst p (suc n) text =
     (front : List ℕ) × (last : List ℕ) × IsListingOfFirst p n front
-    × IsBundleListing (p.code_base + bundle_size * n) (bundle_bytes p n) last
+    × IsUnitListing (p.code_base + unit p.format * n) (unit_bytes p n) last
     × (text ≡ front ++ last)
 
--- all bundles of its code
+-- all units of its code
 pub record IsCodeListing (p : Part) (text : List ℕ) : Type 0 where
-  pub bundles : ℕ
-  pub whole : length p.code ≡ bundle_size * bundles
-  pub text_is : IsListingOfFirst p bundles text
+  pub units : ℕ
+  pub whole : length p.code ≡ unit p.format * units
+  pub text_is : IsListingOfFirst p units text
 
 -- its fields, its gates, and its code
 pub record IsSandboxListing (sandbox : ℕ) (p : Part) (text : List ℕ) : Type 0 where

@@ -1,8 +1,8 @@
 //! The report on an image's findings, and the listing of an image.
 //!
 //! [`report_text`] writes a line for each finding, with the instruction that stands there.
-//! [`listing_text`] writes each sandbox's fields, its gates, and its code as instructions, bundle
-//! by bundle, as the rules read it. `specs/Report.antt` and `specs/Listing.antt` are these texts.
+//! [`listing_text`] writes each sandbox's fields, its gates, and its code as instructions, unit by
+//! unit, as the rules read it. `specs/Report.antt` and `specs/Listing.antt` are these texts.
 //! [`push_eight_digits`] writes a number as an address is written in them.
 #![tactic(auto)]
 

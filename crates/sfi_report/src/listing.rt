@@ -1,9 +1,8 @@
 //! The listing of an image.
 ghost use Rattle.std.specs.Prelude.{◌≡◌, ◌+◌, ◌^◌, ◌<◌, ◌≤◌, ◌++◌, ◌⊎◌, OnOk, IfOk, length, string_bytes};
-ghost use Rattle.sfi_policy.specs.Limits.{bundle_size};
 ghost use Rattle.sfi_image.specs.Spelling.{view};
 ghost use Rattle.sfi_image.specs.Parts.{IsRightPart};
-ghost use Rattle.sfi_report.specs.Listing.{instruction_line, rest_line, sandbox_line, region_text, gate_line, format_line, IsBundleListing, IsCodeListing, IsSandboxListing, IsListing};
+ghost use Rattle.sfi_report.specs.Listing.{instruction_line, rest_line, sandbox_line, region_text, gate_line, format_line, IsUnitListing, IsCodeListing, IsSandboxListing, IsListing};
 ghost use Rattle.sfi_report.specs.private.{Adds};
 
 use crate::digits::{push_eight_digits, push_two_digits, push_word};
@@ -11,7 +10,7 @@ use rv_comp::{Front, read_front};
 use rv_text::push_instr;
 use rv_word::Instr;
 use sfi_image::{Gate, Image, SandboxPart};
-use sfi_policy::{BUNDLE_BYTES, BUNDLE_SIZE, Format};
+use sfi_policy::Format;
 use std::alloc::{AllocError, Global};
 
 /// Writes the line of an instruction with these bytes.
@@ -47,14 +46,14 @@ fn push_rest(out: &mut String, address: u32, bytes: &[u8]) -> Result<(), AllocEr
     out.push_str("\n")
 }
 
-/// Writes the lines of the bundle at the address.
-fn push_bundle(out: &mut String, address: u32, bytes: &[u8; BUNDLE_BYTES]) -> Result<(), AllocError>
-    requires { address + bundle_size ≤ 2 ^ 32 }
+/// Writes the lines of the unit of code at the address.
+fn push_unit(out: &mut String, address: u32, bytes: &[u8]) -> Result<(), AllocError>
+    requires { address + length bytes.now ≤ 2 ^ 32 }
     ensures { OnOk result (Adds (string_bytes out.old) (string_bytes out.new)
-        (IsBundleListing address bytes.now)) }
+        (IsUnitListing address bytes.now)) }
 {
     let mut at = 0;
-    while at < BUNDLE_BYTES {
+    while at < bytes.len() {
         let rest = &bytes[at..];
         let here = address + at as u32;
         match read_front(rest) {
@@ -105,26 +104,35 @@ fn push_gate(out: &mut String, gate: &Gate) -> Result<(), AllocError>
 }
 
 /// Writes the lines of a sandbox.
-fn push_sandbox(out: &mut String, sandbox: u32, part: &SandboxPart) -> Result<(), AllocError>
-    requires { (format : Format) × IsRightPart (view format part.now) }
-    ensures { (format : Format) → OnOk result (Adds (string_bytes out.old) (string_bytes out.new)
+fn push_sandbox(
+    out: &mut String,
+    format: Format,
+    sandbox: u32,
+    part: &SandboxPart,
+) -> Result<(), AllocError>
+    requires { IsRightPart (view format part.now) }
+    ensures { OnOk result (Adds (string_bytes out.old) (string_bytes out.new)
         (IsSandboxListing sandbox (view format part.now))) }
 {
     push_fields(out, sandbox, part)?;
     for gate in &part.gates {
         push_gate(out, gate)?;
     }
-    push_code(out, part)
+    push_code(out, format, part)
 }
 
-/// Writes the lines of a sandbox's bundles.
-fn push_code(out: &mut String, part: &SandboxPart) -> Result<(), AllocError>
-    requires { (format : Format) × IsRightPart (view format part.now) }
-    ensures { (format : Format) → OnOk result (Adds (string_bytes out.old) (string_bytes out.new)
+/// Writes the lines of a sandbox's code, unit by unit.
+fn push_code(out: &mut String, format: Format, part: &SandboxPart) -> Result<(), AllocError>
+    requires { IsRightPart (view format part.now) }
+    ensures { OnOk result (Adds (string_bytes out.old) (string_bytes out.new)
         (IsCodeListing (view format part.now))) }
 {
-    for (k, bytes) in part.code.as_chunks::<BUNDLE_BYTES>().0.iter().enumerate() {
-        push_bundle(out, part.code_base + BUNDLE_SIZE * k as u32, bytes)?;
+    let unit = format.unit() as usize;
+    let mut at = 0;
+    while at < part.code.len() {
+        let end = at + unit;
+        push_unit(out, part.code_base + at as u32, &part.code[at..end])?;
+        at = end;
     }
     Ok(())
 }
@@ -144,15 +152,16 @@ fn push_format(out: &mut String, format: Format) -> Result<(), AllocError>
 /// The listing of an image: a line of its format, but for the first; then for each sandbox a line
 /// of its fields, a line for each gate, and a line for each instruction.
 ///
-/// Each bundle is read from its first byte, as the rules read it. Where reading stops before the
-/// bundle's end, a line `.bytes` has what is left. The one error is that an allocation was refused.
+/// Each unit of code is read from its first byte, as the rules read it. Where reading stops before
+/// the unit's end, a line `.bytes` has what is left. The one error is that an allocation was refused.
 pub fn listing_text(alloc: Global, image: &Image<'_>) -> Result<String, AllocError>
     ensures text { IfOk result (λ text. IsListing image.now (string_bytes text)) }
 {
     let mut out = String::new(alloc);
-    push_format(&mut out, image.format())?;
+    let format = image.format();
+    push_format(&mut out, format)?;
     for (sandbox, part) in image.parts().iter().enumerate() {
-        push_sandbox(&mut out, sandbox as u32, part)?;
+        push_sandbox(&mut out, format, sandbox as u32, part)?;
     }
     Ok(out)
 }

@@ -1,41 +1,38 @@
-use Rattle.sfi_report.proofs.Prelude.{ℕ, List, length, get_or, [], ◌∙◌, ap, arith, string_bytes, view}
-use Rattle.std.proofs.Common.{◌/◌}
-use Rattle.sfi_image.proofs.Facts.{whole_bundles}
-use Rattle.sfi_report.proofs.Sandboxes.{empty_listing, one_bundle_more, all_bundles, chunk_at}
+use Rattle.sfi_report.proofs.Prelude.{◌≡◌, ◌+◌, ◌-◌, ◌≤◌, length, take, drop, subst, arith, length-take, string_bytes, view, Adds, IsUnitListing}
+use Rattle.std.proofs.Common.{◌^◌, length-drop}
+use Rattle.sfi_report.proofs.Sandboxes.{unit_fits, one_unit_more}
 use Rattle.sfi_report.proofs.listing.push_code.Goals as goal
-
-pub loop-k-init : goal.loop-k-init
-loop-k-init c = λ format. empty_listing (view format c.args.part.now) (string_bytes c.args.out.now)
 
 pub overflow_add-part : goal.overflow_add-part
 overflow_add-part c =
-    let whole = whole_bundles c.requires.0 c.args.part.now.code_base (length c.args.part.now.code.now) c.requires.1.code_base c.requires.1.code_placed in
-    let end = whole.4 in
-    let count = c.as_chunks.ensures.front_len in
-    let below = c.loop-k-test.true in
+    let fits = unit_fits (view c.args.format c.args.part.now) c.unit-unit.result c.loop-at.at _ _ c.requires c.unit-unit.ensures c.loop-at.invariant c.loop-at-test.true in
+    let end : c.args.part.now.code_base + length c.args.part.now.code.now ≤ 2 ^ 32 = fits.1 in
+    let less = c.loop-at-test.true in
     omega arith
 
-pub push_bundle-requires : goal.push_bundle-requires
-push_bundle-requires c =
-    let whole = whole_bundles c.requires.0 c.args.part.now.code_base (length c.args.part.now.code.now) c.requires.1.code_base c.requires.1.code_placed in
-    let end = whole.4 in
-    let count = c.as_chunks.ensures.front_len in
-    let below = c.loop-k-test.true in
-    omega arith
+pub slice_bounds-push_unit-end : goal.slice_bounds-push_unit-end
+slice_bounds-push_unit-end c =
+    let fits = unit_fits (view c.args.format c.args.part.now) c.unit-unit.result c.loop-at.at _ _ c.requires c.unit-unit.ensures c.loop-at.invariant c.loop-at-test.true in
+    let within : c.loop-at.at + c.unit-unit.result ≤ length c.args.part.now.code.now = fits.0 in
+    omega (arith, within, length-drop c.loop-at.at c.args.part.now.code.now)
 
-pub loop-k-preserved : goal.loop-k-preserved
-loop-k-preserved c = λ format.
-    let k = c.loop-k.k in
+pub push_unit-requires : goal.push_unit-requires
+push_unit-requires c =
+    let at = c.loop-at.at in
     let code = c.args.part.now.code.now in
-    one_bundle_more (view format c.args.part.now) k _ (string_bytes c.args.out.now) (string_bytes c.loop-k.out) (string_bytes c.push_bundle.new.out)
-    (ap (λ (l : List (List ℕ)). get_or l k []) c.as_chunks.ensures.front ∙ chunk_at (length code / 16) k code (let below = c.loop-k-test.true in let count = c.as_chunks.ensures.front_len in omega arith))
-    (c.loop-k.invariant format) c.in_ok-push_bundle.ensures
+    let size = c.unit-unit.result in
+    let fits = unit_fits (view c.args.format c.args.part.now) size at _ _ c.requires c.unit-unit.ensures c.loop-at.invariant c.loop-at-test.true in
+    let end : c.args.part.now.code_base + length code ≤ 2 ^ 32 = fits.1 in
+    let less = c.loop-at-test.true in
+    omega (arith, end, less, length-take (at + size - at) (drop at code), length-drop at code)
 
-pub returns : goal.returns
-returns c = λ format.
-    let whole = whole_bundles c.requires.0 c.args.part.now.code_base (length c.args.part.now.code.now) c.requires.1.code_base c.requires.1.code_placed in
-    let size = whole.2 in
-    let count = c.as_chunks.ensures.front_len in
-    let over = c.loop-k-test.false in
-    let most = c.loop-k.auto.k-end in
-    all_bundles (view format c.args.part.now) c.loop-k.k (string_bytes c.args.out.now) (string_bytes c.loop-k.out) (omega arith) (c.loop-k.invariant format)
+pub loop-at-preserved : goal.loop-at-preserved
+loop-at-preserved c =
+    let at = c.loop-at.at in
+    let part = c.args.part.now in
+    let size = c.unit-unit.result in
+    let old = string_bytes c.loop-at.out in
+    let new = string_bytes c.push_unit.new.out in
+    let cut : at + size - at ≡ size = omega arith in
+    let here = subst (λ n. Adds old new (IsUnitListing (part.code_base + at) (take n (drop at part.code.now)))) cut c.in_ok-push_unit.ensures in
+    one_unit_more (view c.args.format part) size at (string_bytes c.args.out.now) old new c.requires c.unit-unit.ensures c.loop-at-test.true c.loop-at.invariant here

@@ -1,7 +1,10 @@
-use Rattle.sfi_report.proofs.Prelude.{string_bytes, Format, view}
+use Rattle.sfi_report.proofs.Prelude.{◌-◌, length, string_bytes, view}
 use Rattle.sfi_report.proofs.Sandboxes.{IsListedTo}
 use Rattle.sfi_report.proofs.listing.push_code.Given as goal
 
--- the bundles so far are listed
-abbrev pub invariant-loop-k : goal.invariant-loop-k
-invariant-loop-k l = (format : Format) → IsListedTo (view format l.part) l.k (string_bytes l.fn.out) (string_bytes l.out)
+-- the units so far are listed
+abbrev pub invariant-loop-at : goal.invariant-loop-at
+invariant-loop-at l = IsListedTo (view l.fn.format l.part) l.at (string_bytes l.fn.out) (string_bytes l.out)
+
+abbrev pub decreases-loop-at : goal.decreases-loop-at
+decreases-loop-at l = length l.part.code.now - l.at

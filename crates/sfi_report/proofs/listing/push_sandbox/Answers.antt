@@ -4,13 +4,13 @@ use Rattle.sfi_report.proofs.Sandboxes.{whole_sandbox}
 use Rattle.sfi_report.proofs.listing.push_sandbox.Goals as goal
 
 pub returns : goal.returns
-returns c = λ format.
+returns c =
     let fields = string_bytes c.push_fields.new.out in
     let items = c.deref-gate-items.result.now in
     let all = take_all c.loop-gate.gate-index items c.loop-gate-test.false ∙ c.deref-gate-items.ensures.value in
     let gates : string_bytes c.loop-gate.out ≡ fields ++ flat_map gate_line c.args.part.now.gates.items =
     c.loop-gate.invariant ∙ ap (λ (l : List Gate). fields ++ flat_map gate_line l) all in
     on_ok_weaker c.push_code.result
-    (λ code. whole_sandbox c.args.sandbox (view format c.args.part.now) (string_bytes c.args.out.now) fields (string_bytes c.loop-gate.out) (string_bytes c.push_code.new.out)
-    (c.in_ok-push_fields.ensures format) gates code)
-    (c.push_code.ensures format)
+    (λ code. whole_sandbox c.args.sandbox (view c.args.format c.args.part.now) (string_bytes c.args.out.now) fields (string_bytes c.loop-gate.out) (string_bytes c.push_code.new.out)
+    (c.in_ok-push_fields.ensures c.args.format) gates code)
+    c.push_code.ensures
