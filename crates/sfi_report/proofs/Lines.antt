@@ -1,5 +1,5 @@
 -- The lines of a unit: each instruction goes before the lines of what is after it.
-use Rattle.sfi_report.proofs.Prelude.{◌≡◌, ℕ, ◌+◌, ◌-◌, ◌≤◌, List, [], ◌∷◌, ◌++◌, length, take, drop, refl, sym, ap, ◌∙◌, subst, inl, inr, arith, append_assoc, length-take, append-nil, drop-drop, take_all, Read, IsUnitListing, Adds}
+use Rattle.sfi_report.proofs.Prelude.{◌≡◌, ℕ, ◌+◌, ◌≤◌, List, [], ◌∷◌, ◌++◌, length, take, drop, refl, sym, ap, ◌∙◌, subst, inl, inr, arith, append_assoc, length-take, append-nil, drop-drop, Read, IsUnitListing, Adds}
 use Rattle.std.proofs.Common.{◌%◌, length-drop}
 use Rattle.std.proofs.lemmas.List.{drop_all}
 use Rattle.rv_word.specs.declared.instr.Instr.{Instr}

@@ -1,5 +1,5 @@
 -- The listing of sandboxes and of an image, one unit and one sandbox more.
-use Rattle.sfi_report.proofs.Prelude.{◌≡◌, ℕ, zero, suc, ◌+◌, ◌*◌, ◌≤◌, List, [], ◌∷◌, ◌++◌, length, get_or, take, drop, refl, sym, ap, ◌∙◌, subst, arith, append_assoc, flat_map, append-nil, drop-drop, take_all, length-take, Format, SandboxPart, Part, view, format_of, Adds, gate_line, IsUnitListing, IsSandboxListing, format_line}
+use Rattle.sfi_report.proofs.Prelude.{◌≡◌, ℕ, suc, ◌+◌, ◌*◌, ◌≤◌, List, [], ◌∷◌, ◌++◌, length, get_or, take, drop, refl, sym, ap, ◌∙◌, subst, arith, append_assoc, flat_map, append-nil, take_all, length-take, Format, SandboxPart, Part, view, format_of, Adds, gate_line, IsUnitListing, IsSandboxListing, format_line}
 use Rattle.std.proofs.Common.{◌<◌, ◌^◌, add-zero}
 use Rattle.std.specs.List.{All}
 use Rattle.std.proofs.lemmas.List.{take_more, length-map, get_or-map}
@@ -31,26 +31,24 @@ empty_listing p old = record { units = 0; at_is = zero_times (unit p.format); wi
     zero_times : (n : ℕ) → 0 ≡ n * 0
     zero_times n = omega arith
 
--- the next unit ends within the code, and that at or below 2 ^ 32
-pub unit_fits : (p : Part) (size at : ℕ) (old new : List ℕ) → IsRightPart p → size ≡ unit p.format → IsListedTo p at old new → at < length p.code
-    → (at + size ≤ length p.code) × (p.code_base + length p.code ≤ 2 ^ 32)
+-- the next unit ends within the code, at a unit more, and the code at or below 2 ^ 32
+pub unit_fits : (p : Part) (size at : ℕ) (old new : List ℕ) → IsRightPart p → size ≡ unit p.format → (so_far : IsListedTo p at old new) → at < length p.code
+    → (at + size ≤ length p.code) × (at + size ≡ unit p.format * suc so_far.units) × (p.code_base + length p.code ≤ 2 ^ 32)
 unit_fits p size at old new right is so_far less =
     let whole = whole_bundles p.format p.code_base (length p.code) right.code_base right.code_placed in
     let there = unit_there p.format whole.0 so_far.units at (length p.code) whole.2 so_far.at_is less in
-    (subst (λ n. at + n ≤ length p.code) (sym is) there.0, whole.4)
+    (subst (λ n. at + n ≤ length p.code) (sym is) there.0, ap (λ n. at + n) is ∙ there.1, whole.4)
 
 pub one_unit_more : (p : Part) (size at : ℕ) (old new more : List ℕ) → IsRightPart p → size ≡ unit p.format → at < length p.code → IsListedTo p at old new
     → Adds new more (IsUnitListing (p.code_base + at) (take size (drop at p.code))) → IsListedTo p (at + size) old more
 one_unit_more p size at old new more right is less so_far here =
-    let n = so_far.units in
-    let whole = whole_bundles p.format p.code_base (length p.code) right.code_base right.code_placed in
-    let there = unit_there p.format whole.0 n at (length p.code) whole.2 so_far.at_is less in
-    let sized = subst (λ m. IsUnitListing (p.code_base + at) (take m (drop at p.code)) here.text) is here.text_is in
+    let fits = unit_fits p size at old new right is so_far less in
+    let sized = subst (λ n. IsUnitListing (p.code_base + at) (take n (drop at p.code)) here.text) is here.text_is in
     let last = subst (λ k. IsUnitListing (p.code_base + k) (take (unit p.format) (drop k p.code)) here.text) so_far.at_is sized in
     record {
-      units = suc n;
-      at_is = ap (λ m. at + m) is ∙ there.1;
-      within = (unit_fits p size at old new right is so_far less).0;
+      units = suc so_far.units;
+      at_is = fits.1;
+      within = fits.0;
       text = so_far.text ++ here.text;
       text_is = (so_far.text, here.text, so_far.text_is, last, refl);
       new_is = here.new_is ∙ ap (λ t. t ++ here.text) so_far.new_is ∙ append_assoc old so_far.text here.text;

@@ -6,7 +6,7 @@ use Rattle.sfi_report.proofs.listing.push_code.Goals as goal
 pub overflow_add-part : goal.overflow_add-part
 overflow_add-part c =
     let fits = unit_fits (view c.args.format c.args.part.now) c.unit-unit.result c.loop-at.at _ _ c.requires c.unit-unit.ensures c.loop-at.invariant c.loop-at-test.true in
-    let end : c.args.part.now.code_base + length c.args.part.now.code.now ≤ 2 ^ 32 = fits.1 in
+    let end : c.args.part.now.code_base + length c.args.part.now.code.now ≤ 2 ^ 32 = fits.2 in
     let less = c.loop-at-test.true in
     omega arith
 
@@ -22,7 +22,7 @@ push_unit-requires c =
     let code = c.args.part.now.code.now in
     let size = c.unit-unit.result in
     let fits = unit_fits (view c.args.format c.args.part.now) size at _ _ c.requires c.unit-unit.ensures c.loop-at.invariant c.loop-at-test.true in
-    let end : c.args.part.now.code_base + length code ≤ 2 ^ 32 = fits.1 in
+    let end : c.args.part.now.code_base + length code ≤ 2 ^ 32 = fits.2 in
     let less = c.loop-at-test.true in
     omega (arith, end, less, length-take (at + size - at) (drop at code), length-drop at code)
 
