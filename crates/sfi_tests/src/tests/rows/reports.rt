@@ -24,7 +24,8 @@ end 292 1 00000002000100000021800100010000000000020000000000000000; end 320 1 67
 > 0 01000000 V10 stack and x2, x10, x27; > refused findings=1 first=V10 sandbox=0 at=01000000
 = no instruction in a word's second half; put 0 53464957; put 36 01000000
 > 0 01000002 V1 decode .half 0x0000; > refused findings=1 first=V1 sandbox=0 at=01000002
-= across a word's end; put 0 53464957; put 36 01007300; > 0 01000002 V2 cross .half 0x0073; > refused findings=1 first=V2 sandbox=0 at=01000002
+= across a word's end, and a longer instruction; put 0 53464957; put 36 01001305010002901f000100
+> 0 01000002 V2 cross .half 0x0513; > 0 01000008 V1 decode .half 0x001f; > refused findings=2 first=V2 sandbox=0 at=01000002
 = store on a register without a type; put 0 53464957; put 36 2320be00
 > 0 01000000 V5 access sw x11, 0(x28); > refused findings=1 first=V5 sandbox=0 at=01000000
 = writes x2 and uses it, writes x30, and masks it alone; put 0 53464957; put 36 130100002320b100130f0000337f9501
@@ -96,6 +97,9 @@ $ sfi dis
 = code in words; put 0 53464957; put 36 33e1af01411106c0
 > format SFIW; > sandbox 0 code 01000000 256 data 01800000 256 start 01000000 gates 0 init 0; > 01000000 01afe133 or x2, x31, x26
 > 01000004 1141 addi x2, x2, -16; > 01000006 c006 sw x1, 0(x2); > 01000008 00100073 ebreak; ..
+= across a word's end, and a longer instruction; put 0 53464957; put 36 01001305010002901f000100
+> format SFIW; > sandbox 0 code 01000000 256 data 01800000 256 start 01000000 gates 0 init 0; > 01000000 0001 addi x0, x0, 0
+> 01000002 .bytes 1305; > 01000004 0001 addi x0, x0, 0; > 01000006 9002 ebreak; > 01000008 .bytes 1f000100; > 0100000c 00100073 ebreak; ..
 = no format; put 0 53464933; > layout fault 1 Magic
 = an odd digit; source; + 1 53464; > input fault hex odd
 ";
