@@ -5,6 +5,7 @@ pub mod BlockPairs
 pub mod Joining
 pub mod Marks
 pub mod FirstLook
+pub mod Fronts
 pub mod Gates
 pub mod Look
 pub mod PairTables

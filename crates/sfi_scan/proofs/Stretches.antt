@@ -1,8 +1,7 @@
 -- Stretches of bundles: their parts, and the findings of one after another.
 use Rattle.std.specs.Simd.{first_chunks}
 use Rattle.sfi_scan.proofs.Prelude.{get_or, ◌≡◌, ℕ, zero, suc, ◌+◌, ◌-◌, ◌*◌, ◌<◌, ◌≤◌, false, List, [], ◌++◌, length, take, drop, refl, sym, ap, ◌∙◌, subst, arith, append-nil, append_assoc, length-append, length-drop, drop-drop, drop-take, take-take, take_all, inr, BundlePlace, Finding, Part, bundle_at, block_bundle, bundle_bytes, place_of, AreBundleFindings, AreReadingFindings, AreFindingsOfFirst}
-use Rattle.sfi_scan.specs.Stretches.{IsStretch, IsScanned, stretch_place, AreStretchFindings}
-use Rattle.sfi_scan.specs.private.Scanning.{IsFrontScanned}
+use Rattle.sfi_scan.specs.Stretches.{IsScanned, stretch_place, AreStretchFindings}
 
 -- ---- places
 
@@ -28,20 +27,6 @@ place_on b (suc k) (suc i) = ap (λ (a : ℕ). record b { address = a; listed = 
 pub plain_place : (b : BundlePlace) (i : ℕ) → b.listed ≡ false → stretch_place b i ≡ bundle_at b i
 plain_place b zero e = rw (← e) (ap (λ (a : ℕ). record b { address = a; listed = b.listed }) (let e : b.address ≡ b.address + 16 * 0 = omega arith in e))
 plain_place b (suc i) e = refl
-
--- what is left of a stretch is one
-pub stretch_rest : (b : BundlePlace) (xs : List ℕ) (k n : ℕ) → k ≤ n → IsStretch b xs n → IsStretch (stretch_place b k) (drop (16 * k) xs) (n - k)
-stretch_rest b xs k n le run =
-    let len = length-drop (16 * k) xs in
-    let whole = run.whole in
-    let base = run.base in
-    let end = run.end in
-    record {
-      whole = omega arith;
-      base = omega (arith, place_base b k, place_address b k);
-      end = omega (arith, place_base b k, place_address b k, place_size b k);
-      addresses = omega (arith, place_base b k, place_size b k, run.addresses);
-    }
 
 -- ---- findings
 
@@ -106,13 +91,6 @@ module _ {F : Type 0} (takes : F → List Finding → F → Type 0) where
     handed = more s t u one.found two.found one.handed two.handed;
   }
 
--- the front of what is left of a stretch after so many bundles
-pub rest_scanned : {F : Type 0} {takes : F → List Finding → F → Type 0} {c : BundlePlace} {at len : ℕ} {s t : F} (b : BundlePlace) (code : List ℕ) (k : ℕ) → at ≡ 16 * k → c ≡ stretch_place b k
-    → IsFrontScanned takes c (take (length code - at) (drop at code)) len s t → IsFrontScanned takes (stretch_place b k) (drop (16 * k) code) len s t
-rest_scanned {takes = takes} {at = at} {len = len} {s = s} {t = t} b code k is place h =
-    subst (λ (l : List ℕ). IsFrontScanned takes (stretch_place b k) l len s t) (tail_is at code ∙ ap (λ (a : ℕ). drop a code) is)
-    (subst (λ (c : BundlePlace). IsFrontScanned takes c (take (length code - at) (drop at code)) len s t) place h)
-
 -- ---- bytes
 
 -- a bundle among the first ones
@@ -135,6 +113,23 @@ first_bundle i xs = take-take 16 16 (drop (16 * i) xs) (omega arith) ∙ ap (blo
 -- a plain bundle that is read
 pub plain_found : (b : BundlePlace) (i : ℕ) (bytes : List ℕ) (found : List Finding) → b.listed ≡ false → AreReadingFindings (bundle_at b i) bytes found → AreBundleFindings (stretch_place b i) bytes found
 plain_found b i bytes found plain h = rw (plain_place b i plain) (inr (λ e. absurd cc, h))
+
+-- ---- blocks
+
+-- the places of a plain block's bundles from one on are those of a stretch
+pub place_in_block : (b : BundlePlace) (from i : ℕ) → b.listed ≡ false → bundle_at b (from + i) ≡ stretch_place (stretch_place b from) i
+place_in_block b from i plain = sym (place_on b from i ∙ plain_place b (from + i) plain)
+
+-- a bundle of a block that is seen clean has no findings among them
+pub clean_in_block : (b : BundlePlace) (block : List ℕ) (from k i : ℕ) → k ≡ from + i → b.listed ≡ false → AreReadingFindings (bundle_at b k) (block_bundle block k) []
+    → AreBundleFindings (stretch_place (stretch_place b from) i) (block_bundle (drop (16 * from) block) i) []
+clean_in_block b block from k i is plain h =
+    subst (λ (l : List ℕ). AreBundleFindings (stretch_place (stretch_place b from) i) l []) (ap (block_bundle block) is ∙ sym (rest_bundle from i block))
+    (subst (λ (c : BundlePlace). AreBundleFindings c (block_bundle block k) []) (ap (stretch_place b) is ∙ sym (place_on b from i)) (plain_found b k (block_bundle block k) [] plain h))
+
+pub block_clean : (b : BundlePlace) (block : List ℕ) (from : ℕ) → b.listed ≡ false → ((i : ℕ) → i < 8 → AreReadingFindings (bundle_at b i) (block_bundle block i) [])
+    → AreStretchFindings (stretch_place b from) (drop (16 * from) block) (8 - from) []
+block_clean b block from plain clean = stretch_clean (stretch_place b from) (drop (16 * from) block) (8 - from) (λ i less. clean_in_block b block from (from + i) i refl plain (clean (from + i) (omega (arith, less))))
 
 -- a bundle of the chunks
 pub chunk_at : (count k : ℕ) (xs : List ℕ) → k < count → get_or (first_chunks 16 count xs) k [] ≡ block_bundle xs k

@@ -2,10 +2,11 @@
 use Rattle.sfi_scan.proofs.Prelude.{◌≡◌, ℕ, zero, suc, ◌+◌, ◌-◌, ◌*◌, ◌/◌, ◌<◌, ◌≤◌, List, [], length, take, drop, min, false, refl, sym, ap, ◌∙◌, subst, arith, take-take, drop-drop, drop-take, BundlePlace, bundle_at, block_bundle, IsWithin}
 use Rattle.sfi_rules.specs.declared.owed.Owed.{Owed}
 use Rattle.sfi_rules.specs.words.Findings.{AreFoundInBundle, IsWordFound}
-use Rattle.sfi_scan.specs.Stretches.{IsStretch, AreWordStretchFindings, stretch_place}
-use Rattle.sfi_scan.specs.private.Scanning.{IsFrontClean}
+use Rattle.sfi_scan.specs.Stretches.{AreWordStretchFindings, stretch_place}
+use Rattle.sfi_scan.specs.private.Scanning.{IsBlockStart, IsFrontClean}
 use Rattle.sfi_scan.specs.private.WordBlock.{bytes_at, IsCleanWord, AreCleanWords}
-use Rattle.sfi_scan.proofs.Stretches.{plain_place, place_on, place_address, place_base, place_size, front_bundle, rest_bundle}
+use Rattle.sfi_scan.proofs.Fronts.{block_front}
+use Rattle.sfi_scan.proofs.Stretches.{place_in_block, rest_bundle}
 use Rattle.sfi_scan.proofs.WordStretches.{words_same}
 
 -- word n of bundle k
@@ -47,7 +48,7 @@ clean_stretch b owed block from plain zero next h = (refl, h)
 clean_stretch b owed block from plain (suc k) next h =
     let four = subst (λ (m : ℕ). AreCleanWords b owed block (4 * from) m next) (let e : 4 * suc k ≡ suc (suc (suc (suc (4 * k)))) = omega arith in e) h in
     let last = bundle_found b owed next block from (from + k) (4 * (from + k)) refl (4 * k) (omega arith) four in
-    let place : bundle_at b (from + k) ≡ stretch_place (stretch_place b from) k = sym (place_on b from k ∙ plain_place b (from + k) plain) in (
+    let place = place_in_block b from k plain in (
       [],
       [],
       last.0,
@@ -57,56 +58,10 @@ clean_stretch b owed block from plain (suc k) next h =
       refl,
     )
 
--- what a look at a block of a stretch tells, from that many bundles of it on
-pub block_seen : (b : BundlePlace) (owed next : Owed) (code : List ℕ) (m j k end : ℕ) → k ≡ m + j → j < 8 → end ≡ 16 * m + 128 → (stretch_place b m).listed ≡ false → 16 * m + 128 ≤ length code
-    → AreCleanWords (stretch_place b m) owed (take 128 (drop (16 * m) code)) (4 * j) (4 * (8 - j)) next
-    → IsFrontClean b owed code k end next
-block_seen b owed next code m j k end is inside last plain whole h =
-    let block = take 128 (drop (16 * m) code) in
-    let place : stretch_place (stretch_place b m) j ≡ stretch_place b k = place_on b m j ∙ ap (stretch_place b) (sym is) in
-    record {
-      bundles = 8 - j;
-      end_is = omega (arith, is, inside, last);
-      some = omega (arith, inside);
-      inside = omega (arith, last, whole);
-      clean = words_same (stretch_place b k) owed (drop (16 * j) block) (drop (16 * k) code) (8 - j) [] next same
-          (subst (λ (c : BundlePlace). AreWordStretchFindings c owed (drop (16 * j) block) (8 - j) [] next) place (clean_stretch (stretch_place b m) owed block j plain (8 - j) next h));
-    }
-  where
-    same : (i : ℕ) → i < 8 - j → block_bundle (drop (16 * j) (take 128 (drop (16 * m) code))) i ≡ block_bundle (drop (16 * k) code) i
-    same i less =
-        rest_bundle j i (take 128 (drop (16 * m) code)) ∙ front_bundle 8 (j + i) (drop (16 * m) code) (omega (arith, less)) ∙ rest_bundle m (j + i) code
-        ∙ ap (block_bundle code) (let e : m + (j + i) ≡ k + i = omega (arith, is) in e) ∙ sym (rest_bundle k i code)
-
--- where the block begins that a stretch of n bundles is looked at by, from bundle k on
-pub record IsStart (n k start len : ℕ) : Type 0 where
-  pub first : ℕ
-  pub before : ℕ
-  pub is : k ≡ first + before
-  pub inside : before < 8
-  pub below : first < n
-  pub start_is : start ≡ 16 * first
-  pub whole : 16 * first + 128 ≤ len
-
-pub start_at : (n k at start len : ℕ) → len ≡ 16 * n → at ≡ 16 * k → k < n → 128 ≤ len → start ≡ min at (len - 128) → IsStart n k start len
-start_at n k at start len whole is less room here = record {
-  first = min k (n - 8);
-  before = k - min k (n - 8);
-  is = omega arith;
-  inside = omega (arith, whole, less, room);
-  below = omega (arith, whole, less, room);
-  start_is = omega (arith, whole, is, room, here);
-  whole = omega (arith, whole, less, room);
-}
-
--- a bundle of a stretch lies in its region
-pub within_stretch : (b : BundlePlace) (code : List ℕ) (n k : ℕ) → IsStretch b code n → k < n → IsWithin (stretch_place b k)
-within_stretch b code n k run less =
-    let whole = run.whole in
-    let base = run.base in
-    let end = run.end in
-    record {
-      base = omega (arith, base, place_base b k, place_address b k);
-      end = omega (arith, end, whole, less, place_base b k, place_address b k, place_size b k);
-      addresses = omega (arith, run.addresses, place_base b k, place_size b k);
-    }
+-- what a look at a block of a stretch tells, from bundle k of it on
+pub block_seen : (b : BundlePlace) (owed next : Owed) (code : List ℕ) (k start : ℕ) (s : IsBlockStart b code k start)
+    → AreCleanWords (stretch_place b s.first) owed (take 128 (drop (16 * s.first) code)) (4 * s.before) (4 * (8 - s.before)) next
+    → IsFrontClean b owed code k (start + 128) next
+block_seen b owed next code k start s h =
+    block_front (λ (c : BundlePlace) (l : List ℕ) (n : ℕ). AreWordStretchFindings c owed l n [] next) (λ c xs ys n. words_same c owed xs ys n [] next) b code k start s
+    (clean_stretch (stretch_place b s.first) owed (take 128 (drop (16 * s.first) code)) s.before s.plain (8 - s.before) next h)

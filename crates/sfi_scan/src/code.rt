@@ -1,12 +1,12 @@
 //! The scan of code that lies together.
-ghost use Rattle.std.specs.Prelude.{◌≡◌, ℕ, ◌+◌, ◌*◌, ◌^◌, ◌<◌, ◌≤◌, [], false, true};
+ghost use Rattle.std.specs.Prelude.{◌≡◌, ℕ, ◌+◌, ◌*◌, ◌^◌, ◌<◌, ◌≤◌, [], false, true, IfSome, length, take, drop};
 ghost use Rattle.std.specs.Bool.{OnTrue};
 ghost use Rattle.sfi_policy.specs.Limits.{bundle_size};
 ghost use Rattle.sfi_masks.specs.Masks.{is_in};
 ghost use Rattle.sfi_rules.specs.Bundles.{IsWithin, IsWithinBlock, block_bundle, bundle_at};
 ghost use Rattle.sfi_rules.specs.Findings.{AreReadingFindings};
 ghost use Rattle.sfi_scan.specs.Stretches.{IsStretch, IsScanned, IsStretchScanned, stretch_place};
-ghost use Rattle.sfi_scan.specs.private.Scanning.{IsFrontScanned};
+ghost use Rattle.sfi_scan.specs.private.Scanning.{IsBlockScanned, IsBlockStart, IsFrontScanned};
 
 use crate::block::{bundle_at, clean_bundles, has};
 use crate::findings::BundleFindings;
@@ -55,78 +55,127 @@ fn scan_one<F: FindingSink>(
     }
 }
 
-/// Scans the bundles of a block that aren't seen clean, in order.
+/// Scans the bundles of a block from that one on that aren't seen clean, in order.
 #[inline(never)]
 fn scan_unseen<F: FindingSink>(
     place: &BundlePlace,
     block: &[u8; BLOCK_BYTES],
+    from: usize,
     clean: u8,
     sink: &mut F,
     findings: &mut BundleFindings,
 )
     requires within { IsWithinBlock place.now }
     requires unlisted { place.now.listed ≡ false }
+    requires inside { from < 8 }
     requires clean { (i : ℕ) → i < 8 → is_in clean i ≡ true
         → AreReadingFindings (bundle_at place.now i) (block_bundle block.now i) [] }
-    ensures { IsScanned F.takes place.now block.now 8 sink.old sink.new }
+    ensures { IsBlockScanned F.takes place.now block.now from sink.old sink.new }
 {
-    for (i, bundle) in block.as_chunks::<BUNDLE_BYTES>().0.iter().enumerate() {
+    let (bundles, _) = block.as_chunks::<BUNDLE_BYTES>();
+    let mut i = from;
+    while i < bundles.len() {
         if !has(u64::from(clean), i) {
-            scan_one(&bundle_at(place, i), bundle, sink, findings);
+            scan_one(&bundle_at(place, i), &bundles[i], sink, findings);
         }
+        i += 1;
     }
 }
 
-/// Scans a block.
+/// Scans the bundles of a block from that one on.
 #[inline(always)]
 fn scan_block<F: FindingSink>(
     place: &BundlePlace,
     block: &[u8; BLOCK_BYTES],
+    from: usize,
     sink: &mut F,
     findings: &mut BundleFindings,
 )
     requires within { IsWithinBlock place.now }
     requires unlisted { place.now.listed ≡ false }
-    ensures { IsScanned F.takes place.now block.now 8 sink.old sink.new }
+    requires inside { from < 8 }
+    ensures { IsBlockScanned F.takes place.now block.now from sink.old sink.new }
 {
     let clean = clean_bundles(place, block);
     if clean != u8::MAX {
-        scan_unseen(place, block, clean, sink, findings);
+        scan_unseen(place, block, from, clean, sink, findings);
     }
 }
 
 /// Whether none of the eight bundles from that place on is its region's last.
 #[inline(always)]
-pub(crate) fn is_before_last(place: &BundlePlace) -> bool
+fn is_before_last(place: &BundlePlace) -> bool
     requires { IsWithin place.now }
     ensures { OnTrue result (IsWithinBlock place.now) }
 {
     place.code_size - (place.address - place.code_base) >= BLOCK_BYTES as u32 + BUNDLE_SIZE
 }
 
-/// Scans a block at the stretch's front, if scanning in blocks and its eight bundles are there and
-/// plain, else the first bundle; says how many bytes that was.
+/// So many bytes of a stretch, from byte `start` on.
+#[inline(always)]
+pub(crate) fn bytes_from<const N: usize>(code: &[u8], start: usize) -> &[u8; N]
+    requires { start + N ≤ length code.now }
+    ensures { result.now ≡ take N (drop start code.now) }
+{
+    let Some(bytes) = code[start..].first_chunk::<N>() else {
+        unreachable!();
+    };
+    bytes
+}
+
+/// At which byte of a stretch the block begins by which the bundles from byte `at` on are looked at, if
+/// scanning in blocks: the next eight, or where fewer are left, the stretch's last eight. They must be
+/// there and plain, and none the region's last.
+#[inline(always)]
+pub(crate) fn block_start<const BLOCKS: bool>(
+    place: &BundlePlace,
+    code: &[u8],
+    at: usize,
+) -> Option<usize>
+    requires { (n : ℕ) × (k : ℕ) × IsStretch place.now code.now n × (at ≡ bundle_size * k) × (k < n) }
+    ensures { (k : ℕ) → at ≡ bundle_size * k → IfSome result (IsBlockStart place.now code.now k) }
+{
+    if !BLOCKS {
+        return None;
+    }
+    if code.len() < BLOCK_BYTES {
+        return None;
+    }
+    let start = at.min(code.len() - BLOCK_BYTES);
+    let first = place_after(place, start);
+    if first.listed {
+        return None;
+    }
+    if !is_before_last(&first) {
+        return None;
+    }
+    Some(start)
+}
+
+/// Scans a stretch from byte `at` on: a block, as far as it comes after `at`, or the next bundle. Says
+/// up to where.
 #[inline(always)]
 fn scan_front<F: FindingSink, const BLOCKS: bool>(
     place: &BundlePlace,
-    rest: &[u8],
+    code: &[u8],
+    at: usize,
     sink: &mut F,
     findings: &mut BundleFindings,
 ) -> usize
-    requires { (n : ℕ) × IsStretch place.now rest.now n × (1 ≤ n) }
-    ensures { IsFrontScanned F.takes place.now rest.now result sink.old sink.new }
+    requires { (n : ℕ) × (k : ℕ) × IsStretch place.now code.now n × (at ≡ bundle_size * k) × (k < n) }
+    ensures { (k : ℕ) → at ≡ bundle_size * k
+        → IsFrontScanned F.takes place.now code.now k result sink.old sink.new }
 {
-    if BLOCKS && !place.listed && is_before_last(place) {
-        if let Some(block) = rest.first_chunk::<BLOCK_BYTES>() {
-            scan_block(place, block, sink, findings);
-            return BLOCK_BYTES;
-        }
+    if let Some(start) = block_start::<BLOCKS>(place, code, at) {
+        let first = place_after(place, start);
+        let block = bytes_from::<BLOCK_BYTES>(code, start);
+        let from = (at - start) / BUNDLE_BYTES;
+        scan_block(&first, block, from, sink, findings);
+        return start + BLOCK_BYTES;
     }
-    let Some(bundle) = rest.first_chunk::<BUNDLE_BYTES>() else {
-        unreachable!();
-    };
-    scan_one(place, bundle, sink, findings);
-    BUNDLE_BYTES
+    let bundle = bytes_from::<BUNDLE_BYTES>(code, at);
+    scan_one(&place_after(place, at), bundle, sink, findings);
+    at + BUNDLE_BYTES
 }
 
 /// Scans a stretch of bundles, of which the first lies at `place`, and hands the findings of each
@@ -138,7 +187,7 @@ pub fn scan_code<F: FindingSink, const BLOCKS: bool>(place: &BundlePlace, code: 
     let mut findings = BundleFindings::new();
     let mut at = 0;
     while at < code.len() {
-        at += scan_front::<F, BLOCKS>(&place_after(place, at), &code[at..], sink, &mut findings);
+        at = scan_front::<F, BLOCKS>(place, code, at, sink, &mut findings);
     }
 }
 

@@ -14,7 +14,7 @@ mod look;
 mod owed;
 mod rules;
 
-use crate::code::{is_before_last, place_after};
+use crate::code::{block_start, bytes_from, place_after};
 use crate::findings::BundleFindings;
 use crate::sink::FindingSink;
 use crate::words::block::look_at_block;
@@ -194,26 +194,11 @@ fn look_at_front<const BLOCKS: bool>(
     ensures { (k : ℕ) → at ≡ bundle_size * k → IfSome result (λ seen.
         IsFrontClean place.now owed code.now k seen.0 seen.1) }
 {
-    if !BLOCKS {
-        return None;
-    }
-    if code.len() < BLOCK_BYTES {
-        return None;
-    }
-    let start = at.min(code.len() - BLOCK_BYTES);
+    let start = block_start::<BLOCKS>(place, code, at)?;
     let first = place_after(place, start);
-    if first.listed {
-        return None;
-    }
-    if !is_before_last(&first) {
-        return None;
-    }
-    let end = start + BLOCK_BYTES;
-    let Some(block) = code[start..end].first_chunk::<BLOCK_BYTES>() else {
-        unreachable!();
-    };
+    let block = bytes_from::<BLOCK_BYTES>(code, start);
     let next = look_at_block(&first, block, (at - start) / 4, owed, findings)?;
-    Some((end, next))
+    Some((start + BLOCK_BYTES, next))
 }
 
 /// Scans a stretch from byte `at` on: a block, as far as it comes after `at`, if it is seen to break
@@ -234,9 +219,7 @@ fn scan_front<F: FindingSink, const BLOCKS: bool>(
     if let Some(seen) = look_at_front::<BLOCKS>(place, code, at, owed, findings) {
         return seen;
     }
-    let Some(bundle) = code[at..].first_chunk::<BUNDLE_BYTES>() else {
-        unreachable!();
-    };
+    let bundle = bytes_from::<BUNDLE_BYTES>(code, at);
     let next = scan_one(&place_after(place, at), bundle, owed, sink, findings);
     (at + BUNDLE_BYTES, next)
 }

@@ -1,34 +1,48 @@
 -- Words of private contracts: the scan of a stretch, front by front.
-use Rattle.std.specs.Prelude.{◌≡◌, ◌+◌, ◌*◌, ◌≤◌, ℕ, List, [], length, drop}
+use Rattle.std.specs.Prelude.{◌≡◌, ◌+◌, ◌-◌, ◌*◌, ◌<◌, ◌≤◌, ℕ, List, [], length, drop, false}
 use Rattle.sfi_policy.specs.Limits.{bundle_size}
 use Rattle.sfi_image.specs.declared.bundle.BundlePlace.{BundlePlace}
+use Rattle.sfi_rules.specs.Bundles.{IsWithinBlock}
 use Rattle.sfi_rules.specs.declared.finding.Finding.{Finding}
 use Rattle.sfi_rules.specs.declared.owed.Owed.{Owed}
 use Rattle.sfi_scan.specs.Stretches.{stretch_place, IsScanned, IsWordCodeScanned, AreWordStretchFindings}
 
--- some bundles at the stretch's front are scanned, of so many bytes
-pub record IsFrontScanned {F : Type 0} (takes : F → List Finding → F → Type 0) (b : BundlePlace)
-    (bytes : List ℕ) (len : ℕ) (before after : F) : Type 0 where
-  pub bundles : ℕ
-  pub len_is : len ≡ bundle_size * bundles
-  pub some : 1 ≤ bundles
-  pub inside : len ≤ length bytes
-  pub scanned : IsScanned takes b bytes bundles before after
+-- a plain block of the stretch begins at that byte, before its region's last bundle, and has the stretch's
+-- bundle k
+pub record IsBlockStart (b : BundlePlace) (bytes : List ℕ) (k start : ℕ) : Type 0 where
+  pub first : ℕ
+  pub before : ℕ
+  pub is : k ≡ first + before
+  pub inside : before < 8
+  pub start_is : start ≡ bundle_size * first
+  pub whole : start + 8 * bundle_size ≤ length bytes
+  pub within : IsWithinBlock (stretch_place b first)
+  pub plain : (stretch_place b first).listed ≡ false
 
--- code in words is scanned from the stretch's bundle k on up to a byte, where the one is owed before it; the
--- other is owed there
-pub record IsWordFrontScanned {F : Type 0} (takes : F → List Finding → F → Type 0) (b : BundlePlace)
-    (owed : Owed) (bytes : List ℕ) (k end : ℕ) (next : Owed) (before after : F) : Type 0 where
+-- the block's bundles from that one on are scanned: the sink took their findings
+abbrev pub IsBlockScanned : {F : Type 0} → (F → List Finding → F → Type 0) → BundlePlace → List ℕ → ℕ → F → F → Type 0
+IsBlockScanned takes b block from before after =
+    IsScanned takes (stretch_place b from) (drop (bundle_size * from) block) (8 - from) before after
+
+-- from the stretch's bundle k on up to a byte lie some bundles, so many as this holds of
+pub record IsFront (bytes : List ℕ) (k end : ℕ) (holds : ℕ → Type 0) : Type 0 where
   pub bundles : ℕ
   pub end_is : end ≡ bundle_size * (k + bundles)
   pub some : 1 ≤ bundles
   pub inside : end ≤ length bytes
-  pub scanned : IsWordCodeScanned takes (stretch_place b k) owed (drop (bundle_size * k) bytes) bundles next before after
+  pub told : holds bundles
 
--- the same bundles break no rule
-pub record IsFrontClean (b : BundlePlace) (owed : Owed) (bytes : List ℕ) (k end : ℕ) (next : Owed) : Type 0 where
-  pub bundles : ℕ
-  pub end_is : end ≡ bundle_size * (k + bundles)
-  pub some : 1 ≤ bundles
-  pub inside : end ≤ length bytes
-  pub clean : AreWordStretchFindings (stretch_place b k) owed (drop (bundle_size * k) bytes) bundles [] next
+-- these bundles are scanned
+abbrev pub IsFrontScanned : {F : Type 0} → (F → List Finding → F → Type 0) → BundlePlace → List ℕ → ℕ → ℕ → F → F → Type 0
+IsFrontScanned takes b bytes k end before after =
+    IsFront bytes k end (λ n. IsScanned takes (stretch_place b k) (drop (bundle_size * k) bytes) n before after)
+
+-- they are scanned as code in words, where the one is owed before them; the other is owed after them
+abbrev pub IsWordFrontScanned : {F : Type 0} → (F → List Finding → F → Type 0) → BundlePlace → Owed → List ℕ → ℕ → ℕ → Owed → F → F → Type 0
+IsWordFrontScanned takes b owed bytes k end next before after =
+    IsFront bytes k end (λ n. IsWordCodeScanned takes (stretch_place b k) owed (drop (bundle_size * k) bytes) n next before after)
+
+-- as code in words they break no rule
+abbrev pub IsFrontClean : BundlePlace → Owed → List ℕ → ℕ → ℕ → Owed → Type 0
+IsFrontClean b owed bytes k end next =
+    IsFront bytes k end (λ n. AreWordStretchFindings (stretch_place b k) owed (drop (bundle_size * k) bytes) n [] next)

@@ -1,55 +1,30 @@
-use Rattle.sfi_scan.proofs.Prelude.{◌≡◌, ◌∙◌, ◌+◌, ◌-◌, ◌*◌, ℕ, List, length, take, drop, refl, ap, sym, subst, arith, BundlePlace, length-drop}
-use Rattle.sfi_scan.specs.Stretches.{IsStretch, IsScanned, stretch_place}
-use Rattle.sfi_scan.proofs.Stretches.{place_on, rest_bundle, rest_scanned, stretch_rest, scanned_more, scanned_none, tail_is}
+use Rattle.sfi_scan.proofs.Prelude.{ℕ, ◌*◌, drop, refl, arith}
+use Rattle.sfi_scan.specs.Stretches.{IsScanned, stretch_place}
+use Rattle.sfi_scan.proofs.Fronts.{front_ahead, walk_nearer, walk_on, walk_over}
+use Rattle.sfi_scan.proofs.Stretches.{scanned_more, scanned_none}
 use Rattle.sfi_scan.proofs.code.scan_code.Goals as goal
 
 pub loop-at-init : goal.loop-at-init
-loop-at-init g c = (0, refl, omega arith, scanned_none g.F.FindingSink.takes c.args.place.now c.args.code.now c.args.sink.now (g.met.F.FindingSink.none c.args.sink.now))
-
-pub place_after-requires : goal.place_after-requires
-place_after-requires g c =
-    let run = c.requires.1 in
-    omega (arith, run.end, run.addresses)
+loop-at-init g c = record {
+  bundles = 0;
+  at_is = refl;
+  inside = omega arith;
+  told = scanned_none g.F.FindingSink.takes c.args.place.now c.args.code.now c.args.sink.now (g.met.F.FindingSink.none c.args.sink.now);
+}
 
 pub scan_front-at-requires : goal.scan_front-at-requires
-scan_front-at-requires g c =
-    let n = c.requires.0 in
-    let run = c.requires.1 in
-    let k = c.loop-at.invariant.0 in
-    let at = c.loop-at.invariant.1 in
-    let whole = run.whole in
-    let place = c.place_after.ensures k at in
-    let rest = ap (λ (a : ℕ). drop a c.args.code.now) (sym at) ∙ sym (tail_is c.loop-at.at c.args.code.now) in
-    (n - k, subst (λ (b : BundlePlace). IsStretch b (take (length c.args.code.now - c.loop-at.at) (drop c.loop-at.at c.args.code.now)) (n - k)) (sym place) (subst (λ (l : List ℕ). IsStretch (stretch_place c.args.place.now k) l (n - k)) rest (stretch_rest c.args.place.now c.args.code.now k n (omega arith) run)), omega arith)
-
-pub overflow_add-at : goal.overflow_add-at
-overflow_add-at g c =
-    let k = c.loop-at.invariant.0 in
-    let at = c.loop-at.invariant.1 in
-    let front = rest_scanned c.args.place.now c.args.code.now k at (c.place_after.ensures k at) c.scan_front-at.ensures in
-    omega (arith, front.inside, length-drop (16 * k) c.args.code.now)
+scan_front-at-requires g c = front_ahead c.loop-at.invariant c.requires.1 c.loop-at-test.true
 
 pub loop-at-smaller : goal.loop-at-smaller
-loop-at-smaller g c = omega (arith, c.scan_front-at.ensures.len_is, c.scan_front-at.ensures.some)
+loop-at-smaller g c = walk_nearer c.loop-at.invariant (c.scan_front-at.ensures c.loop-at.invariant.bundles c.loop-at.invariant.at_is)
 
 pub loop-at-preserved : goal.loop-at-preserved
 loop-at-preserved g c =
-    let k = c.loop-at.invariant.0 in
-    let at = c.loop-at.invariant.1 in
+    let w = c.loop-at.invariant in
+    let b = c.args.place.now in
     let code = c.args.code.now in
-    let front = rest_scanned c.args.place.now code k at (c.place_after.ensures k at) c.scan_front-at.ensures in (
-      k + front.bundles,
-      omega (arith, front.len_is),
-      omega (arith, front.inside, length-drop (16 * k) code),
-      scanned_more g.F.FindingSink.takes g.met.F.FindingSink.more (stretch_place c.args.place.now k) c.args.place.now (drop (16 * k) code) code k front.bundles c.args.sink.now c.loop-at.sink c.scan_front-at.new.sink
-          (λ i less. place_on c.args.place.now k i) (λ i less. rest_bundle k i code) c.loop-at.invariant.3 front.scanned,
-    )
+    walk_on b w (c.scan_front-at.ensures w.bundles w.at_is)
+    (λ n places bytes told. scanned_more g.F.FindingSink.takes g.met.F.FindingSink.more (stretch_place b w.bundles) b (drop (16 * w.bundles) code) code w.bundles n c.args.sink.now c.loop-at.sink c.scan_front-at.new.sink places bytes w.told told)
 
 pub returns : goal.returns
-returns g c = λ n run.
-    let whole = run.whole in
-    let over = c.loop-at-test.false in
-    let at = c.loop-at.invariant.1 in
-    let inside = c.loop-at.invariant.2 in
-    let all : c.loop-at.invariant.0 ≡ n = omega arith in
-    subst (λ (m : ℕ). IsScanned g.F.FindingSink.takes c.args.place.now c.args.code.now m c.args.sink.now c.loop-at.sink) all c.loop-at.invariant.3
+returns g c = λ n run. walk_over (λ m. IsScanned g.F.FindingSink.takes c.args.place.now c.args.code.now m c.args.sink.now c.loop-at.sink) c.loop-at.invariant run (let over = c.loop-at-test.false in omega arith)

@@ -1,27 +1,78 @@
-use Rattle.sfi_scan.proofs.Prelude.{◌∙◌, ℕ, List, refl, ap, arith, block_bundle}
-use Rattle.sfi_scan.proofs.Stretches.{front_bundle, scanned_same}
+use Rattle.sfi_scan.proofs.Prelude.{◌≡◌, ◌∙◌, ◌+◌, ◌-◌, ◌*◌, ◌/◌, ◌<◌, ℕ, List, take, drop, false, sym, subst, arith, ap, BundlePlace, IsWithin, IsWithinBlock}
+use Rattle.sfi_scan.specs.Stretches.{IsScanned, stretch_place}
+use Rattle.sfi_scan.specs.private.Scanning.{IsBlockScanned}
+use Rattle.sfi_scan.proofs.Fronts.{below_end, block_front, bundle_front, within_stretch}
+use Rattle.sfi_scan.proofs.Stretches.{scanned_same}
 use Rattle.sfi_scan.proofs.code.scan_front.Goals as goal
 
+pub place_after-first-requires : goal.place_after-first-requires
+place_after-first-requires g c =
+    let s = c.in-Some.ensures c.requires.1 c.requires.3 in
+    let whole = s.whole in
+    let run = c.requires.2 in
+    omega (arith, whole, run.end, run.addresses)
+
+pub bytes_from-block-requires : goal.bytes_from-block-requires
+bytes_from-block-requires g c =
+    let s = c.in-Some.ensures c.requires.1 c.requires.3 in
+    (omega arith, s.whole)
+
+pub overflow_sub-from : goal.overflow_sub-from
+overflow_sub-from g c =
+    let s = c.in-Some.ensures c.requires.1 c.requires.3 in
+    let is = s.is in
+    let start_is = s.start_is in
+    omega (arith, is, start_is, c.requires.3)
+
+pub scan_block-requires-clause-within : goal.scan_block-requires-clause-within
+scan_block-requires-clause-within g c =
+    let s = c.in-Some.ensures c.requires.1 c.requires.3 in
+    subst IsWithinBlock (sym (c.place_after-first.ensures s.first s.start_is)) s.within
+
+pub scan_block-requires-clause-unlisted : goal.scan_block-requires-clause-unlisted
+scan_block-requires-clause-unlisted g c =
+    let s = c.in-Some.ensures c.requires.1 c.requires.3 in
+    subst (λ (b : BundlePlace). b.listed ≡ false) (sym (c.place_after-first.ensures s.first s.start_is)) s.plain
+
+pub scan_block-requires-clause-inside : goal.scan_block-requires-clause-inside
+scan_block-requires-clause-inside g c =
+    let s = c.in-Some.ensures c.requires.1 c.requires.3 in
+    let is = s.is in
+    let inside = s.inside in
+    let start_is = s.start_is in
+    omega (arith, is, inside, start_is, c.requires.3)
+
+pub overflow_add-result : goal.overflow_add-result
+overflow_add-result g c =
+    let s = c.in-Some.ensures c.requires.1 c.requires.3 in
+    let whole = s.whole in
+    omega (arith, whole)
+
 pub returns-in-Some : goal.returns-in-Some
-returns-in-Some g c =
-    let chunk = c.in-Some.ensures.cases in
-    record {
-      bundles = 8;
-      len_is = refl;
-      some = omega arith;
-      inside = chunk.enough;
-      scanned = scanned_same g.F.FindingSink.takes c.args.place.now c.in-Some.block.now c.args.rest.now 8 c.args.sink.now c.scan_block.new.sink
-          (λ i less. ap (λ (l : List ℕ). block_bundle l i) chunk.same ∙ front_bundle 8 i c.args.rest.now less) c.scan_block.ensures;
-    }
+returns-in-Some g c = λ k at.
+    let takes = g.F.FindingSink.takes in
+    let b = c.args.place.now in
+    let code = c.args.code.now in
+    let start = c.in-Some.start in
+    let s = c.in-Some.ensures k at in
+    let is = s.is in
+    let start_is = s.start_is in
+    let from : (c.args.at - start) / 16 ≡ s.before = omega (arith, is, start_is, at) in
+    let bytes : c.bytes_from-block.result.now ≡ take 128 (drop (16 * s.first) code) = c.bytes_from-block.ensures ∙ ap (λ (a : ℕ). take 128 (drop a code)) start_is in
+    block_front (λ (c' : BundlePlace) (l : List ℕ) (n : ℕ). IsScanned takes c' l n c.args.sink.now c.scan_block.new.sink) (λ c' xs ys n. scanned_same takes c' xs ys n c.args.sink.now c.scan_block.new.sink) b code k start s
+    (subst (λ (n : ℕ). IsBlockScanned takes (stretch_place b s.first) (take 128 (drop (16 * s.first) code)) n c.args.sink.now c.scan_block.new.sink) from
+    (subst (λ (l : List ℕ). IsBlockScanned takes (stretch_place b s.first) l ((c.args.at - start) / 16) c.args.sink.now c.scan_block.new.sink) bytes
+    (subst (λ (x : BundlePlace). IsBlockScanned takes x c.bytes_from-block.result.now ((c.args.at - start) / 16) c.args.sink.now c.scan_block.new.sink) (c.place_after-first.ensures s.first s.start_is) c.scan_block.ensures)))
+
+pub bytes_from-bundle-requires : goal.bytes_from-bundle-requires
+bytes_from-bundle-requires g c = (omega arith, (below_end c.args.place.now c.args.code.now c.requires.0 c.args.at c.requires.1 c.requires.2 c.requires.3 c.requires.4).1)
+
+pub scan_one-requires : goal.scan_one-requires
+scan_one-requires g c = subst IsWithin (sym (c.place_after.ensures c.requires.1 c.requires.3)) (within_stretch c.args.place.now c.args.code.now c.requires.0 c.requires.1 c.requires.2 c.requires.4)
 
 pub returns : goal.returns
-returns g c =
-    let chunk = c.in-Some-first_chunk.ensures.cases in
-    record {
-      bundles = 1;
-      len_is = refl;
-      some = omega arith;
-      inside = chunk.enough;
-      scanned = scanned_same g.F.FindingSink.takes c.args.place.now c.in-Some-first_chunk.bundle.now c.args.rest.now 1 c.args.sink.now c.scan_one.new.sink
-          (λ i less. ap (λ (l : List ℕ). block_bundle l i) chunk.same ∙ front_bundle 1 i c.args.rest.now less) c.scan_one.ensures;
-    }
+returns g c = λ k at.
+    let takes = g.F.FindingSink.takes in
+    let enough = (below_end c.args.place.now c.args.code.now c.requires.0 c.args.at c.requires.1 c.requires.2 c.requires.3 c.requires.4).1 in
+    bundle_front (λ (b : BundlePlace) (l : List ℕ) (n : ℕ). IsScanned takes b l n c.args.sink.now c.scan_one.new.sink) (λ b xs ys n. scanned_same takes b xs ys n c.args.sink.now c.scan_one.new.sink)
+    c.args.place.now c.place_after.result c.args.code.now c.bytes_from-bundle.result.now c.args.at k at (c.place_after.ensures k at) c.bytes_from-bundle.ensures enough c.scan_one.ensures

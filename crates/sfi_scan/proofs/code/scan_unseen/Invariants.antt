@@ -1,6 +1,11 @@
-use Rattle.sfi_scan.specs.Stretches.{IsScanned}
+use Rattle.sfi_scan.proofs.Prelude.{◌≡◌, ◌+◌, ◌-◌, ◌*◌, ◌≤◌, ℕ, drop}
+use Rattle.sfi_scan.specs.Stretches.{IsScanned, stretch_place}
 use Rattle.sfi_scan.proofs.code.scan_unseen.Given as goal
 
 -- so many bundles are scanned
 abbrev pub invariant-loop-i : goal.invariant-loop-i
-invariant-loop-i g l = IsScanned g.F.FindingSink.takes l.place l.block l.i l.initial.sink l.sink
+invariant-loop-i g l =
+    (n : ℕ) × (l.i ≡ l.fn.from + n) × (l.i ≤ 8) × IsScanned g.F.FindingSink.takes (stretch_place l.place l.fn.from) (drop (16 * l.fn.from) l.block) n l.initial.sink l.sink
+
+abbrev pub decreases-loop-i : goal.decreases-loop-i
+decreases-loop-i g l = 8 - l.i

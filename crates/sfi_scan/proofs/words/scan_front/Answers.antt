@@ -1,7 +1,6 @@
-use Rattle.sfi_scan.proofs.Prelude.{◌≡◌, ◌∙◌, ◌-◌, ◌*◌, ℕ, List, [], take, drop, length, sym, ap, subst, arith, length-drop, BundlePlace, block_bundle, IsWithin}
+use Rattle.sfi_scan.proofs.Prelude.{◌≡◌, ◌+◌, ◌*◌, ◌≤◌, ℕ, List, [], sym, subst, arith, BundlePlace, IsWithin}
 use Rattle.sfi_scan.specs.Stretches.{IsWordCodeScanned}
-use Rattle.sfi_scan.proofs.Stretches.{front_bundle, tail_is}
-use Rattle.sfi_scan.proofs.WordFronts.{within_stretch}
+use Rattle.sfi_scan.proofs.Fronts.{below_end, bundle_front, within_stretch}
 use Rattle.sfi_scan.proofs.WordStretches.{words_scanned_same}
 use Rattle.sfi_scan.proofs.words.scan_front.Goals as goal
 
@@ -13,40 +12,29 @@ returns-in-Some g c = λ k at.
       end_is = seen.end_is;
       some = seen.some;
       inside = seen.inside;
-      scanned = record {
+      told = record {
         found = [];
-        found_are = seen.clean;
+        found_are = seen.told;
         few = omega arith;
         handed = g.met.F.FindingSink.none c.args.sink.now;
       };
     }
 
+pub bytes_from-bundle-requires : goal.bytes_from-bundle-requires
+bytes_from-bundle-requires g c = (omega arith, (below_end c.args.place.now c.args.code.now c.requires.0 c.args.at c.requires.1 c.requires.2 c.requires.3 c.requires.4).1)
+
 pub place_after-requires : goal.place_after-requires
-place_after-requires g c =
-    let run = c.requires.2 in
-    let whole = run.whole in
-    let end = run.end in
-    let at = c.requires.3 in
-    let less = c.requires.4 in
-    omega (arith, whole, end, run.addresses, at, less)
+place_after-requires g c = (below_end c.args.place.now c.args.code.now c.requires.0 c.args.at c.requires.1 c.requires.2 c.requires.3 c.requires.4).0
 
 pub scan_one-next-requires : goal.scan_one-next-requires
-scan_one-next-requires g c =
-    let n = c.requires.0 in
-    let k = c.requires.1 in
-    subst IsWithin (sym (c.place_after.ensures k c.requires.3)) (within_stretch c.args.place.now c.args.code.now n k c.requires.2 c.requires.4)
+scan_one-next-requires g c = subst IsWithin (sym (c.place_after.ensures c.requires.1 c.requires.3)) (within_stretch c.args.place.now c.args.code.now c.requires.0 c.requires.1 c.requires.2 c.requires.4)
 
 pub returns : goal.returns
 returns g c = λ k at.
-    let code = c.args.code.now in
-    let chunk = c.in-Some-first_chunk.ensures.cases in
-    let rest : take (length code - c.args.at) (drop c.args.at code) ≡ drop (16 * k) code = tail_is c.args.at code ∙ ap (λ (a : ℕ). drop a code) at in
-    record {
-      bundles = 1;
-      end_is = omega (arith, at);
-      some = omega arith;
-      inside = omega (arith, chunk.enough, at, ap length rest, length-drop (16 * k) code);
-      scanned = subst (λ (b : BundlePlace). IsWordCodeScanned g.F.FindingSink.takes b c.args.owed (drop (16 * k) code) 1 c.scan_one-next.result c.args.sink.now c.scan_one-next.new.sink) (c.place_after.ensures k at)
-          (words_scanned_same g.F.FindingSink.takes c.place_after.result c.args.owed c.in-Some-first_chunk.bundle.now (drop (16 * k) code) 1 c.scan_one-next.result c.args.sink.now c.scan_one-next.new.sink
-          (λ i less. ap (λ (l : List ℕ). block_bundle l i) (chunk.same ∙ ap (take 16) rest) ∙ front_bundle 1 i (drop (16 * k) code) less) c.scan_one-next.ensures);
-    }
+    let takes = g.F.FindingSink.takes in
+    let sink = c.args.sink.now in
+    let new = c.scan_one-next.new.sink in
+    let next = c.scan_one-next.result in
+    let enough = (below_end c.args.place.now c.args.code.now c.requires.0 c.args.at c.requires.1 c.requires.2 c.requires.3 c.requires.4).1 in
+    bundle_front (λ (b : BundlePlace) (l : List ℕ) (n : ℕ). IsWordCodeScanned takes b c.args.owed l n next sink new) (λ b xs ys n. words_scanned_same takes b c.args.owed xs ys n next sink new)
+    c.args.place.now c.place_after.result c.args.code.now c.bytes_from-bundle.result.now c.args.at k at (c.place_after.ensures k at) c.bytes_from-bundle.ensures enough c.scan_one-next.ensures

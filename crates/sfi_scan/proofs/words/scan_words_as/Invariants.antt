@@ -1,11 +1,12 @@
-use Rattle.sfi_scan.proofs.Prelude.{◌≡◌, ◌*◌, ◌-◌, ◌≤◌, ℕ, length}
+use Rattle.sfi_scan.proofs.Prelude.{◌-◌, length}
 use Rattle.sfi_scan.specs.Stretches.{IsWordCodeScanned}
+use Rattle.sfi_scan.proofs.Fronts.{IsWalked}
 use Rattle.sfi_scan.proofs.words.scan_words_as.Given as goal
 
 -- so many bundles are scanned
 abbrev pub invariant-loop-at : goal.invariant-loop-at
 invariant-loop-at g l =
-    (k : ℕ) × (l.at ≡ 16 * k) × (l.at ≤ length l.code) × IsWordCodeScanned g.F.FindingSink.takes l.place l.fn.owed l.code k l.left l.initial.sink l.sink
+    IsWalked l.code l.at (λ k. IsWordCodeScanned g.F.FindingSink.takes l.place l.fn.owed l.code k l.left l.initial.sink l.sink)
 
 abbrev pub decreases-loop-at : goal.decreases-loop-at
 decreases-loop-at g l = length l.code - l.at
