@@ -111,7 +111,7 @@ walk_nearer w front =
 -- it goes on over a front
 pub walk_on : {code : List ℕ} {at end : ℕ} {holds told after : ℕ → Type 0} (b : BundlePlace) (w : IsWalked code at holds) → IsFront code w.bundles end told
     → ((n : ℕ) → ((i : ℕ) → i < n → stretch_place (stretch_place b w.bundles) i ≡ stretch_place b (w.bundles + i))
-        → ((i : ℕ) → i < n → block_bundle (drop (16 * w.bundles) code) i ≡ block_bundle code (w.bundles + i)) → told n → after (w.bundles + n))
+    → ((i : ℕ) → i < n → block_bundle (drop (16 * w.bundles) code) i ≡ block_bundle code (w.bundles + i)) → told n → after (w.bundles + n))
     → IsWalked code end after
 walk_on {code = code} b w front on = record {
   bundles = w.bundles + front.bundles;

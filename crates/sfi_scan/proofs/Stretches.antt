@@ -1,6 +1,6 @@
 -- Stretches of bundles: their parts, and the findings of one after another.
 use Rattle.std.specs.Simd.{first_chunks}
-use Rattle.sfi_scan.proofs.Prelude.{get_or, ◌≡◌, ℕ, zero, suc, ◌+◌, ◌-◌, ◌*◌, ◌<◌, ◌≤◌, false, List, [], ◌++◌, length, take, drop, refl, sym, ap, ◌∙◌, subst, arith, append-nil, append_assoc, length-append, length-drop, drop-drop, drop-take, take-take, take_all, inr, BundlePlace, Finding, Part, bundle_at, block_bundle, bundle_bytes, place_of, AreBundleFindings, AreReadingFindings, AreFindingsOfFirst}
+use Rattle.sfi_scan.proofs.Prelude.{get_or, ◌≡◌, ℕ, zero, suc, ◌+◌, ◌-◌, ◌*◌, ◌<◌, false, List, [], ◌++◌, length, take, drop, refl, sym, ap, ◌∙◌, subst, arith, append-nil, append_assoc, length-append, length-drop, drop-drop, drop-take, take-take, take_all, inr, BundlePlace, Finding, Part, bundle_at, block_bundle, bundle_bytes, place_of, AreBundleFindings, AreReadingFindings, AreFindingsOfFirst}
 use Rattle.sfi_scan.specs.Stretches.{IsScanned, stretch_place, AreStretchFindings}
 
 -- ---- places

@@ -1,5 +1,5 @@
 -- The clean words of a block as the bundles of a stretch without findings.
-use Rattle.sfi_scan.proofs.Prelude.{◌≡◌, ℕ, zero, suc, ◌+◌, ◌-◌, ◌*◌, ◌/◌, ◌<◌, ◌≤◌, List, [], length, take, drop, min, false, refl, sym, ap, ◌∙◌, subst, arith, take-take, drop-drop, drop-take, BundlePlace, bundle_at, block_bundle, IsWithin}
+use Rattle.sfi_scan.proofs.Prelude.{◌≡◌, ℕ, zero, suc, ◌+◌, ◌-◌, ◌*◌, ◌/◌, ◌<◌, List, [], take, drop, false, refl, sym, ap, ◌∙◌, subst, arith, take-take, drop-drop, drop-take, BundlePlace, bundle_at, block_bundle}
 use Rattle.sfi_rules.specs.declared.owed.Owed.{Owed}
 use Rattle.sfi_rules.specs.words.Findings.{AreFoundInBundle, IsWordFound}
 use Rattle.sfi_scan.specs.Stretches.{AreWordStretchFindings, stretch_place}

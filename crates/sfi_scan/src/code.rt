@@ -55,7 +55,7 @@ fn scan_one<F: FindingSink>(
     }
 }
 
-/// Scans the bundles of a block from that one on that aren't seen clean, in order.
+/// Scans those of the block's bundles, from number `from` on, that aren't seen clean, in order.
 #[inline(never)]
 fn scan_unseen<F: FindingSink>(
     place: &BundlePlace,
@@ -82,7 +82,7 @@ fn scan_unseen<F: FindingSink>(
     }
 }
 
-/// Scans the bundles of a block from that one on.
+/// Scans the block's bundles from number `from` on.
 #[inline(always)]
 fn scan_block<F: FindingSink>(
     place: &BundlePlace,
@@ -111,7 +111,7 @@ fn is_before_last(place: &BundlePlace) -> bool
     place.code_size - (place.address - place.code_base) >= BLOCK_BYTES as u32 + BUNDLE_SIZE
 }
 
-/// So many bytes of a stretch, from byte `start` on.
+/// The stretch's bytes from byte `start` on, so many.
 #[inline(always)]
 pub(crate) fn bytes_from<const N: usize>(code: &[u8], start: usize) -> &[u8; N]
     requires { start + N ≤ length code.now }
@@ -123,9 +123,9 @@ pub(crate) fn bytes_from<const N: usize>(code: &[u8], start: usize) -> &[u8; N]
     bytes
 }
 
-/// At which byte of a stretch the block begins by which the bundles from byte `at` on are looked at, if
-/// scanning in blocks: the next eight, or where fewer are left, the stretch's last eight. They must be
-/// there and plain, and none the region's last.
+/// Where the block begins by which a stretch is looked at from byte `at` on, if scanning in blocks: the
+/// next eight bundles; where fewer are left, the stretch's last eight. None of a block's bundles is a
+/// gate's, nor the region's last.
 #[inline(always)]
 pub(crate) fn block_start<const BLOCKS: bool>(
     place: &BundlePlace,
@@ -152,8 +152,8 @@ pub(crate) fn block_start<const BLOCKS: bool>(
     Some(start)
 }
 
-/// Scans a stretch from byte `at` on: a block, as far as it comes after `at`, or the next bundle. Says
-/// up to where.
+/// Scans a stretch from byte `at` on: a block, as far as it comes after `at`, else the next bundle.
+/// Says up to where.
 #[inline(always)]
 fn scan_front<F: FindingSink, const BLOCKS: bool>(
     place: &BundlePlace,

@@ -1,4 +1,4 @@
-use Rattle.sfi_scan.proofs.Prelude.{◌≡◌, ◌∙◌, ◌+◌, ◌-◌, ◌*◌, ◌/◌, ◌<◌, ℕ, List, take, drop, false, sym, subst, arith, ap, BundlePlace, IsWithin, IsWithinBlock}
+use Rattle.sfi_scan.proofs.Prelude.{◌≡◌, ◌∙◌, ◌-◌, ◌*◌, ◌/◌, ℕ, List, take, drop, false, sym, subst, arith, ap, BundlePlace, IsWithin, IsWithinBlock}
 use Rattle.sfi_scan.specs.Stretches.{IsScanned, stretch_place}
 use Rattle.sfi_scan.specs.private.Scanning.{IsBlockScanned}
 use Rattle.sfi_scan.proofs.Fronts.{below_end, block_front, bundle_front, within_stretch}

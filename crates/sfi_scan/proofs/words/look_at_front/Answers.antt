@@ -1,4 +1,4 @@
-use Rattle.sfi_scan.proofs.Prelude.{◌≡◌, ◌∙◌, ◌+◌, ◌-◌, ◌*◌, ◌/◌, ◌<◌, ℕ, List, take, drop, sym, ap, subst, arith, BundlePlace, IsWithinBlock}
+use Rattle.sfi_scan.proofs.Prelude.{◌≡◌, ◌∙◌, ◌-◌, ◌*◌, ◌/◌, ℕ, List, take, drop, sym, ap, subst, arith, BundlePlace, IsWithinBlock}
 use Rattle.sfi_scan.specs.private.WordBlock.{AreCleanWords}
 use Rattle.sfi_scan.specs.Stretches.{stretch_place}
 use Rattle.sfi_scan.proofs.WordFronts.{block_seen}

@@ -1,4 +1,4 @@
-use Rattle.sfi_scan.proofs.Prelude.{◌≡◌, ◌+◌, ◌*◌, ◌≤◌, ℕ, List, [], sym, subst, arith, BundlePlace, IsWithin}
+use Rattle.sfi_scan.proofs.Prelude.{ℕ, List, [], sym, subst, arith, BundlePlace, IsWithin}
 use Rattle.sfi_scan.specs.Stretches.{IsWordCodeScanned}
 use Rattle.sfi_scan.proofs.Fronts.{below_end, bundle_front, within_stretch}
 use Rattle.sfi_scan.proofs.WordStretches.{words_scanned_same}
