@@ -2,7 +2,7 @@
 -- relation of the first one's place, the bytes and how many they are.
 use Rattle.sfi_scan.proofs.Prelude.{◌≡◌, ℕ, ◌+◌, ◌-◌, ◌*◌, ◌^◌, ◌<◌, ◌≤◌, List, length, take, drop, min, sym, ap, ◌∙◌, subst, arith, BundlePlace, block_bundle, IsWithin}
 use Rattle.sfi_scan.specs.Stretches.{IsStretch, stretch_place}
-use Rattle.sfi_scan.specs.private.Scanning.{IsBlockStart, IsFront}
+use Rattle.sfi_scan.specs.private.Scanning.{IsBlockStart, IsFront, IsRun}
 use Rattle.sfi_scan.proofs.Stretches.{place_on, place_address, place_base, place_size, front_bundle, rest_bundle}
 
 -- a bundle of a stretch lies in its region
@@ -65,12 +65,14 @@ block_front R same b code k start s h =
     record {
       bundles = 8 - s.before;
       end_is = omega (arith, is, inside, start_is);
-      some = omega (arith, inside);
       inside = omega (arith, whole);
-      told = same (stretch_place b k) (drop (16 * s.before) block) (drop (16 * k) code) (8 - s.before)
-          (λ i less. rest_bundle s.before i block ∙ front_bundle 8 (s.before + i) (drop (16 * s.first) code) (omega (arith, less)) ∙ rest_bundle s.first (s.before + i) code
-          ∙ ap (block_bundle code) (let e : s.first + (s.before + i) ≡ k + i = omega (arith, is) in e) ∙ sym (rest_bundle k i code))
-          (subst (λ (c : BundlePlace). R c (drop (16 * s.before) block) (8 - s.before)) place h);
+      told = (
+        omega (arith, inside),
+        same (stretch_place b k) (drop (16 * s.before) block) (drop (16 * k) code) (8 - s.before)
+            (λ i less. rest_bundle s.before i block ∙ front_bundle 8 (s.before + i) (drop (16 * s.first) code) (omega (arith, less)) ∙ rest_bundle s.first (s.before + i) code
+            ∙ ap (block_bundle code) (let e : s.first + (s.before + i) ≡ k + i = omega (arith, is) in e) ∙ sym (rest_bundle k i code))
+            (subst (λ (c : BundlePlace). R c (drop (16 * s.before) block) (8 - s.before)) place h),
+      );
     }
 
 -- and so it is of one bundle
@@ -79,51 +81,77 @@ pub bundle_front : (R : BundlePlace → List ℕ → ℕ → Type 0) → IsOfBun
 bundle_front R same b c code bundle at k is place bytes enough h = record {
   bundles = 1;
   end_is = omega (arith, is);
-  some = omega arith;
   inside = enough;
-  told = same (stretch_place b k) bundle (drop (16 * k) code) 1
-      (λ i less. ap (λ (l : List ℕ). block_bundle l i) (bytes ∙ ap (λ (a : ℕ). take 16 (drop a code)) is) ∙ front_bundle 1 i (drop (16 * k) code) less)
-      (subst (λ (x : BundlePlace). R x bundle 1) place h);
+  told = (
+    omega arith,
+    same (stretch_place b k) bundle (drop (16 * k) code) 1
+        (λ i less. ap (λ (l : List ℕ). block_bundle l i) (bytes ∙ ap (λ (a : ℕ). take 16 (drop a code)) is) ∙ front_bundle 1 i (drop (16 * k) code) less)
+        (subst (λ (x : BundlePlace). R x bundle 1) place h),
+  );
 }
 
 -- ---- the walk
 
--- the walk has come to that byte, after so many bundles as this holds of
-pub record IsWalked (code : List ℕ) (at : ℕ) (holds : ℕ → Type 0) : Type 0 where
-  pub bundles : ℕ
-  pub at_is : at ≡ 16 * bundles
-  pub inside : at ≤ length code
-  pub told : holds bundles
-
--- what a scan of a front is to be given
-pub front_ahead : {b : BundlePlace} {code : List ℕ} {n at : ℕ} {holds : ℕ → Type 0} (w : IsWalked code at holds) → IsStretch b code n → at < length code
-    → (m : ℕ) × (k : ℕ) × IsStretch b code m × (at ≡ 16 * k) × (k < m)
-front_ahead {n = n} w run less =
-    let whole = run.whole in
-    let at_is = w.at_is in
-    (n, w.bundles, run, at_is, omega (arith, whole, at_is, less))
-
-pub walk_nearer : {code : List ℕ} {at end : ℕ} {holds told : ℕ → Type 0} (w : IsWalked code at holds) → IsFront code w.bundles end told → length code - end < length code - at
-walk_nearer w front =
-    let at_is = w.at_is in
-    omega (arith, at_is, front.end_is, front.some, front.inside)
-
--- it goes on over a front
-pub walk_on : {code : List ℕ} {at end : ℕ} {holds told after : ℕ → Type 0} (b : BundlePlace) (w : IsWalked code at holds) → IsFront code w.bundles end told
-    → ((n : ℕ) → ((i : ℕ) → i < n → stretch_place (stretch_place b w.bundles) i ≡ stretch_place b (w.bundles + i))
-    → ((i : ℕ) → i < n → block_bundle (drop (16 * w.bundles) code) i ≡ block_bundle code (w.bundles + i)) → told n → after (w.bundles + n))
-    → IsWalked code end after
-walk_on {code = code} b w front on = record {
-  bundles = w.bundles + front.bundles;
-  at_is = front.end_is;
-  inside = front.inside;
-  told = on front.bundles (λ i less. place_on b w.bundles i) (λ i less. rest_bundle w.bundles i code) front.told;
+-- it begins where no bundle has been passed yet
+pub run_none : {code : List ℕ} {holds : ℕ → Type 0} (at k : ℕ) → at ≡ 16 * k → at ≤ length code → holds 0 → IsRun code k at holds
+run_none at k is inside none = record {
+  bundles = 0;
+  end_is = omega (arith, is);
+  inside = inside;
+  told = none;
 }
 
+-- what a scan of a front is to be given
+pub front_ahead : {b : BundlePlace} {code : List ℕ} {n k at : ℕ} {holds : ℕ → Type 0} (w : IsRun code k at holds) → IsStretch b code n → at < length code
+    → (m : ℕ) × (j : ℕ) × IsStretch b code m × (at ≡ 16 * j) × (j < m)
+front_ahead {n = n} {k = k} w run less =
+    let whole = run.whole in
+    let at_is = w.end_is in
+    (n, k + w.bundles, run, at_is, omega (arith, whole, at_is, less))
+
+-- and a scan of one bundle
+pub bundle_ahead : {b : BundlePlace} {code : List ℕ} {n k at : ℕ} {holds : ℕ → Type 0} (w : IsRun code k at holds) → IsStretch b code n → at < length code
+    → (b.address + at < 2 ^ 32) × (at + 16 ≤ length code) × IsWithin (stretch_place b (k + w.bundles))
+bundle_ahead {b = b} {code = code} {n = n} {k = k} {at = at} w run less =
+    let whole = run.whole in
+    let at_is = w.end_is in
+    let among : k + w.bundles < n = omega (arith, whole, at_is, less) in
+    let below = below_end b code n at (k + w.bundles) run at_is among in
+    (below.0, below.1, within_stretch b code n (k + w.bundles) run among)
+
+pub walk_nearer : {code : List ℕ} {k at end : ℕ} {told : ℕ → Type 0} → at ≡ 16 * k → IsFront code k end told → length code - end < length code - at
+walk_nearer at_is front =
+    let some = front.told.0 in
+    omega (arith, at_is, front.end_is, some, front.inside)
+
+-- it goes on over more bundles, from bundle m on
+pub walk_on : {code : List ℕ} {k m at end : ℕ} {holds told after : ℕ → Type 0} (b : BundlePlace) (w : IsRun code k at holds) → at ≡ 16 * m → IsRun code m end told
+    → ((n : ℕ) → ((i : ℕ) → i < n → stretch_place (stretch_place b m) i ≡ stretch_place (stretch_place b k) (w.bundles + i))
+    → ((i : ℕ) → i < n → block_bundle (drop (16 * m) code) i ≡ block_bundle (drop (16 * k) code) (w.bundles + i)) → told n → after (w.bundles + n))
+    → IsRun code k end after
+walk_on {code = code} {k = k} {m = m} b w at_is more on =
+    let end_is = more.end_is in
+    let so_far = w.end_is in
+    let there : m ≡ k + w.bundles = omega (arith, at_is, so_far) in
+    record {
+      bundles = w.bundles + more.bundles;
+      end_is = omega (arith, end_is, there);
+      inside = more.inside;
+      told = on more.bundles
+          (λ i less. place_on b m i ∙ ap (stretch_place b) (let e : m + i ≡ k + (w.bundles + i) = omega (arith, there) in e) ∙ sym (place_on b k (w.bundles + i)))
+          (λ i less. rest_bundle m i code ∙ ap (block_bundle code) (let e : m + i ≡ k + (w.bundles + i) = omega (arith, there) in e) ∙ sym (rest_bundle k (w.bundles + i) code))
+          more.told;
+    }
+
+pub walk_at : {code : List ℕ} {at : ℕ} {holds : ℕ → Type 0} (w : IsRun code 0 at holds) → at ≡ 16 * w.bundles
+walk_at w =
+    let at_is = w.end_is in
+    omega (arith, at_is)
+
 -- at its end it has come over the whole stretch
-pub walk_over : {b : BundlePlace} {code : List ℕ} {n at : ℕ} (holds : ℕ → Type 0) → IsWalked code at holds → IsStretch b code n → length code ≤ at → holds n
+pub walk_over : {b : BundlePlace} {code : List ℕ} {n at : ℕ} (holds : ℕ → Type 0) → IsRun code 0 at holds → IsStretch b code n → length code ≤ at → holds n
 walk_over {code = code} {n = n} {at = at} holds w run over =
     let whole = run.whole in
-    let at_is = w.at_is in
+    let at_is = w.end_is in
     let inside = w.inside in
     subst holds (let all : w.bundles ≡ n = omega (arith, whole, at_is, inside, over) in all) w.told

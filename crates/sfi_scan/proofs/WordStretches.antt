@@ -1,5 +1,5 @@
 -- Stretches of code in words: the findings of one after another, and those of a stretch in a part.
-use Rattle.sfi_scan.proofs.Prelude.{◌≡◌, ℕ, zero, suc, ◌+◌, ◌-◌, ◌<◌, Bool, true, false, List, [], ◌++◌, length, length-append, take_all, refl, sym, ap, ◌∙◌, subst, arith, append-nil, append_assoc, BundlePlace, Finding, Part, block_bundle, bundle_bytes, place_of, AreFindingsOfFirst}
+use Rattle.sfi_scan.proofs.Prelude.{◌≡◌, ℕ, zero, suc, ◌+◌, ◌<◌, Bool, true, false, List, [], ◌++◌, length, length-append, take_all, refl, sym, ap, ◌∙◌, subst, arith, append-nil, append_assoc, BundlePlace, Finding, Part, block_bundle, bundle_bytes, place_of, AreFindingsOfFirst}
 use Rattle.std.specs.Prelude.{MatchBool}
 use Rattle.sfi_policy.specs.Formats.{has_words}
 use Rattle.sfi_rules.specs.declared.owed.Owed.{Owed}
@@ -45,8 +45,12 @@ words_same b owed xs ys (suc n) found next bytes are =
 -- ---- what a sink took
 
 module _ {F : Type 0} (takes : F → List Finding → F → Type 0) where
+  -- of bundles without a finding it takes nothing
+  pub words_clean : {b : BundlePlace} {owed : Owed} {xs : List ℕ} {n : ℕ} {next : Owed} (s : F) → takes s [] s → AreWordStretchFindings b owed xs n [] next → IsWordCodeScanned takes b owed xs n next s s
+  words_clean s none are = record { found = []; found_are = are; few = omega arith; handed = none }
+
   pub words_scanned_none : (b : BundlePlace) (owed : Owed) (xs : List ℕ) (s : F) → takes s [] s → IsWordCodeScanned takes b owed xs 0 owed s s
-  words_scanned_none b owed xs s none = record { found = []; found_are = (refl, refl); few = omega arith; handed = none }
+  words_scanned_none b owed xs s none = words_clean s none (refl, refl)
 
   pub words_scanned_same : (b : BundlePlace) (owed : Owed) (xs ys : List ℕ) (n : ℕ) (next : Owed) (s t : F) → ((i : ℕ) → i < n → block_bundle xs i ≡ block_bundle ys i)
       → IsWordCodeScanned takes b owed xs n next s t → IsWordCodeScanned takes b owed ys n next s t

@@ -7,14 +7,14 @@ ghost use Rattle.sfi_rules.specs.words.Findings.{IsWordFound, AreFoundInBundle, 
 ghost use Rattle.sfi_rules.specs.words.Owing.{owed_next};
 ghost use Rattle.sfi_scan.specs.Stretches.{IsStretch, IsWordCodeScanned};
 ghost use Rattle.sfi_scan.specs.private.Inside.{IsInside};
-ghost use Rattle.sfi_scan.specs.private.Scanning.{IsFrontClean, IsWordFrontScanned};
+ghost use Rattle.sfi_scan.specs.private.Scanning.{IsFrontClean, IsRunClean, IsWordFrontScanned};
 
 mod block;
 mod look;
 mod owed;
 mod rules;
 
-use crate::code::{block_start, bytes_from, place_after};
+use crate::code::{IN_BLOCKS, block_start, bytes_from, place_after};
 use crate::findings::BundleFindings;
 use crate::sink::FindingSink;
 use crate::words::block::look_at_block;
@@ -183,7 +183,7 @@ fn scan_one<F: FindingSink>(
 /// owed there: over the next eight bundles; where fewer are left, over all of these, in the
 /// stretch's last block.
 #[inline(always)]
-fn look_at_front<const BLOCKS: bool>(
+fn look_at_front(
     place: &BundlePlace,
     code: &[u8],
     at: usize,
@@ -194,15 +194,59 @@ fn look_at_front<const BLOCKS: bool>(
     ensures { (k : ℕ) → at ≡ bundle_size * k → IfSome result (λ seen.
         IsFrontClean place.now owed code.now k seen.0 seen.1) }
 {
-    let start = block_start::<BLOCKS>(place, code, at)?;
+    let start = block_start::<IN_BLOCKS>(place, code, at)?;
     let first = place_after(place, start);
     let block = bytes_from::<BLOCK_BYTES>(code, start);
     let next = look_at_block(&first, block, (at - start) / 4, owed, findings)?;
     Some((start + BLOCK_BYTES, next))
 }
 
-/// Scans a stretch from byte `at` on: a block, as far as it comes after `at`, if it is seen to break
-/// no rule, else the next bundle. Says up to where, and what is owed there.
+/// Up to where looks at blocks see a stretch, from byte `at` on, to break no rule, and what is owed
+/// there. It is compiled once, whatever takes the findings.
+#[inline(never)]
+fn clean_blocks(
+    place: &BundlePlace,
+    code: &[u8],
+    at: usize,
+    owed: Owed,
+    findings: &mut BundleFindings,
+) -> (usize, Owed)
+    requires { (n : ℕ) × (k : ℕ) × IsStretch place.now code.now n × (at ≡ bundle_size * k) × (k < n) }
+    ensures { (k : ℕ) → at ≡ bundle_size * k → IsRunClean place.now owed code.now k result.0 result.1 }
+{
+    let mut end = at;
+    let mut left = owed;
+    while end < code.len() {
+        let Some((to, next)) = look_at_front(place, code, end, left, findings) else {
+            return (end, left);
+        };
+        end = to;
+        left = next;
+    }
+    (end, left)
+}
+
+/// The same, if scanning in blocks; else byte `at` itself, and what is owed there.
+#[inline(always)]
+fn clean_front<const BLOCKS: bool>(
+    place: &BundlePlace,
+    code: &[u8],
+    at: usize,
+    owed: Owed,
+    findings: &mut BundleFindings,
+) -> (usize, Owed)
+    requires { (n : ℕ) × (k : ℕ) × IsStretch place.now code.now n × (at ≡ bundle_size * k) × (k < n) }
+    ensures { (k : ℕ) → at ≡ bundle_size * k → IsRunClean place.now owed code.now k result.0 result.1 }
+{
+    if BLOCKS {
+        clean_blocks(place, code, at, owed, findings)
+    } else {
+        (at, owed)
+    }
+}
+
+/// Scans a stretch from byte `at` on: what looks at blocks see to break no rule, and then the next
+/// bundle, if any is left. Says up to where, and what is owed there.
 #[inline(always)]
 fn scan_front<F: FindingSink, const BLOCKS: bool>(
     place: &BundlePlace,
@@ -216,12 +260,13 @@ fn scan_front<F: FindingSink, const BLOCKS: bool>(
     ensures { (k : ℕ) → at ≡ bundle_size * k
         → IsWordFrontScanned F.takes place.now owed code.now k result.0 result.1 sink.old sink.new }
 {
-    if let Some(seen) = look_at_front::<BLOCKS>(place, code, at, owed, findings) {
-        return seen;
+    let (end, left) = clean_front::<BLOCKS>(place, code, at, owed, findings);
+    if end == code.len() {
+        return (end, left);
     }
-    let bundle = bytes_from::<BUNDLE_BYTES>(code, at);
-    let next = scan_one(&place_after(place, at), bundle, owed, sink, findings);
-    (at + BUNDLE_BYTES, next)
+    let bundle = bytes_from::<BUNDLE_BYTES>(code, end);
+    let next = scan_one(&place_after(place, end), bundle, left, sink, findings);
+    (end + BUNDLE_BYTES, next)
 }
 
 /// Scans a stretch of code in words, in blocks or bundle by bundle.

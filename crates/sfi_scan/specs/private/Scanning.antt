@@ -24,13 +24,16 @@ abbrev pub IsBlockScanned : {F : Type 0} → (F → List Finding → F → Type 
 IsBlockScanned takes b block from before after =
     IsScanned takes (stretch_place b from) (drop (bundle_size * from) block) (8 - from) before after
 
--- from the stretch's bundle k on up to a byte lie some bundles, so many as this holds of
-pub record IsFront (bytes : List ℕ) (k end : ℕ) (holds : ℕ → Type 0) : Type 0 where
+-- from the stretch's bundle k on up to a byte lie so many bundles as this holds of
+pub record IsRun (bytes : List ℕ) (k end : ℕ) (holds : ℕ → Type 0) : Type 0 where
   pub bundles : ℕ
   pub end_is : end ≡ bundle_size * (k + bundles)
-  pub some : 1 ≤ bundles
   pub inside : end ≤ length bytes
   pub told : holds bundles
+
+-- and they are some
+abbrev pub IsFront : List ℕ → ℕ → ℕ → (ℕ → Type 0) → Type 0
+IsFront bytes k end holds = IsRun bytes k end (λ n. (1 ≤ n) × holds n)
 
 -- these bundles are scanned
 abbrev pub IsFrontScanned : {F : Type 0} → (F → List Finding → F → Type 0) → BundlePlace → List ℕ → ℕ → ℕ → F → F → Type 0
@@ -46,3 +49,8 @@ IsWordFrontScanned takes b owed bytes k end next before after =
 abbrev pub IsFrontClean : BundlePlace → Owed → List ℕ → ℕ → ℕ → Owed → Type 0
 IsFrontClean b owed bytes k end next =
     IsFront bytes k end (λ n. AreWordStretchFindings (stretch_place b k) owed (drop (bundle_size * k) bytes) n [] next)
+
+-- so do the bundles up to that byte, if any
+abbrev pub IsRunClean : BundlePlace → Owed → List ℕ → ℕ → ℕ → Owed → Type 0
+IsRunClean b owed bytes k end next =
+    IsRun bytes k end (λ n. AreWordStretchFindings (stretch_place b k) owed (drop (bundle_size * k) bytes) n [] next)

@@ -1,11 +1,11 @@
 use Rattle.sfi_scan.proofs.Prelude.{◌-◌, length}
 use Rattle.sfi_scan.specs.Stretches.{IsScanned}
-use Rattle.sfi_scan.proofs.Fronts.{IsWalked}
+use Rattle.sfi_scan.specs.private.Scanning.{IsRun}
 use Rattle.sfi_scan.proofs.code.scan_code.Given as goal
 
 -- so many bundles are scanned
 abbrev pub invariant-loop-at : goal.invariant-loop-at
-invariant-loop-at g l = IsWalked l.code l.at (λ k. IsScanned g.F.FindingSink.takes l.place l.code k l.initial.sink l.sink)
+invariant-loop-at g l = IsRun l.code 0 l.at (λ k. IsScanned g.F.FindingSink.takes l.place l.code k l.initial.sink l.sink)
 
 abbrev pub decreases-loop-at : goal.decreases-loop-at
 decreases-loop-at g l = length l.code - l.at

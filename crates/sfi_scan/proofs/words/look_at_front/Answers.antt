@@ -5,31 +5,31 @@ use Rattle.sfi_scan.proofs.WordFronts.{block_seen}
 use Rattle.sfi_scan.proofs.words.look_at_front.Goals as goal
 
 pub place_after-first-requires : goal.place_after-first-requires
-place_after-first-requires g c =
+place_after-first-requires c =
     let s = c.in_ok-start.ensures c.requires.1 c.requires.3 in
     let whole = s.whole in
     let run = c.requires.2 in
     omega (arith, whole, run.end, run.addresses)
 
 pub bytes_from-block-requires : goal.bytes_from-block-requires
-bytes_from-block-requires g c =
+bytes_from-block-requires c =
     let s = c.in_ok-start.ensures c.requires.1 c.requires.3 in
     (omega arith, s.whole)
 
 pub overflow_sub-at : goal.overflow_sub-at
-overflow_sub-at g c =
+overflow_sub-at c =
     let s = c.in_ok-start.ensures c.requires.1 c.requires.3 in
     let is = s.is in
     let start_is = s.start_is in
     omega (arith, is, start_is, c.requires.3)
 
 pub look_at_block-requires-clause-within : goal.look_at_block-requires-clause-within
-look_at_block-requires-clause-within g c =
+look_at_block-requires-clause-within c =
     let s = c.in_ok-start.ensures c.requires.1 c.requires.3 in
     subst IsWithinBlock (sym (c.place_after-first.ensures s.first s.start_is)) s.within
 
 pub look_at_block-requires-clause-inside : goal.look_at_block-requires-clause-inside
-look_at_block-requires-clause-inside g c =
+look_at_block-requires-clause-inside c =
     let s = c.in_ok-start.ensures c.requires.1 c.requires.3 in
     let is = s.is in
     let inside = s.inside in
@@ -37,13 +37,13 @@ look_at_block-requires-clause-inside g c =
     omega (arith, is, inside, start_is, c.requires.3)
 
 pub overflow_add-result : goal.overflow_add-result
-overflow_add-result g c =
+overflow_add-result c =
     let s = c.in_ok-start.ensures c.requires.1 c.requires.3 in
     let whole = s.whole in
     omega (arith, whole)
 
 pub returns : goal.returns
-returns g c = λ k at.
+returns c = λ k at.
     let b = c.args.place.now in
     let code = c.args.code.now in
     let owed = c.args.owed in
