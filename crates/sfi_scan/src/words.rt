@@ -226,7 +226,7 @@ fn clean_blocks(
     (end, left)
 }
 
-/// The same, if scanning in blocks; else byte `at` itself, and what is owed there.
+/// What `clean_blocks` says, if scanning in blocks; else byte `at` itself, and what is owed there.
 #[inline(always)]
 fn clean_front<const BLOCKS: bool>(
     place: &BundlePlace,

@@ -7,8 +7,8 @@ use Rattle.sfi_rules.specs.declared.finding.Finding.{Finding}
 use Rattle.sfi_rules.specs.declared.owed.Owed.{Owed}
 use Rattle.sfi_scan.specs.Stretches.{stretch_place, IsScanned, IsWordCodeScanned, AreWordStretchFindings}
 
--- a plain block of the stretch begins at that byte, before its region's last bundle, and has the stretch's
--- bundle k
+-- a plain block of the stretch begins at byte `start`, before its region's last bundle, and has the
+-- stretch's bundle k
 pub record IsBlockStart (b : BundlePlace) (bytes : List ℕ) (k start : ℕ) : Type 0 where
   pub first : ℕ
   pub before : ℕ
@@ -19,38 +19,45 @@ pub record IsBlockStart (b : BundlePlace) (bytes : List ℕ) (k start : ℕ) : T
   pub within : IsWithinBlock (stretch_place b first)
   pub plain : (stretch_place b first).listed ≡ false
 
--- the block's bundles from that one on are scanned: the sink took their findings
-abbrev pub IsBlockScanned : {F : Type 0} → (F → List Finding → F → Type 0) → BundlePlace → List ℕ → ℕ → F → F → Type 0
+-- the block's bundles from number `from` on are scanned: the sink took their findings
+abbrev pub IsBlockScanned : {F : Type 0} → (F → List Finding → F → Type 0) → BundlePlace → List ℕ
+    → ℕ → F → F → Type 0
 IsBlockScanned takes b block from before after =
     IsScanned takes (stretch_place b from) (drop (bundle_size * from) block) (8 - from) before after
 
--- from the stretch's bundle k on up to a byte lie so many bundles as this holds of
+-- from the stretch's bundle k on bundles lie up to byte `end`, and `holds` is so of their number
 pub record IsRun (bytes : List ℕ) (k end : ℕ) (holds : ℕ → Type 0) : Type 0 where
   pub bundles : ℕ
   pub end_is : end ≡ bundle_size * (k + bundles)
   pub inside : end ≤ length bytes
   pub told : holds bundles
 
--- and they are some
+-- the same, and there is at least one
 abbrev pub IsFront : List ℕ → ℕ → ℕ → (ℕ → Type 0) → Type 0
 IsFront bytes k end holds = IsRun bytes k end (λ n. (1 ≤ n) × holds n)
 
 -- these bundles are scanned
-abbrev pub IsFrontScanned : {F : Type 0} → (F → List Finding → F → Type 0) → BundlePlace → List ℕ → ℕ → ℕ → F → F → Type 0
+abbrev pub IsFrontScanned : {F : Type 0} → (F → List Finding → F → Type 0) → BundlePlace → List ℕ → ℕ
+    → ℕ → F → F → Type 0
 IsFrontScanned takes b bytes k end before after =
-    IsFront bytes k end (λ n. IsScanned takes (stretch_place b k) (drop (bundle_size * k) bytes) n before after)
+    IsFront bytes k end (λ n.
+    IsScanned takes (stretch_place b k) (drop (bundle_size * k) bytes) n before after)
 
--- they are scanned as code in words, where the one is owed before them; the other is owed after them
-abbrev pub IsWordFrontScanned : {F : Type 0} → (F → List Finding → F → Type 0) → BundlePlace → Owed → List ℕ → ℕ → ℕ → Owed → F → F → Type 0
+-- they are scanned as code in words, with `owed` before them and `next` after them
+abbrev pub IsWordFrontScanned : {F : Type 0} → (F → List Finding → F → Type 0) → BundlePlace → Owed
+    → List ℕ → ℕ → ℕ → Owed → F → F → Type 0
 IsWordFrontScanned takes b owed bytes k end next before after =
-    IsFront bytes k end (λ n. IsWordCodeScanned takes (stretch_place b k) owed (drop (bundle_size * k) bytes) n next before after)
+    IsFront bytes k end (λ n. IsWordCodeScanned takes (stretch_place b k) owed
+    (drop (bundle_size * k) bytes) n next before after)
 
 -- as code in words they break no rule
 abbrev pub IsFrontClean : BundlePlace → Owed → List ℕ → ℕ → ℕ → Owed → Type 0
 IsFrontClean b owed bytes k end next =
-    IsFront bytes k end (λ n. AreWordStretchFindings (stretch_place b k) owed (drop (bundle_size * k) bytes) n [] next)
+    IsFront bytes k end (λ n.
+    AreWordStretchFindings (stretch_place b k) owed (drop (bundle_size * k) bytes) n [] next)
 
--- so do the bundles up to that byte, if any
+-- the same, and there may be none
 abbrev pub IsRunClean : BundlePlace → Owed → List ℕ → ℕ → ℕ → Owed → Type 0
 IsRunClean b owed bytes k end next =
-    IsRun bytes k end (λ n. AreWordStretchFindings (stretch_place b k) owed (drop (bundle_size * k) bytes) n [] next)
+    IsRun bytes k end (λ n.
+    AreWordStretchFindings (stretch_place b k) owed (drop (bundle_size * k) bytes) n [] next)
