@@ -292,7 +292,7 @@ fn report_rows(rt: HostRuntime) -> Result<(), Fail> {
     try_rows(&rt, rt.alloc(), reports::REPORTS, 18)?;
     try_rows(&rt, rt.alloc(), reports::CONVERSIONS, 13)?;
     try_rows(&rt, rt.alloc(), reports::CONVERTED, 3)?;
-    try_rows(&rt, rt.alloc(), reports::LISTINGS, 8)
+    try_rows(&rt, rt.alloc(), reports::LISTINGS, 9)
 }
 
 #[test]
