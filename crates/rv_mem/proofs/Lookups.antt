@@ -168,7 +168,7 @@ none_later ss i from to d h n m = λ q f t. none_more ss i q d h (n q f t) (none
 
 -- ---- a segment at the end
 
-none_right : (o : Option ℕ) → option_or o None ≡ o
+pub none_right : (o : Option ℕ) → option_or o None ≡ o
 none_right None = refl
 none_right (Some x) = refl
 

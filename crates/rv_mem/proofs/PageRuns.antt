@@ -1,9 +1,9 @@
 -- Pages: runs of bytes, and their marks.
-use Rattle.rv_mem.proofs.Prelude.{eqb-true, ◌^◌, ◌≡◌, ◌≢◌, ℕ, ◌+◌, ◌-◌, ◌*◌, ◌/◌, ◌%◌, ◌<◌, ◌≤◌, ◌==◌, ◌⊎◌, inl, inr, ⊎_elim, true, false, cond, zero, suc, nat_lt, length, List, [], ◌∷◌, ◌++◌, Option, Some, None, refl, sym, ap, ◌∙◌, subst, arith, slice_index, replicate, option_or, nat_cmp_total, get, same_map, nat_cmp-IsAntisymmetric, Bytes, byte_at, address_after, addresses, run_of, Puts, MarksRun, frame_of, cell, cell_at, ArePages, values_of, slice_get, length-replicate, add-zero, length-append, with_bytes, added, byte_in}
-use Rattle.std.proofs.lemmas.Bool.{eqb-false}
+use Rattle.rv_mem.proofs.Prelude.{◌^◌, ◌≡◌, ◌≢◌, ℕ, ◌+◌, ◌-◌, ◌*◌, ◌/◌, ◌%◌, ◌<◌, ◌≤◌, ◌==◌, ◌⊎◌, inl, inr, ⊎_elim, true, false, cond, zero, suc, nat_lt, length, List, [], ◌∷◌, ◌++◌, Option, Some, None, refl, sym, ap, ◌∙◌, subst, arith, get_or, slice_index, replicate, option_or, nat_cmp_total, get, same_map, nat_cmp-IsAntisymmetric, Bytes, byte_at, address_after, addresses, run_of, Puts, MarksRun, frame_of, cell, cell_at, ArePages, values_of, slice_get, length-replicate, add-zero, length-append, with_bytes, added, byte_in}
+use Rattle.std.proofs.lemmas.Bool.{cases_eq, cases_lt}
 use Rattle.std.proofs.lemmas.Option.{slice_get-get_or, slice_get_past}
 use Rattle.rv_mem.proofs.Lookups.{get_with}
-use Rattle.rv_mem.proofs.Paging.{is_marked, no_frame, get_pages}
+use Rattle.rv_mem.proofs.Paging.{is_marked, no_frame, get_pages, table_value}
 
 -- ---- a run of bytes
 
@@ -59,19 +59,16 @@ pub marks_run : (c d e g : List ℕ) (p n given : ℕ) (f ys : List ℕ) (k : �
     → MarksRun c g p n f k
 marks_run c d e g p n given f ys k page some first zeros marks is small none = record {
   size = marks.size ∙ zeros.size ∙ first.size;
-  written = λ j h. marks.below (p + j) (omega (arith, h, page)) ∙ elim (nat_lt j given) as (λ r. nat_lt j given ≡ r → slice_index e (p + j) ≡ slice_index f (k + j)) [
-    | true ↦ λ r.
-        let less : j < given = grind arith in
-        zeros.below (p + j) (omega (arith, less)) ∙ first.inside j less ∙ is j less
-    | false ↦ λ r.
-        let more : given ≤ j = grind arith in
+  written = λ j h. marks.below (p + j) (omega (arith, h, page)) ∙ elim (cases_lt j given) [
+    | inl less ↦ zeros.below (p + j) (omega (arith, less)) ∙ first.inside j less ∙ is j less
+    | inr more ↦
         let z : p + j ≡ p + given + (j - given) = omega (arith, more) in
         ap (slice_index e) z ∙ zeros.inside (j - given) (omega (arith, more, h)) ∙ sym (none j more h)
-  ] refl;
-  small = λ j h. elim (nat_lt j given) as (λ r. nat_lt j given ≡ r → slice_index f (k + j) < 256) [
-    | true ↦ λ r. let less : j < given = grind arith in subst (λ (x : ℕ). x < 256) (is j less) (small j)
-    | false ↦ λ r. let more : given ≤ j = grind arith in let z : slice_index f (k + j) ≡ 0 = none j more h in omega (arith, z)
-  ] refl;
+  ];
+  small = λ j h. elim (cases_lt j given) [
+    | inl less ↦ subst (λ (x : ℕ). x < 256) (is j less) (small j)
+    | inr more ↦ let z : slice_index f (k + j) ≡ 0 = none j more h in omega (arith, z)
+  ];
   marks = marks.inside;
   below = λ j h. marks.below j (omega (arith, h)) ∙ zeros.below j (omega (arith, h)) ∙ first.below j h;
   between = λ j h l. marks.below j l ∙ zeros.past j (omega (arith, h, some)) ∙ first.past j (omega (arith, h, some));
@@ -85,29 +82,25 @@ module _ (t c d : List ℕ) (are : ArePages t c) (at n : ℕ) (f : List ℕ) (k 
   frame_above = let h : 0 < slice_index t (at / 4096) = omega (arith, frame) in omega (arith, h)
 
   small_run : (x : ℕ) → slice_index d x < 256
-  small_run x = elim (nat_lt x p) as (λ r. nat_lt x p ≡ r → slice_index d x < 256) [
-    | true ↦ λ r. let h : x < p = grind arith in as_before x (run.below x h)
-    | false ↦ λ r. elim (nat_lt x (p + n)) as (λ s. nat_lt x (p + n) ≡ s → slice_index d x < 256) [
-      | true ↦ λ s.
-          let h : p ≤ x = grind arith in
-          let l : x < p + n = grind arith in
+  small_run x = elim (cases_lt x p) [
+    | inl h ↦ as_before x (run.below x h)
+    | inr h ↦ elim (cases_lt x (p + n)) [
+      | inl l ↦
           let z : x ≡ p + (x - p) = omega (arith, h) in
           let less : x - p < n = omega (arith, h, l) in
           subst (λ (y : ℕ). y < 256) (sym (ap (slice_index d) z ∙ run.written (x - p) less)) (run.small (x - p) less)
-      | false ↦ λ s. elim (nat_lt x (p + 4096)) as (λ u. nat_lt x (p + 4096) ≡ u → slice_index d x < 256) [
-        | true ↦ λ u. let h : p + n ≤ x = grind arith in let l : x < p + 4096 = grind arith in as_before x (run.between x h l)
-        | false ↦ λ u. elim (nat_lt x (p + 4096 + n)) as (λ v. nat_lt x (p + 4096 + n) ≡ v → slice_index d x < 256) [
-          | true ↦ λ v.
-              let h : p + 4096 ≤ x = grind arith in
-              let l : x < p + 4096 + n = grind arith in
-              let z : x ≡ p + 4096 + (x - (p + 4096)) = omega (arith, h) in
-              let one : slice_index d x ≡ 1 = ap (slice_index d) z ∙ run.marks (x - (p + 4096)) (omega (arith, h, l)) in
+      | inr l ↦ elim (cases_lt x (p + 4096)) [
+        | inl m ↦ as_before x (run.between x l m)
+        | inr m ↦ elim (cases_lt x (p + 4096 + n)) [
+          | inl o ↦
+              let z : x ≡ p + 4096 + (x - (p + 4096)) = omega (arith, m) in
+              let one : slice_index d x ≡ 1 = ap (slice_index d) z ∙ run.marks (x - (p + 4096)) (omega (arith, m, o)) in
               omega (arith, one)
-          | false ↦ λ v. let h : p + 4096 + n ≤ x = grind arith in as_before x (run.past x h)
-        ] refl
-      ] refl
-    ] refl
-  ] refl
+          | inr o ↦ as_before x (run.past x o)
+        ]
+      ]
+    ]
+  ]
     where
       p : ℕ
       p = frame_of t at + at % 4096
@@ -115,7 +108,7 @@ module _ (t c d : List ℕ) (are : ArePages t c) (at n : ℕ) (f : List ℕ) (k 
       as_before : (x : ℕ) → slice_index d x ≡ slice_index c x → slice_index d x < 256
       as_before x e = subst (λ (y : ℕ). y < 256) (sym e) (are.bytes x)
 
-  pub are_run : ArePages t d
+  are_run : ArePages t d
   are_run = record {
     count = are.count;
     whole = ap (λ (x : ℕ). x % 8192) run.size ∙ are.whole;
@@ -137,33 +130,27 @@ module _ (t c d : List ℕ) (are : ArePages t c) (at n : ℕ) (f : List ℕ) (k 
 
   -- elsewhere all stays
   other_place : (q : ℕ) → ((q < at) ⊎ (at + n ≤ q)) → cell_at t d q ≡ cell_at t c q
-  other_place q out = elim (slice_index t (q / 4096) == slice_index t (at / 4096)) as (λ r. (slice_index t (q / 4096) == slice_index t (at / 4096)) ≡ r → cell_at t d q ≡ cell_at t c q) [
-    | true ↦ λ r.
-        let s : slice_index t (q / 4096) ≡ slice_index t (at / 4096) = eqb-true (slice_index t (q / 4096)) (slice_index t (at / 4096)) r in
+  other_place q out = elim (cases_eq (slice_index t (q / 4096)) (slice_index t (at / 4096))) [
+    | inl s ↦
         let page : at / 4096 ≡ q / 4096 = are.apart (at / 4096) (q / 4096) (sym s) frame in
         ⊎_elim
         (λ (h : q < at). stays q (run.below (frame_of t q + q % 4096) (omega (arith, h, page, s))) (run.between (frame_of t q + q % 4096 + 4096) (omega (arith, page, s, room)) (omega (arith, h, page, s))))
         (λ (h : at + n ≤ q). stays q (run.between (frame_of t q + q % 4096) (omega (arith, h, page, s)) (omega (arith, page, s))) (run.past (frame_of t q + q % 4096 + 4096) (omega (arith, h, page, s))))
         out
-    | false ↦ λ r.
-        let other : slice_index t (q / 4096) ≢ slice_index t (at / 4096) = eqb-false (slice_index t (q / 4096)) (slice_index t (at / 4096)) r in
-        elim (nat_lt (slice_index t (q / 4096)) (slice_index t (at / 4096))) as (λ s. nat_lt (slice_index t (q / 4096)) (slice_index t (at / 4096)) ≡ s → cell_at t d q ≡ cell_at t c q) [
-          | true ↦ λ s.
-              let less : slice_index t (q / 4096) < slice_index t (at / 4096) = grind arith in
-              stays q (run.below (frame_of t q + q % 4096) (omega (arith, less))) (run.below (frame_of t q + q % 4096 + 4096) (omega (arith, less)))
-          | false ↦ λ s.
-              let above : slice_index t (at / 4096) ≤ slice_index t (q / 4096) = grind arith in
-              let more : slice_index t (at / 4096) < slice_index t (q / 4096) = omega (arith, above, other) in
-              stays q (run.past (frame_of t q + q % 4096) (omega (arith, more, room))) (run.past (frame_of t q + q % 4096 + 4096) (omega (arith, more, room)))
-        ] refl
-  ] refl
+    | inr other ↦ elim (cases_lt (slice_index t (q / 4096)) (slice_index t (at / 4096))) [
+      | inl less ↦ stays q (run.below (frame_of t q + q % 4096) (omega (arith, less))) (run.below (frame_of t q + q % 4096 + 4096) (omega (arith, less)))
+      | inr above ↦
+          let more : slice_index t (at / 4096) < slice_index t (q / 4096) = omega (arith, above, other) in
+          stays q (run.past (frame_of t q + q % 4096) (omega (arith, more, room))) (run.past (frame_of t q + q % 4096 + 4096) (omega (arith, more, room)))
+    ]
+  ]
     where
       stays : (q : ℕ) → slice_index d (frame_of t q + q % 4096) ≡ slice_index c (frame_of t q + q % 4096) → slice_index d (frame_of t q + q % 4096 + 4096) ≡ slice_index c (frame_of t q + q % 4096 + 4096) → cell_at t d q ≡ cell_at t c q
       stays q byte mark =
           let p = frame_of t q + q % 4096 in
           ap (λ (x : ℕ). cond (x == 1) (Some (slice_index d p)) None) mark ∙ ap (λ (x : ℕ). cond (slice_index c (p + 4096) == 1) (Some x) None) byte
 
-  pub run_written : (q : ℕ) → cell_at t d q ≡ run_of at n f k q (cell_at t c q)
+  run_written : (q : ℕ) → cell_at t d q ≡ run_of at n f k q (cell_at t c q)
   run_written q = elim (nat_lt q at) as (λ r. nat_lt q at ≡ r → cell_at t d q ≡ cond r (cell_at t c q) (cond (nat_lt q (at + n)) (Some (slice_index f (k + (q - at)))) (cell_at t c q))) [
     | true ↦ λ r. let h : q < at = grind arith in other_place q (inl h)
     | false ↦ λ r. elim (nat_lt q (at + n)) as (λ s. nat_lt q (at + n) ≡ s → cell_at t d q ≡ cond s (Some (slice_index f (k + (q - at)))) (cell_at t c q)) [
@@ -176,17 +163,31 @@ module _ (t c d : List ℕ) (are : ArePages t c) (at n : ℕ) (f : List ℕ) (k 
     ] refl
   ] refl
 
+-- the frame was read, and the cells are those of a vector
+pub run_put : (t d first new items : List ℕ) → ArePages t d → (at n : ℕ) (f : List ℕ) (k frame : ℕ) → slice_index t (at / 4096) ≢ 0 → frame ≡ get_or t (at / 4096) frame → at % 4096 + n ≤ 4096
+    → first ≡ d → MarksRun first new (frame * 8192 + at % 4096) n f k → items ≡ new
+    → ArePages t items × ((q : ℕ) → byte_at (values_of (cell_at t items)) q ≡ run_of at n f k q (byte_at (values_of (cell_at t d)) q))
+run_put t d first new items are at n f k frame some read room first_is marks items_is =
+    let value = table_value t (at / 4096) frame some read in
+    let place : frame * 8192 + at % 4096 ≡ frame_of t at + at % 4096 = omega (arith, value) in
+    let run : MarksRun d items (frame_of t at + at % 4096) n f k = rw (items_is, ← place, ← first_is) marks in
+    let all = are_run t d items are at n f k some room run in (
+      all,
+      λ q.
+          get_pages t items all q ∙ run_written t d items are at n f k some room run q
+          ∙ ap (λ (o : Option ℕ). run_of at n f k q o) (sym (get_pages t d are q)),
+    )
+
 -- a run in the round of all addresses
 pub after_run : (base d n at j : ℕ) → at ≡ (base + d) % 2 ^ 32 → at % 4096 + n ≤ 4096 → j < n → address_after base (d + j) ≡ at + j
 after_run base d n at j e room below = omega arith
 
 pub none_further : (m : Bytes) (base d n at : ℕ) → at ≡ (base + d) % 2 ^ 32 → at % 4096 + n ≤ 4096 → ((j : ℕ) → j < d → byte_at m (address_after base j) ≡ None) → ((j : ℕ) → j < n → byte_at m (at + j) ≡ None)
     → (j : ℕ) → j < d + n → byte_at m (address_after base j) ≡ None
-none_further m base d n at e room before more j below = elim (nat_lt j d) as (λ r. nat_lt j d ≡ r → byte_at m (address_after base j) ≡ None) [
-  | true ↦ λ r. let h : j < d = grind arith in before j h
-  | false ↦ λ r.
-      let above : d ≤ j = grind arith in
+none_further m base d n at e room before more j below = elim (cases_lt j d) [
+  | inl h ↦ before j h
+  | inr above ↦
       let k : d + (j - d) ≡ j = omega arith in
       let small : j - d < n = omega arith in
       ap (λ (x : ℕ). byte_at m (address_after base x)) (sym k) ∙ ap (byte_at m) (after_run base d n at (j - d) e room small) ∙ more (j - d) small
-] refl
+]

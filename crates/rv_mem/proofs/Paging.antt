@@ -1,18 +1,16 @@
 -- Pages: what they have at an address.
-use Rattle.rv_mem.proofs.Prelude.{eqb-true, is_some, ◌^◌, ◌≡◌, ◌≢◌, ℕ, ◌+◌, ◌/◌, ◌%◌, ◌<◌, ◌≤◌, ◌==◌, ◌⊎◌, inl, inr, Bool, true, false, cond, zero, suc, nat_lt, get_or, length, IsSome, List, [], ◌∷◌, Option, Some, None, refl, sym, ap, ◌∙◌, subst, arith, slice_index, option_or, nat_cmp_total, empty, get-empty, same_map, nat_cmp-IsAntisymmetric, Bytes, byte_at, IsMemory, frame_of, cell, cell_at, ArePages, with_entry, values_below, values_of}
-use Rattle.std.proofs.lemmas.Bool.{eqb-false}
+use Rattle.rv_mem.proofs.Prelude.{eqb-true, is_some, ◌^◌, ◌≡◌, ◌≢◌, ℕ, ◌+◌, ◌/◌, ◌%◌, ◌<◌, ◌≤◌, ◌==◌, inl, inr, Bool, true, false, cond, zero, suc, nat_lt, get_or, length, IsSome, List, [], Option, Some, None, refl, sym, ap, ◌∙◌, subst, arith, slice_index, option_or, nat_cmp_total, empty, get-empty, same_map, nat_cmp-IsAntisymmetric, Bytes, byte_at, IsMemory, frame_of, cell, cell_at, ArePages, with_entry, values_below, values_of}
+use Rattle.std.proofs.lemmas.Bool.{cases_lt, eqb-false}
+use Rattle.std.proofs.lemmas.List.{get_or_default, get_or_past}
 use Rattle.std.specs.Ordering.{nat_cmp}
 use Rattle.rv_mem.proofs.Accesses.{byte_at-insert}
+use Rattle.rv_mem.proofs.Lookups.{none_right}
 
 -- ---- a map from a function
 
 cond_same : (t : Bool) (o : Option ℕ) → o ≡ cond t o o
 cond_same true o = refl
 cond_same false o = refl
-
-or_none : (o : Option ℕ) → option_or o None ≡ o
-or_none None = refl
-or_none (Some b) = refl
 
 entry_get : (m : Bytes) (a : ℕ) (o : Option ℕ) (q : ℕ) → byte_at (with_entry m a o) q ≡ cond (q == a) (option_or o (byte_at m q)) (byte_at m q)
 entry_get m a None q = cond_same (q == a) (byte_at m q)
@@ -25,7 +23,7 @@ one_further n f q o e = elim (q == n) as (λ t. (q == n) ≡ t → cond t (optio
       let no : nat_lt q n ≡ false = grind arith in
       let yes : nat_lt q (suc n) ≡ true = grind arith in
       let none : o ≡ None = e ∙ ap (λ (b : Bool). cond b (f q) None) no in
-      ap (option_or (f n)) none ∙ or_none (f n) ∙ ap f (sym same) ∙ ap (λ (b : Bool). cond b (f q) None) (sym yes)
+      ap (option_or (f n)) none ∙ none_right (f n) ∙ ap f (sym same) ∙ ap (λ (b : Bool). cond b (f q) None) (sym yes)
   | false ↦ λ t.
       let other : q ≢ n = eqb-false q n t in
       let as_before : nat_lt q n ≡ nat_lt q (suc n) = grind arith in
@@ -52,15 +50,8 @@ get_values f past q = get_below (2 ^ 32) f q ∙ elim (nat_lt q (2 ^ 32)) as (λ
 
 -- ---- look-ups
 
-pub slice_past : (xs : List ℕ) (k : ℕ) → length xs ≤ k → slice_index xs k ≡ 0
-slice_past [] k h = refl
-slice_past (x ∷ xs) zero h = absurd (omega arith)
-slice_past (x ∷ xs) (suc k) h = slice_past xs k (omega arith)
-
 pub within : (xs : List ℕ) (k : ℕ) → slice_index xs k ≢ 0 → k < length xs
-within [] k h = absurd (h refl)
-within (x ∷ xs) zero h = omega arith
-within (x ∷ xs) (suc k) h = let b : k < length xs = within xs k h in omega arith
+within xs k h = elim (cases_lt k (length xs)) [ inl lt ↦ lt | inr le ↦ absurd (h (get_or_past xs k 0 le)) ]
 
 pub unmarked : (c : List ℕ) (p : ℕ) → slice_index c (p + 4096) ≢ 1 → cell c p ≡ None
 unmarked c p h = elim (slice_index c (p + 4096) == 1) as (λ t. (slice_index c (p + 4096) == 1) ≡ t → cond t (Some (slice_index c p)) None ≡ None) [
@@ -77,9 +68,6 @@ marked c p h = elim (slice_index c (p + 4096) == 1) as (λ t. (slice_index c (p 
   | false ↦ λ t s. absurd (cc)
 ] refl h
 
-some_is : (o : Option ℕ) (b : ℕ) → o ≡ Some b → IsSome o
-some_is o b e = ap is_some e
-
 module _ (t c : List ℕ) (are : ArePages t c) where
   pub no_frame : (q : ℕ) → slice_index t (q / 4096) ≡ 0 → cell_at t c q ≡ None
   no_frame q e =
@@ -89,7 +77,7 @@ module _ (t c : List ℕ) (are : ArePages t c) where
       unmarked c (frame_of t q + q % 4096) (λ o. let w : 0 ≡ 1 = sym z ∙ o in absurd (omega arith))
 
   pub past_table : (q : ℕ) → length t ≤ q / 4096 → cell_at t c q ≡ None
-  past_table q h = no_frame q (slice_past t (q / 4096) h)
+  past_table q h = no_frame q (get_or_past t (q / 4096) 0 h)
 
   past_all : (q : ℕ) → 2 ^ 32 ≤ q → cell_at t c q ≡ None
   past_all q h = let n : length t ≤ 2 ^ 20 = are.count in past_table q (omega arith)
@@ -98,15 +86,12 @@ module _ (t c : List ℕ) (are : ArePages t c) where
   get_pages q = get_values (cell_at t c) past_all q
 
   address_is : (a b : ℕ) → cell_at t c a ≡ Some b → a < 2 ^ 32
-  address_is a b e = elim (nat_lt a (2 ^ 32)) as (λ r. nat_lt a (2 ^ 32) ≡ r → a < 2 ^ 32) [
-    | true ↦ λ r. grind arith
-    | false ↦ λ r. let h : 2 ^ 32 ≤ a = grind arith in let n : cell_at t c a ≡ None = past_all a h in absurd (cc)
-  ] refl
+  address_is a b e = elim (cases_lt a (2 ^ 32)) [ inl lt ↦ lt | inr le ↦ (let n : cell_at t c a ≡ None = past_all a le in absurd (cc)) ]
 
   byte_is : (a b : ℕ) → cell_at t c a ≡ Some b → b < 256
   byte_is a b e =
       let p = frame_of t a + a % 4096 in
-      let f : Some (slice_index c p) ≡ Some b = sym (is_marked c p (marked c p (some_is (cell c p) b e))) ∙ e in
+      let f : Some (slice_index c p) ≡ Some b = sym (is_marked c p (marked c p (ap is_some e))) ∙ e in
       let g : slice_index c p ≡ b = cc in
       subst (λ (x : ℕ). x < 256) g (are.bytes p)
 
@@ -129,13 +114,8 @@ none_anywhere t c e f = same_map nat_cmp_total nat_cmp-IsAntisymmetric _ _ (λ q
 
 -- ---- what was read
 
-default : (xs : List ℕ) (k d : ℕ) → k < length xs → slice_index xs k ≡ get_or xs k d
-default [] k d h = absurd (omega arith)
-default (x ∷ xs) zero d h = refl
-default (x ∷ xs) (suc k) d h = default xs k d (omega arith)
-
 pub read_is : (xs : List ℕ) (k r : ℕ) → k < length xs → r ≡ get_or xs k r → slice_index xs k ≡ r
-read_is xs k r h e = default xs k r h ∙ sym e
+read_is xs k r h e = get_or_default xs k 0 r h ∙ sym e
 
 pub table_value : (t : List ℕ) (k r : ℕ) → slice_index t k ≢ 0 → r ≡ get_or t k r → slice_index t k ≡ r
 table_value t k r h e = read_is t k r (within t k h) e
@@ -156,14 +136,6 @@ module _ (t c : List ℕ) (are : ArePages t c) (at f : ℕ) (is : f ≡ frame_of
       let small : at % 4096 < 4096 = omega arith in
       let mark : slice_index c (f + at % 4096 + 4096) ≡ m = read_is c (f + at % 4096 + 4096) m (omega arith) e in
       sym (get_pages t c are at ∙ ap (cell c) (sym here) ∙ unmarked c (f + at % 4096) (λ o. other (sym mark ∙ o)))
-
--- ---- marks side by side
-
-pub one_or_not : (n : ℕ) → (n ≡ 1) ⊎ (n ≢ 1)
-one_or_not n = elim (n == 1) as (λ r. (n == 1) ≡ r → (n ≡ 1) ⊎ (n ≢ 1)) [ true ↦ λ r. inl (eqb-true n 1 r) | false ↦ λ r. inr (eqb-false n 1 r) ] refl
-
-pub missing : (c : List ℕ) (k x : ℕ) → slice_index c (k + 4096) ≡ x → x ≢ 1 → cell c k ≡ None
-missing c k x e n = unmarked c k (λ o. n (sym e ∙ o))
 
 pub small_byte : (t c : List ℕ) → ArePages t c → (k x : ℕ) → slice_index c k ≡ x → x < 256
 small_byte t c are k x e = subst (λ (y : ℕ). y < 256) e (are.bytes k)

@@ -1,5 +1,5 @@
 use Rattle.rv_mem.proofs.Prelude.{◌≡◌, ◌+◌, ◌-◌, ℕ, length, take, drop, subst, ap, ◌∙◌, arith, length-take, length-drop, get_or-take, get_or-drop, slice_index, Puts}
-use Rattle.rv_mem.proofs.Paging.{slice_past}
+use Rattle.std.proofs.lemmas.List.{get_or_past}
 use Rattle.rv_mem.proofs.PageRuns.{marks_run}
 use Rattle.rv_mem.proofs.pages.mark_cells.Goals as goal
 
@@ -21,4 +21,4 @@ returns c =
     let same : start + j ≡ c.args.from + j = omega (arith, s, g, below) in
     get_or-take (start + given - start) (drop start f) j 0 (omega (arith, below)) ∙ get_or-drop start f j 0 ∙ ap (slice_index f) same)
     c.put_bytes.ensures.small
-    (λ j more below. slice_past f (c.args.from + j) (omega (arith, s, g, more, below)))
+    (λ j more below. get_or_past f (c.args.from + j) 0 (omega (arith, s, g, more, below)))
