@@ -108,7 +108,7 @@ module _ (t c d : List ℕ) (are : ArePages t c) (at n : ℕ) (f : List ℕ) (k 
       as_before : (x : ℕ) → slice_index d x ≡ slice_index c x → slice_index d x < 256
       as_before x e = subst (λ (y : ℕ). y < 256) (sym e) (are.bytes x)
 
-  are_run : ArePages t d
+  pub are_run : ArePages t d
   are_run = record {
     count = are.count;
     whole = ap (λ (x : ℕ). x % 8192) run.size ∙ are.whole;
@@ -150,7 +150,7 @@ module _ (t c d : List ℕ) (are : ArePages t c) (at n : ℕ) (f : List ℕ) (k 
           let p = frame_of t q + q % 4096 in
           ap (λ (x : ℕ). cond (x == 1) (Some (slice_index d p)) None) mark ∙ ap (λ (x : ℕ). cond (slice_index c (p + 4096) == 1) (Some x) None) byte
 
-  run_written : (q : ℕ) → cell_at t d q ≡ run_of at n f k q (cell_at t c q)
+  pub run_written : (q : ℕ) → cell_at t d q ≡ run_of at n f k q (cell_at t c q)
   run_written q = elim (nat_lt q at) as (λ r. nat_lt q at ≡ r → cell_at t d q ≡ cond r (cell_at t c q) (cond (nat_lt q (at + n)) (Some (slice_index f (k + (q - at)))) (cell_at t c q))) [
     | true ↦ λ r. let h : q < at = grind arith in other_place q (inl h)
     | false ↦ λ r. elim (nat_lt q (at + n)) as (λ s. nat_lt q (at + n) ≡ s → cell_at t d q ≡ cond s (Some (slice_index f (k + (q - at)))) (cell_at t c q)) [

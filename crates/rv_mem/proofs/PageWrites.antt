@@ -1,91 +1,13 @@
 -- Pages: what the write of a byte or a word makes of them, and a new frame.
-use Rattle.rv_mem.proofs.Prelude.{eqb-true, ◌^◌, ◌≡◌, ◌≢◌, ℕ, ◌+◌, ◌*◌, ◌/◌, ◌%◌, ◌<◌, ◌≤◌, ◌==◌, true, false, inl, inr, cond, zero, suc, get_or, length, set, IsSome, List, [], ◌∷◌, Option, Some, None, refl, sym, ap, ◌∙◌, subst, arith, get_or-set_other, get_or-set_same, slice_index, nat_cmp_total, insert, same_map, nat_cmp-IsAntisymmetric, Bytes, byte_at, address_after, loaded, with_four, frame_of, cell, cell_at, ArePages, values_of}
+use Rattle.rv_mem.proofs.Prelude.{eqb-true, ◌^◌, ◌≡◌, ◌≢◌, ℕ, ◌+◌, ◌*◌, ◌/◌, ◌%◌, ◌<◌, ◌≤◌, ◌==◌, true, false, inl, inr, cond, zero, suc, get_or, length, set, IsSome, List, [], ◌∷◌, Option, Some, None, refl, sym, ap, ◌∙◌, subst, arith, get_or-set_other, get_or-set_same, slice_index, nat_cmp_total, insert, same_map, nat_cmp-IsAntisymmetric, Bytes, byte_at, address_after, loaded, with_four, frame_of, cell, cell_at, ArePages, values_of, nat_lt, ◌-◌, MarksRun, run_of}
 use Rattle.std.proofs.Math.ListN.{length-set}
-use Rattle.std.proofs.lemmas.Bool.{cases_eq, eqb-false}
+use Rattle.std.proofs.lemmas.Bool.{cases_eq, cases_lt, eq-eqb, eqb-false, ne_eqb}
 use Rattle.std.proofs.lemmas.List.{get_or_past}
 use Rattle.rv_mem.proofs.Accesses.{byte_at-insert}
-use Rattle.rv_mem.proofs.Paging.{within, unmarked, is_marked, marked, no_frame, get_pages, has_frame, some_if}
+use Rattle.rv_mem.proofs.Paging.{within, unmarked, marked, no_frame, get_pages, has_frame, some_if}
 use Rattle.rv_mem.proofs.Lookups.{stays}
 use Rattle.rv_mem.proofs.PageReads.{missing_byte}
-
--- from c to d a cell got a byte and its mark
-pub record Sets (c d : List ℕ) (p b : ℕ) : Type 0 where
-  pub size : length d ≡ length c
-  pub byte : slice_index d p ≡ b
-  pub mark : slice_index d (p + 4096) ≡ 1
-  pub others : (k : ℕ) → k ≢ p → k ≢ p + 4096 → slice_index d k ≡ slice_index c k
-
-module _ (t c d : List ℕ) (are : ArePages t c) (at b : ℕ) (frame : slice_index t (at / 4096) ≢ 0) (small : b < 256) (sets : Sets c d (frame_of t at + at % 4096) b) where
-  above : 8192 ≤ frame_of t at
-  above = let h : 0 < slice_index t (at / 4096) = omega (arith, frame) in omega arith
-
-  pub are_set : ArePages t d
-  are_set = record {
-    count = are.count;
-    whole = ap (λ (n : ℕ). n % 8192) sets.size ∙ are.whole;
-    frames = λ p h. subst (λ (n : ℕ). (slice_index t p + 1) * 8192 ≤ n) (sym sets.size) (are.frames p h);
-    none = λ k h.
-        let a = above in
-        let x : 4096 + k ≢ frame_of t at + at % 4096 = omega arith in
-        let y : 4096 + k ≢ frame_of t at + at % 4096 + 4096 = omega arith in
-        sets.others (4096 + k) x y ∙ are.none k h;
-    apart = are.apart;
-    bytes = each;
-  }
-    where
-      each : (k : ℕ) → slice_index d k < 256
-      each k = elim (cases_eq k (frame_of t at + at % 4096)) [
-        | inl e ↦ omega (arith, small, ap (slice_index d) e ∙ sets.byte)
-        | inr byte ↦ elim (cases_eq k (frame_of t at + at % 4096 + 4096)) [
-          | inl e ↦ omega (arith, ap (slice_index d) e ∙ sets.mark)
-          | inr mark ↦ omega (arith, sets.others k byte mark, are.bytes k)
-        ]
-      ]
-
-  -- another address has another cell
-  page_same : (q : ℕ) → frame_of t q + q % 4096 ≡ frame_of t at + at % 4096 → slice_index t (q / 4096) ≡ slice_index t (at / 4096)
-  page_same q e = omega arith
-
-  other_cell : (q : ℕ) → q ≢ at → frame_of t q + q % 4096 ≢ frame_of t at + at % 4096
-  other_cell q ne e =
-      let s : slice_index t (q / 4096) ≡ slice_index t (at / 4096) = page_same q e in
-      let p : at / 4096 ≡ q / 4096 = are.apart (at / 4096) (q / 4096) (sym s) frame in
-      ne (omega (arith, p, e, s))
-
-  same_cell : (q : ℕ) → q ≢ at → cell_at t d q ≡ cell_at t c q
-  same_cell q ne =
-      let p = frame_of t q + q % 4096 in
-      let oc = other_cell q ne in
-      let byte : slice_index d p ≡ slice_index c p = sets.others p oc (λ e. omega arith) in
-      let mark : slice_index d (p + 4096) ≡ slice_index c (p + 4096) = sets.others (p + 4096) (λ e. omega arith) (λ e. oc (omega arith)) in
-      ap (λ (k : ℕ). cond (k == 1) (Some (slice_index d p)) None) mark ∙ ap (λ (x : ℕ). cond (slice_index c (p + 4096) == 1) (Some x) None) byte
-
-  pub cell_set : (q : ℕ) → cell_at t d q ≡ cond (q == at) (Some b) (cell_at t c q)
-  cell_set q = elim (q == at) as (λ r. (q == at) ≡ r → cell_at t d q ≡ cond r (Some b) (cell_at t c q)) [
-    | true ↦ λ r.
-        let e : q ≡ at = eqb-true q at r in
-        ap (cell_at t d) e ∙ is_marked d (frame_of t at + at % 4096) sets.mark ∙ ap Some sets.byte
-    | false ↦ λ r. same_cell q (eqb-false q at r)
-  ] refl
-
-  pub insert_set : values_of (cell_at t d) ≡ insert (values_of (cell_at t c)) at b
-  insert_set = same_map nat_cmp_total nat_cmp-IsAntisymmetric _ _ (λ q.
-      get_pages t d are_set q ∙ cell_set q
-      ∙ ap (cond (q == at) (Some b)) (sym (get_pages t c are q))
-      ∙ sym (byte_at-insert (values_of (cell_at t c)) at b q))
-
--- a byte that is there is written
-pub sets_byte : (c : List ℕ) (p b : ℕ) → slice_index c (p + 4096) ≡ 1 → Sets c (set c p b) p b
-sets_byte c p b m =
-    let far : p + 4096 < length c = within c (p + 4096) (λ e. let w : 0 ≡ 1 = sym e ∙ m in absurd (omega arith)) in
-    let near : p < length c = omega arith in
-    let up : p + 4096 ≢ p = λ e. omega arith in
-    record {
-      size = simp length-set;
-      byte = get_or-set_same c p b 0 near;
-      mark = get_or-set_other c p (p + 4096) b 0 up ∙ m;
-      others = λ k n o. get_or-set_other c p k b 0 n;
-    }
+use Rattle.rv_mem.proofs.PageRuns.{are_run, run_written}
 
 -- ---- a new frame
 
@@ -112,13 +34,57 @@ frame_made t c t0 c0 d page number are0 are cells table longer room none is q = 
 
 -- ---- bytes that are there are written
 
+-- a byte is a run of one
+one_run : (d : List ℕ) (p b : ℕ) → b < 256 → slice_index d (p + 4096) ≡ 1 → MarksRun d (set d p b) p 1 (b ∷ []) 0
+one_run d p b small mark = record {
+  size = simp length-set;
+  written = written;
+  small = fits;
+  marks = marks;
+  below = λ j h. get_or-set_other d p j b 0 (λ e. omega arith);
+  between = λ j h l. get_or-set_other d p j b 0 (λ e. omega arith);
+  past = λ j h. get_or-set_other d p j b 0 (λ e. omega arith);
+}
+  where
+    near : p < length d
+    near = let far : p + 4096 < length d = within d (p + 4096) (λ e. let w : 0 ≡ 1 = sym e ∙ mark in absurd (omega arith)) in omega arith
+
+    written : (j : ℕ) → j < 1 → slice_index (set d p b) (p + j) ≡ slice_index (b ∷ []) (0 + j)
+    written zero h = let z : p + 0 ≡ p = omega arith in ap (slice_index (set d p b)) z ∙ get_or-set_same d p b 0 near
+    written (suc j) h = absurd (omega arith)
+
+    fits : (j : ℕ) → j < 1 → slice_index (b ∷ []) (0 + j) < 256
+    fits zero h = small
+    fits (suc j) h = absurd (omega arith)
+
+    marks : (j : ℕ) → j < 1 → slice_index (set d p b) (p + 4096 + j) ≡ 1
+    marks zero h = let z : p + 4096 + 0 ≡ p + 4096 = omega arith in ap (slice_index (set d p b)) z ∙ get_or-set_other d p (p + 4096) b 0 (λ e. omega arith) ∙ mark
+    marks (suc j) h = absurd (omega arith)
+
+one_at : (at b q : ℕ) (o : Option ℕ) → run_of at 1 (b ∷ []) 0 q o ≡ cond (q == at) (Some b) o
+one_at at b q o = elim (cases_lt q at) [
+  | inl low ↦ (let is : nat_lt q at ≡ true = grind arith in rw (is, ne_eqb q at (λ e. omega arith)) refl)
+  | inr from ↦
+      let is : nat_lt q at ≡ false = grind arith in
+      elim (cases_eq q at) [
+        | inl e ↦ (let less : nat_lt q (at + 1) ≡ true = grind arith in let z : 0 + (q - at) ≡ 0 = omega arith in rw (is, less, z, eq-eqb q at e) refl)
+        | inr other ↦ (let past : nat_lt q (at + 1) ≡ false = grind arith in rw (is, past, ne_eqb q at other) refl)
+      ]
+]
+
 pub put_there : (t d : List ℕ) → ArePages t d → (q p b : ℕ) → p ≡ frame_of t q + q % 4096 → b < 256 → IsSome (byte_at (values_of (cell_at t d)) q)
     → ArePages t (set d p b) × (values_of (cell_at t (set d p b)) ≡ insert (values_of (cell_at t d)) q b)
 put_there t d are q p b e small there =
     let here : IsSome (cell_at t d q) = subst (λ (o : Option ℕ). IsSome o) (get_pages t d are q) there in
     let frame = has_frame t d are q here in
-    let sets : Sets d (set d p b) (frame_of t q + q % 4096) b = subst (λ (x : ℕ). Sets d (set d x b) (frame_of t q + q % 4096) b) (sym e) (sets_byte d (frame_of t q + q % 4096) b (marked d (frame_of t q + q % 4096) here)) in
-    (are_set t d (set d p b) are q b frame small sets, insert_set t d (set d p b) are q b frame small sets)
+    let mark : slice_index d (p + 4096) ≡ 1 = ap (λ (x : ℕ). slice_index d (x + 4096)) e ∙ marked d (frame_of t q + q % 4096) here in
+    let run : MarksRun d (set d p b) (frame_of t q + q % 4096) 1 (b ∷ []) 0 = subst (λ (x : ℕ). MarksRun d (set d p b) x 1 (b ∷ []) 0) e (one_run d p b small mark) in
+    let all = are_run t d (set d p b) are q 1 (b ∷ []) 0 frame (omega arith) run in (
+      all,
+      same_map nat_cmp_total nat_cmp-IsAntisymmetric _ _ (λ r.
+          get_pages t (set d p b) all r ∙ run_written t d (set d p b) are q 1 (b ∷ []) 0 frame (omega arith) run r ∙ one_at q b r (cell_at t d r)
+          ∙ ap (cond (r == q) (Some b)) (sym (get_pages t d are r)) ∙ sym (byte_at-insert (values_of (cell_at t d)) q b r)),
+    )
 
 -- another byte is there still
 still : (m n : Bytes) (a b q : ℕ) → n ≡ insert m a b → IsSome (byte_at m q) → IsSome (byte_at n q)
