@@ -118,21 +118,21 @@ counts_held (Some first) read made high held None count h = absurd h
 counts_held (Some first) read made high held (Some rest) count h =
     (h.0, omega (arith, h.1, length_waiting high (filter is_kept (held ++ rest)), length_waiting high (filter is_kept rest), ap length (filter-append is_kept held rest), length-append (filter is_kept held) (filter is_kept rest)))
 
-pub counted : (first : Option Ahead) (read made : ℕ) (high : Option ℕ) (at end : ℕ) (piece : List ℕ) (known : Option (List ℕ)) (count : ℕ)
-    → Counts first (ahead_of read made high (take (end - at) (drop at piece)) known) high count
-    → Counts first (ahead_of read made high (take (end - end) (drop end piece)) known) high (count + length (filter is_kept (take (end - at) (drop at piece))))
-counted first read made high at end piece known count h =
-    let none : 0 ≡ end - end = omega arith in
-    subst (λ (n : ℕ). Counts first (ahead_of read made high (take n (drop end piece)) known) high (count + length (filter is_kept (take (end - at) (drop at piece))))) none
-    (counts_held first read made high (take (end - at) (drop at piece)) known count h)
-
--- the next is read
-pub counts_on : (first now next : Option Ahead) (high : Option ℕ) (count : ℕ) → Counts first now high count → GoesOn now next [] → Counts first next high count
-counts_on None now next high count h on = tt
-counts_on (Some first) None next high count h on = absurd h
-counts_on (Some first) (Some now) None high count h on = absurd on
-counts_on (Some first) (Some now) (Some next) high count h on =
-    (on.whole ∙ h.0, omega (arith, h.1, ap length (none_spelled now.digits next.digits on.spells)))
+-- and then the next is read
+pub counts_filled : (first : Option Ahead) (read made : ℕ) (high after : Option ℕ) (at end : ℕ) (piece : List ℕ) (known : Option (List ℕ)) (count more : ℕ) (filled : Option Ahead)
+    → Counts first (ahead_of read made high (take (end - at) (drop at piece)) known) high count → more ≡ length (filter is_kept (take (end - at) (drop at piece)))
+    → GoesOn (ahead_of read made high (take (end - end) (drop end piece)) known) filled [] → after ≡ high → Counts first filled after (count + more)
+counts_filled first read made high after at end piece known count more filled h is on same =
+    let none : end - end ≡ 0 = omega arith in
+    rw (same, is) (counts_on first (ahead_of read made high [] known) filled high _ (counts_held first read made high (take (end - at) (drop at piece)) known count h)
+    (subst (λ (n : ℕ). GoesOn (ahead_of read made high (take n (drop end piece)) known) filled []) none on))
+  where
+    counts_on : (first now next : Option Ahead) (high : Option ℕ) (count : ℕ) → Counts first now high count → GoesOn now next [] → Counts first next high count
+    counts_on None now next high count h on = tt
+    counts_on (Some first) None next high count h on = absurd h
+    counts_on (Some first) (Some now) None high count h on = absurd on
+    counts_on (Some first) (Some now) (Some next) high count h on =
+        (on.whole ∙ h.0, omega (arith, h.1, ap length (none_spelled now.digits next.digits on.spells)))
 
 -- all is counted
 pub counts_all : (first now : Option Ahead) (high : Option ℕ) (count : ℕ) → Counts first now high count → IsOver now high → AreLeft first count
@@ -210,6 +210,9 @@ stop_before (Some a) (Some b) bytes Failed on is = tt
 stop_before (Some a) (Some b) bytes TooLarge on is = outcome_on a b bytes on ∙ ap (prepend bytes) is
 stop_before (Some a) (Some b) bytes (Fault f) on is = outcome_on a b bytes on ∙ ap (prepend bytes) is
 
+pub stops_after : (a b c : Option Ahead) (bytes : List ℕ) (stop : TextStop) → GoesOn a b [] → GoesOn b c bytes → IfSome c (IsStopOf stop) → Leads (option_map outcome a) (Some (Err stop)) []
+stops_after a b c bytes stop p q is = stops a stop (stop_before a b [] stop p (stop_before b c bytes stop q is))
+
 -- a pair that isn't two digits
 found_first : (i high low : ℕ) (others : List ℕ) → hex_digit_value high ≡ None → decode_pairs i (high ∷ low ∷ others) ≡ Err (InvalidHexCharacter high i)
 unfolding decode_pairs
@@ -286,9 +289,9 @@ advanced read made m at end taken high next piece buf known start most room spel
     let step = decoded_on read made m high next (take (end - at) (drop at piece)) (drop taken (take (end - at) (drop at piece))) (take m buf) known (length-take-le m buf room) spells in
     subst (λ (l : List ℕ). GoesOn (ahead_of read made high (take (end - at) (drop at piece)) known) (ahead_of read (made + m) next l known) (take m buf)) (left_after piece at end taken inside) step
 
--- where it made nothing
-pub made_nothing : (a b c : Option Ahead) (made : ℕ) (buf : List ℕ) → made ≡ 0 → GoesOn a b (take made buf) → GoesOn b c [] → GoesOn a c []
-made_nothing a b c made buf none p q = goes_more a b c [] [] (subst (λ (n : ℕ). GoesOn a b (take n buf)) none p) q
+-- where it made nothing, before and after which the text goes on
+pub made_nothing : (a b c d : Option Ahead) (made : ℕ) (buf : List ℕ) → made ≡ 0 → GoesOn a b [] → GoesOn b c (take made buf) → GoesOn c d [] → GoesOn a d []
+made_nothing a b c d made buf none p q r = goes_more a b d [] [] p (goes_more b c d [] [] (subst (λ (n : ℕ). GoesOn b c (take n buf)) none q) r)
 
 -- what comes is no pair
 pub comes : (read made at end taken : ℕ) (next : Option ℕ) (piece : List ℕ) (known : Option (List ℕ)) → at + taken < end → end ≤ length piece → IsBadPair next (slice_index (take (end - at) (drop at piece)) taken)

@@ -127,13 +127,15 @@ fn values_of(bytes: u8x64) -> u8x64
     ensures each { (k : ℕ) → k < 64 → 240 ≤ slice_index result k
         → hex_digit_value (slice_index bytes k) ≡ Some (slice_index result k - 240) }
 {
-    // Of the sums the figures' are the largest ten.
+    // The sums of the figures are from 246 to 255, and those of all other bytes are less; then those
+    // of the letters are from 250 to 255.
     let figures = (bytes + u8x64::splat(255 - b'9')).saturating_sub(u8x64::splat(6));
     let letters = ((bytes - u8x64::splat(1)) | u8x64::splat(32)) + u8x64::splat(154);
     figures.simd_max(letters)
 }
 
-/// How many pairs of such sums come before the first that is no digit's.
+/// With how many pairs of digits a block begins whose bytes have these values, by `values_of`: it
+/// gives less than 240 where a byte is no digit.
 #[inline(always)]
 fn pairs_before(values: u8x64) -> usize
     requires { length values ≡ 64 }
@@ -147,7 +149,8 @@ fn pairs_before(values: u8x64) -> usize
     others.trailing_zeros() as usize / 2
 }
 
-/// The byte of each pair of such sums that are digits'.
+/// The byte that each pair of a block's bytes spells, if both are digits, by their values from
+/// `values_of`.
 #[inline(always)]
 fn joined(values: u8x64) -> [u8; BLOCK / 2]
     requires { length values ≡ 64 }
