@@ -134,8 +134,8 @@ fn values_of(bytes: u8x64) -> u8x64
     figures.simd_max(letters)
 }
 
-/// With how many pairs of digits a block begins whose bytes have these values, by `values_of`: it
-/// gives less than 240 where a byte is no digit.
+/// How many pairs of digits a block begins with, by what `values_of` gives for its bytes: less than
+/// 240 where a byte is no digit.
 #[inline(always)]
 fn pairs_before(values: u8x64) -> usize
     requires { length values ≡ 64 }
@@ -149,8 +149,8 @@ fn pairs_before(values: u8x64) -> usize
     others.trailing_zeros() as usize / 2
 }
 
-/// The byte that each pair of a block's bytes spells, if both are digits, by their values from
-/// `values_of`.
+/// The byte that each pair of a block's bytes spells, if both are digits, by what `values_of` gives
+/// for them.
 #[inline(always)]
 fn joined(values: u8x64) -> [u8; BLOCK / 2]
     requires { length values ≡ 64 }
