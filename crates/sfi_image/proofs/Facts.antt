@@ -5,6 +5,7 @@ use Rattle.sfi_image.proofs.Ending as ending
 use Rattle.sfi_image.proofs.OneReading as reading
 use Rattle.sfi_image.proofs.SomeReading as some
 pub use Rattle.sfi_image.proofs.Bundles.{whole_bundles, code_ends}
+pub use Rattle.sfi_image.proofs.Masks.{masked_unit}
 pub use Rattle.sfi_image.proofs.Second.{right_in_second}
 
 pub one_image : OneImage

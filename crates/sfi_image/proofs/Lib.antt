@@ -21,6 +21,7 @@ pub mod Places
 pub mod Stretches
 pub mod Ending
 pub mod CursorSteps
+pub mod Masks
 pub mod Second
 pub mod Facts
 pub mod Handing
