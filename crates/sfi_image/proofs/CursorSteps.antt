@@ -10,6 +10,7 @@ use Rattle.sfi_image.specs.private.Cursor.{Gives, LeadsOn}
 use denote.Ref.{Bor}
 use Rattle.sfi_image.proofs.Cancelling.{same_fields, length-fields, length-gate}
 use Rattle.sfi_image.proofs.Ending.{code_short, cut_short, trails, whole_is_image}
+pub use Rattle.sfi_image.proofs.GateLists.{past}
 use Rattle.sfi_image.proofs.Standing.{region}
 use Rattle.sfi_image.proofs.Formats.{same_format}
 use Rattle.sfi_image.proofs.Following.{fields_again, parts_bytes, flat_gate, head_push}
@@ -256,12 +257,6 @@ one_gate_more p gs g h e =
           ∙ sym (take_more p.gates (length gs) g lt) ∙ ap (λ (k : ℕ). take k p.gates) (sym len);
       most = omega (arith, len);
     }
-
--- where an index has none, it is past the end
-pub past : {X : Type 0} (xs : List X) (i : ℕ) → None ≡ slice_get xs i → length xs ≤ i
-past [] i e = omega arith
-past (x ∷ xs) zero e = absurd cc
-past (x ∷ xs) (suc i) e = omega (arith, past xs i e)
 
 -- all of them, where there is no next one
 pub all_first : (p : Part) (gs : List Gate) → AreFirstGates p gs → None ≡ slice_get p.gates (length gs) → gs ≡ p.gates

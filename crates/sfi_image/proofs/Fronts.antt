@@ -5,7 +5,7 @@ use Rattle.sfi_image.proofs.Numbers.{IsBytes, IsBytes-take, number_of_bytes}
 use Rattle.sfi_image.proofs.Cancelling.{gate_split, fields_split}
 
 -- an item that is spelled at the front of bytes, in so many of them, and the bytes after it
-pub record Front {X : Type 0} (spell : X → List ℕ) (Fits : X → Type 0) (size : ℕ) (bytes : List ℕ) : Type 0 where
+pub record Spelled {X : Type 0} (spell : X → List ℕ) (Fits : X → Type 0) (size : ℕ) (bytes : List ℕ) : Type 0 where
   pub item : X
   pub rest : List ℕ
   pub bytes_are : bytes ≡ spell item ++ rest
@@ -26,7 +26,7 @@ IsBytes-drop n bytes h i = rw (get_or-drop n bytes i 0) (h (n + i))
 word_of_bytes : (bs : List ℕ) (n : ℕ) → IsBytes bs → n ≡ little_number 4 bs → IsWord n
 word_of_bytes bs n small is = omega (arith, is, small 0, small 1, small 2, small 3)
 
-pub number_front : (bytes : List ℕ) → 4 ≤ length bytes → IsBytes bytes → Front number IsWord 4 bytes
+pub number_front : (bytes : List ℕ) → 4 ≤ length bytes → IsBytes bytes → Spelled number IsWord 4 bytes
 number_front bytes long small =
     let n = little_number 4 (take 4 bytes) in
     let first = IsBytes-take 4 bytes small in
@@ -45,7 +45,7 @@ number_front bytes long small =
 gate_joined : (bytes r s : List ℕ) (g : Gate) → bytes ≡ number g.address ++ r → r ≡ number g.service ++ s → bytes ≡ gate g ++ s
 gate_joined bytes r s g address service = rw (address, service, gate_split g s) refl
 
-pub gate_front : (bytes : List ℕ) → 8 ≤ length bytes → IsBytes bytes → Front gate AreGateWords 8 bytes
+pub gate_front : (bytes : List ℕ) → 8 ≤ length bytes → IsBytes bytes → Spelled gate AreGateWords 8 bytes
 gate_front bytes long small =
     let a = number_front bytes (omega arith) small in
     let s = number_front a.rest (omega (arith, a.len)) a.small in
@@ -66,7 +66,7 @@ fields_joined : (bytes r0 r1 r2 r3 r4 r5 r6 : List ℕ) (f : Fields)
     → r3 ≡ number f.start ++ r4 → r4 ≡ number f.gate_count ++ r5 → r5 ≡ number f.init_len ++ r6 → bytes ≡ fields f ++ r6
 fields_joined bytes r0 r1 r2 r3 r4 r5 r6 f e0 e1 e2 e3 e4 e5 e6 = rw (e0, e1, e2, e3, e4, e5, e6, fields_split f r6) refl
 
-pub fields_front : (format : Format) (bytes : List ℕ) → 28 ≤ length bytes → IsBytes bytes → (front : Front fields AreFieldWords 28 bytes) × (front.item.format ≡ format)
+pub fields_front : (format : Format) (bytes : List ℕ) → 28 ≤ length bytes → IsBytes bytes → (front : Spelled fields AreFieldWords 28 bytes) × (front.item.format ≡ format)
 fields_front format bytes long small =
     let code_base = number_front bytes (omega arith) small in
     let code_size = number_front code_base.rest (omega (arith, code_base.len)) code_base.small in

@@ -145,11 +145,11 @@ passed_words before p passed words =
     }
 
 pub all_passed : (before : List Span) (p : Part) (f : Fields) (gs : List Gate) → f ≡ capped_fields p → IsFirstFault before f field_tests None → gs ≡ p.gates
-    → AreFieldWords (capped_fields p) → AreGates (code_span f) gs → All AreGateWords gs → IsRightPart p × AllPairs AreApart (before ++ spans_of (fields_of p))
+    → AreFieldWords f → AreGates (code_span f) gs → All AreGateWords gs → IsRightPart p × AllPairs AreApart (before ++ spans_of (fields_of p))
 all_passed before p f gs is h same fits right words =
     let passed = tests_passed before p f is h in
     let region : code_span f ≡ code_region p = ap code_span is ∙ ap (λ n. code_span (record (fields_of p) { code_size = n })) (code_kept before p passed) in
-    right_part before p (fields_of p) refl (passed_words before p passed fits) passed (subst (All AreGateWords) same words)
+    right_part before p (fields_of p) refl (passed_words before p passed (subst AreFieldWords is fits)) passed (subst (All AreGateWords) same words)
     (subst (λ r. AreGates r p.gates) region (subst (AreGates (code_span f)) same right))
 
 -- ---- all

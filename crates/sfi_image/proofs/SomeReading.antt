@@ -1,211 +1,152 @@
--- Bytes have an image or a fault.
-use Rattle.sfi_image.proofs.Prelude.{◌≡◌, ℕ, ◌+◌, ◌<◌, ◌≤◌, List, [], ◌∷◌, ◌++◌, length, take, drop, refl, sym, ap, subst, ◌∙◌, arith, zero, suc, inl, inr, ◌⊎◌, Some, None, Option, AllPairs, flat_map, cases_lt, take-append-drop, length-take, length-drop, All-nil, Format, Sfi1, Sfi2, Sfiw, magic, Gate, Fields, Span, LayoutFault, Magic, Count, Short, Trailing, Part, fields_of, number, fields, part, AreFieldWords, AreApart, code_span, spans_of, IsRightPart, AreOf, AreRight, IsFirstFault, field_tests, IsImage, IsBodyFault, IsPartFault, ArePartsFault, IsCountFault, IsFault, spelling}
+-- Bytes have an image or a fault: a reader goes from front to front, to the image's end or to a fault.
+use Rattle.sfi_image.proofs.Prelude.{◌≡◌, ℕ, ◌+◌, ◌<◌, List, [], ◌∷◌, ◌++◌, length, take, drop, refl, sym, ap, subst, ◌∙◌, arith, append_assoc, zero, suc, inl, inr, ◌⊎◌, Some, None, Option, cases_lt, append-nil, take-append-drop, length-take, length-drop, Format, Sfi1, Sfi2, Sfiw, magic, Fields, LayoutFault, Magic, Count, Short, Trailing, Part, number, fields, gate, AreFieldWords, code_span, spans_of, IsFirstFault, field_tests, IsImage, IsFault, Front, front, HasFaultWhateverFollows, Empty, AfterMagic, AfterCount, InGates, InCode, InInit, Whole, ReaderState, StandsFor, Leads, count_below, next_gate, next_code, next_init}
 use Rattle.sfi_image.specs.Laws.{SomeReading}
 use Rattle.sfi_image.specs.declared.fault.LayoutFault.TheVariants.{Gates}
+use Rattle.sfi_image.specs.declared.want.Next.TheVariants as next
 use Rattle.sfi_image.proofs.Numbers.{IsBytes}
-use Rattle.sfi_image.proofs.GateLists.{GatesRead, GatesRead-push}
-use Rattle.sfi_image.proofs.FieldTests.{right_part}
-use Rattle.sfi_image.proofs.PartLists.{PartsRead, PartsRead-push, part_read, parts_right, trailing, all_read}
-use Rattle.sfi_image.proofs.Formats.{same_format}
 use Rattle.sfi_image.proofs.Deciding.{decided_le, decided_both, decided_same, decided_gates, some_first_fault}
-use Rattle.sfi_image.proofs.Fronts.{Front, IsBytes-from_all, IsBytes-drop, number_front, gate_front, fields_front}
+use Rattle.sfi_image.proofs.Fronts.{Spelled, IsBytes-from_all, IsBytes-drop, number_front, gate_front, fields_front}
+use Rattle.sfi_image.proofs.Standing.{magic_leads, count_leads}
+use Rattle.sfi_image.proofs.Steps.{fields_leads, gate_on, code_leads, init_leads, magic_fault, count_fault, fields_fault, gate_wrong}
+use Rattle.sfi_image.proofs.Places.{code_next, init_next}
+use Rattle.sfi_image.proofs.Ending.{cut_short, trails, whole_is_image}
 
--- ---- the gates
+-- the bytes are an image or have a fault
+abbrev IsRead : List ℕ → Type 0
+IsRead bytes = ((ps : List Part) × IsImage bytes ps) ⊎ ((k : LayoutFault) × IsFault bytes k)
 
--- all gates that the fields count, with the code and the first data after them
-record BodyRead (f : Fields) (bytes : List ℕ) : Type 0 where
-  pub gates : List Gate
-  pub rest : List ℕ
-  pub read : GatesRead f bytes gates rest f.gate_count
-  pub long : f.code_size + f.init_len ≤ length rest
-  pub small : IsBytes rest
+-- so are a front that a reader stands for and fewer than n bytes after it
+abbrev AreRead : ℕ → Type 0
+AreRead n = (r : ReaderState) (x : Front) (rest : List ℕ) → StandsFor r x → IsBytes rest → length rest < n → IsRead (front x ++ rest)
 
-after_gates : (f : Fields) (bytes rest : List ℕ) (gs : List Gate) (n : ℕ) → GatesRead f bytes gs rest n → n ≡ f.gate_count → IsBytes rest
-    → BodyRead f bytes ⊎ ((k : LayoutFault) × IsBodyFault f bytes k)
-after_gates f bytes rest gs n so_far all small =
-    elim (cases_lt (length rest) (f.code_size + f.init_len)) [
-      | inl short ↦ inr (Short, (gs, rest, so_far.bytes_are, so_far.words, so_far.right, inr (inr (so_far.len ∙ all, short, refl))))
-      | inr long ↦ inl (record { gates = gs; rest = rest; read = subst (GatesRead f bytes gs rest) all so_far; long = long; small = small })
-    ]
+-- bytes that lead on
+on : (n : ℕ) → AreRead n → (x : Front) (s more rest : List ℕ) (r : ReaderState) → Leads x s r → rest ≡ s ++ more → length more < length rest → IsBytes more → length rest < suc n → IsRead (front x ++ rest)
+on n further x s more rest r l is less small lt =
+    subst IsRead (ap (λ (t : List ℕ). t ++ more) l.bytes ∙ append_assoc (front x) s more ∙ ap (λ (t : List ℕ). front x ++ t) (sym is))
+    (further r l.to more l.stands small (omega arith))
 
--- with so many gates to come
-gates_on : (d : ℕ) (f : Fields) (bytes rest : List ℕ) (gs : List Gate) (n : ℕ) → GatesRead f bytes gs rest n → n + d ≡ f.gate_count → IsBytes rest
-    → BodyRead f bytes ⊎ ((k : LayoutFault) × IsBodyFault f bytes k)
-gates_on zero f bytes rest gs n so_far all small = after_gates f bytes rest gs n so_far (omega arith) small
-gates_on (suc d) f bytes rest gs n so_far all small =
-    let more : length gs < f.gate_count = omega (arith, so_far.len) in
-    elim (cases_lt (length rest) 8) [
-      | inl short ↦ inr (Short, (gs, rest, so_far.bytes_are, so_far.words, so_far.right, inl (more, short, refl)))
-      | inr long ↦
-          let next = gate_front rest long small in
-          elim (decided_gates (code_span f) (gs ++ next.item ∷ [])) [
-            | inl right ↦
-                gates_on d f bytes next.rest (gs ++ next.item ∷ []) (n + 1)
-                (GatesRead-push f bytes gs rest next.rest n next.item so_far next.bytes_are next.fits right) (omega arith) next.small
-            | inr wrong ↦
-                inr (Gates, (gs, rest, so_far.bytes_are, so_far.words, so_far.right, inr (inl (more, next.item, next.rest, next.bytes_are, next.fits, wrong, refl))))
-          ]
-    ]
+-- bytes with a fault
+wrong : (x : Front) (s more rest : List ℕ) (k : LayoutFault) → HasFaultWhateverFollows (front x ++ s) k → rest ≡ s ++ more → IsRead (front x ++ rest)
+wrong x s more rest k fault is = inr (k, subst (λ (b : List ℕ). IsFault b k) (append_assoc (front x) s more ∙ ap (λ (t : List ℕ). front x ++ t) (sym is)) (fault more))
 
-no_gates : (f : Fields) (bytes : List ℕ) → GatesRead f bytes [] bytes 0
-no_gates f bytes = record {
-  bytes_are = refl;
-  words = All-nil _;
-  right = record { starts = All-nil _; services = All-nil _; ascending = λ i j d lt within. absurd (omega arith) };
-  len = refl;
-}
-
-body_or_fault : (f : Fields) (bytes : List ℕ) → IsBytes bytes → BodyRead f bytes ⊎ ((k : LayoutFault) × IsBodyFault f bytes k)
-body_or_fault f bytes small = gates_on f.gate_count f bytes bytes [] 0 (no_gates f bytes) (omega arith) small
-
--- ---- a sandbox
-
--- the sandbox at the front, which may follow those before
-record PartFront (format : Format) (before : List Span) (bytes : List ℕ) : Type 0 where
-  pub item : Part
-  pub of : item.format ≡ format
-  pub rest : List ℕ
-  pub bytes_are : bytes ≡ part item ++ rest
-  pub right : IsRightPart item
-  pub apart : AllPairs AreApart (before ++ spans_of (fields_of item))
-  pub small : IsBytes rest
-
-part_made : (format : Format) (before : List Span) (bytes after : List ℕ) (f : Fields) → bytes ≡ fields f ++ after → AreFieldWords f → f.format ≡ format → IsFirstFault before f field_tests None
-    → BodyRead f after → PartFront format before bytes
-part_made format before bytes after f bytes_are words kind passed body =
-    let code = take f.code_size body.rest in
-    let beyond = drop f.code_size body.rest in
-    let init = take f.init_len beyond in
-    let last = drop f.init_len beyond in
-    let p : Part = record { format = f.format; code_base = f.code_base; data_base = f.data_base; data_size = f.data_size; start = f.start; gates = body.gates; code = code; init = init } in
-    let cut : body.rest ≡ code ++ (init ++ last) = sym (take-append-drop f.code_size body.rest) ∙ ap (λ (t : List ℕ). code ++ t) (sym (take-append-drop f.init_len beyond)) in
-    let code_long : length code ≡ f.code_size = omega (arith, body.long, length-take f.code_size body.rest) in
-    let init_long : length init ≡ f.init_len = omega (arith, body.long, length-drop f.code_size body.rest, length-take f.init_len beyond) in
-    let read = part_read bytes f after body.gates body.rest code init last bytes_are body.read.bytes_are body.read.len cut code_long init_long f.format refl p refl in
-    let right = right_part before p f read.1 words passed body.read.words body.read.right in
-    record {
-      item = p;
-      of = kind;
-      rest = last;
-      bytes_are = read.0;
-      right = right.0;
-      apart = subst (λ (g : Fields). AllPairs AreApart (before ++ spans_of g)) (sym read.1) right.1;
-      small = IsBytes-drop f.init_len beyond (IsBytes-drop f.code_size body.rest body.small);
-    }
-
-after_fields : (format : Format) (before : List Span) (bytes : List ℕ) (front : Front fields AreFieldWords 28 bytes) → front.item.format ≡ format → (found : Option LayoutFault)
-    → IsFirstFault before front.item field_tests found → PartFront format before bytes ⊎ ((k : LayoutFault) × IsPartFault format before bytes k)
-after_fields format before bytes front kind (Some k) failed = inr (k, inr (front.item, front.rest, front.bytes_are, front.fits, kind, inl failed))
-after_fields format before bytes front kind None passed =
-    elim (body_or_fault front.item front.rest front.small) [
-      | inl body ↦ inl (part_made format before bytes front.rest front.item front.bytes_are front.fits kind passed body)
-      | inr fault ↦ inr (fault.0, inr (front.item, front.rest, front.bytes_are, front.fits, kind, inr (passed, fault.1)))
-    ]
-
-part_or_fault : (format : Format) (before : List Span) (bytes : List ℕ) → IsBytes bytes → PartFront format before bytes ⊎ ((k : LayoutFault) × IsPartFault format before bytes k)
-part_or_fault format before bytes small =
-    elim (cases_lt (length bytes) 28) [
-      | inl short ↦ inr (Short, inl (short, refl))
-      | inr long ↦
-          let read = fields_front format bytes long small in
-          let found = some_first_fault before read.0.item field_tests in
-          after_fields format before bytes read.0 read.1 found.0 found.1
-    ]
-
--- ---- the sandboxes
-
--- the bytes are right sandboxes, so many
-abbrev PartsWhole : Format → ℕ → List ℕ → Type 0
-PartsWhole format count bytes = (ps : List Part) × (bytes ≡ flat_map part ps) × AreOf format ps × AreRight ps × (length ps ≡ count)
-
-after_parts : (format : Format) (count : ℕ) (bytes rest : List ℕ) (ps : List Part) (before : List Span) (n : ℕ) → PartsRead format bytes ps before rest n → n ≡ count
-    → PartsWhole format count bytes ⊎ ((k : LayoutFault) × ArePartsFault format count bytes k)
-after_parts format count bytes rest ps before n so_far all =
-    elim (cases_lt 0 (length rest)) [
-      | inl some ↦ inr (Trailing, trailing format bytes ps before rest n count so_far all some)
-      | inr none ↦ let whole = all_read format bytes ps before rest n count so_far all (omega arith) in inl (ps, whole.0, so_far.of, whole.1, whole.2)
-    ]
-
--- with so many sandboxes to come
-parts_on : (format : Format) (d count : ℕ) (bytes rest : List ℕ) (ps : List Part) (before : List Span) (n : ℕ) → PartsRead format bytes ps before rest n → n + d ≡ count → IsBytes rest
-    → PartsWhole format count bytes ⊎ ((k : LayoutFault) × ArePartsFault format count bytes k)
-parts_on format zero count bytes rest ps before n so_far all small = after_parts format count bytes rest ps before n so_far (omega arith)
-parts_on format (suc d) count bytes rest ps before n so_far all small =
-    elim (part_or_fault format before rest small) [
-      | inl next ↦
-          parts_on format d count bytes next.rest (ps ++ next.item ∷ []) (before ++ spans_of (fields_of next.item)) (n + 1)
-          (PartsRead-push format bytes ps before rest next.rest n next.item (fields_of next.item) so_far next.bytes_are refl next.of next.right next.apart) (omega arith) next.small
-      | inr fault ↦
-          let here = subst (λ (b : List Span). IsPartFault format b rest fault.0) so_far.spans_are fault.1 in
-          inr (fault.0, (ps, rest, so_far.bytes_are, parts_right format bytes ps before rest n so_far, so_far.of, inl (omega (arith, so_far.len), here)))
-    ]
-
-no_parts : (format : Format) (bytes : List ℕ) → PartsRead format bytes [] [] bytes 0
-no_parts format bytes = record { bytes_are = refl; of = All-nil _; each = All-nil _; len = refl; spans_are = refl; bounded = All-nil _; apart = λ i j d lt within. absurd (omega arith) }
-
-parts_or_fault : (format : Format) (count : ℕ) (bytes : List ℕ) → IsBytes bytes → PartsWhole format count bytes ⊎ ((k : LayoutFault) × ArePartsFault format count bytes k)
-parts_or_fault format count bytes small = parts_on format count count bytes bytes [] [] 0 (no_parts format bytes) (omega arith) small
-
--- ---- the whole
-
--- after the magic, a count from 1 to 16 and so many right sandboxes
-record CountRead (format : Format) (bytes : List ℕ) : Type 0 where
-  pub count : ℕ
-  pub rest : List ℕ
-  pub bytes_are : bytes ≡ number count ++ rest
-  pub least : 1 ≤ count
-  pub most : count ≤ 16
-  pub parts : PartsWhole format count rest
-
-count_or_fault : (format : Format) (bytes : List ℕ) → IsBytes bytes → CountRead format bytes ⊎ ((k : LayoutFault) × IsCountFault format bytes k)
-count_or_fault format bytes small =
-    elim (cases_lt (length bytes) 4) [
-      | inl short ↦ inr (Short, inl (short, refl))
-      | inr long ↦
-          let front = number_front bytes long small in
-          elim (decided_both (decided_le 1 front.item) (decided_le front.item 16)) [
-            | inr out ↦ inr (Count, inr (front.item, front.rest, front.bytes_are, front.fits, inl (out, refl)))
-            | inl within ↦ elim (parts_or_fault format front.item front.rest front.small) [
-              | inl parts ↦ inl (record { count = front.item; rest = front.rest; bytes_are = front.bytes_are; least = within.0; most = within.1; parts = parts })
-              | inr fault ↦ inr (fault.0, inr (front.item, front.rest, front.bytes_are, front.fits, inr (within.0, within.1, fault.1)))
-            ]
-          ]
-    ]
-
--- after the magic and the count so many right sandboxes, and nothing after them
-whole : (format : Format) (bytes after : List ℕ) (n : ℕ) (ps : List Part) → take 4 bytes ≡ magic format → drop 4 bytes ≡ number n ++ after → 1 ≤ n → n ≤ 16
-    → after ≡ flat_map part ps → AreOf format ps → AreRight ps → length ps ≡ n → IsImage bytes ps
-unfolding spelling
-whole format bytes after n ps is counted low high parts are right len = record {
-  bytes_are = sym (take-append-drop 4 bytes) ∙ rw (is, counted, parts, len, same_format ps are (omega (arith, len))) refl;
-  layout = record { at_least_one = omega (arith, len); at_most = omega (arith, len); one_format = subst (λ (f : Format). AreOf f ps) (sym (same_format ps are (omega (arith, len)))) are; right = right };
-}
-
-after_front : (format : Format) (bytes : List ℕ) → take 4 bytes ≡ magic format → IsBytes bytes → ((ps : List Part) × IsImage bytes ps) ⊎ ((k : LayoutFault) × IsFault bytes k)
-after_front format bytes is small =
-    elim (count_or_fault format (drop 4 bytes) (IsBytes-drop 4 bytes small)) [
-      | inl read ↦
-          inl (read.parts.0, whole format bytes read.rest read.count read.parts.0 is read.bytes_are read.least read.most read.parts.1 read.parts.2 read.parts.3 read.parts.4)
-      | inr fault ↦ inr (fault.0, inr (inr (format, drop 4 bytes, sym (take-append-drop 4 bytes) ∙ ap (λ (l : List ℕ). l ++ drop 4 bytes) is, fault.1)))
-    ]
-
-neither : (bytes : List ℕ) → (take 4 bytes ≡ magic Sfi1 → ⊥) → (take 4 bytes ≡ magic Sfi2 → ⊥) → (take 4 bytes ≡ magic Sfiw → ⊥) → (format : Format) → take 4 bytes ≡ magic format → ⊥
-neither bytes one two three Sfi1 = one
-neither bytes one two three Sfi2 = two
-neither bytes one two three Sfiw = three
-
-pub some_reading : SomeReading
-some_reading bytes all =
-    elim (cases_lt (length bytes) 4) [
-      | inl short ↦ inr (Short, inl (short, refl))
-      | inr long ↦ elim (decided_same (take 4 bytes) (magic Sfi1)) [
-        | inl is ↦ after_front Sfi1 bytes is (IsBytes-from_all bytes all)
-        | inr other ↦ elim (decided_same (take 4 bytes) (magic Sfi2)) [
-          | inl is ↦ after_front Sfi2 bytes is (IsBytes-from_all bytes all)
-          | inr others ↦ elim (decided_same (take 4 bytes) (magic Sfiw)) [
-            | inl is ↦ after_front Sfiw bytes is (IsBytes-from_all bytes all)
-            | inr none ↦ inr (Magic, inr (inl (long, neither bytes other others none, refl)))
-          ]
+some_magic : (s : List ℕ) → ((format : Format) × (s ≡ magic format)) ⊎ ((format : Format) → s ≡ magic format → ⊥)
+some_magic s =
+    elim (decided_same s (magic Sfi1)) [
+      | inl is ↦ inl (Sfi1, is)
+      | inr one ↦ elim (decided_same s (magic Sfi2)) [
+        | inl is ↦ inl (Sfi2, is)
+        | inr two ↦ elim (decided_same s (magic Sfiw)) [
+          | inl is ↦ inl (Sfiw, is)
+          | inr three ↦ inr (none one two three)
         ]
       ]
     ]
+  where
+    none : (s ≡ magic Sfi1 → ⊥) → (s ≡ magic Sfi2 → ⊥) → (s ≡ magic Sfiw → ⊥) → (format : Format) → s ≡ magic format → ⊥
+    none one two three Sfi1 = one
+    none one two three Sfi2 = two
+    none one two three Sfiw = three
+
+-- the fields pass their tests, or fail one
+after_fields : (n : ℕ) → AreRead n → (r : ReaderState) (format : Format) (count : ℕ) (ps : List Part) (rest : List ℕ) → StandsFor r (AfterCount format count ps) → length rest < suc n
+    → (f : Spelled fields AreFieldWords 28 rest) → f.item.format ≡ format → (found : Option LayoutFault) → IsFirstFault r.spans f.item field_tests found → IsRead (front (AfterCount format count ps) ++ rest)
+after_fields n further r format count ps rest h lt f kind (Some k) failed =
+    wrong (AfterCount format count ps) (fields f.item) f.rest rest k (fields_fault r (AfterCount format count ps) (fields f.item) f.item k h h.kept.0 refl f.fits (kind ∙ sym h.kept.1.of) failed) f.bytes_are
+after_fields n further r format count ps rest h lt f kind None passed =
+    on n further (AfterCount format count ps) (fields f.item) f.rest rest
+    (record { next = next_gate 0 f.item.gate_count; count = r.count; begun = r.begun + 1; spans = r.spans ++ spans_of f.item; fields = f.item; gates = []; passed = 0; code_read = 0; init_read = 0 })
+    (fields_leads r _ (AfterCount format count ps) (fields f.item) f.item h h.kept.0 refl f.fits (kind ∙ sym h.kept.1.of) passed refl refl refl refl refl refl refl refl refl) f.bytes_are (omega (arith, f.len)) f.small lt
+
+step : (n : ℕ) → AreRead n → AreRead (suc n)
+step n further r Empty rest h small lt =
+    elim (cases_lt (length rest) 4) [
+      | inl short ↦ inr (Short, cut_short Empty rest h.right short)
+      | inr long ↦
+          let split = sym (take-append-drop 4 rest) in
+          elim (some_magic (take 4 rest)) [
+            | inl is ↦
+                on n further Empty (take 4 rest) (drop 4 rest) rest (record r { next = next.Count; fields = record r.fields { format = is.0 } })
+                (magic_leads r _ Empty (take 4 rest) is.0 h h.kept.0 is.1 refl refl refl) split (omega (arith, length-drop 4 rest)) (IsBytes-drop 4 rest small) lt
+            | inr none ↦ wrong Empty (take 4 rest) (drop 4 rest) rest Magic (magic_fault r Empty (take 4 rest) h h.kept.0 (omega (arith, length-take 4 rest)) none) split
+          ]
+    ]
+step n further r (AfterMagic format) rest h small lt =
+    elim (cases_lt (length rest) 4) [
+      | inl short ↦ inr (Short, cut_short (AfterMagic format) rest h.right short)
+      | inr long ↦
+          let m = number_front rest long small in
+          elim (decided_both (decided_le 1 m.item) (decided_le m.item 16)) [
+            | inl within ↦
+                on n further (AfterMagic format) (number m.item) m.rest rest (record r { next = next.Fields; count = m.item; begun = 0 })
+                (count_leads r (AfterMagic format) (number m.item) m.item h h.kept.0 refl within.0 within.1) m.bytes_are (omega (arith, m.len)) m.small lt
+            | inr out ↦ wrong (AfterMagic format) (number m.item) m.rest rest Count (count_fault r (AfterMagic format) (number m.item) m.item h h.kept.0 refl m.fits (λ low high. out (low, high))) m.bytes_are
+          ]
+    ]
+step n further r (AfterCount format count ps) rest h small lt =
+    elim (cases_lt (length rest) 28) [
+      | inl short ↦ inr (Short, cut_short (AfterCount format count ps) rest h.right short)
+      | inr long ↦
+          let f = fields_front format rest long small in
+          let found = some_first_fault r.spans f.0.item field_tests in
+          after_fields n further r format count ps rest h lt f.0 f.1 found.0 found.1
+    ]
+step n further r (InGates count ps f gs) rest h small lt =
+    elim (cases_lt (length rest) 8) [
+      | inl short ↦ inr (Short, cut_short (InGates count ps f gs) rest h.right short)
+      | inr long ↦
+          let g = gate_front rest long small in
+          elim (decided_gates (code_span f) (gs ++ g.item ∷ [])) [
+            | inl right ↦
+                let gates = r.gates ++ g.item.address ∷ [] in
+                on n further (InGates count ps f gs) (gate g.item) g.rest rest (record r { next = next_gate (length gates) r.fields.gate_count; gates = gates })
+                (gate_on r _ count ps f gs (gate g.item) g.item h refl g.fits right refl refl refl refl refl refl refl refl refl) g.bytes_are (omega (arith, g.len)) g.small lt
+            | inr bad ↦ inr (Gates, gate_wrong count ps f gs rest g.rest g.item h.right g.bytes_are g.fits bad)
+          ]
+    ]
+step n further r (InCode count ps f gs code) rest h small lt =
+    elim (cases_lt (length rest) 16) [
+      | inl short ↦ inr (Short, cut_short (InCode count ps f gs code) rest h.right short)
+      | inr long ↦
+          let s = take 16 rest in
+          let len : length s ≡ 16 = omega (arith, long, length-take 16 rest) in
+          let room = (code_next r (inr (InCode count ps f gs code, h)) h.kept.0).inside in
+          let read = r.code_read + length s in
+          on n further (InCode count ps f gs code) s (drop 16 rest) rest
+          (record r { next = next_code read r.fields.code_size r.fields.init_len r.begun r.count; passed = r.passed + count_below (r.fields.code_base + read) (drop r.passed r.gates); code_read = read })
+          (code_leads r _ (InCode count ps f gs code) s h h.kept.0 (record { some = omega arith; whole = omega arith; inside = omega arith }) refl refl refl refl refl refl refl refl refl)
+          (sym (take-append-drop 16 rest)) (omega (arith, long, length-drop 16 rest)) (IsBytes-drop 16 rest small) lt
+    ]
+step n further r (InInit count ps f gs code init) rest h small lt =
+    elim (cases_lt 0 (length rest)) [
+      | inr none ↦ inr (Short, cut_short (InInit count ps f gs code init) rest h.right (let more = h.right.3 in omega arith))
+      | inl some ↦
+          let s = take 1 rest in
+          let len : length s ≡ 1 = omega (arith, some, length-take 1 rest) in
+          let room = (init_next r (inr (InInit count ps f gs code init, h)) h.kept.0).less in
+          let read = r.init_read + length s in
+          on n further (InInit count ps f gs code init) s (drop 1 rest) rest (record r { next = next_init read r.fields.init_len r.begun r.count; init_read = read })
+          (init_leads r _ (InInit count ps f gs code init) s h h.kept.0 (omega arith) (omega arith) refl refl refl refl refl refl refl)
+          (sym (take-append-drop 1 rest)) (omega (arith, some, length-drop 1 rest)) (IsBytes-drop 1 rest small) lt
+    ]
+step n further r (Whole ps) [] h small lt = inl (ps, subst (λ (b : List ℕ). IsImage b ps) (sym (append-nil (front (Whole ps)))) (whole_is_image ps h.right))
+step n further r (Whole ps) (b ∷ rest) h small lt = inr (Trailing, trails ps (b ∷ rest) h.right (omega arith))
+
+are_read : (n : ℕ) → AreRead n
+are_read zero = λ r x rest h small lt. absurd (omega arith)
+are_read (suc n) = step n (are_read n)
+
+pub some_reading : SomeReading
+some_reading bytes all = are_read (suc (length bytes)) first Empty bytes (record { right = tt; kept = (refl, refl) }) (IsBytes-from_all bytes all) (omega arith)
+  where
+    first : ReaderState
+    first = record {
+      next = next.Magic;
+      count = 0;
+      begun = 0;
+      spans = [];
+      fields = record { format = Sfi1; code_base = 0; code_size = 0; data_base = 0; data_size = 0; start = 0; gate_count = 0; init_len = 0 };
+      gates = [];
+      passed = 0;
+      code_read = 0;
+      init_read = 0;
+    }

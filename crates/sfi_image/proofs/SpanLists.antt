@@ -1,5 +1,5 @@
 -- Spans that lie apart.
-use Rattle.sfi_image.proofs.Prelude.{◌≡◌, ℕ, ◌+◌, ◌-◌, ◌<◌, List, [], ◌∷◌, ◌++◌, length, get_or, refl, ap, ◌∙◌, arith, append_assoc, subst, below_more, All, AllPairs, length-append, get_or_append_left, get_or_default, get_or-append_right, All-push, Span, AreApart}
+use Rattle.sfi_image.proofs.Prelude.{◌≡◌, ℕ, ◌+◌, ◌-◌, ◌<◌, List, [], ◌∷◌, ◌++◌, length, get_or, refl, ap, ◌∙◌, arith, append_assoc, subst, below_more, All, AllPairs, length-append, get_or_append_left, get_or_default, get_or-append_right, All-push, Span, Fields, AreApart, code_span, guarded_span, spans_of}
 use Rattle.std.proofs.lemmas.List.Quantifiers.{all_pairs_push}
 
 -- one more step over the spans before
@@ -34,3 +34,12 @@ two_of_pairs xs c d pairs =
 pub front_apart : (xs ys : List Span) → AllPairs AreApart (xs ++ ys) → AllPairs AreApart xs
 front_apart xs ys pairs i j d lt within =
     rw (get_or_append_left xs ys d i (omega arith), get_or_append_left xs ys d j within) at (pairs i j d lt (omega (arith, length-append xs ys)))
+
+-- ---- the two spans of a sandbox
+
+pub two_spans : (a b : Span) (f : Fields) → a ≡ code_span f → b ≡ guarded_span f → (a ∷ b ∷ []) ≡ spans_of f
+two_spans a b f one other = ap (λ (x : Span). x ∷ b ∷ []) one ∙ ap (λ (y : Span). code_span f ∷ y ∷ []) other
+
+-- they are put at the end, one after the other
+pub two_pushed : (old mid new two : List Span) (a b : Span) → mid ≡ old ++ a ∷ [] → new ≡ mid ++ b ∷ [] → (a ∷ b ∷ []) ≡ two → new ≡ old ++ two
+two_pushed old mid new two a b first then_ are = then_ ∙ ap (λ (t : List Span). t ++ b ∷ []) first ∙ append_assoc old (a ∷ []) (b ∷ []) ∙ ap (λ (t : List Span). old ++ t) are

@@ -3,7 +3,7 @@ use Rattle.sfi_image.proofs.Prelude.{◌≡◌, ℕ, suc, ◌+◌, ◌*◌, ◌%
 use Rattle.std.proofs.Math.Bool.{or-false}
 use Rattle.std.proofs.Math.Dec.{ltb}
 use Rattle.std.proofs.lemmas.Bool.{ltb-false}
-use Rattle.sfi_image.specs.Keeping.{HasStopped}
+use Rattle.sfi_image.specs.declared.want.Next.{Next}
 use Rattle.sfi_image.specs.declared.want.Next.TheVariants as next
 use Rattle.sfi_image.proofs.FieldTests.{all_pass}
 use Rattle.sfi_image.proofs.PartLists.{spans_push}
@@ -15,10 +15,17 @@ use Rattle.sfi_image.proofs.Following.{fields_again, finished, following_bytes}
 pub leads : (x : Front) (s : List ℕ) (r : ReaderState) (y : Front) → IsRightFront x → Follows x s y → StandsFor r y → Leads x s r
 leads x s r y right follows stands = record { to = y; stands = stands; follows = follows; bytes = following_bytes x s y right follows }
 
+-- what comes next, and a front, of what a reader keeps and of how contracts see it
+pub next_kept : {kept seen : ReaderState} {w : Next} → kept ≡ seen → seen.next ≡ w → kept.next ≡ w
+next_kept same is = ap (λ (r : ReaderState). r.next) same ∙ is
+
+pub stands_kept : {kept seen : ReaderState} {x : Front} → kept ≡ seen → StandsFor seen x → StandsFor kept x
+stands_kept {x = x} same h = subst (λ (r : ReaderState). StandsFor r x) (sym same) h
+
 -- a reader after a step is one
-pub still_reader : (old new : ReaderState) (s : List ℕ) → IsReader old → (HasStopped old → ⊥) → ((x : Front) → StandsFor old x → Leads x s new) → IsReader new
-still_reader old new s (inl stopped) goes on = absurd (goes stopped)
-still_reader old new s (inr x) goes on = let l = on x.0 x.1 in inr (l.to, l.stands)
+pub still_reader : (old new : ReaderState) (s : List ℕ) (w : Next) → IsReader old → old.next ≡ w → (w ≡ next.Nothing → ⊥) → ((x : Front) → StandsFor old x → Leads x s new) → IsReader new
+still_reader old new s w (inl stopped) is goes on = absurd (goes (sym is ∙ stopped))
+still_reader old new s w (inr x) is goes on = let l = on x.0 x.1 in inr (l.to, l.stands)
 
 -- ---- magic and count
 

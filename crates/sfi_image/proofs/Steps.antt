@@ -1,5 +1,5 @@
 -- Where each step leads, and which faults it meets.
-use Rattle.sfi_image.proofs.Prelude.{◌≡◌, ℕ, ◌+◌, ◌-◌, ◌<◌, ◌≤◌, ◌⊎◌, List, [], ◌∷◌, ◌++◌, length, map, take, drop, refl, sym, ap, ◌∙◌, subst, arith, append_assoc, inl, inr, None, Some, All, flat_map, length-append, length_push, append-nil, map_push, length-map, All-push, Format, magic, Gate, Fields, Span, LayoutFault, Part, number, fields, gate, part, IsWord, AreFieldWords, AreGateWords, code_span, spans, spans_of, AreGates, IsFirstFault, field_tests, IsFault, IsPartFault, IsGateShort, IsGateWrong, AreContentsShort, Front, AreBundlesWithin, front, head, IsHead, IsOpened, after_init, after_code, after_gates, HasFaultWhateverFollows, Empty, AfterMagic, AfterCount, InGates, InCode, InInit, ReaderState, StandsFor, Leads, next_init, next_code, next_gate, count_below}
+use Rattle.sfi_image.proofs.Prelude.{◌≡◌, ◌↔◌, IsTrue, Bool, true, false, Option, slice_get, ℕ, ◌+◌, ◌-◌, ◌<◌, ◌≤◌, ◌⊎◌, List, [], ◌∷◌, ◌++◌, length, map, take, drop, refl, sym, ap, ◌∙◌, subst, arith, append_assoc, inl, inr, None, Some, All, flat_map, length-append, length_push, append-nil, map_push, length-map, All-push, Format, magic, Gate, Fields, Span, LayoutFault, Part, number, fields, gate, part, IsWord, AreFieldWords, AreGateWords, code_span, spans, spans_of, AreGates, IsFirstFault, field_tests, IsFault, IsPartFault, IsGateShort, IsGateWrong, AreContentsShort, Front, AreBundlesWithin, front, head, IsHead, IsOpened, IsRightFront, after_init, after_code, after_gates, HasFaultWhateverFollows, Empty, AfterMagic, AfterCount, InGates, InCode, InInit, ReaderState, StandsFor, Leads, next_init, next_code, next_gate, count_below}
 use Rattle.std.proofs.Math.Seq.{take-append_seam}
 use Rattle.sfi_image.specs.declared.fault.LayoutFault.TheVariants as faults
 use Rattle.sfi_image.specs.declared.want.Next.TheVariants as next
@@ -34,21 +34,21 @@ fields_leads old new (AfterCount format n ps) s f' h is e words kind passed coun
     }) p c i to)
 fields_leads old new _ s f' h is e words kind passed count begun spans_are fields_are gates p c i to = let k = h.kept.0 in absurd cc
 
-pub gate_leads : (old new : ReaderState) (x : Front) (s : List ℕ) (g : Gate) → StandsFor old x → old.next ≡ next.Gate → s ≡ gate g → AreGateWords g
-    → ((gs : List Gate) → map (λ h. h.address) gs ≡ old.gates → AreGates (code_span old.fields) gs → AreGates (code_span old.fields) (gs ++ g ∷ []))
+-- one more gate, which may come next
+pub gate_on : (old new : ReaderState) (n : ℕ) (ps : List Part) (f : Fields) (gs : List Gate) (s : List ℕ) (g : Gate) → StandsFor old (InGates n ps f gs) → s ≡ gate g → AreGateWords g
+    → AreGates (code_span f) (gs ++ g ∷ [])
     → new.count ≡ old.count → new.begun ≡ old.begun → new.spans ≡ old.spans → new.fields ≡ old.fields → new.gates ≡ old.gates ++ g.address ∷ []
-    → new.passed ≡ old.passed → new.code_read ≡ old.code_read → new.init_read ≡ old.init_read → new.next ≡ next_gate (length new.gates) old.fields.gate_count → Leads x s new
-gate_leads old new (InGates n ps f gs) s g h is e words may count begun spans_are fields_are gates p c i to =
+    → new.passed ≡ old.passed → new.code_read ≡ old.code_read → new.init_read ≡ old.init_read → new.next ≡ next_gate (length new.gates) old.fields.gate_count → Leads (InGates n ps f gs) s new
+gate_on old new n ps f gs s g h e words right count begun spans_are fields_are gates p c i to =
     let k = h.kept.1 in
     let was = h.right.0 in
-    let region_is : code_span old.fields ≡ code_span f = ap code_span k.fields in
     let opened : IsOpened n ps f (gs ++ g ∷ []) = record {
       before = was.before;
       more = was.more;
       words = was.words;
       passed = was.passed;
       gate_words = All-push AreGateWords gs g was.gate_words words;
-      gates = subst (λ (r : Span). AreGates r (gs ++ g ∷ [])) region_is (may gs (sym k.gates) (subst (λ (r : Span). AreGates r gs) (sym region_is) was.gates));
+      gates = right;
     } in
     let len = length_push gs g in
     let lt = h.right.1 in
@@ -61,7 +61,25 @@ gate_leads old new (InGates n ps f gs) s g h is e words may count begun spans_ar
       fields = fields_are ∙ k.fields;
       gates = addresses;
     }) (p ∙ h.kept.2) (c ∙ h.kept.3) (i ∙ h.kept.4) (to ∙ ap (λ (j : ℕ). next_gate j old.fields.gate_count) same_len ∙ ap (λ (y : Fields). next_gate (length (gs ++ g ∷ [])) y.gate_count) k.fields))
-gate_leads old new _ s g h is e words may count begun spans_are fields_are gates p c i to = let k = h.kept.0 in absurd cc
+
+-- which gate may come next, as its test tells it by the last address
+abbrev NextIsTold : Fields → Gate → Option ℕ → Bool → Type 0
+NextIsTold f g last r = (gs : List Gate) → last ≡ slice_get (map (λ h. h.address) gs) (length gs - 1) → AreGates (code_span f) gs → IsTrue r ↔ AreGates (code_span f) (gs ++ g ∷ [])
+
+told : (old : ReaderState) (n : ℕ) (ps : List Part) (f : Fields) (gs : List Gate) (g : Gate) (last : Option ℕ) (r : Bool) → StandsFor old (InGates n ps f gs)
+    → last ≡ slice_get old.gates (length old.gates - 1) → NextIsTold old.fields g last r → IsTrue r ↔ AreGates (code_span f) (gs ++ g ∷ [])
+told old n ps f gs g last r h is tells =
+    let k = h.kept.1 in
+    let len : length old.gates ≡ length gs = ap length k.gates ∙ length-map gs (λ (y : Gate). y.address) in
+    let at : last ≡ slice_get (map (λ (y : Gate). y.address) gs) (length gs - 1) = is ∙ rw (len, k.gates) refl in
+    subst (λ (y : Fields). NextIsTold y g last r) k.fields tells gs at h.right.0.gates
+
+pub gate_leads : (old new : ReaderState) (x : Front) (s : List ℕ) (g : Gate) (last : Option ℕ) → StandsFor old x → old.next ≡ next.Gate → s ≡ gate g → AreGateWords g
+    → last ≡ slice_get old.gates (length old.gates - 1) → NextIsTold old.fields g last true
+    → new.count ≡ old.count → new.begun ≡ old.begun → new.spans ≡ old.spans → new.fields ≡ old.fields → new.gates ≡ old.gates ++ g.address ∷ []
+    → new.passed ≡ old.passed → new.code_read ≡ old.code_read → new.init_read ≡ old.init_read → new.next ≡ next_gate (length new.gates) old.fields.gate_count → Leads x s new
+gate_leads old new (InGates n ps f gs) s g last h is e words at tells = gate_on old new n ps f gs s g h e words ((told old n ps f gs g last true h at tells).0 refl)
+gate_leads old new _ s g last h is e words at tells = let k = h.kept.0 in absurd cc
 
 pub code_leads : (old new : ReaderState) (x : Front) (s : List ℕ) → StandsFor old x → old.next ≡ next.Code → AreBundlesWithin (old.fields.code_size - old.code_read) (length s)
     → new.count ≡ old.count → new.begun ≡ old.begun → new.spans ≡ old.spans → new.fields ≡ old.fields → new.gates ≡ old.gates
@@ -155,18 +173,18 @@ fields_fault old (AfterCount format n ps) s f' k' h is e words kind wrong =
     (inr (f', more, ap (λ (t : List ℕ). t ++ more) e, words, kind ∙ h.kept.1.of, inl (subst (λ (b : List Span). IsFirstFault b f' field_tests (Some k')) h.kept.1.spans wrong))))
 fields_fault old _ s f' k' h is e words kind wrong = let k = h.kept.0 in absurd cc
 
-pub gate_fault : (old : ReaderState) (x : Front) (s : List ℕ) (g : Gate) → StandsFor old x → old.next ≡ next.Gate → s ≡ gate g → AreGateWords g
-    → ((gs : List Gate) → map (λ h. h.address) gs ≡ old.gates → AreGates (code_span old.fields) gs → AreGates (code_span old.fields) (gs ++ g ∷ []) → ⊥)
-    → HasFaultWhateverFollows (front x ++ s) faults.Gates
-gate_fault old (InGates n ps f gs) s g h is e words wrong =
-    λ more.
-    let opened = h.right.0 in
-    let k = h.kept.1 in
-    let region_is : code_span old.fields ≡ code_span f = ap code_span k.fields in
-    let regroup : (head f.format n ps ++ (fields f ++ flat_map gate gs) ++ s) ++ more ≡ head f.format n ps ++ (fields f ++ (flat_map gate gs ++ (s ++ more))) = simp append_assoc in
-    let none : AreGates (code_span f) (gs ++ g ∷ []) → ⊥ = λ are. wrong gs (sym k.gates) (subst (λ (r : Span). AreGates r gs) (sym region_is) opened.gates) (subst (λ (r : Span). AreGates r (gs ++ g ∷ [])) (sym region_is) are) in
-    rw (regroup) (body_fault n ps f gs (s ++ more) faults.Gates opened (inr (inl (h.right.1, g, more, ap (λ (t : List ℕ). t ++ more) e, words, none, refl))))
-gate_fault old _ s g h is e words wrong = let k = h.kept.0 in absurd cc
+-- a gate that may not come next
+pub gate_wrong : (n : ℕ) (ps : List Part) (f : Fields) (gs : List Gate) (s more : List ℕ) (g : Gate) → IsRightFront (InGates n ps f gs) → s ≡ gate g ++ more → AreGateWords g
+    → (AreGates (code_span f) (gs ++ g ∷ []) → ⊥) → IsFault (front (InGates n ps f gs) ++ s) faults.Gates
+gate_wrong n ps f gs s more g right e words none =
+    let regroup : (head f.format n ps ++ (fields f ++ flat_map gate gs)) ++ s ≡ head f.format n ps ++ (fields f ++ (flat_map gate gs ++ s)) = simp append_assoc in
+    rw (regroup) (body_fault n ps f gs s faults.Gates right.0 (inr (inl (right.1, g, more, e, words, none, refl))))
+
+pub gate_fault : (old : ReaderState) (x : Front) (s : List ℕ) (g : Gate) (last : Option ℕ) → StandsFor old x → old.next ≡ next.Gate → s ≡ gate g → AreGateWords g
+    → last ≡ slice_get old.gates (length old.gates - 1) → NextIsTold old.fields g last false → HasFaultWhateverFollows (front x ++ s) faults.Gates
+gate_fault old (InGates n ps f gs) s g last h is e words at tells =
+    λ more. rw (append_assoc (front (InGates n ps f gs)) s more) (gate_wrong n ps f gs (s ++ more) more g h.right (ap (λ (t : List ℕ). t ++ more) e) words (λ are. let no = (told old n ps f gs g last false h at tells).1 are in absurd cc))
+gate_fault old _ s g last h is e words at tells = let k = h.kept.0 in absurd cc
 
 -- bytes that are all spelled
 pub no_rest : (bytes front rest : List ℕ) → bytes ≡ front ++ rest → length rest ≡ 0 → bytes ≡ front

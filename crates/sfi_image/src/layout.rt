@@ -64,10 +64,12 @@ fn are_gates(fields: &Fields, gates: &[Gate]) -> bool
     ensures words { OnTrue result (All AreGateWords gates.now) }
     ensures wrong { OnFalse result (HasWrongGate (code_span fields.now) gates.now) }
 {
-    for (k, gate) in gates.iter().enumerate() {
-        if !is_next_gate(fields, &gates[..k], *gate) {
+    let mut last = None;
+    for gate in gates {
+        if !is_next_gate(fields, last, *gate) {
             return false;
         }
+        last = Some(gate.address);
     }
     true
 }

@@ -11,7 +11,7 @@ ghost use Rattle.sfi_image.specs.private.Keeping.{MayTake, Takes, as_want, count
 use crate::bundle::BundlePlace;
 use crate::fault::LayoutFault;
 use crate::fields::{Fields, spans_after};
-use crate::gates::is_next_address;
+use crate::gates::is_next_gate;
 use crate::kept::{KeptGates, KeptSpans};
 use crate::reader_parts::ReaderParts;
 use crate::reading::{
@@ -402,7 +402,8 @@ impl LayoutReader {
         ensures falls { left self.new < left self.old }
     {
         let (gate, _) = gate_at(bytes);
-        if !is_next_address(&self.fields, self.gates.as_slice(), gate) {
+        let last = self.gates.as_slice().last().copied();
+        if !is_next_gate(&self.fields, last, gate) {
             self.next = Next::Nothing;
             return Some(LayoutFault::Gates);
         }

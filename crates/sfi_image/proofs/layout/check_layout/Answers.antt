@@ -1,5 +1,6 @@
-use Rattle.sfi_image.proofs.Prelude.{◌≡◌, ◌<◌, take, List, [], ◌∷◌, ◌++◌, false, ℕ, eqb, sym, ap, subst, arith, append_assoc, ◌∙◌, take_all, take-map, length-map, eq-eqb, Span, Part, view, views, AreRight}
+use Rattle.sfi_image.proofs.Prelude.{◌≡◌, ◌<◌, take, List, false, ℕ, eqb, sym, subst, arith, ◌∙◌, take_all, take-map, length-map, eq-eqb, Part, view, views, AreRight}
 use Rattle.sfi_image.proofs.Formats.{views_of}
+use Rattle.sfi_image.proofs.SpanLists.{two_pushed}
 use Rattle.sfi_image.proofs.Refused.{StartRight, StartRight-push, start_right, wrong_part, map_at, map_more_at}
 use Rattle.sfi_image.proofs.layout.check_layout.Goals as goal
 
@@ -21,9 +22,7 @@ returns-in-Err-clause-wrong c =
 pub loop-part-preserved : goal.loop-part-preserved
 loop-part-preserved c =
     let apart = rw c.deref.ensures.value at c.in-Ok.ensures.apart in
-    let old = c.loop-part.before.items in
-    let spans_are = c.in_ok-push-2.ensures.items ∙ ap (λ (b : List Span). b ++ c.in-Ok.own.guarded ∷ []) c.in_ok-push.ensures.items ∙ append_assoc old (c.in-Ok.own.code ∷ []) (c.in-Ok.own.guarded ∷ [])
-    ∙ ap (λ (t : List Span). old ++ t) c.in-Ok.ensures.spans in
+    let spans_are = two_pushed c.loop-part.before.items _ _ _ _ _ c.in_ok-push.ensures.items c.in_ok-push-2.ensures.items c.in-Ok.ensures.spans in
     rw (map_more_at (view c.args.format) c.args.parts.now c.loop-part.part-index c.part-item.result c.loop-part-test.true c.part-item.is, spans_are)
     (StartRight-push _ _ _ c.loop-part.invariant c.in-Ok.ensures.right apart)
 

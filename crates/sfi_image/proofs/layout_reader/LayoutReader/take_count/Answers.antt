@@ -1,6 +1,6 @@
-use Rattle.sfi_image.proofs.Prelude.{◌≡◌, refl, sym, subst, arith, number, ReaderState, StandsFor, kept}
+use Rattle.sfi_image.proofs.Prelude.{◌≡◌, refl, arith, number, kept}
 use Rattle.sfi_image.specs.declared.want.Next.TheVariants as next
-use Rattle.sfi_image.proofs.Standing.{count_leads, still_reader}
+use Rattle.sfi_image.proofs.Standing.{count_leads, next_kept, stands_kept, still_reader}
 use Rattle.sfi_image.proofs.Steps.{count_fault, no_rest}
 use Rattle.sfi_image.proofs.layout_reader.LayoutReader.take_count.Goals as goal
 use Rattle.sfi_image.proofs.layout_reader.LayoutReader.take_count.Goals.{then-count-lt1-via-then-count-lt1, then-count-lt1-via-else-count-lt1+then-count-gt-SANDBOXES_MOST}
@@ -16,13 +16,12 @@ returns-then-count-lt1-clause-takes c =
 pub invariant_of-self-2 : goal.invariant_of-self-2
 invariant_of-self-2 c =
     let old = kept c.self.inside in
+    let is : old.next ≡ next.Count = next_kept c.self.view_is c.requires.next in
     let e = no_rest c.args.bytes.now (number c.number_at-count.result.0) _ c.number_at-count.ensures.front (omega (arith, c.number_at-count.ensures.len, c.requires.len)) in
-    let is : old.next ≡ next.Count = subst (λ (r : ReaderState). r.next ≡ next.Count) (sym c.self.view_is) c.requires.next in
-    still_reader old _ c.args.bytes.now c.self.invariant (λ stopped. absurd cc) (λ x h. count_leads old x c.args.bytes.now c.number_at-count.result.0 h is e (omega arith) (omega arith))
+    still_reader old _ c.args.bytes.now next.Count c.self.invariant is (λ stopped. absurd cc) (λ x h. count_leads old x c.args.bytes.now c.number_at-count.result.0 h is e (omega arith) (omega arith))
 
 pub returns-clause-takes : goal.returns-clause-takes
 returns-clause-takes c =
     let old = kept c.self.inside in
     let e = no_rest c.args.bytes.now (number c.number_at-count.result.0) _ c.number_at-count.ensures.front (omega (arith, c.number_at-count.ensures.len, c.requires.len)) in
-    let is : old.next ≡ next.Count = subst (λ (r : ReaderState). r.next ≡ next.Count) (sym c.self.view_is) c.requires.next in
-    λ x h. count_leads old x c.args.bytes.now c.number_at-count.result.0 (subst (λ (r : ReaderState). StandsFor r x) (sym c.self.view_is) h) is e (omega arith) (omega arith)
+    λ x h. count_leads old x c.args.bytes.now c.number_at-count.result.0 (stands_kept c.self.view_is h) (next_kept c.self.view_is c.requires.next) e (omega arith) (omega arith)
