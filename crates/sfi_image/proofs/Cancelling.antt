@@ -1,5 +1,5 @@
 -- What is spelled at the front of bytes is determined by them.
-use Rattle.sfi_image.proofs.Prelude.{◌≡◌, ℕ, ◌+◌, List, [], ◌∷◌, ◌++◌, length, take, refl, sym, ap, ◌∙◌, arith, append_assoc, inl, inr, ◌⊎◌, All, flat_map, from_le_bytes-to_le_bytes_4, append_cancel_left, length-append, All-head, All-tail, Format, Gate, Fields, Part, fields_of, number, fields, gate, part, IsWord, AreFieldWords, AreGateWords, AreWords}
+use Rattle.sfi_image.proofs.Prelude.{◌≡◌, ℕ, ◌+◌, List, [], ◌∷◌, ◌++◌, length, take, refl, sym, ap, ◌∙◌, arith, append_assoc, inl, inr, ◌⊎◌, All, flat_map, from_le_bytes-to_le_bytes_4, append_cancel_left, length-append, All-head, All-tail, Gate, Fields, Part, fields_of, number, fields, gate, part, IsWord, AreFieldWords, AreGateWords, AreWords}
 use Rattle.std.proofs.Math.Seq.{take-append_seam}
 use Rattle.std.specs.Int.{w32, to_le_bytes, from_le_bytes}
 
@@ -17,13 +17,6 @@ same_number a b r s wa wb e =
 
 -- ---- gates
 
-gate_of : ℕ → ℕ → Gate
-gate_of a s = record { address = a; service = s }
-
-of_gate : (g : Gate) → gate_of g.address g.service ≡ g
-unfolding gate_of
-of_gate g = refl
-
 pub gate_split : (g : Gate) (r : List ℕ) → gate g ++ r ≡ number g.address ++ (number g.service ++ r)
 unfolding gate
 gate_split g r = append_assoc (number g.address) (number g.service) r
@@ -32,21 +25,14 @@ pub same_gate : (g h : Gate) (r s : List ℕ) → AreGateWords g → AreGateWord
 same_gate g h r s wg wh e =
     let address = same_number g.address h.address _ _ wg.address wh.address (sym (gate_split g r) ∙ e ∙ gate_split h s) in
     let service = same_number g.service h.service r s wg.service wh.service address.1 in
-    let same : gate_of g.address g.service ≡ gate_of h.address h.service = rw (address.0, service.0) refl in
-    (sym (of_gate g) ∙ same ∙ of_gate h, service.1)
+    let same : g ≡ h = λ k. record { address = address.0 k; service = service.0 k } in
+    (same, service.1)
 
 pub length-gate : (g : Gate) (r : List ℕ) → length (gate g ++ r) ≡ 8 + length r
 unfolding gate number
 length-gate g r = omega arith
 
 -- ---- fields
-
-fields_from : (k : Format) (a b c d e f g : ℕ) → Fields
-fields_from k a b c d e f g = record { format = k; code_base = a; code_size = b; data_base = c; data_size = d; start = e; gate_count = f; init_len = g }
-
-of_fields : (f : Fields) → fields_from f.format f.code_base f.code_size f.data_base f.data_size f.start f.gate_count f.init_len ≡ f
-unfolding fields_from
-of_fields f = refl
 
 pub fields_split : (f : Fields) (r : List ℕ) → fields f ++ r ≡ number f.code_base ++ (number f.code_size ++ (number f.data_base ++ (number f.data_size
     ++ (number f.start ++ (number f.gate_count ++ (number f.init_len ++ r))))))
@@ -62,9 +48,8 @@ same_fields f g r s wf wg kind e =
     let h = same_number f.start g.start _ _ wf.start wg.start d.1 in
     let i = same_number f.gate_count g.gate_count _ _ wf.gate_count wg.gate_count h.1 in
     let j = same_number f.init_len g.init_len r s wf.init_len wg.init_len i.1 in
-    let same : fields_from f.format f.code_base f.code_size f.data_base f.data_size f.start f.gate_count f.init_len ≡ fields_from g.format g.code_base g.code_size g.data_base g.data_size g.start g.gate_count g.init_len =
-    rw (kind, a.0, b.0, c.0, d.0, h.0, i.0, j.0) refl in
-    (sym (of_fields f) ∙ same ∙ of_fields g, j.1)
+    let same : f ≡ g = λ k. record { format = kind k; code_base = a.0 k; code_size = b.0 k; data_base = c.0 k; data_size = d.0 k; start = h.0 k; gate_count = i.0 k; init_len = j.0 k } in
+    (same, j.1)
 
 pub length-fields : (f : Fields) (r : List ℕ) → length (fields f ++ r) ≡ 28 + length r
 unfolding fields number
@@ -105,13 +90,6 @@ module _ {X : Type 0} (spell : X → List ℕ) (Fits : X → Type 0)
 
 -- ---- sandboxes
 
-part_from : Fields → List Gate → (code init : List ℕ) → Part
-part_from f gs code init = record { format = f.format; code_base = f.code_base; data_base = f.data_base; data_size = f.data_size; start = f.start; gates = gs; code = code; init = init }
-
-of_part : (p : Part) → part_from (fields_of p) p.gates p.code p.init ≡ p
-unfolding part_from
-of_part p = refl
-
 pub part_split : (p : Part) (r : List ℕ) → part p ++ r ≡ fields (fields_of p) ++ (flat_map gate p.gates ++ (p.code ++ (p.init ++ r)))
 unfolding part
 part_split p r = simp append_assoc
@@ -122,5 +100,7 @@ same_part p q r s wp wq kind e =
     let gates = same_list gate AreGateWords same_gate p.gates q.gates _ _ wp.gates wq.gates (ap (λ (f : Fields). f.gate_count) head.0) head.1 in
     let code = same_front p.code q.code _ _ (ap (λ (f : Fields). f.code_size) head.0) gates.1 in
     let init = same_front p.init q.init r s (ap (λ (f : Fields). f.init_len) head.0) code.1 in
-    let same : part_from (fields_of p) p.gates p.code p.init ≡ part_from (fields_of q) q.gates q.code q.init = rw (head.0, gates.0, code.0, init.0) refl in
-    (sym (of_part p) ∙ same ∙ of_part q, init.1)
+    let same : p ≡ q = λ k.
+    let f = head.0 k in
+    record { format = f.format; code_base = f.code_base; data_base = f.data_base; data_size = f.data_size; start = f.start; gates = gates.0 k; code = code.0 k; init = init.0 k } in
+    (same, init.1)

@@ -1,5 +1,5 @@
 -- What holds of each format, and of parts of one.
-use Rattle.sfi_image.proofs.Prelude.{◌≡◌, ℕ, zero, suc, ◌+◌, ◌≤◌, List, [], ◌∷◌, ◌++◌, length, get_or, take, refl, ap, arith, length-append, Format, Sfi1, Sfi2, Sfiw, magic, code_most, Part, views, format_of, AreOf}
+use Rattle.sfi_image.proofs.Prelude.{◌≡◌, ℕ, ◌+◌, ◌≤◌, List, [], ◌∷◌, ◌++◌, length, get_or, take, refl, ap, arith, length-append, Format, Sfi1, Sfi2, Sfiw, magic, code_most, Part, view, views, format_of, AreOf, All-map}
 use Rattle.sfi_image.specs.declared.part.SandboxPart.{SandboxPart}
 use Rattle.sfi_policy.proofs.Formats.{length_of_magic}
 
@@ -40,9 +40,7 @@ same_format (p ∷ ps) are some = are 0 p (omega arith)
 
 -- the parts that are seen in a format have it
 pub views_have : (f : Format) (items : List SandboxPart) → AreOf f (views f items)
-views_have f [] k d below = absurd (omega arith)
-views_have f (x ∷ items) zero d below = refl
-views_have f (x ∷ items) (suc k) d below = views_have f items k d (omega (arith, below))
+views_have f items = All-map (λ (p : Part). p.format ≡ f) (view f) items (λ k d below. refl)
 
 pub views_of : (f : Format) (items : List SandboxPart) → AreOf (format_of (views f items)) (views f items)
 views_of f [] = λ k d below. absurd (omega arith)

@@ -1,7 +1,16 @@
 -- What a stream of a reader hands out, whose bytes are known. Crates above cite this.
-use Rattle.sfi_image.proofs.Prelude.{◌≡◌, ℕ, Bool, true, List, [], ◌∷◌, ◌++◌, Option, Some, None, refl, sym, ap, ◌∙◌, subst, inl, inr, append_assoc, nat_lt, cases_Bool, ltb-true}
+use Rattle.sfi_image.proofs.Prelude.{◌≡◌, ℕ, Bool, true, List, [], ◌∷◌, ◌++◌, Option, Some, None, refl, sym, ap, ◌∙◌, subst, inl, inr, append_assoc, cases_Bool, ltb-true}
 use Rattle.sfi_image.specs.Reading.{ReadsOf}
-use Rattle.sfi_image.specs.Sources.{OneRead, IsChain, bytes_handed_out, finds_end, Streams}
+use Rattle.sfi_image.specs.Sources.{OneRead, IsChain, bytes_of, bytes_handed_out, finds_end, is_end, Streams}
+
+-- one read hands out the front of the known bytes, and none where it finds the end, at which none are left
+handed : (n : ℕ) (answer new : Option (List ℕ)) (was is : Bool) (all : List ℕ) → ReadsOf (Some all) was n answer new is
+    → (left : List ℕ) × (new ≡ Some left) × (all ≡ bytes_of answer ++ left) × (is_end n answer ≡ true → all ≡ [])
+handed n None None was is all h = absurd h.1
+handed n None (Some left) was is all h = (left, refl, sym h.1, λ e. absurd cc)
+handed n (Some bytes) None was is all h = absurd h.1
+handed n (Some []) (Some left) was is all h = (left, refl, h.1, λ e. h.1 ∙ h.3 refl (ltb-true 0 n e))
+handed n (Some (b ∷ bs)) (Some left) was is all h = (left, refl, h.1, λ e. absurd cc)
 
 module _ {S : Type 0} (known : S → Option (List ℕ)) (failed : S → Bool) where
   abbrev pub reads_known : S → ℕ → Option (List ℕ) → S → Type 0
@@ -11,30 +20,13 @@ module _ {S : Type 0} (known : S → Option (List ℕ)) (failed : S → Bool) wh
   known_front : (rs : List (OneRead S)) (s t : S) (all : List ℕ) → IsChain reads_known s rs t → known s ≡ Some all
       → (rest : List ℕ) × (all ≡ bytes_handed_out rs ++ rest) × (finds_end rs ≡ true → rest ≡ [])
   known_front [] s t all h e = (all, refl, λ f. absurd cc)
-  known_front (r ∷ rs) s t all h e = by r.answer (known r.after) refl refl (subst (λ (o : Option (List ℕ)). ReadsOf o (failed s) r.buffer_length r.answer (known r.after) (failed r.after)) e h.0)
-      (λ left is. known_front rs r.after t left h.1 is)
-    where
-      by : (answer new : Option (List ℕ)) → r.answer ≡ answer → known r.after ≡ new → ReadsOf (Some all) (failed s) r.buffer_length r.answer (known r.after) (failed r.after)
-          → ((left : List ℕ) → known r.after ≡ Some left → (rest : List ℕ) × (left ≡ bytes_handed_out rs ++ rest) × (finds_end rs ≡ true → rest ≡ []))
-          → (rest : List ℕ) × (all ≡ bytes_handed_out (r ∷ rs) ++ rest) × (finds_end (r ∷ rs) ≡ true → rest ≡ [])
-      by None None a n one ih = let k = (subst (λ (o : Option (List ℕ)). ReadsOf (Some all) (failed s) r.buffer_length None o (failed r.after)) n (subst (λ (o : Option (List ℕ)). ReadsOf (Some all) (failed s) r.buffer_length o (known r.after) (failed r.after)) a one)).1 in absurd k
-      by None (Some left) a n one ih =
-          let k = (subst (λ (o : Option (List ℕ)). ReadsOf (Some all) (failed s) r.buffer_length None o (failed r.after)) n (subst (λ (o : Option (List ℕ)). ReadsOf (Some all) (failed s) r.buffer_length o (known r.after) (failed r.after)) a one)).1 in
-          let rest = ih left n in
-          rw (a) (rest.0, sym k ∙ rest.1, rest.2)
-      by (Some bytes) None a n one ih = let k = (subst (λ (o : Option (List ℕ)). ReadsOf (Some all) (failed s) r.buffer_length (Some bytes) o (failed r.after)) n (subst (λ (o : Option (List ℕ)). ReadsOf (Some all) (failed s) r.buffer_length o (known r.after) (failed r.after)) a one)).1 in absurd k
-      by (Some []) (Some left) a n one ih =
-          let k = subst (λ (o : Option (List ℕ)). ReadsOf (Some all) (failed s) r.buffer_length (Some []) o (failed r.after)) n (subst (λ (o : Option (List ℕ)). ReadsOf (Some all) (failed s) r.buffer_length o (known r.after) (failed r.after)) a one) in
-          let rest = ih left n in
-          let same : all ≡ left = k.1 in
-          elim (cases_Bool (nat_lt 0 r.buffer_length)) [
-            | inl holds ↦ (let none : left ≡ [] = k.3 refl (ltb-true 0 r.buffer_length holds) in rw (a, holds) ([], same ∙ none, λ _. refl))
-            | inr fails ↦ rw (a, fails) (rest.0, same ∙ rest.1, rest.2)
-          ]
-      by (Some (b ∷ bs)) (Some left) a n one ih =
-          let k = subst (λ (o : Option (List ℕ)). ReadsOf (Some all) (failed s) r.buffer_length (Some (b ∷ bs)) o (failed r.after)) n (subst (λ (o : Option (List ℕ)). ReadsOf (Some all) (failed s) r.buffer_length o (known r.after) (failed r.after)) a one) in
-          let rest = ih left n in
-          rw (a) (rest.0, k.1 ∙ ap (λ (l : List ℕ). (b ∷ bs) ++ l) rest.1 ∙ sym (append_assoc (b ∷ bs) (bytes_handed_out rs) rest.0), rest.2)
+  known_front (r ∷ rs) s t all h e =
+      let one = handed r.buffer_length r.answer (known r.after) (failed s) (failed r.after) all (subst (λ (o : Option (List ℕ)). ReadsOf o (failed s) r.buffer_length r.answer (known r.after) (failed r.after)) e h.0) in
+      let more = known_front rs r.after t one.0 h.1 one.1 in
+      elim (cases_Bool (is_end r.buffer_length r.answer)) [
+        | inl ends ↦ rw (ends) ([], one.3 ends, λ _. refl)
+        | inr goes ↦ rw (goes) (more.0, one.2 ∙ ap (λ (l : List ℕ). bytes_of r.answer ++ l) more.1 ∙ sym (append_assoc (bytes_of r.answer) (bytes_handed_out rs) more.0), more.2)
+      ]
 
   -- so the bytes of a stream are the front of the reader's
   pub handed_out : (most : ℕ) (s t : S) (bytes all : List ℕ) (ends : Bool) → Streams reads_known most s t bytes ends → known s ≡ Some all

@@ -5,7 +5,6 @@ pub mod Regions
 pub mod GateLists
 pub mod SpanLists
 pub mod FieldTests
-pub mod PartLists
 pub mod Cancelling
 pub mod OneReading
 pub mod Deciding

@@ -132,23 +132,14 @@ AfterParts format n ps rest k =
     ⊎ ((length ps ≡ n) × (0 < length rest) × (k ≡ Trailing))
 
 -- right, and of this format
-RightOf : Format → Part → Type 0
+abbrev RightOf : Format → Part → Type 0
 RightOf format p = (p.format ≡ format) × IsRightPart p
 
 are_right_of : (format : Format) (ps : List Part) → AreOf format ps → AreRight ps → All (RightOf format) ps
-unfolding RightOf
 are_right_of format ps are right = λ k d lt. (are k d lt, right.each k d lt)
 
-right_of : (format : Format) (p : Part) → RightOf format p → IsRightPart p
-unfolding RightOf
-right_of format p a = a.1
-
-format_is : (format : Format) (p : Part) → RightOf format p → p.format ≡ format
-unfolding RightOf
-format_is format p a = a.0
-
 same_right : (format : Format) (p q : Part) (r s : List ℕ) → RightOf format p → RightOf format q → part p ++ r ≡ part q ++ s → (p ≡ q) × (r ≡ s)
-same_right format p q r s a b e = same_part p q r s (right_words p (right_of format p a)) (right_words q (right_of format q b)) (format_is format p a ∙ sym (format_is format q b)) e
+same_right format p q r s a b e = same_part p q r s (right_words p a.1) (right_words q b.1) (a.0 ∙ sym b.0) e
 
 after_parts_count : (format : Format) (n : ℕ) (ps : List Part) (rest : List ℕ) (k : LayoutFault) → AfterParts format n ps rest k → length ps ≤ n
 after_parts_count format n ps rest k (inl a) = omega (arith, a.0)
@@ -160,7 +151,7 @@ parts_go_on format n xs ps rest k right le on (inl a) =
     let spelled : spans xs ≡ (spans ps ++ spans_of (fields_of on.0)) ++ spans on.1 =
     ap spans on.4 ∙ flat_map-append (λ q. spans_of (fields_of q)) ps (on.0 ∷ on.1) ∙ sym (append_assoc (spans ps) (spans_of (fields_of on.0)) (spans on.1)) in
     let apart = front_apart (spans ps ++ spans_of (fields_of on.0)) (spans on.1) (subst (AllPairs AreApart) spelled right.apart) in
-    no_part_fault format (spans ps) on.0 on.2 k (format_is format on.0 on.3) (right_of format on.0 on.3) apart (subst (λ (t : List ℕ). IsPartFault format (spans ps) t k) on.5 a.1)
+    no_part_fault format (spans ps) on.0 on.2 k on.3.0 on.3.1 apart (subst (λ (t : List ℕ). IsPartFault format (spans ps) t k) on.5 a.1)
 parts_go_on format n xs ps rest k right le on (inr a) = omega (arith, a.0, le, ap length on.4, length-append ps (on.0 ∷ on.1))
 
 after_parts : (format : Format) (n : ℕ) (ps : List Part) (rest : List ℕ) (j k : LayoutFault) → AfterParts format n ps rest j → AfterParts format n ps rest k → j ≡ k

@@ -2,7 +2,7 @@
 use Rattle.sfi_image.proofs.Prelude.{◌≡◌, ℕ, ◌+◌, ◌-◌, ◌*◌, ◌^◌, ◌<◌, ◌≤◌, List, [], ◌∷◌, length, drop, refl, sym, ap, ◌∙◌, subst, arith, inl, inr, All, AllPairs, length-map, All-append, All-head, All-tail, Format, Gate, Fields, Part, fields_of, AreApart, spans, spans_of, IsBounded, IsRightPart, Front, want_of, IsLengthOf, AfterCount, InGates, InCode, InInit, Whole, ReaderState, StandsFor, IsReader, MayTake, is_first}
 use Rattle.sfi_image.specs.declared.want.Next.TheVariants as next
 use Rattle.sfi_image.specs.declared.want.Want.TheVariants as wants
-use Rattle.sfi_image.proofs.PartLists.{right_bounded}
+use Rattle.sfi_image.proofs.SpanLists.{right_bounded}
 use Rattle.sfi_image.proofs.Standing.{region, first_is}
 
 by_fields : (r : ReaderState) (x : Front) → StandsFor r x → r.next ≡ next.Fields → (format : Format) × (n : ℕ) × (ps : List Part) × StandsFor r (AfterCount format n ps)

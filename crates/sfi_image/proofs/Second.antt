@@ -1,5 +1,5 @@
 -- A right layout is one in the second format too: its code regions may be larger.
-use Rattle.sfi_image.proofs.Prelude.{◌≡◌, zero, suc, List, [], ◌∷◌, ◌++◌, length, refl, ap, subst, arith, All, AllPairs, length-map, All-map, All-weaker, Sfi2, Span, Part, format_of, fields_of, AreApart, spans_of, spans, IsRightPart, AreOf, IsRightLayout}
+use Rattle.sfi_image.proofs.Prelude.{◌≡◌, List, [], ◌∷◌, ◌++◌, length, refl, ap, subst, arith, All, AllPairs, length-map, All-map, All-weaker, Sfi2, Span, Part, format_of, fields_of, AreApart, spans_of, spans, IsRightPart, AreOf, IsRightLayout}
 use Rattle.sfi_image.specs.InFormat.{in_format, all_in_format}
 use Rattle.sfi_image.proofs.Formats.{code_at_most}
 
@@ -29,9 +29,7 @@ each_in_second : (ps : List Part) → All IsRightPart ps → All IsRightPart (al
 each_in_second ps right = All-map IsRightPart (in_format Sfi2) ps (All-weaker IsRightPart (λ (p : Part). IsRightPart (in_format Sfi2 p)) part_in_second ps right)
 
 have_second : (ps : List Part) → AreOf Sfi2 (all_in_format Sfi2 ps)
-have_second [] k d below = absurd (omega arith)
-have_second (p ∷ ps) zero d below = refl
-have_second (p ∷ ps) (suc k) d below = have_second ps k d (omega (arith, below))
+have_second ps = All-map (λ (p : Part). p.format ≡ Sfi2) (in_format Sfi2) ps (λ k d below. refl)
 
 are_of_second : (ps : List Part) → AreOf (format_of (all_in_format Sfi2 ps)) (all_in_format Sfi2 ps)
 are_of_second [] = λ k d below. absurd (omega arith)

@@ -1,5 +1,6 @@
--- Spans that lie apart.
-use Rattle.sfi_image.proofs.Prelude.{◌≡◌, ℕ, ◌+◌, ◌-◌, ◌<◌, List, [], ◌∷◌, ◌++◌, length, get_or, refl, ap, ◌∙◌, arith, append_assoc, subst, below_more, All, AllPairs, length-append, get_or_append_left, get_or_default, get_or-append_right, All-push, Span, Fields, AreApart, code_span, guarded_span, spans_of}
+-- Spans that lie apart, and those of sandboxes.
+use Rattle.sfi_image.proofs.Prelude.{◌≡◌, ℕ, ◌+◌, ◌-◌, ◌<◌, List, [], ◌∷◌, ◌++◌, length, get_or, refl, ap, ◌∙◌, arith, append_assoc, subst, below_more, All, AllPairs, length-append, get_or_append_left, get_or_default, get_or-append_right, All-push, Span, Fields, AreApart, code_span, guarded_span, spans_of, flat_map-append, append-nil, All-from_recursion, Part, fields_of, spans, IsBounded, IsRightPart}
+use Rattle.sfi_image.proofs.Formats.{code_at_most}
 use Rattle.std.proofs.lemmas.List.Quantifiers.{all_pairs_push}
 
 -- one more step over the spans before
@@ -43,3 +44,16 @@ two_spans a b f one other = ap (λ (x : Span). x ∷ b ∷ []) one ∙ ap (λ (y
 -- they are put at the end, one after the other
 pub two_pushed : (old mid new two : List Span) (a b : Span) → mid ≡ old ++ a ∷ [] → new ≡ mid ++ b ∷ [] → (a ∷ b ∷ []) ≡ two → new ≡ old ++ two
 two_pushed old mid new two a b first then_ are = then_ ∙ ap (λ (t : List Span). t ++ b ∷ []) first ∙ append_assoc old (a ∷ []) (b ∷ []) ∙ ap (λ (t : List Span). old ++ t) are
+
+-- the spans of one more
+pub spans_push : (ps : List Part) (p : Part) → spans (ps ++ p ∷ []) ≡ spans ps ++ spans_of (fields_of p)
+spans_push ps p = flat_map-append (λ q. spans_of (fields_of q)) ps (p ∷ []) ∙ ap (λ (t : List Span). spans ps ++ t) (append-nil (spans_of (fields_of p)))
+
+-- spans of right sandboxes hold an address and end below 2 ^ 64
+pub right_bounded : (p : Part) → IsRightPart p → All IsBounded (spans_of (fields_of p))
+right_bounded p right =
+    let most = code_at_most p.format in
+    All-from_recursion IsBounded (spans_of (fields_of p)) (
+      record { some = omega (arith, right.code_placed.at_least); end = omega (arith, right.code_base, right.code_placed.at_most) },
+      (record { some = omega arith; end = omega (arith, right.guard_room.above, right.data_placed.at_most) }, tt),
+    )

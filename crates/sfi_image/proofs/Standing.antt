@@ -6,7 +6,7 @@ use Rattle.std.proofs.lemmas.Bool.{ltb-false}
 use Rattle.sfi_image.specs.declared.want.Next.{Next}
 use Rattle.sfi_image.specs.declared.want.Next.TheVariants as next
 use Rattle.sfi_image.proofs.FieldTests.{all_pass}
-use Rattle.sfi_image.proofs.PartLists.{spans_push}
+use Rattle.sfi_image.proofs.SpanLists.{spans_push}
 use Rattle.sfi_image.proofs.Bundles.{whole_bundles}
 use Rattle.sfi_image.proofs.Formats.{code_at_most, same_format}
 use Rattle.sfi_image.proofs.Following.{fields_again, finished, following_bytes}
