@@ -20,23 +20,20 @@ decided_both (inl p) (inl q) = inl (p, q)
 decided_both (inl p) (inr q) = inr (λ both. q both.1)
 decided_both (inr p) q = inr (λ both. p both.0)
 
+-- what is the same as something decided
+decided_as : {P Q : Type 0} → (P → Q) → (Q → P) → Decided P → Decided Q
+decided_as to from (inl p) = inl (to p)
+decided_as to from (inr not) = inr (λ q. not (from q))
+
 pub decided_same : (xs ys : List ℕ) → Decided (xs ≡ ys)
 decided_same [] [] = inl refl
 decided_same [] (y ∷ ys) = inr (λ e. absurd cc)
 decided_same (x ∷ xs) [] = inr (λ e. absurd cc)
-decided_same (x ∷ xs) (y ∷ ys) =
-    elim (decided_both (cases_eq x y) (decided_same xs ys)) [
-      | inl both ↦ inl (rw (both.0, both.1) refl)
-      | inr differ ↦ inr (λ e. differ (cc, cc))
-    ]
+decided_same (x ∷ xs) (y ∷ ys) = decided_as (λ both. rw (both.0, both.1) refl) (λ e. (cc, cc)) (decided_both (cases_eq x y) (decided_same xs ys))
 
 pub decided_all : {X : Type 0} (P : X → Type 0) → ((x : X) → Decided (P x)) → (xs : List X) → Decided (All P xs)
 decided_all P each [] = inl (All-nil P)
-decided_all P each (x ∷ xs) =
-    elim (decided_both (each x) (decided_all P each xs)) [
-      | inl both ↦ inl (All-cons P x xs both.0 both.1)
-      | inr not ↦ inr (λ all. not (All-head P x xs all, All-tail P x xs all))
-    ]
+decided_all P each (x ∷ xs) = decided_as (λ both. All-cons P x xs both.0 both.1) (λ all. (All-head P x xs all, All-tail P x xs all)) (decided_both (each x) (decided_all P each xs))
 
 pairs_head : {X : Type 0} (R : X → X → Type 0) (x : X) (xs : List X) → AllPairs R (x ∷ xs) → All (R x) xs
 pairs_head R x xs pairs k d lt = pairs 0 (suc k) d (omega arith) (omega arith)
@@ -47,10 +44,8 @@ pairs_tail R x xs pairs i j d lt within = pairs (suc i) (suc j) d (omega arith) 
 pub decided_pairs : {X : Type 0} (R : X → X → Type 0) → ((x y : X) → Decided (R x y)) → (xs : List X) → Decided (AllPairs R xs)
 decided_pairs R each [] = inl (λ i j d lt within. absurd (omega arith))
 decided_pairs R each (x ∷ xs) =
-    elim (decided_both (decided_all (R x) (each x) xs) (decided_pairs R each xs)) [
-      | inl both ↦ inl (AllPairs-cons R x xs both.0 both.1)
-      | inr not ↦ inr (λ pairs. not (pairs_head R x xs pairs, pairs_tail R x xs pairs))
-    ]
+    decided_as (λ both. AllPairs-cons R x xs both.0 both.1) (λ pairs. (pairs_head R x xs pairs, pairs_tail R x xs pairs))
+    (decided_both (decided_all (R x) (each x) xs) (decided_pairs R each xs))
 
 -- ---- spans
 
@@ -105,17 +100,11 @@ decided_region base size least most =
 
 pub decided_guard_room : (base size : ℕ) → Decided (HasGuardRoom base size)
 decided_guard_room base size =
-    elim (decided_both (decided_le 4096 base) (decided_le (base + size + 4096) 4294967296)) [
-      | inl both ↦ inl (record { below = both.0; above = both.1 })
-      | inr not ↦ inr (λ room. not (room.below, room.above))
-    ]
+    decided_as (λ both. record { below = both.0; above = both.1 }) (λ room. (room.below, room.above)) (decided_both (decided_le 4096 base) (decided_le (base + size + 4096) 4294967296))
 
 decided_bundle_start : (region : Span) (at : ℕ) → Decided (IsBundleStart region at)
 decided_bundle_start region at =
-    elim (decided_both (decided_holds region at) (cases_eq (at % 16) 0)) [
-      | inl both ↦ inl (record { held = both.0; aligned = both.1 })
-      | inr not ↦ inr (λ start. not (start.held, start.aligned))
-    ]
+    decided_as (λ both. record { held = both.0; aligned = both.1 }) (λ start. (start.held, start.aligned)) (decided_both (decided_holds region at) (cases_eq (at % 16) 0))
 
 -- ---- gates
 
@@ -124,10 +113,7 @@ decided_gates region gs =
     let starts = decided_all (λ (g : Gate). IsBundleStart region g.address) (λ g. decided_bundle_start region g.address) gs in
     let services = decided_all (λ (g : Gate). g.service ≤ service_most) (λ g. decided_le g.service service_most) gs in
     let ascending = decided_pairs (λ (g h : Gate). g.address < h.address) (λ g h. decided_lt g.address h.address) gs in
-    elim (decided_both starts (decided_both services ascending)) [
-      | inl all ↦ inl (record { starts = all.0; services = all.1.0; ascending = all.1.1 })
-      | inr not ↦ inr (λ are. not (are.starts, (are.services, are.ascending)))
-    ]
+    decided_as (λ all. record { starts = all.0; services = all.1.0; ascending = all.1.1 }) (λ are. (are.starts, (are.services, are.ascending))) (decided_both starts (decided_both services ascending))
 
 -- ---- the tests of the fields
 

@@ -1,41 +1,25 @@
 -- What a reader stands for, by what it reads next; and what its numbers are there.
-use Rattle.sfi_image.proofs.Prelude.{◌≡◌, ℕ, ◌+◌, ◌-◌, ◌*◌, ◌^◌, ◌<◌, ◌≤◌, List, [], ◌∷◌, length, drop, refl, sym, ap, ◌∙◌, subst, arith, inl, inr, All, AllPairs, length-map, All-append, All-head, All-tail, Format, Gate, Fields, Part, fields_of, AreApart, spans, spans_of, IsBounded, IsRightPart, Front, want_of, IsLengthOf, AfterCount, InGates, InCode, InInit, Whole, ReaderState, StandsFor, IsReader, MayTake, is_first}
+use Rattle.sfi_image.proofs.Prelude.{◌≡◌, ℕ, ◌+◌, ◌-◌, ◌*◌, ◌^◌, ◌<◌, ◌≤◌, List, [], ◌∷◌, length, drop, refl, sym, ap, ◌∙◌, subst, arith, All, AllPairs, length-map, All-append, All-head, All-tail, Format, Gate, Fields, Part, fields_of, AreApart, spans, spans_of, IsBounded, IsRightPart, Front, want_of, IsLengthOf, AfterCount, InGates, InCode, InInit, Whole, ReaderState, StandsFor, IsReader, MayTake, is_first}
 use Rattle.sfi_image.specs.declared.want.Next.TheVariants as next
 use Rattle.sfi_image.specs.declared.want.Want.TheVariants as wants
 use Rattle.sfi_image.proofs.SpanLists.{right_bounded}
-use Rattle.sfi_image.proofs.Standing.{region, first_is}
+use Rattle.sfi_image.proofs.Standing.{region, first_is, front_of}
 
 by_fields : (r : ReaderState) (x : Front) → StandsFor r x → r.next ≡ next.Fields → (format : Format) × (n : ℕ) × (ps : List Part) × StandsFor r (AfterCount format n ps)
 by_fields r (AfterCount format n ps) h is = (format, n, ps, h)
 by_fields r _ h is = let k = h.kept.0 in absurd cc
 
-pub at_fields : (r : ReaderState) → IsReader r → r.next ≡ next.Fields → (format : Format) × (n : ℕ) × (ps : List Part) × StandsFor r (AfterCount format n ps)
-at_fields r (inl stopped) is = absurd cc
-at_fields r (inr x) is = by_fields r x.0 x.1 is
-
 by_gates : (r : ReaderState) (x : Front) → StandsFor r x → r.next ≡ next.Gate → (n : ℕ) × (ps : List Part) × (f : Fields) × (gs : List Gate) × StandsFor r (InGates n ps f gs)
 by_gates r (InGates n ps f gs) h is = (n, ps, f, gs, h)
 by_gates r _ h is = let k = h.kept.0 in absurd cc
-
-pub at_gates : (r : ReaderState) → IsReader r → r.next ≡ next.Gate → (n : ℕ) × (ps : List Part) × (f : Fields) × (gs : List Gate) × StandsFor r (InGates n ps f gs)
-at_gates r (inl stopped) is = absurd cc
-at_gates r (inr x) is = by_gates r x.0 x.1 is
 
 pub by_code : (r : ReaderState) (x : Front) → StandsFor r x → r.next ≡ next.Code → (n : ℕ) × (ps : List Part) × (f : Fields) × (gs : List Gate) × (code : List ℕ) × StandsFor r (InCode n ps f gs code)
 by_code r (InCode n ps f gs code) h is = (n, ps, f, gs, code, h)
 by_code r _ h is = let k = h.kept.0 in absurd cc
 
-pub at_code : (r : ReaderState) → IsReader r → r.next ≡ next.Code → (n : ℕ) × (ps : List Part) × (f : Fields) × (gs : List Gate) × (code : List ℕ) × StandsFor r (InCode n ps f gs code)
-at_code r (inl stopped) is = absurd cc
-at_code r (inr x) is = by_code r x.0 x.1 is
-
 by_init : (r : ReaderState) (x : Front) → StandsFor r x → r.next ≡ next.Init → (n : ℕ) × (ps : List Part) × (f : Fields) × (gs : List Gate) × (code : List ℕ) × (init : List ℕ) × StandsFor r (InInit n ps f gs code init)
 by_init r (InInit n ps f gs code init) h is = (n, ps, f, gs, code, init, h)
 by_init r _ h is = let k = h.kept.0 in absurd cc
-
-pub at_init : (r : ReaderState) → IsReader r → r.next ≡ next.Init → (n : ℕ) × (ps : List Part) × (f : Fields) × (gs : List Gate) × (code : List ℕ) × (init : List ℕ) × StandsFor r (InInit n ps f gs code init)
-at_init r (inl stopped) is = absurd cc
-at_init r (inr x) is = by_init r x.0 x.1 is
 
 -- ---- numbers
 
@@ -57,7 +41,8 @@ pub record FieldsNext (r : ReaderState) : Type 0 where
 
 pub fields_next : (r : ReaderState) → IsReader r → r.next ≡ next.Fields → FieldsNext r
 fields_next r reader is =
-    let at = at_fields r reader is in
+    let x = front_of r next.Fields reader is (λ e. absurd cc) in
+    let at = by_fields r x.0 x.1 is in
     let right = at.3.right in
     let k = at.3.kept.1 in
     record {
@@ -80,7 +65,8 @@ pub record CodeNext (r : ReaderState) : Type 0 where
 
 pub code_next : (r : ReaderState) → IsReader r → r.next ≡ next.Code → CodeNext r
 code_next r reader is =
-    let at = at_code r reader is in
+    let x = front_of r next.Code reader is (λ e. absurd cc) in
+    let at = by_code r x.0 x.1 is in
     let f = at.2 in
     let right = at.5.right in
     let k = at.5.kept.1 in
@@ -108,7 +94,8 @@ pub record GateNext (r : ReaderState) : Type 0 where
 
 pub gate_next : (r : ReaderState) → IsReader r → r.next ≡ next.Gate → GateNext r
 gate_next r reader is =
-    let at = at_gates r reader is in
+    let x = front_of r next.Gate reader is (λ e. absurd cc) in
+    let at = by_gates r x.0 x.1 is in
     let right = at.4.right in
     let k = at.4.kept.1 in
     let reg = region (spans at.1) at.2 right.0.words right.0.passed in
@@ -125,7 +112,8 @@ pub record InitNext (r : ReaderState) : Type 0 where
 
 pub init_next : (r : ReaderState) → IsReader r → r.next ≡ next.Init → InitNext r
 init_next r reader is =
-    let at = at_init r reader is in
+    let x = front_of r next.Init reader is (λ e. absurd cc) in
+    let at = by_init r x.0 x.1 is in
     let right = at.6.right in
     let k = at.6.kept in
     let reg = region (spans at.1) at.2 right.0.words right.0.passed in

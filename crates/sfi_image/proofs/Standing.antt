@@ -22,10 +22,14 @@ next_kept same is = ap (λ (r : ReaderState). r.next) same ∙ is
 pub stands_kept : {kept seen : ReaderState} {x : Front} → kept ≡ seen → StandsFor seen x → StandsFor kept x
 stands_kept {x = x} same h = subst (λ (r : ReaderState). StandsFor r x) (sym same) h
 
+-- a front that a reader stands for, where it hasn't stopped
+pub front_of : (r : ReaderState) (w : Next) → IsReader r → r.next ≡ w → (w ≡ next.Nothing → ⊥) → (x : Front) × StandsFor r x
+front_of r w (inl stopped) is goes = absurd (goes (sym is ∙ stopped))
+front_of r w (inr x) is goes = x
+
 -- a reader after a step is one
 pub still_reader : (old new : ReaderState) (s : List ℕ) (w : Next) → IsReader old → old.next ≡ w → (w ≡ next.Nothing → ⊥) → ((x : Front) → StandsFor old x → Leads x s new) → IsReader new
-still_reader old new s w (inl stopped) is goes on = absurd (goes (sym is ∙ stopped))
-still_reader old new s w (inr x) is goes on = let l = on x.0 x.1 in inr (l.to, l.stands)
+still_reader old new s w reader is goes on = let x = front_of old w reader is goes in let l = on x.0 x.1 in inr (l.to, l.stands)
 
 -- ---- magic and count
 

@@ -1,8 +1,8 @@
 -- Where a stretch of bundles ends that comes next.
 use Rattle.sfi_image.proofs.Prelude.{◌≡◌, ℕ, suc, ◌+◌, ◌-◌, ◌*◌, ◌%◌, ◌<◌, ◌≤◌, ◌==◌, true, List, [], ◌∷◌, length, drop, refl, sym, ap, ◌∙◌, subst, arith, inl, inr, cases_Bool, eqb-true, eq-eqb, All, Gate, Fields, Span, code_span, spans, IsBundleStart, is_gate_of, IsLongestStretch, IsStretchLength, Front, InCode, ReaderState, StandsFor, IsReader, ◌^◌, Part, AreRest, count_below, first_or}
 use Rattle.sfi_image.specs.declared.want.Next.TheVariants as next
-use Rattle.sfi_image.proofs.Standing.{Region, none_before, region, rest_from}
-use Rattle.sfi_image.proofs.Places.{at_code}
+use Rattle.sfi_image.proofs.Standing.{Region, front_of, none_before, region, rest_from}
+use Rattle.sfi_image.proofs.Places.{by_code}
 
 -- a gate lies at a bundle start
 gate_start : (region : Span) (gs : List Gate) (a : ℕ) → All (λ g. IsBundleStart region g.address) gs → is_gate_of gs a ≡ true → IsBundleStart region a
@@ -72,4 +72,7 @@ bounds r n ps f gs code end h e =
 pub stretch_bounds : (r : ReaderState) (end : ℕ) → IsReader r → r.next ≡ next.Code
     → end ≡ first_or (r.fields.code_base + r.fields.code_size) (drop (r.passed + count_below (r.fields.code_base + r.code_read + 16) (drop r.passed r.gates)) r.gates)
     → (r.fields.code_base + r.code_read ≤ end) × (end - (r.fields.code_base + r.code_read) < 2 ^ 32)
-stretch_bounds r end reader is e = let at = at_code r reader is in bounds r at.0 at.1 at.2 at.3 at.4 end at.5 e
+stretch_bounds r end reader is e =
+    let x = front_of r next.Code reader is (λ e. absurd cc) in
+    let at = by_code r x.0 x.1 is in
+    bounds r at.0 at.1 at.2 at.3 at.4 end at.5 e
