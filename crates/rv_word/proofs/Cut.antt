@@ -1,5 +1,5 @@
 -- The word that spells an instruction, cut at the borders of the R format.
-use Rattle.rv_word.proofs.Prelude.{◌≡◌, ℕ, ◌+◌, ◌*◌, ◌<◌, ◌/◌, ◌%◌, ℤ, pos, negsuc, arith, refl, sym, ap, ◌∙◌, Parts, RegOp, ImmOp, Addi, Slti, Sltiu, Xori, Ori, Andi, Slli, Srli, Srai, LoadKind, StoreWidth, Instr, Op, OpImm, Load, Store, Branch, Jal, Jalr, Lui, Auipc, Fence, Ecall, Ebreak, modulo, bits, op_funct3, op_funct7, imm_funct3, load_funct3, store_funct3, cond_funct3, spelling, InRange, IsWordOf, word_of, Fits}
+use Rattle.rv_word.proofs.Prelude.{◌≡◌, ℕ, ◌+◌, ◌*◌, ◌<◌, ◌/◌, ◌%◌, ℤ, pos, negsuc, arith, refl, sym, ap, ◌∙◌, Parts, RegOp, ImmOp, Slli, Srli, Srai, LoadKind, StoreWidth, Instr, Op, OpImm, Load, Store, Branch, Jal, Jalr, Lui, Auipc, Fence, Ecall, Ebreak, modulo, bits, op_funct3, op_funct7, imm_funct3, load_funct3, store_funct3, cond_funct3, spelling, InRange, IsWordOf, word_of, Fits}
 use Rattle.rv_word.specs.Formats.{r_format}
 use Rattle.rv_word.specs.declared.instr.Cond.{Cond}
 use Rattle.rv_word.specs.declared.instr.Cond.TheVariants.{Beq, Bne, Blt, Bge, Bltu, Bgeu}
@@ -78,20 +78,12 @@ cut Ebreak = parts 115 0 0 0 1 0
 
 imm_cut_fits : (op : ImmOp) (z : ℤ) (rs1 rd : ℕ) → rs1 < 32 → rd < 32 → Fits (imm_cut op z rs1 rd)
 unfolding imm_cut
-imm_cut_fits op z rs1 rd a d =
+imm_cut_fits Slli z rs1 rd a d = record { opcode = omega arith; rd = d; funct3 = omega arith; rs1 = a; rs2 = modulo5 z; funct7 = omega arith }
+imm_cut_fits Srli z rs1 rd a d = record { opcode = omega arith; rd = d; funct3 = omega arith; rs1 = a; rs2 = modulo5 z; funct7 = omega arith }
+imm_cut_fits Srai z rs1 rd a d = record { opcode = omega arith; rd = d; funct3 = omega arith; rs1 = a; rs2 = modulo5 z; funct7 = omega arith }
+imm_cut_fits _ z rs1 rd a d =
     let small : modulo 12 z < 4096 = modulo12 z in
-    let amount : modulo 5 z < 32 = modulo5 z in
-    elim op as (λ op. Fits (imm_cut op z rs1 rd)) [
-      | Addi ↦ record { opcode = omega arith; rd = d; funct3 = omega arith; rs1 = a; rs2 = omega arith; funct7 = omega arith }
-      | Slti ↦ record { opcode = omega arith; rd = d; funct3 = omega arith; rs1 = a; rs2 = omega arith; funct7 = omega arith }
-      | Sltiu ↦ record { opcode = omega arith; rd = d; funct3 = omega arith; rs1 = a; rs2 = omega arith; funct7 = omega arith }
-      | Xori ↦ record { opcode = omega arith; rd = d; funct3 = omega arith; rs1 = a; rs2 = omega arith; funct7 = omega arith }
-      | Ori ↦ record { opcode = omega arith; rd = d; funct3 = omega arith; rs1 = a; rs2 = omega arith; funct7 = omega arith }
-      | Andi ↦ record { opcode = omega arith; rd = d; funct3 = omega arith; rs1 = a; rs2 = omega arith; funct7 = omega arith }
-      | Slli ↦ record { opcode = omega arith; rd = d; funct3 = omega arith; rs1 = a; rs2 = amount; funct7 = omega arith }
-      | Srli ↦ record { opcode = omega arith; rd = d; funct3 = omega arith; rs1 = a; rs2 = amount; funct7 = omega arith }
-      | Srai ↦ record { opcode = omega arith; rd = d; funct3 = omega arith; rs1 = a; rs2 = amount; funct7 = omega arith }
-    ]
+    record { opcode = omega arith; rd = d; funct3 = omega arith; rs1 = a; rs2 = omega arith; funct7 = omega arith }
 
 pub cut_fits : (i : Instr) → InRange i → Fits (cut i)
 unfolding cut InRange
@@ -116,19 +108,10 @@ cut_fits Ebreak r = record { opcode = omega arith; rd = omega arith; funct3 = om
 
 imm_cut_sum : (op : ImmOp) (rd rs1 : ℕ) (z : ℤ) → word_of (imm_cut op z rs1 rd) ≡ spelling (OpImm op rd rs1 z)
 unfolding imm_cut spelling
-imm_cut_sum op rd rs1 z =
-    let small : modulo 12 z < 4096 = modulo12 z in
-    elim op as (λ op. word_of (imm_cut op z rs1 rd) ≡ spelling (OpImm op rd rs1 z)) [
-      | Addi ↦ omega arith
-      | Slti ↦ omega arith
-      | Sltiu ↦ omega arith
-      | Xori ↦ omega arith
-      | Ori ↦ omega arith
-      | Andi ↦ omega arith
-      | Slli ↦ refl
-      | Srli ↦ refl
-      | Srai ↦ refl
-    ]
+imm_cut_sum Slli rd rs1 z = refl
+imm_cut_sum Srli rd rs1 z = refl
+imm_cut_sum Srai rd rs1 z = refl
+imm_cut_sum _ rd rs1 z = let small : modulo 12 z < 4096 = modulo12 z in omega arith
 
 pub cut_sum : (i : Instr) → word_of (cut i) ≡ spelling i
 unfolding cut spelling
@@ -151,8 +134,8 @@ cut_is p fits i w = one_cut p (cut i) fits (cut_fits i w.0) (w.1 ∙ sym (cut_su
 
 imm_opcode : (op : ImmOp) (z : ℤ) (rs1 rd : ℕ) → (imm_cut op z rs1 rd).opcode ≡ 19
 unfolding imm_cut
-imm_opcode op z rs1 rd = elim op as (λ op. (imm_cut op z rs1 rd).opcode ≡ 19)
-    [ Addi ↦ refl | Slti ↦ refl | Sltiu ↦ refl | Xori ↦ refl | Ori ↦ refl | Andi ↦ refl | Slli ↦ refl | Srli ↦ refl | Srai ↦ refl ]
+imm_opcode Slli z rs1 rd = refl
+imm_opcode _ z rs1 rd = refl
 
 -- bits 6:0 of each spelling
 unfoldable pub opcode_of : Instr → ℕ
