@@ -1,11 +1,10 @@
 -- What is owed after two instructions depends on these alone.
-use Rattle.sfi_rules.proofs.Prelude.{◌≡◌, ℕ, Bool, true, false, ◌&&◌, ◌==◌, cond, refl, sym, ap, ◌∙◌, and_parts, eqb-true, Instr, Option, Some, None}
+use Rattle.sfi_rules.proofs.Prelude.{◌≡◌, ℕ, Bool, true, false, ◌&&◌, ◌==◌, cond, refl, sym, ap, ◌∙◌, and_parts, eqb-true, Instr, Option, Some, None, Owed}
 use Rattle.std.proofs.lemmas.Bool.{false≢true}
 use Rattle.rv_word.specs.declared.instr.Instr.TheVariants.{Op}
 use Rattle.rv_word.specs.declared.instr.RegOp.TheVariants.{And}
 use Rattle.sfi_policy.specs.Registers.{code_base_register, code_register}
 use Rattle.sfi_pairs.specs.Pairs.{is_placing}
-use Rattle.sfi_rules.specs.declared.owed.Owed.{Owed}
 use Rattle.sfi_rules.specs.declared.owed.Owed.TheVariants.{Nothing, Mask, Place, MaskOrUse, Code}
 use Rattle.sfi_rules.specs.words.Rules.{is_and, masks, places, uses}
 use Rattle.sfi_rules.specs.words.Owing.{owed_by, or_nothing, joined, owed_next}

@@ -1,12 +1,9 @@
 -- The first format has no stack pointer: no place breaks V10.
-use Rattle.sfi_rules.proofs.Prelude.{◌≡◌, ◌≢◌, ◌∷◌, ◌++◌, ℕ, zero, suc, ◌+◌, Bool, true, false, List, [], refl, sym, ap, subst, inl, inr, All, Instr, has_stack, Part, BundlePlace, Finding, Rule, place_of, bundle_bytes, follows_data_pair, Piece, Place, breaks, breaks_stack, may_access, broken, lowest, all_rules, rule_of_length, findings_from, rest_finding, AreReadingFindings, AreBundleFindings, AreFindingsOfFirst, has_words}
+use Rattle.sfi_rules.proofs.Prelude.{◌≡◌, ◌≢◌, ◌∷◌, ◌++◌, ℕ, zero, suc, ◌+◌, Bool, true, false, List, [], refl, sym, ap, subst, inl, inr, All, Instr, has_stack, Part, BundlePlace, Finding, Rule, place_of, bundle_bytes, follows_data_pair, Piece, Place, breaks, breaks_stack, may_access, broken, lowest, all_rules, rule_of_length, findings_from, rest_finding, AreReadingFindings, AreBundleFindings, AreFindingsOfFirst, has_words, Format, Sfi1, All-append, All-cons, All-nil}
 use Rattle.rv_word.specs.declared.length.Length.{Length}
 use Rattle.rv_word.specs.declared.length.Length.TheVariants.{Wide}
-use Rattle.sfi_policy.specs.declared.format.Format.{Format}
-use Rattle.sfi_policy.specs.declared.format.Format.TheVariants.{Sfi1}
 use Rattle.sfi_rules.specs.Laws.{FirstFormatHasNoStack, FirstFormatFindsNoV10}
 use Rattle.sfi_rules.specs.declared.rule.Rule.TheVariants.{V1, V9, V10}
-use Rattle.std.proofs.lemmas.List.Elements.{All-append, All-cons, All-nil}
 use Rattle.sfi_rules.proofs.InBundles.{in_bundles}
 use Rattle.sfi_rules.proofs.Lowest.{lowest_is}
 

@@ -1,10 +1,6 @@
 -- The findings of a part whose code is in bundles, or in words. Crates above cite this, too.
-use Rattle.std.specs.Prelude.{MatchBool}
-use Rattle.sfi_rules.proofs.Prelude.{◌≡◌, ◌*◌, ℕ, List, [], Bool, true, false, length, refl, sym, subst, Part, Finding, has_words, AreFindingsInBundles, AreFindingsOfFirst, AreFindings}
-use Rattle.sfi_rules.specs.declared.owed.Owed.{Owed}
-use Rattle.sfi_rules.specs.declared.owed.Owed.TheVariants.{Nothing}
+use Rattle.sfi_rules.proofs.Prelude.{◌≡◌, ◌*◌, ℕ, List, [], Bool, true, false, length, refl, sym, subst, Part, Finding, has_words, AreFindingsInBundles, AreFindingsOfFirst, AreFindings, MatchBool, Owed, Nothing, AreFoundOfFirst, AreFindingsInWords}
 use Rattle.sfi_rules.specs.Findings.{AreFoundUpTo}
-use Rattle.sfi_rules.specs.words.Findings.{AreFoundOfFirst, AreFindingsInWords}
 
 pub in_bundles : (sandbox : ℕ) (p : Part) (found : List Finding) → has_words p.format ≡ false → AreFindings sandbox p found → AreFindingsInBundles sandbox p found
 in_bundles sandbox p found none h = subst (λ (b : Bool). MatchBool b (AreFindingsInWords sandbox p found) (AreFindingsInBundles sandbox p found)) none h

@@ -1,7 +1,5 @@
 -- A bundle, a part and an image each have one list of findings.
-use Rattle.sfi_rules.proofs.Prelude.{◌≡◌, ℕ, zero, suc, ◌+◌, ◌-◌, List, [], ◌∷◌, ◌++◌, length, sym, ap, ◌∙◌, subst, inl, inr, arith, Part, BundlePlace, Finding, place_of, bundle_bytes, Piece, rest_of, is_empty, findings_from, rest_finding, AreReadingFindings, AreBundleFindings, AreFindingsOfFirst, AreFindingsInBundles, AreFindings, AreFindingsFrom, has_words, Bool, true, false}
-use Rattle.std.specs.Prelude.{MatchBool}
-use Rattle.sfi_rules.specs.words.Findings.{AreFindingsInWords}
+use Rattle.sfi_rules.proofs.Prelude.{◌≡◌, ℕ, zero, suc, ◌+◌, ◌-◌, List, [], ◌∷◌, ◌++◌, length, sym, ap, ◌∙◌, subst, inl, inr, arith, Part, BundlePlace, Finding, place_of, bundle_bytes, Piece, rest_of, is_empty, findings_from, rest_finding, AreReadingFindings, AreBundleFindings, AreFindingsOfFirst, AreFindingsInBundles, AreFindings, AreFindingsFrom, has_words, Bool, true, false, MatchBool, AreFindingsInWords}
 use Rattle.sfi_rules.proofs.WordList as words
 use Rattle.sfi_rules.proofs.Readings.{longest_one}
 

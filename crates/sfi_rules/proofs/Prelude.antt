@@ -15,3 +15,11 @@ pub use Rattle.sfi_rules.specs.Rules.{Place, breaks, breaks_stack, may_access, i
 pub use Rattle.sfi_image.specs.declared.bundle.BundlePlace.{BundlePlace}
 pub use Rattle.sfi_rules.specs.declared.finding.Finding.{Finding}
 pub use Rattle.sfi_rules.specs.declared.rule.Rule.{Rule}
+pub use Rattle.sfi_rules.specs.declared.owed.Owed.{Owed}
+pub use Rattle.sfi_policy.specs.declared.format.Format.{Format}
+pub use Rattle.sfi_policy.specs.declared.format.Format.TheVariants.{Sfi1}
+pub use Rattle.std.proofs.lemmas.List.Elements.{All-append, All-cons, All-nil}
+pub use Rattle.std.specs.Prelude.{MatchBool}
+pub use Rattle.sfi_rules.specs.declared.owed.Owed.TheVariants.{Nothing}
+pub use Rattle.sfi_rules.specs.words.Findings.{AreFoundOfFirst, AreFindingsInWords}
+pub use Rattle.sfi_rules.specs.declared.rule.Rule.TheVariants.{V1}

@@ -1,6 +1,5 @@
 -- A part of code in words has one list of findings.
-use Rattle.sfi_rules.proofs.Prelude.{◌≡◌, ℕ, zero, suc, ◌+◌, ◌-◌, ◌*◌, List, ◌++◌, length, take, drop, cond, sym, ap, ◌∙◌, subst, arith, Part, BundlePlace, Finding, place_of, bundle_bytes, Piece, rest_of, is_empty, rest_finding}
-use Rattle.sfi_rules.specs.declared.owed.Owed.{Owed}
+use Rattle.sfi_rules.proofs.Prelude.{◌≡◌, ℕ, zero, suc, ◌+◌, ◌-◌, ◌*◌, List, ◌++◌, length, take, drop, cond, sym, ap, ◌∙◌, subst, arith, Part, BundlePlace, Finding, place_of, bundle_bytes, Piece, rest_of, is_empty, rest_finding, Owed}
 use Rattle.sfi_rules.specs.declared.owed.Owed.TheVariants as kind
 use Rattle.sfi_rules.specs.words.Findings.{found_from, owed_past, IsWordFound, AreFoundInWords, AreFoundInBundle, AreFoundOfFirst, AreFindingsInWords}
 use Rattle.sfi_rules.proofs.Readings.{longest_one}
