@@ -1,16 +1,10 @@
 -- A sandbox with a right layout has an entry at each unit of its code.
 use Rattle.std.specs.Prelude.{replicate}
-use Rattle.sfi_runs.proofs.Prelude.{◌≡◌, ◌⊎◌, inl, inr, ⊎_elim, ◌==◌, ◌||◌, or_cases, eqb-true, true, ℕ, suc, ◌+◌, ◌-◌, ◌%◌, ◌^◌, ◌<◌, ◌≤◌, List, length, refl, subst, sym, arith, slice_index, Hart, IsHart, Part, IsRightPart, IsUnitStart, HasReserved, IsTyped}
-use Rattle.rv_step.specs.State.{with_register}
+use Rattle.sfi_runs.proofs.Prelude.{◌≡◌, ◌⊎◌, inl, inr, ⊎_elim, ◌==◌, ◌||◌, or_cases, eqb-true, true, ℕ, suc, ◌+◌, ◌-◌, ◌%◌, ◌^◌, ◌<◌, ◌≤◌, List, length, refl, subst, sym, arith, slice_index, Hart, IsHart, Part, IsRightPart, IsUnitStart, HasReserved, IsTyped, with_register, Format, Sfi1, Sfi2, Sfiw, unit, has_words, InData, IsNear, IsWordStart}
 use Rattle.rv_step.proofs.Harts.{register_is}
-use Rattle.sfi_policy.specs.declared.format.Format.{Format}
-use Rattle.sfi_policy.specs.declared.format.Format.TheVariants.{Sfi1, Sfi2, Sfiw}
-use Rattle.sfi_policy.specs.Formats.{unit, has_words}
 use Rattle.sfi_policy.specs.Registers.{is_data_register}
 use Rattle.sfi_image.proofs.Facts.{code_ends}
 use Rattle.sfi_policy.specs.Limits.{slack}
-use Rattle.sfi_runs.specs.Regions.{InData}
-use Rattle.sfi_runs.specs.Typed.{IsNear, IsWordStart}
 use Rattle.sfi_runs.specs.Laws.{HasEntries}
 use Rattle.sfi_runs.proofs.Formats.{to_word}
 use Rattle.sfi_runs.proofs.Entering.{entered}

@@ -1,7 +1,5 @@
 -- What the formats ask.
-use Rattle.sfi_runs.proofs.Prelude.{◌≡◌, ℕ, ◌%◌, List, true, false, refl, sym, ap, ◌∙◌, false≢true, Part, IsUnitStart, IsTyped}
-use Rattle.sfi_policy.specs.declared.format.Format.{Format}
-use Rattle.sfi_policy.specs.declared.format.Format.TheVariants.{Sfi1, Sfi2, Sfiw}
+use Rattle.sfi_runs.proofs.Prelude.{◌≡◌, ℕ, ◌%◌, List, true, false, refl, sym, ap, ◌∙◌, false≢true, Part, IsUnitStart, IsTyped, Format, Sfi1, Sfi2, Sfiw}
 use Rattle.sfi_policy.specs.Formats.{unit, has_stack, has_words}
 use Rattle.sfi_image.specs.Regions.{IsBundleStart}
 use Rattle.sfi_image.specs.Registers.{reserved_for}

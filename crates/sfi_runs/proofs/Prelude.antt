@@ -9,7 +9,7 @@ pub use Rattle.rv_word.specs.Numbers.{offset_by}
 pub use Rattle.rv_word.specs.Spelling.{IsImm12}
 unfoldable pub use Rattle.rv_word.specs.Spelling.{InRange}
 pub use Rattle.rv_word.specs.declared.instr.Instr.{Instr}
-pub use Rattle.rv_word.specs.declared.instr.Instr.TheVariants.{Load, Store, Ecall, Op, OpImm, Branch, Jal, Jalr, Lui, Auipc, Fence, Ebreak}
+pub use Rattle.rv_word.specs.declared.instr.Instr.TheVariants.{Load, Store, Ecall}
 pub use Rattle.rv_word.specs.declared.instr.LoadKind.{LoadKind}
 pub use Rattle.rv_word.specs.declared.instr.LoadKind.TheVariants.{Lb, Lh, Lw, Lbu, Lhu}
 pub use Rattle.rv_word.specs.declared.instr.StoreWidth.{StoreWidth}
@@ -29,8 +29,11 @@ pub use Rattle.sfi_image.specs.Spelling.{Part}
 pub use Rattle.sfi_image.specs.declared.part.Gate.{Gate}
 pub use Rattle.sfi_runs.specs.Laws.{SafeTurns, SafeStaysSafe, SafeFetches, GoesOnSafely, CanBeEntered}
 pub use Rattle.sfi_runs.specs.Regions.{InData, InGuard, IsUnitStart, HasReserved, IsGate, HasCode, HasEmptyGuards}
-pub use Rattle.sfi_runs.specs.Typed.{IsNear, IsTyped}
+pub use Rattle.sfi_runs.specs.Typed.{IsNear, IsTyped, IsWordStart}
 pub use Rattle.sfi_runs.specs.Runs.{Turn, IsTurn, IsRun, after_turn, IsEntry, Steps, Replies, IsReply, KeepsBytes, Changes, IsChange}
 pub use Rattle.sfi_runs.specs.Safety.{IsSafeRun, RunsSafelyFrom, RunsSafely, IsSafeStep, IsTrap, IsSafeState, IsSafeTurn}
 pub use Rattle.sfi_runs.specs.Calls.{after_turns, CallsTyped}
 pub use Rattle.sfi_runs.specs.Kept.{KeepsAll}
+pub use Rattle.sfi_policy.specs.declared.format.Format.{Format}
+pub use Rattle.sfi_policy.specs.declared.format.Format.TheVariants.{Sfi1, Sfi2, Sfiw}
+pub use Rattle.sfi_policy.specs.Formats.{unit, has_words}

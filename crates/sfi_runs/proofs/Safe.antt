@@ -1,5 +1,5 @@
 -- What follows from that every run is safe.
-use Rattle.sfi_runs.proofs.Prelude.{ℕ, [], ◌∷◌, Option, Some, None, Bool, true, false, cond, sym, ap, ◌∙◌, subst, is_some, offset_by, Instr, Op, OpImm, Load, Store, Branch, Jal, Jalr, Lui, Auipc, Fence, Ecall, Ebreak, LoadKind, Bytes, bytes_at, addresses, loaded, Next, Call, Trap, Outcome, Hart, State, register, Stepped, IsStep, effect, after_load, next, unchanged, load_size, store_size, Part, IsRun, after_turns, IsSafeRun, RunsSafelyFrom, SafeTurns, SafeStaysSafe, SafeFetches, GoesOnSafely}
+use Rattle.sfi_runs.proofs.Prelude.{ℕ, [], ◌∷◌, Option, Some, None, Bool, true, false, cond, sym, ap, ◌∙◌, subst, is_some, offset_by, Instr, Load, Store, LoadKind, Bytes, bytes_at, addresses, loaded, Next, Call, Trap, Outcome, Hart, State, register, Stepped, IsStep, effect, after_load, next, unchanged, load_size, store_size, Part, IsRun, after_turns, IsSafeRun, RunsSafelyFrom, SafeTurns, SafeStaysSafe, SafeFetches, GoesOnSafely}
 use Rattle.rv_step.specs.declared.outcome.Cause.TheVariants as cause
 use Rattle.rv_step.proofs.Facts.{step_is_effect}
 
@@ -34,18 +34,9 @@ store_fetch true at k w h m f = f
 store_fetch false at k w h m f = f
 
 effect_fetch : (i : Instr) (n : ℕ) (h : Hart) (m : Bytes) → IsFetch (effect i n h m).outcome → ⊥
-effect_fetch (Op op rd rs1 rs2) n h m f = f
-effect_fetch (OpImm op rd rs1 imm) n h m f = f
 effect_fetch (Load kind rd rs1 imm) n h m f = load_fetch (loaded m (offset_by (register h rs1) imm) (load_size kind)) kind rd _ n h m f
 effect_fetch (Store width rs1 rs2 imm) n h m f = store_fetch (is_some (bytes_at m (addresses (offset_by (register h rs1) imm) (store_size width)))) _ _ _ h m f
-effect_fetch (Branch condition rs1 rs2 offset) n h m f = f
-effect_fetch (Jal rd offset) n h m f = f
-effect_fetch (Jalr rd rs1 imm) n h m f = f
-effect_fetch (Lui rd imm) n h m f = f
-effect_fetch (Auipc rd imm) n h m f = f
-effect_fetch (Fence imm rd rs1) n h m f = f
-effect_fetch Ecall n h m f = f
-effect_fetch Ebreak n h m f = f
+effect_fetch other n h m f = f
 
 never : (p : Part) (s : State) (r : Stepped) → RunsSafelyFrom p s → IsStep s r → IsFetch r.outcome → ⊥
 never p s r from step f =

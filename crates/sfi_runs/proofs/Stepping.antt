@@ -1,5 +1,5 @@
 -- What a step keeps, if its accesses fall into the data and the guards.
-use Rattle.sfi_runs.proofs.Prelude.{◌≡◌, ℕ, suc, ◌+◌, ◌<◌, ◌≤◌, ◌⊎◌, List, [], ◌∷◌, length, map, Option, Some, None, Bool, true, false, cond, ◌==◌, refl, sym, ap, ◌∙◌, subst, inl, inr, ⊎_elim, arith, add-zero, slice_index, slice_get, is_some, IsSome, range_with_len, or_cases, eqb-true, false≢true, offset_by, Instr, Op, OpImm, Load, Store, Branch, Jal, Jalr, Lui, Auipc, Fence, Ecall, Ebreak, LoadKind, Bytes, byte_at, bytes_at, addresses, loaded, Next, Call, Trap, Outcome, Accesses, Hart, State, register, Stepped, Stands, IsStep, effect, after_load, next, unchanged, load_size, store_size, Gate, Part, Holds, AreApart, code_region, guarded_region, IsRightPart, is_gate_of, InData, InGuard, IsGate, HasCode, HasEmptyGuards, KeepsAll, IsTrap, IsSafeStep}
+use Rattle.sfi_runs.proofs.Prelude.{◌≡◌, ℕ, suc, ◌+◌, ◌<◌, ◌≤◌, ◌⊎◌, List, [], ◌∷◌, length, map, Option, Some, None, Bool, true, false, cond, ◌==◌, refl, sym, ap, ◌∙◌, subst, inl, inr, ⊎_elim, arith, add-zero, slice_index, slice_get, is_some, IsSome, range_with_len, or_cases, eqb-true, false≢true, offset_by, Instr, Load, Store, LoadKind, Bytes, byte_at, bytes_at, addresses, loaded, Next, Call, Trap, Outcome, Accesses, Hart, State, register, Stepped, Stands, IsStep, effect, after_load, next, unchanged, load_size, store_size, Gate, Part, Holds, AreApart, code_region, guarded_region, IsRightPart, is_gate_of, InData, InGuard, IsGate, HasCode, HasEmptyGuards, KeepsAll, IsTrap, IsSafeStep}
 use Rattle.rv_step.specs.declared.outcome.Cause.TheVariants as cause
 use Rattle.rv_step.proofs.Facts.{one_instruction, step_is_effect, other_bytes_stay, accessed_is_there}
 
@@ -45,16 +45,7 @@ store_no_call false at k w h m e = cc
 pub no_call : (i : Instr) (n : ℕ) (h : Hart) (m : Bytes) (a : ℕ) → Accesses i h a → (effect i n h m).outcome ≡ Call → ⊥
 no_call (Load kind rd rs1 imm) n h m a has e = load_no_call (loaded m (offset_by (register h rs1) imm) (load_size kind)) kind rd _ n h m e
 no_call (Store width rs1 rs2 imm) n h m a has e = store_no_call (is_some (bytes_at m (addresses (offset_by (register h rs1) imm) (store_size width)))) _ _ _ h m e
-no_call (Op op rd rs1 rs2) n h m a (k, below, is) e = omega arith
-no_call (OpImm op rd rs1 imm) n h m a (k, below, is) e = omega arith
-no_call (Branch condition rs1 rs2 offset) n h m a (k, below, is) e = omega arith
-no_call (Jal rd offset) n h m a (k, below, is) e = omega arith
-no_call (Jalr rd rs1 imm) n h m a (k, below, is) e = omega arith
-no_call (Lui rd imm) n h m a (k, below, is) e = omega arith
-no_call (Auipc rd imm) n h m a (k, below, is) e = omega arith
-no_call (Fence imm rd rs1) n h m a (k, below, is) e = omega arith
-no_call Ecall n h m a (k, below, is) e = omega arith
-no_call Ebreak n h m a (k, below, is) e = omega arith
+no_call other n h m a (k, below, is) e = omega arith
 
 -- ---- the step
 
