@@ -1,19 +1,8 @@
 -- At a place: which rules are broken where none is found, and what is owed after it then.
-use Rattle.std.proofs.Common.{◌≡◌, ℕ, Bool, true, false, cond, not, ◌&&◌, ◌||◌, Option, Some, None, refl, sym, ap, ◌∙◌, List, ◌∷◌}
-use Rattle.std.specs.Prelude.{◌==◌, is_some}
+use Rattle.sfi_words.proofs.Prelude.{◌≡◌, ℕ, Bool, true, false, cond, not, ◌&&◌, ◌||◌, Option, Some, None, refl, sym, ap, ◌∙◌, List, ◌∷◌, ◌==◌, is_some, Instr, Jal, Jalr, Ebreak, is_placing, destination, is_register, writes_register, Piece, breaks_reserved, ends_region, Owed, Rule, is_data_register, masks, places, uses, breaks_ecall, breaks_access, breaks_jump, breaks_target, breaks_offset}
 use Rattle.std.proofs.lemmas.Bool.{or_parts, not-false}
-use Rattle.rv_word.specs.declared.instr.Instr.{Instr}
-use Rattle.rv_word.specs.declared.instr.Instr.TheVariants.{Jal, Jalr, Ebreak}
-use Rattle.sfi_pairs.specs.Pairs.{is_placing}
-use Rattle.rv_word.specs.Writes.{destination, is_register, writes_register}
-use Rattle.sfi_rules.specs.Readings.{Piece}
-use Rattle.sfi_rules.specs.Rules.{breaks_reserved, ends_region}
-use Rattle.sfi_rules.specs.declared.owed.Owed.{Owed}
 use Rattle.sfi_rules.specs.declared.owed.Owed.TheVariants as kind
-use Rattle.sfi_rules.specs.declared.rule.Rule.{Rule}
 use Rattle.sfi_rules.specs.declared.rule.Rule.TheVariants.{V3, V4, V5, V6, V7, V8, V10, V11, V12}
-use Rattle.sfi_policy.specs.Registers.{is_data_register}
-use Rattle.sfi_rules.specs.words.Rules.{masks, places, uses, breaks_ecall, breaks_access, breaks_jump, breaks_target, breaks_offset}
 use Rattle.sfi_rules.specs.words.Owing.{left, owed_by_data, owed_by_code, owed_of, owed_by, or_nothing, joined, owed_next, is_of_data, is_of_code}
 use Rattle.sfi_rules.specs.words.Findings.{Place, is_at_gate, is_data_one, breaks_last, fails_data, fails_code, lowest}
 use Rattle.sfi_words.proofs.Owing.{meets, meets_if, is_nothing, both, owed_after, keeps, left_is, keeps_is}

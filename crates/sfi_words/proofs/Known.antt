@@ -1,5 +1,5 @@
 -- What is known of the typed registers before an instruction, and what it makes of that.
-use Rattle.sfi_words.proofs.Prelude.{◌≡◌, ℕ, ◌+◌, ◌<◌, ◌≤◌, ◌⊎◌, List, ◌∷◌, length, true, false, not, ◌&&◌, ◌||◌, ◌==◌, refl, sym, ap, ◌∙◌, subst, inl, inr, ⊎_elim, arith, Option, Some, None, ℤ, slice_index, bit_and, bit_or, and_parts, or_cases, eqb-true, eq-eqb, not-false, false≢true, cases_Bool, offset_by, InRange, IsImm12, destination, is_register, writes_register, Instr, Op, OpImm, Load, Store, Branch, Jal, Jalr, Lui, Auipc, Fence, Ecall, Ebreak, Addi, And, Or, Add, Bytes, address_after, Accesses, Hart, register, effect, word, result_of, load_size, store_size, is_masking, is_placing, Part, Piece, is_jump, InData, InGuard, is_data_register, IsWordStart, IsNear, HasReserved, AreWordsTyped, places, masks, begins_placing, begins_masking, begins_using, begins_code, is_step, uses, is_small, may_access, breaks_access, may_write_data, breaks_data_of, breaks_data, may_write_code, breaks_code, breaks_offset, IsRightPart, has_words, ◌-◌, IsKnown, IsCodeKnown, AreKnown}
+use Rattle.sfi_words.proofs.Prelude.{◌≡◌, ℕ, ◌+◌, ◌<◌, ◌≤◌, ◌⊎◌, List, ◌∷◌, length, true, false, not, ◌&&◌, ◌||◌, ◌==◌, refl, sym, ap, ◌∙◌, subst, inl, inr, ⊎_elim, arith, Option, Some, None, ℤ, slice_index, bit_and, bit_or, and_parts, or_cases, eqb-true, eq-eqb, not-false, false≢true, cases_Bool, offset_by, InRange, IsImm12, destination, is_register, writes_register, Instr, Op, OpImm, Load, Store, Branch, Jal, Jalr, Ecall, Addi, And, Or, Add, Bytes, address_after, Accesses, Hart, register, effect, word, result_of, load_size, store_size, is_masking, is_placing, Part, Piece, is_jump, InData, InGuard, is_data_register, IsWordStart, IsNear, HasReserved, AreWordsTyped, places, masks, begins_placing, begins_masking, begins_using, begins_code, is_step, uses, is_small, may_access, breaks_access, may_write_data, breaks_data_of, breaks_data, may_write_code, breaks_code, breaks_offset, IsRightPart, has_words, ◌-◌, IsKnown, IsCodeKnown, AreKnown}
 use Rattle.sfi_policy.specs.Formats.{code_most}
 use Rattle.sfi_runs.proofs.Accessing.{imm12_within, near_access, stepped, used, first_address, load_sized, store_sized, load_range, store_range}
 use Rattle.sfi_runs.proofs.Formats.{words as word_unit}
@@ -108,16 +108,7 @@ module _ (p : Part) (words : has_words p.format ≡ true) (right : IsRightPart p
   accesses_near (Store width rs1 rs2 imm) n later range free known a has =
       access_near (register h rs1) imm (store_size width) a (store_range width rs1 rs2 imm range) (store_sized width).most
       (base_lies (record { instr = Store width rs1 rs2 imm; size = n }) later rs1 imm known (λ d. refl) (λ d. refl) (λ d u. (and_parts (rs1 == d) (is_small imm) u).1) (not-false _ free)) has
-  accesses_near (Op op rd rs1 rs2) n later range free known a (k, below, is) = absurd (omega arith)
-  accesses_near (OpImm op rd rs1 imm) n later range free known a (k, below, is) = absurd (omega arith)
-  accesses_near (Branch condition rs1 rs2 offset) n later range free known a (k, below, is) = absurd (omega arith)
-  accesses_near (Jal rd offset) n later range free known a (k, below, is) = absurd (omega arith)
-  accesses_near (Jalr rd rs1 imm) n later range free known a (k, below, is) = absurd (omega arith)
-  accesses_near (Lui rd imm) n later range free known a (k, below, is) = absurd (omega arith)
-  accesses_near (Auipc rd imm) n later range free known a (k, below, is) = absurd (omega arith)
-  accesses_near (Fence imm rd rs1) n later range free known a (k, below, is) = absurd (omega arith)
-  accesses_near Ecall n later range free known a (k, below, is) = absurd (omega arith)
-  accesses_near Ebreak n later range free known a (k, below, is) = absurd (omega arith)
+  accesses_near other n later range free known a (k, below, is) = absurd (omega arith)
 
   -- a use that fell into the data leaves its base near them
   uses_back : (d : ℕ) (i : Instr) → uses d i ≡ true → IsNear p (1020 + 2048) (register h d) → ((a : ℕ) → Accesses i h a → InData p a) → IsNear p 1020 (register h d)

@@ -1,19 +1,14 @@
 -- The findings of bundles and of a part: what they tell.
+use Rattle.sfi_words.proofs.Prelude.{drop-drop, drop-take, take-take, append-nil, Part, IsRightPart, is_gate_of, Finding, Owed}
 use Rattle.std.proofs.Common.{append_assoc, ◌≡◌, ℕ, zero, suc, ◌+◌, ◌-◌, ◌*◌, ◌%◌, ◌<◌, ◌≤◌, List, [], ◌∷◌, ◌++◌, length, take, drop, Bool, true, false, ◌&&◌, ◌==◌, refl, sym, ap, ◌∙◌, subst, arith}
 use Rattle.std.specs.List.{All}
 use Rattle.std.proofs.lemmas.Bool.{eqb-true, eq-eqb, ne_eqb, false≢true}
-use Rattle.std.proofs.lemmas.List.{drop-drop, drop-take, take-take, append-nil}
 use Rattle.std.proofs.lemmas.List.Elements.{All-head, All-tail}
 use Rattle.sfi_image.specs.declared.part.Gate.{Gate}
 use Rattle.sfi_image.specs.declared.span.Span.{Span}
-use Rattle.sfi_image.specs.Spelling.{Part}
 use Rattle.sfi_image.specs.Spans.{code_region}
-use Rattle.sfi_image.specs.Parts.{IsRightPart}
 use Rattle.sfi_image.specs.Regions.{IsBundleStart}
-use Rattle.sfi_image.specs.Gates.{is_gate_of}
 use Rattle.sfi_rules.specs.Bundles.{place_of, bundle_bytes}
-use Rattle.sfi_rules.specs.declared.finding.Finding.{Finding}
-use Rattle.sfi_rules.specs.declared.owed.Owed.{Owed}
 use Rattle.sfi_rules.specs.words.Findings.{is_at_gate, IsWordFound, AreFoundInWords, AreFoundOfFirst}
 use Rattle.sfi_words.specs.Laws.{FindsWhatIsBroken}
 use Rattle.sfi_words.proofs.Places as places

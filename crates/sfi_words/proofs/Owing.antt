@@ -1,9 +1,6 @@
 -- What is owed after an instruction is what comes there, where it breaks no rule that looks ahead and what was owed before it comes.
-use Rattle.sfi_words.proofs.Prelude.{◌≡◌, ℕ, Bool, true, false, cond, not, ◌&&◌, ◌||◌, ◌==◌, List, ◌∷◌, Option, Some, None, refl, sym, ap, ◌∙◌, subst, destination, Instr, is_masking, is_placing, Piece, is_jump, is_data_register, places, masks, begins_placing, begins_masking, is_step, uses, begins_using, begins_code, may_write_data, breaks_data_of, breaks_data, may_write_code, breaks_code, eqb-true, false≢true, is_register}
-use Rattle.sfi_rules.specs.declared.owed.Owed.{Owed}
-use Rattle.sfi_rules.specs.declared.owed.Owed.TheVariants.{Nothing, Mask, Place, MaskOrUse, Code}
+use Rattle.sfi_words.proofs.Prelude.{◌≡◌, ℕ, Bool, true, false, cond, not, ◌&&◌, ◌||◌, ◌==◌, List, ◌∷◌, Option, Some, None, refl, sym, ap, ◌∙◌, subst, destination, Instr, is_masking, is_placing, Piece, is_jump, is_data_register, places, masks, begins_placing, begins_masking, is_step, uses, begins_using, begins_code, may_write_data, breaks_data_of, breaks_data, may_write_code, breaks_code, eqb-true, false≢true, is_register, Owed, Nothing, Mask, Place, MaskOrUse, Code, left, owed_by_data, owed_by_code, owed_of, owed_by}
 use Rattle.sfi_rules.proofs.Facts.{and_is}
-use Rattle.sfi_rules.specs.words.Owing.{left, owed_by_data, owed_by_code, owed_of, owed_by}
 
 -- what is owed comes
 abbrev pub meets : Owed → List Piece → Bool

@@ -1,20 +1,10 @@
 -- What a scan in one pass keeps: the sandbox is clean where the rest of its code is, and what is owed comes.
-use Rattle.std.proofs.Common.{◌≡◌, ◌↔◌, ℕ, ◌+◌, ◌≤◌, List, [], ◌∷◌, length, take, drop, Bool, true, false, not, ◌&&◌, Option, Some, refl, sym, ap, ◌∙◌, subst, arith, add-zero}
+use Rattle.sfi_words.proofs.Prelude.{◌≡◌, ◌↔◌, ℕ, ◌+◌, ◌≤◌, List, [], ◌∷◌, length, take, drop, Bool, true, false, not, ◌&&◌, Option, Some, refl, sym, ap, ◌∙◌, subst, arith, add-zero, length-drop, drop-drop, Instr, Spells, Part, Piece, IsReading, rest_of, is_empty, breaks_reserved, ends_region, is_gate_of, Owed, Nothing, Mask, Place, MaskOrUse, Code, fails_data, fails_code}
 use Rattle.std.proofs.lemmas.Bool.{and_parts, and_from, not-true, not-false}
-use Rattle.std.proofs.lemmas.List.{length-drop, drop-drop}
-use Rattle.rv_word.specs.declared.instr.Instr.{Instr}
-use Rattle.rv_comp.specs.Fronts.{Spells}
-use Rattle.sfi_image.specs.Spelling.{Part}
-use Rattle.sfi_rules.specs.Readings.{Piece, IsReading, rest_of}
-use Rattle.sfi_rules.specs.Rules.{is_empty, breaks_reserved, ends_region}
-use Rattle.sfi_image.specs.Gates.{is_gate_of}
 use Rattle.sfi_rules.specs.words.Rules.{breaks_width, breaks_ecall, breaks_access, breaks_jump, breaks_target, breaks_end, breaks_data, breaks_code, breaks_offset}
 use Rattle.sfi_words.specs.Code.{BreaksNone, BreakNone, AreWordsClean}
-use Rattle.sfi_rules.specs.declared.owed.Owed.{Owed}
-use Rattle.sfi_rules.specs.declared.owed.Owed.TheVariants.{Nothing, Mask, Place, MaskOrUse, Code}
 use Rattle.sfi_rules.proofs.Readings.{IsStuck, spelled_within, front_one}
 use Rattle.sfi_words.proofs.Owing.{meets, meets_if, owed_after, is_nothing, keeps, after_is}
-use Rattle.sfi_rules.specs.words.Findings.{fails_data, fails_code}
 use Rattle.sfi_words.proofs.Judging.{none_failing}
 
 -- ---- what comes after a place, where the rest is read whole, is what is read there

@@ -1,8 +1,8 @@
 -- Words of std and of definitions that the proofs of this crate use.
-pub use Rattle.std.proofs.Common.{◌≡◌, ◌≢◌, ℕ, ◌+◌, ◌-◌, ◌*◌, ◌%◌, ◌^◌, ◌<◌, ◌≤◌, ◌⊎◌, List, [], ◌∷◌, length, take, drop, Bool, true, false, cond, not, ◌&&◌, ◌||◌, ◌==◌, refl, sym, ap, ◌∙◌, subst, inl, inr, ⊎_elim, arith, Option, Some, None, add-zero}
+pub use Rattle.std.proofs.Common.{◌≡◌, ◌≢◌, ℕ, ◌+◌, ◌-◌, ◌*◌, ◌%◌, ◌^◌, ◌<◌, ◌≤◌, ◌⊎◌, List, [], ◌∷◌, length, take, drop, Bool, true, false, cond, not, ◌&&◌, ◌||◌, ◌==◌, refl, sym, ap, ◌∙◌, subst, inl, inr, ⊎_elim, arith, Option, Some, None, add-zero, ◌↔◌, append_assoc, suc, ◌++◌}
 pub use Rattle.std.specs.Prelude.{ℤ, pos, negsuc, slice_index, is_some, bit_and, bit_or}
-pub use Rattle.std.proofs.lemmas.Bool.{cases_lt, and_parts, or_cases, eqb-true, eq-eqb, not-false, false≢true, cases_Bool, leb-true, ltb-true}
-pub use Rattle.std.proofs.lemmas.List.{length-drop, drop-drop}
+pub use Rattle.std.proofs.lemmas.Bool.{cases_lt, and_parts, or_cases, eqb-true, eq-eqb, not-false, false≢true, cases_Bool, leb-true, ltb-true, and_from}
+pub use Rattle.std.proofs.lemmas.List.{length-drop, drop-drop, drop-take, take-take, append-nil}
 pub use Rattle.rv_word.specs.Numbers.{offset_by}
 pub use Rattle.rv_word.specs.Spelling.{IsImm12}
 unfoldable pub use Rattle.rv_word.specs.Spelling.{InRange}
@@ -34,7 +34,13 @@ pub use Rattle.sfi_runs.specs.Safety.{IsSafeState, IsSafeStep}
 pub use Rattle.sfi_runs.specs.Typed.{IsWordStart, IsNear, AreWordsTyped}
 pub use Rattle.sfi_policy.specs.Formats.{has_words}
 pub use Rattle.sfi_image.specs.Parts.{IsRightPart}
-pub use Rattle.sfi_rules.specs.words.Rules.{is_and, is_or, places, masks, begins_placing, begins_masking, is_small, is_step, uses, begins_using, begins_code, breaks_width, breaks_ecall, may_access, breaks_access, breaks_jump, is_word_start, breaks_target, may_write_data, breaks_data_of, breaks_data, may_write_code, breaks_code, breaks_offset}
-pub use Rattle.sfi_words.specs.Code.{BreakNone, IsCleanPart}
+pub use Rattle.sfi_rules.specs.words.Rules.{is_or, places, masks, begins_placing, begins_masking, is_small, is_step, uses, begins_using, begins_code, breaks_width, breaks_ecall, may_access, breaks_access, breaks_jump, is_word_start, breaks_target, may_write_data, breaks_data_of, breaks_data, may_write_code, breaks_code, breaks_offset}
+pub use Rattle.sfi_words.specs.Code.{BreakNone, IsCleanPart, AreWordsClean}
 pub use Rattle.sfi_words.specs.Places.{IsKnown, IsCodeKnown, AreKnown, IsPlace, IsAtPlace, IsGood, IsGoodIf}
 pub use Rattle.sfi_words.specs.Laws.{EntryIsGood, TurnKeeps, CleanRunsSafely}
+pub use Rattle.sfi_rules.specs.declared.owed.Owed.{Owed}
+pub use Rattle.sfi_rules.specs.declared.rule.Rule.{Rule}
+pub use Rattle.sfi_rules.specs.declared.finding.Finding.{Finding}
+pub use Rattle.sfi_rules.specs.declared.owed.Owed.TheVariants.{Nothing, Mask, Place, MaskOrUse, Code}
+pub use Rattle.sfi_rules.specs.words.Owing.{left, owed_by_data, owed_by_code, owed_of, owed_by, owed_next}
+pub use Rattle.sfi_rules.specs.words.Findings.{fails_data, fails_code}

@@ -1,21 +1,9 @@
 -- What the findings so far tell of a sandbox: it is clean where the rest is, if there are none.
-use Rattle.std.proofs.Common.{append_assoc, ◌≡◌, ◌≢◌, ◌↔◌, ℕ, suc, ◌+◌, ◌-◌, ◌%◌, ◌<◌, ◌≤◌, List, [], ◌∷◌, ◌++◌, length, take, drop, Bool, true, false, cond, not, ◌&&◌, ◌==◌, ◌⊎◌, Option, Some, None, refl, sym, ap, ◌∙◌, subst, inl, inr, arith, ⊎_elim}
-use Rattle.std.proofs.lemmas.Bool.{and_from, not-false, eq-eqb, eqb-true}
+use Rattle.sfi_words.proofs.Prelude.{append_assoc, ◌≡◌, ◌≢◌, ◌↔◌, ℕ, suc, ◌+◌, ◌-◌, ◌%◌, ◌<◌, ◌≤◌, List, [], ◌∷◌, ◌++◌, length, take, drop, Bool, true, false, cond, not, ◌&&◌, ◌==◌, ◌⊎◌, Option, Some, None, refl, sym, ap, ◌∙◌, subst, inl, inr, arith, ⊎_elim, and_from, not-false, eq-eqb, eqb-true, Instr, Spells, Part, is_gate_of, is_empty, ends_region, BreakNone, AreWordsClean, breaks_width, breaks_ecall, Finding, Owed, Rule, owed_next}
 use Rattle.std.proofs.lemmas.List.{length-drop, length-take, drop-drop, drop-take, take-take, append-nil}
-use Rattle.rv_word.specs.declared.instr.Instr.{Instr}
-use Rattle.rv_comp.specs.Fronts.{Spells}
-use Rattle.sfi_image.specs.Spelling.{Part}
-use Rattle.sfi_image.specs.Gates.{is_gate_of}
 use Rattle.sfi_image.specs.declared.bundle.BundlePlace.{BundlePlace}
 use Rattle.sfi_rules.specs.Readings.{Piece, IsReading, IsLongestReading, rest_of}
-use Rattle.sfi_rules.specs.Rules.{is_empty, ends_region}
-use Rattle.sfi_words.specs.Code.{BreakNone, AreWordsClean}
-use Rattle.sfi_rules.specs.words.Rules.{breaks_width, breaks_ecall}
-use Rattle.sfi_rules.specs.declared.finding.Finding.{Finding}
-use Rattle.sfi_rules.specs.declared.owed.Owed.{Owed}
 use Rattle.sfi_rules.specs.declared.owed.Owed.TheVariants as kind
-use Rattle.sfi_rules.specs.declared.rule.Rule.{Rule}
-use Rattle.sfi_rules.specs.words.Owing.{owed_next}
 use Rattle.sfi_rules.specs.words.Findings.{Place, is_at_gate, lowest, found_at, found_from, owed_past, IsWordFound}
 use Rattle.sfi_rules.specs.Broken.{rest_finding}
 use Rattle.sfi_words.proofs.Owing.{is_nothing}
