@@ -1,10 +1,6 @@
 -- The rules that the samples of instructions break are needed, and so is each.
-use Rattle.sfi_safety.proofs.Prelude.{◌≡◌, ℕ, ◌+◌, ◌*◌, List, [], ◌∷◌, refl, sym, arith, add-zero, pos, ints, And, Or, Sw, Instr, Op, OpImm, Store, Jal, Jalr, Ecall, Ebreak, minus, InRange, Sfi1, Sfi2, bundle_bytes, Piece, IsGate, BreaksAloneInBundle, IsNeeded, EachRuleIsNeeded, Format, Sfiw, has_words, false, false≢true}
-use Rattle.rv_word.specs.declared.instr.ImmOp.TheVariants.{Addi}
-use Rattle.sfi_safety.specs.Needed.{BreaksAlone}
+use Rattle.sfi_safety.proofs.Prelude.{◌≡◌, ℕ, ◌+◌, ◌*◌, List, [], ◌∷◌, refl, sym, arith, add-zero, pos, ints, And, Or, Sw, Instr, Op, OpImm, Store, Jal, Jalr, Ecall, Ebreak, minus, InRange, Sfi1, Sfi2, bundle_bytes, Piece, IsGate, BreaksAloneInBundle, IsNeeded, EachRuleIsNeeded, Format, Sfiw, has_words, false, false≢true, Addi, BreaksAlone, Rule, V1, V2, V3, V4, V5, V6, V7, V8, V9, V10, V11, V12}
 use Rattle.sfi_safety.specs.Samples.{Sample, sandbox, words_of, bytes_of, ecall_at_no_gate, written_rd_forgotten, pair_on_x0, pair_across_bundles, jalr_offset_ignored, jump_to_any_start, stack_not_put_back, undecodable, crossing_store, running_off_the_end, gate_comes_back_elsewhere}
-use Rattle.sfi_rules.specs.declared.rule.Rule.{Rule}
-use Rattle.sfi_rules.specs.declared.rule.Rule.TheVariants.{V1, V2, V3, V4, V5, V6, V7, V8, V9, V10, V11, V12}
 use Rattle.rv_comp.proofs.Facts.{word_spells}
 use Rattle.sfi_safety.proofs.NeededBundles.{undecodable_unsafe, crossing_store_unsafe, running_off_the_end_unsafe, gate_comes_back_elsewhere_unsafe}
 use Rattle.sfi_safety.proofs.Readings.{IsSpelled, op_spelled, store_spelled, addi_x2, ebreak_spelled, code_findings, four, four_longest, wide, ecall_spelled, jalr_past, BrokenIn, found_in_both}

@@ -1,13 +1,8 @@
 -- The rules that the samples in words break are needed, and so is each of code in words.
-use Rattle.sfi_safety.proofs.Prelude.{ℕ, List, [], ◌∷◌, drop, refl, arith, pos, ints, Or, Sw, Op, OpImm, Lui, Store, Jal, Jalr, Ecall, Ebreak, spelling, minus, InRange, place_of, IsGate, IsNeeded, Finding}
-use Rattle.rv_word.specs.declared.instr.ImmOp.TheVariants.{Addi}
+use Rattle.sfi_safety.proofs.Prelude.{ℕ, List, [], ◌∷◌, drop, refl, arith, pos, ints, Or, Sw, Op, OpImm, Lui, Store, Jal, Jalr, Ecall, Ebreak, spelling, minus, InRange, place_of, IsGate, IsNeeded, Finding, Addi, Rule, V1, V2, V3, V4, V5, V6, V7, V8, V9, V10, V11, V12, InCode, Sample, sandbox, nop}
 use Rattle.rv_comp.proofs.Facts.{word_spells}
 use Rattle.sfi_rules.specs.declared.owed.Owed.TheVariants.{Nothing, Mask}
-use Rattle.sfi_rules.specs.declared.rule.Rule.{Rule}
-use Rattle.sfi_rules.specs.declared.rule.Rule.TheVariants.{V1, V2, V3, V4, V5, V6, V7, V8, V9, V10, V11, V12}
-use Rattle.sfi_runs.specs.Regions.{InCode}
 use Rattle.sfi_safety.specs.Needed.{IsOwedBefore, EachRuleOfWordsIsNeeded}
-use Rattle.sfi_safety.specs.Samples.{Sample, sandbox, nop}
 use Rattle.sfi_safety.specs.WordSamples.{undecodable_word, crossing_words, ecall_in_words, data_base_written, untyped_base, jump_past_its_register, jump_out, nop_at_the_end, data_register_not_put_back, code_register_not_put_back, offset_not_masked}
 use Rattle.sfi_safety.proofs.Readings.{IsSpelled, op_spelled, store_spelled, addi_x2, ebreak_spelled, ecall_spelled, nothing_begins, wide}
 use Rattle.sfi_safety.proofs.Samples.{IsSample, without_gates, then_step, reaches, calls_elsewhere, has_left, past_end}

@@ -1,9 +1,7 @@
 -- A hart at a bundle start is at that bundle's first piece, and the one instruction there is the reading's.
-use Rattle.sfi_safety.proofs.Prelude.{◌≡◌, ℕ, zero, suc, ◌+◌, ◌-◌, ◌*◌, ◌/◌, ◌%◌, ◌<◌, ◌≤◌, List, [], ◌∷◌, ◌++◌, length, take, drop, true, refl, sym, ap, ◌∙◌, subst, inl, inr, ⊎_elim, arith, add-zero, cases_lt, Spells, Bytes, Hart, Stands, Part, code_region, IsBundleStart, BundlePlace, Finding, place_of, bundle_bytes, Piece, IsReading, rest_of, is_empty, findings_from, rest_finding, AreReadingFindings, AreBundleFindings, AreFindingsOfFirst, StackInData, HasCode, AreCleanBundles, IsAtPlace, IsSafeState}
+use Rattle.sfi_safety.proofs.Prelude.{◌≡◌, ℕ, zero, suc, ◌+◌, ◌-◌, ◌*◌, ◌/◌, ◌%◌, ◌<◌, ◌≤◌, List, [], ◌∷◌, ◌++◌, length, take, drop, true, refl, sym, ap, ◌∙◌, subst, inl, inr, ⊎_elim, arith, add-zero, cases_lt, Spells, Bytes, Hart, Stands, Part, code_region, IsBundleStart, BundlePlace, Finding, place_of, bundle_bytes, Piece, IsReading, rest_of, is_empty, findings_from, rest_finding, AreReadingFindings, AreBundleFindings, AreFindingsOfFirst, StackInData, HasCode, AreCleanBundles, IsAtPlace, IsSafeState, length-take, length-drop, InCode}
 use Rattle.sfi_rules.proofs.Readings.{spelled_within}
-use Rattle.std.proofs.Common.{length-take, length-drop}
 use Rattle.std.proofs.lemmas.List.{take-take, drop-take, drop-drop}
-use Rattle.sfi_runs.specs.Regions.{InCode}
 use Rattle.sfi_safety.proofs.PairResult.{leaves_nothing}
 use Rattle.sfi_runs.proofs.Standing.{pc_within, stands_there, state_safe}
 use Rattle.sfi_image.proofs.Facts.{whole_bundles}

@@ -1,5 +1,5 @@
 -- Words of std and of definitions that many proofs of this crate use.
-pub use Rattle.std.proofs.Common.{◌≡◌, ◌≢◌, ℕ, suc, ◌+◌, ◌-◌, ◌%◌, ◌^◌, ◌<◌, ◌≤◌, ◌⊎◌, List, length, get_or, false, ◌||◌, ◌==◌, refl, sym, ◌∙◌, subst, inl, inr, ⊎_elim, arith, zero, ◌*◌, Bool, true, [], ◌++◌, take, drop, ap, ◌∷◌, Option, Some, None, cond, ◌/◌, not, ◌&&◌, add-zero, get_or-take, get_or-drop, replicate}
+pub use Rattle.std.proofs.Common.{◌≡◌, ◌≢◌, ℕ, suc, ◌+◌, ◌-◌, ◌%◌, ◌^◌, ◌<◌, ◌≤◌, ◌⊎◌, List, length, get_or, false, ◌||◌, ◌==◌, refl, sym, ◌∙◌, subst, inl, inr, ⊎_elim, arith, zero, ◌*◌, Bool, true, [], ◌++◌, take, drop, ap, ◌∷◌, Option, Some, None, cond, ◌/◌, not, ◌&&◌, add-zero, get_or-take, get_or-drop, replicate, length-drop, length-take}
 pub use Rattle.std.specs.Prelude.{ℤ, pos, negsuc, slice_index, is_some, filter, nat_lt}
 pub use Rattle.std.proofs.lemmas.Bool.{cases_lt, eqb-false, and_parts, or_cases, eqb-true, not-false, and_from, not-true, false≢true, ltb-true, cases_Bool, or_left, or_right}
 pub use Rattle.std.proofs.lemmas.Int.{ints}
@@ -19,7 +19,7 @@ pub use Rattle.rv_step.specs.State.{Hart, with_register, State, register, with_p
 pub use Rattle.rv_step.specs.Step.{Stands, effect, after_load, next, unchanged, Stepped, IsStep}
 pub use Rattle.rv_step.specs.Values.{load_size, store_size, extended, is_taken, result_of}
 pub use Rattle.rv_step.specs.declared.outcome.Outcome.TheVariants.{Next, Call, Trap}
-pub use Rattle.sfi_policy.specs.Formats.{code_most, has_stack, has_words, is_stack}
+pub use Rattle.sfi_policy.specs.Formats.{code_most, has_stack, has_words, is_stack, unit}
 pub use Rattle.sfi_policy.specs.declared.format.Format.{Format}
 pub use Rattle.sfi_policy.specs.declared.format.Format.TheVariants.{Sfi1, Sfi2, Sfiw}
 pub use Rattle.sfi_image.specs.Gates.{is_gate_of, AreGates}
@@ -36,12 +36,24 @@ pub use Rattle.sfi_image.specs.declared.bundle.BundlePlace.{BundlePlace}
 pub use Rattle.sfi_rules.specs.declared.finding.Finding.{Finding}
 pub use Rattle.sfi_safety.specs.Laws.{CleanCallsTyped, InstructionLeaves, TurnKeeps, EntryIsGood, CleanRunsSafely}
 pub use Rattle.sfi_safety.specs.Leaving.{Leaves, WritesResult, follows_mask}
-pub use Rattle.sfi_safety.specs.Needed.{BreaksAloneInBundle, IsNeeded, EachRuleIsNeeded, HasOneFinding, HasUnsafeRun, StoresByte, IsAcceptedAndRuns, IsStricter, BreaksNoOther}
+pub use Rattle.sfi_safety.specs.Needed.{BreaksAloneInBundle, IsNeeded, EachRuleIsNeeded, HasOneFinding, HasUnsafeRun, StoresByte, IsAcceptedAndRuns, IsStricter, BreaksNoOther, BreaksAlone, BreaksAloneInWord, IsOwedBefore}
 pub use Rattle.sfi_safety.specs.Places.{IsCleanPart, AreCleanBundles, IsGood, IsGoodIf, StackInDataBefore, IsAtPlace}
-pub use Rattle.sfi_runs.specs.Regions.{InData, InGuard, HasReserved, IsGate, HasCode}
-pub use Rattle.sfi_runs.specs.Typed.{StackInData}
+pub use Rattle.sfi_runs.specs.Regions.{InData, InGuard, HasReserved, IsGate, HasCode, IsUnitStart, InCode}
+pub use Rattle.sfi_runs.specs.Typed.{StackInData, IsTyped}
 pub use Rattle.sfi_runs.specs.Runs.{Turn, IsRun, after_turn, IsEntry, Steps, Replies, IsReply, IsTurn, after_step, KeepsBytes, Changes, IsChange}
 pub use Rattle.sfi_runs.specs.Safety.{AllRunSafely, IsSafeRun, RunsSafely, IsSafeStep, IsSafeState}
 pub use Rattle.sfi_safety.specs.Clean.{IsClean, IsAccepted, MayRun}
-pub use Rattle.sfi_runs.specs.Typed.{IsTyped}
-pub use Rattle.sfi_runs.specs.Regions.{IsUnitStart}
+pub use Rattle.rv_step.specs.declared.outcome.Outcome.{Outcome}
+pub use Rattle.sfi_policy.specs.Registers.{is_reserved}
+pub use Rattle.sfi_rules.specs.Stack.{writes_stack, is_jump}
+pub use Rattle.rv_word.specs.declared.instr.ImmOp.TheVariants.{Addi}
+pub use Rattle.sfi_rules.specs.declared.rule.Rule.{Rule}
+pub use Rattle.sfi_rules.specs.declared.rule.Rule.TheVariants.{V1, V2, V3, V4, V5, V6, V7, V8, V9, V10, V11, V12}
+pub use Rattle.rv_comp.specs.declared.form.Form16.TheVariants.{CAddi}
+pub use Rattle.sfi_safety.specs.Samples.{Sample, sandbox, nop, undecodable, crossing_store, running_off_the_end, gate_comes_back_elsewhere, bytes_of, words_of}
+pub use Rattle.rv_word.specs.declared.instr.RegOp.{RegOp}
+pub use Rattle.sfi_pairs.specs.Pairs.{is_masking, is_placing}
+pub use Rattle.std.specs.Int.{w32, to_le_bytes}
+pub use Rattle.sfi_rules.specs.declared.owed.Owed.TheVariants.{Nothing}
+pub use Rattle.sfi_rules.specs.Pairs.{follows_data_pair}
+pub use Rattle.sfi_runs.specs.Calls.{CallsTyped}

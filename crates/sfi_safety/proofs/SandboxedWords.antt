@@ -1,9 +1,7 @@
 -- The accepted sample in words: no rule is broken in it, and it stores a byte.
-use Rattle.sfi_safety.proofs.Prelude.{◌≡◌, [], ◌∷◌, cond, Some, refl, ap, ◌∙◌, arith, pos, is_some, And, Or, Sb, Op, Store, Jal, minus, Bytes, byte_at, in_front, stored, Trap, past, Stepped, effect, next, unchanged, Part, AreFindings, StoresByte, IsAcceptedAndRuns}
+use Rattle.sfi_safety.proofs.Prelude.{◌≡◌, [], ◌∷◌, cond, Some, refl, ap, ◌∙◌, arith, pos, is_some, And, Or, Sb, Op, Store, Jal, minus, Bytes, byte_at, in_front, stored, Trap, past, Stepped, effect, next, unchanged, Part, AreFindings, StoresByte, IsAcceptedAndRuns, Nothing, sandbox}
 use Rattle.rv_step.specs.declared.outcome.Cause.TheVariants as cause
 use Rattle.sfi_image.specs.Spelling as image
-use Rattle.sfi_rules.specs.declared.owed.Owed.TheVariants.{Nothing}
-use Rattle.sfi_safety.specs.Samples.{sandbox}
 use Rattle.sfi_safety.specs.WordSamples.{stored_in_words}
 use Rattle.sfi_safety.proofs.Readings.{op_spelled, store_spelled}
 use Rattle.sfi_safety.proofs.Samples.{IsSample, without_gates, right_layout, step_at}

@@ -1,7 +1,5 @@
 -- Where a format has a stack pointer, it lies in the data region, or is put there.
-use Rattle.sfi_safety.proofs.Prelude.{◌≡◌, ℕ, List, [], ◌∷◌, true, false, Bool, not, ◌&&◌, ◌||◌, ◌==◌, refl, sym, ◌∙◌, subst, inl, inr, ⊎_elim, slice_index, cases_Bool, and_parts, and_from, or_cases, or_left, or_right, not-false, false≢true, Instr, Op, OpImm, Load, Store, Branch, Jal, Jalr, Lui, Auipc, Fence, Ecall, Ebreak, And, Or, has_stack, Part, BundlePlace, Piece, Place, may_write_stack, breaks_stack, InData, StackInData, Leaves, StackInDataBefore}
-use Rattle.sfi_pairs.specs.Pairs.{is_masking, is_placing}
-use Rattle.sfi_rules.specs.Pairs.{follows_data_pair}
+use Rattle.sfi_safety.proofs.Prelude.{◌≡◌, ℕ, List, [], ◌∷◌, true, false, Bool, not, ◌&&◌, ◌||◌, ◌==◌, refl, sym, ◌∙◌, subst, inl, inr, ⊎_elim, slice_index, cases_Bool, and_parts, and_from, or_cases, or_left, or_right, not-false, false≢true, Instr, Op, Jal, Jalr, And, Or, has_stack, Part, BundlePlace, Piece, Place, may_write_stack, breaks_stack, InData, StackInData, Leaves, StackInDataBefore, is_masking, is_placing, follows_data_pair}
 use Rattle.sfi_rules.specs.Stack.{writes_stack, is_stack_pair, begins_pair, ends_pair, precedes_pair, is_jump}
 
 -- the instruction is one of the pair's two
@@ -96,16 +94,7 @@ stack_after p x i size before after format free keeps leaves lies =
 jump_other : (i : Instr) → is_jump i ≡ true → is_of_pair i ≡ false
 jump_other (Jal rd offset) jump = refl
 jump_other (Jalr rd rs1 imm) jump = refl
-jump_other (Op op rd rs1 rs2) jump = absurd (false≢true jump)
-jump_other (OpImm op rd rs1 imm) jump = absurd (false≢true jump)
-jump_other (Load kind rd rs1 imm) jump = absurd (false≢true jump)
-jump_other (Store width rs1 rs2 imm) jump = absurd (false≢true jump)
-jump_other (Branch condition rs1 rs2 offset) jump = absurd (false≢true jump)
-jump_other (Lui rd imm) jump = absurd (false≢true jump)
-jump_other (Auipc rd imm) jump = absurd (false≢true jump)
-jump_other (Fence imm rd rs1) jump = absurd (false≢true jump)
-jump_other Ecall jump = absurd (false≢true jump)
-jump_other Ebreak jump = absurd (false≢true jump)
+jump_other other jump = absurd (false≢true jump)
 
 -- a jump that breaks no rule does not write it
 pub jump_keeps : (x : Place) (i : Instr) → is_jump i ≡ true → breaks_stack x i ≡ false → writes_stack x.bundle i ≡ false

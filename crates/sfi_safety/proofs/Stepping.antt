@@ -1,10 +1,8 @@
 -- One step from a good state is safe, and leads to a good state.
-use Rattle.sfi_safety.proofs.Prelude.{◌≡◌, ℕ, ◌+◌, ◌*◌, ◌^◌, ◌<◌, ◌≤◌, ◌⊎◌, List, [], ◌∷◌, length, true, refl, sym, ap, ◌∙◌, subst, arith, add-zero, false≢true, Instr, Next, Call, Trap, Accesses, State, Stepped, Stands, IsStep, effect, Part, place_of, is_empty, InData, InGuard, IsGate, after_step, IsSafeStep, AreCleanBundles, IsGood, IsGoodIf}
-use Rattle.rv_step.specs.declared.outcome.Outcome.{Outcome}
-use Rattle.sfi_safety.proofs.Places.{pc_in_code, present}
+use Rattle.sfi_safety.proofs.Prelude.{◌≡◌, ℕ, ◌+◌, ◌*◌, ◌^◌, ◌<◌, ◌≤◌, ◌⊎◌, List, [], ◌∷◌, length, true, refl, sym, ap, ◌∙◌, subst, arith, add-zero, false≢true, Instr, Next, Call, Trap, Accesses, State, Stepped, Stands, IsStep, effect, Part, place_of, is_empty, InData, InGuard, IsGate, after_step, IsSafeStep, AreCleanBundles, IsGood, IsGoodIf, Outcome}
+use Rattle.sfi_safety.proofs.Places.{pc_in_code, present, at_start}
 use Rattle.sfi_safety.proofs.NextPlace.{place_here, rules_kept, goes_on}
 use Rattle.sfi_safety.proofs.Effects.{Here, Leads, accesses_near, leads}
-use Rattle.sfi_safety.proofs.Places.{at_start}
 use Rattle.rv_comp.proofs.Facts.{spelled_in_range}
 use Rattle.rv_step.proofs.Facts.{one_instruction, stopped_stays}
 use Rattle.sfi_runs.proofs.Stepping.{gate_of}

@@ -1,6 +1,5 @@
 -- Each turn keeps a good state, and so does each run.
-use Rattle.sfi_safety.proofs.Prelude.{◌≡◌, ℕ, List, ◌∷◌, false, sym, ap, ◌∙◌, subst, Instr, Ecall, InRange, address_after, State, Stands, Part, ends_region, IsReply, IsChange, Turn, Steps, Replies, Changes, IsTurn, after_turn, RunsSafely, Leaves, StackInDataBefore, IsTyped, AreCleanBundles, IsGood, IsGoodIf, EntryIsGood, TurnKeeps}
-use Rattle.sfi_runs.specs.Calls.{CallsTyped}
+use Rattle.sfi_safety.proofs.Prelude.{◌≡◌, ℕ, List, ◌∷◌, false, sym, ap, ◌∙◌, subst, Instr, Ecall, InRange, address_after, State, Stands, Part, ends_region, IsReply, IsChange, Turn, Steps, Replies, Changes, IsTurn, after_turn, RunsSafely, Leaves, StackInDataBefore, IsTyped, AreCleanBundles, IsGood, IsGoodIf, EntryIsGood, TurnKeeps, CallsTyped}
 use Rattle.sfi_runs.proofs.Formats.{to_bundle, of_stack}
 use Rattle.sfi_runs.proofs.Turning.{entry_keeps, reply_keeps, change_keeps, turn_safe, runs_safely, calls_typed}
 use Rattle.sfi_safety.proofs.Places.{at_start, safe_here}

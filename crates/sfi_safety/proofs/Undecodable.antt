@@ -3,7 +3,7 @@ use Rattle.sfi_safety.proofs.Prelude.{◌≡◌, ℕ, ◌+◌, ◌*◌, ◌<◌,
 use Rattle.rv_comp.specs.Halfwords.{IsShortSpelling}
 use Rattle.rv_comp.specs.Table.{row, fields_of}
 use Rattle.rv_comp.specs.declared.form.Form16.{Form16}
-use Rattle.rv_comp.specs.declared.form.Form16.TheVariants.{CAddi4spn, CLw, CSw, CAddi, CJal, CLi, CAddi16sp, CLui, CSrli, CSrai, CAndi, CSub, CXor, COr, CAnd, CJ, CBeqz, CBnez, CSlli, CLwsp, CJr, CJalr, CMv, CAdd, CEbreak, CSwsp}
+use Rattle.rv_comp.specs.declared.form.Form16.TheVariants.{CAddi4spn, CLw, CSw, CSlli, CLwsp, CJr, CJalr, CMv, CAdd, CEbreak, CSwsp}
 use Rattle.rv_word.specs.declared.length.Length.TheVariants.{Wide, Longer}
 use Rattle.std.specs.Int.{w16, w32, from_le_bytes}
 use Rattle.std.proofs.Common.{take-append-drop}
@@ -22,21 +22,6 @@ ending : (f : Form16) → Ending f
 ending (CAddi4spn d i) = record { high = 0; low = 0; ends = refl; less = omega arith }
 ending (CLw d s i) = record { high = 0; low = 0; ends = refl; less = omega arith }
 ending (CSw s t i) = record { high = 0; low = 0; ends = refl; less = omega arith }
-ending (CAddi d i) = record { high = 0; low = 1; ends = refl; less = omega arith }
-ending (CJal i) = record { high = 0; low = 1; ends = refl; less = omega arith }
-ending (CLi d i) = record { high = 0; low = 1; ends = refl; less = omega arith }
-ending (CAddi16sp i) = record { high = 0; low = 1; ends = refl; less = omega arith }
-ending (CLui d i) = record { high = 0; low = 1; ends = refl; less = omega arith }
-ending (CSrli d i) = record { high = 0; low = 1; ends = refl; less = omega arith }
-ending (CSrai d i) = record { high = 0; low = 1; ends = refl; less = omega arith }
-ending (CAndi d i) = record { high = 0; low = 1; ends = refl; less = omega arith }
-ending (CSub d t) = record { high = 0; low = 1; ends = refl; less = omega arith }
-ending (CXor d t) = record { high = 0; low = 1; ends = refl; less = omega arith }
-ending (COr d t) = record { high = 0; low = 1; ends = refl; less = omega arith }
-ending (CAnd d t) = record { high = 0; low = 1; ends = refl; less = omega arith }
-ending (CJ i) = record { high = 0; low = 1; ends = refl; less = omega arith }
-ending (CBeqz s i) = record { high = 0; low = 1; ends = refl; less = omega arith }
-ending (CBnez s i) = record { high = 0; low = 1; ends = refl; less = omega arith }
 ending (CSlli d i) = record { high = 1; low = 0; ends = refl; less = omega arith }
 ending (CLwsp d i) = record { high = 1; low = 0; ends = refl; less = omega arith }
 ending (CJr s) = record { high = 1; low = 0; ends = refl; less = omega arith }
@@ -45,6 +30,7 @@ ending (CMv d t) = record { high = 1; low = 0; ends = refl; less = omega arith }
 ending (CAdd d t) = record { high = 1; low = 0; ends = refl; less = omega arith }
 ending CEbreak = record { high = 1; low = 0; ends = refl; less = omega arith }
 ending (CSwsp t i) = record { high = 1; low = 0; ends = refl; less = omega arith }
+ending _ = record { high = 0; low = 1; ends = refl; less = omega arith }
 
 last_two : (n : ℕ) (v : Fields) (bs : List Bit) (high low : ℕ) → number_after n v (bs ++ (is high ∷ is low ∷ [])) ≡ 2 * (2 * number_after n v bs + high) + low
 last_two n v [] high low = refl
