@@ -1,6 +1,5 @@
 -- Bundles of whole expansions.
-use Rattle.sfi_rewrite.proofs.Prelude.{◌≡◌, replicate, ℕ, ◌+◌, ◌-◌, ◌<◌, ◌≤◌, ◌*◌, ◌%◌, List, [], ◌∷◌, ◌++◌, length, refl, sym, ap, ◌∙◌, subst, arith, append_assoc, append-nil, length-append, get_or, set, All, get_or_push, All-push, All-nil, All-cons, All-head, All-tail, Slot, size_of, slots_of, c_nop, AreBundles, IsFull, IsFilled, largest}
-use Rattle.sfi_policy.specs.Limits.{bundle_size}
+use Rattle.sfi_rewrite.proofs.Prelude.{◌≡◌, replicate, ℕ, ◌+◌, ◌-◌, ◌<◌, ◌≤◌, ◌*◌, ◌%◌, List, [], ◌∷◌, ◌++◌, length, refl, sym, ap, ◌∙◌, subst, arith, append_assoc, append-nil, length-append, get_or, set, All, get_or_push, All-push, All-nil, All-cons, All-head, All-tail, Slot, size_of, slots_of, c_nop, AreBundles, IsFull, IsFilled, largest, bundle_size}
 use Rattle.std.proofs.Math.Seq.{set-append_seam}
 use Rattle.sfi_rewrite.proofs.Sizes.{size_of-append, sizes, size_even, size_nops}
 

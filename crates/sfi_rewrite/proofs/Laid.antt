@@ -1,6 +1,5 @@
 -- What is laid from an end on: one more item, a beginning of the items, and that there is one way.
-use Rattle.sfi_rewrite.proofs.Prelude.{◌≡◌, ℕ, zero, suc, ◌+◌, ◌*◌, List, [], ◌∷◌, ◌++◌, take, drop, replicate, refl, sym, ap, ◌∙◌, subst, arith, append_assoc, append-nil, inl, inr, Bool, true, false, MatchBool, Instr, Load, Store, Jalr, Format, Item, Body, Plain, Slot, Short, Wide, size_of, c_nop, writes_stack, is_on_stack, stack_pair, IsAlone, IsMasked, IsExpansionOf, IsExpansion, is_call, FillsGap, IsNext, AreLaidFrom}
-use Rattle.rv_comp.specs.declared.form.Form16.{Form16}
+use Rattle.sfi_rewrite.proofs.Prelude.{◌≡◌, ℕ, zero, suc, ◌+◌, ◌*◌, List, [], ◌∷◌, ◌++◌, take, drop, replicate, refl, sym, ap, ◌∙◌, subst, arith, append_assoc, append-nil, inl, inr, Bool, true, false, MatchBool, Instr, Load, Store, Jalr, Format, Item, Body, Plain, Slot, Short, Wide, size_of, c_nop, writes_stack, is_on_stack, stack_pair, IsAlone, IsMasked, IsExpansionOf, IsExpansion, is_call, FillsGap, IsNext, AreLaidFrom, Form16}
 use Rattle.rv_comp.proofs.Facts.{one_first_form}
 use Rattle.sfi_rewrite.proofs.Sizes.{size_of-append, size_nops}
 

@@ -1,15 +1,11 @@
 -- What the masks make of a number: a data mask the address of the region with its offset.
-use Rattle.sfi_rewrite.proofs.Prelude.{◌≡◌, ℕ, ◌+◌, ◌-◌, ◌*◌, ◌/◌, ◌%◌, ◌^◌, ◌<◌, ◌≤◌, sym, ap, ◌∙◌, arith, bit_and, bit_or, code_most, Hart, register, AreRegions, HasReserved}
+use Rattle.sfi_rewrite.proofs.Prelude.{◌≡◌, ℕ, ◌+◌, ◌-◌, ◌*◌, ◌/◌, ◌%◌, ◌^◌, ◌<◌, ◌≤◌, sym, ap, ◌∙◌, arith, bit_and, bit_or, code_most, Hart, register, AreRegions, HasReserved, Add, Holds, Span, masked}
 use Rattle.std.proofs.Common.{mul_assoc}
 use Rattle.std.proofs.lemmas.Nat.{and_mask, div-add-mod', mod_low, pow-add, or_shifted, or_comm, mod-mul-add, pow_pos}
 use Rattle.rv_step.specs.Values.{result_of}
-use Rattle.rv_word.specs.declared.instr.RegOp.TheVariants.{Add}
 use Rattle.sfi_image.specs.Regions.{IsRegion}
-use Rattle.sfi_image.specs.Spans.{Holds}
-use Rattle.sfi_image.specs.declared.span.Span.{Span}
 use Rattle.sfi_image.proofs.Bundles.{exponent_le}
 use Rattle.sfi_rewrite.specs.Laws.{MasksCompose}
-use Rattle.sfi_rewrite.specs.Transparency.{masked}
 use Rattle.std.proofs.Math.Arith.{mod-mul}
 use Rattle.std.proofs.lemmas.Nat.Bits.{and_high}
 

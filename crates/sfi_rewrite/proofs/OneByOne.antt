@@ -1,7 +1,5 @@
 -- One item after another.
-use Rattle.sfi_rewrite.proofs.Prelude.{◌≡◌, ℕ, ◌+◌, ◌*◌, ◌%◌, ◌<◌, ◌≤◌, List, [], ◌∷◌, ◌++◌, length, take, drop, get_or, replicate, refl, sym, ap, ◌∙◌, subst, arith, Some, append_assoc, inl, inr, length-append, Bool, slice_get, take_more, drop_more, get_or_append_left, get_or_push, All-push, All-nil, cases_lt, slice_get-get_or, Format, code_most, Item, IsBody, Slot, RewriteFault, size_of, c_nop, IsExpansion, is_call, next_bundle, FillsGap, IsNext, IsLabelAt, HasNext, HaveBodies, AreLabels, largest, IsPermitted, AreFaultless, IsTooLarge, HasItemFault, HasFault, UnlessMemory, IsItemFault}
-use Rattle.sfi_policy.specs.declared.format.Format.TheVariants.{Sfi1, Sfi2, Sfiw}
-use Rattle.sfi_rewrite.specs.declared.fault.RewriteFault.TheVariants.{TooLarge, Memory}
+use Rattle.sfi_rewrite.proofs.Prelude.{◌≡◌, ℕ, ◌+◌, ◌*◌, ◌%◌, ◌<◌, ◌≤◌, List, [], ◌∷◌, ◌++◌, length, take, drop, get_or, replicate, refl, sym, ap, ◌∙◌, subst, arith, Some, append_assoc, inl, inr, length-append, Bool, slice_get, take_more, drop_more, get_or_append_left, get_or_push, All-push, cases_lt, slice_get-get_or, Format, code_most, Item, IsBody, Slot, RewriteFault, size_of, c_nop, IsExpansion, is_call, next_bundle, FillsGap, IsNext, IsLabelAt, HasNext, HaveBodies, AreLabels, largest, IsPermitted, AreFaultless, IsTooLarge, HasItemFault, UnlessMemory, IsItemFault, Sfi1, Sfi2, Sfiw, TooLarge, Memory, All, AreLaid, AreTooLarge, false}
 use Rattle.sfi_rewrite.proofs.Sizes.{size_of-append, size_even, size_nops, IsOne, expansion_one}
 use Rattle.sfi_rewrite.proofs.Laid.{laid_push}
 
@@ -47,11 +45,11 @@ next_is f x code expanded slots call end size nops e s n c z g =
           (subst (λ (m : ℕ). FillsGap end x.labelled call m nops) (z ∙ ap size_of s) g));
     }
 
-pub too_large : (f : Format) (x : Item) (code expanded slots : List Slot) (call : Bool) (end size nops : ℕ)
+pub too_large : (f : Format) (sandbox : ℕ) (x : Item) (code expanded slots : List Slot) (call : Bool) (end size nops : ℕ)
     → IsExpansion f x expanded → slots ≡ expanded → end ≡ size_of code → call ≡ is_call x.body → size ≡ size_of slots
-    → FillsGap end x.labelled call size nops → code_most f ≤ end + 2 * nops → IsTooLarge f (size_of code) x
-too_large f x code expanded slots call end size nops e s n c z g h =
-    record { nops = nops; expanded = expanded; next = next_is f x code expanded slots call end size nops e s n c z g; beyond = omega arith }
+    → FillsGap end x.labelled call size nops → code_most f ≤ end + 2 * nops → IsTooLarge f sandbox (size_of code) x (TooLarge sandbox)
+too_large f sandbox x code expanded slots call end size nops e s n c z g h =
+    record { nops = nops; expanded = expanded; next = next_is f x code expanded slots call end size nops e s n c z g; beyond = omega arith; fault_is = refl }
 
 pub fits_bundle : (code then : List Slot) (labelled call : Bool) (end size nops : ℕ)
     → end ≡ size_of code → FillsGap end labelled call size nops → then ≡ code ++ replicate nops c_nop → size_of then % 16 + size ≤ 16
@@ -99,29 +97,36 @@ stands_at items k x h e = record {
   at = slice_get-get_or items k x h ∙ ap Some (sym e);
 }
 
-pub none_faultless : (f : Format) (items : List Item) (code : List Slot) → code ≡ [] → AreFaultless f (take 0 items) code
-none_faultless f items code e = rw e (record { laid = refl; permitted = All-nil (IsPermitted f); fits = some_room f })
+pub next_permitted : (f : Format) (items : List Item) (k : ℕ) (x : Item) → StandsAt items k x → All (IsPermitted f) (take k items) → IsPermitted f x → All (IsPermitted f) (take (k + 1) items)
+next_permitted f items k x at p is = subst (All (IsPermitted f)) (sym at.more) (All-push (IsPermitted f) (take k items) x p is)
+
+laid_more : (f : Format) (items : List Item) (k : ℕ) (x : Item) (code : List Slot) (nops : ℕ) (expanded : List Slot)
+    → StandsAt items k x → AreLaid f (take k items) code → IsNext f (size_of code) x nops expanded → AreLaid f (take (k + 1) items) (code ++ (replicate nops c_nop ++ expanded))
+laid_more f items k x code nops expanded at l n =
+    subst (λ v. AreLaid f v (code ++ (replicate nops c_nop ++ expanded))) (sym at.more)
+    (laid_push f 0 (take k items) code x nops expanded l (subst (λ (m : ℕ). IsNext f m x nops expanded) (let z : size_of code ≡ 0 + size_of code = omega arith in z) n))
 
 pub one_more : (f : Format) (items : List Item) (k : ℕ) (x : Item) (code now : List Slot)
-    → k < length items → x ≡ get_or items k x → AreFaultless f (take k items) code → IsPermitted f x → HasNext f code x now → AreFaultless f (take (k + 1) items) now
+    → k < length items → x ≡ get_or items k x → AreFaultless false f k items code → IsPermitted f x → HasNext f code x now → AreFaultless false f (k + 1) items now
 one_more f items k x code now h e l p n =
     let at = stands_at items k x h e in
-    rw (at.more, n.slots) (record {
-      laid = laid_push f 0 (take k items) code x n.nops n.expanded l.laid (subst (λ (m : ℕ). IsNext f m x n.nops n.expanded) (let z : size_of code ≡ 0 + size_of code = omega arith in z) n.next);
-      permitted = All-push (IsPermitted f) (take k items) x l.permitted p;
+    rw (n.slots) (record {
+      permitted = next_permitted f items k x at l.permitted p;
+      laid = laid_more f items k x code n.nops n.expanded at l.laid n.next;
       fits = subst (λ v. size_of v ≤ code_most f) n.slots n.fits;
     })
 
-pub label_here : (f : Format) (items : List Item) (k end place : ℕ) (code : List Slot) → AreFaultless f (take k items) code → end ≡ size_of code → place ≡ next_bundle end → IsLabelAt f items k place
+pub label_here : (f : Format) (items : List Item) (k end place : ℕ) (code : List Slot) → AreFaultless false f k items code → end ≡ size_of code → place ≡ next_bundle end → IsLabelAt false f items k place
 label_here f items k end place code l e p = (code, l.laid, p ∙ ap next_bundle e)
 
--- ---- labels: P k place says that a label before item k names that place
+-- ---- labels
 
 -- one more label
-pub label_push : (P : ℕ → ℕ → Type 0) (labels now : List ℕ) (n place : ℕ)
-    → length labels ≡ n → ((k : ℕ) → k < n → P k (get_or labels k 0)) → P n place → now ≡ labels ++ place ∷ []
-    → (k : ℕ) → k < n + 1 → P k (get_or now k 0)
-label_push P labels now n place l each here e k h =
+pub label_push : (w : Bool) (f : Format) (items : List Item) (labels now : List ℕ) (n place : ℕ)
+    → length labels ≡ n → ((k : ℕ) → k < n → IsLabelAt w f items k (get_or labels k 0)) → IsLabelAt w f items n place → now ≡ labels ++ place ∷ []
+    → (k : ℕ) → k < n + 1 → IsLabelAt w f items k (get_or now k 0)
+label_push w f items labels now n place l each here e k h =
+    let P : ℕ → ℕ → Type 0 = λ i p. IsLabelAt w f items i p in
     elim (cases_lt k n) [
       | inl b ↦
           let same : get_or now k 0 ≡ get_or labels k 0 =
@@ -136,29 +141,48 @@ label_push P labels now n place l each here e k h =
 pub label_count : (labels now : List ℕ) (n place : ℕ) → length labels ≡ n → now ≡ labels ++ place ∷ [] → length now ≡ n + 1
 label_count labels now n place l e = ap length e ∙ length-append labels (place ∷ []) ∙ (omega arith)
 
-pub all_labels : (P : ℕ → ℕ → Type 0) (count : ℕ) (labels now : List ℕ) (n place : ℕ)
-    → count ≤ n → n ≤ count → length labels ≡ n → ((k : ℕ) → k < n → P k (get_or labels k 0)) → P n place → now ≡ labels ++ place ∷ [] → AreLabels P count now
-all_labels P count labels now n place low high l each here e =
+pub all_labels : (w : Bool) (f : Format) (items : List Item) (labels now : List ℕ) (n place : ℕ)
+    → length items ≤ n → n ≤ length items → length labels ≡ n → ((k : ℕ) → k < n → IsLabelAt w f items k (get_or labels k 0)) → IsLabelAt w f items n place → now ≡ labels ++ place ∷ []
+    → AreLabels w f items now
+all_labels w f items labels now n place low high l each here e =
     record {
       count = label_count labels now n place l e ∙ (omega arith);
-      each = λ k h. label_push P labels now n place l each here e k (omega arith);
+      each = λ k h. label_push w f items labels now n place l each here e k (omega arith);
     }
 
 -- ---- faults
 
-pub item_fault : (format : Format) (sandbox : ℕ) (items : List Item) (k : ℕ) (x : Item) (code : List Slot) (f : RewriteFault)
-    → k < length items → x ≡ get_or items k x → AreFaultless format (take k items) code → UnlessMemory (HasFault format sandbox (size_of code) x) f → UnlessMemory (IsItemFault format sandbox items) f
-item_fault format sandbox items k x code Memory h e l f = tt
-item_fault format sandbox items k x code _ h e l f = record { index = k; item = x; at = (stands_at items k x h e).at; before = code; faultless = l; has = f }
+pub unless_weaker : (P Q : RewriteFault → Type 0) (f : RewriteFault) → ((g : RewriteFault) → P g → Q g) → UnlessMemory P f → UnlessMemory Q f
+unless_weaker P Q Memory h p = tt
+unless_weaker P Q f h p = h f p
 
--- a fault that the item has wherever it stands
-pub has_fault : (format : Format) (sandbox end : ℕ) (x : Item) (f : RewriteFault) → HasItemFault format x f → HasFault format sandbox end x f
-has_fault format sandbox end x (TooLarge number) h = absurd h
-has_fault format sandbox end x _ h = h
+pub unless_is : (P : RewriteFault → Type 0) (f : RewriteFault) → P f → UnlessMemory P f
+unless_is P Memory h = tt
+unless_is P f h = h
 
-pub found_fault : (format : Format) (sandbox end : ℕ) (x : Item) (f : RewriteFault) → HasItemFault format x f → UnlessMemory (HasFault format sandbox end x) f
-found_fault format sandbox end x Memory h = tt
-found_fault format sandbox end x f h = has_fault format sandbox end x f h
+-- a fault that the item there has wherever it stands
+pub item_fault : (w : Bool) (format : Format) (sandbox : ℕ) (items : List Item) (k : ℕ) (x : Item) (code : List Slot) (f : RewriteFault)
+    → StandsAt items k x → AreFaultless w format k items code → HasItemFault format x f → IsItemFault w format sandbox items f
+item_fault w format sandbox items k x code Memory at l h = absurd h
+item_fault w format sandbox items k x code (TooLarge number) at l h = absurd h
+item_fault w format sandbox items k x code _ at l h = record { index = k; item = x; at = at.at; before = code; faultless = l; has = h }
+
+-- or there is no room for it
+pub room_fault : (w : Bool) (format : Format) (sandbox : ℕ) (items : List Item) (k : ℕ) (x : Item) (code : List Slot)
+    → StandsAt items k x → AreFaultless w format k items code → IsPermitted format x → AreTooLarge w format (k + 1) items → IsItemFault w format sandbox items (TooLarge sandbox)
+room_fault w format sandbox items k x code at l p large = record { index = k; item = x; at = at.at; before = code; faultless = l; has = (p, large, refl) }
+
+pub place_fault : (format : Format) (sandbox : ℕ) (items : List Item) (k : ℕ) (x : Item) (code : List Slot) (f : RewriteFault)
+    → StandsAt items k x → AreFaultless false format k items code → IsPermitted format x → IsTooLarge format sandbox (size_of code) x f → IsItemFault false format sandbox items f
+place_fault format sandbox items k x code f at l p t =
+    let more = replicate t.nops c_nop ++ t.expanded in
+    let size = size_of-append code more in
+    let parts = size_of-append (replicate t.nops c_nop) t.expanded in
+    let nops = size_nops t.nops in
+    let some = (expansion_one format x t.expanded t.next.expansion).some in
+    let beyond = t.beyond in
+    subst (λ g. IsItemFault false format sandbox items g) (sym t.fault_is)
+    (room_fault false format sandbox items k x code at l p (code ++ more, laid_more format items k x code t.nops t.expanded at l.laid t.next, omega arith))
 
 pub body_at : (items : List Item) (k : ℕ) (x : Item) → k < length items → x ≡ get_or items k x → HaveBodies items → (count : ℕ) × IsBody count x.body
 body_at items k x h e b = subst (λ (y : Item). (count : ℕ) × IsBody count y.body) (sym e) (b k x h)

@@ -1,13 +1,8 @@
 -- A sandbox has one placement.
-use Rattle.sfi_rewrite.proofs.Prelude.{◌≡◌, ℕ, ◌<◌, ◌≤◌, List, [], ◌∷◌, ◌++◌, take, replicate, refl, sym, ap, ◌∙◌, subst, arith, append-nil, drop, AllZip, Format, Item, Named, Code, Sandbox, named, Slot, PlacedName, size_of, slots_of, c_nop, next_bundle, Placement, IsPlacedName, HasEndLabel, FillsEnd, AreBundles, IsPlacement, IsRewritten}
-use Rattle.rv_source.specs.declared.item.SourceGate.{SourceGate}
+use Rattle.sfi_rewrite.proofs.Prelude.{◌≡◌, ℕ, ◌<◌, ◌≤◌, List, [], ◌∷◌, ◌++◌, take, replicate, refl, sym, ap, ◌∙◌, subst, arith, append-nil, drop, AllZip, Format, Item, Named, Code, Sandbox, named, Slot, PlacedName, size_of, slots_of, c_nop, Placement, IsPlacedName, HasEndLabel, FillsEnd, AreBundles, IsPlacement, IsRewritten, SourceGate, FillsEndIn, Bool, true, false, IsLabelAt, label_place, has_words}
 use Rattle.sfi_rewrite.specs.declared.placed.PlacedName.TheVariants as placed
 use Rattle.sfi_rewrite.proofs.Sizes.{size_of-append, size_at_least, begins_with}
-use Rattle.sfi_policy.specs.declared.format.Format.TheVariants.{Sfi1, Sfi2, Sfiw}
-use Rattle.sfi_rewrite.specs.Placement.{AreLaidIn, IsLabelIn, FillsEndIn}
-use Rattle.sfi_rewrite.specs.Places as places
-use Rattle.sfi_rewrite.proofs.Laid.{laid_one_way}
-use Rattle.sfi_rewrite.proofs.WordLaid.{words_one_way}
+use Rattle.sfi_rewrite.proofs.WordLaid.{laid_in_one_way}
 
 -- ---- bundles
 
@@ -82,24 +77,11 @@ bundles_one_way (b ∷ bs) (c ∷ cs) h g e =
 
 -- ---- names
 
--- what is laid, and what a label names, in bundles and in words
-bundle_label_one_way : (f : Format) (items : List Item) (k a b : ℕ) → places.IsLabelAt f items k a → places.IsLabelAt f items k b → a ≡ b
-bundle_label_one_way f items k a b x y =
-    let same = laid_one_way f 0 (take k items) x.0 y.0 x.1 y.1 in
-    x.2 ∙ ap (λ v. next_bundle (size_of v)) same ∙ sym y.2
-
-label_one_way : (f : Format) (items : List Item) (k a b : ℕ) → IsLabelIn f items k a → IsLabelIn f items k b → a ≡ b
-label_one_way Sfi1 items k a b x y = bundle_label_one_way Sfi1 items k a b x y
-label_one_way Sfi2 items k a b x y = bundle_label_one_way Sfi2 items k a b x y
-label_one_way Sfiw items k a b x y = x.2 ∙ ap size_of (words_one_way (drop k items) (take k items) x.0 y.0 x.1 y.1) ∙ sym y.2
-
-pub laid_in_one_way : (f : Format) (items : List Item) (a b : List Slot) → AreLaidIn f items a → AreLaidIn f items b → a ≡ b
-laid_in_one_way Sfi1 items a b x y = laid_one_way Sfi1 0 items a b x y
-laid_in_one_way Sfi2 items a b x y = laid_one_way Sfi2 0 items a b x y
-laid_in_one_way Sfiw items a b x y = words_one_way [] items a b x y
+label_one_way : (w : Bool) (f : Format) (items : List Item) (k a b : ℕ) → IsLabelAt w f items k a → IsLabelAt w f items k b → a ≡ b
+label_one_way w f items k a b x y = x.2 ∙ ap (λ v. label_place w (size_of v)) (laid_in_one_way w f (take k items) (drop k items) x.0 y.0 x.1 y.1) ∙ sym y.2
 
 name_one_way : (f : Format) (items : List Item) (n : Named) (a b : PlacedName) → IsPlacedName f items n a → IsPlacedName f items n b → a ≡ b
-name_one_way f items (Code k) a b x y = x.2 ∙ ap placed.Code (label_one_way f items k x.0 y.0 x.1 y.1) ∙ sym y.2
+name_one_way f items (Code k) a b x y = x.2 ∙ ap placed.Code (label_one_way (has_words f) f items k x.0 y.0 x.1 y.1) ∙ sym y.2
 name_one_way f items _ a b x y = x ∙ sym y
 
 names_one_way : (f : Format) (items : List Item) (names : List Named) (a b : List PlacedName) → AllZip (IsPlacedName f items) names a → AllZip (IsPlacedName f items) names b → a ≡ b
@@ -119,10 +101,9 @@ end_one_way end labelled m n a b =
     let down = b.fewest m a.enough in
     omega arith
 
-end_in_one_way : (f : Format) (end : ℕ) (labelled : Type 0) (m n : ℕ) → FillsEndIn f end labelled m → FillsEndIn f end labelled n → m ≡ n
-end_in_one_way Sfi1 end labelled m n a b = end_one_way end labelled m n a b
-end_in_one_way Sfi2 end labelled m n a b = end_one_way end labelled m n a b
-end_in_one_way Sfiw end labelled m n a b = a ∙ sym b
+end_in_one_way : (w : Bool) (end : ℕ) (labelled : Type 0) (m n : ℕ) → FillsEndIn w end labelled m → FillsEndIn w end labelled n → m ≡ n
+end_in_one_way false end labelled m n a b = end_one_way end labelled m n a b
+end_in_one_way true end labelled m n a b = a ∙ sym b
 
 same_placement : (p q : Placement) → p.format ≡ q.format → p.data_size ≡ q.data_size → p.gates ≡ q.gates → p.names ≡ q.names → p.bytes ≡ q.bytes → p.bundles ≡ q.bundles → p ≡ q
 same_placement p q f d g n b c =
@@ -135,8 +116,8 @@ same_placement p q f d g n b c =
 
 pub placement_one_way : (s : Sandbox) (p q : Placement) → IsPlacement s p → IsPlacement s q → p ≡ q
 placement_one_way s p q a b =
-    let slots = laid_in_one_way s.format s.items a.slots b.slots a.laid b.laid in
-    let nops = end_in_one_way s.format (size_of b.slots) (HasEndLabel s) a.nops b.nops (subst (λ (v : List Slot). FillsEndIn s.format (size_of v) (HasEndLabel s) a.nops) slots a.end) b.end in
+    let slots = laid_in_one_way (has_words s.format) s.format s.items [] a.slots b.slots a.laid b.laid in
+    let nops = end_in_one_way (has_words s.format) (size_of b.slots) (HasEndLabel s) a.nops b.nops (subst (λ (v : List Slot). FillsEndIn (has_words s.format) (size_of v) (HasEndLabel s) a.nops) slots a.end) b.end in
     let code = a.code ∙ ap (λ (v : List Slot). v ++ replicate a.nops c_nop) slots ∙ ap (λ (n : ℕ). b.slots ++ replicate n c_nop) nops ∙ sym b.code in
     same_placement p q (a.format ∙ sym b.format) (a.data_size ∙ sym b.data_size) (a.gates ∙ sym b.gates) (names_one_way s.format s.items (named s) p.names q.names a.names b.names)
     (a.bytes ∙ sym b.bytes) (bundles_one_way p.bundles q.bundles a.bundles b.bundles code)

@@ -1,6 +1,5 @@
 -- What names name, by the places of the labels.
-use Rattle.sfi_rewrite.proofs.Prelude.{◌≡◌, ℕ, ◌+◌, ◌<◌, List, [], ◌∷◌, ◌++◌, length, map, take, get_or, refl, sym, ap, ◌∙◌, subst, arith, Some, None, Option, slice_get, slice_index, All, AllZip, length-map, take_more, All-map, slice_get-get_or, Named, Code, Unknown, Sandbox, IsSandbox, IsThere, named, PlacedName, IsPlacedName, HasLabel, placed_of}
-use Rattle.sfi_rewrite.specs.private.Words.{AreLabelsIn}
+use Rattle.sfi_rewrite.proofs.Prelude.{◌≡◌, ℕ, ◌+◌, ◌<◌, List, [], ◌∷◌, ◌++◌, length, map, take, get_or, refl, sym, ap, ◌∙◌, subst, arith, Some, None, Option, slice_get, slice_index, All, AllZip, length-map, take_more, All-map, slice_get-get_or, Named, Code, Unknown, Sandbox, IsSandbox, IsThere, named, PlacedName, IsPlacedName, HasLabel, placed_of, AreLabels, has_words}
 
 pub zip_push : {A B : Type 0} (R : A → B → Type 0) (xs : List A) (ys : List B) (x : A) (y : B) → AllZip R xs ys → R x y → AllZip R (xs ++ x ∷ []) (ys ++ y ∷ [])
 zip_push R [] [] x y z r = (r, tt)
@@ -28,21 +27,21 @@ each_there s h = All-map (IsThere s) (λ e. e.1) s.names (λ k d l. (h.names k d
 pub there_at : (s : Sandbox) (k : ℕ) (n : Named) → IsSandbox s → k < length (named s) → n ≡ get_or (named s) k n → IsThere s n
 there_at s k n h l e = subst (λ (m : Named). IsThere s m) (sym e) (each_there s h k n l)
 
-has_label : (s : Sandbox) (labels : List ℕ) (n : Named) → AreLabelsIn s.format s.items labels → IsThere s n → HasLabel (length labels) n
+has_label : (s : Sandbox) (labels : List ℕ) (n : Named) → AreLabels (has_words s.format) s.format s.items labels → IsThere s n → HasLabel (length labels) n
 has_label s labels (Code k) a t = let c = a.count in omega arith
 has_label s labels _ a t = tt
 
 pub label_at : (s : Sandbox) (labels : List ℕ) (k : ℕ) (n : Named) (found : Option Named)
-    → IsSandbox s → AreLabelsIn s.format s.items labels → k < length (named s) → found ≡ slice_get (named s) k → found ≡ Some n → HasLabel (length labels) n
+    → IsSandbox s → AreLabels (has_words s.format) s.format s.items labels → k < length (named s) → found ≡ slice_get (named s) k → found ≡ Some n → HasLabel (length labels) n
 label_at s labels k n found h a l e f = has_label s labels n a (there_at s k n h l (name_at (named s) k n found l e f))
 
-is_placed_name : (s : Sandbox) (labels : List ℕ) (n : Named) → AreLabelsIn s.format s.items labels → IsThere s n → IsPlacedName s.format s.items n (placed_of labels n)
+is_placed_name : (s : Sandbox) (labels : List ℕ) (n : Named) → AreLabels (has_words s.format) s.format s.items labels → IsThere s n → IsPlacedName s.format s.items n (placed_of labels n)
 is_placed_name s labels (Code k) a t = (slice_index labels k, a.each k t, refl)
 is_placed_name s labels _ a t = refl
 
 -- one more name
 pub names_push : (s : Sandbox) (labels : List ℕ) (k : ℕ) (n : Named) (found : Option Named) (names now : List PlacedName) (name : PlacedName)
-    → IsSandbox s → AreLabelsIn s.format s.items labels → k < length (named s) → found ≡ slice_get (named s) k → found ≡ Some n
+    → IsSandbox s → AreLabels (has_words s.format) s.format s.items labels → k < length (named s) → found ≡ slice_get (named s) k → found ≡ Some n
     → AllZip (IsPlacedName s.format s.items) (take k (named s)) names → name ≡ placed_of labels n → now ≡ names ++ name ∷ []
     → AllZip (IsPlacedName s.format s.items) (take (k + 1) (named s)) now
 names_push s labels k n found names now name h a l e f z g w =

@@ -1,15 +1,10 @@
 -- The placement of a sandbox keeps what the type of what is placed keeps.
-use Rattle.sfi_rewrite.proofs.Prelude.{◌≡◌, ℕ, suc, ◌+◌, ◌-◌, ◌*◌, ◌/◌, ◌%◌, ◌<◌, ◌≤◌, List, [], ◌∷◌, ◌++◌, length, take, drop, get_or, replicate, refl, sym, ap, ◌∙◌, subst, arith, Some, None, Option, inl, inr, slice_get, IsTrue, ◌↔◌, Contains, Bool, false, IsPermitted, append-nil, MatchOption, All, AllZip, cases_lt, take_all, length-map, All-nil, All-cons, All-append, All-head, All-tail, All-contains_itself, slice_get-get_or, Ecall, Format, code_most, Item, Plain, Named, Gate, Code, Data, Unknown, Sandbox, IsSandbox, IsThere, IsBody, named, Slot, PlacedName, size_of, slots_of, c_nop, next_bundle, AreLaid, AreLaidFrom, IsLabelAt, Placement, IsPlacedName, HasEndLabel, FillsEnd, AreBundles, IsPlacedThere, IsPlacedGate, IsPlacedPart, HaveBodies, HasEnd, IsRewritten}
-use Rattle.rv_source.specs.declared.item.SourceGate.{SourceGate}
-use Rattle.sfi_policy.specs.Formats.{unit}
-use Rattle.sfi_policy.specs.declared.format.Format.TheVariants.{Sfi1, Sfi2, Sfiw}
+use Rattle.sfi_rewrite.proofs.Prelude.{◌≡◌, ℕ, suc, ◌+◌, ◌-◌, ◌*◌, ◌/◌, ◌%◌, ◌<◌, ◌≤◌, List, [], ◌∷◌, ◌++◌, length, take, drop, get_or, replicate, refl, sym, ap, ◌∙◌, subst, arith, Some, None, Option, inl, inr, slice_get, IsTrue, ◌↔◌, Contains, Bool, false, IsPermitted, append-nil, MatchOption, All, AllZip, cases_lt, take_all, length-map, All-nil, All-cons, All-append, All-head, All-tail, All-contains_itself, slice_get-get_or, Ecall, Format, code_most, Item, Plain, Named, Gate, Code, Data, Unknown, Sandbox, IsSandbox, IsThere, IsBody, named, Slot, PlacedName, size_of, slots_of, c_nop, next_bundle, AreLaid, AreLaidFrom, IsLabelAt, Placement, IsPlacedName, HasEndLabel, FillsEnd, AreBundles, IsPlacedThere, IsPlacedGate, IsPlacedPart, HaveBodies, HasEnd, IsRewritten, SourceGate, Sfi1, Sfi2, Sfiw, AreLaidIn, FillsEndIn, drop-cons, AreFaultless, true}
+use Rattle.sfi_policy.specs.Formats.{unit, has_words}
 use Rattle.sfi_rewrite.specs.Placed.{AreWholeIn}
-use Rattle.sfi_rewrite.specs.Placement.{AreLaidIn, IsLabelIn, FillsEndIn}
-use Rattle.sfi_rewrite.specs.private.Words.{AreFaultlessIn}
 use Rattle.sfi_rewrite.specs.words.Laying as words
-use Rattle.sfi_rewrite.proofs.WordLaid.{first_fits, all_first, laid_aligned, all_fit, faultless_all, laid_of}
+use Rattle.sfi_rewrite.proofs.WordLaid.{first_fits, all_first, laid_aligned, all_fit, laid_of}
 use Rattle.sfi_rewrite.proofs.WordKnown.{words_known}
-use Rattle.std.proofs.Math.Seq.{drop-cons}
 use Rattle.std.proofs.lemmas.Slice.Zip.{AllZip-left, AllZip-long}
 use Rattle.std.specs.Option.{IsSomeAnd}
 use Rattle.sfi_rewrite.proofs.Sizes.{size_of-append, size_nops, size_even}
@@ -33,8 +28,8 @@ have_bodies s items e h = rw e (λ k d l. (length s.names, bodies_in s h k d l))
 other_item : Item
 other_item = record { line = 0; labelled = false; rvc = false; body = Plain Ecall }
 
-record Within (place size : ℕ) : Type 0 where
-  aligned : place % 16 ≡ 0
+record IsWithin (unit_size place size : ℕ) : Type 0 where
+  aligned : place % unit_size ≡ 0
   below : place ≤ size
 
 end_size : (slots code : List Slot) (nops : ℕ) → code ≡ slots ++ replicate nops c_nop → size_of code ≡ size_of slots + 2 * nops
@@ -45,7 +40,7 @@ end_size slots code nops e =
 
 -- a label before an item stands no later than its expansion
 label_before : (f : Format) (items : List Item) (slots before : List Slot) (k place : ℕ)
-    → AreLaid f items slots → k < length items → IsTrue (get_or items k other_item).labelled → AreLaid f (take k items) before → place ≡ next_bundle (size_of before) → Within place (size_of slots)
+    → AreLaid f items slots → k < length items → IsTrue (get_or items k other_item).labelled → AreLaid f (take k items) before → place ≡ next_bundle (size_of before) → IsWithin 16 place (size_of slots)
 label_before f items slots before k place l h labelled b p =
     let s = laid_split f 0 items k slots l in
     let same : s.front ≡ before = laid_one_way f 0 (take k items) s.front before s.before b in
@@ -60,7 +55,7 @@ label_before f items slots before k place l h labelled b p =
 -- a label at the end of the code stands no later than the fill
 label_last : (f : Format) (s : Sandbox) (slots before : List Slot) (nops k place : ℕ)
     → AreLaid f s.items slots → length s.items ≤ k → k ≤ length s.items → Contains (named s) (Code k) → FillsEnd (size_of slots) (HasEndLabel s) nops
-    → AreLaid f (take k s.items) before → place ≡ next_bundle (size_of before) → Within place (size_of slots + 2 * nops)
+    → AreLaid f (take k s.items) before → place ≡ next_bundle (size_of before) → IsWithin 16 place (size_of slots + 2 * nops)
 label_last f s slots before nops k place l low high c end b p =
     let at : k ≡ length s.items = omega arith in
     let has : HasEndLabel s = subst (λ (m : ℕ). Contains (named s) (Code m)) at c in
@@ -71,8 +66,8 @@ label_last f s slots before nops k place l low high c end b p =
     record { aligned = omega arith; below = omega arith }
 
 label_within : (f : Format) (s : Sandbox) (slots : List Slot) (nops k place : ℕ)
-    → IsSandbox s → AreLaid f s.items slots → FillsEnd (size_of slots) (HasEndLabel s) nops → k ≤ length s.items → Contains (named s) (Code k) → IsLabelAt f s.items k place
-    → Within place (size_of slots + 2 * nops)
+    → IsSandbox s → AreLaid f s.items slots → FillsEnd (size_of slots) (HasEndLabel s) nops → k ≤ length s.items → Contains (named s) (Code k) → IsLabelAt false f s.items k place
+    → IsWithin 16 place (size_of slots + 2 * nops)
 label_within f s slots nops k place h l end high c at =
     elim (cases_lt k (length s.items)) [
       | inl low ↦
@@ -84,19 +79,14 @@ label_within f s slots nops k place h l end high c at =
       | inr low ↦ label_last f s slots at.0 nops k place l low high c end at.1 at.2
     ]
 
--- in bundles and in words
-record IsWithin (f : Format) (place size : ℕ) : Type 0 where
-  aligned : place % unit f ≡ 0
-  below : place ≤ size
-
 label_in_within : (f : Format) (s : Sandbox) (slots : List Slot) (nops k place : ℕ)
-    → IsSandbox s → AreLaidIn f s.items slots → FillsEndIn f (size_of slots) (HasEndLabel s) nops → k ≤ length s.items → Contains (named s) (Code k) → IsLabelIn f s.items k place
-    → IsWithin f place (size_of slots + 2 * nops)
-label_in_within Sfi1 s slots nops k place h l end high c at = let w = label_within Sfi1 s slots nops k place h l end high c at in record { aligned = w.aligned; below = w.below }
-label_in_within Sfi2 s slots nops k place h l end high c at = let w = label_within Sfi2 s slots nops k place h l end high c at in record { aligned = w.aligned; below = w.below }
+    → IsSandbox s → AreLaidIn (has_words f) f s.items [] slots → FillsEndIn (has_words f) (size_of slots) (HasEndLabel s) nops → k ≤ length s.items → Contains (named s) (Code k) → IsLabelAt (has_words f) f s.items k place
+    → IsWithin (unit f) place (size_of slots + 2 * nops)
+label_in_within Sfi1 s slots nops k place h l end high c at = label_within Sfi1 s slots nops k place h l end high c at
+label_in_within Sfi2 s slots nops k place h l end high c at = label_within Sfi2 s slots nops k place h l end high c at
 label_in_within Sfiw s slots nops k place h l end high c at =
     let aligned = laid_aligned (drop k s.items) (take k s.items) at.0 at.1 in
-    let few = first_fits s.items k (length s.items) at.0 slots high at.1 (all_first s.items slots l) in
+    let few = first_fits true Sfiw s.items k (length s.items) at.0 slots high at.1 (all_first true Sfiw s.items slots l) in
     let is = at.2 in
     record { aligned = omega arith; below = omega arith }
 
@@ -107,7 +97,7 @@ record IsNameOf (s : Sandbox) (n : Named) : Type 0 where
   contained : Contains (named s) n
 
 name_there : (s : Sandbox) (p : Placement) (slots : List Slot) (nops : ℕ) (n : Named) (m : PlacedName)
-    → IsSandbox s → AreLaidIn s.format s.items slots → FillsEndIn s.format (size_of slots) (HasEndLabel s) nops → slots_of p.bundles ≡ slots ++ replicate nops c_nop
+    → IsSandbox s → AreLaidIn (has_words s.format) s.format s.items [] slots → FillsEndIn (has_words s.format) (size_of slots) (HasEndLabel s) nops → slots_of p.bundles ≡ slots ++ replicate nops c_nop
     → p.format ≡ s.format → p.gates ≡ s.gates → p.bytes ≡ s.bytes → IsNameOf s n → IsPlacedName s.format s.items n m → IsPlacedThere p m
 name_there s p slots nops (Gate k) m h l end e f g b n is = rw is (rw g (n.there))
 name_there s p slots nops (Code k) m h l end e f g b n is =
@@ -155,18 +145,16 @@ end_fits format slots labelled nops f h =
     let few = f.fewest n (λ _. omega arith) in
     omega arith
 
-end_in_fits : (format : Format) (slots : List Slot) (labelled : Type 0) (nops : ℕ) → FillsEndIn format (size_of slots) labelled nops → size_of slots ≤ code_most format → size_of slots + 2 * nops ≤ code_most format
-end_in_fits Sfi1 slots labelled nops f h = end_fits Sfi1 slots labelled nops f h
-end_in_fits Sfi2 slots labelled nops f h = end_fits Sfi2 slots labelled nops f h
-end_in_fits Sfiw slots labelled nops f h = let z : nops ≡ 0 = f in omega arith
+end_in_fits : (w : Bool) (format : Format) (slots : List Slot) (labelled : Type 0) (nops : ℕ) → FillsEndIn w (size_of slots) labelled nops → size_of slots ≤ code_most format → size_of slots + 2 * nops ≤ code_most format
+end_in_fits false format slots labelled nops f h = end_fits format slots labelled nops f h
+end_in_fits true format slots labelled nops f h = let z : nops ≡ 0 = f in omega arith
 
-known_in : (format : Format) (count : ℕ) (items : List Item) (slots : List Slot) → AreLaidIn format items slots → All (λ x. IsBody count x.body) items → All (IsKnown count) slots
-known_in Sfi1 count items slots l b = laid_known Sfi1 count 0 items slots l b
-known_in Sfi2 count items slots l b = laid_known Sfi2 count 0 items slots l b
-known_in Sfiw count items slots l b = words_known count items [] slots l b
+known_in : (w : Bool) (format : Format) (count : ℕ) (items : List Item) (slots : List Slot) → AreLaidIn w format items [] slots → All (λ x. IsBody count x.body) items → All (IsKnown count) slots
+known_in false format count items slots l b = laid_known format count 0 items slots l b
+known_in true format count items slots l b = words_known count items [] slots l b
 
 whole_in : (format : Format) (count : ℕ) (items : List Item) (slots : List Slot) (labelled : Type 0) (nops : ℕ) (bundles : List (List Slot))
-    → AreLaidIn format items slots → All (IsPermitted format) items → All (λ x. IsBody count x.body) items → FillsEndIn format (size_of slots) labelled nops
+    → AreLaidIn (has_words format) format items [] slots → All (IsPermitted format) items → All (λ x. IsBody count x.body) items → FillsEndIn (has_words format) (size_of slots) labelled nops
     → slots_of bundles ≡ slots ++ replicate nops c_nop → AreBundles bundles → AreWholeIn format count bundles
 whole_in Sfi1 count items slots labelled nops bundles l p b end code are = laid_whole Sfi1 count items slots nops bundles l p b code are
 whole_in Sfi2 count items slots labelled nops bundles l p b end code are = laid_whole Sfi2 count items slots nops bundles l p b code are
@@ -177,15 +165,15 @@ whole_in Sfiw count items slots labelled nops bundles l p b end code are =
 pub placed_part : (s : Sandbox) (p : Placement) → IsSandbox s → IsRewritten s p → IsPlacedPart p
 placed_part s p h r =
     let is = r.placement in
-    let all = all_fit s.format s.items is.slots is.laid r.faultless in
+    let all = all_fit (has_words s.format) s.format s.items is.slots is.laid r.faultless in
     let fits = all.fits in
     let size = end_size is.slots (slots_of p.bundles) is.nops is.code in
-    let end = end_in_fits s.format is.slots (HasEndLabel s) is.nops is.end fits in
+    let end = end_in_fits (has_words s.format) s.format is.slots (HasEndLabel s) is.nops is.end fits in
     let count = length p.names in
     let counted : length s.names ≡ count = sym (AllZip-long (IsPlacedName s.format s.items) (named s) p.names is.names ∙ length-map s.names (λ e. e.1)) in
     let bodies : All (λ x. IsBody count x.body) s.items = subst (λ (n : ℕ). All (λ x. IsBody n x.body) s.items) counted (bodies_in s h) in
     let known : All (IsKnown count) (slots_of p.bundles) =
-    rw (is.code) (All-append (IsKnown count) is.slots (replicate is.nops c_nop) (known_in s.format count s.items is.slots is.laid bodies) (nops_known count is.nops)) in
+    rw (is.code) (All-append (IsKnown count) is.slots (replicate is.nops c_nop) (known_in (has_words s.format) s.format count s.items is.slots is.laid bodies) (nops_known count is.nops)) in
     record {
       data_size = rw (is.data_size) h.data_size;
       gate_count = rw (is.gates) h.gate_count;
@@ -209,18 +197,17 @@ placed_parts source placed right z = zip_all IsRewritten IsSandbox IsPlacedPart 
 
 -- ---- from the fields of what was placed
 
-end_in : (f : Format) (end : ℕ) (labelled has : Type 0) (nops : ℕ) → labelled ↔ has → FillsEndIn f end labelled nops → FillsEndIn f end has nops
-end_in Sfi1 end labelled has nops both f = record { enough = λ h. f.enough (both.1 h); fewest = λ n g. f.fewest n (λ t. g (both.0 t)) }
-end_in Sfi2 end labelled has nops both f = record { enough = λ h. f.enough (both.1 h); fewest = λ n g. f.fewest n (λ t. g (both.0 t)) }
-end_in Sfiw end labelled has nops both f = f
+end_in : (w : Bool) (end : ℕ) (labelled has : Type 0) (nops : ℕ) → labelled ↔ has → FillsEndIn w end labelled nops → FillsEndIn w end has nops
+end_in false end labelled has nops both f = record { enough = λ h. f.enough (both.1 h); fewest = λ n g. f.fewest n (λ t. g (both.0 t)) }
+end_in true end labelled has nops both f = f
 
 pub end_of : (s : Sandbox) (f : Format) (labelled : Bool) (slots all : List Slot) → IsTrue labelled ↔ HasEndLabel s → HasEnd f slots (IsTrue labelled) all → HasEnd f slots (HasEndLabel s) all
-end_of s f labelled slots all both end = record { nops = end.nops; end = end_in f (size_of slots) (IsTrue labelled) (HasEndLabel s) end.nops both end.end; slots = end.slots }
+end_of s f labelled slots all both end = record { nops = end.nops; end = end_in (has_words f) (size_of slots) (IsTrue labelled) (HasEndLabel s) end.nops both end.end; slots = end.slots }
 
 -- what the program made of the sandbox
 pub record IsMade (s : Sandbox) (p : Placement) : Type 0 where
   pub slots : List Slot
-  pub faultless : AreFaultlessIn s.format s.items slots
+  pub faultless : AreFaultless (has_words s.format) s.format (length s.items) s.items slots
   pub all : List Slot
   pub end : HasEnd s.format slots (HasEndLabel s) all
   pub code : slots_of p.bundles ≡ all
@@ -233,7 +220,7 @@ pub record IsMade (s : Sandbox) (p : Placement) : Type 0 where
 
 pub rewritten : (s : Sandbox) (p : Placement) → IsMade s p → IsRewritten s p
 rewritten s p m = record {
-  faultless = faultless_all s.format s.items m.slots m.faultless;
+  faultless = (m.slots, m.faultless);
   placement = record {
     format = m.format;
     data_size = m.data_size;
@@ -241,7 +228,7 @@ rewritten s p m = record {
     bytes = m.bytes;
     names = m.names;
     slots = m.slots;
-    laid = laid_of s.format s.items m.slots m.faultless;
+    laid = laid_of (has_words s.format) s.format s.items m.slots m.faultless;
     nops = m.end.nops;
     end = m.end.end;
     code = m.code ∙ m.end.slots;

@@ -1,22 +1,16 @@
 -- States in which the expansions of a load, of an indirect jump and of writes of the stack pointer stand.
-use Rattle.sfi_rewrite.proofs.Prelude.{◌≡◌, ℕ, zero, suc, ◌+◌, ◌-◌, ◌%◌, ◌^◌, ◌<◌, ◌≤◌, List, [], ◌∷◌, ◌++◌, length, take, drop, replicate, true, false, Option, Some, None, refl, sym, ap, subst, ◌∙◌, ⊎_elim, arith, get_or-drop, slice_index, nat_lt, Contains, pos, flat_map, list_all, and_parts, ltb-true, cases_lt, And, Or, Instr, Op, Load, Jalr, Bytes, IsMemory, byte_at, bytes_at, addresses, address_after, with_bytes, number_of, Hart, IsHart, Stands, effect, after_load, Wide, State, AreRegions, IsAskedOf, TransparencyCanBeMet}
+use Rattle.sfi_rewrite.proofs.Prelude.{◌≡◌, ℕ, zero, suc, ◌+◌, ◌-◌, ◌%◌, ◌^◌, ◌<◌, ◌≤◌, List, [], ◌∷◌, ◌++◌, length, take, drop, replicate, true, false, Option, Some, None, refl, sym, ap, subst, ◌∙◌, ⊎_elim, arith, get_or-drop, slice_index, nat_lt, Contains, pos, flat_map, list_all, and_parts, ltb-true, cases_lt, And, Or, Instr, Op, Load, Jalr, Bytes, IsMemory, byte_at, bytes_at, addresses, address_after, with_bytes, number_of, Hart, IsHart, Stands, effect, after_load, Wide, State, AreRegions, IsAskedOf, TransparencyCanBeMet, Next, Trap, spelling, Lw, Span, Sfi2, ints, get_or-take, Slot}
+use Rattle.rv_word.specs.Spelling.{InRange}
 use Rattle.rv_comp.specs.Fronts.{Spells}
 use Rattle.rv_mem.specs.Bytes.{in_front}
-use Rattle.rv_step.specs.declared.outcome.Outcome.TheVariants.{Next, Trap}
 use Rattle.rv_step.specs.declared.outcome.Cause.TheVariants as cause
-use Rattle.rv_word.specs.Spelling.{spelling, InRange}
-use Rattle.rv_word.specs.declared.instr.LoadKind.TheVariants.{Lw}
 use Rattle.rv_word.specs.declared.instr.RegOp.{RegOp}
-use Rattle.sfi_image.specs.declared.span.Span.{Span}
-use Rattle.sfi_policy.specs.declared.format.Format.TheVariants.{Sfi2}
 use Rattle.sfi_rewrite.specs.Expansion.{IsPlainExpansion}
-use Rattle.sfi_rewrite.specs.Samples.{MeetsExpansion, MeetsTransparent, MeetsInside, MeetsOutside, MeetsStop, sample_load, sample_jump, sample_push, sample_upper, sample_pop}
-use Rattle.std.proofs.lemmas.Int.{ints}
+use Rattle.sfi_rewrite.specs.Samples.{Meets, MeetsExpansion, MeetsTransparent, MeetsInside, MeetsOutside, MeetsStop, sample_load, sample_jump, sample_push, sample_upper, sample_pop}
 use Rattle.std.specs.FinMap.{empty, get-empty}
 use Rattle.std.specs.Int.{w32, to_le_bytes}
 use Rattle.std.specs.Option.{option_map}
 use Rattle.std.specs.Ordering.{nat_cmp}
-use Rattle.std.proofs.Common.{get_or-take}
 use Rattle.rv_comp.proofs.Facts.{word_spells}
 use Rattle.rv_mem.proofs.Facts.{addresses_are_these, others_stay, read_is_held, written_is_there}
 
@@ -68,55 +62,32 @@ pub op_spelled : (op : RegOp) (rd a b : ℕ) → rd < 32 → a < 32 → b < 32 �
 unfolding InRange
 op_spelled op rd a b d g h = word_spells (Op op rd a b) (d, g, h)
 
-load_x31 : IsSpelled (Load Lw 10 31 (pos 0))
+pub load_spelled : (rd a n : ℕ) → rd < 32 → a < 32 → n < 2048 → IsSpelled (Load Lw rd a (pos n))
 unfolding InRange
-load_x31 = word_spells (Load Lw 10 31 (pos 0)) (omega arith, omega arith, (omega (arith, ints), omega (arith, ints)))
+load_spelled rd a n d h g = word_spells (Load Lw rd a (pos n)) (d, h, (omega (arith, ints), omega (arith, ints)))
 
-jump_x31 : IsSpelled (Jalr 1 31 (pos 0))
+pub jump_spelled : (a : ℕ) → a < 32 → IsSpelled (Jalr 1 a (pos 0))
 unfolding InRange
-jump_x31 = word_spells (Jalr 1 31 (pos 0)) (omega arith, omega arith, (omega (arith, ints), omega (arith, ints)))
+jump_spelled a h = word_spells (Jalr 1 a (pos 0)) (omega arith, h, (omega (arith, ints), omega (arith, ints)))
 
-pub push : IsSpelled sample_push
+pub push_spelled : IsSpelled sample_push
 unfolding InRange
-push = word_spells sample_push (omega arith, omega arith, (omega (arith, ints), omega (arith, ints)))
+push_spelled = word_spells sample_push (omega arith, omega arith, (omega (arith, ints), omega (arith, ints)))
 
-pub upper : IsSpelled sample_upper
+pub upper_spelled : IsSpelled sample_upper
 unfolding InRange
-upper = word_spells sample_upper (omega arith, omega arith)
+upper_spelled = word_spells sample_upper (omega arith, omega arith)
 
-pub pop : IsSpelled sample_pop
-unfolding InRange
-pop = word_spells sample_pop (omega arith, omega arith, (omega (arith, ints), omega (arith, ints)))
+pub pop_spelled : IsSpelled sample_pop
+pop_spelled = load_spelled 2 2 1000 (omega arith) (omega arith) (omega arith)
 
-abbrev load_words : List ℕ
-load_words = words_of (Op And 31 11 27 ∷ Op Or 31 31 26 ∷ Load Lw 10 31 (pos 0) ∷ [])
-
-abbrev jump_words : List ℕ
-jump_words = words_of (Op And 31 12 25 ∷ Op Or 31 31 24 ∷ Jalr 1 31 (pos 0) ∷ [])
-
--- the words of an instruction and the pair that puts the stack pointer back
-abbrev put_back_words : Instr → List ℕ
-put_back_words i = words_of (i ∷ Op And 2 2 27 ∷ Op Or 2 2 26 ∷ [])
-
-load_small : (k : ℕ) → slice_index load_words k < 256
-unfolding spelling
-load_small = each_below 256 load_words (omega arith) refl
-
-jump_small : (k : ℕ) → slice_index jump_words k < 256
-unfolding spelling
-jump_small = each_below 256 jump_words (omega arith) refl
-
-push_small : (k : ℕ) → slice_index (put_back_words sample_push) k < 256
-unfolding spelling
-push_small = each_below 256 (put_back_words sample_push) (omega arith) refl
-
-upper_small : (k : ℕ) → slice_index (put_back_words sample_upper) k < 256
-unfolding spelling
-upper_small = each_below 256 (put_back_words sample_upper) (omega arith) refl
-
-pop_small : (k : ℕ) → slice_index (put_back_words sample_pop) k < 256
-unfolding spelling
-pop_small = each_below 256 (put_back_words sample_pop) (omega arith) refl
+words_small : (is : List Instr) (k : ℕ) → slice_index (words_of is) k < 256
+words_small [] k = omega arith
+words_small (i ∷ is) zero = omega arith
+words_small (i ∷ is) (suc zero) = omega arith
+words_small (i ∷ is) (suc (suc zero)) = omega arith
+words_small (i ∷ is) (suc (suc (suc zero))) = omega arith
+words_small (i ∷ is) (suc (suc (suc (suc k)))) = words_small is k
 
 -- ---- the memory
 
@@ -235,12 +206,12 @@ state_of unit_size words = record { hart = hart_with unit_size 0x01000000; memor
 
 -- three instructions that stand at the code base, for one
 pub asked_of : (unit_size : ℕ) → list_all (λ x. nat_lt x (2 ^ 32)) (hart_with unit_size 0x01000000).registers ≡ true
-    → (i j k l : Instr) → IsSpelled j → IsSpelled k → IsSpelled l → ((n : ℕ) → slice_index (words_of (j ∷ k ∷ l ∷ [])) n < 256)
+    → (i j k l : Instr) → IsSpelled j → IsSpelled k → IsSpelled l
     → IsAskedOf unit_size i (Wide j ∷ Wide k ∷ Wide l ∷ []) code_at data_at (state_of unit_size (words_of (j ∷ k ∷ l ∷ [])))
-asked_of unit_size masks i j k l first second third small =
+asked_of unit_size masks i j k l first second third =
     let words = words_of (j ∷ k ∷ l ∷ []) in record {
       regions = regions;
-      is_state = record { hart = is_hart unit_size masks; memory = is_memory words refl small };
+      is_state = record { hart = is_hart unit_size masks; memory = is_memory words refl (words_small (j ∷ k ∷ l ∷ [])) };
       reserved = record { code_base = refl; code_mask = refl; data_base = refl; data_mask = refl };
       stand = (
         stands words refl unit_size 0 j (omega arith) refl first,
@@ -248,64 +219,54 @@ asked_of unit_size masks i j k l first second third small =
       );
     }
 
+-- slots that are an expansion in that state
+abbrev pub meets : (unit_size : ℕ) (i : Instr) (IsExpanded : List Slot → Type 0) (slots : List Slot) (words : List ℕ) → IsExpanded slots
+    → IsAskedOf unit_size i slots code_at data_at (state_of unit_size words) → Meets unit_size i IsExpanded
+meets unit_size i IsExpanded slots words expansion asked =
+    record { slots = slots; expansion = expansion; code_at = code_at; data_at = data_at; state = state_of unit_size words; asked = asked }
+
 -- ---- the samples
+
+-- the three instructions are the expansion
+abbrev three_meet : (i j k l : Instr) → IsSpelled j → IsSpelled k → IsSpelled l → IsPlainExpansion Sfi2 false i (Wide j ∷ Wide k ∷ Wide l ∷ []) → MeetsExpansion Sfi2 i
+three_meet i j k l first second third expansion =
+    meets 16 i (IsPlainExpansion Sfi2 false i) (Wide j ∷ Wide k ∷ Wide l ∷ []) (words_of (j ∷ k ∷ l ∷ [])) expansion (asked_of 16 refl i j k l first second third)
 
 load_met : MeetsTransparent Sfi2 sample_load
 load_met = (
-  record {
-    slots = Wide (Op And 31 11 27) ∷ Wide (Op Or 31 31 26) ∷ Wide (Load Lw 10 31 (pos 0)) ∷ [];
-    expansion = refl;
-    code_at = code_at;
-    data_at = data_at;
-    state = state_of 16 load_words;
-    asked =
-        asked_of 16 refl sample_load (Op And 31 11 27) (Op Or 31 31 26) (Load Lw 10 31 (pos 0)) (op_spelled And 31 11 27 (omega arith) (omega arith) (omega arith))
-        (op_spelled Or 31 31 26 (omega arith) (omega arith) (omega arith)) load_x31 load_small;
-  },
+  three_meet sample_load (Op And 31 11 27) (Op Or 31 31 26) (Load Lw 10 31 (pos 0)) (op_spelled And 31 11 27 (omega arith) (omega arith) (omega arith))
+      (op_spelled Or 31 31 26 (omega arith) (omega arith) (omega arith)) (load_spelled 10 31 0 (omega arith) (omega arith) (omega arith)) refl,
   refl,
   (omega arith, omega arith),
-  load_done load_words refl 16,
+  load_done (words_of (Op And 31 11 27 ∷ Op Or 31 31 26 ∷ Load Lw 10 31 (pos 0) ∷ [])) refl 16,
 )
 
 jump_met : MeetsTransparent Sfi2 sample_jump
 jump_met = (
-  record {
-    slots = Wide (Op And 31 12 25) ∷ Wide (Op Or 31 31 24) ∷ Wide (Jalr 1 31 (pos 0)) ∷ [];
-    expansion = refl;
-    code_at = code_at;
-    data_at = data_at;
-    state = state_of 16 jump_words;
-    asked =
-        asked_of 16 refl sample_jump (Op And 31 12 25) (Op Or 31 31 24) (Jalr 1 31 (pos 0)) (op_spelled And 31 12 25 (omega arith) (omega arith) (omega arith))
-        (op_spelled Or 31 31 24 (omega arith) (omega arith) (omega arith)) jump_x31 jump_small;
-  },
+  three_meet sample_jump (Op And 31 12 25) (Op Or 31 31 24) (Jalr 1 31 (pos 0)) (op_spelled And 31 12 25 (omega arith) (omega arith) (omega arith))
+      (op_spelled Or 31 31 24 (omega arith) (omega arith) (omega arith)) (jump_spelled 31 (omega arith)) refl,
   refl,
   record { held = (omega arith, omega arith); aligned = refl },
   refl,
 )
 
 -- what writes x2, and the pair
-abbrev written_met : (i : Instr) → IsPlainExpansion Sfi2 false i (Wide i ∷ Wide (Op And 2 2 27) ∷ Wide (Op Or 2 2 26) ∷ []) → IsSpelled i
-    → ((k : ℕ) → slice_index (put_back_words i) k < 256) → MeetsExpansion Sfi2 i
-written_met i expansion spelled small = record {
-  slots = Wide i ∷ Wide (Op And 2 2 27) ∷ Wide (Op Or 2 2 26) ∷ [];
-  expansion = expansion;
-  code_at = code_at;
-  data_at = data_at;
-  state = state_of 16 (put_back_words i);
-  asked =
-      asked_of 16 refl i i (Op And 2 2 27) (Op Or 2 2 26) spelled (op_spelled And 2 2 27 (omega arith) (omega arith) (omega arith))
-      (op_spelled Or 2 2 26 (omega arith) (omega arith) (omega arith)) small;
-}
+abbrev written_met : (i : Instr) → IsPlainExpansion Sfi2 false i (Wide i ∷ Wide (Op And 2 2 27) ∷ Wide (Op Or 2 2 26) ∷ []) → IsSpelled i → MeetsExpansion Sfi2 i
+written_met i expansion spelled =
+    three_meet i i (Op And 2 2 27) (Op Or 2 2 26) spelled (op_spelled And 2 2 27 (omega arith) (omega arith) (omega arith)) (op_spelled Or 2 2 26 (omega arith) (omega arith) (omega arith)) expansion
 
 push_met : MeetsInside Sfi2 sample_push
-push_met = (written_met sample_push refl push push_small, refl, (refl, (omega arith, omega arith)))
+push_met = (written_met sample_push refl push_spelled, refl, (refl, (omega arith, omega arith)))
 
 upper_met : MeetsOutside Sfi2 sample_upper
-upper_met = (written_met sample_upper refl upper upper_small, refl, (refl, λ held. let below = held.1 in omega arith))
+upper_met = (written_met sample_upper refl upper_spelled, refl, (refl, λ held. let below = held.1 in omega arith))
 
 pop_met : MeetsStop Sfi2 sample_pop
-pop_met = (written_met sample_pop refl pop pop_small, refl, λ done. let e = sym (load_stops (put_back_words sample_pop) refl 16) ∙ done in cc)
+pop_met = (
+  written_met sample_pop refl pop_spelled,
+  refl,
+  λ done. let e = sym (load_stops (words_of (sample_pop ∷ Op And 2 2 27 ∷ Op Or 2 2 26 ∷ [])) refl 16) ∙ done in cc,
+)
 
 pub met : TransparencyCanBeMet
 met = (load_met, jump_met, push_met, upper_met, pop_met)

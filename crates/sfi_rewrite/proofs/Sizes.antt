@@ -1,6 +1,5 @@
 -- How many bytes slots take.
-use Rattle.sfi_rewrite.proofs.Prelude.{◌≡◌, ℕ, zero, suc, ◌+◌, ◌*◌, ◌%◌, ◌<◌, ◌≤◌, List, [], ◌∷◌, ◌++◌, length, take, get_or, replicate, refl, sym, ap, ◌∙◌, arith, length-take, ◌^◌, Fits, w64, rules, take_more, Slot, Short, slot_size, size_of, c_nop, Bool, true, false, inl, inr, ℤ, pos, negsuc, MatchBool, Instr, Load, Store, Jalr, Format, is_stack, Body, Plain, To, High, Low, Item, Wide, Upper, Lower, writes_stack, is_on_stack, stack_pair, put_back, jump_slots, IsAlone, IsMasked, IsExpansionOf, IsExpansion}
-use Rattle.sfi_policy.specs.Limits.{bundle_size}
+use Rattle.sfi_rewrite.proofs.Prelude.{◌≡◌, ℕ, zero, suc, ◌+◌, ◌*◌, ◌%◌, ◌<◌, ◌≤◌, List, [], ◌∷◌, ◌++◌, length, take, get_or, replicate, refl, sym, ap, ◌∙◌, arith, length-take, ◌^◌, Fits, w64, rules, take_more, Slot, Short, slot_size, size_of, c_nop, Bool, true, false, inl, inr, ℤ, pos, negsuc, MatchBool, Instr, Load, Store, Jalr, Format, is_stack, Body, Plain, To, High, Low, Item, Wide, Upper, Lower, writes_stack, is_on_stack, stack_pair, put_back, jump_slots, IsAlone, IsMasked, IsExpansionOf, IsExpansion, bundle_size}
 use Rattle.std.proofs.lemmas.List.Sums.{sum_by-append, sum_by-cons}
 
 pub size_of-append : (xs ys : List Slot) → size_of (xs ++ ys) ≡ size_of xs + size_of ys

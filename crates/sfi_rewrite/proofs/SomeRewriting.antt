@@ -1,28 +1,17 @@
 -- A source is rewritten, or has a fault.
-use Rattle.sfi_rewrite.proofs.Prelude.{◌≡◌, ℕ, zero, suc, ◌+◌, ◌-◌, ◌*◌, ◌/◌, ◌%◌, ◌<◌, ◌≤◌, List, [], ◌∷◌, ◌++◌, length, take, get_or, replicate, refl, sym, ap, ◌∙◌, subst, arith, append_assoc, append-nil, inl, inr, ◌⊎◌, Bool, true, false, MatchBool, Contains, All, All-push, All-nil, Some, drop, take_more, ◌&&◌, AllZip, cases_lt, cases_eq, cases_Bool, false≢true, take_all, get_or_default, Contains-append_right, slice_get-get_or, Instr, Load, Store, Jalr, Ecall, Format, code_most, is_stack, Item, Body, Plain, To, High, Low, Named, Gate, Code, Data, Unknown, Sandbox, named, Slot, Wide, Short, Jump, Upper, Lower, RewriteFault, PlacedName, size_of, slots_of, c_nop, writes_stack, is_on_stack, is_stack_write, stack_pair, put_back, data_pair_slots, jump_slots, IsAlone, IsMasked, IsExpansionOf, IsExpansion, is_call, next_bundle, FillsGap, AreLaid, Placement, IsPlacedName, HasEndLabel, FillsEnd, AreBundles, HasNext, IsPermitted, AreFaultless, HasItemFault, HasFault, IsItemFault, IsSourceFault, IsRewritten, AreRewritten, SomeRewriting}
-use Rattle.sfi_policy.specs.Limits.{bundle_size}
-use Rattle.sfi_policy.specs.declared.format.Format.TheVariants.{Sfi1, Sfi2, Sfiw}
-use Rattle.std.specs.Prelude.{not}
+use Rattle.sfi_rewrite.proofs.Prelude.{◌≡◌, ℕ, zero, suc, ◌+◌, ◌-◌, ◌*◌, ◌/◌, ◌%◌, ◌<◌, ◌≤◌, List, [], ◌∷◌, ◌++◌, length, take, get_or, replicate, refl, sym, ap, ◌∙◌, subst, arith, append_assoc, append-nil, inl, inr, ◌⊎◌, Bool, true, false, MatchBool, Contains, All-nil, Some, drop, ◌&&◌, AllZip, cases_lt, cases_eq, cases_Bool, false≢true, take_all, get_or_default, Contains-append_right, Instr, Load, Store, Jalr, Ecall, Format, code_most, is_stack, Item, Body, Plain, To, High, Low, Named, Gate, Code, Data, Unknown, Sandbox, named, Slot, Wide, Short, Jump, Upper, Lower, RewriteFault, PlacedName, size_of, slots_of, c_nop, writes_stack, is_on_stack, is_stack_write, stack_pair, put_back, data_pair_slots, jump_slots, IsAlone, IsMasked, IsExpansionOf, IsExpansion, is_call, next_bundle, FillsGap, Placement, IsPlacedName, HasEndLabel, FillsEnd, AreBundles, IsPermitted, AreFaultless, HasItemFault, IsItemFault, IsSourceFault, IsRewritten, AreRewritten, SomeRewriting, bundle_size, Sfi1, not, AreLaidIn, FillsEndIn, IsConfined, IsAround, base_of, before, after, is_move, moved, mask_after, is_step, Marked, marked, alone, in_words, AreExpanded, AreLaidBefore, item_names_withheld, is_ecall, AreLaidFrom, IsFaultless, label_place, has_words}
 use Rattle.sfi_rewrite.specs.Faults.{is_barred_jump}
-use Rattle.sfi_rewrite.specs.Places as places
-use Rattle.sfi_rewrite.specs.Placement.{AreLaidIn, IsLabelIn, FillsEndIn}
-use Rattle.sfi_rewrite.specs.SourceFaults.{IsFaultIn}
 use Rattle.sfi_rewrite.specs.words.Expansion as words_expansion
-use Rattle.sfi_rewrite.specs.words.Expansion.{IsConfined, IsAround, base_of, before, after, is_move, moved, mask_after, is_step}
-use Rattle.sfi_rewrite.specs.words.Faults as words
-use Rattle.sfi_rewrite.specs.words.Laying.{Marked, marked, alone, in_words, AreExpanded, AreLaidBefore}
 use Rattle.sfi_rewrite.proofs.WordView.{InWords, no_word, two_forms, one_slot, view}
-use Rattle.sfi_rewrite.proofs.WordLaid.{AreFaultlessAll}
-use Rattle.sfi_rewrite.specs.Registers.{item_names_withheld, is_ecall}
 use Rattle.std.proofs.lemmas.Map.Made.{Contains-tail}
 use Rattle.rv_comp.proofs.Facts.{some_first_form}
 use Rattle.sfi_rewrite.specs.declared.fault.RewriteFault.TheVariants as fault
 use Rattle.sfi_rewrite.specs.declared.placed.PlacedName.TheVariants as placed
-use Rattle.sfi_rewrite.proofs.Sizes.{size_even, size_of-append, size_of-cons, expansion_one}
+use Rattle.sfi_rewrite.proofs.Sizes.{size_even, size_of-append, size_of-cons, expansion_one, size_nops}
 use Rattle.sfi_rewrite.proofs.Bundles.{slots_of-push, begun, grown, nop_fits}
-use Rattle.sfi_rewrite.proofs.Laid.{laid_split}
-use Rattle.sfi_rewrite.proofs.OneByOne.{has_fault, too_large, fits_bundle, has_next, none_faultless, one_more}
+use Rattle.sfi_rewrite.proofs.OneByOne.{fits_bundle, item_fault, next_permitted, room_fault, stands_at, some_room}
 use Rattle.sfi_rewrite.proofs.Sources.{faulty, parts_push}
+use Rattle.sfi_rewrite.proofs.WordLaid.{laid_of}
 
 -- ---- the expansion of an item
 
@@ -160,78 +149,35 @@ permitted_or_not f x =
       ]
     ]
 
-has_word_fault : (sandbox : ℕ) (items : List Item) (k : ℕ) (x : Item) (e : RewriteFault) → HasItemFault Sfiw x e → words.HasFault sandbox items k x e
-has_word_fault sandbox items k x (fault.TooLarge number) h = absurd h
-has_word_fault sandbox items k x _ h = h
+-- ---- all items
 
--- the slots with the item's after them
-record Longer (f : Format) (code : List Slot) (x : Item) : Type 0 where
-  now : List Slot
-  next : HasNext f code x now
-  bundled : InBundles now
-
-next_or_large : (f : Format) (sandbox : ℕ) (code : List Slot) (x : Item) → InBundles code → IsPermitted f x
-    → Longer f code x ⊎ ((e : RewriteFault) × HasFault f sandbox (size_of code) x e)
-next_or_large f sandbox code x b p =
+-- in bundles
+some_laid : (f : Format) (end : ℕ) (items : List Item) → end % 2 ≡ 0 → (slots : List Slot) × AreLaidFrom f end items slots
+some_laid f end [] even = ([], refl)
+some_laid f end (x ∷ items) even =
     let made = some_expansion f x in
     let slots = made.0 in
     let one = expansion_one f x slots made.1 in
-    let gap = some_gap (size_of code) x.labelled (is_call x.body) (size_of slots) (size_even code) (size_even slots) one.some one.few in
-    let nops = gap.0 in
-    let then = code ++ replicate nops c_nop in
-    elim (cases_lt (size_of code + 2 * nops) (code_most f)) [
-      | inl within ↦
-          inl (record {
-            now = then ++ slots;
-            next = has_next f x code then (then ++ slots) slots slots (is_call x.body) (size_of code) (size_of slots) nops made.1 refl refl refl refl gap.1 refl refl within;
-            bundled = push then slots (push_nops nops code b) one.some (fits_bundle code then x.labelled (is_call x.body) (size_of code) (size_of slots) nops refl gap.1 refl);
-          })
-      | inr beyond ↦
-          inr (
-            fault.TooLarge sandbox,
-            (p, too_large f x code slots slots (is_call x.body) (size_of code) (size_of slots) nops made.1 refl refl refl refl gap.1 beyond, refl),
-          )
-    ]
+    let size = size_even slots in
+    let gap = some_gap end x.labelled (is_call x.body) (size_of slots) even size one.some one.few in
+    let rest = some_laid f (end + 2 * gap.0 + size_of slots) items (omega arith) in
+    (replicate gap.0 c_nop ++ (slots ++ rest.0), (gap.0, slots, rest.0, record { expansion = made.1; gap = gap.1 }, refl, rest.1))
 
--- ---- all items
+laid_bundled : (f : Format) (items : List Item) (code slots : List Slot) → AreLaidFrom f (size_of code) items slots → InBundles code → InBundles (code ++ slots)
+laid_bundled f [] code slots l b = subst InBundles (sym (ap (λ v. code ++ v) l ∙ append-nil code)) b
+laid_bundled f (x ∷ items) code slots l b =
+    let nops = replicate l.0 c_nop in
+    let then = code ++ nops in
+    let one = expansion_one f x l.1 l.3.expansion in
+    let first = size_of-append code nops in
+    let second = size_of-append then l.1 in
+    let two = size_nops l.0 in
+    let end : size_of code + 2 * l.0 + size_of l.1 ≡ size_of (then ++ l.1) = omega arith in
+    let now = push then l.1 (push_nops l.0 code b) one.some (fits_bundle code then x.labelled (is_call x.body) (size_of code) (size_of l.1) l.0 refl l.3.gap refl) in
+    subst InBundles (append_assoc then l.1 l.2 ∙ append_assoc code nops (l.1 ++ l.2) ∙ ap (λ v. code ++ v) (sym l.4))
+    (laid_bundled f items (then ++ l.1) l.2 (subst (λ n. AreLaidFrom f n items l.2) end l.5) now)
 
--- the items have no fault, and their slots are in bundles
-record Laid (f : Format) (items : List Item) : Type 0 where
-  code : List Slot
-  faultless : AreFaultless f items code
-  bundled : InBundles code
-
-any_item : Item
-any_item = record { line = 0; labelled = false; rvc = false; body = Plain Ecall }
-
-items_on : (f : Format) (sandbox : ℕ) (items : List Item) (d k : ℕ) → k + d ≡ length items → Laid f (take k items)
-    → Laid f items ⊎ ((e : RewriteFault) × IsItemFault f sandbox items e)
-items_on f sandbox items zero k all l = inl (subst (Laid f) (take_all k items (omega arith)) l)
-items_on f sandbox items (suc d) k all l =
-    let lt : k < length items = omega arith in
-    let x = get_or items k any_item in
-    let there = slice_get-get_or items k any_item lt in
-    elim (permitted_or_not f x) [
-      | inr wrong ↦ inr (wrong.0, record { index = k; item = x; at = there; before = l.code; faultless = l.faultless; has = has_fault f sandbox (size_of l.code) x wrong.0 wrong.1 })
-      | inl right ↦ elim (next_or_large f sandbox l.code x l.bundled right) [
-        | inr wrong ↦ inr (wrong.0, record { index = k; item = x; at = there; before = l.code; faultless = l.faultless; has = wrong.1 })
-        | inl longer ↦
-            items_on f sandbox items d (k + 1) (omega arith)
-            (record {
-              code = longer.now;
-              faultless = one_more f items k x l.code longer.now lt (get_or_default items k any_item x lt) l.faultless right longer.next;
-              bundled = longer.bundled;
-            })
-      ]
-    ]
-
-laid_or_fault : (f : Format) (sandbox : ℕ) (items : List Item) → Laid f items ⊎ ((e : RewriteFault) × IsItemFault f sandbox items e)
-laid_or_fault f sandbox items =
-    items_on f sandbox items (length items) 0 (omega arith) (record { code = []; faultless = none_faultless f items [] refl; bundled = record { bundles = []; whole = refl; right = tt } })
-
--- ---- all items in words
-
--- an expansion, before the items after it
+-- in words, before the items after them
 some_confined : (rvc : Bool) (i : Instr) → (slots : List Slot) × IsConfined rvc i slots
 some_confined rvc (Load kind rd a imm) = some_alone rvc (Load kind rd (base_of a) imm)
 some_confined rvc (Store width a rs2 imm) = some_alone rvc (Store width (base_of a) rs2 imm)
@@ -274,86 +220,59 @@ words_bundled _ _ (one_slot l s slots words four w) code b aligned =
     let is : size_of word ≡ 4 = (let z = size_of-cons (alone s) [] in let n : size_of [] ≡ 0 = refl in omega arith) in
     subst InBundles (append_assoc code word words) (words_bundled slots words w (code ++ word) (words_push code word b aligned is) (omega arith))
 
-word_items_on : (sandbox : ℕ) (items : List Item) (d k : ℕ) → k + d ≡ length items → words.AreFaultless k items
-    → words.AreFaultless (length items) items ⊎ ((e : RewriteFault) × words.IsItemFault sandbox items e)
-word_items_on sandbox items zero k all l = inl (subst (λ n. words.AreFaultless n items) (let z : k ≡ length items = omega arith in z) l)
-word_items_on sandbox items (suc d) k all l =
+-- ---- in words or in bundles
+
+some_laid_in : (w : Bool) (f : Format) (items later : List Item) → (slots : List Slot) × AreLaidIn w f items later slots
+some_laid_in false f items later = some_laid f 0 items refl
+some_laid_in true f items later = some_words later items
+
+in_bundles : (w : Bool) (f : Format) (items later : List Item) (slots : List Slot) → AreLaidIn w f items later slots → InBundles slots
+in_bundles false f items later slots l = laid_bundled f items [] slots l (record { bundles = []; whole = refl; right = tt })
+in_bundles true f items later slots l = subst InBundles (sym l.2) (words_bundled l.0 (in_words l.0) (view l.0) [] (record { bundles = []; whole = refl; right = tt }) refl)
+
+none_laid : (w : Bool) (f : Format) (later : List Item) → AreLaidIn w f [] later []
+none_laid false f later = refl
+none_laid true f later = ([], refl, refl)
+
+any_item : Item
+any_item = record { line = 0; labelled = false; rvc = false; body = Plain Ecall }
+
+items_on : (w : Bool) (f : Format) (sandbox : ℕ) (items : List Item) (d k : ℕ) (slots : List Slot) → k + d ≡ length items → AreFaultless w f k items slots
+    → ((all : List Slot) × AreFaultless w f (length items) items all) ⊎ ((e : RewriteFault) × IsItemFault w f sandbox items e)
+items_on w f sandbox items zero k slots all l = inl (slots, subst (λ (n : ℕ). AreFaultless w f n items slots) (let z : k ≡ length items = omega arith in z) l)
+items_on w f sandbox items (suc d) k slots all l =
     let lt : k < length items = omega arith in
     let x = get_or items k any_item in
-    let there = slice_get-get_or items k any_item lt in
-    let more : take (k + 1) items ≡ take k items ++ x ∷ [] = take_more items k any_item lt in
-    let made = some_words (drop (k + 1) items) (take (k + 1) items) in
-    elim (permitted_or_not Sfiw x) [
-      | inr wrong ↦ inr (wrong.0, record { index = k; item = x; at = there; before = l; has = has_word_fault sandbox items k x wrong.0 wrong.1 })
-      | inl right ↦ elim (cases_lt (code_most Sfiw) (size_of made.0)) [
-        | inl over ↦ inr (fault.TooLarge sandbox, record { index = k; item = x; at = there; before = l; has = (right, (made.0, made.1, over), refl) })
-        | inr within ↦
-            word_items_on sandbox items d (k + 1) (omega arith)
-            (record {
-              permitted = subst (All (IsPermitted Sfiw)) (sym more) (All-push (IsPermitted Sfiw) (take k items) x l.permitted right);
-              slots = made.0;
-              laid = made.1;
-              fits = within;
-            })
+    let at = stands_at items k x lt (get_or_default items k any_item x lt) in
+    let made = some_laid_in w f (take (k + 1) items) (drop (k + 1) items) in
+    elim (permitted_or_not f x) [
+      | inr wrong ↦ inr (wrong.0, item_fault w f sandbox items k x slots wrong.0 at l wrong.1)
+      | inl right ↦ elim (cases_lt (code_most f) (size_of made.0)) [
+        | inl over ↦ inr (fault.TooLarge sandbox, room_fault w f sandbox items k x slots at l right (made.0, made.1, over))
+        | inr within ↦ items_on w f sandbox items d (k + 1) made.0 (omega arith) (record { permitted = next_permitted f items k x at l.permitted right; laid = made.1; fits = within })
       ]
     ]
 
--- ---- in either kind of code
-
--- the items have no fault, and their slots are in bundles
-record LaidIn (f : Format) (items : List Item) : Type 0 where
-  code : List Slot
-  laid : AreLaidIn f items code
-  faultless : AreFaultlessAll f items
-  bundled : InBundles code
-
-words_laid : (items : List Item) → words.AreFaultless (length items) items → LaidIn Sfiw items
-words_laid items l =
-    let made = some_words [] items in record {
-      code = made.0;
-      laid = made.1;
-      faultless = l;
-      bundled = subst InBundles (sym made.1.2) (words_bundled made.1.0 (in_words made.1.0) (view made.1.0) [] (record { bundles = []; whole = refl; right = tt }) refl);
-    }
-
-laid_in_or_fault : (f : Format) (sandbox : ℕ) (items : List Item) → LaidIn f items ⊎ ((e : RewriteFault) × IsFaultIn f sandbox items e)
-laid_in_or_fault Sfi1 sandbox items =
-    elim (laid_or_fault Sfi1 sandbox items) [
-      | inl l ↦ inl (record { code = l.code; laid = l.faultless.laid; faultless = (l.code, l.faultless); bundled = l.bundled })
-      | inr wrong ↦ inr wrong
-    ]
-laid_in_or_fault Sfi2 sandbox items =
-    elim (laid_or_fault Sfi2 sandbox items) [
-      | inl l ↦ inl (record { code = l.code; laid = l.faultless.laid; faultless = (l.code, l.faultless); bundled = l.bundled })
-      | inr wrong ↦ inr wrong
-    ]
-laid_in_or_fault Sfiw sandbox items =
-    elim (word_items_on sandbox items (length items) 0 (omega arith) (record { permitted = All-nil (IsPermitted Sfiw); slots = []; laid = ([], refl, refl); fits = omega arith })) [
-      | inl l ↦ inl (words_laid items l)
-      | inr wrong ↦ inr wrong
-    ]
+faultless_or_fault : (w : Bool) (f : Format) (sandbox : ℕ) (items : List Item) → ((all : List Slot) × AreFaultless w f (length items) items all) ⊎ ((e : RewriteFault) × IsItemFault w f sandbox items e)
+faultless_or_fault w f sandbox items =
+    items_on w f sandbox items (length items) 0 [] (omega arith) (record { permitted = All-nil (IsPermitted f); laid = none_laid w f items; fits = some_room f })
 
 -- ---- a sandbox
 
-bundle_label : (f : Format) (items : List Item) (slots : List Slot) (k : ℕ) → AreLaid f items slots → (place : ℕ) × places.IsLabelAt f items k place
-bundle_label f items slots k l = let s = laid_split f 0 items k slots l in (next_bundle (size_of s.front), (s.front, s.before, refl))
+some_name : (f : Format) (items : List Item) (n : Named) → (name : PlacedName) × IsPlacedName f items n name
+some_name f items (Gate k) = (placed.Gate k, refl)
+some_name f items (Code k) =
+    let made = some_laid_in (has_words f) f (take k items) (drop k items) in
+    let place = label_place (has_words f) (size_of made.0) in
+    (placed.Code place, (place, (made.0, made.1, refl), refl))
+some_name f items (Data offset) = (placed.Data offset, refl)
+some_name f items Unknown = (placed.Unknown, refl)
 
-some_label : (f : Format) (items : List Item) (slots : List Slot) (k : ℕ) → AreLaidIn f items slots → (place : ℕ) × IsLabelIn f items k place
-some_label Sfi1 items slots k l = bundle_label Sfi1 items slots k l
-some_label Sfi2 items slots k l = bundle_label Sfi2 items slots k l
-some_label Sfiw items slots k l = let made = some_words (drop k items) (take k items) in (size_of made.0, (made.0, made.1, refl))
-
-some_name : (f : Format) (items : List Item) (slots : List Slot) → AreLaidIn f items slots → (n : Named) → (name : PlacedName) × IsPlacedName f items n name
-some_name f items slots l (Gate k) = (placed.Gate k, refl)
-some_name f items slots l (Code k) = let at = some_label f items slots k l in (placed.Code at.0, (at.0, at.1, refl))
-some_name f items slots l (Data offset) = (placed.Data offset, refl)
-some_name f items slots l Unknown = (placed.Unknown, refl)
-
-some_names : (f : Format) (items : List Item) (slots : List Slot) → AreLaidIn f items slots → (names : List Named) → (found : List PlacedName) × AllZip (IsPlacedName f items) names found
-some_names f items slots l [] = ([], tt)
-some_names f items slots l (n ∷ names) =
-    let one = some_name f items slots l n in
-    let rest = some_names f items slots l names in
+some_names : (f : Format) (items : List Item) (names : List Named) → (found : List PlacedName) × AllZip (IsPlacedName f items) names found
+some_names f items [] = ([], tt)
+some_names f items (n ∷ names) =
+    let one = some_name f items n in
+    let rest = some_names f items names in
     (one.0 ∷ rest.0, (one.1, rest.1))
 
 is_label : (n : Named) (k : ℕ) → (n ≡ Code k) ⊎ (n ≡ Code k → ⊥)
@@ -377,27 +296,27 @@ some_end end labelled even (inl is) =
     ((next_bundle end - end) / 2, record { enough = λ h. omega arith; fewest = λ n enough. let far = enough is in omega arith })
 some_end end labelled even (inr not) = (0, record { enough = λ h. absurd (not h); fewest = λ n enough. omega arith })
 
-some_end_in : (f : Format) (end : ℕ) (labelled : Type 0) → end % 2 ≡ 0 → labelled ⊎ (labelled → ⊥) → (nops : ℕ) × FillsEndIn f end labelled nops
-some_end_in Sfi1 end labelled even is = some_end end labelled even is
-some_end_in Sfi2 end labelled even is = some_end end labelled even is
-some_end_in Sfiw end labelled even is = (0, refl)
+some_end_in : (w : Bool) (end : ℕ) (labelled : Type 0) → end % 2 ≡ 0 → labelled ⊎ (labelled → ⊥) → (nops : ℕ) × FillsEndIn w end labelled nops
+some_end_in false end labelled even is = some_end end labelled even is
+some_end_in true end labelled even is = (0, refl)
 
-part_made : (s : Sandbox) → LaidIn s.format s.items → (p : Placement) × IsRewritten s p
+part_made : (s : Sandbox) → IsFaultless s → (p : Placement) × IsRewritten s p
 part_made s l =
-    let laid = l.laid in
-    let end = some_end_in s.format (size_of l.code) (HasEndLabel s) (size_even l.code) (label_or_none (named s) (length s.items)) in
-    let whole = push_nops end.0 l.code l.bundled in
-    let names = some_names s.format s.items l.code laid (named s) in (
+    let w = has_words s.format in
+    let laid = laid_of w s.format s.items l.0 l.1 in
+    let end = some_end_in w (size_of l.0) (HasEndLabel s) (size_even l.0) (label_or_none (named s) (length s.items)) in
+    let whole = push_nops end.0 l.0 (in_bundles w s.format s.items [] l.0 laid) in
+    let names = some_names s.format s.items (named s) in (
       record { format = s.format; data_size = s.data_size; gates = s.gates; names = names.0; bytes = s.bytes; bundles = whole.bundles },
       record {
-        faultless = l.faultless;
+        faultless = l;
         placement = record {
           format = refl;
           data_size = refl;
           gates = refl;
           bytes = refl;
           names = names.1;
-          slots = l.code;
+          slots = l.0;
           laid = laid;
           nops = end.0;
           end = end.1;
@@ -419,7 +338,7 @@ sandboxes_on source (suc d) k placed all z =
     let lt : k < length source = omega arith in
     let s = get_or source k any_sandbox in
     let same = get_or_default source k any_sandbox s lt in
-    elim (laid_in_or_fault s.format k s.items) [
+    elim (faultless_or_fault (has_words s.format) s.format k s.items) [
       | inr wrong ↦ inr (wrong.0, faulty source k k s placed wrong.0 lt same z refl wrong.1)
       | inl laid ↦
           let made = part_made s laid in

@@ -1,11 +1,9 @@
 -- One sandbox after another.
-use Rattle.sfi_rewrite.proofs.Prelude.{◌≡◌, ℕ, ◌+◌, ◌<◌, List, [], ◌∷◌, ◌++◌, length, take, get_or, refl, sym, ap, ◌∙◌, subst, arith, inl, inr, Some, Err, All, AllZip, take_more, All-cons, All-head, All-tail, slice_get-get_or, Format, Sandbox, IsSource, RewriteFault, Placement, IsPlacedPart, IsPlaced, AreOf, format_of, UnlessMemory, IsSourceFault, IsRewritten, AnswersFault}
-use Rattle.sfi_rewrite.specs.declared.fault.RewriteFault.TheVariants.{Memory}
-use Rattle.sfi_rewrite.specs.SourceFaults.{IsSandboxFault}
-use Rattle.std.proofs.lemmas.Slice.Zip.{AllZip-long}
+use Rattle.sfi_rewrite.proofs.Prelude.{◌≡◌, ℕ, ◌+◌, ◌<◌, List, [], ◌∷◌, ◌++◌, length, take, get_or, refl, sym, ap, ◌∙◌, subst, arith, inl, inr, Some, Err, All, AllZip, take_more, All-cons, All-head, All-tail, slice_get-get_or, Format, Sandbox, IsSource, RewriteFault, Placement, IsPlacedPart, IsPlaced, AreOf, format_of, UnlessMemory, IsSourceFault, IsRewritten, AnswersFault, Memory, IsSandboxFault, AllZip-long}
 use Rattle.rv_source.specs.Source as text
 use Rattle.sfi_rewrite.proofs.OneFault.{each_faultless, source_fault_one_way}
 use Rattle.sfi_rewrite.proofs.PlacedNames.{zip_push}
+use Rattle.sfi_rewrite.proofs.OneByOne.{unless_weaker}
 
 pub faulty : (source : List Sandbox) (k n : ℕ) (s : Sandbox) (placed : List Placement) (f : RewriteFault)
     → k < length source → s ≡ get_or source k s → AllZip IsRewritten (take k source) placed → n ≡ k → IsSandboxFault n s f → IsSourceFault source f
@@ -20,8 +18,7 @@ faulty source k n s placed f h e z m is = record {
 pub source_fault : (source : List Sandbox) (k n : ℕ) (s : Sandbox) (placed : List Placement) (f : RewriteFault)
     → k < length source → s ≡ get_or source k s → AllZip IsRewritten (take k source) placed → n ≡ k
     → UnlessMemory (IsSandboxFault n s) f → UnlessMemory (IsSourceFault source) f
-source_fault source k n s placed Memory h e z m is = tt
-source_fault source k n s placed other h e z m is = faulty source k n s placed other h e z m is
+source_fault source k n s placed f h e z m is = unless_weaker (IsSandboxFault n s) (IsSourceFault source) f (λ g. faulty source k n s placed g h e z m) is
 
 pub parts_push : (source : List Sandbox) (k : ℕ) (s : Sandbox) (placed now : List Placement) (p : Placement)
     → k < length source → s ≡ get_or source k s → AllZip IsRewritten (take k source) placed → IsRewritten s p → now ≡ placed ++ p ∷ [] → AllZip IsRewritten (take (k + 1) source) now

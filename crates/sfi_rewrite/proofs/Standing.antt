@@ -1,7 +1,5 @@
 -- Each instruction of a source stands transparent in what is placed.
-use Rattle.sfi_rewrite.proofs.Prelude.{◌≡◌, ℕ, ◌+◌, ◌<◌, List, [], ◌∷◌, ◌++◌, length, drop, replicate, ap, ◌∙◌, subst, arith, append_assoc, append-nil, All, AllZip, slice_get, Some, slots_of, Format, HasEndLabel, drop_more, All-get_or, get_or_from_slice_get, slice_get_within, Item, Sandbox, Slot, size_of, c_nop, AreLaidFrom, Placement, IsPermitted, IsRewritten, RewrittenIsTransparent, StandTransparent}
-use Rattle.sfi_policy.specs.declared.format.Format.TheVariants.{Sfi1, Sfi2, Sfiw}
-use Rattle.sfi_rewrite.specs.Placement.{AreLaidIn, FillsEndIn}
+use Rattle.sfi_rewrite.proofs.Prelude.{◌≡◌, ℕ, ◌+◌, ◌<◌, List, [], ◌∷◌, ◌++◌, length, drop, replicate, ap, ◌∙◌, subst, arith, append_assoc, append-nil, All, AllZip, slice_get, Some, slots_of, Format, HasEndLabel, drop_more, All-get_or, get_or_from_slice_get, slice_get_within, Item, Sandbox, Slot, size_of, c_nop, AreLaidFrom, Placement, IsPermitted, IsRewritten, RewrittenIsTransparent, StandTransparent, Sfi1, Sfi2, Sfiw, AreLaidIn, FillsEndIn, has_words}
 use Rattle.sfi_rewrite.specs.Transparency.{StandsTransparent}
 use Rattle.sfi_rewrite.specs.Standing.{StandsAs}
 use Rattle.sfi_rewrite.proofs.WordLaid.{all_fit}
@@ -38,7 +36,7 @@ stand_in_bundles f items p slots nops k x laid code permitted at =
       transparent = λ i be. all_transparent f x i after.1 be is after.3.expansion;
     }
 
-stand_in : (f : Format) (items : List Item) (p : Placement) (slots : List Slot) (labelled : Type 0) (nops : ℕ) (k : ℕ) (x : Item) → AreLaidIn f items slots → FillsEndIn f (size_of slots) labelled nops
+stand_in : (f : Format) (items : List Item) (p : Placement) (slots : List Slot) (labelled : Type 0) (nops : ℕ) (k : ℕ) (x : Item) → AreLaidIn (has_words f) f items [] slots → FillsEndIn (has_words f) (size_of slots) labelled nops
     → slots_of p.bundles ≡ slots ++ replicate nops c_nop → All (IsPermitted f) items → slice_get items k ≡ Some x → StandsAs f items p k x
 stand_in Sfi1 items p slots labelled nops k x l end code permitted at = stand_in_bundles Sfi1 items p slots nops k x l code permitted at
 stand_in Sfi2 items p slots labelled nops k x l end code permitted at = stand_in_bundles Sfi2 items p slots nops k x l code permitted at
@@ -48,7 +46,7 @@ stand_in Sfiw items p slots labelled nops k x l end code permitted at =
 pub stand_transparent : RewrittenIsTransparent
 stand_transparent s p r k x at =
     let q = r.placement in
-    stand_in s.format s.items p q.slots (HasEndLabel s) q.nops k x q.laid q.end q.code (all_fit s.format s.items q.slots q.laid r.faultless).permitted at
+    stand_in s.format s.items p q.slots (HasEndLabel s) q.nops k x q.laid q.end q.code (all_fit (has_words s.format) s.format s.items q.slots q.laid r.faultless).permitted at
 
 -- so does each of all sandboxes
 pub all_stand : (source : List Sandbox) (placed : List Placement) → AllZip IsRewritten source placed → AllZip StandTransparent source placed

@@ -1,8 +1,5 @@
 -- Words with more slots after them: how many bytes they take, and what they lead to.
-use Rattle.sfi_rewrite.proofs.Prelude.{◌≡◌, ℕ, ◌+◌, ◌%◌, ◌^◌, ◌<◌, ◌≤◌, Fits, w64, rules, Bool, false, List, [], ◌∷◌, ◌++◌, Option, Some, None, refl, sym, ap, ◌∙◌, arith, IsTrue, true≢false, Slot, Wide, Upper, Lower, Short, Jump, size_of}
-use Rattle.rv_comp.specs.Table.{expansion}
-use Rattle.rv_comp.specs.declared.form.Form16.{Form16}
-use Rattle.sfi_rewrite.specs.words.Laying.{marked}
+use Rattle.sfi_rewrite.proofs.Prelude.{◌≡◌, ℕ, ◌+◌, ◌%◌, ◌^◌, ◌<◌, ◌≤◌, Fits, w64, rules, Bool, false, List, [], ◌∷◌, ◌++◌, Option, Some, None, refl, sym, ap, ◌∙◌, arith, IsTrue, true≢false, Slot, Wide, Short, size_of, expansion, Form16, marked}
 use Rattle.sfi_rewrite.specs.private.Words.{WordsSoFar, bytes_of, waiting_size, more_for, ended, with_slot, with_slots, LeadsTo}
 use Rattle.sfi_rewrite.proofs.Sizes.{size_of-append}
 use Rattle.sfi_rewrite.proofs.WordLaying.{slot_leads}
@@ -18,27 +15,15 @@ two_more words r s e f = one_more (words ++ r ∷ []) s f ∙ ap (λ n. n + 4) (
 pub slot_bytes : (words : List Slot) (waiting : Option Form16) (s : Slot) → bytes_of (with_slot words waiting s) ≡ size_of words + waiting_size waiting + more_for waiting s
 slot_bytes words None (Short g) = omega arith
 slot_bytes words (Some f) (Short g) = let z = size_of-append words (Short f ∷ Short g ∷ []) in omega arith
-slot_bytes words None (Wide i) = let z = one_more words (Wide i) refl in omega arith
-slot_bytes words None (Jump i name line) = let z = one_more words (Jump i name line) refl in omega arith
-slot_bytes words None (Upper rd name line) = let z = one_more words (Upper rd name line) refl in omega arith
-slot_bytes words None (Lower rd name line) = let z = one_more words (Lower rd name line) refl in omega arith
-slot_bytes words (Some f) (Wide i) = let z = two_more words (Wide (expansion f)) (Wide i) refl refl in omega arith
-slot_bytes words (Some f) (Jump i name line) = let z = two_more words (Wide (expansion f)) (Jump i name line) refl refl in omega arith
-slot_bytes words (Some f) (Upper rd name line) = let z = two_more words (Wide (expansion f)) (Upper rd name line) refl refl in omega arith
-slot_bytes words (Some f) (Lower rd name line) = let z = two_more words (Wide (expansion f)) (Lower rd name line) refl refl in omega arith
+slot_bytes words None s = let z = one_more words s refl in omega arith
+slot_bytes words (Some f) s = let z = two_more words (Wide (expansion f)) s refl refl in omega arith
 
 -- words stay whole
 pub slot_aligned : (words : List Slot) (waiting : Option Form16) (s : Slot) → size_of words % 4 ≡ 0 → size_of (with_slot words waiting s).words % 4 ≡ 0
 slot_aligned words None (Short g) a = a
 slot_aligned words (Some f) (Short g) a = let z = size_of-append words (Short f ∷ Short g ∷ []) in omega arith
-slot_aligned words None (Wide i) a = let z = one_more words (Wide i) refl in omega arith
-slot_aligned words None (Jump i name line) a = let z = one_more words (Jump i name line) refl in omega arith
-slot_aligned words None (Upper rd name line) a = let z = one_more words (Upper rd name line) refl in omega arith
-slot_aligned words None (Lower rd name line) a = let z = one_more words (Lower rd name line) refl in omega arith
-slot_aligned words (Some f) (Wide i) a = let z = two_more words (Wide (expansion f)) (Wide i) refl refl in omega arith
-slot_aligned words (Some f) (Jump i name line) a = let z = two_more words (Wide (expansion f)) (Jump i name line) refl refl in omega arith
-slot_aligned words (Some f) (Upper rd name line) a = let z = two_more words (Wide (expansion f)) (Upper rd name line) refl refl in omega arith
-slot_aligned words (Some f) (Lower rd name line) a = let z = two_more words (Wide (expansion f)) (Lower rd name line) refl refl in omega arith
+slot_aligned words None s a = let z = one_more words s refl in omega arith
+slot_aligned words (Some f) s a = let z = two_more words (Wide (expansion f)) s refl refl in omega arith
 
 -- a form alone in its word
 pub ended_bytes : (words : List Slot) (waiting : Option Form16) → size_of (ended words waiting).words ≡ size_of words + waiting_size waiting

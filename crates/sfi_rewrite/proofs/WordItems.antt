@@ -1,17 +1,9 @@
 -- The items of code in words, laid one after another.
-use Rattle.sfi_rewrite.proofs.Prelude.{◌≡◌, ℕ, ◌+◌, ◌<◌, ◌≤◌, Bool, true, false, List, [], ◌∷◌, ◌++◌, length, take, drop, get_or, Some, refl, sym, ap, ◌∙◌, subst, arith, append_assoc, append-nil, true≢false, inl, inr, MatchBool, ◌&&◌, and_parts, take_more, take_all, All, All-push, Instr, Load, Store, Jalr, Body, Plain, To, High, Low, Item, Slot, Wide, Upper, Lower, Short, Jump, IsAlone, IsPermitted, HasItemFault, UnlessMemory, RewriteFault, Op, OpImm, And, Or}
-use Rattle.sfi_policy.specs.Formats.{code_most}
-use Rattle.sfi_policy.specs.declared.format.Format.TheVariants.{Sfiw}
-use Rattle.std.specs.Prelude.{not}
-use Rattle.std.proofs.lemmas.List.{take-append-drop, drop_all}
-use Rattle.std.proofs.lemmas.Result.{IfOk-weaker, IfErr-weaker}
+use Rattle.sfi_rewrite.proofs.Prelude.{◌≡◌, ℕ, ◌+◌, ◌<◌, ◌≤◌, Bool, true, false, List, [], ◌∷◌, ◌++◌, length, take, drop, get_or, Some, refl, sym, ap, ◌∙◌, subst, arith, append_assoc, append-nil, true≢false, inl, inr, MatchBool, ◌&&◌, and_parts, take_more, All, Instr, Load, Store, Jalr, Body, Plain, To, High, Low, Item, Slot, Wide, Upper, Lower, Short, Jump, IsAlone, IsPermitted, UnlessMemory, RewriteFault, Op, OpImm, And, Or, code_most, Sfiw, not, take-append-drop, IfOk-weaker, IfErr-weaker, TooLarge, Memory, AreFaultless, IsItemFault, IsLabelAt, Marked, marked, in_words, AreExpanded, AreLaidBefore}
 use Rattle.std.specs.Prelude.{Result, IfOk, IfErr}
-use Rattle.sfi_rewrite.specs.declared.fault.RewriteFault.TheVariants.{TooLarge, Memory}
 use Rattle.sfi_rewrite.specs.words.Expansion.{IsConfined, IsAround, IsExpansionOf, IsExpansion, before, after, base_of, is_step, is_move, moved, mask_after}
-use Rattle.sfi_rewrite.specs.words.Laying.{Marked, marked, in_words, AreExpanded, AreLaidBefore, IsLabelAt}
-use Rattle.sfi_rewrite.specs.words.Faults as words
-use Rattle.sfi_rewrite.specs.private.Words.{WordsSoFar, bytes_of, waiting_size, more_for, ended, before_label, with_slot, with_slots, with_more, LeadsTo, HaveRoom, AreWith, IsBeyond, HasNoRoom, AreOfFirst, AreLaidWhole}
-use Rattle.sfi_rewrite.proofs.OneByOne.{StandsAt}
+use Rattle.sfi_rewrite.specs.private.Words.{WordsSoFar, bytes_of, waiting_size, more_for, ended, before_label, with_slot, with_slots, with_more, LeadsTo, HaveRoom, AreWith, IsBeyond, HasNoRoom, AreOfFirst}
+use Rattle.sfi_rewrite.proofs.OneByOne.{StandsAt, room_fault}
 use Rattle.sfi_rewrite.proofs.WordLaying.{ended_leads, ended_last}
 use Rattle.sfi_rewrite.proofs.WordFilled.{slot_bytes, slot_aligned, ended_bytes, ended_aligned, ended_none, slots_append, slots_push, slots_more, slots_lead}
 
@@ -141,9 +133,6 @@ expanded_push (y ∷ items) x later slots expanded e is =
       expanded_push items x later e.1 expanded e.4 is,
     )
 
-pub next_permitted : (items : List Item) (k : ℕ) (x : Item) → StandsAt items k x → All (IsPermitted Sfiw) (take k items) → IsPermitted Sfiw x → All (IsPermitted Sfiw) (take (k + 1) items)
-next_permitted items k x at p is = subst (All (IsPermitted Sfiw)) (sym at.more) (All-push (IsPermitted Sfiw) (take k items) x p is)
-
 pub next_first : (items : List Item) (k : ℕ) (x : Item) (later : List Item) (old new : WordsSoFar)
     → StandsAt items k x → later ≡ drop (k + 1) items → AreOfFirst k items old → AreWith x later old new → AreOfFirst (k + 1) items new
 next_first items k x later old new at l first next =
@@ -165,48 +154,29 @@ pub first_laid : (items : List Item) (k : ℕ) (w : WordsSoFar) → AreOfFirst k
 first_laid items k w first =
     (first.expanded, first.are_expanded, sym (ended_last w.words w.waiting) ∙ sym (first.lead []) ∙ ap (λ v. in_words v) (append-nil first.expanded))
 
-pub first_label : (items : List Item) (k place : ℕ) (w : WordsSoFar) → AreOfFirst k items w → place ≡ bytes_of w → IsLabelAt items k place
+pub first_label : (items : List Item) (k place : ℕ) (w : WordsSoFar) → AreOfFirst k items w → place ≡ bytes_of w → IsLabelAt true Sfiw items k place
 first_label items k place w first e = ((ended w.words w.waiting).words, first_laid items k w first, e ∙ sym (ended_bytes w.words w.waiting))
 
--- ---- faults
-
 -- the first k items have no fault
-pub first_faultless : (items : List Item) (k : ℕ) (w : WordsSoFar) → All (IsPermitted Sfiw) (take k items) → AreOfFirst k items w → HaveRoom w → words.AreFaultless k items
+pub first_faultless : (items : List Item) (k : ℕ) (w : WordsSoFar) → All (IsPermitted Sfiw) (take k items) → AreOfFirst k items w → HaveRoom w → AreFaultless true Sfiw k items (ended w.words w.waiting).words
 first_faultless items k w p first room =
     let bytes = ended_bytes w.words w.waiting in
     let fits = room.fits in
-    record { permitted = p; slots = (ended w.words w.waiting).words; laid = first_laid items k w first; fits = omega arith }
+    record { permitted = p; laid = first_laid items k w first; fits = omega arith }
 
-pub item_fault : (sandbox : ℕ) (items : List Item) (k : ℕ) (x : Item) (w : WordsSoFar) (f : RewriteFault)
-    → StandsAt items k x → All (IsPermitted Sfiw) (take k items) → AreOfFirst k items w → HaveRoom w → HasItemFault Sfiw x f → UnlessMemory (words.IsItemFault sandbox items) f
-item_fault sandbox items k x w Memory at p first room h = tt
-item_fault sandbox items k x w (TooLarge number) at p first room h = absurd h
-item_fault sandbox items k x w f at p first room h = record { index = k; item = x; at = at.at; before = first_faultless items k w p first room; has = h }
-
-pub room_fault : (sandbox : ℕ) (items : List Item) (k : ℕ) (x : Item) (later : List Item) (w : WordsSoFar) (f : RewriteFault)
+pub no_room_fault : (sandbox : ℕ) (items : List Item) (k : ℕ) (x : Item) (later : List Item) (w : WordsSoFar) (f : RewriteFault)
     → StandsAt items k x → later ≡ drop (k + 1) items → All (IsPermitted Sfiw) (take k items) → IsPermitted Sfiw x → AreOfFirst k items w → HaveRoom w
-    → UnlessMemory (HasNoRoom sandbox x later w) f → UnlessMemory (words.IsItemFault sandbox items) f
-room_fault sandbox items k x later w Memory at l p permitted first room h = tt
-room_fault sandbox items k x later w f at l p permitted first room h =
+    → HasNoRoom sandbox x later w f → IsItemFault true Sfiw sandbox items f
+no_room_fault sandbox items k x later w f at l p permitted first room h =
     let new = h.new in
     let next = next_first items k x later w new at l first h.are_with in
     let bytes = ended_bytes new.words new.waiting in
     let over = h.is_beyond.beyond in
-    let large : words.AreTooLarge (k + 1) items = ((ended new.words new.waiting).words, first_laid items (k + 1) new next, omega arith) in
-    subst (λ g. UnlessMemory (words.IsItemFault sandbox items) g) (sym h.is_beyond.fault)
-    (record { index = k; item = x; at = at.at; before = first_faultless items k w p first room; has = (permitted, large, refl) })
+    subst (λ g. IsItemFault true Sfiw sandbox items g) (sym h.is_beyond.fault)
+    (room_fault true Sfiw sandbox items k x (ended w.words w.waiting).words at (first_faultless items k w p first room) permitted
+    ((ended new.words new.waiting).words, first_laid items (k + 1) new next, omega arith))
 
--- ---- all
-
-pub all_whole : (items : List Item) (n : ℕ) (w : WordsSoFar) (slots : List Slot) → length items ≤ n → All (IsPermitted Sfiw) (take n items) → AreOfFirst n items w → HaveRoom w
-    → slots ≡ (ended w.words w.waiting).words → AreLaidWhole items slots
-all_whole items n w slots low p first room e =
-    let all = take_all n items low in
-    let laid = first_laid items n w first in
-    let bytes = ended_bytes w.words w.waiting in
-    let fits = room.fits in
-    rw e (record {
-      permitted = subst (All (IsPermitted Sfiw)) all p;
-      laid = subst (λ v. AreLaidBefore items v (ended w.words w.waiting).words) (drop_all n items low) (subst (λ v. AreLaidBefore v (drop n items) (ended w.words w.waiting).words) all laid);
-      fits = omega arith;
-    })
+pub all_faultless : (items : List Item) (n : ℕ) (w : WordsSoFar) (slots : List Slot) → length items ≤ n → n ≤ length items → All (IsPermitted Sfiw) (take n items) → AreOfFirst n items w → HaveRoom w
+    → slots ≡ (ended w.words w.waiting).words → AreFaultless true Sfiw (length items) items slots
+all_faultless items n w slots low high p first room e =
+    rw e (subst (λ (m : ℕ). AreFaultless true Sfiw m items (ended w.words w.waiting).words) (let z : n ≡ length items = omega arith in z) (first_faultless items n w p first room))

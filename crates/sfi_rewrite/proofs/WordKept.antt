@@ -1,18 +1,5 @@
 -- The expansion in words acts as its instruction: what writes a data register keeps what that leaves.
-use Rattle.sfi_rewrite.proofs.Prelude.{◌≡◌, ◌≢◌, ℕ, zero, suc, ◌+◌, ◌%◌, ◌^◌, ◌<◌, ◌==◌, ◌&&◌, List, [], ◌∷◌, ◌++◌, length, Bool, true, false, MatchBool, Option, Some, None, refl, sym, ap, ◌∙◌, subst, arith, length-append, append_assoc, append-nil, eqb-true, true≢false, and_parts, or_parts, ℤ, pos, negsuc, And, Or, LoadKind, Instr, Op, OpImm, Load, Store, Jal, Jalr, Branch, Lui, Auipc, Bytes, address_after, Hart, State, IsState, register, with_register, with_pc, past, Stepped, Stands, next, effect, IsStep, Item, Body, Plain, To, High, Low, Slot, Wide, Jump, Upper, Lower, slot_size, size_of, IsAlone, HasReserved, SlotStands, IsAskedOf, IsAimed, MayBe}
-use Rattle.std.specs.Prelude.{not, ◌||◌, if◌then◌else◌}
-use Rattle.rv_word.specs.Writes.{destination}
-use Rattle.rv_word.specs.declared.instr.ImmOp.TheVariants.{Addi}
-use Rattle.rv_word.specs.declared.instr.StoreWidth.{StoreWidth}
-use Rattle.rv_word.specs.declared.instr.RegOp.TheVariants.{Add}
-use Rattle.rv_step.specs.Steps.{further, LeadsTo, LeadTo}
-use Rattle.rv_step.specs.declared.outcome.Outcome.TheVariants.{Next}
-use Rattle.sfi_policy.specs.declared.format.Format.TheVariants.{Sfiw}
-use Rattle.sfi_policy.specs.Registers.{is_data_register}
-use Rattle.sfi_image.specs.Spans.{Holds}
-use Rattle.sfi_image.specs.declared.span.Span.{Span}
-use Rattle.sfi_rewrite.specs.Transparency.{masked, SlotsStand}
-use Rattle.sfi_rewrite.specs.Registers.{is_withheld, names_withheld, item_names_withheld}
+use Rattle.sfi_rewrite.proofs.Prelude.{◌≡◌, ◌≢◌, ℕ, zero, suc, ◌+◌, ◌%◌, ◌^◌, ◌<◌, ◌==◌, ◌&&◌, List, [], ◌∷◌, ◌++◌, length, Bool, true, false, MatchBool, Option, Some, None, refl, sym, ap, ◌∙◌, subst, arith, length-append, append_assoc, append-nil, eqb-true, true≢false, and_parts, or_parts, ℤ, pos, negsuc, And, Or, LoadKind, Instr, Op, OpImm, Load, Store, Jal, Jalr, Branch, Lui, Auipc, Bytes, address_after, Hart, State, IsState, register, with_register, with_pc, past, Stepped, Stands, next, effect, IsStep, Item, Body, Plain, To, High, Low, Slot, Wide, Jump, Upper, Lower, slot_size, size_of, IsAlone, HasReserved, SlotStands, IsAskedOf, IsAimed, MayBe, not, ◌||◌, if◌then◌else◌, destination, Addi, StoreWidth, Add, further, LeadsTo, LeadTo, Next, Sfiw, is_data_register, Holds, Span, masked, SlotsStand, is_withheld, names_withheld, item_names_withheld}
 use Rattle.sfi_rewrite.specs.Laws.{WordExpansionsAreTransparent}
 use Rattle.sfi_rewrite.specs.words.Expansion.{IsConfined, IsAround, IsExpansionOf, before, after, data_mask, mask_after, is_move, moved, is_step, is_step_to, is_zero, is_barred_jump}
 use Rattle.sfi_rewrite.specs.words.Transparency.{is_own, meant, IsTransparent, KeepsData, ActsBy, ActsAs}

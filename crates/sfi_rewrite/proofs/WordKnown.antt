@@ -1,47 +1,13 @@
 -- What is known of the slots of a sandbox's items in words: they encode, also alone in a word, and their names are the sandbox's.
-use Rattle.sfi_rewrite.proofs.Prelude.{◌≡◌, ◌<◌, ◌==◌, ◌&&◌, ℕ, List, [], ◌∷◌, ◌++◌, sym, subst, arith, inl, inr, Bool, true, false, MatchBool, Some, All, All-nil, All-cons, All-append, All-head, All-tail, Instr, And, Or, Op, OpImm, Load, Store, Jalr, Jal, Lui, Auipc, Item, Body, Plain, To, High, Low, IsBody, Slot, Wide, Short, Jump, Upper, Lower, IsAlone}
-use Rattle.std.specs.Prelude.{not, ◌||◌, if◌then◌else◌}
-use Rattle.rv_comp.specs.Table.{expansion}
+use Rattle.sfi_rewrite.proofs.Prelude.{◌≡◌, ◌<◌, ◌==◌, ◌&&◌, ℕ, List, [], ◌∷◌, ◌++◌, sym, subst, arith, Bool, true, false, MatchBool, Some, All, All-nil, All-cons, All-append, All-head, All-tail, Instr, And, Or, Op, OpImm, Load, Store, Jalr, Jal, Lui, Auipc, Item, Body, Plain, To, High, Low, IsBody, Slot, Wide, Jump, Upper, Lower, not, ◌||◌, if◌then◌else◌, destination, is_data_register, Marked, marked, AreExpanded, AreLaidBefore, refl}
 use Rattle.rv_word.specs.Spelling.{InRange}
-use Rattle.rv_word.specs.Writes.{destination}
-use Rattle.sfi_policy.specs.Registers.{is_data_register}
 use Rattle.sfi_rewrite.specs.words.Expansion.{IsConfined, IsAround, IsExpansionOf, before, after, base_of, data_mask, mask_after, is_move, moved, is_step}
-use Rattle.sfi_rewrite.specs.words.Laying.{Marked, marked, alone, AreExpanded, AreLaidBefore}
-use Rattle.sfi_rewrite.proofs.KnownSlots.{IsKnown, wide_known}
+use Rattle.sfi_rewrite.proofs.KnownSlots.{IsKnown, IsKnownBoth, one, wide_known, two_known, alone_known, named_known}
 use Rattle.sfi_rewrite.proofs.WordView.{view, all_in_words}
 
--- the slot, and the same alone in its word
-abbrev IsKnownBoth : ℕ → Slot → Type 0
-IsKnownBoth count s = IsKnown count s × IsKnown count (alone s)
-
-wide_both : (count : ℕ) (i : Instr) → InRange i → IsKnownBoth count (Wide i)
-wide_both count i h = (wide_known count i h, wide_known count i h)
-
-one : (count : ℕ) (s : Slot) → IsKnownBoth count s → All (IsKnownBoth count) (s ∷ [])
-one count s h = All-cons (IsKnownBoth count) s [] h (All-nil (IsKnownBoth count))
-
-alone_known : (count : ℕ) (rvc : Bool) (i : Instr) (slots : List Slot) → IsAlone rvc i slots → InRange i → All (IsKnownBoth count) slots
-alone_known count false i slots e h = rw e (one count (Wide i) (wide_both count i h))
-alone_known count true i slots e h =
-    elim e [
-      | inl s ↦
-          rw (s.2)
-          (one count (Short s.0) (record { encodes = s.1.meets; name = tt }, wide_known count (expansion s.0) (subst (λ j. InRange j) (sym s.1.expands) h)))
-      | inr w ↦ rw (w.1) (one count (Wide i) (wide_both count i h))
-    ]
-
-and_known : (count d a mask : ℕ) → d < 32 → a < 32 → mask < 32 → IsKnownBoth count (Wide (Op And d a mask))
-unfolding InRange
-and_known count d a mask g h k = (record { encodes = (g, h, k); name = tt }, record { encodes = (g, h, k); name = tt })
-
-or_known : (count d a base : ℕ) → d < 32 → a < 32 → base < 32 → IsKnownBoth count (Wide (Op Or d a base))
-unfolding InRange
-or_known count d a base g h k = (record { encodes = (g, h, k); name = tt }, record { encodes = (g, h, k); name = tt })
-
 mask_known : (count d a : ℕ) → d < 32 → a < 32 → All (IsKnownBoth count) (data_mask d a)
-mask_known count d a g h =
-    All-cons (IsKnownBoth count) (Wide (Op And 31 a 27)) (Wide (Op Or d 31 26) ∷ []) (and_known count 31 a 27 (omega arith) h (omega arith))
-    (one count (Wide (Op Or d 31 26)) (or_known count d 31 26 g (omega arith) (omega arith)))
+unfolding InRange
+mask_known count d a g h = two_known count (Op And 31 a 27) (Op Or d 31 26) (omega arith, h, omega arith) (g, omega arith, omega arith)
 
 -- ---- an instruction
 
@@ -57,7 +23,7 @@ confined_known : (count : ℕ) (rvc : Bool) (i : Instr) (slots : List Slot) → 
 unfolding InRange
 confined_known count rvc (Load kind rd a imm) slots e h = alone_known count rvc (Load kind rd (base_of a) imm) slots e (h.0, base_small a h.1, h.2)
 confined_known count rvc (Store width a rs2 imm) slots e h = alone_known count rvc (Store width (base_of a) rs2 imm) slots e (base_small a h.0, h.1, h.2)
-confined_known count rvc (Jalr rd a imm) slots e h = rw e (one count (Wide (Jalr rd 30 imm)) (wide_both count (Jalr rd 30 imm) (h.0, omega arith, h.2)))
+confined_known count rvc (Jalr rd a imm) slots e h = rw e (one count (Wide (Jalr rd 30 imm)) (wide_known count (Jalr rd 30 imm) (h.0, omega arith, h.2)))
 confined_known count rvc other slots e h = alone_known count rvc other slots e h
 
 made_known : (count : ℕ) (none : Bool) (a : ℕ) → a < 32 → All (IsKnownBoth count) (if none then [] else data_mask 29 a)
@@ -68,9 +34,7 @@ before_known : (count : ℕ) (i : Instr) → InRange i → All (IsKnownBoth coun
 unfolding InRange
 before_known count (Load kind rd a imm) h = made_known count (is_data_register a || (a == 0)) a h.1
 before_known count (Store width a rs2 imm) h = made_known count (is_data_register a || (a == 0)) a h.0
-before_known count (Jalr rd a imm) h =
-    All-cons (IsKnownBoth count) (Wide (Op And 30 a 25)) (Wide (Op Or 30 30 24) ∷ []) (and_known count 30 a 25 (omega arith) h.1 (omega arith))
-    (one count (Wide (Op Or 30 30 24)) (or_known count 30 30 24 (omega arith) (omega arith) (omega arith)))
+before_known count (Jalr rd a imm) h = two_known count (Op And 30 a 25) (Op Or 30 30 24) (omega arith, h.1, omega arith) (omega arith, omega arith, omega arith)
 before_known count _ h = All-nil (IsKnownBoth count)
 
 masks_known : (count : ℕ) (is : Bool) (d : ℕ) → d < 32 → All (IsKnownBoth count) (if is then data_mask d d else [])
@@ -113,17 +77,11 @@ plain_known count false rvc step i slots e h = around_known count rvc step i slo
 
 -- ---- items
 
-named_known : (count : ℕ) (s : Slot) (rd : ℕ) → IsKnownBoth count s → rd < 32 → All (IsKnownBoth count) (s ∷ mask_after (Some rd))
-named_known count s rd h small = All-cons (IsKnownBoth count) s (mask_after (Some rd)) h (mask_after_known count rd small)
-
 expansion_known : (count line : ℕ) (rvc step : Bool) (body : Body) (slots : List Slot) → IsExpansionOf line rvc step body slots → IsBody count body → All (IsKnownBoth count) slots
 expansion_known count line rvc step (Plain i) slots e b = plain_known count (is_move i && not step) rvc step i slots e b.0
-expansion_known count line rvc step (To i name) slots e b =
-    rw e (one count (Jump i name line) (record { encodes = b.0; name = b.2 }, record { encodes = b.0; name = b.2 }))
-expansion_known count line rvc step (High rd name) slots e b =
-    rw e (named_known count (Upper rd name line) rd (record { encodes = b.0; name = b.1 }, record { encodes = b.0; name = b.1 }) b.0)
-expansion_known count line rvc step (Low rd name) slots e b =
-    rw e (named_known count (Lower rd name line) rd (record { encodes = b.0; name = b.1 }, record { encodes = b.0; name = b.1 }) b.0)
+expansion_known count line rvc step (To i name) slots e b = rw e (named_known count (Jump i name line) [] b.0 b.2 refl (All-nil (IsKnownBoth count)))
+expansion_known count line rvc step (High rd name) slots e b = rw e (named_known count (Upper rd name line) (mask_after (Some rd)) b.0 b.1 refl (mask_after_known count rd b.0))
+expansion_known count line rvc step (Low rd name) slots e b = rw e (named_known count (Lower rd name line) (mask_after (Some rd)) b.0 b.1 refl (mask_after_known count rd b.0))
 
 all_marked : (P : Slot → Type 0) (l : Bool) (slots : List Slot) → All P slots → All (λ m. P m.1) (marked l slots)
 all_marked P l [] h = All-nil (λ m. P m.1)

@@ -1,7 +1,5 @@
 -- Slots in words, one after another.
-use Rattle.sfi_rewrite.proofs.Prelude.{◌≡◌, Bool, true, false, List, [], ◌∷◌, ◌++◌, Option, Some, None, refl, sym, ap, ◌∙◌, append_assoc, append-nil, IsTrue, Slot, Wide, Upper, Lower, Short, Jump}
-use Rattle.rv_comp.specs.declared.form.Form16.{Form16}
-use Rattle.sfi_rewrite.specs.words.Laying.{Marked, in_words}
+use Rattle.sfi_rewrite.proofs.Prelude.{◌≡◌, Bool, true, false, List, [], ◌∷◌, ◌++◌, Option, Some, None, refl, sym, ap, ◌∙◌, append_assoc, append-nil, IsTrue, Slot, Short, Form16, Marked, in_words}
 use Rattle.sfi_rewrite.specs.private.Words.{so_far, ended, with_slot, with_more, LeadsTo}
 
 -- whether a label stands before the first slot changes nothing
@@ -9,14 +7,8 @@ head_label : (l m : Bool) (s : Slot) (slots : List Marked) → in_words ((l, s) 
 head_label l m (Short f) [] = refl
 head_label l m (Short f) ((false, Short g) ∷ slots) = refl
 head_label l m (Short f) ((true, Short g) ∷ slots) = refl
-head_label l m (Short f) ((false, Wide i) ∷ slots) = refl
-head_label l m (Short f) ((true, Wide i) ∷ slots) = refl
-head_label l m (Short f) ((false, Jump i name line) ∷ slots) = refl
-head_label l m (Short f) ((true, Jump i name line) ∷ slots) = refl
-head_label l m (Short f) ((false, Upper rd name line) ∷ slots) = refl
-head_label l m (Short f) ((true, Upper rd name line) ∷ slots) = refl
-head_label l m (Short f) ((false, Lower rd name line) ∷ slots) = refl
-head_label l m (Short f) ((true, Lower rd name line) ∷ slots) = refl
+head_label l m (Short f) ((false, _) ∷ slots) = refl
+head_label l m (Short f) ((true, _) ∷ slots) = refl
 head_label l m _ slots = refl
 
 -- a slot of 32 bits has a word alone
@@ -26,28 +18,16 @@ IsNoForm _ = Unit {0}
 
 wide_alone : (l : Bool) (s : Slot) (slots : List Marked) → IsNoForm s → in_words ((l, s) ∷ slots) ≡ s ∷ in_words slots
 wide_alone l (Short f) slots h = absurd h
-wide_alone l (Wide i) slots h = refl
-wide_alone l (Jump i name line) slots h = refl
-wide_alone l (Upper rd name line) slots h = refl
-wide_alone l (Lower rd name line) slots h = refl
+wide_alone l _ slots h = refl
 
 after_form : (f : Form16) (l : Bool) (s : Slot) (slots : List Marked) → IsNoForm s → in_words ((false, Short f) ∷ (l, s) ∷ slots) ≡ in_words ((false, Short f) ∷ []) ++ s ∷ in_words slots
 after_form f l (Short g) slots h = absurd h
-after_form f false (Wide i) slots h = refl
-after_form f true (Wide i) slots h = refl
-after_form f false (Jump i name line) slots h = refl
-after_form f true (Jump i name line) slots h = refl
-after_form f false (Upper rd name line) slots h = refl
-after_form f true (Upper rd name line) slots h = refl
-after_form f false (Lower rd name line) slots h = refl
-after_form f true (Lower rd name line) slots h = refl
+after_form f false _ slots h = refl
+after_form f true _ slots h = refl
 
 before_label : (f : Form16) (s : Slot) (slots : List Marked) → in_words ((false, Short f) ∷ (true, s) ∷ slots) ≡ in_words ((false, Short f) ∷ []) ++ in_words ((true, s) ∷ slots)
 before_label f (Short g) slots = refl
-before_label f (Wide i) slots = refl
-before_label f (Jump i name line) slots = refl
-before_label f (Upper rd name line) slots = refl
-before_label f (Lower rd name line) slots = refl
+before_label f _ slots = refl
 
 -- what waits before a label, or at the end, has a word alone
 pub ended_leads : (words : List Slot) (waiting : Option Form16) (s : Slot) (more : List Marked) → with_more (so_far words waiting) ((true, s) ∷ more) ≡ with_more (ended words waiting) ((true, s) ∷ more)
@@ -69,11 +49,5 @@ pub slot_leads : (words : List Slot) (waiting : Option Form16) (l : Bool) (s : S
 slot_leads words None l (Short g) h more = ap (λ v. words ++ v) (head_label l false (Short g) more)
 slot_leads words (Some f) false (Short g) h more = sym (append_assoc words _ _)
 slot_leads words (Some f) true (Short g) h more = let none = h refl in cc
-slot_leads words None l (Wide i) h more = wide_leads words None l (Wide i) tt more
-slot_leads words None l (Jump i name line) h more = wide_leads words None l (Jump i name line) tt more
-slot_leads words None l (Upper rd name line) h more = wide_leads words None l (Upper rd name line) tt more
-slot_leads words None l (Lower rd name line) h more = wide_leads words None l (Lower rd name line) tt more
-slot_leads words (Some f) l (Wide i) h more = wide_leads words (Some f) l (Wide i) tt more
-slot_leads words (Some f) l (Jump i name line) h more = wide_leads words (Some f) l (Jump i name line) tt more
-slot_leads words (Some f) l (Upper rd name line) h more = wide_leads words (Some f) l (Upper rd name line) tt more
-slot_leads words (Some f) l (Lower rd name line) h more = wide_leads words (Some f) l (Lower rd name line) tt more
+slot_leads words None l s h more = wide_leads words None l s tt more
+slot_leads words (Some f) l s h more = wide_leads words (Some f) l s tt more

@@ -1,14 +1,6 @@
 -- Each expansion in words does what its instruction does.
-use Rattle.sfi_rewrite.proofs.Prelude.{◌≡◌, ◌≢◌, ℕ, ◌<◌, ◌==◌, List, [], ◌∷◌, ◌++◌, Bool, true, false, inl, inr, refl, sym, ap, ◌∙◌, subst, arith, ℤ, pos, bit_and, bit_or, And, Or, LoadKind, Instr, Op, Load, Store, Jalr, address_after, State, IsState, register, with_register, with_pc, past, Stands, effect, Slot, Wide, Short, slot_size, IsAlone, AreRegions, HasReserved, SlotStands, IsSameAside, DoesAs}
-use Rattle.std.specs.Prelude.{if◌then◌else◌}
-use Rattle.rv_step.specs.Steps.{further, LeadTo}
-use Rattle.rv_word.specs.Numbers.{offset_by}
-use Rattle.rv_word.specs.declared.instr.StoreWidth.{StoreWidth}
-use Rattle.sfi_image.specs.Spans.{Holds}
-use Rattle.sfi_image.specs.declared.span.Span.{Span}
+use Rattle.sfi_rewrite.proofs.Prelude.{◌≡◌, ◌≢◌, ℕ, ◌<◌, ◌==◌, List, [], ◌∷◌, ◌++◌, Bool, true, false, inl, inr, refl, sym, ap, ◌∙◌, subst, arith, ℤ, pos, bit_and, bit_or, And, Or, LoadKind, Instr, Op, Load, Store, Jalr, address_after, State, IsState, register, with_register, with_pc, past, Stands, effect, Slot, Wide, Short, slot_size, IsAlone, AreRegions, HasReserved, SlotStands, IsSameAside, DoesAs, if◌then◌else◌, further, LeadTo, offset_by, StoreWidth, Holds, Span, masked, SlotsStand, data_mask}
 use Rattle.rv_step.proofs.Pairs.{written_here, written_elsewhere}
-use Rattle.sfi_rewrite.specs.Transparency.{masked, SlotsStand}
-use Rattle.sfi_rewrite.specs.words.Expansion.{data_mask}
 use Rattle.sfi_rewrite.specs.words.Transparency.{is_own, IsWordStart, KeepsTo, meant_base, meant, IsTransparent}
 use Rattle.sfi_rewrite.proofs.Transparent.{stands_at, does, eight, DoesFor, after_pair, one_does}
 use Rattle.sfi_rewrite.proofs.Masks.{masked_data, unmasked_data, unmasked_code}

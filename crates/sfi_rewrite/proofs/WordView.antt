@@ -1,8 +1,5 @@
 -- What in_words makes of slots: one slot or two of them to a word, and how many bytes that takes.
-use Rattle.sfi_rewrite.proofs.Prelude.{◌≡◌, ◌%◌, ◌≤◌, Bool, true, false, List, [], ◌∷◌, ◌++◌, map, None, refl, sym, ap, ◌∙◌, arith, append-nil, inl, inr, true≢false, All, All-nil, All-cons, All-head, All-tail, Slot, Wide, Upper, Lower, Short, Jump, slot_size, size_of}
-use Rattle.rv_comp.specs.declared.form.Form16.{Form16}
-use Rattle.sfi_rewrite.specs.words.Laying.{Marked, alone, in_words}
-use Rattle.sfi_rewrite.specs.words.Transparency.{AreAsLaid}
+use Rattle.sfi_rewrite.proofs.Prelude.{◌≡◌, ◌%◌, ◌≤◌, Bool, true, false, List, [], ◌∷◌, ◌++◌, map, None, refl, sym, ap, ◌∙◌, arith, append-nil, inl, inr, true≢false, All, All-nil, All-cons, All-head, All-tail, Slot, Short, slot_size, size_of, Form16, Marked, alone, in_words, AreAsLaid}
 use Rattle.sfi_rewrite.specs.private.Words.{WordsSoFar, so_far, bytes_of, waiting_size, waits, ended, before_label, with_slot, with_more}
 use Rattle.sfi_rewrite.proofs.WordLaying.{slot_leads, ended_leads, ended_last}
 use Rattle.sfi_rewrite.proofs.WordFilled.{slot_bytes, slot_aligned, ended_bytes, ended_aligned, ended_none}
@@ -19,25 +16,9 @@ pub view : (slots : List Marked) → InWords slots (in_words slots)
 view [] = no_word
 view ((l, Short f) ∷ []) = one_slot l (Short f) [] [] refl no_word
 view ((l, Short f) ∷ (false, Short g) ∷ slots) = two_forms l f g slots (in_words slots) (view slots)
-view ((l, Short f) ∷ (true, Short g) ∷ slots) = one_slot l (Short f) ((true, Short g) ∷ slots) (in_words ((true, Short g) ∷ slots)) refl (view ((true, Short g) ∷ slots))
-view ((l, Short f) ∷ (false, Wide i) ∷ slots) = one_slot l (Short f) ((false, Wide i) ∷ slots) (in_words ((false, Wide i) ∷ slots)) refl (view ((false, Wide i) ∷ slots))
-view ((l, Short f) ∷ (true, Wide i) ∷ slots) = one_slot l (Short f) ((true, Wide i) ∷ slots) (in_words ((true, Wide i) ∷ slots)) refl (view ((true, Wide i) ∷ slots))
-view ((l, Short f) ∷ (false, Jump i name line) ∷ slots) =
-    one_slot l (Short f) ((false, Jump i name line) ∷ slots) (in_words ((false, Jump i name line) ∷ slots)) refl (view ((false, Jump i name line) ∷ slots))
-view ((l, Short f) ∷ (true, Jump i name line) ∷ slots) =
-    one_slot l (Short f) ((true, Jump i name line) ∷ slots) (in_words ((true, Jump i name line) ∷ slots)) refl (view ((true, Jump i name line) ∷ slots))
-view ((l, Short f) ∷ (false, Upper rd name line) ∷ slots) =
-    one_slot l (Short f) ((false, Upper rd name line) ∷ slots) (in_words ((false, Upper rd name line) ∷ slots)) refl (view ((false, Upper rd name line) ∷ slots))
-view ((l, Short f) ∷ (true, Upper rd name line) ∷ slots) =
-    one_slot l (Short f) ((true, Upper rd name line) ∷ slots) (in_words ((true, Upper rd name line) ∷ slots)) refl (view ((true, Upper rd name line) ∷ slots))
-view ((l, Short f) ∷ (false, Lower rd name line) ∷ slots) =
-    one_slot l (Short f) ((false, Lower rd name line) ∷ slots) (in_words ((false, Lower rd name line) ∷ slots)) refl (view ((false, Lower rd name line) ∷ slots))
-view ((l, Short f) ∷ (true, Lower rd name line) ∷ slots) =
-    one_slot l (Short f) ((true, Lower rd name line) ∷ slots) (in_words ((true, Lower rd name line) ∷ slots)) refl (view ((true, Lower rd name line) ∷ slots))
-view ((l, Wide i) ∷ slots) = one_slot l (Wide i) slots (in_words slots) refl (view slots)
-view ((l, Jump i name line) ∷ slots) = one_slot l (Jump i name line) slots (in_words slots) refl (view slots)
-view ((l, Upper rd name line) ∷ slots) = one_slot l (Upper rd name line) slots (in_words slots) refl (view slots)
-view ((l, Lower rd name line) ∷ slots) = one_slot l (Lower rd name line) slots (in_words slots) refl (view slots)
+view ((l, Short f) ∷ (false, s) ∷ slots) = one_slot l (Short f) ((false, s) ∷ slots) (in_words ((false, s) ∷ slots)) refl (view ((false, s) ∷ slots))
+view ((l, Short f) ∷ (true, s) ∷ slots) = one_slot l (Short f) ((true, s) ∷ slots) (in_words ((true, s) ∷ slots)) refl (view ((true, s) ∷ slots))
+view ((l, s) ∷ slots) = one_slot l s slots (in_words slots) refl (view slots)
 
 pub as_laid : (slots : List Marked) (words : List Slot) → InWords slots words → AreAsLaid (map (λ m. m.1) slots) words
 as_laid _ _ no_word = tt

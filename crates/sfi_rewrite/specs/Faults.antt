@@ -1,5 +1,5 @@
--- The faults of an item, and those of a sandbox whose code is in bundles, in the order of its text.
-use Rattle.std.specs.Prelude.{◌≡◌, ◌+◌, ◌*◌, ◌≤◌, ◌&&◌, ℕ, List, Bool, true, false, take, slice_get, Some}
+-- The faults of an item, and those of a sandbox, in the order of its text.
+use Rattle.std.specs.Prelude.{◌≡◌, ◌+◌, ◌<◌, ◌≤◌, ◌&&◌, ℕ, List, Bool, true, false, take, drop, slice_get, Some}
 use Rattle.std.specs.List.{All}
 use Rattle.sfi_policy.specs.declared.format.Format.{Format}
 use Rattle.sfi_policy.specs.Formats.{code_most, has_words}
@@ -12,7 +12,7 @@ use Rattle.sfi_rewrite.specs.Registers.{item_names_withheld, is_ecall}
 use Rattle.sfi_rewrite.specs.Slots.{size_of}
 use Rattle.sfi_rewrite.specs.Stack.{is_stack_write}
 use Rattle.sfi_rewrite.specs.words.Expansion as words
-use Rattle.sfi_rewrite.specs.Places.{IsNext, AreLaid}
+use Rattle.sfi_rewrite.specs.Placement.{AreLaidIn}
 
 -- the number of a fault
 abbrev pub number_of : RewriteFault → ℕ
@@ -34,18 +34,19 @@ pub record IsPermitted (f : Format) (x : Item) : Type 0 where
   pub no_stack_write : is_stack_write f x.body ≡ false
   pub no_barred_jump : is_barred_jump f x.body ≡ false
 
--- the items have no fault, and these are their slots
-pub record AreFaultless (f : Format) (items : List Item) (slots : List Slot) : Type 0 where
-  pub laid : AreLaid f items slots
-  pub permitted : All (IsPermitted f) items
+-- the first k of the items, in words or in bundles, have no fault, and these are their slots, for
+-- which a code region has room
+pub record AreFaultless (in_words : Bool) (f : Format) (k : ℕ) (items : List Item)
+    (slots : List Slot) : Type 0 where
+  pub permitted : All (IsPermitted f) (take k items)
+  pub laid : AreLaidIn in_words f (take k items) (drop k items) slots
   pub fits : size_of slots ≤ code_most f
 
--- after that end the item's expansion would begin a bundle beyond the last
-pub record IsTooLarge (f : Format) (end : ℕ) (x : Item) : Type 0 where
-  pub nops : ℕ
-  pub expanded : List Slot
-  pub next : IsNext f end x nops expanded
-  pub beyond : code_most f ≤ end + 2 * nops
+-- no code region has room for the slots of the first k of the items
+abbrev pub AreTooLarge : Bool → Format → ℕ → List Item → Type 0
+AreTooLarge in_words f k items =
+    (slots : List Slot) × AreLaidIn in_words f (take k items) (drop k items) slots
+    × (code_most f < size_of slots)
 
 -- the first of the faults that the item has wherever it stands, in the order of these four lines
 abbrev pub HasItemFault : Format → Item → RewriteFault → Type 0
@@ -61,11 +62,11 @@ HasItemFault f x (Jump line) =
 HasItemFault f x (TooLarge sandbox) = ⊥
 HasItemFault f x Memory = ⊥
 
--- the first fault of the item, which stands after that end in the sandbox of that number
-abbrev pub HasFault : Format → ℕ → ℕ → Item → RewriteFault → Type 0
-HasFault f sandbox end x (TooLarge number) =
-    IsPermitted f x × IsTooLarge f end x × (number ≡ sandbox)
-HasFault f sandbox end x fault = HasItemFault f x fault
+-- the first fault of item k, in the sandbox of that number
+abbrev pub HasFault : Bool → Format → ℕ → List Item → ℕ → Item → RewriteFault → Type 0
+HasFault in_words f sandbox items k x (TooLarge number) =
+    IsPermitted f x × AreTooLarge in_words f (k + 1) items × (number ≡ sandbox)
+HasFault in_words f sandbox items k x fault = HasItemFault f x fault
 
 -- what is said of a fault, where that isn't want of memory
 abbrev pub UnlessMemory : (RewriteFault → Type 0) → RewriteFault → Type 0
@@ -73,11 +74,11 @@ UnlessMemory P Memory = Unit {0}
 UnlessMemory P f = P f
 
 -- the first item that has a fault has this one
-pub record IsItemFault (format : Format) (sandbox : ℕ) (items : List Item)
+pub record IsItemFault (in_words : Bool) (format : Format) (sandbox : ℕ) (items : List Item)
     (f : RewriteFault) : Type 0 where
   pub index : ℕ
   pub item : Item
   pub at : slice_get items index ≡ Some item
   pub before : List Slot
-  pub faultless : AreFaultless format (take index items) before
-  pub has : HasFault format sandbox (size_of before) item f
+  pub faultless : AreFaultless in_words format index items before
+  pub has : HasFault in_words format sandbox items index item f

@@ -1,6 +1,6 @@
 -- The placement of a sandbox: its expansions in their places, with names for addresses. What stands
 -- in words is kept in bundles of four words.
-use Rattle.std.specs.Prelude.{◌≡◌, ◌+◌, ◌*◌, ◌≤◌, ◌<◌, ◌++◌, ℕ, List, [], ◌∷◌, length, replicate, Contains, MatchBool}
+use Rattle.std.specs.Prelude.{◌≡◌, ◌+◌, ◌*◌, ◌≤◌, ◌<◌, ◌++◌, ℕ, List, [], ◌∷◌, Bool, true, false, length, take, drop, replicate, Contains, MatchBool}
 use Rattle.std.specs.List.{AllZip}
 use Rattle.sfi_policy.specs.declared.format.Format.{Format}
 use Rattle.rv_source.specs.declared.item.Item.{Item}
@@ -13,7 +13,7 @@ use Rattle.sfi_rewrite.specs.declared.placed.PlacedName.{PlacedName}
 use Rattle.sfi_rewrite.specs.declared.placed.PlacedName.TheVariants as placed
 use Rattle.sfi_policy.specs.Limits.{bundle_size}
 use Rattle.sfi_rewrite.specs.Slots.{size_of, slots_of, c_nop}
-use Rattle.sfi_rewrite.specs.Places.{next_bundle, AreLaid, IsLabelAt}
+use Rattle.sfi_rewrite.specs.Places.{next_bundle, AreLaid}
 use Rattle.sfi_rewrite.specs.words.Laying as words
 use Rattle.sfi_policy.specs.Formats.{has_words}
 
@@ -26,21 +26,28 @@ pub record Placement : Type 0 where
   pub bytes : List ℕ
   pub bundles : List (List Slot)
 
--- the slots of the items, as the format lays them
-abbrev pub AreLaidIn : Format → List Item → List Slot → Type 0
-AreLaidIn f items slots = MatchBool (has_words f) (words.AreLaid items slots) (AreLaid f items slots)
+-- the slots of the items before others, in words or in bundles
+abbrev pub AreLaidIn : Bool → Format → List Item → List Item → List Slot → Type 0
+AreLaidIn in_words f items later slots =
+    MatchBool in_words (words.AreLaidBefore items later slots) (AreLaid f items slots)
 
--- what a label before item k names
-abbrev pub IsLabelIn : Format → List Item → ℕ → ℕ → Type 0
-IsLabelIn f items k place =
-    MatchBool (has_words f) (words.IsLabelAt items k place) (IsLabelAt f items k place)
+-- where a label may stand, not before that end: in bundles the next bundle start
+abbrev pub label_place : Bool → ℕ → ℕ
+label_place true end = end
+label_place false end = next_bundle end
+
+-- what a label before item k names: the first such place after what stands before the item
+abbrev pub IsLabelAt : Bool → Format → List Item → ℕ → ℕ → Type 0
+IsLabelAt in_words f items k place =
+    (before : List Slot) × AreLaidIn in_words f (take k items) (drop k items) before
+    × (place ≡ label_place in_words (size_of before))
 
 -- what a name of the source names once its items are placed:
 -- a label the place of what stands after it
 abbrev pub IsPlacedName : Format → List Item → Named → PlacedName → Type 0
 IsPlacedName f items (Gate k) name = name ≡ placed.Gate k
 IsPlacedName f items (Code k) name =
-    (place : ℕ) × IsLabelIn f items k place × (name ≡ placed.Code place)
+    (place : ℕ) × IsLabelAt (has_words f) f items k place × (name ≡ placed.Code place)
 IsPlacedName f items (Data offset) name = name ≡ placed.Data offset
 IsPlacedName f items Unknown name = name ≡ placed.Unknown
 
@@ -55,8 +62,8 @@ pub record FillsEnd (end : ℕ) (labelled : Type 0) (nops : ℕ) : Type 0 where
   pub fewest : (n : ℕ) → (labelled → next_bundle end ≤ end + 2 * n) → nops ≤ n
 
 -- so many c.nops stand after the last expansion; words need none
-abbrev pub FillsEndIn : Format → ℕ → Type 0 → ℕ → Type 0
-FillsEndIn f end labelled nops = MatchBool (has_words f) (nops ≡ 0) (FillsEnd end labelled nops)
+abbrev pub FillsEndIn : Bool → ℕ → Type 0 → ℕ → Type 0
+FillsEndIn in_words end labelled nops = MatchBool in_words (nops ≡ 0) (FillsEnd end labelled nops)
 
 -- each bundle is full, but for the last, which has some bytes
 abbrev pub AreBundles : List (List Slot) → Type 0
@@ -72,8 +79,8 @@ pub record IsPlacement (s : Sandbox) (p : Placement) : Type 0 where
   pub bytes : p.bytes ≡ s.bytes
   pub names : AllZip (IsPlacedName s.format s.items) (named s) p.names
   pub slots : List Slot
-  pub laid : AreLaidIn s.format s.items slots
+  pub laid : AreLaidIn (has_words s.format) s.format s.items [] slots
   pub nops : ℕ
-  pub end : FillsEndIn s.format (size_of slots) (HasEndLabel s) nops
+  pub end : FillsEndIn (has_words s.format) (size_of slots) (HasEndLabel s) nops
   pub code : slots_of p.bundles ≡ slots ++ replicate nops c_nop
   pub bundles : AreBundles p.bundles

@@ -1,5 +1,5 @@
 -- Where each expansion stands. A place is a number of bytes from the end of the gates' stubs.
-use Rattle.std.specs.Prelude.{◌≡◌, ◌+◌, ◌-◌, ◌*◌, ◌/◌, ◌%◌, ◌≤◌, ◌++◌, IsTrue, ℕ, List, [], ◌∷◌, Bool, replicate, take}
+use Rattle.std.specs.Prelude.{◌≡◌, ◌+◌, ◌-◌, ◌*◌, ◌/◌, ◌%◌, ◌≤◌, ◌++◌, IsTrue, ℕ, List, [], ◌∷◌, Bool, replicate}
 use Rattle.sfi_policy.specs.declared.format.Format.{Format}
 use Rattle.rv_source.specs.declared.item.Item.{Item}
 use Rattle.sfi_rewrite.specs.declared.slot.Slot.{Slot}
@@ -41,9 +41,3 @@ AreLaidFrom f end (x ∷ items) slots =
 -- the slots of the items
 abbrev pub AreLaid : Format → List Item → List Slot → Type 0
 AreLaid f items slots = AreLaidFrom f 0 items slots
-
--- what a label before item k names: the first bundle start not before the end of what stands before
--- the item
-abbrev pub IsLabelAt : Format → List Item → ℕ → ℕ → Type 0
-IsLabelAt f items k place =
-    (before : List Slot) × AreLaid f (take k items) before × (place ≡ next_bundle (size_of before))

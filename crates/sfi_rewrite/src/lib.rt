@@ -11,21 +11,21 @@
 mod bundle;
 mod expansion;
 mod fault;
-mod filling;
+mod filled;
 mod item;
+mod laid_items;
 pub mod laws;
-mod laying;
 mod names;
+mod parts;
 mod place;
 mod placed;
-mod rewriting;
 mod slot;
 mod words;
 
 pub use bundle::Bundle;
 pub use fault::RewriteFault;
+pub use parts::rewrite;
 pub use placed::{Placed, PlacedName, PlacedPart};
-pub use rewriting::rewrite;
 pub use rv_source::{Source, SourceGate};
 pub use sfi_policy::Format;
 pub use slot::Slot;

@@ -3,8 +3,8 @@ ghost use Rattle.std.specs.Prelude.{◌≡◌, ◌<◌, ◌↔◌, IfOk, IsTrue,
 ghost use Rattle.std.specs.List.{AllZip};
 ghost use Rattle.rv_source.specs.Source.{named, IsSandbox};
 ghost use Rattle.sfi_rewrite.specs.Placement.{IsPlacedName, HasEndLabel};
-ghost use Rattle.sfi_rewrite.specs.private.Filling.{HasLabel, placed_of};
-ghost use Rattle.sfi_rewrite.specs.private.Words.{AreLabelsIn};
+ghost use Rattle.sfi_policy.specs.Formats.{has_words};
+ghost use Rattle.sfi_rewrite.specs.private.Filling.{AreLabels, HasLabel, placed_of};
 
 use crate::placed::PlacedName;
 use rv_source::{Named, SourcePart};
@@ -31,7 +31,7 @@ pub(crate) fn place_names(
     labels: &[u32],
 ) -> Result<Vec<PlacedName>, AllocError>
     requires sandbox { IsSandbox part.now }
-    requires labels { AreLabelsIn part.now.format part.now.items labels.now }
+    requires labels { AreLabels (has_words part.now.format) part.now.format part.now.items labels.now }
     ensures { IfOk result
         (λ v. AllZip (IsPlacedName part.now.format part.now.items) (named part.now) v.items) }
 {

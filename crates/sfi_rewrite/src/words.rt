@@ -1,8 +1,8 @@
 //! Code in words: the expansions on typed registers, and how they stand in words of 4 bytes.
 
 mod expansion;
-mod filling;
-mod laying;
+mod filled;
+mod laid_items;
 
 pub(crate) use expansion::ADDRESS_REGISTER;
-pub(crate) use laying::lay_in_words;
+pub(crate) use laid_items::lay_in_words;

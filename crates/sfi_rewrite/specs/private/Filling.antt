@@ -1,11 +1,11 @@
 -- Words of private contracts: bundles while they are filled,
 -- and what is known of items and labels while they are laid.
-use Rattle.std.specs.Prelude.{◌≡◌, ◌+◌, ◌<◌, ◌≤◌, ◌++◌, ℕ, List, length, replicate, slice_index}
+use Rattle.std.specs.Prelude.{◌≡◌, ◌+◌, ◌*◌, ◌<◌, ◌≤◌, ◌++◌, ℕ, Bool, List, length, replicate, slice_index}
 use Rattle.std.specs.List.{All}
 use Rattle.sfi_policy.specs.Limits.{bundle_size}
 use Rattle.sfi_policy.specs.declared.format.Format.{Format}
 use Rattle.sfi_policy.specs.declared.format.Format.TheVariants.{Sfi2}
-use Rattle.sfi_policy.specs.Formats.{code_most}
+use Rattle.sfi_policy.specs.Formats.{code_most, has_words}
 use Rattle.rv_source.specs.declared.item.Item.{Item}
 use Rattle.rv_source.specs.declared.item.Named.{Named}
 use Rattle.rv_source.specs.declared.item.Named.TheVariants.{Gate, Code, Data, Unknown}
@@ -15,7 +15,9 @@ use Rattle.sfi_rewrite.specs.Slots.{size_of, slots_of, c_nop}
 use Rattle.sfi_rewrite.specs.declared.placed.PlacedName.{PlacedName}
 use Rattle.sfi_rewrite.specs.declared.placed.PlacedName.TheVariants as placed
 use Rattle.sfi_rewrite.specs.Places.{IsNext}
-use Rattle.sfi_rewrite.specs.Placement.{FillsEndIn, AreBundles}
+use Rattle.sfi_rewrite.specs.Placement.{FillsEndIn, AreBundles, IsLabelAt}
+use Rattle.sfi_rewrite.specs.declared.fault.RewriteFault.{RewriteFault}
+use Rattle.sfi_rewrite.specs.declared.fault.RewriteFault.TheVariants.{TooLarge}
 
 -- the most bytes of a sandbox's code in any format, its gates' stubs not counted
 abbrev pub largest : ℕ
@@ -43,11 +45,19 @@ pub record HasNext (f : Format) (old : List Slot) (x : Item) (new : List Slot) :
 abbrev pub HaveBodies : List Item → Type 0
 HaveBodies items = All (λ x. (count : ℕ) × IsBody count x.body) items
 
--- The places that labels name: one before each of so many items, and last one at the end of the code.
--- IsLabel k place says that a label before item k names that place.
-pub record AreLabels (IsLabel : ℕ → ℕ → Type 0) (items : ℕ) (labels : List ℕ) : Type 0 where
-  pub count : length labels ≡ items + 1
-  pub each : (k : ℕ) → k ≤ items → IsLabel k (slice_index labels k)
+-- after that end the item's expansion would begin a bundle beyond the last
+pub record IsTooLarge (f : Format) (sandbox end : ℕ) (x : Item) (fault : RewriteFault) : Type 0 where
+  pub nops : ℕ
+  pub expanded : List Slot
+  pub next : IsNext f end x nops expanded
+  pub beyond : code_most f ≤ end + 2 * nops
+  pub fault_is : fault ≡ TooLarge sandbox
+
+-- the places that labels name: one before each item, and last one at the end of the code
+pub record AreLabels (in_words : Bool) (f : Format) (items : List Item)
+    (labels : List ℕ) : Type 0 where
+  pub count : length labels ≡ length items + 1
+  pub each : (k : ℕ) → k ≤ length items → IsLabelAt in_words f items k (slice_index labels k)
 
 -- where a label stands before an item, there is a place of it among so many
 abbrev pub HasLabel : ℕ → Named → Type 0
@@ -66,5 +76,5 @@ placed_of labels Unknown = placed.Unknown
 -- the slots with c.nops after them: in bundles, up to the bundle start of a label at the end
 pub record HasEnd (f : Format) (old : List Slot) (labelled : Type 0) (new : List Slot) : Type 0 where
   pub nops : ℕ
-  pub end : FillsEndIn f (size_of old) labelled nops
+  pub end : FillsEndIn (has_words f) (size_of old) labelled nops
   pub slots : new ≡ old ++ replicate nops c_nop

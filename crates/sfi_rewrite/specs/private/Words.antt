@@ -1,23 +1,17 @@
 -- Words of private contracts: words while they are filled.
-use Rattle.std.specs.Prelude.{◌≡◌, ◌+◌, ◌%◌, ◌≤◌, ◌<◌, ◌++◌, ℕ, List, [], ◌∷◌, Bool, true, false, Option, Some, None, length, take, drop, MatchBool}
-use Rattle.std.specs.List.{All}
+use Rattle.std.specs.Prelude.{◌≡◌, ◌+◌, ◌%◌, ◌≤◌, ◌<◌, ◌++◌, ℕ, List, [], ◌∷◌, Bool, true, false, Option, Some, None, take, drop}
 use Rattle.rv_comp.specs.Table.{expansion}
 use Rattle.rv_comp.specs.declared.form.Form16.{Form16}
 use Rattle.sfi_rewrite.specs.declared.slot.Slot.{Slot}
 use Rattle.sfi_rewrite.specs.declared.slot.Slot.TheVariants.{Wide, Short}
-use Rattle.sfi_policy.specs.declared.format.Format.{Format}
 use Rattle.sfi_policy.specs.declared.format.Format.TheVariants.{Sfiw}
-use Rattle.sfi_policy.specs.Formats.{code_most, has_words}
+use Rattle.sfi_policy.specs.Formats.{code_most}
 use Rattle.rv_source.specs.declared.item.Item.{Item}
 use Rattle.sfi_rewrite.specs.declared.fault.RewriteFault.{RewriteFault}
 use Rattle.sfi_rewrite.specs.declared.fault.RewriteFault.TheVariants.{TooLarge}
 use Rattle.sfi_rewrite.specs.Slots.{size_of}
-use Rattle.sfi_rewrite.specs.Faults.{IsPermitted}
-use Rattle.sfi_rewrite.specs.Faults as bundles
-use Rattle.sfi_rewrite.specs.Placement.{IsLabelIn}
-use Rattle.sfi_rewrite.specs.private.Filling.{AreLabels}
 use Rattle.sfi_rewrite.specs.words.Expansion.{IsExpansion}
-use Rattle.sfi_rewrite.specs.words.Laying.{Marked, marked, in_words, AreExpanded, AreLaid}
+use Rattle.sfi_rewrite.specs.words.Laying.{Marked, marked, in_words, AreExpanded}
 
 -- words, and a 16-bit form that waits for a second one
 pub record WordsSoFar : Type 0 where
@@ -107,20 +101,3 @@ pub record AreOfFirst (k : ℕ) (items : List Item) (w : WordsSoFar) : Type 0 wh
   pub expanded : List Marked
   pub are_expanded : AreExpanded (take k items) (drop k items) expanded
   pub lead : LeadsTo (so_far [] None) expanded w
-
--- none of the items has a fault, and these are their slots
-pub record AreLaidWhole (items : List Item) (slots : List Slot) : Type 0 where
-  pub permitted : All (IsPermitted Sfiw) items
-  pub laid : AreLaid items slots
-  pub fits : size_of slots ≤ code_most Sfiw
-
--- ---- in either kind of code
-
--- none of the items has a fault, and these are their slots
-abbrev pub AreFaultlessIn : Format → List Item → List Slot → Type 0
-AreFaultlessIn f items slots =
-    MatchBool (has_words f) (AreLaidWhole items slots) (bundles.AreFaultless f items slots)
-
--- of each item, and last of the end of the code, the place that a label before it names
-abbrev pub AreLabelsIn : Format → List Item → List ℕ → Type 0
-AreLabelsIn f items labels = AreLabels (IsLabelIn f items) (length items) labels

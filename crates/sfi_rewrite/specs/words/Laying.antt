@@ -1,10 +1,9 @@
 -- How expansions stand in words of 4 bytes.
-use Rattle.std.specs.Prelude.{◌≡◌, ℕ, List, [], ◌∷◌, ◌++◌, Bool, false, take, drop}
+use Rattle.std.specs.Prelude.{◌≡◌, List, [], ◌∷◌, ◌++◌, Bool, false}
 use Rattle.rv_comp.specs.Table.{expansion}
 use Rattle.rv_source.specs.declared.item.Item.{Item}
 use Rattle.sfi_rewrite.specs.declared.slot.Slot.{Slot}
 use Rattle.sfi_rewrite.specs.declared.slot.Slot.TheVariants.{Wide, Short}
-use Rattle.sfi_rewrite.specs.Slots.{size_of}
 use Rattle.sfi_rewrite.specs.words.Expansion.{IsExpansion}
 
 -- a slot, and whether a label stands before it
@@ -43,9 +42,3 @@ AreLaidBefore items later slots =
 -- the slots of all the items
 abbrev pub AreLaid : List Item → List Slot → Type 0
 AreLaid items slots = AreLaidBefore items [] slots
-
--- what a label before item k names: the end of what stands before it
-abbrev pub IsLabelAt : List Item → ℕ → ℕ → Type 0
-IsLabelAt items k place =
-    (before : List Slot) × AreLaidBefore (take k items) (drop k items) before
-    × (place ≡ size_of before)

@@ -1,4 +1,4 @@
-use Rattle.std.proofs.lemmas.Bool.{false≢true}
+use Rattle.sfi_rewrite.proofs.Prelude.{false≢true}
 use Rattle.sfi_rewrite.proofs.Bundles.{slots_fit}
 use Rattle.sfi_rewrite.proofs.bundle.Bundle.push.Goals as goal
 

@@ -1,0 +1,93 @@
+//! The items of a sandbox of code in words, laid one after another.
+ghost use Rattle.std.specs.Prelude.{◌≡◌, ◌<◌, ◌+◌, true, IfOk, IfErr, length, drop};
+ghost use Rattle.sfi_rewrite.specs.private.Words.{before_label, with_slots, HaveRoom, AreWith, HasNoRoom, IsBeyond};
+ghost use Rattle.sfi_rewrite.specs.private.Filling.{AreLabels};
+ghost use Rattle.sfi_policy.specs.declared.format.Format.TheVariants.{Sfiw};
+ghost use Rattle.sfi_rewrite.specs.Faults.{AreFaultless, UnlessMemory, IsItemFault};
+
+use crate::fault::RewriteFault;
+use crate::item::permit;
+use crate::laid_items::Laid;
+use crate::slot::Slot;
+use crate::words::expansion::expand;
+use crate::words::filled::WordFilling;
+use rv_source::Item;
+use sfi_policy::Format;
+use std::alloc::{AllocError, Global};
+
+/// Adds slots to the code of the sandbox of that number, each where it has room.
+fn push_slots(sandbox: u32, slots: &[Slot], code: &mut WordFilling) -> Result<(), RewriteFault>
+    requires { HaveRoom code.old }
+    ensures pushed { IfOk result (λ _. code.new ≡ with_slots code.old slots.now) }
+    ensures room { IfOk result (λ _. HaveRoom code.new) }
+    ensures refused { IfErr result
+        (UnlessMemory (IsBeyond sandbox (with_slots code.old slots.now))) }
+{
+    for slot in slots {
+        if code.end_with(slot) > Format::Sfiw.code_most() as usize {
+            return Err(RewriteFault::TooLarge { sandbox });
+        }
+        code.push(*slot)?;
+    }
+    Ok(())
+}
+
+/// Gives a form that waits a word alone where a label comes.
+fn end_before(label: bool, code: &mut WordFilling) -> Result<(), AllocError>
+    requires { HaveRoom code.old }
+    ensures { IfOk result (λ _. code.new ≡ before_label label code.old.words code.old.waiting) }
+{
+    if label { code.end_word() } else { Ok(()) }
+}
+
+/// Adds an item that stands before others to the code of the sandbox of that number.
+fn lay_item(
+    sandbox: u32,
+    item: &Item,
+    later: &[Item],
+    code: &mut WordFilling,
+) -> Result<(), RewriteFault>
+    requires { HaveRoom code.old }
+    ensures laid { IfOk result (λ _. AreWith item.now later.now code.old code.new) }
+    ensures room { IfOk result (λ _. HaveRoom code.new) }
+    ensures refused { IfErr result
+        (UnlessMemory (HasNoRoom sandbox item.now later.now code.old)) }
+{
+    let expansion = expand(item, later);
+    end_before(item.labelled, code)?;
+    push_slots(sandbox, expansion.slots(), code)
+}
+
+/// The items after the one of that number.
+fn items_after(items: &[Item], number: usize) -> &[Item]
+    requires { number < length items.now }
+    ensures { result.now ≡ drop (number + 1) items.now }
+{
+    &items[number + 1..]
+}
+
+/// Lays the items of the sandbox of that number.
+pub(crate) fn lay_in_words(
+    alloc: Global,
+    sandbox: u32,
+    items: &[Item],
+) -> Result<Laid, RewriteFault>
+    ensures faultless { IfOk result (λ l. AreFaultless true Sfiw (length items.now) items.now l.code) }
+    ensures labels { IfOk result (λ l. AreLabels true Sfiw items.now l.labels.items) }
+    ensures refused { IfErr result (UnlessMemory (IsItemFault true Sfiw sandbox items.now)) }
+{
+    let mut code = WordFilling::new(alloc);
+    let mut labels = Vec::new(alloc);
+    for (number, item) in items.iter().enumerate() {
+        labels.push(code.place())?;
+        permit(Format::Sfiw, item)?;
+        let later = items_after(items, number);
+        lay_item(sandbox, item, later, &mut code)?;
+    }
+    labels.push(code.place())?;
+    code.end_word()?;
+    Ok(Laid {
+        code: code.finish(),
+        labels,
+    })
+}
