@@ -9,7 +9,6 @@ use Rattle.sfi_policy.specs.Registers.{is_reserved, is_withheld}
 use Rattle.sfi_policy.specs.Formats.{has_words}
 use Rattle.sfi_policy.specs.declared.format.Format.{Format}
 use Rattle.sfi_policy.specs.declared.format.Format.TheVariants.{Sfi1, Sfi2, Sfiw}
-use Rattle.rv_word.specs.declared.instr.Instr.TheVariants.{Auipc}
 use Rattle.std.proofs.lemmas.Bool.{true≢false}
 use Rattle.sfi_rewrite.specs.Expansion.{jump_to_x31, jump_slots, IsAlone, IsMasked, IsExpansionOf}
 use Rattle.sfi_rewrite.specs.Registers.{names_withheld, item_names_withheld, is_ecall}
@@ -22,7 +21,7 @@ use Rattle.std.proofs.lemmas.Bool as bool
 use Rattle.sfi_rewrite.specs.Stack as stack
 use Rattle.sfi_rewrite.proofs.Sizes.{size_of-cons}
 use Rattle.sfi_link.proofs.Sizes.{slot_some}
-use Rattle.sfi_link.proofs.CleanPlaces.{AreStarts, IsReadAs, IsCleanFrom, place, or_left, unreserved, is_calm, writes_unreserved, calm, no_write, well_written, pair_read, or_read, second_false, on_stack, lands, direct, PassesBefore, step, some_same, made, slot_spells, lone_ends}
+use Rattle.sfi_link.proofs.CleanPlaces.{AreStarts, IsReadAs, IsCleanFrom, passes, place, or_left, unreserved, is_calm, writes_unreserved, calm, no_write, well_written, pair_read, or_read, second_false, on_stack, lands, direct, PassesBefore, step, some_same, made, slot_spells, lone_ends}
 
 -- ---- slot by slot
 
@@ -122,15 +121,7 @@ before_pair b here earlier i later j p =
 writer_passes : (b : BundlePlace) (here : ℕ) (earlier : List Instr) (i : Instr) (more : List Slot) → names_withheld Sfi1 i ≡ false → has_stack b.format ≡ true → writes_register 2 i ≡ true
     → stack.jumps_or_loads_x2 (Plain i) ≡ false → PassesBefore b here earlier i (stack.stack_pair ++ more)
 writer_passes b here earlier (Load kind rd a imm) more h f w j later read e =
-    record {
-      v3 = refl;
-      v4 = writes_unreserved (Load kind rd a imm) h;
-      v5 = on_stack b a (follows_data_pair a earlier) (ap (λ v. v && (a == 2)) f ∙ bool.not-false (a == 2) (second_false (rd == 2) (not (a == 2)) w j));
-      v6 = refl;
-      v7 = refl;
-      v8 = e;
-      v10 = before_pair b here earlier (Load kind rd a imm) later refl (pair_read more later read);
-    }
+    passes _ refl (writes_unreserved (Load kind rd a imm) h) (on_stack b a (follows_data_pair a earlier) (ap (λ v. v && (a == 2)) f ∙ bool.not-false (a == 2) (second_false (rd == 2) (not (a == 2)) w j))) refl refl e (before_pair b here earlier (Load kind rd a imm) later refl (pair_read more later read))
 writer_passes b here earlier (Jal rd offset) more h f w j later read e = let z : true ≡ false = sym w ∙ j in cc
 writer_passes b here earlier (Jalr rd a imm) more h f w j later read e = let z : true ≡ false = sym w ∙ j in cc
 writer_passes b here earlier (Store width a rs2 imm) more h f w j later read e = cc
@@ -144,15 +135,7 @@ writer_passes b here earlier i more h f w j later read e = calm b here earlier i
 access_passes : (b : BundlePlace) (here : ℕ) (earlier : List Instr) (i : Instr) (more : List Slot) → names_withheld Sfi1 i ≡ false → has_stack b.format ≡ true → stack.is_on_x2 i ≡ true
     → writes_stack b i ≡ false → PassesBefore b here earlier i more
 access_passes b here earlier (Load kind rd a imm) more h f o w later read e =
-    record {
-      v3 = refl;
-      v4 = writes_unreserved (Load kind rd a imm) h;
-      v5 = on_stack b a (follows_data_pair a earlier) (ap (λ v. v && (a == 2)) f ∙ o);
-      v6 = refl;
-      v7 = refl;
-      v8 = e;
-      v10 = no_write (place b here earlier (Load kind rd a imm) later) (Load kind rd a imm) w;
-    }
+    passes _ refl (writes_unreserved (Load kind rd a imm) h) (on_stack b a (follows_data_pair a earlier) (ap (λ v. v && (a == 2)) f ∙ o)) refl refl e (no_write (place b here earlier (Load kind rd a imm) later) (Load kind rd a imm) w)
 access_passes b here earlier (Store width a rs2 imm) more h f o w later read e =
     let x = place b here earlier (Store width a rs2 imm) later in
     record { v3 = refl; v4 = refl; v5 = on_stack b a (follows_data_pair a earlier) (ap (λ v. v && (a == 2)) f ∙ o); v6 = refl; v7 = refl; v8 = e; v10 = no_write x x.instr w }
@@ -166,15 +149,7 @@ calm_passes b here earlier i more c h w later read e = calm b here earlier i lat
 jump_passes : (b : BundlePlace) (here : ℕ) (earlier : List Instr) (a rd : ℕ) (more : List Slot) → is_withheld rd ≡ false → is_stack b.format rd ≡ false
     → PassesBefore b here (Op Or 31 31 24 ∷ Op And 31 a 25 ∷ earlier) (Jalr rd 31 (pos 0)) more
 jump_passes b here earlier a rd more h w later read e =
-    record {
-      v3 = refl;
-      v4 = unreserved rd h;
-      v5 = refl;
-      v6 = refl;
-      v7 = refl;
-      v8 = e;
-      v10 = no_write (place b here (Op Or 31 31 24 ∷ Op And 31 a 25 ∷ earlier) (Jalr rd 31 (pos 0)) later) (Jalr rd 31 (pos 0)) w;
-    }
+    passes _ refl (unreserved rd h) refl refl refl e (no_write (place b here (Op Or 31 31 24 ∷ Op And 31 a 25 ∷ earlier) (Jalr rd 31 (pos 0)) later) (Jalr rd 31 (pos 0)) w)
 
 with_sum : (b : BundlePlace) (at : Bases) (names : List PlacedName) (here : ℕ) (earlier : List Instr) (rd a : ℕ) (imm : ℤ) (more : List Slot)
     → is_withheld rd ≡ false → is_stack b.format rd ≡ false → IsCleanAfter b at names more
@@ -198,28 +173,12 @@ masked_clean : (b : BundlePlace) (at : Bases) (names : List PlacedName) (here : 
 masked_clean b at names here earlier rvc (Load kind rd a imm) count expanded more x body h c w rest =
     subst (λ v. IsCleanly b at names here earlier (v ++ more)) (sym x)
     (pair_then b at names here earlier a 27 26 (Load kind rd 31 imm) more
-    (λ later read e. record {
-      v3 = refl;
-      v4 = writes_unreserved (Load kind rd a imm) h;
-      v5 = bool.not_from_true (is_stack b.format 31 || true) (bool.or_right (is_stack b.format 31) true refl);
-      v6 = refl;
-      v7 = refl;
-      v8 = e;
-      v10 = no_write (place b (here + 4 + 4) (Op Or 31 31 26 ∷ Op And 31 a 27 ∷ earlier) (Load kind rd 31 imm) later) (Load kind rd 31 imm) w;
-    })
+    (λ later read e. passes _ refl (writes_unreserved (Load kind rd a imm) h) (bool.not_from_true (is_stack b.format 31 || true) (bool.or_right (is_stack b.format 31) true refl)) refl refl e (no_write (place b (here + 4 + 4) (Op Or 31 31 26 ∷ Op And 31 a 27 ∷ earlier) (Load kind rd 31 imm) later) (Load kind rd 31 imm) w))
     rest)
 masked_clean b at names here earlier rvc (Store width a rs2 imm) count expanded more x body h c w rest =
     subst (λ v. IsCleanly b at names here earlier (v ++ more)) (sym x)
     (pair_then b at names here earlier a 27 26 (Store width 31 rs2 imm) more
-    (λ later read e. record {
-      v3 = refl;
-      v4 = refl;
-      v5 = bool.not_from_true (is_stack b.format 31 || true) (bool.or_right (is_stack b.format 31) true refl);
-      v6 = refl;
-      v7 = refl;
-      v8 = e;
-      v10 = no_write (place b (here + 4 + 4) (Op Or 31 31 26 ∷ Op And 31 a 27 ∷ earlier) (Store width 31 rs2 imm) later) (Store width 31 rs2 imm) w;
-    })
+    (λ later read e. passes _ refl refl (bool.not_from_true (is_stack b.format 31 || true) (bool.or_right (is_stack b.format 31) true refl)) refl refl e (no_write (place b (here + 4 + 4) (Op Or 31 31 26 ∷ Op And 31 a 27 ∷ earlier) (Store width 31 rs2 imm) later) (Store width 31 rs2 imm) w))
     rest)
 masked_clean b at names here earlier rvc (Jalr rd a imm) count expanded more x body h c w rest =
     subst (λ v. IsCleanly b at names here earlier (v ++ more)) (sym x)
@@ -313,28 +272,15 @@ body_clean b at names starts here earlier line rvc (Low rd k) count expanded mor
 same_names : (f : Format) (i : Instr) → has_words f ≡ false → names_withheld f i ≡ names_withheld Sfi1 i
 same_names Sfi1 i e = refl
 same_names Sfi2 (Op op rd rs1 rs2) e = refl
-same_names Sfi2 (OpImm op rd rs1 imm) e = refl
-same_names Sfi2 (Load kind rd rs1 imm) e = refl
-same_names Sfi2 (Store width rs1 rs2 imm) e = refl
-same_names Sfi2 (Branch cond rs1 rs2 offset) e = refl
-same_names Sfi2 (Jal rd offset) e = refl
-same_names Sfi2 (Jalr rd rs1 imm) e = refl
-same_names Sfi2 (Lui rd imm) e = refl
-same_names Sfi2 (Auipc rd imm) e = refl
-same_names Sfi2 (Fence imm rd rs1) e = refl
-same_names Sfi2 Ecall e = refl
-same_names Sfi2 Ebreak e = refl
+same_names Sfi2 _ e = refl
 same_names Sfiw i e = absurd (true≢false e)
 
 same_withheld : (f : Format) (body : Body) → has_words f ≡ false → item_names_withheld f body ≡ item_names_withheld Sfi1 body
 same_withheld f (Plain i) e = same_names f i e
 same_withheld f (To i name) e = same_names f i e
-same_withheld Sfi1 (High rd name) e = refl
-same_withheld Sfi1 (Low rd name) e = refl
-same_withheld Sfi2 (High rd name) e = refl
-same_withheld Sfi2 (Low rd name) e = refl
-same_withheld Sfiw (High rd name) e = absurd (true≢false e)
-same_withheld Sfiw (Low rd name) e = absurd (true≢false e)
+same_withheld Sfiw body e = absurd (true≢false e)
+same_withheld Sfi1 _ e = refl
+same_withheld Sfi2 _ e = refl
 
 -- slots that are whole expansions, with what is clean after them, are read whole, without a finding
 pub clean : (b : BundlePlace) (at : Bases) (names : List PlacedName) → AreStarts b at names → has_words b.format ≡ false → (count : ℕ) (slots more : List Slot)

@@ -80,6 +80,10 @@ pub record Passes (x : Place) : Type 0 where
   pub v8 : breaks_end x x.instr ≡ false
   pub v10 : breaks_stack x x.instr ≡ false
 
+pub passes : (x : Place) → breaks_ecall x x.instr ≡ false → breaks_reserved x.instr ≡ false → breaks_access x x.instr ≡ false → breaks_jump x x.instr ≡ false → breaks_target x x.instr ≡ false → breaks_end x x.instr ≡ false
+    → breaks_stack x x.instr ≡ false → Passes x
+passes x ecall reserved access jump target end stack = record { v3 = ecall; v4 = reserved; v5 = access; v6 = jump; v7 = target; v8 = end; v10 = stack }
+
 none_lowest : (x : Place) → Passes x → lowest x all_rules ≡ []
 none_lowest x h = simp (h.v3, h.v4, h.v5, h.v6, h.v7, h.v8, h.v10)
 

@@ -1,12 +1,11 @@
 -- What is made of a placed sandbox breaks no rule.
-use Rattle.sfi_link.proofs.Prelude.{◌≡◌, ℕ, ◌+◌, ◌-◌, ◌*◌, ◌^◌, ◌<◌, ◌≤◌, List, [], ◌∷◌, length, Option, Some, None, refl, sym, ap, ◌∙◌, subst, arith, slice_get, All, repeat, All-head, All-tail, Format, Part, stub_of, Slot, PlacedName, size_of, slots_of, Placement, AreWhole, IsPlacedPart, IsPlacedThere, Place, bases_of, of_name, target_at, target_of, AreSlots, needed, gates_from, IsLinked, AreLinkedFrom}
-use Rattle.sfi_image.specs.Gates.{is_gate_of}
+use Rattle.sfi_link.proofs.Prelude.{◌≡◌, ℕ, ◌+◌, ◌-◌, ◌*◌, ◌^◌, ◌<◌, ◌≤◌, List, [], ◌∷◌, length, Option, Some, None, refl, sym, ap, ◌∙◌, subst, arith, slice_get, All, repeat, All-head, All-tail, Format, Part, stub_of, Slot, PlacedName, size_of, slots_of, Placement, AreWhole, IsPlacedPart, IsPlacedThere, Place, bases_of, of_name, target_at, target_of, AreSlots, needed, part_with, IsLinked, AreLinkedFrom}
 use Rattle.sfi_image.specs.Regions.{IsBundleStart}
-use Rattle.sfi_rewrite.specs.declared.placed.PlacedName.TheVariants.{Gate, Code, Data, Unknown}
+use Rattle.sfi_rewrite.specs.declared.placed.PlacedName.TheVariants.{Gate, Code}
 use Rattle.std.specs.Prelude.{◌++◌, ◌%◌, Bool, true, false, MatchBool}
 use Rattle.std.proofs.lemmas.Bool.{true≢false, and_from, le-leb, lt-ltb, eq-eqb}
 use Rattle.sfi_policy.specs.Formats.{has_words, unit}
-use Rattle.sfi_policy.specs.declared.format.Format.TheVariants.{Sfi1, Sfi2, Sfiw}
+use Rattle.sfi_policy.specs.declared.format.Format.TheVariants.{Sfiw}
 use Rattle.sfi_rewrite.specs.Placed.{AreOfItems, AreWholeIn}
 use Rattle.sfi_rules.specs.Findings.{AreFindings, AreFindingsFrom}
 use Rattle.sfi_rules.proofs.Facts.{of_bundles, of_words, same_bundle_starts}
@@ -32,177 +31,159 @@ of_place f (Some n) a e = (n, refl, e)
 
 -- a unit of code in bundles is a bundle, and each bundle holds whole expansions
 bundle_unit : (f : Format) → has_words f ≡ false → unit f ≡ 16
-bundle_unit Sfi1 e = refl
-bundle_unit Sfi2 e = refl
 bundle_unit Sfiw e = absurd (true≢false e)
+bundle_unit _ e = refl
 
 bundles_whole : (f : Format) (count : ℕ) (bundles : List (List Slot)) → has_words f ≡ false → AreWholeIn f count bundles → All (AreWhole f count) bundles
 bundles_whole f count bundles e whole = subst (λ (b : Bool). MatchBool b (AreOfItems count (slots_of bundles)) (All (AreWhole f count) bundles)) e whole
 
 -- the unit divides a bundle, and so what lies so many bytes after a bundle start
 after_bundle : (f : Format) (start offset to : ℕ) → to ≡ start + offset → start % 16 ≡ 0 → offset % unit f ≡ 0 → to % unit f ≡ 0
-after_bundle Sfi1 start offset to e whole even = omega arith
-after_bundle Sfi2 start offset to e whole even = omega arith
 after_bundle Sfiw start offset to e whole even = omega arith
+after_bundle _ start offset to e whole even = omega arith
 
 zero_even : (f : Format) → 0 % unit f ≡ 0
-zero_even Sfi1 = refl
-zero_even Sfi2 = refl
 zero_even Sfiw = refl
+zero_even _ = refl
 
 -- an address of the code at which the sandbox may be entered
-record IsStart (p : Placement) (q : Part) (to : ℕ) : Type 0 where
-  from : q.code_base ≤ to
-  below : to < q.code_base + length q.code
-  aligned : to % unit p.format ≡ 0
+record IsStart (f : Format) (base size to : ℕ) : Type 0 where
+  from : base ≤ to
+  below : to < base + size
+  aligned : to % unit f ≡ 0
   small : to < 2 ^ 32
 
 -- the target of a jump to a name is one
-target_starts : (given : List Place) → (number : ℕ) (p : Placement) (q : Part) → IsLinked given number p q → (n : PlacedName) → IsPlacedThere p n → (to : ℕ) → target_of (bases_of given number p) n ≡ Some to → IsStart p q to
-target_starts given number p q linked (Gate k) there to e =
+target_starts : (given : List Place) → (number : ℕ) (p : Placement) (code : List ℕ) → IsLinked given number p (part_with given number p code) → (n : PlacedName) → IsPlacedThere p n → (to : ℕ) → target_of (bases_of given number p) n ≡ Some to
+    → IsStart p.format (bases_of given number p).code (length code) to
+target_starts given number p code linked (Gate k) there to e =
     let is = some_same ((bases_of given number p).code + 16 * k) to e in
-    let base = linked.code_base in
     let room = linked.code.size.has_room.room in
-    let well = lies_well given number p q linked in
+    let well = lies_well given number p _ linked in
     let end = well.end in
     let whole = well.even in
     record { from = omega arith; below = omega arith; aligned = after_bundle p.format to 0 to (omega arith) (omega arith) (zero_even p.format); small = omega arith }
-target_starts given number p q linked (Code offset) there to e =
+target_starts given number p code linked (Code offset) there to e =
     let is = some_same ((bases_of given number p).start + offset) to e in
-    let base = linked.code_base in
     let room = linked.code.size.has_room.room in
-    let well = lies_well given number p q linked in
+    let well = lies_well given number p _ linked in
     let end = well.end in
     let whole = well.even in
     let within = there.1 in
     record { from = omega arith; below = omega arith; aligned = after_bundle p.format (bases_of given number p).start offset to (omega arith) (omega arith) there.0; small = omega arith }
-target_starts given number p q linked (Data offset) there to e = cc
-target_starts given number p q linked Unknown there to e = cc
+target_starts given number p code linked _ there to e = cc
 
-name_starts : (given : List Place) → (number : ℕ) (p : Placement) (q : Part) → IsPlacedPart p → IsLinked given number p q → (place to : ℕ) → target_at (bases_of given number p) p.names place ≡ Some to → IsStart p q to
-name_starts given number p q placed linked place to e =
+name_starts : (given : List Place) → (number : ℕ) (p : Placement) (code : List ℕ) → IsPlacedPart p → IsLinked given number p (part_with given number p code) → (place to : ℕ) → target_at (bases_of given number p) p.names place ≡ Some to
+    → IsStart p.format (bases_of given number p).code (length code) to
+name_starts given number p code placed linked place to e =
     let found = of_place (target_of (bases_of given number p)) (slice_get p.names place) to e in
     let within = slice_get_within p.names place found.0 found.1 in
     let there : IsPlacedThere p found.0 = subst (IsPlacedThere p) (get_or_from_slice_get p.names place found.0 found.0 found.1) (placed.names place found.0 within) in
-    target_starts given number p q linked found.0 there to found.2
+    target_starts given number p code linked found.0 there to found.2
 
-are_starts : (given : List Place) → (number : ℕ) (p : Placement) (q : Part) → has_words p.format ≡ false → IsPlacedPart p → IsLinked given number p q → (sandbox : ℕ) → AreStarts (place_of sandbox q 0) (bases_of given number p) p.names
-are_starts given number p q bundled placed linked sandbox place to e =
-    let s = name_starts given number p q placed linked place to e in
-    let start : IsBundleStart (record { base = q.code_base; size = length q.code }) to = record { held = (s.from, s.below); aligned = ap (λ n. to % n) (sym (bundle_unit p.format bundled)) ∙ s.aligned } in
-    ((same_bundle_starts (place_of sandbox q 0) to).1 start, s.small)
+are_starts : (given : List Place) → (number : ℕ) (p : Placement) (code : List ℕ) → has_words p.format ≡ false → IsPlacedPart p → IsLinked given number p (part_with given number p code) → (sandbox : ℕ)
+    → AreStarts (place_of sandbox (part_with given number p code) 0) (bases_of given number p) p.names
+are_starts given number p code bundled placed linked sandbox place to e =
+    let s = name_starts given number p code placed linked place to e in
+    let start : IsBundleStart (record { base = (bases_of given number p).code; size = length code }) to = record { held = (s.from, s.below); aligned = ap (λ n. to % n) (sym (bundle_unit p.format bundled)) ∙ s.aligned } in
+    ((same_bundle_starts (place_of sandbox (part_with given number p code) 0) to).1 start, s.small)
 
 -- ---- a sandbox
 
--- the gates are listed at the addresses that their stubs have
-same_gates : (given : List Place) → (number : ℕ) (p : Placement) (q : Part) → IsLinked given number p q
-    → (k : ℕ) → is_gate_of q.gates (q.code_base + 16 * k) ≡ is_gate_of (gates_from (bases_of given number p).code p.gates) ((bases_of given number p).code + 16 * k)
-same_gates given number p q linked k =
-    ap (λ gs. is_gate_of gs (q.code_base + 16 * k)) linked.gates ∙ ap (λ a. is_gate_of (gates_from (bases_of given number p).code p.gates) (a + 16 * k)) linked.code_base
-
-closed : (given : List Place) → (number : ℕ) (p : Placement) (q : Part) → has_words p.format ≡ false → IsPlacedPart p → IsLinked given number p q
-    → (full : List (List Slot)) × IsClosed q (bases_of given number p) p.names (length p.gates) full × ((bases_of given number p).start + 16 * length full ≤ 2 ^ 32)
-closed given number p q bundled placed linked =
-    let code = linked.code in
-    let room = code.size.has_room.room in
-    let most = code.size.has_room.at_most in
-    let well = lies_well given number p q linked in
-    let end = well.end in
-    let base = linked.code_base in
-    let gates = linked.gates in
-    let start = linked.start in
-    let counted = sixteens p.format (needed p) (length q.code) code.size.has_room in
+closed : (given : List Place) → (number : ℕ) (p : Placement) (code : List ℕ) → has_words p.format ≡ false → IsPlacedPart p → IsLinked given number p (part_with given number p code)
+    → (full : List (List Slot)) × IsClosed (part_with given number p code) (bases_of given number p) p.names (length p.gates) full × ((bases_of given number p).start + 16 * length full ≤ 2 ^ 32)
+closed given number p code bundled placed linked =
+    let made = linked.code in
+    let room = made.size.has_room.room in
+    let end = (lies_well given number p _ linked).end in
+    let counted = sixteens p.format (needed p) (length code) made.size.has_room in
     let sixteen = counted.1 in
-    let long = code_length given number p q.code code in
+    let long = code_length given number p code made in
     let n : ℕ = counted.0 - length p.gates in
-    let whole = filled q.format (length p.names) p.bundles placed.bundles (subst (λ (f : Format). All (AreWhole f (length p.names)) p.bundles) (sym linked.format) (bundles_whole p.format (length p.names) p.bundles bundled placed.whole)) code.fill n (omega arith) (omega arith) in
+    let whole = filled p.format (length p.names) p.bundles placed.bundles (bundles_whole p.format (length p.names) p.bundles bundled placed.whole) made.fill n (omega arith) (omega arith) in
     let count = whole.count in
-    let at = bases_of given number p in
-    let same = same_gates given number p q linked in (
+    let at = bases_of given number p in (
       whole.full,
       record {
-        bundled = ap has_words linked.format ∙ bundled;
-        starts = are_starts given number p q bundled placed linked;
-        start = omega arith;
+        bundled = bundled;
+        starts = are_starts given number p code bundled placed linked;
+        start = refl;
         room = omega arith;
-        bytes = code.bytes;
-        code = code.code_is ∙ ap (λ l. repeat (length p.gates) l ++ code.bytes) (bundle_stub p.format bundled);
-        slots = subst (λ l. AreSlots at p.names at.start l code.bytes) {y = slots_of whole.full} (sym whole.slots) code.slots;
+        bytes = made.bytes;
+        code = made.code_is ∙ ap (λ l. repeat (length p.gates) l ++ made.bytes) (bundle_stub p.format bundled);
+        slots = subst (λ l. AreSlots at p.names at.start l made.bytes) {y = slots_of whole.full} (sym whole.slots) made.slots;
         all = whole.all;
         some = omega arith;
         ends = λ k h. whole.ends k (omega arith);
-        listed = λ k. (λ h. listed_only at.code p.gates k (sym (same k) ∙ h), λ h. same k ∙ listed_at at.code p.gates k h);
+        listed = λ k. (listed_only at.code p.gates k, listed_at at.code p.gates k);
       },
       omega arith,
     )
 
-bundles_clean : (given : List Place) (number : ℕ) (p : Placement) (q : Part) → has_words p.format ≡ false → IsPlacedPart p → IsLinked given number p q → AreFindings number q []
-bundles_clean given number p q bundled placed linked =
-    let c = closed given number p q bundled placed linked in
-    of_bundles number q [] (ap has_words linked.format ∙ bundled) (closed_is_clean number q (bases_of given number p) p.names (length p.gates) c.0 c.1 c.2)
+bundles_clean : (given : List Place) (number : ℕ) (p : Placement) (code : List ℕ) → has_words p.format ≡ false → IsPlacedPart p → IsLinked given number p (part_with given number p code) → AreFindings number (part_with given number p code) []
+bundles_clean given number p code bundled placed linked =
+    let c = closed given number p code bundled placed linked in
+    of_bundles number (part_with given number p code) [] bundled (closed_is_clean number (part_with given number p code) (bases_of given number p) p.names (length p.gates) c.0 c.1 c.2)
 
 -- ---- a sandbox of code in words
 
 -- the only format of words
 words_format : (f : Format) → has_words f ≡ true → f ≡ Sfiw
-words_format Sfi1 e = absurd (true≢false (sym e))
-words_format Sfi2 e = absurd (true≢false (sym e))
 words_format Sfiw e = refl
+words_format _ e = absurd (true≢false (sym e))
 
 words_whole : (f : Format) (count : ℕ) (bundles : List (List Slot)) → has_words f ≡ true → AreWholeIn f count bundles → AreOfItems count (slots_of bundles)
 words_whole f count bundles e whole = subst (λ (b : Bool). MatchBool b (AreOfItems count (slots_of bundles)) (All (AreWhole f count) bundles)) e whole
 
-are_word_starts : (given : List Place) → (number : ℕ) (p : Placement) (q : Part) → p.format ≡ Sfiw → IsPlacedPart p → IsLinked given number p q → AreWordStarts q.code_base (length q.code) (bases_of given number p) p.names
-are_word_starts given number p q words placed linked place to e =
-    let s = name_starts given number p q placed linked place to e in
+are_word_starts : (given : List Place) → (number : ℕ) (p : Placement) (code : List ℕ) → p.format ≡ Sfiw → IsPlacedPart p → IsLinked given number p (part_with given number p code) → AreWordStarts (bases_of given number p).code (length code) (bases_of given number p) p.names
+are_word_starts given number p code words placed linked place to e =
+    let s = name_starts given number p code placed linked place to e in
     let aligned : to % 4 ≡ 0 = ap (λ f. to % unit f) (sym words) ∙ s.aligned in
-    (and_from _ _ (and_from _ _ (le-leb q.code_base to s.from) (lt-ltb to (q.code_base + length q.code) s.below)) (eq-eqb (to % 4) 0 aligned), s.small)
+    (and_from _ _ (and_from _ _ (le-leb (bases_of given number p).code to s.from) (lt-ltb to ((bases_of given number p).code + length code) s.below)) (eq-eqb (to % 4) 0 aligned), s.small)
 
-words_filled : (given : List Place) → (number : ℕ) (p : Placement) (q : Part) → p.format ≡ Sfiw → IsPlacedPart p → IsLinked given number p q → (of : AreOfItems (length p.names) (slots_of p.bundles))
-    → IsFilled q (bases_of given number p) p.names (length p.gates) of.laid.0 (slots_of p.bundles)
-words_filled given number p q words placed linked of =
-    let code = linked.code in
-    let room = code.size.has_room.room in
-    let well = lies_well given number p q linked in
-    let end = well.end in
-    let base = linked.code_base in
-    let gates = linked.gates in
-    let counted = sixteens p.format (needed p) (length q.code) code.size.has_room in
+words_filled : (given : List Place) → (number : ℕ) (p : Placement) (code : List ℕ) → p.format ≡ Sfiw → IsPlacedPart p → IsLinked given number p (part_with given number p code) → (of : AreOfItems (length p.names) (slots_of p.bundles))
+    → IsFilled (part_with given number p code) (bases_of given number p) p.names (length p.gates) of.laid.0 (slots_of p.bundles)
+words_filled given number p code words placed linked of =
+    let made = linked.code in
+    let room = made.size.has_room.room in
+    let end = (lies_well given number p _ linked).end in
+    let counted = sixteens p.format (needed p) (length code) made.size.has_room in
     let at = bases_of given number p in
     let laid = of.laid.2 in
     let in_words : InWords of.laid.0 (slots_of p.bundles) = subst (λ v. InWords of.laid.0 v) (sym laid) (view of.laid.0) in
     let aligned : size_of (slots_of p.bundles) % 4 ≡ 0 = ap (λ v. size_of v % 4) laid ∙ word_aligned of.laid.0 in
-    let long = code_length given number p q.code code in
+    let long = code_length given number p code made in
     record {
-      start = omega arith;
-      bytes = code.bytes;
-      fill = code.fill;
-      code = code.code_is ∙ ap (λ f. repeat (length p.gates) (stub_of f) ++ code.bytes) words;
-      are = code.slots;
+      start = refl;
+      bytes = made.bytes;
+      fill = made.fill;
+      code = made.code_is ∙ ap (λ f. repeat (length p.gates) (stub_of f) ++ made.bytes) words;
+      are = made.slots;
       in_words = in_words;
       aligned = aligned;
       some = omega arith;
       bundles = counted.0;
       size = counted.1;
-      right = items_right q.code_base (length q.code) at p.names (are_word_starts given number p q words placed linked) (length p.names) at.start kind.Nothing of.items of.laid.0 (slots_of p.bundles) (omega arith) of.permitted of.bodies
+      right = items_right at.code (length code) at p.names (are_word_starts given number p code words placed linked) (length p.names) at.start kind.Nothing of.items of.laid.0 (slots_of p.bundles) (omega arith) of.permitted of.bodies
           (nothing_owed of.items) of.laid.1 (as_laid of.laid.0 (slots_of p.bundles) in_words);
-      listed = λ k below. same_gates given number p q linked k ∙ listed_at at.code p.gates k below;
+      listed = listed_at at.code p.gates;
     }
 
-words_clean : (given : List Place) (number : ℕ) (p : Placement) (q : Part) → has_words p.format ≡ true → IsPlacedPart p → IsLinked given number p q → AreFindings number q []
-words_clean given number p q has placed linked =
+words_clean : (given : List Place) (number : ℕ) (p : Placement) (code : List ℕ) → has_words p.format ≡ true → IsPlacedPart p → IsLinked given number p (part_with given number p code) → AreFindings number (part_with given number p code) []
+words_clean given number p code has placed linked =
     let words = words_format p.format has in
     let of = words_whole p.format (length p.names) p.bundles has placed.whole in
-    of_words number q [] (ap has_words linked.format ∙ has) (filled_is_clean number q (bases_of given number p) p.names (length p.gates) of.laid.0 (slots_of p.bundles) (words_filled given number p q words placed linked of))
+    of_words number (part_with given number p code) [] has (filled_is_clean number (part_with given number p code) (bases_of given number p) p.names (length p.gates) of.laid.0 (slots_of p.bundles) (words_filled given number p code words placed linked of))
 
 -- ---- either
 
 pub linked_is_clean : (given : List Place) (number : ℕ) (p : Placement) (q : Part) → IsPlacedPart p → IsLinked given number p q → AreFindings number q []
-linked_is_clean given number p q placed linked = by (has_words p.format) refl
+linked_is_clean given number p q placed linked =
+    subst (λ (r : Part). AreFindings number r []) (sym linked.is) (by (has_words p.format) refl (subst (IsLinked given number p) linked.is linked))
   where
-    by : (w : Bool) → has_words p.format ≡ w → AreFindings number q []
-    by true e = words_clean given number p q e placed linked
-    by false e = bundles_clean given number p q e placed linked
+    by : (w : Bool) → has_words p.format ≡ w → IsLinked given number p (part_with given number p q.code) → AreFindings number (part_with given number p q.code) []
+    by true e again = words_clean given number p q.code e placed again
+    by false e again = bundles_clean given number p q.code e placed again
 
 pub all_are_clean : (given : List Place) (number : ℕ) (placed : List Placement) (parts : List Part) → All IsPlacedPart placed → AreLinkedFrom given number placed parts → AreFindingsFrom number parts []
 all_are_clean given number [] parts all linked = subst (λ qs. AreFindingsFrom number qs []) (sym linked) refl

@@ -1,23 +1,22 @@
 -- From the code of each sandbox to the image.
-use Rattle.sfi_link.proofs.Prelude.{◌≡◌, ℕ, zero, suc, ◌+◌, ◌-◌, ◌*◌, ◌/◌, ◌^◌, ◌<◌, ◌≤◌, List, [], ◌∷◌, ◌++◌, length, take, drop, get_or, replicate, refl, sym, ap, ◌∙◌, subst, arith, append_assoc, append-nil, length-append, inl, inr, Vec, Global, max, map, Result, Ok, Err, IfOk, All, AllPairs, repeat, cases_lt, length-map, length-take-le, map_push, All-nil, Format, code_most, Sandbox, Span, Part, fields_of, stub_of, PlacedName, size_of, slots_of, Placement, IsPlacedPart, IsPlacedThere, Place, Bases, LinkFault, place_of, IsRightPlace, spans_at, AreApart, spans, spans_of, bases_of, AreSlots, c_ebreak, needed, HasRoom, IsCodeSize, gates_from, IsLinkedCode, IsLinked, AreLinkedFrom, AreLinked, MayLie, IsSlotFault, HasPartFault, IsPartFault, IsLinkFault, IsNear, AreNear, HasRoomFor, AreWritten, LiesBeside, IsCodeBeside, AreCodes, Links, All-push, with_guards}
+use Rattle.sfi_link.proofs.Prelude.{◌≡◌, ℕ, zero, suc, ◌+◌, ◌-◌, ◌*◌, ◌/◌, ◌^◌, ◌<◌, ◌≤◌, List, [], ◌∷◌, ◌++◌, length, drop, get_or, replicate, refl, sym, ap, ◌∙◌, subst, arith, append_assoc, append-nil, length-append, inl, inr, Vec, Global, max, Result, Ok, Err, IfOk, All, AllPairs, repeat, cases_lt, All-nil, Format, code_most, Sandbox, Span, Part, stub_of, PlacedName, size_of, slots_of, Placement, IsPlacedPart, IsPlacedThere, Place, Bases, LinkFault, place_of, IsRightPlace, spans_at, AreApart, spans, bases_of, AreSlots, c_ebreak, needed, HasRoom, IsCodeSize, gates_from, IsLinkedCode, IsLinked, AreLinkedFrom, AreLinked, MayLie, IsSlotFault, HasPartFault, IsPartFault, IsLinkFault, IsNear, AreNear, HasRoomFor, AreWritten, LiesBeside, IsCodeBeside, AreCodes, Links, part_with, parts_with, All-push, with_guards}
 use Rattle.rv_source.specs.declared.item.SourceGate.{SourceGate}
 use Rattle.sfi_image.specs.Bounded.{IsBounded}
 use Rattle.sfi_link.specs.Answers.{UnlessMemory, AnswersItems, AnswersFault}
 use Rattle.sfi_link.specs.Building.{IsLinkedImage, ArePlacements, IsBuild}
-use Rattle.sfi_policy.specs.declared.format.Format.TheVariants.{Sfi1, Sfi2, Sfiw}
+use Rattle.sfi_policy.specs.declared.format.Format.TheVariants.{Sfi1}
 use Rattle.std.proofs.Math.Nat.{pow-suc}
 use Rattle.std.proofs.Math.Pow.{pow_mono}
-use Rattle.std.proofs.lemmas.Grind.{flat_map-append}
+use Rattle.std.proofs.lemmas.List.{at_drop_more}
 use Rattle.sfi_image.specs.Spelling.{spelling}
 use Rattle.sfi_image.proofs.Formats.{code_at_most}
-use Rattle.sfi_image.proofs.SpanLists.{front_apart}
 use Rattle.sfi_rewrite.specs.declared.placed.PlacedName.TheVariants as name
 use Rattle.sfi_link.specs.declared.fault.LinkFault.TheVariants as named
 use Rattle.sfi_rewrite.proofs.Sizes.{size_even}
 use Rattle.sfi_link.proofs.Stubs.{length_stubs}
 use Rattle.sfi_link.proofs.Parts.{sixteens, well_placed}
-use Rattle.sfi_link.proofs.Pushed.{slots-append, split_at, written_length, fill_slots, memory_or, then_unless}
-use Rattle.sfi_link.proofs.OneLinking.{one_size, own_spans, one_linking, one_fault, never_both}
+use Rattle.sfi_link.proofs.Pushed.{slots-append, written_length, fill_slots, memory_or, then_unless}
+use Rattle.sfi_link.proofs.OneLinking.{one_size, one_linking, one_fault, never_both}
 
 -- ---- the code size
 
@@ -36,8 +35,7 @@ least_power needed n (suc k) m j is half some mis enough =
 -- the largest code region is a power of two
 most_power : (f : Format) → (j : ℕ) × (code_most f ≡ 2 ^ j)
 most_power Sfi1 = (16, refl)
-most_power Sfi2 = (20, refl)
-most_power Sfiw = (20, refl)
+most_power _ = (20, refl)
 
 pub least_size : (f : Format) (needed n k : ℕ) → n ≡ 2 ^ k → needed ≤ n → n / 2 < max 1 needed → 256 < needed → needed ≤ code_most f → IsCodeSize f needed n
 least_size f needed n k is enough half low high = record {
@@ -47,8 +45,7 @@ least_size f needed n k is enough half low high = record {
 
 some_most : (f : Format) → 256 ≤ code_most f
 some_most Sfi1 = omega arith
-some_most Sfi2 = omega arith
-some_most Sfiw = omega arith
+some_most _ = omega arith
 
 pub small_size : (f : Format) (needed : ℕ) → needed ≤ 256 → IsCodeSize f needed 256
 small_size f needed low = record {
@@ -205,124 +202,87 @@ code_beside given number p c size old new sized made lies =
 
 -- ---- gates
 
-pub gates_push : (address : ℕ) (gs : List SourceGate) (g : SourceGate) → gates_from address (gs ++ g ∷ []) ≡ gates_from address gs ++ record { address = address + 16 * length gs; service = g.service } ∷ []
-gates_push address [] g = ap (λ a. record { address = a; service = g.service } ∷ []) (let e : address ≡ address + 16 * 0 = omega arith in e)
-gates_push address (h ∷ gs) g =
-    let e : address + 16 + 16 * length gs ≡ address + 16 * length (h ∷ gs) = omega arith in
-    ap (λ l. record { address = address; service = h.service } ∷ l)
-    (gates_push (address + 16) gs g ∙ ap (λ a. gates_from (address + 16) gs ++ record { address = a; service = g.service } ∷ []) e)
+pub gates_next : (address : ℕ) (gs : List SourceGate) (k : ℕ) (d : SourceGate) → k < length gs
+    → gates_from (address + 16 * k) (drop k gs) ≡ record { address = address + 16 * k; service = (get_or gs k d).service } ∷ gates_from (address + 16 * (k + 1)) (drop (k + 1) gs)
+gates_next address gs k d lt =
+    let past : address + 16 * k + 16 ≡ address + 16 * (k + 1) = omega arith in
+    at_drop_more (gates_from (address + 16 * k)) gs k d lt ∙ ap (λ n. record { address = address + 16 * k; service = (get_or gs k d).service } ∷ gates_from n (drop (k + 1) gs)) past
 
 -- ---- lists of sandboxes
-
-pub linked_push : (given : List Place) → (number n : ℕ) (ps : List Placement) (qs : List Part) (p : Placement) (q : Part) → n ≡ number + length ps → AreLinkedFrom given number ps qs → IsLinked given n p q → AreLinkedFrom given number (ps ++ p ∷ []) (qs ++ q ∷ [])
-linked_push given number n [] qs p q e none one =
-    let z : n ≡ number = omega arith in
-    subst (λ l. AreLinkedFrom given number (p ∷ []) (l ++ q ∷ [])) (sym none) (subst (λ m. IsLinked given m p q) z one, refl)
-linked_push given number n (x ∷ ps) [] p q e all one = absurd all
-linked_push given number n (x ∷ ps) (y ∷ qs) p q e all one = (all.0, linked_push given (number + 1) n ps qs p q (omega arith) all.1 one)
 
 pub linked_length : (given : List Place) → (number : ℕ) (ps : List Placement) (qs : List Part) → AreLinkedFrom given number ps qs → length qs ≡ length ps
 linked_length given number [] qs none = ap length none
 linked_length given number (p ∷ ps) [] all = absurd all
 linked_length given number (p ∷ ps) (q ∷ qs) all = ap suc (linked_length given (number + 1) ps qs all.1)
 
--- the code of the sandbox at a place
-pub code_at : (given : List Place) → (number k n : ℕ) (ps : List Placement) (qs : List Part) (p : Placement) (c : List ℕ) → n ≡ number + k → k < length ps → p ≡ get_or ps k p → c ≡ get_or (map (λ q. q.code) qs) k c → AreLinkedFrom given number ps qs
-    → IsLinkedCode given n p c × IsRightPlace p (length c) (place_of given n)
-code_at given number k n [] qs p c e lt ep ec all = absurd (omega arith)
-code_at given number k n (r ∷ ps) [] p c e lt ep ec all = absurd all
-code_at given number zero n (r ∷ ps) (q ∷ qs) p c e lt ep ec all =
-    let z : number ≡ n = omega arith in
-    let Here : ℕ → Placement → List ℕ → Type 0 = λ m s x. IsLinkedCode given m s x × IsRightPlace s (length x) (place_of given m) in
-    let here : Here number r q.code = (all.0.code, all.0.lies) in
-    subst (λ x. Here n p x) (sym ec) (subst (λ s. Here n s q.code) (sym ep) (subst (λ m. Here m r q.code) z here))
-code_at given number (suc k) n (r ∷ ps) (q ∷ qs) p c e lt ep ec all = code_at given (number + 1) k n ps qs p c (omega arith) (omega arith) ep ec all.1
-
-pub codes_length : (given : List Place) → (ps : List Placement) (cs : List (List ℕ)) → AreCodes given ps cs → length cs ≡ length ps
-codes_length given ps cs codes = ap length codes.codes_are ∙ length-map codes.parts (λ q. q.code) ∙ linked_length given 0 ps codes.parts codes.linked
+pub codes_length : (given : List Place) (number : ℕ) (before : List Span) (ps : List Placement) (cs : List (List ℕ)) → AreCodes given number before ps cs → length cs ≡ length ps
+codes_length given number before [] cs h = ap length h
+codes_length given number before (p ∷ ps) [] h = absurd h
+codes_length given number before (p ∷ ps) (c ∷ cs) h = ap suc (codes_length given (number + 1) h.0 ps cs h.2)
 
 -- the sandbox with this code
-pub part_of : (given : List Place) (number : ℕ) (p : Placement) (code : List ℕ) → IsLinkedCode given number p code → IsRightPlace p (length code) (place_of given number) → (q : Part) × IsLinked given number p q × (q.code ≡ code)
-part_of given number p code made lies = (
-  record {
-    format = p.format;
-    code_base = (bases_of given number p).code;
-    data_base = (bases_of given number p).«data»;
-    data_size = p.data_size;
-    start = (bases_of given number p).start;
-    gates = gates_from (bases_of given number p).code p.gates;
-    code = code;
-    init = p.bytes;
-  },
-  record { format = refl; code_base = refl; data_base = refl; data_size = refl; start = refl; gates = refl; init = refl; code = made; lies = lies },
-  refl,
-)
+pub linked_with : (given : List Place) (number : ℕ) (p : Placement) (c : List ℕ) (old new : List Span) → IsCodeBeside given number p c old new → IsLinked given number p (part_with given number p c)
+linked_with given number p c old new one = record { code = one.code; lies = one.lies.right; is = refl }
 
--- the code of the sandboxes so far, and their spans
-pub record AreLaid (given : List Place) (ps : List Placement) (cs : List (List ℕ)) (laid : List Span) : Type 0 where
-  pub codes : AreCodes given ps cs
-  pub laid_are : laid ≡ spans codes.parts
-  pub bounded : All IsBounded laid
+-- What is left of the sandboxes, after this code of those before and these spans, completes them all:
+-- with its code, or with its fault.
+pub record CodesLeft (given : List Place) (number : ℕ) (placed left : List Placement) (so_far : List (List ℕ)) (now : List Span) : Type 0 where
+  pub codes : (more : List (List ℕ)) → AreCodes given number now left more → AreCodes given 0 [] placed (so_far ++ more)
+  pub fault : (f : LinkFault) → IsPartFault given number now left f → IsPartFault given 0 [] placed f
+  pub bounded : All IsBounded now
+  pub apart : AllPairs AreApart now
 
-pub none_laid : (given : List Place) → AreLaid given [] [] []
-none_laid given = record { codes = record { parts = []; linked = refl; codes_are = refl; apart = λ i j d lt within. absurd (omega arith) }; laid_are = refl; bounded = All-nil IsBounded }
+pub none_apart : AllPairs AreApart []
+none_apart = λ i j d lt within. absurd (omega arith)
 
--- one more sandbox
-pub laid_more : (given : List Place) (k : ℕ) (ps : List Placement) (cs : List (List ℕ)) (p : Placement) (c : List ℕ) (old new : List Span) → k ≡ length ps → AreLaid given ps cs old → IsCodeBeside given k p c old new
-    → AreLaid given (ps ++ p ∷ []) (cs ++ c ∷ []) new
-laid_more given k ps cs p c old new e laid one =
-    let parts = laid.codes.parts in
-    let made = part_of given k p c one.code one.lies.right in
-    let q = made.0 in
-    let linked = made.1 in
-    let is = made.2 in
-    let own : spans (q ∷ []) ≡ spans_at p (length c) (place_of given k) = own_spans given k p q linked ∙ ap (λ l. spans_at p (length l) (place_of given k)) is in
-    let all : new ≡ spans (parts ++ q ∷ []) =
-    one.lies.spans_are ∙ ap (λ l. l ++ spans_at p (length c) (place_of given k)) laid.laid_are ∙ ap (λ l. spans parts ++ l) (sym own) ∙ sym (flat_map-append (λ q. spans_of (fields_of q)) parts (q ∷ [])) in
+pub all_left : (given : List Place) (placed : List Placement) → CodesLeft given 0 placed placed [] []
+all_left given placed = record { codes = λ more h. h; fault = λ f h. h; bounded = All-nil IsBounded; apart = none_apart }
+
+-- one sandbox fewer is left
+pub one_fewer : (given : List Place) (k : ℕ) (placed left : List Placement) (p : Placement) (so_far : List (List ℕ)) (c : List ℕ) (old new : List Span) → CodesLeft given k placed (p ∷ left) so_far old
+    → IsCodeBeside given k p c old new → CodesLeft given (k + 1) placed left (so_far ++ c ∷ []) new
+one_fewer given k placed left p so_far c old new h one =
+    let is = one.lies.spans_are in
+    let apart = subst (AllPairs AreApart) is one.lies.apart in
     record {
-      codes = record {
-        parts = parts ++ q ∷ [];
-        linked = linked_push given 0 k ps parts p q (omega arith) laid.codes.linked linked;
-        codes_are = ap (λ l. l ++ c ∷ []) laid.codes.codes_are ∙ ap (λ x. map (λ q. q.code) parts ++ x ∷ []) (sym is) ∙ sym (map_push (λ q. q.code) parts q);
-        apart = subst (AllPairs AreApart) all one.lies.apart;
-      };
-      laid_are = all;
+      codes = λ more m. subst (AreCodes given 0 [] placed) (sym (append_assoc so_far (c ∷ []) more)) (h.codes (c ∷ more) (new, one, m));
+      fault = λ f x. h.fault f (inr (part_with given k p c, linked_with given k p c old new one, apart, subst (λ (l : List Span). IsPartFault given (k + 1) l left f) is x));
       bounded = one.lies.bounded;
+      apart = one.lies.apart;
     }
 
--- the first fault after sandboxes that are linked
-parts_behind : (given : List Place) (number : ℕ) (before : List Span) (front : List Placement) (parts : List Part) (rest : List Placement) (f : LinkFault) → AreLinkedFrom given number front parts → AllPairs AreApart (before ++ spans parts)
-    → IsPartFault given (number + length front) (before ++ spans parts) rest f → IsPartFault given number before (front ++ rest) f
-parts_behind given number before [] parts rest f none apart x =
-    let b : before ++ spans parts ≡ before = ap (λ l. before ++ spans l) none ∙ append-nil before in
-    let n : number + 0 ≡ number = omega arith in
-    subst (λ (l : List Span). IsPartFault given number l rest f) b (subst (λ m. IsPartFault given m (before ++ spans parts) rest f) n x)
-parts_behind given number before (p ∷ front) [] rest f linked apart x = absurd linked
-parts_behind given number before (p ∷ front) (q ∷ parts) rest f linked apart x =
-    let own = spans (q ∷ []) in
-    let same : before ++ spans (q ∷ parts) ≡ (before ++ own) ++ spans parts = sym (append_assoc before own (spans parts)) in
-    let split = subst (AllPairs AreApart) same apart in
-    let n : number + length (p ∷ front) ≡ number + 1 + length front = omega arith in
-    let moved = subst (λ (l : List Span). IsPartFault given (number + 1 + length front) l rest f) same (subst (λ m. IsPartFault given m (before ++ spans (q ∷ parts)) rest f) n x) in
-    inr (q, linked.0, front_apart (before ++ own) (spans parts) split, parts_behind given (number + 1) (before ++ own) front parts rest f linked.1 split moved)
+pub code_refused : (given : List Place) (k : ℕ) (placed left : List Placement) (p : Placement) (so_far : List (List ℕ)) (old : List Span) (f : LinkFault) → CodesLeft given k placed (p ∷ left) so_far old
+    → UnlessMemory (HasPartFault given k p old) f → UnlessMemory (IsPartFault given 0 [] placed) f
+code_refused given k placed left p so_far old f h wrong = then_unless (HasPartFault given k p old) (IsPartFault given 0 [] placed) (λ g x. h.fault g (inl x)) f wrong
 
-part_fault : (given : List Place) → (placed : List Placement) (k : ℕ) (p : Placement) (cs : List (List ℕ)) (laid : List Span) (f : LinkFault) → k < length placed → p ≡ get_or placed k p → AreLaid given (take k placed) cs laid
-    → HasPartFault given k p laid f → IsPartFault given 0 [] placed f
-part_fault given placed k p cs laid f lt is so_far h =
-    let n : k ≡ 0 + length (take k placed) = omega (arith, length-take-le k placed (omega arith)) in
-    let moved = subst (λ (l : List Span). HasPartFault given (0 + length (take k placed)) p l f) so_far.laid_are (subst (λ m. HasPartFault given m p laid f) n h) in
-    subst (λ (l : List Placement). IsPartFault given 0 [] l f) (sym (split_at placed k p lt is))
-    (parts_behind given 0 [] (take k placed) so_far.codes.parts (p ∷ drop (k + 1) placed) f so_far.codes.linked so_far.codes.apart (inl moved))
+pub all_coded : (given : List Place) (k : ℕ) (placed left : List Placement) (so_far : List (List ℕ)) (now : List Span) → left ≡ [] → CodesLeft given k placed left so_far now → AreCodes given 0 [] placed so_far
+all_coded given k placed left so_far now none h =
+    subst (AreCodes given 0 [] placed) (append-nil so_far) (h.codes [] (subst (λ (l : List Placement). AreCodes given k now l []) (sym none) refl))
 
-pub code_refused : (given : List Place) → (placed : List Placement) (k : ℕ) (p : Placement) (cs : List (List ℕ)) (laid : List Span) (f : LinkFault) → k < length placed → p ≡ get_or placed k p → AreLaid given (take k placed) cs laid
-    → UnlessMemory (HasPartFault given k p laid) f → UnlessMemory (IsPartFault given 0 [] placed) f
-code_refused given placed k p cs laid f lt is so_far h = then_unless (HasPartFault given k p laid) (IsPartFault given 0 [] placed) (λ g x. part_fault given placed k p cs laid g lt is so_far x) f h
+-- the code of the sandbox at a place
+pub code_at : (given : List Place) (number k n : ℕ) (before : List Span) (ps : List Placement) (cs : List (List ℕ)) (p : Placement) (c : List ℕ) → n ≡ number + k → k < length ps → p ≡ get_or ps k p → c ≡ get_or cs k c → AreCodes given number before ps cs
+    → IsLinkedCode given n p c × IsRightPlace p (length c) (place_of given n)
+code_at given number k n before [] cs p c e lt ep ec h = absurd (omega arith)
+code_at given number k n before (r ∷ ps) [] p c e lt ep ec h = absurd h
+code_at given number zero n before (r ∷ ps) (b ∷ cs) p c e lt ep ec (now, one, h) = let z : n ≡ number = omega arith in rw (z, ep, ec) (one.code, one.lies.right)
+code_at given number (suc k) n before (r ∷ ps) (b ∷ cs) p c e lt ep ec (now, one, h) = code_at given (number + 1) k n now ps cs p c (omega arith) (omega arith) ep ec h
 
-linked_apart : (given : List Place) (ps : List Placement) (cs : List (List ℕ)) (qs : List Part) → AreCodes given ps cs → AreLinkedFrom given 0 ps qs → AllPairs AreApart (spans qs)
-linked_apart given ps cs qs codes linked = subst (λ l. AllPairs AreApart (spans l)) (one_linking given 0 ps codes.parts qs codes.linked linked) codes.apart
+-- sandboxes with their code are linked, and no two of their spans meet
+pub codes_linked : (given : List Place) (number : ℕ) (before : List Span) (ps : List Placement) (cs : List (List ℕ)) → AreCodes given number before ps cs → AllPairs AreApart before
+    → AreLinkedFrom given number ps (parts_with given number ps cs) × AllPairs AreApart (before ++ spans (parts_with given number ps cs))
+codes_linked given number before [] cs h apart = (refl, subst (AllPairs AreApart) (sym (append-nil before)) apart)
+codes_linked given number before (p ∷ ps) [] h apart = absurd h
+codes_linked given number before (p ∷ ps) (c ∷ cs) (now, one, h) apart =
+    let later = parts_with given (number + 1) ps cs in
+    let rest = codes_linked given (number + 1) now ps cs h one.lies.apart in (
+      (linked_with given number p c before now one, rest.0),
+      subst (AllPairs AreApart) (ap (λ l. l ++ spans later) one.lies.spans_are ∙ append_assoc before (spans_at p (length c) (place_of given number)) (spans later)) rest.1,
+    )
 
-pub are_linked : (given : List Place) (ps qs : List Placement) (cs : List (List ℕ)) (parts : List Part) → ps ≡ qs → length given ≤ length ps → AreCodes given ps cs → AreLinkedFrom given 0 ps parts → AreLinked given qs parts
-are_linked given ps qs cs parts same used codes each = subst (λ (l : List Placement). AreLinked given l parts) same (record { used = used; each = each; apart = linked_apart given ps cs parts codes each })
+pub are_linked : (given : List Place) (ps qs : List Placement) (cs : List (List ℕ)) (parts : List Part) → ps ≡ qs → length given ≤ length ps → AreCodes given 0 [] ps cs → parts ≡ parts_with given 0 ps cs → AreLinked given qs parts
+are_linked given ps qs cs parts same used codes is =
+    let all = codes_linked given 0 [] ps cs codes none_apart in
+    subst (λ (l : List Placement). AreLinked given l parts) same (subst (λ (l : List Part). AreLinked given ps l) (sym is) (record { used = used; each = all.0; apart = all.1 }))
 
 -- ---- what a linker answers that way
 

@@ -1,5 +1,5 @@
 -- One list of sandboxes is made of what is placed, or it has one fault.
-use Rattle.sfi_link.proofs.Prelude.{append_assoc, ◌≡◌, ℕ, ◌+◌, ◌*◌, ◌≤◌, List, [], ◌∷◌, ◌++◌, length, replicate, Option, Some, None, sym, ap, ◌∙◌, subst, arith, inl, inr, length-append, pos, ◌-ℤ◌, repeat, w32, to_le_bytes, Instr, InRange, spelling, Format, Part, fields_of, stub_of, Slot, Wide, Short, Jump, Upper, Lower, PlacedName, slot_size, size_of, slots_of, Placement, Place, Bases, LinkFault, bases_of, address_at, target_at, with_offset, made_of, IsSlot, AreSlots, place_of, spans_at, Span, AreApart, with_guards, spans_of, spans, AllPairs, c_ebreak, needed, IsCodeSize, IsLinkedCode, IsLinked, AreLinkedFrom, AreLinked, HasSlotFault, IsSlotFault, HasPartFault, IsPartFault, IsLinkFault}
+use Rattle.sfi_link.proofs.Prelude.{append_assoc, ◌≡◌, ℕ, ◌+◌, ◌*◌, ◌≤◌, List, [], ◌∷◌, ◌++◌, length, replicate, Option, Some, None, sym, ap, ◌∙◌, subst, arith, inl, inr, length-append, pos, ◌-ℤ◌, repeat, w32, to_le_bytes, Instr, InRange, spelling, Format, Part, fields_of, stub_of, Slot, Wide, Short, Jump, Upper, Lower, PlacedName, slot_size, size_of, slots_of, Placement, Place, Bases, LinkFault, bases_of, address_at, target_at, with_offset, made_of, IsSlot, AreSlots, place_of, spans_at, Span, AreApart, spans_of, spans, AllPairs, c_ebreak, needed, IsCodeSize, IsLinkedCode, part_with, IsLinked, AreLinkedFrom, AreLinked, HasSlotFault, IsSlotFault, HasPartFault, IsPartFault, IsLinkFault}
 use Rattle.std.proofs.lemmas.Option.{none-some}
 use Rattle.sfi_image.proofs.SpanLists.{front_apart}
 use Rattle.sfi_rewrite.proofs.Sizes.{size_of-append}
@@ -44,12 +44,7 @@ one_code given number p xs ys a b =
 -- ---- sandboxes
 
 one_part : (given : List Place) → (number : ℕ) (p : Placement) (q r : Part) → IsLinked given number p q → IsLinked given number p r → q ≡ r
-one_part given number p q r a b =
-    same q r (a.format ∙ sym b.format) (a.code_base ∙ sym b.code_base) (a.data_base ∙ sym b.data_base) (a.data_size ∙ sym b.data_size) (a.start ∙ sym b.start) (a.gates ∙ sym b.gates)
-    (one_code given number p q.code r.code a.code b.code) (a.init ∙ sym b.init)
-  where
-    same : (q r : Part) → q.format ≡ r.format → q.code_base ≡ r.code_base → q.data_base ≡ r.data_base → q.data_size ≡ r.data_size → q.start ≡ r.start → q.gates ≡ r.gates → q.code ≡ r.code → q.init ≡ r.init → q ≡ r
-    same q r h a b c d e f g = λ i. record { format = h i; code_base = a i; data_base = b i; data_size = c i; start = d i; gates = e i; code = f i; init = g i }
+one_part given number p q r a b = a.is ∙ ap (part_with given number p) (one_code given number p q.code r.code a.code b.code) ∙ sym b.is
 
 pub one_linking : (given : List Place) → (number : ℕ) (placed : List Placement) (parts others : List Part) → AreLinkedFrom given number placed parts → AreLinkedFrom given number placed others → parts ≡ others
 one_linking given number [] parts others a b = a ∙ sym b
@@ -108,13 +103,7 @@ one_slot_fault at names here (s ∷ slots) f g (inr (b, one, later)) (inr (c, tw
 
 -- its spans are those at its place
 pub own_spans : (given : List Place) (number : ℕ) (p : Placement) (q : Part) → IsLinked given number p q → spans_of (fields_of q) ≡ spans_at p (length q.code) (place_of given number)
-own_spans given number p q linked = of q.code_base q.data_base q.data_size _ _ _ linked.code_base linked.data_base linked.data_size
-  where
-    two : ℕ → ℕ → ℕ → List Span
-    two code from size = record { base = code; size = length q.code } ∷ with_guards (record { base = from; size = size }) ∷ []
-
-    of : (a b c x y z : ℕ) → a ≡ x → b ≡ y → c ≡ z → two a b c ≡ two x y z
-    of a b c x y z e f g = ap (λ n. two n b c) e ∙ ap (λ n. two x n c) f ∙ ap (λ n. two x y n) g
+own_spans given number p q linked = ap (λ (r : Part). spans_of (fields_of r)) linked.is
 
 never_part : (given : List Place) → (number : ℕ) (p : Placement) (q : Part) (before : List Span) (f : LinkFault) → IsLinked given number p q → AllPairs AreApart (before ++ spans_of (fields_of q))
     → HasPartFault given number p before f → ⊥

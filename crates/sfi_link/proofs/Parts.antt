@@ -1,9 +1,9 @@
 -- What is made of a placed sandbox has a right layout.
-use Rattle.sfi_link.proofs.Prelude.{◌≡◌, ℕ, zero, suc, ◌+◌, ◌*◌, ◌%◌, ◌^◌, ◌<◌, ◌≤◌, ◌==◌, List, [], ◌∷◌, length, get_or, true, refl, sym, ap, ◌∙◌, subst, arith, inl, inr, length-append, All, AllPairs, eq-eqb, eqb-true, or_right, or_cases, All-nil, All-cons, All-head, All-tail, Format, Span, Part, format_of, code_region, Slot, Wide, PlacedName, slot_size, size_of, Placement, IsPlacedPart, IsPlaced, Place, Bases, bases_of, stub_size, IsSlot, AreSlots, place_of, IsRightPlace, needed, HasRoom, gates_from, IsLinked, AreLinkedFrom, AreLinked}
+use Rattle.sfi_link.proofs.Prelude.{◌≡◌, ℕ, zero, suc, ◌+◌, ◌*◌, ◌%◌, ◌^◌, ◌<◌, ◌≤◌, ◌==◌, List, [], ◌∷◌, length, get_or, true, refl, sym, ap, ◌∙◌, subst, arith, inl, inr, length-append, All, AllPairs, eq-eqb, eqb-true, or_right, or_cases, All-nil, All-cons, All-head, All-tail, Format, Span, Part, format_of, Slot, Wide, PlacedName, slot_size, size_of, Placement, IsPlacedPart, IsPlaced, Place, Bases, bases_of, stub_size, IsSlot, AreSlots, place_of, IsRightPlace, needed, HasRoom, gates_from, part_with, IsLinkedCode, IsLinked, AreLinkedFrom, AreLinked}
 use Rattle.rv_source.specs.declared.item.SourceGate.{SourceGate}
 use Rattle.sfi_image.specs.Gates.{is_gate_of}
 use Rattle.sfi_image.specs.Parts.{IsRightPart, IsRightLayout, AreOf}
-use Rattle.sfi_image.specs.Regions.{IsCodeRegion, IsDataRegion, HasGuardRoom, IsBundleStart}
+use Rattle.sfi_image.specs.Regions.{IsBundleStart}
 use Rattle.sfi_policy.specs.Limits.{service_most}
 use Rattle.std.proofs.lemmas.List.Kept.{AllPairs-cons}
 use Rattle.std.proofs.lemmas.Option.{slice_get-get_or}
@@ -108,40 +108,36 @@ start_fits given number p size room lies =
 pub lies_well : (given : List Place) → (number : ℕ) (p : Placement) (q : Part) → IsLinked given number p q → LiesWell q
 lies_well given number p q linked =
     let well = well_placed p (length q.code) (place_of given number) linked.lies in
-    let base = linked.code_base in
+    let base : q.code_base ≡ (bases_of given number p).code = ap (λ (r : Part). r.code_base) linked.is in
     record { end = omega (arith, base, well.0); even = ap (λ n. n % 16) base ∙ well.1 }
 
-pub linked_right : (given : List Place) → (number : ℕ) (p : Placement) (q : Part) → IsPlacedPart p → IsLinked given number p q → IsRightPart q
-linked_right given number p q placed linked =
-    let lies = linked.lies in
-    let well = lies_well given number p q linked in
-    let even = well.even in
-    let room = linked.code.size.has_room in
-    let needs = room.room in
-    let code_base = linked.code_base in
-    let start = linked.start in
-    let data_base = linked.data_base in
-    let data_size = linked.data_size in
+right_with : (given : List Place) (number : ℕ) (p : Placement) (code : List ℕ) → IsPlacedPart p → IsLinkedCode given number p code → IsRightPlace p (length code) (place_of given number) → IsRightPart (part_with given number p code)
+right_with given number p code placed made lies =
+    let base = (bases_of given number p).code in
+    let well = well_placed p (length code) (place_of given number) lies in
+    let end = well.0 in
+    let even = well.1 in
+    let needs = made.size.has_room.room in
     let gate_most = placed.gate_count in
     let init_most = placed.byte_count in
-    let gates_are = linked.gates in
-    let gates_len = length-gates_from (bases_of given number p).code p.gates in
-    let region : Span = code_region q in
-    let starts : All (λ g. IsBundleStart region g.address) q.gates =
-    subst (λ gs. All (λ g. IsBundleStart region g.address) gs) (sym gates_are) (starts_right region (bases_of given number p).code p.gates (omega arith) (omega arith) (omega arith)) in
-    let serve : All (λ g. g.service ≤ service_most) q.gates = subst (λ gs. All (λ g. g.service ≤ service_most) gs) (sym gates_are) (services_right (bases_of given number p).code p.gates (services p placed)) in
-    let count : length q.gates ≡ length p.gates = ap length gates_are ∙ gates_len in
-    let few_init : length q.init ≡ length p.bytes = ap length linked.init in
+    let gates_len = length-gates_from base p.gates in
     record {
-      code_base = subst (λ n. n < 2 ^ 32) (sym code_base) lies.word;
-      code_placed = subst (λ (f : Format). IsCodeRegion f q.code_base (length q.code)) (sym linked.format) (subst (λ n. IsCodeRegion p.format n (length q.code)) (sym code_base) lies.code);
-      data_placed = subst (λ n. IsDataRegion n q.data_size) (sym data_base) (subst (λ n. IsDataRegion (place_of given number).data_base n) (sym data_size) lies.«data»);
-      guard_room = subst (λ n. HasGuardRoom n q.data_size) (sym data_base) (subst (λ n. HasGuardRoom (place_of given number).data_base n) (sym data_size) lies.guard_room);
+      code_base = lies.word;
+      code_placed = lies.code;
+      data_placed = lies.«data»;
+      guard_room = lies.guard_room;
       start = record { held = (omega arith, omega arith); aligned = omega arith };
       gate_count = omega arith;
       init_len = omega arith;
-      gates = record { starts = starts; services = serve; ascending = subst (AllPairs (λ g h. g.address < h.address)) (sym gates_are) (ascending (bases_of given number p).code p.gates) };
+      gates = record {
+        starts = starts_right (record { base = base; size = length code }) base p.gates (omega arith) (omega arith) (omega arith);
+        services = services_right base p.gates (services p placed);
+        ascending = ascending base p.gates;
+      };
     }
+
+pub linked_right : (given : List Place) → (number : ℕ) (p : Placement) (q : Part) → IsPlacedPart p → IsLinked given number p q → IsRightPart q
+linked_right given number p q placed linked = subst IsRightPart (sym linked.is) (right_with given number p q.code placed linked.code linked.lies)
 
 -- ---- all of them
 
@@ -158,7 +154,7 @@ formats : (given : List Place) → (f : Format) (number : ℕ) (placed : List Pl
 formats given f number [] parts h linked = subst (AreOf f) (sym linked) (λ k d l. absurd (omega (arith, l)))
 formats given f number (p ∷ placed) [] h linked = absurd linked
 formats given f number (p ∷ placed) (q ∷ parts) h linked =
-    All-cons (λ r. r.format ≡ f) q parts (linked.0.format ∙ All-head (λ r. r.format ≡ f) p placed h) (formats given f (number + 1) placed parts (All-tail (λ r. r.format ≡ f) p placed h) linked.1)
+    All-cons (λ r. r.format ≡ f) q parts (ap (λ (r : Part). r.format) linked.0.is ∙ All-head (λ r. r.format ≡ f) p placed h) (formats given f (number + 1) placed parts (All-tail (λ r. r.format ≡ f) p placed h) linked.1)
 
 one_format : (given : List Place) → (number : ℕ) (placed : List Placement) (parts : List Part) → IsPlaced placed → AreLinkedFrom given number placed parts → AreOf (format_of parts) parts
 one_format given number placed parts is linked = first_is parts (placements.format_of placed) (formats given (placements.format_of placed) number placed parts is.one_format linked)

@@ -36,9 +36,9 @@ pub use Rattle.sfi_rewrite.specs.declared.slot.Slot.TheVariants.{Wide, Short, Ju
 pub use Rattle.sfi_link.specs.Addresses.{target_at, address_at, with_offset, bases_of, of_name, target_of, stub_size}
 pub use Rattle.sfi_link.specs.Code.{resolved, made_of, AreSlots, IsSlot}
 pub use Rattle.sfi_link.specs.Faults.{IsLinkFault, MayLie, IsSlotFault, HasPartFault, IsPartFault, HasSlotFault}
-pub use Rattle.sfi_link.specs.Linked.{c_ebreak, needed, gates_from, IsLinked, AreLinkedFrom, HasRoom, IsCodeSize, IsLinkedCode, AreLinked}
-pub use Rattle.sfi_link.specs.Lying.{IsRightPlace, spans_at}
-pub use Rattle.sfi_link.specs.Names.{MapEntry, kind_of, entry_of, entries_of, texts_of, map_from}
+pub use Rattle.sfi_link.specs.Linked.{c_ebreak, needed, gates_from, part_with, IsLinked, AreLinkedFrom, HasRoom, IsCodeSize, IsLinkedCode, AreLinked}
+pub use Rattle.sfi_link.specs.RightPlaces.{IsRightPlace, spans_at}
+pub use Rattle.sfi_link.specs.Names.{kind_of, entry_of, entries_of, entries_in, map_from}
 pub use Rattle.sfi_link.specs.declared.bases.Bases.{Bases}
 pub use Rattle.sfi_link.specs.declared.fault.LinkFault.{LinkFault}
-pub use Rattle.sfi_link.specs.private.Near.{LiesBeside, IsNear, AreNear, HasRoomFor, AreWritten, IsCodeBeside, AreCodes, Links, IsPushed, contents}
+pub use Rattle.sfi_link.specs.private.Near.{LiesBeside, IsNear, AreNear, HasRoomFor, AreWritten, IsCodeBeside, AreCodes, Links, IsPushed, contents, parts_with}

@@ -1,9 +1,10 @@
 -- Slots written one after another.
-use Rattle.sfi_link.proofs.Prelude.{◌≡◌, ℕ, zero, suc, ◌+◌, ◌<◌, ◌≤◌, List, [], ◌∷◌, ◌++◌, length, take, drop, get_or, replicate, Some, refl, sym, ap, ◌∙◌, subst, arith, append_assoc, append-nil, length-append, drop-cons, add-one, inl, inr, ℤ, pos, All, repeat, w32, to_le_bytes, take_more, take-append-drop, get_or_append_left, get_or-append-add, ints, Instr, OpImm, Addi, InRange, IsReg, IsImm12, spelling, expansion, lower, Slot, Lower, PlacedName, slot_size, size_of, slots_of, Bases, LinkFault, address_at, AreSlots, made_of, c_ebreak, HasRoomFor, IsPushed, AreWritten, HasSlotFault, IsSlotFault, ◌⊎◌}
+use Rattle.sfi_link.proofs.Prelude.{◌≡◌, ℕ, zero, suc, ◌+◌, ◌<◌, List, [], ◌∷◌, ◌++◌, length, drop, get_or, replicate, Some, refl, sym, ap, ◌∙◌, subst, arith, append_assoc, append-nil, length-append, inl, inr, ℤ, pos, All, repeat, w32, to_le_bytes, ints, OpImm, Lui, Addi, InRange, IsReg, IsImm12, spelling, expansion, upper, lower, Slot, Upper, Lower, PlacedName, slot_size, size_of, Bases, LinkFault, address_at, IsSlot, AreSlots, made_of, c_ebreak, HasRoomFor, IsPushed, AreWritten, HasSlotFault, IsSlotFault, ◌⊎◌, Encodes}
 use Rattle.rv_comp.specs.declared.form.Form16.TheVariants.{CEbreak}
 use Rattle.sfi_link.specs.Answers.{UnlessMemory}
-use Rattle.std.proofs.lemmas.Grind.{flat_map-append}
-use Rattle.std.proofs.lemmas.List.Sums.{sum_by-take-le}
+use Rattle.std.proofs.Math.Seq.{take-append_seam, drop-append_seam}
+use Rattle.std.proofs.lemmas.List.{at_drop_more}
+use Rattle.std.proofs.lemmas.List.Elements.{All-take, All-drop}
 use Rattle.sfi_rewrite.proofs.Sizes.{size_of-cons, size_of-append}
 use Rattle.sfi_link.proofs.Parts.{slots_length}
 use Rattle.sfi_link.specs.declared.fault.LinkFault.TheVariants.{Memory}
@@ -22,24 +23,25 @@ then_unless P Q step f h = step f h
 
 -- ---- slots
 
-lower_fits : (z : ℤ) → IsImm12 (lower z)
-lower_fits z = (omega (arith, ints), omega (arith, ints))
-
-pub low_in_range : (rd a : ℕ) (i : Instr) → i ≡ OpImm Addi rd rd (lower (pos a)) → IsReg rd → InRange i
+pub high_in_range : (rd a : ℕ) → IsReg rd → InRange (Lui rd (upper (pos a)))
 unfolding InRange
-low_in_range rd a i is reg = subst InRange (sym is) (reg, reg, lower_fits (pos a))
+high_in_range rd a reg = (reg, omega arith)
 
-pub low_pushed : (at : Bases) (names : List PlacedName) (rd place line a : ℕ) (i : Instr) (old new : List ℕ) → Some a ≡ address_at at names place → i ≡ OpImm Addi rd rd (lower (pos a)) → IsReg rd
-    → new ≡ old ++ to_le_bytes w32 (spelling i) → IsPushed at names (Lower rd place line) old new
-low_pushed at names rd place line a i old new there is reg e = (
-  to_le_bytes w32 (spelling i),
-  e,
-  record {
-    instr = i;
-    resolves = ap (made_of (λ address. OpImm Addi rd rd (lower (pos address)))) (sym there) ∙ ap (λ j. Some j) (sym is);
-    spelled = (low_in_range rd a i is reg, refl);
-  },
-)
+pub low_in_range : (rd a : ℕ) → IsReg rd → InRange (OpImm Addi rd rd (lower (pos a)))
+unfolding InRange
+low_in_range rd a reg = (reg, reg, fits (pos a))
+  where
+    fits : (z : ℤ) → IsImm12 (lower z)
+    fits z = (omega (arith, ints), omega (arith, ints))
+
+-- the bytes of a slot whose name has an address
+pub upper_slot : (at : Bases) (names : List PlacedName) (here rd place line a : ℕ) → address_at at names place ≡ Some a → IsReg rd → IsSlot at names here (Upper rd place line) (to_le_bytes w32 (spelling (Lui rd (upper (pos a)))))
+upper_slot at names here rd place line a there reg =
+    record { instr = Lui rd (upper (pos a)); resolves = ap (made_of (λ address. Lui rd (upper (pos address)))) there; spelled = (high_in_range rd a reg, refl) }
+
+pub lower_slot : (at : Bases) (names : List PlacedName) (here rd place line a : ℕ) → address_at at names place ≡ Some a → IsReg rd → IsSlot at names here (Lower rd place line) (to_le_bytes w32 (spelling (OpImm Addi rd rd (lower (pos a)))))
+lower_slot at names here rd place line a there reg =
+    record { instr = OpImm Addi rd rd (lower (pos a)); resolves = ap (made_of (λ address. OpImm Addi rd rd (lower (pos address)))) there; spelled = (low_in_range rd a reg, refl) }
 
 -- ---- one list after another
 
@@ -85,96 +87,61 @@ fault_behind at names here (s ∷ xs) ys bytes f (front, rest, one, others, e) x
     let n : here + size_of (s ∷ xs) ≡ here + slot_size s + size_of xs = omega arith in
     inr (front, one, fault_behind at names (here + slot_size s) xs ys rest f others (subst (λ m. IsSlotFault at names m ys f) n x))
 
-pub fault_after : (at : Bases) (names : List PlacedName) (xs ys zs : List Slot) (old now : List ℕ) (f : LinkFault) → AreWritten at names xs old now → IsSlotFault at names (at.code + length now) ys f
-    → IsSlotFault at names (at.code + length old) (xs ++ (ys ++ zs)) f
-fault_after at names xs ys zs old now f w x =
-    let long = written_length at names xs old now w in
-    let n : at.code + length now ≡ at.code + length old + size_of xs = omega arith in
-    fault_behind at names (at.code + length old) xs (ys ++ zs) w.bytes f w.spelled (fault_before at names (at.code + length old + size_of xs) ys zs f (subst (λ m. IsSlotFault at names m ys f) n x))
+-- ---- what is left
 
--- ---- of slots
+-- the next item stands first in what is left of a list
+pub left_next : {X : Type 0} (F : List X → Type 0) (xs : List X) (k : ℕ) (x : X) → k < length xs → x ≡ get_or xs k x → F (drop k xs) → F (x ∷ drop (k + 1) xs)
+left_next F xs k x lt is h = subst F (at_drop_more (λ l. l) xs k x lt ∙ ap (λ y. y ∷ drop (k + 1) xs) (sym is)) h
 
-pub split_at : {X : Type 0} (xs : List X) (k : ℕ) (x : X) → k < length xs → x ≡ get_or xs k x → xs ≡ take k xs ++ (x ∷ drop (k + 1) xs)
-split_at xs k x lt is =
-    sym (take-append-drop k xs) ∙ ap (λ l. take k xs ++ l) (drop-cons xs k x lt ∙ ap (λ n. get_or xs k x ∷ drop n xs) (sym (add-one k)) ∙ ap (λ y. y ∷ drop (k + 1) xs) (sym is))
+pub All-before : {X : Type 0} (P : X → Type 0) (xs ys : List X) → All P (xs ++ ys) → All P xs
+All-before P xs ys all = subst (All P) (take-append_seam xs ys) (All-take P (length xs) (xs ++ ys) all)
 
-pub take_one_more : {X : Type 0} (xs : List X) (k : ℕ) (x : X) → k < length xs → x ≡ get_or xs k x → take (k + 1) xs ≡ take k xs ++ x ∷ []
-take_one_more xs k x lt is = take_more xs k x lt ∙ ap (λ y. take k xs ++ y ∷ []) (sym is)
+pub All-behind : {X : Type 0} (P : X → Type 0) (xs ys : List X) → All P (xs ++ ys) → All P ys
+All-behind P xs ys all = subst (All P) (drop-append_seam xs ys) (All-drop P (length xs) (xs ++ ys) all)
 
-pub slot_room : (at : Bases) (names : List PlacedName) (slots : List Slot) (k : ℕ) (old now : List ℕ) → AreWritten at names (take k slots) old now → HasRoomFor at (length old) (size_of slots) → HasRoomFor at (length now) 0
-slot_room at names slots k old now w room =
-    let long = written_length at names (take k slots) old now w in
-    let part = sum_by-take-le slot_size slots k in
-    let below = room.below in
-    let within = room.within in
+-- What is left of the slots, after these bytes, completes them all: with its bytes, or with its fault.
+pub record AreLeft (at : Bases) (names : List PlacedName) (slots left : List Slot) (old now : List ℕ) : Type 0 where
+  pub written : (new : List ℕ) → AreWritten at names left now new → AreWritten at names slots old new
+  pub fault : (f : LinkFault) → IsSlotFault at names (at.code + length now) left f → IsSlotFault at names (at.code + length old) slots f
+  pub encodes : All Encodes left
+  pub room : HasRoomFor at (length now) (size_of left)
+
+pub all_left : (at : Bases) (names : List PlacedName) (slots : List Slot) (old : List ℕ) → All Encodes slots → HasRoomFor at (length old) (size_of slots) → AreLeft at names slots slots old old
+all_left at names slots old encodes room = record { written = λ new w. w; fault = λ f x. x; encodes = encodes; room = room }
+
+-- fewer slots are left
+pub fewer : (at : Bases) (names : List PlacedName) (slots b left : List Slot) (old now new : List ℕ) → AreLeft at names slots (b ++ left) old now → AreWritten at names b now new → AreLeft at names slots left old new
+fewer at names slots b left old now new h w =
+    let long = written_length at names b now new w in
+    let sized = size_of-append b left in
+    let room = h.room in
+    let here : at.code + length new ≡ at.code + length now + size_of b = omega arith in
+    record {
+      written = λ newer v. h.written newer (written-append at names b left now new newer w v);
+      fault = λ f x. h.fault f (fault_behind at names (at.code + length now) b left w.bytes f w.spelled (subst (λ n. IsSlotFault at names n left f) here x));
+      encodes = All-behind Encodes b left h.encodes;
+      room = record { below = omega arith; within = omega arith };
+    }
+
+-- the first of those that are left have room
+pub front_room : (at : Bases) (names : List PlacedName) (slots b left : List Slot) (old now : List ℕ) → AreLeft at names slots (b ++ left) old now → HasRoomFor at (length now) (size_of b)
+front_room at names slots b left old now h =
+    let sized = size_of-append b left in
+    let room = h.room in
     record { below = omega arith; within = omega arith }
 
-pub slot_written : (at : Bases) (names : List PlacedName) (slots : List Slot) (k : ℕ) (s : Slot) (old now new : List ℕ) → k < length slots → s ≡ get_or slots k s
-    → AreWritten at names (take k slots) old now → IsPushed at names s now new → AreWritten at names (take (k + 1) slots) old new
-slot_written at names slots k s old now new lt is w one =
-    subst (λ l. AreWritten at names l old new) (sym (take_one_more slots k s lt is)) (written-append at names (take k slots) (s ∷ []) old now new w (one_written at names s now new one))
+pub slot_refused : (at : Bases) (names : List PlacedName) (slots left : List Slot) (s : Slot) (old now : List ℕ) (f : LinkFault) → AreLeft at names slots (s ∷ left) old now
+    → UnlessMemory (HasSlotFault at names (at.code + length now) s) f → UnlessMemory (IsSlotFault at names (at.code + length old) slots) f
+slot_refused at names slots left s old now f h wrong =
+    then_unless (HasSlotFault at names (at.code + length now) s) (IsSlotFault at names (at.code + length old) slots) (λ g x. h.fault g (inl x)) f wrong
 
-slot_fault : (at : Bases) (names : List PlacedName) (slots : List Slot) (k : ℕ) (s : Slot) (old now : List ℕ) (f : LinkFault) → k < length slots → s ≡ get_or slots k s
-    → AreWritten at names (take k slots) old now → HasSlotFault at names (at.code + length now) s f → IsSlotFault at names (at.code + length old) slots f
-slot_fault at names slots k s old now f lt is w h =
-    subst (λ l. IsSlotFault at names (at.code + length old) l f) (sym (split_at slots k s lt is))
-    (fault_after at names (take k slots) (s ∷ []) (drop (k + 1) slots) old now f w (inl h))
+pub refused : (at : Bases) (names : List PlacedName) (slots b left : List Slot) (old now : List ℕ) (f : LinkFault) → AreLeft at names slots (b ++ left) old now
+    → UnlessMemory (IsSlotFault at names (at.code + length now) b) f → UnlessMemory (IsSlotFault at names (at.code + length old) slots) f
+refused at names slots b left old now f h wrong =
+    then_unless (IsSlotFault at names (at.code + length now) b) (IsSlotFault at names (at.code + length old) slots) (λ g x. h.fault g (fault_before at names (at.code + length now) b left g x)) f wrong
 
-pub slot_refused : (at : Bases) (names : List PlacedName) (slots : List Slot) (k : ℕ) (s : Slot) (old now : List ℕ) (f : LinkFault) → k < length slots → s ≡ get_or slots k s
-    → AreWritten at names (take k slots) old now → UnlessMemory (HasSlotFault at names (at.code + length now) s) f → UnlessMemory (IsSlotFault at names (at.code + length old) slots) f
-slot_refused at names slots k s old now f lt is w h =
-    then_unless (HasSlotFault at names (at.code + length now) s) (IsSlotFault at names (at.code + length old) slots) (λ g x. slot_fault at names slots k s old now g lt is w x) f h
-
--- ---- of bundles
-
-pub bundles_split : (bundles : List (List Slot)) (k : ℕ) (b : List Slot) → k < length bundles → b ≡ get_or bundles k b → slots_of bundles ≡ slots_of (take k bundles) ++ (b ++ slots_of (drop (k + 1) bundles))
-bundles_split bundles k b lt is = ap slots_of (split_at bundles k b lt is) ∙ flat_map-append (λ slots. slots) (take k bundles) (b ∷ drop (k + 1) bundles)
-
-bundles_more : (bundles : List (List Slot)) (k : ℕ) (b : List Slot) → k < length bundles → b ≡ get_or bundles k b → slots_of (take (k + 1) bundles) ≡ slots_of (take k bundles) ++ b
-bundles_more bundles k b lt is =
-    ap slots_of (take_one_more bundles k b lt is) ∙ flat_map-append (λ slots. slots) (take k bundles) (b ∷ []) ∙ ap (λ l. slots_of (take k bundles) ++ l) (append-nil b)
-
-all_middle : {X : Type 0} (P : X → Type 0) (xs ys zs : List X) → All P (xs ++ (ys ++ zs)) → All P ys
-all_middle P xs ys zs all k d lt =
-    let one = length-append xs (ys ++ zs) in
-    let two = length-append ys zs in
-    subst P (get_or-append-add xs (ys ++ zs) k d ∙ get_or_append_left ys zs d k lt) (all (length xs + k) d (omega arith))
-
-pub bundle_all : (P : Slot → Type 0) (bundles : List (List Slot)) (k : ℕ) (b : List Slot) → k < length bundles → b ≡ get_or bundles k b → All P (slots_of bundles) → All P b
-bundle_all P bundles k b lt is all = all_middle P (slots_of (take k bundles)) b (slots_of (drop (k + 1) bundles)) (subst (All P) (bundles_split bundles k b lt is) all)
-
--- the slots of the first bundles and of the next one take no more than those of all
-pub bundle_size : (bundles : List (List Slot)) (k : ℕ) (b : List Slot) → k < length bundles → b ≡ get_or bundles k b → size_of (slots_of (take k bundles)) + size_of b ≤ size_of (slots_of bundles)
-bundle_size bundles k b lt is =
-    let e = ap size_of (bundles_split bundles k b lt is) in
-    let f = size_of-append (slots_of (take k bundles)) (b ++ slots_of (drop (k + 1) bundles)) in
-    let g = size_of-append b (slots_of (drop (k + 1) bundles)) in
-    omega arith
-
-pub bundle_room : (at : Bases) (names : List PlacedName) (bundles : List (List Slot)) (k : ℕ) (b : List Slot) (old now : List ℕ) → k < length bundles → b ≡ get_or bundles k b
-    → AreWritten at names (slots_of (take k bundles)) old now → HasRoomFor at (length old) (size_of (slots_of bundles)) → HasRoomFor at (length now) (size_of b)
-bundle_room at names bundles k b old now lt is w room =
-    let long = written_length at names (slots_of (take k bundles)) old now w in
-    let part = bundle_size bundles k b lt is in
-    let below = room.below in
-    let within = room.within in
-    record { below = omega arith; within = omega arith }
-
-pub bundle_written : (at : Bases) (names : List PlacedName) (bundles : List (List Slot)) (k : ℕ) (b : List Slot) (old now new : List ℕ) → k < length bundles → b ≡ get_or bundles k b
-    → AreWritten at names (slots_of (take k bundles)) old now → AreWritten at names b now new → AreWritten at names (slots_of (take (k + 1) bundles)) old new
-bundle_written at names bundles k b old now new lt is w one =
-    subst (λ l. AreWritten at names l old new) (sym (bundles_more bundles k b lt is)) (written-append at names (slots_of (take k bundles)) b old now new w one)
-
-bundle_fault : (at : Bases) (names : List PlacedName) (bundles : List (List Slot)) (k : ℕ) (b : List Slot) (old now : List ℕ) (f : LinkFault) → k < length bundles → b ≡ get_or bundles k b
-    → AreWritten at names (slots_of (take k bundles)) old now → IsSlotFault at names (at.code + length now) b f → IsSlotFault at names (at.code + length old) (slots_of bundles) f
-bundle_fault at names bundles k b old now f lt is w h =
-    subst (λ l. IsSlotFault at names (at.code + length old) l f) (sym (bundles_split bundles k b lt is))
-    (fault_after at names (slots_of (take k bundles)) b (slots_of (drop (k + 1) bundles)) old now f w h)
-
-pub bundle_refused : (at : Bases) (names : List PlacedName) (bundles : List (List Slot)) (k : ℕ) (b : List Slot) (old now : List ℕ) (f : LinkFault) → k < length bundles → b ≡ get_or bundles k b
-    → AreWritten at names (slots_of (take k bundles)) old now → UnlessMemory (IsSlotFault at names (at.code + length now) b) f → UnlessMemory (IsSlotFault at names (at.code + length old) (slots_of bundles)) f
-bundle_refused at names bundles k b old now f lt is w h =
-    then_unless (IsSlotFault at names (at.code + length now) b) (IsSlotFault at names (at.code + length old) (slots_of bundles)) (λ g x. bundle_fault at names bundles k b old now g lt is w x) f h
+pub all_written : (at : Bases) (names : List PlacedName) (slots left : List Slot) (old now : List ℕ) → left ≡ [] → AreLeft at names slots left old now → AreWritten at names slots old now
+all_written at names slots left old now none h = h.written now (record { bytes = []; appended = sym (append-nil now); spelled = subst (λ l. AreSlots at names (at.code + length now) l []) (sym none) refl })
 
 -- ---- copies
 

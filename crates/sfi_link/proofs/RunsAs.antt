@@ -1,6 +1,5 @@
 -- Each item of a source does in the image what its instruction does.
-use Rattle.sfi_link.proofs.Prelude.{◌≡◌, ℕ, ◌+◌, ◌*◌, ◌^◌, ◌≤◌, List, [], ◌∷◌, ◌++◌, length, length-append, replicate, Some, Bool, true, false, refl, sym, ap, ◌∙◌, subst, arith, append_assoc, inl, inr, slice_index, pos, ℤ, negsuc, zero, suc, ◌-ℤ◌, MatchBool, slice_get, repeat, All, get_or_append_left, get_or-append-add, Instr, Op, OpImm, Load, Store, Branch, Jal, Jalr, Lui, Addi, Format, is_stack, upper, lower, Sandbox, IsSandbox, IsBody, Part, stub_of, Slot, Wide, Short, Jump, Upper, Lower, PlacedName, size_of, slots_of, c_nop, Placement, Place, Bases, bases_of, with_offset, target_at, address_at, AreSlots, c_ebreak, IsLinked, AreLinkedFrom, All-head, All-tail}
-use Rattle.rv_mem.specs.Bytes.{Bytes, byte_at, address_after}
+use Rattle.sfi_link.proofs.Prelude.{◌≡◌, ℕ, ◌+◌, ◌*◌, List, [], ◌∷◌, ◌++◌, length, length-append, replicate, Some, Bool, true, false, refl, sym, ap, ◌∙◌, subst, arith, append_assoc, inl, inr, pos, ℤ, negsuc, zero, suc, ◌-ℤ◌, MatchBool, slice_get, repeat, All, Instr, Op, OpImm, Load, Store, Branch, Jal, Jalr, Lui, Addi, Format, is_stack, upper, lower, Sandbox, IsSandbox, IsBody, Part, stub_of, Slot, Wide, Short, Jump, Upper, Lower, PlacedName, size_of, slots_of, c_nop, Placement, Place, Bases, bases_of, with_offset, target_at, address_at, AreSlots, c_ebreak, IsLinked, AreLinkedFrom, All-head, All-tail}
 use Rattle.rv_mem.specs.Laws.{Holds}
 use Rattle.rv_step.specs.State.{State}
 use Rattle.rv_source.specs.declared.item.Body.{Body}
@@ -23,11 +22,11 @@ use Rattle.sfi_rewrite.specs.Stack.{writes_stack}
 use Rattle.sfi_rewrite.proofs.Facts.{rewritten_is_transparent}
 use Rattle.sfi_rewrite.proofs.WordStanding.{body_laid}
 use Rattle.sfi_link.proofs.CleanPlaces.{made}
-use Rattle.sfi_link.proofs.SlotsThere.{slots_there}
+use Rattle.sfi_link.proofs.SlotsThere.{held_part, slots_there}
 use Rattle.sfi_link.proofs.Stubs.{length_stubs}
 use Rattle.sfi_link.proofs.Region.{AreCut, cut}
 use Rattle.sfi_rewrite.proofs.Sizes.{size_of-append, size_nops}
-use Rattle.sfi_link.proofs.Parts.{slots_length, lies_well, linked_right}
+use Rattle.sfi_link.proofs.Parts.{slots_length, linked_right}
 
 -- ---- slots that wait for no name
 
@@ -171,19 +170,6 @@ becomes at names here count (Low rd name) slots bytes b (line, rest, e, bare) h 
 
 -- ---- where it stands in the code
 
--- bytes after others, in a memory that holds all of them from a base on
-held_inside : (m : Bytes) (base pc : ℕ) (front mid rest all : List ℕ) → Holds m base (length all) all
-    → all ≡ front ++ (mid ++ rest) → base + length all ≤ 2 ^ 32 → pc ≡ base + length front → Holds m pc (length mid) mid
-held_inside m base pc front mid rest all holds e fits at = record {
-  count = refl;
-  each = λ k below.
-      let size : length all ≡ length front + (length mid + length rest) = ap (λ (l : List ℕ). length l) e ∙ length-append front (mid ++ rest) ∙ ap (λ n. length front + n) (length-append mid rest) in
-      let a : address_after pc k ≡ address_after base (length front + k) = omega arith in
-      let b : slice_index all (length front + k) ≡ slice_index mid k =
-      ap (λ (l : List ℕ). slice_index l (length front + k)) e ∙ get_or-append-add front (mid ++ rest) k 0 ∙ get_or_append_left mid rest 0 k below in
-      ap (byte_at m) a ∙ holds.each (length front + k) (omega arith) ∙ ap Some b;
-}
-
 regroup_bytes : (stubs front mid rest bytes more : List ℕ) → bytes ≡ front ++ more → more ≡ mid ++ rest → stubs ++ bytes ≡ (stubs ++ front) ++ (mid ++ rest)
 regroup_bytes stubs front mid rest bytes more e f = ap (λ v. stubs ++ v) (e ∙ ap (λ v. front ++ v) f) ∙ sym (append_assoc stubs front (mid ++ rest))
 
@@ -213,17 +199,15 @@ are_there given number p q lead own after linked placed =
     ∙ (let a = length_stubs p.format (length p.gates) in
     let c = slots_length b p.names b.start lead one.front one.first in
     omega arith) in
-    let mid_size : length two.front ≡ size_of own = slots_length b p.names here own two.front two.first in
-    let fits : q.code_base + length q.code ≤ 2 ^ 32 = (lies_well given number p q linked).end in
-    let place : here ≡ q.start + size_of lead = ap (λ n. n + size_of lead) (sym linked.start) in
-    let start : q.start ≡ q.code_base + 16 * length p.gates = (let a = linked.start in let c = linked.code_base in omega arith) in
+    let start_is : q.start ≡ b.start = ap (λ (r : Part). r.start) linked.is in
+    let place : here ≡ q.start + size_of lead = ap (λ n. n + size_of lead) (sym start_is) in
+    let start : q.start ≡ q.code_base + 16 * length p.gates = (let c : q.code_base ≡ b.code = ap (λ (r : Part). r.code_base) linked.is in omega arith) in
     record {
       bytes = two.front;
       slots = subst (λ (n : ℕ). AreSlots b p.names n own two.front) place two.first;
       stand = λ i goes t code pc.
           let there : t.hart.pc ≡ q.code_base + length (stubs ++ one.front) = omega arith in
-          let held : Holds t.memory t.hart.pc (size_of own) two.front =
-          subst (λ (n : ℕ). Holds t.memory t.hart.pc n two.front) mid_size (held_inside t.memory q.code_base t.hart.pc (stubs ++ one.front) two.front two.rest q.code code all fits there) in
+          let held = held_part t.memory q.code_base t.hart.pc (stubs ++ one.front) two.front two.rest q.code (λ k. omega arith) all code in
           slots_there b p.names here i own two.front t two.first (subst (λ (n : ℕ). AreResolvedTo b p.names n i own) (sym place) goes) held;
     }
 

@@ -1,5 +1,5 @@
 -- Where a memory holds the linker's bytes of slots, the slots stand.
-use Rattle.sfi_link.proofs.Prelude.{◌≡◌, ℕ, ◌+◌, List, [], ◌∷◌, ◌++◌, length, Some, sym, ap, ◌∙◌, subst, arith, slice_index, get_or_append_left, get_or-append-add, Instr, Spells, expansion, Slot, Wide, Short, PlacedName, slot_size, size_of, Bases, IsSlot, AreSlots}
+use Rattle.sfi_link.proofs.Prelude.{◌≡◌, ℕ, ◌+◌, List, [], ◌∷◌, ◌++◌, length, length-append, append-nil, refl, Some, sym, ap, ◌∙◌, subst, arith, slice_index, get_or_append_left, get_or-append-add, Instr, Spells, expansion, Slot, Wide, Short, PlacedName, slot_size, Bases, IsSlot, AreSlots}
 use Rattle.rv_mem.specs.Bytes.{Bytes, byte_at, address_after}
 use Rattle.rv_mem.specs.Laws.{Holds}
 use Rattle.rv_step.specs.State.{State}
@@ -10,26 +10,18 @@ use Rattle.sfi_rewrite.specs.Transparency.{SlotStands, SlotsStand}
 use Rattle.rv_mem.proofs.Facts.{read_is_held}
 use Rattle.rv_comp.proofs.Facts.{spelled_length}
 use Rattle.sfi_link.proofs.CleanPlaces.{slot_spells, some_same}
-use Rattle.sfi_rewrite.proofs.Sizes.{size_of-cons}
-use Rattle.sfi_link.proofs.Parts.{slots_length}
 
 -- ---- memory
 
--- the first n of the bytes
-held_front : (m : Bytes) (at n more : ℕ) (front rest : List ℕ) → length front ≡ n → Holds m at (n + more) (front ++ rest) → Holds m at n front
-held_front m at n more front rest count h = record {
-  count = count;
-  each = λ k below. h.each k (omega arith) ∙ ap Some (get_or_append_left front rest 0 k (omega arith));
-}
-
--- those after them
-held_rest : (m : Bytes) (at n more : ℕ) (front rest : List ℕ) → length front ≡ n → length rest ≡ more → Holds m at (n + more) (front ++ rest) → Holds m (address_after at n) more rest
-held_rest m at n more front rest count others h = record {
-  count = others;
+-- bytes between others, in a memory that holds all of them
+pub held_part : (m : Bytes) (base to : ℕ) (front mid rest all : List ℕ) → ((k : ℕ) → address_after to k ≡ address_after base (length front + k)) → all ≡ front ++ (mid ++ rest) → Holds m base (length all) all → Holds m to (length mid) mid
+held_part m base to front mid rest all same e h = record {
+  count = refl;
   each = λ k below.
-      let a : address_after (address_after at n) k ≡ address_after at (n + k) = omega arith in
-      let b : slice_index (front ++ rest) (n + k) ≡ slice_index rest k = ap (λ (j : ℕ). slice_index (front ++ rest) (j + k)) (sym count) ∙ get_or-append-add front rest k 0 in
-      ap (byte_at m) a ∙ h.each (n + k) (omega arith) ∙ ap Some b;
+      let size : length all ≡ length front + (length mid + length rest) = ap (λ (l : List ℕ). length l) e ∙ length-append front (mid ++ rest) ∙ ap (λ n. length front + n) (length-append mid rest) in
+      let there : slice_index all (length front + k) ≡ slice_index mid k =
+      ap (λ (l : List ℕ). slice_index l (length front + k)) e ∙ get_or-append-add front (mid ++ rest) k 0 ∙ get_or_append_left mid rest 0 k below in
+      ap (byte_at m) (same k) ∙ h.each (length front + k) (omega arith) ∙ ap Some there;
 }
 
 -- ---- one slot
@@ -46,17 +38,15 @@ slot_there at names here i _ bytes s is goes st = subst (λ (k : Instr). Stands 
 -- ---- slots
 
 pub slots_there : (at : Bases) (names : List PlacedName) (here : ℕ) (i : Instr) (slots : List Slot) (bytes : List ℕ) (s : State)
-    → AreSlots at names here slots bytes → AreResolvedTo at names here i slots → Holds s.memory s.hart.pc (size_of slots) bytes → SlotsStand i s slots
+    → AreSlots at names here slots bytes → AreResolvedTo at names here i slots → Holds s.memory s.hart.pc (length bytes) bytes → SlotsStand i s slots
 slots_there at names here i [] bytes s h goes m = tt
 slots_there at names here i (x ∷ slots) bytes s h goes m =
     let front = h.0 in
     let rest = h.1 in
     let spelled = slot_spells at names here x front h.2 in
     let count = spelled_length front h.2.instr (slot_size x) spelled in
-    let others = slots_length at names (here + slot_size x) slots rest h.3 in
-    let size = size_of-cons x slots in
-    let all : Holds s.memory s.hart.pc (slot_size x + size_of slots) (front ++ rest) = subst (λ (n : ℕ). Holds s.memory s.hart.pc n (front ++ rest)) size (subst (λ (l : List ℕ). Holds s.memory s.hart.pc (size_of (x ∷ slots)) l) h.4 m) in (
-      slot_there at names here i x front s h.2 goes.0 (stands_one s h.2.instr (slot_size x) front (held_front s.memory s.hart.pc (slot_size x) (size_of slots) front rest count all) spelled),
-      slots_there at names (here + slot_size x) i slots rest (further s (slot_size x)) h.3 goes.1
-          (held_rest s.memory s.hart.pc (slot_size x) (size_of slots) front rest count others all),
+    let first = held_part s.memory s.hart.pc s.hart.pc [] front rest bytes (λ k. omega arith) h.4 m in
+    let later = held_part s.memory s.hart.pc (address_after s.hart.pc (slot_size x)) front rest [] bytes (λ k. omega arith) (h.4 ∙ ap (λ l. front ++ l) (sym (append-nil rest))) m in (
+      slot_there at names here i x front s h.2 goes.0 (stands_one s h.2.instr (slot_size x) front (subst (λ n. Holds s.memory s.hart.pc n front) count first) spelled),
+      slots_there at names (here + slot_size x) i slots rest (further s (slot_size x)) h.3 goes.1 later,
     )

@@ -1,8 +1,10 @@
 -- What is placed has an image, or a fault.
-use Rattle.sfi_link.proofs.Prelude.{◌≡◌, ℕ, zero, suc, ◌+◌, ◌-◌, ◌/◌, ◌^◌, ◌<◌, ◌≤◌, List, [], ◌∷◌, ◌++◌, length, Option, Some, None, refl, sym, ap, ◌∙◌, subst, arith, inl, inr, ◌⊎◌, ℤ, pos, negsuc, ◌-ℤ◌, All, AllPairs, repeat, w16, w32, to_le_bytes, cases_lt, cases_eq, ints, All-head, All-tail, Instr, OpImm, Branch, Jal, Lui, Addi, InRange, IsReg, IsBranchOffset, IsJumpOffset, spelling, expansion, Format, code_most, upper, lower, stub_of, Slot, Wide, Short, Jump, Upper, Lower, PlacedName, slot_size, slots_of, Placement, Encodes, IsPlacedPart, Bases, LinkFault, Place, Span, AreApart, spans, place_of, IsRightPlace, spans_at, bases_of, address_at, target_at, with_offset, made_of, IsSlot, AreSlots, needed, HasRoom, IsCodeSize, IsLinkedCode, IsLinked, AreLinkedFrom, AreLinked, AreWritten, MayLie, HasSlotFault, IsSlotFault, HasPartFault, IsPartFault}
+use Rattle.sfi_link.proofs.Prelude.{◌≡◌, ℕ, zero, suc, ◌+◌, ◌-◌, ◌/◌, ◌^◌, ◌<◌, ◌≤◌, List, [], ◌∷◌, ◌++◌, length, Option, Some, None, refl, sym, ap, ◌∙◌, subst, arith, inl, inr, ◌⊎◌, ℤ, pos, ◌-ℤ◌, All, AllPairs, repeat, w16, w32, to_le_bytes, cases_lt, cases_eq, ints, All-head, All-tail, Instr, Branch, Jal, InRange, IsReg, spelling, expansion, Format, code_most, stub_of, Slot, Wide, Short, Jump, Upper, Lower, PlacedName, slot_size, slots_of, Placement, Encodes, IsPlacedPart, Bases, LinkFault, Place, Span, AreApart, spans, place_of, IsRightPlace, spans_at, bases_of, address_at, target_at, with_offset, made_of, IsSlot, AreSlots, needed, HasRoom, IsCodeSize, IsLinkedCode, part_with, IsLinked, AreLinkedFrom, AreLinked, AreWritten, MayLie, HasSlotFault, IsSlotFault, HasPartFault, IsPartFault}
 use Rattle.rv_comp.specs.Halfwords.{halfword_of}
-use Rattle.rv_word.specs.Numbers.{modulo, minus, IsBetween, IsEven}
+use Rattle.rv_word.specs.Numbers.{modulo, minus, IsBetween}
 use Rattle.sfi_link.specs.Laws.{SomeLinking}
+use Rattle.std.specs.Prelude.{◌≤ℤ◌}
+use Rattle.std.proofs.lemmas.Int.{by_lt_z}
 use Rattle.sfi_link.specs.declared.fault.LinkFault.TheVariants.{UnknownName, BranchReach, TooLarge, TooManySandboxes}
 use Rattle.sfi_policy.specs.Limits.{data_most}
 use Rattle.std.proofs.Math.Nat.{pow-suc}
@@ -15,32 +17,21 @@ use Rattle.sfi_link.proofs.Stubs.{length_stubs}
 use Rattle.sfi_image.proofs.Formats.{code_at_most}
 use Rattle.sfi_link.proofs.LinkedClean.{all_are_clean}
 use Rattle.sfi_link.proofs.Parts.{linked_is_right}
-use Rattle.sfi_link.proofs.Pushed.{low_in_range}
-use Rattle.sfi_link.proofs.Linking.{small_size, least_size, no_room, linked_code, pair, part_of}
+use Rattle.sfi_link.proofs.Pushed.{upper_slot, lower_slot}
+use Rattle.sfi_link.proofs.Linking.{small_size, least_size, no_room, linked_code, pair, none_apart}
 
 -- ---- offsets
 
-decided_even : (z : ℤ) → IsEven z ⊎ (IsEven z → ⊥)
-decided_even z = cases_eq (modulo 1 z) 0
+within : (low high z : ℤ) → Decided (IsBetween low high z)
+within low high z = decided_both (le low z) (le z high)
+  where
+    le : (a b : ℤ) → Decided (a ≤ℤ b)
+    le a b = by_lt_z b a (λ lt. inr (λ h. omega (arith, ints))) inl
 
-branch_within : (z : ℤ) → IsBetween (minus 4096) (pos 4094) z ⊎ (IsBetween (minus 4096) (pos 4094) z → ⊥)
-branch_within (pos n) = elim (cases_lt 4094 n) [ inl far ↦ inr (λ h. let a = h.1 in omega (arith, ints)) | inr near ↦ inl (omega (arith, ints), omega (arith, ints)) ]
-branch_within (negsuc n) = elim (cases_lt 4095 n) [ inl far ↦ inr (λ h. let a = h.0 in omega (arith, ints)) | inr near ↦ inl (omega (arith, ints), omega (arith, ints)) ]
-
-jump_within : (z : ℤ) → IsBetween (minus 1048576) (pos 1048574) z ⊎ (IsBetween (minus 1048576) (pos 1048574) z → ⊥)
-jump_within (pos n) = elim (cases_lt 1048574 n) [ inl far ↦ inr (λ h. let a = h.1 in omega (arith, ints)) | inr near ↦ inl (omega (arith, ints), omega (arith, ints)) ]
-jump_within (negsuc n) = elim (cases_lt 1048575 n) [ inl far ↦ inr (λ h. let a = h.0 in omega (arith, ints)) | inr near ↦ inl (omega (arith, ints), omega (arith, ints)) ]
-
-branch_or_not : (z : ℤ) → IsBranchOffset z ⊎ (IsBranchOffset z → ⊥)
-branch_or_not z = decided_both (branch_within z) (decided_even z)
-
-jump_or_not : (z : ℤ) → IsJumpOffset z ⊎ (IsJumpOffset z → ⊥)
-jump_or_not z = decided_both (jump_within z) (decided_even z)
-
-reaches_or_not : (z : ℤ) (i : Instr) → InRange i → InRange (with_offset z i) ⊎ (InRange (with_offset z i) → ⊥)
+reaches_or_not : (z : ℤ) (i : Instr) → InRange i → Decided (InRange (with_offset z i))
 unfolding InRange
-reaches_or_not z (Jal rd offset) h = elim (jump_or_not z) [ inl near ↦ inl (h.0, near) | inr far ↦ inr (λ g. far g.1) ]
-reaches_or_not z (Branch cond rs1 rs2 offset) h = elim (branch_or_not z) [ inl near ↦ inl (h.0, h.1, near) | inr far ↦ inr (λ g. far g.2) ]
+reaches_or_not z (Jal rd offset) h = elim (decided_both (within (minus 1048576) (pos 1048574) z) (cases_eq (modulo 1 z) 0)) [ inl near ↦ inl (h.0, near) | inr far ↦ inr (λ g. far g.1) ]
+reaches_or_not z (Branch cond rs1 rs2 offset) h = elim (decided_both (within (minus 4096) (pos 4094) z) (cases_eq (modulo 1 z) 0)) [ inl near ↦ inl (h.0, h.1, near) | inr far ↦ inr (λ g. far g.2) ]
 reaches_or_not z _ h = inl h
 
 -- ---- a slot
@@ -48,10 +39,6 @@ reaches_or_not z _ h = inl h
 -- the slot has bytes where it stands, or a fault
 abbrev SlotOrFault : Bases → List PlacedName → ℕ → Slot → Type 0
 SlotOrFault at names here s = ((bytes : List ℕ) × IsSlot at names here s bytes) ⊎ ((f : LinkFault) × HasSlotFault at names here s f)
-
-high_in_range : (rd a : ℕ) → IsReg rd → InRange (Lui rd (upper (pos a)))
-unfolding InRange
-high_in_range rd a reg = (reg, omega arith)
 
 jump_slot : (at : Bases) (names : List PlacedName) (here : ℕ) (i : Instr) (name line : ℕ) (to : Option ℕ) → target_at at names name ≡ to → InRange i → SlotOrFault at names here (Jump i name line)
 jump_slot at names here i name line None is h = inr (UnknownName line, inl (is, refl))
@@ -63,36 +50,20 @@ jump_slot at names here i name line (Some to) is h =
       | inr far ↦ inr (BranchReach line, inr (to, is, far, refl))
     ]
 
-upper_slot : (at : Bases) (names : List PlacedName) (here rd name line : ℕ) (address : Option ℕ) → address_at at names name ≡ address → IsReg rd → SlotOrFault at names here (Upper rd name line)
-upper_slot at names here rd name line None is reg = inr (UnknownName line, (is, refl))
-upper_slot at names here rd name line (Some a) is reg =
-    inl (
-      to_le_bytes w32 (spelling (Lui rd (upper (pos a)))),
-      record {
-        instr = Lui rd (upper (pos a));
-        resolves = ap (made_of (λ address. Lui rd (upper (pos address)))) is;
-        spelled = (high_in_range rd a reg, refl);
-      },
-    )
+upper_or_fault : (at : Bases) (names : List PlacedName) (here rd name line : ℕ) (address : Option ℕ) → address_at at names name ≡ address → IsReg rd → SlotOrFault at names here (Upper rd name line)
+upper_or_fault at names here rd name line None is reg = inr (UnknownName line, (is, refl))
+upper_or_fault at names here rd name line (Some a) is reg = inl (_, upper_slot at names here rd name line a is reg)
 
-lower_slot : (at : Bases) (names : List PlacedName) (here rd name line : ℕ) (address : Option ℕ) → address_at at names name ≡ address → IsReg rd → SlotOrFault at names here (Lower rd name line)
-lower_slot at names here rd name line None is reg = inr (UnknownName line, (is, refl))
-lower_slot at names here rd name line (Some a) is reg =
-    inl (
-      to_le_bytes w32 (spelling (OpImm Addi rd rd (lower (pos a)))),
-      record {
-        instr = OpImm Addi rd rd (lower (pos a));
-        resolves = ap (made_of (λ address. OpImm Addi rd rd (lower (pos address)))) is;
-        spelled = (low_in_range rd a (OpImm Addi rd rd (lower (pos a))) refl reg, refl);
-      },
-    )
+lower_or_fault : (at : Bases) (names : List PlacedName) (here rd name line : ℕ) (address : Option ℕ) → address_at at names name ≡ address → IsReg rd → SlotOrFault at names here (Lower rd name line)
+lower_or_fault at names here rd name line None is reg = inr (UnknownName line, (is, refl))
+lower_or_fault at names here rd name line (Some a) is reg = inl (_, lower_slot at names here rd name line a is reg)
 
 slot_or_fault : (at : Bases) (names : List PlacedName) (here : ℕ) (s : Slot) → Encodes s → SlotOrFault at names here s
 slot_or_fault at names here (Wide i) h = inl (to_le_bytes w32 (spelling i), record { instr = i; resolves = refl; spelled = (h, refl) })
 slot_or_fault at names here (Short f) h = inl (to_le_bytes w16 (halfword_of f), record { instr = expansion f; resolves = refl; spelled = (h, refl) })
 slot_or_fault at names here (Jump i name line) h = jump_slot at names here i name line (target_at at names name) refl h
-slot_or_fault at names here (Upper rd name line) h = upper_slot at names here rd name line (address_at at names name) refl h
-slot_or_fault at names here (Lower rd name line) h = lower_slot at names here rd name line (address_at at names name) refl h
+slot_or_fault at names here (Upper rd name line) h = upper_or_fault at names here rd name line (address_at at names name) refl h
+slot_or_fault at names here (Lower rd name line) h = lower_or_fault at names here rd name line (address_at at names name) refl h
 
 -- ---- slots
 
@@ -160,8 +131,7 @@ part_made given number p size bytes sized lies slots =
     let code = now ++ repeat fill pair in
     let linked : IsLinkedCode given number p code = linked_code given number p at size fill stubs now code refl sized refl written refl refl in
     let whole : length code ≡ size = one_size p.format (needed p) (length code) size linked.size sized in
-    let made = part_of given number p code linked (subst (λ n. IsRightPlace p n (place_of given number)) (sym whole) lies) in
-    (made.0, made.1, ap length made.2 ∙ whole)
+    (part_with given number p code, record { code = linked; lies = subst (λ n. IsRightPlace p n (place_of given number)) (sym whole) lies; is = refl }, whole)
 
 right_place : (p : Placement) (size : ℕ) (place : Place) → Decided (IsRightPlace p size place)
 right_place p size place =
@@ -220,9 +190,6 @@ parts_or_fault given number before (p ∷ placed) right apart =
             | inl rest ↦ inl (made.part ∷ rest.0, (made.linked, rest.1), subst (AllPairs AreApart) (append_assoc before own (spans rest.0)) rest.2)
           ]
     ]
-
-none_apart : AllPairs AreApart []
-none_apart = λ i j d lt within. absurd (omega arith)
 
 pub some_linking : SomeLinking
 some_linking given placed is =

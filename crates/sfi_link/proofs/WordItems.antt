@@ -28,7 +28,7 @@ use Rattle.sfi_rules.specs.words.Owing.{left}
 use Rattle.sfi_rewrite.proofs.Sizes.{size_of-append}
 use Rattle.sfi_rewrite.proofs.WordStanding.{apart, body_laid, slots_of_marked}
 use Rattle.sfi_link.proofs.CleanPlaces.{is_calm, lands, made}
-use Rattle.sfi_link.proofs.WordRules.{IsLawful, Meets}
+use Rattle.sfi_link.proofs.WordRules.{IsLawful, Meets, lawful_by, meets_by}
 use Rattle.sfi_link.proofs.WordOwing.{of_data, free_one, IsFreeOne, unreserved, no_offset, use_is, IsMaskOwed, Owes, owing, owing_as_named}
 use Rattle.sfi_link.proofs.WordSlots.{IsRight, AreRight, right_append, right_known, right_alone, mask_right, after_right}
 
@@ -62,12 +62,12 @@ owed_past _ body = kind.Nothing
 
 -- what is calm breaks no rule wherever it stands, where it writes what is free
 calm_lawful : (base size here : ℕ) (i : Instr) → is_calm i ≡ true → IsFreeOne (destination i) → IsLawful base size here i
-calm_lawful base size here (Op op rd rs1 rs2) c f = record { reserved = unreserved (Some rd) f; access = refl; jump = refl; target = refl; offset = no_offset (Op op rd rs1 rs2) (Some rd) refl f }
-calm_lawful base size here (OpImm op rd rs1 imm) c f = record { reserved = unreserved (Some rd) f; access = refl; jump = refl; target = refl; offset = no_offset (OpImm op rd rs1 imm) (Some rd) refl f }
-calm_lawful base size here (Lui rd imm) c f = record { reserved = unreserved (Some rd) f; access = refl; jump = refl; target = refl; offset = no_offset (Lui rd imm) (Some rd) refl f }
-calm_lawful base size here (Auipc rd imm) c f = record { reserved = unreserved (Some rd) f; access = refl; jump = refl; target = refl; offset = no_offset (Auipc rd imm) (Some rd) refl f }
-calm_lawful base size here (Fence imm rd rs1) c f = record { reserved = refl; access = refl; jump = refl; target = refl; offset = refl }
-calm_lawful base size here Ebreak c f = record { reserved = refl; access = refl; jump = refl; target = refl; offset = refl }
+calm_lawful base size here (Op op rd rs1 rs2) c f = lawful_by (unreserved (Some rd) f) refl refl refl (no_offset (Op op rd rs1 rs2) (Some rd) refl f)
+calm_lawful base size here (OpImm op rd rs1 imm) c f = lawful_by (unreserved (Some rd) f) refl refl refl (no_offset (OpImm op rd rs1 imm) (Some rd) refl f)
+calm_lawful base size here (Lui rd imm) c f = lawful_by (unreserved (Some rd) f) refl refl refl (no_offset (Lui rd imm) (Some rd) refl f)
+calm_lawful base size here (Auipc rd imm) c f = lawful_by (unreserved (Some rd) f) refl refl refl (no_offset (Auipc rd imm) (Some rd) refl f)
+calm_lawful base size here (Fence imm rd rs1) c f = lawful_by refl refl refl refl refl
+calm_lawful base size here Ebreak c f = lawful_by refl refl refl refl refl
 calm_lawful base size here _ c f = absurd (true≢false (sym c))
 
 calm_no_ecall : (i : Instr) → is_calm i ≡ true → (gate : Bool) → breaks_ecall gate i ≡ false
@@ -76,7 +76,7 @@ calm_no_ecall _ c gate = refl
 
 -- where nothing is owed, or all of it is paid
 paid : (owed : Owed) (i : Instr) (to : Option ℕ) → left owed i ≡ Some kind.Nothing → (w : Owes i to) → Meets owed i w.own
-paid owed i to l w = record { rest = kind.Nothing; pays = l; own = w.own; owes = w.owes; next_is = refl }
+paid owed i to l w = meets_by kind.Nothing w.own l w.owes refl
 
 free_of : (owed : Owed) (i : Instr) → owed ≡ kind.Nothing → left owed i ≡ Some kind.Nothing
 free_of owed i e = ap (λ o. left o i) e
@@ -147,7 +147,7 @@ access_right base size at names here owed rvc f to a false false confined slots 
 
 load_access : (base size here : ℕ) (kind_of : LoadKind) (rd : ℕ) (imm : ℤ) → is_withheld Sfiw rd ≡ false → IsAccess base size here (λ b. Load kind_of rd b imm) (Some rd)
 load_access base size here kind_of rd imm h = record {
-  lawful = λ b may. record { reserved = unreserved (Some rd) h; access = ap not may; jump = refl; target = refl; offset = no_offset (Load kind_of rd b imm) (Some rd) refl h };
+  lawful = λ b may. lawful_by (unreserved (Some rd) h) (ap not may) refl refl (no_offset (Load kind_of rd b imm) (Some rd) refl h);
   no_ecall = λ b gate. refl;
   owes = λ b. owing (Load kind_of rd b imm) (Some rd) refl (h, refl, λ typed. refl);
   masks_none = λ b d. refl;
@@ -156,7 +156,7 @@ load_access base size here kind_of rd imm h = record {
 
 store_access : (base size here : ℕ) (width : StoreWidth) (rs2 : ℕ) (imm : ℤ) → IsAccess base size here (λ b. Store width b rs2 imm) None
 store_access base size here width rs2 imm = record {
-  lawful = λ b may. record { reserved = refl; access = ap not may; jump = refl; target = refl; offset = refl };
+  lawful = λ b may. lawful_by refl (ap not may) refl refl refl;
   no_ecall = λ b gate. refl;
   owes = λ b. owing (Store width b rs2 imm) None refl tt;
   masks_none = λ b d. refl;
@@ -172,21 +172,13 @@ jump_right base size at names here rd a imm slots h untyped zero_is e =
     let w = owing (Jalr rd 30 (pos 0)) (Some rd) refl (h, refl, λ typed. absurd (true≢false (sym typed ∙ untyped))) in
     subst (λ v. AreRight base size at names here kind.Nothing v kind.Nothing) (sym (e ∙ ap (λ z. Wide (Op And 30 a 25) ∷ Wide (Op Or 30 30 24) ∷ Wide (Jalr rd 30 z) ∷ mask_after (Some rd)) zero_is))
     (right_known base size at names here kind.Nothing kind.Code kind.Nothing (Wide (Op And 30 a 25)) (Op And 30 a 25) (Wide (Op Or 30 30 24) ∷ Wide (Jalr rd 30 (pos 0)) ∷ mask_after (Some rd)) refl
-    (record {
-      no_ecall = λ gate. refl;
-      lawful = record { reserved = refl; access = refl; jump = refl; target = refl; offset = refl };
-      meets = record { rest = kind.Nothing; pays = refl; own = kind.Code; owes = refl; next_is = refl };
-    })
+    (record { no_ecall = λ gate. refl; lawful = lawful_by refl refl refl refl refl; meets = meets_by kind.Nothing kind.Code refl refl refl })
     (right_known base size at names (here + 4) kind.Code kind.Nothing kind.Nothing (Wide (Op Or 30 30 24)) (Op Or 30 30 24) (Wide (Jalr rd 30 (pos 0)) ∷ mask_after (Some rd)) refl
-    (record {
-      no_ecall = λ gate. refl;
-      lawful = record { reserved = refl; access = refl; jump = refl; target = refl; offset = refl };
-      meets = record { rest = kind.Nothing; pays = refl; own = kind.Nothing; owes = refl; next_is = refl };
-    })
+    (record { no_ecall = λ gate. refl; lawful = lawful_by refl refl refl refl refl; meets = meets_by kind.Nothing kind.Nothing refl refl refl })
     (right_known base size at names (here + 4 + 4) kind.Nothing w.own kind.Nothing (Wide (Jalr rd 30 (pos 0))) (Jalr rd 30 (pos 0)) (mask_after (Some rd)) refl
     (record {
       no_ecall = λ gate. refl;
-      lawful = record { reserved = unreserved (Some rd) h; access = refl; jump = refl; target = refl; offset = no_offset (Jalr rd 30 (pos 0)) (Some rd) refl h };
+      lawful = lawful_by (unreserved (Some rd) h) refl refl refl (no_offset (Jalr rd 30 (pos 0)) (Some rd) refl h);
       meets = paid kind.Nothing (Jalr rd 30 (pos 0)) (Some rd) refl w;
     })
     (after_right base size at names (here + 4 + 4 + 4) w.own (Some rd) w.is))))
@@ -227,8 +219,8 @@ around_right base size at names here owed rvc i count slots o body n c b x = cal
 
 -- a step leaves its mask or a use of it owed
 step_meets : (d : ℕ) (k : ℤ) → is_data_register d ≡ true → Meets kind.Nothing (OpImm Addi d d k) (kind.MaskOrUse d)
-step_meets d k typed = of_data (λ e. Meets kind.Nothing (OpImm Addi e e k) (kind.MaskOrUse e)) (record { rest = kind.Nothing; pays = refl; own = kind.MaskOrUse 2; owes = refl; next_is = refl }) (record { rest = kind.Nothing; pays = refl; own = kind.MaskOrUse 3; owes = refl; next_is = refl })
-    (record { rest = kind.Nothing; pays = refl; own = kind.MaskOrUse 4; owes = refl; next_is = refl }) (record { rest = kind.Nothing; pays = refl; own = kind.MaskOrUse 29; owes = refl; next_is = refl }) d typed
+step_meets d k typed = of_data (λ e. Meets kind.Nothing (OpImm Addi e e k) (kind.MaskOrUse e)) (meets_by kind.Nothing (kind.MaskOrUse 2) refl refl refl) (meets_by kind.Nothing (kind.MaskOrUse 3) refl refl refl)
+    (meets_by kind.Nothing (kind.MaskOrUse 4) refl refl refl) (meets_by kind.Nothing (kind.MaskOrUse 29) refl refl refl) d typed
 
 -- what a step is
 pub record IsStep (body : Body) : Type 0 where
@@ -283,14 +275,8 @@ aimed_right base size here to (Jal rd offset) count name body n b low start near
     let w = owing (Jal rd (pos to -ℤ pos here)) (Some rd) refl (n, refl, λ typed. absurd (true≢false (sym typed ∙ b))) in
     record {
       no_ecall = λ gate. refl;
-      lawful = record {
-        reserved = unreserved (Some rd) n;
-        access = refl;
-        jump = refl;
-        target = ap (λ a. not (is_word_start base size a)) lands_there ∙ ap not start;
-        offset = no_offset (Jal rd (pos to -ℤ pos here)) (Some rd) refl n;
-      };
-      meets = record { rest = kind.Nothing; pays = refl; own = w.own; owes = w.owes; next_is = untyped rd w.own b w.is };
+      lawful = lawful_by (unreserved (Some rd) n) refl refl (ap (λ a. not (is_word_start base size a)) lands_there ∙ ap not start) (no_offset (Jal rd (pos to -ℤ pos here)) (Some rd) refl n);
+      meets = meets_by kind.Nothing w.own refl w.owes (untyped rd w.own b w.is);
     }
   where
     untyped : (rd : ℕ) (own : Owed) → is_data_register rd ≡ false → IsMaskOwed own (Some rd) → own ≡ kind.Nothing
@@ -299,14 +285,8 @@ aimed_right base size here to (Branch cond rs1 rs2 offset) count name body n b l
     let lands_there : offset_by here (pos to -ℤ pos here) ≡ to = lands (pos to -ℤ pos here) here to refl low near in
     record {
       no_ecall = λ gate. refl;
-      lawful = record {
-        reserved = refl;
-        access = refl;
-        jump = refl;
-        target = ap (λ a. not (is_word_start base size a)) lands_there ∙ ap not start;
-        offset = refl;
-      };
-      meets = record { rest = kind.Nothing; pays = refl; own = kind.Nothing; owes = refl; next_is = refl };
+      lawful = lawful_by refl refl refl (ap (λ a. not (is_word_start base size a)) lands_there ∙ ap not start) refl;
+      meets = meets_by kind.Nothing kind.Nothing refl refl refl;
     }
 aimed_right base size here to _ count name body n b low start near = absurd body.1
 

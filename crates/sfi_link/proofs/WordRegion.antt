@@ -21,7 +21,7 @@ use Rattle.sfi_link.proofs.Region.{cut}
 use Rattle.sfi_link.proofs.Parts.{slots_length}
 use Rattle.sfi_link.proofs.Sizes.{join, size_fill}
 use Rattle.sfi_link.proofs.WordFound.{IsQuiet, AreQuiet, quiet_append, length_join, quiet_is_clean}
-use Rattle.sfi_link.proofs.WordRules.{IsLawful, Meets, place, quiet_end, quiet_piece}
+use Rattle.sfi_link.proofs.WordRules.{IsLawful, Meets, lawful_by, meets_by, place, quiet_end, quiet_piece}
 use Rattle.sfi_link.proofs.WordSlots.{IsRight, AreRight}
 use Rattle.std.proofs.lemmas.Grind.{flat_map-append}
 
@@ -123,8 +123,8 @@ slots_quiet sandbox p at names _ _ (one_slot l s expanded words four w) n here o
 end_right : (base size here : ℕ) → IsRight base size here kind.Nothing Ebreak kind.Nothing
 end_right base size here = record {
   no_ecall = λ gate. refl;
-  lawful = record { reserved = refl; access = refl; jump = refl; target = refl; offset = refl };
-  meets = record { rest = kind.Nothing; pays = refl; own = kind.Nothing; owes = refl; next_is = refl };
+  lawful = lawful_by refl refl refl refl refl;
+  meets = meets_by kind.Nothing kind.Nothing refl refl refl;
 }
 
 fill_quiet : (sandbox : ℕ) (p : Part) (at : Bases) (names : List PlacedName) (fill n here : ℕ) (bytes : List ℕ) → fill % 2 ≡ 0 → here ≡ p.code_base + 4 * n → AreSlots at names here (replicate fill c_ebreak) bytes
@@ -182,17 +182,17 @@ stub_quiet : (sandbox : ℕ) (p : Part) (k : ℕ) → is_gate_of p.gates (p.code
 stub_quiet sandbox p k listed room =
     let b : ℕ → BundlePlace = λ n. place_of sandbox p (n / 4) in
     let call = wide_quiet (b (4 * k)) (p.code_base + 4 * (4 * k)) kind.Nothing kind.Nothing Ecall (word Ecall) call_spells (at_gate sandbox p k (4 * k / 4) (p.code_base + 4 * (4 * k)) (omega arith) (omega arith) listed)
-    (record { reserved = refl; access = refl; jump = refl; target = refl; offset = refl }) (goes_on (b (4 * k)) (p.code_base + 4 * (4 * k)) 4 kind.Nothing Ecall (omega arith))
-    (record { rest = kind.Nothing; pays = refl; own = kind.Nothing; owes = refl; next_is = refl }) in
+    (lawful_by refl refl refl refl refl) (goes_on (b (4 * k)) (p.code_base + 4 * (4 * k)) 4 kind.Nothing Ecall (omega arith))
+    (meets_by kind.Nothing kind.Nothing refl refl refl) in
     let mask = wide_quiet (b (4 * k + 1)) (p.code_base + 4 * (4 * k + 1)) kind.Nothing kind.Code (Op And 30 1 25) (word (Op And 30 1 25)) mask_spells refl
-    (record { reserved = refl; access = refl; jump = refl; target = refl; offset = refl }) (goes_on (b (4 * k + 1)) (p.code_base + 4 * (4 * k + 1)) 4 kind.Nothing (Op And 30 1 25) (omega arith))
-    (record { rest = kind.Nothing; pays = refl; own = kind.Code; owes = refl; next_is = refl }) in
+    (lawful_by refl refl refl refl refl) (goes_on (b (4 * k + 1)) (p.code_base + 4 * (4 * k + 1)) 4 kind.Nothing (Op And 30 1 25) (omega arith))
+    (meets_by kind.Nothing kind.Code refl refl refl) in
     let put = wide_quiet (b (4 * k + 1 + 1)) (p.code_base + 4 * (4 * k + 1 + 1)) kind.Code kind.Nothing (Op Or 30 30 24) (word (Op Or 30 30 24)) put_spells refl
-    (record { reserved = refl; access = refl; jump = refl; target = refl; offset = refl }) (goes_on (b (4 * k + 1 + 1)) (p.code_base + 4 * (4 * k + 1 + 1)) 4 kind.Code (Op Or 30 30 24) (omega arith))
-    (record { rest = kind.Nothing; pays = refl; own = kind.Nothing; owes = refl; next_is = refl }) in
+    (lawful_by refl refl refl refl refl) (goes_on (b (4 * k + 1 + 1)) (p.code_base + 4 * (4 * k + 1 + 1)) 4 kind.Code (Op Or 30 30 24) (omega arith))
+    (meets_by kind.Nothing kind.Nothing refl refl refl) in
     let back = wide_quiet (b (4 * k + 1 + 1 + 1)) (p.code_base + 4 * (4 * k + 1 + 1 + 1)) kind.Nothing kind.Nothing (Jalr 0 30 (pos 0)) (word (Jalr 0 30 (pos 0))) return_spells refl
-    (record { reserved = refl; access = refl; jump = refl; target = refl; offset = refl }) (and_right (p.code_base + 4 * (4 * k + 1 + 1 + 1) + 4 == p.code_base + length p.code) false refl)
-    (record { rest = kind.Nothing; pays = refl; own = kind.Nothing; owes = refl; next_is = refl }) in
+    (lawful_by refl refl refl refl refl) (and_right (p.code_base + 4 * (4 * k + 1 + 1 + 1) + 4 == p.code_base + length p.code) false refl)
+    (meets_by kind.Nothing kind.Nothing refl refl refl) in
     (kind.Nothing, call, (kind.Code, mask, (kind.Nothing, put, (kind.Nothing, back, refl))))
 
 stubs_quiet : (sandbox : ℕ) (p : Part) (k count : ℕ) → ((j : ℕ) → j < k + count → is_gate_of p.gates (p.code_base + 16 * j) ≡ true) → 16 * (k + count) ≤ length p.code

@@ -29,6 +29,13 @@ pub record Meets (owed : Owed) (i : Instr) (next : Owed) : Type 0 where
   pub owes : owed_by i ≡ Some own
   pub next_is : joined (Some rest) (Some own) ≡ next
 
+-- what is asked, each by its own proof
+pub lawful_by : {base size at : ℕ} {i : Instr} → breaks_reserved i ≡ false → breaks_access i ≡ false → breaks_jump i ≡ false → breaks_target base size at i ≡ false → breaks_offset i ≡ false → IsLawful base size at i
+lawful_by reserved access jump target offset = record { reserved = reserved; access = access; jump = jump; target = target; offset = offset }
+
+pub meets_by : {owed next : Owed} {i : Instr} (rest own : Owed) → left owed i ≡ Some rest → owed_by i ≡ Some own → joined (Some rest) (Some own) ≡ next → Meets owed i next
+meets_by rest own pays owes next_is = record { rest = rest; pays = pays; own = own; owes = owes; next_is = next_is }
+
 -- ---- no rule is broken there
 
 -- the place of an instruction of so many bytes

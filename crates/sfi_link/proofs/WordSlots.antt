@@ -9,7 +9,7 @@ use Rattle.sfi_rules.specs.declared.owed.Owed.{Owed}
 use Rattle.sfi_rules.specs.declared.owed.Owed.TheVariants as kind
 use Rattle.sfi_rewrite.proofs.Sizes.{size_of-cons}
 use Rattle.sfi_link.proofs.CleanPlaces.{some_same}
-use Rattle.sfi_link.proofs.WordRules.{IsLawful, Meets}
+use Rattle.sfi_link.proofs.WordRules.{IsLawful, Meets, lawful_by, meets_by}
 use Rattle.sfi_link.proofs.WordOwing.{of_data, IsMaskOwed}
 use Rattle.sfi_rules.specs.words.Rules.{breaks_ecall}
 
@@ -57,7 +57,7 @@ right_alone base size at names here owed next true i slots (inr w) one =
 masked : (base size here : ℕ) (owed next : Owed) (a : ℕ) → Meets owed (Op And 31 a 27) next → IsRight base size here owed (Op And 31 a 27) next
 masked base size here owed next a m = record {
   no_ecall = λ gate. refl;
-  lawful = record { reserved = refl; access = refl; jump = refl; target = refl; offset = refl };
+  lawful = lawful_by refl refl refl refl refl;
   meets = m;
 }
 
@@ -65,30 +65,29 @@ masked base size here owed next a m = record {
 put : (base size here d : ℕ) (owed : Owed) → is_data_register d ≡ true → ((e : ℕ) → e ≡ d → Meets owed (Op Or e 31 26) kind.Nothing) → IsRight base size here owed (Op Or d 31 26) kind.Nothing
 put base size here d owed typed m = record {
   no_ecall = λ gate. refl;
-  lawful = of_data (λ e. IsLawful base size here (Op Or e 31 26)) (record { reserved = refl; access = refl; jump = refl; target = refl; offset = refl })
-      (record { reserved = refl; access = refl; jump = refl; target = refl; offset = refl }) (record { reserved = refl; access = refl; jump = refl; target = refl; offset = refl })
-      (record { reserved = refl; access = refl; jump = refl; target = refl; offset = refl }) d typed;
+  lawful = of_data (λ e. IsLawful base size here (Op Or e 31 26)) (lawful_by refl refl refl refl refl) (lawful_by refl refl refl refl refl)
+      (lawful_by refl refl refl refl refl) (lawful_by refl refl refl refl refl) d typed;
   meets = m d refl;
 }
 
 put_free : (d : ℕ) → is_data_register d ≡ true → Meets kind.Nothing (Op Or d 31 26) kind.Nothing
-put_free d typed = of_data (λ e. Meets kind.Nothing (Op Or e 31 26) kind.Nothing) (record { rest = kind.Nothing; pays = refl; own = kind.Nothing; owes = refl; next_is = refl }) (record { rest = kind.Nothing; pays = refl; own = kind.Nothing; owes = refl; next_is = refl })
-    (record { rest = kind.Nothing; pays = refl; own = kind.Nothing; owes = refl; next_is = refl }) (record { rest = kind.Nothing; pays = refl; own = kind.Nothing; owes = refl; next_is = refl }) d typed
+put_free d typed = of_data (λ e. Meets kind.Nothing (Op Or e 31 26) kind.Nothing) (meets_by kind.Nothing kind.Nothing refl refl refl) (meets_by kind.Nothing kind.Nothing refl refl refl)
+    (meets_by kind.Nothing kind.Nothing refl refl refl) (meets_by kind.Nothing kind.Nothing refl refl refl) d typed
 
 put_owed : (d : ℕ) → is_data_register d ≡ true → Meets (kind.Place d) (Op Or d 31 26) kind.Nothing
-put_owed d typed = of_data (λ e. Meets (kind.Place e) (Op Or e 31 26) kind.Nothing) (record { rest = kind.Nothing; pays = refl; own = kind.Nothing; owes = refl; next_is = refl }) (record { rest = kind.Nothing; pays = refl; own = kind.Nothing; owes = refl; next_is = refl })
-    (record { rest = kind.Nothing; pays = refl; own = kind.Nothing; owes = refl; next_is = refl }) (record { rest = kind.Nothing; pays = refl; own = kind.Nothing; owes = refl; next_is = refl }) d typed
+put_owed d typed = of_data (λ e. Meets (kind.Place e) (Op Or e 31 26) kind.Nothing) (meets_by kind.Nothing kind.Nothing refl refl refl) (meets_by kind.Nothing kind.Nothing refl refl refl)
+    (meets_by kind.Nothing kind.Nothing refl refl refl) (meets_by kind.Nothing kind.Nothing refl refl refl) d typed
 
 mask_owed : (d : ℕ) → is_data_register d ≡ true → Meets (kind.Mask d) (Op And 31 d 27) (kind.Place d)
-mask_owed d typed = of_data (λ e. Meets (kind.Mask e) (Op And 31 e 27) (kind.Place e)) (record { rest = kind.Place 2; pays = refl; own = kind.Nothing; owes = refl; next_is = refl }) (record { rest = kind.Place 3; pays = refl; own = kind.Nothing; owes = refl; next_is = refl })
-    (record { rest = kind.Place 4; pays = refl; own = kind.Nothing; owes = refl; next_is = refl }) (record { rest = kind.Place 29; pays = refl; own = kind.Nothing; owes = refl; next_is = refl }) d typed
+mask_owed d typed = of_data (λ e. Meets (kind.Mask e) (Op And 31 e 27) (kind.Place e)) (meets_by (kind.Place 2) kind.Nothing refl refl refl) (meets_by (kind.Place 3) kind.Nothing refl refl refl)
+    (meets_by (kind.Place 4) kind.Nothing refl refl refl) (meets_by (kind.Place 29) kind.Nothing refl refl refl) d typed
 
 mask_or_use_owed : (d : ℕ) → is_data_register d ≡ true → Meets (kind.MaskOrUse d) (Op And 31 d 27) (kind.Place d)
-mask_or_use_owed d typed = of_data (λ e. Meets (kind.MaskOrUse e) (Op And 31 e 27) (kind.Place e)) (record { rest = kind.Place 2; pays = refl; own = kind.Nothing; owes = refl; next_is = refl }) (record { rest = kind.Place 3; pays = refl; own = kind.Nothing; owes = refl; next_is = refl })
-    (record { rest = kind.Place 4; pays = refl; own = kind.Nothing; owes = refl; next_is = refl }) (record { rest = kind.Place 29; pays = refl; own = kind.Nothing; owes = refl; next_is = refl }) d typed
+mask_or_use_owed d typed = of_data (λ e. Meets (kind.MaskOrUse e) (Op And 31 e 27) (kind.Place e)) (meets_by (kind.Place 2) kind.Nothing refl refl refl) (meets_by (kind.Place 3) kind.Nothing refl refl refl)
+    (meets_by (kind.Place 4) kind.Nothing refl refl refl) (meets_by (kind.Place 29) kind.Nothing refl refl refl) d typed
 
 mask_free : (a : ℕ) → Meets kind.Nothing (Op And 31 a 27) kind.Nothing
-mask_free a = record { rest = kind.Nothing; pays = refl; own = kind.Nothing; owes = refl; next_is = refl }
+mask_free a = meets_by kind.Nothing kind.Nothing refl refl refl
 
 -- the two of them
 mask_then : (base size : ℕ) (at : Bases) (names : List PlacedName) (here d a : ℕ) (owed between : Owed) → is_data_register d ≡ true → Meets owed (Op And 31 a 27) between → Meets between (Op Or d 31 26) kind.Nothing

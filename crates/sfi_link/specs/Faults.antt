@@ -21,7 +21,7 @@ use Rattle.sfi_link.specs.declared.fault.LinkFault.TheVariants as fault
 use Rattle.sfi_link.specs.Addresses.{address_at, target_at, with_offset, bases_of}
 use Rattle.sfi_link.specs.Code.{IsSlot}
 use Rattle.sfi_link.specs.Linked.{needed, HasRoom, IsCodeSize, IsLinked}
-use Rattle.sfi_link.specs.Lying.{IsRightPlace, spans_at}
+use Rattle.sfi_link.specs.RightPlaces.{IsRightPlace, spans_at}
 
 -- the number of a fault
 abbrev pub number_of : LinkFault → ℕ

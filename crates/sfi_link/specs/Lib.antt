@@ -1,7 +1,7 @@
 pub mod Addresses
 pub mod Stubs
 pub mod Code
-pub mod Lying
+pub mod RightPlaces
 pub mod Linked
 pub mod Faults
 pub mod Building

@@ -18,7 +18,7 @@ use Rattle.sfi_rewrite.specs.Placement.{Placement}
 use Rattle.sfi_link.specs.Addresses.{stub_size, bases_of}
 use Rattle.sfi_link.specs.Stubs.{stub_of}
 use Rattle.sfi_link.specs.Code.{AreSlots}
-use Rattle.sfi_link.specs.Lying.{IsRightPlace}
+use Rattle.sfi_link.specs.RightPlaces.{IsRightPlace}
 
 -- ---- how large the code region is
 
@@ -62,18 +62,27 @@ pub record IsLinkedCode (given : List Place) (number : ℕ) (p : Placement)
       (slots_of p.bundles ++ replicate fill c_ebreak) bytes
   pub code_is : code ≡ repeat (length p.gates) (stub_of p.format) ++ bytes
 
+-- the sandbox of an image that a placed one makes with this code, as the one of that number
+abbrev pub part_with : List Place → ℕ → Placement → List ℕ → Part
+part_with given number p code =
+    let at = bases_of given number p in
+    record {
+      format = p.format;
+      code_base = at.code;
+      data_base = at.«data»;
+      data_size = p.data_size;
+      start = at.start;
+      gates = gates_from at.code p.gates;
+      code = code;
+      init = p.bytes;
+    }
+
 -- the placed sandbox makes that one of the image, as the one of that number, counted from 0,
 -- at its place, where it may lie
 pub record IsLinked (given : List Place) (number : ℕ) (p : Placement) (q : Part) : Type 0 where
-  pub format : q.format ≡ p.format
-  pub code_base : q.code_base ≡ (bases_of given number p).code
-  pub data_base : q.data_base ≡ (bases_of given number p).«data»
-  pub data_size : q.data_size ≡ p.data_size
-  pub start : q.start ≡ (bases_of given number p).start
-  pub gates : q.gates ≡ gates_from (bases_of given number p).code p.gates
-  pub init : q.init ≡ p.bytes
   pub code : IsLinkedCode given number p q.code
   pub lies : IsRightPlace p (length q.code) (place_of given number)
+  pub is : q ≡ part_with given number p q.code
 
 -- the same of sandboxes, the first of which has that number
 abbrev pub AreLinkedFrom : List Place → ℕ → List Placement → List Part → Type 0

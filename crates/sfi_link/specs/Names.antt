@@ -1,5 +1,5 @@
 -- The map of a source: the addresses of its gates and labels in the image that is linked.
-use Rattle.std.specs.Prelude.{◌≡◌, ℕ, ◌+◌, List, [], ◌∷◌, ◌++◌, map, Option, Some, None}
+use Rattle.std.specs.Prelude.{◌≡◌, ℕ, ◌+◌, List, [], ◌∷◌, ◌++◌, map, slice_get, Option, Some, None}
 use Rattle.rv_source.specs.Source.{Sandbox}
 use Rattle.sfi_policy.specs.declared.place.Place.{Place}
 use Rattle.sfi_rewrite.specs.declared.placed.PlacedName.{PlacedName}
@@ -27,32 +27,31 @@ kind_of (Code place) = Some kind.Code
 kind_of (Data offset) = Some kind.Data
 kind_of Unknown = None
 
--- the entry of a name of that kind with that address, in the sandbox of that number; none of a name
--- that is neither a gate nor a label
-abbrev pub entry_of : ℕ → List ℕ → Option NameKind → Option ℕ → List MapEntry
-entry_of number name None address = []
-entry_of number name (Some kind) None = []
-entry_of number name (Some kind) (Some address) =
+-- the entry of a name with that text, of that kind and with that address, in the sandbox of that
+-- number; none of a name that is neither a gate nor a label
+abbrev pub entry_of : ℕ → Option (List ℕ) → Option NameKind → Option ℕ → List MapEntry
+entry_of number (Some name) (Some kind) (Some address) =
     record { sandbox = number; name = name; kind = kind; address = address } ∷ []
+entry_of number _ _ _ = []
 
--- the gates and labels of the sandbox of that number, which lies there, in the order in which their
--- names are first seen
-abbrev pub entries_of : ℕ → Bases → List (List ℕ) → List PlacedName → List MapEntry
-entries_of number at [] placed = []
-entries_of number at (name ∷ names) [] = []
-entries_of number at (name ∷ names) (p ∷ placed) =
-    entry_of number name (kind_of p) (address_of at p) ++ entries_of number at names placed
+-- the gates and labels of the sandbox of that number, which lies there and has names of these texts:
+-- what was placed of each name, from name k on, in the order in which they are first seen
+abbrev pub entries_of : ℕ → Bases → List (List ℕ) → ℕ → List PlacedName → List MapEntry
+entries_of number at texts k [] = []
+entries_of number at texts k (p ∷ placed) =
+    entry_of number (slice_get texts k) (kind_of p) (address_of at p)
+    ++ entries_of number at texts (k + 1) placed
 
--- the texts of a sandbox's names
-abbrev pub texts_of : Sandbox → List (List ℕ)
-texts_of s = map (λ e. e.0) s.names
+-- the same by the sandbox itself, if the source has it
+abbrev pub entries_in : ℕ → Bases → Option Sandbox → List PlacedName → List MapEntry
+entries_in number at None placed = []
+entries_in number at (Some s) placed = entries_of number at (map (λ e. e.0) s.names) 0 placed
 
 -- the gates and labels of sandboxes, the first of which has that number, by what was placed of each
 abbrev pub map_from : List Place → ℕ → List Sandbox → List Placement → List MapEntry
-map_from given number [] placed = []
-map_from given number (s ∷ source) [] = []
-map_from given number (s ∷ source) (p ∷ placed) =
-    entries_of number (bases_of given number p) (texts_of s) p.names
+map_from given number source [] = []
+map_from given number source (p ∷ placed) =
+    entries_in number (bases_of given number p) (slice_get source number) p.names
     ++ map_from given (number + 1) source placed
 
 -- What was placed of the source has an image at the given places, and these are the source's gates

@@ -1,5 +1,5 @@
 //! The bytes of what is placed, written one slot after another.
-ghost use Rattle.std.specs.Prelude.{◌≡◌, ◌+◌, ◌^◌, ◌<◌, ◌++◌, IsTrue, pos, length, OnOk};
+ghost use Rattle.std.specs.Prelude.{◌≡◌, ◌+◌, ◌^◌, ◌<◌, ◌++◌, IsTrue, pos, length, Some, IfOk, IfErr, OnOk};
 ghost use Rattle.std.specs.List.{All};
 ghost use Rattle.std.specs.Int.{w16, w32, to_le_bytes};
 ghost use Rattle.rv_word.specs.Spelling.{InRange, IsReg, spelling};
@@ -10,9 +10,10 @@ ghost use Rattle.rv_comp.specs.Halfwords.{halfword_of};
 ghost use Rattle.sfi_rewrite.specs.Slots.{size_of, slots_of};
 ghost use Rattle.sfi_rewrite.specs.Placed.{Encodes};
 ghost use Rattle.rv_source.specs.Halves.{lower};
+ghost use Rattle.sfi_link.specs.Addresses.{address_at};
 ghost use Rattle.sfi_link.specs.private.Near.{HasRoomFor, AreNear, IsPushed, AreWritten, Links};
-ghost use Rattle.sfi_link.specs.Faults.{HasSlotFault, IsSlotFault};
-ghost use Rattle.sfi_rewrite.specs.declared.slot.Slot.TheVariants.{Jump, Upper, Lower};
+ghost use Rattle.sfi_link.specs.Faults.{IsUnknown, HasSlotFault, IsSlotFault};
+ghost use Rattle.sfi_rewrite.specs.declared.slot.Slot.TheVariants.{Jump};
 
 use crate::address::{address_at, distance, lower, target_at, upper, with_offset};
 use crate::bases::Bases;
@@ -72,27 +73,16 @@ fn push_jump(
     Ok(())
 }
 
-// The lui of the name's address comes after the bytes so far.
-#[tactic(auto, unfolding(rv_word::specs::Spelling::InRange))]
-fn push_upper(
-    code: &mut Vec<u8>,
-    at: Bases,
-    names: &[PlacedName],
-    rd: Reg,
-    place: usize,
-    line: u32,
-) -> Result<(), LinkFault>
+// The address of the name at that place, or the fault of the line that asks for it.
+fn known_address(at: Bases, names: &[PlacedName], place: usize, line: u32) -> Result<u32, LinkFault>
     requires near { AreNear at names.now }
-    requires register { IsReg rd }
-    ensures { Links (λ _. IsPushed at names.now (Upper rd place line) code.old.items code.new.items)
-        (HasSlotFault at names.now (at.code + length code.old.items) (Upper rd place line)) result }
+    ensures ok { IfOk result (λ address. address_at at names.now place ≡ Some address) }
+    ensures err { IfErr result (IsUnknown (address_at at names.now place) line) }
 {
-    let Some(address) = address_at(at, names, place) else {
-        return Err(LinkFault::UnknownName { line });
-    };
-    let imm = upper(address);
-    push_wide(code, Instr::Lui { rd, imm })?;
-    Ok(())
+    match address_at(at, names, place) {
+        Some(address) => Ok(address),
+        None => Err(LinkFault::UnknownName { line }),
+    }
 }
 
 // `addi rd, rd, imm` of what a lui leaves of the address
@@ -105,27 +95,6 @@ fn add_lower(rd: Reg, address: u32) -> Instr
         rs1: rd,
         imm: lower(address),
     }
-}
-
-// The addi of what the lui leaves comes after the bytes so far.
-fn push_lower(
-    code: &mut Vec<u8>,
-    at: Bases,
-    names: &[PlacedName],
-    rd: Reg,
-    place: usize,
-    line: u32,
-) -> Result<(), LinkFault>
-    requires near { AreNear at names.now }
-    requires register { IsReg rd }
-    ensures { Links (λ _. IsPushed at names.now (Lower rd place line) code.old.items code.new.items)
-        (HasSlotFault at names.now (at.code + length code.old.items) (Lower rd place line)) result }
-{
-    let Some(address) = address_at(at, names, place) else {
-        return Err(LinkFault::UnknownName { line });
-    };
-    push_wide(code, add_lower(rd, address))?;
-    Ok(())
 }
 
 // A slot comes after the bytes so far.
@@ -145,8 +114,14 @@ fn push_slot(
         Slot::Wide(instr) => push_wide(code, instr)?,
         Slot::Short(form) => push_short(code, form)?,
         Slot::Jump { instr, name, line } => push_jump(code, at, names, instr, name, line)?,
-        Slot::Upper { rd, name, line } => push_upper(code, at, names, rd, name, line)?,
-        Slot::Lower { rd, name, line } => push_lower(code, at, names, rd, name, line)?,
+        Slot::Upper { rd, name, line } => {
+            let imm = upper(known_address(at, names, name, line)?);
+            push_wide(code, Instr::Lui { rd, imm })?;
+        }
+        Slot::Lower { rd, name, line } => {
+            let address = known_address(at, names, name, line)?;
+            push_wide(code, add_lower(rd, address))?;
+        }
     }
     Ok(())
 }

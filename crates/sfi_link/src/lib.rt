@@ -13,8 +13,8 @@ mod code_region;
 mod fault;
 pub mod laws;
 mod linker;
-mod lying;
 mod names;
+mod placement;
 mod stub;
 
 pub use fault::LinkFault;

@@ -8,12 +8,12 @@ ghost use Rattle.sfi_link.specs.declared.fault.LinkFault.{LinkFault};
 ghost use Rattle.sfi_link.specs.declared.fault.LinkFault.TheVariants.{TooManySandboxes};
 ghost use Rattle.sfi_link.specs.declared.fault.LinkFault.TheVariants as fault;
 ghost use Rattle.sfi_policy.specs.Places.{place_of};
-ghost use Rattle.sfi_link.specs.Lying.{IsRightPlace};
-ghost use Rattle.sfi_link.specs.Linked.{gates_from, IsLinkedCode, IsLinked, AreLinkedFrom};
+ghost use Rattle.sfi_link.specs.RightPlaces.{IsRightPlace};
+ghost use Rattle.sfi_link.specs.Linked.{gates_from, part_with, IsLinkedCode};
 ghost use Rattle.sfi_link.specs.Building.{IsLinkedImage, ArePlacements, IsBuild};
 ghost use Rattle.sfi_policy.specs.Limits.{bundle_size, gates_most, sandboxes_most};
 ghost use Rattle.sfi_link.specs.Faults.{IsPartFault, IsLinkFault};
-ghost use Rattle.sfi_link.specs.private.Near.{AreCodes, contents, Links};
+ghost use Rattle.sfi_link.specs.private.Near.{AreCodes, parts_with, contents, Links};
 ghost use Rattle.sfi_link.specs.Answers.{UnlessMemory, AnswersItems, AnswersFault};
 
 use crate::bases::bases_of;
@@ -53,9 +53,8 @@ fn linked_part<'a>(
     requires right { IsPlacedPart placed.now }
     requires made { IsLinkedCode given.now number placed.now code.now
         × IsRightPlace placed.now (length code.now) (place_of given.now number) }
-    ensures { IfOk result
-        (λ part. IsLinked given.now number placed.entry.now
-        (view placed.entry.now.format part)) }
+    ensures { IfOk result (λ part. view placed.entry.now.format part
+        ≡ part_with given.now number placed.entry.now code.entry.now) }
 {
     let at = bases_of(given, number, placed);
     let gates = gates_from(alloc, at.code, placed.gates())?;
@@ -78,7 +77,7 @@ fn codes_of(
 ) -> Result<Vec<Vec<u8>>, LinkFault>
     requires right { All IsPlacedPart placed.now }
     requires few { length placed.now ≤ sandboxes_most }
-    ensures { Links (λ codes. AreCodes given.now placed.now (contents codes.items))
+    ensures { Links (λ codes. AreCodes given.now 0 [] placed.now (contents codes.items))
         (IsPartFault given.now 0 [] placed.now) result }
 {
     let mut codes = Vec::new(alloc);
@@ -101,9 +100,9 @@ fn linked_parts<'a>(
     requires right { All IsPlacedPart placed.now }
     requires few { length placed.now ≤ sandboxes_most }
     requires format { AreOf format placed.now }
-    requires codes { AreCodes given.now placed.now (contents codes.now) }
-    ensures { IfOk result (λ parts. AreLinkedFrom given.now 0 placed.entry.now
-        (views format parts.items)) }
+    requires codes { AreCodes given.now 0 [] placed.now (contents codes.now) }
+    ensures { IfOk result (λ parts. views format parts.items
+        ≡ parts_with given.now 0 placed.entry.now (contents codes.entry.now)) }
 {
     let mut parts = Vec::new(alloc);
     for (number, part) in placed.iter().enumerate() {

@@ -1,5 +1,5 @@
 //! The addresses of a source's gates and labels in the image that is linked.
-ghost use Rattle.std.specs.Prelude.{◌≡◌, ◌≤◌, ◌++◌, List, length, map, IfOk, IfErr, OnOk};
+ghost use Rattle.std.specs.Prelude.{◌≡◌, ◌≤◌, ◌++◌, List, length, map, Some, IfOk, IfErr, OnOk};
 ghost use Rattle.std.specs.List.{All};
 ghost use Rattle.sfi_policy.specs.Limits.{sandboxes_most};
 ghost use Rattle.sfi_rewrite.specs.Placed.{IsPlacedPart};
@@ -108,7 +108,7 @@ fn push_name(
 ) -> Result<(), AllocError>
     requires near { IsNear at named }
     ensures { OnOk result (listed.new.items
-        ≡ listed.old.items ++ entry_of number name.now (kind_of named) (address_of at named)) }
+        ≡ listed.old.items ++ entry_of number (Some name.now) (kind_of named) (address_of at named)) }
 {
     let (Some(kind), Some(address)) = (kind_of(named), address_of(at, named)) else {
         return Ok(());
@@ -133,7 +133,7 @@ fn push_names(
 ) -> Result<(), AllocError>
     requires near { AreNear at placed.now }
     ensures { OnOk result (listed.new.items
-        ≡ listed.old.items ++ entries_of number at (map (λ e. e.0) names.now) placed.now) }
+        ≡ listed.old.items ++ entries_of number at (map (λ e. e.0) names.now) 0 placed.now) }
 {
     for (place, named) in placed.iter().enumerate() {
         let Some(name) = names.text(place) else {

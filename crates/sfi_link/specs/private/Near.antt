@@ -1,5 +1,5 @@
 -- Words of private contracts: what fits the linker's numbers, what is written so far, and what a step answers.
-use Rattle.std.specs.Prelude.{◌≡◌, ℕ, ◌+◌, ◌^◌, ◌<◌, ◌≤◌, List, ◌++◌, length, map, IfSome, Result, Ok, Err, Vec}
+use Rattle.std.specs.Prelude.{◌≡◌, ℕ, ◌+◌, ◌^◌, ◌<◌, ◌≤◌, List, [], ◌∷◌, ◌++◌, length, map, IfSome, Result, Ok, Err, Vec}
 use Rattle.std.specs.List.{All, AllPairs}
 use Rattle.std.specs.Global.{Global}
 use Rattle.sfi_policy.specs.declared.format.Format.TheVariants.{Sfi2}
@@ -7,7 +7,7 @@ use Rattle.sfi_policy.specs.Formats.{code_most}
 use Rattle.sfi_image.specs.declared.span.Span.{Span}
 use Rattle.sfi_image.specs.Spelling.{Part, IsWord}
 use Rattle.sfi_image.specs.Bounded.{IsBounded}
-use Rattle.sfi_image.specs.Spans.{AreApart, spans}
+use Rattle.sfi_image.specs.Spans.{AreApart}
 use Rattle.sfi_policy.specs.declared.place.Place.{Place}
 use Rattle.sfi_policy.specs.Places.{place_of}
 use Rattle.sfi_rewrite.specs.declared.slot.Slot.{Slot}
@@ -18,8 +18,8 @@ use Rattle.sfi_link.specs.declared.fault.LinkFault.{LinkFault}
 use Rattle.sfi_link.specs.Answers.{UnlessMemory}
 use Rattle.sfi_link.specs.Code.{IsSlot, AreSlots}
 use Rattle.sfi_link.specs.Addresses.{address_of, target_of}
-use Rattle.sfi_link.specs.Lying.{IsRightPlace, spans_at}
-use Rattle.sfi_link.specs.Linked.{IsLinkedCode, AreLinkedFrom}
+use Rattle.sfi_link.specs.RightPlaces.{IsRightPlace, spans_at}
+use Rattle.sfi_link.specs.Linked.{IsLinkedCode, part_with}
 
 -- an address of code of a sandbox that lies so: a distance between two of these fits
 abbrev pub IsInCode : Bases → ℕ → Type 0
@@ -66,13 +66,21 @@ pub record IsCodeBeside (given : List Place) (number : ℕ) (p : Placement) (byt
   pub code : IsLinkedCode given number p bytes
   pub lies : LiesBeside p (length bytes) (place_of given number) old new
 
--- the placed sandboxes make those of an image with this code, no two of whose spans meet
-pub record AreCodes (given : List Place) (placed : List Placement)
-    (codes : List (List ℕ)) : Type 0 where
-  pub parts : List Part
-  pub linked : AreLinkedFrom given 0 placed parts
-  pub codes_are : codes ≡ map (λ q. q.code) parts
-  pub apart : AllPairs AreApart (spans parts)
+-- the code of each placed sandbox, of which the first has that number, and comes after others that
+-- have those spans
+abbrev pub AreCodes : List Place → ℕ → List Span → List Placement → List (List ℕ) → Type 0
+AreCodes given number before [] codes = codes ≡ []
+AreCodes given number before (p ∷ placed) [] = ⊥
+AreCodes given number before (p ∷ placed) (code ∷ codes) =
+    (now : List Span) × IsCodeBeside given number p code before now
+    × AreCodes given (number + 1) now placed codes
+
+-- the sandboxes of the image that have this code
+abbrev pub parts_with : List Place → ℕ → List Placement → List (List ℕ) → List Part
+parts_with given number [] codes = []
+parts_with given number (p ∷ placed) [] = []
+parts_with given number (p ∷ placed) (code ∷ codes) =
+    part_with given number p code ∷ parts_with given (number + 1) placed codes
 
 -- the bytes of each
 abbrev pub contents : List (Vec ℕ Global) → List (List ℕ)

@@ -1,12 +1,27 @@
-use Rattle.sfi_link.proofs.Prelude.{refl, sym, subst, w16, to_le_bytes, expansion, IsSlot, Slot, ◌+◌, length, Short, Encodes}
-use Rattle.rv_comp.specs.Halfwords.{halfword_of}
+use Rattle.sfi_link.proofs.Prelude.{◌≡◌, ◌+◌, ◌++◌, ℕ, List, length, refl, sym, subst, expansion, IsPushed, IsSlot, Bases, PlacedName, Slot, Encodes}
+use Rattle.sfi_link.proofs.Pushed.{high_in_range, low_in_range, upper_slot, lower_slot}
 use Rattle.sfi_link.proofs.code.push_slot.Goals as goal
+
+pushed : (at : Bases) (names : List PlacedName) (s t : Slot) (old new bytes : List ℕ) → s ≡ t → new ≡ old ++ bytes → IsSlot at names (at.code + length old) t bytes → IsPushed at names s old new
+pushed at names s t old new bytes is e one = (bytes, e, subst (λ (x : Slot). IsSlot at names (at.code + length old) x bytes) (sym is) one)
 
 pub returns-in_ok-push_short-in-Short : goal.returns-in_ok-push_short-in-Short
 returns-in_ok-push_short-in-Short c =
-    let form = c.in-Short.form in
-    let bytes = to_le_bytes w16 (halfword_of form) in
     let ok = subst Encodes c.in-Short.is c.requires.encodes in
-    let here = c.args.at.code + length c.args.code.now.items in
-    let one : IsSlot c.args.at c.args.names.now here (Short form) bytes = record { instr = expansion form; resolves = refl; spelled = (ok, refl) } in
-    (bytes, c.in_ok-push_short-in-Short.ensures, subst (λ (s : Slot). IsSlot c.args.at c.args.names.now here s bytes) (sym c.in-Short.is) one)
+    pushed _ _ _ _ _ _ _ c.in-Short.is c.in_ok-push_short-in-Short.ensures (record { instr = expansion c.in-Short.form; resolves = refl; spelled = (ok, refl) })
+
+pub push_wide-requires-in-Upper : goal.push_wide-requires-in-Upper
+push_wide-requires-in-Upper c = rw c.upper-imm.ensures.is (high_in_range c.in-Upper.rd c.in_ok-known_address-in-Upper.field-0 (subst Encodes c.in-Upper.is c.requires.encodes))
+
+pub push_wide-requires-in-Lower : goal.push_wide-requires-in-Lower
+push_wide-requires-in-Lower c = rw c.add_lower.ensures (low_in_range c.in-Lower.rd c.in_ok-address-in-Lower.address (subst Encodes c.in-Lower.is c.requires.encodes))
+
+pub returns-in_ok-push_wide-in-Upper : goal.returns-in_ok-push_wide-in-Upper
+returns-in_ok-push_wide-in-Upper c =
+    pushed _ _ _ _ _ _ _ c.in-Upper.is (rw c.upper-imm.ensures.is at c.in_ok-push_wide-in-Upper.ensures)
+    (upper_slot _ _ _ c.in-Upper.rd _ _ c.in_ok-known_address-in-Upper.field-0 c.in_ok-known_address-in-Upper.ensures.ok (subst Encodes c.in-Upper.is c.requires.encodes))
+
+pub returns-in_ok-push_wide-in-Lower : goal.returns-in_ok-push_wide-in-Lower
+returns-in_ok-push_wide-in-Lower c =
+    pushed _ _ _ _ _ _ _ c.in-Lower.is (rw c.add_lower.ensures at c.in_ok-push_wide-in-Lower.ensures)
+    (lower_slot _ _ _ c.in-Lower.rd _ _ c.in_ok-address-in-Lower.address c.in_ok-address-in-Lower.ensures.ok (subst Encodes c.in-Lower.is c.requires.encodes))

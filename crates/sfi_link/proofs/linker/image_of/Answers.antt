@@ -8,7 +8,7 @@ use Rattle.sfi_link.proofs.linker.image_of.Goals as goal
 pub returns-in-Ok-clause-links : goal.returns-in-Ok-clause-links
 returns-in-Ok-clause-links c =
     let parts = views c.format-format.result c.in_ok-parts.parts.items in
-    let linked = are_linked c.args.places.now _ _ _ parts c.parts-placed.ensures.parts (omega arith) c.in_ok-codes.ensures c.in_ok-parts.ensures in
+    let linked = are_linked c.args.places.now _ _ _ parts c.parts-placed.ensures.parts (omega arith) c.in_ok-codes.ensures (rw c.deref.ensures.value at c.in_ok-parts.ensures) in
     record {
       parts = parts;
       linked = linked;
@@ -19,7 +19,7 @@ returns-in-Ok-clause-links c =
 pub unreachable-requires : goal.unreachable-requires
 unreachable-requires c =
     let parts = views c.format-format.result c.in_ok-parts.parts.items in
-    let linked = are_linked c.args.places.now _ _ _ parts c.parts-placed.ensures.parts (omega arith) c.in_ok-codes.ensures c.in_ok-parts.ensures in
+    let linked = are_linked c.args.places.now _ _ _ parts c.parts-placed.ensures.parts (omega arith) c.in_ok-codes.ensures (rw c.deref.ensures.value at c.in_ok-parts.ensures) in
     let count = ap (λ (l : List Placement). length l) c.parts-placed.ensures.parts in
     let layout = linked_is_right c.args.places.now c.args.placed.now parts c.parts-placed.ensures.right (omega arith) linked in
     let memory : c.in-Err-Layout.field-0 ≡ Memory = (rw c.deref-2.ensures.value at c.in-Err-Layout.ensures.only_image) layout in

@@ -1,11 +1,10 @@
-use Rattle.sfi_link.proofs.Prelude.{◌≡◌, ◌+◌, ◌++◌, ◌∙◌, map, take, suc, sym, subst, ap, arith, IsPlacedPart, entries_of, texts_of, map_from, bases_of}
+use Rattle.sfi_link.proofs.Prelude.{◌≡◌, ◌+◌, ◌++◌, ◌∙◌, ◌∷◌, map, drop, refl, sym, subst, ap, arith, append_assoc, IsPlacedPart, entries_of, entries_in, map_from, bases_of, Some}
+use Rattle.std.proofs.lemmas.List.{at_drop_more}
+use Rattle.std.proofs.lemmas.Option.{slice_get_read, slice_get_past}
 use Rattle.sfi_link.proofs.Parts.{start_fits}
 use Rattle.sfi_link.proofs.Linking.{near_of}
-use Rattle.sfi_link.proofs.Mapping.{nothing_placed, map_more, map_end, linked_at}
+use Rattle.sfi_link.proofs.Mapping.{linked_at}
 use Rattle.sfi_link.proofs.names.listed_names.Goals as goal
-
-pub loop-number-init : goal.loop-number-init
-loop-number-init c = c.new-listed.ensures.items ∙ sym (nothing_placed c.args.given.now 0 c.args.source.now)
 
 pub bases_of-at-requires-clause-fits : goal.bases_of-at-requires-clause-fits
 bases_of-at-requires-clause-fits c =
@@ -25,24 +24,26 @@ push_names-requires c =
 pub loop-number-preserved : goal.loop-number-preserved
 loop-number-preserved c =
     let k = c.loop-number.number in
+    let given = c.args.given.now in
     let source = c.args.source.now in
-    let placed = c.args.placed.now in
-    let s = c.in-Some.sandbox.now in
-    let there = c.in-Some.ensures.lookup in
     let p = c.index-placed-number.result in
-    let next : k + 1 ≡ suc k = omega arith in
-    let here : c.push_names.new.listed.items ≡ c.loop-number.listed.items ++ entries_of k (bases_of c.args.given.now k p) (texts_of s) p.names =
-    c.in_ok-push_names.ensures
-    ∙ (λ i. c.loop-number.listed.items ++ entries_of k (c.bases_of-at.ensures.is i) (map (λ e. e.0) (c.names.ensures i)) (c.names-in-loop-number.ensures i)) in
-    here
-    ∙ ap (λ l. l ++ entries_of k (bases_of c.args.given.now k p) (texts_of s) p.names) c.loop-number.invariant
-    ∙ sym (map_more c.args.given.now 0 k k source placed s p (omega arith) there.3.0 c.loop-number-test.true there.1 c.index-placed-number.is)
-    ∙ ap (λ n. map_from c.args.given.now 0 source (take n placed)) (sym next)
+    let there = c.in-Some.ensures.lookup in
+    let listed = c.loop-number.listed.items in
+    let s = c.in-Some.sandbox.now in
+    let own = entries_in k (bases_of given k p) (Some s) p.names in
+    let rest = map_from given (k + 1) source (drop (k + 1) c.args.placed.now) in
+    let here : c.push_names.new.listed.items ≡ listed ++ own = c.in_ok-push_names.ensures ∙ (λ i. listed ++ entries_of k (c.bases_of-at.ensures.is i) (map (λ e. e.0) (c.names.ensures i)) 0 (c.names-in-loop-number.ensures i)) in
+    let named : own ++ rest ≡ map_from given k source (p ∷ drop (k + 1) c.args.placed.now) = ap (λ o. entries_in k (bases_of given k p) o p.names ++ rest) (sym (slice_get_read source _ k s refl there.3.0 there.1)) in
+    let next = named ∙ ap (λ x. map_from given k source (x ∷ drop (k + 1) c.args.placed.now)) c.index-placed-number.is ∙ sym (at_drop_more (map_from given k source) c.args.placed.now k p c.loop-number-test.true) in
+    ap (λ l. l ++ rest) here ∙ append_assoc listed own rest ∙ ap (λ l. listed ++ l) next ∙ c.loop-number.invariant
 
 pub loop-number-preserved-in_default : goal.loop-number-preserved-in_default
 loop-number-preserved-in_default c =
     let k = c.loop-number.number in
-    let next : k + 1 ≡ suc k = omega arith in
-    c.loop-number.invariant
-    ∙ sym (map_end c.args.given.now 0 k c.args.source.now c.args.placed.now c.loop-number-test.true c.in_default.ensures.lookup.3)
-    ∙ ap (λ n. map_from c.args.given.now 0 c.args.source.now (take n c.args.placed.now)) (sym next)
+    let given = c.args.given.now in
+    let source = c.args.source.now in
+    let p = c.index-placed-number.result in
+    let rest = map_from given (k + 1) source (drop (k + 1) c.args.placed.now) in
+    let none = ap (λ o. entries_in k (bases_of given k p) o p.names ++ rest) (sym (slice_get_past source k c.in_default.ensures.lookup.3)) in
+    let next = none ∙ ap (λ x. map_from given k source (x ∷ drop (k + 1) c.args.placed.now)) c.index-placed-number.is ∙ sym (at_drop_more (map_from given k source) c.args.placed.now k p c.loop-number-test.true) in
+    ap (λ l. c.loop-number.listed.items ++ l) next ∙ c.loop-number.invariant

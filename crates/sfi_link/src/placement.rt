@@ -4,7 +4,7 @@ ghost use Rattle.std.specs.Bool.{OnTrue, OnFalse};
 ghost use Rattle.std.specs.List.{All, AllPairs};
 ghost use Rattle.sfi_image.specs.Bounded.{IsBounded};
 ghost use Rattle.sfi_image.specs.Spans.{AreApart};
-ghost use Rattle.sfi_link.specs.Lying.{IsRightPlace, spans_at};
+ghost use Rattle.sfi_link.specs.RightPlaces.{IsRightPlace, spans_at};
 ghost use Rattle.sfi_link.specs.private.Near.{LiesBeside};
 
 use sfi_image::{Span, are_all_apart, has_guard_room, is_region, with_guards};
