@@ -213,9 +213,7 @@ pub step : (b : BundlePlace) (here : ℕ) (earlier : List Instr) (bytes front re
     → (x : Slot) (slots : List Slot) → n ≡ slot_size x → IsReadAs x (record { instr = i; size = n }) → (is_end x ≡ true → ends_region i ≡ true)
     → IsCleanFrom b (here + n) (i ∷ earlier) slots rest → PassesBefore b here earlier i slots → IsCleanFrom b here earlier (x ∷ slots) bytes
 step b here earlier bytes front rest i n s e x slots same own one c passes =
-    let counted = c.count in
     let sized = size_of-cons x slots in
-    let long = c.length_is in
     let full = spelled_length front i n s in
     let both : length bytes ≡ length front + length rest = ap length e ∙ length-append front rest in
     let t : take n bytes ≡ front = ap (λ l. take n l) e ∙ take_front front rest n full in

@@ -80,7 +80,6 @@ filled f k (b ∷ c ∷ bundles) are whole fill n size some =
     let first = are.0 in
     let e = size_of-append b (slots_of (c ∷ bundles)) in
     let one : AreFilled f k (c ∷ bundles) fill (n - 1) = filled f k (c ∷ bundles) are.1 (All-tail (AreWhole f k) b (c ∷ bundles) whole) fill (n - 1) (omega arith) some in
-    let counted = one.count in
     let n_some : 0 < n = omega arith in
     record {
       full = b ∷ one.full;

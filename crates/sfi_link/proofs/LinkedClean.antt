@@ -58,17 +58,11 @@ target_starts : (given : List Place) → (number : ℕ) (p : Placement) (code : 
     → IsStart p.format (bases_of given number p).code (length code) to
 target_starts given number p code linked (Gate k) there to e =
     let is = some_same ((bases_of given number p).code + 16 * k) to e in
-    let room = linked.code.size.has_room.room in
     let well = lies_well given number p _ linked in
-    let end = well.end in
-    let whole = well.even in
     record { from = omega arith; below = omega arith; aligned = after_bundle p.format to 0 to (omega arith) (omega arith) (zero_even p.format); small = omega arith }
 target_starts given number p code linked (Code offset) there to e =
     let is = some_same ((bases_of given number p).start + offset) to e in
-    let room = linked.code.size.has_room.room in
     let well = lies_well given number p _ linked in
-    let end = well.end in
-    let whole = well.even in
     let within = there.1 in
     record { from = omega arith; below = omega arith; aligned = after_bundle p.format (bases_of given number p).start offset to (omega arith) (omega arith) there.0; small = omega arith }
 target_starts given number p code linked _ there to e = cc
@@ -94,14 +88,12 @@ closed : (given : List Place) → (number : ℕ) (p : Placement) (code : List �
     → (full : List (List Slot)) × IsClosed (part_with given number p code) (bases_of given number p) p.names (length p.gates) full × ((bases_of given number p).start + 16 * length full ≤ 2 ^ 32)
 closed given number p code bundled placed linked =
     let made = linked.code in
-    let room = made.size.has_room.room in
     let end = (lies_well given number p _ linked).end in
     let counted = sixteens p.format (needed p) (length code) made.size.has_room in
     let sixteen = counted.1 in
     let long = code_length given number p code made in
     let n : ℕ = counted.0 - length p.gates in
     let whole = filled p.format (length p.names) p.bundles placed.bundles (bundles_whole p.format (length p.names) p.bundles bundled placed.whole) made.fill n (omega arith) (omega arith) in
-    let count = whole.count in
     let at = bases_of given number p in (
       whole.full,
       record {
@@ -145,7 +137,6 @@ words_filled : (given : List Place) → (number : ℕ) (p : Placement) (code : L
     → IsFilled (part_with given number p code) (bases_of given number p) p.names (length p.gates) of.laid.0 (slots_of p.bundles)
 words_filled given number p code words placed linked of =
     let made = linked.code in
-    let room = made.size.has_room.room in
     let end = (lies_well given number p _ linked).end in
     let counted = sixteens p.format (needed p) (length code) made.size.has_room in
     let at = bases_of given number p in

@@ -61,9 +61,6 @@ no_room f needed size large h = let a = h.room in let b = h.at_most in omega ari
 
 pub code_bounded : (p : Placement) (size : ℕ) (place : Place) → IsRightPlace p size place → IsBounded (record { base = place.code_base; size = size })
 code_bounded p size place lies =
-    let word = lies.word in
-    let low = lies.code.at_least in
-    let most = lies.code.at_most in
     let bound = code_at_most p.format in
     record { some = omega arith; end = omega arith }
 
@@ -90,20 +87,14 @@ near_name : (given : List Place) (number : ℕ) (p : Placement) (size : ℕ) →
     → IsNear (bases_of given number p) n
 near_name given number p size placed room lies (name.Gate k) there =
     let end = (well_placed p size (place_of given number) lies).0 in
-    let fits = room.room in
-    let most = room.at_most in
     let bound = code_at_most p.format in
     record { fits = omega arith; within = (omega arith, omega arith) }
 near_name given number p size placed room lies (name.Code place) there =
     let end = (well_placed p size (place_of given number) lies).0 in
-    let fits = room.room in
-    let most = room.at_most in
     let bound = code_at_most p.format in
     let within = there.1 in
     record { fits = omega arith; within = (omega arith, omega arith) }
 near_name given number p size placed room lies (name.Data offset) there =
-    let count = placed.byte_count in
-    let above = lies.guard_room.above in
     record { fits = omega arith; within = tt }
 near_name given number p size placed room lies name.Unknown there = record { fits = tt; within = tt }
 
@@ -131,7 +122,6 @@ pub linked_code : (given : List Place) → (number : ℕ) (p : Placement) (at : 
     → stubs ≡ repeat (length p.gates) (stub_of p.format) → AreWritten at p.names (slots_of p.bundles) stubs now → fill ≡ (size - length now) / 2 → code ≡ now ++ repeat fill pair
     → IsLinkedCode given number p code
 linked_code given number p at size fill stubs now code is sized stubs_are written count code_is =
-    let room = sized.has_room.room in
     let sixteen = (sixteens p.format (needed p) size sized.has_room).1 in
     let stubs_long : length stubs ≡ 16 * length p.gates = ap length stubs_are ∙ length_stubs p.format (length p.gates) in
     let now_long = written_length at p.names (slots_of p.bundles) stubs now written in
@@ -155,7 +145,6 @@ linked_code given number p at size fill stubs now code is sized stubs_are writte
 -- what the slots need has room in the region
 pub written_within : (p : Placement) (at : Bases) (size : ℕ) (stubs now : List ℕ) → IsCodeSize p.format (needed p) size → stubs ≡ repeat (length p.gates) (stub_of p.format) → AreWritten at p.names (slots_of p.bundles) stubs now → length now ≤ size
 written_within p at size stubs now sized stubs_are written =
-    let room = sized.has_room.room in
     let a = ap length stubs_are ∙ length_stubs p.format (length p.gates) in
     let b = written_length at p.names (slots_of p.bundles) stubs now written in
     omega arith
@@ -166,8 +155,6 @@ code_room given number p at size stubs room lies is stubs_are =
     let a = ap length stubs_are ∙ length_stubs p.format (length p.gates) in
     let b = ap (λ (b : Bases). b.code) is in
     let end = (well_placed p size (place_of given number) lies).0 in
-    let fits = room.room in
-    let most = room.at_most in
     let bound = code_at_most p.format in
     record { below = omega arith; within = omega arith }
 
@@ -292,7 +279,6 @@ one_bytes given placed xs ys a b = a.image.bytes_are ∙ ap spelling (one_linkin
 pub never : (given : List Place) → (placed : List Placement) (bytes : List ℕ) (f : LinkFault) → IsLinkedImage given placed bytes → IsLinkFault given placed f → ⊥
 never given placed bytes f image has =
     let count = linked_length given 0 placed image.parts image.linked.each in
-    let most = image.image.layout.at_most in
     never_both given placed image.parts f (omega arith) image.linked has
 
 pub only_image : (given : List Place) → (placed : List Placement) (r : Result (Vec ℕ Global) LinkFault) → Links (λ v. IsLinkedImage given placed v.items) (IsLinkFault given placed) r → (bytes : List ℕ) → IsLinkedImage given placed bytes → AnswersItems bytes r

@@ -102,7 +102,6 @@ well_placed p size place lies = let whole = whole_bundles p.format place.code_ba
 pub start_fits : (given : List Place) (number : ℕ) (p : Placement) (size : ℕ) → HasRoom p.format (needed p) size → IsRightPlace p size (place_of given number) → (bases_of given number p).start < 2 ^ 32
 start_fits given number p size room lies =
     let end = (well_placed p size (place_of given number) lies).0 in
-    let fits = room.room in
     omega arith
 
 pub lies_well : (given : List Place) → (number : ℕ) (p : Placement) (q : Part) → IsLinked given number p q → LiesWell q
@@ -117,9 +116,6 @@ right_with given number p code placed made lies =
     let well = well_placed p (length code) (place_of given number) lies in
     let end = well.0 in
     let even = well.1 in
-    let needs = made.size.has_room.room in
-    let gate_most = placed.gate_count in
-    let init_most = placed.byte_count in
     let gates_len = length-gates_from base p.gates in
     record {
       code_base = lies.word;
@@ -167,5 +163,4 @@ pub linked_is_right : (given : List Place) (placed : List Placement) (parts : Li
 linked_is_right given placed parts is few linked =
     let all = all_right given 0 placed parts is.each linked.each in
     let count = all.1 in
-    let some = is.at_least_one in
     record { at_least_one = omega arith; at_most = omega arith; one_format = one_format given 0 placed parts is linked.each; right = record { each = all.0; apart = linked.apart } }

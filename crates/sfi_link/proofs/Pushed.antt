@@ -114,7 +114,6 @@ pub fewer : (at : Bases) (names : List PlacedName) (slots b left : List Slot) (o
 fewer at names slots b left old now new h w =
     let long = written_length at names b now new w in
     let sized = size_of-append b left in
-    let room = h.room in
     let here : at.code + length new ≡ at.code + length now + size_of b = omega arith in
     record {
       written = λ newer v. h.written newer (written-append at names b left now new newer w v);
@@ -127,7 +126,6 @@ fewer at names slots b left old now new h w =
 pub front_room : (at : Bases) (names : List PlacedName) (slots b left : List Slot) (old now : List ℕ) → AreLeft at names slots (b ++ left) old now → HasRoomFor at (length now) (size_of b)
 front_room at names slots b left old now h =
     let sized = size_of-append b left in
-    let room = h.room in
     record { below = omega arith; within = omega arith }
 
 pub slot_refused : (at : Bases) (names : List PlacedName) (slots left : List Slot) (s : Slot) (old now : List ℕ) (f : LinkFault) → AreLeft at names slots (s ∷ left) old now

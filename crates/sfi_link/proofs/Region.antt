@@ -209,8 +209,6 @@ pub closed_is_clean : (sandbox : ℕ) (p : Part) (at : Bases) (names : List Plac
 closed_is_clean sandbox p at names stubs full h fits =
     let c = chunked (place_of sandbox p 0) at names (h.starts sandbox) h.bundled at.start (length names) full h.bytes h.all h.slots fits in
     let count = c.count in
-    let start = h.start in
-    let some = h.some in
     let joined = length-join c.chunks c.all in
     let long = ap length c.whole in
     let size : length p.code ≡ 16 * (stubs + length full) = region_size p stubs full h.bytes h.code (omega (arith, long, joined, count)) in

@@ -109,7 +109,6 @@ size_or_none f needed =
             let most = code_at_most f in
             let next = next_power needed 12 8 more (omega arith) in
             let enough = next.enough in
-            let half = next.half in
             inl (2 ^ next.power, least_size f needed (2 ^ next.power) next.power refl enough (omega arith) more fits)
       ]
     ]

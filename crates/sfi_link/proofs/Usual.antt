@@ -27,7 +27,6 @@ region_at size power most m is le =
 usual_right : (p : Placement) (number size : ℕ) → number < 16 → IsPlacedPart p → HasRoom p.format (needed p) size → IsRightPlace p size (usual number)
 usual_right p number size few right room =
     let bound = code_at_most p.format in
-    let most = room.at_most in
     let sized = right.data_size in
     let data_most = sized.at_most in
     let data_least = sized.at_least in
@@ -67,7 +66,6 @@ free : (p : Placement) (number size : ℕ) (before : List Span) → number < 16 
 free p number size before few right sized below apart =
     let room = sized.has_room in
     let bound = code_at_most p.format in
-    let most = room.at_most in
     let code : Span = record { base = 0x01000000 * (number + 1); size = size } in
     let guarded : Span = with_guards (record { base = 0x01000000 * (number + 1) + 0x00800000; size = p.data_size }) in
     record {
@@ -83,10 +81,7 @@ free p number size before few right sized below apart =
 -- and its spans end before the next one's addresses
 still_below : (p : Placement) (number : ℕ) (q : Part) (before : List Span) → IsPlacedPart p → IsLinked [] number p q → All (IsBelow number) before → All (IsBelow (number + 1)) (before ++ spans (q ∷ []))
 still_below p number q before right linked below =
-    let room = linked.code.size.has_room in
     let bound = code_at_most p.format in
-    let most = room.at_most in
-    let data_most = right.data_size.at_most in
     let size = length q.code in
     let code : Span = record { base = 0x01000000 * (number + 1); size = size } in
     let guarded : Span = with_guards (record { base = 0x01000000 * (number + 1) + 0x00800000; size = p.data_size }) in

@@ -128,8 +128,6 @@ length_join sandbox p n owed next (w ∷ words) q =
 -- at the code's end
 ended : (sandbox : ℕ) (p : Part) (n count : ℕ) (owed : Owed) → length p.code ≡ 16 * count → n ≡ 4 * count → FoundTo sandbox p n owed → AreFindingsInWords sandbox p []
 ended sandbox p n count owed long whole f =
-    let number = f.number in
-    let few = f.few in
     let same : f.bundles ≡ count = omega arith in
     (count, f.between, long, subst (λ m. AreFoundOfFirst sandbox p m [] f.between) same f.before)
 
