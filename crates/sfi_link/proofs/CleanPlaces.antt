@@ -19,6 +19,7 @@ use Rattle.rv_comp.proofs.Facts.{word_spells, spelled_length, two_lengths}
 use Rattle.sfi_link.proofs.Written.{short_spells}
 use Rattle.sfi_rewrite.proofs.Sizes.{size_of-cons}
 use Rattle.sfi_rules.proofs.Readings.{front_one}
+pub use Rattle.std.proofs.lemmas.Option.{same_Some as some_same}
 
 -- ---- what is asked of names, and what of ends
 
@@ -191,12 +192,6 @@ direct b here earlier _ z later names name d h w s e = absurd d.1
 
 -- ---- a reading, place by place
 
-take_front : (front rest : List ℕ) (n : ℕ) → length front ≡ n → take n (front ++ rest) ≡ front
-take_front front rest n e = rw (← e) (take-append_seam front rest)
-
-drop_front : (front rest : List ℕ) (n : ℕ) → length front ≡ n → drop n (front ++ rest) ≡ rest
-drop_front front rest n e = rw (← e) (drop-append_seam front rest)
-
 ending_step : (x : Piece) (reading : List Piece) (s : Slot) (slots : List Slot) → length reading ≡ length slots → (is_end s ≡ true → ends_region x.instr ≡ true) → (ends_slots slots ≡ true → ends_well reading ≡ true)
     → ends_slots (s ∷ slots) ≡ true → ends_well (x ∷ reading) ≡ true
 ending_step x [] s [] n one others h = one h
@@ -216,8 +211,8 @@ step b here earlier bytes front rest i n s e x slots same own one c passes =
     let sized = size_of-cons x slots in
     let full = spelled_length front i n s in
     let both : length bytes ≡ length front + length rest = ap length e ∙ length-append front rest in
-    let t : take n bytes ≡ front = ap (λ l. take n l) e ∙ take_front front rest n full in
-    let d : drop n bytes ≡ rest = ap (λ l. drop n l) e ∙ drop_front front rest n full in
+    let t : take n bytes ≡ front = ap (λ l. take n l) e ∙ ap (λ m. take m (front ++ rest)) (sym full) ∙ take-append_seam front rest in
+    let d : drop n bytes ≡ rest = ap (λ l. drop n l) e ∙ ap (λ m. drop m (front ++ rest)) (sym full) ∙ drop-append_seam front rest in
     record {
       reading = record { instr = i; size = n } ∷ c.reading;
       is_reading = (subst (λ (l : List ℕ). Spells l i n) (sym t) s, subst (λ (l : List ℕ). IsReading l c.reading) (sym d) c.is_reading);
@@ -233,9 +228,6 @@ step b here earlier bytes front rest i n s e x slots same own one c passes =
     }
 
 -- ---- slots
-
-pub some_same : {X : Type 0} (x y : X) → Some x ≡ Some y → x ≡ y
-some_same x y e = cc
 
 -- an instruction that is made of an address is made of one
 pub made : (f : ℕ → Instr) (o : Option ℕ) (i : Instr) → made_of f o ≡ Some i → (a : ℕ) × (o ≡ Some a) × (i ≡ f a)

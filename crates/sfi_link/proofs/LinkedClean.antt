@@ -19,7 +19,7 @@ use Rattle.sfi_link.proofs.CleanPlaces.{AreStarts, some_same}
 use Rattle.sfi_link.proofs.Stubs.{bundle_stub}
 use Rattle.sfi_link.proofs.Region.{IsClosed, closed_is_clean}
 use Rattle.sfi_link.proofs.Filled.{filled}
-use Rattle.sfi_link.proofs.Parts.{lies_well, sixteens, listed_at, listed_only}
+use Rattle.sfi_link.proofs.Parts.{well_placed, sixteens, listed_at, listed_only}
 use Rattle.sfi_link.proofs.OneLinking.{code_length}
 
 -- ---- names
@@ -34,8 +34,8 @@ bundle_unit : (f : Format) → has_words f ≡ false → unit f ≡ 16
 bundle_unit Sfiw e = absurd (true≢false e)
 bundle_unit _ e = refl
 
-bundles_whole : (f : Format) (count : ℕ) (bundles : List (List Slot)) → has_words f ≡ false → AreWholeIn f count bundles → All (AreWhole f count) bundles
-bundles_whole f count bundles e whole = subst (λ (b : Bool). MatchBool b (AreOfItems count (slots_of bundles)) (All (AreWhole f count) bundles)) e whole
+whole_in : (f : Format) (count : ℕ) (bundles : List (List Slot)) (w : Bool) → has_words f ≡ w → AreWholeIn f count bundles → MatchBool w (AreOfItems count (slots_of bundles)) (All (AreWhole f count) bundles)
+whole_in f count bundles w e whole = subst (λ (b : Bool). MatchBool b (AreOfItems count (slots_of bundles)) (All (AreWhole f count) bundles)) e whole
 
 -- the unit divides a bundle, and so what lies so many bytes after a bundle start
 after_bundle : (f : Format) (start offset to : ℕ) → to ≡ start + offset → start % 16 ≡ 0 → offset % unit f ≡ 0 → to % unit f ≡ 0
@@ -58,11 +58,11 @@ target_starts : (given : List Place) → (number : ℕ) (p : Placement) (code : 
     → IsStart p.format (bases_of given number p).code (length code) to
 target_starts given number p code linked (Gate k) there to e =
     let is = some_same ((bases_of given number p).code + 16 * k) to e in
-    let well = lies_well given number p _ linked in
+    let well = well_placed p (length code) _ linked.lies in
     record { from = omega arith; below = omega arith; aligned = after_bundle p.format to 0 to (omega arith) (omega arith) (zero_even p.format); small = omega arith }
 target_starts given number p code linked (Code offset) there to e =
     let is = some_same ((bases_of given number p).start + offset) to e in
-    let well = lies_well given number p _ linked in
+    let well = well_placed p (length code) _ linked.lies in
     let within = there.1 in
     record { from = omega arith; below = omega arith; aligned = after_bundle p.format (bases_of given number p).start offset to (omega arith) (omega arith) there.0; small = omega arith }
 target_starts given number p code linked _ there to e = cc
@@ -88,12 +88,12 @@ closed : (given : List Place) → (number : ℕ) (p : Placement) (code : List �
     → (full : List (List Slot)) × IsClosed (part_with given number p code) (bases_of given number p) p.names (length p.gates) full × ((bases_of given number p).start + 16 * length full ≤ 2 ^ 32)
 closed given number p code bundled placed linked =
     let made = linked.code in
-    let end = (lies_well given number p _ linked).end in
+    let end = (well_placed p (length code) _ linked.lies).end in
     let counted = sixteens p.format (needed p) (length code) made.size.has_room in
     let sixteen = counted.1 in
     let long = code_length given number p code made in
     let n : ℕ = counted.0 - length p.gates in
-    let whole = filled p.format (length p.names) p.bundles placed.bundles (bundles_whole p.format (length p.names) p.bundles bundled placed.whole) made.fill n (omega arith) (omega arith) in
+    let whole = filled p.format (length p.names) p.bundles placed.bundles (whole_in p.format (length p.names) p.bundles false bundled placed.whole) made.fill n (omega arith) (omega arith) in
     let at = bases_of given number p in (
       whole.full,
       record {
@@ -124,9 +124,6 @@ words_format : (f : Format) → has_words f ≡ true → f ≡ Sfiw
 words_format Sfiw e = refl
 words_format _ e = absurd (true≢false (sym e))
 
-words_whole : (f : Format) (count : ℕ) (bundles : List (List Slot)) → has_words f ≡ true → AreWholeIn f count bundles → AreOfItems count (slots_of bundles)
-words_whole f count bundles e whole = subst (λ (b : Bool). MatchBool b (AreOfItems count (slots_of bundles)) (All (AreWhole f count) bundles)) e whole
-
 are_word_starts : (given : List Place) → (number : ℕ) (p : Placement) (code : List ℕ) → p.format ≡ Sfiw → IsPlacedPart p → IsLinked given number p (part_with given number p code) → AreWordStarts (bases_of given number p).code (length code) (bases_of given number p) p.names
 are_word_starts given number p code words placed linked place to e =
     let s = name_starts given number p code placed linked place to e in
@@ -137,7 +134,7 @@ words_filled : (given : List Place) → (number : ℕ) (p : Placement) (code : L
     → IsFilled (part_with given number p code) (bases_of given number p) p.names (length p.gates) of.laid.0 (slots_of p.bundles)
 words_filled given number p code words placed linked of =
     let made = linked.code in
-    let end = (lies_well given number p _ linked).end in
+    let end = (well_placed p (length code) _ linked.lies).end in
     let counted = sixteens p.format (needed p) (length code) made.size.has_room in
     let at = bases_of given number p in
     let laid = of.laid.2 in
@@ -163,7 +160,7 @@ words_filled given number p code words placed linked of =
 words_clean : (given : List Place) (number : ℕ) (p : Placement) (code : List ℕ) → has_words p.format ≡ true → IsPlacedPart p → IsLinked given number p (part_with given number p code) → AreFindings number (part_with given number p code) []
 words_clean given number p code has placed linked =
     let words = words_format p.format has in
-    let of = words_whole p.format (length p.names) p.bundles has placed.whole in
+    let of = whole_in p.format (length p.names) p.bundles true has placed.whole in
     of_words number (part_with given number p code) [] has (filled_is_clean number (part_with given number p code) (bases_of given number p) p.names (length p.gates) of.laid.0 (slots_of p.bundles) (words_filled given number p code words placed linked of))
 
 -- ---- either

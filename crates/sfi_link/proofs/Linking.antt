@@ -86,11 +86,11 @@ lies_beside p size place old new right bounded apart is =
 near_name : (given : List Place) (number : ℕ) (p : Placement) (size : ℕ) → IsPlacedPart p → HasRoom p.format (needed p) size → IsRightPlace p size (place_of given number) → (n : PlacedName) → IsPlacedThere p n
     → IsNear (bases_of given number p) n
 near_name given number p size placed room lies (name.Gate k) there =
-    let end = (well_placed p size (place_of given number) lies).0 in
+    let end = (well_placed p size (place_of given number) lies).end in
     let bound = code_at_most p.format in
     record { fits = omega arith; within = (omega arith, omega arith) }
 near_name given number p size placed room lies (name.Code place) there =
-    let end = (well_placed p size (place_of given number) lies).0 in
+    let end = (well_placed p size (place_of given number) lies).end in
     let bound = code_at_most p.format in
     let within = there.1 in
     record { fits = omega arith; within = (omega arith, omega arith) }
@@ -154,7 +154,7 @@ pub code_room : (given : List Place) (number : ℕ) (p : Placement) (at : Bases)
 code_room given number p at size stubs room lies is stubs_are =
     let a = ap length stubs_are ∙ length_stubs p.format (length p.gates) in
     let b = ap (λ (b : Bases). b.code) is in
-    let end = (well_placed p size (place_of given number) lies).0 in
+    let end = (well_placed p size (place_of given number) lies).end in
     let bound = code_at_most p.format in
     record { below = omega arith; within = omega arith }
 

@@ -1,10 +1,10 @@
 -- One list of sandboxes is made of what is placed, or it has one fault.
-use Rattle.sfi_link.proofs.Prelude.{append_assoc, ◌≡◌, ℕ, ◌+◌, ◌*◌, ◌≤◌, List, [], ◌∷◌, ◌++◌, length, replicate, Option, Some, None, sym, ap, ◌∙◌, subst, arith, inl, inr, length-append, pos, ◌-ℤ◌, repeat, w32, to_le_bytes, Instr, InRange, spelling, Format, Part, fields_of, stub_of, Slot, Wide, Short, Jump, Upper, Lower, PlacedName, slot_size, size_of, slots_of, Placement, Place, Bases, LinkFault, bases_of, address_at, target_at, with_offset, made_of, IsSlot, AreSlots, place_of, spans_at, Span, AreApart, spans_of, spans, AllPairs, c_ebreak, needed, IsCodeSize, IsLinkedCode, part_with, IsLinked, AreLinkedFrom, AreLinked, HasSlotFault, IsSlotFault, HasPartFault, IsPartFault, IsLinkFault}
+use Rattle.sfi_link.proofs.Prelude.{append_assoc, ◌≡◌, ℕ, ◌+◌, ◌*◌, ◌≤◌, List, [], ◌∷◌, ◌++◌, length, replicate, sym, ap, ◌∙◌, subst, arith, inl, inr, length-append, pos, ◌-ℤ◌, repeat, w32, to_le_bytes, InRange, spelling, Format, Part, fields_of, stub_of, Slot, Wide, Short, Jump, Upper, Lower, PlacedName, slot_size, size_of, slots_of, Placement, Place, Bases, LinkFault, bases_of, address_at, target_at, with_offset, IsSlot, AreSlots, place_of, spans_at, Span, AreApart, spans_of, spans, AllPairs, c_ebreak, needed, IsCodeSize, IsLinkedCode, part_with, IsLinked, AreLinkedFrom, AreLinked, HasSlotFault, IsSlotFault, HasPartFault, IsPartFault, IsLinkFault}
 use Rattle.std.proofs.lemmas.Option.{none-some}
 use Rattle.sfi_image.proofs.SpanLists.{front_apart}
 use Rattle.sfi_rewrite.proofs.Sizes.{size_of-append}
 use Rattle.sfi_link.proofs.Sizes.{size_fill}
-use Rattle.sfi_link.proofs.CleanPlaces.{some_same}
+use Rattle.sfi_link.proofs.CleanPlaces.{some_same, made}
 use Rattle.sfi_link.proofs.Stubs.{length_stubs}
 use Rattle.sfi_link.proofs.Parts.{slots_length}
 
@@ -55,23 +55,17 @@ one_linking given number (p ∷ placed) (q ∷ parts) (r ∷ others) a b =
 
 -- ---- faults of a slot
 
-made_none : (f : ℕ → Instr) (o : Option ℕ) (i : Instr) → o ≡ None → made_of f o ≡ Some i → ⊥
-made_none f None i a b = cc
-made_none f (Some x) i a b = cc
-
-made_some : (f : ℕ → Instr) (o : Option ℕ) (a : ℕ) (i : Instr) → o ≡ Some a → made_of f o ≡ Some i → f a ≡ i
-made_some f None a i x y = cc
-made_some f (Some b) a i x y = ap f (sym (some_same b a x)) ∙ some_same (f b) i y
-
 -- a slot with a fault has no bytes
 never_slot : (at : Bases) (names : List PlacedName) (here : ℕ) (s : Slot) (bytes : List ℕ) (f : LinkFault) → IsSlot at names here s bytes → HasSlotFault at names here s f → ⊥
 never_slot at names here (Wide i) bytes f x h = h
 never_slot at names here (Short form) bytes f x h = h
-never_slot at names here (Jump i k line) bytes f x (inl h) = made_none _ (target_at at names k) x.instr h.0 x.resolves
+never_slot at names here (Jump i k line) bytes f x (inl h) = none-some _ (sym h.0 ∙ (made _ (target_at at names k) x.instr x.resolves).1)
 never_slot at names here (Jump i k line) bytes f x (inr h) =
-    h.2 (subst InRange (sym (made_some (λ to. with_offset (pos to -ℤ pos here) i) (target_at at names k) h.0 x.instr h.1 x.resolves)) x.spelled.0)
-never_slot at names here (Upper rd k line) bytes f x h = made_none _ (address_at at names k) x.instr h.0 x.resolves
-never_slot at names here (Lower rd k line) bytes f x h = made_none _ (address_at at names k) x.instr h.0 x.resolves
+    let aim = λ (to : ℕ). with_offset (pos to -ℤ pos here) i in
+    let m = made aim (target_at at names k) x.instr x.resolves in
+    h.2 (subst InRange (m.2 ∙ ap aim (some_same m.0 h.0 (sym m.1 ∙ h.1))) x.spelled.0)
+never_slot at names here (Upper rd k line) bytes f x h = none-some _ (sym h.0 ∙ (made _ (address_at at names k) x.instr x.resolves).1)
+never_slot at names here (Lower rd k line) bytes f x h = none-some _ (sym h.0 ∙ (made _ (address_at at names k) x.instr x.resolves).1)
 
 -- a slot has one fault
 one_of_slot : (at : Bases) (names : List PlacedName) (here : ℕ) (s : Slot) (f g : LinkFault) → HasSlotFault at names here s f → HasSlotFault at names here s g → f ≡ g
@@ -81,8 +75,7 @@ one_of_slot at names here (Jump i k line) f g (inl a) (inl b) = a.1 ∙ sym b.1
 one_of_slot at names here (Jump i k line) f g (inl a) (inr b) = absurd (none-some b.0 (sym a.0 ∙ b.1))
 one_of_slot at names here (Jump i k line) f g (inr a) (inl b) = absurd (none-some a.0 (sym b.0 ∙ a.1))
 one_of_slot at names here (Jump i k line) f g (inr a) (inr b) = a.3 ∙ sym b.3
-one_of_slot at names here (Upper rd k line) f g a b = a.1 ∙ sym b.1
-one_of_slot at names here (Lower rd k line) f g a b = a.1 ∙ sym b.1
+one_of_slot at names here _ f g a b = a.1 ∙ sym b.1
 
 -- ---- the first fault
 

@@ -90,32 +90,24 @@ listed_only address (g ∷ gs) (suc k) h =
 services : (p : Placement) → IsPlacedPart p → All (λ g. g.service ≤ service_most) p.gates
 services p placed k d lt = (placed.gates k (get_or p.gates k d) (slice_get-get_or p.gates k d lt)).service
 
--- its code ends at 2 ^ 32 at the latest, and begins with a bundle
-pub record LiesWell (q : Part) : Type 0 where
-  pub end : q.code_base + length q.code ≤ 2 ^ 32
-  pub even : q.code_base % 16 ≡ 0
+-- code that lies there ends at 2 ^ 32 at the latest, and begins with a bundle
+pub record LiesWell (base size : ℕ) : Type 0 where
+  pub end : base + size ≤ 2 ^ 32
+  pub even : base % 16 ≡ 0
 
-pub well_placed : (p : Placement) (size : ℕ) (place : Place) → IsRightPlace p size place → (place.code_base + size ≤ 2 ^ 32) × (place.code_base % 16 ≡ 0)
-well_placed p size place lies = let whole = whole_bundles p.format place.code_base size lies.word lies.code in (whole.4, omega (arith, whole.3))
+pub well_placed : (p : Placement) (size : ℕ) (place : Place) → IsRightPlace p size place → LiesWell place.code_base size
+well_placed p size place lies = let whole = whole_bundles p.format place.code_base size lies.word lies.code in record { end = whole.4; even = omega (arith, whole.3) }
 
 -- the sandbox starts below 2 ^ 32
 pub start_fits : (given : List Place) (number : ℕ) (p : Placement) (size : ℕ) → HasRoom p.format (needed p) size → IsRightPlace p size (place_of given number) → (bases_of given number p).start < 2 ^ 32
 start_fits given number p size room lies =
-    let end = (well_placed p size (place_of given number) lies).0 in
+    let end = (well_placed p size (place_of given number) lies).end in
     omega arith
-
-pub lies_well : (given : List Place) → (number : ℕ) (p : Placement) (q : Part) → IsLinked given number p q → LiesWell q
-lies_well given number p q linked =
-    let well = well_placed p (length q.code) (place_of given number) linked.lies in
-    let base : q.code_base ≡ (bases_of given number p).code = ap (λ (r : Part). r.code_base) linked.is in
-    record { end = omega (arith, base, well.0); even = ap (λ n. n % 16) base ∙ well.1 }
 
 right_with : (given : List Place) (number : ℕ) (p : Placement) (code : List ℕ) → IsPlacedPart p → IsLinkedCode given number p code → IsRightPlace p (length code) (place_of given number) → IsRightPart (part_with given number p code)
 right_with given number p code placed made lies =
     let base = (bases_of given number p).code in
     let well = well_placed p (length code) (place_of given number) lies in
-    let end = well.0 in
-    let even = well.1 in
     let gates_len = length-gates_from base p.gates in
     record {
       code_base = lies.word;

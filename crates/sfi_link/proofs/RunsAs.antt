@@ -1,12 +1,12 @@
 -- Each item of a source does in the image what its instruction does.
-use Rattle.sfi_link.proofs.Prelude.{◌≡◌, ℕ, ◌+◌, ◌*◌, List, [], ◌∷◌, ◌++◌, length, length-append, replicate, Some, Bool, true, false, refl, sym, ap, ◌∙◌, subst, arith, append_assoc, inl, inr, pos, ℤ, negsuc, zero, suc, ◌-ℤ◌, MatchBool, slice_get, repeat, All, Instr, Op, OpImm, Load, Store, Branch, Jal, Jalr, Lui, Addi, Format, is_stack, upper, lower, Sandbox, IsSandbox, IsBody, Part, stub_of, Slot, Wide, Short, Jump, Upper, Lower, PlacedName, size_of, slots_of, c_nop, Placement, Place, Bases, bases_of, with_offset, target_at, address_at, AreSlots, c_ebreak, IsLinked, AreLinkedFrom, All-head, All-tail}
+use Rattle.sfi_link.proofs.Prelude.{◌≡◌, ℕ, ◌+◌, ◌*◌, List, [], ◌∷◌, ◌++◌, length, length-append, replicate, Some, Bool, true, false, refl, sym, ap, ◌∙◌, subst, arith, append_assoc, inl, inr, pos, ℤ, negsuc, zero, suc, ◌-ℤ◌, MatchBool, slice_get, repeat, All, Instr, OpImm, Load, Store, Branch, Jal, Jalr, Lui, Addi, Format, is_stack, upper, lower, Sandbox, IsSandbox, IsBody, Part, stub_of, Slot, Wide, Short, Jump, Upper, Lower, PlacedName, slot_size, size_of, resolved, slots_of, c_nop, Placement, Place, Bases, bases_of, with_offset, target_at, address_at, AreSlots, c_ebreak, IsLinked, AreLinkedFrom, All-head, All-tail}
 use Rattle.rv_mem.specs.Laws.{Holds}
 use Rattle.rv_step.specs.State.{State}
 use Rattle.rv_source.specs.declared.item.Body.{Body}
 use Rattle.rv_source.specs.declared.item.Body.TheVariants.{Plain, To, High, Low}
 use Rattle.rv_source.specs.declared.item.Item.{Item}
 use Rattle.sfi_image.specs.Parts.{IsRightPart}
-use Rattle.sfi_link.specs.Standing.{AreResolvedTo, RunsAt, RunsAs, WordRunsAs, RunsAsIn, LinkedRunsAs, LinkedImagesRunAs, SandboxesRunAs}
+use Rattle.sfi_link.specs.Standing.{IsResolvedTo, AreResolvedTo, RunsAt, RunsAs, WordRunsAs, RunsAsIn, LinkedRunsAs, LinkedImagesRunAs, SandboxesRunAs}
 use Rattle.sfi_rewrite.specs.Expansion.{jump_slots, IsAlone, IsMasked, IsExpansionOf}
 use Rattle.sfi_rewrite.specs.Rewriting.{IsRewritten, AreRewritten}
 use Rattle.sfi_rewrite.specs.Stack.{is_on_stack, stack_pair, put_back}
@@ -65,7 +65,6 @@ bare_alone true i slots (inr w) = subst AreBare (sym w.1) tt
 bare_before : (i : Instr) → AreBare (before i)
 bare_before (Load kind rd a imm) = bare_if (is_data_register a || (a == 0)) [] (data_mask 29 a) tt tt
 bare_before (Store width a rs2 imm) = bare_if (is_data_register a || (a == 0)) [] (data_mask 29 a) tt tt
-bare_before (Jalr rd a imm) = tt
 bare_before _ = tt
 
 bare_confined : (rvc : Bool) (i : Instr) (slots : List Slot) → IsConfined rvc i slots → AreBare slots
@@ -79,7 +78,6 @@ bare_after step i = bare_if step [] (mask_after (destination i)) tt (bare_mask (
 
 bare_moved : (i : Instr) → AreBare (moved i)
 bare_moved (OpImm op d a imm) = tt
-bare_moved (Op op d b a) = tt
 bare_moved _ = tt
 
 bare_plain : (moves rvc step : Bool) (i : Instr) (slots : List Slot) → MatchBool moves (slots ≡ moved i) (IsAround rvc step i slots) → AreBare slots
@@ -140,38 +138,30 @@ record Becomes (at : Bases) (names : List PlacedName) (here : ℕ) (body : Body)
   may_be : MayBe body instr
   goes : AreResolvedTo at names here instr slots
 
+-- the instruction that the first of the slots becomes, where the others wait for no name
+first_waits : (at : Bases) (names : List PlacedName) (here : ℕ) (x : Slot) (rest slots : List Slot) (bytes : List ℕ) → slots ≡ x ∷ rest → AreBare rest → ((i : Instr) → resolved at names here x ≡ Some i → IsResolvedTo at names here i x) → AreSlots at names here slots bytes
+    → (i : Instr) × (resolved at names here x ≡ Some i) × AreResolvedTo at names here i slots
+first_waits at names here x rest slots bytes e bare goes h =
+    let g = subst (λ (l : List Slot). AreSlots at names here l bytes) e h in
+    (g.2.instr, g.2.resolves, subst (λ (l : List Slot). AreResolvedTo at names here g.2.instr l) (sym e) (goes g.2.instr g.2.resolves, bare_goes at names (here + slot_size x) g.2.instr rest bare))
+
 becomes : (at : Bases) (names : List PlacedName) (here count : ℕ) (body : Body) (slots : List Slot) (bytes : List ℕ)
     → IsBody count body → AwaitName body slots → AreSlots at names here slots bytes → Becomes at names here body slots
 becomes at names here count (Plain i) slots bytes b w h = record { instr = i; may_be = refl; goes = bare_goes at names here i slots w }
 becomes at names here count (To j name) slots bytes b (line, rest, e, bare) h =
-    let g = subst (λ (l : List Slot). AreSlots at names here l bytes) e h in
-    let m = made (λ to. with_offset (pos to -ℤ pos here) j) (target_at at names name) g.2.instr g.2.resolves in
-    record {
-      instr = g.2.instr;
-      may_be = aimed j g.2.instr (pos m.0 -ℤ pos here) count name b m.2;
-      goes = subst (λ (l : List Slot). AreResolvedTo at names here g.2.instr l) (sym e) (g.2.resolves, bare_goes at names (here + 4) g.2.instr rest bare);
-    }
+    let w = first_waits at names here (Jump j name line) rest slots bytes e bare (λ i r. r) h in
+    let m = made (λ to. with_offset (pos to -ℤ pos here) j) (target_at at names name) w.0 w.1 in
+    record { instr = w.0; may_be = aimed j w.0 (pos m.0 -ℤ pos here) count name b m.2; goes = w.2 }
 becomes at names here count (High rd name) slots bytes b (line, rest, e, bare) h =
-    let g = subst (λ (l : List Slot). AreSlots at names here l bytes) e h in
-    let m = made (λ address. Lui rd (upper (pos address))) (address_at at names name) g.2.instr g.2.resolves in
-    record {
-      instr = g.2.instr;
-      may_be = (upper (pos m.0), m.2);
-      goes = subst (λ (l : List Slot). AreResolvedTo at names here g.2.instr l) (sym e) (g.2.resolves, bare_goes at names (here + 4) g.2.instr rest bare);
-    }
+    let w = first_waits at names here (Upper rd name line) rest slots bytes e bare (λ i r. r) h in
+    let m = made (λ address. Lui rd (upper (pos address))) (address_at at names name) w.0 w.1 in
+    record { instr = w.0; may_be = (upper (pos m.0), m.2); goes = w.2 }
 becomes at names here count (Low rd name) slots bytes b (line, rest, e, bare) h =
-    let g = subst (λ (l : List Slot). AreSlots at names here l bytes) e h in
-    let m = made (λ address. OpImm Addi rd rd (lower (pos address))) (address_at at names name) g.2.instr g.2.resolves in
-    record {
-      instr = g.2.instr;
-      may_be = (lower (pos m.0), m.2);
-      goes = subst (λ (l : List Slot). AreResolvedTo at names here g.2.instr l) (sym e) (g.2.resolves, bare_goes at names (here + 4) g.2.instr rest bare);
-    }
+    let w = first_waits at names here (Lower rd name line) rest slots bytes e bare (λ i r. r) h in
+    let m = made (λ address. OpImm Addi rd rd (lower (pos address))) (address_at at names name) w.0 w.1 in
+    record { instr = w.0; may_be = (lower (pos m.0), m.2); goes = w.2 }
 
 -- ---- where it stands in the code
-
-regroup_bytes : (stubs front mid rest bytes more : List ℕ) → bytes ≡ front ++ more → more ≡ mid ++ rest → stubs ++ bytes ≡ (stubs ++ front) ++ (mid ++ rest)
-regroup_bytes stubs front mid rest bytes more e f = ap (λ v. stubs ++ v) (e ∙ ap (λ v. front ++ v) f) ∙ sym (append_assoc stubs front (mid ++ rest))
 
 -- slots among those of the code: their bytes, and that they stand where a memory holds the code
 record AreThere (at : Bases) (names : List PlacedName) (q : Part) (lead own : List Slot) : Type 0 where
@@ -193,7 +183,7 @@ are_there given number p q lead own after linked placed =
     cut b p.names b.start lead (own ++ (after ++ fill)) linked.code.bytes
     (subst (λ (l : List Slot). AreSlots b p.names b.start l linked.code.bytes) grouped linked.code.slots) in
     let two : AreCut b p.names here own (after ++ fill) one.rest = cut b p.names here own (after ++ fill) one.rest one.second in
-    let all : q.code ≡ (stubs ++ one.front) ++ (two.front ++ two.rest) = linked.code.code_is ∙ regroup_bytes stubs one.front two.front two.rest linked.code.bytes one.rest one.whole two.whole in
+    let all : q.code ≡ (stubs ++ one.front) ++ (two.front ++ two.rest) = linked.code.code_is ∙ ap (λ v. stubs ++ v) (one.whole ∙ ap (λ v. one.front ++ v) two.whole) ∙ sym (append_assoc stubs one.front (two.front ++ two.rest)) in
     let front_size : length (stubs ++ one.front) ≡ 16 * length p.gates + size_of lead =
     length-append stubs one.front
     ∙ (let a = length_stubs p.format (length p.gates) in

@@ -1,5 +1,5 @@
 -- Where a memory holds the linker's bytes of slots, the slots stand.
-use Rattle.sfi_link.proofs.Prelude.{◌≡◌, ℕ, ◌+◌, List, [], ◌∷◌, ◌++◌, length, length-append, append-nil, refl, Some, sym, ap, ◌∙◌, subst, arith, slice_index, get_or_append_left, get_or-append-add, Instr, Spells, expansion, Slot, Wide, Short, PlacedName, slot_size, Bases, IsSlot, AreSlots}
+use Rattle.sfi_link.proofs.Prelude.{◌≡◌, ℕ, ◌+◌, List, [], ◌∷◌, ◌++◌, length, length-append, append-nil, refl, Some, sym, ap, ◌∙◌, subst, arith, slice_index, get_or_append_left, get_or-append-add, Instr, expansion, Slot, Wide, Short, PlacedName, slot_size, Bases, IsSlot, AreSlots}
 use Rattle.rv_mem.specs.Bytes.{Bytes, byte_at, address_after}
 use Rattle.rv_mem.specs.Laws.{Holds}
 use Rattle.rv_step.specs.State.{State}
@@ -26,9 +26,6 @@ held_part m base to front mid rest all same e h = record {
 
 -- ---- one slot
 
-stands_one : (s : State) (i : Instr) (n : ℕ) (bytes : List ℕ) → Holds s.memory s.hart.pc n bytes → Spells bytes i n → Stands s i n
-stands_one s i n bytes h spelled = record { bytes = bytes; there = (read_is_held s.memory s.hart.pc n bytes).1 h; spelled = spelled }
-
 slot_there : (at : Bases) (names : List PlacedName) (here : ℕ) (i : Instr) (x : Slot) (bytes : List ℕ) (s : State) (is : IsSlot at names here x bytes) → IsResolvedTo at names here i x
     → Stands s is.instr (slot_size x) → SlotStands i s x
 slot_there at names here i (Wide j) bytes s is goes st = subst (λ (k : Instr). Stands s k 4) (sym (some_same j is.instr is.resolves)) st
@@ -47,6 +44,6 @@ slots_there at names here i (x ∷ slots) bytes s h goes m =
     let count = spelled_length front h.2.instr (slot_size x) spelled in
     let first = held_part s.memory s.hart.pc s.hart.pc [] front rest bytes (λ k. omega arith) h.4 m in
     let later = held_part s.memory s.hart.pc (address_after s.hart.pc (slot_size x)) front rest [] bytes (λ k. omega arith) (h.4 ∙ ap (λ l. front ++ l) (sym (append-nil rest))) m in (
-      slot_there at names here i x front s h.2 goes.0 (stands_one s h.2.instr (slot_size x) front (subst (λ n. Holds s.memory s.hart.pc n front) count first) spelled),
+      slot_there at names here i x front s h.2 goes.0 (record { bytes = front; there = (read_is_held s.memory s.hart.pc (slot_size x) front).1 (subst (λ n. Holds s.memory s.hart.pc n front) count first); spelled = spelled }),
       slots_there at names (here + slot_size x) i slots rest (further s (slot_size x)) h.3 goes.1 later,
     )

@@ -1,5 +1,5 @@
 -- What is placed has an image, or a fault.
-use Rattle.sfi_link.proofs.Prelude.{◌≡◌, ℕ, zero, suc, ◌+◌, ◌-◌, ◌/◌, ◌^◌, ◌<◌, ◌≤◌, List, [], ◌∷◌, ◌++◌, length, Option, Some, None, refl, sym, ap, ◌∙◌, subst, arith, inl, inr, ◌⊎◌, ℤ, pos, ◌-ℤ◌, All, AllPairs, repeat, w16, w32, to_le_bytes, cases_lt, cases_eq, ints, All-head, All-tail, Instr, Branch, Jal, InRange, IsReg, spelling, expansion, Format, code_most, stub_of, Slot, Wide, Short, Jump, Upper, Lower, PlacedName, slot_size, slots_of, Placement, Encodes, IsPlacedPart, Bases, LinkFault, Place, Span, AreApart, spans, place_of, IsRightPlace, spans_at, bases_of, address_at, target_at, with_offset, made_of, IsSlot, AreSlots, needed, HasRoom, IsCodeSize, IsLinkedCode, part_with, IsLinked, AreLinkedFrom, AreLinked, AreWritten, MayLie, HasSlotFault, IsSlotFault, HasPartFault, IsPartFault}
+use Rattle.sfi_link.proofs.Prelude.{◌≡◌, ℕ, zero, suc, ◌+◌, ◌-◌, ◌/◌, ◌^◌, ◌<◌, ◌≤◌, List, [], ◌∷◌, ◌++◌, length, Option, Some, None, refl, sym, ap, subst, arith, inl, inr, ◌⊎◌, ℤ, pos, ◌-ℤ◌, All, AllPairs, repeat, w16, w32, to_le_bytes, cases_lt, cases_eq, ints, All-head, All-tail, Instr, Branch, Jal, InRange, IsReg, spelling, expansion, Format, code_most, stub_of, Slot, Wide, Short, Jump, Upper, Lower, PlacedName, slot_size, slots_of, Placement, Encodes, IsPlacedPart, Bases, LinkFault, Place, Span, AreApart, spans, place_of, IsRightPlace, spans_at, bases_of, address_at, target_at, with_offset, made_of, IsSlot, AreSlots, needed, HasRoom, IsCodeSize, IsLinkedCode, part_with, IsLinked, AreLinkedFrom, AreLinked, AreWritten, MayLie, HasSlotFault, IsSlotFault, HasPartFault, IsPartFault}
 use Rattle.rv_comp.specs.Halfwords.{halfword_of}
 use Rattle.rv_word.specs.Numbers.{modulo, minus, IsBetween}
 use Rattle.sfi_link.specs.Laws.{SomeLinking}
@@ -12,7 +12,7 @@ use Rattle.std.proofs.lemmas.List.{append-nil, append_assoc}
 use Rattle.sfi_image.specs.Spelling as image
 use Rattle.sfi_link.specs.declared.fault.LinkFault.TheVariants as named
 use Rattle.sfi_image.proofs.Deciding.{Decided, decided_both, decided_lt, decided_pairs, decided_apart, decided_region, decided_guard_room}
-use Rattle.sfi_link.proofs.OneLinking.{one_size, own_spans}
+use Rattle.sfi_link.proofs.OneLinking.{one_size}
 use Rattle.sfi_link.proofs.Stubs.{length_stubs}
 use Rattle.sfi_image.proofs.Formats.{code_at_most}
 use Rattle.sfi_link.proofs.LinkedClean.{all_are_clean}
@@ -115,10 +115,15 @@ size_or_none f needed =
 
 -- ---- a sandbox
 
-part_made : (given : List Place) → (number : ℕ) (p : Placement) (size : ℕ) (bytes : List ℕ) → IsCodeSize p.format (needed p) size
-    → IsRightPlace p size (place_of given number) → AreSlots (bases_of given number p) p.names (bases_of given number p).start (slots_of p.bundles) bytes
-    → (q : image.Part) × IsLinked given number p q × (length q.code ≡ size)
-part_made given number p size bytes sized lies slots =
+-- the sandbox is linked after those before, with no spans that meet
+record IsMade (given : List Place) (number : ℕ) (p : Placement) (before : List Span) : Type 0 where
+  part : image.Part
+  linked : IsLinked given number p part
+  apart : AllPairs AreApart (before ++ spans (part ∷ []))
+
+part_made : (given : List Place) (number : ℕ) (p : Placement) (before : List Span) (size : ℕ) (bytes : List ℕ) → IsCodeSize p.format (needed p) size → IsRightPlace p size (place_of given number)
+    → AllPairs AreApart (before ++ spans_at p size (place_of given number)) → AreSlots (bases_of given number p) p.names (bases_of given number p).start (slots_of p.bundles) bytes → IsMade given number p before
+part_made given number p before size bytes sized lies apart slots =
     let at = bases_of given number p in
     let stubs = repeat (length p.gates) (stub_of p.format) in
     let now = stubs ++ bytes in
@@ -130,7 +135,11 @@ part_made given number p size bytes sized lies slots =
     let code = now ++ repeat fill pair in
     let linked : IsLinkedCode given number p code = linked_code given number p at size fill stubs now code refl sized refl written refl refl in
     let whole : length code ≡ size = one_size p.format (needed p) (length code) size linked.size sized in
-    (part_with given number p code, record { code = linked; lies = subst (λ n. IsRightPlace p n (place_of given number)) (sym whole) lies; is = refl }, whole)
+    record {
+      part = part_with given number p code;
+      linked = record { code = linked; lies = subst (λ n. IsRightPlace p n (place_of given number)) (sym whole) lies; is = refl };
+      apart = subst (λ n. AllPairs AreApart (before ++ spans_at p n (place_of given number))) (sym whole) apart;
+    }
 
 right_place : (p : Placement) (size : ℕ) (place : Place) → Decided (IsRightPlace p size place)
 right_place p size place =
@@ -149,18 +158,6 @@ lies_or_not given number p before size sized =
           not (subst (λ n. IsRightPlace p n (place_of given number)) one may.right, subst (λ n. AllPairs AreApart (before ++ spans_at p n (place_of given number))) one may.apart))
     ]
 
--- the sandbox is linked after those before, with no spans that meet, or has a fault
-record IsMade (given : List Place) (number : ℕ) (p : Placement) (before : List Span) : Type 0 where
-  part : image.Part
-  linked : IsLinked given number p part
-  apart : AllPairs AreApart (before ++ spans (part ∷ []))
-
-made_apart : (given : List Place) (number : ℕ) (p : Placement) (before : List Span) (q : image.Part) (size : ℕ) → IsLinked given number p q → length q.code ≡ size
-    → AllPairs AreApart (before ++ spans_at p size (place_of given number)) → IsMade given number p before
-made_apart given number p before q size linked long apart =
-    let own : spans (q ∷ []) ≡ spans_at p size (place_of given number) = own_spans given number p q linked ∙ ap (λ n. spans_at p n (place_of given number)) long in
-    record { part = q; linked = linked; apart = subst (λ l. AllPairs AreApart (before ++ l)) (sym own) apart }
-
 part_or_fault : (given : List Place) (number : ℕ) (p : Placement) (before : List Span) → IsPlacedPart p → IsMade given number p before ⊎ ((f : LinkFault) × HasPartFault given number p before f)
 part_or_fault given number p before right =
     elim (size_or_none p.format (needed p)) [
@@ -169,7 +166,7 @@ part_or_fault given number p before right =
         | inr nowhere ↦ inr (named.Place number, inr (inl (λ large. large sized.0 sized.1.has_room, nowhere, refl)))
         | inl lies ↦ elim (slots_or_fault (bases_of given number p) p.names (bases_of given number p).start (slots_of p.bundles) right.encodes) [
           | inr wrong ↦ inr (wrong.0, inr (inr (record { size = sized.0; least = sized.1; right = lies.0; apart = lies.1 }, wrong.1)))
-          | inl slots ↦ inl (let made = part_made given number p sized.0 slots.0 sized.1 lies.0 slots.1 in made_apart given number p before made.0 sized.0 made.1 made.2 lies.1)
+          | inl slots ↦ inl (part_made given number p before sized.0 slots.0 sized.1 lies.0 lies.1 slots.1)
         ]
       ]
     ]

@@ -1,5 +1,5 @@
 -- Sandboxes at their usual places never meet, so none has a fault of its place.
-use Rattle.sfi_link.proofs.Prelude.{◌≡◌, ℕ, ◌+◌, ◌-◌, ◌*◌, ◌^◌, ◌<◌, ◌≤◌, Vec, Global, Result, Err, List, [], ◌∷◌, ◌++◌, length, get_or, sym, ap, ◌∙◌, subst, arith, inl, inr, All, AllPairs, All-nil, All-cons, All-head, All-tail, All-append, Span, Part, AreApart, spans, with_guards, Slot, Wide, Short, Jump, Upper, Lower, PlacedName, slot_size, Placement, IsPlacedPart, IsPlaced, Bases, LinkFault, Place, IsRightPlace, spans_at, needed, HasRoom, IsCodeSize, IsLinked, MayLie, HasSlotFault, IsSlotFault, HasPartFault, IsPartFault, IsLinkFault, Links}
+use Rattle.sfi_link.proofs.Prelude.{◌≡◌, ℕ, ◌+◌, ◌-◌, ◌*◌, ◌^◌, ◌<◌, ◌≤◌, Vec, Global, Result, Err, List, [], ◌∷◌, ◌++◌, length, get_or, sym, ap, ◌∙◌, subst, arith, inl, inr, All, AllPairs, All-nil, All-cons, All-head, All-tail, All-append, Span, Part, AreApart, spans, with_guards, Slot, Wide, Short, Jump, PlacedName, slot_size, Placement, IsPlacedPart, IsPlaced, Bases, LinkFault, Place, IsRightPlace, spans_at, needed, HasRoom, IsCodeSize, IsLinked, MayLie, HasSlotFault, IsSlotFault, HasPartFault, IsPartFault, IsLinkFault, Links}
 use Rattle.std.specs.Prelude.{◌≢◌}
 use Rattle.std.proofs.lemmas.Nat.{pow-add}
 use Rattle.sfi_policy.specs.Places.{usual}
@@ -97,8 +97,7 @@ no_slot_place at names here (Wide i) k h = h
 no_slot_place at names here (Short form) k h = h
 no_slot_place at names here (Jump i name line) k (inl h) = let e = h.1 in cc
 no_slot_place at names here (Jump i name line) k (inr h) = let e = h.3 in cc
-no_slot_place at names here (Upper rd name line) k h = let e = h.1 in cc
-no_slot_place at names here (Lower rd name line) k h = let e = h.1 in cc
+no_slot_place at names here _ k h = let e = h.1 in cc
 
 no_slots_place : (at : Bases) (names : List PlacedName) (here : ℕ) (slots : List Slot) (k : ℕ) → IsSlotFault at names here slots (fault.Place k) → ⊥
 no_slots_place at names here [] k h = h

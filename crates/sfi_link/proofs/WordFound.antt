@@ -125,16 +125,12 @@ length_join sandbox p n owed next (w ∷ words) q =
     let long = length-append w (join words) in
     omega arith
 
--- at the code's end
-ended : (sandbox : ℕ) (p : Part) (n count : ℕ) (owed : Owed) → length p.code ≡ 16 * count → n ≡ 4 * count → FoundTo sandbox p n owed → AreFindingsInWords sandbox p []
-ended sandbox p n count owed long whole f =
-    let same : f.bundles ≡ count = omega arith in
-    (count, f.between, long, subst (λ m. AreFoundOfFirst sandbox p m [] f.between) same f.before)
-
 -- code that is quiet words, whole bundles of them, has no finding
 pub quiet_is_clean : (sandbox : ℕ) (p : Part) (count : ℕ) (words : List (List ℕ)) (next : Owed) → p.code ≡ join words → length p.code ≡ 16 * count → AreQuiet sandbox p 0 Nothing words next
     → AreFindingsInWords sandbox p []
 quiet_is_clean sandbox p count words next e long q =
     let size = length_join sandbox p 0 Nothing next words q in
     let full = ap length e in
-    ended sandbox p (0 + length words) count next long (omega arith) (all_more sandbox p 0 Nothing next [] words e refl (none_yet sandbox p) q)
+    let f = all_more sandbox p 0 Nothing next [] words e refl (none_yet sandbox p) q in
+    let same : f.bundles ≡ count = omega arith in
+    (count, f.between, long, subst (λ m. AreFoundOfFirst sandbox p m [] f.between) same f.before)

@@ -78,9 +78,6 @@ calm_no_ecall _ c gate = refl
 paid : (owed : Owed) (i : Instr) (to : Option ℕ) → left owed i ≡ Some kind.Nothing → (w : Owes i to) → Meets owed i w.own
 paid owed i to l w = meets_by kind.Nothing w.own l w.owes refl
 
-free_of : (owed : Owed) (i : Instr) → owed ≡ kind.Nothing → left owed i ≡ Some kind.Nothing
-free_of owed i e = ap (λ o. left o i) e
-
 -- only a load or a store is a use
 abbrev is_access : Instr → Bool
 is_access (Load kind rd a imm) = true
@@ -123,7 +120,7 @@ access_right : (base size : ℕ) (at : Bases) (names : List PlacedName) (here : 
 access_right base size at names here owed rvc f to a true zero_one confined slots is typed z o alone e =
     let x = is here in
     let pays : left owed (f a) ≡ Some kind.Nothing = elim o [
-      | inl none ↦ free_of owed (f a) none
+      | inl none ↦ ap (λ o. left o (f a)) none
       | inr u ↦ ap (λ p. left p (f a)) u.1 ∙ use_pays u.0 (f a) (x.masks_none a u.0) u.2.1
     ] in
     let w = x.owes a in
@@ -133,7 +130,7 @@ access_right base size at names here owed rvc f to a true zero_one confined slot
 access_right base size at names here owed rvc f to a false true confined slots is typed z o alone e =
     let x = is here in
     let w = x.owes 26 in
-    let one = right_alone base size at names here owed w.own rvc (f 26) confined alone (record { no_ecall = x.no_ecall 26; lawful = x.lawful 26 refl; meets = paid owed (f 26) to (free_of owed (f 26) (unowed_base base size here owed f to a (is here) typed o)) w }) in
+    let one = right_alone base size at names here owed w.own rvc (f 26) confined alone (record { no_ecall = x.no_ecall 26; lawful = x.lawful 26 refl; meets = paid owed (f 26) to (ap (λ o. left o (f 26)) (unowed_base base size here owed f to a (is here) typed o)) w }) in
     subst (λ v. AreRight base size at names here owed v kind.Nothing) (sym e)
     (right_append base size at names here owed w.own kind.Nothing confined (mask_after to) one (after_right base size at names (here + size_of confined) w.own to w.is))
 access_right base size at names here owed rvc f to a false false confined slots is typed z o alone e =
@@ -191,7 +188,7 @@ calm_right : (base size : ℕ) (at : Bases) (names : List PlacedName) (here : �
 calm_right base size at names here owed rvc i confined slots c access n b o alone e =
     let w = owing_as_named i n b in
     let one = right_alone base size at names here owed w.own rvc i confined alone
-    (record { no_ecall = calm_no_ecall i c; lawful = calm_lawful base size here i c (free_one i n); meets = paid owed i (destination i) (free_of owed i (nothing_before owed i access o)) w }) in
+    (record { no_ecall = calm_no_ecall i c; lawful = calm_lawful base size here i c (free_one i n); meets = paid owed i (destination i) (ap (λ o. left o i) (nothing_before owed i access o)) w }) in
     subst (λ v. AreRight base size at names here owed v kind.Nothing) (sym e)
     (right_append base size at names here owed w.own kind.Nothing confined (mask_after (destination i)) one (after_right base size at names (here + size_of confined) w.own (destination i) w.is))
 

@@ -121,11 +121,7 @@ slots_quiet sandbox p at names _ _ (one_slot l s expanded words four w) n here o
 -- ---- c.ebreaks
 
 end_right : (base size here : ℕ) → IsRight base size here kind.Nothing Ebreak kind.Nothing
-end_right base size here = record {
-  no_ecall = λ gate. refl;
-  lawful = lawful_by refl refl refl refl refl;
-  meets = meets_by kind.Nothing kind.Nothing refl refl refl;
-}
+end_right base size here = record { no_ecall = λ gate. refl; lawful = lawful_by refl refl refl refl refl; meets = meets_by kind.Nothing kind.Nothing refl refl refl }
 
 fill_quiet : (sandbox : ℕ) (p : Part) (at : Bases) (names : List PlacedName) (fill n here : ℕ) (bytes : List ℕ) → fill % 2 ≡ 0 → here ≡ p.code_base + 4 * n → AreSlots at names here (replicate fill c_ebreak) bytes
     → AreWordsOf sandbox p n kind.Nothing bytes kind.Nothing
@@ -156,21 +152,14 @@ stub_is : stub_of Sfiw ≡ join stub_words
 unfolding stub_of
 stub_is = refl
 
-call_spells : Spells (word Ecall) Ecall 4
+stub_spells : Spells (word Ecall) Ecall 4 × Spells (word (Op And 30 1 25)) (Op And 30 1 25) 4 × Spells (word (Op Or 30 30 24)) (Op Or 30 30 24) 4 × Spells (word (Jalr 0 30 (pos 0))) (Jalr 0 30 (pos 0)) 4
 unfolding InRange
-call_spells = word_spells Ecall tt
-
-mask_spells : Spells (word (Op And 30 1 25)) (Op And 30 1 25) 4
-unfolding InRange
-mask_spells = word_spells (Op And 30 1 25) (omega arith, omega arith, omega arith)
-
-put_spells : Spells (word (Op Or 30 30 24)) (Op Or 30 30 24) 4
-unfolding InRange
-put_spells = word_spells (Op Or 30 30 24) (omega arith, omega arith, omega arith)
-
-return_spells : Spells (word (Jalr 0 30 (pos 0))) (Jalr 0 30 (pos 0)) 4
-unfolding InRange
-return_spells = word_spells (Jalr 0 30 (pos 0)) (omega arith, omega arith, (omega (arith, ints), omega (arith, ints)))
+stub_spells = (
+  word_spells Ecall tt,
+  word_spells (Op And 30 1 25) (omega arith, omega arith, omega arith),
+  word_spells (Op Or 30 30 24) (omega arith, omega arith, omega arith),
+  word_spells (Jalr 0 30 (pos 0)) (omega arith, omega arith, (omega (arith, ints), omega (arith, ints))),
+)
 
 -- the ecall is the gate's first instruction
 at_gate : (sandbox : ℕ) (p : Part) (k m at : ℕ) → m ≡ k → at ≡ p.code_base + 16 * k → is_gate_of p.gates (p.code_base + 16 * k) ≡ true → breaks_ecall (is_at_gate (place_of sandbox p m) at) Ecall ≡ false
@@ -181,16 +170,16 @@ at_gate sandbox p k m at e f listed =
 stub_quiet : (sandbox : ℕ) (p : Part) (k : ℕ) → is_gate_of p.gates (p.code_base + 16 * k) ≡ true → 16 * k + 16 ≤ length p.code → AreQuiet sandbox p (4 * k) kind.Nothing stub_words kind.Nothing
 stub_quiet sandbox p k listed room =
     let b : ℕ → BundlePlace = λ n. place_of sandbox p (n / 4) in
-    let call = wide_quiet (b (4 * k)) (p.code_base + 4 * (4 * k)) kind.Nothing kind.Nothing Ecall (word Ecall) call_spells (at_gate sandbox p k (4 * k / 4) (p.code_base + 4 * (4 * k)) (omega arith) (omega arith) listed)
+    let call = wide_quiet (b (4 * k)) (p.code_base + 4 * (4 * k)) kind.Nothing kind.Nothing Ecall (word Ecall) stub_spells.0 (at_gate sandbox p k (4 * k / 4) (p.code_base + 4 * (4 * k)) (omega arith) (omega arith) listed)
     (lawful_by refl refl refl refl refl) (goes_on (b (4 * k)) (p.code_base + 4 * (4 * k)) 4 kind.Nothing Ecall (omega arith))
     (meets_by kind.Nothing kind.Nothing refl refl refl) in
-    let mask = wide_quiet (b (4 * k + 1)) (p.code_base + 4 * (4 * k + 1)) kind.Nothing kind.Code (Op And 30 1 25) (word (Op And 30 1 25)) mask_spells refl
+    let mask = wide_quiet (b (4 * k + 1)) (p.code_base + 4 * (4 * k + 1)) kind.Nothing kind.Code (Op And 30 1 25) (word (Op And 30 1 25)) stub_spells.1 refl
     (lawful_by refl refl refl refl refl) (goes_on (b (4 * k + 1)) (p.code_base + 4 * (4 * k + 1)) 4 kind.Nothing (Op And 30 1 25) (omega arith))
     (meets_by kind.Nothing kind.Code refl refl refl) in
-    let put = wide_quiet (b (4 * k + 1 + 1)) (p.code_base + 4 * (4 * k + 1 + 1)) kind.Code kind.Nothing (Op Or 30 30 24) (word (Op Or 30 30 24)) put_spells refl
+    let put = wide_quiet (b (4 * k + 1 + 1)) (p.code_base + 4 * (4 * k + 1 + 1)) kind.Code kind.Nothing (Op Or 30 30 24) (word (Op Or 30 30 24)) stub_spells.2 refl
     (lawful_by refl refl refl refl refl) (goes_on (b (4 * k + 1 + 1)) (p.code_base + 4 * (4 * k + 1 + 1)) 4 kind.Code (Op Or 30 30 24) (omega arith))
     (meets_by kind.Nothing kind.Nothing refl refl refl) in
-    let back = wide_quiet (b (4 * k + 1 + 1 + 1)) (p.code_base + 4 * (4 * k + 1 + 1 + 1)) kind.Nothing kind.Nothing (Jalr 0 30 (pos 0)) (word (Jalr 0 30 (pos 0))) return_spells refl
+    let back = wide_quiet (b (4 * k + 1 + 1 + 1)) (p.code_base + 4 * (4 * k + 1 + 1 + 1)) kind.Nothing kind.Nothing (Jalr 0 30 (pos 0)) (word (Jalr 0 30 (pos 0))) stub_spells.3 refl
     (lawful_by refl refl refl refl refl) (and_right (p.code_base + 4 * (4 * k + 1 + 1 + 1) + 4 == p.code_base + length p.code) false refl)
     (meets_by kind.Nothing kind.Nothing refl refl refl) in
     (kind.Nothing, call, (kind.Code, mask, (kind.Nothing, put, (kind.Nothing, back, refl))))

@@ -55,11 +55,7 @@ right_alone base size at names here owed next true i slots (inr w) one =
 
 -- `and x31, a, x27` leaves what is owed, or pays for the mask of a
 masked : (base size here : ℕ) (owed next : Owed) (a : ℕ) → Meets owed (Op And 31 a 27) next → IsRight base size here owed (Op And 31 a 27) next
-masked base size here owed next a m = record {
-  no_ecall = λ gate. refl;
-  lawful = lawful_by refl refl refl refl refl;
-  meets = m;
-}
+masked base size here owed next a m = record { no_ecall = λ gate. refl; lawful = lawful_by refl refl refl refl refl; meets = m }
 
 -- `or d, x31, x26` of a data register pays for its place, where that is owed
 put : (base size here d : ℕ) (owed : Owed) → is_data_register d ≡ true → ((e : ℕ) → e ≡ d → Meets owed (Op Or e 31 26) kind.Nothing) → IsRight base size here owed (Op Or d 31 26) kind.Nothing
@@ -70,21 +66,16 @@ put base size here d owed typed m = record {
   meets = m d refl;
 }
 
-put_free : (d : ℕ) → is_data_register d ≡ true → Meets kind.Nothing (Op Or d 31 26) kind.Nothing
-put_free d typed = of_data (λ e. Meets kind.Nothing (Op Or e 31 26) kind.Nothing) (meets_by kind.Nothing kind.Nothing refl refl refl) (meets_by kind.Nothing kind.Nothing refl refl refl)
-    (meets_by kind.Nothing kind.Nothing refl refl refl) (meets_by kind.Nothing kind.Nothing refl refl refl) d typed
+-- so it does where nothing is owed
+put_meets : (d : ℕ) → is_data_register d ≡ true → Meets kind.Nothing (Op Or d 31 26) kind.Nothing × Meets (kind.Place d) (Op Or d 31 26) kind.Nothing
+put_meets = of_data (λ e. Meets kind.Nothing (Op Or e 31 26) kind.Nothing × Meets (kind.Place e) (Op Or e 31 26) kind.Nothing)
+    (meets_by kind.Nothing kind.Nothing refl refl refl, meets_by kind.Nothing kind.Nothing refl refl refl) (meets_by kind.Nothing kind.Nothing refl refl refl, meets_by kind.Nothing kind.Nothing refl refl refl)
+    (meets_by kind.Nothing kind.Nothing refl refl refl, meets_by kind.Nothing kind.Nothing refl refl refl) (meets_by kind.Nothing kind.Nothing refl refl refl, meets_by kind.Nothing kind.Nothing refl refl refl)
 
-put_owed : (d : ℕ) → is_data_register d ≡ true → Meets (kind.Place d) (Op Or d 31 26) kind.Nothing
-put_owed d typed = of_data (λ e. Meets (kind.Place e) (Op Or e 31 26) kind.Nothing) (meets_by kind.Nothing kind.Nothing refl refl refl) (meets_by kind.Nothing kind.Nothing refl refl refl)
-    (meets_by kind.Nothing kind.Nothing refl refl refl) (meets_by kind.Nothing kind.Nothing refl refl refl) d typed
-
-mask_owed : (d : ℕ) → is_data_register d ≡ true → Meets (kind.Mask d) (Op And 31 d 27) (kind.Place d)
-mask_owed d typed = of_data (λ e. Meets (kind.Mask e) (Op And 31 e 27) (kind.Place e)) (meets_by (kind.Place 2) kind.Nothing refl refl refl) (meets_by (kind.Place 3) kind.Nothing refl refl refl)
-    (meets_by (kind.Place 4) kind.Nothing refl refl refl) (meets_by (kind.Place 29) kind.Nothing refl refl refl) d typed
-
-mask_or_use_owed : (d : ℕ) → is_data_register d ≡ true → Meets (kind.MaskOrUse d) (Op And 31 d 27) (kind.Place d)
-mask_or_use_owed d typed = of_data (λ e. Meets (kind.MaskOrUse e) (Op And 31 e 27) (kind.Place e)) (meets_by (kind.Place 2) kind.Nothing refl refl refl) (meets_by (kind.Place 3) kind.Nothing refl refl refl)
-    (meets_by (kind.Place 4) kind.Nothing refl refl refl) (meets_by (kind.Place 29) kind.Nothing refl refl refl) d typed
+mask_meets : (d : ℕ) → is_data_register d ≡ true → Meets (kind.Mask d) (Op And 31 d 27) (kind.Place d) × Meets (kind.MaskOrUse d) (Op And 31 d 27) (kind.Place d)
+mask_meets = of_data (λ e. Meets (kind.Mask e) (Op And 31 e 27) (kind.Place e) × Meets (kind.MaskOrUse e) (Op And 31 e 27) (kind.Place e))
+    (meets_by (kind.Place 2) kind.Nothing refl refl refl, meets_by (kind.Place 2) kind.Nothing refl refl refl) (meets_by (kind.Place 3) kind.Nothing refl refl refl, meets_by (kind.Place 3) kind.Nothing refl refl refl)
+    (meets_by (kind.Place 4) kind.Nothing refl refl refl, meets_by (kind.Place 4) kind.Nothing refl refl refl) (meets_by (kind.Place 29) kind.Nothing refl refl refl, meets_by (kind.Place 29) kind.Nothing refl refl refl)
 
 mask_free : (a : ℕ) → Meets kind.Nothing (Op And 31 a 27) kind.Nothing
 mask_free a = meets_by kind.Nothing kind.Nothing refl refl refl
@@ -99,7 +90,7 @@ mask_then base size at names here d a owed between typed first second =
 
 -- where nothing is owed
 pub mask_right : (base size : ℕ) (at : Bases) (names : List PlacedName) (here d a : ℕ) → is_data_register d ≡ true → AreRight base size at names here kind.Nothing (data_mask d a) kind.Nothing
-mask_right base size at names here d a typed = mask_then base size at names here d a kind.Nothing kind.Nothing typed (mask_free a) (put_free d typed)
+mask_right base size at names here d a typed = mask_then base size at names here d a kind.Nothing kind.Nothing typed (mask_free a) (put_meets d typed).0
 
 -- after a write of the register
 pub after_right : (base size : ℕ) (at : Bases) (names : List PlacedName) (here : ℕ) (owed : Owed) (to : Option ℕ) → IsMaskOwed owed to → AreRight base size at names here owed (mask_after to) kind.Nothing
@@ -108,5 +99,5 @@ after_right base size at names here owed (Some d) m = by (is_data_register d) re
   where
     by : (t : Bool) → is_data_register d ≡ t → MatchBool t ((owed ≡ kind.Mask d) ⊎ (owed ≡ kind.MaskOrUse d)) (owed ≡ kind.Nothing) → AreRight base size at names here owed (if t then data_mask d d else []) kind.Nothing
     by false e m = sym m
-    by true e (inl is) = subst (λ o. AreRight base size at names here o (data_mask d d) kind.Nothing) (sym is) (mask_then base size at names here d d (kind.Mask d) (kind.Place d) e (mask_owed d e) (put_owed d e))
-    by true e (inr is) = subst (λ o. AreRight base size at names here o (data_mask d d) kind.Nothing) (sym is) (mask_then base size at names here d d (kind.MaskOrUse d) (kind.Place d) e (mask_or_use_owed d e) (put_owed d e))
+    by true e (inl is) = subst (λ o. AreRight base size at names here o (data_mask d d) kind.Nothing) (sym is) (mask_then base size at names here d d (kind.Mask d) (kind.Place d) e (mask_meets d e).0 (put_meets d e).1)
+    by true e (inr is) = subst (λ o. AreRight base size at names here o (data_mask d d) kind.Nothing) (sym is) (mask_then base size at names here d d (kind.MaskOrUse d) (kind.Place d) e (mask_meets d e).1 (put_meets d e).1)
