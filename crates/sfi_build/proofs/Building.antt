@@ -1,6 +1,7 @@
 -- A text has one build or one fault.
 use Rattle.sfi_link.proofs.Prelude.{◌≡◌, ℕ, List, [], ◌∷◌, ap, ◌∙◌, sym, subst, ◌⊎◌, inl, inr, Vec, Global, Result, Ok, Err, IfOk, IfErr, Sandbox, Placement, Place, IsLinkFault}
 use Rattle.std.specs.Prelude.{◌≢◌}
+use Rattle.std.proofs.lemmas.Result.{IfOk-weaker}
 use Rattle.rv_text.specs.Texts.{MeansSource}
 use Rattle.sfi_link.specs.Building.{IsLinkedImage, ArePlacements, IsBuild}
 use Rattle.sfi_link.specs.Standing.{ImageRunsAs}
@@ -57,9 +58,6 @@ one_map given text xs ys a b =
     same_placed text a.build.source b.build.source a.build.placed b.build.placed a.build.means b.build.means a.build.rewritten b.build.rewritten in
     a.entries_are ∙ ap (λ s. map_from given 0 s a.build.placed) source ∙ ap (λ p. map_from given 0 b.build.source p) placed ∙ sym b.entries_are
 
-pub never_mapped : (given : List Place) (text : List ℕ) (xs : List MapEntry) (f : BuildFault) → IsTextMap given text xs → IsBuildFault given text f → ⊥
-never_mapped given text xs f is h = never_built given text is.bytes f is.build h
-
 -- ---- what is answered that way
 
 -- the answer meets Is, or is the text's fault
@@ -109,8 +107,7 @@ text_build given text (Ok v) h source means =
 text_build given text (Err f) h source means = tt
 
 pub means_clean : (given : List Place) → (text : List ℕ) (r : Result (Vec ℕ Global) BuildFault) → IfOk r (λ v. IsTextBuild given text v.items) → IfOk r (λ v. IsCleanImage v.items)
-means_clean given text (Ok v) h = record { parts = h.image.parts; image = h.image.image; none_found = h.image.none_found }
-means_clean given text (Err f) h = tt
+means_clean given text r = IfOk-weaker r (λ (v : Vec ℕ Global). IsTextBuild given text v.items) _ (λ v h. record { parts = h.image.parts; image = h.image.image; none_found = h.image.none_found })
 
 -- the image acts as the source that its text means
 pub build_runs_as : (given : List Place) → (text : List ℕ) (r : Result (Vec ℕ Global) BuildFault) → IfOk r (λ v. IsTextBuild given text v.items)
