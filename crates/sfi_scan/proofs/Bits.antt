@@ -1,5 +1,5 @@
 -- One bit of a mask, through each operation.
-use Rattle.sfi_scan.proofs.Prelude.{◌≡◌, ℕ, zero, suc, ◌+◌, ◌-◌, ◌*◌, ◌/◌, ◌%◌, ◌^◌, ◌<◌, ◌≢◌, min, Bool, true, false, not, ◌&&◌, ◌||◌, ◌==◌, ◌⊎◌, inl, inr, refl, sym, ap, ◌∙◌, subst, arith, w64, mul_assoc, bit_and, Width, bit_at, bit_not, trailing_zeros, cases_order, agree_below_at, and_parts, shl-shr, shr-shr, is_in}
+use Rattle.sfi_scan.proofs.Prelude.{◌≡◌, ℕ, zero, suc, ◌+◌, ◌-◌, ◌*◌, ◌/◌, ◌%◌, ◌^◌, ◌<◌, ◌≢◌, min, true, false, not, ◌&&◌, ◌||◌, ◌==◌, ◌⊎◌, inl, inr, refl, sym, ap, ◌∙◌, subst, arith, w64, mul_assoc, bit_and, Width, bit_at, bit_not, trailing_zeros, cases_order, agree_below_at, and_parts, shl-shr, shr-shr, is_in, and_from, both_ways, false_from_ne_true}
 use Rattle.std.specs.Prelude.{max}
 use Rattle.std.proofs.Math.Nat.{zero-div}
 use Rattle.std.proofs.lemmas.Nat.Bits.{bit_at-lt, bit_at_and, bit_at_or, bit_at_not, bit_at_set_other, bit_at-trailing_zeros}
@@ -65,34 +65,19 @@ in_more w P m k h one all i is = go (cases_order i k)
     go (inr (inr g)) = other (λ e. omega (arith, e, g))
 
 pub in_zero : (i : ℕ) → is_in 0 i ≡ false
-in_zero i = ap (λ n. n % 2 == 1) (zero_shr i)
-  where
-    zero_shr : (i : ℕ) → 0 / 2 ^ i ≡ 0
-    zero_shr i = zero-div (2 ^ i)
+in_zero i = ap (λ n. n % 2 == 1) (zero-div (2 ^ i))
 
--- the bits of a byte that is 0
-pub in_none : (m k j : ℕ) → j < 8 → bit_and (m / 2 ^ (8 * k)) 255 ≡ 0 → is_in m (8 * k + j) ≡ false
-in_none m k j h none =
-    let x = m / 2 ^ (8 * k) in
-    sym (in_shr m (8 * k) j) ∙ and_true (is_in x j)
-    ∙ ap (λ b. is_in x j && b) (sym (agree_below_at (λ i. is_in 255 i) (λ i. true) 8 j refl h))
-    ∙ sym (in_and x 255 j) ∙ ap (λ n. is_in n j) none ∙ in_zero j
-  where
-    and_true : (b : Bool) → b ≡ (b && true)
-    and_true true = refl
-    and_true false = refl
+-- masks without a bit that is in both
+pub no_bits : (a b i : ℕ) → bit_and a b ≡ 0 → is_in a i ≡ true → is_in b i ≡ true → ⊥
+no_bits a b i none one two = both_ways (is_in 0 i) (in_zero i) (sym (ap (λ n. is_in n i) none) ∙ in_and a b i ∙ and_from (is_in a i) (is_in b i) one two)
 
 -- a mask of ones has each of eight bits
 pub all_set : (i : ℕ) → i < 8 → is_in 255 i ≡ true
-all_set zero h = refl
-all_set (suc zero) h = refl
-all_set (suc (suc zero)) h = refl
-all_set (suc (suc (suc zero))) h = refl
-all_set (suc (suc (suc (suc zero)))) h = refl
-all_set (suc (suc (suc (suc (suc zero))))) h = refl
-all_set (suc (suc (suc (suc (suc (suc zero)))))) h = refl
-all_set (suc (suc (suc (suc (suc (suc (suc zero))))))) h = refl
-all_set (suc (suc (suc (suc (suc (suc (suc (suc i)))))))) h = absurd (omega arith)
+all_set i h = agree_below_at (λ i. is_in 255 i) (λ i. true) 8 i refl h
+
+-- the bits of a byte that is 0
+pub in_none : (m k j : ℕ) → j < 8 → bit_and (m / 2 ^ (8 * k)) 255 ≡ 0 → is_in m (8 * k + j) ≡ false
+in_none m k j h none = false_from_ne_true (is_in m (8 * k + j)) (λ is. no_bits (m / 2 ^ (8 * k)) 255 j none (in_shr m (8 * k) j ∙ is) (all_set j h))
 
 pub in_all : (i : ℕ) → i < 64 → is_in (2 ^ 64 - 1) i ≡ true
 in_all i h = agree_below_at (λ i. is_in (2 ^ 64 - 1) i) (λ i. true) 64 i refl h

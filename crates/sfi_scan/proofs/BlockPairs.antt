@@ -1,22 +1,18 @@
 -- The words of a data pair, and of a step, of code in words, by their bits.
-use Rattle.sfi_scan.proofs.Prelude.{◌≡◌, ◌≢◌, ℕ, ◌+◌, ◌*◌, ◌/◌, ◌%◌, ◌^◌, ◌<◌, Bool, true, false, not, inr, sym, ap, ap₂, ◌∙◌, arith, bit_and, nat_eq, nat_le, OnTrue, eqb-true, and_mask, and_block, Op, OpImm, Load, Store, Branch, Jal, Jalr, Lui, Auipc, Fence, Ecall, Ebreak, And, Or, spelling, InRange, IsWordOf, Instr, refl, ◌-◌, ◌&&◌, ◌==◌, ℤ, pos, negsuc, inl, Some}
-use Rattle.std.proofs.Common.{eq-eqb}
-use Rattle.std.proofs.lemmas.Bool.{cases_lt, and_from, leb-true, le-leb, lt-ltb}
+use Rattle.sfi_scan.proofs.Prelude.{◌≡◌, ◌≢◌, ℕ, ◌+◌, ◌*◌, ◌/◌, ◌%◌, ◌^◌, ◌<◌, Bool, true, false, not, inr, sym, ap, ap₂, ◌∙◌, arith, bit_and, nat_eq, nat_le, OnTrue, eqb-true, and_mask, and_block, Op, OpImm, Load, Store, And, Or, spelling, InRange, IsWordOf, Instr, refl, ◌-◌, ◌&&◌, ◌==◌, ℤ, pos, negsuc, inl, Some, eq-eqb, cases_lt, and_from, access, IsAccessOf, Access, is_data_register, uses}
+use Rattle.std.proofs.lemmas.Bool.{leb-true, le-leb, lt-ltb, not-false}
 use Rattle.std.proofs.lemmas.Int.{ints}
-use Rattle.rv_word.specs.Accesses.{access, IsAccessOf}
 use Rattle.rv_word.specs.Formats.{i_format, s_format}
 use Rattle.rv_word.specs.Functs.{load_funct3, store_funct3}
 use Rattle.rv_word.specs.Numbers.{modulo}
-use Rattle.rv_word.specs.declared.access.Access.{Access}
 use Rattle.rv_word.specs.declared.instr.LoadKind.{LoadKind}
 use Rattle.rv_word.specs.declared.instr.LoadKind.TheVariants.{Lb, Lh, Lw, Lbu, Lhu}
 use Rattle.rv_word.specs.declared.instr.StoreWidth.{StoreWidth}
 use Rattle.rv_word.specs.declared.instr.StoreWidth.TheVariants.{Sb, Sh, Sw}
 use Rattle.rv_word.specs.Spelling.{IsImm12}
 use Rattle.rv_word.specs.declared.instr.ImmOp.TheVariants.{Addi}
-use Rattle.sfi_policy.specs.Registers.{is_data_register}
 use Rattle.sfi_scan.specs.private.WordBlock.{IsMasking, IsPlacing, IsPair, IsStepOf, IsOffset, IsUseOf, IsUsedStep}
-use Rattle.sfi_rules.specs.words.Rules.{is_small, uses}
+use Rattle.sfi_rules.specs.words.Rules.{is_small}
 use Rattle.sfi_scan.proofs.PairTables.{any_of, kept, without_any, masking_word}
 
 pub masking_told : (word : ℕ) → word < 2 ^ 32 → (r : Bool) → r ≡ nat_eq (bit_and word kept) 28344243 → OnTrue r (IsMasking word)
@@ -113,16 +109,7 @@ unfolding spelling InRange
 load_offset word bit (Load kind rd rs1 imm) is = sym (load_fields (modulo 12 imm) rs1 (load_funct3 kind) rd word is.0.1 (load_small kind) is.0.0 is.1).0
 load_offset word bit (Store width rs1 rs2 imm) is =
     absurd (let one = (store_fields (modulo 12 imm) rs2 rs1 (store_funct3 width) word (modulo_small imm) is.0.1 is.0.0 (store_small width) is.1).1 in let low = sym (and_mask (word / 32) 1) ∙ bit in omega (arith, one, low))
-load_offset word bit (Op op rd rs1 rs2) is = tt
-load_offset word bit (OpImm op rd rs1 imm) is = tt
-load_offset word bit (Branch condition rs1 rs2 offset) is = tt
-load_offset word bit (Jal rd offset) is = tt
-load_offset word bit (Jalr rd rs1 imm) is = tt
-load_offset word bit (Lui rd imm) is = tt
-load_offset word bit (Auipc rd imm) is = tt
-load_offset word bit (Fence imm rd rs1) is = tt
-load_offset word bit Ecall is = tt
-load_offset word bit Ebreak is = tt
+load_offset word bit i is = tt
 
 pub store_offset : (word : ℕ) → bit_and (word / 32) 1 ≢ 0 → (i : Instr) → IsWordOf word i → IsOffset i (word / 33554432 * 32 + bit_and (word / 128) 31)
 unfolding spelling InRange
@@ -130,16 +117,7 @@ store_offset word bit (Load kind rd rs1 imm) is =
     absurd (bit (and_mask (word / 32) 1 ∙ (load_fields (modulo 12 imm) rs1 (load_funct3 kind) rd word is.0.1 (load_small kind) is.0.0 is.1).1))
 store_offset word bit (Store width rs1 rs2 imm) is =
     sym (store_fields (modulo 12 imm) rs2 rs1 (store_funct3 width) word (modulo_small imm) is.0.1 is.0.0 (store_small width) is.1).0 ∙ ap (λ n. word / 33554432 * 32 + n) (sym (and_mask (word / 128) 5))
-store_offset word bit (Op op rd rs1 rs2) is = tt
-store_offset word bit (OpImm op rd rs1 imm) is = tt
-store_offset word bit (Branch condition rs1 rs2 offset) is = tt
-store_offset word bit (Jal rd offset) is = tt
-store_offset word bit (Jalr rd rs1 imm) is = tt
-store_offset word bit (Lui rd imm) is = tt
-store_offset word bit (Auipc rd imm) is = tt
-store_offset word bit (Fence imm rd rs1) is = tt
-store_offset word bit Ecall is = tt
-store_offset word bit Ebreak is = tt
+store_offset word bit i is = tt
 
 -- ---- the use of a step
 
@@ -162,11 +140,7 @@ uses_at d n (Store width rs1 rs2 imm) a range e base offset h =
 uses_at d n i a range e base offset h = absurd cc
 
 pub same_base : (a b : ℕ) → false ≡ not (a == b) → a ≡ b
-same_base a b e = eqb-true a b (by (a == b) e)
-  where
-    by : (p : Bool) → false ≡ not p → p ≡ true
-    by true e = refl
-    by false e = absurd cc
+same_base a b e = eqb-true a b (not-false (a == b) (sym e))
 
 pub use_told : (d word n : ℕ) (a : Access) → IsAccessOf word a → a.base ≡ d → ((i : Instr) → IsWordOf word i → IsOffset i n) → (r : Bool) → r ≡ nat_le (bit_and (n + 1020) 4095) 2040 → OnTrue r (IsUseOf d word)
 use_told d word n a is base offset false e = tt

@@ -1,19 +1,12 @@
 -- The first look at a bundle: what breaks no rule.
-use Rattle.sfi_scan.proofs.Prelude.{◌≡◌, ℕ, ◌==◌, Bool, true, false, List, [], ◌∷◌, Option, Some, None, ℤ, pos, negsuc, of_z, to_z, SFits, refl, sym, ap, ◌∙◌, ◌⊎◌, subst, inl, inr, arith, ◌&&◌, ◌||◌, not, and_parts, and_right, or_parts, OnTrue, Instr, Op, OpImm, Load, Store, Branch, Jal, Jalr, Lui, Auipc, Fence, Ecall, Ebreak, And, Or, outline, spelling, IsWordOf, has_stack, is_stack, BundlePlace, is_reserved, follows_pair, follows_code_pair, Piece, Place, is_last_bundle, is_bundle_start, may_access, lowest, all_rules, IsWordOr0, AreBefore, is_protected, is_clean, is_zero, near}
+use Rattle.sfi_scan.proofs.Prelude.{◌≡◌, ℕ, ◌==◌, Bool, true, false, List, [], ◌∷◌, Option, Some, None, ℤ, pos, negsuc, of_z, to_z, SFits, refl, sym, ap, ◌∙◌, ◌⊎◌, subst, inl, inr, arith, ◌&&◌, ◌||◌, not, and_parts, and_right, or_parts, OnTrue, Instr, Op, OpImm, Load, Store, Branch, Jal, Jalr, Lui, Auipc, Fence, Ecall, Ebreak, And, Or, outline, spelling, IsWordOf, has_stack, is_stack, BundlePlace, is_reserved, follows_pair, follows_code_pair, Piece, Place, is_last_bundle, is_bundle_start, may_access, lowest, all_rules, IsWordOr0, AreBefore, is_protected, is_clean, is_zero, near, Outline, Computes, Loads, Words, not-true, or_left, w32, eq-eqb}
 use Rattle.rv_word.specs.Numbers.{offset_by}
-use Rattle.rv_word.specs.declared.outline.Outline.{Outline}
-use Rattle.rv_word.specs.declared.outline.Outline.TheVariants.{Computes, Loads}
 use Rattle.sfi_rules.specs.Stack.{begins_pair, ends_pair, precedes_pair, is_jump}
-use Rattle.sfi_scan.specs.declared.clean.Words.{Words}
+use Rattle.std.proofs.lemmas.Bool.{or_right}
 use Rattle.std.proofs.lemmas.Int.{to_z-of_z}
-use Rattle.std.proofs.Common.{w32, eq-eqb}
 use Rattle.rv_word.proofs.Facts.{one_spelling}
 
 -- ---- pairs
-
-not_is : (p : Bool) → not p ≡ true → p ≡ false
-not_is true e = sym e
-not_is false e = refl
 
 -- the word of an operation on registers is not 0
 op_word : (t a m : ℕ) → (spelling (Op And t a m) ≡ 0 → ⊥) × (spelling (Op Or t a m) ≡ 0 → ⊥)
@@ -51,7 +44,7 @@ pub pair_told : (words : Words) (m b t a : ℕ) → IsWordOf words.first (Op And
 pair_told words m b t a first second false e earlier are = tt
 pair_told words m b t a first second true e earlier are =
     let both = and_parts (not (t == 0)) (not (is_reserved t)) (sym e) in
-    pair_is words m b t a earlier first second (not_is (t == 0) both.0) (not_is (is_reserved t) both.1) are
+    pair_is words m b t a earlier first second (not-true (t == 0) both.0) (not-true (is_reserved t) both.1) are
 
 -- ---- rules
 
@@ -66,7 +59,7 @@ jump_told b earlier rd base z g f true h = rw (g, f, h) refl
 
 -- what is not protected is not reserved, nor the stack pointer
 free : (b : BundlePlace) (r : ℕ) → not (is_protected b r) ≡ true → (is_reserved r ≡ false) × (is_stack b.format r ≡ false)
-free b r h = or_parts (is_reserved r) (is_stack b.format r) (not_is (is_protected b r) h)
+free b r h = or_parts (is_reserved r) (is_stack b.format r) (not-true (is_protected b r) h)
 
 -- an instruction that is clean there breaks no rule, where the bundle is not the region's last
 clean_one : (b : BundlePlace) (at : ℕ) (earlier : List Instr) (i : Instr) (later : List Piece) (whole : Bool) → is_last_bundle b ≡ false → is_clean b at earlier (outline i) ≡ true
@@ -106,18 +99,6 @@ IsWrite o = (o ≡ Computes 2) ⊎ (o ≡ Loads 2 2)
 pub kind_of : (j i : Instr) → j ≡ i → IsWrite (outline i) → IsWrite (outline j)
 kind_of j i e kind = subst (λ (k : Instr). IsWrite (outline k)) (sym e) kind
 
-or_last : (p q r : Bool) → r ≡ true → (p || q || r) ≡ true
-or_last true q r h = refl
-or_last false true r h = refl
-or_last false false r h = h
-
-or_middle : (p q r : Bool) → q ≡ true → (p || q || r) ≡ true
-or_middle true q r h = refl
-or_middle false q r h = rw h refl
-
-or_first : (p q r : Bool) → p ≡ true → (p || q || r) ≡ true
-or_first p q r h = rw h refl
-
 -- what writes it, and stands where it may
 write_one : (b : BundlePlace) (at : ℕ) (earlier : List Instr) (i : Instr) (later : List Piece) (whole : Bool) → is_last_bundle b ≡ false → has_stack b.format ≡ true → IsWrite (outline i)
     → (begins_pair i later || ends_pair earlier i || (not (is_jump i) && precedes_pair later)) ≡ true
@@ -127,25 +108,8 @@ write_one b at earlier (OpImm op rd rs1 imm) later whole last has (inl e) may = 
 write_one b at earlier (Lui rd imm) later whole last has (inl e) may = let two : rd ≡ 2 = cc in rw (may, last, has, two) refl
 write_one b at earlier (Auipc rd imm) later whole last has (inl e) may = let two : rd ≡ 2 = cc in rw (may, last, has, two) refl
 write_one b at earlier (Load kind rd rs1 imm) later whole last has (inr e) may = let two : rd ≡ 2 = cc in let base : rs1 ≡ 2 = cc in rw (may, last, has, two, base) refl
-write_one b at earlier (Op op rd rs1 rs2) later whole last has (inr e) may = absurd cc
-write_one b at earlier (OpImm op rd rs1 imm) later whole last has (inr e) may = absurd cc
-write_one b at earlier (Lui rd imm) later whole last has (inr e) may = absurd cc
-write_one b at earlier (Auipc rd imm) later whole last has (inr e) may = absurd cc
-write_one b at earlier (Load kind rd rs1 imm) later whole last has (inl e) may = absurd cc
-write_one b at earlier (Store width rs1 rs2 imm) later whole last has (inl e) may = absurd cc
-write_one b at earlier (Store width rs1 rs2 imm) later whole last has (inr e) may = absurd cc
-write_one b at earlier (Branch cond rs1 rs2 offset) later whole last has (inl e) may = absurd cc
-write_one b at earlier (Branch cond rs1 rs2 offset) later whole last has (inr e) may = absurd cc
-write_one b at earlier (Jal rd offset) later whole last has (inl e) may = absurd cc
-write_one b at earlier (Jal rd offset) later whole last has (inr e) may = absurd cc
-write_one b at earlier (Jalr rd rs1 imm) later whole last has (inl e) may = absurd cc
-write_one b at earlier (Jalr rd rs1 imm) later whole last has (inr e) may = absurd cc
-write_one b at earlier (Fence imm rd rs1) later whole last has (inl e) may = absurd cc
-write_one b at earlier (Fence imm rd rs1) later whole last has (inr e) may = absurd cc
-write_one b at earlier Ecall later whole last has (inl e) may = absurd cc
-write_one b at earlier Ecall later whole last has (inr e) may = absurd cc
-write_one b at earlier Ebreak later whole last has (inl e) may = absurd cc
-write_one b at earlier Ebreak later whole last has (inr e) may = absurd cc
+write_one b at earlier i later whole last has (inl e) may = absurd cc
+write_one b at earlier i later whole last has (inr e) may = absurd cc
 
 -- no jump does
 not_jump : (i : Instr) → IsWrite (outline i) → not (is_jump i) ≡ true
@@ -158,17 +122,17 @@ not_jump _ kind = refl
 pub write_quiet : (x : Place) → is_last_bundle x.bundle ≡ false → has_stack x.bundle.format ≡ true → IsWrite (outline x.instr) → precedes_pair x.later ≡ true → lowest x all_rules ≡ []
 write_quiet x last has kind pair =
     write_one x.bundle x.address x.earlier x.instr x.later x.whole last has kind
-    (or_last (begins_pair x.instr x.later) (ends_pair x.earlier x.instr) (not (is_jump x.instr) && precedes_pair x.later) (rw (not_jump x.instr kind, pair) refl))
+    (or_right (begins_pair x.instr x.later || ends_pair x.earlier x.instr) (not (is_jump x.instr) && precedes_pair x.later) (rw (not_jump x.instr kind, pair) refl))
 
 pub masking_quiet : (x : Place) (a : ℕ) → is_last_bundle x.bundle ≡ false → has_stack x.bundle.format ≡ true → x.instr ≡ Op And 2 a 27 → begins_pair (Op And 2 a 27) x.later ≡ true → lowest x all_rules ≡ []
 masking_quiet x a last has e pair =
     write_one x.bundle x.address x.earlier x.instr x.later x.whole last has (inl (ap outline e))
-    (or_first (begins_pair x.instr x.later) (ends_pair x.earlier x.instr) (not (is_jump x.instr) && precedes_pair x.later) (ap (λ (i : Instr). begins_pair i x.later) e ∙ pair))
+    (or_left _ (not (is_jump x.instr) && precedes_pair x.later) (or_left _ (ends_pair x.earlier x.instr) (ap (λ (i : Instr). begins_pair i x.later) e ∙ pair)))
 
 pub placing_quiet : (x : Place) (a : ℕ) → is_last_bundle x.bundle ≡ false → has_stack x.bundle.format ≡ true → x.instr ≡ Op Or 2 2 26 → (near x.earlier).second ≡ Some (Op And 2 a 27) → lowest x all_rules ≡ []
 placing_quiet x a last has e before =
     write_one x.bundle x.address x.earlier x.instr x.later x.whole last has (inl (ap outline e))
-    (or_middle (begins_pair x.instr x.later) (ends_pair x.earlier x.instr) (not (is_jump x.instr) && precedes_pair x.later) (ap (ends_pair x.earlier) e ∙ ends x.earlier before))
+    (or_left _ (not (is_jump x.instr) && precedes_pair x.later) (or_right (begins_pair x.instr x.later) _ (ap (ends_pair x.earlier) e ∙ ends x.earlier before)))
   where
     ends : (earlier : List Instr) → (near earlier).second ≡ Some (Op And 2 a 27) → ends_pair earlier (Op Or 2 2 26) ≡ true
     ends [] h = absurd cc

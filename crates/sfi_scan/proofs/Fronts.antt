@@ -1,8 +1,8 @@
 -- The walk over a stretch, front by front. What is told of the bundles of a stretch is a parameter: a
 -- relation of the first one's place, the bytes and how many they are.
-use Rattle.sfi_scan.proofs.Prelude.{◌≡◌, ℕ, ◌+◌, ◌-◌, ◌*◌, ◌^◌, ◌<◌, ◌≤◌, List, length, take, drop, min, sym, ap, ◌∙◌, subst, arith, BundlePlace, block_bundle, IsWithin}
-use Rattle.sfi_scan.specs.Stretches.{IsStretch, stretch_place}
-use Rattle.sfi_scan.specs.private.Scanning.{IsBlockStart, IsFront, IsRun}
+use Rattle.sfi_scan.proofs.Prelude.{◌≡◌, ℕ, ◌+◌, ◌-◌, ◌*◌, ◌^◌, ◌<◌, ◌≤◌, List, length, take, drop, min, sym, ap, ◌∙◌, subst, arith, BundlePlace, block_bundle, IsWithin, stretch_place, IsRun}
+use Rattle.sfi_scan.specs.Stretches.{IsStretch}
+use Rattle.sfi_scan.specs.private.Scanning.{IsBlockStart, IsFront}
 use Rattle.sfi_scan.proofs.Stretches.{place_on, place_address, place_base, place_size, front_bundle, rest_bundle}
 
 -- a bundle of a stretch lies in its region

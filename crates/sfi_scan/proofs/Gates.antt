@@ -1,16 +1,13 @@
 -- A part's code from gate to gate: each stretch begins at one, but the first, and no gate lies within.
-use Rattle.sfi_scan.proofs.Prelude.{◌++◌, bundle_bytes, ◌≡◌, ℕ, zero, suc, ◌+◌, ◌-◌, ◌*◌, ◌<◌, ◌≤◌, ◌==◌, ◌⊎◌, Bool, true, false, List, [], ◌∷◌, length, take, drop, get_or, inl, inr, refl, sym, ap, ◌∙◌, subst, arith, ◌||◌, ne_eqb, length-drop, length-take, BundlePlace, Finding, Part, place_of, block_bundle}
-use Rattle.std.proofs.Common.{eq-eqb, ◌/◌}
+use Rattle.sfi_scan.proofs.Prelude.{◌++◌, bundle_bytes, ◌≡◌, ℕ, zero, suc, ◌+◌, ◌-◌, ◌*◌, ◌<◌, ◌≤◌, ◌==◌, ◌⊎◌, Bool, true, false, List, [], ◌∷◌, length, take, drop, get_or, inl, inr, refl, sym, ap, ◌∙◌, subst, arith, ne_eqb, length-drop, length-take, BundlePlace, Finding, Part, place_of, block_bundle, eq-eqb, ◌/◌, Owed, Nothing, AreFoundUpTo, stretch_place}
 use Rattle.std.proofs.lemmas.List.{get_or_default}
+use Rattle.std.proofs.lemmas.Bool.{or_right}
 use Rattle.sfi_image.specs.Gates.{is_gate_of}
 use Rattle.sfi_image.specs.Parts.{IsRightPart}
 use Rattle.sfi_image.specs.declared.part.Gate.{Gate}
 use Rattle.sfi_image.proofs.Facts.{whole_bundles}
-use Rattle.sfi_rules.specs.declared.owed.Owed.{Owed}
-use Rattle.sfi_rules.specs.declared.owed.Owed.TheVariants.{Nothing}
-use Rattle.sfi_rules.specs.Findings.{AreFoundUpTo}
 use Rattle.sfi_rules.proofs.Facts.{none_found}
-use Rattle.sfi_scan.specs.Stretches.{IsStretch, AreFoundInStretch, stretch_place}
+use Rattle.sfi_scan.specs.Stretches.{IsStretch, AreFoundInStretch}
 use Rattle.sfi_scan.proofs.WordStretches.{found_in_part}
 use Rattle.sfi_scan.specs.Listing.{Lists}
 use Rattle.sfi_scan.proofs.Stretches.{front_bundle, rest_bundle}
@@ -30,11 +27,7 @@ no_gate (g ∷ gs) a none = rw (ne_eqb g.address a (λ e. none 0 g (omega arith)
 one_gate : (gs : List Gate) (k : ℕ) (d : Gate) → k < length gs → is_gate_of gs (get_or gs k d).address ≡ true
 one_gate [] k d less = absurd (omega arith)
 one_gate (g ∷ gs) zero d less = rw (eq-eqb g.address g.address refl) refl
-one_gate (g ∷ gs) (suc k) d less = rw (one_gate gs k d (omega arith)) (or_true (g.address == (get_or gs k d).address))
-  where
-    or_true : (b : Bool) → (b || true) ≡ true
-    or_true true = refl
-    or_true false = refl
+one_gate (g ∷ gs) (suc k) d less = rw (one_gate gs k d (omega arith)) (or_right (g.address == (get_or gs k d).address) true refl)
 
 -- ---- where the scan stands
 
@@ -127,16 +120,24 @@ pub record IsBefore (p : Part) (i at a : ℕ) : Type 0 where
   pub high : a < p.code_base + length p.code
   pub next : IsNext p i at (a - p.code_base) ((a - p.code_base - at) / 16)
 
-module _ {sandbox : ℕ} {p : Part} {i : ℕ} {b : BundlePlace} {at : ℕ} {found : List Finding} {owed : Owed} {lacks : Bool} (right : IsRightPart p) (here : IsAtGate sandbox p i b at found owed lacks) where
+-- the gates of the loop, whose addresses are the part's
+module _ {sandbox : ℕ} {p : Part} {i : ℕ} {b : BundlePlace} {at : ℕ} {found : List Finding} {owed : Owed} {lacks : Bool} (right : IsRightPart p) (here : IsAtGate sandbox p i b at found owed lacks) {gates : List Gate} (same : gates ≡ p.gates) where
+  is_at : i < length gates → (d : Gate) → (get_or p.gates i d).address ≡ (get_or gates i unlisted).address
+  is_at less d =
+      let inside : i < length p.gates = omega (arith, ap length same, less) in
+      ap (λ (g : Gate). g.address) (get_or_default p.gates i d unlisted inside) ∙ ap (λ (l : List Gate). (get_or l i unlisted).address) (sym same)
+
   -- the stretch to the next gate
-  to_gate : {a : ℕ} → i < length p.gates → ((d : Gate) → (get_or p.gates i d).address ≡ a) → IsBefore p i at a
-  to_gate {a = a} less is =
+  pub next_gate : i < length gates → IsBefore p i at (get_or gates i unlisted).address
+  next_gate short =
+      let a = (get_or gates i unlisted).address in
+      let less : i < length p.gates = omega (arith, ap length same, short) in
       let whole = whole_bundles p.format p.code_base (length p.code) right.code_base right.code_placed in
       let start = right.gates.starts i unlisted less in
       let low = start.held.0 in
       let high = start.held.1 in
       let even = start.aligned in
-      let a_is = is unlisted in
+      let a_is = is_at short unlisted in
       let base_is = whole.3 in
       let at_is = here.at_is in
       let on : p.code_base + at ≤ a = elim here.last [
@@ -150,8 +151,8 @@ module _ {sandbox : ℕ} {p : Part} {i : ℕ} {b : BundlePlace} {at : ℕ} {foun
           end_is = omega arith;
           inside = omega arith;
           gates = λ k e from inside. elim (cases_le i k from) [
-            | inl same ↦ (let at_k : (get_or p.gates k e).address ≡ a = ap (λ (x : ℕ). (get_or p.gates x e).address) (sym same) ∙ is e in omega arith)
-            | inr more ↦ (let up = right.gates.ascending i k e more inside in let at_i = is e in omega arith)
+            | inl same_one ↦ (let at_k : (get_or p.gates k e).address ≡ a = ap (λ (x : ℕ). (get_or p.gates x e).address) (sym same_one) ∙ is_at short e in omega arith)
+            | inr more ↦ (let up = right.gates.ascending i k e more inside in let at_i = is_at short e in omega arith)
           ];
         };
       }
@@ -160,50 +161,38 @@ module _ {sandbox : ℕ} {p : Part} {i : ℕ} {b : BundlePlace} {at : ℕ} {foun
       cases_le i k h = grind arith
 
   -- the stretch to the code's end
-  to_end : length p.gates ≤ i → IsNext p i at (length p.code) ((length p.code - at) / 16)
-  to_end over =
+  pub next_end : length gates ≤ i → IsNext p i at (length p.code) ((length p.code - at) / 16)
+  next_end over =
+      let count = ap length same in
       let whole = whole_bundles p.format p.code_base (length p.code) right.code_base right.code_placed in
       let size_is = whole.2 in
       let at_is = here.at_is in
       let inside = here.inside in
       record { end_is = omega arith; inside = omega arith; gates = λ k e from less. absurd (omega arith) }
 
-  -- the gate of that number in the loop over these gates, whose addresses are the part's
-  module _ {gates : List Gate} (same : gates ≡ p.gates) where
-    is_at : i < length gates → (d : Gate) → (get_or p.gates i d).address ≡ (get_or gates i unlisted).address
-    is_at less d =
-        let inside : i < length p.gates = omega (arith, ap length same, less) in
-        ap (λ (g : Gate). g.address) (get_or_default p.gates i d unlisted inside) ∙ ap (λ (l : List Gate). (get_or l i unlisted).address) (sym same)
-
-    pub next_gate : i < length gates → IsBefore p i at (get_or gates i unlisted).address
-    next_gate less = to_gate (omega (arith, ap length same, less)) (is_at less)
-
-    pub next_end : length gates ≤ i → IsNext p i at (length p.code) ((length p.code - at) / 16)
-    next_end over = to_end (omega (arith, ap length same, over))
-
-    -- the code up to it is scanned
-    pub at_next : {j : ℕ} {c : BundlePlace} {end : ℕ} {new : List Finding} {next_owed : Owed} {lacks' : Bool} (more : List Finding) → i < length gates → j ≡ i + 1 → end ≡ (get_or gates i unlisted).address - p.code_base
-        → c ≡ record b { address = (get_or gates i unlisted).address; listed = true } → AreFoundInStretch b owed (take (end - at) (drop at p.code)) ((end - at) / 16) more next_owed → Lists found lacks more new lacks'
-        → IsAtGate sandbox p j c end new next_owed lacks'
-    at_next {end = end} {next_owed = next_owed} more less on end_is place are lists =
-        let a = (get_or gates i unlisted).address in
-        let next = next_gate less in
-        let n = (end - at) / 16 in
-        let low = next.low in
-        let high = next.high in
-        let at_is = here.at_is in
-        let next_is = subst (λ (e : ℕ). IsNext p i at e ((e - at) / 16)) (sym end_is) next.next in
-        let step = next_is.end_is in
-        let address : a ≡ p.code_base + 16 * (here.bundles + n) = omega arith in
-        record {
-          bundles = here.bundles + n;
-          at_is = omega arith;
-          inside = omega arith;
-          place_is = place ∙ ap (λ (x : BundlePlace). record x { address = a; listed = true }) here.place_is ∙ ap (λ (x : ℕ). record (place_of sandbox p 0) { address = x; listed = true }) address
-              ∙ ap (λ (l : Bool). record (place_of sandbox p (here.bundles + n)) { listed = l }) (sym (ap (λ (x : BundlePlace). x.listed) place));
-          last = inr (i, on, omega (arith, ap length same, less), ap (λ (x : BundlePlace). x.listed) place, λ d. is_at less d ∙ (let e : a ≡ p.code_base + end = omega arith in e));
-          found_are = next_found right here next_is more next_owed are lists;
-        }
+  -- the code up to it is scanned
+  pub at_next : {j : ℕ} {c : BundlePlace} {end : ℕ} {new : List Finding} {next_owed : Owed} {lacks' : Bool} (more : List Finding) → i < length gates → j ≡ i + 1 → end ≡ (get_or gates i unlisted).address - p.code_base
+      → c ≡ record b { address = (get_or gates i unlisted).address; listed = true } → AreFoundInStretch b owed (take (end - at) (drop at p.code)) ((end - at) / 16) more next_owed → Lists found lacks more new lacks'
+      → IsAtGate sandbox p j c end new next_owed lacks'
+  at_next {end = end} {next_owed = next_owed} more less on end_is place are lists =
+      let a = (get_or gates i unlisted).address in
+      let next = next_gate less in
+      let n = (end - at) / 16 in
+      let low = next.low in
+      let high = next.high in
+      let at_is = here.at_is in
+      let next_is = subst (λ (e : ℕ). IsNext p i at e ((e - at) / 16)) (sym end_is) next.next in
+      let step = next_is.end_is in
+      let address : a ≡ p.code_base + 16 * (here.bundles + n) = omega arith in
+      record {
+        bundles = here.bundles + n;
+        at_is = omega arith;
+        inside = omega arith;
+        place_is = place ∙ ap (λ (x : BundlePlace). record x { address = a; listed = true }) here.place_is ∙ ap (λ (x : ℕ). record (place_of sandbox p 0) { address = x; listed = true }) address
+            ∙ ap (λ (l : Bool). record (place_of sandbox p (here.bundles + n)) { listed = l }) (sym (ap (λ (x : BundlePlace). x.listed) place));
+        last = inr (i, on, omega (arith, ap length same, less), ap (λ (x : BundlePlace). x.listed) place, λ d. is_at less d ∙ (let e : a ≡ p.code_base + end = omega arith in e));
+        found_are = next_found right here next_is more next_owed are lists;
+      }
 
 -- at first
 pub at_first : (sandbox : ℕ) (p : Part) → IsRightPart p → IsAtGate sandbox p 0 (record (place_of sandbox p 0) { address = p.code_base; listed = false }) 0 [] Nothing false

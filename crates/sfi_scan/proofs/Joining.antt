@@ -1,5 +1,5 @@
 -- The bundles of a block are read from start to start, and what begins at each breaks no rule.
-use Rattle.sfi_scan.proofs.Prelude.{◌≡◌, ℕ, zero, suc, ◌+◌, ◌-◌, ◌*◌, ◌/◌, ◌%◌, ◌<◌, ◌≤◌, Bool, true, false, not, cond, List, [], length, take, drop, ◌⊎◌, inl, inr, refl, sym, ap, ◌∙◌, subst, arith, length-drop, cases_order, ne_eqb, length-take, drop-take, take-take, drop-drop, Instr, has_stack, is_in, BundlePlace, IsWithinBlock, bundle_at, block_bundle, AreReadingFindings, is_last_bundle, AreStarts, AreAfterTwo, offset, words_from, IsSpelledAt, IsCleanIn, IsCleanAt, IsWritten, IsOfWrite, word_at, AreWordsFrom, IsCleanOne, IsStackWrite, AreStackPair}
+use Rattle.sfi_scan.proofs.Prelude.{◌≡◌, ℕ, zero, suc, ◌+◌, ◌-◌, ◌*◌, ◌/◌, ◌%◌, ◌<◌, ◌≤◌, Bool, true, false, not, cond, List, [], length, take, drop, ◌⊎◌, inl, inr, refl, sym, ap, ◌∙◌, subst, arith, length-drop, cases_order, ne_eqb, length-take, drop-take, take-take, drop-drop, Instr, has_stack, is_in, BundlePlace, IsWithinBlock, bundle_at, block_bundle, AreReadingFindings, is_last_bundle, AreStarts, AreAfterTwo, offset, words_from, IsSpelledAt, IsCleanIn, IsCleanAt, IsWritten, IsOfWrite, word_at, AreWordsFrom, IsCleanOne, IsStackWrite, AreStackPair, both_ways, false_from_ne_true}
 use Rattle.sfi_scan.proofs.Look.{Looks, looks_first, looks_half, looks_word, looks_write, looks_masking, looks_placing}
 use Rattle.sfi_scan.proofs.Walk.{at_last}
 
@@ -58,19 +58,12 @@ reached_first b bytes words k = record {
   two = λ m e w v. absurd (omega (arith, e));
 }
 
-true_false : (p : Bool) → p ≡ true → p ≡ false → ⊥
-true_false p e f = let no : true ≡ false = sym e ∙ f in cc
-
 -- what follows a word's first half is no start
 no_start : (starts words : ℕ) → AreStarts starts words → (i : ℕ) → i < 63 → is_in words i ≡ true → is_in starts (i + 1) ≡ false
 no_start starts words marks i h is = marks.next i h ∙ ap not is
 
 no_word : (starts words : ℕ) → AreStarts starts words → (i : ℕ) → is_in starts i ≡ false → is_in words i ≡ false
-no_word starts words marks i out = by (is_in words i) refl
-  where
-    by : (w : Bool) → is_in words i ≡ w → w ≡ false
-    by false e = refl
-    by true e = absurd (true_false (is_in starts i) (marks.only i e) out)
+no_word starts words marks i out = false_from_ne_true (is_in words i) (λ is. both_ways (is_in starts i) out (marks.only i is))
 
 -- what the rest of the walk needs of a place that is reached
 record Next (b : BundlePlace) (bytes : List ℕ) (starts words k j : ℕ) : Type 0 where
@@ -92,7 +85,7 @@ after_half b block starts words after k j count below last marks lt start short 
     let stuck : (m : ℕ) → m + 1 ≡ j → is_in words (8 * k + m) ≡ true → ⊥ =
     λ m same w.
     let f : 8 * k + m + 1 ≡ 8 * k + j = omega (arith, same) in
-    true_false (is_in starts (8 * k + j)) start (ap (is_in starts) (sym f) ∙ no_start starts words marks (8 * k + m) (omega (arith, same, lt, below)) w) in
+    both_ways (is_in starts (8 * k + j)) (ap (is_in starts) (sym f) ∙ no_start starts words marks (8 * k + m) (omega (arith, same, lt, below)) w) start in
     record {
       place = j + 1;
       further = omega arith;

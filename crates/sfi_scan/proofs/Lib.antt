@@ -27,4 +27,3 @@ pub mod WordReadings
 pub mod WordRules
 pub mod WordSteps
 pub mod WordStretches
-pub mod WordsAt

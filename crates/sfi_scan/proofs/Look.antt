@@ -1,10 +1,8 @@
 -- The first look walks as the scan does, and finds nothing.
-use Rattle.sfi_scan.proofs.Prelude.{◌≡◌, ℕ, ◌+◌, ◌<◌, ◌≤◌, false, true, List, [], ◌∷◌, length, take, drop, Some, None, refl, sym, ap, ◌∙◌, subst, inl, inr, arith, length-drop, length-take, drop-drop, Instr, outline, IsWordOf, Spells, Read, has_stack, Before, BundlePlace, near, Place, is_last_bundle, lowest, all_rules, Op, And, Or, Piece, IsLongestReading, half_at, word_at, AreWordsFrom, IsCleanOne, is_clean, IsStackWrite, AreStackPair}
-use Rattle.rv_comp.specs.Halfwords.{IsShortSpelling}
+use Rattle.sfi_scan.proofs.Prelude.{◌≡◌, ℕ, ◌+◌, ◌<◌, ◌≤◌, false, true, List, [], ◌∷◌, length, take, drop, Some, None, refl, sym, ap, ◌∙◌, subst, inl, inr, arith, length-drop, length-take, drop-drop, Instr, outline, IsWordOf, Spells, has_stack, Before, BundlePlace, near, Place, is_last_bundle, lowest, all_rules, Op, And, Or, Piece, IsLongestReading, half_at, word_at, AreWordsFrom, IsCleanOne, is_clean, IsStackWrite, AreStackPair, IsShortSpelling}
 use Rattle.sfi_rules.specs.Stack.{begins_pair, precedes_pair}
-use Rattle.sfi_scan.proofs.After.{IsOnly, Begins, begins}
+use Rattle.sfi_scan.proofs.After.{Begins, begins}
 use Rattle.sfi_scan.proofs.FirstLook.{clean_is, kind_of, write_quiet, masking_quiet, placing_quiet, masking_before}
-use Rattle.sfi_rules.proofs.Readings.{front_one}
 use Rattle.sfi_scan.proofs.Walk.{Leads, next, at_first}
 
 -- at this place, with nothing found, and with words from another place on
@@ -39,10 +37,6 @@ near_step i [] = refl
 near_step i (a ∷ []) = refl
 near_step i (a ∷ b ∷ earlier) = refl
 
--- what the front of the bytes spells is the only thing that it spells
-only_here : (bytes : List ℕ) (i : Instr) (n : ℕ) → Spells (take n bytes) i n → IsOnly bytes i n
-only_here bytes i n spelled j m s = ap (λ (x : Piece). Read x.instr x.size) (front_one bytes (record { instr = i; size = n }) (record { instr = j; size = m }) spelled s)
-
 -- after an instruction of n bytes that breaks no rule
 looks_quiet : (b : BundlePlace) (bytes : List ℕ) (at n from after_from : ℕ) (i : Instr)
     → length bytes ≡ 16 → (l : Looks b bytes at from)
@@ -54,7 +48,7 @@ looks_quiet b bytes at n from after_from i count l spelled quiet words order =
     let after_it : Before = record { first = l.before.second; second = Some i } in (
       record {
         before = after_it;
-        so_far = next b bytes at n l.before after_it [] i None count l.so_far spelled (only_here (drop at bytes) i n spelled)
+        so_far = next b bytes at n l.before after_it [] i None count l.so_far spelled
             (λ x place address near_is instr whole longest. quiet x place address near_is instr longest)
             (λ earlier h. sym (near_step i earlier ∙ ap (λ (y : Before). record { first = y.second; second = Some i }) h));
         words_are = words;
@@ -122,8 +116,7 @@ looks_as b bytes at from i count below l is quiet =
 
 -- what the rest of the bytes begins with, where a word stands there
 ahead_is : (bytes : List ℕ) (at : ℕ) (i : Instr) → length bytes ≡ 16 → at ≤ 12 → IsWordOf (word_at bytes at) i → (later : List Piece) → IsLongestReading (drop at bytes) later → Begins (drop at bytes) i 4 later
-ahead_is bytes at i count below is later longest =
-    let here = spelled_at bytes at i count below is in begins (drop at bytes) i 4 here (only_here (drop at bytes) i 4 here) later longest
+ahead_is bytes at i count below is later longest = begins (drop at bytes) i 4 (spelled_at bytes at i count below is) later longest
 
 abbrev masking : ℕ → Instr
 masking any = Op And 2 any 27

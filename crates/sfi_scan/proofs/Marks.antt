@@ -1,7 +1,8 @@
 -- Where the instructions of a block begin.
-use Rattle.sfi_scan.proofs.Prelude.{◌≡◌, ℕ, zero, suc, ◌+◌, ◌-◌, ◌*◌, ◌/◌, ◌%◌, ◌^◌, ◌<◌, ◌≤◌, Bool, true, false, not, ◌&&◌, ◌==◌, refl, sym, ap, ◌∙◌, arith, rules, tests, w64, mod-lt, pow_pos, bit_and, nat_le, nat_eq, OnTrue, bit_not, agree_below_at, and_parts, eqb-true, is_in, AreStarts, AreAfterTwo, AreThreeWords}
+use Rattle.sfi_scan.proofs.Prelude.{◌≡◌, ℕ, zero, suc, ◌+◌, ◌-◌, ◌*◌, ◌/◌, ◌%◌, ◌^◌, ◌<◌, ◌≤◌, Bool, true, false, not, ◌==◌, refl, sym, ap, ◌∙◌, arith, w64, mod-lt, pow_pos, bit_and, nat_le, nat_eq, OnTrue, bit_not, agree_below_at, and_parts, eqb-true, is_in, AreStarts, AreAfterTwo, AreThreeWords, false_from_ne_true}
 use Rattle.sfi_scan.specs.declared.block.TheConstants.{FIRST_THREE, LAST, LAST_FOUR}
-use Rattle.sfi_scan.proofs.Bits.{shl, in_and, in_not, in_shl, in_shl_low, in_shr, in_zero}
+use Rattle.std.proofs.lemmas.Bool.{leb-true}
+use Rattle.sfi_scan.proofs.Bits.{shl, in_and, in_not, in_rest, in_shl, in_shl_low, in_shr, no_bits}
 
 -- ---- the last halfwords of the bundles
 
@@ -14,17 +15,11 @@ last_four_is i h = agree_below_at (λ i. is_in LAST_FOUR i) (λ i. nat_le 4 (i %
 -- ---- where they begin
 
 -- a mask with none of the last halfwords
-none_last : (m : ℕ) → bit_and m LAST ≡ 0 → (i : ℕ) → i < 64 → i % 8 ≡ 7 → is_in m i ≡ false
-none_last m none i h seven =
-    let there : is_in LAST i ≡ true = last_is i h ∙ ap (λ r. r == 7) seven in
-    and_true (is_in m i) ∙ ap (λ b. is_in m i && b) (sym there) ∙ sym (in_and m LAST i) ∙ ap (λ n. is_in n i) none ∙ in_zero i
-  where
-    and_true : (b : Bool) → b ≡ (b && true)
-    and_true true = refl
-    and_true false = refl
-
 not_inside : (m : ℕ) → bit_and m LAST ≡ 0 → (i : ℕ) → i < 64 → is_in m i ≡ true → (i % 8 ≡ 7) → ⊥
-not_inside m none i h is seven = let no : true ≡ false = sym is ∙ none_last m none i h seven in cc
+not_inside m none i h is seven = no_bits m LAST i none is (last_is i h ∙ ap (λ r. r == 7) seven)
+
+none_last : (m : ℕ) → bit_and m LAST ≡ 0 → (i : ℕ) → i < 64 → i % 8 ≡ 7 → is_in m i ≡ false
+none_last m none i h seven = false_from_ne_true (is_in m i) (λ is. not_inside m none i h is seven)
 
 next_start : (starts words : ℕ) → starts ≡ bit_not w64 (shl words 1) → (i : ℕ) → i < 63 → is_in starts (i + 1) ≡ not (is_in words i)
 next_start starts words is i h =
@@ -44,7 +39,7 @@ starts_are starts long is none =
     record {
       first = first_start starts words is none;
       next = next_start starts words is;
-      only = λ i h. (and_parts (is_in starts i) (is_in long i) (sym (in_and starts long i) ∙ h)).0;
+      only = in_rest starts long;
       inside = λ i h is. let seven = not_inside words none i h is in omega (arith, seven);
     }
 
@@ -54,9 +49,6 @@ starts_told starts long is true e = starts_are starts long is (eqb-true _ 0 (sym
 
 -- ---- two words before
 
-le_of : (r : ℕ) → nat_le 4 r ≡ true → 4 ≤ r
-le_of r e = search (rules, tests)
-
 abbrev pairs : ℕ → ℕ
 pairs words = bit_and words (words / 2 ^ 2)
 
@@ -64,7 +56,7 @@ parts : (words i : ℕ) → is_in (bit_and (shl (pairs words) 4) LAST_FOUR) i �
 parts words i is = and_parts (is_in (shl (pairs words) 4) i) (is_in LAST_FOUR i) (sym (in_and (shl (pairs words) 4) LAST_FOUR i) ∙ is)
 
 high : (words i : ℕ) → i < 64 → is_in (bit_and (shl (pairs words) 4) LAST_FOUR) i ≡ true → 4 ≤ i % 8
-high words i h is = le_of (i % 8) (sym (last_four_is i h) ∙ (parts words i is).1)
+high words i h is = leb-true 4 (i % 8) (sym (last_four_is i h) ∙ (parts words i is).1)
 
 two : (words i : ℕ) → i < 64 → is_in (bit_and (shl (pairs words) 4) LAST_FOUR) i ≡ true → (is_in words (i - 4) ≡ true) × (is_in words (i - 2) ≡ true)
 two words i h is =
@@ -87,9 +79,6 @@ after_two_is words = record {
 first_three_is : (i : ℕ) → i < 64 → is_in FIRST_THREE i ≡ nat_le (i % 8) 2
 first_three_is i h = agree_below_at (λ i. is_in FIRST_THREE i) (λ i. nat_le (i % 8) 2) 64 i refl h
 
-few_of : (r : ℕ) → nat_le r 2 ≡ true → r ≤ 2
-few_of r e = search (rules, tests)
-
 three_parts : (words i : ℕ) → is_in (bit_and (bit_and (bit_and words (words / 4)) (words / 16)) FIRST_THREE) i ≡ true
     → (is_in words i ≡ true) × (is_in words (i + 2) ≡ true) × (is_in words (i + 4) ≡ true) × (is_in FIRST_THREE i ≡ true)
 three_parts words i is =
@@ -104,7 +93,7 @@ three_parts words i is =
 
 pub three_words_are : (words : ℕ) → AreThreeWords words (bit_and (bit_and (bit_and words (words / 4)) (words / 16)) FIRST_THREE)
 three_words_are words = record {
-  low = λ i h is. few_of (i % 8) (sym (first_three_is i h) ∙ (three_parts words i is).3);
+  low = λ i h is. leb-true (i % 8) 2 (sym (first_three_is i h) ∙ (three_parts words i is).3);
   first = λ i h is. (three_parts words i is).0;
   second = λ i h is. (three_parts words i is).1;
   third = λ i h is. (three_parts words i is).2;

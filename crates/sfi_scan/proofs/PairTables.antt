@@ -46,7 +46,7 @@ placing_word word t lt e = ((lt, lt, omega arith), e)
 too_large : (word : ℕ) → bit_and word kept ≡ 0xffff_ffff → ⊥
 too_large word e = let le = and_le_r word kept in omega (arith, le, e)
 
-second : (a b : Bool) → a ≡ false → (a || b) ≡ true → b ≡ true
+pub second : (a b : Bool) → a ≡ false → (a || b) ≡ true → b ≡ true
 second true b e h = cc
 second false b e h = h
 

@@ -1,8 +1,9 @@
 -- Whatever begins in a bundle with none of the places that are left is clean.
-use Rattle.sfi_scan.proofs.Prelude.{◌≡◌, ℕ, ◌%◌, ◌^◌, ◌<◌, Bool, true, false, not, ◌&&◌, inl, inr, List, refl, sym, ap, ◌∙◌, subst, w64, bit_and, bit_not, and_parts, is_in, AreMasks, IsFreeAccess, has_stack, BundlePlace, AreStarts, IsCleanAt, IsOfWrite, IsWithout}
+use Rattle.sfi_scan.proofs.Prelude.{◌≡◌, ℕ, ◌%◌, ◌^◌, ◌<◌, Bool, true, false, not, ◌&&◌, inl, inr, List, refl, sym, ap, ◌∙◌, subst, w64, bit_and, bit_not, is_in, AreMasks, IsFreeAccess, has_stack, BundlePlace, AreStarts, IsCleanAt, IsOfWrite, IsWithout, both_ways}
+use Rattle.std.proofs.lemmas.Bool.{true_from_ne_false}
 use Rattle.sfi_masks.specs.declared.masks.Masks.{Masks}
 use Rattle.sfi_masks.specs.Masks.{word_at}
-use Rattle.sfi_scan.proofs.Bits.{in_and, in_not}
+use Rattle.sfi_scan.proofs.Bits.{in_and, in_not, in_rest, in_rest_other}
 use Rattle.sfi_scan.proofs.Joining.{IsQuietAt}
 use Rattle.sfi_scan.proofs.Starts.{free_half, free_word}
 
@@ -14,10 +15,7 @@ abbrev accesses : ℕ → ℕ → Masks → ℕ
 accesses left words m = bit_and (bit_and left words) m.access
 
 access_parts : (left words : ℕ) (m : Masks) (i : ℕ) → is_in (accesses left words m) i ≡ true → (is_in words i ≡ true) × (is_in m.access i ≡ true)
-access_parts left words m i h =
-    let both = and_parts (is_in (bit_and left words) i) (is_in m.access i) (sym (in_and (bit_and left words) m.access i) ∙ h) in
-    let first = and_parts (is_in left i) (is_in words i) (sym (in_and left words i) ∙ both.0) in
-    (first.1, both.1)
+access_parts left words m i h = (in_rest_other left words i (in_rest (bit_and left words) m.access i h), in_rest_other (bit_and left words) m.access i h)
 
 pub access_inside : (starts left : ℕ) (m : Masks) → AreStarts starts (bit_and starts m.long) → (i : ℕ) → i < 64 → is_in (accesses left (bit_and starts m.long) m) i ≡ true → i % 8 < 7
 access_inside starts left m marks i lt h = marks.inside i lt (access_parts left (bit_and starts m.long) m i h).0
@@ -26,12 +24,12 @@ pub access_free : (stack : Bool) (bytes : List ℕ) (starts left : ℕ) (m : Mas
     → IsFreeAccess stack (word_at bytes i)
 access_free stack bytes starts left m are marks i lt h = are.access i (access_inside starts left m marks i lt h) lt (access_parts left (bit_and starts m.long) m i h).1
 
--- what is in one mask and not in the other is left
+-- what is in one mask and not in the other is left; so what isn't left is in the other
 pub stays : (a b rest i : ℕ) → IsWithout a b rest → i < 64 → is_in a i ≡ true → is_in b i ≡ false → is_in rest i ≡ true
 stays a b rest i without lt e f = without i lt ∙ ap (λ p. p && not (is_in b i)) e ∙ ap not f
 
-pub no_both : (p : Bool) → p ≡ true → p ≡ false → ⊥
-no_both p e f = let none : true ≡ false = sym e ∙ f in cc
+pub taken : (a b rest i : ℕ) → IsWithout a b rest → i < 64 → is_in a i ≡ true → is_in rest i ≡ false → is_in b i ≡ true
+taken a b rest i without lt e none = true_from_ne_false (is_in b i) (λ no. both_ways (is_in rest i) none (stays a b rest i without lt e no))
 
 free_at : (b : BundlePlace) (block : List ℕ) (stack : Bool) (starts : ℕ) (m : Masks) (after i : ℕ) → stack ≡ has_stack b.format → AreMasks stack block m → AreStarts starts (bit_and starts m.long) → i < 64
     → is_in starts i ≡ true → is_in m.free i ≡ true → IsCleanAt b block (is_in (bit_and starts m.long) i) after i
@@ -46,11 +44,7 @@ free_at b block stack starts m after i is are marks lt start free = by (is_in (b
 
 pub free_start : (b : BundlePlace) (block : List ℕ) (stack : Bool) (starts : ℕ) (m : Masks) (after left i : ℕ) → stack ≡ has_stack b.format → AreMasks stack block m → AreStarts starts (bit_and starts m.long)
     → IsWithout starts m.free left → i < 64 → is_in left i ≡ false → is_in starts i ≡ true → IsCleanAt b block (is_in (bit_and starts m.long) i) after i
-free_start b block stack starts m after left i is are marks first lt none start = by (is_in m.free i) refl
-  where
-    by : (f : Bool) → is_in m.free i ≡ f → IsCleanAt b block (is_in (bit_and starts m.long) i) after i
-    by true e = free_at b block stack starts m after i is are marks lt start e
-    by false e = absurd (no_both (is_in left i) (stays starts m.free left i first lt start e) none)
+free_start b block stack starts m after left i is are marks first lt none start = free_at b block stack starts m after i is are marks lt start (taken starts m.free left i first lt start none)
 
 pub seen : (b : BundlePlace) (block : List ℕ) (stack : Bool) (starts : ℕ) (m : Masks) (after left paired others clean rest written final i : ℕ) → stack ≡ has_stack b.format → AreMasks stack block m → AreStarts starts (bit_and starts m.long)
     → IsWithout starts m.free left → IsWithout left paired others → IsWithout others clean rest → IsWithout rest written final → i < 64
@@ -71,4 +65,4 @@ seen b block stack starts m after left paired others clean rest written final i 
         let one = stays starts m.free left i first lt start e in
         let two = stays left paired others i second lt one f in
         let three = stays others clean rest i third lt two g in
-        absurd (no_both (is_in final i) (stays rest written final i fourth lt three h) none)
+        absurd (both_ways (is_in final i) none (stays rest written final i fourth lt three h))

@@ -1,15 +1,9 @@
 -- What begins at a start of a block breaks no rule.
-use Rattle.sfi_scan.proofs.Prelude.{◌≡◌, ℕ, ◌+◌, ◌-◌, ◌/◌, ◌%◌, ◌<◌, Bool, true, false, not, ◌&&◌, ◌||◌, ◌==◌, cond, List, Option, Some, None, IfSome, refl, sym, ap, ◌∙◌, subst, arith, bit_and, OnTrue, w16, w32, from_le_bytes, and_parts, and_mask, outline, IsWordThat, IsWordOf, Instr, is_in, may_write, is_free, IsFreeHalf, IsFreeWord, IsFreeAccess, has_stack, is_reserved, stack_pointer, Before, BundlePlace, bundle_at, block_bundle, follows_data_pair, may_access, AreAfterTwo, offset, words_from, IsCleanAt, half_at, word_at, AreWordsFrom, AreBefore, IsWordOr0, is_protected, is_clean, is_clean_access, near}
-use Rattle.rv_comp.specs.Halfwords.{IsHalfwordThat, IsShortSpelling}
-use Rattle.rv_word.specs.Accesses.{IsAccessOf}
-use Rattle.rv_word.specs.Numbers.{bits}
-use Rattle.rv_word.specs.declared.access.Access.{Access}
-use Rattle.rv_word.specs.declared.outline.Outline.{Outline}
-use Rattle.rv_word.specs.declared.outline.Outline.TheVariants.{Computes, Loads, Stores, Orders, Stops}
-use Rattle.sfi_scan.specs.declared.clean.Words.{Words}
+use Rattle.sfi_scan.proofs.Prelude.{◌≡◌, ℕ, ◌+◌, ◌-◌, ◌/◌, ◌%◌, ◌<◌, Bool, true, false, not, ◌&&◌, ◌||◌, ◌==◌, cond, List, Option, Some, None, IfSome, refl, sym, ap, ◌∙◌, subst, arith, bit_and, OnTrue, w16, w32, from_le_bytes, and_parts, and_mask, outline, IsWordThat, IsWordOf, Instr, is_in, may_write, is_free, IsFreeHalf, IsFreeWord, IsFreeAccess, has_stack, is_reserved, stack_pointer, Before, BundlePlace, bundle_at, block_bundle, follows_data_pair, may_access, AreAfterTwo, offset, words_from, IsCleanAt, half_at, word_at, AreWordsFrom, AreBefore, IsWordOr0, is_protected, is_clean, is_clean_access, near, and_from, or_left, IsHalfwordThat, IsShortSpelling, IsAccessOf, bits, Access, Outline, Computes, Loads, Words}
+use Rattle.rv_word.specs.declared.outline.Outline.TheVariants.{Stores, Orders, Stops}
 use Rattle.sfi_masks.specs.Masks.{half_at as block_half, word_at as block_word}
 use Rattle.sfi_scan.proofs.Joining.{half_cut, word_cut}
-use Rattle.sfi_scan.proofs.Table16.{clean_short, clean_wide, clean_access}
+use Rattle.sfi_scan.proofs.Table16.{clean_told, clean_access}
 
 -- ---- the words before a place
 
@@ -37,22 +31,14 @@ both_not false q = refl
 may_write_is : (b : BundlePlace) (r : ℕ) → may_write (has_stack b.format) r ≡ true → not (is_protected b r) ≡ true
 may_write_is b r may = sym (both_not (is_reserved r) (has_stack b.format && (r == stack_pointer))) ∙ may
 
-or_true : (p q : Bool) → p ≡ true → (p || q) ≡ true
-or_true true q e = refl
-or_true false q e = cc
-
-both_true : (p q : Bool) → p ≡ true → q ≡ true → (p && q) ≡ true
-both_true true q e f = f
-both_true false q e f = e
-
 on_stack : (b : BundlePlace) (base : ℕ) (earlier : List Instr) → (has_stack b.format && (base == stack_pointer)) ≡ true → may_access b base earlier ≡ true
-on_stack b base earlier e = or_true _ (follows_data_pair base earlier) e
+on_stack b base earlier e = or_left _ (follows_data_pair base earlier) e
 
 free_clean : (b : BundlePlace) (at : ℕ) (earlier : List Instr) (o : Outline) → is_free (has_stack b.format) o ≡ true → is_clean b at earlier o ≡ true
 free_clean b at earlier (Computes rd) e = may_write_is b rd e
 free_clean b at earlier (Loads rd base) e =
     let both = and_parts (may_write (has_stack b.format) rd) (has_stack b.format && (base == stack_pointer)) e in
-    both_true _ (may_access b base earlier) (may_write_is b rd both.0) (on_stack b base earlier both.1)
+    and_from _ (may_access b base earlier) (may_write_is b rd both.0) (on_stack b base earlier both.1)
 free_clean b at earlier (Stores base) e = on_stack b base earlier e
 free_clean b at earlier Orders e = refl
 free_clean b at earlier Stops e = refl
@@ -80,7 +66,7 @@ base_is word base e = e ∙ and_mask (word / 32768) 5
 told_access : (b : BundlePlace) (a : Access) (earlier : List Instr) (base : ℕ) → base ≡ a.base → not (is_protected b a.written) ≡ true
     → (r : Bool) → OnTrue r (may_access b base earlier ≡ true) → OnTrue r (is_clean_access b a earlier ≡ true)
 told_access b a earlier base e free false may = tt
-told_access b a earlier base e free true may = both_true _ (may_access b a.base earlier) free (ap (λ r. may_access b r earlier) (sym e) ∙ may)
+told_access b a earlier base e free true may = and_from _ (may_access b a.base earlier) free (ap (λ r. may_access b r earlier) (sym e) ∙ may)
 
 pub access_clean : (b : BundlePlace) (block : List ℕ) (stack : Bool) (after i base : ℕ) (words : Words) → i % 8 < 7 → stack ≡ has_stack b.format → (f : IsFreeAccess stack (block_word block i))
     → base ≡ bit_and (block_word block i / 32768) 31
@@ -108,7 +94,7 @@ short_clean b block after i half words o x is found e told r clean w f =
     let c = bundle_at b (i / 8) in
     let that = subst (λ h. IsHalfwordThat h x) is (the_some _ o x found e) in
     subst (λ v. OnTrue r (IsCleanAt b block v after i)) (sym f)
-    (clean_short c (c.address + offset i) (AreWordsFrom (block_bundle block (i / 8)) (offset i) (words_from after i (offset i))) words _ x that told r clean)
+    (clean_told c (c.address + offset i) (AreWordsFrom (block_bundle block (i / 8)) (offset i) (words_from after i (offset i))) words (IsShortSpelling (half_at (block_bundle block (i / 8)) (offset i))) x that.instr that.spelled that.does told r clean)
 
 pub wide_clean : (b : BundlePlace) (block : List ℕ) (after i word : ℕ) (words : Words) (o : Option Outline) (x : Outline) → word ≡ word_at (block_bundle block (i / 8)) (offset i) → IfSome o (IsWordThat word) → o ≡ Some x
     → ((before : Before) → AreWordsFrom (block_bundle block (i / 8)) (offset i) (words_from after i (offset i)) before → AreBefore words before)
@@ -118,7 +104,7 @@ wide_clean b block after i word words o x is found e told r clean w f =
     let c = bundle_at b (i / 8) in
     let that = subst (λ h. IsWordThat h x) is (the_some _ o x found e) in
     subst (λ v. OnTrue r (IsCleanAt b block v after i)) (sym f)
-    (clean_wide c (c.address + offset i) (AreWordsFrom (block_bundle block (i / 8)) (offset i) (words_from after i (offset i))) words _ x that told r clean)
+    (clean_told c (c.address + offset i) (AreWordsFrom (block_bundle block (i / 8)) (offset i) (words_from after i (offset i))) words (IsWordOf (word_at (block_bundle block (i / 8)) (offset i))) x that.instr that.spelled that.does told r clean)
 
 -- ---- masks of them
 

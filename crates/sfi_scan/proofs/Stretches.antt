@@ -1,7 +1,6 @@
 -- Stretches of bundles: their parts, and the findings of one after another.
 use Rattle.std.specs.Simd.{first_chunks}
-use Rattle.sfi_scan.proofs.Prelude.{get_or, ◌≡◌, ℕ, zero, suc, ◌+◌, ◌-◌, ◌*◌, ◌<◌, false, List, [], ◌++◌, length, take, drop, refl, sym, ap, ◌∙◌, subst, arith, append-nil, append_assoc, length-append, length-drop, drop-drop, drop-take, take-take, take_all, inr, BundlePlace, Finding, Part, bundle_at, block_bundle, bundle_bytes, place_of, AreBundleFindings, AreReadingFindings, AreFindingsOfFirst}
-use Rattle.sfi_scan.specs.Stretches.{IsScanned, stretch_place, AreStretchFindings}
+use Rattle.sfi_scan.proofs.Prelude.{get_or, ◌≡◌, ℕ, zero, suc, ◌+◌, ◌-◌, ◌*◌, ◌<◌, false, List, [], ◌++◌, take, drop, refl, sym, ap, ◌∙◌, subst, arith, append-nil, append_assoc, length-append, drop-drop, drop-take, take-take, inr, BundlePlace, Finding, Part, bundle_at, block_bundle, bundle_bytes, place_of, AreBundleFindings, AreReadingFindings, AreFindingsOfFirst, IsScanned, stretch_place, AreStretchFindings}
 
 -- ---- places
 
@@ -66,10 +65,6 @@ pub stretch_same : (b : BundlePlace) (xs ys : List ℕ) (n : ℕ) (found : List 
 stretch_same b xs ys zero found bytes none = none
 stretch_same b xs ys (suc n) found bytes are =
     (are.0, are.1, stretch_same b xs ys n are.0 (λ i less. bytes i (omega arith)) are.2, subst (λ (x : List ℕ). AreBundleFindings (stretch_place b n) x are.1) (bytes n (omega arith)) are.3, are.4)
-
--- all of a slice from there on
-pub tail_is : (at : ℕ) (xs : List ℕ) → take (length xs - at) (drop at xs) ≡ drop at xs
-tail_is at xs = take_all (length xs - at) (drop at xs) (omega (arith, length-drop at xs))
 
 -- ---- what a sink took
 

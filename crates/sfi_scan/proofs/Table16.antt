@@ -1,16 +1,11 @@
 -- The table of halfwords that compute, seen right at each halfword.
-use Rattle.sfi_scan.proofs.Prelude.{List, ◌≡◌, ℕ, ◌+◌, ◌*◌, ◌/◌, ◌%◌, ◌<◌, Bool, true, false, ◌&&◌, ◌==◌, refl, ap, sym, ◌∙◌, subst, arith, Option, Some, IfSome, bit_and, ◌^◌, ◌≢◌, slice_index, ◌||◌, not, OnTrue, and_mask, agree_below, agree_below_at, and_parts, ne_eqb, outline, IsWordThat, IsWordOf, has_stack, is_reserved, may_access, AreBefore, IsCleanOne, is_clean, is_clean_access, is_protected, BundlePlace, Before, near, Instr, Load, Store}
-use Rattle.rv_comp.specs.Halfwords.{IsHalfwordThat, IsShortSpelling}
+use Rattle.sfi_scan.proofs.Prelude.{List, ◌≡◌, ℕ, ◌+◌, ◌*◌, ◌/◌, ◌%◌, ◌<◌, Bool, true, false, ◌&&◌, ◌==◌, refl, ap, sym, ◌∙◌, subst, arith, Option, Some, IfSome, bit_and, ◌^◌, ◌≢◌, slice_index, ◌||◌, not, OnTrue, and_mask, agree_below, agree_below_at, and_parts, ne_eqb, outline, IsWordOf, has_stack, is_reserved, may_access, AreBefore, IsCleanOne, is_clean, is_clean_access, is_protected, BundlePlace, Before, near, Instr, Load, Store, IsHalfwordThat, access, IsAccessOf, Access, Outline, Computes, Words, not-true}
 use Rattle.rv_comp.specs.mirror.Decoding.{extended, jump_offset, branch_offset}
 use Rattle.rv_comp.specs.mirror.Outlining.{row_of, jump, jump_or_stop, outlined}
-use Rattle.rv_word.specs.Accesses.{access, IsAccessOf}
-use Rattle.rv_word.specs.declared.access.Access.{Access}
-use Rattle.rv_word.specs.declared.outline.Outline.{Outline}
-use Rattle.rv_word.specs.declared.outline.Outline.TheVariants.{Computes}
-use Rattle.sfi_scan.specs.declared.clean.Words.{Words}
 use Rattle.sfi_scan.specs.declared.computing.TheConstants.{COMPUTING}
 use Rattle.sfi_scan.specs.private.FirstLook.{IsFreeHalf}
 use Rattle.rv_comp.proofs.Facts.{halfwords_are_outlined}
+use Rattle.sfi_scan.proofs.PairTables.{second}
 
 -- it computes into a register that is not reserved, and into x2 only where the halfword names it in bits 11:7
 abbrev is_free : Bool → Option Outline → Bool
@@ -43,17 +38,9 @@ row_at p j ps js =
 whole : (h : ℕ) → halfword (h / 512 * 4 + h % 4) (h / 4 % 128) ≡ h
 whole h = omega arith
 
-not_true : (b : Bool) → not b ≡ true → b ≡ false
-not_true true e = cc
-not_true false e = refl
-
-second : (a b : Bool) → a ≡ false → (a || b) ≡ true → b ≡ true
-second true b e h = cc
-second false b e h = h
-
 -- a register that is not reserved, and not x2 where that is a stack pointer, is not protected
 not_protected : (b : BundlePlace) (rd : ℕ) (two : Bool) → not (is_reserved rd) ≡ true → (not (rd == 2) || two) ≡ true → (has_stack b.format && two) ≡ false → is_protected b rd ≡ false
-not_protected b rd two free or none = by (is_reserved rd) (has_stack b.format) (rd == 2) two (not_true (is_reserved rd) free) or none
+not_protected b rd two free or none = by (is_reserved rd) (has_stack b.format) (rd == 2) two (not-true (is_reserved rd) free) or none
   where
     by : (r s x t : Bool) → r ≡ false → (not x || t) ≡ true → (s && t) ≡ false → (r || (s && x)) ≡ false
     by true s x t e f g = e
@@ -77,15 +64,12 @@ free_half b h lt some none =
     let at : passes (slice_index COMPUTING p) h ≡ true = subst (λ k. passes (slice_index COMPUTING p) k ≡ true) (whole h) (row_at p (h / 4 % 128) (omega (arith, lt)) (omega arith)) in
     free_of b h (outlined h) (halfwords_are_outlined h lt).0 (second _ _ some at) none
 
-low_two : (h : ℕ) → bit_and h 3 ≡ h % 4
-low_two h = and_mask h 2
-
 -- what the code tells, where it tells it under r
 pub free_told : (h : ℕ) → h < 2 ^ 16 → bit_and h (slice_index COMPUTING (h / 512 * 4 + bit_and h 3)) ≢ 0
     → (b : BundlePlace) (stack : Bool) → stack ≡ has_stack b.format → (r : Bool) → (r ≡ true → (stack && (h / 128 % 32 == 2)) ≡ false) → OnTrue r (IsFreeHalf b h)
 free_told h lt some b stack is false none = tt
 free_told h lt some b stack is true none =
-    free_half b h lt (ap (λ k. bit_and h (slice_index COMPUTING (h / 512 * 4 + k)) == 0) (sym (low_two h)) ∙ ne_eqb _ 0 some)
+    free_half b h lt (ap (λ k. bit_and h (slice_index COMPUTING (h / 512 * 4 + k)) == 0) (sym (and_mask h 2)) ∙ ne_eqb _ 0 some)
     (ap (λ s. s && (h / 128 % 32 == 2)) (sym is) ∙ none refl)
 
 pub no_stack : (s t : Bool) → not s ≡ true → (s && t) ≡ false
@@ -94,14 +78,12 @@ no_stack false t e = refl
 
 pub other_register : (s : Bool) (h : ℕ) → not (bit_and (h / 128) 31 == 2) ≡ true → (s && (h / 128 % 32 == 2)) ≡ false
 other_register false h e = refl
-other_register true h e = ap (λ r. r == 2) (sym (and_mask (h / 128) 5)) ∙ not_true (bit_and (h / 128) 31 == 2) e
-
--- ---- words
+other_register true h e = ap (λ r. r == 2) (sym (and_mask (h / 128) 5)) ∙ not-true (bit_and (h / 128) 31 == 2) e
 
 -- ---- what an outline tells
 
 -- where the words before a place are told, so is what is clean there
-clean_told : (b : BundlePlace) (at : ℕ) (are : Before → Type 0) (words : Words) (spell : Instr → Type 0) (o : Outline) (i : Instr) → spell i → outline i ≡ o
+pub clean_told : (b : BundlePlace) (at : ℕ) (are : Before → Type 0) (words : Words) (spell : Instr → Type 0) (o : Outline) (i : Instr) → spell i → outline i ≡ o
     → ((before : Before) → are before → AreBefore words before)
     → (r : Bool) → ((earlier : List Instr) → AreBefore words (near earlier) → OnTrue r (is_clean b at earlier o ≡ true)) → OnTrue r (IsCleanOne b at are spell)
 clean_told b at are words spell o i spelled does told false clean = tt
@@ -110,16 +92,6 @@ clean_told b at are words spell o i spelled does told true clean = record {
   spelled = spelled;
   clean = λ earlier before. ap (is_clean b at earlier) does ∙ clean earlier (told (near earlier) before);
 }
-
-pub clean_short : (b : BundlePlace) (at : ℕ) (are : Before → Type 0) (words : Words) (h : ℕ) (o : Outline) → IsHalfwordThat h o
-    → ((before : Before) → are before → AreBefore words before)
-    → (r : Bool) → ((earlier : List Instr) → AreBefore words (near earlier) → OnTrue r (is_clean b at earlier o ≡ true)) → OnTrue r (IsCleanOne b at are (IsShortSpelling h))
-clean_short b at are words h o that told r clean = clean_told b at are words (IsShortSpelling h) o that.instr that.spelled that.does told r clean
-
-pub clean_wide : (b : BundlePlace) (at : ℕ) (are : Before → Type 0) (words : Words) (word : ℕ) (o : Outline) → IsWordThat word o
-    → ((before : Before) → are before → AreBefore words before)
-    → (r : Bool) → ((earlier : List Instr) → AreBefore words (near earlier) → OnTrue r (is_clean b at earlier o ≡ true)) → OnTrue r (IsCleanOne b at are (IsWordOf word))
-clean_wide b at are words word o that told r clean = clean_told b at are words (IsWordOf word) o that.instr that.spelled that.does told r clean
 
 abbrev registers : ℕ → ℕ → Access
 registers written base = record { written = written; base = base }

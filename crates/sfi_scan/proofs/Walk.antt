@@ -1,11 +1,10 @@
 -- The walk over a bundle: what is found so far, and what the rest adds.
-use Rattle.sfi_scan.proofs.Prelude.{◌≡◌, ℕ, ◌+◌, ◌-◌, ◌*◌, ◌%◌, ◌<◌, ◌≤◌, Bool, true, false, List, [], ◌∷◌, ◌++◌, length, take, drop, Option, Some, None, refl, sym, ap, ◌∙◌, subst, inl, inr, arith, append_assoc, length-drop, ◌&&◌, length-take, length-append, append-nil, drop_all, drop-drop, take_all, w16, from_le_bytes, Instr, Spells, IsCutShort, SpellsNothing, Read, Before, BundlePlace, Rule, Finding, Piece, IsReading, IsLongestReading, rest_of, Place, is_empty, broken, lowest, all_rules, findings_from, rest_finding, rule_of_length, AreReadingFindings, near, finding_of}
+use Rattle.sfi_scan.proofs.Prelude.{◌≡◌, ℕ, ◌+◌, ◌-◌, ◌*◌, ◌%◌, ◌<◌, ◌≤◌, false, List, [], ◌∷◌, ◌++◌, length, take, drop, Option, Some, None, refl, sym, ap, ◌∙◌, subst, inl, inr, arith, append_assoc, length-drop, ◌&&◌, and_right, length-append, append-nil, drop_all, drop-drop, take_all, w16, from_le_bytes, Instr, Spells, IsCutShort, SpellsNothing, Before, BundlePlace, Rule, Finding, Piece, IsReading, IsLongestReading, rest_of, Place, is_empty, broken, lowest, all_rules, findings_from, rest_finding, rule_of_length, AreReadingFindings, near, finding_of, V1, V2}
 use Rattle.rv_word.specs.Lengths.{length_of}
 use Rattle.rv_word.specs.declared.length.Length.{Length}
-use Rattle.rv_word.specs.declared.length.Length.TheVariants.{Wide, Longer}
-use Rattle.sfi_rules.specs.declared.rule.Rule.TheVariants.{V1, V2}
-use Rattle.rv_word.specs.declared.length.Length.TheVariants as lengths
-use Rattle.rv_comp.specs.declared.front.Front.TheVariants as fronts
+use Rattle.rv_word.specs.declared.length.Length.TheVariants.{Wide}
+use Rattle.sfi_rules.proofs.Readings.{IsStuck, spelled_within}
+use Rattle.sfi_scan.proofs.After.{longest_more, longest_none, no_bytes_left}
 
 -- ---- spellings
 
@@ -13,14 +12,10 @@ pub spell_size : (bytes : List ℕ) (i : Instr) (n : ℕ) → Spells bytes i n �
 spell_size bytes i n (inl s) = let size = s.size in let all = s.all in (omega arith, omega arith, omega arith, rw size refl)
 spell_size bytes i n (inr s) = let size = s.size in let all = s.all in (omega arith, omega arith, omega arith, rw size refl)
 
--- what is spelled at the front is there whole
-pub spell_fits : (bytes : List ℕ) (i : Instr) (n : ℕ) → Spells (take n bytes) i n → n ≤ length bytes
-spell_fits bytes i n s = let size = spell_size (take n bytes) i n s in let cut = length-take n bytes in omega (arith, size.0, cut)
-
 -- a reading of no bytes has no pieces
 nothing_there : (reading : List Piece) → IsReading [] reading → reading ≡ []
 nothing_there [] h = refl
-nothing_there (x ∷ reading) h = absurd (let none : List ℕ = [] in let fits = spell_fits none x.instr x.size h.0 in let size = spell_size (take x.size none) x.instr x.size h.0 in omega (arith, fits, size.1))
+nothing_there (x ∷ reading) h = absurd (no_bytes_left [] refl x.instr x.size h.0)
 
 -- ---- the walk
 
@@ -61,31 +56,7 @@ at_first b bytes = record {
 is_last : (rest : List ℕ) (later : List Piece) → IsReading rest later → (is_empty (rest_of rest later) && is_empty later) ≡ is_empty rest
 is_last [] later h = rw (nothing_there later h) refl
 is_last (x ∷ rest) [] h = refl
-is_last (x ∷ rest) (y ∷ later) h = and_false (is_empty (rest_of (drop y.size (x ∷ rest)) later))
-  where
-    and_false : (p : Bool) → (p && false) ≡ false
-    and_false true = refl
-    and_false false = refl
-
-drop_drop : (n at : ℕ) (xs : List ℕ) → drop n (drop at xs) ≡ drop (at + n) xs
-drop_drop n at xs = drop-drop n at xs
-
-same_piece : (i j : Instr) (m n : ℕ) → Read i n ≡ Read j m → (i ≡ j) × (n ≡ m)
-same_piece i j m n e = (cc, cc)
-
--- a longest reading after the only piece that can stand at the front
-longer : (rest : List ℕ) (i : Instr) (n : ℕ) (later : List Piece) → Spells (take n rest) i n → ((j : Instr) (m : ℕ) → Spells (take m rest) j m → Read i n ≡ Read j m) → IsLongestReading (drop n rest) later → IsLongestReading rest (record { instr = i; size = n } ∷ later)
-longer rest i n later s only h = record { is_reading = (s, h.is_reading); longest = most }
-  where
-    most : (other : List Piece) → IsReading rest other → length other ≤ length (record { instr = i; size = n } ∷ later)
-    most [] g = omega arith
-    most (y ∷ other) g =
-        let e = same_piece i y.instr y.size n (only y.instr y.size g.0) in
-        let k = h.longest other (subst (λ m. IsReading (drop m rest) other) (sym e.1) g.1) in
-        omega arith
-
-sums : (a b c : ℕ) → a + b + c ≡ a + (b + c)
-sums a b c = omega arith
+is_last (x ∷ rest) (y ∷ later) h = and_right (is_empty (rest_of (drop y.size (x ∷ rest)) later)) false refl
 
 regroup : (found here here' more rest : List Finding) → here ≡ here' → found ++ ((here ++ more) ++ rest) ≡ (found ++ here') ++ (more ++ rest)
 regroup found here here' more rest e = rw e (simp append_assoc)
@@ -94,13 +65,12 @@ pub next : (b : BundlePlace) (bytes : List ℕ) (at n : ℕ) (before after : Bef
     → length bytes ≡ 16
     → Leads b bytes at before found
     → Spells (take n (drop at bytes)) i n
-    → ((j : Instr) (m : ℕ) → Spells (take m (drop at bytes)) j m → Read i n ≡ Read j m)
     → ((x : Place) → x.bundle ≡ b → x.address ≡ b.address + at → near x.earlier ≡ before → x.instr ≡ i → (x.whole && is_empty x.later) ≡ is_empty (drop (at + n) bytes) → IsLongestReading (drop (at + n) bytes) x.later → lowest x all_rules ≡ finding_of b (b.address + at) o)
     → ((earlier : List Instr) → near earlier ≡ before → after ≡ near (i ∷ earlier))
     → Leads b bytes (at + n) after (found ++ finding_of b (b.address + at) o)
-next b bytes at n before after found i o count so_far s only rule go =
+next b bytes at n before after found i o count so_far s rule go =
     let size = spell_size (take n (drop at bytes)) i n s in
-    let fits = spell_fits (drop at bytes) i n s in
+    let fits = (spelled_within (drop at bytes) i n s).1 in
     let left = length-drop at bytes in
     let even = so_far.even in
     let few = so_far.few in
@@ -121,60 +91,46 @@ next b bytes at n before after found i o count so_far s only rule go =
         rw (length-append found (broken b (b.address + at) r ∷ [])) (omega (arith, size.1))
 
     beyond : drop n (drop at bytes) ≡ drop (at + n) bytes
-    beyond = drop_drop n at bytes
+    beyond = drop-drop n at bytes
 
     leads : (later : List Piece) → IsLongestReading (drop (at + n) bytes) later → AreReadingFindings b bytes ((found ++ finding_of b (b.address + at) o) ++ tail_findings b (length bytes) (b.address + (at + n)) (i ∷ so_far.earlier) (drop (at + n) bytes) later)
     leads later longest =
         let longest' = subst (λ (r : List ℕ). IsLongestReading r later) (sym beyond) longest in
-        let old = so_far.leads (record { instr = i; size = n } ∷ later) (longer (drop at bytes) i n later s only longest') in
+        let old = so_far.leads (record { instr = i; size = n } ∷ later) (longest_more (drop at bytes) (record { instr = i; size = n }) later s longest') in
         let place : Place = record { bundle = b; address = b.address + at; earlier = so_far.earlier; instr = i; later = later; whole = is_empty (rest_of (drop n (drop at bytes)) later) } in
         let last = is_last (drop n (drop at bytes)) later longest'.is_reading ∙ ap (λ (r : List ℕ). is_empty r) beyond in
         let here = rule place refl refl so_far.near_is refl last longest in
         let joined = regroup found (lowest place all_rules) (finding_of b (b.address + at) o) (findings_from b (is_empty (rest_of (drop n (drop at bytes)) later)) (b.address + at + n) (i ∷ so_far.earlier) later) (rest_finding b (b.address + (length bytes - length (rest_of (drop n (drop at bytes)) later))) (rest_of (drop n (drop at bytes)) later)) here in
         let moved = ap (λ (r : List ℕ). (found ++ finding_of b (b.address + at) o) ++ tail_findings b (length bytes) (b.address + at + n) (i ∷ so_far.earlier) r later) beyond in
-        let placed = ap (λ k. (found ++ finding_of b (b.address + at) o) ++ tail_findings b (length bytes) k (i ∷ so_far.earlier) (drop (at + n) bytes) later) (sums b.address at n) in
+        let placed = ap (λ k. (found ++ finding_of b (b.address + at) o) ++ tail_findings b (length bytes) k (i ∷ so_far.earlier) (drop (at + n) bytes) later) (let e : b.address + at + n ≡ b.address + (at + n) = omega arith in e) in
         subst (λ (l : List Finding). AreReadingFindings b bytes l) (joined ∙ moved ∙ placed) old
 
 -- ---- its ends
-
-longest_of_none : IsLongestReading [] []
-longest_of_none = record { is_reading = tt; longest = λ other h. let e = nothing_there other h in rw e (omega arith) }
 
 -- after the last byte
 pub at_last : (b : BundlePlace) (bytes : List ℕ) (at : ℕ) (before : Before) (found : List Finding) → length bytes ≡ 16 → 16 ≤ at → Leads b bytes at before found → AreReadingFindings b bytes found
 at_last b bytes at before found count over so_far =
     let none : drop at bytes ≡ [] = drop_all at bytes (omega arith) in
-    let done = so_far.leads [] (subst (λ (r : List ℕ). IsLongestReading r []) (sym none) longest_of_none) in
+    let done = so_far.leads [] (longest_none (drop at bytes) (no_bytes_left (drop at bytes) (ap length none))) in
     let same = ap (λ (r : List ℕ). found ++ tail_findings b (length bytes) (b.address + at) so_far.earlier r []) none ∙ append-nil found in
     subst (λ (l : List Finding). AreReadingFindings b bytes l) same done
 
-longest_of_stuck : (rest : List ℕ) → ((i : Instr) (n : ℕ) → Spells (take n rest) i n → ⊥) → IsLongestReading rest []
-longest_of_stuck rest stuck = record { is_reading = tt; longest = most }
-  where
-    most : (other : List Piece) → IsReading rest other → length other ≤ 0
-    most [] h = omega arith
-    most (x ∷ other) h = absurd (stuck x.instr x.size h.0)
-
 -- where nothing is spelled
 pub at_rest : (b : BundlePlace) (bytes : List ℕ) (at : ℕ) (before : Before) (found : List Finding) (rule : Rule) → length bytes ≡ 16 → at < 16
-    → ((i : Instr) (n : ℕ) → Spells (take n (drop at bytes)) i n → ⊥)
-    → rest_finding b (b.address + at) (drop at bytes) ≡ broken b (b.address + at) rule ∷ []
+    → IsStuck (drop at bytes) → rest_finding b (b.address + at) (drop at bytes) ≡ broken b (b.address + at) rule ∷ []
     → Leads b bytes at before found → AreReadingFindings b bytes (found ++ broken b (b.address + at) rule ∷ [])
 at_rest b bytes at before found rule count below stuck e so_far =
-    let done = so_far.leads [] (longest_of_stuck (drop at bytes) stuck) in
+    let done = so_far.leads [] (longest_none (drop at bytes) stuck) in
     let place : length bytes - length (drop at bytes) ≡ at = omega (arith, length-drop at bytes) in
     let same = ap (λ k. found ++ rest_finding b (b.address + k) (drop at bytes)) place ∙ ap (λ (l : List Finding). found ++ l) e in
     subst (λ (l : List Finding). AreReadingFindings b bytes l) same done
 
 -- where an instruction is cut short by the bundle's end
 pub rest_short : (b : BundlePlace) (at : ℕ) (rest : List ℕ) → 2 ≤ length rest → length rest % 2 ≡ 0 → IsCutShort rest → rest_finding b at rest ≡ broken b at V2 ∷ []
-rest_short b at [] h even cut = absurd (omega arith)
-rest_short b at (x ∷ []) h even cut = absurd (omega arith)
-rest_short b at (x ∷ y ∷ []) h even (inl low) = absurd (omega arith)
 rest_short b at (x ∷ y ∷ []) h even (inr wide) = ap (λ (l : Length). broken b at (rule_of_length l) ∷ []) wide.1
 rest_short b at (x ∷ y ∷ z ∷ []) h even cut = absurd (let three : 3 % 2 ≡ 0 = even in omega arith)
-rest_short b at (x ∷ y ∷ z ∷ u ∷ rest) h even (inl low) = absurd (omega arith)
-rest_short b at (x ∷ y ∷ z ∷ u ∷ rest) h even (inr wide) = absurd (let low = wide.0 in omega arith)
+rest_short b at rest h even (inl low) = absurd (omega arith)
+rest_short b at rest h even (inr wide) = absurd (let low = wide.0 in omega arith)
 
 -- where what stands there is no instruction
 pub rest_bad : (b : BundlePlace) (at : ℕ) (rest : List ℕ) → 0 < length rest → (IsCutShort rest → ⊥) → rest_finding b at rest ≡ broken b at V1 ∷ []
@@ -183,9 +139,8 @@ rest_bad b at (x ∷ []) h none = refl
 rest_bad b at (x ∷ y ∷ []) h none = ap (λ (r : Rule). broken b at r ∷ []) (not_wide (length_of (from_le_bytes w16 (x ∷ y ∷ []))) (λ wide. none (inr (omega arith, wide))))
   where
     not_wide : (l : Length) → (l ≡ Wide → ⊥) → rule_of_length l ≡ V1
-    not_wide lengths.Short h = refl
     not_wide Wide h = absurd (h refl)
-    not_wide Longer h = refl
+    not_wide l h = refl
 rest_bad b at (x ∷ y ∷ z ∷ rest) h none = refl
 
 -- ---- as the code has it: the rest is a slice of the bytes
@@ -197,36 +152,29 @@ pub next_of : (b : BundlePlace) (bytes : List ℕ) (at n : ℕ) (before after : 
     → length bytes ≡ 16
     → Leads b bytes at before found
     → Spells (take n (take (16 - at) (drop at bytes))) i n
-    → ((j : Instr) (m : ℕ) → Spells (take m (take (16 - at) (drop at bytes))) j m → Read i n ≡ Read j m)
     → ((x : Place) → x.bundle ≡ b → x.address ≡ b.address + at → near x.earlier ≡ before → x.instr ≡ i → (x.whole && is_empty x.later) ≡ is_empty (take (16 - (at + n)) (drop (at + n) bytes)) → IsLongestReading (take (16 - (at + n)) (drop (at + n) bytes)) x.later → lowest x all_rules ≡ finding_of b (b.address + at) o)
     → ((earlier : List Instr) → near earlier ≡ before → after ≡ near (i ∷ earlier))
     → Leads b bytes (at + n) after (found ++ finding_of b (b.address + at) o)
-next_of b bytes at n before after found i o count so_far s only rule go =
-    let e = slice_is at bytes count in
+next_of b bytes at n before after found i o count so_far s rule go =
     next b bytes at n before after found i o count so_far
-    (subst (λ (r : List ℕ). Spells (take n r) i n) e s)
-    (λ j m t. only j m (subst (λ (r : List ℕ). Spells (take m r) j m) (sym e) t))
+    (subst (λ (r : List ℕ). Spells (take n r) i n) (slice_is at bytes count) s)
     (λ x place address near_is instr last longest. rule x place address near_is instr
     (last ∙ ap (λ (r : List ℕ). is_empty r) (sym (slice_is (at + n) bytes count)))
     (subst (λ (r : List ℕ). IsLongestReading r x.later) (sym (slice_is (at + n) bytes count)) longest))
     go
-
-not_short : (i : Instr) (n : ℕ) → fronts.Short ≡ Read i n → ⊥
-not_short i n e = cc
 
 even_left : (at left : ℕ) → at < 16 → at % 2 ≡ 0 → left ≡ 16 - at → (2 ≤ left) × (left % 2 ≡ 0)
 even_left at left h even e = (omega arith, omega arith)
 
 pub short_end : (b : BundlePlace) (bytes : List ℕ) (at : ℕ) (before : Before) (found : List Finding) → length bytes ≡ 16 → at < 16
     → Leads b bytes at before found
-    → ((j : Instr) (m : ℕ) → Spells (take m (take (16 - at) (drop at bytes))) j m → fronts.Short ≡ Read j m)
-    → IsCutShort (take (16 - at) (drop at bytes))
+    → IsStuck (take (16 - at) (drop at bytes)) → IsCutShort (take (16 - at) (drop at bytes))
     → AreReadingFindings b bytes (found ++ broken b (b.address + at) V2 ∷ [])
-short_end b bytes at before found count below so_far only cut =
+short_end b bytes at before found count below so_far stuck cut =
     let e = slice_is at bytes count in
     let left = even_left at (length (drop at bytes)) below so_far.even (omega (arith, length-drop at bytes)) in
     at_rest b bytes at before found V2 count below
-    (λ i n s. not_short i n (only i n (subst (λ (r : List ℕ). Spells (take n r) i n) (sym e) s)))
+    (subst IsStuck e stuck)
     (rest_short b (b.address + at) (drop at bytes) left.0 left.1 (subst (λ (r : List ℕ). IsCutShort r) e cut))
     so_far
 

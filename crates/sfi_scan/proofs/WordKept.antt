@@ -1,15 +1,11 @@
 -- What an instruction writes: a register that is free, or a typed one and what it then owes.
-use Rattle.sfi_scan.proofs.Prelude.{◌≡◌, ℕ, Bool, true, false, ◌&&◌, ◌||◌, ◌==◌, not, Option, Some, None, refl, sym, ap, ◌∙◌, subst, or_parts, eqb-true, cond, Instr, is_reserved}
+use Rattle.sfi_scan.proofs.Prelude.{◌≡◌, ℕ, Bool, true, false, ◌&&◌, ◌||◌, ◌==◌, not, Option, Some, None, refl, sym, ap, ◌∙◌, subst, or_parts, eqb-true, Instr, is_reserved, destination, is_data_register, Owed, Nothing, owed_by, is_kept}
 use Rattle.std.proofs.lemmas.Bool.{and_left}
-use Rattle.rv_word.specs.Writes.{destination, is_register}
+use Rattle.rv_word.specs.Writes.{is_register}
 use Rattle.sfi_pairs.specs.Pairs.{is_masking}
-use Rattle.sfi_policy.specs.Registers.{is_data_register}
 use Rattle.sfi_rules.specs.Rules.{breaks_reserved, is_reserved_one}
-use Rattle.sfi_rules.specs.declared.owed.Owed.{Owed}
-use Rattle.sfi_rules.specs.declared.owed.Owed.TheVariants.{Nothing}
-use Rattle.sfi_rules.specs.words.Owing.{owed_by, owed_of, owed_by_data, owed_by_code}
+use Rattle.sfi_rules.specs.words.Owing.{owed_of}
 use Rattle.sfi_rules.specs.words.Rules.{breaks_offset}
-use Rattle.sfi_scan.specs.private.WordLook.{is_kept}
 
 -- it keeps V4 and V12, and owes this
 pub record IsWrite (i : Instr) (own : Owed) : Type 0 where
@@ -37,12 +33,7 @@ is_kept_one None = false
 is_kept_one (Some r) = is_kept r
 
 owes_none : (r : ℕ) (i : Instr) → IsFree r → owed_of (Some r) i ≡ Some Nothing
-owes_none r i f = by (is_data_register r) (r == 30) (owed_by_data r i) (owed_by_code i) f.not_data f.code
-  where
-    by : (p q : Bool) (x y : Option Owed) → p ≡ false → q ≡ false → cond p x (cond q y (Some Nothing)) ≡ Some Nothing
-    by true q x y e f = absurd cc
-    by false true x y e f = absurd cc
-    by false false x y e f = refl
+owes_none r i f = rw (f.not_data, f.code) refl
 
 -- an instruction that writes none that is kept owes nothing
 pub unkept : (i : Instr) → is_kept_one (destination i) ≡ false → IsWrite i Nothing

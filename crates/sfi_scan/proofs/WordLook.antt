@@ -1,19 +1,11 @@
 -- What the look at a word tells, and that a word of which it tells has no findings.
-use Rattle.sfi_scan.proofs.Prelude.{◌≡◌, ℕ, ◌+◌, ◌≤◌, ◌==◌, Bool, true, false, List, [], ◌++◌, length, take, drop, length-take, length-drop, append-nil, ap₂, Finding, Spells, half_at, word_at, ◌||◌, not, Option, Some, None, refl, sym, ap, ◌∙◌, subst, inl, inr, arith, IfSome, OnTrue, Instr, Load, Store, outline, IsWordThat, IsWordOf, BundlePlace}
-use Rattle.std.proofs.lemmas.Bool.{and_from, not_from_false}
-use Rattle.rv_comp.specs.Halfwords.{IsHalfwordThat}
-use Rattle.rv_word.specs.Accesses.{access, IsAccessOf}
-use Rattle.rv_word.specs.declared.access.Access.{Access}
-use Rattle.rv_word.specs.declared.outline.Outline.{Outline}
-use Rattle.rv_word.specs.declared.outline.Outline.TheVariants.{Computes}
+use Rattle.sfi_scan.proofs.Prelude.{◌≡◌, ℕ, ◌+◌, ◌≤◌, ◌==◌, Bool, true, false, List, [], ◌++◌, length, take, drop, length-take, length-drop, append-nil, ap₂, Finding, Spells, half_at, word_at, ◌||◌, not, Option, Some, None, refl, sym, ap, ◌∙◌, subst, inl, inr, arith, IfSome, OnTrue, Instr, Load, Store, outline, IsWordThat, IsWordOf, BundlePlace, and_from, IsHalfwordThat, access, IsAccessOf, Access, Outline, Computes, is_data_register, Owed, Nothing, MaskOrUse, IsWordFound, owed_by, uses, is_kept, is_plain, IsQuiet, IsQuietThere, IsBeforeEnd}
+use Rattle.std.proofs.lemmas.Bool.{not_from_false}
 use Rattle.rv_word.proofs.Facts.{one_spelling}
-use Rattle.sfi_policy.specs.Registers.{is_data_register}
-use Rattle.sfi_rules.specs.declared.owed.Owed.{Owed}
-use Rattle.sfi_rules.specs.declared.owed.Owed.TheVariants.{Nothing, MaskOrUse}
-use Rattle.sfi_rules.specs.words.Findings.{lowest, found_at, IsWordFound}
-use Rattle.sfi_rules.specs.words.Owing.{owed_next, owed_by}
-use Rattle.sfi_rules.specs.words.Rules.{may_access, uses}
-use Rattle.sfi_scan.specs.private.WordLook.{is_kept, is_plain, IsQuiet, IsQuietWord, IsBeforeEnd, IsPlainHalf}
+use Rattle.sfi_rules.specs.words.Findings.{lowest, found_at}
+use Rattle.sfi_rules.specs.words.Owing.{owed_next}
+use Rattle.sfi_rules.specs.words.Rules.{may_access}
+use Rattle.sfi_scan.specs.private.WordLook.{IsPlainHalf}
 use Rattle.sfi_scan.proofs.WordPairs.{owing}
 use Rattle.sfi_scan.proofs.WordPlain.{plain, used}
 use Rattle.sfi_scan.proofs.WordReadings.{word_wide, word_two}
@@ -26,18 +18,18 @@ abbrev base_of : Option Access → ℕ
 base_of None = 0
 base_of (Some a) = a.base
 
-pub quiet_word : (b : BundlePlace) (at : ℕ) (o : Owed) (word : ℕ) (i : Instr) (next : Owed) → IsWordOf word i → IsQuiet b at 4 o i next → IsQuietWord b at o word next
+pub quiet_word : (b : BundlePlace) (at : ℕ) (o : Owed) (word : ℕ) (i : Instr) (next : Owed) → IsWordOf word i → IsQuiet b at 4 o i next → IsQuietThere b at o word next
 quiet_word b at o word i next is quiet = record { instr = i; spelled = is; quiet = quiet }
 
 -- the same of what was owed, where that is known
-pub quiet_owed : (b : BundlePlace) (at : ℕ) (owed o : Owed) (word : ℕ) (i : Instr) (next : Owed) → owed ≡ o → IsWordOf word i → IsQuiet b at 4 o i next → IsQuietWord b at owed word next
-quiet_owed b at owed o word i next e is quiet = subst (λ (x : Owed). IsQuietWord b at x word next) (sym e) (quiet_word b at o word i next is quiet)
+pub quiet_owed : (b : BundlePlace) (at : ℕ) (owed o : Owed) (word : ℕ) (i : Instr) (next : Owed) → owed ≡ o → IsWordOf word i → IsQuiet b at 4 o i next → IsQuietThere b at owed word next
+quiet_owed b at owed o word i next e is quiet = subst (λ (x : Owed). IsQuietThere b at x word next) (sym e) (quiet_word b at o word i next is quiet)
 
 module _ (b : BundlePlace) (at : ℕ) (before : IsBeforeEnd b at 4) where
-  pub plain_told : (word : ℕ) (o : Outline) → IsWordThat word o → is_plain b at o ≡ true → IsQuietWord b at Nothing word Nothing
+  pub plain_told : (word : ℕ) (o : Outline) → IsWordThat word o → is_plain b at o ≡ true → IsQuietThere b at Nothing word Nothing
   plain_told word o that h = record { instr = that.instr; spelled = that.spelled; quiet = plain b at 4 that.instr before (ap (is_plain b at) that.does ∙ h) }
 
-  pub plain_by : (word : ℕ) (o : Outline) (outline : Option Outline) → IfSome outline (IsWordThat word) → outline ≡ Some o → (r : Bool) → OnTrue r (is_plain b at o ≡ true) → OnTrue r (IsQuietWord b at Nothing word Nothing)
+  pub plain_by : (word : ℕ) (o : Outline) (outline : Option Outline) → IfSome outline (IsWordThat word) → outline ≡ Some o → (r : Bool) → OnTrue r (is_plain b at o ≡ true) → OnTrue r (IsQuietThere b at Nothing word Nothing)
   plain_by word o outline that is false h = tt
   plain_by word o outline that is true h = plain_told word o (subst (λ (x : Option Outline). IfSome x (IsWordThat word)) is that) h
 
@@ -49,18 +41,18 @@ module _ (b : BundlePlace) (at : ℕ) (before : IsBeforeEnd b at 4) where
   access_plain (Store width rs1 rs2 imm) a e f g = let base : a.base ≡ rs1 = ap base_of (sym e) in subst (λ (r : ℕ). may_access r ≡ true) base g
   access_plain i a e f g = absurd cc
 
-  pub access_told : (word : ℕ) (a : Access) → IsAccessOf word a → is_kept a.written ≡ false → may_access a.base ≡ true → IsQuietWord b at Nothing word Nothing
+  pub access_told : (word : ℕ) (a : Access) → IsAccessOf word a → is_kept a.written ≡ false → may_access a.base ≡ true → IsQuietThere b at Nothing word Nothing
   access_told word a that f g = record { instr = that.instr; spelled = that.spelled; quiet = plain b at 4 that.instr before (access_plain that.instr a that.accesses f g) }
 
-  pub use_told : (word d : ℕ) (i : Instr) → IsWordOf word i → uses d i ≡ true → (o : Outline) → o ≡ outline i → (r : Bool) → OnTrue r (is_plain b at o ≡ true) → OnTrue r (IsQuietWord b at (MaskOrUse d) word Nothing)
+  pub use_told : (word d : ℕ) (i : Instr) → IsWordOf word i → uses d i ≡ true → (o : Outline) → o ≡ outline i → (r : Bool) → OnTrue r (is_plain b at o ≡ true) → OnTrue r (IsQuietThere b at (MaskOrUse d) word Nothing)
   use_told word d i is u o e false h = tt
   use_told word d i is u o e true h = record { instr = i; spelled = is; quiet = used b at 4 d i before u (ap (is_plain b at) (sym e) ∙ h) }
 
-  pub free_told : (word rd : ℕ) → IsWordThat word (Computes rd) → is_kept rd ≡ false → IsQuietWord b at Nothing word Nothing
+  pub free_told : (word rd : ℕ) → IsWordThat word (Computes rd) → is_kept rd ≡ false → IsQuietThere b at Nothing word Nothing
   free_told word rd that h = plain_told word (Computes rd) that (not_from_false (is_kept rd) h)
 
   -- a word that computes into a typed register, where what it owes can be told
-  pub owing_told : (word rd : ℕ) (i : Instr) → IsWordThat word (Computes rd) → IsWordOf word i → (is_data_register rd || (rd == 30)) ≡ true → (own : Option Owed) → own ≡ owed_by i → IfSome own (IsQuietWord b at Nothing word)
+  pub owing_told : (word rd : ℕ) (i : Instr) → IsWordThat word (Computes rd) → IsWordOf word i → (is_data_register rd || (rd == 30)) ≡ true → (own : Option Owed) → own ≡ owed_by i → IfSome own (IsQuietThere b at Nothing word)
   owing_told word rd i that is h None e = tt
   owing_told word rd i that is h (Some next) e =
       let same : i ≡ that.instr = one_spelling word i that.instr is that.spelled in
@@ -75,7 +67,7 @@ half_told b at half o that true h = record { instr = that.instr; spelled = that.
 abbrev finding : BundlePlace → ℕ → ℕ → Owed → Instr → List Finding
 finding b at size owed i = found_at b at (lowest (record { bundle = b; address = at; owed = owed; instr = i; size = size }))
 
-pub found_wide : (b : BundlePlace) (at : ℕ) (owed : Owed) (word : List ℕ) (next : Owed) → length word ≡ 4 → IsQuietWord b at owed (word_at word 0) next → IsWordFound b at owed word [] next
+pub found_wide : (b : BundlePlace) (at : ℕ) (owed : Owed) (word : List ℕ) (next : Owed) → length word ≡ 4 → IsQuietThere b at owed (word_at word 0) next → IsWordFound b at owed word [] next
 found_wide b at owed word next whole q =
     let spelled : Spells (take 4 word) q.instr 4 = inr (record { size = refl; all = omega (arith, length-take 4 word, whole); spelled = q.spelled }) in
     let found : IsWordFound b at owed word (finding b at 4 owed q.instr) (owed_next owed q.instr) = word_wide b at owed word whole q.instr 4 spelled refl in
@@ -95,9 +87,9 @@ found_halves b at word whole before x y =
     subst (λ (l : List Finding). IsWordFound b at Nothing word l Nothing) none
     (subst (λ (o : Owed). IsWordFound b at Nothing word (finding b at 2 Nothing x.instr ++ finding b (at + 2) 2 (owed_next Nothing x.instr) y.instr) o) (sym after) found)
 
-pub wide_told : (b : BundlePlace) (at : ℕ) (owed : Owed) (word : List ℕ) (w : ℕ) (r : Option Owed) → length word ≡ 4 → w ≡ word_at word 0 → IfSome r (IsQuietWord b at owed w) → IfSome r (IsWordFound b at owed word [])
+pub wide_told : (b : BundlePlace) (at : ℕ) (owed : Owed) (word : List ℕ) (w : ℕ) (r : Option Owed) → length word ≡ 4 → w ≡ word_at word 0 → IfSome r (IsQuietThere b at owed w) → IfSome r (IsWordFound b at owed word [])
 wide_told b at owed word w None whole e h = tt
-wide_told b at owed word w (Some next) whole e h = found_wide b at owed word next whole (subst (λ (v : ℕ). IsQuietWord b at owed v next) e h)
+wide_told b at owed word w (Some next) whole e h = found_wide b at owed word next whole (subst (λ (v : ℕ). IsQuietThere b at owed v next) e h)
 
 pub halves_told : (b : BundlePlace) (at : ℕ) (owed : Owed) (word : List ℕ) (x y : ℕ) → owed ≡ Nothing → length word ≡ 4 → IsBeforeEnd b at 4 → x ≡ half_at word 0 → y ≡ half_at word 2
     → IsPlainHalf b at x → IsPlainHalf b (at + 2) y → IsWordFound b at owed word [] Nothing

@@ -1,14 +1,13 @@
 -- Which words of a block the masks tell to be free, and that these are quiet.
-use Rattle.sfi_scan.proofs.Prelude.{◌≡◌, ℕ, ◌+◌, ◌*◌, ◌/◌, ◌%◌, ◌^◌, ◌<◌, Bool, true, false, not, ◌&&◌, ◌||◌, ◌==◌, ◌⊎◌, inl, inr, List, length, refl, sym, ap, ap₂, ◌∙◌, subst, ◌-◌, arith, bit_and, agree_below_at, and_parts, and_right, eqb-true, is_in, IsWithout, BundlePlace, IsWithinBlock}
+use Rattle.sfi_scan.proofs.Prelude.{◌≡◌, ℕ, ◌+◌, ◌*◌, ◌/◌, ◌%◌, ◌^◌, ◌<◌, Bool, true, false, not, ◌&&◌, ◌||◌, ◌==◌, inl, inr, List, length, refl, sym, ap, ap₂, ◌∙◌, subst, ◌-◌, arith, bit_and, agree_below_at, and_parts, and_right, eqb-true, is_in, IsWithout, BundlePlace, IsWithinBlock, both_ways, cases_lt, not-true, Nothing, IsCleanWord, IsPairAt, IsSteppedWord}
 use Rattle.std.specs.Int.RustNames.{bit_or}
-use Rattle.std.proofs.lemmas.Bool.{cases_lt}
-use Rattle.sfi_rules.specs.declared.owed.Owed.TheVariants.{Nothing}
+use Rattle.std.proofs.lemmas.Bool.{cases_Bool, or_cases, or_right}
 use Rattle.sfi_masks.specs.Masks.{AreMasksInWords}
 use Rattle.sfi_masks.specs.declared.masks.Masks.{Masks}
 use Rattle.sfi_scan.specs.declared.block.TheConstants.{EVEN}
-use Rattle.sfi_scan.specs.private.WordBlock.{IsCleanWord, IsPairAt, IsQuietWord, IsSteppedWord, IsSeen, IsToldFree}
-use Rattle.sfi_scan.proofs.Bits.{in_and, in_or, in_shr, in_shl, in_shl_low, shl}
-use Rattle.sfi_scan.proofs.Seen.{stays, no_both}
+use Rattle.sfi_scan.specs.private.WordBlock.{IsQuietWord, IsSeen, IsToldFree}
+use Rattle.sfi_scan.proofs.Bits.{in_or, in_rest, in_rest_other, in_shr, in_shl, in_shl_low, shl}
+use Rattle.sfi_scan.proofs.Seen.{stays, taken}
 use Rattle.sfi_scan.proofs.WordSteps.{in_below}
 use Rattle.sfi_scan.proofs.WordBlock.{free_word_quiet, free_halves_quiet, first_of_pair, second_of_pair}
 
@@ -18,57 +17,39 @@ even_is i h = agree_below_at (λ i. is_in EVEN i) (λ i. i % 2 == 0) 64 i refl h
 in_even : (n : ℕ) → n < 32 → is_in EVEN (2 * n) ≡ true
 in_even n h = agree_below_at (λ n. is_in EVEN (2 * n)) (λ n. true) 32 n refl h
 
--- what is left of the first halfwords of words
-pub left_even : (free left : ℕ) → IsWithout EVEN free left → (i : ℕ) → i < 64 → is_in left i ≡ true → i % 2 ≡ 0
-left_even free left without i lt h =
-    let both = and_parts (is_in EVEN i) (not (is_in free i)) (sym (without i lt) ∙ h) in
-    eqb-true (i % 2) 0 (sym (even_is i lt) ∙ both.0)
-
-left_true : (p q : Bool) → (p || q) ≡ true → (p ≡ true) ⊎ (q ≡ true)
-left_true true q h = inl refl
-left_true false q h = inr h
-
-told : (m : Masks) (short i : ℕ) → IsWithout m.free m.long short → i + 1 < 64 → is_in (bit_and m.free (bit_or m.long (short / 2))) i ≡ true → IsToldFree m i
-told m short i without lt h =
-    let both = and_parts (is_in m.free i) (is_in (bit_or m.long (short / 2)) i) (sym (in_and m.free (bit_or m.long (short / 2)) i) ∙ h) in (
-      both.0,
-      elim (left_true (is_in m.long i) (is_in (short / 2) i) (sym (in_or m.long (short / 2) i) ∙ both.1)) [
-        | inl long ↦ inl long
-        | inr after ↦ (
-            let e : 1 + i ≡ i + 1 = omega arith in
-            let there : is_in short (i + 1) ≡ true = ap (is_in short) (sym e) ∙ sym (in_shr short 1 i) ∙ after in
-            let parts = and_parts (is_in m.free (i + 1)) (not (is_in m.long (i + 1))) (sym (without (i + 1) lt) ∙ there) in
-            inr (not_false (is_in m.long (i + 1)) parts.1, parts.0))
-      ],
-    )
-  where
-    not_false : (b : Bool) → not b ≡ true → b ≡ false
-    not_false true e = cc
-    not_false false e = refl
-
-pub told_free : (m : Masks) (short left : ℕ) → IsWithout m.free m.long short → IsWithout EVEN (bit_and m.free (bit_or m.long (short / 2))) left
-    → (n : ℕ) → n < 32 → is_in left (2 * n) ≡ false → IsToldFree m (2 * n)
-told_free m short left first second n lt none = by (is_in (bit_and m.free (bit_or m.long (short / 2))) (2 * n)) refl
-  where
-    by : (f : Bool) → is_in (bit_and m.free (bit_or m.long (short / 2))) (2 * n) ≡ f → IsToldFree m (2 * n)
-    by true e = told m short (2 * n) first (omega (arith, lt)) e
-    by false e = absurd (no_both (is_in left (2 * n)) (stays EVEN _ left (2 * n) second (omega (arith, lt)) (in_even n lt) e) none)
-
-pub told_quiet : (block : List ℕ) (m : Masks) (n : ℕ) → length block ≡ 128 → AreMasksInWords block m → n < 32 → IsToldFree m (2 * n) → IsQuietWord block (2 * n)
-told_quiet block m n long are lt h = by (is_in m.long (2 * n)) refl h.1
-  where
-    wide : is_in m.long (2 * n) ≡ true → IsQuietWord block (2 * n)
-    wide e = free_word_quiet block long (2 * n) (omega arith) (omega (arith, lt)) (are.word (2 * n) (omega (arith, lt)) (omega (arith, lt)) h.0 e)
-
-    by : (w : Bool) → is_in m.long (2 * n) ≡ w → (is_in m.long (2 * n) ≡ true) ⊎ ((is_in m.long (2 * n + 1) ≡ false) × (is_in m.free (2 * n + 1) ≡ true)) → IsQuietWord block (2 * n)
-    by true e k = wide e
-    by false e (inl l) = wide l
-    by false e (inr second) =
-        free_halves_quiet block long (2 * n) (omega arith) (omega (arith, lt)) (are.short (2 * n) (omega (arith, lt)) h.0 e) (are.short (2 * n + 1) (omega (arith, lt)) second.1 second.0)
-
 -- what is left of a mask was in it
 pub stays_in : (a b rest i : ℕ) → IsWithout a b rest → i < 64 → is_in rest i ≡ true → is_in a i ≡ true
 stays_in a b rest i without lt h = (and_parts (is_in a i) (not (is_in b i)) (sym (without i lt) ∙ h)).0
+
+-- what is left of the first halfwords of words
+pub left_even : (free left : ℕ) → IsWithout EVEN free left → (i : ℕ) → i < 64 → is_in left i ≡ true → i % 2 ≡ 0
+left_even free left without i lt h = eqb-true (i % 2) 0 (sym (even_is i lt) ∙ stays_in EVEN free left i without lt h)
+
+told : (m : Masks) (short i : ℕ) → IsWithout m.free m.long short → i + 1 < 64 → is_in (bit_and m.free (bit_or m.long (short / 2))) i ≡ true → IsToldFree m i
+told m short i without lt h = (
+  in_rest m.free (bit_or m.long (short / 2)) i h,
+  elim (or_cases (is_in m.long i) (is_in (short / 2) i) (sym (in_or m.long (short / 2) i) ∙ in_rest_other m.free (bit_or m.long (short / 2)) i h)) [
+    | inl long ↦ inl long
+    | inr after ↦ (
+        let e : 1 + i ≡ i + 1 = omega arith in
+        let there : is_in short (i + 1) ≡ true = ap (is_in short) (sym e) ∙ sym (in_shr short 1 i) ∙ after in
+        let parts = and_parts (is_in m.free (i + 1)) (not (is_in m.long (i + 1))) (sym (without (i + 1) lt) ∙ there) in
+        inr (not-true (is_in m.long (i + 1)) parts.1, parts.0))
+  ],
+)
+
+pub told_free : (m : Masks) (short left : ℕ) → IsWithout m.free m.long short → IsWithout EVEN (bit_and m.free (bit_or m.long (short / 2))) left
+    → (n : ℕ) → n < 32 → is_in left (2 * n) ≡ false → IsToldFree m (2 * n)
+told_free m short left first second n lt none = told m short (2 * n) first (omega (arith, lt)) (taken EVEN (bit_and m.free (bit_or m.long (short / 2))) left (2 * n) second (omega (arith, lt)) (in_even n lt) none)
+
+pub told_quiet : (block : List ℕ) (m : Masks) (n : ℕ) → length block ≡ 128 → AreMasksInWords block m → n < 32 → IsToldFree m (2 * n) → IsQuietWord block (2 * n)
+told_quiet block m n long are lt h = elim (cases_Bool (is_in m.long (2 * n))) [
+  | inl wide ↦ free_word_quiet block long (2 * n) (omega arith) (omega (arith, lt)) (are.word (2 * n) (omega (arith, lt)) (omega (arith, lt)) h.0 wide)
+  | inr short ↦ elim h.1 [
+    | inl wide ↦ absurd (both_ways (is_in m.long (2 * n)) short wide)
+    | inr second ↦ free_halves_quiet block long (2 * n) (omega arith) (omega (arith, lt)) (are.short (2 * n) (omega (arith, lt)) h.0 short) (are.short (2 * n + 1) (omega (arith, lt)) second.1 second.0)
+  ]
+]
 
 -- what was not in it, or was taken out, is not left
 not_there : (a b rest i : ℕ) → IsWithout a b rest → i < 64 → is_in a i ≡ false → is_in rest i ≡ false
@@ -76,14 +57,6 @@ not_there a b rest i without lt h = without i lt ∙ ap (λ p. p && not (is_in b
 
 taken_out : (a b rest i : ℕ) → IsWithout a b rest → i < 64 → is_in b i ≡ true → is_in rest i ≡ false
 taken_out a b rest i without lt h = without i lt ∙ and_right (is_in a i) (not (is_in b i)) (ap not h)
-
-or_first : (p q : Bool) → p ≡ true → (p || q) ≡ true
-or_first true q h = refl
-or_first false q h = absurd cc
-
-or_second : (p q : Bool) → q ≡ true → (p || q) ≡ true
-or_second true q h = refl
-or_second false q h = h
 
 -- ---- pairs
 
@@ -94,9 +67,8 @@ pub record AreTwo (words i : ℕ) : Type 0 where
 pub two_words : (words i : ℕ) → words < 2 ^ 64 → is_in (bit_and words (words / 4)) i ≡ true → AreTwo words i
 two_words words i fits h =
     let e : 2 + i ≡ i + 2 = omega arith in
-    let both = and_parts (is_in words i) (is_in (words / 4) i) (sym (in_and words (words / 4) i) ∙ h) in
-    let there : is_in words (i + 2) ≡ true = ap (is_in words) (sym e) ∙ sym (in_shr words 2 i) ∙ both.1 in
-    record { below = in_below words (i + 2) fits there; first = both.0 }
+    let there : is_in words (i + 2) ≡ true = ap (is_in words) (sym e) ∙ sym (in_shr words 2 i) ∙ in_rest_other words (words / 4) i h in
+    record { below = in_below words (i + 2) fits there; first = in_rest words (words / 4) i h }
 
 -- ---- what is seen of the words that aren't left
 
@@ -112,7 +84,7 @@ module _ (b : BundlePlace) (block : List ℕ) (words pairs others steps rest pla
   first_seen : (i : ℕ) → is_in pairs i ≡ true → IsSeen b block left i
   first_seen i h = elim (first_of_pair block i long (of_pairs i h)) [
     | inl alone ↦ inl (alone b within)
-    | inr both ↦ inr (both, gone (i + 2) both.below (taken_out words _ others (i + 2) first both.below (in_or pairs (shl pairs 2) (i + 2) ∙ or_second (is_in pairs (i + 2)) (is_in (shl pairs 2) (i + 2)) (shifted both.below))))
+    | inr both ↦ inr (both, gone (i + 2) both.below (taken_out words _ others (i + 2) first both.below (in_or pairs (shl pairs 2) (i + 2) ∙ or_right (is_in pairs (i + 2)) (is_in (shl pairs 2) (i + 2)) (shifted both.below))))
   ]
     where
       shifted : i + 2 < 64 → is_in (shl pairs 2) (i + 2) ≡ true
@@ -120,7 +92,7 @@ module _ (b : BundlePlace) (block : List ℕ) (words pairs others steps rest pla
 
   second_seen : (i : ℕ) → i < 64 → is_in (shl pairs 2) i ≡ true → IsSeen b block left i
   second_seen i lt h = elim (cases_lt i 2) [
-    | inl low ↦ absurd (no_both (is_in (shl pairs 2) i) h (in_shl_low pairs 2 i low lt))
+    | inl low ↦ absurd (both_ways (is_in (shl pairs 2) i) (in_shl_low pairs 2 i low lt) h)
     | inr high ↦ (let e : i ≡ 2 + (i - 2) = omega (arith, high) in
         let there : is_in pairs (i - 2) ≡ true = sym (in_shl pairs 2 (i - 2) (omega (arith, high, lt))) ∙ ap (is_in (shl pairs 2)) (sym e) ∙ h in
         let same : i - 2 + 2 ≡ i = omega (arith, high) in
@@ -145,7 +117,7 @@ module _ (b : BundlePlace) (block : List ℕ) (words pairs others steps rest pla
           let none_of : is_in (bit_or pairs (shl pairs 2)) (2 * n) ≡ false = in_or pairs (shl pairs 2) (2 * n) ∙ ap₂ (λ x y. x || y) f g in
           let one = stays words (bit_or pairs (shl pairs 2)) others (2 * n) first low e none_of in
           let two = stays others steps rest (2 * n) second low one h in
-          absurd (no_both (is_in left (2 * n)) (stays rest plain left (2 * n) third low two k) none)
+          absurd (both_ways (is_in left (2 * n)) none (stays rest plain left (2 * n) third low two k))
 
 -- ---- the steps before an access
 
@@ -159,15 +131,10 @@ pub before_access : (accesses words rest i : ℕ) → accesses < 2 ^ 64 → IsWi
 before_access accesses words rest i fits without lt h =
     let e : 2 + i ≡ i + 2 = omega arith in
     let parts = and_parts (is_in (bit_and words (accesses / 4)) i) (not (is_in (words / 4) i)) (sym (without i lt) ∙ h) in
-    let both = and_parts (is_in words i) (is_in (accesses / 4) i) (sym (in_and words (accesses / 4) i) ∙ parts.0) in
-    let there : is_in accesses (i + 2) ≡ true = ap (is_in accesses) (sym e) ∙ sym (in_shr accesses 2 i) ∙ both.1 in
+    let there : is_in accesses (i + 2) ≡ true = ap (is_in accesses) (sym e) ∙ sym (in_shr accesses 2 i) ∙ in_rest_other words (accesses / 4) i parts.0 in
     record {
       below = in_below accesses (i + 2) fits there;
-      word = both.0;
+      word = in_rest words (accesses / 4) i parts.0;
       access = there;
-      apart = ap (is_in words) (sym e) ∙ sym (in_shr words 2 i) ∙ not_false (is_in (words / 4) i) parts.1;
+      apart = ap (is_in words) (sym e) ∙ sym (in_shr words 2 i) ∙ not-true (is_in (words / 4) i) parts.1;
     }
-  where
-    not_false : (b : Bool) → not b ≡ true → b ≡ false
-    not_false true e = cc
-    not_false false e = refl

@@ -1,13 +1,8 @@
 -- The words of pairs, and what owes something itself: each breaks no rule where what is owed is met.
-use Rattle.sfi_scan.proofs.Prelude.{◌≡◌, ℕ, ◌==◌, true, ◌||◌, Some, refl, Instr, Op, And, Or, outline, BundlePlace}
-use Rattle.std.proofs.Common.{eq-eqb}
-use Rattle.std.proofs.lemmas.Bool.{or_left}
-use Rattle.rv_word.specs.declared.outline.Outline.TheVariants.{Computes}
-use Rattle.sfi_policy.specs.Registers.{is_data_register}
-use Rattle.sfi_rules.specs.declared.owed.Owed.{Owed}
-use Rattle.sfi_rules.specs.declared.owed.Owed.TheVariants.{Nothing, Mask, Place, MaskOrUse, Code}
-use Rattle.sfi_rules.specs.words.Owing.{left, owed_by}
-use Rattle.sfi_scan.specs.private.WordLook.{IsQuiet, IsBeforeEnd}
+use Rattle.sfi_scan.proofs.Prelude.{◌≡◌, ℕ, ◌==◌, true, ◌||◌, Some, refl, ap, and_parts, eqb-true, Instr, Op, OpImm, And, Or, outline, BundlePlace, eq-eqb, or_left, Computes, is_data_register, Owed, Nothing, MaskOrUse, Code, owed_by, IsQuiet, IsBeforeEnd}
+use Rattle.rv_word.specs.declared.instr.ImmOp.TheVariants.{Addi}
+use Rattle.sfi_rules.specs.declared.owed.Owed.TheVariants.{Mask, Place}
+use Rattle.sfi_rules.specs.words.Rules.{is_step}
 use Rattle.sfi_scan.proofs.WordKept.{IsWrite, typed}
 use Rattle.sfi_scan.proofs.WordPlain.{computing}
 use Rattle.sfi_scan.proofs.WordQuiet.{quiet_where}
@@ -26,36 +21,27 @@ placing_code = Op Or 30 30 24
 masking_write : (a : ℕ) → IsWrite (masking a) Nothing
 masking_write a = record { reserved = refl; offset = refl; own_is = refl }
 
-left_mask : (d : ℕ) → left (Mask d) (masking d) ≡ Some (Place d)
-left_mask d = let same : (d == d) ≡ true = eq-eqb d d refl in rw same refl
-
-left_mask_or_use : (d : ℕ) → left (MaskOrUse d) (masking d) ≡ Some (Place d)
-left_mask_or_use d = let same : (d == d) ≡ true = eq-eqb d d refl in rw same refl
-
-left_place : (d : ℕ) → left (Place d) (placing d) ≡ Some Nothing
-left_place d = let same : (d == d) ≡ true = eq-eqb d d refl in rw same refl
-
-own_place : (d : ℕ) → is_data_register d ≡ true → owed_by (placing d) ≡ Some Nothing
-own_place d h = let same : (d == d) ≡ true = eq-eqb d d refl in rw (h, same) refl
+same : (d : ℕ) → (d == d) ≡ true
+same d = eq-eqb d d refl
 
 placing_write : (d : ℕ) → is_data_register d ≡ true → IsWrite (placing d) Nothing
-placing_write d h = typed (placing d) d Nothing refl (or_left (is_data_register d) (d == 30) h) (own_place d h)
+placing_write d h = typed (placing d) d Nothing refl (or_left (is_data_register d) (d == 30) h) (rw (h, same d) refl)
 
 module _ (b : BundlePlace) (at size : ℕ) (before : IsBeforeEnd b at size) where
   pub masked : (a : ℕ) → IsQuiet b at size Nothing (masking a) Nothing
   masked a = quiet_where b at size before Nothing Nothing Nothing (masking a) (computing b at (masking a) 31 refl).safe (masking_write a) refl
 
   pub masked_owed : (d : ℕ) → IsQuiet b at size (Mask d) (masking d) (Place d)
-  masked_owed d = quiet_where b at size before (Mask d) (Place d) Nothing (masking d) (computing b at (masking d) 31 refl).safe (masking_write d) (left_mask d)
+  masked_owed d = quiet_where b at size before (Mask d) (Place d) Nothing (masking d) (computing b at (masking d) 31 refl).safe (masking_write d) (rw (same d) refl)
 
   pub masked_or_used : (d : ℕ) → IsQuiet b at size (MaskOrUse d) (masking d) (Place d)
-  masked_or_used d = quiet_where b at size before (MaskOrUse d) (Place d) Nothing (masking d) (computing b at (masking d) 31 refl).safe (masking_write d) (left_mask_or_use d)
+  masked_or_used d = quiet_where b at size before (MaskOrUse d) (Place d) Nothing (masking d) (computing b at (masking d) 31 refl).safe (masking_write d) (rw (same d) refl)
 
   pub placed : (d : ℕ) → is_data_register d ≡ true → IsQuiet b at size Nothing (placing d) Nothing
   placed d h = quiet_where b at size before Nothing Nothing Nothing (placing d) (computing b at (placing d) d refl).safe (placing_write d h) refl
 
   pub placed_owed : (d : ℕ) → is_data_register d ≡ true → IsQuiet b at size (Place d) (placing d) Nothing
-  placed_owed d h = quiet_where b at size before (Place d) Nothing Nothing (placing d) (computing b at (placing d) d refl).safe (placing_write d h) (left_place d)
+  placed_owed d h = quiet_where b at size before (Place d) Nothing Nothing (placing d) (computing b at (placing d) d refl).safe (placing_write d h) (rw (same d) refl)
 
   pub code_owed : IsQuiet b at size Code placing_code Nothing
   code_owed = quiet_where b at size before Code Nothing Nothing placing_code (computing b at placing_code 30 refl).safe (record { reserved = refl; offset = refl; own_is = refl }) refl
@@ -65,3 +51,12 @@ module _ (b : BundlePlace) (at size : ℕ) (before : IsBeforeEnd b at size) wher
   owing rd i next e h own =
       let c = computing b at i rd e in
       quiet_where b at size before Nothing Nothing next i c.safe (typed i rd next c.writes h own) refl
+
+  -- a step of a data register
+  pub stepping : (d : ℕ) (i : Instr) → is_data_register d ≡ true → is_step d i ≡ true → IsQuiet b at size Nothing i (MaskOrUse d)
+  stepping d (OpImm Addi rd rs1 imm) h s =
+      let both = and_parts (rd == d) (rs1 == d) s in
+      let one : rd ≡ d = eqb-true rd d both.0 in
+      let two : rs1 ≡ d = eqb-true rs1 d both.1 in
+      owing d (OpImm Addi rd rs1 imm) (MaskOrUse d) (ap Computes one) (or_left (is_data_register d) (d == 30) h) (rw (one, two, h, same d) refl)
+  stepping d i h s = absurd cc

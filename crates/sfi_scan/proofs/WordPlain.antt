@@ -1,13 +1,8 @@
 -- What an outline tells of an instruction of code in words.
-use Rattle.sfi_scan.proofs.Prelude.{◌≡◌, ℕ, ◌==◌, Bool, true, false, ◌&&◌, not, Some, ℤ, pos, negsuc, refl, subst, OnTrue, and_parts, Instr, Op, OpImm, Load, Store, Branch, Jal, Jalr, Lui, Auipc, Fence, Ecall, Ebreak, outline, BundlePlace, is_zero}
-use Rattle.std.proofs.lemmas.Bool.{not-true, not_from_true}
+use Rattle.sfi_scan.proofs.Prelude.{◌≡◌, ℕ, ◌==◌, Bool, true, false, ◌&&◌, not, Some, ℤ, pos, negsuc, refl, subst, OnTrue, and_parts, Instr, Op, OpImm, Load, Store, Branch, Jal, Jalr, Lui, Auipc, Ecall, outline, BundlePlace, is_zero, not-true, destination, Computes, uses, left, Nothing, MaskOrUse, is_kept, is_plain, IsQuiet, IsBeforeEnd}
+use Rattle.std.proofs.lemmas.Bool.{not_from_true}
 use Rattle.rv_word.specs.Numbers.{offset_by}
-use Rattle.rv_word.specs.Writes.{destination}
-use Rattle.rv_word.specs.declared.outline.Outline.TheVariants.{Computes}
-use Rattle.sfi_rules.specs.words.Rules.{may_access, is_word_start, uses}
-use Rattle.sfi_rules.specs.words.Owing.{left}
-use Rattle.sfi_rules.specs.declared.owed.Owed.TheVariants.{Nothing, MaskOrUse}
-use Rattle.sfi_scan.specs.private.WordLook.{is_kept, is_plain, IsQuiet, IsBeforeEnd}
+use Rattle.sfi_rules.specs.words.Rules.{may_access, is_word_start}
 use Rattle.sfi_scan.proofs.WordKept.{is_kept_one, unkept}
 use Rattle.sfi_scan.proofs.WordQuiet.{IsSafe, quiet_where}
 
@@ -33,10 +28,6 @@ computing b at i rd e = absurd cc
 
 module _ (b : BundlePlace) (at : ℕ) where
   plain_safe : (i : Instr) → is_plain b at (outline i) ≡ true → IsSafe b at i
-  plain_safe (Op op rd rs1 rs2) h = record { ecall = refl; access = refl; jump = refl; target = refl }
-  plain_safe (OpImm op rd rs1 imm) h = record { ecall = refl; access = refl; jump = refl; target = refl }
-  plain_safe (Lui rd imm) h = record { ecall = refl; access = refl; jump = refl; target = refl }
-  plain_safe (Auipc rd imm) h = record { ecall = refl; access = refl; jump = refl; target = refl }
   plain_safe (Load kind rd rs1 imm) h = record { ecall = refl; access = not_from_true (may_access rs1) (and_parts (not (is_kept rd)) (may_access rs1) h).1; jump = refl; target = refl }
   plain_safe (Store width rs1 rs2 imm) h = record { ecall = refl; access = not_from_true (may_access rs1) h; jump = refl; target = refl }
   plain_safe (Branch cond rs1 rs2 offset) h = record { ecall = refl; access = refl; jump = refl; target = not_from_true (is_word_start b.code_base b.code_size (offset_by at offset)) h }
@@ -44,9 +35,8 @@ module _ (b : BundlePlace) (at : ℕ) where
       record { ecall = refl; access = refl; jump = refl; target = not_from_true (is_word_start b.code_base b.code_size (offset_by at offset)) (and_parts (not (is_kept rd)) (is_word_start b.code_base b.code_size (offset_by at offset)) h).1 }
   plain_safe (Jalr rd rs1 (pos n)) h = record { ecall = refl; access = refl; jump = not_from_true ((n == 0) && (rs1 == 30)) (and_parts (not (is_kept rd)) ((n == 0) && (rs1 == 30)) h).1; target = refl }
   plain_safe (Jalr rd rs1 (negsuc n)) h = absurd (let no = (and_parts (not (is_kept rd)) false h).1 in cc)
-  plain_safe (Fence imm rd rs1) h = record { ecall = refl; access = refl; jump = refl; target = refl }
   plain_safe Ecall h = absurd cc
-  plain_safe Ebreak h = record { ecall = refl; access = refl; jump = refl; target = refl }
+  plain_safe i h = record { ecall = refl; access = refl; jump = refl; target = refl }
 
   plain_unkept : (i : Instr) → is_plain b at (outline i) ≡ true → is_kept_one (destination i) ≡ false
   plain_unkept (Op op rd rs1 rs2) h = not-true (is_kept rd) h
@@ -54,13 +44,9 @@ module _ (b : BundlePlace) (at : ℕ) where
   plain_unkept (Lui rd imm) h = not-true (is_kept rd) h
   plain_unkept (Auipc rd imm) h = not-true (is_kept rd) h
   plain_unkept (Load kind rd rs1 imm) h = not-true (is_kept rd) (and_parts (not (is_kept rd)) (may_access rs1) h).0
-  plain_unkept (Store width rs1 rs2 imm) h = refl
-  plain_unkept (Branch cond rs1 rs2 offset) h = refl
   plain_unkept (Jal rd offset) h = not-true (is_kept rd) (and_parts (not (is_kept rd)) (is_word_start b.code_base b.code_size (offset_by at offset)) h).0
   plain_unkept (Jalr rd rs1 imm) h = not-true (is_kept rd) (and_parts (not (is_kept rd)) (is_zero imm && (rs1 == 30)) h).0
-  plain_unkept (Fence imm rd rs1) h = refl
-  plain_unkept Ecall h = refl
-  plain_unkept Ebreak h = refl
+  plain_unkept i h = refl
 
   pub plain : (size : ℕ) (i : Instr) → IsBeforeEnd b at size → is_plain b at (outline i) ≡ true → IsQuiet b at size Nothing i Nothing
   plain size i before h = quiet_where b at size before Nothing Nothing Nothing i (plain_safe i h) (unkept i (plain_unkept i h)) refl

@@ -1,68 +1,25 @@
 -- The longest reading of a word, and what is found in it.
-use Rattle.std.proofs.Common.{append_assoc, Option, None, ◌≡◌, ℕ, ◌+◌, ◌-◌, ◌<◌, ◌≤◌, ◌⊎◌, List, [], ◌∷◌, ◌++◌, length, take, drop, cond, Some, refl, sym, ap, ◌∙◌, subst, inl, inr, arith, ⊎_elim}
-use Rattle.std.specs.Int.{w16, from_le_bytes}
-use Rattle.std.proofs.lemmas.List.{length-drop, length-append, append-nil, take_all}
-use Rattle.rv_word.specs.declared.instr.Instr.{Instr}
+use Rattle.sfi_scan.proofs.Prelude.{append_assoc, Option, None, ◌≡◌, ℕ, ◌+◌, ◌-◌, ◌<◌, ◌≤◌, List, [], ◌∷◌, ◌++◌, length, take, drop, cond, Some, refl, sym, ap, ◌∙◌, subst, inl, inr, arith, w16, from_le_bytes, length-drop, length-append, append-nil, take_all, Instr, Spells, IsCutShort, SpellsNothing, BundlePlace, Piece, IsLongestReading, rest_of, is_empty, Finding, Owed, Rule, V1, V2, IsWordFound}
 use Rattle.rv_word.specs.declared.length.Length.{Length}
 use Rattle.rv_word.specs.declared.length.Length.TheVariants.{Wide}
 use Rattle.rv_word.specs.declared.length.Length.TheVariants as lengths
 use Rattle.rv_word.specs.Lengths.{length_of}
-use Rattle.rv_comp.specs.declared.front.Front.{Front}
-use Rattle.rv_comp.specs.declared.front.Front.TheVariants.{Read, Short, Bad}
-use Rattle.rv_comp.specs.Fronts.{Spells, IsCutShort, IsFront}
-use Rattle.sfi_image.specs.declared.bundle.BundlePlace.{BundlePlace}
-use Rattle.sfi_rules.specs.Readings.{Piece, IsReading, IsLongestReading, rest_of}
-use Rattle.sfi_rules.specs.Rules.{is_empty}
-use Rattle.sfi_rules.proofs.Readings.{front_one}
-use Rattle.sfi_rules.specs.declared.finding.Finding.{Finding}
-use Rattle.sfi_rules.specs.declared.owed.Owed.{Owed}
 use Rattle.sfi_rules.specs.declared.owed.Owed.TheVariants as kind
-use Rattle.sfi_rules.specs.declared.rule.Rule.{Rule}
-use Rattle.sfi_rules.specs.declared.rule.Rule.TheVariants.{V1, V2}
 use Rattle.sfi_rules.specs.words.Owing.{owed_next}
-use Rattle.sfi_rules.specs.words.Findings.{lowest, found_at, found_from, owed_past, IsWordFound}
+use Rattle.sfi_rules.specs.words.Findings.{lowest, found_at, found_from, owed_past}
 use Rattle.sfi_rules.specs.Broken.{rest_finding, rule_of_length, broken}
 use Rattle.sfi_rules.proofs.Readings.{IsStuck, spelled_within}
+use Rattle.sfi_scan.proofs.After.{longest_more, longest_none, no_bytes_left, tail_is}
 
--- ---- longest readings
-
-pub longest_none : (bytes : List ℕ) → IsStuck bytes → IsLongestReading bytes []
-longest_none bytes stuck = record { is_reading = tt; longest = most }
-  where
-    most : (other : List Piece) → IsReading bytes other → length other ≤ 0
-    most [] r = omega arith
-    most (x ∷ other) r = absurd (stuck x.instr x.size r.0)
-
-pub longest_more : (bytes : List ℕ) (x : Piece) (later : List Piece) → Spells (take x.size bytes) x.instr x.size → IsLongestReading (drop x.size bytes) later → IsLongestReading bytes (x ∷ later)
-longest_more bytes x later s h = record { is_reading = (s, h.is_reading); longest = most }
-  where
-    most : (other : List Piece) → IsReading bytes other → length other ≤ length (x ∷ later)
-    most [] r = omega arith
-    most (y ∷ other) r =
-        let same = front_one bytes y x r.0 s in
-        let k = h.longest other (subst (λ (z : Piece). IsReading (drop z.size bytes) other) same r.1) in
-        omega arith
-
-pub no_bytes_left : (bytes : List ℕ) → length bytes ≡ 0 → IsStuck bytes
-no_bytes_left bytes e i n s = let w = spelled_within bytes i n s in omega (arith, w.0, w.1, e)
-
-empty_list : (bytes : List ℕ) → length bytes ≡ 0 → bytes ≡ []
+pub empty_list : {A : Type 0} (xs : List A) → length xs ≡ 0 → xs ≡ []
 empty_list [] e = refl
-empty_list (x ∷ bytes) e = absurd (omega arith)
-
--- what isn't read spells nothing
-pub stuck_of : (bytes : List ℕ) (front : Front) → (front ≡ Short) ⊎ (front ≡ Bad) → ((other : Front) → IsFront bytes other → front ≡ other) → IsStuck bytes
-stuck_of bytes front (inl e) only i n s = let f : Short ≡ Read i n = sym e ∙ only (Read i n) s in cc
-stuck_of bytes front (inr e) only i n s = let f : Bad ≡ Read i n = sym e ∙ only (Read i n) s in cc
+empty_list (x ∷ xs) e = absurd (omega arith)
 
 -- ---- sizes
 
-pub two_or_four : (bytes : List ℕ) (i : Instr) (n : ℕ) → Spells bytes i n → (n ≡ 2) ⊎ (n ≡ 4)
-two_or_four bytes i n (inl s) = inl s.size
-two_or_four bytes i n (inr s) = inr s.size
-
 pub two_of : (bytes : List ℕ) (i : Instr) (n : ℕ) → Spells (take n bytes) i n → (n ≡ 4 → ⊥) → n ≡ 2
-two_of bytes i n s unlike = ⊎_elim (λ e. e) (λ e. absurd (unlike e)) (two_or_four (take n bytes) i n s)
+two_of bytes i n (inl s) unlike = s.size
+two_of bytes i n (inr s) unlike = absurd (unlike s.size)
 
 pub two_in : (bytes : List ℕ) (i : Instr) (n : ℕ) → Spells (take n bytes) i n → length bytes < 4 → n ≡ 2
 two_in bytes i n s few = two_of bytes i n s (λ e. let w = spelled_within bytes i n s in omega (arith, w.1, e, few))
@@ -86,11 +43,7 @@ module _ (b : BundlePlace) (at : ℕ) (owed : Owed) (word : List ℕ) (whole : l
       by : (w : List ℕ) → length w ≡ 4 → IsStuck w → IsWordFound b at owed w (broken b at V1 ∷ []) kind.Nothing
       by (k ∷ l ∷ m ∷ n ∷ []) e stuck =
           found_as b at owed (k ∷ l ∷ m ∷ n ∷ []) (broken b at V1 ∷ []) kind.Nothing [] (k ∷ l ∷ m ∷ n ∷ []) (longest_none _ stuck) refl (ap (λ (a : ℕ). broken b a V1 ∷ []) (let sum : at ≡ at + 0 = omega arith in sum)) refl
-      by [] e stuck = absurd (omega arith)
-      by (k ∷ []) e stuck = absurd (omega arith)
-      by (k ∷ l ∷ []) e stuck = absurd (omega arith)
-      by (k ∷ l ∷ m ∷ []) e stuck = absurd (omega arith)
-      by (k ∷ l ∷ m ∷ n ∷ o ∷ w) e stuck = absurd (omega arith)
+      by w e stuck = absurd (omega arith)
 
   module _ (i : Instr) (n : ℕ) (s : Spells (take n word) i n) where
     abbrev pub first : List Finding
@@ -130,9 +83,7 @@ module _ (b : BundlePlace) (at : ℕ) (owed : Owed) (word : List ℕ) (whole : l
         where
           rest_is : (rest : List ℕ) → length rest ≡ 2 → length_of (from_le_bytes w16 rest) ≡ length_is → (rest_finding b (at + (4 - length rest)) rest ≡ broken b (at + 2) (rule_of_length length_is) ∷ []) × (cond (is_empty rest) (owed_past owed (record { instr = i; size = n } ∷ [])) kind.Nothing ≡ kind.Nothing)
           rest_is (low ∷ high ∷ []) f g = (ap (λ (k : Length). broken b (at + 2) (rule_of_length k) ∷ []) g, refl)
-          rest_is [] f g = absurd (omega arith)
-          rest_is (low ∷ []) f g = absurd (omega arith)
-          rest_is (low ∷ high ∷ more ∷ rest) f g = absurd (omega arith)
+          rest_is rest f g = absurd (omega arith)
 
 -- ---- the length that two bytes tell, where they are no instruction
 
@@ -145,12 +96,7 @@ not_wide bytes e enough = by (length_of (from_le_bytes w16 bytes)) refl
   where
     by : (k : Length) → length_of (from_le_bytes w16 bytes) ≡ k → rule_of_length k ≡ V1
     by lengths.Wide f = absurd (enough (inr (omega arith, ap (λ (l : List ℕ). length_of (from_le_bytes w16 l)) (take_all 2 bytes (omega arith)) ∙ f)))
-    by lengths.Short f = refl
-    by lengths.Longer f = refl
-
--- a slice up to the end
-pub slice_end : (n : ℕ) (bytes : List ℕ) → take (length bytes - n) (drop n bytes) ≡ drop n bytes
-slice_end n bytes = take_all (length bytes - n) (drop n bytes) (omega (arith, length-drop n bytes))
+    by k f = refl
 
 -- ---- what the scan of a word adds
 
@@ -173,7 +119,7 @@ module _ (b : BundlePlace) (at : ℕ) (owed : Owed) (word : List ℕ) (whole : l
       rest_is = ap (λ (k : ℕ). drop k word) two
 
       slice_is : take (length word - 2) (drop 2 word) ≡ drop n word
-      slice_is = slice_end 2 word ∙ sym rest_is
+      slice_is = tail_is 2 word ∙ sym rest_is
 
       pub adds_two : (j : Instr) (m : ℕ) (new : List Finding) (last : Owed) → Spells (take m (take (length word - 2) (drop 2 word))) j m
           → new ≡ mid ++ found_at b (at + 2) (lowest (record { bundle = b; address = at + 2; owed = next; instr = j; size = m })) → last ≡ owed_next next j → Adds b at owed word old new last
@@ -202,12 +148,10 @@ module _ (b : BundlePlace) (at : ℕ) (owed : Owed) (word : List ℕ) (whole : l
       two_left : length (drop n word) ≡ 2
       two_left = omega (arith, length-drop n word, two, whole)
 
-      pub adds_cut : (new : List Finding) (front : Front) → front ≡ Short → IsCutShort (take (length word - 2) (drop 2 word)) → ((other : Front) → IsFront (take (length word - 2) (drop 2 word)) other → front ≡ other)
-          → new ≡ mid ++ found_at b (at + 2) (Some V2) → Adds b at owed word old new kind.Nothing
-      adds_cut new front e cut only new_is =
-          adds_rest Wide V2 new (cut_wide (drop n word) two_left (subst IsCutShort slice_is cut)) refl (subst IsStuck slice_is (stuck_of (take (length word - 2) (drop 2 word)) front (inl e) only)) new_is
+      pub adds_cut : (new : List Finding) → IsStuck (take (length word - 2) (drop 2 word)) → IsCutShort (take (length word - 2) (drop 2 word)) → new ≡ mid ++ found_at b (at + 2) (Some V2) → Adds b at owed word old new kind.Nothing
+      adds_cut new stuck cut new_is = adds_rest Wide V2 new (cut_wide (drop n word) two_left (subst IsCutShort slice_is cut)) refl (subst IsStuck slice_is stuck) new_is
 
-      pub adds_bad : (new : List Finding) (front : Front) → front ≡ Bad → (IsCutShort (take (length word - 2) (drop 2 word)) → ⊥) → ((other : Front) → IsFront (take (length word - 2) (drop 2 word)) other → front ≡ other)
-          → new ≡ mid ++ found_at b (at + 2) (Some V1) → Adds b at owed word old new kind.Nothing
-      adds_bad new front e enough only new_is =
-          adds_rest (length_of (from_le_bytes w16 (drop n word))) V1 new refl (not_wide (drop n word) two_left (λ cut. enough (subst IsCutShort (sym slice_is) cut))) (subst IsStuck slice_is (stuck_of (take (length word - 2) (drop 2 word)) front (inr e) only)) new_is
+      pub adds_bad : (new : List Finding) → SpellsNothing (take (length word - 2) (drop 2 word)) → new ≡ mid ++ found_at b (at + 2) (Some V1) → Adds b at owed word old new kind.Nothing
+      adds_bad new nothing new_is =
+          let none = subst SpellsNothing slice_is nothing in
+          adds_rest (length_of (from_le_bytes w16 (drop n word))) V1 new refl (not_wide (drop n word) two_left none.enough) none.unspelled new_is

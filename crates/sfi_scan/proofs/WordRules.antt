@@ -1,6 +1,5 @@
 -- At a place of a word: where no rule of code in words is broken, none is found.
-use Rattle.sfi_scan.proofs.Prelude.{◌≡◌, Bool, false, cond, Option, Some, None, refl, ◌∙◌}
-use Rattle.sfi_rules.specs.declared.rule.Rule.{Rule}
+use Rattle.sfi_scan.proofs.Prelude.{◌≡◌, Bool, false, cond, Option, Some, None, refl, ◌∙◌, Rule}
 use Rattle.sfi_rules.specs.declared.rule.Rule.TheVariants.{V3, V4, V5, V6, V7, V8, V10, V11, V12}
 use Rattle.sfi_rules.specs.Rules.{breaks_reserved}
 use Rattle.sfi_rules.specs.words.Rules.{breaks_ecall, breaks_access, breaks_jump, breaks_target, breaks_offset}

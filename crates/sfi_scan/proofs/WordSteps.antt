@@ -1,20 +1,16 @@
 -- From one word of a block that has to be looked at to the next.
-use Rattle.sfi_scan.proofs.Prelude.{◌≡◌, ◌≢◌, ℕ, zero, suc, ◌+◌, ◌-◌, ◌*◌, ◌/◌, ◌%◌, ◌^◌, ◌<◌, ◌≤◌, true, false, ◌==◌, ◌⊎◌, inl, inr, List, refl, sym, ap, ◌∙◌, subst, arith, w64, pow_pos, trailing_zeros, is_in, BundlePlace, IsWithinBlock}
+use Rattle.sfi_scan.proofs.Prelude.{◌≡◌, ◌≢◌, ℕ, zero, suc, ◌+◌, ◌-◌, ◌*◌, ◌/◌, ◌%◌, ◌^◌, ◌<◌, ◌≤◌, true, false, ◌==◌, ◌⊎◌, inl, inr, List, refl, sym, ap, ◌∙◌, subst, arith, w64, pow_pos, trailing_zeros, is_in, BundlePlace, IsWithinBlock, both_ways, cases_lt, Owed, Nothing, IsCleanWord, AreCleanWords}
 use Rattle.std.proofs.lemmas.Nat.{div_below}
 use Rattle.std.proofs.lemmas.Nat.Bits.{bit_at_above, bit_at-trailing_zeros}
-use Rattle.std.proofs.lemmas.Bool.{cases_lt}
-use Rattle.sfi_rules.specs.declared.owed.Owed.{Owed}
-use Rattle.sfi_rules.specs.declared.owed.Owed.TheVariants.{Nothing}
-use Rattle.sfi_scan.specs.private.WordBlock.{IsSeen, IsCleanWord, AreCleanWords}
+use Rattle.sfi_scan.specs.private.WordBlock.{IsSeen}
 use Rattle.sfi_scan.proofs.Bits.{in_shr, in_zero}
-use Rattle.sfi_scan.proofs.Seen.{no_both}
 
 -- ---- the first bit from a place on
 
 pub in_below : (m i : ℕ) → m < 2 ^ 64 → is_in m i ≡ true → i < 64
 in_below m i fits h = elim (cases_lt i 64) [
   | inl less ↦ less
-  | inr more ↦ absurd (no_both (is_in m i) h (ap (λ n. n == 1) (bit_at_above m 64 i fits (omega (arith, more)))))
+  | inr more ↦ absurd (both_ways (is_in m i) (ap (λ n. n == 1) (bit_at_above m 64 i fits (omega (arith, more)))) h)
 ]
 
 pub none_ahead : (words at : ℕ) → words / 2 ^ at ≡ 0 → (i : ℕ) → at ≤ i → is_in words i ≡ false
@@ -62,7 +58,7 @@ module _ (b : BundlePlace) (block : List ℕ) (owed : Owed) (words from : ℕ) (
     where
       ends : (n k : ℕ) → k ≡ suc n → 2 * n + 2 < 64 → is_in words (2 * n + 2) ≡ false → (k ≡ 32) ⊎ (is_in words (2 * k) ≡ true) → ⊥
       ends n k next below apart (inl all) = omega (arith, next, below, all)
-      ends n k next below apart (inr there) = no_both (is_in words (2 * n + 2)) (ap (is_in words) (let e : 2 * n + 2 ≡ 2 * k = omega (arith, next) in e) ∙ there) apart
+      ends n k next below apart (inr there) = both_ways (is_in words (2 * n + 2)) apart (ap (is_in words) (let e : 2 * n + 2 ≡ 2 * k = omega (arith, next) in e) ∙ there)
 
   -- as far as where the look goes on
   pub reached : (left : Owed) (n k at i : ℕ) → at ≡ 2 * (from + n) → i ≡ 2 * (from + k) → at ≤ i → i ≤ 64 → ((j : ℕ) → at ≤ j → j < i → is_in words j ≡ false) → (i ≡ at) ⊎ (i < 64 → is_in words i ≡ true) → (i ≡ at) ⊎ (left ≡ Nothing)

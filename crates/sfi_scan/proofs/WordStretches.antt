@@ -1,12 +1,9 @@
 -- Stretches of code in words: the findings of one after another, and those of a stretch in a part.
-use Rattle.sfi_scan.proofs.Prelude.{◌≡◌, ℕ, zero, suc, ◌+◌, ◌<◌, Bool, true, false, List, [], ◌++◌, length, length-append, take_all, refl, sym, ap, ◌∙◌, subst, arith, append-nil, append_assoc, BundlePlace, Finding, Part, block_bundle, bundle_bytes, place_of, AreFindingsOfFirst}
+use Rattle.sfi_scan.proofs.Prelude.{◌≡◌, ℕ, zero, suc, ◌+◌, ◌<◌, ◌≤◌, Bool, true, false, List, [], ◌++◌, length, length-append, take_all, refl, sym, ap, ◌∙◌, subst, arith, append-nil, append_assoc, BundlePlace, Finding, Part, block_bundle, bundle_bytes, place_of, AreFindingsOfFirst, Owed, Nothing, AreFoundUpTo, stretch_place, AreStretchFindings, AreWordStretchFindings, IsWordCodeScanned}
 use Rattle.std.specs.Prelude.{MatchBool}
 use Rattle.sfi_policy.specs.Formats.{has_words}
-use Rattle.sfi_rules.specs.declared.owed.Owed.{Owed}
-use Rattle.sfi_rules.specs.declared.owed.Owed.TheVariants.{Nothing}
-use Rattle.sfi_rules.specs.Findings.{AreFoundUpTo}
 use Rattle.sfi_rules.specs.words.Findings.{AreFoundInBundle, AreFoundOfFirst}
-use Rattle.sfi_scan.specs.Stretches.{stretch_place, AreStretchFindings, AreWordStretchFindings, AreFoundInStretch, IsWordCodeScanned}
+use Rattle.sfi_scan.specs.Stretches.{AreFoundInStretch}
 use Rattle.sfi_scan.proofs.Stretches.{stretch_in_part}
 
 -- one bundle more
@@ -15,19 +12,12 @@ pub words_push : (b : BundlePlace) (owed : Owed) (xs : List ℕ) (n : ℕ) (fron
 words_push b owed xs n front last between next are one =
     subst (λ (m : ℕ). AreWordStretchFindings b owed xs m (front ++ last) next) (let e : suc n ≡ n + 1 = omega arith in e) (front, last, between, are, one, refl)
 
--- one bundle is a stretch of its own
-pub words_one : (b : BundlePlace) (owed : Owed) (bundle : List ℕ) (last : List Finding) (next : Owed) → length bundle ≡ 16 → AreFoundInBundle b owed bundle last next → AreWordStretchFindings b owed bundle 1 last next
-words_one b owed bundle last next long one = ([], last, owed, (refl, refl), subst (λ (l : List ℕ). AreFoundInBundle b owed l last next) (sym (take_all 16 bundle (omega (arith, long)))) one, refl)
-
 -- the findings of so many bundles, and of those that follow them
 pub words_more : (b c : BundlePlace) (owed : Owed) (xs ys : List ℕ) (k n : ℕ) (front found : List Finding) (between next : Owed)
     → ((i : ℕ) → i < n → stretch_place b i ≡ stretch_place c (k + i)) → ((i : ℕ) → i < n → block_bundle xs i ≡ block_bundle ys (k + i))
     → AreWordStretchFindings c owed ys k front between → AreWordStretchFindings b between xs n found next → AreWordStretchFindings c owed ys (k + n) (front ++ found) next
 words_more b c owed xs ys k zero front found between next places bytes before none =
-    subst (λ (o : Owed). AreWordStretchFindings c owed ys (k + 0) (front ++ found) o) (sym none.1)
-    (subst (λ (l : List Finding). AreWordStretchFindings c owed ys (k + 0) (front ++ l) between) (sym none.0)
-    (subst (λ (l : List Finding). AreWordStretchFindings c owed ys (k + 0) l between) (sym (append-nil front))
-    (subst (λ (m : ℕ). AreWordStretchFindings c owed ys m front between) (let e : k ≡ k + 0 = omega arith in e) before)))
+    rw (none.0, none.1, append-nil front) (subst (λ (m : ℕ). AreWordStretchFindings c owed ys m front between) (let e : k ≡ k + 0 = omega arith in e) before)
 words_more b c owed xs ys k (suc n) front found between next places bytes before are =
     let more = words_more b c owed xs ys k n front are.0 between are.2 (λ i less. places i (omega arith)) (λ i less. bytes i (omega arith)) before are.3 in
     let one = subst (λ (x : BundlePlace). AreFoundInBundle x are.2 (block_bundle ys (k + n)) are.1 next) (places n (omega arith))
@@ -52,6 +42,15 @@ module _ {F : Type 0} (takes : F → List Finding → F → Type 0) where
   pub words_scanned_none : (b : BundlePlace) (owed : Owed) (xs : List ℕ) (s : F) → takes s [] s → IsWordCodeScanned takes b owed xs 0 owed s s
   words_scanned_none b owed xs s none = words_clean s none (refl, refl)
 
+  -- one bundle is a stretch of its own
+  pub words_scanned_one : (b : BundlePlace) (owed : Owed) (bundle : List ℕ) (last : List Finding) (next : Owed) (s t : F) → length bundle ≡ 16 → AreFoundInBundle b owed bundle last next → length last ≤ 8 → takes s last t → IsWordCodeScanned takes b owed bundle 1 next s t
+  words_scanned_one b owed bundle last next s t long one few handed = record {
+    found = last;
+    found_are = ([], last, owed, (refl, refl), subst (λ (l : List ℕ). AreFoundInBundle b owed l last next) (sym (take_all 16 bundle (omega (arith, long)))) one, refl);
+    few = omega (arith, few);
+    handed = handed;
+  }
+
   pub words_scanned_same : (b : BundlePlace) (owed : Owed) (xs ys : List ℕ) (n : ℕ) (next : Owed) (s t : F) → ((i : ℕ) → i < n → block_bundle xs i ≡ block_bundle ys i)
       → IsWordCodeScanned takes b owed xs n next s t → IsWordCodeScanned takes b owed ys n next s t
   words_scanned_same b owed xs ys n next s t bytes h = record { found = h.found; found_are = words_same b owed xs ys n h.found next bytes h.found_are; few = h.few; handed = h.handed }
@@ -74,10 +73,7 @@ pub words_in_part : (sandbox : ℕ) (p : Part) (b : BundlePlace) (xs : List ℕ)
     → ((i : ℕ) → i < n → stretch_place b i ≡ place_of sandbox p (k + i)) → ((i : ℕ) → i < n → block_bundle xs i ≡ bundle_bytes p (k + i))
     → AreFoundOfFirst sandbox p k front between → AreWordStretchFindings b between xs n found next → AreFoundOfFirst sandbox p (k + n) (front ++ found) next
 words_in_part sandbox p b xs k zero front found between next places bytes before none =
-    subst (λ (o : Owed). AreFoundOfFirst sandbox p (k + 0) (front ++ found) o) (sym none.1)
-    (subst (λ (l : List Finding). AreFoundOfFirst sandbox p (k + 0) (front ++ l) between) (sym none.0)
-    (subst (λ (l : List Finding). AreFoundOfFirst sandbox p (k + 0) l between) (sym (append-nil front))
-    (subst (λ (m : ℕ). AreFoundOfFirst sandbox p m front between) (let e : k ≡ k + 0 = omega arith in e) before)))
+    rw (none.0, none.1, append-nil front) (subst (λ (m : ℕ). AreFoundOfFirst sandbox p m front between) (let e : k ≡ k + 0 = omega arith in e) before)
 words_in_part sandbox p b xs k (suc n) front found between next places bytes before are =
     let more = words_in_part sandbox p b xs k n front are.0 between are.2 (λ i less. places i (omega arith)) (λ i less. bytes i (omega arith)) before are.3 in
     let one = subst (λ (x : BundlePlace). AreFoundInBundle x are.2 (bundle_bytes p (k + n)) are.1 next) (places n (omega arith))

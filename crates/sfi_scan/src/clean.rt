@@ -212,32 +212,6 @@ fn is_clean_half(
     }
 }
 
-/// Whether the word at this place of the bundle has an outline that breaks no rule there.
-#[inline(always)]
-fn is_clean_other(
-    place: &BundlePlace,
-    stack: bool,
-    bytes: &[u8; BUNDLE_BYTES],
-    at: usize,
-    from: usize,
-    word: u32,
-) -> bool
-    requires within { IsWithin place.now }
-    requires stack { stack ≡ has_stack place.now.format }
-    requires order { from ≤ at }
-    requires end { at < bundle_size }
-    ensures { OnTrue result (IsCleanOne place.now (place.now.address + at)
-        (AreWordsFrom bytes.now at from) (IsWordOf word)) }
-{
-    match outline32(word) {
-        Some(outline) => {
-            let words = words_before(bytes, at, from);
-            is_clean(place, stack, place.address + at as u32, words, outline)
-        }
-        None => false,
-    }
-}
-
 /// Whether the word at this place of the bundle is an instruction that breaks no rule there. Most
 /// compute, load or store, so these are told first.
 #[inline(always)]
@@ -261,7 +235,13 @@ fn is_clean_word(
     }
     match access32(word) {
         Some(access) => is_clean_access(stack, words_before(bytes, at, from), access),
-        None => is_clean_other(place, stack, bytes, at, from, word),
+        None => match outline32(word) {
+            Some(outline) => {
+                let words = words_before(bytes, at, from);
+                is_clean(place, stack, place.address + at as u32, words, outline)
+            }
+            None => false,
+        },
     }
 }
 

@@ -1,5 +1,5 @@
 -- Words of private contracts: the scan of a stretch, front by front.
-use Rattle.std.specs.Prelude.{◌≡◌, ◌+◌, ◌-◌, ◌*◌, ◌<◌, ◌≤◌, ℕ, List, [], length, drop, false}
+use Rattle.std.specs.Prelude.{◌≡◌, ◌+◌, ◌-◌, ◌*◌, ◌^◌, ◌<◌, ◌≤◌, ℕ, List, [], length, drop, false}
 use Rattle.sfi_policy.specs.Limits.{bundle_size}
 use Rattle.sfi_image.specs.declared.bundle.BundlePlace.{BundlePlace}
 use Rattle.sfi_rules.specs.Bundles.{IsWithinBlock}
@@ -18,6 +18,13 @@ pub record IsBlockStart (b : BundlePlace) (bytes : List ℕ) (k start : ℕ) : T
   pub whole : start + 8 * bundle_size ≤ length bytes
   pub within : IsWithinBlock (stretch_place b first)
   pub plain : (stretch_place b first).listed ≡ false
+
+-- a block of the stretch begins at byte `start`, and byte `at` lies in it
+pub record IsAhead (b : BundlePlace) (bytes : List ℕ) (at start : ℕ) : Type 0 where
+  pub addresses : b.address + start < 2 ^ 32
+  pub low : start ≤ at
+  pub high : at < start + 8 * bundle_size
+  pub whole : start + 8 * bundle_size ≤ length bytes
 
 -- the block's bundles from number `from` on are scanned: the sink took their findings
 abbrev pub IsBlockScanned : {F : Type 0} → (F → List Finding → F → Type 0) → BundlePlace → List ℕ

@@ -46,7 +46,7 @@ pub record IsQuiet (b : BundlePlace) (at size : ℕ) (owed : Owed) (instr : Inst
   pub next_is : next ≡ owed_next owed instr
 
 -- the word spells such an instruction
-pub record IsQuietWord (b : BundlePlace) (at : ℕ) (owed : Owed) (word : ℕ) (next : Owed)
+pub record IsQuietThere (b : BundlePlace) (at : ℕ) (owed : Owed) (word : ℕ) (next : Owed)
     : Type 0 where
   pub instr : Instr
   pub spelled : IsWordOf word instr

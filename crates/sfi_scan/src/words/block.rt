@@ -319,30 +319,6 @@ fn after_words(
     Some(left)
 }
 
-/// The same of a block in which all but these words break no rule and leave nothing owed; `free` tells free
-/// instructions of 32 bits.
-#[inline(always)]
-fn look_closer(
-    place: &BundlePlace,
-    block: &[u8; BLOCK_BYTES],
-    words: u64,
-    free: u64,
-    from: usize,
-    owed: Owed,
-    findings: &mut BundleFindings,
-) -> Option<Owed>
-    requires within { IsWithinBlock place.now }
-    requires words { (i : ℕ) → i < 64 → is_in words i ≡ true → i % 2 ≡ 0 }
-    requires quiet { (n : ℕ) → n < 32 → is_in words (2 * n) ≡ false → IsQuietWord block.now (2 * n) }
-    requires free { (i : ℕ) → i < 64 → i % 2 ≡ 0 → is_in free i ≡ true →
-        IsFreeWordBy may_write_in_words may_be_on_in_words (block_word block.now i) }
-    requires inside { from < 32 }
-    ensures { IfSome result (AreCleanWords place.now owed block.now from (32 - from)) }
-{
-    let left = unseen(place, block, words, free);
-    after_words(place, block, left, from, owed, findings)
-}
-
 #[inline(always)]
 fn is_nothing(owed: Owed) -> bool
     ensures { OnTrue result (owed ≡ Nothing) }
@@ -374,5 +350,6 @@ pub(crate) fn look_at_block(
     // Of a copy, so that the place isn't put together in memory where it isn't needed.
     let there = *place;
     let free = masks.free & masks.long;
-    look_closer(&there, block, words, free, from, owed, findings)
+    let left = unseen(&there, block, words, free);
+    after_words(&there, block, left, from, owed, findings)
 }

@@ -15,7 +15,7 @@ ghost use Rattle.sfi_rules.specs.Bundles.{IsWithin};
 ghost use Rattle.sfi_rules.specs.declared.owed.Owed.TheVariants.{Nothing, MaskOrUse};
 ghost use Rattle.sfi_rules.specs.words.Findings.{IsWordFound};
 ghost use Rattle.sfi_scan.specs.private.FirstLook.{is_zero};
-ghost use Rattle.sfi_scan.specs.private.WordLook.{is_kept, is_plain, IsQuietWord, IsBeforeEnd, IsPlainHalf};
+ghost use Rattle.sfi_scan.specs.private.WordLook.{is_kept, is_plain, IsQuietThere, IsBeforeEnd, IsPlainHalf};
 
 use crate::clean::{half_at, word_at};
 use crate::rules::offset_by;
@@ -118,7 +118,7 @@ fn after_typed(word: u32) -> Option<Owed>
     requires computes { IsWordThat word (Computes (bits word 11 7)) }
     requires typed { (is_data_register (bits word 11 7) || (bits word 11 7 == 30)) ≡ true }
     ensures { (b : BundlePlace) (at : ℕ) → IsBeforeEnd b at 4 →
-        IfSome result (IsQuietWord b at Nothing word) }
+        IfSome result (IsQuietThere b at Nothing word) }
 {
     match decode32(word) {
         Some(instr) => owed_by(&instr),
@@ -131,7 +131,7 @@ fn after_typed(word: u32) -> Option<Owed>
 fn after_kept(word: u32) -> Option<Owed>
     requires { IsWordThat word (Computes (bits word 11 7)) }
     ensures { (b : BundlePlace) (at : ℕ) → IsBeforeEnd b at 4 →
-        IfSome result (IsQuietWord b at Nothing word) }
+        IfSome result (IsQuietThere b at Nothing word) }
 {
     let rd = rd_of(word);
     if is_masking(rs1_of(word), word) {
@@ -152,7 +152,7 @@ fn is_plain_by(place: &BundlePlace, address: u32, outline: Option<Outline>) -> b
     requires within { IsWithin place.now }
     requires before_end { IsBeforeEnd place.now address 4 }
     ensures { (word : ℕ) → IfSome outline (IsWordThat word) →
-        OnTrue result (IsQuietWord place.now address Nothing word Nothing) }
+        OnTrue result (IsQuietThere place.now address Nothing word Nothing) }
 {
     match outline {
         Some(outline) => is_plain(place, address, outline),
@@ -166,7 +166,7 @@ fn is_plain_by(place: &BundlePlace, address: u32, outline: Option<Outline>) -> b
 pub(crate) fn is_plain_word(place: &BundlePlace, address: u32, word: u32) -> bool
     requires within { IsWithin place.now }
     requires before_end { IsBeforeEnd place.now address 4 }
-    ensures { OnTrue result (IsQuietWord place.now address Nothing word Nothing) }
+    ensures { OnTrue result (IsQuietThere place.now address Nothing word Nothing) }
 {
     match word & 0b111_1111 {
         0b110_0011 => is_plain_by(place, address, outline32(word)),
@@ -180,7 +180,7 @@ pub(crate) fn is_plain_word(place: &BundlePlace, address: u32, word: u32) -> boo
 fn after_outline(place: &BundlePlace, address: u32, word: u32) -> Option<Owed>
     requires within { IsWithin place.now }
     requires before_end { IsBeforeEnd place.now address 4 }
-    ensures { IfSome result (IsQuietWord place.now address Nothing word) }
+    ensures { IfSome result (IsQuietThere place.now address Nothing word) }
 {
     let Some(outline) = outline32(word) else {
         return None;
@@ -196,7 +196,7 @@ fn after_outline(place: &BundlePlace, address: u32, word: u32) -> Option<Owed>
 fn after_other(place: &BundlePlace, address: u32, word: u32) -> Option<Owed>
     requires within { IsWithin place.now }
     requires before_end { IsBeforeEnd place.now address 4 }
-    ensures { IfSome result (IsQuietWord place.now address Nothing word) }
+    ensures { IfSome result (IsQuietThere place.now address Nothing word) }
 {
     match access32(word) {
         Some(access) => {
@@ -217,7 +217,7 @@ fn after_other(place: &BundlePlace, address: u32, word: u32) -> Option<Owed>
 fn after_nothing(place: &BundlePlace, address: u32, word: u32) -> Option<Owed>
     requires within { IsWithin place.now }
     requires before_end { IsBeforeEnd place.now address 4 }
-    ensures { IfSome result (IsQuietWord place.now address Nothing word) }
+    ensures { IfSome result (IsQuietThere place.now address Nothing word) }
 {
     if computes32(word) {
         if is_kept(rd_of(word)) {
@@ -263,7 +263,7 @@ fn is_placing_code(word: u32) -> bool
 fn is_use(place: &BundlePlace, address: u32, d: u8, word: u32) -> bool
     requires within { IsWithin place.now }
     requires before_end { IsBeforeEnd place.now address 4 }
-    ensures { OnTrue result (IsQuietWord place.now address (MaskOrUse d) word Nothing) }
+    ensures { OnTrue result (IsQuietThere place.now address (MaskOrUse d) word Nothing) }
 {
     let Some(instr) = decode32(word) else {
         return false;
@@ -279,7 +279,7 @@ fn is_use(place: &BundlePlace, address: u32, d: u8, word: u32) -> bool
 fn after_owed(place: &BundlePlace, address: u32, owed: Owed, word: u32) -> Option<Owed>
     requires within { IsWithin place.now }
     requires before_end { IsBeforeEnd place.now address 4 }
-    ensures { IfSome result (IsQuietWord place.now address owed word) }
+    ensures { IfSome result (IsQuietThere place.now address owed word) }
 {
     match owed {
         Owed::Nothing => None,
@@ -353,7 +353,7 @@ fn after_halves(place: &BundlePlace, address: u32, word: &[u8], owed: Owed) -> O
 fn after_word(place: &BundlePlace, address: u32, owed: Owed, word: u32) -> Option<Owed>
     requires within { IsWithin place.now }
     requires before_end { IsBeforeEnd place.now address 4 }
-    ensures { IfSome result (IsQuietWord place.now address owed word) }
+    ensures { IfSome result (IsQuietThere place.now address owed word) }
 {
     match owed {
         Owed::Nothing => after_nothing(place, address, word),

@@ -29,36 +29,16 @@ fn left(owed: Owed, instr: &Instr) -> Option<Owed>
 {
     match owed {
         Owed::Nothing => Some(Owed::Nothing),
-        Owed::Mask(d) => {
-            if masks(d, instr) {
-                Some(Owed::Place(d))
-            } else {
-                None
-            }
-        }
-        Owed::Place(d) => {
-            if places(d, instr) {
-                Some(Owed::Nothing)
-            } else {
-                None
-            }
-        }
+        Owed::Mask(d) => masks(d, instr).then_some(Owed::Place(d)),
+        Owed::Place(d) => places(d, instr).then_some(Owed::Nothing),
         Owed::MaskOrUse(d) => {
             if masks(d, instr) {
                 Some(Owed::Place(d))
-            } else if uses(d, instr) {
-                Some(Owed::Nothing)
             } else {
-                None
+                uses(d, instr).then_some(Owed::Nothing)
             }
         }
-        Owed::Code => {
-            if places_code(instr) {
-                Some(Owed::Nothing)
-            } else {
-                None
-            }
-        }
+        Owed::Code => places_code(instr).then_some(Owed::Nothing),
     }
 }
 

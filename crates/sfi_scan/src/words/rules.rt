@@ -2,7 +2,7 @@
 ghost use Rattle.std.specs.Prelude.{◌≡◌};
 ghost use Rattle.sfi_pairs.specs.Pairs.{is_placing};
 ghost use Rattle.sfi_rules.specs.Bundles.{IsWithin};
-ghost use Rattle.sfi_rules.specs.words.Rules.{is_and, is_or, places, masks, is_small, is_step, uses, breaks_ecall, may_access, breaks_access, breaks_jump, is_word_start, breaks_target, breaks_offset};
+ghost use Rattle.sfi_rules.specs.words.Rules.{places, masks, is_small, is_step, uses, breaks_ecall, may_access, breaks_access, breaks_jump, is_word_start, breaks_target, breaks_offset};
 ghost use Rattle.sfi_scan.specs.private.Inside.{IsInside};
 ghost use Rattle.sfi_rules.specs.words.Findings.{breaks_last, is_at_gate, lowest};
 
@@ -18,34 +18,6 @@ use sfi_rules::{BundlePlace, Owed, Rule};
 
 const SLACK: i32 = sfi_policy::SLACK as i32;
 
-fn is_and(rd: u8, a: u8, b: u8, instr: &Instr) -> bool
-    ensures { result ≡ is_and rd a b instr.now }
-{
-    match *instr {
-        Instr::Op {
-            op: RegOp::And,
-            rd: x,
-            rs1,
-            rs2,
-        } => x.number() == rd && rs1.number() == a && rs2.number() == b,
-        _ => false,
-    }
-}
-
-fn is_or(rd: u8, a: u8, b: u8, instr: &Instr) -> bool
-    ensures { result ≡ is_or rd a b instr.now }
-{
-    match *instr {
-        Instr::Op {
-            op: RegOp::Or,
-            rd: x,
-            rs1,
-            rs2,
-        } => x.number() == rd && rs1.number() == a && rs2.number() == b,
-        _ => false,
-    }
-}
-
 /// `or x30, x30, x24`.
 pub(crate) fn places_code(instr: &Instr) -> bool
     ensures { result ≡ is_placing 24 30 instr.now }
@@ -56,13 +28,37 @@ pub(crate) fn places_code(instr: &Instr) -> bool
 pub(crate) fn places(d: u8, instr: &Instr) -> bool
     ensures { result ≡ places d instr.now }
 {
-    is_or(d, OFFSET_REGISTER, DATA_BASE_REGISTER, instr)
+    match *instr {
+        Instr::Op {
+            op: RegOp::Or,
+            rd,
+            rs1,
+            rs2,
+        } => {
+            rd.number() == d
+                && rs1.number() == OFFSET_REGISTER
+                && rs2.number() == DATA_BASE_REGISTER
+        }
+        _ => false,
+    }
 }
 
 pub(crate) fn masks(d: u8, instr: &Instr) -> bool
     ensures { result ≡ masks d instr.now }
 {
-    is_and(OFFSET_REGISTER, d, DATA_MASK_REGISTER, instr)
+    match *instr {
+        Instr::Op {
+            op: RegOp::And,
+            rd,
+            rs1,
+            rs2,
+        } => {
+            rd.number() == OFFSET_REGISTER
+                && rs1.number() == d
+                && rs2.number() == DATA_MASK_REGISTER
+        }
+        _ => false,
+    }
 }
 
 fn is_small(imm: i32) -> bool

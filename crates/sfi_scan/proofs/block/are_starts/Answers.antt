@@ -1,4 +1,4 @@
-use Rattle.std.proofs.Common.{refl}
+use Rattle.sfi_scan.proofs.Prelude.{refl}
 use Rattle.sfi_scan.proofs.Marks.{starts_told}
 use Rattle.sfi_scan.proofs.block.are_starts.Goals as goal
 

@@ -1,4 +1,4 @@
-use Rattle.std.proofs.Common.{arith}
+use Rattle.sfi_scan.proofs.Prelude.{arith}
 use Rattle.sfi_scan.proofs.Writes.{written_told}
 use Rattle.sfi_scan.proofs.block.is_written.Goals as goal
 

@@ -1,4 +1,4 @@
-use Rattle.std.proofs.Common.{arith, sym, ◌∙◌}
+use Rattle.sfi_scan.proofs.Prelude.{arith, sym, ◌∙◌}
 use Rattle.sfi_scan.proofs.Starts.{words_are_before}
 use Rattle.sfi_scan.proofs.block.words_before.Goals as goal
 

@@ -1,4 +1,4 @@
-use Rattle.std.proofs.Common.{sym}
+use Rattle.sfi_scan.proofs.Prelude.{sym}
 use Rattle.sfi_scan.proofs.FirstLook.{jump_told, zero_of}
 use Rattle.sfi_scan.proofs.clean.is_clean_jump.Goals as goal
 

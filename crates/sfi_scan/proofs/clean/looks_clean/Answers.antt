@@ -1,4 +1,4 @@
-use Rattle.std.proofs.Common.{sym, ◌∙◌, arith, []}
+use Rattle.sfi_scan.proofs.Prelude.{sym, ◌∙◌, arith, []}
 use Rattle.sfi_scan.proofs.Look.{looks_first, looks_half, looks_word, looks_written}
 use Rattle.sfi_scan.proofs.Walk.{at_last}
 use Rattle.sfi_scan.proofs.clean.looks_clean.Goals as goal

@@ -1,4 +1,4 @@
-use Rattle.std.proofs.Common.{◌-◌}
+use Rattle.sfi_scan.proofs.Prelude.{◌-◌}
 use Rattle.sfi_scan.proofs.Look.{Looks}
 use Rattle.sfi_scan.proofs.clean.looks_clean.Given as goal
 

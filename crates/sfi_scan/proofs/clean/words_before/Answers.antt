@@ -1,6 +1,13 @@
-use Rattle.sfi_scan.proofs.Prelude.{◌-◌, sym, subst, arith, IsWordOr0}
-use Rattle.sfi_scan.proofs.WordsAt.{no_words}
+use Rattle.sfi_scan.proofs.Prelude.{◌-◌, sym, subst, arith, IsWordOr0, Option, Some, None, refl, inl, Instr, Before, AreBefore}
 use Rattle.sfi_scan.proofs.clean.words_before.Goals as goal
+
+-- 0 stands for every instruction, and for none
+zero_for : (o : Option Instr) → IsWordOr0 0 o
+zero_for None = refl
+zero_for (Some i) = inl refl
+
+no_words : (before : Before) → AreBefore (record { first = 0; second = 0 }) before
+no_words before = record { first = zero_for before.first; second = zero_for before.second }
 
 pub returns-then-at-from-lt8 : goal.returns-then-at-from-lt8
 returns-then-at-from-lt8 c = λ before are. no_words before

@@ -18,8 +18,21 @@ is_before_last-requires g c =
     let start = start_at c.requires.0 c.requires.1 c.args.at c.min-start.result (length code) run.whole c.requires.3 c.requires.4 c.if-code-lt-BLOCK_BYTES.false c.min-start.ensures in
     subst IsWithin (sym (c.place_after-first.ensures start.first start.start_is)) (within_stretch c.args.place.now code c.requires.0 start.first run start.below)
 
-pub returns : goal.returns
-returns g c = λ k at.
+pub returns-clause-ahead : goal.returns-clause-ahead
+returns-clause-ahead g c =
+    let run = c.requires.2 in
+    let whole = run.whole in
+    let at = c.requires.3 in
+    let less = c.requires.4 in
+    record {
+      addresses = omega (arith, whole, run.end, run.addresses, at, less, c.min-start.ensures);
+      low = omega (arith, c.min-start.ensures);
+      high = omega (arith, whole, at, less, c.min-start.ensures);
+      whole = omega (arith, c.min-start.ensures, c.if-code-lt-BLOCK_BYTES.false);
+    }
+
+pub returns-clause-block : goal.returns-clause-block
+returns-clause-block g c = λ k at.
     let run = c.requires.2 in
     let there = c.requires.3 in
     let inside = c.requires.4 in

@@ -1,5 +1,4 @@
-use Rattle.sfi_scan.proofs.Prelude.{◌*◌, drop, refl, arith}
-use Rattle.sfi_scan.specs.Stretches.{IsScanned, stretch_place}
+use Rattle.sfi_scan.proofs.Prelude.{◌*◌, drop, refl, arith, IsScanned, stretch_place}
 use Rattle.sfi_scan.proofs.Fronts.{front_ahead, walk_at, walk_nearer, walk_on, walk_over}
 use Rattle.sfi_scan.proofs.Stretches.{scanned_more, scanned_none}
 use Rattle.sfi_scan.proofs.code.scan_code.Goals as goal

@@ -1,6 +1,4 @@
-use Rattle.sfi_scan.proofs.Prelude.{◌-◌, length}
-use Rattle.sfi_scan.specs.Stretches.{IsScanned}
-use Rattle.sfi_scan.specs.private.Scanning.{IsRun}
+use Rattle.sfi_scan.proofs.Prelude.{◌-◌, length, IsScanned, IsRun}
 use Rattle.sfi_scan.proofs.code.scan_code.Given as goal
 
 -- so many bundles are scanned

@@ -1,52 +1,18 @@
-use Rattle.sfi_scan.proofs.Prelude.{◌≡◌, ◌∙◌, ◌-◌, ◌*◌, ◌/◌, ℕ, List, take, drop, false, sym, subst, arith, ap, BundlePlace, IsWithin, IsWithinBlock}
-use Rattle.sfi_scan.specs.Stretches.{IsScanned, stretch_place}
+use Rattle.sfi_scan.proofs.Prelude.{◌≡◌, ◌∙◌, ◌-◌, ◌*◌, ◌/◌, ℕ, List, take, drop, false, sym, subst, arith, ap, BundlePlace, IsWithin, IsWithinBlock, IsScanned, stretch_place}
 use Rattle.sfi_scan.specs.private.Scanning.{IsBlockScanned}
 use Rattle.sfi_scan.proofs.Fronts.{below_end, block_front, bundle_front, within_stretch}
 use Rattle.sfi_scan.proofs.Stretches.{scanned_same}
 use Rattle.sfi_scan.proofs.code.scan_front.Goals as goal
 
-pub place_after-first-requires : goal.place_after-first-requires
-place_after-first-requires g c =
-    let s = c.in-Some.ensures c.requires.1 c.requires.3 in
-    let whole = s.whole in
-    let run = c.requires.2 in
-    omega (arith, whole, run.end, run.addresses)
-
-pub bytes_from-block-requires : goal.bytes_from-block-requires
-bytes_from-block-requires g c =
-    let s = c.in-Some.ensures c.requires.1 c.requires.3 in
-    (omega arith, s.whole)
-
-pub overflow_sub-from : goal.overflow_sub-from
-overflow_sub-from g c =
-    let s = c.in-Some.ensures c.requires.1 c.requires.3 in
-    let is = s.is in
-    let start_is = s.start_is in
-    omega (arith, is, start_is, c.requires.3)
-
 pub scan_block-requires-clause-within : goal.scan_block-requires-clause-within
 scan_block-requires-clause-within g c =
-    let s = c.in-Some.ensures c.requires.1 c.requires.3 in
+    let s = c.in-Some.ensures.block c.requires.1 c.requires.3 in
     subst IsWithinBlock (sym (c.place_after-first.ensures s.first s.start_is)) s.within
 
 pub scan_block-requires-clause-unlisted : goal.scan_block-requires-clause-unlisted
 scan_block-requires-clause-unlisted g c =
-    let s = c.in-Some.ensures c.requires.1 c.requires.3 in
+    let s = c.in-Some.ensures.block c.requires.1 c.requires.3 in
     subst (λ (b : BundlePlace). b.listed ≡ false) (sym (c.place_after-first.ensures s.first s.start_is)) s.plain
-
-pub scan_block-requires-clause-inside : goal.scan_block-requires-clause-inside
-scan_block-requires-clause-inside g c =
-    let s = c.in-Some.ensures c.requires.1 c.requires.3 in
-    let is = s.is in
-    let inside = s.inside in
-    let start_is = s.start_is in
-    omega (arith, is, inside, start_is, c.requires.3)
-
-pub overflow_add-result : goal.overflow_add-result
-overflow_add-result g c =
-    let s = c.in-Some.ensures c.requires.1 c.requires.3 in
-    let whole = s.whole in
-    omega (arith, whole)
 
 pub returns-in-Some : goal.returns-in-Some
 returns-in-Some g c = λ k at.
@@ -54,7 +20,7 @@ returns-in-Some g c = λ k at.
     let b = c.args.place.now in
     let code = c.args.code.now in
     let start = c.in-Some.start in
-    let s = c.in-Some.ensures k at in
+    let s = c.in-Some.ensures.block k at in
     let is = s.is in
     let start_is = s.start_is in
     let from : (c.args.at - start) / 16 ≡ s.before = omega (arith, is, start_is, at) in

@@ -1,7 +1,5 @@
-use Rattle.sfi_scan.proofs.Prelude.{◌≡◌, ◌∙◌, Bool, refl, sym, subst}
+use Rattle.sfi_scan.proofs.Prelude.{◌≡◌, ◌∙◌, Bool, refl, sym, subst, Nothing, AreStretchFindings, AreWordStretchFindings}
 use Rattle.std.specs.Prelude.{MatchBool}
-use Rattle.sfi_rules.specs.declared.owed.Owed.TheVariants.{Nothing}
-use Rattle.sfi_scan.specs.Stretches.{AreStretchFindings, AreWordStretchFindings}
 use Rattle.sfi_scan.proofs.code.scan_stretch.Goals as goal
 
 pub returns-then-has_words : goal.returns-then-has_words

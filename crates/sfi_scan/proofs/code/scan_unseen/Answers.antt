@@ -1,5 +1,4 @@
-use Rattle.sfi_scan.proofs.Prelude.{◌≡◌, ◌∙◌, ◌+◌, ◌-◌, ◌*◌, ◌/◌, ◌<◌, ℕ, List, [], length, drop, get_or, sym, ap, subst, arith, append-nil, is_in, block_bundle, bundle_at}
-use Rattle.sfi_scan.specs.Stretches.{AreStretchFindings, IsScanned, stretch_place}
+use Rattle.sfi_scan.proofs.Prelude.{◌≡◌, ◌∙◌, ◌+◌, ◌-◌, ◌*◌, ◌/◌, ◌<◌, ℕ, List, [], length, drop, get_or, sym, ap, subst, arith, append-nil, is_in, block_bundle, bundle_at, AreStretchFindings, IsScanned, stretch_place}
 use Rattle.sfi_scan.proofs.Stretches.{chunk_at, clean_in_block, first_bundle, place_in_block, rest_bundle, scanned_more, scanned_none, stretch_push}
 use Rattle.sfi_scan.proofs.code.scan_unseen.Goals as goal
 use Rattle.sfi_scan.proofs.code.scan_unseen.Goals.{then-not-has, else-not-has}

@@ -1,5 +1,4 @@
-use Rattle.sfi_scan.proofs.Prelude.{◌≡◌, ◌+◌, ◌-◌, ◌*◌, ◌≤◌, ℕ, drop}
-use Rattle.sfi_scan.specs.Stretches.{IsScanned, stretch_place}
+use Rattle.sfi_scan.proofs.Prelude.{◌≡◌, ◌+◌, ◌-◌, ◌*◌, ◌≤◌, ℕ, drop, IsScanned, stretch_place}
 use Rattle.sfi_scan.proofs.code.scan_unseen.Given as goal
 
 -- so many bundles are scanned

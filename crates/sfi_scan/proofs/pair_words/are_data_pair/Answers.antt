@@ -1,4 +1,4 @@
-use Rattle.std.proofs.Common.{refl}
+use Rattle.sfi_scan.proofs.Prelude.{refl}
 use Rattle.sfi_scan.proofs.PairTables.{data_pair_told}
 use Rattle.sfi_scan.proofs.pair_words.are_data_pair.Goals as goal
 

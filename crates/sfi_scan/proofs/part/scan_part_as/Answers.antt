@@ -1,8 +1,6 @@
-use Rattle.sfi_scan.proofs.Prelude.{◌+◌, ◌-◌, ◌/◌, List, Bool, false, [], length, refl, sym, subst, arith, BundlePlace, Finding, view, place_of}
+use Rattle.sfi_scan.proofs.Prelude.{◌+◌, ◌-◌, ◌/◌, List, Bool, false, [], length, refl, sym, subst, arith, BundlePlace, Finding, view, place_of, Nothing, AreFoundUpTo}
 use Rattle.std.proofs.Common.{Result, Ok, Err}
 use Rattle.std.specs.Prelude.{IfOk}
-use Rattle.sfi_rules.specs.declared.owed.Owed.TheVariants.{Nothing}
-use Rattle.sfi_rules.specs.Findings.{AreFoundUpTo}
 use Rattle.sfi_rules.proofs.Facts.{all_found}
 use Rattle.sfi_scan.proofs.Gates.{IsAtGate, at_first, at_next, next_end, next_found, next_gate, next_stretch}
 use Rattle.sfi_scan.proofs.part.scan_part_as.Goals as goal

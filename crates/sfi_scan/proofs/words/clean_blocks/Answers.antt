@@ -1,5 +1,4 @@
-use Rattle.sfi_scan.proofs.Prelude.{◌+◌, ◌*◌, [], drop, refl, arith}
-use Rattle.sfi_scan.specs.Stretches.{stretch_place}
+use Rattle.sfi_scan.proofs.Prelude.{◌+◌, ◌*◌, [], drop, refl, arith, stretch_place}
 use Rattle.sfi_scan.proofs.Fronts.{below_end, front_ahead, run_none, walk_nearer, walk_on}
 use Rattle.sfi_scan.proofs.WordStretches.{words_more}
 use Rattle.sfi_scan.proofs.words.clean_blocks.Goals as goal

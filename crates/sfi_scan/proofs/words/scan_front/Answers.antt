@@ -1,5 +1,4 @@
-use Rattle.sfi_scan.proofs.Prelude.{◌+◌, ◌*◌, ◌≤◌, ℕ, List, drop, sym, subst, arith, BundlePlace, IsWithin}
-use Rattle.sfi_scan.specs.Stretches.{IsWordCodeScanned, stretch_place}
+use Rattle.sfi_scan.proofs.Prelude.{◌+◌, ◌*◌, ◌≤◌, ℕ, List, drop, sym, subst, arith, BundlePlace, IsWithin, IsWordCodeScanned, stretch_place}
 use Rattle.sfi_scan.proofs.Fronts.{bundle_ahead, bundle_front, walk_on}
 use Rattle.sfi_scan.proofs.WordStretches.{words_clean, words_scanned_more, words_scanned_same}
 use Rattle.sfi_scan.proofs.words.scan_front.Goals as goal

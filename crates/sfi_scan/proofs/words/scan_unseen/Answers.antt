@@ -1,9 +1,10 @@
-use Rattle.std.proofs.Common.{arith}
-use Rattle.sfi_scan.proofs.WordReadings.{stuck_of, two_of, word_bad, adds_wide, adds_two, adds_cut, adds_bad}
+use Rattle.sfi_scan.proofs.Prelude.{arith, inl}
+use Rattle.sfi_scan.proofs.After.{stuck_of}
+use Rattle.sfi_scan.proofs.WordReadings.{two_of, word_bad, adds_wide, adds_two, adds_cut, adds_bad}
 use Rattle.sfi_scan.proofs.words.scan_unseen.Goals as goal
 
 pub returns-in-Short : goal.returns-in-Short
-returns-in-Short c = (_, c.push.ensures, omega arith, word_bad c.args.place.now c.args.address c.args.owed c.args.word.now c.requires.whole (stuck_of c.args.word.now c.read_front.result c.in-Short.is (λ other f. c.read_front.ensures.only other f)))
+returns-in-Short c = (_, c.push.ensures, omega arith, word_bad c.args.place.now c.args.address c.args.owed c.args.word.now c.requires.whole (stuck_of c.args.word.now c.read_front.result c.in-Short.is c.read_front.ensures.only))
 
 pub scan_instruction-requires-clause-room : goal.scan_instruction-requires-clause-room
 scan_instruction-requires-clause-room c = let few = c.scan_instruction-owed.ensures.few in let room = c.requires.room in omega arith
@@ -26,9 +27,9 @@ returns-in-Read-read_front c = adds_two c.args.place.now c.args.address c.args.o
 pub returns-in-Short-read_front : goal.returns-in-Short-read_front
 returns-in-Short-read_front c = adds_cut c.args.place.now c.args.address c.args.owed c.args.word.now c.requires.whole c.args.found.now c.in-Read.first c.in-Read.size c.in-Read.ensures.front c.scan_instruction-owed.new.found c.scan_instruction-owed.result
     c.scan_instruction-owed.ensures.found c.scan_instruction-owed.ensures.next (two_of c.args.word.now c.in-Read.first c.in-Read.size c.in-Read.ensures.front c.if-size-eq4.false)
-    c.push-in-Short-read_front.new.found c.read_front-2.result c.in-Short-read_front.is c.in-Short-read_front.ensures.front (λ other f. c.read_front-2.ensures.only other f) c.push-in-Short-read_front.ensures
+    c.push-in-Short-read_front.new.found (stuck_of _ c.read_front-2.result (inl c.in-Short-read_front.is) c.read_front-2.ensures.only) c.in-Short-read_front.ensures.front c.push-in-Short-read_front.ensures
 
 pub returns-in-Bad : goal.returns-in-Bad
 returns-in-Bad c = adds_bad c.args.place.now c.args.address c.args.owed c.args.word.now c.requires.whole c.args.found.now c.in-Read.first c.in-Read.size c.in-Read.ensures.front c.scan_instruction-owed.new.found c.scan_instruction-owed.result
     c.scan_instruction-owed.ensures.found c.scan_instruction-owed.ensures.next (two_of c.args.word.now c.in-Read.first c.in-Read.size c.in-Read.ensures.front c.if-size-eq4.false)
-    c.push-in-Bad.new.found c.read_front-2.result c.in-Bad.is c.in-Bad.ensures.front.enough (λ other f. c.read_front-2.ensures.only other f) c.push-in-Bad.ensures
+    c.push-in-Bad.new.found c.in-Bad.ensures.front c.push-in-Bad.ensures

@@ -1,4 +1,4 @@
-use Rattle.std.proofs.Common.{◌-◌, ◌*◌, ◌≤◌, length}
+use Rattle.sfi_scan.proofs.Prelude.{◌-◌, ◌*◌, ◌≤◌, length}
 use Rattle.sfi_rules.specs.words.Findings.{AreFoundInWords}
 use Rattle.sfi_scan.proofs.words.scan_words.Given as goal
 

@@ -1,5 +1,4 @@
-use Rattle.sfi_scan.proofs.Prelude.{◌*◌, drop, refl, arith}
-use Rattle.sfi_scan.specs.Stretches.{IsWordCodeScanned, stretch_place}
+use Rattle.sfi_scan.proofs.Prelude.{◌*◌, drop, refl, arith, IsWordCodeScanned, stretch_place}
 use Rattle.sfi_scan.proofs.Fronts.{front_ahead, walk_at, walk_nearer, walk_on, walk_over}
 use Rattle.sfi_scan.proofs.WordStretches.{words_scanned_more, words_scanned_none}
 use Rattle.sfi_scan.proofs.words.scan_words_as.Goals as goal

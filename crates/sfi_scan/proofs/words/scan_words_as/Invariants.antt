@@ -1,6 +1,4 @@
-use Rattle.sfi_scan.proofs.Prelude.{◌-◌, length}
-use Rattle.sfi_scan.specs.Stretches.{IsWordCodeScanned}
-use Rattle.sfi_scan.specs.private.Scanning.{IsRun}
+use Rattle.sfi_scan.proofs.Prelude.{◌-◌, length, IsWordCodeScanned, IsRun}
 use Rattle.sfi_scan.proofs.words.scan_words_as.Given as goal
 
 -- so many bundles are scanned

@@ -1,5 +1,4 @@
-use Rattle.sfi_scan.proofs.Prelude.{◌≡◌, ◌+◌, ◌-◌, ◌*◌, ◌/◌, ℕ, suc, refl, subst, arith}
-use Rattle.sfi_scan.specs.private.WordBlock.{AreCleanWords}
+use Rattle.sfi_scan.proofs.Prelude.{◌≡◌, ◌+◌, ◌-◌, ◌*◌, ◌/◌, ℕ, suc, refl, subst, arith, AreCleanWords}
 use Rattle.sfi_scan.proofs.WordSteps.{even_there, reached, passed}
 use Rattle.sfi_scan.proofs.words.block.after_words.Goals as goal
 

@@ -1,5 +1,4 @@
-use Rattle.sfi_scan.proofs.Prelude.{ℕ, ◌≡◌, ◌+◌, ◌-◌, ◌*◌, ◌≤◌}
-use Rattle.sfi_scan.specs.private.WordBlock.{AreCleanWords}
+use Rattle.sfi_scan.proofs.Prelude.{ℕ, ◌≡◌, ◌+◌, ◌-◌, ◌*◌, ◌≤◌, AreCleanWords}
 use Rattle.sfi_scan.proofs.words.block.after_words.Given as goal
 
 -- so many words break no rule

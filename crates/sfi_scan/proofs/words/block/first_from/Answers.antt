@@ -1,4 +1,4 @@
-use Rattle.std.proofs.Common.{arith}
+use Rattle.sfi_scan.proofs.Prelude.{arith}
 use Rattle.sfi_scan.proofs.WordSteps.{none_ahead, first_ahead}
 use Rattle.sfi_scan.proofs.words.block.first_from.Goals as goal
 

@@ -1,4 +1,4 @@
-use Rattle.std.proofs.Common.{refl}
+use Rattle.sfi_scan.proofs.Prelude.{refl}
 use Rattle.sfi_scan.proofs.BlockPairs.{masking_told}
 use Rattle.sfi_scan.proofs.words.block.is_masking.Goals as goal
 

@@ -1,6 +1,5 @@
-use Rattle.sfi_scan.proofs.Prelude.{sym, ◌∙◌}
+use Rattle.sfi_scan.proofs.Prelude.{OnTrue_at, sym, ◌∙◌}
 use Rattle.sfi_scan.proofs.BlockPairs.{used_step}
-use Rattle.sfi_scan.proofs.Prelude.{OnTrue_at}
 use Rattle.sfi_scan.proofs.words.block.is_used_step.Goals as goal
 
 pub returns : goal.returns

@@ -1,6 +1,4 @@
-use Rattle.sfi_scan.proofs.Prelude.{◌≡◌, ◌+◌, ◌-◌, ◌*◌, sym, ◌∙◌, ap, arith, w64, trailing_zeros, OnTrue_at, is_in}
-use Rattle.std.proofs.Math.Facts.{Fits-lt-pow}
-use Rattle.sfi_scan.specs.private.WordBlock.{IsPairAt}
+use Rattle.sfi_scan.proofs.Prelude.{◌-◌, sym, ◌∙◌, ap, arith, w64, trailing_zeros, OnTrue_at, is_in, Fits-lt-pow, IsPairAt}
 use Rattle.sfi_scan.proofs.Bits.{in_lowest, in_rest, in_more, in_zero}
 use Rattle.sfi_scan.proofs.WordBlock.{next_is, pair_at}
 use Rattle.sfi_scan.proofs.WordMarks.{two_words}
@@ -33,13 +31,12 @@ loop-rest-preserved c =
     let low = in_lowest c.loop-rest.rest c.loop-rest-test.true (Fits-lt-pow c.loop-rest.auto.rest-fits) in
     let i = trailing_zeros w64 c.loop-rest.rest in
     let there = c.loop-rest.invariant.0 i low.0 low.1 in
-    let even = c.requires i low.0 there.first in
-    let place : 2 * i + 4 ≡ 2 * (i + 2) = omega arith in (
+    let even = c.requires i low.0 there.first in (
       λ j lt h. c.loop-rest.invariant.0 j lt (in_rest c.loop-rest.rest (c.loop-rest.rest - 1) j h),
       elim c.if-is_pair.branch [
         | then-is_pair w ↦ λ j h.
             in_more w64 (IsPairAt c.args.block.now) c.loop-rest.pairs i low.0
-            (pair_at c.args.block.now i c.word_at-first.result c.word_at-second.result even there.below c.word_at-first.ensures (c.word_at-second.ensures ∙ next_is c.args.block.now (2 * i + 4) i place) (OnTrue_at w.if-is_pair.true c.is_pair.ensures))
+            (pair_at c.args.block.now i c.word_at-first.result c.word_at-second.result even there.below c.word_at-first.ensures (c.word_at-second.ensures ∙ next_is c.args.block.now i) (OnTrue_at w.if-is_pair.true c.is_pair.ensures))
             c.loop-rest.invariant.1 j (sym (ap (λ m. is_in m j) w.pairs-is) ∙ h)
         | else-is_pair w ↦ λ j h. c.loop-rest.invariant.1 j (sym (ap (λ m. is_in m j) w.pairs-is) ∙ h)
       ],

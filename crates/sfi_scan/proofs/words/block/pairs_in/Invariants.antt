@@ -1,5 +1,4 @@
-use Rattle.sfi_scan.proofs.Prelude.{ℕ, ◌≡◌, ◌<◌, true, is_in}
-use Rattle.sfi_scan.specs.private.WordBlock.{IsPairAt}
+use Rattle.sfi_scan.proofs.Prelude.{ℕ, ◌≡◌, ◌<◌, true, is_in, IsPairAt}
 use Rattle.sfi_scan.proofs.WordMarks.{AreTwo}
 use Rattle.sfi_scan.proofs.words.block.pairs_in.Given as goal
 

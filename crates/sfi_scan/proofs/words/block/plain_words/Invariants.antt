@@ -1,6 +1,4 @@
-use Rattle.sfi_scan.proofs.Prelude.{ℕ, ◌≡◌, true, is_in}
-use Rattle.sfi_rules.specs.declared.owed.Owed.TheVariants.{Nothing}
-use Rattle.sfi_scan.specs.private.WordBlock.{IsCleanWord}
+use Rattle.sfi_scan.proofs.Prelude.{ℕ, ◌≡◌, true, is_in, Nothing, IsCleanWord}
 use Rattle.sfi_scan.proofs.words.block.plain_words.Given as goal
 
 -- what is left is of the words, and what is plain breaks no rule

@@ -1,6 +1,4 @@
-use Rattle.sfi_scan.proofs.Prelude.{◌≡◌, ℕ, ◌+◌, ◌-◌, ◌*◌, false, sym, ◌∙◌, ap, arith, w64, trailing_zeros, OnTrue_at, is_in}
-use Rattle.std.proofs.Math.Facts.{Fits-lt-pow}
-use Rattle.sfi_scan.specs.private.WordBlock.{IsSteppedWord}
+use Rattle.sfi_scan.proofs.Prelude.{◌≡◌, ℕ, ◌+◌, ◌-◌, false, sym, ◌∙◌, ap, arith, w64, trailing_zeros, OnTrue_at, is_in, Fits-lt-pow, IsSteppedWord}
 use Rattle.sfi_scan.proofs.Bits.{in_lowest, in_rest, in_more, in_zero}
 use Rattle.sfi_scan.proofs.WordBlock.{stepped, next_is}
 use Rattle.sfi_scan.proofs.WordMarks.{before_access}
@@ -34,13 +32,12 @@ loop-rest-preserved c =
     let low = in_lowest c.loop-rest.rest c.loop-rest-test.true (Fits-lt-pow c.loop-rest.auto.rest-fits) in
     let i = trailing_zeros w64 c.loop-rest.rest in
     let there = c.loop-rest.invariant.0 i low.0 low.1 in
-    let even = c.requires.words i low.0 there.word in
-    let place : 2 * i + 4 ≡ 2 * (i + 2) = omega arith in (
+    let even = c.requires.words i low.0 there.word in (
       λ j lt h. c.loop-rest.invariant.0 j lt (in_rest c.loop-rest.rest (c.loop-rest.rest - 1) j h),
       elim c.if-is_used_step.branch [
         | then-is_used_step w ↦ λ j h.
             in_more w64 (λ (k : ℕ). IsSteppedWord c.args.block.now k × (is_in c.args.words (k + 2) ≡ false)) c.loop-rest.steps i low.0 (
-              stepped c.args.block.now i c.word_at-word.result c.word_at-next.result c.told-block even there.below c.word_at-word.ensures (c.word_at-next.ensures ∙ next_is c.args.block.now (2 * i + 4) i place) (c.requires.free (i + 2) there.below (omega (arith, even)) there.access)
+              stepped c.args.block.now i c.word_at-word.result c.word_at-next.result c.told-block even there.below c.word_at-word.ensures (c.word_at-next.ensures ∙ next_is c.args.block.now i) (c.requires.free (i + 2) there.below (omega (arith, even)) there.access)
                   (OnTrue_at w.if-is_used_step.true c.is_used_step.ensures),
               there.apart,
             )

@@ -1,5 +1,4 @@
-use Rattle.sfi_scan.proofs.Prelude.{ℕ, ◌≡◌, ◌+◌, ◌<◌, true, false, is_in}
-use Rattle.sfi_scan.specs.private.WordBlock.{IsSteppedWord}
+use Rattle.sfi_scan.proofs.Prelude.{ℕ, ◌≡◌, ◌+◌, ◌<◌, true, false, is_in, IsSteppedWord}
 use Rattle.sfi_scan.proofs.WordMarks.{IsBefore}
 use Rattle.sfi_scan.proofs.words.block.used_steps.Given as goal
 

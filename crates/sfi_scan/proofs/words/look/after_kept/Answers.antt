@@ -1,4 +1,4 @@
-use Rattle.sfi_rules.specs.declared.owed.Owed.TheVariants.{Nothing}
+use Rattle.sfi_scan.proofs.Prelude.{Nothing}
 use Rattle.sfi_scan.proofs.WordLook.{quiet_word}
 use Rattle.sfi_scan.proofs.WordPairs.{masking, placing, masked, placed}
 use Rattle.sfi_scan.proofs.words.look.after_kept.Goals as goal

@@ -1,6 +1,4 @@
-use Rattle.std.proofs.Common.{sym, ap, ◌∙◌}
-use Rattle.rv_word.specs.Numbers.{bits}
-use Rattle.sfi_scan.specs.private.WordLook.{is_kept}
+use Rattle.sfi_scan.proofs.Prelude.{sym, ap, ◌∙◌, bits, is_kept}
 use Rattle.sfi_scan.proofs.WordLook.{free_told}
 use Rattle.sfi_scan.proofs.words.look.after_nothing.Goals as goal
 

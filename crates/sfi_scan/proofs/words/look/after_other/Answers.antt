@@ -1,4 +1,4 @@
-use Rattle.std.proofs.Common.{sym}
+use Rattle.sfi_scan.proofs.Prelude.{sym}
 use Rattle.sfi_scan.proofs.WordLook.{access_told}
 use Rattle.sfi_scan.proofs.words.look.after_other.Goals as goal
 

@@ -1,7 +1,5 @@
-use Rattle.std.proofs.Common.{sym, subst}
-use Rattle.sfi_rules.specs.declared.owed.Owed.{Owed}
-use Rattle.sfi_rules.specs.declared.owed.Owed.TheVariants.{Nothing, Mask, Place, MaskOrUse, Code}
-use Rattle.sfi_scan.specs.private.WordLook.{IsQuietWord}
+use Rattle.sfi_scan.proofs.Prelude.{sym, subst, Owed, Nothing, MaskOrUse, Code, IsQuietThere}
+use Rattle.sfi_rules.specs.declared.owed.Owed.TheVariants.{Mask, Place}
 use Rattle.sfi_scan.proofs.WordLook.{quiet_owed}
 use Rattle.sfi_scan.proofs.WordPairs.{masking, placing, placing_code, masked_owed, masked_or_used, placed_owed, code_owed}
 use Rattle.sfi_scan.proofs.words.look.after_owed.Goals as goal
@@ -22,7 +20,7 @@ returns-then-is_masking_of c =
     (masked_or_used c.args.place.now c.args.address 4 c.requires.before_end c.in-MaskOrUse.d)
 
 pub returns-else-not-is_use : goal.returns-else-not-is_use
-returns-else-not-is_use c = subst (λ (o : Owed). IsQuietWord c.args.place.now c.args.address o c.args.word Nothing) (sym c.in-MaskOrUse.is) c.if-not-is_use.ensures
+returns-else-not-is_use c = subst (λ (o : Owed). IsQuietThere c.args.place.now c.args.address o c.args.word Nothing) (sym c.in-MaskOrUse.is) c.if-not-is_use.ensures
 
 pub returns-else-not-is_placing_code : goal.returns-else-not-is_placing_code
 returns-else-not-is_placing_code c =

@@ -1,4 +1,4 @@
-use Rattle.rv_word.specs.Numbers.{bits}
+use Rattle.sfi_scan.proofs.Prelude.{bits}
 use Rattle.sfi_scan.proofs.WordLook.{owing_told}
 use Rattle.sfi_scan.proofs.words.look.after_typed.Goals as goal
 

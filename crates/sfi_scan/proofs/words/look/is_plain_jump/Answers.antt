@@ -1,4 +1,4 @@
-use Rattle.std.proofs.Common.{sym}
+use Rattle.sfi_scan.proofs.Prelude.{sym}
 use Rattle.sfi_scan.proofs.FirstLook.{zero_of}
 use Rattle.sfi_scan.proofs.WordPlain.{jump_plain}
 use Rattle.sfi_scan.proofs.words.look.is_plain_jump.Goals as goal

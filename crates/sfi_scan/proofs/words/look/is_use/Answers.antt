@@ -1,4 +1,4 @@
-use Rattle.std.proofs.Common.{sym}
+use Rattle.sfi_scan.proofs.Prelude.{sym}
 use Rattle.sfi_scan.proofs.WordLook.{use_told}
 use Rattle.sfi_scan.proofs.words.look.is_use.Goals as goal
 
