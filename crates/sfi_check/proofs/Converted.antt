@@ -1,14 +1,12 @@
 -- What a refusal is to a conversion, and which format an image begins with.
-use Rattle.sfi_check.proofs.Prelude.{◌≡◌, ℕ, List, [], ◌∷◌, ◌++◌, take, get_or, refl, sym, ap, ◌∙◌, subst, arith, Result, Ok, Err, Vec, IfOk, IfErr, false, Format, Sfi1, Sfi2, has_words, magic, IsFault, SandboxPart, Part, view, views, format_of, Finding, AreImageFindings, IsAccepted, HasFindings}
+use Rattle.sfi_check.proofs.Prelude.{◌≡◌, ℕ, List, [], ◌∷◌, ◌++◌, take, get_or, refl, sym, ap, ◌∙◌, subst, arith, Result, Ok, Err, Vec, IfOk, IfErr, false, Format, Sfi1, Sfi2, has_words, magic, IsFault, SandboxPart, Part, view, views, format_of, Finding, AreImageFindings, IsAccepted, HasFindings, IfLayoutFault, Refusal, LayoutFault}
 use Rattle.sfi_check.specs.Converting.{IsSecond, IsConversion, IsConvertFault, IfStack, AreOfStack, fault_of, AnswersLayout, AnswersFindings}
-use Rattle.sfi_check.specs.Refusals.{IfLayoutFault, IfFindings}
+use Rattle.sfi_check.specs.Refusals.{IfFindings}
 use Rattle.sfi_check.specs.declared.conversion.ConvertFault.{ConvertFault}
-use Rattle.sfi_check.specs.declared.conversion.ConvertFault.TheVariants.{Refused, NotOld, Stack, Words}
-use Rattle.sfi_check.specs.declared.refusal.Refusal.{Refusal}
+use Rattle.sfi_check.specs.declared.conversion.ConvertFault.TheVariants.{Stack}
 use Rattle.sfi_check.specs.declared.refusal.Refusal.TheVariants.{Layout, Findings, Memory}
 use Rattle.sfi_check.specs.private.Converting.{IsStackOf, Converts}
 use Rattle.sfi_image.specs.InFormat.{all_in_format}
-use Rattle.sfi_image.specs.declared.fault.LayoutFault.{LayoutFault}
 use Rattle.std.specs.Global.{Global}
 use Rattle.std.specs.Result.{IsErrAnd}
 use Rattle.sfi_image.specs.Spelling.{spelling}
@@ -20,12 +18,13 @@ use Rattle.sfi_check.specs.declared.conversion.ConvertFault.TheVariants as conve
 
 -- ---- formats
 
-differ : (a b : ℕ) → a ≡ 49 → b ≡ 50 → a ≡ b → ⊥
-differ a b x y e = omega arith
-
-magics_differ : magic Sfi1 ≡ magic Sfi2 → ⊥
+-- by their last bytes
+magics_differ : (magic Sfi1 ≡ magic Sfi2 → ⊥) × (magic Sfiw ≡ magic Sfi2 → ⊥)
 unfolding magic
-magics_differ e = differ 49 50 refl refl (ap (λ (l : List ℕ). get_or l 3 0) e)
+magics_differ = (
+  λ e. let no : 49 ≡ 50 = ap (λ (l : List ℕ). get_or l 3 0) e in omega arith,
+  λ e. let no : 87 ≡ 50 = ap (λ (l : List ℕ). get_or l 3 0) e in omega arith,
+)
 
 front_of : (f : Format) (rest : List ℕ) → take 4 (magic f ++ rest) ≡ magic f
 unfolding magic
@@ -37,22 +36,15 @@ begins_with : (bytes : List ℕ) (ps : List Part) → bytes ≡ spelling ps → 
 unfolding spelling
 begins_with bytes ps e = ap (take 4) e ∙ front_of (format_of ps) _
 
-third_differs : magic Sfiw ≡ magic Sfi2 → ⊥
-unfolding magic
-third_differs e = differ_third 87 50 refl refl (ap (λ (l : List ℕ). get_or l 3 0) e)
-  where
-    differ_third : (a b : ℕ) → a ≡ 87 → b ≡ 50 → a ≡ b → ⊥
-    differ_third a b x y e = omega arith
-
 -- an accepted image of another format doesn't begin as one of the second
 other_not_second : (bytes : List ℕ) (ps : List Part) (f : Format) → (magic f ≡ magic Sfi2 → ⊥) → IsAccepted bytes ps → format_of ps ≡ f → IsSecond bytes → ⊥
 other_not_second bytes ps f differs is of second = differs (ap magic (sym of) ∙ sym (begins_with bytes ps is.image.bytes_are) ∙ second)
 
 pub first_not_second : (bytes : List ℕ) (ps : List Part) → IsAccepted bytes ps → format_of ps ≡ Sfi1 → IsSecond bytes → ⊥
-first_not_second bytes ps = other_not_second bytes ps Sfi1 magics_differ
+first_not_second bytes ps = other_not_second bytes ps Sfi1 magics_differ.0
 
 pub third_not_second : (bytes : List ℕ) (ps : List Part) → IsAccepted bytes ps → format_of ps ≡ Sfiw → IsSecond bytes → ⊥
-third_not_second bytes ps = other_not_second bytes ps Sfiw third_differs
+third_not_second bytes ps = other_not_second bytes ps Sfiw magics_differ.1
 
 of_three : (f : Format) (front : List ℕ) → front ≡ magic f → (front ≡ magic Sfi2 → ⊥) → has_words f ≡ false → f ≡ Sfi1
 of_three Sfi1 front e not bundles = refl
@@ -96,20 +88,16 @@ converted_means bytes ps (Err e) not bundles is h = tt
 pub stack_means : (bytes : List ℕ) (ps : List Part) (answer : Result (Vec ℕ Global) ConvertFault) → (IsSecond bytes → ⊥) → has_words (format_of ps) ≡ false → IsAccepted bytes ps
     → IfErr answer (IsStackOf (all_in_format Sfi2 ps)) → IfErr answer (IsConvertFault bytes)
 stack_means bytes ps (Ok new) not bundles is h = tt
-stack_means bytes ps (Err (Refused r)) not bundles is h = absurd h
-stack_means bytes ps (Err NotOld) not bundles is h = absurd h
 stack_means bytes ps (Err (Stack found)) not bundles is h = record { parts = ps; first = not_second_first bytes ps is not bundles; accepted = is; found_are = h.0; some = h.1 }
 stack_means bytes ps (Err convert.Memory) not bundles is h = tt
-stack_means bytes ps (Err Words) not bundles is h = absurd h
+stack_means bytes ps (Err e) not bundles is h = absurd h
 
 pub stack_alone_means : (ps : List Part) (answer : Result (Vec ℕ Global) ConvertFault) → has_words (format_of ps) ≡ false → AreOf (format_of ps) ps → AreImageFindings ps []
     → IfErr answer (IsStackOf (all_in_format Sfi2 ps)) → IfErr answer (IfStack AreOfStack)
 stack_alone_means ps (Ok new) bundles one none h = tt
-stack_alone_means ps (Err (Refused r)) bundles one none h = absurd h
-stack_alone_means ps (Err NotOld) bundles one none h = absurd h
 stack_alone_means ps (Err (Stack found)) bundles one none h = clean_breaks_stack_alone ps found.items (λ k d less. ap has_words (one k d less) ∙ bundles) none h.0
 stack_alone_means ps (Err convert.Memory) bundles one none h = tt
-stack_alone_means ps (Err Words) bundles one none h = absurd h
+stack_alone_means ps (Err e) bundles one none h = absurd h
 
 pub fault_converts : (ps : List Part) (fault : ConvertFault) (answer : Result (Vec ℕ Global) ConvertFault) → IsErrAnd answer (λ e. e ≡ fault) → IsStackOf (all_in_format Sfi2 ps) fault → Converts ps answer
 fault_converts ps fault (Ok new) h is = absurd h

@@ -1,7 +1,6 @@
 -- What a feed holds.
-use Rattle.sfi_check.proofs.Prelude.{◌≡◌, ◌∙◌, ◌≤◌, ◌<◌, ◌+◌, ◌⊎◌, ℕ, List, [], ◌++◌, true, false, refl, Option, None, Some, take, length, sym, ap, subst, arith, inl, inr, append_assoc, is_some, append-nil, length-take, length-append, take-append_seam, IsFault, Front, want_of, IsLess, HasFaultNumberWhateverFollows, Empty, AfterMagic, AfterCount, InGates, InCode, InInit, Whole, ReaderState, StandsFor, left, Finding, Tally, IsSoFar, IsCut, HoldsOfSome, verdict_of, IsFedFinding, IsFedBy, IsHeld, IsVerdictOn}
+use Rattle.sfi_check.proofs.Prelude.{◌≡◌, ◌∙◌, ◌≤◌, ◌<◌, ◌+◌, ◌⊎◌, ℕ, List, [], ◌++◌, true, false, refl, Option, None, Some, take, length, sym, ap, subst, arith, inl, inr, append_assoc, is_some, append-nil, length-take, length-append, take-append_seam, IsFault, Front, want_of, IsLess, HasFaultNumberWhateverFollows, Empty, Whole, ReaderState, StandsFor, left, Finding, Tally, IsSoFar, IsCut, HoldsOfSome, verdict_of, IsFedFinding, IsFedBy, IsHeld, IsVerdictOn, left_to_feed}
 use Rattle.sfi_check.specs.declared.feed.Feed.{Feed}
-use Rattle.sfi_check.specs.private.Feeds.{left_to_feed}
 use Rattle.sfi_image.specs.declared.want.Want.{Want}
 use Rattle.sfi_image.specs.declared.want.Want.TheVariants as wants
 use Rattle.sfi_image.specs.declared.want.Next.TheVariants as next
@@ -62,12 +61,7 @@ from_nothing takes s f none h = fed_weaker f [] (λ found is. subst (λ (l : Lis
 
 first_cut : (r : ReaderState) → StandsFor r Empty → (x : Front) → StandsFor r x → IsLess 0 (want_of x)
 first_cut r e Empty h = omega arith
-first_cut r e (AfterMagic kind) h = let n = h.kept.0 in let m = e.kept.0 in absurd cc
-first_cut r e (AfterCount kind n ps) h = let k = h.kept.0 in let m = e.kept.0 in absurd cc
-first_cut r e (InGates n ps f gs) h = let k = h.kept.0 in let m = e.kept.0 in absurd cc
-first_cut r e (InCode n ps f gs code) h = let k = h.kept.0 in let m = e.kept.0 in absurd cc
-first_cut r e (InInit n ps f gs code init) h = let k = h.kept.0 in let m = e.kept.0 in absurd cc
-first_cut r e (Whole ps) h = let k = h.kept.0 in let m = e.kept.0 in absurd cc
+first_cut r e x h = let n = h.kept.0 in let m = e.kept.0 in absurd cc
 
 pub nothing_fed : (T : List Finding → Type 0) (f : Feed) → StandsFor f.reader Empty → f.tally.sandboxes ≡ 0 → f.tally.bundles ≡ 0 → f.tally.count ≡ 0 → f.tally.first ≡ None
     → f.count ≡ 0 → f.fault ≡ None → length f.held ≡ 64 → T [] → IsFedFinding T f []
@@ -101,13 +95,8 @@ pub answered_fault : (bytes : List ℕ) (number : ℕ) → HasFaultNumberWhateve
 answered_fault bytes number h = on_fault bytes h.0 number h.1 (subst (λ (l : List ℕ). IsFault l h.0) (append-nil bytes) (h.2 []))
 
 is_end : (r : ReaderState) (x : Front) → StandsFor r x → wants.End ≡ want_of x → r.next ≡ next.End
-is_end r Empty h w = absurd cc
-is_end r (AfterMagic kind) h w = absurd cc
-is_end r (AfterCount kind n ps) h w = absurd cc
-is_end r (InGates n ps f gs) h w = absurd cc
-is_end r (InCode n ps f gs code) h w = absurd cc
-is_end r (InInit n ps f gs code init) h w = absurd cc
 is_end r (Whole ps) h w = h.kept.0
+is_end r x h w = absurd cc
 
 never_less : (x : Front) (len : ℕ) → wants.End ≡ want_of x → IsLess len (want_of x) → ⊥
 never_less x len w h = subst (λ (v : Want). IsLess len v) (sym w) h
@@ -125,13 +114,8 @@ answered_whole {T} f bytes h want =
     subst (λ (l : List ℕ). IsJudgedWhole T l (verdict_of f.tally)) (sym same) (ended_whole f.reader f.tally h.so_far h.at (is_end f.reader h.at.at h.at.stands w))
 
 is_whole : (r : ReaderState) (x : Front) → StandsFor r x → r.next ≡ next.End → wants.End ≡ want_of x
-is_whole r Empty h e = let n = h.kept.0 in absurd cc
-is_whole r (AfterMagic kind) h e = let n = h.kept.0 in absurd cc
-is_whole r (AfterCount kind n ps) h e = let m = h.kept.0 in absurd cc
-is_whole r (InGates n ps f gs) h e = let m = h.kept.0 in absurd cc
-is_whole r (InCode n ps f gs code) h e = let m = h.kept.0 in absurd cc
-is_whole r (InInit n ps f gs code init) h e = let m = h.kept.0 in absurd cc
 is_whole r (Whole ps) h e = refl
+is_whole r x h e = let n = h.kept.0 in absurd cc
 
 pub answered_short : {T : List Finding → Type 0} (f : Feed) (bytes : List ℕ) (h : IsHeld T f bytes) → (wants.End ≡ want_of h.at.at → ⊥) → IsVerdictOn bytes true (answers.Layout 3)
 answered_short f bytes h never = elim h.rests [

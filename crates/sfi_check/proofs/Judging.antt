@@ -1,6 +1,5 @@
 -- The answer on a stream.
-use Rattle.sfi_check.proofs.Prelude.{◌≡◌, ℕ, ◌<◌, true, false, List, [], ◌∷◌, ◌++◌, length, Option, None, refl, sym, ap, ◌∙◌, subst, arith, append_assoc, inr, slice_get, Part, IsFault, Front, front, HasFaultNumberWhateverFollows, Empty, AfterMagic, AfterCount, InGates, InCode, InInit, Whole, ReaderState, StandsFor, left, left_most, Finding, AreImageFindings, StreamAnswer, Tally, Tallies, IsSoFar, IsCut, verdict_by, verdict_of, HasFindings, IsVerdictOn, AreHandedOver}
-use Rattle.sfi_image.specs.Images.{IsImage}
+use Rattle.sfi_check.proofs.Prelude.{◌≡◌, ℕ, ◌<◌, true, false, List, [], ◌∷◌, ◌++◌, length, Option, None, refl, sym, ap, ◌∙◌, subst, arith, append_assoc, inr, slice_get, Part, IsFault, Front, front, HasFaultNumberWhateverFollows, Empty, Whole, ReaderState, StandsFor, left, left_most, Finding, AreImageFindings, StreamAnswer, Tally, Tallies, IsSoFar, IsCut, verdict_by, verdict_of, HasFindings, IsVerdictOn, AreHandedOver, IsImage}
 use Rattle.sfi_image.specs.declared.fault.LayoutFault.TheVariants as faults
 use Rattle.sfi_image.specs.declared.want.Next.TheVariants as next
 use Rattle.sfi_check.specs.declared.stream_answer.StreamAnswer.TheVariants as answers
@@ -60,13 +59,8 @@ judged_whole {T} bytes ps t image k = by k.found k.found_holds k.found_are k.cou
 
 at_whole : {T : List Finding → Type 0} (r : ReaderState) (t : Tally) (bytes : List ℕ) (x : Front) → StandsFor r x → bytes ≡ front x → Tallies T t x → r.next ≡ next.End
     → (ps : List Part) × (bytes ≡ front (Whole ps)) × StandsFor r (Whole ps) × Tallies T t (Whole ps)
-at_whole r t bytes Empty h e k is = let n = h.kept.0 in absurd cc
-at_whole r t bytes (AfterMagic kind) h e k is = let n = h.kept.0 in absurd cc
-at_whole r t bytes (AfterCount kind n ps) h e k is = let n = h.kept.0 in absurd cc
-at_whole r t bytes (InGates n ps f gs) h e k is = let n = h.kept.0 in absurd cc
-at_whole r t bytes (InCode n ps f gs code) h e k is = let n = h.kept.0 in absurd cc
-at_whole r t bytes (InInit n ps f gs code init) h e k is = let n = h.kept.0 in absurd cc
 at_whole r t bytes (Whole ps) h e k is = (ps, e, h, k)
+at_whole r t bytes x h e k is = let n = h.kept.0 in absurd cc
 
 -- the stream ends where the image does
 pub ended_whole : {T : List Finding → Type 0} → (r : ReaderState) (t : Tally) (bytes : List ℕ) → IsSoFar T r t bytes → r.next ≡ next.End → IsJudgedWhole T bytes (verdict_of t)

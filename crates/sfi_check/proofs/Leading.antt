@@ -1,7 +1,6 @@
 -- One step of a reader with its tally.
-use Rattle.sfi_check.proofs.Prelude.{◌≡◌, ℕ, ◌+◌, ◌-◌, ◌<◌, ◌≤◌, List, ◌++◌, length, take, drop, refl, sym, ap, ◌∙◌, subst, arith, append_assoc, inl, inr, None, take-append-drop, length-take, length-drop, take_all, take-append-add, spans, IsCodeRegion, Part, Gate, is_gate_of, Front, Follows, front, IsRightFront, want_of, IsLengthOf, HasFaultNumberWhateverFollows, Empty, AfterMagic, AfterCount, InGates, InCode, InInit, Whole, ReaderState, StandsFor, left, Finding, BundlePlace, IsWithin, Tally, Tallies, IsSoFar, HoldsOfSome}
+use Rattle.sfi_check.proofs.Prelude.{◌≡◌, ℕ, ◌+◌, ◌-◌, ◌<◌, ◌≤◌, List, ◌++◌, length, take, drop, refl, sym, ap, ◌∙◌, subst, arith, append_assoc, inl, inr, None, take-append-drop, length-take, length-drop, take_all, take-append-add, spans, IsCodeRegion, Part, Gate, is_gate_of, Front, Follows, front, IsRightFront, want_of, IsLengthOf, HasFaultNumberWhateverFollows, Empty, AfterMagic, AfterCount, InGates, InCode, InInit, ReaderState, StandsFor, left, Finding, BundlePlace, IsWithin, Tally, Tallies, IsSoFar, HoldsOfSome, Fields}
 use Rattle.sfi_image.specs.Tests.{IsFirstFault, field_tests}
-use Rattle.sfi_image.specs.declared.fields.Fields.{Fields}
 use Rattle.sfi_image.specs.declared.span.Span.{Span}
 use Rattle.sfi_image.specs.declared.want.Want.{Want}
 use Rattle.sfi_image.specs.declared.want.Want.TheVariants as wants
@@ -32,13 +31,8 @@ pub record IsInCode (x : Front) (b : BundlePlace) : Type 0 where
   pub place_is : b ≡ place_at (length before) fields gates (fields.code_base + length code)
 
 pub in_code : (x : Front) (b : BundlePlace) → wants.Bundle b ≡ want_of x → IsInCode x b
-in_code Empty b w = absurd cc
-in_code (AfterMagic kind) b w = absurd cc
-in_code (AfterCount kind n ps) b w = absurd cc
-in_code (InGates n ps f gs) b w = absurd cc
 in_code (InCode n ps f gs code) b w = record { count = n; before = ps; fields = f; gates = gs; code = code; front_is = refl; place_is = cc }
-in_code (InInit n ps f gs code init) b w = absurd cc
-in_code (Whole ps) b w = absurd cc
+in_code x b w = absurd cc
 
 pub bundle_within : (x : Front) (b : BundlePlace) → IsRightFront x → wants.Bundle b ≡ want_of x → IsWithin b
 bundle_within x b right w =
@@ -57,18 +51,11 @@ field_len Empty len w = let e : len ≡ 4 = cc in (omega arith, omega arith)
 field_len (AfterMagic kind) len w = let e : len ≡ 4 = cc in (omega arith, omega arith)
 field_len (AfterCount kind n ps) len w = let e : len ≡ 28 = cc in (omega arith, omega arith)
 field_len (InGates n ps f gs) len w = let e : len ≡ 8 = cc in (omega arith, omega arith)
-field_len (InCode n ps f gs code) len w = absurd cc
-field_len (InInit n ps f gs code init) len w = absurd cc
-field_len (Whole ps) len w = absurd cc
+field_len x len w = absurd cc
 
 pub init_some : (x : Front) (len : ℕ) → wants.Init len ≡ want_of x → IsRightFront x → 1 ≤ len
-init_some Empty len w right = absurd cc
-init_some (AfterMagic kind) len w right = absurd cc
-init_some (AfterCount kind n ps) len w right = absurd cc
-init_some (InGates n ps f gs) len w right = absurd cc
-init_some (InCode n ps f gs code) len w right = absurd cc
 init_some (InInit n ps f gs code init) len w right = let e : len ≡ f.init_len - length init = cc in let less = right.3 in omega arith
-init_some (Whole ps) len w right = absurd cc
+init_some x len w right = absurd cc
 
 -- ---- as many bytes as are wanted
 

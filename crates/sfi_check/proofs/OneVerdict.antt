@@ -1,10 +1,7 @@
 -- Bytes have one verdict.
-use Rattle.sfi_check.proofs.Prelude.{◌≡◌, ◌≢◌, ℕ, List, [], ◌∷◌, ◌++◌, Bool, true, length, Some, Result, Ok, Err, refl, sym, ap, ◌∙◌, subst, inl, inr, ◌⊎◌, slice_get, append-nil, Part, IsFault, number_of, HasFaultNumberWhateverFollows, Finding, AreImageFindings, StreamAnswer, AllRunSafely, IsAccepted, HasFindings, bundle_count, IsVerdictOn, IsFaultOf, AreCounted}
+use Rattle.sfi_check.proofs.Prelude.{◌≡◌, ◌≢◌, ℕ, List, [], ◌∷◌, ◌++◌, Bool, true, length, Some, Result, Ok, Err, refl, sym, ap, ◌∙◌, subst, inl, inr, ◌⊎◌, slice_get, append-nil, Part, IsFault, number_of, HasFaultNumberWhateverFollows, Finding, AreImageFindings, StreamAnswer, AllRunSafely, IsAccepted, HasFindings, bundle_count, IsVerdictOn, IsFaultOf, AreCounted, Refusal, IsImage, LayoutFault}
 use Rattle.sfi_check.specs.OneVerdict.{Answers, IsReadOf, SaysSame, OneListOfFindings, NeverAcceptedWithFindings, VerdictIsOnAll, OneVerdict, StreamSaysSame}
-use Rattle.sfi_check.specs.declared.refusal.Refusal.{Refusal}
 use Rattle.sfi_check.specs.declared.refusal.Refusal.TheVariants.{Layout, Findings, Memory}
-use Rattle.sfi_image.specs.Images.{IsImage}
-use Rattle.sfi_image.specs.declared.fault.LayoutFault.{LayoutFault}
 use Rattle.sfi_check.specs.declared.stream_answer.StreamAnswer.TheVariants as answers
 use Rattle.sfi_image.proofs.Facts.{one_image, one_fault}
 use Rattle.sfi_image.proofs.Facts as image_facts

@@ -35,3 +35,9 @@ pub use Rattle.sfi_check.specs.Tallies.{owed_after, AreFindingsSoFar, IsSoFar, T
 pub use Rattle.sfi_scan.specs.Stretches.{findings_most, IsStretch, AreFoundInStretch, stretch_place}
 pub use Rattle.sfi_check.specs.private.Counting.{AddsFindings, Counts}
 pub use Rattle.sfi_check.specs.private.Tallies.{verdict_of, verdict_by, HoldsOfSome, Goes, LeadsOn}
+pub use Rattle.sfi_check.specs.Refusals.{IfLayoutFault}
+pub use Rattle.sfi_check.specs.declared.refusal.Refusal.{Refusal}
+pub use Rattle.sfi_check.specs.private.Feeds.{left_to_feed}
+pub use Rattle.sfi_image.specs.Images.{IsImage}
+pub use Rattle.sfi_image.specs.declared.fault.LayoutFault.{LayoutFault}
+pub use Rattle.sfi_image.specs.declared.fields.Fields.{Fields}

@@ -1,4 +1,4 @@
-use Rattle.std.proofs.Common.{arith}
+use Rattle.sfi_check.proofs.Prelude.{arith}
 use Rattle.sfi_check.proofs.Counts.{one_more, few_more, few_parts, at_end}
 use Rattle.sfi_check.proofs.accepted.bundle_count.Goals as goal
 

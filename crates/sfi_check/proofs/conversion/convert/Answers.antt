@@ -1,6 +1,4 @@
-use Rattle.std.proofs.Common.{Err, List, refl, sym, ap, ◌∙◌, subst}
-use Rattle.sfi_policy.specs.Formats.{has_words}
-use Rattle.sfi_image.specs.Spelling.{Part, format_of}
+use Rattle.sfi_check.proofs.Prelude.{Err, List, refl, sym, ap, ◌∙◌, subst, has_words, Part, format_of}
 use Rattle.sfi_check.specs.Converting.{IsConvertFault, AnswersLayout, AnswersFindings}
 use Rattle.sfi_check.specs.declared.conversion.ConvertFault.{ConvertFault}
 use Rattle.sfi_check.proofs.Converted.{first_not_second, third_not_second, converted_means, stack_means, stack_alone_means, refused_means, refused_layout, refused_findings}

@@ -1,5 +1,4 @@
-use Rattle.sfi_check.proofs.Prelude.{◌≡◌, false}
-use Rattle.sfi_check.specs.private.Feeds.{left_to_feed}
+use Rattle.sfi_check.proofs.Prelude.{◌≡◌, false, left_to_feed}
 use Rattle.sfi_check.proofs.Pieces.{IsBetween}
 use Rattle.sfi_check.proofs.stream.check_stream_into.Given as goal
 

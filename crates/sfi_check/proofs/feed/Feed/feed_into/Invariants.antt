@@ -1,5 +1,5 @@
-use Rattle.sfi_check.proofs.Prelude.{◌≡◌, ◌⊎◌, ◌<◌, ◌≤◌, ◌-◌, length, take, None}
-use Rattle.sfi_check.specs.private.Feeds.{IsFedOn, left_to_feed}
+use Rattle.sfi_check.proofs.Prelude.{◌≡◌, ◌⊎◌, ◌<◌, ◌≤◌, ◌-◌, length, take, None, left_to_feed}
+use Rattle.sfi_check.specs.private.Feeds.{IsFedOn}
 use Rattle.sfi_check.proofs.feed.Feed.feed_into.Given as goal
 
 -- so many bytes of the piece are fed

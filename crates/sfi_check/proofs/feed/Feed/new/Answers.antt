@@ -1,4 +1,4 @@
-use Rattle.std.proofs.Common.{refl}
+use Rattle.sfi_check.proofs.Prelude.{refl}
 use Rattle.sfi_check.proofs.Feeding.{nothing_fed}
 use Rattle.sfi_check.proofs.feed.Feed.new.Goals as goal
 
