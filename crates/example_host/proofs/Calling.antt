@@ -1,7 +1,6 @@
 -- The sandbox of a function before a call, at its entry, and after its turn.
-use Rattle.std.proofs.Common.{◌≡◌, ◌≢◌, ⊎_elim, ℕ, zero, suc, ◌+◌, ◌%◌, ◌^◌, ◌<◌, ◌≤◌, Bool, List, [], ◌∷◌, map, set, Option, Some, None, IsSome, is_some, slice_get, refl, sym, ap, ◌∙◌, subst, arith}
+use Rattle.std.proofs.Common.{◌≡◌, ◌≢◌, ℕ, zero, suc, ◌+◌, ◌%◌, ◌^◌, ◌<◌, ◌≤◌, Bool, List, [], ◌∷◌, map, set, Option, Some, None, IsSome, is_some, slice_get, refl, sym, ap, ◌∙◌, subst, arith}
 use Rattle.std.specs.List.{range_with_len}
-use Rattle.std.proofs.lemmas.Bool.{cases_eq}
 use Rattle.rv_mem.specs.Bytes.{Bytes, bytes_at}
 use Rattle.sfi_policy.specs.Formats.{unit}
 use Rattle.sfi_image.specs.declared.span.Span.{Span}
@@ -9,7 +8,7 @@ use Rattle.sfi_image.specs.Spans.{Holds}
 use Rattle.sfi_host.specs.declared.turn.RunAnswer.{RunAnswer}
 use Rattle.sfi_host.specs.declared.turn.RunAnswer.TheVariants as answers
 use Rattle.sfi_host.specs.declared.turn.StepResult.{StepResult}
-use Rattle.sfi_host.specs.declared.turn.StepResult.TheVariants.{Continue, TurnEnds, RunEnds}
+use Rattle.sfi_host.specs.declared.turn.StepResult.TheVariants.{RunEnds}
 use Rattle.sfi_host.specs.declared.turn.Turn.{Turn}
 use Rattle.sfi_host.specs.Changing.{data_bytes_of, OthersAreSame}
 use Rattle.sfi_host.specs.Entering.{MayEnterAt, with_entry, with_entry_of, entered_seat}
@@ -25,14 +24,10 @@ use Rattle.sfi_host.proofs.Neighbours.{get_set_same, get_set_other}
 use Rattle.sfi_host.proofs.Plans.{joined_cons, joined_nil}
 use Rattle.sfi_host.proofs.RegionBytes.{held}
 use Rattle.sfi_host.proofs.Runs.{all_there, each_there, ends_within}
+use Rattle.sfi_host.proofs.SameWorld.{get_map, outside_more, same_bounds}
 use Rattle.sfi_host.proofs.Worlds.{map_get}
 
 -- ---- slots and seats
-
-slot_of_seat : (m : Bytes) (seats : List Seat) (i : ℕ) (s : Seat) → slice_get seats i ≡ Some s → slice_get (map (slot_of m) seats) i ≡ Some (slot_of m s)
-slot_of_seat m [] i s e = absurd (cc)
-slot_of_seat m (x ∷ seats) zero s e = let same : x ≡ s = cc in ap (λ (y : Seat). Some (slot_of m y)) same
-slot_of_seat m (x ∷ seats) (suc i) s e = slot_of_seat m seats i s e
 
 -- a sandbox with n data bytes has a seat
 pub seat_there : (w : Sandboxes) (i at n : ℕ) → IsSome (data_bytes_of (slice_get (slots_of w) i) at n) → (s : Seat) × (slice_get w.seats i ≡ Some s)
@@ -50,7 +45,7 @@ enter_too m n seats i pc may =
     let same : may.slot ≡ slot_of m s = found.2 in
     record {
       slot = slot_of n s;
-      there = slot_of_seat n seats i s found.1;
+      there = get_map (slot_of n) seats i s found.1;
       may = record {
         stopped = λ ready. may.may.stopped (ap (λ (x : Slot). x.status) same ∙ ready);
         held = subst (λ (x : Slot). Holds x.bounds.code pc) same may.may.held;
@@ -62,7 +57,7 @@ enter_too m n seats i pc may =
 
 bytes_of_seat : (w : Sandboxes) (i at n : ℕ) (s : Seat) → slice_get w.seats i ≡ Some s → data_bytes_of (slice_get (slots_of w) i) at n ≡ bytes_at (bytes_in s.bounds.data w.bytes) (range_with_len at n)
 bytes_of_seat w i at n s e =
-    ap (λ (o : Option Slot). data_bytes_of o at n) (slot_of_seat w.bytes w.seats i s e)
+    ap (λ (o : Option Slot). data_bytes_of o at n) (get_map (slot_of w.bytes) w.seats i s e)
     ∙ ap (λ (b : Bytes). bytes_at b (range_with_len at n)) (data_of_own s.bounds w.bytes)
 
 -- where the region is whole, there is room for what there was room for
@@ -94,36 +89,11 @@ few w i at (suc n) safe h =
 
 -- ---- the entry
 
-pub entered_is : (w : Sandboxes) (i pc : ℕ) (arguments : List ℕ) (s : Seat) → slice_get w.seats i ≡ Some s
-    → with_entry w i pc arguments ≡ record { bytes = w.bytes; seats = set w.seats i (entered_seat s pc arguments) }
-entered_is w i pc arguments s e = ap (with_entry_of w i pc arguments) e
-
--- each sandbox lies where it lay
-abbrev pub LieThere : Sandboxes → Sandboxes → Type 0
-LieThere w n = (i : ℕ) (s : Seat) → slice_get n.seats i ≡ Some s → (t : Seat) × (slice_get w.seats i ≡ Some t) × (t.bounds ≡ s.bounds)
-
-pub entered_lie : (w : Sandboxes) (m : Bytes) (i pc : ℕ) (arguments : List ℕ) (s : Seat) → slice_get w.seats i ≡ Some s
-    → LieThere w (record { bytes = m; seats = set w.seats i (entered_seat s pc arguments) })
-entered_lie w m i pc arguments s e j x at = ⊎_elim
-    (λ (same : j ≡ i).
-    let here : slice_get (set w.seats i (entered_seat s pc arguments)) j ≡ Some (entered_seat s pc arguments) =
-    ap (slice_get (set w.seats i (entered_seat s pc arguments))) same ∙ get_set_same w.seats i s (entered_seat s pc arguments) e in
-    let one : Some x ≡ Some (entered_seat s pc arguments) = sym at ∙ here in
-    let is : x ≡ entered_seat s pc arguments = cc in
-    (s, ap (slice_get w.seats) same ∙ e, sym (ap (λ (y : Seat). y.bounds) is)))
-    (λ (other : j ≢ i). (x, sym (get_set_other w.seats i j (entered_seat s pc arguments) other) ∙ at, refl))
-    (cases_eq j i)
-
--- what stays outside the data then stays outside the data before
-pub outside_too : (w v : Sandboxes) (later : Bytes) → LieThere w v → StaysOutsideData w v.bytes → StaysOutsideData v later → StaysOutsideData w later
-outside_too w v later lie first second a free =
-    second a (λ i s e h. let t = lie i s e in free i t.0 t.1 (subst (λ (b : Bounds). Holds b.data a) (sym t.2) h)) ∙ first a free
-
 -- what the entry leaves of the world v, which is w but for bytes
 module _ (w v x : Sandboxes) (i pc : ℕ) (arguments : List ℕ) (seats : v.seats ≡ w.seats) (is : x ≡ with_entry v i pc arguments) where
   entry_is : (s : Seat) → slice_get w.seats i ≡ Some s → x ≡ record { bytes = v.bytes; seats = set w.seats i (entered_seat s pc arguments) }
   entry_is s e =
-      is ∙ entered_is v i pc arguments s (ap (λ (l : List Seat). slice_get l i) seats ∙ e)
+      is ∙ ap (with_entry_of v i pc arguments) (ap (λ (l : List Seat). slice_get l i) seats ∙ e)
       ∙ ap (λ (l : List Seat). record { bytes = v.bytes; seats = set l i (entered_seat s pc arguments) }) seats
 
   -- the sandbox has the room that it had
@@ -138,7 +108,8 @@ module _ (w v x : Sandboxes) (i pc : ℕ) (arguments : List ℕ) (seats : v.seat
   -- the data lie where they lay
   pub outside_entered : (s : Seat) → slice_get w.seats i ≡ Some s → StaysOutsideData w v.bytes → (later : Bytes) → StaysOutsideData x later → StaysOutsideData w later
   outside_entered s e first later second =
-      outside_too w (record { bytes = v.bytes; seats = set w.seats i (entered_seat s pc arguments) }) later (entered_lie w v.bytes i pc arguments s e) first
+      let entered = entered_seat s pc arguments in
+      outside_more w (record { bytes = v.bytes; seats = set w.seats i entered }) later (same_bounds w.seats i s entered e refl) first
       (subst (λ (y : Sandboxes). StaysOutsideData y later) (entry_is s e) second)
 
 -- ---- the turn
@@ -149,9 +120,8 @@ module _ {S : Type 0} (machine : Machine) (host : Host S) (t : Turn) (slots : Li
   nothing_more slots s = ap (λ (j : Joined S). j.slots) (joined_nil machine host slots s)
 
   one_set : (next : StepResult) (m : Moved S) → (and_plan next t.sandbox m slots (joined machine host [])).slots ≡ set slots t.sandbox m.slot
-  one_set Continue m = nothing_more (set slots t.sandbox m.slot) m.host
-  one_set TurnEnds m = nothing_more (set slots t.sandbox m.slot) m.host
   one_set RunEnds m = refl
+  one_set next m = nothing_more (set slots t.sandbox m.slot) m.host
 
   by_slot : (j : ℕ) → j ≢ t.sandbox → (o : Option Slot) → slice_get (turn_and machine host t slots s o (joined machine host [])).slots j ≡ slice_get slots j
   by_slot j other None = ap (λ (l : List Slot). slice_get l j) (nothing_more slots s)

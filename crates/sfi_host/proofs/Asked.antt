@@ -1,12 +1,8 @@
 -- What a world answers of a sandbox.
-use Rattle.sfi_host.proofs.Prelude.{◌≡◌, ℕ, ◌↔◌, ◌<◌, List, length, get_or, Option, Some, None, IsSome, slice_get, sym, ap, ◌∙◌, subst, option_map, slice_get-get_or, slice_get-map, range_with_len, Bytes, byte_at, bytes_at, Holds, Sandbox, bytes_in, Slot, seat_of, seats_of, world_of, Sandboxes, slot_of, slots_of, data_byte_of}
+use Rattle.sfi_host.proofs.Prelude.{◌≡◌, ℕ, ◌↔◌, ◌<◌, List, length, get_or, Option, Some, None, IsSome, slice_get, refl, sym, ap, ◌∙◌, subst, option_map, slice_get_read, slice_get-map, range_with_len, Bytes, byte_at, bytes_at, Holds, Sandbox, bytes_in, Slot, seat_of, seats_of, world_of, Sandboxes, slot_of, slots_of, data_byte_of}
 use Rattle.sfi_host.specs.Changing.{data_bytes_of}
 use Rattle.sfi_host.proofs.Leaving.{data_of_own}
 use Rattle.sfi_host.proofs.SameWorld.{get_map}
-
--- the slot of a sandbox
-pub slot_at : (m : Bytes) (all : List Sandbox) (i : ℕ) (s : Sandbox) → slice_get all i ≡ Some s → slice_get (slots_of (world_of m all)) i ≡ Some (slot_of m (seat_of s))
-slot_at m all i s e = get_map (slot_of m) (seats_of all) i (seat_of s) (get_map seat_of all i s e)
 
 pub no_slot : (m : Bytes) (all : List Sandbox) (i : ℕ) → slice_get all i ≡ None → slice_get (slots_of (world_of m all)) i ≡ None
 no_slot m all i e = slice_get-map (slot_of m) (seats_of all) i ∙ ap (option_map (slot_of m)) (slice_get-map seat_of all i ∙ ap (option_map seat_of) e)
@@ -16,11 +12,11 @@ seat_at all i s e = get_map seat_of all i s e
 
 -- what a look-up found is there
 pub found : {A : Type 0} (all seen : List A) (i : ℕ) (s : A) → seen ≡ all → i < length seen → s ≡ get_or seen i s → slice_get all i ≡ Some s
-found all seen i s e below is = ap (λ (l : List _). slice_get l i) (sym e) ∙ slice_get-get_or seen i s below ∙ ap Some (sym is)
+found all seen i s e below is = subst (λ (l : List _). slice_get l i ≡ Some s) e (slice_get_read seen (length seen) i s refl below is)
 
 module _ (w : Sandboxes) (m : Bytes) (all : List Sandbox) (is : world_of m all ≡ w) (i : ℕ) where
   pub slot_is : (s : Sandbox) → slice_get all i ≡ Some s → slice_get (slots_of w) i ≡ Some (slot_of m (seat_of s))
-  slot_is s e = ap (λ (x : Sandboxes). slice_get (slots_of x) i) (sym is) ∙ slot_at m all i s e
+  slot_is s e = ap (λ (x : Sandboxes). slice_get (slots_of x) i) (sym is) ∙ get_map (slot_of m) (seats_of all) i (seat_of s) (seat_at all i s e)
 
   pub data_is : (s : Sandbox) (at : ℕ) → slice_get all i ≡ Some s → byte_at (bytes_in (seat_of s).bounds.data m) at ≡ data_byte_of (slice_get (slots_of w) i) at
   data_is s at e =

@@ -1,7 +1,7 @@
 -- A world of which one sandbox changed: it took a turn, or its data were written from outside.
-use Rattle.sfi_host.proofs.Prelude.{◌≡◌, ◌≢◌, ◌<◌, ⊎_elim, ℕ, ◌+◌, List, length, get_or, Some, set, slice_get, sym, ap, ◌∙◌, subst, refl, cases_eq, map-set, length-map, same_Some, arith, Bytes, IsMemory, Holds, Part, InCode, Program, Sandbox, AreEnterable, seat_of, seats_of, world_of, Bounds, Slot, bounds_of, Seat, Sandboxes, slot_of, slots_of, IsSafeSeat, IsSafeWorld, StaysOutside, StaysOutsideData, state_in, bounds_in, IsChange, bytes_in, bytes_outside, IsWhole}
+use Rattle.sfi_host.proofs.Prelude.{◌≡◌, ◌≢◌, ◌<◌, ⊎_elim, ℕ, ◌+◌, List, length, get_or, Some, set, slice_get, sym, ap, ◌∙◌, subst, refl, cases_eq, map-set, length-map, same_Some, arith, Bytes, IsMemory, Holds, Part, InCode, Program, Sandbox, AreEnterable, seat_of, seats_of, world_of, Bounds, Slot, bounds_of, Seat, Sandboxes, slot_of, slots_of, IsSafeSeat, IsSafeWorld, StaysOutside, StaysOutsideData, state_in, bounds_in, StaysSafe, MayRun, IsChange, bytes_in, bytes_outside, IsWhole}
 use Rattle.sfi_host.specs.Changing.{OthersAreSame, AreChanges}
-use Rattle.sfi_host.specs.Programs.{IsDecoded, AreDecoded}
+use Rattle.sfi_host.specs.Programs.{AreDecoded}
 use Rattle.sfi_host.proofs.Asked.{found, seat_at}
 use Rattle.sfi_host.proofs.Decoding.{are_decoded}
 use Rattle.sfi_host.proofs.Neighbours.{slots_are, world_safe, get_set_other, set_itself, neighbours_are}
@@ -49,24 +49,24 @@ pub record AfterTurn (w : Sandboxes) (programs : List Program) (i : ℕ) (old ne
   pub slots : slots_of o ≡ set (slots_of w) i new
 
 module _ (m n : Bytes) (items : List Sandbox) (programs : List Program) (i : ℕ) (x new : Sandbox) (inside : IsKept (world_of m items) programs)
-    (at : slice_get items i ≡ Some x) (bounds : (seat_of new).bounds ≡ (seat_of x).bounds) (safe : IsSafeSeat n (seat_of new)) (others : StaysOutside (seat_of x).bounds.data m n) where
+    (at : slice_get items i ≡ Some x) (stays : StaysSafe m (seat_of x) n (seat_of new)) where
   by_seats : AfterTurn (world_of m items) programs i (slot_of m (seat_of x)) (slot_of n (seat_of new)) (record { bytes = n; seats = set (seats_of items) i (seat_of new) })
   by_seats =
       let w = world_of m items in
       let o : Sandboxes = record { bytes = n; seats = set (seats_of items) i (seat_of new) } in
       let there : slice_get (seats_of items) i ≡ Some (seat_of x) = seat_at items i x at in
-      let same : bounds_in o ≡ bounds_in w = same_bounds (seats_of items) i (seat_of x) (seat_of new) there bounds in
-      let outside : StaysOutsideData w n = λ a out. others a (out i (seat_of x) there) in
+      let same : bounds_in o ≡ bounds_in w = same_bounds (seats_of items) i (seat_of x) (seat_of new) there stays.bounds in
+      let outside : StaysOutsideData w n = λ a out. stays.others a (out i (seat_of x) there) in
       record {
         kept = (
-          world_safe m n (seats_of items) i (seat_of x) (seat_of new) inside.0 there others safe bounds,
-          are_decoded m n (seats_of items) i (seat_of x) (seat_of new) inside.0 there others bounds programs inside.1,
+          world_safe m n (seats_of items) i (seat_of x) (seat_of new) inside.0 there stays.others stays.safe stays.bounds,
+          are_decoded m n (seats_of items) i (seat_of x) (seat_of new) inside.0 there stays programs inside.1,
           still_enterable w o inside.0 same outside inside.2,
         );
         bounds = same;
         outside = outside;
         there = get_map (slot_of m) (seats_of items) i (seat_of x) there;
-        slots = slots_are m n (seats_of items) i (seat_of x) (seat_of new) inside.0 there others;
+        slots = slots_are m n (seats_of items) i (seat_of x) (seat_of new) inside.0 there stays.others;
       }
 
   pub turn_taken : (w : Sandboxes) → world_of m items ≡ w → AfterTurn w programs i (slot_of m (seat_of x)) (slot_of n (seat_of new)) (world_of n (set items i new))
@@ -78,15 +78,15 @@ module _ (m : Bytes) (items : List Sandbox) (programs : List Program) (i : ℕ) 
   there : slice_get items i ≡ Some x
   there = found items items i x refl below is
 
-  pub may_run : (p : Program) → p ≡ get_or programs i p → IsSafeSeat m (seat_of x) × IsDecoded (seat_of x).bounds.code m p
+  pub may_run : (p : Program) → p ≡ get_or programs i p → MayRun m (seat_of x) p
   may_run p program =
       let count : length programs ≡ length items = inside.1.count ∙ length-map items seat_of in
       let at : slice_get (seats_of items) i ≡ Some (seat_of x) = seat_at items i x there in
-      (inside.0.each i (seat_of x) at, inside.1.each i p (seat_of x) (found programs programs i p refl (omega (arith, below, count)) program) at)
+      record { safe = inside.0.each i (seat_of x) at; decoded = inside.1.each i p (seat_of x) (found programs programs i p refl (omega (arith, below, count)) program) at }
 
-  module _ (n : Bytes) (new : Sandbox) (bounds : (seat_of new).bounds ≡ (seat_of x).bounds) (safe : IsSafeSeat n (seat_of new)) (others : StaysOutside (seat_of x).bounds.data m n) where
-    pub put_back : (w : Sandboxes) → world_of m items ≡ w → AfterTurn w programs i (slot_of m (seat_of x)) (slot_of n (seat_of new)) (world_of n (set items i new))
-    put_back = turn_taken m n items programs i x new inside there bounds safe others
+  pub put_back : (n : Bytes) (new : Sandbox) → StaysSafe m (seat_of x) n (seat_of new) → (w : Sandboxes) → world_of m items ≡ w
+      → AfterTurn w programs i (slot_of m (seat_of x)) (slot_of n (seat_of new)) (world_of n (set items i new))
+  put_back n new stays = turn_taken m n items programs i x new inside there stays
 
 -- ---- data that are written
 
@@ -119,13 +119,9 @@ module _ (m n : Bytes) (items : List Sandbox) (programs : List Program) (i : ℕ
       (λ (h : j ≢ i). neighbours_are (world_of m items) i j (seat_of x) s n p inside.0 (λ z. h (sym z)) here e others is)
       (cases_eq j i)
 
-  -- each seat is what it was
-  change : AreChanges (world_of m items) (world_of n items)
-  change j s p e is = (s, e, change_of j s p e is)
-
   pub data_written : (w : Sandboxes) → world_of m items ≡ w → AfterTurn w programs i (slot_of m (seat_of x)) (slot_of n (seat_of x)) (world_of n items) × AreChanges w (world_of n items)
   data_written w view = (
     subst (λ (l : List Sandbox). AfterTurn w programs i (slot_of m (seat_of x)) (slot_of n (seat_of x)) (world_of n l)) (set_itself items i x at)
-        (turn_taken m n items programs i x x inside at refl safe others w view),
-    subst (λ (y : Sandboxes). AreChanges y (world_of n items)) view change,
+        (turn_taken m n items programs i x x inside at (record { bounds = refl; safe = safe; others = others }) w view),
+    subst (λ (y : Sandboxes). AreChanges y (world_of n items)) view (λ j s p e is. (s, e, change_of j s p e is)),
   )

@@ -1,6 +1,6 @@
 -- A plan that goes on where another one left off.
 use Rattle.sfi_host.proofs.Prelude.{◌≡◌, ◌≢◌, ◌⊎◌, inl, inr, ⊎_elim, ℕ, zero, suc, ◌+◌, ◌<◌, Bool, true, false, cond, List, [], ◌∷◌, ◌++◌, take, drop, get_or, length, Option, Some, None, slice_get, set, refl, sym, ap, ◌∙◌, subst, arith, length-append, take_more, take-append-drop, length-take-le, State, Outcome, Status, Ready, Turn, StepResult, Continue, TurnEnds, RunEnds, Slot, state_of, Call, Way, Replied, Answer, Limited, limited, if_left, Machine, Moved, still, moved, moved_if, after_step, after_answer, call_of, next_after, replied, Joined, joined, joint, IsJoint, IsRefusedIn, IsCutJoint, allow, allows, with_left, end_of, limited_step, limited_turn, IsTurnOf, IsStepOf}
-use Rattle.sfi_host.specs.Following.{after_run, shortened, IsJointUpTo, JointFollows, PlansFollow, CutFollows, CutIsShorter, RetryFollows}
+use Rattle.sfi_host.specs.Following.{after_run, shortened, IsJointUpTo, JointFollows, CutFollows, CutIsShorter, RetryFollows}
 use Rattle.rv_step.specs.declared.outcome.Outcome.TheVariants as outcome
 use Rattle.sfi_host.proofs.Plans.{follows, allows_some, no_limit, joined_nil, bare, run_end, with_turn, is_joint, is_cut, none_then, turn_then}
 use Rattle.sfi_host.proofs.SlotSteps.{left_for_one}
@@ -270,8 +270,8 @@ module _ {S : Type 0} (machine : Machine) (answer : S → Call → Answer S) whe
         some.is left
         ∙ (λ k. run_end (sym (first.slots ∙ ap (λ (j : Joined (Limited S)). j.slots) e) k) (sym (first.host ∙ ap (λ (j : Joined (Limited S)). j.host.host) e) k) left (length p) false)
 
-    both_done : IsJoint machine answer q mid between new after → IsJoint machine answer (p ++ q) old before new after
-    both_done second =
+    pub plans_follow : IsJoint machine answer q mid between new after → IsJoint machine answer (p ++ q) old before new after
+    plans_follow second =
         let is : bare_joint p old before None ≡ run_end mid between None (length p) false = ap (bare_joint p old before) (sym (no_limit (some_plan p old before).answers)) ∙ front None in
         let e = run_on p q old mid before between None None is in
         record {
@@ -318,7 +318,7 @@ module _ {S : Type 0} (machine : Machine) (answer : S → Call → Answer S) whe
 
     pub next_taken : IsJoint machine answer (get_or plan place t ∷ []) mid between new after → IsJoint machine answer (take (place + 1) plan) old before new after
     next_taken one = subst (λ (l : List Turn). IsJoint machine answer l old before new after) (sym more)
-        (both_done (take place plan) (get_or plan place t ∷ []) old mid new before between after first one)
+        (plans_follow (take place plan) (get_or plan place t ∷ []) old mid new before between after first one)
 
     pub next_cut : (may_refuse : S → Call → Bool) → IsCutJoint machine answer may_refuse (get_or plan place t ∷ []) mid between 0 new after → IsCutJoint machine answer may_refuse plan old before place new after
     next_cut may_refuse cut =
@@ -369,10 +369,6 @@ joint_follows {S} machine answer p q slots s =
     let j = joint machine answer p slots s None in
     let is = each_taken machine answer p slots s in
     run_on machine answer p q slots j.slots s j.host.host None None (is ∙ sym (ap (λ (x : Joined (Limited S)). run_end x.slots x.host.host None (length p) false) is))
-
-pub plans_follow : {S : Type 0} → PlansFollow S
-plans_follow machine answer p q old mid new before between after first second =
-    both_done machine answer p q old mid new before between after first second
 
 pub cut_follows : {S : Type 0} → CutFollows S
 cut_follows machine answer may_refuse p q old mid new before between after place first cut =

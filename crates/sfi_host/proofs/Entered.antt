@@ -65,14 +65,11 @@ lie_apart ps layout = record {
   others = λ i j p q other e f. two_apart ps i j p q layout.right.apart other e f;
 }
 
-next_of_suc : (i j : ℕ) → i ≢ j → suc i ≢ suc j
-next_of_suc i j ne e = ne (omega arith)
-
 tail : (p : Part) (ps : List Part) → LieApart (p ∷ ps) → LieApart ps
 tail p ps lie = record {
   each = λ i q e. lie.each (suc i) q e;
   own = λ i q e. lie.own (suc i) q e;
-  others = λ i j q r ne e f. lie.others (suc i) (suc j) q r (next_of_suc i j ne) e f;
+  others = λ i j q r ne e f. lie.others (suc i) (suc j) q r (λ z. ne (omega arith)) e f;
 }
 
 -- ---- what is added

@@ -1,5 +1,5 @@
 -- A sandbox that is entered again.
-use Rattle.sfi_host.proofs.Prelude.{◌≡◌, ◌≢◌, ◌⊎◌, inl, inr, ⊎_elim, ◌↔◌, IsTrue, ℕ, suc, ◌+◌, ◌%◌, ◌^◌, ◌<◌, ◌≤◌, ◌==◌, Bool, true, false, List, [], ◌∷◌, ◌++◌, map, length, take, get_or, Some, None, set, slice_get, refl, sym, ap, ◌∙◌, subst, arith, get_or-set_other, same_Some, slice_index, slice_set, cond, empty, map-set, take_more, take_all, length-take-le, Bytes, IsMemory, Hart, IsHart, with_register, IsRightLayout, Holds, AreApart, with_guards, Part, HasCode, IsEntry, AllRunSafely, AllCallTyped, Program, Sandbox, MayEnter, MayEnterAt, fresh_hart, with_registers, entered_hart, entered_seat, with_entry_of, with_entry, IsAtEntry, IsEnterable, first_seat, with_parts, AreEntered, HaveFirstData, seat_of, seats_of, world_of, Bounds, Slot, bounds_of, Seat, Sandboxes, slot_of, slots_of, state_in, IsSafeSeat, AreProgramsOf}
+use Rattle.sfi_host.proofs.Prelude.{◌≡◌, ◌≢◌, ◌⊎◌, inl, inr, ⊎_elim, ◌↔◌, IsTrue, ℕ, suc, ◌+◌, ◌%◌, ◌^◌, ◌<◌, ◌≤◌, ◌==◌, Bool, true, false, List, [], ◌∷◌, ◌++◌, map, length, take, get_or, Some, None, set, slice_get, refl, sym, ap, ◌∙◌, subst, arith, get_or-set_other, same_Some, slice_index, slice_set, cond, empty, map-set, take_more, length-take-le, Bytes, IsMemory, Hart, IsHart, with_register, IsRightLayout, Holds, AreApart, with_guards, Part, HasCode, IsEntry, AllRunSafely, AllCallTyped, Program, Sandbox, MayEnter, MayEnterAt, fresh_hart, with_registers, entered_hart, entered_seat, with_entry_of, with_entry, IsAtEntry, IsEnterable, first_seat, with_parts, AreEntered, HaveFirstData, seat_of, seats_of, world_of, Bounds, Slot, bounds_of, Seat, Sandboxes, slot_of, slots_of, state_in, IsSafeSeat, AreProgramsOf}
 use Rattle.sfi_policy.specs.Formats.{unit}
 use Rattle.sfi_runs.specs.Regions.{IsUnitStart}
 use Rattle.sfi_host.proofs.Asked.{seat_at, slot_is, no_slot}
@@ -50,10 +50,6 @@ others_kept (v ∷ vs) h r q out =
 pc_kept : (vs : List ℕ) (h : Hart) (r : ℕ) → (with_registers h r vs).pc ≡ h.pc
 pc_kept [] h r = refl
 pc_kept (v ∷ vs) h r = pc_kept vs (with_register h r v) (r + 1)
-
--- all arguments are set
-pub all_set : (h new : Hart) (arguments : List ℕ) (k : ℕ) → new ≡ with_registers h 10 (take k arguments) → length arguments ≤ k → new ≡ with_registers h 10 arguments
-all_set h new arguments k is all = is ∙ ap (with_registers h 10) (take_all k arguments all)
 
 -- one argument more
 pub one_more_set : (h now new : Hart) (arguments : List ℕ) (k v r : ℕ) → now ≡ with_registers h 10 (take k arguments) → k < length arguments → v ≡ get_or arguments k 0 → r ≡ 10 + k → new ≡ with_register now r v
@@ -162,7 +158,7 @@ module _ (m : Bytes) (items : List Sandbox) (programs : List Program) (i : ℕ) 
 
   pub has_entered : (w : Sandboxes) → world_of m items ≡ w → HasEntered w programs i pc arguments (slot_of m (seat_of x)) (slot_of m (seat_of new)) (world_of m (set items i new))
   has_entered w view = record {
-    after = turn_taken m m items programs i x new inside at (ap (λ (s : Seat). s.bounds) is) safe (λ a out. refl) w view;
+    after = turn_taken m m items programs i x new inside at (record { bounds = ap (λ (s : Seat). s.bounds) is; safe = safe; others = λ a out. refl }) w view;
     world = ap (λ (l : List Seat). let y : Sandboxes = record { bytes = m; seats = l } in y) seats_are
         ∙ ap (with_entry_of (world_of m items) i pc arguments) (sym there)
         ∙ ap (λ (y : Sandboxes). with_entry y i pc arguments) view;

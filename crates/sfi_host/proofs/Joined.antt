@@ -1,5 +1,5 @@
 -- What the joint run does from a safe world is a list of moves.
-use Rattle.sfi_host.proofs.Prelude.{◌≡◌, ◌≢◌, ◌⊎◌, inl, inr, IsSome, is_some, ℕ, zero, suc, ◌<◌, ◌≤◌, ◌^◌, ◌||◌, ◌&&◌, Bool, true, false, cond, List, [], ◌∷◌, ◌++◌, length, take, Option, Some, None, slice_get, set, refl, sym, ap, ◌∙◌, subst, arith, append_assoc, append-nil, All, option_map, option_or, slice_get-map, map-append, take_all, Bytes, IsMemory, byte_at, Ecall, Outcome, State, Stepped, Stands, IsStep, Part, IsReply, IsTurn, Status, Ready, Trapped, StepResult, Continue, TurnEnds, RunEnds, Way, Exit, Reply, Answer, Host, limited, replay, is_in, IsWhole, Bounds, Slot, bounds_of, one_more, is_own, own, Machine, IsMachine, word, is_byte, with_arguments, with_data, after_way, status_after, replied, Moved, moved, still, after_answer, after_step, after_replies, and_more, turned, Given, given, Joined, joined, after_turn, and_plan, turn_and, call_of, Seat, Sandboxes, slot_of, slots_of, state_in, IsSafeSeat, IsSafeWorld, StaysOutside}
+use Rattle.sfi_host.proofs.Prelude.{◌≡◌, ◌≢◌, ◌⊎◌, inl, inr, IsSome, is_some, ℕ, zero, suc, ◌<◌, ◌≤◌, ◌^◌, ◌||◌, ◌&&◌, Bool, true, false, cond, List, [], ◌∷◌, ◌++◌, length, take, Option, Some, None, slice_get, set, set-set, refl, sym, ap, ◌∙◌, subst, arith, append_assoc, append-nil, All, option_map, option_or, slice_get-map, map-append, take_all, Bytes, IsMemory, byte_at, Ecall, Outcome, State, Stepped, Stands, IsStep, Part, IsReply, IsTurn, Status, Ready, Trapped, StepResult, Continue, TurnEnds, RunEnds, Way, Exit, Reply, Answer, Host, limited, replay, is_in, IsWhole, Bounds, Slot, bounds_of, one_more, is_own, own, Machine, IsMachine, word, is_byte, with_arguments, with_data, after_way, status_after, replied, Moved, moved, still, after_answer, after_step, after_replies, and_more, turned, Given, given, Joined, joined, after_turn, and_plan, turn_and, call_of, Seat, Sandboxes, slot_of, slots_of, state_in, IsSafeSeat, IsSafeWorld, StaysOutside}
 use Rattle.sfi_host.specs.Moves.{StepsAlone, Move, after_move, IsTurnsShare, AreShares, all_of, given_in, ComeTo, HaveRun, JoinedMoves, JointMoves}
 use Rattle.sfi_host.specs.Steps.{IsOwnStep}
 use Rattle.std.proofs.lemmas.List.Elements.{All-cons, All-nil}
@@ -16,13 +16,7 @@ use Rattle.sfi_host.proofs.RegionBytes.{get_kept, same_bytes, is_in-true}
 use Rattle.sfi_host.proofs.Runs.{there_below}
 use Rattle.sfi_host.proofs.SafeSeats as keep
 use Rattle.sfi_host.proofs.SameWorld.{get_map}
-use Rattle.sfi_host.proofs.SlotSteps.{moved_by, not_moved, next_safe, seat_with}
-
--- ---- lists
-
-set_again : {A : Type 0} (xs : List A) (i : ℕ) (x y : A) → set (set xs i x) i y ≡ set xs i y
-set_again (z ∷ xs) (suc i) x y = ap (λ (l : List _). z ∷ l) (set_again xs i x y)
-set_again xs i x y = refl
+use Rattle.sfi_host.proofs.SlotSteps.{moved_by, not_moved, next_safe, trap_safe, seat_with}
 
 given_append : (first second : List Move) → given_in (first ++ second) ≡ given_in first ++ given_in second
 given_append [] second = refl
@@ -157,9 +151,7 @@ module _ (machine : Machine) (is : IsMachine machine) where
       taken = record {
         alone = steps_alone [] outcome.Next e _ refl refl (λ f. cc);
         step = λ none. refl;
-        others = alone.others;
-        bounds = refl;
-        safe = next_safe m s r seat ready step e (one_more s.steps);
+        stays = record { bounds = refl; safe = next_safe m s r seat ready step e (one_more s.steps); others = alone.others };
         is_turn = λ p here. step;
         leads = λ still. ap (λ (o : Outcome). step_to o r.state) e;
       };
@@ -173,9 +165,7 @@ module _ (machine : Machine) (is : IsMachine machine) where
       taken = record {
         alone = steps_alone [] (outcome.Trap cause at) e _ refl refl (λ f. cc);
         step = λ none. sym (alone.stopped (λ f. let z : outcome.Trap cause at ≡ outcome.Next = sym e ∙ f in cc));
-        others = λ a out. refl;
-        bounds = refl;
-        safe = keep.halted m s seat m _ seat.state refl (λ f. cc) (alone.trapped cause at e) (λ a out. refl) seat.has_data;
+        stays = record { bounds = refl; safe = trap_safe m s r seat ready step cause at e s.steps; others = λ a out. refl };
         is_turn = λ p here. step;
         leads = λ still. absurd (cc);
       };
@@ -215,9 +205,7 @@ module _ (machine : Machine) (is : IsMachine machine) where
       taken_by w way is_turn leads = record {
         alone = steps_alone (a.reply ∷ []) outcome.Call e _ (sym slot_after ∙ ap (λ (y : Way). slot_of n (t y)) way) refl (way_goes a.reply.way);
         step = λ none. absurd (cc);
-        others = others;
-        bounds = refl;
-        safe = keep.answered_safe m s seat ready stands.0 stands.1 n memory others whole (word a.reply.a0) (word a.reply.a1) (low a.reply.a0) (low a.reply.a1) w;
+        stays = record { bounds = refl; safe = keep.answered_safe m s seat ready stands.0 stands.1 n memory others whole (word a.reply.a0) (word a.reply.a1) (low a.reply.a0) (low a.reply.a1) w; others = others };
         is_turn = is_turn;
         leads = leads;
       }
@@ -305,7 +293,7 @@ module _ (machine : Machine) (is : IsMachine machine) where
             only = All-cons (λ (x : Move). x.number ≡ i) v more.moves refl more.only;
             count = let c = more.count in omega arith;
             taken = (one, more.taken);
-            slots = more.slots ∙ ap (λ (l : List Slot). set l i last.slot) next_slots ∙ set_again (slots_of w) i mv.slot last.slot;
+            slots = more.slots ∙ ap (λ (l : List Slot). set l i last.slot) next_slots ∙ set-set (slots_of w) i mv.slot last.slot;
             replies = ap (λ (l : List Given). given i mv.replies ++ l) more.replies ∙ sym (map-append (λ (r : Reply). let g : Given = record { to = i; reply = r } in g) mv.replies last.replies);
           }
 

@@ -1,150 +1,101 @@
 -- A host that replies between turns, and one that answers at once, come to the same.
-use Rattle.sfi_host.proofs.Prelude.{◌≡◌, ℕ, zero, suc, List, [], ◌∷◌, Option, Some, None, slice_get, slice_set, refl, sym, ap, ◌∙◌, subst, Outcome, State, Status, Ready, Slot, state_of, Call, Way, Replied, Exit, Reply, Answer, Limited, limited, Machine, Moved, moved, moved_if, after_step, after_answer, call_of, next_after, replied, and_more, turned, Turn, StepResult, Continue, TurnEnds, RunEnds, Joined, joined, joint, turn_and, and_plan, IsJoint, set, Bytes, IsMemory, Bounds, own, bytes_in, IsWhole, StaysOutside, with_data, with_arguments, word, after_way, status_after, one_more, Seat, slot_of, slots_of}
-use Rattle.std.proofs.Common.{set-set}
+use Rattle.sfi_host.proofs.Prelude.{◌≡◌, ℕ, zero, suc, List, [], ◌∷◌, Option, Some, None, slice_get, slice_set, refl, sym, ap, ◌∙◌, subst, Outcome, State, Status, Ready, Slot, state_of, Call, Way, Replied, Exit, Reply, Answer, Limited, limited, Machine, Moved, moved, moved_if, after_step, after_answer, call_of, next_after, replied, IsReplied, after_replies, and_more, turned, Turn, StepResult, Continue, TurnEnds, RunEnds, Joined, joined, joint, turn_and, and_plan, IsJoint, set, set-set, Bytes, IsMemory, Bounds, own, bytes_in, IsWhole, StaysOutside, with_data, with_arguments, word, after_way, status_after, one_more, Seat, slot_of, slots_of}
 use Rattle.sfi_host.proofs.Leaving.{put_back, data_of_own}
 use Rattle.sfi_host.proofs.Neighbours.{set_itself, slots_are}
 use Rattle.rv_step.specs.declared.outcome.Outcome.TheVariants as outcome
-use Rattle.sfi_host.specs.Hosts.{Yield}
 use Rattle.sfi_host.specs.LaterReplies.{ToCallIsJoint, ReplyIsAnswer, WritesAreReplies}
 use Rattle.sfi_host.specs.Waiting.{silent, to_call, later_reply}
-use Rattle.sfi_host.proofs.Continuing.{first_call, no_call}
+use Rattle.sfi_host.proofs.Continuing.{first_call, no_call, way_goes}
+use Rattle.sfi_host.proofs.Plans.{one_turn}
+use Rattle.sfi_host.proofs.Quiet.{answered_is}
+use Rattle.sfi_host.proofs.Turning.{one_step}
 
 module _ {S : Type 0} (machine : Machine) (answer : S → Call → Answer S) (s : S) where
   -- no call is left
   abbrev none : Limited S
   none = record { host = s; left = Some 0 }
 
-  -- two steps or turns come to the same, but for replies, and the host is what it was
-  record Same (m : Moved (Limited S)) (t : Moved (Unit {0})) : Type 0 where
-    slot : m.slot ≡ t.slot
-    next : m.next ≡ t.next
-    host : m.host ≡ none
+  -- a step or a turn with the host that answers no call, as one with that host
+  abbrev with_none : Moved (Unit {0}) → Moved (Limited S)
+  with_none m = record { slot = m.slot; host = none; replies = m.replies; next = m.next }
 
   module _ (i : ℕ) where
-    outcome_same : (slot : Slot) (o : Outcome) (state : State) → Same (after_step (limited answer) i slot none o state) (after_step silent i slot tt o state)
-    outcome_same slot outcome.Next state = record { slot = refl; next = refl; host = refl }
-    outcome_same slot (outcome.Trap cause at) state = record { slot = refl; next = refl; host = refl }
-    outcome_same slot outcome.Call state = record { slot = refl; next = refl; host = refl }
+    outcome_same : (slot : Slot) (o : Outcome) (state : State) → after_step (limited answer) i slot none o state ≡ with_none (after_step silent i slot tt o state)
+    outcome_same slot outcome.Call state = refl
+    outcome_same slot o state = refl
 
-    status_same : (slot : Slot) (status : Status) → Same (moved_if machine (limited answer) i slot none status) (moved_if machine silent i slot tt status)
+    status_same : (slot : Slot) (status : Status) → moved_if machine (limited answer) i slot none status ≡ with_none (moved_if machine silent i slot tt status)
     status_same slot Ready = let r = machine (state_of slot) in outcome_same slot r.outcome r.state
-    status_same slot status = record { slot = refl; next = refl; host = refl }
+    status_same slot status = refl
 
-    step_same : (slot : Slot) → Same (moved machine (limited answer) i slot none) (moved machine silent i slot tt)
+    step_same : (slot : Slot) → moved machine (limited answer) i slot none ≡ with_none (moved machine silent i slot tt)
     unfolding moved
     step_same slot = status_same slot slot.status
 
-    more_same : (next : StepResult) (m : Moved (Limited S)) (t : Moved (Unit {0})) (rest : Slot → Limited S → Moved (Limited S)) (later : Slot → Unit {0} → Moved (Unit {0}))
-        → Same m t → m.next ≡ next → t.next ≡ next → ((slot : Slot) → Same (rest slot none) (later slot tt)) → Same (and_more next m rest) (and_more next t later)
-    more_same Continue m t rest later e f g more =
-        let x = more m.slot in
-        record {
-          slot = ap (λ (l : Limited S). (rest m.slot l).slot) e.host ∙ x.slot ∙ ap (λ (y : Slot). (later y tt).slot) e.slot;
-          next = ap (λ (l : Limited S). (rest m.slot l).next) e.host ∙ x.next ∙ ap (λ (y : Slot). (later y tt).next) e.slot;
-          host = ap (λ (l : Limited S). (rest m.slot l).host) e.host ∙ x.host;
-        }
-    more_same TurnEnds m t rest later e f g more = record { slot = e.slot; next = f ∙ sym g; host = e.host }
-    more_same RunEnds m t rest later e f g more = record { slot = e.slot; next = f ∙ sym g; host = e.host }
+    more_same : (next : StepResult) (m : Moved (Unit {0})) (rest : Slot → Limited S → Moved (Limited S)) (later : Slot → Unit {0} → Moved (Unit {0}))
+        → ((slot : Slot) → rest slot none ≡ with_none (later slot tt)) → and_more next (with_none m) rest ≡ with_none (and_more next m later)
+    more_same Continue m rest later more = ap (after_replies m.replies) (more m.slot)
+    more_same next m rest later more = refl
 
-    turn_same : (k : ℕ) (slot : Slot) → Same (turned machine (limited answer) i k slot none) (turned machine silent i k slot tt)
+    turn_same : (k : ℕ) (slot : Slot) → turned machine (limited answer) i k slot none ≡ with_none (turned machine silent i k slot tt)
     unfolding turned
-    turn_same zero slot = record { slot = refl; next = refl; host = refl }
+    turn_same zero slot = refl
     turn_same (suc k) slot =
-        let m = moved machine (limited answer) i slot none in
         let t = moved machine silent i slot tt in
-        let x = step_same slot in
-        subst (λ (n : StepResult). Same (and_more m.next m (turned machine (limited answer) i k)) (and_more n t (turned machine silent i k))) x.next
-        (more_same m.next m t (turned machine (limited answer) i k) (turned machine silent i k) x refl (sym x.next) (turn_same k))
+        ap (λ (m : Moved (Limited S)). and_more m.next m (turned machine (limited answer) i k)) (step_same slot)
+        ∙ more_same t.next t (turned machine (limited answer) i k) (turned machine silent i k) (turn_same k)
 
   -- ---- a plan of one turn
 
-  record SameRuns (j : Joined (Limited S)) (k : Joined (Unit {0})) : Type 0 where
-    slots : j.slots ≡ k.slots
-    ended : j.is_ended ≡ k.is_ended
-    host : j.host.host ≡ s
+  abbrev run_with_none : Joined (Unit {0}) → Joined (Limited S)
+  run_with_none j = record { slots = j.slots; host = none; replies = j.replies; turns = j.turns; is_ended = j.is_ended }
 
   module _ (t : Turn) (slots : List Slot) where
-    plan_same : (next : StepResult) (m : Moved (Limited S)) (q : Moved (Unit {0})) → m.slot ≡ q.slot → m.host ≡ none → SameRuns (and_plan next t.sandbox m slots (joined machine (limited answer) [])) (and_plan next t.sandbox q slots (joined machine silent []))
+    plan_same : (next : StepResult) (m : Moved (Unit {0})) → and_plan next t.sandbox (with_none m) slots (joined machine (limited answer) []) ≡ run_with_none (and_plan next t.sandbox m slots (joined machine silent []))
     unfolding joined
-    plan_same Continue m q e f = record { slots = ap (slice_set slots t.sandbox) e; ended = refl; host = ap (λ (l : Limited S). l.host) f }
-    plan_same TurnEnds m q e f = record { slots = ap (slice_set slots t.sandbox) e; ended = refl; host = ap (λ (l : Limited S). l.host) f }
-    plan_same RunEnds m q e f = record { slots = ap (slice_set slots t.sandbox) e; ended = refl; host = ap (λ (l : Limited S). l.host) f }
+    plan_same RunEnds m = refl
+    plan_same next m = refl
 
-    found_same : (o : Option Slot) → SameRuns (turn_and machine (limited answer) t slots none o (joined machine (limited answer) [])) (turn_and machine silent t slots tt o (joined machine silent []))
+    found_same : (o : Option Slot) → turn_and machine (limited answer) t slots none o (joined machine (limited answer) []) ≡ run_with_none (turn_and machine silent t slots tt o (joined machine silent []))
     unfolding joined
-    found_same None = record { slots = refl; ended = refl; host = refl }
+    found_same None = refl
     found_same (Some slot) =
-        let m = turned machine (limited answer) t.sandbox t.steps slot none in
         let q = turned machine silent t.sandbox t.steps slot tt in
-        let x = turn_same t.sandbox t.steps slot in
-        subst (λ (n : StepResult). SameRuns (and_plan m.next t.sandbox m slots (joined machine (limited answer) [])) (and_plan n t.sandbox q slots (joined machine silent []))) x.next
-        (plan_same m.next m q x.slot x.host)
+        ap (λ (m : Moved (Limited S)). and_plan m.next t.sandbox m slots (joined machine (limited answer) [])) (turn_same t.sandbox t.steps slot) ∙ plan_same q.next q
 
-    run_same : SameRuns (joint machine answer (t ∷ []) slots s (Some 0)) (to_call machine (t ∷ []) slots)
+    run_same : joint machine answer (t ∷ []) slots s (Some 0) ≡ run_with_none (to_call machine (t ∷ []) slots)
     unfolding joined
     run_same = found_same (slice_get slots t.sandbox)
+
+    ended_same : (joint machine answer (t ∷ []) slots s (Some 0)).is_ended ≡ (to_call machine (t ∷ []) slots).is_ended
+    ended_same = ap (λ (j : Joined (Limited S)). j.is_ended) run_same
 
     -- the slots and the host, as of a plan that is done
     done_as : (plan : List Turn) → IsJoint machine answer plan slots s (joint machine answer (t ∷ []) slots s (Some 0)).slots (joint machine answer (t ∷ []) slots s (Some 0)).host.host
         → IsJoint machine answer plan slots s (to_call machine (t ∷ []) slots).slots s
-    done_as plan h = subst (λ (x : List Slot × S). IsJoint machine answer plan slots s x.0 x.1) (λ k. (run_same.slots k, run_same.host k)) h
+    done_as plan h = subst (λ (j : Joined (Limited S)). IsJoint machine answer plan slots s j.slots j.host.host) run_same h
 
 pub to_call_is_joint : {S : Type 0} → ToCallIsJoint S
 to_call_is_joint machine answer t slots s = (
-  λ goes. done_as machine answer s t slots (t ∷ []) (no_call machine answer t slots s ((run_same machine answer s t slots).ended ∙ goes)),
+  λ goes. done_as machine answer s t slots (t ∷ []) (no_call machine answer t slots s (ended_same machine answer s t slots ∙ goes)),
   λ ends.
-      let c = first_call machine answer t slots s ((run_same machine answer s t slots).ended ∙ ends) in
+      let c = first_call machine answer t slots s (ended_same machine answer s t slots ∙ ends) in
       (c.0, c.1, done_as machine answer s t slots (record { sandbox = t.sandbox; steps = c.0 } ∷ []) c.2),
 )
 
 -- ---- an answer, and the reply
 
-module _ {S : Type 0} (machine : Machine) (answer : S → Call → Answer S) (i : ℕ) (slot : Slot) (r : Reply) (s after : S) (ready : slot.status ≡ Ready) (calls : (machine (state_of slot)).outcome ≡ outcome.Call)
-    (gives : answer s (call_of i slot) ≡ record { reply = r; host = after }) where
-  abbrev start : Limited S
-  start = record { host = s; left = None }
-
-  abbrev then : StepResult → Moved (Limited S)
-  then next = record { slot = replied slot r; host = record { host = after; left = None }; replies = r ∷ []; next = next }
-
-  moved_is : moved machine (limited answer) i slot start ≡ then (next_after r.way)
-  unfolding moved
-  moved_is =
-      ap (λ (x : Status). moved_if machine (limited answer) i slot start x) ready
-      ∙ ap (λ (x : Outcome). after_step (limited answer) i slot start x (machine (state_of slot)).state) calls
-      ∙ ap (λ (a : Answer S). after_answer slot start (Some (record { reply = a.reply; host = record { host = a.host; left = None } }))) gives
-
-  turn_ends : (way : Way) → and_more (next_after way) (then (next_after way)) (turned machine (limited answer) i 0) ≡ then TurnEnds
-  unfolding turned
-  turn_ends Replied = refl
-  turn_ends Yield = refl
-  turn_ends (Exit n) = refl
-
-  turned_is : turned machine (limited answer) i 1 slot start ≡ then TurnEnds
-  unfolding turned
-  turned_is = ap (λ (m : Moved (Limited S)). and_more m.next m (turned machine (limited answer) i 0)) moved_is ∙ turn_ends r.way
-
-  module _ (slots : List Slot) (there : slice_get slots i ≡ Some slot) where
-    joint_is : (j : Joined (Limited S)) → j ≡ and_plan TurnEnds i (then TurnEnds) slots (joined machine (limited answer) []) → joint machine answer (record { sandbox = i; steps = 1 } ∷ []) slots s None ≡ j
-    unfolding joined
-    joint_is j e =
-        ap (λ (o : Option Slot). turn_and machine (limited answer) (record { sandbox = i; steps = 1 }) slots start o (joined machine (limited answer) [])) there
-        ∙ ap (λ (m : Moved (Limited S)). and_plan m.next i m slots (joined machine (limited answer) [])) turned_is ∙ sym e
-
-    answered_now : IsJoint machine answer (record { sandbox = i; steps = 1 } ∷ []) slots s (slice_set slots i (replied slot r)) after
-    unfolding joined
-    answered_now =
-        let e = joint_is (and_plan TurnEnds i (then TurnEnds) slots (joined machine (limited answer) [])) refl in
-        record {
-          slots = sym (ap (λ (j : Joined (Limited S)). j.slots) e);
-          host = sym (ap (λ (j : Joined (Limited S)). j.host.host) e);
-          turns = ap (λ (j : Joined (Limited S)). j.turns) e;
-        }
-
 pub reply_is_answer : {S : Type 0} → ReplyIsAnswer S
-reply_is_answer machine is answer i slots q r s after waits gives =
+reply_is_answer {S} machine is answer i slots q r s after waits gives =
     let a = waits.at in
-    answered_now machine answer i a.slot r s after a.ready (a.calls machine is) gives slots a.there
+    let replies : IsReplied answer i a.slot s (replied a.slot r) after (next_after r.way) = record {
+      slot = ap (λ (x : Answer S). replied a.slot x.reply) (sym gives);
+      host = ap (λ (x : Answer S). x.host) (sym gives);
+      next_is = ap (λ (x : Answer S). next_after x.reply.way) (sym gives);
+    } in
+    one_turn machine answer (record { sandbox = i; steps = 1 }) slots s a.slot a.there (replied a.slot r) after
+    (one_step machine answer i a.slot (replied a.slot r) s after (next_after r.way) (way_goes r.way)
+    (answered_is machine answer i a.slot s (record { ready = a.ready; calls = a.calls machine is }) (replied a.slot r) after (next_after r.way) replies))
 
 -- ---- writes before a reply
 

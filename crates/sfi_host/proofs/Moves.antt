@@ -1,5 +1,5 @@
 -- Moves of the sandboxes of a safe world are a run to each of them.
-use Rattle.sfi_host.proofs.Prelude.{◌≡◌, inl, inr, ℕ, ◌+◌, ◌<◌, List, [], ◌∷◌, length, Option, Some, None, slice_get, sym, ap, ◌∙◌, subst, ◌≢◌, ◌==◌, cond, true, false, ◌++◌, set, refl, Bytes, byte_at, State, Part, Holds, InGuards, InCode, InData, InGuard, IsGate, HasCode, Steps, Replies, Changes, KeepsBytes, IsTurn, IsRun, IsSafeState, IsSafeTurn, IsSafeRun, Bounds, bounds_of, Slot, eqb-true, eqb-false, same_Some, after_turns, Status, Ready, Reply, Machine, Seat, Sandboxes, slot_of, slots_of, state_in, IsSafeSeat, IsSafeWorld, StaysOutside}
+use Rattle.sfi_host.proofs.Prelude.{◌≡◌, inl, inr, ℕ, ◌+◌, ◌<◌, List, [], ◌∷◌, length, Option, Some, None, slice_get, sym, ap, ◌∙◌, subst, ◌≢◌, ◌==◌, cond, true, false, ◌++◌, set, refl, Bytes, byte_at, State, Part, Holds, InGuards, InCode, InData, InGuard, IsGate, HasCode, Steps, Replies, Changes, KeepsBytes, IsTurn, IsRun, IsSafeState, IsSafeTurn, IsSafeRun, Bounds, bounds_of, Slot, eqb-true, eqb-false, same_Some, after_turns, Status, Ready, Reply, Machine, Seat, Sandboxes, slot_of, slots_of, state_in, IsSafeWorld, StaysSafe}
 use Rattle.sfi_host.specs.Moves.{StepsAlone, Move, after_move, AreMoves, own_turn, own_turns, turns_to, IsRunBetween, AreRuns, AreSafeRuns}
 use Rattle.sfi_image.specs.declared.part.Gate.{Gate}
 use Rattle.sfi_runs.specs.Runs.{Turn, after_turn}
@@ -64,9 +64,7 @@ turn_of machine m s replies n t = own_turn (machine (state_in m s)) (state_in n 
 pub record Taken (machine : Machine) (i : ℕ) (m : Bytes) (s : Seat) (replies : List Reply) (n : Bytes) (t : Seat) : Type 0 where
   pub alone : StepsAlone machine i (slot_of m s) replies (slot_of n t)
   pub step : replies ≡ [] → state_in n t ≡ (machine (state_in m s)).state
-  pub others : StaysOutside s.bounds.data m n
-  pub bounds : t.bounds ≡ s.bounds
-  pub safe : IsSafeSeat n t
+  pub stays : StaysSafe m s n t
   pub is_turn : (p : Part) → s.bounds ≡ bounds_of p → IsTurn p (state_in m s) (turn_of machine m s replies n t)
   pub leads : t.status ≡ Ready → after_turn (turn_of machine m s replies n t) ≡ Some (state_in n t)
 
@@ -100,10 +98,10 @@ by_status P turn later status on last = last (λ e. cc)
 module _ (machine : Machine) where
   module _ (w : Sandboxes) (v : Move) (world : IsSafeWorld w) (one : IsTaken machine w v) where
     pub safe_after : IsSafeWorld (after_move w v)
-    safe_after = world_safe w.bytes v.bytes w.seats v.number one.seat v.seat world one.there one.taken.others one.taken.safe one.taken.bounds
+    safe_after = world_safe w.bytes v.bytes w.seats v.number one.seat v.seat world one.there one.taken.stays.others one.taken.stays.safe one.taken.stays.bounds
 
     pub slots_after : slots_of (after_move w v) ≡ set (slots_of w) v.number (slot_of v.bytes v.seat)
-    slots_after = slots_are w.bytes v.bytes w.seats v.number one.seat v.seat world one.there one.taken.others
+    slots_after = slots_are w.bytes v.bytes w.seats v.number one.seat v.seat world one.there one.taken.stays.others
 
     module _ (n : Sandboxes) (moves : List Move) (rest : AreRuns machine (after_move w v) n moves) (i : ℕ) (p : Part) where
       abbrev own_later : List Turn
@@ -116,15 +114,15 @@ module _ (machine : Machine) where
           let more = turns_to machine i v.bytes v.seat moves in
           let from = Some (state_in w.bytes one.seat) in
           let there = ap (slice_get (set w.seats v.number v.seat)) (sym at) ∙ get_set_same w.seats v.number one.seat v.seat one.there in
-          let later = rest.each i v.seat p there (one.taken.bounds ∙ is) in
+          let later = rest.each i v.seat p there (one.taken.stays.bounds ∙ is) in
           record {
             run = by_status (λ (l : List Turn). IsRun p from l) turn more v.seat.status
                 (λ e. (one.taken.is_turn p is, subst (λ (o : Option State). IsRun p o more) (sym (one.taken.leads e)) later.run))
                 (λ e. (one.taken.is_turn p is, tt));
-            kept = both_keep p w.bytes v.bytes n.bytes (keep.own_kept w.bytes one.seat (world.each v.number one.seat one.there) p is v.bytes one.taken.others) later.kept;
+            kept = both_keep p w.bytes v.bytes n.bytes (keep.own_kept w.bytes one.seat (world.each v.number one.seat one.there) p is v.bytes one.taken.stays.others) later.kept;
             seat = later.seat;
             there = later.there;
-            bounds = later.bounds ∙ one.taken.bounds;
+            bounds = later.bounds ∙ one.taken.stays.bounds;
             leads = λ ready. by_status (λ (l : List Turn). after_turns from l ≡ Some (state_in n.bytes later.seat)) turn more v.seat.status
                 (λ e. ap (λ (o : Option State). after_turns o more) (one.taken.leads e) ∙ later.leads ready)
                 (λ e. absurd (e (ap (λ (x : Slot). x.status) (sym (later.stays e)) ∙ ready)));
@@ -135,7 +133,7 @@ module _ (machine : Machine) where
       other_move : (s : Seat) → v.number ≢ i → slice_get w.seats i ≡ Some s → s.bounds ≡ bounds_of p → IsRunBetween p w n i s (Changes (state_in v.bytes s) ∷ turns_to machine i v.bytes s moves)
       other_move s ne at is =
           let later = rest.each i s p (get_set_other w.seats v.number i v.seat (λ z. ne (sym z)) ∙ at) is in
-          let change = neighbours_are w v.number i one.seat s v.bytes p world ne one.there at one.taken.others is in
+          let change = neighbours_are w v.number i one.seat s v.bytes p world ne one.there at one.taken.stays.others is in
           record {
             run = (change, later.run);
             kept = both_keep p w.bytes v.bytes n.bytes change.bytes later.kept;
@@ -143,7 +141,7 @@ module _ (machine : Machine) where
             there = later.there;
             bounds = later.bounds;
             leads = later.leads;
-            stays = λ stopped. later.stays stopped ∙ other_same w.bytes v.bytes one.seat.bounds one.taken.others s (world.each i s at) (world.others v.number i one.seat s ne one.there at);
+            stays = λ stopped. later.stays stopped ∙ other_same w.bytes v.bytes one.seat.bounds one.taken.stays.others s (world.each i s at) (world.others v.number i one.seat s ne one.there at);
           }
 
       any_move : (s : Seat) → slice_get w.seats i ≡ Some s → s.bounds ≡ bounds_of p → IsRunBetween p w n i s (turns_to machine i w.bytes s (v ∷ moves))
@@ -171,7 +169,7 @@ module _ (machine : Machine) where
           ready = one.ready;
           alone = one.taken.alone;
           step = one.taken.step;
-          others = one.taken.others;
+          others = one.taken.stays.others;
         },
         safe,
         are_moves moves (after_move w v) n safe are.1,
@@ -196,7 +194,7 @@ module _ (machine : Machine) where
       let rest = are_runs moves (after_move w v) n (safe_after w v world one) are.1 in
       record {
         safe_world = rest.safe_world;
-        outside = outside_more w (after_move w v) n.bytes (same_bounds w.seats v.number one.seat v.seat one.there one.taken.bounds) (λ a out. one.taken.others a (out v.number one.seat one.there)) rest.outside;
+        outside = outside_more w (after_move w v) n.bytes (same_bounds w.seats v.number one.seat v.seat one.there one.taken.stays.bounds) (λ a out. one.taken.stays.others a (out v.number one.seat one.there)) rest.outside;
         each = λ i s p. any_move w v world one n moves rest i p s;
       }
 

@@ -1,5 +1,6 @@
 -- What the turn of one sandbox leaves of the others.
-use Rattle.sfi_host.proofs.Prelude.{◌≡◌, ◌≢◌, ℕ, zero, suc, ◌⊎◌, inl, inr, ⊎_elim, List, [], ◌∷◌, map, set, Some, is_some, slice_get, refl, sym, ap, ◌∙◌, subst, arith, cases_eq, same_Some, Bytes, IsMemory, byte_at, Part, Holds, KeepsBytes, Bounds, bounds_of, own, Slot, Seat, slot_of, slots_of, IsSafeSeat, LiesOutside, IsSafeWorld, StaysOutside}
+use Rattle.sfi_host.proofs.Prelude.{◌≡◌, ◌≢◌, ℕ, zero, suc, ◌⊎◌, inl, inr, ⊎_elim, List, [], ◌∷◌, map, set, Some, is_some, slice_get, refl, sym, ap, ◌∙◌, subst, arith, cases_eq, same_Some, get_or_from_slice_get, Bytes, IsMemory, byte_at, Part, Holds, KeepsBytes, Bounds, bounds_of, own, Slot, Seat, slot_of, slots_of, IsSafeSeat, LiesOutside, IsSafeWorld, StaysOutside}
+use Rattle.std.proofs.lemmas.List.{set-get_or}
 use Rattle.sfi_host.specs.Laws.{NeighboursAreChanges}
 use Rattle.sfi_host.proofs.SafeSeats as keep
 use Rattle.sfi_host.proofs.OwnSteps.{own_is, own_there, own_missing, same_own}
@@ -12,9 +13,7 @@ get_set_same (z ∷ xs) zero x y e = refl
 get_set_same (z ∷ xs) (suc i) x y e = get_set_same xs i x y e
 
 pub set_itself : {A : Type 0} (xs : List A) (i : ℕ) (x : A) → slice_get xs i ≡ Some x → set xs i x ≡ xs
-set_itself [] i x e = refl
-set_itself (y ∷ xs) zero x e = let same : x ≡ y = cc in ap (λ (z : _). z ∷ xs) same
-set_itself (y ∷ xs) (suc i) x e = ap (λ (l : List _). y ∷ l) (set_itself xs i x e)
+set_itself xs i x e = ap (set xs i) (sym (get_or_from_slice_get xs i x x e)) ∙ set-get_or xs i x
 
 pub get_set_other : {A : Type 0} (xs : List A) (i j : ℕ) (y : A) → j ≢ i → slice_get (set xs i y) j ≡ slice_get xs j
 get_set_other (z ∷ xs) zero zero y n = absurd (n refl)

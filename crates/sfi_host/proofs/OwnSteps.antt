@@ -3,7 +3,7 @@ use Rattle.sfi_host.proofs.Prelude.{◌≡◌, ◌≢◌, ℕ, ◌⊎◌, inl, i
 use Rattle.rv_step.specs.Access.{Accesses}
 use Rattle.rv_step.specs.Laws.{AgreeHere, IsSameStep}
 use Rattle.rv_step.specs.declared.outcome.Outcome.TheVariants.{Next, Trap}
-use Rattle.sfi_host.specs.Steps.{own_step, stepped_seat, IsOwnStep, StepsAreOwn}
+use Rattle.sfi_host.specs.Steps.{own_step, stepped_seat, IsOwnStep}
 use Rattle.rv_step.specs.declared.outcome.Outcome.TheVariants.{Call}
 use Rattle.sfi_runs.specs.Runs.{after_step}
 use Rattle.rv_step.proofs.Facts.{agreeing_stands_too, agreeing_steps_are_same, other_bytes_stay, stopped_stays, step_keeps_state, no_byte_goes, calls_are_ecalls}
@@ -130,8 +130,8 @@ module _ (m : Bytes) (s : Seat) (r : Stepped) (seat : IsSafeSeat m s) (ready : s
         let bytes = same_own s.bounds (machine (state_of (slot_of m s))).state.memory r.state.memory (λ a e. same.bytes a (own_there s.bounds m a e)) nothing_else in
         λ k. record { outcome = same.outcome k; state = record { hart = same.hart k; memory = bytes k } }
 
-  own_is_step : IsOwnStep m s r
-  own_is_step = record {
+  pub steps_own : IsOwnStep m s r
+  steps_own = record {
     alone = alone;
     others = stays_outside;
     safe = safe_next;
@@ -139,6 +139,3 @@ module _ (m : Bytes) (s : Seat) (r : Stepped) (seat : IsSafeSeat m s) (ready : s
     called = calls_are_ecalls (state_in m s) r step;
     trapped = trap_itself m s seat ready r both.1 step;
   }
-
-pub steps_own : StepsAreOwn
-steps_own m s r seat ready step = own_is_step m s r seat ready step

@@ -1,5 +1,5 @@
 -- Words of std and of definitions that many proofs of this crate use.
-pub use Rattle.std.proofs.Common.{◌≡◌, ℕ, ◌↔◌, ◌<◌, List, length, get_or, Option, Some, None, IsSome, slice_get, sym, ap, ◌∙◌, subst, ◌≢◌, ⊎_elim, ◌+◌, set, refl, ◌⊎◌, inl, inr, zero, suc, Bool, true, false, cond, [], ◌∷◌, ◌++◌, take, drop, arith, length-append, ◌-◌, ◌*◌, ◌/◌, ◌%◌, ◌^◌, ◌≤◌, map, length-take, length-drop, get_or-drop, get_or-take, ◌==◌, replicate, IsTrue, get_or-set_other, slice_set, is_some, ◌||◌, ◌&&◌, append_assoc, append-nil, not, add-one, nat_le, if◌then◌else◌, rules}
+pub use Rattle.std.proofs.Common.{◌≡◌, ℕ, ◌↔◌, ◌<◌, List, length, get_or, Option, Some, None, IsSome, slice_get, sym, ap, ◌∙◌, subst, ◌≢◌, ⊎_elim, ◌+◌, set, refl, ◌⊎◌, inl, inr, zero, suc, Bool, true, false, cond, [], ◌∷◌, ◌++◌, take, drop, arith, length-append, ◌-◌, ◌*◌, ◌/◌, ◌%◌, ◌^◌, ◌≤◌, map, length-take, length-drop, get_or-drop, get_or-take, ◌==◌, replicate, IsTrue, get_or-set_other, set-set, slice_set, is_some, ◌||◌, ◌&&◌, append_assoc, append-nil, not, add-one, nat_le, if◌then◌else◌, rules}
 pub use Rattle.std.specs.Prelude.{slice_index, ℤ}
 pub use Rattle.std.proofs.lemmas.Bool.{cases_eq, cases_lt, eqb-true, eqb-false, or_left, or_right, or_cases, ltb_from_iff}
 pub use Rattle.std.proofs.lemmas.List.{map-set, take_more, take-append-drop, length-take-le, length-map, length-set, length-replicate, take_all, map-append, take_more_set}
@@ -11,6 +11,7 @@ pub use Rattle.std.specs.Option.{option_map, option_or}
 pub use Rattle.rv_word.specs.declared.instr.Instr.TheVariants.{Ecall, Load, Store, Ebreak}
 pub use Rattle.rv_mem.specs.Bytes.{Bytes, byte_at, bytes_at, IsMemory, address_after, addresses, with_bytes, added, loaded, stored, number_of, in_front, IsThere}
 pub use Rattle.rv_step.specs.State.{State, Hart, IsHart, with_register, past, IsState, register}
+pub use Rattle.rv_step.specs.Steps.{LeadTo}
 pub use Rattle.rv_step.specs.Step.{Stands, Stepped, IsStep, next, unchanged, after_load, effect}
 pub use Rattle.rv_step.specs.declared.outcome.Outcome.{Outcome}
 pub use Rattle.sfi_policy.specs.declared.format.Format.{Format}
@@ -42,5 +43,5 @@ pub use Rattle.sfi_host.specs.declared.turn.StepResult.{StepResult}
 pub use Rattle.sfi_host.specs.declared.turn.StepResult.TheVariants.{Continue, TurnEnds, RunEnds}
 pub use Rattle.sfi_host.specs.declared.turn.Turn.{Turn}
 pub use Rattle.sfi_host.specs.private.Limits.{allow, allows, with_left, end_of, limited_step, limited_turn, IsTurnOf, IsStepOf, IsCutTurnOf, IsOnItsWay}
-pub use Rattle.sfi_host.specs.private.Programs.{IsProgramOf, AreProgramsOf}
-pub use Rattle.sfi_host.specs.private.Sandboxes.{bounds_in, IsReplied, IsNotReplied, request_by, IsTold, IsNotTold, after_ecall, after_told, next_after_answer}
+pub use Rattle.sfi_host.specs.private.Programs.{IsProgramOf, AreProgramsOf, MayRun}
+pub use Rattle.sfi_host.specs.private.Sandboxes.{bounds_in, StaysSafe, IsReplied, IsNotReplied, request_by, IsTold, IsNotTold, after_ecall, after_told, next_after_answer}

@@ -156,9 +156,6 @@ pub record HasWritten (s : Span) (m n : Bytes) (at to i : ℕ) (all : List ℕ) 
   pub whole : IsWhole s (bytes_in s m) → IsWhole s (bytes_in s n)
   pub next : to ≡ (at + i) % 2 ^ 32
 
-pub none_written : (s : Span) (m : Bytes) (at : ℕ) (all : List ℕ) → at ≡ (at + 0) % 2 ^ 32 → HasWritten s m m at at 0 all
-none_written s m at all next = record { memory = refl; inside = refl; others = refl; whole = λ w. w; next = next }
-
 pub one_more_written : (s : Span) (m n o : Bytes) (all : List ℕ) (at to v i : ℕ) (done : Bool)
     → IsSome (bytes_at (bytes_in s m) (range_with_len at (length all))) → at + length all ≤ 2 ^ 32 → i < length all → HasWritten s m n at to i all
     → v ≡ get_or all i 0 → get_or all i 0 < 256 → (IsTrue done ↔ IsThere n to 1) → OnTrue done (o ≡ stored n to 1 v) → OnFalse done (o ≡ n)

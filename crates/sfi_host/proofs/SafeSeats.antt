@@ -1,5 +1,5 @@
 -- What leaves a sandbox safe.
-use Rattle.sfi_host.proofs.Prelude.{◌≡◌, ◌≢◌, ℕ, ◌+◌, ◌^◌, ◌<◌, ◌≤◌, List, [], length, true, refl, sym, ap, ◌∙◌, subst, arith, get_or-set_other, slice_index, slice_set, Ecall, Bytes, IsMemory, byte_at, address_after, Hart, IsHart, IsState, past, Stands, Part, Holds, InGuards, AreApart, with_guards, code_region, guarded_region, InCode, InData, InGuard, HasCode, IsEntry, Replies, Changes, KeepsBytes, KeepsReserved, IsReply, GoesSafelyFrom, Ready, IsEnterable, IsWhole, Bounds, bounds_of, one_more, Way, Replied, Exit, word, with_arguments, after_way, status_after, Seat, state_in, IsSafeSeat, StaysOutside}
+use Rattle.sfi_host.proofs.Prelude.{◌≡◌, ◌≢◌, ℕ, ◌+◌, ◌^◌, ◌<◌, ◌≤◌, List, [], length, true, refl, sym, ap, ◌∙◌, subst, arith, get_or-set_other, slice_index, slice_set, Ecall, Bytes, IsMemory, byte_at, address_after, Hart, IsHart, IsState, past, Stands, Part, Holds, InGuards, AreApart, with_guards, code_region, guarded_region, InCode, InData, InGuard, HasCode, IsEntry, Replies, Changes, KeepsBytes, KeepsReserved, IsReply, GoesSafelyFrom, Ready, IsEnterable, IsWhole, Bounds, bounds_of, one_more, Way, Replied, Exit, word, with_arguments, after_way, status_after, Seat, state_in, IsSafeSeat, StaysOutside, StaysSafe}
 use Rattle.sfi_host.specs.Arguments.{a0_register, a1_register}
 use Rattle.sfi_host.specs.Laws.{CallsAreTyped, AnswersAreReplies}
 use Rattle.sfi_host.specs.Stops.{StoppedItself}
@@ -11,14 +11,22 @@ use Rattle.sfi_runs.proofs.Facts.{goes_on_safely}
 use Rattle.sfi_host.proofs.Entered as parts
 use Rattle.sfi_host.proofs.Stops.{at_gate, at_gate_still, stopped_still}
 
+-- ---- one change after another
+
+pub stays_itself : (m : Bytes) (s : Seat) → IsSafeSeat m s → StaysSafe m s m s
+stays_itself m s seat = record { bounds = refl; safe = seat; others = λ a out. refl }
+
+pub stays_on : (m n w : Bytes) (s t u : Seat) → StaysSafe m s n t → StaysSafe n t w u → StaysSafe m s w u
+stays_on m n w s t u first second = record {
+  bounds = second.bounds ∙ first.bounds;
+  safe = second.safe;
+  others = λ a out. second.others a (λ h. out (subst (λ (b : Bounds). Holds b.data a) first.bounds h)) ∙ first.others a out;
+}
+
 -- ---- the code of a part
 
 pub code_at : (p : Part) (k : ℕ) → k < length p.code → InCode p (p.code_base + k)
 code_at p k below = (omega arith, omega arith)
-
--- where its bytes stay the code is there as before
-pub code_stays : (p : Part) (m n : Bytes) → KeepsBytes p m n → HasCode p m → HasCode p n
-code_stays p m n keeps code k below = keeps.code (p.code_base + k) (code_at p k below) ∙ code k below
 
 -- ---- the regions of one sandbox
 
@@ -121,7 +129,7 @@ module _ (m : Bytes) (s : Seat) (seat : IsSafeSeat m s) where
     right = seat.right;
     state = state;
     apart = seat.apart;
-    code = code_stays seat.part m n keeps seat.code;
+    code = λ k below. keeps.code (seat.part.code_base + k) (code_at seat.part k below) ∙ seat.code k below;
     guards = λ a guard. keeps.guards a guard (seat.guards a guard);
     has_data = subst (λ (b : Bounds). IsWhole b.data n) (sym same) whole;
     safe = safe;

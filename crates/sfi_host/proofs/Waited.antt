@@ -67,12 +67,7 @@ module _ (w : Sandboxes) (m : Bytes) (all : List Sandbox) (is : world_of m all �
     -- it is told so exactly where it stands at a call
     pub is_told : (o ≡ None → s.status ≡ Ready → (n : ℕ) → Stands (state_in m (seat_of s)) Ecall n → ⊥) → (IsSome o ↔ IsAtCall (slots_of w) i)
     is_told silent = (
-      λ some. record {
-        slot = slot_of m (seat_of s);
-        there = slot_is w m all is i s at;
-        ready = ready some;
-        calls = λ machine means. let x = stands some in calls_at m s safe (ready some) machine means x.0 x.1;
-      },
+      λ some. (waits_at (request_by i s) refl (ready some) (stands some)).at,
       λ (h : IsAtCall (slots_of w) i).
           let same : h.slot ≡ slot_of m (seat_of s) = same_Some h.slot (slot_of m (seat_of s)) (sym h.there ∙ slot_is w m all is i s at) in
           let on : s.status ≡ Ready = sym (ap (λ (x : Slot). x.status) same) ∙ h.ready in

@@ -18,7 +18,7 @@ const MOST_HANDED: u32 = 65536;
 
 /// Whether the caller's a1 bytes from a0 on may be handed over: there aren't too many,
 /// and all are in its data region.
-pub fn may_hand<M: Memory>(guest: &Guest<'_, M>) -> bool
+pub(crate) fn may_hand<M: Memory>(guest: &Guest<'_, M>) -> bool
     requires has_data { HasData M.bytes guest.now }
     ensures handed { IsTrue result ↔ IsSome (handed (asked M.bytes guest.now)) }
     ensures there { OnTrue result (IsSome (data_from (asked M.bytes guest.now)
@@ -30,7 +30,7 @@ pub fn may_hand<M: Memory>(guest: &Guest<'_, M>) -> bool
 }
 
 /// Appends the `count` data bytes from `at` on. Where `count` is 0 it takes no memory.
-pub fn append<M: Memory>(
+pub(crate) fn append<M: Memory>(
     output: &mut Vec<u8>,
     guest: &Guest<'_, M>,
     at: u32,
@@ -52,7 +52,7 @@ pub fn append<M: Memory>(
 }
 
 /// Refuses a call.
-pub fn refuse<M: Memory>(guest: &mut Guest<'_, M>) -> GateAnswer
+pub(crate) fn refuse<M: Memory>(guest: &mut Guest<'_, M>) -> GateAnswer
     ensures replied { result ≡ GateAnswer.Replied }
     ensures same_reference { SameMemory guest.old guest.new }
     ensures asked { asked M.bytes guest.new ≡ with_a0 (asked M.bytes guest.old) failed }

@@ -66,7 +66,7 @@ fn first_sandbox(
 }
 
 /// The sandboxes of an image, with their code and data added to the memory.
-pub fn load_parts<M: Memory>(
+pub(crate) fn load_parts<M: Memory>(
     alloc: Global,
     format: Format,
     parts: &[SandboxPart<'_>],

@@ -90,7 +90,7 @@ fn set_arguments(cpu: &mut Cpu, arguments: &[u32; 8])
 
 impl Sandbox {
     /// Whether it has stopped, and a unit of its code, a bundle or a word, begins at the address.
-    pub fn may_enter(&self, pc: u32) -> bool
+    pub(crate) fn may_enter(&self, pc: u32) -> bool
         ensures { IsTrue result ↔ MayEnter (seat_of self.now).bounds self.now.status pc }
     {
         match self.status {
@@ -102,7 +102,7 @@ impl Sandbox {
     }
 
     /// Makes it ready at the address.
-    pub fn enter(&mut self, pc: u32, arguments: &[u32; 8])
+    pub(crate) fn enter(&mut self, pc: u32, arguments: &[u32; 8])
         requires even { pc % 2 ≡ 0 }
         requires code_size { 16 ≤ self.old.code.size }
         requires data_size { 16 ≤ self.old.data.size }

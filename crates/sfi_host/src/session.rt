@@ -49,7 +49,7 @@ fn next_bytes(input: &[u8], place: usize, most: usize) -> &[u8]
 
 impl Session {
     /// Nothing is written, read or posted.
-    pub fn new(alloc: Global) -> Session
+    pub(crate) fn new(alloc: Global) -> Session
         ensures { result ≡ new_session }
     {
         Session {
@@ -60,7 +60,7 @@ impl Session {
     }
 
     /// The bytes that were put.
-    pub fn output(&self) -> &[u8]
+    pub(crate) fn output(&self) -> &[u8]
         ensures { result.now ≡ self.now.output }
     {
         self.output.as_slice()
@@ -124,7 +124,7 @@ impl Session {
     }
 
     /// Appends a message to the mailbox; `false` where that is full, and then nothing changed.
-    pub fn deliver(&mut self, message: Message) -> bool
+    pub(crate) fn deliver(&mut self, message: Message) -> bool
         ensures room { IsTrue result ↔ length self.old.mailbox < most_messages }
         ensures delivered { OnTrue result (self.new ≡ with_message self.old message) }
         ensures full { OnFalse result (self.new ≡ self.old) }
@@ -133,7 +133,7 @@ impl Session {
     }
 
     /// Serves put, get and take, and refuses all other services.
-    pub fn serve<M: Memory>(&mut self, input: &[u8], guest: &mut Guest<'_, M>) -> GateAnswer
+    pub(crate) fn serve<M: Memory>(&mut self, input: &[u8], guest: &mut Guest<'_, M>) -> GateAnswer
         requires has_data { HasData M.bytes guest.old }
         ensures same_reference { SameMemory guest.old guest.new }
         ensures others { LeavesOthers M.bytes guest.old guest.new }

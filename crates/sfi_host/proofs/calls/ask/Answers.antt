@@ -1,4 +1,4 @@
-use Rattle.sfi_host.proofs.Prelude.{◌≡◌, ap, ◌∙◌, sym, subst, IsMemory, Sandbox, call_by, call_of, bytes_in, IsWhole, seat_of, IsReplied, IsNotReplied, slot_of, IsSafeSeat, StaysOutside}
+use Rattle.sfi_host.proofs.Prelude.{◌≡◌, ap, ◌∙◌, sym, subst, IsMemory, Sandbox, call_by, call_of, bytes_in, IsWhole, seat_of, IsReplied, IsNotReplied, slot_of, StaysSafe, StaysOutside}
 use Rattle.sfi_host.proofs.Leaving.{whole_in, whole_of, stays_outside}
 use Rattle.sfi_host.proofs.Replying.{asked_is, still_ready, bounds_after, safe_after, replies, refuses}
 use Rattle.sfi_host.proofs.calls.ask.Goals as goal
@@ -21,10 +21,11 @@ returns g c =
     let whole : IsWhole (seat_of s).bounds.data n = whole_of (seat_of s).bounds.data n c.call_gate-told.ensures.has_data in
     record {
       ready = λ more. ap (λ (x : Sandbox). x.status) after ∙ still_ready told.answer s told c.put_answer.result next more c.requires.ready;
-      bounds = ap (λ (x : Sandbox). (seat_of x).bounds) after ∙ bounds_after told.answer s told;
-      safe = subst (λ (x : Sandbox). IsSafeSeat n (seat_of x)) (sym after)
-          (safe_after m n s told told.answer c.requires.called.0 c.requires.safe c.requires.ready c.requires.called.1 memory others whole c.call_gate-told.ensures.a0 c.call_gate-told.ensures.a1);
-      others = others;
+      stays = subst (λ (x : Sandbox). StaysSafe m (seat_of s) n (seat_of x)) (sym after) (record {
+        bounds = bounds_after told.answer s told;
+        safe = safe_after m n s told told.answer c.requires.called.0 c.requires.safe c.requires.ready c.requires.called.1 memory others whole c.call_gate-told.ensures.a0 c.call_gate-told.ensures.a1;
+        others = others;
+      });
       replied = λ goes_on.
           subst (λ (x : Sandbox). IsReplied g.G.Gates.answer c.args.number (slot_of m (seat_of s)) c.args.gates.now (slot_of n (seat_of x)) c.call_gate-told.new.gates c.put_answer.result) (sym after)
           (replies m n s told call c.args.number c.args.gates.now c.call_gate-told.new.gates c.put_answer.result asks others next

@@ -1,5 +1,5 @@
-use Rattle.std.proofs.Common.{◌<◌, length, refl, arith}
-use Rattle.sfi_host.proofs.Entries.{one_more_set, all_set}
+use Rattle.sfi_host.proofs.Prelude.{◌<◌, ◌∙◌, length, refl, ap, arith, take_all, with_registers}
+use Rattle.sfi_host.proofs.Entries.{one_more_set}
 use Rattle.sfi_host.proofs.sandbox.set_arguments.Goals as goal
 
 pub loop-k-preserved : goal.loop-k-preserved
@@ -13,4 +13,4 @@ loop-k-preserved c =
 pub returns-clause-put : goal.returns-clause-put
 returns-clause-put c =
     let many = c.told-arguments in
-    all_set c.args.cpu.now _ c.args.arguments.now c.loop-k.k c.loop-k.invariant.0 (omega (arith, many, c.loop-k-test.false))
+    c.loop-k.invariant.0 ∙ ap (with_registers c.args.cpu.now 10) (take_all c.loop-k.k c.args.arguments.now (omega (arith, many, c.loop-k-test.false)))

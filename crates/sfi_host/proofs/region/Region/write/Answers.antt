@@ -1,9 +1,9 @@
-use Rattle.sfi_host.proofs.Prelude.{arith, span_of}
-use Rattle.sfi_host.proofs.Runs.{none_written, one_more_written}
+use Rattle.sfi_host.proofs.Prelude.{refl, arith, span_of}
+use Rattle.sfi_host.proofs.Runs.{one_more_written}
 use Rattle.sfi_host.proofs.region.Region.write.Goals as goal
 
 pub loop-byte-init : goal.loop-byte-init
-loop-byte-init g c = none_written (span_of c.args.self) (g.M.Memory.bytes c.args.memory.now) c.args.at c.args.bytes.now (omega (arith, c.ranges.at.fits))
+loop-byte-init g c = record { memory = refl; inside = refl; others = refl; whole = λ w. w; next = omega (arith, c.ranges.at.fits) }
 
 pub loop-byte-preserved : goal.loop-byte-preserved
 loop-byte-preserved g c =

@@ -15,8 +15,8 @@ pub returns-then-not-may_enter-clause-may : goal.returns-then-not-may_enter-clau
 returns-then-not-may_enter-clause-may g c =
     let items = c.self.inside.sandboxes.items in
     let x = c.index.result.now in
-    let here : slice_get items c.args.i ≡ Some x = found items items c.args.i x refl (omega (arith, c.len.ensures, c.if-place-len.false)) c.index.ensures in
-    entry_where c.args.self.now (g.M.Memory.bytes c.self.inside.memory) items c.self.view_is c.args.i c.args.pc x _ here c.if-not-may_enter.ensures
+    entry_where c.args.self.now (g.M.Memory.bytes c.self.inside.memory) items c.self.view_is c.args.i c.args.pc x _
+    (found items items c.args.i x refl (omega (arith, c.len.ensures, c.if-place-len.false)) c.index.ensures) c.if-not-may_enter.ensures
 
 -- ---- it may be entered
 

@@ -1,4 +1,4 @@
-use Rattle.sfi_host.proofs.Prelude.{◌≡◌, ◌≢◌, ◌<◌, ℕ, [], ◌∷◌, length, set, slice_get, slice_set, Option, Some, None, IsSome, IsTrue, refl, sym, ap, ◌∙◌, subst, arith, same_Some, false, true, List, Ecall, Stands, Sandbox, Sandboxes, Slot, RunEnds, IsJoint, call_of, replied, seat_of, slot_of, slots_of, state_in, world_of, IsSafeWorld}
+use Rattle.sfi_host.proofs.Prelude.{◌≡◌, ◌≢◌, ℕ, [], ◌∷◌, set, slice_get, slice_set, Option, Some, None, IsSome, IsTrue, refl, sym, ap, ◌∙◌, subst, arith, same_Some, false, true, List, Ecall, Stands, Sandbox, Sandboxes, Slot, RunEnds, IsJoint, call_of, replied, seat_of, slot_of, slots_of, state_in, world_of, IsSafeWorld}
 use Rattle.sfi_host.specs.declared.guest.Request.{Request}
 use Rattle.sfi_host.specs.Waiting.{Waits, later_answer, later_reply}
 use Rattle.sfi_host.proofs.Asked.{found, seat_at}
@@ -19,8 +19,7 @@ pub returns-in_default-clause-may : goal.returns-in_default-clause-may
 returns-in_default-clause-may g c =
     let m = g.M.Memory.bytes c.self.inside.memory in
     let items = c.self.inside.sandboxes.items in
-    let below : c.args.i < length items = omega (arith, c.len.ensures, c.if-place-len.false) in
-    let at = found items items c.args.i c.index.result.now refl below c.index.ensures in
+    let at = found items items c.args.i c.index.result.now refl (omega (arith, c.len.ensures, c.if-place-len.false)) c.index.ensures in
     let e = c.asked_by.ensures in
     let told = is_told c.args.self.now m items c.self.view_is c.args.i c.index.result.now at c.self.invariant.0 c.asked_by.result e.asks e.ready e.stands e.silent in (
       λ e. absurd (cc),
@@ -35,14 +34,12 @@ returns-in_default-clause-may g c =
 seen : (g : given.Over) (c : goal.After-host-1 g) → slice_get c.self.inside.sandboxes.items c.args.i ≡ Some c.index.result.now
 seen g c =
     let items = c.self.inside.sandboxes.items in
-    let below : c.args.i < length items = omega (arith, c.len.ensures, c.if-place-len.false) in
-    found items items c.args.i c.index.result.now refl below c.index.ensures
+    found items items c.args.i c.index.result.now refl (omega (arith, c.len.ensures, c.if-place-len.false)) c.index.ensures
 
 at : (g : given.Over) (c : goal.After-host-1 g) → slice_get c.self.inside.sandboxes.items c.args.i ≡ Some c.index_mut.result.now
 at g c =
     let items = c.self.inside.sandboxes.items in
-    let below : c.args.i < length items = omega (arith, c.len.ensures, c.if-place-len.false) in
-    found items items c.args.i c.index_mut.result.now refl below c.index_mut.ensures.value
+    found items items c.args.i c.index_mut.result.now refl (omega (arith, c.len.ensures, c.if-place-len.false)) c.index_mut.ensures.value
 
 same : (g : given.Over) (c : goal.After-host-1 g) → c.index.result.now ≡ c.index_mut.result.now
 same g c = same_Some c.index.result.now c.index_mut.result.now (sym (seen g c) ∙ at g c)
@@ -69,7 +66,7 @@ after : (g : given.Over) (c : goal.After-self-1 g) → AfterTurn c.args.self.now
     (slot_of (g.M.Memory.bytes c.ask.new.memory) (seat_of c.ask.new.sandbox)) (world_of (g.M.Memory.bytes c.ask.new.memory) (set c.self.inside.sandboxes.items c.args.i c.ask.new.sandbox))
 after g c =
     turn_taken (g.M.Memory.bytes c.self.inside.memory) (g.M.Memory.bytes c.ask.new.memory) c.self.inside.sandboxes.items c.self.inside.programs.items c.args.i c.index_mut.result.now c.ask.new.sandbox
-    c.self.invariant (at g c.before.before) c.ask.ensures.bounds c.ask.ensures.safe c.ask.ensures.others c.args.self.now c.self.view_is
+    c.self.invariant (at g c.before.before) c.ask.ensures.stays c.args.self.now c.self.view_is
 
 pub invariant_of-self : goal.invariant_of-self
 invariant_of-self g c = (after g c).kept

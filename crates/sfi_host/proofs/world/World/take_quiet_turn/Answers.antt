@@ -15,15 +15,14 @@ returns-then-place-len-clause-ran g c machine is =
 
 pub run_quietly-requires : goal.run_quietly-requires
 run_quietly-requires g c =
-    let runs = may_run (g.M.Memory.bytes c.self.inside.memory) c.self.inside.sandboxes.items c.self.inside.programs.items c.args.turn.sandbox c.index_mut.result.now c.self.invariant (omega (arith, c.len.ensures, c.if-place-len.false)) c.index_mut.ensures.value
-    c.index.result.now c.index.ensures in
-    record { safe = runs.0; decoded = runs.1 }
+    may_run (g.M.Memory.bytes c.self.inside.memory) c.self.inside.sandboxes.items c.self.inside.programs.items c.args.turn.sandbox c.index_mut.result.now c.self.invariant (omega (arith, c.len.ensures, c.if-place-len.false)) c.index_mut.ensures.value
+    c.index.result.now c.index.ensures
 
 taken : (g : given.Over) (c : goal.After-self-1 g) → AfterTurn c.args.self.now c.self.inside.programs.items c.args.turn.sandbox (slot_of (g.M.Memory.bytes c.self.inside.memory) (seat_of c.index_mut.result.now))
     (slot_of (g.M.Memory.bytes c.run_quietly.new.memory) (seat_of c.run_quietly.new.sandbox)) (world_of (g.M.Memory.bytes c.run_quietly.new.memory) (set c.self.inside.sandboxes.items c.args.turn.sandbox c.run_quietly.new.sandbox))
 taken g c =
     put_back (g.M.Memory.bytes c.self.inside.memory) c.self.inside.sandboxes.items c.self.inside.programs.items c.args.turn.sandbox c.index_mut.result.now c.self.invariant (omega (arith, c.len.ensures, c.if-place-len.false)) c.index_mut.ensures.value
-    (g.M.Memory.bytes c.run_quietly.new.memory) c.run_quietly.new.sandbox c.run_quietly.ensures.bounds c.run_quietly.ensures.safe c.run_quietly.ensures.others c.args.self.now c.self.view_is
+    (g.M.Memory.bytes c.run_quietly.new.memory) c.run_quietly.new.sandbox c.run_quietly.ensures.stays c.args.self.now c.self.view_is
 
 pub invariant_of-self : goal.invariant_of-self
 invariant_of-self g c = (taken g c).kept

@@ -17,15 +17,14 @@ returns-then-place-len-clause-whole g c whole machine is =
 
 pub run_turn-requires : goal.run_turn-requires
 run_turn-requires g c =
-    let runs = may_run (g.M.Memory.bytes c.self.inside.memory) c.self.inside.sandboxes.items c.self.inside.programs.items c.args.turn.sandbox c.index_mut.result.now c.self.invariant (omega (arith, c.len.ensures, c.if-place-len.false)) c.index_mut.ensures.value
-    c.index.result.now c.index.ensures in
-    record { safe = runs.0; decoded = runs.1 }
+    may_run (g.M.Memory.bytes c.self.inside.memory) c.self.inside.sandboxes.items c.self.inside.programs.items c.args.turn.sandbox c.index_mut.result.now c.self.invariant (omega (arith, c.len.ensures, c.if-place-len.false)) c.index_mut.ensures.value
+    c.index.result.now c.index.ensures
 
 taken : (g : given.Over) (c : goal.After-self-1 g) → AfterTurn c.args.self.now c.self.inside.programs.items c.args.turn.sandbox (slot_of (g.M.Memory.bytes c.self.inside.memory) (seat_of c.index_mut.result.now))
     (slot_of (g.M.Memory.bytes c.run_turn.new.memory) (seat_of c.run_turn.new.sandbox)) (world_of (g.M.Memory.bytes c.run_turn.new.memory) (set c.self.inside.sandboxes.items c.args.turn.sandbox c.run_turn.new.sandbox))
 taken g c =
     put_back (g.M.Memory.bytes c.self.inside.memory) c.self.inside.sandboxes.items c.self.inside.programs.items c.args.turn.sandbox c.index_mut.result.now c.self.invariant (omega (arith, c.len.ensures, c.if-place-len.false)) c.index_mut.ensures.value
-    (g.M.Memory.bytes c.run_turn.new.memory) c.run_turn.new.sandbox c.run_turn.ensures.bounds c.run_turn.ensures.safe c.run_turn.ensures.others c.args.self.now c.self.view_is
+    (g.M.Memory.bytes c.run_turn.new.memory) c.run_turn.new.sandbox c.run_turn.ensures.stays c.args.self.now c.self.view_is
 
 pub invariant_of-self : goal.invariant_of-self
 invariant_of-self g c = (taken g c).kept

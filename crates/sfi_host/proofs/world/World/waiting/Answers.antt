@@ -1,4 +1,4 @@
-use Rattle.sfi_host.proofs.Prelude.{◌≡◌, ◌<◌, length, refl, arith, slice_get, Some}
+use Rattle.sfi_host.proofs.Prelude.{◌≡◌, refl, arith, slice_get, Some}
 use Rattle.sfi_host.proofs.Asked.{found}
 use Rattle.sfi_host.proofs.Waited.{if_waits, is_told}
 use Rattle.sfi_host.proofs.world.World.waiting.Given as given
@@ -7,8 +7,7 @@ use Rattle.sfi_host.proofs.world.World.waiting.Goals as goal
 at : (g : given.Over) (c : goal.After-asked_by g) → slice_get c.self.inside.sandboxes.items c.args.i ≡ Some c.index.result.now
 at g c =
     let items = c.self.inside.sandboxes.items in
-    let below : c.args.i < length items = omega (arith, c.len.ensures, c.if-place-len.false) in
-    found items items c.args.i c.index.result.now refl below c.index.ensures
+    found items items c.args.i c.index.result.now refl (omega (arith, c.len.ensures, c.if-place-len.false)) c.index.ensures
 
 pub returns : goal.returns
 returns g c =
