@@ -56,8 +56,7 @@ def sandboxed(assembly, words, image_format, program, folder):
 
 
 def row(name, program, folder):
-    with open(os.path.join(compiled.EXAMPLES, "inputs", compiled.CASES[name]), "rb") as file:
-        words = file.read().hex()
+    words = compiled.digits_of_case(name)
     assembly = os.path.join(compiled.EXAMPLES, "build", name + ".asm")
     without, answer = plain(assembly, words, program, folder)
     cells = [f"{name}, {compiled.CASES[name]}", f"{without:,}"]

@@ -77,8 +77,7 @@ def print_least(program, interpreter, name, sandboxes, rounds, folder):
 
 def print_compiled(program, interpreter, name, rounds, folder):
     """Prints a program's row, and gives the ratios of the interpreter's instructions and time to those of `sfi run`."""
-    with open(os.path.join(compiled.EXAMPLES, "inputs", compiled.CASES[name]), "rb") as file:
-        digits = file.read().hex()
+    digits = compiled.digits_of_case(name)
     assembly = os.path.join(compiled.EXAMPLES, "build", name + ".asm")
     image, _ = compiled.built(program, assembly, 2, [], folder, SANDBOXES[-1])
     ways = {"sfi": lambda *turns: [program, "run", "--rounds", turns[0], "--quantum", turns[1], "--input", digits],

@@ -19,18 +19,20 @@ compile_by_clang() { # C file, assembly file
 
 std_inputs_of() {
     case $1 in
-    base64) ls inputs/empty inputs/prose inputs/base64-bytes ;;
-    json_tokens) ls inputs/empty inputs/json-* std/inputs/json_tokens-* ;;
-    *) ls std/inputs/"$1"-* ;;
+    base64) echo empty prose base64-bytes ;;
+    json_tokens) echo empty json-{deep,tree,unfinished} json_tokens-{escape,escapes,mark,string,word} ;;
+    matrix_product) echo matrix_product-{large,mismatch,short,small,wrong} ;;
+    functions) echo functions-bytes ;;
+    ends) echo ends-{abort,assertion,exit,return} ;;
     esac
 }
 
 # The exit code and the output of a native program, in the words of `sfi run`.
 native_line() { # program, input
     local output status
-    output=$("$room/native/$1" <"$2" 2>"$room/messages" | digits_of; exit "${PIPESTATUS[0]}")
+    output=$(./inputs.py "$2" | "$room/native/$1" 2>"$room/messages" | digits_of; exit "${PIPESTATUS[1]}")
     status=$?
-    [ "$2" != std/inputs/ends-assertion ] || output=$(assertion_message | digits_of)
+    [ "$2" != ends-assertion ] || output=$(assertion_message | digits_of)
     echo "exit=$status out=$output"
 }
 

@@ -22,9 +22,9 @@ check_image() { # program, format
     report "$1, format $2: check" accepted "${verdict%% *}"
 }
 
-run_case() { # program, format, input file, what is wanted
+run_case() { # program, format, input, what is wanted
     local found
-    found=$("$sfi" run --rounds 10000 --quantum 1000000 --input "$(digits_of "$3")" <"$room/$1.$2")
+    found=$("$sfi" run --rounds 10000 --quantum 1000000 --input "$(./inputs.py "$3" | digits_of)" <"$room/$1.$2")
     report "$1, format $2, $3" "$4" "$(sed 's/^sandbox=0 //; s/ steps=[0-9]*//' <<<"$found")"
 }
 
@@ -49,7 +49,7 @@ for format in $formats; do
         fi
         check_image "$program" "$format"
         while read -r name input wanted; do
-            [ "$name" = "$program" ] && run_case "$program" "$format" "inputs/$input" "$wanted"
+            [ "$name" = "$program" ] && run_case "$program" "$format" "$input" "$wanted"
         done <expected.txt
     done
 done

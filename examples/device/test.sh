@@ -66,7 +66,7 @@ compare_programs() { # format
         last=$program
         build "$(source_of_c "$program" "$1")" "$1" >"$room/image.hex"
         compare "$program on $input, format $1" "$room/image.hex" \
-            "$(digits_of "../c/inputs/$input")" steps
+            "$(../c/inputs.py "$input" | digits_of)" steps
     done < <(tac ../c/expected.txt)
 }
 
