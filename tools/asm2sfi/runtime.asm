@@ -5,8 +5,6 @@
 	.attribute stack_align, 16
 	.text
 	.section	.text.long_divided,"ax",@progbits
-	.align	1
-	.type	long_divided, @function
 long_divided:
 	bne	a3,zero,.L2
 	bne	a2,zero,.L3
@@ -130,10 +128,7 @@ long_divided:
 	lw	s5,8(sp)
 	addi	sp,sp,32
 	jr	ra
-	.size	long_divided, .-long_divided
 	.section	.text.divided,"ax",@progbits
-	.align	1
-	.type	divided, @function
 divided:
 	or	a5,a1,a3
 	bne	a5,zero,.L29
@@ -148,10 +143,7 @@ divided:
 	divu	a0,a0,a2
 	li	a1,0
 	ret
-	.size	divided, .-divided
 	.section	.text.signed_divided,"ax",@progbits
-	.align	1
-	.type	signed_divided, @function
 signed_divided:
 	or	t3,a1,a3
 	bge	t3,zero,.L38
@@ -198,11 +190,8 @@ signed_divided:
 	jr	ra
 .L38:
 	tail	divided
-	.size	signed_divided, .-signed_divided
 	.section	.text.memcpy,"ax",@progbits
-	.align	1
 	.globl	memcpy
-	.type	memcpy, @function
 memcpy:
 	or	a5,a0,a1
 	andi	a5,a5,3
@@ -238,11 +227,8 @@ memcpy:
 	sb	a4,-1(a5)
 	bne	a5,a3,.L45
 	ret
-	.size	memcpy, .-memcpy
 	.section	.text.memmove,"ax",@progbits
-	.align	1
 	.globl	memmove
-	.type	memmove, @function
 memmove:
 	bleu	a0,a1,.L52
 	addi	a5,a2,-1
@@ -292,11 +278,8 @@ memmove:
 	ret
 .L67:
 	ret
-	.size	memmove, .-memmove
 	.section	.text.memset,"ax",@progbits
-	.align	1
 	.globl	memset
-	.type	memset, @function
 memset:
 	andi	a5,a1,255
 	slli	a3,a5,8
@@ -344,11 +327,8 @@ memset:
 .L89:
 	mv	a4,a5
 	j	.L76
-	.size	memset, .-memset
 	.section	.text.memcmp,"ax",@progbits
-	.align	1
 	.globl	memcmp
-	.type	memcmp, @function
 memcmp:
 	beq	a2,zero,.L94
 	add	a2,a1,a2
@@ -366,11 +346,8 @@ memcmp:
 .L94:
 	li	a0,0
 	ret
-	.size	memcmp, .-memcmp
 	.section	.text.strlen,"ax",@progbits
-	.align	1
 	.globl	strlen
-	.type	strlen, @function
 strlen:
 	lbu	a5,0(a0)
 	beq	a5,zero,.L99
@@ -384,11 +361,8 @@ strlen:
 .L99:
 	li	a0,0
 	ret
-	.size	strlen, .-strlen
 	.section	.text.__ashldi3,"ax",@progbits
-	.align	1
 	.globl	__ashldi3
-	.type	__ashldi3, @function
 __ashldi3:
 	mv	a5,a0
 	beq	a2,zero,.L104
@@ -408,11 +382,8 @@ __ashldi3:
 	ret
 .L104:
 	ret
-	.size	__ashldi3, .-__ashldi3
 	.section	.text.__lshrdi3,"ax",@progbits
-	.align	1
 	.globl	__lshrdi3
-	.type	__lshrdi3, @function
 __lshrdi3:
 	beq	a2,zero,.L105
 	li	a5,31
@@ -430,11 +401,8 @@ __lshrdi3:
 	srl	a1,a1,a2
 .L105:
 	ret
-	.size	__lshrdi3, .-__lshrdi3
 	.section	.text.__ashrdi3,"ax",@progbits
-	.align	1
 	.globl	__ashrdi3
-	.type	__ashrdi3, @function
 __ashrdi3:
 	beq	a2,zero,.L109
 	li	a5,31
@@ -452,11 +420,8 @@ __ashrdi3:
 	sra	a0,a1,a2
 	srai	a1,a1,31
 	ret
-	.size	__ashrdi3, .-__ashrdi3
 	.section	.text.__muldi3,"ax",@progbits
-	.align	1
 	.globl	__muldi3
-	.type	__muldi3, @function
 __muldi3:
 	mul	a3,a0,a3
 	mul	a1,a2,a1
@@ -465,43 +430,28 @@ __muldi3:
 	mul	a0,a2,a0
 	add	a1,a1,a5
 	ret
-	.size	__muldi3, .-__muldi3
 	.section	.text.__udivdi3,"ax",@progbits
-	.align	1
 	.globl	__udivdi3
-	.type	__udivdi3, @function
 __udivdi3:
 	li	a4,0
 	tail	divided
-	.size	__udivdi3, .-__udivdi3
 	.section	.text.__umoddi3,"ax",@progbits
-	.align	1
 	.globl	__umoddi3
-	.type	__umoddi3, @function
 __umoddi3:
 	li	a4,1
 	tail	divided
-	.size	__umoddi3, .-__umoddi3
 	.section	.text.__divdi3,"ax",@progbits
-	.align	1
 	.globl	__divdi3
-	.type	__divdi3, @function
 __divdi3:
 	li	a4,0
 	tail	signed_divided
-	.size	__divdi3, .-__divdi3
 	.section	.text.__moddi3,"ax",@progbits
-	.align	1
 	.globl	__moddi3
-	.type	__moddi3, @function
 __moddi3:
 	li	a4,1
 	tail	signed_divided
-	.size	__moddi3, .-__moddi3
 	.section	.text.__clzsi2,"ax",@progbits
-	.align	1
 	.globl	__clzsi2
-	.type	__clzsi2, @function
 __clzsi2:
 	li	a4,5
 	li	a5,16
@@ -517,11 +467,8 @@ __clzsi2:
 	bne	a4,zero,.L121
 	sub	a0,a2,a0
 	ret
-	.size	__clzsi2, .-__clzsi2
 	.section	.text.__clzdi2,"ax",@progbits
-	.align	1
 	.globl	__clzdi2
-	.type	__clzdi2, @function
 __clzdi2:
 	beq	a1,zero,.L127
 	mv	a0,a1
@@ -534,11 +481,8 @@ __clzdi2:
 	addi	a0,a0,32
 	addi	sp,sp,16
 	jr	ra
-	.size	__clzdi2, .-__clzdi2
 	.section	.text.__ctzsi2,"ax",@progbits
-	.align	1
 	.globl	__ctzsi2
-	.type	__ctzsi2, @function
 __ctzsi2:
 	bne	a0,zero,.L137
 	li	a0,32
@@ -554,11 +498,8 @@ __ctzsi2:
 	sub	a0,a5,a0
 	addi	sp,sp,16
 	jr	ra
-	.size	__ctzsi2, .-__ctzsi2
 	.section	.text.__ctzdi2,"ax",@progbits
-	.align	1
 	.globl	__ctzdi2
-	.type	__ctzdi2, @function
 __ctzdi2:
 	addi	sp,sp,-16
 	sw	ra,12(sp)
@@ -586,11 +527,8 @@ __ctzdi2:
 	sub	a0,a5,a0
 	addi	sp,sp,16
 	jr	ra
-	.size	__ctzdi2, .-__ctzdi2
 	.section	.text.__ffssi2,"ax",@progbits
-	.align	1
 	.globl	__ffssi2
-	.type	__ffssi2, @function
 __ffssi2:
 	bne	a0,zero,.L154
 	li	a0,0
@@ -606,11 +544,8 @@ __ffssi2:
 	sub	a0,a5,a0
 	addi	sp,sp,16
 	jr	ra
-	.size	__ffssi2, .-__ffssi2
 	.section	.text.__ffsdi2,"ax",@progbits
-	.align	1
 	.globl	__ffsdi2
-	.type	__ffsdi2, @function
 __ffsdi2:
 	or	a5,a0,a1
 	bne	a5,zero,.L168
@@ -643,11 +578,8 @@ __ffsdi2:
 	sub	a0,a5,a0
 	addi	sp,sp,16
 	jr	ra
-	.size	__ffsdi2, .-__ffsdi2
 	.section	.text.__clrsbsi2,"ax",@progbits
-	.align	1
 	.globl	__clrsbsi2
-	.type	__clrsbsi2, @function
 __clrsbsi2:
 	srai	a5,a0,31
 	addi	sp,sp,-16
@@ -658,11 +590,8 @@ __clrsbsi2:
 	addi	a0,a0,-1
 	addi	sp,sp,16
 	jr	ra
-	.size	__clrsbsi2, .-__clrsbsi2
 	.section	.text.__clrsbdi2,"ax",@progbits
-	.align	1
 	.globl	__clrsbdi2
-	.type	__clrsbdi2, @function
 __clrsbdi2:
 	addi	sp,sp,-16
 	sw	ra,12(sp)
@@ -681,11 +610,8 @@ __clrsbdi2:
 	addi	a0,a0,31
 	addi	sp,sp,16
 	jr	ra
-	.size	__clrsbdi2, .-__clrsbdi2
 	.section	.text.__popcountsi2,"ax",@progbits
-	.align	1
 	.globl	__popcountsi2
-	.type	__popcountsi2, @function
 __popcountsi2:
 	mv	a5,a0
 	li	a0,0
@@ -698,11 +624,8 @@ __popcountsi2:
 	ret
 .L181:
 	ret
-	.size	__popcountsi2, .-__popcountsi2
 	.section	.text.__popcountdi2,"ax",@progbits
-	.align	1
 	.globl	__popcountdi2
-	.type	__popcountdi2, @function
 __popcountdi2:
 	mv	a5,a0
 	li	a0,0
@@ -723,11 +646,8 @@ __popcountdi2:
 	add	a0,a0,a5
 .L183:
 	ret
-	.size	__popcountdi2, .-__popcountdi2
 	.section	.text.__paritysi2,"ax",@progbits
-	.align	1
 	.globl	__paritysi2
-	.type	__paritysi2, @function
 __paritysi2:
 	beq	a0,zero,.L197
 	li	a5,0
@@ -741,11 +661,8 @@ __paritysi2:
 .L197:
 	li	a0,0
 	ret
-	.size	__paritysi2, .-__paritysi2
 	.section	.text.__paritydi2,"ax",@progbits
-	.align	1
 	.globl	__paritydi2
-	.type	__paritydi2, @function
 __paritydi2:
 	xor	a5,a0,a1
 	beq	a0,a1,.L202
@@ -760,11 +677,8 @@ __paritydi2:
 .L202:
 	li	a0,0
 	ret
-	.size	__paritydi2, .-__paritydi2
 	.section	.text.__bswapsi2,"ax",@progbits
-	.align	1
 	.globl	__bswapsi2
-	.type	__bswapsi2, @function
 __bswapsi2:
 	srli	a3,a0,24
 	slli	a5,a0,24
@@ -779,11 +693,8 @@ __bswapsi2:
 	and	a0,a0,a4
 	or	a0,a5,a0
 	ret
-	.size	__bswapsi2, .-__bswapsi2
 	.section	.text.__bswapdi2,"ax",@progbits
-	.align	1
 	.globl	__bswapdi2
-	.type	__bswapdi2, @function
 __bswapdi2:
 	li	a5,16711680
 	srli	t3,a1,24
@@ -807,18 +718,12 @@ __bswapdi2:
 	or	a0,a3,a0
 	or	a1,a4,a1
 	ret
-	.size	__bswapdi2, .-__bswapdi2
 	.section	.text.unlikely.__cxa_pure_virtual,"ax",@progbits
-	.align	1
 	.globl	__cxa_pure_virtual
-	.type	__cxa_pure_virtual, @function
 __cxa_pure_virtual:
 	ebreak
-	.size	__cxa_pure_virtual, .-__cxa_pure_virtual
 	.section	.text._Znwj,"ax",@progbits
-	.align	1
 	.globl	_Znwj
-	.type	_Znwj, @function
 _Znwj:
 	addi	sp,sp,-16
 	sw	ra,12(sp)
@@ -832,11 +737,8 @@ _Znwj:
 	jr	ra
 .L211:
 	ebreak
-	.size	_Znwj, .-_Znwj
 	.section	.text._Znaj,"ax",@progbits
-	.align	1
 	.globl	_Znaj
-	.type	_Znaj, @function
 _Znaj:
 	addi	sp,sp,-16
 	sw	ra,12(sp)
@@ -850,33 +752,20 @@ _Znaj:
 	jr	ra
 .L216:
 	ebreak
-	.size	_Znaj, .-_Znaj
 	.section	.text._ZdlPv,"ax",@progbits
-	.align	1
 	.globl	_ZdlPv
-	.type	_ZdlPv, @function
 _ZdlPv:
 	tail	free
-	.size	_ZdlPv, .-_ZdlPv
 	.section	.text._ZdaPv,"ax",@progbits
-	.align	1
 	.globl	_ZdaPv
-	.type	_ZdaPv, @function
 _ZdaPv:
 	tail	free
-	.size	_ZdaPv, .-_ZdaPv
 	.section	.text._ZdlPvj,"ax",@progbits
-	.align	1
 	.globl	_ZdlPvj
-	.type	_ZdlPvj, @function
 _ZdlPvj:
 	tail	free
-	.size	_ZdlPvj, .-_ZdlPvj
 	.section	.text._ZdaPvj,"ax",@progbits
-	.align	1
 	.globl	_ZdaPvj
-	.type	_ZdaPvj, @function
 _ZdaPvj:
 	tail	free
-	.size	_ZdaPvj, .-_ZdaPvj
 	.ident	"GCC: (12.2.0-14+deb12u1+11+b2) 12.2.0"

@@ -5,22 +5,17 @@
 	.attribute stack_align, 16
 	.text
 	.section	.text.__sync_fetch_and_add_1,"ax",@progbits
-	.align	1
 	.globl	__sync_fetch_and_add_1
-	.type	__sync_fetch_and_add_1, @function
 __sync_fetch_and_add_1:
 	mv	a5,a0
 	lbu	a0,0(a0)
 	add	a1,a0,a1
 	sb	a1,0(a5)
 	ret
-	.size	__sync_fetch_and_add_1, .-__sync_fetch_and_add_1
 	.globl	__atomic_fetch_add_1
 	.set	__atomic_fetch_add_1,__sync_fetch_and_add_1
 	.section	.text.__sync_add_and_fetch_1,"ax",@progbits
-	.align	1
 	.globl	__sync_add_and_fetch_1
-	.type	__sync_add_and_fetch_1, @function
 __sync_add_and_fetch_1:
 	lbu	a4,0(a0)
 	mv	a5,a0
@@ -28,26 +23,20 @@ __sync_add_and_fetch_1:
 	andi	a0,a1,0xff
 	sb	a0,0(a5)
 	ret
-	.size	__sync_add_and_fetch_1, .-__sync_add_and_fetch_1
 	.globl	__atomic_add_fetch_1
 	.set	__atomic_add_fetch_1,__sync_add_and_fetch_1
 	.section	.text.__sync_fetch_and_sub_1,"ax",@progbits
-	.align	1
 	.globl	__sync_fetch_and_sub_1
-	.type	__sync_fetch_and_sub_1, @function
 __sync_fetch_and_sub_1:
 	mv	a5,a0
 	lbu	a0,0(a0)
 	sub	a1,a0,a1
 	sb	a1,0(a5)
 	ret
-	.size	__sync_fetch_and_sub_1, .-__sync_fetch_and_sub_1
 	.globl	__atomic_fetch_sub_1
 	.set	__atomic_fetch_sub_1,__sync_fetch_and_sub_1
 	.section	.text.__sync_sub_and_fetch_1,"ax",@progbits
-	.align	1
 	.globl	__sync_sub_and_fetch_1
-	.type	__sync_sub_and_fetch_1, @function
 __sync_sub_and_fetch_1:
 	lbu	a5,0(a0)
 	mv	a4,a0
@@ -55,91 +44,70 @@ __sync_sub_and_fetch_1:
 	andi	a0,a5,0xff
 	sb	a0,0(a4)
 	ret
-	.size	__sync_sub_and_fetch_1, .-__sync_sub_and_fetch_1
 	.globl	__atomic_sub_fetch_1
 	.set	__atomic_sub_fetch_1,__sync_sub_and_fetch_1
 	.section	.text.__sync_fetch_and_or_1,"ax",@progbits
-	.align	1
 	.globl	__sync_fetch_and_or_1
-	.type	__sync_fetch_and_or_1, @function
 __sync_fetch_and_or_1:
 	mv	a5,a0
 	lbu	a0,0(a0)
 	or	a1,a0,a1
 	sb	a1,0(a5)
 	ret
-	.size	__sync_fetch_and_or_1, .-__sync_fetch_and_or_1
 	.globl	__atomic_fetch_or_1
 	.set	__atomic_fetch_or_1,__sync_fetch_and_or_1
 	.section	.text.__sync_or_and_fetch_1,"ax",@progbits
-	.align	1
 	.globl	__sync_or_and_fetch_1
-	.type	__sync_or_and_fetch_1, @function
 __sync_or_and_fetch_1:
 	lbu	a4,0(a0)
 	mv	a5,a0
 	or	a0,a1,a4
 	sb	a0,0(a5)
 	ret
-	.size	__sync_or_and_fetch_1, .-__sync_or_and_fetch_1
 	.globl	__atomic_or_fetch_1
 	.set	__atomic_or_fetch_1,__sync_or_and_fetch_1
 	.section	.text.__sync_fetch_and_and_1,"ax",@progbits
-	.align	1
 	.globl	__sync_fetch_and_and_1
-	.type	__sync_fetch_and_and_1, @function
 __sync_fetch_and_and_1:
 	mv	a5,a0
 	lbu	a0,0(a0)
 	and	a1,a0,a1
 	sb	a1,0(a5)
 	ret
-	.size	__sync_fetch_and_and_1, .-__sync_fetch_and_and_1
 	.globl	__atomic_fetch_and_1
 	.set	__atomic_fetch_and_1,__sync_fetch_and_and_1
 	.section	.text.__sync_and_and_fetch_1,"ax",@progbits
-	.align	1
 	.globl	__sync_and_and_fetch_1
-	.type	__sync_and_and_fetch_1, @function
 __sync_and_and_fetch_1:
 	lbu	a4,0(a0)
 	mv	a5,a0
 	and	a0,a1,a4
 	sb	a0,0(a5)
 	ret
-	.size	__sync_and_and_fetch_1, .-__sync_and_and_fetch_1
 	.globl	__atomic_and_fetch_1
 	.set	__atomic_and_fetch_1,__sync_and_and_fetch_1
 	.section	.text.__sync_fetch_and_xor_1,"ax",@progbits
-	.align	1
 	.globl	__sync_fetch_and_xor_1
-	.type	__sync_fetch_and_xor_1, @function
 __sync_fetch_and_xor_1:
 	mv	a5,a0
 	lbu	a0,0(a0)
 	xor	a1,a0,a1
 	sb	a1,0(a5)
 	ret
-	.size	__sync_fetch_and_xor_1, .-__sync_fetch_and_xor_1
 	.globl	__atomic_fetch_xor_1
 	.set	__atomic_fetch_xor_1,__sync_fetch_and_xor_1
 	.section	.text.__sync_xor_and_fetch_1,"ax",@progbits
-	.align	1
 	.globl	__sync_xor_and_fetch_1
-	.type	__sync_xor_and_fetch_1, @function
 __sync_xor_and_fetch_1:
 	lbu	a4,0(a0)
 	mv	a5,a0
 	xor	a0,a1,a4
 	sb	a0,0(a5)
 	ret
-	.size	__sync_xor_and_fetch_1, .-__sync_xor_and_fetch_1
 	.globl	__atomic_xor_fetch_1
 	.set	__atomic_xor_fetch_1,__sync_xor_and_fetch_1
 	.section	.text.__sync_fetch_and_nand_1,"ax",@progbits
-	.align	1
 	.globl	__sync_fetch_and_nand_1
-	.type	__sync_fetch_and_nand_1, @function
 __sync_fetch_and_nand_1:
 	mv	a5,a0
 	lbu	a0,0(a0)
@@ -147,13 +115,10 @@ __sync_fetch_and_nand_1:
 	not	a1,a1
 	sb	a1,0(a5)
 	ret
-	.size	__sync_fetch_and_nand_1, .-__sync_fetch_and_nand_1
 	.globl	__atomic_fetch_nand_1
 	.set	__atomic_fetch_nand_1,__sync_fetch_and_nand_1
 	.section	.text.__sync_nand_and_fetch_1,"ax",@progbits
-	.align	1
 	.globl	__sync_nand_and_fetch_1
-	.type	__sync_nand_and_fetch_1, @function
 __sync_nand_and_fetch_1:
 	lbu	a4,0(a0)
 	mv	a5,a0
@@ -162,49 +127,34 @@ __sync_nand_and_fetch_1:
 	andi	a0,a1,0xff
 	sb	a0,0(a5)
 	ret
-	.size	__sync_nand_and_fetch_1, .-__sync_nand_and_fetch_1
 	.globl	__atomic_nand_fetch_1
 	.set	__atomic_nand_fetch_1,__sync_nand_and_fetch_1
 	.section	.text.__atomic_load_1,"ax",@progbits
-	.align	1
 	.globl	__atomic_load_1
-	.type	__atomic_load_1, @function
 __atomic_load_1:
 	lbu	a0,0(a0)
 	ret
-	.size	__atomic_load_1, .-__atomic_load_1
 	.section	.text.__atomic_store_1,"ax",@progbits
-	.align	1
 	.globl	__atomic_store_1
-	.type	__atomic_store_1, @function
 __atomic_store_1:
 	sb	a1,0(a0)
 	ret
-	.size	__atomic_store_1, .-__atomic_store_1
 	.section	.text.__sync_lock_release_1,"ax",@progbits
-	.align	1
 	.globl	__sync_lock_release_1
-	.type	__sync_lock_release_1, @function
 __sync_lock_release_1:
 	sb	zero,0(a0)
 	ret
-	.size	__sync_lock_release_1, .-__sync_lock_release_1
 	.section	.text.__atomic_exchange_1,"ax",@progbits
-	.align	1
 	.globl	__atomic_exchange_1
-	.type	__atomic_exchange_1, @function
 __atomic_exchange_1:
 	mv	a5,a0
 	lbu	a0,0(a0)
 	sb	a1,0(a5)
 	ret
-	.size	__atomic_exchange_1, .-__atomic_exchange_1
 	.globl	__sync_lock_test_and_set_1
 	.set	__sync_lock_test_and_set_1,__atomic_exchange_1
 	.section	.text.__sync_val_compare_and_swap_1,"ax",@progbits
-	.align	1
 	.globl	__sync_val_compare_and_swap_1
-	.type	__sync_val_compare_and_swap_1, @function
 __sync_val_compare_and_swap_1:
 	mv	a5,a0
 	lbu	a0,0(a0)
@@ -213,11 +163,8 @@ __sync_val_compare_and_swap_1:
 .L20:
 	sb	a2,0(a5)
 	ret
-	.size	__sync_val_compare_and_swap_1, .-__sync_val_compare_and_swap_1
 	.section	.text.__sync_bool_compare_and_swap_1,"ax",@progbits
-	.align	1
 	.globl	__sync_bool_compare_and_swap_1
-	.type	__sync_bool_compare_and_swap_1, @function
 __sync_bool_compare_and_swap_1:
 	lbu	a5,0(a0)
 	bne	a1,a5,.L22
@@ -226,11 +173,8 @@ __sync_bool_compare_and_swap_1:
 	sub	a1,a1,a5
 	seqz	a0,a1
 	ret
-	.size	__sync_bool_compare_and_swap_1, .-__sync_bool_compare_and_swap_1
 	.section	.text.__atomic_compare_exchange_1,"ax",@progbits
-	.align	1
 	.globl	__atomic_compare_exchange_1
-	.type	__atomic_compare_exchange_1, @function
 __atomic_compare_exchange_1:
 	lbu	a5,0(a1)
 	lbu	a4,0(a0)
@@ -241,24 +185,18 @@ __atomic_compare_exchange_1:
 	sb	a4,0(a1)
 	seqz	a0,a0
 	ret
-	.size	__atomic_compare_exchange_1, .-__atomic_compare_exchange_1
 	.section	.text.__sync_fetch_and_add_2,"ax",@progbits
-	.align	1
 	.globl	__sync_fetch_and_add_2
-	.type	__sync_fetch_and_add_2, @function
 __sync_fetch_and_add_2:
 	mv	a5,a0
 	lhu	a0,0(a0)
 	add	a1,a0,a1
 	sh	a1,0(a5)
 	ret
-	.size	__sync_fetch_and_add_2, .-__sync_fetch_and_add_2
 	.globl	__atomic_fetch_add_2
 	.set	__atomic_fetch_add_2,__sync_fetch_and_add_2
 	.section	.text.__sync_add_and_fetch_2,"ax",@progbits
-	.align	1
 	.globl	__sync_add_and_fetch_2
-	.type	__sync_add_and_fetch_2, @function
 __sync_add_and_fetch_2:
 	lhu	a4,0(a0)
 	mv	a5,a0
@@ -267,26 +205,20 @@ __sync_add_and_fetch_2:
 	srli	a0,a0,16
 	sh	a0,0(a5)
 	ret
-	.size	__sync_add_and_fetch_2, .-__sync_add_and_fetch_2
 	.globl	__atomic_add_fetch_2
 	.set	__atomic_add_fetch_2,__sync_add_and_fetch_2
 	.section	.text.__sync_fetch_and_sub_2,"ax",@progbits
-	.align	1
 	.globl	__sync_fetch_and_sub_2
-	.type	__sync_fetch_and_sub_2, @function
 __sync_fetch_and_sub_2:
 	mv	a5,a0
 	lhu	a0,0(a0)
 	sub	a1,a0,a1
 	sh	a1,0(a5)
 	ret
-	.size	__sync_fetch_and_sub_2, .-__sync_fetch_and_sub_2
 	.globl	__atomic_fetch_sub_2
 	.set	__atomic_fetch_sub_2,__sync_fetch_and_sub_2
 	.section	.text.__sync_sub_and_fetch_2,"ax",@progbits
-	.align	1
 	.globl	__sync_sub_and_fetch_2
-	.type	__sync_sub_and_fetch_2, @function
 __sync_sub_and_fetch_2:
 	lhu	a5,0(a0)
 	mv	a4,a0
@@ -295,91 +227,70 @@ __sync_sub_and_fetch_2:
 	srli	a0,a0,16
 	sh	a0,0(a4)
 	ret
-	.size	__sync_sub_and_fetch_2, .-__sync_sub_and_fetch_2
 	.globl	__atomic_sub_fetch_2
 	.set	__atomic_sub_fetch_2,__sync_sub_and_fetch_2
 	.section	.text.__sync_fetch_and_or_2,"ax",@progbits
-	.align	1
 	.globl	__sync_fetch_and_or_2
-	.type	__sync_fetch_and_or_2, @function
 __sync_fetch_and_or_2:
 	mv	a5,a0
 	lhu	a0,0(a0)
 	or	a1,a0,a1
 	sh	a1,0(a5)
 	ret
-	.size	__sync_fetch_and_or_2, .-__sync_fetch_and_or_2
 	.globl	__atomic_fetch_or_2
 	.set	__atomic_fetch_or_2,__sync_fetch_and_or_2
 	.section	.text.__sync_or_and_fetch_2,"ax",@progbits
-	.align	1
 	.globl	__sync_or_and_fetch_2
-	.type	__sync_or_and_fetch_2, @function
 __sync_or_and_fetch_2:
 	lhu	a4,0(a0)
 	mv	a5,a0
 	or	a0,a1,a4
 	sh	a0,0(a5)
 	ret
-	.size	__sync_or_and_fetch_2, .-__sync_or_and_fetch_2
 	.globl	__atomic_or_fetch_2
 	.set	__atomic_or_fetch_2,__sync_or_and_fetch_2
 	.section	.text.__sync_fetch_and_and_2,"ax",@progbits
-	.align	1
 	.globl	__sync_fetch_and_and_2
-	.type	__sync_fetch_and_and_2, @function
 __sync_fetch_and_and_2:
 	mv	a5,a0
 	lhu	a0,0(a0)
 	and	a1,a0,a1
 	sh	a1,0(a5)
 	ret
-	.size	__sync_fetch_and_and_2, .-__sync_fetch_and_and_2
 	.globl	__atomic_fetch_and_2
 	.set	__atomic_fetch_and_2,__sync_fetch_and_and_2
 	.section	.text.__sync_and_and_fetch_2,"ax",@progbits
-	.align	1
 	.globl	__sync_and_and_fetch_2
-	.type	__sync_and_and_fetch_2, @function
 __sync_and_and_fetch_2:
 	lhu	a4,0(a0)
 	mv	a5,a0
 	and	a0,a1,a4
 	sh	a0,0(a5)
 	ret
-	.size	__sync_and_and_fetch_2, .-__sync_and_and_fetch_2
 	.globl	__atomic_and_fetch_2
 	.set	__atomic_and_fetch_2,__sync_and_and_fetch_2
 	.section	.text.__sync_fetch_and_xor_2,"ax",@progbits
-	.align	1
 	.globl	__sync_fetch_and_xor_2
-	.type	__sync_fetch_and_xor_2, @function
 __sync_fetch_and_xor_2:
 	mv	a5,a0
 	lhu	a0,0(a0)
 	xor	a1,a0,a1
 	sh	a1,0(a5)
 	ret
-	.size	__sync_fetch_and_xor_2, .-__sync_fetch_and_xor_2
 	.globl	__atomic_fetch_xor_2
 	.set	__atomic_fetch_xor_2,__sync_fetch_and_xor_2
 	.section	.text.__sync_xor_and_fetch_2,"ax",@progbits
-	.align	1
 	.globl	__sync_xor_and_fetch_2
-	.type	__sync_xor_and_fetch_2, @function
 __sync_xor_and_fetch_2:
 	lhu	a4,0(a0)
 	mv	a5,a0
 	xor	a0,a1,a4
 	sh	a0,0(a5)
 	ret
-	.size	__sync_xor_and_fetch_2, .-__sync_xor_and_fetch_2
 	.globl	__atomic_xor_fetch_2
 	.set	__atomic_xor_fetch_2,__sync_xor_and_fetch_2
 	.section	.text.__sync_fetch_and_nand_2,"ax",@progbits
-	.align	1
 	.globl	__sync_fetch_and_nand_2
-	.type	__sync_fetch_and_nand_2, @function
 __sync_fetch_and_nand_2:
 	mv	a5,a0
 	lhu	a0,0(a0)
@@ -387,13 +298,10 @@ __sync_fetch_and_nand_2:
 	not	a1,a1
 	sh	a1,0(a5)
 	ret
-	.size	__sync_fetch_and_nand_2, .-__sync_fetch_and_nand_2
 	.globl	__atomic_fetch_nand_2
 	.set	__atomic_fetch_nand_2,__sync_fetch_and_nand_2
 	.section	.text.__sync_nand_and_fetch_2,"ax",@progbits
-	.align	1
 	.globl	__sync_nand_and_fetch_2
-	.type	__sync_nand_and_fetch_2, @function
 __sync_nand_and_fetch_2:
 	lhu	a4,0(a0)
 	mv	a5,a0
@@ -403,49 +311,34 @@ __sync_nand_and_fetch_2:
 	srli	a0,a0,16
 	sh	a0,0(a5)
 	ret
-	.size	__sync_nand_and_fetch_2, .-__sync_nand_and_fetch_2
 	.globl	__atomic_nand_fetch_2
 	.set	__atomic_nand_fetch_2,__sync_nand_and_fetch_2
 	.section	.text.__atomic_load_2,"ax",@progbits
-	.align	1
 	.globl	__atomic_load_2
-	.type	__atomic_load_2, @function
 __atomic_load_2:
 	lhu	a0,0(a0)
 	ret
-	.size	__atomic_load_2, .-__atomic_load_2
 	.section	.text.__atomic_store_2,"ax",@progbits
-	.align	1
 	.globl	__atomic_store_2
-	.type	__atomic_store_2, @function
 __atomic_store_2:
 	sh	a1,0(a0)
 	ret
-	.size	__atomic_store_2, .-__atomic_store_2
 	.section	.text.__sync_lock_release_2,"ax",@progbits
-	.align	1
 	.globl	__sync_lock_release_2
-	.type	__sync_lock_release_2, @function
 __sync_lock_release_2:
 	sh	zero,0(a0)
 	ret
-	.size	__sync_lock_release_2, .-__sync_lock_release_2
 	.section	.text.__atomic_exchange_2,"ax",@progbits
-	.align	1
 	.globl	__atomic_exchange_2
-	.type	__atomic_exchange_2, @function
 __atomic_exchange_2:
 	mv	a5,a0
 	lhu	a0,0(a0)
 	sh	a1,0(a5)
 	ret
-	.size	__atomic_exchange_2, .-__atomic_exchange_2
 	.globl	__sync_lock_test_and_set_2
 	.set	__sync_lock_test_and_set_2,__atomic_exchange_2
 	.section	.text.__sync_val_compare_and_swap_2,"ax",@progbits
-	.align	1
 	.globl	__sync_val_compare_and_swap_2
-	.type	__sync_val_compare_and_swap_2, @function
 __sync_val_compare_and_swap_2:
 	mv	a5,a0
 	lhu	a0,0(a0)
@@ -454,11 +347,8 @@ __sync_val_compare_and_swap_2:
 .L43:
 	sh	a2,0(a5)
 	ret
-	.size	__sync_val_compare_and_swap_2, .-__sync_val_compare_and_swap_2
 	.section	.text.__sync_bool_compare_and_swap_2,"ax",@progbits
-	.align	1
 	.globl	__sync_bool_compare_and_swap_2
-	.type	__sync_bool_compare_and_swap_2, @function
 __sync_bool_compare_and_swap_2:
 	lhu	a5,0(a0)
 	bne	a1,a5,.L45
@@ -467,11 +357,8 @@ __sync_bool_compare_and_swap_2:
 	sub	a1,a1,a5
 	seqz	a0,a1
 	ret
-	.size	__sync_bool_compare_and_swap_2, .-__sync_bool_compare_and_swap_2
 	.section	.text.__atomic_compare_exchange_2,"ax",@progbits
-	.align	1
 	.globl	__atomic_compare_exchange_2
-	.type	__atomic_compare_exchange_2, @function
 __atomic_compare_exchange_2:
 	lhu	a5,0(a1)
 	lhu	a4,0(a0)
@@ -482,141 +369,108 @@ __atomic_compare_exchange_2:
 	sh	a4,0(a1)
 	seqz	a0,a0
 	ret
-	.size	__atomic_compare_exchange_2, .-__atomic_compare_exchange_2
 	.section	.text.__sync_fetch_and_add_4,"ax",@progbits
-	.align	1
 	.globl	__sync_fetch_and_add_4
-	.type	__sync_fetch_and_add_4, @function
 __sync_fetch_and_add_4:
 	mv	a5,a0
 	lw	a0,0(a0)
 	add	a1,a0,a1
 	sw	a1,0(a5)
 	ret
-	.size	__sync_fetch_and_add_4, .-__sync_fetch_and_add_4
 	.globl	__atomic_fetch_add_4
 	.set	__atomic_fetch_add_4,__sync_fetch_and_add_4
 	.section	.text.__sync_add_and_fetch_4,"ax",@progbits
-	.align	1
 	.globl	__sync_add_and_fetch_4
-	.type	__sync_add_and_fetch_4, @function
 __sync_add_and_fetch_4:
 	lw	a4,0(a0)
 	mv	a5,a0
 	add	a0,a1,a4
 	sw	a0,0(a5)
 	ret
-	.size	__sync_add_and_fetch_4, .-__sync_add_and_fetch_4
 	.globl	__atomic_add_fetch_4
 	.set	__atomic_add_fetch_4,__sync_add_and_fetch_4
 	.section	.text.__sync_fetch_and_sub_4,"ax",@progbits
-	.align	1
 	.globl	__sync_fetch_and_sub_4
-	.type	__sync_fetch_and_sub_4, @function
 __sync_fetch_and_sub_4:
 	mv	a5,a0
 	lw	a0,0(a0)
 	sub	a1,a0,a1
 	sw	a1,0(a5)
 	ret
-	.size	__sync_fetch_and_sub_4, .-__sync_fetch_and_sub_4
 	.globl	__atomic_fetch_sub_4
 	.set	__atomic_fetch_sub_4,__sync_fetch_and_sub_4
 	.section	.text.__sync_sub_and_fetch_4,"ax",@progbits
-	.align	1
 	.globl	__sync_sub_and_fetch_4
-	.type	__sync_sub_and_fetch_4, @function
 __sync_sub_and_fetch_4:
 	lw	a5,0(a0)
 	mv	a4,a0
 	sub	a0,a5,a1
 	sw	a0,0(a4)
 	ret
-	.size	__sync_sub_and_fetch_4, .-__sync_sub_and_fetch_4
 	.globl	__atomic_sub_fetch_4
 	.set	__atomic_sub_fetch_4,__sync_sub_and_fetch_4
 	.section	.text.__sync_fetch_and_or_4,"ax",@progbits
-	.align	1
 	.globl	__sync_fetch_and_or_4
-	.type	__sync_fetch_and_or_4, @function
 __sync_fetch_and_or_4:
 	mv	a5,a0
 	lw	a0,0(a0)
 	or	a1,a0,a1
 	sw	a1,0(a5)
 	ret
-	.size	__sync_fetch_and_or_4, .-__sync_fetch_and_or_4
 	.globl	__atomic_fetch_or_4
 	.set	__atomic_fetch_or_4,__sync_fetch_and_or_4
 	.section	.text.__sync_or_and_fetch_4,"ax",@progbits
-	.align	1
 	.globl	__sync_or_and_fetch_4
-	.type	__sync_or_and_fetch_4, @function
 __sync_or_and_fetch_4:
 	lw	a4,0(a0)
 	mv	a5,a0
 	or	a0,a1,a4
 	sw	a0,0(a5)
 	ret
-	.size	__sync_or_and_fetch_4, .-__sync_or_and_fetch_4
 	.globl	__atomic_or_fetch_4
 	.set	__atomic_or_fetch_4,__sync_or_and_fetch_4
 	.section	.text.__sync_fetch_and_and_4,"ax",@progbits
-	.align	1
 	.globl	__sync_fetch_and_and_4
-	.type	__sync_fetch_and_and_4, @function
 __sync_fetch_and_and_4:
 	mv	a5,a0
 	lw	a0,0(a0)
 	and	a1,a0,a1
 	sw	a1,0(a5)
 	ret
-	.size	__sync_fetch_and_and_4, .-__sync_fetch_and_and_4
 	.globl	__atomic_fetch_and_4
 	.set	__atomic_fetch_and_4,__sync_fetch_and_and_4
 	.section	.text.__sync_and_and_fetch_4,"ax",@progbits
-	.align	1
 	.globl	__sync_and_and_fetch_4
-	.type	__sync_and_and_fetch_4, @function
 __sync_and_and_fetch_4:
 	lw	a4,0(a0)
 	mv	a5,a0
 	and	a0,a1,a4
 	sw	a0,0(a5)
 	ret
-	.size	__sync_and_and_fetch_4, .-__sync_and_and_fetch_4
 	.globl	__atomic_and_fetch_4
 	.set	__atomic_and_fetch_4,__sync_and_and_fetch_4
 	.section	.text.__sync_fetch_and_xor_4,"ax",@progbits
-	.align	1
 	.globl	__sync_fetch_and_xor_4
-	.type	__sync_fetch_and_xor_4, @function
 __sync_fetch_and_xor_4:
 	mv	a5,a0
 	lw	a0,0(a0)
 	xor	a1,a0,a1
 	sw	a1,0(a5)
 	ret
-	.size	__sync_fetch_and_xor_4, .-__sync_fetch_and_xor_4
 	.globl	__atomic_fetch_xor_4
 	.set	__atomic_fetch_xor_4,__sync_fetch_and_xor_4
 	.section	.text.__sync_xor_and_fetch_4,"ax",@progbits
-	.align	1
 	.globl	__sync_xor_and_fetch_4
-	.type	__sync_xor_and_fetch_4, @function
 __sync_xor_and_fetch_4:
 	lw	a4,0(a0)
 	mv	a5,a0
 	xor	a0,a1,a4
 	sw	a0,0(a5)
 	ret
-	.size	__sync_xor_and_fetch_4, .-__sync_xor_and_fetch_4
 	.globl	__atomic_xor_fetch_4
 	.set	__atomic_xor_fetch_4,__sync_xor_and_fetch_4
 	.section	.text.__sync_fetch_and_nand_4,"ax",@progbits
-	.align	1
 	.globl	__sync_fetch_and_nand_4
-	.type	__sync_fetch_and_nand_4, @function
 __sync_fetch_and_nand_4:
 	mv	a5,a0
 	lw	a0,0(a0)
@@ -624,13 +478,10 @@ __sync_fetch_and_nand_4:
 	not	a1,a1
 	sw	a1,0(a5)
 	ret
-	.size	__sync_fetch_and_nand_4, .-__sync_fetch_and_nand_4
 	.globl	__atomic_fetch_nand_4
 	.set	__atomic_fetch_nand_4,__sync_fetch_and_nand_4
 	.section	.text.__sync_nand_and_fetch_4,"ax",@progbits
-	.align	1
 	.globl	__sync_nand_and_fetch_4
-	.type	__sync_nand_and_fetch_4, @function
 __sync_nand_and_fetch_4:
 	lw	a4,0(a0)
 	mv	a5,a0
@@ -638,49 +489,34 @@ __sync_nand_and_fetch_4:
 	not	a0,a1
 	sw	a0,0(a5)
 	ret
-	.size	__sync_nand_and_fetch_4, .-__sync_nand_and_fetch_4
 	.globl	__atomic_nand_fetch_4
 	.set	__atomic_nand_fetch_4,__sync_nand_and_fetch_4
 	.section	.text.__atomic_load_4,"ax",@progbits
-	.align	1
 	.globl	__atomic_load_4
-	.type	__atomic_load_4, @function
 __atomic_load_4:
 	lw	a0,0(a0)
 	ret
-	.size	__atomic_load_4, .-__atomic_load_4
 	.section	.text.__atomic_store_4,"ax",@progbits
-	.align	1
 	.globl	__atomic_store_4
-	.type	__atomic_store_4, @function
 __atomic_store_4:
 	sw	a1,0(a0)
 	ret
-	.size	__atomic_store_4, .-__atomic_store_4
 	.section	.text.__sync_lock_release_4,"ax",@progbits
-	.align	1
 	.globl	__sync_lock_release_4
-	.type	__sync_lock_release_4, @function
 __sync_lock_release_4:
 	sw	zero,0(a0)
 	ret
-	.size	__sync_lock_release_4, .-__sync_lock_release_4
 	.section	.text.__atomic_exchange_4,"ax",@progbits
-	.align	1
 	.globl	__atomic_exchange_4
-	.type	__atomic_exchange_4, @function
 __atomic_exchange_4:
 	mv	a5,a0
 	lw	a0,0(a0)
 	sw	a1,0(a5)
 	ret
-	.size	__atomic_exchange_4, .-__atomic_exchange_4
 	.globl	__sync_lock_test_and_set_4
 	.set	__sync_lock_test_and_set_4,__atomic_exchange_4
 	.section	.text.__sync_val_compare_and_swap_4,"ax",@progbits
-	.align	1
 	.globl	__sync_val_compare_and_swap_4
-	.type	__sync_val_compare_and_swap_4, @function
 __sync_val_compare_and_swap_4:
 	mv	a5,a0
 	lw	a0,0(a0)
@@ -689,11 +525,8 @@ __sync_val_compare_and_swap_4:
 .L66:
 	sw	a2,0(a5)
 	ret
-	.size	__sync_val_compare_and_swap_4, .-__sync_val_compare_and_swap_4
 	.section	.text.__sync_bool_compare_and_swap_4,"ax",@progbits
-	.align	1
 	.globl	__sync_bool_compare_and_swap_4
-	.type	__sync_bool_compare_and_swap_4, @function
 __sync_bool_compare_and_swap_4:
 	lw	a5,0(a0)
 	bne	a1,a5,.L68
@@ -702,11 +535,8 @@ __sync_bool_compare_and_swap_4:
 	sub	a1,a1,a5
 	seqz	a0,a1
 	ret
-	.size	__sync_bool_compare_and_swap_4, .-__sync_bool_compare_and_swap_4
 	.section	.text.__atomic_compare_exchange_4,"ax",@progbits
-	.align	1
 	.globl	__atomic_compare_exchange_4
-	.type	__atomic_compare_exchange_4, @function
 __atomic_compare_exchange_4:
 	lw	a5,0(a1)
 	lw	a4,0(a0)
@@ -717,11 +547,8 @@ __atomic_compare_exchange_4:
 	sw	a4,0(a1)
 	seqz	a0,a0
 	ret
-	.size	__atomic_compare_exchange_4, .-__atomic_compare_exchange_4
 	.section	.text.__sync_fetch_and_add_8,"ax",@progbits
-	.align	1
 	.globl	__sync_fetch_and_add_8
-	.type	__sync_fetch_and_add_8, @function
 __sync_fetch_and_add_8:
 	mv	a5,a0
 	lw	a0,0(a0)
@@ -734,13 +561,10 @@ __sync_fetch_and_add_8:
 	sw	a4,4(a5)
 	mv	a1,a3
 	ret
-	.size	__sync_fetch_and_add_8, .-__sync_fetch_and_add_8
 	.globl	__atomic_fetch_add_8
 	.set	__atomic_fetch_add_8,__sync_fetch_and_add_8
 	.section	.text.__sync_add_and_fetch_8,"ax",@progbits
-	.align	1
 	.globl	__sync_add_and_fetch_8
-	.type	__sync_add_and_fetch_8, @function
 __sync_add_and_fetch_8:
 	mv	a5,a0
 	lw	a0,0(a0)
@@ -752,13 +576,10 @@ __sync_add_and_fetch_8:
 	sw	a0,0(a5)
 	sw	a1,4(a5)
 	ret
-	.size	__sync_add_and_fetch_8, .-__sync_add_and_fetch_8
 	.globl	__atomic_add_fetch_8
 	.set	__atomic_add_fetch_8,__sync_add_and_fetch_8
 	.section	.text.__sync_fetch_and_sub_8,"ax",@progbits
-	.align	1
 	.globl	__sync_fetch_and_sub_8
-	.type	__sync_fetch_and_sub_8, @function
 __sync_fetch_and_sub_8:
 	mv	a5,a0
 	lw	a0,0(a0)
@@ -771,13 +592,10 @@ __sync_fetch_and_sub_8:
 	sw	a2,4(a5)
 	mv	a1,a4
 	ret
-	.size	__sync_fetch_and_sub_8, .-__sync_fetch_and_sub_8
 	.globl	__atomic_fetch_sub_8
 	.set	__atomic_fetch_sub_8,__sync_fetch_and_sub_8
 	.section	.text.__sync_sub_and_fetch_8,"ax",@progbits
-	.align	1
 	.globl	__sync_sub_and_fetch_8
-	.type	__sync_sub_and_fetch_8, @function
 __sync_sub_and_fetch_8:
 	lw	a3,0(a0)
 	lw	a5,4(a0)
@@ -789,13 +607,10 @@ __sync_sub_and_fetch_8:
 	sw	a0,0(a4)
 	sw	a1,4(a4)
 	ret
-	.size	__sync_sub_and_fetch_8, .-__sync_sub_and_fetch_8
 	.globl	__atomic_sub_fetch_8
 	.set	__atomic_sub_fetch_8,__sync_sub_and_fetch_8
 	.section	.text.__sync_fetch_and_or_8,"ax",@progbits
-	.align	1
 	.globl	__sync_fetch_and_or_8
-	.type	__sync_fetch_and_or_8, @function
 __sync_fetch_and_or_8:
 	mv	a5,a0
 	lw	a4,4(a5)
@@ -806,13 +621,10 @@ __sync_fetch_and_or_8:
 	sw	a2,4(a5)
 	mv	a1,a4
 	ret
-	.size	__sync_fetch_and_or_8, .-__sync_fetch_and_or_8
 	.globl	__atomic_fetch_or_8
 	.set	__atomic_fetch_or_8,__sync_fetch_and_or_8
 	.section	.text.__sync_or_and_fetch_8,"ax",@progbits
-	.align	1
 	.globl	__sync_or_and_fetch_8
-	.type	__sync_or_and_fetch_8, @function
 __sync_or_and_fetch_8:
 	mv	a5,a0
 	lw	a4,4(a5)
@@ -822,13 +634,10 @@ __sync_or_and_fetch_8:
 	sw	a0,0(a5)
 	sw	a1,4(a5)
 	ret
-	.size	__sync_or_and_fetch_8, .-__sync_or_and_fetch_8
 	.globl	__atomic_or_fetch_8
 	.set	__atomic_or_fetch_8,__sync_or_and_fetch_8
 	.section	.text.__sync_fetch_and_and_8,"ax",@progbits
-	.align	1
 	.globl	__sync_fetch_and_and_8
-	.type	__sync_fetch_and_and_8, @function
 __sync_fetch_and_and_8:
 	mv	a5,a0
 	lw	a4,4(a5)
@@ -839,13 +648,10 @@ __sync_fetch_and_and_8:
 	sw	a2,4(a5)
 	mv	a1,a4
 	ret
-	.size	__sync_fetch_and_and_8, .-__sync_fetch_and_and_8
 	.globl	__atomic_fetch_and_8
 	.set	__atomic_fetch_and_8,__sync_fetch_and_and_8
 	.section	.text.__sync_and_and_fetch_8,"ax",@progbits
-	.align	1
 	.globl	__sync_and_and_fetch_8
-	.type	__sync_and_and_fetch_8, @function
 __sync_and_and_fetch_8:
 	mv	a5,a0
 	lw	a4,4(a5)
@@ -855,13 +661,10 @@ __sync_and_and_fetch_8:
 	sw	a0,0(a5)
 	sw	a1,4(a5)
 	ret
-	.size	__sync_and_and_fetch_8, .-__sync_and_and_fetch_8
 	.globl	__atomic_and_fetch_8
 	.set	__atomic_and_fetch_8,__sync_and_and_fetch_8
 	.section	.text.__sync_fetch_and_xor_8,"ax",@progbits
-	.align	1
 	.globl	__sync_fetch_and_xor_8
-	.type	__sync_fetch_and_xor_8, @function
 __sync_fetch_and_xor_8:
 	mv	a5,a0
 	lw	a4,4(a5)
@@ -872,13 +675,10 @@ __sync_fetch_and_xor_8:
 	sw	a2,4(a5)
 	mv	a1,a4
 	ret
-	.size	__sync_fetch_and_xor_8, .-__sync_fetch_and_xor_8
 	.globl	__atomic_fetch_xor_8
 	.set	__atomic_fetch_xor_8,__sync_fetch_and_xor_8
 	.section	.text.__sync_xor_and_fetch_8,"ax",@progbits
-	.align	1
 	.globl	__sync_xor_and_fetch_8
-	.type	__sync_xor_and_fetch_8, @function
 __sync_xor_and_fetch_8:
 	mv	a5,a0
 	lw	a4,4(a5)
@@ -888,13 +688,10 @@ __sync_xor_and_fetch_8:
 	sw	a0,0(a5)
 	sw	a1,4(a5)
 	ret
-	.size	__sync_xor_and_fetch_8, .-__sync_xor_and_fetch_8
 	.globl	__atomic_xor_fetch_8
 	.set	__atomic_xor_fetch_8,__sync_xor_and_fetch_8
 	.section	.text.__sync_fetch_and_nand_8,"ax",@progbits
-	.align	1
 	.globl	__sync_fetch_and_nand_8
-	.type	__sync_fetch_and_nand_8, @function
 __sync_fetch_and_nand_8:
 	mv	a5,a0
 	lw	a4,4(a5)
@@ -907,13 +704,10 @@ __sync_fetch_and_nand_8:
 	sw	a2,4(a5)
 	mv	a1,a4
 	ret
-	.size	__sync_fetch_and_nand_8, .-__sync_fetch_and_nand_8
 	.globl	__atomic_fetch_nand_8
 	.set	__atomic_fetch_nand_8,__sync_fetch_and_nand_8
 	.section	.text.__sync_nand_and_fetch_8,"ax",@progbits
-	.align	1
 	.globl	__sync_nand_and_fetch_8
-	.type	__sync_nand_and_fetch_8, @function
 __sync_nand_and_fetch_8:
 	lw	a4,0(a0)
 	lw	a5,4(a0)
@@ -925,42 +719,30 @@ __sync_nand_and_fetch_8:
 	sw	a0,0(a3)
 	sw	a1,4(a3)
 	ret
-	.size	__sync_nand_and_fetch_8, .-__sync_nand_and_fetch_8
 	.globl	__atomic_nand_fetch_8
 	.set	__atomic_nand_fetch_8,__sync_nand_and_fetch_8
 	.section	.text.__atomic_load_8,"ax",@progbits
-	.align	1
 	.globl	__atomic_load_8
-	.type	__atomic_load_8, @function
 __atomic_load_8:
 	lw	a1,4(a0)
 	lw	a0,0(a0)
 	ret
-	.size	__atomic_load_8, .-__atomic_load_8
 	.section	.text.__atomic_store_8,"ax",@progbits
-	.align	1
 	.globl	__atomic_store_8
-	.type	__atomic_store_8, @function
 __atomic_store_8:
 	sw	a1,0(a0)
 	sw	a2,4(a0)
 	ret
-	.size	__atomic_store_8, .-__atomic_store_8
 	.section	.text.__sync_lock_release_8,"ax",@progbits
-	.align	1
 	.globl	__sync_lock_release_8
-	.type	__sync_lock_release_8, @function
 __sync_lock_release_8:
 	li	a5,0
 	li	a6,0
 	sw	a5,0(a0)
 	sw	a6,4(a0)
 	ret
-	.size	__sync_lock_release_8, .-__sync_lock_release_8
 	.section	.text.__atomic_exchange_8,"ax",@progbits
-	.align	1
 	.globl	__atomic_exchange_8
-	.type	__atomic_exchange_8, @function
 __atomic_exchange_8:
 	lw	a7,4(a0)
 	lw	a6,0(a0)
@@ -969,13 +751,10 @@ __atomic_exchange_8:
 	mv	a0,a6
 	mv	a1,a7
 	ret
-	.size	__atomic_exchange_8, .-__atomic_exchange_8
 	.globl	__sync_lock_test_and_set_8
 	.set	__sync_lock_test_and_set_8,__atomic_exchange_8
 	.section	.text.__sync_val_compare_and_swap_8,"ax",@progbits
-	.align	1
 	.globl	__sync_val_compare_and_swap_8
-	.type	__sync_val_compare_and_swap_8, @function
 __sync_val_compare_and_swap_8:
 	mv	a5,a0
 	lw	a0,0(a0)
@@ -989,11 +768,8 @@ __sync_val_compare_and_swap_8:
 	sw	a3,0(a5)
 	sw	a4,4(a5)
 	ret
-	.size	__sync_val_compare_and_swap_8, .-__sync_val_compare_and_swap_8
 	.section	.text.__sync_bool_compare_and_swap_8,"ax",@progbits
-	.align	1
 	.globl	__sync_bool_compare_and_swap_8
-	.type	__sync_bool_compare_and_swap_8, @function
 __sync_bool_compare_and_swap_8:
 	lw	a5,0(a0)
 	lw	a6,4(a0)
@@ -1013,11 +789,8 @@ __sync_bool_compare_and_swap_8:
 	or	a0,a1,a2
 	seqz	a0,a0
 	ret
-	.size	__sync_bool_compare_and_swap_8, .-__sync_bool_compare_and_swap_8
 	.section	.text.__atomic_compare_exchange_8,"ax",@progbits
-	.align	1
 	.globl	__atomic_compare_exchange_8
-	.type	__atomic_compare_exchange_8, @function
 __atomic_compare_exchange_8:
 	lw	a5,0(a1)
 	lw	a6,0(a0)
@@ -1043,11 +816,8 @@ __atomic_compare_exchange_8:
 	sw	a7,4(a1)
 	seqz	a0,a0
 	ret
-	.size	__atomic_compare_exchange_8, .-__atomic_compare_exchange_8
 	.section	.text.__atomic_load,"ax",@progbits
-	.align	1
 	.globl	__atomic_load
-	.type	__atomic_load, @function
 __atomic_load:
 	beq	a0,zero,.L96
 	add	a0,a1,a0
@@ -1059,11 +829,8 @@ __atomic_load:
 	bne	a1,a0,.L98
 .L96:
 	ret
-	.size	__atomic_load, .-__atomic_load
 	.section	.text.__atomic_store,"ax",@progbits
-	.align	1
 	.globl	__atomic_store
-	.type	__atomic_store, @function
 __atomic_store:
 	beq	a0,zero,.L103
 	add	a0,a2,a0
@@ -1075,11 +842,8 @@ __atomic_store:
 	bne	a2,a0,.L105
 .L103:
 	ret
-	.size	__atomic_store, .-__atomic_store
 	.section	.text.__atomic_exchange,"ax",@progbits
-	.align	1
 	.globl	__atomic_exchange
-	.type	__atomic_exchange, @function
 __atomic_exchange:
 	beq	a0,zero,.L110
 	add	a6,a1,a0
@@ -1099,11 +863,8 @@ __atomic_exchange:
 	bne	a2,a0,.L114
 .L110:
 	ret
-	.size	__atomic_exchange, .-__atomic_exchange
 	.section	.text.__atomic_compare_exchange,"ax",@progbits
-	.align	1
 	.globl	__atomic_compare_exchange
-	.type	__atomic_compare_exchange, @function
 __atomic_compare_exchange:
 	beq	a0,zero,.L121
 	mv	a5,a1
@@ -1137,13 +898,9 @@ __atomic_compare_exchange:
 .L121:
 	li	a0,1
 	ret
-	.size	__atomic_compare_exchange, .-__atomic_compare_exchange
 	.section	.text.__atomic_is_lock_free,"ax",@progbits
-	.align	1
 	.globl	__atomic_is_lock_free
-	.type	__atomic_is_lock_free, @function
 __atomic_is_lock_free:
 	li	a0,1
 	ret
-	.size	__atomic_is_lock_free, .-__atomic_is_lock_free
 	.ident	"GCC: (12.2.0-14+deb12u1+11+b2) 12.2.0"
