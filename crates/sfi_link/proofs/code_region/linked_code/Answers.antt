@@ -51,7 +51,6 @@ overflow_sub-fill c =
     let w = rw (c.names.ensures, c.bundles.ensures) at c.in_ok-push_bundles.ensures in
     let sized = rw (c.needed.ensures, c.format-format.ensures) at c.in-Some.ensures.least in
     let h = written_within p c.bases_of-at.result c.in-Some.size c.push_copies.new.code.items c.push_bundles.new.code.items sized stubs w in
-    let l = c.len.ensures in
     omega arith
 
 pub returns : goal.returns
@@ -61,7 +60,6 @@ returns c =
     let w = rw (c.names.ensures, c.bundles.ensures) at c.in_ok-push_bundles.ensures in
     let sized = rw (c.needed.ensures, c.format-format.ensures) at c.in-Some.ensures.least in
     let lies = rw c.place_of.ensures.is at (OnTrue_at c.if-not-branch.false c.in_ok-lies_beside.ensures.lies) in
-    let l = c.len.ensures in
     let made = linked_code c.args.given.now c.args.number p c.bases_of-at.result c.in-Some.size _ c.push_copies.new.code.items c.push_bundles.new.code.items c.push_copies-2.new.code.items c.bases_of-at.ensures.is sized stubs w
     (omega arith) c.in_ok-push_copies-2.ensures in
     code_beside c.args.given.now c.args.number p _ c.in-Some.size _ _ sized made lies

@@ -8,7 +8,6 @@ pub bounds-codes-number : goal.bounds-codes-number
 bounds-codes-number c =
     let a = codes_length c.args.given.now 0 [] c.args.placed.now (contents c.args.codes.now) c.requires.codes in
     let b = length-map c.args.codes.now (λ code. code.items) in
-    let d = c.loop-number-test.true in
     omega arith
 
 pub linked_part-requires-clause-made : goal.linked_part-requires-clause-made
@@ -28,12 +27,11 @@ loop-number-preserved c =
     let codes = contents c.args.codes.now in
     let code = c.index-codes-number.result in
     let count = codes_length given 0 [] c.args.placed.now codes c.requires.codes in
-    let lt = c.loop-number-test.true in
     let less : k < length codes = omega arith in
     let there = ap (λ v. v.items) c.index-codes-number.is ∙ sym (get_or-map (λ v. v.items) c.args.codes.now k code) in
-    let one : drop k c.args.placed.now ≡ p ∷ drop (k + 1) c.args.placed.now = at_drop_more (λ l. l) c.args.placed.now k p lt ∙ ap (λ x. x ∷ drop (k + 1) c.args.placed.now) (sym c.index-placed-number.is) in
+    let one : drop k c.args.placed.now ≡ p ∷ drop (k + 1) c.args.placed.now = at_drop_more (λ l. l) c.args.placed.now k p c.loop-number-test.true ∙ ap (λ x. x ∷ drop (k + 1) c.args.placed.now) (sym c.index-placed-number.is) in
     let two : drop k codes ≡ code.items ∷ drop (k + 1) codes = at_drop_more (λ l. l) codes k code.items less ∙ ap (λ x. x ∷ drop (k + 1) codes) (sym there) in
-    let one_format : p.format ≡ f = ap (λ v. v.format) c.index-placed-number.is ∙ c.requires.format k p lt in
+    let one_format : p.format ≡ f = ap (λ v. v.format) c.index-placed-number.is ∙ c.requires.format k p c.loop-number-test.true in
     let q : view f c.in_ok-linked.linked ≡ part_with given k p code.items = ap (λ (g : Format). view g c.in_ok-linked.linked) (sym one_format) ∙ c.in_ok-linked.ensures ∙ ap (part_with given k p) c.deref.ensures.value in
     let parts : views f c.push.new.self.items ≡ qs ++ part_with given k p code.items ∷ [] = ap (views f) c.in_ok-push.ensures.items ∙ map_push (view f) c.loop-number.parts.items c.in_ok-linked.linked ∙ ap (λ r. qs ++ r ∷ []) q in
     let rest = parts_with given (k + 1) (drop (k + 1) c.args.placed.now) (drop (k + 1) codes) in
