@@ -12,16 +12,19 @@ pub fn read_is_held()
 {}
 
 /// A write changes no other address.
+#[tactic(auto, using(crate::proofs::Accesses::others_stay))]
 pub fn others_stay()
     ensures { OthersStay }
 {}
 
 /// Bytes that are written from an address on, up to the last one at most, are there.
+#[tactic(auto, using(crate::proofs::Accesses::written_there))]
 pub fn written_is_there()
     ensures { WrittenIsThere }
 {}
 
 /// A memory stays one when a byte is written at an address.
+#[tactic(auto, using(crate::proofs::Accesses::written_is))]
 pub fn write_keeps_memory()
     ensures { WriteKeepsMemory }
 {}

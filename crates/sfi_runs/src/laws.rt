@@ -7,6 +7,7 @@ pub fn safe_turns()
 {}
 
 /// From where every run is safe, it is so after each turn.
+#[tactic(auto, using(crate::proofs::Facts::safe_stays_safe))]
 pub fn safe_stays_safe()
     ensures { SafeStaysSafe }
 {}
@@ -32,16 +33,19 @@ pub fn has_entries()
 {}
 
 /// What is asked of a sandbox whose code is in bundles.
+#[tactic(auto, using(crate::proofs::Facts::bundles_ask_the_same))]
 pub fn bundles_ask_the_same()
     ensures { BundlesAskTheSame }
 {}
 
 /// What is asked of a sandbox whose code is in words.
+#[tactic(auto, using(crate::proofs::Facts::words_ask))]
 pub fn words_ask()
     ensures { WordsAsk }
 {}
 
 /// In the first format no register has a type.
+#[tactic(auto, using(crate::proofs::Facts::first_format_asks_no_stack))]
 pub fn first_format_asks_no_stack()
     ensures { FirstFormatAsksNoStack }
 {}

@@ -73,11 +73,13 @@ pub fn gate_comes_back_elsewhere_is_unsafe()
 {}
 
 /// V10 is needed: a store on a stack pointer that was made 0 reaches address 0.
+#[tactic(auto, using(crate::proofs::Needed::stack_not_put_back_unsafe))]
 pub fn stack_not_put_back_is_unsafe()
     ensures { IsNeeded V10 0x01000000 (sandbox stack_not_put_back) }
 {}
 
 /// So it is of each rule of code in bundles, in each format that has it.
+#[tactic(auto, using(crate::proofs::Needed::each_rule))]
 pub fn each_rule_is_needed()
     ensures { EachRuleIsNeeded }
 {}
@@ -104,6 +106,7 @@ pub fn rules_of_words_are_needed()
 {}
 
 /// So it is of each rule of code in words: all but V9, which is none of these.
+#[tactic(auto, using(crate::proofs::NeededWords::each_rule_of_words))]
 pub fn each_rule_of_words_is_needed()
     ensures { EachRuleOfWordsIsNeeded }
 {}
@@ -119,11 +122,13 @@ pub fn unreached_code_is_safe()
 {}
 
 /// An accepted sandbox stores a byte.
+#[tactic(auto, using(crate::proofs::Sandboxed::accepted_and_runs))]
 pub fn sandboxed_store_is_accepted()
     ensures { IsAcceptedAndRuns (sandbox sandboxed_store) }
 {}
 
 /// So does one in words.
+#[tactic(auto, using(crate::proofs::SandboxedWords::accepted_and_runs))]
 pub fn stored_in_words_is_accepted()
     ensures { IsAcceptedAndRuns (sandbox stored_in_words) }
 {}

@@ -2,6 +2,7 @@
 ghost use Rattle.sfi_words.specs.Laws.{EntryIsGood, TurnKeeps, CleanRunsSafely, CleanCallsTyped, FindsWhatIsBroken};
 
 /// An entry is a good state.
+#[tactic(auto, using(crate::proofs::Facts::entry_is_good))]
 pub fn entry_is_good()
     ensures { EntryIsGood }
 {}
@@ -12,11 +13,13 @@ pub fn turn_keeps()
 {}
 
 /// A sandbox that breaks no rule runs safely from every entry.
+#[tactic(auto, using(crate::proofs::Facts::clean_runs_safely))]
 pub fn clean_runs_safely()
     ensures { CleanRunsSafely }
 {}
 
 /// A sandbox that breaks no rule calls with its typed registers set.
+#[tactic(auto, using(crate::proofs::Facts::clean_calls_typed))]
 pub fn clean_calls_typed()
     ensures { CleanCallsTyped }
 {}

@@ -1,5 +1,0 @@
-use Rattle.sfi_words.proofs.Facts.{clean_calls_typed}
-use Rattle.sfi_words.proofs.laws.clean_calls_typed.Goals as goal
-
-pub returns : goal.returns
-returns c = clean_calls_typed
