@@ -41,16 +41,21 @@ cd "$2"
     --stack 65536 -o sfi64.wasm "$library" 2>link.log || { cat link.log >&2 && exit 1; }
 wasm-opt --all-features --memory64-lowering sfi64.wasm -o sfi32.wasm
 wasm2c sfi32.wasm -n sfi -o sfi_wasm.c
-# wasm2c tests each access against the memory's end alone; reach.h says where the module may go.
+# wasm2c tests each access against the memory's end alone; reach.h says where the module may go, and
+# where its bytes are: a call of an access that passes neither memory nor 64 bits is shorter.
 grep -q '^  if (UNLIKELY(offset + (uint64_t)len > mem->size))' sfi_wasm.c ||
     fail "sfi_wasm.c has no such test of an access as it had"
-sed -i 's/(offset + (uint64_t)len > mem->size)/(!module_reaches(offset, len))/' sfi_wasm.c
+[ "$(grep -c 'mem, u64 addr' sfi_wasm.c)/$(grep -c '&mem->data\[addr\]' sfi_wasm.c)" = 4/2 ] ||
+    fail "sfi_wasm.c has no such accesses as it had"
+sed -i -e 's/(offset + (uint64_t)len > mem->size)/(!module_reaches(offset, len))/' \
+    -e 's/mem, u64 addr/mem, u32 addr/; s/&mem->data\[addr\]/module_byte(addr)/' sfi_wasm.c
 
 # What wasm2c wrote wants headers of C: they are picolibc's. Nothing of a C library is linked.
 cp /usr/include/wasm-rt.h .
 machine=(-march=rv32imc -mabi=ilp32)
 flags=("${machine[@]}" --specs=picolibc.specs -std=c11 -Os -mcmodel=medany -msmall-data-limit=0)
-flags+=(-ffreestanding -fno-builtin -ffunction-sections -fdata-sections -DNDEBUG -DWASM_RT_USE_STACK_DEPTH_COUNT=0)
+flags+=(-ffreestanding -fno-builtin -fno-jump-tables -ffunction-sections -fdata-sections)
+flags+=(-DNDEBUG -DWASM_RT_USE_STACK_DEPTH_COUNT=0)
 flags+=(-I. -I"$here/../../crates/sfi_c/include")
 # shellcheck disable=SC2206 # words
 flags+=(${CHECKER_FLAGS:-})

@@ -26,4 +26,9 @@ IN_EACH_ACCESS bool module_reaches(uint64_t at, uint32_t length) {
     return at == address && (lies_in(address, length, own) || lies_in(address, length, image_reach));
 }
 
+/* The byte at that address of the module. */
+IN_EACH_ACCESS uint8_t *module_byte(uint32_t address) {
+    return (uint8_t *)((uintptr_t)&checker_memory - (LINKED_STACK - MODULE_STACK) + address);
+}
+
 #endif
