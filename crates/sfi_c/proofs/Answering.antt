@@ -1,15 +1,14 @@
 -- What a verdict's status means, where the answer is right of the bytes.
-use Rattle.std.proofs.Common.{◌≡◌, ℕ, List, [], ◌∷◌, true, Some, refl, sym, ap, subst, inl, inr, ◌⊎◌}
+use Rattle.sfi_c.proofs.Prelude.{◌≡◌, ℕ, List, [], ◌∷◌, Some, refl, sym, ap, subst, inr, Finding, verdict_of}
+use Rattle.std.proofs.Common.{true, inl, ◌⊎◌}
 use Rattle.std.proofs.lemmas.List.{append-nil}
 use Rattle.sfi_image.specs.Faults.{IsFault}
 use Rattle.sfi_image.specs.Fronts.{HasFaultNumberWhateverFollows}
-use Rattle.sfi_rules.specs.declared.finding.Finding.{Finding}
 use Rattle.sfi_check.specs.declared.stream_answer.StreamAnswer.{StreamAnswer}
 use Rattle.sfi_check.specs.declared.stream_answer.StreamAnswer.TheVariants.{Accepted, Layout, Findings}
 use Rattle.sfi_check.specs.Verdict.{HasFindings}
 use Rattle.sfi_check.specs.Streams.{IsFaultOf, AreCounted, IsVerdictOn}
 use Rattle.sfi_c.specs.Verdicts.{no_image, refusal, IsAcceptance, IsRefusal, IsLayoutFault}
-use Rattle.sfi_c.specs.private.{verdict_of}
 
 pub accepted : (bytes : List ℕ) (a : StreamAnswer) → IsVerdictOn bytes true a → (verdict_of a).status ≡ 0 → IsAcceptance bytes (verdict_of a)
 accepted bytes (Accepted sandboxes bundles) v e =

@@ -2,5 +2,6 @@ mod Answering
 mod Filling
 mod Lookups
 mod Places
+mod Prelude
 mod Seeking
 mod Writing

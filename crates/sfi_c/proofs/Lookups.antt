@@ -1,12 +1,11 @@
 -- What a look-up says, and of which bytes.
-use Rattle.std.proofs.Common.{◌≡◌, ◌≢◌, ◌∙◌, ℕ, ◌<◌, List, length, Some, Result, Ok, Err, IfErr, refl, sym, ap, arith, inl, inr}
+use Rattle.sfi_c.proofs.Prelude.{◌≡◌, ◌∙◌, ℕ, ◌<◌, List, length, Some, refl, sym, ap, arith, inr, slice_get_within, Part, Found, Beyond, IsSandboxOf}
+use Rattle.std.proofs.Common.{◌≢◌, Result, Ok, Err, IfErr, inl}
 use Rattle.std.specs.Prelude.{slice_get}
-use Rattle.std.proofs.lemmas.Option.{slice_get_within}
-use Rattle.sfi_image.specs.Spelling.{Part}
 use Rattle.sfi_image.proofs.Facts.{one_image, never_both}
 use Rattle.sfi_c.specs.declared.looking.Lookup.{Lookup}
-use Rattle.sfi_c.specs.declared.looking.Lookup.TheVariants.{Found, Beyond, NoImage}
-use Rattle.sfi_c.specs.Parts.{lookup_number, IsSandboxOf, IsBeyond, IsBeyondGates}
+use Rattle.sfi_c.specs.declared.looking.Lookup.TheVariants.{NoImage}
+use Rattle.sfi_c.specs.Parts.{lookup_number, IsBeyond, IsBeyondGates}
 use Rattle.sfi_c.specs.private.{HasPart, HasGate, HasFault, IsSaid, said_by}
 
 pub is_found : (l : Lookup) → lookup_number l ≡ 0 → l ≡ Found

@@ -1,23 +1,20 @@
 -- Where a sandbox lies in the bytes of an image.
-use Rattle.std.proofs.Common.{◌≡◌, ◌∙◌, ℕ, suc, ◌+◌, ◌*◌, List, [], ◌∷◌, ◌++◌, length, refl, sym, ap, arith, append_assoc, take-append-drop, drop-cons}
-use Rattle.std.specs.Prelude.{take, drop}
+use Rattle.sfi_c.proofs.Prelude.{◌≡◌, ◌∙◌, ℕ, suc, ◌+◌, ◌*◌, List, [], ◌∷◌, ◌++◌, length, refl, sym, ap, arith, take, drop, length-append, slice_get_within, get_or_from_slice_get, Part, IsViewOf, IsSandboxOf, sandbox_offset}
+use Rattle.std.proofs.Common.{append_assoc, take-append-drop, drop-cons}
 use Rattle.std.specs.List.{flat_map}
 use Rattle.std.proofs.lemmas.Grind.{flat_map-append}
-use Rattle.std.proofs.lemmas.List.{length-append}
-use Rattle.std.proofs.lemmas.Option.{slice_get_within, get_or_from_slice_get}
 use Rattle.sfi_policy.specs.Formats.{magic}
 use Rattle.sfi_policy.specs.declared.format.Format.{Format}
 use Rattle.sfi_image.specs.declared.part.Gate.{Gate}
 use Rattle.sfi_image.specs.declared.cursor.PartView.{PartView}
 use Rattle.sfi_image.specs.declared.fields.Fields.{Fields}
-use Rattle.sfi_image.specs.Spelling.{Part, fields_of, number, fields, gate, part, spelling, format_of}
+use Rattle.sfi_image.specs.Spelling.{fields_of, number, fields, gate, part, spelling, format_of}
 use Rattle.sfi_image.specs.Fronts.{head}
 use Rattle.sfi_image.specs.Images.{IsImage}
-use Rattle.sfi_image.specs.Cursor.{IsViewOf}
 use Rattle.sfi_image.proofs.Cancelling.{length-fields, length-gate}
 use Rattle.sfi_image.proofs.Formats.{length-magic}
 use Rattle.sfi_c.specs.declared.part.SfiPart.{SfiPart}
-use Rattle.sfi_c.specs.Parts.{IsSandboxOf, LiesAt, Tells, sandbox_offset, told_at}
+use Rattle.sfi_c.specs.Parts.{LiesAt, Tells, told_at}
 
 -- ---- lengths
 

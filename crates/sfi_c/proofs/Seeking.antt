@@ -1,22 +1,21 @@
 -- A sandbox that is sought by its number, one sandbox after another.
-use Rattle.std.proofs.Common.{◌≡◌, ◌≢◌, ◌∙◌, ℕ, ◌+◌, ◌-◌, ◌<◌, ◌≤◌, List, [], ◌∷◌, ◌++◌, length, Some, Result, Ok, Err, IfOk, IfErr, refl, sym, ap, arith, zero, suc}
-use Rattle.std.specs.Prelude.{take, slice_get}
+use Rattle.sfi_c.proofs.Prelude.{◌≡◌, ◌∙◌, ℕ, ◌+◌, ◌-◌, ◌<◌, List, [], ◌∷◌, ◌++◌, length, Some, refl, sym, ap, arith, suc, take, length-append, slice_get_within, Part, IsViewOf, Found, Beyond, IsSandboxOf, sandbox_offset}
+use Rattle.std.proofs.Common.{◌≢◌, ◌≤◌, Result, Ok, Err, IfOk, IfErr, zero}
+use Rattle.std.specs.Prelude.{slice_get}
 use Rattle.std.specs.List.{flat_map}
 use Rattle.std.proofs.Math.Seq.{take-append_seam}
 use Rattle.std.proofs.lemmas.Grind.{flat_map-append}
-use Rattle.std.proofs.lemmas.List.{length-append, length_push, take-append-le}
-use Rattle.std.proofs.lemmas.Option.{slice_get_within}
+use Rattle.std.proofs.lemmas.List.{length_push, take-append-le}
 use Rattle.sfi_policy.specs.declared.format.Format.{Format}
 use Rattle.sfi_image.specs.declared.cursor.ImageCursor.{ImageCursor}
 use Rattle.sfi_image.specs.declared.cursor.PartView.{PartView}
-use Rattle.sfi_image.specs.Spelling.{Part, part}
+use Rattle.sfi_image.specs.Spelling.{part}
 use Rattle.sfi_image.specs.Fronts.{head}
 use Rattle.sfi_image.specs.Images.{IsImage}
-use Rattle.sfi_image.specs.Cursor.{HasPassed, IsViewOf, unread}
+use Rattle.sfi_image.specs.Cursor.{HasPassed, unread}
 use Rattle.sfi_image.proofs.CursorSteps.{passed_bytes}
 use Rattle.sfi_c.specs.declared.looking.Lookup.{Lookup}
-use Rattle.sfi_c.specs.declared.looking.Lookup.TheVariants.{Found, Beyond}
-use Rattle.sfi_c.specs.Parts.{IsSandboxOf, IsBeyond, sandbox_offset}
+use Rattle.sfi_c.specs.Parts.{IsBeyond}
 use Rattle.sfi_c.specs.private.{HasPart, HasFault, IsSaid, said_by}
 use Rattle.sfi_c.proofs.Lookups.{part_said}
 use Rattle.sfi_c.proofs.Places.{length-head}

@@ -1,6 +1,7 @@
 -- Elements that are written to the front of an array, each in another form.
-use Rattle.std.proofs.Common.{◌≡◌, ℕ, zero, suc, ◌+◌, ◌<◌, List, [], ◌∷◌, ◌++◌, length, refl, ap, ◌∙◌, arith, get_or}
-use Rattle.std.specs.Prelude.{map, take, drop, slice_set, min}
+use Rattle.sfi_c.proofs.Prelude.{◌≡◌, ℕ, suc, ◌+◌, ◌<◌, List, [], ◌∷◌, ◌++◌, length, refl, ap, ◌∙◌, arith, take, drop, min}
+use Rattle.std.proofs.Common.{zero, get_or}
+use Rattle.std.specs.Prelude.{map, slice_set}
 use Rattle.std.proofs.Math.Seq.{take-nil}
 use Rattle.sfi_c.specs.Arrays.{with_front}
 

@@ -1,6 +1,4 @@
-use Rattle.std.proofs.Common.{ℕ, List, [], ◌∙◌, ap, sym, subst}
-use Rattle.sfi_rules.specs.declared.finding.Finding.{Finding}
-use Rattle.sfi_c.specs.Verdicts.{with_findings}
+use Rattle.sfi_c.proofs.Prelude.{ℕ, List, [], ◌∙◌, ap, sym, subst, Finding, with_findings}
 use Rattle.sfi_c.specs.private.{Has}
 use Rattle.sfi_c.proofs.Filling.{at_first, handed_over}
 use Rattle.sfi_c.proofs.checking.fill.Goals as goal

@@ -1,5 +1,4 @@
-use Rattle.std.proofs.Common.{◌∙◌, ap, ◌∷◌, refl}
-use Rattle.sfi_c.specs.private.{verdict_of}
+use Rattle.sfi_c.proofs.Prelude.{◌∙◌, ap, ◌∷◌, refl, verdict_of}
 use Rattle.sfi_c.proofs.Answering as by
 use Rattle.sfi_c.proofs.checking.sfi_c_check.Goals as goal
 

@@ -1,7 +1,4 @@
-use Rattle.std.proofs.Common.{◌≡◌, length, arith, ◌∙◌, ap, sym}
-use Rattle.std.specs.Prelude.{min}
-use Rattle.std.proofs.lemmas.Option.{get_or_from_slice_get}
-use Rattle.sfi_c.specs.Verdicts.{finding_for_c}
+use Rattle.sfi_c.proofs.Prelude.{◌≡◌, length, arith, ◌∙◌, ap, sym, min, get_or_from_slice_get, finding_for_c}
 use Rattle.sfi_c.proofs.Writing.{written_one_more, all_written, with_is}
 use Rattle.sfi_c.proofs.finding.write_findings.Goals as goal
 

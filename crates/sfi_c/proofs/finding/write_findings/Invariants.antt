@@ -1,5 +1,4 @@
-use Rattle.std.proofs.Common.{◌≡◌, take}
-use Rattle.sfi_c.specs.Verdicts.{finding_for_c}
+use Rattle.sfi_c.proofs.Prelude.{◌≡◌, take, finding_for_c}
 use Rattle.sfi_c.proofs.Writing.{over}
 use Rattle.sfi_c.proofs.finding.write_findings.Given as goal
 

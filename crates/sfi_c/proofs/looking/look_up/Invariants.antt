@@ -1,4 +1,4 @@
-use Rattle.std.proofs.Common.{length}
+use Rattle.sfi_c.proofs.Prelude.{length}
 use Rattle.sfi_image.specs.Cursor.{unread}
 use Rattle.sfi_c.proofs.Seeking.{HasSought}
 use Rattle.sfi_c.proofs.looking.look_up.Given as goal

@@ -1,7 +1,5 @@
-use Rattle.std.proofs.Common.{sym, inr}
-use Rattle.std.proofs.lemmas.Option.{slice_get_within}
+use Rattle.sfi_c.proofs.Prelude.{sym, inr, slice_get_within, Found, Beyond}
 use Rattle.std.proofs.lemmas.Result.{err_from_is_err_and}
-use Rattle.sfi_c.specs.declared.looking.Lookup.TheVariants.{Found, Beyond}
 use Rattle.sfi_image.proofs.CursorSteps.{past}
 use Rattle.sfi_c.proofs.Lookups.{gate_said, none_said}
 use Rattle.sfi_c.proofs.looking.look_up_gate.Goals as goal

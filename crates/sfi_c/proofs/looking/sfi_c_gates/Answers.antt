@@ -1,4 +1,4 @@
-use Rattle.std.proofs.Common.{◌∙◌, sym}
+use Rattle.sfi_c.proofs.Prelude.{◌∙◌, sym}
 use Rattle.sfi_c.proofs.Lookups.{is_found, found_there}
 use Rattle.sfi_c.proofs.looking.sfi_c_gates.Goals as goal
 use Rattle.sfi_c.proofs.looking.sfi_c_gates.Goals.{in-Ok, in_default}

@@ -1,5 +1,4 @@
-use Rattle.std.proofs.Common.{◌∙◌, sym}
-use Rattle.sfi_c.specs.Parts.{sandbox_offset}
+use Rattle.sfi_c.proofs.Prelude.{◌∙◌, sym, sandbox_offset}
 use Rattle.sfi_c.proofs.Places.{tells}
 use Rattle.sfi_c.proofs.Lookups.{is_found, found_there}
 use Rattle.sfi_c.proofs.looking.sfi_c_part.Goals as goal

@@ -1,4 +1,4 @@
-use Rattle.std.proofs.Common.{◌≡◌, ◌+◌, ◌-◌, ◌*◌, refl, arith}
+use Rattle.sfi_c.proofs.Prelude.{◌≡◌, ◌+◌, ◌-◌, ◌*◌, refl, arith}
 use Rattle.sfi_c.proofs.Places.{part_is}
 use Rattle.sfi_c.proofs.part.part_told.Goals as goal
 

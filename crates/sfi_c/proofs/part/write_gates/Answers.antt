@@ -1,6 +1,4 @@
-use Rattle.std.proofs.Common.{◌≡◌, length, arith, ap, sym, ◌∙◌}
-use Rattle.std.specs.Prelude.{min}
-use Rattle.std.proofs.lemmas.Option.{get_or_from_slice_get, slice_get_within}
+use Rattle.sfi_c.proofs.Prelude.{◌≡◌, length, arith, ap, sym, ◌∙◌, min, get_or_from_slice_get, slice_get_within}
 use Rattle.sfi_image.specs.declared.fields.Fields.{Fields}
 use Rattle.sfi_c.specs.Parts.{told_gate}
 use Rattle.sfi_c.proofs.Writing.{written_one_more, all_written, with_is}

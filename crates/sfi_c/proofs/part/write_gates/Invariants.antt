@@ -1,6 +1,4 @@
-use Rattle.std.proofs.Common.{◌≡◌, take}
-use Rattle.sfi_image.specs.Spelling.{Part}
-use Rattle.sfi_image.specs.Cursor.{IsViewOf}
+use Rattle.sfi_c.proofs.Prelude.{◌≡◌, take, Part, IsViewOf}
 use Rattle.sfi_c.specs.Parts.{told_gate}
 use Rattle.sfi_c.proofs.Writing.{over}
 use Rattle.sfi_c.proofs.part.write_gates.Given as goal

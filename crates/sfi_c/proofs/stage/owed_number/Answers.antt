@@ -1,4 +1,5 @@
-use Rattle.std.proofs.Common.{◌≡◌, ◌∙◌, ℕ, ◌+◌, ◌*◌, ◌/◌, ◌%◌, ◌<◌, sym, ap₂, arith}
+use Rattle.sfi_c.proofs.Prelude.{◌≡◌, ◌∙◌, ℕ, ◌+◌, ◌*◌, ◌<◌, sym, arith}
+use Rattle.std.proofs.Common.{◌/◌, ◌%◌, ap₂}
 use Rattle.sfi_c.specs.Streams.{owed_by, owed_of}
 use Rattle.sfi_c.proofs.stage.owed_number.Goals as goal
 

@@ -1,9 +1,8 @@
-use Rattle.std.proofs.Common.{◌≡◌, ◌∙◌, List, [], ℕ, ◌-◌, ◌≤◌, ◌++◌, length, take, drop, ap, refl, arith}
-use Rattle.std.specs.Prelude.{min}
+use Rattle.sfi_c.proofs.Prelude.{◌≡◌, ◌∙◌, List, [], ℕ, ◌-◌, ◌++◌, length, take, drop, ap, refl, arith, min, with_findings}
+use Rattle.std.proofs.Common.{◌≤◌}
 use Rattle.std.proofs.Math.ListN.{drop_of_length-le}
 use Rattle.std.proofs.lemmas.List.{append-nil, length-drop, take_all}
 use Rattle.sfi_c.specs.declared.finding.SfiFinding.{SfiFinding}
-use Rattle.sfi_c.specs.Verdicts.{with_findings}
 use Rattle.sfi_c.proofs.Filling.{filled}
 use Rattle.sfi_c.proofs.finding.ArrayFindingSink.put.Goals as goal
 

@@ -1,0 +1,12 @@
+-- Words of std and of definitions that many proofs of this crate use.
+pub use Rattle.sfi_c.specs.Parts.{IsSandboxOf, sandbox_offset}
+pub use Rattle.sfi_c.specs.Verdicts.{finding_for_c, with_findings}
+pub use Rattle.sfi_c.specs.declared.looking.Lookup.TheVariants.{Beyond, Found}
+pub use Rattle.sfi_c.specs.private.{verdict_of}
+pub use Rattle.sfi_image.specs.Cursor.{IsViewOf}
+pub use Rattle.sfi_image.specs.Spelling.{Part}
+pub use Rattle.sfi_rules.specs.declared.finding.Finding.{Finding}
+pub use Rattle.std.proofs.Common.{List, Some, [], ap, arith, drop, inr, length, refl, subst, suc, sym, take, ℕ, ◌*◌, ◌++◌, ◌+◌, ◌-◌, ◌<◌, ◌∙◌, ◌∷◌, ◌≡◌}
+pub use Rattle.std.proofs.lemmas.List.{length-append}
+pub use Rattle.std.proofs.lemmas.Option.{get_or_from_slice_get, slice_get_within}
+pub use Rattle.std.specs.Prelude.{min}
