@@ -135,14 +135,3 @@ fn pages(rt: HostRuntime) {
     }
     overlaps_change_nothing(&rt, &mut Pages::new(rt.alloc()));
 }
-
-#[test]
-fn faults_have_numbers(rt: HostRuntime) {
-    for (fault, number) in [
-        (AddFault::Overlap, 1),
-        (AddFault::End, 2),
-        (AddFault::Memory, 3),
-    ] {
-        assert_eq!(rt; fault.number(), number);
-    }
-}

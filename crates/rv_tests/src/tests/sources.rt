@@ -1,6 +1,5 @@
 //! What texts of the assembler mean, where and why they are refused, and their limits.
 use rv_source::{Body, Item, Names, Source, SourcePart};
-use rv_text::TextCause::{Directive, LabelTwice, Limit, Number, Operands, Register, Word};
 use rv_text::{TextCause, TextFault, parse_source, print_instr};
 use rv_word::Instr;
 use std::alloc::{AllocError, Global};
@@ -110,10 +109,8 @@ fn meaning(alloc: Global, text: &str) -> Result<String, AllocError> {
     Ok(out)
 }
 
-// The text after a first line that begins a sandbox of 256 bytes.
-fn after_sandbox(alloc: Global, text: &str) -> Result<String, AllocError> {
-    format!(in alloc; ".sandbox 256\n{text}")
-}
+// A line that begins a sandbox of 256 bytes.
+const SANDBOX: &str = ".sandbox 256\n";
 
 // Each statement once, after `.sandbox 256`. A row is `TEXT => MEANING`: the text's lines, with `; ` between them, and of each
 // sandbox, with ` & ` between them, `data's size | gates | names | items | bytes`, as `push_part` prints it.
@@ -163,149 +160,50 @@ j b; a: .sandbox 512; a: b: => 256 | | b=Unknown a=Code(1) | 2 jal x0, 0 to 0; |
 .gate gggggggggggggggggggggggggggggggggggggggggggggggggggggggggggggggg 3; xxxxxxxxxxxxxxxxxxxxxxxxxxxxxxxxxxxxxxxxxxxxxxxxxxxxxxxxxxxxxxxx: j xxxxxxxxxxxxxxxxxxxxxxxxxxxxxxxxxxxxxxxxxxxxxxxxxxxxxxxxxxxxxxxx; la a0, gggggggggggggggggggggggggggggggggggggggggggggggggggggggggggggggg => 256 | 0=3 | gggggggggggggggggggggggggggggggggggggggggggggggggggggggggggggggg=Gate(0) xxxxxxxxxxxxxxxxxxxxxxxxxxxxxxxxxxxxxxxxxxxxxxxxxxxxxxxxxxxxxxxx=Code(0) | 3L jal x0, 0 to 1; 4 high x10 of 0; 4 low x10 of 0; |
 ";
 
-// Texts after `.sandbox 256` with a fault on line 2.
-const FAULTS: &[(&str, TextCause)] = &[
-    ("frob a0", Word),
-    ("NOP", Word),
-    (".format 1", Directive),
-    (".foo: nop", Word),
-    ("é", Word),
-    ("nop 'x", Word),
-    ("add a0, -x, a0", Word),
-    ("x: --5", Word),
-    ("5", Operands),
-    (", nop", Operands),
-    ("x: : nop", Operands),
-    (".sandbox", Operands),
-    (".sandbox 300", Number),
-    (".sandbox 128", Number),
-    (".sandbox 2097152", Number),
-    (".sandbox a", Number),
-    (".sandbox 256 256", Operands),
-    (".gate 1 1", Operands),
-    (".gate .y 1", Operands),
-    (".gate y", Operands),
-    (".gate y 6", Number),
-    (".gate y -1", Number),
-    (".gate y, 1", Number),
-    (".gate y 1 1", Operands),
-    ("x: .gate g 1", Directive),
-    (".option", Operands),
-    (".option rv64", Operands),
-    (".option rvc rvc", Operands),
-    (".option 1", Operands),
-    (".data 1", Operands),
-    (".data:", Operands),
-    (".byte 1", Directive),
-    (".zero 1", Directive),
-    (".word", Directive),
-    ("add a0, a0, q9", Register),
-    ("add a0, , a0", Register),
-    ("add a0, a0", Operands),
-    ("add a0, a0, a0, a0", Operands),
-    ("addi a0, a0, 2048", Number),
-    ("addi a0, a0, 99999999999999999999", Number),
-    ("addi a0, a0, 0X1", Operands),
-    ("slli a0, a0, 32", Number),
-    ("lw a0, 2048(a1)", Number),
-    ("lw a0, -2049(a1)", Number),
-    ("sw a0, 2048(a1)", Number),
-    ("sw a0, -2049(a1)", Number),
-    ("lw a0, (a1)", Number),
-    ("lw a0, 0 a1", Operands),
-    ("lw a0, 0(a1", Operands),
-    ("sw 5, 0(a1)", Register),
-    ("jalr a0, 2048(a1)", Number),
-    ("beq a0, a1, 8", Operands),
-    ("beq a0, a1", Operands),
-    ("jal 5, x", Register),
-    ("jal ra, -4", Operands),
-    ("lui a0, 1048576", Number),
-    ("auipc a0, -1", Number),
-    ("fence 4096, x0, x0", Number),
-    ("fence 1", Operands),
-    ("ecall 1", Operands),
-    ("ebreak x0", Operands),
-    ("nop nop", Operands),
-    ("ret ra", Operands),
-    ("li a0 5", Operands),
-    ("li a0, 4294967296", Number),
-    ("li a0, -2147483649", Number),
-    ("mv a0, 5", Register),
-    ("jr 5", Register),
-    ("j .x", Operands),
-    ("j 8", Operands),
-    ("call", Operands),
-    ("beqz a0, a0, x", Operands),
-    ("bnez x, x", Register),
-    ("la a0, 0x1800000", Operands),
-    ("la x, y", Register),
-    ("x: x: nop", LabelTwice),
-    ("x: y: x: frob", LabelTwice),
-    ("nop : x", Word),
-    ("add a0, q9 $", Register),
-    ("addi x1, x1, 2048 x", Number),
-    ("nop x # frob", Operands),
-    // Names of 65 letters.
-    (
-        "xxxxxxxxxxxxxxxxxxxxxxxxxxxxxxxxxxxxxxxxxxxxxxxxxxxxxxxxxxxxxxxxx:",
-        Limit,
-    ),
-    (
-        "j xxxxxxxxxxxxxxxxxxxxxxxxxxxxxxxxxxxxxxxxxxxxxxxxxxxxxxxxxxxxxxxxx 5",
-        Limit,
-    ),
-    (
-        ".gate xxxxxxxxxxxxxxxxxxxxxxxxxxxxxxxxxxxxxxxxxxxxxxxxxxxxxxxxxxxxxxxxx 9",
-        Limit,
-    ),
-    (
-        "la a0, xxxxxxxxxxxxxxxxxxxxxxxxxxxxxxxxxxxxxxxxxxxxxxxxxxxxxxxxxxxxxxxxx",
-        Limit,
-    ),
-];
+// Faults: each line has one, and the texts that have it, with ` | ` between them. These come after `.sandbox 256`; the names
+// of 7 have 65 letters.
+const FAULTS: &str = "
+1 Word line 2: frob a0 | NOP | .foo: nop | é | nop 'x | add a0, -x, a0 | x: --5 | nop : x
+1 Word line 3: x: add a0, a0, a0 # y; $ | .option rvc; frob
+2 Register line 2: add a0, a0, q9 | add a0, , a0 | sw 5, 0(a1) | jal 5, x | mv a0, 5 | jr 5 | bnez x, x | la x, y | add a0, q9 $
+3 Number line 2: .sandbox 300 | .sandbox 128 | .sandbox 2097152 | .sandbox a | .gate y 6 | .gate y -1 | .gate y, 1 | addi a0, a0, 2048
+3 Number line 2: addi a0, a0, 99999999999999999999 | slli a0, a0, 32 | lw a0, 2048(a1) | lw a0, -2049(a1) | sw a0, 2048(a1) | sw a0, -2049(a1)
+3 Number line 2: lw a0, (a1) | jalr a0, 2048(a1) | lui a0, 1048576 | auipc a0, -1 | fence 4096, x0, x0 | li a0, 4294967296 | li a0, -2147483649
+3 Number line 2: addi x1, x1, 2048 x
+3 Number line 3: .data; .byte 256 | .data; .byte -129 | .data; .half 65536 | .data; .half -32769 | .data; .word 4294967296
+3 Number line 3: .data; .word -2147483649 | .data; .zero 1048577
+4 Operands line 2: 5 | , nop | x: : nop | .sandbox | .sandbox 256 256 | .gate 1 1 | .gate .y 1 | .gate y | .gate y 1 1 | .option | .option rv64
+4 Operands line 2: .option rvc rvc | .option 1 | .data 1 | .data: | add a0, a0 | add a0, a0, a0, a0 | addi a0, a0, 0X1 | lw a0, 0 a1
+4 Operands line 2: lw a0, 0(a1 | beq a0, a1, 8 | beq a0, a1 | jal ra, -4 | fence 1 | ecall 1 | ebreak x0 | nop nop | ret ra | li a0 5 | j .x
+4 Operands line 2: j 8 | call | beqz a0, a0, x | la a0, 0x1800000 | nop x # frob
+4 Operands line 3: .data; .word 1, | .data; .zero 257 1
+5 LabelTwice line 2: x: x: nop | x: y: x: frob
+5 LabelTwice line 3: .gate g 1; .gate g 9 | .gate g 1; g: nop
+5 LabelTwice line 4: x: nop; .data; x:
+6 Directive line 2: .format 1 | x: .gate g 1 | .byte 1 | .zero 1 | .word
+6 Directive line 3: .data; nop | x: .data; nop | .data; .data | .data; .option rvc | nop; .gate g 1
+6 Directive line 4: .data; x:; .gate g 1
+7 Limit line 2: xxxxxxxxxxxxxxxxxxxxxxxxxxxxxxxxxxxxxxxxxxxxxxxxxxxxxxxxxxxxxxxxx:
+7 Limit line 2: j xxxxxxxxxxxxxxxxxxxxxxxxxxxxxxxxxxxxxxxxxxxxxxxxxxxxxxxxxxxxxxxxx 5
+7 Limit line 2: .gate xxxxxxxxxxxxxxxxxxxxxxxxxxxxxxxxxxxxxxxxxxxxxxxxxxxxxxxxxxxxxxxxx 9
+7 Limit line 2: la a0, xxxxxxxxxxxxxxxxxxxxxxxxxxxxxxxxxxxxxxxxxxxxxxxxxxxxxxxxxxxxxxxxx
+7 Limit line 4: .data; .zero 256; .byte 0
+";
 
-// Whole texts, and the line and cause of their fault.
-const WHOLE_FAULTS: &[(&str, u32, TextCause)] = &[
-    ("", 1, Directive),
-    ("# nothing\n\n", 1, Directive),
-    ("nop", 1, Directive),
-    ("x:", 1, Directive),
-    (".gate g 1", 1, Directive),
-    (".option rvc", 1, Directive),
-    (".data", 1, Directive),
-    (".byte 300", 1, Directive),
-    ("nop 5", 1, Directive),
-    ("\nfrob", 2, Word),
-    (".sandbox 256\nx: add a0, a0, a0 # y\n$", 3, Word),
-    (".sandbox 256\n.option rvc\nfrob", 3, Word),
-    (".sandbox 300", 1, Number),
-    (".sandbox 256\n.data\nnop", 3, Directive),
-    (".sandbox 256\nx: .data\nnop", 3, Directive),
-    (".sandbox 256\n.data\n.data", 3, Directive),
-    (".sandbox 256\n.data\n.option rvc", 3, Directive),
-    (".sandbox 256\n.data\nx:\n.gate g 1", 4, Directive),
-    (".sandbox 256\nnop\n.gate g 1", 3, Directive),
-    (".sandbox 256\n.gate g 1\n.gate g 9", 3, LabelTwice),
-    (".sandbox 256\n.gate g 1\ng: nop", 3, LabelTwice),
-    (".sandbox 256\nx: nop\n.data\nx:", 4, LabelTwice),
-    (".sandbox 256\n.data\n.byte 256", 3, Number),
-    (".sandbox 256\n.data\n.byte -129", 3, Number),
-    (".sandbox 256\n.data\n.half 65536", 3, Number),
-    (".sandbox 256\n.data\n.half -32769", 3, Number),
-    (".sandbox 256\n.data\n.word 4294967296", 3, Number),
-    (".sandbox 256\n.data\n.word -2147483649", 3, Number),
-    (".sandbox 256\n.data\n.word 1,", 3, Operands),
-    (".sandbox 256\n.data\n.zero 1048577", 3, Number),
-    (".sandbox 256\n.data\n.zero 256\n.byte 0", 4, Limit),
-    (".sandbox 256\n.data\n.zero 257 1", 3, Operands),
-];
+// The same of whole texts.
+const WHOLE_FAULTS: &str = "
+1 Word line 2: ; frob
+3 Number line 1: .sandbox 300
+6 Directive line 1:  | # nothing; ;  | nop | x: | .gate g 1 | .option rvc | .data | .byte 300 | nop 5
+";
 
-// The lines of a row's text, after one that begins a sandbox.
-fn lines_of(alloc: Global, text: &str) -> Result<String, AllocError> {
-    let mut lines = String::from_str(alloc, ".sandbox 256")?;
-    for line in text.split("; ") {
-        lines.push_str("\n")?;
+// A row's text after the first line, which begins a sandbox, or isn't there.
+fn lines_of(alloc: Global, first: &str, text: &str) -> Result<String, AllocError> {
+    let mut lines = String::from_str(alloc, first)?;
+    for (number, line) in text.split("; ").enumerate() {
+        if number > 0 {
+            lines.push_str("\n")?;
+        }
         lines.push_str(line)?;
     }
     Ok(lines)
@@ -314,7 +212,7 @@ fn lines_of(alloc: Global, text: &str) -> Result<String, AllocError> {
 // The row's text means what the row says.
 fn is_meant(rt: &impl Abort, alloc: Global, row: &str) -> Result<(), AllocError> {
     let (text, wanted) = row.split_once(" => ").unwrap_or((row, ""));
-    let meant = meaning(alloc, lines_of(alloc, text)?.as_str())?;
+    let meant = meaning(alloc, lines_of(alloc, SANDBOX, text)?.as_str())?;
     assert!(rt; meant.as_str().lines().eq(wanted.split(" & ")), "{row}");
     Ok(())
 }
@@ -327,29 +225,26 @@ fn sources(rt: HostRuntime) -> Result<(), Fail> {
     Ok(())
 }
 
-// The text has this fault.
-fn is_refused(rt: &impl Abort, alloc: Global, text: &str, line: u32, cause: TextCause) {
-    match parse_source(alloc, text) {
-        Ok(_) => panic!(rt; "{text}: no fault"),
-        Err(fault) => assert_eq!(rt; fault, TextFault { line, cause }, "{text}"),
-    }
-}
-
-#[test]
-fn source_faults(rt: HostRuntime) -> Result<(), Fail> {
-    let alloc = rt.alloc();
-    for (text, cause) in FAULTS {
-        let whole = after_sandbox(alloc, text)?;
-        is_refused(&rt, alloc, whole.as_str(), 2, *cause);
+// Each of the row's texts, after the first line, has the row's fault.
+fn are_refused(rt: &impl Abort, alloc: Global, first: &str, row: &str) -> Result<(), AllocError> {
+    let (fault, texts) = row.split_once(": ").unwrap_or((row, ""));
+    let wanted = format!(in alloc; "source fault {fault}\n")?;
+    for text in texts.split(" | ") {
+        let meant = meaning(alloc, lines_of(alloc, first, text)?.as_str())?;
+        assert_eq!(rt; meant.as_str(), wanted.as_str(), "{text}");
     }
     Ok(())
 }
 
 #[test]
-fn faults_of_whole_sources(rt: HostRuntime) {
-    for (text, line, cause) in WHOLE_FAULTS {
-        is_refused(&rt, rt.alloc(), text, *line, *cause);
+fn source_faults(rt: HostRuntime) -> Result<(), Fail> {
+    for row in FAULTS.lines().skip(1) {
+        are_refused(&rt, rt.alloc(), SANDBOX, row)?;
     }
+    for row in WHOLE_FAULTS.lines().skip(1) {
+        are_refused(&rt, rt.alloc(), "", row)?;
+    }
+    Ok(())
 }
 
 // ---- texts at the limits of the assembler, and one step beyond
@@ -368,14 +263,18 @@ fn doubled(alloc: Global, text: &str, times: u32) -> Result<String, AllocError> 
 fn is_full(rt: &impl Abort, alloc: Global, text: &str, end: &str, line: u32) -> Result<(), Fail> {
     assert!(rt; parse_source(alloc, text).is_ok(), "line {line}");
     let more = format!(in alloc; "{text}{end}")?;
-    is_refused(rt, alloc, more.as_str(), line, Limit);
+    let cause = TextCause::Limit;
+    assert_eq!(rt;
+        parse_source(alloc, more.as_str()).err(),
+        Some(TextFault { line, cause })
+    );
     Ok(())
 }
 
 #[test]
 fn gates(rt: HostRuntime) -> Result<(), Fail> {
     let alloc = rt.alloc();
-    let mut text = String::from_str(alloc, ".sandbox 256\n")?;
+    let mut text = String::from_str(alloc, SANDBOX)?;
     for k in 0..64 {
         text.push_str(format!(in alloc; ".gate g{k} 1\n")?.as_str())?;
     }
@@ -386,9 +285,9 @@ fn gates(rt: HostRuntime) -> Result<(), Fail> {
 #[test]
 fn instructions(rt: HostRuntime) -> Result<(), Fail> {
     let alloc = rt.alloc();
-    let full = after_sandbox(alloc, doubled(alloc, "nop\n", 16)?.as_str())?;
+    let full = lines_of(alloc, SANDBOX, doubled(alloc, "nop\n", 16)?.as_str())?;
     is_full(&rt, alloc, full.as_str(), "nop", 65538)?;
-    let pairs = after_sandbox(alloc, doubled(alloc, "la a0, x\n", 15)?.as_str())?;
+    let pairs = lines_of(alloc, SANDBOX, doubled(alloc, "la a0, x\n", 15)?.as_str())?;
     is_full(&rt, alloc, pairs.as_str(), "nop", 32770)
 }
 

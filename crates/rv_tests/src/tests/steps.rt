@@ -1,5 +1,6 @@
 //! Steps by the manual's words, over each form of memory.
 use super::memories::{Call, are_answered, holds};
+use Cause::{Break, Fetch, Illegal, Load, Store};
 use rv_mem::{Memory, Pages, Segments, Width};
 use rv_step::{Cause, Cpu, Outcome, after_call, step};
 use rv_word::Reg;
@@ -26,114 +27,66 @@ struct Row {
     after: (u8, u32),
 }
 
-/// A step at the front of the code that goes on there.
-fn goes_on(
-    name: &'static str,
-    word: u32,
-    before: [(u8, u32); 2],
-    next: u32,
-    after: (u8, u32),
-) -> Row {
+/// A step at the front of the code that goes on there, with one register before and one after it.
+fn goes_on(name: &'static str, word: u32, before: (u8, u32), next: u32, after: (u8, u32)) -> Row {
     Row {
         name,
         pc: CODE,
         width: Width::Four,
         word,
-        before,
+        before: [before, (0, 0)],
         outcome: Outcome::Next,
         next,
         after,
     }
 }
 
+/// A quotient, a remainder or a product of x11 and x12.
+fn computes(name: &'static str, word: u32, x11: u32, x12: u32, x10: u32) -> Row {
+    Row {
+        before: [(11, x11), (12, x12)],
+        ..goes_on(name, word, (0, 0), CODE + 4, (10, x10))
+    }
+}
+
 /// A step at the front of the code with this x31 that traps, and changes neither pc nor x10.
 fn traps(name: &'static str, word: u32, x31: u32, cause: Cause, address: u32) -> Row {
     Row {
-        name,
-        pc: CODE,
-        width: Width::Four,
-        word,
         before: [(31, x31), (11, 0xffff_ffff)],
         outcome: Outcome::Trap(cause, address),
-        next: CODE,
-        after: (10, 0),
+        ..goes_on(name, word, (0, 0), CODE, (10, 0))
     }
 }
 
 /// A trap at the last two bytes of the code.
 fn traps_at_the_end(name: &'static str, halfword: u32, cause: Cause) -> Row {
     Row {
-        name,
         pc: LAST,
         width: Width::Two,
-        word: halfword,
-        before: [(31, 0), (11, 0)],
         outcome: Outcome::Trap(cause, LAST),
-        next: LAST,
-        after: (10, 0),
+        ..goes_on(name, halfword, (0, 0), LAST, (10, 0))
     }
-}
-
-/// A quotient, a remainder or a product of x11 and x12.
-fn computes(name: &'static str, word: u32, x11: u32, x12: u32, x10: u32) -> Row {
-    goes_on(name, word, [(11, x11), (12, x12)], CODE + 4, (10, x10))
 }
 
 /// The words are an assembler's. The data are the bytes 1, 2, 3 and 4, and zeros.
 fn rows() -> [Row; 16] {
     let least = 0x8000_0000;
-    let none = [(10, 0), (11, 0)];
+    let (x1, x31, x10) = ((1, CODE + 16), (31, DATA), (10, 0x0403_0201));
     [
         Row {
             width: Width::Two,
-            ..goes_on("c.jal 16", 0x2801, none, 0x0100_0010, (1, 0x0100_0002))
+            ..goes_on("c.jal 16", 0x2801, (10, 0), CODE + 16, (1, CODE + 2))
         },
-        goes_on(
-            "jalr x1, 3(x1)",
-            0x0030_80e7,
-            [(1, 0x0100_0010), (11, 0)],
-            0x0100_0012,
-            (1, 0x0100_0004),
-        ),
-        traps_at_the_end("half of ecall", 0x0073, Cause::Fetch),
-        traps_at_the_end("longer than 32 bits", 0x001f, Cause::Illegal),
-        traps("ebreak", 0x0010_0073, 0, Cause::Break, CODE),
-        traps("lw x0, 0(x0)", 0x0000_2003, 0, Cause::Load, 0),
-        traps(
-            "sw x11, 2047(x31)",
-            0x7ebf_afa3,
-            0x0180_00ff,
-            Cause::Store,
-            0x0180_08fe,
-        ),
-        traps(
-            "sw x11, 0(x31)",
-            0x00bf_a023,
-            0x0180_00fe,
-            Cause::Store,
-            0x0180_00fe,
-        ),
-        traps(
-            "lb x10, -2048(x31)",
-            0x800f_8503,
-            DATA,
-            Cause::Load,
-            0x017f_f800,
-        ),
-        goes_on(
-            "lw x0, 0(x31)",
-            0x000f_a003,
-            [(31, DATA), (11, 0)],
-            CODE + 4,
-            (0, 0),
-        ),
-        goes_on(
-            "lw x10, 0(x31)",
-            0x000f_a503,
-            [(31, DATA), (11, 0)],
-            CODE + 4,
-            (10, 0x0403_0201),
-        ),
+        goes_on("jalr x1, 3(x1)", 0x0030_80e7, x1, CODE + 18, (1, CODE + 4)),
+        traps_at_the_end("half of ecall", 0x0073, Fetch),
+        traps_at_the_end("longer than 32 bits", 0x001f, Illegal),
+        traps("ebreak", 0x0010_0073, 0, Break, CODE),
+        traps("lw x0, 0(x0)", 0x0000_2003, 0, Load, 0),
+        traps("sw 2047(x31)", 0x7ebf_afa3, DATA + 255, Store, DATA + 0x8fe),
+        traps("sw 0(x31)", 0x00bf_a023, DATA + 254, Store, DATA + 254),
+        traps("lb -2048(x31)", 0x800f_8503, DATA, Load, DATA - 2048),
+        goes_on("lw x0, 0(x31)", 0x000f_a003, x31, CODE + 4, (0, 0)),
+        goes_on("lw x10, 0(x31)", 0x000f_a503, x31, CODE + 4, x10),
         computes("div by 0", 0x02c5_c533, 7, 0, u32::MAX),
         computes("rem by 0", 0x02c5_e533, 7, 0, 7),
         computes("div by -1", 0x02c5_c533, least, u32::MAX, least),

@@ -78,100 +78,43 @@ fn ways_to_write_an_instruction(rt: HostRuntime) {
     }
 }
 
-const REGISTERS: &[(&str, u8)] = &[
-    ("jal zero, 0", 0),
-    ("jal ra, 0", 1),
-    ("jal sp, 0", 2),
-    ("jal gp, 0", 3),
-    ("jal tp, 0", 4),
-    ("jal t0, 0", 5),
-    ("jal t2, 0", 7),
-    ("jal s0, 0", 8),
-    ("jal fp, 0", 8),
-    ("jal s1, 0", 9),
-    ("jal a0, 0", 10),
-    ("jal a7, 0", 17),
-    ("jal s2, 0", 18),
-    ("jal s11, 0", 27),
-    ("jal t3, 0", 28),
-    ("jal t6, 0", 31),
-];
+// The names of the registers, from x0 on.
+const NAMES: &str =
+    "zero ra sp gp tp t0 t1 t2 s0 s1 a0 a1 a2 a3 a4 a5 a6 a7 s2 s3 s4 s5 s6 s7 s8 s9 s10 s11 t3 t4 t5 t6";
 
 #[test]
-fn register_names(rt: HostRuntime) {
-    for (text, number) in REGISTERS {
-        let written = Reg::new(*number).filter(|r| r.number() != 0);
-        assert!(rt; instr(&rt, text).writes() == written, "{text}");
+fn register_names(rt: HostRuntime) -> Result<(), Fail> {
+    for (number, name) in (0..32u8).zip(NAMES.split(' ')) {
+        let text = format!(in rt.alloc(); "jal {name}, 0")?;
+        let written = Reg::new(number).filter(|r| r.number() != 0);
+        assert!(rt; instr(&rt, text.as_str()).writes() == written, "{name}");
     }
+    Ok(())
 }
 
-const CAUSES: &[(&str, TextCause)] = &[
-    ("addi x1, x1, 2048", TextCause::Number),
-    ("addi x1, x1, 2048 x", TextCause::Number),
-    ("addi x1, x1, -2049", TextCause::Number),
-    ("lw x10, 2048(x11)", TextCause::Number),
-    ("lw x10, -2049(x11)", TextCause::Number),
-    ("sw x10, 2048(x11)", TextCause::Number),
-    ("sw x10, -2049(x11)", TextCause::Number),
-    ("jalr x1, 2048(x5)", TextCause::Number),
-    ("jalr x1, -2049(x5)", TextCause::Number),
-    ("beq x8, x0, 3", TextCause::Number),
-    ("beq x8, x0, 4096", TextCause::Number),
-    ("beq x8, x0, -4098", TextCause::Number),
-    ("jal x1, 1048576", TextCause::Number),
-    ("jal x1, -1048578", TextCause::Number),
-    ("slli x1, x1, 32", TextCause::Number),
-    ("lui x1, -1", TextCause::Number),
-    ("lui x1, 1048576", TextCause::Number),
-    ("fence 4096, x0, x0", TextCause::Number),
-    ("addi x1, x1, 99999999999999999999999", TextCause::Number),
-    ("lw a0, (a1)", TextCause::Number),
-    ("addi x1, x1, 0X1", TextCause::Operands),
-    ("addi x1, x1, 0xg", TextCause::Operands),
-    ("addi x1, x1, -x", TextCause::Word),
-    ("addi x1, x1, --5", TextCause::Word),
-    ("add x1, x2", TextCause::Operands),
-    ("add x1 x2, x3", TextCause::Operands),
-    ("ecall x1", TextCause::Operands),
-    ("", TextCause::Operands),
-    (" \t\r", TextCause::Operands),
-    ("5", TextCause::Operands),
-    (", nop", TextCause::Operands),
-    ("li x1, 1", TextCause::Word),
-    ("nop", TextCause::Word),
-    (".word 1", TextCause::Word),
-    ("ADD x1, x2, x3", TextCause::Word),
-    ("ecall # trap", TextCause::Word),
-    ("ecall\n", TextCause::Word),
-    ("é", TextCause::Word),
-    ("add x1, q9 $", TextCause::Register),
-    ("add x1, x2, x32", TextCause::Register),
-    ("add a0, , a0", TextCause::Register),
-    ("add x01, x2, x3", TextCause::Register),
-];
+// Each line has a cause, and the texts that are refused for it, with ` | ` between them.
+const CAUSES: &str = "
+Number: addi x1, x1, 2048 | addi x1, x1, 2048 x | addi x1, x1, -2049 | lw x10, 2048(x11) | lw x10, -2049(x11) | sw x10, 2048(x11)
+Number: sw x10, -2049(x11) | jalr x1, 2048(x5) | jalr x1, -2049(x5) | beq x8, x0, 3 | beq x8, x0, 4096 | beq x8, x0, -4098 | jal x1, 1048576
+Number: jal x1, -1048578 | slli x1, x1, 32 | lui x1, -1 | lui x1, 1048576 | fence 4096, x0, x0 | addi x1, x1, 99999999999999999999999
+Number: lw a0, (a1)
+Operands: addi x1, x1, 0X1 | addi x1, x1, 0xg | add x1, x2 | add x1 x2, x3 | ecall x1 |  |  \t\r | 5 | , nop
+Word: addi x1, x1, -x | addi x1, x1, --5 | li x1, 1 | nop | .word 1 | ADD x1, x2, x3 | ecall # trap | é
+Register: add x1, q9 $ | add x1, x2, x32 | add a0, , a0 | add x01, x2, x3
+";
 
 #[test]
-fn causes(rt: HostRuntime) {
-    for (text, cause) in CAUSES {
-        assert_eq!(rt; parse_instr(text).err(), Some(*cause), "{text}");
+fn causes(rt: HostRuntime) -> Result<(), Fail> {
+    for row in CAUSES.lines().skip(1) {
+        let (wanted, texts) = row.split_once(": ").unwrap_or((row, ""));
+        for text in texts.split(" | ") {
+            let Err(cause) = parse_instr(text) else {
+                return Err(Fail::new(text));
+            };
+            let said = format!(in rt.alloc(); "{cause}")?;
+            assert_eq!(rt; said.as_str(), wanted, "{text}");
+        }
     }
-}
-
-#[test]
-fn numbers_of_causes(rt: HostRuntime) {
-    let causes = [
-        TextCause::Word,
-        TextCause::Register,
-        TextCause::Number,
-        TextCause::Operands,
-        TextCause::LabelTwice,
-        TextCause::Directive,
-        TextCause::Limit,
-        TextCause::Memory,
-    ];
-    let mut number = 1;
-    for cause in causes {
-        assert_eq!(rt; cause.number(), number);
-        number += 1;
-    }
+    assert_eq!(rt; parse_instr("ecall\n").err(), Some(TextCause::Word));
+    Ok(())
 }
