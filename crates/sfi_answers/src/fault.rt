@@ -7,12 +7,12 @@ ghost use Rattle.sfi_answers.specs.Answers.{StopsBuild, stop_of};
 ghost use Rattle.sfi_answers.specs.declared.fault.Stop.TheVariants.{Memory};
 
 use crate::verdict::Answer;
-use rv_text::{TextCause, TextFault};
 use sfi_build::BuildFault;
 use sfi_image::{ImageFault, LayoutFault};
 use sfi_io::{HexFault, HexStop};
 use sfi_link::LinkFault;
 use sfi_rewrite::RewriteFault;
+use sfi_text::{TextCause, TextFault};
 use std::alloc::{AllocError, Global};
 
 /// The line that names a text above its limit.

@@ -2,7 +2,7 @@
 use Rattle.sfi_link.proofs.Prelude.{◌≡◌, ℕ, List, [], ◌∷◌, ap, ◌∙◌, sym, subst, ◌⊎◌, inl, inr, Vec, Global, Result, Ok, Err, IfOk, IfErr, Sandbox, Placement, Place, IsLinkFault}
 use Rattle.std.specs.Prelude.{◌≢◌}
 use Rattle.std.proofs.lemmas.Result.{IfOk-weaker}
-use Rattle.rv_text.specs.Texts.{MeansSource}
+use Rattle.sfi_text.specs.Texts.{MeansSource}
 use Rattle.sfi_link.specs.Building.{IsLinkedImage, ArePlacements, IsBuild}
 use Rattle.sfi_link.specs.Standing.{ImageRunsAs}
 use Rattle.sfi_build.specs.Texts.{IsTextBuild, IsTextMap, IsCleanImage, IsBuildFault, IsWantOfMemory, AnswersBuild, AnswersBuildFault}
@@ -11,7 +11,7 @@ use Rattle.sfi_build.specs.declared.build_fault.BuildFault.TheVariants.{Text, Re
 use Rattle.sfi_rewrite.specs.SourceFaults.{IsSourceFault}
 use Rattle.sfi_rewrite.specs.Rewriting.{AreRewritten}
 use Rattle.sfi_rewrite.specs.declared.fault.RewriteFault.{RewriteFault}
-use Rattle.rv_text.proofs.Facts as texts
+use Rattle.sfi_text.proofs.Facts as texts
 use Rattle.sfi_rewrite.proofs.Facts as sources
 use Rattle.sfi_link.proofs.Linking.{one_bytes, never}
 use Rattle.sfi_link.proofs.OneLinking.{one_fault}

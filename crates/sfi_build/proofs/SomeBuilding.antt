@@ -2,7 +2,7 @@
 use Rattle.std.proofs.Common.{inl, inr}
 use Rattle.sfi_build.specs.Laws.{SomeBuilding}
 use Rattle.sfi_build.specs.declared.build_fault.BuildFault.TheVariants.{Text, Rewrite, Link}
-use Rattle.rv_text.proofs.Facts.{some_source, sources_are_right}
+use Rattle.sfi_text.proofs.Facts.{some_source, sources_are_right}
 use Rattle.sfi_rewrite.proofs.Facts.{some_rewriting, rewritten_is_placed}
 use Rattle.sfi_link.proofs.SomeLinking.{some_linking}
 

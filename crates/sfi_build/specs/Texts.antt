@@ -1,9 +1,9 @@
 -- What the build and the map of a text are, and why a text has none.
 use Rattle.std.specs.Prelude.{◌≡◌, ◌⊎◌, ℕ, List, [], Result, Ok, Err, Vec}
 use Rattle.std.specs.Global.{Global}
-use Rattle.rv_text.specs.Causes.{memory}
-use Rattle.rv_source.specs.Source.{Sandbox}
-use Rattle.rv_text.specs.Texts.{MeansSource, IsFault}
+use Rattle.sfi_text.specs.Causes.{memory}
+use Rattle.sfi_source.specs.Source.{Sandbox}
+use Rattle.sfi_text.specs.Texts.{MeansSource, IsFault}
 use Rattle.sfi_image.specs.Spelling.{Part}
 use Rattle.sfi_policy.specs.declared.place.Place.{Place}
 use Rattle.sfi_image.specs.Images.{IsImage}

@@ -2,9 +2,9 @@
 ghost use Rattle.std.specs.Prelude.{◌≡◌};
 ghost use Rattle.sfi_build.specs.declared.build_fault.BuildFault.TheVariants.{Text, Rewrite, Link};
 
-use rv_text::TextFault;
 use sfi_link::LinkFault;
 use sfi_rewrite::RewriteFault;
+use sfi_text::TextFault;
 use thiserror::Error;
 
 /// Why a text isn't built: the first of its reading, its rewriting and its linking that fails. Its

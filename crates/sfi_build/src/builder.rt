@@ -1,8 +1,8 @@
 //! From a text to an image, and to the addresses of its names.
 ghost use Rattle.std.specs.Prelude.{◌≡◌, ◌≢◌, ◌⊎◌, ◌<◌, ℕ, List, [], length, Err, IfOk, IfErr};
-ghost use Rattle.rv_source.specs.Source.{Sandbox};
-ghost use Rattle.rv_text.specs.Texts.{MeansSource, most_bytes, first_line};
-ghost use Rattle.rv_text.specs.declared.cause.TextCause.TheVariants.{Limit};
+ghost use Rattle.sfi_source.specs.Source.{Sandbox};
+ghost use Rattle.sfi_text.specs.Texts.{MeansSource, most_bytes, first_line};
+ghost use Rattle.sfi_text.specs.declared.cause.TextCause.TheVariants.{Limit};
 ghost use Rattle.sfi_build.specs.declared.build_fault.BuildFault.{BuildFault};
 ghost use Rattle.sfi_build.specs.declared.build_fault.BuildFault.TheVariants.{Text, Link};
 ghost use Rattle.sfi_link.specs.declared.fault.LinkFault.TheVariants as fault;
@@ -12,10 +12,10 @@ ghost use Rattle.sfi_link.specs.Standing.{ImageRunsAs};
 ghost use Rattle.sfi_build.specs.Texts.{IsTextBuild, IsTextMap, IsCleanImage, IsBuildFault, IsWantOfMemory, AnswersBuild, AnswersBuildFault};
 
 use crate::build_fault::BuildFault;
-use rv_text::parse_source;
 use sfi_link::{NameAddress, link_at, names_of};
 use sfi_policy::Place;
 use sfi_rewrite::rewrite;
+use sfi_text::parse_source;
 use std::alloc::Global;
 
 // The build of the text, or its fault.

@@ -1,7 +1,7 @@
 -- A bundle of whole expansions breaks no rule.
 use Rattle.sfi_link.proofs.Prelude.{◌≡◌, ℕ, zero, suc, ◌+◌, ◌^◌, ◌<◌, ◌≤◌, List, [], ◌∷◌, ◌++◌, length, Option, Some, None, Bool, true, false, refl, sym, ap, ◌∙◌, subst, arith, append_assoc, inl, inr, replicate, ℤ, pos, negsuc, ◌-ℤ◌, ◌==◌, ◌&&◌, ◌||◌, not, MatchBool, Addi, Instr, Op, OpImm, Load, Store, Branch, Jal, Jalr, Lui, Fence, Ecall, Ebreak, has_stack, is_stack, IsBody, Piece, upper, lower, Slot, Wide, Short, Jump, Upper, Lower, PlacedName, slot_size, size_of, c_nop, AreWhole, nothing, padding, Bases, target_at, address_at, with_offset, c_ebreak, resolved, made_of, AreSlots}
-use Rattle.rv_source.specs.declared.item.Body.{Body}
-use Rattle.rv_source.specs.declared.item.Body.TheVariants.{Plain, To, High, Low}
+use Rattle.sfi_source.specs.declared.item.Body.{Body}
+use Rattle.sfi_source.specs.declared.item.Body.TheVariants.{Plain, To, High, Low}
 use Rattle.rv_word.specs.Numbers.{offset_by}
 use Rattle.rv_word.specs.Writes.{destination, is_register, writes_register}
 use Rattle.rv_word.specs.declared.instr.RegOp.TheVariants.{And, Or}

@@ -1,7 +1,7 @@
 -- No rule is broken at the place of an instruction.
 use Rattle.sfi_link.proofs.Prelude.{◌≡◌, ℕ, ◌+◌, ◌^◌, ◌<◌, List, [], ◌∷◌, ◌++◌, length, take, drop, Option, Some, None, Bool, true, false, refl, sym, ap, ◌∙◌, subst, arith, length-append, ℤ, pos, negsuc, ◌+ℤ◌, ◌-ℤ◌, ◌==◌, ◌&&◌, ◌||◌, not, and_right, or_parts, ints, Instr, Op, OpImm, Load, Branch, Jal, Jalr, Lui, Auipc, Fence, Ebreak, Spells, expansion, has_stack, is_stack, IsBody, Piece, IsReading, rest_of, is_masking, is_placing, Slot, Wide, Short, PlacedName, slot_size, size_of, Bases, target_at, with_offset, resolved, made_of, IsSlot, ◌≤◌, length-take, ⊎_elim, IsLongestReading}
 use Rattle.rv_comp.specs.declared.form.Form16.TheVariants.{CEbreak}
-use Rattle.rv_source.specs.declared.item.Body.TheVariants.{To}
+use Rattle.sfi_source.specs.declared.item.Body.TheVariants.{To}
 use Rattle.rv_word.specs.Numbers.{modulo, offset_by}
 use Rattle.rv_word.specs.Writes.{writes_register}
 use Rattle.rv_word.specs.declared.instr.RegOp.TheVariants.{And, Or}

@@ -15,8 +15,8 @@ pub use Rattle.rv_word.specs.declared.instr.Instr.{Instr}
 pub use Rattle.rv_word.specs.declared.instr.Instr.TheVariants.{Op, OpImm, Load, Store, Branch, Jal, Jalr, Lui, Fence, Ecall, Ebreak, Auipc}
 pub use Rattle.rv_comp.specs.Fronts.{Spells}
 pub use Rattle.rv_comp.specs.Table.{expansion, row, allowed}
-pub use Rattle.rv_source.specs.Halves.{upper, lower}
-pub use Rattle.rv_source.specs.Source.{Sandbox, IsBody, IsSandbox}
+pub use Rattle.sfi_source.specs.Halves.{upper, lower}
+pub use Rattle.sfi_source.specs.Source.{Sandbox, IsBody, IsSandbox}
 pub use Rattle.sfi_policy.specs.Formats.{has_stack, is_stack, code_most}
 pub use Rattle.sfi_pairs.specs.Pairs.{is_masking, is_placing, stub}
 unfoldable pub use Rattle.sfi_link.specs.Stubs.{stub_of}

@@ -9,9 +9,9 @@ use Rattle.rv_word.specs.Writes.{destination}
 use Rattle.rv_word.specs.declared.instr.RegOp.TheVariants.{Add, And, Or}
 use Rattle.rv_word.specs.declared.instr.LoadKind.{LoadKind}
 use Rattle.rv_word.specs.declared.instr.StoreWidth.{StoreWidth}
-use Rattle.rv_source.specs.declared.item.Body.{Body}
-use Rattle.rv_source.specs.declared.item.Body.TheVariants.{Plain, To, High, Low}
-use Rattle.rv_source.specs.declared.item.Item.{Item}
+use Rattle.sfi_source.specs.declared.item.Body.{Body}
+use Rattle.sfi_source.specs.declared.item.Body.TheVariants.{Plain, To, High, Low}
+use Rattle.sfi_source.specs.declared.item.Item.{Item}
 use Rattle.sfi_policy.specs.declared.format.Format.TheVariants.{Sfiw}
 use Rattle.sfi_policy.specs.Registers.{is_data_register}
 use Rattle.sfi_rewrite.specs.Expansion.{IsAlone}

@@ -4,7 +4,7 @@ use Rattle.std.specs.Prelude.{cond}
 use Rattle.std.proofs.lemmas.Bool.{true≢false}
 use Rattle.rv_word.specs.declared.instr.RegOp.TheVariants.{Or}
 use Rattle.rv_word.specs.Writes.{destination, is_register}
-use Rattle.rv_source.specs.declared.item.Body.TheVariants.{Plain}
+use Rattle.sfi_source.specs.declared.item.Body.TheVariants.{Plain}
 use Rattle.sfi_pairs.specs.Pairs.{is_masking}
 use Rattle.sfi_policy.specs.declared.format.Format.TheVariants.{Sfiw}
 use Rattle.sfi_policy.specs.Registers.{is_reserved, is_data_register}

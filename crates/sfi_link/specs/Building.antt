@@ -1,7 +1,7 @@
 -- When bytes are the image of what is placed, and when they are a source's build.
 use Rattle.std.specs.Prelude.{◌≡◌, ℕ, List, []}
 use Rattle.std.specs.List.{AllZip}
-use Rattle.rv_source.specs.Source.{Sandbox}
+use Rattle.sfi_source.specs.Source.{Sandbox}
 use Rattle.sfi_image.specs.Spelling.{Part, spelling}
 use Rattle.sfi_image.specs.Images.{IsImage}
 use Rattle.sfi_rules.specs.Findings.{AreImageFindings}

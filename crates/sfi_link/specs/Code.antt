@@ -7,7 +7,7 @@ use Rattle.rv_word.specs.declared.instr.ImmOp.TheVariants.{Addi}
 use Rattle.rv_word.specs.Spelling.{InRange, spelling}
 use Rattle.rv_comp.specs.Table.{allowed, expansion}
 use Rattle.rv_comp.specs.Halfwords.{halfword_of}
-use Rattle.rv_source.specs.Halves.{upper, lower}
+use Rattle.sfi_source.specs.Halves.{upper, lower}
 use Rattle.sfi_rewrite.specs.declared.slot.Slot.{Slot}
 use Rattle.sfi_rewrite.specs.declared.slot.Slot.TheVariants.{Wide, Short, Jump, Upper, Lower}
 use Rattle.sfi_rewrite.specs.declared.placed.PlacedName.{PlacedName}

@@ -4,7 +4,7 @@ use Rattle.std.specs.List.{repeat, AllPairs}
 use Rattle.rv_comp.specs.declared.form.Form16.TheVariants.{CEbreak}
 use Rattle.sfi_policy.specs.declared.format.Format.{Format}
 use Rattle.sfi_policy.specs.Formats.{code_most}
-use Rattle.rv_source.specs.declared.item.SourceGate.{SourceGate}
+use Rattle.sfi_source.specs.declared.item.SourceGate.{SourceGate}
 use Rattle.sfi_policy.specs.Limits.{region_least}
 use Rattle.sfi_image.specs.declared.part.Gate.{Gate}
 use Rattle.sfi_image.specs.Spelling.{Part}

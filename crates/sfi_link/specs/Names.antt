@@ -1,6 +1,6 @@
 -- The map of a source: the addresses of its gates and labels in the image that is linked.
 use Rattle.std.specs.Prelude.{◌≡◌, ℕ, ◌+◌, List, [], ◌∷◌, ◌++◌, map, slice_get, Option, Some, None}
-use Rattle.rv_source.specs.Source.{Sandbox}
+use Rattle.sfi_source.specs.Source.{Sandbox}
 use Rattle.sfi_policy.specs.declared.place.Place.{Place}
 use Rattle.sfi_rewrite.specs.declared.placed.PlacedName.{PlacedName}
 use Rattle.sfi_rewrite.specs.declared.placed.PlacedName.TheVariants.{Gate, Code, Data, Unknown}

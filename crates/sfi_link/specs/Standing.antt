@@ -5,8 +5,8 @@ use Rattle.rv_word.specs.declared.instr.Instr.{Instr}
 use Rattle.sfi_policy.specs.declared.format.Format.{Format}
 use Rattle.rv_mem.specs.Laws.{Holds}
 use Rattle.rv_step.specs.State.{State}
-use Rattle.rv_source.specs.declared.item.Item.{Item}
-use Rattle.rv_source.specs.Source.{Sandbox, IsSandbox, IsSource}
+use Rattle.sfi_source.specs.declared.item.Item.{Item}
+use Rattle.sfi_source.specs.Source.{Sandbox, IsSandbox, IsSource}
 use Rattle.sfi_image.specs.Spelling.{Part}
 use Rattle.sfi_image.specs.Spans.{code_region, data_region}
 use Rattle.sfi_image.specs.Images.{IsImage}

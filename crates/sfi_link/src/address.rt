@@ -1,6 +1,6 @@
 //! Addresses for names, and what an instruction holds of them.
 ghost use Rattle.std.specs.Prelude.{◌≡◌, ◌+◌, ◌<◌, ◌≤◌, ◌^◌, pos, ◌-ℤ◌, IfSome};
-ghost use Rattle.rv_source.specs.Halves.{upper, lower};
+ghost use Rattle.sfi_source.specs.Halves.{upper, lower};
 ghost use Rattle.sfi_link.specs.Addresses.{address_of, target_of, address_at, target_at, with_offset};
 ghost use Rattle.sfi_link.specs.private.Near.{IsInCode, IsNear, AreNear};
 

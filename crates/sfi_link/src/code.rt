@@ -9,7 +9,7 @@ ghost use Rattle.rv_comp.specs.Table.{allowed};
 ghost use Rattle.rv_comp.specs.Halfwords.{halfword_of};
 ghost use Rattle.sfi_rewrite.specs.Slots.{size_of, slots_of};
 ghost use Rattle.sfi_rewrite.specs.Placed.{Encodes};
-ghost use Rattle.rv_source.specs.Halves.{lower};
+ghost use Rattle.sfi_source.specs.Halves.{lower};
 ghost use Rattle.sfi_link.specs.Addresses.{address_at};
 ghost use Rattle.sfi_link.specs.private.Near.{HasRoomFor, AreNear, IsPushed, AreWritten, Links};
 ghost use Rattle.sfi_link.specs.Faults.{IsUnknown, HasSlotFault, IsSlotFault};

@@ -1,7 +1,7 @@
 //! From what is placed to an image.
 ghost use Rattle.std.specs.Prelude.{◌≡◌, ◌≢◌, ◌+◌, ◌*◌, ◌<◌, ◌≤◌, ◌^◌, ℕ, List, [], length, Err, IfOk, IfErr};
 ghost use Rattle.std.specs.List.{All};
-ghost use Rattle.rv_source.specs.Source.{Sandbox};
+ghost use Rattle.sfi_source.specs.Source.{Sandbox};
 ghost use Rattle.sfi_image.specs.Spelling.{view, views};
 ghost use Rattle.sfi_rewrite.specs.Placed.{IsPlacedPart, IsPlaced, AreOf};
 ghost use Rattle.sfi_link.specs.declared.fault.LinkFault.{LinkFault};
@@ -19,10 +19,10 @@ ghost use Rattle.sfi_link.specs.Answers.{UnlessMemory, AnswersItems, AnswersFaul
 use crate::bases::bases_of;
 use crate::code_region::linked_code;
 use crate::fault::LinkFault;
-use rv_source::SourceGate;
 use sfi_image::{Gate, ImageFault, SandboxPart, write_image_as};
 use sfi_policy::{BUNDLE_SIZE, Format, Place, SANDBOX_COUNT_MOST};
 use sfi_rewrite::{Placed, PlacedPart};
+use sfi_source::SourceGate;
 use std::alloc::{AllocError, Global};
 
 // The gates, whose stubs lie one after another from the address on.

@@ -16,9 +16,9 @@ use crate::address::address_of;
 use crate::bases::{Bases, bases_of};
 use crate::fault::LinkFault;
 use crate::linker::link_at;
-use rv_source::{Names, Source, SourcePart};
 use sfi_policy::Place;
 use sfi_rewrite::{Placed, PlacedName, PlacedPart};
+use sfi_source::{Names, Source, SourcePart};
 use std::alloc::{AllocError, Global};
 use std::marker::Model;
 

@@ -2,7 +2,7 @@
 use Rattle.sfi_report.proofs.Prelude.{◌≡◌, ℕ, zero, suc, ◌+◌, ◌-◌, ◌*◌, List, [], ◌∷◌, ◌++◌, take, drop, sym, ap, ◌∙◌, subst, arith, Some, flat_map, Part, format_of, Format, Finding, V1, IsFindingLine, gate_line, format_line, IsUnitListing, IsSandboxListing, registers_text}
 use Rattle.std.proofs.Common.{get_or-take}
 use Rattle.rv_comp.specs.declared.front.Front.{Front}
-use Rattle.rv_text.specs.Printed.{printed}
+use Rattle.sfi_text.specs.Printed.{printed}
 use Rattle.sfi_policy.specs.Formats.{unit}
 use Rattle.sfi_policy.specs.declared.format.Format.TheVariants.{Sfi1, Sfi2, Sfiw}
 use Rattle.sfi_rules.specs.declared.rule.Rule.{Rule}

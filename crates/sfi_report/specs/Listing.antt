@@ -4,7 +4,7 @@ use Rattle.std.specs.List.{flat_map}
 use Rattle.rv_word.specs.declared.instr.Instr.{Instr}
 use Rattle.sfi_policy.specs.declared.format.Format.{Format}
 use Rattle.sfi_policy.specs.declared.format.Format.TheVariants.{Sfi1, Sfi2, Sfiw}
-use Rattle.rv_text.specs.Printed.{printed}
+use Rattle.sfi_text.specs.Printed.{printed}
 use Rattle.sfi_policy.specs.Formats.{unit}
 use Rattle.sfi_image.specs.Spelling.{Part, format_of}
 use Rattle.sfi_image.specs.declared.part.Gate.{Gate}

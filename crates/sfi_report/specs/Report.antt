@@ -2,7 +2,7 @@
 use Rattle.std.specs.Prelude.{◌≡◌, ◌-◌, ℕ, List, [], ◌∷◌, ◌++◌, Some, take, drop, codes, decimal, slice_get}
 use Rattle.rv_word.specs.declared.instr.Instr.{Instr}
 use Rattle.rv_comp.specs.Fronts.{Spells}
-use Rattle.rv_text.specs.Printed.{printed}
+use Rattle.sfi_text.specs.Printed.{printed}
 use Rattle.sfi_image.specs.Spelling.{Part}
 use Rattle.sfi_rules.specs.Numbers.{number_of}
 use Rattle.sfi_rules.specs.declared.finding.Finding.{Finding}

@@ -7,10 +7,10 @@ ghost use Rattle.sfi_report.specs.private.{Adds};
 
 use crate::digits::{push_eight_digits, push_two_digits, push_word};
 use rv_comp::{Front, read_front};
-use rv_text::push_instr;
 use rv_word::Instr;
 use sfi_image::{Gate, Image, SandboxPart};
 use sfi_policy::Format;
+use sfi_text::push_instr;
 use std::alloc::{AllocError, Global};
 
 /// Writes the line of an instruction with these bytes.

@@ -7,10 +7,10 @@ ghost use Rattle.sfi_report.specs.private.{Adds, IsPlace, SpellsFirst, Stands};
 
 use crate::digits::{push_eight_digits, push_halfword};
 use rv_comp::{Front, read_front};
-use rv_text::push_instr;
 use sfi_image::{Image, SandboxPart};
 use sfi_policy::Format;
 use sfi_rules::{Finding, Rule};
+use sfi_text::push_instr;
 use std::alloc::{AllocError, Global};
 
 /// The rule's name.

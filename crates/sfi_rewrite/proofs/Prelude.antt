@@ -13,12 +13,12 @@ pub use Rattle.rv_word.specs.declared.instr.RegOp.TheVariants.{And, Or, Add}
 pub use Rattle.rv_mem.specs.Bytes.{Bytes, bytes_at, addresses, address_after, loaded, stored, IsMemory, byte_at, with_bytes, number_of}
 pub use Rattle.rv_step.specs.State.{Hart, register, with_register, with_pc, past, even_of, IsHart, State, IsState}
 pub use Rattle.rv_step.specs.Step.{next, unchanged, after_load, effect, Stands, Stepped, IsStep}
-pub use Rattle.rv_source.specs.Source.{IsBody, Sandbox, named, IsSandbox, IsThere, IsSource}
-pub use Rattle.rv_source.specs.declared.item.Body.{Body}
-pub use Rattle.rv_source.specs.declared.item.Body.TheVariants.{Plain, To, High, Low}
-pub use Rattle.rv_source.specs.declared.item.Item.{Item}
-pub use Rattle.rv_source.specs.declared.item.Named.{Named}
-pub use Rattle.rv_source.specs.declared.item.Named.TheVariants.{Code, Unknown, Gate, Data}
+pub use Rattle.sfi_source.specs.Source.{IsBody, Sandbox, named, IsSandbox, IsThere, IsSource}
+pub use Rattle.sfi_source.specs.declared.item.Body.{Body}
+pub use Rattle.sfi_source.specs.declared.item.Body.TheVariants.{Plain, To, High, Low}
+pub use Rattle.sfi_source.specs.declared.item.Item.{Item}
+pub use Rattle.sfi_source.specs.declared.item.Named.{Named}
+pub use Rattle.sfi_source.specs.declared.item.Named.TheVariants.{Code, Unknown, Gate, Data}
 pub use Rattle.sfi_policy.specs.Formats.{is_stack, code_most, has_stack, has_words}
 pub use Rattle.sfi_policy.specs.declared.format.Format.{Format}
 pub use Rattle.sfi_rewrite.specs.Expansion.{jump_slots, IsAlone, IsMasked, IsExpansionOf, IsExpansion, code_pair_slots, jump_to_x31, is_call, data_pair_slots}
@@ -51,7 +51,7 @@ pub use Rattle.sfi_policy.specs.declared.format.Format.TheVariants.{Sfi1, Sfi2, 
 pub use Rattle.sfi_rewrite.specs.declared.fault.RewriteFault.TheVariants.{TooLarge, Memory}
 pub use Rattle.std.proofs.Math.Seq.{drop-cons}
 pub use Rattle.sfi_rewrite.specs.Registers.{item_names_withheld, is_ecall, names_withheld, is_withheld}
-pub use Rattle.rv_source.specs.declared.item.SourceGate.{SourceGate}
+pub use Rattle.sfi_source.specs.declared.item.SourceGate.{SourceGate}
 pub use Rattle.sfi_rewrite.specs.private.Words.{so_far, bytes_of, AreOfFirst, with_slots, ended, HasNoRoom}
 pub use Rattle.rv_word.specs.Spelling.{spelling, InRange}
 pub use Rattle.rv_word.specs.declared.instr.LoadKind.TheVariants.{Lw}

@@ -1,6 +1,6 @@
 -- One sandbox after another.
 use Rattle.sfi_rewrite.proofs.Prelude.{◌≡◌, ℕ, ◌+◌, ◌<◌, List, [], ◌∷◌, ◌++◌, length, take, get_or, refl, sym, ap, ◌∙◌, subst, arith, inl, inr, Some, Err, All, AllZip, take_more, All-cons, All-head, All-tail, slice_get-get_or, Format, Sandbox, IsSource, RewriteFault, Placement, IsPlacedPart, IsPlaced, AreOf, format_of, UnlessMemory, IsSourceFault, IsRewritten, AnswersFault, Memory, IsSandboxFault, AllZip-long}
-use Rattle.rv_source.specs.Source as text
+use Rattle.sfi_source.specs.Source as text
 use Rattle.sfi_rewrite.proofs.OneFault.{each_faultless, source_fault_one_way}
 use Rattle.sfi_rewrite.proofs.PlacedNames.{zip_push}
 use Rattle.sfi_rewrite.proofs.OneByOne.{unless_weaker}

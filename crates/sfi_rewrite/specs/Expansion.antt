@@ -9,9 +9,9 @@ use Rattle.rv_comp.specs.Halfwords.{IsFirst}
 use Rattle.rv_comp.specs.declared.form.Form16.{Form16}
 use Rattle.sfi_policy.specs.declared.format.Format.{Format}
 use Rattle.sfi_policy.specs.Formats.{is_stack}
-use Rattle.rv_source.specs.declared.item.Body.{Body}
-use Rattle.rv_source.specs.declared.item.Body.TheVariants.{Plain, To, High, Low}
-use Rattle.rv_source.specs.declared.item.Item.{Item}
+use Rattle.sfi_source.specs.declared.item.Body.{Body}
+use Rattle.sfi_source.specs.declared.item.Body.TheVariants.{Plain, To, High, Low}
+use Rattle.sfi_source.specs.declared.item.Item.{Item}
 use Rattle.sfi_pairs.specs.Pairs.{data_pair, code_pair}
 use Rattle.sfi_policy.specs.Registers.{scratch}
 use Rattle.sfi_rewrite.specs.declared.slot.Slot.{Slot}

@@ -8,8 +8,8 @@ use Rattle.sfi_policy.specs.declared.format.Format.{Format}
 use Rattle.sfi_policy.specs.declared.format.Format.TheVariants.{Sfi2, Sfiw}
 use Rattle.sfi_image.specs.declared.span.Span.{Span}
 use Rattle.sfi_image.specs.Spans.{Holds}
-use Rattle.rv_source.specs.declared.item.Item.{Item}
-use Rattle.rv_source.specs.Source.{Sandbox, IsSource}
+use Rattle.sfi_source.specs.declared.item.Item.{Item}
+use Rattle.sfi_source.specs.Source.{Sandbox, IsSource}
 use Rattle.sfi_rewrite.specs.declared.slot.Slot.{Slot}
 use Rattle.sfi_rewrite.specs.declared.fault.RewriteFault.{RewriteFault}
 use Rattle.sfi_rewrite.specs.Expansion.{IsExpansion}

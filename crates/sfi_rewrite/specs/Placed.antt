@@ -6,9 +6,9 @@ use Rattle.rv_comp.specs.Table.{allowed}
 use Rattle.sfi_policy.specs.declared.format.Format.{Format}
 use Rattle.sfi_policy.specs.declared.format.Format.TheVariants.{Sfi1, Sfiw}
 use Rattle.sfi_policy.specs.Formats.{code_most, has_words, unit}
-use Rattle.rv_source.specs.declared.item.Item.{Item}
-use Rattle.rv_source.specs.declared.item.SourceGate.{SourceGate}
-use Rattle.rv_source.specs.Source.{IsDataSize, IsBody}
+use Rattle.sfi_source.specs.declared.item.Item.{Item}
+use Rattle.sfi_source.specs.declared.item.SourceGate.{SourceGate}
+use Rattle.sfi_source.specs.Source.{IsDataSize, IsBody}
 use Rattle.sfi_rewrite.specs.declared.slot.Slot.{Slot}
 use Rattle.sfi_rewrite.specs.declared.slot.Slot.TheVariants.{Wide, Short, Jump, Upper, Lower}
 use Rattle.sfi_rewrite.specs.declared.placed.PlacedName.{PlacedName}

@@ -3,11 +3,11 @@
 use Rattle.std.specs.Prelude.{◌≡◌, ◌+◌, ◌*◌, ◌≤◌, ◌<◌, ◌++◌, ℕ, List, [], ◌∷◌, Bool, true, false, length, take, drop, replicate, Contains, MatchBool}
 use Rattle.std.specs.List.{AllZip}
 use Rattle.sfi_policy.specs.declared.format.Format.{Format}
-use Rattle.rv_source.specs.declared.item.Item.{Item}
-use Rattle.rv_source.specs.declared.item.Named.{Named}
-use Rattle.rv_source.specs.declared.item.Named.TheVariants.{Gate, Code, Data, Unknown}
-use Rattle.rv_source.specs.declared.item.SourceGate.{SourceGate}
-use Rattle.rv_source.specs.Source.{Sandbox, named}
+use Rattle.sfi_source.specs.declared.item.Item.{Item}
+use Rattle.sfi_source.specs.declared.item.Named.{Named}
+use Rattle.sfi_source.specs.declared.item.Named.TheVariants.{Gate, Code, Data, Unknown}
+use Rattle.sfi_source.specs.declared.item.SourceGate.{SourceGate}
+use Rattle.sfi_source.specs.Source.{Sandbox, named}
 use Rattle.sfi_rewrite.specs.declared.slot.Slot.{Slot}
 use Rattle.sfi_rewrite.specs.declared.placed.PlacedName.{PlacedName}
 use Rattle.sfi_rewrite.specs.declared.placed.PlacedName.TheVariants as placed

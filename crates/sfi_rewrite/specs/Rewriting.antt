@@ -1,7 +1,7 @@
 -- What `rewrite` answers.
 use Rattle.std.specs.Prelude.{◌≡◌, ◌⊎◌, List, Result, Ok, Err}
 use Rattle.std.specs.List.{AllZip}
-use Rattle.rv_source.specs.Source.{Sandbox}
+use Rattle.sfi_source.specs.Source.{Sandbox}
 use Rattle.sfi_rewrite.specs.declared.fault.RewriteFault.{RewriteFault}
 use Rattle.sfi_rewrite.specs.declared.fault.RewriteFault.TheVariants.{Memory}
 use Rattle.sfi_rewrite.specs.Placement.{Placement, IsPlacement}

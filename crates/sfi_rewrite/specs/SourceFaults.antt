@@ -2,7 +2,7 @@
 use Rattle.std.specs.Prelude.{◌≡◌, ℕ, List, length, take, slice_get, Some}
 use Rattle.std.specs.List.{All}
 use Rattle.sfi_policy.specs.Formats.{has_words}
-use Rattle.rv_source.specs.Source.{Sandbox}
+use Rattle.sfi_source.specs.Source.{Sandbox}
 use Rattle.sfi_rewrite.specs.declared.slot.Slot.{Slot}
 use Rattle.sfi_rewrite.specs.declared.fault.RewriteFault.{RewriteFault}
 use Rattle.sfi_rewrite.specs.Faults.{AreFaultless, IsItemFault}

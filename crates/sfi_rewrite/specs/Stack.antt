@@ -6,8 +6,8 @@ use Rattle.rv_word.specs.declared.instr.Instr.TheVariants.{Load, Store, Jal, Jal
 use Rattle.rv_word.specs.Writes.{writes_register}
 use Rattle.sfi_policy.specs.declared.format.Format.{Format}
 use Rattle.sfi_policy.specs.Formats.{has_stack}
-use Rattle.rv_source.specs.declared.item.Body.{Body}
-use Rattle.rv_source.specs.declared.item.Body.TheVariants.{Plain, To}
+use Rattle.sfi_source.specs.declared.item.Body.{Body}
+use Rattle.sfi_source.specs.declared.item.Body.TheVariants.{Plain, To}
 use Rattle.sfi_pairs.specs.Pairs.{data_pair}
 use Rattle.sfi_policy.specs.Registers.{stack_pointer}
 use Rattle.sfi_rewrite.specs.declared.slot.Slot.{Slot}

@@ -1,7 +1,7 @@
 -- That each item of a source's sandbox stands transparent in what is placed.
 use Rattle.std.specs.Prelude.{◌≡◌, ℕ, List, MatchBool, slice_get, Some}
-use Rattle.rv_source.specs.declared.item.Item.{Item}
-use Rattle.rv_source.specs.Source.{Sandbox}
+use Rattle.sfi_source.specs.declared.item.Item.{Item}
+use Rattle.sfi_source.specs.Source.{Sandbox}
 use Rattle.sfi_policy.specs.declared.format.Format.{Format}
 use Rattle.sfi_policy.specs.Formats.{has_words}
 use Rattle.sfi_rewrite.specs.Placement.{Placement}

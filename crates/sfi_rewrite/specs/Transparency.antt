@@ -13,9 +13,9 @@ use Rattle.rv_step.specs.declared.outcome.Outcome.TheVariants.{Next}
 use Rattle.rv_step.specs.State.{Hart, State, IsState, register, with_register, with_pc}
 use Rattle.rv_step.specs.Step.{Stepped, Stands, effect, IsStep}
 use Rattle.rv_step.specs.Steps.{further, LeadTo}
-use Rattle.rv_source.specs.declared.item.Body.{Body}
-use Rattle.rv_source.specs.declared.item.Body.TheVariants.{Plain, To, High, Low}
-use Rattle.rv_source.specs.declared.item.Item.{Item}
+use Rattle.sfi_source.specs.declared.item.Body.{Body}
+use Rattle.sfi_source.specs.declared.item.Body.TheVariants.{Plain, To, High, Low}
+use Rattle.sfi_source.specs.declared.item.Item.{Item}
 use Rattle.sfi_policy.specs.Registers.{code_base_register, code_mask_register, data_base_register, data_mask_register, scratch, stack_pointer}
 use Rattle.sfi_image.specs.declared.span.Span.{Span}
 use Rattle.sfi_image.specs.Spans.{Holds}

@@ -7,10 +7,10 @@ ghost use Rattle.sfi_rewrite.specs.declared.slot.Slot.TheVariants.{Wide};
 use crate::slot::Slot;
 use arrayvec::ArrayVec;
 use rv_comp::form_of;
-use rv_source::{Body, Item};
 use rv_word::{ImmOp, Instr, Reg};
 use sfi_pairs::{code_pair, data_pair};
 use sfi_policy::{Format, SCRATCH, STACK_POINTER};
+use sfi_source::{Body, Item};
 use std::marker::Model;
 
 /// The most slots of an expansion: in words a mask, a load, and the mask of what it loads.

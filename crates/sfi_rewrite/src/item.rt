@@ -7,10 +7,10 @@ ghost use Rattle.sfi_rewrite.specs.Faults.{is_barred_jump, IsPermitted, HasItemF
 
 use crate::fault::RewriteFault;
 use crate::words::ADDRESS_REGISTER;
-use rv_source::{Body, Item};
 use rv_word::{Instr, Reg};
 use sfi_pairs::{is_data_register, is_reserved};
 use sfi_policy::{CODE_REGISTER, Format, OFFSET_REGISTER};
+use sfi_source::{Body, Item};
 
 /// Whether a source of the format may not name the register.
 fn is_withheld(format: Format, register: Reg) -> bool

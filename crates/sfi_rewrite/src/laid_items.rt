@@ -1,7 +1,7 @@
 //! The items of a sandbox, laid one after another.
 ghost use Rattle.std.specs.Prelude.{◌≡◌, ◌<◌, ◌≤◌, ◌+◌, ◌*◌, ℕ, false, IfOk, IfErr, length, slice_index};
 ghost use Rattle.sfi_policy.specs.Formats.{code_most};
-ghost use Rattle.rv_source.specs.Source.{IsBody};
+ghost use Rattle.sfi_source.specs.Source.{IsBody};
 ghost use Rattle.sfi_rewrite.specs.Slots.{size_of};
 ghost use Rattle.sfi_rewrite.specs.private.Filling.{HasNext, IsTooLarge, HaveBodies, AreLabels};
 ghost use Rattle.sfi_rewrite.specs.Faults.{IsPermitted, AreFaultless, UnlessMemory, IsItemFault};
@@ -12,8 +12,8 @@ use crate::filled::Filling;
 use crate::item::{is_call, permit};
 use crate::place::{next_bundle, nops_before};
 use crate::slot::size_of;
-use rv_source::Item;
 use sfi_policy::Format;
+use sfi_source::Item;
 use std::alloc::Global;
 
 /// A sandbox's items in their places.

@@ -1,13 +1,13 @@
 //! What the names of a sandbox name, once its items are placed.
 ghost use Rattle.std.specs.Prelude.{◌≡◌, ◌<◌, ◌↔◌, IfOk, IsTrue, length};
 ghost use Rattle.std.specs.List.{AllZip};
-ghost use Rattle.rv_source.specs.Source.{named, IsSandbox};
+ghost use Rattle.sfi_source.specs.Source.{named, IsSandbox};
 ghost use Rattle.sfi_rewrite.specs.Placement.{IsPlacedName, HasEndLabel};
 ghost use Rattle.sfi_policy.specs.Formats.{has_words};
 ghost use Rattle.sfi_rewrite.specs.private.Filling.{AreLabels, HasLabel, placed_of};
 
 use crate::placed::PlacedName;
-use rv_source::{Named, SourcePart};
+use sfi_source::{Named, SourcePart};
 use std::alloc::{AllocError, Global};
 
 /// What the name names, by the places that labels name.

@@ -1,7 +1,7 @@
 //! From a source to what is placed.
 ghost use Rattle.std.specs.Prelude.{◌≡◌, ◌<◌, ◌≤◌, ◌^◌, ℕ, List, length, IfOk, IfErr, IsTrue, Ok, Err};
 ghost use Rattle.std.specs.List.{All, AllZip};
-ghost use Rattle.rv_source.specs.Source.{IsSandbox, IsSource};
+ghost use Rattle.sfi_source.specs.Source.{IsSandbox, IsSource};
 ghost use Rattle.sfi_rewrite.specs.Slots.{size_of};
 ghost use Rattle.sfi_rewrite.specs.Placement.{Placement};
 ghost use Rattle.sfi_rewrite.specs.Placed.{IsPlacedPart};
@@ -20,8 +20,8 @@ use crate::names::{has_end_label, place_names};
 use crate::place::nops_at_end;
 use crate::placed::{Placed, PlacedPart};
 use crate::words::lay_in_words;
-use rv_source::{Item, Source, SourcePart};
 use sfi_policy::Format;
+use sfi_source::{Item, Source, SourcePart};
 use std::alloc::{AllocError, Global};
 
 /// Fills code in bundles up to the bundle start of a label at its end.

@@ -3,8 +3,8 @@ ghost use Rattle.std.specs.Prelude.{◌≡◌};
 ghost use Rattle.sfi_rewrite.specs.Placed.{format_of, IsPlaced};
 
 use crate::bundle::Bundle;
-use rv_source::SourceGate;
 use sfi_policy::Format;
+use sfi_source::SourceGate;
 use std::marker::Model;
 
 /// What a name of a sandbox names, once its code is placed.

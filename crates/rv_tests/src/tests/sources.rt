@@ -1,7 +1,7 @@
 //! What texts of the assembler mean, where and why they are refused, and their limits.
-use rv_source::{Body, Item, Names, Source, SourcePart};
-use rv_text::{TextCause, TextFault, parse_source, print_instr};
 use rv_word::Instr;
+use sfi_source::{Body, Item, Names, Source, SourcePart};
+use sfi_text::{TextCause, TextFault, parse_source, print_instr};
 use std::alloc::{AllocError, Global};
 use std::process::Abort;
 use std::test::Fail;

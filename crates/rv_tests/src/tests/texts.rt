@@ -1,7 +1,7 @@
 //! Texts of instructions, as the RISC-V manual and other assemblers have them.
 
-use rv_text::{TextCause, parse_instr, print_instr};
 use rv_word::{Instr, Reg, decode32, encode32};
+use sfi_text::{TextCause, parse_instr, print_instr};
 use std::alloc::Global;
 use std::process::Abort;
 use std::test::Fail;

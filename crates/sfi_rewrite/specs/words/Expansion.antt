@@ -9,9 +9,9 @@ use Rattle.rv_word.specs.declared.instr.Instr.TheVariants.{Op, OpImm, Load, Stor
 use Rattle.rv_word.specs.Writes.{destination}
 use Rattle.sfi_policy.specs.Limits.{slack}
 use Rattle.sfi_policy.specs.Registers.{data_base_register, data_mask_register, is_data_register, code_register, offset_register}
-use Rattle.rv_source.specs.declared.item.Body.{Body}
-use Rattle.rv_source.specs.declared.item.Body.TheVariants.{Plain, To, High, Low}
-use Rattle.rv_source.specs.declared.item.Item.{Item}
+use Rattle.sfi_source.specs.declared.item.Body.{Body}
+use Rattle.sfi_source.specs.declared.item.Body.TheVariants.{Plain, To, High, Low}
+use Rattle.sfi_source.specs.declared.item.Item.{Item}
 use Rattle.sfi_pairs.specs.Pairs.{code_pair}
 use Rattle.sfi_rewrite.specs.declared.slot.Slot.{Slot}
 use Rattle.sfi_rewrite.specs.declared.slot.Slot.TheVariants.{Wide, Jump, Upper, Lower}

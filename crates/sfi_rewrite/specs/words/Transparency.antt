@@ -13,7 +13,7 @@ use Rattle.rv_step.specs.declared.outcome.Outcome.TheVariants.{Next}
 use Rattle.rv_step.specs.State.{Hart, State, register}
 use Rattle.rv_step.specs.Step.{Stepped, effect}
 use Rattle.rv_step.specs.Steps.{LeadTo}
-use Rattle.rv_source.specs.declared.item.Item.{Item}
+use Rattle.sfi_source.specs.declared.item.Item.{Item}
 use Rattle.sfi_policy.specs.Registers.{data_base_register, is_data_register, code_register, offset_register}
 use Rattle.sfi_policy.specs.Formats.{unit}
 use Rattle.sfi_policy.specs.declared.format.Format.TheVariants.{Sfiw}

@@ -11,8 +11,8 @@ use crate::laid_items::Laid;
 use crate::slot::Slot;
 use crate::words::expansion::expand;
 use crate::words::filled::WordFilling;
-use rv_source::Item;
 use sfi_policy::Format;
+use sfi_source::Item;
 use std::alloc::{AllocError, Global};
 
 /// Adds slots to the code of the sandbox of that number, each where it has room.

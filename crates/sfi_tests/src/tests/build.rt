@@ -1,11 +1,11 @@
 //! Building without a command: an image, faults, the addresses of names, and what is linked.
 use super::programs::{HI, HI_IMAGE, NAMES};
 use super::rows::image_of;
-use rv_text::{TextCause, TextFault, parse_source};
 use sfi_build::{BuildFault, NameKind, Place, build, names_at};
 use sfi_image::{parse_image, write_image};
 use sfi_link::{LinkFault, link};
 use sfi_rewrite::{RewriteFault, rewrite};
+use sfi_text::{TextCause, TextFault, parse_source};
 use std::alloc::Global;
 use std::process::Abort;
 use std::test::Fail;

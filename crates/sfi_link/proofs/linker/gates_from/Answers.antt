@@ -1,5 +1,5 @@
 use Rattle.sfi_link.proofs.Prelude.{◌++◌, [], ◌∷◌, ◌+◌, ◌*◌, drop, get_or, ap, sym, append_assoc, ◌∙◌, gates_from}
-use Rattle.rv_source.specs.declared.item.SourceGate.{SourceGate}
+use Rattle.sfi_source.specs.declared.item.SourceGate.{SourceGate}
 use Rattle.sfi_link.proofs.Linking.{gates_next}
 use Rattle.sfi_link.proofs.linker.gates_from.Goals as goal
 

@@ -1,2 +1,0 @@
-pub returns-in-Err-clause-cause : Rattle.rv_text.proofs.data.read_first.Goals.returns-in-Err-clause-cause
-returns-in-Err-clause-cause c = Rattle.rv_text.proofs.Lists.number_departs _ _ _ _ _ c.in-Token.ensures c.in-Err.ensures.err c.in-Err.ensures.cause

@@ -1,8 +1,0 @@
-use Rattle.std.proofs.Common.{subst}
-use Rattle.rv_text.specs.private.Operands.{values_of}
-use Rattle.rv_text.specs.private.Reading.{Reads}
-use Rattle.rv_text.proofs.line.read_branch.Goals as goal
-
-pub returns-in-Ok-clause-ok : goal.returns-in-Ok-clause-ok
-returns-in-Ok-clause-ok c =
-    (values_of c.in-Ok.o, subst (λ f. Reads (values_of c.in-Ok.o) f c.args.rest.now) c.branch_form.ensures c.in-Ok.ensures.reads, c.branch_to.ensures)

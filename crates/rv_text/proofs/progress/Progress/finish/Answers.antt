@@ -1,9 +1,0 @@
-use Rattle.std.proofs.Common.{rules}
-use Rattle.rv_text.specs.Texts.{MeansSource}
-use Rattle.rv_text.proofs.Facts.{sources_are_right}
-use Rattle.rv_text.proofs.progress.Progress.finish.Goals as goal
-
-pub new-requires : goal.new-requires
-new-requires c =
-    let means : MeansSource c.args.text.now c.push.new.self.items = search rules in
-    sources_are_right _ _ means

@@ -1,2 +1,0 @@
-pub returns : Rattle.rv_text.proofs.progress.after_colon.Goals.returns
-returns c = Rattle.rv_text.proofs.LabelReading.colon c.args.text.now c.body.result.now c.without_colon.result c.body.ensures c.without_colon.ensures

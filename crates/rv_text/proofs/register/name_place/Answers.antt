@@ -1,2 +1,0 @@
-pub returns-clause-small : Rattle.rv_text.proofs.register.name_place.Goals.returns-clause-small
-returns-clause-small c = Rattle.rv_text.proofs.RegisterNames.place_small _ c.hash.ensures.small

@@ -1,2 +1,0 @@
-pub returns : Rattle.rv_text.proofs.text.first_line.Goals.returns
-returns c = Rattle.rv_text.proofs.TextLines.cut_line c.args.text.now c.split_once.result c.split_once.ensures.cases

@@ -1,0 +1,139 @@
+//! Sources: what a text of the assembler means.
+ghost use Rattle.std.specs.Prelude.{◌≡◌};
+ghost use Rattle.sfi_source.specs.Source.{sandbox, format_of, IsSource};
+
+use crate::item::{Item, SourceGate};
+use crate::names::Names;
+use sfi_policy::Format;
+use std::marker::Model;
+
+/// A sandbox of a source.
+#[derive(Drop)]
+pub struct SourcePart {
+    format: Format,
+    data_size: u32,
+    gates: Vec<SourceGate>,
+    names: Names,
+    items: Vec<Item>,
+    bytes: Vec<u8>,
+}
+
+impl Model for SourcePart {
+    ghost use Rattle.sfi_source.specs.Source.{Sandbox, sandbox};
+
+    ghost Value = { Sandbox };
+
+    ghost view = { λ p. sandbox p.format p.data_size p.gates.items p.names
+        p.items.items p.bytes.items };
+}
+
+impl SourcePart {
+    /// The sandbox of these. That they fit each other is asked by [`Source::new`].
+    pub fn new(
+        format: Format,
+        data_size: u32,
+        gates: Vec<SourceGate>,
+        names: Names,
+        items: Vec<Item>,
+        bytes: Vec<u8>,
+    ) -> SourcePart
+        ensures { result ≡ sandbox format data_size gates.items names items.items bytes.items }
+    {
+        SourcePart {
+            format,
+            data_size,
+            gates,
+            names,
+            items,
+            bytes,
+        }
+    }
+
+    /// The format of its source.
+    pub fn format(&self) -> Format
+        ensures { result ≡ self.now.format }
+    {
+        self.format
+    }
+
+    /// How many bytes the data region has, a power of two from `REGION_LEAST` to `DATA_MOST` of
+    /// `sfi_policy`.
+    pub fn data_size(&self) -> u32
+        ensures { result ≡ self.now.data_size }
+    {
+        self.data_size
+    }
+
+    /// The gates, at most `GATES_MOST`, in the order of the text.
+    pub fn gates(&self) -> &[SourceGate]
+        ensures { result.now ≡ self.now.gates }
+    {
+        &self.gates
+    }
+
+    /// The names of its labels and gates, and of what its instructions go to.
+    pub fn names(&self) -> &Names
+        ensures { result.now ≡ self.now.names }
+    {
+        &self.names
+    }
+
+    /// The instructions, at most `ITEMS_MOST`, in the order of the text.
+    pub fn items(&self) -> &[Item]
+        ensures { result.now ≡ self.now.items }
+    {
+        &self.items
+    }
+
+    /// The first bytes of the data region, at most `data_size`.
+    pub fn bytes(&self) -> &[u8]
+        ensures { result.now ≡ self.now.bytes }
+    {
+        &self.bytes
+    }
+}
+
+/// What a text means: one sandbox at least, and no more than a u32 can number, all of one format.
+#[derive(Drop)]
+pub struct Source {
+    parts: Vec<SourcePart>,
+}
+
+impl Model for Source {
+    ghost use Rattle.std.specs.Prelude.{List};
+    ghost use Rattle.sfi_source.specs.Source.{Sandbox, IsSource};
+
+    ghost Value = { List Sandbox };
+
+    ghost view = { λ s. s.parts.items };
+
+    ghost invariant = { λ s. IsSource s.parts.items };
+}
+
+impl Source {
+    /// The source of these sandboxes. Each name in them is one that a label may have.
+    pub fn new(parts: Vec<SourcePart>) -> Source
+        requires { IsSource parts.items }
+        ensures { result ≡ parts.items }
+    {
+        Source { parts }
+    }
+
+    /// The format of the image to be made.
+    pub fn format(&self) -> Format
+        ensures { result ≡ format_of self.now }
+    {
+        match self.parts.first() {
+            Some(part) => part.format(),
+            None => Format::Sfi1,
+        }
+    }
+
+    /// The sandboxes, in the order of the text.
+    pub fn parts(&self) -> &[SourcePart]
+        ensures parts { result.now ≡ self.now }
+        ensures right { IsSource self.now }
+    {
+        &self.parts
+    }
+}

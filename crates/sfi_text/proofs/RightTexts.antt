@@ -1,0 +1,189 @@
+-- What a text means is right: by its lines, from nothing.
+use Rattle.sfi_text.proofs.Prelude.{◌≡◌, refl, sym, ap, subst, ◌∙◌, ℕ, ◌+◌, inl, inr, Bool, true, List, [], ◌∷◌, ◌++◌, Option, None, Some, map, length, length-append, arith, All, AllByRecursion, same_Some, none-some, Instr, InRange, Keyword, Takes, IsLabel, place_of_keyword, StatesAfter, Stated, format, sandbox, within, StatedWithin, gate, compressed, data_part, bytes, plain, jump, address, IsRightWithin, IsRightStatement, place_of_stated, meaning, place_of, met, IsStraight, Sandbox, IsBody, IsSandbox, AreOf, format_of, Begun, SoFar, format_or_sfi1, with_label, with_names, nothing, last_sandbox, sandboxes, IsFree, Labels, Fits, MayCome, GoesOn, Does, with_stated, BeginsWithName, LabelsLead, IsTaken, LeadsAfter, RestLeads, Leads, uncommented, lines, LinesLead, MeansSource}
+use Rattle.sfi_source.specs.declared.item.Body.TheVariants.{Plain, To, High, Low}
+use Rattle.sfi_policy.specs.declared.format.Format.{Format}
+use Rattle.std.proofs.lemmas.List.{length-map}
+use Rattle.std.proofs.lemmas.List.Elements.{All-from_recursion, recursion_from_All}
+use Rattle.sfi_source.specs.Source.{IsSource}
+use Rattle.sfi_text.specs.declared.keyword.Directive.TheVariants as directive
+use Rattle.sfi_text.specs.declared.keyword.Keyword.TheVariants as keyword
+use Rattle.sfi_text.specs.declared.statement.Place.TheVariants as place
+use Rattle.sfi_text.proofs.Placing.{place_among}
+use Rattle.sfi_text.proofs.Counting.{few_sandboxes}
+use Rattle.sfi_text.proofs.LabelReading.{free_or_not}
+use Rattle.sfi_text.proofs.Right.{after_right, after_place}
+use Rattle.sfi_text.proofs.RightSources.{IsDraft, all_append, finished, begun_right, label_right, met_right, bodies_right, bytes_right, gate_right}
+
+-- the sandbox is of the format that the text has said, or of SFI1
+abbrev IsOf : Option Format → Sandbox → Type 0
+IsOf said s = s.format ≡ format_or_sfi1 said
+
+-- each sandbox so far is right and of the format, and before the first one begins none is finished
+record IsRightSoFar (s : SoFar) : Type 0 where
+  finished : AllByRecursion IsSandbox s.finished
+  begun : (b : Begun) → s.begun ≡ Some b → IsDraft b
+  finished_format : AllByRecursion (IsOf s.format) s.finished
+  begun_format : (b : Begun) → s.begun ≡ Some b → IsOf s.format b.sandbox
+  first : s.begun ≡ None → s.finished ≡ []
+
+begun_is : (old : SoFar) (c : Begun) → IsRightSoFar old → IsDraft c → IsOf old.format c.sandbox → IsRightSoFar (record old { begun = Some c })
+begun_is old c right draft format_is = record {
+  finished = right.finished;
+  begun = λ b e. subst IsDraft (same_Some _ _ e) draft;
+  finished_format = right.finished_format;
+  begun_format = λ b e. subst (λ x. IsOf old.format x.sandbox) (same_Some _ _ e) format_is;
+  first = λ e. absurd (none-some c (sym e));
+}
+
+label_leads : (name : List ℕ) (old new : SoFar) → IsLabel name → Labels name old new → IsRightSoFar old → IsRightSoFar new
+label_leads name old new label (b, is, short, free, new_is) right =
+    subst IsRightSoFar (sym new_is) (begun_is old (with_label name b) right (label_right b (right.begun b is) name free (label, short)) (right.begun_format b is))
+
+labels_lead : (names : List (List ℕ)) (old new : SoFar) (text rest : List ℕ) → LabelsLead names old text new rest → IsRightSoFar old → IsRightSoFar new
+labels_lead [] old new text rest (same, at) right = subst IsRightSoFar (sym same) right
+labels_lead (name ∷ names) old new text rest (next, after, (after_name, begins, colon), labels, more) right =
+    labels_lead names next new after rest more (label_leads name old next begins.1 labels right)
+
+-- bodies of instructions that go nowhere by a name
+plain_bodies : (n : ℕ) (instrs : List Instr) → AllByRecursion (λ i. InRange i × IsStraight i) instrs → AllByRecursion (IsBody n) (map Plain instrs)
+plain_bodies n [] h = tt
+plain_bodies n (i ∷ instrs) h = (h.0, plain_bodies n instrs h.1)
+
+-- whether its data follow, and whether 16-bit forms are taken, leaves a sandbox right
+flags_right : (b : Begun) (in_data rvc : Bool) → IsDraft b → IsDraft (record b { in_data = in_data; rvc = rvc })
+flags_right b in_data rvc d =
+    record { data_size = d.data_size; gate_count = d.gate_count; gates = d.gates; names = d.names; differ = d.differ; item_count = d.item_count; items = d.items; labelled = d.labelled; byte_count = d.byte_count; bytes = d.bytes }
+
+-- each sandbox after a statement is right
+goes_right : (line : ℕ) (s : StatedWithin) (b : Begun) → IsRightWithin s → ((name : List ℕ) (service : ℕ) → s ≡ gate name service → IsFree name b)
+    → Fits s b → IsDraft b → IsDraft (with_stated line s b)
+goes_right line (gate name service) b right free fits d =
+    gate_right name service b d (free name service refl) right.0 right.1 fits
+goes_right line (compressed rvc) b right free fits d = flags_right b b.in_data rvc d
+goes_right line data_part b right free fits d = flags_right b true b.rvc d
+goes_right line (bytes values) b right free fits d = bytes_right values b d (recursion_from_All _ values right) fits
+goes_right line (plain instrs) b right free fits d =
+    bodies_right line (map Plain instrs) b d (plain_bodies _ instrs (recursion_from_All _ instrs right.1))
+    (omega (arith, right.0, length-map instrs Plain)) (omega (arith, fits, length-map instrs Plain))
+goes_right line (jump i name) b right free fits d =
+    bodies_right line (To i (place_of b.sandbox.names name) ∷ []) (with_names (met b.sandbox.names name) b) (met_right b d name right.2)
+    ((right.0, right.1, place_among b.sandbox.names name (meaning b.sandbox.names name)), tt) (omega arith) fits
+goes_right line (address rd name) b right free fits d =
+    let among = place_among b.sandbox.names name (meaning b.sandbox.names name) in
+    bodies_right line (High rd (place_of b.sandbox.names name) ∷ Low rd (place_of b.sandbox.names name) ∷ []) (with_names (met b.sandbox.names name) b) (met_right b d name right.1)
+    ((right.0, among), ((right.0, among), tt)) (omega arith) fits
+
+-- a statement leaves the sandbox's format
+stays_of : (line : ℕ) (s : StatedWithin) (b : Begun) (said : Option Format) → IsOf said b.sandbox → IsOf said (with_stated line s b).sandbox
+stays_of line (gate name service) b said h = h
+stays_of line _ b said h = h
+
+goes_on : (line : ℕ) (s : StatedWithin) (old new : SoFar) → IsRightWithin s
+    → ((b : Begun) (name : List ℕ) (service : ℕ) → old.begun ≡ Some b → s ≡ gate name service → IsFree name b)
+    → GoesOn line s old new → IsRightSoFar old → IsRightSoFar new
+goes_on line s old new right free (b, is, fits, new_is) so_far =
+    subst IsRightSoFar (sym new_is) (begun_is old (with_stated line s b) so_far (goes_right line s b right (λ name service e. free b name service is e) fits (so_far.begun b is)) (stays_of line s b old.format (so_far.begun_format b is)))
+
+last_right : (s : SoFar) (b : Option Begun) → s.begun ≡ b → IsRightSoFar s → AllByRecursion IsSandbox (last_sandbox b)
+last_right s None is right = tt
+last_right s (Some b) is right = (finished b (right.begun b is), tt)
+
+sandboxes_right : (s : SoFar) → IsRightSoFar s → AllByRecursion IsSandbox (sandboxes s)
+sandboxes_right s right = all_append IsSandbox s.finished (last_sandbox s.begun) right.finished (last_right s s.begun refl right)
+
+last_format : (s : SoFar) (b : Option Begun) → s.begun ≡ b → IsRightSoFar s → AllByRecursion (IsOf s.format) (last_sandbox b)
+last_format s None is right = tt
+last_format s (Some b) is right = (right.begun_format b is, tt)
+
+sandboxes_format : (s : SoFar) → IsRightSoFar s → AllByRecursion (IsOf s.format) (sandboxes s)
+sandboxes_format s right = all_append (IsOf s.format) s.finished (last_sandbox s.begun) right.finished_format (last_format s s.begun refl right)
+
+-- before the first sandbox the format may be said
+format_said : (value : Format) (old : SoFar) → old.begun ≡ None → IsRightSoFar old → IsRightSoFar (record old { format = Some value })
+format_said value old none right = record {
+  finished = right.finished;
+  begun = right.begun;
+  finished_format = subst (λ v. AllByRecursion (IsOf (Some value)) v) (sym (right.first none)) tt;
+  begun_format = λ b e. absurd (none-some b (sym none ∙ e));
+  first = right.first;
+}
+
+does_right : (line : ℕ) (s : Stated) (old new : SoFar) → IsRightStatement s
+    → ((b : Begun) (name : List ℕ) (service : ℕ) → old.begun ≡ Some b → s ≡ within (gate name service) → IsFree name b)
+    → MayCome (place_of_stated s) old → Does line s old new → IsRightSoFar old → IsRightSoFar new
+does_right line (format value) old new right free may does so_far = subst IsRightSoFar (sym does) (format_said value old may.1 so_far)
+does_right line (sandbox size) old new right free may does so_far =
+    subst IsRightSoFar (sym does) (record {
+      finished = sandboxes_right old so_far;
+      begun = λ b e. subst IsDraft (same_Some _ _ e) (begun_right (format_or_sfi1 old.format) size right);
+      finished_format = sandboxes_format old so_far;
+      begun_format = λ b e. subst (λ x. IsOf old.format x.sandbox) (same_Some _ _ e) refl;
+      first = λ e. absurd (none-some _ (sym e));
+    })
+does_right line (within what) old new right free may does so_far =
+    goes_on line what old new right (λ b name service is e. free b name service is (ap within e)) does so_far
+
+-- a keyword that stands where gates do is that of a gate
+gate_keyword : (k : Keyword) → place_of_keyword k ≡ place.Gates → k ≡ keyword.Directive directive.Gate
+gate_keyword (keyword.Directive directive.Gate) h = refl
+gate_keyword _ h = cc
+
+abbrev gate_name_of : Stated → List ℕ
+gate_name_of (within (gate name service)) = name
+gate_name_of _ = []
+
+-- the tokens after a gate's keyword begin with its name
+gate_begins : (text : List ℕ) (name : List ℕ) (service : ℕ) → StatesAfter (keyword.Directive directive.Gate) text (within (gate name service))
+    → (rest : List ℕ) × BeginsWithName text name rest
+gate_begins text name service ([], are, (o, form, is)) = absurd form
+gate_begins text name service (token ∷ tokens, (last, (after, takes, leads), blank), (o, form, is)) =
+    let same = form.0.2 ∙ sym (ap gate_name_of is) in
+    (after, (subst (λ t. Takes text t after) same takes, subst IsLabel same form.0.0))
+
+-- a name that isn't taken is free
+not_taken : (b : Begun) (text name rest : List ℕ) → BeginsWithName text name rest → (IsTaken b text → ⊥) → IsFree name b
+not_taken b text name rest begins none =
+    elim (free_or_not name b) [ inl free ↦ free | inr not ↦ absurd (none (name, rest, begins, not)) ]
+
+after_leads : (k : Keyword) (line : ℕ) (old new : SoFar) (text : List ℕ) → LeadsAfter k line old text new → IsRightSoFar old → IsRightSoFar new
+after_leads k line old new text (stands, once, (s, (tokens, are, after_k), does)) so_far =
+    does_right line s old new (after_right k tokens s after_k) free (subst (λ p. MayCome p old) (after_place k tokens s after_k) stands) does so_far
+  where
+    free : (b : Begun) (name : List ℕ) (service : ℕ) → old.begun ≡ Some b → s ≡ within (gate name service) → IsFree name b
+    free b name service is gate_is =
+        let at : place_of_keyword k ≡ place.Gates = after_place k tokens s after_k ∙ ap place_of_stated gate_is in
+        let key = gate_keyword k at in
+        let states : StatesAfter (keyword.Directive directive.Gate) text (within (gate name service)) =
+        subst (λ t. StatesAfter (keyword.Directive directive.Gate) text t) gate_is (subst (λ q. StatesAfter q text s) key (tokens, are, after_k)) in
+        let begins = gate_begins text name service states in
+        not_taken b text name begins.0 begins.1 (λ t. once (key, (b, is, t)))
+
+rest_leads : (line : ℕ) (old new : SoFar) (text : List ℕ) → RestLeads line old text new → IsRightSoFar old → IsRightSoFar new
+rest_leads line old new text (inl (blank, same)) so_far = subst IsRightSoFar (sym same) so_far
+rest_leads line old new text (inr (k, rest, takes, leads)) so_far = after_leads k line old new rest leads so_far
+
+line_leads : (line : ℕ) (old new : SoFar) (text : List ℕ) → Leads line old text new → IsRightSoFar old → IsRightSoFar new
+line_leads line old new text (next, rest, passes, leads) so_far =
+    rest_leads line next new rest leads (labels_lead passes.names old next text rest passes.lead so_far)
+
+lines_lead : (line : ℕ) (old new : SoFar) (texts : List (List ℕ)) → LinesLead line old texts new → IsRightSoFar old → IsRightSoFar new
+lines_lead line old new [] same so_far = subst IsRightSoFar (sym same) so_far
+lines_lead line old new (text ∷ texts) (next, leads, more) so_far =
+    lines_lead (line + 1) next new texts more (line_leads line old next (uncommented text) leads so_far)
+
+-- sandboxes of one format have the first one's
+all_one : (parts : List Sandbox) (f : Format) → AreOf f parts → AreOf (format_of parts) parts
+all_one [] f h = λ k d l. absurd (omega (arith, l))
+all_one (s ∷ rest) f h = subst (λ (g : Format). AreOf g (s ∷ rest)) (sym (h 0 s (omega arith))) h
+
+-- the source that a text means
+pub sources_are_right : (text : List ℕ) (parts : List Sandbox) → MeansSource text parts → IsSource parts
+sources_are_right text parts (new, last, leads, begun, parts_are) =
+    let right = lines_lead 1 nothing new (lines text) leads.lead (record { finished = tt; begun = λ b e. absurd (none-some b e); finished_format = tt; begun_format = λ b e. absurd (none-some b e); first = λ e. refl }) in
+    let shape : parts ≡ new.finished ++ last.sandbox ∷ [] = parts_are ∙ ap (λ b. new.finished ++ last_sandbox b) begun in
+    record {
+      at_least_one = omega (arith, ap length shape, length-append new.finished (last.sandbox ∷ []));
+      numbered = omega (arith, ap length parts_are, few_sandboxes text new leads);
+      each = subst (λ ps. All IsSandbox ps) (sym parts_are) (All-from_recursion IsSandbox (sandboxes new) (sandboxes_right new right));
+      one_format = all_one parts (format_or_sfi1 new.format) (subst (λ ps. AreOf (format_or_sfi1 new.format) ps) (sym parts_are) (All-from_recursion (IsOf new.format) (sandboxes new) (sandboxes_format new right)));
+    }

@@ -1,0 +1,66 @@
+-- Reading a text line by line.
+use Rattle.sfi_text.proofs.Prelude.{◌≡◌, sym, ap, subst, ◌∙◌, ℕ, ◌⊎◌, inl, inr, List, [], ◌∷◌, length, length-append, ◌==◌, Option, None, Some, Bor, Result, Ok, Err, IfOk, IfErr, arith, MatchOption, MatchResult, before_first, after_first, fails_before_first, split_at_first, TextCause, Sandbox, SoFar, LineRefused, lines, uncommented, LinesLead, LineFault, FirstRefused, MeansSource, IsFault}
+use Rattle.sfi_text.specs.Causes.{memory}
+use Rattle.sfi_text.specs.declared.fault.TextFault.{TextFault}
+use Rattle.sfi_text.specs.private.Texts.{BeginsWithLine}
+use Rattle.std.proofs.lemmas.List.Splits.{slice_split_none, slice_split_first}
+use Rattle.std.proofs.lemmas.Str.Pattern.{IsSplitOnceResult, split_once_first}
+use Rattle.sfi_text.specs.declared.cause.TextCause.TheVariants as cause
+use Rattle.sfi_text.proofs.OneSource.{one_source, one_fault, meant_has_no_fault}
+
+-- what the lines that are left lead to, all lines lead to from the first source so far; and so with their fault
+pub record Carries (first : SoFar) (all : List ℕ) (number : ℕ) (now : SoFar) (rest : List ℕ) : Type 0 where
+  pub leads : (new : SoFar) → LinesLead number now (lines rest) new → LinesLead 1 first (lines all) new
+  pub faults : (f : TextFault) → FirstRefused number now (lines rest) f → FirstRefused 1 first (lines all) f
+
+-- where the next line is refused
+pub carries_fault : {first now : SoFar} {all line rest : List ℕ} {texts : List (List ℕ)} {number : ℕ} {f : TextFault} → Carries first all number now rest → lines rest ≡ line ∷ texts
+    → (f ≡ memory) ⊎ LineFault number now line f → (f ≡ memory) ⊎ FirstRefused 1 first (lines all) f
+carries_fault {first} {now} {all} {line} {rest} {texts} {number} {f} c split (inl is) = inl is
+carries_fault {first} {now} {all} {line} {rest} {texts} {number} {f} c split (inr refused) =
+    inr (c.faults f (subst (λ ls. FirstRefused number now ls f) (sym split) (inl refused)))
+
+-- what a cut at the first line feed gives
+pub cut_line : (text : List ℕ) (r : Option (Bor (List ℕ) × Bor (List ℕ))) → IsSplitOnceResult 10 text r
+    → MatchOption r (lines text ≡ text ∷ []) (λ x. BeginsWithLine text x.0.now x.1.now)
+cut_line text None split =
+    let none = split_once_first 10 text None split (omega arith) in
+    slice_split_none (λ c. c == 10) text (λ k d within. fails_before_first (λ c. c == 10) text k d (omega (arith, within, none)))
+cut_line text (Some x) split =
+    let (inside, front, back) = split_once_first 10 text (Some x) split (omega arith) in
+    let cut = slice_split_first (λ c. c == 10) text 0 inside in
+    let whole = split_at_first (λ c. c == 10) text 0 inside in
+    record {
+      first = cut ∙ (λ i. sym front i ∷ lines (sym back i));
+      shorter = omega (arith, ap length whole, length-append (before_first (λ c. c == 10) text) (Rattle.std.proofs.Common.get_or text (Rattle.std.specs.List.position_or_len (λ c. c == 10) text) 0 ∷ after_first (λ c. c == 10) text), ap length back);
+    }
+
+-- the fault of a line
+pub line_fault : (number : ℕ) (now : SoFar) (line code : List ℕ) (e : TextCause) (f : TextFault) → code ≡ uncommented line
+    → (e ≡ cause.Memory) ⊎ LineRefused now code e
+    → ((e ≡ cause.Memory) × (f ≡ memory)) ⊎ ((e ≡ cause.Memory → ⊥) × (f.cause ≡ e) × (f.line ≡ number))
+    → (f ≡ memory) ⊎ LineFault number now line f
+line_fault number now line code e f is refused (inl m) = inl m.1
+line_fault number now line code e f is (inl m) (inr (other, same, at)) = absurd (other m)
+line_fault number now line code e f is (inr refused) (inr (other, same, at)) =
+    inr (subst (λ c. LineRefused now c f.cause) is (subst (λ c. LineRefused now code c) (sym same) refused), at)
+
+-- a text that means a source is read as that, unless memory was refused
+pub only_source : (text : List ℕ) (r : Result (List Sandbox) TextFault) → IfOk r (λ s. MeansSource text s) → IfErr r (λ f. (f ≡ memory) ⊎ IsFault text f)
+    → (s : List Sandbox) → MeansSource text s → MatchResult r (λ t. t ≡ s) (λ f. f ≡ memory)
+only_source text (Ok t) means fault s h = one_source text t s means h
+only_source text (Err f) means fault s h = unless fault
+  where
+    unless : (f ≡ memory) ⊎ IsFault text f → f ≡ memory
+    unless (inl is) = is
+    unless (inr bad) = absurd (meant_has_no_fault text s f h bad)
+
+-- and one with a fault is refused with that
+pub only_fault : (text : List ℕ) (r : Result (List Sandbox) TextFault) → IfOk r (λ s. MeansSource text s) → IfErr r (λ f. (f ≡ memory) ⊎ IsFault text f)
+    → (f : TextFault) → IsFault text f → MatchResult r (λ _. ⊥) (λ g. (g ≡ f) ⊎ (g ≡ memory))
+only_fault text (Ok t) means fault f h = meant_has_no_fault text t f means h
+only_fault text (Err g) means fault f h = which fault
+  where
+    which : (g ≡ memory) ⊎ IsFault text g → (g ≡ f) ⊎ (g ≡ memory)
+    which (inl is) = inr is
+    which (inr bad) = inl (one_fault text g f bad h)

@@ -1,0 +1,8 @@
+use Rattle.std.proofs.Common.{subst}
+use Rattle.sfi_text.specs.private.Operands.{values_of}
+use Rattle.sfi_text.specs.private.Reading.{Reads}
+use Rattle.sfi_text.proofs.line.read_branch.Goals as goal
+
+pub returns-in-Ok-clause-ok : goal.returns-in-Ok-clause-ok
+returns-in-Ok-clause-ok c =
+    (values_of c.in-Ok.o, subst (λ f. Reads (values_of c.in-Ok.o) f c.args.rest.now) c.branch_form.ensures c.in-Ok.ensures.reads, c.branch_to.ensures)

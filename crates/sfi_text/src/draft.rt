@@ -1,0 +1,268 @@
+//! The sandbox begun last, as far as the lines have come.
+ghost use Rattle.std.specs.Prelude.{◌≡◌, ◌≤◌, ◌+◌, ◌<◌, ◌⊎◌, ◌∷◌, [], length, replicate, IfOk, IfErr, OnOk, IsTrue, ◌↔◌, true};
+ghost use Rattle.sfi_policy.specs.Limits.{gates_most, items_most};
+ghost use Rattle.sfi_text.specs.declared.cause.TextCause.TheVariants as cause;
+ghost use Rattle.sfi_source.specs.declared.item.Body.TheVariants.{Plain, To, High, Low};
+ghost use Rattle.sfi_text.specs.Effects.{IsFree, Fits, with_stated};
+ghost use Rattle.sfi_source.specs.NameTable.{place_of, met};
+ghost use Rattle.sfi_text.specs.private.Draft.{AddsUpTo};
+ghost use Rattle.sfi_text.specs.private.Stated.{stated_within};
+ghost use Rattle.sfi_text.specs.SoFar.{begin, here, with_names, with_label, with_gate, with_bodies, with_bytes};
+
+use crate::cause::TextCause;
+use crate::statement::SandboxStatement;
+use sfi_policy::{Format, GATE_COUNT_MOST, ITEM_COUNT_MOST};
+use sfi_source::{Body, Item, Named, Names, SourceGate, SourcePart};
+use std::alloc::Global;
+use std::marker::Model;
+
+/// The sandbox begun last.
+#[derive(Drop)]
+pub struct Draft {
+    format: Format,
+    data_size: u32,
+    gates: Vec<SourceGate>,
+    names: Names,
+    items: Vec<Item>,
+    bytes: Vec<u8>,
+    in_data: bool,
+    rvc: bool,
+    labelled: bool,
+    opened: bool,
+}
+
+impl Model for Draft {
+    ghost use Rattle.std.specs.Prelude.{◌≤◌, ◌<◌, ◌^◌, length};
+    ghost use Rattle.sfi_source.specs.Source.{sandbox};
+    ghost use Rattle.sfi_text.specs.SoFar.{Begun};
+
+    ghost Value = { Begun };
+
+    ghost view = { λ b. record {
+      sandbox = sandbox b.format b.data_size b.gates.items b.names b.items.items b.bytes.items;
+      in_data = b.in_data;
+      rvc = b.rvc;
+      labelled = b.labelled;
+      opened = b.opened;
+    } };
+
+    ghost invariant = { λ b. (length b.bytes.items ≤ b.data_size) × (b.data_size < 2 ^ 32) };
+}
+
+impl Draft {
+    /// A sandbox of this format with `data_size` bytes of data, and nothing else.
+    pub fn new(alloc: Global, format: Format, data_size: u32) -> Draft
+        ensures { result ≡ begin format data_size }
+    {
+        Draft {
+            format,
+            data_size,
+            gates: Vec::new(alloc),
+            names: Names::new(alloc),
+            items: Vec::new(alloc),
+            bytes: Vec::new(alloc),
+            in_data: false,
+            rvc: false,
+            labelled: false,
+            opened: false,
+        }
+    }
+
+    /// Whether its code part has ended.
+    pub fn is_in_data(&self) -> bool
+        ensures { result ≡ self.now.in_data }
+    {
+        self.in_data
+    }
+
+    /// Whether it has a label or an instruction.
+    pub fn is_opened(&self) -> bool
+        ensures { result ≡ self.now.opened }
+    {
+        self.opened
+    }
+
+    /// Whether a label or a gate may have this name.
+    pub fn is_free(&self, name: &str) -> bool
+        ensures { IsTrue result ↔ IsFree name.now self.now }
+    {
+        match self.names.meaning(name) {
+            Named::Unknown => true,
+            Named::Gate(_) | Named::Code(_) | Named::Data(_) => false,
+        }
+    }
+
+    /// What a label names here.
+    fn here(&self) -> Named
+        ensures { result ≡ here self.now }
+    {
+        if self.in_data {
+            Named::Data(self.bytes.len() as u32)
+        } else {
+            Named::Code(self.items.len())
+        }
+    }
+
+    /// Gives the name to a label that stands here.
+    pub fn label(&mut self, alloc: Global, name: &str) -> Result<(), TextCause>
+        ensures labelled { OnOk result (self.new ≡ with_label name.now self.old) }
+        ensures memory { IfErr result (λ e. e ≡ cause.Memory) }
+    {
+        let here = self.here();
+        self.names.place(alloc, name, here)?;
+        self.labelled = self.labelled || !self.in_data;
+        self.opened = true;
+        Ok(())
+    }
+
+    /// Adds a gate of this service.
+    fn gate(&mut self, alloc: Global, name: &str, service: u32) -> Result<(), TextCause>
+        ensures { AddsUpTo gates_most (length self.old.sandbox.gates + 1) result self.new
+            (with_gate name.now service self.old) }
+    {
+        if self.gates.len() >= GATE_COUNT_MOST {
+            return Err(TextCause::Limit);
+        }
+        let place = self.names.place_of(name);
+        self.names
+            .place(alloc, name, Named::Gate(self.gates.len()))?;
+        self.gates.push(SourceGate {
+            name: place,
+            service,
+        })?;
+        Ok(())
+    }
+
+    /// Says whether 16-bit forms may stand for the instructions from here on.
+    fn set_rvc(&mut self, rvc: bool)
+        ensures { self.new ≡ record self.old { rvc = rvc } }
+    {
+        self.rvc = rvc;
+    }
+
+    /// Ends the code part.
+    fn begin_data(&mut self)
+        ensures { self.new ≡ record self.old { in_data = true } }
+    {
+        self.in_data = true;
+    }
+
+    /// Adds bytes of data.
+    fn push_bytes(&mut self, bytes: &[u8]) -> Result<(), TextCause>
+        ensures { AddsUpTo self.old.sandbox.data_size
+            (length self.old.sandbox.bytes + length bytes.now) result self.new
+            (with_bytes bytes.now self.old) }
+    {
+        if bytes.len() > self.data_size as usize - self.bytes.len() {
+            return Err(TextCause::Limit);
+        }
+        self.bytes.extend_from_slice(bytes)?;
+        Ok(())
+    }
+
+    /// Adds `count` bytes of data that are 0.
+    fn push_zeros(&mut self, count: u32) -> Result<(), TextCause>
+        ensures { AddsUpTo self.old.sandbox.data_size
+            (length self.old.sandbox.bytes + count) result self.new
+            (with_bytes (replicate count 0) self.old) }
+    {
+        if count as usize > self.data_size as usize - self.bytes.len() {
+            return Err(TextCause::Limit);
+        }
+        let len = self.bytes.len() + count as usize;
+        self.bytes.resize(len, 0)?;
+        Ok(())
+    }
+
+    /// Adds an instruction of the line of this number.
+    fn push(&mut self, line: u32, body: Body) -> Result<(), TextCause>
+        ensures { AddsUpTo items_most (length self.old.sandbox.items + 1) result self.new
+            (with_bodies line (body ∷ []) self.old) }
+    {
+        if self.items.len() >= ITEM_COUNT_MOST {
+            return Err(TextCause::Limit);
+        }
+        self.items.push(Item {
+            line,
+            labelled: self.labelled,
+            rvc: self.rvc,
+            body,
+        })?;
+        self.labelled = false;
+        self.opened = true;
+        Ok(())
+    }
+
+    /// Enters a name that an instruction goes to in the table of names, and returns its place there.
+    fn meet(&mut self, alloc: Global, name: &str) -> Result<usize, TextCause>
+        ensures met { OnOk result
+            (self.new ≡ with_names (met self.old.sandbox.names name.now) self.old) }
+        ensures place { IfOk result (λ place. place ≡ place_of self.old.sandbox.names name.now) }
+        ensures memory { IfErr result (λ e. e ≡ cause.Memory) }
+    {
+        Ok(self.names.meet(alloc, name)?)
+    }
+
+    /// Adds two instructions of the line of this number.
+    fn push_two(&mut self, line: u32, first: Body, second: Body) -> Result<(), TextCause>
+        ensures { AddsUpTo items_most (length self.old.sandbox.items + 2) result self.new
+            (with_bodies line (first ∷ second ∷ []) self.old) }
+    {
+        self.push(line, first)?;
+        self.push(line, second)
+    }
+
+    /// Adds what the line of this number states.
+    pub fn state(
+        &mut self,
+        alloc: Global,
+        line: u32,
+        statement: &SandboxStatement<'_>,
+    ) -> Result<(), TextCause>
+        ensures fits { OnOk result (Fits (stated_within statement.now) self.old) }
+        ensures after { OnOk result
+            (self.new ≡ with_stated line (stated_within statement.now) self.old) }
+        ensures cause { IfErr result (λ e. (e ≡ cause.Memory)
+            ⊎ ((Fits (stated_within statement.now) self.old → ⊥) × (e ≡ cause.Limit))) }
+    {
+        match *statement {
+            SandboxStatement::Gate { name, service } => self.gate(alloc, name, service),
+            SandboxStatement::Compressed(rvc) => {
+                self.set_rvc(rvc);
+                Ok(())
+            }
+            SandboxStatement::Data => {
+                self.begin_data();
+                Ok(())
+            }
+            SandboxStatement::Bytes(ref bytes) => self.push_bytes(bytes),
+            SandboxStatement::Zeros(count) => self.push_zeros(count),
+            SandboxStatement::One(instr) => self.push(line, Body::Plain(instr)),
+            SandboxStatement::Two(first, second) => {
+                self.push_two(line, Body::Plain(first), Body::Plain(second))
+            }
+            SandboxStatement::Jump { instr, name } => {
+                let place = self.meet(alloc, name)?;
+                self.push(line, Body::To(instr, place))
+            }
+            SandboxStatement::Address { rd, name } => {
+                let place = self.meet(alloc, name)?;
+                self.push_two(line, Body::High(rd, place), Body::Low(rd, place))
+            }
+        }
+    }
+
+    /// The sandbox as it stands.
+    pub fn finish(self) -> SourcePart
+        ensures { result ≡ self.sandbox }
+    {
+        SourcePart::new(
+            self.format,
+            self.data_size,
+            self.gates,
+            self.names,
+            self.items,
+            self.bytes,
+        )
+    }
+}

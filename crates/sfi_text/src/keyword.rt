@@ -1,0 +1,315 @@
+//! The first words of statements: directives, pseudo-instructions and the names of instructions.
+ghost use Rattle.std.specs.Prelude.{◌≡◌, ◌<◌, IfSome, IfNone};
+ghost use Rattle.sfi_text.specs.Keywords.{directive_name, directive_form, pseudo_name, pseudo_form, data_name, data_kind, keyword_name, place_of_keyword};
+ghost use Rattle.sfi_text.specs.private.Lookup.{hash, candidate, mnemonic_in};
+ghost use Rattle.sfi_text.specs.Mnemonics.{name_of};
+
+use crate::form::{NumberKind, Part};
+use crate::mnemonic::Mnemonic;
+use crate::statement::Place;
+use rv_word::{Cond, ImmOp, LoadKind, RegOp, StoreWidth};
+
+/// A directive, but for those of lists of data.
+#[derive(Clone, Copy)]
+pub enum Directive {
+    Format,
+    Sandbox,
+    Gate,
+    Option,
+    Data,
+    Zero,
+}
+
+/// A pseudo-instruction.
+#[derive(Clone, Copy)]
+pub enum Pseudo {
+    Nop,
+    Ret,
+    Li,
+    Mv,
+    Jr,
+    J,
+    Call,
+    Beqz,
+    Bnez,
+    La,
+}
+
+/// The numbers of a list of data: 4, 2 or 1 bytes each, the lowest first.
+#[derive(Clone, Copy)]
+pub enum DataWidth {
+    Word,
+    Half,
+    Byte,
+}
+
+/// The first word of a statement.
+#[derive(Clone, Copy)]
+pub enum Keyword {
+    Instr(Mnemonic),
+    Pseudo(Pseudo),
+    Directive(Directive),
+    Numbers(DataWidth),
+}
+
+impl Directive {
+    /// The name as source writes it.
+    fn name(self) -> &'static str
+        ensures { result.now ≡ directive_name self }
+    {
+        match self {
+            Directive::Format => ".format",
+            Directive::Sandbox => ".sandbox",
+            Directive::Gate => ".gate",
+            Directive::Option => ".option",
+            Directive::Data => ".data",
+            Directive::Zero => ".zero",
+        }
+    }
+
+    /// The operands that stand after the name.
+    pub fn form(self) -> &'static [Part]
+        ensures { result.now ≡ directive_form self }
+    {
+        match self {
+            Directive::Format => &[Part::ImageFormat],
+            Directive::Sandbox => &[Part::Number(NumberKind::DataSize)],
+            Directive::Gate => &[Part::Name, Part::Number(NumberKind::Service)],
+            Directive::Option => &[Part::Mode],
+            Directive::Data => &[],
+            Directive::Zero => &[Part::Number(NumberKind::ZeroCount)],
+        }
+    }
+}
+
+impl Pseudo {
+    /// The name as source writes it.
+    fn name(self) -> &'static str
+        ensures { result.now ≡ pseudo_name self }
+    {
+        match self {
+            Pseudo::Nop => "nop",
+            Pseudo::Ret => "ret",
+            Pseudo::Li => "li",
+            Pseudo::Mv => "mv",
+            Pseudo::Jr => "jr",
+            Pseudo::J => "j",
+            Pseudo::Call => "call",
+            Pseudo::Beqz => "beqz",
+            Pseudo::Bnez => "bnez",
+            Pseudo::La => "la",
+        }
+    }
+
+    /// The operands that stand after the name, and the marks between them.
+    pub fn form(self) -> &'static [Part]
+        ensures { result.now ≡ pseudo_form self }
+    {
+        match self {
+            Pseudo::Nop | Pseudo::Ret => &[],
+            Pseudo::Li => &[Part::Rd, Part::Comma, Part::Number(NumberKind::Word)],
+            Pseudo::Mv => &[Part::Rd, Part::Comma, Part::Rs1],
+            Pseudo::Jr => &[Part::Rs1],
+            Pseudo::J | Pseudo::Call => &[Part::Name],
+            Pseudo::Beqz | Pseudo::Bnez => &[Part::Rs1, Part::Comma, Part::Name],
+            Pseudo::La => &[Part::Rd, Part::Comma, Part::Name],
+        }
+    }
+}
+
+impl DataWidth {
+    /// The name as source writes it.
+    fn name(self) -> &'static str
+        ensures { result.now ≡ data_name self }
+    {
+        match self {
+            DataWidth::Word => ".word",
+            DataWidth::Half => ".half",
+            DataWidth::Byte => ".byte",
+        }
+    }
+
+    /// Which numbers may stand in the list.
+    pub fn kind(self) -> NumberKind
+        ensures { result ≡ data_kind self }
+    {
+        match self {
+            DataWidth::Word => NumberKind::Word,
+            DataWidth::Half => NumberKind::Half,
+            DataWidth::Byte => NumberKind::Byte,
+        }
+    }
+}
+
+/// Every keyword.
+const ALL: &[Keyword; 67] = &[
+    Keyword::Instr(Mnemonic::Op(RegOp::Add)),
+    Keyword::Instr(Mnemonic::Op(RegOp::Sub)),
+    Keyword::Instr(Mnemonic::Op(RegOp::Sll)),
+    Keyword::Instr(Mnemonic::Op(RegOp::Slt)),
+    Keyword::Instr(Mnemonic::Op(RegOp::Sltu)),
+    Keyword::Instr(Mnemonic::Op(RegOp::Xor)),
+    Keyword::Instr(Mnemonic::Op(RegOp::Srl)),
+    Keyword::Instr(Mnemonic::Op(RegOp::Sra)),
+    Keyword::Instr(Mnemonic::Op(RegOp::Or)),
+    Keyword::Instr(Mnemonic::Op(RegOp::And)),
+    Keyword::Instr(Mnemonic::Op(RegOp::Mul)),
+    Keyword::Instr(Mnemonic::Op(RegOp::Mulh)),
+    Keyword::Instr(Mnemonic::Op(RegOp::Mulhsu)),
+    Keyword::Instr(Mnemonic::Op(RegOp::Mulhu)),
+    Keyword::Instr(Mnemonic::Op(RegOp::Div)),
+    Keyword::Instr(Mnemonic::Op(RegOp::Divu)),
+    Keyword::Instr(Mnemonic::Op(RegOp::Rem)),
+    Keyword::Instr(Mnemonic::Op(RegOp::Remu)),
+    Keyword::Instr(Mnemonic::OpImm(ImmOp::Addi)),
+    Keyword::Instr(Mnemonic::OpImm(ImmOp::Slti)),
+    Keyword::Instr(Mnemonic::OpImm(ImmOp::Sltiu)),
+    Keyword::Instr(Mnemonic::OpImm(ImmOp::Xori)),
+    Keyword::Instr(Mnemonic::OpImm(ImmOp::Ori)),
+    Keyword::Instr(Mnemonic::OpImm(ImmOp::Andi)),
+    Keyword::Instr(Mnemonic::OpImm(ImmOp::Slli)),
+    Keyword::Instr(Mnemonic::OpImm(ImmOp::Srli)),
+    Keyword::Instr(Mnemonic::OpImm(ImmOp::Srai)),
+    Keyword::Instr(Mnemonic::Load(LoadKind::Lb)),
+    Keyword::Instr(Mnemonic::Load(LoadKind::Lh)),
+    Keyword::Instr(Mnemonic::Load(LoadKind::Lw)),
+    Keyword::Instr(Mnemonic::Load(LoadKind::Lbu)),
+    Keyword::Instr(Mnemonic::Load(LoadKind::Lhu)),
+    Keyword::Instr(Mnemonic::Store(StoreWidth::Sb)),
+    Keyword::Instr(Mnemonic::Store(StoreWidth::Sh)),
+    Keyword::Instr(Mnemonic::Store(StoreWidth::Sw)),
+    Keyword::Instr(Mnemonic::Branch(Cond::Beq)),
+    Keyword::Instr(Mnemonic::Branch(Cond::Bne)),
+    Keyword::Instr(Mnemonic::Branch(Cond::Blt)),
+    Keyword::Instr(Mnemonic::Branch(Cond::Bge)),
+    Keyword::Instr(Mnemonic::Branch(Cond::Bltu)),
+    Keyword::Instr(Mnemonic::Branch(Cond::Bgeu)),
+    Keyword::Instr(Mnemonic::Jal),
+    Keyword::Instr(Mnemonic::Jalr),
+    Keyword::Instr(Mnemonic::Lui),
+    Keyword::Instr(Mnemonic::Auipc),
+    Keyword::Instr(Mnemonic::Fence),
+    Keyword::Instr(Mnemonic::Ecall),
+    Keyword::Instr(Mnemonic::Ebreak),
+    Keyword::Pseudo(Pseudo::Nop),
+    Keyword::Pseudo(Pseudo::Ret),
+    Keyword::Pseudo(Pseudo::Li),
+    Keyword::Pseudo(Pseudo::Mv),
+    Keyword::Pseudo(Pseudo::Jr),
+    Keyword::Pseudo(Pseudo::J),
+    Keyword::Pseudo(Pseudo::Call),
+    Keyword::Pseudo(Pseudo::Beqz),
+    Keyword::Pseudo(Pseudo::Bnez),
+    Keyword::Pseudo(Pseudo::La),
+    Keyword::Directive(Directive::Format),
+    Keyword::Directive(Directive::Sandbox),
+    Keyword::Directive(Directive::Gate),
+    Keyword::Directive(Directive::Option),
+    Keyword::Directive(Directive::Data),
+    Keyword::Directive(Directive::Zero),
+    Keyword::Numbers(DataWidth::Word),
+    Keyword::Numbers(DataWidth::Half),
+    Keyword::Numbers(DataWidth::Byte),
+];
+
+/// By the hash of a name, the place in [`ALL`] of the keyword that alone can have the name.
+const PLACES: &[u8; 256] = &[
+    0, 0, 0, 0, 0, 28, 50, 0, 0, 0, 0, 0, 0, 0, 30, 64, 0, 0, 0, 0, 29, 63, 42, 24, 0, 0, 0, 10,
+    58, 0, 0, 0, 0, 0, 2, 0, 0, 0, 48, 21, 0, 0, 3, 0, 0, 55, 0, 12, 0, 0, 59, 0, 0, 0, 40, 0, 13,
+    0, 0, 0, 0, 0, 20, 0, 60, 52, 0, 0, 8, 11, 0, 0, 0, 0, 0, 0, 0, 0, 0, 19, 26, 0, 56, 0, 0, 0,
+    0, 0, 14, 53, 0, 4, 0, 0, 0, 0, 0, 0, 0, 23, 0, 0, 0, 0, 36, 0, 0, 0, 0, 0, 0, 0, 45, 0, 0, 47,
+    39, 0, 0, 0, 31, 0, 51, 0, 0, 0, 0, 44, 65, 7, 61, 0, 0, 66, 0, 0, 0, 0, 46, 0, 6, 0, 0, 0, 0,
+    0, 5, 0, 0, 0, 0, 38, 0, 0, 0, 0, 0, 0, 0, 0, 0, 0, 0, 0, 0, 0, 0, 43, 0, 37, 0, 0, 0, 0, 0, 0,
+    0, 0, 0, 0, 0, 0, 0, 1, 0, 0, 0, 0, 41, 25, 0, 0, 0, 0, 0, 0, 0, 22, 0, 0, 0, 0, 0, 0, 0, 0, 0,
+    54, 32, 0, 0, 0, 0, 35, 33, 62, 0, 0, 0, 0, 0, 15, 0, 0, 0, 16, 0, 0, 0, 34, 0, 0, 49, 0, 0, 0,
+    0, 0, 0, 0, 0, 0, 0, 0, 0, 0, 9, 0, 0, 18, 0, 0, 17, 0, 57, 27,
+];
+
+/// The hash of a name: the seed, and then for each byte the factor times what was there before and
+/// the byte, modulo 256.
+#[tactic(auto, using(std::proofs::lemmas::List::Sums::fold_more), unfolding(crate::specs::private::Lookup::hash))]
+pub fn hash(seed: usize, factor: usize, name: &str) -> usize
+    requires seed { seed < 256 }
+    requires factor { factor < 256 }
+    ensures value { result ≡ hash seed factor name.now }
+    ensures small { result < 256 }
+{
+    let mut hash = seed;
+    for byte in name.as_bytes() {
+        hash = (hash * factor + usize::from(*byte)) % 256;
+    }
+    hash
+}
+
+/// The keyword that alone can have this name. The two numbers were found by trial: by them no two
+/// keywords have one hash.
+fn candidate(name: &str) -> Keyword
+    ensures { result ≡ candidate name.now }
+{
+    ALL[PLACES[hash(57, 103, name)] as usize]
+}
+
+impl Keyword {
+    /// The name as source writes it, in lower case.
+    pub fn name(self) -> &'static str
+        ensures { result.now ≡ keyword_name self }
+    {
+        match self {
+            Keyword::Instr(name) => name.name(),
+            Keyword::Pseudo(name) => name.name(),
+            Keyword::Directive(name) => name.name(),
+            Keyword::Numbers(width) => width.name(),
+        }
+    }
+
+    /// The keyword of this name; `None` for any other text.
+    pub fn of(name: &str) -> Option<Keyword>
+        ensures some { IfSome result (λ k. keyword_name k ≡ name.now) }
+        ensures none { IfNone result ((k : Keyword) → keyword_name k ≡ name.now → ⊥) }
+    {
+        let keyword = candidate(name);
+        if keyword.name() == name {
+            Some(keyword)
+        } else {
+            None
+        }
+    }
+
+    /// The mnemonic, where it is one.
+    fn mnemonic(self) -> Option<Mnemonic>
+        ensures { result ≡ mnemonic_in self }
+    {
+        match self {
+            Keyword::Instr(mnemonic) => Some(mnemonic),
+            Keyword::Pseudo(_) | Keyword::Directive(_) | Keyword::Numbers(_) => None,
+        }
+    }
+
+    /// Where a statement of this name may come.
+    pub fn place(self) -> Place
+        ensures { result ≡ place_of_keyword self }
+    {
+        match self {
+            Keyword::Instr(_) | Keyword::Pseudo(_) => Place::Code,
+            Keyword::Numbers(_) => Place::Data,
+            Keyword::Directive(Directive::Format) => Place::Head,
+            Keyword::Directive(Directive::Sandbox) => Place::Outside,
+            Keyword::Directive(Directive::Gate) => Place::Gates,
+            Keyword::Directive(Directive::Option | Directive::Data) => Place::Code,
+            Keyword::Directive(Directive::Zero) => Place::Data,
+        }
+    }
+}
+
+impl Mnemonic {
+    /// The mnemonic of this name; `None` for any other text, a pseudo-instruction's name too.
+    pub fn of(name: &str) -> Option<Mnemonic>
+        ensures some { IfSome result (λ m. name_of m ≡ name.now) }
+        ensures none { IfNone result ((m : Mnemonic) → name_of m ≡ name.now → ⊥) }
+    {
+        match Keyword::of(name) {
+            Some(keyword) => keyword.mnemonic(),
+            None => None,
+        }
+    }
+}

@@ -1,0 +1,151 @@
+//! The tokens of source: each is the longest that stands there.
+ghost use Rattle.std.specs.Prelude.{◌≡◌, ◌≤◌, length, IsTrue};
+ghost use Rattle.std.specs.List.{prefix_len};
+ghost use Rattle.std.specs.Char.{is_ascii_digit, is_ascii_hexdigit};
+ghost use Rattle.sfi_text.specs.Tokens.{is_space, is_mark};
+ghost use Rattle.sfi_source.specs.Names.{begins_name, continues_name};
+ghost use Rattle.sfi_text.specs.private.Scan.{magnitude_len, token_len, begins_hex, body_of};
+ghost use Rattle.sfi_text.specs.private.Next.{IsNext};
+
+/// What stands at the front of a text.
+#[derive(Clone, Copy)]
+pub enum Next<'a> {
+    /// A token, and what follows it.
+    Token(&'a str, &'a str),
+    /// No more than spaces.
+    End,
+    /// No token can be formed.
+    Stuck,
+}
+
+/// Space, tab and carriage return stand between tokens.
+fn is_space(byte: u8) -> bool
+    ensures { result ≡ is_space byte }
+{
+    byte == b' ' || byte == b'\t' || byte == b'\r'
+}
+
+/// A letter, `_` or `.` begins a name.
+pub fn begins_name(byte: u8) -> bool
+    ensures { result ≡ begins_name byte }
+{
+    byte.is_ascii_alphabetic() || byte == b'_' || byte == b'.'
+}
+
+/// Letters, digits, `_` and `.` continue one.
+fn continues_name(byte: u8) -> bool
+    ensures { result ≡ continues_name byte }
+{
+    begins_name(byte) || byte.is_ascii_digit()
+}
+
+/// `,`, `:`, `(` and `)` are tokens of their own.
+fn is_mark(byte: u8) -> bool
+    ensures { result ≡ is_mark byte }
+{
+    byte == b',' || byte == b':' || byte == b'(' || byte == b')'
+}
+
+/// How many spaces stand at the front.
+fn gap_len(text: &[u8]) -> usize
+    ensures { result ≡ prefix_len is_space text.now }
+{
+    text.iter().take_while(|b| is_space(**b)).count()
+}
+
+/// How many bytes that continue a name stand at the front.
+fn name_len(text: &[u8]) -> usize
+    ensures value { result ≡ prefix_len continues_name text.now }
+    ensures within { result ≤ length text.now }
+{
+    text.iter().take_while(|b| continues_name(**b)).count()
+}
+
+/// How many decimal digits stand at the front.
+fn digits_len(text: &[u8]) -> usize
+    ensures value { result ≡ prefix_len is_ascii_digit text.now }
+    ensures within { result ≤ length text.now }
+{
+    text.iter().take_while(|b| b.is_ascii_digit()).count()
+}
+
+/// How many hexadecimal digits stand at the front.
+fn hex_digits_len(text: &[u8]) -> usize
+    ensures value { result ≡ prefix_len is_ascii_hexdigit text.now }
+    ensures within { result ≤ length text.now }
+{
+    text.iter().take_while(|b| b.is_ascii_hexdigit()).count()
+}
+
+/// Whether `0x` and a hexadecimal digit stand at the front.
+fn begins_hex(text: &[u8]) -> bool
+    ensures value { result ≡ begins_hex text.now }
+    ensures room { IsTrue result → 2 ≤ length text.now }
+{
+    match text {
+        [b'0', b'x', digit, ..] => digit.is_ascii_hexdigit(),
+        _ => false,
+    }
+}
+
+/// The length of the longest number without a sign that stands at the front, 0 where none does.
+#[tactic(auto, unfolding(crate::specs::private::Scan::magnitude_len))]
+fn magnitude_len(text: &[u8]) -> usize
+    ensures value { result ≡ magnitude_len text.now }
+    ensures within { result ≤ length text.now }
+{
+    if begins_hex(text) {
+        2 + hex_digits_len(&text[2..])
+    } else {
+        digits_len(text)
+    }
+}
+
+/// The length of the longest token that stands at the front, 0 where none does.
+#[tactic(auto, unfolding(crate::specs::private::Scan::token_len))]
+fn token_len(text: &[u8]) -> usize
+    ensures value { result ≡ token_len text.now }
+    ensures within { result ≤ length text.now }
+{
+    match text {
+        [] => 0,
+        [first, rest @ ..] => {
+            if begins_name(*first) {
+                1 + name_len(rest)
+            } else if is_mark(*first) {
+                1
+            } else if *first == b'-' {
+                match magnitude_len(rest) {
+                    0 => 0,
+                    n => n + 1,
+                }
+            } else {
+                magnitude_len(text)
+            }
+        }
+    }
+}
+
+/// The text after its leading spaces.
+#[tactic(auto, using(crate::proofs::Taking::gap_boundary), unfolding(crate::specs::private::Scan::body_of))]
+pub fn body(text: &str) -> &str
+    ensures { result.now ≡ body_of text.now }
+{
+    &text[gap_len(text.as_bytes())..]
+}
+
+/// The first token of a text.
+pub fn next_token(text: &str) -> Next<'_>
+    ensures { IsNext text.now result }
+{
+    let body = body(text);
+    let len = token_len(body.as_bytes());
+    if body.is_empty() {
+        Next::End
+    } else if len == 0 {
+        Next::Stuck
+    } else {
+        let (token, rest) = body.split_at(len);
+        Next::Token(token, rest)
+    }
+}

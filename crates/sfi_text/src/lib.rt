@@ -1,0 +1,40 @@
+//! The assembler's text, of sources and of single instructions.
+//!
+//! [`parse_source`] reads a text to its sandboxes: what it means is `specs/Texts.antt`, line by
+//! line `specs/Leads.antt`, over the table of statements in `specs/Keywords.antt`.
+//!
+//! [`parse_instr`] reads the text of one instruction, [`print_instr`] and [`push_instr`] write it;
+//! a printed instruction that a word spells reads back as itself. What a text means is
+//! `specs/Statement.antt`, over the tokens of `specs/Tokens.antt` and the operands of
+//! `specs/Forms.antt`; the printed text is `specs/Printed.antt`.
+#![tactic(auto)]
+
+mod cause;
+mod constant;
+mod data;
+mod draft;
+mod fault;
+mod form;
+mod keyword;
+pub mod laws;
+mod lexer;
+mod line;
+mod mnemonic;
+mod number;
+mod operands;
+mod parse;
+mod print;
+mod progress;
+mod read;
+mod register;
+mod rows;
+mod statement;
+mod text;
+
+pub use cause::TextCause;
+pub use fault::TextFault;
+pub use parse::parse_instr;
+pub use print::{print_instr, push_instr};
+pub use sfi_policy::Format;
+pub use sfi_source::{Body, Item, Named, Names, Source, SourceGate, SourcePart};
+pub use text::parse_source;

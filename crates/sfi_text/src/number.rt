@@ -1,0 +1,82 @@
+//! Numbers of source: decimal, or hexadecimal after `0x`.
+ghost use Rattle.std.specs.Prelude.{◌≡◌, ◌∷◌, ◌++◌, ◌<◌, ◌≤◌, ◌^◌, ℕ, ℤ, List, codes, MatchOption, IfSome, IfNone};
+ghost use Rattle.std.specs.Str.Parse.{IsNumeral, digits_value};
+ghost use Rattle.sfi_text.specs.Tokens.{IsMagnitude, IsNumber};
+ghost use Rattle.sfi_text.specs.private.Numbers.{IsInReach};
+
+/// What follows a leading minus.
+fn after_minus(text: &str) -> Option<&str>
+    ensures { MatchOption result
+        ((digits : List ℕ) → text.now ≡ codes "-" ++ digits → ⊥)
+        (λ digits. text.now ≡ codes "-" ++ digits.now) }
+{
+    text.strip_prefix('-')
+}
+
+/// What follows a leading `0x`.
+fn after_zero_x(text: &str) -> Option<&str>
+    ensures { MatchOption result
+        ((digits : List ℕ) → text.now ≡ codes "0x" ++ digits → ⊥)
+        (λ digits. text.now ≡ codes "0x" ++ digits.now) }
+{
+    text.strip_prefix("0x")
+}
+
+/// The number that these digits write, if 64 bits can hold it.
+fn digits(text: &str, radix: u32) -> Option<u64>
+    requires low { 2 ≤ radix }
+    requires high { radix ≤ 16 }
+    ensures some { IfSome result (λ n.
+        IsNumeral radix text.now × (n ≡ digits_value radix text.now)) }
+    ensures none { IfNone result
+        (IsNumeral radix text.now → digits_value radix text.now < 2 ^ 64 → ⊥) }
+{
+    // A plus, which `from_str_radix` takes, is no digit.
+    if text.starts_with('+') {
+        return None;
+    }
+    match u64::from_str_radix(text, radix) {
+        Ok(n) => Some(n),
+        Err(_) => None,
+    }
+}
+
+/// The number that the token writes without a sign, if 64 bits can hold it.
+fn magnitude(text: &str) -> Option<u64>
+    ensures some { IfSome result (λ n. IsMagnitude text.now n) }
+    ensures none { IfNone result ((n : ℕ) → IsMagnitude text.now n → n < 2 ^ 64 → ⊥) }
+{
+    match after_zero_x(text) {
+        Some(hex) => digits(hex, 16),
+        None => digits(text, 10),
+    }
+}
+
+/// The number that a token writes, if 32 bits can hold it, with or without a sign.
+pub fn number(text: &str) -> Option<i64>
+    ensures some { IfSome result (λ z. IsNumber text.now z × IsInReach z) }
+    ensures none { IfNone result ((z : ℤ) → IsNumber text.now z → IsInReach z → ⊥) }
+{
+    match after_minus(text) {
+        Some(digits) => match magnitude(digits) {
+            Some(n) => {
+                if n <= 2147483648 {
+                    Some(-(n as i64))
+                } else {
+                    None
+                }
+            }
+            None => None,
+        },
+        None => match magnitude(text) {
+            Some(n) => {
+                if n <= 4294967295 {
+                    Some(n as i64)
+                } else {
+                    None
+                }
+            }
+            None => None,
+        },
+    }
+}

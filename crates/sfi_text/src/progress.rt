@@ -1,0 +1,317 @@
+//! The source so far, and how the lines of a text change it.
+ghost use Rattle.std.specs.Prelude.{◌≡◌, ◌⊎◌, ◌↔◌, ◌++◌, List, ℕ, None, Some, IsTrue, IfOk, IfErr, OnOk, MatchOption, codes};
+ghost use Rattle.sfi_text.specs.declared.cause.TextCause.TheVariants as cause;
+ghost use Rattle.sfi_text.specs.Effects.{Labels, RefusesLabel, MayCome, Does, HasNoRoom};
+ghost use Rattle.sfi_text.specs.Leads.{BeginsWithName, IsTaken, IsGateTwice, LeadsAfter, Leads, LabelRefused, RefusedAfter, RefusedFrom, LineRefused};
+ghost use Rattle.sfi_text.specs.private.Leads.{IsFront, PassesTo, LeadsFrom};
+ghost use Rattle.sfi_text.specs.SoFar.{format_or_sfi1, nothing, with_sandbox};
+ghost use Rattle.sfi_text.specs.private.Stated.{stated, place_of_stated};
+ghost use Rattle.sfi_text.specs.Texts.{LeadsFromNothing, MeansSource, IsFault};
+ghost use Rattle.sfi_text.specs.Causes.{memory};
+ghost use Rattle.sfi_source.specs.Names.{IsLabel};
+ghost use Rattle.sfi_text.specs.Tokens.{IsToken, Takes};
+
+use crate::cause::TextCause;
+use crate::draft::Draft;
+use crate::fault::TextFault;
+use crate::keyword::{Directive, Keyword};
+use crate::lexer::{Next, body, next_token};
+use crate::line::{read_keyword, read_statement};
+use crate::read::is_label;
+use crate::statement::{Place, Statement};
+use sfi_policy::{Format, NAME_MOST_BYTES};
+use sfi_source::{Source, SourcePart};
+use std::alloc::Global;
+use std::marker::Model;
+
+/// The source so far: its format, if the text has said it, the sandboxes that are finished,
+/// and the sandbox begun last.
+#[derive(Drop)]
+pub struct Progress {
+    format: Option<Format>,
+    finished: Vec<SourcePart>,
+    begun: Option<Draft>,
+}
+
+impl Model for Progress {
+    ghost use Rattle.sfi_text.specs.SoFar.{SoFar};
+
+    ghost Value = { SoFar };
+
+    ghost view = { λ p.
+        record { format = p.format; finished = p.finished.items; begun = p.begun } };
+}
+
+/// What follows the colon with which a text begins.
+fn without_colon(text: &str) -> Option<&str>
+    ensures { MatchOption result ((rest : List ℕ) → text.now ≡ codes ":" ++ rest → ⊥)
+        (λ rest. text.now ≡ codes ":" ++ rest.now) }
+{
+    text.strip_prefix(':')
+}
+
+/// What follows a colon that is the first token of a text.
+fn after_colon(text: &str) -> Option<&str>
+    ensures { MatchOption result ((rest : List ℕ) → Takes text.now (codes ":") rest → ⊥)
+        (λ rest. Takes text.now (codes ":") rest.now) }
+{
+    without_colon(body(text))
+}
+
+/// The name at the front of a text that a label may have, and what follows it.
+fn label_name(text: &str) -> Option<(&str, &str)>
+    ensures { MatchOption result ((name rest : List ℕ) → BeginsWithName text.now name rest → ⊥)
+        (λ x. BeginsWithName text.now x.0.now x.1.now) }
+{
+    match next_token(text) {
+        Next::Token(name, rest) => {
+            if is_label(name) {
+                Some((name, rest))
+            } else {
+                None
+            }
+        }
+        Next::End => None,
+        Next::Stuck => None,
+    }
+}
+
+/// What follows the colon of a label, where `token` is a label's name and `after` begins with a
+/// colon.
+fn after_label<'a>(token: &str, after: &'a str) -> Option<&'a str>
+    requires { IsToken token.now }
+    ensures { MatchOption result
+        ((rest : List ℕ) → IsLabel token.now → Takes after.now (codes ":") rest → ⊥)
+        (λ rest. IsLabel token.now × Takes after.now (codes ":") rest.now) }
+{
+    if is_label(token) {
+        after_colon(after)
+    } else {
+        None
+    }
+}
+
+/// What a line, or the rest of it, begins with.
+#[derive(Clone, Copy)]
+enum Front<'a> {
+    /// A label: its name, and what follows its colon.
+    Label(&'a str, &'a str),
+    /// Something else.
+    Other(Next<'a>),
+}
+
+/// What stands at the front of a text.
+fn front_of(text: &str) -> Front<'_>
+    ensures { IsFront text.now result }
+{
+    let next = next_token(text);
+    match next {
+        Next::Token(name, after) => match after_label(name, after) {
+            Some(rest) => Front::Label(name, rest),
+            None => Front::Other(next),
+        },
+        Next::End => Front::Other(next),
+        Next::Stuck => Front::Other(next),
+    }
+}
+
+/// Whether a text begins with a name that a label or a gate has already.
+fn is_taken(draft: &Draft, text: &str) -> bool
+    ensures { IsTrue result ↔ IsTaken draft.now text.now }
+{
+    match label_name(text) {
+        Some((name, _)) => !draft.is_free(name),
+        None => false,
+    }
+}
+
+impl Progress {
+    /// The source so far before the first line.
+    pub fn new(alloc: Global) -> Progress
+        ensures { result ≡ nothing }
+    {
+        Progress {
+            format: None,
+            finished: Vec::new(alloc),
+            begun: None,
+        }
+    }
+
+    /// Whether a statement of this kind may come here.
+    fn may_come(&self, place: Place) -> bool
+        ensures { IsTrue result ↔ MayCome place self.now }
+    {
+        match (place, &self.begun) {
+            (Place::Head, None) => self.format.is_none(),
+            (Place::Head, Some(_)) => false,
+            (Place::Outside, _) => true,
+            (Place::Gates | Place::Code | Place::Data, None) => false,
+            (Place::Gates, Some(draft)) => !draft.is_opened(),
+            (Place::Code, Some(draft)) => !draft.is_in_data(),
+            (Place::Data, Some(draft)) => draft.is_in_data(),
+        }
+    }
+
+    /// Gives the name to a label that stands here.
+    fn label(&mut self, alloc: Global, name: &str) -> Result<(), TextCause>
+        ensures labels { OnOk result (Labels name.now self.old self.new) }
+        ensures cause { IfErr result (λ e. (e ≡ cause.Memory) ⊎ RefusesLabel name.now self.old e) }
+    {
+        match &mut self.begun {
+            None => Err(TextCause::Directive),
+            Some(draft) => {
+                if name.len() > NAME_MOST_BYTES {
+                    Err(TextCause::Limit)
+                } else if draft.is_free(name) {
+                    draft.label(alloc, name)
+                } else {
+                    Err(TextCause::LabelTwice)
+                }
+            }
+        }
+    }
+
+    /// Reads the labels at the front of a line, and returns what stands after them.
+    fn labels<'a>(&mut self, alloc: Global, line: &'a str) -> Result<Next<'a>, TextCause>
+        ensures passes { IfOk result (λ next. PassesTo self.old line.now self.new next) }
+        ensures cause { IfErr result (λ e. (e ≡ cause.Memory) ⊎ LabelRefused self.old line.now e) }
+    {
+        let mut text = line;
+        loop {
+            match front_of(text) {
+                Front::Label(name, rest) => match self.label(alloc, name) {
+                    Ok(()) => text = rest,
+                    Err(e) => return Err(e),
+                },
+                Front::Other(next) => return Ok(next),
+            }
+        }
+    }
+
+    /// Whether the statement is a gate, and a label or a gate has its name already.
+    fn is_gate_twice(&self, keyword: Keyword, text: &str) -> bool
+        ensures { IsTrue result ↔ IsGateTwice keyword self.now text.now }
+    {
+        match (keyword, &self.begun) {
+            (Keyword::Directive(Directive::Gate), Some(draft)) => is_taken(draft, text),
+            _ => false,
+        }
+    }
+
+    /// The format: SFI1 where the text says none.
+    fn format(&self) -> Format
+        ensures { result ≡ format_or_sfi1 self.now.format }
+    {
+        match self.format {
+            Some(format) => format,
+            None => Format::Sfi1,
+        }
+    }
+
+    /// Begins a sandbox with `data_size` bytes of data.
+    fn begin(&mut self, alloc: Global, data_size: u32) -> Result<(), TextCause>
+        ensures begins { OnOk result (self.new ≡ with_sandbox data_size self.old) }
+        ensures memory { IfErr result (λ e. e ≡ cause.Memory) }
+    {
+        if let Some(draft) = self.begun.take() {
+            self.finished.push(draft.finish())?;
+        }
+        self.begun = Some(Draft::new(alloc, self.format(), data_size));
+        Ok(())
+    }
+
+    /// Does what the line of this number states, which may come here.
+    fn state(
+        &mut self,
+        alloc: Global,
+        line: u32,
+        statement: &Statement<'_>,
+    ) -> Result<(), TextCause>
+        requires { MayCome (place_of_stated (stated statement.now)) self.old }
+        ensures does { OnOk result (Does line (stated statement.now) self.old self.new) }
+        ensures cause { IfErr result (λ e. (e ≡ cause.Memory)
+            ⊎ (HasNoRoom (stated statement.now) self.old × (e ≡ cause.Limit))) }
+    {
+        match statement {
+            Statement::Format(format) => {
+                self.format = Some(*format);
+                Ok(())
+            }
+            Statement::Sandbox { data_size } => self.begin(alloc, *data_size),
+            Statement::Within(what) => match &mut self.begun {
+                Some(draft) => draft.state(alloc, line, what),
+                None => Err(TextCause::Directive),
+            },
+        }
+    }
+
+    /// Does what a keyword states with the text after it.
+    fn after_keyword(
+        &mut self,
+        alloc: Global,
+        line: u32,
+        keyword: Keyword,
+        text: &str,
+    ) -> Result<(), TextCause>
+        ensures leads { OnOk result (LeadsAfter keyword line self.old text.now self.new) }
+        ensures cause { IfErr result (λ e.
+            (e ≡ cause.Memory) ⊎ RefusedAfter keyword self.old text.now e) }
+    {
+        if !self.may_come(keyword.place()) {
+            return Err(TextCause::Directive);
+        }
+        if self.is_gate_twice(keyword, text) {
+            return Err(TextCause::LabelTwice);
+        }
+        let statement = read_statement(alloc, keyword, text)?;
+        self.state(alloc, line, &statement)
+    }
+
+    /// Does what the statement of `token` and the rest after it states.
+    fn statement(
+        &mut self,
+        alloc: Global,
+        line: u32,
+        token: &str,
+        rest: &str,
+    ) -> Result<(), TextCause>
+        requires { IsToken token.now }
+        ensures leads { OnOk result (LeadsFrom line token.now rest.now self.old self.new) }
+        ensures cause { IfErr result (λ e.
+            (e ≡ cause.Memory) ⊎ RefusedFrom self.old token.now rest.now e) }
+    {
+        let keyword = read_keyword(token)?;
+        self.after_keyword(alloc, line, keyword, rest)
+    }
+
+    /// Reads a line, which has no comment.
+    pub fn line(&mut self, alloc: Global, line: u32, text: &str) -> Result<(), TextCause>
+        ensures leads { OnOk result (Leads line self.old text.now self.new) }
+        ensures cause { IfErr result (λ e. (e ≡ cause.Memory) ⊎ LineRefused self.old text.now e) }
+    {
+        match self.labels(alloc, text)? {
+            Next::End => Ok(()),
+            Next::Stuck => Err(TextCause::Word),
+            Next::Token(token, rest) => self.statement(alloc, line, token, rest),
+        }
+    }
+
+    /// The source that a text means whose lines were all read.
+    pub fn finish(self, text: &str) -> Result<Source, TextFault>
+        requires { LeadsFromNothing text.now self }
+        ensures source { IfOk result (λ s. MeansSource text.now s) }
+        ensures fault { IfErr result (λ f. (f ≡ memory) ⊎ IsFault text.now f) }
+    {
+        let mut parts = self.finished;
+        match self.begun {
+            Some(draft) => {
+                parts.push(draft.finish())?;
+                Ok(Source::new(parts))
+            }
+            None => Err(TextFault {
+                line: 1,
+                cause: TextCause::Directive,
+            }),
+        }
+    }
+}

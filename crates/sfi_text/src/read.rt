@@ -1,0 +1,253 @@
+//! Reading the operands of a statement off its text.
+ghost use Rattle.std.specs.Prelude.{◌≡◌, ◌≤◌, ◌↔◌, IfOk, OnOk, OnErr, IfErr, IsTrue, Bool, length, ℕ, ℤ};
+ghost use Rattle.sfi_policy.specs.Limits.{name_most};
+ghost use Rattle.sfi_text.specs.declared.cause.TextCause.{TextCause};
+ghost use Rattle.sfi_text.specs.declared.cause.TextCause.TheVariants as cause;
+ghost use Rattle.sfi_text.specs.Tokens.{IsNumber, IsToken, is_too_long};
+ghost use Rattle.sfi_source.specs.Names.{IsLabel, begins_label};
+ghost use Rattle.sfi_text.specs.Registers.{IsRegister};
+ghost use Rattle.sfi_text.specs.Forms.{IsNumberOf};
+ghost use Rattle.sfi_text.specs.Operands.{OperandValues, Stands, Departs, part_cause, label_cause, mode_name, SaysFormat};
+ghost use Rattle.sfi_policy.specs.declared.format.Format.{Format};
+ghost use Rattle.sfi_text.specs.private.Operands.{values_of};
+ghost use Rattle.sfi_text.specs.private.Reading.{Reads, SameAt, has_no_repeat, is_fresh, KeepsOthers};
+
+use crate::cause::TextCause;
+use crate::form::{NumberKind, Part};
+use crate::lexer::{Next, next_token};
+use crate::number::number;
+use crate::operands::Operands;
+use crate::register::register;
+use rv_word::Reg;
+use sfi_policy::{Format, NAME_MOST_BYTES};
+
+/// The register that the token names.
+fn read_register(token: &str) -> Result<Reg, TextCause>
+    ensures ok { IfOk result (λ r. IsRegister token.now r) }
+    ensures err { OnErr result ((r : ℕ) → IsRegister token.now r → ⊥) }
+    ensures cause { IfErr result (λ e. e ≡ cause.Register) }
+{
+    match register(token) {
+        Some(r) => Ok(r),
+        None => Err(TextCause::Register),
+    }
+}
+
+/// Whether the token is this mark.
+pub fn read_mark(token: &str, mark: &str) -> Result<(), TextCause>
+    ensures ok { IfOk result (λ _. token.now ≡ mark.now) }
+    ensures err { OnErr result (token.now ≡ mark.now → ⊥) }
+    ensures cause { IfErr result (λ e. e ≡ cause.Operands) }
+{
+    if token == mark {
+        Ok(())
+    } else {
+        Err(TextCause::Operands)
+    }
+}
+
+/// The number of this kind that the token writes.
+#[tactic(auto, using(crate::proofs::Numbers::kind_in_reach))]
+pub fn read_number(token: &str, kind: NumberKind) -> Result<i64, TextCause>
+    ensures ok { IfOk result (λ z. IsNumber token.now z × IsNumberOf kind z) }
+    ensures err { OnErr result ((z : ℤ) → IsNumber token.now z → IsNumberOf kind z → ⊥) }
+    ensures cause { IfErr result (λ e. e ≡ cause.Number) }
+{
+    match number(token) {
+        Some(z) => {
+            if kind.holds(z) {
+                Ok(z)
+            } else {
+                Err(TextCause::Number)
+            }
+        }
+        None => Err(TextCause::Number),
+    }
+}
+
+/// Whether the token begins with a letter or `_`.
+fn begins_label(token: &str) -> bool
+    ensures { result ≡ begins_label token.now }
+{
+    match token.as_bytes() {
+        [first, ..] => first.is_ascii_alphabetic() || *first == b'_',
+        [] => false,
+    }
+}
+
+/// Whether the token is a name that a label, a gate or a target may have, of any length.
+pub fn is_label(token: &str) -> bool
+    requires { IsToken token.now }
+    ensures { IsTrue result ↔ IsLabel token.now }
+{
+    begins_label(token)
+}
+
+/// Whether the token begins as a label's name does, and has more bytes than a name may have.
+fn is_too_long(token: &str) -> bool
+    ensures { result ≡ is_too_long token.now }
+{
+    begins_label(token) && token.len() > NAME_MOST_BYTES
+}
+
+/// The name that the token is: one that a label, a gate or a target may have.
+fn read_label(token: &str) -> Result<&str, TextCause>
+    requires { IsToken token.now }
+    ensures ok { IfOk result (λ name.
+        IsLabel name.now × (length name.now ≤ name_most) × (name.now ≡ token.now)) }
+    ensures err { OnErr result (IsLabel token.now → length token.now ≤ name_most → ⊥) }
+    ensures cause { IfErr result (λ e. e ≡ label_cause token.now) }
+{
+    if !is_label(token) {
+        Err(TextCause::Operands)
+    } else if is_too_long(token) {
+        Err(TextCause::Limit)
+    } else {
+        Ok(token)
+    }
+}
+
+/// Whether the token is `rvc`, and not `norvc`.
+fn read_mode(token: &str) -> Result<bool, TextCause>
+    ensures ok { IfOk result (λ rvc. token.now ≡ mode_name rvc) }
+    ensures err { OnErr result ((rvc : Bool) → token.now ≡ mode_name rvc → ⊥) }
+    ensures cause { IfErr result (λ e. e ≡ cause.Operands) }
+{
+    if token == "rvc" {
+        Ok(true)
+    } else if token == "norvc" {
+        Ok(false)
+    } else {
+        Err(TextCause::Operands)
+    }
+}
+
+/// The format that the token says.
+fn read_format(token: &str) -> Result<Format, TextCause>
+    ensures ok { IfOk result (SaysFormat token.now) }
+    ensures err { OnErr result ((f : Format) → SaysFormat token.now f → ⊥) }
+    ensures cause { IfErr result (λ e. e ≡ cause.Number) }
+{
+    if token == "words" {
+        return Ok(Format::Sfiw);
+    }
+    match number(token) {
+        Some(1) => Ok(Format::Sfi1),
+        Some(2) => Ok(Format::Sfi2),
+        Some(_) => Err(TextCause::Number),
+        None => Err(TextCause::Number),
+    }
+}
+
+impl<'a> Operands<'a> {
+    /// Sets the operand that the token gives at this part.
+    fn put(&mut self, part: Part, token: &'a str) -> Result<(), TextCause>
+        requires { IsToken token.now }
+        ensures stands { OnOk result (Stands (values_of self.new) part token.now) }
+        ensures others { OnOk result (KeepsOthers part (values_of self.old) (values_of self.new)) }
+        ensures err { OnErr result ((o : OperandValues) → Stands o part token.now → ⊥) }
+        ensures cause { IfErr result (λ e. e ≡ part_cause part token.now) }
+    {
+        match part {
+            Part::Rd => match read_register(token) {
+                Ok(rd) => {
+                    self.rd = rd;
+                    Ok(())
+                }
+                Err(e) => Err(e),
+            },
+            Part::Rs1 => match read_register(token) {
+                Ok(rs1) => {
+                    self.rs1 = rs1;
+                    Ok(())
+                }
+                Err(e) => Err(e),
+            },
+            Part::Rs2 => match read_register(token) {
+                Ok(rs2) => {
+                    self.rs2 = rs2;
+                    Ok(())
+                }
+                Err(e) => Err(e),
+            },
+            Part::Number(kind) => match read_number(token, kind) {
+                Ok(number) => {
+                    self.number = number;
+                    Ok(())
+                }
+                Err(e) => Err(e),
+            },
+            Part::Name => match read_label(token) {
+                Ok(name) => {
+                    self.name = name;
+                    Ok(())
+                }
+                Err(e) => Err(e),
+            },
+            Part::Mode => match read_mode(token) {
+                Ok(compressed) => {
+                    self.compressed = compressed;
+                    Ok(())
+                }
+                Err(e) => Err(e),
+            },
+            Part::ImageFormat => match read_format(token) {
+                Ok(format) => {
+                    self.format = format;
+                    Ok(())
+                }
+                Err(e) => Err(e),
+            },
+            Part::Comma => {
+                read_mark(token, ",")?;
+                Ok(())
+            }
+            Part::Open => {
+                read_mark(token, "(")?;
+                Ok(())
+            }
+            Part::Close => {
+                read_mark(token, ")")?;
+                Ok(())
+            }
+        }
+    }
+}
+
+/// Sets the operands of this form, which are all of the text; the range of each is tested.
+fn fill<'a>(form: &[Part], text: &'a str, operands: &mut Operands<'a>) -> Result<(), TextCause>
+    requires { IsTrue (has_no_repeat form.now) }
+    ensures reads { OnOk result (Reads (values_of operands.new) form.now text.now) }
+    ensures others { OnOk result ((p : Part) → IsTrue (is_fresh p form.now)
+        → SameAt p (values_of operands.new) (values_of operands.old)) }
+    ensures cause { IfErr result (λ e. Departs form.now text.now e) }
+{
+    match form.split_first() {
+        None => match next_token(text) {
+            Next::End => Ok(()),
+            Next::Stuck => Err(TextCause::Word),
+            Next::Token(..) => Err(TextCause::Operands),
+        },
+        Some((part, more)) => match next_token(text) {
+            Next::End => Err(TextCause::Operands),
+            Next::Stuck => Err(TextCause::Word),
+            Next::Token(token, rest) => match operands.put(*part, token) {
+                Ok(()) => fill(more, rest, operands),
+                Err(e) => Err(e),
+            },
+        },
+    }
+}
+
+/// Reads the operands of this form, which are all of the text.
+pub fn read_operands<'a>(form: &[Part], text: &'a str) -> Result<Operands<'a>, TextCause>
+    requires { IsTrue (has_no_repeat form.now) }
+    ensures reads { IfOk result (λ o. Reads (values_of o) form.now text.now) }
+    ensures cause { IfErr result (λ e. Departs form.now text.now e) }
+{
+    let mut operands = Operands::none();
+    match fill(form, text, &mut operands) {
+        Ok(()) => Ok(operands),
+        Err(e) => Err(e),
+    }
+}
