@@ -18,7 +18,6 @@ pub mod Forms
 pub mod Meaning
 pub mod OneMeaning
 pub mod Refusals
-pub mod Answers
 pub mod Lists
 pub mod Right
 pub mod Halves

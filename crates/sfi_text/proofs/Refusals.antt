@@ -1,10 +1,11 @@
--- A text is refused for one cause at most, and for none where it means an instruction.
-use Rattle.sfi_text.proofs.Prelude.{◌≡◌, ℕ, List, [], ◌∷◌, ◌⊎◌, inl, inr, sym, ap, ◌∙◌, subst, Instr, TextCause, Mnemonic, Part, IsName, name_of, form_of, OperandValues, Stands, Differs, Departs, Reads, FollowsToken, mnemonic_of, operands_of, OperandsDepart, RefusedAt, OneCause, MeantIsNotRefused}
+-- A text is refused for one cause at most, and for none where it means an instruction; what an answer says of it.
+use Rattle.sfi_text.proofs.Prelude.{◌≡◌, ℕ, List, [], ◌∷◌, ◌⊎◌, inl, inr, sym, ap, ◌∙◌, subst, Result, Ok, Err, IfOk, IfErr, IfOk-weaker, Instr, InRange, TextCause, Mnemonic, Part, IsName, Takes, Means, Refused, name_of, form_of, OperandValues, Stands, Differs, Departs, Reads, FollowsToken, mnemonic_of, operands_of, OperandsDepart, RefusedAt, OneCause, MeantIsNotRefused}
 use Rattle.sfi_text.specs.declared.cause.TextCause.TheVariants as cause
 use Rattle.sfi_text.proofs.Keywords.{name_unique, name_is_name}
 use Rattle.sfi_text.proofs.Taking.{takes_unique, blank_takes_none}
 use Rattle.sfi_text.proofs.Fronts.{One, either_one, fixed_one, token_one, front_at, front_one}
-use Rattle.sfi_text.proofs.Meaning.{meant, first_token}
+use Rattle.sfi_text.proofs.Meaning.{meant, means, first_token}
+use Rattle.sfi_text.proofs.OneMeaning.{one_meaning, in_range}
 
 -- the first token can't stand at this part, or what follows departs from the others
 abbrev AtPart : Part → List Part → List ℕ → List ℕ → TextCause → Type 0
@@ -56,3 +57,24 @@ pub meant_is_not_refused : MeantIsNotRefused
 meant_is_not_refused text i e h refused =
     let (token, rest, takes) = first_token text i h in
     at_none token rest e i (front_at text RefusedAt token rest e takes refused) (meant text token rest i takes h)
+
+-- what an answer says of a text where it means the instruction, or is refused for the cause
+module _ (text token rest : List ℕ) (takes : Takes text token rest) where
+  pub token_means : (r : Result Instr TextCause) → IfOk r (λ i. FollowsToken token rest i) → IfOk r (λ i. Means text i)
+  token_means r h = IfOk-weaker r _ _ (λ i. means text token rest i takes) h
+
+  pub token_cause : (r : Result Instr TextCause) → IfErr r (λ e. RefusedAt token rest e) → IfErr r (λ e. Refused text e)
+  token_cause (Ok i) h = tt
+  token_cause (Err e) h = inr (inr (token, rest, takes, h))
+
+module _ (text : List ℕ) where
+  pub only : (r : Result Instr TextCause) → IfOk r (λ i. Means text i) → IfErr r (λ e. Refused text e) → (i : Instr) → Means text i → r ≡ Ok i
+  only (Ok i) h k j m = ap Ok (one_meaning text i j h m)
+  only (Err e) h k j m = absurd (meant_is_not_refused text j e m k)
+
+  pub only_cause : (r : Result Instr TextCause) → IfOk r (λ i. Means text i) → IfErr r (λ e. Refused text e) → (e : TextCause) → Refused text e → r ≡ Err e
+  only_cause (Ok i) h k f refused = absurd (meant_is_not_refused text i f h refused)
+  only_cause (Err e) h k f refused = ap Err (one_cause text e f k refused)
+
+  pub means_in_range : (r : Result Instr TextCause) → IfOk r (λ i. Means text i) → IfOk r (λ i. InRange i)
+  means_in_range r h = IfOk-weaker r _ _ (in_range text) h

@@ -133,20 +133,6 @@ impl Draft {
         Ok(())
     }
 
-    /// Says whether 16-bit forms may stand for the instructions from here on.
-    fn set_rvc(&mut self, rvc: bool)
-        ensures { self.new ≡ record self.old { rvc = rvc } }
-    {
-        self.rvc = rvc;
-    }
-
-    /// Ends the code part.
-    fn begin_data(&mut self)
-        ensures { self.new ≡ record self.old { in_data = true } }
-    {
-        self.in_data = true;
-    }
-
     /// Adds bytes of data.
     fn push_bytes(&mut self, bytes: &[u8]) -> Result<(), TextCause>
         ensures { AddsUpTo self.old.sandbox.data_size
@@ -228,11 +214,11 @@ impl Draft {
         match *statement {
             SandboxStatement::Gate { name, service } => self.gate(alloc, name, service),
             SandboxStatement::Compressed(rvc) => {
-                self.set_rvc(rvc);
+                self.rvc = rvc;
                 Ok(())
             }
             SandboxStatement::Data => {
-                self.begin_data();
+                self.in_data = true;
                 Ok(())
             }
             SandboxStatement::Bytes(ref bytes) => self.push_bytes(bytes),

@@ -1,25 +1,15 @@
 //! Numbers of source: decimal, or hexadecimal after `0x`.
-ghost use Rattle.std.specs.Prelude.{◌≡◌, ◌∷◌, ◌++◌, ◌<◌, ◌≤◌, ◌^◌, ℕ, ℤ, List, codes, MatchOption, IfSome, IfNone};
+ghost use Rattle.std.specs.Prelude.{◌≡◌, ◌++◌, ◌<◌, ◌≤◌, ◌^◌, ℕ, ℤ, List, MatchOption, IfSome, IfNone};
 ghost use Rattle.std.specs.Str.Parse.{IsNumeral, digits_value};
 ghost use Rattle.sfi_text.specs.Tokens.{IsMagnitude, IsNumber};
 ghost use Rattle.sfi_text.specs.private.Numbers.{IsInReach};
 
-/// What follows a leading minus.
-fn after_minus(text: &str) -> Option<&str>
-    ensures { MatchOption result
-        ((digits : List ℕ) → text.now ≡ codes "-" ++ digits → ⊥)
-        (λ digits. text.now ≡ codes "-" ++ digits.now) }
+/// What follows this prefix of a text.
+pub fn after_prefix<'a>(text: &'a str, prefix: &str) -> Option<&'a str>
+    ensures { MatchOption result ((rest : List ℕ) → text.now ≡ prefix.now ++ rest → ⊥)
+        (λ rest. text.now ≡ prefix.now ++ rest.now) }
 {
-    text.strip_prefix('-')
-}
-
-/// What follows a leading `0x`.
-fn after_zero_x(text: &str) -> Option<&str>
-    ensures { MatchOption result
-        ((digits : List ℕ) → text.now ≡ codes "0x" ++ digits → ⊥)
-        (λ digits. text.now ≡ codes "0x" ++ digits.now) }
-{
-    text.strip_prefix("0x")
+    text.strip_prefix(prefix)
 }
 
 /// The number that these digits write, if 64 bits can hold it.
@@ -46,7 +36,7 @@ fn magnitude(text: &str) -> Option<u64>
     ensures some { IfSome result (λ n. IsMagnitude text.now n) }
     ensures none { IfNone result ((n : ℕ) → IsMagnitude text.now n → n < 2 ^ 64 → ⊥) }
 {
-    match after_zero_x(text) {
+    match after_prefix(text, "0x") {
         Some(hex) => digits(hex, 16),
         None => digits(text, 10),
     }
@@ -57,7 +47,7 @@ pub fn number(text: &str) -> Option<i64>
     ensures some { IfSome result (λ z. IsNumber text.now z × IsInReach z) }
     ensures none { IfNone result ((z : ℤ) → IsNumber text.now z → IsInReach z → ⊥) }
 {
-    match after_minus(text) {
+    match after_prefix(text, "-") {
         Some(digits) => match magnitude(digits) {
             Some(n) => {
                 if n <= 2147483648 {

@@ -1,5 +1,5 @@
 //! The source so far, and how the lines of a text change it.
-ghost use Rattle.std.specs.Prelude.{◌≡◌, ◌⊎◌, ◌↔◌, ◌++◌, List, ℕ, None, Some, IsTrue, IfOk, IfErr, OnOk, MatchOption, codes};
+ghost use Rattle.std.specs.Prelude.{◌≡◌, ◌⊎◌, ◌↔◌, List, ℕ, None, Some, IsTrue, IfOk, IfErr, OnOk, MatchOption, codes};
 ghost use Rattle.sfi_text.specs.declared.cause.TextCause.TheVariants as cause;
 ghost use Rattle.sfi_text.specs.Effects.{Labels, RefusesLabel, MayCome, Does, HasNoRoom};
 ghost use Rattle.sfi_text.specs.Leads.{BeginsWithName, IsTaken, IsGateTwice, LeadsAfter, Leads, LabelRefused, RefusedAfter, RefusedFrom, LineRefused};
@@ -17,6 +17,7 @@ use crate::fault::TextFault;
 use crate::keyword::{Directive, Keyword};
 use crate::lexer::{Next, body, next_token};
 use crate::line::{read_keyword, read_statement};
+use crate::number::after_prefix;
 use crate::read::is_label;
 use crate::statement::{Place, Statement};
 use sfi_policy::{Format, NAME_MOST_BYTES};
@@ -42,20 +43,12 @@ impl Model for Progress {
         record { format = p.format; finished = p.finished.items; begun = p.begun } };
 }
 
-/// What follows the colon with which a text begins.
-fn without_colon(text: &str) -> Option<&str>
-    ensures { MatchOption result ((rest : List ℕ) → text.now ≡ codes ":" ++ rest → ⊥)
-        (λ rest. text.now ≡ codes ":" ++ rest.now) }
-{
-    text.strip_prefix(':')
-}
-
 /// What follows a colon that is the first token of a text.
 fn after_colon(text: &str) -> Option<&str>
     ensures { MatchOption result ((rest : List ℕ) → Takes text.now (codes ":") rest → ⊥)
         (λ rest. Takes text.now (codes ":") rest.now) }
 {
-    without_colon(body(text))
+    after_prefix(body(text), ":")
 }
 
 /// The name at the front of a text that a label may have, and what follows it.
