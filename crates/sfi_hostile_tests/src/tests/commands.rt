@@ -1,108 +1,69 @@
 //! Each command with what it reads, and what it prints of that.
-use super::images::{C_EBREAK, EBREAK, HEAD, HI, PAIR_ON_X0, SFI1, bytes_of, digits_of};
+use super::images::{EBREAK, HEAD, PAIR_ON_X0, SFI1, bytes_of, digits_of, hi_pieces};
 use std::alloc::Global;
 use std::test::Fail;
 
 /// A command line, what it reads, the status with which it ends,
 /// and how the text that it prints begins.
-pub(super) struct Command {
-    pub(super) line: &'static str,
+#[derive(Drop)]
+pub(super) struct Command<'a> {
+    pub(super) line: &'a str,
     pieces: [(&'static str, usize); 4],
     pub(super) status: u8,
-    pub(super) front: &'static str,
+    pub(super) front: &'a str,
 }
 
-// The source of the program `HI`.
-const SOURCE: &str = ".sandbox 256
-.gate put 1
-.gate quit 0
-la a0, msg
-li a1, 2
-call put
-la a0, msg
-lbu a0, 1(a0)
-call quit
-.data
-msg: .byte 72, 105
+/// Each command, and findings and a fault, with ` | ` between a row's parts.
+pub(super) const COMMANDS: &str = "
+= sfi check | smallest | 0 | accepted sandboxes=1 bundles=16
+= sfi check --report | pair on x0 | 1 | 0 01000008 V5 access sw x11, 0(x0)
+refused findings=1 first=V5 sandbox=0 at=01000008
+= sfi check --raw | smallest | 0 | accepted sandboxes=1 bundles=16
+= sfi build | source | 0 | 534649310100000000000001
+= sfi build --at 20500000:80000000 | source | 0 | 534649310100000000005020
+= sfi map | source | 0 | sandbox=0 gate put at=01000000
+sandbox=0 gate quit at=01000010
+= sfi dis | smallest | 0 | sandbox 0 code 01000000 256 data 01800000 256 start 01000000 gates 0 init 0
+01000000 00100073 ebreak
+= sfi run | program | 0 | sandbox=0 exit=105 steps=19 out=4869
+= sfi run --report | smallest | 0 | sandbox=0 trap=Break at=01000000 steps=0 out=
+sandbox=0 pc=01000000 00100073 ebreak
+x1=00000000 x2=018000f0 
+= sfi convert | program | 0 | 534649320100000000000001
+= sfi check | head | 2 | layout fault 3 Short
 ";
+
+// The source of the program.
+const SOURCE: &str =
+    ".sandbox 256\n.gate put 1\n.gate quit 0\nla a0, msg\nli a1, 2\ncall put\nla a0, msg\nlbu a0, 1(a0)\ncall quit\n.data\nmsg: .byte 72, 105\n";
 
 const NONE: (&str, usize) = ("", 0);
 
-const SMALLEST: [(&str, usize); 4] = [(SFI1, 1), (HEAD, 1), (EBREAK, 64), NONE];
+fn pieces_of(name: &str) -> Option<[(&'static str, usize); 4]> {
+    match name {
+        "smallest" => Some([(SFI1, 1), (HEAD, 1), (EBREAK, 64), NONE]),
+        "pair on x0" => Some([(SFI1, 1), (HEAD, 1), (PAIR_ON_X0, 1), (EBREAK, 61)]),
+        "source" => Some([(SOURCE, 1), NONE, NONE, NONE]),
+        "program" => Some(hi_pieces(SFI1)),
+        "head" => Some([(SFI1, 1), (HEAD, 1), NONE, NONE]),
+        _ => None,
+    }
+}
 
-const PROGRAM: [(&str, usize); 4] = [(SFI1, 1), (HI, 1), (C_EBREAK, 88), ("4869", 1)];
+/// The command of a row.
+pub(super) fn command_of<'a>(row: &'a str) -> Option<Command<'a>> {
+    let (line, rest) = row.split_once(" | ")?;
+    let (input, rest) = rest.split_once(" | ")?;
+    let (status, front) = rest.split_once(" | ")?;
+    Some(Command {
+        line,
+        pieces: pieces_of(input)?,
+        status: status.parse().ok()?,
+        front: front.trim_end(),
+    })
+}
 
-/// Each command, and findings and a fault.
-pub(super) const COMMANDS: [Command; 11] = [
-    Command {
-        line: "sfi check",
-        pieces: SMALLEST,
-        status: 0,
-        front: "accepted sandboxes=1 bundles=16\n",
-    },
-    Command {
-        line: "sfi check --report",
-        pieces: [(SFI1, 1), (HEAD, 1), (PAIR_ON_X0, 1), (EBREAK, 61)],
-        status: 1,
-        front: "0 01000008 V5 access sw x11, 0(x0)\nrefused findings=1 first=V5 sandbox=0 at=01000008\n",
-    },
-    Command {
-        line: "sfi check --raw",
-        pieces: SMALLEST,
-        status: 0,
-        front: "accepted sandboxes=1 bundles=16\n",
-    },
-    Command {
-        line: "sfi build",
-        pieces: [(SOURCE, 1), NONE, NONE, NONE],
-        status: 0,
-        front: "534649310100000000000001",
-    },
-    Command {
-        line: "sfi build --at 20500000:80000000",
-        pieces: [(SOURCE, 1), NONE, NONE, NONE],
-        status: 0,
-        front: "534649310100000000005020",
-    },
-    Command {
-        line: "sfi map",
-        pieces: [(SOURCE, 1), NONE, NONE, NONE],
-        status: 0,
-        front: "sandbox=0 gate put at=01000000\nsandbox=0 gate quit at=01000010\n",
-    },
-    Command {
-        line: "sfi dis",
-        pieces: SMALLEST,
-        status: 0,
-        front: "sandbox 0 code 01000000 256 data 01800000 256 start 01000000 gates 0 init 0\n01000000 00100073 ebreak\n",
-    },
-    Command {
-        line: "sfi run",
-        pieces: PROGRAM,
-        status: 0,
-        front: "sandbox=0 exit=105 steps=19 out=4869\n",
-    },
-    Command {
-        line: "sfi run --report",
-        pieces: SMALLEST,
-        status: 0,
-        front: "sandbox=0 trap=Break at=01000000 steps=0 out=\nsandbox=0 pc=01000000 00100073 ebreak\nx1=00000000 x2=018000f0 ",
-    },
-    Command {
-        line: "sfi convert",
-        pieces: PROGRAM,
-        status: 0,
-        front: "534649320100000000000001",
-    },
-    Command {
-        line: "sfi check",
-        pieces: [(SFI1, 1), (HEAD, 1), NONE, NONE],
-        status: 2,
-        front: "layout fault 3 Short\n",
-    },
-];
-
-impl Command {
+impl<'a> Command<'a> {
     /// What it reads: an image's own bytes, or a text.
     pub(super) fn input(&self, alloc: Global) -> Result<Vec<u8>, Fail> {
         if self.line == "sfi check --raw" {

@@ -1,6 +1,6 @@
 //! Readers and writers that fail at some call, or that give and take little at a time; inputs as long as a command takes, and
 //! one byte longer; a host that has no memory for a reply, and has it later.
-use super::commands::{COMMANDS, Command};
+use super::commands::{COMMANDS, Command, command_of};
 use super::images::{SFI1, bytes_of, hi_pieces};
 use rv_mem::{Memory, Pages};
 use sfi_check::check;
@@ -194,7 +194,7 @@ fn small_steps_are_taken(
 
 // Where nothing fails, the command ends with its status and prints its text;
 // else that holds which is said above.
-fn is_right(alloc: Global, command: &Command) -> Result<bool, Fail> {
+fn is_right(alloc: Global, command: &Command<'_>) -> Result<bool, Fail> {
     let line = command.line;
     let input = command.input(alloc)?;
     let whole = run(alloc, line, &input, NEVER)?;
@@ -209,8 +209,11 @@ fn is_right(alloc: Global, command: &Command) -> Result<bool, Fail> {
 
 #[test]
 fn commands_end_at_what_fails(rt: HostRuntime) -> Result<(), Fail> {
-    for command in &COMMANDS {
-        assert!(rt; is_right(rt.alloc(), command)?, "{}", command.line);
+    for row in COMMANDS.split("\n= ").skip(1) {
+        let Some(command) = command_of(row) else {
+            return Err(Fail::new(row));
+        };
+        assert!(rt; is_right(rt.alloc(), &command)?, "{row}");
     }
     Ok(())
 }
