@@ -5,7 +5,6 @@ mod guests;
 mod image;
 mod image_reading;
 mod options;
-mod programs;
 mod rows;
 mod scan;
 mod stream;

@@ -55,21 +55,13 @@ fn data_of_a_world(rt: HostRuntime) -> Result<(), Fail> {
     Ok(())
 }
 
-// A turn of no sandbox, and two of the first.
-const TURNS: &[Turn] = &[
+// A turn of 1000 steps.
+fn turn(sandbox: u32) -> Turn {
     Turn {
-        sandbox: 1,
-        steps: 1,
-    },
-    Turn {
-        sandbox: 0,
+        sandbox,
         steps: 1000,
-    },
-    Turn {
-        sandbox: 0,
-        steps: 1000,
-    },
-];
+    }
+}
 
 // The sandbox has trapped at this address, and has taken no step.
 fn has_trapped(world: &World<Segments>, address: u32) -> bool {
@@ -80,7 +72,8 @@ fn has_trapped(world: &World<Segments>, address: u32) -> bool {
 fn the_smallest_image_traps(rt: HostRuntime) -> Result<(), Fail> {
     let mut console = Console::new(rt.alloc(), 1, &[])?;
     let mut world = smallest_world(&rt, rt.alloc())?;
-    assert_eq!(rt; world.run_plan(TURNS, &mut console), RunAnswer::Done);
+    let turns = [turn(1), turn(0), turn(0)];
+    assert_eq!(rt; world.run_plan(&turns, &mut console), RunAnswer::Done);
     world.stays_safe();
     assert!(rt; has_trapped(&world, 0x0100_0000));
     let memory = world.into_memory();
@@ -137,11 +130,7 @@ fn data_are_read_and_written_from_outside(rt: HostRuntime) -> Result<(), Fail> {
 // One turn of the smallest world's sandbox, and what became of it.
 fn turned(world: &mut World<Segments>, alloc: Global) -> Result<Option<Status>, Fail> {
     let mut console = Console::new(alloc, 1, &[])?;
-    let turn = Turn {
-        sandbox: 0,
-        steps: 1000,
-    };
-    world.run_plan(&[turn], &mut console);
+    world.run_plan(&[turn(0)], &mut console);
     Ok(world.status(0))
 }
 

@@ -1,8 +1,8 @@
 //! Tests as rows of text: an input, the commands that read it, and what each of them prints.
 //!
 //! A row begins with a line `= NAME`. Each line after it has a word and what belongs to that. Short lines stand together on
-//! one, with `; ` between them, also after the name: `= NAME; LINE; LINE`. What stands above the first row of a table, each
-//! line by itself, is in each of its rows, before the row's own lines.
+//! one, with `; ` between them, also after the name: `= NAME; LINE; LINE`. What stands above the first row of a table is in
+//! each of its rows, before the row's own lines.
 //!
 //! The input is the smallest image, and after the word `source` it is empty. These add to it:
 //!
@@ -44,12 +44,14 @@ mod word_sources;
 mod words;
 
 use super::image::{edited, smallest};
+use super::stream::run_in_pieces;
 use super::{Outcome, run};
 use lines::{ANY, Line, line_of, push_part, status_told, unfolded};
 use std::alloc::Global;
 use std::process::Abort;
 use std::str::from_utf8;
 use std::test::Fail;
+pub(super) use texts::text_named;
 
 // What a row says but for its commands.
 #[derive(Drop)]
@@ -111,13 +113,13 @@ pub(super) fn image_of(alloc: Global, lines: &str) -> Result<Vec<u8>, Fail> {
     Ok(hex::decode(alloc, row.input.as_slice())?)
 }
 
-// What the command prints of the input, as bytes if it is `--raw`.
+// What the command prints of the input, as bytes in pieces if it is `--raw`.
 fn printed(alloc: Global, command: &str, input: &[u8]) -> Result<Outcome, Fail> {
     if !command.contains("--raw") {
         return Ok(run(alloc, command, input)?);
     }
     let bytes = hex::decode(alloc, input.trim_ascii())?;
-    Ok(run(alloc, command, bytes.as_slice())?)
+    Ok(run_in_pieces(alloc, command, bytes.as_slice())?)
 }
 
 // What the first command prints where it fails, and else what the second prints of that.
@@ -221,32 +223,28 @@ fn try_rows(rt: &impl Abort, alloc: Global, table: &str, count: usize) -> Result
 
 #[test]
 fn image_rows(rt: HostRuntime) -> Result<(), Fail> {
-    try_rows(&rt, rt.alloc(), images::LAYOUTS, 38)?;
-    try_rows(&rt, rt.alloc(), images::RULES, 46)?;
+    try_rows(&rt, rt.alloc(), images::LAYOUTS, 42)?;
+    try_rows(&rt, rt.alloc(), images::RULES, 40)?;
     try_rows(&rt, rt.alloc(), images::SAFE, 6)?;
     try_rows(&rt, rt.alloc(), images::DIGITS, 6)
 }
 
 #[test]
 fn format_rows(rt: HostRuntime) -> Result<(), Fail> {
-    try_rows(&rt, rt.alloc(), images::FIRST, 34)?;
-    try_rows(&rt, rt.alloc(), images::SECOND, 34)?;
+    try_rows(&rt, rt.alloc(), images::FIRST, 22)?;
+    try_rows(&rt, rt.alloc(), images::SECOND, 22)?;
     try_rows(&rt, rt.alloc(), builds::WRITES, 5)?;
     try_rows(&rt, rt.alloc(), builds::FIRST_WRITES, 3)?;
-    try_rows(&rt, rt.alloc(), builds::KEPT, 3)
+    try_rows(&rt, rt.alloc(), builds::KEPT, 4)
 }
 
 #[test]
 fn typed_rows(rt: HostRuntime) -> Result<(), Fail> {
-    try_rows(&rt, rt.alloc(), typed::KEPT, 38)?;
-    try_rows(&rt, rt.alloc(), typed::BROKEN, 48)?;
-    try_rows(&rt, rt.alloc(), typed::ENDS, 26)?;
-    try_rows(&rt, rt.alloc(), typed::DATA_KEPT, 48)?;
+    try_rows(&rt, rt.alloc(), typed::KEPT, 106)?;
+    try_rows(&rt, rt.alloc(), typed::BROKEN, 64)?;
     try_rows(&rt, rt.alloc(), typed::DATA_BROKEN, 50)?;
     try_rows(&rt, rt.alloc(), typed::STEPS, 48)?;
-    try_rows(&rt, rt.alloc(), typed::OTHERS_KEPT, 20)?;
-    try_rows(&rt, rt.alloc(), typed::OTHERS_BROKEN, 48)?;
-    try_rows(&rt, rt.alloc(), typed::BESIDE, 28)
+    try_rows(&rt, rt.alloc(), typed::OTHERS_BROKEN, 72)
 }
 
 #[test]
@@ -257,14 +255,9 @@ fn typed_runs(rt: HostRuntime) -> Result<(), Fail> {
 
 #[test]
 fn word_source_rows(rt: HostRuntime) -> Result<(), Fail> {
-    try_rows(&rt, rt.alloc(), word_sources::EXPANSIONS, 8)?;
-    try_rows(&rt, rt.alloc(), word_sources::STEPS, 8)?;
-    try_rows(&rt, rt.alloc(), word_sources::LAID, 3)?;
+    try_rows(&rt, rt.alloc(), word_sources::EXPANSIONS, 19)?;
     try_rows(&rt, rt.alloc(), word_sources::IMAGES, 2)?;
-    try_rows(&rt, rt.alloc(), word_sources::REFUSED, 14)?;
-    try_rows(&rt, rt.alloc(), word_sources::FARTHEST, 2)?;
-    try_rows(&rt, rt.alloc(), word_sources::KEPT, 1)?;
-    try_rows(&rt, rt.alloc(), word_sources::MAPS, 1)
+    try_rows(&rt, rt.alloc(), word_sources::REFUSED, 14)
 }
 
 #[test]
@@ -301,7 +294,7 @@ fn run_rows(rt: HostRuntime) -> Result<(), Fail> {
     try_rows(&rt, rt.alloc(), runs::RUNS, 8)?;
     try_rows(&rt, rt.alloc(), runs::STATES, 5)?;
     try_rows(&rt, rt.alloc(), runs::NEIGHBOURS, 12)?;
-    try_rows(&rt, rt.alloc(), runs::MAPS, 5)
+    try_rows(&rt, rt.alloc(), runs::MAPS, 6)
 }
 
 // Those that take long stand alone, since a test has a minute.
@@ -318,7 +311,7 @@ fn typed_limits(rt: HostRuntime) -> Result<(), Fail> {
 
 #[test]
 fn text_limits(rt: HostRuntime) -> Result<(), Fail> {
-    try_rows(&rt, rt.alloc(), builds::LIMITS, 15)?;
+    try_rows(&rt, rt.alloc(), builds::LIMITS, 17)?;
     try_rows(&rt, rt.alloc(), builds::LISTED, 3)
 }
 

@@ -2,11 +2,10 @@
 
 /// Images to the letter, written by hand.
 pub(super) const BUILDS: &str = "
-source
-$ sfi build
-= two letters; text hi; >text image of hi; >
-= a text that yields; text yields; >text image of yields; >
-= a text that reads; text reads; >text image of reads; >
+source; $ sfi build
+= two letters; text hi; >text front of hi; >+ 88 0290; >+ 1 4869; >
+= a text that yields; text yields; >+ 1 534649310100000000000001000100000000800100010000100000010100000000000000000000010300000073000000b3ff9001b3ef8f0167800f00010001000100010001000100eff05ffe6ff01fff; >+ 110 0290; >
+= a text that reads; text reads; >+ 1 534649310100000000000001000100000000800100010000200000010200000002000000; >+ 1 0000000102000000100000010000000073000000b3ff9001b3ef8f0167800f0073000000b3ff9001b3ef8f0167800f00370580011305050093052000eff05ffd010001000100010001000100eff05ffd; >+ 96 0290; >+ 1 0000; >
 = a number kept on a stack, in the second format; | .format 2; text stacked
 >+ 1 534649320100000000000001000100000000800100010000100000010100000000000000; >+ 1 0000000100000000
 >+ 1 73000000b3ff9001b3ef8f0167800f0013055000130101ff3371b1013361a101; >+ 1 2326a1000325c10001000100eff05ffd; >+ 104 0290; >
@@ -18,11 +17,9 @@ $ sfi build
 >+ 114 0290; >+ 1 00; >
 ";
 
-/// Texts that can't be built, and the fault of each. Each ends in a line feed. `source` in a row drops the line above.
+/// Texts that can't be built, and the fault of each. Each ends in a line feed. `source` in a row drops `.sandbox`.
 pub(super) const REFUSED: &str = "
-source
-| .sandbox 256
-$ sfi build
+source; | .sandbox 256; $ sfi build
 = a reserved register; | mv t6, a0; > rewrite fault 1 ReservedRegister line 2
 = ecall; | ecall; > rewrite fault 2 Ecall line 2
 = no mark between operands; | li a0 5; > source fault 4 Operands line 2
@@ -39,8 +36,7 @@ $ sfi build
 
 /// Directives `.format` with no line feed at the end.
 pub(super) const DIRECTIVES: &str = "
-source
-$ sfi build
+source; $ sfi build
 = .format 3; + 1 .format 3; > source fault 3 Number line 1
 = .format 0; + 1 .format 0; > source fault 3 Number line 1
 = .format -1; + 1 .format -1; > source fault 3 Number line 1
@@ -58,10 +54,7 @@ $ sfi build
 
 /// Texts that load x2 or link in it, in the second format.
 pub(super) const WRITES: &str = "
-source
-| .format 2
-| .sandbox 256
-$ sfi build
+source; | .format 2; | .sandbox 256; $ sfi build
 = lw sp, 0(a0); | lw sp, 0(a0); > rewrite fault 5 StackWrite line 3
 = jalr sp, 0(a0); | jalr sp, 0(a0); > rewrite fault 5 StackWrite line 3
 = x: jal sp, x; | x: jal sp, x; > rewrite fault 5 StackWrite line 3
@@ -71,10 +64,7 @@ $ sfi build
 
 /// Three of them in the first format, which builds them.
 pub(super) const FIRST_WRITES: &str = "
-source
-| .sandbox 256
-$ sfi build
-..
+source; | .sandbox 256; $ sfi build; ..
 = lw sp, 0(a0); | lw sp, 0(a0)
 = jalr sp, 0(a0); | jalr sp, 0(a0)
 = x: jal sp, x; | x: jal sp, x
@@ -82,17 +72,16 @@ $ sfi build
 
 /// A text that keeps a number on its stack.
 pub(super) const KEPT: &str = "
-source
-$ sfi build | sfi run
+source; $ sfi build | sfi run
 = no format; text stacked; > sandbox=0 exit=5 steps=16 out=
 = .format 1; | .format 1; text stacked; > sandbox=0 exit=5 steps=16 out=
 = .format 2; | .format 2; text stacked; > sandbox=0 exit=5 steps=10 out=
+= .format words; | .format words; text stacked; > sandbox=0 exit=5 steps=6 out=
 ";
 
 /// Texts at the limits of what can be built, and one step beyond. A store takes 12 bytes, so that no bundle holds two.
 pub(super) const LIMITS: &str = "
-source
-$ sfi build | sfi check
+source; $ sfi build | sfi check
 = a branch at the first byte of the code; | .sandbox 256; | beqz a0, over; times 255 sw a1, 0(a2); | over:; > accepted sandboxes=1 bundles=256
 = a branch 4094 bytes ahead, the farthest; | .sandbox 256; | .option rvc; | nop; | beqz a0, over; times 255 sw a1, 0(a2); | over:
 > accepted sandboxes=1 bundles=512
@@ -100,6 +89,8 @@ $ sfi build | sfi check
 = a branch 4096 bytes back, the farthest; | .sandbox 256; | back:; times 256 sw a1, 0(a2); | nop; | beqz a0, back; > accepted sandboxes=1 bundles=512
 = a branch that would go 4098 bytes back; | .sandbox 256; | back:; times 256 sw a1, 0(a2); | .option rvc; | nop; | nop; | nop; | beqz a0, back
 > link fault 2 BranchReach line 263
+= in words, 4092 bytes ahead, the farthest; | .format words; | .sandbox 256; | beqz a0, over; times 1022 nop; | over:; > accepted sandboxes=1 bundles=256
+= in words, 4096 bytes back, the farthest; | .format words; | .sandbox 256; | back:; times 1024 nop; | beqz a0, back; > accepted sandboxes=1 bundles=512
 = the most code of the first format; | .sandbox 256; times 4096 sw a1, 0(a2); > accepted sandboxes=1 bundles=4096
 = a bundle more; | .sandbox 256; times 4097 sw a1, 0(a2); > rewrite fault 3 TooLarge sandbox 0
 = the most code beside a gate; | .sandbox 256; | .gate quit 0; times 4095 sw a1, 0(a2); > accepted sandboxes=1 bundles=4096
@@ -114,8 +105,7 @@ $ sfi build | sfi check
 
 /// Texts as `dis` lists what is built of them.
 pub(super) const LISTED: &str = "
-source
-$ sfi build | sfi dis
+source; $ sfi build | sfi dis
 = a branch 4094 bytes ahead, as it is listed; | .sandbox 256; | .option rvc; | nop; | beqz a0, over; times 255 sw a1, 0(a2); | over:
 ..; >; > 01000002 7e050fe3 beq x10, x0, 4094; ..
 = a branch 4096 bytes back, as it is listed; | .sandbox 256; | back:; times 256 sw a1, 0(a2); | nop; | beqz a0, back
@@ -132,8 +122,7 @@ $ sfi build | sfi dis
 
 /// The most code of the second format.
 pub(super) const LONG_TEXTS: &str = "
-source
-$ sfi build | sfi check
+source; $ sfi build | sfi check
 = more code in the second format; | .format 2; | .sandbox 256; times 4097 sw a1, 0(a2); > accepted sandboxes=1 bundles=8192
 = the most code of the second format; | .format 2; | .sandbox 256; times 65536 sw a1, 0(a2); > accepted sandboxes=1 bundles=65536
 ";
@@ -141,8 +130,7 @@ $ sfi build | sfi check
 /// Each instruction takes at most one bundle, so without gates the limit of instructions comes
 /// before that of bundles.
 pub(super) const TOO_LONG_TEXTS: &str = "
-source
-$ sfi build | sfi check
+source; $ sfi build | sfi check
 = an instruction more than a text may have; | .format 2; | .sandbox 256; times 65537 sw a1, 0(a2); > source fault 7 Limit line 65539
 = a bundle more than the second format has; | .format 2; | .sandbox 256; | .gate quit 0; times 65536 sw a1, 0(a2); > link fault 3 TooLarge sandbox 0
 ";

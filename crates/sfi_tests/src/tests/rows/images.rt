@@ -2,8 +2,7 @@
 
 /// Right layouts, and each fault of a layout.
 pub(super) const LAYOUTS: &str = "
-$ sfi check
-$ sfi check --raw
+$ sfi check; $ sfi check --raw
 = smallest; > accepted sandboxes=1 bundles=16
 = magic; put 0 53464933; > layout fault 1 Magic
 = second format; put 0 53464932; > accepted sandboxes=1 bundles=16
@@ -11,7 +10,9 @@ $ sfi check --raw
 = 17 sandboxes; put 4 11000000; > layout fault 2 Count
 = less its last byte; cut 291; > layout fault 3 Short
 = empty; cut 0; > layout fault 3 Short
+= first data; put 32 00010000; end 292 256 07; > accepted sandboxes=1 bundles=16
 = first data missing; put 32 00010000; > layout fault 3 Short
+= half a pair, and less its last byte; put 36 b37fb50123a0bf00; cut 291; > layout fault 3 Short
 = code of 257 bytes; put 12 01010000; > layout fault 4 Code
 = data of 257 bytes; put 20 01010000; > layout fault 5 Data
 = data at 0; put 16 00000000; > layout fault 6 GuardRoom
@@ -28,19 +29,15 @@ $ sfi check --raw
 
 /// Code that keeps each rule, and code that breaks it.
 pub(super) const RULES: &str = "
-$ sfi check
-$ sfi check --raw
+$ sfi check; $ sfi check --raw
 = masked store; put 36 b37fb501b3efaf0123a0bf00; > accepted sandboxes=1 bundles=16
 = masked store in c.nops; put 36 0100b37fb501b3efaf0123a0bf000100; > accepted sandboxes=1 bundles=16
-= c.jal to a bundle; put 36 01280290; > accepted sandboxes=1 bundles=16
-= bare store; put 36 2320b500; > refused findings=1 first=V5 sandbox=0 at=01000000
 = half a pair; put 36 b37fb50123a0bf00; > refused findings=1 first=V5 sandbox=0 at=01000004
 = pair across bundles; put 44 b37fb501b3efaf0123a0bf00; > refused findings=1 first=V5 sandbox=0 at=01000010
 = pair on x0; put 36 3370b5013360a0012320b000; > refused findings=1 first=V5 sandbox=0 at=01000008
 = jump back after a pair; put 36 b37fb501b3efaf0123a0bf00730010006ff09fff; > refused findings=1 first=V7 sandbox=0 at=01000010
 = jalr with an offset; put 36 b37f9501b3ef8f0167800f01; > refused findings=1 first=V6 sandbox=0 at=01000008
 = link in x26; put 36 6f0d0001; put 52 b37fb501b3efaf0123a0bf00; > refused findings=1 first=V4 sandbox=0 at=01000000
-= c.lwsp into x24; put 36 024c0290; > refused findings=1 first=V4 sandbox=0 at=01000000
 = jalr; put 36 67800000; > refused findings=1 first=V6 sandbox=0 at=01000000
 = c.jr; put 36 82800290; > refused findings=1 first=V6 sandbox=0 at=01000000
 = ecall across the end; put 36 01000100010001000100010001007300; > refused findings=1 first=V2 sandbox=0 at=0100000e
@@ -59,16 +56,14 @@ $ sfi check --raw
 
 /// Digits, and white space between them.
 pub(super) const DIGITS: &str = "
-source
-$ sfi check
+source; $ sfi check
 = odd; + 1 53464; > input fault hex odd
 = odd before a wrong digit; + 1 5g3; > input fault hex odd
 = white space is dropped before digits are counted; + 1  5\t3; bytes 0d0a; + 1 4 z; > input fault hex digit 3
 = prefix; + 1 0x53; > input fault hex digit 1
 = form feed; bytes 0c; + 1 5; > input fault hex digit 0
 = digits of either case after a line feed, and each white space between them; |; + 1 5346493101000000000000010001000000008001; bytes 20090d0a200d
-+ 1 00010000000000010000000000000000; + 1 B37FB501b3EFaf0123A0bF0073001000; + 60 73001000
-> accepted sandboxes=1 bundles=16
++ 1 00010000000000010000000000000000; + 1 B37FB501b3EFaf0123A0bF0073001000; + 60 73001000; > accepted sandboxes=1 bundles=16
 ";
 
 /// Sandboxes that are refused although they are safe, by rules that are stricter than safety asks somewhere. Of V1, V2, V3
@@ -88,8 +83,7 @@ $ sfi check
 
 /// Code, data, first data bytes and gates at the limits of a layout, and one step beyond.
 pub(super) const LIMITS: &str = "
-$ sfi check
-$ sfi check --raw
+$ sfi check; $ sfi check --raw
 = code of 128 bytes, 128 there, in the first format; put 0 53464931; put 12 80000000; end 36 32 73001000; > layout fault 4 Code
 = code of 65536 bytes, 65536 there, in the first format; put 0 53464931; put 12 00000100; end 36 16384 73001000; > accepted sandboxes=1 bundles=4096
 = code of 65536 bytes, 256 there, in the first format; put 0 53464931; put 12 00000100; end 36 64 73001000; > layout fault 3 Short
@@ -111,16 +105,12 @@ $ sfi check --raw
 = 64 gates; put 12 00080000; put 28 40000000; cut 36; text digits of 64 gates; + 64 73000000b3ff9001b3ef8f0167800f00; + 256 73001000
 > accepted sandboxes=1 bundles=128
 = 65 gates; put 12 00080000; put 28 41000000; cut 36; text digits of 64 gates; + 1 0004000100000000; + 65 73000000b3ff9001b3ef8f0167800f00
-+ 252 73001000
-> layout fault 8 Gates
++ 252 73001000; > layout fault 8 Gates
 ";
 
 /// Code in the first format. The pair of the second is `and x2, x2, x27`, `or x2, x2, x26`.
 pub(super) const FIRST: &str = "
-$ sfi check
-$ sfi check --raw
-= c.swsp; put 36 06c60290; > refused findings=1 first=V5 sandbox=0 at=01000000
-= c.addi x2; put 36 41110290; > accepted sandboxes=1 bundles=16
+$ sfi check; $ sfi check --raw
 = written before the pair; put 36 130101ff3371b1013361a101; > accepted sandboxes=1 bundles=16
 = written before the next bundle's pair; put 48 130101ff3371b1013361a101; > accepted sandboxes=1 bundles=16
 = a nop before the pair; put 36 130101ff130000003371b1013361a101; > accepted sandboxes=1 bundles=16
@@ -132,19 +122,11 @@ $ sfi check --raw
 = masked before the pair; put 36 3371b5013371b1013361a101; > accepted sandboxes=1 bundles=16
 = based before the pair; put 36 3361a1013371b1013361a101; > accepted sandboxes=1 bundles=16
 = based twice; put 36 3371b5013361a1013361a101; > accepted sandboxes=1 bundles=16
-= c.lwsp x24; put 36 024c0290; > refused findings=1 first=V4 sandbox=0 at=01000000
-= c.lwsp x25; put 36 824c0290; > refused findings=1 first=V4 sandbox=0 at=01000000
-= c.lwsp x26; put 36 024d0290; > refused findings=1 first=V4 sandbox=0 at=01000000
-= c.lwsp x27; put 36 824d0290; > refused findings=1 first=V4 sandbox=0 at=01000000
 ";
 
 /// The same code in the second format.
 pub(super) const SECOND: &str = "
-put 0 53464932
-$ sfi check
-$ sfi check --raw
-= c.swsp; put 36 06c60290; > accepted sandboxes=1 bundles=16
-= c.addi x2; put 36 41110290; > refused findings=1 first=V10 sandbox=0 at=01000000
+put 0 53464932; $ sfi check; $ sfi check --raw
 = written before the pair; put 36 130101ff3371b1013361a101; > accepted sandboxes=1 bundles=16
 = written before the next bundle's pair; put 48 130101ff3371b1013361a101; > refused findings=1 first=V10 sandbox=0 at=0100000c
 = a nop before the pair; put 36 130101ff130000003371b1013361a101; > refused findings=1 first=V10 sandbox=0 at=01000000
@@ -156,8 +138,4 @@ $ sfi check --raw
 = masked before the pair; put 36 3371b5013371b1013361a101; > accepted sandboxes=1 bundles=16
 = based before the pair; put 36 3361a1013371b1013361a101; > accepted sandboxes=1 bundles=16
 = based twice; put 36 3371b5013361a1013361a101; > refused findings=1 first=V10 sandbox=0 at=01000008
-= c.lwsp x24; put 36 024c0290; > refused findings=1 first=V4 sandbox=0 at=01000000
-= c.lwsp x25; put 36 824c0290; > refused findings=1 first=V4 sandbox=0 at=01000000
-= c.lwsp x26; put 36 024d0290; > refused findings=1 first=V4 sandbox=0 at=01000000
-= c.lwsp x27; put 36 824d0290; > refused findings=1 first=V4 sandbox=0 at=01000000
 ";

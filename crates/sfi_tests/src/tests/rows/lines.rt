@@ -170,7 +170,7 @@ fn push_row(text: &mut Vec<u8>, head: &str, row: &str) -> Result<(), AllocError>
     let (name, more) = first.split_once("; ").unwrap_or((first, ""));
     text.extend_from_slice("\n= ".as_bytes())?;
     text.extend_from_slice(name.as_bytes())?;
-    text.extend_from_slice(head.as_bytes())?;
+    push_lines(text, head)?;
     push_lines(text, more)?;
     push_lines(text, rest)
 }
@@ -178,6 +178,7 @@ fn push_row(text: &mut Vec<u8>, head: &str, row: &str) -> Result<(), AllocError>
 /// The rows of the table, each with the lines of the table's head.
 pub(super) fn unfolded(alloc: Global, table: &str) -> Result<Vec<u8>, AllocError> {
     let (head, rows) = table.split_once("\n= ").unwrap_or(("", ""));
+    let (_, head) = head.split_once('\n').unwrap_or(("", ""));
     let mut text = Vec::new(alloc);
     for row in rows.split("\n= ") {
         push_row(&mut text, head, row)?;

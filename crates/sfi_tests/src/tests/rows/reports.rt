@@ -49,7 +49,7 @@ $ sfi convert
 = less a byte; cut 291; > layout fault 3 Short
 = three bytes; cut 3; > layout fault 3 Short
 = the magic changes alone; >+ 1 534649320100000000000001000100000000800100010000000000010000000000000000; >+ 64 73001000; >
-= two letters; source; text image of hi
+= two letters; source; text front of hi; + 88 0290; + 1 4869
 >+ 1 534649320100000000000001000100000000800100010000200000010200000002000000; >+ 1 00000001010000001000000100000000
 >+ 1 73000000b3ff9001b3ef8f0167800f0073000000b3ff9001b3ef8f0167800f00; >+ 1 370580011305050093052000eff05ffd37058001130505000100010001000100
 >+ 1 b37fb501b3efaf0103c51f00eff05ffc; >+ 88 0290; >+ 1 4869; >
@@ -59,7 +59,7 @@ $ sfi convert
 /// What becomes of the new image.
 pub(super) const CONVERTED: &str = "
 = the new image is accepted; $ sfi convert | sfi check; > accepted sandboxes=1 bundles=16
-= what is converted runs alike; source; text image of hi; $ sfi run; $ sfi convert | sfi run; > sandbox=0 exit=105 steps=19 out=4869
+= what is converted runs alike; source; text front of hi; + 88 0290; + 1 4869; $ sfi run; $ sfi convert | sfi run; > sandbox=0 exit=105 steps=19 out=4869
 ";
 
 /// Listings, and faults.

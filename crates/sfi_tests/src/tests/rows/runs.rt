@@ -56,8 +56,8 @@ pub(super) const STATES: &str = "
 
 /// Two sandboxes.
 pub(super) const NEIGHBOURS: &str = "
-= the first posts to the second; source; text post to 1; text take; $ sfi build | sfi run; $ sfi build | sfi run --rounds 1000 --quantum 1
-> sandbox=0 exit=0 steps=17 out=; > sandbox=1 exit=7 steps=19 out=
+= the first posts to the second; source; | .sandbox 256; | .gate post 4; | .gate quit 0; | li a0, 1; | li a1, 7; | call post; | call quit; text take
+$ sfi build | sfi run; $ sfi build | sfi run --rounds 1000 --quantum 1; > sandbox=0 exit=0 steps=17 out=; > sandbox=1 exit=7 steps=19 out=
 = the second posts to the first; source; text take; text post to 0; $ sfi build | sfi run
 > sandbox=0 exit=0 steps=19 out=; > sandbox=1 exit=0 steps=17 out=
 = the second posts to the first; source; text take; text post to 0; $ sfi build | sfi run --rounds 1000 --quantum 1
@@ -70,30 +70,26 @@ pub(super) const NEIGHBOURS: &str = "
 = a sandbox that posts to itself; source; | .sandbox 256; | .gate post 4; | .gate take 5; | .gate quit 0; | li a0, 0; | li a1, 5; | call post
 | li a0, 0; | li a1, 6; | call post; | call take; | li t0, 10; | mul s0, a0, t0; | call take; | add a0, s0, a1; | call quit; $ sfi build | sfi run
 > sandbox=0 exit=51 steps=45 out=
-= a bare store into a neighbour, checked; put 4 02000000; put 36 2320b500; text a neighbour; $ sfi check; $ sfi run --rounds 1000
+= a bare store into a neighbour, checked; put 4 02000000; put 36 2320b500; text front of a neighbour; + 88 0290; + 1 4869; $ sfi check; $ sfi run --rounds 1000
 > refused findings=1 first=V5 sandbox=0 at=01000000
-= a masked store beside a neighbour, checked; put 4 02000000; put 36 b37fb501b3efaf0123a0bf00; text a neighbour; $ sfi check
+= a masked store beside a neighbour, checked; put 4 02000000; put 36 b37fb501b3efaf0123a0bf00; text front of a neighbour; + 88 0290; + 1 4869; $ sfi check
 > accepted sandboxes=2 bundles=32
-= a masked store beside a neighbour; put 4 02000000; put 36 b37fb501b3efaf0123a0bf00; text a neighbour; $ sfi run --rounds 1000 --quantum 1
+= a masked store beside a neighbour; put 4 02000000; put 36 b37fb501b3efaf0123a0bf00; text front of a neighbour; + 88 0290; + 1 4869; $ sfi run --rounds 1000 --quantum 1
 $ sfi run --rounds 1000 --quantum 3; $ sfi run --rounds 1000 --quantum 1000
 > sandbox=0 trap=Break at=0100000c steps=3 out=; > sandbox=1 exit=105 steps=19 out=4869
 ";
 
 /// Puts and gets at their limits, and one byte beyond. Each exits with the answer.
 pub(super) const BYTES: &str = "
-source
-$ sfi build | sfi run
+source; $ sfi build | sfi run
 = as many bytes as can be put at a time; | .sandbox 131072; | .gate ask 1; | .gate quit 0; | la a0, bytes; | li a1, 65536; | call ask; | call quit
-| .data; | bytes:
->+ 1 sandbox=0 exit=65536 steps=16 out=; >+ 65536 00; >
+| .data; | bytes:; >+ 1 sandbox=0 exit=65536 steps=16 out=; >+ 65536 00; >
 = a byte more; | .sandbox 131072; | .gate ask 1; | .gate quit 0; | la a0, bytes; | li a1, 65537; | call ask; | call quit; | .data; | bytes:
 > sandbox=0 exit=4294967295 steps=23 out=
 = as many bytes as can be got at a time; | .sandbox 131072; | .gate ask 2; | .gate quit 0; | la a0, bytes; | li a1, 65536; | call ask; | call quit
-| .data; | bytes:; input 65537 07
-> sandbox=0 exit=65536 steps=16 out=
+| .data; | bytes:; input 65537 07; > sandbox=0 exit=65536 steps=16 out=
 = a byte more than can be got; | .sandbox 131072; | .gate ask 2; | .gate quit 0; | la a0, bytes; | li a1, 65537; | call ask; | call quit; | .data
-| bytes:; input 65537 07
-> sandbox=0 exit=4294967295 steps=23 out=
+| bytes:; input 65537 07; > sandbox=0 exit=4294967295 steps=23 out=
 = as many bytes as an output holds, and none more; text 16 puts; | li a1, 0; | call put; | call quit; | .data; | bytes:
 >+ 1 sandbox=0 exit=0 steps=187 out=; >+ 1048576 00; >
 = as many bytes as an output holds, and one more; text 16 puts; | li a1, 1; | call put; | call quit; | .data; | bytes:
@@ -110,4 +106,7 @@ source
 = a text without names; | .sandbox 256; | ret; $ sfi map
 = a name that is nowhere; | .sandbox 256; | j nowhere; $ sfi map; > link fault 1 UnknownName line 2
 = a wrong place; text names; $ sfi map --at 20500080:80000000; > link fault 6 Place sandbox 0
+= labels are at words' starts, also of 16-bit forms; | .format words; | .sandbox 256; | .option rvc; | a: add a0, a0, a1; | b: add a1, a1, a2
+| add a2, a2, a3; | c: lw a0, 0(a1); | d:; $ sfi map
+> sandbox=0 code a at=01000000; > sandbox=0 code b at=01000004; > sandbox=0 code c at=01000008; > sandbox=0 code d at=01000014
 ";

@@ -1,12 +1,9 @@
 //! Code in words: verdicts by the table of its rules in docs/IMAGE.md. An offset in the code is 36 more in the image, or 44
 //! where a gate is listed.
 
-/// Code that keeps the rules V1 to V8.
+/// Code that keeps the rules: V1 to V8, V10 in writes of data registers, V11 and V12 in those of x30 and x31.
 pub(super) const KEPT: &str = "
-put 0 53464957
-> accepted sandboxes=1 bundles=16
-$ sfi check
-$ sfi check --raw
+put 0 53464957; > accepted sandboxes=1 bundles=16; $ sfi check; $ sfi check --raw
 = smallest
 = words and halves; put 36 01000100938212000100050473001000
 = two halves at the end; put 288 01000290
@@ -26,65 +23,6 @@ $ sfi check --raw
 = jalr at the end; put 288 67000f00
 = c.j at the end; put 288 0100fdbf
 = c.jr at the end; put 288 0100028f
-";
-
-/// Code that breaks one of the rules V1 to V6.
-pub(super) const BROKEN: &str = "
-put 0 53464957
-$ sfi check
-$ sfi check --raw
-= no instruction; put 36 00000000; > refused findings=1 first=V1 sandbox=0 at=01000000
-= no instruction in a second half; put 36 01000000; > refused findings=1 first=V1 sandbox=0 at=01000002
-= a longer instruction's first half; put 48 1f000100; > refused findings=1 first=V1 sandbox=0 at=0100000c
-= zeros; end 36 256 00; > refused findings=64 first=V1 sandbox=0 at=01000000
-= a word from a second half on; put 36 01007300; > refused findings=1 first=V2 sandbox=0 at=01000002
-= a word from a bundle's last half on; put 48 01007300; > refused findings=1 first=V2 sandbox=0 at=0100000e
-= a word from the region's last half on; put 288 01007300; > refused findings=1 first=V2 sandbox=0 at=010000fe
-= ecall; put 36 73000000; > refused findings=1 first=V3 sandbox=0 at=01000000
-= ecall after a gate's first word; put 28 01000000; insert 36 0000000100000000; put 48 73000000; > refused findings=1 first=V3 sandbox=0 at=01000004
-= ecall beside a gate's bundle; put 28 01000000; insert 36 0000000100000000; put 60 73000000; > refused findings=1 first=V3 sandbox=0 at=01000010
-= x24 written as it was; put 36 130c0c00; > refused findings=1 first=V4 sandbox=0 at=01000000
-= x25 linked; put 36 ef0c4000; > refused findings=1 first=V4 sandbox=0 at=01000000
-= x26 loaded; put 36 024d0100; > refused findings=1 first=V4 sandbox=0 at=01000000
-= x27 moved; put 36 0100aa8d; > refused findings=1 first=V4 sandbox=0 at=01000002
-= store on x28; put 36 2320be00; > refused findings=1 first=V5 sandbox=0 at=01000000
-= load on x0; put 36 83254000; > refused findings=1 first=V5 sandbox=0 at=01000000
-= store on x31; put 36 b37fb50123a0bf00; > refused findings=1 first=V5 sandbox=0 at=01000004
-= load on x30; put 36 83450f00; > refused findings=1 first=V5 sandbox=0 at=01000000
-= store on x27; put 36 2380bd00; > refused findings=1 first=V5 sandbox=0 at=01000000
-= c.lw; put 36 01008040; > refused findings=1 first=V5 sandbox=0 at=01000002
-= jalr on x30 with an offset; put 36 67004f00; > refused findings=1 first=V6 sandbox=0 at=01000000
-= jalr on x30 with an offset below 0; put 36 6700cfff; > refused findings=1 first=V6 sandbox=0 at=01000000
-= jalr on x1; put 36 67800000; > refused findings=1 first=V6 sandbox=0 at=01000000
-= c.jalr on x31; put 36 829f0100; > refused findings=1 first=V6 sandbox=0 at=01000000
-";
-
-/// Code that breaks V7 or V8.
-pub(super) const ENDS: &str = "
-put 0 53464957
-$ sfi check
-$ sfi check --raw
-= jal into a word; put 36 6f006000; > refused findings=1 first=V7 sandbox=0 at=01000000
-= jal into itself; put 36 6f002000; > refused findings=1 first=V7 sandbox=0 at=01000000
-= jal below the code; put 36 6ff0dfff; > refused findings=1 first=V7 sandbox=0 at=01000000
-= jal past the end; put 288 6f004000; > refused findings=1 first=V7 sandbox=0 at=010000fc
-= branch into a word; put 40 e3ef62fe; > refused findings=1 first=V7 sandbox=0 at=01000004
-= branch past the end; put 276 63d86200; > refused findings=1 first=V7 sandbox=0 at=010000f0
-= c.j into a word; put 36 09a00100; > refused findings=1 first=V7 sandbox=0 at=01000000
-= c.beqz from a second half; put 36 010011c0; > refused findings=1 first=V7 sandbox=0 at=01000002
-= jal into a neighbour; put 4 02000000; end 292 1 00010001000100000021800100010000000100010000000000000000; end 320 64 73001000; put 36 6f000010; > refused findings=1 first=V7 sandbox=0 at=01000000
-= branch at the end; put 288 e30a00fe; > refused findings=1 first=V8 sandbox=0 at=010000fc
-= a computation at the end; put 288 93821200; > refused findings=1 first=V8 sandbox=0 at=010000fc
-= a half at the end; put 288 02900100; > refused findings=1 first=V8 sandbox=0 at=010000fe
-= a gate's ecall isn't the end; put 28 01000000; insert 36 f000000100000000; put 284 73000000938212009382120093821200; > refused findings=1 first=V8 sandbox=0 at=010000fc
-";
-
-/// Writes of data registers that keep V10.
-pub(super) const DATA_KEPT: &str = "
-put 0 53464957
-> accepted sandboxes=1 bundles=16
-$ sfi check
-$ sfi check --raw
 = placed; put 36 33e1af01b3e1af0133e2af01b3eeaf01
 = written, masked and placed; put 36 3301b500b37fb10133e1af01
 = loaded, masked and placed; put 36 83ae0e00b3ffbe01b3eeaf01
@@ -109,13 +47,58 @@ $ sfi check --raw
 = a step and a store before a gate; put 28 01000000; insert 36 1000000100000000; put 52 130101012320b10073000000
 = a step before a gate's address; put 28 01000000; insert 36 1000000100000000; put 56 130101012320b100
 = a load into its own base; put 36 1301410003210100b37fb10133e1af01
+= masked and placed; put 36 337f9501336f8f0167000f00
+= placed alone; put 36 336f8f0167000f00
+= placed twice; put 36 337f9501336f8f01336f8f01
+= masked by itself; put 36 337f9f01336f8f01
+= placed across 16 bytes; put 48 337f9501336f8f01
+= placed before the end; put 280 337f9501336f8f0167000f00
+= placed at a gate's address; put 28 01000000; insert 36 1000000100000000; put 56 337f9501336f8f01
+= the stub of a gate; put 28 01000000; insert 36 0000000100000000; put 44 7300000033ff9001336f8f0167000f00
+= x31 masked; put 36 b37fb501b3ffbf01b3ffbd01
+= x31 masked at the end of 16 bytes; put 48 b37fb501
+";
+
+/// Code that breaks one of the rules V1 to V8.
+pub(super) const BROKEN: &str = "
+put 0 53464957; $ sfi check; $ sfi check --raw
+= no instruction in a second half; put 36 01000000; > refused findings=1 first=V1 sandbox=0 at=01000002
+= a longer instruction's first half; put 48 1f000100; > refused findings=1 first=V1 sandbox=0 at=0100000c
+= zeros; end 36 256 00; > refused findings=64 first=V1 sandbox=0 at=01000000
+= a word from a second half on; put 36 01007300; > refused findings=1 first=V2 sandbox=0 at=01000002
+= a word from a bundle's last half on; put 48 01007300; > refused findings=1 first=V2 sandbox=0 at=0100000e
+= a word from the region's last half on; put 288 01007300; > refused findings=1 first=V2 sandbox=0 at=010000fe
+= ecall after a gate's first word; put 28 01000000; insert 36 0000000100000000; put 48 73000000; > refused findings=1 first=V3 sandbox=0 at=01000004
+= ecall beside a gate's bundle; put 28 01000000; insert 36 0000000100000000; put 60 73000000; > refused findings=1 first=V3 sandbox=0 at=01000010
+= x24 written as it was; put 36 130c0c00; > refused findings=1 first=V4 sandbox=0 at=01000000
+= x25 linked; put 36 ef0c4000; > refused findings=1 first=V4 sandbox=0 at=01000000
+= x26 loaded; put 36 024d0100; > refused findings=1 first=V4 sandbox=0 at=01000000
+= x27 moved; put 36 0100aa8d; > refused findings=1 first=V4 sandbox=0 at=01000002
+= store on x28; put 36 2320be00; > refused findings=1 first=V5 sandbox=0 at=01000000
+= load on x0; put 36 83254000; > refused findings=1 first=V5 sandbox=0 at=01000000
+= load on x30; put 36 83450f00; > refused findings=1 first=V5 sandbox=0 at=01000000
+= store on x27; put 36 2380bd00; > refused findings=1 first=V5 sandbox=0 at=01000000
+= c.lw; put 36 01008040; > refused findings=1 first=V5 sandbox=0 at=01000002
+= jalr on x30 with an offset below 0; put 36 6700cfff; > refused findings=1 first=V6 sandbox=0 at=01000000
+= c.jalr on x31; put 36 829f0100; > refused findings=1 first=V6 sandbox=0 at=01000000
+= jal into a word; put 36 6f006000; > refused findings=1 first=V7 sandbox=0 at=01000000
+= jal into itself; put 36 6f002000; > refused findings=1 first=V7 sandbox=0 at=01000000
+= jal below the code; put 36 6ff0dfff; > refused findings=1 first=V7 sandbox=0 at=01000000
+= jal past the end; put 288 6f004000; > refused findings=1 first=V7 sandbox=0 at=010000fc
+= branch into a word; put 40 e3ef62fe; > refused findings=1 first=V7 sandbox=0 at=01000004
+= branch past the end; put 276 63d86200; > refused findings=1 first=V7 sandbox=0 at=010000f0
+= c.j into a word; put 36 09a00100; > refused findings=1 first=V7 sandbox=0 at=01000000
+= c.beqz from a second half; put 36 010011c0; > refused findings=1 first=V7 sandbox=0 at=01000002
+= jal into a neighbour; put 4 02000000; end 292 1 00010001000100000021800100010000000100010000000000000000; end 320 64 73001000; put 36 6f000010; > refused findings=1 first=V7 sandbox=0 at=01000000
+= branch at the end; put 288 e30a00fe; > refused findings=1 first=V8 sandbox=0 at=010000fc
+= a computation at the end; put 288 93821200; > refused findings=1 first=V8 sandbox=0 at=010000fc
+= a half at the end; put 288 02900100; > refused findings=1 first=V8 sandbox=0 at=010000fe
+= a gate's ecall isn't the end; put 28 01000000; insert 36 f000000100000000; put 284 73000000938212009382120093821200; > refused findings=1 first=V8 sandbox=0 at=010000fc
 ";
 
 /// Writes of data registers that break V10.
 pub(super) const DATA_BROKEN: &str = "
-put 0 53464957
-$ sfi check
-$ sfi check --raw
+put 0 53464957; $ sfi check; $ sfi check --raw
 = written; put 36 130100002320b100; > refused findings=1 first=V10 sandbox=0 at=01000004
 = written by c.li; put 36 014106c0; > refused findings=1 first=V10 sandbox=0 at=01000002
 = written by c.mv; put 36 aa8e0100; > refused findings=1 first=V10 sandbox=0 at=01000002
@@ -145,9 +128,7 @@ $ sfi check --raw
 
 /// Steps of data registers that break V10, or a lower rule.
 pub(super) const STEPS: &str = "
-put 0 53464957
-$ sfi check
-$ sfi check --raw
+put 0 53464957; $ sfi check; $ sfi check --raw
 = a store at 1021; put 36 130101ffa32eb13e; > refused findings=1 first=V10 sandbox=0 at=01000004
 = a store at -1021; put 36 130101ffa321b1c0; > refused findings=1 first=V10 sandbox=0 at=01000004
 = a load at 1021; put 36 938e0eff8385de3f; > refused findings=1 first=V10 sandbox=0 at=01000004
@@ -174,35 +155,15 @@ $ sfi check --raw
 = placed without a mask; put 36 1301410033e1af01; > refused findings=1 first=V10 sandbox=0 at=01000004
 ";
 
-/// Writes of x30 and x31 that keep V11 and V12.
-pub(super) const OTHERS_KEPT: &str = "
-put 0 53464957
-> accepted sandboxes=1 bundles=16
-$ sfi check
-$ sfi check --raw
-= masked and placed; put 36 337f9501336f8f0167000f00
-= placed alone; put 36 336f8f0167000f00
-= placed twice; put 36 337f9501336f8f01336f8f01
-= masked by itself; put 36 337f9f01336f8f01
-= placed across 16 bytes; put 48 337f9501336f8f01
-= placed before the end; put 280 337f9501336f8f0167000f00
-= placed at a gate's address; put 28 01000000; insert 36 1000000100000000; put 56 337f9501336f8f01
-= the stub of a gate; put 28 01000000; insert 36 0000000100000000; put 44 7300000033ff9001336f8f0167000f00
-= x31 masked; put 36 b37fb501b3ffbf01b3ffbd01
-= x31 masked at the end of 16 bytes; put 48 b37fb501
-";
-
-/// Writes of x30 and x31 that break V11, V12 or a lower rule.
+/// Writes of x30 and x31 that break V11, V12 or a lower rule; the lowest rule is found at a place, and what is broken owes no
+/// more.
 pub(super) const OTHERS_BROKEN: &str = "
-put 0 53464957
-$ sfi check
-$ sfi check --raw
+put 0 53464957; $ sfi check; $ sfi check --raw
 = x30 written; put 36 130f000067000f00; > refused findings=1 first=V11 sandbox=0 at=01000000
 = x30 written by c.mv; put 36 01002a8f; > refused findings=1 first=V11 sandbox=0 at=01000002
 = x30 loaded by c.lwsp; put 36 024f0100; > refused findings=1 first=V11 sandbox=0 at=01000000
 = x30 linked; put 36 6f0f4000; > refused findings=1 first=V11 sandbox=0 at=01000000
 = x30 masked; put 36 337f9501; > refused findings=1 first=V11 sandbox=0 at=01000004
-= x30 masked before a jump; put 36 337f950167000f00; > refused findings=1 first=V11 sandbox=0 at=01000004
 = x30 masked the other way round; put 36 33ffac00336f8f01; > refused findings=1 first=V11 sandbox=0 at=01000000
 = x30 masked by x27; put 36 337fb501336f8f01; > refused findings=1 first=V11 sandbox=0 at=01000000
 = x30 placed the other way round; put 36 336fec01; > refused findings=1 first=V11 sandbox=0 at=01000000
@@ -218,16 +179,8 @@ $ sfi check --raw
 = x31 written by c.li; put 36 0100fd5f; > refused findings=1 first=V12 sandbox=0 at=01000002
 = x31 loaded by c.lwsp; put 36 824f0100; > refused findings=1 first=V12 sandbox=0 at=01000000
 = x31 linked; put 36 ef0f4000; > refused findings=1 first=V12 sandbox=0 at=01000000
-= x31 masked the other way round; put 36 b3ffad00; > refused findings=1 first=V12 sandbox=0 at=01000000
 = x31 masked by x25; put 36 b37f9501; > refused findings=1 first=V12 sandbox=0 at=01000000
 = x31 placed; put 36 b37fb501b3efaf01; > refused findings=1 first=V12 sandbox=0 at=01000004
-";
-
-/// The lowest rule is found at a place, and what is broken owes no more.
-pub(super) const BESIDE: &str = "
-put 0 53464957
-$ sfi check
-$ sfi check --raw
 = V3 before V10; put 36 3751000073000000; > refused findings=1 first=V3 sandbox=0 at=01000004
 = V4 before V10; put 36 37510000375c0000; > refused findings=1 first=V4 sandbox=0 at=01000004
 = V5 before V10; put 36 1301010123a0b200; > refused findings=1 first=V5 sandbox=0 at=01000004
@@ -246,9 +199,7 @@ $ sfi check --raw
 
 /// Layouts, and larger code.
 pub(super) const LAYOUTS: &str = "
-put 0 53464957
-$ sfi check
-$ sfi check --raw
+put 0 53464957; $ sfi check; $ sfi check --raw
 = start in a bundle; put 24 04000001; > layout fault 7 Start
 = a gate in a bundle; put 28 01000000; insert 36 0400000100000000; > layout fault 8 Gates
 = less its last byte; cut 291; > layout fault 3 Short
@@ -262,9 +213,7 @@ $ sfi check --raw
 
 /// Runs.
 pub(super) const RUNS: &str = "
-put 0 53464957
-$ sfi run
-$ sfi run --rounds 1000 --quantum 1
+put 0 53464957; $ sfi run; $ sfi run --rounds 1000 --quantum 1
 = smallest; > sandbox=0 trap=Break at=01000000 steps=0 out=
 = a second bundle's start; put 24 10000001; > sandbox=0 trap=Break at=01000010 steps=0 out=
 = a store past the data; put 36 2328a100; > sandbox=0 trap=Store at=01800100 steps=0 out=
@@ -281,24 +230,18 @@ $ sfi run --rounds 1000 --quantum 1
 = a gate in other code; put 28 01000000; insert 36 1000000100000000; put 44 1305700093821200938212009382120073000000; > sandbox=0 exit=7 steps=5 out=
 = a store on x28; put 36 2320be00; > refused findings=1 first=V5 sandbox=0 at=01000000
 = a neighbour; put 4 02000000; end 292 1 00000002000100000021800100010000000000020000000000000000; end 320 64 73001000; put 36 23a0a100
-> sandbox=0 trap=Break at=01000004 steps=1 out=
-> sandbox=1 trap=Break at=02000000 steps=0 out=
+> sandbox=0 trap=Break at=01000004 steps=1 out=; > sandbox=1 trap=Break at=02000000 steps=0 out=
 ";
 
 /// What `run --report` prints after the lines of a run: the registers at an entry, and after a step.
 pub(super) const STATES: &str = "
-put 0 53464957
-$ sfi run --report
-= at an entry; put 24 10000001
-> sandbox=0 trap=Break at=01000010 steps=0 out=
-> sandbox=0 pc=01000010 00100073 ebreak
+put 0 53464957; $ sfi run --report
+= at an entry; put 24 10000001; > sandbox=0 trap=Break at=01000010 steps=0 out=; > sandbox=0 pc=01000010 00100073 ebreak
 > x1=00000000 x2=018000f0 x3=01800000 x4=01800000 x5=00000000 x6=00000000 x7=00000000
 > x8=00000000 x9=00000000 x10=00000000 x11=00000000 x12=00000000 x13=00000000 x14=00000000 x15=00000000
 > x16=00000000 x17=00000000 x18=00000000 x19=00000000 x20=00000000 x21=00000000 x22=00000000 x23=00000000
 > x24=01000000 x25=000000fc x26=01800000 x27=000000ff x28=00000000 x29=01800000 x30=01000010 x31=00000000
-= after a step; put 36 130101ff232ea13e
-> sandbox=0 trap=Store at=018004dc steps=1 out=
-> sandbox=0 pc=01000004 3ea12e23 sw x10, 1020(x2)
+= after a step; put 36 130101ff232ea13e; > sandbox=0 trap=Store at=018004dc steps=1 out=; > sandbox=0 pc=01000004 3ea12e23 sw x10, 1020(x2)
 > x1=00000000 x2=018000e0 x3=01800000 x4=01800000 x5=00000000 x6=00000000 x7=00000000
 > x8=00000000 x9=00000000 x10=00000000 x11=00000000 x12=00000000 x13=00000000 x14=00000000 x15=00000000
 > x16=00000000 x17=00000000 x18=00000000 x19=00000000 x20=00000000 x21=00000000 x22=00000000 x23=00000000

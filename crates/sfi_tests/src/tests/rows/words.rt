@@ -9,8 +9,7 @@ $ sfi build source; $ sfi map --report; $ sfi map source; $ sfi dis image; $ sfi
 $ sfi run --report=yes; $ sfi run --report --report; $ sfi build --at; $ sfi check --at 20500000:80000000; $ sfi run --rounds; $ sfi run --rounds 0
 $ sfi run --rounds 10001; $ sfi run --rounds ten; $ sfi run --rounds=-1; $ sfi run --rounds 1 --rounds 1; $ sfi run --quantum 0
 $ sfi run --quantum 1000001; $ sfi run --quantum 0x10; $ sfi run --input; $ sfi run --rounds 0 --input 0; $ sfi check --version; $ sfi help frob
-$ sfi convert --report
->.. error: 
+$ sfi convert --report; >.. error: 
 = bytes, and a report; $ sfi check --raw --report; $ sfi check --report --raw
 > error: '--raw' and '--report' cannot be used together; >; > For more information, try '--help'.
 = no place; $ sfi build --at 20500000; $ sfi build --at :; $ sfi build --at 20500000:; $ sfi build --at :80000000; $ sfi build --at 120500000:80000000
@@ -34,8 +33,7 @@ source
 /// Each help says what its command does, how it is called, which options it has, which statuses,
 /// and an example. After `..` the first `>` ends a line.
 pub(super) const HELP: &str = "
-source
-status 3
+source; status 3
 = help; $ sfi --help; ..; >; >; > Usage: sfi <COMMAND>; ..; >..   check    Accept an image, or; >.. -V, --version; >text statuses; >.. build < 
 = help, said in other words; as sfi --help; $ sfi -h; $ sfi help
 = help of check; $ sfi check --help; ..; >; >; > Usage: sfi check [OPTIONS]; ..; >.. --raw ; >.. --report ; >text statuses; >.. check --
@@ -67,8 +65,7 @@ $ sfi build --at 80000000:7fffe000 | sfi run; $ sfi build --at 80000000:ffffef00
 
 /// Places that are refused: each sandbox has 256 bytes of code, and a guard zone 4096 addresses.
 pub(super) const REFUSED: &str = "
-source
-text two sandboxes
+source; text two sandboxes
 = no multiple of the code's size; $ sfi build --at 20500080:80000000; > link fault 6 Place sandbox 0
 = no multiple of the data's size; $ sfi build --at 20500000:80000080; > link fault 6 Place sandbox 0
 = no room for a guard zone below; $ sfi build --at 20500000:00000f00; > link fault 6 Place sandbox 0
