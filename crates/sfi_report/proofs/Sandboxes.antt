@@ -25,12 +25,6 @@ pub record IsListedTo (p : Part) (at : ℕ) (old new : List ℕ) : Type 0 where
   pub text_is : IsListingOfFirst p units text
   pub new_is : new ≡ old ++ text
 
-pub empty_listing : (p : Part) (old : List ℕ) → IsListedTo p 0 old old
-empty_listing p old = record { units = 0; at_is = zero_times (unit p.format); within = omega arith; text = []; text_is = refl; new_is = sym (append-nil old) }
-  where
-    zero_times : (n : ℕ) → 0 ≡ n * 0
-    zero_times n = omega arith
-
 -- the next unit ends within the code, at a unit more, and the code at or below 2 ^ 32
 pub unit_fits : (p : Part) (size at : ℕ) (old new : List ℕ) → IsRightPart p → size ≡ unit p.format → (so_far : IsListedTo p at old new) → at < length p.code
     → (at + size ≤ length p.code) × (at + size ≡ unit p.format * suc so_far.units) × (p.code_base + length p.code ≤ 2 ^ 32)
@@ -53,11 +47,6 @@ one_unit_more p size at old new more right is less so_far here =
       text_is = (so_far.text, here.text, so_far.text_is, last, refl);
       new_is = here.new_is ∙ ap (λ t. t ++ here.text) so_far.new_is ∙ append_assoc old so_far.text here.text;
     }
-
-pub all_units : (p : Part) (at : ℕ) (old new : List ℕ) → length p.code ≤ at → IsListedTo p at old new → Adds old new (IsCodeListing p)
-all_units p at old new over so_far =
-    let all : length p.code ≡ at = omega (arith, so_far.within) in
-    record { text = so_far.text; text_is = record { units = so_far.units; whole = all ∙ so_far.at_is; text_is = so_far.text_is }; new_is = so_far.new_is }
 
 -- a sandbox's listing: its fields and gates, and then its code
 pub whole_sandbox : (sandbox : ℕ) (p : Part) (old fields gates new : List ℕ)
