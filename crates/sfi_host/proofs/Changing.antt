@@ -1,5 +1,5 @@
 -- A world of which one sandbox changed: it took a turn, or its data were written from outside.
-use Rattle.sfi_host.proofs.Prelude.{◌≡◌, ◌≢◌, ◌<◌, ⊎_elim, ℕ, ◌+◌, List, length, get_or, Some, set, slice_get, sym, ap, ◌∙◌, subst, refl, cases_eq, map-set, length-map, same_Some, arith, Bytes, IsMemory, Holds, Part, InCode, Program, Sandbox, AreEnterable, seat_of, seats_of, world_of, Bounds, Slot, bounds_of, Seat, Sandboxes, slot_of, slots_of, IsSafeSeat, IsSafeWorld, StaysOutside, StaysOutsideData, state_in, bounds_in, StaysSafe, MayRun, IsChange, bytes_in, bytes_outside, IsWhole}
+use Rattle.sfi_host.proofs.Prelude.{◌≡◌, ◌≢◌, ◌<◌, ⊎_elim, ℕ, ◌+◌, List, length, get_or, Some, set, slice_get, sym, ap, ◌∙◌, subst, refl, cases_eq, map-set, length-map, same_Some, arith, Bytes, IsMemory, Holds, Part, InCode, Program, Sandbox, AreEnterable, seat_of, seats_of, world_of, Bounds, Slot, bounds_of, Seat, Sandboxes, slot_of, slots_of, IsSafeSeat, IsSafeWorld, StaysOutside, StaysOutsideData, state_in, bounds_in, StaysSafe, IsSafeWith, IsChange, bytes_in, bytes_outside, IsWhole}
 use Rattle.sfi_host.specs.Changing.{OthersAreSame, AreChanges}
 use Rattle.sfi_host.specs.Programs.{AreDecoded}
 use Rattle.sfi_host.proofs.Asked.{found, seat_at}
@@ -78,7 +78,7 @@ module _ (m : Bytes) (items : List Sandbox) (programs : List Program) (i : ℕ) 
   there : slice_get items i ≡ Some x
   there = found items items i x refl below is
 
-  pub may_run : (p : Program) → p ≡ get_or programs i p → MayRun m (seat_of x) p
+  pub may_run : (p : Program) → p ≡ get_or programs i p → IsSafeWith m (seat_of x) p
   may_run p program =
       let count : length programs ≡ length items = inside.1.count ∙ length-map items seat_of in
       let at : slice_get (seats_of items) i ≡ Some (seat_of x) = seat_at items i x there in

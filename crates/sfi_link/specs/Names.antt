@@ -28,26 +28,26 @@ kind_of (Data offset) = Some kind.Data
 kind_of Unknown = None
 
 -- the entry of a name with that text, of that kind and with that address, in the sandbox of that
--- number; none of a name that is neither a gate nor a label
+-- number; none where one of the three is missing: a name that is neither a gate nor a label has no kind
 abbrev pub entry_of : ℕ → Option (List ℕ) → Option NameKind → Option ℕ → List MapEntry
 entry_of number (Some name) (Some kind) (Some address) =
     record { sandbox = number; name = name; kind = kind; address = address } ∷ []
 entry_of number _ _ _ = []
 
--- the gates and labels of the sandbox of that number, which lies there and has names of these texts:
--- what was placed of each name, from name k on, in the order in which they are first seen
+-- the gates and labels among what was placed of a sandbox's names, from name k on, in the order in
+-- which names are first seen; `texts` are those of all its names
 abbrev pub entries_of : ℕ → Bases → List (List ℕ) → ℕ → List PlacedName → List MapEntry
 entries_of number at texts k [] = []
 entries_of number at texts k (p ∷ placed) =
     entry_of number (slice_get texts k) (kind_of p) (address_of at p)
     ++ entries_of number at texts (k + 1) placed
 
--- the same by the sandbox itself, if the source has it
+-- those of all names of the sandbox, if the source has it
 abbrev pub entries_in : ℕ → Bases → Option Sandbox → List PlacedName → List MapEntry
 entries_in number at None placed = []
 entries_in number at (Some s) placed = entries_of number at (map (λ e. e.0) s.names) 0 placed
 
--- the gates and labels of sandboxes, the first of which has that number, by what was placed of each
+-- the gates and labels of the source's sandboxes from that number on, by what was placed of each of these
 abbrev pub map_from : List Place → ℕ → List Sandbox → List Placement → List MapEntry
 map_from given number source [] = []
 map_from given number source (p ∷ placed) =

@@ -16,7 +16,7 @@ ghost use Rattle.sfi_link.specs.private.Near.{IsCodeBeside, Links};
 use crate::bases::bases_of;
 use crate::code::push_bundles;
 use crate::fault::LinkFault;
-use crate::placement::lies_beside;
+use crate::right_places::lies_beside;
 use crate::stub::stub_of;
 use sfi_image::Span;
 use sfi_policy::{BUNDLE_BYTES, Format, Place, REGION_LEAST_BYTES, place_of};

@@ -14,7 +14,7 @@ mod fault;
 pub mod laws;
 mod linker;
 mod names;
-mod placement;
+mod right_places;
 mod stub;
 
 pub use fault::LinkFault;

@@ -31,7 +31,7 @@ reading_lines at bytes (x ∷ reading) =
     instruction_line at (take x.size bytes) x.instr
     ++ reading_lines (at + x.size) (drop x.size bytes) reading
 
--- the lines of the longest reading
+-- the lines of the longest reading of the bytes at that address, and of what it leaves
 pub record IsUnitListing (at : ℕ) (bytes text : List ℕ) : Type 0 where
   pub reading : List Piece
   pub longest : IsLongestReading bytes reading

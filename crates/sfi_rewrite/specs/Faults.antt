@@ -42,7 +42,8 @@ pub record AreFaultless (in_words : Bool) (f : Format) (k : ℕ) (items : List I
   pub laid : AreLaidIn in_words f (take k items) (drop k items) slots
   pub fits : size_of slots ≤ code_most f
 
--- no code region has room for the slots of the first k of the items
+-- no code region has room for the slots of the first k of the items; in bundles the last of these would
+-- begin a bundle beyond the last, since an expansion lies in one bundle
 abbrev pub AreTooLarge : Bool → Format → ℕ → List Item → Type 0
 AreTooLarge in_words f k items =
     (slots : List Slot) × AreLaidIn in_words f (take k items) (drop k items) slots

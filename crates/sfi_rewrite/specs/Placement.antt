@@ -26,12 +26,14 @@ pub record Placement : Type 0 where
   pub bytes : List ℕ
   pub bundles : List (List Slot)
 
--- the slots of the items before others, in words or in bundles
+-- the slots of the items before others, in words or in bundles; `in_words` is `has_words f` wherever this
+-- is cited
 abbrev pub AreLaidIn : Bool → Format → List Item → List Item → List Slot → Type 0
 AreLaidIn in_words f items later slots =
     MatchBool in_words (words.AreLaidBefore items later slots) (AreLaid f items slots)
 
--- where a label may stand, not before that end: in bundles the next bundle start
+-- the first place at or after that end where a label may stand: in words that end, in bundles a bundle
+-- start
 abbrev pub label_place : Bool → ℕ → ℕ
 label_place true end = end
 label_place false end = next_bundle end

@@ -19,8 +19,8 @@ use Rattle.sfi_rewrite.specs.Stack.{writes_stack}
 use Rattle.sfi_rewrite.specs.Expansion.{IsPlainExpansion}
 use Rattle.sfi_rewrite.specs.Transparency.{KeepsTo, IsAskedOf, effect_in}
 
--- an expansion, regions and a state, and what is asked of these where its slots stand for i, in code in
--- units of so many bytes
+-- an expansion, and regions and a state for which all holds that is asked where its slots stand for i,
+-- in code in units of so many bytes
 pub record Meets (unit_size : ℕ) (i : Instr) (IsExpanded : List Slot → Type 0) : Type 0 where
   pub slots : List Slot
   pub expansion : IsExpanded slots

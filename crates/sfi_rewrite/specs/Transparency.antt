@@ -72,7 +72,7 @@ SlotsStand i s (x ∷ slots) = SlotStands i s x × SlotsStand i (further s (slot
 
 -- ---- what it does
 
--- x31, the register that the expansions in bundles write
+-- x31, the expansions' own register in bundles
 abbrev pub is_scratch : ℕ → Bool
 is_scratch r = r == scratch
 

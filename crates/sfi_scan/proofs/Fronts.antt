@@ -1,6 +1,6 @@
 -- The walk over a stretch, front by front. What is told of the bundles of a stretch is a parameter: a
 -- relation of the first one's place, the bytes and how many they are.
-use Rattle.sfi_scan.proofs.Prelude.{◌≡◌, ℕ, ◌+◌, ◌-◌, ◌*◌, ◌^◌, ◌<◌, ◌≤◌, List, length, take, drop, min, sym, ap, ◌∙◌, subst, arith, BundlePlace, block_bundle, IsWithin, stretch_place, IsRun}
+use Rattle.sfi_scan.proofs.Prelude.{◌≡◌, ℕ, ◌+◌, ◌-◌, ◌*◌, ◌^◌, ◌<◌, ◌≤◌, List, length, take, drop, min, sym, ap, ◌∙◌, subst, arith, BundlePlace, block_bundle, IsWithin, stretch_place, AreBundlesTo}
 use Rattle.sfi_scan.specs.Stretches.{IsStretch}
 use Rattle.sfi_scan.specs.private.Scanning.{IsBlockStart, IsFront}
 use Rattle.sfi_scan.proofs.Stretches.{place_on, place_address, place_base, place_size, front_bundle, rest_bundle}
@@ -93,7 +93,7 @@ bundle_front R same b c code bundle at k is place bytes enough h = record {
 -- ---- the walk
 
 -- it begins where no bundle has been passed yet
-pub run_none : {code : List ℕ} {holds : ℕ → Type 0} (at k : ℕ) → at ≡ 16 * k → at ≤ length code → holds 0 → IsRun code k at holds
+pub run_none : {code : List ℕ} {holds : ℕ → Type 0} (at k : ℕ) → at ≡ 16 * k → at ≤ length code → holds 0 → AreBundlesTo code k at holds
 run_none at k is inside none = record {
   bundles = 0;
   end_is = omega (arith, is);
@@ -102,7 +102,7 @@ run_none at k is inside none = record {
 }
 
 -- what a scan of a front is to be given
-pub front_ahead : {b : BundlePlace} {code : List ℕ} {n k at : ℕ} {holds : ℕ → Type 0} (w : IsRun code k at holds) → IsStretch b code n → at < length code
+pub front_ahead : {b : BundlePlace} {code : List ℕ} {n k at : ℕ} {holds : ℕ → Type 0} (w : AreBundlesTo code k at holds) → IsStretch b code n → at < length code
     → (m : ℕ) × (j : ℕ) × IsStretch b code m × (at ≡ 16 * j) × (j < m)
 front_ahead {n = n} {k = k} w run less =
     let whole = run.whole in
@@ -110,7 +110,7 @@ front_ahead {n = n} {k = k} w run less =
     (n, k + w.bundles, run, at_is, omega (arith, whole, at_is, less))
 
 -- and a scan of one bundle
-pub bundle_ahead : {b : BundlePlace} {code : List ℕ} {n k at : ℕ} {holds : ℕ → Type 0} (w : IsRun code k at holds) → IsStretch b code n → at < length code
+pub bundle_ahead : {b : BundlePlace} {code : List ℕ} {n k at : ℕ} {holds : ℕ → Type 0} (w : AreBundlesTo code k at holds) → IsStretch b code n → at < length code
     → (b.address + at < 2 ^ 32) × (at + 16 ≤ length code) × IsWithin (stretch_place b (k + w.bundles))
 bundle_ahead {b = b} {code = code} {n = n} {k = k} {at = at} w run less =
     let whole = run.whole in
@@ -125,10 +125,10 @@ walk_nearer at_is front =
     omega (arith, at_is, front.end_is, some, front.inside)
 
 -- it goes on over more bundles, from bundle m on
-pub walk_on : {code : List ℕ} {k m at end : ℕ} {holds told after : ℕ → Type 0} (b : BundlePlace) (w : IsRun code k at holds) → at ≡ 16 * m → IsRun code m end told
+pub walk_on : {code : List ℕ} {k m at end : ℕ} {holds told after : ℕ → Type 0} (b : BundlePlace) (w : AreBundlesTo code k at holds) → at ≡ 16 * m → AreBundlesTo code m end told
     → ((n : ℕ) → ((i : ℕ) → i < n → stretch_place (stretch_place b m) i ≡ stretch_place (stretch_place b k) (w.bundles + i))
     → ((i : ℕ) → i < n → block_bundle (drop (16 * m) code) i ≡ block_bundle (drop (16 * k) code) (w.bundles + i)) → told n → after (w.bundles + n))
-    → IsRun code k end after
+    → AreBundlesTo code k end after
 walk_on {code = code} {k = k} {m = m} b w at_is more on =
     let end_is = more.end_is in
     let so_far = w.end_is in
@@ -143,13 +143,13 @@ walk_on {code = code} {k = k} {m = m} b w at_is more on =
           more.told;
     }
 
-pub walk_at : {code : List ℕ} {at : ℕ} {holds : ℕ → Type 0} (w : IsRun code 0 at holds) → at ≡ 16 * w.bundles
+pub walk_at : {code : List ℕ} {at : ℕ} {holds : ℕ → Type 0} (w : AreBundlesTo code 0 at holds) → at ≡ 16 * w.bundles
 walk_at w =
     let at_is = w.end_is in
     omega (arith, at_is)
 
 -- at its end it has come over the whole stretch
-pub walk_over : {b : BundlePlace} {code : List ℕ} {n at : ℕ} (holds : ℕ → Type 0) → IsRun code 0 at holds → IsStretch b code n → length code ≤ at → holds n
+pub walk_over : {b : BundlePlace} {code : List ℕ} {n at : ℕ} (holds : ℕ → Type 0) → AreBundlesTo code 0 at holds → IsStretch b code n → length code ≤ at → holds n
 walk_over {code = code} {n = n} {at = at} holds w run over =
     let whole = run.whole in
     let at_is = w.end_is in

@@ -45,7 +45,7 @@ pub use Rattle.sfi_rules.specs.words.Owing.{left, owed_by}
 pub use Rattle.sfi_rules.specs.words.Rules.{uses}
 pub use Rattle.sfi_scan.specs.Stretches.{AreStretchFindings, AreWordStretchFindings, IsScanned, IsWordCodeScanned, stretch_place}
 pub use Rattle.sfi_scan.specs.declared.clean.Words.{Words}
-pub use Rattle.sfi_scan.specs.private.Scanning.{IsRun}
+pub use Rattle.sfi_scan.specs.private.Scanning.{AreBundlesTo}
 pub use Rattle.sfi_scan.specs.private.WordBlock.{AreCleanWords, IsCleanWord, IsPairAt, IsSteppedWord}
 pub use Rattle.sfi_scan.specs.private.WordLook.{IsBeforeEnd, IsQuiet, IsQuietThere, is_kept, is_plain}
 pub use Rattle.std.proofs.Math.Facts.{Fits-lt-pow}

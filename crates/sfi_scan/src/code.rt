@@ -6,7 +6,7 @@ ghost use Rattle.sfi_masks.specs.Masks.{is_in};
 ghost use Rattle.sfi_rules.specs.Bundles.{IsWithin, IsWithinBlock, block_bundle, bundle_at};
 ghost use Rattle.sfi_rules.specs.Findings.{AreReadingFindings};
 ghost use Rattle.sfi_scan.specs.Stretches.{IsStretch, IsScanned, IsStretchScanned, stretch_place};
-ghost use Rattle.sfi_scan.specs.private.Scanning.{IsAhead, IsBlockScanned, IsBlockStart, IsFrontScanned};
+ghost use Rattle.sfi_scan.specs.private.Scanning.{IsInBytesOfBlock, IsBlockScanned, IsBlockStart, IsFrontScanned};
 
 use crate::block::{bundle_at, clean_bundles, has};
 use crate::findings::BundleFindings;
@@ -133,7 +133,7 @@ pub(crate) fn block_start<const BLOCKS: bool>(
     at: usize,
 ) -> Option<usize>
     requires { (n : ℕ) × (k : ℕ) × IsStretch place.now code.now n × (at ≡ bundle_size * k) × (k < n) }
-    ensures ahead { IfSome result (IsAhead place.now code.now at) }
+    ensures ahead { IfSome result (IsInBytesOfBlock place.now code.now at) }
     ensures block { (k : ℕ) → at ≡ bundle_size * k → IfSome result (IsBlockStart place.now code.now k) }
 {
     if !BLOCKS {

@@ -75,7 +75,7 @@ AreCodes given number before (p ∷ placed) (code ∷ codes) =
     (now : List Span) × IsCodeBeside given number p code before now
     × AreCodes given (number + 1) now placed codes
 
--- the sandboxes of the image that have this code
+-- the sandboxes of the image that have this code, the first of which has that number
 abbrev pub parts_with : List Place → ℕ → List Placement → List (List ℕ) → List Part
 parts_with given number [] codes = []
 parts_with given number (p ∷ placed) [] = []

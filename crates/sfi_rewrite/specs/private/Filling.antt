@@ -45,7 +45,7 @@ pub record HasNext (f : Format) (old : List Slot) (x : Item) (new : List Slot) :
 abbrev pub HaveBodies : List Item → Type 0
 HaveBodies items = All (λ x. (count : ℕ) × IsBody count x.body) items
 
--- after that end the item's expansion would begin a bundle beyond the last
+-- after that end the item's expansion would begin a bundle beyond the last, and this fault says so
 pub record IsTooLarge (f : Format) (sandbox end : ℕ) (x : Item) (fault : RewriteFault) : Type 0 where
   pub nops : ℕ
   pub expanded : List Slot

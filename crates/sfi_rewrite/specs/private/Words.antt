@@ -84,12 +84,12 @@ pub record AreWith (x : Item) (later : List Item) (old new : WordsSoFar) : Type 
   pub is_expansion : IsExpansion x later expanded
   pub lead : LeadsTo old (marked x.labelled expanded) new
 
--- no code region has room for the words
+-- no code region has room for the words, and this fault says so
 pub record IsBeyond (sandbox : ℕ) (w : WordsSoFar) (f : RewriteFault) : Type 0 where
   pub beyond : code_most Sfiw < bytes_of w
   pub fault : f ≡ TooLarge sandbox
 
--- no code region has room for those
+-- no code region has room for those, and this fault says so
 pub record HasNoRoom (sandbox : ℕ) (x : Item) (later : List Item) (old : WordsSoFar)
     (f : RewriteFault) : Type 0 where
   pub new : WordsSoFar

@@ -19,8 +19,8 @@ pub record IsBlockStart (b : BundlePlace) (bytes : List ℕ) (k start : ℕ) : T
   pub within : IsWithinBlock (stretch_place b first)
   pub plain : (stretch_place b first).listed ≡ false
 
--- a block of the stretch begins at byte `start`, and byte `at` lies in it
-pub record IsAhead (b : BundlePlace) (bytes : List ℕ) (at start : ℕ) : Type 0 where
+-- 128 bytes of the stretch from `start` on, among them byte `at`; `start` has an address below 2^32
+pub record IsInBytesOfBlock (b : BundlePlace) (bytes : List ℕ) (at start : ℕ) : Type 0 where
   pub addresses : b.address + start < 2 ^ 32
   pub low : start ≤ at
   pub high : at < start + 8 * bundle_size
@@ -32,8 +32,8 @@ abbrev pub IsBlockScanned : {F : Type 0} → (F → List Finding → F → Type 
 IsBlockScanned takes b block from before after =
     IsScanned takes (stretch_place b from) (drop (bundle_size * from) block) (8 - from) before after
 
--- from the stretch's bundle k on bundles lie up to byte `end`, and `holds` is so of their number
-pub record IsRun (bytes : List ℕ) (k end : ℕ) (holds : ℕ → Type 0) : Type 0 where
+-- the bytes from the stretch's bundle k to byte `end` are whole bundles, and `holds` is so of their number
+pub record AreBundlesTo (bytes : List ℕ) (k end : ℕ) (holds : ℕ → Type 0) : Type 0 where
   pub bundles : ℕ
   pub end_is : end ≡ bundle_size * (k + bundles)
   pub inside : end ≤ length bytes
@@ -41,7 +41,7 @@ pub record IsRun (bytes : List ℕ) (k end : ℕ) (holds : ℕ → Type 0) : Typ
 
 -- the same, and there is at least one
 abbrev pub IsFront : List ℕ → ℕ → ℕ → (ℕ → Type 0) → Type 0
-IsFront bytes k end holds = IsRun bytes k end (λ n. (1 ≤ n) × holds n)
+IsFront bytes k end holds = AreBundlesTo bytes k end (λ n. (1 ≤ n) × holds n)
 
 -- these bundles are scanned
 abbrev pub IsFrontScanned : {F : Type 0} → (F → List Finding → F → Type 0) → BundlePlace → List ℕ → ℕ
@@ -66,5 +66,5 @@ IsFrontClean b owed bytes k end next =
 -- the same, and there may be none
 abbrev pub IsRunClean : BundlePlace → Owed → List ℕ → ℕ → ℕ → Owed → Type 0
 IsRunClean b owed bytes k end next =
-    IsRun bytes k end (λ n.
+    AreBundlesTo bytes k end (λ n.
     AreWordStretchFindings (stretch_place b k) owed (drop (bundle_size * k) bytes) n [] next)

@@ -45,7 +45,7 @@ pub record IsQuiet (b : BundlePlace) (at size : ℕ) (owed : Owed) (instr : Inst
       lowest (record { bundle = b; address = at; owed = owed; instr = instr; size = size }) ≡ None
   pub next_is : next ≡ owed_next owed instr
 
--- the word spells such an instruction
+-- the word spells such an instruction at the address
 pub record IsQuietThere (b : BundlePlace) (at : ℕ) (owed : Owed) (word : ℕ) (next : Owed)
     : Type 0 where
   pub instr : Instr

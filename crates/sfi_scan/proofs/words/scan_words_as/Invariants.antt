@@ -1,10 +1,10 @@
-use Rattle.sfi_scan.proofs.Prelude.{◌-◌, length, IsWordCodeScanned, IsRun}
+use Rattle.sfi_scan.proofs.Prelude.{◌-◌, length, IsWordCodeScanned, AreBundlesTo}
 use Rattle.sfi_scan.proofs.words.scan_words_as.Given as goal
 
 -- so many bundles are scanned
 abbrev pub invariant-loop-at : goal.invariant-loop-at
 invariant-loop-at g l =
-    IsRun l.code 0 l.at (λ k. IsWordCodeScanned g.F.FindingSink.takes l.place l.fn.owed l.code k l.left l.initial.sink l.sink)
+    AreBundlesTo l.code 0 l.at (λ k. IsWordCodeScanned g.F.FindingSink.takes l.place l.fn.owed l.code k l.left l.initial.sink l.sink)
 
 abbrev pub decreases-loop-at : goal.decreases-loop-at
 decreases-loop-at g l = length l.code - l.at

@@ -1,6 +1,6 @@
 use Rattle.sfi_link.proofs.Prelude.{◌≡◌, ◌∙◌, ◌++◌, ◌∷◌, [], false, true, refl, sym, ap, subst, append_assoc, AllPairs, AreApart, with_guards, spans_at}
 use Rattle.sfi_link.proofs.Linking.{lies_beside}
-use Rattle.sfi_link.proofs.placement.lies_beside.Goals as goal
+use Rattle.sfi_link.proofs.right_places.lies_beside.Goals as goal
 
 pub are_all_apart-requires-clause-apart : goal.are_all_apart-requires-clause-apart
 are_all_apart-requires-clause-apart c = subst (AllPairs AreApart) (sym c.deref.ensures.value) c.requires.apart

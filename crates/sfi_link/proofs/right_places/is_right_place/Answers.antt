@@ -1,5 +1,5 @@
 use Rattle.std.proofs.Common.{refl, arith}
-use Rattle.sfi_link.proofs.placement.is_right_place.Goals as goal
+use Rattle.sfi_link.proofs.right_places.is_right_place.Goals as goal
 
 pub returns-then-not-is_region : goal.returns-then-not-is_region
 returns-then-not-is_region c = (λ f. absurd cc, λ r. (rw (c.code_most.ensures, c.format.ensures) at c.if-not-is_region.ensures.1) r.code)
