@@ -1,5 +1,5 @@
 //! Each command with what it reads, and what it prints of that.
-use super::images::{EBREAK, HEAD, PAIR_ON_X0, SFI1, bytes_of, digits_of, hi_pieces};
+use super::images::{C_EBREAK, EBREAK, HEAD, HI, PAIR_ON_X0, SFI1, bytes_of, digits_of};
 use std::alloc::Global;
 use std::test::Fail;
 
@@ -8,7 +8,7 @@ use std::test::Fail;
 #[derive(Drop)]
 pub(super) struct Command<'a> {
     pub(super) line: &'a str,
-    pieces: [(&'static str, usize); 4],
+    pieces: &'static [(&'static str, usize)],
     pub(super) status: u8,
     pub(super) front: &'a str,
 }
@@ -37,15 +37,19 @@ x1=00000000 x2=018000f0
 const SOURCE: &str =
     ".sandbox 256\n.gate put 1\n.gate quit 0\nla a0, msg\nli a1, 2\ncall put\nla a0, msg\nlbu a0, 1(a0)\ncall quit\n.data\nmsg: .byte 72, 105\n";
 
-const NONE: (&str, usize) = ("", 0);
+const SMALLEST: &[(&str, usize)] = &[(SFI1, 1), (HEAD, 1), (EBREAK, 64)];
 
-fn pieces_of(name: &str) -> Option<[(&'static str, usize); 4]> {
+const ON_X0: &[(&str, usize)] = &[(SFI1, 1), (HEAD, 1), (PAIR_ON_X0, 1), (EBREAK, 61)];
+
+const PROGRAM: &[(&str, usize)] = &[(SFI1, 1), (HI, 1), (C_EBREAK, 88), ("4869", 1)];
+
+fn pieces_of(name: &str) -> Option<&'static [(&'static str, usize)]> {
     match name {
-        "smallest" => Some([(SFI1, 1), (HEAD, 1), (EBREAK, 64), NONE]),
-        "pair on x0" => Some([(SFI1, 1), (HEAD, 1), (PAIR_ON_X0, 1), (EBREAK, 61)]),
-        "source" => Some([(SOURCE, 1), NONE, NONE, NONE]),
-        "program" => Some(hi_pieces(SFI1)),
-        "head" => Some([(SFI1, 1), (HEAD, 1), NONE, NONE]),
+        "smallest" => Some(SMALLEST),
+        "pair on x0" => Some(ON_X0),
+        "source" => Some(&[(SOURCE, 1)]),
+        "program" => Some(PROGRAM),
+        "head" => Some(&[(SFI1, 1), (HEAD, 1)]),
         _ => None,
     }
 }
@@ -67,9 +71,9 @@ impl<'a> Command<'a> {
     /// What it reads: an image's own bytes, or a text.
     pub(super) fn input(&self, alloc: Global) -> Result<Vec<u8>, Fail> {
         if self.line == "sfi check --raw" {
-            return bytes_of(alloc, &self.pieces);
+            return bytes_of(alloc, self.pieces);
         }
-        let text = digits_of(alloc, &self.pieces)?;
+        let text = digits_of(alloc, self.pieces)?;
         Ok(Vec::from_slice(alloc, text.as_bytes())?)
     }
 }
