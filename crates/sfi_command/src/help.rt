@@ -145,7 +145,7 @@ format, in which x2 is a stack pointer, on one line of hexadecimal digits.
 Exit status:
   0  converted
   1  refused: the code breaks a rule of either format; the verdict is printed
-  2  the input is no image, or is of the second format already
+  2  the input is no image, or its format isn't the first
   3, 4, 5  as `sfi help` says
 
 Example:
