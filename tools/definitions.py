@@ -7,8 +7,8 @@ them with the files.
     tools/definitions.py CRATE ..    # prints each word of these crates: its line, its comment, and one that cites it
 
 A word is a definition in a crate's specs/, but for specs/private, which private contracts alone cite, and specs/mirror. The
-page names it where a public contract cites it (that of a `pub fn`, of a `pub trait`, or an impl's ghost items), and has the
-files of the words by which these are defined. tools/sources.txt has the public source of a file.
+page names it where a public contract cites it (that of a `pub fn`, of a `pub trait`, or an impl's ghost items) or a law in
+proofs/Facts, and has the files of the words by which these are defined. tools/sources.txt has the public source of a file.
 
 It also compares: that no definition outside specs/private imports a word from there, that each contract in
 docs/PROOFS.md is one of its crate, and in documents each `PATH` (N), PATH being a file below crates/ of N lines (a name
@@ -145,8 +145,20 @@ def heads(text):
     return found
 
 
+def laws(text):
+    """The laws of a crate's proofs/Facts, each with the word of specs/ that is its type."""
+    known = imports(text)
+    return {law: known[word] for law, word in re.findall(r"^pub (\w+) : (\w+)$", text, flags=re.M) if word in known}
+
+
+def facts_of(crate):
+    """The text of a crate's proofs/Facts, if it has that file."""
+    path = CRATES / crate / "proofs" / "Facts.antt"
+    return path.read_text(encoding="utf-8") if path.exists() else ""
+
+
 def cited(words):
-    """Each word that a public contract cites, and the file of code that does."""
+    """Each word that a public contract or a law cites, and the file that does."""
     found = {}
     for path in sorted(CRATES.glob("*/src/**/*.rt")):
         if {"tests", "tests.rt"} & set(path.relative_to(CRATES).parts):
@@ -156,6 +168,9 @@ def cited(words):
         named = {known[name] for name in names_in(clauses(text)) & known.keys()} | qualified(text, clauses(text))
         for name in named & words.keys():
             found.setdefault(words[name].key, str(path.relative_to(CRATES)))
+    for crate in crate_names():
+        for name in set(laws(facts_of(crate)).values()) & words.keys():
+            found.setdefault(words[name].key, f"{crate}/proofs/Facts.antt")
     return found
 
 
@@ -254,9 +269,10 @@ def with_edits(text):
 
 
 def contract_names(crate):
-    """The functions, types, traits and clauses of a crate's code."""
+    """The functions, types, traits and clauses of a crate's code, and its laws."""
     texts = [path.read_text(encoding="utf-8") for path in sorted((CRATES / crate / "src").glob("**/*.rt"))]
-    return set(re.findall(r"\b(?:fn|ensures|trait|struct|impl|mod)\s+(\w+)", "\n".join(texts)))
+    code = re.findall(r"\b(?:fn|ensures|trait|struct|impl|mod)\s+(\w+)", "\n".join(texts))
+    return {*code, *laws(facts_of(crate)), "Facts"}
 
 
 def contracts(text):
@@ -361,6 +377,8 @@ def checked_itself():
         "comments": words["c", "A", "near"].comment == "how near it is" and words["c", "A", "near"].line == 5,
         "constructors": words["c", "B", "Two"].key == ("c", "B", "Kind"),
         "sources": sources("# note\na B: C: d\n") == {("a", "B"): "C: d"},
+        "laws": laws("use Rattle.c.specs.Laws.{One, Two as Both}\npub one : One\none = it\npub both : Both\npub near : ℕ\n")
+                == {"one": ("c", "Laws", "One"), "both": ("c", "Laws", "Two")},
         "contracts": contracts(ITEMS) == [("rv_word", "laws"), ("rv_word", "f"), ("rv_word", "only")],
         "private": len(imports_of_private("crates/c/specs/A.antt", private)) == 2
                    and not imports_of_private("crates/c/specs/private/A.antt", private),

@@ -13,7 +13,6 @@ mod encode;
 mod first;
 mod form;
 mod front;
-pub mod laws;
 mod write;
 
 pub use decode::decode16;

@@ -7,7 +7,6 @@
 #![tactic(auto)]
 
 pub mod fault;
-pub mod laws;
 mod lookup;
 pub mod memory;
 pub mod pages;

@@ -16,7 +16,6 @@ mod format;
 mod funct;
 mod immediate;
 pub mod instr;
-pub mod laws;
 pub mod length;
 mod opcode;
 pub mod outline;

@@ -4,7 +4,6 @@
 
 mod front;
 mod hexadecimal;
-pub mod laws;
 mod streams;
 mod text;
 

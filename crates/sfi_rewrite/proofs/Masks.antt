@@ -1,13 +1,12 @@
 -- What the masks make of a number: a data mask the address of the region with its offset.
 use Rattle.sfi_rewrite.proofs.Prelude.{◌≡◌, ℕ, ◌+◌, ◌-◌, ◌*◌, ◌/◌, ◌%◌, ◌^◌, ◌<◌, ◌≤◌, sym, ap, ◌∙◌, arith, bit_and, bit_or, code_most, Hart, register, AreRegions, HasReserved, Add, Holds, Span, masked}
 use Rattle.std.proofs.Common.{mul_assoc}
-use Rattle.std.proofs.lemmas.Nat.{and_mask, div-add-mod', mod_low, pow-add, or_shifted, or_comm, mod-mul-add, pow_pos}
+use Rattle.std.proofs.lemmas.Nat.{and_mask, div-add-mod', mod_low, pow-add, or_shifted, or_comm, mod-mul-add}
 use Rattle.rv_step.specs.Values.{result_of}
 use Rattle.sfi_image.specs.Regions.{IsRegion}
 use Rattle.sfi_image.proofs.Bundles.{exponent_le}
+use Rattle.sfi_image.proofs.Facts.{masked_unit}
 use Rattle.sfi_rewrite.specs.Laws.{MasksCompose}
-use Rattle.std.proofs.Math.Arith.{mod-mul}
-use Rattle.std.proofs.lemmas.Nat.Bits.{and_high}
 
 -- ---- a number under a mask
 
@@ -23,23 +22,7 @@ rest_of q b x from below =
 
 -- under the mask of the size less a unit of at most 256 bytes, where the number is a multiple of the unit
 pub unmoved : (u base size most x : ℕ) → u ≤ 8 → IsRegion base size 256 most → base ≤ x → x < base + size → x % 2 ^ u ≡ 0 → bit_or (bit_and x (size - 2 ^ u)) base ≡ x
-unmoved u base size most x short region from below aligned =
-    let k = region.power in
-    let q = region.multiple in
-    let size_is : size ≡ 2 ^ k = region.size_is in
-    let at_least : 256 ≤ size = region.at_least in
-    let wide : 8 ≤ k = exponent_le 8 k (omega arith) in
-    let j = k - u in
-    let k_is : k ≡ j + u = omega arith in
-    let power : 2 ^ k ≡ 2 ^ j * 2 ^ u = ap (λ n. 2 ^ n) k_is ∙ pow-add 2 j u in
-    let base_is : base ≡ q * 2 ^ k = region.base_is ∙ ap (λ n. q * n) region.size_is in
-    let rest : x % 2 ^ k ≡ x - q * 2 ^ k = rest_of q (2 ^ k) x (omega arith) (omega arith) in
-    let digits : x % 2 ^ k ≡ x / 2 ^ u % 2 ^ j * 2 ^ u + x % 2 ^ u = ap (λ n. x % n) power ∙ mod-mul x (pow_pos j) (pow_pos u) in
-    let mask : size - 2 ^ u ≡ 2 ^ (j + u) - 2 ^ u = ap (λ n. n - 2 ^ u) (region.size_is ∙ ap (λ n. 2 ^ n) k_is) in
-    let high_part : bit_and x (size - 2 ^ u) ≡ x / 2 ^ u % 2 ^ j * 2 ^ u = ap (λ n. bit_and x n) mask ∙ and_high x j u in
-    let low : bit_and x (size - 2 ^ u) ≡ x - q * 2 ^ k = omega arith in
-    ap (λ n. bit_or n base) low ∙ ap (λ n. bit_or (x - q * 2 ^ k) n) base_is
-    ∙ in_block q k (x - q * 2 ^ k) (omega arith) ∙ (let z : q * 2 ^ k + (x - q * 2 ^ k) ≡ x = omega arith in z)
+unmoved u base size most x short region from below aligned = (masked_unit u base size most x short region).1.1.1 from below aligned
 
 -- under the mask of size less 1 and the base's bits a number becomes an address of the region
 moved_data : (base size most x : ℕ) → IsRegion base size 256 most → bit_or (bit_and x (size - 1)) base ≡ base + x % size

@@ -1,10 +1,9 @@
 -- What the masks leave: an offset, an address of a region, a unit's start.
-use Rattle.std.proofs.Common.{◌≡◌, ℕ, ◌+◌, ◌-◌, ◌*◌, ◌/◌, ◌%◌, ◌^◌, ◌<◌, ◌≤◌, ap, sym, ◌∙◌, arith}
-use Rattle.std.proofs.lemmas.Nat.{and_mask, or_shifted, or_comm, or_block, mod_below, mod_low, pow_pos, pow-add}
-use Rattle.std.proofs.lemmas.Nat.Bits.{and_high}
+use Rattle.std.proofs.Common.{◌≡◌, ℕ, ◌+◌, ◌-◌, ◌*◌, ◌%◌, ◌^◌, ◌<◌, ◌≤◌, ap, sym, ◌∙◌, arith}
+use Rattle.std.proofs.lemmas.Nat.{and_mask, or_shifted, or_comm, or_block, mod_below, pow_pos}
 use Rattle.std.specs.Int.Bits.{bit_and, bit_or, or_self, or_zero_r}
 use Rattle.sfi_image.specs.Regions.{IsRegion}
-use Rattle.sfi_image.proofs.Bundles.{exponent_le}
+use Rattle.sfi_image.proofs.Facts.{masked_unit}
 
 -- a number below 2 ^ k, put into a block of 2 ^ k
 in_block : (q k r : ℕ) → r < 2 ^ k → bit_or r (q * 2 ^ k) ≡ q * 2 ^ k + r
@@ -52,38 +51,9 @@ placed_again base size least most a region h =
 pub masked_data : (base size least most x : ℕ) → IsRegion base size least most → IsPlaced base size (bit_or (bit_and x (size - 1)) base)
 masked_data base size least most x region = placed base size least most (bit_and x (size - 1)) region (offset_below base size least most x region)
 
--- so many units of 2 ^ u, put into a region of 2 ^ j of them
-units_placed : (q j u y : ℕ) → y < 2 ^ j → (y * 2 ^ u < 2 ^ j * 2 ^ u) × (q * (2 ^ j * 2 ^ u) + y * 2 ^ u ≡ (q * 2 ^ j + y) * 2 ^ u + 0)
-units_placed q j u y below =
-    let some : 0 < 2 ^ u = pow_pos u in
-    let more : (y + 1) * 2 ^ u ≤ 2 ^ j * 2 ^ u = le_times (y + 1) (2 ^ j) (2 ^ u) (omega arith) in
-    (omega arith, grind arith)
-  where
-    le_times : (a b c : ℕ) → a ≤ b → a * c ≤ b * c
-    le_times a b c h = grind arith
-
 -- the mask of the code size less a unit of 2 ^ u, and then the base's bits, leave a unit's start
 pub masked_code : (base size most u x : ℕ) → u ≤ 8 → IsRegion base size 256 most
     → IsPlaced base size (bit_or (bit_and x (size - 2 ^ u)) base) × (bit_or (bit_and x (size - 2 ^ u)) base % 2 ^ u ≡ 0)
 masked_code base size most u x small region =
-    let k = region.power in
-    let q = region.multiple in
-    let size_is : size ≡ 2 ^ k = region.size_is in
-    let at_least : 256 ≤ size = region.at_least in
-    let wide : 8 ≤ k = exponent_le 8 k (omega arith) in
-    let j = k - u in
-    let k_is : k ≡ j + u = omega arith in
-    let power : 2 ^ k ≡ 2 ^ j * 2 ^ u = ap (λ n. 2 ^ n) k_is ∙ pow-add 2 j u in
-    let base_is : base ≡ q * 2 ^ k = region.base_is ∙ ap (λ n. q * n) region.size_is in
-    let mask_is : size - 2 ^ u ≡ 2 ^ (j + u) - 2 ^ u = ap (λ n. n - 2 ^ u) (region.size_is ∙ ap (λ n. 2 ^ n) k_is) in
-    by q j k (x / 2 ^ u % 2 ^ j) (mod_below (x / 2 ^ u) (2 ^ j) (pow_pos j)) size_is power base_is (ap (λ n. bit_and x n) mask_is ∙ and_high x j u)
-  where
-    by : (q j k y : ℕ) → y < 2 ^ j → size ≡ 2 ^ k → 2 ^ k ≡ 2 ^ j * 2 ^ u → base ≡ q * 2 ^ k → bit_and x (size - 2 ^ u) ≡ y * 2 ^ u
-        → IsPlaced base size (bit_or (bit_and x (size - 2 ^ u)) base) × (bit_or (bit_and x (size - 2 ^ u)) base % 2 ^ u ≡ 0)
-    by q j k y below size_is power base_is masked =
-        let units = units_placed q j u y below in
-        let fits : y * 2 ^ u < 2 ^ k = omega (arith, units.0, power) in
-        let value : bit_or (bit_and x (size - 2 ^ u)) base ≡ q * 2 ^ k + y * 2 ^ u =
-        ap (λ n. bit_or n base) masked ∙ ap (λ n. bit_or (y * 2 ^ u) n) base_is ∙ in_block q k (y * 2 ^ u) fits in
-        let value' : bit_or (bit_and x (size - 2 ^ u)) base ≡ (q * 2 ^ j + y) * 2 ^ u + 0 = value ∙ ap (λ n. q * n + y * 2 ^ u) power ∙ units.1 in
-        (record { from = omega arith; below = omega arith }, ap (λ n. n % 2 ^ u) value' ∙ mod_low (q * 2 ^ j + y) u 0 (pow_pos u))
+    let unit = masked_unit u base size most x small region in
+    (record { from = unit.0; below = unit.1.0 }, unit.1.1.0)

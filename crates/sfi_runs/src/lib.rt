@@ -2,8 +2,7 @@
 //!
 //! `specs/Runs.antt` says what may happen to a sandbox (its steps, its host's replies, changes by
 //! others), `specs/Safety.antt` what is safe: both speak of addresses and states alone, and know no
-//! rule. `specs/Typed.antt` has what each format asks of its typed registers. The functions of
-//! [`laws`] do nothing: their contracts are what is proved.
+//! rule. `specs/Typed.antt` has what each format asks of its typed registers. The crate has no code:
+//! what is proved of these definitions are the laws of `proofs/Facts.antt`.
 #![tactic(auto)]
 
-pub mod laws;

@@ -1,1 +1,2 @@
 pub mod NameTable
+pub mod Facts

@@ -7,7 +7,6 @@
 #![tactic(auto)]
 
 mod item;
-pub mod laws;
 mod names;
 mod source;
 

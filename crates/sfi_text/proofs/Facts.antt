@@ -1,8 +1,42 @@
 -- What holds of every text: laws, and that sources are right, for proofs here and in the crates above.
-use Rattle.sfi_text.specs.Laws.{OneSource, OneFault, MeantHasNoFault, SomeSource}
+use Rattle.sfi_text.specs.Laws.{OneMeaning, OneCause, MeantIsNotRefused, SomeMeaning, MeaningsAreInRange, PrintedReadsBack, LeadsOnce, LeadingIsNotRefused, RefusedOnce, OneSource, OneFault, MeantHasNoFault, SomeSource, ConstantsAddUp}
+use Rattle.sfi_text.proofs.Halves as halves
+use Rattle.sfi_text.proofs.OneMeaning as meaning
 use Rattle.sfi_text.proofs.OneSource as one
+use Rattle.sfi_text.proofs.Refusals as refusals
+use Rattle.sfi_text.proofs.RoundTrip as round
 use Rattle.sfi_text.proofs.SomeSource as some
 pub use Rattle.sfi_text.proofs.RightTexts.{sources_are_right}
+
+pub one_meaning : OneMeaning
+one_meaning = meaning.one_meaning
+
+pub one_cause : OneCause
+one_cause = refusals.one_cause
+
+pub meant_is_not_refused : MeantIsNotRefused
+meant_is_not_refused = refusals.meant_is_not_refused
+
+pub some_meaning : SomeMeaning
+some_meaning = some.some_meaning
+
+pub meanings_are_in_range : MeaningsAreInRange
+meanings_are_in_range = meaning.in_range
+
+pub printed_reads_back : PrintedReadsBack
+printed_reads_back = round.reads_back
+
+pub leads_once : LeadsOnce
+leads_once = one.leads_once
+
+pub leading_is_not_refused : LeadingIsNotRefused
+leading_is_not_refused = one.leading_is_not_refused
+
+pub refused_once : RefusedOnce
+refused_once = one.refused_once
+
+pub constants_add_up : ConstantsAddUp
+constants_add_up = halves.add_up
 
 pub one_source : OneSource
 one_source = one.one_source

@@ -16,7 +16,6 @@ mod draft;
 mod fault;
 mod form;
 mod keyword;
-pub mod laws;
 mod lexer;
 mod line;
 mod mnemonic;

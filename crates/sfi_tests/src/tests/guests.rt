@@ -4,7 +4,6 @@ ghost use Rattle.rv_mem.specs.Segments.{bytes_of};
 ghost use Rattle.sfi_host.specs.Hosts.{Yield};
 ghost use Rattle.sfi_host.specs.Regions.{bytes_in, IsWhole};
 
-use rv_mem::laws::written_is_there;
 use rv_mem::{Memory, Segments, Width};
 use sfi_host::{GateAnswer, Gates, Guest, Region, Request};
 use std::alloc::Global;
@@ -59,7 +58,6 @@ pub(super) fn memory(rt: &impl Abort, alloc: Global, front: &[u8]) -> Segments
     assert_eq!(rt; memory.add(DATA - 1, 1, &[1]), Ok(()));
     assert_eq!(rt; memory.add(DATA + 256, 1, &[2]), Ok(()));
     memory.add(DATA, 256, front).expect(rt, "room");
-    written_is_there();
     memory
 }
 

@@ -1,5 +1,0 @@
-use Rattle.rv_step.proofs.Steps.{stays}
-use Rattle.rv_step.proofs.laws.stopped_stays.Goals as goal
-
-pub returns : goal.returns
-returns c = stays

@@ -1,2 +1,0 @@
-pub returns : Rattle.sfi_text.proofs.laws.one_fault.Goals.returns
-returns c = Rattle.sfi_text.proofs.OneSource.one_fault

@@ -1,2 +1,0 @@
-pub returns : Rattle.sfi_text.proofs.laws.refused_once.Goals.returns
-returns c = Rattle.sfi_text.proofs.OneSource.refused_once
