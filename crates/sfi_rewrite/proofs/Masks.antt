@@ -22,7 +22,7 @@ rest_of q b x from below =
 
 -- under the mask of the size less a unit of at most 256 bytes, where the number is a multiple of the unit
 pub unmoved : (u base size most x : ℕ) → u ≤ 8 → IsRegion base size 256 most → base ≤ x → x < base + size → x % 2 ^ u ≡ 0 → bit_or (bit_and x (size - 2 ^ u)) base ≡ x
-unmoved u base size most x short region from below aligned = (masked_unit u base size most x short region).1.1.1 from below aligned
+unmoved u base size most x short region from below aligned = (masked_unit u base size most x short region).3 from below aligned
 
 -- under the mask of size less 1 and the base's bits a number becomes an address of the region
 moved_data : (base size most x : ℕ) → IsRegion base size 256 most → bit_or (bit_and x (size - 1)) base ≡ base + x % size

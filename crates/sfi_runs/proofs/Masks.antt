@@ -56,4 +56,4 @@ pub masked_code : (base size most u x : ℕ) → u ≤ 8 → IsRegion base size 
     → IsPlaced base size (bit_or (bit_and x (size - 2 ^ u)) base) × (bit_or (bit_and x (size - 2 ^ u)) base % 2 ^ u ≡ 0)
 masked_code base size most u x small region =
     let unit = masked_unit u base size most x small region in
-    (record { from = unit.0; below = unit.1.0 }, unit.1.1.0)
+    (record { from = unit.0; below = unit.1 }, unit.2)

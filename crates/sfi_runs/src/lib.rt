@@ -5,4 +5,3 @@
 //! rule. `specs/Typed.antt` has what each format asks of its typed registers. The crate has no code:
 //! what is proved of these definitions are the laws of `proofs/Facts.antt`.
 #![tactic(auto)]
-
