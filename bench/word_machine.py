@@ -1,7 +1,8 @@
 """A machine that runs code in words with hostile registers, and says where it does what no sandbox may.
 
 What a computation but and, or and addi gives, what a load finds, and whether a branch is taken are picked at random, since
-no rule knows of them: so data may be changed by others at any step.
+no rule knows of them: so data may be changed by others at any step. So is whether a load into x0 is done or dropped; one that is
+dropped traps nowhere.
 """
 import struct
 
@@ -68,7 +69,8 @@ class Machine:
             place = (self.registers[it.rs1] + it.number & 0xFFFFFFFF) - DATA_BASE
             if not -GUARD <= place <= DATA_SIZE + GUARD - it.bytes:
                 return f"accesses {place} in its data, at {at}"
-            if not 0 <= place <= DATA_SIZE - it.bytes:
+            is_dropped = it.kind == "load" and it.rd == 0 and self.pick.random() < 0.5
+            if not 0 <= place <= DATA_SIZE - it.bytes and not is_dropped:
                 return None
         if it.kind == "ebreak":
             return None

@@ -153,7 +153,8 @@ def steps(target, it):
 
 
 def uses(target, it):
-    return it.kind in ACCESSES and it.rs1 == target and -1020 <= it.number <= 1020
+    into_x0 = it.kind == "load" and it.rd == 0
+    return it.kind in ACCESSES and it.rs1 == target and -1020 <= it.number <= 1020 and not into_x0
 
 
 def owes(it):

@@ -39,7 +39,8 @@ class Places(unittest.TestCase):
                 ("addi gp,gp,2000; lbu a0,0(gp)", (4,)), ("addi gp,gp,4; lw a0,1024(gp)", (2, 4, 4)),
                 ("addi gp,gp,4; lw a0,-1024(gp)", (2, 4, 4)), ("addi gp,gp,4; lw a0,0(tp)", (2, 4, 4)),
                 ("addi gp,tp,4; lw a0,0(gp)", (4, 4, 4)), ("addi gp,gp,4; .a: lw a0,0(gp)", (2, 4, 4)),
-                ("addi gp,gp,4; add a0,a0,gp", (2, 4, 4)),
+                ("addi gp,gp,4; add a0,a0,gp", (2, 4, 4)), ("addi gp,gp,4; lw zero,0(gp)", (2, 4, 4)),
+                ("addi gp,gp,4; sw zero,0(gp)", (2,)),
                 ("li gp,4097; lw a0,0(gp)", (2, 4, 4, 2))]
         for text, wanted in rows:
             self.assertEqual(part_sizes(*code(text)[:2]), wanted, text)

@@ -34,6 +34,8 @@ class Stepping(unittest.TestCase):
             ("lw a0,0(a1); addi a1,a1,4", None),
             ("addi gp,gp,8; lw a0,0(gp); addi gp,gp,4", None),
             ("lw a0,0(gp); .a: addi gp,gp,4", None),
+            ("addi gp,gp,4; mv a1,a0; lw zero,0(gp)", None),
+            ("addi gp,gp,4; mv a1,a0; sw zero,0(gp)", "mv a1,a0; addi gp,gp,4; sw zero,0(gp)"),
         ]
         for text, wanted in rows:
             self.assertEqual(lines(with_steps(code(text))), lines(code(wanted or text)), text)

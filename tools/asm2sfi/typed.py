@@ -3,12 +3,12 @@ what the rules make of an instruction. docs/SOURCE.md says it.
 
 An access on a data register is itself. So is one on `zero`, by the register that holds the data base; on any other
 register it gets two masks before it. What writes a data register gets two masks after it, but for a step: `addi d, d, k`
-directly before an access on d that is in reach."""
+directly before an access on d that is in reach and is no load into `zero`."""
 from dataclasses import replace
 
 from assembly import Refused
 from dependences import reads, values, writes
-from instructions import SHAPES, Op, is_access, offset_and_base, written
+from instructions import LOADS, SHAPES, Op, is_access, offset_and_base, written
 from program import START
 
 WORDS = "words"  # the format's name
@@ -61,8 +61,10 @@ def step_of(piece, name):
 
 
 def may_follow_step(piece, name):
-    """Whether a step of a data register directly before this piece needs no masks."""
-    return is_on(piece, name) and -REACH <= offset_and_base(piece)[0] <= REACH
+    """Whether a step of a data register directly before this piece needs no masks. Before a load into `zero`, which a
+    processor may drop, it does."""
+    into_zero = piece.word in LOADS and written(piece) == "zero"
+    return is_on(piece, name) and -REACH <= offset_and_base(piece)[0] <= REACH and not into_zero
 
 
 def is_free_step(piece, following):

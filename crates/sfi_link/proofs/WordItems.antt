@@ -148,7 +148,7 @@ load_access base size here kind_of rd imm h = record {
   no_ecall = λ b gate. refl;
   owes = λ b. owing (Load kind_of rd b imm) (Some rd) refl (h, refl, λ typed. refl);
   masks_none = λ b d. refl;
-  is_on = λ b d u. eqb-true b d (and_parts (b == d) _ u).0;
+  is_on = λ b d u. eqb-true b d (and_parts (b == d) _ (and_parts _ (not (rd == 0)) u).0).0;
 }
 
 store_access : (base size here : ℕ) (width : StoreWidth) (rs2 : ℕ) (imm : ℤ) → IsAccess base size here (λ b. Store width b rs2 imm) None

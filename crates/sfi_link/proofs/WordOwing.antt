@@ -83,7 +83,7 @@ small_is (pos n) = refl
 small_is (negsuc n) = refl
 
 pub use_is : (d : ℕ) (i : Instr) → words.is_use d i ≡ uses d i
-use_is d (Load kind rd a imm) = ap (λ s. (a == d) && s) (small_is imm)
+use_is d (Load kind rd a imm) = ap (λ s. (a == d) && s && not (rd == 0)) (small_is imm)
 use_is d (Store width a rs2 imm) = ap (λ s. (a == d) && s) (small_is imm)
 use_is d _ = refl
 

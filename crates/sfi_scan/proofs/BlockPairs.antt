@@ -1,6 +1,6 @@
 -- The words of a data pair, and of a step, of code in words, by their bits.
 use Rattle.sfi_scan.proofs.Prelude.{◌≡◌, ◌≢◌, ℕ, ◌+◌, ◌*◌, ◌/◌, ◌%◌, ◌^◌, ◌<◌, Bool, true, false, not, inr, sym, ap, ap₂, ◌∙◌, arith, bit_and, nat_eq, nat_le, OnTrue, eqb-true, and_mask, and_block, Op, OpImm, Load, Store, And, Or, spelling, InRange, IsWordOf, Instr, refl, ◌-◌, ◌&&◌, ◌==◌, ℤ, pos, negsuc, inl, Some, eq-eqb, cases_lt, and_from, access, IsAccessOf, Access, is_data_register, uses}
-use Rattle.std.proofs.lemmas.Bool.{leb-true, le-leb, lt-ltb, not-false}
+use Rattle.std.proofs.lemmas.Bool.{false≢true, leb-true, le-leb, lt-ltb, not-false}
 use Rattle.std.proofs.lemmas.Int.{ints}
 use Rattle.rv_word.specs.Formats.{i_format, s_format}
 use Rattle.rv_word.specs.Functs.{load_funct3, store_funct3}
@@ -11,7 +11,7 @@ use Rattle.rv_word.specs.declared.instr.StoreWidth.{StoreWidth}
 use Rattle.rv_word.specs.declared.instr.StoreWidth.TheVariants.{Sb, Sh, Sw}
 use Rattle.rv_word.specs.Spelling.{IsImm12}
 use Rattle.rv_word.specs.declared.instr.ImmOp.TheVariants.{Addi}
-use Rattle.sfi_scan.specs.private.WordBlock.{IsMasking, IsPlacing, IsPair, IsStepOf, IsOffset, IsUseOf, IsUsedStep}
+use Rattle.sfi_scan.specs.private.WordBlock.{IsMasking, IsPlacing, IsPair, IsStepOf, IsOffset, is_dropped, IsUseOf, IsUsedStep}
 use Rattle.sfi_rules.specs.words.Rules.{is_small}
 use Rattle.sfi_scan.proofs.PairTables.{any_of, kept, without_any, masking_word}
 
@@ -119,6 +119,24 @@ store_offset word bit (Store width rs1 rs2 imm) is =
     sym (store_fields (modulo 12 imm) rs2 rs1 (store_funct3 width) word (modulo_small imm) is.0.1 is.0.0 (store_small width) is.1).0 ∙ ap (λ n. word / 33554432 * 32 + n) (sym (and_mask (word / 128) 5))
 store_offset word bit i is = tt
 
+-- ---- what a load writes
+
+load_kept : (imm rs1 funct3 rd word : ℕ) → word ≡ i_format imm rs1 funct3 rd 3 → rd ≡ 0 → bit_and word 4000 ≡ 0
+load_kept imm rs1 funct3 rd word e none =
+    let high = word / 2 ^ 12 in
+    let split : word ≡ high * 2 ^ 12 + 3 = omega (arith, e, none) in
+    let first : bit_and high 0 ≡ 0 = and_mask high 0 ∙ omega arith in
+    ap (λ m. bit_and m 4000) split ∙ and_block 12 high 0 3 4000 (omega arith) (omega arith) ∙ ap (λ a. a * 2 ^ 12 + 0) first
+
+pub dropped_told : (word : ℕ) (i : Instr) → IsWordOf word i → nat_eq (bit_and word 4000) 0 ≡ false → is_dropped i ≡ false
+unfolding spelling InRange
+dropped_told word (Load kind rd rs1 imm) is some = by (rd == 0) refl
+  where
+    by : (z : Bool) → (rd == 0) ≡ z → z ≡ false
+    by false e = refl
+    by true e = absurd (false≢true (sym some ∙ eq-eqb _ _ (load_kept (modulo 12 imm) rs1 (load_funct3 kind) rd word is.1 (eqb-true rd 0 e))))
+dropped_told word i is some = refl
+
 -- ---- the use of a step
 
 near_small : (n : ℕ) (imm : ℤ) → IsImm12 imm → modulo 12 imm ≡ n → nat_le (bit_and (n + 1020) 4095) 2040 ≡ true → is_small imm ≡ true
@@ -129,19 +147,19 @@ near_small n (negsuc k) range e h =
     let le = leb-true _ _ h in let same = and_mask (n + 1020) 12 in let low = range.0 in
     lt-ltb k 1020 (omega (arith, ints, e, le, same, low))
 
-uses_at : (d n : ℕ) (i : Instr) (a : Access) → InRange i → access i ≡ Some a → a.base ≡ d → IsOffset i n → nat_le (bit_and (n + 1020) 4095) 2040 ≡ true → uses d i ≡ true
+uses_at : (d n : ℕ) (i : Instr) (a : Access) → InRange i → access i ≡ Some a → a.base ≡ d → is_dropped i ≡ false → IsOffset i n → nat_le (bit_and (n + 1020) 4095) 2040 ≡ true → uses d i ≡ true
 unfolding InRange
-uses_at d n (Load kind rd rs1 imm) a range e base offset h =
+uses_at d n (Load kind rd rs1 imm) a range e base kept offset h =
+    let b : a.base ≡ rs1 = cc in
+    and_from ((rs1 == d) && is_small imm) (not (rd == 0)) (and_from (rs1 == d) (is_small imm) (eq-eqb rs1 d (sym b ∙ base)) (near_small n imm range.2 offset h)) (ap not kept)
+uses_at d n (Store width rs1 rs2 imm) a range e base kept offset h =
     let b : a.base ≡ rs1 = cc in
     and_from (rs1 == d) (is_small imm) (eq-eqb rs1 d (sym b ∙ base)) (near_small n imm range.2 offset h)
-uses_at d n (Store width rs1 rs2 imm) a range e base offset h =
-    let b : a.base ≡ rs1 = cc in
-    and_from (rs1 == d) (is_small imm) (eq-eqb rs1 d (sym b ∙ base)) (near_small n imm range.2 offset h)
-uses_at d n i a range e base offset h = absurd cc
+uses_at d n i a range e base kept offset h = absurd cc
 
 pub same_base : (a b : ℕ) → false ≡ not (a == b) → a ≡ b
 same_base a b e = eqb-true a b (not-false (a == b) (sym e))
 
-pub use_told : (d word n : ℕ) (a : Access) → IsAccessOf word a → a.base ≡ d → ((i : Instr) → IsWordOf word i → IsOffset i n) → (r : Bool) → r ≡ nat_le (bit_and (n + 1020) 4095) 2040 → OnTrue r (IsUseOf d word)
-use_told d word n a is base offset false e = tt
-use_told d word n a is base offset true e = (is.instr, is.spelled, uses_at d n is.instr a is.spelled.0 is.accesses base (offset is.instr is.spelled) (sym e))
+pub use_told : (d word n : ℕ) (a : Access) → IsAccessOf word a → a.base ≡ d → ((i : Instr) → IsWordOf word i → is_dropped i ≡ false) → ((i : Instr) → IsWordOf word i → IsOffset i n) → (r : Bool) → r ≡ nat_le (bit_and (n + 1020) 4095) 2040 → OnTrue r (IsUseOf d word)
+use_told d word n a is base kept offset false e = tt
+use_told d word n a is base kept offset true e = (is.instr, is.spelled, uses_at d n is.instr a is.spelled.0 is.accesses base (kept is.instr is.spelled) (offset is.instr is.spelled) (sym e))

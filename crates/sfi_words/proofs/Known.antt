@@ -104,7 +104,7 @@ module _ (p : Part) (words : has_words p.format ≡ true) (right : IsRightPart p
   pub accesses_near : (i : Instr) (n : ℕ) (later : List Piece) → InRange i → breaks_access i ≡ false → AreKnown p h.registers (record { instr = i; size = n } ∷ later) → (a : ℕ) → Accesses i h a → InData p a ⊎ InGuard p a
   accesses_near (Load kind rd rs1 imm) n later range free known a has =
       access_near (register h rs1) imm (load_size kind) a (load_range kind rd rs1 imm range) (load_sized kind).most
-      (base_lies (record { instr = Load kind rd rs1 imm; size = n }) later rs1 imm known (λ d. refl) (λ d. refl) (λ d u. (and_parts (rs1 == d) (is_small imm) u).1) (not-false _ free)) has
+      (base_lies (record { instr = Load kind rd rs1 imm; size = n }) later rs1 imm known (λ d. refl) (λ d. refl) (λ d u. (and_parts (rs1 == d) (is_small imm) (and_parts ((rs1 == d) && is_small imm) (not (rd == 0)) u).0).1) (not-false _ free)) has
   accesses_near (Store width rs1 rs2 imm) n later range free known a has =
       access_near (register h rs1) imm (store_size width) a (store_range width rs1 rs2 imm range) (store_sized width).most
       (base_lies (record { instr = Store width rs1 rs2 imm; size = n }) later rs1 imm known (λ d. refl) (λ d. refl) (λ d u. (and_parts (rs1 == d) (is_small imm) u).1) (not-false _ free)) has
@@ -113,7 +113,7 @@ module _ (p : Part) (words : has_words p.format ≡ true) (right : IsRightPart p
   -- a use that fell into the data leaves its base near them
   uses_back : (d : ℕ) (i : Instr) → uses d i ≡ true → IsNear p (1020 + 2048) (register h d) → ((a : ℕ) → Accesses i h a → InData p a) → IsNear p 1020 (register h d)
   uses_back d (Load kind rd rs1 imm) u lies inside =
-      let parts = and_parts (rs1 == d) (is_small imm) u in
+      let parts = and_parts (rs1 == d) (is_small imm) (and_parts ((rs1 == d) && is_small imm) (not (rd == 0)) u).0 in
       let e = eqb-true rs1 d parts.0 in
       let inside' = inside (address_after (offset_by (register h rs1) imm) 0) (first_address _ (load_size kind) (load_sized kind).some) in
       used p right.guard_room (register h d) imm lies (small_within imm parts.1) (subst (λ (r : ℕ). InData p (address_after (offset_by (register h r) imm) 0)) e inside')

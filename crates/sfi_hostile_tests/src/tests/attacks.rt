@@ -119,6 +119,7 @@ anywhere V10 4 03210d002320b10073001000 store on a register that was loaded
 anywhere V10 4 93814100a3aeb13e73001000 access 1021 bytes after a step
 anywhere V10 4 93814100a3a1b1c073001000 access 1021 bytes before a step
 anywhere V10 4 938141002320b20073001000 step before an access on another register
+anywhere V10 4 9381410003a0010073001000 load into x0 after a step
 anywhere V10 4 938141009381410023a0b10073001000 two steps
 anywhere V10 4 9301420023a0b10073001000 step from another register
 anywhere V10 0 e7010f00 jalr links x3

@@ -63,9 +63,9 @@ abbrev pub is_small : ℤ → Bool
 is_small (pos n) = nat_le n slack
 is_small (negsuc n) = nat_lt n slack
 
--- a load or store on d at such an offset
+-- a load, other than into x0, or store on d at such an offset
 abbrev pub is_use : ℕ → Instr → Bool
-is_use d (Load kind rd a imm) = (a == d) && is_small imm
+is_use d (Load kind rd a imm) = (a == d) && is_small imm && not (rd == 0)
 is_use d (Store width a rs2 imm) = (a == d) && is_small imm
 is_use d i = false
 

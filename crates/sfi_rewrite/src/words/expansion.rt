@@ -213,14 +213,15 @@ fn is_small(imm: i32) -> bool
     -(SLACK as i32) <= imm && imm <= SLACK as i32
 }
 
-/// Whether the instruction is a load or store on the register at such an offset.
+/// Whether the instruction is a load, other than into x0, or store on the register at such an offset.
 fn is_use(register: Reg, instr: &Instr) -> bool
     ensures { result ≡ is_use register instr.now }
 {
     match *instr {
-        Instr::Load { rs1, imm, .. } | Instr::Store { rs1, imm, .. } => {
-            rs1.number() == register.number() && is_small(imm)
+        Instr::Load { rd, rs1, imm, .. } => {
+            rs1.number() == register.number() && is_small(imm) && rd.number() != 0
         }
+        Instr::Store { rs1, imm, .. } => rs1.number() == register.number() && is_small(imm),
         _ => false,
     }
 }

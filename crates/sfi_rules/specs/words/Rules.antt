@@ -54,9 +54,10 @@ abbrev pub is_step : ℕ → Instr → Bool
 is_step d (OpImm Addi rd rs1 imm) = (rd == d) && (rs1 == d)
 is_step d _ = false
 
--- a load or store on d with an offset from -1020 to 1020
+-- A load or store on d with an offset from -1020 to 1020. A load into x0 is none: a processor may
+-- drop it, and then it doesn't trap in a guard zone.
 abbrev pub uses : ℕ → Instr → Bool
-uses d (Load kind rd rs1 imm) = (rs1 == d) && is_small imm
+uses d (Load kind rd rs1 imm) = (rs1 == d) && is_small imm && not (rd == 0)
 uses d (Store width rs1 rs2 imm) = (rs1 == d) && is_small imm
 uses d _ = false
 
@@ -114,8 +115,7 @@ abbrev pub breaks_end : Instr → List Piece → Bool
 breaks_end i later = is_empty later && not (ends_region i)
 
 -- Of an instruction that writes d: (a) it is `or d, x31, x26`; or (b) it is no jump, and d is masked
--- and placed next; or (c) it is `addi d, d, k`, and the next one is a load or store on d with a small
--- offset.
+-- and placed next; or (c) it is `addi d, d, k`, and the next one uses d.
 abbrev pub may_write_data : ℕ → Instr → List Piece → Bool
 may_write_data d i later =
     places d i || (not (is_jump i) && begins_masking d later)

@@ -1,6 +1,6 @@
 -- Words of private contracts: the first look at a block of eight bundles of code in words, of whose 64
 -- halfwords a mask has a bit each. A word goes by its first halfword.
-use Rattle.std.specs.Prelude.{◌≡◌, ◌+◌, ◌*◌, ◌/◌, ◌%◌, ◌⊎◌, ◌<◌, ℕ, zero, suc, List, [], true, false, take, drop}
+use Rattle.std.specs.Prelude.{◌≡◌, ◌==◌, ◌+◌, ◌*◌, ◌/◌, ◌%◌, ◌⊎◌, ◌<◌, ℕ, zero, suc, List, [], Bool, true, false, take, drop}
 use Rattle.rv_word.specs.Spelling.{IsWordOf}
 use Rattle.rv_word.specs.declared.instr.Instr.{Instr}
 use Rattle.rv_word.specs.Numbers.{modulo}
@@ -92,7 +92,12 @@ IsOffset (Load kind rd rs1 imm) n = modulo 12 imm ≡ n
 IsOffset (Store width rs1 rs2 imm) n = modulo 12 imm ≡ n
 IsOffset _ n = Unit {0}
 
--- the word is a load or store on d near it
+-- it loads into x0
+abbrev pub is_dropped : Instr → Bool
+is_dropped (Load kind rd rs1 imm) = rd == 0
+is_dropped _ = false
+
+-- the word is a load or store on d near it, and doesn't load into x0
 abbrev pub IsUseOf : ℕ → ℕ → Type 0
 IsUseOf d word = (i : Instr) × IsWordOf word i × (uses d i ≡ true)
 

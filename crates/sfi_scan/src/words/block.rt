@@ -7,7 +7,7 @@ ghost use Rattle.rv_word.specs.declared.instr.Instr.{Instr};
 ghost use Rattle.sfi_masks.specs.Masks.{is_in, IsFreeWordBy, may_write_in_words, may_be_on_in_words, word_at as block_word};
 ghost use Rattle.sfi_rules.specs.Bundles.{IsWithinBlock};
 ghost use Rattle.sfi_rules.specs.declared.owed.Owed.TheVariants.{Nothing};
-ghost use Rattle.sfi_scan.specs.private.WordBlock.{IsToldFree, IsQuietWord, IsSteppedWord, IsSeen, IsCleanWord, AreCleanWords, IsMasking, IsPlacing, IsPair, IsPairAt, IsStepOf, IsOffset, IsUseOf, IsUsedStep};
+ghost use Rattle.sfi_scan.specs.private.WordBlock.{IsToldFree, IsQuietWord, IsSteppedWord, IsSeen, IsCleanWord, AreCleanWords, IsMasking, IsPlacing, IsPair, IsPairAt, IsStepOf, IsOffset, is_dropped, IsUseOf, IsUsedStep};
 
 use crate::block::{EVEN, bundle_at, without};
 use crate::clean::word_at;
@@ -39,6 +39,9 @@ const CODE_PLACING: u32 = 0x018f_6f33;
 
 /// How far beside a stepped data register it may be used.
 const SLACK: u32 = sfi_policy::SLACK;
+
+/// The bits that name what a load writes, and the one that is set in a store's opcode.
+const LOADED: u32 = 0b11111 << 7 | 1 << 5;
 
 /// The words that the masks don't tell to be free.
 #[inline(always)]
@@ -126,7 +129,15 @@ fn offset_bits(word: u32) -> u32
     }
 }
 
-/// Whether the word accesses memory on d, at most `SLACK` beside it.
+/// Whether the word, a load or store, loads into x0.
+#[inline(always)]
+fn is_dropped(word: u32) -> bool
+    ensures { (i : Instr) → IsWordOf word i → result ≡ false → is_dropped i ≡ false }
+{
+    word & LOADED == 0
+}
+
+/// Whether the word accesses memory on d, at most `SLACK` beside it, and doesn't load into x0.
 #[inline(always)]
 fn is_use_of(d: Reg, word: u32) -> bool
     ensures { OnTrue result (IsUseOf d word) }
@@ -135,6 +146,9 @@ fn is_use_of(d: Reg, word: u32) -> bool
         return false;
     };
     if access.base != d {
+        return false;
+    }
+    if is_dropped(word) {
         return false;
     }
     (offset_bits(word) + SLACK & 0xfff) <= 2 * SLACK

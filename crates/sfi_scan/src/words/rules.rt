@@ -85,9 +85,10 @@ pub(crate) fn uses(d: u8, instr: &Instr) -> bool
     ensures { result ≡ uses d instr.now }
 {
     match *instr {
-        Instr::Load { rs1, imm, .. } | Instr::Store { rs1, imm, .. } => {
-            rs1.number() == d && is_small(imm)
+        Instr::Load { rd, rs1, imm, .. } => {
+            rs1.number() == d && is_small(imm) && rd.number() != 0
         }
+        Instr::Store { rs1, imm, .. } => rs1.number() == d && is_small(imm),
         _ => false,
     }
 }

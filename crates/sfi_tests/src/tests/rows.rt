@@ -240,10 +240,10 @@ fn format_rows(rt: HostRuntime) -> Result<(), Fail> {
 
 #[test]
 fn typed_rows(rt: HostRuntime) -> Result<(), Fail> {
-    try_rows(&rt, rt.alloc(), typed::KEPT, 106)?;
+    try_rows(&rt, rt.alloc(), typed::KEPT, 114)?;
     try_rows(&rt, rt.alloc(), typed::BROKEN, 64)?;
     try_rows(&rt, rt.alloc(), typed::DATA_BROKEN, 50)?;
-    try_rows(&rt, rt.alloc(), typed::STEPS, 48)?;
+    try_rows(&rt, rt.alloc(), typed::STEPS, 58)?;
     try_rows(&rt, rt.alloc(), typed::OTHERS_BROKEN, 72)
 }
 
@@ -255,7 +255,7 @@ fn typed_runs(rt: HostRuntime) -> Result<(), Fail> {
 
 #[test]
 fn word_source_rows(rt: HostRuntime) -> Result<(), Fail> {
-    try_rows(&rt, rt.alloc(), word_sources::EXPANSIONS, 19)?;
+    try_rows(&rt, rt.alloc(), word_sources::EXPANSIONS, 20)?;
     try_rows(&rt, rt.alloc(), word_sources::IMAGES, 2)?;
     try_rows(&rt, rt.alloc(), word_sources::REFUSED, 14)
 }

@@ -47,6 +47,10 @@ put 0 53464957; > accepted sandboxes=1 bundles=16; $ sfi check; $ sfi check --ra
 = a step and a store before a gate; put 28 01000000; insert 36 1000000100000000; put 52 130101012320b10073000000
 = a step before a gate's address; put 28 01000000; insert 36 1000000100000000; put 56 130101012320b100
 = a load into its own base; put 36 1301410003210100b37fb10133e1af01
+= a step and a store of x0; put 36 130101ff23200100
+= loads into x0; put 36 0320010003000d0003d01100
+= a load into x0 after its base is placed; put 36 130101ffb37fb10133e1af0103200100
+= a load into x0 after the use of a step; put 36 130101ff0325010003200100
 = masked and placed; put 36 337f9501336f8f0167000f00
 = placed alone; put 36 336f8f0167000f00
 = placed twice; put 36 337f9501336f8f01336f8f01
@@ -152,6 +156,11 @@ put 0 53464957; $ sfi check; $ sfi check --raw
 = a step after a write; put 36 37510000130101012320b100; > refused findings=1 first=V10 sandbox=0 at=01000004
 = used one later; put 36 13010101010001002320b100; > refused findings=1 first=V10 sandbox=0 at=01000004
 = a load into its own base; put 36 1301410003210100; > refused findings=1 first=V10 sandbox=0 at=01000008
+= a load into x0; put 36 130101ff03200100; > refused findings=1 first=V10 sandbox=0 at=01000004
+= each other load into x0; put 36 938141000380c13f13024200031042c0938e0eff03c00e009381110003d0f1ff; > refused findings=4 first=V10 sandbox=0 at=01000004
+= a load into x0 after c.addi; put 36 0100411103200100; > refused findings=1 first=V10 sandbox=0 at=01000004
+= a load into x0 across 16 bytes; put 48 9381110003a00100; > refused findings=1 first=V10 sandbox=0 at=01000010
+= a load into x0 before the end; put 280 9381110003a0010073001000; > refused findings=1 first=V10 sandbox=0 at=010000f8
 = placed without a mask; put 36 1301410033e1af01; > refused findings=1 first=V10 sandbox=0 at=01000004
 ";
 

@@ -20,6 +20,8 @@ source; | .format words; | .sandbox 256; $ sfi build; >+ 1 534649570100000000000
 = at its bound, and beyond it; | addi tp, tp, 4; | lb a0, 1020(tp); | addi tp, tp, 4; | lb a0, 1021(tp); | addi tp, tp, 4; | lb a0, -1021(tp)
 >+ 1 130242000305c23f13024200b37fb20133e2af010305d23f13024200b37fb20133e2af01030532c0; >+ 108 0290; >
 = before a load of what it steps; | addi gp, gp, 8; | lw gp, 0(gp); >+ 1 9381810083a10100b3ffb101b3e1af01; >+ 120 0290; >
+= before a load into x0, and a store of x0; | addi sp, sp, -16; | lw zero, 12(sp); | addi gp, gp, 4; | sw zero, 0(gp)
+>+ 1 130101ffb37fb10133e1af010320c1009381410023a00100; >+ 116 0290; >
 = a label between the two; | addi sp, sp, -16; | x: sw ra, 12(sp); >+ 1 130101ffb37fb10133e1af0123261100; >+ 120 0290; >
 = an access on another register; | addi sp, sp, -16; | sw ra, 12(gp); >+ 1 130101ffb37fb10133e1af0123a61100; >+ 120 0290; >
 = a sum that is no step; | addi sp, gp, 16; | lw a0, 0(sp); >+ 1 13810101b37fb10133e1af0103250100; >+ 120 0290; >
