@@ -20,7 +20,7 @@ pub use Rattle.sfi_image.specs.Spans.{spans}
 pub use Rattle.sfi_image.specs.Spelling.{Part, view, views, format_of}
 pub use Rattle.sfi_image.specs.declared.part.Gate.{Gate}
 pub use Rattle.sfi_image.specs.declared.part.SandboxPart.{SandboxPart}
-pub use Rattle.sfi_rules.specs.Bundles.{block_bundle, bundle_at, IsWithin, place_of, bundle_bytes}
+pub use Rattle.sfi_rules.specs.Bundles.{block_bundle, bundle_at, IsWithin, bundle_place, bundle_bytes}
 pub use Rattle.sfi_rules.specs.Findings.{AreBundleFindings, AreReadingFindings, AreFindings, AreFindingsFrom, AreImageFindings, AreFoundUpTo}
 pub use Rattle.sfi_image.specs.declared.bundle.BundlePlace.{BundlePlace}
 pub use Rattle.sfi_rules.specs.declared.finding.Finding.{Finding}

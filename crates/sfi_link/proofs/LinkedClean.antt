@@ -10,7 +10,7 @@ use Rattle.sfi_rewrite.specs.Placed.{AreOfItems, AreWholeIn}
 use Rattle.sfi_rules.specs.Findings.{AreFindings, AreFindingsFrom}
 use Rattle.sfi_rules.proofs.Facts.{of_bundles, of_words, same_bundle_starts}
 use Rattle.std.proofs.lemmas.Option.{slice_get_within, get_or_from_slice_get}
-use Rattle.sfi_rules.specs.Bundles.{place_of}
+use Rattle.sfi_rules.specs.Bundles.{bundle_place}
 use Rattle.sfi_rules.specs.declared.owed.Owed.TheVariants as kind
 use Rattle.sfi_rewrite.proofs.WordView.{InWords, view, as_laid, word_aligned}
 use Rattle.sfi_link.proofs.WordItems.{AreWordStarts, nothing_owed, items_right}
@@ -76,11 +76,11 @@ name_starts given number p code placed linked place to e =
     target_starts given number p code linked found.0 there to found.2
 
 are_starts : (given : List Place) → (number : ℕ) (p : Placement) (code : List ℕ) → has_words p.format ≡ false → IsPlacedPart p → IsLinked given number p (part_with given number p code) → (sandbox : ℕ)
-    → AreStarts (place_of sandbox (part_with given number p code) 0) (bases_of given number p) p.names
+    → AreStarts (bundle_place sandbox (part_with given number p code) 0) (bases_of given number p) p.names
 are_starts given number p code bundled placed linked sandbox place to e =
     let s = name_starts given number p code placed linked place to e in
     let start : IsBundleStart (record { base = (bases_of given number p).code; size = length code }) to = record { held = (s.from, s.below); aligned = ap (λ n. to % n) (sym (bundle_unit p.format bundled)) ∙ s.aligned } in
-    ((same_bundle_starts (place_of sandbox (part_with given number p code) 0) to).1 start, s.small)
+    ((same_bundle_starts (bundle_place sandbox (part_with given number p code) 0) to).1 start, s.small)
 
 -- ---- a sandbox
 

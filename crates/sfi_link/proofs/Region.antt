@@ -8,7 +8,7 @@ use Rattle.sfi_rules.specs.Findings.{AreBundleFindings, AreFindingsOfFirst, AreF
 use Rattle.sfi_rules.specs.Rules.{is_empty, is_last_bundle}
 use Rattle.sfi_image.specs.declared.bundle.BundlePlace.{BundlePlace}
 use Rattle.std.proofs.Math.Seq.{take-append_seam, drop-append-add}
-use Rattle.sfi_rules.specs.Bundles.{place_of}
+use Rattle.sfi_rules.specs.Bundles.{bundle_place}
 use Rattle.rv_comp.proofs.Facts.{word_spells}
 use Rattle.sfi_rewrite.proofs.Sizes.{size_of-cons}
 use Rattle.sfi_link.proofs.CleanPlaces.{AreStarts, ends_slots, ends_well, IsEndFine, IsCleanFrom, whole_is_longest}
@@ -43,15 +43,15 @@ length-join (c ∷ chunks) h =
 
 -- bundles without findings
 none_of_first : (sandbox : ℕ) (p : Part) (chunks : List (List ℕ)) → p.code ≡ join chunks → All IsChunk chunks
-    → ((k : ℕ) → k < length chunks → AreBundleFindings (place_of sandbox p k) (get_or chunks k []) []) → (n : ℕ) → n ≤ length chunks → AreFindingsOfFirst sandbox p n []
+    → ((k : ℕ) → k < length chunks → AreBundleFindings (bundle_place sandbox p k) (get_or chunks k []) []) → (n : ℕ) → n ≤ length chunks → AreFindingsOfFirst sandbox p n []
 none_of_first sandbox p chunks e all each zero h = refl
 none_of_first sandbox p chunks e all each (suc n) h =
     let less : n < length chunks = omega arith in
     let b : bundle_bytes p n ≡ get_or chunks n [] = ap (λ l. take 16 (drop (16 * n) l)) e ∙ chunk_at chunks all n less in
-    ([], [], none_of_first sandbox p chunks e all each n (omega arith), subst (λ (l : List ℕ). AreBundleFindings (place_of sandbox p n) l []) (sym b) (each n less), refl)
+    ([], [], none_of_first sandbox p chunks e all each n (omega arith), subst (λ (l : List ℕ). AreBundleFindings (bundle_place sandbox p n) l []) (sym b) (each n less), refl)
 
 none_of_region : (sandbox : ℕ) (p : Part) (chunks : List (List ℕ)) → p.code ≡ join chunks → All IsChunk chunks
-    → ((k : ℕ) → k < length chunks → AreBundleFindings (place_of sandbox p k) (get_or chunks k []) []) → AreFindingsInBundles sandbox p []
+    → ((k : ℕ) → k < length chunks → AreBundleFindings (bundle_place sandbox p k) (get_or chunks k []) []) → AreFindingsInBundles sandbox p []
 none_of_region sandbox p chunks e all each =
     (length chunks, ap length e ∙ length-join chunks all, none_of_first sandbox p chunks e all each (length chunks) (omega arith))
 
@@ -184,7 +184,7 @@ stubs_are (suc n) = ap (λ l. stub ++ l) (stubs_are n)
 -- the code is stubs, one a gate, and then full bundles, the last of which ends in c.ebreak
 pub record IsClosed (p : Part) (at : Bases) (names : List PlacedName) (stubs : ℕ) (full : List (List Slot)) : Type 0 where
   pub bundled : has_words p.format ≡ false
-  pub starts : (sandbox : ℕ) → AreStarts (place_of sandbox p 0) at names
+  pub starts : (sandbox : ℕ) → AreStarts (bundle_place sandbox p 0) at names
   pub start : at.start ≡ p.code_base + 16 * stubs
   pub room : p.code_base + length p.code ≤ 2 ^ 32
   pub bytes : List ℕ
@@ -207,7 +207,7 @@ region_size p stubs full bytes e n =
 pub closed_is_clean : (sandbox : ℕ) (p : Part) (at : Bases) (names : List PlacedName) (stubs : ℕ) (full : List (List Slot)) → IsClosed p at names stubs full
     → at.start + 16 * length full ≤ 2 ^ 32 → AreFindingsInBundles sandbox p []
 closed_is_clean sandbox p at names stubs full h fits =
-    let c = chunked (place_of sandbox p 0) at names (h.starts sandbox) h.bundled at.start (length names) full h.bytes h.all h.slots fits in
+    let c = chunked (bundle_place sandbox p 0) at names (h.starts sandbox) h.bundled at.start (length names) full h.bytes h.all h.slots fits in
     let count = c.count in
     let joined = length-join c.chunks c.all in
     let long = ap length c.whole in
@@ -220,18 +220,18 @@ closed_is_clean sandbox p at names stubs full h fits =
     (λ k less. elim (cases_lt k stubs) [
       | inl low ↦
           let e : get_or (replicate stubs stub ++ c.chunks) k [] ≡ stub = get_or_append_left (replicate stubs stub) c.chunks [] k (omega arith) ∙ get_or-replicate stubs k stub [] low in
-          subst (λ (l : List ℕ). AreBundleFindings (place_of sandbox p k) l []) (sym e) (stub_clean (place_of sandbox p k) ((h.listed k).1 low) (λ x. omega arith))
+          subst (λ (l : List ℕ). AreBundleFindings (bundle_place sandbox p k) l []) (sym e) (stub_clean (bundle_place sandbox p k) ((h.listed k).1 low) (λ x. omega arith))
       | inr high ↦
           let j : k ≡ length (replicate stubs stub) + (k - stubs) = omega arith in
           let e : get_or (replicate stubs stub ++ c.chunks) k [] ≡ get_or c.chunks (k - stubs) [] = ap (λ n. get_or (replicate stubs stub ++ c.chunks) n []) j ∙ get_or-append-add (replicate stubs stub) c.chunks (k - stubs) [] in
           let a : at.start + 16 * (k - stubs) ≡ p.code_base + 16 * k = omega arith in
           let inside : k - stubs < length full = omega arith in
           let listed = is_gate_of p.gates (p.code_base + 16 * k) in
-          let clean_one : IsCleanFrom (place_of sandbox p k) (p.code_base + 16 * k) [] (get_or full (k - stubs) []) (get_or c.chunks (k - stubs) []) =
-          subst (λ m. IsCleanFrom (record (place_of sandbox p 0) { address = m; listed = listed }) m [] (get_or full (k - stubs) []) (get_or c.chunks (k - stubs) [])) a (c.each (k - stubs) listed inside) in
-          let found = clean_bundle (place_of sandbox p k) (get_or full (k - stubs) []) (get_or c.chunks (k - stubs) [])
+          let clean_one : IsCleanFrom (bundle_place sandbox p k) (p.code_base + 16 * k) [] (get_or full (k - stubs) []) (get_or c.chunks (k - stubs) []) =
+          subst (λ m. IsCleanFrom (record (bundle_place sandbox p 0) { address = m; listed = listed }) m [] (get_or full (k - stubs) []) (get_or c.chunks (k - stubs) [])) a (c.each (k - stubs) listed inside) in
+          let found = clean_bundle (bundle_place sandbox p k) (get_or full (k - stubs) []) (get_or c.chunks (k - stubs) [])
           (λ g. absurd (let low : k < stubs = (h.listed k).0 g in omega arith))
           clean_one
           (end_fine (p.code_base + 16 * k + 16) (p.code_base + length p.code) (ends_well clean_one.reading) (λ x. clean_one.ending (h.ends (k - stubs) (omega arith)))) in
-          subst (λ (l : List ℕ). AreBundleFindings (place_of sandbox p k) l []) (sym e) found
+          subst (λ (l : List ℕ). AreBundleFindings (bundle_place sandbox p k) l []) (sym e) found
     ])

@@ -8,7 +8,7 @@ use Rattle.sfi_rules.specs.declared.owed.Owed.{Owed}
 use Rattle.sfi_rules.specs.declared.owed.Owed.TheVariants.{Nothing}
 use Rattle.sfi_rules.specs.Broken.{rest_finding}
 use Rattle.sfi_rules.specs.Rules.{is_empty}
-use Rattle.sfi_rules.specs.Bundles.{place_of, bundle_bytes}
+use Rattle.sfi_rules.specs.Bundles.{bundle_place, bundle_bytes}
 use Rattle.sfi_rules.specs.words.Findings.{found_from, owed_past, IsWordFound, AreFoundInWords, AreFoundOfFirst, AreFindingsInWords}
 use Rattle.sfi_link.proofs.CleanPlaces.{whole_is_longest}
 use Rattle.sfi_link.proofs.Sizes.{join}
@@ -39,7 +39,7 @@ quiet_found b at owed word next q = record {
 abbrev pub AreQuiet : ℕ → Part → ℕ → Owed → List (List ℕ) → Owed → Type 0
 AreQuiet sandbox p n owed [] next = next ≡ owed
 AreQuiet sandbox p n owed (w ∷ words) next =
-    (between : Owed) × IsQuiet (place_of sandbox p (n / 4)) (p.code_base + 4 * n) owed w between × AreQuiet sandbox p (n + 1) between words next
+    (between : Owed) × IsQuiet (bundle_place sandbox p (n / 4)) (p.code_base + 4 * n) owed w between × AreQuiet sandbox p (n + 1) between words next
 
 pub quiet_append : (sandbox : ℕ) (p : Part) (n m : ℕ) (owed between next : Owed) (xs ys : List (List ℕ)) → m ≡ n + length xs → AreQuiet sandbox p n owed xs between → AreQuiet sandbox p m between ys next
     → AreQuiet sandbox p n owed (xs ++ ys) next
@@ -56,7 +56,7 @@ record FoundTo (sandbox : ℕ) (p : Part) (n : ℕ) (owed : Owed) : Type 0 where
   few : words < 4
   between : Owed
   before : AreFoundOfFirst sandbox p bundles [] between
-  own : AreFoundInWords (place_of sandbox p bundles) between (bundle_bytes p bundles) words [] owed
+  own : AreFoundInWords (bundle_place sandbox p bundles) between (bundle_bytes p bundles) words [] owed
 
 none_yet : (sandbox : ℕ) (p : Part) → FoundTo sandbox p 0 Nothing
 none_yet sandbox p = record { bundles = 0; words = 0; number = refl; few = omega arith; between = Nothing; before = (refl, refl); own = (refl, refl) }
@@ -71,7 +71,7 @@ word_of code n k below =
     ∙ ap (λ m. take 4 (drop m code)) (let e : 16 * n + 4 * k ≡ 4 * (4 * n + k) = omega arith in e)
 
 one_more : (sandbox : ℕ) (p : Part) (n : ℕ) (owed next : Owed) (word : List ℕ) → FoundTo sandbox p n owed → take 4 (drop (4 * n) p.code) ≡ word
-    → IsQuiet (place_of sandbox p (n / 4)) (p.code_base + 4 * n) owed word next → FoundTo sandbox p (n + 1) next
+    → IsQuiet (bundle_place sandbox p (n / 4)) (p.code_base + 4 * n) owed word next → FoundTo sandbox p (n + 1) next
 one_more sandbox p n owed next word f is q =
     let k = f.bundles in
     let w = f.words in
@@ -80,11 +80,11 @@ one_more sandbox p n owed next word f is q =
     let same : n / 4 ≡ k = omega arith in
     let address : p.code_base + 4 * n ≡ p.code_base + 16 * k + 4 * w = omega arith in
     let bytes : word ≡ take 4 (drop (4 * w) (bundle_bytes p k)) = sym is ∙ ap (λ m. take 4 (drop (4 * m) p.code)) number ∙ sym (word_of p.code k w few) in
-    let here : IsWordFound (place_of sandbox p k) (p.code_base + 16 * k + 4 * w) owed (take 4 (drop (4 * w) (bundle_bytes p k))) [] next =
-    subst (λ l. IsWordFound (place_of sandbox p k) (p.code_base + 16 * k + 4 * w) owed l [] next) bytes
-    (subst (λ a. IsWordFound (place_of sandbox p k) a owed word [] next) address
-    (subst (λ m. IsWordFound (place_of sandbox p m) (p.code_base + 4 * n) owed word [] next) same (quiet_found _ _ owed word next q))) in
-    let more : AreFoundInWords (place_of sandbox p k) f.between (bundle_bytes p k) (suc w) [] next = ([], [], owed, f.own, here, refl) in
+    let here : IsWordFound (bundle_place sandbox p k) (p.code_base + 16 * k + 4 * w) owed (take 4 (drop (4 * w) (bundle_bytes p k))) [] next =
+    subst (λ l. IsWordFound (bundle_place sandbox p k) (p.code_base + 16 * k + 4 * w) owed l [] next) bytes
+    (subst (λ a. IsWordFound (bundle_place sandbox p k) a owed word [] next) address
+    (subst (λ m. IsWordFound (bundle_place sandbox p m) (p.code_base + 4 * n) owed word [] next) same (quiet_found _ _ owed word next q))) in
+    let more : AreFoundInWords (bundle_place sandbox p k) f.between (bundle_bytes p k) (suc w) [] next = ([], [], owed, f.own, here, refl) in
     elim (cases_eq w 3) [
       | inl last ↦ record {
         bundles = suc k;
@@ -92,7 +92,7 @@ one_more sandbox p n owed next word f is q =
         number = omega arith;
         few = omega arith;
         between = next;
-        before = ([], [], f.between, f.before, subst (λ m. AreFoundInWords (place_of sandbox p k) f.between (bundle_bytes p k) (suc m) [] next) last more, refl);
+        before = ([], [], f.between, f.before, subst (λ m. AreFoundInWords (bundle_place sandbox p k) f.between (bundle_bytes p k) (suc m) [] next) last more, refl);
         own = (refl, refl);
       }
       | inr inside ↦ record { bundles = k; words = suc w; number = omega arith; few = omega arith; between = f.between; before = f.before; own = more }

@@ -7,7 +7,7 @@ use Rattle.sfi_policy.specs.declared.format.Format.TheVariants.{Sfiw}
 use Rattle.sfi_rewrite.specs.words.Laying.{Marked, alone}
 use Rattle.sfi_rules.specs.declared.owed.Owed.{Owed}
 use Rattle.sfi_rules.specs.declared.owed.Owed.TheVariants as kind
-use Rattle.sfi_rules.specs.Bundles.{place_of}
+use Rattle.sfi_rules.specs.Bundles.{bundle_place}
 use Rattle.sfi_rules.specs.Rules.{ends_region}
 use Rattle.sfi_rules.specs.words.Rules.{breaks_ecall}
 use Rattle.sfi_rules.specs.words.Findings.{is_at_gate, breaks_last, AreFindingsInWords}
@@ -78,7 +78,7 @@ pub record AreWordsOf (sandbox : ℕ) (p : Part) (n : ℕ) (owed : Owed) (bytes 
   pub bytes_are : bytes ≡ join words
   pub quiet : AreQuiet sandbox p n owed words next
 
-one_word : (sandbox : ℕ) (p : Part) (n : ℕ) (owed between next : Owed) (word rest bytes : List ℕ) → bytes ≡ word ++ rest → IsQuiet (place_of sandbox p (n / 4)) (p.code_base + 4 * n) owed word between → AreWordsOf sandbox p (n + 1) between rest next
+one_word : (sandbox : ℕ) (p : Part) (n : ℕ) (owed between next : Owed) (word rest bytes : List ℕ) → bytes ≡ word ++ rest → IsQuiet (bundle_place sandbox p (n / 4)) (p.code_base + 4 * n) owed word between → AreWordsOf sandbox p (n + 1) between rest next
     → AreWordsOf sandbox p n owed bytes next
 one_word sandbox p n owed between next word rest bytes e q more =
     record { words = word ∷ more.words; bytes_are = e ∙ ap (λ l. word ++ l) more.bytes_are; quiet = (between, q, more.quiet) }
@@ -99,7 +99,7 @@ slots_quiet sandbox p at names _ _ (two_forms l f g expanded words w) n here owe
     let sized_more = size_of-cons (Short g) words in
     let first = right one.instr one.resolves in
     let second = first.2 two.instr two.resolves in
-    let b = place_of sandbox p (n / 4) in
+    let b = bundle_place sandbox p (n / 4) in
     let here_is : here ≡ p.code_base + 4 * n = e in
     let past : here + 2 + 2 ≡ here + 4 = omega arith in
     let q = two_quiet b here owed first.0 second.0 one.instr two.instr front back (slot_spells at names here (Short f) front one) (slot_spells at names (here + 2) (Short g) back two) first.1 (goes_on b here 2 owed one.instr (omega arith)) second.1
@@ -110,7 +110,7 @@ slots_quiet sandbox p at names _ _ (two_forms l f g expanded words w) n here owe
 slots_quiet sandbox p at names _ _ (one_slot l s expanded words four w) n here owed next bytes e room right (front, rest, one, more, c) =
     let sized = size_of-cons (alone s) words in
     let first = right one.instr one.resolves in
-    let b = place_of sandbox p (n / 4) in
+    let b = bundle_place sandbox p (n / 4) in
     let spelled = subst (λ m. Spells front one.instr m) four (slot_spells at names here (alone s) front one) in
     let past : here + slot_size (alone s) ≡ here + 4 = omega arith in
     let q = wide_quiet b here owed first.0 one.instr front spelled (first.1.no_ecall (is_at_gate b here)) first.1.lawful (goes_on b here 4 owed one.instr (omega arith)) first.1.meets in
@@ -128,7 +128,7 @@ fill_quiet : (sandbox : ℕ) (p : Part) (at : Bases) (names : List PlacedName) (
 fill_quiet sandbox p at names zero n here bytes even e slots = record { words = []; bytes_are = slots; quiet = refl }
 fill_quiet sandbox p at names (suc zero) n here bytes even e slots = absurd (omega arith)
 fill_quiet sandbox p at names (suc (suc fill)) n here bytes even e (front, rest, one, (back, others, two, more, d), c) =
-    let b = place_of sandbox p (n / 4) in
+    let b = bundle_place sandbox p (n / 4) in
     let past : here + 2 + 2 ≡ here + 4 = omega arith in
     let is : Ebreak ≡ one.instr = some_same Ebreak one.instr one.resolves in
     let is_too : Ebreak ≡ two.instr = some_same Ebreak two.instr two.resolves in
@@ -162,14 +162,14 @@ stub_spells = (
 )
 
 -- the ecall is the gate's first instruction
-at_gate : (sandbox : ℕ) (p : Part) (k m at : ℕ) → m ≡ k → at ≡ p.code_base + 16 * k → is_gate_of p.gates (p.code_base + 16 * k) ≡ true → breaks_ecall (is_at_gate (place_of sandbox p m) at) Ecall ≡ false
+at_gate : (sandbox : ℕ) (p : Part) (k m at : ℕ) → m ≡ k → at ≡ p.code_base + 16 * k → is_gate_of p.gates (p.code_base + 16 * k) ≡ true → breaks_ecall (is_at_gate (bundle_place sandbox p m) at) Ecall ≡ false
 at_gate sandbox p k m at e f listed =
     let here : (at == p.code_base + 16 * k) ≡ true = eq-eqb at (p.code_base + 16 * k) f in
-    subst (λ j. breaks_ecall (is_at_gate (place_of sandbox p j) at) Ecall ≡ false) (sym e) (rw (listed, here) refl)
+    subst (λ j. breaks_ecall (is_at_gate (bundle_place sandbox p j) at) Ecall ≡ false) (sym e) (rw (listed, here) refl)
 
 stub_quiet : (sandbox : ℕ) (p : Part) (k : ℕ) → is_gate_of p.gates (p.code_base + 16 * k) ≡ true → 16 * k + 16 ≤ length p.code → AreQuiet sandbox p (4 * k) kind.Nothing stub_words kind.Nothing
 stub_quiet sandbox p k listed room =
-    let b : ℕ → BundlePlace = λ n. place_of sandbox p (n / 4) in
+    let b : ℕ → BundlePlace = λ n. bundle_place sandbox p (n / 4) in
     let call = wide_quiet (b (4 * k)) (p.code_base + 4 * (4 * k)) kind.Nothing kind.Nothing Ecall (word Ecall) stub_spells.0 (at_gate sandbox p k (4 * k / 4) (p.code_base + 4 * (4 * k)) (omega arith) (omega arith) listed)
     (lawful_by refl refl refl refl refl) (goes_on (b (4 * k)) (p.code_base + 4 * (4 * k)) 4 kind.Nothing Ecall (omega arith))
     (meets_by kind.Nothing kind.Nothing refl refl refl) in

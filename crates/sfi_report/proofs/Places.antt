@@ -14,7 +14,7 @@ use Rattle.rv_comp.specs.Fronts.{Spells}
 use Rattle.sfi_image.specs.declared.bundle.BundlePlace.{BundlePlace}
 use Rattle.sfi_rules.specs.declared.rule.Rule.{Rule}
 use Rattle.sfi_rules.specs.declared.rule.Rule.TheVariants.{V2, V9}
-use Rattle.sfi_rules.specs.Bundles.{bundle_bytes, place_of}
+use Rattle.sfi_rules.specs.Bundles.{bundle_bytes, bundle_place}
 use Rattle.sfi_rules.specs.Readings.{Piece, IsReading, rest_of}
 use Rattle.sfi_rules.specs.Rules.{breaks}
 use Rattle.sfi_rules.specs.Findings.{broken, lowest, all_rules, findings_from, rest_finding, rule_of_length, AreBundleFindings, AreFindingsOfFirst, AreFindingsInBundles, AreFindings, AreFindingsFrom, AreImageFindings}
@@ -174,7 +174,7 @@ first_stand sandbox p (suc n) found few h =
     let count : length (bundle_bytes p n) ≡ 16 = omega (arith, length-take 16 (drop (16 * n) p.code), length-drop (16 * n) p.code) in
     subst (λ (l : List Finding). All (StandsIn sandbox p.code_base p.code) l) (sym h.4)
     (All-append (StandsIn sandbox p.code_base p.code) h.0 h.1 (first_stand sandbox p n h.0 (omega arith) h.2)
-    (λ k d g. moved sandbox p.code_base (16 * n) 16 p.code _ inside (bundle_stands (place_of sandbox p n) (bundle_bytes p n) h.1 count h.3 k d g)))
+    (λ k d g. moved sandbox p.code_base (16 * n) 16 p.code _ inside (bundle_stands (bundle_place sandbox p n) (bundle_bytes p n) h.1 count h.3 k d g)))
 
 -- ---- of code in words
 
@@ -245,7 +245,7 @@ first_words_stand sandbox p (suc n) found next few h =
     let count : length (bundle_bytes p n) ≡ 16 = omega (arith, length-take 16 (drop (16 * n) p.code), length-drop (16 * n) p.code) in
     subst (λ (l : List Finding). All (StandsIn sandbox p.code_base p.code) l) (sym h.5)
     (All-append (StandsIn sandbox p.code_base p.code) h.0 h.1 (first_words_stand sandbox p n h.0 h.2 (omega arith) h.3)
-    (λ k d g. moved sandbox p.code_base (16 * n) 16 p.code _ inside (words_stand (place_of sandbox p n) h.2 (bundle_bytes p n) 4 h.1 next count (omega arith) h.4 k d g)))
+    (λ k d g. moved sandbox p.code_base (16 * n) 16 p.code _ inside (words_stand (bundle_place sandbox p n) h.2 (bundle_bytes p n) 4 h.1 next count (omega arith) h.4 k d g)))
 
 -- ---- of any code
 

@@ -1,5 +1,5 @@
 -- The first format has no stack pointer: no place breaks V10.
-use Rattle.sfi_rules.proofs.Prelude.{◌≡◌, ◌≢◌, ◌∷◌, ◌++◌, ℕ, zero, suc, ◌+◌, Bool, true, false, List, [], refl, sym, ap, subst, inl, inr, All, Instr, has_stack, Part, BundlePlace, Finding, Rule, place_of, bundle_bytes, follows_data_pair, Piece, Place, breaks, breaks_stack, may_access, broken, lowest, all_rules, rule_of_length, findings_from, rest_finding, AreReadingFindings, AreBundleFindings, AreFindingsOfFirst, has_words, Format, Sfi1, All-append, All-cons, All-nil}
+use Rattle.sfi_rules.proofs.Prelude.{◌≡◌, ◌≢◌, ◌∷◌, ◌++◌, ℕ, zero, suc, ◌+◌, Bool, true, false, List, [], refl, sym, ap, subst, inl, inr, All, Instr, has_stack, Part, BundlePlace, Finding, Rule, bundle_place, bundle_bytes, follows_data_pair, Piece, Place, breaks, breaks_stack, may_access, broken, lowest, all_rules, rule_of_length, findings_from, rest_finding, AreReadingFindings, AreBundleFindings, AreFindingsOfFirst, has_words, Format, Sfi1, All-append, All-cons, All-nil}
 use Rattle.rv_word.specs.declared.length.Length.{Length}
 use Rattle.rv_word.specs.declared.length.Length.TheVariants.{Wide}
 use Rattle.sfi_rules.specs.Laws.{FirstFormatHasNoStack, FirstFormatFindsNoV10}
@@ -65,7 +65,7 @@ first_other : (sandbox : ℕ) (p : Part) (n : ℕ) (found : List Finding) → p.
 first_other sandbox p zero found e h = subst (λ (l : List Finding). All IsOther l) (sym h) (All-nil IsOther)
 first_other sandbox p (suc n) found e h =
     subst (λ (l : List Finding). All IsOther l) (sym h.4)
-    (both h.0 h.1 (first_other sandbox p n h.0 e h.2) (bundle_other (place_of sandbox p n) (bundle_bytes p n) h.1 e h.3))
+    (both h.0 h.1 (first_other sandbox p n h.0 e h.2) (bundle_other (bundle_place sandbox p n) (bundle_bytes p n) h.1 e h.3))
 
 pub first_format_finds_no_v10 : FirstFormatFindsNoV10
 first_format_finds_no_v10 sandbox p found e h =

@@ -1,5 +1,5 @@
 -- A bundle, a part and an image each have one list of findings.
-use Rattle.sfi_rules.proofs.Prelude.{◌≡◌, ℕ, zero, suc, ◌+◌, ◌-◌, List, [], ◌∷◌, ◌++◌, length, sym, ap, ◌∙◌, subst, inl, inr, arith, Part, BundlePlace, Finding, place_of, bundle_bytes, Piece, rest_of, is_empty, findings_from, rest_finding, AreReadingFindings, AreBundleFindings, AreFindingsOfFirst, AreFindingsInBundles, AreFindings, AreFindingsFrom, has_words, Bool, true, false, MatchBool, AreFindingsInWords}
+use Rattle.sfi_rules.proofs.Prelude.{◌≡◌, ℕ, zero, suc, ◌+◌, ◌-◌, List, [], ◌∷◌, ◌++◌, length, sym, ap, ◌∙◌, subst, inl, inr, arith, Part, BundlePlace, Finding, bundle_place, bundle_bytes, Piece, rest_of, is_empty, findings_from, rest_finding, AreReadingFindings, AreBundleFindings, AreFindingsOfFirst, AreFindingsInBundles, AreFindings, AreFindingsFrom, has_words, Bool, true, false, MatchBool, AreFindingsInWords}
 use Rattle.sfi_rules.proofs.WordList as words
 use Rattle.sfi_rules.proofs.Readings.{longest_one}
 
@@ -26,7 +26,7 @@ one_of_first : (sandbox : ℕ) (p : Part) (n : ℕ) (xs ys : List Finding) → A
 one_of_first sandbox p zero xs ys x y = x ∙ sym y
 one_of_first sandbox p (suc n) xs ys x y =
     let front = one_of_first sandbox p n x.0 y.0 x.2 y.2 in
-    let last = one_bundle_list (place_of sandbox p n) (bundle_bytes p n) x.1 y.1 x.3 y.3 in
+    let last = one_bundle_list (bundle_place sandbox p n) (bundle_bytes p n) x.1 y.1 x.3 y.3 in
     x.4 ∙ ap (λ l. l ++ x.1) front ∙ ap (λ l. y.0 ++ l) last ∙ sym y.4
 
 in_bundles : (sandbox : ℕ) (p : Part) (xs ys : List Finding) → AreFindingsInBundles sandbox p xs → AreFindingsInBundles sandbox p ys → xs ≡ ys

@@ -7,7 +7,7 @@ pub use Rattle.rv_word.specs.declared.instr.Instr.TheVariants.{Load, Store, Bran
 pub use Rattle.rv_comp.specs.Fronts.{Spells}
 pub use Rattle.sfi_policy.specs.Formats.{has_stack, has_words}
 pub use Rattle.sfi_image.specs.Spelling.{Part}
-pub use Rattle.sfi_rules.specs.Bundles.{place_of, bundle_bytes}
+pub use Rattle.sfi_rules.specs.Bundles.{bundle_place, bundle_bytes}
 pub use Rattle.sfi_rules.specs.Findings.{broken, lowest, all_rules, rule_of_length, findings_from, rest_finding, AreReadingFindings, AreBundleFindings, AreFindingsOfFirst, AreFindingsInBundles, AreFindings, AreFindingsFrom}
 pub use Rattle.sfi_rules.specs.Pairs.{follows_data_pair}
 pub use Rattle.sfi_rules.specs.Readings.{Piece, IsReading, IsLongestReading, rest_of}

@@ -1,5 +1,5 @@
 -- Where no rule is broken, the second format's findings are V10 alone.
-use Rattle.sfi_rules.proofs.Prelude.{◌≡◌, ℕ, pos, negsuc, zero, suc, ◌+◌, ◌-◌, List, [], ◌∷◌, ◌++◌, length, Bool, true, false, not, ◌&&◌, ◌||◌, refl, sym, ◌∙◌, subst, inl, inr, arith, All, Instr, Load, Store, Branch, Jal, Jalr, Ecall, has_stack, Part, Rule, BundlePlace, Finding, place_of, bundle_bytes, Piece, rest_of, follows_data_pair, Place, breaks, breaks_ecall, breaks_access, breaks_jump, breaks_target, is_empty, lowest, all_rules, findings_from, rest_finding, AreReadingFindings, AreBundleFindings, AreFindingsOfFirst, AreFindingsInBundles, AreFindings, AreFindingsFrom, has_words, Format}
+use Rattle.sfi_rules.proofs.Prelude.{◌≡◌, ℕ, pos, negsuc, zero, suc, ◌+◌, ◌-◌, List, [], ◌∷◌, ◌++◌, length, Bool, true, false, not, ◌&&◌, ◌||◌, refl, sym, ◌∙◌, subst, inl, inr, arith, All, Instr, Load, Store, Branch, Jal, Jalr, Ecall, has_stack, Part, Rule, BundlePlace, Finding, bundle_place, bundle_bytes, Piece, rest_of, follows_data_pair, Place, breaks, breaks_ecall, breaks_access, breaks_jump, breaks_target, is_empty, lowest, all_rules, findings_from, rest_finding, AreReadingFindings, AreBundleFindings, AreFindingsOfFirst, AreFindingsInBundles, AreFindings, AreFindingsFrom, has_words, Format}
 use Rattle.sfi_image.specs.InFormat.{in_format, all_in_format}
 use Rattle.sfi_policy.specs.declared.format.Format.TheVariants.{Sfi1, Sfi2, Sfiw}
 use Rattle.sfi_rules.specs.declared.rule.Rule.TheVariants.{V3, V4, V5, V6, V7, V8, V10}
@@ -120,7 +120,7 @@ first_of_stack sandbox p zero clean found e x y = subst OfStack (sym y) none
 first_of_stack sandbox p (suc n) clean found e x y =
     let z = two_empty x.0 x.1 (sym x.4 ∙ e) in
     subst OfStack (sym y.4)
-    (both y.0 y.1 (first_of_stack sandbox p n x.0 y.0 z.0 x.2 y.2) (bundle_of_stack (place_of sandbox p n) (bundle_bytes p n) x.1 y.1 z.1 x.3 y.3))
+    (both y.0 y.1 (first_of_stack sandbox p n x.0 y.0 z.0 x.2 y.2) (bundle_of_stack (bundle_place sandbox p n) (bundle_bytes p n) x.1 y.1 z.1 x.3 y.3))
 
 part_of_stack : (sandbox : ℕ) (p : Part) (clean found : List Finding) → clean ≡ [] → AreFindingsInBundles sandbox p clean → AreFindings sandbox (in_format Sfi2 p) found → OfStack found
 part_of_stack sandbox p clean found e x y =

@@ -1,5 +1,5 @@
 -- A part of code in words has one list of findings.
-use Rattle.sfi_rules.proofs.Prelude.{◌≡◌, ℕ, zero, suc, ◌+◌, ◌-◌, ◌*◌, List, ◌++◌, length, take, drop, cond, sym, ap, ◌∙◌, subst, arith, Part, BundlePlace, Finding, place_of, bundle_bytes, Piece, rest_of, is_empty, rest_finding, Owed}
+use Rattle.sfi_rules.proofs.Prelude.{◌≡◌, ℕ, zero, suc, ◌+◌, ◌-◌, ◌*◌, List, ◌++◌, length, take, drop, cond, sym, ap, ◌∙◌, subst, arith, Part, BundlePlace, Finding, bundle_place, bundle_bytes, Piece, rest_of, is_empty, rest_finding, Owed}
 use Rattle.sfi_rules.specs.declared.owed.Owed.TheVariants as kind
 use Rattle.sfi_rules.specs.words.Findings.{found_from, owed_past, IsWordFound, AreFoundInWords, AreFoundInBundle, AreFoundOfFirst, AreFindingsInWords}
 use Rattle.sfi_rules.proofs.Readings.{longest_one}
@@ -34,7 +34,7 @@ one_first : (sandbox : ℕ) (p : Part) (k : ℕ) (xs ys : List Finding) (n m : O
 one_first sandbox p zero xs ys n m x y = record { found_same = x.0 ∙ sym y.0; next_same = x.1 ∙ sym y.1 }
 one_first sandbox p (suc k) xs ys n m x y =
     let front = one_first sandbox p k x.0 y.0 x.2 y.2 x.3 y.3 in
-    let last = one_words (place_of sandbox p k) y.2 (bundle_bytes p k) 4 x.1 y.1 n m (subst (λ (o : Owed). AreFoundInBundle (place_of sandbox p k) o (bundle_bytes p k) x.1 n) front.next_same x.4) y.4 in
+    let last = one_words (bundle_place sandbox p k) y.2 (bundle_bytes p k) 4 x.1 y.1 n m (subst (λ (o : Owed). AreFoundInBundle (bundle_place sandbox p k) o (bundle_bytes p k) x.1 n) front.next_same x.4) y.4 in
     record { found_same = x.5 ∙ ap (λ l. l ++ x.1) front.found_same ∙ ap (λ l. y.0 ++ l) last.found_same ∙ sym y.5; next_same = last.next_same }
 
 pub one_list : (sandbox : ℕ) (p : Part) (xs ys : List Finding) → AreFindingsInWords sandbox p xs → AreFindingsInWords sandbox p ys → xs ≡ ys

@@ -29,8 +29,8 @@ abbrev pub block_bundle : List ℕ → ℕ → List ℕ
 block_bundle block n = take bundle_size (drop (bundle_size * n) block)
 
 -- the place of a part's bundle of that number
-abbrev pub place_of : ℕ → Part → ℕ → BundlePlace
-place_of sandbox p n =
+abbrev pub bundle_place : ℕ → Part → ℕ → BundlePlace
+bundle_place sandbox p n =
     let at = p.code_base + bundle_size * n in
     record {
       sandbox = sandbox;

@@ -9,7 +9,7 @@ use Rattle.sfi_rules.specs.declared.finding.Finding.{Finding}
 use Rattle.sfi_image.specs.declared.bundle.BundlePlace.{BundlePlace}
 use Rattle.sfi_policy.specs.Limits.{bundle_size}
 use Rattle.sfi_pairs.specs.Pairs.{stub}
-use Rattle.sfi_rules.specs.Bundles.{place_of, bundle_bytes}
+use Rattle.sfi_rules.specs.Bundles.{bundle_place, bundle_bytes}
 use Rattle.sfi_rules.specs.Readings.{Piece, IsLongestReading, rest_of}
 use Rattle.sfi_rules.specs.Rules.{Place, breaks, is_empty}
 pub use Rattle.sfi_rules.specs.Broken.{broken, all_rules, rule_of_length, rest_finding}
@@ -63,7 +63,7 @@ abbrev pub AreFindingsOfFirst : ℕ → Part → ℕ → List Finding → Type 0
 AreFindingsOfFirst sandbox p zero found = found ≡ []
 AreFindingsOfFirst sandbox p (suc n) found =
     (front : List Finding) × (last : List Finding) × AreFindingsOfFirst sandbox p n front
-    × AreBundleFindings (place_of sandbox p n) (bundle_bytes p n) last × (found ≡ front ++ last)
+    × AreBundleFindings (bundle_place sandbox p n) (bundle_bytes p n) last × (found ≡ front ++ last)
 
 -- those of code in bundles: of all of them
 abbrev pub AreFindingsInBundles : ℕ → Part → List Finding → Type 0

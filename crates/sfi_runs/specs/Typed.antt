@@ -2,7 +2,7 @@
 -- calls.
 use Rattle.std.specs.Prelude.{◌≡◌, ◌+◌, ◌%◌, ◌<◌, ◌≤◌, ℕ, List, true, slice_index}
 use Rattle.sfi_policy.specs.Formats.{has_stack, has_words}
-use Rattle.sfi_policy.specs.Limits.{slack}
+use Rattle.sfi_policy.specs.Limits.{slack, word_size}
 use Rattle.sfi_policy.specs.Registers.{stack_pointer, is_data_register, code_register, offset_register}
 use Rattle.sfi_image.specs.Spelling.{Part}
 use Rattle.sfi_runs.specs.Regions.{InCode, InData}
@@ -16,7 +16,7 @@ StackInData p registers = has_stack p.format ≡ true → InData p (slice_index 
 -- a multiple of 4 in the code region
 pub record IsWordStart (p : Part) (a : ℕ) : Type 0 where
   pub held : InCode p a
-  pub aligned : a % 4 ≡ 0
+  pub aligned : a % word_size ≡ 0
 
 -- in the data region, or at most so many bytes below its first byte or above its last
 pub record IsNear (p : Part) (far a : ℕ) : Type 0 where
@@ -31,7 +31,8 @@ pub record AreWordsTyped (p : Part) (registers : List ℕ) : Type 0 where
 
 -- ---- of any format
 
--- the typed registers of its format, if it has some, hold what their types say
+-- The typed registers of its format hold what their types say: x2 lies in the data region where it is
+-- a stack pointer, and in words six registers are typed. The first format has none, so nothing is asked.
 pub record IsTyped (p : Part) (registers : List ℕ) : Type 0 where
-  pub stack : StackInData p registers
+  pub stack : has_stack p.format ≡ true → InData p (slice_index registers stack_pointer)
   pub words : has_words p.format ≡ true → AreWordsTyped p registers

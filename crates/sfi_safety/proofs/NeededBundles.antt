@@ -1,5 +1,5 @@
 -- That the rules on what is read, on the region's end and on gates are needed.
-use Rattle.sfi_safety.proofs.Prelude.{◌≡◌, ◌≢◌, ℕ, zero, suc, ◌+◌, ◌*◌, ◌<◌, ◌≤◌, ◌==◌, ◌||◌, List, [], ◌∷◌, length, take, drop, Some, false, refl, sym, ap, ◌∙◌, subst, inl, inr, arith, get_or-take, pos, slice_index, All, ints, Instr, And, Or, Sw, Op, Store, Jalr, Ecall, Ebreak, spelling, InRange, Spells, Bytes, Stands, unchanged, Call, is_gate_of, IsBundleStart, AreGateWords, place_of, bundle_bytes, HasCode, Steps, Replies, IsReply, IsEntry, IsNeeded, HasUnsafeRun, Hart, Finding, Format, has_words, CAddi, Sample, sandbox, nop, undecodable, crossing_store, running_off_the_end, gate_comes_back_elsewhere, V1, V2, V8, V9}
+use Rattle.sfi_safety.proofs.Prelude.{◌≡◌, ◌≢◌, ℕ, zero, suc, ◌+◌, ◌*◌, ◌<◌, ◌≤◌, ◌==◌, ◌||◌, List, [], ◌∷◌, length, take, drop, Some, false, refl, sym, ap, ◌∙◌, subst, inl, inr, arith, get_or-take, pos, slice_index, All, ints, Instr, And, Or, Sw, Op, Store, Jalr, Ecall, Ebreak, spelling, InRange, Spells, Bytes, Stands, unchanged, Call, is_gate_of, IsBundleStart, AreGateWords, bundle_place, bundle_bytes, HasCode, Steps, Replies, IsReply, IsEntry, IsNeeded, HasUnsafeRun, Hart, Finding, Format, has_words, CAddi, Sample, sandbox, nop, undecodable, crossing_store, running_off_the_end, gate_comes_back_elsewhere, V1, V2, V8, V9}
 use Rattle.sfi_policy.specs.Limits.{service_most}
 use Rattle.sfi_pairs.specs.Pairs.{stub}
 use Rattle.sfi_safety.proofs.Readings.{read_in_both, BrokenIn, IsSpelled, BeginsNothing, op_spelled, nothing_begins, ebreak_spelled, four, read_bundle, four_longest, wide, all_findings, quiet, none_listed, ecall_spelled, jalr_past}
@@ -43,7 +43,7 @@ undecodable_unsafe f bundles =
     let x : List Finding = record { sandbox = 0; address = 0x01000000; rule = V1 } ∷ [] in
     needed (undecodable f) is V1 0x01000000 0 bundles (omega arith)
     (all_findings f [] 0xffffffff brk brk brk brk brk brk brk brk brk brk brk none_listed x [] []
-    (read_bundle (place_of 0 p 0) bytes [] bytes x refl tt refl (ones_begin_nothing (drop 4 bytes)) refl)
+    (read_bundle (bundle_place 0 p 0) bytes [] bytes x refl tt refl (ones_begin_nothing (drop 4 bytes)) refl)
     (quiet f [] 0xffffffff brk brk brk brk brk brk brk brk brk brk brk none_listed 0 refl refl refl refl)
     (quiet f [] 0xffffffff brk brk brk brk brk brk brk brk brk brk brk none_listed 14 refl refl refl refl))
     tt

@@ -1,5 +1,5 @@
 -- The rules that the samples in words break are needed, and so is each of code in words.
-use Rattle.sfi_safety.proofs.Prelude.{ℕ, List, [], ◌∷◌, drop, refl, arith, pos, ints, Or, Sw, Op, OpImm, Lui, Store, Jal, Jalr, Ecall, Ebreak, spelling, minus, InRange, place_of, IsGate, IsNeeded, Finding, Addi, Rule, V1, V2, V3, V4, V5, V6, V7, V8, V9, V10, V11, V12, InCode, Sample, sandbox, nop}
+use Rattle.sfi_safety.proofs.Prelude.{ℕ, List, [], ◌∷◌, drop, refl, arith, pos, ints, Or, Sw, Op, OpImm, Lui, Store, Jal, Jalr, Ecall, Ebreak, spelling, minus, InRange, bundle_place, IsGate, IsNeeded, Finding, Addi, Rule, V1, V2, V3, V4, V5, V6, V7, V8, V9, V10, V11, V12, InCode, Sample, sandbox, nop}
 use Rattle.rv_comp.proofs.Facts.{word_spells}
 use Rattle.sfi_rules.specs.declared.owed.Owed.TheVariants.{Nothing, Mask}
 use Rattle.sfi_safety.specs.Needed.{IsOwedBefore, EachRuleOfWordsIsNeeded}
@@ -50,7 +50,7 @@ pub undecodable_word_unsafe : IsNeeded V1 0x01000000 (sandbox undecodable_word)
 undecodable_word_unsafe =
     let s = undecodable_word in
     let is : IsSample s = without_gates s refl refl refl in
-    let b = place_of 0 (sandbox s) 0 in
+    let b = bundle_place 0 (sandbox s) 0 in
     needed_at s is refl V1 0x01000000 0 (omega arith)
     (first_found 0xffffffff brk brk brk (found 0x01000000 V1)
     (four_found b Nothing Nothing Nothing Nothing Nothing 0xffffffff brk brk brk (found 0x01000000 V1) [] [] []
@@ -63,7 +63,7 @@ pub crossing_words_unsafe : IsNeeded V2 0x01000002 (sandbox crossing_words)
 crossing_words_unsafe =
     let s = crossing_words in
     let is : IsSample s = without_gates s refl refl refl in
-    let b = place_of 0 (sandbox s) 0 in
+    let b = bundle_place 0 (sandbox s) 0 in
     needed_at s is refl V2 0x01000002 0 (omega arith)
     (first_found 0x20230001 0x00000013 brk brk (found 0x01000002 V2)
     (four_found b Nothing Nothing Nothing Nothing Nothing 0x20230001 0x00000013 brk brk (found 0x01000002 V2) [] [] []
@@ -136,7 +136,7 @@ pub nop_at_the_end_unsafe : IsNeeded V8 0x010000fc (sandbox nop_at_the_end)
 nop_at_the_end_unsafe =
     let s = nop_at_the_end in
     let is : IsSample s = without_gates s refl refl refl in
-    let b = place_of 0 (sandbox s) in
+    let b = bundle_place 0 (sandbox s) in
     let n = spelling nop in
     let quiet = ebreaks_found (b 0) in
     let e1 = ebreak_found (b 15) 0x010000f0 in
@@ -171,7 +171,7 @@ data_register_not_put_back_unsafe =
       between = Nothing;
       front_found = (refl, refl);
       found = [];
-      words_found = ([], [], Nothing, (refl, refl), one_word (place_of 0 (sandbox s) 0) 0x01000000 Nothing (Mask 2) zero_x2 [] addi_x2 refl refl, refl);
+      words_found = ([], [], Nothing, (refl, refl), one_word (bundle_place 0 (sandbox s) 0) 0x01000000 Nothing (Mask 2) zero_x2 [] addi_x2 refl refl, refl);
     }) V10 refl)
     (λ m entry.
     then_step s is m entry.code (at_word 0x01000000) 0 4 zero_x2 refl (omega arith) addi_x2 (typed_hart 0x01000004 0 0x01800000 0x010000fc 0) refl (

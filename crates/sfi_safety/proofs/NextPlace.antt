@@ -1,5 +1,5 @@
 -- What a place without a finding keeps, and that the machine goes on from it to a place again.
-use Rattle.sfi_safety.proofs.Prelude.{◌≡◌, ◌≢◌, ℕ, ◌+◌, ◌*◌, ◌<◌, ◌≤◌, List, [], ◌∷◌, length, drop, Bool, true, false, not, ◌&&◌, ◌==◌, refl, ap, ◌∙◌, subst, arith, eqb-false, drop-drop, address_after, Hart, Part, place_of, bundle_bytes, Piece, IsReading, rest_of, Place, breaks_ecall, breaks_reserved, breaks_access, breaks_jump, breaks_target, breaks_end, breaks_stack, ends_region, is_empty, lowest, all_rules, findings_from, Leaves, AreCleanBundles, StackInDataBefore, IsAtPlace, V3, V4, V5, V6, V7, V8, V10, length-drop}
+use Rattle.sfi_safety.proofs.Prelude.{◌≡◌, ◌≢◌, ℕ, ◌+◌, ◌*◌, ◌<◌, ◌≤◌, List, [], ◌∷◌, length, drop, Bool, true, false, not, ◌&&◌, ◌==◌, refl, ap, ◌∙◌, subst, arith, eqb-false, drop-drop, address_after, Hart, Part, bundle_place, bundle_bytes, Piece, IsReading, rest_of, Place, breaks_ecall, breaks_reserved, breaks_access, breaks_jump, breaks_target, breaks_end, breaks_stack, ends_region, is_empty, lowest, all_rules, findings_from, Leaves, AreCleanBundles, StackInDataBefore, IsAtPlace, V3, V4, V5, V6, V7, V8, V10, length-drop}
 use Rattle.sfi_rules.proofs.Lowest.{kept}
 use Rattle.sfi_rules.proofs.Readings.{spelled_within}
 use Rattle.sfi_image.proofs.Facts.{whole_bundles, code_ends}
@@ -23,7 +23,7 @@ keeps_rules x none =
 -- the place where the machine is
 abbrev pub place_here : (sandbox : ℕ) (p : Part) (h : Hart) → IsAtPlace sandbox p h → Place
 place_here sandbox p h at = record {
-  bundle = place_of sandbox p at.number;
+  bundle = bundle_place sandbox p at.number;
   address = p.code_base + 16 * at.number + at.offset;
   earlier = at.earlier;
   instr = at.here.instr;
@@ -33,7 +33,7 @@ place_here sandbox p h at = record {
 
 -- what is left after the instruction has no finding either
 later_clean : (sandbox : ℕ) (p : Part) (h : Hart) (at : IsAtPlace sandbox p h) → List Piece → Type 0
-later_clean sandbox p h at later = findings_from (place_of sandbox p at.number) true (p.code_base + 16 * at.number + at.offset + at.here.size) (at.here.instr ∷ at.earlier) later ≡ []
+later_clean sandbox p h at later = findings_from (bundle_place sandbox p at.number) true (p.code_base + 16 * at.number + at.offset + at.here.size) (at.here.instr ∷ at.earlier) later ≡ []
 
 clean_parts : (sandbox : ℕ) (p : Part) (h : Hart) (at : IsAtPlace sandbox p h) → (lowest (place_here sandbox p h at) all_rules ≡ []) × later_clean sandbox p h at at.later
 unfolding later_clean
@@ -103,7 +103,7 @@ module _ (sandbox : ℕ) (p : Part) (h h' : Hart) (clean : AreCleanBundles sandb
         later = later;
         reading = subst (λ (bytes : List ℕ). IsReading bytes (x ∷ later)) moved reading;
         whole = subst (λ (bytes : List ℕ). rest_of bytes (x ∷ later) ≡ []) moved (subst (λ (l : List Piece). rest_of (drop at.here.size (drop at.offset (bundle_bytes p b))) l ≡ []) is at.whole);
-        clean = subst (λ (n : ℕ). findings_from (place_of sandbox p b) true n (at.here.instr ∷ at.earlier) (x ∷ later) ≡ []) sum (subst (later_clean sandbox p h at) is (clean_parts sandbox p h at).1);
+        clean = subst (λ (n : ℕ). findings_from (bundle_place sandbox p b) true n (at.here.instr ∷ at.earlier) (x ∷ later) ≡ []) sum (subst (later_clean sandbox p h at) is (clean_parts sandbox p h at).1);
         pc = pc' ∙ (let e : address_after h.pc at.here.size ≡ p.code_base + 16 * b + (at.offset + at.here.size) = omega (arith, inside, pc, within, end) in e);
         first = λ none. absurd (let e : at.here.instr ∷ at.earlier ≡ [] = none in cc);
         leaves = leaves;

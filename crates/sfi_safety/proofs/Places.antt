@@ -1,5 +1,5 @@
 -- A hart at a bundle start is at that bundle's first piece, and the one instruction there is the reading's.
-use Rattle.sfi_safety.proofs.Prelude.{◌≡◌, ℕ, zero, suc, ◌+◌, ◌-◌, ◌*◌, ◌/◌, ◌%◌, ◌<◌, ◌≤◌, List, [], ◌∷◌, ◌++◌, length, take, drop, true, refl, sym, ap, ◌∙◌, subst, inl, inr, ⊎_elim, arith, add-zero, cases_lt, Spells, Bytes, Hart, Stands, Part, code_region, IsBundleStart, BundlePlace, Finding, place_of, bundle_bytes, Piece, IsReading, rest_of, is_empty, findings_from, rest_finding, AreReadingFindings, AreBundleFindings, AreFindingsOfFirst, StackInData, HasCode, AreCleanBundles, IsAtPlace, IsSafeState, length-take, length-drop, InCode}
+use Rattle.sfi_safety.proofs.Prelude.{◌≡◌, ℕ, zero, suc, ◌+◌, ◌-◌, ◌*◌, ◌/◌, ◌%◌, ◌<◌, ◌≤◌, List, [], ◌∷◌, ◌++◌, length, take, drop, true, refl, sym, ap, ◌∙◌, subst, inl, inr, ⊎_elim, arith, add-zero, cases_lt, Spells, Bytes, Hart, Stands, Part, code_region, IsBundleStart, BundlePlace, Finding, bundle_place, bundle_bytes, Piece, IsReading, rest_of, is_empty, findings_from, rest_finding, AreReadingFindings, AreBundleFindings, AreFindingsOfFirst, StackInData, HasCode, AreCleanBundles, IsAtPlace, IsSafeState, length-take, length-drop, InCode}
 use Rattle.sfi_rules.proofs.Readings.{spelled_within}
 use Rattle.std.proofs.lemmas.List.{take-take, drop-take, drop-drop}
 use Rattle.sfi_safety.proofs.PairResult.{leaves_nothing}
@@ -18,7 +18,7 @@ rest_is_none b at (low ∷ []) h = absurd cc
 rest_is_none b at (low ∷ high ∷ []) h = absurd cc
 rest_is_none b at (low ∷ high ∷ x ∷ rest) h = absurd cc
 
-clean_bundle : (sandbox : ℕ) (p : Part) (n : ℕ) (found : List Finding) → AreFindingsOfFirst sandbox p n found → found ≡ [] → (b : ℕ) → b < n → AreBundleFindings (place_of sandbox p b) (bundle_bytes p b) []
+clean_bundle : (sandbox : ℕ) (p : Part) (n : ℕ) (found : List Finding) → AreFindingsOfFirst sandbox p n found → found ≡ [] → (b : ℕ) → b < n → AreBundleFindings (bundle_place sandbox p b) (bundle_bytes p b) []
 clean_bundle sandbox p zero found h e b below = absurd (omega arith)
 clean_bundle sandbox p (suc n) found h e b below =
     let both = nothing_before h.0 h.1 (sym h.4 ∙ e) in
@@ -26,8 +26,8 @@ clean_bundle sandbox p (suc n) found h e b below =
     (λ (less : b < n). clean_bundle sandbox p n h.0 h.2 both.0 b less)
     (λ (more : n ≤ b).
     let at : n ≡ b = omega arith in
-    subst (λ m. AreBundleFindings (place_of sandbox p m) (bundle_bytes p m) []) at
-    (subst (λ (l : List Finding). AreBundleFindings (place_of sandbox p n) (bundle_bytes p n) l) both.1 h.3))
+    subst (λ m. AreBundleFindings (bundle_place sandbox p m) (bundle_bytes p m) []) at
+    (subst (λ (l : List Finding). AreBundleFindings (bundle_place sandbox p n) (bundle_bytes p n) l) both.1 h.3))
     (cases_lt b n)
 
 by_reading : (b : BundlePlace) (bytes : List ℕ) → AreBundleFindings b bytes [] → AreReadingFindings b bytes []
@@ -46,7 +46,7 @@ bundle_length p b within = simp (length-take, length-drop) (omega arith)
 
 -- a reading that leaves nothing has a first piece
 at_first : (sandbox : ℕ) (p : Part) (h : Hart) (b : ℕ) → 16 * b + 16 ≤ length p.code → h.pc ≡ p.code_base + 16 * b → length (bundle_bytes p b) ≡ 16
-    → StackInData p h.registers → (reading : List Piece) → IsReading (bundle_bytes p b) reading → rest_of (bundle_bytes p b) reading ≡ [] → findings_from (place_of sandbox p b) true (p.code_base + 16 * b) [] reading ≡ [] → IsAtPlace sandbox p h
+    → StackInData p h.registers → (reading : List Piece) → IsReading (bundle_bytes p b) reading → rest_of (bundle_bytes p b) reading ≡ [] → findings_from (bundle_place sandbox p b) true (p.code_base + 16 * b) [] reading ≡ [] → IsAtPlace sandbox p h
 at_first sandbox p h b within pc size stack [] is whole clean = absurd (let e = sym size ∙ ap length whole in omega arith)
 at_first sandbox p h b within pc size stack (here ∷ later) is whole clean = record {
   number = b;
@@ -57,7 +57,7 @@ at_first sandbox p h b within pc size stack (here ∷ later) is whole clean = re
   later = later;
   reading = is;
   whole = whole;
-  clean = subst (λ (n : ℕ). findings_from (place_of sandbox p b) true n [] (here ∷ later) ≡ []) (sym (add-zero (p.code_base + 16 * b))) clean;
+  clean = subst (λ (n : ℕ). findings_from (bundle_place sandbox p b) true n [] (here ∷ later) ≡ []) (sym (add-zero (p.code_base + 16 * b))) clean;
   pc = pc ∙ sym (add-zero (p.code_base + 16 * b));
   first = λ _. refl;
   leaves = leaves_nothing p h.registers;
@@ -78,8 +78,8 @@ at_start sandbox p h clean start stack =
     let pc : h.pc ≡ p.code_base + 16 * b = omega arith in
     let number : b < n = omega arith in
     let within : 16 * b + 16 ≤ length p.code = omega arith in
-    let found = by_reading (place_of sandbox p b) (bundle_bytes p b) (clean_bundle sandbox p n [] clean.none_found.2 refl b number) in
-    let all = all_clean (place_of sandbox p b) (bundle_bytes p b) found in
+    let found = by_reading (bundle_place sandbox p b) (bundle_bytes p b) (clean_bundle sandbox p n [] clean.none_found.2 refl b number) in
+    let all = all_clean (bundle_place sandbox p b) (bundle_bytes p b) found in
     at_first sandbox p h b within pc (bundle_length p b within) stack found.reading found.longest.is_reading all.0 all.1
 
 -- ---- the one instruction there

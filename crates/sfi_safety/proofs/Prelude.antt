@@ -28,7 +28,7 @@ pub use Rattle.sfi_image.specs.Regions.{IsBundleStart}
 pub use Rattle.sfi_image.specs.Spans.{code_region, AreApart, guarded_region}
 pub use Rattle.sfi_image.specs.Spelling.{Part, AreGateWords}
 pub use Rattle.sfi_image.specs.declared.part.Gate.{Gate}
-pub use Rattle.sfi_rules.specs.Bundles.{place_of, bundle_bytes}
+pub use Rattle.sfi_rules.specs.Bundles.{bundle_place, bundle_bytes}
 pub use Rattle.sfi_rules.specs.Findings.{AreBundleFindings, AreReadingFindings, AreFindings, AreFindingsInBundles, AreFindingsFrom, all_rules, lowest, findings_from, rest_finding, AreFindingsOfFirst}
 pub use Rattle.sfi_rules.specs.Readings.{Piece, rest_of, IsReading, IsLongestReading}
 pub use Rattle.sfi_rules.specs.Rules.{Place, is_empty, is_bundle_start, breaks_ecall, breaks_reserved, breaks_access, breaks_jump, breaks_target, breaks_stack, may_access, ends_region, breaks, breaks_end, may_write_stack}

@@ -1,5 +1,5 @@
 -- What the samples' bundles are read as, and the findings of a sample.
-use Rattle.sfi_safety.proofs.Prelude.{Format, Sfi1, Sfi2, Sfiw, Gate, is_gate_of, ◌≡◌, ℕ, suc, ◌+◌, ◌-◌, ◌*◌, ◌≤◌, List, [], ◌∷◌, ◌++◌, length, take, drop, true, false, refl, sym, ap, ◌∙◌, subst, inr, arith, get_or-take, false≢true, append-nil, Instr, Ebreak, spelling, InRange, Spells, OpImm, BundlePlace, Finding, place_of, bundle_bytes, Piece, IsReading, IsLongestReading, rest_of, is_empty, findings_from, rest_finding, AreBundleFindings, AreFindingsOfFirst, AreFindingsInBundles, Op, Store, pos, nat_lt, ◌&&◌, and_parts, ltb-true, ints, Ecall, Jalr, has_words, filter, breaks, all_rules, Addi, RegOp, Rule, w32, to_le_bytes, length-take}
+use Rattle.sfi_safety.proofs.Prelude.{Format, Sfi1, Sfi2, Sfiw, Gate, is_gate_of, ◌≡◌, ℕ, suc, ◌+◌, ◌-◌, ◌*◌, ◌≤◌, List, [], ◌∷◌, ◌++◌, length, take, drop, true, false, refl, sym, ap, ◌∙◌, subst, inr, arith, get_or-take, false≢true, append-nil, Instr, Ebreak, spelling, InRange, Spells, OpImm, BundlePlace, Finding, bundle_place, bundle_bytes, Piece, IsReading, IsLongestReading, rest_of, is_empty, findings_from, rest_finding, AreBundleFindings, AreFindingsOfFirst, AreFindingsInBundles, Op, Store, pos, nat_lt, ◌&&◌, and_parts, ltb-true, ints, Ecall, Jalr, has_words, filter, breaks, all_rules, Addi, RegOp, Rule, w32, to_le_bytes, length-take}
 use Rattle.rv_word.specs.declared.instr.StoreWidth.{StoreWidth}
 use Rattle.sfi_safety.specs.Samples.{Sample, sandbox, words_of, bytes_of, code_as}
 use Rattle.sfi_safety.proofs.Samples.{InBoth, of_both}
@@ -52,19 +52,19 @@ read_bundle b bytes reading rest found unlisted is left end e = inr (
 -- this is found in the bundle of that number, by its reading and what that leaves, in that format
 abbrev pub FoundIn : Sample → ℕ → List Piece → List ℕ → List Finding → Format → Type 0
 FoundIn s n reading rest found f =
-    let b = place_of 0 (sandbox (record s { format = f })) n in
+    let b = bundle_place 0 (sandbox (record s { format = f })) n in
     findings_from b (is_empty rest) b.address [] reading ++ rest_finding b (b.address + (length (bundle_bytes (sandbox s) n) - length rest)) rest ≡ found
 
-pub read_in_both : (s : Sample) (n : ℕ) (reading : List Piece) (rest : List ℕ) (found : List Finding) → has_words s.format ≡ false → (place_of 0 (sandbox s) n).listed ≡ false
-    → IsReading (bundle_bytes (sandbox s) n) reading → rest_of (bundle_bytes (sandbox s) n) reading ≡ rest → BeginsNothing rest → InBoth (FoundIn s n reading rest found) → AreBundleFindings (place_of 0 (sandbox s) n) (bundle_bytes (sandbox s) n) found
+pub read_in_both : (s : Sample) (n : ℕ) (reading : List Piece) (rest : List ℕ) (found : List Finding) → has_words s.format ≡ false → (bundle_place 0 (sandbox s) n).listed ≡ false
+    → IsReading (bundle_bytes (sandbox s) n) reading → rest_of (bundle_bytes (sandbox s) n) reading ≡ rest → BeginsNothing rest → InBoth (FoundIn s n reading rest found) → AreBundleFindings (bundle_place 0 (sandbox s) n) (bundle_bytes (sandbox s) n) found
 read_in_both s n reading rest found bundles unlisted is left end each =
-    read_bundle (place_of 0 (sandbox s) n) (bundle_bytes (sandbox s) n) reading rest found unlisted is left end (of_both (FoundIn s n reading rest found) each s.format bundles)
+    read_bundle (bundle_place 0 (sandbox s) n) (bundle_bytes (sandbox s) n) reading rest found unlisted is left end (of_both (FoundIn s n reading rest found) each s.format bundles)
 
 -- of the rules this alone is broken in it, after the instructions earlier, in that format
 abbrev pub BrokenIn : Sample → ℕ → List Piece → Rule → ℕ → List Instr → Instr → List Piece → Format → Type 0
 BrokenIn s n reading rule address earlier i later f =
     filter (λ r. breaks (record {
-      bundle = place_of 0 (sandbox (record s { format = f })) n;
+      bundle = bundle_place 0 (sandbox (record s { format = f })) n;
       address = address;
       earlier = earlier;
       instr = i;
@@ -132,7 +132,7 @@ module _ (format : Format) (gates : List Gate) (a b c d e f g h i j k l : ℕ) (
 
   -- a bundle of ebreaks there has no finding
   abbrev IsQuiet : ℕ → Format → Type 0
-  IsQuiet n x = findings_from (place_of 0 (sandbox (record s { format = x })) n) true (0x01000000 + 16 * n) [] (four Ebreak Ebreak Ebreak Ebreak) ≡ []
+  IsQuiet n x = findings_from (bundle_place 0 (sandbox (record s { format = x })) n) true (0x01000000 + 16 * n) [] (four Ebreak Ebreak Ebreak Ebreak) ≡ []
 
   in_each : (n : ℕ) (x : Format) → IsQuiet n Sfi1 → IsQuiet n Sfi2 → IsQuiet n Sfiw → IsQuiet n x
   in_each n Sfi1 one two three = one
@@ -140,9 +140,9 @@ module _ (format : Format) (gates : List Gate) (a b c d e f g h i j k l : ℕ) (
   in_each n Sfiw one two three = three
 
   pub quiet : (n : ℕ) → bytes_of (words_of (Ebreak ∷ Ebreak ∷ Ebreak ∷ Ebreak ∷ [])) ≡ bundle_bytes (sandbox s) (suc n) → IsQuiet (suc n) Sfi1 → IsQuiet (suc n) Sfi2 → IsQuiet (suc n) Sfiw
-      → AreBundleFindings (place_of 0 (sandbox s) (suc n)) (bundle_bytes (sandbox s) (suc n)) []
+      → AreBundleFindings (bundle_place 0 (sandbox s) (suc n)) (bundle_bytes (sandbox s) (suc n)) []
   quiet n bytes one two three =
-      four_words (place_of 0 (sandbox s) (suc n)) (bundle_bytes (sandbox s) (suc n)) Ebreak Ebreak Ebreak Ebreak [] (unlisted n) bytes ebreak_spelled ebreak_spelled ebreak_spelled ebreak_spelled (in_each (suc n) format one two three)
+      four_words (bundle_place 0 (sandbox s) (suc n)) (bundle_bytes (sandbox s) (suc n)) Ebreak Ebreak Ebreak Ebreak [] (unlisted n) bytes ebreak_spelled ebreak_spelled ebreak_spelled ebreak_spelled (in_each (suc n) format one two three)
 
   -- one bundle of ebreaks more
   more : (n : ℕ) (found : List Finding) → bytes_of (words_of (Ebreak ∷ Ebreak ∷ Ebreak ∷ Ebreak ∷ [])) ≡ bundle_bytes (sandbox s) (suc n) → IsQuiet (suc n) Sfi1 → IsQuiet (suc n) Sfi2 → IsQuiet (suc n) Sfiw
@@ -150,8 +150,8 @@ module _ (format : Format) (gates : List Gate) (a b c d e f g h i j k l : ℕ) (
   more n found bytes one two three before = (found, [], before, quiet n bytes one two three, sym (append-nil found))
 
   -- the findings of a sample are those of its first two bundles and of its last one
-  pub all_findings : (x y z : List Finding) → AreBundleFindings (place_of 0 (sandbox s) 0) (bundle_bytes (sandbox s) 0) x → AreBundleFindings (place_of 0 (sandbox s) 1) (bundle_bytes (sandbox s) 1) y
-      → AreBundleFindings (place_of 0 (sandbox s) 15) (bundle_bytes (sandbox s) 15) z → AreFindingsInBundles 0 (sandbox s) ((x ++ y) ++ z)
+  pub all_findings : (x y z : List Finding) → AreBundleFindings (bundle_place 0 (sandbox s) 0) (bundle_bytes (sandbox s) 0) x → AreBundleFindings (bundle_place 0 (sandbox s) 1) (bundle_bytes (sandbox s) 1) y
+      → AreBundleFindings (bundle_place 0 (sandbox s) 15) (bundle_bytes (sandbox s) 15) z → AreFindingsInBundles 0 (sandbox s) ((x ++ y) ++ z)
   all_findings x y z first second last =
       let at2 : AreFindingsOfFirst 0 (sandbox s) 2 (x ++ y) = (x, y, ([], x, refl, first, refl), second, refl) in
       let at4 = more 2 (x ++ y) refl refl refl refl (more 1 (x ++ y) refl refl refl refl at2) in
@@ -169,21 +169,21 @@ module _ (format : Format) (a b c d e f g h : Instr) where
   is = code_as format (a ∷ b ∷ c ∷ d ∷ e ∷ f ∷ g ∷ h ∷ [])
 
   pub code_findings : (x y : List Finding) → IsSpelled a → IsSpelled b → IsSpelled c → IsSpelled d → IsSpelled e → IsSpelled f → IsSpelled g → IsSpelled h
-      → findings_from (place_of 0 (sandbox is) 0) true 0x01000000 [] (four a b c d) ≡ x → findings_from (place_of 0 (sandbox is) 1) true 0x01000010 [] (four e f g h) ≡ y → AreFindingsInBundles 0 (sandbox is) (x ++ y)
+      → findings_from (bundle_place 0 (sandbox is) 0) true 0x01000000 [] (four a b c d) ≡ x → findings_from (bundle_place 0 (sandbox is) 1) true 0x01000010 [] (four e f g h) ≡ y → AreFindingsInBundles 0 (sandbox is) (x ++ y)
   code_findings x y sa sb sc sd se sf sg sh first second =
       let last = spelling Ebreak in
       subst (AreFindingsInBundles 0 (sandbox is)) (append-nil (x ++ y))
       (all_findings format [] (spelling a) (spelling b) (spelling c) (spelling d) (spelling e) (spelling f) (spelling g) (spelling h) last last last last none_listed x y []
-      (four_words (place_of 0 (sandbox is) 0) (bundle_bytes (sandbox is) 0) a b c d x refl refl sa sb sc sd first)
-      (four_words (place_of 0 (sandbox is) 1) (bundle_bytes (sandbox is) 1) e f g h y refl refl se sf sg sh second)
+      (four_words (bundle_place 0 (sandbox is) 0) (bundle_bytes (sandbox is) 0) a b c d x refl refl sa sb sc sd first)
+      (four_words (bundle_place 0 (sandbox is) 1) (bundle_bytes (sandbox is) 1) e f g h y refl refl se sf sg sh second)
       (quiet format [] (spelling a) (spelling b) (spelling c) (spelling d) (spelling e) (spelling f) (spelling g) (spelling h) last last last last none_listed 14 refl refl refl refl))
 
   -- the first bundle's, or the second's, in that format
   abbrev First : List Finding → Format → Type 0
-  First x u = findings_from (place_of 0 (sandbox (record is { format = u })) 0) true 0x01000000 [] (four a b c d) ≡ x
+  First x u = findings_from (bundle_place 0 (sandbox (record is { format = u })) 0) true 0x01000000 [] (four a b c d) ≡ x
 
   abbrev Second : List Finding → Format → Type 0
-  Second y u = findings_from (place_of 0 (sandbox (record is { format = u })) 1) true 0x01000010 [] (four e f g h) ≡ y
+  Second y u = findings_from (bundle_place 0 (sandbox (record is { format = u })) 1) true 0x01000010 [] (four e f g h) ≡ y
 
   -- in either format whose code is in bundles
   pub found_in_both : has_words format ≡ false → (x y : List Finding) → IsSpelled a → IsSpelled b → IsSpelled c → IsSpelled d → IsSpelled e → IsSpelled f → IsSpelled g → IsSpelled h

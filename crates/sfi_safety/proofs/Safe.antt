@@ -12,7 +12,7 @@ use Rattle.sfi_safety.proofs.TurnInvariant.{bundles_run, bundles_call}
 clean_bundles : (sandbox : ℕ) (p : Part) → IsCleanPart sandbox p → has_words p.format ≡ false → AreCleanBundles sandbox p
 clean_bundles sandbox p clean none = record { bundles = none; right = clean.right; apart = clean.apart; none_found = in_bundles sandbox p [] none clean.none_found }
 
-clean_words : (sandbox : ℕ) (p : Part) → IsCleanPart sandbox p → has_words p.format ≡ true → words.IsCleanPart p
+clean_words : (sandbox : ℕ) (p : Part) → IsCleanPart sandbox p → has_words p.format ≡ true → words.IsCleanInWords p
 clean_words sandbox p clean has = record {
   words = has;
   right = clean.right;
@@ -21,7 +21,7 @@ clean_words sandbox p clean has = record {
 }
 
 -- what holds in bundles and in words holds in any format
-in_any : (Q : Part → Type 0) → ((sandbox : ℕ) (p : Part) → AreCleanBundles sandbox p → Q p) → ((p : Part) → words.IsCleanPart p → Q p) → (sandbox : ℕ) (p : Part) → IsCleanPart sandbox p → Q p
+in_any : (Q : Part → Type 0) → ((sandbox : ℕ) (p : Part) → AreCleanBundles sandbox p → Q p) → ((p : Part) → words.IsCleanInWords p → Q p) → (sandbox : ℕ) (p : Part) → IsCleanPart sandbox p → Q p
 in_any Q of_bundles of_words sandbox p clean = by (has_words p.format) refl
   where
     by : (b : Bool) → has_words p.format ≡ b → Q p

@@ -1,5 +1,5 @@
 -- One step from a good state is safe, and leads to a good state.
-use Rattle.sfi_safety.proofs.Prelude.{◌≡◌, ℕ, ◌+◌, ◌*◌, ◌^◌, ◌<◌, ◌≤◌, ◌⊎◌, List, [], ◌∷◌, length, true, refl, sym, ap, ◌∙◌, subst, arith, add-zero, false≢true, Instr, Next, Call, Trap, Accesses, State, Stepped, Stands, IsStep, effect, Part, place_of, is_empty, InData, InGuard, IsGate, after_step, IsSafeStep, AreCleanBundles, IsGood, IsGoodIf, Outcome}
+use Rattle.sfi_safety.proofs.Prelude.{◌≡◌, ℕ, ◌+◌, ◌*◌, ◌^◌, ◌<◌, ◌≤◌, ◌⊎◌, List, [], ◌∷◌, length, true, refl, sym, ap, ◌∙◌, subst, arith, add-zero, false≢true, Instr, Next, Call, Trap, Accesses, State, Stepped, Stands, IsStep, effect, Part, bundle_place, is_empty, InData, InGuard, IsGate, after_step, IsSafeStep, AreCleanBundles, IsGood, IsGoodIf, Outcome}
 use Rattle.sfi_safety.proofs.Places.{pc_in_code, present, at_start}
 use Rattle.sfi_safety.proofs.NextPlace.{place_here, rules_kept, goes_on}
 use Rattle.sfi_safety.proofs.Effects.{Here, Leads, accesses_near, leads}
@@ -48,7 +48,7 @@ module _ (sandbox : ℕ) (p : Part) (s : State) (clean : AreCleanBundles sandbox
         gate = λ e listed.
             let first : p.code_base + 16 * at.number ≡ s.hart.pc = sym (at.pc ∙ ap (λ (n : ℕ). p.code_base + 16 * at.number + n) (at.first (no_earlier at.earlier e)) ∙ add-zero (p.code_base + 16 * at.number)) in
             subst (λ (a : ℕ). IsGate p a) first (gate_of p.gates (p.code_base + 16 * at.number) listed);
-        is_start = λ a is. (same_bundle_starts (place_of sandbox p at.number) a).0 is;
+        is_start = λ a is. (same_bundle_starts (bundle_place sandbox p at.number) a).0 is;
         goes = λ h' pc goes leaves stack. goes_on sandbox p s.hart h' clean at pc goes leaves stack;
         start = λ h' start stack. at_start sandbox p h' clean start stack;
       }

@@ -1,5 +1,5 @@
 -- That some rules are stricter than safety asks: code that stops at each bundle start is safe, whatever stands after that.
-use Rattle.sfi_safety.proofs.Prelude.{false, has_words, ◌≡◌, ℕ, zero, suc, ◌+◌, ◌-◌, ◌*◌, ◌/◌, ◌<◌, List, [], ◌∷◌, take, drop, Some, refl, sym, ap, ◌∙◌, subst, arith, Instr, Ecall, Ebreak, spelling, Spells, Sfi1, Accesses, State, Stepped, Stands, IsStep, effect, Call, Trap, Finding, place_of, bundle_bytes, HasCode, Turn, Steps, Replies, Changes, IsRun, IsEntry, after_step, IsSafeState, IsSafeStep, IsSafeRun, RunsSafely, IsStricter, ⊎_elim, cases_lt, ◌≤◌, V1, V2, V3, V8}
+use Rattle.sfi_safety.proofs.Prelude.{false, has_words, ◌≡◌, ℕ, zero, suc, ◌+◌, ◌-◌, ◌*◌, ◌/◌, ◌<◌, List, [], ◌∷◌, take, drop, Some, refl, sym, ap, ◌∙◌, subst, arith, Instr, Ecall, Ebreak, spelling, Spells, Sfi1, Accesses, State, Stepped, Stands, IsStep, effect, Call, Trap, Finding, bundle_place, bundle_bytes, HasCode, Turn, Steps, Replies, Changes, IsRun, IsEntry, after_step, IsSafeState, IsSafeStep, IsSafeRun, RunsSafely, IsStricter, ⊎_elim, cases_lt, ◌≤◌, V1, V2, V3, V8}
 use Rattle.sfi_safety.specs.Samples.{Sample, sandbox, nop, undecodable_after_ebreak, crossing_after_ebreak, ecall_after_ebreak, nops_after_ebreak}
 use Rattle.rv_step.specs.declared.outcome.Cause.TheVariants as cause
 use Rattle.sfi_safety.proofs.Readings.{ebreak_spelled, read_bundle, four_words, code_findings, all_findings, quiet, none_listed, wide, ecall_spelled}
@@ -120,7 +120,7 @@ undecodable_stricter =
     record {
       refused = refused s is x
           (all_findings Sfi1 [] brk 0xffffffff brk brk brk brk brk brk brk brk brk brk none_listed (x ∷ []) [] []
-          (read_bundle (place_of 0 (sandbox s) 0) bytes (wide Ebreak ∷ []) (drop 4 bytes) (x ∷ []) refl (ebreak_spelled, tt) refl (ones_begin_nothing (drop 8 bytes)) refl)
+          (read_bundle (bundle_place 0 (sandbox s) 0) bytes (wide Ebreak ∷ []) (drop 4 bytes) (x ∷ []) refl (ebreak_spelled, tt) refl (ones_begin_nothing (drop 8 bytes)) refl)
           (quiet Sfi1 [] brk 0xffffffff brk brk brk brk brk brk brk brk brk brk none_listed 0 refl refl refl refl)
           (quiet Sfi1 [] brk 0xffffffff brk brk brk brk brk brk brk brk brk brk none_listed 14 refl refl refl refl));
       safe = stopping_is_safe s is refl (stops 0xffffffff brk brk brk brk brk brk brk brk);
@@ -135,7 +135,7 @@ crossing_stricter =
     record {
       refused = refused s is x
           (all_findings Sfi1 [] brk n n 0x20230001 brk brk brk brk brk brk brk brk none_listed (x ∷ []) [] []
-          (read_bundle (place_of 0 (sandbox s) 0) (bundle_bytes (sandbox s) 0) (wide Ebreak ∷ wide nop ∷ wide nop ∷ record { instr = nop; size = 2 } ∷ []) (0x23 ∷ 0x20 ∷ []) (x ∷ []) refl
+          (read_bundle (bundle_place 0 (sandbox s) 0) (bundle_bytes (sandbox s) 0) (wide Ebreak ∷ wide nop ∷ wide nop ∷ record { instr = nop; size = 2 } ∷ []) (0x23 ∷ 0x20 ∷ []) (x ∷ []) refl
           (ebreak_spelled, (nop_spelled, (nop_spelled, (short_nop, tt)))) refl (half_begins_nothing) refl)
           (quiet Sfi1 [] brk n n 0x20230001 brk brk brk brk brk brk brk brk none_listed 0 refl refl refl refl)
           (quiet Sfi1 [] brk n n 0x20230001 brk brk brk brk brk brk brk brk none_listed 14 refl refl refl refl));
@@ -162,8 +162,8 @@ nops_stricter =
     record {
       refused = refused s is x
           (all_findings Sfi1 [] brk brk brk brk brk brk brk brk brk n n n none_listed [] [] (x ∷ [])
-          (four_words (place_of 0 (sandbox s) 0) (bundle_bytes (sandbox s) 0) Ebreak Ebreak Ebreak Ebreak [] refl refl ebreak_spelled ebreak_spelled ebreak_spelled ebreak_spelled refl)
+          (four_words (bundle_place 0 (sandbox s) 0) (bundle_bytes (sandbox s) 0) Ebreak Ebreak Ebreak Ebreak [] refl refl ebreak_spelled ebreak_spelled ebreak_spelled ebreak_spelled refl)
           (quiet Sfi1 [] brk brk brk brk brk brk brk brk brk n n n none_listed 0 refl refl refl refl)
-          (four_words (place_of 0 (sandbox s) 15) (bundle_bytes (sandbox s) 15) Ebreak nop nop nop (x ∷ []) refl refl ebreak_spelled nop_spelled nop_spelled nop_spelled refl));
+          (four_words (bundle_place 0 (sandbox s) 15) (bundle_bytes (sandbox s) 15) Ebreak nop nop nop (x ∷ []) refl refl ebreak_spelled nop_spelled nop_spelled nop_spelled refl));
       safe = stopping_is_safe s is refl (stops brk brk brk brk brk brk n n n);
     }

@@ -1,5 +1,5 @@
 -- What the words of the samples in words are read as, and the findings of such a sample.
-use Rattle.sfi_safety.proofs.Prelude.{◌≡◌, ℕ, suc, ◌+◌, ◌-◌, ◌*◌, ◌==◌, Bool, List, [], ◌∷◌, ◌++◌, length, take, drop, filter, replicate, cond, Some, None, refl, sym, ap, ◌∙◌, subst, append-nil, add-zero, Instr, Ebreak, spelling, Sfiw, BundlePlace, Finding, place_of, bundle_bytes, Piece, IsReading, IsLongestReading, rest_of, is_empty, rest_finding, all_rules, w32, to_le_bytes, Nothing, Rule, V8, IsOwedBefore, BreaksAloneInWord, Sample, sandbox, words_of, bytes_of}
+use Rattle.sfi_safety.proofs.Prelude.{◌≡◌, ℕ, suc, ◌+◌, ◌-◌, ◌*◌, ◌==◌, Bool, List, [], ◌∷◌, ◌++◌, length, take, drop, filter, replicate, cond, Some, None, refl, sym, ap, ◌∙◌, subst, append-nil, add-zero, Instr, Ebreak, spelling, Sfiw, BundlePlace, Finding, bundle_place, bundle_bytes, Piece, IsReading, IsLongestReading, rest_of, is_empty, rest_finding, all_rules, w32, to_le_bytes, Nothing, Rule, V8, IsOwedBefore, BreaksAloneInWord, Sample, sandbox, words_of, bytes_of}
 use Rattle.std.proofs.Math.Bool.{and-false}
 use Rattle.sfi_rules.specs.declared.owed.Owed.{Owed}
 use Rattle.sfi_rules.specs.words.Owing.{owed_next}
@@ -32,7 +32,7 @@ module _ (s : Sample) (number word : ℕ) (owed : Owed) (i : Instr) (is : IsSpel
   abbrev at : ℕ
   at = 0x01000000 + 16 * number + 4 * word
 
-  pub alone : (rule : Rule) → filter (λ r. breaks (record { bundle = place_of 0 (sandbox s) number; address = at; owed = owed; instr = i; size = 4 }) r) all_rules ≡ rule ∷ [] → BreaksAloneInWord rule at (sandbox s)
+  pub alone : (rule : Rule) → filter (λ r. breaks (record { bundle = bundle_place 0 (sandbox s) number; address = at; owed = owed; instr = i; size = 4 }) r) all_rules ≡ rule ∷ [] → BreaksAloneInWord rule at (sandbox s)
   alone rule broken = record {
     number = number;
     word = word;
@@ -70,10 +70,10 @@ module _ (a b c d i j k l : ℕ) where
 
   -- one bundle of ebreaks more
   more : (n : ℕ) (found : List Finding) → bytes_of (words_of (replicate 4 Ebreak)) ≡ bundle_bytes (sandbox s) n → AreFoundOfFirst 0 (sandbox s) n found Nothing → AreFoundOfFirst 0 (sandbox s) (suc n) found Nothing
-  more n found bytes before = (found, [], Nothing, before, subst (λ (l : List ℕ). AreFoundInBundle (place_of 0 (sandbox s) n) Nothing l [] Nothing) bytes (ebreaks_found (place_of 0 (sandbox s) n)), sym (append-nil found))
+  more n found bytes before = (found, [], Nothing, before, subst (λ (l : List ℕ). AreFoundInBundle (bundle_place 0 (sandbox s) n) Nothing l [] Nothing) bytes (ebreaks_found (bundle_place 0 (sandbox s) n)), sym (append-nil found))
 
   -- all bundles but the last have the findings of the first
-  pub before_last : (x : List Finding) → AreFoundInBundle (place_of 0 (sandbox s) 0) Nothing (bundle_bytes (sandbox s) 0) x Nothing → AreFoundOfFirst 0 (sandbox s) 15 x Nothing
+  pub before_last : (x : List Finding) → AreFoundInBundle (bundle_place 0 (sandbox s) 0) Nothing (bundle_bytes (sandbox s) 0) x Nothing → AreFoundOfFirst 0 (sandbox s) 15 x Nothing
   before_last x first =
       let at1 : AreFoundOfFirst 0 (sandbox s) 1 x Nothing = ([], x, Nothing, (refl, refl), first, refl) in
       let at4 = more 3 x refl (more 2 x refl (more 1 x refl at1)) in
@@ -82,20 +82,20 @@ module _ (a b c d i j k l : ℕ) where
       more 14 x refl (more 13 x refl (more 12 x refl at12))
 
   -- so all have those of the first and of the last
-  pub all_found : (x z : List Finding) (next : Owed) → AreFoundInBundle (place_of 0 (sandbox s) 0) Nothing (bundle_bytes (sandbox s) 0) x Nothing → AreFoundInBundle (place_of 0 (sandbox s) 15) Nothing (bundle_bytes (sandbox s) 15) z next
+  pub all_found : (x z : List Finding) (next : Owed) → AreFoundInBundle (bundle_place 0 (sandbox s) 0) Nothing (bundle_bytes (sandbox s) 0) x Nothing → AreFoundInBundle (bundle_place 0 (sandbox s) 15) Nothing (bundle_bytes (sandbox s) 15) z next
       → AreFindingsInWords 0 (sandbox s) (x ++ z)
   all_found x z next first last = (16, next, refl, (x, z, Nothing, before_last x first, last, refl))
 
 -- those of the first, where the last is ebreaks
-pub first_found : (a b c d : ℕ) (x : List Finding) → AreFoundInBundle (place_of 0 (sandbox (s a b c d brk brk brk brk)) 0) Nothing (bundle_bytes (sandbox (s a b c d brk brk brk brk)) 0) x Nothing → AreFindingsInWords 0 (sandbox (s a b c d brk brk brk brk)) x
+pub first_found : (a b c d : ℕ) (x : List Finding) → AreFoundInBundle (bundle_place 0 (sandbox (s a b c d brk brk brk brk)) 0) Nothing (bundle_bytes (sandbox (s a b c d brk brk brk brk)) 0) x Nothing → AreFindingsInWords 0 (sandbox (s a b c d brk brk brk brk)) x
 first_found a b c d x first =
     let p = sandbox (s a b c d brk brk brk brk) in
-    subst (AreFindingsInWords 0 p) (append-nil x) (all_found a b c d brk brk brk brk x [] Nothing first (ebreaks_found (place_of 0 p 15)))
+    subst (AreFindingsInWords 0 p) (append-nil x) (all_found a b c d brk brk brk brk x [] Nothing first (ebreaks_found (bundle_place 0 p 15)))
 
 -- where that is of four instructions, they are those at these
 module _ (a b c d : Instr) (sa : IsSpelled a) (sb : IsSpelled b) (sc : IsSpelled c) (sd : IsSpelled d) where
   abbrev place : BundlePlace
-  place = place_of 0 (sandbox (in_words (a ∷ b ∷ c ∷ d ∷ []))) 0
+  place = bundle_place 0 (sandbox (in_words (a ∷ b ∷ c ∷ d ∷ []))) 0
 
   pub code_found : (n1 n2 n3 : Owed) (fa fb fc fd : List Finding) → found_from place 0x01000000 Nothing (wide a ∷ []) ≡ fa → owed_next Nothing a ≡ n1 → found_from place 0x01000004 n1 (wide b ∷ []) ≡ fb → owed_next n1 b ≡ n2
       → found_from place 0x01000008 n2 (wide c ∷ []) ≡ fc → owed_next n2 c ≡ n3 → found_from place 0x0100000c n3 (wide d ∷ []) ≡ fd → owed_next n3 d ≡ Nothing

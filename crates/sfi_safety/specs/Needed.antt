@@ -9,7 +9,7 @@ use Rattle.sfi_image.specs.Images.{IsImage}
 use Rattle.sfi_image.specs.Spelling.{Part, spelling}
 use Rattle.sfi_rules.specs.declared.rule.Rule.{Rule}
 use Rattle.sfi_rules.specs.declared.rule.Rule.TheVariants.{V1, V2, V9, V10}
-use Rattle.sfi_rules.specs.Bundles.{place_of, bundle_bytes}
+use Rattle.sfi_rules.specs.Bundles.{bundle_place, bundle_bytes}
 use Rattle.sfi_rules.specs.Readings.{Piece, IsLongestReading, rest_of}
 use Rattle.sfi_rules.specs.Rules.{breaks, is_empty}
 use Rattle.sfi_rules.specs.declared.finding.Finding.{Finding}
@@ -44,7 +44,7 @@ pub record BreaksAloneInBundle (rule : Rule) (address : ℕ) (p : Part) : Type 0
   pub address_is : address ≡ p.code_base + bundle_size * number + sum_by (λ x. x.size) earlier
   pub broken :
       filter (λ r. breaks (record {
-        bundle = place_of 0 p number;
+        bundle = bundle_place 0 p number;
         address = address;
         earlier = map (λ x. x.instr) earlier;
         instr = here.instr;
@@ -59,7 +59,7 @@ pub record IsOwedBefore (p : Part) (number word : ℕ) (owed : Owed) : Type 0 wh
   pub front_found : AreFoundOfFirst 0 p number front between
   pub found : List Finding  -- those of the words before it in its bundle
   pub words_found :
-      AreFoundInWords (place_of 0 p number) between (bundle_bytes p number) word found owed
+      AreFoundInWords (bundle_place 0 p number) between (bundle_bytes p number) word found owed
 
 -- The instruction at this address is one of its word's longest reading,
 -- and it breaks this rule of code in words and no other.
@@ -77,7 +77,7 @@ pub record BreaksAloneInWord (rule : Rule) (address : ℕ) (p : Part) : Type 0 w
       ≡ p.code_base + bundle_size * number + word_size * word + sum_by (λ x. x.size) earlier
   pub broken :
       filter (λ r. words.breaks (record {
-        bundle = place_of 0 p number;
+        bundle = bundle_place 0 p number;
         address = address;
         owed = owed_past owed earlier;
         instr = here.instr;

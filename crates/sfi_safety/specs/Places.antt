@@ -9,7 +9,7 @@ use Rattle.sfi_policy.specs.Limits.{bundle_size}
 use Rattle.sfi_image.specs.Spelling.{Part}
 use Rattle.sfi_image.specs.Spans.{AreApart, code_region, guarded_region}
 use Rattle.sfi_image.specs.Parts.{IsRightPart}
-use Rattle.sfi_rules.specs.Bundles.{place_of, bundle_bytes}
+use Rattle.sfi_rules.specs.Bundles.{bundle_place, bundle_bytes}
 use Rattle.sfi_rules.specs.Readings.{Piece, IsReading, rest_of}
 use Rattle.sfi_rules.specs.Stack.{begins_pair, ends_pair}
 use Rattle.sfi_rules.specs.Findings.{findings_from, AreFindings, AreFindingsInBundles}
@@ -54,7 +54,7 @@ pub record IsAtPlace (sandbox : ℕ) (p : Part) (h : Hart) : Type 0 where
   pub later : List Piece
   pub reading : IsReading (drop offset (bundle_bytes p number)) (here ∷ later)
   pub whole : rest_of (drop offset (bundle_bytes p number)) (here ∷ later) ≡ []
-  pub clean : findings_from (place_of sandbox p number) true
+  pub clean : findings_from (bundle_place sandbox p number) true
       (p.code_base + bundle_size * number + offset) earlier (here ∷ later) ≡ []
   pub pc : h.pc ≡ p.code_base + bundle_size * number + offset
   pub first : earlier ≡ [] → offset ≡ 0

@@ -1,5 +1,5 @@
 -- A part's code from gate to gate: each stretch begins at one, but the first, and no gate lies within.
-use Rattle.sfi_scan.proofs.Prelude.{◌++◌, bundle_bytes, ◌≡◌, ℕ, zero, suc, ◌+◌, ◌-◌, ◌*◌, ◌<◌, ◌≤◌, ◌==◌, ◌⊎◌, Bool, true, false, List, [], ◌∷◌, length, take, drop, get_or, inl, inr, refl, sym, ap, ◌∙◌, subst, arith, ne_eqb, length-drop, length-take, BundlePlace, Finding, Part, place_of, block_bundle, eq-eqb, ◌/◌, Owed, Nothing, AreFoundUpTo, stretch_place}
+use Rattle.sfi_scan.proofs.Prelude.{◌++◌, bundle_bytes, ◌≡◌, ℕ, zero, suc, ◌+◌, ◌-◌, ◌*◌, ◌<◌, ◌≤◌, ◌==◌, ◌⊎◌, Bool, true, false, List, [], ◌∷◌, length, take, drop, get_or, inl, inr, refl, sym, ap, ◌∙◌, subst, arith, ne_eqb, length-drop, length-take, BundlePlace, Finding, Part, bundle_place, block_bundle, eq-eqb, ◌/◌, Owed, Nothing, AreFoundUpTo, stretch_place}
 use Rattle.std.proofs.lemmas.List.{get_or_default}
 use Rattle.std.proofs.lemmas.Bool.{or_right}
 use Rattle.sfi_image.specs.Gates.{is_gate_of}
@@ -36,7 +36,7 @@ pub record IsAtGate (sandbox : ℕ) (p : Part) (i : ℕ) (b : BundlePlace) (at :
   pub bundles : ℕ
   pub at_is : at ≡ 16 * bundles
   pub inside : at < length p.code
-  pub place_is : b ≡ record (place_of sandbox p bundles) { listed = b.listed }
+  pub place_is : b ≡ record (bundle_place sandbox p bundles) { listed = b.listed }
   pub last : ((i ≡ 0) × (at ≡ 0) × (b.listed ≡ false)) ⊎ ((j : ℕ) × (i ≡ j + 1) × (j < length p.gates) × (b.listed ≡ true) × ((d : Gate) → (get_or p.gates j d).address ≡ p.code_base + at))
   pub found_are : lacks ≡ false → AreFoundUpTo sandbox p bundles found owed
 
@@ -72,18 +72,18 @@ module _ {sandbox : ℕ} {p : Part} {i : ℕ} {b : BundlePlace} {at end n : ℕ}
       ]
 
   -- the stretch's places are those of the part
-  places : (m : ℕ) → m < n → stretch_place b m ≡ place_of sandbox p (here.bundles + m)
+  places : (m : ℕ) → m < n → stretch_place b m ≡ bundle_place sandbox p (here.bundles + m)
   places zero less =
       let listed = at_begin less ∙ ap (λ (x : ℕ). is_gate_of p.gates (p.code_base + x)) here.at_is in
-      here.place_is ∙ ap (λ (l : Bool). record (place_of sandbox p here.bundles) { listed = l }) listed ∙ ap (place_of sandbox p) (let e : here.bundles ≡ here.bundles + 0 = omega arith in e)
+      here.place_is ∙ ap (λ (l : Bool). record (bundle_place sandbox p here.bundles) { listed = l }) listed ∙ ap (bundle_place sandbox p) (let e : here.bundles ≡ here.bundles + 0 = omega arith in e)
   places (suc m) less =
       let at_is = here.at_is in
       let address : p.code_base + 16 * here.bundles + 16 * suc m ≡ p.code_base + 16 * (here.bundles + suc m) = omega arith in
       let gate : p.code_base + at + 16 * suc m ≡ p.code_base + 16 * (here.bundles + suc m) = omega arith in
       let free = ap (is_gate_of p.gates) (sym gate) ∙ between (suc m) (omega arith) less in
       ap (λ (x : BundlePlace). stretch_place x (suc m)) here.place_is
-      ∙ ap (λ (a : ℕ). record (place_of sandbox p here.bundles) { address = a; listed = false }) address
-      ∙ ap (λ (l : Bool). record (place_of sandbox p (here.bundles + suc m)) { listed = l }) (sym free)
+      ∙ ap (λ (a : ℕ). record (bundle_place sandbox p here.bundles) { address = a; listed = false }) address
+      ∙ ap (λ (l : Bool). record (bundle_place sandbox p (here.bundles + suc m)) { listed = l }) (sym free)
 
   -- its bytes
   pub next_stretch : IsStretch b (take (end - at) (drop at p.code)) n
@@ -188,21 +188,21 @@ module _ {sandbox : ℕ} {p : Part} {i : ℕ} {b : BundlePlace} {at : ℕ} {foun
         bundles = here.bundles + n;
         at_is = omega arith;
         inside = omega arith;
-        place_is = place ∙ ap (λ (x : BundlePlace). record x { address = a; listed = true }) here.place_is ∙ ap (λ (x : ℕ). record (place_of sandbox p 0) { address = x; listed = true }) address
-            ∙ ap (λ (l : Bool). record (place_of sandbox p (here.bundles + n)) { listed = l }) (sym (ap (λ (x : BundlePlace). x.listed) place));
+        place_is = place ∙ ap (λ (x : BundlePlace). record x { address = a; listed = true }) here.place_is ∙ ap (λ (x : ℕ). record (bundle_place sandbox p 0) { address = x; listed = true }) address
+            ∙ ap (λ (l : Bool). record (bundle_place sandbox p (here.bundles + n)) { listed = l }) (sym (ap (λ (x : BundlePlace). x.listed) place));
         last = inr (i, on, omega (arith, ap length same, less), ap (λ (x : BundlePlace). x.listed) place, λ d. is_at less d ∙ (let e : a ≡ p.code_base + end = omega arith in e));
         found_are = next_found right here next_is more next_owed are lists;
       }
 
 -- at first
-pub at_first : (sandbox : ℕ) (p : Part) → IsRightPart p → IsAtGate sandbox p 0 (record (place_of sandbox p 0) { address = p.code_base; listed = false }) 0 [] Nothing false
+pub at_first : (sandbox : ℕ) (p : Part) → IsRightPart p → IsAtGate sandbox p 0 (record (bundle_place sandbox p 0) { address = p.code_base; listed = false }) 0 [] Nothing false
 at_first sandbox p right =
     let least = right.code_placed.at_least in
     record {
       bundles = 0;
       at_is = refl;
       inside = omega arith;
-      place_is = ap (λ (a : ℕ). record (place_of sandbox p 0) { address = a; listed = false }) (let e : p.code_base ≡ p.code_base + 16 * 0 = omega arith in e);
+      place_is = ap (λ (a : ℕ). record (bundle_place sandbox p 0) { address = a; listed = false }) (let e : p.code_base ≡ p.code_base + 16 * 0 = omega arith in e);
       last = inl (refl, refl, refl);
       found_are = λ has. none_found sandbox p;
     }

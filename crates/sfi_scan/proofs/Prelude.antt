@@ -18,7 +18,7 @@ pub use Rattle.sfi_policy.specs.Formats.{has_stack, is_stack}
 pub use Rattle.sfi_policy.specs.Registers.{is_reserved, stack_pointer, is_data_register}
 pub use Rattle.sfi_image.specs.Spelling.{Part, view}
 pub use Rattle.sfi_masks.specs.Masks.{is_in, AreMasks, IsFreeAccess, may_write, is_free, IsFreeHalf, IsFreeWord}
-pub use Rattle.sfi_rules.specs.Bundles.{place_of, bundle_bytes, block_bundle, bundle_at, IsWithinBlock, IsWithin}
+pub use Rattle.sfi_rules.specs.Bundles.{bundle_place, bundle_bytes, block_bundle, bundle_at, IsWithinBlock, IsWithin}
 pub use Rattle.sfi_rules.specs.Findings.{broken, lowest, all_rules, rule_of_length, findings_from, rest_finding, AreReadingFindings, AreBundleFindings, AreFindingsOfFirst, AreFoundUpTo}
 pub use Rattle.sfi_rules.specs.Pairs.{follows_data_pair, follows_pair, follows_code_pair}
 pub use Rattle.sfi_rules.specs.Readings.{Piece, IsReading, IsLongestReading, rest_of}

@@ -1,6 +1,6 @@
 -- Stretches of bundles: their parts, and the findings of one after another.
 use Rattle.std.specs.Simd.{first_chunks}
-use Rattle.sfi_scan.proofs.Prelude.{get_or, ◌≡◌, ℕ, zero, suc, ◌+◌, ◌-◌, ◌*◌, ◌<◌, false, List, [], ◌++◌, take, drop, refl, sym, ap, ◌∙◌, subst, arith, append-nil, append_assoc, length-append, drop-drop, drop-take, take-take, inr, BundlePlace, Finding, Part, bundle_at, block_bundle, bundle_bytes, place_of, AreBundleFindings, AreReadingFindings, AreFindingsOfFirst, IsScanned, stretch_place, AreStretchFindings}
+use Rattle.sfi_scan.proofs.Prelude.{get_or, ◌≡◌, ℕ, zero, suc, ◌+◌, ◌-◌, ◌*◌, ◌<◌, false, List, [], ◌++◌, take, drop, refl, sym, ap, ◌∙◌, subst, arith, append-nil, append_assoc, length-append, drop-drop, drop-take, take-take, inr, BundlePlace, Finding, Part, bundle_at, block_bundle, bundle_bytes, bundle_place, AreBundleFindings, AreReadingFindings, AreFindingsOfFirst, IsScanned, stretch_place, AreStretchFindings}
 
 -- ---- places
 
@@ -42,7 +42,7 @@ stretch_more b c xs ys k (suc n) front found places bytes before are =
 
 -- those of a stretch in a part, after those of so many bundles of it
 pub stretch_in_part : (sandbox : ℕ) (p : Part) (b : BundlePlace) (xs : List ℕ) (k n : ℕ) (front found : List Finding)
-    → ((i : ℕ) → i < n → stretch_place b i ≡ place_of sandbox p (k + i)) → ((i : ℕ) → i < n → block_bundle xs i ≡ bundle_bytes p (k + i))
+    → ((i : ℕ) → i < n → stretch_place b i ≡ bundle_place sandbox p (k + i)) → ((i : ℕ) → i < n → block_bundle xs i ≡ bundle_bytes p (k + i))
     → AreFindingsOfFirst sandbox p k front → AreStretchFindings b xs n found → AreFindingsOfFirst sandbox p (k + n) (front ++ found)
 stretch_in_part sandbox p b xs k zero front found places bytes before none = rw none (subst (λ (l : List Finding). AreFindingsOfFirst sandbox p (k + 0) l) (sym (append-nil front)) (subst (λ (m : ℕ). AreFindingsOfFirst sandbox p m front) (let e : k ≡ k + 0 = omega arith in e) before))
 stretch_in_part sandbox p b xs k (suc n) front found places bytes before are =

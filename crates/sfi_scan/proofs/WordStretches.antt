@@ -1,5 +1,5 @@
 -- Stretches of code in words: the findings of one after another, and those of a stretch in a part.
-use Rattle.sfi_scan.proofs.Prelude.{◌≡◌, ℕ, zero, suc, ◌+◌, ◌<◌, ◌≤◌, Bool, true, false, List, [], ◌++◌, length, length-append, take_all, refl, sym, ap, ◌∙◌, subst, arith, append-nil, append_assoc, BundlePlace, Finding, Part, block_bundle, bundle_bytes, place_of, AreFindingsOfFirst, Owed, Nothing, AreFoundUpTo, stretch_place, AreStretchFindings, AreWordStretchFindings, IsWordCodeScanned}
+use Rattle.sfi_scan.proofs.Prelude.{◌≡◌, ℕ, zero, suc, ◌+◌, ◌<◌, ◌≤◌, Bool, true, false, List, [], ◌++◌, length, length-append, take_all, refl, sym, ap, ◌∙◌, subst, arith, append-nil, append_assoc, BundlePlace, Finding, Part, block_bundle, bundle_bytes, bundle_place, AreFindingsOfFirst, Owed, Nothing, AreFoundUpTo, stretch_place, AreStretchFindings, AreWordStretchFindings, IsWordCodeScanned}
 use Rattle.std.specs.Prelude.{MatchBool}
 use Rattle.sfi_policy.specs.Formats.{has_words}
 use Rattle.sfi_rules.specs.words.Findings.{AreFoundInBundle, AreFoundOfFirst}
@@ -70,7 +70,7 @@ module _ {F : Type 0} (takes : F → List Finding → F → Type 0) where
 
 -- those of a stretch in a part, after those of so many bundles of it
 pub words_in_part : (sandbox : ℕ) (p : Part) (b : BundlePlace) (xs : List ℕ) (k n : ℕ) (front found : List Finding) (between next : Owed)
-    → ((i : ℕ) → i < n → stretch_place b i ≡ place_of sandbox p (k + i)) → ((i : ℕ) → i < n → block_bundle xs i ≡ bundle_bytes p (k + i))
+    → ((i : ℕ) → i < n → stretch_place b i ≡ bundle_place sandbox p (k + i)) → ((i : ℕ) → i < n → block_bundle xs i ≡ bundle_bytes p (k + i))
     → AreFoundOfFirst sandbox p k front between → AreWordStretchFindings b between xs n found next → AreFoundOfFirst sandbox p (k + n) (front ++ found) next
 words_in_part sandbox p b xs k zero front found between next places bytes before none =
     rw (none.0, none.1, append-nil front) (subst (λ (m : ℕ). AreFoundOfFirst sandbox p m front between) (let e : k ≡ k + 0 = omega arith in e) before)
@@ -83,7 +83,7 @@ words_in_part sandbox p b xs k (suc n) front found between next places bytes bef
 
 -- the same of code of any format
 pub found_in_part : (sandbox : ℕ) (p : Part) (b : BundlePlace) (xs : List ℕ) (k n : ℕ) (front found : List Finding) (between next : Owed) → b.format ≡ p.format
-    → ((i : ℕ) → i < n → stretch_place b i ≡ place_of sandbox p (k + i)) → ((i : ℕ) → i < n → block_bundle xs i ≡ bundle_bytes p (k + i))
+    → ((i : ℕ) → i < n → stretch_place b i ≡ bundle_place sandbox p (k + i)) → ((i : ℕ) → i < n → block_bundle xs i ≡ bundle_bytes p (k + i))
     → AreFoundUpTo sandbox p k front between → AreFoundInStretch b between xs n found next → AreFoundUpTo sandbox p (k + n) (front ++ found) next
 found_in_part sandbox p b xs k n front found between next format places bytes before are =
     by (has_words p.format) before (subst (λ (w : Bool). MatchBool w (AreWordStretchFindings b between xs n found next) (AreStretchFindings b xs n found × (next ≡ Nothing))) (ap has_words format) are)

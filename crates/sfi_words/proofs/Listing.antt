@@ -8,7 +8,7 @@ use Rattle.sfi_image.specs.declared.part.Gate.{Gate}
 use Rattle.sfi_image.specs.declared.span.Span.{Span}
 use Rattle.sfi_image.specs.Spans.{code_region}
 use Rattle.sfi_image.specs.Regions.{IsBundleStart}
-use Rattle.sfi_rules.specs.Bundles.{place_of, bundle_bytes}
+use Rattle.sfi_rules.specs.Bundles.{bundle_place, bundle_bytes}
 use Rattle.sfi_rules.specs.words.Findings.{is_at_gate, IsWordFound, AreFoundInWords, AreFoundOfFirst}
 use Rattle.sfi_words.specs.Laws.{FindsWhatIsBroken}
 use Rattle.sfi_words.proofs.Places as places
@@ -32,7 +32,7 @@ and_false true = refl
 and_false false = refl
 
 -- an address of a bundle is that of its gate where the image lists one there
-gate_in : (p : Part) (n at : ℕ) → IsRightPart p → p.code_base % 16 ≡ 0 → 16 * n ≤ at → at < 16 * n + 16 → is_at_gate (place_of 0 p n) (p.code_base + at) ≡ is_gate_of p.gates (p.code_base + at)
+gate_in : (p : Part) (n at : ℕ) → IsRightPart p → p.code_base % 16 ≡ 0 → 16 * n ≤ at → at < 16 * n + 16 → is_at_gate (bundle_place 0 p n) (p.code_base + at) ≡ is_gate_of p.gates (p.code_base + at)
 gate_in p n at right base from below = by (p.code_base + at == p.code_base + 16 * n) refl
   where
     by : (b : Bool) → (p.code_base + at == p.code_base + 16 * n) ≡ b → (is_gate_of p.gates (p.code_base + 16 * n) && (p.code_base + at == p.code_base + 16 * n)) ≡ is_gate_of p.gates (p.code_base + at)
@@ -53,10 +53,10 @@ word_of p n k below inside =
     ap (take 4) cut ∙ take-take 4 (16 - 4 * k) _ (omega (arith, below)) ∙ ap (take 4) (drop-drop (4 * k) (16 * n) p.code)
 
 module _ (sandbox : ℕ) (p : Part) (right : IsRightPart p) (base : p.code_base % 16 ≡ 0) where
-  place : (n : ℕ) → IsPlaceIn p (place_of sandbox p n)
+  place : (n : ℕ) → IsPlaceIn p (bundle_place sandbox p n)
   place n = record { base = refl; size = refl }
 
-  words_tell : (n k : ℕ) (o next : Owed) (before found : List Finding) → k ≤ 4 → 16 * n + 16 ≤ length p.code → AreFoundInWords (place_of sandbox p n) o (bundle_bytes p n) k found next → Tells p (16 * n) o before
+  words_tell : (n k : ℕ) (o next : Owed) (before found : List Finding) → k ≤ 4 → 16 * n + 16 ≤ length p.code → AreFoundInWords (bundle_place sandbox p n) o (bundle_bytes p n) k found next → Tells p (16 * n) o before
       → Tells p (16 * n + 4 * k) next (before ++ found)
   words_tell n zero o next before found few inside h t =
       subst (λ (l : List Finding). Tells p (16 * n + 0) next (before ++ l)) (sym h.0)
@@ -68,10 +68,10 @@ module _ (sandbox : ℕ) (p : Part) (right : IsRightPart p) (base : p.code_base 
       let so_far = words_tell n k o h.2 before h.0 (omega arith) inside h.3 t in
       let left : IsLeft p at 4 = record { even = omega arith; ends = omega arith; few = omega arith; inside = omega arith; base = omega (arith, base) } in
       let address : p.code_base + 16 * n + 4 * k ≡ p.code_base + at = omega arith in
-      let word = subst (λ (w : List ℕ). IsWordFound (place_of sandbox p n) (p.code_base + at) h.2 w h.1 next) (word_of p n k (omega arith) inside)
-      (subst (λ (a : ℕ). IsWordFound (place_of sandbox p n) a h.2 (take 4 (drop (4 * k) (bundle_bytes p n))) h.1 next) address h.4) in
-      let gate : IsGateOf p (place_of sandbox p n) (16 * n) (16 * n + 16) = λ a from below. gate_in p n a right base from below in
-      let done = word_tells p (place_of sandbox p n) (place n) (16 * n) (16 * n + 16) gate at h.2 next (before ++ h.0) h.1 left (omega arith) (omega arith) word so_far in
+      let word = subst (λ (w : List ℕ). IsWordFound (bundle_place sandbox p n) (p.code_base + at) h.2 w h.1 next) (word_of p n k (omega arith) inside)
+      (subst (λ (a : ℕ). IsWordFound (bundle_place sandbox p n) a h.2 (take 4 (drop (4 * k) (bundle_bytes p n))) h.1 next) address h.4) in
+      let gate : IsGateOf p (bundle_place sandbox p n) (16 * n) (16 * n + 16) = λ a from below. gate_in p n a right base from below in
+      let done = word_tells p (bundle_place sandbox p n) (place n) (16 * n) (16 * n + 16) gate at h.2 next (before ++ h.0) h.1 left (omega arith) (omega arith) word so_far in
       subst (λ (a : ℕ). Tells p a next (before ++ found)) (let s : at + 4 ≡ 16 * n + 4 * suc k = omega arith in s)
       (subst (λ (l : List Finding). Tells p (at + 4) next l) (append_assoc before h.0 h.1 ∙ ap (λ (l : List Finding). before ++ l) (sym h.5)) done)
 

@@ -1,5 +1,5 @@
 -- Each word's start is a place of the code's reading, and so is what stands after one; the one instruction there is the reading's.
-use Rattle.sfi_words.proofs.Prelude.{◌≡◌, ℕ, ◌+◌, ◌-◌, ◌%◌, ◌<◌, ◌≤◌, ◌⊎◌, List, [], ◌∷◌, length, take, drop, Bool, true, false, not, ◌==◌, refl, sym, ap, ◌∙◌, subst, ⊎_elim, arith, add-zero, length-drop, drop-drop, cases_lt, eqb-true, eq-eqb, false≢true, Spells, Bytes, address_after, Hart, Stands, Part, Piece, IsReading, rest_of, is_empty, ends_region, HasCode, IsWordStart, breaks_width, BreakNone, IsCleanPart, AreKnown, IsPlace, IsAtPlace, AreWordsTyped, IsSafeState, IsRightPart}
+use Rattle.sfi_words.proofs.Prelude.{◌≡◌, ℕ, ◌+◌, ◌-◌, ◌%◌, ◌<◌, ◌≤◌, ◌⊎◌, List, [], ◌∷◌, length, take, drop, Bool, true, false, not, ◌==◌, refl, sym, ap, ◌∙◌, subst, ⊎_elim, arith, add-zero, length-drop, drop-drop, cases_lt, eqb-true, eq-eqb, false≢true, Spells, Bytes, address_after, Hart, Stands, Part, Piece, IsReading, rest_of, is_empty, ends_region, HasCode, IsWordStart, breaks_width, BreakNone, IsCleanInWords, AreKnown, IsPlace, IsAtPlaceInWords, AreWordsTyped, IsSafeState, IsRightPart}
 use Rattle.rv_comp.proofs.Facts.{two_lengths}
 use Rattle.sfi_image.proofs.Facts.{code_ends, whole_bundles}
 use Rattle.sfi_rules.proofs.Readings.{spelled_within}
@@ -27,7 +27,7 @@ bundles_whole p right =
     let bundles = whole_bundles p.format p.code_base (length p.code) right.code_base right.code_placed in
     (let e = bundles.3 in omega arith, let e = bundles.2 in omega arith)
 
-module _ (p : Part) (clean : IsCleanPart p) where
+module _ (p : Part) (clean : IsCleanInWords p) where
   base_aligned : p.code_base % 4 ≡ 0
   base_aligned = let both = bundles_whole p clean.right in omega (arith, both.0)
 
@@ -61,7 +61,7 @@ module _ (p : Part) (clean : IsCleanPart p) where
       place_from k aligned below c.reading 0 c.is_reading c.whole (subst (λ (at : ℕ). BreakNone p at c.reading) (sym (add-zero p.code_base)) c.none) (omega arith) (omega arith)
 
   -- with the typed registers set
-  pub at_start : (h : Hart) → IsWordStart p h.pc → AreWordsTyped p h.registers → IsAtPlace p h
+  pub at_start : (h : Hart) → IsWordStart p h.pc → AreWordsTyped p h.registers → IsAtPlaceInWords p h
   at_start h start typed =
       let base = base_aligned in
       let from : p.code_base ≤ h.pc = start.held.0 in
@@ -71,7 +71,7 @@ module _ (p : Part) (clean : IsCleanPart p) where
       let place = word_place k (omega arith) (omega arith) in
       record { offset = k; place = place; pc = omega arith; even = omega arith; known = typed_known p h.registers (place.here ∷ place.later) typed }
 
-  module _ (h : Hart) (at : IsAtPlace p h) where
+  module _ (h : Hart) (at : IsAtPlaceInWords p h) where
     -- it lies in the code
     pub here_within : (0 < at.place.here.size) × (at.offset + at.place.here.size ≤ length p.code)
     here_within =
@@ -88,7 +88,7 @@ module _ (p : Part) (clean : IsCleanPart p) where
         by false e = e
         by true e = absurd (false≢true (sym at.place.none.0.end ∙ rw (e, goes) refl))
 
-    after_is : (h' : Hart) (later : List Piece) → at.place.later ≡ later → h'.pc ≡ address_after h.pc at.place.here.size → is_empty later ≡ false → AreKnown p h'.registers later → IsAtPlace p h'
+    after_is : (h' : Hart) (later : List Piece) → at.place.later ≡ later → h'.pc ≡ address_after h.pc at.place.here.size → is_empty later ≡ false → AreKnown p h'.registers later → IsAtPlaceInWords p h'
     after_is h' [] is pc' some known = absurd (false≢true (sym some))
     after_is h' (x ∷ later) is pc' some known =
         let n = at.place.here.size in
@@ -114,7 +114,7 @@ module _ (p : Part) (clean : IsCleanPart p) where
           known = known;
         }
 
-    pub goes_on : (h' : Hart) → h'.pc ≡ address_after h.pc at.place.here.size → ends_region at.place.here.instr ≡ false → AreKnown p h'.registers at.place.later → IsAtPlace p h'
+    pub goes_on : (h' : Hart) → h'.pc ≡ address_after h.pc at.place.here.size → ends_region at.place.here.instr ≡ false → AreKnown p h'.registers at.place.later → IsAtPlaceInWords p h'
     goes_on h' pc' goes known = after_is h' at.place.later refl pc' (not_last goes) known
 
     -- ---- the one instruction there

@@ -35,9 +35,9 @@ pub use Rattle.sfi_runs.specs.Typed.{IsWordStart, IsNear, AreWordsTyped}
 pub use Rattle.sfi_policy.specs.Formats.{has_words}
 pub use Rattle.sfi_image.specs.Parts.{IsRightPart}
 pub use Rattle.sfi_rules.specs.words.Rules.{is_or, places, masks, begins_placing, begins_masking, is_small, is_step, uses, begins_using, begins_code, breaks_width, breaks_ecall, may_access, breaks_access, breaks_jump, is_word_start, breaks_target, may_write_data, breaks_data_of, breaks_data, may_write_code, breaks_code, breaks_offset}
-pub use Rattle.sfi_words.specs.Code.{BreakNone, IsCleanPart, AreWordsClean}
-pub use Rattle.sfi_words.specs.Places.{IsKnown, IsCodeKnown, AreKnown, IsPlace, IsAtPlace, IsGood, IsGoodIf}
-pub use Rattle.sfi_words.specs.Laws.{EntryIsGood, TurnKeeps, CleanRunsSafely}
+pub use Rattle.sfi_words.specs.Code.{BreakNone, IsCleanInWords, AreWordsClean}
+pub use Rattle.sfi_words.specs.Places.{IsKnown, IsCodeKnown, AreKnown, IsPlace, IsAtPlaceInWords, IsGoodInWords, IsGoodInWordsIf}
+pub use Rattle.sfi_words.specs.Laws.{EntryIsGoodInWords, TurnKeepsInWords, CleanWordsRunSafely}
 pub use Rattle.sfi_rules.specs.declared.owed.Owed.{Owed}
 pub use Rattle.sfi_rules.specs.declared.rule.Rule.{Rule}
 pub use Rattle.sfi_rules.specs.declared.finding.Finding.{Finding}

@@ -1,5 +1,5 @@
 -- One step from a good state is safe, and leads to a good state.
-use Rattle.sfi_words.proofs.Prelude.{◌≡◌, ℕ, ◌⊎◌, false, refl, sym, ◌∙◌, subst, inl, inr, length, Instr, Accesses, State, Stepped, Stands, IsStep, effect, Outcome, Next, Call, Trap, Part, is_gate_of, InData, InGuard, AreWordsTyped, breaks_ecall, breaks_target, after_step, IsSafeStep, IsCleanPart, AreKnown, IsAtPlace, IsGood, IsGoodIf}
+use Rattle.sfi_words.proofs.Prelude.{◌≡◌, ℕ, ◌⊎◌, false, refl, sym, ◌∙◌, subst, inl, inr, length, Instr, Accesses, State, Stepped, Stands, IsStep, effect, Outcome, Next, Call, Trap, Part, is_gate_of, InData, InGuard, AreWordsTyped, breaks_ecall, breaks_target, after_step, IsSafeStep, IsCleanInWords, AreKnown, IsAtPlaceInWords, IsGoodInWords, IsGoodInWordsIf}
 use Rattle.rv_comp.proofs.Facts.{spelled_in_range}
 use Rattle.rv_step.proofs.Facts.{one_instruction, stopped_stays}
 use Rattle.sfi_image.proofs.Facts.{code_ends}
@@ -8,7 +8,7 @@ use Rattle.sfi_words.proofs.Effects.{Writes, Leads, leads, writes, count_stays, 
 use Rattle.sfi_words.proofs.Known.{code_at_flow, accesses_near, known_after, typed_after}
 use Rattle.sfi_words.proofs.Places.{at_start, goes_on, present}
 
-module _ (p : Part) (s : State) (clean : IsCleanPart p) (good : IsGood p s) where
+module _ (p : Part) (s : State) (clean : IsCleanInWords p) (good : IsGoodInWords p s) where
   abbrev i : Instr
   i = good.place.place.here.instr
 
@@ -46,7 +46,7 @@ module _ (p : Part) (s : State) (clean : IsCleanPart p) (good : IsGood p s) wher
     in_data = steps.in_data p clean.right clean.apart s good.kept i n stands_here near_here r step
 
     -- the place that a step that is done leads to
-    place_after : r.outcome ≡ Next → Leads p good.place.place.here.instr good.place.place.here.size s.hart Next r.state.hart → IsAtPlace p r.state.hart
+    place_after : r.outcome ≡ Next → Leads p good.place.place.here.instr good.place.place.here.size s.hart Next r.state.hart → IsAtPlaceInWords p r.state.hart
     place_after done (inl (pc, goes)) =
         let none = good.place.place.none.0 in
         goes_on p clean s.hart good.place r.state.hart pc goes
@@ -58,7 +58,7 @@ module _ (p : Part) (s : State) (clean : IsCleanPart p) (good : IsGood p s) wher
         (subst (λ (x : Stepped). AreWordsTyped p x.state.hart.registers) (sym step_is)
         (typed_after p clean.words clean.right s.hart good.kept.reserved good.place.place.here good.place.place.later s.memory good.kept.count (spelled_in_range stands_here.bytes i n stands_here.spelled) good.place.known flow none.data_write none.code_write none.offset_write))
 
-    by_outcome : (o : Outcome) → r.outcome ≡ o → Leads p good.place.place.here.instr good.place.place.here.size s.hart o r.state.hart → IsGoodIf p (after_step o r.state)
+    by_outcome : (o : Outcome) → r.outcome ≡ o → Leads p good.place.place.here.instr good.place.place.here.size s.hart o r.state.hart → IsGoodInWordsIf p (after_step o r.state)
     by_outcome Next e led =
         let w = subst (λ (x : Stepped). Writes i s.hart x.state.hart) (sym step_is) (writes i n s.hart s.memory) in
         record {
@@ -70,10 +70,10 @@ module _ (p : Part) (s : State) (clean : IsCleanPart p) (good : IsGood p s) wher
           };
           place = place_after e led;
         }
-    by_outcome Call e led = subst (λ (x : State). IsGood p x) (sym (stopped_stays s r step (λ done. let clash : Next ≡ Call = sym done ∙ e in cc))) good
+    by_outcome Call e led = subst (λ (x : State). IsGoodInWords p x) (sym (stopped_stays s r step (λ done. let clash : Next ≡ Call = sym done ∙ e in cc))) good
     by_outcome (Trap cause at) e led = tt
 
-    pub step_good : IsGoodIf p (after_step r.outcome r.state)
+    pub step_good : IsGoodInWordsIf p (after_step r.outcome r.state)
     step_good = by_outcome r.outcome refl step_leads
 
     pub step_safe : IsSafeStep p s r

@@ -1,16 +1,16 @@
 -- Each turn keeps a good state, and so does each run.
-use Rattle.sfi_words.proofs.Prelude.{◌≡◌, ℕ, List, ◌∷◌, sym, ap, ◌∙◌, subst, Ecall, address_after, State, Part, ends_region, IsReply, IsChange, Turn, Steps, Replies, Changes, IsTurn, after_turn, AreKnown, IsCleanPart, IsGood, IsGoodIf, EntryIsGood, TurnKeeps, CleanRunsSafely}
+use Rattle.sfi_words.proofs.Prelude.{◌≡◌, ℕ, List, ◌∷◌, sym, ap, ◌∙◌, subst, Ecall, address_after, State, Part, ends_region, IsReply, IsChange, Turn, Steps, Replies, Changes, IsTurn, after_turn, AreKnown, IsCleanInWords, IsGoodInWords, IsGoodInWordsIf, EntryIsGoodInWords, TurnKeepsInWords, CleanWordsRunSafely}
 use Rattle.rv_comp.proofs.Facts.{ecall_is_wide}
 use Rattle.sfi_runs.proofs.Formats.{to_word, of_words_typed}
 use Rattle.sfi_runs.proofs.Turning.{entry_keeps, reply_keeps, change_keeps, turn_safe, runs_safely, calls_typed}
-use Rattle.sfi_words.specs.Laws.{CleanCallsTyped}
+use Rattle.sfi_words.specs.Laws.{CleanWordsCallTyped}
 use Rattle.sfi_words.proofs.Known.{typed_known, typed_at_ecall}
 use Rattle.sfi_words.proofs.Places.{at_start, goes_on, safe_here}
 use Rattle.sfi_words.proofs.Stepping.{only, step_good, step_safe}
 
-module _ (p : Part) (clean : IsCleanPart p) where
-  module _ (s : State) (good : IsGood p s) where
-    reply_good : (after : State) → IsReply p s after → IsGood p after
+module _ (p : Part) (clean : IsCleanInWords p) where
+  module _ (s : State) (good : IsGoodInWords p s) where
+    reply_good : (after : State) → IsReply p s after → IsGoodInWords p after
     reply_good after r =
         let e = only p s clean good Ecall r.size r.asked in
         let four : r.size ≡ 4 = ecall_is_wide r.asked.bytes r.size r.asked.spelled in
@@ -20,7 +20,7 @@ module _ (p : Part) (clean : IsCleanPart p) where
           place = goes_on p clean s.hart good.place after.hart pc (ap ends_region (sym e.0)) (typed_known p after.hart.registers good.place.place.later (r.typed.words clean.words));
         }
 
-    change_good : (after : State) → IsChange p s after → IsGood p after
+    change_good : (after : State) → IsChange p s after → IsGoodInWords p after
     change_good after c = record {
       kept = change_keeps p s after good.kept c;
       place = record {
@@ -32,26 +32,26 @@ module _ (p : Part) (clean : IsCleanPart p) where
       };
     }
 
-    turn_good : (turn : Turn) → IsTurn p s turn → IsGoodIf p (after_turn turn)
+    turn_good : (turn : Turn) → IsTurn p s turn → IsGoodInWordsIf p (after_turn turn)
     turn_good (Steps r) h = step_good p s clean good r h
     turn_good (Replies after) h = reply_good after h
     turn_good (Changes after) h = change_good after h
 
-pub turn_keeps : TurnKeeps
+pub turn_keeps : TurnKeepsInWords
 turn_keeps p s turn clean good h = (safe_here p clean s.hart good.place s.memory good.kept.code, turn_safe p s (step_safe p s clean good) turn h, turn_good p clean s good turn h)
 
 -- ---- runs
 
-pub entry_good : EntryIsGood
+pub entry_good : EntryIsGoodInWords
 entry_good p s clean entry = record {
   kept = entry_keeps p s entry;
   place = at_start p clean s.hart (to_word p s.hart.pc clean.words entry.start) (entry.typed.words clean.words);
 }
 
-pub clean_runs : CleanRunsSafely
-clean_runs p clean = runs_safely p (IsGood p) (λ s turn good h. turn_keeps p s turn clean good h) (λ s entry. entry_good p s clean entry)
+pub clean_runs : CleanWordsRunSafely
+clean_runs p clean = runs_safely p (IsGoodInWords p) (λ s turn good h. turn_keeps p s turn clean good h) (λ s entry. entry_good p s clean entry)
 
-pub clean_calls : CleanCallsTyped
-clean_calls p clean = calls_typed p (IsGood p) (λ s turn good h. turn_keeps p s turn clean good h) (λ s entry. entry_good p s clean entry)
+pub clean_calls : CleanWordsCallTyped
+clean_calls p clean = calls_typed p (IsGoodInWords p) (λ s turn good h. turn_keeps p s turn clean good h) (λ s entry. entry_good p s clean entry)
     (λ s n good stands.
     of_words_typed p s.hart.registers clean.words (typed_at_ecall p s.hart.registers good.place.place.here good.place.place.later (only p s clean good Ecall n stands).0 good.place.known))

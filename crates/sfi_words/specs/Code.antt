@@ -36,7 +36,7 @@ pub record AreWordsClean (p : Part) : Type 0 where
 
 -- the sandbox's code is in words, its part has a right layout, its code lies apart from its data
 -- and guards, and no rule is broken in it
-pub record IsCleanPart (p : Part) : Type 0 where
+pub record IsCleanInWords (p : Part) : Type 0 where
   pub words : has_words p.format ≡ true
   pub right : IsRightPart p
   pub apart : AreApart (code_region p) (guarded_region p)

@@ -8,28 +8,29 @@ use Rattle.sfi_rules.specs.words.Findings.{AreFindingsInWords}
 use Rattle.sfi_runs.specs.Runs.{Turn, IsEntry, IsTurn, after_turn}
 use Rattle.sfi_runs.specs.Safety.{IsSafeState, IsSafeTurn, RunsSafely}
 use Rattle.sfi_runs.specs.Calls.{CallsTyped}
-use Rattle.sfi_words.specs.Code.{AreWordsClean, IsCleanPart}
-use Rattle.sfi_words.specs.Places.{IsGood, IsGoodIf}
+use Rattle.sfi_words.specs.Code.{AreWordsClean, IsCleanInWords}
+use Rattle.sfi_words.specs.Places.{IsGoodInWords, IsGoodInWordsIf}
 
 -- an entry is a good state
-abbrev pub EntryIsGood : Type 0
-EntryIsGood = (p : Part) (s : State) → IsCleanPart p → IsEntry p s → IsGood p s
+abbrev pub EntryIsGoodInWords : Type 0
+EntryIsGoodInWords = (p : Part) (s : State) → IsCleanInWords p → IsEntry p s → IsGoodInWords p s
 
 -- a turn from a good state is safe, and leads to a good state
-abbrev pub TurnKeeps : Type 0
-TurnKeeps =
-    (p : Part) (s : State) (turn : Turn) → IsCleanPart p → IsGood p s → IsTurn p s turn
-    → IsSafeState p s × IsSafeTurn p s turn × IsGoodIf p (after_turn turn)
+abbrev pub TurnKeepsInWords : Type 0
+TurnKeepsInWords =
+    (p : Part) (s : State) (turn : Turn) → IsCleanInWords p → IsGoodInWords p s → IsTurn p s turn
+    → IsSafeState p s × IsSafeTurn p s turn × IsGoodInWordsIf p (after_turn turn)
 
 -- every run from every entry is safe
-abbrev pub CleanRunsSafely : Type 0
-CleanRunsSafely = (p : Part) → IsCleanPart p → RunsSafely p
+abbrev pub CleanWordsRunSafely : Type 0
+CleanWordsRunSafely = (p : Part) → IsCleanInWords p → RunsSafely p
 
 -- and each call is made with the typed registers set
-abbrev pub CleanCallsTyped : Type 0
-CleanCallsTyped = (p : Part) → IsCleanPart p → CallsTyped p
+abbrev pub CleanWordsCallTyped : Type 0
+CleanWordsCallTyped = (p : Part) → IsCleanInWords p → CallsTyped p
 
--- a sandbox with a right layout has no finding exactly if it breaks no rule
+-- a sandbox with a right layout, whatever its format, has no finding as code in words exactly if it
+-- breaks no rule of these
 abbrev pub FindsWhatIsBroken : Type 0
 FindsWhatIsBroken =
     (sandbox : ℕ) (p : Part) (found : List Finding) → IsRightPart p

@@ -41,7 +41,7 @@ pub record IsPlace (p : Part) (offset : ℕ) : Type 0 where
   pub none : BreakNone p (p.code_base + offset) (here ∷ later)
 
 -- pc is at such an offset, and the typed registers hold what is known there
-pub record IsAtPlace (p : Part) (h : Hart) : Type 0 where
+pub record IsAtPlaceInWords (p : Part) (h : Hart) : Type 0 where
   pub offset : ℕ
   pub place : IsPlace p offset
   pub pc : h.pc ≡ p.code_base + offset
@@ -49,10 +49,10 @@ pub record IsAtPlace (p : Part) (h : Hart) : Type 0 where
   pub known : AreKnown p h.registers (place.here ∷ place.later)
 
 -- a good state
-pub record IsGood (p : Part) (s : State) : Type 0 where
+pub record IsGoodInWords (p : Part) (s : State) : Type 0 where
   pub kept : KeepsAll p s
-  pub place : IsAtPlace p s.hart
+  pub place : IsAtPlaceInWords p s.hart
 
 -- the state is good, if the run goes on
-abbrev pub IsGoodIf : Part → Option State → Type 0
-IsGoodIf p o = IfSome o (λ s. IsGood p s)
+abbrev pub IsGoodInWordsIf : Part → Option State → Type 0
+IsGoodInWordsIf p o = IfSome o (λ s. IsGoodInWords p s)

@@ -1,6 +1,7 @@
 -- The findings of code in words, in order. Each word of 4 bytes is read on its own, from its first
 -- byte; V10 and V11 are found at the instruction that doesn't meet what is owed, or at a write that
--- nothing can make right.
+-- nothing can make right. That nothing is found exactly where the rules of words/Rules.antt aren't
+-- broken is a law of the crate sfi_words (FindsWhatIsBroken).
 use Rattle.std.specs.Prelude.{◌≡◌, ◌+◌, ◌-◌, ◌*◌, ◌==◌, ◌&&◌, ◌||◌, not, ℕ, zero, suc, List, [], ◌∷◌, ◌++◌, Bool, false, Option, Some, None, cond, length, take, drop, is_some}
 use Rattle.std.specs.List.{find}
 use Rattle.rv_word.specs.declared.instr.Instr.{Instr}
@@ -13,7 +14,7 @@ use Rattle.sfi_rules.specs.declared.finding.Finding.{Finding}
 use Rattle.sfi_rules.specs.declared.rule.Rule.{Rule}
 use Rattle.sfi_rules.specs.declared.rule.Rule.TheVariants.{V1, V2, V3, V4, V5, V6, V7, V8, V9, V10, V11, V12}
 use Rattle.sfi_rules.specs.Broken.{broken, all_rules, rest_finding}
-use Rattle.sfi_rules.specs.Bundles.{place_of, bundle_bytes}
+use Rattle.sfi_rules.specs.Bundles.{bundle_place, bundle_bytes}
 use Rattle.sfi_rules.specs.Readings.{Piece, IsLongestReading, rest_of}
 use Rattle.sfi_rules.specs.Rules.{breaks_reserved, ends_region, is_empty}
 use Rattle.sfi_rules.specs.declared.owed.Owed.{Owed}
@@ -129,7 +130,7 @@ AreFoundOfFirst sandbox p zero found next = (found ≡ []) × (next ≡ Nothing)
 AreFoundOfFirst sandbox p (suc n) found next =
     (front : List Finding) × (last : List Finding) × (between : Owed)
     × AreFoundOfFirst sandbox p n front between
-    × AreFoundInBundle (place_of sandbox p n) between (bundle_bytes p n) last next
+    × AreFoundInBundle (bundle_place sandbox p n) between (bundle_bytes p n) last next
     × (found ≡ front ++ last)
 
 -- the findings of the part of the sandbox of that number: those of all its bundles

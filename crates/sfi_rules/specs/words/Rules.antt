@@ -8,7 +8,7 @@ use Rattle.rv_word.specs.declared.instr.ImmOp.TheVariants.{Addi}
 use Rattle.rv_word.specs.Numbers.{offset_by}
 use Rattle.rv_word.specs.Writes.{destination, writes_register}
 use Rattle.sfi_pairs.specs.Pairs.{is_masking, is_placing}
-use Rattle.sfi_policy.specs.Limits.{slack}
+use Rattle.sfi_policy.specs.Limits.{slack, word_size}
 use Rattle.sfi_policy.specs.Registers.{code_base_register, code_mask_register, data_base_register, data_mask_register, is_data_register, code_register, offset_register}
 use Rattle.sfi_rules.specs.Readings.{Piece}
 use Rattle.sfi_rules.specs.Rules.{is_empty, ends_region}
@@ -75,7 +75,7 @@ begins_code (x ∷ later) = is_placing code_base_register code_register x.instr
 
 -- V2: a 32-bit instruction that isn't at a multiple of 4
 abbrev pub breaks_width : ℕ → ℕ → Bool
-breaks_width at size = (size == 4) && not (at % 4 == 0)
+breaks_width at size = (size == word_size) && not (at % word_size == 0)
 
 -- V3: an ecall that isn't at a listed gate (`gate` says whether one is there). V4 is that of bundles,
 -- `breaks_reserved`.
@@ -101,7 +101,7 @@ breaks_jump _ = false
 
 -- a multiple of 4 in the code region of that base and size
 abbrev pub is_word_start : ℕ → ℕ → ℕ → Bool
-is_word_start base size a = nat_le base a && nat_lt a (base + size) && (a % 4 == 0)
+is_word_start base size a = nat_le base a && nat_lt a (base + size) && (a % word_size == 0)
 
 -- V7: a jal or branch whose target is no word's start of its own code region
 abbrev pub breaks_target : ℕ → ℕ → ℕ → Instr → Bool

@@ -1,4 +1,4 @@
-use Rattle.sfi_scan.proofs.Prelude.{◌+◌, ◌-◌, ◌/◌, List, Bool, false, [], length, refl, sym, subst, arith, BundlePlace, Finding, view, place_of, Nothing, AreFoundUpTo}
+use Rattle.sfi_scan.proofs.Prelude.{◌+◌, ◌-◌, ◌/◌, List, Bool, false, [], length, refl, sym, subst, arith, BundlePlace, Finding, view, bundle_place, Nothing, AreFoundUpTo}
 use Rattle.std.proofs.Common.{Result, Ok, Err}
 use Rattle.std.specs.Prelude.{IfOk}
 use Rattle.sfi_rules.proofs.Facts.{all_found}
@@ -8,7 +8,7 @@ use Rattle.sfi_scan.proofs.part.scan_part_as.Goals as goal
 pub loop-gate-init : goal.loop-gate-init
 loop-gate-init c =
     let p = view c.args.format c.args.part.now in
-    let place : BundlePlace = record (place_of c.args.sandbox p 0) { address = c.args.part.now.code_base; listed = false } in
+    let place : BundlePlace = record (bundle_place c.args.sandbox p 0) { address = c.args.part.now.code_base; listed = false } in
     subst (λ (l : List Finding). IsAtGate c.args.sandbox p 0 place 0 l Nothing c.new-found.result.lacks_memory) (sym c.new-found.ensures.empty)
     (subst (λ (b : Bool). IsAtGate c.args.sandbox p 0 place 0 [] Nothing b) (sym c.new-found.ensures.memory) (at_first c.args.sandbox p c.requires))
 
