@@ -34,7 +34,7 @@ one_line ps f line other a b =
     let part : b.part ≡ a.part = cc in
     let placed = subst (λ (p : Part). IsPlaceText f.rule (drop (f.address - p.code_base) p.code) b.place) part b.place_is in
     let place = one_place f.rule (drop (f.address - a.part.code_base) a.part.code) a.place b.place a.place_is placed in
-    a.line_is ∙ ap (λ t. line_front f ++ t ++ line_end) place ∙ sym b.line_is
+    a.line_is ∙ ap (λ t. line_front a.part.format f ++ t ++ line_end) place ∙ ap (λ (p : Part). line_front p.format f ++ b.place ++ line_end) (sym part) ∙ sym b.line_is
 
 pub one_report : OneReport
 one_report ps [] text other a b = a ∙ sym b

@@ -18,16 +18,16 @@ part_at format (x ∷ items) (suc k) d p h = part_at format items k d p h
 pub line_of : (format : Format) (items : List SandboxPart) (f : Finding) (d : SandboxPart) (code old front placed new : List ℕ) → Stands (views format items) f
     → d ≡ get_or items f.sandbox d
     → code ≡ drop (f.address - d.code_base) d.code.now
-    → front ≡ old ++ line_front f
+    → front ≡ old ++ line_front format f
     → Adds front placed (IsPlaceText f.rule code)
     → new ≡ placed ++ line_end
     → Adds old new (IsFindingLine (views format items) f)
 line_of format items f d code old front placed new s is there e h g =
     let part : view format d ≡ s.part = ap (view format) is ∙ part_at format items f.sandbox d s.part s.part_is in
     record {
-      text = line_front f ++ h.text ++ line_end;
+      text = line_front format f ++ h.text ++ line_end;
       text_is = record { part = view format d; place = h.text; part_is = s.part_is ∙ ap Some (sym part); place_is = subst (λ (l : List ℕ). IsPlaceText f.rule l h.text) there h.text_is; line_is = refl };
-      new_is = g ∙ ap (λ t. t ++ line_end) (h.new_is ∙ ap (λ t. t ++ h.text) e) ∙ regroup old (line_front f) h.text line_end;
+      new_is = g ∙ ap (λ t. t ++ line_end) (h.new_is ∙ ap (λ t. t ++ h.text) e) ∙ regroup old (line_front format f) h.text line_end;
     }
   where
     regroup : (a b c d : List ℕ) → ((a ++ b) ++ c) ++ d ≡ a ++ ((b ++ c) ++ d)

@@ -1,8 +1,10 @@
 -- The report: a line for each finding.
-use Rattle.std.specs.Prelude.{◌≡◌, ◌-◌, ℕ, List, [], ◌∷◌, ◌++◌, Some, take, drop, codes, decimal, slice_get}
+use Rattle.std.specs.Prelude.{◌≡◌, ◌-◌, ℕ, List, [], ◌∷◌, ◌++◌, Some, take, drop, codes, decimal, slice_get, if◌then◌else◌}
 use Rattle.rv_word.specs.declared.instr.Instr.{Instr}
 use Rattle.rv_comp.specs.Fronts.{Spells}
 use Rattle.sfi_text.specs.Printed.{printed}
+use Rattle.sfi_policy.specs.Formats.{has_words}
+use Rattle.sfi_policy.specs.declared.format.Format.{Format}
 use Rattle.sfi_image.specs.Spelling.{Part}
 use Rattle.sfi_rules.specs.Numbers.{number_of}
 use Rattle.sfi_rules.specs.declared.finding.Finding.{Finding}
@@ -10,20 +12,20 @@ use Rattle.sfi_rules.specs.declared.rule.Rule.{Rule}
 use Rattle.sfi_rules.specs.declared.rule.Rule.TheVariants.{V1, V2, V3, V4, V5, V6, V7, V8, V9, V10, V11, V12}
 use Rattle.sfi_report.specs.Digits.{hex_digits, line_end, word_digits}
 
--- the name of a rule
-abbrev pub rule_name : Rule → List ℕ
-rule_name V1 = codes "decode"
-rule_name V2 = codes "cross"
-rule_name V3 = codes "ecall"
-rule_name V4 = codes "reserved"
-rule_name V5 = codes "access"
-rule_name V6 = codes "jump"
-rule_name V7 = codes "target"
-rule_name V8 = codes "end"
-rule_name V9 = codes "gate"
-rule_name V10 = codes "stack"
-rule_name V11 = codes "code"
-rule_name V12 = codes "offset"
+-- the name of a rule of the format: V10 is about the data registers in words, else about x2
+abbrev pub rule_name : Format → Rule → List ℕ
+rule_name format V1 = codes "decode"
+rule_name format V2 = codes "cross"
+rule_name format V3 = codes "ecall"
+rule_name format V4 = codes "reserved"
+rule_name format V5 = codes "access"
+rule_name format V6 = codes "jump"
+rule_name format V7 = codes "target"
+rule_name format V8 = codes "end"
+rule_name format V9 = codes "gate"
+rule_name format V10 = if has_words format then codes "data" else codes "stack"
+rule_name format V11 = codes "code"
+rule_name format V12 = codes "offset"
 
 -- ---- what stands where a rule is broken, by the code from there on
 
@@ -46,11 +48,11 @@ IsPlaceText _ code text = IsInstructionText code text
 -- ---- lines
 
 -- the line up to what stands there: sandbox, address, the rule's number and name
-abbrev pub line_front : Finding → List ℕ
-line_front f =
+abbrev pub line_front : Format → Finding → List ℕ
+line_front format f =
     decimal f.sandbox ++ codes " " ++ hex_digits 8 f.address ++ codes " V"
     ++ decimal (number_of f.rule)
-    ++ codes " " ++ rule_name f.rule ++ codes " "
+    ++ codes " " ++ rule_name format f.rule ++ codes " "
 
 -- the line of a finding in one of the parts
 pub record IsFindingLine (ps : List Part) (f : Finding) (line : List ℕ) : Type 0 where
@@ -58,7 +60,7 @@ pub record IsFindingLine (ps : List Part) (f : Finding) (line : List ℕ) : Type
   pub place : List ℕ
   pub part_is : slice_get ps f.sandbox ≡ Some part
   pub place_is : IsPlaceText f.rule (drop (f.address - part.code_base) part.code) place
-  pub line_is : line ≡ line_front f ++ place ++ line_end
+  pub line_is : line ≡ line_front part.format f ++ place ++ line_end
 
 -- the lines of findings, one after another
 abbrev pub IsReport : List Part → List Finding → List ℕ → Type 0

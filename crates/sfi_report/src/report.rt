@@ -2,6 +2,7 @@
 ghost use Rattle.std.specs.Prelude.{◌≡◌, ◌≤◌, ◌++◌, OnOk, IfOk, length, string_bytes};
 ghost use Rattle.sfi_image.specs.Spelling.{views};
 ghost use Rattle.sfi_rules.specs.Findings.{AreImageFindings};
+ghost use Rattle.sfi_rules.specs.declared.rule.Rule.TheVariants.{V10};
 ghost use Rattle.sfi_report.specs.Report.{IsFindingLine, IsPlaceText, IsInstructionText, IsReport, line_front, half_text, rule_name};
 ghost use Rattle.sfi_report.specs.private.{Adds, IsPlace, SpellsFirst, Stands};
 
@@ -13,9 +14,9 @@ use sfi_rules::{Finding, Rule};
 use sfi_text::push_instr;
 use std::alloc::{AllocError, Global};
 
-/// The rule's name.
-fn name_of(rule: Rule) -> &'static str
-    ensures { result.now ≡ rule_name rule }
+/// The rule's name in the format.
+fn name_of(format: Format, rule: Rule) -> &'static str
+    ensures { result.now ≡ rule_name format rule }
 {
     match rule {
         Rule::V1 => "decode",
@@ -27,10 +28,17 @@ fn name_of(rule: Rule) -> &'static str
         Rule::V7 => "target",
         Rule::V8 => "end",
         Rule::V9 => "gate",
-        Rule::V10 => "stack",
+        Rule::V10 => name_of_typed(format),
         Rule::V11 => "code",
         Rule::V12 => "offset",
     }
+}
+
+/// The name of V10 in the format.
+fn name_of_typed(format: Format) -> &'static str
+    ensures { result.now ≡ rule_name format V10 }
+{
+    if format.has_words() { "data" } else { "stack" }
 }
 
 /// Writes the halfword that the code begins with.
@@ -68,31 +76,32 @@ fn push_place(out: &mut String, rule: Rule, code: &[u8]) -> Result<(), AllocErro
 }
 
 /// Writes the line up to what stands at the finding's address.
-fn push_front(out: &mut String, finding: &Finding) -> Result<(), AllocError>
-    ensures { OnOk result (string_bytes out.new ≡ string_bytes out.old ++ line_front finding.now) }
+fn push_front(out: &mut String, format: Format, finding: &Finding) -> Result<(), AllocError>
+    ensures { OnOk result
+        (string_bytes out.new ≡ string_bytes out.old ++ line_front format finding.now) }
 {
     let sandbox = finding.sandbox;
     write!(out, "{sandbox} ")?;
     push_eight_digits(out, finding.address)?;
     let number = finding.rule.number();
-    let name = name_of(finding.rule);
+    let name = name_of(format, finding.rule);
     write!(out, " V{number} {name} ")
 }
 
 /// Writes the line of a finding in one of the parts.
 fn push_finding(
     out: &mut String,
+    format: Format,
     parts: &[SandboxPart],
     finding: &Finding,
 ) -> Result<(), AllocError>
-    requires { (format : Format) × Stands (views format parts.now) finding.now }
-    ensures { (format : Format) → Stands (views format parts.now) finding.now
-        → OnOk result (Adds (string_bytes out.old) (string_bytes out.new)
+    requires { Stands (views format parts.now) finding.now }
+    ensures { OnOk result (Adds (string_bytes out.old) (string_bytes out.new)
         (IsFindingLine (views format parts.now) finding.now)) }
 {
     let part = &parts[finding.sandbox as usize];
     let offset = (finding.address - part.code_base) as usize;
-    push_front(out, finding)?;
+    push_front(out, format, finding)?;
     push_place(out, finding.rule, &part.code[offset..])?;
     out.push_str("\n")
 }
@@ -111,9 +120,10 @@ pub fn report_text(
     ensures text { IfOk result (λ text. IsReport image.now findings.now (string_bytes text)) }
 {
     let mut out = String::new(alloc);
+    let format = image.format();
     let parts = image.parts();
     for finding in findings {
-        push_finding(&mut out, parts, finding)?;
+        push_finding(&mut out, format, parts, finding)?;
     }
     Ok(out)
 }

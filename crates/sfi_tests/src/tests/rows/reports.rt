@@ -29,7 +29,7 @@ end 292 1 00000002000100000021800100010000000000020000000000000000; end 320 1 67
 = store on a register without a type; put 0 53464957; put 36 2320be00
 > 0 01000000 V5 access sw x11, 0(x28); > refused findings=1 first=V5 sandbox=0 at=01000000
 = writes x2 and uses it, writes x30, and masks it alone; put 0 53464957; put 36 130100002320b100130f0000337f9501
-> 0 01000004 V10 stack sw x11, 0(x2); > 0 01000008 V11 code addi x30, x0, 0; > 0 01000010 V11 code ebreak
+> 0 01000004 V10 data sw x11, 0(x2); > 0 01000008 V11 code addi x30, x0, 0; > 0 01000010 V11 code ebreak
 > refused findings=3 first=V10 sandbox=0 at=01000004
 = writes x31; put 0 53464957; put 36 930ff0ff33e1af012320b100
 > 0 01000000 V12 offset addi x31, x0, -1; > refused findings=1 first=V12 sandbox=0 at=01000000
