@@ -110,7 +110,7 @@ pub record Leads (x : Front) (s : List ℕ) (r : ReaderState) : Type 0 where
 
 -- the most that one sandbox adds: 1 for its fields, so many for its gates, for the bytes of its
 -- code and for its first data bytes, and 1 by which what is left within it stays above what is left
--- after it
+-- after it (no format's code is larger than the second's)
 abbrev pub part_most : ℕ
 part_most = 1 + gates_most + code_most Sfi2 + data_most + 1
 

@@ -3,7 +3,7 @@
 /// A gate: the only place where control may leave a sandbox.
 #[derive(Clone, Copy, PartialEq, Eq)]
 pub struct Gate {
-    /// The first address of the bundle in which its stub lies.
+    /// A bundle's first address. In code in bundles its stub stands there; in words an `ecall` may.
     pub address: u32,
     /// What the host is asked for, at most `SERVICE_MOST` of `sfi_policy` in an image.
     pub service: u32,
