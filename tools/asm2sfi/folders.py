@@ -30,22 +30,28 @@ class Folders:
         for name in defined & set(GLOBAL.findall(text)):
             self.files.setdefault(name, path)
 
-    def needed(self, units, first, gates):
-        """The units of the files that these units and the names in `first` need, and that such files need in turn; and
-        what of them is refused. Each is named by its path. What a gate does isn't looked for."""
+    def needed(self, units, first, gates, runtime=()):
+        """The units of the files that these units and the names in `first` need, and that such files, or what is taken of
+        the runtime where no file has it, need in turn; and what of them is refused. Each is named by its path. What a gate
+        does isn't looked for."""
         found, refusals, known = [], [], set(gates)
         for unit in units:
             known |= global_definitions(unit)
         waiting = [*first, *(name for unit in units for name in undefined(unit))]
         while waiting:
             name = waiting.pop()
-            path = self.files.get(name) if name not in known else None
-            if path is not None:
-                unit, refused = read_unit(path, read_path(path))
-                found.append(unit)
-                refusals += refused
-                known |= global_definitions(unit) | {name}
-                waiting += undefined(unit)
+            if name in known:
+                continue
+            known.add(name)
+            path = self.files.get(name)
+            if path is None:
+                waiting += spoken_beside(runtime, name)
+                continue
+            unit, refused = read_unit(path, read_path(path))
+            found.append(unit)
+            refusals += refused
+            known |= global_definitions(unit)
+            waiting += undefined(unit)
         return found, refusals
 
 
@@ -57,6 +63,12 @@ def folders_of(paths):
 
 def global_definitions(unit):
     return unit.globals & (set(unit.homes) | set(unit.aliases))
+
+
+def spoken_beside(units, name):
+    """The symbols of which those sections of some units speak that define a name."""
+    homes = [unit.homes[name] for unit in units if name in unit.homes]
+    return sorted({symbol.name for section in homes for symbol, _ in section.references()})
 
 
 def undefined(unit):

@@ -69,6 +69,19 @@ class FoldersOfAssembly(Folder):
         _, refusals = self.convert(MAIN + "\tcall\tcallee\n\tret\n")
         self.assertTrue(str(refusals[0]).startswith(os.path.join(self.folder, "callee.asm") + ":5"))
 
+    def test_what_the_runtime_calls(self):
+        """A function of the runtime that the program calls takes the files that it needs, and no other does."""
+        runtime = ("\t.section\t.text.made\n\t.globl\tmade\nmade:\n\ttail\tinner\n\t.section\t.text.inner\n"
+                   "\t.globl\tinner\ninner:\n\ttail\tcallee\n"
+                   "\t.section\t.text.other\n\t.globl\tother\nother:\n\ttail\tcaller\n")
+        options = Options(passes=(), folders=(self.folder,))
+        text, refusals = convert([("a.s", MAIN + "\tcall\tmade\n\tret\n")], [("runtime.asm", runtime)], options)
+        self.assertEqual((refusals, text.count("callee:"), text.count("caller:")), ([], 1, 0))
+        unit, _ = read_unit("a.s", MAIN + "\tcall\tcallee\n\tret\n")
+        own, _ = read_unit("runtime.asm", runtime)
+        needed, _ = Folders([self.folder]).needed([unit], [], {}, [own])
+        self.assertEqual([os.path.basename(found.name) for found in needed], ["callee.asm"])
+
     def test_begin_of_a_library(self):
         self.write("begin.asm", "\t.globl\t_start\n_start:\n\tcall\tmain\n\ttail\tcaller\n")
         self.write("caller.asm", LIBRARY["caller.asm"].replace("nowhere", "callee"))
