@@ -4,18 +4,20 @@ bundles also in the format that it wasn't packed for; they are skipped where the
 import re
 import subprocess
 import unittest
+from unittest.mock import patch
 
 from addresses import FEW
 from conversion import Options, convert, converted
 from linking import why_undefined
 from layout import DataLayout
-from limits import MOST_CODE, MOST_TEXT, check_code, check_text, code_size
+from limits import MOST_CODE, MOST_TEXT, check_code, check_count, check_text, code_size, count_of, who_has_most
 from naming import Names
 from placement import places
 from sections import DataSection
 from sizes import BUNDLE
 from table import Table, entry, runs_of
 from test_asm2sfi import MAIN, lines_after, lines_of, refusals_of, source, start_of
+from test_passes import code
 from testing import COMPILERS, FORMATS, SFI, SFI_CC, Folder, needs_a_compiler, needs_program
 from typed import WORDS
 from words import CODE, DATA, Word
@@ -229,21 +231,47 @@ class Tables(unittest.TestCase):
 
 
 class Limits(unittest.TestCase):
+    def refusal(self, text, more=(), **options):
+        """The lines of what is refused of a program of some files, without passes."""
+        _, refusals = convert([("a.s", text), *more], [], Options(passes=(), **options))
+        return "\n".join(map(str, refusals)).splitlines()
+
     def test_code(self):
         made, _ = converted([("a.s", MAIN + "\tlw a0,0(a0)\n" * 4090 + "\tret\n")], [], Options(1, passes=()))
         self.assertEqual(code_size(made.code, made.gates, 1), 16 + 2 * 16 + 4090 * 16 + 16)
         check_code(made.code, made.gates, 1)
-        self.assertEqual(refusals_of(MAIN + "\tlw a0,0(a0)\n" * 4093 + "\tret\n", image_format=1, passes=()),
-                         ["start: the code has 65552 bytes, 16 more than format 1 has room for; "
-                          "format 2 has room for 1048576"])
-        self.assertEqual(refusals_of(MAIN + "\tnop\n" * 65534 + "\tret\n", passes=()),
-                         ["start: 65537 instructions are 1 more than `sfi build` takes"])
+        self.assertEqual(self.refusal(MAIN + "\tlw a0,0(a0)\n" * 4093 + "\tret\n", image_format=1)[0],
+                         "start: the code has 65552 bytes, 16 more than format 1 has room for; "
+                         "format 2 has room for 1048576")
+        self.assertEqual(self.refusal(MAIN + "\tnop\n" * 65534 + "\tret\n")[0],
+                         "start: 65537 instructions are 1 more than `sfi build` takes")
         self.assertEqual(MOST_CODE, {1: 65536, 2: 1048576, WORDS: 1048576})
 
+    def test_instructions(self):
+        """An address and a number of two parts are two instructions each, as docs/SOURCE.md has them."""
+        self.assertEqual([count_of(piece) for piece in code("f: la a0,x; li a0,4097; li a0,4096; li a0,-1; call f; nop")],
+                         [0, 2, 2, 1, 1, 1, 1])
+        most = code("la a0,x") * 700 + code("nop") * (65536 - 1400)
+        check_count(most)
+        with self.assertRaisesRegex(Exception, "^start: 65537 instructions are 1 more than `sfi build` takes\n"):
+            check_count([*most, *code("nop")])
+
+    @patch("limits.MOST_INSTRUCTIONS", 500)
+    def test_who_has_most(self):
+        """A refusal for the size names the largest files and functions."""
+        big, small = [(f"{name}.s", f"\t.globl {name}\n{name}:\n" + "\tnop\n" * count + f".L1:\tj .L1\n\t.globl {name}_end\n"
+                       f"{name}_end:\n\tret\n") for name, count in (("big", 400), ("small", 10))]
+        text = MAIN + "\tcall big\n\tcall small\n\tcall big_end\n\tcall small_end\n" + "\tlla a0,main\n" * 100 + "\tret\n"
+        self.assertEqual(self.refusal(text, [big, small]), [
+            "start: 621 instructions are 121 more than `sfi build` takes",
+            "  instructions of files: big.s 402, a.s 205, small.s 12, the start 2",
+            "  instructions of functions: big 401, main 205, small 11, the start 2, big_end 1, small_end 1"])
+        self.assertEqual(who_has_most(code("; ".join(f"f{number}: nop" for number in range(20)))).count(", f"), 7)
+
     def test_text(self):
-        check_text("x" * MOST_TEXT)
-        with self.assertRaisesRegex(Exception, "^start: the source text has 1048578 bytes, 2 more than `sfi build` takes$"):
-            check_text("é" * (MOST_TEXT // 2 + 1))
+        check_text("x" * MOST_TEXT, [])
+        with self.assertRaisesRegex(Exception, "^start: the source text has 1048578 bytes, 2 more than `sfi build` takes\n"):
+            check_text("é" * (MOST_TEXT // 2 + 1), [])
 
 
 EVERYTHING = r'''
