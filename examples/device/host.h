@@ -123,10 +123,10 @@ enum outcome {
 enum outcome serve(struct world *world, struct call *call);
 
 /* interrupts.c, or a vendor's file in its place. start_interrupts is called before the first turn.
-   answer_interrupt is called at each interrupt but the timer's, with its cause less CAUSE_INTERRUPT; then
-   the turn goes on */
+   answer_interrupt is called at each interrupt but the timer's, with its cause less CAUSE_INTERRUPT, and
+   answers whether it knows that one: then the turn goes on, else the sandbox ends */
 void start_interrupts(void);
-void answer_interrupt(uint32_t cause);
+bool answer_interrupt(uint32_t cause);
 
 /* trap.c */
 void stop_by_trap(struct sandbox *sandbox, uint32_t cause);

@@ -27,14 +27,16 @@ try_services() {
 }
 
 # A vendor's interrupt comes at the first instruction of a turn, ten times.
-try_interrupts() { # the interrupt's number
-    local line lines=''
-    for line in 1 2 3 4 5 6 7 8 9 10; do lines+="interrupt $1"$'\n'; done
+try_interrupts() { # the interrupt's number, where the code of sandbox 0 is
+    local line lines='' told="interrupt $1"
+    for line in 1 2 3 4 5 6 7 8 9 10; do lines+="$told"$'\n'; done
     build "$cases/endless.s" 1 >"$room/image.hex"
     lines+=$("$SFI" run --rounds 2 <"$room/image.hex" | without_steps)
-    export INTERRUPTS=$cases/software_interrupt.c OUT=$room/interrupts
-    report "interrupts of a vendor's own" "$lines" "$(run --rounds 2 <"$room/image.hex")"
-    unset INTERRUPTS OUT
+    report "interrupts of a vendor's own" "$lines" \
+        "$(INTERRUPTS=$cases/software_interrupt.c OUT=$room/interrupts run --rounds 2 <"$room/image.hex")"
+    lines="$told"$'\n'"$told"$'\n'"$told"$'\n'"sandbox=0 trap=Interrupt at=$2 out="
+    report "an interrupt that the vendor's file doesn't know" "$lines" \
+        "$(INTERRUPTS=$cases/unknown_interrupt.c OUT=$room/unknown run --rounds 2 <"$room/image.hex" | head -n 4)"
 }
 
 # The pc and registers of `sfi run --report`, but for the instruction's name.
@@ -57,7 +59,7 @@ try_pcs() { # image
 try_vendor() { # where the code of sandbox 0 is, the interrupt's number
     try_enter "$1"
     try_services
-    try_interrupts "$2"
+    try_interrupts "$2" "$1"
     build "$cases/outside.s" 1 >"$room/image.hex"
     try_report "$room/image.hex"
     try_pcs "$room/image.hex"

@@ -37,8 +37,10 @@ static uint32_t access_address(const struct sandbox *sandbox) {
     return address_of_half(half, sandbox->frame.x);
 }
 
-/* Accepted code never meets Fetch or Illegal. */
+/* Accepted code never meets Fetch or Illegal; `sfi run` knows no Interrupt. */
 static const char *name_of(uint32_t cause) {
+    if (cause & CAUSE_INTERRUPT)
+        return "Interrupt";
     switch (cause) {
     case CAUSE_BREAKPOINT: return "Break";
     case CAUSE_LOAD_MISALIGNED: case CAUSE_LOAD_ACCESS: case CAUSE_LOAD_PAGE: return "Load";

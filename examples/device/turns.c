@@ -6,17 +6,16 @@ _Static_assert(offsetof(struct frame, host_stack) == FRAME_HOST_STACK, "switch.S
 _Static_assert(offsetof(struct frame, retired_before) == FRAME_BEFORE, "switch.S");
 _Static_assert(offsetof(struct frame, retired_after) == FRAME_AFTER, "switch.S");
 
-/* Answers whether the turn goes on after an interrupt or exception. */
+/* Answers whether the turn goes on after an interrupt or exception: after no other cause than these. A
+   processor may tell of an access that failed by an interrupt, or by an NMI. */
 static bool goes_on(struct world *world, uint32_t number, uint32_t cause) {
     struct sandbox *sandbox = &world->sandboxes[number];
     if (cause == CAUSE_TIMER)
         return false;
     if (cause == CAUSE_ECALL)
         return answer_call(world, number);
-    if (cause & CAUSE_INTERRUPT) {
-        answer_interrupt(cause & ~CAUSE_INTERRUPT);
+    if (cause & CAUSE_INTERRUPT && answer_interrupt(cause & ~CAUSE_INTERRUPT))
         return true;
-    }
     stop_by_trap(sandbox, cause);
     sandbox->steps -= cause == CAUSE_BREAKPOINT; /* QEMU counts it; a trap is no step */
     return false;
