@@ -1,0 +1,105 @@
+"""What the scripts of this folder share: their options, how a program is run, and what is counted and printed."""
+import argparse
+import collections
+import os
+import random
+import shutil
+import subprocess
+import sys
+import time
+
+sys.dont_write_bytecode = True
+TOP = os.path.dirname(os.path.dirname(os.path.abspath(__file__)))
+sys.path[:0] = [os.path.join(TOP, "bench"), os.path.join(TOP, "tools")]
+
+import measure
+
+SHOWN = 3  # so many cases of each comparison that differ are printed, with what repeats them
+MOST_SECONDS = 120  # of one command
+
+
+def options(about, rounds):
+    """A parser with the options that all scripts have."""
+    parser = argparse.ArgumentParser(description=about, formatter_class=argparse.RawDescriptionHelpFormatter)
+    parser.add_argument("seeds", nargs="*", type=int, default=[0], metavar="SEED", help="each makes cases of its own (0)")
+    parser.add_argument("--rounds", type=int, default=rounds, help=f"cases of each seed ({rounds})")
+    parser.add_argument("--round", type=int, help="the case of this number alone, to see a failure again")
+    parser.add_argument("--seconds", type=float, default=0, help="go on with further seeds for so long")
+    parser.add_argument("--program", default=measure.PROGRAM, help="the program sfi")
+    return parser
+
+
+def cases(given):
+    """For each case the seed and number that repeat it, and its source of random numbers."""
+    begun, seed = time.monotonic(), 0
+    numbers = range(given.rounds) if given.round is None else [given.round]
+    for seed in given.seeds:
+        yield from ((f"{seed} --round {n}", random.Random(f"{seed}/{n}")) for n in numbers)
+    while time.monotonic() - begun < given.seconds:
+        seed += 1
+        print(f"seed {seed}", flush=True)
+        yield from ((f"{seed} --round {n}", random.Random(f"{seed}/{n}")) for n in numbers)
+
+
+class Ended(collections.namedtuple("Ended", "status lines")):
+    """How a command ended, and the lines that it printed. A negative status is that of a signal."""
+
+
+def run(words, given=b""):
+    try:
+        done = subprocess.run(words, input=given, stdout=subprocess.PIPE, stderr=subprocess.DEVNULL, check=False,
+                              timeout=MOST_SECONDS)
+    except subprocess.TimeoutExpired:
+        return Ended(None, [f"no end after {MOST_SECONDS} seconds"])
+    return Ended(done.returncode, done.stdout.decode(errors="replace").splitlines())
+
+
+def output(words, given=b""):
+    return subprocess.run(words, input=given, stdout=subprocess.PIPE, check=False).stdout.decode()
+
+
+class Tally:
+    """Counts what is compared, by the comparison's name. Each comparison is a test: it has failed where a case differs, or
+    where there was none."""
+
+    def __init__(self, *names):
+        self.compared = dict.fromkeys(names, 0)
+        self.wrong = collections.Counter()
+        self.skipped = 0
+        self.case = ""
+
+    def see(self, name, expected, found, image=b""):
+        self.compared[name] = self.compared.get(name, 0) + 1
+        if expected == found:
+            return True
+        self.wrong[name] += 1
+        if self.wrong[name] <= SHOWN:
+            print(f"DIFFERS {name}, seed {self.case}\n  wanted {str(expected)[:600]}\n  found  {str(found)[:600]}")
+            if image:
+                print(f"  image  {image.hex() if len(image) < 3000 else f'of {len(image)} bytes'}", flush=True)
+        return False
+
+    def skip(self, count, what, why):
+        self.skipped += count
+        print(f"skipped: {what}: {why}")
+
+    def end(self):
+        """Prints the counts and the last line, and gives the status."""
+        failed = 0
+        for name, count in self.compared.items():
+            print(f"{name}: {count} compared, {self.wrong[name]} differ")
+            failed += count == 0 or self.wrong[name] > 0
+        passed = len(self.compared) - failed
+        print(f"{passed} passed, {failed} failed" + (f", {self.skipped} skipped" if self.skipped else ""))
+        return 1 if failed else 0
+
+
+def all_skipped(count, what, why):
+    """Prints that nothing was tried, and gives the status."""
+    tally = Tally()
+    tally.skip(count, what, why)
+    return tally.end()
+
+
+def has_gcc():
+    return shutil.which("gcc") is not None

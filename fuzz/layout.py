@@ -1,0 +1,119 @@
+"""The layout of an image, read by docs/IMAGE.md, apart from the proved reader.
+
+It is untrusted: nothing is proved of it. `fuzz/verdicts.py` compares the program with it.
+"""
+import dataclasses
+import struct
+
+FORMATS = {b"SFI1": 1, b"SFI2": 2, b"SFIW": 3}
+MOST_CODE = {1: 65536, 2: 1048576, 3: 1048576}
+MOST_DATA, GUARD, MOST_GATES, MOST_SERVICE, MOST_SANDBOXES = 1048576, 4096, 64, 5, 16
+FAULTS = ["", "Magic", "Count", "Short", "Code", "Data", "GuardRoom", "Start", "Gates", "Init", "Overlap", "Trailing"]
+
+
+class Fault(Exception):
+    """Bytes that are no image. The number is that of the first test that fails."""
+
+    def __init__(self, name):
+        super().__init__(name)
+        self.number = FAULTS.index(name)
+
+
+@dataclasses.dataclass
+class Part:
+    """A sandbox of an image. gates has the service of each gate by its address."""
+    format: int
+    code_base: int
+    code_size: int
+    data_base: int
+    data_size: int
+    start: int
+    gates: dict
+    code: bytes
+    init: bytes
+    code_offset: int
+
+    def unit(self):
+        """The bytes between the places at which it may be entered."""
+        return 4 if self.format == 3 else 16
+
+    def reserved(self):
+        """What x24 to x27 hold."""
+        return [self.code_base, self.code_size - self.unit(), self.data_base, self.data_size - 1]
+
+    def has_code(self, address):
+        return 0 <= address - self.code_base < self.code_size
+
+    def has_data(self, address, length):
+        return 0 <= address - self.data_base <= self.data_size - length
+
+
+class Bytes:
+    """The bytes that are still to be read."""
+
+    def __init__(self, data):
+        self.data, self.at = data, 0
+
+    def take(self, length):
+        if length > len(self.data) - self.at:
+            raise Fault("Short")
+        self.at += length
+        return self.data[self.at - length : self.at]
+
+    def words(self, count):
+        return struct.unpack(f"<{count}I", self.take(4 * count))
+
+
+def is_region(base, size, most):
+    return 256 <= size <= most and size & (size - 1) == 0 and base % size == 0
+
+
+def need(fact, name):
+    if not fact:
+        raise Fault(name)
+
+
+def add_span(spans, begin, end):
+    need(all(end <= other_begin or other_end <= begin for other_begin, other_end in spans), "Overlap")
+    spans.append((begin, end))
+
+
+def read_gates(read, count, is_start):
+    gates, last = {}, -1
+    for _ in range(count):
+        address, service = read.words(2)
+        need(is_start(address) and address > last and service <= MOST_SERVICE, "Gates")
+        gates[address], last = service, address
+    return gates
+
+
+def read_part(read, format, spans):
+    code_base, code_size, data_base, data_size, start, gate_count, init_size = read.words(7)
+
+    def is_start(address):
+        return address % 16 == 0 and 0 <= address - code_base < code_size
+
+    need(is_region(code_base, code_size, MOST_CODE[format]), "Code")
+    need(is_region(data_base, data_size, MOST_DATA), "Data")
+    need(data_base >= GUARD and data_base + data_size + GUARD <= 1 << 32, "GuardRoom")
+    need(is_start(start), "Start")
+    need(gate_count <= MOST_GATES, "Gates")
+    need(init_size <= data_size, "Init")
+    add_span(spans, code_base, code_base + code_size)
+    add_span(spans, data_base - GUARD, data_base + data_size + GUARD)
+    gates = read_gates(read, gate_count, is_start)
+    offset = read.at
+    code, init = read.take(code_size), read.take(init_size)
+    return Part(format, code_base, code_size, data_base, data_size, start, gates, code, init, offset)
+
+
+def parts(data):
+    """The sandboxes of an image; Fault where the bytes are none."""
+    read, spans = Bytes(data), []
+    format = FORMATS.get(read.take(4))
+    need(format, "Magic")
+    (count,) = read.words(1)
+    need(1 <= count <= MOST_SANDBOXES, "Count")
+    found = [read_part(read, format, spans) for _ in range(count)]
+    need(read.at == len(data), "Trailing")
+    return found
