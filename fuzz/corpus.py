@@ -147,11 +147,11 @@ def findings_of(program, data):
     return ended.status, [(int(sandbox), int(address, 16), rule) for sandbox, address, rule in found]
 
 
-def repaired(program, data, but=frozenset()):
-    """The image with changes until the program finds nothing in it but the rules `but`; None where that doesn't end soon,
-    or it is none."""
+def repaired(findings, data, but=frozenset()):
+    """The image with changes until a checker finds nothing in it but the rules `but`; None where that doesn't end soon, or it
+    is none. findings gives the checker's status and findings."""
     for _ in range(12):
-        status, found = findings_of(program, data)
+        status, found = findings(data)
         wrong = [it for it in found if it[2] not in but]
         if status not in (0, 1):
             return None
