@@ -1,0 +1,155 @@
+#!/usr/bin/env python3
+"""Whether what `sfi` accepts keeps to its sandbox, on an independent machine.
+
+    fuzz/escapes.py [--program PATH] [--rounds N] [--seconds S] [--plant RULE] [SEED ..]
+
+Each case is an image in one of the three formats that `sfi check` accepts: random code in which findings were mended until there
+was none, or an accepted image with changes. Each sandbox is entered at random places with random registers, as far as its format
+allows, and run by fuzz/machine.py on data of addresses and random bytes; others change data at random, and a host's reply changes
+all registers that it may. No run may leave the code, reach what is no instruction, call at no gate, write a reserved register, or
+access anything but the data and the guard zones, where it traps. `--plant V5` takes images that break rule V5 alone: then it has
+to find an escape.
+"""
+import functools
+import struct
+import sys
+
+import fuzzing
+import corpus
+import layout
+import machine
+
+import measure
+import odd_images
+import odd_words
+import word_rules
+
+NAMES = ["verdicts of images in the first format", "verdicts of images in the second format", "verdicts of images in words",
+         "runs in the first format", "runs in the second format", "runs in words"]
+ENTRIES, STEPS, NEAR, MASK = 12, 150, 1020, 0xFFFFFFFF
+RESERVED = slice(24, 28)
+IN_FORMAT = {1: "in the first format", 2: "in the second format", 3: "in words"}
+
+
+class Hostile(machine.Machine):
+    """A sandbox in an environment that does all that the theorem allows."""
+
+    def __init__(self, part, pick):
+        super().__init__(part)
+        self.pick = pick
+        self.change_data(0, part.data_size if part.data_size <= 1024 else 1024)
+
+    def word(self):
+        """A number that leads somewhere: to an end of a region, or anywhere."""
+        part, pick = self.part, self.pick
+        code, data = part.code_base, part.data_base
+        near = [0, 1, MASK, code, code + part.code_size, code + pick.randrange(part.code_size), data, data + part.data_size,
+                data + pick.randrange(part.data_size), data - 4096, data + part.data_size + 4096, pick.getrandbits(32)]
+        return pick.choice(near) & MASK
+
+    def set_registers(self):
+        """As at an entry, or after a reply: the reserved and typed ones as they must be, the others as hostile as may be."""
+        part, pick = self.part, self.pick
+        self.x = [0] + [self.word() for _ in range(31)]
+        self.x[RESERVED] = part.reserved()
+        data, size = part.data_base, part.data_size
+        if part.format == 2:
+            self.x[2] = data + pick.choice([0, size - 1, pick.randrange(size)])
+        if part.format == 3:
+            for register in word_rules.DATA_REGISTERS:
+                self.x[register] = data + pick.choice([-NEAR, size + NEAR - 1, pick.randrange(-NEAR, size + NEAR)])
+            self.x[30] = part.code_base + pick.randrange(0, part.code_size, 4)
+            self.x[31] = pick.choice([0, size - 1, pick.randrange(size)])
+
+    def change_data(self, begin, length):
+        words = b"".join(struct.pack("<I", self.word()) for _ in range(length // 4 + 1))
+        self.data[begin : begin + length] = words[:length]
+
+    def interrupt(self):
+        """Others change data, as a neighbour or a host may."""
+        self.change_data(self.pick.randrange(0, self.part.data_size, 4), 4)
+
+    def why_unsafe(self, stop):
+        """Why a step that wasn't done isn't safe; None where it ends the run safely or is a call at a gate."""
+        if stop.cause in (machine.FETCH, machine.ILLEGAL):
+            return f"reaches no instruction at {stop.at:08x}"
+        if stop.cause == 0 and stop.at not in self.part.gates:
+            return f"calls at no gate, at {stop.at:08x}"
+        if stop.cause in (machine.LOAD, machine.STORE):
+            length = machine.LENGTHS[self.fetch().op]
+            place = stop.at - self.part.data_base
+            if not -layout.GUARD <= place <= self.part.data_size + layout.GUARD - length:
+                return f"accesses {stop.at:08x}, at {self.pc:08x}"
+        return None
+
+    def escape(self, entry):
+        """Why a run from there isn't safe, in so many steps; None where it is."""
+        self.pc = entry
+        self.set_registers()
+        for _ in range(STEPS):
+            if not self.part.has_code(self.pc):
+                return f"leaves the code, to {self.pc:08x}"
+            stop = self.step()
+            if stop:
+                why = self.why_unsafe(stop)
+                if why or stop.cause:
+                    return why
+                self.set_registers()
+                self.pc += 4
+            elif self.x[RESERVED] != self.part.reserved():
+                return f"writes a reserved register before {self.pc:08x}"
+            if self.pick.random() < 0.05:
+                self.interrupt()
+        return None
+
+
+def first_escape(part, pick, entries=ENTRIES):
+    """Of runs from so many random entries the first that isn't safe, and why."""
+    hostile = Hostile(part, pick)
+    for _ in range(entries):
+        entry = part.code_base + pick.randrange(0, part.code_size, part.unit())
+        why = hostile.escape(entry)
+        if why:
+            return f"entered at {entry:08x}, it {why}"
+    return None
+
+
+def candidate(pick, program, format=None):
+    """An image that may be mended to an accepted one."""
+    choice = pick.random()
+    format = format or pick.choice([1, 2, 3, 3])
+    if choice < 0.3:
+        return corpus.mutant(pick, corpus.accepted(pick, program), tuple(corpus.CODE_CHANGES))
+    if format < 3:
+        return odd_images.odd_image(pick.getrandbits(32), pick.choice([1, 2]), 256, format)
+    return odd_words.image(odd_words.small_sandboxes(pick.getrandbits(32)))
+
+
+def try_one(pick, program, planted, tally):
+    findings = functools.partial(corpus.findings_of, program)
+    data = corpus.repaired(findings, candidate(pick, program), frozenset(planted))
+    if data is None:
+        return
+    parts = layout.parts(data)
+    where = IN_FORMAT[parts[0].format]
+    if not planted:
+        expected = f"accepted sandboxes={len(parts)} bundles={sum(part.code_size for part in parts) // 16}"
+        found = fuzzing.run([program, "check", "--raw"], data).lines
+        tally.see(f"verdicts of images {where}", [expected], found, data)
+    for part in parts:
+        tally.see(f"runs {where}", None, first_escape(part, pick), data)
+
+
+def main(words=None):
+    parser = fuzzing.options(__doc__, 250)
+    parser.add_argument("--plant", action="append", default=[], metavar="RULE", help="take images that break this rule")
+    given = parser.parse_args(words)
+    program = measure.program_at(given.program)
+    tally = fuzzing.Tally(*(NAMES if given.round is None and not given.plant else []))
+    for tally.case, pick in fuzzing.cases(given):
+        try_one(pick, program, given.plant, tally)
+    return tally.end()
+
+
+if __name__ == "__main__":
+    sys.exit(main())
