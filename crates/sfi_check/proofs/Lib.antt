@@ -11,4 +11,5 @@ pub mod Chains
 pub mod Judging
 pub mod Pieces
 pub mod Converted
+pub mod ForC
 pub mod Facts

@@ -4,5 +4,6 @@ pub mod Verdict
 pub mod Tallies
 pub mod Streams
 pub mod Feeds
+pub mod ForC
 pub mod Converting
 pub mod private

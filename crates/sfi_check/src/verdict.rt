@@ -13,10 +13,11 @@ ghost use Rattle.sfi_safety.specs.Clean.{IsAccepted};
 use crate::accepted::Accepted;
 use crate::feed::Feed;
 use crate::refusal::Refusal;
+use crate::sink::Nowhere;
 use crate::stream_answer::StreamAnswer;
-use sfi_image::parse_image;
+use sfi_image::{ImageFault, parse_image};
 use sfi_scan::{FindingList, FindingSink, IN_BLOCKS};
-use std::alloc::Global;
+use std::alloc::{AllocError, Global};
 
 /// Accepts the bytes, or says why not, and hands their findings to the sink, by sandbox and then by
 /// address. It takes no memory. Where the bytes are no image, no clause says which findings the sink
@@ -30,6 +31,27 @@ pub fn check_into<F: FindingSink>(bytes: &[u8], sink: &mut F) -> StreamAnswer
     let mut feed = Feed::new();
     feed.feed_into::<F, IN_BLOCKS>(bytes, sink);
     feed.answer()
+}
+
+/// Accepts the bytes, or says why not, with the first finding alone. It takes no memory.
+pub fn judge(bytes: &[u8]) -> StreamAnswer
+    ensures judged { IsVerdictOn bytes.now true result }
+    ensures read { result ≢ StreamAnswer.ReadFault }
+{
+    check_into(bytes, &mut Nowhere)
+}
+
+/// The image that accepted bytes are. An error means that memory ran out.
+pub fn accept<'a>(alloc: Global, bytes: &'a [u8]) -> Result<Accepted<'a>, AllocError>
+    requires { (parts : List Part) × IsAccepted bytes.now parts }
+    ensures accepted { IfOk result (IsAccepted bytes.entry.now) }
+    ensures safe { IfOk result (λ ps. AllRunSafely ps) }
+{
+    match parse_image(alloc, bytes) {
+        Ok(read) => Ok(Accepted::new(read)),
+        Err(ImageFault::Memory) => Err(AllocError),
+        Err(ImageFault::Layout(_)) => unreachable!(),
+    }
 }
 
 /// The refusal for the findings that are on the list.
