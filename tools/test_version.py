@@ -14,6 +14,16 @@ class Version(unittest.TestCase):
             with self.subTest(file=place[0]):
                 self.assertEqual(version.stated(place)[1][1], version.version())
 
+    def test_each_number_is_the_version(self):
+        major, minor, patch = (int(part) for part in version.version().split("."))
+        for place in version.NUMBERS:
+            with self.subTest(file=place[0]):
+                self.assertEqual(int(version.stated(place)[1][1], 0), major * 65536 + minor * 256 + patch)
+
+    def test_the_number_of_a_version(self):
+        self.assertEqual(version.number_of("1.2.34"), "0x010222")
+        self.assertRaises(SystemExit, version.number_of, "0.256.0")
+
     def test_no_other_file_states_one(self):
         """Where a text speaks of a version of this one's spelling, it is listed, or isn't a version of this."""
         listed = {file for file, _ in version.PLACES}

@@ -4,7 +4,8 @@
     tools/version.py [VERSION]
 
 The version is that of the program, `VERSION` in crates/sfi_command/src/help.rt. A header, a package or a page can't read
-it there, so each has a copy of its own: PLACES lists them all, and a test compares them.
+it there, so each has a copy of its own: PLACES lists them all, and a test compares them. NUMBERS lists where it is one
+number, for a program to compare: 65536 for each major version, 256 for each minor and 1 for each patch.
 """
 import pathlib
 import re
@@ -27,6 +28,11 @@ PLACES = [
     ("docs/sfi-trace.1", r'^\.TH .* "Suygapid (.*)" '),
     ("CHANGELOG.md", r"^## (\d+\.\d+\.\d+)"),
 ]
+NUMBERS = [
+    ("crates/sfi_c/src/version.rt", r"\bVERSION_NUMBER: u32 = (\w+);"),
+    ("crates/sfi_c/include/sfi.h", r"#define SFI_VERSION_NUMBER (\w+)"),
+    ("crates/sfi_run/include/sfi_run.h", r"#define SFI_RUN_VERSION_NUMBER (\w+)"),
+]
 
 
 def stated(place):
@@ -43,13 +49,27 @@ def version():
     return stated(FIRST)[1][1]
 
 
+def number_of(words):
+    """The number of a version, as C and Rattle write it: 0x000102 of 0.1.2."""
+    parts = [int(word) for word in words.split(".")]
+    if max(parts) > 255:
+        sys.exit(f"version.py: {words} has no number: a part is above 255")
+    return f"0x{parts[0]:02x}{parts[1]:02x}{parts[2]:02x}"
+
+
+def state(places, words):
+    """Gives each of the places these words."""
+    for place in places:
+        text, found = stated(place)
+        (TOP / place[0]).write_text(text[:found.start(1)] + words + text[found.end(1):], encoding="utf-8")
+
+
 def main(words):
     if words:
         if len(words) > 1 or not re.fullmatch(r"\d+\.\d+\.\d+", words[0]):
             sys.exit("usage: tools/version.py [MAJOR.MINOR.PATCH]")
-        for place in PLACES:
-            text, found = stated(place)
-            (TOP / place[0]).write_text(text[:found.start(1)] + words[0] + text[found.end(1):], encoding="utf-8")
+        state(PLACES, words[0])
+        state(NUMBERS, number_of(words[0]))
     print(version())
 
 

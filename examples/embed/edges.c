@@ -132,6 +132,14 @@ static void try_beginnings(const uint8_t *image, size_t length) {
     }
 }
 
+/* The library is of the header's version. */
+static void try_version(void) {
+    unsigned major, minor, patch;
+    int read = sscanf(SFI_VERSION, "%u.%u.%u", &major, &minor, &patch);
+    expect(read == 3 && SFI_VERSION_NUMBER == major * 65536 + minor * 256 + patch, "the header's version", SFI_VERSION_NUMBER);
+    expect(sfi_c_version() == SFI_VERSION_NUMBER, "the library's version", sfi_c_version());
+}
+
 int main(int argc, char **argv) {
     static uint8_t image[MOST_LENGTH];
     size_t length = fread(image, 1, sizeof image, stdin);
@@ -139,6 +147,7 @@ int main(int argc, char **argv) {
         return 6;
     struct sfi_verdict wanted = verdict_of(argv + 1), verdict;
     struct sfi_finding all[ROOM];
+    try_version();
     sfi_c_findings(image, length, all, ROOM, &verdict);
     for (size_t capacity = 0; capacity <= ROOM; capacity++)
         try_capacity(image, length, &wanted, capacity, all);

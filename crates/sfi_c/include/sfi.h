@@ -10,7 +10,10 @@
  * region. In the third, SFIW, six registers aren't: x2, x3, x4 and x29 lie in the data region or at most 1020 bytes
  * beside it, x30 is a multiple of 4 in the code region, and x31 is less than the data's size. This is proved of the
  * calls below. The library loads and runs nothing: the caller sees to it that memory, host and neighbours are as the
- * theorem asks (README.md has it with its premises).
+ * theorem asks (README.md has it with its premises). One of these is that an access with a byte in a guard zone traps, a
+ * load into x0 too, and that this ends the sandbox's run: it goes on by a new entry alone. In the third format a host that
+ * completes such an access, or steps over it, lets the sandbox out; in the first two nothing is lost by that. A host that
+ * steps over an ebreak lets it out in each format.
  *
  * The calls read nothing but their arguments, keep nothing elsewhere from one to the next, start no thread, read no file
  * and write none. Any number of threads may call them at once. They return whatever the bytes of the image are; the time
@@ -34,8 +37,13 @@
 #include <stddef.h>
 #include <stdint.h>
 
-/* The version of this header, and of the library that it declares: major, minor, patch. */
+/*
+ * The version of this header, and of the library that it declares: major, minor, patch. As a number it is major * 65536 +
+ * minor * 256 + patch: where sfi_c_version, declared below, returns another than SFI_VERSION_NUMBER, the program was linked
+ * with the library of another version than its header.
+ */
 #define SFI_VERSION "0.1.0"
+#define SFI_VERSION_NUMBER 0x000100
 
 #ifdef __cplusplus
 extern "C" {
@@ -89,6 +97,9 @@ _Static_assert(sizeof(struct sfi_finding) == 12 && sizeof(struct sfi_verdict) ==
 #else
 typedef char sfi_structs_have_no_padding[sizeof(struct sfi_finding) == 12 && sizeof(struct sfi_verdict) == 32 ? 1 : -1];
 #endif
+
+/* The version of the library, as a number. */
+uint32_t sfi_c_version(void);
 
 /*
  * Writes the verdict on the `length` bytes at `image` to *verdict, and returns its status. It looks at eight bundles at
@@ -179,7 +190,8 @@ struct sfi_part {
 
 /* A gate of a sandbox. */
 struct sfi_gate {
-    uint32_t address; /* where its ecall lies: in the first two formats at the front of its stub */
+    uint32_t address; /* the listed address: in the first two formats its stub, with its ecall in front, stands there. In
+                         the third only an ecall at a listed address may call, but what stands there isn't tested */
     uint32_t service; /* what the host is asked for: the number of a service (docs/GATES.md) */
 };
 

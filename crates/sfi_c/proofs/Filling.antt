@@ -1,7 +1,7 @@
 -- Findings that are handed over, and written to an array after those before them.
 use Rattle.sfi_c.proofs.Prelude.{◌≡◌, ◌∙◌, ℕ, ◌+◌, ◌-◌, List, [], ◌++◌, length, sym, ap, arith, ◌∷◌, refl, subst, take, drop, min, length-append, Finding, finding_for_c, with_findings}
 use Rattle.std.proofs.Common.{true}
-use Rattle.sfi_c.specs.declared.finding.SfiFinding.{SfiFinding}
+use Rattle.sfi_check.specs.declared.for_c.SfiFinding.{SfiFinding}
 use Rattle.sfi_c.specs.private.{Has}
 use Rattle.sfi_c.proofs.Writing.{over, with_is, over_length, written_after}
 use Rattle.sfi_check.specs.declared.stream_answer.StreamAnswer.{StreamAnswer}

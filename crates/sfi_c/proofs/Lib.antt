@@ -1,4 +1,3 @@
-mod Answering
 mod Filling
 mod Lookups
 mod Places

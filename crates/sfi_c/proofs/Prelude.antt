@@ -1,8 +1,8 @@
 -- Words of std and of definitions that many proofs of this crate use.
 pub use Rattle.sfi_c.specs.Parts.{IsSandboxOf, sandbox_offset}
-pub use Rattle.sfi_c.specs.Verdicts.{finding_for_c, with_findings}
+pub use Rattle.sfi_c.specs.Arrays.{with_findings}
+pub use Rattle.sfi_check.specs.ForC.{finding_for_c}
 pub use Rattle.sfi_c.specs.declared.looking.Lookup.TheVariants.{Beyond, Found}
-pub use Rattle.sfi_c.specs.private.{verdict_of}
 pub use Rattle.sfi_image.specs.Cursor.{IsViewOf}
 pub use Rattle.sfi_image.specs.Spelling.{Part}
 pub use Rattle.sfi_rules.specs.declared.finding.Finding.{Finding}

@@ -2,4 +2,3 @@ pub mod Arrays
 pub mod Parts
 pub mod Streams
 pub mod private
-pub mod Verdicts

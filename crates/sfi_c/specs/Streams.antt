@@ -14,7 +14,7 @@ use Rattle.sfi_rules.specs.declared.owed.Owed.TheVariants as owed
 use Rattle.sfi_check.specs.declared.feed.Feed.{Feed}
 use Rattle.sfi_check.specs.declared.tally.Tally.{Tally}
 use Rattle.sfi_check.specs.Feeds.{IsFed}
-use Rattle.sfi_c.specs.declared.finding.SfiFinding.{SfiFinding}
+use Rattle.sfi_check.specs.declared.for_c.SfiFinding.{SfiFinding}
 use Rattle.sfi_c.specs.declared.stream.SfiStream.{SfiStream}
 
 -- ---- by number: `IsStreamOf`, and its parts, which only private contracts name themselves

@@ -6,14 +6,11 @@ use Rattle.sfi_image.specs.Faults.{IsFault}
 use Rattle.sfi_c.specs.declared.looking.Lookup.{Lookup}
 use Rattle.sfi_c.specs.declared.looking.Lookup.TheVariants.{Found, Beyond, NoImage}
 use Rattle.sfi_c.specs.Parts.{IsSandboxOf}
-use Rattle.sfi_check.specs.declared.stream_answer.StreamAnswer.{StreamAnswer}
-use Rattle.sfi_check.specs.declared.stream_answer.StreamAnswer.TheVariants.{Accepted, Layout, Findings, ReadFault}
-use Rattle.sfi_c.specs.declared.verdict.SfiVerdict.{SfiVerdict}
-use Rattle.sfi_c.specs.Verdicts.{no_finding, acceptance, refusal, no_image, with_findings}
+use Rattle.sfi_c.specs.Arrays.{with_findings}
 use Rattle.std.proofs.Common.{sym, subst, append_assoc}
 use Rattle.std.proofs.lemmas.List.{append-nil}
 use Rattle.sfi_rules.specs.declared.finding.Finding.{Finding}
-use Rattle.sfi_c.specs.declared.finding.SfiFinding.{SfiFinding}
+use Rattle.sfi_check.specs.declared.for_c.SfiFinding.{SfiFinding}
 
 -- ---- what a look-up says, and of which bytes
 
@@ -40,22 +37,6 @@ pub record IsSaid (there further fault : Type 0) (said : Lookup) : Type 0 where
 abbrev pub said_by : {X : Type 0} → Result X Lookup → Lookup
 said_by (Ok x) = Found
 said_by (Err l) = l
-
--- ---- what the numbers mean
-
--- the verdict by an answer; no read fails
-abbrev pub verdict_of : StreamAnswer → SfiVerdict
-verdict_of (Accepted sandboxes bundles) = acceptance sandboxes bundles
-verdict_of (Layout number) = no_image number
-verdict_of (Findings count first) = refusal count first
-verdict_of ReadFault = record {
-  status = 3;
-  layout_fault = 0;
-  sandboxes = 0;
-  bundles = 0;
-  findings = 0;
-  first = no_finding;
-}
 
 -- ---- arrays
 

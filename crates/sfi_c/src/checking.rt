@@ -6,25 +6,11 @@ ghost use Rattle.sfi_image.specs.Faults.{IsFault, number_of as fault_number};
 ghost use Rattle.sfi_rules.specs.declared.finding.Finding.{Finding};
 ghost use Rattle.sfi_check.specs.Verdict.{HasFindings, bundle_count};
 ghost use Rattle.sfi_safety.specs.Clean.{IsAccepted};
-ghost use Rattle.sfi_c.specs.private.{verdict_of};
-ghost use Rattle.sfi_c.specs.Verdicts.{number_of, with_findings, acceptance, refusal, no_image, IsAcceptance, IsRefusal, IsLayoutFault};
+ghost use Rattle.sfi_check.specs.ForC.{number_of, acceptance, refusal, no_image, IsAcceptance, IsRefusal, IsLayoutFault};
+ghost use Rattle.sfi_c.specs.Arrays.{with_findings};
 
-use crate::finding::{Array, SfiFinding, write_findings};
-use crate::verdict::{SfiVerdict, Status, acceptance, no_image, refusal};
-use sfi_check::{StreamAnswer, check_into};
-
-/// The verdict by that answer.
-pub(crate) fn verdict_of(answer: StreamAnswer) -> SfiVerdict
-    requires { answer ≢ StreamAnswer.ReadFault }
-    ensures { result ≡ verdict_of answer }
-{
-    match answer {
-        StreamAnswer::Accepted { sandboxes, bundles } => acceptance(sandboxes, bundles),
-        StreamAnswer::Findings { count, first } => refusal(count, first),
-        StreamAnswer::Layout(number) => no_image(number),
-        StreamAnswer::ReadFault => unreachable!(),
-    }
-}
+use crate::finding::{Array, write_findings};
+use sfi_check::{SfiFinding, SfiVerdict, Status, check_into};
 
 /// Writes the verdict on the bytes to `verdict`, and returns its status. It takes no memory.
 #[unsafe(no_mangle)]
@@ -52,7 +38,7 @@ pub extern "C" fn sfi_c_check(image: &[u8], verdict: &mut SfiVerdict) -> u32
         elements: &mut [],
         written: 0,
     };
-    *verdict = verdict_of(check_into(image, &mut none));
+    *verdict = SfiVerdict::of(check_into(image, &mut none));
     verdict.status
 }
 

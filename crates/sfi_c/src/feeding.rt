@@ -6,13 +6,11 @@ ghost use Rattle.sfi_image.specs.Faults.{IsFault, number_of as fault_number};
 ghost use Rattle.sfi_rules.specs.declared.finding.Finding.{Finding};
 ghost use Rattle.sfi_check.specs.Verdict.{HasFindings, bundle_count};
 ghost use Rattle.sfi_safety.specs.Clean.{IsAccepted};
-ghost use Rattle.sfi_c.specs.Verdicts.{number_of, acceptance, refusal, no_image, IsAcceptance, IsRefusal, IsLayoutFault};
+ghost use Rattle.sfi_check.specs.ForC.{number_of, acceptance, refusal, no_image, IsAcceptance, IsRefusal, IsLayoutFault};
 ghost use Rattle.sfi_c.specs.Streams.{IsStreamOf};
 
-use crate::checking::verdict_of;
 use crate::stream::{SfiStream, feed_of, kept};
-use crate::verdict::{SfiVerdict, Status};
-use sfi_check::Feed;
+use sfi_check::{Feed, SfiVerdict, Status};
 
 /// Begins an image: no byte of it was fed. What the stream held before doesn't matter.
 #[unsafe(no_mangle)]
@@ -61,6 +59,6 @@ pub extern "C" fn sfi_c_end(stream: &SfiStream, verdict: &mut SfiVerdict) -> u32
     ensures only_layout { (bytes : List ℕ) → IsStreamOf stream.now bytes
         → (k : LayoutFault) → IsFault bytes k → verdict.new ≡ no_image (fault_number k) }
 {
-    *verdict = verdict_of(feed_of(stream).answer());
+    *verdict = SfiVerdict::of(feed_of(stream).answer());
     verdict.status
 }

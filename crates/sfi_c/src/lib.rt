@@ -12,12 +12,12 @@ mod looking;
 mod part;
 mod stage;
 mod stream;
-mod verdict;
+mod version;
 
 pub use checking::{sfi_c_check, sfi_c_findings};
 pub use feeding::{sfi_c_begin, sfi_c_end, sfi_c_feed};
-pub use finding::SfiFinding;
 pub use looking::{Lookup, sfi_c_gate, sfi_c_gates, sfi_c_part};
 pub use part::{SfiGate, SfiPart};
+pub use sfi_check::{SfiFinding, SfiVerdict, Status};
 pub use stream::SfiStream;
-pub use verdict::{SfiVerdict, Status};
+pub use version::{VERSION_NUMBER, sfi_c_version};

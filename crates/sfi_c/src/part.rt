@@ -38,7 +38,7 @@ pub struct SfiPart {
 #[repr(C)]
 #[derive(Clone, Copy, PartialEq, Eq, Debug)]
 pub struct SfiGate {
-    /// The bundle in which its stub lies.
+    /// The listed address: in code in bundles its stub stands there; in words what does isn't tested.
     pub address: u32,
     /// What the host is asked for, by the number of a service.
     pub service: u32,

@@ -3,7 +3,7 @@ ghost use Rattle.std.specs.Prelude.{◌≡◌};
 ghost use Rattle.sfi_c.specs.Parts.{format_number};
 ghost use Rattle.sfi_c.specs.Streams.{stage_of, format_of, owed_of, first_finding};
 
-use crate::finding::{SfiFinding, finding_for_c, no_finding};
+use sfi_check::SfiFinding;
 use sfi_image::{Format, Next};
 use sfi_rules::{Finding, Owed, Rule};
 
@@ -94,8 +94,8 @@ pub(crate) fn first_told(first: Option<Finding>) -> SfiFinding
     ensures { first_finding result ≡ first }
 {
     match first {
-        Some(finding) => finding_for_c(finding),
-        None => no_finding(),
+        Some(finding) => SfiFinding::of(finding),
+        None => SfiFinding::none(),
     }
 }
 

@@ -3,12 +3,11 @@ ghost use Rattle.std.specs.Prelude.{◌≡◌};
 ghost use Rattle.sfi_image.specs.Keeping.{IsReader};
 ghost use Rattle.sfi_c.specs.Streams.{fields_of, reader_of, tally_of, fault_of, feed_of};
 
-use crate::finding::SfiFinding;
 use crate::stage::{
     first_finding, first_told, format_number, format_of, owed_number, owed_of, stage_number,
     stage_of,
 };
-use sfi_check::{Feed, Tally};
+use sfi_check::{Feed, SfiFinding, Tally};
 use sfi_image::{Fields, LayoutReader, ReaderParts, Span};
 use std::mem::size_of;
 

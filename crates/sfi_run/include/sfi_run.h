@@ -36,12 +36,16 @@
 #ifndef SFI_RUN_H
 #define SFI_RUN_H
 
+#include "sfi.h"
+
 #include <stdbool.h>
 #include <stddef.h>
 #include <stdint.h>
 
-/* The version of this header, and of the library that it declares: major, minor, patch. */
+/* The version of this header, and of the library that it declares: major, minor, patch; and major * 65536 + minor * 256 +
+ * patch. */
 #define SFI_RUN_VERSION "0.1.0"
+#define SFI_RUN_VERSION_NUMBER 0x000100
 
 #ifdef __cplusplus
 extern "C" {

@@ -1,21 +1,23 @@
-use Rattle.sfi_c.proofs.Prelude.{◌∙◌, ap, ◌∷◌, refl, verdict_of}
-use Rattle.sfi_c.proofs.Answering as by
+use Rattle.sfi_c.proofs.Prelude.{◌≡◌}
 use Rattle.sfi_c.proofs.checking.sfi_c_check.Goals as goal
 
+pub returns-clause-known : goal.returns-clause-known
+returns-clause-known c = (c.of.ensures c.args.image.now c.check_into.ensures.judged).known
+
 pub returns-clause-accepted : goal.returns-clause-accepted
-returns-clause-accepted c = rw c.verdict_of.ensures (by.accepted c.args.image.now c.check_into.result c.check_into.ensures.judged)
+returns-clause-accepted c = (c.of.ensures c.args.image.now c.check_into.ensures.judged).accepted
 
 pub returns-clause-refused : goal.returns-clause-refused
-returns-clause-refused c = rw c.verdict_of.ensures (by.refused c.args.image.now c.check_into.result c.check_into.ensures.judged)
+returns-clause-refused c = (c.of.ensures c.args.image.now c.check_into.ensures.judged).refused
 
 pub returns-clause-layout : goal.returns-clause-layout
-returns-clause-layout c = rw c.verdict_of.ensures (by.layout c.args.image.now c.check_into.result c.check_into.ensures.judged)
+returns-clause-layout c = (c.of.ensures c.args.image.now c.check_into.ensures.judged).layout
 
 pub returns-clause-only_accepted : goal.returns-clause-only_accepted
-returns-clause-only_accepted c = λ ps ok. c.verdict_of.ensures ∙ ap verdict_of (c.check_into.ensures.judged.only_accepted refl ps ok)
+returns-clause-only_accepted c = (c.of.ensures c.args.image.now c.check_into.ensures.judged).only_accepted
 
 pub returns-clause-only_refused : goal.returns-clause-only_refused
-returns-clause-only_refused c = λ first rest h. c.verdict_of.ensures ∙ ap verdict_of (c.check_into.ensures.judged.only_findings refl (first ∷ rest) h first refl)
+returns-clause-only_refused c = (c.of.ensures c.args.image.now c.check_into.ensures.judged).only_refused
 
 pub returns-clause-only_layout : goal.returns-clause-only_layout
-returns-clause-only_layout c = λ k wrong. c.verdict_of.ensures ∙ ap verdict_of (c.check_into.ensures.judged.only_layout refl k wrong)
+returns-clause-only_layout c = (c.of.ensures c.args.image.now c.check_into.ensures.judged).only_layout
