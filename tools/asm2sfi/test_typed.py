@@ -41,7 +41,7 @@ class Places(unittest.TestCase):
                 ("addi gp,tp,4; lw a0,0(gp)", (4, 4, 4)), ("addi gp,gp,4; .a: lw a0,0(gp)", (2, 4, 4)),
                 ("addi gp,gp,4; add a0,a0,gp", (2, 4, 4)), ("addi gp,gp,4; lw zero,0(gp)", (2, 4, 4)),
                 ("addi gp,gp,4; sw zero,0(gp)", (2,)),
-                ("li gp,4097; lw a0,0(gp)", (2, 4, 4, 2))]
+                ("li gp,4097; lw a0,0(gp)", (2, 4, 4, 2)), ("li gp,4097; lw zero,0(gp)", (2, 4, 4, 2, 4, 4))]
         for text, wanted in rows:
             self.assertEqual(part_sizes(*code(text)[:2]), wanted, text)
 

@@ -34,6 +34,8 @@ class Stepping(unittest.TestCase):
             ("lw a0,0(a1); addi a1,a1,4", None),
             ("addi gp,gp,8; lw a0,0(gp); addi gp,gp,4", None),
             ("lw a0,0(gp); .a: addi gp,gp,4", None),
+            ("lw zero,0(gp); addi gp,gp,4", None),
+            ("lw a0,0(gp); lw zero,4(gp); addi gp,gp,4", "addi gp,gp,4; lw a0,-4(gp); lw zero,0(gp)"),
             ("addi gp,gp,4; mv a1,a0; lw zero,0(gp)", None),
             ("addi gp,gp,4; mv a1,a0; sw zero,0(gp)", "mv a1,a0; addi gp,gp,4; sw zero,0(gp)"),
         ]
@@ -76,6 +78,7 @@ class Raising(unittest.TestCase):
             "lw a0,0(gp); beq gp,a3,.b; addi gp,gp,4; bnez a1,.a; .b: ret",
             "lw a0,0(gp); beqz a0,.b; addi gp,gp,4; bnez a1,.a; .b: mv a5,gp; ret",
             "lw a0,0(gp); beqz a0,.b; addi gp,gp,1024; bnez a1,.a; .b: ret",
+            "lw zero,0(gp); beqz a0,.b; addi gp,gp,4; bnez a1,.a; .b: ret",
             "lw a0,0(gp); .b: beqz a0,.c; addi gp,gp,4; bnez a1,.a; .c: ret; g: mv gp,a5; j .b",
         ]
         for text in rows:
