@@ -105,6 +105,15 @@ class Steps(Calls):
         self.assertEqual(self.call("-c", file, "z.o")[2][-1],
                          "sfi-cc: error: z.o holds no assembly: give the files that it was made of")
 
+    def test_hosted(self):
+        """gcc warns of -fhosted where a file is of C++."""
+        os.makedirs(self.path("library/include"))
+        for name, is_asked in (("x.c", True), ("x.cc", False)):
+            self.write("words", "")
+            self.assertEqual(self.call("--cc", self.compiler, "--library", self.path("library"), "-c", self.write(name, ""))[0], 0)
+            self.assertEqual("-fhosted" in self.read("words"), is_asked, name)
+            self.assertIn("-fbuiltin", self.read("words"))
+
     def test_side_by_side(self):
         """The first compiler ends when the second has begun; what they say is in the files' order."""
         compiler = self.write("pair", f'''#!/bin/sh

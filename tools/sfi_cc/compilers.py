@@ -15,6 +15,7 @@ CASES = 64  # of more cases a `switch` is cheaper by a table of addresses than b
 COMMON = ["-march=rv32imc", "-mabi=ilp32", "-fno-builtin", "-ffunction-sections", "-fdata-sections"]
 OF_GCC = ["-Werror=trampolines", f"--param=case-values-threshold={CASES}"]
 PLUS_PLUS = ["-fno-exceptions", "-fno-rtti", "-fno-threadsafe-statics"]
+HOSTED = "-fhosted"  # what undoes -ffreestanding, which C++ isn't compiled with
 LAST = ["-fno-lto"]  # what outweighs the options that are given
 TARGET = ["--target=riscv32-unknown-elf", "-fno-jump-tables"]  # llc makes tables of any five cases, or none
 LLC = ["-march=riscv32", "-target-abi=ilp32", "--function-sections", "--data-sections"]
@@ -77,6 +78,11 @@ def language(file):
     return PLUS_PLUS if file.endswith(PLUS_PLUS_SOURCES) else ["-ffreestanding"]
 
 
+def for_language(file, given):
+    """The options that are given for all files, without what gcc takes for C alone."""
+    return [word for word in given if word != HOSTED] if file.endswith(PLUS_PLUS_SOURCES) else given
+
+
 def default_compiler():
     return CLANG if shutil.which(CLANG) and not shutil.which(GCC) else GCC
 
@@ -93,7 +99,8 @@ def reserved(image_format):
 
 def by_gcc(compiler, given, file, assembly, registers):
     fixed = [*OF_GCC, *(f"-ffixed-x{number}" for number in registers)]
-    return ran([compiler, "-S", "-O2", *COMMON, *fixed, *language(file), *given, *LAST, *HEADERS, "-o", assembly, file])[1]
+    return ran([compiler, "-S", "-O2", *COMMON, *fixed, *language(file), *for_language(file, given), *LAST, *HEADERS,
+                "-o", assembly, file])[1]
 
 
 def by_clang(compiler, given, file, assembly, registers):
@@ -101,8 +108,8 @@ def by_clang(compiler, given, file, assembly, registers):
     middle = assembly + ".bc"
     folder, name = os.path.split(compiler)
     llc = os.path.join(folder, name.replace("clang", "llc"))
-    first = ran([compiler, "-c", "-emit-llvm", "-O2", *TARGET, *COMMON, *language(file), *given, *LAST, *HEADERS,
-                 "-o", middle, file])
+    first = ran([compiler, "-c", "-emit-llvm", "-O2", *TARGET, *COMMON, *language(file), *for_language(file, given),
+                 *LAST, *HEADERS, "-o", middle, file])
     machine = "-mattr=+m,+c," + ",".join(f"+reserve-x{number}" for number in registers)
     return first[1] + ran([llc, level(given), *LLC, machine, "-o", assembly, middle])[1]
 

@@ -20,7 +20,8 @@ LEFT_OUT = {f"libc/{name}.c" for name in (
     "stdlib/mallocr", "stdlib/nano-mallocr",  # in VARIANTS, as the smaller malloc
     "stdio/nano-vfprintf", "stdio/nano-vfprintf_float", "stdio/nano-vfprintf_i",  # printf and scanf without floats
     "stdio/nano-vfscanf", "stdio/nano-vfscanf_float", "stdio/nano-vfscanf_i",
-    "misc/init", "misc/fini")}  # what runs before main is the converter's
+    "misc/init", "misc/fini",  # what runs before main is the converter's
+    "stdlib/assert")}  # in system.c, without printf
 # Files that are compiled several times: the name of each, the file, and its options.
 VARIANTS = [("vfiprintf", "libc/stdio/vfprintf.c", ["-DINTEGER_ONLY"]),
             ("svfprintf", "libc/stdio/vfprintf.c", ["-DSTRING_ONLY"]),
@@ -31,7 +32,14 @@ VARIANTS = [("vfiprintf", "libc/stdio/vfprintf.c", ["-DINTEGER_ONLY"]),
 VARIANTS += [(f"nano-{name}", "libc/stdlib/nano-mallocr.c", ["-DINTERNAL_NEWLIB", f"-DDEFINE_{name.upper()}"])
              for name in ("malloc", "free", "realloc", "calloc", "cfree", "memalign", "valloc", "pvalloc", "mallinfo",
                           "malloc_stats", "malloc_usable_size", "mallopt")]
-OPTIONS = ["-w", "-fhosted", "-fno-common", "-fno-tree-loop-distribute-patterns", "-D_LIBC", "-D_COMPILING_NEWLIB"]
+OPTIONS = ["-w", "-fhosted", "-fno-common", "-fno-tree-loop-distribute-patterns", "-D_LIBC", "-D_COMPILING_NEWLIB",
+           "-D_POSIX_MODE"]  # the functions of math.h set errno, as its math_errhandling says
+# Headers whose functions newlib has for other systems alone, or that want others of such a system. A program that asks for
+# one of them isn't to find it. stdatomic.h is the compiler's own.
+WITHOUT_FUNCTIONS = [f"{name}.h" for name in (
+    "argz", "dirent", "envz", "fenv", "fnmatch", "glob", "grp", "iconv", "ieeefp", "libgen", "pthread", "pwd", "regdef",
+    "sched", "spawn", "stdatomic", "termios", "threads", "utime", "utmp", "wordexp", "sys/dir", "sys/dirent", "sys/fenv",
+    "sys/iconvnls", "sys/resource", "sys/timeb", "sys/utime")]
 SEARCHED = ("libc/time", "libc/stdio", "libc/stdlib", "libc/locale", "libc/ctype", "libc/posix", "libc/string", "libm/common")
 
 
@@ -70,6 +78,9 @@ def compile_all(compiler, heap, folder):
     with ThreadPoolExecutor(os.cpu_count()) as pool:
         list(pool.map(compile_one, [*jobs(tree), *glue]))
     shutil.rmtree(room)
+    for name in WITHOUT_FUNCTIONS:
+        os.remove(os.path.join(include, name))
+    shutil.rmtree(os.path.join(include, "rpc"))
     shutil.copy(os.path.join(GLUE, "setjmp.asm"), folder)
     shutil.copytree(softfloat.folder_of(compiler), folder, dirs_exist_ok=True)
     with open(os.path.join(folder, MARK), "w", encoding="utf-8") as file:
@@ -86,5 +97,5 @@ def folder_of(compiler, heap):
         with open(path, encoding="utf-8") as file:
             own.append(file.read())
     words = [version(compiler), str(heap), identity(NEWLIB_SOURCE.where()), identity(GCC_SOURCE.where()), *own, *OPTIONS,
-             *sorted(LEFT_OUT), *FOLDERS, *POSIX, str(VARIANTS), str(RESERVED_IN_WORDS)]
+             *sorted(LEFT_OUT), *FOLDERS, *POSIX, *WITHOUT_FUNCTIONS, str(VARIANTS), str(RESERVED_IN_WORDS)]
     return kept("newlib", words, lambda folder: compile_all(compiler, heap, folder))

@@ -3,6 +3,7 @@
 #include <errno.h>
 #include <stdint.h>
 #include <stdlib.h>
+#include <string.h>
 #include <sys/stat.h>
 #include <sys/time.h>
 #include <sys/times.h>
@@ -105,6 +106,39 @@ int _unlink(const char *path) {
 int _link(const char *from, const char *to) {
     (void)from, (void)to;
     return refused(ENOENT);
+}
+
+static void tell(const char *text) {
+    _write(ERRORS, text, strlen(text));
+}
+
+static void tell_number(unsigned number) {
+    char digits[12], *at = digits + sizeof digits;
+    *--at = 0;
+    do
+        *--at = '0' + number % 10;
+    while (number /= 10);
+    tell(at);
+}
+
+/* In newlib's words, and without its printf: newlib's own conversion of doubles has asserts. */
+void __assert_func(const char *file, int line, const char *function, const char *failed) {
+    tell("assertion \"");
+    tell(failed);
+    tell("\" failed: file \"");
+    tell(file);
+    tell("\", line ");
+    tell_number(line);
+    if (function) {
+        tell(", function: ");
+        tell(function);
+    }
+    tell("\n");
+    abort();
+}
+
+void __assert(const char *file, int line, const char *failed) {
+    __assert_func(file, line, NULL, failed);
 }
 
 /* The exit code is the one that a shell has of a program that a signal ended. */
