@@ -11,12 +11,10 @@ static int leave(int code) {
 
 int main(int argc, char **argv) {
     int first = getchar();
-    (void)argc;
-    (void)argv;
     if (first == 'b')
         abort();
     if (first == 'e')
         leave(EXIT_FAILURE);
     assert(first != 'a');
-    return 5;
+    return argv && argv[argc] == NULL ? 5 : 6;
 }
