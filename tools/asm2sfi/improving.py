@@ -4,6 +4,7 @@ from control import successors
 from hoisting import with_hoisted_masks
 from instructions import written
 from known import with_known_places
+from limits import check_least
 from liveness import without_unread
 from packing import packed, shortened
 from pairing import with_pairs
@@ -22,6 +23,7 @@ def improved(code, passes, image_format, layout, names):
     """The code after the passes that are named and that the format has. Each branch reaches its label."""
     if "known" in passes:
         code = with_known_places(code, layout)
+        check_least(code, image_format)
     if image_format == WORDS:
         return with_near_branches(improved_words(code, passes, names), names, (WORDS,))
     if "pointing" in passes and image_format == 2:

@@ -1,12 +1,16 @@
-"""What `sfi build` takes at most, told before it refuses the text: docs/SOURCE.md has its faults."""
+"""What `sfi build` takes at most, told before it refuses the text, and where possible before the passes, which take most of
+the time: docs/SOURCE.md has its faults."""
 import os
 from collections import Counter
 
 from assembly import Refused
+from control import is_branch, is_jump, labels_of
+from functions import functions
+from liveness import WITHOUT_EFFECT
 from placement import next_bundle, spans
 from program import START
 from sizes import BUNDLE, number_parts
-from typed import WORDS
+from typed import DATA, WORDS
 
 MOST_CODE = {1: 1 << 16, 2: 1 << 20, WORDS: 1 << 20}  # bytes in each format, with the gates' stubs
 MOST_INSTRUCTIONS = 1 << 16
@@ -67,6 +71,29 @@ def check_count(code):
     count = instructions(code)
     if count > MOST_INSTRUCTIONS:
         raise Refused(START, f"{count} instructions are {count - MOST_INSTRUCTIONS} more than `sfi build` takes"
+                             f"{who_has_most(code)}")
+
+
+def has_loop(code):
+    """Whether control may go back in a function's code."""
+    at = labels_of(code)
+    return any(at.get(piece.operands[-1], number) < number for number, piece in enumerate(code) if is_branch(piece) or is_jump(piece))
+
+
+def may_go(piece, in_loops):
+    """Whether a pass for words may take an instruction away: a move to a data register, and in loops what computes alone."""
+    return piece.word in WITHOUT_EFFECT and (in_loops or piece.word == "mv" and piece.operands[0] in DATA)
+
+
+def check_least(code, image_format):
+    """Refuses code without unread instructions, before the other passes, if it has too many whatever they do: those for
+    bundles take none away."""
+    least = instructions(code)
+    if image_format == WORDS:
+        least -= sum(count_of(piece) for function in functions(code) for in_loops in [has_loop(function.code)]
+                     for piece in function.code if may_go(piece, in_loops))
+    if least > MOST_INSTRUCTIONS:
+        raise Refused(START, f"at least {least} instructions are {least - MOST_INSTRUCTIONS} more than `sfi build` takes"
                              f"{who_has_most(code)}")
 
 

@@ -10,7 +10,7 @@ from addresses import FEW
 from conversion import Options, convert, converted
 from linking import why_undefined
 from layout import DataLayout
-from limits import MOST_CODE, MOST_TEXT, check_code, check_count, check_text, code_size, count_of, who_has_most
+from limits import MOST_CODE, MOST_TEXT, check_code, check_count, check_least, check_text, code_size, count_of, who_has_most
 from naming import Names
 from placement import places
 from sections import DataSection
@@ -267,6 +267,21 @@ class Limits(unittest.TestCase):
             "  instructions of files: big.s 402, a.s 205, small.s 12, the start 2",
             "  instructions of functions: big 401, main 205, small 11, the start 2, big_end 1, small_end 1"])
         self.assertEqual(who_has_most(code("; ".join(f"f{number}: nop" for number in range(20)))).count(", f"), 7)
+
+    @patch("limits.MOST_INSTRUCTIONS", 50)
+    def test_before_the_passes(self):
+        """What is too large whatever the passes do is refused before them. Those for words may take sums out of loops."""
+        text = "f: .a: " + "add a0,a0,a1; " * 20 + "sw a0,0(a2); " * 20 + "bnez a0,.a; ret; g: mv sp,s0; " + "addi a0,a0,1; " * 10 + "ret"
+        check_least(code(text), WORDS)
+        with self.assertRaisesRegex(Exception, "^start: at least 54 instructions are 4 more than"):
+            check_least(code(text), 2)
+        with self.assertRaisesRegex(Exception, "^start: at least 51 instructions are 1 more than"):
+            check_least(code(text.replace("bnez", "nop; " * 18 + "bnez")), WORDS)
+        with patch("improving.with_hoisted_masks") as hoisting, patch("improving.packed") as packing:
+            for image_format in (1, 2, WORDS):
+                _, refusals = convert([("a.s", MAIN + "\tlw a1,0(a0)\n" * 60 + "\tret\n")], [], Options(image_format))
+                self.assertTrue(str(refusals[0]).startswith("start: at least 63 instructions are 13 more"), refusals)
+        self.assertFalse(hoisting.called or packing.called)
 
     def test_text(self):
         check_text("x" * MOST_TEXT, [])
