@@ -146,9 +146,10 @@ def heads(text):
 
 
 def laws(text):
-    """The laws of a crate's proofs/Facts, each with the word of specs/ that is its type."""
+    """The laws of a crate's proofs/Facts, each with the words of specs/ that its type cites."""
     known = imports(text)
-    return {law: known[word] for law, word in re.findall(r"^pub (\w+) : (\w+)$", text, flags=re.M) if word in known}
+    typed = re.findall(r"^pub (\w+) : (.+)$", text, flags=re.M)
+    return {law: {known[name] for name in names_in(type_) & known.keys()} for law, type_ in typed}
 
 
 def facts_of(crate):
@@ -169,7 +170,7 @@ def cited(words):
         for name in named & words.keys():
             found.setdefault(words[name].key, str(path.relative_to(CRATES)))
     for crate in crate_names():
-        for name in set(laws(facts_of(crate)).values()) & words.keys():
+        for name in set().union(*laws(facts_of(crate)).values()) & words.keys():
             found.setdefault(words[name].key, f"{crate}/proofs/Facts.antt")
     return found
 
@@ -377,8 +378,8 @@ def checked_itself():
         "comments": words["c", "A", "near"].comment == "how near it is" and words["c", "A", "near"].line == 5,
         "constructors": words["c", "B", "Two"].key == ("c", "B", "Kind"),
         "sources": sources("# note\na B: C: d\n") == {("a", "B"): "C: d"},
-        "laws": laws("use Rattle.c.specs.Laws.{One, Two as Both}\npub one : One\none = it\npub both : Both\npub near : ℕ\n")
-                == {"one": ("c", "Laws", "One"), "both": ("c", "Laws", "Two")},
+        "laws": laws("use Rattle.c.specs.Laws.{One, Two as Both}\npub one : One\none = it\npub both : (n : ℕ) → Both n\n")
+                == {"one": {("c", "Laws", "One")}, "both": {("c", "Laws", "Two")}},
         "contracts": contracts(ITEMS) == [("rv_word", "laws"), ("rv_word", "f"), ("rv_word", "only")],
         "private": len(imports_of_private("crates/c/specs/A.antt", private)) == 2
                    and not imports_of_private("crates/c/specs/private/A.antt", private),

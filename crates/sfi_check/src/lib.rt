@@ -14,7 +14,6 @@ mod conversion;
 mod ends;
 mod feed;
 mod for_c;
-pub mod laws;
 mod piece;
 mod refusal;
 mod sink;

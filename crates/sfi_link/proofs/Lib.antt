@@ -22,3 +22,4 @@ pub mod Linking
 pub mod SomeLinking
 pub mod Usual
 pub mod Mapping
+pub mod Facts

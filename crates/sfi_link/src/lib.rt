@@ -11,7 +11,6 @@ mod bases;
 mod code;
 mod code_region;
 mod fault;
-pub mod laws;
 mod linker;
 mod names;
 mod right_places;

@@ -5,3 +5,4 @@ pub mod Sandboxes
 pub mod Places
 pub mod Reports
 pub mod OneText
+pub mod Facts

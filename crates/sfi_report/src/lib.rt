@@ -7,7 +7,6 @@
 #![tactic(auto)]
 
 mod digits;
-pub mod laws;
 mod listing;
 mod report;
 mod state;

@@ -14,7 +14,6 @@ mod fault;
 mod filled;
 mod item;
 mod laid_items;
-pub mod laws;
 mod names;
 mod parts;
 mod place;

@@ -14,7 +14,6 @@
 #![tactic(auto)]
 
 mod finding;
-pub mod laws;
 mod owed;
 mod rule;
 
