@@ -155,12 +155,19 @@ class World:
 
 
 
+def findings_by(judge):
+    """The status and findings of an image, as corpus.repaired asks for them."""
+
+    def findings(data):
+        verdict = judge.verdict(data)
+        return verdict.status, verdict.findings
+
+    return findings
+
+
 def image_maker(program, judge):
     """Gives an image: one of the examples, random code that keeps the rules, with gates, or one with changes."""
-
-    def findings_of(data):
-        verdict = judge.verdict(data)
-        return verdict.status, list(verdict.findings)
+    findings = findings_by(judge)
 
     def make(pick):
         choice = pick.random()
@@ -169,7 +176,7 @@ def image_maker(program, judge):
         if choice < 0.65:
             return corpus.small_accepted(pick)
         if choice < 0.85:
-            return corpus.repaired(findings_of, corpus.odd(pick)) or b"SFI1"
+            return corpus.repaired(findings, corpus.odd(pick)) or b"SFI1"
         return corpus.mutant(pick, corpus.accepted(pick, program))
 
     return make

@@ -7,8 +7,9 @@ Each case is an image in one of the three formats that `sfi check` accepts: rand
 was none, or an accepted image with changes. Each sandbox is entered at random places with random registers, as far as its format
 allows, and run by fuzz/machine.py on data of addresses and random bytes; others change data at random, and a host's reply changes
 all registers that it may. No run may leave the code, reach what is no instruction, call at no gate, write a reserved register, or
-access anything but the data and the guard zones, where it traps. `--plant V5` takes images that break rule V5 alone: then it has
-to find an escape.
+access anything but the data and the guard zones, where it traps. In half of the runs the result of each computation but and, or
+and addi, and whether a branch is taken, is random: no rule knows of these. `--plant V5` takes images that break rule V5 alone:
+then it has to find an escape.
 """
 import functools
 import struct
@@ -26,8 +27,9 @@ import word_rules
 
 NAMES = ["verdicts of images in the first format", "verdicts of images in the second format", "verdicts of images in words",
          "runs in the first format", "runs in the second format", "runs in words"]
-ENTRIES, STEPS, NEAR, MASK = 12, 150, 1020, 0xFFFFFFFF
+MOST_ENTRIES, STEPS, NEAR, MASK = 64, 150, 1020, 0xFFFFFFFF
 RESERVED = slice(24, 28)
+KNOWN = ("and", "or", "addi")  # the computations whose results the rules count on
 IN_FORMAT = {1: "in the first format", 2: "in the second format", 3: "in words"}
 
 
@@ -36,7 +38,7 @@ class Hostile(machine.Machine):
 
     def __init__(self, part, pick):
         super().__init__(part)
-        self.pick = pick
+        self.pick, self.is_loose = pick, False
         self.change_data(0, part.data_size if part.data_size <= 1024 else 1024)
 
     def word(self):
@@ -69,6 +71,12 @@ class Hostile(machine.Machine):
         """Others change data, as a neighbour or a host may."""
         self.change_data(self.pick.randrange(0, self.part.data_size, 4), 4)
 
+    def result(self, op, a, b):
+        return super().result(op, a, b) if not self.is_loose or op in KNOWN else self.word()
+
+    def is_taken(self, op, a, b):
+        return self.pick.random() < 0.5 if self.is_loose else super().is_taken(op, a, b)
+
     def why_unsafe(self, stop):
         """Why a step that wasn't done isn't safe; None where it ends the run safely or is a call at a gate."""
         if stop.cause in (machine.FETCH, machine.ILLEGAL):
@@ -84,7 +92,7 @@ class Hostile(machine.Machine):
 
     def escape(self, entry):
         """Why a run from there isn't safe, in so many steps; None where it is."""
-        self.pc = entry
+        self.pc, self.is_loose = entry, self.pick.random() < 0.5
         self.set_registers()
         for _ in range(STEPS):
             if not self.part.has_code(self.pc):
@@ -103,41 +111,47 @@ class Hostile(machine.Machine):
         return None
 
 
-def first_escape(part, pick, entries=ENTRIES):
-    """Of runs from so many random entries the first that isn't safe, and why."""
+def first_escape(part, pick):
+    """Of a run from each entry, or from so many where there are more, the first that isn't safe, and why."""
     hostile = Hostile(part, pick)
-    for _ in range(entries):
-        entry = part.code_base + pick.randrange(0, part.code_size, part.unit())
+    entries = range(part.code_base, part.code_base + part.code_size, part.unit())
+    for entry in pick.sample(entries, min(len(entries), MOST_ENTRIES)):
         why = hostile.escape(entry)
         if why:
             return f"entered at {entry:08x}, it {why}"
     return None
 
 
-def candidate(pick, program, format=None):
+def candidate(pick, program):
     """An image that may be mended to an accepted one."""
-    choice = pick.random()
-    format = format or pick.choice([1, 2, 3, 3])
-    if choice < 0.3:
+    if pick.random() < 0.3:
         return corpus.mutant(pick, corpus.accepted(pick, program), tuple(corpus.CODE_CHANGES))
+    return random_image(pick, pick.choice([1, 2, 3, 3]))
+
+
+def random_image(pick, format):
     if format < 3:
         return odd_images.odd_image(pick.getrandbits(32), pick.choice([1, 2]), 256, format)
     return odd_words.image(odd_words.small_sandboxes(pick.getrandbits(32)))
 
 
-def try_one(pick, program, planted, tally):
-    findings = functools.partial(corpus.findings_of, program)
-    data = corpus.repaired(findings, candidate(pick, program), frozenset(planted))
+def try_image(pick, data, findings, planted, tally):
+    """Runs what becomes of the image where all findings are mended but those of the planted rules. Gives the image."""
+    data = corpus.repaired(findings, data, frozenset(planted))
     if data is None:
-        return
+        return None
     parts = layout.parts(data)
-    where = IN_FORMAT[parts[0].format]
-    if not planted:
-        expected = f"accepted sandboxes={len(parts)} bundles={sum(part.code_size for part in parts) // 16}"
-        found = fuzzing.run([program, "check", "--raw"], data).lines
-        tally.see(f"verdicts of images {where}", [expected], found, data)
     for part in parts:
-        tally.see(f"runs {where}", None, first_escape(part, pick), data)
+        tally.see(f"runs {IN_FORMAT[part.format]}", None, first_escape(part, pick), data)
+    return data
+
+
+def see_verdict(program, data, tally):
+    """`check --raw` has to accept what `check --report` found nothing in."""
+    parts = layout.parts(data)
+    expected = f"accepted sandboxes={len(parts)} bundles={sum(part.code_size for part in parts) // 16}"
+    found = fuzzing.run([program, "check", "--raw"], data).lines
+    tally.see(f"verdicts of images {IN_FORMAT[parts[0].format]}", [expected], found, data)
 
 
 def main(words=None):
@@ -146,8 +160,11 @@ def main(words=None):
     given = parser.parse_args(words)
     program = measure.program_at(given.program)
     tally = fuzzing.Tally(*(NAMES if given.round is None and not given.plant else []))
+    findings = functools.partial(corpus.findings_of, program)
     for tally.case, pick in fuzzing.cases(given):
-        try_one(pick, program, given.plant, tally)
+        data = try_image(pick, candidate(pick, program), findings, given.plant, tally)
+        if data and not given.plant:
+            see_verdict(program, data, tally)
     return tally.end()
 
 

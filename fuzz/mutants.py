@@ -29,7 +29,7 @@ COMMANDS = ["check", "check --report", "dis", "run", "convert"]
 
 class Mutants:
     def __init__(self, program, folder, but, tally):
-        self.program, self.tally = program, tally
+        self.program, self.builder, self.tally = program, program, tally
         self.judge = verdicts.Judge(folder, but)
         self.interpreter = measure.compiled("interpreter.c", os.path.join(folder, "interpreter"))
 
@@ -41,7 +41,7 @@ class Mutants:
 
     def try_one(self, pick):
         changes = corpus.CODE_CHANGES if pick.random() < 0.6 else corpus.CHANGES
-        data = corpus.mutant(pick, corpus.accepted(pick, self.program), tuple(changes))
+        data = corpus.mutant(pick, corpus.accepted(pick, self.builder), tuple(changes))
         verdict, text = self.judge.verdict(data), data.hex().encode()
         turns = ["--rounds", str(pick.choice([1, 3])), "--quantum", str(pick.choice([1, 50, 1000]))]
         words = {name: name.split() + (turns if name == "run" else []) for name in COMMANDS}

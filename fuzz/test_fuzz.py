@@ -1,0 +1,164 @@
+"""Tests of this folder: that its models agree with others, and that each script finds what was planted."""
+import contextlib
+import io
+import os
+import random
+import tempfile
+import unittest
+
+import fuzzing
+import calls
+import commands
+import corpus
+import escapes
+import layout
+import machine
+import mutants
+import verdicts
+import worlds
+
+import images
+import measure
+import testing
+import word_rules
+
+MOST = 600  # cases in which a planted fault has to be found
+KINDS = dict(jal="jal", jalr="jalr", ecall="ecall", ebreak="ebreak", addi="addi")
+KINDS.update({"or": "or", "and": "and", "sb": "store", "sh": "store", "sw": "store"})
+KINDS.update({it: "load" for it, _ in machine.LOADS.values()}, **{it: "branch" for it in machine.TAKEN})
+FORMATS_OF_RULES = {"V9": (1, 2), "V10": (2, 3), "V11": (3,), "V12": (3,)}
+needs_gcc = testing.needs("gcc")
+
+
+def silently(call, *arguments):
+    """What the call gives. What it prints is dropped."""
+    with contextlib.redirect_stdout(io.StringIO()):
+        return call(*arguments)
+
+
+def cases_until_found(tally, try_one):
+    """How many cases it took until one differed; None where none of so many did."""
+    for count in range(MOST):
+        silently(try_one, random.Random(f"planted/{count}"))
+        if tally.wrong:
+            return count + 1
+    return None
+
+
+class Models(unittest.TestCase):
+    def assert_read_alike(self, it, other, bits):
+        """The machine's instruction and that of word_rules.py."""
+        if it is None or other is None:
+            self.assertIs(it, other, bits)
+            return
+        kind = KINDS.get(it.op, "other")
+        self.assertEqual((kind, it.size, it.rd), (other.kind, other.size, other.rd), bits)
+        if kind in ("load", "store", "branch", "jal", "jalr", "addi"):
+            self.assertEqual((it.rs1, it.rs2, it.number), (other.rs1, other.rs2, other.number), bits)
+
+    def test_short_instructions_are_read_alike(self):
+        for half in range(65536):
+            if half & 3 != 3:
+                self.assert_read_alike(machine.decode_short(half), word_rules.short(half), hex(half))
+
+    def test_wide_instructions_are_read_alike(self):
+        pick = random.Random(1)
+        for _ in range(20000):
+            word = pick.getrandbits(32) & ~127 | pick.choice([0x37, 0x17, 0x6F, 0x67, 0x63, 0x03, 0x23, 0x13, 0x33, 0x0F, 0x73])
+            word = word & ~(127 << 25) | pick.choice([0, 1, 32]) << 25 if pick.random() < 0.5 else word
+            self.assert_read_alike(machine.decode_wide(word), word_rules.wide(word), hex(word))
+
+    @needs_gcc
+    def test_the_machine_runs_as_the_interpreter(self):
+        with tempfile.TemporaryDirectory() as folder:
+            interpreter = measure.compiled("interpreter.c", os.path.join(folder, "interpreter"), "-DPLACES")
+            for seed in range(24):
+                data = images.image(images.KINDS[seed % 4], 1, 512, 3, 1 + seed % 3, seed)
+                (line,) = fuzzing.run([interpreter, "each", "1", "300"], data).lines
+                self.assertEqual(self.line_of(data), line)
+
+    def line_of(self, data):
+        """A sandbox's line after a turn of 300 steps, with its pc and stack pointer, as the interpreter prints it."""
+        sandbox = worlds.Sandbox(layout.parts(data)[0])
+        sandbox.turn(300)
+        event = sandbox.event()
+        state = "ready"
+        if event.kind == worlds.TRAPPED:
+            state = f"trap={['', 'Fetch', 'Illegal', 'Break', 'Load', 'Store'][event.number]} at={event.a0:08x}"
+        return f"sandbox=0 {state} steps={sandbox.steps} out= pc={sandbox.pc:08x} sp={sandbox.x[2]:08x}"
+
+
+@needs_gcc
+class Planted(testing.Folder):
+    """A rule is left out of what is expected, or the model of calls has a fault."""
+
+    def found(self, tally, try_one, what):
+        self.assertIsNotNone(cases_until_found(tally, try_one), f"{what} wasn't found")
+
+    @testing.needs_program
+    def test_commands_find_a_rule_left_out(self):
+        for rule in ("V5", "V12"):
+            tally = fuzzing.Tally()
+            judge = verdicts.Judge(self.folder, {rule})
+            self.found(tally, commands.Commands(testing.SFI, judge, tally).try_one, rule)
+
+    @testing.needs_program
+    def test_mutants_find_a_rule_left_out(self):
+        for rule in ("V5", "V10"):
+            tally = fuzzing.Tally()
+            self.found(tally, mutants.Mutants(testing.SFI, self.folder, {rule}, tally).try_one, rule)
+
+    @testing.needs_program
+    def test_mutants_find_a_crash_and_a_wrong_status(self):
+        for name, fault in (("crash", "kill -SEGV $$"), ("status", "exit 0")):
+            program = self.write(name, f'#!/bin/sh\n[ "$1" != convert ] || {fault}\nexec {testing.SFI} "$@"\n', 0o755)
+            tally = fuzzing.Tally()
+            tried = mutants.Mutants(program, self.folder, (), tally)
+            tried.builder = testing.SFI
+            self.found(tally, tried.try_one, name)
+
+    def test_escapes_are_found_without_a_rule(self):
+        findings = calls.findings_by(verdicts.Judge(self.folder))
+        for rule in verdicts.NAMES:
+            for format in FORMATS_OF_RULES.get(rule, (1, 2, 3)):
+                self.found_without(rule, format, findings)
+
+    def found_without(self, rule, format, findings):
+        tally = fuzzing.Tally()
+
+        def try_one(pick):
+            escapes.try_image(pick, escapes.random_image(pick, format), findings, {rule}, tally)
+
+        self.found(tally, try_one, f"a run that isn't safe without {rule} in format {format}")
+
+    @testing.needs_program
+    def test_calls_find_a_fault_of_the_model(self):
+        judge = verdicts.Judge(self.folder)
+        images_of = calls.image_maker(testing.SFI, judge)
+        for name, planted in worlds.PLANTS.items():
+            tally = fuzzing.Tally()
+            self.found(tally, lambda pick: calls.World(pick, images_of, worlds.Model(judge), planted(judge), tally).live(), name)
+
+
+class Scripts(testing.Folder):
+    """A script ends in 1 where something differs, and the case that it names shows it again."""
+
+    @needs_gcc
+    @testing.needs_program
+    def test_a_case_is_repeated(self):
+        words = ["--program", testing.SFI, "--library", "model", "--plant", "ReplyIsNoStep"]
+        printed = io.StringIO()
+        with contextlib.redirect_stdout(printed):
+            self.assertEqual(calls.main([*words, "--rounds", "30", "5"]), 1)
+        case = printed.getvalue().split("seed ")[1].splitlines()[0].split()
+        self.assertEqual(silently(calls.main, [*words, *case]), 1)
+
+    def test_what_is_never_compared_has_failed(self):
+        tally = fuzzing.Tally("one", "two")
+        tally.see("one", 1, 1)
+        self.assertEqual(silently(tally.end), 1)
+        tally.see("two", 1, 1)
+        self.assertEqual(silently(tally.end), 0)
+
+    def test_examples_are_there(self):
+        self.assertGreater(len(corpus.example_sources()), 8)
