@@ -17,7 +17,8 @@ static uint8_t input[LARGEST], room[LARGEST];
 static size_t given;
 
 static bool put(struct sfi_run_world *world, uint32_t i, uint32_t at, uint32_t count) {
-    if (count > LARGEST || count > MOST_OUTPUT - of[i].written || !sfi_run_read(world, i, at, of[i].output + of[i].written, count))
+    if (count > LARGEST ||
+        !sfi_run_read(world, i, at, count, of[i].output + of[i].written, MOST_OUTPUT - of[i].written))
         return false;
     of[i].written += count;
     return true;
@@ -25,7 +26,7 @@ static bool put(struct sfi_run_world *world, uint32_t i, uint32_t at, uint32_t c
 
 static bool get(struct sfi_run_world *world, uint32_t i, uint32_t at, uint32_t *count) {
     size_t left = given - of[i].taken, length = *count < left ? *count : left;
-    if (*count > LARGEST || !sfi_run_read(world, i, at, room, *count) ||
+    if (!sfi_run_read(world, i, at, *count, room, sizeof room) ||
         !sfi_run_write(world, i, at, input + of[i].taken, length))
         return false;
     of[i].taken += length;
@@ -82,7 +83,7 @@ static void print_line(struct sfi_run_world *world, uint32_t i) {
 }
 
 int main(int count, char **words) {
-    struct sfi_run_world world = {0};
+    struct sfi_run_world world = SFI_RUN_NO_WORLD;
     struct sfi_run_event event;
     if (count < 2)
         return 3;

@@ -12,7 +12,7 @@ enum { EXIT, UPPER, STEPS = 10000, LONGEST = 256 };
 /* A text of the sandbox is put into upper case, in a copy of the host's own. */
 static uint32_t upper(struct sfi_run_world *world, uint32_t i, uint32_t at, uint32_t length) {
     uint8_t text[LONGEST];
-    if (length > LONGEST || !sfi_run_read(world, i, at, text, length))
+    if (!sfi_run_read(world, i, at, length, text, sizeof text))
         return UINT32_MAX;
     for (uint32_t k = 0; k < length; k++)
         text[k] = (uint8_t)toupper(text[k]);
@@ -37,11 +37,11 @@ static bool call(struct sfi_run_world *world, uint32_t function, char *text, uin
         take_turn(world, 0, STEPS, serve, &event) != SFI_RUN_EXITED)
         return false;
     *number = event.number;
-    return sfi_run_read(world, 0, data.base, (uint8_t *)text, length);
+    return sfi_run_read(world, 0, data.base, length, (uint8_t *)text, length);
 }
 
 int main(int count, char **words) {
-    struct sfi_run_world world = {0};
+    struct sfi_run_world world = SFI_RUN_NO_WORLD;
     struct sfi_run_registers registers;
     struct sfi_run_event event;
     uint32_t number;

@@ -4,10 +4,14 @@
 #include <stdio.h>
 #include <stdlib.h>
 
-/* Loads the image in a file; where that can't be done, says why and ends in sfi_run_load's status, or in 5. */
+/* Loads the image in a file; where that can't be done, says why and ends in sfi_run_load's status, in 5 or in 6. */
 static inline void load_file(const char *name, struct sfi_run_world *world) {
-    static const char *const reasons[] = {"", "breaks rules: sfi check tells which", "is no image", "needs more memory"};
     static uint8_t image[1 << 26]; /* more than the longest right image */
+    struct sfi_verdict verdict;
+    if (sfi_run_version() != SFI_RUN_VERSION_NUMBER) {
+        fprintf(stderr, "the library is of another version than its header\n");
+        exit(6);
+    }
     FILE *file = fopen(name, "rb");
     size_t length = file ? fread(image, 1, sizeof image, file) : 0;
     if (!file || ferror(file) || length == sizeof image) {
@@ -15,11 +19,16 @@ static inline void load_file(const char *name, struct sfi_run_world *world) {
         exit(5);
     }
     fclose(file);
-    uint32_t status = sfi_run_load(image, length, world);
-    if (status != SFI_RUN_LOADED) {
-        fprintf(stderr, "%s %s\n", name, reasons[status]);
+    uint32_t status = sfi_run_load(image, length, world, &verdict);
+    if (status == SFI_RUN_REFUSED)
+        fprintf(stderr, "%s breaks V%u in sandbox %u at %08x\n", name, (unsigned)verdict.first.rule,
+                (unsigned)verdict.first.sandbox, (unsigned)verdict.first.address);
+    else if (status == SFI_RUN_NO_IMAGE)
+        fprintf(stderr, "%s is no image: layout fault %u\n", name, (unsigned)verdict.layout_fault);
+    else if (status == SFI_RUN_NO_MEMORY)
+        fprintf(stderr, "%s needs more memory\n", name);
+    if (status != SFI_RUN_LOADED)
         exit((int)status);
-    }
 }
 
 /* Replies to the call at which sandbox i stands. Whether the turn goes on. */

@@ -48,7 +48,7 @@ static bool serve(struct sfi_run_world *world, uint32_t i, const struct sfi_run_
 }
 
 int main(int count, char **words) {
-    struct sfi_run_world world = {0};
+    struct sfi_run_world world = SFI_RUN_NO_WORLD;
     struct sfi_run_event event;
     if (count < 2)
         return 3;

@@ -6,7 +6,7 @@
 #include <inttypes.h>
 
 int main(int count, char **words) {
-    struct sfi_run_world world = {0};
+    struct sfi_run_world world = SFI_RUN_NO_WORLD;
     struct sfi_run_event event;
     if (count != 4)
         return 3;

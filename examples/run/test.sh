@@ -1,7 +1,7 @@
 #!/usr/bin/env bash
 # Builds the hosts in C (also for aarch64), Python and Rust, and runs them: the console beside `sfi run` on all examples and the C programs, in
-# both formats and with turns of several lengths; a plug-in that is called as a function; and two that exchange words. Then
-# the bindings' own tests. Says what it skips for want of a tool.
+# each format and with turns of several lengths; a plug-in that is called as a function; and two that exchange words. Then
+# hosts that try the header's sentences, one in C++, and the bindings' own tests. Says what it skips for want of a tool.
 #
 #     examples/run/test.sh [LIBRARY [PROGRAM]]    # LIBRARY is a libsfi_run.a that rt built, PROGRAM is the program sfi
 set -uo pipefail
@@ -24,7 +24,7 @@ succeeds "the libraries are linked" "$top/tools/libraries.py" sfi_run "$library"
 # ---- the hosts: a command line for each example of each language
 declare -A hosts=()
 examples=(console function messages words)
-warnings=(-O2 -Wall -Wextra -pedantic -Werror -I"$top/crates/sfi_run/include")
+warnings=(-O2 -Wall -Wextra -pedantic -Werror -I"$top/crates/sfi_run/include" -I"$top/crates/sfi_c/include")
 
 build_c() {
     local name
@@ -228,23 +228,72 @@ memory() {
     done
 }
 
+# ---- what the header says: of single calls, of memory, of threads, and of C++
+says_so() { # what is tried, what is wanted, and a command
+    local what=$1 wanted=$2
+    shift 2
+    report "$what" "$wanted" "$("$@" 2>&1)"
+}
+
+header_in_c() {
+    local checked=(gcc -std=c11 "${warnings[@]}" -D_POSIX_C_SOURCE=200809L -pthread)
+    local wrapped=-Wl,--wrap=malloc,--wrap=realloc,--wrap=free images=()
+    succeeds "calls.c" "${checked[@]}" "$here/calls.c" "$room/lib/libsfi_run.a" -o "$room/calls"
+    succeeds "threads.c" "${checked[@]}" "$here/threads.c" "$room/lib/libsfi_run.a" -o "$room/threads"
+    succeeds "memory.c" "${checked[@]}" "$here/memory.c" "$room/lib/libsfi_run.a" $wrapped -o "$room/memory"
+    printf '.sandbox 256\n.gate post 4\n li a0, 5\n li a1, 10\n call post\non: j on\n' >"$room/on.s"
+    for format in $formats; do
+        image "$room/on.s" "$format" on
+        says_so "single calls, format $format" "all is so" "$room/calls" "$room/on.image"
+        says_so "four threads and one world, format $format" "10000 steps" "$room/threads" "$room/on.image" 10000
+        image "$here/../hi.s" "$format" "hi_$format"
+        images+=("$room/hi_$format.image")
+    done
+    # its first store no longer goes to the data; the other is cut short
+    xxd -r -p <<<"$("$SFI" build <"$here/../hi.s" | sed s/b37fb501/13000000/)" >"$room/broken.image"
+    head -c 100 "$room/turn.image" >"$room/short.image"
+    images+=("$room/squares.image" "$room/words.image" "$room/broken.image" "$room/short.image")
+    says_so "memory: each allocation refused, and random sessions" "5 loaded, 1 refused, 1 no image" \
+        "$room/memory" "${images[@]}"
+    report "a reason, where rules are broken" "$room/broken.image breaks V5 in sandbox 0 at $(broken_at)" \
+        "$("$room/console" "$room/broken.image" 2>&1)"
+    report "a reason, where it is no image" "$room/short.image is no image: layout fault 3" \
+        "$("$room/console" "$room/short.image" 2>&1)"
+    has valgrind || { skip 2 "calls.c and threads.c under valgrind" "valgrind isn't there" && return; }
+    says_so "calls.c, under valgrind" "all is so" valgrind -q --error-exitcode=9 --leak-check=full --show-leak-kinds=all \
+        "$room/calls" "$room/on.image"
+    says_so "threads.c, under helgrind" "500 steps" valgrind -q --error-exitcode=9 --tool=helgrind "$room/threads" \
+        "$room/on.image" 500
+}
+
+# Where `sfi check --report` says that the rule is broken.
+broken_at() {
+    xxd -p <"$room/broken.image" | tr -d '\n' | "$SFI" check --report | sed -n 's/.*at=\([0-9a-f]*\).*/\1/p' | head -n 1
+}
+
 header_in_cpp() {
-    has g++ || { skip 2 "the header in C++" "g++ isn't there" && return; }
+    has g++ || { skip 5 "the header in C++" "g++ isn't there" && return; }
     local standard
     for standard in c++98 c++17; do
         succeeds "the header in $standard" g++ -std=$standard "${warnings[@]}" -x c++ -fsyntax-only \
             "$top/crates/sfi_run/include/sfi_run.h"
     done
+    succeeds "world.cc" g++ -std=c++17 "${warnings[@]}" "$here/world.cc" "$room/lib/libsfi_run.a" -o "$room/world"
+    has xxd || return
+    says_so "a host in C++" "Hi kind 3 number 105" "$room/world" "$room/hi_2.image"
+    says_so "a host in C++ on what is refused" "status 1, rule 5, layout fault 0" "$room/world" "$room/broken.image"
 }
 
 bindings() {
-    local last
+    local last kind
     SFI_RUN_LIBRARY=$room/lib/libsfi_run.so "$top/tools/unit_tests.py" "$top/bindings/python/tests" >"$room/log" 2>&1
     head -n -1 "$room/log" | grep -v '^OK$\|^\.*$\|^Ran\|^---'
     last=$(tail -n 1 "$room/log")
     add_counts "$last" || report "the tests in Python" "N passed, M failed" "$last"
     has cargo || return
-    succeeds "cargo test" env -C "$top/bindings/rust" SFI_RUN_LIBRARY="$room/lib/libsfi_run.a" cargo test -q --locked
+    for kind in "" --release; do # arithmetic that overflows panics in the first alone
+        succeeds "cargo test $kind" env -C "$top/bindings/rust" SFI_RUN_LIBRARY="$room/lib/libsfi_run.a" cargo test -q --locked $kind
+    done
 }
 
 build_c
@@ -257,6 +306,7 @@ if has xxd; then
     no_images
     documented
     memory
+    header_in_c
 else
     skip 1 "all runs" "xxd isn't there"
 fi

@@ -32,7 +32,7 @@ static uint32_t word(const uint8_t *bytes) {
 static bool find(struct sfi_run_world *world, struct table *table) {
     struct sfi_run_event event;
     uint8_t bytes[16];
-    if (run(world, &event) != SFI_RUN_EXITED || !sfi_run_read(world, 0, event.number, bytes, sizeof bytes))
+    if (run(world, &event) != SFI_RUN_EXITED || !sfi_run_read(world, 0, event.number, sizeof bytes, bytes, sizeof bytes))
         return false;
     *table = (struct table){word(bytes), word(bytes + 4), word(bytes + 8), word(bytes + 12)};
     return true;
@@ -46,11 +46,11 @@ static bool capitalize(struct sfi_run_world *world, const struct table *table, c
         !sfi_run_enter(world, 0, table->capitalize, arguments) || run(world, &event) != SFI_RUN_EXITED)
         return false;
     *number = event.number;
-    return sfi_run_read(world, 0, table->text, (uint8_t *)text, length);
+    return sfi_run_read(world, 0, table->text, length, (uint8_t *)text, length);
 }
 
 int main(int count, char **words) {
-    struct sfi_run_world world = {0};
+    struct sfi_run_world world = SFI_RUN_NO_WORLD;
     struct sfi_run_event event;
     struct table table;
     uint32_t number;

@@ -2,33 +2,50 @@
  * The sandboxes of Suygapid for hosts in C and C++: an image is checked and loaded into a world, its sandboxes get turns,
  * and where one calls a gate the host gets control back, serves the call in its own way, and replies.
  *
- * Only an image that is accepted is loaded: so whatever its code does, and whatever the host writes, enters and replies,
- * every load and store of a sandbox falls in its own data region or guard zones, where it traps, no code byte changes, and
- * control leaves only through a listed gate. The sandboxes run in a memory of the library's own, step by step: no code of
- * theirs runs on the host's processor, and no address of theirs is one of the host's. This is proved of the calls below
- * (README.md has the theorem with its premises, docs/PROOFS.md what is proved of each call).
+ * Only an image that is accepted is loaded: so whatever its code does, and whatever the host writes, enters, stops and
+ * replies, every load and store of a sandbox falls in its own data region or guard zones, where it traps, no code byte
+ * changes, and control leaves only through a listed gate. This is proved of the calls below (README.md has the theorem
+ * with its premises, docs/PROOFS.md what is proved of each call). The sandboxes run in a memory of the library's own, step
+ * by step: no code of theirs runs on the host's processor, and no address of theirs is one of the host's.
+ *
+ * One premise is worth a word, since images of the third format rest on it: an access with a byte in a guard zone traps,
+ * and the trap ends the run. The sandbox goes on by sfi_run_enter alone, which sets its registers anew. The library keeps
+ * this. A host that runs accepted code by other means (sfi.h) has to: where it completes such an access, or steps over it,
+ * code of the third format can leave its sandbox.
  *
  * The calls read nothing but their arguments and the world, keep nothing elsewhere, start no thread, and read and write no
- * file. They take memory by malloc and give it back by free: sfi_run_load for a world, and sfi_run_turn none. Each returns:
- * sfi_run_turn after at most the steps that it was given.
+ * file. sfi_run_load takes memory by malloc and realloc, for the world of an accepted image alone; sfi_run_load and
+ * sfi_run_free give it back by free; the other calls do neither. Each returns: sfi_run_turn after at most the steps that
+ * it was given. A thread with 64 KiB of stack had room for each where that was measured.
  *
  * What a caller owes, since nothing checks it:
  *
- * - A world begins as zeros, and nobody but these calls writes it then.
- * - A world may be moved: its bytes are copied, and the old ones are used no more. Of two copies only one is ever used,
- *   and none once it was freed. A world that goes out of use is freed first, or its memory is lost.
- * - One call at a time uses a world, and all calls on it are made by the thread that loaded it. Calls on different worlds
- *   may be made by different threads at once.
- * - Each pointer is not NULL and is aligned, also where its length is 0. `length` bytes at it can be read, and written
- *   where it isn't const, and are fewer than PTRDIFF_MAX. What the arguments of a call point to doesn't overlap, and
- *   nothing else reads or writes it during the call. No value has to be in what a call is to write.
+ * - A world begins as SFI_RUN_NO_WORLD, or as zeros, and nobody but these calls writes it then. One that begins as
+ *   anything else is freed as if it were a world: sfi_run_load, too, frees what is there.
+ * - A world may be moved: its bytes are copied, and the old ones are used no more. Of two copies only one is ever used:
+ *   to free one, and then to free or use the other, is as wrong as to free a block of malloc twice. To free one and the
+ *   same struct twice is right: the first time left no world in it. A world that goes out of use is freed first, or its
+ *   memory is lost.
+ * - One call at a time uses a world. Any thread may make it; where two threads use a world, a lock, a join or the like
+ *   orders their calls, also those that only look. Calls on different worlds may be made at once.
+ * - No call is made in a signal handler, nor in the forked child of a process that had threads. None is left by longjmp,
+ *   by a C++ exception or by ending its thread: during a call, also one that only looks, the struct says that there is no
+ *   world, and so the world of a call that is left is lost. What bounds the time of a turn is the number of its steps.
+ * - Each pointer is not NULL and is aligned, also where its length is 0. `length` bytes at it can be read, and `room` bytes
+ *   written where it isn't const, and are fewer than PTRDIFF_MAX. What the arguments of a call point to doesn't overlap.
+ *   No value has to be in what a call is to write.
+ * - Nothing else reads or writes what the arguments point to during the call: no thread, and no other process that shares
+ *   the memory. sfi_run_load reads the image twice, to check it and to copy it: an image in a mapped file (mmap) that
+ *   changes in between isn't what was checked, and the theorem says nothing of it. Read the file into memory of your own.
  * - What malloc, realloc and free are to the library's heap.c is one allocator, which keeps what the C standard says.
  *
  * What a host need not fear: a sandbox's number that is too large, an address outside its data, or a reply where none is
- * due. Such a call answers so, and changes nothing. A world of zeros is right in every call: it has no sandbox.
+ * due. Such a call answers so, and changes nothing. No world is right in every call: it has no sandbox.
  *
- * What a sandbox leaves in its data, and passes in a call, may be any bytes and numbers at all: test them before you rely
- * on them.
+ * What a sandbox leaves in its data, and passes in a call, may be any bytes and numbers at all, lengths too: test them
+ * before you rely on them.
+ *
+ * In C++ say `struct sfi_run_event` and `struct sfi_run_registers`, as in C: the names alone are those of the calls.
  *
  * Link libsfi_run.a and crates/sfi_run/c/heap.c, which an installed library has in it (docs/EMBEDDING.md has the command
  * lines).
@@ -36,14 +53,14 @@
 #ifndef SFI_RUN_H
 #define SFI_RUN_H
 
-#include "sfi.h"
+#include "sfi.h" /* struct sfi_verdict; its calls are those of libsfi_c, and no host of this library needs them */
 
 #include <stdbool.h>
 #include <stddef.h>
 #include <stdint.h>
 
-/* The version of this header, and of the library that it declares: major, minor, patch; and major * 65536 + minor * 256 +
- * patch. */
+/* The version of this header, and of the library that it declares: major, minor, patch; as a number it is
+ * major * 65536 + minor * 256 + patch. */
 #define SFI_RUN_VERSION "0.1.0"
 #define SFI_RUN_VERSION_NUMBER 0x000100
 
@@ -51,18 +68,25 @@
 extern "C" {
 #endif
 
-/* A world, or none. Begin with `struct sfi_run_world world = {0};`. Both fields are the library's own. */
+/*
+ * The version of the library that is linked, or loaded, as a number. Where it isn't SFI_RUN_VERSION_NUMBER of the header
+ * with which the host was compiled, make no other call.
+ */
+uint32_t sfi_run_version(void);
+
+/* A world, or none. Begin with `struct sfi_run_world world = SFI_RUN_NO_WORLD;`. Both fields are the library's own. */
 struct sfi_run_world {
     uint32_t held;
     void *at;
 };
+#define SFI_RUN_NO_WORLD {0, NULL}
 
 /* What became of an image that was to be loaded. */
 enum sfi_run_status {
     SFI_RUN_LOADED = 0,   /* it is accepted, and its world is there */
-    SFI_RUN_REFUSED = 1,  /* rules are broken in it (sfi.h tells which) */
-    SFI_RUN_NO_IMAGE = 2, /* the bytes are no image */
-    SFI_RUN_NO_MEMORY = 3 /* there was no memory for the check or for the world */
+    SFI_RUN_REFUSED = 1,  /* rules are broken in it: the verdict says how often, and the first finding */
+    SFI_RUN_NO_IMAGE = 2, /* the bytes are no image: the verdict says why */
+    SFI_RUN_NO_MEMORY = 3 /* it is accepted, and there was no memory for its world */
 };
 
 /* How a sandbox stands. */
@@ -71,7 +95,8 @@ enum sfi_run_kind {
     SFI_RUN_READY = 1,  /* it can take a turn, and doesn't stand at a call */
     SFI_RUN_CALL = 2,   /* it stands at a call, and waits for a reply */
     SFI_RUN_EXITED = 3, /* it has stopped, by a reply with sfi_run_exit */
-    SFI_RUN_TRAPPED = 4 /* it has stopped, at an instruction that trapped */
+    SFI_RUN_TRAPPED = 4, /* it has stopped, at an instruction that trapped */
+    SFI_RUN_STOPPED = 5  /* it has stopped, by sfi_run_stop */
 };
 
 /* Why a sandbox trapped. Accepted code never meets the first two. */
@@ -86,7 +111,7 @@ enum sfi_run_cause {
 /* How a sandbox stands, with what belongs to it. What its kind doesn't speak of is 0. */
 struct sfi_run_event {
     uint32_t kind;   /* one of enum sfi_run_kind */
-    uint32_t number; /* CALL: the service (docs/GATES.md); EXITED: the number; TRAPPED: one of enum sfi_run_cause */
+    uint32_t number; /* CALL: the service, 0 to 5 (docs/GATES.md); EXITED: the number; TRAPPED: one of enum sfi_run_cause */
     uint32_t a0;     /* CALL: a0; TRAPPED: the address of the access, and for the causes 1 to 3 the pc */
     uint32_t a1;     /* CALL: a1 */
 };
@@ -121,10 +146,16 @@ _Static_assert(sizeof(struct sfi_run_event) == 16 && sizeof(struct sfi_run_regio
  * Frees the world that was there, checks the image, and where it is accepted makes the world of its sandboxes, each ready
  * at its start (docs/GATES.md has the registers). Returns one of enum sfi_run_status; unless it is SFI_RUN_LOADED there is
  * no world. The image is copied: its bytes are not needed after the call.
+ *
+ * Writes to *verdict what sfi_c_check of sfi.h says of the image, whatever the status is. Memory is taken of accepted
+ * bytes alone: whether the status is SFI_RUN_REFUSED or SFI_RUN_NO_IMAGE doesn't hang on it.
+ *
+ * The world that was there is gone also where the new image is refused. To go on with the old one then, load into a
+ * second struct, and only where that is loaded free the first and copy the second to it.
  */
-uint32_t sfi_run_load(const uint8_t *image, size_t length, struct sfi_run_world *world);
+uint32_t sfi_run_load(const uint8_t *image, size_t length, struct sfi_run_world *world, struct sfi_verdict *verdict);
 
-/* Frees the world. There is none then, and another image may be loaded. */
+/* Frees the world. There is none then, and another image may be loaded. Where there was none, nothing happens. */
 void sfi_run_free(struct sfi_run_world *world);
 
 /* How many sandboxes there are, 1 to 16; 0 where there is no world. They are numbered from 0, in the image's order. */
@@ -135,7 +166,8 @@ size_t sfi_run_count(struct sfi_run_world *world);
 /*
  * Runs a sandbox for at most so many steps, and no further than its next call. Writes to *event how it stands then, and
  * returns the event's kind. Where it stands at a call already, or has stopped, it does no step. An instruction that is done
- * and a call that is replied to are a step each (sfi_run_steps counts them); a trap is none.
+ * and a call that is replied to are a step each (sfi_run_steps counts them); a trap is none, but a turn of no steps meets
+ * none.
  *
  * One that stands at a call has done all before it and nothing of the call: its data can be read and written, and the
  * data as they are when the reply comes are what it goes on with.
@@ -148,30 +180,41 @@ uint32_t sfi_run_event(struct sfi_run_world *world, uint32_t sandbox, struct sfi
 /*
  * The reply to the call at which the sandbox stands: a0 and a1 get these values, the other registers stay, and in its next
  * turn it goes on after the call. A host that doesn't mean to change a1 hands back the call's. Returns false where it
- * stands at no call, and nothing changes then: so a call gets one reply.
+ * stands at no call, and nothing changes then: so a call gets one reply. The reply is a step.
  */
 bool sfi_run_reply(struct sfi_run_world *world, uint32_t sandbox, uint32_t a0, uint32_t a1);
 
 /*
- * The other reply: the sandbox stops at the call, with that number. a0 becomes that number, and a1 0. Returns false
- * likewise.
+ * The other reply: the sandbox stops at the call, with that number. a0 becomes that number, and a1 0; pc stays at the call,
+ * and the reply is a step. Returns false likewise.
  */
 bool sfi_run_exit(struct sfi_run_world *world, uint32_t sandbox, uint32_t number);
+
+/*
+ * Stops a sandbox that is ready or stands at a call: no turn runs it, and no call of it gets a reply. Its data, pc,
+ * registers and steps stay, and sfi_run_enter may enter it again. So a host keeps the data of one that was cut off in a
+ * loop. Returns false where there is no such sandbox or it has stopped already, and changes nothing then.
+ */
+bool sfi_run_stop(struct sfi_run_world *world, uint32_t sandbox);
 
 /* ---- between turns: whether the sandbox is ready, stands at a call or has stopped */
 
 /*
- * Copies `length` bytes of the sandbox's data, from the address `at` on, to `bytes`; or from `bytes` into its data. All of
- * them; or returns false, where there is no such sandbox or one of the addresses is none of its data region's, and changes
- * nothing.
+ * Copies `length` bytes of the sandbox's data, from the address `at` on, to `bytes`, where there is room for `room` bytes.
+ * `at` and `length` may be numbers that the sandbox passed; `room` is the host's. Returns false, and writes nothing, where
+ * `length` is larger than `room`, there is no such sandbox, or one of the addresses is none of its data region's. What
+ * follows the first `length` bytes isn't written. 0 bytes are copied from any address.
  */
-bool sfi_run_read(struct sfi_run_world *world, uint32_t sandbox, uint32_t at, uint8_t *bytes, size_t length);
+bool sfi_run_read(struct sfi_run_world *world, uint32_t sandbox, uint32_t at, size_t length, uint8_t *bytes, size_t room);
+
+/* Copies `length` bytes into the sandbox's data, from the address `at` on: all of them, or returns false likewise. */
 bool sfi_run_write(struct sfi_run_world *world, uint32_t sandbox, uint32_t at, const uint8_t *bytes, size_t length);
 
 /*
  * Makes a sandbox that has stopped ready at pc, with these arguments in a0 to a7, as a function is called; the other
- * registers are as sfi_run_load sets them. Its data stay, and its steps are counted on. Returns false where there
- * is no such sandbox, it hasn't stopped, or no bundle or word of its code begins at pc, and changes nothing then.
+ * registers are as sfi_run_load sets them, but for x30, which is pc in the third format. Its data stay, and its steps are
+ * counted on. Returns false where there is no such sandbox, it hasn't stopped, or no bundle or word of its code begins at
+ * pc, and changes nothing then. x1 is 0: a function ends by a call, and not by `ret` (docs/EMBEDDING.md).
  */
 bool sfi_run_enter(struct sfi_run_world *world, uint32_t sandbox, uint32_t pc, const uint32_t arguments[8]);
 

@@ -1,0 +1,87 @@
+/* What sfi_run.h says of single calls, tried on a plug-in that calls service 4 with 5 and 10, and loops for ever once it is
+ * answered.
+ *
+ *     calls IMAGE    # prints "all is so", or what isn't
+ */
+#include "host.h"
+#include <string.h>
+
+static void wanted(bool is_so, const char *what) {
+    if (is_so)
+        return;
+    printf("not so: %s\n", what);
+    exit(1);
+}
+
+static bool is_event(struct sfi_run_world *world, uint32_t kind, uint32_t number, uint32_t a0, uint32_t a1) {
+    struct sfi_run_event event;
+    return sfi_run_event(world, 0, &event) == kind && event.kind == kind && event.number == number && event.a0 == a0 &&
+           event.a1 == a1;
+}
+
+static void no_world(void) {
+    static const uint32_t arguments[8];
+    struct sfi_run_world world = SFI_RUN_NO_WORLD;
+    struct sfi_run_event event = {9, 9, 9, 9};
+    uint8_t byte = 7;
+    sfi_run_free(&world);
+    sfi_run_free(&world);
+    wanted(sfi_run_count(&world) == 0 && sfi_run_steps(&world, 0) == 0, "no world has no sandbox");
+    wanted(sfi_run_turn(&world, 0, 1, &event) == SFI_RUN_NONE && is_event(&world, SFI_RUN_NONE, 0, 0, 0), "nor an event");
+    wanted(!sfi_run_stop(&world, 0) && !sfi_run_enter(&world, 0, 0, arguments) && !sfi_run_reply(&world, 0, 1, 1) &&
+               !sfi_run_read(&world, 0, 0, 0, &byte, 1) && !sfi_run_write(&world, 0, 0, &byte, 0),
+           "each call says so");
+}
+
+static void reads(struct sfi_run_world *world) {
+    struct sfi_run_region data;
+    uint8_t bytes[8], nines[8];
+    memset(nines, 9, sizeof nines);
+    memset(bytes, 9, sizeof bytes);
+    wanted(sfi_run_data(world, 0, &data) && sfi_run_write(world, 0, data.base, (const uint8_t *)"abcdef", 6), "data are written");
+    wanted(!sfi_run_read(world, 0, data.base, 5, bytes, 4) && !memcmp(bytes, nines, 8), "5 bytes have no room in 4");
+    wanted(!sfi_run_read(world, 0, data.base, UINT32_MAX, bytes, 8) && !memcmp(bytes, nines, 8), "nor have 2^32 - 1 in 8");
+    wanted(!sfi_run_read(world, 0, data.base + data.size - 1, 2, bytes, 8) && !memcmp(bytes, nines, 8),
+           "a byte beyond the data isn't read, and then none is");
+    wanted(sfi_run_read(world, 0, data.base, 3, bytes, 8) && !memcmp(bytes, "abc\t\t\t\t\t", 8), "what follows 3 bytes stays");
+    wanted(sfi_run_read(world, 0, 0, 0, bytes, 0), "no bytes are read from any address");
+}
+
+static void stops(struct sfi_run_world *world) {
+    struct sfi_run_registers before, after;
+    struct sfi_run_event event;
+    uint8_t byte = 0;
+    struct sfi_run_region data;
+    sfi_run_registers(world, 0, &before);
+    const uint32_t start = before.pc, arguments[8] = {1, 2, 3, 4, 5, 6, 7, 8};
+    wanted(!sfi_run_enter(world, 0, start, arguments), "what is ready can't be entered");
+    wanted(sfi_run_turn(world, 0, 1000, &event) == SFI_RUN_CALL && is_event(world, SFI_RUN_CALL, 4, 5, 10), "it calls");
+    wanted(sfi_run_reply(world, 0, 0, 0) && sfi_run_turn(world, 0, 1000, &event) == SFI_RUN_READY, "it loops");
+    uint64_t steps = sfi_run_steps(world, 0);
+    sfi_run_data(world, 0, &data);
+    sfi_run_registers(world, 0, &before);
+    wanted(sfi_run_stop(world, 0) && is_event(world, SFI_RUN_STOPPED, 0, 0, 0), "what loops is stopped");
+    wanted(!sfi_run_stop(world, 0) && !sfi_run_reply(world, 0, 0, 0) && !sfi_run_exit(world, 0, 0), "once, and takes no reply");
+    wanted(sfi_run_turn(world, 0, 1000, &event) == SFI_RUN_STOPPED && sfi_run_steps(world, 0) == steps, "no turn runs it");
+    wanted(sfi_run_registers(world, 0, &after) && !memcmp(&before, &after, sizeof before), "its registers stay");
+    wanted(sfi_run_read(world, 0, data.base + 2, 1, &byte, 1) && byte == 'c', "its data stay");
+    wanted(!sfi_run_enter(world, 0, data.base, arguments) && sfi_run_enter(world, 0, start, arguments), "it is entered again");
+    wanted(sfi_run_turn(world, 0, 1000, &event) == SFI_RUN_CALL && sfi_run_stop(world, 0) && !sfi_run_reply(world, 0, 0, 0),
+           "it is stopped at a call, and the call gets no reply");
+}
+
+int main(int count, char **words) {
+    struct sfi_run_world world = SFI_RUN_NO_WORLD;
+    if (count < 2)
+        return 3;
+    no_world();
+    load_file(words[1], &world);
+    reads(&world);
+    stops(&world);
+    wanted(!sfi_run_stop(&world, 1) && !sfi_run_stop(&world, UINT32_MAX), "who isn't there isn't stopped");
+    sfi_run_free(&world);
+    sfi_run_free(&world);
+    wanted(sfi_run_count(&world) == 0, "a world is freed once, and its struct as often as one likes");
+    printf("all is so\n");
+    return 0;
+}
