@@ -54,7 +54,9 @@ impl Console {
 
     /// Replies to a call. Whether the turn goes on.
     fn serve(&mut self, sandbox: &mut Sandbox, call: Call) -> bool {
-        let Call { service, a0, a1 } = call;
+        let Call {
+            service, a0, a1, ..
+        } = call;
         let me = sandbox.number();
         let (a0, a1) = match service {
             0 => return sandbox.exit(a0).is_err(),
@@ -70,7 +72,7 @@ impl Console {
     /// What `sfi run` prints of a sandbox.
     fn line(&self, sandbox: &mut Sandbox) -> String {
         let state = match sandbox.event() {
-            Event::Ready | Event::Call(_) => "ready".to_string(),
+            Event::Ready | Event::Call(_) | Event::Stopped => "ready".to_string(),
             Event::Exited(number) => format!("exit={number}"),
             Event::Trapped { cause, address } => format!("trap={cause:?} at={address:08x}"),
         };

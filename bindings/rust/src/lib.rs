@@ -28,45 +28,90 @@ use std::ptr;
 mod sys;
 pub use sys::{Region, Registers};
 
+/// A rule that is broken, and where.
+#[derive(Clone, Copy, Debug, PartialEq, Eq)]
+pub struct Finding {
+    /// The sandbox's place in the image, counted from 0.
+    pub sandbox: u32,
+    /// That of the instruction's first byte, or of the bytes that are none; for V9 the gate's.
+    pub address: u32,
+    /// 1 for V1 to 12 for V12.
+    pub rule: u32,
+}
+
 /// Why there is no world of an image.
 #[derive(Clone, Copy, Debug, PartialEq, Eq)]
 pub enum LoadError {
-    /// Rules are broken in it: `sfi check --report` tells which.
-    Refused,
-    /// The bytes are no image: `sfi check` tells why.
-    NoImage,
-    /// There was no memory for the check or for the world.
+    /// Rules are broken in it.
+    Refused {
+        /// How often, at least once: `sfi check --report` tells all.
+        findings: u32,
+        /// The first, by sandbox and then by address.
+        first: Finding,
+    },
+    /// The bytes are no image, by the layout's fault of this number, 1 to 11, as `sfi check` names it.
+    NoImage(u32),
+    /// The image is accepted, and there was no memory for its world.
     NoMemory,
+    /// The library that is linked isn't of this crate's version, but of the one with this number: major, minor and patch in
+    /// the bits from 16, 8 and 0 on.
+    OtherVersion(u32),
 }
 
 /// A call that changed nothing, as what it asks for isn't so.
 #[derive(Clone, Copy, Debug, PartialEq, Eq)]
 pub enum CallError {
-    /// A reply to a sandbox that stands at no call.
+    /// A reply to a sandbox that stands at no call, or to another call than that at which it stands.
     NotWaiting,
     /// An address that isn't one of the sandbox's data.
     OutsideData,
     /// An entry into a sandbox that hasn't stopped, or at an address where no bundle or word of its code begins.
     NotEntered,
+    /// A sandbox that is to be stopped, and has stopped already.
+    NotRunning,
 }
 
 impl fmt::Display for LoadError {
     fn fmt(&self, to: &mut fmt::Formatter<'_>) -> fmt::Result {
-        to.write_str(match self {
-            LoadError::Refused => "rules are broken in the image",
-            LoadError::NoImage => "the bytes are no image",
-            LoadError::NoMemory => "there was no memory for the image",
-        })
+        match self {
+            LoadError::Refused { findings, first } => write!(
+                to,
+                "rules are broken in the image, {findings} times: first V{} in sandbox {} at {:08x}",
+                first.rule, first.sandbox, first.address
+            ),
+            LoadError::NoImage(fault) => write!(to, "the bytes are no image: layout fault {fault}"),
+            LoadError::NoMemory => to.write_str("there was no memory for the image"),
+            LoadError::OtherVersion(number) => {
+                let [_, major, minor, patch] = number.to_be_bytes();
+                write!(to, "the library has another version: {major}.{minor}.{patch}")
+            }
+        }
     }
 }
 
 impl fmt::Display for CallError {
     fn fmt(&self, to: &mut fmt::Formatter<'_>) -> fmt::Result {
         to.write_str(match self {
-            CallError::NotWaiting => "the sandbox stands at no call",
+            CallError::NotWaiting => "the sandbox stands at no call, or at another one",
             CallError::OutsideData => "an address isn't one of the sandbox's data",
-            CallError::NotEntered => "the sandbox hasn't stopped, or no bundle begins there",
+            CallError::NotEntered => {
+                "the sandbox hasn't stopped, or no bundle or word begins there"
+            }
+            CallError::NotRunning => "the sandbox has stopped already",
         })
+    }
+}
+
+impl LoadError {
+    fn refused(verdict: &sys::Verdict) -> LoadError {
+        LoadError::Refused {
+            findings: verdict.findings,
+            first: Finding {
+                sandbox: verdict.sandbox,
+                address: verdict.address,
+                rule: verdict.rule,
+            },
+        }
     }
 }
 
@@ -88,15 +133,18 @@ pub enum Cause {
     Store,
 }
 
-/// A call of a gate, at which a sandbox stands.
+/// A call of a gate, at which a sandbox stands. x12 to x17 of [`Sandbox::registers`] are its other arguments, and its pc tells
+/// gates of one service apart.
 #[derive(Clone, Copy, Debug, PartialEq, Eq)]
 pub struct Call {
-    /// The gate's service.
+    /// The gate's service, 0 to 5.
     pub service: u32,
     /// The first argument.
     pub a0: u32,
     /// The second argument.
     pub a1: u32,
+    /// How many steps the sandbox had done when it came to this call: a reply is a step, so no later call has as few.
+    pub steps: u64,
 }
 
 /// How a sandbox stands.
@@ -115,22 +163,29 @@ pub enum Event {
         /// The address of the access, or else the pc.
         address: u32,
     },
+    /// It has stopped, by [`Sandbox::stop`].
+    Stopped,
 }
 
 impl Event {
-    fn of(raw: &sys::Event) -> Event {
+    fn of(raw: &sys::Event, steps: impl FnOnce() -> u64) -> Event {
         match raw.kind {
+            1 => Event::Ready,
             2 => Event::Call(Call {
                 service: raw.number,
                 a0: raw.a0,
                 a1: raw.a1,
+                steps: steps(),
             }),
             3 => Event::Exited(raw.number),
             4 => Event::Trapped {
                 cause: Cause::of(raw.number),
                 address: raw.a0,
             },
-            _ => Event::Ready,
+            5 => Event::Stopped,
+            kind => {
+                unreachable!("a sandbox of the world, and a library of this version: kind {kind}")
+            }
         }
     }
 }
@@ -142,22 +197,30 @@ impl Cause {
             2 => Cause::Illegal,
             3 => Cause::Break,
             4 => Cause::Load,
-            _ => Cause::Store,
+            5 => Cause::Store,
+            _ => unreachable!("a library of this version: cause {number}"),
         }
     }
 }
 
-/// The sandboxes of an image. It is freed when it is dropped. It stays on the thread that loaded it, as the library asks:
+/// The sandboxes of an image. It is freed when it is dropped. It may go from thread to thread; since each call borrows it
+/// alone, one call at a time uses it, as the library asks:
 ///
-/// ```compile_fail
+/// ```
 /// fn sends(world: sfi_run::World) {
-///     std::thread::spawn(move || drop(world));
+///     std::thread::spawn(move || drop(world)).join().unwrap();
 /// }
 /// ```
+///
+/// In the forked child of a process that had threads no call may be made, nor a world dropped.
 pub struct World {
-    raw: sys::World, // its pointer keeps it from being Send and Sync
+    raw: sys::World,
     count: u32,
 }
+
+// SAFETY: the library keeps nothing of a thread's own, and lets any thread make a call, one at a time. That is proved of what
+// the pointer leads to (`Send` of `Held` in crates/sfi_run).
+unsafe impl Send for World {}
 
 impl World {
     /// Checks an image's own bytes, and makes the world of its sandboxes, each ready at its start.
@@ -166,16 +229,23 @@ impl World {
             held: 0,
             at: ptr::null_mut(),
         };
-        // SAFETY: the bytes can be read, and a world of zeros is none.
-        match unsafe { sys::sfi_run_load(image.as_ptr(), image.len(), &mut raw) } {
+        // SAFETY: it takes nothing.
+        let version = unsafe { sys::sfi_run_version() };
+        if version != sys::VERSION_NUMBER {
+            return Err(LoadError::OtherVersion(version));
+        }
+        let mut verdict = sys::Verdict::default();
+        // SAFETY: the bytes can be read, a world of zeros is none, and the verdict can be written.
+        match unsafe { sys::sfi_run_load(image.as_ptr(), image.len(), &mut raw, &mut verdict) } {
             0 => {
                 // SAFETY: as above.
                 let count = unsafe { sys::sfi_run_count(&mut raw) } as u32;
                 Ok(World { raw, count })
             }
-            1 => Err(LoadError::Refused),
-            2 => Err(LoadError::NoImage),
-            _ => Err(LoadError::NoMemory),
+            1 => Err(LoadError::refused(&verdict)),
+            2 => Err(LoadError::NoImage(verdict.layout_fault)),
+            3 => Err(LoadError::NoMemory),
+            status => unreachable!("a library of this version: status {status}"),
         }
     }
 
@@ -220,22 +290,26 @@ impl Sandbox<'_> {
     pub fn turn(&mut self, steps: u32) -> Event {
         let mut raw = sys::Event::default();
         unsafe { sys::sfi_run_turn(self.world, self.number, steps, &mut raw) };
-        Event::of(&raw)
+        Event::of(&raw, || self.steps())
     }
 
     /// How it stands.
     pub fn event(&mut self) -> Event {
         let mut raw = sys::Event::default();
         unsafe { sys::sfi_run_event(self.world, self.number, &mut raw) };
-        Event::of(&raw)
+        Event::of(&raw, || self.steps())
     }
 
     /// A turn of at most so many steps in all, in which `serve` replies to each call and says whether the turn goes on: how
     /// it stands then. A call that comes when all steps are used is left for the next turn, and so is one without a reply.
+    /// Steps that `serve` itself has the sandbox do count, too: where they use up all that are left, the turn is over.
     pub fn serve(&mut self, steps: u64, mut serve: impl FnMut(&mut Self, Call) -> bool) -> Event {
         let end = self.steps().saturating_add(steps);
         loop {
             let now = self.steps();
+            if now > end {
+                return self.event(); // `serve` had it run on
+            }
             let event = self.turn(u32::try_from(end - now).unwrap_or(u32::MAX));
             let done = self.steps();
             match event {
@@ -257,6 +331,15 @@ impl Sandbox<'_> {
         is_done.then_some(()).ok_or(CallError::NotWaiting)
     }
 
+    /// The same, but only where it still stands at this call, for a host that keeps a call and replies later: a later call
+    /// isn't replied to in its place. The error is [`CallError::NotWaiting`].
+    pub fn reply_to(&mut self, call: &Call, a0: u32, a1: u32) -> Result<(), CallError> {
+        if self.event() != Event::Call(*call) {
+            return Err(CallError::NotWaiting);
+        }
+        self.reply(a0, a1)
+    }
+
     /// The other reply: it stops at the call, with that number. The error is [`CallError::NotWaiting`].
     pub fn exit(&mut self, number: u32) -> Result<(), CallError> {
         let is_done = unsafe { sys::sfi_run_exit(self.world, self.number, number) };
@@ -266,7 +349,8 @@ impl Sandbox<'_> {
     /// Fills `bytes` with its data from an address on. The error, with which they stay, is [`CallError::OutsideData`].
     pub fn read(&mut self, at: u32, bytes: &mut [u8]) -> Result<(), CallError> {
         let is_done = unsafe {
-            sys::sfi_run_read(self.world, self.number, at, bytes.as_mut_ptr(), bytes.len())
+            let (room, length) = (bytes.as_mut_ptr(), bytes.len());
+            sys::sfi_run_read(self.world, self.number, at, length, room, length)
         };
         is_done.then_some(()).ok_or(CallError::OutsideData)
     }
@@ -287,6 +371,13 @@ impl Sandbox<'_> {
         let is_done =
             unsafe { sys::sfi_run_write(self.world, self.number, at, bytes.as_ptr(), bytes.len()) };
         is_done.then_some(()).ok_or(CallError::OutsideData)
+    }
+
+    /// Stops it, whether it is ready or stands at a call: no turn runs it, and it takes no reply. Its data, pc, registers and
+    /// steps stay, and [`enter`](Self::enter) may enter it again. The error is [`CallError::NotRunning`].
+    pub fn stop(&mut self) -> Result<(), CallError> {
+        let is_done = unsafe { sys::sfi_run_stop(self.world, self.number) };
+        is_done.then_some(()).ok_or(CallError::NotRunning)
     }
 
     /// Makes it ready at pc, where it has stopped, with these arguments in a0 to a7. Its data stay, and its steps are

@@ -7,6 +7,37 @@ pub struct World {
     pub at: *mut c_void,
 }
 
+/// `SFI_RUN_VERSION_NUMBER` of the header that these are copied from.
+pub const VERSION_NUMBER: u32 = version_number(env!("CARGO_PKG_VERSION").as_bytes());
+
+const fn version_number(text: &[u8]) -> u32 {
+    let (mut whole, mut part, mut at) = (0, 0, 0);
+    while at < text.len() {
+        if text[at] == b'.' {
+            whole = (whole + part) * 256;
+            part = 0;
+        } else {
+            part = part * 10 + (text[at] - b'0') as u32;
+        }
+        at += 1;
+    }
+    whole + part
+}
+
+/// `struct sfi_verdict` of sfi.h, with its `struct sfi_finding` as the last three.
+#[repr(C)]
+#[derive(Default)]
+pub struct Verdict {
+    pub status: u32,
+    pub layout_fault: u32,
+    pub sandboxes: u32,
+    pub bundles: u32,
+    pub findings: u32,
+    pub sandbox: u32,
+    pub address: u32,
+    pub rule: u32,
+}
+
 #[repr(C)]
 #[derive(Default)]
 pub struct Event {
@@ -37,7 +68,13 @@ pub struct Registers {
 }
 
 extern "C" {
-    pub fn sfi_run_load(image: *const u8, length: usize, world: *mut World) -> u32;
+    pub fn sfi_run_version() -> u32;
+    pub fn sfi_run_load(
+        image: *const u8,
+        length: usize,
+        world: *mut World,
+        verdict: *mut Verdict,
+    ) -> u32;
     pub fn sfi_run_free(world: *mut World);
     pub fn sfi_run_count(world: *mut World) -> usize;
     pub fn sfi_run_turn(world: *mut World, sandbox: u32, steps: u32, event: *mut Event) -> u32;
@@ -48,8 +85,9 @@ extern "C" {
         world: *mut World,
         sandbox: u32,
         at: u32,
-        bytes: *mut u8,
         length: usize,
+        bytes: *mut u8,
+        room: usize,
     ) -> bool;
     pub fn sfi_run_write(
         world: *mut World,
@@ -58,6 +96,7 @@ extern "C" {
         bytes: *const u8,
         length: usize,
     ) -> bool;
+    pub fn sfi_run_stop(world: *mut World, sandbox: u32) -> bool;
     pub fn sfi_run_enter(world: *mut World, sandbox: u32, pc: u32, arguments: *const u32) -> bool;
     pub fn sfi_run_steps(world: *mut World, sandbox: u32) -> u64;
     pub fn sfi_run_registers(world: *mut World, sandbox: u32, registers: *mut Registers) -> bool;

@@ -1,5 +1,5 @@
 //! Tests of the crate. The addresses, registers and numbers that are wanted are those of docs/IMAGE.md and docs/GATES.md.
-use sfi_run::{Call, CallError, Cause, Event, LoadError, Region, World};
+use sfi_run::{Call, CallError, Cause, Event, Finding, LoadError, Region, World};
 use std::env;
 use std::io::Write;
 use std::path::Path;
@@ -66,14 +66,30 @@ fn twice() -> World {
 #[test]
 fn what_is_not_accepted_is_not_loaded() {
     let image = smallest();
-    assert_eq!(World::load(b"").err(), Some(LoadError::NoImage));
+    // docs/IMAGE.md: 1 is the magic, 3 bytes that are cut short, 11 bytes that are left
+    assert_eq!(World::load(b"SFI9").err(), Some(LoadError::NoImage(1)));
     assert_eq!(
         World::load(&image[..image.len() - 1]).err(),
-        Some(LoadError::NoImage)
+        Some(LoadError::NoImage(3))
     );
+    let longer = [&image[..], &[0]].concat();
+    assert_eq!(World::load(&longer).err(), Some(LoadError::NoImage(11)));
     let mut broken = image.clone();
     broken[36..40].copy_from_slice(&word(0x001c_0c13)); // addi x24, x24, 1
-    assert_eq!(World::load(&broken).err(), Some(LoadError::Refused));
+    broken[40..44].copy_from_slice(&word(0x001c_0c13));
+    let refused = LoadError::Refused {
+        findings: 2,
+        first: Finding {
+            sandbox: 0,
+            address: CODE,
+            rule: 4,
+        },
+    };
+    assert_eq!(World::load(&broken).err(), Some(refused));
+    assert_eq!(
+        refused.to_string(),
+        "rules are broken in the image, 2 times: first V4 in sandbox 0 at 01000000"
+    );
     let mut world = World::load(&image).unwrap();
     assert_eq!(world.len(), 1);
     assert!(world.sandbox(1).is_none());
@@ -110,14 +126,16 @@ fn the_beginning() {
 fn a_call_gets_one_reply() {
     let mut world = twice();
     let mut sandbox = world.sandbox(0).unwrap();
+    assert_eq!(sandbox.reply(1, 2), Err(CallError::NotWaiting));
+    let told = sandbox.turn(1000);
+    let steps = sandbox.steps();
     let call = Event::Call(Call {
         service: 4,
         a0: 5,
         a1: 10,
+        steps,
     });
-    assert_eq!(sandbox.reply(1, 2), Err(CallError::NotWaiting));
-    assert_eq!(sandbox.turn(1000), call);
-    let steps = sandbox.steps();
+    assert_eq!(told, call);
     assert_eq!(
         (sandbox.turn(1000), sandbox.event(), sandbox.steps()),
         (call, call, steps)
@@ -210,4 +228,94 @@ fn a_call_that_is_left() {
             Event::Call(Call { service: 4, .. })
         ));
     }
+}
+
+/// It calls once, and loops then.
+const LOOPS: &str = ".sandbox 256
+.gate put 1
+        li   a1, 7
+        call put
+on:     j    on
+";
+
+/// The budget of a turn holds whatever the closure does, also where it runs the sandbox itself.
+#[test]
+fn a_served_turn_keeps_its_budget() {
+    for own in [0, 50, 99, 200] {
+        let mut world = World::load(&built(LOOPS)).unwrap();
+        let mut sandbox = world.sandbox(0).unwrap();
+        let mut used = 0;
+        let event = sandbox.serve(100, |sandbox, call| {
+            sandbox.reply(0, call.a1).unwrap();
+            sandbox.turn(own);
+            used = sandbox.steps();
+            true
+        });
+        assert!(used > u64::from(own)); // the reply is a step, too
+        assert_eq!((event, sandbox.steps()), (Event::Ready, used.max(100)));
+    }
+}
+
+#[test]
+fn what_loops_is_stopped_and_entered_again() {
+    let mut world = World::load(&built(LOOPS)).unwrap();
+    let mut sandbox = world.sandbox(0).unwrap();
+    let start = sandbox.registers().pc;
+    assert!(matches!(sandbox.turn(100), Event::Call(_)));
+    sandbox.reply(0, 0).unwrap();
+    assert_eq!(sandbox.turn(100), Event::Ready);
+    sandbox.write(DATA, &[7]).unwrap();
+    let (steps, registers) = (sandbox.steps(), sandbox.registers());
+    assert_eq!(sandbox.stop(), Ok(()));
+    assert_eq!(sandbox.stop(), Err(CallError::NotRunning));
+    assert_eq!(sandbox.turn(100), Event::Stopped);
+    assert_eq!((sandbox.steps(), sandbox.registers()), (steps, registers));
+    assert_eq!(sandbox.read_vec(DATA, 1), Ok(vec![7]));
+    assert_eq!(sandbox.enter(start, &[0; 8]), Ok(()));
+    assert!(matches!(sandbox.turn(100), Event::Call(_)));
+    assert_eq!(sandbox.stop(), Ok(()));
+    assert_eq!(sandbox.reply(0, 0), Err(CallError::NotWaiting));
+}
+
+#[test]
+fn a_call_that_is_kept_gets_no_second_reply() {
+    let mut world = twice();
+    let mut sandbox = world.sandbox(0).unwrap();
+    let Event::Call(first) = sandbox.turn(1000) else {
+        panic!()
+    };
+    assert_eq!(sandbox.reply_to(&first, 1, 77), Ok(()));
+    let Event::Call(second) = sandbox.turn(1000) else {
+        panic!()
+    };
+    assert_eq!(sandbox.reply_to(&first, 9, 9), Err(CallError::NotWaiting));
+    assert_eq!(sandbox.event(), Event::Call(second));
+    assert_eq!(sandbox.reply_to(&second, 1, 1), Ok(()));
+}
+
+/// A world goes from thread to thread, and several use it under a lock.
+#[test]
+fn threads() {
+    use std::sync::{Arc, Mutex};
+    let world = std::thread::spawn(|| World::load(&built(LOOPS)).unwrap());
+    let mut world = world.join().unwrap();
+    let mut sandbox = world.sandbox(0).unwrap();
+    assert!(matches!(sandbox.turn(1000), Event::Call(_)));
+    sandbox.reply(0, 0).unwrap();
+    let before = sandbox.steps();
+    let world = Arc::new(Mutex::new(world));
+    let turns = (0..4).map(|_| {
+        let world = Arc::clone(&world);
+        std::thread::spawn(move || {
+            for _ in 0..100 {
+                let mut world = world.lock().unwrap();
+                assert_eq!(world.sandbox(0).unwrap().turn(10), Event::Ready);
+            }
+        })
+    });
+    for thread in turns.collect::<Vec<_>>() {
+        thread.join().unwrap();
+    }
+    let after = world.lock().unwrap().sandbox(0).unwrap().steps();
+    assert_eq!(after, before + 4 * 100 * 10);
 }
