@@ -22,6 +22,7 @@ from __future__ import annotations
 
 import ctypes
 import enum
+import os
 import threading
 from collections.abc import Iterator, Sequence
 from dataclasses import dataclass, field
@@ -31,20 +32,44 @@ from typing import Any, Union
 from . import _library
 
 __all__ = [
-    "Call", "Cause", "Event", "Exited", "Library", "NoImage", "NotWaiting", "OutsideData", "Ready", "Refused", "Registers",
-    "Region", "Sandbox", "Stopped", "Trapped", "World",
+    "Call", "Cause", "Event", "Exited", "Finding", "Library", "NoImage", "NotEntered", "NotRunning", "NotWaiting", "OutsideData",
+    "Ready", "Refused", "Registers", "Region", "Sandbox", "Stopped", "Trapped", "World",
 ]
 __version__ = "0.1.0"
 
 Library = _library.Library
 
 
+@dataclass(frozen=True)
+class Finding:
+    """A rule that is broken, 1 for V1 to 12 for V12, and where: the sandbox, and the address of the instruction's first byte,
+    or of the bytes that are none; for V9 that of the gate."""
+    sandbox: int
+    address: int
+    rule: int
+
+
 class Refused(Exception):
-    """An image in which rules are broken: `sfi check --report` tells which."""
+    """An image in which rules are broken `findings` times, the `first` time there: `sfi check --report` tells all."""
+
+    def __init__(self, findings: int, first: Finding) -> None:
+        super().__init__(findings, first)
+        self.findings, self.first = findings, first
+
+    def __str__(self) -> str:
+        first = self.first
+        return f"{self.findings} findings: first V{first.rule} in sandbox {first.sandbox} at {first.address:08x}"
 
 
 class NoImage(Exception):
-    """Bytes that are no image: `sfi check` tells why."""
+    """Bytes that are no image, by the layout's `fault` of that number, 1 to 11, as `sfi check` names it."""
+
+    def __init__(self, fault: int) -> None:
+        super().__init__(fault)
+        self.fault = fault
+
+    def __str__(self) -> str:
+        return f"layout fault {self.fault}"
 
 
 class OutsideData(Exception):
@@ -52,11 +77,15 @@ class OutsideData(Exception):
 
 
 class NotWaiting(Exception):
-    """A reply to a sandbox that stands at no call."""
+    """A reply to a sandbox that stands at no call, or no longer at the call that is replied to."""
 
 
-class Stopped(Exception):
+class NotEntered(Exception):
     """An entry into a sandbox that hasn't stopped, or at an address where no bundle or word of its code begins."""
+
+
+class NotRunning(Exception):
+    """A sandbox that is to be stopped, and has stopped already."""
 
 
 class Cause(enum.Enum):
@@ -75,21 +104,30 @@ class Ready:
 
 @dataclass(frozen=True)
 class Call:
-    """The sandbox stands at a call of a gate, and waits for a reply."""
+    """The sandbox stands at a call of a gate, and waits for a reply. The service is 0 to 5. x[12] to x[17] of its registers are
+    the call's other arguments, and its pc tells gates of one service apart."""
     service: int
     a0: int
     a1: int
     sandbox: Sandbox = field(repr=False, compare=False)
+    _turns: int = field(repr=False, compare=False, default=-1)
 
     def reply(self, a0: int, a1: int | None = None) -> None:
         """Has the sandbox go on after the call in its next turn, with these in a0 and a1. Without an a1 that of the call
         stays. Raises ValueError where one isn't from 0 to 2^32 - 1: -1 is 0xFFFFFFFF here, and what is computed of what the
-        sandbox passed wants `& 0xFFFFFFFF`."""
-        self.sandbox.reply(a0, self.a1 if a1 is None else a1)
+        sandbox passed wants `& 0xFFFFFFFF`; and NotWaiting where the sandbox no longer stands at this call."""
+        self._now().reply(a0, self.a1 if a1 is None else a1)
 
     def exit(self, number: int) -> None:
-        """Has the sandbox stop at the call, with that number."""
-        self.sandbox.exit(number)
+        """Has the sandbox stop at the call, with that number. Raises as `reply` does."""
+        self._now().exit(number)
+
+    def _now(self) -> Sandbox:
+        """The sandbox, if it still stands at this call: it has gone on where it was replied to, stopped or entered since."""
+        sandbox = self.sandbox
+        if sandbox._world._gone_on[sandbox._number] != self._turns:
+            raise NotWaiting(f"sandbox {sandbox._number} no longer stands at this call")
+        return sandbox
 
 
 @dataclass(frozen=True)
@@ -105,7 +143,12 @@ class Trapped:
     address: int
 
 
-Event = Union[Ready, Call, Exited, Trapped]
+@dataclass(frozen=True)
+class Stopped:
+    """The sandbox has stopped, by `stop`."""
+
+
+Event = Union[Ready, Call, Exited, Trapped, Stopped]
 
 
 @dataclass(frozen=True)
@@ -129,34 +172,50 @@ def _word(value: int) -> int:
     return value
 
 
+def _bytes(data: bytes) -> bytes:
+    """A copy of what has bytes. `bytes` of a number would be so many zeros."""
+    return memoryview(data).tobytes()
+
+
 class World:
-    """The sandboxes of an image. A world is used by the thread that made it, and by no other. It is freed by `close`, at
-    the end of a `with`, or when nothing refers to it any more."""
+    """The sandboxes of an image. Any thread may use it: a lock sees to it that one call is made at a time. A loop over `events`
+    is many calls: threads that share a sandbox want a lock of their own around it. A forked child can't use the world of its
+    parent, and shouldn't make one where the parent had threads. It is freed by `close`, at the end of a `with`, or when
+    nothing refers to it any more."""
 
     def __init__(self, image: bytes, library: Library | None = None) -> None:
-        """Checks the image's own bytes (`bytes.fromhex` of what `sfi build` prints), and makes the world of its sandboxes, each ready at its start. Raises Refused or
-        NoImage where it isn't accepted, MemoryError where there is no memory for it, and OSError where there is no
-        library."""
-        self._raw = _library.World()
+        """Checks the image's own bytes (`bytes.fromhex` of what `sfi build` prints), and makes the world of its sandboxes, each
+        ready at its start. Raises Refused or NoImage where it isn't accepted, MemoryError where there is no memory for it,
+        TypeError where it is no bytes, and OSError where there is no library."""
+        image = _bytes(image)
+        self._raw, verdict = _library.World(), _library.Verdict()
         self._calls = library or _library.default()
-        self._thread = threading.get_ident()
+        self._process = os.getpid()
+        self._lock = threading.RLock()  # a collection in the midst of a call may free another world, and this one never
         self._at = ctypes.byref(self._raw)
-        image = bytes(image)
-        status = self._calls["load"](image, len(image), self._at)
+        status = self._calls["load"](image, len(image), self._at, ctypes.byref(verdict))
+        if status == 1:
+            raise Refused(verdict.findings, Finding(verdict.sandbox, verdict.address, verdict.rule))
+        if status == 2:
+            raise NoImage(verdict.layout_fault)
+        if status == 3:
+            raise MemoryError("there was no memory for the world of the image")
         if status:
-            raise {1: Refused("rules are broken in the image"), 2: NoImage("the bytes are no image")}.get(status, MemoryError())
+            raise RuntimeError(f"the library answered with status {status}, which this package doesn't know")
         self._count = self._calls["count"](self._at)
+        self._gone_on = [0] * self._count  # how often each was replied to, stopped or entered
 
-    def _held(self) -> World:
-        """The world, for a call. The library asks that one thread makes them all."""
-        if threading.get_ident() != self._thread:
-            raise RuntimeError("a world is used by the thread that made it alone")
-        return self
+    def _made_here(self) -> None:
+        """The library asks that no call is made in a forked child, where another thread's call may never end."""
+        if os.getpid() != self._process:
+            raise RuntimeError("a world is used by the process that made it alone, and not by a forked child")
 
     def close(self) -> None:
         """Frees the world. It has no sandboxes then."""
-        self._held()._calls["free"](self._at)
-        self._count = 0
+        self._made_here()
+        with self._lock:
+            self._calls["free"](self._at)
+            self._count = 0
 
     def __enter__(self) -> World:
         return self
@@ -165,8 +224,8 @@ class World:
         self.close()
 
     def __del__(self) -> None:
-        # Where another thread drops the last reference, the memory stays taken.
-        if getattr(self, "_count", 0) and threading.get_ident() == self._thread:
+        # A forked child has a copy of the memory, which ends with it.
+        if getattr(self, "_count", 0) and os.getpid() == self._process:
             self.close()
 
     def __len__(self) -> int:
@@ -196,21 +255,37 @@ class Sandbox:
         return self._number
 
     def _call(self, name: str, *arguments: Any) -> Any:
-        world = self._world._held()
-        if self._number >= world._count:
-            raise IndexError("the world is closed")
-        return world._calls[name](world._at, self._number, *arguments)
+        world = self._world
+        world._made_here()
+        with world._lock:
+            if self._number >= world._count:
+                raise IndexError("the world is closed")
+            return world._calls[name](world._at, self._number, *arguments)
+
+    def _changed(self, name: str, *arguments: Any) -> bool:
+        """Whether a call did what it is for, after which a Call that was told before is no more."""
+        with self._world._lock:
+            is_done = self._call(name, *arguments)
+            if is_done:
+                self._world._gone_on[self._number] += 1
+            return is_done
 
     def _told(self, name: str, *arguments: Any) -> Event:
         raw = _library.Event()
-        kind = self._call(name, *arguments, ctypes.byref(raw))
+        with self._world._lock:
+            kind = self._call(name, *arguments, ctypes.byref(raw))
+            turns = self._world._gone_on[self._number]
+        if kind == 1:
+            return Ready()
         if kind == 2:
-            return Call(raw.number, raw.a0, raw.a1, self)
+            return Call(raw.number, raw.a0, raw.a1, self, turns)
         if kind == 3:
             return Exited(raw.number)
         if kind == 4:
             return Trapped(Cause(raw.number), raw.a0)
-        return Ready()
+        if kind == 5:
+            return Stopped()
+        raise RuntimeError(f"the library answered with an event of kind {kind}, which this package doesn't know")
 
     def turn(self, steps: int) -> Event:
         """Runs it for at most so many steps, and no further than its next call: how it stands then. An instruction that is
@@ -225,51 +300,66 @@ class Sandbox:
     def events(self, steps: int) -> Iterator[Event]:
         """Runs it for at most so many steps in all: yields each call, which is to be replied to before the next event is
         asked for, and last how it stands then. A call that comes when all steps are used counts as Ready here: it is the
-        first event of the next run. One that isn't replied to is the last event."""
-        end = self.steps + steps
+        first event of the next run. One that isn't replied to is the last event. Steps that the loop's body has the sandbox do
+        count, too: where they use up all that are left, the run is over."""
+        if steps < 0:
+            raise ValueError(f"steps is {steps}, and has to be at least 0")
+        return self._events(self.steps + steps)
+
+    def _events(self, end: int) -> Iterator[Event]:
+        now = self.steps
         while True:
-            event = self.turn(min(end - self.steps, (1 << 32) - 1))
-            done = self.steps
-            if isinstance(event, Call) and done >= end:
-                event = Ready()
-            if isinstance(event, Ready) and done < end:
-                continue  # there were more steps than one turn takes
+            event = self.turn(min(max(0, end - now), (1 << 32) - 1))
+            if isinstance(event, (Ready, Call)):
+                now = self.steps
+                if isinstance(event, Ready) and now < end:
+                    continue  # there were more steps than one turn takes
+                if now >= end:
+                    event = Ready()
             yield event
-            if not isinstance(event, Call) or self.steps == done:
+            if not isinstance(event, Call) or self._world._gone_on[self._number] == event._turns:
                 return
+            now = self.steps
 
     def reply(self, a0: int, a1: int) -> None:
         """Replies to the call at which it stands: it goes on after it in its next turn, with these in a0 and a1. Raises
         NotWaiting where it stands at no call, and ValueError as `Call.reply` does."""
-        if not self._call("reply", _word(a0), _word(a1)):
+        if not self._changed("reply", _word(a0), _word(a1)):
             raise NotWaiting(f"sandbox {self._number} stands at no call")
 
     def exit(self, number: int) -> None:
         """The other reply: it stops at the call, with that number."""
-        if not self._call("exit", _word(number)):
+        if not self._changed("exit", _word(number)):
             raise NotWaiting(f"sandbox {self._number} stands at no call")
 
     def read(self, at: int, count: int) -> bytes:
         """So many bytes of its data, from an address on. Raises OutsideData where one isn't of its data."""
         room = ctypes.create_string_buffer(count) if 0 < count <= 1 << 20 else ctypes.create_string_buffer(1)
-        if not 0 <= count <= 1 << 20 or not self._call("read", _word(at), room, count):
+        if not 0 <= count <= 1 << 20 or not self._call("read", _word(at), count, room, len(room)):
             raise OutsideData(f"{count} bytes at {at:08x}")
         return room.raw[:count]
 
     def write(self, at: int, data: bytes) -> None:
-        """Writes these bytes into its data from an address on, or none of them and raises OutsideData."""
-        data = bytes(data)
+        """Writes these bytes into its data from an address on, or none of them and raises OutsideData. Raises TypeError where
+        `data` is no bytes."""
+        data = _bytes(data)
         if not self._call("write", _word(at), data, len(data)):
             raise OutsideData(f"{len(data)} bytes at {at:08x}")
 
+    def stop(self) -> None:
+        """Stops it, whether it is ready or stands at a call: no turn runs it, and it takes no reply. Its data, pc, registers and
+        steps stay, and `enter` may enter it again. Raises NotRunning where it has stopped already."""
+        if not self._changed("stop"):
+            raise NotRunning(f"sandbox {self._number} has stopped already")
+
     def enter(self, pc: int, arguments: Sequence[int] = ()) -> None:
         """Makes it ready at pc, where it has stopped, with at most eight arguments in a0 to a7 and 0 in those that are
-        left. Its data stay, and its steps are counted on. Raises Stopped where it hasn't stopped, or no bundle of its code
-        begins at pc."""
+        left. Its data stay, and its steps are counted on. Raises NotEntered where it hasn't stopped, or no bundle or word of its
+        code begins at pc."""
         if len(arguments) > 8:
             raise ValueError("there are at most eight arguments")
-        if not self._call("enter", _word(pc), _library.Arguments(*map(_word, arguments))):
-            raise Stopped(f"sandbox {self._number} can't be entered at {pc:08x}")
+        if not self._changed("enter", _word(pc), _library.Arguments(*map(_word, arguments))):
+            raise NotEntered(f"sandbox {self._number} can't be entered at {pc:08x}")
 
     @property
     def steps(self) -> int:

@@ -21,6 +21,11 @@ class World(ctypes.Structure):
     _fields_ = [("held", _WORD), ("at", ctypes.c_void_p)]
 
 
+class Verdict(ctypes.Structure):
+    """`struct sfi_verdict` of sfi.h, with its `struct sfi_finding` as the last three."""
+    _fields_ = [(name, _WORD) for name in ("status", "layout_fault", "sandboxes", "bundles", "findings", "sandbox", "address", "rule")]
+
+
 class Event(ctypes.Structure):
     """`struct sfi_run_event`."""
     _fields_ = [(name, _WORD) for name in ("kind", "number", "a0", "a1")]
@@ -41,15 +46,17 @@ Arguments = _WORD * 8
 _WORLD = ctypes.POINTER(World)
 _EVENT = ctypes.POINTER(Event)
 _CALLS: dict[str, tuple[Any, list[Any]]] = {
-    "load": (_WORD, [_BYTES, _SIZE, _WORLD]),
+    "version": (_WORD, []),
+    "load": (_WORD, [_BYTES, _SIZE, _WORLD, ctypes.POINTER(Verdict)]),
     "free": (None, [_WORLD]),
     "count": (_SIZE, [_WORLD]),
     "turn": (_WORD, [_WORLD, _WORD, _WORD, _EVENT]),
     "event": (_WORD, [_WORLD, _WORD, _EVENT]),
     "reply": (ctypes.c_bool, [_WORLD, _WORD, _WORD, _WORD]),
     "exit": (ctypes.c_bool, [_WORLD, _WORD, _WORD]),
-    "read": (ctypes.c_bool, [_WORLD, _WORD, _WORD, _ROOM, _SIZE]),
+    "read": (ctypes.c_bool, [_WORLD, _WORD, _WORD, _SIZE, _ROOM, _SIZE]),
     "write": (ctypes.c_bool, [_WORLD, _WORD, _WORD, _BYTES, _SIZE]),
+    "stop": (ctypes.c_bool, [_WORLD, _WORD]),
     "enter": (ctypes.c_bool, [_WORLD, _WORD, _WORD, ctypes.POINTER(_WORD)]),
     "steps": (ctypes.c_uint64, [_WORLD, _WORD]),
     "registers": (ctypes.c_bool, [_WORLD, _WORD, ctypes.POINTER(Registers)]),
@@ -70,20 +77,35 @@ def places() -> list[str]:
     return [str(it / NAME) for it in folders if (it / NAME).exists()] + [NAME]
 
 
+def _version_number() -> int:
+    """`SFI_RUN_VERSION_NUMBER` of the header that this package goes by."""
+    from . import __version__
+    return int.from_bytes(bytes(map(int, __version__.split("."))), "big")
+
+
+def _other_version(handle: ctypes.CDLL) -> OSError:
+    return OSError(f"{handle._name} is a library of another version than this package")
+
+
 class Library:
     """A shared library: `library["load"]` is its call sfi_run_load."""
 
     def __init__(self, path: str | os.PathLike[str] | None = None) -> None:
-        """Loads the library of that path, or else the one that `places` finds. OSError where there is none."""
+        """Loads the library of that path, or else the one that `places` finds. OSError where there is none, or where it is of
+        another version than this package."""
         try:
             handle = ctypes.CDLL(os.fspath(path) if path is not None else places()[0])
         except OSError as error:
             raise OSError(f"{error}; SFI_RUN_LIBRARY has to name the library, or ./install to have installed it") from error
         self._functions: dict[str, Callable[..., Any]] = {}
         for name, (result, arguments) in _CALLS.items():
-            function = getattr(handle, f"sfi_run_{name}")
+            function = getattr(handle, f"sfi_run_{name}", None)
+            if function is None:
+                raise _other_version(handle)
             function.restype, function.argtypes = result, arguments
             self._functions[name] = function
+        if self["version"]() != _version_number():
+            raise _other_version(handle)
 
     def __getitem__(self, name: str) -> Callable[..., Any]:
         return self._functions[name]

@@ -3,7 +3,7 @@ from __future__ import annotations
 
 from collections import deque
 
-from . import Call, Exited, OutsideData, Ready, Sandbox, Trapped, World
+from . import Call, Exited, OutsideData, Sandbox, Stopped, Trapped, World
 
 FAILED = 0xFFFFFFFF
 LARGEST = 65536  # bytes of one put or get
@@ -89,6 +89,6 @@ class Console:
         elif isinstance(event, Trapped):
             state = f"trap={event.cause.name.capitalize()} at={event.address:08x}"
         else:
-            assert isinstance(event, (Ready, Call))
+            assert not isinstance(event, Stopped)  # a console stops nobody
             state = "ready"
         return f"sandbox={sandbox.number} {state} steps={sandbox.steps} out={self.output[sandbox.number].hex()}"

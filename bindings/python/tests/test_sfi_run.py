@@ -1,5 +1,6 @@
 """Tests of the package: `[SFI=PATH] python3 -m unittest discover tests`. The addresses, registers and numbers that are wanted
 are those of docs/IMAGE.md and docs/GATES.md."""
+import concurrent.futures
 import gc
 import os
 import pathlib
@@ -8,6 +9,7 @@ import subprocess
 import sys
 import threading
 import unittest
+from unittest import mock
 
 HERE = pathlib.Path(__file__).resolve().parent
 sys.path.insert(0, str(HERE.parent))
@@ -27,6 +29,14 @@ TWICE = """
         mv   a0, a1
         call exit
 """
+# It calls once, and loops then.
+LOOPS = """
+.sandbox 256
+.gate put 1
+        li   a1, 7
+        call put
+on:     j    on
+"""
 EBREAKS = bytes.fromhex("73001000" * 64)
 SMALLEST = bytes.fromhex("5346493101000000" "0000000100010000" "0000800100010000" "00000001" "00000000" "00000000") + EBREAKS
 
@@ -38,14 +48,29 @@ def built(source):
 
 class Loading(unittest.TestCase):
     def test_bytes_that_are_no_image(self):
-        for image in (b"", b"SFI1", SMALLEST[:-1], SMALLEST + b"\0"):
-            with self.assertRaises(sfi_run.NoImage):
+        # docs/IMAGE.md: 1 is the magic, 3 bytes that are cut short, 11 bytes that are left
+        for image, fault in ((b"SFI9", 1), (SMALLEST[:-1], 3), (SMALLEST + b"\0", 11)):
+            with self.assertRaises(sfi_run.NoImage) as told:
                 sfi_run.World(image)
+            self.assertEqual((told.exception.fault, str(told.exception)), (fault, f"layout fault {fault}"))
 
-    def test_an_image_with_a_broken_rule(self):
+    def test_an_image_with_broken_rules(self):
         at = SMALLEST.index(EBREAKS)
-        with self.assertRaises(sfi_run.Refused):
-            sfi_run.World(SMALLEST[:at] + bytes.fromhex("130c1c00") + SMALLEST[at + 4:])  # addi x24, x24, 1
+        with self.assertRaises(sfi_run.Refused) as told:
+            sfi_run.World(SMALLEST[:at] + bytes.fromhex("130c1c00") * 2 + SMALLEST[at + 8:])  # addi x24, x24, 1
+        self.assertEqual((told.exception.findings, told.exception.first), (2, sfi_run.Finding(0, CODE, 4)))
+        self.assertEqual(str(told.exception), "2 findings: first V4 in sandbox 0 at 01000000")
+
+    def test_what_has_no_bytes(self):
+        for image in (5, "SFI1", None, [1, 2]):
+            with self.assertRaises(TypeError):
+                sfi_run.World(image)
+        with sfi_run.World(memoryview(SMALLEST)) as world:
+            for data in (7, "text", None, [1, 2]):
+                with self.assertRaises(TypeError):
+                    world[0].write(DATA, data)
+            world[0].write(DATA, memoryview(b"ab"))
+            self.assertEqual(world[0].read(DATA, 3), b"ab\0")
 
     def test_a_world_of_one(self):
         with sfi_run.World(bytearray(SMALLEST)) as world:
@@ -69,19 +94,58 @@ class Loading(unittest.TestCase):
         gc.collect()
         self.assertEqual(sandbox.turn(1), sfi_run.Trapped(sfi_run.Cause.BREAK, CODE))
 
-    def test_another_thread(self):
-        world, found = sfi_run.World(SMALLEST), []
+    def test_other_threads(self):
+        """One makes the world, four use it, and another one drops it."""
+        with concurrent.futures.ThreadPoolExecutor(1) as pool:
+            world = pool.submit(sfi_run.World, built(LOOPS)).result()
+        sandbox = world[0]
+        sandbox.turn(1000).reply(0)
+        before = sandbox.steps
+        with concurrent.futures.ThreadPoolExecutor(4) as pool:
+            list(pool.map(lambda _: [sandbox.turn(7) for _ in range(200)], range(8)))
+        self.assertEqual(sandbox.steps, before + 8 * 200 * 7)
+        freed, close = [], sfi_run.World.close
 
-        def use():
+        def noted(self):
+            freed.append(self)
+            close(self)
+        with mock.patch.object(sfi_run.World, "close", noted):
+            thread = threading.Thread(target=lambda it: it.clear(), args=([world, sandbox],))
+            del world, sandbox
+            thread.start()
+            thread.join()
+            del thread
+            gc.collect()
+        self.assertEqual(len(freed), 1)
+
+    @unittest.skipUnless(hasattr(os, "fork"), "no fork")
+    def test_a_forked_child(self):
+        world = sfi_run.World(SMALLEST)
+        child = os.fork()
+        if child == 0:
             try:
                 world[0].turn(1)
-            except RuntimeError as error:
-                found.append(str(error))
-        thread = threading.Thread(target=use)
-        thread.start()
-        thread.join()
-        self.assertEqual(found, ["a world is used by the thread that made it alone"])
+            except RuntimeError:
+                os._exit(7)
+            os._exit(0)
+        self.assertEqual(os.waitstatus_to_exitcode(os.waitpid(child, 0)[1]), 7)
         self.assertEqual(world[0].steps, 0)
+
+    def test_a_library_of_another_version(self):
+        with mock.patch.object(sfi_run, "__version__", "77.0.1"):
+            with self.assertRaisesRegex(OSError, "another version"):
+                sfi_run.Library()
+
+    def test_answers_that_are_unknown(self):
+        library = sfi_run.Library()
+        with sfi_run.World(SMALLEST, library) as world:
+            for kind in (0, 6):
+                with mock.patch.dict(library._functions, event=lambda *_, kind=kind: kind):
+                    with self.assertRaisesRegex(RuntimeError, f"kind {kind}"):
+                        world[0].event
+        with mock.patch.dict(library._functions, load=lambda *_: 4):
+            with self.assertRaisesRegex(RuntimeError, "status 4"):
+                sfi_run.World(SMALLEST, library)
 
     def test_a_library_that_is_not_there(self):
         with self.assertRaisesRegex(OSError, "/none/libsfi_run.so: .*; SFI_RUN_LIBRARY has to name"):
@@ -149,6 +213,57 @@ class Running(unittest.TestCase):
         self.assertEqual([it.service for it in self.sandbox.events(1000)], [4])
         self.assertEqual([it.service for it in self.sandbox.events(1000)], [4])
 
+    def test_a_call_that_is_kept(self):
+        first = self.sandbox.turn(1000)
+        first.reply(1, 77)
+        second = self.sandbox.turn(1000)
+        for use in (lambda: first.reply(9), lambda: first.exit(9)):
+            with self.assertRaises(sfi_run.NotWaiting):
+                use()
+        self.assertEqual(self.sandbox.event, second)
+        second.exit(3)
+        self.sandbox.enter(self.sandbox.data.base - DATA + CODE + 32)
+        again = self.sandbox.turn(1000)
+        with self.assertRaises(sfi_run.NotWaiting):
+            second.reply(9)
+        self.assertEqual(self.sandbox.event, again)
+
+    def test_the_budget_of_a_loop_that_runs_the_sandbox(self):
+        for own in (0, 50, 99, 200):
+            with self.subTest(own=own), sfi_run.World(built(LOOPS)) as world:
+                sandbox, used = world[0], 0
+                for event in sandbox.events(100):
+                    if isinstance(event, sfi_run.Call):
+                        event.reply(0)
+                        sandbox.turn(own)
+                        used = sandbox.steps
+                self.assertGreater(used, own)  # the reply is a step, too
+                self.assertEqual((event, sandbox.steps), (sfi_run.Ready(), max(used, 100)))
+
+    def test_fewer_steps_than_none(self):
+        with self.assertRaisesRegex(ValueError, "steps is -5"):
+            self.sandbox.events(-5)
+        self.assertEqual(list(self.sandbox.events(0)), [sfi_run.Ready()])
+
+    def test_what_loops_is_stopped_and_entered_again(self):
+        with sfi_run.World(built(LOOPS)) as world:
+            sandbox = world[0]
+            start = sandbox.pc
+            sandbox.turn(100).reply(0)
+            self.assertEqual(sandbox.turn(100), sfi_run.Ready())
+            sandbox.write(DATA, b"x")
+            before = (sandbox.steps, sandbox.registers)
+            sandbox.stop()
+            with self.assertRaises(sfi_run.NotRunning):
+                sandbox.stop()
+            self.assertEqual((sandbox.turn(100), sandbox.event), (sfi_run.Stopped(), sfi_run.Stopped()))
+            self.assertEqual((sandbox.steps, sandbox.registers, sandbox.read(DATA, 1)), (*before, b"x"))
+            sandbox.enter(start)
+            call = sandbox.turn(100)
+            sandbox.stop()
+            with self.assertRaises(sfi_run.NotWaiting):
+                call.reply(0)
+
     def test_data(self):
         self.assertEqual(self.sandbox.read(DATA, 256), bytes(256))
         self.sandbox.write(DATA + 250, b"\1\0\2\0\3\4")
@@ -167,11 +282,11 @@ class Running(unittest.TestCase):
 
     def test_entering(self):
         start = self.sandbox.registers.pc
-        with self.assertRaises(sfi_run.Stopped):
+        with self.assertRaises(sfi_run.NotEntered):
             self.sandbox.enter(start)
         self.sandbox.turn(1000).exit(3)
         for pc in (start + 4, CODE - 16, CODE + 256, DATA):
-            with self.subTest(pc=pc), self.assertRaises(sfi_run.Stopped):
+            with self.subTest(pc=pc), self.assertRaises(sfi_run.NotEntered):
                 self.sandbox.enter(pc)
         self.assertEqual(self.sandbox.event, sfi_run.Exited(3))
         before = self.sandbox.steps
