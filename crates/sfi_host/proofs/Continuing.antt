@@ -1,5 +1,5 @@
 -- A plan that goes on where another one left off.
-use Rattle.sfi_host.proofs.Prelude.{◌≡◌, ◌≢◌, ◌⊎◌, inl, inr, ⊎_elim, ℕ, zero, suc, ◌+◌, ◌<◌, Bool, true, false, cond, List, [], ◌∷◌, ◌++◌, take, drop, get_or, length, Option, Some, None, slice_get, set, refl, sym, ap, ◌∙◌, subst, arith, length-append, take_more, take-append-drop, length-take-le, State, Outcome, Status, Ready, Turn, StepResult, Continue, TurnEnds, RunEnds, Slot, state_of, Call, Way, Replied, Answer, Limited, limited, if_left, Machine, Moved, still, moved, moved_if, after_step, after_answer, call_of, next_after, replied, Joined, joined, joint, IsJoint, IsRefusedIn, IsCutJoint, allow, allows, with_left, end_of, limited_step, limited_turn, IsTurnOf, IsStepOf}
+use Rattle.sfi_host.proofs.Prelude.{◌≡◌, ◌≢◌, ◌⊎◌, inl, inr, ⊎_elim, ℕ, zero, suc, ◌+◌, ◌<◌, Bool, true, false, cond, List, [], ◌∷◌, ◌++◌, take, drop, get_or, length, Option, Some, None, slice_get, set, refl, sym, ap, ◌∙◌, subst, arith, length-append, take_more, take-append-drop, length-take-le, State, Outcome, Status, Ready, Turn, StepResult, Continue, TurnEnds, RunEnds, Slot, state_of, Call, Way, Replied, Answer, Limited, limited, if_left, Machine, Moved, still, moved, moved_if, slot_after_step, after_answer, call_of, next_after, replied, Joined, joined, joint, IsJoint, IsRefusedIn, IsCutJoint, allow, allows, with_left, end_of, limited_step, limited_turn, IsTurnOf, IsStepOf}
 use Rattle.sfi_host.specs.Following.{after_run, shortened, IsJointUpTo, JointFollows, CutFollows, CutIsShorter, RetryFollows}
 use Rattle.rv_step.specs.declared.outcome.Outcome.TheVariants as outcome
 use Rattle.sfi_host.proofs.Plans.{follows, allows_some, no_limit, joined_nil, bare, run_end, with_turn, is_joint, is_cut, none_then, turn_then}
@@ -42,7 +42,7 @@ module _ {S : Type 0} (machine : Machine) (answer : S → Call → Answer S) whe
   nothing_asked old before new next goes =
       record { new = new; after = before; next = next; goes = goes; answers = 0; is = λ left. refl; cut = λ n none. absurd (omega arith) }
 
-  outcome_moves : (number : ℕ) (slot : Slot) (before : S) (o : Outcome) (state : State) → SomeMove slot before (λ l. after_step (limited answer) number slot l o state)
+  outcome_moves : (number : ℕ) (slot : Slot) (before : S) (o : Outcome) (state : State) → SomeMove slot before (λ l. slot_after_step (limited answer) number slot l o state)
   outcome_moves number slot before outcome.Next state = nothing_asked slot before _ Continue (λ e. cc)
   outcome_moves number slot before (outcome.Trap cause at) state = nothing_asked slot before _ TurnEnds (λ e. cc)
   outcome_moves number slot before outcome.Call state =

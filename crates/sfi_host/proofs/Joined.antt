@@ -1,5 +1,5 @@
 -- What the joint run does from a safe world is a list of moves.
-use Rattle.sfi_host.proofs.Prelude.{◌≡◌, ◌≢◌, ◌⊎◌, inl, inr, IsSome, is_some, ℕ, zero, suc, ◌<◌, ◌≤◌, ◌^◌, ◌||◌, ◌&&◌, Bool, true, false, cond, List, [], ◌∷◌, ◌++◌, length, take, Option, Some, None, slice_get, set, set-set, refl, sym, ap, ◌∙◌, subst, arith, append_assoc, append-nil, All, option_map, option_or, slice_get-map, map-append, take_all, Bytes, IsMemory, byte_at, Ecall, Outcome, State, Stepped, Stands, IsStep, Part, IsReply, IsTurn, Status, Ready, Trapped, StepResult, Continue, TurnEnds, RunEnds, Way, Exit, Reply, Answer, Host, limited, replay, is_in, IsWhole, Bounds, Slot, bounds_of, one_more, is_own, own, Machine, IsMachine, word, is_byte, with_arguments, with_data, after_way, status_after, replied, Moved, moved, still, after_answer, after_step, after_replies, and_more, turned, Given, given, Joined, joined, after_turn, and_plan, turn_and, call_of, Seat, Sandboxes, slot_of, slots_of, state_in, IsSafeSeat, IsSafeWorld, StaysOutside}
+use Rattle.sfi_host.proofs.Prelude.{◌≡◌, ◌≢◌, ◌⊎◌, inl, inr, IsSome, is_some, ℕ, zero, suc, ◌<◌, ◌≤◌, ◌^◌, ◌||◌, ◌&&◌, Bool, true, false, cond, List, [], ◌∷◌, ◌++◌, length, take, Option, Some, None, slice_get, set, set-set, refl, sym, ap, ◌∙◌, subst, arith, append_assoc, append-nil, All, option_map, option_or, slice_get-map, map-append, take_all, Bytes, IsMemory, byte_at, Ecall, Outcome, State, Stepped, Stands, IsStep, Part, IsReply, IsTurn, Status, Ready, Trapped, StepResult, Continue, TurnEnds, RunEnds, Way, Exit, Reply, Answer, Host, limited, replay, is_in, IsWhole, Bounds, Slot, bounds_of, one_more, is_own, own, Machine, IsMachine, word, is_byte, with_arguments, with_data, after_way, status_after, replied, Moved, moved, still, after_answer, slot_after_step, after_replies, and_more, turned, Given, given, Joined, joined, joined_after_turn, and_plan, turn_and, call_of, Seat, Sandboxes, slot_of, slots_of, state_in, IsSafeSeat, IsSafeWorld, StaysOutside}
 use Rattle.sfi_host.specs.Moves.{StepsAlone, Move, after_move, IsTurnsShare, AreShares, all_of, given_in, ComeTo, HaveRun, JoinedMoves, JointMoves}
 use Rattle.sfi_host.specs.Steps.{IsOwnStep}
 use Rattle.std.proofs.lemmas.List.Elements.{All-cons, All-nil}
@@ -129,12 +129,12 @@ module _ (machine : Machine) (is : IsMachine machine) where
     abbrev after : State
     after = record { hart = r.state.hart; memory = own s.bounds r.state.memory }
 
-    by : {S : Type 0} (host : Host S) (x : S) (out : Outcome) → r.outcome ≡ out → moved machine host i (slot_of m s) x ≡ after_step host i (slot_of m s) x out after
+    by : {S : Type 0} (host : Host S) (x : S) (out : Outcome) → r.outcome ≡ out → moved machine host i (slot_of m s) x ≡ slot_after_step host i (slot_of m s) x out after
     by host x out e = moved_by machine host i (slot_of m s) s.bounds r x out ready (alone.alone machine is) e
 
     -- what it comes to with these replies is its step alone
-    steps_alone : (replies : List Reply) (out : Outcome) → r.outcome ≡ out → (t : Slot) → (after_step replay i (slot_of m s) replies out after).slot ≡ t
-        → (after_step replay i (slot_of m s) replies out after).replies ≡ replies → (after_step replay i (slot_of m s) replies out after).next ≢ RunEnds
+    steps_alone : (replies : List Reply) (out : Outcome) → r.outcome ≡ out → (t : Slot) → (slot_after_step replay i (slot_of m s) replies out after).slot ≡ t
+        → (slot_after_step replay i (slot_of m s) replies out after).replies ≡ replies → (slot_after_step replay i (slot_of m s) replies out after).next ≢ RunEnds
         → StepsAlone machine i (slot_of m s) replies t
     steps_alone replies out e t slot got answered =
         let q = by replay replies out e in
@@ -144,7 +144,7 @@ module _ (machine : Machine) (is : IsMachine machine) where
           answered = λ f. answered (sym (ap (λ (x : Moved _). x.next) q) ∙ f);
         }
 
-    next_moves : {S : Type 0} (host : Host S) (x : S) → r.outcome ≡ outcome.Next → MovesTo machine i m s (after_step host i (slot_of m s) x outcome.Next after)
+    next_moves : {S : Type 0} (host : Host S) (x : S) → r.outcome ≡ outcome.Next → MovesTo machine i m s (slot_after_step host i (slot_of m s) x outcome.Next after)
     next_moves host x e = record {
       n = r.state.memory;
       t = seat_with s r.state.hart s.status (one_more s.steps);
@@ -158,7 +158,7 @@ module _ (machine : Machine) (is : IsMachine machine) where
       slot = refl;
     }
 
-    trap_moves : {S : Type 0} (host : Host S) (x : S) (cause : _) (at : ℕ) → r.outcome ≡ outcome.Trap cause at → MovesTo machine i m s (after_step host i (slot_of m s) x (outcome.Trap cause at) after)
+    trap_moves : {S : Type 0} (host : Host S) (x : S) (cause : _) (at : ℕ) → r.outcome ≡ outcome.Trap cause at → MovesTo machine i m s (slot_after_step host i (slot_of m s) x (outcome.Trap cause at) after)
     trap_moves host x cause at e = record {
       n = m;
       t = seat_with s s.hart (Trapped cause at) s.steps;
@@ -223,7 +223,7 @@ module _ (machine : Machine) (is : IsMachine machine) where
       reply_moves : MovesTo machine i m s (after_answer (slot_of m s) a.host (Some a))
       reply_moves = record { n = n; t = t a.reply.way; taken = by_way a.reply.way refl; slot = slot_after }
 
-    outcome_moves : {S : Type 0} (host : Host S) (x : S) (out : Outcome) → r.outcome ≡ out → Does i m s (after_step host i (slot_of m s) x out after)
+    outcome_moves : {S : Type 0} (host : Host S) (x : S) (out : Outcome) → r.outcome ≡ out → Does i m s (slot_after_step host i (slot_of m s) x out after)
     outcome_moves host x outcome.Next e = inl (ready, next_moves host x e)
     outcome_moves host x (outcome.Trap cause at) e = inl (ready, trap_moves host x cause at e)
     outcome_moves host x outcome.Call e = elim (host x (call_of i (slot_of m s))) as (λ o. Does i m s (after_answer (slot_of m s) x o)) [
@@ -347,11 +347,11 @@ module _ (machine : Machine) (is : IsMachine machine) where
           by_count (suc k) = subst (λ (j : Joined S). LeadTo w (share ++ all_of (take k after.0)) j) (sym (joined_cons machine host t (take k plan) (slots_of w) x found e)) (after.2 k)
 
       -- a turn that names none
-      names_none : After [] (λ rest. after_turn [] (joined machine host rest (slots_of w) x))
+      names_none : After [] (λ rest. joined_after_turn [] (joined machine host rest (slots_of w) x))
       names_none = let later = goal w x world in (later.0, later.1, λ k. let l = later.2 k in record { n = l.n; taken = l.taken; slots = l.slots; replies = l.replies })
 
       module _ (mv : Moved S) (first : TurnMoves t.sandbox t.steps w mv) where
-        goes_on : After first.moves (λ rest. after_turn (given t.sandbox mv.replies) (joined machine host rest (set (slots_of w) t.sandbox mv.slot) mv.host))
+        goes_on : After first.moves (λ rest. joined_after_turn (given t.sandbox mv.replies) (joined machine host rest (set (slots_of w) t.sandbox mv.slot) mv.host))
         goes_on =
             let later : PlanMoves plan first.n (first_turns plan (set (slots_of w) t.sandbox mv.slot) mv.host) =
             subst (λ (l : List Slot). PlanMoves plan first.n (first_turns plan l mv.host)) first.slots (goal first.n mv.host (are_runs machine first.moves w first.n world first.taken).safe_world) in (

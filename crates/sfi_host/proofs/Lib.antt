@@ -24,7 +24,10 @@ pub mod Serving
 pub mod Stops
 pub mod Changing
 pub mod Entries
+pub mod Stopping
+pub mod AtGate
 pub mod Turning
+pub mod Turns
 pub mod Waited
 pub mod Worlds
 pub mod Facts

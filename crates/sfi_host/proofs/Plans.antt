@@ -1,5 +1,5 @@
 -- What a plan comes to, by the turn at its front; and one plan after another.
-use Rattle.sfi_host.proofs.Prelude.{◌≡◌, ℕ, zero, suc, ◌+◌, Bool, true, false, List, [], ◌∷◌, Option, Some, None, length, slice_get, set, refl, sym, ap, ◌∙◌, arith, cond, ◌++◌, append_assoc, Turn, TurnEnds, RunEnds, Call, Answer, Host, Limited, limited, Slot, Machine, Moved, still, Joined, joined, joint, and_plan, turn_and, after_turn, turned, Given, given, IsJoint, IsRefusedIn, IsCutJoint, allow, allows, with_left, end_of, limited_turn, IsTurnOf, IsCutTurnOf, StepResult}
+use Rattle.sfi_host.proofs.Prelude.{◌≡◌, ℕ, zero, suc, ◌+◌, Bool, true, false, List, [], ◌∷◌, Option, Some, None, length, slice_get, set, refl, sym, ap, ◌∙◌, arith, cond, ◌++◌, append_assoc, Turn, TurnEnds, RunEnds, Call, Answer, Host, Limited, limited, Slot, Machine, Moved, still, Joined, joined, joint, and_plan, turn_and, joined_after_turn, turned, Given, given, IsJoint, IsRefusedIn, IsCutJoint, allow, allows, with_left, end_of, limited_turn, IsTurnOf, IsCutTurnOf, StepResult}
 use Rattle.sfi_host.specs.Following.{after_run, JoinedFollows}
 
 -- ---- limits
@@ -40,7 +40,7 @@ run_end slots host left turns ended = record { slots = slots; host = with_left h
 
 -- the same, after one turn more
 abbrev pub with_turn : {S : Type 0} → Joined S → Joined S
-with_turn j = bare (after_turn [] j)
+with_turn j = bare (joined_after_turn [] j)
 
 -- each turn of a plan was taken
 pub is_joint : {S : Type 0} (machine : Machine) (answer : S → Call → Answer S) (plan : List Turn) (old new : List Slot) (before after : S)
@@ -105,8 +105,8 @@ and_run j rest = cond j.is_ended j (after_run j (rest j.slots j.host))
 
 -- a turn before both is a turn before the first
 turn_before : {S : Type 0} (gs : List Given) (j : Joined S) (ended : Bool) (rest : List Slot → S → Joined S)
-    → after_turn gs (cond ended j (after_run j (rest j.slots j.host)))
-    ≡ cond ended (after_turn gs j) (after_run (after_turn gs j) (rest j.slots j.host))
+    → joined_after_turn gs (cond ended j (after_run j (rest j.slots j.host)))
+    ≡ cond ended (joined_after_turn gs j) (after_run (joined_after_turn gs j) (rest j.slots j.host))
 turn_before gs j true rest = refl
 turn_before gs j false rest =
     let k = rest j.slots j.host in
@@ -123,12 +123,12 @@ turn_first : {S : Type 0} (next : StepResult) (i : ℕ) (m : Moved S) (slots : L
 turn_first RunEnds i m slots one both rest same = refl
 turn_first next i m slots one both rest same =
     let j = one (set slots i m.slot) m.host in
-    ap (λ (x : Joined _). after_turn (given i m.replies) x) (same (set slots i m.slot) m.host) ∙ turn_before (given i m.replies) j j.is_ended rest
+    ap (λ (x : Joined _). joined_after_turn (given i m.replies) x) (same (set slots i m.slot) m.host) ∙ turn_before (given i m.replies) j j.is_ended rest
 
 found_first : {S : Type 0} (machine : Machine) (host : Host S) (t : Turn) (slots : List Slot) (s : S) (found : Option Slot) (one both rest : List Slot → S → Joined S) → IsBoth one both rest
     → turn_and machine host t slots s found both ≡ and_run (turn_and machine host t slots s found one) rest
 found_first machine host t slots s None one both rest same =
-    ap (λ (x : Joined _). after_turn [] x) (same slots s) ∙ turn_before [] (one slots s) (one slots s).is_ended rest
+    ap (λ (x : Joined _). joined_after_turn [] x) (same slots s) ∙ turn_before [] (one slots s) (one slots s).is_ended rest
 found_first machine host t slots s (Some slot) one both rest same =
     let m = turned machine host t.sandbox t.steps slot s in
     turn_first m.next t.sandbox m slots one both rest same

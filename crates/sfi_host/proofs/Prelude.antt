@@ -27,7 +27,7 @@ pub use Rattle.sfi_host.specs.Consoles.{SessionState, ConsoleState, with_session
 pub use Rattle.sfi_host.specs.Entering.{AreEnterable, MayEnter, MayEnterAt, fresh_hart, with_registers, entered_hart, entered_seat, with_entry_of, with_entry, IsAtEntry, IsEnterable}
 pub use Rattle.sfi_host.specs.Guests.{call_by, asked, with_a0, data_of}
 pub use Rattle.sfi_host.specs.Hosts.{Call, Way, Replied, Answer, Limited, limited, if_left, Exit, Reply, Host, replay}
-pub use Rattle.sfi_host.specs.Joint.{Machine, Moved, still, moved_if, after_step, after_answer, call_of, next_after, replied, Joined, joint, IsMachine, word, is_byte, with_arguments, with_data, after_way, status_after, after_replies, and_more, Given, given, after_turn, and_plan, turn_and, both, service_at}
+pub use Rattle.sfi_host.specs.Joint.{Machine, Moved, still, moved_if, slot_after_step, after_answer, call_of, next_after, replied, Joined, joint, IsMachine, word, is_byte, with_arguments, with_data, after_way, status_after, after_replies, and_more, Given, given, joined_after_turn, and_plan, turn_and, both, service_at}
 unfoldable pub use Rattle.sfi_host.specs.Joint.{moved, joined, turned}
 pub use Rattle.sfi_host.specs.Loading.{first_seat, AreEntered, first_data, with_part, with_parts, HaveFirstData, first_hart}
 pub use Rattle.sfi_host.specs.Plans.{IsJoint, IsRefusedIn, IsCutJoint}
@@ -38,7 +38,7 @@ pub use Rattle.sfi_host.specs.Worlds.{Sandboxes, slot_of, slots_of, data_byte_of
 pub use Rattle.sfi_host.specs.declared.program.Program.{Program}
 pub use Rattle.sfi_host.specs.declared.sandbox.Sandbox.{Sandbox}
 pub use Rattle.sfi_host.specs.declared.status.Status.{Status}
-pub use Rattle.sfi_host.specs.declared.status.Status.TheVariants.{Ready, Trapped, Exited}
+pub use Rattle.sfi_host.specs.declared.status.Status.TheVariants.{Ready, Trapped, Exited, Stopped}
 pub use Rattle.sfi_host.specs.declared.turn.StepResult.{StepResult}
 pub use Rattle.sfi_host.specs.declared.turn.StepResult.TheVariants.{Continue, TurnEnds, RunEnds}
 pub use Rattle.sfi_host.specs.declared.turn.Turn.{Turn}

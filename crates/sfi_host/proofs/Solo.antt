@@ -1,5 +1,5 @@
 -- A sandbox alone, with the replies that it got among others.
-use Rattle.sfi_host.proofs.Prelude.{◌≡◌, ℕ, zero, suc, ◌==◌, Bool, true, false, cond, List, [], ◌∷◌, ◌++◌, map, Option, Some, None, slice_get, set, take, refl, sym, ap, ◌∙◌, subst, append_assoc, append-nil, eqb-true, eqb-false, same_Some, filter, State, Outcome, Status, Ready, Turn, Slot, state_of, Call, Reply, Answer, Host, limited, replay, StepResult, Continue, RunEnds, Machine, Moved, moved, moved_if, after_step, after_answer, after_replies, call_of, and_more, turned, Given, given, Joined, joined, turn_and, and_plan, after_turn}
+use Rattle.sfi_host.proofs.Prelude.{◌≡◌, ℕ, zero, suc, ◌==◌, Bool, true, false, cond, List, [], ◌∷◌, ◌++◌, map, Option, Some, None, slice_get, set, take, refl, sym, ap, ◌∙◌, subst, append_assoc, append-nil, eqb-true, eqb-false, same_Some, filter, State, Outcome, Status, Ready, Turn, Slot, state_of, Call, Reply, Answer, Host, limited, replay, StepResult, Continue, RunEnds, Machine, Moved, moved, moved_if, slot_after_step, after_answer, after_replies, call_of, and_more, turned, Given, given, Joined, joined, turn_and, and_plan, joined_after_turn}
 use Rattle.sfi_host.specs.Solo.{IsSolo, JoinedIsSolo, JointIsSolo, turns_of, replies_to}
 use Rattle.rv_step.specs.declared.outcome.Outcome.TheVariants as outcome
 use Rattle.sfi_host.proofs.Neighbours.{get_set_same, get_set_other}
@@ -23,7 +23,7 @@ answered slot s None call [] h = refl
 answered slot s None call (r ∷ more) h = absurd (cc (h refl))
 answered slot s (Some a) call more h = refl
 
-by_outcome : {S : Type 0} (host : Host S) (i : ℕ) (slot : Slot) (s : S) (out : Outcome) (state : State) → Follows (λ l. after_step replay 0 slot l out state) (after_step host i slot s out state)
+by_outcome : {S : Type 0} (host : Host S) (i : ℕ) (slot : Slot) (s : S) (out : Outcome) (state : State) → Follows (λ l. slot_after_step replay 0 slot l out state) (slot_after_step host i slot s out state)
 by_outcome host i slot s outcome.Call state more h = answered slot s (host s (call_of i slot)) (call_of 0 slot) more h
 by_outcome host i slot s out state more h = refl
 
@@ -106,7 +106,7 @@ module _ (machine : Machine) where
           later (set slots t.sandbox m.slot) m.host m.slot there ∙ sym (own_first s next (take j.turns plan) j.replies b is (λ w. absurd (cc)))
 
       -- another's turn, after which the plan goes on
-      other_more : (rs : List Reply) (j : Joined S) → (t.sandbox == i) ≡ false → IsSolo machine plan i slot j → IsSolo machine (t ∷ plan) i slot (after_turn (given t.sandbox rs) j)
+      other_more : (rs : List Reply) (j : Joined S) → (t.sandbox == i) ≡ false → IsSolo machine plan i slot j → IsSolo machine (t ∷ plan) i slot (joined_after_turn (given t.sandbox rs) j)
       other_more rs j b before =
           before
           ∙ sym (λ k. slot_alone (turns_are i t (take j.turns plan) false b k) slot (replies_other i t.sandbox rs j.replies b k))

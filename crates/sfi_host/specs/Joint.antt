@@ -10,7 +10,7 @@ use Rattle.rv_step.specs.declared.outcome.Outcome.{Outcome}
 use Rattle.rv_step.specs.declared.outcome.Outcome.TheVariants as outcome
 use Rattle.sfi_image.specs.declared.part.Gate.{Gate}
 use Rattle.sfi_host.specs.declared.status.Status.{Status}
-use Rattle.sfi_host.specs.declared.status.Status.TheVariants.{Ready, Exited, Trapped}
+use Rattle.sfi_host.specs.declared.status.Status.TheVariants.{Ready, Exited, Trapped, Stopped}
 use Rattle.sfi_host.specs.declared.turn.StepResult.{StepResult}
 use Rattle.sfi_host.specs.declared.turn.StepResult.TheVariants.{Continue, TurnEnds, RunEnds}
 use Rattle.sfi_host.specs.declared.turn.Turn.{Turn}
@@ -121,8 +121,8 @@ after_answer slot s (Some a) = record {
 }
 
 -- what a step's outcome makes of the sandbox: a trap isn't counted
-abbrev pub after_step : {S : Type 0} → Host S → ℕ → Slot → S → Outcome → State → Moved S
-after_step host i slot s outcome.Next state =
+abbrev pub slot_after_step : {S : Type 0} → Host S → ℕ → Slot → S → Outcome → State → Moved S
+slot_after_step host i slot s outcome.Next state =
     still (record {
       bounds = slot.bounds;
       hart = state.hart;
@@ -130,7 +130,7 @@ after_step host i slot s outcome.Next state =
       steps = one_more slot.steps;
       bytes = state.memory;
     }) s Continue
-after_step host i slot s (outcome.Trap cause at) state =
+slot_after_step host i slot s (outcome.Trap cause at) state =
     still (record {
       bounds = slot.bounds;
       hart = slot.hart;
@@ -138,14 +138,15 @@ after_step host i slot s (outcome.Trap cause at) state =
       steps = slot.steps;
       bytes = slot.bytes;
     }) s TurnEnds
-after_step host i slot s outcome.Call state = after_answer slot s (host s (call_of i slot))
+slot_after_step host i slot s outcome.Call state = after_answer slot s (host s (call_of i slot))
 
 -- a sandbox that isn't ready does nothing
 abbrev pub moved_if : {S : Type 0} → Machine → Host S → ℕ → Slot → S → Status → Moved S
 moved_if machine host i slot s Ready = let r = machine (state_of slot) in
-    after_step host i slot s r.outcome r.state
+    slot_after_step host i slot s r.outcome r.state
 moved_if machine host i slot s (Exited n) = still slot s TurnEnds
 moved_if machine host i slot s (Trapped cause at) = still slot s TurnEnds
+moved_if machine host i slot s Stopped = still slot s TurnEnds
 
 -- one step of the sandbox of that number
 unfoldable pub moved : {S : Type 0} → Machine → Host S → ℕ → Slot → S → Moved S
@@ -191,8 +192,8 @@ pub record Joined (S : Type 0) : Type 0 where
   pub is_ended : Bool
 
 -- the same, after a turn with its replies
-abbrev pub after_turn : {S : Type 0} → List Given → Joined S → Joined S
-after_turn earlier j = record {
+abbrev pub joined_after_turn : {S : Type 0} → List Given → Joined S → Joined S
+joined_after_turn earlier j = record {
   slots = j.slots;
   host = j.host;
   replies = earlier ++ j.replies;
@@ -204,9 +205,9 @@ after_turn earlier j = record {
 abbrev pub and_plan :
     {S : Type 0} → StepResult → ℕ → Moved S → List Slot → (List Slot → S → Joined S) → Joined S
 and_plan Continue i m slots rest =
-    after_turn (given i m.replies) (rest (slice_set slots i m.slot) m.host)
+    joined_after_turn (given i m.replies) (rest (slice_set slots i m.slot) m.host)
 and_plan TurnEnds i m slots rest =
-    after_turn (given i m.replies) (rest (slice_set slots i m.slot) m.host)
+    joined_after_turn (given i m.replies) (rest (slice_set slots i m.slot) m.host)
 and_plan RunEnds i m slots rest = record {
   slots = slice_set slots i m.slot;
   host = m.host;
@@ -218,7 +219,7 @@ and_plan RunEnds i m slots rest = record {
 -- a turn that names no sandbox does nothing
 abbrev pub turn_and : {S : Type 0} → Machine → Host S → Turn → List Slot → S → Option Slot
     → (List Slot → S → Joined S) → Joined S
-turn_and machine host t slots s None rest = after_turn [] (rest slots s)
+turn_and machine host t slots s None rest = joined_after_turn [] (rest slots s)
 turn_and machine host t slots s (Some slot) rest =
     let m = turned machine host t.sandbox t.steps slot s in and_plan m.next t.sandbox m slots rest
 

@@ -18,6 +18,7 @@ pub mod Reading
 pub mod Loading
 pub mod Changing
 pub mod Entering
+pub mod Stopping
 pub mod Sandboxes
 pub mod Entries
 pub mod Programs
@@ -27,3 +28,4 @@ pub mod Moves
 pub mod private
 pub mod Waiting
 pub mod LaterReplies
+pub mod Turns

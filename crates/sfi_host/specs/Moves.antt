@@ -10,7 +10,7 @@ use Rattle.sfi_runs.specs.Runs.{Turn, Steps, Replies, Changes, KeepsBytes, IsRun
 use Rattle.sfi_runs.specs.Safety.{IsSafeRun}
 use Rattle.sfi_runs.specs.Calls.{after_turns}
 use Rattle.sfi_host.specs.declared.status.Status.{Status}
-use Rattle.sfi_host.specs.declared.status.Status.TheVariants.{Ready, Exited, Trapped}
+use Rattle.sfi_host.specs.declared.status.Status.TheVariants.{Ready, Exited, Trapped, Stopped}
 use Rattle.sfi_host.specs.declared.turn.RunAnswer.{RunAnswer}
 use Rattle.sfi_host.specs.declared.turn.RunAnswer.TheVariants as answers
 use Rattle.sfi_host.specs.declared.turn.StepResult.TheVariants.{RunEnds}
@@ -69,12 +69,14 @@ own_turn step after [] status = Steps step
 own_turn step after (r ∷ replies) Ready = Replies after
 own_turn step after (r ∷ replies) (Exited n) = Steps step
 own_turn step after (r ∷ replies) (Trapped cause at) = Steps step
+own_turn step after (r ∷ replies) Stopped = Steps step
 
 -- its own turn and what comes then: after its last turn nothing comes
 abbrev pub own_turns : Status → Turn → List Turn → List Turn
 own_turns Ready turn later = turn ∷ later
 own_turns (Exited n) turn later = turn ∷ []
 own_turns (Trapped cause at) turn later = turn ∷ []
+own_turns Stopped turn later = turn ∷ []
 
 -- To the sandbox of that number, which has this seat in this memory, its own moves are its turns,
 -- and each move of another is a change by others.

@@ -1,4 +1,4 @@
--- What stopped a sandbox. It stays on the instruction that did.
+-- What stopped a sandbox. It stays on the instruction that did, or where its host stopped it.
 use Rattle.std.specs.Prelude.{◌≡◌, ℕ, ℤ, ◌<◌, ◌⊎◌, Contains}
 use Rattle.rv_word.specs.declared.instr.Instr.{Instr}
 use Rattle.rv_word.specs.declared.instr.Instr.TheVariants.{Load, Store, Ecall, Ebreak}
@@ -12,7 +12,7 @@ use Rattle.rv_step.specs.Step.{Stands}
 use Rattle.sfi_image.specs.declared.part.Gate.{Gate}
 use Rattle.sfi_image.specs.Spans.{Holds, InGuards}
 use Rattle.sfi_host.specs.declared.status.Status.{Status}
-use Rattle.sfi_host.specs.declared.status.Status.TheVariants.{Ready, Exited, Trapped}
+use Rattle.sfi_host.specs.declared.status.Status.TheVariants.{Ready, Exited, Trapped, Stopped}
 use Rattle.sfi_host.specs.Slots.{Bounds}
 
 -- the instruction stands at pc, and each of its bytes lies in the sandbox's code
@@ -40,8 +40,8 @@ pub record TouchesGuard (b : Bounds) (s : State) (i : Instr) (at : ℕ) : Type 0
   pub guard : InGuards b.data address
 
 -- A sandbox with this status has stopped itself, if it has stopped: it is at the ecall of one of
--- its gates, at its ebreak, or at its load or store that touches a guard zone.
--- No other trap stops it.
+-- its gates, at its ebreak, or at its load or store that touches a guard zone. No other trap stops
+-- it. One that its host stopped, by `World::stop`, may be anywhere.
 abbrev pub StoppedItself : Bounds → State → Status → Type 0
 StoppedItself b s Ready = Unit {0}
 StoppedItself b s (Exited code) = IsAtGate b s
@@ -52,3 +52,4 @@ StoppedItself b s (Trapped cause.Store at) =
     (width : StoreWidth) × (rs1 rs2 : ℕ) × (imm : ℤ) × TouchesGuard b s (Store width rs1 rs2 imm) at
 StoppedItself b s (Trapped cause.Fetch at) = ⊥
 StoppedItself b s (Trapped cause.Illegal at) = ⊥
+StoppedItself b s Stopped = Unit {0}

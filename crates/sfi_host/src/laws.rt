@@ -5,6 +5,7 @@ ghost use Rattle.sfi_host.specs.Laws.{SomeMachine, OneMachine, NeighboursAreChan
 ghost use Rattle.sfi_host.specs.Moves.{JoinedMoves, JointMoves};
 ghost use Rattle.sfi_host.specs.Solo.{JoinedIsSolo, JointIsSolo};
 ghost use Rattle.sfi_host.specs.Steps.{StepsAreOwn};
+ghost use Rattle.sfi_host.specs.Turns.{TurnsAreCounted, WaitsThroughTurns, PlansStopNone};
 
 /// There is a machine.
 pub fn some_machine()
@@ -97,4 +98,16 @@ pub fn later_is_at_once<S>()
     ensures turns { ToCallIsJoint S }
     ensures replies { ReplyIsAnswer S }
     ensures writes { WritesAreReplies }
+{}
+
+/// What a host may rest on that bounds the turns it gives. `S` is a host's state.
+pub fn turns_are_counted<S>()
+    // A turn counts no more steps than it allows, and none of a sandbox that has stopped.
+    ensures counted { TurnsAreCounted S }
+
+    // One up to the next call counts none of a sandbox that waits.
+    ensures waits { WaitsThroughTurns }
+
+    // No plan stops a sandbox as `World::stop` does.
+    ensures stops_none { PlansStopNone S }
 {}

@@ -5,6 +5,7 @@ ghost use Rattle.sfi_host.specs.Arguments.{a0_register};
 ghost use Rattle.sfi_host.specs.Entering.{MayEnter, fresh_hart, typed_for, with_registers, entered_seat};
 ghost use Rattle.sfi_host.specs.Regions.{span_of};
 ghost use Rattle.sfi_host.specs.Sandboxes.{seat_of};
+ghost use Rattle.sfi_host.specs.Stopping.{stopped_seat};
 
 use crate::region::Region;
 use crate::status::Status;
@@ -97,8 +98,23 @@ impl Sandbox {
             Status::Ready => return false,
             Status::Exited(_) => {}
             Status::Trapped(_, _) => {}
+            Status::Stopped => {}
         }
         self.code.holds(pc) && pc % self.format.unit() == 0
+    }
+
+    /// Whether it runs when it gets a turn.
+    pub(crate) fn is_ready(&self) -> bool
+        ensures { IsTrue result ↔ (self.now.status ≡ Status.Ready) }
+    {
+        matches!(self.status, Status::Ready)
+    }
+
+    /// Stops it where it stands.
+    pub(crate) fn stop(&mut self)
+        ensures { seat_of self.new ≡ stopped_seat (seat_of self.old) }
+    {
+        self.status = Status::Stopped;
     }
 
     /// Makes it ready at the address.

@@ -10,4 +10,6 @@ pub enum Status {
     Exited(u32),
     /// It trapped: why, and the pc or the address of the access.
     Trapped(Cause, u32),
+    /// The host stopped it, by `World::stop`.
+    Stopped,
 }

@@ -1,20 +1,21 @@
 //! Worlds.
-ghost use Rattle.std.specs.Prelude.{◌≡◌, ◌≢◌, ◌↔◌, ◌<◌, ℕ, [], ◌∷◌, length, map, slice_get, slice_set, IfOk, IfSome, IsTrue, IsSome, Some};
+ghost use Rattle.std.specs.Prelude.{◌≡◌, ◌≢◌, ◌↔◌, ◌<◌, ℕ, [], ◌∷◌, length, map, slice_get, slice_set, IfOk, IfSome, IsTrue, IsSome, Some, None};
 ghost use Rattle.std.specs.Bool.{OnTrue, OnFalse};
 ghost use Rattle.std.specs.FinMap.{empty};
 ghost use Rattle.std.specs.Option.{option_map};
 ghost use Rattle.sfi_image.specs.Spans.{Holds};
 ghost use Rattle.sfi_host.specs.Changing.{data_bytes_of, with_world_bytes, OthersAreSame, AreChanges};
 ghost use Rattle.sfi_host.specs.Entering.{MayEnterAt, with_entry, IsAtEntry};
-ghost use Rattle.sfi_host.specs.Joint.{Machine, IsMachine, call_of, replied};
+ghost use Rattle.sfi_host.specs.Joint.{Machine, IsMachine, call_of, joint, replied};
 ghost use Rattle.sfi_host.specs.Moves.{HaveRun, HaveRunJointly};
 ghost use Rattle.sfi_host.specs.Plans.{IsJoint, IsCutJoint};
 ghost use Rattle.sfi_host.specs.private.Sandboxes.{bounds_in, slot_in};
 ghost use Rattle.sfi_host.specs.Reading.{hart_at, data_region_at};
 ghost use Rattle.sfi_host.specs.Regions.{span_of};
 ghost use Rattle.sfi_host.specs.Slots.{Slot};
+ghost use Rattle.sfi_host.specs.Stopping.{with_stop};
 ghost use Rattle.sfi_host.specs.Loading.{first_seat, with_parts, AreEntered, HaveFirstData};
-ghost use Rattle.sfi_host.specs.Waiting.{IsAtCall, Waits, to_call, later_reply, later_answer};
+ghost use Rattle.sfi_host.specs.Waiting.{AsksAtGate, IsAtCall, Waits, to_call, later_reply, later_answer};
 ghost use Rattle.sfi_host.specs.Worlds.{slots_of, status_at, steps_at, data_byte_of, HaveStoppedThemselves, IsSafeWorld, StaysOutsideData};
 
 use crate::calls::{ask, asked_by};
@@ -143,7 +144,8 @@ impl<M: Memory> World<M> {
     /// Takes a turn up to the next call: as a turn of a plan, but a call ends it, and leaves its
     /// sandbox at the call as if it had not called. The answer is what it asks, if it stands at a call
     /// then; so it does, too, where its steps were used just before the call. It waits there for a
-    /// `reply`, and turns that it gets before come to nothing.
+    /// `reply`: until then each further turn up to a call comes to nothing, and a turn of a plan asks
+    /// that plan's host.
     pub fn run_to_call(&mut self, turn: Turn) -> Option<Request>
         // What the turn comes to with a host that answers no call.
         ensures ran { (machine : Machine) → IsMachine machine
@@ -157,6 +159,7 @@ impl<M: Memory> World<M> {
         // The answer is as that of `waiting`.
         ensures waits { IfSome result (λ r. Waits (slots_of self.new) turn.sandbox r) }
         ensures there { IsSome result ↔ IsAtCall (slots_of self.new) turn.sandbox }
+        ensures gate { IfSome result (λ r. AsksAtGate (slots_of self.new) turn.sandbox r) }
 
         // As after a plan.
         ensures safe { IsSafeWorld self.new }
@@ -194,6 +197,9 @@ impl<M: Memory> World<M> {
     pub fn waiting(&self, i: u32) -> Option<Request>
         ensures waits { IfSome result (λ r. Waits (slots_of self.now) i r) }
         ensures there { IsSome result ↔ IsAtCall (slots_of self.now) i }
+
+        // It stands at one of its gates, and asks that gate's service.
+        ensures gate { IfSome result (λ r. AsksAtGate (slots_of self.now) i r) }
     {
         let place = i as usize;
         if place >= self.sandboxes.len() {
@@ -214,6 +220,15 @@ impl<M: Memory> World<M> {
             → slots_of self.new ≡ slice_set (slots_of self.old) i
             (replied slot (later_reply reply (call_of i slot)))) }
         ensures refused { OnFalse result (self.new ≡ self.old) }
+
+        // It is one move in the one memory, as in `run_plan`: the theorem's reply to the ecall, or, if
+        // the sandbox is to stop, its last step.
+        ensures runs { OnTrue result ((machine : Machine) → IsMachine machine
+            → HaveRun machine (record { sandbox = i; steps = 1 } ∷ []) self.old self.new
+            (λ plan. joint machine later_answer plan (slots_of self.old) reply None)) }
+
+        // No other sandbox has changed.
+        ensures others { OthersAreSame self.old i self.new }
         ensures safe { IsSafeWorld self.new }
         ensures stops { HaveStoppedThemselves self.new }
         ensures outside { StaysOutsideData self.old self.new.bytes }
@@ -374,6 +389,32 @@ impl<M: Memory> World<M> {
             return false;
         }
         self.sandboxes[place].enter(pc, arguments);
+        true
+    }
+
+    /// Stops the sandbox of that number, if it is ready, wherever it stands, also where it waits at a
+    /// call: no turn does anything with it then, and it takes no reply. `false` where there is no such
+    /// sandbox or it has stopped already, and then nothing changed. All else of it stays: its pc,
+    /// registers, data and steps. It may be entered again, as after an exit or a trap.
+    pub fn stop(&mut self, i: u32) -> bool
+        ensures may { IsTrue result ↔ (status_at (slots_of self.old) i ≡ Some Status.Ready) }
+
+        // Of all that the world is, this sandbox's status alone changes.
+        ensures done { OnTrue result (self.new ≡ with_stop self.old i) }
+        ensures refused { OnFalse result (self.new ≡ self.old) }
+        ensures others { OthersAreSame self.old i self.new }
+
+        // The world is safe as before, and what is said of plans holds of those that follow.
+        ensures safe { IsSafeWorld self.new }
+    {
+        let place = i as usize;
+        if place >= self.sandboxes.len() {
+            return false;
+        }
+        if !self.sandboxes[place].is_ready() {
+            return false;
+        }
+        self.sandboxes[place].stop();
         true
     }
 

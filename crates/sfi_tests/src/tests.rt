@@ -7,6 +7,7 @@ mod image_reading;
 mod options;
 mod rows;
 mod scan;
+mod stopping;
 mod stream;
 mod worlds;
 

@@ -12,7 +12,7 @@ use std::process::Abort;
 use std::test::Fail;
 
 // The world of the smallest image: 64 times `ebreak` and 256 data bytes.
-fn smallest_world(rt: &impl Abort, alloc: Global) -> Result<World<Segments>, Fail> {
+pub(super) fn smallest_world(rt: &impl Abort, alloc: Global) -> Result<World<Segments>, Fail> {
     let bytes = image_of(alloc, "")?;
     let accepted = check(alloc, bytes.as_slice()).expect(rt, "accepted");
     Ok(World::load(alloc, &accepted, Segments::new(alloc))?)
@@ -56,7 +56,7 @@ fn data_of_a_world(rt: HostRuntime) -> Result<(), Fail> {
 }
 
 // A turn of 1000 steps.
-fn turn(sandbox: u32) -> Turn {
+pub(super) fn turn(sandbox: u32) -> Turn {
     Turn {
         sandbox,
         steps: 1000,
@@ -128,13 +128,13 @@ fn data_are_read_and_written_from_outside(rt: HostRuntime) -> Result<(), Fail> {
 }
 
 // One turn of the smallest world's sandbox, and what became of it.
-fn turned(world: &mut World<Segments>, alloc: Global) -> Result<Option<Status>, Fail> {
+pub(super) fn turned(world: &mut World<Segments>, alloc: Global) -> Result<Option<Status>, Fail> {
     let mut console = Console::new(alloc, 1, &[])?;
     world.run_plan(&[turn(0)], &mut console);
     Ok(world.status(0))
 }
 
-const ARGUMENTS: [u32; 8] = [11, 12, 13, 14, 15, 16, 17, 18];
+pub(super) const ARGUMENTS: [u32; 8] = [11, 12, 13, 14, 15, 16, 17, 18];
 
 // The sandbox is entered at a bundle's start of its code alone, and no other sandbox is.
 fn is_entered(world: &mut World<Segments>) -> bool {

@@ -1,9 +1,11 @@
-use Rattle.sfi_host.proofs.Prelude.{◌≡◌, ◌≢◌, ℕ, [], ◌∷◌, set, slice_get, slice_set, Option, Some, None, IsSome, IsTrue, refl, sym, ap, ◌∙◌, subst, arith, same_Some, false, true, List, Ecall, Stands, Sandbox, Sandboxes, Slot, RunEnds, IsJoint, call_of, replied, seat_of, slot_of, slots_of, state_in, world_of, IsSafeWorld}
+use Rattle.sfi_host.proofs.Prelude.{◌≡◌, ◌≢◌, ℕ, [], ◌∷◌, set, slice_get, slice_set, Option, Some, None, IsSome, IsTrue, refl, sym, ap, ◌∙◌, subst, arith, same_Some, false, true, List, Ecall, Stands, Sandbox, Sandboxes, Slot, RunEnds, Machine, IsMachine, IsJoint, call_of, replied, seat_of, slot_of, slots_of, state_in, world_of, IsSafeWorld}
 use Rattle.sfi_host.specs.declared.guest.Request.{Request}
 use Rattle.sfi_host.specs.Waiting.{Waits, later_answer, later_reply}
 use Rattle.sfi_host.proofs.Asked.{found, seat_at}
-use Rattle.sfi_host.proofs.Changing.{AfterTurn, turn_taken}
+use Rattle.sfi_host.proofs.Changing.{AfterTurn, others_same, turn_taken}
+use Rattle.sfi_host.proofs.Joined.{joined_are}
 use Rattle.sfi_host.proofs.LaterReplies.{reply_is_answer}
+use Rattle.sfi_host.proofs.SameWorld.{world_runs}
 use Rattle.sfi_host.proofs.Stops.{have_stopped}
 use Rattle.sfi_host.proofs.Waited.{waits_at, is_told}
 use Rattle.sfi_host.proofs.world.World.reply.Given as given
@@ -82,6 +84,14 @@ got g c slot there =
     let i = c.args.i in
     a.slots ∙ ap (set (slots_of c.args.self.now) i) ((c.ask.ensures.replied (answered g c)).slot ∙ ap (λ (x : Slot). replied x (later_reply c.args.reply (call_of i x))) (same_Some _ slot (sym a.there ∙ there)))
 
+done : (g : given.Over) (c : goal.After-self-1 g) (machine : Machine) → IsMachine machine → IsJoint machine later_answer (record { sandbox = c.args.i; steps = 1 } ∷ []) (slots_of c.args.self.now) c.args.reply
+    (slots_of (world_of (g.M.Memory.bytes c.ask.new.memory) (set c.self.inside.sandboxes.items c.args.i c.ask.new.sandbox))) c.args.reply
+done g c machine is =
+    let i = c.args.i in
+    let w = waits g c.before.before in
+    subst (λ (l : List Slot). IsJoint machine later_answer (record { sandbox = i; steps = 1 } ∷ []) (slots_of c.args.self.now) c.args.reply l c.args.reply) (sym (got g c w.at.slot w.at.there))
+    (reply_is_answer machine is later_answer i (slots_of c.args.self.now) c.in-Some.field-0 (later_reply c.args.reply (call_of i w.at.slot)) c.args.reply c.args.reply w refl)
+
 pub returns : goal.returns
 returns g c =
     let a = after g c in
@@ -89,11 +99,13 @@ returns g c =
     let w = waits g c.before.before in
     record {
       may = (λ e. w.at, λ h. refl);
-      done = λ machine is.
-          subst (λ (l : List Slot). IsJoint machine later_answer (record { sandbox = i; steps = 1 } ∷ []) (slots_of c.args.self.now) c.args.reply l c.args.reply) (sym (got g c w.at.slot w.at.there))
-          (reply_is_answer machine is later_answer i (slots_of c.args.self.now) c.in-Some.field-0 (later_reply c.args.reply (call_of i w.at.slot)) c.args.reply c.args.reply w refl);
+      done = done g c;
       replied = got g c;
       refused = tt;
+      runs = λ machine is.
+          world_runs joined_are machine is later_answer (record { sandbox = i; steps = 1 } ∷ []) c.args.self.now _ c.args.reply (subst (λ (x : Sandboxes). IsSafeWorld x) c.self.view_is c.self.invariant.0)
+          a.bounds a.outside None (done g c machine is).slots;
+      others = others_same c.args.self.now i _ _ a.slots;
       safe = a.kept.0;
       stops = have_stopped _ a.kept.0;
       outside = a.outside;

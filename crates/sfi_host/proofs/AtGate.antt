@@ -1,0 +1,92 @@
+-- A sandbox that waits is at one of its gates.
+use Rattle.std.specs.Prelude.{IfSome}
+use Rattle.std.proofs.lemmas.List.Elements.{All-contains}
+use Rattle.sfi_host.proofs.Prelude.{◌≡◌, ℕ, zero, suc, ◌<◌, ◌≤◌, ◌==◌, Bool, true, false, cond, List, [], ◌∷◌, length, Option, Some, None, slice_get, refl, sym, ap, ◌∙◌, subst, arith, eqb-true, eqb-false, Contains, Bytes, State, Stepped, Stands, Ecall, Slot, Bounds, Seat, Sandboxes, slot_of, slots_of, state_in, IsSafeSeat, IsSafeWorld, Ready, Call, service_at, state_of}
+use Rattle.rv_step.specs.declared.outcome.Outcome.TheVariants.{Call as Calls}
+use Rattle.sfi_policy.specs.Limits.{service_most}
+use Rattle.sfi_image.specs.declared.part.Gate.{Gate}
+use Rattle.sfi_host.specs.declared.guest.Request.{Request}
+use Rattle.sfi_host.specs.Stops.{IsAtGate}
+use Rattle.sfi_host.specs.Waiting.{Waits, AsksAtGate}
+use Rattle.sfi_host.proofs.Facts.{some_machine}
+use Rattle.sfi_host.proofs.OwnSteps.{steps_own}
+use Rattle.sfi_host.proofs.SameWorld.{get_map}
+use Rattle.sfi_host.proofs.Stops.{at_gate}
+use Rattle.sfi_host.proofs.Worlds.{map_get}
+
+-- ---- the gate whose service is asked
+
+record IsFound (gs : List Gate) (at : ℕ) : Type 0 where
+  gate : Gate
+  among : Contains gs gate
+  address : gate.address ≡ at
+  service : service_at gs at ≡ gate.service
+
+later : {A : Type 0} (x : A) (xs : List A) (y : A) → Contains (x ∷ xs) y → (x ≡ y → ⊥) → Contains xs y
+later x xs y (zero, below, is) other = absurd (other is)
+later x xs y (suc k, below, is) other = (k, omega (arith, below), is)
+
+gate_found : (gs : List Gate) (at : ℕ) (g : Gate) → Contains gs g → g.address ≡ at → IsFound gs at
+gate_found [] at g c e = let below = c.1 in absurd (omega (arith, below))
+gate_found (x ∷ gs) at g c e = elim (x.address == at) as (λ t. (x.address == at) ≡ t → IsFound (x ∷ gs) at) [
+  | true ↦ λ t. record {
+        gate = x;
+        among = (0, omega arith, refl);
+        address = eqb-true x.address at t;
+        service = ap (λ (b : Bool). cond b x.service (service_at gs at)) t;
+      }
+  | false ↦ λ t.
+      let rest = gate_found gs at g (later x gs g c (λ same. eqb-false x.address at t (ap (λ (y : Gate). y.address) same ∙ e))) e in
+      let below = rest.among.1 in
+      record {
+        gate = rest.gate;
+        among = (suc rest.among.0, omega (arith, below), rest.among.2);
+        address = rest.address;
+        service = ap (λ (b : Bool). cond b x.service (service_at gs at)) t ∙ rest.service;
+      }
+] refl
+
+-- ---- a sandbox of a safe world
+
+-- one that calls is at a gate
+module _ (m : Bytes) (s : Seat) (seat : IsSafeSeat m s) (ready : s.status ≡ Ready) (calls : (some_machine.0 (state_of (slot_of m s))).outcome ≡ Calls) where
+  here : State
+  here = state_in m s
+
+  asked_at : (n : ℕ) × Stands (state_in m s) Ecall n
+  asked_at =
+      let own = steps_own m s (some_machine.0 (state_in m s)) seat ready (some_machine.1.steps (state_in m s)) in
+      own.called (sym (ap (λ (r : Stepped). r.outcome) (own.alone some_machine.0 some_machine.1)) ∙ calls)
+
+  listed : IsAtGate s.bounds (state_in m s)
+  listed = at_gate m s seat ready asked_at.0 asked_at.1
+
+  found_gate : IsFound s.bounds.gates s.hart.pc
+  found_gate = gate_found s.bounds.gates s.hart.pc listed.gate listed.among listed.address
+
+  few : found_gate.gate.service ≤ service_most
+  few = All-contains (λ (g : Gate). g.service ≤ service_most) seat.part.gates found_gate.gate seat.right.gates.services (subst (λ (b : Bounds). Contains b.gates found_gate.gate) seat.bounds found_gate.among)
+
+pub waits_at_gate : (w : Sandboxes) (i : ℕ) (r : Request) → IsSafeWorld w → Waits (slots_of w) i r → AsksAtGate (slots_of w) i r
+waits_at_gate w i r safe waits =
+    let found = map_get (slot_of w.bytes) w.seats i waits.at.slot waits.at.there in
+    let s = found.0 in
+    let seat : IsSafeSeat w.bytes s = safe.each i s found.1 in
+    let ready : s.status ≡ Ready = sym (ap (λ (x : Slot). x.status) found.2) ∙ waits.at.ready in
+    let calls = subst (λ (x : Slot). (some_machine.0 (state_of x)).outcome ≡ Calls) found.2 (waits.at.calls some_machine.0 some_machine.1) in
+    let gate = found_gate w.bytes s seat ready calls in
+    let service : r.service ≡ gate.gate.service =
+    subst (λ (x : Slot). r.service ≡ service_at x.bounds.gates x.hart.pc) found.2 (ap (λ (c : Call). c.service) waits.asks) ∙ gate.service in
+    record {
+      slot = slot_of w.bytes s;
+      there = get_map (slot_of w.bytes) w.seats i s found.1;
+      gate = gate.gate;
+      among = gate.among;
+      address = gate.address;
+      service = service;
+      most = subst (λ (n : ℕ). n ≤ service_most) (sym service) (few w.bytes s seat ready calls);
+    }
+
+pub if_at_gate : (w : Sandboxes) (i : ℕ) (o : Option Request) → IsSafeWorld w → IfSome o (λ r. Waits (slots_of w) i r) → IfSome o (λ r. AsksAtGate (slots_of w) i r)
+if_at_gate w i None safe h = tt
+if_at_gate w i (Some r) safe h = waits_at_gate w i r safe h

@@ -1,0 +1,80 @@
+//! Sandboxes that their host stops, and what is left of them.
+use super::entering::{ARGUMENTS, smallest_world, turn, turned};
+use super::guests::DATA;
+use super::rows::text_named;
+use rv_mem::Segments;
+use rv_step::Cause;
+use sfi_build::build;
+use sfi_check::check;
+use sfi_host::{Later, Status, World};
+use std::alloc::Global;
+use std::process::Abort;
+use std::test::Fail;
+
+// The sandbox has stopped where it began, with the data that were written to it.
+fn is_stopped(world: &World<Segments>) -> bool {
+    world.status(0) == Some(Status::Stopped)
+        && world.steps(0) == Some(0)
+        && world.cpu(0).is_some_and(|cpu| cpu.pc() == 0x0100_0000)
+        && world.data_byte(0, DATA + 5) == Some(7)
+}
+
+#[test]
+fn a_ready_sandbox_is_stopped(rt: HostRuntime) -> Result<(), Fail> {
+    let mut world = smallest_world(&rt, rt.alloc())?;
+    assert!(rt; world.write(0, DATA + 5, &[7]));
+    assert!(rt; !world.stop(1));
+    assert!(rt; world.stop(0));
+    assert!(rt; is_stopped(&world));
+    assert!(rt; !world.stop(0));
+    assert!(rt; is_stopped(&world));
+    Ok(())
+}
+
+#[test]
+fn a_stopped_sandbox_takes_no_turn_and_is_entered_again(rt: HostRuntime) -> Result<(), Fail> {
+    let alloc = rt.alloc();
+    let mut world = smallest_world(&rt, alloc)?;
+    assert!(rt; world.write(0, DATA + 5, &[7]));
+    assert!(rt; world.stop(0));
+    assert_eq!(rt; turned(&mut world, alloc)?, Some(Status::Stopped));
+    assert!(rt; is_stopped(&world));
+    assert!(rt; world.enter(0, 0x0100_0010, &ARGUMENTS));
+    let trapped = Status::Trapped(Cause::Break, 0x0100_0010);
+    assert_eq!(rt; turned(&mut world, alloc)?, Some(trapped));
+    assert!(rt; !world.stop(0));
+    assert_eq!(rt; world.status(0), Some(trapped));
+    Ok(())
+}
+
+// The world of the text that writes two letters, with its sandbox at the first call.
+fn waiting_world(rt: &impl Abort, alloc: Global) -> Result<World<Segments>, Fail> {
+    let text = text_named("hi").expect(rt, "a text");
+    let image = build(alloc, text).expect(rt, "built");
+    let accepted = check(alloc, image.as_slice()).expect(rt, "accepted");
+    let mut world = World::load(alloc, &accepted, Segments::new(alloc))?;
+    assert!(rt; world.run_to_call(turn(0)).is_some_and(|asked| asked.service == 1));
+    Ok(world)
+}
+
+// It waits no more, takes no reply, and takes no step in a turn.
+fn takes_nothing(world: &mut World<Segments>) -> bool {
+    let reply = Later {
+        a0: 1,
+        a1: 2,
+        exit: None,
+    };
+    world.waiting(0).is_none() && !world.reply(0, reply) && world.run_to_call(turn(0)).is_none()
+}
+
+#[test]
+fn a_sandbox_that_waits_is_stopped(rt: HostRuntime) -> Result<(), Fail> {
+    let mut world = waiting_world(&rt, rt.alloc())?;
+    let steps = world.steps(0);
+    assert!(rt; world.stop(0));
+    assert!(rt; takes_nothing(&mut world));
+    assert_eq!(rt; (world.status(0), world.steps(0)), (Some(Status::Stopped), steps));
+    assert!(rt; world.enter(0, 0x0100_0000, &ARGUMENTS));
+    assert_eq!(rt; world.status(0), Some(Status::Ready));
+    Ok(())
+}
