@@ -22,4 +22,5 @@ pub mod Linking
 pub mod SomeLinking
 pub mod Usual
 pub mod Mapping
+pub mod Labels
 pub mod Facts

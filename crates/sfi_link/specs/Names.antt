@@ -1,7 +1,10 @@
 -- The map of a source: the addresses of its gates and labels in the image that is linked.
-use Rattle.std.specs.Prelude.{◌≡◌, ℕ, ◌+◌, List, [], ◌∷◌, ◌++◌, map, slice_get, Option, Some, None}
+use Rattle.std.specs.Prelude.{◌≡◌, ℕ, ◌+◌, ◌%◌, List, [], ◌∷◌, ◌++◌, map, slice_get, Option, Some, None}
 use Rattle.sfi_source.specs.Source.{Sandbox}
 use Rattle.sfi_policy.specs.declared.place.Place.{Place}
+use Rattle.sfi_policy.specs.Formats.{unit}
+use Rattle.sfi_image.specs.Spelling.{Part}
+use Rattle.sfi_image.specs.Spans.{Holds, code_region}
 use Rattle.sfi_rewrite.specs.declared.placed.PlacedName.{PlacedName}
 use Rattle.sfi_rewrite.specs.declared.placed.PlacedName.TheVariants.{Gate, Code, Data, Unknown}
 use Rattle.sfi_rewrite.specs.Placement.{Placement}
@@ -62,3 +65,10 @@ pub record IsLinkedMap (given : List Place) (source : List Sandbox) (placed : Li
   pub bytes : List ℕ
   pub image : IsLinkedImage given placed bytes
   pub entries_are : entries ≡ map_from given 0 source placed
+
+-- where it is a label in the code, a unit of its sandbox's code, a bundle or a word, begins at its
+-- address in the image of these sandboxes: there the sandbox may be entered
+abbrev pub BeginsUnit : List Part → MapEntry → Type 0
+BeginsUnit parts e = e.kind ≡ kind.Code
+    → (q : Part) × (slice_get parts e.sandbox ≡ Some q) × Holds (code_region q) e.address
+    × (e.address % unit q.format ≡ 0)

@@ -1,10 +1,12 @@
 //! The addresses of a source's gates and labels in the image that is linked.
-ghost use Rattle.std.specs.Prelude.{◌≡◌, ◌≤◌, ◌++◌, List, length, map, Some, IfOk, IfErr, OnOk};
+ghost use Rattle.std.specs.Prelude.{◌≡◌, ◌≢◌, ◌≤◌, ◌<◌, ◌++◌, ℕ, List, [], length, map, Some, Err, IfOk, IfErr, OnOk};
 ghost use Rattle.std.specs.List.{All};
 ghost use Rattle.sfi_policy.specs.Limits.{sandboxes_most};
 ghost use Rattle.sfi_rewrite.specs.Placed.{IsPlacedPart};
 ghost use Rattle.sfi_image.specs.Spelling.{Part};
 ghost use Rattle.sfi_link.specs.declared.fault.LinkFault.{LinkFault};
+ghost use Rattle.sfi_link.specs.declared.fault.LinkFault.TheVariants.{TooManySandboxes};
+ghost use Rattle.sfi_link.specs.declared.fault.LinkFault.TheVariants as fault;
 ghost use Rattle.sfi_link.specs.Addresses.{address_of};
 ghost use Rattle.sfi_link.specs.Answers.{UnlessMemory, AnswersItems, AnswersFault};
 ghost use Rattle.sfi_link.specs.Faults.{IsLinkFault};
@@ -194,6 +196,12 @@ pub fn names_of(
         → IsLinkedMap places.now source.now placed.now entries → AnswersItems entries result }
     ensures only_fault { (f : LinkFault)
         → IsLinkFault places.now placed.now f → AnswersFault f result }
+
+    // Of too many sandboxes, whatever memory there is.
+    ensures too_many { sandboxes_most < length placed.now → result ≡ Err TooManySandboxes }
+
+    // Where no place is given, no fault is that of a place.
+    ensures no_place { places.now ≡ [] → (sandbox : ℕ) → result ≢ Err (fault.Place sandbox) }
 {
     link_at(alloc, placed, places)?;
     Ok(listed_names(alloc, places, source.parts(), placed.parts())?)
