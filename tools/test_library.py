@@ -1,7 +1,9 @@
 """Tests of sfi-library: `tools/unit_tests.py tools`. What each program prints is compared with what the C
 standard has it print. They are skipped where the compiler, the sources or the program isn't there. The library is kept,
 so that only the first run compiles it."""
+import glob
 import os
+import re
 import shutil
 import subprocess
 import tempfile
@@ -65,6 +67,46 @@ PRINTED = """7 words| 2.25|1e+100|-1.500000e-07|0x1.999999999999ap-4
 >"""
 
 
+# What the C standard has errno be, where it requires a value.
+ERRORS = r"""
+#include <errno.h>
+#include <math.h>
+#include <stdio.h>
+static void told(const char *name, double answer, int error) { printf("%s %g %d\n", name, answer, error); }
+#define TRY(call) do { errno = 0; double answer = call; told(#call, answer, errno == EDOM ? 1 : errno == ERANGE ? 2 : errno); } while (0)
+volatile double zero, one = 1, two = 2, big = 1e300;
+volatile float small = 1;
+int main(void) {
+    if (math_errhandling != MATH_ERRNO) return 1;
+    TRY(sqrt(-one)); TRY(acos(two)); TRY(log(-one)); TRY(log(zero)); TRY(exp(big)); TRY(cosh(big)); TRY(sinh(-big));
+    TRY(pow(-one, 0.5)); TRY(pow(big, two)); TRY(pow(zero, -one)); TRY(pow(-big, 3)); TRY(pow(-1 / big, 3)); TRY(pow(zero, two));
+    TRY(sqrt(two)); TRY(sqrtf(-small)); TRY(logf(small - 1)); TRY(powf(small - 1, -small)); TRY(powf(-small * 1e20f, 3));
+    return 0;
+}
+"""
+ERRORS_TOLD = """sqrt(-one) nan 1
+acos(two) nan 1
+log(-one) nan 1
+log(zero) -inf 2
+exp(big) inf 2
+cosh(big) inf 2
+sinh(-big) -inf 2
+pow(-one, 0.5) nan 1
+pow(big, two) inf 2
+pow(zero, -one) inf 2
+pow(-big, 3) -inf 2
+pow(-1 / big, 3) -0 2
+pow(zero, two) 0 0
+sqrt(two) 1.41421 0
+sqrtf(-small) nan 1
+logf(small - 1) -inf 2
+powf(small - 1, -small) inf 2
+powf(-small * 1e20f, 3) -inf 2
+"""
+FUNCTION = re.compile(r"/\* (.*?):\d+:\w+ \*/ extern .*?\b(\w+) \(")  # a line of -aux-info
+DEFINED = re.compile(r"^\s*([A-Za-z_][\w.$]*):|^\s*\.(?:set|equ|comm)\s+([A-Za-z_][\w.$]*)", re.M)
+
+
 @unittest.skipUnless(ALL_THERE, "the compiler, the sources or the program isn't there")
 class Library(unittest.TestCase):
     @classmethod
@@ -80,12 +122,20 @@ class Library(unittest.TestCase):
         path = os.path.join(self.folder, name)
         with open(path, "w", encoding="utf-8") as file:
             file.write(text)
-        image = subprocess.run([SFI_CC, "--program", SFI, *words, "--library", self.library, path], check=True,
-                               capture_output=True).stdout
+        done = subprocess.run([SFI_CC, "--program", SFI, *words, "--library", self.library, path], check=True,
+                              capture_output=True)
+        image, self.said = done.stdout, done.stderr.decode()
         line = subprocess.run([SFI, "run", "--rounds", "100", "--quantum", "1000000", "--input", given.hex()], input=image,
                               capture_output=True, check=True).stdout.decode()
         before, _, put = line.partition(" out=")
         return before.split(" steps=")[0], bytes.fromhex(put).decode()
+
+    def source(self, text):
+        """The source text of a program."""
+        path = os.path.join(self.folder, "source.c")
+        with open(path, "w", encoding="utf-8") as file:
+            file.write(text)
+        return subprocess.run([SFI_CC, "-c", "--library", self.library, path], check=True, capture_output=True, text=True).stdout
 
     def test_all_of_it(self):
         self.assertEqual(self.ran(PROGRAM, given=b" 7 words\nend\n"), ("sandbox=0 exit=42", PRINTED[:-1] + "last\n>"))  # standard output goes by lines
@@ -104,6 +154,40 @@ class Library(unittest.TestCase):
         text = ("extern \"C\" int puts(const char *);\nstruct End { const char *text; ~End() { puts(text); } };\n"
                 "static End first = {\"first\"}, second = {\"second\"};\nint main() { puts(\"main\"); return 3; }\n")
         self.assertEqual(self.ran(text, name="program.cc"), ("sandbox=0 exit=3", "main\nsecond\nfirst\n"))
+
+    def test_assertion(self):
+        """What newlib says of one, by a program without its printf; nor has one that prints numbers the other printf."""
+        text = "#include <assert.h>\n#line 17 \"given.c\"\nint main(void) { assert(1 < 0); }\n"
+        self.assertEqual(self.ran(text), ("sandbox=0 exit=134", 'assertion "1 < 0" failed: file "given.c", line 17, function: main\n'))
+        self.assertNotIn("printf", self.source(text))
+        text = "#include <stdio.h>\nint main(int n, char **v) { printf(\"%g\", n * 0.5); }\n"
+        self.assertNotIn("vfiprintf", self.source(text))
+
+    def test_errors_of_math(self):
+        self.assertEqual(self.ran(ERRORS), ("sandbox=0 exit=0", ERRORS_TOLD))
+
+    def test_new(self):
+        """Memory of C++ where nothing else names malloc and free; and nothing is said."""
+        text = "int main() { int *one = new int(5), *many = new int[9]; many[8] = *one; delete one; int last = many[8]; delete[] many; return last; }\n"
+        self.assertEqual(self.ran(text, name="new.cc")[0], "sandbox=0 exit=5")
+        self.assertEqual(self.said, "")
+
+    def test_headers(self):
+        """Each that declares functions has one, but complex.h, which tgmath.h includes."""
+        include, defined, without = os.path.join(self.library, "include"), set(), []
+        for path in glob.glob(os.path.join(self.library, "*.asm")):
+            with open(path, encoding="utf-8") as file:
+                defined.update(name for names in DEFINED.findall(file.read()) for name in names)
+        for name in sorted(it for it in os.listdir(include) if it.endswith(".h")):
+            told, path = os.path.join(self.folder, "told"), os.path.realpath(os.path.join(include, name))
+            subprocess.run([GCC, "-march=rv32imc", "-mabi=ilp32", "-w", "-D_GNU_SOURCE", "-isystem", include, "-include", "stdio.h", "-x", "c",
+                            "-S", "-o", os.devnull, "-aux-info", told, path], check=True)
+            with open(told, encoding="utf-8") as file:
+                names = {function for place, function in FUNCTION.findall(file.read()) if os.path.realpath(place) == path}
+            without += [name] if names and not names & defined else []
+        self.assertEqual(without, ["complex.h"])
+        for name in ("pthread", "threads", "dirent", "termios", "spawn", "iconv", "fenv"):
+            self.assertFalse(os.path.exists(os.path.join(include, f"{name}.h")), name)
 
     def test_own_heap(self):
         text = ("#include <stdlib.h>\nchar __heap[262144];\nconst unsigned __heap_size = sizeof __heap;\n"

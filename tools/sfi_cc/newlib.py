@@ -22,6 +22,7 @@ LEFT_OUT = {f"libc/{name}.c" for name in (
     "stdio/nano-vfscanf", "stdio/nano-vfscanf_float", "stdio/nano-vfscanf_i",
     "misc/init", "misc/fini",  # what runs before main is the converter's
     "stdlib/assert")}  # in system.c, without printf
+LEFT_OUT |= {"libm/math/w_pow.c", "libm/math/wf_pow.c"}  # in pow.c, with the right signs
 # Files that are compiled several times: the name of each, the file, and its options.
 VARIANTS = [("vfiprintf", "libc/stdio/vfprintf.c", ["-DINTEGER_ONLY"]),
             ("svfprintf", "libc/stdio/vfprintf.c", ["-DSTRING_ONLY"]),
@@ -68,7 +69,7 @@ def compile_all(compiler, heap, folder):
     os.makedirs(room)
     headers(tree, include)
     options = [*OPTIONS, "-isystem", include, *(word for part in SEARCHED for word in ("-I", f"{tree}/{part}"))]
-    glue = [(os.path.join(GLUE, f"{name}.c"), f"sandbox-{name}", [f"-DHEAP={heap}"]) for name in ("system", "heap")]
+    glue = [(os.path.join(GLUE, f"{name}.c"), f"sandbox-{name}", [f"-DHEAP={heap}"]) for name in ("system", "heap", "pow")]
 
     def compile_one(job):
         path, name, more = job
