@@ -49,6 +49,17 @@ void refuse_sandbox(uint32_t number, const char *reason) {
     fail(2);
 }
 
+void refuse_load(uint32_t number, uint32_t address, const char *reason) {
+    print(refusal);
+    print("sandbox ");
+    print_decimal(number);
+    print(": a load at ");
+    print_hex(address, 8);
+    print(reason);
+    print("\n");
+    fail(2);
+}
+
 void refuse_number(const char *reason, uint32_t number, const char *more) {
     print(refusal);
     print(reason);

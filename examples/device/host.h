@@ -97,10 +97,14 @@ bool enter_again(struct sandbox *sandbox, uint32_t pc, const uint32_t arguments[
 void map_sandbox(uint32_t number, const struct part *part);
 uint32_t finish_page_table(void);       /* with the host in it; answers what satp takes */
 
-/* protection.c: write_protection refuses to go on where an entry isn't as it was written */
+/* protection.c: write_protection refuses to go on where mseccfg isn't 0, or an entry isn't as it was written */
 void protect(uint32_t entry, uint32_t address, uint8_t configuration);
 uint32_t power_of_two(uint32_t base, uint32_t size);    /* the address that PMP_NAPOT takes for it */
 void write_protection(void);
+
+/* guards.c: refuses to go on where a load at an end of a guard zone doesn't trap, or one at an end of the
+   data does. Called when all is as the sandboxes will find it, before an interrupt is on but the timer's */
+void test_guards(const struct world *world);
 
 /* turns.c: runs the world's sandboxes as its arguments ask for, and ends */
 _Noreturn void run_world(struct world *world);
@@ -158,6 +162,7 @@ _Noreturn void fail(uint32_t status);
 _Noreturn void refuse(const char *reason);                      /* the image as a whole, or the machine */
 _Noreturn void refuse_sandbox(uint32_t number, const char *reason);
 _Noreturn void refuse_number(const char *reason, uint32_t number, const char *more);
+_Noreturn void refuse_load(uint32_t number, uint32_t address, const char *reason);      /* of a sandbox, there */
 _Noreturn void host_fault(uint32_t cause, uint32_t pc);         /* start.S and switch.S come here, too */
 
 #endif

@@ -94,6 +94,9 @@
 #define PMPCFG0                 0x3a0           /* four entries in each word */
 #define PMPADDR0                0x3b0
 
+/* ---- "Smepmp": where this isn't 0, the rules of protection are others */
+#define MSECCFG                 0x747
+
 /* ---- The mode that host and sandboxes share: M-mode on a microcontroller */
 #ifdef MICROCONTROLLER
 #define SCRATCH                 mscratch

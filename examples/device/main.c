@@ -35,5 +35,6 @@ void interrupt_after(uint32_t ticks) {
 /* start.S comes here in S-mode, once there is a page table. */
 void run_host(void) {
     console_is_paged();
+    test_guards(&world);
     run_world(&world);
 }

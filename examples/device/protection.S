@@ -1,5 +1,5 @@
-# The registers of physical memory protection, whose numbers are part of the instructions. Where there
-# are none, the first access traps, and both functions end there.
+# The registers of physical memory protection, whose numbers are part of the instructions. Where one isn't
+# there, the access traps, and the function ends there.
 #include "machine.h"
 
         .macro  each_entry              # csrw or csrr, and lw or sw, of `each`
@@ -16,7 +16,7 @@
         .endm
 
         .text
-        .globl  pmp_write, pmp_read
+        .globl  pmp_write, pmp_read, security_configuration
 pmp_write:                              # addresses, configurations
         la      t1, ended
         csrrw   t1, mtvec, t1
@@ -36,7 +36,14 @@ pmp_read:                               # where to: addresses, configurations
         sw      t0, \place
         .endm
         each_entry
+        j       ended
 
-        .balign 4
+security_configuration:                 # answers mseccfg: 0 where it isn't there
+        la      t1, ended
+        csrrw   t1, mtvec, t1
+        li      a0, 0
+        csrr    a0, MSECCFG
+
+        .balign 256                     # some cores want this
 ended:  csrw    mtvec, t1
         ret

@@ -12,6 +12,7 @@ static uint32_t count; /* of the first entries, up to the last that is wanted */
 /* protection.S */
 void pmp_write(const uint32_t addresses[], const uint8_t configurations[]);
 void pmp_read(uint32_t addresses[], uint8_t configurations[]);
+uint32_t security_configuration(void);
 
 void protect(uint32_t entry, uint32_t address, uint8_t configuration) {
     wanted.addresses[entry] = address >> 2;
@@ -27,6 +28,8 @@ uint32_t power_of_two(uint32_t base, uint32_t size) {
 
 void write_protection(void) {
     struct entries found;
+    if (security_configuration() != 0)
+        refuse("mseccfg isn't 0: physical memory protection has rules that this host doesn't know");
     memset(&found, 0xff, sizeof found);
     pmp_write(wanted.addresses, wanted.configurations);
     pmp_read(found.addresses, found.configurations);

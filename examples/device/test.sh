@@ -15,6 +15,8 @@ all=${ALL:-}
 seconds=60
 [ -z "$all" ] || seconds=600 # for the longest output
 source "$here/testing.sh"
+own=.
+source "$here/test_guards.sh"
 make -s || { report "make" "the loader" "none" && finish; }
 
 # ---- Lines beside those of `sfi run`
@@ -114,7 +116,7 @@ compare "sixteen sandboxes" "$room/sixteen.hex" '' steps
 # An access is `operation offset`, from the data's first byte (base 0) or last byte (base -1).
 accesses=()
 for operation in lb lbu lh lhu lw sb sh sw; do
-    for offset in -2048 -4 -3 -2 -1 0; do accesses+=("$operation 0 $offset"); done
+    for offset in -2048 -4 -3 -2 -1 0 1; do accesses+=("$operation 0 $offset"); done
     for offset in -3 -2 -1 0 1 4 2047; do accesses+=("$operation -1 $offset"); done
 done
 
@@ -179,6 +181,10 @@ for size in 256 2048 4096 ${all:+512 1024 65536}; do
     compare_accesses "$size" 2 sp # without masks, and in 16 bits where the offset allows that
     compare_accesses "$size" words gp
 done
+
+code_at=0x01000000 data_at=0x01800000
+try_far 14
+try_handler
 
 # ---- Images that no build makes: other addresses, and 16-bit accesses on a masked register
 

@@ -37,6 +37,52 @@ compare "entries that are there already, not locked" "$room/image.hex" '' steps
 # The timer of M-mode is due while the loader prepares its memory.
 QEMU_OPTIONS=$(interrupts_left_on 0x0200bff8 0x02004000 200 | boot_rom "$boots_at" "$host_at")
 compare "interrupts that were left on" "$room/image.hex" '' steps
+unset QEMU_OPTIONS
+
+# Smepmp's bits, after the entries that a boot ROM then needs itself.
+try_mseccfg() { # what is tried; a boot ROM's assembly on standard input
+    refused_on "$1" "mseccfg isn't 0: physical memory protection has rules that this host doesn't know" \
+        "-cpu rv32,x-epmp=true $(boot_rom "$boots_at" "$host_at")"
+}
+try_mseccfg "locked entries may be changed (mseccfg.RLB)" <<<" csrwi 0x747, 4"
+try_mseccfg "what no entry opens is closed (mseccfg.MMWP)" <<'END'
+        li      t0, -1
+        csrw    pmpaddr15, t0
+        li      t0, 0x1f000000
+        csrw    pmpcfg3, t0
+        csrwi   0x747, 2
+END
+try_mseccfg "locked entries are those of M-mode (mseccfg.MML)" <<END
+        li      t0, $host_at >> 2
+        csrw    pmpaddr13, t0
+        li      t0, $(symbol next_page) >> 2
+        csrw    pmpaddr14, t0
+        li      t0, ($boots_at | 0x7ff) >> 2
+        csrw    pmpaddr15, t0
+        li      t0, 0x9d8d0000
+        csrw    pmpcfg3, t0
+        csrwi   0x747, 1
+END
+
+# Hosts whose page table or entries open or close a little more than they should.
+try_open_guards() {
+    local open="guard zone, doesn't trap" small='if (part->data_size < PAGE)'
+    local map='map_region(number, part->data_base \/ PAGE * PAGE - PAGE, PAGE, PTE_R, part->first, 0);\n    &'
+    echo $'.sandbox 256\n ebreak' >"$room/one.s"
+    beside "$room/one.s"
+    edit_host paging.c "s/$small/$map/"
+    host_refuses 0 -4096 "$open"
+    edit_host paging.c "s/$small/${map/- PAGE/+ PAGE}/"
+    host_refuses 0 0x10ff "$open"
+    edit_host paging.c 's/PAGE, part->data_size)/PAGE, part->data_size * 2)/'
+    host_refuses 0 256 "$open"
+    "$SFI" build --at 1000000:1800100 <"$room/one.s" >"$room/image.hex"
+    host_refuses 0 255 "$open"
+    edit_host paging.c 's/PMP_NAPOT | PMP_R | PMP_W)/PMP_NAPOT)/'
+    host_refuses 0 256 "data, traps"
+}
+try_open_guards
+
 for harts in 2 4; do
     QEMU_OPTIONS="-smp $harts"
     compare "$harts harts" "$room/image.hex" '' steps

@@ -21,6 +21,13 @@ by=() # those that name the checker on the device, or say that there is none
 # The lines of run.sh but those of each trap's pc.
 run() { ./run.sh "${on[@]}" "${by[@]}" "$@" | sed '/ pc=/d'; }
 
+at() { # numbers of sandboxes with 256 bytes of data each, whose places lie next to each other
+    local number
+    for number; do
+        printf -- '--at %x:%x ' $((code_at + 0x1000 * number)) $((data_at + 0x2100 * number))
+    done
+}
+
 without_steps() { sed 's/ steps=[0-9]*//'; }
 
 refused_by_script() { # status, the line; the words of the command line. The image is $room/image.hex

@@ -79,5 +79,6 @@ void run_host(void) {
         place(number, &world.sandboxes[number].part);
     write_protection();
     __asm__ volatile("fence.i"); /* whoever wrote the code into the flash need not have done it */
+    test_guards(&world);
     run_world(&world);
 }

@@ -8,6 +8,8 @@ set -uo pipefail
 here=$(cd "$(dirname "${BASH_SOURCE[0]}")" && pwd)
 SFI=$(realpath "${1:-$here/../../../sfi}")
 source "$here/../testing.sh"
+own=mcu
+source "$here/../test_guards.sh"
 source "$here/test_premises.sh"
 by=(--unchecked)
 ! make_checker || by=(--checker "$room/checker/checker.o")
@@ -18,13 +20,6 @@ $1" | tail -n 1
 }
 
 hex() { printf 0x%x $(($1)); } # of a computation
-
-at() { # numbers of sandboxes with 256 bytes of data each, that lie next to each other
-    local number
-    for number; do
-        printf -- '--at %x:%x ' $((flash_code + 0x1000 * number)) $((chip_ram + 0x2100 * number))
-    done
-}
 
 build() { # a source, a format; the image of its sandboxes, which are as many as it has
     local count
@@ -63,7 +58,7 @@ END
 try_sources() {
     local source format
     for source in hi echo; do
-        for format in 1 2; do
+        for format in $formats; do
             build "$shared/../$source.s" "$format" >"$room/image.hex"
             compare "$source, format $format" 48656c6c6f
         done
@@ -77,23 +72,24 @@ try_sources() {
 
 accesses=()
 for operation in lb lhu lw sb sh sw; do
-    for place in "0 -2048" "0 -1" "0 0" "-1 -3" "-1 -1" "-1 0" "-1 2047"; do
+    for place in "0 -2048" "0 -1" "0 0" "0 1" "-1 -3" "-1 -1" "-1 0" "-1 2047"; do
         accesses+=("$operation $place")
     done
 done
 
 # As many sandboxes in an image as the chip has room for, each with an access of the list.
-try_accesses() { # the list
-    local from one operation base offset
+try_accesses() { # format, base register; the list
+    local from one operation base offset format=$1 register=$2
+    shift 2
     local accesses=("$@")
     for ((from = 0; from < ${#accesses[@]}; from += sandboxes_most)); do
         for one in "${accesses[@]:from:sandboxes_most}"; do
             read -r operation base offset <<<"$one"
-            printf '.sandbox 256\n li a0, %s\n li a1, 0x44332211\n %s a1, %s(a0)\n ebreak\n' \
-                "$base" "$operation" "$offset"
+            printf '.sandbox 256\n li %s, %s\n li a1, 0x44332211\n %s a1, %s(%s)\n ebreak\n' \
+                "$register" "$base" "$operation" "$offset" "$register"
         done >"$room/accesses.s"
-        build "$room/accesses.s" 1 >"$room/image.hex"
-        compare "${accesses[*]:from:sandboxes_most}" ''
+        build "$room/accesses.s" "$format" >"$room/image.hex"
+        compare "${accesses[*]:from:sandboxes_most}, format $format" ''
     done
 }
 
@@ -192,11 +188,15 @@ try_chip() {
     local flash_code chip_ram host_ram sandboxes_most output_most uart
     read -r flash_code chip_ram host_ram sandboxes_most output_most uart < \
         <(macro "FLASH_CODE CHIP_RAM HOST_RAM SANDBOXES_MOST OUTPUT_MOST UART_TRANSMIT")
+    local code_at=$flash_code data_at=$chip_ram
     on=(--chip "$chip")
     try_sources
-    try_accesses "${accesses[@]}"
-    # Each of them in the other sandbox, too
-    [ "$sandboxes_most" != 2 ] || try_accesses "${accesses[@]:1}" "${accesses[0]}"
+    try_accesses 1 a0 "${accesses[@]}"
+    # By turns in the other sandbox, where there are two
+    try_accesses words gp "${accesses[@]:1}" "${accesses[0]}"
+    try_far "$sandboxes_most"
+    try_handler
+    try_open_guards
     try_places
     try_output
     try_attack

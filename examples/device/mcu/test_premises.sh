@@ -38,6 +38,45 @@ END
 END
 }
 
+# Smepmp's bits, after the entries that a boot ROM then needs itself.
+try_mseccfg() {
+    local no="device: mseccfg isn't 0: physical memory protection has rules that this host doesn't know"
+    no+=$'\nstatus 2'
+    after_boot "locked entries may be changed (mseccfg.RLB)" "$no" <<<" csrwi 0x747, 4"
+    after_boot "what no entry opens is closed (mseccfg.MMWP)" "$no" <<'END'
+        li      t0, -1
+        csrw    pmpaddr15, t0
+        li      t0, 0x1f000000
+        csrw    pmpcfg3, t0
+        csrwi   0x747, 2
+END
+    after_boot "locked entries are those of M-mode (mseccfg.MML)" "$no" <<END
+        li      t0, ($((host_at & ~0xfffff)) | 0x7ffff) >> 2
+        csrw    pmpaddr15, t0
+        li      t0, 0x9d000000
+        csrw    pmpcfg3, t0
+        csrwi   0x747, 1
+END
+}
+
+# Hosts whose entries open or close a little more than they should.
+try_open_guards() {
+    local open="guard zone, doesn't trap" whole='power_of_two(part->data_base, part->data_size)'
+    echo $'.sandbox 256\n ebreak\n.sandbox 256\n ebreak' >"$room/two.s"
+    edit_host mcu/main.c "s/$whole/power_of_two(part->data_base \& ~511u, 512)/"
+    "$SFI" build $(at 1) <<<$'.sandbox 256\n ebreak' >"$room/image.hex"
+    host_refuses 0 0x20ff "$open"
+    beside "$room/two.s"
+    host_refuses 0 256 "$open"
+    [ "$chip" = sifive_e ] || return # once: the entries are the same on all
+    edit_host mcu/main.c 's/part->data_base - GUARD_ZONE/& + 4/'
+    host_refuses 1 0x1100 "$open"
+    edit_host mcu/main.c 's/data_end + GUARD_ZONE/& - 4/'
+    host_refuses 0 0x10ff "$open"
+    edit_host mcu/main.c 's/PMP_NAPOT | PMP_R | PMP_W/PMP_NAPOT/'
+    host_refuses 0 0 "data, traps"
+}
+
 # The timer is due while the checker judges.
 try_interrupts_left_on() {
     after_boot "interrupts that were left on" "$1" < <(interrupts_left_on "$time" "$due" 2)
@@ -88,7 +127,7 @@ try_premises() {
 END
     try_memory "$lines"
     case $chip in
-    opentitan) ;; # its clock can't be set, and it has one hart
+    opentitan) try_mseccfg ;; # the clock can't be set, and there is one hart
     *) try_interrupts_left_on "$lines" && try_clocks "$lines" ;;
     esac
     [ "$chip" != sifive_u ] || try_harts "$lines"
