@@ -1,20 +1,37 @@
-/* What price.py measures: a sandbox takes so many turns of so many steps each, and each call gets a reply.
+/* What price.py measures.
  *
- *     price IMAGE TURNS STEPS
+ *     price IMAGE turn TIMES STEPS     # a sandbox takes so many turns of so many steps each, and each call gets a reply
+ *     price IMAGE read TIMES LENGTH    # so many bytes of its data are read, so many times
+ *     price IMAGE write TIMES LENGTH   # they are written
+ *     price IMAGE load TIMES 0         # the image is loaded so many times more
  */
 #include "host.h"
 #include <inttypes.h>
 
+static uint8_t bytes[1 << 20];
+
+static void turn(struct sfi_run_world *world, uint32_t steps) {
+    struct sfi_run_event event;
+    if (sfi_run_turn(world, 0, steps, &event) == SFI_RUN_CALL)
+        sfi_run_reply(world, 0, event.a0, event.a1);
+}
+
 int main(int count, char **words) {
     struct sfi_run_world world = SFI_RUN_NO_WORLD;
-    struct sfi_run_event event;
-    if (count != 4)
+    struct sfi_run_region data;
+    if (count != 5)
         return 3;
     load_file(words[1], &world);
-    uint32_t steps = (uint32_t)atol(words[3]);
-    for (long turns = atol(words[2]); turns > 0; turns--)
-        if (sfi_run_turn(&world, 0, steps, &event) == SFI_RUN_CALL)
-            sfi_run_reply(&world, 0, event.a0, event.a1);
+    sfi_run_data(&world, 0, &data);
+    char what = words[2][0];
+    uint32_t number = (uint32_t)atol(words[4]);
+    for (long times = atol(words[3]); times > 0; times--)
+        switch (what) {
+        case 't': turn(&world, number); break;
+        case 'r': sfi_run_read(&world, 0, data.base, number, bytes, sizeof bytes); break;
+        case 'w': sfi_run_write(&world, 0, data.base, bytes, number); break;
+        default: load_file(words[1], &world);
+        }
     printf("%" PRIu64 "\n", sfi_run_steps(&world, 0));
     sfi_run_free(&world);
     return 0;

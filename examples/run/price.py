@@ -1,11 +1,11 @@
 #!/usr/bin/env python3
-"""Measures what a step and a call cost a host of libsfi_run: in instructions of this processor, which valgrind counts, from
-C; in microseconds from C and Python, the median of seven runs.
+"""Measures what a step, a call, a read, a write and a load cost a host of libsfi_run: in instructions of this processor, which
+valgrind counts, from C; in microseconds from C and Python, the median of seven runs.
 
     examples/run/price.py [LIBRARY [PROGRAM]]    # as test.sh takes them
 
 A loop of two instructions gives the price of a step, beside that of `sfi run`; a loop with a call in it, whose steps are
-taken off, that of a turn with its reply.
+taken off, that of a turn with its reply. From Python a call is measured as `turn` and `reply`, and as a loop over `events`.
 """
 import os
 import pathlib
@@ -24,6 +24,7 @@ sys.path[:0] = [str(TOP / "tools"), str(TOP / "bindings" / "python")]
 import libraries
 
 STEPS = ".sandbox 256\nloop: addi a0, a0, 1\n j loop\n"
+LARGE = ".format 2\n.sandbox 65536\n" + "nop\n" * 16384 + "ebreak\n"
 CALLS = ".sandbox 256\n.gate post 4\nloop: call post\n j loop\n"
 TURNS, ROUNDS = 20000, 7
 
@@ -48,14 +49,30 @@ def microseconds(call):
     return statistics.median(found)
 
 
-def python_call(image):
+def python_calls(image):
+    """What makes TURNS calls: by `turn` and `reply`, and by `events`."""
     import sfi_run
     sandbox = sfi_run.World(image)[0]
 
     def turns():
         for _ in range(TURNS):
             sandbox.turn(1000).reply(0)
-    return turns
+
+    def events():
+        left = TURNS
+        for event in sandbox.events(1 << 60):
+            event.reply(0)
+            left -= 1
+            if not left:
+                return
+    return turns, events
+
+
+def per_call(*words, times):
+    """The instructions of one of what a host does as often as the word at `times` says."""
+    more, fewer = list(words), list(words)
+    more[times], fewer[times] = str(int(words[times]) * 2), words[times]
+    return (instructions(*more) - instructions(*fewer)) / int(words[times])
 
 
 def main(library=None, sfi=None):
@@ -63,11 +80,12 @@ def main(library=None, sfi=None):
     with tempfile.TemporaryDirectory() as folder:
         room = pathlib.Path(folder)
         static, os.environ["SFI_RUN_LIBRARY"] = libraries.make("sfi_run", library or libraries.built("sfi_run"), folder)
-        run("gcc", "-O2", f"-I{TOP}/crates/sfi_run/include", HERE / "price.c", static, "-o", room / "price")
-        texts = {name: run(sfi, "build", given=source).stdout for name, source in (("steps", STEPS), ("calls", CALLS))}
+        run("gcc", "-O2", f"-I{TOP}/crates/sfi_run/include", f"-I{TOP}/crates/sfi_c/include", HERE / "price.c", static, "-o", room / "price")
+        texts = {name: run(sfi, "build", given=source).stdout 
+                 for name, source in (("steps", STEPS), ("calls", CALLS), ("large", LARGE))}
         for name, text in texts.items():
             (room / name).write_bytes(bytes.fromhex(text))
-        host = lambda name, turns, steps: (room / "price", room / name, str(turns), str(steps))
+        host = lambda name, turns, steps: (room / "price", room / name, "turn", str(turns), str(steps))
         if shutil.which("valgrind"):
             step = (instructions(*host("steps", 1, 2000000)) - instructions(*host("steps", 1, 1000000))) / 1e6
             beside = [instructions(sfi, "run", "--quantum", str(steps), given=texts["steps"]) for steps in (1000000, 500000)]
@@ -75,8 +93,15 @@ def main(library=None, sfi=None):
             steps = (int(run(*host("calls", 2000, 1000)).stdout) - int(run(*host("calls", 1000, 1000)).stdout)) / 1000
             whole = (instructions(*host("calls", 20000, 1000)) - instructions(*host("calls", 10000, 1000))) / 1e4
             print(f"a turn with its reply, without its other {steps - 1:.0f} steps: {whole - (steps - 1) * step:.0f} instructions")
+            for call in ("read", "write"):
+                found = [per_call(room / "price", room / "large", call, "50", str(length), times=3) for length in (0, 4096, 65536)]
+                print(f"a {call}: {found[0]:.0f} instructions, and {(found[2] - found[1]) / 61440:.2f} for each byte")
+            for name in ("steps", "large"):
+                found = per_call(room / "price", room / name, "load", "4", "0", times=3)
+                print(f"a load of {(room / name).stat().st_size} bytes: {found:.0f} instructions")
         print(f"from C, with these steps: {microseconds(lambda: run(*host('calls', TURNS * 20, 1000))) / 20:.2f} us")
-        print(f"from Python: {microseconds(python_call((room / 'calls').read_bytes())):.2f} us")
+        for name, calls in zip(("turn and reply", "events"), python_calls((room / "calls").read_bytes())):
+            print(f"from Python, {name}: {microseconds(calls):.2f} us")
 
 
 if __name__ == "__main__":
