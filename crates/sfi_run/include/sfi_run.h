@@ -48,19 +48,19 @@
  * In C++ say `struct sfi_run_event` and `struct sfi_run_registers`, as in C: the names alone are those of the calls.
  *
  * Link libsfi_run.a and crates/sfi_run/c/heap.c, which an installed library has in it (docs/EMBEDDING.md has the command
- * lines).
+ * lines). Of sfi.h it takes struct sfi_verdict; the calls that are declared there are in another library, libsfi_c.
  */
 #ifndef SFI_RUN_H
 #define SFI_RUN_H
 
-#include "sfi.h" /* struct sfi_verdict; its calls are those of libsfi_c, and no host of this library needs them */
+#include "sfi.h"
 
 #include <stdbool.h>
 #include <stddef.h>
 #include <stdint.h>
 
-/* The version of this header, and of the library that it declares: major, minor, patch; as a number it is
- * major * 65536 + minor * 256 + patch. */
+/* The version of this header, and of the library that it declares: major, minor, patch; and major * 65536 + minor * 256 +
+ * patch. */
 #define SFI_RUN_VERSION "0.1.0"
 #define SFI_RUN_VERSION_NUMBER 0x000100
 
