@@ -1,13 +1,14 @@
 -- What a call makes of a world.
-use Rattle.std.specs.Prelude.{◌≡◌, ℕ, [], ◌∷◌, List, Some, slice_get, slice_set}
+use Rattle.std.specs.Prelude.{◌≡◌, ℕ, [], ◌∷◌, List, Some, None, slice_get, slice_set}
 use Rattle.sfi_host.specs.declared.turn.Turn.{Turn}
 use Rattle.sfi_host.specs.declared.waiting.Later.{Later}
 use Rattle.sfi_host.specs.Changing.{OthersAreSame, AreChanges, with_world_bytes}
 use Rattle.sfi_host.specs.Entering.{IsAtEntry, with_entry}
-use Rattle.sfi_host.specs.Joint.{Machine, IsMachine, call_of, replied}
+use Rattle.sfi_host.specs.Joint.{Machine, IsMachine, call_of, joint as joint_run, replied}
 use Rattle.sfi_host.specs.Moves.{HaveRun}
 use Rattle.sfi_host.specs.Plans.{IsJoint}
 use Rattle.sfi_host.specs.Slots.{Slot}
+use Rattle.sfi_host.specs.Stopping.{with_stop}
 use Rattle.sfi_host.specs.Waiting.{to_call, later_answer, later_reply}
 use Rattle.sfi_host.specs.Worlds.{Sandboxes, slots_of, IsSafeWorld, StaysOutsideData, HaveStoppedThemselves}
 
@@ -37,6 +38,10 @@ pub record HasReplied (w n : Sandboxes) (sandbox : ℕ) (r : Later) : Type 0 whe
       ≡ slice_set (slots_of w) sandbox (replied slot (later_reply r (call_of sandbox slot)))
   pub joint : (machine : Machine) → IsMachine machine
       → IsJoint machine later_answer (plan_of sandbox 1) (slots_of w) r (slots_of n) r
+  pub runs : (machine : Machine) → IsMachine machine
+      → HaveRun machine (plan_of sandbox 1) w n
+      (λ plan. joint_run machine later_answer plan (slots_of w) r None)
+  pub others : OthersAreSame w sandbox n
   pub still : IsStillSafe w n
 
 -- these bytes are in its data, from that address on
@@ -51,3 +56,8 @@ pub record HasEntered (w n : Sandboxes) (sandbox pc : ℕ) (arguments : List ℕ
   pub done : n ≡ with_entry w sandbox pc arguments
   pub others : OthersAreSame w sandbox n
   pub entry : IsAtEntry n sandbox
+
+-- it is stopped, and nothing else changed
+pub record HasBeenStopped (w n : Sandboxes) (sandbox : ℕ) : Type 0 where
+  pub done : n ≡ with_stop w sandbox
+  pub others : OthersAreSame w sandbox n

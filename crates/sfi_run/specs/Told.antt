@@ -4,9 +4,9 @@ use Rattle.rv_step.specs.declared.outcome.Cause.{Cause}
 use Rattle.rv_step.specs.declared.outcome.Cause.TheVariants.{Fetch, Illegal, Break, Load, Store}
 use Rattle.sfi_host.specs.declared.guest.Request.{Request}
 use Rattle.sfi_host.specs.declared.status.Status.{Status}
-use Rattle.sfi_host.specs.declared.status.Status.TheVariants.{Ready, Exited, Trapped}
+use Rattle.sfi_host.specs.declared.status.Status.TheVariants.{Ready, Exited, Trapped, Stopped}
 use Rattle.sfi_host.specs.Slots.{Slot}
-use Rattle.sfi_host.specs.Waiting.{IsAtCall, Waits}
+use Rattle.sfi_host.specs.Waiting.{AsksAtGate, IsAtCall, Waits}
 use Rattle.sfi_host.specs.Worlds.{status_at}
 use Rattle.sfi_run.specs.declared.told.SfiRunEvent.{SfiRunEvent}
 use Rattle.rv_step.specs.State.{Hart}
@@ -45,6 +45,10 @@ exit_kind = 3
 abbrev pub trap_kind : ℕ
 trap_kind = 4
 
+-- its host stopped it
+abbrev pub stopped_kind : ℕ
+stopped_kind = 5
+
 -- what is told where there is no such sandbox
 abbrev pub none_event : SfiRunEvent
 none_event = record { kind = none_kind; number = 0; a0 = 0; a1 = 0 }
@@ -60,12 +64,13 @@ status_event (Some Ready) = record { kind = ready_kind; number = 0; a0 = 0; a1 =
 status_event (Some (Exited n)) = record { kind = exit_kind; number = n; a0 = 0; a1 = 0 }
 status_event (Some (Trapped cause at)) =
     record { kind = trap_kind; number = cause_number cause; a0 = at; a1 = 0 }
+status_event (Some Stopped) = record { kind = stopped_kind; number = 0; a0 = 0; a1 = 0 }
 
--- the event tells of the sandbox of that number: what it asks, where it stands at a call; elsewhere
--- what it may still do
+-- the event tells of the sandbox of that number: what it asks, where it stands at a call, which is at
+-- one of its gates and asks that gate's service; elsewhere what it may still do
 abbrev pub IsEventOf : List Slot → ℕ → SfiRunEvent → Type 0
 IsEventOf slots i e =
-    ((r : Request) × Waits slots i r × (e ≡ call_event r))
+    ((r : Request) × Waits slots i r × AsksAtGate slots i r × (e ≡ call_event r))
     ⊎ ((IsAtCall slots i → ⊥) × (e ≡ status_event (status_at slots i)))
 
 -- ---- the pc and the registers

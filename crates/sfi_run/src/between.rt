@@ -1,41 +1,60 @@
 //! What C does between turns.
-ghost use Rattle.std.specs.Prelude.{◌≡◌, ◌↔◌, ℕ, length, Some, None, IsSome, IsTrue, false, slice_get};
+ghost use Rattle.std.specs.Prelude.{◌≡◌, ◌↔◌, ◌≤◌, ℕ, length, take, drop, Some, None, IsSome, IsTrue, false, slice_get};
 ghost use Rattle.std.specs.Bool.{OnTrue, OnFalse};
 ghost use Rattle.rv_step.specs.State.{Hart};
 ghost use Rattle.sfi_host.specs.Changing.{data_bytes_of};
 ghost use Rattle.sfi_host.specs.Entering.{MayEnterAt};
 ghost use Rattle.sfi_host.specs.Reading.{hart_at, data_region_at};
-ghost use Rattle.sfi_host.specs.Worlds.{Sandboxes, slots_of, steps_at, IsSafeWorld};
-ghost use Rattle.sfi_run.specs.Changes.{HasWritten, HasEntered};
+ghost use Rattle.sfi_host.specs.Worlds.{Sandboxes, slots_of, status_at, steps_at, IsSafeWorld};
+ghost use Rattle.sfi_run.specs.Changes.{HasWritten, HasEntered, HasBeenStopped};
 ghost use Rattle.sfi_run.specs.Told.{span_told, AreRegistersOf};
 
 use crate::holding::SfiRunWorld;
 use crate::told::{SfiRunRegion, SfiRunRegisters};
 use rv_mem::Pages;
-use sfi_host::World;
+use sfi_host::{Status, World};
 use std::alloc::Global;
 
-/// Fills `bytes` with the data bytes of a sandbox from an address on: all of them, or none.
+// Copies data bytes of a sandbox to the first `count` of `room`.
+fn read(world: &World<Pages>, sandbox: u32, at: u32, count: usize, room: &mut [u8]) -> bool
+    ensures there { IsTrue result ↔ ((count ≤ length room.old)
+        × IsSome (data_bytes_of (slice_get (slots_of world.now) sandbox) at count)) }
+    ensures done { OnTrue result (data_bytes_of (slice_get (slots_of world.now) sandbox) at count
+        ≡ Some (take count room.new)) }
+    ensures rest { drop count room.new ≡ drop count room.old }
+    ensures refused { OnFalse result (room.new ≡ room.old) }
+{
+    if count > room.len() {
+        return false;
+    }
+    world.read(sandbox, at, &mut room[..count])
+}
+
+/// Copies `count` data bytes of a sandbox from an address on to the first of `room`: all of them, or
+/// none, if there isn't so much room or one of these addresses isn't in its data.
 #[unsafe(no_mangle)]
 pub extern "C" fn sfi_run_read(
     alloc: Global,
     world: &mut SfiRunWorld,
     sandbox: u32,
     at: u32,
-    bytes: &mut [u8],
+    count: usize,
+    room: &mut [u8],
 ) -> bool
     ensures same { world.new.inner.world ≡ world.old.inner.world }
-    ensures there { (w : Sandboxes) → world.old.inner.world ≡ Some w → (IsTrue result
-        ↔ IsSome (data_bytes_of (slice_get (slots_of w) sandbox) at (length bytes.old))) }
+    ensures there { (w : Sandboxes) → world.old.inner.world ≡ Some w
+        → (IsTrue result ↔ ((count ≤ length room.old)
+        × IsSome (data_bytes_of (slice_get (slots_of w) sandbox) at count))) }
     ensures done { OnTrue result ((w : Sandboxes) → world.old.inner.world ≡ Some w
-        → data_bytes_of (slice_get (slots_of w) sandbox) at (length bytes.old) ≡ Some bytes.new) }
-    ensures refused { OnFalse result (bytes.new ≡ bytes.old) }
+        → data_bytes_of (slice_get (slots_of w) sandbox) at count ≡ Some (take count room.new)) }
+    ensures rest { drop count room.new ≡ drop count room.old }
+    ensures refused { OnFalse result (room.new ≡ room.old) }
     ensures none { world.old.inner.world ≡ None → result ≡ false }
 {
     let Some(boxed) = world.take(alloc) else {
         return false;
     };
-    let done = boxed.read(sandbox, at, bytes);
+    let done = read(&boxed, sandbox, at, count, room);
     world.put(boxed);
     done
 }
@@ -109,6 +128,38 @@ pub extern "C" fn sfi_run_enter(
         return false;
     };
     let done = enter(&mut boxed, sandbox, pc, arguments);
+    world.put(boxed);
+    done
+}
+
+// Stops a sandbox.
+fn stop(world: &mut World<Pages>, sandbox: u32) -> bool
+    ensures may { IsTrue result
+        ↔ (status_at (slots_of world.old) sandbox ≡ Some Status.Ready) }
+    ensures stopped { OnTrue result (HasBeenStopped world.old world.new sandbox) }
+    ensures refused { OnFalse result (world.new ≡ world.old) }
+    ensures safe { IsSafeWorld world.new }
+{
+    world.stop(sandbox)
+}
+
+/// Stops a sandbox that is ready, also where it waits at a call: no turn runs it then, it takes no
+/// reply, and it may be entered again. Its data, registers and count of steps stay.
+#[unsafe(no_mangle)]
+pub extern "C" fn sfi_run_stop(alloc: Global, world: &mut SfiRunWorld, sandbox: u32) -> bool
+    ensures may { (w : Sandboxes) → world.old.inner.world ≡ Some w
+        → (IsTrue result ↔ (status_at (slots_of w) sandbox ≡ Some Status.Ready)) }
+    ensures stopped { OnTrue result ((w n : Sandboxes) → world.old.inner.world ≡ Some w
+        → world.new.inner.world ≡ Some n → HasBeenStopped w n sandbox) }
+    ensures refused { OnFalse result (world.new.inner.world ≡ world.old.inner.world) }
+    ensures safe { (n : Sandboxes) → world.new.inner.world ≡ Some n → IsSafeWorld n }
+    ensures held { IsSome world.old.inner.world ↔ IsSome world.new.inner.world }
+    ensures none { world.old.inner.world ≡ None → result ≡ false }
+{
+    let Some(mut boxed) = world.take(alloc) else {
+        return false;
+    };
+    let done = stop(&mut boxed, sandbox);
     world.put(boxed);
     done
 }

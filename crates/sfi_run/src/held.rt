@@ -10,7 +10,7 @@ use std::alloc::Global;
 use std::marker::Model;
 
 /// A world behind a pointer, or none. C sees an address of which it reads nothing. One that is
-/// dropped leaves its world behind.
+/// dropped leaves its world behind. It may go from one thread to another.
 #[repr(C)]
 #[derive(Drop)]
 pub struct Held {
@@ -22,6 +22,9 @@ pub struct Held {
 impl Model for Held {
     ghost also_owns = { λ h. held_owns h.alloc h.at h.world };
 }
+
+// What is in the box is plain data, and any thread may free it.
+unsafe impl Send for Held {}
 
 impl Held {
     /// No world.

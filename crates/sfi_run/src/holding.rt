@@ -10,7 +10,9 @@ use sfi_host::World;
 use std::alloc::Global;
 use std::mem::replace;
 
-/// A world, or none: `struct sfi_run_world`. C begins with zeros, and only moves it then.
+/// A world, or none: `struct sfi_run_world`. C begins with zeros, and only moves it then. During a
+/// call, also one that only looks, there is none in it: the call takes the world out, and puts it
+/// back before it returns. A call that is left in another way, as by `longjmp`, leaves none.
 #[repr(C)]
 #[derive(Drop)]
 pub struct SfiRunWorld {

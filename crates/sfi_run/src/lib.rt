@@ -11,13 +11,16 @@ mod holding;
 mod parts;
 mod told;
 mod turns;
+mod version;
 mod worlds;
 
 pub use between::{
-    sfi_run_data, sfi_run_enter, sfi_run_read, sfi_run_registers, sfi_run_steps, sfi_run_write,
+    sfi_run_data, sfi_run_enter, sfi_run_read, sfi_run_registers, sfi_run_steps, sfi_run_stop,
+    sfi_run_write,
 };
 pub use held::Held;
 pub use holding::SfiRunWorld;
 pub use told::{SfiRunEvent, SfiRunRegion, SfiRunRegisters};
 pub use turns::{sfi_run_event, sfi_run_exit, sfi_run_reply, sfi_run_turn};
+pub use version::sfi_run_version;
 pub use worlds::{LoadFault, sfi_run_count, sfi_run_free, sfi_run_load};

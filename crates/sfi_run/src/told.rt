@@ -1,6 +1,6 @@
 //! What C is told of a sandbox: how it stands, its pc and registers, and where its data lie.
 ghost use Rattle.std.specs.Prelude.{◌≡◌, ◌↔◌, IfSome, IsSome};
-ghost use Rattle.sfi_host.specs.Waiting.{IsAtCall, Waits};
+ghost use Rattle.sfi_host.specs.Waiting.{AsksAtGate, IsAtCall, Waits};
 ghost use Rattle.sfi_host.specs.Worlds.{slots_of};
 
 use rv_mem::Pages;
@@ -12,9 +12,10 @@ use sfi_host::{Region, Request, Status, World};
 #[repr(C)]
 #[derive(Clone, Copy, PartialEq, Eq, Debug)]
 pub struct SfiRunEvent {
-    /// 0 there is none, 1 it is ready, 2 it waits at a call, 3 it has exited, 4 it has trapped.
+    /// 0 there is none, 1 it is ready, 2 it waits at a call, 3 it has exited, 4 it has trapped, 5 its
+    /// host stopped it.
     pub kind: u32,
-    /// The service, the number with which it exited, or that of the trap's cause.
+    /// The service, 0 to 5, the number with which it exited, or that of the trap's cause.
     pub number: u32,
     /// a0 of a call, or the address of a trap.
     pub a0: u32,
@@ -69,6 +70,7 @@ impl SfiRunEvent {
             Some(Status::Trapped(cause, at)) => {
                 SfiRunEvent::plain(4, SfiRunEvent::cause_number(cause), at)
             }
+            Some(Status::Stopped) => SfiRunEvent::plain(5, 0, 0),
         }
     }
 
@@ -83,6 +85,7 @@ impl SfiRunEvent {
     pub(crate) fn of(world: &World<Pages>, sandbox: u32, waiting: Option<Request>) -> SfiRunEvent
         requires waits { IfSome waiting (λ r. Waits (slots_of world.now) sandbox r) }
         requires there { IsSome waiting ↔ IsAtCall (slots_of world.now) sandbox }
+        requires gate { IfSome waiting (λ r. AsksAtGate (slots_of world.now) sandbox r) }
         ensures { IsEventOf (slots_of world.now) sandbox result }
     {
         match waiting {
