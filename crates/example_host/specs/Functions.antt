@@ -1,7 +1,7 @@
 -- A function of a sandbox, called from outside: a text goes in, and a number and a text come out.
 use Rattle.std.specs.Prelude.{ℕ, List, [], ◌∷◌, length, Option, Result, Ok, Err, slice_get}
 use Rattle.sfi_host.specs.declared.status.Status.{Status}
-use Rattle.sfi_host.specs.declared.status.Status.TheVariants.{Ready, Exited, Trapped}
+use Rattle.sfi_host.specs.declared.status.Status.TheVariants.{Ready, Exited, Trapped, Stopped}
 use Rattle.sfi_host.specs.declared.turn.Turn.{Turn}
 use Rattle.sfi_host.specs.Changing.{data_bytes_of, with_world_bytes}
 use Rattle.sfi_host.specs.Entering.{with_entry, MayEnterAt}
@@ -57,3 +57,4 @@ abbrev pub HasNotExited : Status → Type 0
 HasNotExited Ready = Unit {0}
 HasNotExited (Exited number) = ⊥
 HasNotExited (Trapped cause at) = Unit {0}
+HasNotExited Stopped = Unit {0}

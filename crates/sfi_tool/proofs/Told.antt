@@ -12,7 +12,7 @@ use Rattle.sfi_image.specs.declared.part.SandboxPart.{SandboxPart}
 use Rattle.sfi_report.specs.State.{IsStateText}
 use Rattle.sfi_host.specs.Slots.{Slot}
 use Rattle.sfi_host.specs.declared.status.Status.{Status}
-use Rattle.sfi_host.specs.declared.status.Status.TheVariants.{Ready, Exited, Trapped}
+use Rattle.sfi_host.specs.declared.status.Status.TheVariants.{Ready, Exited, Trapped, Stopped}
 use Rattle.sfi_tool.specs.Running.{IsTold, IsToldOf}
 
 -- it has exited
@@ -37,12 +37,13 @@ pub adds_told : (sandbox : ℕ) (p : Part) (o : Option Slot) (status : Status) (
     → Adds old new (IsTold sandbox p hart status) → Adds old new (IsToldOf sandbox (Some p) o)
 adds_told sandbox p o status hart old new e f h = record { text = h.text; text_is = told sandbox p o status hart h.text e f h.text_is; new_is = h.new_is }
 
--- of one that may still run or has trapped, its state is told
+-- of one that has not exited, its state is told
 pub not_exited : (sandbox : ℕ) (p : Part) (status : Status) (hart : Hart) (old new : List ℕ)
-    → (status ≡ Ready) ⊎ ((cause : Cause) × (at : ℕ) × (status ≡ Trapped cause at)) → Adds old new (IsStateText sandbox p hart)
+    → (status ≡ Ready) ⊎ (((cause : Cause) × (at : ℕ) × (status ≡ Trapped cause at)) ⊎ (status ≡ Stopped)) → Adds old new (IsStateText sandbox p hart)
     → Adds old new (IsTold sandbox p hart status)
 not_exited sandbox p status hart old new (inl e) h = subst (λ (x : Status). Adds old new (IsTold sandbox p hart x)) (sym e) h
-not_exited sandbox p status hart old new (inr e) h = subst (λ (x : Status). Adds old new (IsTold sandbox p hart x)) (sym e.2) h
+not_exited sandbox p status hart old new (inr (inl e)) h = subst (λ (x : Status). Adds old new (IsTold sandbox p hart x)) (sym e.2) h
+not_exited sandbox p status hart old new (inr (inr e)) h = subst (λ (x : Status). Adds old new (IsTold sandbox p hart x)) (sym e) h
 
 -- a text was appended, if that succeeded
 pub adds_text : {A E : Type 0} (r : Result A E) (old new text seen : List ℕ) (is : List ℕ → Type 0) → is text → seen ≡ text

@@ -9,7 +9,7 @@ use Rattle.sfi_image.specs.Spelling.{Part}
 use Rattle.sfi_report.specs.Digits.{hex_digits, line_end}
 use Rattle.sfi_report.specs.State.{IsStateText}
 use Rattle.sfi_host.specs.declared.status.Status.{Status}
-use Rattle.sfi_host.specs.declared.status.Status.TheVariants.{Ready, Exited, Trapped}
+use Rattle.sfi_host.specs.declared.status.Status.TheVariants.{Ready, Exited, Trapped, Stopped}
 use Rattle.sfi_host.specs.declared.turn.Turn.{Turn}
 use Rattle.sfi_host.specs.Consoles.{ConsoleState, console, new_console, output_of}
 use Rattle.sfi_host.specs.Hosts.{Limited}
@@ -31,11 +31,13 @@ cause_name Break = codes "Break"
 cause_name Load = codes "Load"
 cause_name Store = codes "Store"
 
--- what a sandbox may still do: an exit's number is decimal, a trap's address hexadecimal
+-- what a sandbox may still do: an exit's number is decimal, a trap's address hexadecimal; none that
+-- runs under a plan alone is stopped by its host
 abbrev pub status_text : Status → List ℕ
 status_text Ready = codes "ready"
 status_text (Exited n) = codes "exit=" ++ decimal n
 status_text (Trapped cause at) = codes "trap=" ++ cause_name cause ++ codes " at=" ++ hex_digits 8 at
+status_text Stopped = codes "stopped"
 
 -- the line of the sandbox of that number: what it may still do, how many steps it did, and its
 -- output in lower hexadecimal digits
@@ -60,12 +62,13 @@ run_lines (suc n) slots host =
 
 -- ---- states
 
--- what is told of a sandbox beside its line: the state of one that may still run or has trapped,
--- and nothing of one that has exited
+-- what is told of a sandbox beside its line: nothing of one that has exited, and the state of each
+-- other
 abbrev pub IsTold : ℕ → Part → Hart → Status → List ℕ → Type 0
 IsTold sandbox p h Ready text = IsStateText sandbox p h text
 IsTold sandbox p h (Exited n) text = text ≡ []
 IsTold sandbox p h (Trapped cause at) text = IsStateText sandbox p h text
+IsTold sandbox p h Stopped text = IsStateText sandbox p h text
 
 -- of the sandbox of that number, where there is one
 abbrev pub IsToldOf : ℕ → Option Part → Option Slot → List ℕ → Type 0

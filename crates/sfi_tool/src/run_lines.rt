@@ -35,6 +35,7 @@ fn push_status(out: &mut String, status: Status) -> Result<(), AllocError>
             write!(out, "trap={name} at=")?;
             push_eight_digits(out, address)
         }
+        Status::Stopped => out.push_str("stopped"),
     }
 }
 

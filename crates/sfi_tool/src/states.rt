@@ -1,4 +1,4 @@
-//! The pc and registers of the sandboxes that may still run or have trapped.
+//! The pc and registers of the sandboxes that have not exited.
 
 ghost use Rattle.std.specs.Prelude.{◌<◌, ◌^◌, Some, OnOk, length, slice_get, string_bytes};
 ghost use Rattle.sfi_host.specs.Worlds.{slots_of};
@@ -49,7 +49,9 @@ fn push_told<M: Memory>(
     };
     match status {
         Status::Exited(_) => Ok(()),
-        Status::Ready | Status::Trapped(_, _) => push_state(alloc, out, sandbox, part, cpu),
+        Status::Ready | Status::Trapped(_, _) | Status::Stopped => {
+            push_state(alloc, out, sandbox, part, cpu)
+        }
     }
 }
 
