@@ -29,9 +29,9 @@ PLACES = [
     ("CHANGELOG.md", r"^## (\d+\.\d+\.\d+)"),
 ]
 NUMBERS = [
-    ("crates/sfi_c/src/version.rt", r"\bVERSION_NUMBER: u32 = (\w+);"),
-    ("crates/sfi_c/include/sfi.h", r"#define SFI_VERSION_NUMBER (\w+)"),
-    ("crates/sfi_run/include/sfi_run.h", r"#define SFI_RUN_VERSION_NUMBER (\w+)"),
+    ("crates/sfi_c/src/version.rt", r"\bVERSION_NUMBER: u32 = (.*);"),
+    ("crates/sfi_c/include/sfi.h", r"#define SFI_VERSION_NUMBER (.*)"),
+    ("crates/sfi_run/include/sfi_run.h", r"#define SFI_RUN_VERSION_NUMBER (.*)"),
 ]
 
 

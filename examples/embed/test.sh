@@ -2,10 +2,11 @@
 # Builds the C library and the hosts beside this file, runs each on images that are accepted, refused, or no images, and compares
 # what it prints with what is wanted. Says what it skips for want of a compiler. The toolchain's command rt has to be there.
 #
-#     examples/embed/test.sh [LIBRARY]      # LIBRARY is a libsfi_c.a that is built already
+#     examples/embed/test.sh [LIBRARY [RUNTIME]]      # a libsfi_c.a and a libsfi_run.a that are built already
 set -uo pipefail
 unset CDPATH
 library=${1:+$(realpath "$1")}
+runtime=${2:+$(realpath "$2")}
 here=$(cd "$(dirname "${BASH_SOURCE[0]}")" && pwd)
 top=$(cd "$here/../.." && pwd)
 # The most bytes of code and constants that the checker may add to a program.
@@ -191,6 +192,15 @@ succeeds edges.c gcc -std=c11 "${warnings[@]}" "$here/edges.c" "$library" -o "$r
 run_verdicts edges
 succeeds pieces.c gcc -std=c11 "${warnings[@]}" "$here/pieces.c" "$library" -o "$room/pieces"
 run_verdicts pieces
+
+# ---- beside the library that loads
+runtime=${runtime:-$top/crates/sfi_run/out/libsfi_run.a}
+if [ -f "$runtime" ]; then
+    succeeds load.c gcc -std=c11 "${warnings[@]}" -I"$top/crates/sfi_run/include" "$here/load.c" "$library" "$runtime" -o "$room/load"
+    run_verdicts load
+else
+    skip $((1 + ${#verdicts[@]})) "load.c" "$runtime isn't there: \`rt lib\` in crates/sfi_run builds it"
+fi
 
 # ---- many images, in a pool of threads
 succeeds many.c gcc -std=c11 -pthread "${warnings[@]}" "$here/many.c" "$library" -o "$room/many"

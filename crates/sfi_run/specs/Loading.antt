@@ -1,11 +1,12 @@
 -- What loading comes to.
-use Rattle.std.specs.Prelude.{◌≡◌, ◌⊎◌, ℕ, List, map, Result, Ok, Err}
+use Rattle.std.specs.Prelude.{ℕ, List, map}
 use Rattle.std.specs.FinMap.{empty}
 use Rattle.sfi_image.specs.declared.fault.LayoutFault.{LayoutFault}
 use Rattle.sfi_image.specs.Faults.{IsFault}
 use Rattle.sfi_image.specs.Spelling.{Part}
 use Rattle.sfi_rules.specs.declared.finding.Finding.{Finding}
 use Rattle.sfi_check.specs.Verdict.{HasFindings}
+use Rattle.sfi_safety.specs.Clean.{IsAccepted}
 use Rattle.sfi_host.specs.Loading.{first_seat, with_parts}
 use Rattle.sfi_host.specs.Worlds.{Sandboxes}
 use Rattle.sfi_run.specs.declared.worlds.LoadFault.{LoadFault}
@@ -25,9 +26,4 @@ fault_number Memory = 3
 abbrev pub Means : List ℕ → LoadFault → Type 0
 Means bytes Refused = (found : List Finding) × HasFindings bytes found
 Means bytes NoImage = (k : LayoutFault) × IsFault bytes k
-Means bytes Memory = Unit {0}
-
--- the answer is this fault, or there is no memory
-abbrev pub OrMemory : {A : Type 0} → LoadFault → Result A LoadFault → Type 0
-OrMemory fault (Ok a) = ⊥
-OrMemory fault (Err other) = (other ≡ fault) ⊎ (other ≡ Memory)
+Means bytes Memory = (ps : List Part) × IsAccepted bytes ps

@@ -1,19 +1,21 @@
 //! Worlds: loaded, freed, and how many sandboxes one has.
-ghost use Rattle.std.specs.Prelude.{◌≡◌, List, IfOk, IfErr, ◌≢◌, ◌⊎◌, ◌≤◌, length, Some, None};
+ghost use Rattle.std.specs.Prelude.{◌≡◌, ◌↔◌, List, IfOk, IfErr, ◌≢◌, ◌⊎◌, ◌≤◌, ◌∷◌, length, Some, None, true};
 ghost use Rattle.sfi_image.specs.declared.fault.LayoutFault.{LayoutFault};
-ghost use Rattle.sfi_image.specs.Faults.{IsFault};
+ghost use Rattle.sfi_image.specs.Faults.{IsFault, number_of as layout_number};
 ghost use Rattle.sfi_image.specs.Spelling.{Part};
 ghost use Rattle.sfi_rules.specs.declared.finding.Finding.{Finding};
-ghost use Rattle.sfi_check.specs.Verdict.{HasFindings};
+ghost use Rattle.sfi_check.specs.Verdict.{HasFindings, bundle_count};
+ghost use Rattle.sfi_check.specs.Streams.{IsVerdictOn};
+ghost use Rattle.sfi_check.specs.ForC.{number_of, acceptance, refusal, no_image, IsAcceptance, IsRefusal, IsLayoutFault};
 ghost use Rattle.sfi_safety.specs.Clean.{IsAccepted};
 ghost use Rattle.sfi_host.specs.Worlds.{Sandboxes, slots_of, IsSafeWorld};
-ghost use Rattle.sfi_run.specs.Loading.{first_world, fault_number, Means, OrMemory};
+ghost use Rattle.sfi_run.specs.Loading.{first_world, fault_number, Means};
 
 use crate::holding::SfiRunWorld;
 use rv_mem::Pages;
-use sfi_check::{Accepted, Refusal, check};
+use sfi_check::{SfiVerdict, Status, StreamAnswer, accept, judge};
 use sfi_host::World;
-use std::alloc::Global;
+use std::alloc::{AllocError, Global};
 
 /// Why there is no world.
 #[derive(Clone, Copy, PartialEq, Eq, Debug)]
@@ -22,7 +24,7 @@ pub enum LoadFault {
     Refused,
     /// The bytes are no image.
     NoImage,
-    /// There is no memory.
+    /// The image is accepted, but memory ran out.
     Memory,
 }
 
@@ -39,66 +41,91 @@ impl LoadFault {
     }
 }
 
-// The world in its box.
-fn boxed(alloc: Global, accepted: &Accepted<'_>) -> Result<Box<World<Pages>>, LoadFault>
-    ensures world { IfOk result (λ b. b.value ≡ first_world accepted.now) }
-    ensures memory { IfErr result (λ fault. fault ≡ LoadFault.Memory) }
+// The world of an accepted image, in its box. An error means that memory ran out.
+fn boxed(alloc: Global, image: &[u8]) -> Result<Box<World<Pages>>, AllocError>
+    requires { (ps : List Part) × IsAccepted image.now ps }
+    ensures { IfOk result (λ b. (ps : List Part) × IsAccepted image.now ps
+        × (b.value ≡ first_world ps)) }
 {
-    let Ok(world) = World::load(alloc, accepted, Pages::new(alloc)) else {
-        return Err(LoadFault::Memory);
+    let accepted = accept(alloc, image)?;
+    let Ok(world) = World::load(alloc, &accepted, Pages::new(alloc)) else {
+        return Err(AllocError);
     };
     let Ok(boxed) = Box::new(alloc, world) else {
-        return Err(LoadFault::Memory);
+        return Err(AllocError);
     };
     Ok(boxed)
 }
 
-/// The world of the image, if it is accepted.
-pub(crate) fn load(alloc: Global, image: &[u8]) -> Result<Box<World<Pages>>, LoadFault>
+/// The world of the image, if that is its verdict.
+pub(crate) fn load(
+    alloc: Global,
+    image: &[u8],
+    answer: StreamAnswer,
+) -> Result<Box<World<Pages>>, LoadFault>
+    requires judged { IsVerdictOn image.now true answer }
+    requires read { answer ≢ StreamAnswer.ReadFault }
     ensures loaded { IfOk result (λ b. (ps : List Part) × IsAccepted image.now ps
         × (b.value ≡ first_world ps)) }
     ensures fault { IfErr result (Means image.now) }
-    ensures only_loaded { (ps : List Part) → IsAccepted image.now ps
-        → IfErr result (λ fault. fault ≡ LoadFault.Memory) }
-    ensures only_refused { (found : List Finding) → HasFindings image.now found
-        → OrMemory LoadFault.Refused result }
-    ensures only_no_image { (k : LayoutFault) → IsFault image.now k
-        → OrMemory LoadFault.NoImage result }
 {
-    match check(alloc, image) {
-        Ok(accepted) => boxed(alloc, &accepted),
-        Err(Refusal::Findings(_)) => Err(LoadFault::Refused),
-        Err(Refusal::Layout(_)) => Err(LoadFault::NoImage),
-        Err(Refusal::Memory) => Err(LoadFault::Memory),
+    match answer {
+        StreamAnswer::Accepted { .. } => match boxed(alloc, image) {
+            Ok(world) => Ok(world),
+            Err(_) => Err(LoadFault::Memory),
+        },
+        StreamAnswer::Findings { .. } => Err(LoadFault::Refused),
+        StreamAnswer::Layout(_) => Err(LoadFault::NoImage),
+        StreamAnswer::ReadFault => unreachable!(),
     }
 }
 
-/// Frees the world that was there, and loads that of an image, if it is accepted.
+/// Frees the world that was there, writes the verdict on the image to `verdict`, as `sfi_c_check` of
+/// `sfi_c` does, and loads the image's world, if it is accepted. Only that takes memory.
 #[unsafe(no_mangle)]
-pub extern "C" fn sfi_run_load(alloc: Global, image: &[u8], world: &mut SfiRunWorld) -> u32
-    // What each status means.
+pub extern "C" fn sfi_run_load(
+    alloc: Global,
+    image: &[u8],
+    world: &mut SfiRunWorld,
+    verdict: &mut SfiVerdict,
+) -> u32
+    // What each status means, and which bytes get it.
     ensures loaded { result ≡ 0 → (ps : List Part) × IsAccepted image.now ps
         × (world.new.inner.world ≡ Some (first_world ps)) }
-    ensures refused { result ≡ fault_number LoadFault.Refused
-        → (found : List Finding) × HasFindings image.now found }
-    ensures no_image { result ≡ fault_number LoadFault.NoImage
-        → (k : LayoutFault) × IsFault image.now k }
-    ensures known { result ≤ fault_number LoadFault.Memory }
-    ensures none { result ≢ 0 → world.new.inner.world ≡ None }
-
-    // Which bytes get it, want of memory aside.
+    ensures refused { (result ≡ fault_number LoadFault.Refused)
+        ↔ ((found : List Finding) × HasFindings image.now found) }
+    ensures no_image { (result ≡ fault_number LoadFault.NoImage)
+        ↔ ((k : LayoutFault) × IsFault image.now k) }
+    ensures memory { result ≡ fault_number LoadFault.Memory
+        → (ps : List Part) × IsAccepted image.now ps }
     ensures only_loaded { (ps : List Part) → IsAccepted image.now ps
         → (result ≡ 0) ⊎ (result ≡ fault_number LoadFault.Memory) }
-    ensures only_refused { (found : List Finding) → HasFindings image.now found
-        → (result ≡ fault_number LoadFault.Refused)
-        ⊎ (result ≡ fault_number LoadFault.Memory) }
-    ensures only_no_image { (k : LayoutFault) → IsFault image.now k
-        → (result ≡ fault_number LoadFault.NoImage)
-        ⊎ (result ≡ fault_number LoadFault.Memory) }
+    ensures known { result ≤ fault_number LoadFault.Memory }
+    ensures none { result ≢ 0 → world.new.inner.world ≡ None }
     ensures safe { (n : Sandboxes) → world.new.inner.world ≡ Some n → IsSafeWorld n }
+
+    // What each status of the verdict means. Accepted means that every run of each sandbox is safe.
+    ensures verdict_known { verdict.new.status ≤ 2 }
+    ensures verdict_accepted { verdict.new.status ≡ number_of Status.Accepted
+        → IsAcceptance image.now verdict.new }
+    ensures verdict_refused { verdict.new.status ≡ number_of Status.Refused
+        → (first : Finding) × (rest : List Finding) × IsRefusal image.now first rest verdict.new }
+    ensures verdict_layout { verdict.new.status ≡ number_of Status.NoImage
+        → IsLayoutFault image.now verdict.new }
+
+    // Which bytes get it.
+    ensures only_accepted { (ps : List Part) → IsAccepted image.now ps
+        → verdict.new ≡ acceptance (length ps) (bundle_count ps) }
+    ensures only_refused { (first : Finding) (rest : List Finding)
+        → HasFindings image.now (first ∷ rest)
+        → verdict.new ≡ refusal (length (first ∷ rest)) first }
+    ensures only_layout { (k : LayoutFault) → IsFault image.now k
+        → verdict.new ≡ no_image (layout_number k) }
 {
     sfi_run_free(alloc, world);
-    match load(alloc, image) {
+    let answer = judge(image);
+    *verdict = SfiVerdict::of(answer);
+    match load(alloc, image, answer) {
         Ok(boxed) => {
             boxed.stays_safe();
             world.put(boxed);

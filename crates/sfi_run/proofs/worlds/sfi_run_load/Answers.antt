@@ -1,21 +1,63 @@
-use Rattle.sfi_run.proofs.Prelude.{◌≡◌, ap, ◌∙◌}
-use Rattle.std.proofs.Common.{inl, inr, ⊎_elim}
-use Rattle.sfi_run.specs.Loading.{fault_number}
-use Rattle.sfi_run.specs.declared.worlds.LoadFault.TheVariants.{Refused, NoImage, Memory}
+use Rattle.sfi_run.proofs.Prelude.{◌≡◌}
+use Rattle.sfi_run.proofs.Loaded as by
 use Rattle.sfi_run.proofs.worlds.sfi_run_load.Goals as goal
 
-pub returns-in-Ok-clause-only_refused : goal.returns-in-Ok-clause-only_refused
-returns-in-Ok-clause-only_refused c found has = absurd (c.in-Ok.ensures.only_refused found has)
+pub returns-in-Ok-clause-refused : goal.returns-in-Ok-clause-refused
+returns-in-Ok-clause-refused c = by.not_refused c.args.image.now c.in-Ok.ensures.loaded.0 c.in-Ok.ensures.loaded.1
 
-pub returns-in-Ok-clause-only_no_image : goal.returns-in-Ok-clause-only_no_image
-returns-in-Ok-clause-only_no_image c k has = absurd (c.in-Ok.ensures.only_no_image k has)
+pub returns-in-Ok-clause-no_image : goal.returns-in-Ok-clause-no_image
+returns-in-Ok-clause-no_image c = by.not_no_image c.args.image.now c.in-Ok.ensures.loaded.0 c.in-Ok.ensures.loaded.1
+
+pub returns-in-Err-clause-refused : goal.returns-in-Err-clause-refused
+returns-in-Err-clause-refused c = rw c.number.ensures (by.refused c.args.image.now c.in-Err.fault c.in-Err.ensures.fault)
+
+pub returns-in-Err-clause-no_image : goal.returns-in-Err-clause-no_image
+returns-in-Err-clause-no_image c = rw c.number.ensures (by.no_image c.args.image.now c.in-Err.fault c.in-Err.ensures.fault)
+
+pub returns-in-Err-clause-memory : goal.returns-in-Err-clause-memory
+returns-in-Err-clause-memory c = rw c.number.ensures (by.memory c.args.image.now c.in-Err.fault c.in-Err.ensures.fault)
+
+pub returns-in-Err-clause-only_loaded : goal.returns-in-Err-clause-only_loaded
+returns-in-Err-clause-only_loaded c = rw c.number.ensures (by.only_memory c.args.image.now c.in-Err.fault c.in-Err.ensures.fault)
+
+pub returns-in-Ok-clause-verdict_known : goal.returns-in-Ok-clause-verdict_known
+returns-in-Ok-clause-verdict_known c = (c.of.ensures c.args.image.now c.judge-answer.ensures.judged).known
+
+pub returns-in-Ok-clause-verdict_accepted : goal.returns-in-Ok-clause-verdict_accepted
+returns-in-Ok-clause-verdict_accepted c = (c.of.ensures c.args.image.now c.judge-answer.ensures.judged).accepted
+
+pub returns-in-Ok-clause-verdict_refused : goal.returns-in-Ok-clause-verdict_refused
+returns-in-Ok-clause-verdict_refused c = (c.of.ensures c.args.image.now c.judge-answer.ensures.judged).refused
+
+pub returns-in-Ok-clause-verdict_layout : goal.returns-in-Ok-clause-verdict_layout
+returns-in-Ok-clause-verdict_layout c = (c.of.ensures c.args.image.now c.judge-answer.ensures.judged).layout
+
+pub returns-in-Ok-clause-only_accepted : goal.returns-in-Ok-clause-only_accepted
+returns-in-Ok-clause-only_accepted c = (c.of.ensures c.args.image.now c.judge-answer.ensures.judged).only_accepted
+
+pub returns-in-Ok-clause-only_refused : goal.returns-in-Ok-clause-only_refused
+returns-in-Ok-clause-only_refused c = (c.of.ensures c.args.image.now c.judge-answer.ensures.judged).only_refused
+
+pub returns-in-Ok-clause-only_layout : goal.returns-in-Ok-clause-only_layout
+returns-in-Ok-clause-only_layout c = (c.of.ensures c.args.image.now c.judge-answer.ensures.judged).only_layout
+
+pub returns-in-Err-clause-verdict_known : goal.returns-in-Err-clause-verdict_known
+returns-in-Err-clause-verdict_known c = (c.of.ensures c.args.image.now c.judge-answer.ensures.judged).known
+
+pub returns-in-Err-clause-verdict_accepted : goal.returns-in-Err-clause-verdict_accepted
+returns-in-Err-clause-verdict_accepted c = (c.of.ensures c.args.image.now c.judge-answer.ensures.judged).accepted
+
+pub returns-in-Err-clause-verdict_refused : goal.returns-in-Err-clause-verdict_refused
+returns-in-Err-clause-verdict_refused c = (c.of.ensures c.args.image.now c.judge-answer.ensures.judged).refused
+
+pub returns-in-Err-clause-verdict_layout : goal.returns-in-Err-clause-verdict_layout
+returns-in-Err-clause-verdict_layout c = (c.of.ensures c.args.image.now c.judge-answer.ensures.judged).layout
+
+pub returns-in-Err-clause-only_accepted : goal.returns-in-Err-clause-only_accepted
+returns-in-Err-clause-only_accepted c = (c.of.ensures c.args.image.now c.judge-answer.ensures.judged).only_accepted
 
 pub returns-in-Err-clause-only_refused : goal.returns-in-Err-clause-only_refused
-returns-in-Err-clause-only_refused c found has =
-    ⊎_elim (λ (e : c.in-Err.fault ≡ Refused). inl (c.number.ensures ∙ ap fault_number e)) (λ (e : c.in-Err.fault ≡ Memory). inr (c.number.ensures ∙ ap fault_number e))
-    (c.in-Err.ensures.only_refused found has)
+returns-in-Err-clause-only_refused c = (c.of.ensures c.args.image.now c.judge-answer.ensures.judged).only_refused
 
-pub returns-in-Err-clause-only_no_image : goal.returns-in-Err-clause-only_no_image
-returns-in-Err-clause-only_no_image c k has =
-    ⊎_elim (λ (e : c.in-Err.fault ≡ NoImage). inl (c.number.ensures ∙ ap fault_number e)) (λ (e : c.in-Err.fault ≡ Memory). inr (c.number.ensures ∙ ap fault_number e))
-    (c.in-Err.ensures.only_no_image k has)
+pub returns-in-Err-clause-only_layout : goal.returns-in-Err-clause-only_layout
+returns-in-Err-clause-only_layout c = (c.of.ensures c.args.image.now c.judge-answer.ensures.judged).only_layout
