@@ -1,14 +1,13 @@
 #!/usr/bin/env python3
-"""The instructions that the programs of examples/c execute natively on RV32 in QEMU: in both
-formats, and without a sandbox.
+"""The instructions that the programs of examples/c execute natively on RV32 in QEMU: in each
+format, and without a sandbox.
 
     bench/native.py [--program PATH]
 
 Wants what examples/device and compiled.py want, and `make` in examples/c first. All of them are run
 by the loader of examples/device, from the assembly and through the tools of compiled.py, whose
 table of steps has the same numbers; the checker refuses the code without a sandbox. In each row the
-loader's lines of both formats must be those of `sfi run`, steps included, and the answers of all
-three equal.
+loader's lines of all formats must be those of `sfi run`, steps included, and all answers equal.
 """
 import argparse
 import os
@@ -57,11 +56,13 @@ def sandboxed(assembly, words, image_format, program, folder):
 
 def row(name, program, folder):
     words = compiled.digits_of_case(name)
-    assembly = os.path.join(compiled.EXAMPLES, "build", name + ".asm")
+    assembly, in_words = (os.path.join(compiled.EXAMPLES, "build", part, name + ".asm")
+                          for part in ("", compiled.WORDS))
     without, answer = plain(assembly, words, program, folder)
     cells = [f"{name}, {compiled.CASES[name]}", f"{without:,}"]
-    for image_format in (1, 2):
-        steps, found = sandboxed(assembly, words, image_format, program, folder)
+    for image_format in compiled.FORMATS:
+        steps, found = sandboxed(in_words if image_format == compiled.WORDS else assembly, words,
+                                 image_format, program, folder)
         if found != answer:
             raise SystemExit(f"bench: {name}: the answers differ")
         cells.append(f"{steps:,} ({steps / without:.2f})")
@@ -73,8 +74,8 @@ def main():
     parser.add_argument("--program", default=measure.PROGRAM)
     program = measure.program_at(parser.parse_args().program)
     with tempfile.TemporaryDirectory() as folder:
-        print("| program, input | without a sandbox | first format | second format |")
-        print("|---|---|---|---|")
+        print("| program, input | without a sandbox | " + " | ".join(compiled.FORMATS.values()) + " |")
+        print("|---|---" + "|---" * len(compiled.FORMATS) + "|")
         for name in compiled.CASES:
             print(row(name, program, folder), flush=True)
 
