@@ -77,7 +77,8 @@ def check_count(code):
 def has_loop(code):
     """Whether control may go back in a function's code."""
     at = labels_of(code)
-    return any(at.get(piece.operands[-1], number) < number for number, piece in enumerate(code) if is_branch(piece) or is_jump(piece))
+    return any(at.get(piece.operands[-1], number) < number for number, piece in enumerate(code)
+               if is_branch(piece) or is_jump(piece))
 
 
 def may_go(piece, in_loops):

@@ -271,7 +271,8 @@ class Limits(unittest.TestCase):
     @patch("limits.MOST_INSTRUCTIONS", 50)
     def test_before_the_passes(self):
         """What is too large whatever the passes do is refused before them. Those for words may take sums out of loops."""
-        text = "f: .a: " + "add a0,a0,a1; " * 20 + "sw a0,0(a2); " * 20 + "bnez a0,.a; ret; g: mv sp,s0; " + "addi a0,a0,1; " * 10 + "ret"
+        text = "f: .a: " + "add a0,a0,a1; " * 20 + "sw a0,0(a2); " * 20 + "bnez a0,.a; ret; "
+        text += "g: mv sp,s0; " + "addi a0,a0,1; " * 10 + "ret"
         check_least(code(text), WORDS)
         with self.assertRaisesRegex(Exception, "^start: at least 54 instructions are 4 more than"):
             check_least(code(text), 2)
