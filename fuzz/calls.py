@@ -61,7 +61,7 @@ class World:
     def length(self, number, at):
         """Mostly few bytes, or as many as there are, or one more."""
         base, size = self.region(number)
-        left = max(0, base + size - at)
+        left = min(max(0, base + size - at), size)
         return self.pick.choice([0, 1, 2, 4, self.pick.randrange(300), left, left + 1, size, size + 1])
 
     def code_address(self, number):

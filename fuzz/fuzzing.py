@@ -1,6 +1,7 @@
 """What the scripts of this folder share: their options, how a program is run, and what is counted and printed."""
 import argparse
 import collections
+import itertools
 import os
 import random
 import shutil
@@ -31,12 +32,11 @@ def options(about, rounds):
 
 def cases(given):
     """For each case the seed and number that repeat it, and its source of random numbers."""
-    begun, seed = time.monotonic(), 0
+    begun, further = time.monotonic(), itertools.count(given.seeds[-1] + 1)
     numbers = range(given.rounds) if given.round is None else [given.round]
-    for seed in given.seeds:
-        yield from ((f"{seed} --round {n}", random.Random(f"{seed}/{n}")) for n in numbers)
-    while time.monotonic() - begun < given.seconds:
-        seed += 1
+    for position, seed in enumerate(itertools.chain(given.seeds, further)):
+        if position >= len(given.seeds) and time.monotonic() - begun >= given.seconds:
+            return
         print(f"seed {seed}", flush=True)
         yield from ((f"{seed} --round {n}", random.Random(f"{seed}/{n}")) for n in numbers)
 

@@ -3,6 +3,7 @@ import contextlib
 import io
 import os
 import random
+import re
 import tempfile
 import unittest
 
@@ -150,7 +151,7 @@ class Scripts(testing.Folder):
         printed = io.StringIO()
         with contextlib.redirect_stdout(printed):
             self.assertEqual(calls.main([*words, "--rounds", "30", "5"]), 1)
-        case = printed.getvalue().split("seed ")[1].splitlines()[0].split()
+        case = re.search(r"^DIFFERS .*, seed (.*)$", printed.getvalue(), re.MULTILINE)[1].split()
         self.assertEqual(silently(calls.main, [*words, *case]), 1)
 
     def test_what_is_never_compared_has_failed(self):
