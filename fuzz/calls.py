@@ -194,7 +194,7 @@ def open_library(path, folder, model):
 
 
 def main(words=None):
-    parser = fuzzing.options(__doc__, 60)
+    parser = fuzzing.options(__doc__, 40)
     parser.add_argument("--library", default=LIBRARY)
     parser.add_argument("--plant", choices=sorted(worlds.PLANTS), help="give the model this fault")
     given = parser.parse_args(words)

@@ -130,7 +130,7 @@ def taken_as(expected, lines):
 
 
 def main(words=None):
-    parser = fuzzing.options(__doc__, 600)
+    parser = fuzzing.options(__doc__, 400)
     parser.add_argument("--plant", action="append", default=[], metavar="RULE", help="leave this rule out of what is expected")
     given = parser.parse_args(words)
     if not fuzzing.has_gcc():

@@ -38,8 +38,10 @@ def small_accepted(pick):
     format = pick.choice([1, 2, 3])
     if format == 3 and pick.random() < 0.7:
         return odd_words.image([odd_words.made_code(pick, 256) for _ in range(pick.choice([1, 1, 2]))])
-    kind, seed = pick.choice(images.KINDS), pick.getrandbits(32)
-    return images.image(kind, pick.choice([1, 1, 2, 3]), pick.choice([256, 512]), pick.choice([0, 3]), format, seed)
+    kind, seed, is_twin = pick.choice(images.KINDS), pick.getrandbits(32), format == 1 and pick.random() < 0.5
+    shape = pick.choice([1, 1, 2, 3]), pick.choice([256, 512]), pick.choice([0, 3])
+    data = images.image(kind, *shape, 2 if is_twin else format, seed)
+    return images.MAGICS[format] + data[4:]  # a twin keeps the rules of the first two formats
 
 
 def accepted(pick, program):

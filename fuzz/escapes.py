@@ -155,7 +155,7 @@ def see_verdict(program, data, tally):
 
 
 def main(words=None):
-    parser = fuzzing.options(__doc__, 250)
+    parser = fuzzing.options(__doc__, 150)
     parser.add_argument("--plant", action="append", default=[], metavar="RULE", help="take images that break this rule")
     given = parser.parse_args(words)
     program = measure.program_at(given.program)
