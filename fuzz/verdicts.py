@@ -5,7 +5,6 @@ With a rule left out they say what a checker without it would say: the compariso
 import dataclasses
 import functools
 import os
-import subprocess
 
 import fuzzing
 import layout

@@ -7,7 +7,6 @@ import ctypes
 import os
 import re
 import subprocess
-import tempfile
 
 import fuzzing
 import layout
