@@ -34,10 +34,11 @@ RUNNER = """
 #include <stdio.h>
 int main(void) {
     static unsigned char image[1 << 20];
-    struct sfi_run_world world = {0};
+    struct sfi_run_world world = SFI_RUN_NO_WORLD;
     struct sfi_run_event event;
+    struct sfi_verdict verdict;
     size_t length = fread(image, 1, sizeof image, stdin);
-    unsigned loaded = sfi_run_load(image, length, &world), kind = sfi_run_turn(&world, 0, 5, &event);
+    unsigned loaded = sfi_run_load(image, length, &world, &verdict), kind = sfi_run_turn(&world, 0, 5, &event);
     printf("%u %u %u %s\\n", loaded, kind, event.number, SFI_RUN_VERSION);
     sfi_run_free(&world);
     return 0;

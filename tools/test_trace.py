@@ -224,4 +224,5 @@ class Faults(Traces):
     def test_an_image_that_breaks_a_rule(self):
         image = (TOP / "examples" / "smallest.hex").read_text(encoding="ascii").replace("73001000", "130c1c00", 1)
         status, lines, said = self.call(self.write("broken.hex", image))
-        self.assertEqual((status, lines, said), (1, [], "sfi-trace: rules are broken in the image\n"))
+        self.assertEqual((status, lines, said), (1, [],
+                         "sfi-trace: rules are broken in the image: findings=1 first=V4 sandbox=0 at=01000000\n"))

@@ -58,7 +58,8 @@ class Refused(Exception):
 
     def __str__(self) -> str:
         first = self.first
-        return f"{self.findings} findings: first V{first.rule} in sandbox {first.sandbox} at {first.address:08x}"
+        place = f"first=V{first.rule} sandbox={first.sandbox} at={first.address:08x}"
+        return f"rules are broken in the image: findings={self.findings} {place}"
 
 
 class NoImage(Exception):
@@ -69,7 +70,7 @@ class NoImage(Exception):
         self.fault = fault
 
     def __str__(self) -> str:
-        return f"layout fault {self.fault}"
+        return f"the bytes are no image: layout fault {self.fault}"
 
 
 class OutsideData(Exception):

@@ -52,14 +52,14 @@ class Loading(unittest.TestCase):
         for image, fault in ((b"SFI9", 1), (SMALLEST[:-1], 3), (SMALLEST + b"\0", 11)):
             with self.assertRaises(sfi_run.NoImage) as told:
                 sfi_run.World(image)
-            self.assertEqual((told.exception.fault, str(told.exception)), (fault, f"layout fault {fault}"))
+            self.assertEqual((told.exception.fault, str(told.exception)), (fault, f"the bytes are no image: layout fault {fault}"))
 
     def test_an_image_with_broken_rules(self):
         at = SMALLEST.index(EBREAKS)
         with self.assertRaises(sfi_run.Refused) as told:
             sfi_run.World(SMALLEST[:at] + bytes.fromhex("130c1c00") * 2 + SMALLEST[at + 8:])  # addi x24, x24, 1
         self.assertEqual((told.exception.findings, told.exception.first), (2, sfi_run.Finding(0, CODE, 4)))
-        self.assertEqual(str(told.exception), "2 findings: first V4 in sandbox 0 at 01000000")
+        self.assertEqual(str(told.exception), "rules are broken in the image: findings=2 first=V4 sandbox=0 at=01000000")
 
     def test_what_has_no_bytes(self):
         for image in (5, "SFI1", None, [1, 2]):

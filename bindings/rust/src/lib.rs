@@ -76,14 +76,17 @@ impl fmt::Display for LoadError {
         match self {
             LoadError::Refused { findings, first } => write!(
                 to,
-                "rules are broken in the image, {findings} times: first V{} in sandbox {} at {:08x}",
+                "rules are broken in the image: findings={findings} first=V{} sandbox={} at={:08x}",
                 first.rule, first.sandbox, first.address
             ),
             LoadError::NoImage(fault) => write!(to, "the bytes are no image: layout fault {fault}"),
             LoadError::NoMemory => to.write_str("there was no memory for the image"),
             LoadError::OtherVersion(number) => {
                 let [_, major, minor, patch] = number.to_be_bytes();
-                write!(to, "the library has another version: {major}.{minor}.{patch}")
+                write!(
+                    to,
+                    "the library has another version: {major}.{minor}.{patch}"
+                )
             }
         }
     }

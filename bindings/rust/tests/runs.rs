@@ -88,7 +88,7 @@ fn what_is_not_accepted_is_not_loaded() {
     assert_eq!(World::load(&broken).err(), Some(refused));
     assert_eq!(
         refused.to_string(),
-        "rules are broken in the image, 2 times: first V4 in sandbox 0 at 01000000"
+        "rules are broken in the image: findings=2 first=V4 sandbox=0 at=01000000"
     );
     let mut world = World::load(&image).unwrap();
     assert_eq!(world.len(), 1);
