@@ -1,0 +1,5 @@
+	.text
+	.globl main
+main:
+	ecall
+	ret

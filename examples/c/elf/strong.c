@@ -1,0 +1,2 @@
+char before[300] = {1};
+int chosen = 77;

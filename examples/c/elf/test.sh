@@ -1,0 +1,155 @@
+#!/usr/bin/env bash
+# Builds the C examples by way of ELF files in each format, and compares what they do with what the native programs did, and
+# their steps with those of tools/sfi-cc. Then links archives, two sandboxes and constructors, and tries what is refused.
+#
+#     examples/c/elf/test.sh [SFI]      # SFI is the program; ./sfi at the top if absent
+set -uo pipefail
+unset CDPATH
+here=$(cd "$(dirname "${BASH_SOURCE[0]}")" && pwd)
+sfi=$(realpath "${1:-$here/../../../sfi}")
+tools=$(realpath "$here/../../../tools")
+cd "$here/.." || exit 1
+source ../harness.sh
+export sfi tools room
+names=$(cut -d' ' -f1 expected.txt | uniq)
+compared="crc32 sort stack json" # those whose steps are compared
+
+run_image() { # image, input in hexadecimal digits
+    "$sfi" run --rounds 10000 --quantum 1000000 --input "$2" <"$1"
+}
+
+make_one() { # program, format
+    "$tools/sfi-elf" --format "$2" -O2 -g -fno-tree-loop-distribute-patterns -o "$room/$1.$2.elf" "$1.c" &&
+        "$tools/sfi-image" -o "$room/$1.$2.hex" "$room/$1.$2.elf"
+}
+
+make_today() { # program, format
+    "$tools/sfi-cc" --format "$2" --program "$sfi" -O2 -g -fno-tree-loop-distribute-patterns -o "$room/$1.$2.today" "$1.c"
+}
+
+try_program() { # program, format
+    local name input wanted found
+    report "$1, format $2: check" accepted "$("$sfi" check <"$room/$1.$2.hex" | cut -d' ' -f1)"
+    while read -r name input wanted; do
+        [ "$name" = "$1" ] || continue
+        found=$(run_image "$room/$1.$2.hex" "$(./inputs.py "$input" | digits_of)")
+        report "$1, format $2, $input" "$wanted" "$(sed 's/^sandbox=0 //; s/ steps=[0-9]*//' <<<"$found")"
+        sed 's/.*steps=\([0-9]*\).*/\1/' <<<"$found" >"$room/steps.$1.$2.$input"
+    done <expected.txt
+}
+
+# A program by both ways answers alike; by ELF it takes at most a tenth more steps.
+compare_steps() { # program, format
+    local input now today
+    input=$(grep "^$1 " expected.txt | cut -d' ' -f2 | tail -n 1)
+    today=$(run_image "$room/$1.$2.today" "$(./inputs.py "$input" | digits_of)" | sed 's/.*steps=\([0-9]*\).*/\1/')
+    now=$(cat "$room/steps.$1.$2.$input")
+    echo "$1, format $2, $input: $now steps, $today by sfi-cc, ratio $(awk -v n="$now" -v t="$today" 'BEGIN { printf "%.3f", n / t }')"
+    report "$1, format $2: steps at most a tenth more" yes "$([ $((now * 10)) -le $((today * 11)) ] && echo yes || echo "$now, $today")"
+}
+
+# What a command says that has to fail in status 1: its first line.
+refusal() {
+    local status
+    "$@" >"$room/output" 2>"$room/messages"
+    status=$?
+    [ "$status" = 1 ] || echo "status $status"
+    head -n 1 "$room/messages"
+}
+
+elf_of() { # output, format, options and files
+    local output="$room/$1" format=$2
+    shift 2
+    "$tools/sfi-elf" --format "$format" -o "$output" "$@"
+}
+
+line_of() { # ELF files; what the sandboxes do
+    "$tools/sfi-image" "$@" | "$sfi" run --rounds 100 --quantum 10000 | sed 's/ steps=[0-9]*//'
+}
+
+try_archive() { # format
+    mkdir -p "$room/objects.$1"
+    elf_of "objects.$1/twice.o" "$1" -c elf/twice.c && elf_of "objects.$1/unused.o" "$1" -c elf/unused.c &&
+        riscv64-unknown-elf-ar rcs "$room/objects.$1/libtwice.a" "$room/objects.$1"/*.o &&
+        elf_of "archive.$1.elf" "$1" elf/calls_twice.c "-L$room/objects.$1" -ltwice
+    report "an archive, format $1" "sandbox=0 exit=42 out=" "$(line_of "$room/archive.$1.elf")"
+}
+
+try_pair() { # format
+    local wanted
+    wanted=$(printf 'sandbox=0 exit=0 out=\nsandbox=1 exit=%s out=%s' "$(($(paste -sd+ <<<"$primes")))" "$(digits_of <<<"$primes")")
+    elf_of "post.$1.elf" "$1" primes_post.c && elf_of "take.$1.elf" "$1" --sandbox 1 primes_take.c
+    report "two sandboxes, format $1" "$wanted" "$(line_of "$room/post.$1.elf" "$room/take.$1.elf")"
+}
+
+try_linked() { # format
+    elf_of "constructors.$1.elf" "$1" elf/constructors.cpp
+    report "constructors by priority, format $1" "sandbox=0 exit=0 out=31323334" "$(line_of "$room/constructors.$1.elf")"
+    elf_of "weak.$1.elf" "$1" elf/weak.c elf/strong.c
+    report "a weak small object that another file defines, format $1" "sandbox=0 exit=77 out=" "$(line_of "$room/weak.$1.elf")"
+    elf_of "gate.$1.elf" "$1" --gate finish=0 elf/gate.c
+    report "a gate of another name, format $1" "sandbox=0 exit=9 out=" "$(line_of "$room/gate.$1.elf")"
+    elf_of "null.$1.elf" "$1" elf/null.c
+    report "a call of null traps, format $1" "trap=Break at=01000000" \
+        "$(line_of "$room/null.$1.elf" | grep -o 'trap=[A-Za-z]* at=[0-9a-f]*')"
+    report "a frame larger than the stack, format $1" \
+        "sfi-elf: $room/frame.elf: the frame of deep has 20016 bytes, and the stack has room for XX: give --stack 20032 or more" \
+        "$(refusal elf_of frame.elf "$1" elf/frame.c | sed 's/room for [0-9]*:/room for XX:/')"
+    elf_of "frame.$1.elf" "$1" --stack 20032 elf/frame.c
+    report "a frame that has its room, format $1" "sandbox=0 exit=7 out=" "$(line_of "$room/frame.$1.elf")"
+}
+
+# A step of a data register before a load into x0 keeps its masks.
+try_step() {
+    elf_of step.elf words elf/step.s
+    report "a load into x0 after a step" "accepted exit=5" "$("$tools/sfi-image" "$room/step.elf" >"$room/step.hex"
+        echo "$("$sfi" check <"$room/step.hex" | cut -d' ' -f1) $("$sfi" run <"$room/step.hex" | grep -o 'exit=[0-9]*')")"
+    report "masks between them" 2 "$(riscv64-unknown-elf-objdump -d "$room/step.elf" | grep -B3 'lw.*zero,0(sp)' | grep -cE 'and|or')"
+}
+
+try_refusals() {
+    report "an undefined symbol" "undefined reference to \`absent'" \
+        "$(refusal elf_of x.elf 2 elf/undefined.c >/dev/null; grep -o 'undefined reference.*' "$room/messages" | head -n 1)"
+    report "an ecall" "asm2elf: ecall.s:4: ecall: a sandbox calls its host through gates alone" "$(refusal elf_of x.elf 2 elf/ecall.s)"
+    report "objects of two formats" "objects of several formats: compile all of them with one --format" \
+        "$(elf_of two.o words -c elf/twice.c && refusal elf_of x.elf 2 elf/calls_twice.c "$room/two.o" >/dev/null
+        grep -o 'objects of several.*' "$room/messages" | head -n 1)"
+    report "two sandboxes at one place" \
+        "sfi-image: $room/post.2.elf and $room/post.2.elf lie at one place: link each with a --sandbox of its own" \
+        "$(refusal "$tools/sfi-image" "$room/post.2.elf" "$room/post.2.elf")"
+    report "two formats in one image" "sfi-image: $room/post.2.elf and $room/take.words.elf are of different formats" \
+        "$(refusal "$tools/sfi-image" "$room/post.2.elf" "$room/take.words.elf")"
+    report "no ELF file" "sfi-image: elf/null.c is no linked ELF file of 32-bit RISC-V" "$(refusal "$tools/sfi-image" elf/null.c)"
+    head -c 3000 "$room/post.2.elf" >"$room/short.elf"
+    report "an ELF file that is cut off" "sfi-image: $room/short.elf is cut off, or no ELF file" \
+        "$(refusal "$tools/sfi-image" "$room/short.elf")"
+    riscv64-unknown-elf-strip -o "$room/bare.elf" "$room/post.2.elf"
+    report "an ELF file without symbols" 1 "$(refusal "$tools/sfi-image" "$room/bare.elf" | grep -c 'link it by tools/sfi-elf')"
+    report "a data region that is too small" 1 "$(refusal "$tools/sfi-image" --data 4096 "$room/post.2.elf" | grep -c "don't fit in 4096")"
+}
+
+if ! has riscv64-unknown-elf-gcc || ! has riscv64-unknown-elf-ld; then
+    skip 1 "programs by ELF" "riscv64-unknown-elf-gcc or its binutils aren't there"
+    finish
+fi
+primes=$(seq 2 99 | factor | awk 'NF == 2 { print $2 }')
+export -f make_one make_today
+for format in $formats; do # what each is linked with is made once
+    make_one crc32 "$format"
+done
+{
+    for format in $formats; do
+        for name in $names; do echo "make_one $name $format"; done
+        for name in $compared; do echo "make_today $name $format"; done
+    done
+} | xargs -P 2 -I WORDS bash -c WORDS
+for format in $formats; do
+    for name in $names; do try_program "$name" "$format"; done
+    for name in $compared; do compare_steps "$name" "$format"; done
+    try_archive "$format"
+    try_pair "$format"
+    try_linked "$format"
+done
+try_step
+try_refusals
+finish

@@ -1,0 +1,5 @@
+int absent(int);
+
+int main(void) {
+    return absent(1);
+}

@@ -1,0 +1,57 @@
+#!/usr/bin/env python3
+"""Rewrites one file of the assembly that a RISC-V compiler makes to GNU assembly for a sandbox.
+
+    python3 tools/asm2elf [--format N] [--passes NAMES] [-o OUT.s] IN.s
+
+Only instructions change: each gets its masks, its size, and its place in a word or a bundle. Labels, data, debug
+information, symbols and sections go on to `as`, and `ld` places, joins and relocates. Nothing of this is trusted: the
+checker reads the bytes of the image that tools/sfi-image makes. What can't be rewritten is told on standard error with its
+file and line, and the status is 1; it is 2 where a file can't be read or written. docs/ELF.md says more.
+"""
+import argparse
+import os
+import sys
+
+sys.dont_write_bytecode = True
+sys.path.insert(0, os.path.join(os.path.dirname(os.path.dirname(os.path.abspath(__file__))), "asm2sfi"))
+
+from assembly import Refused
+from improving import PASSES
+from rewriting import rewritten
+from typed import WORDS, format_of
+
+ENCODING = {"encoding": "utf-8", "errors": "surrogateescape"}
+
+
+def parsed(words):
+    parser = argparse.ArgumentParser(prog="asm2elf", description=__doc__.split("\n", maxsplit=1)[0])
+    parser.add_argument("file", metavar="IN.s", help="assembly of gcc or clang")
+    parser.add_argument("-o", dest="output", metavar="OUT.s", help="where to write; standard output if absent")
+    parser.add_argument("--format", type=format_of, choices=[1, 2, WORDS], default=2, help="the image's format; 2 if absent")
+    parser.add_argument("--passes", default=",".join(PASSES), metavar="NAMES",
+                        help="the passes that make the code cheaper; %(default)s if absent")
+    options = parser.parse_args(words)
+    options.passes = tuple(name for name in options.passes.split(",") if name)
+    if not set(options.passes) <= set(PASSES):
+        parser.error(f"the passes are {', '.join(PASSES)}")
+    return options
+
+
+def main():
+    options = parsed(sys.argv[1:])
+    try:
+        with open(options.file, **ENCODING) as file:
+            text = rewritten(os.path.basename(options.file), file.read(), options.passes, options.format)
+        with open(options.output or sys.stdout.fileno(), "w", closefd=options.output is not None, **ENCODING) as file:
+            file.write(text)
+    except Refused as refused:
+        print(f"asm2elf: {refused}", file=sys.stderr)
+        return 1
+    except OSError as error:
+        print(f"asm2elf: {error.filename or 'standard output'}: {error.strerror}", file=sys.stderr)
+        return 2
+    return 0
+
+
+if __name__ == "__main__":
+    sys.exit(main())

@@ -1,0 +1,95 @@
+"""GNU assembly of code in bundles of 16 bytes, the first two formats: what each instruction becomes. docs/SOURCE.md has the
+table. `as` keeps the bundles: `.p2align 4,,N-1` before a group of N bytes pads where the group would cross a bundle's end,
+and `.fill` before a call makes it end its bundle. How many nops that takes is the affair of the pass `packing`."""
+from control import is_call
+from instructions import is_access, offset_and_base, written
+from sizes import number_parts
+from spelling import plain, short
+from writer import NORVC, RVC, Writer
+
+MASKS_OF_ACCESS = ["and x31, {0}, x27", "or x31, x31, x26"]
+MASKS_OF_STACK = ["and sp, sp, x27", "or sp, sp, x26"]
+MASKS_OF_JUMP = ["and x31, {0}, x25", "or x31, x31, x24"]
+
+
+class InBundles(Writer):
+    """In the second format `sp` is a stack pointer, on which accesses need no masks."""
+    alignment = 4
+    count = 0
+
+    def __init__(self, *all_of_it):
+        super().__init__(*all_of_it)
+        self.has_stack = self.format == 2
+
+    def begin_section(self):
+        self.count += 1
+        self.out.append(f".Lsfi_begin{self.count}:")
+
+    def label(self, name):
+        self.out.append("\t.p2align 4")
+        super().label(name)
+
+    def group(self, *texts, ends=False):
+        """Instructions of 32 bits in one bundle, at its end where they are a call."""
+        size = 4 * len(texts)
+        if ends:
+            self.out.append(f"\t.fill ((-(. - .Lsfi_begin{self.count}) - {size}) & 15) / 2, 2, 1")
+        else:
+            self.out.append(f"\t.p2align 4,,{size - 1}")
+        self.out += ["\t" + text for text in texts]
+
+    def itself(self, op):
+        in_half = short(op)
+        if in_half is None:
+            self.group(plain(op))
+        else:
+            self.out += [RVC, "\t" + in_half, NORVC]
+
+    def piece(self, op, following):
+        word, operands = op.word, op.operands
+        if word in ("ret", "jr", "jalr"):
+            self.jump(op)
+        elif word == "call":
+            self.call(operands[0])
+        elif word == "jal":
+            self.group(plain(op), ends=is_call(op))
+        elif word == "la":
+            for text in (f"lui {operands[0]}, %hi({operands[1]})", f"addi {operands[0]}, {operands[0]}, %lo({operands[1]})"):
+                self.group(text, *self.masks_after(operands[0]))
+        elif word == "li":
+            for part in number_parts(op):
+                self.one(part)
+        else:
+            self.one(op)
+
+    def one(self, op):
+        name = written(op)
+        if is_access(op) and not (self.has_stack and offset_and_base(op)[1] == "sp"):
+            self.access(op)
+        elif self.masks_after(name):
+            self.group(plain(op), *self.masks_after(name))
+        else:
+            self.itself(op)
+
+    def masks_after(self, name):
+        return MASKS_OF_STACK if self.has_stack and name == "sp" else []
+
+    def access(self, op):
+        offset, base = offset_and_base(op)
+        masks = [text.format(base) for text in MASKS_OF_ACCESS]
+        self.group(*masks, f"{op.word} {op.operands[0]}, {self.small.text(offset)}(x31)")
+
+    def jump(self, op):
+        offset, base = offset_and_base(op) if op.word == "jalr" else (0, "ra" if op.word == "ret" else op.operands[0])
+        link = op.operands[0] if op.word == "jalr" else "zero"
+        sums = [f"addi x31, {base}, {offset}"] if offset else []
+        masks = [text.format("x31" if offset else base) for text in MASKS_OF_JUMP]
+        self.group(*sums, *masks, f"jalr {link}, 0(x31)", ends=is_call(op))
+
+    def call(self, name):
+        if not self.is_weak(name):
+            self.group(f"jal ra, {name}", ends=True)
+            return
+        self.group(f"lui ra, %hi({name})")
+        self.group(f"addi ra, ra, %lo({name})")
+        self.group(*(text.format("ra") for text in MASKS_OF_JUMP), "jalr ra, 0(x31)", ends=True)

@@ -1,0 +1,48 @@
+"""The places of small objects, as the pass `known` asks for them. They are known to the linker alone, which puts them into the
+first bytes of the data region, so each stands here for a number of its own, beyond all offsets, that the symbol's name
+takes the place of in the end."""
+import re
+
+FIRST = 1 << 20
+ROOM = 1 << 16  # between two objects' numbers
+FARTHEST = 1 << 40  # the linker script sees to it that they lie in reach
+SYMBOL = re.compile(r"([A-Za-z_.$][\w.$]*)([+-]\d+)?")
+LARGEST = 64  # bytes of a small object, as the option -msmall-data-limit has it
+
+
+class SmallData:
+    """The small objects of a file that its code speaks of."""
+
+    def __init__(self, unit, code):
+        self.small = unit.near_small()
+        self.labels, self.numbers = {}, {}
+        for piece in code:
+            if piece.word == "la" and self.is_near(piece.operands[1]):
+                name, addend = self.parts(piece.operands[1])
+                self.labels[self.offset(name, addend)] = [piece.operands[1]]
+
+    @staticmethod
+    def parts(text):
+        match = SYMBOL.fullmatch(text)
+        return match.group(1), int(match.group(2) or 0)
+
+    def is_near(self, text):
+        """Whether an address is that of a small object of this file, or one not farther from it than an object's size."""
+        name, addend = self.parts(text)
+        return name in self.small and -LARGEST <= addend <= LARGEST
+
+    def offset(self, name, addend):
+        number = self.numbers.setdefault(name, len(self.numbers))
+        return FIRST + number * ROOM + ROOM // 2 + addend
+
+    @staticmethod
+    def holds(offset):
+        """Whether an offset stands for a small object."""
+        return offset >= FIRST
+
+    def text(self, offset):
+        """The offset in the region, as `as` takes it."""
+        if not self.holds(offset):
+            return str(offset)
+        number, rest = divmod(offset - FIRST, ROOM)
+        return f"%lo({list(self.numbers)[number]}{rest - ROOM // 2:+})"

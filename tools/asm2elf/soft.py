@@ -1,0 +1,51 @@
+"""Where soft items stand once the passes have moved pieces: an item is written as soon as all the pieces before it in the
+file have been."""
+from program import Mark
+
+
+def without_soft_labels(section, hard, taken):
+    """The pieces of a section, of which labels that nothing but debug information speaks of have become soft items, and
+    its soft items with the numbers of the pieces that they stand before."""
+    pieces, soft, waiting = [], [], list(reversed(section.soft))
+    for number, piece in enumerate(section.pieces):
+        while waiting and waiting[-1][0] <= number:
+            soft.append((len(pieces), waiting.pop()[1]))
+        if not piece.is_mark:
+            pieces.append(piece)
+        elif piece.name in hard:
+            pieces.append(Mark(piece.name, piece.inside, piece.name in taken))
+        else:
+            soft.append((len(pieces), f"{piece.name}:"))
+    return pieces, soft + [(len(pieces), text) for _, text in reversed(waiting)]
+
+
+class Order:
+    """The numbers of a section's pieces in the file, and its soft items."""
+
+    def __init__(self, pieces, soft):
+        self.soft = soft
+        self.numbers = {id(piece): number for number, piece in enumerate(pieces)}
+        self.marks = {piece.name: number for number, piece in enumerate(pieces) if piece.is_mark}
+        self.places = {}
+        for number, piece in enumerate(pieces):
+            if not piece.is_mark:
+                self.places.setdefault(piece.place, number)
+        self.kept = pieces  # so that no other piece gets the identity of one of these
+
+    def number_of(self, piece, last):
+        """The number of the piece of the file that one after the passes stands for, or of the one before it."""
+        if piece.is_mark:
+            return self.marks.get(piece.name, last)
+        if id(piece) in self.numbers:
+            return self.numbers[id(piece)]
+        return self.places.get(piece.place, last)
+
+    def least(self, pieces):
+        """For each piece the least number of it and of those after it: the items up to there come before it."""
+        found, last = [], 0
+        for piece in pieces:
+            last = self.number_of(piece, last)
+            found.append(last)
+        for index in range(len(found) - 2, -1, -1):
+            found[index] = min(found[index], found[index + 1])
+        return found

@@ -1,0 +1,60 @@
+"""What a file tells the linker and tools/sfi-image beside its code: how far beside an object its bases may lie, the frames of
+its functions, the format that it is for, and registers that the sandbox keeps for itself."""
+from assembly import Refused
+from dependences import reads, runs, writes
+from frames import deepest
+from instructions import is_access, written
+from layout import margins
+from typed import DATA, OWN, WORDS, largest_step
+
+MARGINS = (64, 128, 256, 512, 1024, 2304)  # the rooms beside an object that the linker script knows
+FORMAT_NAMES = {1: "1", 2: "2", WORDS: "words"}
+FRAMES = ".debug_sfi_frames"  # by this beginning the linker takes it for debug information, which keeps no function
+
+
+def weak_number(name):
+    return [f"\t.weak {name}", f"\t.set {name}, 1"]
+
+
+def margin_lines(ops, image_format):
+    """Weak absolute symbols, of which the linker script takes the largest."""
+    room = margins([op for op in ops if is_access(op)], [], largest_step(ops) if image_format == WORDS else 0)
+    for name, count in (("below", room.below), ("above", room.above)):
+        if count:
+            yield from weak_number(f"__sfi_{name}_{next(size for size in MARGINS if size >= count)}")
+
+
+def format_lines(image_format):
+    """A symbol by which the linker script sees code of two formats."""
+    return weak_number(f"__sfi_format_{FORMAT_NAMES[image_format]}")
+
+
+def frames(pieces):
+    """The functions of a section, and how far each moves the stack pointer in one go."""
+    name, found = None, {}
+    for run in runs(pieces):
+        first = pieces[run[0]]
+        if first.is_mark:
+            name = name if first.name.startswith(".") else first.name
+        elif name is not None:
+            size = deepest([pieces[number] for number in run])
+            found[name] = max(found.get(name, 0), size)
+    return found
+
+
+def frame_lines(sections):
+    """A section with the address of each function that has a frame, and the frame's size."""
+    found = {name: size for pieces in sections for name, size in frames(pieces).items() if size}
+    if found:
+        yield f'\t.section {FRAMES},"",@progbits'
+        yield from (f"\t.4byte {name}, {size}" for name, size in found.items())
+
+
+def check_registers(ops):
+    """Refuses an instruction that names one of the registers that code in words keeps for masks."""
+    for op in ops:
+        for name in sorted(reads(op) | writes(op)):
+            if name in OWN:
+                raise Refused(op.place, f"{name} is the sandbox's own register: compile with -ffixed-x{OWN[name]}")
+        if op.word in ("jal", "jalr") and written(op) in DATA:
+            raise Refused(op.place, f"{op.word} into {written(op)}, which holds an address of the data")

@@ -1,0 +1,71 @@
+"""Reads what an image needs of a linked ELF file of 32 bits: segments, sections and symbols."""
+import struct
+from dataclasses import dataclass
+
+LOADED, EXECUTABLE = 1, 1  # a segment's kind, and its flag
+SYMBOLS = 2  # a section's kind
+
+
+class Wrong(Exception):
+    """What is wrong with a file, in one line."""
+
+
+@dataclass(frozen=True)
+class Segment:
+    address: int
+    content: bytes
+    size: int  # in memory: the content, and then zeros
+    is_code: bool
+
+
+class Elf:
+    def __init__(self, path):
+        with open(path, "rb") as file:
+            self.content = file.read()
+        self.path = path
+        if self.content[:6] != b"\x7fELF\x01\x01" or self.content[16:20] != b"\x02\x00\xf3\x00":
+            raise Wrong(f"{path} is no linked ELF file of 32-bit RISC-V")
+        try:
+            self.entry, segments, sections = struct.unpack_from("<3I", self.content, 24)
+            size, count, header, headers, self.names = struct.unpack_from("<5H", self.content, 42)
+            self.segments = [self.segment(segments + number * size) for number in range(count)]
+            self.headers = [struct.unpack_from("<10I", self.content, sections + number * header) for number in range(headers)]
+            self.symbols = dict(self.read_symbols())
+        except (struct.error, IndexError, ValueError) as error:
+            raise Wrong(f"{path} is cut off, or no ELF file") from error
+
+    def segment(self, at):
+        kind, offset, address, _, stored, size, flags, _ = struct.unpack_from("<8I", self.content, at)
+        return kind, Segment(address, self.content[offset:offset + stored], size, bool(flags & EXECUTABLE))
+
+    def loaded(self):
+        """The segments that have bytes in memory."""
+        return [segment for kind, segment in self.segments if kind == LOADED and segment.size]
+
+    def text(self, section, offset):
+        """A name of a section of names."""
+        start = self.headers[section][4] + offset
+        return self.content[start:self.content.index(b"\0", start)].decode("utf-8", "replace")
+
+    def bytes_of(self, header):
+        return self.content[header[4]:header[4] + header[5]]
+
+    def section(self, name):
+        """A section's bytes, none where it isn't there."""
+        found = [header for header in self.headers if self.text(self.names, header[0]) == name]
+        return self.bytes_of(found[0]) if found else b""
+
+    def read_symbols(self):
+        for header in self.headers:
+            if header[1] == SYMBOLS:
+                for name, value, _, _, _, section in struct.iter_unpack("<3I2BH", self.bytes_of(header)):
+                    if section:
+                        yield self.text(header[6], name), value
+
+    def symbol(self, name):
+        if name not in self.symbols:
+            raise Wrong(f"{self.path} has no symbol {name}: link it by tools/sfi-elf, and leave its symbols there")
+        return self.symbols[name]
+
+    def function_at(self, address):
+        return next((name for name, value in self.symbols.items() if value == address), f"{address:#x}")

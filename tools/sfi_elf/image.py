@@ -1,0 +1,144 @@
+"""From linked ELF files to an image. docs/IMAGE.md has the format. Nothing here is trusted: `sfi check` reads the image."""
+import struct
+from dataclasses import dataclass
+
+from elf import Wrong
+
+FORMATS = {"1": b"SFI1", "2": b"SFI2", "words": b"SFIW"}  # the magic of each format
+LARGEST_CODE = {"1": 1 << 16, "2": 1 << 20, "words": 1 << 20}
+LARGEST_DATA = 1 << 20
+SMALLEST = 256  # bytes of a region
+GUARD = 4096
+MOST_SANDBOXES = 16
+DEFAULT_STACK = 8192
+TOP = 16  # the first stack pointer lies so far below the data's end
+BREAK = b"\x02\x90"  # c.ebreak fills the code up
+
+
+@dataclass(frozen=True)
+class Frame:
+    function: str
+    size: int
+
+
+def power(count):
+    """The least size of a region that has room for so many bytes."""
+    return max(SMALLEST, 1 << max(count - 1, 0).bit_length())
+
+
+def format_of(elf):
+    found = [name for name in FORMATS if f"__sfi_format_{name}" in elf.symbols]
+    if len(found) != 1:
+        raise Wrong(f"{elf.path} isn't code for a sandbox in one format: link it by tools/sfi-elf")
+    return found[0]
+
+
+def deepest_frame(elf):
+    """The largest frame of a function that the linker kept; others have an address below the code."""
+    frames = [(size, address) for address, size in struct.iter_unpack("<2I", elf.section(".debug_sfi_frames"))
+              if address >= elf.symbol("__sfi_code")]
+    size, address = max(frames, default=(0, 0))
+    return Frame(elf.function_at(address), size)
+
+
+def code_of(elf, image_format):
+    """The code region's bytes."""
+    text = b"".join(segment.content for segment in elf.loaded() if segment.is_code)
+    most = LARGEST_CODE[image_format]
+    if len(text) > most:
+        raise Wrong(f"{elf.path}: the code has {len(text)} bytes, {len(text) - most} more than format {image_format} has room for")
+    return text + BREAK * ((power(len(text)) - len(text)) // 2)
+
+
+def used_by(elf):
+    """The bytes of the data region up to the objects' end."""
+    used = elf.symbol("__sfi_end") - elf.symbol("__sfi_data")
+    if not 0 <= used <= LARGEST_DATA:
+        raise Wrong(f"{elf.path}: the data's end is {used} bytes above their beginning: link it by tools/sfi-elf")
+    return used
+
+
+def data_of(elf):
+    """The first bytes of the data region, up to the last that isn't zero."""
+    base = elf.symbol("__sfi_data")
+    content = bytearray(used_by(elf))
+    for segment in elf.loaded():
+        if segment.is_code:
+            continue
+        start = segment.address - base
+        if not 0 <= start <= start + len(segment.content) <= len(content):
+            raise Wrong(f"{elf.path}: bytes at {segment.address:#x} lie outside the data: link it by tools/sfi-elf")
+        content[start:start + len(segment.content)] = segment.content
+    return bytes(content).rstrip(b"\0")
+
+
+def data_size(elf, stack, wanted):
+    """The size of the data region: the one that is wanted, or the least that has room for the objects and the stack."""
+    used, above = used_by(elf), elf.symbol("__sfi_above") + TOP
+    stack = elf.symbols.get("__sfi_stack", DEFAULT_STACK) if stack is None else stack
+    size = wanted or power(used + above + stack)
+    if used + above + stack > size or size > LARGEST_DATA:
+        raise Wrong(f"{elf.path}: {used} bytes of data and {stack} of stack don't fit in {min(size, LARGEST_DATA)}")
+    frame, room = deepest_frame(elf), size - used - above
+    if frame.size > room:
+        raise Wrong(f"{elf.path}: the frame of {frame.function} has {frame.size} bytes, and the stack has room for {room}: "
+                    f"give --stack {frame.size + TOP} or more")
+    return size
+
+
+@dataclass(frozen=True)
+class Sandbox:
+    """What the image says of one sandbox."""
+    path: str
+    code_base: int
+    code: bytes
+    data_base: int
+    data_size: int
+    data: bytes
+    start: int
+    gates: tuple
+
+    def numbers(self):
+        return (self.code_base, len(self.code), self.data_base, self.data_size, self.start, len(self.gates), len(self.data))
+
+    def spans(self):
+        """The addresses that belong to it alone."""
+        return ((self.code_base, self.code_base + len(self.code)),
+                (self.data_base - GUARD, self.data_base + self.data_size + GUARD))
+
+    def check_place(self):
+        for what, base, size in (("code", self.code_base, len(self.code)), ("data", self.data_base, self.data_size)):
+            if base % size:
+                raise Wrong(f"{self.path}: the {what} has {size} bytes, and lies at {base:#x}, which is no multiple of that")
+
+    def written(self):
+        head = struct.pack("<7I", *self.numbers())
+        return head + b"".join(struct.pack("<2I", *gate) for gate in self.gates) + self.code + self.data
+
+
+def sandbox_of(elf, stack, wanted):
+    gates = tuple(sorted(struct.iter_unpack("<2I", elf.section(".sfi.gates"))))
+    made = Sandbox(elf.path, elf.symbol("__sfi_code"), code_of(elf, format_of(elf)), elf.symbol("__sfi_data"),
+                   data_size(elf, stack, wanted), data_of(elf), elf.entry, gates)
+    made.check_place()
+    return made
+
+
+def check_apart(sandboxes):
+    spans = sorted((*span, made.path) for made in sandboxes for span in made.spans())
+    for (_, end, first), (start, _, second) in zip(spans, spans[1:]):
+        if start < end:
+            raise Wrong(f"{first} and {second} lie at one place: link each with a --sandbox of its own")
+
+
+def image(elfs, stack=None, wanted=None):
+    """The image of some ELF files, each a sandbox, in their order."""
+    if len(elfs) > MOST_SANDBOXES:
+        raise Wrong(f"{len(elfs)} sandboxes, and an image has {MOST_SANDBOXES} at most")
+    formats = {format_of(elf): elf.path for elf in elfs}
+    if len(formats) > 1:
+        raise Wrong(f"{' and '.join(formats.values())} are of different formats")
+    sandboxes = [sandbox_of(elf, stack, wanted) for elf in elfs]
+    check_apart(sandboxes)
+    magic = FORMATS[format_of(elfs[0])]
+    return magic + struct.pack("<I", len(elfs)) + b"".join(made.written() for made in sandboxes)

@@ -1,0 +1,57 @@
+"""What each program is linked with: where it begins, the gates that it calls, and the functions that compilers call. These
+are made once for a format, and kept."""
+import glob
+import os
+
+from compilers import TOOLS, compiled, ran, version
+from gates import SERVICES, stub
+from kept import kept
+from tools import archived, assembled, binutil, rewritten
+
+LIB = os.path.join(TOOLS, "asm2elf", "lib")
+CONVERTER = os.path.join(TOOLS, "asm2sfi")
+SCRIPT = os.path.join(LIB, "sandbox.ld")
+FUNCTIONS = [os.path.join(CONVERTER, "runtime.asm"), os.path.join(CONVERTER, "runtime", "atomics.asm")]
+OVERRIDDEN = ("memcpy", "memmove", "memset", "memcmp", "strlen")  # a program may have its own
+MADE_OF = ("asm2elf/*.py", "asm2elf/lib/*.[cs]", "asm2sfi/*.py", "asm2sfi/*.asm", "asm2sfi/runtime/*.asm",
+           "sfi_cc/compilers.py", "sfi_elf/gates.py", "sfi_elf/runtime.py", "sfi_elf/tools.py")
+
+
+def read(path):
+    with open(path, encoding="utf-8") as file:
+        return file.read()
+
+
+def ingredients(compiler, image_format):
+    files = sorted(path for pattern in MADE_OF for path in glob.glob(os.path.join(TOOLS, pattern)))
+    return [image_format, compiler, version(compiler), version(binutil("as")), *(read(path) for path in files)]
+
+
+def object_of(folder, name, assembly, image_format):
+    """The path of an object file that is made of a compiler's assembly."""
+    output = os.path.join(folder, name + ".o")
+    assembled(rewritten(assembly, image_format), output)
+    return output
+
+
+def gate_object(folder, name, service, image_format):
+    output = os.path.join(folder, name + ".o")
+    assembled(stub(name, service, image_format).encode(), output)
+    return output
+
+
+def make(folder, compiler, image_format):
+    """Fills a folder with crt0.o, libgates.a and libruntime.a."""
+    object_of(folder, "crt0", os.path.join(LIB, "crt0.s"), image_format)
+    archived(os.path.join(folder, "libgates.a"),
+             [gate_object(folder, name, service, image_format) for name, service in SERVICES.items()])
+    assembly, _ = compiled(compiler, [], os.path.join(LIB, "constructors.c"), os.path.join(folder, "constructors"))
+    objects = [object_of(folder, "constructors", assembly, image_format)]
+    for path in FUNCTIONS:
+        objects.append(object_of(folder, os.path.splitext(os.path.basename(path))[0], path, image_format))
+        ran([binutil("objcopy"), *(f"--weaken-symbol={name}" for name in OVERRIDDEN), objects[-1]])
+    archived(os.path.join(folder, "libruntime.a"), objects)
+
+
+def folder_of(compiler, image_format):
+    return kept("elf-runtime", ingredients(compiler, image_format), lambda folder: make(folder, compiler, image_format))

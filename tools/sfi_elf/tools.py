@@ -1,0 +1,30 @@
+"""Runs asm2elf and binutils."""
+import os
+import sys
+
+from compilers import TOOLS, ran
+
+BINUTILS = os.environ.get("SFI_BINUTILS", "riscv64-unknown-elf-")  # what the names of as, ar, ld begin with
+ASM2ELF = os.path.join(TOOLS, "asm2elf")
+AS = ["-march=rv32imc", "-mabi=ilp32", "-mno-relax", "-mno-arch-attr"]
+
+
+def binutil(name):
+    return BINUTILS + name
+
+
+def assembled(text, output):
+    """Assembles a text to an object file; what `as` says."""
+    return ran([binutil("as"), *AS, "-o", output, "-"], text)[1]
+
+
+def rewritten(assembly, image_format, passes=None):
+    """The GNU assembly of a compiler's."""
+    chosen = [] if passes is None else [f"--passes={passes}"]
+    return ran([sys.executable, "-B", ASM2ELF, f"--format={image_format}", *chosen, assembly])[0]
+
+
+def archived(output, objects):
+    if os.path.exists(output):
+        os.remove(output)
+    ran([binutil("ar"), "rcs", output, *objects])
