@@ -77,7 +77,7 @@ only_fault Is given text never (Err g) (ok, inl h) f is = inr h
 only_fault Is given text never (Err g) (ok, inr h) f is = inl (one_build_fault given text g f h is)
 
 -- where no place is given, no fault is that of a place
-pub never_place_built : (given : List Place) (text : List ℕ) (r : Result (Vec ℕ Global) BuildFault) → IfErr r (λ f. IsWantOfMemory f ⊎ IsBuildFault given text f)
+pub never_place_built : {X : Type 0} (given : List Place) (text : List ℕ) (r : Result X BuildFault) → IfErr r (λ f. IsWantOfMemory f ⊎ IsBuildFault given text f)
     → given ≡ [] → (k : ℕ) → r ≢ Err (Link (fault.Place k))
 never_place_built given text r wrong none k e =
     elim (subst (λ x. IfErr x (λ f. IsWantOfMemory f ⊎ IsBuildFault given text f)) e wrong) [

@@ -109,6 +109,10 @@ pub fn names_at(alloc: Global, text: &str, places: &[Place]) -> Result<Vec<NameA
     ensures only_fault { (f : BuildFault)
         → IsBuildFault places.now text.now f → AnswersBuildFault f result }
 
+    // Where no place is given, no fault is that of a place.
+    ensures no_place { places.now ≡ []
+        → (sandbox : ℕ) → result ≢ Err (Link (fault.Place sandbox)) }
+
     // Of a text above its limit, whatever memory there is.
     ensures too_long { most_bytes < length text.now → result ≡ Err (Text (first_line Limit)) }
 {

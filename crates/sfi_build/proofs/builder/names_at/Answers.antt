@@ -1,5 +1,5 @@
 use Rattle.sfi_build.specs.Texts.{IsTextMap}
-use Rattle.sfi_build.proofs.Building.{one_map, never_built, only_one, only_fault}
+use Rattle.sfi_build.proofs.Building.{one_map, never_built, only_one, only_fault, never_place_built}
 use Rattle.sfi_build.proofs.builder.names_at.Goals as goal
 
 pub returns-clause-only_mapped : goal.returns-clause-only_mapped
@@ -9,3 +9,6 @@ returns-clause-only_mapped c =
 pub returns-clause-only_fault : goal.returns-clause-only_fault
 returns-clause-only_fault c =
     only_fault (IsTextMap c.args.places.now c.args.text.now) _ _ (λ entries f is. never_built _ _ is.bytes f is.build) _ (c.map_of.ensures.mapped, c.map_of.ensures.fault)
+
+pub returns-clause-no_place : goal.returns-clause-no_place
+returns-clause-no_place c = never_place_built _ _ _ c.map_of.ensures.fault
