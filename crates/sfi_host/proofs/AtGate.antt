@@ -30,11 +30,11 @@ gate_found : (gs : List Gate) (at : ℕ) (g : Gate) → Contains gs g → g.addr
 gate_found [] at g c e = let below = c.1 in absurd (omega (arith, below))
 gate_found (x ∷ gs) at g c e = elim (x.address == at) as (λ t. (x.address == at) ≡ t → IsFound (x ∷ gs) at) [
   | true ↦ λ t. record {
-        gate = x;
-        among = (0, omega arith, refl);
-        address = eqb-true x.address at t;
-        service = ap (λ (b : Bool). cond b x.service (service_at gs at)) t;
-      }
+    gate = x;
+    among = (0, omega arith, refl);
+    address = eqb-true x.address at t;
+    service = ap (λ (b : Bool). cond b x.service (service_at gs at)) t;
+  }
   | false ↦ λ t.
       let rest = gate_found gs at g (later x gs g c (λ same. eqb-false x.address at t (ap (λ (y : Gate). y.address) same ∙ e))) e in
       let below = rest.among.1 in

@@ -53,7 +53,11 @@ fn waiting_world(rt: &impl Abort, alloc: Global) -> Result<World<Segments>, Fail
     let image = build(alloc, text).expect(rt, "built");
     let accepted = check(alloc, image.as_slice()).expect(rt, "accepted");
     let mut world = World::load(alloc, &accepted, Segments::new(alloc))?;
-    assert!(rt; world.run_to_call(turn(0)).is_some_and(|asked| asked.service == 1));
+    assert!(rt;
+        world
+            .run_to_call(turn(0))
+            .is_some_and(|asked| asked.service == 1)
+    );
     Ok(world)
 }
 
@@ -73,7 +77,10 @@ fn a_sandbox_that_waits_is_stopped(rt: HostRuntime) -> Result<(), Fail> {
     let steps = world.steps(0);
     assert!(rt; world.stop(0));
     assert!(rt; takes_nothing(&mut world));
-    assert_eq!(rt; (world.status(0), world.steps(0)), (Some(Status::Stopped), steps));
+    assert_eq!(rt;
+        (world.status(0), world.steps(0)),
+        (Some(Status::Stopped), steps)
+    );
     assert!(rt; world.enter(0, 0x0100_0000, &ARGUMENTS));
     assert_eq!(rt; world.status(0), Some(Status::Ready));
     Ok(())
