@@ -1,7 +1,7 @@
 -- A sandbox that waits is at one of its gates.
 use Rattle.std.specs.Prelude.{IfSome}
 use Rattle.std.proofs.lemmas.List.Elements.{All-contains}
-use Rattle.sfi_host.proofs.Prelude.{◌≡◌, ℕ, zero, suc, ◌<◌, ◌≤◌, ◌==◌, Bool, true, false, cond, List, [], ◌∷◌, length, Option, Some, None, slice_get, refl, sym, ap, ◌∙◌, subst, arith, eqb-true, eqb-false, Contains, Bytes, State, Stepped, Stands, Ecall, Slot, Bounds, Seat, Sandboxes, slot_of, slots_of, state_in, IsSafeSeat, IsSafeWorld, Ready, Call, service_at, state_of}
+use Rattle.sfi_host.proofs.Prelude.{◌≡◌, ℕ, zero, suc, ◌≤◌, ◌==◌, Bool, true, false, cond, List, [], ◌∷◌, Option, Some, None, refl, sym, ap, ◌∙◌, subst, arith, eqb-true, eqb-false, Contains, Bytes, State, Stepped, Stands, Ecall, Slot, Bounds, Seat, Sandboxes, slot_of, slots_of, state_in, IsSafeSeat, IsSafeWorld, Ready, Call, service_at, state_of}
 use Rattle.rv_step.specs.declared.outcome.Outcome.TheVariants.{Call as Calls}
 use Rattle.sfi_policy.specs.Limits.{service_most}
 use Rattle.sfi_image.specs.declared.part.Gate.{Gate}

@@ -1,4 +1,4 @@
-use Rattle.sfi_host.proofs.Prelude.{◌≡◌, ◌↔◌, IsTrue, true, set, slice_get, Some, refl, sym, ◌∙◌, subst, arith, slice_get_past, same_Some, Sandbox, Ready, seat_of, world_of, slot_of}
+use Rattle.sfi_host.proofs.Prelude.{◌≡◌, true, set, slice_get, Some, refl, sym, ◌∙◌, subst, arith, slice_get_past, same_Some, Sandbox, Ready, seat_of, world_of, slot_of}
 use Rattle.sfi_host.proofs.Asked.{found}
 use Rattle.sfi_host.proofs.Changing.{others_same}
 use Rattle.sfi_host.proofs.Stopping.{HasStopped, has_stopped, none_ready, ready_where}
