@@ -31,16 +31,16 @@
  * - No call is made in a signal handler, nor in the forked child of a process that had threads. None is left by longjmp,
  *   by a C++ exception or by ending its thread: during a call, also one that only looks, the struct says that there is no
  *   world, and so the world of a call that is left is lost. What bounds the time of a turn is the number of its steps.
- * - Each pointer is not NULL and is aligned, also where its length is 0. `length` bytes at it can be read, and `room` bytes
- *   written where it isn't const, and are fewer than PTRDIFF_MAX. What the arguments of a call point to doesn't overlap.
- *   No value has to be in what a call is to write.
+ * - Each pointer is not NULL and is aligned, also where its length is 0. `length` bytes at it can be read, or `room` bytes
+ *   written, and these are fewer than PTRDIFF_MAX. What the arguments of a call point to doesn't overlap. No value has to
+ *   be in what a call is to write.
  * - Nothing else reads or writes what the arguments point to during the call: no thread, and no other process that shares
  *   the memory. sfi_run_load reads the image twice, to check it and to copy it: an image in a mapped file (mmap) that
  *   changes in between isn't what was checked, and the theorem says nothing of it. Read the file into memory of your own.
  * - What malloc, realloc and free are to the library's heap.c is one allocator, which keeps what the C standard says.
  *
  * What a host need not fear: a sandbox's number that is too large, an address outside its data, or a reply where none is
- * due. Such a call answers so, and changes nothing. No world is right in every call: it has no sandbox.
+ * due. Such a call answers so, and changes nothing. A struct without a world is right in every call: it has no sandbox.
  *
  * What a sandbox leaves in its data, and passes in a call, may be any bytes and numbers at all, lengths too: test them
  * before you rely on them.
