@@ -8,7 +8,7 @@
 static inline void load_file(const char *name, struct sfi_run_world *world) {
     static uint8_t image[1 << 26]; /* more than the longest right image */
     struct sfi_verdict verdict;
-    if (sfi_run_version() != SFI_RUN_VERSION_NUMBER) {
+    if (sfi_run_version() / 256 != SFI_RUN_VERSION_NUMBER / 256) {
         fprintf(stderr, "the library is of another version than its header\n");
         exit(6);
     }

@@ -51,7 +51,7 @@ static std::vector<uint8_t> run(World &world, uint32_t i, uint64_t steps) {
 }
 
 int main(int count, char **words) {
-    if (count != 2 || sfi_run_version() != SFI_RUN_VERSION_NUMBER)
+    if (count != 2 || sfi_run_version() / 256 != SFI_RUN_VERSION_NUMBER / 256)
         return 3;
     std::ifstream file(words[1], std::ios::binary);
     World loaded(std::vector<uint8_t>(std::istreambuf_iterator<char>(file), {}));

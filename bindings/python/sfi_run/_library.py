@@ -78,7 +78,7 @@ def places() -> list[str]:
 
 
 def _version_number() -> int:
-    """`SFI_RUN_VERSION_NUMBER` of the header that this package goes by."""
+    """`SFI_RUN_VERSION_NUMBER` of the header that this package goes by, which has to agree in major and minor."""
     from . import __version__
     return int.from_bytes(bytes(map(int, __version__.split("."))), "big")
 
@@ -104,7 +104,7 @@ class Library:
                 raise _other_version(handle)
             function.restype, function.argtypes = result, arguments
             self._functions[name] = function
-        if self["version"]() != _version_number():
+        if self["version"]() // 256 != _version_number() // 256:
             raise _other_version(handle)
 
     def __getitem__(self, name: str) -> Callable[..., Any]:

@@ -132,9 +132,12 @@ class Loading(unittest.TestCase):
         self.assertEqual(world[0].steps, 0)
 
     def test_a_library_of_another_version(self):
-        with mock.patch.object(sfi_run, "__version__", "77.0.1"):
-            with self.assertRaisesRegex(OSError, "another version"):
+        major, minor, patch = sfi_run.__version__.split(".")
+        for version in (f"77.{minor}.{patch}", f"{major}.{int(minor) + 1}.{patch}"):
+            with mock.patch.object(sfi_run, "__version__", version), self.assertRaisesRegex(OSError, "another version"):
                 sfi_run.Library()
+        with mock.patch.object(sfi_run, "__version__", f"{major}.{minor}.{int(patch) + 1}"):
+            sfi_run.Library()
 
     def test_answers_that_are_unknown(self):
         library = sfi_run.Library()

@@ -53,8 +53,8 @@ pub enum LoadError {
     NoImage(u32),
     /// The image is accepted, and there was no memory for its world.
     NoMemory,
-    /// The library that is linked isn't of this crate's version, but of the one with this number: major, minor and patch in
-    /// the bits from 16, 8 and 0 on.
+    /// The library that is linked doesn't agree with this crate's version in major and minor: it has this number, with major,
+    /// minor and patch in the bits from 16, 8 and 0 on.
     OtherVersion(u32),
 }
 
@@ -234,7 +234,7 @@ impl World {
         };
         // SAFETY: it takes nothing.
         let version = unsafe { sys::sfi_run_version() };
-        if version != sys::VERSION_NUMBER {
+        if version / 256 != sys::VERSION_NUMBER / 256 {
             return Err(LoadError::OtherVersion(version));
         }
         let mut verdict = sys::Verdict::default();

@@ -69,8 +69,8 @@ extern "C" {
 #endif
 
 /*
- * The version of the library that is linked, or loaded, as a number. Where it isn't SFI_RUN_VERSION_NUMBER of the header
- * with which the host was compiled, make no other call.
+ * The version of the library that is linked, or loaded, as a number. Where it doesn't agree with SFI_RUN_VERSION_NUMBER in
+ * major and minor (the numbers over 256), the library isn't that of this header: make no other call.
  */
 uint32_t sfi_run_version(void);
 
