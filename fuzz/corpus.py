@@ -38,10 +38,17 @@ def small_accepted(pick):
     format = pick.choice([1, 2, 3])
     if format == 3 and pick.random() < 0.7:
         return odd_words.image([odd_words.made_code(pick, 256) for _ in range(pick.choice([1, 1, 2]))])
-    kind, seed, is_twin = pick.choice(images.KINDS), pick.getrandbits(32), format == 1 and pick.random() < 0.5
-    shape = pick.choice([1, 1, 2, 3]), pick.choice([256, 512]), pick.choice([0, 3])
-    data = images.image(kind, *shape, 2 if is_twin else format, seed)
-    return images.MAGICS[format] + data[4:]  # a twin keeps the rules of the first two formats
+    return random_accepted(pick, format)
+
+
+def random_accepted(pick, format):
+    kind, seed = pick.choice(images.KINDS), pick.getrandbits(32)
+    return images.image(kind, pick.choice([1, 1, 2, 3]), pick.choice([256, 512]), pick.choice([0, 3]), format, seed)
+
+
+def twin(pick):
+    """An image of the first format that keeps the rules of the second, too."""
+    return images.MAGICS[1] + random_accepted(pick, 2)[4:]
 
 
 def accepted(pick, program):

@@ -41,7 +41,7 @@ class Mutants:
 
     def try_one(self, pick):
         changes = corpus.CODE_CHANGES if pick.random() < 0.6 else corpus.CHANGES
-        data = corpus.accepted(pick, self.builder)
+        data = corpus.accepted(pick, self.builder) if pick.random() < 0.9 else corpus.twin(pick)
         if pick.random() < 0.85:
             data = corpus.mutant(pick, data, tuple(changes))
         verdict, text = self.judge.verdict(data), data.hex().encode()
@@ -106,7 +106,7 @@ class Mutants:
 
 
 def main(words=None):
-    parser = fuzzing.options(__doc__, 100)
+    parser = fuzzing.options(__doc__, 80)
     parser.add_argument("--plant", action="append", default=[], metavar="RULE", help="leave this rule out of what is expected")
     given = parser.parse_args(words)
     if not fuzzing.has_gcc():

@@ -64,7 +64,7 @@ class Judge:
         self.checker = measure.compiled("checker.c", os.path.join(folder, "checker"))
         self.path = os.path.join(folder, "judged")
         self.but = frozenset(but)
-        self.verdict = functools.lru_cache(maxsize=256)(self._verdict)
+        self.verdict, self.c_lines = (functools.lru_cache(maxsize=64)(it) for it in (self._verdict, self._c_lines))
 
     def _verdict(self, data):
         try:
@@ -81,7 +81,8 @@ class Judge:
         lines = self.c_lines(data)[:-1]
         return [it for it in map(finding_of_line, lines) if it[2] not in self.but]
 
-    def c_lines(self, data):
+    def _c_lines(self, data):
+        """What the checker in C lists."""
         measure.written(self.path, data)
         return fuzzing.output([self.checker, "--list", self.path]).splitlines()
 
