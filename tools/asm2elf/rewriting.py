@@ -2,7 +2,7 @@
 import re
 
 from hoisting import with_hoisted_masks
-from improving import PASSES
+from improving import PASSES, improved_words
 from in_bundles import InBundles
 from in_words import InWords
 from known import with_known_places
@@ -15,7 +15,6 @@ from soft import Order, without_soft_labels
 from telling import check_registers, format_lines, frame_lines, margin_lines
 from trampolines import check_trampolines
 from typed import WORDS
-from improving import improved_words
 from unit import Unit
 
 SECTION = "..section "  # begins the name of a mark that stands before the code of a section
