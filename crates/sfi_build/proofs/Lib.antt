@@ -1,3 +1,4 @@
 pub mod Building
 pub mod SomeBuilding
 pub mod Labels
+pub mod Facts

@@ -7,7 +7,6 @@
 
 mod build_fault;
 mod builder;
-pub mod laws;
 
 pub use build_fault::BuildFault;
 pub use builder::{build, build_at, names_at};

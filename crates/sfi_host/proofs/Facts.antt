@@ -1,7 +1,26 @@
--- That there is a machine, and that plans may be run in pieces: laws, for proofs here and in the crates above.
-use Rattle.rv_step.proofs.Facts.{some_step}
-use Rattle.sfi_host.specs.Laws.{SomeMachine}
+-- What holds of the definitions, of safe worlds and of plans: laws, for proofs here and in the crates above.
+use Rattle.rv_step.proofs.Facts.{one_step, some_step}
+use Rattle.sfi_host.specs.Laws.{SomeMachine, OneMachine, NeighboursAreChanges, CallsAreTyped, AnswersAreReplies}
+use Rattle.sfi_host.specs.Steps.{StepsAreOwn}
+use Rattle.sfi_host.proofs.Neighbours as neighbours
+use Rattle.sfi_host.proofs.OwnSteps as own
+use Rattle.sfi_host.proofs.SafeSeats as seats
 pub use Rattle.sfi_host.proofs.Continuing.{plans_follow}
 
 pub some_machine : SomeMachine
 some_machine = (λ s. (some_step s).0, record { steps = λ s. (some_step s).1 })
+
+pub one_machine : OneMachine
+one_machine machine other is too s = one_step s (machine s) (other s) (is.steps s) (too.steps s)
+
+pub steps_are_own : StepsAreOwn
+steps_are_own = own.steps_own
+
+pub neighbours_are_changes : NeighboursAreChanges
+neighbours_are_changes = neighbours.neighbours_are
+
+pub calls_are_typed : CallsAreTyped
+calls_are_typed = seats.calls_typed
+
+pub answers_are_replies : AnswersAreReplies
+answers_are_replies = seats.answers_are

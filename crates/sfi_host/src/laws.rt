@@ -1,21 +1,10 @@
-//! What holds of the definitions and of every run. A call costs nothing.
+//! What holds of plans and of their joint runs, with hosts of any state. The other laws are in
+//! proofs/Facts.
 ghost use Rattle.sfi_host.specs.Following.{JoinedFollows, JointFollows, PlansFollow, CutFollows, CutIsShorter, RetryFollows};
 ghost use Rattle.sfi_host.specs.LaterReplies.{ToCallIsJoint, ReplyIsAnswer, WritesAreReplies};
-ghost use Rattle.sfi_host.specs.Laws.{SomeMachine, OneMachine, NeighboursAreChanges, CallsAreTyped, AnswersAreReplies};
 ghost use Rattle.sfi_host.specs.Moves.{JoinedMoves, JointMoves};
 ghost use Rattle.sfi_host.specs.Solo.{JoinedIsSolo, JointIsSolo};
-ghost use Rattle.sfi_host.specs.Steps.{StepsAreOwn};
 ghost use Rattle.sfi_host.specs.Turns.{TurnsAreCounted, WaitsThroughTurns, PlansStopNone};
-
-/// There is a machine.
-pub fn some_machine()
-    ensures { SomeMachine }
-{}
-
-/// There is one machine alone.
-pub fn one_machine()
-    ensures { OneMachine }
-{}
 
 /// What a sandbox comes to among others is what it comes to alone with the replies that it got.
 /// `S` is a host's state.
@@ -50,33 +39,6 @@ pub fn plans_follow<S>()
     // than it allows; so a plan that is tried after it follows that one.
     ensures cut { CutIsShorter S }
     ensures retried { RetryFollows S }
-{}
-
-/// A step of a sandbox that is safe is, alone, the same step in its own memory; it leaves all but
-/// its data, and leaves it safe. If it traps, it does so at an ebreak,
-/// or at a load or store that touches a guard zone.
-pub fn steps_are_own()
-    ensures { StepsAreOwn }
-{}
-
-/// What one sandbox of a safe world makes of its own data is, to each other one, a change by
-/// others: that keeps its pc, registers, code and empty guard zones.
-#[tactic(auto, using(crate::proofs::Neighbours::neighbours_are))]
-pub fn neighbours_are_changes()
-    ensures { NeighboursAreChanges }
-{}
-
-/// The typed registers of a sandbox of a safe world that is ready and stands at an ecall hold what
-/// their types say.
-pub fn calls_are_typed()
-    ensures { CallsAreTyped }
-{}
-
-/// A host's reply to a sandbox that goes on, where the memory outside its data stays, keeps its x24
-/// to x27, code and empty guard zones, and goes on after the ecall;
-/// typed registers that hold what their types say still do.
-pub fn answers_are_replies()
-    ensures { AnswersAreReplies }
 {}
 
 /// What the joint run does from a safe world is a list of moves in the one memory: step by step and

@@ -1,0 +1,10 @@
+-- What holds of every text: the laws.
+use Rattle.sfi_build.specs.Laws.{SomeBuilding, CodeLabelsBeginUnits}
+use Rattle.sfi_build.proofs.Labels as labels
+use Rattle.sfi_build.proofs.SomeBuilding as some
+
+pub some_building : SomeBuilding
+some_building = some.some_building
+
+pub code_labels_begin_units : CodeLabelsBeginUnits
+code_labels_begin_units = labels.code_labels_begin_units
