@@ -237,7 +237,7 @@ says_so() { # what is tried, what is wanted, and a command
 
 header_in_c() {
     local checked=(gcc -std=c11 "${warnings[@]}" -D_POSIX_C_SOURCE=200809L -pthread)
-    local wrapped=-Wl,--wrap=malloc,--wrap=realloc,--wrap=free images=()
+    local wrapped=-Wl,--wrap=malloc,--wrap=realloc,--wrap=free images=() format
     succeeds "calls.c" "${checked[@]}" "$here/calls.c" "$room/lib/libsfi_run.a" -o "$room/calls"
     succeeds "threads.c" "${checked[@]}" "$here/threads.c" "$room/lib/libsfi_run.a" -o "$room/threads"
     succeeds "memory.c" "${checked[@]}" "$here/memory.c" "$room/lib/libsfi_run.a" $wrapped -o "$room/memory"
