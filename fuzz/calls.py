@@ -208,7 +208,7 @@ def main(words=None):
         new_library, version, why = open_library(given.library, folder, lambda: worlds.Model(judge))
         if why:
             return fuzzing.all_skipped(len(NAMES), "calls of libsfi_run", why)
-        tally = fuzzing.Tally(*(NAMES if given.round is None else []))
+        tally = fuzzing.tally_of(parser, given, NAMES)
         tally.see("version", worlds.header_version(), version)
         faulthandler.enable()
         model, images = worlds.PLANTS.get(given.plant, worlds.Model), image_maker(program, judge)

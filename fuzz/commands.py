@@ -135,7 +135,7 @@ def main(words=None):
     given = parser.parse_args(words)
     if not fuzzing.has_gcc():
         return fuzzing.all_skipped(len(NAMES), "commands beside the independent rules", "gcc isn't there")
-    tally = fuzzing.Tally(*(NAMES if given.round is None else []))
+    tally = fuzzing.tally_of(parser, given, NAMES)
     program = measure.program_at(given.program)
     with tempfile.TemporaryDirectory() as folder:
         commands = Commands(program, verdicts.Judge(folder, given.plant), tally)

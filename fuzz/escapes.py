@@ -159,7 +159,7 @@ def main(words=None):
     parser.add_argument("--plant", action="append", default=[], metavar="RULE", help="take images that break this rule")
     given = parser.parse_args(words)
     program = measure.program_at(given.program)
-    tally = fuzzing.Tally(*(NAMES if given.round is None and not given.plant else []))
+    tally = fuzzing.tally_of(parser, given, [] if given.plant else NAMES)
     findings = functools.partial(corpus.findings_of, program)
     for tally.case, pick in fuzzing.cases(given):
         data = try_image(pick, candidate(pick, program), findings, given.plant, tally)

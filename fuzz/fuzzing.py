@@ -30,6 +30,12 @@ def options(about, rounds):
     return parser
 
 
+def tally_of(parser, given, names):
+    """A tally that asks for each of these comparisons, where no fewer cases were asked for than make them."""
+    is_whole = given.round is None and given.rounds >= parser.get_default("rounds")
+    return Tally(*(names if is_whole else []))
+
+
 def cases(given):
     """For each case the seed and number that repeat it, and its source of random numbers."""
     begun, further = time.monotonic(), itertools.count(given.seeds[-1] + 1)
