@@ -38,14 +38,14 @@ try_program() { # program, format
     done <expected.txt
 }
 
-# A program by both ways answers alike; by ELF it takes at most a tenth more steps.
+# By ELF a program takes at most a fiftieth more steps.
 compare_steps() { # program, format
     local input now today
     input=$(grep "^$1 " expected.txt | cut -d' ' -f2 | tail -n 1)
     today=$(run_image "$room/$1.$2.today" "$(./inputs.py "$input" | digits_of)" | sed 's/.*steps=\([0-9]*\).*/\1/')
     now=$(cat "$room/steps.$1.$2.$input")
     echo "$1, format $2, $input: $now steps, $today by sfi-cc, ratio $(awk -v n="$now" -v t="$today" 'BEGIN { printf "%.3f", n / t }')"
-    report "$1, format $2: steps at most a tenth more" yes "$([ $((now * 10)) -le $((today * 11)) ] && echo yes || echo "$now, $today")"
+    report "$1, format $2: steps at most a fiftieth more" yes "$([ $((now * 50)) -le $((today * 51)) ] && echo yes || echo "$now, $today")"
 }
 
 # What a command says that has to fail in status 1: its first line.
