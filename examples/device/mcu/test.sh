@@ -192,8 +192,9 @@ try_chip() {
     on=(--chip "$chip")
     try_sources
     try_accesses 1 a0 "${accesses[@]}"
-    # By turns in the other sandbox, where there are two
-    try_accesses words gp "${accesses[@]:1}" "${accesses[0]}"
+    # Each of them in the other sandbox, too
+    [ "$sandboxes_most" != 2 ] || try_accesses 1 a0 "${accesses[@]:1}" "${accesses[0]}"
+    try_accesses words gp "${accesses[@]}"
     try_far "$sandboxes_most"
     try_handler
     try_open_guards
