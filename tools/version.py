@@ -31,6 +31,7 @@ PLACES = [
 NUMBERS = [
     ("crates/sfi_c/src/version.rt", r"\bVERSION_NUMBER: u32 = (.*);"),
     ("crates/sfi_c/include/sfi.h", r"#define SFI_VERSION_NUMBER (.*)"),
+    ("crates/sfi_run/src/version.rt", r"\bVERSION_NUMBER: u32 = (.*);"),
     ("crates/sfi_run/include/sfi_run.h", r"#define SFI_RUN_VERSION_NUMBER (.*)"),
 ]
 

@@ -1,8 +1,8 @@
 //! The version of this library.
 ghost use Rattle.std.specs.Prelude.{◌≡◌};
 
-/// Its major number times 65536, its minor number times 256, and its patch number.
-const VERSION_NUMBER: u32 = 0 * 65536 + 1 * 256 + 0;
+/// The version as a number: 65536 for each major version, 256 for each minor and 1 for each patch.
+const VERSION_NUMBER: u32 = 0x000100;
 
 /// The version of this library, as a number: `SFI_RUN_VERSION_NUMBER` of the header that it came with.
 #[unsafe(no_mangle)]
