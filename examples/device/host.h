@@ -15,7 +15,7 @@ enum {
     FORMAT_OF_WORDS = 3,
     BUNDLE = 16,
     WORD = 4,
-    GUARD_ZONE = 4096,
+    GUARD_ZONE = 4096, /* on each side of the data: every access there has to trap, and the sandbox ends by it */
     CALL_BYTES_MOST = 65536,
     MAILBOX_WORDS = 16,
     ENTRY_ARGUMENTS = 8
@@ -128,7 +128,8 @@ enum outcome serve(struct world *world, struct call *call);
 
 /* interrupts.c, or a vendor's file in its place. start_interrupts is called before the first turn.
    answer_interrupt is called at each interrupt but the timer's, with its cause less CAUSE_INTERRUPT, and
-   answers whether it knows that one: then the turn goes on, else the sandbox ends */
+   answers whether it knows that one: then the turn goes on, else the sandbox ends. It must not know one by
+   which the processor tells of an access that failed: going on then lets code of the third format out */
 void start_interrupts(void);
 bool answer_interrupt(uint32_t cause);
 

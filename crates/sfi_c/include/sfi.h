@@ -10,10 +10,10 @@
  * region. In the third, SFIW, six registers aren't: x2, x3, x4 and x29 lie in the data region or at most 1020 bytes
  * beside it, x30 is a multiple of 4 in the code region, and x31 is less than the data's size. This is proved of the
  * calls below. The library loads and runs nothing: the caller sees to it that memory, host and neighbours are as the
- * theorem asks (README.md has it with its premises). One of these is that an access with a byte in a guard zone traps, a
- * load into x0 too, and that this ends the sandbox's run: it goes on by a new entry alone. In the third format a host that
- * completes such an access, or steps over it, lets the sandbox out; in the first two nothing is lost by that. A host that
- * steps over an ebreak lets it out in each format.
+ * theorem asks (README.md has it with its premises). One of these is that a trap ends the sandbox's run: it goes on by a
+ * new entry alone. A host that steps over an ebreak lets it out in each format. And an access with a byte in a guard zone
+ * traps: in the third format a host that completes such an access, or steps over it, lets the sandbox out (no rule rests on
+ * the trap of a load into x0); in the first two that is harmless as long as nothing is in the guard zones.
  *
  * The calls read nothing but their arguments, keep nothing elsewhere from one to the next, start no thread, read no file
  * and write none. Any number of threads may call them at once. They return whatever the bytes of the image are; the time
@@ -180,7 +180,7 @@ struct sfi_part {
     uint32_t code_base; /* the code region: its first address .. */
     uint32_t code_size; /* .. and how many bytes it has, all of which are in the image */
     uint32_t data_base; /* the data region: its first address .. */
-    uint32_t data_size; /* .. and how many bytes it has; a guard zone of 4096 bytes is on each side of it */
+    uint32_t data_size; /* .. and how many bytes it has; on each side is a guard zone of 4096, where each access has to trap */
     uint32_t start;     /* the address at which the sandbox starts to run */
     uint32_t gates;     /* how many gates it has, 0 to 64 */
     uint32_t init_size; /* how many first bytes of the data region are in the image: zeros follow them */

@@ -41,7 +41,8 @@ pub fn judge(bytes: &[u8]) -> StreamAnswer
     check_into(bytes, &mut Nowhere)
 }
 
-/// The image that accepted bytes are. An error means that memory ran out.
+/// The image that the bytes are, which have to be accepted, as [`judge`] says: that isn't tested
+/// here. An error means that memory ran out.
 pub fn accept<'a>(alloc: Global, bytes: &'a [u8]) -> Result<Accepted<'a>, AllocError>
     requires { (parts : List Part) × IsAccepted bytes.now parts }
     ensures accepted { IfOk result (IsAccepted bytes.entry.now) }

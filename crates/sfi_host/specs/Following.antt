@@ -79,7 +79,8 @@ CutIsShorter S =
     → IsCutJoint machine answer may_refuse plan old before place new after
     → IsJointUpTo machine answer plan place old before new after
 
--- a plan that was tried after it follows the shortened one, with some number of steps
+-- a plan that was tried after it follows the shortened one, whose last turn has some number of
+-- steps, fewer than it allows
 abbrev pub RetryFollows : Type 0 → Type 0
 RetryFollows S =
     (machine : Machine) (answer : S → Call → Answer S) (may_refuse : S → Call → Bool)

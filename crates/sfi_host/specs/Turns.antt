@@ -8,8 +8,8 @@ use Rattle.sfi_host.specs.Slots.{Slot}
 use Rattle.sfi_host.specs.Waiting.{IsAtCall, to_call}
 use Rattle.sfi_host.specs.Worlds.{status_at}
 
--- A turn adds to the count of its sandbox's steps as many as it allows at most, and leaves one that
--- has stopped as it is.
+-- A turn adds to its sandbox's count of steps at most as many as it allows, and leaves one that has
+-- stopped as it is.
 abbrev pub TurnsAreCounted : Type 0 → Type 0
 TurnsAreCounted S =
     (machine : Machine) (host : Host S) (t : Turn) (slots : List Slot) (s : S) (old : Slot)

@@ -66,7 +66,7 @@ data_byte_of (Some s) at = byte_at (bytes_in s.bounds.data s.bytes) at
 -- The sandbox is a part of an image that passes each test of its own, and is in a state of the
 -- machine. It has the part's code, its guard zones are empty and its data whole. If it may still
 -- run, every run from its state is safe, and calls with its typed registers as their types say; if
--- it has stopped, it has stopped itself.
+-- it has exited or trapped, it did so itself.
 pub record IsSafeSeat (m : Bytes) (s : Seat) : Type 0 where
   pub part : Part
   pub bounds : s.bounds ≡ bounds_of part
@@ -100,7 +100,7 @@ StaysOutsideData w new =
     (a : ℕ) → ((i : ℕ) (s : Seat) → slice_get w.seats i ≡ Some s → Holds s.bounds.data a → ⊥)
     → byte_at new a ≡ byte_at w.bytes a
 
--- the sandbox of that number has that status, and has stopped itself, if it has stopped
+-- the sandbox of that number has that status, and did it itself, if it has exited or trapped
 pub record IsStopOf (w : Sandboxes) (i : ℕ) (status : Status) : Type 0 where
   pub seat : Seat
   pub there : slice_get w.seats i ≡ Some seat

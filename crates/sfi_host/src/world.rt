@@ -118,9 +118,11 @@ impl<M: Memory> World<M> {
         // Each sandbox is safe as before, and its data lie outside each other one.
         ensures safe { IsSafeWorld self.new }
 
-        // Each one that has stopped is at its own instruction that stopped it: the ecall of one of
-        // its gates if it exited (`done` and `memory` say that the host answered so), an ebreak, or
-        // a load or store that touches its guard zones. No other trap stops a sandbox.
+        // Each one that has exited or trapped is at its own instruction that did it: the ecall of
+        // one of its gates if it exited (`done` and `memory` say that the host answered so), an
+        // ebreak, or a load or store that touches its guard zones. No other trap stops a sandbox.
+        // Of one that `World::stop` stopped it says nothing; no plan stops one so
+        // (`laws::turns_are_counted`).
         ensures stops { HaveStoppedThemselves self.new }
 
         // No byte has changed that lies in no sandbox's data.
@@ -144,8 +146,8 @@ impl<M: Memory> World<M> {
     /// Takes a turn up to the next call: as a turn of a plan, but a call ends it, and leaves its
     /// sandbox at the call as if it had not called. The answer is what it asks, if it stands at a call
     /// then; so it does, too, where its steps were used just before the call. It waits there for a
-    /// `reply`: until then each further turn up to a call comes to nothing, and a turn of a plan asks
-    /// that plan's host.
+    /// `reply` or a `stop`: until then each further turn up to a call comes to nothing, and a turn of a
+    /// plan asks that plan's host.
     pub fn run_to_call(&mut self, turn: Turn) -> Option<Request>
         // What the turn comes to with a host that answers no call.
         ensures ran { (machine : Machine) → IsMachine machine

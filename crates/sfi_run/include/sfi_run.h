@@ -8,10 +8,9 @@
  * with its premises, docs/PROOFS.md what is proved of each call). The sandboxes run in a memory of the library's own, step
  * by step: no code of theirs runs on the host's processor, and no address of theirs is one of the host's.
  *
- * One premise is worth a word, since images of the third format rest on it: an access with a byte in a guard zone traps,
- * and the trap ends the run. The sandbox goes on by sfi_run_enter alone, which sets its registers anew. The library keeps
- * this. A host that runs accepted code by other means (sfi.h) has to: where it completes such an access, or steps over it,
- * code of the third format can leave its sandbox.
+ * One premise is worth a word: a trap ends the run. The sandbox goes on by sfi_run_enter alone, which sets its registers
+ * anew. The library keeps this. A host that runs accepted code by other means (sfi.h) has to: where it steps over an
+ * ebreak, or in the third format completes or steps over an access with a byte in a guard zone, code can leave its sandbox.
  *
  * The calls read nothing but their arguments and the world, keep nothing elsewhere, start no thread, and read and write no
  * file. sfi_run_load takes memory by malloc and realloc, for the world of an accepted image alone; sfi_run_load and
@@ -148,7 +147,7 @@ _Static_assert(sizeof(struct sfi_run_event) == 16 && sizeof(struct sfi_run_regio
  * no world. The image is copied: its bytes are not needed after the call.
  *
  * Writes to *verdict what sfi_c_check of sfi.h says of the image, whatever the status is. Memory is taken of accepted
- * bytes alone: whether the status is SFI_RUN_REFUSED or SFI_RUN_NO_IMAGE doesn't hang on it.
+ * bytes alone: whether an image is refused doesn't depend on how much memory there is.
  *
  * The world that was there is gone also where the new image is refused. To go on with the old one then, load into a
  * second struct, and only where that is loaded free the first and copy the second to it.

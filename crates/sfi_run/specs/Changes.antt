@@ -12,8 +12,8 @@ use Rattle.sfi_host.specs.Stopping.{with_stop}
 use Rattle.sfi_host.specs.Waiting.{to_call, later_answer, later_reply}
 use Rattle.sfi_host.specs.Worlds.{Sandboxes, slots_of, IsSafeWorld, StaysOutsideData, HaveStoppedThemselves}
 
--- Still a safe world. What has stopped in it has stopped itself, and no byte outside all data has
--- changed.
+-- Still a safe world. What has exited or trapped in it did so itself, and no byte outside all data
+-- has changed.
 pub record IsStillSafe (w n : Sandboxes) : Type 0 where
   pub safe : IsSafeWorld n
   pub stops : HaveStoppedThemselves n

@@ -31,7 +31,8 @@ fn read(world: &World<Pages>, sandbox: u32, at: u32, count: usize, room: &mut [u
 }
 
 /// Copies `count` data bytes of a sandbox from an address on to the first of `room`: all of them, or
-/// none, if there isn't so much room or one of these addresses isn't in its data.
+/// none, if there is no such sandbox, `room` is shorter, or one of these addresses isn't in its
+/// data. No bytes are copied from any address.
 #[unsafe(no_mangle)]
 pub extern "C" fn sfi_run_read(
     alloc: Global,

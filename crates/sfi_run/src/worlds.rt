@@ -114,12 +114,12 @@ pub extern "C" fn sfi_run_load(
         → IsLayoutFault image.now verdict.new }
 
     // Which bytes get it.
-    ensures only_accepted { (ps : List Part) → IsAccepted image.now ps
+    ensures verdict_only_accepted { (ps : List Part) → IsAccepted image.now ps
         → verdict.new ≡ acceptance (length ps) (bundle_count ps) }
-    ensures only_refused { (first : Finding) (rest : List Finding)
+    ensures verdict_only_refused { (first : Finding) (rest : List Finding)
         → HasFindings image.now (first ∷ rest)
         → verdict.new ≡ refusal (length (first ∷ rest)) first }
-    ensures only_layout { (k : LayoutFault) → IsFault image.now k
+    ensures verdict_only_layout { (k : LayoutFault) → IsFault image.now k
         → verdict.new ≡ no_image (layout_number k) }
 {
     sfi_run_free(alloc, world);

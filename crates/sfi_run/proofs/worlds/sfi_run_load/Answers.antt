@@ -32,14 +32,14 @@ returns-in-Ok-clause-verdict_refused c = (c.of.ensures c.args.image.now c.judge-
 pub returns-in-Ok-clause-verdict_layout : goal.returns-in-Ok-clause-verdict_layout
 returns-in-Ok-clause-verdict_layout c = (c.of.ensures c.args.image.now c.judge-answer.ensures.judged).layout
 
-pub returns-in-Ok-clause-only_accepted : goal.returns-in-Ok-clause-only_accepted
-returns-in-Ok-clause-only_accepted c = (c.of.ensures c.args.image.now c.judge-answer.ensures.judged).only_accepted
+pub returns-in-Ok-clause-verdict_only_accepted : goal.returns-in-Ok-clause-verdict_only_accepted
+returns-in-Ok-clause-verdict_only_accepted c = (c.of.ensures c.args.image.now c.judge-answer.ensures.judged).only_accepted
 
-pub returns-in-Ok-clause-only_refused : goal.returns-in-Ok-clause-only_refused
-returns-in-Ok-clause-only_refused c = (c.of.ensures c.args.image.now c.judge-answer.ensures.judged).only_refused
+pub returns-in-Ok-clause-verdict_only_refused : goal.returns-in-Ok-clause-verdict_only_refused
+returns-in-Ok-clause-verdict_only_refused c = (c.of.ensures c.args.image.now c.judge-answer.ensures.judged).only_refused
 
-pub returns-in-Ok-clause-only_layout : goal.returns-in-Ok-clause-only_layout
-returns-in-Ok-clause-only_layout c = (c.of.ensures c.args.image.now c.judge-answer.ensures.judged).only_layout
+pub returns-in-Ok-clause-verdict_only_layout : goal.returns-in-Ok-clause-verdict_only_layout
+returns-in-Ok-clause-verdict_only_layout c = (c.of.ensures c.args.image.now c.judge-answer.ensures.judged).only_layout
 
 pub returns-in-Err-clause-verdict_known : goal.returns-in-Err-clause-verdict_known
 returns-in-Err-clause-verdict_known c = (c.of.ensures c.args.image.now c.judge-answer.ensures.judged).known
@@ -53,11 +53,11 @@ returns-in-Err-clause-verdict_refused c = (c.of.ensures c.args.image.now c.judge
 pub returns-in-Err-clause-verdict_layout : goal.returns-in-Err-clause-verdict_layout
 returns-in-Err-clause-verdict_layout c = (c.of.ensures c.args.image.now c.judge-answer.ensures.judged).layout
 
-pub returns-in-Err-clause-only_accepted : goal.returns-in-Err-clause-only_accepted
-returns-in-Err-clause-only_accepted c = (c.of.ensures c.args.image.now c.judge-answer.ensures.judged).only_accepted
+pub returns-in-Err-clause-verdict_only_accepted : goal.returns-in-Err-clause-verdict_only_accepted
+returns-in-Err-clause-verdict_only_accepted c = (c.of.ensures c.args.image.now c.judge-answer.ensures.judged).only_accepted
 
-pub returns-in-Err-clause-only_refused : goal.returns-in-Err-clause-only_refused
-returns-in-Err-clause-only_refused c = (c.of.ensures c.args.image.now c.judge-answer.ensures.judged).only_refused
+pub returns-in-Err-clause-verdict_only_refused : goal.returns-in-Err-clause-verdict_only_refused
+returns-in-Err-clause-verdict_only_refused c = (c.of.ensures c.args.image.now c.judge-answer.ensures.judged).only_refused
 
-pub returns-in-Err-clause-only_layout : goal.returns-in-Err-clause-only_layout
-returns-in-Err-clause-only_layout c = (c.of.ensures c.args.image.now c.judge-answer.ensures.judged).only_layout
+pub returns-in-Err-clause-verdict_only_layout : goal.returns-in-Err-clause-verdict_only_layout
+returns-in-Err-clause-verdict_only_layout c = (c.of.ensures c.args.image.now c.judge-answer.ensures.judged).only_layout
