@@ -22,8 +22,8 @@
  * - A world begins as SFI_RUN_NO_WORLD, or as zeros, and nobody but these calls writes it then. One that begins as
  *   anything else is freed as if it were a world: sfi_run_load, too, frees what is there.
  * - A world may be moved: its bytes are copied, and the old ones are used no more. Of two copies only one is ever used:
- *   to free one, and then to free or use the other, is as wrong as to free a block of malloc twice. To free one and the
- *   same struct twice is right: the first time left no world in it. A world that goes out of use is freed first, or its
+ *   to free one, and then to free or use the other, is as wrong as to free a block of malloc twice. The same
+ *   struct may be freed twice: after the first time it holds no world. A world that goes out of use is freed first, or its
  *   memory is lost.
  * - One call at a time uses a world. Any thread may make it; where two threads use a world, a lock, a join or the like
  *   orders their calls, also those that only look. Calls on different worlds may be made at once.
@@ -165,8 +165,8 @@ size_t sfi_run_count(struct sfi_run_world *world);
 /*
  * Runs a sandbox for at most so many steps, and no further than its next call. Writes to *event how it stands then, and
  * returns the event's kind. Where it stands at a call already, or has stopped, it does no step. An instruction that is done
- * and a call that is replied to are a step each (sfi_run_steps counts them); a trap is none, but a turn of no steps meets
- * none.
+ * and a call that is replied to are a step each (sfi_run_steps counts them). A trap isn't counted, but a turn of 0 steps
+ * doesn't get as far as one.
  *
  * One that stands at a call has done all before it and nothing of the call: its data can be read and written, and the
  * data as they are when the reply comes are what it goes on with.
