@@ -24,6 +24,7 @@ SOURCES = (".c", ".i")
 PLUS_PLUS_SOURCES = (".cc", ".cpp", ".cxx", ".C", ".ii")
 WITH_MACROS = (".S", ".sx")  # assembly that a preprocessor goes over first
 ASSEMBLY = (".s", ".asm")
+WITH_VALUE = ("-I", "-D", "-U", "-include", "-imacros", "-isystem", "-iquote", "-idirafter", "-x", "-Xclang", "-mllvm")
 
 
 class Failed(Exception):
@@ -45,6 +46,11 @@ def ran(words, data=b""):
         reason = f"{name_of(words)} failed, in status {done.returncode}"
         raise Failed(max(done.returncode, 1), reason, done.stderr + done.stdout)
     return done.stdout, done.stderr
+
+
+def is_source(word):
+    """Whether a word of a command line, which isn't the value of the one before it, is a file to compile."""
+    return word.endswith((*SOURCES, *PLUS_PLUS_SOURCES, *WITH_MACROS, *ASSEMBLY)) and not word.startswith("-")
 
 
 def tell(said):
