@@ -91,14 +91,17 @@ def set_aside(edits, aside):
         os.replace(edit, os.path.join(aside, edit))
 
 
-def run_with(number, aside):
-    """Runs `rt ci` without the edits that wait after so many commits, and gives its status."""
-    waiting = left_out(number)
-    edits = [edit for crate in waiting for edit in edits_of(crate)]
-    print(f"gate.py: {len(edits)} must-fail edits are left out this time, since {number} commits stand here: those of")
+def tell(waiting, number):
+    """Prints whose edits aren't tried this time, and how to try them."""
+    count = sum(len(edits_of(crate)) for crate in waiting)
+    print(f"gate.py: {count} must-fail edits are left out this time, since {number} commits stand here: those of")
     print(f"gate.py: `rt must-fail {' '.join(waiting)}`, which tries them, as `./test --all` does", flush=True)
+
+
+def run_without(waiting, aside):
+    """Runs `rt ci` while the edits of the crates in `waiting` are in the folder `aside`, and gives its status."""
     try:
-        set_aside(edits, aside)
+        set_aside([edit for crate in waiting for edit in edits_of(crate)], aside)
         return subprocess.run(["rt", "ci"], check=False).returncode
     finally:
         put_back(aside)
@@ -110,15 +113,13 @@ def main():
     options = parser.parse_args()
     os.chdir(TOP)
     signal.signal(signal.SIGTERM, lambda number, _: sys.exit(128 + number))
-    folder = git("rev-parse", "--absolute-git-dir")
-    count = git("rev-list", "--count", "HEAD")
-    if not folder or not count:
-        return subprocess.run(["rt", "ci"], check=False).returncode
-    aside = os.path.join(folder, "sfi-edits")
+    aside = os.path.join(git("rev-parse", "--absolute-git-dir"), "sfi-edits")
     put_back(aside)
-    if options.all:
-        return subprocess.run(["rt", "ci"], check=False).returncode
-    return run_with(int(count), aside)
+    count = git("rev-list", "--count", "HEAD")
+    waiting = left_out(int(count)) if count and not options.all else []
+    if waiting:
+        tell(waiting, count)
+    return run_without(waiting, aside)
 
 
 if __name__ == "__main__":
