@@ -1,6 +1,5 @@
 """The stubs of gates, as GNU assembly: each in a section of its own, and a line of `.sfi.gates` for tools/sfi-image."""
 
-SERVICES = {"exit_with": 0, "put": 1, "get": 2, "yield_turn": 3, "post_word": 4, "take_word": 5}
 SCRATCH = {"1": "x31", "2": "x31", "words": "x30"}  # the register that a format returns by
 STUB = """\
     .section .sfi.stubs.{name},"ax",@progbits

@@ -4,8 +4,9 @@ import glob
 import os
 
 from compilers import TOOLS, compiled, ran, version
-from gates import SERVICES, stub
+from gates import stub
 from kept import kept
+from services import GATES
 from tools import archived, assembled, binutil, rewritten
 
 LIB = os.path.join(TOOLS, "asm2elf", "lib")
@@ -44,7 +45,7 @@ def make(folder, compiler, image_format):
     """Fills a folder with crt0.o, libgates.a and libruntime.a."""
     object_of(folder, "crt0", os.path.join(LIB, "crt0.s"), image_format)
     archived(os.path.join(folder, "libgates.a"),
-             [gate_object(folder, name, service, image_format) for name, service in SERVICES.items()])
+             [gate_object(folder, name, service, image_format) for name, service in GATES.items()])
     assembly, _ = compiled(compiler, [], os.path.join(LIB, "constructors.c"), os.path.join(folder, "constructors"))
     objects = [object_of(folder, "constructors", assembly, image_format)]
     for path in FUNCTIONS:
