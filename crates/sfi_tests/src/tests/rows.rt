@@ -226,6 +226,7 @@ fn image_rows(rt: HostRuntime) -> Result<(), Fail> {
     try_rows(&rt, rt.alloc(), images::LAYOUTS, 42)?;
     try_rows(&rt, rt.alloc(), images::RULES, 40)?;
     try_rows(&rt, rt.alloc(), images::SAFE, 6)?;
+    try_rows(&rt, rt.alloc(), images::SAFE_WORDS, 10)?;
     try_rows(&rt, rt.alloc(), images::DIGITS, 6)
 }
 

@@ -81,6 +81,21 @@ $ sfi check
 > refused findings=1 first=V10 sandbox=0 at=01000000
 ";
 
+/// The same of code in words. `c.ebreak` ends a run, so what stands behind it in its word is never reached.
+pub(super) const SAFE_WORDS: &str = "
+put 0 53464957; $ sfi check
+= an undecodable halfword after a c.ebreak; put 36 02900000; > refused findings=1 first=V1 sandbox=0 at=01000002
+= a 32-bit instruction that begins after a c.ebreak; put 36 02900305; > refused findings=1 first=V2 sandbox=0 at=01000002
+= x24 written as it was; put 36 130c0c00; > refused findings=1 first=V4 sandbox=0 at=01000000; # addi x24, x24, 0
+= a store on a copy of the data base; put 36 6a8404c0; > refused findings=1 first=V5 sandbox=0 at=01000002; # c.mv x8, x26, c.sw x9, 0(x8)
+= a jump to the code base; put 36 67000c00; > refused findings=1 first=V6 sandbox=0 at=01000000; # jalr x0, 0(x24)
+= a jump to a second half; put 36 6f00600001000290; > refused findings=1 first=V7 sandbox=0 at=01000000; # jal x0, 6, c.nop, c.ebreak
+= a last nop after a c.ebreak; put 288 02900100; > refused findings=1 first=V8 sandbox=0 at=010000fe
+= a data register that is not used again; put 36 1301000073001000; > refused findings=1 first=V10 sandbox=0 at=01000004; # addi x2, x0, 0, ebreak
+= a code register that is not used again; put 36 130f000073001000; > refused findings=1 first=V11 sandbox=0 at=01000000; # addi x30, x0, 0, ebreak
+= an offset below the data size; put 36 930f0000; > refused findings=1 first=V12 sandbox=0 at=01000000; # addi x31, x0, 0
+";
+
 /// Code, data, first data bytes and gates at the limits of a layout, and one step beyond.
 pub(super) const LIMITS: &str = "
 $ sfi check; $ sfi check --raw
