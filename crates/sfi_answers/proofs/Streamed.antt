@@ -2,14 +2,14 @@
 use Rattle.std.proofs.Common.{◌≡◌, ℕ, ◌⊎◌, Bool, true, false, List, [], ◌∷◌, ◌++◌, Option, Some, None, refl, sym, ap, ◌∙◌, subst, inl, inr, IfSome}
 use Rattle.std.proofs.lemmas.List.{append-nil}
 use Rattle.sfi_image.specs.declared.fault.LayoutFault.{LayoutFault}
-use Rattle.sfi_image.specs.Faults.{IsFault, number_of}
-use Rattle.sfi_image.specs.Fronts.{HasFaultNumberWhateverFollows}
+use Rattle.sfi_image.specs.Faults.{IsFault}
+use Rattle.sfi_image.specs.Fronts.{HasFaultWhateverFollows}
 use Rattle.sfi_image.specs.Sources.{Streams}
 use Rattle.sfi_image.proofs.Handing.{reads_known, handed_out}
 use Rattle.sfi_rules.specs.declared.finding.Finding.{Finding}
 use Rattle.sfi_check.specs.declared.stream_answer.StreamAnswer.{StreamAnswer}
 use Rattle.sfi_check.specs.declared.stream_answer.StreamAnswer.TheVariants as answers
-use Rattle.sfi_check.specs.Streams.{AreCounted, IsFaultOf, IsVerdictOn}
+use Rattle.sfi_check.specs.Streams.{AreCounted, IsVerdictOn}
 use Rattle.sfi_answers.specs.Checking.{HasSomeFault, SaysVerdict, accepted_text, refused_line, refused_text}
 use Rattle.sfi_answers.specs.private.{IsJudged}
 
@@ -20,12 +20,6 @@ line_of_count count first (x ∷ found) h =
     let e = h.first_is in
     let same : first ≡ x = cc in
     rw (h.count_is, same) refl
-
--- a fault of that number is one
-pub some_fault : (bytes : List ℕ) (ends : Bool) (number : ℕ) → ((ends ≡ true) × IsFaultOf bytes number) ⊎ HasFaultNumberWhateverFollows bytes number
-    → (k : LayoutFault) × (number_of k ≡ number)
-some_fault bytes ends number (inl ended) = (ended.1.0, ended.1.1)
-some_fault bytes ends number (inr onwards) = (onwards.0, onwards.1)
 
 -- where the stream ended, it gave all
 gave_all : (answer : StreamAnswer) (all : List ℕ) (j : IsJudged answer all) → j.ends ≡ true → j.given ≡ all
@@ -46,12 +40,12 @@ says_refused count first text all is j =
     (inr (record { found = v.1; refused = v.2; status_is = refl; text_is = is ∙ line_of_count count first v.1 v.3 }))
 
 -- and one with a fault, whether the stream was read to its end or not
-pub has_fault : (number : ℕ) (all : List ℕ) → IsJudged (answers.Layout number) all → HasSomeFault all
-has_fault number all j = by j.verdict.layout
+pub has_fault : (k : LayoutFault) (all : List ℕ) → IsJudged (answers.Layout k) all → HasSomeFault all
+has_fault k all j = by j.verdict.layout
   where
-    by : ((j.ends ≡ true) × IsFaultOf j.given number) ⊎ HasFaultNumberWhateverFollows j.given number → HasSomeFault all
-    by (inl at_end) = (at_end.1.0, subst (λ (l : List ℕ). IsFault l at_end.1.0) (gave_all _ all j at_end.0) at_end.1.2)
-    by (inr onwards) = (onwards.0, subst (λ (l : List ℕ). IsFault l onwards.0) (sym j.all_are) (onwards.2 j.rest))
+    by : ((j.ends ≡ true) × IsFault j.given k) ⊎ HasFaultWhateverFollows j.given k → HasSomeFault all
+    by (inl at_end) = (k, subst (λ (l : List ℕ). IsFault l k) (gave_all _ all j at_end.0) at_end.1)
+    by (inr onwards) = (k, subst (λ (l : List ℕ). IsFault l k) (sym j.all_are) (onwards j.rest))
 
 -- the verdict on a stream of a reader is one on all that the reader told
 pub judged : {S : Type 0} (known : S → Option (List ℕ)) (failed : S → Bool) (s t : S) (answer : StreamAnswer) (told : Option (List ℕ)) (P : List ℕ → Type 0) → known s ≡ told

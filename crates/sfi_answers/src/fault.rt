@@ -1,8 +1,6 @@
 //! Faults of the input.
 
 ghost use Rattle.std.specs.Prelude.{◌≡◌, ◌≢◌, IfOk};
-ghost use Rattle.sfi_image.specs.declared.fault.LayoutFault.{LayoutFault};
-ghost use Rattle.sfi_image.specs.Faults.{number_of};
 ghost use Rattle.sfi_answers.specs.Answers.{StopsBuild, stop_of};
 ghost use Rattle.sfi_answers.specs.declared.fault.Stop.TheVariants.{Memory};
 
@@ -76,26 +74,6 @@ impl From<BuildFault> for Stop {
                 fault,
             ),
         }
-    }
-}
-
-/// The fault of an image that has this number.
-pub(crate) fn fault_numbered(number: u32) -> LayoutFault
-    requires { (fault : LayoutFault) × (number_of fault ≡ number) }
-    ensures { number_of result ≡ number }
-{
-    match number {
-        1 => LayoutFault::Magic,
-        2 => LayoutFault::Count,
-        3 => LayoutFault::Short,
-        4 => LayoutFault::Code,
-        5 => LayoutFault::Data,
-        6 => LayoutFault::GuardRoom,
-        7 => LayoutFault::Start,
-        8 => LayoutFault::Gates,
-        9 => LayoutFault::Init,
-        10 => LayoutFault::Overlap,
-        _ => LayoutFault::Trailing,
     }
 }
 

@@ -5,7 +5,7 @@ ghost use Rattle.sfi_check.specs.Streams.{IsVerdictOn};
 ghost use Rattle.sfi_answers.specs.Checking.{HasSomeFault, check};
 ghost use Rattle.sfi_answers.specs.private.{IsJudged};
 
-use crate::fault::{fault_numbered, layout_line};
+use crate::fault::layout_line;
 use crate::verdict::{Answer, accepted_line, refused_line};
 use sfi_check::{StreamAnswer, check_stream};
 use sfi_image::Reading;
@@ -31,9 +31,9 @@ pub(crate) fn stream_answer(alloc: Global, verdict: StreamAnswer) -> Result<Answ
             status: 1,
             text: refused_line(alloc, count as usize, first)?,
         }),
-        StreamAnswer::Layout(number) => Ok(Answer {
+        StreamAnswer::Layout(fault) => Ok(Answer {
             status: 2,
-            text: layout_line(alloc, fault_numbered(number))?,
+            text: layout_line(alloc, fault)?,
         }),
         StreamAnswer::ReadFault => Err(ReadStop::Failed),
     }

@@ -1,12 +1,16 @@
 -- What C keeps of an image that comes in pieces.
-use Rattle.std.specs.Prelude.{◌==◌, ◌/◌, ◌%◌, ℕ, List, cond, take, Option, Some, None}
+use Rattle.std.specs.Prelude.{◌==◌, ◌/◌, ◌%◌, ℕ, List, [], ◌∷◌, cond, take, Option}
+use Rattle.std.specs.List.{find}
 use Rattle.std.specs.Option.{option_map}
 use Rattle.sfi_policy.specs.declared.format.Format.{Format}
 use Rattle.sfi_policy.specs.declared.format.Format.TheVariants.{Sfi1, Sfi2, Sfiw}
 use Rattle.sfi_image.specs.declared.fields.Fields.{Fields}
 use Rattle.sfi_image.specs.declared.want.Next.{Next}
 use Rattle.sfi_image.specs.declared.want.Next.TheVariants as next
-use Rattle.sfi_image.specs.Keeping.{ReaderState, IsReader}
+use Rattle.sfi_image.specs.declared.fault.LayoutFault.{LayoutFault}
+use Rattle.sfi_image.specs.declared.fault.LayoutFault.TheVariants as faults
+use Rattle.sfi_image.specs.declared.layout_reader.LayoutReader.{LayoutReader}
+use Rattle.sfi_image.specs.Faults.{number_of}
 use Rattle.sfi_rules.specs.declared.finding.Finding.{Finding}
 use Rattle.sfi_rules.specs.Numbers.{numbered}
 use Rattle.sfi_rules.specs.declared.owed.Owed.{Owed}
@@ -51,6 +55,16 @@ first_finding f =
     option_map (λ rule. record { sandbox = f.sandbox; address = f.address; rule = rule })
     (numbered f.rule)
 
+-- all faults of the layout
+abbrev pub all_faults : List LayoutFault
+all_faults =
+    faults.Magic ∷ faults.Count ∷ faults.Short ∷ faults.Code ∷ faults.Data ∷ faults.GuardRoom
+    ∷ faults.Start ∷ faults.Gates ∷ faults.Init ∷ faults.Overlap ∷ faults.Trailing ∷ []
+
+-- a fault of the layout; 0 is none
+abbrev pub fault_of : ℕ → Option LayoutFault
+fault_of n = find (λ k. n == number_of k) all_faults
+
 -- ---- a feed, by the numbers that C keeps
 
 -- the fields of the last sandbox
@@ -67,7 +81,7 @@ fields_of s = record {
 }
 
 -- what a reader keeps: of each array so many elements at its front
-abbrev pub reader_of : SfiStream → ReaderState
+abbrev pub reader_of : SfiStream → LayoutReader
 reader_of s = record {
   next = stage_of s.next;
   count = s.count;
@@ -90,10 +104,6 @@ tally_of s = record {
   owed = owed_of s.owed;
 }
 
--- the fault that was met, if one was
-abbrev pub fault_of : SfiStream → Option ℕ
-fault_of s = cond (s.fault_count == 0) None (Some s.fault)
-
 -- the feed
 abbrev pub feed_of : SfiStream → Feed
 feed_of s = record {
@@ -101,12 +111,11 @@ feed_of s = record {
   tally = tally_of s;
   held = s.held;
   count = s.held_count;
-  fault = fault_of s;
+  fault = fault_of s.fault;
 }
 
 -- ---- of which bytes
 
 -- the numbers are those of a feed that was fed these bytes, in any pieces
 pub record IsStreamOf (s : SfiStream) (bytes : List ℕ) : Type 0 where
-  pub reader : IsReader (reader_of s)
   pub fed : IsFed (feed_of s) bytes

@@ -1,10 +1,10 @@
 //! Numbers for what an enum says in Rattle.
 ghost use Rattle.std.specs.Prelude.{◌≡◌};
 ghost use Rattle.sfi_c.specs.Parts.{format_number};
-ghost use Rattle.sfi_c.specs.Streams.{stage_of, format_of, owed_of, first_finding};
+ghost use Rattle.sfi_c.specs.Streams.{stage_of, format_of, owed_of, fault_of, first_finding};
 
 use sfi_check::SfiFinding;
-use sfi_image::{Format, Next};
+use sfi_image::{Format, LayoutFault, Next};
 use sfi_rules::{Finding, Owed, Rule};
 
 /// The number of what comes next.
@@ -86,6 +86,36 @@ pub(crate) fn owed_of(number: u32) -> Owed
         3 => Owed::Place(register),
         4 => Owed::MaskOrUse(register),
         _ => Owed::Nothing,
+    }
+}
+
+/// The number of the layout's fault, or 0.
+pub(crate) fn fault_number(fault: Option<LayoutFault>) -> u32
+    ensures { fault_of result ≡ fault }
+{
+    match fault {
+        Some(fault) => fault.number(),
+        None => 0,
+    }
+}
+
+/// The layout's fault of that number, if there is one.
+pub(crate) fn fault_of(number: u32) -> Option<LayoutFault>
+    ensures { result ≡ fault_of number }
+{
+    match number {
+        1 => Some(LayoutFault::Magic),
+        2 => Some(LayoutFault::Count),
+        3 => Some(LayoutFault::Short),
+        4 => Some(LayoutFault::Code),
+        5 => Some(LayoutFault::Data),
+        6 => Some(LayoutFault::GuardRoom),
+        7 => Some(LayoutFault::Start),
+        8 => Some(LayoutFault::Gates),
+        9 => Some(LayoutFault::Init),
+        10 => Some(LayoutFault::Overlap),
+        11 => Some(LayoutFault::Trailing),
+        _ => None,
     }
 }
 

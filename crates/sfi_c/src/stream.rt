@@ -1,14 +1,13 @@
 //! What C keeps of an image that comes in pieces.
 ghost use Rattle.std.specs.Prelude.{◌≡◌};
-ghost use Rattle.sfi_image.specs.Keeping.{IsReader};
-ghost use Rattle.sfi_c.specs.Streams.{fields_of, reader_of, tally_of, fault_of, feed_of};
+ghost use Rattle.sfi_c.specs.Streams.{fields_of, reader_of, tally_of, feed_of};
 
 use crate::stage::{
-    first_finding, first_told, format_number, format_of, owed_number, owed_of, stage_number,
-    stage_of,
+    fault_number, fault_of, first_finding, first_told, format_number, format_of, owed_number,
+    owed_of, stage_number, stage_of,
 };
 use sfi_check::{Feed, SfiFinding, Tally};
-use sfi_image::{Fields, LayoutReader, ReaderParts, Span};
+use sfi_image::{Fields, KeptGates, KeptSpans, LayoutReader, Span};
 use std::mem::size_of;
 
 /// What is known of the bytes of an image so far: `struct sfi_stream`, in which C sees no field.
@@ -66,9 +65,7 @@ pub struct SfiStream {
     pub first: SfiFinding,
     /// What is owed to the code that comes, by number.
     pub owed: u32,
-    /// How many faults of the layout were met: 0 or 1.
-    pub fault_count: u32,
-    /// The number of the layout's fault, 1 to 11, where one was met.
+    /// The number of the layout's fault that was met, 1 to 11, or 0.
     pub fault: u32,
 }
 
@@ -91,22 +88,19 @@ fn fields_of(stream: &SfiStream) -> Fields
 }
 
 fn reader_of(stream: &SfiStream) -> LayoutReader
-    requires { IsReader (reader_of stream.now) }
     ensures { result ≡ reader_of stream.now }
 {
-    LayoutReader::from_parts(&ReaderParts {
+    LayoutReader {
         next: stage_of(stream.next),
         count: stream.count,
         begun: stream.begun,
-        spans: stream.spans,
-        span_count: stream.span_count as usize,
+        spans: KeptSpans::of(stream.spans, stream.span_count as usize),
         fields: fields_of(stream),
-        gates: stream.gates,
-        gate_count: stream.gate_count as usize,
+        gates: KeptGates::of(stream.gates, stream.gate_count as usize),
         passed: stream.passed as usize,
         code_read: stream.code_read,
         init_read: stream.init_read,
-    })
+    }
 }
 
 fn tally_of(stream: &SfiStream) -> Tally
@@ -121,19 +115,8 @@ fn tally_of(stream: &SfiStream) -> Tally
     }
 }
 
-fn fault_of(stream: &SfiStream) -> Option<u32>
-    ensures { result ≡ fault_of stream.now }
-{
-    if stream.fault_count == 0 {
-        None
-    } else {
-        Some(stream.fault)
-    }
-}
-
 /// The feed that C keeps.
 pub(crate) fn feed_of(stream: &SfiStream) -> Feed
-    requires { IsReader (reader_of stream.now) }
     ensures { result ≡ feed_of stream.now }
 {
     Feed {
@@ -141,28 +124,27 @@ pub(crate) fn feed_of(stream: &SfiStream) -> Feed
         tally: tally_of(stream),
         held: stream.held,
         count: stream.held_count as usize,
-        fault: fault_of(stream),
+        fault: fault_of(stream.fault),
     }
 }
 
 /// The feed for C to keep.
 pub(crate) fn kept(feed: &Feed) -> SfiStream
-    ensures feed { feed_of result ≡ feed.now }
-    ensures reader { IsReader (reader_of result) }
+    ensures { feed_of result ≡ feed.now }
 {
-    let parts = feed.reader.parts();
-    let fields = parts.fields;
+    let reader = &feed.reader;
+    let fields = &reader.fields;
     SfiStream {
-        spans: parts.spans,
-        span_count: parts.span_count as u64,
-        gate_count: parts.gate_count as u64,
-        passed: parts.passed as u64,
+        spans: reader.spans.array(),
+        span_count: reader.spans.len() as u64,
+        gate_count: reader.gates.len() as u64,
+        passed: reader.passed as u64,
         held_count: feed.count as u64,
-        gates: parts.gates,
+        gates: reader.gates.array(),
         held: feed.held,
-        next: stage_number(parts.next),
-        count: parts.count,
-        begun: parts.begun,
+        next: stage_number(reader.next),
+        count: reader.count,
+        begun: reader.begun,
         format: format_number(fields.format),
         code_base: fields.code_base,
         code_size: fields.code_size,
@@ -171,14 +153,13 @@ pub(crate) fn kept(feed: &Feed) -> SfiStream
         start: fields.start,
         gates_listed: fields.gate_count,
         init_len: fields.init_len,
-        code_read: parts.code_read,
-        init_read: parts.init_read,
+        code_read: reader.code_read,
+        init_read: reader.init_read,
         sandboxes: feed.tally.sandboxes,
         bundles: feed.tally.bundles,
         findings: feed.tally.count,
         first: first_told(feed.tally.first),
         owed: owed_number(feed.tally.owed),
-        fault_count: if feed.fault.is_some() { 1 } else { 0 },
-        fault: feed.fault.unwrap_or(0),
+        fault: fault_number(feed.fault),
     }
 }

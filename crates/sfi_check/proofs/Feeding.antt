@@ -1,6 +1,7 @@
 -- What a feed holds.
-use Rattle.sfi_check.proofs.Prelude.{◌≡◌, ◌∙◌, ◌≤◌, ◌<◌, ◌+◌, ◌⊎◌, ℕ, List, [], ◌++◌, true, false, refl, Option, None, Some, take, length, sym, ap, subst, arith, inl, inr, append_assoc, is_some, append-nil, length-take, length-append, take-append_seam, IsFault, Front, want_of, IsLess, HasFaultNumberWhateverFollows, Empty, Whole, ReaderState, StandsFor, left, Finding, Tally, IsSoFar, IsCut, HoldsOfSome, verdict_of, IsFedFinding, IsFedBy, IsHeld, IsVerdictOn, left_to_feed}
+use Rattle.sfi_check.proofs.Prelude.{◌≡◌, ◌∙◌, ◌≤◌, ◌<◌, ◌+◌, ◌⊎◌, ℕ, List, [], ◌++◌, true, false, refl, Option, None, Some, take, length, sym, ap, subst, arith, inl, inr, append_assoc, is_some, append-nil, length-take, length-append, take-append_seam, IsFault, Front, want_of, IsLess, HasFaultWhateverFollows, Empty, Whole, LayoutReader, StandsFor, left, Finding, Tally, IsSoFar, IsCut, HoldsOfSome, verdict_of, IsFedFinding, IsFedBy, IsHeld, IsVerdictOn, left_to_feed, LayoutFault}
 use Rattle.sfi_check.specs.declared.feed.Feed.{Feed}
+use Rattle.sfi_image.specs.declared.fault.LayoutFault.TheVariants as faults
 use Rattle.sfi_image.specs.declared.want.Want.{Want}
 use Rattle.sfi_image.specs.declared.want.Want.TheVariants as wants
 use Rattle.sfi_image.specs.declared.want.Next.TheVariants as next
@@ -11,13 +12,13 @@ use Rattle.sfi_check.proofs.Judging.{IsJudgedWhole, ended_whole, ended_short, no
 -- ---- by the fault that it met, if any
 
 pub held_fed : {T : List Finding → Type 0} (f : Feed) (bytes : List ℕ) → f.fault ≡ None → IsHeld T f bytes → IsFedFinding T f bytes
-held_fed {T} f bytes e h = subst (λ (o : Option ℕ). IsFedBy T o f bytes) (sym e) h
+held_fed {T} f bytes e h = subst (λ (o : Option LayoutFault). IsFedBy T o f bytes) (sym e) h
 
 pub fed_held : {T : List Finding → Type 0} (f : Feed) (bytes : List ℕ) → f.fault ≡ None → IsFedFinding T f bytes → IsHeld T f bytes
-fed_held {T} f bytes e h = subst (λ (o : Option ℕ). IsFedBy T o f bytes) e h
+fed_held {T} f bytes e h = subst (λ (o : Option LayoutFault). IsFedBy T o f bytes) e h
 
-pub fed_fault : {T : List Finding → Type 0} (f : Feed) (bytes : List ℕ) (number : ℕ) → f.fault ≡ Some number → IsFedFinding T f bytes → HasFaultNumberWhateverFollows bytes number × HoldsOfSome T
-fed_fault {T} f bytes number e h = subst (λ (o : Option ℕ). IsFedBy T o f bytes) e h
+pub fed_fault : {T : List Finding → Type 0} (f : Feed) (bytes : List ℕ) (k : LayoutFault) → f.fault ≡ Some k → IsFedFinding T f bytes → HasFaultWhateverFollows bytes k × HoldsOfSome T
+fed_fault {T} f bytes k e h = subst (λ (o : Option LayoutFault). IsFedBy T o f bytes) e h
 
 -- ---- what else holds of what it found
 
@@ -41,17 +42,17 @@ held_as f bytes h holds =
 pub fed_weaker : {T U : List Finding → Type 0} (f : Feed) (bytes : List ℕ) → ((found : List Finding) → T found → U found) → IsFedFinding T f bytes → IsFedFinding U f bytes
 fed_weaker {T} {U} f bytes on h = by f.fault h
   where
-    by : (o : Option ℕ) → IsFedBy T o f bytes → IsFedBy U o f bytes
+    by : (o : Option LayoutFault) → IsFedBy T o f bytes → IsFedBy U o f bytes
     by None h = held_as f bytes h (on h.at.tallies.found h.at.tallies.found_holds)
-    by (Some number) h = (h.0, (h.1.0, on h.1.0 h.1.1))
+    by (Some k) h = (h.0, (h.1.0, on h.1.0 h.1.1))
 
 -- the findings are some list
 pub listed : {T : List Finding → Type 0} (f : Feed) (bytes : List ℕ) → IsFedFinding T f bytes → (found : List Finding) × T found × IsFedFinding (λ all. all ≡ found) f bytes
 listed {T} f bytes h = by f.fault h
   where
-    by : (o : Option ℕ) → IsFedBy T o f bytes → (found : List Finding) × T found × IsFedBy (λ all. all ≡ found) o f bytes
+    by : (o : Option LayoutFault) → IsFedBy T o f bytes → (found : List Finding) × T found × IsFedBy (λ all. all ≡ found) o f bytes
     by None h = (h.at.tallies.found, h.at.tallies.found_holds, held_as f bytes h refl)
-    by (Some number) h = (h.1.0, h.1.1, (h.0, (h.1.0, refl)))
+    by (Some k) h = (h.1.0, h.1.1, (h.0, (h.1.0, refl)))
 
 -- a sink that took nothing took what was found in no byte
 pub from_nothing : {S : Type 0} (takes : S → List Finding → S → Type 0) (s : S) (f : Feed) → takes s [] s → IsFedFinding (λ found. found ≡ []) f [] → IsFedFinding (λ found. takes s found s) f []
@@ -59,7 +60,7 @@ from_nothing takes s f none h = fed_weaker f [] (λ found is. subst (λ (l : Lis
 
 -- ---- before the first byte
 
-first_cut : (r : ReaderState) → StandsFor r Empty → (x : Front) → StandsFor r x → IsLess 0 (want_of x)
+first_cut : (r : LayoutReader) → StandsFor r Empty → (x : Front) → StandsFor r x → IsLess 0 (want_of x)
 first_cut r e Empty h = omega arith
 first_cut r e x h = let n = h.kept.0 in let m = e.kept.0 in absurd cc
 
@@ -85,16 +86,16 @@ falls old new len e is more few how =
 pub some_left : (f : Feed) → f.fault ≡ None → 0 < left_to_feed f
 some_left f e = rw (e) (omega arith)
 
-pub fault_more : (bytes more : List ℕ) (number : ℕ) → HasFaultNumberWhateverFollows bytes number → HasFaultNumberWhateverFollows (bytes ++ more) number
-fault_more bytes more number h = (h.0, h.1, λ tail. subst (λ (l : List ℕ). IsFault l h.0) (sym (append_assoc bytes more tail)) (h.2 (more ++ tail)))
+pub fault_more : (bytes more : List ℕ) (k : LayoutFault) → HasFaultWhateverFollows bytes k → HasFaultWhateverFollows (bytes ++ more) k
+fault_more bytes more k h = λ tail. subst (λ (l : List ℕ). IsFault l k) (sym (append_assoc bytes more tail)) (h (more ++ tail))
 
-pub at_reader : {T : List Finding → Type 0} (r s : ReaderState) (t u : Tally) (bytes : List ℕ) → r ≡ s → t ≡ u → IsSoFar T s u bytes → IsSoFar T r t bytes
+pub at_reader : {T : List Finding → Type 0} (r s : LayoutReader) (t u : Tally) (bytes : List ℕ) → r ≡ s → t ≡ u → IsSoFar T s u bytes → IsSoFar T r t bytes
 at_reader r s t u bytes a b h = rw (a, b) h
 
-pub answered_fault : (bytes : List ℕ) (number : ℕ) → HasFaultNumberWhateverFollows bytes number → IsVerdictOn bytes true (answers.Layout number)
-answered_fault bytes number h = on_fault bytes h.0 number h.1 (subst (λ (l : List ℕ). IsFault l h.0) (append-nil bytes) (h.2 []))
+pub answered_fault : (bytes : List ℕ) (k : LayoutFault) → HasFaultWhateverFollows bytes k → IsVerdictOn bytes true (answers.Layout k)
+answered_fault bytes k h = on_fault bytes k (subst (λ (l : List ℕ). IsFault l k) (append-nil bytes) (h []))
 
-is_end : (r : ReaderState) (x : Front) → StandsFor r x → wants.End ≡ want_of x → r.next ≡ next.End
+is_end : (r : LayoutReader) (x : Front) → StandsFor r x → wants.End ≡ want_of x → r.next ≡ next.End
 is_end r (Whole ps) h w = h.kept.0
 is_end r x h w = absurd cc
 
@@ -113,31 +114,31 @@ answered_whole {T} f bytes h want =
     let same : bytes ≡ h.so_far = h.bytes_are ∙ ap (λ (k : ℕ). h.so_far ++ take k f.held) (none_held f bytes h w) ∙ append-nil h.so_far in
     subst (λ (l : List ℕ). IsJudgedWhole T l (verdict_of f.tally)) (sym same) (ended_whole f.reader f.tally h.so_far h.at (is_end f.reader h.at.at h.at.stands w))
 
-is_whole : (r : ReaderState) (x : Front) → StandsFor r x → r.next ≡ next.End → wants.End ≡ want_of x
+is_whole : (r : LayoutReader) (x : Front) → StandsFor r x → r.next ≡ next.End → wants.End ≡ want_of x
 is_whole r (Whole ps) h e = refl
 is_whole r x h e = let n = h.kept.0 in absurd cc
 
-pub answered_short : {T : List Finding → Type 0} (f : Feed) (bytes : List ℕ) (h : IsHeld T f bytes) → (wants.End ≡ want_of h.at.at → ⊥) → IsVerdictOn bytes true (answers.Layout 3)
+pub answered_short : {T : List Finding → Type 0} (f : Feed) (bytes : List ℕ) (h : IsHeld T f bytes) → (wants.End ≡ want_of h.at.at → ⊥) → IsVerdictOn bytes true (answers.Layout faults.Short)
 answered_short f bytes h never = elim h.rests [
   | inl cut ↦
       (let few = cut.few in
       let long = h.long in
       let len : length (take f.count f.held) ≡ f.count = omega (arith, length-take f.count f.held) in
-      subst (λ (l : List ℕ). IsVerdictOn l true (answers.Layout 3)) (sym h.bytes_are)
+      subst (λ (l : List ℕ). IsVerdictOn l true (answers.Layout faults.Short)) (sym h.bytes_are)
       (ended_short f.reader f.tally h.so_far (take f.count f.held) h.at (subst (λ (k : ℕ). IsCut f.reader k) (sym len) cut)))
   | inr end ↦ absurd (never (is_whole f.reader h.at.at h.at.stands end.0))
 ]
 
-after_fault : (T : List Finding → Type 0) (o : Option ℕ) (f : Feed) (before more : List ℕ) → is_some o ≡ true → IsFedBy T o f before → IsFedBy T o f (before ++ more)
+after_fault : (T : List Finding → Type 0) (o : Option LayoutFault) (f : Feed) (before more : List ℕ) → is_some o ≡ true → IsFedBy T o f before → IsFedBy T o f (before ++ more)
 after_fault T None f before more e h = absurd cc
-after_fault T (Some number) f before more e h = (fault_more before more number h.0, h.1)
+after_fault T (Some k) f before more e h = (fault_more before more k h.0, h.1)
 
 pub fed_after_fault : (T : List Finding → Type 0) (f : Feed) (before more : List ℕ) → is_some f.fault ≡ true → IsFedFinding T f before → IsFedFinding T f (before ++ more)
 fed_after_fault T f before more e h = after_fault T f.fault f before more e h
 
-pub no_fault : (o : Option ℕ) → is_some o ≡ false → o ≡ None
+pub no_fault : (o : Option LayoutFault) → is_some o ≡ false → o ≡ None
 no_fault None e = refl
-no_fault (Some number) e = absurd cc
+no_fault (Some k) e = absurd cc
 
 pub few_held : {T : List Finding → Type 0} (f : Feed) (bytes : List ℕ) → IsHeld T f bytes → f.count < 28
 few_held f bytes h = elim h.rests [ inl cut ↦ cut.few | inr end ↦ (let none = end.1 in omega arith) ]

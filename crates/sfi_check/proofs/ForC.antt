@@ -1,7 +1,7 @@
 -- What a verdict for C means, where the answer is right of the bytes.
-use Rattle.sfi_check.proofs.Prelude.{◌≡◌, ◌≢◌, ◌⊎◌, ◌≤◌, ℕ, List, [], ◌∷◌, ◌∙◌, Some, true, refl, sym, ap, subst, inl, inr, arith, append-nil, length, Part, Finding, IsFault, number_of, LayoutFault, HasFaultNumberWhateverFollows, StreamAnswer, HasFindings, IsVerdictOn, IsFaultOf, AreCounted}
+use Rattle.sfi_check.proofs.Prelude.{◌≡◌, ◌≢◌, ◌⊎◌, ◌≤◌, ℕ, List, [], ◌∷◌, ◌∙◌, Some, true, refl, ap, subst, inl, inr, arith, append-nil, Finding, IsFault, LayoutFault, HasFaultWhateverFollows, StreamAnswer, HasFindings, IsVerdictOn, AreCounted}
 use Rattle.sfi_check.specs.declared.stream_answer.StreamAnswer.TheVariants.{Accepted, Layout, Findings, ReadFault}
-use Rattle.sfi_check.specs.ForC.{no_image, refusal, IsAcceptance, IsRefusal, IsLayoutFault, IsVerdictForC}
+use Rattle.sfi_check.specs.ForC.{refusal, IsAcceptance, IsRefusal, IsLayoutFault, IsVerdictForC}
 use Rattle.sfi_check.specs.private.ForC.{verdict_for_c}
 
 accepted : (bytes : List ℕ) (a : StreamAnswer) → IsVerdictOn bytes true a → (verdict_for_c a).status ≡ 0 → IsAcceptance bytes (verdict_for_c a)
@@ -23,18 +23,17 @@ refused bytes (Findings count first) v e = let f = v.findings in counted bytes c
 refused bytes _ v e = absurd cc
 
 -- a fault whatever follows is one of the bytes
-fault : (bytes : List ℕ) (number : ℕ) → ((true ≡ true) × IsFaultOf bytes number) ⊎ HasFaultNumberWhateverFollows bytes number → IsFaultOf bytes number
-fault bytes number (inl (all, h)) = h
-fault bytes number (inr (k, is, h)) = (k, is, subst (λ (l : List ℕ). IsFault l k) (append-nil bytes) (h []))
+fault : (bytes : List ℕ) (k : LayoutFault) → ((true ≡ true) × IsFault bytes k) ⊎ HasFaultWhateverFollows bytes k → IsFault bytes k
+fault bytes k (inl (all, h)) = h
+fault bytes k (inr h) = subst (λ (l : List ℕ). IsFault l k) (append-nil bytes) (h [])
 
 layout : (bytes : List ℕ) (a : StreamAnswer) → IsVerdictOn bytes true a → (verdict_for_c a).status ≡ 2 → IsLayoutFault bytes (verdict_for_c a)
-layout bytes (Layout number) v e =
-    let k = fault bytes number v.layout in record { fault = k.0; is = k.2; verdict_is = ap no_image (sym k.1) }
+layout bytes (Layout k) v e = record { fault = k; is = fault bytes k v.layout; verdict_is = refl }
 layout bytes _ v e = absurd cc
 
 known : (a : StreamAnswer) → a ≢ ReadFault → (verdict_for_c a).status ≤ 2
 known (Accepted sandboxes bundles) came = omega arith
-known (Layout number) came = omega arith
+known (Layout k) came = omega arith
 known (Findings count first) came = omega arith
 known ReadFault came = absurd (came refl)
 

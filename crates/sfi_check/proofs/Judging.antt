@@ -1,5 +1,5 @@
 -- The answer on a stream.
-use Rattle.sfi_check.proofs.Prelude.{◌≡◌, ℕ, ◌<◌, true, false, List, [], ◌∷◌, ◌++◌, length, Option, None, refl, sym, ap, ◌∙◌, subst, arith, append_assoc, inr, slice_get, Part, IsFault, Front, front, HasFaultNumberWhateverFollows, Empty, Whole, ReaderState, StandsFor, left, left_most, Finding, AreImageFindings, StreamAnswer, Tally, Tallies, IsSoFar, IsCut, verdict_by, verdict_of, HasFindings, IsVerdictOn, AreHandedOver, IsImage}
+use Rattle.sfi_check.proofs.Prelude.{◌≡◌, ℕ, ◌<◌, true, false, List, [], ◌∷◌, ◌++◌, length, Option, None, refl, sym, ap, ◌∙◌, subst, arith, append_assoc, inr, slice_get, Part, IsFault, Front, front, HasFaultWhateverFollows, Empty, Whole, LayoutReader, StandsFor, left, left_most, Finding, AreImageFindings, StreamAnswer, Tally, Tallies, IsSoFar, IsCut, verdict_by, verdict_of, HasFindings, IsVerdictOn, AreHandedOver, IsImage, LayoutFault}
 use Rattle.sfi_image.specs.declared.fault.LayoutFault.TheVariants as faults
 use Rattle.sfi_image.specs.declared.want.Next.TheVariants as next
 use Rattle.sfi_check.specs.declared.stream_answer.StreamAnswer.TheVariants as answers
@@ -9,8 +9,8 @@ use Rattle.sfi_image.proofs.Facts.{cut_short, trails, whole_is_image}
 
 -- ---- before the end
 
-pub judged_onwards : (bytes : List ℕ) (number : ℕ) → HasFaultNumberWhateverFollows bytes number → IsVerdictOn bytes false (answers.Layout number)
-judged_onwards bytes number h = record {
+pub judged_onwards : (bytes : List ℕ) (k : LayoutFault) → HasFaultWhateverFollows bytes k → IsVerdictOn bytes false (answers.Layout k)
+judged_onwards bytes k h = record {
   layout = inr h;
   findings = tt;
   accepted = tt;
@@ -57,39 +57,36 @@ judged_whole {T} bytes ps t image k = by k.found k.found_holds k.found_are k.cou
 
 -- ---- the reader's end
 
-at_whole : {T : List Finding → Type 0} (r : ReaderState) (t : Tally) (bytes : List ℕ) (x : Front) → StandsFor r x → bytes ≡ front x → Tallies T t x → r.next ≡ next.End
+at_whole : {T : List Finding → Type 0} (r : LayoutReader) (t : Tally) (bytes : List ℕ) (x : Front) → StandsFor r x → bytes ≡ front x → Tallies T t x → r.next ≡ next.End
     → (ps : List Part) × (bytes ≡ front (Whole ps)) × StandsFor r (Whole ps) × Tallies T t (Whole ps)
 at_whole r t bytes (Whole ps) h e k is = (ps, e, h, k)
 at_whole r t bytes x h e k is = let n = h.kept.0 in absurd cc
 
 -- the stream ends where the image does
-pub ended_whole : {T : List Finding → Type 0} → (r : ReaderState) (t : Tally) (bytes : List ℕ) → IsSoFar T r t bytes → r.next ≡ next.End → IsJudgedWhole T bytes (verdict_of t)
+pub ended_whole : {T : List Finding → Type 0} → (r : LayoutReader) (t : Tally) (bytes : List ℕ) → IsSoFar T r t bytes → r.next ≡ next.End → IsJudgedWhole T bytes (verdict_of t)
 ended_whole r t bytes h is =
     let w = at_whole r t bytes h.at h.stands h.bytes_are h.tallies is in
     judged_whole bytes w.0 t (subst (λ (l : List ℕ). IsImage l w.0) (sym w.1) (whole_is_image w.0 w.2.right)) w.3
 
 -- it goes on after the image
-pub trailing : {T : List Finding → Type 0} → (r : ReaderState) (t : Tally) (bytes rest : List ℕ) → IsSoFar T r t bytes → r.next ≡ next.End → 0 < length rest → HasFaultNumberWhateverFollows (bytes ++ rest) 11
+pub trailing : {T : List Finding → Type 0} → (r : LayoutReader) (t : Tally) (bytes rest : List ℕ) → IsSoFar T r t bytes → r.next ≡ next.End → 0 < length rest → HasFaultWhateverFollows (bytes ++ rest) faults.Trailing
 trailing r t bytes rest h is some =
-    let w = at_whole r t bytes h.at h.stands h.bytes_are h.tallies is in (
-      faults.Trailing,
-      refl,
-      λ more.
-          let regroup : (bytes ++ rest) ++ more ≡ front (Whole w.0) ++ (rest ++ more) = append_assoc bytes rest more ∙ ap (λ (l : List ℕ). l ++ (rest ++ more)) w.1 in
-          rw (regroup) (trails w.0 (rest ++ more) w.2.right (longer rest more some)),
-    )
+    let w = at_whole r t bytes h.at h.stands h.bytes_are h.tallies is in
+    λ more.
+    let regroup : (bytes ++ rest) ++ more ≡ front (Whole w.0) ++ (rest ++ more) = append_assoc bytes rest more ∙ ap (λ (l : List ℕ). l ++ (rest ++ more)) w.1 in
+    rw (regroup) (trails w.0 (rest ++ more) w.2.right (longer rest more some))
   where
     longer : (xs ys : List ℕ) → 0 < length xs → 0 < length (xs ++ ys)
     longer [] ys s = absurd (omega arith)
     longer (x ∷ xs) ys s = omega arith
 
 -- it ends before what comes next is whole
-pub ended_short : {T : List Finding → Type 0} → (r : ReaderState) (t : Tally) (bytes rest : List ℕ) → IsSoFar T r t bytes → IsCut r (length rest) → IsVerdictOn (bytes ++ rest) true (answers.Layout 3)
+pub ended_short : {T : List Finding → Type 0} → (r : LayoutReader) (t : Tally) (bytes rest : List ℕ) → IsSoFar T r t bytes → IsCut r (length rest) → IsVerdictOn (bytes ++ rest) true (answers.Layout faults.Short)
 ended_short r t bytes rest h cut =
-    on_fault (bytes ++ rest) faults.Short 3 refl (subst (λ (l : List ℕ). IsFault (l ++ rest) faults.Short) (sym h.bytes_are) (cut_short h.at rest h.stands.right (cut.less h.at h.stands)))
+    on_fault (bytes ++ rest) faults.Short (subst (λ (l : List ℕ). IsFault (l ++ rest) faults.Short) (sym h.bytes_are) (cut_short h.at rest h.stands.right (cut.less h.at h.stands)))
 
 -- before the first byte
-pub nothing_yet : {T : List Finding → Type 0} (r : ReaderState) (t : Tally) → StandsFor r Empty → t.sandboxes ≡ 0 → t.bundles ≡ 0 → t.count ≡ 0 → t.first ≡ None → T [] → IsSoFar T r t []
+pub nothing_yet : {T : List Finding → Type 0} (r : LayoutReader) (t : Tally) → StandsFor r Empty → t.sandboxes ≡ 0 → t.bundles ≡ 0 → t.count ≡ 0 → t.first ≡ None → T [] → IsSoFar T r t []
 nothing_yet r t stands s b c f holds = record {
   at = Empty;
   stands = stands;

@@ -1,5 +1,5 @@
 -- One step of a reader with its tally.
-use Rattle.sfi_check.proofs.Prelude.{◌≡◌, ℕ, ◌+◌, ◌-◌, ◌<◌, ◌≤◌, List, ◌++◌, length, take, drop, refl, sym, ap, ◌∙◌, subst, arith, append_assoc, inl, inr, None, take-append-drop, length-take, length-drop, take_all, take-append-add, spans, IsCodeRegion, Part, Gate, is_gate_of, Front, Follows, front, IsRightFront, want_of, IsLengthOf, HasFaultNumberWhateverFollows, Empty, AfterMagic, AfterCount, InGates, InCode, InInit, ReaderState, StandsFor, left, Finding, BundlePlace, IsWithin, Tally, Tallies, IsSoFar, HoldsOfSome, Fields}
+use Rattle.sfi_check.proofs.Prelude.{◌≡◌, ℕ, ◌+◌, ◌-◌, ◌<◌, ◌≤◌, List, ◌++◌, length, take, drop, refl, sym, ap, ◌∙◌, subst, arith, append_assoc, inl, inr, None, take-append-drop, length-take, length-drop, take_all, take-append-add, spans, IsCodeRegion, Part, Gate, is_gate_of, Front, Follows, front, IsRightFront, want_of, IsLengthOf, HasFaultWhateverFollows, Empty, AfterMagic, AfterCount, InGates, InCode, InInit, LayoutReader, StandsFor, left, Finding, BundlePlace, IsWithin, Tally, Tallies, IsSoFar, HoldsOfSome, Fields, LayoutFault}
 use Rattle.sfi_image.specs.Tests.{IsFirstFault, field_tests}
 use Rattle.sfi_image.specs.declared.span.Span.{Span}
 use Rattle.sfi_image.specs.declared.want.Want.{Want}
@@ -75,14 +75,14 @@ pub joined : (so_far : List ℕ) (x : Front) (s : List ℕ) (y : Front) → so_f
 joined so_far x s y a b = ap (λ (l : List ℕ). l ++ s) a ∙ sym b
 
 -- what is taken off the reader has a fault
-pub step_fault : {T : List Finding → Type 0} (old : ReaderState) (t : Tally) (so_far s rest : List ℕ) (len number : ℕ) → s ≡ take len rest
-    → ((x : Front) → StandsFor old x → HasFaultNumberWhateverFollows (front x ++ s) number) → IsSoFar T old t so_far → HasFaultNumberWhateverFollows (so_far ++ rest) number × HoldsOfSome T
-step_fault old t so_far s rest len number e wrong h =
-    let here = subst (λ (l : List ℕ). HasFaultNumberWhateverFollows (l ++ s) number) (sym h.bytes_are) (wrong h.at h.stands) in
-    (fault_onwards so_far s rest (drop len rest) number (sym (take-append-drop len rest) ∙ ap (λ (l : List ℕ). l ++ drop len rest) (sym e)) here, (h.tallies.found, h.tallies.found_holds))
+pub step_fault : {T : List Finding → Type 0} (old : LayoutReader) (t : Tally) (so_far s rest : List ℕ) (len : ℕ) (k : LayoutFault) → s ≡ take len rest
+    → ((x : Front) → StandsFor old x → HasFaultWhateverFollows (front x ++ s) k) → IsSoFar T old t so_far → HasFaultWhateverFollows (so_far ++ rest) k × HoldsOfSome T
+step_fault old t so_far s rest len k e wrong h =
+    let here = subst (λ (l : List ℕ). HasFaultWhateverFollows (l ++ s) k) (sym h.bytes_are) (wrong h.at h.stands) in
+    (fault_onwards so_far s rest (drop len rest) k (sym (take-append-drop len rest) ∙ ap (λ (l : List ℕ). l ++ drop len rest) (sym e)) here, (h.tallies.found, h.tallies.found_holds))
 
 -- or leads on, where it is no code
-pub step_taken : {T : List Finding → Type 0} (old new : ReaderState) (t : Tally) (so_far rest : List ℕ) (len : ℕ) (end : StepEnd) → 1 ≤ len → len ≤ length rest → IsTakenOff old new (take len rest) end
+pub step_taken : {T : List Finding → Type 0} (old new : LayoutReader) (t : Tally) (so_far rest : List ℕ) (len : ℕ) (end : StepEnd) → 1 ≤ len → len ≤ length rest → IsTakenOff old new (take len rest) end
     → ((x y : Front) → StandsFor old x → Follows x (take len rest) y → Tallies T t x → Tallies T t y) → IsSoFar T old t so_far → Steps T old new t so_far rest end
 step_taken {T = T} old new t so_far rest len (ends.Took n) some room off tallies h =
     let same : n ≡ len = omega (arith, off.0, length-take len rest) in
@@ -112,14 +112,14 @@ take_on at n xs le =
     let len : length (take at xs) ≡ at = omega (arith, length-take at xs) in
     sym (ap (λ (l : List ℕ). take (at + n) l) (take-append-drop at xs)) ∙ ap (λ (k : ℕ). take (k + n) (take at xs ++ drop at xs)) (sym len) ∙ take-append-add (take at xs) (drop at xs) n
 
-pub so_far_on : {T : List Finding → Type 0} (r : ReaderState) (t : Tally) (so_far : List ℕ) (at n : ℕ) (xs : List ℕ) → at ≤ length xs → IsSoFar T r t ((so_far ++ take at xs) ++ take n (drop at xs)) → IsSoFar T r t (so_far ++ take (at + n) xs)
+pub so_far_on : {T : List Finding → Type 0} (r : LayoutReader) (t : Tally) (so_far : List ℕ) (at n : ℕ) (xs : List ℕ) → at ≤ length xs → IsSoFar T r t ((so_far ++ take at xs) ++ take n (drop at xs)) → IsSoFar T r t (so_far ++ take (at + n) xs)
 so_far_on {T} r t so_far at n xs le h =
     subst (λ (l : List ℕ). IsSoFar T r t l) (append_assoc so_far (take at xs) (take n (drop at xs)) ∙ ap (λ (l : List ℕ). so_far ++ l) (sym (take_on at n xs le))) h
 
 -- a fault after so many bytes of a piece is one of all of them
-pub fault_on : (so_far : List ℕ) (at number : ℕ) (xs : List ℕ) → HasFaultNumberWhateverFollows ((so_far ++ take at xs) ++ drop at xs) number → HasFaultNumberWhateverFollows (so_far ++ xs) number
-fault_on so_far at number xs h =
-    subst (λ (l : List ℕ). HasFaultNumberWhateverFollows l number) (append_assoc so_far (take at xs) (drop at xs) ∙ ap (λ (l : List ℕ). so_far ++ l) (take-append-drop at xs)) h
+pub fault_on : (so_far : List ℕ) (at : ℕ) (k : LayoutFault) (xs : List ℕ) → HasFaultWhateverFollows ((so_far ++ take at xs) ++ drop at xs) k → HasFaultWhateverFollows (so_far ++ xs) k
+fault_on so_far at k xs h =
+    subst (λ (l : List ℕ). HasFaultWhateverFollows l k) (append_assoc so_far (take at xs) (drop at xs) ∙ ap (λ (l : List ℕ). so_far ++ l) (take-append-drop at xs)) h
 
 -- the rest of a piece, as a slice
 pub tail_is : (at : ℕ) (xs : List ℕ) → take (length xs - at) (drop at xs) ≡ drop at xs

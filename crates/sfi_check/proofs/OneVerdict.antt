@@ -1,5 +1,5 @@
 -- Bytes have one verdict.
-use Rattle.sfi_check.proofs.Prelude.{◌≡◌, ◌≢◌, ℕ, List, [], ◌∷◌, ◌++◌, Bool, true, length, Some, Result, Ok, Err, refl, sym, ap, ◌∙◌, subst, inl, inr, ◌⊎◌, slice_get, append-nil, Part, IsFault, number_of, HasFaultNumberWhateverFollows, Finding, AreImageFindings, StreamAnswer, AllRunSafely, IsAccepted, HasFindings, bundle_count, IsVerdictOn, IsFaultOf, AreCounted, Refusal, IsImage, LayoutFault}
+use Rattle.sfi_check.proofs.Prelude.{◌≡◌, ◌≢◌, ℕ, List, [], ◌∷◌, ◌++◌, Bool, true, length, Some, Result, Ok, Err, refl, sym, ap, ◌∙◌, subst, inl, inr, ◌⊎◌, slice_get, append-nil, Part, IsFault, HasFaultWhateverFollows, Finding, AreImageFindings, StreamAnswer, AllRunSafely, IsAccepted, HasFindings, bundle_count, IsVerdictOn, AreCounted, Refusal, IsImage, LayoutFault}
 use Rattle.sfi_check.specs.OneVerdict.{Answers, IsReadOf, SaysSame, OneListOfFindings, NeverAcceptedWithFindings, VerdictIsOnAll, OneVerdict, StreamSaysSame}
 use Rattle.sfi_check.specs.declared.refusal.Refusal.TheVariants.{Layout, Findings, Memory}
 use Rattle.sfi_check.specs.declared.stream_answer.StreamAnswer.TheVariants as answers
@@ -23,12 +23,12 @@ never_both bytes ps found ok h = h.some (one_image_list ps found [] (on_one_imag
 -- ---- the verdict, by what the bytes are
 
 module _ (bytes : List ℕ) where
-  pub on_fault : (k : LayoutFault) (number : ℕ) → number_of k ≡ number → IsFault bytes k → IsVerdictOn bytes true (answers.Layout number)
-  on_fault k number e wrong = record {
-    layout = inl (refl, (k, e, wrong));
+  pub on_fault : (k : LayoutFault) → IsFault bytes k → IsVerdictOn bytes true (answers.Layout k)
+  on_fault k wrong = record {
+    layout = inl (refl, wrong);
     findings = tt;
     accepted = tt;
-    only_layout = λ _ j bad. ap (λ (n : ℕ). answers.Layout n) (sym e ∙ ap number_of (one_fault bytes k j wrong bad));
+    only_layout = λ _ j bad. ap (λ (i : LayoutFault). answers.Layout i) (one_fault bytes k j wrong bad);
     only_findings = λ _ found has first is. absurd (image_facts.never_both bytes has.parts k has.image wrong);
     only_accepted = λ _ ps ok. absurd (image_facts.never_both bytes ps k ok.image wrong);
   }
@@ -67,14 +67,14 @@ module _ (bytes read : List ℕ) (ends : Bool) (of : IsReadOf bytes read ends) w
   whole : ends ≡ true → read ≡ bytes
   whole e = sym (of.bytes_are ∙ ap (λ (more : List ℕ). read ++ more) (of.all_read e) ∙ append-nil read)
 
-  fault : (number : ℕ) → ((ends ≡ true) × IsFaultOf read number) ⊎ HasFaultNumberWhateverFollows read number → IsFaultOf bytes number
-  fault number (inl (e, h)) = subst (λ (l : List ℕ). IsFaultOf l number) (whole e) h
-  fault number (inr (k, is, h)) = (k, is, subst (λ (l : List ℕ). IsFault l k) (sym of.bytes_are) (h of.unread))
+  fault : (k : LayoutFault) → ((ends ≡ true) × IsFault read k) ⊎ HasFaultWhateverFollows read k → IsFault bytes k
+  fault k (inl (e, h)) = subst (λ (l : List ℕ). IsFault l k) (whole e) h
+  fault k (inr h) = subst (λ (l : List ℕ). IsFault l k) (sym of.bytes_are) (h of.unread)
 
   on_all : (said : StreamAnswer) → IsVerdictOn read ends said → said ≢ answers.ReadFault → IsVerdictOn bytes true said
   on_all (answers.Accepted sandboxes bundles) h came =
       let a = h.accepted in on_accepted bytes a.1 sandboxes bundles (subst (λ (l : List ℕ). IsAccepted l a.1) (whole a.0) a.2) a.3 a.4 a.5
-  on_all (answers.Layout number) h came = let k = fault number h.layout in on_fault bytes k.0 number k.1 k.2
+  on_all (answers.Layout k) h came = on_fault bytes k (fault k h.layout)
   on_all (answers.Findings count first) h came =
       let f = h.findings in on_findings bytes f.1 count first (subst (λ (l : List ℕ). HasFindings l f.1) (whole f.0) f.2) f.3
   on_all answers.ReadFault h came = absurd (came refl)
@@ -87,10 +87,9 @@ verdict_is_on_all bytes read ends said of h came = on_all bytes read ends of sai
 module _ (bytes : List ℕ) where
   one : (said again : StreamAnswer) → IsVerdictOn bytes true said → IsVerdictOn bytes true again → said ≢ answers.ReadFault → said ≡ again
   one (answers.Accepted sandboxes bundles) again h g came = let a = h.accepted in rw (a.3, a.4) (sym (g.only_accepted refl a.1 a.2))
-  one (answers.Layout number) again h g came =
+  one (answers.Layout k) again h g came =
       let all : IsReadOf bytes bytes true = record { unread = []; bytes_are = sym (append-nil bytes); all_read = λ e. refl } in
-      let k = fault bytes bytes true all number h.layout in
-      ap (λ (n : ℕ). answers.Layout n) (sym k.1) ∙ sym (g.only_layout refl k.0 k.2)
+      sym (g.only_layout refl k (fault bytes bytes true all k h.layout))
   one (answers.Findings count first) again h g came =
       let f = h.findings in
       ap (λ (n : ℕ). answers.Findings n first) f.3.count_is ∙ sym (g.only_findings refl f.1 f.2 first f.3.first_is)

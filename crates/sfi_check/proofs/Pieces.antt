@@ -1,5 +1,5 @@
 -- The loop over a stream's pieces: what it keeps, and what each of its ends answers.
-use Rattle.sfi_check.proofs.Prelude.{◌≡◌, ◌≤◌, ◌<◌, ◌++◌, ℕ, List, [], Bool, true, false, length, Option, Some, None, Finding, StreamAnswer, IsFed, IsFedFinding, IsVerdictOn, AreHandedOver}
+use Rattle.sfi_check.proofs.Prelude.{◌≡◌, ◌≤◌, ◌<◌, ◌++◌, ℕ, List, [], Bool, true, false, length, Option, Some, None, Finding, StreamAnswer, IsFed, IsFedFinding, IsVerdictOn, AreHandedOver, LayoutFault}
 use Rattle.sfi_image.specs.Sources.{Streams}
 use Rattle.sfi_check.specs.declared.feed.Feed.{Feed}
 use Rattle.sfi_check.specs.declared.stream_answer.StreamAnswer.TheVariants as answers
@@ -26,10 +26,10 @@ module _ {S : Type 0} {reads : S → ℕ → Option (List ℕ) → S → Type 0}
       (i.bytes, false, h.0, failed_read reads s t u i.bytes n i.streams read few, judged_failed i.bytes, h.1, record { findings = tt; accepted = tt })
 
   -- the layout has a fault
-  pub faulty : (number : ℕ) → feed.fault ≡ Some number → IsJudged t (answers.Layout number)
-  faulty number e =
-      let h = fed_fault feed i.bytes number e i.fed in
-      (i.bytes, false, h.1.0, i.streams, judged_onwards i.bytes number h.0, h.1.1, record { findings = tt; accepted = tt })
+  pub faulty : (k : LayoutFault) → feed.fault ≡ Some k → IsJudged t (answers.Layout k)
+  faulty k e =
+      let h = fed_fault feed i.bytes k e i.fed in
+      (i.bytes, false, h.1.0, i.streams, judged_onwards i.bytes k h.0, h.1.1, record { findings = tt; accepted = tt })
 
   -- the stream ends
   pub ends_here : (u : S) (n : ℕ) (answer : StreamAnswer) → reads t n (Some []) u → n ≤ 4096 → 0 < n → ((bytes : List ℕ) → IsFed feed bytes → IsVerdictOn bytes true answer)

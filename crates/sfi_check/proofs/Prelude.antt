@@ -9,11 +9,11 @@ pub use Rattle.sfi_policy.specs.Formats.{code_most, has_words}
 unfoldable pub use Rattle.sfi_policy.specs.Formats.{magic}
 pub use Rattle.sfi_policy.specs.declared.format.Format.{Format}
 pub use Rattle.sfi_policy.specs.declared.format.Format.TheVariants.{Sfi1, Sfi2}
-pub use Rattle.sfi_image.specs.Faults.{IsFault, number_of}
-pub use Rattle.sfi_image.specs.Fronts.{Front, AreBundlesWithin, IsStretchLength, Follows, want_of, IsLess, HasFaultNumberWhateverFollows, front, IsRightFront, IsLengthOf, part_of, after_parts, after_init, after_code, after_gates}
+pub use Rattle.sfi_image.specs.Faults.{IsFault}
+pub use Rattle.sfi_image.specs.Fronts.{Front, AreBundlesWithin, IsStretchLength, Follows, want_of, IsLess, HasFaultWhateverFollows, front, IsRightFront, IsLengthOf, part_of, after_parts, after_init, after_code, after_gates}
 pub use Rattle.sfi_image.specs.Fronts.Front.{Empty, AfterMagic, AfterCount, InGates, InCode, InInit, Whole}
 pub use Rattle.sfi_image.specs.Gates.{is_gate_of}
-pub use Rattle.sfi_image.specs.Keeping.{ReaderState, StandsFor, Leads, left, left_most}
+pub use Rattle.sfi_image.specs.Keeping.{LayoutReader, StandsFor, Leads, left, left_most}
 pub use Rattle.sfi_image.specs.Parts.{IsRightPart, IsRightLayout}
 pub use Rattle.sfi_image.specs.Regions.{IsCodeRegion}
 pub use Rattle.sfi_image.specs.Spans.{spans}
@@ -26,7 +26,7 @@ pub use Rattle.sfi_image.specs.declared.bundle.BundlePlace.{BundlePlace}
 pub use Rattle.sfi_rules.specs.declared.finding.Finding.{Finding}
 pub use Rattle.sfi_check.specs.Feeds.{IsFed, IsFedFinding, IsFedBy, IsHeld}
 pub use Rattle.sfi_runs.specs.Safety.{AllRunSafely}
-pub use Rattle.sfi_check.specs.Streams.{IsVerdictOn, AreHandedOver, IsFaultOf, AreCounted}
+pub use Rattle.sfi_check.specs.Streams.{IsVerdictOn, AreHandedOver, AreCounted}
 pub use Rattle.sfi_check.specs.Verdict.{HasFindings, bundle_count}
 pub use Rattle.sfi_safety.specs.Clean.{IsAccepted}
 pub use Rattle.sfi_check.specs.declared.stream_answer.StreamAnswer.{StreamAnswer}

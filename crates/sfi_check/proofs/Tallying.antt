@@ -1,5 +1,5 @@
 -- The tally of a front and of the one that follows it.
-use Rattle.sfi_check.proofs.Prelude.{◌≡◌, ℕ, ◌+◌, ◌*◌, ◌/◌, ◌<◌, ◌≤◌, eqb, List, [], ◌∷◌, ◌++◌, length, refl, sym, ap, ◌∙◌, subst, arith, append_assoc, inl, inr, slice_get, cases_Bool, eqb-true, length-append, length_push, append-nil, Gate, Part, Front, IsRightFront, want_of, part_of, after_parts, after_init, after_code, after_gates, Follows, HasFaultNumberWhateverFollows, Empty, AfterMagic, AfterCount, InGates, InCode, InInit, Finding, AreFindings, AreFoundUpTo, AreImageFindings, Tally, bundle_count, owed_after, AreFindingsSoFar, AreFindingsWithin, findings_most, Tallies, Fields}
+use Rattle.sfi_check.proofs.Prelude.{◌≡◌, ℕ, ◌+◌, ◌*◌, ◌/◌, ◌<◌, ◌≤◌, eqb, List, [], ◌∷◌, ◌++◌, length, refl, sym, ap, ◌∙◌, subst, arith, append_assoc, inl, inr, slice_get, cases_Bool, eqb-true, length-append, length_push, append-nil, Gate, Part, Front, IsRightFront, want_of, part_of, after_parts, after_init, after_code, after_gates, Follows, HasFaultWhateverFollows, Empty, AfterMagic, AfterCount, InGates, InCode, InInit, Finding, AreFindings, AreFoundUpTo, AreImageFindings, Tally, bundle_count, owed_after, AreFindingsSoFar, AreFindingsWithin, findings_most, Tallies, Fields, LayoutFault}
 use Rattle.std.proofs.lemmas.List.Sums.{sum_by-append}
 use Rattle.sfi_image.specs.declared.want.Want.TheVariants as wants
 use Rattle.sfi_rules.proofs.Facts.{all_found, none_found}
@@ -140,11 +140,7 @@ code_tallies old new m ps f gs code s n found some len more adds on k =
 -- ---- faults
 
 -- a fault of the bytes is one of more bytes
-pub fault_onwards : (bytes s rest : List ℕ) (more : List ℕ) (number : ℕ) → rest ≡ s ++ more → HasFaultNumberWhateverFollows (bytes ++ s) number → HasFaultNumberWhateverFollows (bytes ++ rest) number
-fault_onwards bytes s rest more number e h = (
-  h.0,
-  h.1,
-  λ tail.
-      let regroup : (bytes ++ rest) ++ tail ≡ (bytes ++ s) ++ (more ++ tail) = ap (λ (x : List ℕ). (bytes ++ x) ++ tail) e ∙ simp append_assoc in
-      rw (regroup) (h.2 (more ++ tail)),
-)
+pub fault_onwards : (bytes s rest : List ℕ) (more : List ℕ) (k : LayoutFault) → rest ≡ s ++ more → HasFaultWhateverFollows (bytes ++ s) k → HasFaultWhateverFollows (bytes ++ rest) k
+fault_onwards bytes s rest more k e h = λ tail.
+    let regroup : (bytes ++ rest) ++ tail ≡ (bytes ++ s) ++ (more ++ tail) = ap (λ (x : List ℕ). (bytes ++ x) ++ tail) e ∙ simp append_assoc in
+    rw (regroup) (h (more ++ tail))

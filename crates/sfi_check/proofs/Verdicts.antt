@@ -1,5 +1,5 @@
 -- What the refusal of bytes with a fault says, and what no refusal says of an image.
-use Rattle.sfi_check.proofs.Prelude.{◌≡◌, ◌≢◌, ◌⊎◌, ℕ, List, [], Bool, true, false, Err, refl, ◌∙◌, inl, inr, subst, append-nil, Part, IsFault, HasFaultNumberWhateverFollows, Finding, IsAccepted, IsVerdictOn, IsFaultOf, StreamAnswer, IfLayoutFault, Refusal, IsImage, LayoutFault}
+use Rattle.sfi_check.proofs.Prelude.{◌≡◌, ◌≢◌, ◌⊎◌, ℕ, List, [], Bool, true, false, Err, refl, ◌∙◌, inl, inr, subst, append-nil, Part, IsFault, HasFaultWhateverFollows, Finding, IsAccepted, IsVerdictOn, StreamAnswer, IfLayoutFault, Refusal, IsImage, LayoutFault}
 use Rattle.sfi_check.specs.Refusals.{refusal_of, IfFindings}
 use Rattle.sfi_check.specs.declared.refusal.Refusal.TheVariants as refusals
 use Rattle.sfi_check.specs.declared.stream_answer.StreamAnswer.TheVariants as answers
@@ -21,15 +21,15 @@ fault_layout bytes image.Memory one h k is = tt
 -- ---- bytes that the judge doesn't refuse for findings
 
 -- with a fault they are no image
-no_image : (bytes : List ℕ) (ps : List Part) (number : ℕ) → ((true ≡ true) × IsFaultOf bytes number) ⊎ HasFaultNumberWhateverFollows bytes number → IsImage bytes ps → ⊥
-no_image bytes ps number (inl (all, h)) image = never_both bytes ps h.0 image h.2
-no_image bytes ps number (inr (k, is, h)) image = never_both bytes ps k image (subst (λ (l : List ℕ). IsFault l k) (append-nil bytes) (h []))
+no_image : (bytes : List ℕ) (ps : List Part) (k : LayoutFault) → ((true ≡ true) × IsFault bytes k) ⊎ HasFaultWhateverFollows bytes k → IsImage bytes ps → ⊥
+no_image bytes ps k (inl (all, h)) image = never_both bytes ps k image h
+no_image bytes ps k (inr h) image = never_both bytes ps k image (subst (λ (l : List ℕ). IsFault l k) (append-nil bytes) (h []))
 
 pub accepted_by : (bytes : List ℕ) (a : StreamAnswer) (ps : List Part) → IsVerdictOn bytes true a → ((count : ℕ) (first : Finding) → a ≡ answers.Findings count first → ⊥) → a ≢ answers.ReadFault
     → IsImage bytes ps → IsAccepted bytes ps
 accepted_by bytes (answers.Accepted sandboxes bundles) ps v others came image =
     let h = v.accepted in subst (λ (qs : List Part). IsAccepted bytes qs) (one_image bytes h.1 ps h.2.image image) h.2
-accepted_by bytes (answers.Layout number) ps v others came image = absurd (no_image bytes ps number v.layout image)
+accepted_by bytes (answers.Layout k) ps v others came image = absurd (no_image bytes ps k v.layout image)
 accepted_by bytes (answers.Findings count first) ps v others came image = absurd (others count first refl)
 accepted_by bytes answers.ReadFault ps v others came image = absurd (came refl)
 

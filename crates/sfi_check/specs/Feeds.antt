@@ -1,8 +1,9 @@
 -- What a feed knows of the bytes that it was fed.
 use Rattle.std.specs.Prelude.{◌≡◌, ◌⊎◌, ℕ, List, ◌++◌, length, take, Option, Some, None}
 use Rattle.sfi_image.specs.declared.want.Next.TheVariants as next
-use Rattle.sfi_image.specs.Fronts.{HasFaultNumberWhateverFollows}
-use Rattle.sfi_image.specs.Keeping.{ReaderState}
+use Rattle.sfi_image.specs.declared.fault.LayoutFault.{LayoutFault}
+use Rattle.sfi_image.specs.Fronts.{HasFaultWhateverFollows}
+use Rattle.sfi_image.specs.Keeping.{LayoutReader}
 use Rattle.sfi_rules.specs.declared.finding.Finding.{Finding}
 use Rattle.sfi_check.specs.declared.feed.Feed.{Feed}
 use Rattle.sfi_check.specs.Tallies.{IsSoFar, IsCut}
@@ -10,7 +11,7 @@ use Rattle.sfi_check.specs.Tallies.{IsSoFar, IsCut}
 -- ---- the parts of `IsFedFinding`, which only private contracts name themselves
 
 -- so many bytes are fewer than what comes next has, or the image is whole and none is held
-abbrev pub Rests : ReaderState → ℕ → Type 0
+abbrev pub Rests : LayoutReader → ℕ → Type 0
 Rests r count = IsCut r count ⊎ ((r.next ≡ next.End) × (count ≡ 0))
 
 -- the bytes are those that its reader has taken, and then those in its array; `holds` is true of what
@@ -24,10 +25,10 @@ pub record IsHeld (holds : List Finding → Type 0) (f : Feed) (bytes : List ℕ
 
 -- the feed was fed these bytes and has met this fault, or none: with none it keeps what the bytes are;
 -- with one the bytes have that fault, whatever follows them
-abbrev pub IsFedBy : (List Finding → Type 0) → Option ℕ → Feed → List ℕ → Type 0
+abbrev pub IsFedBy : (List Finding → Type 0) → Option LayoutFault → Feed → List ℕ → Type 0
 IsFedBy holds None f bytes = IsHeld holds f bytes
-IsFedBy holds (Some number) f bytes =
-    HasFaultNumberWhateverFollows bytes number × ((found : List Finding) × holds found)
+IsFedBy holds (Some k) f bytes =
+    HasFaultWhateverFollows bytes k × ((found : List Finding) × holds found)
 
 -- ---- what public contracts name
 

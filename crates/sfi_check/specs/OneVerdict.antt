@@ -1,7 +1,7 @@
 -- That bytes have one verdict, however they are read.
 use Rattle.std.specs.Prelude.{◌≡◌, ◌≢◌, ℕ, List, [], ◌++◌, Bool, true, length, slice_get, Some, Result, Ok, Err, IfOk, IfErr}
 use Rattle.sfi_image.specs.Spelling.{Part}
-use Rattle.sfi_image.specs.Faults.{IsFault, number_of}
+use Rattle.sfi_image.specs.Faults.{IsFault}
 use Rattle.sfi_rules.specs.declared.finding.Finding.{Finding}
 use Rattle.sfi_check.specs.declared.refusal.Refusal.{Refusal}
 use Rattle.sfi_check.specs.declared.refusal.Refusal.TheVariants.{Layout, Findings, Memory}
@@ -27,7 +27,7 @@ pub record IsReadOf (bytes read : List ℕ) (ends : Bool) : Type 0 where
 -- `check_stream` says what `check` says; where memory ran out, `check` says nothing
 abbrev pub SaysSame : Result (List Part) Refusal → StreamAnswer → Type 0
 SaysSame (Ok ps) said = said ≡ answers.Accepted (length ps) (bundle_count ps)
-SaysSame (Err (Layout k)) said = said ≡ answers.Layout (number_of k)
+SaysSame (Err (Layout k)) said = said ≡ answers.Layout k
 SaysSame (Err (Findings found)) said =
     (first : Finding) × (slice_get found.items 0 ≡ Some first)
     × (said ≡ answers.Findings (length found.items) first)

@@ -2,8 +2,8 @@
 use Rattle.std.specs.Prelude.{◌≡◌, ◌⊎◌, ℕ, List, [], Bool, true, length, slice_get, Some}
 use Rattle.sfi_image.specs.declared.fault.LayoutFault.{LayoutFault}
 use Rattle.sfi_image.specs.Spelling.{Part}
-use Rattle.sfi_image.specs.Faults.{IsFault, number_of}
-use Rattle.sfi_image.specs.Fronts.{HasFaultNumberWhateverFollows}
+use Rattle.sfi_image.specs.Faults.{IsFault}
+use Rattle.sfi_image.specs.Fronts.{HasFaultWhateverFollows}
 use Rattle.sfi_rules.specs.declared.finding.Finding.{Finding}
 use Rattle.sfi_check.specs.declared.stream_answer.StreamAnswer.{StreamAnswer}
 use Rattle.sfi_check.specs.declared.stream_answer.StreamAnswer.TheVariants as answers
@@ -13,29 +13,25 @@ use Rattle.sfi_runs.specs.Safety.{AllRunSafely}
 
 -- ---- a fact of the answer, where it is that one
 
-abbrev pub IfLayout : (ℕ → Type 0) → StreamAnswer → Type 0
+abbrev pub IfLayout : (LayoutFault → Type 0) → StreamAnswer → Type 0
 IfLayout P (answers.Accepted sandboxes bundles) = Unit {0}
-IfLayout P (answers.Layout number) = P number
+IfLayout P (answers.Layout k) = P k
 IfLayout P (answers.Findings count first) = Unit {0}
 IfLayout P answers.ReadFault = Unit {0}
 
 abbrev pub IfFindings : (ℕ → Finding → Type 0) → StreamAnswer → Type 0
 IfFindings P (answers.Accepted sandboxes bundles) = Unit {0}
-IfFindings P (answers.Layout number) = Unit {0}
+IfFindings P (answers.Layout k) = Unit {0}
 IfFindings P (answers.Findings count first) = P count first
 IfFindings P answers.ReadFault = Unit {0}
 
 abbrev pub IfAccepted : (ℕ → ℕ → Type 0) → StreamAnswer → Type 0
 IfAccepted P (answers.Accepted sandboxes bundles) = P sandboxes bundles
-IfAccepted P (answers.Layout number) = Unit {0}
+IfAccepted P (answers.Layout k) = Unit {0}
 IfAccepted P (answers.Findings count first) = Unit {0}
 IfAccepted P answers.ReadFault = Unit {0}
 
 -- ---- of bytes
-
--- the bytes have the fault of that number
-abbrev pub IsFaultOf : List ℕ → ℕ → Type 0
-IsFaultOf bytes number = (k : LayoutFault) × (number_of k ≡ number) × IsFault bytes k
 
 -- the number and the first of findings
 pub record AreCounted (count : ℕ) (first : Finding) (found : List Finding) : Type 0 where
@@ -46,15 +42,15 @@ pub record AreCounted (count : ℕ) (first : Finding) (found : List Finding) : T
 -- bytes get it, where the stream ended. Accepted means that the bytes are an image without
 -- findings, each of whose runs is safe.
 pub record IsVerdictOn (bytes : List ℕ) (ends : Bool) (answer : StreamAnswer) : Type 0 where
-  pub layout : IfLayout (λ number. ((ends ≡ true) × IsFaultOf bytes number)
-      ⊎ HasFaultNumberWhateverFollows bytes number) answer
+  pub layout : IfLayout (λ k. ((ends ≡ true) × IsFault bytes k)
+      ⊎ HasFaultWhateverFollows bytes k) answer
   pub findings : IfFindings (λ count first. (ends ≡ true) × (found : List Finding)
       × HasFindings bytes found × AreCounted count first found) answer
   pub accepted : IfAccepted (λ sandboxes bundles. (ends ≡ true) × (ps : List Part)
       × IsAccepted bytes ps × (sandboxes ≡ length ps)
       × (bundles ≡ bundle_count ps) × AllRunSafely ps) answer
   pub only_layout :
-      ends ≡ true → (k : LayoutFault) → IsFault bytes k → answer ≡ answers.Layout (number_of k)
+      ends ≡ true → (k : LayoutFault) → IsFault bytes k → answer ≡ answers.Layout k
   pub only_findings : ends ≡ true → (found : List Finding) → HasFindings bytes found
       → (first : Finding) → slice_get found 0 ≡ Some first
       → answer ≡ answers.Findings (length found) first

@@ -6,7 +6,7 @@ use Rattle.sfi_image.specs.declared.fields.Fields.{Fields}
 use Rattle.sfi_image.specs.Spelling.{Part}
 use Rattle.sfi_image.specs.Fronts.{Front, front, want_of, IsLess, part_of}
 use Rattle.sfi_image.specs.Fronts.Front.{Empty, AfterMagic, AfterCount, InGates, InCode, InInit, Whole}
-use Rattle.sfi_image.specs.Keeping.{ReaderState, StandsFor, left, left_most}
+use Rattle.sfi_image.specs.Keeping.{LayoutReader, StandsFor, left, left_most}
 use Rattle.sfi_rules.specs.declared.finding.Finding.{Finding}
 use Rattle.sfi_rules.specs.declared.owed.Owed.{Owed}
 use Rattle.sfi_rules.specs.declared.owed.Owed.TheVariants.{Nothing}
@@ -80,7 +80,7 @@ pub record Tallies (holds : List Finding → Type 0) (t : Tally) (x : Front) : T
   pub few : t.count ≤ findings_most * t.bundles
 
 -- the reader and the tally are those of the bytes so far, and `holds` is true of their findings
-pub record IsSoFar (holds : List Finding → Type 0) (r : ReaderState) (t : Tally)
+pub record IsSoFar (holds : List Finding → Type 0) (r : LayoutReader) (t : Tally)
     (bytes : List ℕ) : Type 0 where
   pub at : Front
   pub stands : StandsFor r at
@@ -89,6 +89,6 @@ pub record IsSoFar (holds : List Finding → Type 0) (r : ReaderState) (t : Tall
   pub few : t.bundles + left r ≤ left_most
 
 -- the bytes end before what comes next is whole, and are fewer than 28
-pub record IsCut (r : ReaderState) (len : ℕ) : Type 0 where
+pub record IsCut (r : LayoutReader) (len : ℕ) : Type 0 where
   pub less : (x : Front) → StandsFor r x → IsLess len (want_of x)
   pub few : len < 28

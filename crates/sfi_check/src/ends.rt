@@ -1,5 +1,7 @@
 //! How steps on bytes end.
 
+use sfi_image::LayoutFault;
+
 /// How one step ends.
 #[derive(Clone, Copy)]
 pub(crate) enum StepEnd {
@@ -9,8 +11,8 @@ pub(crate) enum StepEnd {
     Short,
     /// The image is whole.
     Whole,
-    /// A test failed, of that number.
-    Fault(u32),
+    /// A test of the layout failed.
+    Fault(LayoutFault),
 }
 
 /// How the steps on a piece end.
@@ -20,6 +22,6 @@ pub(crate) enum PieceEnd {
     More(usize),
     /// The image is whole after so many.
     Whole(usize),
-    /// A test failed, of that number.
-    Fault(u32),
+    /// A test of the layout failed.
+    Fault(LayoutFault),
 }

@@ -34,8 +34,8 @@ pub struct Feed {
     pub held: [u8; ROOM],
     /// How many bytes are held.
     pub count: usize,
-    /// The number of the layout's fault that was met, if one was: 1 to 11.
-    pub fault: Option<u32>,
+    /// The layout's fault that was met, if one was.
+    pub fault: Option<LayoutFault>,
 }
 
 impl Feed {
@@ -87,11 +87,11 @@ impl Feed {
             → left_to_feed self.new < left_to_feed self.old }
     {
         match take_piece::<F, BLOCKS>(&mut self.reader, &mut self.tally, sink, bytes) {
-            PieceEnd::Fault(number) => self.fault = Some(number),
+            PieceEnd::Fault(fault) => self.fault = Some(fault),
             PieceEnd::Whole(at) => {
                 self.count = 0;
                 if at < bytes.len() {
-                    self.fault = Some(LayoutFault::Trailing.number());
+                    self.fault = Some(LayoutFault::Trailing);
                 }
             }
             PieceEnd::More(at) => self.hold(&bytes[at..]),
@@ -175,12 +175,12 @@ impl Feed {
         ensures handed { (bytes : List ℕ) (found : List Finding)
             → IsFedFinding (λ all. all ≡ found) self.now bytes → AreHandedOver bytes found result }
     {
-        if let Some(number) = self.fault {
-            return StreamAnswer::Layout(number);
+        if let Some(fault) = self.fault {
+            return StreamAnswer::Layout(fault);
         }
         match self.reader.wants() {
             Want::End => verdict(&self.tally),
-            _ => StreamAnswer::Layout(LayoutFault::Short.number()),
+            _ => StreamAnswer::Layout(LayoutFault::Short),
         }
     }
 }

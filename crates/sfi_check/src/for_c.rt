@@ -134,7 +134,7 @@ fn verdict_for_c(answer: StreamAnswer) -> SfiVerdict
     match answer {
         StreamAnswer::Accepted { sandboxes, bundles } => acceptance(sandboxes, bundles),
         StreamAnswer::Findings { count, first } => refusal(count, first),
-        StreamAnswer::Layout(number) => no_image(number),
+        StreamAnswer::Layout(fault) => no_image(fault.number()),
         StreamAnswer::ReadFault => unreachable!(),
     }
 }

@@ -20,7 +20,7 @@ fn take_bytes(reader: &mut LayoutReader, bytes: &[u8]) -> StepEnd
     ensures { IsTakenOff reader.old reader.new bytes.now result }
 {
     match reader.take(bytes) {
-        Some(number) => StepEnd::Fault(number),
+        Some(fault) => StepEnd::Fault(fault),
         None => StepEnd::Took(bytes.len()),
     }
 }
@@ -49,8 +49,8 @@ fn take_code<F: FindingSink, const BLOCKS: bool>(
         return StepEnd::Short;
     }
     let code = &rest[..len];
-    if let Some(number) = reader.take(code) {
-        return StepEnd::Fault(number);
+    if let Some(fault) = reader.take(code) {
+        return StepEnd::Fault(fault);
     }
     let owed = tally.owed_at(place);
     tally.add_bundles(place.sandbox, (len / BUNDLE_BYTES) as u32);
@@ -112,7 +112,7 @@ pub(crate) fn take_piece<F: FindingSink, const BLOCKS: bool>(
             StepEnd::Took(len) => at += len,
             StepEnd::Short => return PieceEnd::More(at),
             StepEnd::Whole => return PieceEnd::Whole(at),
-            StepEnd::Fault(number) => return PieceEnd::Fault(number),
+            StepEnd::Fault(fault) => return PieceEnd::Fault(fault),
         }
     }
 }

@@ -44,8 +44,8 @@ pub fn check_stream_into<S: ByteSource, F: FindingSink>(
     let mut feed = Feed::new();
     let mut piece = [0; PIECE];
     loop {
-        if let Some(number) = feed.fault {
-            return StreamAnswer::Layout(number);
+        if let Some(fault) = feed.fault {
+            return StreamAnswer::Layout(fault);
         }
         // With what is held that is a whole piece, so few bundles lie across the end of one.
         let most = PIECE - feed.count;

@@ -1,5 +1,5 @@
 -- What a cursor has read after each step, and what it hands out.
-use Rattle.sfi_image.proofs.Prelude.{◌≡◌, ◌≢◌, ℕ, zero, suc, ◌+◌, ◌*◌, ◌<◌, ◌≤◌, ◌-◌, List, [], ◌∷◌, ◌++◌, length, take, drop, take_all, length-drop, drop-drop, part, Some, refl, sym, ap, ◌∙◌, subst, arith, append_assoc, inl, inr, eqb_tells, All, All-head, All-tail, All-push, None, length_push, get_or_push, take_more, Result, Ok, Err, flat_map, slice_get, ne_eqb, eq-eqb, length-append, append-nil, Format, Gate, Fields, LayoutFault, Short, Trailing, Part, fields_of, number, fields, gate, AreFieldWords, AreGateWords, IsImage, IsFault, Front, front, head, want_of, spans, part_of, after_parts, after_init, after_code, after_gates, HasFaultWhateverFollows, AfterCount, InGates, InCode, InInit, Whole, ReaderState, StandsFor, MayTake}
+use Rattle.sfi_image.proofs.Prelude.{◌≡◌, ◌≢◌, ℕ, zero, suc, ◌+◌, ◌*◌, ◌<◌, ◌≤◌, ◌-◌, List, [], ◌∷◌, ◌++◌, length, take, drop, take_all, length-drop, drop-drop, part, Some, refl, sym, ap, ◌∙◌, subst, arith, append_assoc, inl, inr, eqb_tells, All, All-head, All-tail, All-push, None, length_push, get_or_push, take_more, Result, Ok, Err, flat_map, slice_get, ne_eqb, eq-eqb, length-append, append-nil, Format, Gate, Fields, LayoutFault, Short, Trailing, Part, fields_of, number, fields, gate, AreFieldWords, AreGateWords, IsImage, IsFault, Front, front, head, want_of, spans, part_of, after_parts, after_init, after_code, after_gates, HasFaultWhateverFollows, AfterCount, InGates, InCode, InInit, Whole, LayoutReader, StandsFor, MayTake}
 use Rattle.std.proofs.lemmas.Option.{slice_get_within, get_or_from_slice_get}
 use Rattle.std.proofs.Math.Seq.{take-append_seam}
 use Rattle.sfi_image.specs.declared.cursor.ImageCursor.{ImageCursor}
@@ -42,19 +42,19 @@ at_front {bytes = bytes} {c = c} e h = subst (λ (z : Front). HasRead bytes z c)
 pub short : (bytes : List ℕ) (x : Front) (c : ImageCursor) (len : ℕ) → HasRead bytes x c → MayTake c.reader len → length (unread c) < len → IsFault bytes Short
 short bytes x c len h may lt = subst (λ (l : List ℕ). IsFault l Short) (sym h.bytes_are) (less c.reader x len (unread c) h.stands may lt)
   where
-    less : (r : ReaderState) (x : Front) (len : ℕ) (rest : List ℕ) → StandsFor r x → MayTake r len → length rest < len → IsFault (front x ++ rest) Short
+    less : (r : LayoutReader) (x : Front) (len : ℕ) (rest : List ℕ) → StandsFor r x → MayTake r len → length rest < len → IsFault (front x ++ rest) Short
     less r (InCode n ps f gs code) len rest h may lt =
-        let inside = (rw (h.kept.0) at may).inside in
+        let inside = (rw (h.kept.0) at may.1).inside in
         let read = h.kept.1.code_read in
         let same : r.fields.code_size ≡ f.code_size = ap (λ (y : Fields). y.code_size) h.kept.1.head.fields in
         code_short n ps f gs code rest h.right (omega arith)
     less r (InInit n ps f gs code init) len rest h may lt =
-        let most = (rw (h.kept.0) at may).1 in
+        let most = (rw (h.kept.0) at may.1).1 in
         let read = h.kept.2 in
         let same : r.fields.init_len ≡ f.init_len = ap (λ (y : Fields). y.init_len) h.kept.1.fields in
         cut_short (InInit n ps f gs code init) rest h.right (omega arith)
-    less r (Whole ps) len rest h may lt = absurd (rw (h.kept.0) at may)
-    less r x len rest h may lt = cut_short x rest h.right (let is = rw (h.kept.0) at may in omega arith)
+    less r (Whole ps) len rest h may lt = absurd (rw (h.kept.0) at may.1)
+    less r x len rest h may lt = cut_short x rest h.right (let is = rw (h.kept.0) at may.1 in omega arith)
 
 -- a fault of the bytes taken is one of all of them
 pub faulty : (bytes : List ℕ) (x : Front) (c : ImageCursor) (s rest : List ℕ) (k : LayoutFault) → HasRead bytes x c → unread c ≡ s ++ rest → HasFaultWhateverFollows (front x ++ s) k → IsFault bytes k
@@ -77,7 +77,7 @@ fields_read bytes format n ps s rest len old new f l e words kind =
     let same = same_fields there.0 f [] rest (there_words new.reader there.0 read.stands) words (there.1 ∙ sym kind) (append-nil (fields there.0) ∙ sym there.2 ∙ e) in
     subst (λ (g : Fields). HasRead bytes (after_gates n ps g []) new) same.0 read
   where
-    there_words : (r : ReaderState) (f : Fields) → StandsFor r (after_gates n ps f []) → AreFieldWords f
+    there_words : (r : LayoutReader) (f : Fields) → StandsFor r (after_gates n ps f []) → AreFieldWords f
     there_words r f h =
         elim (eqb_tells 0 f.gate_count) [
           | inl e ↦ (rw (e.0) at h).right.0.words
@@ -104,12 +104,12 @@ one_more bytes n ps f count all s len old new h l =
     }
 
 -- all of its code may be taken
-pub code_taken : (r : ReaderState) (n : ℕ) (ps : List Part) (f : Fields) (gs : List Gate) → StandsFor r (InCode n ps f gs []) → MayTake r f.code_size
+pub code_taken : (r : LayoutReader) (n : ℕ) (ps : List Part) (f : Fields) (gs : List Gate) → StandsFor r (InCode n ps f gs []) → MayTake r f.code_size
 code_taken r n ps f gs h =
     let reg = region (spans ps) f h.right.0.words h.right.0.passed in
     let some = reg.some in
     let size_is = reg.size_is in
-    rw (h.kept.0, h.kept.1.head.fields, h.kept.1.code_read) (record { some = omega arith; whole = omega arith; inside = omega arith })
+    (inr (InCode n ps f gs [], h), rw (h.kept.0, h.kept.1.head.fields, h.kept.1.code_read) (record { some = omega arith; whole = omega arith; inside = omega arith }))
 
 -- its code
 pub code_read : (bytes : List ℕ) (n : ℕ) (ps : List Part) (f : Fields) (gs : List Gate) (old new : ImageCursor) (r : Result (Bor (List ℕ)) LayoutFault)

@@ -1,23 +1,23 @@
 -- What a reader stands for, by what it reads next; and what its numbers are there.
-use Rattle.sfi_image.proofs.Prelude.{◌≡◌, ℕ, ◌+◌, ◌-◌, ◌*◌, ◌^◌, ◌<◌, ◌≤◌, List, [], ◌∷◌, length, drop, refl, sym, ap, ◌∙◌, subst, arith, All, AllPairs, length-map, All-append, All-head, All-tail, Format, Gate, Fields, Part, fields_of, AreApart, spans, spans_of, IsBounded, IsRightPart, Front, want_of, IsLengthOf, AfterCount, InGates, InCode, InInit, Whole, ReaderState, StandsFor, IsReader, MayTake, is_first}
+use Rattle.sfi_image.proofs.Prelude.{◌≡◌, ℕ, ◌+◌, ◌-◌, ◌*◌, ◌^◌, ◌<◌, ◌≤◌, List, [], ◌∷◌, length, drop, refl, sym, ap, ◌∙◌, subst, arith, All, AllPairs, length-map, All-append, All-head, All-tail, Format, Gate, Fields, Part, fields_of, AreApart, spans, spans_of, IsBounded, IsRightPart, Front, want_of, IsLengthOf, AfterCount, InGates, InCode, InInit, Whole, LayoutReader, StandsFor, IsReader, MayTake, TakesLength, is_first, inr}
 use Rattle.sfi_image.specs.declared.want.Next.TheVariants as next
 use Rattle.sfi_image.specs.declared.want.Want.TheVariants as wants
 use Rattle.sfi_image.proofs.SpanLists.{right_bounded}
 use Rattle.sfi_image.proofs.Standing.{region, first_is, front_of}
 
-by_fields : (r : ReaderState) (x : Front) → StandsFor r x → r.next ≡ next.Fields → (format : Format) × (n : ℕ) × (ps : List Part) × StandsFor r (AfterCount format n ps)
+by_fields : (r : LayoutReader) (x : Front) → StandsFor r x → r.next ≡ next.Fields → (format : Format) × (n : ℕ) × (ps : List Part) × StandsFor r (AfterCount format n ps)
 by_fields r (AfterCount format n ps) h is = (format, n, ps, h)
 by_fields r _ h is = let k = h.kept.0 in absurd cc
 
-by_gates : (r : ReaderState) (x : Front) → StandsFor r x → r.next ≡ next.Gate → (n : ℕ) × (ps : List Part) × (f : Fields) × (gs : List Gate) × StandsFor r (InGates n ps f gs)
+by_gates : (r : LayoutReader) (x : Front) → StandsFor r x → r.next ≡ next.Gate → (n : ℕ) × (ps : List Part) × (f : Fields) × (gs : List Gate) × StandsFor r (InGates n ps f gs)
 by_gates r (InGates n ps f gs) h is = (n, ps, f, gs, h)
 by_gates r _ h is = let k = h.kept.0 in absurd cc
 
-pub by_code : (r : ReaderState) (x : Front) → StandsFor r x → r.next ≡ next.Code → (n : ℕ) × (ps : List Part) × (f : Fields) × (gs : List Gate) × (code : List ℕ) × StandsFor r (InCode n ps f gs code)
+pub by_code : (r : LayoutReader) (x : Front) → StandsFor r x → r.next ≡ next.Code → (n : ℕ) × (ps : List Part) × (f : Fields) × (gs : List Gate) × (code : List ℕ) × StandsFor r (InCode n ps f gs code)
 by_code r (InCode n ps f gs code) h is = (n, ps, f, gs, code, h)
 by_code r _ h is = let k = h.kept.0 in absurd cc
 
-by_init : (r : ReaderState) (x : Front) → StandsFor r x → r.next ≡ next.Init → (n : ℕ) × (ps : List Part) × (f : Fields) × (gs : List Gate) × (code : List ℕ) × (init : List ℕ) × StandsFor r (InInit n ps f gs code init)
+by_init : (r : LayoutReader) (x : Front) → StandsFor r x → r.next ≡ next.Init → (n : ℕ) × (ps : List Part) × (f : Fields) × (gs : List Gate) × (code : List ℕ) × (init : List ℕ) × StandsFor r (InInit n ps f gs code init)
 by_init r (InInit n ps f gs code init) h is = (n, ps, f, gs, code, init, h)
 by_init r _ h is = let k = h.kept.0 in absurd cc
 
@@ -32,14 +32,14 @@ length_spans [] = refl
 length_spans (p ∷ ps) = omega (arith, length_spans ps)
 
 -- before the fields of a sandbox
-pub record FieldsNext (r : ReaderState) : Type 0 where
+pub record FieldsNext (r : LayoutReader) : Type 0 where
   pub bounded : All IsBounded r.spans
   pub apart : AllPairs AreApart r.spans
   pub room : length r.spans + 2 ≤ 32
   pub more : r.begun < r.count
   pub few : r.count ≤ 16
 
-pub fields_next : (r : ReaderState) → IsReader r → r.next ≡ next.Fields → FieldsNext r
+pub fields_next : (r : LayoutReader) → IsReader r → r.next ≡ next.Fields → FieldsNext r
 fields_next r reader is =
     let x = front_of r next.Fields reader is (λ e. absurd cc) in
     let at = by_fields r x.0 x.1 is in
@@ -54,7 +54,7 @@ fields_next r reader is =
     }
 
 -- before a bundle
-pub record CodeNext (r : ReaderState) : Type 0 where
+pub record CodeNext (r : LayoutReader) : Type 0 where
   pub begun : 1 ≤ r.begun
   pub inside : r.code_read + 16 ≤ r.fields.code_size
   pub address : r.fields.code_base + r.code_read < 2 ^ 32
@@ -63,7 +63,7 @@ pub record CodeNext (r : ReaderState) : Type 0 where
   pub size : r.fields.code_size ≤ 1048576
   pub not_more : r.begun ≤ r.count
 
-pub code_next : (r : ReaderState) → IsReader r → r.next ≡ next.Code → CodeNext r
+pub code_next : (r : LayoutReader) → IsReader r → r.next ≡ next.Code → CodeNext r
 code_next r reader is =
     let x = front_of r next.Code reader is (λ e. absurd cc) in
     let at = by_code r x.0 x.1 is in
@@ -88,11 +88,11 @@ code_next r reader is =
     }
 
 -- before a gate
-pub record GateNext (r : ReaderState) : Type 0 where
+pub record GateNext (r : LayoutReader) : Type 0 where
   pub more : length r.gates < r.fields.gate_count
   pub few : r.fields.gate_count ≤ 64
 
-pub gate_next : (r : ReaderState) → IsReader r → r.next ≡ next.Gate → GateNext r
+pub gate_next : (r : LayoutReader) → IsReader r → r.next ≡ next.Gate → GateNext r
 gate_next r reader is =
     let x = front_of r next.Gate reader is (λ e. absurd cc) in
     let at = by_gates r x.0 x.1 is in
@@ -106,11 +106,11 @@ gate_next r reader is =
     }
 
 -- before first data bytes
-pub record InitNext (r : ReaderState) : Type 0 where
+pub record InitNext (r : LayoutReader) : Type 0 where
   pub less : r.init_read < r.fields.init_len
   pub few : r.fields.init_len ≤ 1048576
 
-pub init_next : (r : ReaderState) → IsReader r → r.next ≡ next.Init → InitNext r
+pub init_next : (r : LayoutReader) → IsReader r → r.next ≡ next.Init → InitNext r
 init_next r reader is =
     let x = front_of r next.Init reader is (λ e. absurd cc) in
     let at = by_init r x.0 x.1 is in
@@ -122,7 +122,7 @@ init_next r reader is =
 
 -- ---- what is wanted
 
-pub wants_bundle : (r : ReaderState) (x : Front) → StandsFor r x → r.next ≡ next.Code
+pub wants_bundle : (r : LayoutReader) (x : Front) → StandsFor r x → r.next ≡ next.Code
     → wants.Bundle (record {
       sandbox = r.begun - 1;
       address = r.fields.code_base + r.code_read;
@@ -138,13 +138,16 @@ wants_bundle r (InCode n ps f gs code) h is =
     rw (k.head.fields, k.head.begun, k.code_read, begun, first) refl
 wants_bundle r _ h is = let k = h.kept.0 in absurd cc
 
--- as many bytes as come next may be taken
-pub may_take : (r : ReaderState) (x : Front) (len : ℕ) → StandsFor r x → IsLengthOf len (want_of x) → MayTake r len
-may_take r (InInit n ps f gs code init) len h e =
+takes_length : (r : LayoutReader) (x : Front) (len : ℕ) → StandsFor r x → IsLengthOf len (want_of x) → TakesLength r.next r.fields r.code_read r.init_read len
+takes_length r (InInit n ps f gs code init) len h e =
     let room : len + length init ≤ f.init_len = omega (arith, e.0, e.1) in
     rw (h.kept.0, h.kept.1.fields, h.kept.2) (e.0, room)
-may_take r (InCode n ps f gs code) len h e =
+takes_length r (InCode n ps f gs code) len h e =
     let inside = e.inside in
     rw (h.kept.0, h.kept.1.head.fields, h.kept.1.code_read) (record { some = e.some; whole = e.whole; inside = omega arith })
-may_take r (Whole ps) len h e = absurd e
-may_take r _ len h e = rw (h.kept.0) e
+takes_length r (Whole ps) len h e = absurd e
+takes_length r _ len h e = rw (h.kept.0) e
+
+-- as many bytes as come next may be taken
+pub may_take : (r : LayoutReader) (x : Front) (len : ℕ) → StandsFor r x → IsLengthOf len (want_of x) → MayTake r len
+may_take r x len h e = (inr (x, h), takes_length r x len h e)

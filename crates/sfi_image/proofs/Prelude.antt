@@ -20,10 +20,9 @@ pub use Rattle.sfi_image.specs.Fronts.{front, head, IsRightFront, CutShort, Trai
 pub use Rattle.sfi_image.specs.Fronts.Front.{Empty, AfterMagic, AfterCount, InGates, InCode, InInit, Whole}
 pub use Rattle.sfi_image.specs.Gates.{AreGates, is_gate_of}
 pub use Rattle.sfi_image.specs.Images.{IsImage}
-pub use Rattle.sfi_image.specs.Keeping.{ReaderState, StandsFor, Leads, IsReader, AreAhead, is_one_of, KeepsHead, KeepsFields, KeepsCode, AreRest}
+pub use Rattle.sfi_image.specs.Keeping.{LayoutReader, StandsFor, Leads, IsReader, AreAhead, is_one_of, KeepsHead, KeepsFields, KeepsCode, AreRest}
 pub use Rattle.sfi_image.specs.Outcome.{IfLayout}
 pub use Rattle.sfi_image.specs.Parts.{IsRightPart, AreOf, AreRight, IsRightLayout}
-pub use Rattle.sfi_image.specs.Reader.{kept}
 pub use Rattle.sfi_image.specs.Regions.{IsCodeRegion, IsRegion, HasGuardRoom, IsBundleStart}
 pub use Rattle.sfi_image.specs.Spans.{Holds, AreApart, code_span, spans_of, spans, code_region, guarded_span}
 pub use Rattle.sfi_image.specs.Spelling.{Part, AreWords, fields_of, IsWord, AreFieldWords, AreGateWords, format_of, views, view}
@@ -34,4 +33,4 @@ pub use Rattle.sfi_image.specs.declared.fault.LayoutFault.TheVariants.{Count, Sh
 pub use Rattle.sfi_image.specs.declared.fields.Fields.{Fields}
 pub use Rattle.sfi_image.specs.declared.part.Gate.{Gate}
 pub use Rattle.sfi_image.specs.declared.span.Span.{Span}
-pub use Rattle.sfi_image.specs.private.Keeping.{MayTake, next_code, is_first, first_or, count_below, next_part, next_init, next_gate}
+pub use Rattle.sfi_image.specs.private.Keeping.{MayTake, TakesLength, next_code, is_first, first_or, count_below, next_part, next_init, next_gate}

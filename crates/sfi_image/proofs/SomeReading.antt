@@ -1,5 +1,5 @@
 -- Bytes have an image or a fault: a reader goes from front to front, to the image's end or to a fault.
-use Rattle.sfi_image.proofs.Prelude.{◌≡◌, ℕ, ◌+◌, ◌<◌, List, [], ◌∷◌, ◌++◌, length, take, drop, refl, sym, ap, subst, ◌∙◌, arith, append_assoc, zero, suc, inl, inr, ◌⊎◌, Some, None, Option, cases_lt, append-nil, take-append-drop, length-take, length-drop, Format, Sfi1, Sfi2, Sfiw, magic, Fields, LayoutFault, Magic, Count, Short, Trailing, Part, number, fields, gate, AreFieldWords, code_span, spans_of, IsFirstFault, field_tests, IsImage, IsFault, Front, front, HasFaultWhateverFollows, Empty, AfterMagic, AfterCount, InGates, InCode, InInit, Whole, ReaderState, StandsFor, Leads, count_below, next_gate, next_code, next_init}
+use Rattle.sfi_image.proofs.Prelude.{◌≡◌, ℕ, ◌+◌, ◌<◌, List, [], ◌∷◌, ◌++◌, length, take, drop, refl, sym, ap, subst, ◌∙◌, arith, append_assoc, zero, suc, inl, inr, ◌⊎◌, Some, None, Option, cases_lt, append-nil, take-append-drop, length-take, length-drop, Format, Sfi1, Sfi2, Sfiw, magic, LayoutFault, Magic, Count, Short, Trailing, Part, number, fields, gate, AreFieldWords, code_span, spans_of, IsFirstFault, field_tests, IsImage, IsFault, Front, front, HasFaultWhateverFollows, Empty, AfterMagic, AfterCount, InGates, InCode, InInit, Whole, LayoutReader, StandsFor, Leads, count_below, next_gate, next_code, next_init}
 use Rattle.sfi_image.specs.Laws.{SomeReading}
 use Rattle.sfi_image.specs.declared.fault.LayoutFault.TheVariants.{Gates}
 use Rattle.sfi_image.specs.declared.want.Next.TheVariants as next
@@ -17,10 +17,10 @@ IsRead bytes = ((ps : List Part) × IsImage bytes ps) ⊎ ((k : LayoutFault) × 
 
 -- so are a front that a reader stands for and fewer than n bytes after it
 abbrev AreRead : ℕ → Type 0
-AreRead n = (r : ReaderState) (x : Front) (rest : List ℕ) → StandsFor r x → IsBytes rest → length rest < n → IsRead (front x ++ rest)
+AreRead n = (r : LayoutReader) (x : Front) (rest : List ℕ) → StandsFor r x → IsBytes rest → length rest < n → IsRead (front x ++ rest)
 
 -- bytes that lead on
-on : (n : ℕ) → AreRead n → (x : Front) (s more rest : List ℕ) (r : ReaderState) → Leads x s r → rest ≡ s ++ more → length more < length rest → IsBytes more → length rest < suc n → IsRead (front x ++ rest)
+on : (n : ℕ) → AreRead n → (x : Front) (s more rest : List ℕ) (r : LayoutReader) → Leads x s r → rest ≡ s ++ more → length more < length rest → IsBytes more → length rest < suc n → IsRead (front x ++ rest)
 on n further x s more rest r l is less small lt =
     subst IsRead (ap (λ (t : List ℕ). t ++ more) l.bytes ∙ append_assoc (front x) s more ∙ ap (λ (t : List ℕ). front x ++ t) (sym is))
     (further r l.to more l.stands small (omega arith))
@@ -48,7 +48,7 @@ some_magic s =
     none one two three Sfiw = three
 
 -- the fields pass their tests, or fail one
-after_fields : (n : ℕ) → AreRead n → (r : ReaderState) (format : Format) (count : ℕ) (ps : List Part) (rest : List ℕ) → StandsFor r (AfterCount format count ps) → length rest < suc n
+after_fields : (n : ℕ) → AreRead n → (r : LayoutReader) (format : Format) (count : ℕ) (ps : List Part) (rest : List ℕ) → StandsFor r (AfterCount format count ps) → length rest < suc n
     → (f : Spelled fields AreFieldWords 28 rest) → f.item.format ≡ format → (found : Option LayoutFault) → IsFirstFault r.spans f.item field_tests found → IsRead (front (AfterCount format count ps) ++ rest)
 after_fields n further r format count ps rest h lt f kind (Some k) failed =
     wrong (AfterCount format count ps) (fields f.item) f.rest rest k (fields_fault r (AfterCount format count ps) (fields f.item) f.item k h h.kept.0 refl f.fits (kind ∙ sym h.kept.1.of) failed) f.bytes_are
@@ -138,7 +138,7 @@ are_read (suc n) = step n (are_read n)
 pub some_reading : SomeReading
 some_reading bytes all = are_read (suc (length bytes)) first Empty bytes (record { right = tt; kept = (refl, refl) }) (IsBytes-from_all bytes all) (omega arith)
   where
-    first : ReaderState
+    first : LayoutReader
     first = record {
       next = next.Magic;
       count = 0;

@@ -1,5 +1,5 @@
 -- What a reader stands for after each step.
-use Rattle.sfi_image.proofs.Prelude.{◌≡◌, ℕ, suc, ◌+◌, ◌*◌, ◌%◌, ◌<◌, ◌≤◌, ◌==◌, false, ◌^◌, List, [], ◌∷◌, ◌++◌, length, map, drop, refl, sym, ap, ◌∙◌, subst, arith, inl, inr, None, eqb_tells, All, AllPairs, cases_Bool, ltb-true, ne_eqb, length-drop, length_push, drop-drop, Format, magic, Gate, Fields, Span, Part, number, AreFieldWords, code_span, spans, spans_of, AreGates, is_gate_of, AreOf, AreRight, IsFirstFault, field_tests, Front, IsHead, IsOpened, IsRightFront, part_of, after_parts, after_init, after_code, after_gates, Follows, Empty, AfterMagic, AfterCount, ReaderState, KeepsHead, KeepsFields, StandsFor, KeepsCode, IsReader, Leads, AreAhead, AreRest, is_one_of, next_part, next_init, next_code, next_gate, is_first, count_below}
+use Rattle.sfi_image.proofs.Prelude.{◌≡◌, ℕ, suc, ◌+◌, ◌*◌, ◌%◌, ◌<◌, ◌≤◌, ◌==◌, false, ◌^◌, List, [], ◌∷◌, ◌++◌, length, map, drop, refl, sym, ap, ◌∙◌, subst, arith, inl, inr, None, eqb_tells, All, AllPairs, cases_Bool, ltb-true, ne_eqb, length-drop, length_push, drop-drop, Format, magic, Gate, Fields, Span, Part, number, AreFieldWords, code_span, spans, spans_of, AreGates, is_gate_of, AreOf, AreRight, IsFirstFault, field_tests, Front, IsHead, IsOpened, IsRightFront, part_of, after_parts, after_init, after_code, after_gates, Follows, Empty, AfterMagic, AfterCount, LayoutReader, KeepsHead, KeepsFields, StandsFor, KeepsCode, IsReader, Leads, AreAhead, AreRest, is_one_of, next_part, next_init, next_code, next_gate, is_first, count_below}
 use Rattle.std.proofs.Math.Bool.{or-false}
 use Rattle.std.proofs.Math.Dec.{ltb}
 use Rattle.std.proofs.lemmas.Bool.{ltb-false}
@@ -12,28 +12,17 @@ use Rattle.sfi_image.proofs.Formats.{code_at_most, same_format}
 use Rattle.sfi_image.proofs.Following.{fields_again, finished, following_bytes}
 
 -- one step, from where it leads
-pub leads : (x : Front) (s : List ℕ) (r : ReaderState) (y : Front) → IsRightFront x → Follows x s y → StandsFor r y → Leads x s r
+pub leads : (x : Front) (s : List ℕ) (r : LayoutReader) (y : Front) → IsRightFront x → Follows x s y → StandsFor r y → Leads x s r
 leads x s r y right follows stands = record { to = y; stands = stands; follows = follows; bytes = following_bytes x s y right follows }
 
--- what comes next, and a front, of what a reader keeps and of how contracts see it
-pub next_kept : {kept seen : ReaderState} {w : Next} → kept ≡ seen → seen.next ≡ w → kept.next ≡ w
-next_kept same is = ap (λ (r : ReaderState). r.next) same ∙ is
-
-pub stands_kept : {kept seen : ReaderState} {x : Front} → kept ≡ seen → StandsFor seen x → StandsFor kept x
-stands_kept {x = x} same h = subst (λ (r : ReaderState). StandsFor r x) (sym same) h
-
 -- a front that a reader stands for, where it hasn't stopped
-pub front_of : (r : ReaderState) (w : Next) → IsReader r → r.next ≡ w → (w ≡ next.Nothing → ⊥) → (x : Front) × StandsFor r x
+pub front_of : (r : LayoutReader) (w : Next) → IsReader r → r.next ≡ w → (w ≡ next.Nothing → ⊥) → (x : Front) × StandsFor r x
 front_of r w (inl stopped) is goes = absurd (goes (sym is ∙ stopped))
 front_of r w (inr x) is goes = x
 
--- a reader after a step is one
-pub still_reader : (old new : ReaderState) (s : List ℕ) (w : Next) → IsReader old → old.next ≡ w → (w ≡ next.Nothing → ⊥) → ((x : Front) → StandsFor old x → Leads x s new) → IsReader new
-still_reader old new s w reader is goes on = let x = front_of old w reader is goes in let l = on x.0 x.1 in inr (l.to, l.stands)
-
 -- ---- magic and count
 
-pub magic_leads : (old new : ReaderState) (x : Front) (s : List ℕ) (format : Format) → StandsFor old x → old.next ≡ next.Magic → s ≡ magic format
+pub magic_leads : (old new : LayoutReader) (x : Front) (s : List ℕ) (format : Format) → StandsFor old x → old.next ≡ next.Magic → s ≡ magic format
     → new.next ≡ next.Count → new.spans ≡ old.spans → new.fields.format ≡ format → Leads x s new
 magic_leads old new Empty s format h is e to spans_are kind =
     leads Empty s new (AfterMagic format) tt (format, e, refl) (record { right = tt; kept = (to, spans_are ∙ h.kept.1, kind) })
@@ -45,7 +34,7 @@ none_of format = λ k d h. absurd (omega arith)
 none_right : AreRight []
 none_right = record { each = λ k d h. absurd (omega arith); apart = λ i j d h e. absurd (omega arith) }
 
-pub count_leads : (old : ReaderState) (x : Front) (s : List ℕ) (n : ℕ) → StandsFor old x → old.next ≡ next.Count → s ≡ number n → 1 ≤ n → n ≤ 16
+pub count_leads : (old : LayoutReader) (x : Front) (s : List ℕ) (n : ℕ) → StandsFor old x → old.next ≡ next.Count → s ≡ number n → 1 ≤ n → n ≤ 16
     → Leads x s (record old { next = next.Fields; count = n; begun = 0 })
 count_leads old (AfterMagic format) s n h is e low high =
     leads (AfterMagic format) s _ (AfterCount format n []) tt (n, e, refl) (record {
@@ -160,7 +149,7 @@ region before f words passed =
 
 -- ---- where whole sandboxes, first data bytes, code and gates lead
 
-pub parts_stand : (r : ReaderState) (format : Format) (n : ℕ) (ps : List Part) → IsHead format n ps → length ps ≤ n → KeepsHead r format n ps → r.next ≡ next_part (length ps) n
+pub parts_stand : (r : LayoutReader) (format : Format) (n : ℕ) (ps : List Part) → IsHead format n ps → length ps ≤ n → KeepsHead r format n ps → r.next ≡ next_part (length ps) n
     → StandsFor r (after_parts format n ps)
 parts_stand r format n ps h le k is =
     elim (eqb_tells (length ps) n) [
@@ -173,7 +162,7 @@ parts_stand r format n ps h le k is =
       | inr e ↦ rw (e.0) (record { right = (h, omega (arith, e.1)); kept = (rw (e.0) at is, k) })
     ]
 
-pub init_stand : (r : ReaderState) (n : ℕ) (ps : List Part) (f : Fields) (gs : List Gate) (code init : List ℕ) → IsOpened n ps f gs → length gs ≡ f.gate_count
+pub init_stand : (r : LayoutReader) (n : ℕ) (ps : List Part) (f : Fields) (gs : List Gate) (code init : List ℕ) → IsOpened n ps f gs → length gs ≡ f.gate_count
     → length code ≡ f.code_size → length init ≤ f.init_len → KeepsFields r n ps f gs → r.init_read ≡ length init
     → r.next ≡ next_init (length init) f.init_len (length ps + 1) n → StandsFor r (after_init n ps f gs code init)
 init_stand r n ps f gs code init opened g c le k read is =
@@ -194,7 +183,7 @@ init_stand r n ps f gs code init opened g c le k read is =
       | inr e ↦ rw (e.0) (record { right = (opened, g, c, omega (arith, e.1)); kept = (rw (e.0) at is, k, read) })
     ]
 
-pub code_stand : (r : ReaderState) (n : ℕ) (ps : List Part) (f : Fields) (gs : List Gate) (code : List ℕ) → IsOpened n ps f gs → length gs ≡ f.gate_count
+pub code_stand : (r : LayoutReader) (n : ℕ) (ps : List Part) (f : Fields) (gs : List Gate) (code : List ℕ) → IsOpened n ps f gs → length gs ≡ f.gate_count
     → length code % 16 ≡ 0 → length code ≤ f.code_size → KeepsCode r n ps f gs code
     → r.next ≡ next_code (length code) f.code_size f.init_len (length ps + 1) n → StandsFor r (after_code n ps f gs code)
 code_stand r n ps f gs code opened g even le k is =
@@ -203,7 +192,7 @@ code_stand r n ps f gs code opened g even le k is =
       | inr e ↦ rw (e.0) (record { right = (opened, g, even, omega (arith, e.1)); kept = (rw (e.0) at is, k) })
     ]
 
-pub gates_stand : (r : ReaderState) (n : ℕ) (ps : List Part) (f : Fields) (gs : List Gate) → IsOpened n ps f gs → length gs ≤ f.gate_count → KeepsFields r n ps f gs
+pub gates_stand : (r : LayoutReader) (n : ℕ) (ps : List Part) (f : Fields) (gs : List Gate) → IsOpened n ps f gs → length gs ≤ f.gate_count → KeepsFields r n ps f gs
     → r.passed ≡ 0 → r.code_read ≡ 0 → r.init_read ≡ 0 → r.next ≡ next_gate (length gs) f.gate_count → StandsFor r (after_gates n ps f gs)
 gates_stand r n ps f gs opened le k passed code_read init_read is =
     elim (eqb_tells (length gs) f.gate_count) [

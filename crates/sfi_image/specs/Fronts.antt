@@ -15,7 +15,7 @@ use Rattle.sfi_image.specs.Gates.{AreGates, is_gate_of}
 use Rattle.sfi_image.specs.Parts.{AreOf, AreRight}
 use Rattle.sfi_image.specs.Tests.{IsFirstFault, field_tests}
 use Rattle.sfi_image.specs.declared.fault.LayoutFault.TheVariants.{Short, Trailing}
-use Rattle.sfi_image.specs.Faults.{IsFault, number_of}
+use Rattle.sfi_image.specs.Faults.{IsFault}
 use Rattle.sfi_image.specs.Images.{IsImage}
 
 -- What was read: nothing; the magic of a format; then the count and so many whole sandboxes, after
@@ -175,11 +175,6 @@ Follows (Whole ps) s y = ⊥
 -- the bytes have that fault, and have it whatever follows them
 abbrev pub HasFaultWhateverFollows : List ℕ → LayoutFault → Type 0
 HasFaultWhateverFollows bytes k = (more : List ℕ) → IsFault (bytes ++ more) k
-
--- the same, of the fault of that number
-abbrev pub HasFaultNumberWhateverFollows : List ℕ → ℕ → Type 0
-HasFaultNumberWhateverFollows bytes n =
-    (k : LayoutFault) × (number_of k ≡ n) × HasFaultWhateverFollows bytes k
 
 -- so many bytes are fewer than come next
 abbrev pub IsLess : ℕ → Want → Type 0

@@ -6,7 +6,7 @@ use Rattle.sfi_policy.specs.declared.format.Format.TheVariants.{Sfi2}
 use Rattle.sfi_policy.specs.Formats.{code_most}
 use Rattle.sfi_image.specs.declared.part.Gate.{Gate}
 use Rattle.sfi_image.specs.declared.fields.Fields.{Fields}
-use Rattle.sfi_image.specs.declared.span.Span.{Span}
+pub use Rattle.sfi_image.specs.declared.layout_reader.LayoutReader.{LayoutReader}
 use Rattle.sfi_image.specs.declared.want.Next.{Next}
 use Rattle.sfi_image.specs.declared.want.Next.TheVariants as next
 use Rattle.sfi_image.specs.Spelling.{Part, format_of}
@@ -15,32 +15,17 @@ use Rattle.sfi_image.specs.Gates.{is_gate_of}
 use Rattle.sfi_image.specs.Fronts.{Front, front, IsRightFront, Follows}
 use Rattle.sfi_image.specs.Fronts.Front.{Empty, AfterMagic, AfterCount, InGates, InCode, InInit, Whole}
 
--- what is kept: what comes next, the count, how many sandboxes are begun, their spans, and of the
--- last of these the fields, the gates' addresses, how many of them lie before the next bundle, and
--- how many bytes were read of its code and of its first data bytes;
--- the format of the fields is kept from the magic on
-pub record ReaderState : Type 0 where
-  pub next : Next
-  pub count : ℕ
-  pub begun : ℕ
-  pub spans : List Span
-  pub fields : Fields
-  pub gates : List ℕ
-  pub passed : ℕ
-  pub code_read : ℕ
-  pub init_read : ℕ
-
 -- ---- of which fronts: `StandsFor`, and its parts, which only private contracts name themselves
 
 -- the reader keeps what follows from the format, the count and these whole sandboxes
-pub record KeepsHead (r : ReaderState) (format : Format) (n : ℕ) (ps : List Part) : Type 0 where
+pub record KeepsHead (r : LayoutReader) (format : Format) (n : ℕ) (ps : List Part) : Type 0 where
   pub of : r.fields.format ≡ format
   pub count : r.count ≡ n
   pub begun : r.begun ≡ length ps
   pub spans : r.spans ≡ spans ps
 
 -- it keeps what follows from these sandboxes, the fields of the next one and its gates so far
-pub record KeepsFields (r : ReaderState) (n : ℕ) (ps : List Part) (f : Fields)
+pub record KeepsFields (r : LayoutReader) (n : ℕ) (ps : List Part) (f : Fields)
     (gs : List Gate) : Type 0 where
   pub count : r.count ≡ n
   pub begun : r.begun ≡ length ps + 1
@@ -64,7 +49,7 @@ pub record AreRest (at : ℕ) (gs : List Gate) (ahead : List ℕ) : Type 0 where
   pub same : (a : ℕ) → at ≤ a → is_one_of ahead a ≡ is_gate_of gs a
 
 -- the same, how many bytes of its code are read, and which of its gates lie after these
-pub record KeepsCode (r : ReaderState) (n : ℕ) (ps : List Part) (f : Fields) (gs : List Gate)
+pub record KeepsCode (r : LayoutReader) (n : ℕ) (ps : List Part) (f : Fields) (gs : List Gate)
     (code : List ℕ) : Type 0 where
   pub head : KeepsFields r n ps f gs
   pub code_read : r.code_read ≡ length code
@@ -73,7 +58,7 @@ pub record KeepsCode (r : ReaderState) (n : ℕ) (ps : List Part) (f : Fields) (
   pub rest : AreRest (f.code_base + length code) gs (drop r.passed r.gates)
 
 -- what it keeps is that of the front
-abbrev pub Keeps : ReaderState → Front → Type 0
+abbrev pub Keeps : LayoutReader → Front → Type 0
 Keeps r Empty = (r.next ≡ next.Magic) × (r.spans ≡ [])
 Keeps r (AfterMagic format) = (r.next ≡ next.Count) × (r.spans ≡ []) × (r.fields.format ≡ format)
 Keeps r (AfterCount format n ps) = (r.next ≡ next.Fields) × KeepsHead r format n ps
@@ -85,22 +70,22 @@ Keeps r (InInit n ps f gs code init) =
 Keeps r (Whole ps) = (r.next ≡ next.End) × (r.fields.format ≡ format_of ps)
 
 -- the reader has read that front, and all of it passed its tests
-pub record StandsFor (r : ReaderState) (x : Front) : Type 0 where
+pub record StandsFor (r : LayoutReader) (x : Front) : Type 0 where
   pub right : IsRightFront x
   pub kept : Keeps r x
 
 -- it has met a fault, after which nothing is wanted
-abbrev pub HasStopped : ReaderState → Type 0
+abbrev pub HasStopped : LayoutReader → Type 0
 HasStopped r = r.next ≡ next.Nothing
 
--- each reader stands for a front, or has met a fault
-abbrev pub IsReader : ReaderState → Type 0
+-- a reader that was handed bytes from the start stands for a front, or has met a fault
+abbrev pub IsReader : LayoutReader → Type 0
 IsReader r = HasStopped r ⊎ ((x : Front) × StandsFor r x)
 
 -- ---- one step
 
 -- after the bytes the reader stands for the front that they make of that one
-pub record Leads (x : Front) (s : List ℕ) (r : ReaderState) : Type 0 where
+pub record Leads (x : Front) (s : List ℕ) (r : LayoutReader) : Type 0 where
   pub to : Front
   pub stands : StandsFor r to
   pub follows : Follows x s to
@@ -119,7 +104,7 @@ abbrev pub left_most : ℕ
 left_most = sandboxes_most * part_most + 2
 
 -- what is left before this comes next
-abbrev pub left_by : Next → ReaderState → ℕ
+abbrev pub left_by : Next → LayoutReader → ℕ
 left_by next.Magic r = left_most
 left_by next.Count r = sandboxes_most * part_most + 1
 left_by next.Fields r = (r.count - r.begun) * part_most
@@ -133,5 +118,5 @@ left_by next.End r = 0
 left_by next.Nothing r = 0
 
 -- a number that falls with each step
-abbrev pub left : ReaderState → ℕ
+abbrev pub left : LayoutReader → ℕ
 left r = left_by r.next r

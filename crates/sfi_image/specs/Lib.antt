@@ -15,8 +15,6 @@ pub mod Outcome
 pub mod Fronts
 pub mod Keeping
 pub mod Cursor
-pub mod Reader
-pub mod ReaderParts
 pub mod Sources
 pub mod Reading
 pub mod private

@@ -12,7 +12,7 @@ pub(crate) const SPANS_MOST: usize = 2 * SANDBOX_COUNT_MOST;
 
 /// Spans, two for each of as many sandboxes as an image may have. Contracts see them as a list.
 #[derive(Drop)]
-pub(crate) struct KeptSpans {
+pub struct KeptSpans {
     spans: [Span; SPANS_MOST],
     count: usize,
 }
@@ -37,7 +37,7 @@ impl KeptSpans {
     }
 
     /// Those at the front of an array: so many, or all.
-    pub(crate) fn of(spans: [Span; SPANS_MOST], count: usize) -> Self
+    pub fn of(spans: [Span; SPANS_MOST], count: usize) -> Self
         ensures { result ≡ take count spans }
     {
         KeptSpans {
@@ -47,13 +47,14 @@ impl KeptSpans {
     }
 
     /// The array that has them at its front.
-    pub(crate) fn array(&self) -> [Span; SPANS_MOST]
+    pub fn array(&self) -> [Span; SPANS_MOST]
         ensures { take (length self.now) result ≡ self.now }
     {
         self.spans
     }
 
-    pub(crate) fn len(&self) -> usize
+    /// How many there are.
+    pub fn len(&self) -> usize
         ensures { result ≡ length self.now }
     {
         self.count
@@ -76,7 +77,7 @@ impl KeptSpans {
 
 /// The addresses of as many gates as a sandbox may have. Contracts see them as a list.
 #[derive(Drop)]
-pub(crate) struct KeptGates {
+pub struct KeptGates {
     addresses: [u32; GATE_COUNT_MOST],
     count: usize,
 }
@@ -100,7 +101,7 @@ impl KeptGates {
     }
 
     /// Those at the front of an array: so many, or all.
-    pub(crate) fn of(addresses: [u32; GATE_COUNT_MOST], count: usize) -> Self
+    pub fn of(addresses: [u32; GATE_COUNT_MOST], count: usize) -> Self
         ensures { result ≡ take count addresses }
     {
         KeptGates {
@@ -110,7 +111,7 @@ impl KeptGates {
     }
 
     /// The array that has them at its front.
-    pub(crate) fn array(&self) -> [u32; GATE_COUNT_MOST]
+    pub fn array(&self) -> [u32; GATE_COUNT_MOST]
         ensures { take (length self.now) result ≡ self.now }
     {
         self.addresses
@@ -122,7 +123,8 @@ impl KeptGates {
         &self.addresses[..self.count]
     }
 
-    pub(crate) fn len(&self) -> usize
+    /// How many there are, at most 64.
+    pub fn len(&self) -> usize
         ensures value { result ≡ length self.now }
         ensures few { result ≤ gates_most }
     {

@@ -2,10 +2,9 @@
 ghost use Rattle.std.specs.Prelude.{◌≡◌, ◌≢◌, ℕ, ◌+◌, ◌-◌, ◌<◌, ◌≤◌, ◌↔◌, ◌*◌, ◌++◌, ◌∷◌, [], List, length, map, drop, cond, ◌==◌, IsTrue, IfSome, IfNone, false};
 ghost use Rattle.sfi_policy.specs.Limits.{bundle_size};
 ghost use Rattle.sfi_image.specs.declared.fault.LayoutFault.{LayoutFault};
-ghost use Rattle.sfi_image.specs.Fronts.{Front, front, want_of, AreBundlesWithin, IsLengthOf, IsStretchLength, HasFaultNumberWhateverFollows};
+ghost use Rattle.sfi_image.specs.Fronts.{Front, front, want_of, AreBundlesWithin, IsLengthOf, IsStretchLength, HasFaultWhateverFollows};
 ghost use Rattle.sfi_image.specs.Fronts.Front.{Empty};
 ghost use Rattle.sfi_image.specs.Keeping.{StandsFor, IsReader, HasStopped, Leads, left};
-ghost use Rattle.sfi_image.specs.ReaderParts.{state_of};
 ghost use Rattle.sfi_image.specs.private.Keeping.{MayTake, Takes, as_want, count_below, first_or, is_first, next_part, next_init, next_code, next_gate};
 
 use crate::bundle::BundlePlace;
@@ -13,38 +12,35 @@ use crate::fault::LayoutFault;
 use crate::fields::{Fields, spans_after};
 use crate::gates::is_next_gate;
 use crate::kept::{KeptGates, KeptSpans};
-use crate::reader_parts::ReaderParts;
 use crate::reading::{
     FIELDS_BYTES, GATE_BYTES, MAGIC_BYTES, NUMBER_BYTES, fields_at, format_at, gate_at, number_at,
 };
 use crate::want::{Next, OtherWant, Want};
 use sfi_policy::{BUNDLE_SIZE, Format, SANDBOXES_MOST};
-use std::marker::Model;
 
 /// Reads an image's bytes in order, as they come, and keeps of them only what its tests need.
+///
+/// The fields are public so that a caller may keep them elsewhere between two pieces, as C does.
 #[derive(Drop)]
 pub struct LayoutReader {
-    next: Next,
-    count: u32,
-    begun: u32,
-    spans: KeptSpans,
-    fields: Fields,
-    gates: KeptGates,
-    passed: usize,
-    code_read: u32,
-    init_read: u32,
-}
-
-impl Model for LayoutReader {
-    ghost use Rattle.sfi_image.specs.Keeping.{ReaderState, IsReader};
-
-    ghost Value = { ReaderState };
-
-    ghost use Rattle.sfi_image.specs.Reader.{kept};
-
-    ghost view = { kept };
-
-    ghost invariant = { λ a. IsReader (kept a) };
+    /// What comes next.
+    pub next: Next,
+    /// How many sandboxes the image has.
+    pub count: u32,
+    /// How many of these have had their fields read.
+    pub begun: u32,
+    /// The spans of these: two for each.
+    pub spans: KeptSpans,
+    /// The fields of the last of these; before the first, the image's format in them.
+    pub fields: Fields,
+    /// The addresses of its gates so far.
+    pub gates: KeptGates,
+    /// How many of these lie before the next bundle.
+    pub passed: usize,
+    /// How many bytes of its code were read.
+    pub code_read: u32,
+    /// How many of its first data bytes were read.
+    pub init_read: u32,
 }
 
 // What comes after so many sandboxes.
@@ -164,44 +160,6 @@ impl LayoutReader {
         }
     }
 
-    /// What it keeps, as plain values.
-    pub fn parts(&self) -> ReaderParts
-        ensures same { state_of result ≡ self.now }
-        ensures reader { IsReader self.now }
-    {
-        ReaderParts {
-            next: self.next,
-            count: self.count,
-            begun: self.begun,
-            spans: self.spans.array(),
-            span_count: self.spans.len(),
-            fields: self.fields,
-            gates: self.gates.array(),
-            gate_count: self.gates.len(),
-            passed: self.passed,
-            code_read: self.code_read,
-            init_read: self.init_read,
-        }
-    }
-
-    /// The reader that keeps these values.
-    pub fn from_parts(parts: &ReaderParts) -> Self
-        requires { IsReader (state_of parts.now) }
-        ensures { result ≡ state_of parts.now }
-    {
-        LayoutReader {
-            next: parts.next,
-            count: parts.count,
-            begun: parts.begun,
-            spans: KeptSpans::of(parts.spans, parts.span_count),
-            fields: parts.fields,
-            gates: KeptGates::of(parts.gates, parts.gate_count),
-            passed: parts.passed,
-            code_read: parts.code_read,
-            init_read: parts.init_read,
-        }
-    }
-
     // The image's format, after its magic.
     pub(crate) fn format(&self) -> Format
         ensures { result ≡ self.now.fields.format }
@@ -212,6 +170,7 @@ impl LayoutReader {
     /// What comes next.
     #[inline]
     pub fn wants(&self) -> Want
+        requires { IsReader self.now }
         ensures want { (x : Front) → StandsFor self.now x → result ≡ want_of x }
         ensures stopped { HasStopped self.now → result ≡ Want.Nothing }
     {
@@ -238,7 +197,8 @@ impl LayoutReader {
     // What comes next where no bundle does: out of line, since most that is read is bundles.
     #[inline(never)]
     fn wants_no_bundle(&self) -> OtherWant
-        requires { self.now.next ≢ Next.Code }
+        requires next { self.now.next ≢ Next.Code }
+        requires reader { IsReader self.now }
         ensures want { (x : Front) → StandsFor self.now x → as_want result ≡ want_of x }
         ensures stopped { HasStopped self.now → result ≡ OtherWant.Nothing }
     {
@@ -258,6 +218,7 @@ impl LayoutReader {
     /// the code region's end: none where no code comes next.
     #[inline(never)]
     pub fn stretch_length(&self) -> usize
+        requires { IsReader self.now }
         ensures length { (x : Front) → StandsFor self.now x → IsStretchLength x result }
         ensures stopped { HasStopped self.now → result ≡ 0 }
     {
@@ -274,28 +235,24 @@ impl LayoutReader {
     }
 
     /// Takes the bytes that come next, as many as are wanted, or any whole number of bundles of the
-    /// code region. The answer is the number of the first test that fails, if one does; then nothing is
-    /// wanted any more.
+    /// code region. The answer is the first test that fails, if one does; then nothing is wanted any more.
     #[inline]
-    pub fn take(&mut self, bytes: &[u8]) -> Option<u32>
+    pub fn take(&mut self, bytes: &[u8]) -> Option<LayoutFault>
         requires { (x : Front) × StandsFor self.old x × IsLengthOf (length bytes.now) (want_of x) }
         ensures goes_on { IfNone result
             ((x : Front) → StandsFor self.old x → Leads x bytes.now self.new) }
-        ensures fault { IfSome result (λ n.
+        ensures fault { IfSome result (λ k.
             (x : Front) → StandsFor self.old x
-            → HasFaultNumberWhateverFollows (front x ++ bytes.now) n) }
-        ensures stopped { IfSome result (λ n. HasStopped self.new) }
+            → HasFaultWhateverFollows (front x ++ bytes.now) k) }
+        ensures stopped { IfSome result (λ k. HasStopped self.new) }
         ensures falls { left self.new < left self.old }
         ensures code { self.old.next ≡ Next.Code →
             left self.new + length bytes.now ≤ left self.old }
     {
-        match self.advance(bytes) {
-            Some(fault) => Some(fault.number()),
-            None => None,
-        }
+        self.advance(bytes)
     }
 
-    // The same, with the fault itself.
+    // The same, of a length that what is kept allows.
     #[inline]
     pub(crate) fn advance(&mut self, bytes: &[u8]) -> Option<LayoutFault>
         requires { MayTake self.old (length bytes.now) }
@@ -335,6 +292,7 @@ impl LayoutReader {
 
     #[inline(never)]
     fn take_magic(&mut self, bytes: &[u8]) -> Option<LayoutFault>
+        requires reader { IsReader self.old }
         requires next { self.old.next ≡ Next.Magic }
         requires len { length bytes.now ≡ MAGIC_BYTES }
         ensures takes { Takes self.old bytes.now self.new result }
@@ -351,6 +309,7 @@ impl LayoutReader {
 
     #[inline(never)]
     fn take_count(&mut self, bytes: &[u8]) -> Option<LayoutFault>
+        requires reader { IsReader self.old }
         requires next { self.old.next ≡ Next.Count }
         requires len { length bytes.now ≡ NUMBER_BYTES }
         ensures takes { Takes self.old bytes.now self.new result }
@@ -369,6 +328,7 @@ impl LayoutReader {
 
     #[inline(never)]
     fn take_fields(&mut self, bytes: &[u8]) -> Option<LayoutFault>
+        requires reader { IsReader self.old }
         requires next { self.old.next ≡ Next.Fields }
         requires len { length bytes.now ≡ FIELDS_BYTES }
         ensures takes { Takes self.old bytes.now self.new result }
@@ -396,6 +356,7 @@ impl LayoutReader {
 
     #[inline(never)]
     fn take_gate(&mut self, bytes: &[u8]) -> Option<LayoutFault>
+        requires reader { IsReader self.old }
         requires next { self.old.next ≡ Next.Gate }
         requires len { length bytes.now ≡ GATE_BYTES }
         ensures takes { Takes self.old bytes.now self.new result }
@@ -415,6 +376,7 @@ impl LayoutReader {
     // Takes whole bundles of a sandbox's code: out of line, since one call takes many.
     #[inline(never)]
     fn take_code(&mut self, code: &[u8])
+        requires reader { IsReader self.old }
         requires next { self.old.next ≡ Next.Code }
         requires len { AreBundlesWithin (self.old.fields.code_size - self.old.code_read) (length code.now) }
         ensures takes { Takes self.old code.now self.new None }
@@ -435,6 +397,7 @@ impl LayoutReader {
 
     #[inline(never)]
     fn take_init(&mut self, bytes: &[u8])
+        requires reader { IsReader self.old }
         requires next { self.old.next ≡ Next.Init }
         requires len { 1 ≤ length bytes.now }
         requires room { length bytes.now + self.old.init_read ≤ self.old.fields.init_len }

@@ -4,14 +4,14 @@ use Rattle.std.proofs.lemmas.List.{append-nil}
 use Rattle.sfi_image.specs.declared.fault.LayoutFault.{LayoutFault}
 use Rattle.sfi_image.specs.Spelling.{Part}
 use Rattle.sfi_image.specs.Faults.{IsFault}
-use Rattle.sfi_image.specs.Fronts.{HasFaultNumberWhateverFollows}
+use Rattle.sfi_image.specs.Fronts.{HasFaultWhateverFollows}
 use Rattle.sfi_image.proofs.Facts as image
 use Rattle.sfi_rules.specs.declared.finding.Finding.{Finding}
 use Rattle.sfi_safety.specs.Clean.{IsAccepted}
 use Rattle.sfi_check.specs.declared.stream_answer.StreamAnswer.{StreamAnswer}
 use Rattle.sfi_check.specs.declared.stream_answer.StreamAnswer.TheVariants as answers
 use Rattle.sfi_check.specs.Verdict.{HasFindings}
-use Rattle.sfi_check.specs.Streams.{IsVerdictOn, IsFaultOf}
+use Rattle.sfi_check.specs.Streams.{IsVerdictOn}
 use Rattle.sfi_check.proofs.Facts.{never_both}
 use Rattle.sfi_run.specs.Loading.{Means, fault_number}
 use Rattle.sfi_run.specs.declared.worlds.LoadFault.{LoadFault}
@@ -25,12 +25,12 @@ accepted_by bytes a sandboxes bundles v is = let h = subst (λ x. IsVerdictOn by
 pub refused_by : (bytes : List ℕ) (a : StreamAnswer) (count : ℕ) (first : Finding) → IsVerdictOn bytes true a → a ≡ answers.Findings count first → Means bytes Refused
 refused_by bytes a count first v is = let h = subst (λ x. IsVerdictOn bytes true x) is v in (h.findings.1, h.findings.2)
 
-fault_of : (bytes : List ℕ) (number : ℕ) → ((true ≡ true) × IsFaultOf bytes number) ⊎ HasFaultNumberWhateverFollows bytes number → Means bytes NoImage
-fault_of bytes number (inl (all, h)) = (h.0, h.2)
-fault_of bytes number (inr (k, is, h)) = (k, subst (λ (l : List ℕ). IsFault l k) (append-nil bytes) (h []))
+fault_of : (bytes : List ℕ) (k : LayoutFault) → ((true ≡ true) × IsFault bytes k) ⊎ HasFaultWhateverFollows bytes k → Means bytes NoImage
+fault_of bytes k (inl (all, h)) = (k, h)
+fault_of bytes k (inr h) = (k, subst (λ (l : List ℕ). IsFault l k) (append-nil bytes) (h []))
 
-pub no_image_by : (bytes : List ℕ) (a : StreamAnswer) (number : ℕ) → IsVerdictOn bytes true a → a ≡ answers.Layout number → Means bytes NoImage
-no_image_by bytes a number v is = let h = subst (λ x. IsVerdictOn bytes true x) is v in fault_of bytes number h.layout
+pub no_image_by : (bytes : List ℕ) (a : StreamAnswer) (k : LayoutFault) → IsVerdictOn bytes true a → a ≡ answers.Layout k → Means bytes NoImage
+no_image_by bytes a k v is = let h = subst (λ x. IsVerdictOn bytes true x) is v in fault_of bytes k h.layout
 
 -- ---- of a world that is there
 

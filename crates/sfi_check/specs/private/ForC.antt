@@ -1,4 +1,5 @@
 -- The verdict for C, by the answer.
+use Rattle.sfi_image.specs.Faults.{number_of as fault_number}
 use Rattle.sfi_check.specs.declared.for_c.SfiVerdict.{SfiVerdict}
 use Rattle.sfi_check.specs.declared.stream_answer.StreamAnswer.{StreamAnswer}
 use Rattle.sfi_check.specs.declared.stream_answer.StreamAnswer.TheVariants.{Accepted, Layout, Findings, ReadFault}
@@ -7,7 +8,7 @@ use Rattle.sfi_check.specs.ForC.{no_finding, acceptance, refusal, no_image}
 -- no read fails
 abbrev pub verdict_for_c : StreamAnswer → SfiVerdict
 verdict_for_c (Accepted sandboxes bundles) = acceptance sandboxes bundles
-verdict_for_c (Layout number) = no_image number
+verdict_for_c (Layout k) = no_image (fault_number k)
 verdict_for_c (Findings count first) = refusal count first
 verdict_for_c ReadFault = record {
   status = 3;

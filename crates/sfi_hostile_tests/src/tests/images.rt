@@ -60,7 +60,7 @@ pub(super) fn bytes_of(alloc: Global, pieces: &[(&str, usize)]) -> Result<Vec<u8
 fn is_short(alloc: Global, bytes: &[u8]) -> bool {
     let mut reader = bytes;
     let mut source = Reading::new(&mut reader);
-    check_stream(&mut source) == StreamAnswer::Layout(3)
+    check_stream(&mut source) == StreamAnswer::Layout(LayoutFault::Short)
         && matches!(
             check(alloc, bytes),
             Err(Refusal::Layout(LayoutFault::Short))

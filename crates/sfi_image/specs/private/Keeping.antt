@@ -10,7 +10,7 @@ use Rattle.sfi_image.specs.declared.want.Next.{Next}
 use Rattle.sfi_image.specs.declared.want.Next.TheVariants as next
 use Rattle.sfi_image.specs.Spelling.{magic_bytes, number_bytes, fields_bytes, gate_bytes}
 use Rattle.sfi_image.specs.Fronts.{Front, front, AreBundlesWithin, HasFaultWhateverFollows}
-use Rattle.sfi_image.specs.Keeping.{HasStopped, Leads, ReaderState, StandsFor}
+use Rattle.sfi_image.specs.Keeping.{HasStopped, IsReader, Leads, LayoutReader, StandsFor}
 
 -- what is wanted, where that is no bundle
 abbrev pub as_want : OtherWant → Want
@@ -63,12 +63,12 @@ TakesLength next.End f code init len = ⊥
 TakesLength next.Nothing f code init len = ⊥
 
 -- so many bytes are as long as what comes next, told by what is kept
-abbrev pub MayTake : ReaderState → ℕ → Type 0
-MayTake r len = TakesLength r.next r.fields r.code_read r.init_read len
+abbrev pub MayTake : LayoutReader → ℕ → Type 0
+MayTake r len = IsReader r × TakesLength r.next r.fields r.code_read r.init_read len
 
 -- no fault, and it goes on from each front that it stands for;
 -- or a fault of each of them with these bytes
-abbrev pub Takes : ReaderState → List ℕ → ReaderState → Option LayoutFault → Type 0
+abbrev pub Takes : LayoutReader → List ℕ → LayoutReader → Option LayoutFault → Type 0
 Takes old s new None = (x : Front) → StandsFor old x → Leads x s new
 Takes old s new (Some k) =
     HasStopped new × ((x : Front) → StandsFor old x → HasFaultWhateverFollows (front x ++ s) k)

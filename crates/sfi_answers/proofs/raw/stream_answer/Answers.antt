@@ -1,14 +1,8 @@
 use Rattle.std.proofs.Common.{subst}
 use Rattle.sfi_check.specs.declared.stream_answer.StreamAnswer.{StreamAnswer}
-use Rattle.sfi_check.specs.Streams.{IsVerdictOn}
 use Rattle.sfi_answers.specs.private.{IsJudged}
-use Rattle.sfi_answers.proofs.Streamed.{some_fault, says_accepted, says_refused, has_fault}
+use Rattle.sfi_answers.proofs.Streamed.{says_accepted, says_refused, has_fault}
 use Rattle.sfi_answers.proofs.raw.stream_answer.Goals as goal
-
-pub fault_numbered-requires : goal.fault_numbered-requires
-fault_numbered-requires c =
-    let h = subst (λ (a : StreamAnswer). IsVerdictOn c.requires.0 c.requires.1 a) c.in-Layout.is c.requires.2 in
-    some_fault c.requires.0 c.requires.1 c.in-Layout.number h.layout
 
 pub returns-in_ok-accepted_line-in-Accepted-clause-says : goal.returns-in_ok-accepted_line-in-Accepted-clause-says
 returns-in_ok-accepted_line-in-Accepted-clause-says c _ all j =
@@ -20,4 +14,4 @@ returns-in_ok-refused_line-in-Findings-clause-says c _ all j =
 
 pub returns-in_ok-layout_line-in-Layout-clause-fault : goal.returns-in_ok-layout_line-in-Layout-clause-fault
 returns-in_ok-layout_line-in-Layout-clause-fault c _ all j =
-    has_fault c.in-Layout.number all (subst (λ (a : StreamAnswer). IsJudged a all) c.in-Layout.is j)
+    has_fault c.in-Layout.fault all (subst (λ (a : StreamAnswer). IsJudged a all) c.in-Layout.is j)

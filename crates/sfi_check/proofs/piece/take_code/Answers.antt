@@ -1,11 +1,14 @@
-use Rattle.sfi_check.proofs.Prelude.{◌≤◌, ◌<◌, ◌/◌, length, take, refl, arith}
+use Rattle.sfi_check.proofs.Prelude.{◌≤◌, ◌<◌, ◌/◌, length, take, refl, arith, inr}
 use Rattle.sfi_check.proofs.Leading.{step_fault}
 use Rattle.sfi_check.proofs.Stretches.{stretch_step, stretch_taken}
 use Rattle.sfi_check.proofs.piece.take_code.Goals as goal
 
+pub stretch_length-requires : goal.stretch_length-requires
+stretch_length-requires g c = let h = c.requires.so_far.2 in inr (h.at, h.stands)
+
 pub returns-in-Some : goal.returns-in-Some
 returns-in-Some g c = λ first so_far h.
-    step_fault c.args.reader.now c.args.tally.now so_far (take c.min-len.result c.args.rest.now) c.args.rest.now c.min-len.result c.in-Some.number refl c.in-Some.ensures.fault h
+    step_fault c.args.reader.now c.args.tally.now so_far (take c.min-len.result c.args.rest.now) c.args.rest.now c.min-len.result c.in-Some.fault refl c.in-Some.ensures.fault h
 
 pub scan_counted-tally-requires : goal.scan_counted-tally-requires
 scan_counted-tally-requires g c =

@@ -50,5 +50,5 @@ returns-in-Whole g c = λ f b h.
 
 pub returns-in-Fault : goal.returns-in-Fault
 returns-in-Fault g c = λ f b h.
-    let s = subst (λ (l : List ℕ). Steps (λ found. g.F.FindingSink.takes f found c.step.new.sink) c.loop-len.reader c.step.new.reader c.step.new.tally (b ++ take c.loop-len.at c.args.piece.now) l (steps.Fault c.in-Fault.number)) (tail_is c.loop-len.at c.args.piece.now) (c.in-Fault.ensures f (b ++ take c.loop-len.at c.args.piece.now) (c.loop-len.invariant.so_far f b h)) in
-    (fault_on b c.loop-len.at c.in-Fault.number c.args.piece.now s.0, s.1)
+    let s = subst (λ (l : List ℕ). Steps (λ found. g.F.FindingSink.takes f found c.step.new.sink) c.loop-len.reader c.step.new.reader c.step.new.tally (b ++ take c.loop-len.at c.args.piece.now) l (steps.Fault c.in-Fault.fault)) (tail_is c.loop-len.at c.args.piece.now) (c.in-Fault.ensures f (b ++ take c.loop-len.at c.args.piece.now) (c.loop-len.invariant.so_far f b h)) in
+    (fault_on b c.loop-len.at c.in-Fault.fault c.args.piece.now s.0, s.1)

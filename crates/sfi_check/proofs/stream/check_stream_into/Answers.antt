@@ -15,7 +15,7 @@ loop-feed-init g c = record {
 }
 
 pub returns-in-Some-clause-judged : goal.returns-in-Some-clause-judged
-returns-in-Some-clause-judged g c = faulty c.loop-feed.invariant.between c.in-Some.number c.in-Some.is
+returns-in-Some-clause-judged g c = faulty c.loop-feed.invariant.between c.in-Some.fault c.in-Some.is
 
 pub answer-requires : goal.answer-requires
 answer-requires g c = let i = c.loop-feed.invariant.between in (i.bytes, fed_weaker c.loop-feed.feed i.bytes (λ found holds. tt) i.fed)

@@ -1,9 +1,12 @@
-use Rattle.sfi_check.proofs.Prelude.{◌∙◌, true, sym, subst, List, StreamAnswer, Finding, verdict_of, IsVerdictOn, AreHandedOver}
+use Rattle.sfi_check.proofs.Prelude.{◌∙◌, true, inr, sym, subst, List, StreamAnswer, Finding, verdict_of, IsVerdictOn, AreHandedOver}
 use Rattle.sfi_check.proofs.Feeding.{answered_fault, answered_whole, answered_short, fed_fault, fed_held}
 use Rattle.sfi_check.proofs.feed.Feed.answer.Goals as goal
 
+pub wants-requires : goal.wants-requires
+wants-requires c = let at = (fed_held c.args.self.now c.requires.0 c.in_default.is c.requires.1).at in inr (at.at, at.stands)
+
 pub returns-in-Some-clause-judged : goal.returns-in-Some-clause-judged
-returns-in-Some-clause-judged c = λ bytes h. answered_fault bytes c.in-Some.number (fed_fault c.args.self.now bytes c.in-Some.number c.in-Some.is h).0
+returns-in-Some-clause-judged c = λ bytes h. answered_fault bytes c.in-Some.fault (fed_fault c.args.self.now bytes c.in-Some.fault c.in-Some.is h).0
 
 pub returns-in-End-clause-judged : goal.returns-in-End-clause-judged
 returns-in-End-clause-judged c = λ bytes h.
@@ -19,4 +22,4 @@ returns-in-End-clause-handed c = λ bytes found h.
 pub returns-in_default-wants-clause-judged : goal.returns-in_default-wants-clause-judged
 returns-in_default-wants-clause-judged c = λ bytes h.
     let held = fed_held c.args.self.now bytes c.in_default.is h in
-    rw c.number.ensures (answered_short c.args.self.now bytes held (λ w. c.in_default-wants.not-End (c.wants.ensures.want held.at.at held.at.stands ∙ sym w)))
+    (answered_short c.args.self.now bytes held (λ w. c.in_default-wants.not-End (c.wants.ensures.want held.at.at held.at.stands ∙ sym w)))

@@ -2,6 +2,7 @@ use Rattle.sfi_check.proofs.Prelude.{◌≡◌, ◌∙◌, ◌<◌, ◌-◌, ◌
 use Rattle.sfi_check.proofs.Feeding.{held_fed, at_reader, falls, some_left}
 use Rattle.sfi_check.proofs.Leading.{tail_is, fault_on}
 use Rattle.sfi_check.proofs.Judging.{trailing}
+use Rattle.sfi_image.specs.declared.fault.LayoutFault.TheVariants as faults
 use Rattle.sfi_check.proofs.feed.Feed.take_all.Goals as goal
 
 pub slice_bounds-hold-count : goal.slice_bounds-hold-count
@@ -27,8 +28,8 @@ returns-then-at-bytes-clause-fed g c = λ first so_far h.
     let whole = c.in-Whole.ensures first so_far h in
     let rest = drop c.in-Whole.at c.args.bytes.now in
     let some : 0 < length rest = omega (arith, length-drop c.in-Whole.at c.args.bytes.now) in
-    let wrong = fault_on so_far c.in-Whole.at 11 c.args.bytes.now (trailing _ _ (so_far ++ take c.in-Whole.at c.args.bytes.now) rest whole.1 whole.2 some) in
-    rw c.number.ensures (wrong, (whole.1.tallies.found, whole.1.tallies.found_holds))
+    let wrong = fault_on so_far c.in-Whole.at faults.Trailing c.args.bytes.now (trailing _ _ (so_far ++ take c.in-Whole.at c.args.bytes.now) rest whole.1 whole.2 some) in
+    (wrong, (whole.1.tallies.found, whole.1.tallies.found_holds))
 
 pub returns-then-at-bytes-clause-falls : goal.returns-then-at-bytes-clause-falls
 returns-then-at-bytes-clause-falls g c = λ more. some_left c.args.self.now c.requires.fault

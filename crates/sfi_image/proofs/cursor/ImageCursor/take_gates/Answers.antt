@@ -1,4 +1,4 @@
-use Rattle.sfi_image.proofs.Prelude.{◌≡◌, length, refl, ap, arith, length-append, err_from_is_err_and, flat_map, gate, InGates}
+use Rattle.sfi_image.proofs.Prelude.{◌≡◌, length, refl, inr, ap, arith, length-append, err_from_is_err_and, flat_map, gate, InGates}
 use Rattle.sfi_image.specs.Cursor.{unread}
 use Rattle.sfi_image.proofs.CursorSteps.{at_front, more_gates, all_gates, one_more, taken_front}
 use Rattle.sfi_image.proofs.cursor.ImageCursor.take_gates.Goals as goal
@@ -7,7 +7,7 @@ pub take-requires : goal.take-requires
 take-requires c =
     let i = c.loop.invariant c.requires.0 c.requires.1 c.requires.2 c.requires.3 in
     let at = at_front (more_gates c.requires.1 c.requires.2 c.args.fields.now i.gates (let b = c.loop-test.true in omega (arith, i.count_is))) i.read in
-    rw (at.stands.kept.0) refl
+    (inr (_, at.stands), rw (at.stands.kept.0) refl)
 
 pub returns-in_err-take : goal.returns-in_err-take
 returns-in_err-take c =
