@@ -1,141 +1,28 @@
 //! The scan of code in words, 16 bytes at a time.
-ghost use Rattle.std.specs.Prelude.{◌≡◌, ◌+◌, ◌*◌, ◌≤◌, ◌<◌, ◌++◌, ℕ, List, Some, IfSome, length};
+ghost use Rattle.std.specs.Prelude.{◌≡◌, ◌*◌, ◌≤◌, ◌<◌, ℕ, IfSome, length};
 ghost use Rattle.sfi_policy.specs.Limits.{bundle_size};
 ghost use Rattle.sfi_rules.specs.Bundles.{IsWithin};
-ghost use Rattle.sfi_rules.specs.declared.finding.Finding.{Finding};
-ghost use Rattle.sfi_rules.specs.words.Findings.{IsWordFound, AreFoundInBundle, found_at, lowest};
-ghost use Rattle.sfi_rules.specs.words.Owing.{owed_next};
+ghost use Rattle.sfi_rules.specs.words.Findings.{AreFoundInBundle};
 ghost use Rattle.sfi_scan.specs.Stretches.{IsStretch, IsWordCodeScanned};
-ghost use Rattle.sfi_scan.specs.private.Inside.{IsInside};
 ghost use Rattle.sfi_scan.specs.private.Scanning.{IsFrontClean, IsRunClean, IsWordFrontScanned};
 
 mod block;
 mod look;
 mod owed;
 mod rules;
+mod word;
 
 use crate::code::{IN_BLOCKS, block_start, bytes_from, place_after};
 use crate::findings::BundleFindings;
 use crate::sink::FindingSink;
 use crate::words::block::look_at_block;
-use crate::words::look::look;
-use crate::words::owed::owed_next;
-use crate::words::rules::lowest_rule;
-use rv_comp::{Front, read_front};
-use rv_word::Instr;
+use crate::words::word::scan_word;
 use sfi_masks::BLOCK_BYTES;
 use sfi_policy::BUNDLE_BYTES;
-use sfi_rules::{BundlePlace, Finding, Owed, Rule};
+use sfi_rules::{BundlePlace, Owed};
 
 /// How many words a bundle has.
 const WORDS: usize = BUNDLE_BYTES / 4;
-
-fn push(place: &BundlePlace, address: u32, rule: Rule, found: &mut BundleFindings)
-    requires { length found.old < 8 }
-    ensures { found.new ≡ found.old ++ found_at place.now address (Some rule) }
-{
-    found.push(Finding {
-        sandbox: place.sandbox,
-        address,
-        rule,
-    });
-}
-
-/// Adds what the instruction breaks, and answers what is owed after it.
-fn scan_instruction(
-    place: &BundlePlace,
-    address: u32,
-    size: u32,
-    owed: Owed,
-    instr: &Instr,
-    found: &mut BundleFindings,
-) -> Owed
-    requires within { IsWithin place.now }
-    requires inside { IsInside place.now address size }
-    requires room { length found.old < 8 }
-    ensures next { result ≡ owed_next owed instr.now }
-    ensures few { length found.new ≤ length found.old + 1 }
-    ensures found { found.new ≡ found.old ++ found_at place.now address (lowest (record {
-      bundle = place.now;
-      address = address;
-      owed = owed;
-      instr = instr.now;
-      size = size;
-    })) }
-{
-    if let Some(rule) = lowest_rule(place, address, size, owed, instr) {
-        push(place, address, rule, found);
-    }
-    owed_next(owed, instr)
-}
-
-/// Adds the findings of the word there, instruction by instruction, and answers what is owed after
-/// it.
-#[inline(never)]
-fn scan_unseen(
-    place: &BundlePlace,
-    address: u32,
-    word: &[u8],
-    owed: Owed,
-    found: &mut BundleFindings,
-) -> Owed
-    requires within { IsWithin place.now }
-    requires inside { IsInside place.now address 4 }
-    requires whole { length word.now ≡ 4 }
-    requires room { length found.old ≤ 6 }
-    ensures { (here : List Finding) × (found.new ≡ found.old ++ here) × (length here ≤ 2)
-        × IsWordFound place.now address owed word.now here result }
-{
-    let (first, size) = match read_front(word) {
-        Front::Read(first, size) => (first, size),
-        Front::Short | Front::Bad => {
-            push(place, address, Rule::V1, found);
-            return Owed::Nothing;
-        }
-    };
-    let owed = scan_instruction(place, address, size, owed, &first, found);
-    if size == 4 {
-        return owed;
-    }
-    match read_front(&word[2..]) {
-        Front::Read(second, size) => {
-            scan_instruction(place, address + 2, size, owed, &second, found)
-        }
-        Front::Short => {
-            push(place, address + 2, Rule::V2, found);
-            Owed::Nothing
-        }
-        Front::Bad => {
-            push(place, address + 2, Rule::V1, found);
-            Owed::Nothing
-        }
-    }
-}
-
-/// Adds the findings of the word there, and answers what is owed after it. Most have none, so a
-/// look comes first; the region's end has a rule of its own.
-#[inline(always)]
-fn scan_word(
-    place: &BundlePlace,
-    address: u32,
-    word: &[u8],
-    owed: Owed,
-    found: &mut BundleFindings,
-) -> Owed
-    requires within { IsWithin place.now }
-    requires inside { IsInside place.now address 4 }
-    requires whole { length word.now ≡ 4 }
-    requires room { length found.old ≤ 6 }
-    ensures { (here : List Finding) × (found.new ≡ found.old ++ here) × (length here ≤ 2)
-        × IsWordFound place.now address owed word.now here result }
-{
-    if address - place.code_base < place.code_size - 4 {
-        if let Some(next) = look(place, address, word, owed) {
-            return next;
-        }
-    }
-    scan_unseen(place, address, word, owed, found)
-}
 
 /// Replaces the findings by those of the words of these 16 bytes, before which this is owed, in the
 /// order of their addresses. Answers what is owed after them. Before a region's first bytes nothing
@@ -245,8 +132,50 @@ fn clean_front<const BLOCKS: bool>(
     }
 }
 
-/// Scans a stretch from byte `at` on: what looks at blocks see to break no rule, and then the next
-/// bundle, if any is left. Says up to where, and what is owed there.
+/// Up to where a stretch is scanned bundle by bundle from byte `at` on: to the end of the block that a
+/// look there doesn't see to break no rule, else of the next bundle.
+#[inline(always)]
+fn unseen_end<const BLOCKS: bool>(place: &BundlePlace, code: &[u8], at: usize) -> usize
+    requires { (n : ℕ) × (k : ℕ) × IsStretch place.now code.now n × (at ≡ bundle_size * k) × (k < n) }
+    ensures ahead { at < result }
+    ensures inside { result ≤ length code.now }
+{
+    match block_start::<BLOCKS>(place, code, at) {
+        Some(start) => start + BLOCK_BYTES,
+        None => at + BUNDLE_BYTES,
+    }
+}
+
+/// Scans a stretch bundle by bundle, from byte `at` on up to byte `stop`. Says up to where, and what is
+/// owed there.
+#[inline(always)]
+fn scan_bundles<F: FindingSink>(
+    place: &BundlePlace,
+    code: &[u8],
+    at: usize,
+    stop: usize,
+    owed: Owed,
+    sink: &mut F,
+    findings: &mut BundleFindings,
+) -> (usize, Owed)
+    requires stretch { (n : ℕ) × (k : ℕ) × IsStretch place.now code.now n × (at ≡ bundle_size * k) × (k < n) }
+    requires ahead { at < stop }
+    requires inside { stop ≤ length code.now }
+    ensures { (k : ℕ) → at ≡ bundle_size * k
+        → IsWordFrontScanned F.takes place.now owed code.now k result.0 result.1 sink.old sink.new }
+{
+    let mut end = at;
+    let mut left = owed;
+    while end < stop {
+        let bundle = bytes_from::<BUNDLE_BYTES>(code, end);
+        left = scan_one(&place_after(place, end), bundle, left, sink, findings);
+        end += BUNDLE_BYTES;
+    }
+    (end, left)
+}
+
+/// Scans a stretch from byte `at` on: what looks at blocks see to break no rule, and then what the next
+/// look doesn't. Says up to where, and what is owed there.
 #[inline(always)]
 fn scan_front<F: FindingSink, const BLOCKS: bool>(
     place: &BundlePlace,
@@ -264,9 +193,8 @@ fn scan_front<F: FindingSink, const BLOCKS: bool>(
     if end == code.len() {
         return (end, left);
     }
-    let bundle = bytes_from::<BUNDLE_BYTES>(code, end);
-    let next = scan_one(&place_after(place, end), bundle, left, sink, findings);
-    (end + BUNDLE_BYTES, next)
+    let stop = unseen_end::<BLOCKS>(place, code, end);
+    scan_bundles(place, code, end, stop, left, sink, findings)
 }
 
 /// Scans a stretch of code in words, in blocks or bundle by bundle.

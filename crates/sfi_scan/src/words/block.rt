@@ -13,7 +13,7 @@ use crate::block::{EVEN, bundle_at, without};
 use crate::clean::word_at;
 use crate::findings::BundleFindings;
 use crate::words::look::is_plain_word;
-use crate::words::scan_word;
+use crate::words::word::scan_word;
 use rv_word::{Reg, access32};
 use sfi_masks::{BLOCK_BYTES, Masks, word_masks_of};
 use sfi_pairs::is_data_register;

@@ -1,7 +1,7 @@
 use Rattle.sfi_scan.proofs.Prelude.{arith, inl}
 use Rattle.sfi_scan.proofs.After.{stuck_of}
 use Rattle.sfi_scan.proofs.WordReadings.{two_of, word_bad, adds_wide, adds_two, adds_cut, adds_bad}
-use Rattle.sfi_scan.proofs.words.scan_unseen.Goals as goal
+use Rattle.sfi_scan.proofs.words.word.scan_unseen.Goals as goal
 
 pub returns-in-Short : goal.returns-in-Short
 returns-in-Short c = (_, c.push.ensures, omega arith, word_bad c.args.place.now c.args.address c.args.owed c.args.word.now c.requires.whole (stuck_of c.args.word.now c.read_front.result c.in-Short.is c.read_front.ensures.only))

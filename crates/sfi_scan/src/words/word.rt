@@ -1,0 +1,122 @@
+//! The scan of one word of code in words.
+ghost use Rattle.std.specs.Prelude.{◌≡◌, ◌+◌, ◌*◌, ◌≤◌, ◌<◌, ◌++◌, List, Some, length};
+ghost use Rattle.sfi_rules.specs.Bundles.{IsWithin};
+ghost use Rattle.sfi_rules.specs.declared.finding.Finding.{Finding};
+ghost use Rattle.sfi_rules.specs.words.Findings.{IsWordFound, found_at, lowest};
+ghost use Rattle.sfi_rules.specs.words.Owing.{owed_next};
+ghost use Rattle.sfi_scan.specs.private.Inside.{IsInside};
+
+use crate::findings::BundleFindings;
+use crate::words::look::look;
+use crate::words::owed::owed_next;
+use crate::words::rules::lowest_rule;
+use rv_comp::{Front, read_front};
+use rv_word::Instr;
+use sfi_rules::{BundlePlace, Finding, Owed, Rule};
+
+fn push(place: &BundlePlace, address: u32, rule: Rule, found: &mut BundleFindings)
+    requires { length found.old < 8 }
+    ensures { found.new ≡ found.old ++ found_at place.now address (Some rule) }
+{
+    found.push(Finding {
+        sandbox: place.sandbox,
+        address,
+        rule,
+    });
+}
+
+/// Adds what the instruction breaks, and answers what is owed after it.
+fn scan_instruction(
+    place: &BundlePlace,
+    address: u32,
+    size: u32,
+    owed: Owed,
+    instr: &Instr,
+    found: &mut BundleFindings,
+) -> Owed
+    requires within { IsWithin place.now }
+    requires inside { IsInside place.now address size }
+    requires room { length found.old < 8 }
+    ensures next { result ≡ owed_next owed instr.now }
+    ensures few { length found.new ≤ length found.old + 1 }
+    ensures found { found.new ≡ found.old ++ found_at place.now address (lowest (record {
+      bundle = place.now;
+      address = address;
+      owed = owed;
+      instr = instr.now;
+      size = size;
+    })) }
+{
+    if let Some(rule) = lowest_rule(place, address, size, owed, instr) {
+        push(place, address, rule, found);
+    }
+    owed_next(owed, instr)
+}
+
+/// Adds the findings of the word there, instruction by instruction, and answers what is owed after
+/// it.
+#[inline(never)]
+fn scan_unseen(
+    place: &BundlePlace,
+    address: u32,
+    word: &[u8],
+    owed: Owed,
+    found: &mut BundleFindings,
+) -> Owed
+    requires within { IsWithin place.now }
+    requires inside { IsInside place.now address 4 }
+    requires whole { length word.now ≡ 4 }
+    requires room { length found.old ≤ 6 }
+    ensures { (here : List Finding) × (found.new ≡ found.old ++ here) × (length here ≤ 2)
+        × IsWordFound place.now address owed word.now here result }
+{
+    let (first, size) = match read_front(word) {
+        Front::Read(first, size) => (first, size),
+        Front::Short | Front::Bad => {
+            push(place, address, Rule::V1, found);
+            return Owed::Nothing;
+        }
+    };
+    let owed = scan_instruction(place, address, size, owed, &first, found);
+    if size == 4 {
+        return owed;
+    }
+    match read_front(&word[2..]) {
+        Front::Read(second, size) => {
+            scan_instruction(place, address + 2, size, owed, &second, found)
+        }
+        Front::Short => {
+            push(place, address + 2, Rule::V2, found);
+            Owed::Nothing
+        }
+        Front::Bad => {
+            push(place, address + 2, Rule::V1, found);
+            Owed::Nothing
+        }
+    }
+}
+
+/// Adds the findings of the word there, and answers what is owed after it. Most have none, so a
+/// look comes first; the region's end has a rule of its own.
+#[inline(always)]
+pub(crate) fn scan_word(
+    place: &BundlePlace,
+    address: u32,
+    word: &[u8],
+    owed: Owed,
+    found: &mut BundleFindings,
+) -> Owed
+    requires within { IsWithin place.now }
+    requires inside { IsInside place.now address 4 }
+    requires whole { length word.now ≡ 4 }
+    requires room { length found.old ≤ 6 }
+    ensures { (here : List Finding) × (found.new ≡ found.old ++ here) × (length here ≤ 2)
+        × IsWordFound place.now address owed word.now here result }
+{
+    if address - place.code_base < place.code_size - 4 {
+        if let Some(next) = look(place, address, word, owed) {
+            return next;
+        }
+    }
+    scan_unseen(place, address, word, owed, found)
+}
