@@ -139,6 +139,7 @@ class Model:
         if not sandbox or not sandbox.ended or pc % sandbox.part.unit() or not sandbox.part.has_code(pc):
             return False
         sandbox.begin(pc)
+        sandbox.x[1] = next((address for address, service in sandbox.part.gates.items() if service == 0), 0)
         sandbox.x[10:18] = arguments
         return True
 

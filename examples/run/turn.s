@@ -1,10 +1,8 @@
-# A plug-in that is called as a function. At its start it exits, so that it may be entered. The function is the bundle after
-# that: it turns the a1 bytes from a0 on round, has the host put them into upper case, and exits with what the host answered.
+# A plug-in that is called as a function. At its start it exits, so that it may be entered. The function begins in the bundle
+# after that: it turns the a1 bytes from a0 on round, has the host put them into upper case, and returns what the host answered.
 .sandbox 256
 .gate exit 0
 .gate upper 1
-        call exit
-        call turn
         call exit
 turn:   mv   s0, a0
         mv   s1, a1

@@ -31,61 +31,47 @@ call price
 j _.L2
 capitalize:
 .option rvc
-addi sp,sp,-16
-sw ra,12(sp)
 add a2,zero,a1
 beq a1,zero,_.L10
 add a2,a0,a1
-.option norvc
-li a5,1
+li a7,1
+addi t1,a2,-1
 addi a4,a0,-1
-addi a7,a2,-1
-.option rvc
 li a1,0
 li a2,0
 .option norvc
 li a6,25
-sub a0,a5,a0
+sub a7,a7,a0
 _.L9:
 lbu a3,1(a4)
+add a0,a7,a4
 ori a5,a3,32
 addi a5,a5,-97
 andi a5,a5,255
 bltu a6,a5,_.L7
-add a5,a0,a4
-.option rvc
+andi a3,a3,-33
 addi a1,a1,1
-j next..1
-next..1:
-beq a5,zero,_.L8
+beq a0,zero,_.L8
+nop
 lbu a5,0(a4)
 ori a5,a5,32
 addi a5,a5,-97
 andi a5,a5,255
 bgeu a6,a5,_.L7
+nop
 _.L8:
-andi a3,a3,-33
 sb a3,1(a4)
 addi a2,a2,1
-j _.L7
 _.L7:
-addi a4,a4,1
-bne a7,a4,_.L9
-j _.L6
-_.L6:
-.option norvc
-add a0,zero,a2
-nop
-nop
-call price
-nop
-nop
-nop
-call exit_with
-_.L10:
 .option rvc
+addi a4,a4,1
+bne t1,a4,_.L9
+add a0,zero,a2
+j price
+_.L10:
 li a1,0
-j _.L6
+add a0,zero,a2
+j price
 main:
 la a0,table
 .option norvc

@@ -8,8 +8,8 @@ static int is_letter(char it) {
     return (it | 32) >= 'a' && (it | 32) <= 'z';
 }
 
-/* Begins each word with a capital letter. It exits, since a function that is entered has nowhere to return to. */
-static void capitalize(char *at, unsigned length) {
+/* Begins each word with a capital letter, and returns the price. */
+static unsigned capitalize(char *at, unsigned length) {
     unsigned words = 0, letters = 0;
     for (unsigned k = 0; k < length; k++)
         if (is_letter(at[k])) {
@@ -19,7 +19,7 @@ static void capitalize(char *at, unsigned length) {
                 words++;
             }
         }
-    exit_with((int)price(words, letters));
+    return price(words, letters);
 }
 
 /* Never ends, and calls the host all the while. */
@@ -31,7 +31,7 @@ static void ask_forever(void) {
 static char text[256];
 
 static const struct {
-    void (*capitalize)(char *, unsigned);
+    unsigned (*capitalize)(char *, unsigned);
     void (*ask_forever)(void);
     char *text;
     unsigned room;

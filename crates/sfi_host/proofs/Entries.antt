@@ -1,5 +1,5 @@
 -- A sandbox that is entered again.
-use Rattle.sfi_host.proofs.Prelude.{◌≡◌, ◌≢◌, ◌⊎◌, inl, inr, ⊎_elim, ◌↔◌, IsTrue, ℕ, suc, ◌+◌, ◌%◌, ◌^◌, ◌<◌, ◌≤◌, ◌==◌, Bool, true, false, List, [], ◌∷◌, ◌++◌, map, length, take, get_or, Some, None, set, slice_get, refl, sym, ap, ◌∙◌, subst, arith, get_or-set_other, same_Some, slice_index, slice_set, cond, empty, map-set, take_more, length-take-le, Bytes, IsMemory, Hart, IsHart, with_register, IsRightLayout, Holds, AreApart, with_guards, Part, HasCode, IsEntry, AllRunSafely, AllCallTyped, Program, Sandbox, MayEnter, MayEnterAt, fresh_hart, with_registers, entered_hart, entered_seat, with_entry_of, with_entry, IsAtEntry, IsEnterable, first_seat, with_parts, AreEntered, HaveFirstData, seat_of, seats_of, world_of, Bounds, Slot, bounds_of, Seat, Sandboxes, slot_of, slots_of, state_in, IsSafeSeat, AreProgramsOf}
+use Rattle.sfi_host.proofs.Prelude.{◌≡◌, ◌≢◌, ◌⊎◌, inl, inr, ⊎_elim, ◌↔◌, IsTrue, ℕ, suc, ◌+◌, ◌%◌, ◌^◌, ◌<◌, ◌≤◌, ◌==◌, Bool, true, false, List, [], ◌∷◌, ◌++◌, map, length, take, get_or, Some, None, set, slice_get, refl, sym, ap, ◌∙◌, subst, arith, get_or-set_other, same_Some, slice_index, slice_set, cond, empty, map-set, take_more, length-take-le, Bytes, IsMemory, Hart, IsHart, with_register, IsRightLayout, Holds, AreApart, with_guards, Part, HasCode, IsEntry, AllRunSafely, AllCallTyped, Program, Sandbox, MayEnter, MayEnterAt, fresh_hart, with_registers, exit_gate, entered_hart, entered_seat, with_entry_of, with_entry, IsAtEntry, IsEnterable, first_seat, with_parts, AreEntered, HaveFirstData, seat_of, seats_of, world_of, Bounds, Slot, bounds_of, Seat, Sandboxes, slot_of, slots_of, state_in, IsSafeSeat, AreProgramsOf}
 use Rattle.sfi_policy.specs.Formats.{unit}
 use Rattle.sfi_runs.specs.Regions.{IsUnitStart}
 use Rattle.sfi_host.proofs.Asked.{seat_at, slot_is, no_slot}
@@ -80,20 +80,28 @@ module _ (m : Bytes) (s : Seat) (seat : IsSafeSeat m s) where
     abbrev fresh : Hart
     fresh = fresh_hart s.bounds.format s.bounds.code s.bounds.data pc
 
-    -- the arguments leave all that an entry asks for
+    abbrev returning : Hart
+    returning = with_register fresh 1 (exit_gate s.bounds.gates)
+
+    -- the return address leaves the other registers
+    not_first : (q : ℕ) → q ≢ 1 → slice_index returning.registers q ≡ slice_index fresh.registers q
+    not_first q other = get_or-set_other fresh.registers 1 q (exit_gate s.bounds.gates) 0 other
+
+    -- the arguments and the return address leave all that an entry asks for
     kept : AreFreshOf s.bounds pc now
     kept =
-        let high : (q : ℕ) → 18 ≤ q → slice_index now q ≡ slice_index fresh.registers q = λ q le. others_kept arguments fresh 10 q (inr (omega arith)) in
-        let low : (q : ℕ) → q < 10 → slice_index now q ≡ slice_index fresh.registers q = λ q less. others_kept arguments fresh 10 q (inl less) in
+        let high : (q : ℕ) → 18 ≤ q → slice_index now q ≡ slice_index fresh.registers q = λ q le. others_kept arguments returning 10 q (inr (omega arith)) ∙ not_first q (λ e. omega arith) in
+        let low : (q : ℕ) → 2 ≤ q → q < 10 → slice_index now q ≡ slice_index fresh.registers q =
+        λ q le less. others_kept arguments returning 10 q (inl less) ∙ not_first q (λ e. omega arith) in
         let f = fresh_are s.bounds pc in
         record {
           code_base = high 24 (omega arith) ∙ f.code_base;
           code_mask = high 25 (omega arith) ∙ f.code_mask;
           data_base = high 26 (omega arith) ∙ f.data_base;
           data_mask = high 27 (omega arith) ∙ f.data_mask;
-          stack = low 2 (omega arith) ∙ f.stack;
-          third = λ has. low 3 (omega arith) ∙ f.third has;
-          fourth = λ has. low 4 (omega arith) ∙ f.fourth has;
+          stack = low 2 (omega arith) (omega arith) ∙ f.stack;
+          third = λ has. low 3 (omega arith) (omega arith) ∙ f.third has;
+          fourth = λ has. low 4 (omega arith) (omega arith) ∙ f.fourth has;
           last = λ has. high 29 (omega arith) ∙ f.last has;
           code = λ has. high 30 (omega arith) ∙ f.code has;
           offset = high 31 (omega arith) ∙ f.offset;
@@ -109,7 +117,7 @@ module _ (m : Bytes) (s : Seat) (seat : IsSafeSeat m s) where
     pub at_entry : HasCode p m → IsEntry p (state_in m (entered_seat s pc arguments))
     at_entry code = record {
       state = record { hart = hart; memory = seat.state.memory };
-      start = subst (IsUnitStart p) (sym (pc_kept arguments fresh 10 ∙ fresh_pc s.bounds pc)) starts;
+      start = subst (IsUnitStart p) (sym (pc_kept arguments returning 10 ∙ fresh_pc s.bounds pc)) starts;
       reserved = reserved_at p pc now of_part;
       typed = typed_at p pc now (subst (λ (b : Bounds). 16 ≤ b.data.size) is sizes.1) starts of_part;
       code = code;

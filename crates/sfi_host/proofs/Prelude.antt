@@ -24,7 +24,7 @@ pub use Rattle.sfi_runs.specs.Runs.{IsChange, IsEntry, IsReply, IsTurn, Steps, R
 pub use Rattle.sfi_runs.specs.Safety.{AllRunSafely, IsSafeState, IsSafeTurn, IsSafeRun, IsSafeStep, IsTrap, RunsSafely}
 pub use Rattle.sfi_runs.specs.Calls.{AllCallTyped, after_turns, GoesSafelyFrom, CallsTyped}
 pub use Rattle.sfi_host.specs.Consoles.{SessionState, ConsoleState, with_session, serve, serve_own, console, may_want, may_want_if, console_may_refuse, new_session, failed, most_messages, posted, mailbox_full, message_of, with_message, post_to, post}
-pub use Rattle.sfi_host.specs.Entering.{AreEnterable, MayEnter, MayEnterAt, fresh_hart, with_registers, entered_hart, entered_seat, with_entry_of, with_entry, IsAtEntry, IsEnterable}
+pub use Rattle.sfi_host.specs.Entering.{AreEnterable, MayEnter, MayEnterAt, fresh_hart, with_registers, exit_gate, entered_hart, entered_seat, with_entry_of, with_entry, IsAtEntry, IsEnterable}
 pub use Rattle.sfi_host.specs.Guests.{call_by, asked, with_a0, data_of}
 pub use Rattle.sfi_host.specs.Hosts.{Call, Way, Replied, Answer, Limited, limited, if_left, Exit, Reply, Host, replay}
 pub use Rattle.sfi_host.specs.Joint.{Machine, Moved, still, moved_if, slot_after_step, after_answer, call_of, next_after, replied, Joined, joint, IsMachine, word, is_byte, with_arguments, with_data, after_way, status_after, after_replies, and_more, Given, given, joined_after_turn, and_plan, turn_and, both, service_at}

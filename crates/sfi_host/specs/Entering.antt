@@ -1,11 +1,12 @@
 -- A sandbox that has stopped is entered again.
-use Rattle.std.specs.Prelude.{◌≡◌, ◌≢◌, ℕ, ◌+◌, ◌-◌, ◌%◌, List, [], ◌∷◌, cond, replicate, Option, Some, None, slice_get, slice_set}
+use Rattle.std.specs.Prelude.{◌≡◌, ◌≢◌, ℕ, ◌+◌, ◌-◌, ◌%◌, ◌==◌, List, [], ◌∷◌, cond, replicate, Option, Some, None, slice_get, slice_set}
 use Rattle.rv_mem.specs.Bytes.{Bytes}
 use Rattle.rv_step.specs.State.{Hart, with_register}
 use Rattle.sfi_policy.specs.Limits.{first_frame}
 use Rattle.sfi_policy.specs.Formats.{unit, has_words}
-use Rattle.sfi_policy.specs.Registers.{code_base_register, code_mask_register, data_base_register, data_mask_register, stack_pointer, code_register}
+use Rattle.sfi_policy.specs.Registers.{code_base_register, code_mask_register, data_base_register, data_mask_register, stack_pointer, code_register, return_register}
 use Rattle.sfi_policy.specs.declared.format.Format.{Format}
+use Rattle.sfi_image.specs.declared.part.Gate.{Gate}
 use Rattle.sfi_image.specs.declared.span.Span.{Span}
 use Rattle.sfi_image.specs.Parts.{IsRightPart}
 use Rattle.sfi_image.specs.Spans.{Holds}
@@ -18,6 +19,7 @@ use Rattle.sfi_runs.specs.Calls.{CallsTyped}
 use Rattle.sfi_host.specs.declared.status.Status.{Status}
 use Rattle.sfi_host.specs.declared.status.Status.TheVariants.{Ready}
 use Rattle.sfi_host.specs.Arguments.{a0_register}
+use Rattle.sfi_host.specs.Services.{exit_service}
 use Rattle.sfi_host.specs.Slots.{Bounds, Slot, bounds_of}
 use Rattle.sfi_host.specs.Worlds.{Seat, Sandboxes, state_in}
 
@@ -71,10 +73,18 @@ abbrev pub with_registers : Hart → ℕ → List ℕ → Hart
 with_registers h r [] = h
 with_registers h r (v ∷ vs) = with_registers (with_register h r v) (r + 1) vs
 
--- the same as at first, but at this pc and with the arguments from a0 on
+-- the address of the first gate of service 0; 0 where none is listed
+abbrev pub exit_gate : List Gate → ℕ
+exit_gate [] = 0
+exit_gate (g ∷ gates) = cond (g.service == exit_service) g.address (exit_gate gates)
+
+-- the same as at first, but at this pc, with a return address that is the exit gate's, and with the
+-- arguments from a0 on
 abbrev pub entered_hart : Bounds → ℕ → List ℕ → Hart
 entered_hart b pc arguments =
-    with_registers (fresh_hart b.format b.code b.data pc) a0_register arguments
+    with_registers
+    (with_register (fresh_hart b.format b.code b.data pc) return_register (exit_gate b.gates))
+    a0_register arguments
 
 -- ---- what that makes of a world
 

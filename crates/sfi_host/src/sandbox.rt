@@ -2,12 +2,13 @@
 ghost use Rattle.std.specs.Prelude.{◌≡◌, ◌%◌, ◌+◌, ◌<◌, ◌≤◌, ◌^◌, ◌↔◌, IsTrue};
 ghost use Rattle.rv_step.specs.State.{IsHart};
 ghost use Rattle.sfi_host.specs.Arguments.{a0_register};
-ghost use Rattle.sfi_host.specs.Entering.{MayEnter, fresh_hart, typed_for, with_registers, entered_seat};
+ghost use Rattle.sfi_host.specs.Entering.{MayEnter, fresh_hart, typed_for, with_registers, exit_gate, entered_seat};
 ghost use Rattle.sfi_host.specs.Regions.{span_of};
 ghost use Rattle.sfi_host.specs.Sandboxes.{seat_of};
 ghost use Rattle.sfi_host.specs.Stopping.{stopped_seat};
 
 use crate::region::Region;
+use crate::services::EXIT;
 use crate::status::Status;
 use rv_step::Cpu;
 use rv_word::Reg;
@@ -36,6 +37,9 @@ pub const A0_REGISTER: u8 = 10;
 
 /// x11, which is a1: the second argument register, and the second result register.
 pub const A1_REGISTER: u8 = 11;
+
+// x1: the return address (as above).
+const RETURN_REGISTER: u8 = 1;
 
 // Gives the typed registers, where code is in words, what they hold at an entry there.
 fn set_typed(format: Format, data_at: Region, pc: u32, cpu: &mut Cpu)
@@ -89,6 +93,18 @@ fn set_arguments(cpu: &mut Cpu, arguments: &[u32; 8])
     }
 }
 
+// The address of the first gate of service 0; 0 where none is listed.
+fn exit_gate(gates: &[Gate]) -> u32
+    ensures { result ≡ exit_gate gates.now }
+{
+    for gate in gates {
+        if gate.service == EXIT {
+            return gate.address;
+        }
+    }
+    0
+}
+
 impl Sandbox {
     /// Whether it has stopped, and a unit of its code, a bundle or a word, begins at the address.
     pub(crate) fn may_enter(&self, pc: u32) -> bool
@@ -117,7 +133,7 @@ impl Sandbox {
         self.status = Status::Stopped;
     }
 
-    /// Makes it ready at the address.
+    /// Makes it ready at the address, as a function that returns to the gate of exit.
     pub(crate) fn enter(&mut self, pc: u32, arguments: &[u32; 8])
         requires even { pc % 2 ≡ 0 }
         requires code_size { 16 ≤ self.old.code.size }
@@ -127,6 +143,7 @@ impl Sandbox {
         ensures hart { IsHart self.new.cpu }
     {
         let mut cpu = fresh_cpu(self.format, self.code, self.data, pc);
+        cpu.set_reg(Reg::numbered(RETURN_REGISTER), exit_gate(&self.gates));
         set_arguments(&mut cpu, arguments);
         self.cpu = cpu;
         self.status = Status::Ready;

@@ -8,12 +8,13 @@
  * with its premises, docs/PROOFS.md what is proved of each call). The sandboxes run in a memory of the library's own, step
  * by step: no code of theirs runs on the host's processor, and no address of theirs is one of the host's.
  *
- * One premise is worth a word: a trap ends the run. The sandbox goes on by sfi_run_enter alone, which sets its registers
- * anew. The library keeps this. A host that runs accepted code by other means (sfi.h) has to: where it steps over an
- * ebreak, or in the third format completes or steps over an access with a byte in a guard zone, code can leave its sandbox.
+ * One premise is worth a word: a trap ends the run. The sandbox goes on by sfi_run_enter alone, which
+ * sets its registers anew. The library keeps this. A host that runs accepted code by other means (sfi.h) has to: where
+ * it steps over an ebreak, or in the third format completes or steps over an access with a byte in a guard zone, code
+ * can leave its sandbox.
  *
- * The calls read nothing but their arguments and the world, keep nothing elsewhere, start no thread, and read and write no
- * file. sfi_run_load takes memory by malloc and realloc, for the world of an accepted image alone; sfi_run_load and
+ * The calls read nothing but their arguments and the world, keep nothing elsewhere, start no thread, and read and write
+ * no file. sfi_run_load takes memory by malloc and realloc, for the world of an accepted image alone; sfi_run_load and
  * sfi_run_free give it back by free; the other calls do neither. Each returns: sfi_run_turn after at most the steps that
  * it was given. A thread with 64 KiB of stack had room for each where that was measured.
  *
@@ -210,10 +211,10 @@ bool sfi_run_read(struct sfi_run_world *world, uint32_t sandbox, uint32_t at, si
 bool sfi_run_write(struct sfi_run_world *world, uint32_t sandbox, uint32_t at, const uint8_t *bytes, size_t length);
 
 /*
- * Makes a sandbox that has stopped ready at pc, with these arguments in a0 to a7, as a function is called; the other
- * registers are as sfi_run_load sets them, but for x30, which is pc in the third format. Its data stay, and its steps are
- * counted on. Returns false where there is no such sandbox, it hasn't stopped, or no bundle or word of its code begins at
- * pc, and changes nothing then. x1 is 0: a function ends by a call, and not by `ret` (docs/EMBEDDING.md).
+ * Makes a sandbox that has stopped ready at pc, with these arguments in a0 to a7, as a function is called: x1, the return
+ * address, is that of its first gate of service 0 (0 where none is listed). The other registers are as sfi_run_load
+ * sets them, but for x30, which is pc in the third format. Its data stay, and its steps are counted on. Returns false where
+ * there is no such sandbox, it hasn't stopped, or no bundle or word of its code begins at pc, and changes nothing then.
  */
 bool sfi_run_enter(struct sfi_run_world *world, uint32_t sandbox, uint32_t pc, const uint32_t arguments[8]);
 

@@ -8,14 +8,12 @@ use sfi_host::{Status, Turn, World};
 use std::alloc::Global;
 use std::test::Fail;
 
-// At its start the sandbox exits, so that it may be entered. The function is the bundle after that:
-// it turns the a1 bytes from a0 on round, has the host put them into upper case, and exits with
+// At its start the sandbox exits, so that it may be entered. The function begins in the bundle after
+// that: it turns the a1 bytes from a0 on round, has the host put them into upper case, and returns
 // what the host answered.
 const SOURCE: &str = ".sandbox 256
 .gate exit 0
 .gate upper 1
-        call exit
-        call turn
         call exit
 turn:   mv   s0, a0
         mv   s1, a1

@@ -5,6 +5,7 @@ use super::rows::image_of;
 use rv_mem::{Memory, Segments, Width};
 use rv_step::Cause;
 use rv_word::Reg;
+use sfi_build::build;
 use sfi_check::check;
 use sfi_host::{Console, RunAnswer, Status, Turn, World};
 use std::alloc::Global;
@@ -186,5 +187,28 @@ fn an_entered_sandbox_has_fresh_registers(rt: HostRuntime) -> Result<(), Fail> {
         let register = Reg::new(*number).expect(&rt, "a register");
         assert_eq!(rt; cpu.reg(register), *value, "x{number}");
     }
+    Ok(())
+}
+
+// A function that returns the sum of its arguments. The gate of exit isn't the first.
+const SUM: &str = ".sandbox 256
+.gate put 1
+.gate exit 0
+        call exit
+sum:    add  a0, a0, a1
+        ret
+";
+
+#[test]
+fn a_function_returns_by_the_gate_of_exit(rt: HostRuntime) -> Result<(), Fail> {
+    let alloc = rt.alloc();
+    let image = build(alloc, SUM).expect(&rt, "built");
+    let accepted = check(alloc, image.as_slice()).expect(&rt, "accepted");
+    let mut world = World::load(alloc, &accepted, Segments::new(alloc))?;
+    assert_eq!(rt; turned(&mut world, alloc)?, Some(Status::Exited(0)));
+    assert!(rt; world.enter(0, 0x0100_0030, &ARGUMENTS));
+    let cpu = world.cpu(0).expect(&rt, "a sandbox");
+    assert_eq!(rt; cpu.reg(Reg::numbered(1)), 0x0100_0010);
+    assert_eq!(rt; turned(&mut world, alloc)?, Some(Status::Exited(11 + 12)));
     Ok(())
 }
