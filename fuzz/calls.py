@@ -25,10 +25,10 @@ LIBRARY = os.path.join(fuzzing.TOP, "crates", "sfi_run", "out", "libsfi_run.a")
 CALLS_OF_A_WORLD = 80
 MOST = (1 << 32) - 1
 WRONG_NUMBERS = [16, 255, 1 << 31, MOST]
-KINDS = ["load", "turn", "event", "reply", "exit", "stop", "read", "write", "enter", "free"]
+KINDS = ["load", "turn", "event", "reply", "exit", "stop", "read", "write", "enter", "call", "free"]
 SEEN = ["events", "steps", "registers", "regions", "data"]
 NAMES = [*KINDS, *SEEN, "count", "version"]
-WEIGHTS = dict(load=3, turn=30, event=3, reply=20, exit=3, stop=4, read=10, write=10, enter=12, free=1)
+WEIGHTS = dict(load=3, turn=30, event=3, reply=20, exit=3, stop=4, read=10, write=10, enter=8, call=6, free=1)
 PIECE = 4096  # so many bytes of a larger data region are compared after each call
 
 
@@ -107,6 +107,10 @@ class World:
         number = self.number()
         return number, self.code_address(number), [self.word() for _ in range(8)]
 
+    def call(self):
+        number, steps = self.turn()
+        return number, self.code_address(number), [self.word() for _ in range(8)], steps
+
     def event(self):
         return (self.number(),)
 
@@ -115,7 +119,7 @@ class World:
     def free(self):
         return ()
 
-    def call(self, kind):
+    def compare(self, kind):
         """One call of that kind, and all that can be seen after it."""
         arguments = getattr(self, kind)()
         expected, found = (getattr(it, kind)(*arguments) for it in (self.model, self.library))
@@ -145,11 +149,11 @@ class World:
 
     def live(self):
         """Its life ends at its last call, or where it differs."""
-        if not self.call("load"):
+        if not self.compare("load"):
             return
         kinds, weights = list(WEIGHTS), list(WEIGHTS.values())
         for kind in self.pick.choices(kinds, weights, k=CALLS_OF_A_WORLD):
-            if not self.call(kind):
+            if not self.compare(kind):
                 break
         self.library.free()
 

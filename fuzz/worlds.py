@@ -143,6 +143,10 @@ class Model:
         sandbox.x[10:18] = arguments
         return True
 
+    def call(self, number, pc, arguments, steps):
+        is_done = self.enter(number, pc, arguments)
+        return is_done, self.turn(number, steps) if is_done else self.event(number)
+
     def steps(self, number):
         sandbox = self.at(number)
         return sandbox.steps if sandbox else 0
@@ -185,6 +189,11 @@ class EnterIsLoose(Model):
         return super().enter(number, pc & ~15, arguments)
 
 
+class CallForgetsTheTurn(Model):
+    def call(self, number, pc, arguments, steps):
+        return super().call(number, pc, arguments, 0)
+
+
 class StopForgetsData(Model):
     def stop(self, number):
         is_done = super().stop(number)
@@ -202,7 +211,10 @@ class TrapCounts(Model):
         return event
 
 
-PLANTS = {it.__name__: it for it in (ReplyIsNoStep, ReadGoesPastTheRoom, EnterIsLoose, StopForgetsData, TrapCounts)}
+PLANTS = {
+    it.__name__: it
+    for it in (ReplyIsNoStep, ReadGoesPastTheRoom, EnterIsLoose, CallForgetsTheTurn, StopForgetsData, TrapCounts)
+}
 
 # ---- the library
 
@@ -228,6 +240,7 @@ _CALLS = {
     "read": (_BOOL, [_OF_WORLD, _WORD, _WORD, _SIZE, _ROOM, _SIZE]),
     "write": (_BOOL, [_OF_WORLD, _WORD, _WORD, _BYTES, _SIZE]),
     "enter": (_BOOL, [_OF_WORLD, _WORD, _WORD, _ROOM]),
+    "call": (_BOOL, [_OF_WORLD, _WORD, _WORD, _ROOM, _WORD, _ROOM]),
     "steps": (ctypes.c_uint64, [_OF_WORLD, _WORD]),
     "registers": (_BOOL, [_OF_WORLD, _WORD, _ROOM]),
     "data": (_BOOL, [_OF_WORLD, _WORD, _ROOM]),
@@ -304,6 +317,10 @@ class Library:
 
     def enter(self, number, pc, arguments):
         return self.calls.enter(self.world, number, pc, _ARGUMENTS(*arguments))
+
+    def call(self, number, pc, arguments, steps):
+        event = _EVENT(*[FILL] * 4)
+        return self.calls.call(self.world, number, pc, _ARGUMENTS(*arguments), steps, event), Event(*event)
 
     def steps(self, number):
         return self.calls.steps(self.world, number)

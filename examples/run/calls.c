@@ -1,5 +1,5 @@
-/* What sfi_run.h says of single calls, tried on a plug-in that calls service 4 with 5 and 10, and loops for ever once it is
- * answered.
+/* What sfi_run.h says of single calls, tried on a plug-in that calls service 4 with 5 and the address of a function, and loops
+ * for ever once it is answered. The function returns the sum of its arguments, and the first one again as a second word.
  *
  *     calls IMAGE    # prints "all is so", or what isn't
  */
@@ -12,6 +12,8 @@ static void wanted(bool is_so, const char *what) {
     printf("not so: %s\n", what);
     exit(1);
 }
+
+static uint32_t sum; /* the function's address */
 
 static bool is_event(struct sfi_run_world *world, uint32_t kind, uint32_t number, uint32_t a0, uint32_t a1) {
     struct sfi_run_event event;
@@ -28,6 +30,8 @@ static void no_world(void) {
     sfi_run_free(&world);
     wanted(sfi_run_count(&world) == 0 && sfi_run_steps(&world, 0) == 0, "no world has no sandbox");
     wanted(sfi_run_turn(&world, 0, 1, &event) == SFI_RUN_NONE && is_event(&world, SFI_RUN_NONE, 0, 0, 0), "nor an event");
+    event.kind = event.a1 = 9;
+    wanted(!sfi_run_call(&world, 0, 0, arguments, 1, &event) && event.kind == SFI_RUN_NONE && event.a1 == 0, "nor a function");
     wanted(!sfi_run_stop(&world, 0) && !sfi_run_enter(&world, 0, 0, arguments) && !sfi_run_reply(&world, 0, 1, 1) &&
                !sfi_run_read(&world, 0, 0, 0, &byte, 1) && !sfi_run_write(&world, 0, 0, &byte, 0),
            "each call says so");
@@ -55,7 +59,8 @@ static void stops(struct sfi_run_world *world) {
     sfi_run_registers(world, 0, &before);
     const uint32_t start = before.pc, arguments[8] = {1, 2, 3, 4, 5, 6, 7, 8};
     wanted(!sfi_run_enter(world, 0, start, arguments), "what is ready can't be entered");
-    wanted(sfi_run_turn(world, 0, 1000, &event) == SFI_RUN_CALL && is_event(world, SFI_RUN_CALL, 4, 5, 10), "it calls");
+    wanted(sfi_run_turn(world, 0, 1000, &event) == SFI_RUN_CALL && is_event(world, SFI_RUN_CALL, 4, 5, event.a1), "it calls");
+    sum = event.a1;
     wanted(sfi_run_reply(world, 0, 0, 0) && sfi_run_turn(world, 0, 1000, &event) == SFI_RUN_READY, "it loops");
     uint64_t steps = sfi_run_steps(world, 0);
     sfi_run_data(world, 0, &data);
@@ -70,6 +75,20 @@ static void stops(struct sfi_run_world *world) {
            "it is stopped at a call, and the call gets no reply");
 }
 
+static void functions(struct sfi_run_world *world) {
+    const uint32_t arguments[8] = {2, 3};
+    struct sfi_run_event event = {9, 9, 9, 9};
+    wanted(sfi_run_call(world, 0, sum, arguments, 1000, &event) && event.kind == SFI_RUN_CALL && event.number == 0 &&
+               event.a0 == 5 && event.a1 == 2 && is_event(world, SFI_RUN_CALL, 0, 5, 2),
+           "a function returns its result and a second word");
+    wanted(!sfi_run_call(world, 0, sum, arguments, 1000, &event) && is_event(world, event.kind, 0, 5, 2), "it is called once");
+    wanted(sfi_run_exit(world, 0, event.a0) && is_event(world, SFI_RUN_EXITED, 5, 0, 0), "it ends by exit");
+    wanted(!sfi_run_call(world, 0, sum + 1, arguments, 1000, &event) && event.kind == SFI_RUN_EXITED && event.number == 5,
+           "none begins within a word");
+    wanted(sfi_run_call(world, 0, sum, arguments, 1, &event) && event.kind == SFI_RUN_READY && sfi_run_stop(world, 0),
+           "it has the steps that it is given");
+}
+
 int main(int count, char **words) {
     struct sfi_run_world world = SFI_RUN_NO_WORLD;
     if (count < 2)
@@ -78,6 +97,7 @@ int main(int count, char **words) {
     load_file(words[1], &world);
     reads(&world);
     stops(&world);
+    functions(&world);
     wanted(!sfi_run_stop(&world, 1) && !sfi_run_stop(&world, UINT32_MAX), "who isn't there isn't stopped");
     sfi_run_free(&world);
     sfi_run_free(&world);

@@ -8,15 +8,15 @@
  * with its premises, docs/PROOFS.md what is proved of each call). The sandboxes run in a memory of the library's own, step
  * by step: no code of theirs runs on the host's processor, and no address of theirs is one of the host's.
  *
- * One premise is worth a word: a trap ends the run. The sandbox goes on by sfi_run_enter alone, which
- * sets its registers anew. The library keeps this. A host that runs accepted code by other means (sfi.h) has to: where
+ * One premise is worth a word: a trap ends the run. The sandbox goes on by sfi_run_enter and sfi_run_call alone, which
+ * set its registers anew. The library keeps this. A host that runs accepted code by other means (sfi.h) has to: where
  * it steps over an ebreak, or in the third format completes or steps over an access with a byte in a guard zone, code
  * can leave its sandbox.
  *
  * The calls read nothing but their arguments and the world, keep nothing elsewhere, start no thread, and read and write
  * no file. sfi_run_load takes memory by malloc and realloc, for the world of an accepted image alone; sfi_run_load and
- * sfi_run_free give it back by free; the other calls do neither. Each returns: sfi_run_turn after at most the steps that
- * it was given. A thread with 64 KiB of stack had room for each where that was measured.
+ * sfi_run_free give it back by free; the other calls do neither. Each returns: sfi_run_turn and sfi_run_call after at
+ * most the steps that they were given. A thread with 64 KiB of stack had room for each where that was measured.
  *
  * What a caller owes, since nothing checks it:
  *
@@ -217,6 +217,18 @@ bool sfi_run_write(struct sfi_run_world *world, uint32_t sandbox, uint32_t at, c
  * there is no such sandbox, it hasn't stopped, or no bundle or word of its code begins at pc, and changes nothing then.
  */
 bool sfi_run_enter(struct sfi_run_world *world, uint32_t sandbox, uint32_t pc, const uint32_t arguments[8]);
+
+/*
+ * Calls a function: sfi_run_enter, and then sfi_run_turn. Writes to *event how the sandbox stands then. Returns false where
+ * it isn't entered.
+ *
+ * A function that returns calls the gate of service 0, in C as in assembly: the event is SFI_RUN_CALL with the number 0,
+ * a0 the result, and a1 the high word of one of 64 bits. sfi_run_exit(world, sandbox, event->a0) ends the call, and the
+ * next one may come. Before that the function may call other gates, or use up its steps: it goes on by sfi_run_turn, or
+ * sfi_run_stop ends it.
+ */
+bool sfi_run_call(struct sfi_run_world *world, uint32_t sandbox, uint32_t pc, const uint32_t arguments[8], uint32_t steps,
+                  struct sfi_run_event *event);
 
 /* How many steps the sandbox has done, at most 2^64 - 1; 0 where there is none. */
 uint64_t sfi_run_steps(struct sfi_run_world *world, uint32_t sandbox);

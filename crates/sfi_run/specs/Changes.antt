@@ -57,6 +57,12 @@ pub record HasEntered (w n : Sandboxes) (sandbox pc : ℕ) (arguments : List ℕ
   pub others : OthersAreSame w sandbox n
   pub entry : IsAtEntry n sandbox
 
+-- it was entered at pc as a function with these arguments, and then took a turn up to its first call
+pub record HasCalled (w n : Sandboxes) (sandbox pc : ℕ) (arguments : List ℕ) (steps : ℕ) : Type 0 where
+  pub begun : Sandboxes
+  pub entered : HasEntered w begun sandbox pc arguments
+  pub ran : HasRunToCall begun n sandbox steps
+
 -- it is stopped, and nothing else changed
 pub record HasBeenStopped (w n : Sandboxes) (sandbox : ℕ) : Type 0 where
   pub done : n ≡ with_stop w sandbox

@@ -21,6 +21,6 @@ pub use between::{
 pub use held::Held;
 pub use holding::SfiRunWorld;
 pub use told::{SfiRunEvent, SfiRunRegion, SfiRunRegisters};
-pub use turns::{sfi_run_event, sfi_run_exit, sfi_run_reply, sfi_run_turn};
+pub use turns::{sfi_run_call, sfi_run_event, sfi_run_exit, sfi_run_reply, sfi_run_turn};
 pub use version::sfi_run_version;
 pub use worlds::{LoadFault, sfi_run_count, sfi_run_free, sfi_run_load};

@@ -1,9 +1,10 @@
-//! Turns up to a call, and replies.
+//! Turns up to a call, replies, and functions that are called.
 ghost use Rattle.std.specs.Prelude.{◌≡◌, ◌↔◌, Some, None, IsSome, IsTrue, false};
 ghost use Rattle.std.specs.Bool.{OnTrue, OnFalse};
+ghost use Rattle.sfi_host.specs.Entering.{MayEnterAt};
 ghost use Rattle.sfi_host.specs.Waiting.{IsAtCall};
-ghost use Rattle.sfi_host.specs.Worlds.{Sandboxes, slots_of};
-ghost use Rattle.sfi_run.specs.Changes.{HasRunToCall, HasReplied};
+ghost use Rattle.sfi_host.specs.Worlds.{Sandboxes, slots_of, IsSafeWorld};
+ghost use Rattle.sfi_run.specs.Changes.{HasRunToCall, HasReplied, HasCalled};
 ghost use Rattle.sfi_run.specs.Told.{none_event, IsEventOf};
 
 use crate::holding::SfiRunWorld;
@@ -38,6 +39,31 @@ fn reply(world: &mut World<Pages>, sandbox: u32, later: Later) -> bool
     world.reply(sandbox, later)
 }
 
+// Enters a sandbox and runs it up to its next call. Tells how it stands then.
+fn call(
+    world: &mut World<Pages>,
+    sandbox: u32,
+    pc: u32,
+    arguments: &[u32; 8],
+    steps: u32,
+    event: &mut SfiRunEvent,
+) -> bool
+    ensures may { IsTrue result ↔ MayEnterAt (slots_of world.old) sandbox pc }
+    ensures called { OnTrue result
+        (HasCalled world.old world.new sandbox pc arguments.now steps) }
+    ensures refused { OnFalse result (world.new ≡ world.old) }
+    ensures event { IsEventOf (slots_of world.new) sandbox event.new }
+    ensures safe { IsSafeWorld world.new }
+{
+    if !world.enter(sandbox, pc, arguments) {
+        world.stays_safe();
+        *event = look(world, sandbox);
+        return false;
+    }
+    *event = run(world, sandbox, steps);
+    true
+}
+
 /// Runs a sandbox up to its next call, for at most so many steps, and tells how it stands then.
 #[unsafe(no_mangle)]
 pub extern "C" fn sfi_run_turn(
@@ -62,6 +88,39 @@ pub extern "C" fn sfi_run_turn(
     *event = run(&mut boxed, sandbox, steps);
     world.put(boxed);
     event.kind
+}
+
+/// Calls a function of a sandbox that has stopped: enters it at a bundle or word of its code, with these
+/// in a0 to a7, and runs it up to its next call, for at most so many steps. Tells how it stands then.
+#[unsafe(no_mangle)]
+pub extern "C" fn sfi_run_call(
+    alloc: Global,
+    world: &mut SfiRunWorld,
+    sandbox: u32,
+    pc: u32,
+    arguments: &[u32; 8],
+    steps: u32,
+    event: &mut SfiRunEvent,
+) -> bool
+    ensures may { (w : Sandboxes) → world.old.inner.world ≡ Some w
+        → (IsTrue result ↔ MayEnterAt (slots_of w) sandbox pc) }
+    ensures called { OnTrue result ((w n : Sandboxes) → world.old.inner.world ≡ Some w
+        → world.new.inner.world ≡ Some n → HasCalled w n sandbox pc arguments.now steps) }
+    ensures refused { OnFalse result (world.new.inner.world ≡ world.old.inner.world) }
+    ensures event { (n : Sandboxes) → world.new.inner.world ≡ Some n
+        → IsEventOf (slots_of n) sandbox event.new }
+    ensures no_world { world.old.inner.world ≡ None → event.new ≡ none_event }
+    ensures safe { (n : Sandboxes) → world.new.inner.world ≡ Some n → IsSafeWorld n }
+    ensures held { IsSome world.old.inner.world ↔ IsSome world.new.inner.world }
+    ensures none { world.old.inner.world ≡ None → result ≡ false }
+{
+    let Some(mut boxed) = world.take(alloc) else {
+        *event = SfiRunEvent::none();
+        return false;
+    };
+    let done = call(&mut boxed, sandbox, pc, arguments, steps, event);
+    world.put(boxed);
+    done
 }
 
 /// Tells how a sandbox stands.
