@@ -8,29 +8,20 @@ import sys
 
 import sfi_run
 
-EXIT, UPPER = 0, 1
 STEPS = 10_000  # of a call
 
 
 class Turner:
-    """The plug-in, which has exited at its start. Its function is the bundle after that."""
+    """The plug-in, which exits at its start. Its function begins in the bundle after that."""
 
     def __init__(self, world):
         self.sandbox = world[0]
         self.function = self.sandbox.registers.pc + 16
-        self.run()
-
-    def run(self):
-        """Serves it until it has stopped or its steps are used."""
         for event in self.sandbox.events(STEPS):
             if isinstance(event, sfi_run.Call):
-                self.serve(event)
-        return event
+                event.exit(event.a0)
 
     def serve(self, call):
-        if call.service == EXIT:
-            call.exit(call.a0)
-            return
         try:
             text = self.sandbox.read(call.a0, call.a1)
             self.sandbox.write(call.a0, text.upper())
@@ -42,11 +33,8 @@ class Turner:
         """The text that the plug-in makes of a text, and the number that it answers."""
         at = self.sandbox.data.base
         self.sandbox.write(at, text)
-        self.sandbox.enter(self.function, [at, len(text)])
-        event = self.run()
-        if not isinstance(event, sfi_run.Exited):
-            raise RuntimeError(f"the plug-in didn't return: {event}")
-        return self.sandbox.read(at, len(text)), event.number
+        number = self.sandbox.call(self.function, at, len(text), steps=STEPS, serve=self.serve)
+        return self.sandbox.read(at, len(text)), number
 
 
 def main(image, *texts):

@@ -49,8 +49,7 @@ class Words:
         if len(text) > self.room:
             raise ValueError("the text is too long")
         self.sandbox.write(self.text, text)
-        self.sandbox.enter(self.capitalize_at, [self.text, len(text)])
-        number = self.returned()
+        number = self.sandbox.call(self.capitalize_at, self.text, len(text), steps=STEPS, serve=self.serve)
         return self.sandbox.read(self.text, len(text)), number
 
     def ask_forever(self):

@@ -24,7 +24,7 @@ import ctypes
 import enum
 import os
 import threading
-from collections.abc import Iterator, Sequence
+from collections.abc import Callable, Iterator, Sequence
 from dataclasses import dataclass, field
 from types import TracebackType
 from typing import Any, Union
@@ -32,8 +32,8 @@ from typing import Any, Union
 from . import _library
 
 __all__ = [
-    "Call", "Cause", "Event", "Exited", "Finding", "Library", "NoImage", "NotEntered", "NotRunning", "NotWaiting", "OutsideData",
-    "Ready", "Refused", "Registers", "Region", "Sandbox", "Stopped", "Trapped", "World",
+    "Call", "Cause", "Event", "Exited", "Finding", "Library", "NoImage", "NotEntered", "NotReturned", "NotRunning", "NotWaiting",
+    "OutsideData", "Ready", "Refused", "Registers", "Region", "Sandbox", "Stopped", "Trapped", "World",
 ]
 __version__ = "0.1.0"
 
@@ -83,6 +83,14 @@ class NotWaiting(Exception):
 
 class NotEntered(Exception):
     """An entry into a sandbox that hasn't stopped, or at an address where no bundle or word of its code begins."""
+
+
+class NotReturned(Exception):
+    """A function that didn't return: the `event` says how its sandbox stands."""
+
+    def __init__(self, event: Event) -> None:
+        super().__init__(event)
+        self.event = event
 
 
 class NotRunning(Exception):
@@ -355,12 +363,27 @@ class Sandbox:
 
     def enter(self, pc: int, arguments: Sequence[int] = ()) -> None:
         """Makes it ready at pc, where it has stopped, with at most eight arguments in a0 to a7 and 0 in those that are
-        left. Its data stay, and its steps are counted on. Raises NotEntered where it hasn't stopped, or no bundle or word of its
-        code begins at pc."""
+        left. A function that returns calls its first gate of service 0. Its data stay, and its steps are counted on. Raises
+        NotEntered where it hasn't stopped, or no bundle or word of its code begins at pc."""
         if len(arguments) > 8:
             raise ValueError("there are at most eight arguments")
         if not self._changed("enter", _word(pc), _library.Arguments(*map(_word, arguments))):
             raise NotEntered(f"sandbox {self._number} can't be entered at {pc:08x}")
+
+    def call(self, pc: int, *arguments: int, steps: int, serve: Callable[[Call], object] | None = None) -> int:
+        """Calls a function: enters it at pc, runs it for at most so many steps in all, and answers its result, with which it
+        exits. `serve` replies to its calls of gates of other services. Raises NotEntered and ValueError as `enter` does, and
+        NotReturned where it stops in another way, its steps are used, or a call gets no reply."""
+        self.enter(pc, arguments)
+        for event in self.events(steps):
+            if isinstance(event, Call):
+                if event.service == 0:
+                    event.exit(event.a0)
+                elif serve:
+                    serve(event)
+        if not isinstance(event, Exited):
+            raise NotReturned(event)
+        return event.number
 
     @property
     def steps(self) -> int:

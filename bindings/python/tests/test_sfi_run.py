@@ -29,6 +29,18 @@ TWICE = """
         mv   a0, a1
         call exit
 """
+# At its start it exits. sum returns the sum of its arguments, and asked the answer to a post of them.
+SUM = """
+.sandbox 256
+.gate post 4
+.gate exit 0
+        call exit
+sum:    add  a0, a0, a1
+        ret
+asked:  mv   s0, ra
+        call post
+        jr   s0
+"""
 # It calls once, and loops then.
 LOOPS = """
 .sandbox 256
@@ -298,6 +310,27 @@ class Running(unittest.TestCase):
         self.assertEqual((self.sandbox.event, self.sandbox.steps), (sfi_run.Ready(), before))
         with self.assertRaises(ValueError):
             self.sandbox.enter(start, range(9))
+
+    def test_functions(self):
+        with sfi_run.World(built(SUM)) as world:
+            sandbox, sum_at = world[0], CODE + 48  # behind two gates and the start, each a bundle
+            with self.assertRaises(sfi_run.NotEntered):
+                sandbox.call(sum_at, 2, 3, steps=100)
+            sandbox.turn(100).exit(0)
+            self.assertEqual(sandbox.call(sum_at, 2, 3, steps=100), 5)
+            self.assertEqual(sandbox.call(sum_at, 0xFFFFFFFF, 3, steps=100), 2)
+            asked_at = sum_at + 16
+            self.assertEqual(sandbox.call(asked_at, 6, 7, steps=100, serve=lambda call: call.reply(call.a0 * call.a1)), 42)
+            with self.assertRaises(sfi_run.NotReturned) as told:
+                sandbox.call(asked_at, 6, 7, steps=100)
+            self.assertEqual(told.exception.event, sandbox.event)
+            sandbox.stop()
+            with self.assertRaises(sfi_run.NotReturned) as told:
+                sandbox.call(sum_at, 2, 3, steps=1)
+            self.assertEqual(told.exception.event, sfi_run.Ready())
+            sandbox.stop()
+            with self.assertRaises(ValueError):
+                sandbox.call(sum_at, *range(9), steps=100)
 
     def test_numbers_of_32_bits(self):
         call = self.sandbox.turn(1000)

@@ -67,6 +67,8 @@ pub enum CallError {
     OutsideData,
     /// An entry into a sandbox that hasn't stopped, or at an address where no bundle or word of its code begins.
     NotEntered,
+    /// A function that didn't return.
+    NotReturned,
     /// A sandbox that is to be stopped, and has stopped already.
     NotRunning,
 }
@@ -100,6 +102,7 @@ impl fmt::Display for CallError {
             CallError::NotEntered => {
                 "the sandbox hasn't stopped, or no bundle or word begins there"
             }
+            CallError::NotReturned => "the function didn't return",
             CallError::NotRunning => "the sandbox has stopped already",
         })
     }
@@ -383,12 +386,34 @@ impl Sandbox<'_> {
         is_done.then_some(()).ok_or(CallError::NotRunning)
     }
 
-    /// Makes it ready at pc, where it has stopped, with these arguments in a0 to a7. Its data stay, and its steps are
-    /// counted on. The error is [`CallError::NotEntered`].
+    /// Makes it ready at pc, where it has stopped, with these arguments in a0 to a7. A function that returns calls its first
+    /// gate of service 0. Its data stay, and its steps are counted on. The error is [`CallError::NotEntered`].
     pub fn enter(&mut self, pc: u32, arguments: &[u32; 8]) -> Result<(), CallError> {
         let is_done =
             unsafe { sys::sfi_run_enter(self.world, self.number, pc, arguments.as_ptr()) };
         is_done.then_some(()).ok_or(CallError::NotEntered)
+    }
+
+    /// Calls a function: enters it at pc, runs it for at most so many steps in all, and answers its result, with which it
+    /// exits. `serve` replies to its calls of gates of other services, as in [`serve`](Self::serve). The error is that of
+    /// [`enter`](Self::enter), or [`CallError::NotReturned`] where it stops in another way, its steps are used, or a call gets
+    /// no reply: [`event`](Self::event) says how it stands then.
+    pub fn call(
+        &mut self,
+        pc: u32,
+        arguments: &[u32; 8],
+        steps: u64,
+        mut serve: impl FnMut(&mut Self, Call) -> bool,
+    ) -> Result<u32, CallError> {
+        self.enter(pc, arguments)?;
+        let event = self.serve(steps, |sandbox, call| match call.service {
+            0 => sandbox.exit(call.a0).is_ok(),
+            _ => serve(sandbox, call),
+        });
+        match event {
+            Event::Exited(number) => Ok(number),
+            _ => Err(CallError::NotReturned),
+        }
     }
 
     /// How many steps it has done.

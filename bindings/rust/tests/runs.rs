@@ -1,5 +1,5 @@
 //! Tests of the crate. The addresses, registers and numbers that are wanted are those of docs/IMAGE.md and docs/GATES.md.
-use sfi_run::{Call, CallError, Cause, Event, Finding, LoadError, Region, World};
+use sfi_run::{Call, CallError, Cause, Event, Finding, LoadError, Region, Sandbox, World};
 use std::env;
 use std::io::Write;
 use std::path::Path;
@@ -191,6 +191,48 @@ fn data_and_entries() {
     );
     assert_eq!(sandbox.enter(start, &arguments), Ok(()));
     assert_eq!(sandbox.registers().x[10..18], arguments);
+}
+
+/// At its start it exits. sum returns the sum of its arguments, and asked the answer to a post of them.
+const SUM: &str = ".sandbox 256
+.gate post 4
+.gate exit 0
+        call exit
+sum:    add  a0, a0, a1
+        ret
+asked:  mv   s0, ra
+        call post
+        jr   s0
+";
+
+#[test]
+fn functions_return() {
+    let mut world = World::load(&built(SUM)).unwrap();
+    let mut sandbox = world.sandbox(0).unwrap();
+    let (sum, asked) = (CODE + 48, CODE + 64); // behind two gates and the start, each a bundle
+    let (two, six) = ([2, 3, 0, 0, 0, 0, 0, 0], [6, 7, 0, 0, 0, 0, 0, 0]);
+    let none = |_: &mut Sandbox, _: Call| false;
+    assert_eq!(
+        sandbox.call(sum, &two, 100, none),
+        Err(CallError::NotEntered)
+    );
+    sandbox.turn(100);
+    sandbox.exit(0).unwrap();
+    assert_eq!(sandbox.call(sum, &two, 100, none), Ok(5));
+    let product = |sandbox: &mut Sandbox, call: Call| sandbox.reply(call.a0 * call.a1, 0).is_ok();
+    assert_eq!(sandbox.call(asked, &six, 100, product), Ok(42));
+    let unserved = sandbox.call(asked, &six, 100, none);
+    assert_eq!(unserved, Err(CallError::NotReturned));
+    assert!(matches!(
+        sandbox.event(),
+        Event::Call(Call { service: 4, .. })
+    ));
+    sandbox.stop().unwrap();
+    let cut = sandbox.call(sum, &two, 1, none);
+    assert_eq!(
+        (cut, sandbox.event()),
+        (Err(CallError::NotReturned), Event::Ready)
+    );
 }
 
 /// The same steps, whatever the turns.
