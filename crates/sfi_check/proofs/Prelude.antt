@@ -13,7 +13,8 @@ pub use Rattle.sfi_image.specs.Faults.{IsFault}
 pub use Rattle.sfi_image.specs.Fronts.{Front, AreBundlesWithin, IsStretchLength, Follows, want_of, IsLess, HasFaultWhateverFollows, front, IsRightFront, IsLengthOf, part_of, after_parts, after_init, after_code, after_gates}
 pub use Rattle.sfi_image.specs.Fronts.Front.{Empty, AfterMagic, AfterCount, InGates, InCode, InInit, Whole}
 pub use Rattle.sfi_image.specs.Gates.{is_gate_of}
-pub use Rattle.sfi_image.specs.Keeping.{LayoutReader, StandsFor, Leads, left, left_most}
+pub use Rattle.sfi_image.specs.declared.layout_reader.LayoutReader.{LayoutReader}
+pub use Rattle.sfi_image.specs.Keeping.{StandsFor, Leads, left, left_most}
 pub use Rattle.sfi_image.specs.Parts.{IsRightPart, IsRightLayout}
 pub use Rattle.sfi_image.specs.Regions.{IsCodeRegion}
 pub use Rattle.sfi_image.specs.Spans.{spans}

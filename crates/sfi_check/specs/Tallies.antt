@@ -6,7 +6,8 @@ use Rattle.sfi_image.specs.declared.fields.Fields.{Fields}
 use Rattle.sfi_image.specs.Spelling.{Part}
 use Rattle.sfi_image.specs.Fronts.{Front, front, want_of, IsLess, part_of}
 use Rattle.sfi_image.specs.Fronts.Front.{Empty, AfterMagic, AfterCount, InGates, InCode, InInit, Whole}
-use Rattle.sfi_image.specs.Keeping.{LayoutReader, StandsFor, left, left_most}
+use Rattle.sfi_image.specs.declared.layout_reader.LayoutReader.{LayoutReader}
+use Rattle.sfi_image.specs.Keeping.{StandsFor, left, left_most}
 use Rattle.sfi_rules.specs.declared.finding.Finding.{Finding}
 use Rattle.sfi_rules.specs.declared.owed.Owed.{Owed}
 use Rattle.sfi_rules.specs.declared.owed.Owed.TheVariants.{Nothing}

@@ -2,7 +2,8 @@
 use Rattle.std.specs.Prelude.{◌≡◌, ℕ, ◌-◌, ◌<◌, ◌≤◌, ◌⊎◌, List, ◌++◌, length, take, Option, Some, None}
 use Rattle.sfi_image.specs.declared.want.Next.TheVariants as next
 use Rattle.sfi_image.specs.Fronts.{Front, front, HasFaultWhateverFollows}
-use Rattle.sfi_image.specs.Keeping.{LayoutReader, StandsFor, Leads, left}
+use Rattle.sfi_image.specs.declared.layout_reader.LayoutReader.{LayoutReader}
+use Rattle.sfi_image.specs.Keeping.{StandsFor, Leads, left}
 use Rattle.sfi_rules.specs.declared.finding.Finding.{Finding}
 use Rattle.sfi_check.specs.declared.tally.Tally.{Tally}
 use Rattle.sfi_check.specs.declared.stream_answer.StreamAnswer.{StreamAnswer}
