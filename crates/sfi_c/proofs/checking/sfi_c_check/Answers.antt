@@ -1,4 +1,3 @@
-use Rattle.sfi_c.proofs.Prelude.{◌≡◌}
 use Rattle.sfi_c.proofs.checking.sfi_c_check.Goals as goal
 
 pub returns-clause-known : goal.returns-clause-known

@@ -1,6 +1,3 @@
-use Rattle.sfi_c.proofs.Prelude.{List, ℕ}
-use Rattle.sfi_c.specs.Streams.{IsStreamOf}
-use Rattle.sfi_check.specs.ForC.{IsVerdictForC}
 use Rattle.sfi_c.proofs.feeding.sfi_c_end.Goals as goal
 
 pub returns-clause-accepted : goal.returns-clause-accepted
