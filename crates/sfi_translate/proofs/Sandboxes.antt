@@ -1,0 +1,113 @@
+-- The text of sandboxes and of an image, one unit and one sandbox more.
+use Rattle.sfi_translate.proofs.Prelude.{◌≡◌, ℕ, suc, ◌+◌, ◌*◌, ◌≤◌, List, [], ◌∷◌, ◌++◌, length, get_or, take, drop, refl, sym, ap, ◌∙◌, subst, arith, append_assoc, flat_map, append-nil, take_all, length-take, Format, SandboxPart, Part, view, Adds, gate_line, IsUnitText, IsCodeText, IsReadingText, IsSandboxText}
+use Rattle.std.proofs.Common.{◌<◌, ◌^◌, add-zero, Bool}
+use Rattle.std.proofs.lemmas.List.{take_more, length-map, get_or-map}
+use Rattle.sfi_policy.specs.Formats.{unit}
+use Rattle.sfi_policy.specs.declared.format.Format.TheVariants.{Sfi1, Sfi2, Sfiw}
+use Rattle.sfi_image.specs.Spelling.{views}
+use Rattle.sfi_image.specs.Parts.{IsRightPart}
+use Rattle.sfi_image.proofs.Facts.{whole_bundles}
+use Rattle.sfi_translate.specs.Translation.{sandbox_line, data_line, last_line, function_text, entry_text, head_text, IsTextOfFirst, IsTranslationFrom, IsTranslation}
+
+-- before the end of whole bundles there is a whole unit, and one unit more is that many
+unit_there : (format : Format) (n m at size : ℕ) → size ≡ 16 * n → at ≡ unit format * m → at < size → (at + unit format ≤ size) × (at + unit format ≡ unit format * suc m)
+unit_there Sfi1 n m at size whole e less = let same : at ≡ 16 * m = e in (omega arith, omega arith)
+unit_there Sfi2 n m at size whole e less = let same : at ≡ 16 * m = e in (omega arith, omega arith)
+unit_there Sfiw n m at size whole e less = let same : at ≡ 4 * m = e in (omega arith, omega arith)
+
+-- the text of the units before this offset after the old one
+pub record IsWrittenTo (sandbox : ℕ) (p : Part) (at : ℕ) (old new : List ℕ) : Type 0 where
+  pub units : ℕ
+  pub at_is : at ≡ unit p.format * units
+  pub within : at ≤ length p.code
+  pub text : List ℕ
+  pub text_is : IsTextOfFirst sandbox p units text
+  pub new_is : new ≡ old ++ text
+
+-- the next unit ends within the code, at a unit more, and the code at or below 2 ^ 32
+pub unit_fits : (sandbox : ℕ) (p : Part) (size at : ℕ) (old new : List ℕ) → IsRightPart p → size ≡ unit p.format → (so_far : IsWrittenTo sandbox p at old new) → at < length p.code
+    → (at + size ≤ length p.code) × (at + size ≡ unit p.format * suc so_far.units) × (p.code_base + length p.code ≤ 2 ^ 32)
+unit_fits sandbox p size at old new right is so_far less =
+    let whole = whole_bundles p.format p.code_base (length p.code) right.code_base right.code_placed in
+    let there = unit_there p.format whole.0 so_far.units at (length p.code) whole.2 so_far.at_is less in
+    (subst (λ n. at + n ≤ length p.code) (sym is) there.0, ap (λ n. at + n) is ∙ there.1, whole.4)
+
+pub one_unit_more : (sandbox : ℕ) (p : Part) (size at : ℕ) (old new more : List ℕ) → IsRightPart p → size ≡ unit p.format → at < length p.code → IsWrittenTo sandbox p at old new
+    → Adds new more (IsUnitText sandbox at (p.code_base + at) (take size (drop at p.code))) → IsWrittenTo sandbox p (at + size) old more
+one_unit_more sandbox p size at old new more right is less so_far here =
+    let fits = unit_fits sandbox p size at old new right is so_far less in
+    let sized = subst (λ n. IsUnitText sandbox at (p.code_base + at) (take n (drop at p.code)) here.text) is here.text_is in
+    let last = subst (λ k. IsUnitText sandbox k (p.code_base + k) (take (unit p.format) (drop k p.code)) here.text) so_far.at_is sized in
+    record {
+      units = suc so_far.units;
+      at_is = fits.1;
+      within = fits.0;
+      text = so_far.text ++ here.text;
+      text_is = (so_far.text, here.text, so_far.text_is, last, refl);
+      new_is = here.new_is ∙ ap (λ t. t ++ here.text) so_far.new_is ∙ append_assoc old so_far.text here.text;
+    }
+
+-- a unit's text: what stands before its lines, and its lines
+pub whole_unit : (sandbox offset at : ℕ) (bytes old first second third new : List ℕ) (chosen : Bool)
+    → first ≡ old ++ function_text sandbox offset at → second ≡ first ++ entry_text chosen at → third ≡ second ++ head_text at
+    → Adds third new (IsReadingText at bytes) → Adds old new (IsUnitText sandbox offset at bytes)
+whole_unit sandbox offset at bytes old first second third new chosen e f g h =
+    record {
+      text = function_text sandbox offset at ++ entry_text chosen at ++ head_text at ++ h.text;
+      text_is = record {
+        chosen = chosen;
+        reading = h.text_is.reading;
+        longest = h.text_is.longest;
+        text_is = ap (λ t. function_text sandbox offset at ++ entry_text chosen at ++ head_text at ++ t) h.text_is.text_is;
+      };
+      new_is = h.new_is ∙ ap (λ t. t ++ h.text) (g ∙ ap (λ t. t ++ head_text at) (f ∙ ap (λ t. t ++ entry_text chosen at) e))
+          ∙ regroup old (function_text sandbox offset at) (entry_text chosen at) (head_text at) h.text;
+    }
+  where
+    regroup : (a b c d e : List ℕ) → (((a ++ b) ++ c) ++ d) ++ e ≡ a ++ (((b ++ c) ++ d) ++ e)
+    regroup a b c d e = simp append_assoc
+
+-- a sandbox's text: its fields, gates and first data, its code, and the last line
+pub whole_sandbox : (sandbox : ℕ) (p : Part) (old fields gates filled code new : List ℕ)
+    → fields ≡ old ++ sandbox_line sandbox p → gates ≡ fields ++ flat_map gate_line p.gates → filled ≡ gates ++ data_line sandbox p.init
+    → Adds filled code (IsCodeText sandbox p) → new ≡ code ++ last_line → Adds old new (IsSandboxText sandbox p)
+whole_sandbox sandbox p old fields gates filled code new e f g h i =
+    record {
+      text = sandbox_line sandbox p ++ flat_map gate_line p.gates ++ data_line sandbox p.init ++ h.text ++ last_line;
+      text_is = record { code = h.text; code_is = h.text_is; text_is = refl };
+      new_is = i ∙ ap (λ t. t ++ last_line) (h.new_is ∙ ap (λ t. t ++ h.text) (g ∙ ap (λ t. t ++ data_line sandbox p.init) (f ∙ ap (λ t. t ++ flat_map gate_line p.gates) e)))
+          ∙ regroup old (sandbox_line sandbox p) (flat_map gate_line p.gates) (data_line sandbox p.init) h.text last_line;
+    }
+  where
+    regroup : (a b c d e f : List ℕ) → ((((a ++ b) ++ c) ++ d) ++ e) ++ f ≡ a ++ ((((b ++ c) ++ d) ++ e) ++ f)
+    regroup a b c d e f = simp append_assoc
+
+text_append : (n m : ℕ) (parts : List Part) (p : Part) (text last : List ℕ) → IsTranslationFrom n parts text → IsSandboxText m p last → m ≡ n + length parts → IsTranslationFrom n (parts ++ p ∷ []) (text ++ last)
+text_append n m [] p text last h here e =
+    let at : m ≡ n = e ∙ add-zero n in
+    (last, [], subst (λ k. IsSandboxText k p last) at here, refl, ap (λ (l : List ℕ). l ++ last) h ∙ sym (append-nil last))
+text_append n m (q ∷ parts) p text last h here e =
+    let rest = text_append (n + 1) m parts p h.1 last h.3 here (omega arith) in
+    (h.0, h.1 ++ last, h.2, rest, ap (λ (l : List ℕ). l ++ last) h.4 ∙ append_assoc h.0 h.1 last)
+
+-- the text of the first sandboxes
+pub no_sandboxes : (image : List Part) → IsTranslationFrom 0 (take 0 image) []
+no_sandboxes image = refl
+
+pub one_sandbox_more : (format : Format) (image : List Part) (items : List SandboxPart) (i : ℕ) (d : SandboxPart) (text more : List ℕ) → views format items ≡ image → i < length items
+    → IsTranslationFrom 0 (take i image) text → Adds text more (IsSandboxText i (view format (get_or items i d))) → IsTranslationFrom 0 (take (i + 1) image) more
+one_sandbox_more format image items i d text more e h before here =
+    let within : i < length (views format items) = omega (arith, length-map items (view format)) in
+    let longer : take (i + 1) (views format items) ≡ take i (views format items) ++ view format (get_or items i d) ∷ [] =
+    take_more (views format items) i (view format d) within ∙ ap (λ (p : Part). take i (views format items) ++ p ∷ []) (get_or-map (view format) items i d (view format d) h) in
+    let count : i ≡ 0 + length (take i (views format items)) = omega (arith, length-take i (views format items)) in
+    let before' = subst (λ (l : List Part). IsTranslationFrom 0 (take i l) text) (sym e) before in
+    let written = text_append 0 i (take i (views format items)) (view format (get_or items i d)) text here.text before' here.text_is count in
+    let all = subst (λ (l : List Part). IsTranslationFrom 0 l (text ++ here.text)) (sym longer ∙ ap (take (i + 1)) e) written in
+    subst (λ (t : List ℕ). IsTranslationFrom 0 (take (i + 1) image) t) (sym here.new_is) all
+
+pub all_sandboxes : (format : Format) (image : List Part) (items : List SandboxPart) (i : ℕ) (text : List ℕ) → views format items ≡ image → length items ≤ i
+    → IsTranslationFrom 0 (take i image) text → IsTranslation image text
+all_sandboxes format image items i text e h before =
+    let all : length image ≤ i = omega (arith, length-map items (view format), ap length e) in
+    subst (λ (l : List Part). IsTranslationFrom 0 l text) (take_all i image all) before

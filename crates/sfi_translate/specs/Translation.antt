@@ -1,0 +1,107 @@
+-- The translation of an image: the text that sfi_native.h gives a meaning in C.
+use Rattle.std.specs.Prelude.{◌≡◌, ℕ, zero, suc, ◌+◌, ◌*◌, ◌%◌, ◌==◌, Bool, List, [], ◌∷◌, ◌++◌, length, codes, decimal, if◌then◌else◌}
+use Rattle.std.specs.List.{flat_map}
+use Rattle.sfi_policy.specs.Formats.{unit}
+use Rattle.sfi_image.specs.Spelling.{Part}
+use Rattle.sfi_image.specs.declared.part.Gate.{Gate}
+use Rattle.sfi_rules.specs.Readings.{Piece, IsLongestReading}
+use Rattle.sfi_report.specs.Digits.{hex_digits, line_end}
+use Rattle.sfi_report.specs.Listing.{unit_bytes}
+use Rattle.sfi_translate.specs.Lines.{line_text, address_line, address_field, number_field, closing, function_most}
+
+-- ---- of a unit of code
+
+-- the lines of a reading at that address
+abbrev pub reading_text : ℕ → List Piece → List ℕ
+reading_text at [] = []
+reading_text at (x ∷ reading) = line_text at x.size x.instr ++ reading_text (at + x.size) reading
+
+-- a function of the sandbox begins
+unfoldable pub function_line : ℕ → ℕ → List ℕ
+function_line sandbox at = codes "FUNCTION(" ++ decimal sandbox ++ address_field at ++ closing
+
+-- Before the unit of that offset in the code a function begins: the first one, or the next, if it is
+-- a multiple of `function_most`.
+unfoldable pub function_text : ℕ → ℕ → ℕ → List ℕ
+function_text sandbox offset at =
+    if offset == 0 then function_line sandbox at
+    else if offset % function_most == 0
+    then address_line (codes "END") at ++ function_line sandbox at
+    else codes ""
+
+-- the unit may be entered from outside and by indirect jumps
+unfoldable pub entry_text : Bool → ℕ → List ℕ
+entry_text chosen at = if chosen then address_line (codes "ENTRY") at else codes ""
+
+-- the steps that are left are looked at before the unit at each multiple of that many bytes
+abbrev pub head_bytes : ℕ
+head_bytes = 128
+
+unfoldable pub head_text : ℕ → List ℕ
+head_text at = if at % head_bytes == 0 then address_line (codes "HEAD") at else codes ""
+
+-- The unit of that offset, of these bytes. Which units are entries is free: any choice is right.
+pub record IsUnitText (sandbox offset at : ℕ) (bytes text : List ℕ) : Type 0 where
+  pub chosen : Bool
+  pub reading : List Piece
+  pub longest : IsLongestReading bytes reading
+  pub text_is : text ≡ function_text sandbox offset at ++ entry_text chosen at
+      ++ head_text at ++ reading_text at reading
+
+-- the first n units of the code
+abbrev pub IsTextOfFirst : ℕ → Part → ℕ → List ℕ → Type 0
+IsTextOfFirst sandbox p zero text = text ≡ []
+IsTextOfFirst sandbox p (suc n) text =
+    (front : List ℕ) × (last : List ℕ) × IsTextOfFirst sandbox p n front
+    × IsUnitText sandbox (unit p.format * n) (p.code_base + unit p.format * n) (unit_bytes p n) last
+    × (text ≡ front ++ last)
+
+-- all units of its code
+pub record IsCodeText (sandbox : ℕ) (p : Part) (text : List ℕ) : Type 0 where
+  pub units : ℕ
+  pub whole : length p.code ≡ unit p.format * units
+  pub text_is : IsTextOfFirst sandbox p units text
+
+-- ---- of a sandbox
+
+-- its number, the unit of its code, and its fields
+abbrev pub sandbox_line : ℕ → Part → List ℕ
+sandbox_line sandbox p =
+    codes "SANDBOX(" ++ decimal sandbox ++ number_field (unit p.format)
+    ++ address_field p.code_base ++ number_field (length p.code)
+    ++ address_field p.data_base ++ number_field p.data_size
+    ++ address_field p.start ++ number_field (length p.gates) ++ number_field (length p.init) ++ closing
+
+-- a gate
+abbrev pub gate_line : Gate → List ℕ
+gate_line g =
+    codes "GATE(" ++ hex_digits 8 g.address ++ number_field g.service ++ closing
+
+-- its first data, and a zero
+abbrev pub data_line : ℕ → List ℕ → List ℕ
+data_line sandbox bytes =
+    codes "DATA(" ++ decimal sandbox ++ flat_map number_field bytes ++ number_field 0 ++ closing
+
+-- the end of its last function, and of the sandbox
+abbrev pub last_line : List ℕ
+last_line = codes "LAST" ++ line_end
+
+-- its fields, its gates, its first data, its code
+pub record IsSandboxText (sandbox : ℕ) (p : Part) (text : List ℕ) : Type 0 where
+  pub code : List ℕ
+  pub code_is : IsCodeText sandbox p code
+  pub text_is : text ≡ sandbox_line sandbox p ++ flat_map gate_line p.gates
+      ++ data_line sandbox p.init ++ code ++ last_line
+
+-- ---- of an image
+
+-- the text of parts, the first of which is that of the sandbox of that number
+abbrev pub IsTranslationFrom : ℕ → List Part → List ℕ → Type 0
+IsTranslationFrom sandbox [] text = text ≡ []
+IsTranslationFrom sandbox (p ∷ ps) text =
+    (front : List ℕ) × (rest : List ℕ) × IsSandboxText sandbox p front
+    × IsTranslationFrom (sandbox + 1) ps rest × (text ≡ front ++ rest)
+
+-- the translation of an image with these parts
+abbrev pub IsTranslation : List Part → List ℕ → Type 0
+IsTranslation ps text = IsTranslationFrom 0 ps text

@@ -1,0 +1,145 @@
+//! Which units of code a turn and an indirect jump enter at once. Any choice is right: with too few
+//! the text is slow, with too many the C compiler is.
+
+use rv_comp::{Front, read_front};
+use rv_word::Instr;
+use sfi_image::SandboxPart;
+use sfi_policy::Format;
+use std::alloc::{AllocError, Global};
+
+/// The entries of a sandbox's code.
+#[derive(Drop)]
+pub(crate) struct Entries {
+    base: u32,
+    has_words: bool,
+    /// Whether the unit of that number is one.
+    chosen: Vec<bool>,
+}
+
+impl Entries {
+    /// The start, each target of a call or of a jump backwards, what follows a call, and what the
+    /// code or the first data name.
+    pub(crate) fn of(
+        alloc: Global,
+        format: Format,
+        part: &SandboxPart<'_>,
+    ) -> Result<Self, AllocError> {
+        let mut chosen = Vec::new(alloc);
+        chosen.resize(part.code.len() / 4, false)?;
+        let mut entries = Entries {
+            base: part.code_base,
+            has_words: format.has_words(),
+            chosen,
+        };
+        entries.add(part.start);
+        entries.add_of_code(part);
+        entries.add_of_data(part.init);
+        Ok(entries)
+    }
+
+    /// The number of the unit that begins at the address, if one does.
+    fn place_of(&self, address: u32) -> Option<usize> {
+        let offset = address.wrapping_sub(self.base);
+        let (place, rest) = if self.has_words {
+            (offset / 4, offset % 4)
+        } else {
+            (offset / 16, offset % 16)
+        };
+        if rest == 0 {
+            Some(place as usize)
+        } else {
+            None
+        }
+    }
+
+    /// Whether the unit at that address is an entry.
+    pub(crate) fn has(&self, address: u32) -> bool {
+        match self.place_of(address) {
+            Some(place) => place < self.chosen.len() && self.chosen[place],
+            None => false,
+        }
+    }
+
+    fn add(&mut self, address: u32) {
+        if let Some(place) = self.place_of(address) {
+            if place < self.chosen.len() {
+                self.chosen[place] = true;
+            }
+        }
+    }
+
+    /// Adds the addresses that words of the first data hold.
+    fn add_of_data(&mut self, bytes: &[u8]) {
+        for place in 0..bytes.len() / 4 {
+            let at = 4 * place;
+            self.add(u32::from_le_bytes([bytes[at], bytes[at + 1], bytes[at + 2], bytes[at + 3]]));
+        }
+    }
+
+    /// Adds what the instructions of the code name.
+    fn add_of_code(&mut self, part: &SandboxPart<'_>) {
+        let mut next = 0;
+        let mut before = None;
+        let mut here = part.code_base;
+        for place in 0..part.code.len() / 2 {
+            let at = 2 * place;
+            if at >= next {
+                if let Front::Read(instr, size) = read_front(&part.code[at..]) {
+                    self.add_of_instr(here, here.wrapping_add(size), &instr);
+                    self.add_of_pair(before, &instr);
+                    next = at.saturating_add(size as usize);
+                    before = upper_of(&instr);
+                }
+            }
+            here = here.wrapping_add(2);
+        }
+    }
+
+    /// Adds what an instruction jumps to, if that is a call or backwards, and what follows a call.
+    fn add_of_instr(&mut self, here: u32, after: u32, instr: &Instr) {
+        match *instr {
+            Instr::Jal { rd, offset } => {
+                if rd.number() != 0 || offset <= 0 {
+                    self.add(here.wrapping_add_signed(offset));
+                }
+                if rd.number() != 0 {
+                    self.add(after);
+                }
+            }
+            Instr::Jalr { rd, .. } => {
+                if rd.number() != 0 {
+                    self.add(after);
+                }
+            }
+            Instr::Branch { offset, .. } => {
+                if offset <= 0 {
+                    self.add(here.wrapping_add_signed(offset));
+                }
+            }
+            _ => {}
+        }
+    }
+
+    /// Adds the address that a lui and the addi after it make.
+    fn add_of_pair(&mut self, before: Option<(u8, u32)>, instr: &Instr) {
+        if let Some((register, upper)) = before {
+            if let Instr::OpImm { rs1, imm, .. } = *instr {
+                let read = rs1.number();
+                if read == register {
+                    self.add(upper.wrapping_add_signed(imm));
+                }
+            }
+        }
+    }
+}
+
+/// The register that a lui writes, and the number.
+fn upper_of(instr: &Instr) -> Option<(u8, u32)> {
+    match *instr {
+        Instr::Lui { rd, imm } => {
+            let written = rd.number();
+            Some((written, imm.wrapping_mul(4096)))
+        }
+        _ => None,
+    }
+}

@@ -1,0 +1,13 @@
+//! The translation of an image: a text of lines that `include/sfi_native.h` gives a meaning in C.
+//!
+//! [`translation_text`] writes each sandbox's fields, gates and first data, and a line for each
+//! instruction of its code. `specs/Translation.antt` is that text.
+#![tactic(auto)]
+
+mod entries;
+mod fields;
+mod lines;
+mod names;
+mod translation;
+
+pub use translation::translation_text;

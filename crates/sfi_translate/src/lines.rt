@@ -1,0 +1,160 @@
+//! The line of an instruction.
+ghost use Rattle.std.specs.Prelude.{◌≡◌, ◌++◌, OnOk, codes, string_bytes};
+ghost use Rattle.rv_word.specs.Numbers.{offset_by};
+ghost use Rattle.rv_word.specs.declared.instr.Instr.TheVariants as instr;
+ghost use Rattle.sfi_translate.specs.Lines.{opening, name_field, number_field, signed_field, address_field, closing, far, line_text};
+
+use crate::fields::{
+    push_address, push_closing, push_name, push_number, push_opening, push_register, push_signed,
+};
+use crate::names::{branch_name, immediate_name, load_name, op_name, store_name};
+use rv_word::{Instr, Reg};
+use std::alloc::AllocError;
+
+/// The most bytes of code that one function of the text holds.
+pub(crate) const FUNCTION_MOST: u32 = 16384;
+
+/// Appends two registers.
+fn push_two(out: &mut String, first: Reg, second: Reg) -> Result<(), AllocError>
+    ensures { OnOk result (string_bytes out.new
+        ≡ string_bytes out.old ++ number_field first ++ number_field second) }
+{
+    push_register(out, first)?;
+    push_register(out, second)
+}
+
+/// Appends the line of a form with a name, two registers and a number.
+fn push_immediate(
+    out: &mut String,
+    name: &str,
+    first: Reg,
+    second: Reg,
+    number: i32,
+) -> Result<(), AllocError>
+    ensures { OnOk result (string_bytes out.new ≡ string_bytes out.old ++ name_field name.now
+        ++ number_field first ++ number_field second ++ signed_field number ++ closing) }
+{
+    push_name(out, name)?;
+    push_two(out, first, second)?;
+    push_signed(out, number)?;
+    push_closing(out)
+}
+
+/// What stands after the form of a jump.
+#[tactic(auto, unfolding(crate::specs::Lines::far))]
+fn far(at: u32, to: u32) -> &'static str
+    ensures { result.now ≡ far at to }
+{
+    if at / FUNCTION_MOST == to / FUNCTION_MOST {
+        ""
+    } else {
+        "_FAR"
+    }
+}
+
+/// Appends the opening of a jump's line.
+#[tactic(auto, unfolding(crate::specs::Lines::opening))]
+fn push_jump(out: &mut String, form: &str, at: u32, size: u32, to: u32) -> Result<(), AllocError>
+    ensures { OnOk result (string_bytes out.new
+        ≡ string_bytes out.old ++ opening (form.now ++ far at to) at size) }
+{
+    out.push_str(form)?;
+    push_opening(out, far(at, to), at, size)
+}
+
+/// Appends the line of a lui or an auipc.
+fn push_upper(
+    out: &mut String,
+    form: &str,
+    at: u32,
+    size: u32,
+    rd: Reg,
+    number: u32,
+) -> Result<(), AllocError>
+    ensures { OnOk result (string_bytes out.new ≡ string_bytes out.old
+        ++ opening form.now at size ++ number_field rd ++ number_field number ++ closing) }
+{
+    push_opening(out, form, at, size)?;
+    push_register(out, rd)?;
+    push_number(out, number as usize)?;
+    push_closing(out)
+}
+
+/// Appends the line of an instruction without fields.
+fn push_plain(out: &mut String, form: &str, at: u32, size: u32) -> Result<(), AllocError>
+    ensures { OnOk result
+        (string_bytes out.new ≡ string_bytes out.old ++ opening form.now at size ++ closing) }
+{
+    push_opening(out, form, at, size)?;
+    push_closing(out)
+}
+
+/// Appends the line of an instruction of that size at that address.
+#[tactic(auto, unfolding(crate::specs::Lines::line_text))]
+pub(crate) fn push_line(
+    out: &mut String,
+    at: u32,
+    size: u32,
+    instr: &Instr,
+) -> Result<(), AllocError>
+    ensures { OnOk result
+        (string_bytes out.new ≡ string_bytes out.old ++ line_text at size instr.now) }
+{
+    match *instr {
+        Instr::Op { op, rd, rs1, rs2 } => {
+            push_opening(out, "OP", at, size)?;
+            push_name(out, op_name(op))?;
+            push_register(out, rd)?;
+            push_two(out, rs1, rs2)?;
+            push_closing(out)
+        }
+        Instr::OpImm { op, rd, rs1, imm } => {
+            push_opening(out, "OPI", at, size)?;
+            push_immediate(out, immediate_name(op), rd, rs1, imm)
+        }
+        Instr::Load { kind, rd, rs1, imm } => {
+            push_opening(out, "LOAD", at, size)?;
+            push_immediate(out, load_name(kind), rd, rs1, imm)
+        }
+        Instr::Store {
+            width,
+            rs1,
+            rs2,
+            imm,
+        } => {
+            push_opening(out, "STORE", at, size)?;
+            push_immediate(out, store_name(width), rs1, rs2, imm)
+        }
+        Instr::Branch {
+            cond,
+            rs1,
+            rs2,
+            offset,
+        } => {
+            let to = at.wrapping_add_signed(offset);
+            push_jump(out, "BRANCH", at, size, to)?;
+            push_name(out, branch_name(cond))?;
+            push_two(out, rs1, rs2)?;
+            push_address(out, to)?;
+            push_closing(out)
+        }
+        Instr::Jal { rd, offset } => {
+            let to = at.wrapping_add_signed(offset);
+            push_jump(out, "JAL", at, size, to)?;
+            push_register(out, rd)?;
+            push_address(out, to)?;
+            push_closing(out)
+        }
+        Instr::Jalr { rd, rs1, imm } => {
+            push_opening(out, "JALR", at, size)?;
+            push_two(out, rd, rs1)?;
+            push_signed(out, imm)?;
+            push_closing(out)
+        }
+        Instr::Lui { rd, imm } => push_upper(out, "LUI", at, size, rd, imm),
+        Instr::Auipc { rd, imm } => push_upper(out, "AUIPC", at, size, rd, imm),
+        Instr::Fence { .. } => push_plain(out, "FENCE", at, size),
+        Instr::Ecall => push_plain(out, "ECALL", at, size),
+        Instr::Ebreak => push_plain(out, "EBREAK", at, size),
+    }
+}

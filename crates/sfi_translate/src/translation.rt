@@ -1,0 +1,222 @@
+//! The translation of an image.
+ghost use Rattle.std.specs.Prelude.{◌≡◌, ◌+◌, ◌^◌, ◌<◌, ◌≤◌, ◌++◌, OnOk, IfOk, Bool, length, string_bytes, codes};
+ghost use Rattle.sfi_image.specs.Spelling.{view};
+ghost use Rattle.sfi_image.specs.Parts.{IsRightPart};
+ghost use Rattle.sfi_translate.specs.Lines.{address_line};
+ghost use Rattle.sfi_translate.specs.Translation.{function_line, function_text, entry_text, head_text, sandbox_line, gate_line, data_line, last_line, IsUnitText, IsCodeText, IsSandboxText, IsTranslation};
+ghost use Rattle.sfi_translate.specs.private.{Adds, IsReadingText};
+
+use crate::entries::Entries;
+use crate::fields::{push_address, push_address_line, push_closing, push_number};
+use crate::lines::{FUNCTION_MOST, push_line};
+use rv_comp::{Front, read_front};
+use sfi_image::{Gate, Image, SandboxPart};
+use sfi_policy::Format;
+use sfi_report::push_eight_digits;
+use std::alloc::{AllocError, Global};
+
+/// The steps that are left are looked at before the unit at each multiple of that many bytes.
+const HEAD_BYTES: u32 = 128;
+
+/// Appends the line with which a function begins.
+#[tactic(auto, unfolding(crate::specs::Translation::function_line))]
+fn push_function_line(out: &mut String, sandbox: u32, at: u32) -> Result<(), AllocError>
+    ensures { OnOk result
+        (string_bytes out.new ≡ string_bytes out.old ++ function_line sandbox at) }
+{
+    write!(out, "FUNCTION({sandbox}")?;
+    push_address(out, at)?;
+    push_closing(out)
+}
+
+/// Appends how a function begins before the unit of that offset, if one does.
+#[tactic(auto, unfolding(crate::specs::Translation::function_text))]
+fn push_function(out: &mut String, sandbox: u32, offset: usize, at: u32) -> Result<(), AllocError>
+    ensures { OnOk result
+        (string_bytes out.new ≡ string_bytes out.old ++ function_text sandbox offset at) }
+{
+    if offset == 0 {
+        return push_function_line(out, sandbox, at);
+    }
+    if offset % FUNCTION_MOST as usize == 0 {
+        push_address_line(out, "END", at)?;
+        return push_function_line(out, sandbox, at);
+    }
+    Ok(())
+}
+
+/// Appends the line of an entry, if the unit is one.
+#[tactic(auto, unfolding(crate::specs::Translation::entry_text))]
+fn push_entry(out: &mut String, chosen: bool, at: u32) -> Result<(), AllocError>
+    ensures { OnOk result (string_bytes out.new ≡ string_bytes out.old ++ entry_text chosen at) }
+{
+    if chosen {
+        return push_address_line(out, "ENTRY", at);
+    }
+    Ok(())
+}
+
+/// Appends the line at which the steps that are left are looked at, if one stands at the address.
+#[tactic(auto, unfolding(crate::specs::Translation::head_text))]
+fn push_head(out: &mut String, at: u32) -> Result<(), AllocError>
+    ensures { OnOk result (string_bytes out.new ≡ string_bytes out.old ++ head_text at) }
+{
+    if at % HEAD_BYTES == 0 {
+        return push_address_line(out, "HEAD", at);
+    }
+    Ok(())
+}
+
+/// Appends the lines of the longest reading of the bytes.
+fn push_reading(out: &mut String, address: u32, bytes: &[u8]) -> Result<(), AllocError>
+    requires { address + length bytes.now ≤ 2 ^ 32 }
+    ensures { OnOk result (Adds (string_bytes out.old) (string_bytes out.new)
+        (IsReadingText address bytes.now)) }
+{
+    let mut at = 0;
+    while at < bytes.len() {
+        let rest = &bytes[at..];
+        match read_front(rest) {
+            Front::Read(instr, size) => {
+                push_line(out, address + at as u32, size, &instr)?;
+                at += size as usize;
+            }
+            Front::Short | Front::Bad => return Ok(()),
+        }
+    }
+    Ok(())
+}
+
+/// Appends the lines of the unit of that offset, at the address.
+fn push_unit(
+    out: &mut String,
+    sandbox: u32,
+    offset: usize,
+    at: u32,
+    bytes: &[u8],
+    chosen: bool,
+) -> Result<(), AllocError>
+    requires { at + length bytes.now ≤ 2 ^ 32 }
+    ensures { OnOk result (Adds (string_bytes out.old) (string_bytes out.new)
+        (IsUnitText sandbox offset at bytes.now)) }
+{
+    push_function(out, sandbox, offset, at)?;
+    push_entry(out, chosen, at)?;
+    push_head(out, at)?;
+    push_reading(out, at, bytes)
+}
+
+/// Appends the lines of a sandbox's code, unit by unit.
+fn push_code(
+    out: &mut String,
+    format: Format,
+    sandbox: u32,
+    part: &SandboxPart,
+    entries: &Entries,
+) -> Result<(), AllocError>
+    requires { IsRightPart (view format part.now) }
+    ensures { OnOk result (Adds (string_bytes out.old) (string_bytes out.new)
+        (IsCodeText sandbox (view format part.now))) }
+{
+    let unit = format.unit() as usize;
+    let mut at = 0;
+    while at < part.code.len() {
+        let end = at + unit;
+        let here = part.code_base + at as u32;
+        let chosen = entries.has(here);
+        push_unit(out, sandbox, at, here, &part.code[at..end], chosen)?;
+        at = end;
+    }
+    Ok(())
+}
+
+/// Appends the line of a sandbox's fields.
+fn push_fields(
+    out: &mut String,
+    format: Format,
+    sandbox: u32,
+    part: &SandboxPart,
+) -> Result<(), AllocError>
+    ensures { OnOk result (string_bytes out.new
+        ≡ string_bytes out.old ++ sandbox_line sandbox (view format part.now)) }
+{
+    write!(out, "SANDBOX({sandbox}")?;
+    push_number(out, format.unit() as usize)?;
+    push_address(out, part.code_base)?;
+    push_number(out, part.code.len())?;
+    push_address(out, part.data_base)?;
+    push_number(out, part.data_size as usize)?;
+    push_address(out, part.start)?;
+    push_number(out, part.gates.len())?;
+    push_number(out, part.init.len())?;
+    push_closing(out)
+}
+
+/// Appends the line of a gate.
+fn push_gate(out: &mut String, gate: &Gate) -> Result<(), AllocError>
+    ensures { OnOk result (string_bytes out.new ≡ string_bytes out.old ++ gate_line gate.now) }
+{
+    out.push_str("GATE(")?;
+    push_eight_digits(out, gate.address)?;
+    push_number(out, gate.service as usize)?;
+    push_closing(out)
+}
+
+/// Appends the line of a sandbox's first data.
+fn push_data(out: &mut String, sandbox: u32, bytes: &[u8]) -> Result<(), AllocError>
+    ensures { OnOk result
+        (string_bytes out.new ≡ string_bytes out.old ++ data_line sandbox bytes.now) }
+{
+    write!(out, "DATA({sandbox}")?;
+    for byte in bytes {
+        push_number(out, *byte as usize)?;
+    }
+    push_number(out, 0)?;
+    push_closing(out)
+}
+
+/// Appends the line after a sandbox's code.
+fn push_last(out: &mut String) -> Result<(), AllocError>
+    ensures { OnOk result (string_bytes out.new ≡ string_bytes out.old ++ last_line) }
+{
+    out.push_str("LAST\n")
+}
+
+/// Appends the lines of a sandbox.
+fn push_sandbox(
+    out: &mut String,
+    format: Format,
+    sandbox: u32,
+    part: &SandboxPart,
+    entries: &Entries,
+) -> Result<(), AllocError>
+    requires { IsRightPart (view format part.now) }
+    ensures { OnOk result (Adds (string_bytes out.old) (string_bytes out.new)
+        (IsSandboxText sandbox (view format part.now))) }
+{
+    push_fields(out, format, sandbox, part)?;
+    for gate in &part.gates {
+        push_gate(out, gate)?;
+    }
+    push_data(out, sandbox, part.init)?;
+    push_code(out, format, sandbox, part, entries)?;
+    push_last(out)
+}
+
+/// The translation of an image, as `include/sfi_native.h` reads it: for each sandbox a line of its
+/// fields, a line for each gate, a line of its first data, and a line for each instruction.
+///
+/// Each unit of code is read from its first byte, as the rules read it; in an accepted image nothing
+/// is left of it. Which units are entries is chosen so that indirect jumps and turns are fast. The
+/// one error is that an allocation was refused.
+pub fn translation_text(alloc: Global, image: &Image<'_>) -> Result<String, AllocError>
+    ensures text { IfOk result (λ text. IsTranslation image.now (string_bytes text)) }
+{
+    let mut out = String::new(alloc);
+    let format = image.format();
+    for (sandbox, part) in image.parts().iter().enumerate() {
+        let entries = Entries::of(alloc, format, part)?;
+        push_sandbox(&mut out, format, sandbox as u32, part, &entries)?;
+    }
+    Ok(out)
+}
