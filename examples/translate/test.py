@@ -38,7 +38,7 @@ def compiled(compiler, folder, text):
 
 
 def differing(sfi, compiler, folder, image):
-    """Of each kind of turns, whether the program prints what `sfi run` does."""
+    """Of each kind of turns its options, what `sfi run` prints, and what the C program does."""
     digits = image.hex()
     program = compiled(compiler, folder, lines.translation(sfi, digits))
     for rounds, quantum in TURNS:
