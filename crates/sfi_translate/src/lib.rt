@@ -8,6 +8,8 @@ mod entries;
 mod fields;
 mod lines;
 mod names;
+#[cfg(test)]
+mod tests;
 mod translation;
 
 pub use translation::translation_text;
