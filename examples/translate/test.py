@@ -23,7 +23,7 @@ import measure
 
 INCLUDE = os.path.join(TOP, "crates/sfi_translate/include")
 COMPILERS = (("gcc", "-O2"), ("clang", "-O1"))
-TURNS = (("2", "20000"), ("50", "13"), ("9", "1000"))
+TURNS = (("2", "2000"), ("50", "13"), ("9", "1000"))
 INPUT = "00ff10203040506070809a0b0c0d0e0f11"
 
 
