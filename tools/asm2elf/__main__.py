@@ -2,6 +2,7 @@
 """Rewrites one file of the assembly that a RISC-V compiler makes to GNU assembly for a sandbox.
 
     python3 tools/asm2elf [--format N] [--passes NAMES] [-o OUT.s] IN.s
+    python3 tools/asm2elf [--format N] [--passes NAMES] --into FOLDER IN.s ..
 
 Only instructions change: each gets its masks, its size, and its place in a word or a bundle. Labels, data, debug
 information, symbols and sections go on to `as`, and `ld` places, joins and relocates. Nothing of this is trusted: the
@@ -25,8 +26,9 @@ ENCODING = {"encoding": "utf-8", "errors": "surrogateescape"}
 
 def parsed(words):
     parser = argparse.ArgumentParser(prog="asm2elf", description=__doc__.split("\n", maxsplit=1)[0])
-    parser.add_argument("file", metavar="IN.s", help="assembly of gcc or clang")
+    parser.add_argument("files", nargs="+", metavar="IN.s", help="assembly of gcc or clang")
     parser.add_argument("-o", dest="output", metavar="OUT.s", help="where to write; standard output if absent")
+    parser.add_argument("--into", metavar="FOLDER", help="where to write a file of the same name for each of several")
     parser.add_argument("--format", type=format_of, choices=[1, 2, WORDS], default=2, help="the image's format; 2 if absent")
     parser.add_argument("--passes", default=",".join(PASSES), metavar="NAMES",
                         help="the passes that make the code cheaper; %(default)s if absent")
@@ -34,16 +36,25 @@ def parsed(words):
     options.passes = tuple(name for name in options.passes.split(",") if name)
     if not set(options.passes) <= set(PASSES):
         parser.error(f"the passes are {', '.join(PASSES)}")
+    if len(options.files) > 1 and not options.into:
+        parser.error("several files want --into")
     return options
+
+
+def rewrite(options, path):
+    """Writes what becomes of one file."""
+    with open(path, **ENCODING) as file:
+        text = rewritten(os.path.basename(path), file.read(), options.passes, options.format)
+    output = os.path.join(options.into, os.path.basename(path)) if options.into else options.output
+    with open(output or sys.stdout.fileno(), "w", closefd=output is not None, **ENCODING) as file:
+        file.write(text)
 
 
 def main():
     options = parsed(sys.argv[1:])
     try:
-        with open(options.file, **ENCODING) as file:
-            text = rewritten(os.path.basename(options.file), file.read(), options.passes, options.format)
-        with open(options.output or sys.stdout.fileno(), "w", closefd=options.output is not None, **ENCODING) as file:
-            file.write(text)
+        for path in options.files:
+            rewrite(options, path)
     except Refused as refused:
         print(f"asm2elf: {refused}", file=sys.stderr)
         return 1

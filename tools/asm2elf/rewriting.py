@@ -17,6 +17,7 @@ from trampolines import check_trampolines
 from typed import WORDS
 from unit import Unit
 
+SLACK = 512  # bytes of a branch's reach: `as` lengthens one that seems far while it still places the code
 SECTION = "..section "  # begins the name of a mark that stands before the code of a section
 
 
@@ -41,7 +42,7 @@ def improved(code, passes, image_format, small, names):
         code = with_pointing(code, names)
     if "packing" in passes:
         code = packed(code, image_format, names)
-    return with_near_branches(code, names, (image_format,))
+    return with_near_branches(code, names, (image_format,), SLACK)
 
 
 def by_sections(unit):

@@ -12,7 +12,8 @@ from reading import pcrel_labels
 
 SMALL_NAMES = (".sdata", ".sbss", ".srodata")
 DEBUG_NAMES = (".debug", ".eh_frame", ".gcc_except_table", ".note", ".comment", ".stab", ".riscv.attributes")
-ARRAYS = (".preinit_array", ".init_array", ".fini_array")
+DESTRUCTORS = ".fini_array"
+ARRAYS = (".preinit_array", ".init_array", DESTRUCTORS)
 SWITCHING = (".section", ".pushsection", ".text", ".data", ".bss", ".rodata", ".popsection", ".previous")
 ALIGNING = (".align", ".p2align", ".balign", ".option")  # a word's or a bundle's beginning is all that code needs
 CONTENT = (".string", ".word", ".byte", ".half", ".zero", ".ascii", ".asciz", ".4byte", ".2byte", ".quad", ".dword",
@@ -20,7 +21,9 @@ CONTENT = (".string", ".word", ".byte", ".half", ".zero", ".ascii", ".asciz", ".
 WORD = re.compile(r"[A-Za-z_.$][\w.$]*")
 HERE = re.compile(r"\.\s*([+-]|$)")  # a value that is the place where it stands
 TWO_NAMES = re.compile(r'(\t\.file\s+\d+)\s+"([^"]*)"\s+"([^"]*)"(.*)')
-WANTS_CONSTRUCTORS = "\t.reloc ., R_RISCV_NONE, __sfi_begin_wanted"  # the runtime's part that calls them
+WANTS = "\t.reloc ., R_RISCV_NONE, "
+WANTS_CONSTRUCTORS = WANTS + "__sfi_begin_wanted"  # the runtime's part that calls them
+WANTS_ATEXIT = WANTS + "atexit"  # the C library's, which runs destructors
 
 
 @dataclass
@@ -118,6 +121,8 @@ class Unit:
         self.verbatim.append(line)
         if name.startswith(ARRAYS):
             self.verbatim.append(WANTS_CONSTRUCTORS)
+        if name.startswith(DESTRUCTORS):
+            self.verbatim.append(WANTS_ATEXIT)
 
     def current_line(self):
         return self.current.line if self.current else f"\t.section {self.current_name}"

@@ -53,14 +53,14 @@ def places(code, image_format):
     return [start for start, _ in spans(code, image_format)]
 
 
-def far_branches(code, formats=FORMATS):
-    """The numbers of the branches that don't reach their labels in one of the formats."""
+def far_branches(code, formats=FORMATS, slack=0):
+    """The numbers of the branches that don't reach their labels in one of the formats, with some bytes to spare."""
     found, at = set(), labels_of(code)
     for image_format in formats:
         place = places(code, image_format)
         for number, piece in enumerate(code):
             target = None if piece.is_mark or not is_branch(piece) else at.get(piece.operands[-1])
-            if target is not None and not NEAREST <= place[target] - place[number] <= FARTHEST:
+            if target is not None and not NEAREST + slack <= place[target] - place[number] <= FARTHEST - slack:
                 found.add(number)
     return found
 
@@ -76,10 +76,10 @@ def over_jump(op, names):
     return [inverted(op, over), Op("j", op.operands[-1:], op.place), Mark(over, True)]
 
 
-def with_near_branches(code, names, formats=FORMATS):
+def with_near_branches(code, names, formats=FORMATS, slack=0):
     """The code in which each branch reaches its label. Each jump lengthens the code, so it's
     looked at again."""
-    while far := far_branches(code, formats):
+    while far := far_branches(code, formats, slack):
         code = [piece for number, old in enumerate(code)
                 for piece in (over_jump(old, names) if number in far else [old])]
     return code

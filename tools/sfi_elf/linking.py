@@ -5,10 +5,12 @@ import runtime
 from compilers import Failed, ran, tell
 from elf import Elf
 from image import image
+from libraries import Libraries
 from tools import archived, binutil
 
 CODE, DATA = 0x01000000, 0x00800000  # a sandbox's place is its number plus 1 times the first, its data lie the second above
 WORDS = ["-m", "elf32lriscv", "--no-relax", "--gc-sections", "-z", "noexecstack", "--no-warn-rwx-segments"]
+START = ["-u", "_start"]  # what a C library does before main and after it, where one has it
 
 
 def numbers_of(options):
@@ -31,21 +33,31 @@ def gates_of(options, folder):
     return [output]
 
 
+def linked(words, libraries):
+    """Runs the linker. Where functions of floating point aren't there, it is told what has them."""
+    try:
+        tell(ran(words)[1])
+    except Failed as failed:
+        if libraries.wanted:
+            failed.told += f"sfi-elf: for floating point {libraries.wanted}\n".encode()
+        raise
+
+
 def link(options, objects, folder):
     """Writes the ELF file, once it is sure that an image can be made of it."""
-    made = runtime.folder_of(options.cc, options.format)
-    libraries = [*(f"-L{place}" for place in options.folders), *(f"-l{name}" for name in options.libraries)]
+    made, libraries = runtime.folder_of(options.cc, options.format), Libraries(options, objects)
+    named = [*(f"-L{place}" for place in options.folders), *(f"-l{name}" for name in options.libraries)]
     own = [os.path.join(made, name) for name in ("libruntime.a", "libgates.a")]
     output = options.output or "a.elf"
     fresh = os.path.join(folder, "linked.elf")
     # The script sees the numbers that stand before it.
-    words = [binutil("ld"), *WORDS, *numbers_of(options), "-T", runtime.SCRIPT, *options.linker, "-o", fresh]
-    tell(ran([*words, os.path.join(made, "crt0.o"), *objects, "--start-group", *libraries, *gates_of(options, folder), *own,
-              "--end-group"])[1])
-    linked = Elf(fresh)
-    linked.path = output
-    image([linked])
-    write(output, linked.content)
+    words = [binutil("ld"), *WORDS, *numbers_of(options), *START, "-T", runtime.SCRIPT, *options.linker, "-o", fresh]
+    linked([*words, os.path.join(made, "crt0.o"), *objects, "--start-group", *named, *libraries.archives,
+            *gates_of(options, folder), *own, "--end-group"], libraries)
+    made_of = Elf(fresh)
+    made_of.path = output
+    image([made_of])
+    write(output, made_of.content)
 
 
 def write(output, content):

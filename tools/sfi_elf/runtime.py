@@ -15,7 +15,7 @@ SCRIPT = os.path.join(LIB, "sandbox.ld")
 FUNCTIONS = [os.path.join(CONVERTER, "runtime.asm"), os.path.join(CONVERTER, "runtime", "atomics.asm")]
 OVERRIDDEN = ("memcpy", "memmove", "memset", "memcmp", "strlen")  # a program may have its own
 MADE_OF = ("asm2elf/*.py", "asm2elf/lib/*.[cs]", "asm2sfi/*.py", "asm2sfi/*.asm", "asm2sfi/runtime/*.asm",
-           "sfi_cc/compilers.py", "sfi_elf/gates.py", "sfi_elf/runtime.py", "sfi_elf/tools.py")
+           "sfi_cc/compilers.py", "sfi_elf/gates.py", "sfi_elf/libraries.py", "sfi_elf/runtime.py", "sfi_elf/tools.py")
 
 
 def read(path):
@@ -23,9 +23,10 @@ def read(path):
         return file.read()
 
 
-def ingredients(compiler, image_format):
+def ingredients(image_format):
+    """What the objects of a format depend on beside their assembly: the converter, and `as`."""
     files = sorted(path for pattern in MADE_OF for path in glob.glob(os.path.join(TOOLS, pattern)))
-    return [image_format, compiler, version(compiler), version(binutil("as")), *(read(path) for path in files)]
+    return [image_format, version(binutil("as")), *(read(path) for path in files)]
 
 
 def object_of(folder, name, assembly, image_format):
@@ -55,4 +56,4 @@ def make(folder, compiler, image_format):
 
 
 def folder_of(compiler, image_format):
-    return kept("elf-runtime", ingredients(compiler, image_format), lambda folder: make(folder, compiler, image_format))
+    return kept("elf-runtime", [compiler, version(compiler), *ingredients(image_format)], lambda folder: make(folder, compiler, image_format))

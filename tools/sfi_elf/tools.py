@@ -24,6 +24,12 @@ def rewritten(assembly, image_format, passes=None):
     return ran([sys.executable, "-B", ASM2ELF, f"--format={image_format}", *chosen, assembly])[0]
 
 
+def rewritten_into(folder, assemblies, image_format):
+    """The paths of the GNU assembly of several files, which have names of their own, in a folder."""
+    ran([sys.executable, "-B", ASM2ELF, f"--format={image_format}", f"--into={folder}", *assemblies])
+    return [os.path.join(folder, os.path.basename(path)) for path in assemblies]
+
+
 def archived(output, objects):
     if os.path.exists(output):
         os.remove(output)

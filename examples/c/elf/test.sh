@@ -99,6 +99,31 @@ try_linked() { # format
     report "a frame that has its room, format $1" "sandbox=0 exit=7 out=" "$(line_of "$room/frame.$1.elf")"
 }
 
+# Floating point, by the functions of GCC's library, and a folder of assembly as a library.
+try_libraries() { # format
+    if ls ${GCC_SOURCE:-/usr/src/gcc-*/gcc-*.tar.xz} >"$room/which" 2>&1; then
+        elf_of "floats.$1.elf" "$1" elf/floats.c
+        report "floating point, format $1" "sandbox=0 exit=42 out=" "$(line_of "$room/floats.$1.elf")"
+    else
+        skip 1 "floating point, format $1" "GCC's sources aren't there (Debian's package gcc-12-source)"
+    fi
+    elf_of "library.$1.elf" "$1" --library "$room/library" elf/calls_twice.c
+    report "a folder of assembly, format $1" "sandbox=0 exit=42 out=" "$(line_of "$room/library.$1.elf")"
+}
+
+# A loop around a body of so many accesses, which its branch reaches, just not any more, or where `as` may think so.
+far_loop() { # accesses
+    printf '.globl main\nmain: li t0,3\nli a0,0\nla a1,word\nloop: addi t0,t0,-1\nbeqz t0,end\n'
+    printf 'sw a0,0(a1)\n%.0s' $(seq "$1")
+    printf 'addi a0,a0,1\nbnez t0,loop\nend: ret\n.bss\nword: .zero 4\n'
+}
+
+try_far_branches() { # format, accesses
+    far_loop "$2" >"$room/far.s"
+    elf_of far.elf "$1" "$room/far.s"
+    report "branches over $2 accesses, format $1" "sandbox=0 exit=2 out=" "$(line_of "$room/far.elf")"
+}
+
 # A step of a data register before a load into x0 keeps its masks.
 try_step() {
     elf_of step.elf words elf/step.s
@@ -134,6 +159,9 @@ if ! has riscv64-unknown-elf-gcc || ! has riscv64-unknown-elf-ld; then
 fi
 primes=$(seq 2 99 | factor | awk 'NF == 2 { print $2 }')
 export -f make_one make_today
+mkdir "$room/library"
+riscv64-unknown-elf-gcc -S -O2 -march=rv32imc -mabi=ilp32 $(printf -- '-ffixed-x%s ' 24 25 26 27 29 30 31) \
+    -o "$room/library/twice.asm" elf/twice.c
 for format in $formats; do # what each is linked with is made once
     make_one crc32 "$format"
 done
@@ -149,6 +177,9 @@ for format in $formats; do
     try_archive "$format"
     try_pair "$format"
     try_linked "$format"
+    try_libraries "$format"
+    try_far_branches "$format" 222
+    try_far_branches "$format" 255
 done
 try_step
 try_refusals

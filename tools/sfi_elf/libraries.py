@@ -1,0 +1,76 @@
+"""Libraries as archives: a folder of assembly, as tools/sfi-library makes it, and the functions of floating point. Each is
+converted once for a format, and kept."""
+import glob
+import hashlib
+import os
+from concurrent.futures import ThreadPoolExecutor
+
+import softfloat
+from compilers import ASSEMBLY, HOSTED, Failed
+from kept import kept
+from runtime import ingredients
+from sources import GCC_SOURCE
+from tools import archived, assembled, rewritten_into
+
+ARCHIVE = "library.a"
+
+
+def assembly_of(folder):
+    """The paths of the files of assembly in a folder."""
+    return sorted(path for path in glob.glob(os.path.join(glob.escape(folder), "*")) if path.endswith(ASSEMBLY))
+
+
+def digest_of(path):
+    with open(path, "rb") as file:
+        return os.path.basename(path) + " " + hashlib.sha256(file.read()).hexdigest()
+
+
+def make(folder, paths, image_format):
+    """Fills a folder with the archive."""
+    count = os.cpu_count()
+    with ThreadPoolExecutor(count) as pool:
+        parts = [part for part in (paths[number::count] for number in range(count)) if part]
+        texts = [text for found in pool.map(lambda part: rewritten_into(folder, part, image_format), parts) for text in found]
+        objects = list(pool.map(object_of, sorted(texts)))
+    archived(os.path.join(folder, ARCHIVE), objects)
+    for path in objects:
+        os.remove(path)
+
+
+def object_of(text):
+    """The path of the object that is made of a text, in the text's place."""
+    output = os.path.splitext(text)[0] + ".o"
+    with open(text, "rb") as file:
+        assembled(file.read(), output)
+    os.remove(text)
+    return output
+
+
+def archive_of(folder, image_format):
+    """The path of the archive that is made of a folder's assembly for a format."""
+    if not os.path.isdir(folder):
+        raise Failed(2, f"{folder} is no folder")
+    paths = assembly_of(folder)
+    words = [*ingredients(image_format), *map(digest_of, paths)]
+    return os.path.join(kept("library", words, lambda room: make(room, paths, image_format)), ARCHIVE)
+
+
+def headers(libraries):
+    """The options for the headers of libraries, with which a program is one of a hosted C."""
+    folders = [os.path.join(library, "include") for library in libraries]
+    found = [word for folder in folders if os.path.isdir(folder) for word in ("-isystem", folder)]
+    return [HOSTED, "-fbuiltin", *found] if found else []
+
+
+class Libraries:
+    """The archives that a program of some objects is linked with."""
+
+    def __init__(self, options, objects):
+        self.archives = [archive_of(folder, options.format) for folder in options.library]
+        self.wanted = None  # what to install for floating point
+        if softfloat.speaks_of_floats([path for path in objects if os.path.exists(path)]):
+            folder = softfloat.folder_of(options.cc)
+            if folder is None:
+                self.wanted = GCC_SOURCE.wanted()
+            else:
+                self.archives.append(archive_of(folder, options.format))
