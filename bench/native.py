@@ -12,7 +12,6 @@ loader's lines of all formats must be those of `sfi run`, steps included, and al
 import argparse
 import os
 import subprocess
-import sys
 import tempfile
 
 import compiled
@@ -40,11 +39,7 @@ def plain(assembly, words, program, folder):
 
 def sandboxed(assembly, words, image_format, program, folder):
     """The same of a built image."""
-    tool = [sys.executable, compiled.TOOL, "--format", str(image_format), assembly]
-    text = subprocess.run(tool, stdout=subprocess.PIPE, check=True).stdout
-    source = measure.written(os.path.join(folder, "source"), text)
-    digits, _ = measure.run([program, "build"], source)
-    path = measure.written(os.path.join(folder, "image"), digits.encode())
+    path, _ = compiled.built(assembly, image_format, [], folder)
     run = [program, "run", "--rounds", "100", "--quantum", "1000000", "--input", words]
     wanted, _ = measure.run(run, path)
     found = natively(path, words, program)

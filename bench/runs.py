@@ -79,7 +79,7 @@ def print_compiled(program, interpreter, name, rounds, folder):
     """Prints a program's row, and gives the ratios of the interpreter's instructions and time to those of `sfi run`."""
     digits = compiled.digits_of_case(name)
     assembly = os.path.join(compiled.EXAMPLES, "build", name + ".asm")
-    image, _ = compiled.built(program, assembly, 2, [], folder, SANDBOXES[-1])
+    image, _ = compiled.built(assembly, 2, [], folder, SANDBOXES[-1])
     ways = {"sfi": lambda *turns: [program, "run", "--rounds", turns[0], "--quantum", turns[1], "--input", digits],
             "C": lambda *turns: [interpreter, "once", *turns, digits]}
     one, whole = ("1", "1"), ("1000", str(QUANTUM))

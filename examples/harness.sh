@@ -37,18 +37,11 @@ digits_of() { od -An -v -tx1 "$@" | tr -d ' \n'; } # the bytes of a file, or of 
 
 has() { command -v "$1" >"$room/which" 2>&1; }
 
-# The source text of a program of examples/c: the one that is kept, or what the Makefile there makes of the C.
+# The image of a program of examples/c, in hexadecimal, by tools/sfi-cc and the program $SFI.
 programs=$(cd "$(dirname "${BASH_SOURCE[0]}")/c" && pwd)
-source_of_c() { # a program, a format; nothing where it would take a compiler that isn't there
-    local made=build/$1.s
-    if [ "$2" = words ]; then
-        made=build/words/$1.s
-    elif [ -f "$programs/$1.s" ]; then
-        made=$1.s
-    fi
-    if [ "$made" = "$1.s" ] || { has riscv64-unknown-elf-gcc && has make && make -s -C "$programs" "$made" >&2; }; then
-        echo "$programs/$made"
-    fi
+c_image() { # a program, a format, the image's file; fails where a compiler isn't there
+    has riscv64-unknown-elf-gcc &&
+        "$programs/../../tools/sfi-cc" --program "$SFI" --format "$2" -O2 -fno-tree-loop-distribute-patterns -o "$3" "$programs/$1.c"
 }
 
 formats="1 2 words"

@@ -9,10 +9,10 @@ from testing import FORMATS, GCC, SFI, SFI_CC, Folder, needs, needs_program
 HELLO = '#include "gates.h"\n\nint main(void) {\n    put("Hi", 2);\n    return 105;\n}\n'
 ASSEMBLY = "\t.text\n\t.globl\tmain\nmain:\n\tli\ta0,7\n\tret\n"
 
-# A compiler that writes the assembly beside it, and a program sfi that prints words for each command.
+# A compiler that writes the assembly beside it, and a program sfi whose check prints words.
 COMPILER = '#!/bin/sh\necho "$*" >>{folder}/words\nwhile [ "$1" != -o ]; do shift; done\ncp {folder}/main.asm "$2"\n'
-PROGRAM = '#!/bin/sh\ncat >{folder}/$1.input\ncase $1 in\nbuild) {build} ;;\ncheck) {check} ;;\nesac\n'
-FAULT = "source fault 1 Word line 3"
+PROGRAM = '#!/bin/sh\ncat >{folder}/$1.input\n{check}\n'
+BINUTILS = "riscv64-unknown-elf-"
 VERDICT = "refused findings=1 first=V5 sandbox=0 at=01000000"
 
 
@@ -24,6 +24,7 @@ class Calls(Folder):
         return done.returncode, done.stdout, done.stderr.splitlines()
 
 
+@needs(f"{BINUTILS}ld")
 class Steps(Calls):
     """What becomes of each step's answer."""
 
@@ -33,21 +34,26 @@ class Steps(Calls):
         self.file = self.write("main.c", "")
         self.compiler = self.write("cc", COMPILER.format(folder=self.folder), 0o755)
 
-    def made(self, *words, build="echo 0123", check="echo accepted", compiler=None):
-        text = PROGRAM.format(folder=self.folder, build=build, check=check)
-        program = self.write("program", text, 0o755)
+    def made(self, *words, check="echo accepted", compiler=None):
+        program = self.write("program", PROGRAM.format(folder=self.folder, check=check), 0o755)
         return self.call("--cc", compiler or self.compiler, "--program", program, *words, self.file)
 
+    def listed(self, *words):
+        """The symbols of a program by their names, and the header of its image."""
+        self.assertEqual(self.made(*words, "-o", self.path("listed.elf")), (0, "", []))
+        listing = subprocess.run([f"{BINUTILS}nm", "--defined-only", self.path("listed.elf")], capture_output=True, check=True, text=True).stdout
+        return {line.split()[-1]: int(line.split()[0], 16) for line in listing.splitlines()}
+
     def test_all_pass(self):
-        self.assertEqual(self.made(), (0, "0123\n", []))
-        self.assertEqual(self.read("check.input"), "0123\n")
-        self.assertIn("main:\n.option rvc\nli a0,7\nret\n", self.read("build.input"))
+        status, image, told = self.made()
+        self.assertEqual((status, told), (0, []))
+        self.assertEqual(self.read("check.input"), image)
+        self.assertEqual(bytes.fromhex(image)[:4], b"SFI2")
 
     def test_which_fails(self):
         rows = [
-            ({"build": f"echo {FAULT}; exit 2"}, 2, [FAULT, "sfi-cc: program build failed, in status 2"]),
             ({"check": f"echo {VERDICT}; exit 1"}, 1, [VERDICT, "sfi-cc: program check failed, in status 1"]),
-            ({"build": "exit 4"}, 4, ["sfi-cc: program build failed, in status 4"]),
+            ({"check": "exit 4"}, 4, ["sfi-cc: program check failed, in status 4"]),
             ({"check": "kill -9 $$"}, 1, ["sfi-cc: program check failed, in status -9"]),
             ({"compiler": "/nothing/gcc"}, 2, ["sfi-cc: /nothing/gcc can't be run: No such file or directory"]),
         ]
@@ -65,28 +71,17 @@ class Steps(Calls):
 
     def test_converter_fails(self):
         self.write("main.asm", ASSEMBLY + "\tecall\n")
-        told = ["asm2sfi: main.asm:6: ecall: a sandbox calls its host through gates alone",
-                "sfi-cc: asm2sfi failed, in status 1"]
+        told = ["asm2elf: main.asm:6: ecall: a sandbox calls its host through gates alone",
+                "sfi-cc: asm2elf failed, in status 1"]
         self.assertEqual(self.made(), (1, "", told))
 
-    def test_fault_in_a_line(self):
-        """What `sfi build` says of a line of the text is told with where it comes from."""
-        self.write("main.asm", '\t.file 1 "main.c"\n' + ASSEMBLY.replace("main:\n", "main:\n\t.loc 1 3 1\n"))
-        fault = "rewrite fault 5 StackWrite line"
-        text = self.made("-c")[1].splitlines()
-        rows = [(text.index("li a0,7") + 1, "main, main.c:3 (main.asm:6): li a0, 7"),
-                (text.index("call main") + 1, "the start, before main: call main"), (text.index("main:") + 1, "the label main"),
-                (1, "neither a label nor an instruction"), (1000, "neither a label nor an instruction")]
-        for line, told in rows:
-            self.assertEqual(self.made(build=f"echo {fault} {line}; exit 2"), (2, "", [
-                f"{fault} {line}", f"line {line}: {told}", "sfi-cc: program build failed, in status 2"]))
-
     def test_keep(self):
-        text = self.made("-c")[1]
-        for options, status in [({}, 0), ({"build": "exit 2"}, 2)]:
-            self.assertEqual(self.made("--keep", self.path("kept.s"), **options)[0], status)
-            self.assertEqual(self.read("kept.s"), text)
-            os.remove(self.path("kept.s"))
+        """The linked program beside the image, also where the check fails."""
+        for options, status in [({}, 0), ({"check": "exit 2"}, 2)]:
+            self.assertEqual(self.made("--keep", self.path("kept.elf"), **options)[0], status)
+            with open(self.path("kept.elf"), "rb") as file:
+                self.assertEqual(file.read(4), b"\x7fELF")
+            os.remove(self.path("kept.elf"))
 
     def test_kinds_of_files(self):
         """What the compiler is asked for by a file's name. An assembly is taken as it is."""
@@ -96,21 +91,21 @@ class Steps(Calls):
         for name, wanted, absent in rows:
             self.write("words", "")
             file = self.write(name, "")
-            self.assertEqual(self.call("--cc", self.compiler, "-c", file)[0], 0)
+            self.assertEqual(self.call("--cc", self.compiler, "-c", "-o", self.path("x.o"), file)[0], 0)
             words = self.read("words")
             self.assertRegex(words, wanted)
             self.assertTrue(absent is None or absent not in words, words)
         file = self.write("y.s", ASSEMBLY)
-        self.assertIn("main:\n.option rvc\nli a0,7\n", self.call("--cc", "/nothing/gcc", "-c", file)[1])
-        self.assertEqual(self.call("-c", file, "z.o")[2][-1],
-                         "sfi-cc: error: z.o holds no assembly: give the files that it was made of")
+        self.assertEqual(self.call("--cc", "/nothing/gcc", "-c", "-o", self.path("y.o"), file), (0, "", []))
+        self.assertEqual(self.call("-c", "-o", self.path("y.o"), file, file)[2][-1], "sfi-cc: error: -c with -o takes one source")
 
     def test_hosted(self):
         """gcc warns of -fhosted where a file is of C++."""
         os.makedirs(self.path("library/include"))
         for name, is_asked in (("x.c", True), ("x.cc", False)):
             self.write("words", "")
-            self.assertEqual(self.call("--cc", self.compiler, "--library", self.path("library"), "-c", self.write(name, ""))[0], 0)
+            self.assertEqual(self.call("--cc", self.compiler, "--library", self.path("library"), "-c", "-o",
+                                       self.path("x.o"), self.write(name, ""))[0], 0)
             self.assertEqual("-fhosted" in self.read("words"), is_asked, name)
             self.assertIn("-fbuiltin", self.read("words"))
 
@@ -127,29 +122,48 @@ while [ "$1" != -o ]; do shift; done
 cp {self.folder}/main.asm "$2"
 ''', 0o755)
         self.write("main.asm", ASSEMBLY.replace(".globl\tmain", ".weak main"))
-        status, _, told = self.call("--cc", compiler, "-c", self.write("one.c", ""), self.write("two.c", ""))
+        status, _, told = self.call("--cc", compiler, "-o", self.path("pair.elf"), self.write("one.c", ""), self.write("two.c", ""))
         self.assertEqual((status, told), (0, ["one.c", "two.c"]))
 
     def test_output(self):
         self.assertEqual(self.made("-o", self.path("new.hex")), (0, "", []))
-        self.assertEqual(self.read("new.hex"), "0123\n")
+        self.assertEqual(self.read("new.hex"), self.made()[1])
         place = self.path("nowhere/new.hex")
         self.assertEqual(self.made("-o", place),
                          (2, "", [f"sfi-cc: {place} can't be written: No such file or directory"]))
 
-    def test_source_text(self):
-        rows = [(["--format", "1"], ".format 1"), ([], ".format 2"), (["--stack", "100000"], ".sandbox 131072"),
-                (["--data", "65536"], ".sandbox 65536"), (["--format", "words"], ".format words")]
-        for options, line in rows:
-            status, text, told = self.made("-c", *options, build="exit 9")
-            self.assertEqual((status, told), (0, []))
-            self.assertIn(line, text.splitlines())
+    def test_headers_of_images(self):
+        """The format, and the size of the data region."""
+        rows = [(["--format", "1"], b"SFI1", 16384), ([], b"SFI2", 16384), (["--stack", "100000"], b"SFI2", 131072),
+                (["--data", "65536"], b"SFI2", 65536), (["--format", "words"], b"SFIW", 16384)]
+        for options, magic, size in rows:
+            image = bytes.fromhex(self.made(*options)[1])
+            self.assertEqual((image[:4], int.from_bytes(image[20:24], "little")), (magic, size))
 
     def test_where(self):
-        self.assertEqual(self.made("--where", "01000030", "--where", "0", build="exit 9"), (0, """\
-01000030: main, main.asm:4: li a0, 7
-00000000: no sandbox lies there
-""", []))
+        self.write("main.asm", '\t.file 1 "main.c"\n' + ASSEMBLY.replace("main:\n", "main:\n\t.loc 1 3 1\n"))
+        found = self.listed()
+        for address, told in ((found["main"], "main, main.c:3"), (found["exit_with"], "exit_with"),
+                              (found["_sfi_start"] + 4, "_sfi_start"), (0, "neither the program's code nor its data")):
+            self.assertEqual(self.made("--where", f"{address:x}", check="exit 9"), (0, f"{address:08x}: {told}\n", []))
+        stack = "the stack has likely overflowed its room of"
+        self.assertRegex(self.made("--where", "017ffff8")[1], f"^017ffff8: in the guard zone, 8 bytes below the data: {stack} ")
+
+    def test_objects_and_archives(self):
+        """An object is given in place of its source; a program gets of an archive what it calls."""
+        self.write("main.asm", ASSEMBLY.replace("li\ta0,7\n\tret", "tail\tcallee"))
+        callee = self.write("callee.s", "\t.globl callee\ncallee:\n\tli a0,9\n\tret\n")
+        unused = self.write("unused.s", "\t.globl unused\nunused:\n\tcall nowhere\n\tret\n")
+        objects = [self.path("callee.o"), self.path("unused.o")]
+        for source, output in zip((callee, unused), objects):
+            self.assertEqual(self.call("-c", "-o", output, source), (0, "", []))
+        self.assertIn("callee", self.listed(objects[0]))
+        subprocess.run([f"{BINUTILS}ar", "rcs", self.path("libmine.a"), *objects], check=True)
+        for words in ((self.path("libmine.a"),), (f"-L{self.folder}", "-lmine"), ("-L", self.folder, "-l", "mine")):
+            found = self.listed(*words)
+            self.assertTrue("callee" in found and "unused" not in found)
+        self.assertRegex(" ".join(self.made()[2]), "undefined reference to `callee'.*ld failed, in status 1$")
+        self.assertIn("sixteen", self.listed(objects[0], "-Wl,--defsym=sixteen=16"))
 
     def test_options(self):
         self.made("-O1", "-I", "headers", "-DX=1", "-include", "other.c")
@@ -162,6 +176,12 @@ cp {self.folder}/main.asm "$2"
         self.made("--format", "words")
         self.assertIn("-ffixed-x29 -ffixed-x30", self.read("words").splitlines()[-1])
         for options, told in [(["--format", "3"], "argument --format: invalid choice: '3' (choose from '1', '2', 'words')"),
+                              (["--gate", "a=0", "--gate", "a=1"], "argument --gate: 'a' is given twice"),
+                              (["--gate", "a=6"], "argument --gate: 'a=6' isn't NAME=SERVICE with a service from 0 to 5"),
+                              (["--gate", "main=1"], "argument --gate: 'main' is the program's first function already"),
+                              (["--gate", "put=3"], "argument --gate: 'put' is the gate of service 1 already"),
+                              (["--where", "x"], "argument --where: 'x' is no address of 32 bits in hexadecimal digits"),
+                              (["--data", "300"], "argument --data: '300' is no power of two from 256 to 1048576"),
                               (["--stack"], "argument --stack: expected one argument")]:
             status, output, lines = self.call(self.file, *options)
             self.assertEqual((status, output, lines[-1]), (2, "", f"sfi-cc: error: {told}"))

@@ -1,20 +1,16 @@
 # The programs of std, which use standard headers alone, and two programs that are one image: compiled by each compiler
-# that is there, without the registers that are the sandbox's own in any format, and compared with what native gcc makes of
-# std, in each of $formats.
+# that is there, and compared with what native gcc makes of std, in each of $formats.
 std_programs="base64 json_tokens matrix_product functions ends"
-owns=$(printf -- '-ffixed-x%s ' 24 25 26 27 29 30 31)
-reserved=$(printf -- ',+reserve-x%s' 24 25 26 27 29 30 31)
-machine="-std=c11 -O2 -Wall -Wextra -Werror -march=rv32imc -mabi=ilp32 -fno-builtin -fno-jump-tables
-    -ffunction-sections -fdata-sections -I include -I ."
+warnings="-std=c11 -O2 -Wall -Wextra -Werror"
 
-compile_by_gcc() { # C file, assembly file
-    riscv64-unknown-elf-gcc -S $machine $owns -o "$2" "$1"
+compiler_of() { # gcc or clang
+    [ "$1" = clang ] && echo clang || echo riscv64-unknown-elf-gcc
 }
 
-compile_by_clang() { # C file, assembly file
-    clang -S -emit-llvm --target=riscv32-unknown-elf $machine -o "$2.ll" "$1" &&
-        llc -O2 -march=riscv32 -target-abi=ilp32 --function-sections --data-sections -mattr="+m,+c$reserved" \
-            -o "$2" "$2.ll"
+compile() { # compiler, format; options and files
+    local compiler=$1 format=$2
+    shift 2
+    ../../tools/sfi-cc --program "$sfi" --cc "$(compiler_of "$compiler")" --format "$format" $warnings "$@"
 }
 
 std_inputs_of() {
@@ -42,15 +38,13 @@ assertion_message() {
 }
 
 build_std() { # compiler, program, format
-    local at="$room/$1"
-    python3 ../../tools/asm2sfi --format "$3" "$at/$2.asm" "$at"/library/*.asm >"$at/$2.s" &&
-        "$sfi" build <"$at/$2.s" >"$room/$1-$2.$3"
+    compile "$1" "$3" -fhosted -I include -o "$room/$1-$2.$3" "std/$2.c" "-L$room/$1.$3" -lsmall 2>"$room/messages"
 }
 
 try_std() { # compiler, program, format
     local input
     if ! build_std "$@"; then
-        report "$2 by $1, format $3: build" image "$(cat "$room/$1-$2.$3")"
+        report "$2 by $1, format $3: compiled" image "$(cat "$room/messages")"
         return
     fi
     check_image "$1-$2" "$3"
@@ -59,45 +53,44 @@ try_std() { # compiler, program, format
     done
 }
 
+# The small library's functions as an archive.
+make_library() { # compiler, format
+    local file at="$room/$1.$2"
+    mkdir -p "$at"
+    for file in library/*.c; do
+        compile "$1" "$2" -fhosted -I include -c -o "$at/$(basename "$file" .c).o" "$file" || return 1
+    done
+    riscv64-unknown-elf-ar rcs "$at/libsmall.a" "$at"/*.o
+}
+
 # The functions of the library that a program has are those that it calls, and what these call.
 try_linking() { # compiler
     local names found
-    names=$(sed -n 's/^[ \t]*\.weak[ \t]*\([a-z]*\).*/\1/p' "$room/$1"/library/*.asm)
-    found=$(sed -n 's/^\([a-z]*\):$/\1/p' "$room/$1/base64.s" | grep -xF "$names" | sort | paste -sd' ')
+    compile "$1" 2 -fhosted -I include -o "$room/base64.elf" std/base64.c library/*.c
+    names=$(riscv64-unknown-elf-nm "$room/$1.2/libsmall.a" 2>"$room/messages" | awk '$2 == "W" { print $3 }')
+    found=$(riscv64-unknown-elf-nm "$room/base64.elf" | awk '{ print $3 }' | grep -xF "$names" | sort | paste -sd' ')
     report "base64 by $1: functions of the library" "getchar putchar" "$found"
 }
 
-compile_into() { # folder, compiler, C files
-    local file folder="$1" compiler="$2"
-    mkdir -p "$folder"
-    shift 2
-    for file in "$@"; do
-        "compile_by_$compiler" "$file" "$folder/$(basename "$file" .c).asm" || return 1
-    done
-}
-
-compile_all() { # compiler
-    compile_into "$room/$1/library" "$1" library/*.c &&
-        compile_into "$room/$1/examples" "$1" $(cut -d' ' -f1 expected.txt | uniq | sed 's/$/.c/') &&
-        compile_into "$room/$1" "$1" $(printf 'std/%s.c ' $std_programs) primes_post.c primes_take.c
-}
-
-# One text of two programs has one line `.format`.
+# Two programs in one image.
 try_pair() { # compiler, format
-    local wanted found at="$room/$1" primes
+    local wanted found primes at="$room/$1-pair.$2"
     primes=$(seq 2 99 | factor | awk 'NF == 2 { print $2 }')
     wanted=$(echo "sandbox=0 exit=0 out="
         echo "sandbox=1 exit=$(($(paste -sd+ <<<"$primes"))) out=$(digits_of <<<"$primes")")
-    found=$({
-        python3 ../../tools/asm2sfi --format "$2" "$at/primes_post.asm"
-        python3 ../../tools/asm2sfi --format "$2" "$at/primes_take.asm" | grep -v '^\.format'
-    } | "$sfi" build | tee "$room/$1-pair.$2" | "$sfi" run --rounds 100 --quantum 10000 | sed 's/ steps=[0-9]*//')
+    compile "$1" "$2" -o "$at.post.elf" primes_post.c && compile "$1" "$2" --sandbox 1 -o "$at.take.elf" primes_take.c &&
+        ../../tools/sfi-image -o "$at" "$at.post.elf" "$at.take.elf"
+    found=$("$sfi" run --rounds 100 --quantum 10000 <"$at" | sed 's/ steps=[0-9]*//')
     check_image "$1-pair" "$2"
     report "two programs by $1, format $2" "$wanted" "$found"
 }
 
 try_format() { # compiler, format
     local program
+    if ! make_library "$1" "$2" 2>"$room/messages"; then
+        report "$1 on the library, format $2" "no message" "$(cat "$room/messages")"
+        return
+    fi
     for program in $std_programs; do
         try_std "$1" "$program" "$2"
     done
@@ -105,11 +98,6 @@ try_format() { # compiler, format
 }
 
 try_compiler() { # compiler
-    if ! compile_all "$1" 2>"$room/messages"; then
-        report "$1 on C programs" "no message" "$(cat "$room/messages")"
-        return
-    fi
-    passed=$((passed + 1))
     for format in $formats; do
         try_format "$1" "$format"
     done

@@ -1,20 +1,17 @@
 #!/usr/bin/env bash
-# Builds, checks and runs the C examples in each format, on each input of expected.txt, and compares what they do with
+# Compiles, checks and runs the C examples in each format, on each input of expected.txt, and compares what they do with
 # what the native programs did. Then reads the headers as C++, and compiles the programs of std.sh and compares them
-# with native ones. Without a compiler only the examples are tried whose source text is kept.
+# with native ones.
 #
 #     examples/c/test.sh [SFI]      # SFI is the program; ./sfi at the top if absent
 set -uo pipefail
 unset CDPATH
 here=$(cd "$(dirname "${BASH_SOURCE[0]}")" && pwd)
 sfi=$(realpath "${1:-$here/../../sfi}")
+export SFI=$sfi
 cd "$here" || exit 1
 source ../harness.sh
 source ./std.sh
-
-make_image() { # program, format, source text
-    in_format "$3" "$2" | "$sfi" build >"$room/$1.$2"
-}
 
 check_image() { # program, format
     local verdict
@@ -36,15 +33,17 @@ headers_in_cpp() {
     done
 }
 
+export -f c_image has
+export programs room
+names=$(cut -d' ' -f1 expected.txt | uniq)
 for format in $formats; do
-    for program in $(cut -d' ' -f1 expected.txt | uniq); do
-        text=$(source_of_c "$program" "$format")
-        if [ -z "$text" ]; then
-            skip "$(grep -c "^$program " expected.txt)" "$program, format $format" "riscv64-unknown-elf-gcc or make isn't there"
-            continue
-        fi
-        if ! make_image "$program" "$format" "$text"; then
-            report "$program, format $format: build" image "$(cat "$room/$program.$format")"
+    for program in $names; do echo "c_image $program $format $room/$program.$format"; done
+done | xargs -P 2 -I WORDS bash -c WORDS 2>"$room/messages"
+for format in $formats; do
+    for program in $names; do
+        if [ ! -s "$room/$program.$format" ]; then
+            has riscv64-unknown-elf-gcc && report "$program, format $format: compiled" image "$(cat "$room/messages")" ||
+                skip "$(grep -c "^$program " expected.txt)" "$program, format $format" "riscv64-unknown-elf-gcc isn't there"
             continue
         fi
         check_image "$program" "$format"

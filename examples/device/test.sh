@@ -66,7 +66,7 @@ compare_programs() { # format
     while read -r program input _; do
         [ "$program" = "$last" ] && [ -z "$all" ] && continue
         last=$program
-        build "$(source_of_c "$program" "$1")" "$1" >"$room/image.hex"
+        c_image "$program" "$1" "$room/image.hex" || report "$program, format $1" image none
         compare "$program on $input, format $1" "$room/image.hex" \
             "$(../c/inputs.py "$input" | digits_of)" steps
     done < <(tac ../c/expected.txt)
@@ -388,16 +388,15 @@ try_docs() {
     in_docs "a trap, a refusal, two sandboxes" DEVICE.md 2 < <(block DEVICE.md sh 2)
 }
 
-source_of() { # a program of cases, an option of the tool
-    ../../tools/sfi-cc -c "$2" "cases/$1.c"
+linked() { # a program of cases, its sandbox, an option of the tool
+    ../../tools/sfi-cc --sandbox "$2" "$3" -o "$room/$1.elf" "cases/$1.c"
 }
 
 mkdir "$room/top"
 ln -s "$(realpath ../../tools)" "$(realpath ..)" "$room/top"
 ln -s "$SFI" "$room/top/sfi"
-source_of sender --gate=post=4 >"$room/pair.s"
-source_of adder --gate=take=5 | sed '/^\.format/d' >>"$room/pair.s"
-"$SFI" build <"$room/pair.s" >"$room/image.hex"
+linked sender 0 --gate=post=4 && linked adder 1 --gate=take=5 &&
+    ../../tools/sfi-image -o "$room/image.hex" "$room/sender.elf" "$room/adder.elf"
 report "words between two C programs" \
     $'sandbox=0 exit=0 out=\nsandbox=1 exit='"$((39 * 40 * 79 / 6)) out=" \
     "$(run <"$room/image.hex")"

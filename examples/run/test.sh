@@ -114,9 +114,8 @@ examples_beside_run() {
         done
         input=$(head -c 3000 "$here/../c/inputs/prose" | digits_of)
         for name in base64 crc32 hash json sort stack; do
-            source=$(source_of_c "$name" "$format")
-            [ -n "$source" ] || { skip 1 "$name.c, format $format" "riscv64-unknown-elf-gcc or make isn't there" && continue; }
-            image "$source" "$format" "$name" || report "$name is built in format $format" image none
+            c_image "$name" "$format" "$room/$name.hex" || { skip 1 "$name.c, format $format" "riscv64-unknown-elf-gcc isn't there" && continue; }
+            xxd -r -p "$room/$name.hex" >"$room/$name.image"
             beside_run "$name.c, format $format" "$name" "$input" 1:100000 300:7 50:9999 100:1000000
         done
     done

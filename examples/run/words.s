@@ -1,4 +1,4 @@
-# Made by tools/asm2sfi from words_plugin.asm. Change the program, and not this text.
+# The plug-in of words_plugin.c, as a source text.
 .format 2
 .sandbox 16384
 .gate exit_with 0

@@ -1,4 +1,4 @@
-/* A plug-in in C that is called as a function: words.s is what `tools/sfi-cc -c --gate price=2 words_plugin.c` makes of it.
+/* A plug-in in C that is called as a function: words.s is a source text of it.
  * Its main exits with the address of a table: which functions the host may enter, and where it may put a text. */
 #include "gates.h"
 

@@ -55,7 +55,7 @@ def by_sections(unit):
     for key, section in unit.sections.items():
         pieces, soft = without_soft_labels(section, hard, taken)
         orders[key] = Order(pieces, soft)
-        code += [Mark(SECTION + key, False, True), *pieces]
+        code += [Mark(SECTION + key, False, True, True), *pieces]
     return code, orders
 
 

@@ -104,10 +104,17 @@ class Loops:
     def pieces(self):
         out, number = [], 0
         while number < len(self.code):
+            if getattr(self.code[number], "begins_section", False):
+                out += self.taken_exits()
             loop = self.by_first.get(number)
             out += self.written(loop) if loop else [self.entering(self.code[number])]
             number = loop.last + 1 if loop else number + 1
-        return out + self.exits
+        return out + self.taken_exits()
+
+    def taken_exits(self):
+        """The places that jumps out of loops go by, at a section's end."""
+        found, self.exits = self.exits, []
+        return found
 
     def chosen(self, head, inside):
         """The loop with its pointed body, or None where it can't have one or doesn't gain."""

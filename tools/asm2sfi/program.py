@@ -14,10 +14,12 @@ MOST_TAKEN = 2048  # of the stack by one instruction
 @dataclass(frozen=True)
 class Mark:
     """A label in the code. Compilers begin the names of those inside a function with a point. Where it is `taken`, the
-    data hold its address. It has no instruction's word, and does nothing to registers."""
+    data hold its address. Where it begins a section, what stands before it doesn't go on there. It has no instruction's
+    word, and does nothing to registers."""
     name: str
     inside: bool = False
     taken: bool = False
+    begins_section: bool = False
     is_mark = True
     word = ""
     operands = ()

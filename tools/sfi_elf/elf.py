@@ -4,10 +4,19 @@ from dataclasses import dataclass
 
 LOADED, EXECUTABLE = 1, 1  # a segment's kind, and its flag
 SYMBOLS = 2  # a section's kind
+NOTHING, OBJECT, FUNCTION = 0, 1, 2  # kinds of a symbol
 
 
 class Wrong(Exception):
     """What is wrong with a file, in one line."""
+
+
+@dataclass(frozen=True)
+class Symbol:
+    name: str
+    value: int
+    size: int
+    kind: int  # OBJECT, FUNCTION or another
 
 
 @dataclass(frozen=True)
@@ -19,10 +28,13 @@ class Segment:
 
 
 class Elf:
-    def __init__(self, path):
+    """A linked file, and how it is told: by its path if no other name is given."""
+
+    def __init__(self, path, name=None):
         with open(path, "rb") as file:
             self.content = file.read()
-        self.path = path
+        self.path, self.name = path, name or path
+        path = self.name
         if self.content[:6] != b"\x7fELF\x01\x01" or self.content[16:20] != b"\x02\x00\xf3\x00":
             raise Wrong(f"{path} is no linked ELF file of 32-bit RISC-V")
         try:
@@ -30,7 +42,8 @@ class Elf:
             size, count, header, headers, self.names = struct.unpack_from("<5H", self.content, 42)
             self.segments = [self.segment(segments + number * size) for number in range(count)]
             self.headers = [struct.unpack_from("<10I", self.content, sections + number * header) for number in range(headers)]
-            self.symbols = dict(self.read_symbols())
+            self.table = list(self.read_symbols())
+            self.symbols = {symbol.name: symbol.value for symbol in self.table}
         except (struct.error, IndexError, ValueError) as error:
             raise Wrong(f"{path} is cut off, or no ELF file") from error
 
@@ -58,14 +71,29 @@ class Elf:
     def read_symbols(self):
         for header in self.headers:
             if header[1] == SYMBOLS:
-                for name, value, _, _, _, section in struct.iter_unpack("<3I2BH", self.bytes_of(header)):
+                for name, value, size, kind, _, section in struct.iter_unpack("<3I2BH", self.bytes_of(header)):
                     if section:
-                        yield self.text(header[6], name), value
+                        yield Symbol(self.text(header[6], name), value, size, kind & 15)
 
     def symbol(self, name):
         if name not in self.symbols:
-            raise Wrong(f"{self.path} has no symbol {name}: link it by tools/sfi-elf, and leave its symbols there")
+            raise Wrong(f"{self.name} has no symbol {name}: link it by tools/sfi-cc, and leave its symbols there")
         return self.symbols[name]
 
     def function_at(self, address):
         return next((name for name, value in self.symbols.items() if value == address), f"{address:#x}")
+
+    def named(self):
+        """The symbols of functions and objects, with labels of assembly."""
+        return [symbol for symbol in self.table
+                if symbol.kind in (NOTHING, OBJECT, FUNCTION) and symbol.name and not symbol.name.startswith((".", "$", "__sfi_"))]
+
+    def named_at(self, address, base):
+        """The name of the function or object that an address belongs to, of those from a base on, or nothing."""
+        found = [symbol for symbol in self.named() if base <= symbol.value <= address]
+        last = max(found, key=lambda symbol: symbol.value, default=None)
+        return last.name if last else ""
+
+    def gates(self):
+        """The address and the service of each gate's stub."""
+        return dict(sorted(struct.iter_unpack("<2I", self.section(".sfi.gates"))))

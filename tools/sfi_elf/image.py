@@ -1,4 +1,5 @@
 """From linked ELF files to an image. docs/IMAGE.md has the format. Nothing here is trusted: `sfi check` reads the image."""
+import argparse
 import struct
 from dataclasses import dataclass
 
@@ -15,6 +16,14 @@ TOP = 16  # the first stack pointer lies so far below the data's end
 BREAK = b"\x02\x90"  # c.ebreak fills the code up
 
 
+def region(text):
+    """The size of a data region that an option gives."""
+    size = int(text) if text.isdigit() else 0
+    if not SMALLEST <= size <= LARGEST_DATA or size & (size - 1):
+        raise argparse.ArgumentTypeError(f"{text!r} is no power of two from {SMALLEST} to {LARGEST_DATA}")
+    return size
+
+
 @dataclass(frozen=True)
 class Frame:
     function: str
@@ -29,7 +38,7 @@ def power(count):
 def format_of(elf):
     found = [name for name in FORMATS if f"__sfi_format_{name}" in elf.symbols]
     if len(found) != 1:
-        raise Wrong(f"{elf.path} isn't code for a sandbox in one format: link it by tools/sfi-elf")
+        raise Wrong(f"{elf.name} isn't code for a sandbox in one format: link it by tools/sfi-cc")
     return found[0]
 
 
@@ -46,7 +55,7 @@ def code_of(elf, image_format):
     text = b"".join(segment.content for segment in elf.loaded() if segment.is_code)
     most = LARGEST_CODE[image_format]
     if len(text) > most:
-        raise Wrong(f"{elf.path}: the code has {len(text)} bytes, {len(text) - most} more than format {image_format} has room for")
+        raise Wrong(f"{elf.name}: the code has {len(text)} bytes, {len(text) - most} more than format {image_format} has room for")
     return text + BREAK * ((power(len(text)) - len(text)) // 2)
 
 
@@ -54,7 +63,7 @@ def used_by(elf):
     """The bytes of the data region up to the objects' end."""
     used = elf.symbol("__sfi_end") - elf.symbol("__sfi_data")
     if not 0 <= used <= LARGEST_DATA:
-        raise Wrong(f"{elf.path}: the data's end is {used} bytes above their beginning: link it by tools/sfi-elf")
+        raise Wrong(f"{elf.name}: the data's end is {used} bytes above their beginning: link it by tools/sfi-cc")
     return used
 
 
@@ -67,7 +76,7 @@ def data_of(elf):
             continue
         start = segment.address - base
         if not 0 <= start <= start + len(segment.content) <= len(content):
-            raise Wrong(f"{elf.path}: bytes at {segment.address:#x} lie outside the data: link it by tools/sfi-elf")
+            raise Wrong(f"{elf.name}: bytes at {segment.address:#x} lie outside the data: link it by tools/sfi-cc")
         content[start:start + len(segment.content)] = segment.content
     return bytes(content).rstrip(b"\0")
 
@@ -78,10 +87,10 @@ def data_size(elf, stack, wanted):
     stack = elf.symbols.get("__sfi_stack", DEFAULT_STACK) if stack is None else stack
     size = wanted or power(used + above + stack)
     if used + above + stack > size or size > LARGEST_DATA:
-        raise Wrong(f"{elf.path}: {used} bytes of data and {stack} of stack don't fit in {min(size, LARGEST_DATA)}")
+        raise Wrong(f"{elf.name}: {used} bytes of data and {stack} of stack don't fit in {min(size, LARGEST_DATA)}")
     frame, room = deepest_frame(elf), size - used - above
     if frame.size > room:
-        raise Wrong(f"{elf.path}: the frame of {frame.function} has {frame.size} bytes, and the stack has room for {room}: "
+        raise Wrong(f"{elf.name}: the frame of {frame.function} has {frame.size} bytes, and the stack has room for {room}: "
                     f"give --stack {frame.size + TOP} or more")
     return size
 
@@ -109,7 +118,7 @@ class Sandbox:
     def check_place(self):
         for what, base, size in (("code", self.code_base, len(self.code)), ("data", self.data_base, self.data_size)):
             if base % size:
-                raise Wrong(f"{self.path}: the {what} has {size} bytes, and lies at {base:#x}, which is no multiple of that")
+                raise Wrong(f"{self.name}: the {what} has {size} bytes, and lies at {base:#x}, which is no multiple of that")
 
     def written(self):
         head = struct.pack("<7I", *self.numbers())
@@ -117,8 +126,8 @@ class Sandbox:
 
 
 def sandbox_of(elf, stack, wanted):
-    gates = tuple(sorted(struct.iter_unpack("<2I", elf.section(".sfi.gates"))))
-    made = Sandbox(elf.path, elf.symbol("__sfi_code"), code_of(elf, format_of(elf)), elf.symbol("__sfi_data"),
+    gates = tuple(elf.gates().items())
+    made = Sandbox(elf.name, elf.symbol("__sfi_code"), code_of(elf, format_of(elf)), elf.symbol("__sfi_data"),
                    data_size(elf, stack, wanted), data_of(elf), elf.entry, gates)
     made.check_place()
     return made
@@ -135,10 +144,15 @@ def image(elfs, stack=None, wanted=None):
     """The image of some ELF files, each a sandbox, in their order."""
     if len(elfs) > MOST_SANDBOXES:
         raise Wrong(f"{len(elfs)} sandboxes, and an image has {MOST_SANDBOXES} at most")
-    formats = {format_of(elf): elf.path for elf in elfs}
+    formats = {format_of(elf): elf.name for elf in elfs}
     if len(formats) > 1:
         raise Wrong(f"{' and '.join(formats.values())} are of different formats")
     sandboxes = [sandbox_of(elf, stack, wanted) for elf in elfs]
     check_apart(sandboxes)
     magic = FORMATS[format_of(elfs[0])]
     return magic + struct.pack("<I", len(elfs)) + b"".join(made.written() for made in sandboxes)
+
+
+def as_text(made):
+    """An image as the program sfi reads it."""
+    return made.hex().encode() + b"\n"

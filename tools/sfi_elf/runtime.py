@@ -3,7 +3,7 @@ are made once for a format, and kept."""
 import glob
 import os
 
-from compilers import TOOLS, compiled, ran, version
+from compilers import TOOLS, ran, version
 from gates import stub
 from kept import kept
 from services import GATES
@@ -12,9 +12,10 @@ from tools import archived, assembled, binutil, rewritten
 LIB = os.path.join(TOOLS, "asm2elf", "lib")
 CONVERTER = os.path.join(TOOLS, "asm2sfi")
 SCRIPT = os.path.join(LIB, "sandbox.ld")
-FUNCTIONS = [os.path.join(CONVERTER, "runtime.asm"), os.path.join(CONVERTER, "runtime", "atomics.asm")]
+FUNCTIONS = [os.path.join(LIB, "constructors.asm"), os.path.join(CONVERTER, "runtime.asm"),
+             os.path.join(CONVERTER, "runtime", "atomics.asm")]
 OVERRIDDEN = ("memcpy", "memmove", "memset", "memcmp", "strlen")  # a program may have its own
-MADE_OF = ("asm2elf/*.py", "asm2elf/lib/*.[cs]", "asm2sfi/*.py", "asm2sfi/*.asm", "asm2sfi/runtime/*.asm",
+MADE_OF = ("asm2elf/*.py", "asm2elf/lib/*.asm", "asm2elf/lib/*.s", "asm2sfi/*.py", "asm2sfi/*.asm", "asm2sfi/runtime/*.asm",
            "sfi_cc/compilers.py", "sfi_elf/gates.py", "sfi_elf/libraries.py", "sfi_elf/runtime.py", "sfi_elf/tools.py")
 
 
@@ -42,18 +43,17 @@ def gate_object(folder, name, service, image_format):
     return output
 
 
-def make(folder, compiler, image_format):
+def make(folder, image_format):
     """Fills a folder with crt0.o, libgates.a and libruntime.a."""
     object_of(folder, "crt0", os.path.join(LIB, "crt0.s"), image_format)
     archived(os.path.join(folder, "libgates.a"),
              [gate_object(folder, name, service, image_format) for name, service in GATES.items()])
-    assembly, _ = compiled(compiler, [], os.path.join(LIB, "constructors.c"), os.path.join(folder, "constructors"))
-    objects = [object_of(folder, "constructors", assembly, image_format)]
+    objects = []
     for path in FUNCTIONS:
         objects.append(object_of(folder, os.path.splitext(os.path.basename(path))[0], path, image_format))
         ran([binutil("objcopy"), *(f"--weaken-symbol={name}" for name in OVERRIDDEN), objects[-1]])
     archived(os.path.join(folder, "libruntime.a"), objects)
 
 
-def folder_of(compiler, image_format):
-    return kept("elf-runtime", [compiler, version(compiler), *ingredients(image_format)], lambda folder: make(folder, compiler, image_format))
+def folder_of(image_format):
+    return kept("runtime", ingredients(image_format), lambda folder: make(folder, image_format))

@@ -34,3 +34,9 @@ def archived(output, objects):
     if os.path.exists(output):
         os.remove(output)
     ran([binutil("ar"), "rcs", output, *objects])
+
+
+def addresses_told(path, addresses):
+    """What addr2line says of the line of each address in a linked program."""
+    words = [binutil("addr2line"), "-e", path]
+    return ran(words, "".join(f"{address:#x}\n" for address in addresses).encode())[0].decode("utf-8", "replace").splitlines()

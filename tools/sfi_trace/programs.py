@@ -1,20 +1,26 @@
-"""An image with the names and the lines of what it was made of: `sfi dis`, `sfi map` and `sfi-cc --where` tell them."""
+"""An image with the names and the lines of what it was made of: `sfi dis`, `sfi map` and sfi-cc's ELF file tell them."""
 import os
 import re
 import subprocess
+import sys
 import tempfile
 from bisect import bisect_right
 from dataclasses import dataclass
 
 TOOLS = os.path.dirname(os.path.dirname(os.path.realpath(__file__)))
 SFI_CC = os.path.join(TOOLS, "sfi-cc")
-AT_ONCE = 10000  # addresses that sfi-cc is asked for by one command
+sys.path += [os.path.join(TOOLS, "sfi_elf"), os.path.join(TOOLS, "sfi_cc")]
+
+import compilers
+from elf import Elf, Wrong
+from where import lines_of
+
 LISTED = re.compile(r"^([0-9a-f]{8}) ([0-9a-f]{4,8}) (.*)$", re.MULTILINE)
 REGION = re.compile(r"^sandbox (\d+) code ([0-9a-f]{8}) (\d+) data ", re.MULTILINE)
 MAPPED = re.compile(r"^sandbox=(\d+) (gate|code|data) (\S+) at=([0-9a-f]{8})$", re.MULTILINE)
 CALL = re.compile(r"^jal x([1-9]\d*), (-?\d+)$")
+START = "_sfi_start"  # where a program of sfi-cc begins
 SOURCES = (".c", ".i", ".cc", ".cpp", ".cxx", ".C", ".ii", ".s", ".asm", ".S")  # what sfi-cc takes
-TOLD = re.compile(r"^([0-9a-f]{8}): (?:the stub of the gate (\S+)|(the start, before main)|(\S+), (\S+)).*$", re.MULTILINE)
 
 
 class Failed(Exception):
@@ -81,39 +87,33 @@ class Compiled(Program):
     """A program of C or assembly, which sfi-cc compiles with `-g`."""
 
     def __init__(self, sfi, words):
-        self.command = [SFI_CC, "--program", sfi, "-g", *words]
         with tempfile.TemporaryDirectory() as room:
-            text = os.path.join(room, "text.s")
-            image = run(*self.command, "--keep", text)
-            with open(text, encoding="utf-8") as file:
-                super().__init__(sfi, image, run(sfi, "map", given=file.read()))
-        self._told = None
-
-    def places(self):
-        """What each instruction belongs to, which is asked for once. Where bundles are filled, it is what is before."""
-        if self._told is None:
-            asked, said = sorted(self.listing), ""
-            for begun in range(0, len(asked), AT_ONCE):
-                words = [word for at in asked[begun:begun + AT_ONCE] for word in ("--where", f"{at:08x}")]
-                said += run(*self.command, *words)
-            self._told, last = {}, Place("start")
-            found = {int(at, 16): Place(gate or function or "start", line) for at, gate, _, function, line in TOLD.findall(said)}
-            for at in asked:
-                last = self._told[at] = found.get(at, last)
-        return self._told
+            path = os.path.join(room, "program.elf")
+            text = run(SFI_CC, "--program", sfi, "-g", *words, "--keep", path)
+            try:
+                self.elf = Elf(path)
+                super().__init__(sfi, text)
+                asked = sorted(self.listing)
+                self.lines = dict(zip(asked, lines_of(self.elf, asked)))
+            except (Wrong, compilers.Failed) as wrong:
+                raise Failed(str(wrong)) from wrong
+        gates = self.elf.gates()
+        named = [(symbol.value, symbol.name) for symbol in self.elf.named()]
+        self.labels = [(at, name, "gate" if at in gates else "code" if at in self.listing else "data") for at, name in named]
+        self.functions = sorted((at, "start" if name == START else name) for at, name, kind in self.labels if kind != "data")
 
     def place(self, address):
-        return self.places().get(address) or super().place(address)
+        return Place(super().place(address).function, self.lines.get(address, ""))
 
     def addresses(self, word):
         """Also those where a line's instructions begin, by FILE:LINE."""
         if ":" not in word:
             return super().addresses(word)
         found, before = set(), ""
-        for at, place in self.places().items():
-            if place.line == word != before:
+        for at, line in self.lines.items():
+            if line == word != before:
                 found.add(at)
-            before = place.line
+            before = line
         if not found:
             raise Failed(f"no instruction is of {word}")
         return found

@@ -1,6 +1,5 @@
 #!/usr/bin/env bash
-# Builds the C examples by way of ELF files in each format, and compares what they do with what the native programs did, and
-# their steps with those of tools/sfi-cc. Then links archives, two sandboxes and constructors, and tries what is refused.
+# Links archives, libraries, two sandboxes and constructors in each format, and tries what is refused.
 #
 #     examples/c/elf/test.sh [SFI]      # SFI is the program; ./sfi at the top if absent
 set -uo pipefail
@@ -11,42 +10,6 @@ tools=$(realpath "$here/../../../tools")
 cd "$here/.." || exit 1
 source ../harness.sh
 export sfi tools room
-names=$(cut -d' ' -f1 expected.txt | uniq)
-compared="crc32 sort stack json" # those whose steps are compared
-
-run_image() { # image, input in hexadecimal digits
-    "$sfi" run --rounds 10000 --quantum 1000000 --input "$2" <"$1"
-}
-
-make_one() { # program, format
-    "$tools/sfi-elf" --format "$2" -O2 -g -fno-tree-loop-distribute-patterns -o "$room/$1.$2.elf" "$1.c" &&
-        "$tools/sfi-image" -o "$room/$1.$2.hex" "$room/$1.$2.elf"
-}
-
-make_today() { # program, format
-    "$tools/sfi-cc" --format "$2" --program "$sfi" -O2 -g -fno-tree-loop-distribute-patterns -o "$room/$1.$2.today" "$1.c"
-}
-
-try_program() { # program, format
-    local name input wanted found
-    report "$1, format $2: check" accepted "$("$sfi" check <"$room/$1.$2.hex" | cut -d' ' -f1)"
-    while read -r name input wanted; do
-        [ "$name" = "$1" ] || continue
-        found=$(run_image "$room/$1.$2.hex" "$(./inputs.py "$input" | digits_of)")
-        report "$1, format $2, $input" "$wanted" "$(sed 's/^sandbox=0 //; s/ steps=[0-9]*//' <<<"$found")"
-        sed 's/.*steps=\([0-9]*\).*/\1/' <<<"$found" >"$room/steps.$1.$2.$input"
-    done <expected.txt
-}
-
-# By ELF a program takes at most a fiftieth more steps.
-compare_steps() { # program, format
-    local input now today
-    input=$(grep "^$1 " expected.txt | cut -d' ' -f2 | tail -n 1)
-    today=$(run_image "$room/$1.$2.today" "$(./inputs.py "$input" | digits_of)" | sed 's/.*steps=\([0-9]*\).*/\1/')
-    now=$(cat "$room/steps.$1.$2.$input")
-    echo "$1, format $2, $input: $now steps, $today by sfi-cc, ratio $(awk -v n="$now" -v t="$today" 'BEGIN { printf "%.3f", n / t }')"
-    report "$1, format $2: steps at most a fiftieth more" yes "$([ $((now * 50)) -le $((today * 51)) ] && echo yes || echo "$now, $today")"
-}
 
 # What a command says that has to fail in status 1: its first line.
 refusal() {
@@ -60,7 +23,7 @@ refusal() {
 elf_of() { # output, format, options and files
     local output="$room/$1" format=$2
     shift 2
-    "$tools/sfi-elf" --format "$format" -o "$output" "$@"
+    "$tools/sfi-cc" --program "$sfi" --format "$format" -o "$output" "$@"
 }
 
 line_of() { # ELF files; what the sandboxes do
@@ -93,7 +56,7 @@ try_linked() { # format
     report "a call of null traps, format $1" "trap=Break at=01000000" \
         "$(line_of "$room/null.$1.elf" | grep -o 'trap=[A-Za-z]* at=[0-9a-f]*')"
     report "a frame larger than the stack, format $1" \
-        "sfi-elf: $room/frame.elf: the frame of deep has 20016 bytes, and the stack has room for XX: give --stack 20032 or more" \
+        "sfi-cc: frame.elf: the frame of deep has 20016 bytes, and the stack has room for XX: give --stack 20032 or more" \
         "$(refusal elf_of frame.elf "$1" elf/frame.c | sed 's/room for [0-9]*:/room for XX:/')"
     elf_of "frame.$1.elf" "$1" --stack 20032 elf/frame.c
     report "a frame that has its room, format $1" "sandbox=0 exit=7 out=" "$(line_of "$room/frame.$1.elf")"
@@ -149,7 +112,7 @@ try_refusals() {
     report "an ELF file that is cut off" "sfi-image: $room/short.elf is cut off, or no ELF file" \
         "$(refusal "$tools/sfi-image" "$room/short.elf")"
     riscv64-unknown-elf-strip -o "$room/bare.elf" "$room/post.2.elf"
-    report "an ELF file without symbols" 1 "$(refusal "$tools/sfi-image" "$room/bare.elf" | grep -c 'link it by tools/sfi-elf')"
+    report "an ELF file without symbols" 1 "$(refusal "$tools/sfi-image" "$room/bare.elf" | grep -c 'link it by tools/sfi-cc')"
     report "a data region that is too small" 1 "$(refusal "$tools/sfi-image" --data 4096 "$room/post.2.elf" | grep -c "don't fit in 4096")"
 }
 
@@ -158,22 +121,10 @@ if ! has riscv64-unknown-elf-gcc || ! has riscv64-unknown-elf-ld; then
     finish
 fi
 primes=$(seq 2 99 | factor | awk 'NF == 2 { print $2 }')
-export -f make_one make_today
 mkdir "$room/library"
 riscv64-unknown-elf-gcc -S -O2 -march=rv32imc -mabi=ilp32 $(printf -- '-ffixed-x%s ' 24 25 26 27 29 30 31) \
     -o "$room/library/twice.asm" elf/twice.c
-for format in $formats; do # what each is linked with is made once
-    make_one crc32 "$format"
-done
-{
-    for format in $formats; do
-        for name in $names; do echo "make_one $name $format"; done
-        for name in $compared; do echo "make_today $name $format"; done
-    done
-} | xargs -P 2 -I WORDS bash -c WORDS
 for format in $formats; do
-    for name in $names; do try_program "$name" "$format"; done
-    for name in $compared; do compare_steps "$name" "$format"; done
     try_archive "$format"
     try_pair "$format"
     try_linked "$format"

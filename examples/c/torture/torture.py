@@ -14,12 +14,10 @@ import random
 import re
 import resource
 import shutil
-import signal
 import subprocess
 import sys
 import tempfile
 from collections import Counter
-from contextlib import contextmanager
 from dataclasses import dataclass
 from multiprocessing import Pool
 
@@ -27,12 +25,9 @@ HERE = os.path.dirname(os.path.abspath(__file__))
 EXAMPLES = os.path.dirname(HERE)
 TOP = os.path.dirname(os.path.dirname(EXAMPLES))
 sys.dont_write_bytecode = True
-sys.path[:0] = [os.path.join(TOP, "tools", "sfi_cc"), os.path.join(TOP, "tools", "asm2sfi")]
+sys.path.insert(0, os.path.join(TOP, "tools", "sfi_cc"))
 
-import softfloat
-from compilers import GCC, RESERVED_IN_WORDS, Failed, compiled, ran, reserved, version
-from conversion import Options, convert
-from typed import WORDS, format_of
+from compilers import GCC, RESERVED_IN_WORDS, Failed, compiled, ran, version
 from kept import kept
 from sources import GCC_SOURCE, unpacked
 
@@ -41,12 +36,13 @@ QEMU = "qemu-riscv32"
 TESTS = "gcc/testsuite/gcc.c-torture/execute"
 COMPILERS = {"gcc": GCC, "clang": "clang"}
 LEVELS = ("-O0", "-O1", "-O2", "-O3", "-Os")
-FORMATS = (1, 2, WORDS)
+FORMATS = ("1", "2", "words")
+TOOLS = os.path.join(TOP, "tools")
 PACKAGES = {GCC: "gcc-riscv64-unknown-elf", "clang": "clang", "llc": "llvm", QEMU: "qemu-user"}
 SAMPLE, SEED = 120, 1
 STACKS = (540000, 65536)  # the second where the data leave no room for the first
 HEAP = 300000
-MEMORY, SECONDS = 3 << 30, 120  # what a conversion may take, of the processor's time
+MEMORY, SECONDS = 3 << 30, 300  # what a conversion may take
 NATIVE_SECONDS = 30
 RUN = ["run", "--rounds", "1000", "--quantum", "1000000"]
 MACHINE = ["-march=rv32imc", "-mabi=ilp32"]
@@ -60,7 +56,7 @@ class Case:
     name: str
     compiler: str
     level: str
-    image_format: object
+    image_format: str
 
     def __str__(self):
         return f"{self.name} by {self.compiler} {self.level}, format {self.image_format}"
@@ -93,63 +89,46 @@ def natively(room, case, place):
     common = [compiler, *target, *MACHINE, "-isystem", f"{PICOLIBC}/include", *QUIET[:1 + len(target)]]
     try:
         ran([*common, *room.options(case), "-c", "-o", f"{place}.o", room.source(case)])
-        ran([GCC, *MACHINE, "-nostdlib", "-o", f"{place}.elf", os.path.join(room.folder, "start.o"), f"{place}.o",
+        ran([GCC, *MACHINE, "-nostdlib", "-o", f"{place}.native", os.path.join(room.folder, "start.o"), f"{place}.o",
              f"-L{PICOLIBC}/lib/rv32im/ilp32", "-Wl,--start-group", "-lc", "-lm", "-lgcc", "-Wl,--end-group"])
-        done = subprocess.run([QEMU, f"{place}.elf"], stdout=subprocess.PIPE, stderr=subprocess.DEVNULL, check=False,
+        done = subprocess.run([QEMU, f"{place}.native"], stdout=subprocess.PIPE, stderr=subprocess.DEVNULL, check=False,
                               timeout=NATIVE_SECONDS)
     except (Failed, subprocess.TimeoutExpired):
         return None
     return done.returncode, done.stdout
 
 
-def too_long(*_):
-    raise TimeoutError(f"the converter took more than {SECONDS} s")
+def hold_memory():
+    """Holds what a process starts to some memory."""
+    resource.setrlimit(resource.RLIMIT_AS, (MEMORY, MEMORY))
 
 
-@contextmanager
-def limited():
-    """Holds this process to some time and memory. What it starts would be held to the memory, too, and qemu needs more."""
-    most = resource.getrlimit(resource.RLIMIT_AS)
-    signal.signal(signal.SIGPROF, too_long)
-    resource.setrlimit(resource.RLIMIT_AS, (MEMORY, most[1]))
-    signal.setitimer(signal.ITIMER_PROF, SECONDS)
-    try:
-        yield
-    finally:
-        signal.setitimer(signal.ITIMER_PROF, 0)
-        resource.setrlimit(resource.RLIMIT_AS, most)
-
-
-def converted(room, case, assembly):
-    """The source text, or why there is none."""
-    with open(assembly, encoding="utf-8", errors="surrogateescape") as file:
-        texts = [(os.path.basename(assembly), file.read())]
-    with open(os.path.join(TOP, "tools", "asm2sfi", "runtime.asm"), encoding="utf-8") as file:
-        runtime = [("runtime.asm", file.read())]
+def linked(room, case, program):
+    """Makes the program's ELF file, and answers why there is none."""
+    library = room.libraries[case.compiler]
+    given = [*QUIET[:1 + (case.compiler == "clang")], *room.hosted, *room.options(case)]
+    words = [f"{TOOLS}/sfi-cc", "--cc", COMPILERS[case.compiler], "--format", case.image_format, "--library", library, *given,
+             "-o", program, room.source(case)]
     for stack in STACKS:
-        options = Options(case.image_format, stack=stack, folders=room.libraries[case.compiler])
         try:
-            with limited():
-                text, refusals = convert(texts, runtime, options)
-        except Exception as error:  # pylint: disable=broad-except
-            return "", f"the converter: {error!r}"
-        if not refusals or "don't fit" not in str(refusals[0]):
+            done = subprocess.run([*words, "--stack", str(stack)], capture_output=True, check=False, timeout=SECONDS,
+                                  preexec_fn=hold_memory)
+        except subprocess.TimeoutExpired:
+            return f"sfi-cc took more than {SECONDS} s"
+        said = done.stderr.decode("utf-8", "replace")
+        if "don't fit" not in said:
             break
-    return text, "; ".join(str(refusal) for refusal in refusals[:4])
+    return f"{said[-300:]}, status {done.returncode}" if done.returncode else ""
 
 
 def sandboxed(room, case, place):
     """The status and the output in a sandbox, or why there are none."""
-    try:
-        given = [*QUIET[:1 + (case.compiler == "clang")], *room.hosted, *room.options(case)]
-        assembly, _ = compiled(COMPILERS[case.compiler], given, room.source(case), place, reserved(case.image_format))
-    except Failed as failed:
-        return "refused: " + next((line for line in failed.told.decode("latin-1").splitlines() if "error" in line), "?")
-    text, why = converted(room, case, assembly)
+    program = f"{place}.elf"
+    why = linked(room, case, program)
     if why:
         return f"refused: {why}"
     try:
-        image, _ = ran([room.program, "build"], text.encode("utf-8", "surrogateescape"))
+        image, _ = ran([f"{TOOLS}/sfi-image", program])
         ran([room.program, "check"], image)
         line = ran([room.program, *RUN], image)[0].decode()
     except Failed as failed:
@@ -197,7 +176,7 @@ def room_of(options, folder):
     libraries = {}
     for name in options.compiler:
         compiler = COMPILERS[name]
-        libraries[name] = (options.library or small_library(compiler), softfloat.folder_of(compiler))
+        libraries[name] = options.library or small_library(compiler)
     return Room(tests, folder, os.path.abspath(options.program), libraries, tuple(hosted(options.library)))
 
 
@@ -226,7 +205,7 @@ def parsed(words):
     parser.add_argument("--ieee", action="store_true", help="the tests of the folder ieee, all in each way")
     parser.add_argument("--compiler", action="append", choices=COMPILERS, help="gcc and clang if absent")
     parser.add_argument("--level", action="append", choices=LEVELS, help="such as --level=-O2; all if absent")
-    parser.add_argument("--format", action="append", type=format_of, choices=FORMATS, help="all if absent")
+    parser.add_argument("--format", action="append", choices=FORMATS, help="all if absent")
     parser.add_argument("--library", metavar="FOLDER", help="a C library of tools/sfi-library in place of the small one")
     parser.add_argument("--jobs", type=int, default=2, help="how many run side by side; 2 if absent")
     parser.add_argument("--program", default=os.path.join(TOP, "sfi"), help="the program sfi; ./sfi at the top if absent")
