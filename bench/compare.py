@@ -45,9 +45,7 @@ def built(program, text):
 
 
 def example_images(program):
-    """The examples' images, those of the C programs too, where they can be made; each source in both formats of bundles."""
-    if shutil.which("make"):
-        subprocess.run(["make", "-s", "-C", os.path.join(EXAMPLES, "c"), "texts"], check=False)
+    """The examples' images, each source in both formats of bundles."""
     made = [bytes.fromhex(measure.contents(path).decode()) for path in glob.glob(os.path.join(EXAMPLES, "*.hex"))]
     for path in sorted(glob.glob(os.path.join(EXAMPLES, "**", "*.s"), recursive=True)):
         text = measure.contents(path).replace(b".format 2\n", b"")

@@ -1,4 +1,4 @@
-# Made by tools/asm2sfi from crc32.asm. Change the program, and not this text.
+# crc32.c as a source text.
 .format 2
 .sandbox 16384
 .gate exit_with 0

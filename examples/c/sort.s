@@ -1,4 +1,4 @@
-# Made by tools/asm2sfi from sort.asm. Change the program, and not this text.
+# sort.c as a source text.
 .format 2
 .sandbox 131072
 .gate exit_with 0

@@ -1,4 +1,4 @@
-# Made by tools/asm2sfi from stack.asm. Change the program, and not this text.
+# stack.c as a source text.
 .format 2
 .sandbox 32768
 .gate exit_with 0

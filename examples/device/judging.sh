@@ -61,7 +61,7 @@ judge_layouts() {
 # Flips a bit here and there in a program's code: some are accepted, others break one rule or many.
 judge_flips() { # format
     local whole place bit byte
-    build "$(source_of_c sort "$1")" "$1" >"$room/whole.hex"
+    c_image sort "$1" "$room/whole.hex"
     whole=$(tr -d ' \n' <"$room/whole.hex")
     for bit in 0 1 2 3 4 5 6 7; do
         place=$((2 * (300 + 151 * bit)))

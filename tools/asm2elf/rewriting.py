@@ -1,48 +1,18 @@
 """One file of a compiler's assembly, rewritten to GNU assembly for a format."""
-import re
-
-from hoisting import with_hoisted_masks
-from improving import PASSES, improved_words
+from improving import PASSES, improved
 from in_bundles import InBundles
 from in_words import InWords
-from known import with_known_places
-from packing import packed
-from placement import with_near_branches
-from pointing import with_pointing
+from naming import Names
 from program import Mark
-from small_data import FARTHEST, SmallData
+from small_data import SmallData
 from soft import Order, without_soft_labels
-from telling import check_registers, format_lines, frame_lines, margin_lines
+from telling import format_lines, frame_lines, margin_lines
 from trampolines import check_trampolines
-from typed import WORDS
+from typed import WORDS, check_registers
 from unit import Unit
 
 SLACK = 512  # bytes of a branch's reach: `as` lengthens one that seems far while it still places the code
 SECTION = "..section "  # begins the name of a mark that stands before the code of a section
-
-
-class Names:
-    """New labels of a file."""
-
-    def __init__(self):
-        self.count = 0
-
-    def fresh(self, wish):
-        self.count += 1
-        return f".Lsfi{self.count}.{re.sub('[^A-Za-z0-9]', '', wish)}"
-
-
-def improved(code, passes, image_format, small, names):
-    """The code after the passes that are named and that the format has. `as` makes far branches of code in words."""
-    if "known" in passes and small.labels:
-        code = with_known_places(code, small, FARTHEST)
-    if image_format == WORDS:
-        return improved_words(code, passes, names)
-    if "pointing" in passes and image_format == 2:
-        code = with_pointing(code, names)
-    if "packing" in passes:
-        code = packed(code, image_format, names)
-    return with_near_branches(code, names, (image_format,), SLACK)
 
 
 def by_sections(unit):
@@ -78,19 +48,27 @@ class Code:
         self.ops = [piece for piece in pieces if not piece.is_mark]
 
 
+class Rewriting:
+    """A file for a format: its code by sections after the passes, and all else."""
+
+    def __init__(self, name, text, passes, image_format):
+        self.unit, self.format = Unit(name, text), image_format
+        code, self.orders = by_sections(self.unit)
+        sections = [Code(order.kept) for order in self.orders.values()]
+        ops = [op for section in sections for op in section.ops]
+        check_trampolines(sections)
+        if image_format == WORDS:
+            check_registers(ops)
+        self.small = SmallData(self.unit, code)
+        self.told = [*margin_lines(ops, image_format), *(format_lines(image_format) if ops else ()),
+                     *frame_lines([order.kept for order in self.orders.values()])]
+        self.code = parted(improved(code, passes, image_format, self.small, Names(".Lsfi."), SLACK) if ops else code)
+
+    def text(self):
+        writer = (InWords if self.format == WORDS else InBundles)(self.unit, self.small, self.format)
+        return writer.text(self.code, self.orders, self.told)
+
+
 def rewritten(name, text, passes=PASSES, image_format=WORDS):
     """The GNU assembly of a file, whose name and text are given."""
-    unit = Unit(name, text)
-    code, orders = by_sections(unit)
-    sections = [Code(order.kept) for order in orders.values()]
-    ops = [op for section in sections for op in section.ops]
-    check_trampolines(sections)
-    if image_format == WORDS:
-        check_registers(ops)
-    small, names = SmallData(unit, code), Names()
-    told = [*margin_lines(ops, image_format), *(format_lines(image_format) if ops else ()),
-            *frame_lines([order.kept for order in orders.values()])]
-    if ops:
-        code = improved(code, passes, image_format, small, names)
-    writer = (InWords if image_format == WORDS else InBundles)(unit, small, image_format)
-    return writer.text(parted(code), orders, told)
+    return Rewriting(name, text, passes, image_format).text()

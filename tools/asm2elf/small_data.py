@@ -5,13 +5,13 @@ import re
 
 FIRST = 1 << 20
 ROOM = 1 << 16  # between two objects' numbers
-FARTHEST = 1 << 40  # the linker script sees to it that they lie in reach
 SYMBOL = re.compile(r"([A-Za-z_.$][\w.$]*)([+-]\d+)?")
 LARGEST = 64  # bytes of a small object, as the option -msmall-data-limit has it
 
 
 class SmallData:
     """The small objects of a file that its code speaks of."""
+    farthest = 1 << 40  # the linker script sees to it that they lie in reach
 
     def __init__(self, unit, code):
         self.small = unit.near_small()

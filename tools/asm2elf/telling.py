@@ -1,11 +1,9 @@
 """What a file tells the linker and tools/sfi-image beside its code: how far beside an object its bases may lie, the frames of
-its functions, the format that it is for, and registers that the sandbox keeps for itself."""
-from assembly import Refused
-from dependences import reads, runs, writes
+its functions, and the format that it is for."""
+from dependences import runs
 from frames import deepest
-from instructions import is_access, written
-from layout import margins
-from typed import DATA, OWN, WORDS, largest_step
+from margins import margins
+from typed import WORDS, largest_step
 
 MARGINS = (64, 128, 256, 512, 1024, 2304)  # the rooms beside an object that the linker script knows
 FORMAT_NAMES = {1: "1", 2: "2", WORDS: "words"}
@@ -18,7 +16,7 @@ def weak_number(name):
 
 def margin_lines(ops, image_format):
     """Weak absolute symbols, of which the linker script takes the largest."""
-    room = margins([op for op in ops if is_access(op)], [], largest_step(ops) if image_format == WORDS else 0)
+    room = margins(ops, largest_step(ops) if image_format == WORDS else 0)
     for name, count in (("below", room.below), ("above", room.above)):
         if count:
             yield from weak_number(f"__sfi_{name}_{next(size for size in MARGINS if size >= count)}")
@@ -48,13 +46,3 @@ def frame_lines(sections):
     if found:
         yield f'\t.section {FRAMES},"",@progbits'
         yield from (f"\t.4byte {name}, {size}" for name, size in found.items())
-
-
-def check_registers(ops):
-    """Refuses an instruction that names one of the registers that code in words keeps for masks."""
-    for op in ops:
-        for name in sorted(reads(op) | writes(op)):
-            if name in OWN:
-                raise Refused(op.place, f"{name} is the sandbox's own register: compile with -ffixed-x{OWN[name]}")
-        if op.word in ("jal", "jalr") and written(op) in DATA:
-            raise Refused(op.place, f"{op.word} into {written(op)}, which holds an address of the data")

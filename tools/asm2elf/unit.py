@@ -7,8 +7,8 @@ from dataclasses import dataclass, field
 
 from assembly import COMMENT, LABEL, Label, LocalLabels, Place, Refused, read_piece, split_outside_quotes
 from instructions import Converter, Op
+from pcrel import pcrel_labels
 from program import Mark
-from reading import pcrel_labels
 
 SMALL_NAMES = (".sdata", ".sbss", ".srodata")
 DEBUG_NAMES = (".debug", ".eh_frame", ".gcc_except_table", ".note", ".comment", ".stab", ".riscv.attributes")
@@ -21,6 +21,8 @@ CONTENT = (".string", ".word", ".byte", ".half", ".zero", ".ascii", ".asciz", ".
 WORD = re.compile(r"[A-Za-z_.$][\w.$]*")
 HERE = re.compile(r"\.\s*([+-]|$)")  # a value that is the place where it stands
 TWO_NAMES = re.compile(r'(\t\.file\s+\d+)\s+"([^"]*)"\s+"([^"]*)"(.*)')
+THREAD_LOCAL_OPERAND = re.compile(r"%(tprel|tls)_")
+THREAD_LOCAL = "thread-local data: there is one thread, so compile without _Thread_local and __thread"
 WANTS = "\t.reloc ., R_RISCV_NONE, "
 WANTS_CONSTRUCTORS = WANTS + "__sfi_begin_wanted"  # the runtime's part that calls them
 WANTS_ATEXIT = WANTS + "atexit"  # the C library's, which runs destructors
@@ -172,6 +174,8 @@ class Unit:
 
     def instruction(self, statement):
         self.is_locating = False
+        if any(map(THREAD_LOCAL_OPERAND.match, statement.operands)):
+            raise Refused(statement.place, THREAD_LOCAL)
         for op in self.converter.convert(statement):
             self.spoken.update(symbol.name for symbol in op.symbols())
             self.current.pieces.append(Op(op.word, tuple(str(operand) for operand in op.operands), op.place, op.wide))

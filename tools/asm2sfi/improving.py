@@ -4,7 +4,6 @@ from control import successors
 from hoisting import with_hoisted_masks
 from instructions import written
 from known import with_known_places
-from limits import check_least
 from liveness import without_unread
 from packing import packed, shortened
 from pairing import with_pairs
@@ -19,18 +18,18 @@ from typed import DATA, WORDS, free_addresses, with_plain_jumps
 PASSES = ("known", "pointing", "packing", "hoisting", "sharing", "targeting", "stepping", "pairing")
 
 
-def improved(code, passes, image_format, layout, names):
-    """The code after the passes that are named and that the format has. Each branch reaches its label."""
-    if "known" in passes:
-        code = with_known_places(code, layout)
-        check_least(code, image_format)
+def improved(code, passes, image_format, small, names, slack):
+    """The code after the passes that are named and that the format has. In bundles each branch reaches its label with some
+    bytes to spare; `as` makes far branches of code in words."""
+    if "known" in passes and small.labels:
+        code = with_known_places(code, small, small.farthest)
     if image_format == WORDS:
-        return with_near_branches(improved_words(code, passes, names), names, (WORDS,))
+        return improved_words(code, passes, names)
     if "pointing" in passes and image_format == 2:
         code = with_pointing(code, names)
     if "packing" in passes:
         code = packed(code, image_format, names)
-    return with_near_branches(code, names)
+    return with_near_branches(code, names, (image_format,), slack)
 
 
 def improved_words(code, passes, names):

@@ -114,9 +114,3 @@ def sizes_of(word, operands, wide, has_stack):
         return tuple(size for part in number_parts(op)
                      for size in sizes_of(part.word, part.operands, wide, has_stack))
     return ((4,),) if wide or not has_short_form(op) else ((2, 4),)
-
-
-def is_in_two_sizes(op):
-    """Whether an instruction has a 16-bit form in one of the formats."""
-    narrow = replace(op, wide=False)
-    return any(len(sizes) == 2 for image_format in (1, 2) for sizes in expansions(narrow, image_format))

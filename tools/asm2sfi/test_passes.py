@@ -16,7 +16,6 @@ from placement import FARTHEST, far_branches, places, with_near_branches
 from pointing import with_pointing
 from program import Mark
 from sizes import expansions
-from writing import code_lines
 
 
 def code(text):
@@ -32,7 +31,7 @@ def code(text):
 
 def lines(pieces):
     """The source text of pieces, but for the lines that choose sizes, with a space after each comma."""
-    return [line.replace(",", ", ") for line in code_lines(pieces) if not line.startswith(".option")]
+    return [f"{piece.name}:" if piece.is_mark else f"{piece.word} {', '.join(piece.operands)}".rstrip() for piece in pieces]
 
 
 class Layout:
@@ -130,7 +129,7 @@ class Placement(unittest.TestCase):
 
     def test_reach(self):
         self.assertEqual(far_branches(self.loop(255)), set())
-        far = with_near_branches(self.loop(258), Names([]))
+        far = with_near_branches(self.loop(258), Names())
         self.assertEqual(lines(far)[-3:], ["beqz a0, over..1", "j .top", "over..1:"])
         self.assertEqual(FARTHEST, 4094)
 
@@ -203,7 +202,7 @@ class Pointing(unittest.TestCase):
         self.assertTrue(all(-2048 <= offset <= 2047 for offset in offsets))
 
     def test_loop(self):
-        found = with_pointing(code("f: li t0,1; .a: lw a4,0(a5); sw a4,4(a5); addi a5,a5,8; bne a5,a3,.a; mv a0,a4; ret"), Names([]))
+        found = with_pointing(code("f: li t0,1; .a: lw a4,0(a5); sw a4,4(a5); addi a5,a5,8; bne a5,a3,.a; mv a0,a4; ret"), Names())
         self.assertEqual(lines(found), [
             "f:", "li t0, 1", "point..1:", "mv t0, sp", ".a:", "mv sp, a5", "lw a4, 0(sp)", "sw a4, 4(sp)", "addi a5, a5, 8",
             "bne a5, a3, .a", "mv sp, t0", "mv a0, a4", "ret"])
@@ -212,24 +211,24 @@ class Pointing(unittest.TestCase):
         """A loop that stores the stack pointer keeps it, at any place of the store."""
         for body in ("sw sp,0(a5); sw a4,4(a5); sw a4,8(a5)", "sw a4,0(a5); sw a4,4(a5); sw sp,8(a5)"):
             pieces = code(f"f: li t0,1; .a: {body}; addi a5,a5,12; bne a5,a3,.a; ret")
-            self.assertEqual(lines(with_pointing(pieces, Names([]))), lines(pieces))
+            self.assertEqual(lines(with_pointing(pieces, Names())), lines(pieces))
 
     def test_no_register_of_a_caller(self):
         """The function writes no register that is free, and gcc lets callers count on each other
         one."""
         text = "main: call f; ret; f: .a: lw a4,0(a5); sw a4,4(a5); addi a5,a5,8; bne a5,a3,.a; ret"
-        self.assertEqual(lines(with_pointing(code(text), Names([]))), lines(code(text)))
+        self.assertEqual(lines(with_pointing(code(text), Names())), lines(code(text)))
 
     def test_way_out(self):
         text = "f: li t0,1; .a: lw a4,0(a5); sw a4,4(a5); beqz a4,.b; j .a; .b: ret"
-        found = lines(with_pointing(code(text), Names([])))
+        found = lines(with_pointing(code(text), Names()))
         self.assertEqual(found[-3:], ["leave..1:", "mv sp, t0", "j .b"])
         self.assertIn("beqz a4, leave..1", found)
 
 
 class Packing(unittest.TestCase):
     def packed(self, text, image_format=2):
-        return lines(packed(code(text), image_format, Names([])))
+        return lines(packed(code(text), image_format, Names()))
 
     def test_wide_in_place_of_nops(self):
         """Six instructions of 2 bytes before a label become four of 2 and two of 4."""

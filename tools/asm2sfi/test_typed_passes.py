@@ -140,7 +140,7 @@ class Sharing(unittest.TestCase):
 
 class Hoisting(unittest.TestCase):
     def hoisted(self, text, registers=ADDRESSES):
-        return lines(with_hoisted_masks(code(text), Names([]), registers))
+        return lines(with_hoisted_masks(code(text), Names(), registers))
 
     def unchanged(self, text):
         self.assertEqual(self.hoisted(text), lines(code(text)), text)

@@ -9,7 +9,6 @@ from dataclasses import replace
 from assembly import Refused
 from dependences import reads, values, writes
 from instructions import LOADS, SHAPES, Op, is_access, offset_and_base, written
-from program import START
 
 WORDS = "words"  # the format's name
 ADDRESSES = ("gp", "tp")  # the data registers that compilers leave alone
@@ -100,7 +99,7 @@ def renamed_reads(op, name, other):
 
 def largest_step(ops):
     """The largest step of a pointer in the assembly of a program, of those that a data register may take in its place."""
-    steps = [step_of(op, written(op)) for op in ops if written(op) not in (None, "sp") and op.place != START]
+    steps = [step_of(op, written(op)) for op in ops if written(op) not in (None, "sp")]
     return max((abs(step) for step in steps if step is not None and abs(step) <= LARGEST_STEP), default=0)
 
 
@@ -114,15 +113,15 @@ def uses(piece, name):
     return name in reads(piece) | writes(piece)
 
 
-def check_registers(linked):
-    """Refuses an instruction that names one of the sandbox's own registers, or that the rules don't allow."""
-    for _, section in linked.code():
-        for op in section.ops:
-            for name in sorted(reads(op) | writes(op)):
-                if name in OWN:
-                    raise Refused(op.place, f"{name} is the sandbox's own register: compile with -ffixed-x{OWN[name]}")
-            if op.word in ("jal", "jalr") and written(op) in DATA:
-                raise Refused(op.place, f"{op.word} into {written(op)}, which holds an address of the data")
+def check_registers(ops):
+    """Refuses an instruction that names one of the registers that code in words keeps for masks, or that the rules don't
+    allow."""
+    for op in ops:
+        for name in sorted(reads(op) | writes(op)):
+            if name in OWN:
+                raise Refused(op.place, f"{name} is the sandbox's own register: compile with -ffixed-x{OWN[name]}")
+        if op.word in ("jal", "jalr") and written(op) in DATA:
+            raise Refused(op.place, f"{op.word} into {written(op)}, which holds an address of the data")
 
 
 def with_plain_jumps(code):

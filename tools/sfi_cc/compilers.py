@@ -3,7 +3,6 @@ import os
 import shutil
 import subprocess
 import sys
-from concurrent.futures import ThreadPoolExecutor
 
 TOOLS = os.path.dirname(os.path.dirname(os.path.abspath(__file__)))
 TOP = os.path.dirname(TOOLS)
@@ -136,12 +135,3 @@ def compiled(compiler, given, file, place, registers=RESERVED_IN_WORDS):
     if file.endswith(WITH_MACROS):
         compile_one = preprocessed
     return assembly, compile_one(compiler, given, file, assembly, registers)
-
-
-def all_compiled(compiler, given, files, folder, registers):
-    """The paths of the assembly of each file. Compilers run side by side; what they say is told in the files' order."""
-    with ThreadPoolExecutor(os.cpu_count()) as pool:
-        places = [os.path.join(folder, str(number)) for number in range(len(files))]
-        for assembly, said in pool.map(lambda file, place: compiled(compiler, given, file, place, registers), files, places):
-            tell(said)
-            yield assembly

@@ -1,0 +1,65 @@
+"""Tests of rewriting a file: `tools/unit_tests.py tools/asm2elf`. Where the labels lie is compared with what `as` says."""
+import os
+import subprocess
+import sys
+
+HERE = os.path.dirname(os.path.abspath(__file__))
+sys.path[:0] = [HERE, os.path.join(os.path.dirname(HERE), "asm2sfi"), os.path.dirname(HERE)]
+
+from assembly import Refused
+from improving import PASSES
+from placement import places
+from rewriting import Rewriting, rewritten
+from testing import GCC, TOP, Folder, needs
+from typed import WORDS
+
+EXAMPLES = os.path.join(TOP, "examples", "c")
+BINUTILS = "riscv64-unknown-elf-"
+FIXED = [f"-ffixed-x{number}" for number in (24, 25, 26, 27, 31)]
+OPTIONS = ["-O2", "-march=rv32imc", "-mabi=ilp32", "-fno-builtin", "-ffreestanding", *FIXED]
+
+
+class Refusals(Folder):
+    def test_rows(self):
+        rows = [("\tecall\n", "ecall: a sandbox calls its host through gates alone"), ("\t.word 5\n", ".word in a code section"),
+                ("\tmv a0,s8\n", "s8 is the sandbox's own register: compile with -ffixed-x24"),
+                ("\tlui a5,%tprel_hi(x)\n", "thread-local data: there is one thread, so compile without _Thread_local and __thread"),
+                ("\t.popsection\n", ".popsection without .pushsection")]
+        for image_format in (1, 2, WORDS):
+            for text, wanted in rows:
+                with self.assertRaises(Refused) as caught:
+                    rewritten("a.s", "\t.text\nmain:\n" + text, PASSES, image_format)
+                self.assertEqual(str(caught.exception), f"a.s:3: {wanted}")
+        with self.assertRaises(Refused) as caught:
+            rewritten("a.s", "main:\tmv a0,t4\n", PASSES, WORDS)
+        self.assertEqual(str(caught.exception), "a.s:1: t4 is the sandbox's own register: compile with -ffixed-x29")
+
+
+@needs(GCC, f"{BINUTILS}as")
+class Places(Folder):
+    """The model by which `packing` fits code into bundles."""
+
+    def labels(self, rewriting):
+        """By each label, the section that it is in and its place there, as `as` has it."""
+        path = self.path("made.o")
+        words = [f"{BINUTILS}as", "-march=rv32imc", "-mabi=ilp32", "-mno-relax", "-mno-arch-attr", "--keep-locals", "-o", path, "-"]
+        subprocess.run(words, input=rewriting.text().encode(), check=True)
+        listing = subprocess.run([f"{BINUTILS}nm", "--defined-only", "--special-syms", path], capture_output=True, check=True, text=True).stdout
+        return {name: int(place, 16) for place, kind, name in map(str.split, listing.splitlines()) if kind in "tTwW"}
+
+    def compare(self, name, image_format):
+        assembly = subprocess.run([GCC, "-S", *OPTIONS, "-o", "-", os.path.join(EXAMPLES, f"{name}.c")], check=True,
+                                  capture_output=True, text=True).stdout
+        rewriting = Rewriting(f"{name}.s", assembly, PASSES, image_format)
+        wanted, count = self.labels(rewriting), 0
+        for code in rewriting.code.values():
+            for piece, place in zip(code, places(code, image_format)):
+                if piece.is_mark:
+                    self.assertEqual(place, wanted[piece.name], f"{name}, format {image_format}: {piece.name}")
+                    count += 1
+        self.assertGreater(count, 5)
+
+    def test_examples(self):
+        for name in ("json", "regex"):
+            for image_format in (1, 2):
+                self.compare(name, image_format)
