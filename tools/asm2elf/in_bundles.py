@@ -64,8 +64,11 @@ class InBundles(Writer):
 
     def one(self, op):
         name = written(op)
-        if is_access(op) and not (self.has_stack and offset_and_base(op)[1] == "sp"):
+        offset, base = offset_and_base(op) if is_access(op) else (0, None)
+        if is_access(op) and not (self.has_stack and base == "sp"):
             self.access(op)
+        elif self.small.holds(offset):
+            self.group(f"{op.word} {op.operands[0]}, {self.small.text(offset)}({base})")
         elif self.masks_after(name):
             self.group(plain(op), *self.masks_after(name))
         else:

@@ -50,6 +50,8 @@ try_linked() { # format
     report "constructors by priority, format $1" "sandbox=0 exit=0 out=31323334" "$(line_of "$room/constructors.$1.elf")"
     elf_of "weak.$1.elf" "$1" elf/weak.c elf/strong.c
     report "a weak small object that another file defines, format $1" "sandbox=0 exit=77 out=" "$(line_of "$room/weak.$1.elf")"
+    elf_of "small.$1.elf" "$1" elf/small.s
+    report "small objects in a loop, format $1" "sandbox=0 exit=165 out=" "$(line_of "$room/small.$1.elf")"
     elf_of "gate.$1.elf" "$1" --gate finish=0 elf/gate.c
     report "a gate of another name, format $1" "sandbox=0 exit=9 out=" "$(line_of "$room/gate.$1.elf")"
     elf_of "null.$1.elf" "$1" elf/null.c
