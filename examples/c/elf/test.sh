@@ -97,6 +97,14 @@ try_step() {
     report "masks between them" 2 "$(riscv64-unknown-elf-objdump -d "$room/step.elf" | grep -B3 'lw.*zero,0(sp)' | grep -cE 'and|or')"
 }
 
+# More small objects than there is room for.
+try_many() {
+    { for number in $(seq 60); do echo "volatile int objects$number[16];"; done
+        echo "int main(void) { return 40"; printf ' + (objects%s[3] = 1)' $(seq 60); echo "; }"; } >"$room/many.c"
+    elf_of many.elf 2 "$room/many.c"
+    report "more small objects than there is room for" "sandbox=0 exit=100 out=" "$(line_of "$room/many.elf")"
+}
+
 try_refusals() {
     report "an undefined symbol" "undefined reference to \`absent'" \
         "$(refusal elf_of x.elf 2 elf/undefined.c >/dev/null; grep -o 'undefined reference.*' "$room/messages" | head -n 1)"
@@ -135,5 +143,6 @@ for format in $formats; do
     try_far_branches "$format" 255
 done
 try_step
+try_many
 try_refusals
 finish
