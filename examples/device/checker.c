@@ -11,6 +11,8 @@ struct checker_memory checker_memory __attribute__((aligned(16)));
 static Z_sfi_instance_t module;
 struct reach image_reach;
 
+enum { PIECE = 4096 }; /* bytes of an image that are judged at a time */
+
 /* ---- For the C that wasm2c made */
 
 /* Addresses of the module wrap in 32 bits, as those of the processor do. */
@@ -18,8 +20,14 @@ static uint32_t in_module(const void *place) {
     return (uint32_t)place - (uint32_t)&checker_memory + (LINKED_STACK - MODULE_STACK);
 }
 
+/* Where the module can't go on: check_image then has no verdict. */
+static void *stopped[5];
+static bool is_judging;
+
 void wasm_rt_trap(wasm_rt_trap_t cause) {
     (void)cause;
+    if (is_judging)
+        __builtin_longjmp(stopped, 1);
     refuse("the checker stopped");
 }
 
@@ -50,50 +58,35 @@ void *memmove(void *to, const void *from, size_t length) {
 
 /* ---- For the loader */
 
-static const char *name_of_fault(uint32_t fault) {
-    static const char *const names[] = {
-        "none", "Magic", "Count", "Short", "Code", "Data", "GuardRoom", "Start", "Gates", "Init",
-        "Overlap", "Trailing"
-    };
-    return fault <= SFI_FAULT_TRAILING ? names[fault] : "unknown";
-}
-
-/* The lines and statuses of `sfi check`, after the loader's name. */
-_Noreturn static void refuse_image(const struct sfi_verdict *verdict) {
-    print("device: ");
-    if (verdict->status != SFI_REFUSED) {
-        print("layout fault ");
-        print_decimal(verdict->layout_fault);
-        print(" ");
-        print(name_of_fault(verdict->layout_fault));
-    } else {
-        print("refused findings=");
-        print_decimal(verdict->findings);
-        print(" first=V");
-        print_decimal(verdict->first.rule);
-        print(" sandbox=");
-        print_decimal(verdict->first.sandbox);
-        print(" at=");
-        print_hex(verdict->first.address, 8);
-    }
-    print("\n");
-    fail(verdict->status == SFI_REFUSED ? 1 : 2);
-}
-
-void check_image(const uint8_t *image, uint32_t length) {
-    struct sfi_verdict *verdict = &checker_memory.verdict;
+/* Judges the image in pieces of PIECE bytes. */
+static uint32_t judge_pieces(const uint8_t *image, uint32_t length, struct sfi_verdict *verdict) {
     uint32_t stream = in_module(&checker_memory.stream);
-    memset(checker_memory.data, 0, sizeof checker_memory - MODULE_STACK);
-    image_reach = (struct reach){in_module(image), length};
-    Z_sfi_init_module();
-    Z_sfi_instantiate(&module);
     if (*Z_sfiZ___heap_base(&module) > stream)
-        refuse("there is no room for the checker");
+        return CHECKER_STOPPED; /* there is no room for it */
     /* Not sfi_c_check, whose code for vectors is five times as long, and slower where there are none. */
     Z_sfiZ_sfi_c_begin(&module, stream);
-    Z_sfiZ_sfi_c_feed(&module, stream, in_module(image), length);
-    if (Z_sfiZ_sfi_c_end(&module, stream, in_module(verdict)) != SFI_ACCEPTED)
-        refuse_image(verdict);
+    for (uint32_t done = 0; done < length; done += PIECE) {
+        uint32_t left = length - done;
+        Z_sfiZ_sfi_c_feed(&module, stream, in_module(image + done), left < PIECE ? left : PIECE);
+        between_pieces();
+    }
+    uint32_t status = Z_sfiZ_sfi_c_end(&module, stream, in_module(&checker_memory.verdict));
+    *verdict = checker_memory.verdict;
+    return status;
+}
+
+uint32_t check_image(const uint8_t *image, uint32_t length, struct sfi_verdict *verdict) {
+    uint32_t status = CHECKER_STOPPED;
+    memset(checker_memory.data, 0, sizeof checker_memory - MODULE_STACK);
+    image_reach = (struct reach){in_module(image), length};
+    if (__builtin_setjmp(stopped) == 0) {
+        is_judging = true;
+        Z_sfi_init_module();
+        Z_sfi_instantiate(&module);
+        status = judge_pieces(image, length, verdict);
+    }
+    is_judging = false;
+    return status;
 }
 
 static void tell_gates(const uint8_t *image, uint32_t length, uint32_t number, struct part *part) {

@@ -5,8 +5,8 @@ SERVICES ?= $(SHARED)services.c
 INTERRUPTS ?= $(SHARED)interrupts.c
 FLAGS = -std=c11 -O2 -Wall -Wextra -Wconversion -Wshadow -Wmissing-prototypes -Werror \
 	-march=rv32im_zicsr_zifencei -mabi=ilp32 -mcmodel=medany -msmall-data-limit=0 -ffreestanding \
-	-fno-builtin -fno-tree-loop-distribute-patterns -nostdlib -I$(SHARED).
-FILES = switch.S protection.S image.c turns.c protection.c guards.c gates.c trap.c console.c memory.c
+	-fno-builtin -fno-tree-loop-distribute-patterns -nostdlib -I$(SHARED). -I$(SHARED)../../crates/sfi_c/include
+FILES = switch.S protection.S image.c turns.c protection.c guards.c gates.c trap.c console.c verdict.c memory.c
 SOURCES = $(FILES:%=$(SHARED)%) $(SERVICES) $(INTERRUPTS)
 NEEDED = $(SHARED)machine.h $(SHARED)host.h $(SHARED)common.mk Makefile
 

@@ -23,6 +23,8 @@ void print_decimal(uint64_t number) {
 }
 
 void finish(void) {
+    if (print_masked)
+        print_masked();
     end(0);
 }
 

@@ -29,6 +29,10 @@ bool answer_call(struct world *world, uint32_t number) {
         caller->exit_code = call.a0;
         return false;
     }
+    if (outcome == GOES_ON) {
+        caller->steps--; /* the ecall is counted once */
+        return true;
+    }
     caller->frame.pc += ECALL_SIZE;
     x[A0] = call.a0;
     x[A1] = call.a1;

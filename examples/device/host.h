@@ -7,6 +7,7 @@
 #include <stdint.h>
 
 #include "machine.h"
+#include "sfi.h" /* of crates/sfi_c: what a verdict is */
 
 /* docs/IMAGE.md and docs/GATES.md */
 enum {
@@ -16,7 +17,7 @@ enum {
     BUNDLE = 16,
     WORD = 4,
     GUARD_ZONE = 4096, /* on each side of the data: every access there has to trap, and the sandbox ends by it */
-    CALL_BYTES_MOST = 65536,
+    PUT_MOST = 65536, /* bytes of a put or get */
     MAILBOX_WORDS = 16,
     ENTRY_ARGUMENTS = 8
 };
@@ -64,6 +65,7 @@ struct sandbox {
     uint32_t trap_address;
     uint64_t steps;
     uint32_t input_read, output_length, letter_count;
+    uint32_t moved;             /* bytes of a put or get that goes on */
     struct letter mailbox[MAILBOX_WORDS];
     uint8_t output[OUTPUT_MOST];
 };
@@ -79,8 +81,12 @@ struct world {
 void *memset(void *to, int byte, size_t length);
 void *memcpy(void *restrict to, const void *restrict from, size_t length);
 
-/* checker.c: judges the image, and comes back where it is accepted. unchecked.c: comes back */
-void check_image(const uint8_t *image, uint32_t length);
+/* checker.c: writes the verdict on the image and answers its status, or CHECKER_STOPPED. The image is judged
+   in pieces, and after each one between_pieces is called. unchecked.c: answers SFI_ACCEPTED */
+enum { CHECKER_STOPPED = SFI_NO_IMAGE + 1 };    /* in the middle: there is no verdict, and no image to run */
+uint32_t check_image(const uint8_t *image, uint32_t length, struct sfi_verdict *verdict);
+/* main.c: a vendor feeds the watchdog here. A sandbox that is no part of the image may have a turn */
+void between_pieces(void);
 /* checker.c: the checker tells the image's sandbox of that number. unchecked.c: reads it. Both answer
    whether there is one */
 bool tell_part(const uint8_t *image, uint32_t length, uint32_t number, struct part *part);
@@ -106,6 +112,12 @@ void write_protection(void);
    data does. Called when all is as the sandboxes will find it, before an interrupt is on but the timer's */
 void test_guards(const struct world *world);
 
+/* measure.c, if that is linked: the host enters a sandbox, and is left by it; and all is over */
+__attribute__((weak)) void has_run(const struct frame *frame);
+__attribute__((weak)) void print_masked(void);
+
+/* turns.c: one turn of a sandbox that is ready: until the timer, a yield, an exit or a trap ends it */
+void turn(struct world *world, uint32_t number);
 /* turns.c: runs the world's sandboxes as its arguments ask for, and ends */
 _Noreturn void run_world(struct world *world);
 
@@ -121,6 +133,7 @@ struct call {
 };
 enum outcome {
     REPLIED,
+    GOES_ON,    /* there is no reply yet: the same call is made again, after an interrupt if one is due */
     YIELDED,    /* the reply ends the turn */
     LEFT        /* the caller has exited, with a0 */
 };
@@ -140,6 +153,10 @@ void stop_by_trap(struct sandbox *sandbox, uint32_t cause);
 uint32_t enter(struct frame *frame);
 extern const uint32_t switch_instructions;      /* how many of its own lie between the two counts */
 
+/* place.c, of mcu */
+void place(uint32_t number, const struct part *part);   /* refuses a sandbox for which there is no place */
+void close_guards(uint32_t number, const struct part *part);    /* write_protection then closes them */
+
 /* main.c, of each machine: run_host is called by start.S, and so are load of `virt` and judge of mcu */
 uint32_t load(void);                            /* answers what satp takes */
 void judge(void);
@@ -148,10 +165,15 @@ void interrupt_after(uint32_t ticks);           /* the timer, and once */
 
 /* serial.c, of each machine */
 void send(char byte);
+enum { NO_BYTE = -1 };
+int receive(void);                              /* of mcu: the next byte, or NO_BYTE where none has come */
 _Noreturn void end(uint32_t status);            /* of the run */
 
 void console_is_paged(void);                    /* of `virt` */
 void start_chip(void);                          /* of mcu */
+
+/* verdict.c: in the words of `sfi check`, without a line's end */
+void print_verdict(uint32_t status, const struct sfi_verdict *verdict);
 
 /* console.c */
 void print(const char *text);

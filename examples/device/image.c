@@ -41,11 +41,23 @@ static uint32_t read_sandboxes(const uint8_t *image, uint32_t length, struct san
     return SANDBOXES_MOST;
 }
 
+/* The line and status of `sfi check`, after the loader's name. */
+static void judge_image(const uint8_t *image, uint32_t length) {
+    struct sfi_verdict verdict = {0};
+    uint32_t status = check_image(image, length, &verdict);
+    if (status == SFI_ACCEPTED)
+        return;
+    print("device: ");
+    print_verdict(status, &verdict);
+    print("\n");
+    fail(status == SFI_REFUSED ? 1 : 2);
+}
+
 void read_image(struct world *world, uint32_t arguments, uint32_t image, uint32_t input) {
     const uint8_t *bytes = (const uint8_t *)image;
     world->arguments = (const struct arguments *)arguments;
     world->input = (const uint8_t *)input;
-    check_image(bytes, world->arguments->image_length);
+    judge_image(bytes, world->arguments->image_length);
     world->count = read_sandboxes(bytes, world->arguments->image_length, world->sandboxes);
 }
 
@@ -55,6 +67,7 @@ bool enter_again(struct sandbox *sandbox, uint32_t pc, const uint32_t arguments[
         return false;
     set_registers(sandbox, pc);
     memcpy(&sandbox->frame.x[A0], arguments, ENTRY_ARGUMENTS * sizeof arguments[0]);
+    sandbox->moved = 0;
     sandbox->state = READY;
     return true;
 }

@@ -30,8 +30,12 @@
 #define PMP_ENTRIES     16
 #define SANDBOXES_MOST  16
 #define OUTPUT_MOST     1048576         /* bytes that a sandbox can put */
+#define CALL_BYTES_MOST 256             /* bytes that a call moves with interrupts off */
 #else
 #include "chip.h"                       /* the same words for a chip without paging */
+#ifndef CODE_AS_DATA
+#define CODE_AS_DATA(address)   (address)       /* where a load finds what is executed at the address */
+#endif
 #endif
 
 /* ---- Machine-Level ISA, "Machine Cause Register", and Supervisor-Level ISA, "Supervisor Cause
@@ -44,6 +48,7 @@
 #define CAUSE_LOAD_ACCESS       5
 #define CAUSE_STORE_MISALIGNED  6
 #define CAUSE_STORE_ACCESS      7
+#define CAUSE_ECALL_FROM_U      8
 #define CAUSE_ECALL_FROM_S      9
 #define CAUSE_ECALL_FROM_M      11
 #define CAUSE_FETCH_PAGE        12
@@ -103,12 +108,17 @@
 #define EXCEPTION_PC            mepc
 #define CAUSE                   mcause
 #define STATUS                  mstatus
+#ifdef USER_MODE                                /* umode/umode.c, to compare with */
+#define STATUS_AT_ENTRY         MSTATUS_MPIE    /* mstatus.MPP stays 0, U-mode, as start.S and each trap leave it */
+#define CAUSE_ECALL             CAUSE_ECALL_FROM_U
+#else
 #define STATUS_AT_ENTRY         (MSTATUS_MPP_MACHINE | MSTATUS_MPIE)
+#define CAUSE_ECALL             CAUSE_ECALL_FROM_M
+#endif
 #define RETURN                  mret
 #define RETIRED                 minstret
 #define JUMPS_TO_TRAPPED        1               /* from the vector of mcu/start.S */
 #define MTVEC_VECTORED          1               /* an interrupt comes to the base + 4 * its cause */
-#define CAUSE_ECALL             CAUSE_ECALL_FROM_M
 #define CAUSE_TIMER             CAUSE_MACHINE_TIMER
 #else
 #define SCRATCH                 sscratch

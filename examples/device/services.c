@@ -5,32 +5,51 @@
 enum service { EXIT, PUT, GET, YIELD, POST, TAKE };
 static const uint32_t FAILED = UINT32_MAX;
 
-static uint32_t put(struct world *world, const struct call *call) {
-    struct sandbox *caller = &world->sandboxes[call->caller];
-    uint32_t length = call->a1;
-    if (length == 0)
-        return 0;
-    const uint8_t *bytes = own_bytes(world, call->caller, call->a0, length);
-    if (bytes == NULL || length > CALL_BYTES_MOST || length > OUTPUT_MOST - caller->output_length)
-        return FAILED;
-    memcpy(caller->output + caller->output_length, bytes, length);
-    caller->output_length += length;
-    return length;
+static uint32_t least(uint32_t a, uint32_t b) {
+    return a < b ? a : b;
 }
 
-static uint32_t get(struct world *world, const struct call *call) {
+/* put and get move CALL_BYTES_MOST bytes at a time: the call is made again for the rest, and an interrupt can
+   come before it. Only a call that is over writes a0. */
+static enum outcome moved(struct sandbox *caller, struct call *call, uint32_t piece, uint32_t length) {
+    caller->moved += piece;
+    if (caller->moved < length)
+        return GOES_ON;
+    caller->moved = 0;
+    call->a0 = length;
+    return REPLIED;
+}
+
+static enum outcome fails(struct call *call) {
+    call->a0 = FAILED;
+    return REPLIED;
+}
+
+static enum outcome put(struct world *world, struct call *call) {
     struct sandbox *caller = &world->sandboxes[call->caller];
-    uint32_t length = call->a1, left = world->arguments->input_length - caller->input_read;
+    uint32_t length = call->a1, left = length - caller->moved, piece = least(left, CALL_BYTES_MOST);
     if (length == 0)
-        return 0;
-    uint8_t *bytes = own_bytes(world, call->caller, call->a0, length);
-    if (bytes == NULL || length > CALL_BYTES_MOST)
-        return FAILED;
-    if (length > left)
-        length = left;
-    memcpy(bytes, world->input + caller->input_read, length);
-    caller->input_read += length;
-    return length;
+        return moved(caller, call, 0, 0);
+    const uint8_t *bytes = own_bytes(world, call->caller, call->a0, length);
+    if (bytes == NULL || length > PUT_MOST || left > OUTPUT_MOST - caller->output_length)
+        return fails(call);
+    memcpy(caller->output + caller->output_length, bytes + caller->moved, piece);
+    caller->output_length += piece;
+    return moved(caller, call, piece, length);
+}
+
+static enum outcome get(struct world *world, struct call *call) {
+    struct sandbox *caller = &world->sandboxes[call->caller];
+    uint32_t input = world->arguments->input_length - caller->input_read + caller->moved;
+    uint32_t length = least(call->a1, input), piece = least(length - caller->moved, CALL_BYTES_MOST);
+    if (call->a1 == 0)
+        return moved(caller, call, 0, 0);
+    uint8_t *bytes = own_bytes(world, call->caller, call->a0, call->a1);
+    if (bytes == NULL || call->a1 > PUT_MOST)
+        return fails(call);
+    memcpy(bytes + caller->moved, world->input + caller->input_read, piece);
+    caller->input_read += piece;
+    return moved(caller, call, piece, length);
 }
 
 static uint32_t post(struct world *world, const struct call *call) {
@@ -57,8 +76,8 @@ static void take(struct sandbox *caller, struct call *call) {
 enum outcome serve(struct world *world, struct call *call) {
     switch ((enum service)call->service) {
     case EXIT: return LEFT;
-    case PUT: call->a0 = put(world, call); break;
-    case GET: call->a0 = get(world, call); break;
+    case PUT: return put(world, call);
+    case GET: return get(world, call);
     case YIELD: return YIELDED;
     case POST: call->a0 = post(world, call); break;
     case TAKE: take(&world->sandboxes[call->caller], call); break;

@@ -1,6 +1,8 @@
 # The way into a sandbox and back. A sandbox may leave anything in its registers, so the host finds
 # its own by SCRATCH, which no accepted code can write: it holds the frame while a sandbox runs,
-# and 0 while the host does.
+# and 0 while the host does. A trap or interrupt of the host goes on to trap_of_host, with each register as it
+# was: a kernel has its own in the place of the one below. `enter` is called with interrupts off, and comes back
+# so, on whatever stack.
 #include "machine.h"
 
         .macro  each_register operation # of a sandbox, but a0, which holds the frame
@@ -39,7 +41,7 @@ enter_end:
         .balign 4
 trapped:
         csrrw   a0, SCRATCH, a0
-        beqz    a0, fault_of_host
+        beqz    a0, not_of_sandbox
         each_register sw
 count_after:
         csrr    t0, RETIRED
@@ -53,7 +55,12 @@ count_after:
         addi    sp, sp, 64
         csrr    a0, CAUSE
         ret
-fault_of_host:
+not_of_sandbox:
+        csrrw   a0, SCRATCH, zero
+        j       trap_of_host
+
+        .weak   trap_of_host
+trap_of_host:
         csrr    a0, CAUSE
         csrr    a1, EXCEPTION_PC
         la      sp, stack_top

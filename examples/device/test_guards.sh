@@ -62,18 +62,20 @@ try_far() { # how many sandboxes an image may have
 
 # ---- Hosts with an edit, which the tests or the host itself have to see
 
+edited=$room/examples/device
 edit_host() { # a file of examples/device, and what sed does to it
-    rm -rf "$room/edited" "$room/edited_out"
-    mkdir "$room/edited"
-    (cd "$shared" && cp -r ./*.[chS] ./*.sh ./*.mk ./*.ld Makefile mcu "$room/edited")
-    sed -i "$2" "$room/edited/$1"
-    ! cmp -s "$shared/$1" "$room/edited/$1" ||
+    rm -rf "$edited" "$room/edited_out"
+    mkdir -p "$edited"
+    ln -sfn "$(realpath "$shared/../../crates")" "$room/crates"
+    (cd "$shared" && cp -r ./*.[chS] ./*.sh ./*.mk ./*.ld Makefile mcu "$edited")
+    sed -i "$2" "$edited/$1"
+    ! cmp -s "$shared/$1" "$edited/$1" ||
         report "$chip: sed on $1: $2" "a changed file" "the same"
 }
 
 # The lines of the edited host, of the image $room/image.hex.
 on_edited_host() { # words of run.sh
-    (cd "$room/edited/$own" && by=(--unchecked) &&
+    (cd "$edited/$own" && by=(--unchecked) &&
         OUT=$room/edited_out run --rounds 3 --steps "$@" <"$room/image.hex") | without_steps
 }
 

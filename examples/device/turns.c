@@ -21,8 +21,7 @@ static bool goes_on(struct world *world, uint32_t number, uint32_t cause) {
     return false;
 }
 
-/* Runs a sandbox until its turn ends: by the timer, a yield, an exit or a trap. */
-static void take_turn(struct world *world, uint32_t number) {
+void turn(struct world *world, uint32_t number) {
     struct sandbox *sandbox = &world->sandboxes[number];
     uint32_t cause;
     interrupt_after(world->arguments->turn_ticks);
@@ -30,6 +29,8 @@ static void take_turn(struct world *world, uint32_t number) {
         cause = enter(&sandbox->frame);
         uint32_t retired = sandbox->frame.retired_after - sandbox->frame.retired_before;
         sandbox->steps += retired - switch_instructions;
+        if (has_run)
+            has_run(&sandbox->frame);
     } while (goes_on(world, number, cause));
 }
 
@@ -38,7 +39,7 @@ static bool run_round(struct world *world) {
     bool any = false;
     for (uint32_t number = 0; number < world->count; number++)
         if (world->sandboxes[number].state == READY) {
-            take_turn(world, number);
+            turn(world, number);
             any = true;
         }
     return any;

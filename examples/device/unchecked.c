@@ -6,8 +6,9 @@ struct reader {
     const uint8_t *at, *end;
 };
 
-void check_image(const uint8_t *image, uint32_t length) {
-    (void)image, (void)length;
+uint32_t check_image(const uint8_t *image, uint32_t length, struct sfi_verdict *verdict) {
+    (void)image, (void)length, (void)verdict;
+    return SFI_ACCEPTED;
 }
 
 static const uint8_t *take(struct reader *reader, uint32_t length) {

@@ -1,77 +1,14 @@
-/* Runs the sandboxes of an accepted image on a chip without paging, beside this host in M-mode. Their
-   code lies in flash, at the places that `sfi build --at` gave it. It trusts the checker:
-   docs/DEVICE.md says for what. */
+/* Runs the sandboxes of an accepted image on a chip without paging, beside this host in M-mode. It trusts
+   the checker: docs/DEVICE.md says for what. A vendor's own main has other files in the place of this one
+   (MAIN of Makefile). */
 #include "../host.h"
-
-enum { ENTRIES_EACH = 3 };
-_Static_assert(ENTRIES_EACH * SANDBOXES_MOST <= PMP_ENTRIES, "chip.h");
 
 static struct world world;
 
+void between_pieces(void) {}
+
 void judge(void) {
     read_image(&world, FLASH_ARGUMENTS, FLASH_IMAGE, FLASH_INPUT);
-}
-
-/* The guard zone below CHIP_RAM is nobody's: chip.h sees to that. */
-static bool data_is_free(const struct part *part) {
-    return part->data_base >= CHIP_RAM && part->data_size <= HOST_RAM - CHIP_RAM &&
-           part->data_base - CHIP_RAM <= HOST_RAM - CHIP_RAM - part->data_size &&
-           HOST_RAM - part->data_base - part->data_size >= GUARD_ZONE;
-}
-
-/* Sandboxes run the bytes that flash has, and the image's are those that were checked. */
-static bool code_is_in_place(const struct part *part) {
-    const uint8_t *placed = (const uint8_t *)part->code_base;
-    if (part->code_base < FLASH_CODE || part->code_size > FLASH_ARGUMENTS - FLASH_CODE ||
-        part->code_base > FLASH_ARGUMENTS - part->code_size)
-        return false;
-    for (uint32_t k = 0; k < part->code_size; k++)
-        if (placed[k] != part->code[k])
-            return false;
-    return true;
-}
-
-/* Locked entries hold in M-mode, where host and sandboxes run, and the first entry that fits decides:
-   the data region is open, and the rest from the first address of the lower guard zone to the last of
-   the upper one is closed. */
-static void close_guards(uint32_t number, const struct part *part) {
-    uint32_t entry = ENTRIES_EACH * number, data_end = part->data_base + part->data_size;
-    protect(entry, power_of_two(part->data_base, part->data_size),
-            PMP_LOCKED | PMP_NAPOT | PMP_R | PMP_W);
-    protect(entry + 1, part->data_base - GUARD_ZONE, PMP_LOCKED | PMP_OFF);
-    protect(entry + 2, data_end + GUARD_ZONE, PMP_LOCKED | PMP_TOR);
-}
-
-static void place(uint32_t number, const struct part *part) {
-    if (!data_is_free(part))
-        refuse_sandbox(number, "there is no memory for its data and guard zones");
-    if (!code_is_in_place(part))
-        refuse_sandbox(number, "its code isn't in the flash");
-    memset((uint8_t *)part->data_base, 0, part->data_size);
-    memcpy((uint8_t *)part->data_base, part->first, part->first_count);
-    close_guards(number, part);
-}
-
-static uint64_t now(void) {
-    const volatile uint32_t *time = (const volatile uint32_t *)TIME;
-    uint32_t low, high;
-    do {
-        high = time[1];
-        low = time[0];
-    } while (high != time[1]);
-    return (uint64_t)high << 32 | low;
-}
-
-/* The lower half first becomes its largest, so that no time between the old and the new one is set. */
-void interrupt_after(uint32_t ticks) {
-    volatile uint32_t *due = (volatile uint32_t *)TIMER_DUE;
-    uint64_t time = now() + ticks;
-    due[0] = UINT32_MAX;
-    due[1] = (uint32_t)(time >> 32);
-    due[0] = (uint32_t)time;
-#ifdef TIMER_STATE
-    *(volatile uint32_t *)TIMER_STATE = 1;
-#endif
 }
 
 void run_host(void) {

@@ -191,6 +191,13 @@ try_chip() {
     local code_at=$flash_code data_at=$chip_ram
     on=(--chip "$chip")
     try_sources
+    case $chip in
+    virt | spike) # only the serial line is another than sifive_u's
+        try_output
+        [ "$chip" = spike ] || try_attack
+        return
+        ;;
+    esac
     try_accesses 1 a0 "${accesses[@]}"
     # Each of them in the other sandbox, too
     [ "$sandboxes_most" != 2 ] || try_accesses 1 a0 "${accesses[@]:1}" "${accesses[0]}"

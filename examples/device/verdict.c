@@ -1,0 +1,41 @@
+/* What the checker says of an image, in the words of `sfi check`. */
+#include "host.h"
+
+static const char *name_of_fault(uint32_t fault) {
+    static const char *const names[] = {
+        "none", "Magic", "Count", "Short", "Code", "Data", "GuardRoom", "Start", "Gates", "Init",
+        "Overlap", "Trailing"
+    };
+    return fault <= SFI_FAULT_TRAILING ? names[fault] : "unknown";
+}
+
+static void print_finding(const struct sfi_finding *finding) {
+    print("V");
+    print_decimal(finding->rule);
+    print(" sandbox=");
+    print_decimal(finding->sandbox);
+    print(" at=");
+    print_hex(finding->address, 8);
+}
+
+void print_verdict(uint32_t status, const struct sfi_verdict *verdict) {
+    switch (status) {
+    case SFI_ACCEPTED:
+        print("accepted");
+        break;
+    case SFI_REFUSED:
+        print("refused findings=");
+        print_decimal(verdict->findings);
+        print(" first=");
+        print_finding(&verdict->first);
+        break;
+    case SFI_NO_IMAGE:
+        print("layout fault ");
+        print_decimal(verdict->layout_fault);
+        print(" ");
+        print(name_of_fault(verdict->layout_fault));
+        break;
+    default:
+        print("the checker stopped");
+    }
+}
