@@ -222,4 +222,18 @@ try_chip() {
 while read -r chip _; do
     try_chip
 done <chips/table
+
+# ---- Plug-ins that come and go
+
+try_slots() {
+    if [ "${by[0]}" = --unchecked ]; then
+        skip 1 "the host with slots" "there is no checker to judge its updates"
+        return
+    fi
+    CHECKER=${by[1]} "$shared/../../tools/unit_tests.py" "$shared/slots" >"$room/slots"
+    add_counts "$(tail -n 1 "$room/slots")" || failed=$((failed + 1))
+    sed '$d; /^\.*$/d' "$room/slots"
+}
+
+try_slots
 finish

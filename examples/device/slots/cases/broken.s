@@ -1,0 +1,3 @@
+# Traps before it reports.
+.sandbox 4096
+        ebreak

@@ -1,0 +1,138 @@
+"""The host with slots on QEMU, and images for it."""
+import os
+import pathlib
+import queue
+import shutil
+import subprocess
+import sys
+import threading
+import time
+
+HERE = pathlib.Path(__file__).resolve().parent
+TOP = HERE.parents[2]
+SFI = os.environ.get("SFI", str(TOP / "crates" / "sfi" / "out" / "sfi"))
+CHECKER = os.environ.get("CHECKER", str(HERE.parent / "out" / "checker.o"))
+FORMATS = ("1", "2", "words")
+CHIPS = {"virt": "virt", "sifive_u": "sifive_u", "spike": "spike"}  # those of chips/ whose memory holds code
+PIECE = 256
+SLOTS = 4
+
+
+def place_of(slot):
+    """Where the code and the data of a slot's plug-in are: the data's place is the slot's, the code's is chosen."""
+    return 0x80110000 + 0x10000 * slot, 0x80401000 + 0x3000 * slot
+
+
+def sfi(*words, text=b"", status=0):
+    done = subprocess.run([SFI, *words], input=text, stdout=subprocess.PIPE, check=False)
+    if status is not None and done.returncode != status:
+        raise RuntimeError(f"sfi {' '.join(words)} ended in {done.returncode}: {done.stdout[:200]!r}")
+    return done.stdout.decode()
+
+
+def in_format(text, image_format):
+    return f".format {image_format}\n{text}".encode()
+
+
+def image_of(text, image_format, *places):
+    """The image of a source text, each of its sandboxes at the next of the places."""
+    at = [word for code, data in places for word in ("--at", f"{code:x}:{data:x}")]
+    return bytes.fromhex(sfi("build", *at, text=in_format(text, image_format)))
+
+
+def names_of(text, image_format, place):
+    """The addresses of a source text's names."""
+    lines = sfi("map", "--at", f"{place[0]:x}:{place[1]:x}", text=in_format(text, image_format)).splitlines()
+    return {line.split()[2]: int(line.rsplit("=", 1)[1], 16) for line in lines}
+
+
+def verdict_of(image):
+    """The line of `sfi check`."""
+    line = sfi("check", "--raw", text=image, status=None).strip()
+    return "accepted" if line.startswith("accepted") else line
+
+
+class Device:
+    """A chip that runs the host. Each command is answered by a line; others tell of slots that are rolled back."""
+
+    def __init__(self, out, chip="virt", checker=CHECKER, edit=()):
+        made = subprocess.run(["make", "-s", "-C", str(HERE), f"CHIP={chip}", f"OUT={out}", f"CHECKER={checker}",
+                               *edit], stdout=subprocess.PIPE, stderr=subprocess.STDOUT, check=False)
+        if made.returncode:
+            raise RuntimeError(made.stdout.decode())
+        command = ["qemu-system-riscv32", "-M", CHIPS[chip], "-bios", "none", "-display", "none", "-monitor", "none",
+                   "-serial", "stdio", "-kernel", f"{out}/{'checked' if checker else 'unchecked'}"]
+        self.qemu = subprocess.Popen(command, stdin=subprocess.PIPE, stdout=subprocess.PIPE, bufsize=0)
+        self.lines = queue.Queue()
+        threading.Thread(target=self.read, daemon=True).start()
+        self.wait_for("slots")
+
+    def read(self):
+        for line in iter(self.qemu.stdout.readline, b""):
+            self.lines.put(line.decode("latin1").rstrip())
+
+    def close(self):
+        self.qemu.kill()
+        self.qemu.wait()
+        self.qemu.stdin.close()
+        self.qemu.stdout.close()
+
+    def next_line(self, seconds=30):
+        """The next line; raises queue.Empty where none comes."""
+        return self.lines.get(timeout=seconds)
+
+    def wait_for(self, text, seconds=30):
+        """The next line that has the text in it; those before it are dropped."""
+        while True:
+            line = self.next_line(seconds)
+            if text in line:
+                return line
+
+    def ask(self, *words):
+        """The answer to a command; lines that tell of a rolled back slot may come before it."""
+        self.qemu.stdin.write(" ".join(str(word) for word in words).encode() + b"\n")
+        while True:
+            line = self.next_line()
+            if ": version=" not in line or not (" no report: " in line or " older version: " in line):
+                return line
+
+    def type(self, line):
+        """The answer to a command whose bytes come one by one."""
+        for byte in line.encode() + b"\n":
+            self.qemu.stdin.write(bytes([byte]))
+            time.sleep(0.1)
+        return self.next_line()
+
+    def update(self, slot, image, piece=PIECE):
+        """The line after the last piece."""
+        line = self.ask("update", f"{slot:x}", f"{len(image):x}")
+        for start in range(0, len(image), piece):
+            if not line.startswith("awaits="):
+                return line
+            line = self.ask("piece", image[start:start + piece].hex())
+        return line
+
+    def stopped(self, slot):
+        """The slot's line, once its plug-in isn't ready."""
+        while True:
+            line = self.ask("show", slot)
+            if " ready " not in line:
+                return line
+
+    def call(self, slot, pc, first=0, second=0):
+        answer = self.ask("call", slot, f"{pc:x}", f"{first:x}", f"{second:x}")
+        return answer if answer == "no" else self.stopped(slot)
+
+
+def missing():
+    """What of the tools isn't there, or None."""
+    for command in ("qemu-system-riscv32", "riscv64-unknown-elf-gcc", "make"):
+        if not shutil.which(command):
+            return f"{command} isn't there"
+    if not os.access(SFI, os.X_OK):
+        return f"{SFI} isn't built"
+    return None if os.path.exists(CHECKER) else f"{CHECKER} isn't there"
+
+
+if __name__ == "__main__":
+    sys.exit("device.py holds what test_slots.py uses")

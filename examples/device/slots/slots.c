@@ -1,0 +1,174 @@
+/* Four slots. Each keeps two versions of its plug-in: an update takes the place of the one that isn't
+   current. A new version runs on trial: where it stops or uses up its turns before it has reported, the one
+   before it is started again. */
+#include "slots.h"
+
+static const struct arguments arguments = {.turn_ticks = TURN_TICKS / 100};
+struct world world;
+struct slot slots[SLOTS];
+
+_Static_assert(SLOTS <= SANDBOXES_MOST, "chip.h");
+_Static_assert(CHECKER_RAM >= HOST_RAM, "chip.h: the checker's memory is where sandboxes' data are");
+_Static_assert(FLASH_IMAGE + SLOTS * VERSIONS * IMAGE_MOST <= FLASH_INPUT, "chip.h");
+
+/* ---- The watchdog: a vendor stores to it here. QEMU's chips have none: how long it wasn't fed is counted */
+
+uint32_t longest_unfed;
+
+static uint32_t retired(void) {
+    uint32_t count;
+    __asm__ volatile("csrr %0, minstret" : "=r"(count));
+    return count;
+}
+
+void feed_watchdog(void) {
+    static uint32_t fed_at;
+    uint32_t unfed = retired() - fed_at;
+    if (fed_at != 0 && unfed > longest_unfed)
+        longest_unfed = unfed;
+    fed_at = retired();
+}
+
+/* ---- Places */
+
+static uint32_t data_at(uint32_t number) {
+    return CHIP_RAM + number * (SLOT_DATA + 2 * GUARD_ZONE);
+}
+
+static uint8_t *bytes_of(uint32_t number, uint32_t version) {
+    return (uint8_t *)(FLASH_IMAGE + (number * VERSIONS + version) * IMAGE_MOST);
+}
+
+static uint32_t next_of(const struct slot *slot) {
+    return (slot->current + 1) % VERSIONS;
+}
+
+uint8_t *update_memory(uint32_t number) {
+    return bytes_of(number, next_of(&slots[number]));
+}
+
+void drop_next(uint32_t number) {
+    slots[number].versions[next_of(&slots[number])].number = 0;
+}
+
+static bool is_its_place(uint32_t number, const struct part *part) {
+    return part->code_base >= FLASH_CODE && part->code_size <= FLASH_ARGUMENTS - FLASH_CODE &&
+           part->code_base <= FLASH_ARGUMENTS - part->code_size && part->data_base == data_at(number) &&
+           part->data_size == SLOT_DATA;
+}
+
+/* From each version that any other slot keeps, since it may be started again. */
+static bool is_apart(uint32_t number, const struct part *part) {
+    for (uint32_t k = 0; k < SLOTS * VERSIONS; k++) {
+        const struct version *kept = &slots[k / VERSIONS].versions[k % VERSIONS];
+        if (k / VERSIONS != number && kept->number != 0 && !are_apart(part, &kept->part))
+            return false;
+    }
+    return true;
+}
+
+/* The locked entries hold until the next reset, so each slot's data have one place. */
+void start_slots(void) {
+    world.arguments = &arguments;
+    world.count = SLOTS;
+    for (uint32_t number = 0; number < SLOTS; number++) {
+        struct part *part = &world.sandboxes[number].part;
+        *part = (struct part){.data_base = data_at(number), .data_size = SLOT_DATA};
+        world.sandboxes[number].state = EXITED;
+        close_guards(number, part);
+    }
+    write_protection();
+    test_guards(&world);
+}
+
+/* ---- Starting and stopping */
+
+static void place_code(const struct part *part) {
+    uint8_t *place = (uint8_t *)CODE_AS_DATA(part->code_base);
+    for (uint32_t done = 0; done < part->code_size; done += PLACED_AT_ONCE) {
+        uint32_t left = part->code_size - done;
+        memcpy(place + done, part->code + done, left < PLACED_AT_ONCE ? left : PLACED_AT_ONCE);
+        between_pieces();
+    }
+    __asm__ volatile("fence.i");
+}
+
+bool start_slot(uint32_t number) {
+    static const uint32_t none[ENTRY_ARGUMENTS];
+    struct sandbox *sandbox = &world.sandboxes[number];
+    const struct version *version = &slots[number].versions[slots[number].current];
+    if (version->number == 0)
+        return false;
+    memset(sandbox, 0, sizeof *sandbox);
+    sandbox->state = EXITED; /* has no turn until all of it is placed */
+    place_code(&version->part);
+    sandbox->part = version->part;
+    memset((uint8_t *)data_at(number), 0, SLOT_DATA);
+    memcpy((uint8_t *)data_at(number), version->part.first, version->part.first_count);
+    return enter_again(sandbox, version->part.start, none);
+}
+
+bool kill_slot(uint32_t number) {
+    struct sandbox *sandbox = &world.sandboxes[number];
+    if (sandbox->state != READY)
+        return false;
+    sandbox->state = TRAPPED;
+    sandbox->trap = "Killed";
+    sandbox->trap_address = sandbox->frame.pc;
+    return true;
+}
+
+static void roll_back(uint32_t number) {
+    struct slot *slot = &slots[number];
+    kill_slot(number);
+    print_slot(number, "no report");
+    slot->trial_turns = 0;
+    slot->versions[slot->current].number = 0;
+    slot->current = next_of(slot);
+    if (start_slot(number))
+        print_slot(number, "older version");
+}
+
+static void run_slot(uint32_t number) {
+    struct slot *slot = &slots[number];
+    bool is_ready = world.sandboxes[number].state == READY;
+    if (is_ready)
+        turn(&world, number);
+    if (slot->trial_turns > 0 && (world.sandboxes[number].state != READY || --slot->trial_turns == 0))
+        roll_back(number);
+}
+
+void run_slots(void) {
+    for (uint32_t number = 0; number < SLOTS; number++)
+        run_slot(number);
+}
+
+/* ---- Updates */
+
+/* While an image is judged or placed. The slot that it is for goes on with its current version. */
+void between_pieces(void) {
+    feed_watchdog();
+    run_slots();
+}
+
+enum update update_slot(uint32_t number, uint32_t length, uint32_t *status, struct sfi_verdict *verdict) {
+    struct slot *slot = &slots[number];
+    const uint8_t *image = update_memory(number);
+    struct version *next = &slot->versions[next_of(slot)];
+    struct part further;
+    *status = check_image(image, length, verdict);
+    if (*status != SFI_ACCEPTED)
+        return NOT_ACCEPTED;
+    if (!tell_part(image, length, 0, &next->part) || tell_part(image, length, 1, &further))
+        return NOT_ONE_PLUGIN;
+    if (!is_its_place(number, &next->part))
+        return NOT_ITS_PLACE;
+    if (!is_apart(number, &next->part))
+        return NOT_APART;
+    kill_slot(number);
+    next->number = ++slot->updates;
+    slot->current = next_of(slot);
+    start_slot(number);
+    slot->trial_turns = TRIAL_TURNS;
+    return STARTED;
+}

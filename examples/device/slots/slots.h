@@ -1,0 +1,56 @@
+/* Plug-ins, each from an image of its own, that come and go while their neighbours run. */
+#ifndef SLOTS_H
+#define SLOTS_H
+
+#include "../host.h"
+
+enum {
+    SLOTS = 4,
+    VERSIONS = 2,               /* that a slot keeps: the one in its place, and the one before it or to come */
+    IMAGE_MOST = 1 << 17,       /* bytes of an image */
+    SLOT_DATA = 4096,           /* bytes of a plug-in's data region */
+    TRIAL_TURNS = 50,           /* in which a new version has to report */
+    PLACED_AT_ONCE = 4096       /* bytes of code that are copied before the neighbours have a turn */
+};
+
+/* apart.c: no region and no guard zone of one of them meets one of the other */
+bool are_apart(const struct part *one, const struct part *other);
+
+struct version {
+    uint32_t number;            /* counted from 1 in each slot; 0 where there is none that can be started */
+    struct part part;
+};
+
+struct slot {
+    struct version versions[VERSIONS];
+    uint32_t current;           /* the version in its place */
+    uint32_t updates;           /* how many were accepted */
+    uint32_t trial_turns;       /* in which the current version has to report; 0 where it has */
+};
+
+/* What came of an update: the image's bytes are in the slot's memory for it. */
+enum update {
+    STARTED,            /* it is on trial */
+    NOT_ACCEPTED,       /* the verdict says why */
+    NOT_ONE_PLUGIN,     /* it has more than one sandbox */
+    NOT_ITS_PLACE,      /* its code isn't where plug-ins' code is, or its data aren't the slot's */
+    NOT_APART           /* it meets a version that another slot keeps */
+};
+
+/* slots.c */
+extern struct world world;      /* sandbox N is that of slot N */
+extern struct slot slots[SLOTS];
+void start_slots(void);         /* closes the guard zones of all of them */
+void run_slots(void);           /* one turn for each plug-in that is ready */
+uint8_t *update_memory(uint32_t number);                /* IMAGE_MOST bytes, for the slot's next update */
+void drop_next(uint32_t number);                        /* before these are written */
+enum update update_slot(uint32_t number, uint32_t length, uint32_t *status, struct sfi_verdict *verdict);
+bool start_slot(uint32_t number);                       /* the current version from its start, with new data */
+bool kill_slot(uint32_t number);                        /* false where it isn't ready */
+void feed_watchdog(void);
+extern uint32_t longest_unfed;                          /* instructions between two feeds */
+
+/* shell.c */
+void print_slot(uint32_t number, const char *what);     /* a line */
+
+#endif
