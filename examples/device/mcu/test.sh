@@ -262,4 +262,6 @@ try_kernel() {
 }
 
 try_kernel
+succeeds "the same programs in U-mode" make -s -C "$programs" &&
+    succeeds "the same programs in U-mode" ../umode/compare.py "$SFI"
 finish
