@@ -54,14 +54,13 @@ def verdict_of(image):
 class Device:
     """A chip that runs the host. Each command is answered by a line; others tell of slots that are rolled back."""
 
-    def __init__(self, out, chip="virt", words=()):
-        """`words` are further ones for QEMU."""
+    def __init__(self, out, chip="virt"):
         made = subprocess.run(["make", "-s", "-C", str(HERE), f"CHIP={chip}", f"OUT={out}", f"CHECKER={CHECKER}"],
                               stdout=subprocess.PIPE, stderr=subprocess.STDOUT, check=False)
         if made.returncode:
             raise RuntimeError(made.stdout.decode())
         command = ["qemu-system-riscv32", "-M", CHIPS[chip], "-bios", "none", "-display", "none", "-monitor", "none",
-                   "-serial", "stdio", "-kernel", f"{out}/checked", *words]
+                   "-serial", "stdio", "-kernel", f"{out}/checked"]
         self.qemu = subprocess.Popen(command, stdin=subprocess.PIPE, stdout=subprocess.PIPE, bufsize=0)
         self.lines = queue.Queue()
         threading.Thread(target=self.read, daemon=True).start()

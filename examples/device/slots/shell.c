@@ -6,7 +6,7 @@
        call SLOT PC A0 A1      a function of a plug-in that has stopped; its data stay
        show SLOT
        sums                    of what no plug-in may change: the host, code in its place, each slot's data
-       watchdog                the most instructions for which it wasn't fed
+       watchdog                how often it was fed between pieces, and the most instructions between two feeds
        end
    and is answered by a line. Between two lines each plug-in that is ready has a turn. */
 #include "slots.h"
@@ -187,6 +187,12 @@ static void print_sums(void) {
     print("\n");
 }
 
+static void print_watchdog(void) {
+    item("between-pieces=", fed_between_pieces);
+    item(" longest=", longest_unfed);
+    print("\n");
+}
+
 static void obey(void) {
     uint32_t number = 0;
     at = line;
@@ -206,7 +212,7 @@ static void obey(void) {
     else if (takes("sums"))
         print_sums();
     else if (takes("watchdog"))
-        item("instructions=", longest_unfed), print("\n");
+        print_watchdog();
     else if (takes("end"))
         finish();
     else

@@ -13,7 +13,7 @@ _Static_assert(FLASH_IMAGE + SLOTS * VERSIONS * IMAGE_MOST <= FLASH_INPUT, "chip
 
 /* ---- The watchdog: a vendor stores to it here. QEMU's chips have none: how long it wasn't fed is counted */
 
-uint32_t longest_unfed;
+uint32_t longest_unfed, fed_between_pieces;
 
 static uint32_t retired(void) {
     uint32_t count;
@@ -148,6 +148,7 @@ void run_slots(void) {
 /* While an image is judged or placed. The slot that it is for goes on with its current version. */
 void between_pieces(void) {
     feed_watchdog();
+    fed_between_pieces++;
     run_slots();
 }
 

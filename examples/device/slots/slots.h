@@ -49,6 +49,7 @@ bool start_slot(uint32_t number);                       /* the current version f
 bool kill_slot(uint32_t number);                        /* false where it isn't ready */
 void feed_watchdog(void);
 extern uint32_t longest_unfed;                          /* instructions between two feeds */
+extern uint32_t fed_between_pieces;                     /* how often, of images that were judged or placed */
 
 /* shell.c */
 void print_slot(uint32_t number, const char *what);     /* a line */

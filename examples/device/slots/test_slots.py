@@ -28,13 +28,12 @@ def tearDownModule():
 
 class OnDevice(unittest.TestCase):
     chip = "virt"
-    words = ()
 
     def setUp(self):
         why = device.missing()
         if why:
             self.skipTest(why)
-        self.device = Device(os.path.join(ROOM.name, self.chip), self.chip, self.words)
+        self.device = Device(os.path.join(ROOM.name, self.chip), self.chip)
         self.addCleanup(self.device.close)
 
     def start(self, slot, text, image_format, state):
@@ -123,6 +122,21 @@ class Slots(OnDevice):
         text = ".sandbox 2048\n ebreak\n"
         self.assertEqual(self.device.update(1, image_of(text, "1", (code, data))), "slot=1 stays: not the slot's place")
 
+    def test_watchdog(self):
+        """It is fed after each 4096 bytes that are judged or placed, and the neighbour runs meanwhile."""
+        text = ".sandbox 4096\n" + " addi sp, sp, 16\n" * 0x400
+        image = image_of(text, "2", (0x80120000, place_of(1)[1]))
+        self.assertEqual(len(image), 36 + 0x4000)
+        self.start(0, NEIGHBOUR, "2", "ready")
+        fed = self.pieces()
+        before = self.put_of(0)
+        self.assertRegex(self.device.update(1, image), "^slot=1 started")
+        self.assertEqual(self.pieces() - fed, 5 + 4)
+        self.assertGreater(self.put_of(0), before)
+
+    def pieces(self):
+        return int(re.search(r"between-pieces=(\d+) ", self.device.ask("watchdog"))[1])
+
     def test_apart(self):
         program = os.path.join(ROOM.name, "apart")
         subprocess.run([os.environ.get("CC", "cc"), "-std=c11", "-DMICROCONTROLLER", f"-I{HERE.parent}/mcu/chips/virt",
@@ -132,24 +146,9 @@ class Slots(OnDevice):
         self.assertEqual((done.returncode, done.stdout), (0, b""))
 
 
-class Watchdog(OnDevice):
-    words = ("-icount", "shift=0")  # else QEMU's count of instructions is that of its own machine
-
-    def test_watchdog(self):
-        """It is fed during the verdict on 64 KiB, and the neighbour runs meanwhile."""
-        self.start(0, NEIGHBOUR, "2", "ready")
-        before = self.put_of(0)
-        text = ".sandbox 4096\n" + " addi sp, sp, 16\n" * 0x1000
-        line = self.device.update(1, image_of(text, "2", (0x80120000, place_of(1)[1])))
-        self.assertRegex(line, "^slot=1 started")
-        self.assertGreater(self.put_of(0), before)
-        unfed = int(self.device.ask("watchdog").split("=")[1])
-        self.assertLess(unfed, 20_000_000)
-
-
 class OnSifive(Slots):
     chip = "sifive_u"
-    test_older_version = test_updates_on_trial = test_places = test_apart = None
+    test_older_version = test_updates_on_trial = test_places = test_watchdog = test_apart = None
 
 
 class OnSpike(OnDevice):
