@@ -7,6 +7,8 @@
 #
 #     --chip NAME      one of chips/table; sifive_e, a model of the FE310, if absent
 #     --turn TICKS     how long a turn may be, in ticks of the clock; if absent, as chip.h says
+#
+# In the environment, MAIN names files of C and assembly in the place of main.c, from this folder on.
 set -euo pipefail
 here=$(cd "$(dirname "${BASH_SOURCE[0]}")" && pwd)
 top=$here/../../..

@@ -167,7 +167,8 @@ HOSTILE_WORDS = {
     "sret": 0x10200073, "wfi": 0x10500073, "ecall": 0x00000073, "fence.i": 0x0000100f, "csrr a0, mepc": 0x34102573,
     "li x24, 0": 0x00000c13, "li x25, -1": 0xfff00c93, "lui x26, 0x80400": 0x80400d37, "li x27, -1": 0xfff00d93,
     "jalr x0, 0(a0)": 0x00050067, "sw a0, 0(a1)": 0x00a5a023, "lw a0, 0(a1)": 0x0005a503, "jal 1 MiB back": 0x8000006f,
-    "amoadd.w": 0x00a5a52f, "c.jr a0": 0x85028502, "c.sw": 0xc188c188, "pmpcfg0": 0x3a051073, "csrw mie, x0": 0x30401073,
+    "amoadd.w": 0x00a5a52f, "c.jr a0": 0x85028502, "c.sw": 0xc188c188, "pmpcfg0": 0x3a051073,
+    "csrw mie, x0": 0x30401073,
     "lui x2": 0x80400137, "sw to x0": 0x00002023}
 
 # Programs that any build takes, and that try to leave their data and code. HOST, DATA and CODE are addresses.
@@ -282,8 +283,10 @@ class Attacks(OnDevice):
         image = image_of(PLUGIN, "2", place_of(1))
         rows = [["update 1 0"], ["update 1 20001"], ["update 1 ffffffff"], ["update 1 100000000"], ["update 4 100"],
                 ["update ffffffff 100"], ["update 1"], ["update 1 10 10"], ["piece 00"], ["update 1 2", "piece 000000"],
-                ["update 1 2", "piece 0"], ["update 1 2", "piece 0g"], ["update 1 2", "piece"], ["update 1 20", "piece " + "0" * 600],
-                ["piece " + "0" * 9000], ["x" * 530], [""], ["update"], ["call 1 80000000 0 0"], ["call 1 80120001 0 0"],
+                ["update 1 2", "piece 0"], ["update 1 2", "piece 0g"], ["update 1 2", "piece"],
+                ["update 1 20", "piece " + "0" * 600],
+                ["piece " + "0" * 9000], ["x" * 530], [""], ["update"], ["call 1 80000000 0 0"],
+                ["call 1 80120001 0 0"],
                 ["call 1 80130000 0 0"], ["call 0 80110000 0 0"], ["call 9 80110000 0 0"], ["call 1 80120000 0 "],
                 ["kill 1"], ["kill 5"], ["start 7"], ["show 4"], ["show -1"], ["\0"], ["show 0\0"], ["\xff" * 40]]
         for row in rows:
