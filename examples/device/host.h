@@ -30,7 +30,7 @@ struct arguments {
     uint32_t enters, entered, entry_pc, entry_arguments[ENTRY_ARGUMENTS];
 };
 
-enum { A0 = 10, A1 = 11 };      /* registers: arguments of a call, and its answers */
+enum { RA = 1, A0 = 10, A1 = 11 };  /* registers: the return address; arguments of a call, and its answers */
 
 struct gate {
     uint32_t address, service;
@@ -96,7 +96,7 @@ uint32_t little_endian(const uint8_t *bytes);
 /* Has the image judged, and reads it, with what run.sh asks for and the input, from these addresses. */
 void read_image(struct world *world, uint32_t arguments, uint32_t image, uint32_t input);
 /* Makes a sandbox that has stopped ready at pc, the first address of one of its bundles, or words, with
-   arguments in a0 to a7. Its data stay. False, and nothing is changed, where it is ready or pc isn't such. */
+   arguments in a0 to a7, and in ra its first gate of service 0. Its data stay. False, and nothing is changed, where it is ready or pc isn't such. */
 bool enter_again(struct sandbox *sandbox, uint32_t pc, const uint32_t arguments[ENTRY_ARGUMENTS]);
 
 /* paging.c: all of this before there is a page table */

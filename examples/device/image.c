@@ -61,11 +61,20 @@ void read_image(struct world *world, uint32_t arguments, uint32_t image, uint32_
     world->count = read_sandboxes(bytes, world->arguments->image_length, world->sandboxes);
 }
 
+/* The first gate of service 0, exit in a console: what a function returns in a0 then is the code. Or 0. */
+static uint32_t exit_gate(const struct part *part) {
+    for (uint32_t k = 0; k < part->gate_count; k++)
+        if (part->gates[k].service == 0)
+            return part->gates[k].address;
+    return 0;
+}
+
 bool enter_again(struct sandbox *sandbox, uint32_t pc, const uint32_t arguments[ENTRY_ARGUMENTS]) {
     uint32_t offset = pc - sandbox->part.code_base;
     if (sandbox->state == READY || offset >= sandbox->part.code_size || offset % unit_of(&sandbox->part) != 0)
         return false;
     set_registers(sandbox, pc);
+    sandbox->frame.x[RA] = exit_gate(&sandbox->part);
     memcpy(&sandbox->frame.x[A0], arguments, ENTRY_ARGUMENTS * sizeof arguments[0]);
     sandbox->moved = 0;
     sandbox->state = READY;

@@ -7,6 +7,8 @@ try_enter() { # where the code of sandbox 0 is
     at=$(printf %x $((first + 48)))
     report "a sandbox that has stopped is called" "sandbox=0 exit=1239 out=61" \
         "$(run --enter "0:$at:1000,200,30,4,2,1,1,1" <"$room/image.hex")"
+    report "a function is called that returns" "sandbox=0 exit=1239 out=61" \
+        "$(run --enter "0:$(printf %x $((first + 80))):1000,200,30,4,2,1,1,1" <"$room/image.hex")"
     report "it is called, with fewer arguments" "sandbox=0 exit=7 out=61" \
         "$(run --enter "0:$at:7" <"$room/image.hex")"
     local no="device: --enter: there is no such sandbox, or it hasn't stopped,"
