@@ -242,7 +242,7 @@ try_slots
 # The kernel's last line has the slices of its tasks, and how often the one that never yields was preempted.
 kernel() { # words of run.sh; the image is $room/image.hex
     MAIN="../kernel/kernel.c ../kernel/entry.S" OUT=$room/kernel run --rounds 20 "$@" <"$room/image.hex" |
-        awk -F '[=, ]' '/^slices=/ { print $7 > 0 && $2 == $7 ? "preempted" : $0; next } { print }'
+        awk -F '[=, ]' '/^slices=/ { print ($7 > 0 && $2 == $7) ? "preempted" : $0; next } { print }'
 }
 
 try_kernel() {
