@@ -1,0 +1,2 @@
+mod Stops
+mod Spelling

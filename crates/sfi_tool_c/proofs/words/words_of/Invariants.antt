@@ -1,0 +1,9 @@
+use Rattle.std.proofs.Common.{◌≡◌, map, string_bytes, ◌≤◌, take}
+use Rattle.std.specs.List.{flat_map}
+use Rattle.sfi_tool_c.specs.Words.{ended}
+use Rattle.sfi_tool_c.proofs.words.words_of.Given as goal
+
+-- the bytes before the word that is read are the words before it
+abbrev pub invariant-loop-at : goal.invariant-loop-at
+invariant-loop-at l =
+    (l.from ≤ l.at) × (take l.from l.bytes ≡ flat_map ended (map string_bytes l.words.items))

@@ -1,0 +1,107 @@
+//! The call that C makes.
+ghost use Rattle.std.specs.Prelude.{◌≡◌, ◌≤◌, ◌<◌, IfOk, string_bytes};
+ghost use Rattle.sfi_answers.specs.Checking.{check};
+ghost use Rattle.sfi_command.specs.Command.{number_of};
+ghost use Rattle.sfi_tool.specs.Says.{Says, HasInputFault};
+ghost use Rattle.sfi_tool_c.specs.Told.{IsAnswer, TellsAnswer, HasFaultOf};
+
+use crate::output::write_front;
+use crate::words::{WordsFault, words_of};
+use sfi_answers::{Answer, check_answer, stop_answer};
+use sfi_command::{HEX_LINE, Job, JobFault, job_of};
+use sfi_tool::answer;
+use std::alloc::{AllocError, Global};
+
+const NO_TEXT: &str = "error: the words are not UTF-8, or the last one is not ended\n";
+
+/// The verdict on an image's own bytes.
+fn answer_to_raw(alloc: Global, report: bool, input: &[u8]) -> Result<Answer, AllocError>
+    ensures statuses { IfOk result (λ a. a.status ≤ 2) }
+    ensures says { IfOk result (λ a. a.status < 2
+        → (check report).says input.now a.status (string_bytes a.text)) }
+    ensures fault { IfOk result (λ a. a.status ≡ 2 → (check report).has_fault input.now) }
+{
+    match check_answer(alloc, report, input) {
+        Ok(answer) => Ok(answer),
+        Err(stop) => stop_answer(alloc, stop),
+    }
+}
+
+/// What the job answers on what was read.
+fn answer_to(alloc: Global, job: &Job, input: &[u8]) -> Result<Answer, AllocError>
+    ensures statuses { IfOk result (λ a. a.status ≤ 2) }
+    ensures says { IfOk result (λ a. a.status < 2
+        → Says job.now input.now a.status (string_bytes a.text)) }
+    ensures fault { IfOk result (λ a. a.status ≡ 2 → HasInputFault job.now input.now) }
+{
+    match job {
+        Job::Check { raw: true, report } => answer_to_raw(alloc, *report, input),
+        _ => answer(alloc, job, input),
+    }
+}
+
+/// What is answered to words that ask for no job.
+fn answer_to_fault(alloc: Global, fault: JobFault) -> Result<Answer, AllocError>
+    ensures statuses { IfOk result (λ a. (2 ≤ a.status) × (a.status ≤ 3)) }
+    ensures hex { IfOk result (λ a. a.status ≡ 2 → number_of fault ≡ 2) }
+{
+    match fault {
+        JobFault::Usage(text) => Ok(Answer { status: 3, text }),
+        JobFault::Hex => Ok(Answer {
+            status: 2,
+            text: String::from_str(alloc, HEX_LINE)?,
+        }),
+        JobFault::Memory => Err(AllocError),
+    }
+}
+
+/// What the program answers to the words, on what was read.
+fn answer_to_words(alloc: Global, words: &[u8], input: &[u8]) -> Result<Answer, AllocError>
+    ensures statuses { IfOk result (λ a. a.status ≤ 3) }
+    ensures says { IfOk result (λ a. a.status < 2
+        → IsAnswer words.now input.now a.status (string_bytes a.text)) }
+    ensures fault { IfOk result (λ a. a.status ≡ 2 → HasFaultOf words.now input.now) }
+{
+    let words = match words_of(alloc, words) {
+        Ok(words) => words,
+        Err(WordsFault::Memory) => return Err(AllocError),
+        Err(WordsFault::NoWords) => return Ok(Answer {
+            status: 3,
+            text: String::from_str(alloc, NO_TEXT)?,
+        }),
+    };
+    match job_of(alloc, &words) {
+        Ok(job) => answer_to(alloc, &job, input),
+        Err(fault) => answer_to_fault(alloc, fault),
+    }
+}
+
+/// Answers the command that the words ask for, on what it reads: writes the front of the text to the
+/// array, as much as it holds, and the length of the whole text to `length`, and returns the status.
+#[unsafe(no_mangle)]
+pub extern "C" fn sfi_tool_answer(
+    alloc: Global,
+    words: &[u8],
+    input: &[u8],
+    output: &mut [u8],
+    length: &mut usize,
+) -> u32
+    ensures statuses { result ≤ 4 }
+    ensures says { result < 2
+        → TellsAnswer words.now input.now result output.old output.new length.new }
+    ensures fault { result ≡ 2 → HasFaultOf words.now input.now }
+    ensures memory { result ≡ 4 → output.new ≡ output.old }
+    ensures untold { result ≡ 4 → length.new ≡ 0 }
+{
+    match answer_to_words(alloc, words, input) {
+        Ok(answer) => {
+            write_front(answer.text.as_bytes(), output);
+            *length = answer.text.len();
+            answer.status as u32
+        }
+        Err(_) => {
+            *length = 0;
+            4
+        }
+    }
+}

@@ -1,0 +1,51 @@
+//! The words of a command line, as bytes.
+ghost use Rattle.std.specs.Prelude.{◌≡◌, ◌++◌, ◌∷◌, [], OnOk, IfOk, map, string_bytes};
+ghost use Rattle.sfi_tool_c.specs.Words.{SpellsWords};
+ghost use Rattle.sfi_tool_c.specs.declared.words.WordsFault.TheVariants.{Memory};
+
+use std::alloc::{AllocError, Global};
+
+/// Why there are no words.
+#[derive(Clone, Copy, Drop)]
+pub(crate) enum WordsFault {
+    /// A word is not UTF-8, or has no zero byte after it.
+    NoWords,
+    Memory,
+}
+
+impl From<AllocError> for WordsFault {
+    ghost from_gives = { λ _ e. e ≡ Memory };
+
+    fn from(_e: AllocError) -> WordsFault {
+        WordsFault::Memory
+    }
+}
+
+fn push_word(alloc: Global, words: &mut Vec<String>, word: &str) -> Result<(), AllocError>
+    ensures { OnOk result (map string_bytes words.new.items
+        ≡ map string_bytes words.old.items ++ word.now ∷ []) }
+{
+    words.push(String::from_str(alloc, word)?)?;
+    Ok(())
+}
+
+/// The words that the bytes are, each with a zero byte after it.
+pub(crate) fn words_of(alloc: Global, bytes: &[u8]) -> Result<Vec<String>, WordsFault>
+    ensures { IfOk result (λ ws. SpellsWords bytes.now (map string_bytes ws.items)) }
+{
+    let mut words = Vec::new(alloc);
+    let mut from = 0;
+    for at in 0..bytes.len() {
+        if bytes[at] == 0 {
+            let Ok(word) = std::str::from_utf8(&bytes[from..at]) else {
+                return Err(WordsFault::NoWords);
+            };
+            push_word(alloc, &mut words, word)?;
+            from = at + 1;
+        }
+    }
+    if from < bytes.len() {
+        return Err(WordsFault::NoWords);
+    }
+    Ok(words)
+}
