@@ -11,8 +11,6 @@ what is built is missing or older than a source.
 """
 import gzip
 import hashlib
-import importlib.machinery
-import importlib.util
 import io
 import os
 import pathlib
@@ -25,9 +23,12 @@ sys.dont_write_bytecode = True
 sys.path.insert(0, str(TOP / "tools"))
 import installed
 import libraries
+import toolchain
 import version
 
 MACHINE = "x86_64-linux"
+PAGE = [TOP / "page" / it for it in ("made.js", "sfi.wasm", "sfi.wasm.js")]  # what tools/build_page.py makes
+PAGE_CRATES = ["sfi_tool_c", "sfi_run"]
 
 
 def fail(text):
@@ -38,24 +39,17 @@ def git(*words):
     return subprocess.run(["git", "-C", TOP, *words], check=True, capture_output=True, text=True).stdout
 
 
-def wrapper():
-    """The module that ./sfi is."""
-    loader = importlib.machinery.SourceFileLoader("sfi_wrapper", str(TOP / "sfi"))
-    module = importlib.util.module_from_spec(importlib.util.spec_from_loader("sfi_wrapper", loader))
-    loader.exec_module(module)
-    return module
-
-
 def stale():
     """What is built but older than a source, by the files' times."""
-    sfi = wrapper()
-    return [path for path in installed.built() for time in [path.stat().st_mtime]
-            if any(sfi.is_changed(crate, time) for crate in sfi.needed_crates(path.parent.parent.name))]
+    sfi = toolchain.sfi()
+    made_of = {path: [path.parent.parent.name] for path in installed.built()} | {path: PAGE_CRATES for path in PAGE}
+    return [path for path, crates in made_of.items() for time in [path.stat().st_mtime]
+            if any(sfi.is_changed(it, time) for crate in crates for it in sfi.needed_crates(crate))]
 
 
 def built_files():
     """The paths of what is built, from the top on: as rt built it, and as programs are linked with it."""
-    found = [str(path.relative_to(TOP)) for path in installed.built()]
+    found = [str(path.relative_to(TOP)) for path in [*installed.built(), *PAGE]]
     for crate in libraries.HEADERS:
         found += [os.path.relpath(path, TOP) for path in libraries.make(crate)]
     return found
@@ -84,7 +78,7 @@ def packed(name, files, time):
 
 
 def release(folder):
-    missing = [str(it.relative_to(TOP)) for it in installed.built() if not it.is_file()]
+    missing = [str(it.relative_to(TOP)) for it in [*installed.built(), *PAGE] if not it.is_file()]
     if missing:
         fail(f"{' and '.join(missing)} isn't built")
     if git("status", "--porcelain"):

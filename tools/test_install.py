@@ -1,5 +1,5 @@
 """Tests of ./install and tools/release.py: `tools/unit_tests.py tools`. They are skipped where the program or a library
-isn't built, or gcc isn't there."""
+isn't built, or gcc isn't there; those of releases where the page isn't made."""
 import hashlib
 import os
 import pathlib
@@ -11,6 +11,7 @@ import unittest
 
 import installed
 import libraries
+import release
 import version
 from testing import GCC, TOP, Folder, needs
 
@@ -209,6 +210,7 @@ class Removing(Installing):
         self.assertEqual(tree(self.prefix), before)
 
 
+@unittest.skipUnless(all(it.is_file() for it in release.PAGE), "the page isn't made: tools/build_page.py")
 class Scratch(Installing):
     """A scratch repository with the files of this one, and what is built here."""
 
@@ -227,7 +229,7 @@ class Scratch(Installing):
         env = {**os.environ, "GIT_COMMITTER_DATE": "2026-11-25T12:00:00Z"}
         for words in (["init", "-q"], ["add", "-A"], ["-c", "user.name=a", "-c", "user.email=a@b", "commit", "-qm", "all"]):
             self.assertEqual(run("git", "-C", top, *words, env=env).stderr, "")
-        for path in installed.built():
+        for path in [*installed.built(), *release.PAGE]:
             place = top / path.relative_to(TOP)
             place.parent.mkdir(parents=True, exist_ok=True)
             shutil.copy(path, place)

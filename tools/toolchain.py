@@ -1,4 +1,4 @@
-"""The toolchain's own modules, for what its command rt has no words for."""
+"""The toolchain's own modules, for what its command rt has no words for, and the module that ./sfi is."""
 import importlib.machinery
 import importlib.util
 import os
@@ -16,6 +16,14 @@ def module(name, file):
     loader = importlib.machinery.SourceFileLoader(name, path)
     module = importlib.util.module_from_spec(importlib.util.spec_from_loader(name, loader))
     sys.modules[name] = module
+    loader.exec_module(module)
+    return module
+
+
+def sfi():
+    """The module that ./sfi is."""
+    loader = importlib.machinery.SourceFileLoader("sfi_wrapper", os.path.join(TOP, "sfi"))
+    module = importlib.util.module_from_spec(importlib.util.spec_from_loader("sfi_wrapper", loader))
     loader.exec_module(module)
     return module
 
