@@ -118,7 +118,7 @@ function pick(name) {
 }
 
 // A source text, an image's digits, or its bytes.
-async function open(file) {
+async function openFile(file) {
     const bytes = new Uint8Array(await file.arrayBuffer()), isRaw = text8.decode(bytes.subarray(0, 3)) === "SFI";
     $("pick").selectedIndex = -1;
     setText(isRaw ? hexOf(bytes) : text8.decode(bytes));
@@ -133,12 +133,12 @@ function listenToPage() {
     $("ask").onclick = () => $("about").showModal();
     $("pick").onchange = () => { location.hash = $("pick").value; };
     addEventListener("hashchange", () => pick(decodeURIComponent(location.hash.slice(1))));
-    $("file").onchange = () => { if ($("file").files[0]) open($("file").files[0]); $("file").value = ""; };
+    $("file").onchange = () => { if ($("file").files[0]) openFile($("file").files[0]); $("file").value = ""; };
     $("opener").onkeydown = (event) => { if (event.key === "Enter" || event.key === " ") $("file").click(); };
     for (const name of ["dragover", "drop"]) addEventListener(name, (event) => {
         event.preventDefault();
         document.body.classList.toggle("dropping", name === "dragover");
-        if (name === "drop" && event.dataTransfer.files[0]) open(event.dataTransfer.files[0]);
+        if (name === "drop" && event.dataTransfer.files[0]) openFile(event.dataTransfer.files[0]);
     });
     addEventListener("dragleave", () => document.body.classList.remove("dropping"));
     for (const it of document.querySelectorAll("nav button")) it.onclick = () => setTab(it.dataset.tab);

@@ -24,12 +24,12 @@ class World {
         this.log = [];
     }
     close() { this.calls.sfi_run_free(this.world); this.module.free(this.world, this.told, this.cpu); }
-    told_event() {
+    toldEvent() {
         const v = this.module.view, at = Number(this.told);
         return { kind: KINDS[v.getUint32(at, true)], number: v.getUint32(at + 4, true), a0: v.getUint32(at + 8, true), a1: v.getUint32(at + 12, true) };
     }
-    event(i) { this.calls.sfi_run_event(this.world, i, this.told); return this.told_event(); }
-    turn(i, steps) { this.calls.sfi_run_turn(this.world, i, steps, this.told); return this.told_event(); }
+    event(i) { this.calls.sfi_run_event(this.world, i, this.told); return this.toldEvent(); }
+    turn(i, steps) { this.calls.sfi_run_turn(this.world, i, steps, this.told); return this.toldEvent(); }
     steps(i) { return Number(BigInt.asUintN(64, this.calls.sfi_run_steps(this.world, i))); }
     // The pc, and behind it the 32 registers.
     registers(i) {
