@@ -33,8 +33,9 @@ enum sfi_tool_status {
 };
 
 /*
- * Answers the command that the words ask for, on the input that it would read. Each word has a zero byte after it, and the
- * first is the program's name: "sfi\0check\0--report\0", of 20 bytes (without the zero byte that C puts at a literal's end).
+ * Answers the command that the words ask for, on the input that it would read. Each word has a zero byte after it and none
+ * in it, and the first is the program's name: "sfi\0check\0--report\0", of 20 bytes (without the zero byte that C puts at a
+ * literal's end).
  *
  * Writes the front of the answer's text to `output`, as much as its `room` holds, and the length of the whole text to
  * `*length`: where that is more than `room`, call again with so much. Returns the status.

@@ -1,5 +1,5 @@
 -- The words of a command line, as bytes.
-use Rattle.std.specs.Prelude.{◌≡◌, ℕ, List, [], ◌∷◌, ◌++◌}
+use Rattle.std.specs.Prelude.{◌≡◌, ◌≢◌, ℕ, List, [], ◌∷◌, ◌++◌, All}
 use Rattle.std.specs.List.{flat_map}
 use Rattle.clap.specs.Walk.{Text}
 
@@ -7,6 +7,11 @@ use Rattle.clap.specs.Walk.{Text}
 abbrev pub ended : Text → List ℕ
 ended word = word ++ 0 ∷ []
 
--- the bytes are these words, each with a zero byte after it
-abbrev pub SpellsWords : List ℕ → List Text → Type 0
-SpellsWords bytes words = bytes ≡ flat_map ended words
+-- a word holds no zero byte
+abbrev pub HasNoZero : Text → Type 0
+HasNoZero word = All (λ (b : ℕ). b ≢ 0) word
+
+-- the bytes are these words, each with a zero byte after it and none in it
+pub record SpellsWords (bytes : List ℕ) (words : List Text) : Type 0 where
+  pub bytes_are : bytes ≡ flat_map ended words
+  pub unbroken : All HasNoZero words

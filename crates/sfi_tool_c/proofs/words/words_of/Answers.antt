@@ -1,9 +1,11 @@
-use Rattle.std.proofs.Common.{map, string_bytes, take, ap, sym, ◌∙◌, arith, ◌≡◌, get_or, Global}
-use Rattle.std.specs.List.{flat_map}
-use Rattle.sfi_tool_c.specs.Words.{ended}
+use Rattle.std.proofs.Common.{map, string_bytes, take, ap, sym, ◌∙◌, arith, ◌≡◌, ◌≢◌, ◌+◌, ℕ, get_or, refl, Global}
+use Rattle.std.specs.List.{flat_map, AllWithin}
+use Rattle.std.proofs.Math.Path.{subst}
+use Rattle.std.proofs.lemmas.List.Elements.{All-same}
+use Rattle.sfi_tool_c.specs.Words.{ended, HasNoZero}
 use Rattle.sfi_tool_c.proofs.words.words_of.Goals as goal
 use Rattle.sfi_tool_c.proofs.words.words_of.Goals.{then-bytes-at-eq0+in-Ok+in_ok-push_word, else-bytes-at-eq0}
-use Rattle.sfi_tool_c.proofs.Spelling.{next_word}
+use Rattle.sfi_tool_c.proofs.Spelling.{next_word, unbroken_more, unbroken_word, unbroken_byte}
 
 pub loop-at-preserved : goal.loop-at-preserved
 loop-at-preserved c = elim c.if-bytes-at-eq0.branch [
@@ -14,10 +16,18 @@ loop-at-preserved c = elim c.if-bytes-at-eq0.branch [
             (map (string_bytes {Z = Global}) c.loop-at.words.items) (map (string_bytes {Z = Global}) c.if-bytes-at-eq0.words.items) w.in-Ok.word.now
             c.loop-at.invariant.0 (omega (arith, c.loop-at-test.true)) c.loop-at.invariant.1 w.in-Ok.ensures.cases.0 zero w.from-is
             (ap (λ v. map (string_bytes {Z = Global}) v.items) w.words-is ∙ w.in_ok-push_word.ensures),
+        unbroken_more (map (string_bytes {Z = Global}) c.loop-at.words.items) (map (string_bytes {Z = Global}) c.if-bytes-at-eq0.words.items)
+            w.in-Ok.word.now _ c.loop-at.invariant.2 (unbroken_word c.args.bytes.now c.loop-at.from c.loop-at.at c.loop-at.invariant.3)
+            w.in-Ok.ensures.cases.0 (ap (λ v. map (string_bytes {Z = Global}) v.items) w.words-is ∙ w.in_ok-push_word.ensures),
+        λ k d low high. absurd (omega (arith, low, high, w.from-is)),
       )
   | else-bytes-at-eq0 w ↦ (
     omega (arith, w.from-is, c.loop-at.invariant.0),
     ap (λ n. take n c.args.bytes.now) w.from-is ∙ c.loop-at.invariant.1
         ∙ ap (λ v. flat_map ended (map (string_bytes {Z = Global}) v.items)) (sym w.words-is),
+    All-same HasNoZero _ _ (ap (λ v. map (string_bytes {Z = Global}) v.items) w.words-is) c.loop-at.invariant.2,
+    subst (λ (n : ℕ). AllWithin (λ (b : ℕ). b ≢ 0) c.args.bytes.now n (c.loop-at.at + 1)) (sym w.from-is)
+        (unbroken_byte c.args.bytes.now c.loop-at.from c.loop-at.at (c.loop-at.at + 1) (omega (arith, c.loop-at-test.true)) c.loop-at.invariant.3
+            (λ is. w.if-bytes-at-eq0.false (grind (arith, is))) refl),
   )
 ]
