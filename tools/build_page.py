@@ -3,7 +3,7 @@
 
     tools/build_page.py [--texts]    # with --texts all but the module
 
-- sfi.wasm, all commands and a runtime, by tools/wasm_module.py, which wants the toolchain and binaryen's wasm-opt;
+- sfi.wasm, all commands and a runtime, by tools/wasm_module.py, which wants the toolchain;
 - sfi.wasm.js, the same as text, for a page that is opened as a file;
 - made.js, the examples and the sentences of the rules, which README.md and docs/IMAGE.md have.
 """

@@ -2,11 +2,10 @@
 
 The toolchain compiles no crate for wasm64 that calls C, as one that takes memory does. So each crate is proved and built for
 x86-64, and what the toolchain then gives its clang, which is the whole library as one LLVM module, is compiled a second time,
-for wasm64: both targets are little-endian, have pointers of 64 bits, and lay structs out alike. binaryen's wasm-opt then
-makes the memory's addresses 32 bits wide, which each browser has.
+for wasm64: both targets are little-endian, have pointers of 64 bits, and lay structs out alike.
 
 What this trusts beyond a build for x86-64: that nothing else in the LLVM module depends on its target (`retargeted` refuses
-what would), clang's target wasm64, wasm-ld, wasm-opt, and the files of crates/sfi_tool_c/c.
+what would), clang's target wasm64, wasm-ld, and the files of crates/sfi_tool_c/c.
 """
 import os
 import re
@@ -132,8 +131,7 @@ def link(kit, target):
         objects = [compiled(clang, name, room) for name in HEADERS] + [compiled_c(clang, it, room) for it in C_FILES]
         os.symlink(clang, f"{room}/wasm-ld")
         subprocess.run([f"{room}/wasm-ld", "-mwasm64", "--no-entry", "--gc-sections", "--strip-all", "-z", f"stack-size={STACK}",
-                        "--stack-first", *(f"--export={it}" for it in exports), *objects, "-o", f"{room}/wide.wasm"], check=True)
-        subprocess.run(["wasm-opt", "--all-features", "--memory64-lowering", f"{room}/wide.wasm", "-o", target], check=True)
+                        "--stack-first", *(f"--export={it}" for it in exports), *objects, "-o", target], check=True)
 
 
 def make(target):
