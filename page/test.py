@@ -118,7 +118,7 @@ def try_run(page, program, what, image):
     expect(f"{what}: the button Run", page.value("now.world.lines()"), last)
     steps = sum(int(it) for it in re.findall(r"steps=(\d+)", last))
     expect(f"{what}: steps of the profile", page.value("[...now.counts.values()].reduce((a, b) => a + b, 0)"), steps)
-    output = bytes.fromhex(last.split("out=")[1].split()[0] if last.split("out=")[1].strip() else "")
+    output = bytes.fromhex(re.search(r"out=(\w*)$", last, re.MULTILINE)[1])  # of the first sandbox
     shown = page.value("$('console').textContent")
     expect(f"{what}: output shown", shown, output[-4000:].decode(errors="replace") or "nothing yet")
 
