@@ -1,0 +1,129 @@
+"""The code of an object file: its instructions, where each leads, and what its names stand for."""
+from functools import lru_cache
+from typing import NamedTuple
+
+from decoding import decode
+from objects import LOCAL
+
+LINE = "sfi_line_"  # begins labels that tell the line of an assembly
+CALLER_SAVED = frozenset([1, *range(5, 8), *range(10, 18), *range(28, 32)])  # what a call may overwrite
+BRANCHES = ("beq", "bne", "blt", "bge", "bltu", "bgeu")
+READING = {"word", "hi", "lo", "pcrel_hi", "got"}  # relocations by which an address is taken
+WRITTEN_BESIDE = frozenset([3, 4])  # gp and tp: the compiler's code leaves them alone, and a call doesn't keep them
+SMALL = (".sdata", ".sbss", ".srodata")
+LARGEST_SMALL = 64  # bytes of an object in small data
+
+
+class Place(NamedTuple):
+    """A place in the code."""
+    section: str
+    offset: int
+
+
+class Name(NamedTuple):
+    """A name that the file doesn't define in its code."""
+    name: str
+
+
+class Code:
+    """An object file's code. `is_left` says whether it is the compiler's, and not the rewritten one."""
+
+    def __init__(self, objects, is_left):
+        self.objects, self.is_left = objects, is_left
+        self.sections = {name: section for name, section in objects.sections.items() if section.is_code()}
+        self.labels = {symbol.name: Place(symbol.section, symbol.value) for symbol in objects.symbols
+                       if symbol.section in self.sections and symbol.name != symbol.section
+                       and not symbol.name.startswith(("$", LINE))}
+        self.functions = {name: place for name, place in self.labels.items() if not name.startswith(".")}
+        self.function_at = {place: name for name, place in self.functions.items()}
+        self.taken = self.taken_names()
+        self.lines = {Place(symbol.section, symbol.value): int(symbol.name[len(LINE):])
+                      for symbol in objects.symbols if symbol.name.startswith(LINE)}
+        self.starts = {}
+        for place in sorted(self.function_at):
+            self.starts.setdefault(place.section, []).append(place.offset)
+
+    def taken_names(self):
+        """The labels of the code whose addresses are taken."""
+        return {relocation.symbol.name for section in self.objects.sections.values() if section.flags & 2
+                for some in section.relocations.values() for relocation in some
+                if relocation.kind in READING and relocation.symbol.name in self.labels}
+
+    def is_entered_from_elsewhere(self, name):
+        """Whether control may come to a function otherwise than by this file's calls and jumps by its name."""
+        return self.objects.named[name].binding != LOCAL or name in self.taken
+
+    def is_in(self, place):
+        return place.offset < len(self.sections[place.section].content)
+
+    @lru_cache(maxsize=None)
+    def at(self, place):
+        """The instruction at a place, and its relocation or None."""
+        section = self.sections[place.section]
+        found = [one for one in section.relocations.get(place.offset, ()) if one.kind != "number 51"]
+        return decode(section.content, place.offset), found[0] if found else None
+
+    def target(self, place, instruction, relocation):
+        """Where a branch or a jump leads."""
+        if relocation is None:
+            return Place(place.section, place.offset + instruction.number)
+        symbol = relocation.symbol
+        if symbol.section in self.sections:
+            return Place(symbol.section, symbol.value + relocation.addend)
+        return Name(symbol.name)
+
+    def upper(self, relocation):
+        """The relocation of the `auipc` of which a `%pcrel_lo` speaks."""
+        symbol = relocation.symbol
+        return self.at(Place(symbol.section, symbol.value))[1]
+
+    def is_small(self, name, addend):
+        """Whether an address is reached from the data region's first one: that of a small object, or beside one."""
+        symbol = self.objects.named.get(name)
+        is_near = symbol is not None and symbol.section is not None and symbol.binding != 2
+        return bool(is_near and symbol.section.startswith(SMALL) and -LARGEST_SMALL <= addend <= LARGEST_SMALL)
+
+    def owner(self, place):
+        """The function that a place belongs to, or None."""
+        before = [start for start in self.starts.get(place.section, ()) if start <= place.offset]
+        return self.function_at[Place(place.section, before[-1])] if before else None
+
+    def written(self):
+        """By the name of each function the registers that it may write, with those of all that it calls."""
+        own, leads = {name: set() for name in self.functions}, {name: set() for name in self.functions}
+        for section in self.sections:
+            place = Place(section, 0)
+            while self.is_in(place):
+                name = self.owner(place)
+                instruction, relocation = self.at(place)
+                if name is not None:
+                    self.add_written(name, place, instruction, relocation, own, leads)
+                place = place._replace(offset=place.offset + instruction.size)
+        return spread(own, leads)
+
+    def add_written(self, name, place, instruction, relocation, own, leads):
+        """Adds what an instruction of a function writes."""
+        own[name].add(instruction.target)
+        everything = CALLER_SAVED if self.is_left else CALLER_SAVED | WRITTEN_BESIDE
+        if instruction.word in ("jal", *BRANCHES) or relocation is not None and relocation.kind == "call":
+            target = self.target(place, instruction, relocation)
+            other = self.owner(target) if isinstance(target, Place) else None
+            if other is None:
+                own[name] |= everything
+            elif other != name:
+                leads[name].add(other)
+        elif instruction.word == "jalr" and (instruction.target or self.is_left and instruction.first != 1):
+            before = self.at(place._replace(offset=place.offset - 4))[1] if place.offset >= 4 else None
+            own[name] |= set() if before is not None and before.kind == "call" else everything
+
+
+def spread(own, leads):
+    """The sets with those of all names to which each leads."""
+    changed = True
+    while changed:
+        changed = False
+        for name, others in leads.items():
+            more = set().union(own[name], *(own[other] for other in others))
+            if more != own[name]:
+                own[name], changed = more, True
+    return own

@@ -1,0 +1,203 @@
+"""Stretches of code: what runs from a place to the next branch, call, or jump by a register, as values and accesses."""
+from dataclasses import dataclass, field
+from typing import NamedTuple
+
+import values
+from machine_code import BRANCHES, Name, Place
+from values import ZERO, Value, computed, number, of
+
+LOADS, STORES = ("lb", "lh", "lw", "lbu", "lhu"), ("sb", "sh", "sw")
+WIDTHS = {"b": 1, "h": 2, "w": 4}
+LINK, STACK = 1, 2
+OWN = (24, 25, 26, 27)  # registers of the sandbox that hold the regions' bases and masks
+INVERSE = {"beq": "bne", "bne": "beq", "blt": "bge", "bge": "blt", "bltu": "bgeu", "bgeu": "bltu"}
+
+
+class Access(NamedTuple):
+    """A load, a store or a `fence`: its word, the register loaded or stored, the address, what is stored, and where it is."""
+    word: str
+    register: int
+    address: Value
+    stored: Value
+    place: Place
+
+    def width(self):
+        return WIDTHS[self.word[1]]
+
+
+class Event(NamedTuple):
+    """What ends a stretch: `branch`, `call`, `jump` to a name, `indirect` jump, `return`, `break`, `loop` or `end`."""
+    kind: str
+    place: Place
+    word: str = ""
+    values: tuple = ()
+    target: object = None
+    following: object = None
+
+
+@dataclass
+class Stretch:
+    start: Place
+    registers: list
+    accesses: list = field(default_factory=list)
+    stacks: list = field(default_factory=list)  # what the stack pointer holds, one after another
+    event: Event = None
+
+
+class Unknown(Exception):
+    """An instruction that can't be followed, with its place."""
+
+    def __init__(self, place, what):
+        super().__init__(what)
+        self.place = place
+
+
+class Runner:
+    """Runs a stretch of one code. `met` takes each access with its number, and answers what it loads."""
+
+    def __init__(self, code, start, met):
+        self.code, self.place, self.met = code, start, met
+        side = "left" if code.is_left else "right"
+        registers = [ZERO] + [of(side, register) for register in range(1, 32)]
+        if not code.is_left:
+            for register in OWN:
+                registers[register] = of("box", register)
+        self.stretch = Stretch(start, registers, stacks=[registers[STACK]])
+        self.seen = set()
+
+    def run(self):
+        """The stretch from the start to the first event."""
+        while self.stretch.event is None:
+            self.stretch.event = self.halt() or self.step()
+        return self.stretch
+
+    def halt(self):
+        """The event that comes before the instruction at a place, or None."""
+        name = self.code.function_at.get(self.place) if self.seen else None
+        if not self.code.is_in(self.place):
+            return Event("end", self.place)
+        if name:
+            return Event("jump", self.place, target=Name(name))
+        if self.place in self.seen:
+            return Event("loop", self.place, target=self.place)
+        self.seen.add(self.place)
+        return None
+
+    def step(self):
+        """Runs one instruction; the event that it is, or None."""
+        place, (instruction, relocation) = self.place, self.code.at(self.place)
+        self.place = following = place._replace(offset=place.offset + instruction.size)
+        if instruction.word == "jal":
+            return self.jump(place, instruction, relocation, following)
+        if instruction.word == "jalr":
+            return self.indirect(place, instruction, following)
+        if relocation is not None and relocation.kind == "call":
+            return self.far_jump(place, relocation)
+        if instruction.word in BRANCHES:
+            pair = self.stretch.registers[instruction.first], self.stretch.registers[instruction.second]
+            return Event("branch", place, instruction.word, pair, self.code.target(place, instruction, relocation), following)
+        if instruction.word == "ebreak":
+            return Event("break", place)
+        if instruction.word in (*LOADS, *STORES, "fence"):
+            self.access(place, instruction, relocation)
+        else:
+            self.write(place, instruction.target, self.value(place, instruction, relocation))
+        return None
+
+    # Control.
+
+    def jump(self, place, instruction, relocation, following):
+        target = self.code.target(place, instruction, relocation)
+        name = self.code.function_at.get(target) if isinstance(target, Place) else target.name
+        if instruction.target:
+            if name is None:
+                raise Unknown(place, "a call of what is no function")
+            return Event("call", place, str(instruction.target), target=Name(name), following=following)
+        if name is not None:
+            return Event("jump", place, target=Name(name))
+        self.place = target
+        return None
+
+    def far_jump(self, place, relocation):
+        """An `auipc` and the `jalr` after it, by which the assembler reaches any name."""
+        register = self.code.at(self.place)[0].target
+        following = self.place._replace(offset=self.place.offset + 4)
+        if register:
+            return Event("call", place, str(register), target=Name(relocation.symbol.name), following=following)
+        return Event("jump", place, target=Name(relocation.symbol.name))
+
+    def indirect(self, place, instruction, following):
+        goal = self.stretch.registers[instruction.first].plus(number(instruction.number))
+        atom = goal.only_atom()
+        if atom and atom[0] == "code":
+            goal = atom[1]
+        atom = goal.only_atom()
+        if instruction.target:
+            target = Name(atom[1]) if atom and atom[0] == "address" else None
+            return Event("call", place, str(instruction.target), (goal,), target, following)
+        if atom and atom[0] == "address" and atom[1] in self.code.functions:
+            return Event("jump", place, target=Name(atom[1]))
+        is_return = self.code.is_left and instruction.first == LINK
+        return Event("return" if is_return else "indirect", place, values=(goal,))
+
+    # Values.
+
+    def part(self, place, instruction, relocation):
+        """The number of an instruction, or the part of an address that stands in its place."""
+        if relocation is None:
+            return number(instruction.number)
+        if relocation.kind in ("pcrel_lo", "lo"):
+            whole = self.code.upper(relocation) if relocation.kind == "pcrel_lo" else relocation
+            return self.low(whole.symbol.name, whole.addend, relocation.kind)
+        if relocation.kind in ("hi", "pcrel_hi"):
+            name, addend = relocation.symbol.name, relocation.addend
+            return of("address", name).plus(number(addend)).minus(self.low(name, addend, relocation.kind.replace("hi", "lo")))
+        raise Unknown(place, f"a relocation {relocation.kind}")
+
+    def low(self, name, addend, kind):
+        """What `%lo` is. The compiler may pair parts of addresses that lie close together: each is right for its own."""
+        if self.code.is_left:
+            return of("low", name, kind).plus(number(addend))
+        return of("low", name, addend)
+
+    def based(self, value):
+        """A value in which the data region's first address and the low part of a small object's are the object's address."""
+        if value.terms.get(values.DATA_BASE) == 1:
+            for atom, factor in value.terms.items():
+                if atom[0] == "low" and factor == 1 and len(atom) == 3 and self.code.is_small(*atom[1:]):
+                    return value.minus(of(*atom)).minus(of(*values.DATA_BASE)).plus(of("address", atom[1])).plus(number(atom[2]))
+        return value
+
+    def value(self, place, instruction, relocation):
+        word, first = instruction.word, self.stretch.registers[instruction.first]
+        if word in ("lui", "auipc"):
+            if word == "auipc" and relocation is None:
+                raise Unknown(place, "an auipc without a name")
+            return self.part(place, instruction, relocation)
+        if word in ("unknown", "ecall"):
+            raise Unknown(place, f"an instruction that is {word}")
+        second = self.part(place, instruction, relocation) if instruction.has_number else self.stretch.registers[instruction.second]
+        found = computed(word, first, second)
+        return found if self.code.is_left else self.based(found)
+
+    def write(self, place, register, value):
+        if not self.code.is_left and register in OWN:
+            raise Unknown(place, f"a write of x{register}, which the sandbox keeps")
+        if register:
+            self.stretch.registers[register] = value
+        if register == STACK:
+            self.stretch.stacks.append(value)
+
+    def access(self, place, instruction, relocation):
+        base = self.stretch.registers[instruction.first]
+        stored, register = None, instruction.target
+        address = ZERO if instruction.word == "fence" else base.plus(self.part(place, instruction, relocation))
+        if instruction.word in STORES:
+            register, stored = instruction.second, self.stretch.registers[instruction.second]
+        if not self.code.is_left:
+            address = self.based(address)
+        access = Access(instruction.word, register, address, stored, place)
+        self.stretch.accesses.append(access)
+        value = self.met(len(self.stretch.accesses) - 1, access)
+        if instruction.word in LOADS:
+            self.write(place, register, value)
