@@ -6,7 +6,7 @@ near one that the compiler's code has accessed."""
 from functools import lru_cache
 from typing import NamedTuple
 
-from values import MASK, ZERO, Value, leaves, of, replaced
+from values import COMMUTATIVE, MASK, ZERO, Value, of, replaced
 
 DATA_REGISTERS = (2, 3, 4)  # sp, gp and tp
 UNSETTLED = ("load", "lost", "after", "kept")  # atoms that no register holds where a stretch begins
@@ -56,32 +56,39 @@ def difference(right, left):
     the parts; None where the sides can't be equal."""
     rest, equations = right.minus(left), []
     for atom in [atom for atom in right.terms if is_made(atom) and atom in rest.terms]:
-        factor = rest.terms.get(atom)
+        factor = rest.terms[atom]
         others = [other for other in left.terms if other[0] == atom[0] and (factor + rest.terms.get(other, 0)) & MASK == 0]
-        found = next(((other, parts) for other in others if (parts := equal_parts(atom, other)) is not None), None)
-        if found is None:
+        found = {other: parts for other in others if (parts := equal_parts(atom, other)) is not None}
+        if not found:
             return None
-        rest = rest.minus(of(*atom).times(factor)).plus(of(*found[0]).times(factor))
-        equations += found[1]
+        other = min(found, key=lambda it: how_many_differ(found[it]))
+        rest = rest.minus(of(*atom).times(factor)).plus(of(*other).times(factor))
+        equations += found[other]
     if any(is_made(atom) or atom[0] in UNSETTLED for atom in rest.terms):
         return None
     return (*sides(rest), equations)
 
 
+def how_many_differ(equations):
+    return sum(not is_same(equation) for equation in equations)
+
+
 def equal_parts(atom, other):
-    """The equations by which two results of one instruction are equal, or None."""
-    for parts in (other[1:], other[:0:-1]) if atom[0] in ("and", "or", "xor", "mul") else (other[1:],):
-        found = []
-        for right, left in zip(atom[1:], parts):
-            if right == left and not any(leaf[0] in ("left", "right") for leaf in leaves(right)):
-                continue
-            rest = difference(right, left)
-            if rest is None:
-                break
-            found += [*rest[2], Equation(*rest[:2])]
-        else:
-            return found
-    return None
+    """The equations by which two results of one instruction are equal, or None: of two orders the one that wants less."""
+    orders = (other[1:], other[:0:-1]) if atom[0] in COMMUTATIVE else (other[1:],)
+    found = [equations for parts in orders if (equations := equal_pairs(atom[1:], parts)) is not None]
+    return min(found, key=how_many_differ, default=None)
+
+
+def equal_pairs(rights, lefts):
+    """The equations by which values are equal to others, or None."""
+    found = []
+    for right, left in zip(rights, lefts):
+        rest = difference(right, left)
+        if rest is None:
+            return None
+        found += rest[2] + parted(*rest[:2])
+    return found
 
 
 def sides(rest):
@@ -108,11 +115,12 @@ def parted(right, left):
 def without_mask(right, left):
     """A sum with one masked value taken as it is without masks, and what that value is if the sum is equal to another one;
     None where nothing is masked."""
-    atom = next((atom for atom, factor in right.terms.items() if atom[0] == "data" and factor == 1), None)
+    atom = next((atom for atom, factor in right.terms.items() if atom[0] == "data" and factor in (1, MASK)), None)
     if atom is None:
         return None
-    rest = right.minus(of(*atom))
-    return rest.plus(atom[1]), left.minus(renamed(rest))
+    factor = right.terms[atom]
+    rest = right.minus(of(*atom).times(factor))
+    return rest.plus(atom[1], factor), left.minus(renamed(rest)).times(factor)
 
 
 def distance(value, other):

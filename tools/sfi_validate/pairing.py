@@ -1,6 +1,6 @@
 """Which access of the rewritten code is which of the compiler's, in a stretch of both."""
 from comparing import distance, renamed
-from stretches import STORES
+from stretches import STACK, STORES
 from values import of
 
 STACK_FRAME, OBJECT = "frame", "object"
@@ -43,26 +43,27 @@ class Pairs:
         """The later of two accesses of the compiler's code whose order matters and is another in the rewritten code, or None."""
         if self.order == sorted(self.order):
             return None
+        regions = [self.region(number, other) for number, other in zip(self.order, self.others)]
         for index, later in enumerate(self.order):
-            for earlier in self.order[index + 1:]:
-                if earlier < later and may_meet(self.accesses[earlier], self.accesses[later]):
+            for place, earlier in enumerate(self.order[index + 1:], index + 1):
+                is_apart = {regions[index], regions[place]} == {STACK_FRAME, OBJECT}
+                if earlier < later and not is_apart and may_meet(self.accesses[earlier], self.accesses[later]):
                     return self.accesses[later]
         return None
+
+    def region(self, number, other):
+        """Where an access leads by its address: into the stack's frame, to an object by its name, or None for anywhere."""
+        if list(self.accesses[number].address.terms) == [("left", STACK)]:
+            return STACK_FRAME
+        atoms = list(other.address.terms)
+        return OBJECT if len(atoms) == 1 and atoms[0][0] == "address" else None
 
 
 def may_meet(first, second):
     """Whether the order of two accesses matters: they may have a byte in common, and one stores."""
     if "fence" in (first.word, second.word):
         return True
-    if first.word not in STORES and second.word not in STORES or {region(first), region(second)} == {STACK_FRAME, OBJECT}:
+    if first.word not in STORES and second.word not in STORES:
         return False
     count = distance(second.address, first.address)
     return count is None or -second.width() < count < first.width()
-
-
-def region(access):
-    """Where an access leads by its address: into the stack's frame, to an object by its name, or None for anywhere."""
-    atoms = [atom for atom in access.address.terms if atom[0] != "low"]
-    if atoms == [("left", 2)]:
-        return STACK_FRAME
-    return OBJECT if len(atoms) == 1 and atoms[0][0] == "address" else None

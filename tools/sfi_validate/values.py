@@ -71,7 +71,7 @@ def number(value):
     return Value(value)
 
 
-@lru_cache(maxsize=None)
+@lru_cache(maxsize=1 << 16)
 def of(*atom):
     return Value(0, {atom: 1})
 
@@ -93,8 +93,8 @@ def computed(word, first, second):
             return found
     if word in ("or", "xor", "srl", "sra") and second == ZERO:
         return first
-    if word in COMMUTATIVE and repr(second) < repr(first):
-        first, second = second, first
+    if word in ("or", "xor") and first == ZERO:
+        return second
     return of(word, first, second)
 
 
