@@ -18,8 +18,12 @@ def touches_stack(op):
 
 def may_point(op):
     """Whether an instruction is an access that does the same on `sp`, where that holds its base:
-    it has another base, and neither stores the stack pointer nor loads it."""
-    return is_access(op) and offset_and_base(op)[1] != "sp" and "sp" not in values(op) | writes(op)
+    it has another base and a number as its offset, and neither stores the stack pointer nor loads
+    it. An offset that stands for a name, by which the linker finds an object, is beyond all others."""
+    if not is_access(op) or "sp" in values(op) | writes(op):
+        return False
+    offset, base = offset_and_base(op)
+    return base != "sp" and offset <= HIGHEST
 
 
 def base_of(piece):
