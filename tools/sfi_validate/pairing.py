@@ -1,16 +1,16 @@
 """Which access of the rewritten code is which of the compiler's, in a stretch of both."""
 from comparing import distance, renamed
 from stretches import STACK, STORES
-from values import of
+from values import of, signed
 
-STACK_FRAME, OBJECT = "frame", "object"
+STACK_FRAME = ""  # stands for a section
 
 
 class Pairs:
     """The accesses of the compiler's stretch, each with the one of the rewritten code that it is."""
 
-    def __init__(self, accesses):
-        self.accesses = accesses
+    def __init__(self, accesses, objects):
+        self.accesses, self.objects = accesses, objects
         self.waiting = list(range(len(accesses)))
         self.order, self.others = [], []  # numbers, and the rewritten code's accesses, in its order
         self.unknown = None  # the first access of the rewritten code that is none of the compiler's
@@ -27,43 +27,48 @@ class Pairs:
         return of("load", chosen)
 
     def chosen(self, access):
-        """The number of the access that one of the rewritten code is, or None."""
-        address = renamed(access.address)
-        found = [number for number in self.waiting if self.accesses[number].word == access.word]
-        known = [number for number in found if self.accesses[number].address == address]
-        possible = [number for number in found if distance(address, self.accesses[number].address) is None]
-        return self.first(known, access) if known else self.first(possible, access)
-
-    def first(self, numbers, access):
-        """The first that loads or stores the same register, or else the first."""
-        alike = [number for number in numbers if self.accesses[number].register == access.register]
-        return next(iter(alike or numbers), None)
+        """The number of the access that one of the rewritten code is, or None: of those that may be, the first by what it
+        stores, by its address and by its register."""
+        address, stored = renamed(access.address), access.stored and renamed(access.stored)
+        found = {}
+        for number in self.waiting:
+            other = self.accesses[number]
+            is_known = other.address == address
+            if other.word == access.word and (is_known or distance(address, other.address) is None):
+                found[number] = stored != other.stored, not is_known, other.register != access.register
+        return min(found, key=found.get, default=None)
 
     def changed_places(self):
         """The later of two accesses of the compiler's code whose order matters and is another in the rewritten code, or None."""
         if self.order == sorted(self.order):
             return None
-        regions = [self.region(number, other) for number, other in zip(self.order, self.others)]
         for index, later in enumerate(self.order):
             for place, earlier in enumerate(self.order[index + 1:], index + 1):
-                is_apart = {regions[index], regions[place]} == {STACK_FRAME, OBJECT}
-                if earlier < later and not is_apart and may_meet(self.accesses[earlier], self.accesses[later]):
+                if earlier < later and self.may_meet(place, index):
                     return self.accesses[later]
         return None
 
-    def region(self, number, other):
-        """Where an access leads by its address: into the stack's frame, to an object by its name, or None for anywhere."""
-        if list(self.accesses[number].address.terms) == [("left", STACK)]:
-            return STACK_FRAME
-        atoms = list(other.address.terms)
-        return OBJECT if len(atoms) == 1 and atoms[0][0] == "address" else None
+    def may_meet(self, index, other):
+        """Whether the order of two accesses matters: they may have a byte in common, and one stores."""
+        first, second = self.accesses[self.order[index]], self.accesses[self.order[other]]
+        if "fence" in (first.word, second.word):
+            return True
+        if first.word not in STORES and second.word not in STORES:
+            return False
+        count, places = distance(second.address, first.address), [self.place(it) for it in (index, other)]
+        if None not in places:
+            if places[0][0] != places[1][0]:
+                return False  # in two sections, or in one and in the stack's frame
+            count = places[1][1] - places[0][1]
+        return count is None or -second.width() < count < first.width()
 
-
-def may_meet(first, second):
-    """Whether the order of two accesses matters: they may have a byte in common, and one stores."""
-    if "fence" in (first.word, second.word):
-        return True
-    if first.word not in STORES and second.word not in STORES:
-        return False
-    count = distance(second.address, first.address)
-    return count is None or -second.width() < count < first.width()
+    def place(self, index):
+        """The section and the place there of an object that an access leads to by its name, or those of the stack's frame; None
+        for anywhere."""
+        address = self.accesses[self.order[index]].address
+        if list(address.terms) == [("left", STACK)]:
+            return STACK_FRAME, signed(address.number)
+        address = self.others[index].address
+        atoms = list(address.terms)
+        symbol = self.objects.named.get(atoms[0][1]) if len(atoms) == 1 and atoms[0][0] == "address" else None
+        return (symbol.section, symbol.value + signed(address.number)) if symbol and symbol.section else None

@@ -15,7 +15,6 @@ class Origin:
     """Which of the compiler's instructions wants a value, and for what."""
     place: object
     what: str
-    is_soft: bool
 
 
 class Requirements:
@@ -26,14 +25,12 @@ class Requirements:
         self.walk, self.below, self.above = walk, below, above
         self.waiting, self.told = [], set()
         for want in walk.wants:
-            self.settle(want.node, want.right, want.left, want.accessed, Origin(want.place, want.what, want.is_soft))
+            self.settle(want.node, want.right, want.left, want.accessed, Origin(want.place, want.what))
         while self.waiting and len(walk.complaints) < MOST_COMPLAINTS:
             self.follow(*self.waiting.pop())
 
-    def fail(self, node, origin, left):
-        """A value that isn't what it has to be. The upper part of an address alone is nothing that another function reads."""
-        if origin.is_soft and any(atom[0] == "low" for atom in left.terms):
-            return
+    def fail(self, node, origin):
+        """Tells a value that isn't what it has to be, once for each of the compiler's instructions."""
         if origin.place not in self.told:
             self.told.add(origin.place)
             self.walk.complain(origin.place, f"{origin.what} is another one in the rewritten code, by what it does from "
@@ -44,11 +41,11 @@ class Requirements:
         while (bare := without_mask(right, left)) is not None:
             right, address = bare
             if not self.is_near(node, address, accessed, origin):
-                self.fail(node, origin, left)
+                self.fail(node, origin)
                 return
         found = difference(right, left)
         if found is None:
-            self.fail(node, origin, left)
+            self.fail(node, origin)
             return
         for equation in parted(*found[:2]):
             self.require(node, equation._replace(accessed=self.accessed(node, equation, accessed)), origin)
@@ -69,7 +66,7 @@ class Requirements:
         atoms = list(address.terms)
         if len(atoms) == 1 and atoms[0][0] == "address" and self.is_beside(address, of(*atoms[0])):
             return True
-        if not all(atom[0] in ("left", "address", "low") for atom in atoms):
+        if not all(atom[0] in ("left", "address") for atom in atoms):
             return False
         self.require(node, Near(address), origin)
         return True
@@ -88,18 +85,16 @@ class Requirements:
             if requirement.right == ZERO == requirement.left:
                 return
             if requirement.right == ZERO and not any(atom[0] == "left" for atom in requirement.left.terms):
-                self.fail(node, origin, requirement.left)
+                self.fail(node, origin)
                 return
-        known = node.required.get(requirement)
-        if known is None or known and not origin.is_soft:
-            node.required[requirement] = origin.is_soft
+        if requirement not in node.required:
+            node.required.add(requirement)
             self.waiting.append((node, requirement, origin))
 
     def follow(self, node, requirement, origin):
         """Takes a requirement to the ends of the stretches before it."""
         if node.is_entry and not self.holds_at_entry(requirement):
-            left = requirement.left if isinstance(requirement, Equation) else requirement.address
-            self.fail(node, origin, left)
+            self.fail(node, origin)
         for edge in node.incoming:
             def at_end(value, edge=edge):
                 return None if value is None else replaced(value, lambda atom: value_of(edge, atom))
@@ -107,7 +102,7 @@ class Requirements:
             if isinstance(requirement, Near):
                 address = at_end(requirement.address)
                 if not self.is_near(edge.source, address, None, origin):
-                    self.fail(edge.source, origin, address)
+                    self.fail(edge.source, origin)
             else:
                 self.settle(edge.source, at_end(requirement.right), at_end(requirement.left), at_end(requirement.accessed), origin)
 

@@ -9,6 +9,7 @@ from values import ZERO, Value, computed, number, of
 LOADS, STORES = ("lb", "lh", "lw", "lbu", "lhu"), ("sb", "sh", "sw")
 WIDTHS = {"b": 1, "h": 2, "w": 4}
 LINK, STACK = 1, 2
+PART = 2048  # the addends of which the compiler pairs parts lie in one block of so many bytes
 OWN = (24, 25, 26, 27)  # registers of the sandbox that hold the regions' bases and masks
 INVERSE = {"beq": "bne", "bne": "beq", "blt": "bge", "bge": "blt", "bltu": "bgeu", "bgeu": "bltu"}
 
@@ -146,25 +147,24 @@ class Runner:
         """The number of an instruction, or the part of an address that stands in its place."""
         if relocation is None:
             return number(instruction.number)
+        whole = self.code.upper(relocation) if relocation.kind == "pcrel_lo" else relocation
+        low = self.low(whole.symbol.name, whole.addend)
         if relocation.kind in ("pcrel_lo", "lo"):
-            whole = self.code.upper(relocation) if relocation.kind == "pcrel_lo" else relocation
-            return self.low(whole.symbol.name, whole.addend, relocation.kind)
+            return low
         if relocation.kind in ("hi", "pcrel_hi"):
-            name, addend = relocation.symbol.name, relocation.addend
-            return of("address", name).plus(number(addend)).minus(self.low(name, addend, relocation.kind.replace("hi", "lo")))
+            return of("address", whole.symbol.name).plus(number(whole.addend)).minus(low)
         raise Unknown(place, f"a relocation {relocation.kind}")
 
-    def low(self, name, addend, kind):
-        """What `%lo` is. The compiler may pair parts of addresses that lie close together: each is right for its own."""
-        if self.code.is_left:
-            return of("low", name, kind).plus(number(addend))
-        return of("low", name, addend)
+    def low(self, name, addend):
+        """What `%lo` is. The compiler pairs it with an upper part of another addend near it, and stores upper parts alone. Its
+        parts are taken to be those of another split: the upper one an address, the lower one what is left of the addend."""
+        return number(addend % PART) if self.code.is_left else of("low", name, addend)
 
     def based(self, value):
         """A value in which the data region's first address and the low part of a small object's are the object's address."""
         if value.terms.get(values.DATA_BASE) == 1:
             for atom, factor in value.terms.items():
-                if atom[0] == "low" and factor == 1 and len(atom) == 3 and self.code.is_small(*atom[1:]):
+                if atom[0] == "low" and factor == 1 and self.code.is_small(*atom[1:]):
                     return value.minus(of(*atom)).minus(of(*values.DATA_BASE)).plus(of("address", atom[1])).plus(number(atom[2]))
         return value
 

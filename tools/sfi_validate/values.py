@@ -1,7 +1,7 @@
 """What registers hold, as sums of atoms with factors, modulo 2**32. Atoms are tuples:
 
 - ("left", n) and ("right", n): register n of the compiler's code and of the rewritten one where a stretch of code begins
-- ("address", name): of a symbol; ("low", name) the part of it that `%lo` is, ("low", name, number) in rewritten code
+- ("address", name): of a symbol; ("low", name, number): in rewritten code the part of it, plus a number, that `%lo` is
 - ("box", n): what the sandbox's own register n holds
 - ("load", n): what the n-th access of the compiler's stretch loads
 - ("data", value), ("code", value): a value that is masked into the data region, into the code region

@@ -21,7 +21,7 @@ class Node:
     right: Stretch = None
     is_entry: bool = False
     incoming: list = field(default_factory=list)
-    required: dict = field(default_factory=dict)
+    required: set = field(default_factory=set)
 
 
 @dataclass
@@ -35,14 +35,13 @@ class Edge:
 @dataclass
 class Want:
     """What has to be equal in a node's stretches, for the compiler's instruction at a place. Of two addresses both are given
-    as the accessed one, too. What is soft may be a value that nothing reads."""
+    as the accessed one, too."""
     node: Node
     right: object
     left: object
     place: object
     what: str
     accessed: object = None
-    is_soft: bool = False
 
 
 class Walk:
@@ -89,14 +88,14 @@ class Walk:
     def look_at(self, node, left, right):
         """Runs the stretches of a node, and goes on where they lead."""
         node.left = Runner(self.left, left, lambda number, _: of("load", number)).run()
-        pairs = Pairs(node.left.accesses)
+        pairs = Pairs(node.left.accesses, self.right.objects)
         node.right = Runner(self.right, right, pairs.meet).run()
         if node.left.event.kind != "end":
             self.compare_accesses(node, pairs)
             self.compare_events(node, node.left.event, node.right.event)
 
-    def want(self, node, right, left, place, what, **more):
-        self.wants.append(Want(node, right, left, place, what, **more))
+    def want(self, node, right, left, place, what, accessed=None):
+        self.wants.append(Want(node, right, left, place, what, accessed))
 
     def compare_accesses(self, node, pairs):
         if pairs.waiting:
@@ -145,15 +144,14 @@ class Walk:
         self.edge(node, (left.target, ways[0]))
         self.edge(node, (left.following, ways[1]))
 
-    def want_registers(self, node, place, numbers, what, is_soft=False):
+    def want_registers(self, node, place, numbers, what):
         for number in numbers:
-            self.want(node, node.right.registers[number], node.left.registers[number], place, f"{what} (x{number})",
-                      is_soft=is_soft)
+            self.want(node, node.right.registers[number], node.left.registers[number], place, f"{what} (x{number})")
 
     def after_return(self, node, left, right):
         self.want(node, right.values[0], left.values[0], left.place, "where this returns to")
         self.want_registers(node, left.place, (STACK, *SAVED), "a register at the return")
-        self.want_registers(node, left.place, RESULTS, "a result", True)
+        self.want_registers(node, left.place, RESULTS, "a result")
 
     def after_indirect(self, node, left, right):
         """A jump by a table leads to labels of the same section whose addresses are taken; any other is to a function."""
@@ -162,8 +160,8 @@ class Walk:
                  and name in self.right.labels and name not in self.left.functions]
         for name in names:
             self.edge(node, (self.left.labels[name], self.right.labels[name]))
-        self.want_registers(node, left.place, (STACK, *SAVED, LINK), "a register at the jump", bool(names))
-        self.want_registers(node, left.place, ARGUMENTS, "an argument", True)
+        self.want_registers(node, left.place, (STACK, *SAVED, LINK), "a register at the jump")
+        self.want_registers(node, left.place, ARGUMENTS, "an argument")
 
     def after_jump(self, node, left, _):
         name = left.target.name
@@ -171,7 +169,7 @@ class Walk:
             self.edge(node, (self.left.functions[name], self.right.functions[name]))
         else:
             self.want_registers(node, left.place, (STACK, *SAVED, LINK), "a register at the jump")
-            self.want_registers(node, left.place, ARGUMENTS, "an argument", True)
+            self.want_registers(node, left.place, ARGUMENTS, "an argument")
 
     def after_call(self, node, left, right):
         if (left.word, right.word) != (str(LINK), str(LINK)):
@@ -186,7 +184,7 @@ class Walk:
                        for registers in (node.left.registers, node.right.registers)]
             self.edge(node, (self.left.functions[name], self.right.functions[name]), *entered)
         else:
-            self.want_registers(node, left.place, ARGUMENTS, "an argument", True)
+            self.want_registers(node, left.place, ARGUMENTS, "an argument")
         self.want_registers(node, left.place, (STACK,), "the stack pointer at the call")
         self.edge(node, (left.following, right.following), *self.after(node, name if is_here else None))
 
