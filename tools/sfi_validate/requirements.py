@@ -1,5 +1,6 @@
 """What has to hold where stretches begin, so that all that has to be equal in them is: followed back from each use of a value
 to what made it."""
+from collections import Counter
 from dataclasses import dataclass
 
 from comparing import (DATA_REGISTERS, Equation, Near, difference, distance, is_same, parted, without_mask)
@@ -8,6 +9,7 @@ from values import ZERO, of, replaced
 
 RESERVED = (3, 4, 24, 25, 26, 27, 31)  # registers that the compiler's code leaves alone
 MOST_COMPLAINTS = 100
+MOST_NUMBERS = 40  # of one requirement at one place: in a loop where a sum moves otherwise, there's no end of them
 
 
 @dataclass(frozen=True)
@@ -24,6 +26,7 @@ class Requirements:
     def __init__(self, walk, below, above):
         self.walk, self.below, self.above = walk, below, above
         self.waiting, self.told = [], set()
+        self.counts = Counter()  # of requirements that differ by their numbers alone
         for want in walk.wants:
             self.settle(want.node, want.right, want.left, want.accessed, Origin(want.place, want.what))
         while self.waiting and len(walk.complaints) < MOST_COMPLAINTS:
@@ -87,8 +90,14 @@ class Requirements:
             if requirement.right == ZERO and not any(atom[0] == "left" for atom in requirement.left.terms):
                 self.fail(node, origin)
                 return
-        if requirement not in node.required:
-            node.required.add(requirement)
+        if requirement in node.required:
+            return
+        node.required.add(requirement)
+        kind = id(node), *(frozenset(value.terms.items()) for value in requirement[:2])
+        self.counts[kind] += 1
+        if self.counts[kind] > MOST_NUMBERS:
+            self.fail(node, origin)
+        else:
             self.waiting.append((node, requirement, origin))
 
     def follow(self, node, requirement, origin):
