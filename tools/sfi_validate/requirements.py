@@ -1,6 +1,5 @@
 """What has to hold where stretches begin, so that all that has to be equal in them is: followed back from each use of a value
 to what made it."""
-from collections import Counter
 from dataclasses import dataclass
 
 from comparing import (DATA_REGISTERS, Equation, Near, difference, distance, is_same, parted, without_mask)
@@ -26,7 +25,7 @@ class Requirements:
     def __init__(self, walk, below, above):
         self.walk, self.below, self.above = walk, below, above
         self.waiting, self.told = [], set()
-        self.counts = Counter()  # of requirements that differ by their numbers alone
+        self.numbers = {}  # those of requirements that differ by them alone
         for want in walk.wants:
             self.settle(want.node, want.right, want.left, want.accessed, Origin(want.place, want.what))
         while self.waiting and len(walk.complaints) < MOST_COMPLAINTS:
@@ -80,7 +79,7 @@ class Requirements:
             return None
         places = [access.address for access in node.left.accesses] + ([later] if later is not None else [])
         found = [place for place in places if self.is_beside(equation.left, place)]
-        return min(found, key=lambda place: abs(distance(equation.left, place)), default=later)
+        return min(found, key=lambda place: abs(distance(equation.left, place)), default=None)
 
     def require(self, node, requirement, origin):
         """Requires something where a node's stretches begin."""
@@ -94,8 +93,9 @@ class Requirements:
             return
         node.required.add(requirement)
         kind = id(node), *(frozenset(value.terms.items()) for value in requirement[:2])
-        self.counts[kind] += 1
-        if self.counts[kind] > MOST_NUMBERS:
+        numbers = self.numbers.setdefault(kind, set())
+        numbers.add(tuple(value.number for value in requirement[:2]))
+        if len(numbers) > MOST_NUMBERS:
             self.fail(node, origin)
         else:
             self.waiting.append((node, requirement, origin))
