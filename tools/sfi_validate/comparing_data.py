@@ -31,9 +31,9 @@ def differences_of_symbols(left, right):
         if symbol.section is None and not symbol.common and not symbol.binding:
             continue
         other = right.named.get(name)
-        is_code = symbol.section in left.sections and left.sections[symbol.section].is_code()
-        if is_code or symbol.section is not None and not left.sections[symbol.section].is_data() or name.startswith((".", "$", "sfi_line_")):
-            continue
+        is_elsewhere = symbol.section is not None and not left.sections[symbol.section].is_data()
+        if is_elsewhere or name.startswith((".", "$", "sfi_line_")):
+            continue  # in code, in debug information, or of this file alone
         if other is None and symbol.section is None:
             continue  # a name that nothing in the rewritten code wants any more
         if other is None or other != symbol:

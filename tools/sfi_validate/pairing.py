@@ -39,7 +39,7 @@ class Pairs:
         return min(found, key=found.get, default=None)
 
     def changed_places(self):
-        """The later of two accesses of the compiler's code whose order matters and is another in the rewritten code, or None."""
+        """The later of two of the compiler's accesses whose order matters and is another in the rewritten code, or None."""
         if self.order == sorted(self.order):
             return None
         for index, later in enumerate(self.order):

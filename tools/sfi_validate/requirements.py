@@ -113,7 +113,7 @@ class Requirements:
                 if not self.is_near(edge.source, address, None, origin):
                     self.fail(edge.source, origin)
             else:
-                self.settle(edge.source, at_end(requirement.right), at_end(requirement.left), at_end(requirement.accessed), origin)
+                self.settle(edge.source, *map(at_end, requirement), origin)
 
     def holds_at_entry(self, requirement):
         """Where control comes from elsewhere, the registers that the compiler's code uses have one value in both codes."""

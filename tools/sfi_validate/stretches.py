@@ -165,7 +165,8 @@ class Runner:
         if value.terms.get(values.DATA_BASE) == 1:
             for atom, factor in value.terms.items():
                 if atom[0] == "low" and factor == 1 and self.code.is_small(*atom[1:]):
-                    return value.minus(of(*atom)).minus(of(*values.DATA_BASE)).plus(of("address", atom[1])).plus(number(atom[2]))
+                    rest = value.minus(of(*atom)).minus(of(*values.DATA_BASE))
+                    return rest.plus(of("address", atom[1])).plus(number(atom[2]))
         return value
 
     def value(self, place, instruction, relocation):
@@ -176,7 +177,9 @@ class Runner:
             return self.part(place, instruction, relocation)
         if word in ("unknown", "ecall"):
             raise Unknown(place, f"an instruction that is {word}")
-        second = self.part(place, instruction, relocation) if instruction.has_number else self.stretch.registers[instruction.second]
+        second = self.stretch.registers[instruction.second]
+        if instruction.has_number:
+            second = self.part(place, instruction, relocation)
         found = computed(word, first, second)
         return found if self.code.is_left else self.based(found)
 

@@ -1,5 +1,5 @@
-"""Tests of tools/sfi-validate: `tools/unit_tests.py tools/sfi_validate`. It has nothing to say of what the converter makes of the
-examples, and sees each mistake that is planted in one of the converter's passes."""
+"""Tests of tools/sfi-validate: `tools/unit_tests.py tools/sfi_validate`. It has nothing to say of what the converter makes of
+the examples, and sees each mistake that is planted in one of the converter's passes."""
 import os
 import subprocess
 import sys

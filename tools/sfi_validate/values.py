@@ -5,8 +5,8 @@
 - ("box", n): what the sandbox's own register n holds
 - ("load", n): what the n-th access of the compiler's stretch loads
 - ("data", value), ("code", value): a value that is masked into the data region, into the code region
-- ("after", n): register n after a call, in both codes alike; ("lost", n): after a call that has overwritten it; ("kept", n): in a
-  function that is called, of what it puts back
+- ("after", n): register n after a call, in both codes alike; ("lost", n): after a call that has overwritten it
+- ("kept", n): in a function that is called, register n, which it puts back
 - (word, value, value): what another instruction makes of two values"""
 from functools import lru_cache
 
