@@ -3,8 +3,8 @@
 
     bench/compare.py [--program PATH] [--images N] [--seed N]
 
-Compares the verdict's lines on the images of the examples in both formats, on the kinds of images.py, and on N small images (1000) with
-bits flipped, other numbers in their fronts, and odd code (odd_images.py); on 20 N more of these both ways of the checker alone. Then on
+Compares the verdict's lines on the images of the examples in the first two formats, on the kinds of images.py, and on N small images
+(1000) with bits flipped, other numbers in their fronts, and odd code (odd_images.py); on 20 N more of these both ways of the checker alone. Then on
 a large image of odd bundles in each format all findings, by `sfi check --report`, and the verdict by `--raw`. Prints how many were
 compared and what differs, and in its last line `N passed, M failed`, in which a comparison with a difference has failed. It wants gcc.
 """

@@ -5,7 +5,7 @@ x86-64, and what the toolchain then gives its clang, which is the whole library 
 for wasm64: both targets are little-endian, have pointers of 64 bits, and lay structs out alike.
 
 What this trusts beyond a build for x86-64: that nothing else in the LLVM module depends on its target (`retargeted` refuses
-what would), clang's target wasm64, wasm-ld, and the files of crates/sfi_tool_c/c.
+what would), clang's target wasm64, wasm-ld, the files of crates/sfi_tool_c/c, and heap.c of crates/sfi_run.
 """
 import os
 import re

@@ -74,7 +74,7 @@ class Found(NamedTuple):
 class Chain:
     """The accesses on one base, and on what it becomes by the sums `addi a, a, N`: how many there
     are so far, how far the base has moved, and the accesses that a cluster may begin with. Each
-    base that leads to an object lies in the data region (`layout`), so masking it at the first
+    base that leads to an object lies in the data region (`margins`), so masking it at the first
     access in place of each changes nothing."""
     count: int = 0
     moved: int = 0

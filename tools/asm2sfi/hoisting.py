@@ -8,7 +8,7 @@ the loop are on that register. The base is
 
 Steps need no masks beside an access (`stepping`, `raising`).
 
-A base that leads to an object lies in the data region, and so does a pointer one step beside it (`layout`): masking it
+A base that leads to an object lies in the data region, and so does a pointer one step beside it (`margins`): masking it
 before the loop in place of at each access changes nothing. At other places a pointer may be any number. So the first access
 on it has to come before it has moved by more than the largest step, and each other use when it has moved by no more since
 an access. Data registers that compilers leave alone hold nothing across calls, so a loop with a call isn't changed."""

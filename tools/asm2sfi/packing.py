@@ -1,13 +1,12 @@
 """Fits the code into bundles so that few nops run.
 
 An expansion that doesn't fit in the rest of its bundle goes into the next one; a label begins a
-bundle, and a call ends one. `sfi build` fills what is left by c.nops of 2 bytes, and they run. So
-this pass chooses
+bundle, and a call ends one. `as` fills what is left by nops, and they run. So this pass chooses
 
 - which instructions take 32 bits though they have a 16-bit form: this costs no step,
 - the order of the instructions between two labels, branches or calls that don't need each other's
   results,
-- nops of 32 bits in place of two of 16, and a jump over a large gap,
+- a jump over a large gap, and nops of 32 bits, and one of 16, in any other,
 - branches before a gap to be inverted: `beq x, out` and a gap before the label `loop` become `bne
   x, loop` and `j out`.
 

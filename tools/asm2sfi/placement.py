@@ -1,7 +1,7 @@
-"""Where `sfi build` places each instruction, and branches that don't reach their labels.
+"""Where each instruction is placed, and branches that don't reach their labels.
 
 A branch reaches from 4096 bytes before it to 4094 after it. One that doesn't is inverted, over a
-jump. A text in bundles is right in both formats that have them, so each branch reaches in both."""
+jump."""
 from dataclasses import replace
 
 from control import INVERSE, is_branch, is_call, labels_of

@@ -4,7 +4,7 @@ There an access on a data register is itself, where one on another register gets
 in a data register that compilers leave alone, and later accesses on it, and on what it becomes by sums with numbers, are
 on that register. Accesses on what is a sum with the stack pointer are on the stack pointer.
 
-A base that leads to an object lies in the data region (`layout`), so that the data register is equal to it at the access
+A base that leads to an object lies in the data region (`margins`), so that the data register is equal to it at the access
 before which it's set, and the later accesses are at the same addresses as before."""
 from control import Blocks, is_call
 from dependences import bits, reads, writes

@@ -1,10 +1,10 @@
 """How many bytes each instruction takes in an image. docs/SOURCE.md says what an instruction
 becomes; the 16-bit forms are those of RV32C.
 
-A source instruction becomes one or two expansions, each of which stands in one bundle. An
-expansion has one size, or two where the instruction has a 16-bit form: then `.option rvc` and
-`.option norvc` choose. Were a size wrong here, the code would run through more nops than it
-need, and would do the same, or trap at its start if a table has addresses of it."""
+An instruction becomes one or two expansions, each of which stands in one bundle. An expansion has
+one size, or two where the instruction has a 16-bit form: then `.option rvc` and `.option norvc`
+choose. Were a size wrong here, the code would run through more nops than it need, and would do the
+same."""
 from dataclasses import replace
 from functools import lru_cache
 

@@ -1,5 +1,5 @@
 """Tests of the functions that compilers call by themselves: `tools/unit_tests.py tools/asm2sfi`. C programs give
-their native answers, by gcc and by clang, in both formats. They are skipped where a compiler or the program isn't there."""
+their native answers, by gcc and by clang, in both formats of bundles. They are skipped where a compiler or the program isn't there."""
 import subprocess
 
 from testing import COMPILERS, SFI, SFI_CC, Folder, needs, needs_a_compiler, needs_program

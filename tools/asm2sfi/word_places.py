@@ -1,8 +1,5 @@
 """How many bytes each instruction takes in code in words, and where it lies there. docs/SOURCE.md says what an instruction
-becomes.
-
-Were a size wrong here, a branch might not reach its label, and a program whose data hold addresses of its code might trap
-at its start."""
+becomes."""
 from instructions import written
 from sizes import has_short_form, number_parts
 from typed import DATA, MASKS, is_free_step, is_move, masked_base

@@ -1,4 +1,4 @@
-"""The compiler's options that ELF files want beside those of tools/sfi-cc."""
+"""The compiler's options for small objects and for line numbers."""
 SMALL = 64  # bytes of an object that goes into small data
 
 
