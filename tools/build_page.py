@@ -1,5 +1,5 @@
 #!/usr/bin/env python3
-"""Makes what the page in the folder `page` needs beside its own files, in that folder.
+"""Makes the files of the folder `page` that the page needs and the repository doesn't hold.
 
     tools/build_page.py [--texts]    # with --texts all but the module
 

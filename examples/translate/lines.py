@@ -1,5 +1,5 @@
 #!/usr/bin/env python3
-"""Writes the translation of an accepted image, from what `sfi dis` lists: a maker beside that of the crate sfi_translate.
+"""Writes the translation of an accepted image, from what `sfi dis` lists. The crate sfi_translate makes it of the image's bytes.
 
     examples/translate/lines.py SFI IMAGE.hex > IMAGE.inc
 """

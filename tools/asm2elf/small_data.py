@@ -1,6 +1,6 @@
 """The places of small objects, as the pass `known` asks for them. They are known to the linker alone, which puts them into the
-first bytes of the data region, so each stands here for a number of its own, beyond all offsets, that the symbol's name
-takes the place of in the end."""
+first bytes of the data region. So each gets a number of its own here, beyond all offsets, and in the end the symbol's name
+stands in its place."""
 import re
 
 FIRST = 1 << 20

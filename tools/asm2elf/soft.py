@@ -1,4 +1,4 @@
-"""Where soft items stand once the passes have moved pieces: an item is written as soon as all the pieces before it in the
+"""Where soft items (unit.py) stand once the passes have moved pieces: an item is written as soon as all the pieces before it in the
 file have been."""
 from program import Mark
 

@@ -1,4 +1,4 @@
-"""Which symbol the parts of an address beside the pc speak of."""
+"""Which symbol the lower part of an address beside the pc belongs to, by the label of its `auipc`."""
 from assembly import Label
 from operands import PART, symbol
 

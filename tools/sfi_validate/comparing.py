@@ -1,5 +1,5 @@
-"""When a value of the rewritten code is equal to one of the compiler's: what has to hold of the registers where their stretches
-begin.
+"""What has to hold of the registers where two stretches begin, so that a value of the rewritten code is equal to one of the
+compiler's.
 
 A requirement is an equation, of a sum over the rewritten code's registers with one over the compiler's, or that an address is
 near one that the compiler's code has accessed."""

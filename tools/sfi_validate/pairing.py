@@ -1,4 +1,4 @@
-"""Which access of the rewritten code is which of the compiler's, in a stretch of both."""
+"""Pairs the accesses of a stretch of the rewritten code with those of the compiler's."""
 from comparing import distance, renamed
 from stretches import STACK, STORES
 from values import of, signed

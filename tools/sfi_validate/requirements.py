@@ -1,5 +1,5 @@
-"""What has to hold where stretches begin, so that all that has to be equal in them is: followed back from each use of a value
-to what made it."""
+"""What has to hold where stretches begin, so that all in them that has to be equal is. It is followed back from each use of a
+value to what made it."""
 from dataclasses import dataclass
 
 from comparing import (DATA_REGISTERS, Equation, Near, difference, distance, is_same, parted, without_mask)

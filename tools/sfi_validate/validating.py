@@ -1,4 +1,4 @@
-"""What of a rewritten object file isn't what the compiler's says."""
+"""The differences between a compiler's object file and the rewritten one."""
 import re
 
 import comparing_data

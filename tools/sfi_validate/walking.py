@@ -1,5 +1,5 @@
-"""The ways through both codes at once: from two places the stretches to the next branch, call or jump, the pairs of places
-after it, and what has to be equal where it comes."""
+"""Goes through both codes at once: from a pair of places, one of each code, over the stretches to the next branch, call or
+jump, to the pairs of places that come after it, with what has to be equal there."""
 from dataclasses import dataclass, field
 
 from machine_code import CALLER_SAVED, WRITTEN_BESIDE
