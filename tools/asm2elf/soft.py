@@ -1,5 +1,5 @@
-"""Where soft items (unit.py) stand once the passes have moved pieces: an item is written as soon as all the pieces before it in
-the file have been."""
+"""Where soft items (unit.py) stand once the passes have moved pieces: an item is written as soon as all the pieces before it
+in the file have been."""
 from program import Mark
 
 
