@@ -52,7 +52,7 @@ def read(*parts):
 def examples():
     """What the page offers: a group, a name, a title, a text, an input, and what is typed over its image."""
     found = [{"group": group, "name": name.replace("/", "-"), "title": title, "text": read("examples", f"{name}.s"), "input": given}
-             for group, rows in (("Source texts", SOURCES), ("C, converted by tools/sfi-cc", C_PROGRAMS)) for name, title, given in rows]
+             for group, rows in (("Source texts", SOURCES), ("Compiled C", C_PROGRAMS)) for name, title, given in rows]
     found += [{"group": "Refused", "name": name, "title": title, "text": read("examples", f"{of}.s"), "typed": typed}
               for name, title, of, typed in ATTACKS]
     found.append({"group": "Images", "name": "smallest", "title": "The smallest image", "text": read("examples", "smallest.hex")})

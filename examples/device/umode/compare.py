@@ -55,6 +55,12 @@ def built(text, image_format, count=1):
                           stdout=subprocess.PIPE, check=True).stdout.decode()
 
 
+def compiled_image(assembly, image_format):
+    """The image of a compiled program."""
+    command = [compiled.SFI_CC, "--format", image_format, "--data", str(DATA_SIZE), "--at", f"{CODE:x}:{DATA:x}", assembly]
+    return subprocess.run(command, stdout=subprocess.PIPE, check=True).stdout.decode()
+
+
 def row(name, folder):
     given = compiled.digits_of_case(name)
     build = pathlib.Path(compiled.EXAMPLES) / "build"
@@ -63,10 +69,7 @@ def row(name, folder):
     cells = [name, steps]
     for image_format in ("1", "2", "words"):
         assembly = build / ("words" if image_format == "words" else "") / f"{name}.asm"
-        text = subprocess.run([sys.executable, compiled.TOOL, "--format", image_format, "--data", str(DATA_SIZE),
-                               assembly], stdout=subprocess.PIPE, check=True).stdout.decode()
-        text = re.sub(r"^\.format.*\n", "", text, flags=re.M)
-        more, same = compiled.answer(run(built(text, image_format), IN_ONE_MODE, "", folder, given)[0])
+        more, same = compiled.answer(run(compiled_image(assembly, image_format), IN_ONE_MODE, "", folder, given)[0])
         if same != answer:
             raise SystemExit(f"compare.py: {name}, format {image_format}: {same}, in U-mode {answer}")
         cells.append(f"{more / steps:.2f}")
