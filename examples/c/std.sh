@@ -38,7 +38,7 @@ assertion_message() {
 }
 
 build_std() { # compiler, program, format
-    compile "$1" "$3" -fhosted -I include -o "$room/$1-$2.$3" "std/$2.c" "-L$room/$1.$3" -lsmall 2>"$room/messages"
+    compile "$1" "$3" -fhosted -fno-builtin -I include -o "$room/$1-$2.$3" "std/$2.c" "-L$room/$1.$3" -lsmall 2>"$room/messages"
 }
 
 try_std() { # compiler, program, format
@@ -58,7 +58,7 @@ make_library() { # compiler, format
     local file at="$room/$1.$2"
     mkdir -p "$at"
     for file in library/*.c; do
-        compile "$1" "$2" -fhosted -I include -c -o "$at/$(basename "$file" .c).o" "$file" || return 1
+        compile "$1" "$2" -fhosted -fno-builtin -I include -c -o "$at/$(basename "$file" .c).o" "$file" || return 1
     done
     riscv64-unknown-elf-ar rcs "$at/libsmall.a" "$at"/*.o
 }
@@ -66,8 +66,8 @@ make_library() { # compiler, format
 # The functions of the library that a program has are those that it calls, and what these call.
 try_linking() { # compiler
     local names found
-    compile "$1" 2 -fhosted -I include -o "$room/base64.elf" std/base64.c library/*.c
-    names=$(riscv64-unknown-elf-nm "$room/$1.2/libsmall.a" 2>"$room/messages" | awk '$2 == "W" { print $3 }')
+    compile "$1" 2 -fhosted -fno-builtin -I include -o "$room/base64.elf" std/base64.c library/*.c
+    names=$(riscv64-unknown-elf-nm "$room/$1.2/libsmall.a" 2>"$room/messages" | awk '$2 == "W" && $3 !~ /^_/ { print $3 }')
     found=$(riscv64-unknown-elf-nm "$room/base64.elf" | awk '{ print $3 }' | grep -xF "$names" | sort | paste -sd' ')
     report "base64 by $1: functions of the library" "getchar putchar" "$found"
 }
