@@ -2,9 +2,9 @@
 
        gcc -O2 -I crates/sfi_translate/include -DSFI_TEXT='"IMAGE.inc"' examples/translate/sfi_console.c -o image &&
        ./image --rounds N --quantum Q --input HEX */
-#include "sfi_native.h"
 #include <stdio.h>
 #include <stdlib.h>
+#include "sfi_native.h"
 
 enum { MAILS = 16, PUT_MOST = 65536, OUTPUT_MOST = 1048576 };
 enum { EXIT, PUT, GET, YIELD, POST, TAKE };

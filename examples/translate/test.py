@@ -8,6 +8,7 @@ import argparse
 import os
 import random
 import shutil
+import struct
 import subprocess
 import sys
 import tempfile
@@ -23,8 +24,14 @@ import measure
 
 INCLUDE = os.path.join(TOP, "crates/sfi_translate/include")
 COMPILERS = (("gcc", "-O2"), ("clang", "-O1"))
-TURNS = (("2", "2000"), ("50", "13"), ("9", "1000"))
+TURNS = (("2", "2000"), ("50", "13"), ("1", "64"), ("1", "128"))
 INPUT = "00ff10203040506070809a0b0c0d0e0f11"
+
+
+def straight():
+    """128 steps with no jump, from where the steps that are left are looked at."""
+    fields = (1, 0x01000000, 512, 0x01800000, 256, 0x01000000, 0, 0)
+    return b"SFI1" + struct.pack("<8I", *fields) + b"\x01\x00" * 128 + b"\x02\x90" * 128  # c.nop, c.ebreak
 
 
 def compiled(compiler, folder, text):
@@ -56,7 +63,7 @@ def main():
     given = parser.parse_args()
     pick = random.Random(given.seed)
     passed = failed = skipped = 0
-    images = corpus.examples(given.program) + [corpus.small_accepted(pick) for _ in range(given.images)]
+    images = [straight()] + corpus.examples(given.program) + [corpus.small_accepted(pick) for _ in range(given.images)]
     compilers = [it for it in COMPILERS if shutil.which(it[0])]
     for name, _ in COMPILERS:
         if not shutil.which(name):

@@ -192,8 +192,8 @@ bool sfi_run_exit(struct sfi_run_world *world, uint32_t sandbox, uint32_t number
 
 /*
  * Stops a sandbox that is ready or stands at a call: no turn runs it, and no call of it gets a reply. Its data, pc,
- * registers and steps stay, and sfi_run_enter may enter it again. So a host keeps the data of one that was cut off in a
- * loop. Returns false where there is no such sandbox or it has stopped already, and changes nothing then.
+ * registers and steps stay, and sfi_run_enter and sfi_run_call may enter it again. So a host keeps the data of one that was
+ * cut off in a loop. Returns false where there is no such sandbox or it has stopped already, and changes nothing then.
  */
 bool sfi_run_stop(struct sfi_run_world *world, uint32_t sandbox);
 
@@ -222,10 +222,11 @@ bool sfi_run_enter(struct sfi_run_world *world, uint32_t sandbox, uint32_t pc, c
  * Calls a function: sfi_run_enter, and then sfi_run_turn. Writes to *event how the sandbox stands then. Returns false where
  * it isn't entered.
  *
- * A function that returns calls the gate of service 0, in C as in assembly: the event is SFI_RUN_CALL with the number 0,
- * a0 the result, and a1 the high word of one of 64 bits. sfi_run_exit(world, sandbox, event->a0) ends the call, and the
- * next one may come. Before that the function may call other gates, or use up its steps: it goes on by sfi_run_turn, or
- * sfi_run_stop ends it.
+ * A function that returns calls its first gate of service 0, if one is listed, in C as in assembly: the event is
+ * SFI_RUN_CALL with the number 0, a0 the result, and a1 the high word of one of 64 bits. One that exits, by abort() too,
+ * makes the same call. sfi_run_exit(world, sandbox, event->a0) ends the call, and the next one may come; after
+ * sfi_run_reply a function that returned makes the call again. Before that it may call other gates, use up its steps or
+ * trap: it goes on by sfi_run_turn, sfi_run_stop ends it, and after a trap it has stopped.
  */
 bool sfi_run_call(struct sfi_run_world *world, uint32_t sandbox, uint32_t pc, const uint32_t arguments[8], uint32_t steps,
                   struct sfi_run_event *event);

@@ -2,8 +2,9 @@
  * The commands of Suygapid's program `sfi` for hosts in C and C++: what the program would print, and its status.
  *
  * A call reads nothing but its arguments, keeps nothing, starts no thread, and reads and writes no file. It takes memory by
- * malloc and has given all of it back by free when it returns. This is proved (docs/PROOFS.md): status 0 or 1 means that the
- * text is the command's answer on what was read, and status 2 that what was read has a fault.
+ * malloc and has given all of it back by free when it returns. What is proved (docs/PROOFS.md): status 0 or 1 means that the
+ * text is the command's answer on what was read, and status 2 that what was read has a fault, or that `--input` spells no
+ * bytes.
  *
  * What a caller owes, since nothing checks it:
  *
@@ -34,11 +35,12 @@ enum sfi_tool_status {
 
 /*
  * Answers the command that the words ask for, on the input that it would read. Each word has a zero byte after it and none
- * in it, and the first is the program's name: "sfi\0check\0--report\0", of 20 bytes (without the zero byte that C puts at a
- * literal's end).
+ * in it, and the first is the program's name: "sfi\0check\0--report\0", of 19 bytes (`sizeof` of that literal less 1, since
+ * C puts another zero byte at its end).
  *
  * Writes the front of the answer's text to `output`, as much as its `room` holds, and the length of the whole text to
- * `*length`: where that is more than `room`, call again with so much. Returns the status.
+ * `*length`: where that is more than `room`, call again with so much. Returns the status. With SFI_TOOL_NO_MEMORY nothing is
+ * written, and `*length` is 0. SFI_TOOL_USAGE also means that a word isn't UTF-8, or that the last has no zero byte after it.
  */
 uint32_t sfi_tool_answer(const uint8_t *words, size_t words_length, const uint8_t *input, size_t input_length,
                          uint8_t *output, size_t room, size_t *length);

@@ -36,7 +36,8 @@ closing = codes ")" ++ line_end
 -- ---- jumps
 
 -- The most bytes of code that one function of the text holds: those whose addresses have the same
--- quotient by it.
+-- quotient by it. A code region is a power of two and aligned to its size, so that multiples of it in
+-- the code are multiples in memory, or there is none.
 abbrev pub function_most : ℕ
 function_most = 16384
 

@@ -1,4 +1,4 @@
-//! The translation of an image: a text of lines that `include/sfi_native.h` gives a meaning in C.
+//! The translation of an image: a text of lines that `include/sfi_native.h` gives a meaning in C, if the image is accepted.
 //!
 //! [`translation_text`] writes each sandbox's fields, gates and first data, and a line for each
 //! instruction of its code. `specs/Translation.antt` is that text.
