@@ -32,21 +32,21 @@ unbroken_word bytes from at within k d in_word =
     let short : length (take (at - from) (drop from bytes)) ≤ at - from = grind (arith, length-take (at - from) (drop from bytes)) in
     let less : k < at - from = omega (arith, short, in_word) in
     let e : get_or (take (at - from) (drop from bytes)) k d ≡ get_or bytes (from + k) d =
-        get_or-take (at - from) (drop from bytes) k d less ∙ get_or-drop from bytes k d in
+    get_or-take (at - from) (drop from bytes) k d less ∙ get_or-drop from bytes k d in
     λ zero. within (from + k) d (omega (arith)) (omega (arith, less)) (sym e ∙ zero)
 
 -- a word more without a zero byte
 pub unbroken_more : (ws more : List Text) (word read : Text) → All HasNoZero ws → HasNoZero read → word ≡ read → more ≡ ws ++ word ∷ [] → All HasNoZero more
 unbroken_more ws more word read all one is more_is =
     All-same HasNoZero more (ws ++ word ∷ []) more_is
-        (All-append HasNoZero ws (word ∷ []) all (All-replicate HasNoZero 1 word (All-same (λ (b : ℕ). b ≢ 0) word read is one)))
+    (All-append HasNoZero ws (word ∷ []) all (All-replicate HasNoZero 1 word (All-same (λ (b : ℕ). b ≢ 0) word read is one)))
 
 -- a byte more that isn't zero
 pub unbroken_byte : (bytes : List ℕ) (from at next : ℕ) → at < length bytes → AllWithin (λ (b : ℕ). b ≢ 0) bytes from at → get_or bytes at 0 ≢ 0
     → next ≡ at + 1 → AllWithin (λ (b : ℕ). b ≢ 0) bytes from next
 unbroken_byte bytes from at next in_bytes within other next_is =
     subst (λ (n : ℕ). AllWithin (λ (b : ℕ). b ≢ 0) bytes from n) (sym next_is)
-        (AllWithin-more (λ (b : ℕ). b ≢ 0) bytes from at within (λ d zero. other (get_or_default bytes at 0 d in_bytes ∙ zero)))
+    (AllWithin-more (λ (b : ℕ). b ≢ 0) bytes from at within (λ d zero. other (get_or_default bytes at 0 d in_bytes ∙ zero)))
 
 -- the same words, spelled by the same bytes
 pub same_spelled : (bytes : List ℕ) (ws more : List Text) → SpellsWords bytes ws → ws ≡ more → SpellsWords bytes more

@@ -28,6 +28,6 @@ loop-at-preserved c = elim c.if-bytes-at-eq0.branch [
     All-same HasNoZero _ _ (ap (λ v. map (string_bytes {Z = Global}) v.items) w.words-is) c.loop-at.invariant.2,
     subst (λ (n : ℕ). AllWithin (λ (b : ℕ). b ≢ 0) c.args.bytes.now n (c.loop-at.at + 1)) (sym w.from-is)
         (unbroken_byte c.args.bytes.now c.loop-at.from c.loop-at.at (c.loop-at.at + 1) (omega (arith, c.loop-at-test.true)) c.loop-at.invariant.3
-            (λ is. w.if-bytes-at-eq0.false (grind (arith, is))) refl),
+        (λ is. w.if-bytes-at-eq0.false (grind (arith, is))) refl),
   )
 ]
