@@ -87,11 +87,11 @@ class Device:
             if text in line:
                 return line
 
-    def ask(self, *words):
-        """The answer to a command; lines that tell of a rolled back slot may come before it."""
+    def ask(self, *words, seconds=120):
+        """The answer to a command, or queue.Empty; lines that tell of a rolled back slot may come before it."""
         self.qemu.stdin.write(" ".join(str(word) for word in words).encode() + b"\n")
         while True:
-            line = self.next_line()
+            line = self.next_line(seconds)
             if ": version=" not in line or not (" no report: " in line or " older version: " in line):
                 return line
 

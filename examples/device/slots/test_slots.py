@@ -154,9 +154,17 @@ class OnSifive(Slots):
 class OnSpike(OnDevice):
     chip = "spike"
 
+    def answered(self):
+        """The answer to an empty line, sent again where none comes: QEMU's model can drop a byte."""
+        for _ in range(30):
+            try:
+                return self.device.ask("", seconds=4)
+            except queue.Empty:
+                continue
+        return None
+
     def test_a_line(self):
-        """QEMU's model drops a byte that comes before the last one was taken, so each line has one byte."""
-        self.assertEqual([self.device.ask("") for _ in range(3)], ["no"] * 3)
+        self.assertEqual([self.answered() for _ in range(3)], ["no"] * 3)
 
 
 # ---- Attacks
