@@ -1,6 +1,6 @@
 #!/usr/bin/env python3
 """Translates images to C, and compares what the C programs print with what `sfi run` does, traps and steps included: the
-examples in each format, and random accepted images, in turns of several lengths, by gcc and by clang.
+examples in each format, straight code, and random accepted images, in turns of several lengths, by gcc and by clang.
 
     examples/translate/test.py [--program SFI] [--images N] [--seed SEED]
 """
