@@ -5,7 +5,7 @@ that speak of a place in the code and change nothing there."""
 import re
 from dataclasses import dataclass, field
 
-from assembly import COMMENT, LABEL, Label, LocalLabels, Place, Refused, read_piece, split_outside_quotes
+from assembly import LABEL, Label, Refused, read_parts
 from instructions import Converter, Op
 from pcrel import pcrel_labels
 from program import Mark
@@ -81,19 +81,11 @@ class Unit:
         self.read(text)
 
     def read(self, text):
-        lines = list(self.parts(text))
+        lines = list(read_parts(self.name, text))
         self.converter = Converter(pcrel_labels([piece for _, pieces in lines for piece in pieces]))
         self.switch(".text", "\t.text")
         for part, pieces in lines:
             self.take(part, pieces)
-
-    def parts(self, text):
-        """Each line, or part of one that `;` ends, with its labels and its statement."""
-        local = LocalLabels()
-        for number, line in enumerate(text.splitlines(), 1):
-            bare = COMMENT.sub(lambda match: match.group(1) or "", line)
-            for part in split_outside_quotes(bare, ";"):
-                yield part, list(read_piece(part, Place(self.name, number), local))
 
     def take(self, part, pieces):
         statement = next((piece for piece in pieces if not isinstance(piece, Label)), None)
