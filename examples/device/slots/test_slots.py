@@ -11,7 +11,7 @@ import unittest
 sys.dont_write_bytecode = True
 sys.path.insert(0, os.path.dirname(os.path.abspath(__file__)))
 import device
-from device import FORMATS, HERE, SLOTS, Device, image_of, in_format, names_of, place_of, verdict_of
+from device import FORMATS, HERE, SLOTS, Device, image_of, names_of, place_of, verdict_of
 
 
 def text_of(name):
