@@ -6,4 +6,5 @@ pub mod PageRuns
 pub mod PageWrites
 pub mod Paging
 pub mod Ranges
+pub mod Runs
 pub mod Facts

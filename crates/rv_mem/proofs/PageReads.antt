@@ -40,7 +40,7 @@ some_other (m ∷ ms) other =
 -- ---- in one page
 
 module _ (t c : List ℕ) (are : ArePages t c) (at f : ℕ) (is : f ≡ frame_of t at) (n : ℕ) (fits : at < 2 ^ 32) (one_page : at % 4096 + n ≤ 4096) where
-  byte_after : (k : ℕ) → k < n → byte_at (values_of (cell_at t c)) (address_after at k) ≡ cell c (f + at % 4096 + k)
+  pub byte_after : (k : ℕ) → k < n → byte_at (values_of (cell_at t c)) (address_after at k) ≡ cell c (f + at % 4096 + k)
   byte_after k small =
       let a : address_after at k ≡ at + k = omega arith in
       let p : (at + k) / 4096 ≡ at / 4096 = omega arith in

@@ -6,6 +6,7 @@
 //! each with a mark for each byte that is there.
 #![tactic(auto)]
 
+mod cells;
 pub mod fault;
 mod lookup;
 pub mod memory;

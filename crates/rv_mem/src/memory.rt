@@ -1,7 +1,8 @@
 //! What a memory is.
-ghost use Rattle.std.specs.Prelude.{◌≡◌, ◌≢◌, ◌+◌, ◌^◌, ◌<◌, ◌≤◌, ◌↔◌, length, IsTrue, IfSome, OnOk, OnErr};
+ghost use Rattle.std.specs.Prelude.{◌≡◌, ◌≢◌, ◌+◌, ◌^◌, ◌<◌, ◌≤◌, ◌↔◌, length, IsTrue, IfSome, IsSome, Some, OnOk, OnErr};
 ghost use Rattle.std.specs.Bool.{OnTrue, OnFalse};
-ghost use Rattle.rv_mem.specs.Bytes.{Bytes, IsMemory, count_of, loaded, IsThere, stored, Overlaps, IsFree, added};
+ghost use Rattle.std.specs.List.{range_with_len};
+ghost use Rattle.rv_mem.specs.Bytes.{Bytes, IsMemory, count_of, loaded, IsThere, stored, bytes_at, with_bytes, Overlaps, IsFree, added};
 
 use crate::fault::AddFault;
 
@@ -37,6 +38,18 @@ pub trait Memory: Drop {
         ensures done { OnTrue result
             (bytes self.new ≡ stored (bytes self.old) at (count_of width) value) }
         ensures refused { OnFalse result (bytes self.new ≡ bytes self.old) };
+
+    /// Fills `room` with the bytes from `at` on.
+    fn copy_out(&self, at: u32, room: &mut [u8])
+        requires { IsSome (bytes_at (bytes self.now) (range_with_len at (length room.old))) }
+        ensures { bytes_at (bytes self.now) (range_with_len at (length room.old))
+            ≡ Some room.new };
+
+    /// Writes `copied` from `at` on, at addresses that are there.
+    fn copy_in(&mut self, at: u32, copied: &[u8])
+        requires { IsSome (bytes_at (bytes self.old) (range_with_len at (length copied.now))) }
+        ensures { bytes self.new
+            ≡ with_bytes (bytes self.old) (range_with_len at (length copied.now)) copied.now };
 
     /// Adds `size` bytes from `base` on: those of `front`, and then zeros.
     fn add(&mut self, base: u32, size: u32, front: &[u8]) -> Result<(), AddFault>

@@ -2,11 +2,11 @@
 ghost use Rattle.std.specs.Prelude.{◌≡◌, ◌≢◌, ◌+◌, ◌*◌, ◌/◌, ◌%◌, ◌^◌, ◌<◌, ◌≤◌, ◌↔◌, IsTrue, IsSome, IfSome, OnOk, OnErr, length, slice_index, ℕ, None};
 ghost use Rattle.std.specs.Bool.{OnTrue, OnFalse};
 ghost use Rattle.std.specs.FinMap.{empty, insert};
-ghost use Rattle.std.specs.Int.{bytes_low_first};
 ghost use Rattle.rv_mem.specs.Bytes.{IsMemory, count_of, byte_at, loaded, stored, IsThere, Overlaps, IsFree, added};
 ghost use Rattle.rv_mem.specs.Frames.{ArePages, frame_of, cell_at, values_of};
-ghost use Rattle.rv_mem.specs.private.Frames.{KeepsFrames, HaveFrames, with_four, run_of, Puts, MarksRun};
+ghost use Rattle.rv_mem.specs.private.Frames.{KeepsFrames, HaveFrames, run_of};
 
+use crate::cells::{copy_cells, mark_cells, write_word};
 use crate::fault::AddFault;
 use crate::memory::{Memory, Width};
 use std::alloc::{AllocError, Global};
@@ -372,7 +372,7 @@ impl Pages {
     }
 
     /// Writes the bytes of front and then zeros, in pages that have frames.
-    fn fill(&mut self, base: u32, size: u32, front: &[u8])
+    fn fill(&mut self, base: u32, size: u64, front: &[u8])
         requires end { base + size ≤ 2 ^ 32 }
         requires room { length front.now ≤ size }
         requires made { HaveFrames self.old.table.items base size }
@@ -380,59 +380,12 @@ impl Pages {
     {
         let mut done = 0;
         while done < size {
-            let at = base + done;
-            let count = (PAGE - at % PAGE).min(size - done);
-            self.mark_run(at, count, front, done);
+            let at = base + done as u32;
+            let count = u64::from(PAGE - at % PAGE).min(size - done);
+            self.mark_run(at, count as u32, front, done as u32);
             done += count;
         }
     }
-}
-
-/// Writes the four bytes of a number from a place on: over a slice,
-/// so that it is one store of the processor.
-#[inline(always)]
-fn write_word(cells: &mut [u8], place: usize, value: u32)
-    requires { place + 4 ≤ length cells.old }
-    ensures { cells.new ≡ with_four cells.old place (bytes_low_first 0 4 value) }
-{
-    let [byte0, byte1, byte2, byte3] = value.to_le_bytes();
-    cells[place] = byte0;
-    cells[place + 1] = byte1;
-    cells[place + 2] = byte2;
-    cells[place + 3] = byte3;
-}
-
-/// Writes bytes from a place on.
-fn put_bytes(cells: &mut [u8], place: usize, bytes: &[u8])
-    requires { place + length bytes.now ≤ length cells.old }
-    ensures put { Puts cells.old cells.new place (length bytes.now) (slice_index bytes.now) }
-    ensures small { (j : ℕ) → slice_index bytes.now j < 256 }
-{
-    for j in 0..bytes.len() {
-        cells[place + j] = bytes[j];
-    }
-}
-
-/// Writes one value so many times from a place on.
-fn put_same(cells: &mut [u8], place: usize, count: usize, value: u8)
-    requires { place + count ≤ length cells.old }
-    ensures { Puts cells.old cells.new place count (λ j. value) }
-{
-    cells[place..place + count].fill(value);
-}
-
-/// Writes so many bytes of front, from one of its places on and with zeros past its end,
-/// and their marks.
-fn mark_cells(cells: &mut [u8], place: usize, count: usize, front: &[u8], from: usize)
-    requires room { place + count + 4096 ≤ length cells.old }
-    requires page { count ≤ 4096 }
-    ensures { MarksRun cells.old cells.new place count front.now from }
-{
-    let start = from.min(front.len());
-    let given = count.min(front.len() - start);
-    put_bytes(cells, place, &front[start..start + given]);
-    put_same(cells, place + given, count - given, 0);
-    put_same(cells, place + PAGE as usize, count, 1);
 }
 
 impl Memory for Pages {
@@ -481,6 +434,21 @@ impl Memory for Pages {
         self.store_bytes(at, width, value)
     }
 
+    fn copy_out(&self, at: u32, room: &mut [u8]) {
+        let mut done = 0;
+        while done < room.len() {
+            let from = at + done as u32;
+            let count = ((PAGE - from % PAGE) as usize).min(room.len() - done);
+            let place = self.frame(from).unwrap() + (from % PAGE) as usize;
+            copy_cells(&self.cells, place, count, room, done);
+            done += count;
+        }
+    }
+
+    fn copy_in(&mut self, at: u32, copied: &[u8]) {
+        self.fill(at, copied.len() as u64, copied);
+    }
+
     fn add(&mut self, base: u32, size: u32, front: &[u8]) -> Result<(), AddFault> {
         if self.overlaps(base, size) {
             return Err(AddFault::Overlap);
@@ -491,7 +459,7 @@ impl Memory for Pages {
         if self.make_pages(base, size).is_err() {
             return Err(AddFault::Memory);
         }
-        self.fill(base, size, front);
+        self.fill(base, u64::from(size), front);
         Ok(())
     }
 }

@@ -118,6 +118,18 @@ impl Memory for Segments {
         true
     }
 
+    fn copy_out(&self, at: u32, room: &mut [u8]) {
+        for k in 0..room.len() {
+            room[k] = self.byte_at(at + k as u32).unwrap();
+        }
+    }
+
+    fn copy_in(&mut self, at: u32, copied: &[u8]) {
+        for k in 0..copied.len() {
+            self.put_byte(at + k as u32, copied[k]);
+        }
+    }
+
     fn add(&mut self, base: u32, size: u32, front: &[u8]) -> Result<(), AddFault> {
         if self.overlaps(base, size) {
             return Err(AddFault::Overlap);

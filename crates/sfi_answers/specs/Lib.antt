@@ -4,3 +4,4 @@ pub mod Checking
 pub mod Building
 pub mod Converting
 pub mod Listing
+pub mod Translating

@@ -1,4 +1,4 @@
-//! What the commands answer that run no sandbox: `check`, `build`, `map`, `dis` and `convert`.
+//! What the commands answer that run no sandbox: `check`, `build`, `map`, `dis`, `convert` and `translate`.
 #![tactic(auto)]
 
 mod building;
@@ -8,7 +8,9 @@ mod fault;
 mod listing;
 mod raw;
 mod text;
+mod translating;
 mod verdict;
+mod whole_program;
 
 pub use building::{build_answer, map_answer};
 pub use checking::{check_answer, refusal_answer};
@@ -17,4 +19,5 @@ pub use fault::{InputFault, Stop, TOO_LARGE_LINE, stop_answer};
 pub use listing::listing_answer;
 pub use raw::raw_answer;
 pub use text::text_answer;
+pub use translating::translation_answer;
 pub use verdict::Answer;

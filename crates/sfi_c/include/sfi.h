@@ -34,6 +34,7 @@
 #ifndef SFI_H
 #define SFI_H
 
+#include <stdbool.h>
 #include <stddef.h>
 #include <stdint.h>
 
@@ -76,7 +77,7 @@ enum sfi_layout_fault {
 struct sfi_finding {
     uint32_t sandbox; /* the sandbox's place in the image, counted from 0 */
     uint32_t address; /* that of the instruction's first byte, or of the bytes that are none; for V9 the gate's */
-    uint32_t rule;    /* 1 for V1 to 12 for V12 (README.md, "Rules"; docs/IMAGE.md, "Code in words") */
+    uint32_t rule;    /* 1 for V1 to 12 for V12 (docs/IMAGE.md) */
 };
 
 /* The verdict on an image. What its status doesn't speak of is 0. */
@@ -157,11 +158,20 @@ void sfi_c_begin(struct sfi_stream *stream);
 void sfi_c_feed(struct sfi_stream *stream, const uint8_t *bytes, size_t length);
 uint32_t sfi_c_end(const struct sfi_stream *stream, struct sfi_verdict *verdict);
 
+/*
+ * Whether the bytes so far are refused already: the layout has a fault other than that they are cut short, or a rule is
+ * broken in the bundles that have come whole. Then no image that begins with them is accepted, so nothing more has to be
+ * fed. It may be called at any time. Where it answers true for a fault, sfi_c_end tells which; for a broken rule
+ * sfi_c_end answers SFI_REFUSED after the image's last byte alone.
+ */
+bool sfi_c_refused(const struct sfi_stream *stream);
+
 /* ---- what is in an image: ask it of bytes that were accepted */
 
 /*
- * These calls look at the layout alone and break off at its first fault: they don't look for broken rules, so that each
- * costs a small part of a check. Of bytes that are an image they answer the same whether a rule is broken in it or not.
+ * The calls that take an image's bytes look at the layout alone and break off at its first fault: they don't look for
+ * broken rules, so that each costs a small part of a check. Of bytes that are an image they answer the same whether a rule
+ * is broken in it or not.
  *
  * Compare the regions with what is yours before you map anything. An image names its addresses itself: that they lie
  * apart from each other, and have room for the guard zones, is checked; that they lie apart from your own memory is yours.
@@ -224,6 +234,15 @@ uint32_t sfi_c_gate(const uint8_t *image, size_t length, uint32_t number, uint32
  * SFI_FOUND where the image has the sandbox, even one with no gate. The layout is looked at once, not for each gate.
  */
 uint32_t sfi_c_gates(const uint8_t *image, size_t length, uint32_t number, struct sfi_gate *array, size_t capacity);
+
+/*
+ * Of parts that sfi_c_part wrote, which may be one and the same: whether no region and no guard zone of one sandbox meets
+ * one of the other: neither code with code, nor the code of one
+ * with the data or a guard zone of the other, nor data or guard zones with each other. It looks at the bases and sizes
+ * alone. So sandboxes of two images, each accepted by itself and in any format, may run in one memory where this is true of
+ * each sandbox of the one with each of the other. Of one image's sandboxes the verdict says so.
+ */
+bool sfi_c_apart(const struct sfi_part *one, const struct sfi_part *other);
 
 #ifdef __cplusplus
 }

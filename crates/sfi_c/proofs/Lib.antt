@@ -1,6 +1,10 @@
+mod Regions
 mod Filling
 mod Lookups
 mod Places
 mod Prelude
+mod FrontFindings
+mod Bounds
+mod Refused
 mod Seeking
 mod Writing

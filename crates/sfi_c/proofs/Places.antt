@@ -18,11 +18,11 @@ use Rattle.sfi_c.specs.Parts.{LiesAt, Tells, told_at}
 
 -- ---- lengths
 
-length-number : (n : ℕ) → length (number n) ≡ 4
+pub length-number : (n : ℕ) → length (number n) ≡ 4
 unfolding number
 length-number n = refl
 
-length-gates : (gs : List Gate) → length (flat_map gate gs) ≡ 8 * length gs
+pub length-gates : (gs : List Gate) → length (flat_map gate gs) ≡ 8 * length gs
 length-gates [] = refl
 length-gates (g ∷ gs) = omega (arith, length-gate g (flat_map gate gs), length-gates gs)
 

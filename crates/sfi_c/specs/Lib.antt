@@ -1,4 +1,6 @@
+pub mod Apart
 pub mod Arrays
 pub mod Parts
+pub mod Refused
 pub mod Streams
 pub mod private

@@ -1,5 +1,5 @@
 //! The calls that C makes on an image that comes in pieces.
-ghost use Rattle.std.specs.Prelude.{◌≡◌, ◌≤◌, ℕ, List, [], ◌∷◌, ◌++◌, length};
+ghost use Rattle.std.specs.Prelude.{◌≡◌, ◌≤◌, ◌↔◌, ℕ, List, [], ◌∷◌, ◌++◌, length, IsTrue};
 ghost use Rattle.sfi_image.specs.declared.fault.LayoutFault.{LayoutFault};
 ghost use Rattle.sfi_image.specs.Spelling.{Part};
 ghost use Rattle.sfi_image.specs.Faults.{IsFault, number_of as fault_number};
@@ -8,7 +8,9 @@ ghost use Rattle.sfi_check.specs.Verdict.{HasFindings, bundle_count};
 ghost use Rattle.sfi_safety.specs.Clean.{IsAccepted};
 ghost use Rattle.sfi_check.specs.ForC.{number_of, acceptance, refusal, no_image, IsAcceptance, IsRefusal, IsLayoutFault};
 ghost use Rattle.sfi_c.specs.Streams.{IsStreamOf};
+ghost use Rattle.sfi_c.specs.Refused.{AreRefusedAlready};
 
+use crate::stage::fault_of;
 use crate::stream::{SfiStream, feed_of, kept};
 use sfi_check::{Feed, SfiVerdict, Status};
 
@@ -61,4 +63,21 @@ pub extern "C" fn sfi_c_end(stream: &SfiStream, verdict: &mut SfiVerdict) -> u32
 {
     *verdict = SfiVerdict::of(feed_of(stream).answer());
     verdict.status
+}
+
+/// Tells whether the bytes that were fed so far are refused already: they have a fault of the layout
+/// other than that they are cut short, or a rule is broken in the bundles that have come whole. Then
+/// no image that begins with them is accepted. It may be asked at any time.
+#[unsafe(no_mangle)]
+pub extern "C" fn sfi_c_refused(stream: &SfiStream) -> bool
+    requires { (bytes : List ℕ) × IsStreamOf stream.now bytes }
+    ensures refused { (bytes : List ℕ) → IsStreamOf stream.now bytes
+        → IsTrue result ↔ AreRefusedAlready bytes }
+    ensures never_accepted { (bytes more : List ℕ) → IsStreamOf stream.now bytes → IsTrue result
+        → (ps : List Part) → IsAccepted (bytes ++ more) ps → ⊥ }
+{
+    if fault_of(stream.fault).is_some() {
+        return true;
+    }
+    stream.findings > 0
 }

@@ -5,6 +5,7 @@
 //! contracts hold for a caller that passes what the header asks for: nothing checks it.
 #![tactic(auto)]
 
+mod apart;
 mod checking;
 mod feeding;
 mod finding;
@@ -14,8 +15,9 @@ mod stage;
 mod stream;
 mod version;
 
+pub use apart::sfi_c_apart;
 pub use checking::{sfi_c_check, sfi_c_findings};
-pub use feeding::{sfi_c_begin, sfi_c_end, sfi_c_feed};
+pub use feeding::{sfi_c_begin, sfi_c_end, sfi_c_feed, sfi_c_refused};
 pub use looking::{Lookup, sfi_c_gate, sfi_c_gates, sfi_c_part};
 pub use part::{SfiGate, SfiPart};
 pub use sfi_check::{SfiFinding, SfiVerdict, Status};

@@ -28,7 +28,7 @@ use Rattle.clap.proofs.OnLiterals.{clap_on_literals}
 use Rattle.sfi_command.specs.Command.{sfi, quantum_most, rounds_most, texts_of, Names, NamesNoInput, Asks, IsCount, IsFaultOf, IsInputOf, IsNoInput, number_of}
 use Rattle.sfi_command.specs.private.{NamesNothing, IsFaultOfNamed, IsInputFault}
 use Rattle.sfi_command.specs.declared.job.Job.{Job}
-use Rattle.sfi_command.specs.declared.job.Job.TheVariants.{Check, Dis, Build, Map, Run, Convert}
+use Rattle.sfi_command.specs.declared.job.Job.TheVariants.{Check, Dis, Build, Map, Run, Convert, Translate}
 use Rattle.sfi_command.specs.declared.job.JobFault.{JobFault}
 use Rattle.sfi_command.specs.declared.job.JobFault.TheVariants.{Usage, Hex, Memory}
 
@@ -201,6 +201,7 @@ only_run rows none (Build places) names = other_name _ _ 114 98 names.0 refl ref
 only_run rows none (Map places) names = other_name _ _ 114 109 names.0 refl refl (λ e. absurd (omega (arith, e)))
 only_run rows none (Run rounds quantum input report) names = none rounds quantum input report names
 only_run rows none Convert names = other_name _ _ 114 99 names refl refl (λ e. absurd (omega (arith, e)))
+only_run rows none (Translate whole) names = other_name _ _ 114 116 names.0 refl refl (λ e. absurd (omega (arith, e)))
 
 -- the texts of an option that was given, and of one that wasn't
 option_texts : (o : Option Entry) → unwrap_or (option_map (λ (a : MatchedArg). raw_values a) (option_map (λ (e : Entry). e.1) o)) [] ≡ option_map_or (λ (r : Row). r.values) (option_map row_of o) []

@@ -10,7 +10,7 @@ use Rattle.clap.specs.Walk.{Row, Rule, Text, first_of}
 use Rattle.clap.specs.declared.builder.action.ArgAction.TheVariants.{Append, SetTrue}
 use Rattle.clap.specs.declared.builder.value_parser.ValueParser.TheVariants.{Signed}
 use Rattle.sfi_command.specs.declared.job.Job.{Job}
-use Rattle.sfi_command.specs.declared.job.Job.TheVariants.{Check, Dis, Build, Map, Run, Convert}
+use Rattle.sfi_command.specs.declared.job.Job.TheVariants.{Check, Dis, Build, Map, Run, Convert, Translate}
 use Rattle.sfi_command.specs.declared.job.JobFault.{JobFault}
 use Rattle.sfi_command.specs.declared.job.JobFault.TheVariants.{Usage, Hex, Memory}
 use Rattle.sfi_command.specs.Places.{SpellPlaces}
@@ -80,13 +80,18 @@ run = record (new_shape (codes "run")) {
 abbrev pub convert : Shape
 convert = new_shape (codes "convert")
 
+-- `translate [--whole]`
+abbrev pub translate : Shape
+translate = record (new_shape (codes "translate")) { rules = flag_rule (codes "whole") ∷ [] }
+
 -- the command line: the program with its subcommands
 abbrev pub sfi : App
 sfi =
     with_subcommand
     (with_subcommand
+    (with_subcommand
     (with_subcommand (with_subcommand (with_subcommand (with_subcommand program check) dis) build)
-    map_names) run) convert
+    map_names) run) convert) translate
 
 -- ---- jobs
 
@@ -135,6 +140,8 @@ Names (Some p) (Run rounds quantum input report) =
     × IsInputOf (first_of (codes "input") p.1) input.items
     × IsGiven (codes "report") p.1 report
 Names (Some p) Convert = p.0 ≡ codes "convert"
+Names (Some p) (Translate whole) =
+    (p.0 ≡ codes "translate") × IsGiven (codes "whole") p.1 whole
 
 -- the words parse by the command line, and their subcommand asks for the job;
 -- the first word is the program's name

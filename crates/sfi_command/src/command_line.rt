@@ -187,6 +187,9 @@ fn job_named(alloc: Global, name: &str, found: &ArgMatches<'_>) -> Result<Job, J
         "map" => map_of(alloc, found),
         "run" => run_of(alloc, found),
         "convert" => Ok(Job::Convert),
+        "translate" => Ok(Job::Translate {
+            whole: is_given(found, "whole"),
+        }),
         _ => Err(no_command(alloc)),
     }
 }

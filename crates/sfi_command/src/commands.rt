@@ -128,6 +128,16 @@ const COMMANDS: &[CommandRow] = &[
         notes: help::CONVERT_NOTES,
         options: &[],
     },
+    CommandRow {
+        name: "translate",
+        about: help::TRANSLATE,
+        notes: help::TRANSLATE_NOTES,
+        options: &[OptionRow {
+            name: "whole",
+            takes: Takes::Nothing,
+            about: help::TRANSLATE_WHOLE,
+        }],
+    },
 ];
 
 /// An option of this name, with the line that help has for it.

@@ -5,7 +5,7 @@
 pub const VERSION: &str = "0.1.0";
 
 pub(crate) const PROGRAM: &str =
-    "Build, map, check, list, convert and run images of sandboxed RISC-V code (RV32IMC)";
+    "Build, map, check, list, convert, translate and run images of sandboxed RISC-V code (RV32IMC)";
 
 pub(crate) const PROGRAM_NOTES: &str = "\
 Each command reads standard input and writes standard output, lines about
@@ -13,7 +13,8 @@ faults too. Images are hexadecimal text: digits of either case, with white
 space between them. `sfi help COMMAND` says more of a command.
 
 Exit status:
-  0  done: the image is accepted, built, mapped, listed, run or converted
+  0  done: the image is accepted, built, mapped, listed, run, converted or
+     translated
   1  refused: the image breaks rules, and the verdict is printed
   2  the input or the text of --input has a fault, which one line names
   3  a usage error, or a help or version text
@@ -150,3 +151,24 @@ Exit status:
 
 Example:
   sfi convert < old.hex > new.hex";
+
+pub(crate) const TRANSLATE: &str = "Write an image as C, if it is accepted";
+
+pub(crate) const TRANSLATE_WHOLE: &str =
+    "A whole program, which takes the options of `sfi run` but --report, and prints its lines";
+
+pub(crate) const TRANSLATE_NOTES: &str = "\
+Reads an image, and prints it as C for a host: a line that includes sfi_native.h,
+and for each sandbox its regions, its gates, its first data and a line for each
+instruction. sfi_native.h gives these lines their meaning.
+
+Exit status:
+  0  translated
+  1  refused: the image breaks rules, and the verdict is printed
+  2  the input is no image
+  3, 4, 5  as `sfi help` says
+
+Example:
+  sfi translate --whole < hi.hex > hi.c
+  gcc -O2 hi.c -o hi
+  ./hi --rounds 10 --quantum 5000 --input 4869";

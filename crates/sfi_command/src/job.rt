@@ -44,6 +44,11 @@ pub enum Job {
     },
     /// The image in the second format, as hexadecimal text. Its bytes come as hexadecimal text.
     Convert,
+    /// The image as C. Its bytes come as hexadecimal text.
+    Translate {
+        /// Whether it is a whole program, with the header and the console of `run` in it.
+        whole: bool,
+    },
 }
 
 impl Job {

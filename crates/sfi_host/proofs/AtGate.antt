@@ -1,9 +1,9 @@
 -- A sandbox that waits is at one of its gates.
 use Rattle.std.specs.Prelude.{IfSome}
 use Rattle.std.proofs.lemmas.List.Elements.{All-contains}
-use Rattle.sfi_host.proofs.Prelude.{◌≡◌, ℕ, zero, suc, ◌≤◌, ◌==◌, Bool, true, false, cond, List, [], ◌∷◌, Option, Some, None, refl, sym, ap, ◌∙◌, subst, arith, eqb-true, eqb-false, Contains, Bytes, State, Stepped, Stands, Ecall, Slot, Bounds, Seat, Sandboxes, slot_of, slots_of, state_in, IsSafeSeat, IsSafeWorld, Ready, Call, service_at, state_of}
+use Rattle.sfi_host.proofs.Prelude.{◌≡◌, ℕ, zero, suc, ◌<◌, ◌≤◌, ◌==◌, length, Bool, true, false, cond, List, [], ◌∷◌, Option, Some, None, refl, sym, ap, ◌∙◌, subst, arith, eqb-true, eqb-false, Contains, Bytes, State, Stepped, Stands, Ecall, Slot, Bounds, Seat, Sandboxes, slot_of, slots_of, state_in, IsSafeSeat, IsSafeWorld, Ready, Call, service_at, gate_at, state_of, slice_get, slice_get_within, same_Some, Sandbox, seat_of, request_by}
 use Rattle.rv_step.specs.declared.outcome.Outcome.TheVariants.{Call as Calls}
-use Rattle.sfi_policy.specs.Limits.{service_most}
+use Rattle.sfi_policy.specs.Limits.{gates_most, service_most}
 use Rattle.sfi_image.specs.declared.part.Gate.{Gate}
 use Rattle.sfi_host.specs.declared.guest.Request.{Request}
 use Rattle.sfi_host.specs.Stops.{IsAtGate}
@@ -21,6 +21,7 @@ record IsFound (gs : List Gate) (at : ℕ) : Type 0 where
   among : Contains gs gate
   address : gate.address ≡ at
   service : service_at gs at ≡ gate.service
+  place : slice_get gs (gate_at gs at) ≡ Some gate
 
 later : {A : Type 0} (x : A) (xs : List A) (y : A) → Contains (x ∷ xs) y → (x ≡ y → ⊥) → Contains xs y
 later x xs y (zero, below, is) other = absurd (other is)
@@ -34,6 +35,7 @@ gate_found (x ∷ gs) at g c e = elim (x.address == at) as (λ t. (x.address == 
     among = (0, omega arith, refl);
     address = eqb-true x.address at t;
     service = ap (λ (b : Bool). cond b x.service (service_at gs at)) t;
+    place = ap (λ (b : Bool). slice_get (x ∷ gs) (cond b 0 (suc (gate_at gs at)))) t;
   }
   | false ↦ λ t.
       let rest = gate_found gs at g (later x gs g c (λ same. eqb-false x.address at t (ap (λ (y : Gate). y.address) same ∙ e))) e in
@@ -43,6 +45,7 @@ gate_found (x ∷ gs) at g c e = elim (x.address == at) as (λ t. (x.address == 
         among = (suc rest.among.0, omega (arith, below), rest.among.2);
         address = rest.address;
         service = ap (λ (b : Bool). cond b x.service (service_at gs at)) t ∙ rest.service;
+        place = ap (λ (b : Bool). slice_get (x ∷ gs) (cond b 0 (suc (gate_at gs at)))) t ∙ rest.place;
       }
 ] refl
 
@@ -67,8 +70,15 @@ module _ (m : Bytes) (s : Seat) (seat : IsSafeSeat m s) (ready : s.status ≡ Re
   few : found_gate.gate.service ≤ service_most
   few = All-contains (λ (g : Gate). g.service ≤ service_most) seat.part.gates found_gate.gate seat.right.gates.services (subst (λ (b : Bounds). Contains b.gates found_gate.gate) seat.bounds found_gate.among)
 
-pub waits_at_gate : (w : Sandboxes) (i : ℕ) (r : Request) → IsSafeWorld w → Waits (slots_of w) i r → AsksAtGate (slots_of w) i r
-waits_at_gate w i r safe waits =
+  -- the sandbox lists 64 at most
+  near : gate_at s.bounds.gates s.hart.pc < gates_most
+  near =
+      let within = slice_get_within s.bounds.gates (gate_at s.bounds.gates s.hart.pc) found_gate.gate found_gate.place in
+      let same : length s.bounds.gates ≡ length seat.part.gates = ap (λ (b : Bounds). length b.gates) seat.bounds in
+      omega (arith, within, same, seat.right.gate_count)
+
+waits_at_gate : (w : Sandboxes) (i : ℕ) (r : Request) → IsSafeWorld w → Waits (slots_of w) i r → ((x : Slot) → slice_get (slots_of w) i ≡ Some x → r.gate ≡ gate_at x.bounds.gates x.hart.pc) → AsksAtGate (slots_of w) i r
+waits_at_gate w i r safe waits place =
     let found = map_get (slot_of w.bytes) w.seats i waits.at.slot waits.at.there in
     let s = found.0 in
     let seat : IsSafeSeat w.bytes s = safe.each i s found.1 in
@@ -77,16 +87,23 @@ waits_at_gate w i r safe waits =
     let gate = found_gate w.bytes s seat ready calls in
     let service : r.service ≡ gate.gate.service =
     subst (λ (x : Slot). r.service ≡ service_at x.bounds.gates x.hart.pc) found.2 (ap (λ (c : Call). c.service) waits.asks) ∙ gate.service in
+    let there = get_map (slot_of w.bytes) w.seats i s found.1 in
+    let at : r.gate ≡ gate_at s.bounds.gates s.hart.pc = place (slot_of w.bytes s) there in
     record {
       slot = slot_of w.bytes s;
-      there = get_map (slot_of w.bytes) w.seats i s found.1;
+      there = there;
       gate = gate.gate;
-      among = gate.among;
+      among = ap (slice_get s.bounds.gates) at ∙ gate.place;
+      few = subst (λ (n : ℕ). n < gates_most) (sym at) (near w.bytes s seat ready calls);
       address = gate.address;
       service = service;
       most = subst (λ (n : ℕ). n ≤ service_most) (sym service) (few w.bytes s seat ready calls);
     }
 
-pub if_at_gate : (w : Sandboxes) (i : ℕ) (o : Option Request) → IsSafeWorld w → IfSome o (λ r. Waits (slots_of w) i r) → IfSome o (λ r. AsksAtGate (slots_of w) i r)
-if_at_gate w i None safe h = tt
-if_at_gate w i (Some r) safe h = waits_at_gate w i r safe h
+-- what a sandbox of a world asks, if it waits
+pub if_at_gate : (w : Sandboxes) (m : Bytes) (i : ℕ) (s : Sandbox) (o : Option Request) → slice_get (slots_of w) i ≡ Some (slot_of m (seat_of s)) → IsSafeWorld w → IfSome o (λ r. r ≡ request_by i s)
+    → IfSome o (λ r. Waits (slots_of w) i r) → IfSome o (λ r. AsksAtGate (slots_of w) i r)
+if_at_gate w m i s None there safe asks h = tt
+if_at_gate w m i s (Some r) there safe asks h = waits_at_gate w i r safe h (λ x e.
+    let same : slot_of m (seat_of s) ≡ x = same_Some (slot_of m (seat_of s)) x (sym there ∙ e) in
+    ap (λ (q : Request). q.gate) asks ∙ ap (λ (y : Slot). gate_at y.bounds.gates y.hart.pc) same)

@@ -47,20 +47,20 @@ others_kept (v ∷ vs) h r q out =
     others_kept vs (with_register h r v) (r + 1) q (⊎_elim (λ (l : q < r). inl (omega arith)) (λ (l : r + suc (length vs) ≤ q). inr (omega arith)) out)
     ∙ one_kept h r v q (r == 0) (λ e. ⊎_elim (λ (l : q < r). omega arith) (λ (l : r + suc (length vs) ≤ q). omega arith) out)
 
-pc_kept : (vs : List ℕ) (h : Hart) (r : ℕ) → (with_registers h r vs).pc ≡ h.pc
+pub pc_kept : (vs : List ℕ) (h : Hart) (r : ℕ) → (with_registers h r vs).pc ≡ h.pc
 pc_kept [] h r = refl
 pc_kept (v ∷ vs) h r = pc_kept vs (with_register h r v) (r + 1)
 
 -- one argument more
-pub one_more_set : (h now new : Hart) (arguments : List ℕ) (k v r : ℕ) → now ≡ with_registers h 10 (take k arguments) → k < length arguments → v ≡ get_or arguments k 0 → r ≡ 10 + k → new ≡ with_register now r v
-    → new ≡ with_registers h 10 (take (k + 1) arguments)
-one_more_set h now new arguments k v r is below value place set =
+pub one_more_set : (from : ℕ) (h now new : Hart) (arguments : List ℕ) (k v r : ℕ) → now ≡ with_registers h from (take k arguments) → k < length arguments → v ≡ get_or arguments k 0 → r ≡ from + k → new ≡ with_register now r v
+    → new ≡ with_registers h from (take (k + 1) arguments)
+one_more_set from h now new arguments k v r is below value place set =
     let many : length (take k arguments) ≡ k = length-take-le k arguments (omega arith) in
-    let at : r ≡ 10 + length (take k arguments) = omega (arith, many, place) in
+    let at : r ≡ from + length (take k arguments) = omega (arith, many, place) in
     set
     ∙ (λ j. with_register (is j) (at j) (value j))
-    ∙ sym (with_more h 10 (take k arguments) (get_or arguments k 0))
-    ∙ ap (with_registers h 10) (sym (take_more arguments k 0 below))
+    ∙ sym (with_more h from (take k arguments) (get_or arguments k 0))
+    ∙ ap (with_registers h from) (sym (take_more arguments k 0 below))
 
 -- ---- a sandbox that enters
 

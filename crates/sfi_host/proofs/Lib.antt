@@ -25,9 +25,11 @@ pub mod Stops
 pub mod Changing
 pub mod Entries
 pub mod Stopping
+pub mod SetRegisters
 pub mod AtGate
 pub mod Turning
 pub mod Turns
+pub mod UpToStop
 pub mod Waited
 pub mod Worlds
 pub mod Facts

@@ -44,4 +44,4 @@ pub use Rattle.sfi_host.specs.declared.turn.StepResult.TheVariants.{Continue, Tu
 pub use Rattle.sfi_host.specs.declared.turn.Turn.{Turn}
 pub use Rattle.sfi_host.specs.private.Limits.{allow, allows, with_left, end_of, limited_step, limited_turn, IsTurnOf, IsStepOf, IsCutTurnOf, IsOnItsWay}
 pub use Rattle.sfi_host.specs.private.Programs.{IsProgramOf, AreProgramsOf, IsSafeWith}
-pub use Rattle.sfi_host.specs.private.Sandboxes.{bounds_in, StaysSafe, IsReplied, IsNotReplied, request_by, IsTold, IsNotTold, after_ecall, after_told, next_after_answer}
+pub use Rattle.sfi_host.specs.private.Sandboxes.{gate_at, bounds_in, StaysSafe, IsReplied, IsNotReplied, request_by, IsTold, IsNotTold, after_ecall, after_told, next_after_answer}

@@ -1,7 +1,7 @@
 -- Bytes at consecutive addresses, which aren't taken modulo 2 ^ 32.
-use Rattle.sfi_host.proofs.Prelude.{◌≡◌, ◌↔◌, IsTrue, IsSome, is_some, ℕ, zero, suc, ◌+◌, ◌-◌, ◌^◌, ◌<◌, ◌≤◌, List, [], ◌∷◌, ◌++◌, length, Option, Some, None, refl, sym, ap, ◌∙◌, add-one, Bool, true, false, nat_le, arith, ◌%◌, take, get_or, OnTrue, OnFalse, range_with_len, insert, Bytes, IsMemory, byte_at, bytes_at, with_bytes, in_front, stored, IsThere, Span, bytes_in, IsWhole, is_in, bytes_outside, take_more, length-take-le}
+use Rattle.sfi_host.proofs.Prelude.{◌≡◌, ◌↔◌, IsTrue, IsSome, is_some, ℕ, zero, suc, ◌+◌, ◌-◌, ◌^◌, ◌<◌, ◌≤◌, List, [], ◌∷◌, ◌++◌, length, Option, Some, None, refl, sym, ap, ◌∙◌, add-one, Bool, true, false, not, nat_le, arith, take, OnTrue, range_with_len, insert, Bytes, IsMemory, byte_at, bytes_at, with_bytes, in_front, Span, bytes_in, IsWhole, is_in, bytes_outside}
 use Rattle.std.proofs.lemmas.List.{length-take}
-use Rattle.sfi_host.proofs.RegionBytes.{held, byte_in, is_in-Holds, still_there, store_puts, put_outside, put_whole, kept_put}
+use Rattle.sfi_host.proofs.RegionBytes.{held, byte_in, is_in-Holds, still_there, kept_put, kept_put_out}
 
 -- ---- which are there
 
@@ -62,21 +62,6 @@ pub bytes_more : (m : Bytes) (a n b : ℕ) (bs : List ℕ) → bytes_at m (range
     → bytes_at m (range_with_len a (n + 1)) ≡ Some (bs ++ b ∷ [])
 bytes_more m a n b bs e f = ap (λ k. bytes_at m (range_with_len a k)) (add-one n) ∙ read_more m a n b bs e f
 
--- ---- writing
-
--- one byte more
-put_more : (m : Bytes) (a n b : ℕ) (bs : List ℕ) → length bs ≡ n
-    → with_bytes m (range_with_len a (suc n)) (bs ++ b ∷ []) ≡ insert (with_bytes m (range_with_len a n) bs) (a + n) b
-put_more m a zero b [] e = let z : a ≡ a + 0 = omega arith in ap (λ x. insert m x b) z
-put_more m a (suc n) b (c ∷ bs) e =
-    let z : a + 1 + n ≡ a + suc n = omega arith in
-    put_more (insert m a c) (a + 1) n b bs (omega arith) ∙ ap (λ x. insert (with_bytes (insert m a c) (range_with_len (a + 1) n) bs) x b) z
-put_more m a n b bs e = absurd (omega arith)
-
-pub write_more : (m : Bytes) (a n b : ℕ) (bs : List ℕ) → length bs ≡ n
-    → with_bytes m (range_with_len a (n + 1)) (bs ++ b ∷ []) ≡ insert (with_bytes m (range_with_len a n) bs) (a + n) b
-write_more m a n b bs e = ap (λ k. with_bytes m (range_with_len a k) (bs ++ b ∷ [])) (add-one n) ∙ put_more m a n b bs e
-
 -- ---- which of a region's are there
 
 last_there : (m : Bytes) (a n : ℕ) → IsSome (bytes_at m (range_with_len a n)) → 0 < n → IsSome (byte_at m (a + (n - 1)))
@@ -123,60 +108,40 @@ covered_end s m a n q r w h l f = on (nat_le n q) (λ t. ends_within s m a n r l
 pub fewer_there : (m : Bytes) (a n k : ℕ) → IsSome (bytes_at m (range_with_len a n)) → k ≤ n → IsSome (bytes_at m (range_with_len a k))
 fewer_there m a n k h l = all_there m a k (λ j below. each_there m a n j h (omega arith))
 
--- a write removes none
-pub with_keeps : (m : Bytes) (at bs : List ℕ) (q : ℕ) → IsSome (byte_at m q) → IsSome (byte_at (with_bytes m at bs) q)
-with_keeps m (a ∷ more) (b ∷ bs) q h = with_keeps (insert m a b) more bs q (still_there m a b q h)
-with_keeps m at bs q h = h
+-- ---- bytes of a region
 
--- ---- bytes that are written one after another
+-- what is read in the region is read in the memory
+pub read_kept : (s : Span) (m : Bytes) (a n : ℕ) → IsSome (bytes_at (bytes_in s m) (range_with_len a n)) → bytes_at (bytes_in s m) (range_with_len a n) ≡ bytes_at m (range_with_len a n)
+read_kept s m a zero there = refl
+read_kept s m a (suc n) there =
+    let here : IsSome (byte_at (bytes_in s m) a) = first_there (byte_at (bytes_in s m) a) _ there in
+    let same : byte_at (bytes_in s m) a ≡ byte_at m a = byte_in s m a (is_in-Holds s a (held s m a here)) in
+    ap (λ (o : Option ℕ). in_front o (bytes_at (bytes_in s m) (range_with_len (a + 1) n))) same
+    ∙ ap (in_front (byte_at m a)) (read_kept s m (a + 1) n (others_there (byte_at (bytes_in s m) a) _ there))
 
-on_true : (r : Bool) (P : Type 0) → OnTrue r P → IsTrue r → P
-on_true true P h t = h
-on_true false P h t = absurd (cc)
-
--- what these bytes leave
-abbrev pub written : Bytes → ℕ → List ℕ → Bytes
-written m at bs = with_bytes m (range_with_len at (length bs)) bs
-
--- one byte more
-next_written : (m : Bytes) (all : List ℕ) (at i : ℕ) → i < length all
-    → insert (written m at (take i all)) (at + i) (get_or all i 0) ≡ written m at (take (i + 1) all)
-next_written m all at i l =
-    let now : length (take i all) ≡ i = length-take-le i all (omega arith) in
-    let then : length (take (i + 1) all) ≡ i + 1 = length-take-le (i + 1) all (omega arith) in
-    ap (λ k. insert (with_bytes m (range_with_len at k) (take i all)) (at + i) (get_or all i 0)) now
-    ∙ sym (write_more m at i (get_or all i 0) (take i all) now)
-    ∙ (λ j. with_bytes m (range_with_len at (sym then j)) (sym (take_more all i 0 l) j))
-
--- the first i bytes are written in the region, and nothing else changed
-pub record HasWritten (s : Span) (m n : Bytes) (at to i : ℕ) (all : List ℕ) : Type 0 where
-  pub memory : n ≡ written m at (take i all)
-  pub inside : bytes_in s n ≡ written (bytes_in s m) at (take i all)
-  pub others : bytes_outside s n ≡ bytes_outside s m
+-- what is written there changes the region alone, and leaves it whole
+pub record IsWrittenIn (s : Span) (m n : Bytes) (at bs : List ℕ) : Type 0 where
+  pub inside : bytes_in s n ≡ with_bytes (bytes_in s m) at bs
+  pub outside : bytes_outside s n ≡ bytes_outside s m
   pub whole : IsWhole s (bytes_in s m) → IsWhole s (bytes_in s n)
-  pub next : to ≡ (at + i) % 2 ^ 32
 
-pub one_more_written : (s : Span) (m n o : Bytes) (all : List ℕ) (at to v i : ℕ) (done : Bool)
-    → IsSome (bytes_at (bytes_in s m) (range_with_len at (length all))) → at + length all ≤ 2 ^ 32 → i < length all → HasWritten s m n at to i all
-    → v ≡ get_or all i 0 → get_or all i 0 < 256 → (IsTrue done ↔ IsThere n to 1) → OnTrue done (o ≡ stored n to 1 v) → OnFalse done (o ≡ n)
-    → HasWritten s m o at ((to + 1) % 2 ^ 32) (i + 1) all
-one_more_written s m n o all at to v i done there room l h value small g d r =
-    let next = h.next in
-    let place : to ≡ at + i = omega (arith, next, room, l) in
-    let here : IsSome (byte_at (bytes_in s m) to) = ap (λ a. is_some (byte_at (bytes_in s m) a)) place ∙ each_there (bytes_in s m) at (length all) i there l in
-    let within : is_in s to ≡ true = is_in-Holds s to (held s m to here) in
-    let puts = store_puts s n o to v (get_or all i 0) done within (omega (arith, place, room, l)) value small g d r in
-    let kept : IsSome (byte_at (bytes_in s n) to) =
-    ap (λ x. is_some (byte_at x to)) h.inside ∙ with_keeps (bytes_in s m) (range_with_len at (length (take i all))) (take i all) to here in
-    let is : IsTrue done = puts.there.1 (ap is_some (sym (byte_in s n to within)) ∙ kept) in
-    let put : o ≡ insert n to (get_or all i 0) = on_true done _ puts.changed is in
+pub written_in : (s : Span) (m : Bytes) (a n : ℕ) (bs : List ℕ) → IsSome (bytes_at (bytes_in s m) (range_with_len a n)) → IsWrittenIn s m (with_bytes m (range_with_len a n) bs) (range_with_len a n) bs
+written_in s m a zero bs there = record { inside = refl; outside = refl; whole = λ w. w }
+written_in s m a (suc n) [] there = record { inside = refl; outside = refl; whole = λ w. w }
+written_in s m a (suc n) (b ∷ bs) there =
+    let here : IsSome (byte_at (bytes_in s m) a) = first_there (byte_at (bytes_in s m) a) _ there in
+    let within : is_in s a ≡ true = is_in-Holds s a (held s m a here) in
+    let put : bytes_in s (insert m a b) ≡ insert (bytes_in s m) a b = kept_put m (is_in s) a b within in
+    let out : bytes_outside s (insert m a b) ≡ bytes_outside s m = kept_put_out m (λ x. not (is_in s x)) a b (ap not within) in
+    let later : IsSome (bytes_at (bytes_in s m) (range_with_len (a + 1) n)) = others_there (byte_at (bytes_in s m) a) _ there in
+    let still : IsSome (bytes_at (bytes_in s (insert m a b)) (range_with_len (a + 1) n)) =
+    all_there (bytes_in s (insert m a b)) (a + 1) n (λ k below.
+    ap (λ (x : Bytes). is_some (byte_at x (a + 1 + k))) put ∙ still_there (bytes_in s m) a b (a + 1 + k) (each_there (bytes_in s m) (a + 1) n k later below)) in
+    let rest = written_in s (insert m a b) (a + 1) n bs still in
     record {
-      memory = put ∙ ap (λ x. insert x to (get_or all i 0)) h.memory ∙ ap (λ a. insert (written m at (take i all)) a (get_or all i 0)) place ∙ next_written m all at i l;
-      inside = ap (bytes_in s) put ∙ kept_put n (is_in s) to (get_or all i 0) within
-          ∙ ap (λ x. insert x to (get_or all i 0)) h.inside ∙ ap (λ a. insert (written (bytes_in s m) at (take i all)) a (get_or all i 0)) place ∙ next_written (bytes_in s m) all at i l;
-      others = put_outside s n o to (get_or all i 0) done puts ∙ h.others;
-      whole = λ w. put_whole s n o to (get_or all i 0) done puts (h.whole w);
-      next = omega (arith, next);
+      inside = rest.inside ∙ ap (λ (x : Bytes). with_bytes x (range_with_len (a + 1) n) bs) put;
+      outside = rest.outside ∙ out;
+      whole = λ w. rest.whole (λ q h. ap (λ (x : Bytes). is_some (byte_at x q)) put ∙ still_there (bytes_in s m) a b q (w q h));
     }
 
 -- some of a list are no more than were asked for

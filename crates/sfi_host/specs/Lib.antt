@@ -29,3 +29,5 @@ pub mod private
 pub mod Waiting
 pub mod LaterReplies
 pub mod Turns
+pub mod Until
+pub mod Setting

@@ -1,8 +1,7 @@
 -- Sandboxes that wait at a call, and replies that are given later.
-use Rattle.std.specs.Prelude.{◌≡◌, ◌≤◌, ℕ, Bool, false, List, Option, Some, None, slice_get}
-use Rattle.std.specs.List.{Contains}
+use Rattle.std.specs.Prelude.{◌≡◌, ◌<◌, ◌≤◌, ℕ, Bool, false, List, Option, Some, None, slice_get}
 use Rattle.rv_step.specs.declared.outcome.Outcome.TheVariants.{Call as Calls}
-use Rattle.sfi_policy.specs.Limits.{service_most}
+use Rattle.sfi_policy.specs.Limits.{gates_most, service_most}
 use Rattle.sfi_image.specs.declared.part.Gate.{Gate}
 use Rattle.sfi_host.specs.declared.guest.Request.{Request}
 use Rattle.sfi_host.specs.declared.status.Status.TheVariants.{Ready}
@@ -39,13 +38,14 @@ pub record Waits (slots : List Slot) (i : ℕ) (r : Request) : Type 0 where
   pub at : IsAtCall slots i
   pub asks : call_by r (bytes_in at.slot.bounds.data at.slot.bytes) ≡ call_of i at.slot
 
--- what the sandbox of that number asks is the service of one of its gates, at whose address it
--- stands; no service has a higher number than `service_most`
+-- what the sandbox of that number asks is the service of one of its gates, which is told by its
+-- place and at whose address it stands; no service has a higher number than `service_most`
 pub record AsksAtGate (slots : List Slot) (i : ℕ) (r : Request) : Type 0 where
   pub slot : Slot
   pub there : slice_get slots i ≡ Some slot
   pub gate : Gate
-  pub among : Contains slot.bounds.gates gate
+  pub among : slice_get slot.bounds.gates r.gate ≡ Some gate
+  pub few : r.gate < gates_most
   pub address : gate.address ≡ slot.hart.pc
   pub service : r.service ≡ gate.service
   pub most : r.service ≤ service_most

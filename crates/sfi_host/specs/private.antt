@@ -3,3 +3,4 @@ pub mod Limits
 pub mod Programs
 pub mod Sandboxes
 pub mod Quiet
+pub mod Until

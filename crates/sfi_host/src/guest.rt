@@ -13,7 +13,9 @@ use rv_mem::{Memory, Width};
 pub struct Request {
     /// The caller's number among the sandboxes.
     pub sandbox: u32,
-    /// The service of the gate that it called.
+    /// The gate that it called: its place among the caller's gates.
+    pub gate: usize,
+    /// The service of that gate.
     pub service: u32,
     /// Its a0.
     pub a0: u32,

@@ -24,9 +24,11 @@ mod region;
 mod sandbox;
 mod services;
 mod session;
+mod setting;
 mod status;
 mod steps;
 mod turn;
+mod until;
 mod waiting;
 mod world;
 

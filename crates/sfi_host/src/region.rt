@@ -65,9 +65,7 @@ impl Region {
         if !self.covers(at, bytes.len() as u64) {
             return false;
         }
-        for k in 0..bytes.len() {
-            bytes[k] = self.byte(memory, at + k as u32).unwrap();
-        }
+        memory.copy_out(at, bytes);
         true
     }
 
@@ -86,10 +84,6 @@ impl Region {
         ensures whole { IsWhole (span_of self) (bytes_in (span_of self) (M.bytes memory.old))
             → IsWhole (span_of self) (bytes_in (span_of self) (M.bytes memory.new)) }
     {
-        let mut to = at;
-        for byte in bytes {
-            memory.store(to, Width::One, u32::from(*byte));
-            to = to.wrapping_add(1);
-        }
+        memory.copy_in(at, bytes);
     }
 }

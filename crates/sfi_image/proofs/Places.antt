@@ -55,13 +55,9 @@ fields_next r reader is =
 
 -- before a bundle
 pub record CodeNext (r : LayoutReader) : Type 0 where
-  pub begun : 1 ≤ r.begun
   pub inside : r.code_read + 16 ≤ r.fields.code_size
   pub address : r.fields.code_base + r.code_read < 2 ^ 32
-  pub passed : r.passed ≤ length r.gates
-  pub few : length r.gates ≤ 64
   pub size : r.fields.code_size ≤ 1048576
-  pub not_more : r.begun ≤ r.count
 
 pub code_next : (r : LayoutReader) → IsReader r → r.next ≡ next.Code → CodeNext r
 code_next r reader is =
@@ -78,13 +74,9 @@ code_next r reader is =
     let base' : r.fields.code_base ≡ f.code_base = ap (λ (y : Fields). y.code_base) k.head.fields in
     let read = k.code_read in
     record {
-      begun = omega (arith, k.head.begun);
       inside = omega arith;
       address = omega (arith, reg.end);
-      passed = k.passed;
-      few = omega (arith, ap length k.head.gates, length-map at.3 (λ (g : Gate). g.address), right.1, reg.gate_count);
       size = omega (arith, reg.code_size);
-      not_more = omega (arith, k.head.begun, k.head.count, right.0.more);
     }
 
 -- before a gate

@@ -20,7 +20,7 @@ pub use Rattle.sfi_image.specs.Fronts.{front, head, IsRightFront, CutShort, Trai
 pub use Rattle.sfi_image.specs.Fronts.Front.{Empty, AfterMagic, AfterCount, InGates, InCode, InInit, Whole}
 pub use Rattle.sfi_image.specs.Gates.{AreGates, is_gate_of}
 pub use Rattle.sfi_image.specs.Images.{IsImage}
-pub use Rattle.sfi_image.specs.Keeping.{LayoutReader, StandsFor, Leads, IsReader, AreAhead, is_one_of, KeepsHead, KeepsFields, KeepsCode, AreRest}
+pub use Rattle.sfi_image.specs.Keeping.{LayoutReader, StandsFor, Leads, AreAhead, is_one_of, KeepsHead, KeepsFields, KeepsCode, AreRest}
 pub use Rattle.sfi_image.specs.Outcome.{IfLayout}
 pub use Rattle.sfi_image.specs.Parts.{IsRightPart, AreOf, AreRight, IsRightLayout}
 pub use Rattle.sfi_image.specs.Regions.{IsCodeRegion, IsRegion, HasGuardRoom, IsBundleStart}
@@ -33,4 +33,4 @@ pub use Rattle.sfi_image.specs.declared.fault.LayoutFault.TheVariants.{Count, Sh
 pub use Rattle.sfi_image.specs.declared.fields.Fields.{Fields}
 pub use Rattle.sfi_image.specs.declared.part.Gate.{Gate}
 pub use Rattle.sfi_image.specs.declared.span.Span.{Span}
-pub use Rattle.sfi_image.specs.private.Keeping.{MayTake, TakesLength, next_code, is_first, first_or, count_below, next_part, next_init, next_gate}
+pub use Rattle.sfi_image.specs.private.Keeping.{IsReader, MayTake, TakesLength, next_code, is_first, first_or, count_below, next_part, next_init, next_gate}

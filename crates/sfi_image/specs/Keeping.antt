@@ -1,5 +1,5 @@
 -- What a reader in fixed arrays keeps of the front that it has read.
-use Rattle.std.specs.Prelude.{◌≡◌, ℕ, ◌+◌, ◌-◌, ◌*◌, ◌%◌, ◌≤◌, ◌==◌, ◌||◌, ◌⊎◌, Bool, false, List, [], ◌∷◌, ◌++◌, length, map, drop}
+use Rattle.std.specs.Prelude.{◌≡◌, ℕ, ◌+◌, ◌-◌, ◌*◌, ◌%◌, ◌≤◌, ◌==◌, ◌||◌, Bool, false, List, [], ◌∷◌, ◌++◌, length, map, drop}
 use Rattle.sfi_policy.specs.Limits.{bundle_size, data_most, gates_most, sandboxes_most}
 use Rattle.sfi_policy.specs.declared.format.Format.{Format}
 use Rattle.sfi_policy.specs.declared.format.Format.TheVariants.{Sfi2}
@@ -77,10 +77,6 @@ pub record StandsFor (r : LayoutReader) (x : Front) : Type 0 where
 -- it has met a fault, after which nothing is wanted
 abbrev pub HasStopped : LayoutReader → Type 0
 HasStopped r = r.next ≡ next.Nothing
-
--- a reader that was handed bytes from the start stands for a front, or has met a fault
-abbrev pub IsReader : LayoutReader → Type 0
-IsReader r = HasStopped r ⊎ ((x : Front) × StandsFor r x)
 
 -- ---- one step
 

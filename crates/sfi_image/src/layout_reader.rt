@@ -4,8 +4,8 @@ ghost use Rattle.sfi_policy.specs.Limits.{bundle_size};
 ghost use Rattle.sfi_image.specs.declared.fault.LayoutFault.{LayoutFault};
 ghost use Rattle.sfi_image.specs.Fronts.{Front, front, want_of, AreBundlesWithin, IsLengthOf, IsStretchLength, HasFaultWhateverFollows};
 ghost use Rattle.sfi_image.specs.Fronts.Front.{Empty};
-ghost use Rattle.sfi_image.specs.Keeping.{StandsFor, IsReader, HasStopped, Leads, left};
-ghost use Rattle.sfi_image.specs.private.Keeping.{MayTake, Takes, as_want, count_below, first_or, is_first, next_part, next_init, next_code, next_gate};
+ghost use Rattle.sfi_image.specs.Keeping.{StandsFor, HasStopped, Leads, left};
+ghost use Rattle.sfi_image.specs.private.Keeping.{IsReader, MayTake, Takes, as_want, count_below, first_or, is_first, next_part, next_init, next_code, next_gate};
 
 use crate::bundle::BundlePlace;
 use crate::fault::LayoutFault;
@@ -43,7 +43,7 @@ pub struct LayoutReader {
     pub init_read: u32,
 }
 
-// What comes after so many sandboxes.
+// What comes after `begun` sandboxes of `count`.
 fn next_part(begun: u32, count: u32) -> Next
     ensures { result ≡ next_part begun count }
 {
@@ -54,7 +54,7 @@ fn next_part(begun: u32, count: u32) -> Next
     }
 }
 
-// What comes after so many first data bytes: out of line,
+// What comes after `read` first data bytes of `len`: out of line,
 // since few bundles are the last of their code region.
 #[inline(never)]
 fn next_init(read: u32, len: u32, begun: u32, count: u32) -> Next
@@ -67,7 +67,7 @@ fn next_init(read: u32, len: u32, begun: u32, count: u32) -> Next
     }
 }
 
-// What comes after so many bytes of code.
+// What comes after `read` bytes of code of `size`.
 #[inline]
 fn next_code(read: u32, size: u32, len: u32, begun: u32, count: u32) -> Next
     ensures { result ≡ next_code read size len begun count }
@@ -79,7 +79,7 @@ fn next_code(read: u32, size: u32, len: u32, begun: u32, count: u32) -> Next
     }
 }
 
-// What comes after so many gates.
+// What comes after `read` gates of `gate_count`.
 fn next_gate(read: u32, gate_count: u32) -> Next
     ensures { result ≡ next_gate read gate_count }
 {
@@ -90,7 +90,7 @@ fn next_gate(read: u32, gate_count: u32) -> Next
     }
 }
 
-// Whether the first of the addresses after so many is that one.
+// Whether the first of the addresses after `passed` of them is `address`.
 #[inline]
 fn is_first_after(addresses: &[u32], passed: usize, address: u32) -> bool
     ensures { result ≡ is_first (drop passed addresses.now) address }
@@ -101,10 +101,9 @@ fn is_first_after(addresses: &[u32], passed: usize, address: u32) -> bool
     }
 }
 
-// How many addresses lie before `end`, where so many are known to, and all ascend.
+// How many addresses lie before `end`, where `passed` are known to, and all ascend.
 #[inline]
 fn passed_before(addresses: &[u32], passed: usize, end: u64) -> usize
-    requires { passed ≤ length addresses.now }
     ensures { result ≡ passed + count_below end (drop passed addresses.now) }
 {
     let mut count = passed;
@@ -114,7 +113,7 @@ fn passed_before(addresses: &[u32], passed: usize, end: u64) -> usize
     count
 }
 
-// The address after so many bytes of a code region.
+// The address after `read` bytes of the code region at `base`.
 #[inline]
 fn address_after(base: u32, read: u32) -> u64
     ensures { result ≡ base + read }
@@ -122,7 +121,7 @@ fn address_after(base: u32, read: u32) -> u64
     u64::from(base) + u64::from(read)
 }
 
-// The first of the addresses after so many, or else the other.
+// The first of the addresses after `passed` of them, or else `other`.
 #[inline]
 fn first_after(addresses: &[u32], passed: usize, other: u64) -> u64
     ensures { result ≡ first_or other (drop passed addresses.now) }
@@ -170,14 +169,13 @@ impl LayoutReader {
     /// What comes next.
     #[inline]
     pub fn wants(&self) -> Want
-        requires { IsReader self.now }
         ensures want { (x : Front) → StandsFor self.now x → result ≡ want_of x }
         ensures stopped { HasStopped self.now → result ≡ Want.Nothing }
     {
         if let Next::Code = self.next {
-            let address = self.fields.code_base + self.code_read;
+            let address = self.fields.code_base.wrapping_add(self.code_read);
             Want::Bundle(BundlePlace {
-                sandbox: self.begun - 1,
+                sandbox: self.begun.saturating_sub(1),
                 address,
                 format: self.fields.format,
                 code_base: self.fields.code_base,
@@ -197,8 +195,7 @@ impl LayoutReader {
     // What comes next where no bundle does: out of line, since most that is read is bundles.
     #[inline(never)]
     fn wants_no_bundle(&self) -> OtherWant
-        requires next { self.now.next ≢ Next.Code }
-        requires reader { IsReader self.now }
+        requires { self.now.next ≢ Next.Code }
         ensures want { (x : Front) → StandsFor self.now x → as_want result ≡ want_of x }
         ensures stopped { HasStopped self.now → result ≡ OtherWant.Nothing }
     {
@@ -208,7 +205,9 @@ impl LayoutReader {
             Next::Fields => OtherWant::Field(FIELDS_BYTES),
             Next::Gate => OtherWant::Field(GATE_BYTES),
             Next::Code => unreachable!(),
-            Next::Init => OtherWant::Init((self.fields.init_len - self.init_read) as usize),
+            Next::Init => OtherWant::Init(
+                self.fields.init_len.saturating_sub(self.init_read) as usize,
+            ),
             Next::End => OtherWant::End,
             Next::Nothing => OtherWant::Nothing,
         }
@@ -218,7 +217,6 @@ impl LayoutReader {
     /// the code region's end: none where no code comes next.
     #[inline(never)]
     pub fn stretch_length(&self) -> usize
-        requires { IsReader self.now }
         ensures length { (x : Front) → StandsFor self.now x → IsStretchLength x result }
         ensures stopped { HasStopped self.now → result ≡ 0 }
     {
@@ -231,7 +229,7 @@ impl LayoutReader {
         let gates = self.gates.as_slice();
         let passed = passed_before(gates, self.passed, at + u64::from(BUNDLE_SIZE));
         let end = first_after(gates, passed, region_end);
-        (end - at) as u32 as usize
+        end.saturating_sub(at).min(u64::from(u32::MAX)) as u32 as usize
     }
 
     /// Takes the bytes that come next, as many as are wanted, or any whole number of bundles of the

@@ -28,7 +28,7 @@ same_piece : (i j : Instr) (m n : ℕ) → Read i n ≡ Read j m → (i ≡ j) �
 same_piece i j m n e = (cc, cc)
 
 -- the only piece that can stand at the front, and a longest reading after it
-longer : (bytes : List ℕ) (i : Instr) (n : ℕ) (later : List Piece) → Spells (take n bytes) i n
+pub longer : (bytes : List ℕ) (i : Instr) (n : ℕ) (later : List Piece) → Spells (take n bytes) i n
     → ((j : Instr) (m : ℕ) → Spells (take m bytes) j m → Read i n ≡ Read j m)
     → IsLongestReading (drop n bytes) later → IsLongestReading bytes (record { instr = i; size = n } ∷ later)
 longer bytes i n later s only h = record { is_reading = (s, h.is_reading); longest = most }
@@ -41,7 +41,7 @@ longer bytes i n later s only h = record { is_reading = (s, h.is_reading); longe
         omega arith
 
 -- where nothing is spelled, the longest reading has no pieces
-longest_of_stuck : (bytes : List ℕ) → ((i : Instr) (n : ℕ) → Spells (take n bytes) i n → ⊥) → IsLongestReading bytes []
+pub longest_of_stuck : (bytes : List ℕ) → ((i : Instr) (n : ℕ) → Spells (take n bytes) i n → ⊥) → IsLongestReading bytes []
 longest_of_stuck bytes stuck = record { is_reading = tt; longest = most }
   where
     most : (other : List Piece) → IsReading bytes other → length other ≤ 0

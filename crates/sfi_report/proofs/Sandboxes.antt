@@ -16,6 +16,14 @@ unit_there Sfi1 n m at size whole e less = let same : at ≡ 16 * m = e in (omeg
 unit_there Sfi2 n m at size whole e less = let same : at ≡ 16 * m = e in (omega arith, omega arith)
 unit_there Sfiw n m at size whole e less = let same : at ≡ 4 * m = e in (omega arith, omega arith)
 
+-- the next unit ends within the code, at a unit more, and the code at or below 2 ^ 32
+pub unit_fits : (p : Part) (size at units : ℕ) → IsRightPart p → size ≡ unit p.format → at ≡ unit p.format * units → at < length p.code
+    → (at + size ≤ length p.code) × (at + size ≡ unit p.format * suc units) × (p.code_base + length p.code ≤ 2 ^ 32)
+unit_fits p size at units right is at_is less =
+    let whole = whole_bundles p.format p.code_base (length p.code) right.code_base right.code_placed in
+    let there = unit_there p.format whole.0 units at (length p.code) whole.2 at_is less in
+    (subst (λ n. at + n ≤ length p.code) (sym is) there.0, ap (λ n. at + n) is ∙ there.1, whole.4)
+
 -- the listing of the units before this offset after the text
 pub record IsListedTo (p : Part) (at : ℕ) (old new : List ℕ) : Type 0 where
   pub units : ℕ
@@ -25,18 +33,10 @@ pub record IsListedTo (p : Part) (at : ℕ) (old new : List ℕ) : Type 0 where
   pub text_is : IsListingOfFirst p units text
   pub new_is : new ≡ old ++ text
 
--- the next unit ends within the code, at a unit more, and the code at or below 2 ^ 32
-pub unit_fits : (p : Part) (size at : ℕ) (old new : List ℕ) → IsRightPart p → size ≡ unit p.format → (so_far : IsListedTo p at old new) → at < length p.code
-    → (at + size ≤ length p.code) × (at + size ≡ unit p.format * suc so_far.units) × (p.code_base + length p.code ≤ 2 ^ 32)
-unit_fits p size at old new right is so_far less =
-    let whole = whole_bundles p.format p.code_base (length p.code) right.code_base right.code_placed in
-    let there = unit_there p.format whole.0 so_far.units at (length p.code) whole.2 so_far.at_is less in
-    (subst (λ n. at + n ≤ length p.code) (sym is) there.0, ap (λ n. at + n) is ∙ there.1, whole.4)
-
 pub one_unit_more : (p : Part) (size at : ℕ) (old new more : List ℕ) → IsRightPart p → size ≡ unit p.format → at < length p.code → IsListedTo p at old new
     → Adds new more (IsUnitListing (p.code_base + at) (take size (drop at p.code))) → IsListedTo p (at + size) old more
 one_unit_more p size at old new more right is less so_far here =
-    let fits = unit_fits p size at old new right is so_far less in
+    let fits = unit_fits p size at so_far.units right is so_far.at_is less in
     let sized = subst (λ n. IsUnitListing (p.code_base + at) (take n (drop at p.code)) here.text) is here.text_is in
     let last = subst (λ k. IsUnitListing (p.code_base + k) (take (unit p.format) (drop k p.code)) here.text) so_far.at_is sized in
     record {

@@ -8,15 +8,15 @@
  * with its premises, docs/PROOFS.md what is proved of each call). The sandboxes run in a memory of the library's own, step
  * by step: no code of theirs runs on the host's processor, and no address of theirs is one of the host's.
  *
- * One premise is worth a word: a trap ends the run. The sandbox goes on by sfi_run_enter and sfi_run_call alone, which
- * set its registers anew. The library keeps this. A host that runs accepted code by other means (sfi.h) has to: where
- * it steps over an ebreak, or in the third format completes or steps over an access with a byte in a guard zone, code
- * can leave its sandbox.
+ * One premise is worth a word: a trap ends the run. The sandbox goes on by sfi_run_enter, sfi_run_call and
+ * sfi_run_set_registers alone, which set its registers anew. The library keeps this. A host that runs accepted code by
+ * other means (sfi.h) has to: where it steps over an ebreak, or in the third format completes or steps over an access
+ * with a byte in a guard zone, code can leave its sandbox.
  *
  * The calls read nothing but their arguments and the world, keep nothing elsewhere, start no thread, and read and write
  * no file. sfi_run_load takes memory by malloc and realloc, for the world of an accepted image alone; sfi_run_load and
- * sfi_run_free give it back by free; the other calls do neither. Each returns: sfi_run_turn and sfi_run_call after at
- * most the steps that they were given. A thread with 64 KiB of stack had room for each where that was measured.
+ * sfi_run_free give it back by free; the other calls do neither. Each returns: sfi_run_turn, sfi_run_until and
+ * sfi_run_call after at most the steps that they were given. A thread with 64 KiB of stack had room for each where that was measured.
  *
  * What a caller owes, since nothing checks it:
  *
@@ -112,8 +112,16 @@ enum sfi_run_cause {
 struct sfi_run_event {
     uint32_t kind;   /* one of enum sfi_run_kind */
     uint32_t number; /* CALL: the service, 0 to 5 (docs/GATES.md); EXITED: the number; TRAPPED: one of enum sfi_run_cause */
+    uint32_t gate;   /* CALL: which of its gates, 0 to 63, in the order of the image */
+    uint32_t pc;     /* its pc, at a CALL the gate's address; 0 where there is no sandbox */
     uint32_t a0;     /* CALL: a0; TRAPPED: the address of the access, and for the causes 1 to 3 the pc */
-    uint32_t a1;     /* CALL: a1 */
+    uint32_t a1;     /* CALL: a1, and so on: a gate gets eight words */
+    uint32_t a2;
+    uint32_t a3;
+    uint32_t a4;
+    uint32_t a5;
+    uint32_t a6;
+    uint32_t a7;
 };
 
 /* Where the data of a sandbox lie. */
@@ -131,11 +139,11 @@ struct sfi_run_registers {
 /* Whoever calls by another language writes these structs anew: they have no padding, but for 4 bytes after `held` where
  * a pointer has 64 bits. */
 #if defined(__cplusplus) && __cplusplus >= 201103L
-static_assert(sizeof(struct sfi_run_event) == 16 && sizeof(struct sfi_run_region) == 8 &&
+static_assert(sizeof(struct sfi_run_event) == 48 && sizeof(struct sfi_run_region) == 8 &&
                   sizeof(struct sfi_run_registers) == 132 && sizeof(struct sfi_run_world) == 2 * sizeof(void *),
               "the structs have no other padding");
 #elif defined(__STDC_VERSION__) && __STDC_VERSION__ >= 201112L
-_Static_assert(sizeof(struct sfi_run_event) == 16 && sizeof(struct sfi_run_region) == 8 &&
+_Static_assert(sizeof(struct sfi_run_event) == 48 && sizeof(struct sfi_run_region) == 8 &&
                    sizeof(struct sfi_run_registers) == 132 && sizeof(struct sfi_run_world) == 2 * sizeof(void *),
                "the structs have no other padding");
 #endif
@@ -161,6 +169,37 @@ void sfi_run_free(struct sfi_run_world *world);
 /* How many sandboxes there are, 1 to 16; 0 where there is no world. They are numbered from 0, in the image's order. */
 size_t sfi_run_count(struct sfi_run_world *world);
 
+/* ---- names: what an image's table says (docs/IMAGE.md) */
+
+/* What the calls below return. */
+enum sfi_run_names {
+    SFI_RUN_NAMES_FOUND = 0,
+    SFI_RUN_NAMES_NO_IMAGE = 1,   /* the bytes are no image */
+    SFI_RUN_NAMES_NO_SANDBOX = 2, /* it has no sandbox of that number */
+    SFI_RUN_NAMES_NO_TABLE = 3,   /* the sandbox's first data bytes end in no table's magic */
+    SFI_RUN_NAMES_BAD_TABLE = 4,  /* they end in the magic, and what stands before it is no table's */
+    SFI_RUN_NAMES_NO_NAME = 5     /* the table doesn't have the name */
+};
+
+/*
+ * Writes the address that a name of `size` bytes stands for in the table of a sandbox of the image. An export is a function
+ * to call (sfi_run_call), or an object of the data (sfi_run_read, sfi_run_write); an import is a gate, if the table
+ * is right: pc is that address when it is called. Where two have the name, it is the first's. Returns one of enum
+ * sfi_run_names, and writes nothing unless that is SFI_RUN_NAMES_FOUND.
+ *
+ * The table is what the image says of itself, and may say anything: an address that can't be entered, read or written is
+ * refused by the calls that do so. The image needn't be accepted, and no world is asked: of the bytes the layout alone is
+ * looked at, each time, and not the code.
+ */
+uint32_t sfi_run_export(const uint8_t *image, size_t length, uint32_t sandbox, const char *name, size_t size,
+                        uint32_t *address);
+uint32_t sfi_run_import(const uint8_t *image, size_t length, uint32_t sandbox, const char *name, size_t size,
+                        uint32_t *address);
+
+/* Writes the version of the host's interface for which the code is made, as the table says. Returns likewise, but
+ * never SFI_RUN_NAMES_NO_NAME. */
+uint32_t sfi_run_api(const uint8_t *image, size_t length, uint32_t sandbox, uint32_t *version);
+
 /* ---- a turn, and the reply to a call */
 
 /*
@@ -173,6 +212,14 @@ size_t sfi_run_count(struct sfi_run_world *world);
  * data as they are when the reply comes are what it goes on with.
  */
 uint32_t sfi_run_turn(struct sfi_run_world *world, uint32_t sandbox, uint32_t steps, struct sfi_run_event *event);
+
+/*
+ * The same, but the turn ends, too, before an instruction at one of the `count` addresses `stops`. Its first step, if it may
+ * take one, is made at a stop, too, so that it goes on from there. So it is a turn of the fewest steps after which pc is a
+ * stop; and of `steps` where there are none such. A step takes longer here: each stop is compared.
+ */
+uint32_t sfi_run_until(struct sfi_run_world *world, uint32_t sandbox, const uint32_t *stops, size_t count, uint32_t steps,
+                       struct sfi_run_event *event);
 
 /* Writes to *event how the sandbox stands, and returns the event's kind. Nothing runs. */
 uint32_t sfi_run_event(struct sfi_run_world *world, uint32_t sandbox, struct sfi_run_event *event);
@@ -192,7 +239,7 @@ bool sfi_run_exit(struct sfi_run_world *world, uint32_t sandbox, uint32_t number
 
 /*
  * Stops a sandbox that is ready or stands at a call: no turn runs it, and no call of it gets a reply. Its data, pc,
- * registers and steps stay, and sfi_run_enter and sfi_run_call may enter it again. So a host keeps the data of one that was
+ * registers and steps stay, and sfi_run_enter, sfi_run_call and sfi_run_set_registers make it ready again. So a host keeps the data of one that was
  * cut off in a loop. Returns false where there is no such sandbox or it has stopped already, and changes nothing then.
  */
 bool sfi_run_stop(struct sfi_run_world *world, uint32_t sandbox);
@@ -237,6 +284,20 @@ uint64_t sfi_run_steps(struct sfi_run_world *world, uint32_t sandbox);
 /* Writes the sandbox's pc and registers; or where its data lie. Returns false where there is none, and writes nothing. */
 bool sfi_run_registers(struct sfi_run_world *world, uint32_t sandbox, struct sfi_run_registers *registers);
 bool sfi_run_data(struct sfi_run_world *world, uint32_t sandbox, struct sfi_run_region *region);
+
+/*
+ * Makes the sandbox ready with this pc and these registers, whether it was ready, stood at a call or had stopped; x0 stays
+ * 0. Its data stay, and its steps are counted on. Returns false where there is no such sandbox, no bundle or word of its
+ * code begins at pc, x24 to x27 aren't what they were, or a typed register (docs/IMAGE.md: x2 in the second format, six in
+ * the third) would hold what its type forbids; and changes nothing then.
+ *
+ * So a debugger sets a register of a sandbox that stands where a bundle begins, or in the third format a word before
+ * which no step of an address is open. And a host that serves a call may call a function of the same sandbox: it keeps the
+ * registers, stops the sandbox, enters the function, sets x2, the stack pointer, to the kept one, takes turns, ends the
+ * function by sfi_run_exit, and puts the kept registers back, at which the sandbox stands at the first call again; then it
+ * replies. Without the kept x2 the function has an empty stack, and writes over that of the waiting call.
+ */
+bool sfi_run_set_registers(struct sfi_run_world *world, uint32_t sandbox, const struct sfi_run_registers *registers);
 
 #ifdef __cplusplus
 }

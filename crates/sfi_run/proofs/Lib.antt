@@ -1,3 +1,4 @@
 pub mod Prelude
 pub mod AsBox
 pub mod Loaded
+pub mod Telling

@@ -1,5 +1,6 @@
 -- What a call makes of a world.
 use Rattle.std.specs.Prelude.{◌≡◌, ℕ, [], ◌∷◌, List, Some, None, slice_get, slice_set}
+use Rattle.rv_step.specs.State.{Hart}
 use Rattle.sfi_host.specs.declared.turn.Turn.{Turn}
 use Rattle.sfi_host.specs.declared.waiting.Later.{Later}
 use Rattle.sfi_host.specs.Changing.{OthersAreSame, AreChanges, with_world_bytes}
@@ -7,8 +8,10 @@ use Rattle.sfi_host.specs.Entering.{IsAtEntry, with_entry}
 use Rattle.sfi_host.specs.Joint.{Machine, IsMachine, call_of, joint as joint_run, replied}
 use Rattle.sfi_host.specs.Moves.{HaveRun}
 use Rattle.sfi_host.specs.Plans.{IsJoint}
+use Rattle.sfi_host.specs.Setting.{with_hart}
 use Rattle.sfi_host.specs.Slots.{Slot}
 use Rattle.sfi_host.specs.Stopping.{with_stop}
+use Rattle.sfi_host.specs.Until.{HasRunUntil, turn_of}
 use Rattle.sfi_host.specs.Waiting.{to_call, later_answer, later_reply}
 use Rattle.sfi_host.specs.Worlds.{Sandboxes, slots_of, IsSafeWorld, StaysOutsideData, HaveStoppedThemselves}
 
@@ -29,6 +32,11 @@ pub record HasRunToCall (w n : Sandboxes) (sandbox steps : ℕ) : Type 0 where
       → slots_of n ≡ (to_call machine (plan_of sandbox steps) (slots_of w)).slots
   pub runs : (machine : Machine) → IsMachine machine
       → HaveRun machine (plan_of sandbox steps) w n (λ plan. to_call machine plan (slots_of w))
+  pub still : IsStillSafe w n
+
+-- it took such a turn up to a stop
+pub record HasRunToStop (w n : Sandboxes) (sandbox steps : ℕ) (stops : List ℕ) : Type 0 where
+  pub ran : HasRunUntil stops (turn_of sandbox steps) w n
   pub still : IsStillSafe w n
 
 -- the sandbox of that number got this reply to its call
@@ -54,6 +62,12 @@ pub record HasWritten (w n : Sandboxes) (sandbox at : ℕ) (bytes : List ℕ) : 
 -- it is entered at pc, with these arguments
 pub record HasEntered (w n : Sandboxes) (sandbox pc : ℕ) (arguments : List ℕ) : Type 0 where
   pub done : n ≡ with_entry w sandbox pc arguments
+  pub others : OthersAreSame w sandbox n
+  pub entry : IsAtEntry n sandbox
+
+-- it is ready with this pc and these registers
+pub record HasRegisters (w n : Sandboxes) (sandbox : ℕ) (h : Hart) : Type 0 where
+  pub done : n ≡ with_hart w sandbox h
   pub others : OthersAreSame w sandbox n
   pub entry : IsAtEntry n sandbox
 

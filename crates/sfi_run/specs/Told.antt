@@ -1,15 +1,15 @@
 -- What C is told of a sandbox: how it stands, its pc and registers, and where its data lie.
-use Rattle.std.specs.Prelude.{◌≡◌, ℕ, ◌⊎◌, List, Option, Some, None}
+use Rattle.std.specs.Prelude.{◌≡◌, ◌<◌, ◌≤◌, ℕ, ◌⊎◌, List, Option, Some, None, slice_get}
 use Rattle.rv_step.specs.declared.outcome.Cause.{Cause}
 use Rattle.rv_step.specs.declared.outcome.Cause.TheVariants.{Fetch, Illegal, Break, Load, Store}
-use Rattle.sfi_host.specs.declared.guest.Request.{Request}
+use Rattle.sfi_policy.specs.Limits.{gates_most, service_most}
+use Rattle.sfi_image.specs.declared.part.Gate.{Gate}
 use Rattle.sfi_host.specs.declared.status.Status.{Status}
 use Rattle.sfi_host.specs.declared.status.Status.TheVariants.{Ready, Exited, Trapped, Stopped}
 use Rattle.sfi_host.specs.Slots.{Slot}
-use Rattle.sfi_host.specs.Waiting.{AsksAtGate, IsAtCall, Waits}
-use Rattle.sfi_host.specs.Worlds.{status_at}
+use Rattle.sfi_host.specs.Waiting.{IsAtCall}
 use Rattle.sfi_run.specs.declared.told.SfiRunEvent.{SfiRunEvent}
-use Rattle.rv_step.specs.State.{Hart}
+use Rattle.rv_step.specs.State.{Hart, register}
 use Rattle.sfi_run.specs.declared.told.SfiRunRegisters.{SfiRunRegisters}
 use Rattle.sfi_image.specs.declared.span.Span.{Span}
 use Rattle.sfi_run.specs.declared.told.SfiRunRegion.{SfiRunRegion}
@@ -33,7 +33,7 @@ none_kind = 0
 abbrev pub ready_kind : ℕ
 ready_kind = 1
 
--- it waits at a call of the service of that number, with these a0 and a1
+-- it waits at a call of the service of that number
 abbrev pub call_kind : ℕ
 call_kind = 2
 
@@ -49,29 +49,74 @@ trap_kind = 4
 abbrev pub stopped_kind : ℕ
 stopped_kind = 5
 
+-- an event that is no call
+abbrev pub plain_event : ℕ → ℕ → ℕ → ℕ → SfiRunEvent
+plain_event kind number pc a0 = record {
+  kind = kind;
+  number = number;
+  gate = 0;
+  pc = pc;
+  a0 = a0;
+  a1 = 0;
+  a2 = 0;
+  a3 = 0;
+  a4 = 0;
+  a5 = 0;
+  a6 = 0;
+  a7 = 0;
+}
+
 -- what is told where there is no such sandbox
 abbrev pub none_event : SfiRunEvent
-none_event = record { kind = none_kind; number = 0; a0 = 0; a1 = 0 }
+none_event = plain_event none_kind 0 0 0
 
--- the call at which it waits
-abbrev pub call_event : Request → SfiRunEvent
-call_event r = record { kind = call_kind; number = r.service; a0 = r.a0; a1 = r.a1 }
+-- what is told of a call of that gate, which asks for that service, with these pc and registers
+abbrev pub call_event : ℕ → ℕ → Hart → SfiRunEvent
+call_event gate service h = record {
+  kind = call_kind;
+  number = service;
+  gate = gate;
+  pc = h.pc;
+  a0 = register h 10;
+  a1 = register h 11;
+  a2 = register h 12;
+  a3 = register h 13;
+  a4 = register h 14;
+  a5 = register h 15;
+  a6 = register h 16;
+  a7 = register h 17;
+}
 
--- what it may still do
-abbrev pub status_event : Option Status → SfiRunEvent
-status_event None = none_event
-status_event (Some Ready) = record { kind = ready_kind; number = 0; a0 = 0; a1 = 0 }
-status_event (Some (Exited n)) = record { kind = exit_kind; number = n; a0 = 0; a1 = 0 }
-status_event (Some (Trapped cause at)) =
-    record { kind = trap_kind; number = cause_number cause; a0 = at; a1 = 0 }
-status_event (Some Stopped) = record { kind = stopped_kind; number = 0; a0 = 0; a1 = 0 }
+-- what is told of one that stands at no call
+abbrev pub status_event : Status → ℕ → SfiRunEvent
+status_event Ready pc = plain_event ready_kind 0 pc 0
+status_event (Exited n) pc = plain_event exit_kind n pc 0
+status_event (Trapped cause at) pc = plain_event trap_kind (cause_number cause) pc at
+status_event Stopped pc = plain_event stopped_kind 0 pc 0
 
--- the event tells of the sandbox of that number: what it asks, where it stands at a call, which is at
--- one of its gates and asks that gate's service; elsewhere what it may still do
+-- so of one that may not be there
+abbrev pub standing_event : Option Slot → SfiRunEvent
+standing_event None = none_event
+standing_event (Some s) = status_event s.status s.hart.pc
+
+-- The event tells of a call of the sandbox of that number: it stands at the gate of that place, which
+-- is one of `gates_most` and asks for that service.
+pub record IsCallEvent (slots : List Slot) (i : ℕ) (e : SfiRunEvent) : Type 0 where
+  pub slot : Slot
+  pub there : slice_get slots i ≡ Some slot
+  pub gate : Gate
+  pub among : slice_get slot.bounds.gates e.gate ≡ Some gate
+  pub few : e.gate < gates_most
+  pub address : gate.address ≡ slot.hart.pc
+  pub most : gate.service ≤ service_most
+  pub told : e ≡ call_event e.gate gate.service slot.hart
+
+-- the event tells of the sandbox of that number: of its call, where it stands at one; elsewhere what
+-- it may still do
 abbrev pub IsEventOf : List Slot → ℕ → SfiRunEvent → Type 0
 IsEventOf slots i e =
-    ((r : Request) × Waits slots i r × AsksAtGate slots i r × (e ≡ call_event r))
-    ⊎ ((IsAtCall slots i → ⊥) × (e ≡ status_event (status_at slots i)))
+    (IsAtCall slots i × IsCallEvent slots i e)
+    ⊎ ((IsAtCall slots i → ⊥) × (e ≡ standing_event (slice_get slots i)))
 
 -- ---- the pc and the registers
 

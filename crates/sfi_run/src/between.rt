@@ -5,8 +5,9 @@ ghost use Rattle.rv_step.specs.State.{Hart};
 ghost use Rattle.sfi_host.specs.Changing.{data_bytes_of};
 ghost use Rattle.sfi_host.specs.Entering.{MayEnterAt};
 ghost use Rattle.sfi_host.specs.Reading.{hart_at, data_region_at};
+ghost use Rattle.sfi_host.specs.Setting.{hart_of, MaySetAt};
 ghost use Rattle.sfi_host.specs.Worlds.{Sandboxes, slots_of, status_at, steps_at, IsSafeWorld};
-ghost use Rattle.sfi_run.specs.Changes.{HasWritten, HasEntered, HasBeenStopped};
+ghost use Rattle.sfi_run.specs.Changes.{HasWritten, HasEntered, HasBeenStopped, HasRegisters};
 ghost use Rattle.sfi_run.specs.Told.{span_told, AreRegistersOf};
 
 use crate::holding::SfiRunWorld;
@@ -220,6 +221,45 @@ pub extern "C" fn sfi_run_registers(
         return false;
     };
     let done = tell_registers(&boxed, sandbox, registers);
+    world.put(boxed);
+    done
+}
+
+// Sets the pc and the registers of a sandbox.
+fn set_registers(world: &mut World<Pages>, sandbox: u32, registers: &SfiRunRegisters) -> bool
+    ensures may { IsTrue result ↔ MaySetAt (slots_of world.old) sandbox
+        (hart_of registers.now.pc registers.now.x) }
+    ensures set { OnTrue result (HasRegisters world.old world.new sandbox
+        (hart_of registers.now.pc registers.now.x)) }
+    ensures refused { OnFalse result (world.new ≡ world.old) }
+    ensures safe { IsSafeWorld world.new }
+{
+    world.set_registers(sandbox, registers.pc, &registers.x)
+}
+
+/// Makes a sandbox ready with this pc and these registers, if it may be entered so.
+#[unsafe(no_mangle)]
+pub extern "C" fn sfi_run_set_registers(
+    alloc: Global,
+    world: &mut SfiRunWorld,
+    sandbox: u32,
+    registers: &SfiRunRegisters,
+) -> bool
+    ensures may { (w : Sandboxes) → world.old.inner.world ≡ Some w
+        → (IsTrue result ↔ MaySetAt (slots_of w) sandbox
+        (hart_of registers.now.pc registers.now.x)) }
+    ensures set { OnTrue result ((w n : Sandboxes) → world.old.inner.world ≡ Some w
+        → world.new.inner.world ≡ Some n
+        → HasRegisters w n sandbox (hart_of registers.now.pc registers.now.x)) }
+    ensures refused { OnFalse result (world.new.inner.world ≡ world.old.inner.world) }
+    ensures safe { (n : Sandboxes) → world.new.inner.world ≡ Some n → IsSafeWorld n }
+    ensures held { IsSome world.old.inner.world ↔ IsSome world.new.inner.world }
+    ensures none { world.old.inner.world ≡ None → result ≡ false }
+{
+    let Some(mut boxed) = world.take(alloc) else {
+        return false;
+    };
+    let done = set_registers(&mut boxed, sandbox, registers);
     world.put(boxed);
     done
 }

@@ -8,6 +8,7 @@
 mod between;
 mod held;
 mod holding;
+mod names;
 mod parts;
 mod told;
 mod turns;
@@ -15,12 +16,15 @@ mod version;
 mod worlds;
 
 pub use between::{
-    sfi_run_data, sfi_run_enter, sfi_run_read, sfi_run_registers, sfi_run_steps, sfi_run_stop,
-    sfi_run_write,
+    sfi_run_data, sfi_run_enter, sfi_run_read, sfi_run_registers, sfi_run_set_registers,
+    sfi_run_steps, sfi_run_stop, sfi_run_write,
 };
 pub use held::Held;
 pub use holding::SfiRunWorld;
+pub use names::{sfi_run_api, sfi_run_export, sfi_run_import};
 pub use told::{SfiRunEvent, SfiRunRegion, SfiRunRegisters};
-pub use turns::{sfi_run_call, sfi_run_event, sfi_run_exit, sfi_run_reply, sfi_run_turn};
+pub use turns::{
+    sfi_run_call, sfi_run_event, sfi_run_exit, sfi_run_reply, sfi_run_turn, sfi_run_until,
+};
 pub use version::sfi_run_version;
 pub use worlds::{LoadFault, sfi_run_count, sfi_run_free, sfi_run_load};

@@ -1,6 +1,6 @@
 //! What C is told of a sandbox: how it stands, its pc and registers, and where its data lie.
 ghost use Rattle.std.specs.Prelude.{◌≡◌, ◌↔◌, IfSome, IsSome};
-ghost use Rattle.sfi_host.specs.Waiting.{AsksAtGate, IsAtCall, Waits};
+ghost use Rattle.sfi_host.specs.Waiting.{AsksAtGate, IsAtCall};
 ghost use Rattle.sfi_host.specs.Worlds.{slots_of};
 
 use rv_mem::Pages;
@@ -17,34 +17,60 @@ pub struct SfiRunEvent {
     pub kind: u32,
     /// The service, 0 to 5, the number with which it exited, or that of the trap's cause.
     pub number: u32,
+    /// The gate of a call, by its place among the sandbox's gates.
+    pub gate: u32,
+    /// The pc, where there is a sandbox.
+    pub pc: u32,
     /// a0 of a call, or the address of a trap.
     pub a0: u32,
-    /// a1 of a call.
+    /// a1 of a call, and so on.
     pub a1: u32,
+    pub a2: u32,
+    pub a3: u32,
+    pub a4: u32,
+    pub a5: u32,
+    pub a6: u32,
+    pub a7: u32,
 }
 
 impl SfiRunEvent {
-    ghost use Rattle.sfi_run.specs.Told.{cause_number, call_event, status_event, none_event, IsEventOf};
+    ghost use Rattle.sfi_run.specs.Told.{cause_number, plain_event, call_event, status_event, none_event, IsEventOf};
 
-    fn plain(kind: u32, number: u32, a0: u32) -> SfiRunEvent
-        ensures { result ≡ record { kind = kind; number = number; a0 = a0; a1 = 0 } }
+    fn plain(kind: u32, number: u32, pc: u32, a0: u32) -> SfiRunEvent
+        ensures { result ≡ plain_event kind number pc a0 }
     {
         SfiRunEvent {
             kind,
             number,
+            gate: 0,
+            pc,
             a0,
             a1: 0,
+            a2: 0,
+            a3: 0,
+            a4: 0,
+            a5: 0,
+            a6: 0,
+            a7: 0,
         }
     }
 
-    fn of_call(request: Request) -> SfiRunEvent
-        ensures { result ≡ call_event request }
+    fn of_call(gate: u32, service: u32, cpu: &Cpu) -> SfiRunEvent
+        ensures { result ≡ call_event gate service cpu.now }
     {
         SfiRunEvent {
             kind: 2,
-            number: request.service,
-            a0: request.a0,
-            a1: request.a1,
+            number: service,
+            gate,
+            pc: cpu.pc(),
+            a0: cpu.reg(Reg::numbered(10)),
+            a1: cpu.reg(Reg::numbered(11)),
+            a2: cpu.reg(Reg::numbered(12)),
+            a3: cpu.reg(Reg::numbered(13)),
+            a4: cpu.reg(Reg::numbered(14)),
+            a5: cpu.reg(Reg::numbered(15)),
+            a6: cpu.reg(Reg::numbered(16)),
+            a7: cpu.reg(Reg::numbered(17)),
         }
     }
 
@@ -60,17 +86,16 @@ impl SfiRunEvent {
         }
     }
 
-    fn of_status(status: Option<Status>) -> SfiRunEvent
-        ensures { result ≡ status_event status }
+    fn of_status(status: Status, pc: u32) -> SfiRunEvent
+        ensures { result ≡ status_event status pc }
     {
         match status {
-            None => SfiRunEvent::none(),
-            Some(Status::Ready) => SfiRunEvent::plain(1, 0, 0),
-            Some(Status::Exited(number)) => SfiRunEvent::plain(3, number, 0),
-            Some(Status::Trapped(cause, at)) => {
-                SfiRunEvent::plain(4, SfiRunEvent::cause_number(cause), at)
+            Status::Ready => SfiRunEvent::plain(1, 0, pc, 0),
+            Status::Exited(number) => SfiRunEvent::plain(3, number, pc, 0),
+            Status::Trapped(cause, at) => {
+                SfiRunEvent::plain(4, SfiRunEvent::cause_number(cause), pc, at)
             }
-            Some(Status::Stopped) => SfiRunEvent::plain(5, 0, 0),
+            Status::Stopped => SfiRunEvent::plain(5, 0, pc, 0),
         }
     }
 
@@ -78,19 +103,24 @@ impl SfiRunEvent {
     pub(crate) fn none() -> SfiRunEvent
         ensures { result ≡ none_event }
     {
-        SfiRunEvent::plain(0, 0, 0)
+        SfiRunEvent::plain(0, 0, 0, 0)
     }
 
     /// How the sandbox of that number stands, which asks this, if it waits.
     pub(crate) fn of(world: &World<Pages>, sandbox: u32, waiting: Option<Request>) -> SfiRunEvent
-        requires waits { IfSome waiting (λ r. Waits (slots_of world.now) sandbox r) }
         requires there { IsSome waiting ↔ IsAtCall (slots_of world.now) sandbox }
         requires gate { IfSome waiting (λ r. AsksAtGate (slots_of world.now) sandbox r) }
         ensures { IsEventOf (slots_of world.now) sandbox result }
     {
+        let Some(cpu) = world.cpu(sandbox) else {
+            return SfiRunEvent::none();
+        };
+        let Some(status) = world.status(sandbox) else {
+            return SfiRunEvent::none();
+        };
         match waiting {
-            Some(request) => SfiRunEvent::of_call(request),
-            None => SfiRunEvent::of_status(world.status(sandbox)),
+            Some(request) => SfiRunEvent::of_call(request.gate as u32, request.service, cpu),
+            None => SfiRunEvent::of_status(status, cpu.pc()),
         }
     }
 }

@@ -4,7 +4,7 @@ ghost use Rattle.std.specs.Bool.{OnTrue, OnFalse};
 ghost use Rattle.sfi_host.specs.Entering.{MayEnterAt};
 ghost use Rattle.sfi_host.specs.Waiting.{IsAtCall};
 ghost use Rattle.sfi_host.specs.Worlds.{Sandboxes, slots_of, IsSafeWorld};
-ghost use Rattle.sfi_run.specs.Changes.{HasRunToCall, HasReplied, HasCalled};
+ghost use Rattle.sfi_run.specs.Changes.{HasRunToCall, HasRunToStop, HasReplied, HasCalled};
 ghost use Rattle.sfi_run.specs.Told.{none_event, IsEventOf};
 
 use crate::holding::SfiRunWorld;
@@ -19,6 +19,15 @@ fn run(world: &mut World<Pages>, sandbox: u32, steps: u32) -> SfiRunEvent
     ensures event { IsEventOf (slots_of world.new) sandbox result }
 {
     let waiting = world.run_to_call(Turn { sandbox, steps });
+    SfiRunEvent::of(world, sandbox, waiting)
+}
+
+// Runs a sandbox up to its next call or stop.
+fn run_until(world: &mut World<Pages>, sandbox: u32, stops: &[u32], steps: u32) -> SfiRunEvent
+    ensures ran { HasRunToStop world.old world.new sandbox steps stops.now }
+    ensures event { IsEventOf (slots_of world.new) sandbox result }
+{
+    let waiting = world.run_until(Turn { sandbox, steps }, stops);
     SfiRunEvent::of(world, sandbox, waiting)
 }
 
@@ -86,6 +95,34 @@ pub extern "C" fn sfi_run_turn(
         return event.kind;
     };
     *event = run(&mut boxed, sandbox, steps);
+    world.put(boxed);
+    event.kind
+}
+
+/// Runs a sandbox up to its next call, for at most so many steps, and no further than to one of the
+/// addresses `stops`, to which at least one step leads. Tells how it stands then.
+#[unsafe(no_mangle)]
+pub extern "C" fn sfi_run_until(
+    alloc: Global,
+    world: &mut SfiRunWorld,
+    sandbox: u32,
+    stops: &[u32],
+    steps: u32,
+    event: &mut SfiRunEvent,
+) -> u32
+    ensures kind { result ≡ event.new.kind }
+    ensures held { IsSome world.old.inner.world ↔ IsSome world.new.inner.world }
+    ensures ran { (w n : Sandboxes) → world.old.inner.world ≡ Some w
+        → world.new.inner.world ≡ Some n → HasRunToStop w n sandbox steps stops.now }
+    ensures event { (n : Sandboxes) → world.new.inner.world ≡ Some n
+        → IsEventOf (slots_of n) sandbox event.new }
+    ensures none { world.old.inner.world ≡ None → event.new ≡ none_event }
+{
+    let Some(mut boxed) = world.take(alloc) else {
+        *event = SfiRunEvent::none();
+        return event.kind;
+    };
+    *event = run_until(&mut boxed, sandbox, stops, steps);
     world.put(boxed);
     event.kind
 }

@@ -6,7 +6,8 @@
 //! [`parse_instr`] reads the text of one instruction, [`print_instr`] and [`push_instr`] write it;
 //! a printed instruction that a word spells reads back as itself. What a text means is
 //! `specs/Statement.antt`, over the tokens of `specs/Tokens.antt` and the operands of
-//! `specs/Forms.antt`; the printed text is `specs/Printed.antt`.
+//! `specs/Forms.antt`; the printed text is `specs/Printed.antt`. [`op_name`] and its like are the
+//! names of `specs/Mnemonics.antt`.
 #![tactic(auto)]
 
 mod cause;
@@ -32,6 +33,7 @@ mod text;
 
 pub use cause::TextCause;
 pub use fault::TextFault;
+pub use mnemonic::{branch_name, immediate_name, load_name, op_name, store_name};
 pub use parse::parse_instr;
 pub use print::{print_instr, push_instr};
 pub use sfi_policy::Format;

@@ -21,7 +21,8 @@ pub enum Mnemonic {
     Ebreak,
 }
 
-fn op_name(op: RegOp) -> &'static str
+/// The name of an operation on two registers, in lower case.
+pub fn op_name(op: RegOp) -> &'static str
     ensures { result.now ≡ op_name op }
 {
     match op {
@@ -46,7 +47,8 @@ fn op_name(op: RegOp) -> &'static str
     }
 }
 
-fn immediate_name(op: ImmOp) -> &'static str
+/// The name of an operation on a register and a number, in lower case.
+pub fn immediate_name(op: ImmOp) -> &'static str
     ensures { result.now ≡ immediate_name op }
 {
     match op {
@@ -62,7 +64,8 @@ fn immediate_name(op: ImmOp) -> &'static str
     }
 }
 
-fn load_name(kind: LoadKind) -> &'static str
+/// The name of a load, in lower case.
+pub fn load_name(kind: LoadKind) -> &'static str
     ensures { result.now ≡ load_name kind }
 {
     match kind {
@@ -74,7 +77,8 @@ fn load_name(kind: LoadKind) -> &'static str
     }
 }
 
-fn store_name(width: StoreWidth) -> &'static str
+/// The name of a store, in lower case.
+pub fn store_name(width: StoreWidth) -> &'static str
     ensures { result.now ≡ store_name width }
 {
     match width {
@@ -84,7 +88,8 @@ fn store_name(width: StoreWidth) -> &'static str
     }
 }
 
-fn branch_name(cond: Cond) -> &'static str
+/// The name of a conditional branch, in lower case.
+pub fn branch_name(cond: Cond) -> &'static str
     ensures { result.now ≡ branch_name cond }
 {
     match cond {

@@ -12,8 +12,9 @@ use Rattle.sfi_tool.specs.Says.{Says, HasInputFault, IsDone, IsRefused}
 use Rattle.sfi_answers.specs.Checking.{SaysVerdict}
 use Rattle.sfi_tool.specs.Running.{SaysRun}
 use Rattle.sfi_answers.specs.Converting.{SaysConversion}
+use Rattle.sfi_answers.specs.Translating.{SaysTranslation}
 use Rattle.sfi_command.specs.declared.job.Job.{Job}
-use Rattle.sfi_command.specs.declared.job.Job.TheVariants.{Check, Dis, Build, Map, Run, Convert}
+use Rattle.sfi_command.specs.declared.job.Job.TheVariants.{Check, Dis, Build, Map, Run, Convert, Translate}
 use Rattle.sfi_command.specs.Command.{is_raw}
 use Rattle.sfi_io.specs.Streams.{limit}
 
@@ -56,6 +57,10 @@ of_conversion bytes status text (inl converted) = omega (arith, converted.status
 of_conversion bytes status text (inr (inl refused)) = omega (arith, refused.1.status_is)
 of_conversion bytes status text (inr (inr stack)) = omega (arith, stack.status_is)
 
+of_translation : (whole : Bool) (bytes : List ℕ) (status : ℕ) (text : List ℕ) → SaysTranslation whole bytes status text → status ≤ 1
+of_translation whole bytes status text (inl translated) = omega (arith, translated.status_is)
+of_translation whole bytes status text (inr refused) = omega (arith, refused.status_is)
+
 pub status_of_answer : (job : Job) (input : List ℕ) (status : ℕ) (text : List ℕ) → Says job input status text → status ≤ 1
 status_of_answer (Check true report) input status text says = of_verdict report input status text says
 status_of_answer (Check false report) input status text says = of_verdict report says.0 status text says.2
@@ -64,6 +69,7 @@ status_of_answer (Build places) input status text says = omega (arith, says.stat
 status_of_answer (Map places) input status text says = omega (arith, says.status_is)
 status_of_answer (Run rounds quantum given report) input status text says = of_run rounds quantum given.items report says.0 status text says.2
 status_of_answer Convert input status text says = of_conversion says.0 status text says.2
+status_of_answer (Translate whole) input status text says = of_translation whole says.0 status text says.2
 
 -- ---- a text above its limit
 

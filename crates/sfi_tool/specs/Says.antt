@@ -1,13 +1,14 @@
 -- What the job that was asked for answers on what was read, and what a run of the program writes.
 use Rattle.std.specs.Prelude.{ℕ, List, true, false, ◌⊎◌, Option, IfSome}
 use Rattle.sfi_command.specs.declared.job.Job.{Job}
-use Rattle.sfi_command.specs.declared.job.Job.TheVariants.{Check, Dis, Build, Map, Run, Convert}
+use Rattle.sfi_command.specs.declared.job.Job.TheVariants.{Check, Dis, Build, Map, Run, Convert, Translate}
 use Rattle.sfi_answers.specs.Answers.{Meaning, on_text}
 use Rattle.sfi_answers.specs.Checking.{check}
 use Rattle.sfi_answers.specs.Listing.{dis}
 use Rattle.sfi_answers.specs.Building.{build, map}
 use Rattle.sfi_tool.specs.Running.{run}
 use Rattle.sfi_answers.specs.Converting.{convert}
+use Rattle.sfi_answers.specs.Translating.{translate}
 use Rattle.std.specs.Io.KnownBytes.{Appends}
 use Rattle.clap.specs.Walk.{Text}
 use Rattle.sfi_command.specs.Command.{Asks, AsksNoInput}
@@ -23,6 +24,7 @@ meaning_of (Map places) = map places.items
 meaning_of (Run rounds quantum given report) =
     on_text (run rounds quantum given.items report)
 meaning_of Convert = on_text convert
+meaning_of (Translate whole) = on_text (translate whole)
 
 -- the job's answer, with status 0 or 1, on what was read
 abbrev pub Says : Job → List ℕ → ℕ → List ℕ → Type 0

@@ -9,7 +9,7 @@ ghost use Rattle.sfi_answers.specs.Answers.{Answers};
 use crate::running::run_answer;
 use sfi_answers::{
     Answer, Stop, TOO_LARGE_LINE, build_answer, check_answer, conversion_answer, listing_answer,
-    map_answer, stop_answer,
+    map_answer, stop_answer, translation_answer,
 };
 use sfi_command::Job;
 use sfi_io::{INPUT_LIMIT, bytes_of};
@@ -40,6 +40,7 @@ fn job_answer(alloc: Global, job: &Job, text: &[u8]) -> Result<Answer, Stop>
             &bytes_of(alloc, text)?,
         ),
         Job::Convert => conversion_answer(alloc, &bytes_of(alloc, text)?),
+        Job::Translate { whole } => translation_answer(alloc, *whole, &bytes_of(alloc, text)?),
     }
 }
 

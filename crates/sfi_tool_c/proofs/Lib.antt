@@ -1,2 +1,4 @@
 mod Stops
 mod Spelling
+mod Unique
+pub mod Facts

@@ -1,6 +1,7 @@
 -- A word more.
 use Rattle.std.proofs.Common.{◌≡◌, ◌≢◌, ◌≤◌, ◌<◌, ◌++◌, ◌∷◌, [], ◌∙◌, ◌-◌, ◌+◌, ℕ, List, suc, take, drop, length, get_or, ap, sym, arith, append_assoc}
 use Rattle.std.specs.List.{flat_map, All, AllWithin}
+use Rattle.std.specs.Prelude.{IsUtf8}
 use Rattle.std.proofs.Math.Path.{subst}
 use Rattle.std.proofs.lemmas.List.{get_or-take, get_or-drop, get_or_default, length-take}
 use Rattle.std.proofs.lemmas.List.Elements.{All-append, All-same, All-replicate, AllWithin-more}
@@ -10,7 +11,7 @@ use Rattle.clap.specs.Walk.{Text}
 use Rattle.sfi_tool_c.specs.Words.{SpellsWords, ended, HasNoZero}
 
 -- the bytes before `at` are those before `from` and those between
-between : (bytes : List ℕ) (from at : ℕ) → from ≤ at → take from bytes ++ take (at - from) (drop from bytes) ≡ take at bytes
+pub between : (bytes : List ℕ) (from at : ℕ) → from ≤ at → take from bytes ++ take (at - from) (drop from bytes) ≡ take at bytes
 between bytes from at up =
     let e : from + (at - from) ≡ at = omega (arith, up) in
     sym (take-add from (at - from) bytes) ∙ ap (λ (n : ℕ). take n bytes) e
@@ -47,6 +48,11 @@ pub unbroken_byte : (bytes : List ℕ) (from at next : ℕ) → at < length byte
 unbroken_byte bytes from at next in_bytes within other next_is =
     subst (λ (n : ℕ). AllWithin (λ (b : ℕ). b ≢ 0) bytes from n) (sym next_is)
     (AllWithin-more (λ (b : ℕ). b ≢ 0) bytes from at within (λ d zero. other (get_or_default bytes at 0 d in_bytes ∙ zero)))
+
+-- a word more in UTF-8
+pub utf8_more : (ws more : List Text) (word read : Text) → All IsUtf8 ws → IsUtf8 read → word ≡ read → more ≡ ws ++ word ∷ [] → All IsUtf8 more
+utf8_more ws more word read all one is more_is =
+    All-same IsUtf8 more (ws ++ word ∷ []) more_is (All-append IsUtf8 ws (word ∷ []) all (All-replicate IsUtf8 1 word (subst IsUtf8 (sym is) one)))
 
 -- the same words, spelled by the same bytes
 pub same_spelled : (bytes : List ℕ) (ws more : List Text) → SpellsWords bytes ws → ws ≡ more → SpellsWords bytes more

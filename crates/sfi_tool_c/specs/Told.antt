@@ -2,7 +2,7 @@
 use Rattle.std.specs.Prelude.{◌≡◌, ◌⊎◌, ℕ, List, ◌++◌, length, take, drop}
 use Rattle.clap.specs.Walk.{Text}
 use Rattle.sfi_command.specs.declared.job.Job.{Job}
-use Rattle.sfi_command.specs.Command.{Asks, AsksNoInput}
+use Rattle.sfi_command.specs.Command.{Asks, AsksNoInput, AsksNothing}
 use Rattle.sfi_tool.specs.Says.{Says, HasInputFault}
 use Rattle.sfi_tool_c.specs.Words.{SpellsWords}
 
@@ -19,12 +19,20 @@ pub record IsAnswer (words : List ℕ) (input : List ℕ) (status : ℕ) (text :
   pub asked : Asks spelled job
   pub says : Says job input status text
 
--- that text was written to the caller's array, and its length told
+-- a text was written to the caller's array, and its length told
+pub record TellsText (text old new : List ℕ) (told : ℕ) : Type 0 where
+  pub length_is : told ≡ length text
+  pub output_is : new ≡ with_text text old
+
+-- the answer's text was written so, and its length told
 pub record TellsAnswer (words input : List ℕ) (status : ℕ) (old new : List ℕ) (told : ℕ) : Type 0 where
   pub text : List ℕ
   pub answer : IsAnswer words input status text
-  pub length_is : told ≡ length text
-  pub output_is : new ≡ with_text text old
+  pub tells : TellsText text old new told
+
+-- the bytes spell no words, or words that ask for nothing
+abbrev pub SpellsNoCommand : List ℕ → Type 0
+SpellsNoCommand words = (spelled : List Text) → SpellsWords words spelled → AsksNothing spelled
 
 -- the words ask for a job, and what was read has one of its faults; or they ask for a run whose
 -- `--input` spells no bytes

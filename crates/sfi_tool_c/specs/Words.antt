@@ -1,5 +1,5 @@
 -- The words of a command line, as bytes.
-use Rattle.std.specs.Prelude.{◌≡◌, ◌≢◌, ℕ, List, [], ◌∷◌, ◌++◌, All}
+use Rattle.std.specs.Prelude.{◌≡◌, ◌≢◌, ℕ, List, [], ◌∷◌, ◌++◌, All, IsUtf8}
 use Rattle.std.specs.List.{flat_map}
 use Rattle.clap.specs.Walk.{Text}
 
@@ -11,7 +11,8 @@ ended word = word ++ 0 ∷ []
 abbrev pub HasNoZero : Text → Type 0
 HasNoZero word = All (λ (b : ℕ). b ≢ 0) word
 
--- the bytes are these words, each with a zero byte after it and none in it
+-- the bytes are these words, in UTF-8, each with a zero byte after it and none in it
 pub record SpellsWords (bytes : List ℕ) (words : List Text) : Type 0 where
   pub bytes_are : bytes ≡ flat_map ended words
   pub unbroken : All HasNoZero words
+  pub utf8 : All IsUtf8 words

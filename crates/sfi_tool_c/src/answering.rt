@@ -1,9 +1,9 @@
 //! The call that C makes.
-ghost use Rattle.std.specs.Prelude.{◌≡◌, ◌≤◌, ◌<◌, IfOk, string_bytes};
+ghost use Rattle.std.specs.Prelude.{◌≡◌, ◌≢◌, ◌⊎◌, ◌≤◌, ◌<◌, ℕ, List, IfOk, string_bytes};
 ghost use Rattle.sfi_answers.specs.Checking.{check};
 ghost use Rattle.sfi_command.specs.Command.{number_of};
 ghost use Rattle.sfi_tool.specs.Says.{Says, HasInputFault};
-ghost use Rattle.sfi_tool_c.specs.Told.{IsAnswer, TellsAnswer, HasFaultOf};
+ghost use Rattle.sfi_tool_c.specs.Told.{IsAnswer, TellsAnswer, TellsText, HasFaultOf, SpellsNoCommand};
 
 use crate::output::write_front;
 use crate::words::{WordsFault, words_of};
@@ -44,6 +44,7 @@ fn answer_to(alloc: Global, job: &Job, input: &[u8]) -> Result<Answer, AllocErro
 fn answer_to_fault(alloc: Global, fault: JobFault) -> Result<Answer, AllocError>
     ensures statuses { IfOk result (λ a. (2 ≤ a.status) × (a.status ≤ 3)) }
     ensures hex { IfOk result (λ a. a.status ≡ 2 → number_of fault ≡ 2) }
+    ensures usage { IfOk result (λ a. a.status ≡ 3 → number_of fault ≡ 1) }
 {
     match fault {
         JobFault::Usage(text) => Ok(Answer { status: 3, text }),
@@ -61,6 +62,8 @@ fn answer_to_words(alloc: Global, words: &[u8], input: &[u8]) -> Result<Answer, 
     ensures says { IfOk result (λ a. a.status < 2
         → IsAnswer words.now input.now a.status (string_bytes a.text)) }
     ensures fault { IfOk result (λ a. a.status ≡ 2 → HasFaultOf words.now input.now) }
+    ensures usage { IfOk result (λ a. a.status ≡ 3 → SpellsNoCommand words.now) }
+    ensures only_usage { SpellsNoCommand words.now → IfOk result (λ a. a.status ≡ 3) }
 {
     let words = match words_of(alloc, words) {
         Ok(words) => words,
@@ -90,6 +93,10 @@ pub extern "C" fn sfi_tool_answer(
     ensures says { result < 2
         → TellsAnswer words.now input.now result output.old output.new length.new }
     ensures fault { result ≡ 2 → HasFaultOf words.now input.now }
+    ensures usage { result ≡ 3 → SpellsNoCommand words.now }
+    ensures only_usage { SpellsNoCommand words.now → (result ≡ 3) ⊎ (result ≡ 4) }
+    ensures told { result ≢ 4 → (text : List ℕ)
+        × TellsText text output.old output.new length.new }
     ensures memory { result ≡ 4 → output.new ≡ output.old }
     ensures untold { result ≡ 4 → length.new ≡ 0 }
 {

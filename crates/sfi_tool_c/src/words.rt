@@ -1,7 +1,8 @@
 //! The words of a command line, as bytes.
-ghost use Rattle.std.specs.Prelude.{◌≡◌, ◌++◌, ◌∷◌, [], OnOk, IfOk, map, string_bytes};
+ghost use Rattle.std.specs.Prelude.{◌≡◌, ◌++◌, ◌∷◌, [], List, OnOk, IfOk, IfErr, map, string_bytes};
+ghost use Rattle.clap.specs.Walk.{Text};
 ghost use Rattle.sfi_tool_c.specs.Words.{SpellsWords};
-ghost use Rattle.sfi_tool_c.specs.declared.words.WordsFault.TheVariants.{Memory};
+ghost use Rattle.sfi_tool_c.specs.declared.words.WordsFault.TheVariants.{Memory, NoWords};
 
 use std::alloc::{AllocError, Global};
 
@@ -31,7 +32,9 @@ fn push_word(alloc: Global, words: &mut Vec<String>, word: &str) -> Result<(), A
 
 /// The words that the bytes are, each with a zero byte after it.
 pub(crate) fn words_of(alloc: Global, bytes: &[u8]) -> Result<Vec<String>, WordsFault>
-    ensures { IfOk result (λ ws. SpellsWords bytes.now (map string_bytes ws.items)) }
+    ensures words { IfOk result (λ ws. SpellsWords bytes.now (map string_bytes ws.items)) }
+    ensures none { IfErr result (λ fault. fault ≡ NoWords
+        → (words : List Text) → ¬ SpellsWords bytes.now words) }
 {
     let mut words = Vec::new(alloc);
     let mut from = 0;

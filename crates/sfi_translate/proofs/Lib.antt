@@ -1,3 +1,11 @@
 pub mod Prelude
 pub mod Readings
 pub mod Sandboxes
+pub mod LinesStand
+pub mod Counting
+pub mod Tested
+pub mod Rows
+pub mod Moves
+pub mod Whole
+pub mod InText
+pub mod Facts

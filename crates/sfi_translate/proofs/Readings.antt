@@ -4,34 +4,8 @@ use Rattle.std.proofs.Common.{length-drop}
 use Rattle.std.proofs.lemmas.List.{drop_all}
 use Rattle.rv_word.specs.declared.instr.Instr.{Instr}
 use Rattle.rv_comp.specs.Fronts.{Spells}
-use Rattle.sfi_rules.specs.Readings.{Piece, IsReading, IsLongestReading}
-use Rattle.sfi_report.proofs.Lines.{spell_fits}
-
--- ---- longest readings
-
-same_piece : (i j : Instr) (m n : ℕ) → Read i n ≡ Read j m → (i ≡ j) × (n ≡ m)
-same_piece i j m n e = (cc, cc)
-
--- the only piece that can stand at the front, and a longest reading after it
-longer : (bytes : List ℕ) (i : Instr) (n : ℕ) (later : List Piece) → Spells (take n bytes) i n
-    → ((j : Instr) (m : ℕ) → Spells (take m bytes) j m → Read i n ≡ Read j m)
-    → IsLongestReading (drop n bytes) later → IsLongestReading bytes (record { instr = i; size = n } ∷ later)
-longer bytes i n later s only h = record { is_reading = (s, h.is_reading); longest = most }
-  where
-    most : (other : List Piece) → IsReading bytes other → length other ≤ length (record { instr = i; size = n } ∷ later)
-    most [] g = omega arith
-    most (y ∷ other) g =
-        let e = same_piece i y.instr y.size n (only y.instr y.size g.0) in
-        let k = h.longest other (subst (λ m. IsReading (drop m bytes) other) (sym e.1) g.1) in
-        omega arith
-
--- where nothing is spelled, the longest reading has no pieces
-longest_of_stuck : (bytes : List ℕ) → ((i : Instr) (n : ℕ) → Spells (take n bytes) i n → ⊥) → IsLongestReading bytes []
-longest_of_stuck bytes stuck = record { is_reading = tt; longest = most }
-  where
-    most : (other : List Piece) → IsReading bytes other → length other ≤ 0
-    most [] h = omega arith
-    most (x ∷ other) h = absurd (stuck x.instr x.size h.0)
+use Rattle.sfi_rules.specs.Readings.{IsLongestReading}
+use Rattle.sfi_report.proofs.Lines.{spell_fits, longer, longest_of_stuck}
 
 -- ---- lines
 

@@ -7,13 +7,8 @@ use Rattle.sfi_policy.specs.declared.format.Format.TheVariants.{Sfi1, Sfi2, Sfiw
 use Rattle.sfi_image.specs.Spelling.{views}
 use Rattle.sfi_image.specs.Parts.{IsRightPart}
 use Rattle.sfi_image.proofs.Facts.{whole_bundles}
+use Rattle.sfi_report.proofs.Sandboxes.{unit_fits}
 use Rattle.sfi_translate.specs.Translation.{sandbox_line, data_line, last_line, function_text, entry_text, head_text, IsTextOfFirst, IsTranslationFrom, IsTranslation}
-
--- before the end of whole bundles there is a whole unit, and one unit more is that many
-unit_there : (format : Format) (n m at size : ℕ) → size ≡ 16 * n → at ≡ unit format * m → at < size → (at + unit format ≤ size) × (at + unit format ≡ unit format * suc m)
-unit_there Sfi1 n m at size whole e less = let same : at ≡ 16 * m = e in (omega arith, omega arith)
-unit_there Sfi2 n m at size whole e less = let same : at ≡ 16 * m = e in (omega arith, omega arith)
-unit_there Sfiw n m at size whole e less = let same : at ≡ 4 * m = e in (omega arith, omega arith)
 
 -- the text of the units before this offset after the old one
 pub record IsWrittenTo (sandbox : ℕ) (p : Part) (at : ℕ) (old new : List ℕ) : Type 0 where
@@ -24,18 +19,10 @@ pub record IsWrittenTo (sandbox : ℕ) (p : Part) (at : ℕ) (old new : List ℕ
   pub text_is : IsTextOfFirst sandbox p units text
   pub new_is : new ≡ old ++ text
 
--- the next unit ends within the code, at a unit more, and the code at or below 2 ^ 32
-pub unit_fits : (sandbox : ℕ) (p : Part) (size at : ℕ) (old new : List ℕ) → IsRightPart p → size ≡ unit p.format → (so_far : IsWrittenTo sandbox p at old new) → at < length p.code
-    → (at + size ≤ length p.code) × (at + size ≡ unit p.format * suc so_far.units) × (p.code_base + length p.code ≤ 2 ^ 32)
-unit_fits sandbox p size at old new right is so_far less =
-    let whole = whole_bundles p.format p.code_base (length p.code) right.code_base right.code_placed in
-    let there = unit_there p.format whole.0 so_far.units at (length p.code) whole.2 so_far.at_is less in
-    (subst (λ n. at + n ≤ length p.code) (sym is) there.0, ap (λ n. at + n) is ∙ there.1, whole.4)
-
 pub one_unit_more : (sandbox : ℕ) (p : Part) (size at : ℕ) (old new more : List ℕ) → IsRightPart p → size ≡ unit p.format → at < length p.code → IsWrittenTo sandbox p at old new
     → Adds new more (IsUnitText sandbox at (p.code_base + at) (take size (drop at p.code))) → IsWrittenTo sandbox p (at + size) old more
 one_unit_more sandbox p size at old new more right is less so_far here =
-    let fits = unit_fits sandbox p size at old new right is so_far less in
+    let fits = unit_fits p size at so_far.units right is so_far.at_is less in
     let sized = subst (λ n. IsUnitText sandbox at (p.code_base + at) (take n (drop at p.code)) here.text) is here.text_is in
     let last = subst (λ k. IsUnitText sandbox k (p.code_base + k) (take (unit p.format) (drop k p.code)) here.text) so_far.at_is sized in
     record {

@@ -1,3 +1,5 @@
 pub mod Lines
 pub mod Translation
+pub mod Machine
+pub mod Laws
 pub mod private

@@ -1,13 +1,8 @@
 -- Words that private contracts and proofs alone cite: no public statement rests on them.
-use Rattle.std.specs.Prelude.{◌≡◌, ℕ, List, ◌++◌}
+use Rattle.std.specs.Prelude.{◌≡◌, ℕ, List}
+pub use Rattle.sfi_report.specs.private.{Adds}
 use Rattle.sfi_rules.specs.Readings.{Piece, IsLongestReading}
 use Rattle.sfi_translate.specs.Translation.{reading_text}
-
--- the new text is the old one and some such text
-pub record Adds (old new : List ℕ) (is : List ℕ → Type 0) : Type 0 where
-  pub text : List ℕ
-  pub text_is : is text
-  pub new_is : new ≡ old ++ text
 
 -- the lines of the longest reading of the bytes at that address
 pub record IsReadingText (at : ℕ) (bytes text : List ℕ) : Type 0 where

@@ -7,7 +7,6 @@
 mod entries;
 mod fields;
 mod lines;
-mod names;
 #[cfg(test)]
 mod tests;
 mod translation;

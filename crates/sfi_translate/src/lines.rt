@@ -7,8 +7,8 @@ ghost use Rattle.sfi_translate.specs.Lines.{opening, name_field, number_field, s
 use crate::fields::{
     push_address, push_closing, push_name, push_number, push_opening, push_register, push_signed,
 };
-use crate::names::{branch_name, immediate_name, load_name, op_name, store_name};
 use rv_word::{Instr, Reg};
+use sfi_text::{branch_name, immediate_name, load_name, op_name, store_name};
 use std::alloc::AllocError;
 
 /// The most bytes of code that one function of the text holds.

@@ -1,5 +1,5 @@
 -- Words of private contracts and proofs, beside those of Keeping.antt.
-use Rattle.std.specs.Prelude.{◌≡◌, ℕ, suc, nat_lt, ◌+◌, ◌-◌, ◌≤◌, ◌==◌, Bool, false, List, [], ◌∷◌, ◌++◌, cond, Option, Some, None}
+use Rattle.std.specs.Prelude.{◌≡◌, ℕ, suc, nat_lt, ◌+◌, ◌-◌, ◌≤◌, ◌==◌, ◌⊎◌, Bool, false, List, [], ◌∷◌, ◌++◌, cond, Option, Some, None}
 use Rattle.sfi_image.specs.declared.fields.Fields.{Fields}
 use Rattle.sfi_image.specs.declared.fault.LayoutFault.{LayoutFault}
 use Rattle.sfi_image.specs.declared.want.Want.{Want}
@@ -10,7 +10,7 @@ use Rattle.sfi_image.specs.declared.want.Next.{Next}
 use Rattle.sfi_image.specs.declared.want.Next.TheVariants as next
 use Rattle.sfi_image.specs.Spelling.{magic_bytes, number_bytes, fields_bytes, gate_bytes}
 use Rattle.sfi_image.specs.Fronts.{Front, front, AreBundlesWithin, HasFaultWhateverFollows}
-use Rattle.sfi_image.specs.Keeping.{HasStopped, IsReader, Leads, LayoutReader, StandsFor}
+use Rattle.sfi_image.specs.Keeping.{HasStopped, Leads, LayoutReader, StandsFor}
 
 -- what is wanted, where that is no bundle
 abbrev pub as_want : OtherWant → Want
@@ -34,24 +34,24 @@ abbrev pub count_below : ℕ → List ℕ → ℕ
 count_below end [] = 0
 count_below end (a ∷ more) = cond (nat_lt a end) (suc (count_below end more)) 0
 
--- what comes next after so many sandboxes of that count
+-- what comes next after `begun` sandboxes of `count`
 abbrev pub next_part : ℕ → ℕ → Next
 next_part begun count = cond (begun == count) next.End next.Fields
 
--- what comes next after so many first data bytes of so many
+-- what comes next after `read` first data bytes of `len`
 abbrev pub next_init : ℕ → ℕ → ℕ → ℕ → Next
 next_init read len begun count = cond (read == len) (next_part begun count) next.Init
 
--- what comes next after so many bytes of code of so many
+-- what comes next after `read` bytes of code of `size`
 abbrev pub next_code : ℕ → ℕ → ℕ → ℕ → ℕ → Next
 next_code read size len begun count = cond (read == size) (next_init 0 len begun count) next.Code
 
--- what comes next after so many gates of so many
+-- what comes next after `read` gates of `gate_count`
 abbrev pub next_gate : ℕ → ℕ → Next
 next_gate read gate_count = cond (read == gate_count) next.Code next.Gate
 
--- that comes next, for a sandbox with these fields of which so many bytes of code and so many first
--- data bytes are read: so many bytes may be taken
+-- that comes next, for a sandbox with fields `f` of which `code` bytes of code and `init` first data
+-- bytes are read: `len` bytes may be taken
 abbrev pub TakesLength : Next → Fields → ℕ → ℕ → ℕ → Type 0
 TakesLength next.Magic f code init len = len ≡ magic_bytes
 TakesLength next.Count f code init len = len ≡ number_bytes
@@ -62,7 +62,11 @@ TakesLength next.Init f code init len = (1 ≤ len) × (len + init ≤ f.init_le
 TakesLength next.End f code init len = ⊥
 TakesLength next.Nothing f code init len = ⊥
 
--- so many bytes are as long as what comes next, told by what is kept
+-- a reader that was handed bytes from the start stands for a front, or has met a fault
+abbrev pub IsReader : LayoutReader → Type 0
+IsReader r = HasStopped r ⊎ ((x : Front) × StandsFor r x)
+
+-- `len` bytes are as long as what comes next, told by what is kept
 abbrev pub MayTake : LayoutReader → ℕ → Type 0
 MayTake r len = IsReader r × TakesLength r.next r.fields r.code_read r.init_read len
 

@@ -81,6 +81,7 @@ pub(super) fn call<G: Gates>(
 pub(super) fn request(sandbox: u32, service: u32, a0: u32, a1: u32) -> Request {
     Request {
         sandbox,
+        gate: 0,
         service,
         a0,
         a1,

@@ -263,7 +263,7 @@ fn word_source_rows(rt: HostRuntime) -> Result<(), Fail> {
 
 #[test]
 fn word_rows(rt: HostRuntime) -> Result<(), Fail> {
-    try_rows(&rt, rt.alloc(), words::USAGE, 51)?;
+    try_rows(&rt, rt.alloc(), words::USAGE, 52)?;
     try_rows(&rt, rt.alloc(), words::ALLOWED, 8)?;
     try_rows(&rt, rt.alloc(), words::REFUSED, 10)
 }
@@ -271,7 +271,7 @@ fn word_rows(rt: HostRuntime) -> Result<(), Fail> {
 #[test]
 fn help_rows(rt: HostRuntime) -> Result<(), Fail> {
     try_rows(&rt, rt.alloc(), words::TEXTS, 5)?;
-    try_rows(&rt, rt.alloc(), words::HELP, 21)
+    try_rows(&rt, rt.alloc(), words::HELP, 24)
 }
 
 #[test]
@@ -286,6 +286,7 @@ fn report_rows(rt: HostRuntime) -> Result<(), Fail> {
     try_rows(&rt, rt.alloc(), reports::REPORTS, 18)?;
     try_rows(&rt, rt.alloc(), reports::CONVERSIONS, 13)?;
     try_rows(&rt, rt.alloc(), reports::CONVERTED, 3)?;
+    try_rows(&rt, rt.alloc(), reports::TRANSLATIONS, 5)?;
     try_rows(&rt, rt.alloc(), reports::LISTINGS, 9)
 }
 

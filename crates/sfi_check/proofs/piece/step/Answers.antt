@@ -1,13 +1,10 @@
-use Rattle.sfi_check.proofs.Prelude.{◌≡◌, ◌∙◌, ◌≤◌, ℕ, eqb, false, List, length, sym, arith, inr, eq-eqb}
+use Rattle.sfi_check.proofs.Prelude.{◌≡◌, ◌∙◌, ◌≤◌, ℕ, eqb, false, List, length, sym, arith, eq-eqb}
 use Rattle.sfi_check.proofs.Leading.{field_len, init_some, field_taken, init_taken, step_taken}
 use Rattle.sfi_check.proofs.Tallying.{field_tallies, init_tallies}
 use Rattle.sfi_check.proofs.piece.step.Goals as goal
 
 not_empty : (xs : List ℕ) → eqb (length xs) 0 ≡ false → 1 ≤ length xs
 not_empty xs e = grind (arith, eq-eqb (length xs) 0, e)
-
-pub wants-requires : goal.wants-requires
-wants-requires g c = let h = c.requires.2 in inr (h.at, h.stands)
 
 pub take_bytes-requires : goal.take_bytes-requires
 take_bytes-requires g c =

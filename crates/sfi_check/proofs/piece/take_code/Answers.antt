@@ -1,10 +1,7 @@
-use Rattle.sfi_check.proofs.Prelude.{◌≤◌, ◌<◌, ◌/◌, length, take, refl, arith, inr}
+use Rattle.sfi_check.proofs.Prelude.{◌≤◌, ◌<◌, ◌/◌, length, take, refl, arith}
 use Rattle.sfi_check.proofs.Leading.{step_fault}
 use Rattle.sfi_check.proofs.Stretches.{stretch_step, stretch_taken}
 use Rattle.sfi_check.proofs.piece.take_code.Goals as goal
-
-pub stretch_length-requires : goal.stretch_length-requires
-stretch_length-requires g c = let h = c.requires.so_far.2 in inr (h.at, h.stands)
 
 pub returns-in-Some : goal.returns-in-Some
 returns-in-Some g c = λ first so_far h.

@@ -6,7 +6,7 @@ pub loop-k-preserved : goal.loop-k-preserved
 loop-k-preserved c =
     let many = c.told-arguments in
     let below : c.loop-k.k < length c.args.arguments.now = omega (arith, many, c.loop-k-test.true) in (
-      one_more_set c.args.cpu.now c.loop-k.cpu _ c.args.arguments.now c.loop-k.k _ _ c.loop-k.invariant.0 below refl c.numbered.ensures c.set_reg.ensures.written,
+      one_more_set 10 c.args.cpu.now c.loop-k.cpu _ c.args.arguments.now c.loop-k.k _ _ c.loop-k.invariant.0 below refl c.numbered.ensures c.set_reg.ensures.written,
       c.set_reg.ensures.hart,
     )
 

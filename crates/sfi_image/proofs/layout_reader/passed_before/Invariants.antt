@@ -1,10 +1,9 @@
-use Rattle.sfi_image.proofs.Prelude.{◌≡◌, ◌+◌, ◌-◌, ◌≤◌, length, drop, count_below}
+use Rattle.sfi_image.proofs.Prelude.{◌≡◌, ◌+◌, ◌-◌, length, drop, count_below}
 use Rattle.sfi_image.proofs.layout_reader.passed_before.Given as goal
 
 -- those so far and those below the end among the rest are as many as at first
 abbrev pub invariant-loop-count : goal.invariant-loop-count
 invariant-loop-count l = record {
-  inside : l.count ≤ length l.addresses;
   same : l.count + count_below l.end (drop l.count l.addresses) ≡ l.passed + count_below l.end (drop l.passed l.addresses);
 }
 

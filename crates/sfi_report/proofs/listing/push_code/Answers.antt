@@ -5,14 +5,14 @@ use Rattle.sfi_report.proofs.listing.push_code.Goals as goal
 
 pub overflow_add-part : goal.overflow_add-part
 overflow_add-part c =
-    let fits = unit_fits (view c.args.format c.args.part.now) c.unit-unit.result c.loop-at.at _ _ c.requires c.unit-unit.ensures c.loop-at.invariant c.loop-at-test.true in
+    let fits = unit_fits (view c.args.format c.args.part.now) c.unit-unit.result c.loop-at.at c.loop-at.invariant.units c.requires c.unit-unit.ensures c.loop-at.invariant.at_is c.loop-at-test.true in
     let end : c.args.part.now.code_base + length c.args.part.now.code.now ≤ 2 ^ 32 = fits.2 in
     let less = c.loop-at-test.true in
     omega arith
 
 pub slice_bounds-push_unit-end : goal.slice_bounds-push_unit-end
 slice_bounds-push_unit-end c =
-    let fits = unit_fits (view c.args.format c.args.part.now) c.unit-unit.result c.loop-at.at _ _ c.requires c.unit-unit.ensures c.loop-at.invariant c.loop-at-test.true in
+    let fits = unit_fits (view c.args.format c.args.part.now) c.unit-unit.result c.loop-at.at c.loop-at.invariant.units c.requires c.unit-unit.ensures c.loop-at.invariant.at_is c.loop-at-test.true in
     let within : c.loop-at.at + c.unit-unit.result ≤ length c.args.part.now.code.now = fits.0 in
     omega (arith, within, length-drop c.loop-at.at c.args.part.now.code.now)
 
@@ -21,7 +21,7 @@ push_unit-requires c =
     let at = c.loop-at.at in
     let code = c.args.part.now.code.now in
     let size = c.unit-unit.result in
-    let fits = unit_fits (view c.args.format c.args.part.now) size at _ _ c.requires c.unit-unit.ensures c.loop-at.invariant c.loop-at-test.true in
+    let fits = unit_fits (view c.args.format c.args.part.now) size at c.loop-at.invariant.units c.requires c.unit-unit.ensures c.loop-at.invariant.at_is c.loop-at-test.true in
     let end : c.args.part.now.code_base + length code ≤ 2 ^ 32 = fits.2 in
     let less = c.loop-at-test.true in
     omega (arith, end, less, length-take (at + size - at) (drop at code), length-drop at code)

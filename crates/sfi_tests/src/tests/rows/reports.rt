@@ -1,4 +1,4 @@
-//! What `check --report`, `convert` and `dis` print.
+//! What `check --report`, `convert`, `translate` and `dis` print.
 
 /// A line for each finding, and then the verdict or the fault.
 pub(super) const REPORTS: &str = "
@@ -60,6 +60,18 @@ $ sfi convert
 pub(super) const CONVERTED: &str = "
 = the new image is accepted; $ sfi convert | sfi check; > accepted sandboxes=1 bundles=16
 = what is converted runs alike; source; text front of hi; + 88 0290; + 1 4869; $ sfi run; $ sfi convert | sfi run; > sandbox=0 exit=105 steps=19 out=4869
+";
+
+/// What is translated for a host and as a whole program, and what isn't.
+pub(super) const TRANSLATIONS: &str = "
+= two letters for a host; source; text front of hi; + 88 0290; + 1 4869; $ sfi translate
+> #include \"sfi_native.h\"; > SANDBOX(0,16,01000000,256,01800000,256,01000020,2,2); > GATE(01000000,1); > GATE(01000010,0)
+> DATA(0,72,105,0); > FUNCTION(0,01000000); ..; >; > EBREAK(010000fe,2); > LAST
+= two letters as a whole program; source; text front of hi; + 88 0290; + 1 4869; $ sfi translate --whole
+> #ifndef SFI_NATIVE_H; ..; >; > #else; > SANDBOX(0,16,01000000,256,01800000,256,01000020,2,2); ..; >; > EBREAK(010000fe,2); > LAST; > #endif
+= what breaks a rule; put 36 3370b5013360a0012320b000; $ sfi translate; $ sfi translate --whole
+> refused findings=1 first=V5 sandbox=0 at=01000008
+= less a byte; cut 291; $ sfi translate; > layout fault 3 Short
 ";
 
 /// Listings, and faults.

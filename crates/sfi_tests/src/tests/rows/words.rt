@@ -9,7 +9,7 @@ $ sfi build source; $ sfi map --report; $ sfi map source; $ sfi dis image; $ sfi
 $ sfi run --report=yes; $ sfi run --report --report; $ sfi build --at; $ sfi check --at 20500000:80000000; $ sfi run --rounds; $ sfi run --rounds 0
 $ sfi run --rounds 10001; $ sfi run --rounds ten; $ sfi run --rounds=-1; $ sfi run --rounds 1 --rounds 1; $ sfi run --quantum 0
 $ sfi run --quantum 1000001; $ sfi run --quantum 0x10; $ sfi run --input; $ sfi run --rounds 0 --input 0; $ sfi check --version; $ sfi help frob
-$ sfi convert --report; >.. error: 
+$ sfi convert --report; $ sfi translate --report; >.. error: 
 = bytes, and a report; $ sfi check --raw --report; $ sfi check --report --raw
 > error: '--raw' and '--report' cannot be used together; >; > For more information, try '--help'.
 = no place; $ sfi build --at 20500000; $ sfi build --at :; $ sfi build --at 20500000:; $ sfi build --at :80000000; $ sfi build --at 120500000:80000000
@@ -34,7 +34,7 @@ source
 /// and an example. After `..` the first `>` ends a line.
 pub(super) const HELP: &str = "
 source; status 3
-= help; $ sfi --help; ..; >; >; > Usage: sfi <COMMAND>; ..; >..   check    Accept an image, or; >.. -V, --version; >text statuses; >.. build < 
+= help; $ sfi --help; ..; >; >; > Usage: sfi <COMMAND>; ..; >..   check      Accept an image, or; >.. -V, --version; >text statuses; >.. build < 
 = help, said in other words; as sfi --help; $ sfi -h; $ sfi help
 = help of check; $ sfi check --help; ..; >; >; > Usage: sfi check [OPTIONS]; ..; >.. --raw ; >.. --report ; >text statuses; >.. check --
 = help of check, said in other words; as sfi check --help; $ sfi check -h; $ sfi help check
@@ -49,6 +49,9 @@ source; status 3
 = help of run, said in other words; as sfi run --help; $ sfi run -h; $ sfi help run
 = help of convert; $ sfi convert --help; ..; >.. second format; >; >; > Usage: sfi convert; ..; >.. -h, --help; >text statuses; >.. convert < 
 = help of convert, said in other words; as sfi convert --help; $ sfi convert -h; $ sfi help convert
+= help of translate; $ sfi translate --help; ..; >.. as C; >; >; > Usage: sfi translate [OPTIONS]; ..; >.. --whole ; >text statuses
+>.. translate --whole < 
+= help of translate, said in other words; as sfi translate --help; $ sfi translate -h; $ sfi help translate
 ";
 
 /// Programs at places of a chip, at high addresses up to the last one, and at the usual ones.

@@ -3,6 +3,7 @@ use Rattle.std.proofs.Common.{false}
 use Rattle.sfi_tool.specs.Says.{meaning_of}
 use Rattle.sfi_answers.specs.Checking.{check}
 use Rattle.sfi_answers.specs.Converting.{convert}
+use Rattle.sfi_answers.specs.Translating.{translate}
 use Rattle.sfi_answers.specs.Listing.{dis}
 use Rattle.sfi_tool.specs.Running.{run}
 use Rattle.sfi_answers.specs.declared.fault.Stop.{Stop}
@@ -51,3 +52,10 @@ returns-in_ok-bytes_of-in-Convert c =
     (on_bytes convert c.args.text.now c.in_ok-bytes_of-in-Convert.field-0.items c.deref-in-Convert.result.now c.conversion_answer.result
     c.in_ok-bytes_of-in-Convert.ensures.bytes c.in_ok-bytes_of-in-Convert.ensures.only_bytes (λ u. let e = c.in_ok-bytes_of-in-Convert.ensures.only_stop u in absurd cc) c.deref-in-Convert.ensures.value
     c.conversion_answer.ensures)
+
+pub returns-in_ok-bytes_of-in-Translate : goal.returns-in_ok-bytes_of-in-Translate
+returns-in_ok-bytes_of-in-Translate c =
+    as_job _ _ _ c.translation_answer.result c.in-Translate.is
+    (on_bytes (translate c.in-Translate.whole) c.args.text.now c.in_ok-bytes_of-in-Translate.field-0.items c.deref-in-Translate.result.now c.translation_answer.result
+    c.in_ok-bytes_of-in-Translate.ensures.bytes c.in_ok-bytes_of-in-Translate.ensures.only_bytes (λ u. let e = c.in_ok-bytes_of-in-Translate.ensures.only_stop u in absurd cc) c.deref-in-Translate.ensures.value
+    c.translation_answer.ensures)

@@ -1,9 +1,6 @@
-use Rattle.sfi_check.proofs.Prelude.{◌∙◌, true, inr, sym, subst, List, StreamAnswer, Finding, verdict_of, IsVerdictOn, AreHandedOver}
+use Rattle.sfi_check.proofs.Prelude.{◌∙◌, true, sym, subst, List, StreamAnswer, Finding, verdict_of, IsVerdictOn, AreHandedOver}
 use Rattle.sfi_check.proofs.Feeding.{answered_fault, answered_whole, answered_short, fed_fault, fed_held}
 use Rattle.sfi_check.proofs.feed.Feed.answer.Goals as goal
-
-pub wants-requires : goal.wants-requires
-wants-requires c = let at = (fed_held c.args.self.now c.requires.0 c.in_default.is c.requires.1).at in inr (at.at, at.stands)
 
 pub returns-in-Some-clause-judged : goal.returns-in-Some-clause-judged
 returns-in-Some-clause-judged c = λ bytes h. answered_fault bytes c.in-Some.fault (fed_fault c.args.self.now bytes c.in-Some.fault c.in-Some.is h).0

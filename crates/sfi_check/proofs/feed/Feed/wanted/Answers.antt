@@ -1,10 +1,7 @@
 use Rattle.sfi_check.proofs.feed.Feed.wanted.Goals as goal
 use Rattle.sfi_check.proofs.Feeding.{less_field, less_bundle}
 use Rattle.sfi_check.proofs.Leading.{field_len}
-use Rattle.sfi_check.proofs.Prelude.{arith, inr}
-
-pub wants-requires : goal.wants-requires
-wants-requires c = inr c.requires.front
+use Rattle.sfi_check.proofs.Prelude.{arith}
 
 pub returns-in-Field-clause-more : goal.returns-in-Field-clause-more
 returns-in-Field-clause-more c = let x = c.requires.front.0 in let at = c.requires.front.1 in less_field x c.in-Field.len c.args.self.now.count (c.in-Field.ensures.want x at) (c.requires.cut.less x at)

@@ -1,12 +1,15 @@
-use Rattle.sfi_host.proofs.Prelude.{refl, arith, span_of}
-use Rattle.sfi_host.proofs.Runs.{one_more_written}
+use Rattle.sfi_host.proofs.Prelude.{is_some, length, ap, sym, ◌∙◌, subst, Bytes, range_with_len, span_of}
+use Rattle.sfi_host.proofs.Runs.{IsWrittenIn, read_kept, written_in}
 use Rattle.sfi_host.proofs.region.Region.write.Goals as goal
 
-pub loop-byte-init : goal.loop-byte-init
-loop-byte-init g c = record { memory = refl; inside = refl; others = refl; whole = λ w. w; next = omega (arith, c.ranges.at.fits) }
+pub copy_in-requires : goal.copy_in-requires
+copy_in-requires g c =
+    let m = g.M.Memory.bytes c.args.memory.now in
+    ap is_some (sym (read_kept (span_of c.args.self) m c.args.at (length c.args.bytes.now) c.requires.there)) ∙ c.requires.there
 
-pub loop-byte-preserved : goal.loop-byte-preserved
-loop-byte-preserved g c =
-    let e = c.store.ensures in
-    one_more_written (span_of c.args.self) (g.M.Memory.bytes c.args.memory.now) _ _ c.args.bytes.now c.args.at c.loop-byte.to c.from.result c.loop-byte.byte-index c.store.result
-    c.requires.there c.requires.end c.loop-byte-test.true c.loop-byte.invariant c.from.ensures (omega (arith, c.type_inv.bytes c.loop-byte.byte-index)) e.there e.done e.refused
+pub returns : goal.returns
+returns g c =
+    let m = g.M.Memory.bytes c.args.memory.now in
+    let all = range_with_len c.args.at (length c.args.bytes.now) in
+    let w = subst (λ (n : Bytes). IsWrittenIn (span_of c.args.self) m n all c.args.bytes.now) (sym c.copy_in.ensures) (written_in (span_of c.args.self) m c.args.at (length c.args.bytes.now) c.args.bytes.now c.requires.there) in
+    record { written = c.copy_in.ensures; inside = w.inside; outside = w.outside; whole = w.whole }

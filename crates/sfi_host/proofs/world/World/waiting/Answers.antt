@@ -1,5 +1,5 @@
 use Rattle.sfi_host.proofs.Prelude.{◌≡◌, refl, arith, subst, slice_get, Some, Sandboxes, IsSafeWorld}
-use Rattle.sfi_host.proofs.Asked.{found}
+use Rattle.sfi_host.proofs.Asked.{found, slot_is}
 use Rattle.sfi_host.proofs.AtGate.{if_at_gate}
 use Rattle.sfi_host.proofs.Waited.{if_waits, is_told}
 use Rattle.sfi_host.proofs.world.World.waiting.Given as given
@@ -17,7 +17,7 @@ returns g c =
     let told = c.asked_by.ensures in
     record {
       waits = if_waits c.args.self.now m items c.self.view_is c.args.i c.index.result.now (at g c) c.self.invariant.0 c.asked_by.result told.asks told.ready told.stands;
-      gate = if_at_gate c.args.self.now c.args.i c.asked_by.result (subst (λ (w : Sandboxes). IsSafeWorld w) c.self.view_is c.self.invariant.0)
+      gate = if_at_gate c.args.self.now m c.args.i c.index.result.now c.asked_by.result (slot_is c.args.self.now m items c.self.view_is c.args.i c.index.result.now (at g c)) (subst (λ (w : Sandboxes). IsSafeWorld w) c.self.view_is c.self.invariant.0) told.asks
           (if_waits c.args.self.now m items c.self.view_is c.args.i c.index.result.now (at g c) c.self.invariant.0 c.asked_by.result told.asks told.ready told.stands);
       there = is_told c.args.self.now m items c.self.view_is c.args.i c.index.result.now (at g c) c.self.invariant.0 c.asked_by.result told.asks told.ready told.stands told.silent;
     }

@@ -1,0 +1,127 @@
+-- Bytes at consecutive addresses, which aren't taken modulo 2 ^ 32.
+use Rattle.rv_mem.proofs.Prelude.{◌≡◌, ℕ, zero, suc, ◌+◌, ◌-◌, ◌%◌, ◌^◌, ◌<◌, ◌≤◌, inl, inr, List, [], ◌∷◌, ◌++◌, length, map, set, take, get_or, replicate, Option, Some, None, IsSome, is_some, refl, sym, ap, ◌∙◌, arith, slice_index, add-zero, add-one, get_or-set_other, get_or-set_same, insert, Bytes, IsMemory, byte_at, bytes_at, with_bytes, in_front, address_after, addresses, added, Puts, frame_of, cell, cell_at, ArePages, values_of}
+use Rattle.std.proofs.lemmas.Bool.{cases_lt}
+use Rattle.std.proofs.lemmas.List.{append-nil, take_more, length-take-le}
+use Rattle.rv_mem.proofs.Lookups.{stays}
+use Rattle.rv_mem.proofs.PageReads.{byte_after}
+use Rattle.rv_mem.proofs.Paging.{is_marked, marked}
+use Rattle.std.specs.List.{range_with_len}
+
+-- ---- which are there
+
+first_there : (o : Option ℕ) (p : Option (List ℕ)) → IsSome (in_front o p) → IsSome o
+first_there None p h = h
+first_there (Some b) p h = refl
+
+others_there : (o : Option ℕ) (p : Option (List ℕ)) → IsSome (in_front o p) → IsSome p
+others_there None p h = absurd (cc)
+others_there (Some b) None h = h
+others_there (Some b) (Some bs) h = refl
+
+-- each is there where all are
+pub each_there : (m : Bytes) (a n k : ℕ) → IsSome (bytes_at m (range_with_len a n)) → k < n → IsSome (byte_at m (a + k))
+each_there m a zero k h l = absurd (omega arith)
+each_there m a (suc n) zero h l =
+    let z : a + 0 ≡ a = omega arith in
+    ap (λ x. is_some (byte_at m x)) z ∙ first_there (byte_at m a) (bytes_at m (range_with_len (a + 1) n)) h
+each_there m a (suc n) (suc k) h l =
+    let z : a + suc k ≡ a + 1 + k = omega arith in
+    ap (λ x. is_some (byte_at m x)) z ∙ each_there m (a + 1) n k (others_there (byte_at m a) _ h) (omega arith)
+
+there_below : (m : Bytes) (a : ℕ) → IsMemory m → (o : Option ℕ) → byte_at m a ≡ o → IsSome o → a < 2 ^ 32
+there_below m a memory None e h = absurd (cc)
+there_below m a memory (Some v) e h = memory.addresses a v e
+
+-- so each lies below 2 ^ 32
+pub each_below : (m : Bytes) (a n k : ℕ) → IsMemory m → IsSome (bytes_at m (range_with_len a n)) → k < n → a + k < 2 ^ 32
+each_below m a n k memory h l = there_below m (a + k) memory (byte_at m (a + k)) refl (each_there m a n k h l)
+
+pub ends_within : (m : Bytes) (a n : ℕ) → IsMemory m → a < 2 ^ 32 → IsSome (bytes_at m (range_with_len a n)) → a + n ≤ 2 ^ 32
+ends_within m a zero memory small h = omega arith
+ends_within m a (suc n) memory small h = let l = each_below m a (suc n) n memory h (omega arith) in omega (arith, l)
+
+-- ---- reading
+
+joined : (o : Option ℕ) (p : Option (List ℕ)) (b : ℕ) (bs : List ℕ) → o ≡ Some b → p ≡ Some bs → in_front o p ≡ Some (b ∷ bs)
+joined None p b bs e f = absurd (cc)
+joined (Some c) None b bs e f = absurd (cc)
+joined (Some c) (Some cs) b bs e f = cc
+
+-- all are read where each is
+pub all_read : (m : Bytes) (a n : ℕ) (bs : List ℕ) → length bs ≡ n → ((k : ℕ) → k < n → byte_at m (a + k) ≡ Some (slice_index bs k)) → bytes_at m (range_with_len a n) ≡ Some bs
+all_read m a zero [] e each = refl
+all_read m a zero (b ∷ bs) e each = absurd (omega arith)
+all_read m a (suc n) [] e each = absurd (omega arith)
+all_read m a (suc n) (b ∷ bs) e each =
+    let z : a ≡ a + 0 = omega arith in
+    joined _ _ b bs (ap (byte_at m) z ∙ each 0 (omega arith))
+    (all_read m (a + 1) n bs (omega arith) (λ k h. let y : a + 1 + k ≡ a + suc k = omega arith in ap (byte_at m) y ∙ each (suc k) (omega arith)))
+
+-- what was there, and one byte in its place
+pub read_one_more : (m : Bytes) (a k v : ℕ) (bs : List ℕ) → k < length bs → ((j : ℕ) → j < k → byte_at m (a + j) ≡ Some (slice_index bs j)) → byte_at m (a + k) ≡ Some v
+    → (j : ℕ) → j < k + 1 → byte_at m (a + j) ≡ Some (slice_index (set bs k v) j)
+read_one_more m a k v bs below before here j l = elim (cases_lt j k) [
+  | inl h ↦ before j h ∙ ap Some (sym (get_or-set_other bs k j v 0 (omega (arith, h))))
+  | inr h ↦
+      let e : j ≡ k = omega arith in
+      ap (λ (x : ℕ). byte_at m (a + x)) e ∙ here ∙ ap Some (sym (ap (slice_index (set bs k v)) e ∙ get_or-set_same bs k v 0 below))
+]
+
+-- so many more, from cells in one page
+pub read_more : (t c old new : List ℕ) → ArePages t c → (at n done count frame : ℕ) → IsSome (bytes_at (values_of (cell_at t c)) (range_with_len at n)) → done + count ≤ n → at + done < 2 ^ 32
+    → (at + done) % 4096 + count ≤ 4096 → frame ≡ frame_of t (at + done) → ((j : ℕ) → j < done → byte_at (values_of (cell_at t c)) (at + j) ≡ Some (slice_index old j))
+    → Puts old new done count (λ j. slice_index c (frame + (at + done) % 4096 + j)) → (j : ℕ) → j < done + count → byte_at (values_of (cell_at t c)) (at + j) ≡ Some (slice_index new j)
+read_more t c old new are at n done count frame some room fits page is before puts j l = elim (cases_lt j done) [
+  | inl h ↦ before j h ∙ ap Some (sym (puts.below j h))
+  | inr h ↦
+      let i : ℕ = j - done in
+      let small : i < count = omega (arith, h, l) in
+      let p : ℕ = frame + (at + done) % 4096 + i in
+      let m : Bytes = values_of (cell_at t c) in
+      let here : address_after (at + done) i ≡ at + j = omega (arith, h, small, page, fits) in
+      let cell_is : byte_at m (at + j) ≡ cell c p = ap (byte_at m) (sym here) ∙ byte_after t c are (at + done) frame is count fits page i small in
+      let there : IsSome (cell c p) = ap is_some (sym cell_is) ∙ each_there m at n j some (omega (arith, l, room)) in
+      let k : done + i ≡ j = omega (arith, h) in
+      cell_is ∙ is_marked c p (marked c p there) ∙ ap Some (sym (ap (slice_index new) (sym k) ∙ puts.inside i small))
+]
+
+-- ---- writing
+
+-- a write removes none
+pub with_keeps : (m : Bytes) (at bs : List ℕ) (q : ℕ) → IsSome (byte_at m q) → IsSome (byte_at (with_bytes m at bs) q)
+with_keeps m (a ∷ more) (b ∷ bs) q h = with_keeps (insert m a b) more bs q (stays m a b q h)
+with_keeps m at bs q h = h
+
+-- one byte more
+put_more : (m : Bytes) (a n b : ℕ) (bs : List ℕ) → length bs ≡ n
+    → with_bytes m (range_with_len a (suc n)) (bs ++ b ∷ []) ≡ insert (with_bytes m (range_with_len a n) bs) (a + n) b
+put_more m a zero b [] e = let z : a ≡ a + 0 = omega arith in ap (λ x. insert m x b) z
+put_more m a (suc n) b (c ∷ bs) e =
+    let z : a + 1 + n ≡ a + suc n = omega arith in
+    put_more (insert m a c) (a + 1) n b bs (omega arith) ∙ ap (λ x. insert (with_bytes (insert m a c) (range_with_len (a + 1) n) bs) x b) z
+put_more m a n b bs e = absurd (omega arith)
+
+pub write_more : (m : Bytes) (a k d : ℕ) (bs : List ℕ) → k < length bs
+    → insert (with_bytes m (range_with_len a k) (take k bs)) (a + k) (get_or bs k d) ≡ with_bytes m (range_with_len a (k + 1)) (take (k + 1) bs)
+write_more m a k d bs below =
+    let many : length (take k bs) ≡ k = length-take-le k bs (omega arith) in
+    sym (ap (λ (l : List ℕ). with_bytes m (range_with_len a (k + 1)) l) (take_more bs k d below)
+    ∙ ap (λ (j : ℕ). with_bytes m (range_with_len a j) (take k bs ++ get_or bs k d ∷ [])) (add-one k)
+    ∙ put_more m a k (get_or bs k d) (take k bs) many)
+
+-- the addresses of an access that doesn't go round
+straight : (a k n : ℕ) → a + k + n ≤ 2 ^ 32 → map (address_after a) (range_with_len k n) ≡ range_with_len (a + k) n
+straight a k zero room = refl
+straight a k (suc n) room =
+    let x : address_after a k ≡ a + k = omega arith in
+    let y : a + (k + 1) ≡ a + k + 1 = omega arith in
+    ap (λ (b : ℕ). b ∷ map (address_after a) (range_with_len (k + 1) n)) x
+    ∙ ap (λ (l : List ℕ). (a + k) ∷ l) (straight a (k + 1) n (omega arith) ∙ ap (λ (b : ℕ). range_with_len b n) y)
+
+-- bytes that are added, and no zeros
+pub added_all : (m : Bytes) (a : ℕ) (bs : List ℕ) → a + length bs ≤ 2 ^ 32 → added m a (length bs) bs ≡ with_bytes m (range_with_len a (length bs)) bs
+added_all m a bs room =
+    let none : length bs - length bs ≡ 0 = omega arith in
+    let all : bs ++ replicate (length bs - length bs) 0 ≡ bs = ap (λ (n : ℕ). bs ++ replicate n 0) none ∙ append-nil bs in
+    let same : addresses a (length bs) ≡ range_with_len a (length bs) = straight a 0 (length bs) (omega arith) ∙ ap (λ (b : ℕ). range_with_len b (length bs)) (add-zero a) in
+    ap (with_bytes m (addresses a (length bs))) all ∙ ap (λ (l : List ℕ). with_bytes m l bs) same

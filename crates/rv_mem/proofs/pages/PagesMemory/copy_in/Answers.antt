@@ -1,0 +1,20 @@
+use Rattle.rv_mem.proofs.Prelude.{sym, ap, is_some, ◌∙◌, length, bytes_of}
+use Rattle.rv_mem.proofs.Paging.{get_pages, has_frame}
+use Rattle.rv_mem.proofs.Runs.{added_all, each_there, ends_within}
+use Rattle.rv_mem.proofs.pages.PagesMemory.copy_in.Goals as goal
+
+pub fill-requires-clause-end : goal.fill-requires-clause-end
+fill-requires-clause-end c = ends_within (bytes_of c.args.self.now) c.args.at (length c.args.copied.now) c.args.self.now.in_range c.ranges.at.fits c.requires
+
+pub fill-requires-clause-made : goal.fill-requires-clause-made
+fill-requires-clause-made c k below =
+    let t = c.args.self.now.table.items in
+    let d = c.args.self.now.cells.items in
+    let are = c.args.self.now.are_pages in
+    has_frame t d are _ (ap is_some (sym (get_pages t d are _)) ∙ each_there (bytes_of c.args.self.now) c.args.at (length c.args.copied.now) k c.requires below)
+
+pub returns : goal.returns
+returns c =
+    c.fill.ensures
+    ∙ added_all (bytes_of c.args.self.now) c.args.at c.args.copied.now
+    (ends_within (bytes_of c.args.self.now) c.args.at (length c.args.copied.now) c.args.self.now.in_range c.ranges.at.fits c.requires)

@@ -1,0 +1,61 @@
+//! The cells of pages: writes to several of them, and copies.
+ghost use Rattle.std.specs.Prelude.{◌≡◌, ◌+◌, ◌<◌, ◌≤◌, length, slice_index, ℕ};
+ghost use Rattle.std.specs.Int.{bytes_low_first};
+ghost use Rattle.rv_mem.specs.private.Frames.{with_four, Puts, MarksRun};
+
+/// How many bytes a page has.
+const PAGE: usize = 4096;
+
+/// Writes the four bytes of a number from a place on: over a slice,
+/// so that it is one store of the processor.
+#[inline(always)]
+pub(crate) fn write_word(cells: &mut [u8], place: usize, value: u32)
+    requires { place + 4 ≤ length cells.old }
+    ensures { cells.new ≡ with_four cells.old place (bytes_low_first 0 4 value) }
+{
+    let [byte0, byte1, byte2, byte3] = value.to_le_bytes();
+    cells[place] = byte0;
+    cells[place + 1] = byte1;
+    cells[place + 2] = byte2;
+    cells[place + 3] = byte3;
+}
+
+/// Writes bytes from a place on.
+pub(crate) fn put_bytes(cells: &mut [u8], place: usize, bytes: &[u8])
+    requires { place + length bytes.now ≤ length cells.old }
+    ensures put { Puts cells.old cells.new place (length bytes.now) (slice_index bytes.now) }
+    ensures small { (j : ℕ) → slice_index bytes.now j < 256 }
+{
+    cells[place..place + bytes.len()].copy_from_slice(bytes);
+}
+
+/// Copies so many cells from a place on to a room, from another place on.
+pub(crate) fn copy_cells(cells: &[u8], place: usize, count: usize, room: &mut [u8], to: usize)
+    requires cells { place + count ≤ length cells.now }
+    requires room { to + count ≤ length room.old }
+    ensures { Puts room.old room.new to count (λ j. slice_index cells.now (place + j)) }
+{
+    room[to..to + count].copy_from_slice(&cells[place..place + count]);
+}
+
+/// Writes one value so many times from a place on.
+pub(crate) fn put_same(cells: &mut [u8], place: usize, count: usize, value: u8)
+    requires { place + count ≤ length cells.old }
+    ensures { Puts cells.old cells.new place count (λ j. value) }
+{
+    cells[place..place + count].fill(value);
+}
+
+/// Writes so many bytes of front, from one of its places on and with zeros past its end,
+/// and their marks.
+pub(crate) fn mark_cells(cells: &mut [u8], place: usize, count: usize, front: &[u8], from: usize)
+    requires room { place + count + 4096 ≤ length cells.old }
+    requires page { count ≤ 4096 }
+    ensures { MarksRun cells.old cells.new place count front.now from }
+{
+    let start = from.min(front.len());
+    let given = count.min(front.len() - start);
+    put_bytes(cells, place, &front[start..start + given]);
+    put_same(cells, place + given, count - given, 0);
+    put_same(cells, place + PAGE, count, 1);
+}

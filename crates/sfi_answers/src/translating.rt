@@ -1,0 +1,58 @@
+//! The command `translate`.
+
+ghost use Rattle.std.specs.Prelude.{◌≡◌, IfOk, string_bytes};
+ghost use Rattle.sfi_answers.specs.Answers.{Answers};
+ghost use Rattle.sfi_answers.specs.Translating.{IsTranslationText, back_text, front_text, translate};
+
+use crate::checking::refusal_answer;
+use crate::fault::Stop;
+use crate::verdict::Answer;
+use crate::whole_program::WHOLE_FRONT;
+use sfi_check::check;
+use sfi_image::Image;
+use sfi_translate::translation_text;
+use std::alloc::{AllocError, Global};
+
+/// What stands before the lines.
+#[tactic(auto, unfolding(crate::specs::Translating::front_text))]
+fn front_text(whole: bool) -> &'static str
+    ensures { result.now ≡ front_text whole }
+{
+    if whole {
+        WHOLE_FRONT
+    } else {
+        "#include \"sfi_native.h\"\n"
+    }
+}
+
+/// What stands after them.
+#[tactic(auto, unfolding(crate::specs::Translating::back_text))]
+fn back_text(whole: bool) -> &'static str
+    ensures { result.now ≡ back_text whole }
+{
+    if whole { "#endif\n" } else { "" }
+}
+
+/// The translation of an image, for a host or as a whole program.
+fn text_of(alloc: Global, whole: bool, image: &Image<'_>) -> Result<String, AllocError>
+    ensures { IfOk result (λ text. IsTranslationText whole image.now (string_bytes text)) }
+{
+    let mut text = String::from_str(alloc, front_text(whole))?;
+    text.push_str(&translation_text(alloc, image)?)?;
+    text.push_str(back_text(whole))?;
+    Ok(text)
+}
+
+/// The image with these bytes as C, for a host or as a whole program; or the verdict where it has
+/// findings.
+pub fn translation_answer(alloc: Global, whole: bool, bytes: &[u8]) -> Result<Answer, Stop>
+    ensures { Answers (translate whole) bytes.now result }
+{
+    match check(alloc, bytes) {
+        Ok(accepted) => Ok(Answer {
+            status: 0,
+            text: text_of(alloc, whole, accepted.image())?,
+        }),
+        Err(refusal) => refusal_answer(alloc, false, bytes, refusal),
+    }
+}

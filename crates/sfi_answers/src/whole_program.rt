@@ -1,0 +1,519 @@
+//! What stands before the lines of a whole program. `tools/whole_translation.py` makes this file.
+
+pub(crate) const WHOLE_FRONT: &str = r#"#ifndef SFI_NATIVE_H
+#ifndef SFI_TEXT
+#ifdef __FILE_NAME__
+#define SFI_TEXT __FILE_NAME__
+#else
+#define SFI_TEXT __FILE__
+#endif
+#endif
+#include <stdio.h>
+#include <stdlib.h>
+/* What the lines of the translation of an accepted image mean in C: SFI_TEXT, a file name in quotes, is the text. It is read
+   five times. A form restates the clause of `effect` (crates/rv_step/specs/Step.antt) of its instruction: once in sfi_step,
+   once for functions. Accesses are tested, so that a trap is exact and nothing rests on guard zones. C99, where a number
+   becomes a signed one modulo 2^32, >> copies the sign, and lines may be as long as the text's: gcc and clang. No C++.
+   For hosts whose numbers have the lowest byte first. Include it after all other headers, since the names of forms (OP,
+   END ..) stay defined. Nothing of this file is proved: what it has to say is crates/sfi_translate/specs/Machine.antt. */
+#ifndef SFI_NATIVE_H
+#define SFI_NATIVE_H
+#include <stdint.h>
+#include <string.h>
+typedef uint32_t sfi_u32;
+typedef int32_t sfi_i32;
+#ifdef __GNUC__
+#define SFI_RARE(condition) __builtin_expect(!!(condition), 0)
+#pragma GCC diagnostic ignored "-Wunused-label"
+#pragma GCC diagnostic ignored "-Wimplicit-fallthrough"
+#pragma GCC diagnostic ignored "-Wtype-limits"
+#if defined(__BYTE_ORDER__) && __BYTE_ORDER__ != __ORDER_LITTLE_ENDIAN__
+#error "the host's numbers don't have their lowest byte first"
+#endif
+#else
+#define SFI_RARE(condition) (condition)
+#endif
+/* ---- values: `result_of`, `is_taken`, `extended` (crates/rv_step/specs/Values.antt) */
+#define SFI_SIGNED(v) ((sfi_i32)(v))
+#define SFI_add(a, b) ((a) + (b))
+#define SFI_sub(a, b) ((a) - (b))
+#define SFI_xor(a, b) ((a) ^ (b))
+#define SFI_or(a, b) ((a) | (b))
+#define SFI_and(a, b) ((a) & (b))
+#define SFI_sll(a, b) ((a) << ((b) & 31u))
+#define SFI_srl(a, b) ((a) >> ((b) & 31u))
+#define SFI_sra(a, b) ((sfi_u32)(SFI_SIGNED(a) >> ((b) & 31u)))
+#define SFI_slt(a, b) ((sfi_u32)(SFI_SIGNED(a) < SFI_SIGNED(b)))
+#define SFI_sltu(a, b) ((sfi_u32)((a) < (b)))
+#define SFI_mul(a, b) ((a) * (b))
+#define SFI_mulh(a, b) ((sfi_u32)((uint64_t)((int64_t)SFI_SIGNED(a) * SFI_SIGNED(b)) >> 32))
+#define SFI_mulhsu(a, b) ((sfi_u32)((uint64_t)((int64_t)SFI_SIGNED(a) * (int64_t)(uint64_t)(b)) >> 32))
+#define SFI_mulhu(a, b) ((sfi_u32)((uint64_t)(a) * (b) >> 32))
+#define SFI_div(a, b) sfi_quotient(a, b)
+#define SFI_rem(a, b) sfi_remainder(a, b)
+#define SFI_divu(a, b) ((b) == 0 ? ~0u : (a) / ((b) == 0 ? 1u : (b)))
+#define SFI_remu(a, b) ((b) == 0 ? (a) : (a) % ((b) == 0 ? 1u : (b)))
+static inline sfi_u32 sfi_quotient(sfi_u32 a, sfi_u32 b) {
+    return b == 0 ? ~0u : b == ~0u ? 0u - a : (sfi_u32)(SFI_SIGNED(a) / SFI_SIGNED(b));
+}
+static inline sfi_u32 sfi_remainder(sfi_u32 a, sfi_u32 b) {
+    return b == 0 ? a : b == ~0u ? 0u : (sfi_u32)(SFI_SIGNED(a) % SFI_SIGNED(b));
+}
+#define SFI_addi SFI_add
+#define SFI_slti SFI_slt
+#define SFI_sltiu SFI_sltu
+#define SFI_xori SFI_xor
+#define SFI_ori SFI_or
+#define SFI_andi SFI_and
+#define SFI_slli SFI_sll
+#define SFI_srli SFI_srl
+#define SFI_srai SFI_sra
+#define SFI_beq(a, b) ((a) == (b))
+#define SFI_bne(a, b) ((a) != (b))
+#define SFI_blt(a, b) (SFI_SIGNED(a) < SFI_SIGNED(b))
+#define SFI_bge(a, b) (SFI_SIGNED(a) >= SFI_SIGNED(b))
+#define SFI_bltu(a, b) ((a) < (b))
+#define SFI_bgeu(a, b) ((a) >= (b))
+typedef int8_t sfi_lb;
+typedef int16_t sfi_lh;
+typedef uint32_t sfi_lw;
+typedef uint8_t sfi_lbu;
+typedef uint16_t sfi_lhu;
+typedef uint8_t sfi_sb;
+typedef uint16_t sfi_sh;
+typedef uint32_t sfi_sw;
+#define SFI_COMPUTATIONS(X) X(add) X(sub) X(xor) X(or) X(and) X(sll) X(srl) X(sra) X(slt) X(sltu) \
+    X(mul) X(mulh) X(mulhsu) X(mulhu) X(div) X(divu) X(rem) X(remu)
+#define SFI_IMMEDIATES(X) X(addi) X(slti) X(sltiu) X(xori) X(ori) X(andi) X(slli) X(srli) X(srai)
+#define SFI_LOADS(X) X(lb) X(lh) X(lw) X(lbu) X(lhu)
+#define SFI_STORES(X) X(sb) X(sh) X(sw)
+#define SFI_BRANCHES(X) X(beq) X(bne) X(blt) X(bge) X(bltu) X(bgeu)
+#define SFI_KIND(kind) SFI_KIND_##kind,
+enum { SFI_COMPUTATIONS(SFI_KIND) SFI_IMMEDIATES(SFI_KIND) SFI_LOADS(SFI_KIND) SFI_STORES(SFI_KIND) SFI_BRANCHES(SFI_KIND)
+    SFI_KIND_jal, SFI_KIND_jalr, SFI_KIND_lui, SFI_KIND_auipc, SFI_KIND_fence, SFI_KIND_ecall, SFI_KIND_ebreak };
+/* ---- a sandbox and its hart. A host makes `data` data_size bytes, the first data and then zeros; x[0] 0, x[24] to x[27]
+   what docs/IMAGE.md says, which functions take for granted; pc an even address. */
+struct sfi_hart { sfi_u32 x[32], pc, left; uint8_t *data; };  /* left: the steps that its turn has left */
+struct sfi_row { sfi_u32 kind : 6, size : 3, rd : 5, rs1 : 5, rs2 : 5; sfi_i32 number; };  /* size 0: no instruction */
+struct sfi_gate { sfi_u32 address, service; };
+typedef int sfi_function(struct sfi_hart *);  /* does steps; 1: none can follow there before one of sfi_step */
+struct sfi_sandbox {
+    sfi_u32 unit, code, code_size, data, data_size, start, gates, init;
+    const struct sfi_gate *gate;
+    const uint8_t *first_data;
+    const struct sfi_row *(*rows)(void);  /* one for each halfword of code */
+    sfi_function *const *functions;  /* one for each SFI_PART bytes of code */
+};
+enum { SFI_NEXT, SFI_CALL, SFI_LOAD, SFI_STORE, SFI_BREAK, SFI_FETCH };  /* how a step or a turn ended */
+enum { SFI_PART = 16384 };  /* the bytes of code of a function */
+enum { SFI_HEAD = 128 };  /* the bytes of code from a head to the next (`head_bytes`, specs/Translation.antt) */
+enum { SFI_MOST = SFI_HEAD / 2 + 1 };  /* a step for each line up to the next head, and one for the sfi_step after it */
+/* ---- one step; `at` becomes the address of a trap */
+static int sfi_step(const struct sfi_sandbox *s, struct sfi_hart *h, sfi_u32 *at) {
+    const sfi_u32 offset = h->pc - s->code;
+    *at = h->pc;
+    if (offset >= s->code_size || offset % 2 || s->rows()[offset / 2].size == 0)
+        return SFI_FETCH;
+    const struct sfi_row row = s->rows()[offset / 2];
+    const sfi_u32 a = h->x[row.rs1], b = h->x[row.rs2], number = (sfi_u32)row.number, place = a + number - s->data;
+    sfi_u32 next = h->pc + row.size, value = 0, writes = row.rd;
+    switch (row.kind) {
+#define SFI_KIND_OP(kind) case SFI_KIND_##kind: value = SFI_##kind(a, b); break;
+    SFI_COMPUTATIONS(SFI_KIND_OP)
+#define SFI_KIND_OPI(kind) case SFI_KIND_##kind: value = SFI_##kind(a, number); break;
+    SFI_IMMEDIATES(SFI_KIND_OPI)
+#define SFI_KIND_LOAD(kind) case SFI_KIND_##kind: { sfi_##kind loaded; \
+        if (place > s->data_size - sizeof loaded) { *at = a + number; return SFI_LOAD; } \
+        memcpy(&loaded, h->data + place, sizeof loaded); value = (sfi_u32)(sfi_i32)loaded; break; }
+    SFI_LOADS(SFI_KIND_LOAD)
+#define SFI_KIND_STORE(kind) case SFI_KIND_##kind: { const sfi_##kind stored = (sfi_##kind)b; \
+        if (place > s->data_size - sizeof stored) { *at = a + number; return SFI_STORE; } \
+        memcpy(h->data + place, &stored, sizeof stored); break; }
+    SFI_STORES(SFI_KIND_STORE)
+#define SFI_KIND_BRANCH(kind) case SFI_KIND_##kind: if (SFI_##kind(a, b)) next = number; break;
+    SFI_BRANCHES(SFI_KIND_BRANCH)
+    case SFI_KIND_jal: value = next; next = number; break;
+    case SFI_KIND_jalr: value = next; next = (a + number) & ~1u; break;
+    case SFI_KIND_lui: value = number << 12; break;
+    case SFI_KIND_auipc: value = h->pc + (number << 12); break;
+    case SFI_KIND_fence: break;
+    case SFI_KIND_ecall: return SFI_CALL;
+    case SFI_KIND_ebreak: return SFI_BREAK;
+    }
+    if (writes)
+        h->x[writes] = value;
+    h->pc = next;
+    h->left--;
+    return SFI_NEXT;
+}
+/* ---- a turn: steps until none is left (SFI_NEXT), or to a call or a trap, which it doesn't do: pc stays there, left has
+   its step still, and `at` is the trap's address. A host that replies to a call adds 4 to pc and takes 1 from left. */
+static int sfi_turn(const struct sfi_sandbox *s, struct sfi_hart *h, sfi_u32 *at) {
+    while (h->left) {
+        if (h->left >= SFI_MOST && h->pc - s->code < s->code_size && !s->functions[h->pc / SFI_PART - s->code / SFI_PART](h))
+            continue;
+        const int how = sfi_step(s, h, at);
+        if (how != SFI_NEXT)
+            return how;
+    }
+    return SFI_NEXT;
+}
+/* ---- registers as lines read and write them: x0 and x24 to x27 have one value */
+#define r0 0u
+#define r24 code_
+#define r25 (code_size_ - unit_)
+#define r26 data_
+#define r27 (data_size_ - 1u)
+#define SFI_REGISTERS(X) X(1) X(2) X(3) X(4) X(5) X(6) X(7) X(8) X(9) X(10) X(11) X(12) X(13) X(14) X(15) X(16) X(17) X(18) \
+    X(19) X(20) X(21) X(22) X(23) X(28) X(29) X(30) X(31)
+#define SFI_GET(k) r##k = h->x[k],
+#define SFI_PUT(k) h->x[k] = r##k;
+#define W0(value)
+#define W24(value)
+#define W25(value)
+#define W26(value)
+#define W27(value)
+#define W1(value) r1 = value;
+#define W2(value) r2 = value;
+#define W3(value) r3 = value;
+#define W4(value) r4 = value;
+#define W5(value) r5 = value;
+#define W6(value) r6 = value;
+#define W7(value) r7 = value;
+#define W8(value) r8 = value;
+#define W9(value) r9 = value;
+#define W10(value) r10 = value;
+#define W11(value) r11 = value;
+#define W12(value) r12 = value;
+#define W13(value) r13 = value;
+#define W14(value) r14 = value;
+#define W15(value) r15 = value;
+#define W16(value) r16 = value;
+#define W17(value) r17 = value;
+#define W18(value) r18 = value;
+#define W19(value) r19 = value;
+#define W20(value) r20 = value;
+#define W21(value) r21 = value;
+#define W22(value) r22 = value;
+#define W23(value) r23 = value;
+#define W28(value) r28 = value;
+#define W29(value) r29 = value;
+#define W30(value) r30 = value;
+#define W31(value) r31 = value;
+/* ---- the text's first three readings: gates and first data, functions, sandboxes */
+#define ENTRY(at)
+#define HEAD(at)
+#define END(at)
+#define OP(...)
+#define OPI(...)
+#define LOAD(...)
+#define STORE(...)
+#define BRANCH(...)
+#define BRANCH_FAR(...)
+#define JAL(...)
+#define JAL_FAR(...)
+#define JALR(...)
+#define LUI(...)
+#define AUIPC(...)
+#define FENCE(...)
+#define ECALL(...)
+#define EBREAK(...)
+#define SANDBOX(s, unit, code, code_size, data, data_size, start, gates, init) \
+    static const struct sfi_row *sfi_rows##s(void); static const struct sfi_gate sfi_gates##s[gates + 1] = {
+#define GATE(address, service) { 0x##address##u, service },
+#define DATA(s, ...) { 0, 0 } }; static const uint8_t sfi_first##s[] = { __VA_ARGS__ };
+#define FUNCTION(s, first) static sfi_function sfi_f##s##_##first;
+#define LAST
+#include SFI_TEXT
+#undef SANDBOX
+#undef GATE
+#undef DATA
+#undef FUNCTION
+#undef LAST
+#define SANDBOX(s, unit, code, code_size, data, data_size, start, gates, init) static sfi_function *const sfi_functions##s[] = {
+#define GATE(address, service)
+#define DATA(...)
+#define FUNCTION(s, first) sfi_f##s##_##first,
+#define LAST };
+#include SFI_TEXT
+#undef SANDBOX
+#undef FUNCTION
+#undef LAST
+#define SANDBOX(s, unit, code, code_size, data, data_size, start, gates, init) { unit, 0x##code##u, code_size, \
+    0x##data##u, data_size, 0x##start##u, gates, init, sfi_gates##s, sfi_first##s, sfi_rows##s, sfi_functions##s },
+#define FUNCTION(s, first)
+#define LAST
+static const struct sfi_sandbox sfi_sandboxes[] = {
+#include SFI_TEXT
+};
+enum { SFI_SANDBOXES = sizeof sfi_sandboxes / sizeof sfi_sandboxes[0] };
+/* ---- the fourth: a row for each instruction */
+#undef SANDBOX
+#undef LAST
+#undef OP
+#undef OPI
+#undef LOAD
+#undef STORE
+#undef BRANCH
+#undef BRANCH_FAR
+#undef JAL
+#undef JAL_FAR
+#undef JALR
+#undef LUI
+#undef AUIPC
+#undef FENCE
+#undef ECALL
+#undef EBREAK
+#define SANDBOX(s, unit, code, code_size, data, data_size, start, gates, init) \
+    static const struct sfi_row *sfi_rows##s(void) { enum { first_ = 0x##code##u / 2 }; \
+        static const struct sfi_row rows_[code_size / 2] = {
+#define LAST }; return rows_; }
+#define SFI_ROW(at, size, kind, rd, rs1, rs2, number) [0x##at##u / 2 - first_] = { SFI_KIND_##kind, size, rd, rs1, rs2, number },
+#define OP(at, size, kind, rd, rs1, rs2) SFI_ROW(at, size, kind, rd, rs1, rs2, 0)
+#define OPI(at, size, kind, rd, rs1, number) SFI_ROW(at, size, kind, rd, rs1, 0, number)
+#define LOAD(at, size, kind, rd, rs1, number) SFI_ROW(at, size, kind, rd, rs1, 0, number)
+#define STORE(at, size, kind, rs1, rs2, number) SFI_ROW(at, size, kind, 0, rs1, rs2, number)
+#define BRANCH(at, size, kind, rs1, rs2, to) SFI_ROW(at, size, kind, 0, rs1, rs2, (sfi_i32)0x##to##u)
+#define BRANCH_FAR(at, size, kind, rs1, rs2, to) SFI_ROW(at, size, kind, 0, rs1, rs2, (sfi_i32)0x##to##u)
+#define JAL(at, size, rd, to) SFI_ROW(at, size, jal, rd, 0, 0, (sfi_i32)0x##to##u)
+#define JAL_FAR(at, size, rd, to) SFI_ROW(at, size, jal, rd, 0, 0, (sfi_i32)0x##to##u)
+#define JALR(at, size, rd, rs1, number) SFI_ROW(at, size, jalr, rd, rs1, 0, number)
+#define LUI(at, size, rd, number) SFI_ROW(at, size, lui, rd, 0, 0, number)
+#define AUIPC(at, size, rd, number) SFI_ROW(at, size, auipc, rd, 0, 0, number)
+#define FENCE(at, size) SFI_ROW(at, size, fence, 0, 0, 0, 0)
+#define ECALL(at, size) SFI_ROW(at, size, ecall, 0, 0, 0, 0)
+#define EBREAK(at, size) SFI_ROW(at, size, ebreak, 0, 0, 0, 0)
+#include SFI_TEXT
+/* ---- the last: functions. pc and the steps left are exact where one is left; within, a line's place is its label. */
+#undef SANDBOX
+#undef FUNCTION
+#undef ENTRY
+#undef HEAD
+#undef END
+#undef LAST
+#undef OP
+#undef OPI
+#undef LOAD
+#undef STORE
+#undef BRANCH
+#undef BRANCH_FAR
+#undef JAL
+#undef JAL_FAR
+#undef JALR
+#undef LUI
+#undef AUIPC
+#undef FENCE
+#undef ECALL
+#undef EBREAK
+#define SANDBOX(s, unit, code, code_size, data, data_size, start, gates, init) enum { sfi_unit##s = unit }; static const sfi_u32 \
+    sfi_code##s = 0x##code##u, sfi_code_size##s = code_size, sfi_data##s = 0x##data##u, sfi_data_size##s = data_size;
+#define FUNCTION(s, first) static int sfi_f##s##_##first(struct sfi_hart *const h) { enum { unit_ = sfi_unit##s }; \
+    const sfi_u32 part_ = 0x##first##u / SFI_PART * SFI_PART, code_ = sfi_code##s, code_size_ = sfi_code_size##s, \
+        data_ = sfi_data##s, data_size_ = sfi_data_size##s; \
+    sfi_u32 SFI_REGISTERS(SFI_GET) pc_ = h->pc, left_ = h->left; uint8_t *const mem_ = h->data; int how_ = 0; \
+    (void)code_; (void)code_size_; (void)data_; (void)data_size_; (void)mem_; \
+    enter: if (pc_ % unit_) goto slow; if ((pc_ ^ part_) >= SFI_PART) goto out; \
+    switch (pc_ % SFI_PART / unit_) { default: goto slow;
+#define SFI_CLOSE } slow: how_ = 1; out: SFI_REGISTERS(SFI_PUT) h->pc = pc_; h->left = left_; return how_; }
+#define END(at) pc_ = 0x##at##u; goto out; SFI_CLOSE
+#define LAST pc_ = code_ + code_size_; goto out; SFI_CLOSE
+#define ENTRY(at) case 0x##at##u % SFI_PART / unit_:
+#define SFI_GO goto enter;
+#define SFI_SLOWLY(at) { pc_ = 0x##at##u; goto slow; }
+#define HEAD(at) if (SFI_RARE(left_ < SFI_MOST)) SFI_SLOWLY(at)
+#define SFI_JUMP(at, to) { if ((0x##to##u <= 0x##at##u || (0x##to##u ^ 0x##at##u) >= SFI_HEAD) && SFI_RARE(left_ < SFI_MOST)) SFI_SLOWLY(to) goto L##to; }
+#define SFI_LEAVE(to) { pc_ = 0x##to##u; goto out; }
+#define OP(at, size, kind, rd, rs1, rs2) L##at: W##rd(SFI_##kind(r##rs1, r##rs2)) left_--;
+#define OPI(at, size, kind, rd, rs1, number) L##at: W##rd(SFI_##kind(r##rs1, (sfi_u32)(number))) left_--;
+#define SFI_PLACE(at, rs1, number, type) const sfi_u32 e_ = r##rs1 + (sfi_u32)(number) - data_; \
+    if (SFI_RARE(e_ > data_size_ - sizeof(type))) SFI_SLOWLY(at)
+#define LOAD(at, size, kind, rd, rs1, number) L##at: { sfi_##kind v_; SFI_PLACE(at, rs1, number, v_) \
+    memcpy(&v_, mem_ + e_, sizeof v_); W##rd((sfi_u32)(sfi_i32)v_) left_--; }
+#define STORE(at, size, kind, rs1, rs2, number) L##at: { const sfi_##kind v_ = (sfi_##kind)r##rs2; SFI_PLACE(at, rs1, number, v_) \
+    memcpy(mem_ + e_, &v_, sizeof v_); left_--; }
+#define BRANCH(at, size, kind, rs1, rs2, to) L##at: left_--; if (SFI_##kind(r##rs1, r##rs2)) SFI_JUMP(at, to)
+#define BRANCH_FAR(at, size, kind, rs1, rs2, to) L##at: left_--; if (SFI_##kind(r##rs1, r##rs2)) SFI_LEAVE(to)
+#define JAL(at, size, rd, to) L##at: W##rd(0x##at##u + size) left_--; SFI_JUMP(at, to)
+#define JAL_FAR(at, size, rd, to) L##at: W##rd(0x##at##u + size) left_--; SFI_LEAVE(to)
+#define JALR(at, size, rd, rs1, number) L##at: pc_ = (r##rs1 + (sfi_u32)(number)) & ~1u; W##rd(0x##at##u + size) left_--; \
+    if (SFI_RARE(left_ < SFI_MOST)) goto slow; else SFI_GO
+#define LUI(at, size, rd, number) L##at: W##rd((sfi_u32)(number) << 12) left_--;
+#define AUIPC(at, size, rd, number) L##at: W##rd(0x##at##u + ((sfi_u32)(number) << 12)) left_--;
+#define FENCE(at, size) L##at: left_--;
+#define ECALL(at, size) L##at: SFI_SLOWLY(at)
+#define EBREAK(at, size) L##at: SFI_SLOWLY(at)
+#include SFI_TEXT
+#endif
+enum { MAILS = 16, PUT_MOST = 65536, OUTPUT_MOST = 1048576 };
+enum { EXIT, PUT, GET, YIELD, POST, TAKE };
+static const char *const CAUSES[] = { "", "", "Load", "Store", "Break", "Fetch" };
+struct console {
+    struct sfi_hart hart;
+    int is_ready;
+    char state[32];
+    uint64_t steps;
+    uint8_t *output;
+    sfi_u32 outputs, inputs, mails, words[MAILS], senders[MAILS];
+};
+static struct console consoles[SFI_SANDBOXES];
+static uint8_t *input;
+static sfi_u32 input_size;
+/* Whether put or get may reach these bytes. */
+static int is_reached(const struct sfi_sandbox *s, sfi_u32 at, sfi_u32 count) {
+    const sfi_u32 offset = at - s->data;
+    return count <= PUT_MOST && (count == 0 || (offset < s->data_size && count <= s->data_size - offset));
+}
+static sfi_u32 put(struct console *c, const struct sfi_sandbox *s, sfi_u32 at, sfi_u32 count) {
+    if (!is_reached(s, at, count) || count > OUTPUT_MOST - c->outputs)
+        return ~0u;
+    if (count)
+        memcpy(c->output + c->outputs, c->hart.data + (at - s->data), count);
+    c->outputs += count;
+    return count;
+}
+static sfi_u32 get(struct console *c, const struct sfi_sandbox *s, sfi_u32 at, sfi_u32 count) {
+    if (!is_reached(s, at, count))
+        return ~0u;
+    if (count > input_size - c->inputs)
+        count = input_size - c->inputs;
+    if (count)
+        memcpy(c->hart.data + (at - s->data), input + c->inputs, count);
+    c->inputs += count;
+    return count;
+}
+static sfi_u32 post(sfi_u32 sender, sfi_u32 to, sfi_u32 word) {
+    if (to >= SFI_SANDBOXES)
+        return ~0u;
+    struct console *c = &consoles[to];
+    if (c->mails == MAILS)
+        return 1;
+    c->words[c->mails] = word;
+    c->senders[c->mails++] = sender;
+    return 0;
+}
+static void take(struct console *c) {
+    sfi_u32 *const a = c->hart.x + 10;
+    a[0] = a[1] = 0;
+    if (c->mails == 0)
+        return;
+    a[0] = c->words[0];
+    a[1] = c->senders[0] + 1;
+    c->mails--;
+    memmove(c->words, c->words + 1, c->mails * sizeof *c->words);
+    memmove(c->senders, c->senders + 1, c->mails * sizeof *c->senders);
+}
+/* Answers a call; 0 where the turn ends. */
+static int answer(sfi_u32 number, const struct sfi_sandbox *s, sfi_u32 service) {
+    struct console *c = &consoles[number];
+    sfi_u32 *const a = c->hart.x + 10;
+    c->hart.left--;
+    if (service == EXIT) {
+        sprintf(c->state, "exit=%u", (unsigned)a[0]);
+        return c->is_ready = 0;
+    }
+    c->hart.pc += 4;
+    switch (service) {
+    case PUT: a[0] = put(c, s, a[0], a[1]); return 1;
+    case GET: a[0] = get(c, s, a[0], a[1]); return 1;
+    case POST: a[0] = post(number, a[0], a[1]); return 1;
+    case TAKE: take(c); return 1;
+    default: return 0;
+    }
+}
+static void take_turn(sfi_u32 number, sfi_u32 quantum) {
+    const struct sfi_sandbox *s = &sfi_sandboxes[number];
+    struct console *c = &consoles[number];
+    sfi_u32 at = 0, service = 0;
+    int how;
+    c->hart.left = quantum;
+    while ((how = sfi_turn(s, &c->hart, &at)) == SFI_CALL) {
+        for (sfi_u32 k = 0; k < s->gates; k++)
+            if (s->gate[k].address == c->hart.pc)
+                service = s->gate[k].service;
+        if (!answer(number, s, service))
+            break;
+    }
+    if (how != SFI_NEXT && how != SFI_CALL) {
+        sprintf(c->state, "trap=%s at=%08x", CAUSES[how], (unsigned)at);
+        c->is_ready = 0;
+    }
+    c->steps += quantum - c->hart.left;
+}
+static void begin(sfi_u32 number) {
+    const struct sfi_sandbox *s = &sfi_sandboxes[number];
+    struct console *c = &consoles[number];
+    strcpy(c->state, "ready");
+    c->is_ready = 1;
+    c->hart.data = calloc(1, s->data_size);
+    c->output = malloc(OUTPUT_MOST);
+    if (c->hart.data == NULL || c->output == NULL)
+        exit(4);
+    memcpy(c->hart.data, s->first_data, s->init);
+    sfi_u32 *const x = c->hart.x;
+    c->hart.pc = s->start;
+    x[2] = s->data + s->data_size - 16;
+    x[24] = s->code;
+    x[25] = s->code_size - s->unit;
+    x[26] = s->data;
+    x[27] = s->data_size - 1;
+    if (s->unit == 4) {
+        x[3] = x[4] = x[29] = s->data;
+        x[30] = s->start;
+    }
+}
+static void usage(void) {
+    fprintf(stderr, "options: --rounds N (1 to 10000), --quantum Q (1 to 1000000), --input HEX\n");
+    exit(3);
+}
+/* The number that the digits spell, from 1 to `most`. */
+static sfi_u32 number_of(const char *digits, unsigned long most) {
+    char *end;
+    const unsigned long number = strtoul(digits, &end, 10);
+    if (*digits < '0' || *digits > '9' || *end != 0 || number < 1 || number > most)
+        usage();
+    return (sfi_u32)number;
+}
+static void read_input(const char *digits) {
+    const size_t count = strlen(digits);
+    unsigned byte;
+    if (count % 2 != 0 || strspn(digits, "0123456789abcdefABCDEF") != count) {
+        fprintf(stderr, "--input takes pairs of hexadecimal digits\n");
+        exit(2);
+    }
+    input = malloc(count / 2 + 1);
+    if (input == NULL)
+        exit(4);
+    for (; sscanf(digits, "%2x", &byte) == 1; digits += 2)
+        input[input_size++] = (uint8_t)byte;
+}
+int main(int count, char **words) {
+    sfi_u32 rounds = 1, quantum = 1000;
+    for (int k = 1; k < count; k += 2) {
+        if (k + 1 == count)
+            usage();
+        if (strcmp(words[k], "--rounds") == 0)
+            rounds = number_of(words[k + 1], 10000);
+        else if (strcmp(words[k], "--quantum") == 0)
+            quantum = number_of(words[k + 1], 1000000);
+        else if (strcmp(words[k], "--input") == 0)
+            read_input(words[k + 1]);
+        else
+            usage();
+    }
+    for (sfi_u32 number = 0; number < SFI_SANDBOXES; number++)
+        begin(number);
+    for (; rounds; rounds--)
+        for (sfi_u32 number = 0; number < SFI_SANDBOXES; number++)
+            if (consoles[number].is_ready)
+                take_turn(number, quantum);
+    for (sfi_u32 number = 0; number < SFI_SANDBOXES; number++) {
+        const struct console *c = &consoles[number];
+        printf("sandbox=%u %s steps=%llu out=", (unsigned)number, c->state, (unsigned long long)c->steps);
+        for (sfi_u32 k = 0; k < c->outputs; k++)
+            printf("%02x", c->output[k]);
+        printf("\n");
+    }
+    return 0;
+}
+#else
+"#;

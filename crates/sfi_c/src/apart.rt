@@ -1,0 +1,79 @@
+//! Whether two sandboxes lie apart, of one image or of two.
+ghost use Rattle.std.specs.Prelude.{◌≡◌, ◌+◌, ◌<◌, ◌^◌, ◌↔◌, IsTrue, List, ℕ, [], ◌∷◌};
+ghost use Rattle.sfi_image.specs.Spelling.{Part};
+ghost use Rattle.sfi_image.specs.Spans.{AreApart};
+ghost use Rattle.sfi_places.specs.Beside.{AreBeside};
+ghost use Rattle.sfi_c.specs.Apart.{told_code, told_guarded, AreToldApart};
+ghost use Rattle.sfi_c.specs.Parts.{IsSandboxOf, Tells};
+
+use crate::part::SfiPart;
+use sfi_image::Span;
+use sfi_policy::GUARD;
+
+/// The code region.
+fn told_code(part: &SfiPart) -> Span
+    ensures is { result ≡ told_code part.now }
+    ensures end { result.base + result.size < 2 ^ 33 }
+{
+    Span {
+        base: u64::from(part.code_base),
+        size: u64::from(part.code_size),
+    }
+}
+
+/// The data region with a guard zone on each side.
+fn told_guarded(part: &SfiPart) -> Span
+    ensures is { result ≡ told_guarded part.now }
+    ensures end { result.base + result.size < 2 ^ 34 }
+{
+    let guard = u64::from(GUARD);
+    Span {
+        base: u64::from(part.data_base).saturating_sub(guard),
+        size: guard + u64::from(part.data_size) + guard,
+    }
+}
+
+/// Tells whether no address lies in both. Either may be empty.
+fn are_apart(one: Span, other: Span) -> bool
+    requires one { one.base + one.size < 2 ^ 64 }
+    requires other { other.base + other.size < 2 ^ 64 }
+    ensures { IsTrue result ↔ AreApart one other }
+{
+    let end = (one.base + one.size).min(other.base + other.size);
+    end <= one.base.max(other.base)
+}
+
+/// Tells whether each of the two regions of the one lies apart from each of the other.
+fn are_told_apart(one: &SfiPart, other: &SfiPart) -> bool
+    ensures { IsTrue result ↔ AreToldApart one.now other.now }
+{
+    let code = told_code(one);
+    let guarded = told_guarded(one);
+    let other_code = told_code(other);
+    let other_guarded = told_guarded(other);
+    if !are_apart(code, other_code) {
+        return false;
+    }
+    if !are_apart(code, other_guarded) {
+        return false;
+    }
+    if !are_apart(guarded, other_code) {
+        return false;
+    }
+    are_apart(guarded, other_guarded)
+}
+
+/// Tells whether no region and no guard zone of the one meets one of the other, by their bases and
+/// sizes alone.
+#[unsafe(no_mangle)]
+pub extern "C" fn sfi_c_apart(one: &SfiPart, other: &SfiPart) -> bool
+    ensures apart { IsTrue result ↔ AreToldApart one.now other.now }
+
+    // Of sandboxes of images, which may be two.
+    ensures beside { (bytes others : List ℕ) (number further : ℕ) (p q : Part)
+        → (h : IsSandboxOf bytes number p) → (g : IsSandboxOf others further q)
+        → Tells bytes h.parts number p one.now → Tells others g.parts further q other.now
+        → IsTrue result ↔ AreBeside (p ∷ []) (q ∷ []) }
+{
+    are_told_apart(one, other)
+}

@@ -1,0 +1,40 @@
+use Rattle.sfi_host.proofs.Prelude.{set, slice_get, sym, ap, ◌∙◌, arith, slice_get_past, seat_of, world_of, Sandboxes, slot_of, slots_of}
+use Rattle.sfi_host.proofs.Asked.{no_slot}
+use Rattle.sfi_host.proofs.Changing.{AfterTurn, may_run, put_back}
+use Rattle.sfi_host.proofs.UpToStop.{up_to_stop, no_sandbox_there}
+use Rattle.sfi_host.proofs.world.World.take_turn_until.Given as given
+use Rattle.sfi_host.proofs.world.World.take_turn_until.Goals as goal
+
+pub returns-then-place-len-clause-until : goal.returns-then-place-len-clause-until
+returns-then-place-len-clause-until g c =
+    let m = g.M.Memory.bytes c.self.inside.memory in
+    let items = c.self.inside.sandboxes.items in
+    let i = c.args.turn.sandbox in (
+      c.args.turn.steps,
+      no_sandbox_there c.args.stops.now c.args.turn c.args.self.now
+          (ap (λ (w : Sandboxes). slice_get (slots_of w) i) (sym c.self.view_is) ∙ no_slot m items i (slice_get_past items i (omega (arith, c.len.ensures, c.if-place-len.true)))),
+    )
+
+pub run_until-requires : goal.run_until-requires
+run_until-requires g c =
+    may_run (g.M.Memory.bytes c.self.inside.memory) c.self.inside.sandboxes.items c.self.inside.programs.items c.args.turn.sandbox c.index_mut.result.now c.self.invariant (omega (arith, c.len.ensures, c.if-place-len.false)) c.index_mut.ensures.value
+    c.index.result.now c.index.ensures
+
+taken : (g : given.Over) (c : goal.After-self-1 g) → AfterTurn c.args.self.now c.self.inside.programs.items c.args.turn.sandbox (slot_of (g.M.Memory.bytes c.self.inside.memory) (seat_of c.index_mut.result.now))
+    (slot_of (g.M.Memory.bytes c.run_until.new.memory) (seat_of c.run_until.new.sandbox)) (world_of (g.M.Memory.bytes c.run_until.new.memory) (set c.self.inside.sandboxes.items c.args.turn.sandbox c.run_until.new.sandbox))
+taken g c =
+    put_back (g.M.Memory.bytes c.self.inside.memory) c.self.inside.sandboxes.items c.self.inside.programs.items c.args.turn.sandbox c.index_mut.result.now c.self.invariant (omega (arith, c.len.ensures, c.if-place-len.false)) c.index_mut.ensures.value
+    (g.M.Memory.bytes c.run_until.new.memory) c.run_until.new.sandbox c.run_until.ensures.stays c.args.self.now c.self.view_is
+
+pub invariant_of-self : goal.invariant_of-self
+invariant_of-self g c = (taken g c).kept
+
+pub returns : goal.returns
+returns g c =
+    let after = taken g c in
+    record {
+      safe = after.kept.0;
+      bounds = after.bounds;
+      outside = after.outside;
+      until = (c.run_until.ensures.until.count, up_to_stop c.args.stops.now c.args.turn c.args.self.now _ _ _ after.there after.slots c.run_until.ensures.until);
+    }

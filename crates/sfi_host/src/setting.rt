@@ -1,0 +1,128 @@
+//! Registers that are set from outside.
+ghost use Rattle.std.specs.Prelude.{◌≡◌, ◌≢◌, ◌%◌, ◌+◌, ◌<◌, ◌≤◌, ◌^◌, ◌↔◌, IfSome, IsTrue, None, true};
+ghost use Rattle.rv_step.specs.State.{IsHart, register};
+ghost use Rattle.sfi_policy.specs.Formats.{has_stack, has_words};
+ghost use Rattle.sfi_policy.specs.Registers.{stack_pointer};
+ghost use Rattle.sfi_image.specs.Spans.{Holds};
+ghost use Rattle.sfi_host.specs.Entering.{with_registers};
+ghost use Rattle.sfi_host.specs.Regions.{span_of};
+ghost use Rattle.sfi_host.specs.Sandboxes.{seat_of};
+ghost use Rattle.sfi_host.specs.Setting.{hart_of, IsUnitAt, HoldsReserved, LiesNear, HoldsTypedWords, IsEntryHart, set_seat};
+
+use crate::region::Region;
+use crate::sandbox::Sandbox;
+use crate::status::Status;
+use rv_step::Cpu;
+use rv_word::Reg;
+use sfi_policy::{
+    CODE_BASE_REGISTER, CODE_MASK_REGISTER, CODE_REGISTER, DATA_BASE_REGISTER, DATA_MASK_REGISTER,
+    OFFSET_REGISTER, SLACK, STACK_POINTER,
+};
+
+// Puts values into the registers from x0 on.
+fn set_all(cpu: &mut Cpu, registers: &[u32; 32])
+    requires hart { IsHart cpu.old }
+    ensures put { cpu.new ≡ with_registers cpu.old 0 registers.now }
+    ensures hart { IsHart cpu.new }
+{
+    for k in 0..32 {
+        cpu.set_reg(Reg::numbered(k), registers[k as usize]);
+    }
+}
+
+/// This pc, and these registers from x0 on, which stays 0; `None` where the pc is odd.
+pub(crate) fn cpu_of(pc: u32, registers: &[u32; 32]) -> Option<Cpu>
+    ensures some { IfSome result (λ cpu. cpu ≡ hart_of pc registers.now) }
+    ensures hart { IfSome result IsHart }
+    ensures odd { result ≡ None → pc % 2 ≢ 0 }
+{
+    let mut cpu = Cpu::at(pc)?;
+    set_all(&mut cpu, registers);
+    Some(cpu)
+}
+
+// Whether the address lies in the region, or not further from it than an offset reaches.
+fn is_near(region: Region, at: u32) -> bool
+    ensures { IsTrue result ↔ LiesNear (span_of region) at }
+{
+    let (at, slack) = (u64::from(at), u64::from(SLACK));
+    let end = u64::from(region.base) + u64::from(region.size);
+    u64::from(region.base) <= at + slack && at < end + slack
+}
+
+impl Sandbox {
+    // Whether a unit of its code begins at the address.
+    fn begins_at(&self, pc: u32) -> bool
+        ensures { IsTrue result ↔ IsUnitAt (seat_of self.now).bounds pc }
+    {
+        self.code.holds(pc) && pc % self.format.unit() == 0
+    }
+
+    // Whether the reserved registers hold what is theirs.
+    fn holds_reserved(&self, cpu: &Cpu) -> bool
+        requires code_size { 16 ≤ self.now.code.size }
+        requires data_size { 16 ≤ self.now.data.size }
+        ensures { IsTrue result ↔ HoldsReserved (seat_of self.now).bounds cpu.now }
+    {
+        cpu.reg(Reg::numbered(CODE_BASE_REGISTER)) == self.code.base
+            && cpu.reg(Reg::numbered(CODE_MASK_REGISTER)) == self.code.size - self.format.unit()
+            && cpu.reg(Reg::numbered(DATA_BASE_REGISTER)) == self.data.base
+            && cpu.reg(Reg::numbered(DATA_MASK_REGISTER)) == self.data.size - 1
+    }
+
+    // Whether the typed registers of code in words hold what their types say.
+    fn holds_typed_words(&self, cpu: &Cpu) -> bool
+        ensures { IsTrue result ↔ HoldsTypedWords (seat_of self.now).bounds cpu.now }
+    {
+        let code = cpu.reg(Reg::numbered(CODE_REGISTER));
+        is_near(self.data, cpu.reg(Reg::numbered(2)))
+            && is_near(self.data, cpu.reg(Reg::numbered(3)))
+            && is_near(self.data, cpu.reg(Reg::numbered(4)))
+            && is_near(self.data, cpu.reg(Reg::numbered(29)))
+            && self.code.holds(code)
+            && code % 4 == 0
+            && cpu.reg(Reg::numbered(OFFSET_REGISTER)) < self.data.size
+    }
+
+    // Whether the stack pointer lies in the data, where the format has one.
+    fn holds_stack(&self, cpu: &Cpu) -> bool
+        ensures { IsTrue result ↔ (has_stack self.now.format ≡ true
+            → Holds (span_of self.now.data) (register cpu.now stack_pointer)) }
+    {
+        if !self.format.has_stack() {
+            return true;
+        }
+        self.data.holds(cpu.reg(Reg::numbered(STACK_POINTER)))
+    }
+
+    // Whether the typed registers hold what their types say, where code is in words.
+    fn holds_words(&self, cpu: &Cpu) -> bool
+        ensures { IsTrue result ↔ (has_words self.now.format ≡ true
+            → HoldsTypedWords (seat_of self.now).bounds cpu.now) }
+    {
+        if !self.format.has_words() {
+            return true;
+        }
+        self.holds_typed_words(cpu)
+    }
+
+    /// Whether it may be entered with this pc and these registers.
+    pub(crate) fn may_hold(&self, cpu: &Cpu) -> bool
+        requires code_size { 16 ≤ self.now.code.size }
+        requires data_size { 16 ≤ self.now.data.size }
+        ensures { IsTrue result ↔ IsEntryHart (seat_of self.now).bounds cpu.now }
+    {
+        self.begins_at(cpu.pc())
+            && self.holds_reserved(cpu)
+            && self.holds_stack(cpu)
+            && self.holds_words(cpu)
+    }
+
+    /// Makes it ready with this pc and these registers.
+    pub(crate) fn resume(&mut self, cpu: Cpu)
+        ensures { seat_of self.new ≡ set_seat (seat_of self.old) cpu }
+    {
+        self.cpu = cpu;
+        self.status = Status::Ready;
+    }
+}

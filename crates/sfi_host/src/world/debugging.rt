@@ -1,0 +1,95 @@
+//! What a debugger asks of a world.
+ghost use Rattle.std.specs.Prelude.{◌≡◌, ◌↔◌, ◌<◌, ℕ, IfSome, IsSome, IsTrue};
+ghost use Rattle.std.specs.Bool.{OnTrue, OnFalse};
+ghost use Rattle.sfi_host.specs.Changing.{OthersAreSame};
+ghost use Rattle.sfi_host.specs.Entering.{IsAtEntry};
+ghost use Rattle.sfi_host.specs.private.Sandboxes.{bounds_in};
+ghost use Rattle.sfi_host.specs.Setting.{hart_of, with_hart, MaySetAt};
+ghost use Rattle.sfi_host.specs.Until.{IsUpToStop, HasRunUntil};
+ghost use Rattle.sfi_host.specs.Waiting.{AsksAtGate, IsAtCall, Waits};
+ghost use Rattle.sfi_host.specs.Worlds.{slots_of, HaveStoppedThemselves, IsSafeWorld, StaysOutsideData};
+
+use crate::guest::Request;
+use crate::setting::cpu_of;
+use crate::turn::Turn;
+use crate::until::run_until;
+use crate::world::World;
+use rv_mem::Memory;
+
+impl<M: Memory> World<M> {
+    /// Takes a turn up to the next call, as `run_to_call`, and no further than to one of the addresses
+    /// `stops`: it ends before the instruction there. Its first step is done in any case, so that it
+    /// goes on from a stop at which it stands.
+    pub fn run_until(&mut self, turn: Turn, stops: &[u32]) -> Option<Request>
+        // It is a turn of so many steps: the first one after which its sandbox stands at a stop.
+        ensures ran { HasRunUntil stops.now turn self.old self.new }
+
+        // The answer is as that of `waiting`.
+        ensures waits { IfSome result (λ r. Waits (slots_of self.new) turn.sandbox r) }
+        ensures there { IsSome result ↔ IsAtCall (slots_of self.new) turn.sandbox }
+        ensures gate { IfSome result (λ r. AsksAtGate (slots_of self.new) turn.sandbox r) }
+
+        // As after a plan.
+        ensures safe { IsSafeWorld self.new }
+        ensures stops { HaveStoppedThemselves self.new }
+        ensures outside { StaysOutsideData self.old self.new.bytes }
+    {
+        // What the contract rests on: this call does nothing.
+        self.stays_safe();
+
+        self.take_turn_until(turn, stops);
+        self.waiting(turn.sandbox)
+    }
+
+    // A turn up to the next call or stop. Each sandbox lies where it lay.
+    fn take_turn_until(&mut self, turn: Turn, stops: &[u32])
+        ensures until { (count : ℕ) × IsUpToStop stops.now turn self.old self.new count }
+        ensures safe { IsSafeWorld self.new }
+        ensures bounds { bounds_in self.new ≡ bounds_in self.old }
+        ensures outside { StaysOutsideData self.old self.new.bytes }
+    {
+        let place = turn.sandbox as usize;
+        if place >= self.sandboxes.len() {
+            return;
+        }
+        run_until(
+            &mut self.memory,
+            &self.programs[place],
+            &mut self.sandboxes[place],
+            turn.steps,
+            stops,
+        );
+    }
+
+    /// Makes the sandbox of that number ready at `pc` with these registers, x0 to x31, of which x0 stays
+    /// 0, whatever it did before; `false` where there is no such sandbox, no bundle or word of its code
+    /// begins at `pc`, or a reserved or typed register would hold what it mustn't, and then nothing
+    /// changed. Its data stay, and its steps are counted on. So the registers of one that waits at a call,
+    /// which lies where a bundle or word begins, may be put aside and put back.
+    pub fn set_registers(&mut self, i: u32, pc: u32, registers: &[u32; 32]) -> bool
+        ensures may { IsTrue result ↔ MaySetAt (slots_of self.old) i (hart_of pc registers.now) }
+        ensures done { OnTrue result (self.new ≡ with_hart self.old i (hart_of pc registers.now)) }
+        ensures refused { OnFalse result (self.new ≡ self.old) }
+
+        // No other sandbox has changed.
+        ensures others { OthersAreSame self.old i self.new }
+
+        // It is an entry of the theorem; so the world is safe as before, and what is said of plans
+        // holds of those that follow.
+        ensures entry { OnTrue result (IsAtEntry self.new i) }
+        ensures safe { IsSafeWorld self.new }
+    {
+        let place = i as usize;
+        if place >= self.sandboxes.len() {
+            return false;
+        }
+        let Some(cpu) = cpu_of(pc, registers) else {
+            return false;
+        };
+        if !self.sandboxes[place].may_hold(&cpu) {
+            return false;
+        }
+        self.sandboxes[place].resume(cpu);
+        true
+    }
+}

@@ -1,0 +1,120 @@
+-- What is spelled by entries is determined by the bytes.
+use Rattle.std.proofs.Common.{◌≡◌, ℕ, ◌+◌, ◌<◌, ◌≤◌, List, [], ◌∷◌, ◌++◌, length, get_or, take, drop, refl, sym, ap, subst, ◌∙◌, arith, append_assoc, inl, inr}
+use Rattle.std.specs.List.{All, between}
+use Rattle.std.proofs.lemmas.Slice.{first_rest}
+use Rattle.std.proofs.lemmas.List.{length-append, append-nil, take-append-drop}
+use Rattle.std.proofs.lemmas.List.Elements.{All-nil, All-push}
+use Rattle.std.proofs.lemmas.Grind.{flat_map-append}
+use Rattle.sfi_image.specs.Spelling.{IsWord}
+unfoldable use Rattle.sfi_image.specs.Spelling.{number}
+use Rattle.sfi_image.proofs.Cancelling.{same_front, same_number, fronts}
+use Rattle.sfi_names.specs.Spelling.{Named, entries, IsNamed, IsName}
+unfoldable use Rattle.sfi_names.specs.Spelling.{entry}
+
+-- two ends of one length are the same end
+pub same_end : (xs ys : List ℕ) (a b : List ℕ) → length a ≡ length b → xs ++ a ≡ ys ++ b → (xs ≡ ys) × (a ≡ b)
+same_end xs ys a b len e = same_front xs ys a b (omega (arith, len, ap length e, length-append xs a, length-append ys b)) e
+
+-- ---- one entry
+
+pub entry_split : (e : Named) (r : List ℕ) → entry e ++ r ≡ number e.address ++ (length e.name ∷ (e.name ++ r))
+unfolding entry
+entry_split e r = append_assoc (number e.address) (length e.name ∷ e.name) r
+
+pub length-number : (n : ℕ) (r : List ℕ) → length (number n ++ r) ≡ 4 + length r
+unfolding number
+length-number n r = omega arith
+
+pub length-entry : (e : Named) (r : List ℕ) → length (entry e ++ r) ≡ 5 + length e.name + length r
+length-entry e r = omega (arith, ap length (entry_split e r), length-number e.address (length e.name ∷ (e.name ++ r)), length-append e.name r)
+
+-- what was read as an entry's address and length is what the entry says
+pub entry_read : (bytes : List ℕ) (address size : ℕ) (more : List ℕ) → IsWord address → bytes ≡ number address ++ (size ∷ more)
+    → (e : Named) (r : List ℕ) → IsNamed e → bytes ≡ entry e ++ r → (address ≡ e.address) × (size ≡ length e.name) × (more ≡ e.name ++ r)
+entry_read bytes address size more word e f r fits g =
+    let both = same_number address f.address (size ∷ more) (length f.name ∷ (f.name ++ r)) word fits.address (sym e ∙ g ∙ entry_split f r) in
+    let cells : size ∷ more ≡ length f.name ∷ (f.name ++ r) = both.1 in
+    (both.0, cc, cc)
+
+pub same_entry : (e f : Named) (r s : List ℕ) → IsNamed e → IsNamed f → entry e ++ r ≡ entry f ++ s → (e ≡ f) × (r ≡ s)
+same_entry e f r s fe ff g =
+    let read = entry_read (entry f ++ s) e.address (length e.name) (e.name ++ r) fe.address (sym g ∙ entry_split e r) f s ff refl in
+    let name = same_front e.name f.name r s read.1 read.2 in
+    let same : e ≡ f = λ k. record { address = read.0 k; name = name.0 k } in
+    (same, name.1)
+
+pub parts_of : (bytes front back : List ℕ) (n : ℕ) → front ≡ take n bytes → back ≡ drop n bytes → bytes ≡ front ++ back
+parts_of bytes front back n f b = rw (f, b) (sym (take-append-drop n bytes))
+
+-- ---- reading one: an address, and bytes after it of which the first says how long the name is
+
+module _ (bytes tail : List ℕ) (address : ℕ) (word : IsWord address) (front : bytes ≡ number address ++ tail) where
+  at : 0 < length tail → bytes ≡ number address ++ (get_or tail 0 0 ∷ between 1 (length tail) tail)
+  at some = front ∙ ap (λ (t : List ℕ). number address ++ t) (first_rest tail 0 some)
+
+  -- the name isn't there whole
+  pub too_short : 0 < length tail → length (between 1 (length tail) tail) < get_or tail 0 0 → (e : Named) (r : List ℕ) → IsNamed e → bytes ≡ entry e ++ r → ⊥
+  too_short some short e r fits g =
+      let read = entry_read bytes address (get_or tail 0 0) (between 1 (length tail) tail) word (at some) e r fits g in
+      omega (arith, short, read.1, ap length read.2, length-append e.name r)
+
+  module _ (name rest : List ℕ) (some : 0 < length tail) (len : length name ≡ get_or tail 0 0) (parts : between 1 (length tail) tail ≡ name ++ rest) where
+    -- it is no name
+    pub no_name : (IsName name → ⊥) → (e : Named) (r : List ℕ) → IsNamed e → bytes ≡ entry e ++ r → ⊥
+    no_name none e r fits g =
+        let read = entry_read bytes address (get_or tail 0 0) (between 1 (length tail) tail) word (at some) e r fits g in
+        let same = same_front name e.name rest r (len ∙ read.1) (sym parts ∙ read.2) in
+        none (subst IsName (sym same.0) fits.name)
+
+    pub reads : bytes ≡ entry (record { address = address; name = name }) ++ rest
+    reads = at some ∙ ap (λ (t : List ℕ). number address ++ t) (cell ∙ ap (λ (t : List ℕ). length name ∷ t) parts) ∙ sym (entry_split (record { address = address; name = name }) rest)
+      where
+        cell : get_or tail 0 0 ∷ between 1 (length tail) tail ≡ length name ∷ between 1 (length tail) tail
+        cell = ap (λ (n : ℕ). n ∷ between 1 (length tail) tail) (sym len)
+
+-- no entry begins four bytes or fewer
+pub too_few : (bytes : List ℕ) → length bytes ≤ 4 → (e : Named) (r : List ℕ) → IsNamed e → bytes ≡ entry e ++ r → ⊥
+too_few bytes few e r fits g = omega (arith, ap length g, length-entry e r)
+
+-- ---- entries
+
+-- one more
+pub entries_push : (es : List Named) (e : Named) (r : List ℕ) → entries (es ++ e ∷ []) ++ r ≡ entries es ++ (entry e ++ r)
+entries_push es e r = ap (λ (t : List ℕ). t ++ r) (flat_map-append entry es (e ∷ []) ∙ ap (λ (t : List ℕ). entries es ++ t) (append-nil (entry e))) ∙ append_assoc (entries es) (entry e) r
+
+-- the bytes are entries and nothing else
+abbrev pub AreEntries : List ℕ → Type 0
+AreEntries bytes = (es : List Named) × All IsNamed es × (bytes ≡ entries es)
+
+-- some entries were passed, and these bytes are left
+pub record HasPassed (bytes rest : List ℕ) : Type 0 where
+  pub es : List Named
+  pub named : All IsNamed es
+  pub bytes_are : bytes ≡ entries es ++ rest
+
+-- no entry begins the bytes
+abbrev pub BeginsNone : List ℕ → Type 0
+BeginsNone rest = (e : Named) (r : List ℕ) → IsNamed e → rest ≡ entry e ++ r → ⊥
+
+pub none_passed : (bytes : List ℕ) → HasPassed bytes bytes
+none_passed bytes = record { es = []; named = All-nil IsNamed; bytes_are = refl }
+
+pub one_passed : (bytes rest more : List ℕ) (e : Named) → HasPassed bytes rest → IsNamed e → rest ≡ entry e ++ more → HasPassed bytes more
+one_passed bytes rest more e h fits g = record {
+  es = h.es ++ e ∷ [];
+  named = All-push IsNamed h.es e h.named fits;
+  bytes_are = h.bytes_are ∙ ap (λ (t : List ℕ). entries h.es ++ t) g ∙ sym (entries_push h.es e more);
+}
+
+pub all_passed : (bytes rest : List ℕ) → HasPassed bytes rest → length rest ≡ 0 → AreEntries bytes
+all_passed bytes [] h len = (h.es, h.named, h.bytes_are ∙ append-nil (entries h.es))
+all_passed bytes (x ∷ xs) h len = absurd (omega arith)
+
+-- where something is left that no entry begins, they aren't
+pub stuck : (bytes rest : List ℕ) → HasPassed bytes rest → 0 < length rest → BeginsNone rest → AreEntries bytes → ⊥
+stuck bytes rest h some none all =
+    elim (fronts entry IsNamed same_entry all.0 h.es [] rest all.1 h.named (append-nil (entries all.0) ∙ sym all.2 ∙ h.bytes_are)) [
+      | inl both ↦ omega (arith, ap length both.1)
+      | inr (inl on) ↦ none on.0 on.2 on.3 on.5
+      | inr (inr on) ↦ omega (arith, ap length on.5, length-entry on.0 on.2)
+    ]

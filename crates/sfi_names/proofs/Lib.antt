@@ -1,0 +1,6 @@
+pub mod Entries
+pub mod Lookups
+pub mod Ends
+pub mod Seeking
+pub mod Answering
+pub mod Facts

@@ -1,0 +1,99 @@
+//! Names with their addresses, one after another.
+ghost use Rattle.std.specs.Prelude.{◌≡◌, ◌≢◌, ℕ, ◌<◌, ◌≤◌, ◌+◌, ◌++◌, ◌↔◌, ◌-◌, List, length, take, drop, IsTrue, IfSome, IfNone};
+ghost use Rattle.std.specs.List.{All};
+ghost use Rattle.sfi_image.specs.Spelling.{number, IsWord};
+ghost use Rattle.sfi_names.specs.Spelling.{Named, entry, entries, IsName, IsNamed};
+ghost use Rattle.sfi_names.specs.Tables.{named};
+ghost use Rattle.sfi_names.specs.Lookups.{address_of};
+
+use byteorder::{ByteOrder, LittleEndian};
+
+/// How many bytes a number has.
+pub(crate) const NUMBER_BYTES: usize = 4;
+
+/// A name with its address.
+#[derive(Clone, Copy)]
+pub struct Entry<'a> {
+    /// Where the function, the object or the gate lies, as the table says.
+    pub address: u32,
+    /// Its 1 to 255 bytes, each a visible character of ASCII.
+    pub name: &'a [u8],
+}
+
+// The number at the front, and the bytes after it.
+pub(crate) fn number_at(bytes: &[u8]) -> (u32, &[u8])
+    requires { NUMBER_BYTES ≤ length bytes.now }
+    ensures front { bytes.now ≡ number result.0 ++ result.1.now }
+    ensures word { IsWord result.0 }
+    ensures len { length result.1.now + NUMBER_BYTES ≡ length bytes.now }
+{
+    let (front, rest) = bytes.split_at(NUMBER_BYTES);
+    (LittleEndian::read_u32(front), rest)
+}
+
+// The bytes are a name.
+fn is_name(bytes: &[u8]) -> bool
+    ensures { IsTrue result ↔ IsName bytes.now }
+{
+    if bytes.is_empty() {
+        return false;
+    }
+    if bytes.len() > 255 {
+        return false;
+    }
+    bytes.iter().all(|byte| 33 <= *byte && *byte <= 126)
+}
+
+/// The entry at the front of the bytes, and the bytes after it; or none, if no entry begins them.
+pub fn first_entry(bytes: &[u8]) -> Option<(Entry<'_>, &[u8])>
+    ensures found { IfSome result (λ f. IsNamed (named f.0)
+        × (bytes.now ≡ entry (named f.0) ++ f.1.now)) }
+    ensures none { IfNone result ((e : Named) (rest : List ℕ) → IsNamed e
+        → bytes.now ≢ entry e ++ rest) }
+    ensures falls { IfSome result (λ f. length f.1.now < length bytes.now) }
+{
+    if bytes.len() <= NUMBER_BYTES {
+        return None;
+    }
+    let (address, rest) = number_at(bytes);
+    let size = rest[0] as usize;
+    let rest = &rest[1..];
+    if rest.len() < size {
+        return None;
+    }
+    let (name, rest) = rest.split_at(size);
+    if is_name(name) {
+        Some((Entry { address, name }, rest))
+    } else {
+        None
+    }
+}
+
+// The bytes are entries and nothing else.
+pub(crate) fn are_entries(bytes: &[u8]) -> bool
+    ensures { IsTrue result ↔ ((es : List Named) × All IsNamed es × (bytes.now ≡ entries es)) }
+{
+    let mut rest = bytes;
+    while !rest.is_empty() {
+        match first_entry(rest) {
+            Some((_, more)) => rest = more,
+            None => return false,
+        }
+    }
+    true
+}
+
+// The address of the first of the entries that has the name.
+pub(crate) fn address_named(bytes: &[u8], name: &[u8]) -> Option<u32>
+    ensures { (es : List Named) → All IsNamed es → bytes.now ≡ entries es
+        → result ≡ address_of name.now es }
+{
+    let mut rest = bytes;
+    while let Some((entry, more)) = first_entry(rest) {
+        if entry.name == name {
+            return Some(entry.address);
+        }
+        rest = more;
+    }
+    None
+}

@@ -1,0 +1,10 @@
+//! Why bytes have no table of names.
+
+/// Why bytes have no table of names.
+#[derive(Clone, Copy, Debug, PartialEq, Eq)]
+pub enum NamesFault {
+    /// They don't end in the magic, `SFIN`.
+    NoTable,
+    /// They end in the magic, and what stands before it is no table's.
+    BadTable,
+}

@@ -1,0 +1,129 @@
+//! The table of a sandbox of an image.
+ghost use Rattle.std.specs.Prelude.{◌≡◌, ℕ, List, Result, Err, IfOk, IfErr, IsOkAnd};
+ghost use Rattle.sfi_names.specs.declared.image.Missing.{Missing};
+ghost use Rattle.sfi_names.specs.declared.image.Missing.TheVariants.{NoImage};
+ghost use Rattle.sfi_names.specs.Images.{IsInitOf, HasTableOf, HasNoTable, IsAnswer};
+ghost use Rattle.sfi_names.specs.private.{HasNoInit};
+ghost use Rattle.sfi_names.specs.Spelling.{Table};
+ghost use Rattle.sfi_names.specs.Tables.{IsNamesOf};
+
+use crate::fault::NamesFault;
+use crate::names::Names;
+use sfi_image::{ImageCursor, LayoutFault};
+
+/// Why an image tells no address of a name.
+#[derive(Clone, Copy, Debug, PartialEq, Eq)]
+pub enum Missing {
+    /// The bytes are no image.
+    NoImage,
+    /// The image has no sandbox of that number.
+    NoSandbox,
+    /// The sandbox's first data bytes don't end in the magic of a table.
+    NoTable,
+    /// They end in the magic, and what stands before it is no table's.
+    BadTable,
+    /// The table doesn't have the name.
+    NoName,
+}
+
+impl Missing {
+    ghost use Rattle.sfi_names.specs.Images.{number_of};
+
+    /// The number by which C knows it, 1 to 5.
+    pub fn number(self) -> u32
+        ensures { result ≡ number_of self }
+    {
+        match self {
+            Missing::NoImage => 1,
+            Missing::NoSandbox => 2,
+            Missing::NoTable => 3,
+            Missing::BadTable => 4,
+            Missing::NoName => 5,
+        }
+    }
+}
+
+impl From<LayoutFault> for Missing {
+    ghost from_gives = { λ _ m. m ≡ NoImage };
+
+    fn from(_fault: LayoutFault) -> Missing {
+        Missing::NoImage
+    }
+}
+
+/// Which names of a table.
+#[derive(Clone, Copy, Debug, PartialEq, Eq)]
+pub enum Kind {
+    /// Functions that a host may call, and objects of the data that it may use.
+    Exports,
+    /// Gates that the code calls.
+    Imports,
+}
+
+/// The table of the image's sandbox of that number, counted from 0. What is wrong is told in the order
+/// of the variants of [`Missing`], and never `NoName`. Of the image it looks at the layout alone.
+pub fn names_in<'a>(image: &'a [u8], number: u32) -> Result<Names<'a>, Missing>
+    ensures found { IfOk result (λ n. (t : Table) × HasTableOf image.entry.now number t
+        × IsNamesOf n t) }
+    ensures missing { IfErr result (λ m. HasNoTable image.entry.now number m) }
+    ensures only_found { (t : Table) → HasTableOf image.entry.now number t
+        → IsOkAnd result (λ n. IsNamesOf n t) }
+    ensures only_missing { (m : Missing) → HasNoTable image.entry.now number m → result ≡ Err m }
+{
+    read_names(image, number)
+}
+
+/// The address that a name stands for in the table of the image's sandbox of that number, counted
+/// from 0: the first of that kind with that name.
+pub fn address_in(image: &[u8], number: u32, kind: Kind, name: &[u8]) -> Result<u32, Missing>
+    ensures answer { IsAnswer image.now number kind name.now result }
+    ensures only { (r : Result ℕ Missing) → IsAnswer image.now number kind name.now r
+        → result ≡ r }
+{
+    look_up(image, number, kind, name)
+}
+
+// The address that a name stands for, or why there is none.
+fn look_up(image: &[u8], number: u32, kind: Kind, name: &[u8]) -> Result<u32, Missing>
+    ensures { IsAnswer image.now number kind name.now result }
+{
+    let names = read_names(image, number)?;
+    let found = match kind {
+        Kind::Exports => names.export_named(name),
+        Kind::Imports => names.import_named(name),
+    };
+    match found {
+        Some(address) => Ok(address),
+        None => Err(Missing::NoName),
+    }
+}
+
+// The table of the image's sandbox of that number, or why there is none.
+fn read_names<'a>(image: &'a [u8], number: u32) -> Result<Names<'a>, Missing>
+    ensures found { IfOk result (λ n. (t : Table) × HasTableOf image.entry.now number t
+        × IsNamesOf n t) }
+    ensures missing { IfErr result (λ m. HasNoTable image.entry.now number m) }
+{
+    match Names::at_end(init_of(image, number)?) {
+        Ok(names) => Ok(names),
+        Err(NamesFault::NoTable) => Err(Missing::NoTable),
+        Err(NamesFault::BadTable) => Err(Missing::BadTable),
+    }
+}
+
+// The first data bytes of the image's sandbox of that number, or why there are none.
+fn init_of<'a>(image: &'a [u8], number: u32) -> Result<&'a [u8], Missing>
+    ensures found { IfOk result (λ d. IsInitOf image.entry.now number d.now) }
+    ensures missing { IfErr result (λ m. HasNoInit image.entry.now number m) }
+{
+    let mut cursor = ImageCursor::new(image)?;
+    let mut sought = Err(Missing::NoSandbox);
+    let mut passed = 0;
+    while let Some(view) = cursor.next_part()? {
+        if passed == number as usize {
+            sought = Ok(view.init);
+        }
+        passed += 1;
+    }
+    sought
+}

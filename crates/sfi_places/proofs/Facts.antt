@@ -1,0 +1,24 @@
+-- What holds of sandboxes at other places, and beside those of another image: the laws, for proofs in the crates above.
+use Rattle.sfi_places.specs.Moving.{FindingsArePlaceless, CleanIsPlaceless, MovedIsRight, AcceptedMoves}
+use Rattle.sfi_places.specs.Beside.{BesideIsAsOne, BesideByPairs}
+use Rattle.sfi_places.proofs.Beside as beside
+use Rattle.sfi_places.proofs.Moving as moving
+use Rattle.sfi_places.proofs.Relaid as relaid
+
+pub findings_are_placeless : FindingsArePlaceless
+findings_are_placeless = moving.findings_are_placeless
+
+pub clean_is_placeless : CleanIsPlaceless
+clean_is_placeless = moving.clean_is_placeless
+
+pub moved_is_right : MovedIsRight
+moved_is_right = relaid.moved_is_right
+
+pub accepted_moves : AcceptedMoves
+accepted_moves = relaid.accepted_moves
+
+pub beside_is_as_one : BesideIsAsOne
+beside_is_as_one = beside.beside_is_as_one
+
+pub beside_by_pairs : BesideByPairs
+beside_by_pairs = beside.beside_by_pairs

@@ -1,0 +1,4 @@
+pub mod Beside
+pub mod Moving
+pub mod Relaid
+pub mod Facts

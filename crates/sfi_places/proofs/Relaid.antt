@@ -1,0 +1,80 @@
+-- The layout's tests at another place, and an image there.
+use Rattle.std.proofs.Common.{◌≡◌, ℕ, suc, ◌+◌, ◌*◌, ◌%◌, ◌<◌, ◌≤◌, List, [], ◌∷◌, length, map, refl, sym, ◌∙◌, subst, arith}
+use Rattle.std.specs.List.{All, AllPairs}
+use Rattle.std.proofs.lemmas.List.{length-map}
+use Rattle.std.proofs.lemmas.List.Elements.{All-head, All-tail, All-map}
+use Rattle.std.proofs.lemmas.List.Kept.{AllPairs-cons}
+use Rattle.sfi_image.specs.declared.part.Gate.{Gate}
+use Rattle.sfi_image.specs.Spelling.{Part, IsWord}
+use Rattle.sfi_image.specs.Spans.{code_region}
+use Rattle.sfi_image.specs.Regions.{IsBundleStart, IsCodeRegion}
+use Rattle.sfi_image.specs.Parts.{IsRightPart}
+use Rattle.sfi_image.proofs.Facts.{whole_bundles}
+use Rattle.sfi_rules.specs.declared.finding.Finding.{Finding}
+use Rattle.sfi_rules.specs.Findings.{AreFindings, AreFindingsFrom}
+use Rattle.sfi_safety.proofs.Places.{nothing_before}
+use Rattle.sfi_places.specs.Moving.{moved_address, moved_gate, moved, MovedIsRight, Bases, moved_all, AcceptedMoves}
+use Rattle.sfi_places.proofs.Moving.{clean_is_placeless}
+
+module _ (code data_at : ℕ) (p : Part) (right : IsRightPart p) (address : IsWord code) (region : IsCodeRegion p.format code (length p.code)) where
+  even : code % 16 ≡ 0
+  even = let w = whole_bundles p.format code (length p.code) address region in let e : code ≡ 16 * w.1 = w.3 in omega arith
+
+  even_here : p.code_base % 16 ≡ 0
+  even_here = let w = whole_bundles p.format p.code_base (length p.code) right.code_base right.code_placed in let e : p.code_base ≡ 16 * w.1 = w.3 in omega arith
+
+  start_moves : (a : ℕ) → IsBundleStart (code_region p) a → IsBundleStart (code_region (moved code data_at p)) (moved_address p.code_base code a)
+  start_moves a start =
+      let low : p.code_base ≤ a = start.held.0 in
+      let high : a < p.code_base + length p.code = start.held.1 in
+      let on : a % 16 ≡ 0 = start.aligned in
+      let to = even in
+      let from = even_here in
+      record { held = (omega arith, omega arith); aligned = omega arith }
+
+  ascending : (gs : List Gate) → All (λ (g : Gate). IsBundleStart (code_region p) g.address) gs → AllPairs (λ (g h : Gate). g.address < h.address) gs → AllPairs (λ (g h : Gate). g.address < h.address) (map (moved_gate p.code_base code) gs)
+  ascending [] starts pairs = pairs
+  ascending (g ∷ gs) starts pairs =
+      AllPairs-cons (λ (g h : Gate). g.address < h.address) (moved_gate p.code_base code g) (map (moved_gate p.code_base code) gs)
+      (All-map (λ (h : Gate). moved_address p.code_base code g.address < h.address) (moved_gate p.code_base code) gs
+      (λ k d below.
+      let first : p.code_base ≤ g.address = (All-head (λ (g : Gate). IsBundleStart (code_region p) g.address) g gs starts).held.0 in
+      let less = pairs 0 (suc k) d (omega arith) (omega (arith, below)) in
+      omega (arith, less)))
+      (ascending gs (All-tail (λ (g : Gate). IsBundleStart (code_region p) g.address) g gs starts) (λ i j d less below. pairs (suc i) (suc j) d (omega (arith, less)) (omega (arith, below))))
+
+pub moved_is_right : MovedIsRight
+moved_is_right code data_at p right address region data_region room = record {
+  code_base = address;
+  code_placed = region;
+  data_placed = data_region;
+  guard_room = room;
+  start = start_moves code data_at p right address region p.start right.start;
+  gate_count = subst (λ (n : ℕ). n ≤ 64) (sym (length-map p.gates (moved_gate p.code_base code))) right.gate_count;
+  init_len = right.init_len;
+  gates = record {
+    starts = All-map (λ (g : Gate). IsBundleStart (code_region (moved code data_at p)) g.address) (moved_gate p.code_base code) p.gates (λ k d below. start_moves code data_at p right address region _ (right.gates.starts k d below));
+    services = All-map (λ (g : Gate). g.service ≤ 5) (moved_gate p.code_base code) p.gates right.gates.services;
+    ascending = ascending code data_at p right address region p.gates right.gates.starts right.gates.ascending;
+  };
+}
+
+-- ---- an image
+
+each_moves : (sandbox : ℕ) (bases : List Bases) (ps : List Part) (found : List Finding) → All IsRightPart ps → All IsRightPart (moved_all bases ps) → found ≡ [] → AreFindingsFrom sandbox ps found → AreFindingsFrom sandbox (moved_all bases ps) []
+each_moves sandbox [] ps found right right' e h = subst (λ (l : List Finding). AreFindingsFrom sandbox ps l) e h
+each_moves sandbox (b ∷ bs) [] found right right' e h = refl
+each_moves sandbox (b ∷ bs) (p ∷ ps) found right right' e h =
+    let both = nothing_before h.0 h.1 (sym h.4 ∙ e) in (
+      [],
+      [],
+      clean_is_placeless sandbox b.code b.data_at p (All-head IsRightPart p ps right) (All-head IsRightPart (moved b.code b.data_at p) (moved_all bs ps) right') (subst (λ (l : List Finding). AreFindings sandbox p l) both.0 h.2),
+      each_moves (sandbox + 1) bs ps h.1 (All-tail IsRightPart p ps right) (All-tail IsRightPart (moved b.code b.data_at p) (moved_all bs ps) right') both.1 h.3,
+      refl,
+    )
+
+pub accepted_moves : AcceptedMoves
+accepted_moves bytes ps bases accepted layout = record {
+  image = record { bytes_are = refl; layout = layout };
+  none_found = each_moves 0 bases ps [] accepted.image.layout.right.each layout.right.each refl accepted.none_found;
+}

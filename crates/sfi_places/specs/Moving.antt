@@ -1,0 +1,73 @@
+-- A sandbox of the same bytes at another place.
+use Rattle.std.specs.Prelude.{◌-◌, ◌+◌, ℕ, List, [], ◌∷◌, length, map}
+use Rattle.sfi_image.specs.declared.part.Gate.{Gate}
+use Rattle.sfi_image.specs.Spelling.{Part, IsWord, spelling}
+use Rattle.sfi_image.specs.Parts.{IsRightPart, IsRightLayout}
+use Rattle.sfi_image.specs.Regions.{IsCodeRegion, IsDataRegion, HasGuardRoom}
+use Rattle.sfi_safety.specs.Clean.{IsAccepted}
+use Rattle.sfi_rules.specs.declared.finding.Finding.{Finding}
+use Rattle.sfi_rules.specs.Findings.{AreFindings}
+
+-- the address as far from one base as it was from the other
+abbrev pub moved_address : ℕ → ℕ → ℕ → ℕ
+moved_address from to at = to + (at - from)
+
+-- the gate so moved
+abbrev pub moved_gate : ℕ → ℕ → Gate → Gate
+moved_gate from to g = record g { address = moved_address from to g.address }
+
+-- the finding so moved
+abbrev pub moved_finding : ℕ → ℕ → Finding → Finding
+moved_finding from to f = record f { address = moved_address from to f.address }
+
+-- the sandbox with its code and its data at these bases: the start and the gates move with the code, and
+-- no byte of the code or of the first data changes
+abbrev pub moved : ℕ → ℕ → Part → Part
+moved code data_at p = record p {
+  code_base = code;
+  data_base = data_at;
+  start = moved_address p.code_base code p.start;
+  gates = map (moved_gate p.code_base code) p.gates;
+}
+
+-- what is found of a right sandbox is found of it at each other right place, as far from the code's base
+abbrev pub FindingsArePlaceless : Type 0
+FindingsArePlaceless =
+    (sandbox code data_at : ℕ) (p : Part) (found : List Finding) → IsRightPart p
+    → IsRightPart (moved code data_at p) → AreFindings sandbox p found
+    → AreFindings sandbox (moved code data_at p) (map (moved_finding p.code_base code) found)
+
+-- so where nothing is found, nothing is found at each other right place
+abbrev pub CleanIsPlaceless : Type 0
+CleanIsPlaceless =
+    (sandbox code data_at : ℕ) (p : Part) → IsRightPart p → IsRightPart (moved code data_at p)
+    → AreFindings sandbox p [] → AreFindings sandbox (moved code data_at p) []
+
+-- ---- of the layout's tests
+
+-- of a right sandbox only the tests Code, Data and GuardRoom, and Overlap, can fail at another place
+abbrev pub MovedIsRight : Type 0
+MovedIsRight =
+    (code data_at : ℕ) (p : Part) → IsRightPart p → IsWord code
+    → IsCodeRegion p.format code (length p.code) → IsDataRegion data_at p.data_size
+    → HasGuardRoom data_at p.data_size → IsRightPart (moved code data_at p)
+
+-- ---- of an image
+
+-- where a sandbox is to lie
+pub record Bases : Type 0 where
+  pub code : ℕ
+  pub data_at : ℕ
+
+-- the sandboxes at those bases; those for which there are none stay
+abbrev pub moved_all : List Bases → List Part → List Part
+moved_all [] ps = ps
+moved_all (b ∷ bs) [] = []
+moved_all (b ∷ bs) (p ∷ ps) = moved b.code b.data_at p ∷ moved_all bs ps
+
+-- the image of an accepted image's sandboxes at other bases is accepted, if its layout is right
+abbrev pub AcceptedMoves : Type 0
+AcceptedMoves =
+    (bytes : List ℕ) (ps : List Part) (bases : List Bases) → IsAccepted bytes ps
+    → IsRightLayout (moved_all bases ps)
+    → IsAccepted (spelling (moved_all bases ps)) (moved_all bases ps)

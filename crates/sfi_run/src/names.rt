@@ -1,0 +1,100 @@
+//! The calls by which C reads the table of names of an image.
+ghost use Rattle.std.specs.Prelude.{◌≡◌, ◌≢◌, ℕ, ◌≤◌, Ok, Err};
+ghost use Rattle.sfi_names.specs.declared.image.Missing.{Missing};
+ghost use Rattle.sfi_names.specs.Spelling.{Table};
+ghost use Rattle.sfi_names.specs.Images.{HasTableOf, HasNoTable, IsAnswer, number_of};
+
+use sfi_names::{Kind, address_in, names_in};
+
+// Writes to `address` what a name of that kind stands for.
+fn look_up(image: &[u8], sandbox: u32, kind: Kind, name: &[u8], address: &mut u32) -> u32
+    ensures known { result ≤ 5 }
+
+    // What each status means.
+    ensures found { result ≡ 0 → IsAnswer image.now sandbox kind name.now (Ok address.new) }
+    ensures missing { (m : Missing) → result ≡ number_of m
+        → IsAnswer image.now sandbox kind name.now (Err m) }
+    ensures unwritten { result ≢ 0 → address.new ≡ address.old }
+
+    // Which bytes get it.
+    ensures only_found { (a : ℕ) → IsAnswer image.now sandbox kind name.now (Ok a)
+        → (result ≡ 0) × (address.new ≡ a) }
+    ensures only_missing { (m : Missing)
+        → IsAnswer image.now sandbox kind name.now (Err m) → result ≡ number_of m }
+{
+    match address_in(image, sandbox, kind, name) {
+        Ok(found) => {
+            *address = found;
+            0
+        }
+        Err(missing) => missing.number(),
+    }
+}
+
+/// Writes to `address` what a name stands for among the exports of the image's sandbox of that
+/// number, counted from 0. Returns 0, or the number of a [`Missing`].
+#[unsafe(no_mangle)]
+pub extern "C" fn sfi_run_export(image: &[u8], sandbox: u32, name: &[u8], address: &mut u32) -> u32
+    ensures known { result ≤ 5 }
+
+    // What each status means.
+    ensures found { result ≡ 0 → IsAnswer image.now sandbox Kind.Exports name.now (Ok address.new) }
+    ensures missing { (m : Missing) → result ≡ number_of m
+        → IsAnswer image.now sandbox Kind.Exports name.now (Err m) }
+    ensures unwritten { result ≢ 0 → address.new ≡ address.old }
+
+    // Which bytes get it.
+    ensures only_found { (a : ℕ) → IsAnswer image.now sandbox Kind.Exports name.now (Ok a)
+        → (result ≡ 0) × (address.new ≡ a) }
+    ensures only_missing { (m : Missing)
+        → IsAnswer image.now sandbox Kind.Exports name.now (Err m) → result ≡ number_of m }
+{
+    look_up(image, sandbox, Kind::Exports, name, address)
+}
+
+/// Writes to `address` what a name stands for among the imports: the address of its gate. Returns as
+/// [`sfi_run_export`] does.
+#[unsafe(no_mangle)]
+pub extern "C" fn sfi_run_import(image: &[u8], sandbox: u32, name: &[u8], address: &mut u32) -> u32
+    ensures known { result ≤ 5 }
+
+    // What each status means.
+    ensures found { result ≡ 0 → IsAnswer image.now sandbox Kind.Imports name.now (Ok address.new) }
+    ensures missing { (m : Missing) → result ≡ number_of m
+        → IsAnswer image.now sandbox Kind.Imports name.now (Err m) }
+    ensures unwritten { result ≢ 0 → address.new ≡ address.old }
+
+    // Which bytes get it.
+    ensures only_found { (a : ℕ) → IsAnswer image.now sandbox Kind.Imports name.now (Ok a)
+        → (result ≡ 0) × (address.new ≡ a) }
+    ensures only_missing { (m : Missing)
+        → IsAnswer image.now sandbox Kind.Imports name.now (Err m) → result ≡ number_of m }
+{
+    look_up(image, sandbox, Kind::Imports, name, address)
+}
+
+/// Writes the version of the host's interface that the table tells. Returns as [`sfi_run_export`]
+/// does, and never `NoName`.
+#[unsafe(no_mangle)]
+pub extern "C" fn sfi_run_api(image: &[u8], sandbox: u32, version: &mut u32) -> u32
+    ensures known { result ≤ 4 }
+
+    // What each status means.
+    ensures found { result ≡ 0 → (t : Table) × HasTableOf image.now sandbox t
+        × (version.new ≡ t.version) }
+    ensures missing { (m : Missing) → result ≡ number_of m → HasNoTable image.now sandbox m }
+    ensures unwritten { result ≢ 0 → version.new ≡ version.old }
+
+    // Which bytes get it.
+    ensures only_found { (t : Table) → HasTableOf image.now sandbox t
+        → (result ≡ 0) × (version.new ≡ t.version) }
+    ensures only_missing { (m : Missing) → HasNoTable image.now sandbox m → result ≡ number_of m }
+{
+    match names_in(image, sandbox) {
+        Ok(names) => {
+            *version = names.version;
+            0
+        }
+        Err(missing) => missing.number(),
+    }
+}

@@ -1,0 +1,190 @@
+-- What the lines of a sandbox's translation do, as include/sfi_native.h reads them, if the sandbox has no
+-- finding: then each unit is read whole, so that the line after one of n bytes is that of the address n
+-- further on (law UnitsAreWhole).
+use Rattle.std.specs.Prelude.{◌≡◌, ℕ, zero, suc, ◌+◌, ◌-◌, ◌*◌, ◌/◌, ◌%◌, ◌^◌, ◌<◌, ◌≤◌, ◌==◌, nat_le, nat_lt, ◌||◌, ◌&&◌, not, Bool, true, false, List, [], ◌∷◌, ◌++◌, length, slice_set, if◌then◌else◌}
+use Rattle.rv_word.specs.declared.instr.Instr.{Instr}
+use Rattle.rv_word.specs.declared.instr.Instr.TheVariants.{Load, Store, Branch, Jal, Jalr, Ecall, Ebreak}
+use Rattle.rv_word.specs.Numbers.{offset_by}
+use Rattle.rv_mem.specs.Bytes.{address_after}
+use Rattle.rv_step.specs.declared.outcome.Outcome.{Outcome}
+use Rattle.rv_step.specs.declared.outcome.Outcome.TheVariants.{Next, Call, Trap}
+use Rattle.rv_step.specs.declared.outcome.Cause.TheVariants as cause
+use Rattle.rv_step.specs.State.{Hart, State, register, with_pc, even_of}
+use Rattle.rv_step.specs.Step.{Stepped, effect, unchanged}
+use Rattle.rv_step.specs.Values.{load_size, store_size, is_taken}
+use Rattle.sfi_policy.specs.Formats.{unit}
+use Rattle.sfi_image.specs.Spelling.{Part}
+use Rattle.sfi_rules.specs.Readings.{Piece, IsLongestReading}
+use Rattle.sfi_report.specs.Listing.{unit_bytes}
+use Rattle.sfi_translate.specs.Lines.{function_most}
+use Rattle.sfi_translate.specs.Translation.{head_bytes}
+
+-- ---- where a turn is
+
+-- within a function, at the label of the line of that address; before a step of `sfi_step`, whatever is
+-- left; in the loop of `sfi_turn`, where it has ended if no step is left; or ended by a call or a trap
+pub data Place : Type 0 where
+  Label : ℕ → Place
+  Slow : Place
+  Loop : Place
+  Stopped : Outcome → Place
+
+-- a turn that is there, its sandbox's state (at a label C keeps the pc as the label alone), and the steps
+-- left
+pub record Going : Type 0 where
+  pub place : Place
+  pub state : State
+  pub left : ℕ
+
+-- the steps that are left where a head lets a turn go on: one for each line up to the next head, and
+-- one for a slow step there
+abbrev pub most : ℕ
+most = head_bytes / 2 + 1
+
+-- one step less, in 32 bits
+abbrev pub one_less : ℕ → ℕ
+one_less left = (left + (2 ^ 32 - 1)) % 2 ^ 32
+
+-- ---- where it goes on
+
+-- to a label, if the test of a head lets it
+abbrev pub at_head : ℕ → ℕ → Place
+at_head to left = if nat_lt left most then Slow else Label to
+
+-- to a label, from the text before it, where a HEAD may stand
+abbrev pub onto : ℕ → ℕ → Place
+onto to left = if to % head_bytes == 0 then at_head to left else Label to
+
+-- past a line: out to the loop after the last line, and where another function begins
+abbrev pub falls : Part → ℕ → ℕ → Place
+falls p to left =
+    if to == (p.code_base + length p.code) % 2 ^ 32 then Loop
+    else if (to - p.code_base) % function_most == 0 then Loop else onto to left
+
+-- by a jump: into another function through the loop; backwards, or past a head, with its test
+abbrev pub jumps : ℕ → ℕ → ℕ → Place
+jumps from to left =
+    if not ((from / function_most) == (to / function_most)) then Loop
+    else if nat_le to from || not ((from / head_bytes) == (to / head_bytes)) then at_head to left
+    else Label to
+
+-- to an address that no line names, in the function that `from` belongs to: at the entry of its unit, by
+-- whose number C's switch knows it
+abbrev pub enters : Part → (ℕ → Bool) → ℕ → ℕ → ℕ → Place
+enters p entries from to left =
+    let start = to - to % unit p.format in
+    if not (to % unit p.format == 0) then Slow
+    else if not ((from / function_most) == (to / function_most)) then Loop
+    else if entries start then onto start left else Slow
+
+-- after the line of that instruction, of n bytes, which a hart has done from its pc on
+abbrev pub after_line : Part → (ℕ → Bool) → Instr → ℕ → Hart → ℕ → Place
+after_line p entries (Branch cond rs1 rs2 offset) n h left =
+    if is_taken cond (register h rs1) (register h rs2)
+    then jumps h.pc (offset_by h.pc offset) left else falls p (address_after h.pc n) left
+after_line p entries (Jal rd offset) n h left = jumps h.pc (offset_by h.pc offset) left
+after_line p entries (Jalr rd rs1 imm) n h left =
+    if nat_lt left most then Slow
+    else enters p entries h.pc (even_of (offset_by (register h rs1) imm)) left
+after_line p entries i n h left = falls p (address_after h.pc n) left
+
+-- from the loop
+abbrev pub from_loop : Part → (ℕ → Bool) → ℕ → ℕ → Place
+from_loop p entries pc left =
+    if nat_le most left && (nat_le p.code_base pc && nat_lt pc (p.code_base + length p.code))
+    then enters p entries pc pc left else Slow
+
+-- ---- what is done
+
+-- an access of `size` bytes at the address lies in the data
+abbrev pub is_tested : Part → ℕ → ℕ → Bool
+is_tested p at size = nat_le ((at + (2 ^ 32 - p.data_base)) % 2 ^ 32) (p.data_size - size)
+
+-- a line does its instruction, and doesn't leave it to a slow step
+abbrev pub is_done : Part → Instr → Hart → Bool
+is_done p (Load kind rd rs1 imm) h = is_tested p (offset_by (register h rs1) imm) (load_size kind)
+is_done p (Store width rs1 rs2 imm) h = is_tested p (offset_by (register h rs1) imm) (store_size width)
+is_done p Ecall h = false
+is_done p Ebreak h = false
+is_done p i h = true
+
+-- x0 and x24 to x27 have one value for lines, whatever is written there
+abbrev pub fixed : Part → Hart → Hart
+fixed p h = record {
+  pc = h.pc;
+  registers =
+      slice_set (slice_set (slice_set (slice_set (slice_set h.registers 0 0)
+      24 p.code_base) 25 (length p.code - unit p.format)) 26 p.data_base) 27 (p.data_size - 1);
+}
+
+-- the line of that instruction, of n bytes, at that address
+abbrev pub line_done : Part → (ℕ → Bool) → ℕ → Instr → ℕ → Going → Going
+line_done p entries at i n g =
+    let h = with_pc (fixed p g.state.hart) at in
+    let after = (effect i n h g.state.memory).state in
+    if is_done p i h then (record {
+      place = after_line p entries i n h (one_less g.left);
+      state = record { hart = fixed p after.hart; memory = after.memory };
+      left = one_less g.left;
+    }) else (record {
+      place = Slow;
+      state = record { hart = with_pc g.state.hart at; memory = g.state.memory };
+      left = g.left;
+    })
+
+-- the same line in `sfi_step`: an access that doesn't pass its test traps
+abbrev pub row_step : Part → Instr → ℕ → State → Stepped
+row_step p (Load kind rd rs1 imm) n s =
+    let at = offset_by (register s.hart rs1) imm in
+    if is_tested p at (load_size kind) then effect (Load kind rd rs1 imm) n s.hart s.memory
+    else unchanged (Trap cause.Load at) s.hart s.memory
+row_step p (Store width rs1 rs2 imm) n s =
+    let at = offset_by (register s.hart rs1) imm in
+    if is_tested p at (store_size width) then effect (Store width rs1 rs2 imm) n s.hart s.memory
+    else unchanged (Trap cause.Store at) s.hart s.memory
+row_step p i n s = effect i n s.hart s.memory
+
+-- a slow step that came to this
+abbrev pub step_done : Outcome → State → ℕ → Going
+step_done Next s left = record { place = Loop; state = s; left = one_less left }
+step_done Call s left = record { place = Stopped Call; state = s; left = left }
+step_done (Trap cause at) s left =
+    record { place = Stopped (Trap cause at); state = s; left = left }
+
+-- ---- a move
+
+-- how many bytes the pieces have
+abbrev pub bytes_of : List Piece → ℕ
+bytes_of [] = 0
+bytes_of (x ∷ pieces) = x.size + bytes_of pieces
+
+-- the text has a line of that instruction, of n bytes, at the address
+pub record IsLine (p : Part) (at : ℕ) (i : Instr) (n : ℕ) : Type 0 where
+  pub number : ℕ
+  pub within : unit p.format * number + unit p.format ≤ length p.code
+  pub before : List Piece
+  pub after : List Piece
+  pub longest : IsLongestReading (unit_bytes p number)
+      (before ++ (record { instr = i; size = n } ∷ after))
+  pub at_is : at ≡ p.code_base + unit p.format * number + bytes_of before
+
+-- what may follow at that place
+abbrev pub IsMoveAt : Place → Part → (ℕ → Bool) → Going → Going → Type 0
+IsMoveAt (Label at) p entries g k =
+    (i : Instr) × (n : ℕ) × IsLine p at i n × (k ≡ line_done p entries at i n g)
+IsMoveAt Slow p entries g k =
+    (i : Instr) × (n : ℕ) × IsLine p g.state.hart.pc i n
+    × (k ≡ step_done (row_step p i n g.state).outcome (row_step p i n g.state).state g.left)
+IsMoveAt Loop p entries g k =
+    (0 < g.left) × (k ≡ record g { place = from_loop p entries g.state.hart.pc g.left })
+IsMoveAt (Stopped o) p entries g k = ⊥
+
+-- one move of a turn; `entries` says of an address whether it has an ENTRY in the text
+abbrev pub IsMove : Part → (ℕ → Bool) → Going → Going → Type 0
+IsMove p entries g k = IsMoveAt g.place p entries g k
+
+-- some moves, one after another
+abbrev pub AreMoves : Part → (ℕ → Bool) → ℕ → Going → Going → Type 0
+AreMoves p entries zero g k = k ≡ g
+AreMoves p entries (suc n) g k =
+    (between : Going) × IsMove p entries g between × AreMoves p entries n between k
