@@ -82,7 +82,8 @@ class NotWaiting(Exception):
 
 
 class NotEntered(Exception):
-    """An entry into a sandbox that hasn't stopped, or at an address where no bundle or word of its code begins."""
+    """An entry into a sandbox that hasn't stopped, or at an address where no bundle or word of its code begins; or registers that
+    it mustn't hold."""
 
 
 class NotReturned(Exception):
@@ -113,11 +114,19 @@ class Ready:
 
 @dataclass(frozen=True)
 class Call:
-    """The sandbox stands at a call of a gate, and waits for a reply. The service is 0 to 5. x[12] to x[17] of its registers are
-    the call's other arguments, and its pc tells gates of one service apart."""
+    """The sandbox stands at a call of a gate, and waits for a reply. The service is 0 to 5; the gate is its place among the
+    sandbox's gates, 0 to 63, and pc is its address."""
     service: int
     a0: int
     a1: int
+    a2: int
+    a3: int
+    a4: int
+    a5: int
+    a6: int
+    a7: int
+    gate: int
+    pc: int
     sandbox: Sandbox = field(repr=False, compare=False)
     _turns: int = field(repr=False, compare=False, default=-1)
 
@@ -287,7 +296,7 @@ class Sandbox:
         if kind == 1:
             return Ready()
         if kind == 2:
-            return Call(raw.number, raw.a0, raw.a1, self, turns)
+            return Call(raw.number, raw.a0, raw.a1, raw.a2, raw.a3, raw.a4, raw.a5, raw.a6, raw.a7, raw.gate, raw.pc, self, turns)
         if kind == 3:
             return Exited(raw.number)
         if kind == 4:
@@ -300,6 +309,11 @@ class Sandbox:
         """Runs it for at most so many steps, and no further than its next call: how it stands then. An instruction that is
         done and a call that is replied to are a step each. One that stands at a call already, or has stopped, does none."""
         return self._told("turn", _word(steps))
+
+    def until(self, stops: Sequence[int], steps: int) -> Event:
+        """The same, but the turn ends, too, before an instruction at one of the addresses `stops`. Its first step is made in
+        any case, so that it goes on from a stop."""
+        return self._told("until", (ctypes.c_uint32 * max(1, len(stops)))(*map(_word, stops)), len(stops), _word(steps))
 
     @property
     def event(self) -> Event:
@@ -392,10 +406,20 @@ class Sandbox:
 
     @property
     def registers(self) -> Registers:
-        """Its pc and registers."""
+        """Its pc and registers. Set, they make it ready, whether it was ready, stood at a call or had stopped; x0 stays 0. That
+        raises NotEntered where no bundle or word of its code begins at pc, or a reserved or typed register would hold what it
+        mustn't, and ValueError unless `x` has 32 values. With registers that are put aside at a call, and put back, it stands at
+        that call again: `reply` replies to it, or a new event tells of it."""
         raw = _library.Registers()
         self._call("registers", ctypes.byref(raw))
         return Registers(raw.pc, tuple(raw.x))
+
+    @registers.setter
+    def registers(self, registers: Registers) -> None:
+        if len(registers.x) != 32:
+            raise ValueError(f"{len(registers.x)} registers, not 32")
+        if not self._changed("set_registers", _library.Registers(_word(registers.pc), tuple(map(_word, registers.x)))):
+            raise NotEntered(f"sandbox {self._number} can't go on with these registers")
 
     @property
     def pc(self) -> int:

@@ -28,7 +28,7 @@ class Verdict(ctypes.Structure):
 
 class Event(ctypes.Structure):
     """`struct sfi_run_event`."""
-    _fields_ = [(name, _WORD) for name in ("kind", "number", "a0", "a1")]
+    _fields_ = [(name, _WORD) for name in ("kind", "number", "gate", "pc", "a0", "a1", "a2", "a3", "a4", "a5", "a6", "a7")]
 
 
 class Region(ctypes.Structure):
@@ -50,7 +50,11 @@ _CALLS: dict[str, tuple[Any, list[Any]]] = {
     "load": (_WORD, [_BYTES, _SIZE, _WORLD, ctypes.POINTER(Verdict)]),
     "free": (None, [_WORLD]),
     "count": (_SIZE, [_WORLD]),
+    "export": (_WORD, [_BYTES, _SIZE, _WORD, _BYTES, _SIZE, ctypes.POINTER(_WORD)]),
+    "import": (_WORD, [_BYTES, _SIZE, _WORD, _BYTES, _SIZE, ctypes.POINTER(_WORD)]),
+    "api": (_WORD, [_BYTES, _SIZE, _WORD, ctypes.POINTER(_WORD)]),
     "turn": (_WORD, [_WORLD, _WORD, _WORD, _EVENT]),
+    "until": (_WORD, [_WORLD, _WORD, ctypes.POINTER(_WORD), _SIZE, _WORD, _EVENT]),
     "event": (_WORD, [_WORLD, _WORD, _EVENT]),
     "reply": (ctypes.c_bool, [_WORLD, _WORD, _WORD, _WORD]),
     "exit": (ctypes.c_bool, [_WORLD, _WORD, _WORD]),
@@ -60,6 +64,7 @@ _CALLS: dict[str, tuple[Any, list[Any]]] = {
     "enter": (ctypes.c_bool, [_WORLD, _WORD, _WORD, ctypes.POINTER(_WORD)]),
     "steps": (ctypes.c_uint64, [_WORLD, _WORD]),
     "registers": (ctypes.c_bool, [_WORLD, _WORD, ctypes.POINTER(Registers)]),
+    "set_registers": (ctypes.c_bool, [_WORLD, _WORD, ctypes.POINTER(Registers)]),
     "data": (ctypes.c_bool, [_WORLD, _WORD, ctypes.POINTER(Region)]),
 }
 

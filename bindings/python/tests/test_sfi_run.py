@@ -183,7 +183,7 @@ class Running(unittest.TestCase):
 
     def test_a_call_and_its_reply(self):
         call = self.sandbox.turn(1000)
-        self.assertEqual(call, sfi_run.Call(4, 5, 10, self.sandbox))
+        self.assertEqual(call, sfi_run.Call(4, 5, 10, 0, 0, 0, 0, 0, 0, 1, CODE + 16, self.sandbox))
         steps = self.sandbox.steps
         self.assertEqual((self.sandbox.turn(1000), self.sandbox.event, self.sandbox.steps), (call, call, steps))
         call.reply(1, 77)
@@ -195,6 +195,21 @@ class Running(unittest.TestCase):
         self.assertEqual((last.service, last.a0), (0, 77))
         last.exit(last.a0)
         self.assertEqual(self.sandbox.event, sfi_run.Exited(77))
+
+    def test_stops_and_registers(self):
+        self.assertEqual(self.sandbox.until([], 1), sfi_run.Ready())
+        self.assertEqual(self.sandbox.until([0, CODE + 16], 1000).service, 4)
+        kept = self.sandbox.registers
+        call = self.sandbox.event
+        self.sandbox.stop()
+        self.sandbox.registers = kept
+        with self.assertRaises(sfi_run.NotWaiting):
+            call.reply(1)
+        self.assertEqual((self.sandbox.event.service, self.sandbox.registers), (4, kept))
+        for pc, number in ((CODE + 1, 0), (CODE, 24), (CODE, 27), (0, 0)):
+            with self.assertRaises(sfi_run.NotEntered):
+                self.sandbox.registers = sfi_run.Registers(pc, tuple(x + (at == number != 0) for at, x in enumerate(kept.x)))
+        self.assertEqual(self.sandbox.registers, kept)
 
     def test_a_reply_that_keeps_a1(self):
         self.sandbox.turn(1000).reply(0)

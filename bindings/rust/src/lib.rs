@@ -25,6 +25,7 @@ use std::error::Error;
 use std::fmt;
 use std::ptr;
 
+pub mod names;
 mod sys;
 pub use sys::{Region, Registers};
 
@@ -65,7 +66,8 @@ pub enum CallError {
     NotWaiting,
     /// An address that isn't one of the sandbox's data.
     OutsideData,
-    /// An entry into a sandbox that hasn't stopped, or at an address where no bundle or word of its code begins.
+    /// An entry into a sandbox that hasn't stopped, or at an address where no bundle or word of its code begins; or registers
+    /// that it mustn't hold.
     NotEntered,
     /// A function that didn't return.
     NotReturned,
@@ -100,7 +102,7 @@ impl fmt::Display for CallError {
             CallError::NotWaiting => "the sandbox stands at no call, or at another one",
             CallError::OutsideData => "an address isn't one of the sandbox's data",
             CallError::NotEntered => {
-                "the sandbox hasn't stopped, or no bundle or word begins there"
+                "the sandbox hasn't stopped, no bundle or word begins there, or a register mustn't hold that"
             }
             CallError::NotReturned => "the function didn't return",
             CallError::NotRunning => "the sandbox has stopped already",
@@ -139,8 +141,7 @@ pub enum Cause {
     Store,
 }
 
-/// A call of a gate, at which a sandbox stands. x12 to x17 of [`Sandbox::registers`] are its other arguments, and its pc tells
-/// gates of one service apart.
+/// A call of a gate, at which a sandbox stands.
 #[derive(Clone, Copy, Debug, PartialEq, Eq)]
 pub struct Call {
     /// The gate's service, 0 to 5.
@@ -149,7 +150,14 @@ pub struct Call {
     pub a0: u32,
     /// The second argument.
     pub a1: u32,
-    /// How many steps the sandbox had done when it came to this call: a reply is a step, so no later call has as few.
+    /// The other arguments, a2 to a7.
+    pub more: [u32; 6],
+    /// The gate's place among the sandbox's gates, 0 to 63.
+    pub gate: u32,
+    /// The gate's address.
+    pub pc: u32,
+    /// How many steps the sandbox had done when it came to this call: a reply is a step, so no later call has as few, unless
+    /// the sandbox is entered or its registers are set.
     pub steps: u64,
 }
 
@@ -179,14 +187,17 @@ impl Event {
             1 => Event::Ready,
             2 => Event::Call(Call {
                 service: raw.number,
-                a0: raw.a0,
-                a1: raw.a1,
+                a0: raw.a[0],
+                a1: raw.a[1],
+                more: std::array::from_fn(|place| raw.a[place + 2]),
+                gate: raw.gate,
+                pc: raw.pc,
                 steps: steps(),
             }),
             3 => Event::Exited(raw.number),
             4 => Event::Trapped {
                 cause: Cause::of(raw.number),
-                address: raw.a0,
+                address: raw.a[0],
             },
             5 => Event::Stopped,
             kind => {
@@ -296,6 +307,17 @@ impl Sandbox<'_> {
     pub fn turn(&mut self, steps: u32) -> Event {
         let mut raw = sys::Event::default();
         unsafe { sys::sfi_run_turn(self.world, self.number, steps, &mut raw) };
+        Event::of(&raw, || self.steps())
+    }
+
+    /// The same, but the turn ends, too, before an instruction at one of the addresses `stops`. Its first step is made in any
+    /// case, so that it goes on from a stop.
+    pub fn until(&mut self, stops: &[u32], steps: u32) -> Event {
+        let mut raw = sys::Event::default();
+        unsafe {
+            let (first, count) = (stops.as_ptr(), stops.len());
+            sys::sfi_run_until(self.world, self.number, first, count, steps, &mut raw)
+        };
         Event::of(&raw, || self.steps())
     }
 
@@ -426,6 +448,15 @@ impl Sandbox<'_> {
         let mut registers = Registers::default();
         unsafe { sys::sfi_run_registers(self.world, self.number, &mut registers) };
         registers
+    }
+
+    /// Makes it ready with this pc and these registers, whether it was ready, stood at a call or had stopped; x0 stays 0. The
+    /// error is [`CallError::NotEntered`], where no bundle or word of its code begins at pc, or a reserved or typed register
+    /// would hold what it mustn't. With registers that are put aside at a call, and put back, it stands at that call again:
+    /// [`Sandbox::reply`] replies to it, or a new event tells of it.
+    pub fn set_registers(&mut self, registers: &Registers) -> Result<(), CallError> {
+        let is_done = unsafe { sys::sfi_run_set_registers(self.world, self.number, registers) };
+        is_done.then_some(()).ok_or(CallError::NotEntered)
     }
 
     /// Where its data lie.

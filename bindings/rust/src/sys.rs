@@ -43,8 +43,9 @@ pub struct Verdict {
 pub struct Event {
     pub kind: u32,
     pub number: u32,
-    pub a0: u32,
-    pub a1: u32,
+    pub gate: u32,
+    pub pc: u32,
+    pub a: [u32; 8],
 }
 
 /// The addresses of a sandbox's data.
@@ -77,7 +78,37 @@ extern "C" {
     ) -> u32;
     pub fn sfi_run_free(world: *mut World);
     pub fn sfi_run_count(world: *mut World) -> usize;
+    pub fn sfi_run_export(
+        image: *const u8,
+        length: usize,
+        sandbox: u32,
+        name: *const u8,
+        size: usize,
+        address: *mut u32,
+    ) -> u32;
+    pub fn sfi_run_import(
+        image: *const u8,
+        length: usize,
+        sandbox: u32,
+        name: *const u8,
+        size: usize,
+        address: *mut u32,
+    ) -> u32;
+    pub fn sfi_run_api(
+        image: *const u8,
+        length: usize,
+        sandbox: u32,
+        version: *mut u32,
+    ) -> u32;
     pub fn sfi_run_turn(world: *mut World, sandbox: u32, steps: u32, event: *mut Event) -> u32;
+    pub fn sfi_run_until(
+        world: *mut World,
+        sandbox: u32,
+        stops: *const u32,
+        count: usize,
+        steps: u32,
+        event: *mut Event,
+    ) -> u32;
     pub fn sfi_run_event(world: *mut World, sandbox: u32, event: *mut Event) -> u32;
     pub fn sfi_run_reply(world: *mut World, sandbox: u32, a0: u32, a1: u32) -> bool;
     pub fn sfi_run_exit(world: *mut World, sandbox: u32, number: u32) -> bool;
@@ -100,5 +131,10 @@ extern "C" {
     pub fn sfi_run_enter(world: *mut World, sandbox: u32, pc: u32, arguments: *const u32) -> bool;
     pub fn sfi_run_steps(world: *mut World, sandbox: u32) -> u64;
     pub fn sfi_run_registers(world: *mut World, sandbox: u32, registers: *mut Registers) -> bool;
+    pub fn sfi_run_set_registers(
+        world: *mut World,
+        sandbox: u32,
+        registers: *const Registers,
+    ) -> bool;
     pub fn sfi_run_data(world: *mut World, sandbox: u32, data: *mut Region) -> bool;
 }

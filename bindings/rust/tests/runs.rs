@@ -133,6 +133,9 @@ fn a_call_gets_one_reply() {
         service: 4,
         a0: 5,
         a1: 10,
+        more: [0; 6],
+        gate: 1,
+        pc: CODE + 16,
         steps,
     });
     assert_eq!(told, call);
@@ -157,6 +160,23 @@ fn a_call_gets_one_reply() {
     ));
     assert_eq!(sandbox.exit(77), Ok(()));
     assert_eq!(sandbox.event(), Event::Exited(77));
+}
+
+#[test]
+fn stops_and_registers() {
+    let mut world = twice();
+    let mut sandbox = world.sandbox(0).unwrap();
+    assert_eq!(sandbox.until(&[], 1), Event::Ready);
+    let told = sandbox.until(&[0, CODE + 16], 1000);
+    assert!(matches!(told, Event::Call(Call { service: 4, .. })));
+    let kept = sandbox.registers();
+    assert_eq!(sandbox.stop(), Ok(()));
+    assert_eq!(sandbox.set_registers(&kept), Ok(()));
+    assert_eq!(sandbox.event(), told);
+    let mut other = kept;
+    other.x[26] += 1;
+    assert_eq!(sandbox.set_registers(&other), Err(CallError::NotEntered));
+    assert_eq!(sandbox.registers(), kept);
 }
 
 #[test]

@@ -1,0 +1,52 @@
+//! Tests of `names`. The bytes of a table are those of docs/IMAGE.md.
+use sfi_run::names::{api, export, import, NameError};
+
+const CODE: u32 = 0x0100_0000;
+
+fn entry(address: u32, name: &str) -> Vec<u8> {
+    let mut bytes = address.to_le_bytes().to_vec();
+    bytes.push(name.len() as u8);
+    bytes.extend(name.bytes());
+    bytes
+}
+
+/// The image of one sandbox of 256 bytes, whose code is 64 times ebreak, with a table that has this version.
+fn named(exports: &[u8], imports: &[u8], version: u32) -> Vec<u8> {
+    let mut table = [exports, imports].concat();
+    for number in [version, exports.len() as u32, imports.len() as u32] {
+        table.extend(number.to_le_bytes());
+    }
+    table.extend(b"SFIN");
+    let head = [1, CODE, 256, 0x0180_0000, 256, CODE, 0, table.len() as u32];
+    let words = head.into_iter().chain([0x0010_0073; 64]);
+    let mut image = b"SFI1".to_vec();
+    image.extend(words.flat_map(u32::to_le_bytes));
+    image.extend(table);
+    image
+}
+
+#[test]
+fn addresses() {
+    let exports = [entry(CODE, "add"), entry(7, "add"), entry(9, "x")].concat();
+    let image = named(&exports, &entry(CODE + 16, "log"), 5);
+    assert_eq!(export(&image, 0, "add"), Ok(CODE));
+    assert_eq!(export(&image, 0, "x"), Ok(9));
+    assert_eq!(import(&image, 0, "log"), Ok(CODE + 16));
+    assert_eq!(api(&image, 0), Ok(5));
+}
+
+#[test]
+fn what_is_missing() {
+    let right = named(&entry(CODE, "add"), &[], 0);
+    let bad = named(&entry(CODE, "a b"), &[], 0);
+    let none = [&right[..right.len() - 1], b"M"].concat();
+    for (image, sandbox, name, why) in [
+        (&right, 0, "ad", NameError::NoName),
+        (&right, 1, "add", NameError::NoSandbox),
+        (&bad, 0, "add", NameError::BadTable),
+        (&none, 0, "add", NameError::NoTable),
+        (&right[1..].to_vec(), 0, "add", NameError::NoImage),
+    ] {
+        assert_eq!(export(image, sandbox, name), Err(why));
+    }
+}
