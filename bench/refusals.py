@@ -69,6 +69,8 @@ def commands(program):
         (["run"], reaching),
         (["convert"], image),
         (["convert"], bare),
+        (["translate"], image),
+        (["translate", "--whole"], bare),
         (["frob"], b""),
         (["--help"], b""),
     ]

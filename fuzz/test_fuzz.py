@@ -15,6 +15,7 @@ import escapes
 import layout
 import machine
 import mutants
+import second
 import verdicts
 import worlds
 
@@ -108,6 +109,17 @@ class Planted(testing.Folder):
         for rule in ("V5", "V10"):
             tally = fuzzing.Tally()
             self.found(tally, mutants.Mutants(testing.SFI, self.folder, {rule}, tally).try_one, rule)
+
+    @testing.needs_program
+    def test_second_finds_a_rule_left_out(self):
+        for rule in ("V5", "V12"):
+            tally = fuzzing.Tally()
+
+            def try_one(pick):
+                for row in second.compared(testing.SFI, rule, ("", pick))[1]:
+                    tally.see(*row)
+
+            self.found(tally, try_one, rule)
 
     @testing.needs_program
     def test_mutants_find_a_crash_and_a_wrong_status(self):

@@ -13,7 +13,7 @@ import layout
 import machine
 
 NONE, READY, CALL, EXITED, TRAPPED, STOPPED = range(6)
-Event = collections.namedtuple("Event", "kind number a0 a1", defaults=[0, 0, 0])
+Event = collections.namedtuple("Event", "kind number gate pc a0 a1 a2 a3 a4 a5 a6 a7", defaults=[0] * 11)
 HEADER = os.path.join(fuzzing.TOP, "crates", "sfi_run", "include", "sfi_run.h")
 FILL = 0xA5  # what a buffer holds before a read
 
@@ -37,10 +37,10 @@ class Sandbox(machine.Machine):
 
     def event(self):
         if self.ended:
-            return self.ended
+            return self.ended._replace(pc=self.pc)
         if self.stands_at_call():
-            return Event(CALL, self.part.gates[self.pc], self.x[10], self.x[11])
-        return Event(READY)
+            return Event(CALL, self.part.gates[self.pc], sorted(self.part.gates).index(self.pc), self.pc, *self.x[10:18])
+        return Event(READY, pc=self.pc)
 
     def turn(self, most):
         for _ in range(most):
@@ -48,7 +48,7 @@ class Sandbox(machine.Machine):
                 return
             stop = self.step()
             if stop:
-                self.ended = Event(TRAPPED, stop.cause, stop.at)
+                self.ended = Event(TRAPPED, stop.cause, a0=stop.at)
                 return
             self.steps += 1
 
@@ -226,7 +226,7 @@ class CWorld(ctypes.Structure):
     _fields_ = [("held", _WORD), ("at", ctypes.c_void_p)]
 
 
-_EVENT, _VERDICT, _REGISTERS, _REGION, _ARGUMENTS = (_WORD * count for count in (4, 8, 33, 2, 8))
+_EVENT, _VERDICT, _REGISTERS, _REGION, _ARGUMENTS = (_WORD * count for count in (12, 8, 33, 2, 8))
 _OF_WORLD = ctypes.POINTER(CWorld)
 _CALLS = {
     "load": (_WORD, [_BYTES, _SIZE, _OF_WORLD, _ROOM]),
@@ -288,7 +288,7 @@ class Library:
         return self.calls.count(self.world)
 
     def told(self, call, *arguments):
-        event = _EVENT(*[FILL] * 4)
+        event = _EVENT(*[FILL] * 12)
         kind = call(self.world, *arguments, event)
         return Event(*event) if kind == event[0] else (kind, tuple(event))
 
@@ -319,7 +319,7 @@ class Library:
         return self.calls.enter(self.world, number, pc, _ARGUMENTS(*arguments))
 
     def call(self, number, pc, arguments, steps):
-        event = _EVENT(*[FILL] * 4)
+        event = _EVENT(*[FILL] * 12)
         return self.calls.call(self.world, number, pc, _ARGUMENTS(*arguments), steps, event), Event(*event)
 
     def steps(self, number):

@@ -5,7 +5,7 @@
 
 - sfi.wasm, all commands and a runtime, by tools/wasm_module.py, which wants the toolchain;
 - sfi.wasm.js, the same as text, for a page that is opened as a file;
-- made.js, the examples and the sentences of the rules, which README.md and docs/IMAGE.md have.
+- made.js, the examples and the sentences of the rules, which docs/IMAGE.md has.
 """
 import base64
 import json
@@ -59,16 +59,16 @@ def examples():
     return found
 
 
-def sentences(text, columns):
-    """The rules of a table: by its name, the sentence in its last column."""
-    rows = re.findall(r"^\| (V\d+) \|" + r".*\|" * (columns - 2) + r" (.*) \|$", text, re.MULTILINE)
-    return {name: said.replace("`", "") for name, said in rows}
+def sentences(heading):
+    """The rules of the table below a heading: by its number, the sentence in its last column."""
+    text = read("docs", "IMAGE.md").partition(f"## {heading}\n")[2].partition("\n## ")[0]
+    rows = re.findall(r"^\| (V\d+) \| `\w+` \| (.*) \|$", text, re.MULTILINE)
+    return {name: re.sub(r"\[([^]]*)\]\([^)]*\)", r"\1", said).replace("`", "") for name, said in rows}
 
 
 def made_script():
-    rules, image = sentences(read("README.md"), 2), read("docs", "IMAGE.md")
-    words = rules | sentences(image[image.index("## Code in words"):], 3)
-    parts = {"EXAMPLES": examples(), "RULES": rules, "WORD_RULES": words}
+    rules = sentences("Code in bundles")
+    parts = {"EXAMPLES": examples(), "RULES": rules, "WORD_RULES": rules | sentences("Code in words")}
     return '"use strict";\n' + "".join(f"const {name} = {json.dumps(value, indent=0)};\n" for name, value in parts.items())
 
 

@@ -7,7 +7,8 @@ in the repository.
 FOLDER gets suygapid-VERSION-x86_64-linux.tar.gz and, with .sha256 at its end, the checksum of it. In the tar file
 SHA256SUMS has that of every other file. The same commit and the same built files make the same bytes: owners, times and
 the order of the files don't depend on where and when it is made. Nothing is made where a file isn't committed, or where
-what is built is missing or older than a source.
+what is built is missing or older than a source. suygapid_check.c, the checker in one file of C, is made and in it where
+the library for WebAssembly and the tools of tools/checker_file.py are there.
 """
 import gzip
 import hashlib
@@ -21,6 +22,7 @@ import tarfile
 TOP = pathlib.Path(__file__).resolve().parent.parent
 sys.dont_write_bytecode = True
 sys.path.insert(0, str(TOP / "tools"))
+import checker_file
 import installed
 import libraries
 import toolchain
@@ -52,6 +54,8 @@ def built_files():
     found = [str(path.relative_to(TOP)) for path in [*installed.built(), *PAGE]]
     for crate in libraries.HEADERS:
         found += [os.path.relpath(path, TOP) for path in libraries.make(crate)]
+    if not checker_file.missing():
+        found.append(os.path.relpath(checker_file.make(), TOP))
     return found
 
 

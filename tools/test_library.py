@@ -32,7 +32,7 @@ int main(int argc, char **argv) {
     char line[80], *end;
     int number;
     atexit(last);
-    if (argc != 0 || argv[0] != NULL || scanf("%d %79s", &number, line) != 2) return 1;
+    if (argc != 1 || argv[0][0] || argv[1] || scanf("%d %79s", &number, line) != 2) return 1;
     printf("%d %s|%5.2f|%g|%e|%a\n", number, line, 2.25, 1e100, -1.5e-7, 0.1);
     printf("%.15f %.15f %.15f\n", sqrt(2), sin(1), pow(2, 0.1));
     printf("%.17g %s\n", strtod("6.02214076e23xyz", &end), end);
@@ -125,7 +125,7 @@ class Library(unittest.TestCase):
         path = os.path.join(self.folder, name)
         with open(path, "w", encoding="utf-8") as file:
             file.write(text)
-        done = subprocess.run([SFI_CC, "--program", SFI, *words, "--library", self.library, path], check=True,
+        done = subprocess.run([SFI_CC, "--program", SFI, *words, "--library", "newlib", path], check=True,
                               capture_output=True)
         image, self.said = done.stdout, done.stderr.decode()
         line = subprocess.run([SFI, "run", "--rounds", "100", "--quantum", "1000000", "--input", given.hex()], input=image,
@@ -165,9 +165,9 @@ class Library(unittest.TestCase):
         text = "#include <assert.h>\n#line 17 \"given.c\"\nint main(void) { assert(1 < 0); }\n"
         wanted = 'assertion "1 < 0" failed: file "given.c", line 17, function: main\n'
         self.assertEqual(self.ran(text), ("sandbox=0 exit=134", wanted))
-        self.assertFalse({"_vfprintf_r", "_vfiprintf_r"} & self.names(text, "--library", self.library))
+        self.assertFalse({"_vfprintf_r", "_vfiprintf_r"} & self.names(text, "--library", "newlib"))
         text = "#include <stdio.h>\nint main(int n, char **v) { printf(\"%g\", n * 0.5); }\n"
-        self.assertNotIn("_vfiprintf_r", self.names(text, "--library", self.library))
+        self.assertNotIn("_vfiprintf_r", self.names(text, "--library", "newlib"))
 
     def test_errors_of_math(self):
         self.assertEqual(self.ran(ERRORS), ("sandbox=0 exit=0", ERRORS_TOLD))
@@ -197,13 +197,14 @@ class Library(unittest.TestCase):
             self.assertFalse(os.path.exists(os.path.join(include, f"{name}.h")), name)
 
     def test_own_heap(self):
-        text = ("#include <stdlib.h>\nchar __heap[262144];\nconst unsigned __heap_size = sizeof __heap;\n"
-                "int main(void) { return malloc(200000) != NULL && malloc(200000) == NULL; }\n")
-        self.assertEqual(self.ran(text)[0], "sandbox=0 exit=1")
+        text = "#include <stdlib.h>\nint main(void) { return malloc(200000) != NULL && malloc(200000) == NULL; }\n"
+        own = "char __heap[262144];\nconst unsigned __heap_size = sizeof __heap;\n"
+        for wanted, found in ((0, self.ran(text)), (1, self.ran(own + text)), (1, self.ran(text, "--heap", "262144"))):
+            self.assertEqual(found[0], f"sandbox=0 exit={wanted}")
 
     def test_what_is_not_called_costs_nothing(self):
         text = "void _start(void) {}\nint main(void) { return 0; }\n"
-        self.assertEqual(self.names(text), self.names(text, "--library", self.library))
+        self.assertEqual(self.names(text), self.names(text, "--library", "newlib"))
 
     def test_another_folder_stays(self):
         file = os.path.join(self.folder, "other", "file")

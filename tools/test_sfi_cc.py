@@ -2,6 +2,7 @@
 print or fail as the test wants show what becomes of each step; the tests of the real ones are skipped."""
 import os
 import shutil
+import struct
 import subprocess
 
 from testing import FORMATS, GCC, SFI, SFI_CC, Folder, needs, needs_program
@@ -140,6 +141,23 @@ cp {self.folder}/main.asm "$2"
             image = bytes.fromhex(self.made(*options)[1])
             self.assertEqual((image[:4], int.from_bytes(image[20:24], "little")), (magic, size))
 
+    def test_names(self):
+        """The table at the image's end, as docs/IMAGE.md has it; a program of exports needs no main."""
+        self.write("main.asm", "\t.text\n\t.globl\tadd\nadd:\n\tadd\ta0,a0,a1\n\tret\n\t.bss\n\t.globl\troom\nroom:\n\t.zero\t8\n")
+        words = ["--export", "add", "--export", "room", "--import", "log_it", "--gate", "log_it=2", "--api", "7"]
+        for image_format in FORMATS:
+            at = self.listed("--format", image_format, *words)
+            entries = [struct.pack("<IB", at[name], len(name)) + name.encode() for name in ("add", "room", "log_it")]
+            numbers = struct.pack("<3I", 7, len(entries[0] + entries[1]), len(entries[2]))
+            image = bytes.fromhex(self.made("--format", image_format, *words)[1])
+            self.assertTrue(image.endswith(b"".join(entries) + numbers + b"SFIN"), image_format)
+            self.assertIn(struct.pack("<2I", at["log_it"], 2), image)
+            self.assertEqual(self.made("--format", image_format, "-o", self.path("as.image"), *words), (0, "", []))
+            with open(self.path("as.image"), "rb") as file:
+                self.assertEqual(file.read(), image)
+        self.assertRegex(" ".join(self.made("--export", "none")[2]), "undefined reference to `none'.*ld failed, in status 1$")
+        self.assertRegex(" ".join(self.made()[2]), "undefined symbol `main'.*ld failed, in status 1$")
+
     def test_where(self):
         self.write("main.asm", '\t.file 1 "main.c"\n' + ASSEMBLY.replace("main:\n", "main:\n\t.loc 1 3 1\n"))
         found = self.listed()
@@ -180,6 +198,9 @@ cp {self.folder}/main.asm "$2"
                               (["--gate", "a=6"], "argument --gate: 'a=6' isn't NAME=SERVICE with a service from 0 to 5"),
                               (["--gate", "main=1"], "argument --gate: 'main' is the program's first function already"),
                               (["--gate", "put=3"], "argument --gate: 'put' is the gate of service 1 already"),
+                              (["--export", "a", "--export", "a"], "argument --export: 'a' is given twice"),
+                              (["--export", "a b"], "argument --export: 'a b' is no name of at most 255 letters, digits and _"),
+                              (["--import", "put"], "argument --import: 'put' is the gate of service 1 already"),
                               (["--where", "x"], "argument --where: 'x' is no address of 32 bits in hexadecimal digits"),
                               (["--data", "300"], "argument --data: '300' is no power of two from 256 to 1048576"),
                               (["--stack"], "argument --stack: expected one argument")]:

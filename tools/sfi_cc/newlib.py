@@ -10,7 +10,6 @@ from kept import kept
 from sources import GCC_SOURCE, NEWLIB_SOURCE, identity, unpacked
 
 GLUE = os.path.join(os.path.dirname(os.path.abspath(__file__)), "newlib")
-HEAP = 98304
 MARK = "newlib-of-sfi-cc"  # a file that says what the folder is
 PARTS = ("newlib/libc", "newlib/libm")
 FOLDERS = [f"libc/{name}" for name in ("ctype", "errno", "locale", "misc", "reent", "search", "signal", "stdio", "stdlib",
@@ -62,14 +61,14 @@ def headers(tree, folder):
     shutil.copy(os.path.join(GLUE, "newlib.h"), folder)
 
 
-def compile_all(compiler, heap, folder):
+def compile_all(compiler, folder):
     """Fills a folder with the library."""
     tree = os.path.join(unpacked(NEWLIB_SOURCE, *PARTS), "newlib")
     include, room = os.path.join(folder, "include"), os.path.join(folder, "room")
     os.makedirs(room)
     headers(tree, include)
     options = [*OPTIONS, "-isystem", include, *(word for part in SEARCHED for word in ("-I", f"{tree}/{part}"))]
-    glue = [(os.path.join(GLUE, f"{name}.c"), f"sandbox-{name}", [f"-DHEAP={heap}"]) for name in ("system", "heap", "pow")]
+    glue = [(os.path.join(GLUE, f"{name}.c"), f"sandbox-{name}", []) for name in ("system", "heap", "pow")]
 
     def compile_one(job):
         path, name, more = job
@@ -88,8 +87,8 @@ def compile_all(compiler, heap, folder):
         file.write(f"newlib of {NEWLIB_SOURCE.where()}, by {compiler}\n")
 
 
-def folder_of(compiler, heap):
-    """The folder of the library by a compiler, with a heap of some bytes, which is kept."""
+def folder_of(compiler):
+    """The folder of the library by a compiler, which is kept."""
     for package in (NEWLIB_SOURCE, GCC_SOURCE):
         if package.where() is None:
             raise Failed(2, package.wanted())
@@ -97,6 +96,6 @@ def folder_of(compiler, heap):
     for path in sorted(glob.glob(os.path.join(GLUE, "*"))):
         with open(path, encoding="utf-8") as file:
             own.append(file.read())
-    words = [version(compiler), str(heap), identity(NEWLIB_SOURCE.where()), identity(GCC_SOURCE.where()), *own, *OPTIONS,
+    words = [version(compiler), identity(NEWLIB_SOURCE.where()), identity(GCC_SOURCE.where()), *own, *OPTIONS,
              *sorted(LEFT_OUT), *FOLDERS, *POSIX, *WITHOUT_FUNCTIONS, str(VARIANTS), str(RESERVED_IN_WORDS)]
-    return kept("newlib", words, lambda folder: compile_all(compiler, heap, folder))
+    return kept("newlib", words, lambda folder: compile_all(compiler, folder))

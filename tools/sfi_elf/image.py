@@ -4,6 +4,7 @@ import struct
 from dataclasses import dataclass
 
 from elf import Wrong
+from names import footer
 
 FORMATS = {"1": b"SFI1", "2": b"SFI2", "words": b"SFIW"}  # the magic of each format
 LARGEST_CODE = {"1": 1 << 16, "2": 1 << 20, "words": 1 << 20}
@@ -78,6 +79,8 @@ def data_of(elf):
         if not 0 <= start <= start + len(segment.content) <= len(content):
             raise Wrong(f"{elf.name}: bytes at {segment.address:#x} lie outside the data: link it by tools/sfi-cc")
         content[start:start + len(segment.content)] = segment.content
+    at, table_end = footer(elf)
+    content[at - base:at - base + len(table_end)] = table_end
     return bytes(content).rstrip(b"\0")
 
 

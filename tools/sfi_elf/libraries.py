@@ -1,10 +1,11 @@
-"""Libraries as archives: a folder of assembly, as tools/sfi-library makes it, and the functions of floating point. Each is
-converted once for a format, and kept."""
+"""Libraries as archives: a folder of assembly, or the one of a name, as tools/sfi-library makes it, and the functions of
+floating point. Each is converted once for a format, and kept."""
 import glob
 import hashlib
 import os
 from concurrent.futures import ThreadPoolExecutor
 
+import newlib
 import softfloat
 from compilers import ASSEMBLY, HOSTED, Failed
 from kept import kept
@@ -13,6 +14,7 @@ from sources import GCC_SOURCE
 from tools import archived, assembled, rewritten_into
 
 ARCHIVE = "library.a"
+NAMED = {"newlib": newlib.folder_of}  # what makes the folder of a name, by a compiler
 
 
 def assembly_of(folder):
@@ -53,6 +55,11 @@ def archive_of(folder, image_format):
     paths = assembly_of(folder)
     words = [*ingredients(image_format), *map(digest_of, paths)]
     return os.path.join(kept("library", words, lambda room: make(room, paths, image_format)), ARCHIVE)
+
+
+def folders_of(libraries, compiler):
+    """The folders of libraries that are named, or given as folders."""
+    return [NAMED[library](compiler) if library in NAMED else library for library in libraries]
 
 
 def headers(libraries):

@@ -5,7 +5,8 @@ import runtime
 from compilers import Failed, ran, tell
 from elf import Elf
 from libraries import Libraries
-from tools import binutil
+from names import API, SERVICE, entries
+from tools import assembled, binutil
 
 CODE, DATA = 0x01000000, 0x00800000  # a sandbox's place is its number plus 1 times the first, its data lie the second above
 WORDS = ["-m", "elf32lriscv", "--no-relax", "--gc-sections", "-z", "noexecstack", "--no-warn-rwx-segments"]
@@ -23,14 +24,29 @@ def numbers_of(options):
     numbers = dict(zip(("__sfi_code_base", "__sfi_data_base"), place_of(options)))
     if options.stack is not None:
         numbers["__sfi_stack"] = options.stack
+    if options.api is not None:
+        numbers[API] = options.api
     return [f"--defsym={name}={value:#x}" for name, value in numbers.items()]
 
 
 def gates_of(options, folder):
-    """The objects of the gates that were asked for."""
+    """The objects of the gates that were asked for. An import is a gate, too."""
     room = os.path.join(folder, "gates")
     os.mkdir(room)
-    return [runtime.gate_object(room, name, service, options.format) for name, service in options.gate]
+    gates = {**dict.fromkeys(options.imports, SERVICE), **dict(options.gate)}
+    return [runtime.gate_object(room, name, service, options.format) for name, service in gates.items()]
+
+
+def names_of(options, folder):
+    """The object of the names that were asked for."""
+    output = os.path.join(folder, "names.o")
+    assembled(entries(options.exports, options.imports).encode(), output)
+    return output
+
+
+def heap_of(options, folder):
+    """The object of the heap that was asked for."""
+    return [] if options.heap is None else [runtime.heap_object(folder, options.heap)]
 
 
 def ran_linker(words, libraries):
@@ -48,10 +64,12 @@ def linked(options, objects, folder):
     made, libraries = runtime.folder_of(options.format), Libraries(options, objects)
     named = [*(f"-L{place}" for place in options.folders), *(f"-l{name}" for name in options.libraries)]
     archives = [path for path in objects if path.endswith(".a")]
-    own = [os.path.join(made, name) for name in ("libruntime.a", "libgates.a")]
+    main = ["libplugin.a"] if options.exports else []  # where a host calls functions, there need be no other
+    own = [os.path.join(made, name) for name in ("libruntime.a", "libgates.a", *main)]
     fresh = os.path.join(folder, "program.elf")
     # The script sees the numbers that stand before it.
     words = [binutil("ld"), *WORDS, *numbers_of(options), *START, "-T", runtime.SCRIPT, *options.linker, "-o", fresh]
     ran_linker([*words, os.path.join(made, "crt0.o"), *(path for path in objects if path not in archives),
-                *gates_of(options, folder), "--start-group", *archives, *named, *libraries.archives, *own, "--end-group"], libraries)
+                *gates_of(options, folder), *heap_of(options, folder), names_of(options, folder),
+                "--start-group", *archives, *named, *libraries.archives, *own, "--end-group"], libraries)
     return Elf(fresh, os.path.basename(options.output) if options.output else "the program")

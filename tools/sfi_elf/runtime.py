@@ -19,6 +19,19 @@ MADE_OF = ("asm2elf/*.py", "asm2elf/lib/*.asm", "asm2elf/lib/*.s", "asm2sfi/*.py
            "sfi_cc/compilers.py", "sfi_elf/gates.py", "sfi_elf/libraries.py", "sfi_elf/runtime.py", "sfi_elf/tools.py")
 
 
+# The heap of a library's malloc, which goes before the library's own.
+HEAP = """\
+    .bss
+    .globl __heap
+    .p2align 4
+__heap: .zero {size}
+    .section .rodata
+    .globl __heap_size
+    .p2align 2
+__heap_size: .4byte {size}
+"""
+
+
 def read(path):
     with open(path, encoding="utf-8") as file:
         return file.read()
@@ -43,11 +56,18 @@ def gate_object(folder, name, service, image_format):
     return output
 
 
+def heap_object(folder, size):
+    output = os.path.join(folder, "heap.o")
+    assembled(HEAP.format(size=size).encode(), output)
+    return output
+
+
 def make(folder, image_format):
-    """Fills a folder with crt0.o, libgates.a and libruntime.a."""
+    """Fills a folder with crt0.o, libgates.a, libplugin.a and libruntime.a."""
     object_of(folder, "crt0", os.path.join(LIB, "crt0.s"), image_format)
     archived(os.path.join(folder, "libgates.a"),
              [gate_object(folder, name, service, image_format) for name, service in GATES.items()])
+    archived(os.path.join(folder, "libplugin.a"), [object_of(folder, "plugin", os.path.join(LIB, "plugin.s"), image_format)])
     objects = []
     for path in FUNCTIONS:
         objects.append(object_of(folder, os.path.splitext(os.path.basename(path))[0], path, image_format))

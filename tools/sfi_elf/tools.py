@@ -3,9 +3,11 @@ import os
 import sys
 
 from compilers import TOOLS, ran
+from kept import root
 
 BINUTILS = os.environ.get("SFI_BINUTILS", "riscv64-unknown-elf-")  # what the names of as, ar, ld begin with
-ASM2ELF = os.path.join(TOOLS, "asm2elf")
+# Python keeps what it compiles of the modules, which takes longer than to rewrite a small file.
+ASM2ELF = [sys.executable, f"-EXpycache_prefix={os.path.join(root(), 'python')}", os.path.join(TOOLS, "asm2elf")]
 AS = ["-march=rv32imc", "-mabi=ilp32", "-mno-relax", "-mno-arch-attr"]
 
 
@@ -21,12 +23,12 @@ def assembled(text, output):
 def rewritten(assembly, image_format, passes=None):
     """The GNU assembly of a compiler's."""
     chosen = [] if passes is None else [f"--passes={passes}"]
-    return ran([sys.executable, "-B", ASM2ELF, f"--format={image_format}", *chosen, assembly])[0]
+    return ran([*ASM2ELF, f"--format={image_format}", *chosen, assembly])[0]
 
 
 def rewritten_into(folder, assemblies, image_format):
     """The paths of the GNU assembly of several files, which have names of their own, in a folder."""
-    ran([sys.executable, "-B", ASM2ELF, f"--format={image_format}", f"--into={folder}", *assemblies])
+    ran([*ASM2ELF, f"--format={image_format}", f"--into={folder}", *assemblies])
     return [os.path.join(folder, os.path.basename(path)) for path in assemblies]
 
 

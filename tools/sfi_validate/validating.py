@@ -1,4 +1,20 @@
-"""The differences between a compiler's object file and the rewritten one."""
+"""The differences between a compiler's object file and the rewritten one.
+
+Both codes are cut into stretches from one branch, call or jump by a register to the next, in which each register holds a sum
+of what registers held at the beginning. Each access of one code has to be one of the other, with equal addresses and values, in
+an order that changes nothing; branches compare equal values, and calls and returns find equal registers. What that wants of
+registers at a stretch's beginning has to hold after all stretches before it. So the passes may move, leave out and share what
+they like. A mask is taken to leave an address as it is where this lies no farther from one that the program accesses than the
+room that the linker leaves at the data's ends. Data, addresses in them and symbols have to be the same.
+
+It takes for granted that
+
+- what the passes suppose holds (docs/C.md); the compiler's code leaves gp, tp and the sandbox's own registers alone; a function
+  puts back sp and ra, too, and a caller doesn't read what it may overwrite; accesses lie in objects or the stack, sp in the data
+  region; a jump by a table leads to labels of its section;
+- the two parts of an address that are added up are those of one symbol, with addends in one block of 2048 bytes;
+- `ld` relocates, leaves the room that the file asks for, and puts small objects where the script says.
+"""
 import re
 
 import comparing_data

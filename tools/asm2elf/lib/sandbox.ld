@@ -51,6 +51,9 @@ SECTIONS {
         __init_array_start = .; KEEP(*(SORT_BY_INIT_PRIORITY(.init_array.*))) KEEP(*(.init_array)) __init_array_end = .;
         __fini_array_start = .; KEEP(*(SORT_BY_INIT_PRIORITY(.fini_array.*))) KEEP(*(.fini_array)) __fini_array_end = .;
         *(.data .data.*)
+        /* The table of names, whose last 16 bytes tools/sfi_elf/image.py writes. */
+        __sfi_exports = .; KEEP(*(.sfi.exports)) __sfi_imports = .; KEEP(*(.sfi.imports)) __sfi_names = .;
+        . += __sfi_names > __sfi_exports ? 16 : 0;
     } :data
     .bss : { *(.bss .bss.* COMMON) . = ALIGN(16); __sfi_end = .; } :data
 

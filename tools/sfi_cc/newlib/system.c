@@ -24,9 +24,8 @@ static unsigned used;
 extern int main(int, char **);
 void *__dso_handle; /* what C++ hands to __cxa_atexit beside a destructor: the program, of which there is one */
 
-void _start(void) {
-    static char *none[1];
-    exit(main(0, none));
+void _start(int argc, char **argv) {
+    exit(main(argc, argv));
 }
 
 void _exit(int code) {

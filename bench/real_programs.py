@@ -1,0 +1,139 @@
+#!/usr/bin/env python3
+"""The price of a sandbox to programs that people have: those of examples/c/programs.py with newlib, beside the same C
+without a sandbox.
+
+    bench/real_programs.py [--program PATH] [--format N ..] [--sources FOLDER] [NAME ..]
+
+Without a sandbox, GNU's assembler and linker make the program of the compiler's assembly and of newlib's, and
+interpreter.c runs it, as in compiled.py. In brackets are ratios, and the last row has their geometric means. The answers
+must be equal.
+"""
+import argparse
+import glob
+import os
+import subprocess
+import sys
+import tempfile
+from concurrent.futures import ThreadPoolExecutor
+
+import compiled
+import measure
+from compiled import EXAMPLES, RUNTIME, TOOLS, Count, answer, image, mean, section
+
+sys.path.insert(0, EXAMPLES)
+sys.path.append(os.path.join(compiled.TOP, "tools", "asm2sfi"))  # for its table of gates
+import programs
+from compilers import GCC, compiled as compiled_to
+from kept import kept, root
+from newlib import folder_of
+from runtime import OVERRIDDEN
+
+PRICED = ("lua", "bzip2", "zlib", "cjson")
+AS = ["-march=rv32imc", "-mabi=ilp32"]
+KEPT = ["ra", "sp", *(f"s{number}" for number in range(12))]  # by setjmp: the library's leaves out the sandbox's own registers
+SETJMP = "".join(f"{name}:\n" + "".join(f" {word} {register}, {4 * number}(a0)\n" for number, register in enumerate(KEPT)) + end
+                 for name, word, end in (("setjmp", "sw", " li a0, 0\n ret\n"), ("longjmp", "lw", " seqz a0, a1\n add a0, a0, a1\n ret\n")))
+START = ".globl setjmp, longjmp\n" + SETJMP + compiled.START.replace("start:  call main\n", "start:  addi a1, sp, 4\n sw a1, 0(sp)\n mv a1, sp\n li a0, 1\n call _start\n")
+
+
+def assembled(path, output):
+    subprocess.run([TOOLS + "as", *AS, "-o", output, path], check=True)
+    return output
+
+
+def library():
+    """The path of newlib as an archive without masks, which is kept."""
+    folder = folder_of(GCC)
+
+    def make(room):
+        paths = sorted(glob.glob(os.path.join(folder, "*.asm")))
+        with ThreadPoolExecutor(os.cpu_count()) as pool:
+            objects = list(pool.map(lambda path: assembled(path, os.path.join(room, os.path.basename(path) + ".o")), [*paths, RUNTIME]))
+        subprocess.run([TOOLS + "objcopy", *(f"--weaken-symbol={name}" for name in OVERRIDDEN), objects[-1]], check=True)
+        subprocess.run([TOOLS + "ar", "rcs", os.path.join(room, "library.a"), *objects], check=True)
+
+    return folder, os.path.join(kept("plain", [folder], make), "library.a")
+
+
+def objects_of(name, tree, folder, include):
+    """The objects of a program's files and of its heap."""
+    options = ["-fhosted", "-fbuiltin", "-isystem", include, *programs.options_of(name, tree, folder)]
+
+    def made(job):
+        number, path = job
+        place = os.path.join(folder, f"plain{number}")
+        return assembled(compiled_to(GCC, options, path, place, ())[0], place + ".o")
+
+    heap = os.path.join(folder, "heap.s")
+    size = programs.PROGRAMS[name].heap
+    measure.written(heap, f".globl __heap, __heap_size\n.bss\n.balign 16\n__heap: .zero {size}\n.data\n__heap_size: .4byte {size}\n".encode())
+    with ThreadPoolExecutor(os.cpu_count()) as pool:
+        return [*pool.map(made, enumerate(programs.files_of(name, tree))), assembled(heap, heap + ".o")]
+
+
+def without_sandbox(name, tree, folder, interpreter):
+    """The image of a program that the interpreter alone runs, and the bytes of its code."""
+    library_folder, archive = library()
+    script, start, linked = (os.path.join(folder, file) for file in ("script", "start.s", "plain.elf"))
+    measure.written(script, compiled.SCRIPT.encode())
+    measure.written(start, START.encode())
+    words = [TOOLS + "gcc", *AS, "-nostdlib", "-Wl,--gc-sections", "-T", script, "-o", linked, start]
+    objects = objects_of(name, tree, folder, os.path.join(library_folder, "include"))
+    subprocess.run([*words, *objects, archive], check=True)
+    code = section(linked, ".text", folder)
+    return image(code, section(linked, ".data", folder)), len(code)
+
+
+def measured(name, options, interpreter, folder):
+    """A row for each input: its name, the count without a sandbox, and those of each format."""
+    tree = programs.tree_of(programs.PROGRAMS[name], options, folder)
+    if tree is None:
+        raise SystemExit(f"bench: the sources of {programs.PROGRAMS[name].package} aren't there")
+    plain, size = without_sandbox(name, tree, folder, interpreter)
+    path = measure.written(os.path.join(folder, "plain.image"), plain)
+    made = {image_format: programs.built(name, tree, folder, image_format, options) for image_format in options.format}
+    for given in programs.PROGRAMS[name].inputs.split():
+        content = programs.given_to(given, tree)
+        steps, wanted = answer(measure.run([interpreter, "once", *programs.RUN[2::2], content.hex()], path)[0].strip())
+        row = [f"{name}, {given}", Count(size, steps)]
+        for elf, content_of in made.values():
+            image_path = measure.written(os.path.join(folder, "image"), content_of)
+            steps, found = answer(measure.run([interpreter, "once", *programs.RUN[2::2], content.hex()], image_path)[0].strip())
+            if found != wanted:
+                raise SystemExit(f"bench: {name}, {given}: the answers differ: {wanted[:300]} {found[:300]}")
+            row.append(Count(programs.code_size(elf), steps))
+        yield row
+
+
+def table(rows, formats):
+    print("| program, input | steps without | " + " | ".join(formats) + " | bytes without | " + " | ".join(formats) + " |")
+    print("|---" * (3 + 2 * len(formats)) + "|")
+    for name, plain, *counts in rows:
+        cells = [f"{getattr(plain, field):,}" + "".join(f" | {getattr(it, field) / getattr(plain, field):.3f}" for it in counts)
+                 for field in ("steps", "size")]
+        print(f"| {name} | " + " | ".join(cells) + " |")
+
+
+def main():
+    parser = argparse.ArgumentParser()
+    parser.add_argument("names", nargs="*", default=PRICED)
+    parser.add_argument("--program", default=measure.PROGRAM)
+    parser.add_argument("--format", action="append", choices=programs.FORMATS)
+    parser.add_argument("--sources", default=os.path.join(root(), "sources"))
+    options, options_given = parser.parse_known_args()
+    options.given, options.fetch, options.format = options_given, False, options.format or ["words"]
+    with tempfile.TemporaryDirectory() as folder:
+        interpreter = measure.compiled("interpreter.c", os.path.join(folder, "interpreter"))
+        rows = []
+        for name in options.names:
+            os.mkdir(os.path.join(folder, name))
+            rows += measured(name, options, interpreter, os.path.join(folder, name))
+    table(rows, options.format)
+    for number, image_format in enumerate(options.format):
+        by_program = [mean([row[2 + number].steps / row[1].steps for row in rows if row[0].startswith(name + ",")])
+                      for name in options.names]
+        print(f"geometric mean of programs, steps, format {image_format}: {mean(by_program):.3f}")
+
+
+if __name__ == "__main__":
+    main()

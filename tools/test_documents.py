@@ -1,0 +1,58 @@
+"""Tests of tools/documents.py: README.md and sfi.1 say of the commands what the program says."""
+import unittest
+
+import documents
+
+HELP = r'''pub(crate) const WALK: &str =
+    "Walks \"far\"";
+
+pub(crate) const WALK_NOTES: &str = "\
+Reads a way-mark, and prints
+  a line
+
+Exit status:
+  0  done";
+pub(crate) const FAST: &str = "Runs";
+'''
+ROWS = '''const PLACES: OptionRow = OptionRow {
+    name: "at",
+    takes: Takes::Texts("PLACE"),
+    about: help::FAST,
+};
+const COMMANDS: &[CommandRow] = &[
+    CommandRow {
+        name: "walk",
+        about: help::WALK,
+        notes: help::WALK_NOTES,
+        options: &[PLACES, OptionRow { name: "fast", takes: Takes::Nothing, about: help::FAST }],
+    },
+];
+'''
+
+
+class Documents(unittest.TestCase):
+    def setUp(self):
+        self.found = documents.commands(ROWS, documents.texts(HELP))
+
+    def test_both_say_what_the_program_says(self):
+        for path, text in documents.wanted().items():
+            self.assertEqual(path.read_text(encoding="utf-8"), text, f"{path.name}: tools/documents.py --write")
+
+    def test_all_commands_are_found(self):
+        self.assertLessEqual({"check", "build", "map", "dis", "run", "convert"}, {it.name for it in documents.all_commands()})
+
+    def test_a_table(self):
+        wanted = '| `sfi walk [--at PLACE].. [--fast]` | Walks "far"; `--at`: runs; `--fast`: runs |\n'
+        self.assertTrue(documents.with_table("| command | x |\n|--|--|\n| old | row |\n\nend\n", self.found).endswith(wanted + "\nend\n"))
+
+    def test_a_manual(self):
+        page = documents.with_sections(".SH NAME\nx\n.SH SYNOPSIS\nold\n.SH COMMANDS\nold\n.SH OPTIONS\nold\n.SH FILES\n", self.found)
+        for wanted in (".B sfi walk\n.RB [ \\-\\-at\n.IR PLACE ].\\|.\n.RB [ \\-\\-fast ]\n", "Reads a way\\-mark, and prints\n.nf\na line\n.fi\n",
+                       '.BI \\-\\-at " PLACE"\n.RB ( walk )\nRuns.\n', ".SH FILES\n"):
+            self.assertIn(wanted, page)
+        self.assertNotIn("old", page)
+        self.assertNotIn("Exit status", page)
+
+
+if __name__ == "__main__":
+    unittest.main()
