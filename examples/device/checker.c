@@ -58,21 +58,32 @@ void *memmove(void *to, const void *from, size_t length) {
 
 /* ---- For the loader */
 
-/* Judges the image in pieces of PIECE bytes. */
+/* Feeds the image in pieces of PIECE bytes, until it is refused. Answers how many bytes. */
+static uint32_t feed_pieces(uint32_t stream, const uint8_t *image, uint32_t length) {
+    uint32_t done = 0;
+    while (done < length && !Z_sfiZ_sfi_c_refused(&module, stream)) {
+        uint32_t left = length - done;
+        uint32_t piece = left < PIECE ? left : PIECE;
+        Z_sfiZ_sfi_c_feed(&module, stream, in_module(image + done), piece);
+        between_pieces();
+        done += piece;
+    }
+    return done;
+}
+
 static uint32_t judge_pieces(const uint8_t *image, uint32_t length, struct sfi_verdict *verdict) {
     uint32_t stream = in_module(&checker_memory.stream);
     if (*Z_sfiZ___heap_base(&module) > stream)
         return CHECKER_STOPPED; /* there is no room for it */
     /* Not sfi_c_check, whose code for vectors is five times as long, and slower where there are none. */
     Z_sfiZ_sfi_c_begin(&module, stream);
-    for (uint32_t done = 0; done < length; done += PIECE) {
-        uint32_t left = length - done;
-        Z_sfiZ_sfi_c_feed(&module, stream, in_module(image + done), left < PIECE ? left : PIECE);
-        between_pieces();
-    }
-    uint32_t status = Z_sfiZ_sfi_c_end(&module, stream, in_module(&checker_memory.verdict));
+    uint32_t fed = feed_pieces(stream, image, length);
+    Z_sfiZ_sfi_c_end(&module, stream, in_module(&checker_memory.verdict));
     *verdict = checker_memory.verdict;
-    return status;
+    /* Of a broken rule sfi_c_end tells after the image's last byte alone. */
+    if (fed < length && verdict->layout_fault == SFI_FAULT_SHORT)
+        *verdict = (struct sfi_verdict){.status = SFI_REFUSED};
+    return verdict->status;
 }
 
 uint32_t check_image(const uint8_t *image, uint32_t length, struct sfi_verdict *verdict) {
@@ -87,6 +98,17 @@ uint32_t check_image(const uint8_t *image, uint32_t length, struct sfi_verdict *
     }
     is_judging = false;
     return status;
+}
+
+/* What the module is told, in its own memory. */
+static uint32_t told(struct module_part *place, const struct part *part) {
+    *place = (struct module_part){.code_base = part->code_base, .code_size = part->code_size,
+                                  .data_base = part->data_base, .data_size = part->data_size};
+    return in_module(place);
+}
+
+bool are_apart(const struct part *one, const struct part *other) {
+    return Z_sfiZ_sfi_c_apart(&module, told(&checker_memory.part, one), told(&checker_memory.other_part, other));
 }
 
 static void tell_gates(const uint8_t *image, uint32_t length, uint32_t number, struct part *part) {

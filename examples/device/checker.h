@@ -28,7 +28,7 @@ struct checker_memory {
     uint8_t stack[MODULE_STACK], data[MODULE_DATA];
     struct sfi_stream stream;
     struct sfi_verdict verdict;
-    struct module_part part;
+    struct module_part part, other_part;
     struct sfi_gate gates[MODULE_GATES];
 };
 extern struct checker_memory checker_memory;

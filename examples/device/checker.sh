@@ -63,7 +63,7 @@ warned=(-Wall -Wextra -Wconversion -Wshadow -Wmissing-prototypes -Werror -I"$her
 "$riscv" "${flags[@]}" -w -I"$here" -include reach.h -c -o sfi_wasm.o sfi_wasm.c
 "$riscv" "${flags[@]}" "${warned[@]}" -c -o judge.o "$here/checker.c"
 "$riscv" "${flags[@]}" "${warned[@]}" -c -o measure.o "$here/measure.c"
-"$riscv" "${machine[@]}" -nostdlib -r -Wl,--gc-sections,-echeck_image,-utell_part -o checker.o judge.o sfi_wasm.o -lgcc
+"$riscv" "${machine[@]}" -nostdlib -r -Wl,--gc-sections,-echeck_image,-utell_part,-uare_apart -o checker.o judge.o sfi_wasm.o -lgcc
 riscv64-unknown-elf-objcopy --redefine-sym check_image=checker_check_image \
     --redefine-sym tell_part=checker_tell_part checker.o renamed.o
 "$riscv" "${machine[@]}" -nostdlib -r -o measured.o measure.o renamed.o

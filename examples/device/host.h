@@ -82,7 +82,8 @@ void *memset(void *to, int byte, size_t length);
 void *memcpy(void *restrict to, const void *restrict from, size_t length);
 
 /* checker.c: writes the verdict on the image and answers its status, or CHECKER_STOPPED. The image is judged
-   in pieces, and after each one between_pieces is called. unchecked.c: answers SFI_ACCEPTED */
+   in pieces, and after each one between_pieces is called. After the first in which a rule is broken it stops: then
+   the verdict has no findings, unless it was the last. unchecked.c: answers SFI_ACCEPTED */
 enum { CHECKER_STOPPED = SFI_NO_IMAGE + 1 };    /* in the middle: there is no verdict, and no image to run */
 uint32_t check_image(const uint8_t *image, uint32_t length, struct sfi_verdict *verdict);
 /* main.c: a vendor feeds the watchdog here. A sandbox that is no part of the image may have a turn */
@@ -90,6 +91,8 @@ void between_pieces(void);
 /* checker.c: the checker tells the image's sandbox of that number. unchecked.c: reads it. Both answer
    whether there is one */
 bool tell_part(const uint8_t *image, uint32_t length, uint32_t number, struct part *part);
+/* checker.c: no region and no guard zone of one of them meets one of the other */
+bool are_apart(const struct part *one, const struct part *other);
 
 /* image.c */
 uint32_t little_endian(const uint8_t *bytes);

@@ -24,7 +24,10 @@ void print_verdict(uint32_t status, const struct sfi_verdict *verdict) {
         print("accepted");
         break;
     case SFI_REFUSED:
-        print("refused findings=");
+        print("refused");
+        if (verdict->findings == 0)
+            break; /* before the whole image was read: nobody has counted them */
+        print(" findings=");
         print_decimal(verdict->findings);
         print(" first=");
         print_finding(&verdict->first);

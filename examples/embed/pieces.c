@@ -25,6 +25,8 @@ static struct sfi_verdict asked(const struct sfi_stream *stream, const uint8_t *
     expect(sfi_c_check(bytes, length, &whole) == status, "status of pieces", length);
     expect(!memcmp(verdict + 1, &whole, sizeof whole), "verdict on pieces", length);
     expect(is_marked(verdict, sizeof *verdict) && is_marked(verdict + 2, sizeof *verdict), "written around the verdict", length);
+    if (status != SFI_NO_IMAGE || verdict[1].layout_fault != SFI_FAULT_SHORT)
+        expect(sfi_c_refused(stream) == (status != SFI_ACCEPTED), "whether pieces are refused", length);
     return verdict[1];
 }
 
@@ -35,12 +37,16 @@ static struct sfi_verdict verdict_by(size_t size, const uint8_t *bytes, size_t l
     sfi_c_begin(stream + 1);
     feed(stream + 1, bytes, 0);
     struct sfi_verdict verdict = asked(stream + 1, bytes, 0);
+    bool was_refused = false;
     for (size_t at = 0; at < length;) {
         size_t piece = length - at < size ? length - at : size;
         feed(stream + 1, bytes + at, piece);
         at += piece;
         verdict = asked(stream + 1, bytes, at);
+        expect(sfi_c_refused(stream + 1) || !was_refused, "refused pieces, and more", at);
+        was_refused = sfi_c_refused(stream + 1);
     }
+    expect(!was_refused || verdict.status != SFI_ACCEPTED, "accepted pieces", size);
     expect(is_marked(stream, sizeof *stream) && is_marked(stream + 2, sizeof *stream), "written around the stream", length);
     return verdict;
 }

@@ -192,6 +192,8 @@ succeeds edges.c gcc -std=c11 "${warnings[@]}" "$here/edges.c" "$library" -o "$r
 run_verdicts edges
 succeeds pieces.c gcc -std=c11 "${warnings[@]}" "$here/pieces.c" "$library" -o "$room/pieces"
 run_verdicts pieces
+succeeds apart.c gcc -std=c11 "${warnings[@]}" "$here/apart.c" "$library" -o "$room/apart"
+report "apart.c" "status 0" "$("$room/apart"; echo "status $?")"
 
 # ---- beside the library that loads
 runtime=${runtime:-$top/crates/sfi_run/out/libsfi_run.a}

@@ -21,10 +21,16 @@ static bool is_event(struct sfi_run_world *world, uint32_t kind, uint32_t number
            event.a1 == a1;
 }
 
+/* Whether the event of a call has what the registers have. */
+static bool has_registers(struct sfi_run_world *world, const struct sfi_run_event *event) {
+    struct sfi_run_registers at;
+    return sfi_run_registers(world, 0, &at) && event->pc == at.pc && !memcmp(&event->a0, at.x + 10, 8 * sizeof *at.x);
+}
+
 static void no_world(void) {
     static const uint32_t arguments[8];
     struct sfi_run_world world = SFI_RUN_NO_WORLD;
-    struct sfi_run_event event = {9, 9, 9, 9};
+    struct sfi_run_event event = {9, 9, 9, 9, 9, 9, 9, 9, 9, 9, 9, 9};
     uint8_t byte = 7;
     sfi_run_free(&world);
     sfi_run_free(&world);
@@ -32,6 +38,7 @@ static void no_world(void) {
     wanted(sfi_run_turn(&world, 0, 1, &event) == SFI_RUN_NONE && is_event(&world, SFI_RUN_NONE, 0, 0, 0), "nor an event");
     event.kind = event.a1 = 9;
     wanted(!sfi_run_call(&world, 0, 0, arguments, 1, &event) && event.kind == SFI_RUN_NONE && event.a1 == 0, "nor a function");
+    wanted(sfi_run_until(&world, 0, arguments, 1, 1, &event) == SFI_RUN_NONE, "nor a turn up to a stop");
     wanted(!sfi_run_stop(&world, 0) && !sfi_run_enter(&world, 0, 0, arguments) && !sfi_run_reply(&world, 0, 1, 1) &&
                !sfi_run_read(&world, 0, 0, 0, &byte, 1) && !sfi_run_write(&world, 0, 0, &byte, 0),
            "each call says so");
@@ -76,17 +83,69 @@ static void stops(struct sfi_run_world *world) {
 }
 
 static void functions(struct sfi_run_world *world) {
-    const uint32_t arguments[8] = {2, 3};
-    struct sfi_run_event event = {9, 9, 9, 9};
+    const uint32_t arguments[8] = {2, 3, 4, 5, 6, 7, 8, 9};
+    struct sfi_run_event event = {9, 9, 9, 9, 9, 9, 9, 9, 9, 9, 9, 9};
     wanted(sfi_run_call(world, 0, sum, arguments, 1000, &event) && event.kind == SFI_RUN_CALL && event.number == 0 &&
                event.a0 == 5 && event.a1 == 2 && is_event(world, SFI_RUN_CALL, 0, 5, 2),
            "a function returns its result and a second word");
+    wanted(event.a2 == 4 && event.a7 == 9 && event.gate == 1 && has_registers(world, &event), "a call tells all its words");
     wanted(!sfi_run_call(world, 0, sum, arguments, 1000, &event) && is_event(world, event.kind, 0, 5, 2), "it is called once");
     wanted(sfi_run_exit(world, 0, event.a0) && is_event(world, SFI_RUN_EXITED, 5, 0, 0), "it ends by exit");
     wanted(!sfi_run_call(world, 0, sum + 1, arguments, 1000, &event) && event.kind == SFI_RUN_EXITED && event.number == 5,
            "none begins within a word");
     wanted(sfi_run_call(world, 0, sum, arguments, 1, &event) && event.kind == SFI_RUN_READY && sfi_run_stop(world, 0),
            "it has the steps that it is given");
+}
+
+static void stops_at(struct sfi_run_world *world) {
+    const uint32_t arguments[8] = {2, 3};
+    struct sfi_run_event event;
+    uint64_t steps = sfi_run_steps(world, 0);
+    wanted(sfi_run_enter(world, 0, sum, arguments) && sfi_run_until(world, 0, &sum, 1, 1, &event) == SFI_RUN_READY && event.pc != sum,
+           "a turn makes a step from a stop");
+    const uint32_t stops[] = {0, event.pc, UINT32_MAX};
+    wanted(sfi_run_stop(world, 0) && sfi_run_enter(world, 0, sum, arguments) &&
+               sfi_run_until(world, 0, stops, 3, 1000, &event) == SFI_RUN_READY && event.pc == stops[1] &&
+               sfi_run_steps(world, 0) == steps + 2,
+           "and ends at the next one");
+    wanted(sfi_run_until(world, 0, stops, 3, 1000, &event) == SFI_RUN_CALL && event.a0 == 5, "it goes on from there to its call");
+    wanted(sfi_run_until(world, 0, stops, 0, 1000, &event) == SFI_RUN_CALL, "and no further");
+}
+
+/* Calls a function of a sandbox that stands at a call, on what is left of its stack, and leaves it at that call. */
+static uint32_t called_inside(struct sfi_run_world *world, uint32_t pc, const uint32_t arguments[8]) {
+    struct sfi_run_registers kept, entered;
+    struct sfi_run_event event;
+    wanted(sfi_run_registers(world, 0, &kept) && sfi_run_stop(world, 0) && sfi_run_enter(world, 0, pc, arguments) &&
+               sfi_run_registers(world, 0, &entered),
+           "a function is entered while a call waits");
+    entered.x[2] = kept.x[2];
+    wanted(sfi_run_set_registers(world, 0, &entered) && sfi_run_turn(world, 0, 1000, &event) == SFI_RUN_CALL && event.number == 0 &&
+               sfi_run_registers(world, 0, &entered) && entered.x[2] == kept.x[2],
+           "it returns, with the stack as it was");
+    wanted(sfi_run_exit(world, 0, event.a0) && sfi_run_set_registers(world, 0, &kept), "the call that waited is there again");
+    return event.a0;
+}
+
+static void has_set(struct sfi_run_world *world) {
+    const uint32_t arguments[8] = {2, 3};
+    struct sfi_run_registers at, other;
+    struct sfi_run_event event;
+    wanted(sfi_run_registers(world, 0, &at) && at.x[10] == 5, "it stands at its call");
+    at.x[10] = 7;
+    wanted(sfi_run_set_registers(world, 0, &at) && is_event(world, SFI_RUN_CALL, 0, 7, 2), "a0 is set");
+    for (int number = 24; number < 28; number++) {
+        other = at;
+        other.x[number]++;
+        wanted(!sfi_run_set_registers(world, 0, &other) && is_event(world, SFI_RUN_CALL, 0, 7, 2), "a reserved register isn't");
+    }
+    other = at;
+    other.pc += 2;
+    wanted(!sfi_run_set_registers(world, 0, &other), "nor is a pc at which nothing begins");
+    at.x[2] -= 64;
+    wanted(sfi_run_set_registers(world, 0, &at) && called_inside(world, sum, arguments) == 5 && is_event(world, SFI_RUN_CALL, 0, 7, 2) &&
+               sfi_run_exit(world, 0, 7) && sfi_run_event(world, 0, &event) == SFI_RUN_EXITED,
+           "a function is called while a call waits, which is replied to then");
 }
 
 int main(int count, char **words) {
@@ -98,6 +157,8 @@ int main(int count, char **words) {
     reads(&world);
     stops(&world);
     functions(&world);
+    stops_at(&world);
+    has_set(&world);
     wanted(!sfi_run_stop(&world, 1) && !sfi_run_stop(&world, UINT32_MAX), "who isn't there isn't stopped");
     sfi_run_free(&world);
     sfi_run_free(&world);

@@ -23,7 +23,7 @@ succeeds "the libraries are linked" "$top/tools/libraries.py" sfi_run "$library"
 
 # ---- the hosts: a command line for each example of each language
 declare -A hosts=()
-examples=(console function messages words)
+examples=(add console function messages words)
 warnings=(-O2 -Wall -Wextra -pedantic -Werror -I"$top/crates/sfi_run/include" -I"$top/crates/sfi_c/include")
 
 build_c() {
@@ -173,9 +173,16 @@ status 0" "$room/words.image" "a plug-in of mine" x
 
 # The plug-in in C, where a compiler is there: another compiler makes other code, which does the same.
 compiled_anew() {
-    has riscv64-unknown-elf-gcc || { skip 1 "words_plugin.c" "gcc for RISC-V isn't there" && return; }
+    has riscv64-unknown-elf-gcc || { skip 4 "words_plugin.c, and a function by its name" "gcc for RISC-V isn't there" && return; }
     "$top/tools/sfi-cc" --program "$SFI" -Wall -Werror --gate price=2 "$here/words_plugin.c" 2>"$room/log" | xxd -r -p >"$room/anew.image"
     report "words_plugin.c is compiled" "Two Words 28" "$("$room/words" "$room/anew.image" "two words" 2>&1 | head -n 1)"
+    printf 'int add(int a, int b) { return a + b; }\n' >"$room/add.c"
+    local format
+    for format in $formats; do
+        "$top/tools/sfi-cc" --program "$SFI" --format "$format" --export add "$room/add.c" -o "$room/add.image" 2>"$room/log"
+        says "a function by its name, format $format" add "5
+status 0" "$room/add.image"
+    done
 }
 
 steps_of() { # a sandbox of squares.s, and how many turns of 100 steps each gets: a number comes back in the next one

@@ -1,7 +1,10 @@
 /* The host of `sfi run` (docs/GATES.md), its options and its lines, for a translated image.
 
-       gcc -O2 -I crates/sfi_translate/include -DSFI_TEXT='"IMAGE.inc"' examples/translate/sfi_console.c -o image &&
-       ./image --rounds N --quantum Q --input HEX */
+       sfi translate < IMAGE.hex > image.c &&
+       gcc -O2 -I crates/sfi_translate/include -I . -DSFI_TEXT='"image.c"' examples/translate/sfi_console.c -o image &&
+       ./image --rounds N --quantum Q --input HEX
+
+   `sfi translate --whole` prints both in one, made by tools/whole_translation.py. */
 #include <stdio.h>
 #include <stdlib.h>
 #include "sfi_native.h"
@@ -118,7 +121,7 @@ static void begin(sfi_u32 number) {
     c->hart.data = calloc(1, s->data_size);
     c->output = malloc(OUTPUT_MOST);
     if (c->hart.data == NULL || c->output == NULL)
-        exit(3);
+        exit(4);
     memcpy(c->hart.data, s->first_data, s->init);
     sfi_u32 *const x = c->hart.x;
     c->hart.pc = s->start;
@@ -133,31 +136,54 @@ static void begin(sfi_u32 number) {
     }
 }
 
+static void usage(void) {
+    fprintf(stderr, "options: --rounds N (1 to 10000), --quantum Q (1 to 1000000), --input HEX\n");
+    exit(3);
+}
+
+/* The number that the digits spell, from 1 to `most`. */
+static sfi_u32 number_of(const char *digits, unsigned long most) {
+    char *end;
+    const unsigned long number = strtoul(digits, &end, 10);
+    if (*digits < '0' || *digits > '9' || *end != 0 || number < 1 || number > most)
+        usage();
+    return (sfi_u32)number;
+}
+
 static void read_input(const char *digits) {
+    const size_t count = strlen(digits);
     unsigned byte;
-    input = malloc(strlen(digits) / 2 + 1);
+    if (count % 2 != 0 || strspn(digits, "0123456789abcdefABCDEF") != count) {
+        fprintf(stderr, "--input takes pairs of hexadecimal digits\n");
+        exit(2);
+    }
+    input = malloc(count / 2 + 1);
     if (input == NULL)
-        exit(3);
+        exit(4);
     for (; sscanf(digits, "%2x", &byte) == 1; digits += 2)
         input[input_size++] = (uint8_t)byte;
 }
 
 int main(int count, char **words) {
-    unsigned long rounds = 1, quantum = 1000;
-    for (int k = 1; k + 1 < count; k += 2) {
+    sfi_u32 rounds = 1, quantum = 1000;
+    for (int k = 1; k < count; k += 2) {
+        if (k + 1 == count)
+            usage();
         if (strcmp(words[k], "--rounds") == 0)
-            rounds = strtoul(words[k + 1], NULL, 10);
+            rounds = number_of(words[k + 1], 10000);
         else if (strcmp(words[k], "--quantum") == 0)
-            quantum = strtoul(words[k + 1], NULL, 10);
+            quantum = number_of(words[k + 1], 1000000);
         else if (strcmp(words[k], "--input") == 0)
             read_input(words[k + 1]);
+        else
+            usage();
     }
     for (sfi_u32 number = 0; number < SFI_SANDBOXES; number++)
         begin(number);
     for (; rounds; rounds--)
         for (sfi_u32 number = 0; number < SFI_SANDBOXES; number++)
             if (consoles[number].is_ready)
-                take_turn(number, (sfi_u32)quantum);
+                take_turn(number, quantum);
     for (sfi_u32 number = 0; number < SFI_SANDBOXES; number++) {
         const struct console *c = &consoles[number];
         printf("sandbox=%u %s steps=%llu out=", (unsigned)number, c->state, (unsigned long long)c->steps);

@@ -1,6 +1,7 @@
 #!/usr/bin/env python3
-"""Translates images to C, and compares what the C programs print with what `sfi run` does, traps and steps included: the
-examples in each format, straight code, and random accepted images, in turns of several lengths, by gcc and by clang.
+"""Translates images to C, and compares the text with what another maker makes of the listing, and what the C programs print
+with what `sfi run` does, traps and steps included: the examples in each format, straight code, and random accepted images, in
+turns of several lengths, for a host and as whole programs, by gcc and by clang.
 
     examples/translate/test.py [--program SFI] [--images N] [--seed SEED]
 """
@@ -16,15 +17,19 @@ import tempfile
 sys.dont_write_bytecode = True
 HERE = os.path.dirname(os.path.abspath(__file__))
 TOP = os.path.dirname(os.path.dirname(HERE))
-sys.path[:0] = [os.path.join(TOP, "fuzz"), os.path.join(TOP, "bench")]
+sys.path[:0] = [os.path.join(TOP, "fuzz"), os.path.join(TOP, "bench"), os.path.join(TOP, "tools")]
 
 import corpus
 import lines
 import measure
+import whole_translation
 
 INCLUDE = os.path.join(TOP, "crates/sfi_translate/include")
 COMPILERS = (("gcc", "-O2"), ("clang", "-O1"))
 TURNS = (("2", "2000"), ("50", "13"), ("1", "64"), ("1", "128"))
+REFUSED = [(3, "--rounds"), (3, "--rounds", "0"), (3, "--rounds", "10001"), (3, "--quantum", "1000001"), (3, "--quantum", "x"),
+           (3, "--other", "1"), (2, "--input", "486"), (2, "--input", "4g")]
+INCLUDE_LINE = '#include "sfi_native.h"\n'
 INPUT = "00ff10203040506070809a0b0c0d0e0f11"
 
 
@@ -34,25 +39,52 @@ def straight():
     return b"SFI1" + struct.pack("<8I", *fields) + b"\x01\x00" * 128 + b"\x02\x90" * 128  # c.nop, c.ebreak
 
 
-def compiled(compiler, folder, text):
-    """The path of the C program of a translation."""
-    path, program = os.path.join(folder, "image.inc"), os.path.join(folder, "image")
+def written(folder, text):
+    """The path of a file with the text."""
+    path = os.path.join(folder, "image.c")
     with open(path, "w", encoding="ascii") as file:
         file.write(text)
-    subprocess.run([*compiler, "-std=c99", "-Wall", "-Wextra", "-Werror", "-I", INCLUDE, f'-DSFI_TEXT="{path}"',
-                    os.path.join(HERE, "sfi_console.c"), "-o", program], check=True)
+    return path
+
+
+def compiled(compiler, folder, *sources):
+    """The path of the C program of these sources."""
+    program = os.path.join(folder, "image")
+    subprocess.run([*compiler, "-std=c99", "-Wall", "-Wextra", "-Werror", *sources, "-o", program], check=True)
     return program
 
 
+def programs(sfi, compiler, folder, digits):
+    """The C programs of an image: by the console beside the translation, and the whole one."""
+    text = printed([sfi, "translate"], digits.encode()).decode()
+    path = written(folder, text)
+    yield compiled(compiler, folder, "-I", INCLUDE, f'-DSFI_TEXT="{path}"', os.path.join(HERE, "sfi_console.c"))
+    yield compiled(compiler, folder, written(folder, printed([sfi, "translate", "--whole"], digits.encode()).decode()))
+
+
+def printed(words, text=b""):
+    return subprocess.run(words, input=text, stdout=subprocess.PIPE).stdout
+
+
 def differing(sfi, compiler, folder, image):
-    """Of each kind of turns its options, what `sfi run` prints, and what the C program does."""
+    """Of each program and each kind of turns the options, what `sfi run` prints, and what the C program does."""
     digits = image.hex()
-    program = compiled(compiler, folder, lines.translation(sfi, digits))
-    for rounds, quantum in TURNS:
-        options = ["--rounds", rounds, "--quantum", quantum, "--input", INPUT]
-        wanted = subprocess.run([sfi, "run", *options], input=digits.encode(), stdout=subprocess.PIPE).stdout
-        found = subprocess.run([program, *options], stdout=subprocess.PIPE).stdout
-        yield options, wanted, found
+    for program in programs(sfi, compiler, folder, digits):
+        for rounds, quantum in TURNS:
+            options = ["--rounds", rounds, "--quantum", quantum, "--input", INPUT]
+            yield options, printed([sfi, "run", *options], digits.encode()), printed([program, *options])
+
+
+def statuses(program):
+    """Options that `sfi run` refuses: with what status, and with what the C program does."""
+    for status, *options in REFUSED:
+        yield options, status, subprocess.run([program, *options], stdout=subprocess.DEVNULL, stderr=subprocess.DEVNULL).returncode
+
+
+def is_as_listed(sfi, image):
+    """Whether the translation is what `sfi dis` lists, as another maker translates it."""
+    digits = image.hex()
+    return printed([sfi, "translate"], digits.encode()).decode() == INCLUDE_LINE + lines.translation(sfi, digits)
 
 
 def main():
@@ -62,22 +94,29 @@ def main():
     parser.add_argument("--seed", type=int, default=0, help="of the random images (0)")
     given = parser.parse_args()
     pick = random.Random(given.seed)
-    passed = failed = skipped = 0
+    skipped = 0
+    tried = [("the front of whole programs is the header and the console", whole_translation.is_made())]
     images = [straight()] + corpus.examples(given.program) + [corpus.small_accepted(pick) for _ in range(given.images)]
     compilers = [it for it in COMPILERS if shutil.which(it[0])]
     for name, _ in COMPILERS:
         if not shutil.which(name):
             print(f"skipped: the translations by {name}: {name} isn't there")
             skipped += 1
+    tried += [(f"image {number} as its listing says: {image.hex()[:80]}..", is_as_listed(given.program, image))
+              for number, image in enumerate(images)]
     with tempfile.TemporaryDirectory() as folder:
         for number, image in enumerate(images if compilers else []):
             compiler = compilers[number % len(compilers)]
             for options, wanted, found in differing(given.program, compiler, folder, image):
-                passed += wanted == found
-                failed += wanted != found
-                if wanted != found:
-                    print(f"FAILED image {number}, {' '.join(compiler + tuple(options))}: {image.hex()[:80]}..\n"
-                          f"  wanted {wanted[:200]}\n  found  {found[:200]}")
+                tried.append((f"image {number}, {' '.join(compiler + tuple(options))}: {image.hex()[:80]}..\n"
+                              f"  wanted {wanted[:200]}\n  found  {found[:200]}", wanted == found))
+        for program in programs(given.program, compilers[0], folder, images[0].hex()) if compilers else []:
+            tried += [(f"the options {options}: status {found}, not {wanted}", wanted == found) for options, wanted, found in statuses(program)]
+    for what, is_right in tried:
+        if not is_right:
+            print(f"FAILED {what}")
+    failed = sum(not is_right for _, is_right in tried)
+    passed = len(tried) - failed
     print(f"{passed} passed, {failed} failed" + (f", {skipped} skipped" if skipped else ""))
     return 1 if failed else 0
 

@@ -74,6 +74,8 @@ try_libraries() { # format
     fi
     elf_of "library.$1.elf" "$1" --library "$room/library" elf/calls_twice.c
     report "a folder of assembly, format $1" "sandbox=0 exit=42 out=" "$(line_of "$room/library.$1.elf")"
+    elf_of "heap.$1.elf" "$1" --heap 1000 elf/heap.c
+    report "a heap, and main's arguments, format $1" "sandbox=0 exit=1000 out=" "$(line_of "$room/heap.$1.elf")"
 }
 
 # A loop around a body of so many accesses, which its branch reaches, just not any more, or where `as` may think so.

@@ -16,5 +16,5 @@ int main(int argc, char **argv) {
     if (first == 'e')
         leave(EXIT_FAILURE);
     assert(first != 'a');
-    return argv && argv[argc] == NULL ? 5 : 6;
+    return argc == 1 && argv[0] && argv[1] == NULL ? 5 : 6;
 }

@@ -1,11 +1,15 @@
 #!/usr/bin/env python3
-"""GCC's torture tests (gcc.c-torture/execute) in sandboxes: what each does, beside what it does natively.
+"""GCC's torture tests (gcc.c-torture/execute), or programs by csmith, in sandboxes: what each does, beside what it does natively.
 
     examples/c/torture/torture.py [OPTIONS] [NAME ..]
 
 Each test is compiled twice by one compiler: for qemu-riscv32 with picolibc, and by the way of sfi-cc. Where the first exits
 with 0, the second has to, and to print the same. A fixed sample runs, each test in another of the ways, if no names and
-no --all are given. The last line is `N passed, M failed[, K skipped]`; a line `skipped: WHAT: WHY` tells each that can't pass.
+no --all are given, and so do the programs of --csmith. The last line is `N passed, M failed[, K skipped]`; a line `skipped: WHAT: WHY` tells each that can't pass.
+
+Of --all with --library newlib all passed in the second format (2026-11-26, by a converter of whole programs) but pr60822, whose
+data exceed 1 MiB (so 1,577 of 1,578 by gcc -O2), by clang pr79286, which reads an unset variable, and of --ieee cdivchkld, which
+wants what newlib hasn't.
 """
 import argparse
 import glob
@@ -38,8 +42,10 @@ COMPILERS = {"gcc": GCC, "clang": "clang"}
 LEVELS = ("-O0", "-O1", "-O2", "-O3", "-Os")
 FORMATS = ("1", "2", "words")
 TOOLS = os.path.join(TOP, "tools")
-PACKAGES = {GCC: "gcc-riscv64-unknown-elf", "clang": "clang", "llc": "llvm", QEMU: "qemu-user"}
+PACKAGES = {GCC: "gcc-riscv64-unknown-elf", "clang": "clang", "llc": "llvm", QEMU: "qemu-user", "csmith": "csmith libcsmith-dev"}
 SAMPLE, SEED = 120, 1
+CSMITH = ["csmith", "--max-funcs", "4", "--max-block-depth", "3"]  # some 20 KB of C each
+CSMITH_HEADERS = "/usr/include/csmith"
 STACKS = (540000, 65536)  # the second where the data leave no room for the first
 HEAP = 300000
 MEMORY, SECONDS = 3 << 30, 300  # what a conversion may take
@@ -79,7 +85,7 @@ class Room:
         """The level, and what the test itself asks for."""
         with open(self.source(case), encoding="latin-1") as file:
             asked = [words for words, target in DIRECTIVE.findall(file.read()) if not target]
-        return [case.level, *(word for words in asked for word in words.split())]
+        return [case.level, "-I", CSMITH_HEADERS, "-idirafter", self.tests, *(word for words in asked for word in words.split())]
 
 
 def natively(room, case, place):
@@ -107,8 +113,8 @@ def linked(room, case, program):
     """Makes the program's ELF file, and answers why there is none."""
     library = room.libraries[case.compiler]
     given = [*QUIET[:1 + (case.compiler == "clang")], *room.hosted, *room.options(case)]
-    words = [f"{TOOLS}/sfi-cc", "--cc", COMPILERS[case.compiler], "--format", case.image_format, "--library", library, *given,
-             "-o", program, room.source(case)]
+    words = [f"{TOOLS}/sfi-cc", "--cc", COMPILERS[case.compiler], "--format", case.image_format, "--library", library, "--heap",
+             str(HEAP), *given, "-o", program, room.source(case)]
     for stack in STACKS:
         try:
             done = subprocess.run([*words, "--stack", str(stack)], capture_output=True, check=False, timeout=SECONDS,
@@ -169,8 +175,22 @@ def small_library(compiler):
     return kept("library", [version(compiler), str(HEAP), str(RESERVED_IN_WORDS), *texts], make)
 
 
+def generated(options, folder):
+    """The folder of csmith's programs, which include math.h and call nothing of it."""
+    tests = os.path.join(folder, "tests")
+    os.mkdir(tests)
+    with open(os.path.join(tests, "math.h"), "w", encoding="utf-8"):
+        pass
+    for seed in range(options.seed, options.seed + options.csmith):
+        subprocess.run([*CSMITH, "--seed", str(seed), "--output", f"csmith{seed:06}.c"], cwd=tests, check=True)
+    return tests
+
+
 def room_of(options, folder):
-    tests = os.path.join(unpacked(GCC_SOURCE, TESTS), TESTS, "ieee" if options.ieee else "")
+    if options.csmith:
+        tests = generated(options, folder)
+    else:
+        tests = os.path.join(unpacked(GCC_SOURCE, TESTS), TESTS, "ieee" if options.ieee else "")
     ran([GCC, *MACHINE, "-O2", "-isystem", f"{PICOLIBC}/include", "-c", "-o", os.path.join(folder, "start.o"),
          os.path.join(HERE, "start.c")])
     libraries = {}
@@ -181,10 +201,8 @@ def room_of(options, folder):
 
 
 def hosted(library):
-    """The options of a hosted C with a library, as sfi-cc has them; of the small one if none is named."""
-    if library:
-        return ["-fhosted", "-fbuiltin", "-isystem", os.path.join(library, "include")]
-    return ["-fhosted", "-isystem", os.path.join(EXAMPLES, "include")]
+    """The options of a hosted C, which sfi-cc has by itself where a library is named."""
+    return [] if library else ["-fhosted", "-isystem", os.path.join(EXAMPLES, "include")]
 
 
 def cases_of(options, room):
@@ -194,8 +212,9 @@ def cases_of(options, room):
             for compiler in options.compiler]
     if options.names or options.all or options.ieee:
         return [Case(name, *way) for name in options.names or names for way in ways]
-    random.Random(SEED).shuffle(names)
-    return [Case(name, *ways[number % len(ways)]) for number, name in enumerate(names[:SAMPLE])]
+    if not options.csmith:
+        random.Random(SEED).shuffle(names)
+    return [Case(name, *ways[number % len(ways)]) for number, name in enumerate(names[:options.csmith or SAMPLE])]
 
 
 def parsed(words):
@@ -203,10 +222,12 @@ def parsed(words):
     parser.add_argument("names", nargs="*", metavar="NAME", help="tests that run in each way, in place of the sample")
     parser.add_argument("--all", action="store_true", help="all tests in each way")
     parser.add_argument("--ieee", action="store_true", help="the tests of the folder ieee, all in each way")
+    parser.add_argument("--csmith", type=int, default=0, metavar="COUNT", help="so many programs by csmith in place of the tests")
+    parser.add_argument("--seed", type=int, default=SEED, help="the first one's seed; %(default)s if absent")
     parser.add_argument("--compiler", action="append", choices=COMPILERS, help="gcc and clang if absent")
     parser.add_argument("--level", action="append", choices=LEVELS, help="such as --level=-O2; all if absent")
     parser.add_argument("--format", action="append", choices=FORMATS, help="all if absent")
-    parser.add_argument("--library", metavar="FOLDER", help="a C library of tools/sfi-library in place of the small one")
+    parser.add_argument("--library", metavar="NAME", help="sfi-cc's library of this name in place of the small one")
     parser.add_argument("--jobs", type=int, default=2, help="how many run side by side; 2 if absent")
     parser.add_argument("--program", default=os.path.join(TOP, "sfi"), help="the program sfi; ./sfi at the top if absent")
     options = parser.parse_args(words)
@@ -218,12 +239,12 @@ def parsed(words):
 
 def missing(options):
     """What isn't there that all tests need: a line that names the package."""
-    for command in (GCC, QEMU):
+    for command in (GCC, QEMU, *(["csmith"] if options.csmith else [])):
         if not shutil.which(command):
             return f"{command} isn't there (Debian's package {PACKAGES[command]})"
     if not os.path.isdir(PICOLIBC):
         return "picolibc isn't there (Debian's package picolibc-riscv64-unknown-elf)"
-    if not GCC_SOURCE.where():
+    if not options.csmith and not GCC_SOURCE.where():
         return f"GCC's sources aren't there: {GCC_SOURCE.wanted()}"
     if not os.access(options.program, os.X_OK):
         return f"{options.program} isn't built"
@@ -233,9 +254,9 @@ def missing(options):
 def expected(case, said, library):
     """Why a test can't pass; nothing if it should."""
     if case.name in WANT_LIBRARY and not library:
-        return "it wants the whole C library (--library FOLDER)"
+        return "it wants the whole C library (--library newlib)"
     if case.compiler == "clang" and case.name in WANT_BUILTINS and not library:
-        return "it wants functions that clang knows, as with the whole C library (--library FOLDER)"
+        return "it wants functions that clang knows, as with the whole C library (--library newlib)"
     if (case.compiler, case.name) in UNDEFINED:
         return UNDEFINED[case.compiler, case.name]
     return CANNOT_PASS.get(case.name) if said.startswith("refused: ") else None

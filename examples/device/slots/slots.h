@@ -13,9 +13,6 @@ enum {
     PLACED_AT_ONCE = 4096       /* bytes of code that are copied before the neighbours have a turn */
 };
 
-/* apart.c: no region and no guard zone of one of them meets one of the other */
-bool are_apart(const struct part *one, const struct part *other);
-
 struct version {
     uint32_t number;            /* counted from 1 in each slot; 0 where there is none that can be started */
     struct part part;

@@ -3,7 +3,6 @@ import os
 import queue
 import random
 import re
-import subprocess
 import sys
 import tempfile
 import unittest
@@ -137,18 +136,10 @@ class Slots(OnDevice):
     def pieces(self):
         return int(re.search(r"between-pieces=(\d+) ", self.device.ask("watchdog"))[1])
 
-    def test_apart(self):
-        program = os.path.join(ROOM.name, "apart")
-        subprocess.run([os.environ.get("CC", "cc"), "-std=c11", "-DMICROCONTROLLER", f"-I{HERE.parent}/mcu/chips/virt",
-                        f"-I{device.TOP}/crates/sfi_c/include", "-o", program, HERE / "test_apart.c",
-                        HERE / "apart.c"], check=True)
-        done = subprocess.run([program], stdout=subprocess.PIPE, check=False)
-        self.assertEqual((done.returncode, done.stdout), (0, b""))
-
 
 class OnSifive(Slots):
     chip = "sifive_u"
-    test_older_version = test_updates_on_trial = test_places = test_watchdog = test_apart = None
+    test_older_version = test_updates_on_trial = test_places = test_watchdog = None
 
 
 class OnSpike(OnDevice):

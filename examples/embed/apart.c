@@ -1,13 +1,13 @@
-/* are_apart beside what its words ask for; compiled for the machine that runs the tests. Ends in 1 after a line
-   for each row that is wrong. */
+/*
+ * sfi_c_apart beside what its words ask for: a row for each way to lie apart or to meet. Ends in 1 after a line for each row
+ * that is wrong.
+ */
+#include "sfi.h"
 #include <stdio.h>
 
-#include "slots.h"
-
 /* Its data's guard zones reach from 80400000 to 80403000. */
-static const struct part one = {
-    .code_base = 0x80110000, .code_size = 0x1000, .data_base = 0x80401000, .data_size = 0x1000
-};
+static const struct sfi_part one = {
+    .code_base = 0x80110000, .code_size = 0x1000, .data_base = 0x80401000, .data_size = 0x1000};
 
 static const struct {
     uint32_t code_base, code_size, data_base, data_size;
@@ -35,14 +35,19 @@ static const struct {
     {0x90000000, 0x1000, 0x8010e010, 0x1000, false},
     {0x90000000, 0x1000, 0x80000000, 0x800000, false},  /* data around all of it */
     {0xfffff000, 0x1000, 0x00001000, 0x1000, true},     /* both ends of the addresses */
+    {0x80110800, 0, 0x90000000, 0, true},               /* nothing, within its code */
+    {0x90000000, 0x1000, 0x80401800, 0, false},         /* no data, but guard zones within its data */
+    {0xffffffff, 0xffffffff, 0xffffffff, 0xffffffff, true}, /* sizes that no sandbox has */
+    {0, 0xffffffff, 0, 0, false},
+    {0x90000000, 0x1000, 0, 0xffffffff, false},
 };
 
 int main(void) {
     int wrong = 0;
     for (size_t k = 0; k < sizeof rows / sizeof rows[0]; k++) {
-        const struct part other = {.code_base = rows[k].code_base, .code_size = rows[k].code_size,
-                                   .data_base = rows[k].data_base, .data_size = rows[k].data_size};
-        if (are_apart(&one, &other) == rows[k].is_apart && are_apart(&other, &one) == rows[k].is_apart)
+        const struct sfi_part other = {.code_base = rows[k].code_base, .code_size = rows[k].code_size,
+                                       .data_base = rows[k].data_base, .data_size = rows[k].data_size};
+        if (sfi_c_apart(&one, &other) == rows[k].is_apart && sfi_c_apart(&other, &one) == rows[k].is_apart)
             continue;
         printf("row %zu\n", k);
         wrong = 1;
