@@ -24,9 +24,10 @@ class World {
         this.log = [];
     }
     close() { this.calls.sfi_run_free(this.world); this.module.free(this.world, this.told, this.cpu); }
+    // Of struct sfi_run_event in sfi_run.h; the gate and the pc stand before a0.
     toldEvent() {
         const v = this.module.view, at = Number(this.told);
-        return { kind: KINDS[v.getUint32(at, true)], number: v.getUint32(at + 4, true), a0: v.getUint32(at + 8, true), a1: v.getUint32(at + 12, true) };
+        return { kind: KINDS[v.getUint32(at, true)], number: v.getUint32(at + 4, true), a0: v.getUint32(at + 16, true), a1: v.getUint32(at + 20, true) };
     }
     event(i) { this.calls.sfi_run_event(this.world, i, this.told); return this.toldEvent(); }
     turn(i, steps) { this.calls.sfi_run_turn(this.world, i, steps, this.told); return this.toldEvent(); }

@@ -38,10 +38,12 @@ def gates_of(options, folder):
 
 
 def names_of(options, folder):
-    """The object of the names that were asked for."""
+    """The object of the names that were asked for, where there are any."""
+    if not options.exports and not options.imports:
+        return []
     output = os.path.join(folder, "names.o")
     assembled(entries(options.exports, options.imports).encode(), output)
-    return output
+    return [output]
 
 
 def heap_of(options, folder):
@@ -70,6 +72,6 @@ def linked(options, objects, folder):
     # The script sees the numbers that stand before it.
     words = [binutil("ld"), *WORDS, *numbers_of(options), *START, "-T", runtime.SCRIPT, *options.linker, "-o", fresh]
     ran_linker([*words, os.path.join(made, "crt0.o"), *(path for path in objects if path not in archives),
-                *gates_of(options, folder), *heap_of(options, folder), names_of(options, folder),
+                *gates_of(options, folder), *heap_of(options, folder), *names_of(options, folder),
                 "--start-group", *archives, *named, *libraries.archives, *own, "--end-group"], libraries)
     return Elf(fresh, os.path.basename(options.output) if options.output else "the program")

@@ -94,16 +94,18 @@ class Plugin:
 
     def call(self, name: str, *arguments: int) -> int:
         """Calls an export with at most eight arguments: its result. Raises NoName, and what `Sandbox.call` does."""
-        return self.sandbox.call(self.address(name), *arguments, steps=self.steps, serve=self._serve)
+        return self._called(self.address(name), *arguments)
+
+    def _called(self, address: int, *arguments: int) -> int:
+        return self.sandbox.call(address, *arguments, steps=self.steps, serve=self._serve)
 
     def __getattr__(self, name: str) -> Any:
         if name.startswith("_"):
             raise AttributeError(name)
         try:
-            self.address(name)
+            return functools.partial(self._called, self.address(name))
         except NoName as missing:
             raise AttributeError(str(missing)) from missing
-        return functools.partial(self.call, name)
 
     def close(self) -> None:
         """Frees the world."""
