@@ -1,7 +1,9 @@
 -- What holds of sandboxes at other places, and beside those of another image: the laws, for proofs in the crates above.
 use Rattle.sfi_places.specs.Moving.{FindingsArePlaceless, CleanIsPlaceless, MovedIsRight, AcceptedMoves}
 use Rattle.sfi_places.specs.Beside.{BesideIsAsOne, BesideByPairs}
+use Rattle.sfi_places.specs.Moves.{OneMoves}
 use Rattle.sfi_places.proofs.Beside as beside
+use Rattle.sfi_places.proofs.Moves as moves
 use Rattle.sfi_places.proofs.Moving as moving
 use Rattle.sfi_places.proofs.Relaid as relaid
 
@@ -16,6 +18,9 @@ moved_is_right = relaid.moved_is_right
 
 pub accepted_moves : AcceptedMoves
 accepted_moves = relaid.accepted_moves
+
+pub one_moves : OneMoves
+one_moves = moves.one_moves
 
 pub beside_is_as_one : BesideIsAsOne
 beside_is_as_one = beside.beside_is_as_one

@@ -61,33 +61,26 @@ lands from to size k z end low high = goes_to from to size k z (pos (from + k) +
 abbrev is_start : ℕ → ℕ → ℕ → ℕ → Bool
 is_start unit base size a = nat_le base a && nat_lt a (base + size) && (a % unit == 0)
 
-start_16 : (from to size k : ℕ) (z : ℤ) → to + size ≤ 2 ^ 32 → from % 16 ≡ 0 → to % 16 ≡ 0 → is_start 16 from size (offset_by (from + k) z) ≡ true → is_start 16 to size (offset_by (to + k) z) ≡ true
-start_16 from to size k z end even even' h =
+start_there : (unit from to size k : ℕ) (z : ℤ) → to + size ≤ 2 ^ 32 → ((a b : ℕ) → b + from ≡ a + to → a % unit ≡ 0 → b % unit ≡ 0)
+    → is_start unit from size (offset_by (from + k) z) ≡ true → is_start unit to size (offset_by (to + k) z) ≡ true
+start_there unit from to size k z end keeps h =
     let a = offset_by (from + k) z in
     let b = offset_by (to + k) z in
-    let outer = and_parts (nat_le from a && nat_lt a (from + size)) (a % 16 == 0) h in
+    let outer = and_parts (nat_le from a && nat_lt a (from + size)) (a % unit == 0) h in
     let inner = and_parts (nat_le from a) (nat_lt a (from + size)) outer.0 in
     let low = leb-true from a inner.0 in
     let high = ltb-true a (from + size) inner.1 in
-    let on = eqb-true (a % 16) 0 outer.1 in
+    let on = eqb-true (a % unit) 0 outer.1 in
     let e : b + from ≡ a + to = lands from to size k z end low high in
-    and_from (nat_le to b && nat_lt b (to + size)) (b % 16 == 0)
+    and_from (nat_le to b && nat_lt b (to + size)) (b % unit == 0)
     (and_from (nat_le to b) (nat_lt b (to + size)) (le-leb to b (omega arith)) (lt-ltb b (to + size) (omega arith)))
-    (eq-eqb (b % 16) 0 (omega arith))
+    (eq-eqb (b % unit) 0 (keeps a b e on))
+
+start_16 : (from to size k : ℕ) (z : ℤ) → to + size ≤ 2 ^ 32 → from % 16 ≡ 0 → to % 16 ≡ 0 → is_start 16 from size (offset_by (from + k) z) ≡ true → is_start 16 to size (offset_by (to + k) z) ≡ true
+start_16 from to size k z end even even' = start_there 16 from to size k z end (λ a b e on. omega (arith, even, even', e, on))
 
 start_4 : (from to size k : ℕ) (z : ℤ) → to + size ≤ 2 ^ 32 → from % 16 ≡ 0 → to % 16 ≡ 0 → is_start 4 from size (offset_by (from + k) z) ≡ true → is_start 4 to size (offset_by (to + k) z) ≡ true
-start_4 from to size k z end even even' h =
-    let a = offset_by (from + k) z in
-    let b = offset_by (to + k) z in
-    let outer = and_parts (nat_le from a && nat_lt a (from + size)) (a % 4 == 0) h in
-    let inner = and_parts (nat_le from a) (nat_lt a (from + size)) outer.0 in
-    let low = leb-true from a inner.0 in
-    let high = ltb-true a (from + size) inner.1 in
-    let on = eqb-true (a % 4) 0 outer.1 in
-    let e : b + from ≡ a + to = lands from to size k z end low high in
-    and_from (nat_le to b && nat_lt b (to + size)) (b % 4 == 0)
-    (and_from (nat_le to b) (nat_lt b (to + size)) (le-leb to b (omega arith)) (lt-ltb b (to + size) (omega arith)))
-    (eq-eqb (b % 4) 0 (omega arith))
+start_4 from to size k z end even even' = start_there 4 from to size k z end (λ a b e on. omega (arith, even, even', e, on))
 
 gates_move : (from to n : ℕ) (gs : List Gate) → All (λ (g : Gate). from ≤ g.address) gs → is_gate_of (map (moved_gate from to) gs) (to + n) ≡ is_gate_of gs (from + n)
 gates_move from to n [] all = refl

@@ -1,2 +1,5 @@
 pub mod Beside
+pub mod Moves
 pub mod Moving
+pub mod Sandboxes
+pub mod private

@@ -1,0 +1,2 @@
+-- Words that private contracts and proofs alone cite: no public statement rests on them.
+pub mod Writing

@@ -1,0 +1,62 @@
+//! Writing a sandbox's addresses for another place, in the bytes of its image.
+ghost use Rattle.std.specs.Prelude.{◌≡◌, ℕ, List, length, map};
+ghost use Rattle.std.specs.List.{flat_map};
+ghost use Rattle.sfi_image.specs.declared.part.Gate.{Gate};
+ghost use Rattle.sfi_image.specs.Spelling.{Part, number, gate, part};
+ghost use Rattle.sfi_places.specs.Moving.{moved_address, moved_gate, moved};
+ghost use Rattle.sfi_places.specs.Sandboxes.{LiesAt};
+ghost use Rattle.sfi_places.specs.private.Writing.{IsReplaced, GoesTo, GatesGo, CanMove};
+
+use byteorder::{ByteOrder, LittleEndian};
+use sfi_policy::Place;
+
+// Where some numbers of a sandbox lie, counted from its first byte, and how many bytes a gate has.
+const DATA_BASE_AT: usize = 8;
+
+const START_AT: usize = 16;
+
+pub(crate) const GATES_AT: usize = 28;
+
+const GATE_BYTES: usize = 8;
+
+// The address at that offset, as far from the other base.
+fn write_address(image: &mut [u8], offset: usize, from: u32, to: u32)
+    requires { (at : ℕ) × GoesTo from to at × LiesAt image.old offset (number at) }
+    ensures { (at : ℕ) → GoesTo from to at
+        → IsReplaced image.old image.new offset (number at) (number (moved_address from to at)) }
+{
+    let address = LittleEndian::read_u32(&image[offset..]);
+    LittleEndian::write_u32(&mut image[offset..], to + (address - from));
+}
+
+// The addresses of so many gates from that offset on.
+fn write_gates(image: &mut [u8], offset: usize, gate_count: u32, from: u32, to: u32)
+    requires { (gs : List Gate) × (length gs ≡ gate_count) × GatesGo from to gs
+        × LiesAt image.old offset (flat_map gate gs) }
+    ensures { (gs : List Gate) → length gs ≡ gate_count → GatesGo from to gs
+        → IsReplaced image.old image.new offset (flat_map gate gs)
+        (flat_map gate (map (moved_gate from to) gs)) }
+{
+    for i in 0..gate_count {
+        write_address(image, offset + GATE_BYTES * i as usize, from, to);
+    }
+}
+
+/// The sandbox at that offset, which lies at the first place and has so many gates, at the second.
+pub(crate) fn write_place(image: &mut [u8], offset: usize, gate_count: u32, from: Place, to: Place)
+    requires { (p : Part) × CanMove from to gate_count p × LiesAt image.old offset (part p) }
+    ensures { (p : Part) → CanMove from to gate_count p
+        → IsReplaced image.old image.new offset (part p)
+        (part (moved to.code_base to.data_base p)) }
+{
+    write_address(image, offset, from.code_base, to.code_base);
+    write_address(image, offset + DATA_BASE_AT, from.data_base, to.data_base);
+    write_address(image, offset + START_AT, from.code_base, to.code_base);
+    write_gates(
+        image,
+        offset + GATES_AT,
+        gate_count,
+        from.code_base,
+        to.code_base,
+    );
+}
