@@ -2,11 +2,12 @@
 # Builds the C library and the hosts beside this file, runs each on images that are accepted, refused, or no images, and compares
 # what it prints with what is wanted. Says what it skips for want of a compiler. The toolchain's command rt has to be there.
 #
-#     examples/embed/test.sh [LIBRARY [RUNTIME]]      # a libsfi_c.a and a libsfi_run.a that are built already
+#     examples/embed/test.sh [LIBRARY [RUNTIME [PROGRAM]]]    # a libsfi_c.a, a libsfi_run.a and an sfi that are built already
 set -uo pipefail
 unset CDPATH
 library=${1:+$(realpath "$1")}
 runtime=${2:+$(realpath "$2")}
+program=${3:+$(realpath "$3")}
 here=$(cd "$(dirname "${BASH_SOURCE[0]}")" && pwd)
 top=$(cd "$here/../.." && pwd)
 # The most bytes of code and constants that the checker may add to a program.
@@ -29,10 +30,19 @@ put stack "53464932${head:8}41110290${code:8}"
 # two sandboxes: at 01000000 with two gates and three first data bytes, at 02000000 with neither
 stub=73000000b3ff9001b3ef8f0167800f00
 ebreaks() { printf '73001000%.0s' $(seq "$1"); }
-two=00000001000100000000800100010000200000010200000003000000
-two+=00000001010000001000000104000000$stub$stub$(ebreaks 56)616263
-two+=00000002000200000000800200100000f00100020000000000000000$(ebreaks 128)
-put two "5346493202000000$two"
+numbers() { # in hexadecimal; each as the four bytes that it has in an image
+    local n
+    for n in "$@"; do printf '%02x%02x%02x%02x' $((0x$n & 255)) $((0x$n >> 8 & 255)) $((0x$n >> 16 & 255)) $((0x$n >> 24)); done
+}
+sum() { printf %x $((0x$1 + 0x$2)); }
+two_at() { # where the code and the data of each begin
+    printf 5346493202000000
+    numbers "$1" 100 "$2" 100 "$(sum "$1" 20)" 2 3 "$1" 1 "$(sum "$1" 10)" 4
+    printf %s "$stub$stub$(ebreaks 56)616263"
+    numbers "$3" 200 "$4" 1000 "$(sum "$3" 1f0)" 0 0
+    ebreaks 128
+}
+put two "$(two_at 1000000 1800000 2000000 2800000)"
 put cut "${smallest:0:200}"
 put head "${smallest:0:40}"
 put empty ""
@@ -194,6 +204,89 @@ succeeds pieces.c gcc -std=c11 "${warnings[@]}" "$here/pieces.c" "$library" -o "
 run_verdicts pieces
 succeeds apart.c gcc -std=c11 "${warnings[@]}" "$here/apart.c" "$library" -o "$room/apart"
 report "apart.c" "status 0" "$("$room/apart"; echo "status $?")"
+
+# a sandbox at another place: its number, code and data; the status
+moves=(
+    "0 3000000 3800000|0"
+    "1 4000000 5000000|0"
+    "0 1000000 1800000|0"  # its own
+    "2 3000000 3800000|1"
+    "0 3000010 3800000|3"  # no multiple of its size, of either
+    "0 3000000 3800080|3"
+    "1 4000100 5000000|3"
+    "1 4000000 5000800|3"
+    "0 3000000 1000|0"     # guard zones at both ends of the addresses
+    "0 3000000 f00|3"
+    "0 3000000 ffffef00|0"
+    "0 3000000 fffff000|3"
+    "0 ffffff00 3800000|0" # code there
+    "0 0 3800000|0"
+    "0 2000000 3800000|3"  # code, and at each end of the other's code
+    "0 1ffff00 3800000|0"
+    "0 2000100 3800000|3"
+    "0 2000200 3800000|0"
+    "0 3000000 2000000|3"  # data in it, and guard zones at each end of it
+    "0 3000000 2001200|0"
+    "0 3000000 2001100|3"
+    "0 3000000 1ffef00|0"
+    "0 3000000 1fff000|3"
+    "0 27fef00 3800000|0"  # code at each end of the other's guard zones
+    "0 27ff000 3800000|3"
+    "0 2802000 3800000|0"
+    "0 2801f00 3800000|3"
+    "0 3000000 2803000|0"  # guard zones at each end of them
+    "0 3000000 2802f00|3"
+    "0 3000000 27fdf00|0"
+    "0 3000000 27fe000|3"
+    "0 37fef00 3800000|0"  # code at its own
+    "0 37ff000 3800000|3"
+    "0 3801100 3800000|0"
+    "0 3801000 3800000|3"
+)
+succeeds move.c gcc -std=c11 "${warnings[@]}" "$here/move.c" "$library" -o "$room/move"
+for one in "${moves[@]}"; do
+    IFS='|' read -r words status <<<"$one"
+    read -r number code data <<<"$words"
+    case $status$number in
+    00) wanted=$(two_at "$code" "$data" 2000000 2800000) ;;
+    01) wanted=$(two_at 1000000 1800000 "$code" "$data") ;;
+    *) wanted=$(two_at 1000000 1800000 2000000 2800000) ;;
+    esac
+    found=$("$room/move" $words <"$room/two.image" >"$room/moved"; echo $?)
+    report "move.c to $words" "$status|$wanted" "$found|$(digits_of "$room/moved")"
+done
+for image in cut empty longer other_format; do
+    found=$("$room/move" 0 3000000 3800000 <"$room/$image.image" >"$room/moved"; echo $?)
+    report "move.c on $image" "2|$(digits_of "$room/$image.image")" "$found|$(digits_of "$room/moved")"
+done
+
+# the bytes that the program builds at that place, where no instruction names an address
+program=${program:-$top/crates/sfi/out/sfi}
+cat >"$room/placeless.s" <<'END'
+.sandbox 4096
+.gate put 1
+.gate quit 0
+        li   a0, 2
+        li   a1, 3
+again:  add  a0, a0, a1
+        addi a1, a1, -1
+        bnez a1, again
+        call quit
+.data
+        .word 1, 2, 3
+END
+for format in $formats; do
+    if [ -x "$program" ]; then
+        for place in 20500000:80000000 80110000:80400000; do
+            in_format "$room/placeless.s" "$format" | "$program" build --at "$place" | tr -d ' \n' >"$room/built.$place"
+        done
+        put built "$(cat "$room/built.20500000:80000000")"
+        found=$("$room/move" 0 80110000 80400000 <"$room/built.image" >"$room/moved"; echo $?)
+        report "move.c and build in format $format" "0|$(cat "$room/built.80110000:80400000")" "$found|$(digits_of "$room/moved")"
+    else
+        skip 1 "move.c and build in format $format" "$program isn't there"
+    fi
+done
 
 # ---- beside the library that loads
 runtime=${runtime:-$top/crates/sfi_run/out/libsfi_run.a}

@@ -180,8 +180,9 @@ bool sfi_c_refused(const struct sfi_stream *stream);
 /* What is said of a sandbox or a gate that was asked for; or SFI_NO_IMAGE, where the bytes are no image. Unless it is
  * SFI_FOUND, nothing is written. */
 enum sfi_lookup {
-    SFI_FOUND = 0, /* the image has it */
-    SFI_BEYOND = 1 /* the image has fewer sandboxes, or the sandbox fewer gates */
+    SFI_FOUND = 0,   /* the image has it */
+    SFI_BEYOND = 1,  /* the image has fewer sandboxes, or the sandbox fewer gates */
+    SFI_NO_PLACE = 3 /* sfi_c_move alone: the sandbox can't lie there */
 };
 
 /* A sandbox of an image. */
@@ -243,6 +244,22 @@ uint32_t sfi_c_gates(const uint8_t *image, size_t length, uint32_t number, struc
  * each sandbox of the one with each of the other. Of one image's sandboxes the verdict says so.
  */
 bool sfi_c_apart(const struct sfi_part *one, const struct sfi_part *other);
+
+/* ---- a sandbox at another place */
+
+/*
+ * Moves the sandbox of that number: its code to code_base and its data to data_base. Of the image's bytes only the two bases,
+ * the start and the gates' addresses change, as far as the code does; with an answer other than SFI_FOUND none does.
+ *
+ * SFI_NO_PLACE: a base is no multiple of its region's size, there is no room for a guard zone beside the data, or a region or
+ * a guard zone meets another one of the image. SFI_BEYOND and SFI_NO_IMAGE are as above.
+ *
+ * The image that was written is accepted exactly if the one before was, so either may be checked. What it computes is another
+ * thing: code that has addresses in its instructions or its data, as `la` writes them, names the old place.
+ *
+ * Nothing else reads or writes the image during the call.
+ */
+uint32_t sfi_c_move(uint8_t *image, size_t length, uint32_t number, uint32_t code_base, uint32_t data_base);
 
 #ifdef __cplusplus
 }

@@ -15,7 +15,7 @@ use Rattle.sfi_image.specs.Spelling.{fields_of, number, fields, gate, part, AreF
 use Rattle.sfi_image.specs.Parts.{IsRightPart, AreOf}
 use Rattle.sfi_image.specs.Fronts.{part_of}
 use Rattle.sfi_image.proofs.Bundles.{right_words}
-use Rattle.sfi_image.proofs.Cancelling.{same_gate, same_fields, same_list, fronts, length-fields, part_split}
+use Rattle.sfi_image.proofs.Cancelling.{same_gate, same_fields, same_list, length-fields, part_split}
 use Rattle.sfi_rules.specs.declared.owed.Owed.{Owed}
 use Rattle.sfi_rules.specs.declared.owed.Owed.TheVariants.{Nothing}
 use Rattle.sfi_rules.specs.Broken.{rest_finding}
@@ -27,7 +27,7 @@ use Rattle.sfi_rules.specs.words.Findings.{found_from, owed_past, IsWordFound, A
 use Rattle.sfi_rules.proofs.Facts.{one_longest_reading, one_bundle_list}
 use Rattle.sfi_safety.proofs.Places.{nothing_before}
 use Rattle.sfi_check.specs.Tallies.{AreFindingsSoFar, owed_after}
-use Rattle.sfi_c.proofs.Places.{length-gates}
+use Rattle.sfi_places.proofs.Offsets.{length-gates}
 
 -- ---- the first bundles of a part, where more have no finding
 

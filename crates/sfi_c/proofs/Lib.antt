@@ -6,5 +6,4 @@ mod Prelude
 mod FrontFindings
 mod Bounds
 mod Refused
-mod Seeking
 mod Writing

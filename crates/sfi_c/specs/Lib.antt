@@ -1,5 +1,6 @@
 pub mod Apart
 pub mod Arrays
+pub mod Moves
 pub mod Parts
 pub mod Refused
 pub mod Streams

@@ -1,11 +1,10 @@
 -- What C is told of the sandboxes and gates of an image's bytes.
-use Rattle.std.specs.Prelude.{◌≡◌, ℕ, ◌+◌, ◌*◌, ◌≤◌, ◌⊎◌, List, ◌++◌, Some, length, slice_get, take}
-use Rattle.std.specs.List.{flat_map}
+use Rattle.std.specs.Prelude.{◌≡◌, ℕ, ◌+◌, ◌*◌, ◌≤◌, ◌⊎◌, List, Some, length, slice_get}
 use Rattle.sfi_policy.specs.declared.format.Format.{Format}
 use Rattle.sfi_policy.specs.declared.format.Format.TheVariants.{Sfi1, Sfi2, Sfiw}
 use Rattle.sfi_image.specs.declared.part.Gate.{Gate}
-use Rattle.sfi_image.specs.Spelling.{Part, part, magic_bytes, number_bytes, fields_bytes, gate_bytes}
-use Rattle.sfi_image.specs.Images.{IsImage}
+use Rattle.sfi_image.specs.Spelling.{Part, fields_bytes, gate_bytes}
+use Rattle.sfi_places.specs.Sandboxes.{IsSandboxOf, IsBeyond, LiesAt, sandbox_offset}
 use Rattle.sfi_c.specs.declared.looking.Lookup.{Lookup}
 use Rattle.sfi_c.specs.declared.looking.Lookup.TheVariants.{Found, Beyond, NoImage}
 use Rattle.sfi_c.specs.declared.part.SfiGate.{SfiGate}
@@ -28,23 +27,6 @@ format_number Sfiw = 3
 
 -- ---- sandboxes
 
--- the bytes are an image, and this is its sandbox of that number
-pub record IsSandboxOf (bytes : List ℕ) (number : ℕ) (p : Part) : Type 0 where
-  pub parts : List Part
-  pub image : IsImage bytes parts
-  pub sandbox_is : slice_get parts number ≡ Some p
-
--- the bytes are an image with no sandbox of that number
-abbrev pub IsBeyond : List ℕ → ℕ → Type 0
-IsBeyond bytes number = (ps : List Part) × IsImage bytes ps × (length ps ≤ number)
-
--- the bytes have this piece after so many others
-pub record LiesAt (bytes : List ℕ) (offset : ℕ) (piece : List ℕ) : Type 0 where
-  pub before : List ℕ
-  pub after : List ℕ
-  pub bytes_are : bytes ≡ before ++ (piece ++ after)
-  pub offset_is : offset ≡ length before
-
 -- what C is told of a sandbox whose code and first data bytes lie at these offsets
 abbrev pub told_part : Part → ℕ → ℕ → SfiPart
 told_part p code_offset init_offset = record {
@@ -59,11 +41,6 @@ told_part p code_offset init_offset = record {
   code_offset = code_offset;
   init_offset = init_offset;
 }
-
--- where the sandbox of that number begins in the bytes of an image with these sandboxes: after the
--- magic, the count and the sandboxes before it
-abbrev pub sandbox_offset : List Part → ℕ → ℕ
-sandbox_offset ps number = magic_bytes + number_bytes + length (flat_map part (take number ps))
 
 -- where the code lies of a sandbox that begins at the offset: after its fields and its gates
 abbrev pub code_after : Part → ℕ → ℕ

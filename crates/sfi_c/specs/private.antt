@@ -5,7 +5,7 @@ use Rattle.sfi_image.specs.Spelling.{Part}
 use Rattle.sfi_image.specs.Faults.{IsFault}
 use Rattle.sfi_c.specs.declared.looking.Lookup.{Lookup}
 use Rattle.sfi_c.specs.declared.looking.Lookup.TheVariants.{Found, Beyond, NoImage}
-use Rattle.sfi_c.specs.Parts.{IsSandboxOf}
+use Rattle.sfi_places.specs.Sandboxes.{IsSandboxOf}
 use Rattle.sfi_c.specs.Arrays.{with_findings}
 use Rattle.std.proofs.Common.{sym, subst, append_assoc}
 use Rattle.std.proofs.lemmas.List.{append-nil}

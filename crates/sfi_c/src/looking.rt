@@ -6,10 +6,12 @@ ghost use Rattle.sfi_image.specs.declared.fault.LayoutFault.{LayoutFault};
 ghost use Rattle.sfi_image.specs.Spelling.{Part, part};
 ghost use Rattle.sfi_image.specs.Cursor.{IsViewOf};
 ghost use Rattle.sfi_image.specs.Faults.{IsFault};
-ghost use Rattle.sfi_c.specs.Parts.{lookup_number, sandbox_offset, IsSandboxOf, IsPartOf, IsBeyond, IsGateOf, IsBeyondGates, AreGatesOf};
+ghost use Rattle.sfi_places.specs.Sandboxes.{sandbox_offset, IsSandboxOf, IsBeyond};
+ghost use Rattle.sfi_c.specs.Parts.{lookup_number, IsPartOf, IsGateOf, IsBeyondGates, AreGatesOf};
 
 use crate::part::{SfiGate, SfiPart, gate_told, part_told, write_gates};
-use sfi_image::{Gate, ImageCursor, LayoutFault, PartView};
+use sfi_image::{Gate, LayoutFault, PartView};
+use sfi_places::sandbox_of;
 
 /// What is said of a sandbox or a gate that was asked for.
 #[derive(Clone, Copy, PartialEq, Eq, Debug)]
@@ -63,16 +65,10 @@ fn look_up<'a>(image: &'a [u8], number: u32) -> Result<(PartView<'a>, usize), Lo
         (HasFault image.entry.now) (said_by result) }
     ensures missing { IfErr result (λ l. l ≢ Lookup.Found) }
 {
-    let mut cursor = ImageCursor::new(image)?;
-    let mut sought = Err(Lookup::Beyond);
-    let mut passed = 0;
-    while let Some(view) = cursor.next_part()? {
-        if passed == number as usize {
-            sought = Ok((view, image.len() - cursor.unread().len()));
-        }
-        passed += 1;
+    match sandbox_of(image, number)? {
+        Some(found) => Ok(found),
+        None => Err(Lookup::Beyond),
     }
-    sought
 }
 
 /// The gate of that index in the sandbox of that number.

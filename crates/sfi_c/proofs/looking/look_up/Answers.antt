@@ -1,45 +1,18 @@
 use Rattle.std.proofs.lemmas.Result.{err_from_is_err_and}
+use Rattle.sfi_c.proofs.Prelude.{Beyond, Found}
 use Rattle.sfi_c.specs.declared.looking.Lookup.TheVariants.{NoImage}
 use Rattle.sfi_c.proofs.Lookups.{part_said}
-use Rattle.sfi_c.proofs.Seeking.{begun, found_here, not_here, sought_said, sought_found, sought_missing}
 use Rattle.sfi_c.proofs.looking.look_up.Goals as goal
-use Rattle.sfi_c.proofs.looking.look_up.Goals.{then-passed-number, else-passed-number}
 
-pub returns-in_err-cursor-clause-said : goal.returns-in_err-cursor-clause-said
-returns-in_err-cursor-clause-said c =
+pub returns-in_err-found-clause-said : goal.returns-in_err-found-clause-said
+returns-in_err-found-clause-said c =
     let p = err_from_is_err_and c.from_residual.result c.from_residual.ensures.1 in
-    rw (p.1, p.2) (part_said c.args.image.now c.args.number NoImage (c.in_err-cursor.field-0.0, c.in_err-cursor.ensures.fault))
+    rw (p.1, p.2) (part_said c.args.image.now c.args.number NoImage (c.in_err-found.field-0.0, c.in_err-found.ensures.fault))
 
-pub returns-in_err-view-clause-said : goal.returns-in_err-view-clause-said
-returns-in_err-view-clause-said c =
-    let p = err_from_is_err_and c.from_residual-in_err-view.result c.from_residual-in_err-view.ensures.1 in
-    let i = c.loop-view.invariant in
-    rw (p.1, p.2) (part_said c.args.image.now c.args.number NoImage (c.in_err-view.field-0.0, c.in_err-view.ensures.fault c.args.image.now i.format i.count i.parts i.cursor))
+pub returns-in-Some-clause-said : goal.returns-in-Some-clause-said
+returns-in-Some-clause-said c =
+    let h = rw c.in-Some.is at c.in_ok-found.ensures.found in
+    part_said c.args.image.now c.args.number Found (h.0, h.1)
 
-pub loop-view-init : goal.loop-view-init
-loop-view-init c =
-    let h = c.in_ok-cursor.ensures.begun in
-    begun c.args.image.now c.args.number h.1 h.0 c.in_ok-cursor.cursor h.2
-
-pub loop-view-preserved : goal.loop-view-preserved
-loop-view-preserved c =
-    let i = c.loop-view.invariant in
-    let t = (rw c.in-Some.is at c.in_ok-view.ensures.part) c.args.image.now i.format i.count i.parts i.cursor in
-    let falls = rw c.in-Some.is at c.in_ok-view.ensures.falls in
-    elim c.if-passed-number.branch [
-      | then-passed-number w ↦ rw (w.sought-is) (found_here c.args.image.now c.args.number c.loop-view.passed c.loop-view.cursor c.next_part.new.self c.loop-view.sought i t.0 t.2 falls c.in-Some.view t.1 w.if-passed-number.true w.unread.result.now w.unread.ensures)
-      | else-passed-number w ↦ rw (w.sought-is) (not_here c.args.image.now c.args.number c.loop-view.passed c.loop-view.cursor c.next_part.new.self c.loop-view.sought i t.0 t.2 falls w.if-passed-number.false)
-    ]
-
-pub returns-clause-found : goal.returns-clause-found
-returns-clause-found c =
-    let i = c.loop-view.invariant in
-    sought_found c.args.image.now c.args.number i.parts c.loop-view.sought ((rw c.in_default.is at c.in_ok-view.ensures.end) c.args.image.now i.format i.count i.parts i.cursor) i.sought
-
-pub returns-clause-said : goal.returns-clause-said
-returns-clause-said c =
-    let i = c.loop-view.invariant in
-    sought_said c.args.image.now c.args.number i.parts c.loop-view.sought ((rw c.in_default.is at c.in_ok-view.ensures.end) c.args.image.now i.format i.count i.parts i.cursor) i.sought
-
-pub returns-clause-missing : goal.returns-clause-missing
-returns-clause-missing c = let i = c.loop-view.invariant in sought_missing c.args.number i.parts c.loop-view.sought i.sought
+pub returns-in-None-clause-said : goal.returns-in-None-clause-said
+returns-in-None-clause-said c = part_said c.args.image.now c.args.number Beyond (rw c.in-None.is at c.in_ok-found.ensures.beyond)

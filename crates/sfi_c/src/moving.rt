@@ -1,0 +1,93 @@
+//! The call by which C moves a sandbox of an image.
+ghost use Rattle.std.specs.Prelude.{◌≡◌, ◌≢◌, ◌≤◌, ◌↔◌, ℕ, List};
+ghost use Rattle.sfi_image.specs.declared.fault.LayoutFault.{LayoutFault};
+ghost use Rattle.sfi_image.specs.Spelling.{Part};
+ghost use Rattle.sfi_image.specs.Images.{IsImage};
+ghost use Rattle.sfi_image.specs.Faults.{IsFault};
+ghost use Rattle.sfi_safety.specs.Clean.{IsAccepted};
+ghost use Rattle.sfi_places.specs.Sandboxes.{IsBeyond};
+ghost use Rattle.sfi_places.specs.Moves.{moved_one, IsMoved, IsWrongPlace};
+ghost use Rattle.sfi_c.specs.Moves.{move_number, said_of, to_place};
+
+use sfi_places::{MoveFault, move_sandbox};
+use sfi_policy::Place;
+
+/// What is said of a sandbox that was to be moved.
+#[derive(Clone, Copy, PartialEq, Eq, Debug)]
+pub enum Move {
+    /// The sandbox lies at the place.
+    Moved,
+    /// The image has fewer sandboxes.
+    Beyond,
+    /// The bytes are no image.
+    NoImage,
+    /// The place is wrong.
+    NoPlace,
+}
+
+impl Move {
+    ghost use Rattle.sfi_c.specs.Moves.{move_number};
+
+    /// The number by which C knows it, 0 to 3.
+    pub fn number(self) -> u32
+        ensures { result ≡ move_number self }
+    {
+        match self {
+            Move::Moved => 0,
+            Move::Beyond => 1,
+            Move::NoImage => 2,
+            Move::NoPlace => 3,
+        }
+    }
+}
+
+/// What is said of that answer.
+fn said_of(answer: Result<(), MoveFault>) -> Move
+    ensures { result ≡ said_of answer }
+{
+    match answer {
+        Ok(()) => Move::Moved,
+        Err(MoveFault::NoSandbox) => Move::Beyond,
+        Err(MoveFault::NoImage(_)) => Move::NoImage,
+        Err(MoveFault::NoPlace) => Move::NoPlace,
+    }
+}
+
+/// Moves the image's sandbox of that number, counted from 0, so that its code and its data begin at
+/// these addresses, and returns the number of a [`Move`]. Of the bytes only its bases, its start and
+/// its gates' addresses change. It takes no memory.
+#[unsafe(no_mangle)]
+pub extern "C" fn sfi_c_move(image: &mut [u8], number: u32, code_base: u32, data_base: u32) -> u32
+    ensures known { result ≤ 3 }
+
+    // What each status means.
+    ensures moved { result ≡ move_number Move.Moved
+        → IsMoved image.old number (to_place code_base data_base) image.new }
+    ensures beyond { result ≡ move_number Move.Beyond → IsBeyond image.old number }
+    ensures layout { result ≡ move_number Move.NoImage
+        → (k : LayoutFault) × IsFault image.old k }
+    ensures place { result ≡ move_number Move.NoPlace
+        → IsWrongPlace image.old number (to_place code_base data_base) }
+    ensures unmoved { result ≢ move_number Move.Moved → image.new ≡ image.old }
+
+    // Which bytes get it.
+    ensures only_moved { (now : List ℕ)
+        → IsMoved image.old number (to_place code_base data_base) now
+        → result ≡ move_number Move.Moved }
+    ensures only_beyond { IsBeyond image.old number → result ≡ move_number Move.Beyond }
+    ensures only_layout { (k : LayoutFault) → IsFault image.old k
+        → result ≡ move_number Move.NoImage }
+    ensures only_place { IsWrongPlace image.old number (to_place code_base data_base)
+        → result ≡ move_number Move.NoPlace }
+
+    // The verdict on the bytes doesn't change.
+    ensures accepted { result ≡ move_number Move.Moved → (ps : List Part) → IsImage image.old ps
+        → IsAccepted image.old ps
+        ↔ IsAccepted image.new (moved_one number (to_place code_base data_base) ps) }
+{
+    let to = Place {
+        code_base,
+        data_base,
+    };
+    said_of(move_sandbox(image, number, to)).number()
+}
