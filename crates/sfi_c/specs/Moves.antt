@@ -1,8 +1,6 @@
 -- What C is told of a sandbox that was to be moved.
-use Rattle.std.specs.Prelude.{ℕ, Result, Ok, Err}
+use Rattle.std.specs.Prelude.{ℕ}
 use Rattle.sfi_policy.specs.declared.place.Place.{Place}
-use Rattle.sfi_places.specs.declared.relocation.MoveFault.{MoveFault}
-use Rattle.sfi_places.specs.declared.relocation.MoveFault.TheVariants as faults
 use Rattle.sfi_c.specs.declared.moving.Move.{Move}
 use Rattle.sfi_c.specs.declared.moving.Move.TheVariants.{Moved, Beyond, NoImage, NoPlace}
 
@@ -10,14 +8,7 @@ use Rattle.sfi_c.specs.declared.moving.Move.TheVariants.{Moved, Beyond, NoImage,
 abbrev pub to_place : ℕ → ℕ → Place
 to_place code_base data_base = record { code_base = code_base; data_base = data_base }
 
--- what is said of an answer
-abbrev pub said_of : Result (Unit {0}) MoveFault → Move
-said_of (Ok done) = Moved
-said_of (Err faults.NoSandbox) = Beyond
-said_of (Err (faults.NoImage k)) = NoImage
-said_of (Err faults.NoPlace) = NoPlace
-
--- its number
+-- the number of what is said of a sandbox that was to be moved
 abbrev pub move_number : Move → ℕ
 move_number Moved = 0
 move_number Beyond = 1

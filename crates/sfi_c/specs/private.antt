@@ -6,6 +6,10 @@ use Rattle.sfi_image.specs.Faults.{IsFault}
 use Rattle.sfi_c.specs.declared.looking.Lookup.{Lookup}
 use Rattle.sfi_c.specs.declared.looking.Lookup.TheVariants.{Found, Beyond, NoImage}
 use Rattle.sfi_places.specs.Sandboxes.{IsSandboxOf}
+use Rattle.sfi_places.specs.declared.relocation.MoveFault.{MoveFault}
+use Rattle.sfi_places.specs.declared.relocation.MoveFault.TheVariants as faults
+use Rattle.sfi_c.specs.declared.moving.Move.{Move}
+use Rattle.sfi_c.specs.declared.moving.Move.TheVariants as moves
 use Rattle.sfi_c.specs.Arrays.{with_findings}
 use Rattle.std.proofs.Common.{sym, subst, append_assoc}
 use Rattle.std.proofs.lemmas.List.{append-nil}
@@ -37,6 +41,15 @@ pub record IsSaid (there further fault : Type 0) (said : Lookup) : Type 0 where
 abbrev pub said_by : {X : Type 0} → Result X Lookup → Lookup
 said_by (Ok x) = Found
 said_by (Err l) = l
+
+-- ---- what is said of a sandbox that was to be moved
+
+-- by the answer
+abbrev pub move_said_of : Result (Unit {0}) MoveFault → Move
+move_said_of (Ok done) = moves.Moved
+move_said_of (Err faults.NoSandbox) = moves.Beyond
+move_said_of (Err (faults.NoImage k)) = moves.NoImage
+move_said_of (Err faults.NoPlace) = moves.NoPlace
 
 -- ---- arrays
 

@@ -7,7 +7,8 @@ ghost use Rattle.sfi_image.specs.Faults.{IsFault};
 ghost use Rattle.sfi_safety.specs.Clean.{IsAccepted};
 ghost use Rattle.sfi_places.specs.Sandboxes.{IsBeyond};
 ghost use Rattle.sfi_places.specs.Moves.{moved_one, IsMoved, IsWrongPlace};
-ghost use Rattle.sfi_c.specs.Moves.{move_number, said_of, to_place};
+ghost use Rattle.sfi_c.specs.Moves.{move_number, to_place};
+ghost use Rattle.sfi_c.specs.private.{move_said_of};
 
 use sfi_places::{MoveFault, move_sandbox};
 use sfi_policy::Place;
@@ -42,8 +43,8 @@ impl Move {
 }
 
 /// What is said of that answer.
-fn said_of(answer: Result<(), MoveFault>) -> Move
-    ensures { result ≡ said_of answer }
+fn move_said_of(answer: Result<(), MoveFault>) -> Move
+    ensures { result ≡ move_said_of answer }
 {
     match answer {
         Ok(()) => Move::Moved,
@@ -89,5 +90,5 @@ pub extern "C" fn sfi_c_move(image: &mut [u8], number: u32, code_base: u32, data
         code_base,
         data_base,
     };
-    said_of(move_sandbox(image, number, to)).number()
+    move_said_of(move_sandbox(image, number, to)).number()
 }
