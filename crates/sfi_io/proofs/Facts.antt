@@ -1,10 +1,11 @@
 -- What holds of texts that are read in pieces. Crates above cite this.
 use Rattle.sfi_io.proofs.Prelude.{◌≡◌, ◌∙◌, ℕ, arith, Bool, true, false, List, Result, Ok, Err, length, ◌≤◌, refl, sym, ap, nat_tests, filter, nat_lt, if◌then◌else◌, decode_of, FromHexError, OddLength, InvalidHexCharacter, InvalidStringLength, OutOfMemory, is_kept, limit, or_fault, outcome, TooLarge}
 use Rattle.sfi_io.specs.Hexadecimal.{SpellsBytes}
-use Rattle.sfi_io.specs.Laws.{ComesToItsBytes, ComesToItsFault}
+use Rattle.sfi_io.specs.Laws.{ComesToItsBytes, ComesToItsFault, TextsBeginAsNone}
 use Rattle.sfi_io.specs.Pieces.{start_of}
 use Rattle.sfi_io.proofs.Ahead.{keeps_limit}
 use Rattle.sfi_io.proofs.Faults.{fault_comes}
+use Rattle.sfi_io.proofs.Images as images
 
 spells : (text bytes : List ℕ) → outcome (start_of text) ≡ Ok bytes → SpellsBytes text bytes
 spells text bytes e = by (nat_lt limit (length text)) refl
@@ -29,3 +30,6 @@ comes_to_its_bytes text bytes = (spells text bytes, λ h. keeps_limit (start_of 
 
 pub comes_to_its_fault : ComesToItsFault
 comes_to_its_fault = fault_comes
+
+pub texts_begin_as_none : TextsBeginAsNone
+texts_begin_as_none = images.texts_begin_as_none

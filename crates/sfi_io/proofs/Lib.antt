@@ -4,5 +4,6 @@ pub mod Ahead
 pub mod Faults
 pub mod Facts
 pub mod Fronts
+pub mod Images
 pub mod Leads
 pub mod Lanes

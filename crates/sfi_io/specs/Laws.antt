@@ -1,6 +1,7 @@
 -- What holds of the definitions themselves.
 use Rattle.std.specs.Prelude.{◌≡◌, ◌↔◌, ◌≤◌, ℕ, List, length, Ok, Err}
 use Rattle.sfi_io.specs.Hexadecimal.{SpellsBytes, IsHexFault}
+use Rattle.sfi_io.specs.Images.{BeginsAsImage}
 use Rattle.sfi_io.specs.Streams.{limit}
 use Rattle.sfi_io.specs.Pieces.{outcome, start_of}
 use Rattle.sfi_io.specs.declared.hexadecimal.HexFault.{HexFault}
@@ -16,3 +17,7 @@ abbrev pub ComesToItsFault : Type 0
 ComesToItsFault =
     (text : List ℕ) (fault : HexFault)
     → (outcome (start_of text) ≡ Err (Fault fault)) ↔ ((length text ≤ limit) × IsHexFault text fault)
+
+-- a text that spells bytes doesn't begin as an image
+abbrev pub TextsBeginAsNone : Type 0
+TextsBeginAsNone = (text bytes : List ℕ) → SpellsBytes text bytes → ¬ BeginsAsImage text

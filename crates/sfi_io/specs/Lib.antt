@@ -1,4 +1,5 @@
 pub mod Hexadecimal
+pub mod Images
 pub mod Pieces
 pub mod Laws
 pub mod private
