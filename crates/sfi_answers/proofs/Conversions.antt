@@ -1,6 +1,6 @@
 -- What `convert` answers on the bytes of an image.
 use Rattle.std.proofs.Common.{◌≡◌, ◌⊎◌, ℕ, List, refl, subst, inl, inr}
-use Rattle.std.specs.Prelude.{Result, Ok, Err, Vec, IfOk, IfErr, IsErr, string_bytes}
+use Rattle.std.specs.Prelude.{Result, Ok, Err, Vec, IfOk, IfErr, IsErr, Bool}
 use Rattle.std.specs.Global.{Global}
 use Rattle.sfi_image.specs.Faults.{IsFault}
 use Rattle.sfi_image.specs.declared.fault.LayoutFault.{LayoutFault}
@@ -12,7 +12,7 @@ use Rattle.sfi_check.specs.declared.conversion.ConvertFault.TheVariants.{Refused
 use Rattle.sfi_check.specs.declared.refusal.Refusal.TheVariants as refusal
 use Rattle.sfi_answers.specs.private.{HasFound, AnswersConvertFault}
 use Rattle.sfi_answers.specs.Checking.{refused_line, HasSomeFault}
-use Rattle.sfi_answers.specs.Building.{digits_line}
+use Rattle.sfi_answers.specs.Building.{image_output}
 use Rattle.sfi_answers.specs.Converting.{SaysConversion, convert}
 use Rattle.sfi_answers.specs.Answers.{Answers, IsStop, AnswersStatus}
 use Rattle.sfi_answers.specs.declared.fault.Stop.{Stop}
@@ -21,11 +21,11 @@ use Rattle.sfi_answers.specs.declared.verdict.Answer.{Answer}
 
 -- ---- a conversion
 
-pub converted : (bytes new : List ℕ) (a : Answer) → IsConversion bytes new → a.status ≡ 0 → string_bytes a.text ≡ digits_line new
+pub converted : (raw : Bool) (bytes new : List ℕ) (a : Answer) → IsConversion bytes new → a.status ≡ 0 → a.output.items ≡ image_output raw new
     → ((k : LayoutFault) → (¬ IsSecond bytes) → IsFault bytes k → ⊥) → (IsSecond bytes → ⊥)
     → ((found : List Finding) → (¬ IsSecond bytes) → HasFindings bytes found → ⊥) → ((found : List Finding) → HasStackFindings bytes found → ⊥) → (IsOfWords bytes → ⊥)
-    → Answers convert bytes (Ok a)
-converted bytes new a is status text layout first found stack words = record {
+    → Answers (convert raw) bytes (Ok a)
+converted raw bytes new a is status text layout first found stack words = record {
   says = inl (record { new = new; conversion = is; status_is = status; text_is = text });
   stop = tt;
   only_done = λ _. status;
@@ -52,17 +52,17 @@ not_second : (read : List ℕ) (fault : ConvertFault) (found : List Finding) →
 not_second read fault found only f second =
     subst (λ (x : ConvertFault). HasFound x found) (not_old_one fault (only second)) f
 
-findings_say : (bytes : List ℕ) (fault : ConvertFault) (found : List Finding) (status : ℕ) (line : List ℕ) → (¬ IsSecond bytes) → IsConvertFault bytes fault → status ≡ 1 → HasFound fault found
-    → line ≡ refused_line found → SaysConversion bytes status line
-findings_say bytes (Refused (refusal.Findings others)) found status line first is one h e =
+findings_say : (raw : Bool) (bytes : List ℕ) (fault : ConvertFault) (found : List Finding) (status : ℕ) (line : List ℕ) → (¬ IsSecond bytes) → IsConvertFault bytes fault → status ≡ 1 → HasFound fault found
+    → line ≡ refused_line found → SaysConversion raw bytes status line
+findings_say raw bytes (Refused (refusal.Findings others)) found status line first is one h e =
     inr (inl (first, record { found = found; refused = subst (HasFindings bytes) h is.1; status_is = one; text_is = e }))
-findings_say bytes (Stack others) found status line first is one h e = inr (inr (record { found = found; refused = subst (HasStackFindings bytes) h is; status_is = one; text_is = e }))
-findings_say bytes _ found status line first is one h e = absurd h
+findings_say raw bytes (Stack others) found status line first is one h e = inr (inr (record { found = found; refused = subst (HasStackFindings bytes) h is; status_is = one; text_is = e }))
+findings_say raw bytes _ found status line first is one h e = absurd h
 
-fault_says : (bytes : List ℕ) (fault : ConvertFault) (answer : Result Answer Stop) → (IsSecond bytes → AnswersNotOld (Err fault))
-    → IsConvertFault bytes fault → AnswersConvertFault fault answer → IfOk answer (λ a. SaysConversion bytes a.status (string_bytes a.text))
-fault_says bytes fault (Ok a) only is h = findings_say bytes fault h.1.0 a.status (string_bytes a.text) (not_second bytes fault h.1.0 only h.1.1) is h.0 h.1.1 h.1.2
-fault_says bytes fault (Err s) only is h = tt
+fault_says : (raw : Bool) (bytes : List ℕ) (fault : ConvertFault) (answer : Result Answer Stop) → (IsSecond bytes → AnswersNotOld (Err fault))
+    → IsConvertFault bytes fault → AnswersConvertFault fault answer → IfOk answer (λ a. SaysConversion raw bytes a.status a.output.items)
+fault_says raw bytes fault (Ok a) only is h = findings_say raw bytes fault h.1.0 a.status a.output.items (not_second bytes fault h.1.0 only h.1.1) is h.0 h.1.1 h.1.2
+fault_says raw bytes fault (Err s) only is h = tt
 
 fault_stops : (bytes : List ℕ) (fault : ConvertFault) (answer : Result Answer Stop) → IsConvertFault bytes fault
     → AnswersConvertFault fault answer → IfErr answer (IsStop (HasSomeFault bytes ⊎ (IsSecond bytes ⊎ IsOfWords bytes)))
@@ -117,15 +117,15 @@ no_words (Refused (refusal.Findings others)) found f h = h
 no_words (Stack others) found f h = h
 no_words _ found f h = f
 
-pub not_converted : (bytes : List ℕ) (fault : ConvertFault) (answer : Result Answer Stop) → IsConvertFault bytes fault → (IsSecond bytes → AnswersNotOld (Err fault))
+pub not_converted : (raw : Bool) (bytes : List ℕ) (fault : ConvertFault) (answer : Result Answer Stop) → IsConvertFault bytes fault → (IsSecond bytes → AnswersNotOld (Err fault))
     → ((k : LayoutFault) → (¬ IsSecond bytes) → IsFault bytes k → AnswersLayout k (Err fault))
     → ((found : List Finding) → (¬ IsSecond bytes) → HasFindings bytes found → AnswersFindings found (Err fault))
     → ((found : List Finding) → HasStackFindings bytes found → AnswersStack found (Err fault))
     → (IsOfWords bytes → AnswersWords (Err fault))
     → ((new : List ℕ) → IsConversion bytes new → AnswersConversion new (Err fault))
-    → AnswersConvertFault fault answer → Answers convert bytes answer
-not_converted bytes fault answer is only_not_old only_layout only_findings only_stack only_words only_converted h = record {
-  says = fault_says bytes fault answer only_not_old is h;
+    → AnswersConvertFault fault answer → Answers (convert raw) bytes answer
+not_converted raw bytes fault answer is only_not_old only_layout only_findings only_stack only_words only_converted h = record {
+  says = fault_says raw bytes fault answer only_not_old is h;
   stop = fault_stops bytes fault answer is h;
   only_done = λ done. done_after done.0 fault answer (only_converted done.0 done.1) h;
   only_refused = λ refused. status refused.0 refused.1;

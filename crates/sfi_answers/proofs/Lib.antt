@@ -3,3 +3,4 @@ pub mod Spelled
 pub mod Sources
 pub mod Verdicts
 pub mod Conversions
+pub mod Images

@@ -1,18 +1,18 @@
 -- What is answered on the bytes of an image that is accepted or refused.
-use Rattle.std.proofs.Common.{◌≡◌, ℕ, List, Bool, Vec, Global, Ok, Err, refl}
-use Rattle.std.specs.Prelude.{string_bytes}
+use Rattle.std.proofs.Common.{◌≡◌, ◌≢◌, ℕ, List, Bool, Vec, Global, Ok, Err, refl}
 use Rattle.sfi_check.specs.Verdict.{HasFindings}
 use Rattle.sfi_check.specs.declared.refusal.Refusal.TheVariants.{Layout, Findings}
 use Rattle.sfi_image.specs.Faults.{IsFault}
 use Rattle.sfi_image.specs.declared.fault.LayoutFault.{LayoutFault}
 use Rattle.sfi_rules.specs.declared.finding.Finding.{Finding}
 use Rattle.sfi_answers.specs.Checking.{IsRefusalText, SaysRefused, on_verdict, Refuses}
-use Rattle.sfi_answers.specs.Answers.{Answers}
+use Rattle.sfi_answers.specs.Answers.{Answers, IsStop}
+use Rattle.sfi_answers.specs.declared.fault.Stop.{Stop}
 use Rattle.sfi_answers.specs.declared.fault.Stop.TheVariants as stop
 use Rattle.sfi_answers.specs.declared.verdict.Answer.{Answer}
 
 -- an image without findings
-pub accepted : (says : List ℕ → ℕ → List ℕ → Type 0) (bytes : List ℕ) (a : Answer) → a.status ≡ 0 → says bytes a.status (string_bytes a.text)
+pub accepted : (says : List ℕ → ℕ → List ℕ → Type 0) (bytes : List ℕ) (a : Answer) → a.status ≡ 0 → says bytes a.status a.output.items
     → ((found : List Finding) → ¬ HasFindings bytes found) → ((k : LayoutFault) → ¬ IsFault bytes k) → Answers (on_verdict says) bytes (Ok a)
 accepted says bytes a status said found layout = record {
   says = said;
@@ -24,7 +24,7 @@ accepted says bytes a status said found layout = record {
 
 -- one with findings
 pub has_findings : (report : Bool) (bytes : List ℕ) (found : Vec Finding Global) (a : Answer) → Refuses bytes (Findings found) → a.status ≡ 1
-    → IsRefusalText report bytes found.items (string_bytes a.text) → Answers (on_verdict (SaysRefused report)) bytes (Ok a)
+    → IsRefusalText report bytes found.items a.output.items → Answers (on_verdict (SaysRefused report)) bytes (Ok a)
 has_findings report bytes found a refused status text = record {
   says = record { found = found.items; refused = refused.findings; status_is = status; text_is = text };
   stop = tt;
@@ -42,3 +42,10 @@ has_fault says bytes k refused = record {
   only_refused = λ h. refused.only_findings h.0 h.1;
   only_fault = λ _. refl;
 }
+
+-- a stop that is no want of memory
+pub of_stop : (P : Type 0) (s : Stop) → IsStop P s → s ≢ stop.Memory → P
+of_stop P (stop.Input fault) is other = is
+of_stop P (stop.Layout fault) is other = is
+of_stop P (stop.Build fault) is other = is
+of_stop P stop.Memory is other = absurd (other refl)

@@ -1,6 +1,6 @@
 -- What is said of a command, what it answers on what was read, and why it stops.
-use Rattle.std.specs.Prelude.{◌⊎◌, ℕ, List, ◌≡◌, Result, Ok, Err, IfErr, IfOk, IsErr, string_bytes}
-use Rattle.sfi_io.specs.Hexadecimal.{SpellsBytes, IsUnreadable}
+use Rattle.std.specs.Prelude.{◌⊎◌, ℕ, List, ◌≡◌, Result, Ok, Err, IfErr, IfOk, IsErr}
+use Rattle.sfi_io.specs.Images.{GivesImage, GivesNoImage}
 use Rattle.sfi_io.specs.declared.hexadecimal.HexStop.{HexStop}
 use Rattle.sfi_io.specs.declared.hexadecimal.HexStop.TheVariants as hex
 use Rattle.sfi_build.specs.declared.build_fault.BuildFault.{BuildFault}
@@ -12,7 +12,7 @@ use Rattle.sfi_answers.specs.declared.verdict.Answer.{Answer}
 
 -- what is said of a command, by what was read
 pub record Meaning : Type 1 where
-  -- its answer: a status, 0 or 1, and the text that is printed
+  -- its answer: a status, 0 or 1, and what is printed
   pub says : List ℕ → ℕ → List ℕ → Type 0
   -- status 0 is due: it can be done
   pub is_done : List ℕ → Type 0
@@ -21,18 +21,18 @@ pub record Meaning : Type 1 where
   -- status 2 is due: what was read has a fault
   pub has_fault : List ℕ → Type 0
 
--- a text spells bytes of which this holds
-abbrev pub SpellsBytesThat : (List ℕ → Type 0) → List ℕ → Type 0
-SpellsBytesThat holds text = (bytes : List ℕ) × SpellsBytes text bytes × holds bytes
+-- the input is an image's bytes, or spells them, and this holds of the bytes
+abbrev pub GivesImageThat : (List ℕ → Type 0) → List ℕ → Type 0
+GivesImageThat holds input = (bytes : List ℕ) × GivesImage input bytes × holds bytes
 
--- the command on hexadecimal text: the same is said of the bytes that the text spells; and a text
--- that spells none has a fault
-abbrev pub on_text : Meaning → Meaning
-on_text command = record {
-  says = λ text status answer. SpellsBytesThat (λ bytes. command.says bytes status answer) text;
-  is_done = SpellsBytesThat command.is_done;
-  is_refused = SpellsBytesThat command.is_refused;
-  has_fault = λ text. IsUnreadable text ⊎ SpellsBytesThat command.has_fault text;
+-- the command on an image that comes as its bytes or as hexadecimal text: the same is said of the
+-- bytes; and input that is neither has a fault
+abbrev pub on_image : Meaning → Meaning
+on_image command = record {
+  says = λ input status answer. GivesImageThat (λ bytes. command.says bytes status answer) input;
+  is_done = GivesImageThat command.is_done;
+  is_refused = GivesImageThat command.is_refused;
+  has_fault = λ input. GivesNoImage input ⊎ GivesImageThat command.has_fault input;
 }
 
 -- where a text spells no bytes, its command stops so
@@ -64,7 +64,7 @@ AnswersStatus status (Err stop.Memory) = Unit {0}
 
 -- what a command answers on what was read, or why it stops
 pub record Answers (command : Meaning) (input : List ℕ) (result : Result Answer Stop) : Type 0 where
-  pub says : IfOk result (λ a. command.says input a.status (string_bytes a.text))
+  pub says : IfOk result (λ a. command.says input a.status a.output.items)
   pub stop : IfErr result (IsStop (command.has_fault input))
   pub only_done : command.is_done input → AnswersStatus 0 result
   pub only_refused : command.is_refused input → AnswersStatus 1 result

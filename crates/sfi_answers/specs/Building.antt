@@ -1,5 +1,5 @@
 -- The commands `build` and `map`, on a source text.
-use Rattle.std.specs.Prelude.{ℕ, List, ◌++◌, codes, decimal, ◌≡◌, ◌⊎◌, ◌<◌, ◌≤◌, length, IsUtf8}
+use Rattle.std.specs.Prelude.{ℕ, List, ◌++◌, codes, decimal, ◌≡◌, ◌⊎◌, ◌<◌, ◌≤◌, length, IsUtf8, Bool, true, false}
 use Rattle.std.specs.List.{flat_map}
 use Rattle.sfi_link.specs.Names.{MapEntry}
 use Rattle.sfi_link.specs.declared.names.NameKind.{NameKind}
@@ -68,9 +68,14 @@ of_source {A} is_made text_of places = record {
 abbrev pub digits_line : List ℕ → List ℕ
 digits_line bytes = encode_lower bytes ++ line_end
 
--- `build`, with these places: the line of the build's bytes
-abbrev pub build : List Place → Meaning
-build = of_source IsTextBuild digits_line
+-- an image's bytes as they are, or as such a line
+abbrev pub image_output : Bool → List ℕ → List ℕ
+image_output true bytes = bytes
+image_output false bytes = digits_line bytes
+
+-- `build`, with these places: the build's bytes, or their line
+abbrev pub build : Bool → List Place → Meaning
+build raw = of_source IsTextBuild (image_output raw)
 
 -- `map`, with these places: the lines of the gates and labels, with the addresses that they have
 -- there; what has no build has no map, and the same fault

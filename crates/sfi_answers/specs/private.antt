@@ -1,5 +1,5 @@
 -- Words that private contracts and proofs alone cite: no public statement rests on them.
-use Rattle.std.specs.Prelude.{◌≡◌, ◌≢◌, ◌⊎◌, List, [], Result, Ok, Err, string_bytes, ℕ, Bool, true, false, ◌++◌, Option, Some, None, IfSome}
+use Rattle.std.specs.Prelude.{◌≡◌, ◌≢◌, ◌⊎◌, List, [], Result, Ok, Err, ℕ, Bool, true, false, ◌++◌, Option, Some, None, IfSome}
 use Rattle.sfi_rules.specs.declared.finding.Finding.{Finding}
 use Rattle.sfi_check.specs.declared.conversion.ConvertFault.{ConvertFault}
 use Rattle.sfi_check.specs.declared.conversion.ConvertFault.TheVariants.{Refused, NotOld, Stack, Memory, Words}
@@ -36,7 +36,7 @@ HoldsSome fault = (found : List Finding) → HasFound fault found → found ≢ 
 -- the answer on bytes that are not converted for this fault
 abbrev pub AnswersConvertFault : ConvertFault → Result Answer Stop → Type 0
 AnswersConvertFault fault (Ok answer) = (answer.status ≡ 1) × ((found : List Finding)
-    × HasFound fault found × (string_bytes answer.text ≡ refused_line found))
+    × HasFound fault found × (answer.output.items ≡ refused_line found))
 AnswersConvertFault fault (Err (stop.Input other)) = (fault ≡ NotOld) ⊎ (fault ≡ Words)
 AnswersConvertFault fault (Err (stop.Layout k)) = fault ≡ Refused (refusal.Layout k)
 AnswersConvertFault fault (Err (stop.Build other)) = ⊥

@@ -6,7 +6,7 @@ ghost use Rattle.sfi_answers.specs.private.{IsSourceStop};
 ghost use Rattle.sfi_io.specs.Streams.{limit};
 
 use crate::fault::{InputFault, Stop};
-use crate::verdict::{Answer, digits_line};
+use crate::verdict::{Answer, image_output};
 use sfi_build::{build_at, names_at};
 use sfi_link::{NameAddress, NameKind};
 use sfi_policy::Place;
@@ -59,16 +59,17 @@ fn source_text(text: &[u8]) -> Result<&str, Stop>
     }
 }
 
-/// The image that the source text makes with its sandboxes at these places, in hexadecimal digits.
-pub fn build_answer(alloc: Global, places: &[Place], text: &[u8]) -> Result<Answer, Stop>
+/// The image that the source text makes with its sandboxes at these places: its bytes, or in hexadecimal
+/// digits.
+pub fn build_answer(alloc: Global, raw: bool, places: &[Place], text: &[u8]) -> Result<Answer, Stop>
     requires { length text.now ≤ limit }
-    ensures { Answers (build places.now) text.now result }
+    ensures { Answers (build raw places.now) text.now result }
 {
     let source = source_text(text)?;
     let bytes = build_at(alloc, source, places)?;
     Ok(Answer {
         status: 0,
-        text: digits_line(alloc, &bytes)?,
+        output: image_output(alloc, raw, bytes)?,
     })
 }
 
@@ -80,8 +81,5 @@ pub fn map_answer(alloc: Global, places: &[Place], text: &[u8]) -> Result<Answer
 {
     let source = source_text(text)?;
     let names = names_at(alloc, source, places)?;
-    Ok(Answer {
-        status: 0,
-        text: map_lines(alloc, &names)?,
-    })
+    Ok(Answer::lines(0, map_lines(alloc, &names)?))
 }

@@ -1,11 +1,11 @@
 //! The command `check`.
 
-ghost use Rattle.std.specs.Prelude.{IfOk, string_bytes};
+ghost use Rattle.std.specs.Prelude.{◌≡◌, ◌<◌, ◌≤◌, IfOk, string_bytes};
 ghost use Rattle.sfi_check.specs.Verdict.{HasFindings};
 ghost use Rattle.sfi_answers.specs.Answers.{Answers};
 ghost use Rattle.sfi_answers.specs.Checking.{Refuses, IsRefusalText, IsReportOf, SaysRefused, check, on_verdict};
 
-use crate::fault::Stop;
+use crate::fault::{Stop, stop_answer};
 use crate::verdict::{Answer, accepted_line, refused_line};
 use sfi_check::{Refusal, check};
 use sfi_image::parse_image;
@@ -58,10 +58,10 @@ pub fn refusal_answer(
     ensures { Answers (on_verdict (SaysRefused report)) bytes.now result }
 {
     match refusal {
-        Refusal::Findings(findings) => Ok(Answer {
-            status: 1,
-            text: refusal_text(alloc, report, bytes, findings.as_slice())?,
-        }),
+        Refusal::Findings(findings) => Ok(Answer::lines(
+            1,
+            refusal_text(alloc, report, bytes, findings.as_slice())?,
+        )),
         Refusal::Layout(fault) => Err(Stop::Layout(fault)),
         Refusal::Memory => Err(Stop::Memory),
     }
@@ -72,10 +72,23 @@ pub fn check_answer(alloc: Global, report: bool, bytes: &[u8]) -> Result<Answer,
     ensures { Answers (check report) bytes.now result }
 {
     match check(alloc, bytes) {
-        Ok(accepted) => Ok(Answer {
-            status: 0,
-            text: accepted_line(alloc, accepted.sandboxes(), accepted.bundles())?,
-        }),
+        Ok(accepted) => Ok(Answer::lines(
+            0,
+            accepted_line(alloc, accepted.sandboxes(), accepted.bundles())?,
+        )),
         Err(refusal) => refusal_answer(alloc, report, bytes, refusal),
+    }
+}
+
+/// The same, with the line of its fault where they are no image.
+pub fn bytes_answer(alloc: Global, report: bool, bytes: &[u8]) -> Result<Answer, AllocError>
+    ensures statuses { IfOk result (λ a. a.status ≤ 2) }
+    ensures says { IfOk result
+        (λ a. a.status < 2 → (check report).says bytes.now a.status a.output.items) }
+    ensures fault { IfOk result (λ a. a.status ≡ 2 → (check report).has_fault bytes.now) }
+{
+    match check_answer(alloc, report, bytes) {
+        Ok(answer) => Ok(answer),
+        Err(stop) => stop_answer(alloc, stop),
     }
 }

@@ -8,7 +8,7 @@ ghost use Rattle.sfi_answers.specs.Checking.{refused_line};
 ghost use Rattle.sfi_answers.specs.Converting.{convert};
 
 use crate::fault::{InputFault, Stop};
-use crate::verdict::{Answer, digits_line, refused_line};
+use crate::verdict::{Answer, image_output, refused_line};
 use sfi_check::{ConvertFault, Refusal, convert};
 use sfi_rules::Finding;
 use std::alloc::{AllocError, Global};
@@ -28,10 +28,7 @@ fn refused_answer(alloc: Global, refusal: Refusal) -> Result<Answer, Stop>
 {
     match refusal {
         Refusal::Layout(fault) => Err(Stop::Layout(fault)),
-        Refusal::Findings(found) => Ok(Answer {
-            status: 1,
-            text: findings_line(alloc, found.as_slice())?,
-        }),
+        Refusal::Findings(found) => Ok(Answer::lines(1, findings_line(alloc, found.as_slice())?)),
         Refusal::Memory => Err(Stop::Memory),
     }
 }
@@ -44,24 +41,21 @@ fn fault_answer(alloc: Global, fault: ConvertFault) -> Result<Answer, Stop>
     match fault {
         ConvertFault::Refused(refusal) => refused_answer(alloc, refusal),
         ConvertFault::NotOld => Err(Stop::Input(InputFault::NotOld)),
-        ConvertFault::Stack(found) => Ok(Answer {
-            status: 1,
-            text: findings_line(alloc, found.as_slice())?,
-        }),
+        ConvertFault::Stack(found) => Ok(Answer::lines(1, findings_line(alloc, found.as_slice())?)),
         ConvertFault::Memory => Err(Stop::Memory),
         ConvertFault::Words => Err(Stop::Input(InputFault::Words)),
     }
 }
 
-/// The image with these bytes, in the second format, in hexadecimal digits; or the verdict where it
-/// breaks a rule of either format.
-pub fn conversion_answer(alloc: Global, bytes: &[u8]) -> Result<Answer, Stop>
-    ensures { Answers convert bytes.now result }
+/// The image with these bytes in the second format, as bytes or in hexadecimal digits; or the verdict
+/// where it breaks a rule of either format.
+pub fn conversion_answer(alloc: Global, raw: bool, bytes: &[u8]) -> Result<Answer, Stop>
+    ensures { Answers (convert raw) bytes.now result }
 {
     match convert(alloc, bytes) {
         Ok(new) => Ok(Answer {
             status: 0,
-            text: digits_line(alloc, &new)?,
+            output: image_output(alloc, raw, new)?,
         }),
         Err(fault) => fault_answer(alloc, fault),
     }

@@ -109,8 +109,5 @@ fn stop_line(alloc: Global, stop: Stop) -> Result<String, AllocError>
 pub fn stop_answer(alloc: Global, stop: Stop) -> Result<Answer, AllocError>
     ensures { IfOk result (λ a. (a.status ≡ 2) × (stop ≢ Memory)) }
 {
-    Ok(Answer {
-        status: 2,
-        text: stop_line(alloc, stop)?,
-    })
+    Ok(Answer::lines(2, stop_line(alloc, stop)?))
 }

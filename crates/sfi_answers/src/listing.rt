@@ -14,10 +14,7 @@ pub fn listing_answer(alloc: Global, bytes: &[u8]) -> Result<Answer, Stop>
     ensures { Answers dis bytes.now result }
 {
     match parse_image(alloc, bytes) {
-        Ok(image) => Ok(Answer {
-            status: 0,
-            text: listing_text(alloc, &image)?,
-        }),
+        Ok(image) => Ok(Answer::lines(0, listing_text(alloc, &image)?)),
         Err(ImageFault::Layout(fault)) => Err(Stop::Layout(fault)),
         Err(ImageFault::Memory) => Err(Stop::Memory),
     }

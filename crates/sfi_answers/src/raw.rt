@@ -18,23 +18,20 @@ pub(crate) fn stream_answer(alloc: Global, verdict: StreamAnswer) -> Result<Answ
     requires { (bytes : List ℕ) × (ends : Bool) × IsVerdictOn bytes ends verdict }
     ensures statuses { IfOk result (λ a. a.status ≤ 2) }
     ensures says { IfOk result (λ a. a.status < 2 → (all : List ℕ) → IsJudged verdict all
-        → (check false).says all a.status (string_bytes a.text)) }
+        → (check false).says all a.status a.output.items) }
     ensures fault { IfOk result (λ a. a.status ≡ 2 → (all : List ℕ) → IsJudged verdict all
         → HasSomeFault all) }
 {
     match verdict {
-        StreamAnswer::Accepted { sandboxes, bundles } => Ok(Answer {
-            status: 0,
-            text: accepted_line(alloc, sandboxes as usize, bundles as usize)?,
-        }),
-        StreamAnswer::Findings { count, first } => Ok(Answer {
-            status: 1,
-            text: refused_line(alloc, count as usize, first)?,
-        }),
-        StreamAnswer::Layout(fault) => Ok(Answer {
-            status: 2,
-            text: layout_line(alloc, fault)?,
-        }),
+        StreamAnswer::Accepted { sandboxes, bundles } => Ok(Answer::lines(
+            0,
+            accepted_line(alloc, sandboxes as usize, bundles as usize)?,
+        )),
+        StreamAnswer::Findings { count, first } => Ok(Answer::lines(
+            1,
+            refused_line(alloc, count as usize, first)?,
+        )),
+        StreamAnswer::Layout(fault) => Ok(Answer::lines(2, layout_line(alloc, fault)?)),
         StreamAnswer::ReadFault => Err(ReadStop::Failed),
     }
 }
@@ -45,7 +42,7 @@ pub fn raw_answer<R: Read>(alloc: Global, reader: &mut R) -> Result<Answer, Read
     ensures statuses { IfOk result (λ a. a.status ≤ 2) }
     ensures says { IfOk result (λ a. a.status < 2
         → IfSome (R.remaining reader.old)
-        (λ bytes. (check false).says bytes a.status (string_bytes a.text))) }
+        (λ bytes. (check false).says bytes a.status a.output.items)) }
     ensures fault { IfOk result
         (λ a. a.status ≡ 2 → IfSome (R.remaining reader.old) (check false).has_fault) }
 {

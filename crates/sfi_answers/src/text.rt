@@ -1,8 +1,9 @@
 //! The command `check` on a text, which is read in pieces.
 
 ghost use Rattle.std.specs.Prelude.{◌≡◌, ◌<◌, ◌≤◌, false, IfOk, IfSome, string_bytes};
-ghost use Rattle.sfi_answers.specs.Answers.{on_text};
+ghost use Rattle.sfi_answers.specs.Answers.{on_image};
 ghost use Rattle.sfi_answers.specs.Checking.{check};
+ghost use Rattle.sfi_io.specs.Images.{BeginsAsImage};
 
 use crate::fault::{InputFault, Stop, TOO_LARGE_LINE, stop_answer};
 use crate::raw::stream_answer;
@@ -91,13 +92,14 @@ impl<'a, R: Read> SpelledBytes<'a, R> {
 /// The verdict on the image that the reader's text spells. A fault of the text goes before it, so the
 /// text is read to its end or past its limit. Memory is taken for the line alone, however long the text
 /// is.
-pub fn text_answer<R: Read>(alloc: Global, reader: &mut R) -> Result<Answer, ReadStop>
+pub(crate) fn text_answer<R: Read>(alloc: Global, reader: &mut R) -> Result<Answer, ReadStop>
     ensures statuses { IfOk result (λ a. a.status ≤ 2) }
     ensures says { IfOk result (λ a. a.status < 2
         → IfSome (R.remaining reader.old)
-        (λ text. (on_text (check false)).says text a.status (string_bytes a.text))) }
+        (λ text. (on_image (check false)).says text a.status a.output.items)) }
     ensures fault { IfOk result (λ a. a.status ≡ 2
-        → IfSome (R.remaining reader.old) (on_text (check false)).has_fault) }
+        → IfSome (R.remaining reader.old)
+        (λ text. (¬ BeginsAsImage text) → (on_image (check false)).has_fault text)) }
 {
     let mut source = SpelledBytes {
         text: HexReader::new(reader),
@@ -107,10 +109,7 @@ pub fn text_answer<R: Read>(alloc: Global, reader: &mut R) -> Result<Answer, Rea
     match source.end() {
         Ok(()) => stream_answer(alloc, verdict),
         Err(TextStop::Fault(fault)) => Ok(stop_answer(alloc, Stop::Input(InputFault::Hex(fault)))?),
-        Err(TextStop::TooLarge) => Ok(Answer {
-            status: 2,
-            text: String::from_str(alloc, TOO_LARGE_LINE)?,
-        }),
+        Err(TextStop::TooLarge) => Ok(Answer::lines(2, String::from_str(alloc, TOO_LARGE_LINE)?)),
         Err(TextStop::Failed) => Err(ReadStop::Failed),
     }
 }

@@ -49,10 +49,7 @@ pub fn translation_answer(alloc: Global, whole: bool, bytes: &[u8]) -> Result<An
     ensures { Answers (translate whole) bytes.now result }
 {
     match check(alloc, bytes) {
-        Ok(accepted) => Ok(Answer {
-            status: 0,
-            text: text_of(alloc, whole, accepted.image())?,
-        }),
+        Ok(accepted) => Ok(Answer::lines(0, text_of(alloc, whole, accepted.image())?)),
         Err(refusal) => refusal_answer(alloc, false, bytes, refusal),
     }
 }

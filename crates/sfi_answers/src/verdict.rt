@@ -2,19 +2,34 @@
 
 ghost use Rattle.std.specs.Prelude.{◌≡◌, IfOk, string_bytes};
 ghost use Rattle.sfi_answers.specs.Checking.{accepted_text, refused_text};
-ghost use Rattle.sfi_answers.specs.Building.{digits_line};
+ghost use Rattle.sfi_answers.specs.Building.{digits_line, image_output};
 
 use sfi_report::push_eight_digits;
 use sfi_rules::Finding;
 use std::alloc::{AllocError, Global};
 
-/// What a command answers: the status to end with, and the text to print.
+/// What a command answers: the status to end with, and what is printed.
 #[derive(Debug, Drop)]
 pub struct Answer {
     /// 0 where the job was done, 1 where the image has findings, 2 for a fault of the input.
     pub status: u8,
-    /// Whole lines, each of which ends in LF.
-    pub text: String,
+    /// Whole lines, each of which ends in LF, or an image's bytes.
+    pub output: Vec<u8>,
+}
+
+impl Answer {
+    ghost use Rattle.std.specs.Prelude.{◌≡◌, string_bytes};
+
+    /// The answer of whole lines, each of which ends in LF.
+    pub fn lines(status: u8, text: String) -> Answer
+        ensures status { result.status ≡ status }
+        ensures output { result.output.items ≡ string_bytes text }
+    {
+        Answer {
+            status,
+            output: text.into_bytes(),
+        }
+    }
 }
 
 /// The verdict on an image without findings, which has so many sandboxes and bundles.
@@ -51,10 +66,20 @@ pub(crate) fn refused_line(
 }
 
 /// The bytes in lower-case hexadecimal digits, on one line.
-pub(crate) fn digits_line(alloc: Global, bytes: &[u8]) -> Result<String, AllocError>
+fn digits_line(alloc: Global, bytes: &[u8]) -> Result<String, AllocError>
     ensures { IfOk result (λ line. string_bytes line ≡ digits_line bytes.now) }
 {
     let mut line = hex::encode(alloc, bytes)?;
     line.push_str("\n")?;
     Ok(line)
+}
+
+/// The image's bytes as they are, or in lower-case hexadecimal digits on one line.
+pub(crate) fn image_output(alloc: Global, raw: bool, bytes: Vec<u8>) -> Result<Vec<u8>, AllocError>
+    ensures { IfOk result (λ output. output.items ≡ image_output raw bytes.items) }
+{
+    if raw {
+        return Ok(bytes);
+    }
+    Ok(digits_line(alloc, &bytes)?.into_bytes())
 }

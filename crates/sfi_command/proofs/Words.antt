@@ -197,10 +197,10 @@ only_run : (rows : List Row)
     → (job : Job) → ¬ Names (Some (codes "run", rows)) job
 only_run rows none (Check raw report) names = other_name _ _ 114 99 names.0 refl refl (λ e. absurd (omega (arith, e)))
 only_run rows none Dis names = other_name _ _ 114 100 names refl refl (λ e. absurd (omega (arith, e)))
-only_run rows none (Build places) names = other_name _ _ 114 98 names.0 refl refl (λ e. absurd (omega (arith, e)))
+only_run rows none (Build raw places) names = other_name _ _ 114 98 names.0 refl refl (λ e. absurd (omega (arith, e)))
 only_run rows none (Map places) names = other_name _ _ 114 109 names.0 refl refl (λ e. absurd (omega (arith, e)))
 only_run rows none (Run rounds quantum input report) names = none rounds quantum input report names
-only_run rows none Convert names = other_name _ _ 114 99 names refl refl (λ e. absurd (omega (arith, e)))
+only_run rows none (Convert raw) names = other_name _ _ 114 99 names.0 refl refl (λ e. absurd (omega (arith, e)))
 only_run rows none (Translate whole) names = other_name _ _ 114 116 names.0 refl refl (λ e. absurd (omega (arith, e)))
 
 -- the texts of an option that was given, and of one that wasn't

@@ -51,9 +51,10 @@ value_rule name = record (new_rule name) { long = Some name; value_names = 1 }
 abbrev pub places_rule : Rule
 places_rule = record (value_rule (codes "at")) { action = Some Append }
 
--- `build [--at CODE:DATA]..`
+-- `build [--at CODE:DATA].. [--raw]`
 abbrev pub build : Shape
-build = record (new_shape (codes "build")) { rules = places_rule ∷ [] }
+build = record (new_shape
+    (codes "build")) { rules = places_rule ∷ flag_rule (codes "raw") ∷ [] }
 
 -- `map [--at CODE:DATA]..`
 abbrev pub map_names : Shape
@@ -76,9 +77,9 @@ run = record (new_shape (codes "run")) {
       ∷ flag_rule (codes "report") ∷ [];
 }
 
--- `convert`, without options
+-- `convert [--raw]`
 abbrev pub convert : Shape
-convert = new_shape (codes "convert")
+convert = record (new_shape (codes "convert")) { rules = flag_rule (codes "raw") ∷ [] }
 
 -- `translate [--whole]`
 abbrev pub translate : Shape
@@ -130,8 +131,9 @@ Names (Some p) (Check raw report) =
     (p.0 ≡ codes "check") × IsGiven (codes "raw") p.1 raw × IsGiven (codes "report") p.1 report
     × ¬ ((raw ≡ true) × (report ≡ true))
 Names (Some p) Dis = p.0 ≡ codes "dis"
-Names (Some p) (Build places) =
-    (p.0 ≡ codes "build") × SpellPlaces (texts_of (codes "at") p.1) places.items
+Names (Some p) (Build raw places) =
+    (p.0 ≡ codes "build") × IsGiven (codes "raw") p.1 raw
+    × SpellPlaces (texts_of (codes "at") p.1) places.items
 Names (Some p) (Map places) =
     (p.0 ≡ codes "map") × SpellPlaces (texts_of (codes "at") p.1) places.items
 Names (Some p) (Run rounds quantum input report) =
@@ -139,7 +141,7 @@ Names (Some p) (Run rounds quantum input report) =
     × IsCount (codes "quantum") quantum_most p.1 quantum
     × IsInputOf (first_of (codes "input") p.1) input.items
     × IsGiven (codes "report") p.1 report
-Names (Some p) Convert = p.0 ≡ codes "convert"
+Names (Some p) (Convert raw) = (p.0 ≡ codes "convert") × IsGiven (codes "raw") p.1 raw
 Names (Some p) (Translate whole) =
     (p.0 ≡ codes "translate") × IsGiven (codes "whole") p.1 whole
 
@@ -175,7 +177,7 @@ IsFaultOf words Memory = Unit {0}
 
 -- ---- what a job reads
 
--- whether the job reads an image's own bytes, and no text
+-- whether what the job reads is an image's bytes, however it begins
 abbrev pub is_raw : Job → Bool
 is_raw (Check raw report) = raw
 is_raw _ = false

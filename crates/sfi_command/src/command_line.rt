@@ -125,7 +125,8 @@ fn build_of(alloc: Global, found: &ArgMatches<'_>) -> Result<Job, JobFault>
         (IsFaultOfNamed (Some (codes "build", rows_of (found_of found.now)))) }
 {
     let places = places_of(alloc, found)?;
-    Ok(Job::Build { places })
+    let raw = is_given(found, "raw");
+    Ok(Job::Build { raw, places })
 }
 
 /// The map that these options ask for.
@@ -186,7 +187,9 @@ fn job_named(alloc: Global, name: &str, found: &ArgMatches<'_>) -> Result<Job, J
         "build" => build_of(alloc, found),
         "map" => map_of(alloc, found),
         "run" => run_of(alloc, found),
-        "convert" => Ok(Job::Convert),
+        "convert" => Ok(Job::Convert {
+            raw: is_given(found, "raw"),
+        }),
         "translate" => Ok(Job::Translate {
             whole: is_given(found, "whole"),
         }),

@@ -51,6 +51,12 @@ const PLACES: OptionRow = OptionRow {
     about: help::PLACES,
 };
 
+const RAW_OUTPUT: OptionRow = OptionRow {
+    name: "raw",
+    takes: Takes::Nothing,
+    about: help::RAW_OUTPUT,
+};
+
 const COMMANDS: &[CommandRow] = &[
     CommandRow {
         name: "check",
@@ -79,7 +85,7 @@ const COMMANDS: &[CommandRow] = &[
         name: "build",
         about: help::BUILD,
         notes: help::BUILD_NOTES,
-        options: &[PLACES],
+        options: &[PLACES, RAW_OUTPUT],
     },
     CommandRow {
         name: "map",
@@ -126,7 +132,7 @@ const COMMANDS: &[CommandRow] = &[
         name: "convert",
         about: help::CONVERT,
         notes: help::CONVERT_NOTES,
-        options: &[],
+        options: &[RAW_OUTPUT],
     },
     CommandRow {
         name: "translate",

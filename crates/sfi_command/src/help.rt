@@ -9,8 +9,9 @@ pub(crate) const PROGRAM: &str =
 
 pub(crate) const PROGRAM_NOTES: &str = "\
 Each command reads standard input and writes standard output, lines about
-faults too. Images are hexadecimal text: digits of either case, with white
-space between them. `sfi help COMMAND` says more of a command.
+faults too. An image is read as its own bytes where these begin with the magic
+of a format, else as hexadecimal text: digits of either case, with white space
+between them. `sfi help COMMAND` says more of a command.
 
 Exit status:
   0  done: the image is accepted, built, mapped, listed, run, converted or
@@ -29,7 +30,7 @@ Example:
 pub(crate) const CHECK: &str = "Accept an image, or refuse it for the rules that its code breaks";
 
 pub(crate) const CHECK_RAW: &str =
-    "Read the image's own bytes, of any number, and not their digits";
+    "Read an image's own bytes, of any number and however they begin, and hold none of them";
 
 pub(crate) const CHECK_REPORT: &str =
     "Before the verdict print a line for each finding; not with --raw";
@@ -40,8 +41,8 @@ Reads an image, and prints one of
   refused findings=N first=Vk sandbox=S at=AAAAAAAA
   layout fault K Name, or another line that names a fault of the input
 
-An image's own bytes get `input fault hex ..` where --raw is missing; digits get
-`layout fault 1 Magic` where it is given.
+With --raw, what doesn't begin with a magic gets `layout fault 1 Magic`, digits
+too; without it, it is read as digits.
 
 Exit status:
   0  accepted: C sandboxes with B bundles of code, and no finding
@@ -52,7 +53,7 @@ Exit status:
 
 Example:
   sfi check --report < hi.hex
-  xxd -r -p hi.hex | sfi check --raw";
+  sfi build --raw < examples/hi.s | sfi check --raw";
 
 pub(crate) const DIS: &str = "List an image's regions, gates and instructions";
 
@@ -73,9 +74,11 @@ pub(crate) const BUILD: &str = "Make the image of a source text";
 pub(crate) const PLACES: &str =
     "Where a sandbox's code and data begin, in hexadecimal; once for each sandbox, in order";
 
+pub(crate) const RAW_OUTPUT: &str = "Write the image's bytes, and not their digits";
+
 pub(crate) const BUILD_NOTES: &str = "\
 Reads a source text, in UTF-8, and prints the image on one line of hexadecimal
-digits. `sfi check` accepts what is built.
+digits, or with --raw its bytes. `sfi check` accepts what is built.
 
 The first --at is the place of the first sandbox, and so on. A sandbox without
 one has its usual place: code at N times 01000000, data 00800000 above it, where
@@ -88,6 +91,7 @@ Exit status:
 
 Example:
   sfi build < examples/hi.s > hi.hex
+  sfi build --raw < examples/hi.s > hi.image
   sfi build --at 20500000:80000000 < examples/hi.s > hi.hex";
 
 pub(crate) const MAP: &str = "Say where the gates and labels of a source text lie in its image";
@@ -141,7 +145,8 @@ pub(crate) const CONVERT: &str = "Write an image of the first format in the seco
 
 pub(crate) const CONVERT_NOTES: &str = "\
 Reads an image of the first format, and prints the same sandboxes in the second
-format, in which x2 is a stack pointer, on one line of hexadecimal digits.
+format, in which x2 is a stack pointer, on one line of hexadecimal digits, or
+with --raw as bytes.
 
 Exit status:
   0  converted

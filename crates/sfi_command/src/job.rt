@@ -8,20 +8,22 @@ use sfi_policy::Place;
 use std::alloc::{AllocError, Global};
 use thiserror::Error;
 
-/// A command with its options as values.
+/// A command with its options as values. An image that is read is its bytes or hexadecimal text.
 #[derive(Drop)]
 pub enum Job {
-    /// Is the image accepted? Its bytes come as hexadecimal text, or as they are.
+    /// Is the image accepted?
     Check {
-        /// Whether the bytes come as they are. There is no report then.
+        /// Whether what is read is the image's bytes, however it begins. There is no report then.
         raw: bool,
         /// Whether each finding is printed before the verdict.
         report: bool,
     },
-    /// The listing of the image. Its bytes come as hexadecimal text.
+    /// The listing of the image.
     Dis,
-    /// The image that a source text makes, as hexadecimal text.
+    /// The image that a source text makes.
     Build {
+        /// Whether its bytes are written as they are, and not as hexadecimal text.
+        raw: bool,
         /// Where the sandboxes lie, in their order. Those that it doesn't reach lie at their usual
         /// places.
         places: Vec<Place>,
@@ -31,7 +33,7 @@ pub enum Job {
         /// Where the sandboxes lie, as for a build.
         places: Vec<Place>,
     },
-    /// A run of the image's sandboxes. Its bytes come as hexadecimal text.
+    /// A run of the image's sandboxes.
     Run {
         /// How often each sandbox gets a turn, from 1 to 10000.
         rounds: u32,
@@ -42,9 +44,12 @@ pub enum Job {
         /// Whether the pc and the registers are printed of each sandbox that may go on or trapped.
         report: bool,
     },
-    /// The image in the second format, as hexadecimal text. Its bytes come as hexadecimal text.
-    Convert,
-    /// The image as C. Its bytes come as hexadecimal text.
+    /// The image in the second format.
+    Convert {
+        /// Whether its bytes are written as they are, and not as hexadecimal text.
+        raw: bool,
+    },
+    /// The image as C.
     Translate {
         /// Whether it is a whole program, with the header and the console of `run` in it.
         whole: bool,
@@ -52,7 +57,7 @@ pub enum Job {
 }
 
 impl Job {
-    /// Whether the job reads an image's own bytes, and no text.
+    /// Whether what the job reads is an image's bytes, however it begins.
     pub fn is_raw(&self) -> bool
         ensures { result ≡ is_raw self.now }
     {

@@ -2,7 +2,7 @@
 use Rattle.std.specs.Prelude.{ℕ, List, true, false, ◌⊎◌, Option, IfSome}
 use Rattle.sfi_command.specs.declared.job.Job.{Job}
 use Rattle.sfi_command.specs.declared.job.Job.TheVariants.{Check, Dis, Build, Map, Run, Convert, Translate}
-use Rattle.sfi_answers.specs.Answers.{Meaning, on_text}
+use Rattle.sfi_answers.specs.Answers.{Meaning, on_image}
 use Rattle.sfi_answers.specs.Checking.{check}
 use Rattle.sfi_answers.specs.Listing.{dis}
 use Rattle.sfi_answers.specs.Building.{build, map}
@@ -13,18 +13,18 @@ use Rattle.std.specs.Io.KnownBytes.{Appends}
 use Rattle.clap.specs.Walk.{Text}
 use Rattle.sfi_command.specs.Command.{Asks, AsksNoInput}
 
--- what is said of each job, by its command. All read hexadecimal text, but for a check of an
--- image's own bytes, and a build and a map of a source text
+-- what is said of each job, by its command. All read an image's bytes or hexadecimal text, but for
+-- a check of bytes, however they begin, and a build and a map of a source text
 abbrev pub meaning_of : Job → Meaning
 meaning_of (Check true report) = check report
-meaning_of (Check false report) = on_text (check report)
-meaning_of Dis = on_text dis
-meaning_of (Build places) = build places.items
+meaning_of (Check false report) = on_image (check report)
+meaning_of Dis = on_image dis
+meaning_of (Build raw places) = build raw places.items
 meaning_of (Map places) = map places.items
 meaning_of (Run rounds quantum given report) =
-    on_text (run rounds quantum given.items report)
-meaning_of Convert = on_text convert
-meaning_of (Translate whole) = on_text (translate whole)
+    on_image (run rounds quantum given.items report)
+meaning_of (Convert raw) = on_image (convert raw)
+meaning_of (Translate whole) = on_image (translate whole)
 
 -- the job's answer, with status 0 or 1, on what was read
 abbrev pub Says : Job → List ℕ → ℕ → List ℕ → Type 0

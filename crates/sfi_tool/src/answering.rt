@@ -1,6 +1,6 @@
-//! What a job answers on the text that was read.
+//! What a job answers on what was read.
 
-ghost use Rattle.std.specs.Prelude.{◌≡◌, ◌≤◌, ◌<◌, false, length, IfOk, string_bytes};
+ghost use Rattle.std.specs.Prelude.{◌≡◌, ◌≤◌, ◌<◌, false, length, IfOk};
 ghost use Rattle.sfi_command.specs.Command.{is_raw};
 ghost use Rattle.sfi_io.specs.Streams.{limit};
 ghost use Rattle.sfi_tool.specs.Says.{HasInputFault, IsDone, IsRefused, Says, meaning_of};
@@ -12,19 +12,19 @@ use sfi_answers::{
     map_answer, stop_answer, translation_answer,
 };
 use sfi_command::Job;
-use sfi_io::{INPUT_LIMIT, bytes_of};
+use sfi_io::{INPUT_LIMIT, image_bytes};
 use std::alloc::{AllocError, Global};
 
-/// What the job answers on a text that keeps its limit, or why it stops.
+/// What the job answers on input that keeps its limit, or why it stops.
 fn job_answer(alloc: Global, job: &Job, text: &[u8]) -> Result<Answer, Stop>
     requires reads_text { is_raw job.now ≡ false }
     requires within_limit { length text.now ≤ limit }
     ensures { Answers (meaning_of job.now) text.now result }
 {
     match job {
-        Job::Check { report, .. } => check_answer(alloc, *report, &bytes_of(alloc, text)?),
-        Job::Dis => listing_answer(alloc, &bytes_of(alloc, text)?),
-        Job::Build { places } => build_answer(alloc, places, text),
+        Job::Check { report, .. } => check_answer(alloc, *report, &image_bytes(alloc, text)?),
+        Job::Dis => listing_answer(alloc, &image_bytes(alloc, text)?),
+        Job::Build { raw, places } => build_answer(alloc, *raw, places, text),
         Job::Map { places } => map_answer(alloc, places, text),
         Job::Run {
             rounds,
@@ -37,17 +37,17 @@ fn job_answer(alloc: Global, job: &Job, text: &[u8]) -> Result<Answer, Stop>
             *quantum,
             input,
             *report,
-            &bytes_of(alloc, text)?,
+            &image_bytes(alloc, text)?,
         ),
-        Job::Convert => conversion_answer(alloc, &bytes_of(alloc, text)?),
-        Job::Translate { whole } => translation_answer(alloc, *whole, &bytes_of(alloc, text)?),
+        Job::Convert { raw } => conversion_answer(alloc, *raw, &image_bytes(alloc, text)?),
+        Job::Translate { whole } => translation_answer(alloc, *whole, &image_bytes(alloc, text)?),
     }
 }
 
-/// What the job answers on the text that was read: what it was to print, or the line of a fault. A
-/// job that reads an image's own bytes has no text.
+/// What the job answers on what was read: what it was to print, or the line of a fault. A check of
+/// bytes, however they begin, is made as they are read.
 ///
-/// A text above 134217728 bytes goes first. Of an image's digits an odd number goes next, then the
+/// Input above 134217728 bytes goes first. Of an image's digits an odd number goes next, then the
 /// first byte that is no digit, and then the layout; of a source, that it is no UTF-8, and then its own
 /// faults. The one error is that an allocation was refused.
 #[tactic(auto, using(crate::proofs::Jobs::too_large, crate::proofs::Jobs::not_done, crate::proofs::Jobs::not_refused))]
@@ -57,7 +57,7 @@ pub fn answer(alloc: Global, job: &Job, text: &[u8]) -> Result<Answer, AllocErro
     // What each answer means.
     ensures statuses { IfOk result (λ a. a.status ≤ 2) }
     ensures says { IfOk result (λ a. a.status < 2
-        → Says job.now text.now a.status (string_bytes a.text)) }
+        → Says job.now text.now a.status a.output.items) }
     ensures fault { IfOk result (λ a. a.status ≡ 2 → HasInputFault job.now text.now) }
 
     // Which text gets it.
@@ -66,10 +66,7 @@ pub fn answer(alloc: Global, job: &Job, text: &[u8]) -> Result<Answer, AllocErro
     ensures only_fault { HasInputFault job.now text.now → IfOk result (λ a. a.status ≡ 2) }
 {
     if text.len() > INPUT_LIMIT {
-        return Ok(Answer {
-            status: 2,
-            text: String::from_str(alloc, TOO_LARGE_LINE)?,
-        });
+        return Ok(Answer::lines(2, String::from_str(alloc, TOO_LARGE_LINE)?));
     }
     match job_answer(alloc, job, text) {
         Ok(answer) => Ok(answer),

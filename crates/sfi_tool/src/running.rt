@@ -104,10 +104,10 @@ pub(crate) fn run_answer(
     ensures { Answers (run rounds quantum input.now report) bytes.now result }
 {
     match check(alloc, bytes) {
-        Ok(accepted) => Ok(Answer {
-            status: 0,
-            text: run_text(alloc, &accepted, rounds, quantum, input, report)?,
-        }),
+        Ok(accepted) => Ok(Answer::lines(
+            0,
+            run_text(alloc, &accepted, rounds, quantum, input, report)?,
+        )),
         Err(refusal) => refusal_answer(alloc, false, bytes, refusal),
     }
 }

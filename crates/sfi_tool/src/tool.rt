@@ -9,23 +9,19 @@ ghost use Rattle.sfi_tool.specs.Says.{WritesAnswer, MeetsFault, OnlyAppends, Has
 ghost use Rattle.sfi_tool.specs.private.{Runs};
 
 use crate::answering::answer;
-use sfi_answers::{Answer, TOO_LARGE_LINE, raw_answer, text_answer};
+use sfi_answers::{Answer, TOO_LARGE_LINE, image_answer, raw_answer};
 use sfi_command::{HEX_LINE, Job, JobFault, job_of};
 use sfi_io::{Input, ReadStop, read_input, write_out};
 use std::alloc::Global;
 use std::io::{Read, Write};
 
-/// Writes the text, and gives the status, or 5 where a write failed.
-fn status_after_writing<W: Write>(writer: &mut W, status: u8, text: &str) -> u8
+/// Writes the output, and gives the status, or 5 where a write failed.
+fn status_after_writing<W: Write>(writer: &mut W, status: u8, output: &[u8]) -> u8
     ensures status { result ≢ 5 → result ≡ status }
-    ensures whole { result ≢ 5 → Appends (W.contents writer.old) (W.contents writer.new) text.now }
+    ensures whole { result ≢ 5 → Appends (W.contents writer.old) (W.contents writer.new) output.now }
     ensures appends { OnlyAppends (W.contents writer.old) (W.contents writer.new) }
 {
-    if write_out(writer, text.as_bytes()) {
-        status
-    } else {
-        5
-    }
+    if write_out(writer, output) { status } else { 5 }
 }
 
 /// Writes what is printed for words that ask for no job.
@@ -37,41 +33,42 @@ fn status_of_fault<W: Write>(writer: &mut W, fault: &JobFault) -> u8
     ensures appends { OnlyAppends (W.contents writer.old) (W.contents writer.new) }
 {
     match fault {
-        JobFault::Usage(text) => status_after_writing(writer, 3, text),
-        JobFault::Hex => status_after_writing(writer, 2, HEX_LINE),
+        JobFault::Usage(text) => status_after_writing(writer, 3, text.as_bytes()),
+        JobFault::Hex => status_after_writing(writer, 2, HEX_LINE.as_bytes()),
         JobFault::Memory => 4,
     }
 }
 
-/// The verdict on what is read in pieces: an image's own bytes, or its text.
+/// The verdict on the image that a reader gives: with `raw` as bytes, however they begin, and else as bytes
+/// or as a text, as the first bytes tell.
 fn streamed_answer<R: Read>(alloc: Global, raw: bool, reader: &mut R) -> Result<Answer, ReadStop>
     ensures statuses { IfOk result (λ a. a.status ≤ 2) }
     ensures says { IfOk result (λ a. a.status < 2 → IfSome (R.remaining reader.old)
-        (λ bytes. Says (Check raw false) bytes a.status (string_bytes a.text))) }
+        (λ bytes. Says (Check raw false) bytes a.status a.output.items)) }
     ensures fault { IfOk result (λ a. a.status ≡ 2
         → IfSome (R.remaining reader.old) (HasInputFault (Check raw false))) }
 {
     if raw {
         raw_answer(alloc, reader)
     } else {
-        text_answer(alloc, reader)
+        image_answer(alloc, reader)
     }
 }
 
-/// Runs `check` without a report: what is read isn't held whole.
+/// Runs `check` without a report: only an image that comes as bytes, and without `raw`, is held whole.
 fn run_check<R: Read, W: Write>(alloc: Global, raw: bool, reader: &mut R, writer: &mut W) -> u8
     ensures runs { Runs (Check raw false) (R.remaining reader.old)
         (W.contents writer.old) (W.contents writer.new) result }
     ensures memory { result ≡ 4 → writer.new ≡ writer.old }
 {
     match streamed_answer(alloc, raw, reader) {
-        Ok(answer) => status_after_writing(writer, answer.status, &answer.text),
+        Ok(answer) => status_after_writing(writer, answer.status, &answer.output),
         Err(ReadStop::Memory) => 4,
         Err(ReadStop::Failed) => 5,
     }
 }
 
-/// Runs a job on the text that was read.
+/// Runs a job on what was read.
 fn run_on<W: Write>(alloc: Global, job: &Job, text: &[u8], writer: &mut W) -> u8
     requires { is_raw job.now ≡ false }
     ensures runs { Runs job.now (Some text.now) (W.contents writer.old) (W.contents writer.new)
@@ -79,7 +76,7 @@ fn run_on<W: Write>(alloc: Global, job: &Job, text: &[u8], writer: &mut W) -> u8
     ensures memory { result ≡ 4 → writer.new ≡ writer.old }
 {
     match answer(alloc, job, text) {
-        Ok(answer) => status_after_writing(writer, answer.status, &answer.text),
+        Ok(answer) => status_after_writing(writer, answer.status, &answer.output),
         Err(_) => 4,
     }
 }
@@ -100,7 +97,7 @@ fn run_job<R: Read, W: Write>(alloc: Global, job: &Job, reader: &mut R, writer: 
     }
     match read_input(alloc, reader) {
         Ok(Input::Whole(text)) => run_on(alloc, job, &text, writer),
-        Ok(Input::TooLarge) => status_after_writing(writer, 2, TOO_LARGE_LINE),
+        Ok(Input::TooLarge) => status_after_writing(writer, 2, TOO_LARGE_LINE.as_bytes()),
         Err(ReadStop::Memory) => 4,
         Err(ReadStop::Failed) => 5,
     }

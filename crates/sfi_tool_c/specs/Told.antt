@@ -11,7 +11,7 @@ use Rattle.sfi_tool_c.specs.Words.{SpellsWords}
 abbrev pub with_text : List ℕ → List ℕ → List ℕ
 with_text text array = take (length array) text ++ drop (length text) array
 
--- the words ask for a job, whose answer on what was read has this status and this text
+-- the words ask for a job, whose answer on what was read has this status and this output
 pub record IsAnswer (words : List ℕ) (input : List ℕ) (status : ℕ) (text : List ℕ) : Type 0 where
   pub spelled : List Text
   pub words_are : SpellsWords words spelled

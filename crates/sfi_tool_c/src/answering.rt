@@ -1,41 +1,27 @@
 //! The call that C makes.
-ghost use Rattle.std.specs.Prelude.{◌≡◌, ◌≢◌, ◌⊎◌, ◌≤◌, ◌<◌, ℕ, List, IfOk, string_bytes};
-ghost use Rattle.sfi_answers.specs.Checking.{check};
+ghost use Rattle.std.specs.Prelude.{◌≡◌, ◌≢◌, ◌⊎◌, ◌≤◌, ◌<◌, ℕ, List, IfOk};
 ghost use Rattle.sfi_command.specs.Command.{number_of};
 ghost use Rattle.sfi_tool.specs.Says.{Says, HasInputFault};
 ghost use Rattle.sfi_tool_c.specs.Told.{IsAnswer, TellsAnswer, TellsText, HasFaultOf, SpellsNoCommand};
 
 use crate::output::write_front;
 use crate::words::{WordsFault, words_of};
-use sfi_answers::{Answer, check_answer, stop_answer};
+use sfi_answers::{Answer, bytes_answer};
 use sfi_command::{HEX_LINE, Job, JobFault, job_of};
 use sfi_tool::answer;
 use std::alloc::{AllocError, Global};
 
 const NO_TEXT: &str = "error: the words are not UTF-8, or the last one is not ended\n";
 
-/// The verdict on an image's own bytes.
-fn answer_to_raw(alloc: Global, report: bool, input: &[u8]) -> Result<Answer, AllocError>
-    ensures statuses { IfOk result (λ a. a.status ≤ 2) }
-    ensures says { IfOk result (λ a. a.status < 2
-        → (check report).says input.now a.status (string_bytes a.text)) }
-    ensures fault { IfOk result (λ a. a.status ≡ 2 → (check report).has_fault input.now) }
-{
-    match check_answer(alloc, report, input) {
-        Ok(answer) => Ok(answer),
-        Err(stop) => stop_answer(alloc, stop),
-    }
-}
-
 /// What the job answers on what was read.
 fn answer_to(alloc: Global, job: &Job, input: &[u8]) -> Result<Answer, AllocError>
     ensures statuses { IfOk result (λ a. a.status ≤ 2) }
     ensures says { IfOk result (λ a. a.status < 2
-        → Says job.now input.now a.status (string_bytes a.text)) }
+        → Says job.now input.now a.status a.output.items) }
     ensures fault { IfOk result (λ a. a.status ≡ 2 → HasInputFault job.now input.now) }
 {
     match job {
-        Job::Check { raw: true, report } => answer_to_raw(alloc, *report, input),
+        Job::Check { raw: true, report } => bytes_answer(alloc, *report, input),
         _ => answer(alloc, job, input),
     }
 }
@@ -47,11 +33,8 @@ fn answer_to_fault(alloc: Global, fault: JobFault) -> Result<Answer, AllocError>
     ensures usage { IfOk result (λ a. a.status ≡ 3 → number_of fault ≡ 1) }
 {
     match fault {
-        JobFault::Usage(text) => Ok(Answer { status: 3, text }),
-        JobFault::Hex => Ok(Answer {
-            status: 2,
-            text: String::from_str(alloc, HEX_LINE)?,
-        }),
+        JobFault::Usage(text) => Ok(Answer::lines(3, text)),
+        JobFault::Hex => Ok(Answer::lines(2, String::from_str(alloc, HEX_LINE)?)),
         JobFault::Memory => Err(AllocError),
     }
 }
@@ -60,7 +43,7 @@ fn answer_to_fault(alloc: Global, fault: JobFault) -> Result<Answer, AllocError>
 fn answer_to_words(alloc: Global, words: &[u8], input: &[u8]) -> Result<Answer, AllocError>
     ensures statuses { IfOk result (λ a. a.status ≤ 3) }
     ensures says { IfOk result (λ a. a.status < 2
-        → IsAnswer words.now input.now a.status (string_bytes a.text)) }
+        → IsAnswer words.now input.now a.status a.output.items) }
     ensures fault { IfOk result (λ a. a.status ≡ 2 → HasFaultOf words.now input.now) }
     ensures usage { IfOk result (λ a. a.status ≡ 3 → SpellsNoCommand words.now) }
     ensures only_usage { SpellsNoCommand words.now → IfOk result (λ a. a.status ≡ 3) }
@@ -68,10 +51,9 @@ fn answer_to_words(alloc: Global, words: &[u8], input: &[u8]) -> Result<Answer, 
     let words = match words_of(alloc, words) {
         Ok(words) => words,
         Err(WordsFault::Memory) => return Err(AllocError),
-        Err(WordsFault::NoWords) => return Ok(Answer {
-            status: 3,
-            text: String::from_str(alloc, NO_TEXT)?,
-        }),
+        Err(WordsFault::NoWords) => {
+            return Ok(Answer::lines(3, String::from_str(alloc, NO_TEXT)?));
+        }
     };
     match job_of(alloc, &words) {
         Ok(job) => answer_to(alloc, &job, input),
@@ -79,8 +61,8 @@ fn answer_to_words(alloc: Global, words: &[u8], input: &[u8]) -> Result<Answer, 
     }
 }
 
-/// Answers the command that the words ask for, on what it reads: writes the front of the text to the
-/// array, as much as it holds, and the length of the whole text to `length`, and returns the status.
+/// Answers the command that the words ask for, on what it reads: writes the front of the output to the
+/// array, as much as it holds, and the length of the whole output to `length`, and returns the status.
 #[unsafe(no_mangle)]
 pub extern "C" fn sfi_tool_answer(
     alloc: Global,
@@ -102,8 +84,8 @@ pub extern "C" fn sfi_tool_answer(
 {
     match answer_to_words(alloc, words, input) {
         Ok(answer) => {
-            write_front(answer.text.as_bytes(), output);
-            *length = answer.text.len();
+            write_front(&answer.output, output);
+            *length = answer.output.len();
             answer.status as u32
         }
         Err(_) => {

@@ -1,9 +1,9 @@
 use Rattle.sfi_build.specs.Texts.{IsTextBuild}
-use Rattle.sfi_answers.specs.Building.{digits_line}
+use Rattle.sfi_answers.specs.Building.{image_output}
 use Rattle.sfi_answers.proofs.Sources.{not_made}
 use Rattle.sfi_answers.proofs.building.build_answer.Goals as goal
 
 pub returns-in_err-bytes : goal.returns-in_err-bytes
 returns-in_err-bytes c =
-    not_made c.args.places.now IsTextBuild digits_line c.args.text.now c.in_ok-source.source.now c.in_err-bytes.field-0.0 c.from_residual-in_err-bytes.result
+    not_made c.args.places.now IsTextBuild (image_output c.args.raw) c.args.text.now c.in_ok-source.source.now c.in_err-bytes.field-0.0 c.from_residual-in_err-bytes.result
     c.in_ok-source.ensures.text.0 c.in_err-bytes.ensures.fault c.in_err-bytes.ensures.only_built c.from_residual-in_err-bytes.ensures.1

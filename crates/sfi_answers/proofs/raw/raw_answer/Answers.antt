@@ -1,5 +1,4 @@
 use Rattle.std.proofs.Common.{false}
-use Rattle.std.specs.Prelude.{string_bytes}
 use Rattle.std.proofs.lemmas.Result.{IfOk-weaker}
 use Rattle.sfi_answers.specs.Checking.{HasSomeFault, SaysVerdict}
 use Rattle.sfi_answers.proofs.Streamed.{judged}
@@ -14,7 +13,7 @@ pub returns-clause-says : goal.returns-clause-says
 returns-clause-says g c =
     IfOk-weaker c.stream_answer.result _ _
     (λ a says refused. judged (λ s. g.R.Read.remaining s.reader.now) (λ s. s.failed) c.new-source.result c.check_stream-verdict.new.source c.check_stream-verdict.result
-    (g.R.Read.remaining c.args.reader.now) (λ all. SaysVerdict false all a.status (string_bytes a.text)) c.new-source.ensures.reader c.check_stream-verdict.ensures.judged (says refused))
+    (g.R.Read.remaining c.args.reader.now) (λ all. SaysVerdict false all a.status a.output.items) c.new-source.ensures.reader c.check_stream-verdict.ensures.judged (says refused))
     c.stream_answer.ensures.says
 
 pub returns-clause-fault : goal.returns-clause-fault

@@ -1,4 +1,5 @@
-use Rattle.std.proofs.Common.{subst}
+use Rattle.std.proofs.Common.{◌∙◌, ℕ, false, subst, sym}
+use Rattle.sfi_answers.specs.Checking.{SaysVerdict}
 use Rattle.sfi_check.specs.declared.stream_answer.StreamAnswer.{StreamAnswer}
 use Rattle.sfi_answers.specs.private.{IsJudged}
 use Rattle.sfi_answers.proofs.Streamed.{says_accepted, says_refused, has_fault}
@@ -6,11 +7,15 @@ use Rattle.sfi_answers.proofs.raw.stream_answer.Goals as goal
 
 pub returns-in_ok-accepted_line-in-Accepted-clause-says : goal.returns-in_ok-accepted_line-in-Accepted-clause-says
 returns-in_ok-accepted_line-in-Accepted-clause-says c _ all j =
-    says_accepted c.in-Accepted.sandboxes c.in-Accepted.bundles _ all c.in_ok-accepted_line-in-Accepted.ensures (subst (λ (a : StreamAnswer). IsJudged a all) c.in-Accepted.is j)
+    subst (λ (n : ℕ). SaysVerdict false all n c.lines.result.output.items) (sym c.lines.ensures.status)
+    (says_accepted c.in-Accepted.sandboxes c.in-Accepted.bundles c.lines.result.output.items all (c.lines.ensures.output ∙ c.in_ok-accepted_line-in-Accepted.ensures)
+    (subst (λ (a : StreamAnswer). IsJudged a all) c.in-Accepted.is j))
 
 pub returns-in_ok-refused_line-in-Findings-clause-says : goal.returns-in_ok-refused_line-in-Findings-clause-says
 returns-in_ok-refused_line-in-Findings-clause-says c _ all j =
-    says_refused c.in-Findings.count c.in-Findings.first _ all c.in_ok-refused_line-in-Findings.ensures (subst (λ (a : StreamAnswer). IsJudged a all) c.in-Findings.is j)
+    subst (λ (n : ℕ). SaysVerdict false all n c.lines-in-Findings.result.output.items) (sym c.lines-in-Findings.ensures.status)
+    (says_refused c.in-Findings.count c.in-Findings.first c.lines-in-Findings.result.output.items all (c.lines-in-Findings.ensures.output ∙ c.in_ok-refused_line-in-Findings.ensures)
+    (subst (λ (a : StreamAnswer). IsJudged a all) c.in-Findings.is j))
 
 pub returns-in_ok-layout_line-in-Layout-clause-fault : goal.returns-in_ok-layout_line-in-Layout-clause-fault
 returns-in_ok-layout_line-in-Layout-clause-fault c _ all j =

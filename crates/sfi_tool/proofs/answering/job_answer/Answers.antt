@@ -12,7 +12,7 @@ use Rattle.sfi_answers.specs.Answers.{Answers}
 use Rattle.sfi_command.specs.Command.{is_raw}
 use Rattle.sfi_command.specs.declared.job.Job.{Job}
 use Rattle.sfi_command.specs.declared.job.Job.TheVariants.{Check}
-use Rattle.sfi_tool.proofs.Jobs.{on_bytes}
+use Rattle.sfi_tool.proofs.Jobs.{on_bytes, on_no_bytes}
 use Rattle.sfi_tool.proofs.answering.job_answer.Goals as goal
 
 -- what a command answers is the job's answer, where that job was asked for
@@ -25,37 +25,67 @@ text_check job raw report is text =
     let same : raw ≡ false = sym (ap is_raw is) ∙ text in
     is ∙ ap (λ (r : Bool). Check r report) same
 
-pub returns-in_ok-bytes_of-in-Check : goal.returns-in_ok-bytes_of-in-Check
-returns-in_ok-bytes_of-in-Check c =
+pub returns-in_ok-image_bytes-in-Check : goal.returns-in_ok-image_bytes-in-Check
+returns-in_ok-image_bytes-in-Check c =
     as_job _ _ _ c.check_answer.result (text_check c.args.job.now c.in-Check.raw c.in-Check.report c.in-Check.is c.requires.reads_text)
-    (on_bytes (check c.in-Check.report) c.args.text.now c.in_ok-bytes_of-in-Check.field-0.items c.deref.result.now c.check_answer.result
-    c.in_ok-bytes_of-in-Check.ensures.bytes c.in_ok-bytes_of-in-Check.ensures.only_bytes (λ u. let e = c.in_ok-bytes_of-in-Check.ensures.only_stop u in absurd cc) c.deref.ensures.value
+    (on_bytes (check c.in-Check.report) c.args.text.now c.in_ok-image_bytes-in-Check.field-0.items c.deref.result.now c.check_answer.result
+    c.in_ok-image_bytes-in-Check.ensures.bytes c.in_ok-image_bytes-in-Check.ensures.only_bytes (λ u. let e = c.in_ok-image_bytes-in-Check.ensures.only_stop u in absurd cc) c.deref.ensures.value
     c.check_answer.ensures)
 
-pub returns-in_ok-bytes_of-in-Dis : goal.returns-in_ok-bytes_of-in-Dis
-returns-in_ok-bytes_of-in-Dis c =
+pub returns-in_ok-image_bytes-in-Dis : goal.returns-in_ok-image_bytes-in-Dis
+returns-in_ok-image_bytes-in-Dis c =
     as_job _ _ _ c.listing_answer.result c.in-Dis.is
-    (on_bytes dis c.args.text.now c.in_ok-bytes_of-in-Dis.field-0.items c.deref-in-Dis.result.now c.listing_answer.result
-    c.in_ok-bytes_of-in-Dis.ensures.bytes c.in_ok-bytes_of-in-Dis.ensures.only_bytes (λ u. let e = c.in_ok-bytes_of-in-Dis.ensures.only_stop u in absurd cc) c.deref-in-Dis.ensures.value
+    (on_bytes dis c.args.text.now c.in_ok-image_bytes-in-Dis.field-0.items c.deref-in-Dis.result.now c.listing_answer.result
+    c.in_ok-image_bytes-in-Dis.ensures.bytes c.in_ok-image_bytes-in-Dis.ensures.only_bytes (λ u. let e = c.in_ok-image_bytes-in-Dis.ensures.only_stop u in absurd cc) c.deref-in-Dis.ensures.value
     c.listing_answer.ensures)
 
-pub returns-in_ok-bytes_of-in-Run : goal.returns-in_ok-bytes_of-in-Run
-returns-in_ok-bytes_of-in-Run c =
+pub returns-in_ok-image_bytes-in-Run : goal.returns-in_ok-image_bytes-in-Run
+returns-in_ok-image_bytes-in-Run c =
     as_job _ _ _ c.run_answer.result c.in-Run.is
-    (on_bytes (run c.in-Run.rounds c.in-Run.quantum c.in-Run.input.items c.in-Run.report) c.args.text.now c.in_ok-bytes_of-in-Run.field-0.items c.deref-in-Run-2.result.now c.run_answer.result
-    c.in_ok-bytes_of-in-Run.ensures.bytes c.in_ok-bytes_of-in-Run.ensures.only_bytes (λ u. let e = c.in_ok-bytes_of-in-Run.ensures.only_stop u in absurd cc) c.deref-in-Run-2.ensures.value
+    (on_bytes (run c.in-Run.rounds c.in-Run.quantum c.in-Run.input.items c.in-Run.report) c.args.text.now c.in_ok-image_bytes-in-Run.field-0.items c.deref-in-Run-2.result.now c.run_answer.result
+    c.in_ok-image_bytes-in-Run.ensures.bytes c.in_ok-image_bytes-in-Run.ensures.only_bytes (λ u. let e = c.in_ok-image_bytes-in-Run.ensures.only_stop u in absurd cc) c.deref-in-Run-2.ensures.value
     (subst (λ (given : List ℕ). Answers (run c.in-Run.rounds c.in-Run.quantum given c.in-Run.report) c.deref-in-Run-2.result.now c.run_answer.result) c.deref-in-Run.ensures.value c.run_answer.ensures))
 
-pub returns-in_ok-bytes_of-in-Convert : goal.returns-in_ok-bytes_of-in-Convert
-returns-in_ok-bytes_of-in-Convert c =
+pub returns-in_ok-image_bytes-in-Convert : goal.returns-in_ok-image_bytes-in-Convert
+returns-in_ok-image_bytes-in-Convert c =
     as_job _ _ _ c.conversion_answer.result c.in-Convert.is
-    (on_bytes convert c.args.text.now c.in_ok-bytes_of-in-Convert.field-0.items c.deref-in-Convert.result.now c.conversion_answer.result
-    c.in_ok-bytes_of-in-Convert.ensures.bytes c.in_ok-bytes_of-in-Convert.ensures.only_bytes (λ u. let e = c.in_ok-bytes_of-in-Convert.ensures.only_stop u in absurd cc) c.deref-in-Convert.ensures.value
+    (on_bytes (convert c.in-Convert.raw) c.args.text.now c.in_ok-image_bytes-in-Convert.field-0.items c.deref-in-Convert.result.now c.conversion_answer.result
+    c.in_ok-image_bytes-in-Convert.ensures.bytes c.in_ok-image_bytes-in-Convert.ensures.only_bytes (λ u. let e = c.in_ok-image_bytes-in-Convert.ensures.only_stop u in absurd cc) c.deref-in-Convert.ensures.value
     c.conversion_answer.ensures)
 
-pub returns-in_ok-bytes_of-in-Translate : goal.returns-in_ok-bytes_of-in-Translate
-returns-in_ok-bytes_of-in-Translate c =
+pub returns-in_ok-image_bytes-in-Translate : goal.returns-in_ok-image_bytes-in-Translate
+returns-in_ok-image_bytes-in-Translate c =
     as_job _ _ _ c.translation_answer.result c.in-Translate.is
-    (on_bytes (translate c.in-Translate.whole) c.args.text.now c.in_ok-bytes_of-in-Translate.field-0.items c.deref-in-Translate.result.now c.translation_answer.result
-    c.in_ok-bytes_of-in-Translate.ensures.bytes c.in_ok-bytes_of-in-Translate.ensures.only_bytes (λ u. let e = c.in_ok-bytes_of-in-Translate.ensures.only_stop u in absurd cc) c.deref-in-Translate.ensures.value
+    (on_bytes (translate c.in-Translate.whole) c.args.text.now c.in_ok-image_bytes-in-Translate.field-0.items c.deref-in-Translate.result.now c.translation_answer.result
+    c.in_ok-image_bytes-in-Translate.ensures.bytes c.in_ok-image_bytes-in-Translate.ensures.only_bytes (λ u. let e = c.in_ok-image_bytes-in-Translate.ensures.only_stop u in absurd cc) c.deref-in-Translate.ensures.value
     c.translation_answer.ensures)
+
+pub returns-in_err-image_bytes-in-Check : goal.returns-in_err-image_bytes-in-Check
+returns-in_err-image_bytes-in-Check c =
+    as_job _ _ _ c.from_residual.result (text_check c.args.job.now c.in-Check.raw c.in-Check.report c.in-Check.is c.requires.reads_text)
+    (on_no_bytes (check c.in-Check.report) c.args.text.now c.in_err-image_bytes-in-Check.field-0.0 c.from_residual.result c.requires.within_limit c.in_err-image_bytes-in-Check.ensures.stop c.in_err-image_bytes-in-Check.ensures.only_bytes
+    c.from_residual.ensures.1)
+
+pub returns-in_err-image_bytes-in-Dis : goal.returns-in_err-image_bytes-in-Dis
+returns-in_err-image_bytes-in-Dis c =
+    as_job _ _ _ c.from_residual-in_err-image_bytes-in-Dis.result c.in-Dis.is
+    (on_no_bytes dis c.args.text.now c.in_err-image_bytes-in-Dis.field-0.0 c.from_residual-in_err-image_bytes-in-Dis.result c.requires.within_limit c.in_err-image_bytes-in-Dis.ensures.stop c.in_err-image_bytes-in-Dis.ensures.only_bytes
+    c.from_residual-in_err-image_bytes-in-Dis.ensures.1)
+
+pub returns-in_err-image_bytes-in-Run : goal.returns-in_err-image_bytes-in-Run
+returns-in_err-image_bytes-in-Run c =
+    as_job _ _ _ c.from_residual-in_err-image_bytes-in-Run.result c.in-Run.is
+    (on_no_bytes (run c.in-Run.rounds c.in-Run.quantum c.in-Run.input.items c.in-Run.report) c.args.text.now c.in_err-image_bytes-in-Run.field-0.0 c.from_residual-in_err-image_bytes-in-Run.result c.requires.within_limit c.in_err-image_bytes-in-Run.ensures.stop c.in_err-image_bytes-in-Run.ensures.only_bytes
+    c.from_residual-in_err-image_bytes-in-Run.ensures.1)
+
+pub returns-in_err-image_bytes-in-Convert : goal.returns-in_err-image_bytes-in-Convert
+returns-in_err-image_bytes-in-Convert c =
+    as_job _ _ _ c.from_residual-in_err-image_bytes-in-Convert.result c.in-Convert.is
+    (on_no_bytes (convert c.in-Convert.raw) c.args.text.now c.in_err-image_bytes-in-Convert.field-0.0 c.from_residual-in_err-image_bytes-in-Convert.result c.requires.within_limit c.in_err-image_bytes-in-Convert.ensures.stop c.in_err-image_bytes-in-Convert.ensures.only_bytes
+    c.from_residual-in_err-image_bytes-in-Convert.ensures.1)
+
+pub returns-in_err-image_bytes-in-Translate : goal.returns-in_err-image_bytes-in-Translate
+returns-in_err-image_bytes-in-Translate c =
+    as_job _ _ _ c.from_residual-in_err-image_bytes-in-Translate.result c.in-Translate.is
+    (on_no_bytes (translate c.in-Translate.whole) c.args.text.now c.in_err-image_bytes-in-Translate.field-0.0 c.from_residual-in_err-image_bytes-in-Translate.result c.requires.within_limit c.in_err-image_bytes-in-Translate.ensures.stop c.in_err-image_bytes-in-Translate.ensures.only_bytes
+    c.from_residual-in_err-image_bytes-in-Translate.ensures.1)

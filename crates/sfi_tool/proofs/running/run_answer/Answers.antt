@@ -1,10 +1,10 @@
-use Rattle.sfi_tool.proofs.Prelude.{inl, refl}
-use Rattle.sfi_tool.specs.Running.{SaysRun}
+use Rattle.sfi_tool.proofs.Prelude.{inl, subst, sym}
+use Rattle.sfi_tool.specs.Running.{IsRunText, SaysRun}
 use Rattle.sfi_answers.proofs.Verdicts.{accepted}
 use Rattle.sfi_tool.proofs.running.run_answer.Goals as goal
 
 pub returns-in_ok-run_text-in-Ok : goal.returns-in_ok-run_text-in-Ok
 returns-in_ok-run_text-in-Ok c =
-    accepted (SaysRun c.args.rounds c.args.quantum c.args.input.now c.args.report) c.args.bytes.now _ refl
-    (inl (record { parts = c.in-Ok.accepted; accepted = c.in-Ok.ensures.accepted; status_is = refl; text_is = c.in_ok-run_text-in-Ok.ensures }))
+    accepted (SaysRun c.args.rounds c.args.quantum c.args.input.now c.args.report) c.args.bytes.now c.lines.result c.lines.ensures.status
+    (inl (record { parts = c.in-Ok.accepted; accepted = c.in-Ok.ensures.accepted; status_is = c.lines.ensures.status; text_is = subst (IsRunText c.args.report c.args.rounds c.args.quantum c.args.input.now c.in-Ok.accepted) (sym c.lines.ensures.output) c.in_ok-run_text-in-Ok.ensures }))
     c.in-Ok.ensures.only_findings c.in-Ok.ensures.only_layout

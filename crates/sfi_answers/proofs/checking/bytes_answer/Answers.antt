@@ -1,6 +1,6 @@
 use Rattle.std.proofs.lemmas.Result.{IfOk-weaker}
-use Rattle.sfi_tool_c.proofs.Stops.{of_stop}
-use Rattle.sfi_tool_c.proofs.answering.answer_to_raw.Goals as goal
+use Rattle.sfi_answers.proofs.Verdicts.{of_stop}
+use Rattle.sfi_answers.proofs.checking.bytes_answer.Goals as goal
 
 pub returns-in-Err-clause-fault : goal.returns-in-Err-clause-fault
 returns-in-Err-clause-fault c =

@@ -1,0 +1,47 @@
+//! The command `check` on an image that is read: its own bytes, or its text.
+
+ghost use Rattle.std.specs.Prelude.{◌≡◌, ◌<◌, ◌≤◌, false, IfOk, IfSome};
+ghost use Rattle.sfi_io.specs.Images.{BeginsAsImage};
+ghost use Rattle.sfi_answers.specs.Answers.{on_image};
+ghost use Rattle.sfi_answers.specs.Checking.{check};
+
+use crate::checking::bytes_answer;
+use crate::fault::TOO_LARGE_LINE;
+use crate::text::text_answer;
+use crate::verdict::Answer;
+use sfi_io::{Input, ReadStop, begins_as_image, read_front, read_input};
+use std::alloc::Global;
+use std::io::Read;
+
+/// The verdict on the image whose bytes the reader gives, which are held.
+fn held_answer<R: Read>(alloc: Global, reader: &mut R) -> Result<Answer, ReadStop>
+    ensures statuses { IfOk result (λ a. a.status ≤ 2) }
+    ensures says { IfOk result (λ a. a.status < 2 → IfSome (R.remaining reader.old)
+        (λ input. BeginsAsImage input → (on_image (check false)).says input a.status a.output.items)) }
+    ensures fault { IfOk result (λ a. a.status ≡ 2 → IfSome (R.remaining reader.old)
+        (λ input. BeginsAsImage input → (on_image (check false)).has_fault input)) }
+{
+    match read_input(alloc, reader)? {
+        Input::Whole(bytes) => Ok(bytes_answer(alloc, false, &bytes)?),
+        Input::TooLarge => Ok(Answer::lines(2, String::from_str(alloc, TOO_LARGE_LINE)?)),
+    }
+}
+
+/// The verdict on the image that the reader gives, as its own bytes, which are then held, or as a text,
+/// of which one piece is. A text is read to its end or past its limit, since a fault of it goes before
+/// the verdict.
+pub fn image_answer<R: Read>(alloc: Global, reader: &mut R) -> Result<Answer, ReadStop>
+    ensures statuses { IfOk result (λ a. a.status ≤ 2) }
+    ensures says { IfOk result (λ a. a.status < 2 → IfSome (R.remaining reader.old)
+        (λ input. (on_image (check false)).says input a.status a.output.items)) }
+    ensures fault { IfOk result (λ a. a.status ≡ 2
+        → IfSome (R.remaining reader.old) (on_image (check false)).has_fault) }
+{
+    let front = read_front(alloc, reader)?;
+    let mut whole = front.as_slice().chain(reader);
+    if begins_as_image(&front) {
+        held_answer(alloc, &mut whole)
+    } else {
+        text_answer(alloc, &mut whole)
+    }
+}
