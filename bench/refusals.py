@@ -46,6 +46,7 @@ def commands(program):
     source = read(os.path.join(EXAMPLES, "hi.s"))
     image = done([program, "build"], source)[1]
     smallest = read(os.path.join(EXAMPLES, "smallest.hex"))
+    raw = bytes.fromhex(image.decode())
     bare = image.replace(b"b37fb501", b"13000000")
     two = done([program, "build"], b".sandbox 256\nebreak\n" + source)[1]
     # The first code of the first sandbox: sw x11, 0(x10).
@@ -54,9 +55,12 @@ def commands(program):
         (["check"], image),
         (["check", "--report"], bare),
         (["check", "--report"], reaching),
-        (["check", "--raw"], bytes.fromhex(image.decode())),
+        (["check", "--raw"], raw),
+        (["check"], raw),
+        (["dis"], raw),
         (["check"], smallest[:40]),
         (["build"], source),
+        (["build", "--raw"], source),
         (["build"], source + b"frob\n"),
         (["build", "--at", "20500000:80000000"], source),
         (["map"], source),
@@ -68,6 +72,7 @@ def commands(program):
         (["run", "--report"], two),
         (["run"], reaching),
         (["convert"], image),
+        (["convert", "--raw"], raw),
         (["convert"], bare),
         (["translate"], image),
         (["translate", "--whole"], bare),

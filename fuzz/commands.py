@@ -19,13 +19,14 @@ import verdicts
 import measure
 
 SPACES = " \t\r\n"
+MAGICS = (b"SFI1", b"SFI2", b"SFIW")
 VERDICTS = ("check", "check --report", "check --raw")
 REFUSED = ("run", "convert", "dis")
 FAULTS, USAGE, BUILD = "input that isn't hexadecimal", "words that are no command", "texts that are no source"
 NAMES = [*VERDICTS, *(f"{it} of what isn't accepted" for it in REFUSED), FAULTS, USAGE, BUILD]
 WRONG_WORDS = [["chek"], ["check", "--rounds", "3"], ["run", "--rounds", "0"], ["run", "--rounds", "10001"], ["dis", "--raw"],
                ["run", "--quantum", "1000001"], ["run", "--quantum", "-1"], ["check", "x"], ["build", "--at", "1"], [""],
-               ["build", "--at", "01000000:"], ["map", "--report"], ["convert", "--raw"], ["--nothing"], ["check", "--report=1"]]
+               ["build", "--at", "01000000:"], ["map", "--report"], ["map", "--raw"], ["--nothing"], ["check", "--report=1"]]
 WRONG_TEXTS = [b"frob\n", b".sandbox 3\n", b"\xff\n", b".sandbox 256\naddi a0, a0, 5000\n", b".sandbox 256\nj nowhere\n",
                b".format 4\n", b".sandbox 256\n.gate nothing 9\n"]
 
@@ -40,6 +41,12 @@ def spelled(pick, data):
         at = pick.randrange(len(text) + 1)
         text = text[:at] + pick.choice(SPACES) * pick.choice([1, 2, 100]) + text[at:]
     return text
+
+
+def given_as(pick, data):
+    """What a command reads of the image: now and then its bytes, if these begin as one, else such a text."""
+    as_bytes = data[:4] in MAGICS and pick.random() < 0.3
+    return data if as_bytes else spelled(pick, data).encode()
 
 
 def misspelled(pick, data):
@@ -77,7 +84,7 @@ class Commands:
             self.try_refused(pick, data, verdict, pick.choice(REFUSED))
 
     def try_check(self, pick, data, verdict, command):
-        ended = self.run(command.split(), data if command == "check --raw" else spelled(pick, data).encode())
+        ended = self.run(command.split(), data if command == "check --raw" else given_as(pick, data))
         expected = [verdict.line]
         if command == "check --report" and verdict.status == 1:
             expected = self.judge.report(data) + expected
@@ -86,7 +93,7 @@ class Commands:
 
     def try_refused(self, pick, data, verdict, command):
         """What isn't accepted is neither run nor converted, and listed where it is an image."""
-        ended = self.run([command, *options_of(pick, command)], spelled(pick, data).encode())
+        ended = self.run([command, *options_of(pick, command)], given_as(pick, data))
         expected = (verdict.status, [verdict.line])
         if command == "convert" and data[:4] == b"SFI2":
             expected = (2, ["convert fault 2 NotOld"])

@@ -174,7 +174,7 @@ status 0" "$room/words.image" "a plug-in of mine" x
 # The plug-in in C, where a compiler is there: another compiler makes other code, which does the same.
 compiled_anew() {
     has riscv64-unknown-elf-gcc || { skip 4 "words_plugin.c, and a function by its name" "gcc for RISC-V isn't there" && return; }
-    "$top/tools/sfi-cc" --program "$SFI" -Wall -Werror --gate price=2 "$here/words_plugin.c" 2>"$room/log" | xxd -r -p >"$room/anew.image"
+    "$top/tools/sfi-cc" --program "$SFI" -Wall -Werror --gate price=2 -o "$room/anew.image" "$here/words_plugin.c" 2>"$room/log"
     report "words_plugin.c is compiled" "Two Words 28" "$("$room/words" "$room/anew.image" "two words" 2>&1 | head -n 1)"
     printf 'int add(int a, int b) { return a + b; }\n' >"$room/add.c"
     local format
@@ -210,7 +210,7 @@ documented() {
     local found place=$room/document
     mkdir -p "$place/src"
     block "A host from nothing" "" >"$place/plugin.s"
-    "$SFI" build <"$place/plugin.s" | xxd -r -p >"$place/plugin.image"
+    "$SFI" build --raw <"$place/plugin.s" >"$place/plugin.image"
     block "A host from nothing" c >"$place/host.c"
     found=$(cd "$place" && gcc "${warnings[@]}" host.c "$room/lib/libsfi_run.a" -o host 2>&1 && ./host)
     report "the host in C of EMBEDDING.md" "hello 42" "$found"
@@ -275,7 +275,7 @@ header_in_c() {
 
 # Where `sfi check --report` says that the rule is broken.
 broken_at() {
-    xxd -p <"$room/broken.image" | tr -d '\n' | "$SFI" check --report | sed -n 's/.*at=\([0-9a-f]*\).*/\1/p' | head -n 1
+    "$SFI" check --report <"$room/broken.image" | sed -n 's/.*at=\([0-9a-f]*\).*/\1/p' | head -n 1
 }
 
 header_in_cpp() {

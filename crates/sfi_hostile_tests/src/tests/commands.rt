@@ -9,6 +9,7 @@ use std::test::Fail;
 pub(super) struct Command<'a> {
     pub(super) line: &'a str,
     pieces: &'static [(&'static str, usize)],
+    is_bytes: bool,
     pub(super) status: u8,
     pub(super) front: &'a str,
 }
@@ -18,8 +19,11 @@ pub(super) const COMMANDS: &str = "
 = sfi check | smallest | 0 | accepted sandboxes=1 bundles=16
 = sfi check --report | pair on x0 | 1 | 0 01000008 V5 access sw x11, 0(x0)
 refused findings=1 first=V5 sandbox=0 at=01000008
-= sfi check --raw | smallest | 0 | accepted sandboxes=1 bundles=16
+= sfi check --raw | smallest bytes | 0 | accepted sandboxes=1 bundles=16
+= sfi check | smallest bytes | 0 | accepted sandboxes=1 bundles=16
+= sfi dis | smallest bytes | 0 | sandbox 0 code 01000000 256
 = sfi build | source | 0 | 534649310100000000000001
+= sfi build --raw | source | 0 | SFI1
 = sfi build --at 20500000:80000000 | source | 0 | 534649310100000000005020
 = sfi map | source | 0 | sandbox=0 gate put at=01000000
 sandbox=0 gate quit at=01000010
@@ -48,7 +52,7 @@ const PROGRAM: &[(&str, usize)] = &[(SFI1, 1), (HI, 1), (C_EBREAK, 88), ("4869",
 
 fn pieces_of(name: &str) -> Option<&'static [(&'static str, usize)]> {
     match name {
-        "smallest" => Some(SMALLEST),
+        "smallest" | "smallest bytes" => Some(SMALLEST),
         "pair on x0" => Some(ON_X0),
         "source" => Some(&[(SOURCE, 1)]),
         "program" => Some(PROGRAM),
@@ -65,6 +69,7 @@ pub(super) fn command_of<'a>(row: &'a str) -> Option<Command<'a>> {
     Some(Command {
         line,
         pieces: pieces_of(input)?,
+        is_bytes: input.ends_with(" bytes"),
         status: status.parse().ok()?,
         front: front.trim_end(),
     })
@@ -73,7 +78,7 @@ pub(super) fn command_of<'a>(row: &'a str) -> Option<Command<'a>> {
 impl<'a> Command<'a> {
     /// What it reads: an image's own bytes, or a text.
     pub(super) fn input(&self, alloc: Global) -> Result<Vec<u8>, Fail> {
-        if self.line == "sfi check --raw" {
+        if self.is_bytes {
             return bytes_of(alloc, self.pieces);
         }
         let text = digits_of(alloc, self.pieces)?;

@@ -51,7 +51,7 @@ fn run_options(rt: HostRuntime) -> Result<(), Fail> {
 #[test]
 fn places_in_order(rt: HostRuntime) -> Result<(), Fail> {
     let line = "sfi build --at 1:fFfFfFfF --at 00000abc:0";
-    let Job::Build { places } = job(rt.alloc(), line)? else {
+    let Job::Build { places, .. } = job(rt.alloc(), line)? else {
         return Err(Fail::new("no build"));
     };
     let [first, second] = places.as_slice() else {

@@ -19,7 +19,7 @@
 //!
 //! The commands that read it:
 //!
-//! - `$ COMMAND`: the command, which reads the bytes that the input's digits spell if it is `--raw`. In
+//! - `$ COMMAND`: the command, which reads the bytes that the input's digits spell if it is `check --raw`. In
 //!   `$ COMMAND | COMMAND` the second reads what the first prints, if that ends in status 0;
 //! - `input N DIGITS`: N times the digits are the `--input` of each, or of its second command.
 //!
@@ -113,9 +113,9 @@ pub(super) fn image_of(alloc: Global, lines: &str) -> Result<Vec<u8>, Fail> {
     Ok(hex::decode(alloc, row.input.as_slice())?)
 }
 
-// What the command prints of the input, as bytes in pieces if it is `--raw`.
+// What the command prints of the input, as bytes in pieces if it is `check --raw`.
 fn printed(alloc: Global, command: &str, input: &[u8]) -> Result<Outcome, Fail> {
-    if !command.contains("--raw") {
+    if !command.contains("check --raw") {
         return Ok(run(alloc, command, input)?);
     }
     let bytes = hex::decode(alloc, input.trim_ascii())?;
@@ -227,7 +227,8 @@ fn image_rows(rt: HostRuntime) -> Result<(), Fail> {
     try_rows(&rt, rt.alloc(), images::RULES, 40)?;
     try_rows(&rt, rt.alloc(), images::SAFE, 6)?;
     try_rows(&rt, rt.alloc(), images::SAFE_WORDS, 10)?;
-    try_rows(&rt, rt.alloc(), images::DIGITS, 6)
+    try_rows(&rt, rt.alloc(), images::DIGITS, 6)?;
+    try_rows(&rt, rt.alloc(), images::BYTES, 19)
 }
 
 #[test]
@@ -285,7 +286,7 @@ fn text_rows(rt: HostRuntime) -> Result<(), Fail> {
 fn report_rows(rt: HostRuntime) -> Result<(), Fail> {
     try_rows(&rt, rt.alloc(), reports::REPORTS, 18)?;
     try_rows(&rt, rt.alloc(), reports::CONVERSIONS, 13)?;
-    try_rows(&rt, rt.alloc(), reports::CONVERTED, 3)?;
+    try_rows(&rt, rt.alloc(), reports::CONVERTED, 5)?;
     try_rows(&rt, rt.alloc(), reports::TRANSLATIONS, 5)?;
     try_rows(&rt, rt.alloc(), reports::LISTINGS, 9)
 }

@@ -66,6 +66,22 @@ source; $ sfi check
 + 1 00010000000000010000000000000000; + 1 B37FB501b3EFaf0123A0bF0073001000; + 60 73001000; > accepted sandboxes=1 bundles=16
 ";
 
+/// Images as their own bytes, and what doesn't begin as one.
+pub(super) const BYTES: &str = "
+source; text hi
+= checked; $ sfi build --raw | sfi check; $ sfi build --raw | sfi check --report; > accepted sandboxes=1 bundles=16
+= run; $ sfi build --raw | sfi run; > sandbox=0 exit=105 steps=19 out=4869
+= listed; as sfi build | sfi dis; $ sfi build --raw | sfi dis
+= converted; as sfi build | sfi convert; $ sfi build --raw | sfi convert
+= as C; as sfi build | sfi translate; $ sfi build --raw | sfi translate
+= a magic alone; source; bytes 53464931; $ sfi check; $ sfi check --report; $ sfi dis; $ sfi run; $ sfi convert; > layout fault 3 Short
+= that of the second format; source; bytes 53464932; $ sfi check; $ sfi dis; > layout fault 3 Short
+= that of the third; source; bytes 53464957; $ sfi check; $ sfi dis; > layout fault 3 Short
+= part of a magic; source; bytes 534649; $ sfi check; $ sfi dis; > input fault hex odd
+= no format's magic; source; bytes 53464933; $ sfi check; > input fault hex digit 0
+= white space before one; source; bytes 2053464931; $ sfi check; > input fault hex digit 0
+";
+
 /// Sandboxes that are refused although they are safe, by rules that are stricter than safety asks somewhere. Of V1, V2, V3
 /// and V8 a theorem says so.
 pub(super) const SAFE: &str = "

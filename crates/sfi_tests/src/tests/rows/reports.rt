@@ -58,8 +58,8 @@ $ sfi convert
 
 /// What becomes of the new image.
 pub(super) const CONVERTED: &str = "
-= the new image is accepted; $ sfi convert | sfi check; > accepted sandboxes=1 bundles=16
-= what is converted runs alike; source; text front of hi; + 88 0290; + 1 4869; $ sfi run; $ sfi convert | sfi run; > sandbox=0 exit=105 steps=19 out=4869
+= the new image is accepted; $ sfi convert | sfi check; $ sfi convert --raw | sfi check; > accepted sandboxes=1 bundles=16
+= what is converted runs alike; source; text front of hi; + 88 0290; + 1 4869; $ sfi run; $ sfi convert | sfi run; $ sfi convert --raw | sfi run; > sandbox=0 exit=105 steps=19 out=4869
 ";
 
 /// What is translated for a host and as a whole program, and what isn't.

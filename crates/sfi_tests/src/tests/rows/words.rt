@@ -4,7 +4,7 @@
 pub(super) const USAGE: &str = "
 source
 = words that ask for nothing; $ sfi; $ sfi frob; $ sfi check image; $ sfi check --raw --raw; $ sfi check --raw=yes; $ sfi check --raw image
-$ sfi check --report=yes; $ sfi check --report --report; $ sfi check --report image; $ sfi check --rounds 1; $ sfi build --report; $ sfi build --raw
+$ sfi check --report=yes; $ sfi check --report --report; $ sfi check --report image; $ sfi check --rounds 1; $ sfi build --report; $ sfi build --raw=yes
 $ sfi build source; $ sfi map --report; $ sfi map source; $ sfi dis image; $ sfi dis --report; $ sfi dis --raw; $ sfi run image; $ sfi run --raw
 $ sfi run --report=yes; $ sfi run --report --report; $ sfi build --at; $ sfi check --at 20500000:80000000; $ sfi run --rounds; $ sfi run --rounds 0
 $ sfi run --rounds 10001; $ sfi run --rounds ten; $ sfi run --rounds=-1; $ sfi run --rounds 1 --rounds 1; $ sfi run --quantum 0
@@ -40,14 +40,14 @@ source; status 3
 = help of check, said in other words; as sfi check --help; $ sfi check -h; $ sfi help check
 = help of dis; $ sfi dis --help; ..; >.. List an image; >; >; > Usage: sfi dis; ..; >.. -h, --help; >text statuses; >.. dis < 
 = help of dis, said in other words; as sfi dis --help; $ sfi dis -h; $ sfi help dis
-= help of build; $ sfi build --help; ..; >.. source text; >; >; > Usage: sfi build [OPTIONS]; ..; >.. --at <CODE:DATA> ; >text statuses; >.. build < 
+= help of build; $ sfi build --help; ..; >.. source text; >; >; > Usage: sfi build [OPTIONS]; ..; >.. --at <CODE:DATA> ; >.. --raw ; >text statuses; >.. build < 
 = help of build, said in other words; as sfi build --help; $ sfi build -h; $ sfi help build
 = help of map; $ sfi map --help; ..; >.. source text; >; >; > Usage: sfi map [OPTIONS]; ..; >.. --at <CODE:DATA> ; >text statuses; >.. map < 
 = help of map, said in other words; as sfi map --help; $ sfi map -h; $ sfi help map
 = help of run; $ sfi run --help
 ..; >; >; >.. Usage: sfi ; >.. --rounds <N> ; >.. --quantum <Q> ; >.. --report ; >text statuses; ..; >; >..   sfi run --
 = help of run, said in other words; as sfi run --help; $ sfi run -h; $ sfi help run
-= help of convert; $ sfi convert --help; ..; >.. second format; >; >; > Usage: sfi convert; ..; >.. -h, --help; >text statuses; >.. convert < 
+= help of convert; $ sfi convert --help; ..; >.. second format; >; >; > Usage: sfi convert [OPTIONS]; ..; >.. --raw ; >text statuses; >.. convert < 
 = help of convert, said in other words; as sfi convert --help; $ sfi convert -h; $ sfi help convert
 = help of translate; $ sfi translate --help; ..; >.. as C; >; >; > Usage: sfi translate [OPTIONS]; ..; >.. --whole ; >text statuses
 >.. translate --whole < 
