@@ -5,14 +5,19 @@ examples/translate/sfi_console.c. The file includes itself where the header read
     tools/whole_translation.py [--write]    compares it with what stands in the crate sfi_answers, or writes it there
 """
 import os
+import re
 import sys
 
 TOP = os.path.dirname(os.path.dirname(os.path.abspath(__file__)))
 HEADER = os.path.join(TOP, "crates/sfi_translate/include/sfi_native.h")
 CONSOLE = os.path.join(TOP, "examples/translate/sfi_console.c")
 MADE = os.path.join(TOP, "crates/sfi_answers/src/whole_program.rt")
-OWN_NAME = """\
+BEGINNING = """\
 #ifndef SFI_NATIVE_H
+/* What a translated image's lines mean, and the console of `sfi run`: crates/sfi_translate/include/sfi_native.h and
+   examples/translate/sfi_console.c, which have the comments. The lines begin after the last #else. */
+"""
+OWN_NAME = """\
 #ifndef SFI_TEXT
 #ifdef __FILE_NAME__
 #define SFI_TEXT __FILE_NAME__
@@ -28,13 +33,18 @@ def read(path):
         return file.read()
 
 
+def without_comments(text):
+    """C without its comments, and without the spaces and empty lines that are left."""
+    lines = re.sub(r"/\*.*?\*/", "", text, flags=re.DOTALL).splitlines()
+    return "".join(line.rstrip() + "\n" for line in lines if line.strip())
+
+
 def front():
-    """The header and the console, without empty lines, in a file that reads itself again for its lines."""
+    """The header and the console, in a file that reads itself again for its lines."""
     console = read(CONSOLE)
     include = '#include "sfi_native.h"\n'
     assert console.count(include) == 1
-    text = OWN_NAME + console[console.index("*/\n") + 3:].replace(include, read(HEADER)) + "#else\n"
-    return "".join(line for line in text.splitlines(keepends=True) if line.strip())
+    return BEGINNING + without_comments(OWN_NAME + console.replace(include, read(HEADER)) + "#else\n")
 
 
 def source():

@@ -1,6 +1,8 @@
 //! What stands before the lines of a whole program. `tools/whole_translation.py` makes this file.
 
 pub(crate) const WHOLE_FRONT: &str = r#"#ifndef SFI_NATIVE_H
+/* What a translated image's lines mean, and the console of `sfi run`: crates/sfi_translate/include/sfi_native.h and
+   examples/translate/sfi_console.c, which have the comments. The lines begin after the last #else. */
 #ifndef SFI_TEXT
 #ifdef __FILE_NAME__
 #define SFI_TEXT __FILE_NAME__
@@ -10,12 +12,6 @@ pub(crate) const WHOLE_FRONT: &str = r#"#ifndef SFI_NATIVE_H
 #endif
 #include <stdio.h>
 #include <stdlib.h>
-/* What the lines of the translation of an accepted image mean in C: SFI_TEXT, a file name in quotes, is the text. It is read
-   five times. A form restates the clause of `effect` (crates/rv_step/specs/Step.antt) of its instruction: once in sfi_step,
-   once for functions. Accesses are tested, so that a trap is exact and nothing rests on guard zones. C99, where a number
-   becomes a signed one modulo 2^32, >> copies the sign, and lines may be as long as the text's: gcc and clang. No C++.
-   For hosts whose numbers have the lowest byte first. Include it after all other headers, since the names of forms (OP,
-   END ..) stay defined. Nothing of this file is proved: what it has to say is crates/sfi_translate/specs/Machine.antt. */
 #ifndef SFI_NATIVE_H
 #define SFI_NATIVE_H
 #include <stdint.h>
@@ -33,7 +29,6 @@ typedef int32_t sfi_i32;
 #else
 #define SFI_RARE(condition) (condition)
 #endif
-/* ---- values: `result_of`, `is_taken`, `extended` (crates/rv_step/specs/Values.antt) */
 #define SFI_SIGNED(v) ((sfi_i32)(v))
 #define SFI_add(a, b) ((a) + (b))
 #define SFI_sub(a, b) ((a) - (b))
@@ -74,14 +69,8 @@ static inline sfi_u32 sfi_remainder(sfi_u32 a, sfi_u32 b) {
 #define SFI_bge(a, b) (SFI_SIGNED(a) >= SFI_SIGNED(b))
 #define SFI_bltu(a, b) ((a) < (b))
 #define SFI_bgeu(a, b) ((a) >= (b))
-typedef int8_t sfi_lb;
-typedef int16_t sfi_lh;
-typedef uint32_t sfi_lw;
-typedef uint8_t sfi_lbu;
-typedef uint16_t sfi_lhu;
-typedef uint8_t sfi_sb;
-typedef uint16_t sfi_sh;
-typedef uint32_t sfi_sw;
+typedef int8_t sfi_lb; typedef int16_t sfi_lh; typedef uint32_t sfi_lw; typedef uint8_t sfi_lbu; typedef uint16_t sfi_lhu;
+typedef uint8_t sfi_sb; typedef uint16_t sfi_sh; typedef uint32_t sfi_sw;
 #define SFI_COMPUTATIONS(X) X(add) X(sub) X(xor) X(or) X(and) X(sll) X(srl) X(sra) X(slt) X(sltu) \
     X(mul) X(mulh) X(mulhsu) X(mulhu) X(div) X(divu) X(rem) X(remu)
 #define SFI_IMMEDIATES(X) X(addi) X(slti) X(sltiu) X(xori) X(ori) X(andi) X(slli) X(srli) X(srai)
@@ -91,24 +80,21 @@ typedef uint32_t sfi_sw;
 #define SFI_KIND(kind) SFI_KIND_##kind,
 enum { SFI_COMPUTATIONS(SFI_KIND) SFI_IMMEDIATES(SFI_KIND) SFI_LOADS(SFI_KIND) SFI_STORES(SFI_KIND) SFI_BRANCHES(SFI_KIND)
     SFI_KIND_jal, SFI_KIND_jalr, SFI_KIND_lui, SFI_KIND_auipc, SFI_KIND_fence, SFI_KIND_ecall, SFI_KIND_ebreak };
-/* ---- a sandbox and its hart. A host makes `data` data_size bytes, the first data and then zeros; x[0] 0, x[24] to x[27]
-   what docs/IMAGE.md says, which functions take for granted; pc an even address. */
-struct sfi_hart { sfi_u32 x[32], pc, left; uint8_t *data; };  /* left: the steps that its turn has left */
-struct sfi_row { sfi_u32 kind : 6, size : 3, rd : 5, rs1 : 5, rs2 : 5; sfi_i32 number; };  /* size 0: no instruction */
-struct sfi_gate { sfi_u32 address, service; };
-typedef int sfi_function(struct sfi_hart *);  /* does steps; 1: none can follow there before one of sfi_step */
+struct sfi_hart { sfi_u32 x[32], pc, left; uint8_t *data; };
+struct sfi_row { sfi_u32 kind : 6, size : 3, rd : 5, rs1 : 5, rs2 : 5; sfi_i32 number; };
+struct sfi_native_gate { sfi_u32 address, service; };
+typedef int sfi_function(struct sfi_hart *);
 struct sfi_sandbox {
     sfi_u32 unit, code, code_size, data, data_size, start, gates, init;
-    const struct sfi_gate *gate;
+    const struct sfi_native_gate *gate;
     const uint8_t *first_data;
-    const struct sfi_row *(*rows)(void);  /* one for each halfword of code */
-    sfi_function *const *functions;  /* one for each SFI_PART bytes of code */
+    const struct sfi_row *(*rows)(void);
+    sfi_function *const *functions;
 };
-enum { SFI_NEXT, SFI_CALL, SFI_LOAD, SFI_STORE, SFI_BREAK, SFI_FETCH };  /* how a step or a turn ended */
-enum { SFI_PART = 16384 };  /* the bytes of code of a function */
-enum { SFI_HEAD = 128 };  /* the bytes of code from a head to the next (`head_bytes`, specs/Translation.antt) */
-enum { SFI_MOST = SFI_HEAD / 2 + 1 };  /* a step for each line up to the next head, and one for the sfi_step after it */
-/* ---- one step; `at` becomes the address of a trap */
+enum { SFI_NEXT, SFI_CALL, SFI_LOAD, SFI_STORE, SFI_BREAK, SFI_FETCH };
+enum { SFI_PART = 16384 };
+enum { SFI_HEAD = 128 };
+enum { SFI_MOST = SFI_HEAD / 2 + 1 };
 static int sfi_step(const struct sfi_sandbox *s, struct sfi_hart *h, sfi_u32 *at) {
     const sfi_u32 offset = h->pc - s->code;
     *at = h->pc;
@@ -146,8 +132,6 @@ static int sfi_step(const struct sfi_sandbox *s, struct sfi_hart *h, sfi_u32 *at
     h->left--;
     return SFI_NEXT;
 }
-/* ---- a turn: steps until none is left (SFI_NEXT), or to a call or a trap, which it doesn't do: pc stays there, left has
-   its step still, and `at` is the trap's address. A host that replies to a call adds 4 to pc and takes 1 from left. */
 static int sfi_turn(const struct sfi_sandbox *s, struct sfi_hart *h, sfi_u32 *at) {
     while (h->left) {
         if (h->left >= SFI_MOST && h->pc - s->code < s->code_size && !s->functions[h->pc / SFI_PART - s->code / SFI_PART](h))
@@ -158,7 +142,6 @@ static int sfi_turn(const struct sfi_sandbox *s, struct sfi_hart *h, sfi_u32 *at
     }
     return SFI_NEXT;
 }
-/* ---- registers as lines read and write them: x0 and x24 to x27 have one value */
 #define r0 0u
 #define r24 code_
 #define r25 (code_size_ - unit_)
@@ -200,7 +183,6 @@ static int sfi_turn(const struct sfi_sandbox *s, struct sfi_hart *h, sfi_u32 *at
 #define W29(value) r29 = value;
 #define W30(value) r30 = value;
 #define W31(value) r31 = value;
-/* ---- the text's first three readings: gates and first data, functions, sandboxes */
 #define ENTRY(at)
 #define HEAD(at)
 #define END(at)
@@ -219,7 +201,7 @@ static int sfi_turn(const struct sfi_sandbox *s, struct sfi_hart *h, sfi_u32 *at
 #define ECALL(...)
 #define EBREAK(...)
 #define SANDBOX(s, unit, code, code_size, data, data_size, start, gates, init) \
-    static const struct sfi_row *sfi_rows##s(void); static const struct sfi_gate sfi_gates##s[gates + 1] = {
+    static const struct sfi_row *sfi_rows##s(void); static const struct sfi_native_gate sfi_gates##s[gates + 1] = {
 #define GATE(address, service) { 0x##address##u, service },
 #define DATA(s, ...) { 0, 0 } }; static const uint8_t sfi_first##s[] = { __VA_ARGS__ };
 #define FUNCTION(s, first) static sfi_function sfi_f##s##_##first;
@@ -247,7 +229,6 @@ static const struct sfi_sandbox sfi_sandboxes[] = {
 #include SFI_TEXT
 };
 enum { SFI_SANDBOXES = sizeof sfi_sandboxes / sizeof sfi_sandboxes[0] };
-/* ---- the fourth: a row for each instruction */
 #undef SANDBOX
 #undef LAST
 #undef OP
@@ -284,7 +265,6 @@ enum { SFI_SANDBOXES = sizeof sfi_sandboxes / sizeof sfi_sandboxes[0] };
 #define ECALL(at, size) SFI_ROW(at, size, ecall, 0, 0, 0, 0)
 #define EBREAK(at, size) SFI_ROW(at, size, ebreak, 0, 0, 0, 0)
 #include SFI_TEXT
-/* ---- the last: functions. pc and the steps left are exact where one is left; within, a line's place is its label. */
 #undef SANDBOX
 #undef FUNCTION
 #undef ENTRY
@@ -358,7 +338,6 @@ struct console {
 static struct console consoles[SFI_SANDBOXES];
 static uint8_t *input;
 static sfi_u32 input_size;
-/* Whether put or get may reach these bytes. */
 static int is_reached(const struct sfi_sandbox *s, sfi_u32 at, sfi_u32 count) {
     const sfi_u32 offset = at - s->data;
     return count <= PUT_MOST && (count == 0 || (offset < s->data_size && count <= s->data_size - offset));
@@ -402,7 +381,6 @@ static void take(struct console *c) {
     memmove(c->words, c->words + 1, c->mails * sizeof *c->words);
     memmove(c->senders, c->senders + 1, c->mails * sizeof *c->senders);
 }
-/* Answers a call; 0 where the turn ends. */
 static int answer(sfi_u32 number, const struct sfi_sandbox *s, sfi_u32 service) {
     struct console *c = &consoles[number];
     sfi_u32 *const a = c->hart.x + 10;
@@ -465,7 +443,6 @@ static void usage(void) {
     fprintf(stderr, "options: --rounds N (1 to 10000), --quantum Q (1 to 1000000), --input HEX\n");
     exit(3);
 }
-/* The number that the digits spell, from 1 to `most`. */
 static sfi_u32 number_of(const char *digits, unsigned long most) {
     char *end;
     const unsigned long number = strtoul(digits, &end, 10);
