@@ -1,0 +1,466 @@
+/* The calls of sfi_run.h on a translated image: sfi_native_run.h says how it is compiled. Nothing of this file is proved. */
+#include "sfi_native_run.h"
+
+#include <stdlib.h>
+#include <string.h>
+
+#include "sfi_native.h"
+
+enum { SERVICE_EXIT = 0, CALL_SIZE = 4, SLACK = 1020 }; /* SLACK: docs/IMAGE.md, typed registers */
+enum { MAGIC_SIZE = 4, COUNT_SIZE = 4, FIELDS_SIZE = 28, GATE_SIZE = 8 }; /* docs/IMAGE.md, the layout */
+enum { WORD_SIZE = 4, FOOTER_SIZE = 16, NAME_AT = 5 }; /* the table of names */
+
+static const uint8_t image_bytes[] = {
+#include SFI_IMAGE
+};
+
+/* A sandbox of a world. `number` and `address` are those of an exit or trap. */
+struct native_sandbox {
+    const struct sfi_sandbox *text;
+    struct sfi_hart hart;
+    uint64_t steps;
+    uint32_t kind, number, address;
+};
+
+struct native_world {
+    struct native_sandbox sandboxes[SFI_SANDBOXES];
+};
+
+/* ---- the image */
+
+static uint32_t word_at(const uint8_t *bytes) {
+    uint32_t word;
+    memcpy(&word, bytes, sizeof word);
+    return word;
+}
+
+/* Whether the text is that of an image with these bytes: in all but its instructions. */
+static bool is_text_of_image(void) {
+    size_t at = MAGIC_SIZE + COUNT_SIZE;
+    if (sizeof image_bytes < at || word_at(image_bytes + MAGIC_SIZE) != SFI_SANDBOXES)
+        return false;
+    for (uint32_t number = 0; number < SFI_SANDBOXES; number++) {
+        const struct sfi_sandbox *s = &sfi_sandboxes[number];
+        const size_t gates = (size_t)s->gates * GATE_SIZE, rest = FIELDS_SIZE + gates + s->code_size + s->init;
+        if (sizeof image_bytes - at < rest || memcmp(image_bytes + at, &s->code, FIELDS_SIZE) ||
+            memcmp(image_bytes + at + FIELDS_SIZE, s->gate, gates) ||
+            memcmp(image_bytes + at + rest - s->init, s->first_data, s->init))
+            return false;
+        at += rest;
+    }
+    return at == sizeof image_bytes;
+}
+
+static bool is_image(const uint8_t *image, size_t length) {
+    return length == sizeof image_bytes && memcmp(image, image_bytes, length) == 0;
+}
+
+static bool has_words(void) {
+    return image_bytes[MAGIC_SIZE - 1] == 'W';
+}
+
+static bool has_stack(void) {
+    return image_bytes[MAGIC_SIZE - 1] == '2';
+}
+
+/* ---- a sandbox */
+
+static struct native_sandbox *sandbox_at(struct sfi_run_world *world, uint32_t number) {
+    if (world->held == 0 || number >= SFI_SANDBOXES)
+        return NULL;
+    return &((struct native_world *)world->at)->sandboxes[number];
+}
+
+static bool is_unit(const struct sfi_sandbox *s, uint32_t pc) {
+    return pc - s->code < s->code_size && (pc - s->code) % s->unit == 0;
+}
+
+/* The number of the gate at which it stands, or that of its gates where it stands at none. */
+static uint32_t gate_of(const struct native_sandbox *it) {
+    const struct sfi_sandbox *s = it->text;
+    uint32_t gate = 0;
+    while (gate < s->gates && s->gate[gate].address != it->hart.pc)
+        gate++;
+    return gate;
+}
+
+static bool is_at_call(const struct native_sandbox *it) {
+    return it->kind == SFI_RUN_READY && gate_of(it) < it->text->gates;
+}
+
+/* Makes it ready at pc, as at its start. */
+static void begin(struct native_sandbox *it, uint32_t pc) {
+    const struct sfi_sandbox *s = it->text;
+    uint32_t *const x = it->hart.x;
+    memset(x, 0, sizeof it->hart.x);
+    x[2] = s->data + s->data_size - 16;
+    x[24] = s->code;
+    x[25] = s->code_size - s->unit;
+    x[26] = s->data;
+    x[27] = s->data_size - 1;
+    if (has_words()) {
+        x[3] = x[4] = x[29] = s->data;
+        x[30] = pc;
+    }
+    it->hart.pc = pc;
+    it->kind = SFI_RUN_READY;
+}
+
+static void count_steps(struct native_sandbox *it, uint32_t steps) {
+    it->steps = steps > UINT64_MAX - it->steps ? UINT64_MAX : it->steps + steps;
+}
+
+static void end(struct native_sandbox *it, uint32_t kind, uint32_t number, uint32_t address) {
+    it->kind = kind;
+    it->number = number;
+    it->address = address;
+}
+
+static void take_turn(struct native_sandbox *it, uint32_t steps) {
+    static const uint32_t causes[] = {[SFI_LOAD] = SFI_RUN_LOAD, [SFI_STORE] = SFI_RUN_STORE, [SFI_BREAK] = SFI_RUN_BREAK,
+                                      [SFI_FETCH] = SFI_RUN_FETCH};
+    uint32_t address = 0;
+    if (it->kind != SFI_RUN_READY)
+        return;
+    it->hart.left = steps;
+    const int how = sfi_turn(it->text, &it->hart, &address);
+    count_steps(it, steps - it->hart.left);
+    if (how != SFI_NEXT && how != SFI_CALL)
+        end(it, SFI_RUN_TRAPPED, causes[how], address);
+}
+
+static uint32_t tell(const struct native_sandbox *it, struct sfi_run_event *event) {
+    memset(event, 0, sizeof *event);
+    event->kind = it->kind;
+    event->pc = it->hart.pc;
+    if (is_at_call(it)) {
+        event->kind = SFI_RUN_CALL;
+        event->gate = gate_of(it);
+        event->number = it->text->gate[event->gate].service;
+        memcpy(&event->a0, it->hart.x + 10, 8 * sizeof *it->hart.x);
+    } else if (it->kind == SFI_RUN_EXITED || it->kind == SFI_RUN_TRAPPED) {
+        event->number = it->number;
+        event->a0 = it->address;
+    }
+    return event->kind;
+}
+
+/* ---- a world */
+
+uint32_t sfi_run_version(void) {
+    return SFI_RUN_VERSION_NUMBER;
+}
+
+void sfi_run_free(struct sfi_run_world *world) {
+    for (uint32_t number = 0; number < SFI_SANDBOXES && world->held; number++)
+        free(sandbox_at(world, number)->hart.data);
+    if (world->held)
+        free(world->at);
+    world->held = 0;
+    world->at = NULL;
+}
+
+static bool make_sandbox(const struct sfi_sandbox *s, struct native_sandbox *it) {
+    it->text = s;
+    it->hart.data = calloc(1, s->data_size);
+    if (it->hart.data == NULL)
+        return false;
+    memcpy(it->hart.data, s->first_data, s->init);
+    begin(it, s->start);
+    return true;
+}
+
+uint32_t sfi_native_load(struct sfi_run_world *world) {
+    sfi_run_free(world);
+    if (!is_text_of_image())
+        return SFI_NATIVE_OTHER_IMAGE;
+    world->at = calloc(1, sizeof(struct native_world));
+    if (world->at == NULL)
+        return SFI_RUN_NO_MEMORY;
+    world->held = 1;
+    for (uint32_t number = 0; number < SFI_SANDBOXES; number++)
+        if (!make_sandbox(&sfi_sandboxes[number], sandbox_at(world, number))) {
+            sfi_run_free(world);
+            return SFI_RUN_NO_MEMORY;
+        }
+    return SFI_RUN_LOADED;
+}
+
+uint32_t sfi_run_load(const uint8_t *image, size_t length, struct sfi_run_world *world, struct sfi_verdict *verdict) {
+    sfi_run_free(world);
+    memset(verdict, 0, sizeof *verdict);
+    const uint32_t status = is_image(image, length) ? sfi_native_load(world) : SFI_NATIVE_OTHER_IMAGE;
+    if (status == SFI_NATIVE_OTHER_IMAGE) {
+        verdict->status = status;
+        return status;
+    }
+    verdict->sandboxes = SFI_SANDBOXES;
+    for (uint32_t number = 0; number < SFI_SANDBOXES; number++)
+        verdict->bundles += sfi_sandboxes[number].code_size / 16;
+    return status;
+}
+
+size_t sfi_run_count(struct sfi_run_world *world) {
+    return world->held ? SFI_SANDBOXES : 0;
+}
+
+/* ---- names */
+
+/* The table of a sandbox, its exports at the front. */
+struct table {
+    const uint8_t *exports, *imports, *end;
+    uint32_t version;
+};
+
+/* The size of the entry there, or 0 where none begins. */
+static size_t entry_size(const uint8_t *at, const uint8_t *end) {
+    if (end - at <= NAME_AT || at[WORD_SIZE] == 0 || end - at - NAME_AT < at[WORD_SIZE])
+        return 0;
+    for (uint32_t k = 0; k < at[WORD_SIZE]; k++)
+        if (at[NAME_AT + k] < 33 || at[NAME_AT + k] > 126)
+            return 0;
+    return (size_t)NAME_AT + at[WORD_SIZE];
+}
+
+static bool are_entries(const uint8_t *at, const uint8_t *end) {
+    size_t size = 1;
+    while (at < end && (size = entry_size(at, end)) != 0)
+        at += size;
+    return at == end && size != 0;
+}
+
+/* Finds the table of a sandbox: one of enum sfi_run_names, or SFI_NATIVE_OTHER_IMAGE. */
+static uint32_t find_table(const uint8_t *image, size_t length, uint32_t sandbox, struct table *table) {
+    if (!is_image(image, length))
+        return SFI_NATIVE_OTHER_IMAGE;
+    if (sandbox >= SFI_SANDBOXES)
+        return SFI_RUN_NAMES_NO_SANDBOX;
+    const struct sfi_sandbox *s = &sfi_sandboxes[sandbox];
+    const uint8_t *const back = s->first_data + s->init;
+    if (s->init < MAGIC_SIZE || memcmp(back - MAGIC_SIZE, "SFIN", MAGIC_SIZE))
+        return SFI_RUN_NAMES_NO_TABLE;
+    if (s->init < FOOTER_SIZE)
+        return SFI_RUN_NAMES_BAD_TABLE;
+    const uint32_t exports = word_at(back - 3 * WORD_SIZE), imports = word_at(back - 2 * WORD_SIZE), room = s->init - FOOTER_SIZE;
+    if (exports > room || imports > room - exports)
+        return SFI_RUN_NAMES_BAD_TABLE;
+    table->end = back - FOOTER_SIZE;
+    table->imports = table->end - imports;
+    table->exports = table->imports - exports;
+    table->version = word_at(back - FOOTER_SIZE);
+    if (!are_entries(table->exports, table->imports) || !are_entries(table->imports, table->end))
+        return SFI_RUN_NAMES_BAD_TABLE;
+    return SFI_RUN_NAMES_FOUND;
+}
+
+static uint32_t find_name(const uint8_t *at, const uint8_t *stop, const char *name, size_t size, uint32_t *address) {
+    for (; at < stop; at += NAME_AT + at[WORD_SIZE])
+        if (size == at[WORD_SIZE] && memcmp(at + NAME_AT, name, size) == 0) {
+            *address = word_at(at);
+            return SFI_RUN_NAMES_FOUND;
+        }
+    return SFI_RUN_NAMES_NO_NAME;
+}
+
+uint32_t sfi_run_export(const uint8_t *image, size_t length, uint32_t sandbox, const char *name, size_t size,
+                        uint32_t *address) {
+    struct table table = {NULL, NULL, NULL, 0};
+    const uint32_t found = find_table(image, length, sandbox, &table);
+    return found == SFI_RUN_NAMES_FOUND ? find_name(table.exports, table.imports, name, size, address) : found;
+}
+
+uint32_t sfi_run_import(const uint8_t *image, size_t length, uint32_t sandbox, const char *name, size_t size,
+                        uint32_t *address) {
+    struct table table = {NULL, NULL, NULL, 0};
+    const uint32_t found = find_table(image, length, sandbox, &table);
+    return found == SFI_RUN_NAMES_FOUND ? find_name(table.imports, table.end, name, size, address) : found;
+}
+
+uint32_t sfi_run_api(const uint8_t *image, size_t length, uint32_t sandbox, uint32_t *version) {
+    struct table table = {NULL, NULL, NULL, 0};
+    const uint32_t found = find_table(image, length, sandbox, &table);
+    if (found == SFI_RUN_NAMES_FOUND)
+        *version = table.version;
+    return found;
+}
+
+/* ---- turns and replies */
+
+uint32_t sfi_run_event(struct sfi_run_world *world, uint32_t sandbox, struct sfi_run_event *event) {
+    const struct native_sandbox *it = sandbox_at(world, sandbox);
+    if (it != NULL)
+        return tell(it, event);
+    memset(event, 0, sizeof *event);
+    return SFI_RUN_NONE;
+}
+
+uint32_t sfi_run_turn(struct sfi_run_world *world, uint32_t sandbox, uint32_t steps, struct sfi_run_event *event) {
+    struct native_sandbox *it = sandbox_at(world, sandbox);
+    if (it != NULL)
+        take_turn(it, steps);
+    return sfi_run_event(world, sandbox, event);
+}
+
+static bool is_among(uint32_t address, const uint32_t *stops, size_t count) {
+    while (count > 0 && stops[count - 1] != address)
+        count--;
+    return count > 0;
+}
+
+uint32_t sfi_run_until(struct sfi_run_world *world, uint32_t sandbox, const uint32_t *stops, size_t count, uint32_t steps,
+                       struct sfi_run_event *event) {
+    struct native_sandbox *it = sandbox_at(world, sandbox);
+    if (it == NULL)
+        return sfi_run_event(world, sandbox, event);
+    for (uint32_t done = 0; done < steps && it->kind == SFI_RUN_READY && !is_at_call(it); done++) {
+        if (done > 0 && is_among(it->hart.pc, stops, count))
+            break;
+        take_turn(it, 1);
+    }
+    return tell(it, event);
+}
+
+/* Ends the call at which it stands, with these words and a step. Whether it stands at one. */
+static bool end_call(struct native_sandbox *it, uint32_t a0, uint32_t a1) {
+    if (it == NULL || !is_at_call(it))
+        return false;
+    it->hart.x[10] = a0;
+    it->hart.x[11] = a1;
+    count_steps(it, 1);
+    return true;
+}
+
+bool sfi_run_reply(struct sfi_run_world *world, uint32_t sandbox, uint32_t a0, uint32_t a1) {
+    struct native_sandbox *it = sandbox_at(world, sandbox);
+    const bool is_done = end_call(it, a0, a1);
+    if (is_done)
+        it->hart.pc += CALL_SIZE;
+    return is_done;
+}
+
+bool sfi_run_exit(struct sfi_run_world *world, uint32_t sandbox, uint32_t number) {
+    struct native_sandbox *it = sandbox_at(world, sandbox);
+    const bool is_done = end_call(it, number, 0);
+    if (is_done)
+        end(it, SFI_RUN_EXITED, number, 0);
+    return is_done;
+}
+
+bool sfi_run_stop(struct sfi_run_world *world, uint32_t sandbox) {
+    struct native_sandbox *it = sandbox_at(world, sandbox);
+    if (it == NULL || it->kind != SFI_RUN_READY)
+        return false;
+    end(it, SFI_RUN_STOPPED, 0, 0);
+    return true;
+}
+
+/* ---- between turns */
+
+/* Where these data are; NULL where they aren't all the sandbox's. */
+static uint8_t *data_of(struct sfi_run_world *world, uint32_t sandbox, uint32_t at, size_t length) {
+    struct native_sandbox *it = sandbox_at(world, sandbox);
+    if (it == NULL)
+        return NULL;
+    const struct sfi_sandbox *s = it->text;
+    const uint32_t place = at - s->data;
+    if (length == 0)
+        return it->hart.data;
+    return place < s->data_size && length <= s->data_size - place ? it->hart.data + place : NULL;
+}
+
+bool sfi_run_read(struct sfi_run_world *world, uint32_t sandbox, uint32_t at, size_t length, uint8_t *bytes, size_t room) {
+    const uint8_t *const data = length <= room ? data_of(world, sandbox, at, length) : NULL;
+    if (data != NULL)
+        memcpy(bytes, data, length);
+    return data != NULL;
+}
+
+bool sfi_run_write(struct sfi_run_world *world, uint32_t sandbox, uint32_t at, const uint8_t *bytes, size_t length) {
+    uint8_t *const data = data_of(world, sandbox, at, length);
+    if (data != NULL)
+        memcpy(data, bytes, length);
+    return data != NULL;
+}
+
+uint8_t *sfi_native_data(struct sfi_run_world *world, uint32_t sandbox) {
+    return data_of(world, sandbox, 0, 0);
+}
+
+/* The address of the first gate by which it exits, or 0. */
+static uint32_t exit_gate(const struct sfi_sandbox *s) {
+    for (uint32_t gate = 0; gate < s->gates; gate++)
+        if (s->gate[gate].service == SERVICE_EXIT)
+            return s->gate[gate].address;
+    return 0;
+}
+
+bool sfi_run_enter(struct sfi_run_world *world, uint32_t sandbox, uint32_t pc, const uint32_t arguments[8]) {
+    struct native_sandbox *it = sandbox_at(world, sandbox);
+    if (it == NULL || it->kind == SFI_RUN_READY || !is_unit(it->text, pc))
+        return false;
+    begin(it, pc);
+    it->hart.x[1] = exit_gate(it->text);
+    memcpy(it->hart.x + 10, arguments, 8 * sizeof *arguments);
+    return true;
+}
+
+bool sfi_run_call(struct sfi_run_world *world, uint32_t sandbox, uint32_t pc, const uint32_t arguments[8], uint32_t steps,
+                  struct sfi_run_event *event) {
+    if (sfi_run_enter(world, sandbox, pc, arguments)) {
+        sfi_run_turn(world, sandbox, steps, event);
+        return true;
+    }
+    sfi_run_event(world, sandbox, event);
+    return false;
+}
+
+uint64_t sfi_run_steps(struct sfi_run_world *world, uint32_t sandbox) {
+    const struct native_sandbox *it = sandbox_at(world, sandbox);
+    return it == NULL ? 0 : it->steps;
+}
+
+bool sfi_run_registers(struct sfi_run_world *world, uint32_t sandbox, struct sfi_run_registers *registers) {
+    const struct native_sandbox *it = sandbox_at(world, sandbox);
+    if (it == NULL)
+        return false;
+    registers->pc = it->hart.pc;
+    memcpy(registers->x, it->hart.x, sizeof registers->x);
+    return true;
+}
+
+bool sfi_run_data(struct sfi_run_world *world, uint32_t sandbox, struct sfi_run_region *region) {
+    const struct native_sandbox *it = sandbox_at(world, sandbox);
+    if (it == NULL)
+        return false;
+    region->base = it->text->data;
+    region->size = it->text->data_size;
+    return true;
+}
+
+/* Whether the address lies in the data, or at most `far` bytes outside. */
+static bool is_near(const struct sfi_sandbox *s, uint64_t far, uint32_t address) {
+    return s->data <= address + far && address < s->data + far + s->data_size;
+}
+
+/* Whether the typed registers of the format hold what their types say (docs/IMAGE.md). */
+static bool are_typed(const struct sfi_sandbox *s, const uint32_t x[32]) {
+    if (has_stack())
+        return is_near(s, 0, x[2]);
+    return !has_words() || (is_near(s, SLACK, x[2]) && is_near(s, SLACK, x[3]) && is_near(s, SLACK, x[4]) &&
+                            is_near(s, SLACK, x[29]) && is_unit(s, x[30]) && x[31] < s->data_size);
+}
+
+bool sfi_run_set_registers(struct sfi_run_world *world, uint32_t sandbox, const struct sfi_run_registers *registers) {
+    struct native_sandbox *it = sandbox_at(world, sandbox);
+    if (it == NULL)
+        return false;
+    const struct sfi_sandbox *s = it->text;
+    if (!is_unit(s, registers->pc) || memcmp(registers->x + 24, it->hart.x + 24, 4 * sizeof *registers->x) ||
+        !are_typed(s, registers->x))
+        return false;
+    memcpy(it->hart.x, registers->x, sizeof registers->x);
+    it->hart.x[0] = 0;
+    it->hart.pc = registers->pc;
+    it->kind = SFI_RUN_READY;
+    return true;
+}

@@ -1,0 +1,150 @@
+#!/usr/bin/env python3
+"""Whether a translated plug-in does for a host what an interpreted one does: hosts of examples/run are linked with
+sfi_native_run.c and with libsfi_run, and print the same, and random calls answer what the model of fuzz/worlds.py answers.
+
+    examples/translate/hosts.py [--program SFI] [--library libsfi_run.a] [--rounds N] [--seconds S] [SEED ..]
+
+Each round is the life of one random image's world, as in fuzz/calls.py. It wants gcc.
+"""
+import os
+import shutil
+import subprocess
+import sys
+import tempfile
+
+sys.dont_write_bytecode = True
+HERE = os.path.dirname(os.path.abspath(__file__))
+TOP = os.path.dirname(os.path.dirname(HERE))
+sys.path[:0] = [os.path.join(TOP, "fuzz"), os.path.join(TOP, "bench"), os.path.join(TOP, "tools")]
+
+import calls
+import corpus
+import fuzzing
+import measure
+import worlds
+
+RUN = os.path.join(TOP, "examples", "run")
+NATIVE = os.path.join(TOP, "crates/sfi_translate/include")
+OPTIONS = ["-std=c11", "-D_POSIX_C_SOURCE=200809L", "-O2", "-Wall", "-Wextra", "-Werror", "-I", NATIVE,
+           "-I", os.path.join(TOP, "crates/sfi_run/include"), "-I", os.path.join(TOP, "crates/sfi_c/include")]
+OTHER_IMAGE = 16
+ON = b"""
+.sandbox 256
+.gate post 4
+.gate exit 0
+li a0, 5
+la a1, sum
+call post
+on: j on
+sum: mv t0, a0
+add a0, a0, a1
+mv a1, t0
+ret
+"""
+LONG = "a" * 257  # a byte more than the data of turn.s
+HOSTS = [  # a host, a source of its plug-in, and the host's words
+    ("calls", ON, []), ("function", "turn.s", ["plug-in", "Level 42", "x"]), ("function", "turn.s", ["ba", LONG]),
+    ("messages", "squares.s", []), ("messages", "squares.s", ["2"]), ("words", "words.s", ["a plug-in of mine", "x"]),
+    ("words", "words.s", [LONG]), ("console", "../primes.s", ["40", "97"]), ("console", "../hanoi.s", ["3", "997"]),
+    ("console", "../echo.s", ["7", "13", "48656c6c6f"]), ("console", "../sort.s", ["200", "1000", "0903"]),
+    ("threads", ON, ["3000"])]
+
+
+class OneImage(worlds.Model):
+    """The model of a library that loads one image."""
+
+    def __init__(self, judge, image):
+        super().__init__(judge)
+        self.image = image
+
+    def load(self, data):
+        if data == self.image:
+            return super().load(data)
+        self.free()
+        return OTHER_IMAGE, (OTHER_IMAGE, 0, 0, 0, 0, 0, 0, 0)
+
+
+def translated(sfi, image, folder):
+    """The options and files that make the calls of sfi_run.h those of a translated image."""
+    text, listed = os.path.join(folder, "plugin.inc"), os.path.join(folder, "plugin.bytes")
+    with open(text, "wb") as file:
+        subprocess.run([sfi, "translate"], input=image.hex().encode(), stdout=file, check=True)
+    measure.written(listed, ",".join(map(str, image)).encode())
+    return [f'-DSFI_TEXT="{text}"', f'-DSFI_IMAGE="{listed}"', os.path.join(NATIVE, "sfi_native_run.c")]
+
+
+def built(program, *words):
+    subprocess.run(["gcc", *OPTIONS, "-o", program, *words], check=True)
+    return program
+
+
+def answer(words):
+    done = subprocess.run(words, stdout=subprocess.PIPE, stderr=subprocess.DEVNULL, check=False)
+    return done.stdout, done.returncode
+
+
+def image_of(sfi, source, line):
+    text = source if isinstance(source, bytes) else measure.contents(os.path.join(RUN, source))
+    kept = b"".join(it for it in text.splitlines(keepends=True) if not it.startswith(b".format"))
+    return bytes.fromhex(fuzzing.output([sfi, "build"], line + kept))
+
+
+def try_hosts(sfi, library, folder, tally):
+    """Each host, linked in both ways, in each format of its plug-in."""
+    heap = os.path.join(TOP, "crates/sfi_run/c/heap.c")
+    interpreted = {name: built(os.path.join(folder, name), "-pthread", os.path.join(RUN, name + ".c"), heap, library)
+                   for name in sorted({name for name, _, _ in HOSTS})}
+    for name, source, words in HOSTS:
+        for line in corpus.FORMAT_LINES:
+            image = image_of(sfi, source, line)
+            path = measure.written(os.path.join(folder, "plugin.image"), image)
+            host = built(os.path.join(folder, "host"), "-pthread", os.path.join(RUN, name + ".c"), *translated(sfi, image, folder))
+            wanted, found = (answer([it, path, *words]) for it in (interpreted[name], host))
+            tally.see(f"{name} {source if isinstance(source, str) else 'on.s'} {' '.join(words)[:20]}", wanted, found, image)
+
+
+def try_python(sfi, folder, tally):
+    """The console of the bindings for Python, on a shared library of a translated image."""
+    image = image_of(sfi, "../primes.s", b"")
+    path = measure.written(os.path.join(folder, "plugin.image"), image)
+    library = built(os.path.join(folder, "plugin.so"), "-shared", "-fPIC", *translated(sfi, image, folder))
+    environment = {**os.environ, "PYTHONPATH": os.path.join(TOP, "bindings/python"), "SFI_RUN_LIBRARY": library}
+    script = os.path.join(TOP, "bindings/python/examples/console.py")
+    done = subprocess.run([sys.executable, script, path, "40", "97"], env=environment, stdout=subprocess.PIPE, check=False)
+    wanted = fuzzing.output([sfi, "run", "--rounds", "40", "--quantum", "97"], image.hex().encode())
+    tally.see("the console in Python", wanted, done.stdout.decode(), image)
+
+
+def try_world(sfi, judge, folder, pick, tally):
+    """The life of a world of a random image."""
+    findings = calls.findings_by(judge)
+    image = None
+    while image is None:
+        image = corpus.accepted(pick, sfi) if pick.random() < 0.7 else corpus.repaired(findings, corpus.odd(pick))
+    library = built(os.path.join(folder, f"{tally.case.replace(' ', '')}.so"), "-shared", "-fPIC", *translated(sfi, image, folder))
+    images = lambda own: image if own.random() < 0.8 else corpus.mutant(own, image)
+    calls.World(pick, images, worlds.Library(worlds.Calls(library)), OneImage(judge, image), tally).live()
+    os.remove(library)
+
+
+def main(words=None):
+    parser = fuzzing.options(__doc__, 20)
+    parser.add_argument("--library", default=calls.LIBRARY)
+    given = parser.parse_args(words)
+    if not shutil.which("gcc"):
+        return fuzzing.all_skipped(1, "hosts of translated plug-ins", "gcc isn't there")
+    sfi = measure.program_at(given.program)
+    tally = fuzzing.tally_of(parser, given, calls.NAMES)
+    with tempfile.TemporaryDirectory() as folder:
+        judge = calls.verdicts.Judge(folder)
+        tally.see("version", worlds.header_version(), worlds.header_version())
+        for tally.case, pick in fuzzing.cases(given):
+            try_world(sfi, judge, folder, pick, tally)
+        if given.round is None:
+            try_hosts(sfi, os.path.abspath(given.library), folder, tally)
+            try_python(sfi, folder, tally)
+    return tally.end()
+
+
+if __name__ == "__main__":
+    sys.exit(main())
