@@ -1,0 +1,142 @@
+#!/usr/bin/env python3
+"""How fast translated images are: the programs of examples/c and four kernels (kernels.c), by `sfi translate` and gcc -O2, beside
+the same C by gcc -O2 alone, the kernels by wasm2c, too.
+
+    bench/translated.py [--program PATH] [--rounds N] [NAME ..]
+
+It wants sfi-cc's tools, and for wasm2c clang, wasm-ld and wabt. A program runs again and again over an input that is built in
+(repeat.c); it ends where the checksums differ. Processor seconds of the native program, each the least of N alternated runs, and
+of the others the ratios to it; then the text's bytes for an instruction.
+"""
+import argparse
+import os
+import re
+import shutil
+import subprocess
+import tempfile
+
+import compiled
+import measure
+from compiled import CASES, EXAMPLES, SFI_CC, mean
+
+TIMES = {"crc32": 16000, "sha256": 8000, "sort": 5000, "wordcount": 20000, "stack": 1200, "arithmetic": 1000, "json": 30000, "base64": 12000,
+         "lz": 4000, "hash": 5000, "matrix": 250, "regex": 4500, "sha": 30000, "sort_kernel": 250, "matrix_kernel": 1500, "sieve": 900}
+KERNELS = {"sha": "sha", "sort_kernel": "sort", "matrix_kernel": "matrix", "sieve": "sieve"}
+FORMATS = ("2", "words")
+INCLUDE = os.path.join(compiled.TOP, "crates/sfi_translate/include")
+WASM_RUN = """
+#include <stdio.h>
+#include "kernel.h"
+int main(void) {
+    Z_kernel_instance_t instance;
+    wasm_rt_init();
+    Z_kernel_init_module();
+    Z_kernel_instantiate(&instance);
+    printf("%u\\n", Z_kernelZ_run(&instance));
+    return 0;
+}
+"""
+
+
+def call(*words, **more):
+    return subprocess.run(words, check=True, stdout=subprocess.PIPE, **more).stdout
+
+
+def sources(name, folder):
+    """The options and files of a program."""
+    times = [f"-DTIMES={TIMES[name]}"]
+    if name in KERNELS:
+        return [*times, f"-DKERNEL={KERNELS[name]}", os.path.join(measure.HERE, "kernels.c")]
+    given = bytes.fromhex(compiled.digits_of_case(name))
+    listed = measure.written(os.path.join(folder, "input.inc"), ",".join(map(str, given + b"\0")).encode())
+    renamed = ["-Dget=given", "-Dput=taken", "-I", EXAMPLES]
+    return [*times, *renamed, f'-DINPUT="{listed}"', os.path.join(folder, "program.c"), os.path.join(measure.HERE, "repeat.c")]
+
+
+def native(folder, options):
+    path = os.path.join(folder, "native")
+    call("gcc", "-O2", "-DNATIVE", *options, "-o", path)
+    return [path]
+
+
+def by_wasm2c(folder, options):
+    """The program that wasm2c makes of a kernel."""
+    wasm, path = os.path.join(folder, "kernel.wasm"), os.path.join(folder, "by_wasm2c")
+    call("clang", "--target=wasm32", "-O2", "-mbulk-memory", "-nostdlib", "-DRUN_ALONE", "-Wl,--no-entry,--export=run", *options, "-o", wasm)
+    call("wasm2c", wasm, "-n", "kernel", "-o", os.path.join(folder, "kernel.c"))
+    run = measure.written(os.path.join(folder, "run.c"), WASM_RUN.encode())
+    library = "/usr/share/wabt/wasm2c"
+    call("gcc", "-O2", "-I", library, run, os.path.join(folder, "kernel.c"), os.path.join(library, "wasm-rt-impl.c"), "-lm", "-o", path)
+    return [path]
+
+
+def translated(program, image_format, folder, options):
+    """The words that run a translated program, its translation, and how many instructions it has."""
+    image = os.path.join(folder, f"{image_format}.hex")
+    call(SFI_CC, "--program", program, "--format", image_format, *options, "-o", image)
+    digits = measure.contents(image)
+    text = call(program, "translate", "--whole", input=digits)
+    lines = call(program, "translate", input=digits)
+    source, path = measure.written(os.path.join(folder, "image.c"), text), os.path.join(folder, f"translated.{image_format}")
+    call("gcc", "-O2", source, "-o", path)
+    return [path, "--rounds", "10000", "--quantum", "1000000"], lines
+
+
+def answer_of(output):
+    """The checksum that a program prints, or exits with."""
+    return re.search(r"(?:exit=)?(\d+)", output.split(" ", 1)[-1]).group(1)
+
+
+def measured(program, name, rounds, folder):
+    """The native program's seconds, and by way the ratio to it; the lines of each format."""
+    if name not in KERNELS:
+        source = measure.contents(os.path.join(EXAMPLES, name + ".c"))
+        measure.written(os.path.join(folder, "program.c"), source.replace(b"int main(void)", b"int program(void)"))
+    options = sources(name, folder)
+    ways, texts = {"native": native(folder, options)}, {}
+    for image_format in FORMATS:
+        ways[image_format], texts[image_format] = translated(program, image_format, folder, options)
+    if name in KERNELS and shutil.which("wasm2c") and shutil.which("clang"):
+        ways["wasm2c"] = by_wasm2c(folder, options)
+    answers = {way: answer_of(measure.run(words, os.devnull)[0]) for way, words in ways.items()}
+    if len(set(answers.values())) != 1:
+        raise SystemExit(f"bench: {name}: the checksums differ: {answers}")
+    least = measure.leasts({way: (words, os.devnull) for way, words in ways.items()}, rounds)
+    seconds = least.pop("native")
+    return seconds, {way: it / seconds for way, it in least.items()}, texts
+
+
+def print_means(title, rows):
+    ways = [way for way in (*FORMATS, "wasm2c") if all(way in row for row in rows)]
+    print(f"| {title} | | " + " | ".join(f"{mean([row[way] for row in rows]):.2f}" for way in ways) + " |", flush=True)
+
+
+def print_size(texts):
+    """The text's bytes for an instruction."""
+    instructions = sum(len(re.findall(rb"^[A-Z_]+\([0-9a-f]{8},[24][,)]", text, re.MULTILINE)) for text in texts)
+    print(f"{sum(map(len, texts)) / instructions:.1f} bytes of text for each of {instructions:,} instructions")
+
+
+def main():
+    parser = argparse.ArgumentParser(description=__doc__, formatter_class=argparse.RawDescriptionHelpFormatter)
+    parser.add_argument("names", nargs="*", default=[*CASES, *KERNELS])
+    parser.add_argument("--program", default=measure.PROGRAM)
+    parser.add_argument("--rounds", type=int, default=3)
+    given = parser.parse_args()
+    program = measure.program_at(given.program)
+    rows, texts = {}, []
+    print("| program | native, s | second format | in words | wasm2c |\n|---|---|---|---|---|")
+    with tempfile.TemporaryDirectory() as folder:
+        for name in given.names:
+            os.mkdir(place := os.path.join(folder, name))
+            seconds, rows[name], found = measured(program, name, given.rounds, place)
+            texts += found.values()
+            print(f"| {name} | {seconds:.3f} | " + " | ".join(f"{it:.2f}" for it in rows[name].values()) + " |", flush=True)
+    for title, names in (("mean of programs", CASES), ("mean of kernels", KERNELS)):
+        if kept := [row for name, row in rows.items() if name in names]:
+            print_means(title, kept)
+    print_size(texts)
+
+
+if __name__ == "__main__":
+    main()
