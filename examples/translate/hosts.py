@@ -103,6 +103,22 @@ def try_hosts(sfi, library, folder, tally):
             tally.see(f"{name} {source if isinstance(source, str) else 'on.s'} {' '.join(words)[:20]}", wanted, found, image)
 
 
+def block(language):
+    """The first block of that language below a heading of docs/EMBEDDING.md."""
+    text = measure.contents(os.path.join(TOP, "docs/EMBEDDING.md")).decode()
+    return text.partition("## A host from nothing\n")[2].partition(f"\n```{language}\n")[2].partition("```\n")[0].encode()
+
+
+def try_documented(sfi, folder, tally):
+    """The host and the plug-in of docs/EMBEDDING.md."""
+    image = bytes.fromhex(fuzzing.output([sfi, "build"], block("")))
+    measure.written(os.path.join(folder, "plugin.image"), image)
+    source = measure.written(os.path.join(folder, "host.c"), block("c"))
+    host = built(os.path.join(folder, "host"), source, *translated(sfi, image, folder))
+    found = subprocess.run([host], cwd=folder, stdout=subprocess.PIPE, check=False).stdout
+    tally.see("the host of EMBEDDING.md", b"hello 42\n", found, image)
+
+
 def try_python(sfi, folder, tally):
     """The console of the bindings for Python, on a shared library of a translated image."""
     image = image_of(sfi, "../primes.s", b"")
@@ -134,6 +150,8 @@ def main(words=None):
     if not shutil.which("gcc"):
         return fuzzing.all_skipped(1, "hosts of translated plug-ins", "gcc isn't there")
     sfi = measure.program_at(given.program)
+    if not os.path.exists(given.library):
+        sys.exit(f"{given.library} isn't there: (cd crates/sfi_run && rt lib) builds it")
     tally = fuzzing.tally_of(parser, given, calls.NAMES)
     with tempfile.TemporaryDirectory() as folder:
         judge = calls.verdicts.Judge(folder)
@@ -142,6 +160,7 @@ def main(words=None):
             try_world(sfi, judge, folder, pick, tally)
         if given.round is None:
             try_hosts(sfi, os.path.abspath(given.library), folder, tally)
+            try_documented(sfi, folder, tally)
             try_python(sfi, folder, tally)
     return tally.end()
 

@@ -1,7 +1,7 @@
 #!/usr/bin/env python3
 """Translates images to C, and compares the text with what another maker makes of the listing, and what the C programs print
 with what `sfi run` does, traps and steps included: the examples in each format, straight code, and random accepted images, in
-turns of several lengths, for a host and as whole programs, by gcc and by clang.
+turns of several lengths, for a host and as whole programs, by gcc and by clang; and a turn of each in WebAssembly, in node.
 
     examples/translate/test.py [--program SFI] [--images N] [--seed SEED]
 """
@@ -75,6 +75,44 @@ def differing(sfi, compiler, folder, image):
             yield options, printed([sfi, "run", *options], digits.encode()), printed([program, *options])
 
 
+WASM = ("clang", "--target=wasm32", "-O2", "-mbulk-memory", "-nostdlib", "-Wl,--no-entry")
+STRING_H = "void *memcpy(void *, const void *, __SIZE_TYPE__);\n"  # which clang does by itself there
+RUN_WASM = """
+const bytes = require("fs").readFileSync(process.argv[1]);
+WebAssembly.instantiate(bytes).then(({ instance: { exports: it } }) =>
+    console.log(it.turn(Number(process.argv[2])), it.place() >>> 0, it.left() >>> 0));
+"""
+CALL = 1
+STATES = {0: "ready", 2: "trap=Load at={:08x}", 3: "trap=Store at={:08x}", 4: "trap=Break at={:08x}", 5: "trap=Fetch at={:08x}"}
+
+
+def in_wasm(sfi, folder, image, steps):
+    """The state and steps after a turn of the first sandbox in WebAssembly, and those of `sfi run`; None where the turn has a call."""
+    path = written(folder, printed([sfi, "translate"], image.hex().encode()).decode())
+    with open(os.path.join(folder, "string.h"), "w", encoding="ascii") as file:
+        file.write(STRING_H)
+    module = os.path.join(folder, "image.wasm")
+    options = ["-I", folder, "-I", INCLUDE, f'-DSFI_TEXT="{path}"', "-w", os.path.join(HERE, "wasm.c"), "-o", module]
+    subprocess.run([*WASM, *options], check=True)
+    how, at, left = map(int, printed(["node", "-e", RUN_WASM, module, str(steps)]).split())
+    line = printed([sfi, "run", "--quantum", str(steps)], image.hex().encode()).decode().splitlines()[0]
+    found = f"sandbox=0 {STATES.get(how, '').format(at)} steps={steps - left} out="
+    return None if how == CALL else (line, found)
+
+
+def try_wasm(sfi, folder, images):
+    """What is said of each image, and whether it is the same."""
+    for image in images:
+        for steps in (50, 3000):
+            lines_of = in_wasm(sfi, folder, image, steps)
+            if lines_of:
+                yield f"in WebAssembly: {image.hex()[:80]}..: {lines_of}", lines_of[0] == lines_of[1]
+
+
+def has_wasm():
+    return all(map(shutil.which, ("clang", "wasm-ld", "node")))
+
+
 def statuses(program):
     """Options that `sfi run` refuses: with what status, and with what the C program does."""
     for status, *options in REFUSED:
@@ -110,6 +148,11 @@ def main():
             for options, wanted, found in differing(given.program, compiler, folder, image):
                 tried.append((f"image {number}, {' '.join(compiler + tuple(options))}: {image.hex()[:80]}..\n"
                               f"  wanted {wanted[:200]}\n  found  {found[:200]}", wanted == found))
+        if has_wasm():
+            tried += try_wasm(given.program, folder, images[:1] + images[-given.images:])
+        else:
+            print("skipped: translations in WebAssembly: clang, wasm-ld or node isn't there")
+            skipped += 1
         for program in programs(given.program, compilers[0], folder, images[0].hex()) if compilers else []:
             tried += [(f"the options {options}: status {found}, not {wanted}", wanted == found) for options, wanted, found in statuses(program)]
     for what, is_right in tried:

@@ -1,0 +1,36 @@
+/* One turn of the first sandbox of a translated image, in WebAssembly (test.py): clang --target=wasm32, without a C library. */
+#include "sfi_native.h"
+
+enum { LARGEST = 1048576 };
+static uint8_t data[LARGEST];
+static struct sfi_hart hart;
+static sfi_u32 at;
+
+/* Begins as `sfi run` does, and takes so many steps at most: how the turn ended. */
+__attribute__((export_name("turn"))) int turn(sfi_u32 steps) {
+    const struct sfi_sandbox *s = &sfi_sandboxes[0];
+    sfi_u32 *const x = hart.x;
+    memcpy(data, s->first_data, s->init);
+    hart.data = data;
+    hart.pc = s->start;
+    hart.left = steps;
+    x[2] = s->data + s->data_size - 16;
+    x[24] = s->code;
+    x[25] = s->code_size - s->unit;
+    x[26] = s->data;
+    x[27] = s->data_size - 1;
+    if (s->unit == 4) {
+        x[3] = x[4] = x[29] = s->data;
+        x[30] = s->start;
+    }
+    return sfi_turn(s, &hart, &at);
+}
+
+/* The steps that are left, and the address of a trap. */
+__attribute__((export_name("left"))) sfi_u32 left(void) {
+    return hart.left;
+}
+
+__attribute__((export_name("place"))) sfi_u32 place(void) {
+    return at;
+}
