@@ -4,8 +4,9 @@
     python3 tools/asm2elf [--format N] [--passes NAMES] [-o OUT.s] IN.s
     python3 tools/asm2elf [--format N] [--passes NAMES] --into FOLDER IN.s ..
 
-Only instructions change: each gets its masks, its size, and its place in a word or a bundle. Labels, data, debug
-information, symbols and sections go on to `as`, and `ld` places, joins and relocates. Nothing of this is trusted: the
+Only instructions change: each gets its masks, its size, and its place in a word or a bundle. Labels, data, symbols and
+sections go on to `as`, and debug information but for the places of variables that the passes make wrong; `ld` places,
+joins and relocates. Nothing of this is trusted: the
 checker reads the bytes of the image that tools/sfi-image makes. What can't be rewritten is told on standard error with its
 file and line, and the status is 1; it is 2 where a file can't be read or written. docs/C.md says more.
 """

@@ -9,7 +9,26 @@ from writer import NORVC, RVC, Writer
 
 MASKS_OF_ACCESS = ["and x31, {0}, x27", "or x31, x31, x26"]
 MASKS_OF_STACK = ["and sp, sp, x27", "or sp, sp, x26"]
+MOVES = ("mv", "add")  # what a pass adds of these is a move
 MASKS_OF_JUMP = ["and x31, {0}, x25", "or x31, x31, x24"]
+
+
+class Frame:
+    """Whether debuggers find a function's frame by the stack pointer, as the directives tell that were written."""
+
+    def __init__(self):
+        self.is_on_stack, self.kept = False, []
+
+    def take(self, text):
+        word, *operands = text.replace(",", " ").split()
+        if word in (".cfi_def_cfa", ".cfi_def_cfa_register"):
+            self.is_on_stack = operands[0] in ("2", "sp", "x2")
+        elif word == ".cfi_remember_state":
+            self.kept.append(self.is_on_stack)
+        elif word == ".cfi_restore_state":
+            self.is_on_stack = self.kept.pop()
+        elif word in (".cfi_startproc", ".cfi_endproc"):
+            self.is_on_stack = word == ".cfi_startproc"
 
 
 class InBundles(Writer):
@@ -20,6 +39,7 @@ class InBundles(Writer):
     def __init__(self, *all_of_it):
         super().__init__(*all_of_it)
         self.has_stack = self.format == 2
+        self.frame, self.keeper = Frame(), None
 
     def begin_section(self):
         self.count += 1
@@ -28,6 +48,17 @@ class InBundles(Writer):
     def label(self, name):
         self.out.append("\t.p2align 4")
         super().label(name)
+
+    def soft(self, text):
+        super().soft(text)
+        self.frame.take(text)
+
+    def tell_frame(self, target, source):
+        """Has debuggers find the frame by the register that keeps the stack pointer, while `pointing` has another one."""
+        if source == "sp":
+            self.keeper = target
+        if source == "sp" or (target, source) == ("sp", self.keeper):
+            self.out += [f"\t.cfi_def_cfa_register {target}"] * self.frame.is_on_stack
 
     def group(self, *texts, ends=False):
         """Instructions of 32 bits in one bundle, at its end where they are a call."""
@@ -61,6 +92,8 @@ class InBundles(Writer):
                 self.one(part)
         else:
             self.one(op)
+        if op.place is None and word in MOVES:
+            self.tell_frame(operands[0], operands[-1])
 
     def one(self, op):
         name = written(op)

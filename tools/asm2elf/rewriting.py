@@ -1,4 +1,6 @@
 """One file of a compiler's assembly, rewritten to GNU assembly for a format."""
+from assembly import Refused
+from debug_data import Unknown
 from improving import PASSES, improved
 from in_bundles import InBundles
 from in_words import InWords
@@ -66,7 +68,10 @@ class Rewriting:
 
     def text(self):
         writer = (InWords if self.format == WORDS else InBundles)(self.unit, self.small, self.format)
-        return writer.text(self.code, self.orders, self.told)
+        try:
+            return writer.text(self.code, self.orders, self.told)
+        except Unknown as unknown:
+            raise Refused(self.unit.name, f"debug information that isn't known: {unknown}") from unknown
 
 
 def rewritten(name, text, passes=PASSES, image_format=WORDS):

@@ -32,19 +32,20 @@ class Order:
                 self.places.setdefault(piece.place, number)
         self.kept = pieces  # so that no other piece gets the identity of one of these
 
-    def number_of(self, piece, last):
-        """The number of the piece of the file that one after the passes stands for, or of the one before it."""
+    def number(self, piece):
+        """The number of the piece of the file that one after the passes stands for; None for one that a pass has added."""
         if piece.is_mark:
-            return self.marks.get(piece.name, last)
-        if id(piece) in self.numbers:
-            return self.numbers[id(piece)]
-        return self.places.get(piece.place, last)
+            return self.marks.get(piece.name)
+        found = self.numbers.get(id(piece), self.places.get(piece.place))
+        is_way = piece.word == "j" and found is not None and self.kept[found].word != "j"  # to or from a loop
+        return None if is_way else found
 
     def least(self, pieces):
         """For each piece the least number of it and of those after it: the items up to there come before it."""
         found, last = [], 0
         for piece in pieces:
-            last = self.number_of(piece, last)
+            number = self.number(piece)
+            last = last if number is None else number
             found.append(last)
         for index in range(len(found) - 2, -1, -1):
             found[index] = min(found[index], found[index + 1])

@@ -1,5 +1,8 @@
 """What both ways of writing GNU assembly share: the sections, and beside each piece the soft items and the line of C."""
 
+from places import Places
+from shown import AllShown
+
 NORVC, RVC = "\t.option norvc", "\t.option rvc"
 OPTIONS = ["\t.option norelax", NORVC, "\t.option nopic"]  # after the file's own lines: `.attribute arch` turns rvc on
 
@@ -24,22 +27,26 @@ class Writer:
         """Comes before the first piece."""
 
     def text(self, sections, orders, told):
-        self.out = [*self.unit.verbatim, *self.unit.symbols, *told, *OPTIONS]
+        shown = AllShown(sections, orders)
+        self.out = [*Places(self.unit.verbatim, shown).right(), *self.unit.symbols, *told, *OPTIONS]
         for key, pieces in sections.items():
             self.out.append(self.unit.sections[key].line)
             if pieces:
                 self.out.append(f"\t.p2align {self.alignment}")
                 self.begin_section()
-            self.section(pieces, orders[key])
+            self.section(pieces, orders[key], shown.new[key])
         return "\n".join(self.out) + "\n"
 
-    def section(self, pieces, order):
+    def section(self, pieces, order, labels):
+        """Writes a section, with some labels before pieces of these numbers."""
         waiting, self.location = list(reversed(order.soft)), None
-        for piece, following, least in zip(pieces, [*pieces[1:], None], order.least(pieces)):
+        for number, (piece, following, least) in enumerate(zip(pieces, [*pieces[1:], None], order.least(pieces))):
             if piece.is_mark:
                 self.end_word()
             while waiting and waiting[-1][0] <= least:
-                self.out.append(waiting.pop()[1])
+                self.soft(waiting.pop()[1])
+            if number in labels:
+                self.out.append(f"{labels[number]}:")
             if piece.is_mark:
                 self.label(piece.name)
             else:
@@ -47,6 +54,9 @@ class Writer:
                 self.piece(piece, following)
         self.end_word()
         self.out += [text for _, text in reversed(waiting)]
+
+    def soft(self, text):
+        self.out.append(text)
 
     def label(self, name):
         self.out.append(f"{name}:")
