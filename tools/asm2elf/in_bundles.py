@@ -53,6 +53,10 @@ class InBundles(Writer):
         super().soft(text)
         self.frame.take(text)
 
+    def beside(self, text, begun):
+        super().beside(text, begun)
+        self.frame.take(text)
+
     def tell_frame(self, target, source):
         """Has debuggers find the frame by the register that keeps the stack pointer, while `pointing` has another one."""
         if source == "sp":

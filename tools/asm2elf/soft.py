@@ -1,5 +1,6 @@
 """Where soft items (unit.py) stand once the passes have moved pieces: an item is written as soon as all the pieces before it
 in the file have been."""
+from dependences import writes
 from program import Mark
 
 
@@ -19,11 +20,22 @@ def without_soft_labels(section, hard, taken):
     return pieces, soft + [(len(pieces), text) for _, text in reversed(waiting)]
 
 
+def is_of_stack(text, piece):
+    """Whether an item says where the frame is after an instruction that moves the stack pointer."""
+    return text.startswith("\t.cfi_def_cfa") and piece is not None and "sp" in writes(piece)
+
+
 class Order:
-    """The numbers of a section's pieces in the file, and its soft items."""
+    """The numbers of a section's pieces in the file, and its soft items; those of the stack pointer go with the instructions
+    that move it, by their numbers."""
 
     def __init__(self, pieces, soft):
-        self.soft = soft
+        self.soft, self.beside = [], {}
+        for number, text in soft:
+            if is_of_stack(text, pieces[number - 1] if number else None):
+                self.beside.setdefault(number - 1, []).append(text)
+            else:
+                self.soft.append((number, text))
         self.numbers = {id(piece): number for number, piece in enumerate(pieces)}
         self.marks = {piece.name: number for number, piece in enumerate(pieces) if piece.is_mark}
         self.places = {}

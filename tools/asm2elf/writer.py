@@ -51,12 +51,20 @@ class Writer:
                 self.label(piece.name)
             else:
                 self.locate(piece)
+                begun = len(self.out)
                 self.piece(piece, following)
+                for text in order.beside.get(order.number(piece), ()):
+                    self.beside(text, begun)
         self.end_word()
         self.out += [text for _, text in reversed(waiting)]
 
     def soft(self, text):
         self.out.append(text)
+
+    def beside(self, text, begun):
+        """Puts a soft item beside an instruction, whose lines begin there, and before what masks the stack pointer then."""
+        place = next(number for number in range(begun, len(self.out)) if not self.out[number].startswith("\t."))
+        self.out.insert(place + 1, text)
 
     def label(self, name):
         self.out.append(f"{name}:")
