@@ -24,6 +24,7 @@ PLACES = [
     ("bindings/rust/Cargo.lock", r'^name = "sfi-run"\nversion = "(.*)"'),
     ("docs/sfi.1", r'^\.TH .* "Suygapid (.*)" '),
     ("docs/sfi-cc.1", r'^\.TH .* "Suygapid (.*)" '),
+    ("docs/sfi-gdb.1", r'^\.TH .* "Suygapid (.*)" '),
     ("docs/sfi-image.1", r'^\.TH .* "Suygapid (.*)" '),
     ("docs/sfi-library.1", r'^\.TH .* "Suygapid (.*)" '),
     ("docs/sfi-trace.1", r'^\.TH .* "Suygapid (.*)" '),

@@ -1,11 +1,12 @@
 #!/usr/bin/env bash
-# Links archives, libraries, two sandboxes and constructors in each format, and tries what is refused.
+# Links archives, libraries, two sandboxes and constructors in each format, debugs programs by gdb, and tries what is refused.
 #
 #     examples/c/elf/test.sh [SFI]      # SFI is the program; ./sfi at the top if absent
 set -uo pipefail
 unset CDPATH
 here=$(cd "$(dirname "${BASH_SOURCE[0]}")" && pwd)
 sfi=$(realpath "${1:-$here/../../../sfi}")
+runtime=$(realpath "$here/../../../crates/sfi_run/out/libsfi_run.a")
 tools=$(realpath "$here/../../../tools")
 cd "$here/.." || exit 1
 source ../harness.sh
@@ -107,6 +108,45 @@ try_many() {
     report "more small objects than there is room for" "sandbox=0 exit=100 out=" "$(line_of "$room/many.elf")"
 }
 
+# What gdb shows of a program, and what the program puts meanwhile.
+try_gdb() { # format
+    elf_of "debugged.$1.elf" "$1" -Og -g elf/gdb/debugged.c
+    "$tools/sfi-gdb" --input 68690a "$room/debugged.$1.elf" -nx -batch -x elf/gdb/session.gdb >"$room/output" 2>"$room/messages"
+    report "a session of gdb, format $1" "$(cat elf/gdb/wanted)" "$(grep '^= ' "$room/output")"
+    report "a line that traps, format $1" "at[-2] = by;" "$(grep -A2 SIGSEGV "$room/output" | grep -o 'at\[-2\].*')"
+    report "the console beside gdb, format $1" "heaviest hi" "$(grep -xE 'heaviest|hi' "$room/messages" | paste -sd' ')"
+}
+
+# At turn k of a loop the pointer is k words above the numbers, and the sum is as computed here, or gdb doesn't show them.
+try_kept() { # format, level
+    elf_of "kept.$1.elf" "$1" "$2" -g elf/gdb/kept.c
+    "$tools/sfi-gdb" "$room/kept.$1.elf" -nx -batch -x elf/gdb/kept.gdb >"$room/output" 2>"$room/messages"
+    report "no wrong value is shown, format $1, $2" "12 turns" "$(grep -E '^(at|total) = ' "$room/output" | awk '
+        { shown = $0; sub(/.* = /, "", shown) }
+        /^at/ && shown !~ /optimized out/ && shown !~ ("<numbers" (turn ? "[+]" 4 * turn : "") ">") { print turn ": " $0 }
+        /^total/ && shown !~ /optimized out/ && shown != sum { print turn ": " $0 }
+        /^total/ { sum = odd(sum + (turn > 3 ? turn : 0), turn + 1); turn++ }
+        function odd(a, b,  bit, found) {
+            for (bit = 1; bit <= 64; bit *= 2) found += (int(a / bit) + int(b / bit)) % 2 * bit
+            return found
+        }
+        BEGIN { sum = 0; turn = 0 }
+        END { print turn " turns" }')"
+}
+
+try_debugging() {
+    local format
+    has gdb-multiarch || { skip 1 "programs in gdb" "gdb-multiarch isn't there (Debian's package gdb-multiarch)" && return; }
+    [ -f "$runtime" ] || { skip 1 "programs in gdb" "$runtime isn't built" && return; }
+    succeeds "the library is linked" "$tools/libraries.py" sfi_run "$runtime" "$room/lib"
+    export SFI_RUN_LIBRARY=$room/lib/libsfi_run.so
+    for format in $formats; do
+        try_gdb "$format"
+        try_kept "$format" -O2
+        try_kept "$format" -Og
+    done
+}
+
 try_refusals() {
     report "an undefined symbol" "undefined reference to \`absent'" \
         "$(refusal elf_of x.elf 2 elf/undefined.c >/dev/null; grep -o 'undefined reference.*' "$room/messages" | head -n 1)"
@@ -146,5 +186,6 @@ for format in $formats; do
 done
 try_step
 try_many
+try_debugging
 try_refusals
 finish

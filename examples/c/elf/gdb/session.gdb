@@ -1,0 +1,38 @@
+# What elf/test.sh has gdb do with debugged.c. Lines that begin with "= " are compared with those of its file `wanted`.
+set confirm off
+set width 0
+break heaviest
+continue
+printf "= %s weighs %d\n", first->name, first->weight
+printf "= %d and %d\n", length(items[1].name), factorial(5)
+watch total
+continue
+printf "= total %d\n", total
+continue
+printf "= total %d\n", total
+delete
+finish
+printf "= heaviest %d, total %d\n", $, total
+break factorial if n == 2
+continue
+up 4
+printf "= outermost n %d\n", n
+down 4
+finish
+printf "= factorial %d\n", $
+stepi
+delete
+set var total = factorial(4)
+printf "= total %d\n", total
+break wrong
+continue
+printf "= by %d\n", by
+delete
+continue
+info line *$pc
+printf "= trapped, and factorial(3) is %d\n", factorial(3)
+up
+printf "= product %d, best %d\n", product, best
+tbreak main
+run
+printf "= begun anew, total %d\n", total
