@@ -1,7 +1,9 @@
 -- What holds of the definitions, of safe worlds and of plans: laws, for proofs here and in the crates above.
 use Rattle.rv_step.proofs.Facts.{one_step, some_step}
+use Rattle.sfi_host.specs.Callbacks.{PutBackIsChange}
 use Rattle.sfi_host.specs.Laws.{SomeMachine, OneMachine, NeighboursAreChanges, CallsAreTyped, AnswersAreReplies}
 use Rattle.sfi_host.specs.Steps.{StepsAreOwn}
+use Rattle.sfi_host.proofs.Callbacks.{put_back_is}
 use Rattle.sfi_host.proofs.Neighbours as neighbours
 use Rattle.sfi_host.proofs.OwnSteps as own
 use Rattle.sfi_host.proofs.SafeSeats as seats
@@ -24,3 +26,6 @@ calls_are_typed = seats.calls_typed
 
 pub answers_are_replies : AnswersAreReplies
 answers_are_replies = seats.answers_are
+
+pub put_back_is_change : PutBackIsChange
+put_back_is_change = put_back_is

@@ -26,6 +26,7 @@ pub mod Changing
 pub mod Entries
 pub mod Stopping
 pub mod SetRegisters
+pub mod Callbacks
 pub mod AtGate
 pub mod Turning
 pub mod Turns

@@ -31,3 +31,4 @@ pub mod LaterReplies
 pub mod Turns
 pub mod Until
 pub mod Setting
+pub mod Callbacks

@@ -36,6 +36,7 @@ pub use console::Console;
 pub use gates::{GateAnswer, Gates};
 pub use guest::{Guest, Request};
 pub use region::Region;
+pub use setting::registers_of;
 pub use status::Status;
 pub use turn::{RunAnswer, Turn};
 pub use waiting::Later;

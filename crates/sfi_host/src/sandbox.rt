@@ -1,6 +1,7 @@
 //! A sandbox of a world, and how it is entered.
 ghost use Rattle.std.specs.Prelude.{◌≡◌, ◌%◌, ◌+◌, ◌<◌, ◌≤◌, ◌^◌, ◌↔◌, IsTrue};
-ghost use Rattle.rv_step.specs.State.{IsHart};
+ghost use Rattle.rv_step.specs.State.{IsHart, with_register};
+ghost use Rattle.sfi_policy.specs.Registers.{return_register};
 ghost use Rattle.sfi_host.specs.Arguments.{a0_register};
 ghost use Rattle.sfi_host.specs.Entering.{MayEnter, fresh_hart, typed_for, with_registers, exit_gate, entered_seat};
 ghost use Rattle.sfi_host.specs.Regions.{span_of};
@@ -133,6 +134,19 @@ impl Sandbox {
         self.status = Status::Stopped;
     }
 
+    /// Gives the registers of a call to a function: the return address, which is the gate of exit's,
+    /// and the arguments.
+    pub(crate) fn set_call(&self, cpu: &mut Cpu, arguments: &[u32; 8])
+        requires hart { IsHart cpu.old }
+        ensures put { cpu.new ≡ with_registers
+            (with_register cpu.old return_register (exit_gate self.now.gates.items))
+            a0_register arguments.now }
+        ensures hart { IsHart cpu.new }
+    {
+        cpu.set_reg(Reg::numbered(RETURN_REGISTER), exit_gate(&self.gates));
+        set_arguments(cpu, arguments);
+    }
+
     /// Makes it ready at the address, as a function that returns to the gate of exit.
     pub(crate) fn enter(&mut self, pc: u32, arguments: &[u32; 8])
         requires even { pc % 2 ≡ 0 }
@@ -143,8 +157,7 @@ impl Sandbox {
         ensures hart { IsHart self.new.cpu }
     {
         let mut cpu = fresh_cpu(self.format, self.code, self.data, pc);
-        cpu.set_reg(Reg::numbered(RETURN_REGISTER), exit_gate(&self.gates));
-        set_arguments(&mut cpu, arguments);
+        self.set_call(&mut cpu, arguments);
         self.cpu = cpu;
         self.status = Status::Ready;
     }

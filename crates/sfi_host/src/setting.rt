@@ -4,6 +4,7 @@ ghost use Rattle.rv_step.specs.State.{IsHart, register};
 ghost use Rattle.sfi_policy.specs.Formats.{has_stack, has_words};
 ghost use Rattle.sfi_policy.specs.Registers.{stack_pointer};
 ghost use Rattle.sfi_image.specs.Spans.{Holds};
+ghost use Rattle.sfi_host.specs.Callbacks.{called_back_hart};
 ghost use Rattle.sfi_host.specs.Entering.{with_registers};
 ghost use Rattle.sfi_host.specs.Regions.{span_of};
 ghost use Rattle.sfi_host.specs.Sandboxes.{seat_of};
@@ -39,6 +40,18 @@ pub(crate) fn cpu_of(pc: u32, registers: &[u32; 32]) -> Option<Cpu>
     let mut cpu = Cpu::at(pc)?;
     set_all(&mut cpu, registers);
     Some(cpu)
+}
+
+/// The values of the registers, from x0 on.
+pub fn registers_of(cpu: &Cpu) -> [u32; 32]
+    ensures { result ≡ cpu.now.registers }
+{
+    // That of x0 stands for each that isn't read yet.
+    let mut registers = [cpu.reg(Reg::numbered(0)); 32];
+    for number in 0..32 {
+        registers[number] = cpu.reg(Reg::numbered(number as u8));
+    }
+    registers
 }
 
 // Whether the address lies in the region, or not further from it than an offset reaches.
@@ -116,6 +129,19 @@ impl Sandbox {
             && self.holds_reserved(cpu)
             && self.holds_stack(cpu)
             && self.holds_words(cpu)
+    }
+
+    /// Its pc and registers as at a call of the function at `pc` by its host, while it waits at a call
+    /// of its own; `None` where `pc` is odd.
+    pub(crate) fn called_back(&self, pc: u32, arguments: &[u32; 8]) -> Option<Cpu>
+        ensures some { IfSome result (λ cpu. cpu
+            ≡ called_back_hart (seat_of self.now).bounds self.now.cpu pc arguments.now) }
+        ensures hart { IfSome result IsHart }
+        ensures odd { result ≡ None → pc % 2 ≢ 0 }
+    {
+        let mut cpu = cpu_of(pc, &registers_of(&self.cpu))?;
+        self.set_call(&mut cpu, arguments);
+        Some(cpu)
     }
 
     /// Makes it ready with this pc and these registers.

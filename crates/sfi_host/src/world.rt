@@ -18,7 +18,9 @@ ghost use Rattle.sfi_host.specs.Loading.{first_seat, with_parts, AreEntered, Hav
 ghost use Rattle.sfi_host.specs.Waiting.{AsksAtGate, IsAtCall, Waits, to_call, later_reply, later_answer};
 ghost use Rattle.sfi_host.specs.Worlds.{slots_of, status_at, steps_at, data_byte_of, HaveStoppedThemselves, IsSafeWorld, StaysOutsideData};
 
+mod calling_back;
 mod debugging;
+mod setting;
 
 use crate::calls::{ask, asked_by};
 use crate::gates::Gates;

@@ -239,8 +239,9 @@ bool sfi_run_exit(struct sfi_run_world *world, uint32_t sandbox, uint32_t number
 
 /*
  * Stops a sandbox that is ready or stands at a call: no turn runs it, and no call of it gets a reply. Its data, pc,
- * registers and steps stay, and sfi_run_enter, sfi_run_call and sfi_run_set_registers make it ready again. So a host keeps the data of one that was
- * cut off in a loop. Returns false where there is no such sandbox or it has stopped already, and changes nothing then.
+ * registers and steps stay, and sfi_run_enter, sfi_run_call and sfi_run_set_registers make it ready again. So a host keeps
+ * the data of one that was cut off in a loop. Returns false where there is no such sandbox or it has stopped already, and
+ * changes nothing then.
  */
 bool sfi_run_stop(struct sfi_run_world *world, uint32_t sandbox);
 
@@ -278,6 +279,20 @@ bool sfi_run_enter(struct sfi_run_world *world, uint32_t sandbox, uint32_t pc, c
 bool sfi_run_call(struct sfi_run_world *world, uint32_t sandbox, uint32_t pc, const uint32_t arguments[8], uint32_t steps,
                   struct sfi_run_event *event);
 
+/*
+ * Calls a function of a sandbox that stands at a call, which the host is serving: writes to *kept the pc and the registers
+ * of that call, and makes the sandbox ready at pc, with these arguments in a0 to a7 and x1 as by sfi_run_enter. The other
+ * registers are those of the call, x2, the stack pointer, too: so the function's frames lie below its caller's. It runs by
+ * sfi_run_turn, may call gates and be called back itself, with registers of its own kept for each call that waits, and
+ * returns as by sfi_run_call. After sfi_run_exit, or once it has trapped or is stopped,
+ * sfi_run_set_registers(world, sandbox, kept) has the sandbox stand at the first call again, which waits for its reply; to
+ * its caller the function has only changed data. Returns false where the sandbox stands at no call, no bundle or word of
+ * its code begins at pc, or x24 to x27 or a typed register don't hold what they must (by accepted code they always do), and
+ * changes and writes nothing then.
+ */
+bool sfi_run_call_back(struct sfi_run_world *world, uint32_t sandbox, uint32_t pc, const uint32_t arguments[8],
+                       struct sfi_run_registers *kept);
+
 /* How many steps the sandbox has done, at most 2^64 - 1; 0 where there is none. */
 uint64_t sfi_run_steps(struct sfi_run_world *world, uint32_t sandbox);
 
@@ -292,10 +307,7 @@ bool sfi_run_data(struct sfi_run_world *world, uint32_t sandbox, struct sfi_run_
  * the third) would hold what its type forbids; and changes nothing then.
  *
  * So a debugger sets a register of a sandbox that stands where a bundle begins, or in the third format a word before
- * which no step of an address is open. And a host that serves a call may call a function of the same sandbox: it keeps the
- * registers, stops the sandbox, enters the function, sets x2, the stack pointer, to the kept one, takes turns, ends the
- * function by sfi_run_exit, and puts the kept registers back, at which the sandbox stands at the first call again; then it
- * replies. Without the kept x2 the function has an empty stack, and writes over that of the waiting call.
+ * which no step of an address is open; and a host takes a sandbox that it called back to its call (sfi_run_call_back).
  */
 bool sfi_run_set_registers(struct sfi_run_world *world, uint32_t sandbox, const struct sfi_run_registers *registers);
 

@@ -3,6 +3,7 @@ use Rattle.std.specs.Prelude.{◌≡◌, ℕ, [], ◌∷◌, List, Some, None, s
 use Rattle.rv_step.specs.State.{Hart}
 use Rattle.sfi_host.specs.declared.turn.Turn.{Turn}
 use Rattle.sfi_host.specs.declared.waiting.Later.{Later}
+use Rattle.sfi_host.specs.Callbacks.{with_callback}
 use Rattle.sfi_host.specs.Changing.{OthersAreSame, AreChanges, with_world_bytes}
 use Rattle.sfi_host.specs.Entering.{IsAtEntry, with_entry}
 use Rattle.sfi_host.specs.Joint.{Machine, IsMachine, call_of, joint as joint_run, replied}
@@ -68,6 +69,12 @@ pub record HasEntered (w n : Sandboxes) (sandbox pc : ℕ) (arguments : List ℕ
 -- it is ready with this pc and these registers
 pub record HasRegisters (w n : Sandboxes) (sandbox : ℕ) (h : Hart) : Type 0 where
   pub done : n ≡ with_hart w sandbox h
+  pub others : OthersAreSame w sandbox n
+  pub entry : IsAtEntry n sandbox
+
+-- it waited at a call, and is called back at pc, with these arguments
+pub record HasCalledBack (w n : Sandboxes) (sandbox pc : ℕ) (arguments : List ℕ) : Type 0 where
+  pub done : n ≡ with_callback w sandbox pc arguments
   pub others : OthersAreSame w sandbox n
   pub entry : IsAtEntry n sandbox
 

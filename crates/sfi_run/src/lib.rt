@@ -6,6 +6,7 @@
 #![tactic(auto)]
 
 mod between;
+mod callbacks;
 mod held;
 mod holding;
 mod names;
@@ -19,6 +20,7 @@ pub use between::{
     sfi_run_data, sfi_run_enter, sfi_run_read, sfi_run_registers, sfi_run_set_registers,
     sfi_run_steps, sfi_run_stop, sfi_run_write,
 };
+pub use callbacks::sfi_run_call_back;
 pub use held::Held;
 pub use holding::SfiRunWorld;
 pub use names::{sfi_run_api, sfi_run_export, sfi_run_import};

@@ -6,7 +6,7 @@ ghost use Rattle.sfi_host.specs.Worlds.{slots_of};
 use rv_mem::Pages;
 use rv_step::{Cause, Cpu};
 use rv_word::Reg;
-use sfi_host::{Region, Request, Status, World};
+use sfi_host::{Region, Request, Status, World, registers_of};
 
 /// How a sandbox stands: `struct sfi_run_event`. What its kind doesn't speak of is 0.
 #[repr(C)]
@@ -140,12 +140,10 @@ impl SfiRunRegisters {
     pub(crate) fn of(cpu: &Cpu) -> SfiRunRegisters
         ensures { AreRegistersOf cpu.now result }
     {
-        let pc = cpu.pc();
-        let mut x = [0; 32];
-        for number in 0..32 {
-            x[number] = cpu.reg(Reg::numbered(number as u8));
+        SfiRunRegisters {
+            pc: cpu.pc(),
+            x: registers_of(cpu),
         }
-        SfiRunRegisters { pc, x }
     }
 }
 

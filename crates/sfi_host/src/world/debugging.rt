@@ -1,16 +1,11 @@
 //! What a debugger asks of a world.
-ghost use Rattle.std.specs.Prelude.{◌≡◌, ◌↔◌, ◌<◌, ℕ, IfSome, IsSome, IsTrue};
-ghost use Rattle.std.specs.Bool.{OnTrue, OnFalse};
-ghost use Rattle.sfi_host.specs.Changing.{OthersAreSame};
-ghost use Rattle.sfi_host.specs.Entering.{IsAtEntry};
+ghost use Rattle.std.specs.Prelude.{◌≡◌, ◌↔◌, ℕ, IfSome, IsSome};
 ghost use Rattle.sfi_host.specs.private.Sandboxes.{bounds_in};
-ghost use Rattle.sfi_host.specs.Setting.{hart_of, with_hart, MaySetAt};
 ghost use Rattle.sfi_host.specs.Until.{IsUpToStop, HasRunUntil};
 ghost use Rattle.sfi_host.specs.Waiting.{AsksAtGate, IsAtCall, Waits};
 ghost use Rattle.sfi_host.specs.Worlds.{slots_of, HaveStoppedThemselves, IsSafeWorld, StaysOutsideData};
 
 use crate::guest::Request;
-use crate::setting::cpu_of;
 use crate::turn::Turn;
 use crate::until::run_until;
 use crate::world::World;
@@ -59,37 +54,5 @@ impl<M: Memory> World<M> {
             turn.steps,
             stops,
         );
-    }
-
-    /// Makes the sandbox of that number ready at `pc` with these registers, x0 to x31, of which x0 stays
-    /// 0, whatever it did before; `false` where there is no such sandbox, no bundle or word of its code
-    /// begins at `pc`, or a reserved or typed register would hold what it mustn't, and then nothing
-    /// changed. Its data stay, and its steps are counted on. So the registers of one that waits at a call,
-    /// which lies where a bundle or word begins, may be put aside and put back.
-    pub fn set_registers(&mut self, i: u32, pc: u32, registers: &[u32; 32]) -> bool
-        ensures may { IsTrue result ↔ MaySetAt (slots_of self.old) i (hart_of pc registers.now) }
-        ensures done { OnTrue result (self.new ≡ with_hart self.old i (hart_of pc registers.now)) }
-        ensures refused { OnFalse result (self.new ≡ self.old) }
-
-        // No other sandbox has changed.
-        ensures others { OthersAreSame self.old i self.new }
-
-        // It is an entry of the theorem; so the world is safe as before, and what is said of plans
-        // holds of those that follow.
-        ensures entry { OnTrue result (IsAtEntry self.new i) }
-        ensures safe { IsSafeWorld self.new }
-    {
-        let place = i as usize;
-        if place >= self.sandboxes.len() {
-            return false;
-        }
-        let Some(cpu) = cpu_of(pc, registers) else {
-            return false;
-        };
-        if !self.sandboxes[place].may_hold(&cpu) {
-            return false;
-        }
-        self.sandboxes[place].resume(cpu);
-        true
     }
 }

@@ -1,0 +1,26 @@
+use Rattle.sfi_host.proofs.Prelude.{◌≡◌, ◌↔◌, IsTrue, OnTrue, sym, subst, Hart, Slot, slots_of}
+use Rattle.sfi_host.specs.private.Sandboxes.{slot_in}
+use Rattle.sfi_host.specs.Setting.{MaySetAt, with_hart}
+use Rattle.sfi_host.proofs.Callbacks.{not_waiting, odd_callback, callback_where, callback_if_done}
+use Rattle.sfi_host.proofs.world.World.call_back.Given as given
+use Rattle.sfi_host.proofs.world.World.call_back.Goals as goal
+
+pub returns-in_default-clause-may : goal.returns-in_default-clause-may
+returns-in_default-clause-may g c = not_waiting (slots_of c.args.self.now) c.args.i c.args.pc c.args.arguments.now c.waiting.result c.in_default.is c.waiting.ensures.there
+
+pub returns-in_default-called_back-clause-may : goal.returns-in_default-called_back-clause-may
+returns-in_default-called_back-clause-may g c = odd_callback (slots_of c.args.self.now) c.args.i c.args.pc c.args.arguments.now (c.called_back.ensures.odd c.in_default-called_back.is)
+
+-- it as it waits
+abbrev slot : (g : given.Over) (c : goal.After-set_cpu g) → Slot
+slot g c = slot_in c.args.self.now.bytes c.in-Some-find.sandbox.now
+
+pub returns-clause-may : goal.returns-clause-may
+returns-clause-may g c =
+    callback_where (slots_of c.args.self.now) c.args.i c.args.pc c.args.arguments.now (slot g c) c.set_cpu.result (sym c.in-Some-find.ensures) c.in-Some.ensures.waits.at
+    (subst (λ (h : Hart). IsTrue c.set_cpu.result ↔ MaySetAt (slots_of c.args.self.now) c.args.i h) c.in-Some-called_back.ensures.some c.set_cpu.ensures.may)
+
+pub returns-clause-done : goal.returns-clause-done
+returns-clause-done g c =
+    callback_if_done c.set_cpu.result c.args.self.now c.set_cpu.new.self c.args.i c.args.pc c.args.arguments.now (slot g c) (sym c.in-Some-find.ensures)
+    (subst (λ (h : Hart). OnTrue c.set_cpu.result (c.set_cpu.new.self ≡ with_hart c.args.self.now c.args.i h)) c.in-Some-called_back.ensures.some c.set_cpu.ensures.done)
