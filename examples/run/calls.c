@@ -112,19 +112,36 @@ static void stops_at(struct sfi_run_world *world) {
     wanted(sfi_run_until(world, 0, stops, 0, 1000, &event) == SFI_RUN_CALL, "and no further");
 }
 
-/* Calls a function of a sandbox that stands at a call, on what is left of its stack, and leaves it at that call. */
-static uint32_t called_inside(struct sfi_run_world *world, uint32_t pc, const uint32_t arguments[8]) {
-    struct sfi_run_registers kept, entered;
+/* Calls a function of a sandbox that stands at a call, and leaves it at that call: its result. */
+static uint32_t called_back(struct sfi_run_world *world, uint32_t pc, const uint32_t arguments[8]) {
+    struct sfi_run_registers kept, there;
     struct sfi_run_event event;
-    wanted(sfi_run_registers(world, 0, &kept) && sfi_run_stop(world, 0) && sfi_run_enter(world, 0, pc, arguments) &&
-               sfi_run_registers(world, 0, &entered),
-           "a function is entered while a call waits");
-    entered.x[2] = kept.x[2];
-    wanted(sfi_run_set_registers(world, 0, &entered) && sfi_run_turn(world, 0, 1000, &event) == SFI_RUN_CALL && event.number == 0 &&
-               sfi_run_registers(world, 0, &entered) && entered.x[2] == kept.x[2],
-           "it returns, with the stack as it was");
-    wanted(sfi_run_exit(world, 0, event.a0) && sfi_run_set_registers(world, 0, &kept), "the call that waited is there again");
+    wanted(sfi_run_call_back(world, 0, pc, arguments, &kept) && sfi_run_registers(world, 0, &there) && there.pc == pc &&
+               there.x[2] == kept.x[2] && there.x[10] == arguments[0] && there.x[17] == arguments[7],
+           "a function is called while a call waits, on its stack");
+    wanted(sfi_run_turn(world, 0, 1000, &event) == SFI_RUN_CALL && event.number == 0 && sfi_run_exit(world, 0, event.a0) &&
+               sfi_run_set_registers(world, 0, &kept),
+           "it returns, and the call that waited is there again");
     return event.a0;
+}
+
+static void calls_back(struct sfi_run_world *world) {
+    const uint32_t arguments[8] = {2, 3}, others[8] = {20, 30};
+    struct sfi_run_registers kept, inner = {7, {7}};
+    struct sfi_run_event event;
+    wanted(!sfi_run_call_back(world, 0, sum + 2, arguments, &inner) && !sfi_run_call_back(world, 1, sum, arguments, &inner) &&
+               inner.pc == 7 && inner.x[0] == 7 && is_event(world, SFI_RUN_CALL, 0, 7, 2),
+           "nothing is called within a word, or where no sandbox is");
+    wanted(called_back(world, sum, arguments) == 5 && is_event(world, SFI_RUN_CALL, 0, 7, 2), "it is called back");
+    wanted(sfi_run_call_back(world, 0, sum, arguments, &kept) && !sfi_run_call_back(world, 0, sum, arguments, &inner) &&
+               sfi_run_turn(world, 0, 1000, &event) == SFI_RUN_CALL && sfi_run_call_back(world, 0, sum, others, &inner) &&
+               inner.x[10] == 5 && sfi_run_turn(world, 0, 1000, &event) == SFI_RUN_CALL && event.a0 == 50 &&
+               sfi_run_exit(world, 0, 0) && sfi_run_set_registers(world, 0, &inner) && is_event(world, SFI_RUN_CALL, 0, 5, 2) &&
+               sfi_run_exit(world, 0, 0) && sfi_run_set_registers(world, 0, &kept) && is_event(world, SFI_RUN_CALL, 0, 7, 2),
+           "a callback is called back, too, once it calls");
+    wanted(sfi_run_call_back(world, 0, sum, arguments, &kept) && sfi_run_stop(world, 0) && sfi_run_set_registers(world, 0, &kept) &&
+               is_event(world, SFI_RUN_CALL, 0, 7, 2),
+           "one is stopped");
 }
 
 static void has_set(struct sfi_run_world *world) {
@@ -142,10 +159,10 @@ static void has_set(struct sfi_run_world *world) {
     other = at;
     other.pc += 2;
     wanted(!sfi_run_set_registers(world, 0, &other), "nor is a pc at which nothing begins");
-    at.x[2] -= 64;
-    wanted(sfi_run_set_registers(world, 0, &at) && called_inside(world, sum, arguments) == 5 && is_event(world, SFI_RUN_CALL, 0, 7, 2) &&
-               sfi_run_exit(world, 0, 7) && sfi_run_event(world, 0, &event) == SFI_RUN_EXITED,
-           "a function is called while a call waits, which is replied to then");
+    calls_back(world);
+    wanted(sfi_run_exit(world, 0, 7) && sfi_run_event(world, 0, &event) == SFI_RUN_EXITED &&
+               !sfi_run_call_back(world, 0, sum, arguments, &other),
+           "the call is replied to then, and nothing that has stopped is called back");
 }
 
 int main(int count, char **words) {

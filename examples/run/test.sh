@@ -23,7 +23,7 @@ succeeds "the libraries are linked" "$top/tools/libraries.py" sfi_run "$library"
 
 # ---- the hosts: a command line for each example of each language
 declare -A hosts=()
-examples=(add console function messages words)
+examples=(add console function messages order words)
 warnings=(-O2 -Wall -Wextra -pedantic -Werror -I"$top/crates/sfi_run/include" -I"$top/crates/sfi_c/include")
 
 build_c() {
@@ -173,7 +173,7 @@ status 0" "$room/words.image" "a plug-in of mine" x
 
 # The plug-in in C, where a compiler is there: another compiler makes other code, which does the same.
 compiled_anew() {
-    has riscv64-unknown-elf-gcc || { skip 4 "words_plugin.c, and a function by its name" "gcc for RISC-V isn't there" && return; }
+    has riscv64-unknown-elf-gcc || { skip 7 "words_plugin.c, and functions by their names" "gcc for RISC-V isn't there" && return; }
     "$top/tools/sfi-cc" --program "$SFI" -Wall -Werror --gate price=2 -o "$room/anew.image" "$here/words_plugin.c" 2>"$room/log"
     report "words_plugin.c is compiled" "Two Words 28" "$("$room/words" "$room/anew.image" "two words" 2>&1 | head -n 1)"
     printf 'int add(int a, int b) { return a + b; }\n' >"$room/add.c"
@@ -182,6 +182,11 @@ compiled_anew() {
         "$top/tools/sfi-cc" --program "$SFI" --format "$format" --export add "$room/add.c" -o "$room/add.image" 2>"$room/log"
         says "a function by its name, format $format" add "5
 status 0" "$room/add.image"
+        "$top/tools/sfi-cc" --program "$SFI" --format "$format" --export numbers --export sort --export digit --import compare \
+            "$here/order_plugin.c" -o "$room/order.image" 2>"$room/log"
+        says "calls both ways, format $format" order "61 42 93 5 17 28
+61 42 93 5 17 28
+status 0" "$room/order.image"
     done
 }
 

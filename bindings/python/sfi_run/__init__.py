@@ -22,6 +22,7 @@ from __future__ import annotations
 
 import ctypes
 import enum
+import itertools
 import os
 import threading
 from collections.abc import Callable, Iterator, Sequence
@@ -221,7 +222,8 @@ class World:
         if status:
             raise RuntimeError(f"the library answered with status {status}, which this package doesn't know")
         self._count = self._calls["count"](self._at)
-        self._gone_on = [0] * self._count  # how often each was replied to, stopped or entered
+        self._moves = itertools.count(1)  # each reply, stop and entry has its number
+        self._gone_on = [0] * self._count  # the last one of each sandbox
 
     def _made_here(self) -> None:
         """The library asks that no call is made in a forked child, where another thread's call may never end."""
@@ -260,6 +262,13 @@ class World:
         return (Sandbox(self, number) for number in range(self._count))
 
 
+def _words(arguments: Sequence[int]) -> Any:
+    """a0 to a7. Those that are left are 0."""
+    if len(arguments) > 8:
+        raise ValueError("there are at most eight arguments")
+    return _library.Arguments(*map(_word, arguments))
+
+
 class Sandbox:
     """A sandbox of a world. After the world is closed every call of it raises IndexError."""
     __slots__ = ("_number", "_world")
@@ -285,7 +294,7 @@ class Sandbox:
         with self._world._lock:
             is_done = self._call(name, *arguments)
             if is_done:
-                self._world._gone_on[self._number] += 1
+                self._world._gone_on[self._number] = next(self._world._moves)
             return is_done
 
     def _told(self, name: str, *arguments: Any) -> Event:
@@ -379,16 +388,17 @@ class Sandbox:
         """Makes it ready at pc, where it has stopped, with at most eight arguments in a0 to a7 and 0 in those that are
         left. A function that returns calls its first gate of service 0. Its data stay, and its steps are counted on. Raises
         NotEntered where it hasn't stopped, or no bundle or word of its code begins at pc."""
-        if len(arguments) > 8:
-            raise ValueError("there are at most eight arguments")
-        if not self._changed("enter", _word(pc), _library.Arguments(*map(_word, arguments))):
+        if not self._changed("enter", _word(pc), _words(arguments)):
             raise NotEntered(f"sandbox {self._number} can't be entered at {pc:08x}")
 
     def call(self, pc: int, *arguments: int, steps: int, serve: Callable[[Call], object] | None = None) -> int:
         """Calls a function: enters it at pc, runs it for at most so many steps in all, and answers its result, with which it
-        exits. `serve` replies to its calls of gates of other services. Raises NotEntered and ValueError as `enter` does, and
+        exits. `serve` replies to its calls of gates of other services, and may call functions, too: while one waits for its
+        reply, the other runs on its stack, and then it waits again. Raises NotEntered and ValueError as `enter` does, and
         NotReturned where it stops in another way, its steps are used, or a call gets no reply."""
-        self.enter(pc, arguments)
+        put_back = self._called_back(pc, arguments)
+        if not put_back:
+            self.enter(pc, arguments)
         for event in self.events(steps):
             if isinstance(event, Call):
                 if event.service == 0:
@@ -397,7 +407,23 @@ class Sandbox:
                     serve(event)
         if not isinstance(event, Exited):
             raise NotReturned(event)
+        if put_back:
+            put_back()
         return event.number
+
+    def _called_back(self, pc: int, arguments: Sequence[int]) -> Callable[[], None] | None:
+        """Enters a function where it stands at a call: what has it stand there again. None where it can't be entered so."""
+        kept = _library.Registers()
+        with self._world._lock:
+            standing = self._world._gone_on[self._number]
+            if not self._changed("call_back", _word(pc), _words(arguments), ctypes.byref(kept)):
+                return None
+
+        def put_back() -> None:
+            with self._world._lock:
+                self._call("set_registers", kept)
+                self._world._gone_on[self._number] = standing
+        return put_back
 
     @property
     def steps(self) -> int:

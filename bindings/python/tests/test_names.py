@@ -80,6 +80,21 @@ class Plugins(unittest.TestCase):
             plugin.sandbox.stop()
             self.assertEqual(plugin.sum(1, 2), 3)
 
+    def test_callbacks(self):
+        with names.Plugin(self.image, ask=lambda call: plugin.sum(call.a0, 1)) as plugin:
+            self.assertEqual((plugin.twice(9), plugin.sandbox.event), (20, sfi_run.Exited(20)))
+        with names.Plugin(self.image, ask=lambda call: plugin.twice(call.a0 - 1) if call.a0 else 1) as plugin:
+            self.assertEqual(plugin.twice(3), 16)  # s0 is that of each call again
+        calls = []
+        with names.Plugin(self.image, ask=calls.append) as plugin:
+            plugin.sandbox.enter(TWICE, [9])
+            waiting = plugin.sandbox.turn(1000)
+            self.assertEqual((plugin.twice(4), len(calls)), (0, 1))
+            with self.assertRaises(sfi_run.NotWaiting):
+                calls[0].reply(0)
+            waiting.reply(7)
+            self.assertEqual(plugin.sandbox.turn(1000).a0, 14)
+
 
 if __name__ == "__main__":
     unittest.main()

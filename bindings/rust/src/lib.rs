@@ -417,7 +417,8 @@ impl Sandbox<'_> {
     }
 
     /// Calls a function: enters it at pc, runs it for at most so many steps in all, and answers its result, with which it
-    /// exits. `serve` replies to its calls of gates of other services, as in [`serve`](Self::serve). The error is that of
+    /// exits. `serve` replies to its calls of gates of other services, as in [`serve`](Self::serve), and may call functions,
+    /// too: while one waits for its reply, the other runs on its stack, and then it waits again. The error is that of
     /// [`enter`](Self::enter), or [`CallError::NotReturned`] where it stops in another way, its steps are used, or a call gets
     /// no reply: [`event`](Self::event) says how it stands then.
     pub fn call(
@@ -427,15 +428,32 @@ impl Sandbox<'_> {
         steps: u64,
         mut serve: impl FnMut(&mut Self, Call) -> bool,
     ) -> Result<u32, CallError> {
-        self.enter(pc, arguments)?;
+        let kept = self.call_back(pc, arguments);
+        if kept.is_err() {
+            self.enter(pc, arguments)?;
+        }
         let event = self.serve(steps, |sandbox, call| match call.service {
             0 => sandbox.exit(call.a0).is_ok(),
             _ => serve(sandbox, call),
         });
-        match event {
-            Event::Exited(number) => Ok(number),
-            _ => Err(CallError::NotReturned),
+        let Event::Exited(number) = event else {
+            return Err(CallError::NotReturned);
+        };
+        if let Ok(kept) = kept {
+            self.set_registers(&kept)?;
         }
+        Ok(number)
+    }
+
+    /// Makes it ready at pc, where it stands at a call, with these arguments in a0 to a7, on the stack of that call. The pc and
+    /// registers of the call are the answer: once the function has exited, [`set_registers`](Self::set_registers) has it stand
+    /// at the call again. The error is [`CallError::NotEntered`].
+    pub fn call_back(&mut self, pc: u32, arguments: &[u32; 8]) -> Result<Registers, CallError> {
+        let mut kept = Registers::default();
+        let is_done = unsafe {
+            sys::sfi_run_call_back(self.world, self.number, pc, arguments.as_ptr(), &mut kept)
+        };
+        is_done.then_some(kept).ok_or(CallError::NotEntered)
     }
 
     /// How many steps it has done.

@@ -94,12 +94,7 @@ extern "C" {
         size: usize,
         address: *mut u32,
     ) -> u32;
-    pub fn sfi_run_api(
-        image: *const u8,
-        length: usize,
-        sandbox: u32,
-        version: *mut u32,
-    ) -> u32;
+    pub fn sfi_run_api(image: *const u8, length: usize, sandbox: u32, version: *mut u32) -> u32;
     pub fn sfi_run_turn(world: *mut World, sandbox: u32, steps: u32, event: *mut Event) -> u32;
     pub fn sfi_run_until(
         world: *mut World,
@@ -131,6 +126,13 @@ extern "C" {
     pub fn sfi_run_enter(world: *mut World, sandbox: u32, pc: u32, arguments: *const u32) -> bool;
     pub fn sfi_run_steps(world: *mut World, sandbox: u32) -> u64;
     pub fn sfi_run_registers(world: *mut World, sandbox: u32, registers: *mut Registers) -> bool;
+    pub fn sfi_run_call_back(
+        world: *mut World,
+        sandbox: u32,
+        pc: u32,
+        arguments: *const u32,
+        kept: *mut Registers,
+    ) -> bool;
     pub fn sfi_run_set_registers(
         world: *mut World,
         sandbox: u32,
