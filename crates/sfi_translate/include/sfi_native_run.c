@@ -464,3 +464,20 @@ bool sfi_run_set_registers(struct sfi_run_world *world, uint32_t sandbox, const 
     it->kind = SFI_RUN_READY;
     return true;
 }
+
+bool sfi_run_call_back(struct sfi_run_world *world, uint32_t sandbox, uint32_t pc, const uint32_t arguments[8],
+                       struct sfi_run_registers *kept) {
+    const struct native_sandbox *it = sandbox_at(world, sandbox);
+    if (it == NULL || !is_at_call(it))
+        return false;
+    struct sfi_run_registers waiting, entered;
+    sfi_run_registers(world, sandbox, &waiting);
+    entered = waiting;
+    entered.pc = pc;
+    entered.x[1] = exit_gate(it->text);
+    memcpy(entered.x + 10, arguments, 8 * sizeof *arguments);
+    if (!sfi_run_set_registers(world, sandbox, &entered))
+        return false;
+    *kept = waiting;
+    return true;
+}
