@@ -4,6 +4,7 @@ import glob
 import os
 import random
 import shutil
+import struct
 import subprocess
 import sys
 import unittest
@@ -67,6 +68,7 @@ class CheckerFile(testing.Folder):
 
     def test_its_calls_say_the_same(self):
         library = ctypes.CDLL(self.compiled(COMPILERS[0], "check.so", "-shared", "-fPIC"))
+        library.sfi_c_apart.restype = ctypes.c_bool
         self.assertEqual(library.sfi_c_version(), 0x000100)
         for data in images(100):
             self.compare_findings(library, data)
@@ -99,7 +101,23 @@ class CheckerFile(testing.Folder):
             self.assertEqual(library.sfi_c_gates(data, length, number, gates, ctypes.c_size_t(64)), 0)
             listed = [number for gate in part.gates.items() for number in gate]
             self.assertEqual(list(gates)[: len(listed)], listed)
+            self.assertFalse(library.sfi_c_apart(ctypes.byref(told), ctypes.byref(told)))
+            self.compare_moved(library, data, number, part)
         self.assertEqual(library.sfi_c_part(data, length, number + 1, ctypes.byref(told)), 1)
+        self.assertEqual(library.sfi_c_move(data, length, number + 1, 0, 0), 1)
+
+    def compare_moved(self, library, data, number, part):
+        """Its bases, start and gates at another place, as docs/IMAGE.md has them in the bytes."""
+        code_base, data_base = 0x60000000, 0x70000000
+        front = part.code_offset - 28 - 8 * len(part.gates)
+        wanted = bytearray(data)
+        places = [(front, code_base), (front + 8, data_base), (front + 16, part.start - part.code_base + code_base)]
+        places += [(front + 28 + 8 * k, gate - part.code_base + code_base) for k, gate in enumerate(sorted(part.gates))]
+        for at, number_there in places:
+            struct.pack_into("<I", wanted, at, number_there)
+        image = ctypes.create_string_buffer(data, len(data))
+        self.assertEqual(library.sfi_c_move(image, ctypes.c_size_t(len(data)), number, code_base, data_base), 0)
+        self.assertEqual(image.raw, bytes(wanted))
 
 
 if __name__ == "__main__":

@@ -53,6 +53,13 @@ uint32_t sfi_c_end(const struct sfi_stream *stream, struct sfi_verdict *verdict)
     return status;
 }
 
+bool sfi_c_refused(const struct sfi_stream *stream) {
+    struct call call;
+    begin(&call, NULL, 0, NULL, 0);
+    call.memory.stream = *stream;
+    return Z_sfiZ_sfi_c_refused(&call.module, OWN(stream));
+}
+
 /* Not the module's sfi_c_check, which says the same by vectors, which C has none of. */
 uint32_t sfi_c_check(const uint8_t *image, size_t length, struct sfi_verdict *verdict) {
     struct sfi_stream stream;
@@ -101,6 +108,27 @@ uint32_t sfi_c_gates(const uint8_t *image, size_t length, uint32_t number, struc
     capacity = at_most(capacity, MOST / sizeof *array);
     begin(&call, image, length, array, capacity * sizeof *array);
     return Z_sfiZ_sfi_c_gates(&call.module, IMAGE_AT, length, number, ARRAY_AT, capacity);
+}
+
+/* The image is the array here, since it is written. */
+uint32_t sfi_c_move(uint8_t *image, size_t length, uint32_t number, uint32_t code_base, uint32_t data_base) {
+    struct call call;
+    length = at_most(length, MOST);
+    begin(&call, NULL, 0, image, length);
+    return Z_sfiZ_sfi_c_move(&call.module, ARRAY_AT, length, number, code_base, data_base);
+}
+
+static struct module_part in_module(const struct sfi_part *part) {
+    return (struct module_part){{part->format, part->code_base, part->code_size, part->data_base, part->data_size,
+                                 part->start, part->gates, part->init_size}, part->code_offset, part->init_offset};
+}
+
+bool sfi_c_apart(const struct sfi_part *one, const struct sfi_part *other) {
+    struct call call;
+    begin(&call, NULL, 0, NULL, 0);
+    call.memory.part = in_module(one);
+    call.memory.other_part = in_module(other);
+    return Z_sfiZ_sfi_c_apart(&call.module, OWN(part), OWN(other_part));
 }
 
 /* ---- A program */

@@ -7,13 +7,19 @@
 
 enum { LINKED_STACK = 65536, MODULE_STACK = 24576, MODULE_DATA = 8192 };
 
+/* As the module has struct sfi_part, with addresses of 64 bits. */
+struct module_part {
+    uint32_t fields[8];
+    uint64_t code_offset, init_offset;
+};
+
 /* The module's own memory, from its address LINKED_STACK - MODULE_STACK on: the end of its stack, its constants, and what
-   is handed to a call. struct sfi_part has addresses of 64 bits there. */
+   is handed to a call. */
 struct own_memory {
     uint8_t stack[MODULE_STACK], data[MODULE_DATA];
     struct sfi_stream stream;
     struct sfi_verdict verdict;
-    struct { uint32_t fields[8]; uint64_t code_offset, init_offset; } part;
+    struct module_part part, other_part;
     struct sfi_gate gate;
 };
 
