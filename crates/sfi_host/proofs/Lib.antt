@@ -2,6 +2,7 @@ pub mod Prelude
 pub mod Solo
 pub mod Asked
 pub mod Decoding
+pub mod Blocks
 pub mod Passing
 pub mod Entered
 pub mod SafeSeats

@@ -21,6 +21,7 @@ pub mod Entering
 pub mod Stopping
 pub mod Sandboxes
 pub mod Entries
+pub mod Blocks
 pub mod Programs
 pub mod Steps
 pub mod Laws

@@ -9,9 +9,11 @@
 //! to alone with the replies that it got.
 #![tactic(auto)]
 
+mod block;
 mod calls;
 mod console;
 mod entry;
+mod extent;
 mod gates;
 mod guest;
 mod handover;
