@@ -19,7 +19,7 @@ pub(crate) const GATES_AT: usize = 28;
 
 const GATE_BYTES: usize = 8;
 
-// The address at that offset, as far from the other base.
+// Writes the address at the offset, as far from `to` as it is from `from`.
 fn write_address(image: &mut [u8], offset: usize, from: u32, to: u32)
     requires { (at : ℕ) × GoesTo from to at × LiesAt image.old offset (number at) }
     ensures { (at : ℕ) → GoesTo from to at
@@ -29,7 +29,7 @@ fn write_address(image: &mut [u8], offset: usize, from: u32, to: u32)
     LittleEndian::write_u32(&mut image[offset..], to + (address - from));
 }
 
-// The addresses of so many gates from that offset on.
+// Writes the addresses of `gate_count` gates from the offset on, as far from `to`.
 fn write_gates(image: &mut [u8], offset: usize, gate_count: u32, from: u32, to: u32)
     requires { (gs : List Gate) × (length gs ≡ gate_count) × GatesGo from to gs
         × LiesAt image.old offset (flat_map gate gs) }
@@ -42,7 +42,7 @@ fn write_gates(image: &mut [u8], offset: usize, gate_count: u32, from: u32, to: 
     }
 }
 
-/// The sandbox at that offset, which lies at the first place and has so many gates, at the second.
+/// Writes the sandbox at the offset, which lies at `from` and has `gate_count` gates, for the place `to`.
 pub(crate) fn write_place(image: &mut [u8], offset: usize, gate_count: u32, from: Place, to: Place)
     requires { (p : Part) × CanMove from to gate_count p × LiesAt image.old offset (part p) }
     ensures { (p : Part) → CanMove from to gate_count p
