@@ -138,8 +138,13 @@ def try_world(sfi, judge, folder, pick, tally):
     while image is None:
         image = corpus.accepted(pick, sfi) if pick.random() < 0.7 else corpus.repaired(findings, corpus.odd(pick))
     library = built(os.path.join(folder, f"{tally.case.replace(' ', '')}.so"), "-shared", "-fPIC", *translated(sfi, image, folder))
-    images = lambda own: image if own.random() < 0.8 else corpus.mutant(own, image)
-    calls.World(pick, images, worlds.Library(worlds.Calls(library)), OneImage(judge, image), tally).live()
+
+    def images(own):
+        return image if own.random() < 0.8 else corpus.mutant(own, image)
+
+    opened = worlds.Calls(library)
+    tally.see("version", worlds.header_version(), opened.version())
+    calls.World(pick, images, worlds.Library(opened), OneImage(judge, image), tally).live()
     os.remove(library)
 
 
@@ -155,7 +160,6 @@ def main(words=None):
     tally = fuzzing.tally_of(parser, given, calls.NAMES)
     with tempfile.TemporaryDirectory() as folder:
         judge = calls.verdicts.Judge(folder)
-        tally.see("version", worlds.header_version(), worlds.header_version())
         for tally.case, pick in fuzzing.cases(given):
             try_world(sfi, judge, folder, pick, tally)
         if given.round is None:
