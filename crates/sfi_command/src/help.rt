@@ -30,7 +30,7 @@ Example:
 pub(crate) const CHECK: &str = "Accept an image, or refuse it for the rules that its code breaks";
 
 pub(crate) const CHECK_RAW: &str =
-    "Read an image's own bytes, of any number and however they begin, and hold none of them";
+    "Read an image's own bytes, of any number and however they begin, piece by piece";
 
 pub(crate) const CHECK_REPORT: &str =
     "Before the verdict print a line for each finding; not with --raw";
