@@ -134,6 +134,18 @@ try_kept() { # format, level
         END { print turn " turns" }')"
 }
 
+# The variables of a program at its lines, with the passes and without.
+try_variables() { # format
+    local passes
+    for passes in "" --; do
+        elf_of "hash$passes.elf" "$1" -O2 -g ${passes:+--passes=} hash.c
+        "$tools/sfi-gdb" --input "$(digits_of <<<'one two three two one two four')" "$room/hash$passes.elf" -nx -batch \
+            -ex 'set $source = "hash.c"' -ex 'set $hits = 80' -x elf/gdb/variables.py >"$room/shown$passes" 2>"$room/messages"
+    done
+    report "variables with the passes and without, format $1" "many are known" \
+        "$(python3 elf/gdb/variables.py "$room/shown--" "$room/shown" 2>&1)"
+}
+
 try_debugging() {
     local format
     has gdb-multiarch || { skip 1 "programs in gdb" "gdb-multiarch isn't there (Debian's package gdb-multiarch)" && return; }
@@ -144,6 +156,7 @@ try_debugging() {
         try_gdb "$format"
         try_kept "$format" -O2
         try_kept "$format" -Og
+        try_variables "$format"
     done
 }
 
