@@ -149,7 +149,7 @@ class Machine:
         return sorted(self.breaks | landing)
 
     def after(self, event, stops, steps):
-        """How the program stands after so many steps at most, at a stop, or after the reply to a call."""
+        """How the program stands after at most `steps` steps, at a stop, or after the reply to a call."""
         if not isinstance(event, Call):
             return self.box.until(stops, steps)
         begun = len(self.console.output[0])
