@@ -257,6 +257,8 @@ def expected(case, said, library):
         return "it wants the whole C library (--library newlib)"
     if case.compiler == "clang" and case.name in WANT_BUILTINS and not library:
         return "it wants functions that clang knows, as with the whole C library (--library newlib)"
+    if NO_ROOM in said:
+        return "its code is larger than the first format has room for"
     if (case.compiler, case.name) in UNDEFINED:
         return UNDEFINED[case.compiler, case.name]
     return CANNOT_PASS.get(case.name) if said.startswith("refused: ") else None
@@ -282,6 +284,7 @@ def count(results, library):
     return counts
 
 
+NO_ROOM = "more than format 1 has room for"
 PRINT_ADDRESSES = {"return-addr"}  # which differ from place to place
 # Tests that pass natively by luck.
 UNDEFINED = {("clang", "pr79286"): "clang makes no code of its main, which reads a variable that isn't set"}
