@@ -137,18 +137,18 @@ fn run(alloc: Global, line: &str, input: &[u8], pace: Pace) -> Result<Ended, All
     })
 }
 
-// Nothing is printed after a failed read. The last of the reads finds the input's end,
-// and each of them is made.
+// Nothing is printed after a failed read. The last of the reads finds the input's end, and each of them
+// is made: one for each piece of the input, and maybe one before them, of a magic alone.
 fn reads_fail(alloc: Global, line: &str, input: &[u8], whole: &Ended) -> Result<bool, AllocError> {
-    let enough = input.len().div_ceil(STEP).saturating_add(1);
-    for reads in 0..enough {
+    let least = input.len().div_ceil(STEP).saturating_add(1);
+    for reads in 0..least.saturating_add(1) {
         let ended = run(alloc, line, input, Pace { reads, ..NEVER })?;
         if !ended.is(5, b"") {
-            return Ok(false);
+            return Ok(reads == least && ended.is(whole.status, whole.printed.as_slice()));
         }
     }
     let pace = Pace {
-        reads: enough,
+        reads: least.saturating_add(1),
         ..NEVER
     };
     let ended = run(alloc, line, input, pace)?;
