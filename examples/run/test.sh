@@ -183,7 +183,7 @@ compiled_anew() {
         says "a function by its name, format $format" add "5
 status 0" "$room/add.image"
         "$top/tools/sfi-cc" --program "$SFI" --format "$format" --export numbers --export sort --export digit --import compare \
-            "$here/order_plugin.c" -o "$room/order.image" 2>"$room/log"
+            -I "$here/../c/include" "$here/order_plugin.c" "$here/../c/library/sorting.c" -o "$room/order.image" 2>"$room/log"
         says "calls both ways, format $format" order "61 42 93 5 17 28
 61 42 93 5 17 28
 status 0" "$room/order.image"

@@ -170,12 +170,13 @@ fn stops_and_registers() {
     let told = sandbox.until(&[0, CODE + 16], 1000);
     assert!(matches!(told, Event::Call(Call { service: 4, .. })));
     let kept = sandbox.registers();
-    assert_eq!(sandbox.call_back(CODE, &[5; 8]), Ok(kept));
     assert_eq!(
-        (sandbox.registers().x[2], sandbox.registers().x[17]),
-        (kept.x[2], 5)
+        sandbox.call_back(CODE + 2, &[5; 8]),
+        Err(CallError::NotEntered)
     );
-    assert_eq!(sandbox.call_back(CODE, &[5; 8]), Err(CallError::NotEntered));
+    assert_eq!(sandbox.call_back(CODE, &[5; 8]), Ok(kept));
+    let there = sandbox.registers();
+    assert_eq!((there.pc, there.x[2], there.x[17]), (CODE, kept.x[2], 5));
     assert_eq!(sandbox.stop(), Ok(()));
     assert_eq!(sandbox.set_registers(&kept), Ok(()));
     assert_eq!(sandbox.event(), told);
