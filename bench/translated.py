@@ -2,11 +2,12 @@
 """How fast translated images are: the programs of examples/c and four kernels (kernels.c), by `sfi translate` and gcc -O2, beside
 the same C by gcc -O2 alone, the kernels by wasm2c, too.
 
-    bench/translated.py [--program PATH] [--rounds N] [NAME ..]
+    bench/translated.py [--program PATH] [--rounds N] [--interpreted] [NAME ..]
 
 It wants sfi-cc's tools, and for wasm2c clang, wasm-ld and wabt. A program runs again and again over an input that is built in
 (repeat.c); it ends where the checksums differ. Processor seconds of the native program, each the least of N alternated runs, and
-of the others the ratios to it; then the text's bytes for an instruction.
+of the others the ratios to it; then the text's bytes for an instruction. With --interpreted, so of the same images by `sfi run`,
+which takes long.
 """
 import argparse
 import os
@@ -23,6 +24,7 @@ TIMES = {"crc32": 16000, "sha256": 8000, "sort": 5000, "wordcount": 20000, "stac
          "lz": 4000, "hash": 5000, "matrix": 250, "regex": 4500, "sha": 30000, "sort_kernel": 250, "matrix_kernel": 1500, "sieve": 900}
 KERNELS = {"sha": "sha", "sort_kernel": "sort", "matrix_kernel": "matrix", "sieve": "sieve"}
 FORMATS = ("2", "words")
+TURNS = ["--rounds", "10000", "--quantum", "1000000"]
 INCLUDE = os.path.join(compiled.TOP, "crates/sfi_translate/include")
 WASM_RUN = """
 #include <stdio.h>
@@ -70,16 +72,20 @@ def by_wasm2c(folder, options):
     return [path]
 
 
+def image_in(folder, image_format):
+    return os.path.join(folder, f"{image_format}.hex")
+
+
 def translated(program, image_format, folder, options):
-    """The words that run a translated program, its translation, and how many instructions it has."""
-    image = os.path.join(folder, f"{image_format}.hex")
+    """The words that run a translated program, and its translation."""
+    image = image_in(folder, image_format)
     call(SFI_CC, "--program", program, "--format", image_format, *options, "-o", image)
     digits = measure.contents(image)
     text = call(program, "translate", "--whole", input=digits)
     lines = call(program, "translate", input=digits)
     source, path = measure.written(os.path.join(folder, "image.c"), text), os.path.join(folder, f"translated.{image_format}")
     call("gcc", "-O2", source, "-o", path)
-    return [path, "--rounds", "10000", "--quantum", "1000000"], lines
+    return [path, *TURNS], lines
 
 
 def answer_of(output):
@@ -87,28 +93,31 @@ def answer_of(output):
     return re.search(r"(?:exit=)?(\d+)", output.split(" ", 1)[-1]).group(1)
 
 
-def measured(program, name, rounds, folder):
+def measured(program, name, given, folder):
     """The native program's seconds, and by way the ratio to it; the lines of each format."""
     if name not in KERNELS:
         source = measure.contents(os.path.join(EXAMPLES, name + ".c"))
         measure.written(os.path.join(folder, "program.c"), source.replace(b"int main(void)", b"int program(void)"))
     options = sources(name, folder)
-    ways, texts = {"native": native(folder, options)}, {}
+    ways, texts = {"native": (native(folder, options), os.devnull)}, {}
     for image_format in FORMATS:
-        ways[image_format], texts[image_format] = translated(program, image_format, folder, options)
+        words, texts[image_format] = translated(program, image_format, folder, options)
+        ways[image_format] = words, os.devnull
     if name in KERNELS and shutil.which("wasm2c") and shutil.which("clang"):
-        ways["wasm2c"] = by_wasm2c(folder, options)
-    answers = {way: answer_of(measure.run(words, os.devnull)[0]) for way, words in ways.items()}
+        ways["wasm2c"] = by_wasm2c(folder, options), os.devnull
+    if given.interpreted:
+        ways |= {f"run {it}": ([program, "run", *TURNS], image_in(folder, it)) for it in FORMATS}
+    answers = {way: answer_of(measure.run(*words)[0]) for way, words in ways.items()}
     if len(set(answers.values())) != 1:
         raise SystemExit(f"bench: {name}: the checksums differ: {answers}")
-    least = measure.leasts({way: (words, os.devnull) for way, words in ways.items()}, rounds)
+    least = measure.leasts(ways, given.rounds)
     seconds = least.pop("native")
     return seconds, {way: it / seconds for way, it in least.items()}, texts
 
 
 def print_means(title, rows):
-    ways = [way for way in (*FORMATS, "wasm2c") if all(way in row for row in rows)]
-    print(f"| {title} | | " + " | ".join(f"{mean([row[way] for row in rows]):.2f}" for way in ways) + " |", flush=True)
+    ways = [way for way in rows[0] if all(way in row for row in rows)]
+    print(f"| {title} | | " + " | ".join(f"{way}: {mean([row[way] for row in rows]):.2f}" for way in ways) + " |", flush=True)
 
 
 def print_size(texts):
@@ -122,16 +131,16 @@ def main():
     parser.add_argument("names", nargs="*", default=[*CASES, *KERNELS])
     parser.add_argument("--program", default=measure.PROGRAM)
     parser.add_argument("--rounds", type=int, default=3)
+    parser.add_argument("--interpreted", action="store_true")
     given = parser.parse_args()
     program = measure.program_at(given.program)
     rows, texts = {}, []
-    print("| program | native, s | second format | in words | wasm2c |\n|---|---|---|---|---|")
     with tempfile.TemporaryDirectory() as folder:
         for name in given.names:
             os.mkdir(place := os.path.join(folder, name))
-            seconds, rows[name], found = measured(program, name, given.rounds, place)
+            seconds, rows[name], found = measured(program, name, given, place)
             texts += found.values()
-            print(f"| {name} | {seconds:.3f} | " + " | ".join(f"{it:.2f}" for it in rows[name].values()) + " |", flush=True)
+            print(f"| {name} | {seconds:.3f} | " + " | ".join(f"{way}: {it:.2f}" for way, it in rows[name].items()) + " |", flush=True)
     for title, names in (("mean of programs", CASES), ("mean of kernels", KERNELS)):
         if kept := [row for name, row in rows.items() if name in names]:
             print_means(title, kept)
