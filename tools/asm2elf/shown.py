@@ -3,7 +3,7 @@
 The passes move instructions, leave some out, and have data registers take the places of others. So a register is wrong from
 an instruction on that should write it and doesn't, or that writes it and shouldn't, until one writes it that should; and
 where one that comes later in the file has written it already."""
-from functools import reduce
+from functools import cached_property, reduce
 from itertools import groupby
 from operator import or_
 
@@ -77,12 +77,21 @@ class Shown:
 
 
 class AllShown:
-    """The same of a file, with the labels that are to stand before pieces: by a section's name, and by a piece's number."""
+    """The same of a file, with the labels that are to stand before pieces: by a section's name, and by a piece's number. The
+    code is gone through where debug information asks, and so not in a file that has none."""
 
-    def __init__(self, sections, orders):
-        self.sections = {key: Shown(pieces, orders[key]) for key, pieces in sections.items()}
-        self.key_of = {name: key for key, section in self.sections.items() for name in section.labels}
-        self.new = {key: {} for key in sections}
+    def __init__(self, pieces, orders):
+        self.pieces, self.orders = pieces, orders
+        self.new = {key: {} for key in pieces}
+
+    @cached_property
+    def sections(self):
+        return {key: Shown(pieces, self.orders[key]) for key, pieces in self.pieces.items()}
+
+    @cached_property
+    def key_of(self):
+        """By a label, its section."""
+        return {name: key for key, section in self.sections.items() for name in section.labels}
 
     def parts(self, begin, end, named):
         """The parts, from one label to another, of what lies between two labels, in which some registers are right; None
