@@ -3,13 +3,13 @@ table. `as` keeps the bundles: `.p2align 4,,N-1` before a group of N bytes pads 
 and `.fill` before a call makes it end its bundle. How many nops that takes is the affair of the pass `packing`."""
 from control import is_call
 from instructions import is_access, offset_and_base, written
+from shown import MOVES
 from sizes import number_parts
 from spelling import plain, short
 from writer import NORVC, RVC, Writer
 
 MASKS_OF_ACCESS = ["and x31, {0}, x27", "or x31, x31, x26"]
 MASKS_OF_STACK = ["and sp, sp, x27", "or sp, sp, x26"]
-MOVES = ("mv", "add")  # what a pass adds of these is a move
 MASKS_OF_JUMP = ["and x31, {0}, x25", "or x31, x31, x24"]
 
 

@@ -11,10 +11,12 @@ from control import successors
 from dependences import bits, writes
 from typed import ADDRESSES
 
+MOVES = ("mv", "add")  # what a pass adds of these is a move
+
 
 def is_put_back(piece):
     """Whether a pass sets a register to what a data register kept for it."""
-    return piece.word in ("mv", "add") and piece.operands[-1] in ADDRESSES
+    return piece.word in MOVES and piece.operands[-1] in ADDRESSES
 
 
 def effect(piece, source):
