@@ -76,12 +76,12 @@ def per_call(*words, times):
 
 
 def main(library=None, sfi=None):
-    sfi = sfi or str(TOP / "sfi")
+    sfi = sfi or str(TOP / "crates" / "sfi" / "out" / "sfi")  # ./sfi is a script
     with tempfile.TemporaryDirectory() as folder:
         room = pathlib.Path(folder)
         static, os.environ["SFI_RUN_LIBRARY"] = libraries.make("sfi_run", library or libraries.built("sfi_run"), folder)
         run("gcc", "-O2", f"-I{TOP}/crates/sfi_run/include", f"-I{TOP}/crates/sfi_c/include", HERE / "price.c", static, "-o", room / "price")
-        texts = {name: run(sfi, "build", given=source).stdout 
+        texts = {name: run(sfi, "build", given=source).stdout
                  for name, source in (("steps", STEPS), ("calls", CALLS), ("large", LARGE))}
         for name, text in texts.items():
             (room / name).write_bytes(bytes.fromhex(text))
