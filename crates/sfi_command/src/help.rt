@@ -59,7 +59,8 @@ pub(crate) const DIS: &str = "List an image's regions, gates and instructions";
 
 pub(crate) const DIS_NOTES: &str = "\
 Reads an image, and prints for each sandbox a line of its regions, a line for
-each gate, and a line for each instruction. The code may break rules.
+each gate, the names that the table at the end of its first data tells, if there
+is one, and a line for each instruction. The code may break rules.
 
 Exit status:
   0  listed

@@ -1,6 +1,10 @@
 -- What holds of tables: laws, for proofs in the crates above.
-use Rattle.sfi_names.specs.Laws.{OneTable}
+use Rattle.sfi_names.specs.Laws.{OneTable, OneFirst}
 use Rattle.sfi_names.proofs.Ends as ends
+use Rattle.sfi_names.proofs.Lookups as lookups
 
 pub one_table : OneTable
 one_table = ends.one_table
+
+pub one_first : OneFirst
+one_first = lookups.one_first

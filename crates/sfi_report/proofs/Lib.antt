@@ -2,6 +2,7 @@ pub mod Prelude
 pub mod Padding
 pub mod Lines
 pub mod Sandboxes
+pub mod NameLines
 pub mod Places
 pub mod Reports
 pub mod OneText

@@ -14,6 +14,7 @@ use Rattle.sfi_report.specs.State.{code_from, place_line, state_front}
 use Rattle.sfi_report.specs.Laws.{OneReport, OneListing, OneState}
 use Rattle.rv_comp.proofs.Facts.{one_front, one_spelling}
 use Rattle.sfi_rules.proofs.Facts.{one_longest_reading}
+use Rattle.sfi_report.proofs.NameLines.{one_names_text}
 
 -- ---- reports
 
@@ -67,7 +68,12 @@ one_code p text other a b =
 
 one_sandbox : (sandbox : ℕ) (p : Part) (text other : List ℕ) → IsSandboxListing sandbox p text → IsSandboxListing sandbox p other → text ≡ other
 one_sandbox sandbox p text other a b =
-    a.text_is ∙ ap (λ l. sandbox_line sandbox p ++ flat_map gate_line p.gates ++ l) (one_code p a.code b.code a.code_is b.code_is) ∙ sym b.text_is
+    let names = one_names_text p.init a.names b.names a.names_are b.names_are in
+    let code = one_code p a.code b.code a.code_is b.code_is in
+    a.text_is
+    ∙ ap (λ l. sandbox_line sandbox p ++ flat_map gate_line p.gates ++ l ++ a.code) names
+    ∙ ap (λ l. sandbox_line sandbox p ++ flat_map gate_line p.gates ++ b.names ++ l) code
+    ∙ sym b.text_is
 
 one_from : (sandbox : ℕ) (ps : List Part) (text other : List ℕ) → IsListingFrom sandbox ps text → IsListingFrom sandbox ps other → text ≡ other
 one_from sandbox [] text other a b = a ∙ sym b

@@ -8,6 +8,7 @@ use Rattle.sfi_policy.specs.declared.format.Format.TheVariants.{Sfi1, Sfi2, Sfiw
 use Rattle.sfi_image.specs.Spelling.{views}
 use Rattle.sfi_image.specs.Parts.{IsRightPart, IsRightLayout}
 use Rattle.sfi_image.proofs.Facts.{whole_bundles}
+use Rattle.sfi_report.specs.Names.{IsNamesText}
 use Rattle.sfi_report.specs.Listing.{sandbox_line, IsListingOfFirst, IsCodeListing, IsListingFrom, IsListing}
 
 -- before the end of whole bundles there is a whole unit, and one unit more is that many
@@ -48,20 +49,20 @@ one_unit_more p size at old new more right is less so_far here =
       new_is = here.new_is ∙ ap (λ t. t ++ here.text) so_far.new_is ∙ append_assoc old so_far.text here.text;
     }
 
--- a sandbox's listing: its fields and gates, and then its code
-pub whole_sandbox : (sandbox : ℕ) (p : Part) (old fields gates new : List ℕ)
+-- a sandbox's listing: its fields and gates, its names, and then its code
+pub whole_sandbox : (sandbox : ℕ) (p : Part) (old fields gates named new : List ℕ)
     → fields ≡ old ++ sandbox_line sandbox p → gates ≡ fields ++ flat_map gate_line p.gates
-    → Adds gates new (IsCodeListing p) → Adds old new (IsSandboxListing sandbox p)
-whole_sandbox sandbox p old fields gates new e f h =
+    → Adds gates named (IsNamesText p.init) → Adds named new (IsCodeListing p) → Adds old new (IsSandboxListing sandbox p)
+whole_sandbox sandbox p old fields gates named new e f n h =
     record {
-      text = sandbox_line sandbox p ++ flat_map gate_line p.gates ++ h.text;
-      text_is = record { code = h.text; code_is = h.text_is; text_is = refl };
-      new_is = h.new_is ∙ ap (λ t. t ++ h.text) (f ∙ ap (λ t. t ++ flat_map gate_line p.gates) e)
-          ∙ regroup old (sandbox_line sandbox p) (flat_map gate_line p.gates) h.text;
+      text = sandbox_line sandbox p ++ flat_map gate_line p.gates ++ n.text ++ h.text;
+      text_is = record { names = n.text; names_are = n.text_is; code = h.text; code_is = h.text_is; text_is = refl };
+      new_is = h.new_is ∙ ap (λ t. t ++ h.text) (n.new_is ∙ ap (λ t. t ++ n.text) (f ∙ ap (λ t. t ++ flat_map gate_line p.gates) e))
+          ∙ regroup old (sandbox_line sandbox p) (flat_map gate_line p.gates) n.text h.text;
     }
   where
-    regroup : (a b c d : List ℕ) → ((a ++ b) ++ c) ++ d ≡ a ++ ((b ++ c) ++ d)
-    regroup a b c d = simp append_assoc
+    regroup : (a b c d e : List ℕ) → (((a ++ b) ++ c) ++ d) ++ e ≡ a ++ (b ++ c ++ d ++ e)
+    regroup a b c d e = simp append_assoc
 
 listing_append : (n m : ℕ) (parts : List Part) (p : Part) (text last : List ℕ) → IsListingFrom n parts text → IsSandboxListing m p last → m ≡ n + length parts → IsListingFrom n (parts ++ p ∷ []) (text ++ last)
 listing_append n m [] p text last h here e =

@@ -1,5 +1,6 @@
 pub mod Digits
 pub mod Report
+pub mod Names
 pub mod Listing
 pub mod State
 pub mod Laws

@@ -10,6 +10,7 @@ use Rattle.sfi_image.specs.Spelling.{Part, format_of}
 use Rattle.sfi_image.specs.declared.part.Gate.{Gate}
 use Rattle.sfi_rules.specs.Readings.{Piece, IsLongestReading}
 use Rattle.sfi_report.specs.Digits.{hex_digits, line_end, word_digits}
+use Rattle.sfi_report.specs.Names.{IsNamesText}
 
 -- ---- of a unit of code
 
@@ -75,11 +76,13 @@ pub record IsCodeListing (p : Part) (text : List ℕ) : Type 0 where
   pub whole : length p.code ≡ unit p.format * units
   pub text_is : IsListingOfFirst p units text
 
--- its fields, its gates, and its code
+-- its fields, its gates, its names, and its code
 pub record IsSandboxListing (sandbox : ℕ) (p : Part) (text : List ℕ) : Type 0 where
+  pub names : List ℕ
+  pub names_are : IsNamesText p.init names
   pub code : List ℕ
   pub code_is : IsCodeListing p code
-  pub text_is : text ≡ sandbox_line sandbox p ++ flat_map gate_line p.gates ++ code
+  pub text_is : text ≡ sandbox_line sandbox p ++ flat_map gate_line p.gates ++ names ++ code
 
 -- ---- of an image
 

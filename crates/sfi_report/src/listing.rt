@@ -6,6 +6,7 @@ ghost use Rattle.sfi_report.specs.Listing.{instruction_line, rest_line, sandbox_
 ghost use Rattle.sfi_report.specs.private.{Adds};
 
 use crate::digits::{push_eight_digits, push_two_digits, push_word};
+use crate::names::push_names;
 use rv_comp::{Front, read_front};
 use rv_word::Instr;
 use sfi_image::{Gate, Image, SandboxPart};
@@ -118,6 +119,7 @@ fn push_sandbox(
     for gate in &part.gates {
         push_gate(out, gate)?;
     }
+    push_names(out, part.init)?;
     push_code(out, format, part)
 }
 
@@ -150,7 +152,8 @@ fn push_format(out: &mut String, format: Format) -> Result<(), AllocError>
 }
 
 /// The listing of an image: a line of its format, but for the first; then for each sandbox a line
-/// of its fields, a line for each gate, and a line for each instruction.
+/// of its fields, a line for each gate, lines of the names that the table at the end of its first data
+/// tells, if there is one, and a line for each instruction.
 ///
 /// Each unit of code is read from its first byte, as the rules read it. Where reading stops before
 /// the unit's end, a line `.bytes` has what is left. The one error is that an allocation was refused.

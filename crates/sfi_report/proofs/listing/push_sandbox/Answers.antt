@@ -11,6 +11,6 @@ returns c =
     let gates : string_bytes c.loop-gate.out ≡ fields ++ flat_map gate_line c.args.part.now.gates.items =
     c.loop-gate.invariant ∙ ap (λ (l : List Gate). fields ++ flat_map gate_line l) all in
     on_ok_weaker c.push_code.result
-    (λ code. whole_sandbox c.args.sandbox (view c.args.format c.args.part.now) (string_bytes c.args.out.now) fields (string_bytes c.loop-gate.out) (string_bytes c.push_code.new.out)
-    (c.in_ok-push_fields.ensures c.args.format) gates code)
+    (λ code. whole_sandbox c.args.sandbox (view c.args.format c.args.part.now) (string_bytes c.args.out.now) fields (string_bytes c.loop-gate.out) (string_bytes c.push_names.new.out) (string_bytes c.push_code.new.out)
+    (c.in_ok-push_fields.ensures c.args.format) gates c.in_ok-push_names.ensures code)
     c.push_code.ensures

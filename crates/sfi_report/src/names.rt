@@ -1,0 +1,81 @@
+//! The names of a sandbox, in the listing.
+ghost use Rattle.std.specs.Prelude.{◌≡◌, ◌≤◌, ◌++◌, ℕ, List, OnOk, string_bytes};
+ghost use Rattle.std.specs.List.{All, flat_map};
+ghost use Rattle.sfi_names.specs.Spelling.{Named, entries, IsNamed, IsName};
+ghost use Rattle.sfi_names.specs.Tables.{named};
+ghost use Rattle.sfi_report.specs.Names.{kind_word, name_line, interface_line, IsNamesText};
+ghost use Rattle.sfi_report.specs.private.{Adds};
+
+use crate::digits::push_eight_digits;
+use sfi_names::{Entry, Kind, Names, first_entry};
+use std::alloc::AllocError;
+
+/// Writes the word for a name of this kind.
+#[tactic(auto, unfolding(crate::specs::Names::kind_word))]
+fn push_kind(out: &mut String, kind: Kind) -> Result<(), AllocError>
+    ensures { OnOk result (string_bytes out.new ≡ string_bytes out.old ++ kind_word kind) }
+{
+    match kind {
+        Kind::Exports => out.push_str("export "),
+        Kind::Imports => out.push_str("import "),
+    }
+}
+
+/// Writes the bytes of a name.
+fn push_name(out: &mut String, name: &[u8]) -> Result<(), AllocError>
+    requires { IsName name.now }
+    ensures { OnOk result (string_bytes out.new ≡ string_bytes out.old ++ name.now) }
+{
+    for byte in name {
+        out.push(char::from(*byte))?;
+    }
+    Ok(())
+}
+
+/// Writes the line of a name.
+fn push_entry(out: &mut String, kind: Kind, entry: &Entry<'_>) -> Result<(), AllocError>
+    requires { IsNamed (named entry.now) }
+    ensures { OnOk result (string_bytes out.new
+        ≡ string_bytes out.old ++ name_line kind (named entry.now)) }
+{
+    push_kind(out, kind)?;
+    push_eight_digits(out, entry.address)?;
+    out.push_str(" ")?;
+    push_name(out, entry.name)?;
+    out.push_str("\n")
+}
+
+/// Writes the lines of the names whose entries are these bytes.
+fn push_entries(out: &mut String, kind: Kind, bytes: &[u8]) -> Result<(), AllocError>
+    ensures { (es : List Named) → All IsNamed es → bytes.now ≡ entries es
+        → OnOk result (string_bytes out.new
+        ≡ string_bytes out.old ++ flat_map (name_line kind) es) }
+{
+    let mut rest = bytes;
+    while let Some((entry, more)) = first_entry(rest) {
+        push_entry(out, kind, &entry)?;
+        rest = more;
+    }
+    Ok(())
+}
+
+/// Writes the line of the version of the host's interface.
+fn push_interface(out: &mut String, version: u32) -> Result<(), AllocError>
+    ensures { OnOk result (string_bytes out.new
+        ≡ string_bytes out.old ++ interface_line version) }
+{
+    write!(out, "interface {version}\n")
+}
+
+/// Writes the lines of the table of names in which the first data bytes end, if they end in one.
+pub(crate) fn push_names(out: &mut String, init: &[u8]) -> Result<(), AllocError>
+    ensures { OnOk result (Adds (string_bytes out.old) (string_bytes out.new)
+        (IsNamesText init.now)) }
+{
+    let Ok(names) = Names::at_end(init) else {
+        return Ok(());
+    };
+    push_interface(out, names.version)?;
+    push_entries(out, Kind::Exports, names.exports)?;
+    push_entries(out, Kind::Imports, names.imports)
+}
