@@ -1,5 +1,5 @@
 -- Pages: what the write of a byte or a word makes of them, and a new frame.
-use Rattle.rv_mem.proofs.Prelude.{eqb-true, ◌^◌, ◌≡◌, ◌≢◌, ℕ, ◌+◌, ◌*◌, ◌/◌, ◌%◌, ◌<◌, ◌≤◌, ◌==◌, true, false, inl, inr, cond, zero, suc, get_or, length, set, IsSome, List, [], ◌∷◌, Option, Some, None, refl, sym, ap, ◌∙◌, subst, arith, get_or-set_other, get_or-set_same, slice_index, nat_cmp_total, insert, same_map, nat_cmp-IsAntisymmetric, Bytes, byte_at, address_after, loaded, with_four, frame_of, cell, cell_at, ArePages, values_of, nat_lt, ◌-◌, MarksRun, run_of}
+use Rattle.rv_mem.proofs.Prelude.{eqb-true, ◌^◌, ◌≡◌, ◌≢◌, ℕ, ◌+◌, ◌*◌, ◌/◌, ◌%◌, ◌<◌, ◌≤◌, ◌==◌, true, false, inl, inr, cond, zero, suc, get_or, length, set, IsSome, List, [], ◌∷◌, Option, Some, None, refl, sym, ap, ◌∙◌, subst, arith, get_or-set_other, get_or-set_same, slice_index, nat_cmp_total, insert, same_map, nat_cmp-IsAntisymmetric, Bytes, byte_at, address_after, loaded, with_two, with_four, frame_of, cell, cell_at, ArePages, values_of, nat_lt, ◌-◌, MarksRun, run_of}
 use Rattle.std.proofs.Math.ListN.{length-set}
 use Rattle.std.proofs.lemmas.Bool.{cases_eq, cases_lt, eq-eqb, eqb-false, ne_eqb}
 use Rattle.std.proofs.lemmas.List.{get_or_past}
@@ -89,6 +89,38 @@ put_there t d are q p b e small there =
 -- another byte is there still
 still : (m n : Bytes) (a b q : ℕ) → n ≡ insert m a b → IsSome (byte_at m q) → IsSome (byte_at n q)
 still m n a b q e there = subst (λ (x : Bytes). IsSome (byte_at x q)) (sym e) (stays m a b q there)
+
+pub halfword_put : (t d first new items l : List ℕ) → ArePages t d → (at u value : ℕ) → u ≡ frame_of t at → at < 2 ^ 32 → at % 4096 ≤ 4094 → IsSome (loaded (values_of (cell_at t d)) at 2)
+    → l ≡ value % 256 ∷ value / 256 % 256 ∷ [] → first ≡ d → new ≡ with_two first (u + at % 4096) l → items ≡ new
+    → ArePages t items × (values_of (cell_at t items) ≡ insert (insert (values_of (cell_at t d)) (address_after at 0) (get_or l 0 0)) (address_after at 1) (get_or l 1 0))
+halfword_put t d first new items l are at u value is fits one_page there e first_is new_is items_is =
+    let m = values_of (cell_at t d) in
+    let p = u + at % 4096 in
+    let there' : (k : ℕ) → k < 2 → IsSome (byte_at m (address_after at k)) = λ k h. some_if _ _ (missing_byte m at 2 k h) there in
+    let place : (k x : ℕ) → k < 2 → x ≡ p + k → x ≡ frame_of t (address_after at k) + address_after at k % 4096 = λ k x h f. place_after k x h f in
+    let small : (k : ℕ) → k < 2 → get_or l k 0 < 256 = λ k h. below_256 k h in
+    let x0 = put_there t d are (address_after at 0) p (get_or l 0 0) (place 0 p (omega arith) (omega arith)) (small 0 (omega arith)) (there' 0 (omega arith)) in
+    let x1 = put_there t _ x0.0 (address_after at 1) (p + 1) (get_or l 1 0) (place 1 (p + 1) (omega arith) refl) (small 1 (omega arith)) (still _ _ _ _ _ x0.1 (there' 1 (omega arith))) in
+    let same : items ≡ with_two d p l = items_is ∙ new_is ∙ ap (λ (c : List ℕ). with_two c p l) first_is in (
+      subst (ArePages t) (sym same) x1.0,
+      ap (λ (c : List ℕ). values_of (cell_at t c)) same
+          ∙ x1.1 ∙ ap (λ (m : Bytes). insert m (address_after at 1) (get_or l 1 0)) x0.1,
+    )
+  where
+    place_after : (k x : ℕ) → k < 2 → x ≡ u + at % 4096 + k → x ≡ frame_of t (address_after at k) + address_after at k % 4096
+    place_after k x small f =
+        let page : address_after at k / 4096 ≡ at / 4096 = omega arith in
+        let rest : address_after at k % 4096 ≡ at % 4096 + k = omega arith in
+        let same : frame_of t (address_after at k) ≡ u = ap (λ (x : ℕ). slice_index t x * 8192) page ∙ sym is in
+        omega (arith, same, rest, f)
+
+    below_256 : (k : ℕ) → k < 2 → get_or l k 0 < 256
+    below_256 k below = rw e (each k below)
+      where
+        each : (k : ℕ) → k < 2 → get_or (value % 256 ∷ value / 256 % 256 ∷ []) k 0 < 256
+        each zero h = omega arith
+        each (suc zero) h = omega arith
+        each (suc (suc k)) h = absurd (omega arith)
 
 pub word_put : (t d first new items l : List ℕ) → ArePages t d → (at u value : ℕ) → u ≡ frame_of t at → at < 2 ^ 32 → at % 4096 ≤ 4092 → IsSome (loaded (values_of (cell_at t d)) at 4)
     → l ≡ value % 256 ∷ value / 256 % 256 ∷ value / 65536 % 256 ∷ value / 16777216 % 256 ∷ [] → first ≡ d → new ≡ with_four first (u + at % 4096) l → items ≡ new

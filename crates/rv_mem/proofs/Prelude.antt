@@ -9,6 +9,6 @@ pub use Rattle.rv_mem.specs.Bytes.{Bytes, byte_at, bytes_at, address_after, addr
 pub use Rattle.rv_mem.specs.Frames.{frame_of, cell, cell_at, ArePages, with_entry}
 unfoldable pub use Rattle.rv_mem.specs.Frames.{values_of, values_below}
 pub use Rattle.rv_mem.specs.Pages.{bytes_of}
-pub use Rattle.rv_mem.specs.private.Frames.{run_of, Puts, MarksRun, with_four}
+pub use Rattle.rv_mem.specs.private.Frames.{run_of, Puts, MarksRun, with_two, with_four}
 pub use Rattle.rv_mem.specs.private.Ranges.{HasIn, HasNone}
 pub use Rattle.rv_mem.specs.private.Segment.{byte_in, byte_among}

@@ -1,7 +1,7 @@
 //! The cells of pages: writes to several of them, and copies.
 ghost use Rattle.std.specs.Prelude.{◌≡◌, ◌+◌, ◌<◌, ◌≤◌, length, slice_index, ℕ};
 ghost use Rattle.std.specs.Int.{bytes_low_first};
-ghost use Rattle.rv_mem.specs.private.Frames.{with_four, Puts, MarksRun};
+ghost use Rattle.rv_mem.specs.private.Frames.{with_two, with_four, Puts, MarksRun};
 
 /// How many bytes a page has.
 const PAGE: usize = 4096;
@@ -18,6 +18,17 @@ pub(crate) fn write_word(cells: &mut [u8], place: usize, value: u32)
     cells[place + 1] = byte1;
     cells[place + 2] = byte2;
     cells[place + 3] = byte3;
+}
+
+/// Writes the two low bytes of a number from a place on, likewise.
+#[inline(always)]
+pub(crate) fn write_halfword(cells: &mut [u8], place: usize, value: u32)
+    requires { place + 2 ≤ length cells.old }
+    ensures { cells.new ≡ with_two cells.old place (bytes_low_first 0 2 value) }
+{
+    let [byte0, byte1, _, _] = value.to_le_bytes();
+    cells[place] = byte0;
+    cells[place + 1] = byte1;
 }
 
 /// Writes bytes from a place on.

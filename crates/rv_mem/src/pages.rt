@@ -6,7 +6,7 @@ ghost use Rattle.rv_mem.specs.Bytes.{IsMemory, count_of, byte_at, loaded, stored
 ghost use Rattle.rv_mem.specs.Frames.{ArePages, frame_of, cell_at, values_of};
 ghost use Rattle.rv_mem.specs.private.Frames.{KeepsFrames, HaveFrames, run_of};
 
-use crate::cells::{copy_cells, mark_cells, write_word};
+use crate::cells::{copy_cells, mark_cells, write_halfword, write_word};
 use crate::fault::AddFault;
 use crate::memory::{Memory, Width};
 use std::alloc::{AllocError, Global};
@@ -281,7 +281,6 @@ impl Pages {
     /// Writes the two bytes from an address on, in one page; false where one of them is missing,
     /// and then nothing changed.
     #[inline(always)]
-    #[tactic(auto, using(crate::proofs::Lookups::stays))]
     fn put_halfword(&mut self, at: u32, value: u32) -> bool
         requires { at % 4096 ≤ 4094 }
         ensures there { IsTrue result ↔ IsThere (bytes_of self.old) at 2 }
@@ -291,9 +290,8 @@ impl Pages {
         if self.halfword_at(at).is_none() {
             return false;
         }
-        let [byte0, byte1, _, _] = value.to_le_bytes();
-        self.put_byte(at, byte0);
-        self.put_byte(at.wrapping_add(1), byte1);
+        let place = self.frame(at).unwrap() + (at % PAGE) as usize;
+        write_halfword(&mut self.cells, place, value);
         true
     }
 

@@ -9,6 +9,11 @@ KeepsFrames before after = (page : ℕ) → slice_index before page ≢ 0 → sl
 abbrev pub HaveFrames : List ℕ → ℕ → ℕ → Type 0
 HaveFrames table base size = (k : ℕ) → k < size → slice_index table ((base + k) / 4096) ≢ 0
 
+-- cells with the first two bytes of a list from a place on
+abbrev pub with_two : List ℕ → ℕ → List ℕ → List ℕ
+with_two cells place bytes =
+    slice_set (slice_set cells place (slice_index bytes 0)) (place + 1) (slice_index bytes 1)
+
 -- cells with the first four bytes of a list from a place on
 abbrev pub with_four : List ℕ → ℕ → List ℕ → List ℕ
 with_four cells place bytes =
