@@ -99,6 +99,7 @@ class Steps(Calls):
         file = self.write("y.s", ASSEMBLY)
         self.assertEqual(self.call("--cc", "/nothing/gcc", "-c", "-o", self.path("y.o"), file), (0, "", []))
         self.assertEqual(self.call("-c", "-o", self.path("y.o"), file, file)[2][-1], "sfi-cc: error: -c with -o takes one source")
+        self.assertEqual(self.call("-c", self.path("absent.s")), (1, "", [f"sfi-cc: {self.path('absent.s')} can't be read"]))
 
     def test_hosted(self):
         """gcc warns of -fhosted where a file is of C++."""

@@ -1,5 +1,6 @@
 """Runs a compiler on each file of a program, with the options that a sandbox wants, several at a time."""
 import os
+import re
 import shutil
 import subprocess
 import sys
@@ -23,6 +24,7 @@ SOURCES = (".c", ".i")
 PLUS_PLUS_SOURCES = (".cc", ".cpp", ".cxx", ".C", ".ii")
 WITH_MACROS = (".S", ".sx")  # assembly that a preprocessor goes over first
 ASSEMBLY = (".s", ".asm")
+OWN_CONVENTION = re.compile(r"^(define (?:\w+ )*?|.*?\b(?:call|invoke) (?:\w+ )*?)fastcc ")
 WITH_VALUE = ("-I", "-D", "-U", "-include", "-imacros", "-isystem", "-iquote", "-idirafter", "-x", "-Xclang", "-mllvm")
 
 
@@ -108,15 +110,28 @@ def by_gcc(compiler, given, file, assembly, registers):
                 "-o", assembly, file])[1]
 
 
+def without_own_convention(line):
+    """A line of LLVM's text where calls are as the RISC-V calling convention has them. LLVM's other one, for functions
+    whose callers it all sees, takes registers for arguments that are the sandbox's own."""
+    return OWN_CONVENTION.sub(r"\1", line) if line[:1] not in "@!" else line
+
+
+def by_llc(llc, middle, words, assembly, registers):
+    """Makes the assembly of LLVM's text; what llc said."""
+    with open(middle, encoding="utf-8", errors="surrogateescape") as file:
+        text = "".join(map(without_own_convention, file))
+    machine = "-mattr=+m,+c," + ",".join(f"+reserve-x{number}" for number in registers)
+    return ran([llc, *words, *LLC, machine, "-o", assembly, "-"], text.encode("utf-8", "surrogateescape"))[1]
+
+
 def by_clang(compiler, given, file, assembly, registers):
     """clang in two steps: in one, version 14 doesn't keep the sandbox's own registers free."""
-    middle = assembly + ".bc"
+    middle = assembly + ".ll"
     folder, name = os.path.split(compiler)
     llc = os.path.join(folder, name.replace("clang", "llc"))
-    first = ran([compiler, "-c", "-emit-llvm", "-O2", *TARGET, *COMMON, *language(file), *for_language(file, given),
+    first = ran([compiler, "-S", "-emit-llvm", "-O2", *TARGET, *COMMON, *language(file), *for_language(file, given),
                  *LAST, *HEADERS, "-o", middle, file])
-    machine = "-mattr=+m,+c," + ",".join(f"+reserve-x{number}" for number in registers)
-    return first[1] + ran([llc, level(given), *LLC, machine, "-o", assembly, middle])[1]
+    return first[1] + by_llc(llc, middle, [level(given)], assembly, registers)
 
 
 def preprocessed(compiler, given, file, assembly, _):
@@ -128,6 +143,8 @@ def compiled(compiler, given, file, place, registers=RESERVED_IN_WORDS):
     """The path of a file's assembly, which leaves some registers alone, and what the compiler said. Each has a folder
     `place` of its own, since two may have one name."""
     if file.endswith(ASSEMBLY):
+        if not os.access(file, os.R_OK):
+            raise Failed(1, f"{file} can't be read")
         return file, b""
     os.mkdir(place)
     assembly = os.path.join(place, os.path.splitext(os.path.basename(file))[0] + ".asm")

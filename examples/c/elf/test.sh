@@ -65,6 +65,12 @@ try_linked() { # format
     report "a frame that has its room, format $1" "sandbox=0 exit=7 out=" "$(line_of "$room/frame.$1.elf")"
 }
 
+try_clang() { # format
+    has clang && has llc || { skip 1 "many arguments by clang, format $1" "clang or llc isn't there (Debian's packages clang and llvm)" && return; }
+    elf_of "many.$1.elf" "$1" --cc clang elf/many_arguments.c
+    report "many arguments by clang, format $1" "sandbox=0 exit=221 out=" "$(line_of "$room/many.$1.elf")"
+}
+
 # Floating point, by the functions of GCC's library, and a folder of assembly as a library.
 try_libraries() { # format
     if ls ${GCC_SOURCE:-/usr/src/gcc-*/gcc-*.tar.xz} >"$room/which" 2>&1; then
@@ -193,6 +199,7 @@ for format in $formats; do
     try_archive "$format"
     try_pair "$format"
     try_linked "$format"
+    try_clang "$format"
     try_libraries "$format"
     try_far_branches "$format" 222
     try_far_branches "$format" 255

@@ -1,0 +1,76 @@
+#!/usr/bin/env bash
+# Compiles Rust programs for sandboxes in each format, and compares what they do with the same programs compiled natively.
+#
+#     examples/rust/test.sh [SFI]      # SFI is the program; ./sfi at the top if absent
+set -uo pipefail
+unset CDPATH
+here=$(cd "$(dirname "${BASH_SOURCE[0]}")" && pwd)
+sfi=$(realpath "${1:-$here/../../sfi}")
+export SFI=$sfi RUST_BACKTRACE=0
+cd "$here" || exit 1
+source ../harness.sh
+
+inputs_of() {
+    case $1 in
+    words) echo empty prose json-tree ;;
+    median) echo empty prose bzip2.txt ;;
+    panics) echo i o w ;;
+    calls) echo empty ;;
+    esac
+}
+
+input_of() { # an input's name, or its one letter
+    case $1 in
+    ?) printf %s "$1" ;;
+    bzip2.txt) ../c/inputs.py prose | head -c 1999 && ../c/inputs.py json-tree ;;
+    *) ../c/inputs.py "$1" ;;
+    esac
+}
+
+# The exit code and the output of a native program, in the words of `sfi run`. Its panics go to another stream.
+native_line() { # program, input
+    local status
+    input_of "$2" | "$room/$1" >"$room/output" 2>"$room/messages"
+    status=${PIPESTATUS[1]}
+    sed -n "s/^thread .* panicked at/panicked at/p" "$room/messages" >>"$room/output"
+    [ "$status" != 134 ] && echo "exit=$status out=$(digits_of "$room/output")" || echo "trap=Break out=$(digits_of "$room/output")"
+}
+
+line_of() { # image, input
+    "$sfi" run --rounds 1000 --quantum 1000000 --input "$(input_of "$2" | digits_of)" <"$1" |
+        sed 's/^sandbox=0 //; s/ steps=[0-9]*//; s/ at=[0-9a-f]*//'
+}
+
+try_program() { # program, format
+    local input
+    if ! ./sfi-rustc --program "$sfi" --format "$2" -o "$room/image" "programs/$1.rs" 2>"$room/messages"; then
+        ! grep -q "more than format 1 has room for" "$room/messages" || { skip 1 "$1, format $2" "its code is too large" && return; }
+        report "$1, format $2: compiled" image "$(cat "$room/messages")"
+        return
+    fi
+    for input in $(inputs_of "$1"); do
+        report "$1, format $2, $input" "$(native_line "$1" "$input")" "$(line_of "$room/image" "$input")"
+    done
+}
+
+# A panic without room for memory, where a native program has it.
+try_memory() { # format
+    local line
+    ./sfi-rustc --program "$sfi" --format "$1" -o "$room/image" programs/panics.rs
+    line=$(line_of "$room/image" m)
+    report "no room, format $1" "trap=Break panicked at 'no room for 16777216 bytes'" \
+        "${line% out=*} $(xxd -r -p <<<"${line#*out=}" | sed -n 's/, .*//; 2p')"
+}
+
+if ! ./sfi-rustc --missing 2>"$room/messages"; then
+    skip 1 "Rust programs" "$(cat "$room/messages")"
+    finish
+fi
+for program in words median panics calls; do
+    succeeds "$program natively" ./sfi-rustc --native "$room/$program" "programs/$program.rs"
+    for format in $formats; do
+        try_program "$program" "$format"
+    done
+done
+try_memory words
+finish
