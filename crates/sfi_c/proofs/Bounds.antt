@@ -20,7 +20,7 @@ use Rattle.sfi_image.specs.Faults.{IsFault, IsCountFault, ArePartsFault, IsPartF
 use Rattle.sfi_image.proofs.Standing.{region, Region}
 use Rattle.sfi_image.proofs.Cancelling.{length-fields}
 use Rattle.sfi_image.proofs.Formats.{length-magic}
-use Rattle.sfi_places.proofs.Offsets.{length-gates, length-number, length-part}
+use Rattle.sfi_image.proofs.Offsets.{length-gates, length-number, length-part}
 
 -- more bytes than one sandbox has, and than an image has
 abbrev part_most : ℕ

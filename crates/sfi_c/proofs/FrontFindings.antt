@@ -27,7 +27,7 @@ use Rattle.sfi_rules.specs.words.Findings.{found_from, owed_past, IsWordFound, A
 use Rattle.sfi_rules.proofs.Facts.{one_longest_reading, one_bundle_list}
 use Rattle.sfi_safety.proofs.Places.{nothing_before}
 use Rattle.sfi_check.specs.Tallies.{AreFindingsSoFar, owed_after}
-use Rattle.sfi_places.proofs.Offsets.{length-gates}
+use Rattle.sfi_image.proofs.Offsets.{length-gates}
 
 -- ---- the first bundles of a part, where more have no finding
 

@@ -1,5 +1,5 @@
 -- Words of std and of definitions that many proofs of this crate use.
-pub use Rattle.sfi_places.specs.Sandboxes.{IsSandboxOf, sandbox_offset}
+pub use Rattle.sfi_image.specs.Sandboxes.{IsSandboxOf, sandbox_offset}
 pub use Rattle.sfi_c.specs.Arrays.{with_findings}
 pub use Rattle.sfi_check.specs.ForC.{finding_for_c}
 pub use Rattle.sfi_c.specs.declared.looking.Lookup.TheVariants.{Beyond, Found}

@@ -37,7 +37,7 @@ use Rattle.sfi_check.specs.declared.feed.Feed.{Feed}
 use Rattle.sfi_check.specs.Feeds.{IsFed}
 use Rattle.sfi_check.proofs.Feeding.{fed_held, fed_fault, no_fault as no_fault_met}
 use Rattle.sfi_c.specs.Refused.{HaveFrontFindings, AreRefusedAlready}
-use Rattle.sfi_places.proofs.Offsets.{length-gates, length-number}
+use Rattle.sfi_image.proofs.Offsets.{length-gates, length-number}
 use Rattle.sfi_c.proofs.Bounds.{never_short}
 use Rattle.sfi_c.proofs.FrontFindings.{none_so_far, none_of_part, first_clean, Reads, IsPartial, HasNoCode, HasCode, IsAllThereIs, no_part, no_code, begins, same_code}
 

@@ -4,7 +4,7 @@ use Rattle.sfi_policy.specs.declared.format.Format.{Format}
 use Rattle.sfi_policy.specs.declared.format.Format.TheVariants.{Sfi1, Sfi2, Sfiw}
 use Rattle.sfi_image.specs.declared.part.Gate.{Gate}
 use Rattle.sfi_image.specs.Spelling.{Part, fields_bytes, gate_bytes}
-use Rattle.sfi_places.specs.Sandboxes.{IsSandboxOf, IsBeyond, LiesAt, sandbox_offset}
+use Rattle.sfi_image.specs.Sandboxes.{IsSandboxOf, IsBeyond, LiesAt, sandbox_offset}
 use Rattle.sfi_c.specs.declared.looking.Lookup.{Lookup}
 use Rattle.sfi_c.specs.declared.looking.Lookup.TheVariants.{Found, Beyond, NoImage}
 use Rattle.sfi_c.specs.declared.part.SfiGate.{SfiGate}

@@ -5,7 +5,7 @@ use Rattle.sfi_image.specs.Spelling.{Part}
 use Rattle.sfi_image.specs.Faults.{IsFault}
 use Rattle.sfi_c.specs.declared.looking.Lookup.{Lookup}
 use Rattle.sfi_c.specs.declared.looking.Lookup.TheVariants.{Found, Beyond, NoImage}
-use Rattle.sfi_places.specs.Sandboxes.{IsSandboxOf}
+use Rattle.sfi_image.specs.Sandboxes.{IsSandboxOf}
 use Rattle.sfi_places.specs.declared.relocation.MoveFault.{MoveFault}
 use Rattle.sfi_places.specs.declared.relocation.MoveFault.TheVariants as faults
 use Rattle.sfi_c.specs.declared.moving.Move.{Move}

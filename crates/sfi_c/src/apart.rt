@@ -4,7 +4,7 @@ ghost use Rattle.sfi_image.specs.Spelling.{Part};
 ghost use Rattle.sfi_image.specs.Spans.{AreApart};
 ghost use Rattle.sfi_places.specs.Beside.{AreBeside};
 ghost use Rattle.sfi_c.specs.Apart.{told_code, told_guarded, AreToldApart};
-ghost use Rattle.sfi_places.specs.Sandboxes.{IsSandboxOf};
+ghost use Rattle.sfi_image.specs.Sandboxes.{IsSandboxOf};
 ghost use Rattle.sfi_c.specs.Parts.{Tells};
 
 use crate::part::SfiPart;

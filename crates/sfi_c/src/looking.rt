@@ -6,12 +6,11 @@ ghost use Rattle.sfi_image.specs.declared.fault.LayoutFault.{LayoutFault};
 ghost use Rattle.sfi_image.specs.Spelling.{Part, part};
 ghost use Rattle.sfi_image.specs.Cursor.{IsViewOf};
 ghost use Rattle.sfi_image.specs.Faults.{IsFault};
-ghost use Rattle.sfi_places.specs.Sandboxes.{sandbox_offset, IsSandboxOf, IsBeyond};
+ghost use Rattle.sfi_image.specs.Sandboxes.{sandbox_offset, IsSandboxOf, IsBeyond};
 ghost use Rattle.sfi_c.specs.Parts.{lookup_number, IsPartOf, IsGateOf, IsBeyondGates, AreGatesOf};
 
 use crate::part::{SfiGate, SfiPart, gate_told, part_told, write_gates};
-use sfi_image::{Gate, LayoutFault, PartView};
-use sfi_places::sandbox_of;
+use sfi_image::{Gate, LayoutFault, PartView, sandbox_of};
 
 /// What is said of a sandbox or a gate that was asked for.
 #[derive(Clone, Copy, PartialEq, Eq, Debug)]

@@ -5,7 +5,7 @@ ghost use Rattle.sfi_image.specs.Spelling.{Part};
 ghost use Rattle.sfi_image.specs.Images.{IsImage};
 ghost use Rattle.sfi_image.specs.Faults.{IsFault};
 ghost use Rattle.sfi_safety.specs.Clean.{IsAccepted};
-ghost use Rattle.sfi_places.specs.Sandboxes.{IsBeyond};
+ghost use Rattle.sfi_image.specs.Sandboxes.{IsBeyond};
 ghost use Rattle.sfi_places.specs.Moves.{moved_one, IsMoved, IsWrongPlace};
 ghost use Rattle.sfi_c.specs.Moves.{move_number, to_place};
 ghost use Rattle.sfi_c.specs.private.{move_said_of};

@@ -20,6 +20,8 @@ pub mod Places
 pub mod Stretches
 pub mod Ending
 pub mod CursorSteps
+pub mod Offsets
+mod Seeking
 pub mod Masks
 pub mod Second
 pub mod Facts

@@ -15,6 +15,7 @@ pub mod Outcome
 pub mod Fronts
 pub mod Keeping
 pub mod Cursor
+pub mod Sandboxes
 pub mod Sources
 pub mod Reading
 pub mod private

@@ -8,7 +8,7 @@
 //! others, "Native Client", 2009).
 //!
 //! [`parse_image`] reads an image from all of its bytes, by an [`ImageCursor`], which steps from
-//! sandbox to sandbox and takes no memory. [`LayoutReader`] reads its layout from pieces, in order,
+//! sandbox to sandbox and takes no memory; [`sandbox_of`] goes to the sandbox of a number. [`LayoutReader`] reads its layout from pieces, in order,
 //! as a [`ByteSource`] hands them out, and takes none either; [`Reading`] makes a source of any
 //! reader.
 #![tactic(auto)]
@@ -22,6 +22,7 @@ mod image;
 mod kept;
 mod layout;
 mod layout_reader;
+mod lookup;
 mod part;
 mod reading;
 mod reserved;
@@ -37,6 +38,7 @@ pub use fields::{Fields, has_guard_room, is_region, with_guards};
 pub use image::Image;
 pub use kept::{KeptGates, KeptSpans};
 pub use layout_reader::LayoutReader;
+pub use lookup::sandbox_of;
 pub use part::{Gate, SandboxPart};
 pub use reading::parse_image;
 pub use reserved::Reserved;

@@ -1,8 +1,8 @@
 -- Names in the table of a sandbox of an image.
-use Rattle.std.specs.Prelude.{◌≡◌, ℕ, ◌≤◌, List, length, Some, None, Result, Ok, Err, slice_get}
+use Rattle.std.specs.Prelude.{◌≡◌, ℕ, List, Some, None, Result, Ok, Err}
 use Rattle.sfi_image.specs.declared.fault.LayoutFault.{LayoutFault}
 use Rattle.sfi_image.specs.Spelling.{Part}
-use Rattle.sfi_image.specs.Images.{IsImage}
+use Rattle.sfi_image.specs.Sandboxes.{IsSandboxOf, IsBeyond}
 use Rattle.sfi_image.specs.Faults.{IsFault}
 use Rattle.sfi_names.specs.declared.fault.NamesFault.{NamesFault}
 use Rattle.sfi_names.specs.declared.fault.NamesFault.TheVariants as faults
@@ -30,19 +30,13 @@ of_kind Imports t = t.imports
 
 -- the bytes are an image, whose sandbox of that number has these first data bytes
 pub record IsInitOf (image : List ℕ) (number : ℕ) (init : List ℕ) : Type 0 where
-  pub parts : List Part
-  pub image_is : IsImage image parts
   pub sandbox : Part
-  pub sandbox_is : slice_get parts number ≡ Some sandbox
+  pub sandbox_is : IsSandboxOf image number sandbox
   pub init_is : init ≡ sandbox.init
 
 -- they are no image
 abbrev pub IsNoImage : List ℕ → Type 0
 IsNoImage image = (k : LayoutFault) × IsFault image k
-
--- they are an image without a sandbox of that number
-abbrev pub IsBeyond : List ℕ → ℕ → Type 0
-IsBeyond image number = (ps : List Part) × IsImage image ps × (length ps ≤ number)
 
 -- the first data bytes of the image's sandbox of that number have this fault
 abbrev pub HasFault : List ℕ → ℕ → NamesFault → Type 0

@@ -9,7 +9,7 @@ ghost use Rattle.sfi_names.specs.Tables.{IsNamesOf};
 
 use crate::fault::NamesFault;
 use crate::names::Names;
-use sfi_image::{ImageCursor, LayoutFault};
+use sfi_image::{LayoutFault, sandbox_of};
 
 /// Why an image tells no address of a name.
 #[derive(Clone, Copy, Debug, PartialEq, Eq)]
@@ -116,14 +116,8 @@ fn init_of<'a>(image: &'a [u8], number: u32) -> Result<&'a [u8], Missing>
     ensures found { IfOk result (λ d. IsInitOf image.entry.now number d.now) }
     ensures missing { IfErr result (λ m. HasNoInit image.entry.now number m) }
 {
-    let mut cursor = ImageCursor::new(image)?;
-    let mut sought = Err(Missing::NoSandbox);
-    let mut passed = 0;
-    while let Some(view) = cursor.next_part()? {
-        if passed == number as usize {
-            sought = Ok(view.init);
-        }
-        passed += 1;
+    match sandbox_of(image, number)? {
+        Some((view, _)) => Ok(view.init),
+        None => Err(Missing::NoSandbox),
     }
-    sought
 }

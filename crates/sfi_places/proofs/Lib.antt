@@ -1,7 +1,5 @@
 pub mod Beside
 pub mod Moving
-pub mod Offsets
-mod Seeking
 mod Writing
 mod Placing
 mod Moves

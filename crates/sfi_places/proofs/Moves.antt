@@ -33,9 +33,9 @@ use Rattle.sfi_safety.specs.Clean.{IsAccepted}
 use Rattle.sfi_places.specs.Moves.{moved_one, IsMoved, IsMoveFault, OneMoves}
 use Rattle.sfi_places.proofs.Moving.{clean_is_placeless}
 use Rattle.sfi_places.specs.Moving.{moved_address, moved_gate, moved}
-use Rattle.sfi_places.specs.Sandboxes.{IsSandboxOf, IsBeyond, LiesAt, sandbox_offset}
+use Rattle.sfi_image.specs.Sandboxes.{IsSandboxOf, IsBeyond, LiesAt, sandbox_offset}
 use Rattle.sfi_places.specs.private.Writing.{IsReplaced, GoesTo, GatesGo, CanMove}
-use Rattle.sfi_places.proofs.Offsets.{length-head, split_at, spelled, spelled_round, image_split}
+use Rattle.sfi_image.proofs.Offsets.{length-head, split_at, spelled, spelled_round, image_split}
 use Rattle.sfi_places.proofs.Writing.{one_of}
 
 abbrev pub own_place : Part → Place

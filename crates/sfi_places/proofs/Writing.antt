@@ -12,9 +12,9 @@ unfoldable use Rattle.sfi_image.specs.Spelling.{number, gate}
 use Rattle.sfi_image.proofs.Cancelling.{gate_split}
 use Rattle.sfi_image.proofs.GateLists.{flat_split}
 use Rattle.sfi_places.specs.Moving.{moved_address, moved_gate}
-use Rattle.sfi_places.specs.Sandboxes.{LiesAt}
+use Rattle.sfi_image.specs.Sandboxes.{LiesAt}
 use Rattle.sfi_places.specs.private.Writing.{IsReplaced, GoesTo, GatesGo}
-use Rattle.sfi_places.proofs.Offsets.{length-number, length-gates}
+use Rattle.sfi_image.proofs.Offsets.{length-number, length-gates}
 
 -- ---- an address
 

@@ -1,5 +1,4 @@
 pub mod Beside
 pub mod Moves
 pub mod Moving
-pub mod Sandboxes
 pub mod private

@@ -9,7 +9,7 @@ use Rattle.sfi_safety.specs.Clean.{IsAccepted}
 use Rattle.sfi_places.specs.declared.relocation.MoveFault.{MoveFault}
 use Rattle.sfi_places.specs.declared.relocation.MoveFault.TheVariants.{NoImage, NoSandbox, NoPlace}
 use Rattle.sfi_places.specs.Moving.{moved}
-use Rattle.sfi_places.specs.Sandboxes.{IsBeyond}
+use Rattle.sfi_image.specs.Sandboxes.{IsBeyond}
 
 -- the sandboxes, that of this number with its regions at that place
 abbrev pub moved_one : ℕ → Place → List Part → List Part

@@ -5,12 +5,11 @@ ghost use Rattle.std.specs.Bool.{OnTrue, OnFalse};
 ghost use Rattle.sfi_image.specs.Faults.{IsFault};
 ghost use Rattle.sfi_image.specs.Images.{IsImage};
 ghost use Rattle.sfi_safety.specs.Clean.{IsAccepted};
-ghost use Rattle.sfi_places.specs.Sandboxes.{IsSandboxOf, sandbox_offset};
+ghost use Rattle.sfi_image.specs.Sandboxes.{IsSandboxOf, sandbox_offset};
 ghost use Rattle.sfi_places.specs.Moves.{moved_one, IsMoved, IsMoveFault};
 
 use crate::addresses::{GATES_AT, write_place};
-use crate::lookup::sandbox_of;
-use sfi_image::{Fields, LayoutFault, is_region};
+use sfi_image::{Fields, LayoutFault, is_region, sandbox_of};
 use sfi_policy::{Place, REGION_LEAST};
 
 /// Why a sandbox can't be moved.

@@ -15,8 +15,8 @@ use Rattle.sfi_image.specs.Fronts.{head}
 use Rattle.sfi_image.specs.Images.{IsImage}
 use Rattle.sfi_image.specs.Cursor.{HasPassed, IsViewOf, unread}
 use Rattle.sfi_image.proofs.CursorSteps.{passed_bytes}
-use Rattle.sfi_places.specs.Sandboxes.{IsSandboxOf, IsBeyond, sandbox_offset}
-use Rattle.sfi_places.proofs.Offsets.{length-head}
+use Rattle.sfi_image.specs.Sandboxes.{IsSandboxOf, IsBeyond, sandbox_offset}
+use Rattle.sfi_image.proofs.Offsets.{length-head}
 
 -- of these sandboxes the one of that number was found, and its end; or there are fewer
 abbrev pub IsSought : ℕ → List Part → Option (PartView × ℕ) → Type 0

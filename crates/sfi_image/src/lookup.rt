@@ -3,9 +3,10 @@ ghost use Rattle.std.specs.Prelude.{◌≡◌, ◌+◌, length, IfOk, IfErr, IfS
 ghost use Rattle.sfi_image.specs.Spelling.{Part, part};
 ghost use Rattle.sfi_image.specs.Cursor.{IsViewOf};
 ghost use Rattle.sfi_image.specs.Faults.{IsFault};
-ghost use Rattle.sfi_places.specs.Sandboxes.{sandbox_offset, IsSandboxOf, IsBeyond};
+ghost use Rattle.sfi_image.specs.Sandboxes.{sandbox_offset, IsSandboxOf, IsBeyond};
 
-use sfi_image::{ImageCursor, LayoutFault, PartView};
+use crate::cursor::{ImageCursor, PartView};
+use crate::fault::LayoutFault;
 
 /// The image's sandbox of that number, counted from 0, and where its bytes end, counted from the
 /// image's first; or none, where the image has fewer. It looks at the layout alone, of the whole

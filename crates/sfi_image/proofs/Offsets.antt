@@ -14,7 +14,7 @@ use Rattle.sfi_image.specs.Fronts.{head}
 use Rattle.sfi_image.specs.Images.{IsImage}
 use Rattle.sfi_image.proofs.Cancelling.{length-fields, length-gate}
 use Rattle.sfi_image.proofs.Formats.{length-magic}
-use Rattle.sfi_places.specs.Sandboxes.{IsSandboxOf, LiesAt, sandbox_offset}
+use Rattle.sfi_image.specs.Sandboxes.{IsSandboxOf, LiesAt, sandbox_offset}
 
 -- ---- lengths
 

@@ -1,7 +1,7 @@
 use Rattle.std.proofs.Common.{length}
 use Rattle.sfi_image.specs.Cursor.{unread}
-use Rattle.sfi_places.proofs.Seeking.{HasSought}
-use Rattle.sfi_places.proofs.lookup.sandbox_of.Given as goal
+use Rattle.sfi_image.proofs.Seeking.{HasSought}
+use Rattle.sfi_image.proofs.lookup.sandbox_of.Given as goal
 
 abbrev pub invariant-loop-view : goal.invariant-loop-view
 invariant-loop-view l = HasSought l.image l.number l.passed l.cursor l.sought

@@ -1,7 +1,7 @@
 use Rattle.std.proofs.lemmas.Result.{err_from_is_err_and}
-use Rattle.sfi_places.proofs.Seeking.{begun, found_here, not_here, all_found, all_beyond}
-use Rattle.sfi_places.proofs.lookup.sandbox_of.Goals as goal
-use Rattle.sfi_places.proofs.lookup.sandbox_of.Goals.{then-passed-number, else-passed-number}
+use Rattle.sfi_image.proofs.Seeking.{begun, found_here, not_here, all_found, all_beyond}
+use Rattle.sfi_image.proofs.lookup.sandbox_of.Goals as goal
+use Rattle.sfi_image.proofs.lookup.sandbox_of.Goals.{then-passed-number, else-passed-number}
 
 pub returns-in_err-view-clause-fault : goal.returns-in_err-view-clause-fault
 returns-in_err-view-clause-fault c =
