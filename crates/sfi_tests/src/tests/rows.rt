@@ -288,7 +288,7 @@ fn report_rows(rt: HostRuntime) -> Result<(), Fail> {
     try_rows(&rt, rt.alloc(), reports::CONVERSIONS, 13)?;
     try_rows(&rt, rt.alloc(), reports::CONVERTED, 5)?;
     try_rows(&rt, rt.alloc(), reports::TRANSLATIONS, 5)?;
-    try_rows(&rt, rt.alloc(), reports::LISTINGS, 9)
+    try_rows(&rt, rt.alloc(), reports::LISTINGS, 11)
 }
 
 #[test]
