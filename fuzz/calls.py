@@ -3,8 +3,8 @@
 
     fuzz/calls.py [--library PATH] [--program PATH] [--rounds N] [--seconds S] [--plant FAULT] [SEED ..]
 
-Each case is the life of a world: images are loaded, accepted and other ones, its sandboxes get turns, replies, exits, stops, reads,
-writes and entries, in any order, with right and wrong numbers; its struct is moved, and freed. After each call its answer, and of
+Each case is the life of a world: images are loaded, accepted and other ones, its sandboxes get turns, replies, exits, stops, resets,
+reads, writes and entries, in any order, with right and wrong numbers; its struct is moved, and freed. After each call its answer, and of
 each sandbox the event, steps, registers and data, are compared with those of the model (fuzz/worlds.py, on fuzz/machine.py).
 --library is a libsfi_run.a that rt built, or a shared library; `--library model` takes a second model in its place, to try the
 script itself. `--plant FAULT` gives the model a fault (fuzz/worlds.py lists them): then it has to fail. It wants gcc.
@@ -25,10 +25,10 @@ LIBRARY = os.path.join(fuzzing.TOP, "crates", "sfi_run", "out", "libsfi_run.a")
 CALLS_OF_A_WORLD = 80
 MOST = (1 << 32) - 1
 WRONG_NUMBERS = [16, 255, 1 << 31, MOST]
-KINDS = ["load", "turn", "event", "reply", "exit", "stop", "read", "write", "enter", "call", "free"]
+KINDS = ["load", "turn", "event", "reply", "exit", "stop", "reset", "read", "write", "enter", "call", "free"]
 SEEN = ["events", "steps", "registers", "regions", "data"]
 NAMES = [*KINDS, *SEEN, "count", "version"]
-WEIGHTS = dict(load=3, turn=30, event=3, reply=20, exit=3, stop=4, read=10, write=10, enter=8, call=6, free=1)
+WEIGHTS = dict(load=3, turn=30, event=3, reply=20, exit=3, stop=4, reset=3, read=10, write=10, enter=8, call=6, free=1)
 PIECE = 4096  # so many bytes of a larger data region are compared after each call
 
 
@@ -114,7 +114,7 @@ class World:
     def event(self):
         return (self.number(),)
 
-    stop = event
+    stop = reset = event
 
     def free(self):
         return ()

@@ -114,6 +114,12 @@ class Model:
         sandbox.ended = Event(STOPPED)
         return True
 
+    def reset(self, number):
+        sandbox = self.at(number)
+        if sandbox:
+            self.sandboxes[number] = Sandbox(sandbox.part)
+        return bool(sandbox)
+
     def has_data(self, number, at, length):
         sandbox = self.at(number)
         return bool(sandbox) and (length == 0 or sandbox.part.has_data(at, length))
@@ -202,6 +208,15 @@ class StopForgetsData(Model):
         return is_done
 
 
+class ResetKeepsAByte(Model):
+    def reset(self, number):
+        kept = self.at(number)
+        is_done = super().reset(number)
+        if is_done:
+            self.at(number).data[-1] = kept.data[-1]
+        return is_done
+
+
 class TrapCounts(Model):
     def turn(self, number, steps):
         before = super().event(number).kind
@@ -213,7 +228,7 @@ class TrapCounts(Model):
 
 PLANTS = {
     it.__name__: it
-    for it in (ReplyIsNoStep, ReadGoesPastTheRoom, EnterIsLoose, CallForgetsTheTurn, StopForgetsData, TrapCounts)
+    for it in (ReplyIsNoStep, ReadGoesPastTheRoom, EnterIsLoose, CallForgetsTheTurn, StopForgetsData, ResetKeepsAByte, TrapCounts)
 }
 
 # ---- the library
@@ -237,6 +252,7 @@ _CALLS = {
     "reply": (_BOOL, [_OF_WORLD, _WORD, _WORD, _WORD]),
     "exit": (_BOOL, [_OF_WORLD, _WORD, _WORD]),
     "stop": (_BOOL, [_OF_WORLD, _WORD]),
+    "reset": (_BOOL, [_OF_WORLD, _WORD]),
     "read": (_BOOL, [_OF_WORLD, _WORD, _WORD, _SIZE, _ROOM, _SIZE]),
     "write": (_BOOL, [_OF_WORLD, _WORD, _WORD, _BYTES, _SIZE]),
     "enter": (_BOOL, [_OF_WORLD, _WORD, _WORD, _ROOM]),
@@ -306,6 +322,9 @@ class Library:
 
     def stop(self, number):
         return self.calls.stop(self.world, number)
+
+    def reset(self, number):
+        return self.calls.reset(self.world, number)
 
     def read(self, number, at, length, room):
         buffer = ctypes.create_string_buffer(bytes([FILL]) * room, room + 1)

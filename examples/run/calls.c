@@ -39,7 +39,7 @@ static void no_world(void) {
     event.kind = event.a1 = 9;
     wanted(!sfi_run_call(&world, 0, 0, arguments, 1, &event) && event.kind == SFI_RUN_NONE && event.a1 == 0, "nor a function");
     wanted(sfi_run_until(&world, 0, arguments, 1, 1, &event) == SFI_RUN_NONE, "nor a turn up to a stop");
-    wanted(!sfi_run_stop(&world, 0) && !sfi_run_enter(&world, 0, 0, arguments) && !sfi_run_reply(&world, 0, 1, 1) &&
+    wanted(!sfi_run_stop(&world, 0) && !sfi_run_reset(&world, 0) && !sfi_run_enter(&world, 0, 0, arguments) && !sfi_run_reply(&world, 0, 1, 1) &&
                !sfi_run_read(&world, 0, 0, 0, &byte, 1) && !sfi_run_write(&world, 0, 0, &byte, 0),
            "each call says so");
 }
@@ -80,6 +80,19 @@ static void stops(struct sfi_run_world *world) {
     wanted(!sfi_run_enter(world, 0, data.base, arguments) && sfi_run_enter(world, 0, start, arguments), "it is entered again");
     wanted(sfi_run_turn(world, 0, 1000, &event) == SFI_RUN_CALL && sfi_run_stop(world, 0) && !sfi_run_reply(world, 0, 0, 0),
            "it is stopped at a call, and the call gets no reply");
+}
+
+/* `first` are the registers of the start, and `data` the data then. */
+static void resets(struct sfi_run_world *world, const struct sfi_run_registers *first, const uint8_t data[256]) {
+    struct sfi_run_registers now;
+    struct sfi_run_region region;
+    uint8_t bytes[256];
+    sfi_run_data(world, 0, &region);
+    sfi_run_write(world, 0, region.base + 255, (const uint8_t *)"z", 1);
+    wanted(sfi_run_reset(world, 0) && is_event(world, SFI_RUN_READY, 0, 0, 0) && sfi_run_steps(world, 0) == 0, "it is reset");
+    wanted(sfi_run_registers(world, 0, &now) && !memcmp(&now, first, sizeof now), "its registers are the first ones");
+    wanted(sfi_run_read(world, 0, region.base, 256, bytes, 256) && !memcmp(bytes, data, 256), "its data are the first ones");
+    wanted(!sfi_run_reset(world, 1) && !sfi_run_reset(world, UINT32_MAX), "who isn't there isn't reset");
 }
 
 static void functions(struct sfi_run_world *world) {
@@ -171,11 +184,18 @@ int main(int count, char **words) {
         return 3;
     no_world();
     load_file(words[1], &world);
+    struct sfi_run_registers first;
+    struct sfi_run_region region;
+    uint8_t data[256];
+    sfi_run_registers(&world, 0, &first);
+    sfi_run_data(&world, 0, &region);
+    wanted(sfi_run_read(&world, 0, region.base, sizeof data, data, sizeof data), "the first data are read");
     reads(&world);
     stops(&world);
     functions(&world);
     stops_at(&world);
     has_set(&world);
+    resets(&world, &first, data);
     wanted(!sfi_run_stop(&world, 1) && !sfi_run_stop(&world, UINT32_MAX), "who isn't there isn't stopped");
     sfi_run_free(&world);
     sfi_run_free(&world);

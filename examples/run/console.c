@@ -55,7 +55,8 @@ static void take(uint32_t i, uint32_t *word, uint32_t *sender) {
 }
 
 /* Replies to a call. Whether the turn goes on. */
-static bool serve(struct sfi_run_world *world, uint32_t i, const struct sfi_run_event *call) {
+static bool serve(struct sfi_run_world *world, uint32_t i, const struct sfi_run_event *call, void *context) {
+    (void)context;
     uint32_t a0 = call->a0, a1 = call->a1, count = a1;
     switch (call->number) {
     case EXIT: return !sfi_run_exit(world, i, a0);
@@ -94,7 +95,7 @@ int main(int count, char **words) {
     uint32_t sandboxes = (uint32_t)sfi_run_count(&world);
     for (; rounds > 0; rounds--)
         for (uint32_t i = 0; i < sandboxes; i++)
-            take_turn(&world, i, (uint32_t)quantum, serve, &event);
+            sfi_run_serve(&world, i, (uint64_t)quantum, serve, NULL, &event);
     for (uint32_t i = 0; i < sandboxes; i++)
         print_line(&world, i);
     sfi_run_free(&world);

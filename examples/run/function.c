@@ -20,24 +20,22 @@ static uint32_t upper(struct sfi_run_world *world, uint32_t i, uint32_t at, uint
     return length;
 }
 
-static bool serve(struct sfi_run_world *world, uint32_t i, const struct sfi_run_event *call) {
+static bool serve(struct sfi_run_world *world, uint32_t i, const struct sfi_run_event *call, void *context) {
+    (void)context;
     if (call->number == EXIT)
-        return !sfi_run_exit(world, i, call->a0);
+        return sfi_run_exit(world, i, call->a0);
     return sfi_run_reply(world, i, upper(world, i, call->a0, call->a1), call->a1);
 }
 
 /* Calls the function on a text, which gets what it makes of it: whether it returned. */
 static bool call(struct sfi_run_world *world, uint32_t function, char *text, uint32_t *number) {
     struct sfi_run_region data;
-    struct sfi_run_event event;
     uint32_t length = (uint32_t)strlen(text);
     sfi_run_data(world, 0, &data);
     const uint32_t arguments[8] = {data.base, length};
-    if (!sfi_run_write(world, 0, data.base, (uint8_t *)text, length) || !sfi_run_enter(world, 0, function, arguments) ||
-        take_turn(world, 0, STEPS, serve, &event) != SFI_RUN_EXITED)
-        return false;
-    *number = event.number;
-    return sfi_run_read(world, 0, data.base, length, (uint8_t *)text, length);
+    return sfi_run_write(world, 0, data.base, (uint8_t *)text, length) &&
+           sfi_run_function(world, 0, function, arguments, STEPS, serve, NULL, number) &&
+           sfi_run_read(world, 0, data.base, length, (uint8_t *)text, length);
 }
 
 int main(int count, char **words) {
@@ -49,7 +47,7 @@ int main(int count, char **words) {
         return 3;
     load_file(words[1], &world);
     sfi_run_registers(&world, 0, &registers);
-    take_turn(&world, 0, STEPS, serve, &event); /* it exits at its start; the function is the bundle after that */
+    sfi_run_serve(&world, 0, STEPS, serve, NULL, &event); /* it exits at its start; the function is the bundle after that */
     for (int k = 2; k < count; k++) {
         if (!call(&world, registers.pc + 16, words[k], &number)) {
             fprintf(stderr, "the plug-in didn't return\n");

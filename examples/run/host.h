@@ -1,6 +1,5 @@
-/* What the hosts here share: an image is read from a file, checked and loaded, and a sandbox takes a turn with its calls
- * served. */
-#include "sfi_run.h"
+/* What the hosts here share: an image is read from a file, checked and loaded. */
+#include "sfi_run_serve.h"
 #include <stdio.h>
 #include <stdlib.h>
 
@@ -29,19 +28,4 @@ static inline void load_file(const char *name, struct sfi_run_world *world) {
         fprintf(stderr, "%s needs more memory\n", name);
     if (status != SFI_RUN_LOADED)
         exit((int)status);
-}
-
-/* Replies to the call at which sandbox i stands. Whether the turn goes on. */
-typedef bool serving(struct sfi_run_world *world, uint32_t i, const struct sfi_run_event *call);
-
-/* A turn of at most so many steps, of which each reply is one: a call for which none is left is served in the next turn.
- * Returns and writes how the sandbox stands then, as sfi_run_event does. */
-static inline uint32_t take_turn(struct sfi_run_world *world, uint32_t i, uint32_t steps, serving *serve,
-                                 struct sfi_run_event *event) {
-    uint64_t end = sfi_run_steps(world, i) + steps, now;
-    while ((now = sfi_run_steps(world, i)) < end)
-        if (sfi_run_turn(world, i, (uint32_t)(end - now), event) != SFI_RUN_CALL || sfi_run_steps(world, i) == end ||
-            !serve(world, i, event))
-            break;
-    return sfi_run_event(world, i, event);
 }

@@ -129,7 +129,7 @@ static void call(struct sfi_run_world *world) {
     bool is_there = sfi_run_data(world, i, &data);
     wanted(sfi_run_registers(world, i, &registers) == is_there, "who has data has registers");
     uint32_t at = data.base - 16 + below(data.size + 32);
-    switch (below(9)) {
+    switch (below(10)) {
     case 0: sfi_run_reply(world, i, below(99), below(99)); break;
     case 1: sfi_run_exit(world, i, below(99)); break;
     case 2: wanted(!sfi_run_read(world, i, at, length, bytes, length / 2) || length == 0, "no read beyond the room"); break;
@@ -137,7 +137,8 @@ static void call(struct sfi_run_world *world) {
     case 4: sfi_run_write(world, i, at, bytes, length); break;
     case 5: sfi_run_enter(world, i, registers.pc - below(64), (uint32_t[8]){at, length}); break;
     case 6: sfi_run_stop(world, i); break;
-    case 7: sfi_run_call(world, i, registers.pc - below(64), (uint32_t[8]){at, length}, below(200), &event); break;
+    case 7: wanted(sfi_run_reset(world, i) == is_there, "who is there is reset"); break;
+    case 8: sfi_run_call(world, i, registers.pc - below(64), (uint32_t[8]){at, length}, below(200), &event); break;
     default: sfi_run_turn(world, i, below(200), &event);
     }
     wanted((sfi_run_event(world, i, &event) == SFI_RUN_NONE) == !is_there, "who has data has an event");

@@ -34,7 +34,8 @@ static struct mail take(uint32_t i) {
 }
 
 /* Replies to a call. Whether the turn goes on. */
-static bool serve(struct sfi_run_world *world, uint32_t i, const struct sfi_run_event *call) {
+static bool serve(struct sfi_run_world *world, uint32_t i, const struct sfi_run_event *call, void *context) {
+    (void)context;
     struct mail reply = {UINT32_MAX, call->a1};
     if (call->number == EXIT)
         return !sfi_run_exit(world, i, call->a0);
@@ -57,7 +58,7 @@ int main(int count, char **words) {
     uint32_t sandboxes = (uint32_t)sfi_run_count(&world);
     for (; rounds > 0 && sfi_run_event(&world, 0, &event) != SFI_RUN_EXITED; rounds--)
         for (uint32_t i = 0; i < sandboxes; i++)
-            take_turn(&world, i, (uint32_t)quantum, serve, &event);
+            sfi_run_serve(&world, i, (uint64_t)quantum, serve, NULL, &event);
     for (uint32_t i = 0; i < sandboxes; i++)
         if (sfi_run_event(&world, i, &event) == SFI_RUN_EXITED)
             printf("%" PRIu32 " exited with %" PRIu32 "\n", i, event.number);

@@ -1,6 +1,6 @@
 /* Calls both ways: order IMAGE, of order_plugin.c. The plug-in's qsort sorts by a function of the host, which calls a function
  * of the plug-in while that call waits; and the host's qsort sorts by the same function of the plug-in. */
-#include "sfi_run.h"
+#include "sfi_run_serve.h"
 #include <stdio.h>
 #include <stdlib.h>
 
@@ -11,22 +11,20 @@ static uint32_t numbers, sort, digit, compare; /* addresses */
 
 static int by_digit(uint32_t a, uint32_t b);
 
+static bool serve(struct sfi_run_world *of, uint32_t i, const struct sfi_run_event *call, void *context) {
+    (void)context;
+    return call->pc == compare && sfi_run_reply(of, i, (uint32_t)by_digit(call->a0, call->a1), call->a1);
+}
+
 /* The result of a function of one argument, also while a call of the plug-in waits. */
 static int result_of(uint32_t function, uint32_t argument) {
     const uint32_t arguments[8] = {argument};
-    struct sfi_run_registers waiting;
-    struct sfi_run_event event;
-    bool waits = sfi_run_call_back(&world, 0, function, arguments, &waiting);
-    bool runs = waits || sfi_run_enter(&world, 0, function, arguments);
-    while (runs && sfi_run_turn(&world, 0, 100000, &event) == SFI_RUN_CALL && event.pc == compare)
-        sfi_run_reply(&world, 0, (uint32_t)by_digit(event.a0, event.a1), event.a1);
-    if (!runs || event.number != 0 || !sfi_run_exit(&world, 0, event.a0)) {
+    uint32_t result;
+    if (!sfi_run_function(&world, 0, function, arguments, 100000, serve, NULL, &result)) {
         fprintf(stderr, "a function doesn't return\n");
         exit(1);
     }
-    if (waits)
-        sfi_run_set_registers(&world, 0, &waiting);
-    return (int)event.a0;
+    return (int)result;
 }
 
 static int by_digit(uint32_t a, uint32_t b) { return result_of(digit, a) - result_of(digit, b); }

@@ -23,7 +23,7 @@ succeeds "the libraries are linked" "$top/tools/libraries.py" sfi_run "$library"
 
 # ---- the hosts: a command line for each example of each language
 declare -A hosts=()
-examples=(add console function messages order words)
+examples=(add console function messages order tally words)
 warnings=(-O2 -Wall -Wextra -pedantic -Werror -I"$top/crates/sfi_run/include" -I"$top/crates/sfi_c/include")
 
 build_c() {
@@ -141,6 +141,11 @@ X 1
 status 0" "$room/turn.image" plug-in "Level 42" x
     says "a function on a text that is too long" function "AB 2
 status 1" "$room/turn.image" ba "$far"
+    image "$here/tally.s" 2 tally
+    says "a plug-in that begins anew" tally "105
+112
+103
+status 0" "$room/tally.image" 5 7 new 3
     # 7, 11 and 13, and their squares; the steps of what is cut off are those of `sfi run`
     image "$here/squares.s" 2 squares
     says "two plug-ins" messages "0 -> 1: 7

@@ -9,15 +9,16 @@
 
 enum { EXIT = 0, PRICE = 2, STEPS = 10000 };
 
-static bool serve(struct sfi_run_world *world, uint32_t i, const struct sfi_run_event *call) {
+static bool serve(struct sfi_run_world *world, uint32_t i, const struct sfi_run_event *call, void *context) {
+    (void)context;
     if (call->number == EXIT)
-        return !sfi_run_exit(world, i, call->a0);
+        return sfi_run_exit(world, i, call->a0);
     return sfi_run_reply(world, i, call->number == PRICE ? 10 * call->a0 + call->a1 : UINT32_MAX, call->a1);
 }
 
 /* For so many steps in all, however often the plug-in calls: how it stands then. */
 static uint32_t run(struct sfi_run_world *world, struct sfi_run_event *event) {
-    return take_turn(world, 0, STEPS, serve, event);
+    return sfi_run_serve(world, 0, STEPS, serve, NULL, event);
 }
 
 /* What the plug-in's table says. It may say anything: each call below answers whether it holds. */
@@ -39,14 +40,11 @@ static bool find(struct sfi_run_world *world, struct table *table) {
 }
 
 static bool capitalize(struct sfi_run_world *world, const struct table *table, char *text, uint32_t *number) {
-    struct sfi_run_event event;
     size_t length = strlen(text);
     const uint32_t arguments[8] = {table->text, (uint32_t)length};
-    if (length > table->room || !sfi_run_write(world, 0, table->text, (uint8_t *)text, length) ||
-        !sfi_run_enter(world, 0, table->capitalize, arguments) || run(world, &event) != SFI_RUN_EXITED)
-        return false;
-    *number = event.number;
-    return sfi_run_read(world, 0, table->text, length, (uint8_t *)text, length);
+    return length <= table->room && sfi_run_write(world, 0, table->text, (uint8_t *)text, length) &&
+           sfi_run_function(world, 0, table->capitalize, arguments, STEPS, serve, NULL, number) &&
+           sfi_run_read(world, 0, table->text, length, (uint8_t *)text, length);
 }
 
 int main(int count, char **words) {

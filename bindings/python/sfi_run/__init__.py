@@ -384,6 +384,11 @@ class Sandbox:
         if not self._changed("stop"):
             raise NotRunning(f"sandbox {self._number} has stopped already")
 
+    def reset(self) -> None:
+        """Takes it back to what it was when its world was made, whatever it did and wherever it stands: its data, pc and
+        registers are those of then, it is ready, and has done 0 steps. No call that was told before is replied to any more."""
+        self._changed("reset")
+
     def enter(self, pc: int, arguments: Sequence[int] = ()) -> None:
         """Makes it ready at pc, where it has stopped, with at most eight arguments in a0 to a7 and 0 in those that are
         left. A function that returns calls its first gate of service 0. Its data stay, and its steps are counted on. Raises

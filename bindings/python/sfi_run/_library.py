@@ -61,6 +61,7 @@ _CALLS: dict[str, tuple[Any, list[Any]]] = {
     "read": (ctypes.c_bool, [_WORLD, _WORD, _WORD, _SIZE, _ROOM, _SIZE]),
     "write": (ctypes.c_bool, [_WORLD, _WORD, _WORD, _BYTES, _SIZE]),
     "stop": (ctypes.c_bool, [_WORLD, _WORD]),
+    "reset": (ctypes.c_bool, [_WORLD, _WORD]),
     "enter": (ctypes.c_bool, [_WORLD, _WORD, _WORD, ctypes.POINTER(_WORD)]),
     "call_back": (ctypes.c_bool, [_WORLD, _WORD, _WORD, ctypes.POINTER(_WORD), ctypes.POINTER(Registers)]),
     "steps": (ctypes.c_uint64, [_WORLD, _WORD]),

@@ -294,6 +294,19 @@ class Running(unittest.TestCase):
             with self.assertRaises(sfi_run.NotWaiting):
                 call.reply(0)
 
+    def test_reset(self):
+        with sfi_run.World(built(LOOPS)) as world:
+            sandbox = world[0]
+            first = (sandbox.registers, sandbox.read(DATA, 256))
+            call = sandbox.turn(100)
+            sandbox.write(DATA + 255, b"x")
+            sandbox.reset()
+            self.assertEqual((sandbox.registers, sandbox.read(DATA, 256)), first)
+            self.assertEqual((sandbox.event, sandbox.steps), (sfi_run.Ready(), 0))
+            sandbox.turn(100)
+            with self.assertRaises(sfi_run.NotWaiting):
+                call.reply(0)
+
     def test_data(self):
         self.assertEqual(self.sandbox.read(DATA, 256), bytes(256))
         self.sandbox.write(DATA + 250, b"\1\0\2\0\3\4")

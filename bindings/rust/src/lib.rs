@@ -408,6 +408,12 @@ impl Sandbox<'_> {
         is_done.then_some(()).ok_or(CallError::NotRunning)
     }
 
+    /// Takes it back to what it was when its world was loaded, whatever it did and wherever it stands: its data, pc and
+    /// registers are those of then, it is ready, and has done 0 steps.
+    pub fn reset(&mut self) {
+        unsafe { sys::sfi_run_reset(self.world, self.number) };
+    }
+
     /// Makes it ready at pc, where it has stopped, with these arguments in a0 to a7. A function that returns calls its first
     /// gate of service 0. Its data stay, and its steps are counted on. The error is [`CallError::NotEntered`].
     pub fn enter(&mut self, pc: u32, arguments: &[u32; 8]) -> Result<(), CallError> {

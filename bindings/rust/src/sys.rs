@@ -123,6 +123,7 @@ extern "C" {
         length: usize,
     ) -> bool;
     pub fn sfi_run_stop(world: *mut World, sandbox: u32) -> bool;
+    pub fn sfi_run_reset(world: *mut World, sandbox: u32) -> bool;
     pub fn sfi_run_enter(world: *mut World, sandbox: u32, pc: u32, arguments: *const u32) -> bool;
     pub fn sfi_run_steps(world: *mut World, sandbox: u32) -> u64;
     pub fn sfi_run_registers(world: *mut World, sandbox: u32, registers: *mut Registers) -> bool;

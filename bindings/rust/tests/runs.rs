@@ -347,6 +347,18 @@ fn what_loops_is_stopped_and_entered_again() {
 }
 
 #[test]
+fn reset() {
+    let mut world = World::load(&built(LOOPS)).unwrap();
+    let mut sandbox = world.sandbox(0).unwrap();
+    let first = (sandbox.registers(), sandbox.read_vec(DATA, 256));
+    assert!(matches!(sandbox.turn(100), Event::Call(_)));
+    sandbox.write(DATA + 255, &[7]).unwrap();
+    sandbox.reset();
+    assert_eq!((sandbox.registers(), sandbox.read_vec(DATA, 256)), first);
+    assert_eq!((sandbox.event(), sandbox.steps()), (Event::Ready, 0));
+}
+
+#[test]
 fn a_call_that_is_kept_gets_no_second_reply() {
     let mut world = twice();
     let mut sandbox = world.sandbox(0).unwrap();

@@ -96,10 +96,10 @@ at_region base size a fits c =
     let is : a ≡ (base + k) % 2 ^ 32 = x.2 in
     (omega arith, omega arith)
 
-added_outside : (m : Bytes) (base size : ℕ) (front : List ℕ) (a : ℕ) → base + size ≤ 2 ^ 32 → (Holds (region base size) a → ⊥) → byte_at (added m base size front) a ≡ byte_at m a
+pub added_outside : (m : Bytes) (base size : ℕ) (front : List ℕ) (a : ℕ) → base + size ≤ 2 ^ 32 → (Holds (region base size) a → ⊥) → byte_at (added m base size front) a ≡ byte_at m a
 added_outside m base size front a fits out = others_stay m (addresses base size) (front ++ replicate (size - length front) 0) a (λ c. out (at_region base size a fits c))
 
-added_inside : (m : Bytes) (base size : ℕ) (front : List ℕ) (k : ℕ) → length front ≤ size → base + size ≤ 2 ^ 32 → k < size
+pub added_inside : (m : Bytes) (base size : ℕ) (front : List ℕ) (k : ℕ) → length front ≤ size → base + size ≤ 2 ^ 32 → k < size
     → byte_at (added m base size front) (base + k) ≡ Some (slice_index (front ++ replicate (size - length front) 0) k)
 added_inside m base size front k room fits below =
     let bytes = front ++ replicate (size - length front) 0 in

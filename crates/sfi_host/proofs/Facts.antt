@@ -1,9 +1,11 @@
 -- What holds of the definitions, of safe worlds and of plans: laws, for proofs here and in the crates above.
 use Rattle.rv_step.proofs.Facts.{one_step, some_step}
 use Rattle.sfi_host.specs.Callbacks.{PutBackIsChange}
+use Rattle.sfi_host.specs.Resetting.{ResetIsFirst}
 use Rattle.sfi_host.specs.Laws.{SomeMachine, OneMachine, NeighboursAreChanges, CallsAreTyped, AnswersAreReplies}
 use Rattle.sfi_host.specs.Steps.{StepsAreOwn}
 use Rattle.sfi_host.proofs.Callbacks.{put_back_is}
+use Rattle.sfi_host.proofs.FirstAgain as first
 use Rattle.sfi_host.proofs.Neighbours as neighbours
 use Rattle.sfi_host.proofs.OwnSteps as own
 use Rattle.sfi_host.proofs.SafeSeats as seats
@@ -29,3 +31,6 @@ answers_are_replies = seats.answers_are
 
 pub put_back_is_change : PutBackIsChange
 put_back_is_change = put_back_is
+
+pub reset_is_first : ResetIsFirst
+reset_is_first = first.reset_is_first

@@ -26,6 +26,9 @@ pub mod Stops
 pub mod Changing
 pub mod Entries
 pub mod Stopping
+pub mod Refilling
+pub mod ResetSeats
+pub mod FirstAgain
 pub mod SetRegisters
 pub mod Callbacks
 pub mod AtGate

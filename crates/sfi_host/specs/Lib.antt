@@ -19,6 +19,7 @@ pub mod Loading
 pub mod Changing
 pub mod Entering
 pub mod Stopping
+pub mod Resetting
 pub mod Sandboxes
 pub mod Entries
 pub mod Blocks

@@ -11,18 +11,27 @@ use Rattle.sfi_image.specs.Spans.{code_region, data_region}
 use Rattle.sfi_host.specs.declared.status.Status.{Status}
 use Rattle.sfi_host.specs.Regions.{is_in}
 
--- where a sandbox lies: its code region, its data region, and its gates;
--- and the format of its image
+-- What a sandbox has from its image but its code's bytes: its format; where it lies, which is its
+-- code region, its data region, and its gates; and what it begins with, which is its start, and the
+-- first of its data bytes.
 pub record Bounds : Type 0 where
   pub format : Format
   pub code : Span
   pub «data» : Span
   pub gates : List Gate
+  pub start : ℕ
+  pub init : List ℕ
 
 -- those of a sandbox of an image
 abbrev pub bounds_of : Part → Bounds
-bounds_of p =
-    record { format = p.format; code = code_region p; «data» = data_region p; gates = p.gates }
+bounds_of p = record {
+  format = p.format;
+  code = code_region p;
+  «data» = data_region p;
+  gates = p.gates;
+  start = p.start;
+  init = p.init;
+}
 
 -- the address lies in its code or its data
 abbrev pub is_own : Bounds → ℕ → Bool

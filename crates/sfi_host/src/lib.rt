@@ -23,6 +23,7 @@ mod message;
 mod places;
 mod program;
 mod region;
+mod resetting;
 mod sandbox;
 mod services;
 mod session;

@@ -46,6 +46,8 @@ fn first_sandbox(
 {
     let mut gates = Vec::with_capacity(alloc, part.gates.len())?;
     gates.extend_from_slice(&part.gates)?;
+    let mut init = Vec::with_capacity(alloc, part.init.len())?;
+    init.extend_from_slice(part.init)?;
     let code = Region {
         base: part.code_base,
         size: part.code.len() as u32,
@@ -59,6 +61,8 @@ fn first_sandbox(
         code,
         data,
         gates,
+        start: part.start,
+        init,
         cpu: fresh_cpu(format, code, data, part.start),
         status: Status::Ready,
         steps: 0,

@@ -19,14 +19,17 @@ use sfi_policy::{
     FIRST_FRAME, Format, STACK_POINTER,
 };
 
-/// Where a sandbox lies, its pc and registers, what it may still do, and how many steps it did. Its
-/// bytes lie in the world's memory.
+/// Where a sandbox lies, what it begins with, its pc and registers, what it may still do, and how many
+/// steps it did. Its bytes lie in the world's memory; `init` is a copy of the first of its data bytes, as
+/// the image has them.
 #[derive(Drop)]
 pub struct Sandbox {
     pub format: Format,
     pub code: Region,
     pub data: Region,
     pub gates: Vec<Gate>,
+    pub start: u32,
+    pub init: Vec<u8>,
     pub cpu: Cpu,
     pub status: Status,
     pub steps: u64,

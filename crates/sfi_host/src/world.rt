@@ -20,6 +20,7 @@ ghost use Rattle.sfi_host.specs.Worlds.{slots_of, status_at, steps_at, data_byte
 
 mod calling_back;
 mod debugging;
+mod resetting;
 mod setting;
 
 use crate::calls::{ask, asked_by};

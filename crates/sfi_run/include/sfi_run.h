@@ -15,7 +15,7 @@
  *
  * The calls read nothing but their arguments and the world, keep nothing elsewhere, start no thread, and read and write
  * no file. sfi_run_load takes memory by malloc and realloc, for the world of an accepted image alone; sfi_run_load and
- * sfi_run_free give it back by free; the other calls do neither. Each returns: sfi_run_turn, sfi_run_until and
+ * sfi_run_free give it back by free; the calls of a console do so, too, as they say; the other calls do neither. Each returns: sfi_run_turn, sfi_run_until and
  * sfi_run_call after at most the steps that they were given. A thread with 64 KiB of stack had room for each where that was measured.
  *
  * What a caller owes, since nothing checks it:
@@ -245,6 +245,15 @@ bool sfi_run_exit(struct sfi_run_world *world, uint32_t sandbox, uint32_t number
  */
 bool sfi_run_stop(struct sfi_run_world *world, uint32_t sandbox);
 
+/*
+ * Takes a sandbox back to what sfi_run_load made of it, whatever it did and wherever it stands: its data are those of the
+ * image and then zeros, its pc and registers are those of its start, it is ready, and its count of steps is 0. So a plug-in
+ * begins anew for the next one who calls it: nothing is left of what it kept, and no other sandbox changes. The image isn't
+ * needed for it, nothing is checked anew, and no memory is taken: it costs what writing its data does. Returns false where
+ * there is no such sandbox.
+ */
+bool sfi_run_reset(struct sfi_run_world *world, uint32_t sandbox);
+
 /* ---- between turns: whether the sandbox is ready, stands at a call or has stopped */
 
 /*
@@ -310,6 +319,41 @@ bool sfi_run_data(struct sfi_run_world *world, uint32_t sandbox, struct sfi_run_
  * which no step of an address is open; and a host takes a sandbox that it called back to its call (sfi_run_call_back).
  */
 bool sfi_run_set_registers(struct sfi_run_world *world, uint32_t sandbox, const struct sfi_run_registers *registers);
+
+/* ---- the console: the host of `sfi run`, ready made (docs/GATES.md says what each service of it does) */
+
+/* A console, or none. Begin with `struct sfi_run_console console = SFI_RUN_NO_CONSOLE;`. What is said above of how a world
+ * is kept, moved, freed and used by threads holds of it, too. Both fields are the library's own. */
+struct sfi_run_console {
+    uint32_t held;
+    void *at;
+};
+#define SFI_RUN_NO_CONSOLE {0, NULL}
+
+/*
+ * Frees the console that was there, and makes one for so many sandboxes, numbered from 0, each of which reads the same input
+ * from its beginning. The input is copied. Returns false where there is no memory for it; there is no console then.
+ */
+bool sfi_run_console_new(uint32_t sandboxes, const uint8_t *input, size_t length, struct sfi_run_console *console);
+
+/* Frees the console. Where there was none, nothing happens. */
+void sfi_run_console_free(struct sfi_run_console *console);
+
+/*
+ * A turn of a sandbox of the world, for at most so many steps, each call of which the console answers: it ends where the steps
+ * are used, or the sandbox exits, traps or yields. A call that comes when the steps are used is answered in the next turn.
+ * sfi_run_event says how the sandbox stands then. Returns false where there is no world or no console, or there was no memory
+ * for what a put appends: then the sandbox stands at that call, all before it is done, and the next turn makes the call again.
+ * It takes memory for what is put alone.
+ */
+bool sfi_run_console_turn(struct sfi_run_console *console, struct sfi_run_world *world, uint32_t sandbox, uint32_t steps);
+
+/* How many bytes a sandbox has put, at most 1048576; 0 where there is no such sandbox. */
+size_t sfi_run_console_written(struct sfi_run_console *console, uint32_t sandbox);
+
+/* Copies `room` of these bytes, from the one at `from` on, to `bytes`: all of them, or none and returns false, where there are
+ * fewer or no such sandbox. */
+bool sfi_run_console_read(struct sfi_run_console *console, uint32_t sandbox, size_t from, uint8_t *bytes, size_t room);
 
 #ifdef __cplusplus
 }

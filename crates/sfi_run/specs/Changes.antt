@@ -9,6 +9,7 @@ use Rattle.sfi_host.specs.Entering.{IsAtEntry, with_entry}
 use Rattle.sfi_host.specs.Joint.{Machine, IsMachine, call_of, joint as joint_run, replied}
 use Rattle.sfi_host.specs.Moves.{HaveRun}
 use Rattle.sfi_host.specs.Plans.{IsJoint}
+use Rattle.sfi_host.specs.Resetting.{with_reset}
 use Rattle.sfi_host.specs.Setting.{with_hart}
 use Rattle.sfi_host.specs.Slots.{Slot}
 use Rattle.sfi_host.specs.Stopping.{with_stop}
@@ -88,3 +89,10 @@ pub record HasCalled (w n : Sandboxes) (sandbox pc : ℕ) (arguments : List ℕ)
 pub record HasBeenStopped (w n : Sandboxes) (sandbox : ℕ) : Type 0 where
   pub done : n ≡ with_stop w sandbox
   pub others : OthersAreSame w sandbox n
+
+-- it is what it was when its world was loaded
+pub record HasBeenReset (w n : Sandboxes) (sandbox : ℕ) : Type 0 where
+  pub done : n ≡ with_reset w sandbox
+  pub others : OthersAreSame w sandbox n
+  pub outside : StaysOutsideData w n.bytes
+  pub entry : IsAtEntry n sandbox

@@ -11,6 +11,7 @@ mod held;
 mod holding;
 mod names;
 mod parts;
+mod resets;
 mod told;
 mod turns;
 mod version;
@@ -24,6 +25,7 @@ pub use callbacks::sfi_run_call_back;
 pub use held::Held;
 pub use holding::SfiRunWorld;
 pub use names::{sfi_run_api, sfi_run_export, sfi_run_import};
+pub use resets::sfi_run_reset;
 pub use told::{SfiRunEvent, SfiRunRegion, SfiRunRegisters};
 pub use turns::{
     sfi_run_call, sfi_run_event, sfi_run_exit, sfi_run_reply, sfi_run_turn, sfi_run_until,

@@ -160,13 +160,21 @@ void sfi_run_free(struct sfi_run_world *world) {
     world->at = NULL;
 }
 
+/* As at first, over data that are there. */
+static void make_first(struct native_sandbox *it) {
+    const struct sfi_sandbox *s = it->text;
+    memcpy(it->hart.data, s->first_data, s->init);
+    memset(it->hart.data + s->init, 0, s->data_size - s->init);
+    begin(it, s->start);
+    it->steps = 0;
+}
+
 static bool make_sandbox(const struct sfi_sandbox *s, struct native_sandbox *it) {
     it->text = s;
     it->hart.data = calloc(1, s->data_size);
     if (it->hart.data == NULL)
         return false;
-    memcpy(it->hart.data, s->first_data, s->init);
-    begin(it, s->start);
+    make_first(it);
     return true;
 }
 
@@ -351,6 +359,14 @@ bool sfi_run_stop(struct sfi_run_world *world, uint32_t sandbox) {
     if (it == NULL || it->kind != SFI_RUN_READY)
         return false;
     end(it, SFI_RUN_STOPPED, 0, 0);
+    return true;
+}
+
+bool sfi_run_reset(struct sfi_run_world *world, uint32_t sandbox) {
+    struct native_sandbox *it = sandbox_at(world, sandbox);
+    if (it == NULL)
+        return false;
+    make_first(it);
     return true;
 }
 
