@@ -33,6 +33,7 @@ def parsed(words):
     parser.add_argument("--format", type=format_of, choices=[1, 2, WORDS], default=2, help="the image's format; 2 if absent")
     parser.add_argument("--passes", default=",".join(PASSES), metavar="NAMES",
                         help="the passes that make the code cheaper; %(default)s if absent")
+    parser.add_argument("--movable", action="store_true", help="addresses are made from the bases of the sandbox's regions at run time")
     options = parser.parse_args(words)
     options.passes = tuple(name for name in options.passes.split(",") if name)
     if not set(options.passes) <= set(PASSES):
@@ -45,7 +46,7 @@ def parsed(words):
 def rewrite(options, path):
     """Writes what becomes of one file."""
     with open(path, **ENCODING) as file:
-        text = rewritten(os.path.basename(path), file.read(), options.passes, options.format)
+        text = rewritten(os.path.basename(path), file.read(), options.passes, options.format, options.movable)
     output = os.path.join(options.into, os.path.basename(path)) if options.into else options.output
     with open(output or sys.stdout.fileno(), "w", closefd=output is not None, **ENCODING) as file:
         file.write(text)

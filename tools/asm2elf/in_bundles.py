@@ -2,7 +2,7 @@
 table. `as` keeps the bundles: `.p2align 4,,N-1` before a group of N bytes pads where the group would cross a bundle's end,
 and `.fill` before a call makes it end its bundle. How many nops that takes is the affair of the pass `packing`."""
 from control import is_call
-from instructions import is_access, offset_and_base, written
+from instructions import NEAR, RELATIVE, Op, is_access, offset_and_base, written
 from shown import MOVES
 from sizes import number_parts
 from spelling import plain, short
@@ -89,8 +89,7 @@ class InBundles(Writer):
         elif word == "jal":
             self.group(plain(op), ends=is_call(op))
         elif word == "la":
-            for text in (f"lui {operands[0]}, %hi({operands[1]})", f"addi {operands[0]}, {operands[0]}, %lo({operands[1]})"):
-                self.group(text, *self.masks_after(operands[0]))
+            self.address(op)
         elif word == "li":
             for part in number_parts(op):
                 self.one(part)
@@ -98,6 +97,27 @@ class InBundles(Writer):
             self.one(op)
         if op.place is None and word in MOVES:
             self.tell_frame(operands[0], operands[-1])
+
+    def address(self, op):
+        """Gets an address into a register. Masks make that of `sp` relative to the data base."""
+        register, text = op.operands
+        masks = self.masks_after(register)
+        if op.address == NEAR:
+            self.group(f"addi {register}, x26, %lo({text})", *masks)
+        elif op.address == RELATIVE and not masks:
+            self.relative(register, text, op.wide)
+        else:
+            self.group(f"lui {register}, %hi({text})", *masks)
+            self.group(f"addi {register}, {register}, %lo({text})", *masks)
+
+    def relative(self, register, text, is_wide):
+        """An address in a region, and the region's base: tools/sfi_elf/moving.py makes both of the address as it is linked."""
+        upper = f"lui {register}, %hi({text})"
+        if is_wide:
+            self.group(upper, f"add {register}, {register}, x26")
+        else:
+            self.out += ["\t.p2align 4,,5", "\t" + upper, RVC, f"\tc.add {register}, x26", NORVC]
+        self.group(f"addi {register}, {register}, %lo({text})")
 
     def one(self, op):
         name = written(op)
@@ -130,6 +150,5 @@ class InBundles(Writer):
         if not self.is_weak(name):
             self.group(f"jal ra, {name}", ends=True)
             return
-        self.group(f"lui ra, %hi({name})")
-        self.group(f"addi ra, ra, %lo({name})")
+        self.address(Op("la", ("ra", name), None, address=RELATIVE if self.is_movable else ""))
         self.group(*(text.format("ra") for text in MASKS_OF_JUMP), "jalr ra, 0(x31)", ends=True)

@@ -1,5 +1,5 @@
 """GNU assembly of code in words, the third format: what each instruction becomes. docs/SOURCE.md has the table."""
-from instructions import LOADS, is_access, offset_and_base, written
+from instructions import LOADS, RELATIVE, Op, is_access, offset_and_base, written
 from sizes import number_parts
 from spelling import plain, short
 from typed import DATA, is_free_step, is_move, masked_base
@@ -59,9 +59,7 @@ class InWords(Writer):
         if word in ("ret", "jr", "jalr"):
             self.jump(op)
         elif word == "la":
-            for text in self.address(*op.operands):
-                self.wide(text)
-                self.mask(op.operands[0])
+            self.address(op)
         elif word == "li":
             parts = number_parts(op)
             for part, after in zip(parts, [*parts[1:], following]):
@@ -71,11 +69,16 @@ class InWords(Writer):
         else:
             self.one(op, following)
 
-    def address(self, register, text):
-        """How an address gets into a register: from the data base, where it is that of a small object of this file."""
-        if self.small.is_near(text):
-            return [f"addi {register}, x26, %lo({text})"]
-        return [f"lui {register}, %hi({text})", f"addi {register}, {register}, %lo({text})"]
+    def address(self, op):
+        """Gets an address into a register: from the data base, where it is that of a small object of this file. Masks make
+        that of a data register relative to the data base; tools/sfi_elf/moving.py does it for others."""
+        register, text = op.operands
+        parts = [f"lui {register}, %hi({text})", f"addi {register}, {register}, %lo({text})"]
+        for part in [f"addi {register}, x26, %lo({text})"] if self.small.is_near(text) else parts:
+            self.wide(part)
+            self.mask(register)
+        if op.address == RELATIVE and register not in DATA:
+            self.itself(Op("add", (register, register, "x26"), None))
 
     def mask(self, register):
         if register in DATA:
@@ -90,7 +93,7 @@ class InWords(Writer):
 
     def call(self, name):
         if self.is_weak(name):
-            self.wide(f"lui ra, %hi({name})", f"addi ra, ra, %lo({name})")
+            self.address(Op("la", ("ra", name), None, address=RELATIVE if self.is_movable else ""))
             self.wide(*(text.format("ra") for text in MASKS_OF_JUMP), "jalr ra, 0(x30)")
         else:
             self.wide(f"jal ra, {name}")

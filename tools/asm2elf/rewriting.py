@@ -1,12 +1,15 @@
 """One file of a compiler's assembly, rewritten to GNU assembly for a format."""
+from dataclasses import replace
+
 from assembly import Refused
 from debug_data import Unknown
 from improving import PASSES, improved
 from in_bundles import InBundles
 from in_words import InWords
+from instructions import NEAR, RELATIVE
 from naming import Names
 from program import Mark
-from small_data import SmallData
+from small_data import SmallData, is_near
 from soft import Order, without_soft_labels
 from telling import format_lines, frame_lines, margin_lines
 from trampolines import check_trampolines
@@ -17,7 +20,7 @@ SLACK = 512  # bytes of a branch's reach: `as` lengthens one that seems far whil
 SECTION = "..section "  # begins the name of a mark that stands before the code of a section
 
 
-def by_sections(unit):
+def by_sections(unit, is_movable):
     """The code of all sections, each after a mark with its name, and by name the order of its pieces."""
     marks = {piece.name for section in unit.sections.values() for piece in section.pieces if piece.is_mark}
     spoken = unit.spoken | unit.data_names | unit.globals
@@ -26,9 +29,17 @@ def by_sections(unit):
     code, orders = [], {}
     for key, section in unit.sections.items():
         pieces, soft = without_soft_labels(section, hard, taken)
+        if is_movable:
+            pieces = with_ways(pieces, unit.near_small())
         orders[key] = Order(pieces, soft)
         code += [Mark(SECTION + key, False, True, True), *pieces]
     return code, orders
+
+
+def with_ways(pieces, small):
+    """The pieces, each address of which is relative to a base, so that the program can be moved."""
+    return [piece if piece.is_mark or piece.word != "la" else
+            replace(piece, address=NEAR if is_near(small, piece.operands[1]) else RELATIVE) for piece in pieces]
 
 
 def parted(code):
@@ -53,9 +64,9 @@ class Code:
 class Rewriting:
     """A file for a format: its code by sections after the passes, and all else."""
 
-    def __init__(self, name, text, passes, image_format):
-        self.unit, self.format = Unit(name, text), image_format
-        code, self.orders = by_sections(self.unit)
+    def __init__(self, name, text, passes, image_format, is_movable=False):
+        self.unit, self.format, self.is_movable = Unit(name, text), image_format, is_movable
+        code, self.orders = by_sections(self.unit, is_movable)
         sections = [Code(order.kept) for order in self.orders.values()]
         ops = [op for section in sections for op in section.ops]
         check_trampolines(sections)
@@ -67,13 +78,13 @@ class Rewriting:
         self.code = parted(improved(code, passes, image_format, self.small, Names(".Lsfi."), SLACK) if ops else code)
 
     def text(self):
-        writer = (InWords if self.format == WORDS else InBundles)(self.unit, self.small, self.format)
+        writer = (InWords if self.format == WORDS else InBundles)(self.unit, self.small, self.format, self.is_movable)
         try:
             return writer.text(self.code, self.orders, self.told)
         except Unknown as unknown:
             raise Refused(self.unit.name, f"debug information that isn't known: {unknown}") from unknown
 
 
-def rewritten(name, text, passes=PASSES, image_format=WORDS):
+def rewritten(name, text, passes=PASSES, image_format=WORDS, is_movable=False):
     """The GNU assembly of a file, whose name and text are given."""
-    return Rewriting(name, text, passes, image_format).text()
+    return Rewriting(name, text, passes, image_format, is_movable).text()

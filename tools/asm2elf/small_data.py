@@ -9,6 +9,18 @@ SYMBOL = re.compile(r"([A-Za-z_.$][\w.$]*)([+-]\d+)?")
 LARGEST = 64  # bytes of a small object, as the option -msmall-data-limit has it
 
 
+def parts(text):
+    """The name and the number of a symbol plus a number."""
+    match = SYMBOL.fullmatch(text)
+    return match.group(1), int(match.group(2) or 0)
+
+
+def is_near(small, text):
+    """Whether an address is that of one of these objects, or one not farther from it than an object's size."""
+    name, addend = parts(text)
+    return name in small and -LARGEST <= addend <= LARGEST
+
+
 class SmallData:
     """The small objects of a file that its code speaks of."""
     farthest = 1 << 40  # the linker script sees to it that they lie in reach
@@ -18,18 +30,12 @@ class SmallData:
         self.labels, self.numbers = {}, {}
         for piece in code:
             if piece.word == "la" and self.is_near(piece.operands[1]):
-                name, addend = self.parts(piece.operands[1])
+                name, addend = parts(piece.operands[1])
                 self.labels[self.offset(name, addend)] = [piece.operands[1]]
 
-    @staticmethod
-    def parts(text):
-        match = SYMBOL.fullmatch(text)
-        return match.group(1), int(match.group(2) or 0)
-
     def is_near(self, text):
-        """Whether an address is that of a small object of this file, or one not farther from it than an object's size."""
-        name, addend = self.parts(text)
-        return name in self.small and -LARGEST <= addend <= LARGEST
+        """Whether an address is that of a small object of this file."""
+        return is_near(self.small, text)
 
     def offset(self, name, addend):
         number = self.numbers.setdefault(name, len(self.numbers))

@@ -15,7 +15,7 @@ from typed import WORDS
 
 EXAMPLES = os.path.join(TOP, "examples", "c")
 BINUTILS = "riscv64-unknown-elf-"
-FIXED = [f"-ffixed-x{number}" for number in (24, 25, 26, 27, 31)]
+FIXED = [f"-ffixed-x{number}" for number in (24, 25, 26, 27, 29, 30, 31)]
 OPTIONS = ["-O2", "-march=rv32imc", "-mabi=ilp32", "-fno-builtin", "-ffreestanding", *FIXED]
 
 
@@ -47,10 +47,10 @@ class Places(Folder):
         listing = subprocess.run([f"{BINUTILS}nm", "--defined-only", "--special-syms", path], capture_output=True, check=True, text=True).stdout
         return {name: int(place, 16) for place, kind, name in map(str.split, listing.splitlines()) if kind in "tTwW"}
 
-    def compare(self, name, image_format):
+    def compare(self, name, image_format, is_movable):
         assembly = subprocess.run([GCC, "-S", *OPTIONS, "-o", "-", os.path.join(EXAMPLES, f"{name}.c")], check=True,
                                   capture_output=True, text=True).stdout
-        rewriting = Rewriting(f"{name}.s", assembly, PASSES, image_format)
+        rewriting = Rewriting(f"{name}.s", assembly, PASSES, image_format, is_movable)
         wanted, count = self.labels(rewriting), 0
         for code in rewriting.code.values():
             for piece, place in zip(code, places(code, image_format)):
@@ -61,5 +61,21 @@ class Places(Folder):
 
     def test_examples(self):
         for name in ("json", "regex"):
-            for image_format in (1, 2):
-                self.compare(name, image_format)
+            for image_format, is_movable in ((1, False), (1, True), (2, False), (2, True), (WORDS, True)):
+                self.compare(name, image_format, is_movable)
+
+
+class Addresses(Folder):
+    """How a program that can be moved gets an address."""
+    TEXT = "main:\tla a0,far+8\n\tla a1,near\n\tla sp,far\n\tret\n\t.section .sdata,\"aw\"\nnear:\t.word 1\n"
+
+    def test_rows(self):
+        sum_of = {1: "c.add a0, x26", 2: "c.add a0, x26", WORDS: "add a0, a0, x26"}
+        for image_format, added in sum_of.items():
+            lines = [line.strip() for line in rewritten("a.s", self.TEXT, (), image_format, True).splitlines()]
+            lines = [line for line in lines if not line.startswith(".")]
+            lines = lines[lines.index("main:"):]
+            far = ["lui a0, %hi(far+8)", added, "addi a0, a0, %lo(far+8)"]
+            self.assertEqual(lines[1:4], far if image_format != WORDS else [far[0], far[2], far[1]])
+            self.assertEqual(lines[4], "addi a1, x26, %lo(near)")
+            self.assertEqual("add sp, sp, x26" in lines or "c.add sp, x26" in lines, image_format == 1)  # else masks give the base

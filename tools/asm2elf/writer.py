@@ -11,8 +11,8 @@ class Writer:
     """Writes the code of a file. What becomes of a piece is a subclass's to say."""
     alignment = None  # of a section, as a power of two
 
-    def __init__(self, unit, small, image_format):
-        self.unit, self.small, self.format = unit, small, image_format
+    def __init__(self, unit, small, image_format, is_movable=False):
+        self.unit, self.small, self.format, self.is_movable = unit, small, image_format, is_movable
         self.out = []
         self.location, self.told = None, set()
 

@@ -7,6 +7,10 @@ from operands import (MEMORY, PART, Symbol, is_register, is_stack_pointer, is_sy
                       register, symbol, upper)
 
 
+RELATIVE = "relative"  # to the base of a region, which the linker's step chooses (tools/sfi_elf/moving.py)
+NEAR = "near"  # to the data base, by the number in one `addi`
+
+
 @dataclass(frozen=True)
 class Op:
     """An instruction of the source language. Its operands are texts, and symbols where a name stands."""
@@ -15,6 +19,7 @@ class Op:
     place: object
     wide: bool = False  # it has 32 bits, also where it has a 16-bit form
     pointed: bool = False  # it is an access on `sp` that points elsewhere than to the stack
+    address: str = ""  # of `la` in a program that can be moved, the way to the address: RELATIVE or NEAR
     is_mark = False
 
     def symbols(self):

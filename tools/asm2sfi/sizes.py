@@ -8,7 +8,7 @@ same."""
 from dataclasses import replace
 from functools import lru_cache
 
-from instructions import LOADS, STORES, Op, is_access, offset_and_base, written
+from instructions import LOADS, NEAR, RELATIVE, STORES, Op, is_access, offset_and_base, written
 from operands import REGISTERS
 
 BUNDLE = 16
@@ -94,11 +94,20 @@ def has_short_form(op):
 def expansions(op, image_format):
     """The sizes of an instruction's expansions: for each, the one size or the two that it may
     have."""
-    return sizes_of(op.word, op.operands, op.wide, image_format == 2)
+    return sizes_of(op.word, op.operands, op.wide, image_format == 2, op.address)
+
+
+def address_sizes(way, wide):
+    """The same of `la`: a `lui`, beside which the base is added where the address is relative, and an `addi`."""
+    if way == NEAR:
+        return ((4,),)
+    if way == RELATIVE:
+        return (8,) if wide else (6, 8), (4,)
+    return (4,), (4,)
 
 
 @lru_cache(maxsize=None)
-def sizes_of(word, operands, wide, has_stack):
+def sizes_of(word, operands, wide, has_stack, way=""):
     """The same of a word with operands, in a format that has a stack pointer or one without."""
     op = Op(word, operands, None, wide)
     if has_stack and written(op) == "sp":
@@ -109,7 +118,7 @@ def sizes_of(word, operands, wide, has_stack):
     if word == "jalr":
         return ((MASKED,),) if offset_and_base(op)[0] == 0 else ((MASKED + 4,),)
     if word == "la":
-        return (4,), (4,)
+        return address_sizes(way, wide)
     if word == "li" and number_parts(op) != [op]:
         return tuple(size for part in number_parts(op)
                      for size in sizes_of(part.word, part.operands, wide, has_stack))

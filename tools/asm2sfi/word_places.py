@@ -1,6 +1,6 @@
 """How many bytes each instruction takes in code in words, and where it lies there. docs/SOURCE.md says what an instruction
 becomes."""
-from instructions import written
+from instructions import NEAR, RELATIVE, written
 from sizes import has_short_form, number_parts
 from typed import DATA, MASKS, is_free_step, is_move, masked_base
 
@@ -14,11 +14,20 @@ def part_sizes(op, following):
     if op.word in ("ret", "jr", "jalr"):
         return *MASK_SIZES, WORD
     if op.word == "la":
-        return (WORD, *masks_after(op)) * 2
+        return address_sizes(op)
     if op.word == "li":
         first, *rest = number_parts(op)
         return *one_size(first, rest[0] if rest else following), *(size for part in rest for size in one_size(part, following))
     return one_size(op, following)
+
+
+def address_sizes(op):
+    """The same of `la`. A data register gets its base by masks; any other in an `add` after the address in its region."""
+    if op.address == NEAR:
+        return WORD, *masks_after(op)
+    if op.address == RELATIVE and not masks_after(op):
+        return WORD, WORD, 2
+    return (WORD, *masks_after(op)) * 2
 
 
 def one_size(op, following):

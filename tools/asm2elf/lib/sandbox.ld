@@ -33,7 +33,7 @@ SECTIONS {
         QUAD(0x9002900290029002) QUAD(0x9002900290029002) /* a call of a null pointer traps */
         KEEP(*(.sfi.stubs .sfi.stubs.*))
         . = ALIGN(16);
-        KEEP(*(.sfi.start))
+        KEEP(*(.sfi.first)) KEEP(*(.sfi.start))
         *(.text.unlikely .text.unlikely.*) *(.text .text.*)
         . = ALIGN(16);
         LONG(0x90029002) /* the code's last instruction is an ebreak */
@@ -51,6 +51,9 @@ SECTIONS {
         __init_array_start = .; KEEP(*(SORT_BY_INIT_PRIORITY(.init_array.*))) KEEP(*(.init_array)) __init_array_end = .;
         __fini_array_start = .; KEEP(*(SORT_BY_INIT_PRIORITY(.fini_array.*))) KEEP(*(.fini_array)) __fini_array_end = .;
         *(.data .data.*)
+        /* Of a program that can be moved, where the addresses in the data are: tools/sfi_elf/moving.py writes it. */
+        . = DEFINED(__sfi_places_size) ? ALIGN(4) : .;
+        __sfi_places = .; . += DEFINED(__sfi_places_size) ? __sfi_places_size : 0; __sfi_places_end = .;
         /* The table of names, whose last 16 bytes tools/sfi_elf/image.py writes. */
         __sfi_exports = .; KEEP(*(.sfi.exports)) __sfi_imports = .; KEEP(*(.sfi.imports)) __sfi_names = .;
         . += __sfi_names > __sfi_exports ? 16 : 0;
