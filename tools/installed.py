@@ -10,11 +10,12 @@ import version
 TOP = pathlib.Path(__file__).resolve().parent.parent
 SHARE = "share/suygapid"  # the tools, at the places that they have in the repository
 NOTED = f"{SHARE}/installed"  # the list of all that was installed
-TOOLS = ("sfi-cc", "sfi-gdb", "sfi-image", "sfi-library", "sfi-trace")
+TOOLS = ("sfi-cc", "sfi-gdb", "sfi-image", "sfi-library", "sfi-move", "sfi-trace")
 FOLDERS = ("tools/asm2elf", "tools/asm2sfi", "tools/sfi_cc", "tools/sfi_elf", "tools/sfi_gdb", "tools/sfi_trace",
            "examples/c/include", "examples/c/library", "bindings/python", "bindings/rust")
 SINGLE = ("examples/c/gates.h",)
-PAGES = ("sfi.1", "sfi-cc.1", "sfi-gdb.1", "sfi-image.1", "sfi-library.1", "sfi-trace.1")
+PAGES = ("sfi.1", "sfi-cc.1", "sfi-gdb.1", "sfi-image.1", "sfi-library.1", "sfi-move.1",
+         "sfi-trace.1")
 TOLD = {"sfi_c": "The checker of Suygapid's images", "sfi_run": "Checks Suygapid's images and runs their sandboxes"}
 
 

@@ -26,6 +26,7 @@ PLACES = [
     ("docs/sfi-cc.1", r'^\.TH .* "Suygapid (.*)" '),
     ("docs/sfi-gdb.1", r'^\.TH .* "Suygapid (.*)" '),
     ("docs/sfi-image.1", r'^\.TH .* "Suygapid (.*)" '),
+    ("docs/sfi-move.1", r'^\.TH .* "Suygapid (.*)" '),
     ("docs/sfi-library.1", r'^\.TH .* "Suygapid (.*)" '),
     ("docs/sfi-trace.1", r'^\.TH .* "Suygapid (.*)" '),
     ("CHANGELOG.md", r"^## (\d+\.\d+\.\d+)"),

@@ -1,20 +1,39 @@
 """From linked ELF files to an image. docs/IMAGE.md has the format. Nothing here is trusted: `sfi check` reads the image."""
 import argparse
 import struct
-from dataclasses import dataclass
+from dataclasses import dataclass, replace
+from itertools import zip_longest
 
 from elf import Wrong
-from names import footer
+from moving import is_movable
+from names import footer, moved_names
 
 FORMATS = {"1": b"SFI1", "2": b"SFI2", "words": b"SFIW"}  # the magic of each format
 LARGEST_CODE = {"1": 1 << 16, "2": 1 << 20, "words": 1 << 20}
 LARGEST_DATA = 1 << 20
 SMALLEST = 256  # bytes of a region
-GUARD = 4096
+GUARD, ADDRESSES = 4096, 1 << 32
 MOST_SANDBOXES = 16
 DEFAULT_STACK = 8192
 TOP = 16  # the first stack pointer lies so far below the data's end
 BREAK = b"\x02\x90"  # c.ebreak fills the code up
+
+
+def address(text):
+    """An address as `sfi run` prints it: hexadecimal digits."""
+    try:
+        found = int(text, 16)
+    except ValueError:
+        found = -1
+    if not 0 <= found < 1 << 32:
+        raise argparse.ArgumentTypeError(f"{text!r} is no address of 32 bits in hexadecimal digits")
+    return found
+
+
+def place(text):
+    """Where code and data begin, in hexadecimal digits."""
+    code, _, data = text.partition(":")
+    return address(code), address(data)
 
 
 def region(text):
@@ -121,7 +140,24 @@ class Sandbox:
     def check_place(self):
         for what, base, size in (("code", self.code_base, len(self.code)), ("data", self.data_base, self.data_size)):
             if base % size:
-                raise Wrong(f"{self.name}: the {what} has {size} bytes, and lies at {base:#x}, which is no multiple of that")
+                raise Wrong(f"{self.path}: the {what} has {size} bytes, and lies at {base:#x}, which is no multiple of that")
+        if not GUARD <= self.data_base <= ADDRESSES - self.data_size - GUARD:
+            raise Wrong(f"{self.path}: there is no room for a guard zone beside the data at {self.data_base:#x}")
+
+    def moved(self, code_base, data_base):
+        """The same at another place: the code stays as it is, and of the data the addresses in the table of names change."""
+        in_code = range(self.code_base, self.code_base + len(self.code))
+        in_data = range(self.data_base, self.data_base + self.data_size)
+
+        def there(address):
+            if address in in_code:
+                return address - self.code_base + code_base
+            return address - self.data_base + data_base if address in in_data else address
+
+        made = replace(self, code_base=code_base, data_base=data_base, start=there(self.start),
+                       gates=tuple((there(at), service) for at, service in self.gates), data=moved_names(self.data, there))
+        made.check_place()
+        return made
 
     def written(self):
         head = struct.pack("<7I", *self.numbers())
@@ -136,6 +172,15 @@ def sandbox_of(elf, stack, wanted):
     return made
 
 
+def at_place(elf, made, where):
+    """A program's sandbox at another place, if it is one that can be moved."""
+    if where is None or where == (made.code_base, made.data_base):
+        return made
+    if not is_movable(elf):
+        raise Wrong(f"{elf.name} can't be moved: link it with --movable, or with --at")
+    return made.moved(*where)
+
+
 def check_apart(sandboxes):
     spans = sorted((*span, made.path) for made in sandboxes for span in made.spans())
     for (_, end, first), (start, _, second) in zip(spans, spans[1:]):
@@ -143,17 +188,54 @@ def check_apart(sandboxes):
             raise Wrong(f"{first} and {second} lie at one place: link each with a --sandbox of its own")
 
 
-def image(elfs, stack=None, wanted=None):
-    """The image of some ELF files, each a sandbox, in their order."""
+def image(elfs, stack=None, wanted=None, places=()):
+    """The image of some ELF files, each a sandbox, in their order, the first ones at these places."""
     if len(elfs) > MOST_SANDBOXES:
         raise Wrong(f"{len(elfs)} sandboxes, and an image has {MOST_SANDBOXES} at most")
     formats = {format_of(elf): elf.name for elf in elfs}
     if len(formats) > 1:
         raise Wrong(f"{' and '.join(formats.values())} are of different formats")
-    sandboxes = [sandbox_of(elf, stack, wanted) for elf in elfs]
+    sandboxes = [at_place(elf, sandbox_of(elf, stack, wanted), where) for elf, where in zip_longest(elfs, places)]
+    return written(FORMATS[format_of(elfs[0])], sandboxes)
+
+
+def written(magic, sandboxes):
+    """The image of some sandboxes."""
     check_apart(sandboxes)
-    magic = FORMATS[format_of(elfs[0])]
-    return magic + struct.pack("<I", len(elfs)) + b"".join(made.written() for made in sandboxes)
+    return magic + struct.pack("<I", len(sandboxes)) + b"".join(made.written() for made in sandboxes)
+
+
+class Reader:
+    """Takes the parts of an image one after another."""
+
+    def __init__(self, content):
+        self.content, self.at = content, 0
+
+    def bytes(self, count):
+        self.at += count
+        if self.at > len(self.content):
+            raise Wrong("the image is cut off")
+        return self.content[self.at - count:self.at]
+
+    def numbers(self, count):
+        return struct.unpack(f"<{count}I", self.bytes(4 * count))
+
+    def sandbox(self, number):
+        code_base, code_size, data_base, data_size, start, gates, first = self.numbers(7)
+        table = tuple(self.numbers(2) for _ in range(gates))
+        return Sandbox(f"sandbox {number}", code_base, self.bytes(code_size), data_base, data_size, self.bytes(first), start, table)
+
+
+def sandboxes_of(content):
+    """The magic of an image, and its sandboxes. What isn't right in it is told as far as that hinders to read it."""
+    reader = Reader(content)
+    magic, (count,) = reader.bytes(4), reader.numbers(1)
+    if magic not in FORMATS.values() or not 1 <= count <= MOST_SANDBOXES:
+        raise Wrong("this is no image")
+    found = [reader.sandbox(number) for number in range(count)]
+    if reader.at < len(content):
+        raise Wrong("bytes follow the image")
+    return magic, found
 
 
 def as_text(made):

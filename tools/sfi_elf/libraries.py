@@ -27,12 +27,12 @@ def digest_of(path):
         return os.path.basename(path) + " " + hashlib.sha256(file.read()).hexdigest()
 
 
-def make(folder, paths, image_format):
+def make(folder, paths, target):
     """Fills a folder with the archive."""
     count = os.cpu_count()
     with ThreadPoolExecutor(count) as pool:
         parts = [part for part in (paths[number::count] for number in range(count)) if part]
-        texts = [text for found in pool.map(lambda part: rewritten_into(folder, part, image_format), parts) for text in found]
+        texts = [text for found in pool.map(lambda part: rewritten_into(folder, part, target), parts) for text in found]
         objects = list(pool.map(object_of, sorted(texts)))
     archived(os.path.join(folder, ARCHIVE), objects)
     for path in objects:
@@ -48,13 +48,13 @@ def object_of(text):
     return output
 
 
-def archive_of(folder, image_format):
-    """The path of the archive that is made of a folder's assembly for a format."""
+def archive_of(folder, target):
+    """The path of the archive that is made of a folder's assembly for a target."""
     if not os.path.isdir(folder):
         raise Failed(2, f"{folder} is no folder")
     paths = assembly_of(folder)
-    words = [*ingredients(image_format), *map(digest_of, paths)]
-    return os.path.join(kept("library", words, lambda room: make(room, paths, image_format)), ARCHIVE)
+    words = [*ingredients(target), *map(digest_of, paths)]
+    return os.path.join(kept("library", words, lambda room: make(room, paths, target)), ARCHIVE)
 
 
 def folders_of(libraries, compiler):
@@ -73,11 +73,11 @@ class Libraries:
     """The archives that a program of some objects is linked with."""
 
     def __init__(self, options, objects):
-        self.archives = [archive_of(folder, options.format) for folder in options.library]
+        self.archives = [archive_of(folder, options.target) for folder in options.library]
         self.wanted = None  # what to install for floating point
         if softfloat.speaks_of_floats([path for path in objects if os.path.exists(path)]):
             folder = softfloat.folder_of(options.cc)
             if folder is None:
                 self.wanted = GCC_SOURCE.wanted()
             else:
-                self.archives.append(archive_of(folder, options.format))
+                self.archives.append(archive_of(folder, options.target))

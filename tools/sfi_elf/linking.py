@@ -1,6 +1,7 @@
 """Links objects and archives to an ELF file of a sandbox."""
 import os
 
+import moving
 import runtime
 from compilers import Failed, ran, tell
 from elf import Elf
@@ -62,16 +63,35 @@ def ran_linker(words, libraries):
 
 
 def linked(options, objects, folder):
-    """The program that objects and archives make."""
-    made, libraries = runtime.folder_of(options.format), Libraries(options, objects)
+    """The program that objects and archives make. One that can be moved is linked a second time: with room for the list of
+    the addresses in its data, or, if there are none, without what sets them right."""
+    fresh, libraries, first, last = words_of(options, objects, folder)
+    name = os.path.basename(options.output) if options.output else "the program"
+
+    def program(*numbers):
+        ran_linker([*first, *numbers, *last], libraries)
+        return Elf(fresh, name)
+
+    if not options.target.is_movable:
+        return program()
+    size = moving.room_for(program(*moving.KEEPING, *moving.settling(0)))
+    content = moving.made_movable(program(*moving.KEEPING, *(moving.settling(size) if size else [])))
+    with open(fresh, "wb") as file:
+        file.write(content)
+    return Elf(fresh, name)
+
+
+def words_of(options, objects, folder):
+    """The path of the program to be, the libraries, and the linker's words, in two parts: the script, in the second, sees
+    the numbers that stand before it."""
+    made, libraries = runtime.folder_of(options.target), Libraries(options, objects)
     named = [*(f"-L{place}" for place in options.folders), *(f"-l{name}" for name in options.libraries)]
     archives = [path for path in objects if path.endswith(".a")]
     main = ["libplugin.a"] if options.exports else []  # where a host calls functions, there need be no other
-    own = [os.path.join(made, name) for name in ("libruntime.a", "libgates.a", *main)]
+    own = [os.path.join(made, name) for name in ("libruntime.a", "libgates.a", "libmovable.a", *main)]
     fresh = os.path.join(folder, "program.elf")
-    # The script sees the numbers that stand before it.
-    words = [binutil("ld"), *WORDS, *numbers_of(options), *START, "-T", runtime.SCRIPT, *options.linker, "-o", fresh]
-    ran_linker([*words, os.path.join(made, "crt0.o"), *(path for path in objects if path not in archives),
-                *gates_of(options, folder), *heap_of(options, folder), *names_of(options, folder),
-                "--start-group", *archives, *named, *libraries.archives, *own, "--end-group"], libraries)
-    return Elf(fresh, os.path.basename(options.output) if options.output else "the program")
+    first = [binutil("ld"), *WORDS, *numbers_of(options), *START]
+    return fresh, libraries, first, [
+        "-T", runtime.SCRIPT, *options.linker, "-o", fresh, os.path.join(made, "crt0.o"),
+        *(path for path in objects if path not in archives), *gates_of(options, folder), *heap_of(options, folder),
+        *names_of(options, folder), "--start-group", *archives, *named, *libraries.archives, *own, "--end-group"]

@@ -4,6 +4,9 @@ import struct
 
 MAGIC = b"SFIN"
 NUMBERS = "<3I"  # the version, how many bytes the exports have, and the imports
+FOOTER = struct.calcsize(NUMBERS) + len(MAGIC)
+HEAD_OF_ENTRY = "<IB"  # its address, and how long its name is
+HEAD = struct.calcsize(HEAD_OF_ENTRY)
 LONGEST = 255  # bytes of a name
 SERVICE = 3  # of a gate that is known by its name: where the host is the console, its turn ends
 EXPORTS, IMPORTS = ".sfi.exports", ".sfi.imports"
@@ -20,6 +23,19 @@ def entries(exports, imports):
     lists = ((EXPORTS, exports), (IMPORTS, imports))
     return "".join(f'\t.section {section},"a",@progbits\n' + "".join(ENTRY.format(name=name, size=len(name)) for name in names)
                    for section, names in lists if names)
+
+
+def moved_names(data, there):
+    """The first data bytes with the addresses in their table as a function says, where they end in a table."""
+    if data[-len(MAGIC):] != MAGIC or len(data) < FOOTER:
+        return data
+    _, exports, imports = struct.unpack_from(NUMBERS, data, len(data) - FOOTER)
+    found, at = bytearray(data), len(data) - FOOTER - exports - imports
+    while 0 <= at <= len(data) - FOOTER - HEAD:
+        address, size = struct.unpack_from(HEAD_OF_ENTRY, found, at)
+        struct.pack_into("<I", found, at, there(address))
+        at += HEAD + size
+    return bytes(found)
 
 
 def footer(elf):

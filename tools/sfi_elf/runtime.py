@@ -14,6 +14,7 @@ CONVERTER = os.path.join(TOOLS, "asm2sfi")
 SCRIPT = os.path.join(LIB, "sandbox.ld")
 FUNCTIONS = [os.path.join(LIB, "constructors.asm"), os.path.join(CONVERTER, "runtime.asm"),
              os.path.join(CONVERTER, "runtime", "atomics.asm")]
+OF_MOVABLE = [os.path.join(LIB, "movable.s"), os.path.join(LIB, "settle.asm")]  # what a moved program runs before all else
 OVERRIDDEN = ("memcpy", "memmove", "memset", "memcmp", "strlen")  # a program may have its own
 MADE_OF = ("asm2elf/*.py", "asm2elf/lib/*.asm", "asm2elf/lib/*.s", "asm2sfi/*.py", "asm2sfi/*.asm", "asm2sfi/runtime/*.asm",
            "sfi_cc/compilers.py", "sfi_elf/gates.py", "sfi_elf/libraries.py", "sfi_elf/runtime.py", "sfi_elf/tools.py")
@@ -37,16 +38,20 @@ def read(path):
         return file.read()
 
 
-def ingredients(image_format):
-    """What the objects of a format depend on beside their assembly: the converter, and `as`."""
+def ingredients(target):
+    """What the objects for a target depend on beside their assembly: the converter, and `as`."""
     files = sorted(path for pattern in MADE_OF for path in glob.glob(os.path.join(TOOLS, pattern)))
-    return [image_format, version(binutil("as")), *(read(path) for path in files)]
+    return [*target.words(), version(binutil("as")), *(read(path) for path in files)]
 
 
-def object_of(folder, name, assembly, image_format):
+def name_of(path):
+    return os.path.splitext(os.path.basename(path))[0]
+
+
+def object_of(folder, assembly, target):
     """The path of an object file that is made of a compiler's assembly."""
-    output = os.path.join(folder, name + ".o")
-    assembled(rewritten(assembly, image_format), output)
+    output = os.path.join(folder, name_of(assembly) + ".o")
+    assembled(rewritten(assembly, target), output)
     return output
 
 
@@ -62,18 +67,19 @@ def heap_object(folder, size):
     return output
 
 
-def make(folder, image_format):
-    """Fills a folder with crt0.o, libgates.a, libplugin.a and libruntime.a."""
-    object_of(folder, "crt0", os.path.join(LIB, "crt0.s"), image_format)
+def make(folder, target):
+    """Fills a folder with crt0.o, libgates.a, libmovable.a, libplugin.a and libruntime.a."""
+    object_of(folder, os.path.join(LIB, "crt0.s"), target)
+    archived(os.path.join(folder, "libmovable.a"), [object_of(folder, path, target) for path in OF_MOVABLE])
     archived(os.path.join(folder, "libgates.a"),
-             [gate_object(folder, name, service, image_format) for name, service in GATES.items()])
-    archived(os.path.join(folder, "libplugin.a"), [object_of(folder, "plugin", os.path.join(LIB, "plugin.s"), image_format)])
+             [gate_object(folder, name, service, target.format) for name, service in GATES.items()])
+    archived(os.path.join(folder, "libplugin.a"), [object_of(folder, os.path.join(LIB, "plugin.s"), target)])
     objects = []
     for path in FUNCTIONS:
-        objects.append(object_of(folder, os.path.splitext(os.path.basename(path))[0], path, image_format))
+        objects.append(object_of(folder, path, target))
         ran([binutil("objcopy"), *(f"--weaken-symbol={name}" for name in OVERRIDDEN), objects[-1]])
     archived(os.path.join(folder, "libruntime.a"), objects)
 
 
-def folder_of(image_format):
-    return kept("runtime", ingredients(image_format), lambda folder: make(folder, image_format))
+def folder_of(target):
+    return kept("runtime", ingredients(target), lambda folder: make(folder, target))

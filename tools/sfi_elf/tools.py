@@ -1,6 +1,7 @@
 """Runs asm2elf and binutils."""
 import os
 import sys
+from dataclasses import dataclass
 
 from compilers import TOOLS, ran
 from kept import root
@@ -20,15 +21,26 @@ def assembled(text, output):
     return ran([binutil("as"), *AS, "-o", output, "-"], text)[1]
 
 
-def rewritten(assembly, image_format, passes=None):
+@dataclass(frozen=True)
+class Target:
+    """What code is made for: a format, and whether the program can be moved."""
+    format: str
+    is_movable: bool = False
+
+    def words(self):
+        """The options of asm2elf."""
+        return [f"--format={self.format}", *["--movable"] * self.is_movable]
+
+
+def rewritten(assembly, target, passes=None):
     """The GNU assembly of a compiler's."""
     chosen = [] if passes is None else [f"--passes={passes}"]
-    return ran([*ASM2ELF, f"--format={image_format}", *chosen, assembly])[0]
+    return ran([*ASM2ELF, *target.words(), *chosen, assembly])[0]
 
 
-def rewritten_into(folder, assemblies, image_format):
+def rewritten_into(folder, assemblies, target):
     """The paths of the GNU assembly of several files, which have names of their own, in a folder."""
-    ran([*ASM2ELF, f"--format={image_format}", f"--into={folder}", *assemblies])
+    ran([*ASM2ELF, *target.words(), f"--into={folder}", *assemblies])
     return [os.path.join(folder, os.path.basename(path)) for path in assemblies]
 
 
