@@ -1,0 +1,98 @@
+#!/usr/bin/env bash
+# Compiles the C examples by `sfi-cc --movable` in each format, moves each image to two other places, and compares what it does
+# there, on the inputs of expected.txt, with what the native program did, and addresses.c with an image that is built there.
+#
+#     examples/c/moved.sh [--all] [SFI]   # SFI is the program; ./sfi at the top if absent. Without --all: some of the programs
+set -uo pipefail
+unset CDPATH
+here=$(cd "$(dirname "${BASH_SOURCE[0]}")" && pwd)
+wanted_programs="sort json regex"
+[ "${1:-}" != --all ] || { wanted_programs= && shift; }
+sfi=$(realpath "${1:-$here/../../sfi}")
+export SFI=$sfi
+cd "$here" || exit 1
+source ../harness.sh
+tools=$(realpath ../../tools)
+export tools programs room
+
+# Code and data go different ways, and the last place has the data below the code.
+places="01000000:01800000 09100000:02400000 fff00000:00100000"
+
+compile() { # program, format; makes an image that can be moved
+    "$tools/sfi-cc" --program "$SFI" --movable --format "$2" -O2 -fno-tree-loop-distribute-patterns -o "$room/$1.$2" "$programs/$1.c"
+}
+
+move() { # an image, a place, the file for the moved one
+    "$tools/sfi-move" --at "$2" <"$1" >"$3"
+}
+
+run_of() { # image, input in digits; what it does, without the steps
+    "$sfi" run --rounds 10000 --quantum 1000000 --input "$2" <"$1" | sed 's/^sandbox=0 //; s/ steps=[0-9]*//'
+}
+
+try_place() { # program, format, place
+    local name input wanted image="$room/$1.$2" what="$1, format $2, at $3"
+    if [ "$3" != "${places%% *}" ]; then
+        move "$image" "$3" "$image.moved"
+        image=$image.moved
+    fi
+    report "$what: check" accepted "$("$sfi" check <"$image" | cut -d' ' -f1)"
+    while read -r name input wanted; do
+        [ "$name" != "$1" ] || report "$what, $input" "$wanted" "$(run_of "$image" "$(./inputs.py "$input" | digits_of)")"
+    done <expected.txt
+}
+
+try_program() { # program, format
+    local place
+    if [ ! -s "$room/$1.$2" ]; then
+        report "$1, format $2: compiled" image "$(cat "$room/messages")"
+        return
+    fi
+    for place in $places; do
+        try_place "$1" "$2" "$place"
+    done
+}
+
+# Each address that a moved program holds is the one that it has where it is built there.
+try_addresses() { # format, compiler; options of sfi-cc
+    local format=$1 place image="$room/addresses"
+    shift
+    "$tools/sfi-cc" --program "$sfi" --movable --format "$format" "$@" -o "$image" elf/addresses.c elf/elsewhere.c
+    for place in $places; do
+        "$tools/sfi-cc" --program "$sfi" --at "$place" --movable --format "$format" "$@" -o "$image.built" elf/addresses.c elf/elsewhere.c
+        move "$image" "$place" "$image.moved"
+        report "addresses, format $format, at $place $*" "$(run_of "$image.built" "")" "$(run_of "$image.moved" "")"
+    done
+    report "addresses, format $format: put" 1 "$(run_of "$image" "" | grep -c "^exit=0 out=[0-9a-f]\{4992\}$")"
+}
+
+# What can't be moved is refused.
+try_refusals() {
+    local image="$room/image" told="$room/told"
+    refusal() { "$@" >"$image" 2>"$told" && echo "status 0"; head -n 1 "$told"; }
+    "$tools/sfi-cc" --program "$sfi" -c -o "$room/fixed.o" elf/addresses.c
+    report "an object that can't be moved" "can't be moved: compile all of it with --movable" \
+        "$(refusal "$tools/sfi-cc" --program "$sfi" --movable elf/elsewhere.c "$room/fixed.o" | grep -o "can't be moved.*")"
+    report "an address at an odd place" "sfi-cc: the program: odd has an address at 0x1800001, which is no multiple of 4, so it can't be moved" \
+        "$(refusal "$tools/sfi-cc" --program "$sfi" --movable elf/odd.c)"
+    "$tools/sfi-cc" --program "$sfi" -o "$room/fixed.elf" elf/odd.c
+    report "a program that can't be moved" "sfi-image: $room/fixed.elf can't be moved: link it with --movable, or with --at" \
+        "$(refusal "$tools/sfi-image" --at 02000000:02800000 "$room/fixed.elf")"
+}
+
+if ! has riscv64-unknown-elf-gcc; then
+    skip 1 "images that are moved" "riscv64-unknown-elf-gcc isn't there"
+    finish
+fi
+wanted_programs=${wanted_programs:-$(cut -d' ' -f1 expected.txt | uniq)}
+export -f compile
+for format in $formats; do
+    for program in $wanted_programs; do echo "compile $program $format"; done
+done | xargs -P 2 -I WORDS bash -c WORDS 2>"$room/messages"
+for format in $formats; do
+    for program in $wanted_programs; do try_program "$program" "$format"; done
+    try_addresses "$format" -O2
+    try_addresses "$format" -O1 -msmall-data-limit=0 --passes=
+done
+try_refusals
+finish
