@@ -9,7 +9,7 @@
        checker IMAGE                   the verdict's line, as `sfi check --raw` prints it
        checker --list IMAGE            before it a line for each finding, of sandbox, address and rule, as `sfi check --report` begins it
        checker --many FILE             a verdict's line for each image of the file, where each stands behind its length in four bytes
-       checker --bench IMAGE REPEATS   megabytes (10^6) of image a second, by the processor time of the best of five groups of so many
+       checker --bench IMAGE REPEATS   megabytes (10^6) of image a second, by the processor time of the best of five groups of REPEATS
                                        checks; ends in 1 where the image isn't accepted
 
    Else it ends in 0 where it accepts, in 1 where a rule is broken, in 2 where the layout isn't right (--many: in 0), and in 3 where it
@@ -45,7 +45,7 @@ static double seconds(void) {
     return (double)now.tv_sec + (double)now.tv_nsec / 1e9;
 }
 
-/* The processor time of so many checks, or a negative number where the image isn't accepted. */
+/* The processor time of `repeats` checks, or a negative number where the image isn't accepted. */
 static double time_of(size_t length, int repeats) {
     double begun = seconds();
     for (int k = 0; k < repeats; k++) {

@@ -124,7 +124,7 @@ uint32_t sieve(void) {
     return count;
 }
 
-/* The checksum of so many times. */
+/* The checksum of the results of TIMES runs of the kernel. */
 uint32_t run(void) {
     uint32_t sum = 0;
     for (int k = 0; k < TIMES; k++)

@@ -5,9 +5,9 @@
 
 Makes N images (1000) of one sandbox with 64 KiB of accepted code, as mixed in images.py, and checks them in these ways:
 
-- by `sfi check --raw`, as `find` and `xargs -P` start it, so many at a time (as many as there are processors);
-- by examples/embed/many.c, linked with libsfi_c.a, with so many threads, and with one;
-- by GNU parallel, which hands the names to so many processes of that, a thread each, 250 at a time.
+- by `sfi check --raw`, as `find` and `xargs -P` start it, as many at a time as there are processors;
+- by examples/embed/many.c, linked with libsfi_c.a, with a thread for each processor, and with one thread;
+- by GNU parallel, which hands the names, 250 at a time, to a process of many.c with one thread for each processor.
 
 For each it prints images a second and megabytes (10^6) of image a second, by the median of the alternated rounds' wall times, the
 processor time of an image, with that of its processes' starts, and the machine's load before: other work takes its share of the rate.

@@ -57,7 +57,7 @@ def run(words, path):
 
 
 def times(commands, rounds):
-    """For each name of a command, words and a file, its times from the least on: the commands are run one after another, so many rounds."""
+    """For each name of a command, words and a file, its times from the least on: `rounds` times the commands are run one after another."""
     taken = {name: [] for name in commands}
     for _ in range(rounds):
         for name, (words, path) in commands.items():

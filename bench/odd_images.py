@@ -103,7 +103,7 @@ class Pieces:
 
 
 def flipped(pick, data, most):
-    """The same with 1 to so many bits flipped."""
+    """The data with 1 to `most` bits flipped."""
     changed = bytearray(data)
     for _ in range(pick.randint(1, most)):
         changed[pick.randrange(len(changed))] ^= 1 << pick.randrange(8)

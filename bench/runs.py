@@ -34,7 +34,7 @@ FEW, MANY = 9_600_000, 48_000_000
 
 
 def commands(program, interpreter, steps, sandboxes=1):
-    """By name, the words that run an image of so many sandboxes for so many steps in all."""
+    """By name, the words that run an image of this number of sandboxes for `steps` steps in all."""
     rounds = str(steps // QUANTUM // sandboxes)
     return {
         "`sfi run`": [program, "run", "--rounds", rounds, "--quantum", str(QUANTUM)],
@@ -44,7 +44,7 @@ def commands(program, interpreter, steps, sandboxes=1):
 
 
 def build(program, name, sandboxes, folder):
-    """The path of the image of a source whose part stands there so many times."""
+    """The path of the image of a source whose text is repeated for each of the sandboxes."""
     with open(os.path.join(measure.HERE, name + ".s"), "rb") as source:
         text = measure.written(os.path.join(folder, name + ".s"), source.read() * sandboxes)
     image, _ = measure.run([program, "build"], text)

@@ -1,5 +1,5 @@
 /* How fast sfi_c_check is on an image in memory: scan IMAGE REPEATS prints the megabytes (10^6) of image a second, by the
-   processor time of the best of five groups of so many calls. Ends in 1 where the image isn't accepted. */
+   processor time of the best of five groups of REPEATS calls. Ends in 1 where the image isn't accepted. */
 #include "sfi.h"
 #include <stdio.h>
 #include <stdlib.h>

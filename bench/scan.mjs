@@ -2,7 +2,7 @@
 //
 //     node [--experimental-wasm-memory64] scan.mjs MODULE IMAGE REPEATS
 //
-// Prints megabytes (10^6) a second, the best of 5 groups of so many calls. Ends in 1 where the image isn't accepted.
+// Prints megabytes (10^6) a second, the best of 5 groups of REPEATS calls. Ends in 1 where the image isn't accepted.
 import { readFileSync } from "node:fs";
 
 const [path, file, repeats] = process.argv.slice(2);

@@ -22,7 +22,7 @@ import measure
 
 LIBRARY = os.path.join(os.path.dirname(measure.HERE), "crates", "sfi_c")
 REPEATS = 10
-GROUPS = 5  # the best of so many is printed, by scan.c and by checker.c
+GROUPS = 5  # scan.c and checker.c print the best of this number of groups
 BUNDLES = 65536
 
 

@@ -85,7 +85,7 @@ class Machine:
 
 
 def escape(code, gates, start, pick, steps):
-    """Why a run from that place, with registers of its own, isn't safe in so many steps; None where it is."""
+    """Why a run from that place, with registers of its own, isn't safe within `steps` steps; None where it is."""
     machine, at = Machine(code, gates, pick), start
     for _ in range(steps):
         at = machine.step(at)
@@ -95,7 +95,7 @@ def escape(code, gates, start, pick, steps):
 
 
 def first_escape(code, gates, pick, entries=3, steps=60):
-    """The first of the runs that isn't safe, of so many from each word."""
+    """The first of the runs that isn't safe, of `entries` runs from each word."""
     for start in range(0, len(code), 4):
         for _ in range(entries):
             why = escape(code, gates, start, pick, steps)

@@ -29,7 +29,7 @@ KINDS = ["load", "turn", "event", "reply", "exit", "stop", "reset", "read", "wri
 SEEN = ["events", "steps", "registers", "regions", "data"]
 NAMES = [*KINDS, *SEEN, "count", "version"]
 WEIGHTS = dict(load=3, turn=30, event=3, reply=20, exit=3, stop=4, reset=3, read=10, write=10, enter=8, call=6, free=1)
-PIECE = 4096  # so many bytes of a larger data region are compared after each call
+PIECE = 4096  # how many bytes of a larger data region are compared after each call
 
 
 class World:

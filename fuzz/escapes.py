@@ -91,7 +91,7 @@ class Hostile(machine.Machine):
         return None
 
     def escape(self, entry):
-        """Why a run from there isn't safe, in so many steps; None where it is."""
+        """Why a run from `entry` isn't safe within STEPS steps; None where it is."""
         self.pc, self.is_loose = entry, self.pick.random() < 0.5
         self.set_registers()
         for _ in range(STEPS):
@@ -112,7 +112,7 @@ class Hostile(machine.Machine):
 
 
 def first_escape(part, pick):
-    """Of a run from each entry, or from so many where there are more, the first that isn't safe, and why."""
+    """Of a run from each entry, or from MOST_ENTRIES where there are more, the first that isn't safe, and why."""
     hostile = Hostile(part, pick)
     entries = range(part.code_base, part.code_base + part.code_size, part.unit())
     for entry in pick.sample(entries, min(len(entries), MOST_ENTRIES)):

@@ -15,7 +15,7 @@ sys.path[:0] = [os.path.join(TOP, "bench"), os.path.join(TOP, "tools")]
 
 import measure
 
-SHOWN = 3  # so many cases of each comparison that differ are printed, with what repeats them
+SHOWN = 3  # how many cases of each comparison that differ are printed, with what repeats them
 MOST_SECONDS = 120  # of one command
 
 

@@ -39,7 +39,7 @@ def silently(call, *arguments):
 
 
 def cases_until_found(tally, try_one):
-    """How many cases it took until one differed; None where none of so many did."""
+    """How many cases it took until one differed; None where none of MOST cases did."""
     for count in range(MOST):
         silently(try_one, random.Random(f"planted/{count}"))
         if tally.wrong:

@@ -89,7 +89,7 @@ class World {
         return name === "take" ? own.box.shift() || [0, 0] : [a0, a1];
     }
     note(i, call, reply) { if (this.log.length < 400) this.log.push({ i, call, reply }); }
-    // A turn of so many steps, as `sfi run` gives it.
+    // A turn of `steps` steps of sandbox `i`, as `sfi run` gives it.
     take(i, steps) {
         const end = this.steps(i) + steps;
         for (;;) {

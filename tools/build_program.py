@@ -43,7 +43,7 @@ def tell_reason(name, said):
 
 
 class Build:
-    """A build of so many crates, the libraries and the program."""
+    """A build of these crates: the libraries and the program."""
 
     def __init__(self, crates):
         self.crates, self.proved, self.begun = crates, 0, time.monotonic()

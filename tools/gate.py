@@ -70,7 +70,7 @@ def git(*words):
 
 
 def left_out(number):
-    """The crates whose edits wait after so many commits."""
+    """The crates whose edits wait after `number` commits."""
     return sorted(crate for at, third in enumerate(thirds()) if at != number % THIRDS for crate in third)
 
 

@@ -11,7 +11,7 @@ import toolchain
 
 
 class Crate:
-    """A crate of so many lines on others, which is built with a status and prints a text."""
+    """A crate of `lines` lines on others, which is built with a status and prints a text."""
 
     begun, lock = [], threading.Lock()
 

@@ -35,7 +35,7 @@ class Part(ctypes.Structure):
 
 
 def images(count):
-    """The images of the examples, and so many changed ones."""
+    """The images of the examples, and `count` changed ones."""
     made = corpus.examples(testing.SFI)
     made += [bytes.fromhex(open(it, encoding="utf-8").read()) for it in glob.glob(str(testing.TOP / "examples" / "*.hex"))]
     picks = (random.Random(f"checker file/{number}") for number in range(count))

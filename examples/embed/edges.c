@@ -10,7 +10,7 @@
 
 enum { ROOM = 64 };
 
-/* A call with room for so many findings, between two marked elements. */
+/* A call with room for `capacity` findings, between two marked elements. */
 static void try_capacity(const uint8_t *image, size_t length, const struct sfi_verdict *wanted, size_t capacity,
                          const struct sfi_finding *all) {
     struct sfi_finding array[ROOM + 2];

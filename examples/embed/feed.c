@@ -1,7 +1,7 @@
 /*
  * Checks the image on standard input in pieces, without keeping its bytes:
  *
- *     feed [SIZE] < IMAGE        # the image's own bytes; so many at a time, 1 to 65536, 4096 if absent
+ *     feed [SIZE] < IMAGE        # the image's own bytes, SIZE at a time: 1 to 65536, 4096 if absent
  *
  * It ends in the verdict's status; or in 5 where the image can't be read, 6 where SIZE is no number from 1 to 65536.
  */

@@ -1,7 +1,7 @@
 /*
  * Checks the image on standard input, and lists its first findings:
  *
- *     host [CAPACITY] < IMAGE        # the image's own bytes; room for so many findings, 2 if absent
+ *     host [CAPACITY] < IMAGE        # the image's own bytes; room for CAPACITY findings, 2 if absent
  *
  * It ends in the verdict's status; or in 4 where there is no room, 5 where the image can't be read or is too long, 6 where
  * CAPACITY is no number from 0 to 8388608, which is as many findings as an image can have.

@@ -4,7 +4,7 @@
 //     node [--experimental-wasm-memory64] host.mjs MODULE 0 SIZE < IMAGE
 //     node [--experimental-wasm-memory64] host.mjs MODULE parts < IMAGE
 //
-// The image's own bytes; room for so many findings, 2 if absent. With SIZE it hands the module so many bytes at a time,
+// The image's own bytes; room for CAPACITY findings, 2 if absent. With SIZE it hands the module SIZE bytes at a time,
 // and prints the verdict alone. With `parts` it tells what is in an image that is accepted, as parts.c does. It ends in
 // the verdict's status.
 import { readFileSync } from "node:fs";
@@ -26,7 +26,7 @@ function grow(memory, pages) {
   }
 }
 
-// An instance with the image in its memory, and room before it for so many bytes that a call may write.
+// An instance with the image in its memory, and before it `room` bytes that a call may write.
 async function instanceWith(module, image, room) {
   const { instance } = await WebAssembly.instantiate(module);
   const { memory, __heap_base } = instance.exports;
@@ -50,7 +50,7 @@ async function judge(module, image, capacity) {
   return { words, found: new Uint32Array(memory.buffer, array, 3 * listed) };
 }
 
-// The verdict's words on an image of which the module is handed so many bytes at a time.
+// The verdict's words on an image of which the module is handed `size` bytes at a time.
 async function judgeInPieces(module, image, size) {
   const room = STREAM_BYTES + 4 * VERDICT_WORDS;
   const { calls, memory, written, bytes } = await instanceWith(module, new Uint8Array(size), room);

@@ -1,8 +1,8 @@
 #!/usr/bin/env python3
 """Checks the image on standard input by the shared library, and lists its first findings:
 
-    host.py LIBRARY [CAPACITY] < IMAGE        # the image's own bytes; room for so many findings, 2 if absent
-    host.py LIBRARY 0 SIZE < IMAGE            # so many bytes at a time, and no findings but the first
+    host.py LIBRARY [CAPACITY] < IMAGE        # the image's own bytes; room for CAPACITY findings, 2 if absent
+    host.py LIBRARY 0 SIZE < IMAGE            # SIZE bytes at a time, and no findings but the first
     host.py LIBRARY parts < IMAGE             # what is in it where it is accepted, as parts.c prints it
 """
 import ctypes

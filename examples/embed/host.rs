@@ -1,7 +1,7 @@
 //! Checks the image on standard input, and lists its first findings:
 //!
-//!     host [CAPACITY] < IMAGE        # the image's own bytes; room for so many findings, 2 if absent
-//!     host 0 SIZE < IMAGE            # so many bytes at a time, and no findings but the first
+//!     host [CAPACITY] < IMAGE        # the image's own bytes; room for CAPACITY findings, 2 if absent
+//!     host 0 SIZE < IMAGE            # SIZE bytes at a time, and no findings but the first
 //!     host parts < IMAGE             # what is in it where it is accepted, as parts.c prints it
 use std::io::Read;
 use std::process::exit;
@@ -109,7 +109,7 @@ fn part(image: &[u8], number: u32) -> Option<Part> {
     (status == 0).then_some(part)
 }
 
-/// The gates of its sandbox of that number, of which there are so many.
+/// The `count` gates of its sandbox of that number.
 fn gates_of(image: &[u8], number: u32, count: u32) -> Vec<Gate> {
     let mut gates = vec![Gate::default(); count as usize];
     // SAFETY: as above.

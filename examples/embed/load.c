@@ -47,7 +47,7 @@ void rattle_dealloc(void *block) {
     free(block);
 }
 
-/* ---- an image, where so many blocks are given */
+/* ---- loading an image where at most `room` blocks of memory are given */
 
 static uint32_t try_load(const uint8_t *bytes, size_t length, const struct sfi_verdict *wanted, size_t room) {
     uint8_t *image = copy_of(bytes, length);

@@ -30,7 +30,7 @@ static struct sfi_verdict asked(const struct sfi_stream *stream, const uint8_t *
     return verdict[1];
 }
 
-/* The last verdict on bytes that come so many at a time, to a stream that held others. It is asked for after each piece, too. */
+/* The last verdict on bytes that come `size` at a time, to a stream that held others. It is asked for after each piece, too. */
 static struct sfi_verdict verdict_by(size_t size, const uint8_t *bytes, size_t length) {
     struct sfi_stream stream[3];
     memset(stream, MARK, sizeof stream);

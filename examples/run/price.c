@@ -1,9 +1,9 @@
 /* What price.py measures.
  *
- *     price IMAGE turn TIMES STEPS     # a sandbox takes so many turns of so many steps each, and each call gets a reply
- *     price IMAGE read TIMES LENGTH    # so many bytes of its data are read, so many times
+ *     price IMAGE turn TIMES STEPS     # a sandbox takes TIMES turns of STEPS steps each, and each call gets a reply
+ *     price IMAGE read TIMES LENGTH    # LENGTH bytes of its data are read, TIMES times
  *     price IMAGE write TIMES LENGTH   # they are written
- *     price IMAGE load TIMES 0         # the image is loaded so many times more
+ *     price IMAGE load TIMES 0         # the image is loaded TIMES times more
  */
 #include "host.h"
 #include <inttypes.h>

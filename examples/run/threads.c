@@ -1,7 +1,7 @@
 /* One world that several threads use, a call at a time and in any order: each call is made under a lock, whoever loaded the
  * world. The threads have small stacks.
  *
- *     threads IMAGE STEPS    # runs sandbox 0 for so many steps in turns of 10, with each call answered by its own words
+ *     threads IMAGE STEPS    # runs sandbox 0 for STEPS steps in turns of 10, with each call answered by its own words
  */
 #include "host.h"
 #include <inttypes.h>

@@ -16,7 +16,7 @@ static bool serve(struct sfi_run_world *world, uint32_t i, const struct sfi_run_
     return sfi_run_reply(world, i, call->number == PRICE ? 10 * call->a0 + call->a1 : UINT32_MAX, call->a1);
 }
 
-/* For so many steps in all, however often the plug-in calls: how it stands then. */
+/* Runs the plug-in for STEPS steps in all, however often it calls: how it stands then. */
 static uint32_t run(struct sfi_run_world *world, struct sfi_run_event *event) {
     return sfi_run_serve(world, 0, STEPS, serve, NULL, event);
 }

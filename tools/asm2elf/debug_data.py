@@ -8,7 +8,7 @@ STRINGS = {".string": 1, ".asciz": 1, ".ascii": 0}  # the bytes after the text
 ESCAPES = {"\\b": "\b", "\\f": "\f", "\\n": "\n", "\\r": "\r", "\\t": "\t"}
 CHARACTER = re.compile(r"\\[0-7]{1,3}|\\.|[^\\]")
 REGISTERS, WITH_OFFSET, REGISTER_COUNT = 0x50, 0x70, 64  # DW_OP_reg0 to 31, and from DW_OP_breg0 on 32 more
-# The operands of other operations: so many bytes each, L for a number of 7 bits in each byte, B and C for bytes after their
+# The operands of other operations: a digit for the bytes of one, L for a number of 7 bits in each byte, B and C for bytes after their
 # count, which is such a number or one byte. What an entry value holds (0xa3, 0xf3) is of a function's beginning.
 OPERANDS = {0x03: "4", 0x08: "1", 0x09: "1", 0x0a: "2", 0x0b: "2", 0x0c: "4", 0x0d: "4", 0x0e: "8", 0x0f: "8", 0x10: "L", 0x11: "L",
             0x15: "1", 0x23: "L", 0x28: "2", 0x2f: "2", 0x90: "L", 0x91: "L", 0x92: "LL", 0x93: "L", 0x94: "1", 0x9a: "4",

@@ -144,7 +144,7 @@ class Places:
         return low
 
     def judge_throughout(self, expression, low):
-        """Empties an expression, whose room stays: its length becomes a 0 of so many bytes."""
+        """Empties an expression, whose room stays: its length becomes a 0 that takes the expression's bytes, too."""
         named = expression.registers()
         if named and named & self.shown.wrong_with(low):
             for atom in expression.atoms:

@@ -119,7 +119,7 @@ class Dependences(unittest.TestCase):
 class Placement(unittest.TestCase):
     @staticmethod
     def loop(count):
-        """A loop of so many stores, which take one bundle each."""
+        """A loop of `count` stores, which take one bundle each."""
         return code(".top: " + "sw a0,0(a0); " * count + "bnez a0,.top")
 
     def test_places(self):

@@ -5,7 +5,7 @@
 Each program goes through gcc at -O0 to -O3 and -Os and, where it is there, through clang at -O2, then
 through the tool with all its passes, and runs in each format. The same
 programs are tried each time, so that the gate's answer can be repeated; SEED=N in the environment
-takes others, and COUNT=N so many of them. A failure names its seed. Where a compiler isn't there the
+takes others, and COUNT=N takes N of them. A failure names its seed. Where a compiler isn't there the
 test is skipped."""
 import os
 import shutil

@@ -51,7 +51,7 @@ class Frame:
 
 
 def power(count):
-    """The least size of a region that has room for so many bytes."""
+    """The least size of a region that has room for `count` bytes."""
     return max(SMALLEST, 1 << max(count - 1, 0).bit_length())
 
 

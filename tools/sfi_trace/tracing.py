@@ -96,7 +96,7 @@ class Breaks(Calls):
 
 
 class Profile(Watch):
-    """Counts the steps of each instruction, or of one in so many, and prints a table of them."""
+    """Counts the steps of each instruction, or of one step in `every`, and prints a table of them."""
 
     def __init__(self, say, several, program, by, every):
         self.say, self.several, self.program, self.by, self.every = say, several, program, by, every

@@ -9,7 +9,7 @@ from values import ZERO, Value, computed, number, of
 LOADS, STORES = ("lb", "lh", "lw", "lbu", "lhu"), ("sb", "sh", "sw")
 WIDTHS = {"b": 1, "h": 2, "w": 4}
 LINK, STACK = 1, 2
-PART = 2048  # the addends of which the compiler pairs parts lie in one block of so many bytes
+PART = 2048  # the addends of which the compiler pairs parts lie in one block of this number of bytes
 OWN = (24, 25, 26, 27)  # registers of the sandbox that hold the regions' bases and masks
 INVERSE = {"beq": "bne", "bne": "beq", "blt": "bge", "bge": "blt", "bltu": "bgeu", "bgeu": "bltu"}
 

@@ -192,7 +192,7 @@ def _word(value: int) -> int:
 
 
 def _bytes(data: bytes) -> bytes:
-    """A copy of what has bytes. `bytes` of a number would be so many zeros."""
+    """A copy of what has bytes. `bytes(n)` of a number n would be n zeros."""
     return memoryview(data).tobytes()
 
 
@@ -315,7 +315,7 @@ class Sandbox:
         raise RuntimeError(f"the library answered with an event of kind {kind}, which this package doesn't know")
 
     def turn(self, steps: int) -> Event:
-        """Runs it for at most so many steps, and no further than its next call: how it stands then. An instruction that is
+        """Runs it for at most `steps` steps, and no further than its next call: how it stands then. An instruction that is
         done and a call that is replied to are a step each. One that stands at a call already, or has stopped, does none."""
         return self._told("turn", _word(steps))
 
@@ -330,7 +330,7 @@ class Sandbox:
         return self._told("event")
 
     def events(self, steps: int) -> Iterator[Event]:
-        """Runs it for at most so many steps in all: yields each call, which is to be replied to before the next event is
+        """Runs it for at most `steps` steps in all: yields each call, which is to be replied to before the next event is
         asked for, and last how it stands then. A call that comes when all steps are used counts as Ready here: it is the
         first event of the next run. One that isn't replied to is the last event. Steps that the loop's body has the sandbox do
         count, too: where they use up all that are left, the run is over."""
@@ -365,7 +365,7 @@ class Sandbox:
             raise NotWaiting(f"sandbox {self._number} stands at no call")
 
     def read(self, at: int, count: int) -> bytes:
-        """So many bytes of its data, from an address on. Raises OutsideData where one isn't of its data."""
+        """The `count` bytes of its data from address `at` on. Raises OutsideData where one isn't of its data."""
         room = ctypes.create_string_buffer(count) if 0 < count <= 1 << 20 else ctypes.create_string_buffer(1)
         if not 0 <= count <= 1 << 20 or not self._call("read", _word(at), count, room, len(room)):
             raise OutsideData(f"{count} bytes at {at:08x}")
@@ -397,7 +397,7 @@ class Sandbox:
             raise NotEntered(f"sandbox {self._number} can't be entered at {pc:08x}")
 
     def call(self, pc: int, *arguments: int, steps: int, serve: Callable[[Call], object] | None = None) -> int:
-        """Calls a function: enters it at pc, runs it for at most so many steps in all, and answers its result, with which it
+        """Calls a function: enters it at pc, runs it for at most `steps` steps in all, and answers its result, with which it
         exits. `serve` replies to its calls of gates of other services, and may call functions, too: while one waits for its
         reply, the other runs on its stack, and then it waits again. Raises NotEntered and ValueError as `enter` does, and
         NotReturned where it stops in another way, its steps are used, or a call gets no reply."""

@@ -69,14 +69,14 @@ class Console:
         return mail.popleft() if mail else (0, 0)
 
     def turn(self, sandbox: Sandbox, steps: int) -> None:
-        """A turn of at most so many steps, which ends at a yield, too. A call that comes when they are used is served in the
+        """A turn of at most `steps` steps, which ends at a yield, too. A call that comes when they are used is served in the
         next turn."""
         for event in sandbox.events(steps):
             if isinstance(event, Call) and not self.serve(event):
                 return
 
     def rounds(self, count: int, steps: int) -> None:
-        """So many rounds of a turn of each sandbox, as `sfi run --rounds COUNT --quantum STEPS` has them."""
+        """`count` rounds of a turn of each sandbox, as `sfi run --rounds COUNT --quantum STEPS` has them."""
         for _ in range(count):
             for sandbox in self.world:
                 self.turn(sandbox, steps)

@@ -63,7 +63,7 @@ class Plugin:
     def __init__(self, image: bytes, *, number: int = 0, steps: int = 1_000_000, library: Library | None = None, **handlers: Handler) -> None:
         """Loads the image, and runs the sandbox of that number through its start, which has to exit. A handler gets each call of
         the gate of its name, and answers its result; those whose name the image doesn't import are never called. A call has
-        at most so many steps. Raises what World does, and NotReturned."""
+        at most `steps` steps. Raises what World does, and NotReturned."""
         self.image, self.steps, self._library = bytes(memoryview(image)), steps, library
         self.world = World(self.image, library)
         self.sandbox = self.world[number]

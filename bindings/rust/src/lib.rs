@@ -302,7 +302,7 @@ impl Sandbox<'_> {
         self.number
     }
 
-    /// Runs it for at most so many steps, and no further than its next call: how it stands then. An instruction that is
+    /// Runs it for at most `steps` steps, and no further than its next call: how it stands then. An instruction that is
     /// done and a call that is replied to are a step each. One that stands at a call already, or has stopped, does none.
     pub fn turn(&mut self, steps: u32) -> Event {
         let mut raw = sys::Event::default();
@@ -328,7 +328,7 @@ impl Sandbox<'_> {
         Event::of(&raw, || self.steps())
     }
 
-    /// A turn of at most so many steps in all, in which `serve` replies to each call and says whether the turn goes on: how
+    /// A turn of at most `steps` steps in all, in which `serve` replies to each call and says whether the turn goes on: how
     /// it stands then. A call that comes when all steps are used is left for the next turn, and so is one without a reply.
     /// Steps that `serve` itself has the sandbox do count, too: where they use up all that are left, the turn is over.
     pub fn serve(&mut self, steps: u64, mut serve: impl FnMut(&mut Self, Call) -> bool) -> Event {
@@ -383,7 +383,7 @@ impl Sandbox<'_> {
         is_done.then_some(()).ok_or(CallError::OutsideData)
     }
 
-    /// So many bytes of its data from an address on. The error is [`CallError::OutsideData`]; it takes no memory then.
+    /// The `count` bytes of its data from address `at` on. The error is [`CallError::OutsideData`]; it takes no memory then.
     pub fn read_vec(&mut self, at: u32, count: u32) -> Result<Vec<u8>, CallError> {
         if count > self.data().size {
             return Err(CallError::OutsideData);
@@ -422,7 +422,7 @@ impl Sandbox<'_> {
         is_done.then_some(()).ok_or(CallError::NotEntered)
     }
 
-    /// Calls a function: enters it at pc, runs it for at most so many steps in all, and answers its result, with which it
+    /// Calls a function: enters it at pc, runs it for at most `steps` steps in all, and answers its result, with which it
     /// exits. `serve` replies to its calls of gates of other services, as in [`serve`](Self::serve), and may call functions,
     /// too: while one waits for its reply, the other runs on its stack, and then it waits again. The error is that of
     /// [`enter`](Self::enter), or [`CallError::NotReturned`] where it stops in another way, its steps are used, or a call gets

@@ -10,13 +10,13 @@ use Rattle.example_host.specs.declared.function.Function.{Function}
 use Rattle.example_host.specs.declared.function.CallError.{CallError}
 use Rattle.example_host.specs.declared.function.CallError.TheVariants.{NoRoom, NotEntered, NotReturned, Memory}
 
--- the n bytes in the place of its text; None where there is no such sandbox, or one of their
--- addresses isn't in its data region
+-- the n bytes in the place of the function's text; None where there is no such sandbox, or one of
+-- their addresses isn't in its data region
 abbrev pub text_in : Function → ℕ → Sandboxes → Option (List ℕ)
 text_in f n w = data_bytes_of (slice_get (slots_of w) f.sandbox) f.text_address n
 
--- its sandbox may be entered: it has stopped, and a bundle or word of its code begins where the
--- function does
+-- the function's sandbox may be entered: it has stopped, and a bundle or word of its code begins
+-- where the function does
 abbrev pub MayEnter : Function → Sandboxes → Type 0
 MayEnter f w = MayEnterAt (slots_of w) f.sandbox f.address
 

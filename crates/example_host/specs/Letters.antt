@@ -4,7 +4,7 @@ use Rattle.std.specs.Char.{to_ascii_uppercase}
 use Rattle.sfi_host.specs.Guests.{data_from, with_a0, with_bytes_at}
 use Rattle.sfi_host.specs.Hosts.{Call, Way, Replied, Exit, Answer}
 
--- the caller goes on so, with the a0, a1 and data bytes of this call
+-- the caller goes on in this way, with the a0, a1 and data bytes of this call
 abbrev pub answered : {S : Type 0} → S → Way → Call → Answer S
 answered s way c =
     record { reply = record { way = way; a0 = c.a0; a1 = c.a1; bytes = c.bytes }; host = s }
@@ -38,13 +38,14 @@ exit_service = 0
 abbrev pub upper_service : ℕ
 upper_service = 1
 
--- what each of them answers: exit stops the caller with the number a0, and no other is served
+-- what the host answers to each service: exit stops the caller with the number a0, and no other is
+-- served
 abbrev pub letters : {S : Type 0} → S → Call → Answer S
 letters s c =
     if c.service == exit_service then answered s (Exit c.a0) c
     else if c.service == upper_service then upper s c
     else answered s Replied (with_a0 c failed)
 
--- it takes no memory
+-- the host never lacks memory, since it takes none
 abbrev pub letters_may_refuse : {S : Type 0} → S → Call → Bool
 letters_may_refuse s c = false

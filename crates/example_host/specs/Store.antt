@@ -30,7 +30,7 @@ most_keys = 64
 abbrev pub is_new : StoreState → ℕ → Bool
 is_new s key = not (is_some (value_at s key))
 
--- it has one, or there is room for it
+-- the key has a value, or there is room for it
 abbrev pub may_put : StoreState → ℕ → Bool
 may_put s key = nat_lt (length s.values) most_keys || is_some (value_at s key)
 
@@ -61,7 +61,7 @@ get_of s c (Some value) = replied c value 1 s
 abbrev pub get : StoreState → Call → Answer StoreState
 get s c = get_of s c (value_at s c.a0)
 
--- exit and yield change nothing
+-- the answers to exit and yield: they change nothing
 abbrev pub exits : StoreState → Call → Answer StoreState
 exits s c =
     record { reply = record { way = Exit c.a0; a0 = c.a0; a1 = c.a1; bytes = c.bytes }; host = s }
@@ -87,7 +87,7 @@ get_service = 2
 abbrev pub yield_service : ℕ
 yield_service = 3
 
--- what each of them answers
+-- what the store answers to each service
 abbrev pub store : StoreState → Call → Answer StoreState
 store s c =
     if c.service == exit_service then exits s c

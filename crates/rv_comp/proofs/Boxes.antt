@@ -75,7 +75,7 @@ signed n m s lt e two = record {
       subst (λ (z : ℤ). p z ≡ true) (sym a.is) (all_below_at (λ j. p (signed_at n m j)) s a.index box a.below);
 }
 
--- those of a kind that pass one more test
+-- the items of a kind that pass another test, too
 abbrev only : {A : Type 0} → (A → Bool) → Kind A → Kind A
 only q a = record { holds = λ x. a.holds x && q x; each = a.each; at = λ p box x h. a.at p box x (and_parts (a.holds x) (q x) h).0 }
 

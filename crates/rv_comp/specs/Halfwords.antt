@@ -22,7 +22,7 @@ pub record IsShortSpelling (h : ℕ) (i : Instr) : Type 0 where
   pub gives : IsHalfwordOf h form
   pub expands : expansion form ≡ i
 
--- a row gives h for field values that expand to an instruction that does this
+-- a row gives h for field values that expand to an instruction with this outline
 pub record IsHalfwordThat (h : ℕ) (o : Outline) : Type 0 where
   pub instr : Instr
   pub spelled : IsShortSpelling h instr

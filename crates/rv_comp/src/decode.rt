@@ -189,6 +189,7 @@ fn decode_jump_or_move(h: u16) -> Option<Form16>
     }
 }
 
+/// The form of a halfword, by its quadrant; none where no row of the table has it.
 #[tactic(auto, unfolding(crate::specs::mirror::Decoding::decoded))]
 fn decode_halfword(h: u16) -> Option<Form16>
     ensures { result ≡ decoded h }
@@ -206,7 +207,7 @@ fn decode_halfword(h: u16) -> Option<Form16>
 pub fn decode16(h: u16) -> Option<Form16>
     // A row gives the halfword for these fields.
     ensures found { IfSome result (λ f. IsHalfwordOf h f) }
-    // Where a row gives it for some fields, it is these.
+    // Where a row gives the halfword for a form's fields, the result is that form.
     ensures only { (f : Form16) → IsHalfwordOf h f → result ≡ Some f }
 {
     decode_halfword(h)

@@ -25,6 +25,7 @@ struct Fields {
 }
 
 impl Fields {
+    /// The fields of these values.
     #[inline(always)]
     fn new(rd: Reg, rs1: Reg, rs2: Reg, imm: i32) -> Fields
         ensures { result ≡ record { rd = rd; rs1 = rs1; rs2 = rs2; imm = imm } }

@@ -10,6 +10,7 @@ use crate::encode::is_allowed;
 use crate::form::Form16;
 use rv_word::{Cond, ImmOp, Instr, LoadKind, Reg, RegOp, StoreWidth};
 
+/// Whether `reg` is register `number`.
 fn is(reg: Reg, number: u8) -> bool
     ensures { result ≡ reg == number }
 {
@@ -30,6 +31,7 @@ fn form_or(expands: bool, form: Form16, later: Option<Form16>) -> Option<Form16>
     }
 }
 
+/// The first form of `addi rd, rs1, imm`, if any.
 #[tactic(auto, unfolding(crate::specs::mirror::First::first_addi))]
 fn first_of_addi(rd: Reg, rs1: Reg, imm: i32) -> Option<Form16>
     ensures { result ≡ first_addi rd rs1 imm }
@@ -40,6 +42,7 @@ fn first_of_addi(rd: Reg, rs1: Reg, imm: i32) -> Option<Form16>
     form_or(is(rs1, 2), Form16::CAddi4spn { rd, imm }, later)
 }
 
+/// The first form of an instruction on two registers, if any.
 #[tactic(auto, unfolding(crate::specs::mirror::First::first_form))]
 fn first_of_op(op: RegOp, rd: Reg, rs1: Reg, rs2: Reg) -> Option<Form16>
     ensures { result ≡ first_form (Op op rd rs1 rs2) }
@@ -58,6 +61,7 @@ fn first_of_op(op: RegOp, rd: Reg, rs1: Reg, rs2: Reg) -> Option<Form16>
     }
 }
 
+/// The first form of an instruction on a register and a constant, if any.
 #[tactic(auto, unfolding(crate::specs::mirror::First::first_form))]
 fn first_of_op_imm(op: ImmOp, rd: Reg, rs1: Reg, imm: i32) -> Option<Form16>
     ensures { result ≡ first_form (OpImm op rd rs1 imm) }
@@ -73,6 +77,7 @@ fn first_of_op_imm(op: ImmOp, rd: Reg, rs1: Reg, imm: i32) -> Option<Form16>
     }
 }
 
+/// The first form of a load, if any: only `lw` has one.
 #[tactic(auto, unfolding(crate::specs::mirror::First::first_form))]
 fn first_of_load(kind: LoadKind, rd: Reg, rs1: Reg, imm: i32) -> Option<Form16>
     ensures { result ≡ first_form (Load kind rd rs1 imm) }
@@ -86,6 +91,7 @@ fn first_of_load(kind: LoadKind, rd: Reg, rs1: Reg, imm: i32) -> Option<Form16>
     }
 }
 
+/// The first form of a store, if any: only `sw` has one.
 #[tactic(auto, unfolding(crate::specs::mirror::First::first_form))]
 fn first_of_store(width: StoreWidth, rs1: Reg, rs2: Reg, imm: i32) -> Option<Form16>
     ensures { result ≡ first_form (Store width rs1 rs2 imm) }
@@ -99,6 +105,7 @@ fn first_of_store(width: StoreWidth, rs1: Reg, rs2: Reg, imm: i32) -> Option<For
     }
 }
 
+/// The first form of a branch, if any: only `beq` and `bne` against x0 have one.
 #[tactic(auto, unfolding(crate::specs::mirror::First::first_form))]
 fn first_of_branch(cond: Cond, rs1: Reg, rs2: Reg, offset: i32) -> Option<Form16>
     ensures { result ≡ first_form (Branch cond rs1 rs2 offset) }
@@ -110,6 +117,7 @@ fn first_of_branch(cond: Cond, rs1: Reg, rs2: Reg, offset: i32) -> Option<Form16
     }
 }
 
+/// The first form of `jal rd, offset`, if any.
 #[tactic(auto, unfolding(crate::specs::mirror::First::first_form))]
 fn first_of_jal(rd: Reg, offset: i32) -> Option<Form16>
     ensures { result ≡ first_form (Jal rd offset) }
@@ -118,6 +126,7 @@ fn first_of_jal(rd: Reg, offset: i32) -> Option<Form16>
     form_or(is(rd, 1), Form16::CJal { imm: offset }, later)
 }
 
+/// The first form of `jalr rd, imm(rs1)`, if any.
 #[tactic(auto, unfolding(crate::specs::mirror::First::first_form))]
 fn first_of_jalr(rd: Reg, rs1: Reg, imm: i32) -> Option<Form16>
     ensures { result ≡ first_form (Jalr rd rs1 imm) }
@@ -129,6 +138,7 @@ fn first_of_jalr(rd: Reg, rs1: Reg, imm: i32) -> Option<Form16>
     form_or(is(rd, 0), Form16::CJr { rs1 }, later)
 }
 
+/// The first form of `lui rd, imm`, if any: none where `imm` has more than 20 bits.
 #[tactic(auto, unfolding(crate::specs::mirror::First::first_form, crate::specs::mirror::First::upper_value))]
 fn first_of_lui(rd: Reg, imm: u32) -> Option<Form16>
     ensures { result ≡ first_form (Lui rd imm) }
@@ -147,6 +157,7 @@ fn first_of_lui(rd: Reg, imm: u32) -> Option<Form16>
     }
 }
 
+/// The first form of an instruction, if any.
 #[tactic(auto, unfolding(crate::specs::mirror::First::first_form))]
 fn first_of(instr: Instr) -> Option<Form16>
     ensures { result ≡ first_form instr }

@@ -19,6 +19,7 @@ pub enum Front {
     Bad,
 }
 
+/// The instruction of 2 bytes that the halfword spells, or `Bad`.
 fn read_halfword(halfword: u16) -> Front
     ensures { IsOnlyFront (λ i. IsShortSpelling halfword i) 2 result }
 {
@@ -28,6 +29,7 @@ fn read_halfword(halfword: u16) -> Front
     }
 }
 
+/// The instruction of 4 bytes that the word spells, or `Bad`.
 fn read_word(word: u32) -> Front
     ensures { IsOnlyFront (λ i. IsWordOf word i) 4 result }
 {

@@ -73,11 +73,11 @@ stored m at n value = with_bytes m (addresses at n) (bytes_low_first 0 n value)
 abbrev pub Overlaps : Bytes → ℕ → ℕ → Type 0
 Overlaps m base size = (k : ℕ) × (k < size) × IsSome (byte_at m (address_after base k))
 
--- none of them is
+-- none of the size addresses from base on is there
 abbrev pub IsFree : Bytes → ℕ → ℕ → Type 0
 IsFree m base size = (k : ℕ) → k < size → byte_at m (address_after base k) ≡ None
 
--- the memory with size more bytes from base on: those of front, and then zeros
+-- the memory with `size` bytes more, from base on: those of front, and then zeros
 abbrev pub added : Bytes → ℕ → ℕ → List ℕ → Bytes
 added m base size front =
     with_bytes m (addresses base size) (front ++ replicate (size - length front) 0)

@@ -6,7 +6,7 @@ ghost use Rattle.rv_mem.specs.private.Segment.{byte_among, Puts};
 
 use crate::segment::Segment;
 
-/// The byte at the address, if one of them has it.
+/// The byte at the address, if one of the segments has it.
 pub fn find_byte(segments: &[Segment], at: u32) -> Option<u8>
     ensures { result ≡ byte_among segments.now at }
 {
@@ -18,7 +18,7 @@ pub fn find_byte(segments: &[Segment], at: u32) -> Option<u8>
     None
 }
 
-/// Writes the byte of an address; false where none of them has it.
+/// Writes the byte of an address; false where no segment has it.
 pub fn put_byte(segments: &mut [Segment], at: u32, byte: u8) -> bool
     ensures there { IsTrue result ↔ IsSome (byte_among segments.old at) }
     ensures done { OnTrue result
@@ -34,7 +34,7 @@ pub fn put_byte(segments: &mut [Segment], at: u32, byte: u8) -> bool
     false
 }
 
-/// Whether one of them has an address from the first up to the second.
+/// Whether a segment has an address from `from` up to `to`, which isn't included.
 pub fn has_in(segments: &[Segment], from: u64, to: u64) -> bool
     ensures found { OnTrue result (HasIn (byte_among segments.now) from to) }
     ensures none { OnFalse result (HasNone (byte_among segments.now) from to) }

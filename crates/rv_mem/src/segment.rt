@@ -31,7 +31,7 @@ impl Segment {
         Ok(Segment { base, bytes })
     }
 
-    /// Whether it has an address from the first up to the second.
+    /// Whether the segment has an address from `from` up to `to`, which isn't included.
     pub fn has_in(&self, from: u64, to: u64) -> bool
         ensures found { OnTrue result (HasIn (byte_in self.now.base self.now.bytes.items) from to) }
         ensures none { OnFalse result
@@ -52,14 +52,14 @@ impl Segment {
         self.bytes.get((at - self.base) as usize).copied()
     }
 
-    /// Whether it has the address.
+    /// Whether the segment has a byte at the address.
     pub fn has(&self, at: u32) -> bool
         ensures { IsTrue result ↔ IsSome (byte_in self.now.base self.now.bytes.items at) }
     {
         self.byte_at(at).is_some()
     }
 
-    /// Writes the byte of an address that it has.
+    /// Writes the byte of an address at which the segment has one.
     pub fn put(&mut self, at: u32, byte: u8)
         requires { IsSome (byte_in self.old.base self.old.bytes.items at) }
         ensures { Puts (byte_in self.old.base self.old.bytes.items)

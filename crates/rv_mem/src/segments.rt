@@ -12,7 +12,7 @@ use crate::memory::{Memory, Width};
 use crate::segment::Segment;
 use std::alloc::Global;
 
-/// How many addresses there are.
+/// How many addresses a memory has.
 const ADDRESSES: u64 = 1 << 32;
 
 /// A memory as a list of segments, one for each `add`; no two have an address in common.
@@ -36,6 +36,7 @@ impl Segments {
         }
     }
 
+    /// The byte at address `at`, if a segment has one there.
     #[tactic(auto, using(crate::proofs::Lookups::get_among))]
     fn byte_at(&self, at: u32) -> Option<u8>
         ensures { result ≡ byte_at (bytes_of self.now) at }
@@ -51,7 +52,7 @@ impl Segments {
         lookup::put_byte(&mut self.parts, at, byte);
     }
 
-    /// Whether there is an address from the first up to the second.
+    /// Whether a segment has an address from `from` up to `to`, which isn't included.
     fn has_in(&self, from: u64, to: u64) -> bool
         ensures found { OnTrue result (HasIn (byte_at (bytes_of self.now)) from to) }
         ensures none { OnFalse result (HasNone (byte_at (bytes_of self.now)) from to) }

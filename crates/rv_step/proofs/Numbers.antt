@@ -60,7 +60,7 @@ result_fits Rem a b f g = cond_fits (b == 0) _ _ f (word_fits _)
 result_fits Remu a b f g = rem_fits a b f g
 result_fits _ a b f g = word_fits _
 
--- so does what a load writes
+-- what a load writes has 32 bits
 pub extended_fits : (kind : LoadKind) (n : ℕ) → n < 256 ^ load_size kind → extended kind n < 2 ^ 32
 extended_fits Lb n h = word_fits _
 extended_fits Lh n h = word_fits _

@@ -5,7 +5,7 @@ use Rattle.rv_word.proofs.Cut.{parts, cut_is}
 use Rattle.rv_word.proofs.OneSpelling.{read, cut_read}
 use Rattle.rv_word.proofs.Wide.{are_wide}
 
--- it holds, or it doesn't
+-- `A` holds, or it doesn't
 abbrev Decided : Type 0 → Type 0
 Decided A = A ⊎ (A → ⊥)
 

@@ -34,7 +34,7 @@ op_funct3 Divu = 0b101
 op_funct3 Rem = 0b110
 op_funct3 Remu = 0b111
 
--- its funct7: 0000001 is extension M's
+-- funct7 of a computation on two registers: 0000001 is extension M's
 abbrev pub op_funct7 : RegOp → ℕ
 op_funct7 Add = 0b0000000
 op_funct7 Sub = 0b0100000

@@ -6,7 +6,7 @@ use Rattle.rv_word.specs.declared.outline.Outline.{Outline}
 use Rattle.rv_word.specs.declared.outline.Outline.TheVariants.{Computes, Loads, Stores, Branches, Jumps, JumpsTo, Orders, Calls, Stops}
 use Rattle.rv_word.specs.Spelling.{IsWordOf}
 
--- what the instruction does
+-- the outline of an instruction: what it does
 abbrev pub outline : Instr → Outline
 outline (Op op rd rs1 rs2) = Computes rd
 outline (OpImm op rd rs1 imm) = Computes rd
@@ -21,7 +21,7 @@ outline (Fence imm rd rs1) = Orders
 outline Ecall = Calls
 outline Ebreak = Stops
 
--- the word spells an instruction that does this
+-- the word spells an instruction with this outline
 pub record IsWordThat (word : ℕ) (o : Outline) : Type 0 where
   pub instr : Instr
   pub spelled : IsWordOf word instr

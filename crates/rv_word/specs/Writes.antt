@@ -31,6 +31,6 @@ abbrev pub is_register : ℕ → Option ℕ → Bool
 is_register r None = false
 is_register r (Some rd) = rd == r
 
--- its destination is the register of that number
+-- the instruction's destination is the register of that number
 abbrev pub writes_register : ℕ → Instr → Bool
 writes_register r i = is_register r (destination i)

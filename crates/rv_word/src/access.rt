@@ -19,6 +19,7 @@ pub struct Access {
 }
 
 impl Parts {
+    /// Whether opcode and funct3 are those of a load or a store.
     fn is_access(self) -> bool
         ensures { result ≡ is_access self.opcode self.funct3 }
     {
@@ -28,6 +29,7 @@ impl Parts {
             && self.funct3 != 3
     }
 
+    /// The register that a load writes, or x0 for a store.
     fn written(self) -> Reg
         requires { Fits self }
         ensures { result ≡ (if self.opcode == 0b0100011 then 0 else self.rd) }
@@ -36,6 +38,7 @@ impl Parts {
         Reg::of_field(if stores { 0 } else { self.rd })
     }
 
+    /// The access of a word with these fields, if it is a load or a store.
     #[inline(always)]
     fn access(self) -> Option<Access>
         requires { Fits self }

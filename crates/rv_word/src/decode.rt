@@ -51,6 +51,7 @@ impl Parts {
         }
     }
 
+    /// The load with these fields; none where funct3 is that of no load.
     pub(crate) fn load(self) -> Option<Instr>
         requires fits { Fits self }
         requires opcode { self.opcode ≡ 0b0000011 }
@@ -65,6 +66,7 @@ impl Parts {
         })
     }
 
+    /// The fence with these fields; none where funct3 isn't 0.
     pub(crate) fn fence(self) -> Option<Instr>
         requires fits { Fits self }
         requires opcode { self.opcode ≡ 0b0001111 }
@@ -81,6 +83,7 @@ impl Parts {
         })
     }
 
+    /// The instruction on a register and a constant with these fields; none for a shift with a wrong funct7.
     pub(crate) fn op_imm(self) -> Option<Instr>
         requires fits { Fits self }
         requires opcode { self.opcode ≡ 0b0010011 }
@@ -103,6 +106,7 @@ impl Parts {
         })
     }
 
+    /// The store with these fields; none where funct3 is that of no store.
     pub(crate) fn store(self) -> Option<Instr>
         requires fits { Fits self }
         requires opcode { self.opcode ≡ 0b0100011 }
@@ -117,6 +121,7 @@ impl Parts {
         })
     }
 
+    /// The instruction on two registers with these fields; none where no instruction has both functs.
     pub(crate) fn op(self) -> Option<Instr>
         requires fits { Fits self }
         requires opcode { self.opcode ≡ 0b0110011 }
@@ -131,6 +136,7 @@ impl Parts {
         })
     }
 
+    /// The branch with these fields; none where funct3 is that of no branch.
     pub(crate) fn branch(self) -> Option<Instr>
         requires fits { Fits self }
         requires opcode { self.opcode ≡ 0b1100011 }
@@ -145,6 +151,7 @@ impl Parts {
         })
     }
 
+    /// The `jalr` with these fields; none where funct3 isn't 0.
     pub(crate) fn jalr(self) -> Option<Instr>
         requires fits { Fits self }
         requires opcode { self.opcode ≡ 0b1100111 }
@@ -161,6 +168,7 @@ impl Parts {
         })
     }
 
+    /// `ecall` or `ebreak`, if the fields are those of one.
     pub(crate) fn system(self) -> Option<Instr>
         requires fits { Fits self }
         requires opcode { self.opcode ≡ 0b1110011 }

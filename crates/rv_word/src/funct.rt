@@ -10,6 +10,7 @@ ghost use Rattle.rv_word.specs.Functs.{op_funct3, op_funct7, imm_funct3, is_shif
 use crate::instr::{Cond, ImmOp, LoadKind, RegOp, StoreWidth};
 
 impl RegOp {
+    /// The operation's funct3.
     pub(crate) fn funct3(self) -> u32
         ensures value { result ≡ op_funct3 self }
         ensures small { result < 8 }
@@ -26,6 +27,7 @@ impl RegOp {
         }
     }
 
+    /// The operation's funct7.
     pub(crate) fn funct7(self) -> u32
         ensures value { result ≡ op_funct7 self }
         ensures small { result < 128 }
@@ -75,6 +77,7 @@ impl RegOp {
 }
 
 impl ImmOp {
+    /// The operation's funct3.
     pub(crate) fn funct3(self) -> u32
         ensures value { result ≡ imm_funct3 self }
         ensures small { result < 8 }
@@ -138,6 +141,7 @@ impl ImmOp {
 }
 
 impl LoadKind {
+    /// The load's funct3.
     pub(crate) fn funct3(self) -> u32
         ensures value { result ≡ load_funct3 self }
         ensures small { result < 8 }
@@ -151,6 +155,7 @@ impl LoadKind {
         }
     }
 
+    /// The load with this funct3, if any.
     pub(crate) fn of(funct3: u32) -> Option<Self>
         ensures found { IfSome result (λ kind. load_funct3 kind ≡ funct3) }
         ensures none { IfNone result ((kind : LoadKind) → load_funct3 kind ≢ funct3) }
@@ -167,6 +172,7 @@ impl LoadKind {
 }
 
 impl StoreWidth {
+    /// The store's funct3.
     pub(crate) fn funct3(self) -> u32
         ensures value { result ≡ store_funct3 self }
         ensures small { result < 8 }
@@ -178,6 +184,7 @@ impl StoreWidth {
         }
     }
 
+    /// The store with this funct3, if any.
     pub(crate) fn of(funct3: u32) -> Option<Self>
         ensures found { IfSome result (λ width. store_funct3 width ≡ funct3) }
         ensures none { IfNone result ((width : StoreWidth) → store_funct3 width ≢ funct3) }
@@ -192,6 +199,7 @@ impl StoreWidth {
 }
 
 impl Cond {
+    /// The branch's funct3.
     pub(crate) fn funct3(self) -> u32
         ensures value { result ≡ cond_funct3 self }
         ensures small { result < 8 }
@@ -206,6 +214,7 @@ impl Cond {
         }
     }
 
+    /// The branch with this funct3, if any.
     pub(crate) fn of(funct3: u32) -> Option<Self>
         ensures found { IfSome result (λ cond. cond_funct3 cond ≡ funct3) }
         ensures none { IfNone result ((cond : Cond) → cond_funct3 cond ≢ funct3) }

@@ -54,6 +54,7 @@ pub fn outline_of(instr: Instr) -> Outline
     }
 }
 
+/// The outline of the instruction, if there is one.
 fn outline_of_some(instr: Option<Instr>) -> Option<Outline>
     ensures { result ≡ option_map outline instr }
 {
@@ -88,6 +89,7 @@ impl Parts {
         }
     }
 
+    /// The `auipc` with these fields.
     fn auipc(self) -> Instr
         requires fits { Fits self }
         requires opcode { self.opcode ≡ 0b0010111 }
@@ -99,6 +101,7 @@ impl Parts {
         }
     }
 
+    /// The `lui` with these fields.
     fn lui(self) -> Instr
         requires fits { Fits self }
         requires opcode { self.opcode ≡ 0b0110111 }
@@ -110,6 +113,7 @@ impl Parts {
         }
     }
 
+    /// The `jal` with these fields.
     fn jal(self) -> Instr
         requires fits { Fits self }
         requires opcode { self.opcode ≡ 0b1101111 }

@@ -22,6 +22,7 @@ fn without_words(rt: HostRuntime, kind: ErrorKind) -> u8 {
     }
 }
 
+// Runs the command that the arguments name, and gives the exit status.
 fn status(rt: HostRuntime) -> u8 {
     let alloc = rt.alloc();
     let args = match env::args(&rt) {
@@ -36,6 +37,7 @@ fn status(rt: HostRuntime) -> u8 {
     run_tool(alloc, words.as_slice(), &mut reader, &mut writer)
 }
 
+// Runs the command, and exits with its status.
 fn main(rt: HostRuntime) -> ExitCode {
     ExitCode::from(status(rt))
 }

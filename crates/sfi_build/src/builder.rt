@@ -42,7 +42,7 @@ pub fn build_at(alloc: Global, text: &str, places: &[Place]) -> Result<Vec<u8>, 
     ensures clean { IfOk result (λ bytes. IsCleanImage bytes.items) }
     ensures fault { IfErr result (λ f. IsWantOfMemory f ⊎ IsBuildFault places.now text.now f) }
 
-    // Which texts get it, want of memory aside.
+    // Which texts get each answer, want of memory aside.
     ensures only_built { (bytes : List ℕ)
         → IsTextBuild places.now text.now bytes → AnswersBuild bytes result }
     ensures only_fault { (f : BuildFault)
@@ -52,7 +52,7 @@ pub fn build_at(alloc: Global, text: &str, places: &[Place]) -> Result<Vec<u8>, 
     ensures no_place { places.now ≡ []
         → (sandbox : ℕ) → result ≢ Err (Link (fault.Place sandbox)) }
 
-    // Of a text above its limit, whatever memory there is.
+    // A text above its limit gets its fault, whatever memory there is.
     ensures too_long { most_bytes < length text.now → result ≡ Err (Text (first_line Limit)) }
 {
     build_of(alloc, text, places)
@@ -69,7 +69,7 @@ pub fn build(alloc: Global, text: &str) -> Result<Vec<u8>, BuildFault>
     ensures clean { IfOk result (λ bytes. IsCleanImage bytes.items) }
     ensures fault { IfErr result (λ f. IsWantOfMemory f ⊎ IsBuildFault [] text.now f) }
 
-    // Which texts get it, want of memory aside.
+    // Which texts get each answer, want of memory aside.
     ensures only_built { (bytes : List ℕ)
         → IsTextBuild [] text.now bytes → AnswersBuild bytes result }
     ensures only_fault { (f : BuildFault)
@@ -78,7 +78,7 @@ pub fn build(alloc: Global, text: &str) -> Result<Vec<u8>, BuildFault>
     // No fault is that of a place.
     ensures no_place { (sandbox : ℕ) → result ≢ Err (Link (fault.Place sandbox)) }
 
-    // Of a text above its limit, whatever memory there is.
+    // A text above its limit gets its fault, whatever memory there is.
     ensures too_long { most_bytes < length text.now → result ≡ Err (Text (first_line Limit)) }
 {
     build_at(alloc, text, &[])
@@ -103,7 +103,7 @@ pub fn names_at(alloc: Global, text: &str, places: &[Place]) -> Result<Vec<NameA
     ensures mapped { IfOk result (λ entries. IsTextMap places.now text.now entries.items) }
     ensures fault { IfErr result (λ f. IsWantOfMemory f ⊎ IsBuildFault places.now text.now f) }
 
-    // Which texts get it, want of memory aside.
+    // Which texts get each answer, want of memory aside.
     ensures only_mapped { (entries : List MapEntry)
         → IsTextMap places.now text.now entries → AnswersBuild entries result }
     ensures only_fault { (f : BuildFault)
@@ -113,7 +113,7 @@ pub fn names_at(alloc: Global, text: &str, places: &[Place]) -> Result<Vec<NameA
     ensures no_place { places.now ≡ []
         → (sandbox : ℕ) → result ≢ Err (Link (fault.Place sandbox)) }
 
-    // Of a text above its limit, whatever memory there is.
+    // A text above its limit gets its fault, whatever memory there is.
     ensures too_long { most_bytes < length text.now → result ≡ Err (Text (first_line Limit)) }
 {
     map_of(alloc, text, places)

@@ -93,7 +93,7 @@ short_bound bytes (inl h) = omega (arith, h.0)
 short_bound bytes (inr (inl h)) = let is = h.2 in absurd cc
 short_bound bytes (inr (inr h)) = omega (arith, count_bound h.0 h.1 h.3, ap length h.2, length-magic h.0 h.1)
 
--- so they aren't short with as many bytes more
+-- no bytes have the fault Short whatever follows them: with enough bytes more they aren't cut short
 long_enough : (n : ℕ) → image_most ≤ n → (bytes : List ℕ) → HasFaultWhateverFollows bytes Short → ⊥
 long_enough n most bytes h = omega (arith, most, short_bound (bytes ++ replicate n 0) (h (replicate n 0)), length-append bytes (replicate n 0), length-replicate {A = ℕ} n 0)
 

@@ -54,7 +54,7 @@ module _ (sandbox : ℕ) (p : Part) where
         | inr more ↦ (let e : suc m ≡ n = omega arith in (next, subst (λ (k : ℕ). AreFoundOfFirst sandbox p k [] next) e h))
       ]
 
--- the same findings, and the same debt after them
+-- the findings are the same, and what is owed after them
 record IsSame (xs ys : List Finding) (n m : Owed) : Type 0 where
   found : xs ≡ ys
   owed : n ≡ m
@@ -130,7 +130,7 @@ none_of_part sandbox f gs code more init found kept x all clean =
 
 -- ---- the sandboxes of a list
 
--- those of the first ones, where none is found of all
+-- where nothing is found in all of the sandboxes, nothing is found in the first ones, nor in the rest
 pub first_clean : (sandbox : ℕ) (ps qs : List Part) → AreFindingsFrom sandbox (ps ++ qs) [] → AreFindingsFrom sandbox ps [] × AreFindingsFrom (sandbox + length ps) qs []
 first_clean sandbox [] qs h = let at : sandbox ≡ sandbox + 0 = omega arith in (refl, subst (λ (n : ℕ). AreFindingsFrom n qs []) at h)
 first_clean sandbox (p ∷ ps) qs h =
@@ -155,13 +155,13 @@ IsPartial format tail =
     (length tail < 28)
     ⊎ ((f : Fields) × (rest : List ℕ) × AreFieldWords f × (f.format ≡ format) × (tail ≡ fields f ++ rest) × (length rest < 8 * f.gate_count + (f.code_size + f.init_len)))
 
--- it doesn't reach the code
+-- the bytes end before the next sandbox's code
 abbrev pub HasNoCode : Format → List ℕ → Type 0
 HasNoCode format tail =
     (length tail < 28)
     ⊎ ((f : Fields) × (rest : List ℕ) × AreFieldWords f × (f.format ≡ format) × (tail ≡ fields f ++ rest) × (length rest < 8 * f.gate_count))
 
--- it has this much of the code of one more
+-- the bytes have the fields and gates of another sandbox, and `code` of its code
 pub record HasCode (format : Format) (f : Fields) (gs : List Gate) (code rest tail : List ℕ) : Type 0 where
   pub words : AreFieldWords f
   pub kind : f.format ≡ format
@@ -186,7 +186,7 @@ no_part format p tail after kind right (inr (f, rest, words, of, is, few)) e =
     let init : f.init_len ≡ length p.init = ap (λ (g : Fields). g.init_len) same.0 in
     omega (arith, few, gates, code, init, ap length same.1, length-append (flat_map gate p.gates) (p.code ++ (p.init ++ after)), length-gates p.gates, length-append p.code (p.init ++ after), length-append p.init after)
 
--- nor is the code of one at the front of what doesn't reach it
+-- bytes that end before the next sandbox's code don't begin with bytes that reach it
 pub no_code : (format : Format) (f : Fields) (gs : List Gate) (code rest tail more longer : List ℕ) → HasCode format f gs code rest tail → HasNoCode format longer → tail ++ more ≡ longer → ⊥
 no_code format f gs code rest tail more longer h none e =
     let after = flat_map gate gs ++ ((code ++ rest) ++ more) in

@@ -264,7 +264,7 @@ view_format f g bytes more found others x y =
     let split : magic f ++ (number r.count ++ ((flat_map part x.parts ++ x.tail) ++ more)) ≡ bytes ++ more = sym (ap (λ (l : List ℕ). l ++ more) r.bytes_are ∙ simp append_assoc) in
     (peeled f g r.count s.count _ _ r.few s.few (split ∙ s.bytes_are)).0
 
--- so what is read without a finding had none before
+-- where bytes are read without a finding, their front was, too
 pub none_before : (bytes more : List ℕ) (found : List Finding) → HaveFrontFindings bytes found → HaveFrontFindings (bytes ++ more) [] → found ≡ []
 none_before bytes more found h g = by (viewed bytes found h) (viewed (bytes ++ more) [] g)
   where

@@ -28,7 +28,7 @@ module _ {A B : Type 0} (form : A → B) where
   one_set (x ∷ xs) (b ∷ array) zero d lt room = refl
   one_set (x ∷ xs) (b ∷ array) (suc i) d lt room = ap (λ (l : List B). form x ∷ l) (one_set xs array i d (omega arith) (omega arith))
 
-  -- one more is written
+  -- the array after another item is written
   pub written_one_more : (xs : List A) (array now : List B) (i : ℕ) (x : B) (d : A) → i < length xs → i < length array → now ≡ over (take i xs) array
       → x ≡ form (get_or xs i d) → slice_set now i x ≡ over (take (i + 1) xs) array
   written_one_more xs array now i x d lt room is e =
@@ -47,7 +47,7 @@ module _ {A B : Type 0} (form : A → B) where
   none_over [] = refl
   none_over (y ∷ ys) = refl
 
-  -- others are written after so many
+  -- writing `ys` from element `n` on, where `xs` end, is writing both lists in one
   pub written_after : (xs ys : List A) (array : List B) (n : ℕ) → n ≡ min (length xs) (length array) → take n (over xs array) ++ over ys (drop n (over xs array)) ≡ over (xs ++ ys) array
   written_after [] ys array zero e = refl
   written_after [] ys array (suc n) e = absurd (omega (arith, e))

@@ -1,9 +1,9 @@
--- Where C is told that sandboxes lie, and that two lie apart.
+-- Where sandboxes lie by what C is told of them, and that two lie apart.
 use Rattle.sfi_image.specs.declared.span.Span.{Span}
 use Rattle.sfi_image.specs.Spans.{AreApart, with_guards}
 use Rattle.sfi_c.specs.declared.part.SfiPart.{SfiPart}
 
--- the code region
+-- the sandbox's code region
 abbrev pub told_code : SfiPart → Span
 told_code t = record { base = t.code_base; size = t.code_size }
 
@@ -11,7 +11,7 @@ told_code t = record { base = t.code_base; size = t.code_size }
 abbrev pub told_guarded : SfiPart → Span
 told_guarded t = with_guards (record { base = t.data_base; size = t.data_size })
 
--- no region and no guard zone of the one meets one of the other
+-- no region or guard zone of `one` has an address in common with one of `other`
 pub record AreToldApart (one other : SfiPart) : Type 0 where
   pub code_code : AreApart (told_code one) (told_code other)
   pub code_guarded : AreApart (told_code one) (told_guarded other)

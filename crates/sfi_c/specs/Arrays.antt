@@ -4,7 +4,7 @@ use Rattle.sfi_rules.specs.declared.finding.Finding.{Finding}
 use Rattle.sfi_check.specs.declared.for_c.SfiFinding.{SfiFinding}
 use Rattle.sfi_check.specs.ForC.{finding_for_c}
 
--- an array after these were written to it, each in this form: at its front those that it has room
+-- an array to which the items were written, each in this form: at its front as many as it has room
 -- for, and then what it held there before
 abbrev pub with_front : {A B : Type 0} → (A → B) → List A → List B → List B
 with_front form xs array = map form (take (length array) xs) ++ drop (length xs) array

@@ -8,7 +8,7 @@ use Rattle.sfi_c.specs.declared.moving.Move.TheVariants.{Moved, Beyond, NoImage,
 abbrev pub to_place : ℕ → ℕ → Place
 to_place code_base data_base = record { code_base = code_base; data_base = data_base }
 
--- the number of what is said of a sandbox that was to be moved
+-- the number by which C knows how a move ended
 abbrev pub move_number : Move → ℕ
 move_number Moved = 0
 move_number Beyond = 1

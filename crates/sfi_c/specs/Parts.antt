@@ -13,7 +13,7 @@ use Rattle.sfi_c.specs.Arrays.{with_front}
 
 -- ---- numbers
 
--- what is said of a sandbox or a gate that was asked for
+-- the number by which C knows how a look-up ended
 abbrev pub lookup_number : Lookup → ℕ
 lookup_number Found = 0
 lookup_number Beyond = 1
@@ -42,29 +42,29 @@ told_part p code_offset init_offset = record {
   init_offset = init_offset;
 }
 
--- where the code lies of a sandbox that begins at the offset: after its fields and its gates
+-- where the code of a sandbox lies that begins at the offset: after its fields and its gates
 abbrev pub code_after : Part → ℕ → ℕ
 code_after p offset = offset + fields_bytes + gate_bytes * length p.gates
 
--- what is told of a sandbox that begins at the offset; its first data bytes lie after its code
+-- what C is told of a sandbox that begins at the offset; its first data bytes lie after its code
 abbrev pub told_at : Part → ℕ → SfiPart
 told_at p offset = told_part p (code_after p offset) (code_after p offset + length p.code)
 
--- this is told of the sandbox of that number in an image with these bytes and sandboxes: the offsets
--- are its place, at which its code and its first data bytes lie
+-- C is told `t` of sandbox `number` of an image with these bytes and sandboxes: at its offsets lie the
+-- sandbox's code and first data bytes
 pub record Tells (bytes : List ℕ) (ps : List Part) (number : ℕ) (p : Part) (t : SfiPart) : Type 0 where
   pub told_is : t ≡ told_at p (sandbox_offset ps number)
   pub code : LiesAt bytes t.code_offset p.code
   pub init : LiesAt bytes t.init_offset p.init
 
--- the bytes are an image, and this is told of its sandbox of that number
+-- the bytes are an image, and C is told this of its sandbox of that number
 abbrev pub IsPartOf : List ℕ → ℕ → SfiPart → Type 0
 IsPartOf bytes number t =
     (p : Part) × (h : IsSandboxOf bytes number p) × Tells bytes h.parts number p t
 
 -- ---- gates
 
--- a gate
+-- what C is told of a gate
 abbrev pub told_gate : Gate → SfiGate
 told_gate g = record { address = g.address; service = g.service }
 

@@ -21,9 +21,10 @@ use Rattle.sfi_check.specs.Feeds.{IsFed}
 use Rattle.sfi_check.specs.declared.for_c.SfiFinding.{SfiFinding}
 use Rattle.sfi_c.specs.declared.stream.SfiStream.{SfiStream}
 
--- ---- by number: `IsStreamOf`, and its parts, which only private contracts name themselves
+-- ---- what numbers stand for: `IsStreamOf`, and its parts, which only private contracts name
+-- themselves
 
--- what comes next
+-- what comes next, by its number
 abbrev pub stage_of : ℕ → Next
 stage_of n =
     cond (n == 0) next.Magic
@@ -34,11 +35,11 @@ stage_of n =
     (cond (n == 5) next.Init
     (cond (n == 6) next.End next.Nothing))))))
 
--- a format
+-- a format, by its number
 abbrev pub format_of : ℕ → Format
 format_of n = cond (n == 1) Sfi1 (cond (n == 2) Sfi2 Sfiw)
 
--- what is owed: its kind, and 8 for each of its register
+-- what is owed, by its number: one for its kind, plus 8 times its register
 abbrev pub owed_by : ℕ → ℕ → Owed
 owed_by kind register =
     cond (kind == 1) owed.Code
@@ -49,7 +50,7 @@ owed_by kind register =
 abbrev pub owed_of : ℕ → Owed
 owed_of n = owed_by (n % 8) (n / 8 % 256)
 
--- a finding; zeros are none, since no rule has the number 0
+-- the first finding, if there is one: zeros are none, since no rule has the number 0
 abbrev pub first_finding : SfiFinding → Option Finding
 first_finding f =
     option_map (λ rule. record { sandbox = f.sandbox; address = f.address; rule = rule })
@@ -61,13 +62,13 @@ all_faults =
     faults.Magic ∷ faults.Count ∷ faults.Short ∷ faults.Code ∷ faults.Data ∷ faults.GuardRoom
     ∷ faults.Start ∷ faults.Gates ∷ faults.Init ∷ faults.Overlap ∷ faults.Trailing ∷ []
 
--- a fault of the layout; 0 is none
+-- a fault of the layout, by its number; 0 is none
 abbrev pub fault_of : ℕ → Option LayoutFault
 fault_of n = find (λ k. n == number_of k) all_faults
 
--- ---- a feed, by the numbers that C keeps
+-- ---- a feed, by the numbers of a stream
 
--- the fields of the last sandbox
+-- the fields of the last sandbox that the stream keeps
 abbrev pub fields_of : SfiStream → Fields
 fields_of s = record {
   format = format_of s.format;
@@ -80,7 +81,7 @@ fields_of s = record {
   init_len = s.init_len;
 }
 
--- what a reader keeps: of each array so many elements at its front
+-- the reader that the stream keeps: of each array the first elements, as many as its count says
 abbrev pub reader_of : SfiStream → LayoutReader
 reader_of s = record {
   next = stage_of s.next;
@@ -94,7 +95,7 @@ reader_of s = record {
   init_read = s.init_read;
 }
 
--- what was found
+-- the tally that the stream keeps
 abbrev pub tally_of : SfiStream → Tally
 tally_of s = record {
   sandboxes = s.sandboxes;
@@ -104,7 +105,7 @@ tally_of s = record {
   owed = owed_of s.owed;
 }
 
--- the feed
+-- the feed that the stream keeps
 abbrev pub feed_of : SfiStream → Feed
 feed_of s = record {
   reader = reader_of s;
@@ -114,7 +115,7 @@ feed_of s = record {
   fault = fault_of s.fault;
 }
 
--- ---- of which bytes
+-- ---- of which bytes a stream is
 
 -- the numbers are those of a feed that was fed these bytes, in any pieces
 pub record IsStreamOf (s : SfiStream) (bytes : List ℕ) : Type 0 where

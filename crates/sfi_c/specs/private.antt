@@ -22,29 +22,29 @@ use Rattle.sfi_check.specs.declared.for_c.SfiFinding.{SfiFinding}
 abbrev pub HasPart : List ℕ → ℕ → Type 0
 HasPart bytes number = (p : Part) × IsSandboxOf bytes number p
 
--- and with a gate of that index there
+-- the bytes are an image with a sandbox of that number, which has a gate of that index
 abbrev pub HasGate : List ℕ → ℕ → ℕ → Type 0
 HasGate bytes number index = (p : Part) × IsSandboxOf bytes number p × (index < length p.gates)
 
--- they are no image
+-- the bytes are no image
 abbrev pub HasFault : List ℕ → Type 0
 HasFault bytes = (k : LayoutFault) × IsFault bytes k
 
--- what is asked for is there, is beyond what there is, or the bytes are no image: each is said
--- exactly where it is so
+-- `said` is Found exactly where what is asked for is there, Beyond where the image has fewer, and
+-- NoImage where the bytes are no image
 pub record IsSaid (there further fault : Type 0) (said : Lookup) : Type 0 where
   pub found : (said ≡ Found) ↔ there
   pub beyond : (said ≡ Beyond) ↔ further
   pub layout : (said ≡ NoImage) ↔ fault
 
--- what is said where this was sought
+-- what is said of the result of a look-up
 abbrev pub said_by : {X : Type 0} → Result X Lookup → Lookup
 said_by (Ok x) = Found
 said_by (Err l) = l
 
 -- ---- what is said of a sandbox that was to be moved
 
--- by the answer
+-- what is said of a move by its answer
 abbrev pub move_said_of : Result (Unit {0}) MoveFault → Move
 move_said_of (Ok done) = moves.Moved
 move_said_of (Err faults.NoSandbox) = moves.Beyond
@@ -53,13 +53,14 @@ move_said_of (Err faults.NoPlace) = moves.NoPlace
 
 -- ---- arrays
 
--- of what the array was at first: it has these findings, and so many elements are written
+-- the array, which was `first`, has these findings at its front, as far as they fit: `written` of
+-- them
 pub record Has (first : List SfiFinding) (found : List Finding) (array : List SfiFinding)
     (written : ℕ) : Type 0 where
   pub array_is : array ≡ with_findings found first
   pub written_is : written ≡ min (length found) (length first)
 
--- whatever it had, it then has the new findings after them
+-- whatever findings the array had, it then has the new ones after them
 abbrev pub Takes : List SfiFinding → ℕ → List Finding → List SfiFinding → ℕ → Type 0
 Takes array written found after written_after =
     (first : List SfiFinding) (before : List Finding) → Has first before array written

@@ -11,7 +11,7 @@ use crate::part::SfiPart;
 use sfi_image::Span;
 use sfi_policy::GUARD;
 
-/// The code region.
+/// The sandbox's code region.
 fn told_code(part: &SfiPart) -> Span
     ensures is { result ≡ told_code part.now }
     ensures end { result.base + result.size < 2 ^ 33 }
@@ -22,7 +22,7 @@ fn told_code(part: &SfiPart) -> Span
     }
 }
 
-/// The data region with a guard zone on each side.
+/// The sandbox's data region with a guard zone on each side.
 fn told_guarded(part: &SfiPart) -> Span
     ensures is { result ≡ told_guarded part.now }
     ensures end { result.base + result.size < 2 ^ 34 }
@@ -34,7 +34,7 @@ fn told_guarded(part: &SfiPart) -> Span
     }
 }
 
-/// Tells whether no address lies in both. Either may be empty.
+/// Whether the two spans have no address in common. Either may be empty.
 fn are_apart(one: Span, other: Span) -> bool
     requires one { one.base + one.size < 2 ^ 64 }
     requires other { other.base + other.size < 2 ^ 64 }
@@ -44,7 +44,8 @@ fn are_apart(one: Span, other: Span) -> bool
     end <= one.base.max(other.base)
 }
 
-/// Tells whether each of the two regions of the one lies apart from each of the other.
+/// Whether each of the two regions of `one`, the data with guard zones, lies apart from each of
+/// `other`.
 fn are_told_apart(one: &SfiPart, other: &SfiPart) -> bool
     ensures { IsTrue result ↔ AreToldApart one.now other.now }
 {
@@ -64,13 +65,13 @@ fn are_told_apart(one: &SfiPart, other: &SfiPart) -> bool
     are_apart(guarded, other_guarded)
 }
 
-/// Tells whether no region and no guard zone of the one meets one of the other, by their bases and
-/// sizes alone.
+/// Tells whether no region or guard zone of `one` has an address in common with one of `other`, by
+/// their bases and sizes alone.
 #[unsafe(no_mangle)]
 pub extern "C" fn sfi_c_apart(one: &SfiPart, other: &SfiPart) -> bool
     ensures apart { IsTrue result ↔ AreToldApart one.now other.now }
 
-    // Of sandboxes of images, which may be two.
+    // Where `one` and `other` are sandboxes of images, of the same image or of two.
     ensures beside { (bytes others : List ℕ) (number further : ℕ) (p q : Part)
         → (h : IsSandboxOf bytes number p) → (g : IsSandboxOf others further q)
         → Tells bytes h.parts number p one.now → Tells others g.parts further q other.now

@@ -24,7 +24,7 @@ pub extern "C" fn sfi_c_check(image: &[u8], verdict: &mut SfiVerdict) -> u32
         × IsRefusal image.now first rest verdict.new }
     ensures layout { result ≡ number_of Status.NoImage → IsLayoutFault image.now verdict.new }
 
-    // Which bytes get it.
+    // Which bytes get each status.
     ensures only_accepted { (ps : List Part) → IsAccepted image.now ps
         → verdict.new ≡ acceptance (length ps) (bundle_count ps) }
     ensures only_refused { (first : Finding) (rest : List Finding)
@@ -33,7 +33,7 @@ pub extern "C" fn sfi_c_check(image: &[u8], verdict: &mut SfiVerdict) -> u32
     ensures only_layout { (k : LayoutFault) → IsFault image.now k
         → verdict.new ≡ no_image (fault_number k) }
 {
-    // With no room for a finding: so both calls are compiled to one scan.
+    // An array with no room for a finding, so that both calls are compiled to one scan.
     let mut none = Array {
         elements: &mut [],
         written: 0,
@@ -42,7 +42,7 @@ pub extern "C" fn sfi_c_check(image: &[u8], verdict: &mut SfiVerdict) -> u32
     verdict.status
 }
 
-/// Writes the bytes' findings to an array of which nothing is written.
+/// Writes the image's findings to `sink`, in which nothing is written yet.
 fn fill(image: &[u8], sink: &mut Array<'_>)
     requires { sink.old.written ≡ 0 }
     ensures same_array { sink.new.elements.ghost_name ≡ sink.old.elements.ghost_name }
@@ -52,7 +52,7 @@ fn fill(image: &[u8], sink: &mut Array<'_>)
     check_into(image, sink);
 }
 
-/// Writes the bytes' findings to the array.
+/// Writes the image's findings to the array.
 fn list_findings(image: &[u8], array: &mut [SfiFinding])
     ensures { (found : List Finding) → HasFindings image.now found
         → array.new ≡ with_findings found array.old }
@@ -84,7 +84,7 @@ pub extern "C" fn sfi_c_findings(
     ensures layout { result ≡ number_of Status.NoImage → IsLayoutFault image.now verdict.new }
     ensures unwritten { result ≢ number_of Status.Refused → array.new ≡ array.old }
 
-    // Which bytes get it.
+    // Which bytes get each status.
     ensures only_accepted { (ps : List Part) → IsAccepted image.now ps
         → verdict.new ≡ acceptance (length ps) (bundle_count ps) }
     ensures only_refused { (first : Finding) (rest : List Finding)

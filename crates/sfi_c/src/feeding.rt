@@ -51,7 +51,7 @@ pub extern "C" fn sfi_c_end(stream: &SfiStream, verdict: &mut SfiVerdict) -> u32
     ensures layout { (bytes : List ℕ) → IsStreamOf stream.now bytes
         → result ≡ number_of Status.NoImage → IsLayoutFault bytes verdict.new }
 
-    // Which bytes get it.
+    // Which bytes get each status.
     ensures only_accepted { (bytes : List ℕ) → IsStreamOf stream.now bytes
         → (ps : List Part) → IsAccepted bytes ps
         → verdict.new ≡ acceptance (length ps) (bundle_count ps) }

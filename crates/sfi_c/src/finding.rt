@@ -18,7 +18,7 @@ pub(crate) fn write_findings(found: &BundleFindings, array: &mut [SfiFinding])
     }
 }
 
-/// An array, of which so many elements are written.
+/// An array whose first `written` elements are written.
 #[derive(Drop)]
 pub(crate) struct Array<'a> {
     pub(crate) elements: &'a mut [SfiFinding],

@@ -15,9 +15,9 @@ use sfi_image::{Gate, LayoutFault, PartView, sandbox_of};
 /// What is said of a sandbox or a gate that was asked for.
 #[derive(Clone, Copy, PartialEq, Eq, Debug)]
 pub enum Lookup {
-    /// The image has it.
+    /// The image has the sandbox or gate.
     Found,
-    /// The image has fewer.
+    /// The image has fewer sandboxes, or the sandbox fewer gates.
     Beyond,
     /// The bytes are no image.
     NoImage,
@@ -98,7 +98,7 @@ pub extern "C" fn sfi_c_part(image: &[u8], number: u32, part: &mut SfiPart) -> u
         → (k : LayoutFault) × IsFault image.now k }
     ensures unwritten { result ≢ lookup_number Lookup.Found → part.new ≡ part.old }
 
-    // Which bytes get it.
+    // Which bytes get each status.
     ensures only_found { (p : Part) → IsSandboxOf image.now number p
         → result ≡ lookup_number Lookup.Found }
     ensures only_beyond { IsBeyond image.now number → result ≡ lookup_number Lookup.Beyond }
@@ -126,7 +126,7 @@ pub extern "C" fn sfi_c_gate(image: &[u8], number: u32, index: u32, gate: &mut S
         → (k : LayoutFault) × IsFault image.now k }
     ensures unwritten { result ≢ lookup_number Lookup.Found → gate.new ≡ gate.old }
 
-    // Which bytes get it.
+    // Which bytes get each status.
     ensures only_found { (p : Part) → IsSandboxOf image.now number p → index < length p.gates
         → result ≡ lookup_number Lookup.Found }
     ensures only_beyond { IsBeyondGates image.now number index
@@ -157,7 +157,7 @@ pub extern "C" fn sfi_c_gates(image: &[u8], number: u32, array: &mut [SfiGate]) 
         → (k : LayoutFault) × IsFault image.now k }
     ensures unwritten { result ≢ lookup_number Lookup.Found → array.new ≡ array.old }
 
-    // Which bytes get it.
+    // Which bytes get each status.
     ensures only_found { (p : Part) → IsSandboxOf image.now number p
         → result ≡ lookup_number Lookup.Found }
     ensures only_beyond { IsBeyond image.now number → result ≡ lookup_number Lookup.Beyond }

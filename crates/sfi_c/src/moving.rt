@@ -42,7 +42,7 @@ impl Move {
     }
 }
 
-/// What is said of that answer.
+/// What C is told for the answer of a move.
 fn move_said_of(answer: Result<(), MoveFault>) -> Move
     ensures { result ≡ move_said_of answer }
 {
@@ -71,7 +71,7 @@ pub extern "C" fn sfi_c_move(image: &mut [u8], number: u32, code_base: u32, data
         → IsWrongPlace image.old number (to_place code_base data_base) }
     ensures unmoved { result ≢ move_number Move.Moved → image.new ≡ image.old }
 
-    // Which bytes get it.
+    // Which bytes get each status.
     ensures only_moved { (now : List ℕ)
         → IsMoved image.old number (to_place code_base data_base) now
         → result ≡ move_number Move.Moved }

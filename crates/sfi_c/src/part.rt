@@ -30,7 +30,8 @@ pub struct SfiPart {
     /// Where the code begins in the image's bytes, counted from 0: directly after this sandbox's
     /// fields and gates.
     pub code_offset: usize,
-    /// Where the first data bytes begin there: directly after the code, also where there are none.
+    /// Where the first data bytes begin in the image's bytes: directly after the code, also where
+    /// there are none.
     pub init_offset: usize,
 }
 
@@ -38,13 +39,14 @@ pub struct SfiPart {
 #[repr(C)]
 #[derive(Clone, Copy, PartialEq, Eq, Debug)]
 pub struct SfiGate {
-    /// The listed address: in code in bundles its stub stands there; in words what does isn't tested.
+    /// The listed address. In code in bundles the gate's stub stands there; in words nothing tests
+    /// what does.
     pub address: u32,
     /// What the host is asked for, by the number of a service.
     pub service: u32,
 }
 
-/// What is told of a sandbox whose bytes end there, counted from the image's first.
+/// What C is told of a sandbox. `end` is where its bytes end, counted from the image's first.
 pub(crate) fn part_told(view: &PartView<'_>, end: usize) -> SfiPart
     requires { (p : Part) × (offset : ℕ) × IsViewOf view.now p × (end ≡ offset + length (part p)) }
     ensures { (p : Part) (offset : ℕ) → IsViewOf view.now p → end ≡ offset + length (part p)
@@ -66,7 +68,7 @@ pub(crate) fn part_told(view: &PartView<'_>, end: usize) -> SfiPart
     }
 }
 
-/// What is told of a gate.
+/// What C is told of a gate.
 pub(crate) fn gate_told(gate: Gate) -> SfiGate
     ensures { result ≡ told_gate gate }
 {

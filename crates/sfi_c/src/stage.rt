@@ -1,4 +1,4 @@
-//! Numbers for what an enum says in Rattle.
+//! Numbers by which C keeps our enums.
 ghost use Rattle.std.specs.Prelude.{◌≡◌};
 ghost use Rattle.sfi_c.specs.Parts.{format_number};
 ghost use Rattle.sfi_c.specs.Streams.{stage_of, format_of, owed_of, fault_of, first_finding};
@@ -62,7 +62,7 @@ pub(crate) fn format_of(number: u32) -> Format
     }
 }
 
-/// The number of what is owed: its kind, and 8 for each of its register.
+/// The number of what is owed: one for its kind, plus 8 times its register.
 pub(crate) fn owed_number(owed: Owed) -> u32
     ensures { owed_of result ≡ owed }
 {
@@ -119,7 +119,7 @@ pub(crate) fn fault_of(number: u32) -> Option<LayoutFault>
     }
 }
 
-/// The first finding, or zeros.
+/// The first finding for C to keep; zeros where there is none.
 pub(crate) fn first_told(first: Option<Finding>) -> SfiFinding
     ensures { first_finding result ≡ first }
 {
@@ -129,7 +129,7 @@ pub(crate) fn first_told(first: Option<Finding>) -> SfiFinding
     }
 }
 
-/// The first finding, if there is one.
+/// The first finding that C keeps, if there is one.
 pub(crate) fn first_finding(first: SfiFinding) -> Option<Finding>
     ensures { result ≡ first_finding first }
 {

@@ -21,9 +21,9 @@ pub struct SfiStream {
     pub span_count: u64,
     /// How many gates of the last sandbox were read.
     pub gate_count: u64,
-    /// How many of these lie before the next bundle.
+    /// How many of these gates lie before the next bundle.
     pub passed: u64,
-    /// How many bytes are held.
+    /// How many bytes of `held` are held.
     pub held_count: u64,
     /// The addresses of the gates.
     pub gates: [u32; 64],
@@ -33,45 +33,46 @@ pub struct SfiStream {
     pub next: u32,
     /// How many sandboxes the image has.
     pub count: u32,
-    /// How many of these have had their fields read.
+    /// How many of these sandboxes have had their fields read.
     pub begun: u32,
     /// The image's format: 1, 2 or 3.
     pub format: u32,
     /// The first address of the last sandbox's code region.
     pub code_base: u32,
-    /// Its size in bytes.
+    /// The size of that code region in bytes.
     pub code_size: u32,
-    /// The first address of its data region.
+    /// The first address of that sandbox's data region.
     pub data_base: u32,
-    /// Its size in bytes.
+    /// The size of that data region in bytes.
     pub data_size: u32,
-    /// The address at which it starts.
+    /// The address at which that sandbox starts.
     pub start: u32,
-    /// How many gates it lists.
+    /// How many gates that sandbox lists.
     pub gates_listed: u32,
-    /// How many first data bytes it has.
+    /// How many first data bytes that sandbox has.
     pub init_len: u32,
-    /// How many bytes of its code were read.
+    /// How many bytes of that sandbox's code were read.
     pub code_read: u32,
-    /// How many of its first data bytes were read.
+    /// How many of that sandbox's first data bytes were read.
     pub init_read: u32,
     /// How many sandboxes have a bundle that was scanned.
     pub sandboxes: u32,
     /// How many bundles were scanned.
     pub bundles: u32,
-    /// How many findings they have.
+    /// How many findings these bundles have.
     pub findings: u32,
-    /// The first of these, or three zeros.
+    /// The first of these findings, or three zeros.
     pub first: SfiFinding,
-    /// What is owed to the code that comes, by number.
+    /// What is owed before the code that comes next, by number.
     pub owed: u32,
-    /// The number of the layout's fault that was met, 1 to 11, or 0.
+    /// The number of the layout's fault, 1 to 11, or 0 if none was met.
     pub fault: u32,
 }
 
 // The header says so, too.
 const _: () = prove!(size_of::<SfiStream>() == 952);
 
+/// The sandbox's fields that the stream keeps.
 fn fields_of(stream: &SfiStream) -> Fields
     ensures { result ≡ fields_of stream.now }
 {
@@ -87,6 +88,7 @@ fn fields_of(stream: &SfiStream) -> Fields
     }
 }
 
+/// The layout reader that the stream keeps.
 fn reader_of(stream: &SfiStream) -> LayoutReader
     ensures { result ≡ reader_of stream.now }
 {
@@ -103,6 +105,7 @@ fn reader_of(stream: &SfiStream) -> LayoutReader
     }
 }
 
+/// The tally that the stream keeps.
 fn tally_of(stream: &SfiStream) -> Tally
     ensures { result ≡ tally_of stream.now }
 {
@@ -115,7 +118,7 @@ fn tally_of(stream: &SfiStream) -> Tally
     }
 }
 
-/// The feed that C keeps.
+/// The feed that a stream of C's keeps.
 pub(crate) fn feed_of(stream: &SfiStream) -> Feed
     ensures { result ≡ feed_of stream.now }
 {
@@ -128,7 +131,7 @@ pub(crate) fn feed_of(stream: &SfiStream) -> Feed
     }
 }
 
-/// The feed for C to keep.
+/// The feed as a stream for C to keep.
 pub(crate) fn kept(feed: &Feed) -> SfiStream
     ensures { feed_of result ≡ feed.now }
 {

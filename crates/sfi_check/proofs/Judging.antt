@@ -68,7 +68,7 @@ ended_whole r t bytes h is =
     let w = at_whole r t bytes h.at h.stands h.bytes_are h.tallies is in
     judged_whole bytes w.0 t (subst (λ (l : List ℕ). IsImage l w.0) (sym w.1) (whole_is_image w.0 w.2.right)) w.3
 
--- it goes on after the image
+-- the stream goes on after the image
 pub trailing : {T : List Finding → Type 0} → (r : LayoutReader) (t : Tally) (bytes rest : List ℕ) → IsSoFar T r t bytes → r.next ≡ next.End → 0 < length rest → HasFaultWhateverFollows (bytes ++ rest) faults.Trailing
 trailing r t bytes rest h is some =
     let w = at_whole r t bytes h.at h.stands h.bytes_are h.tallies is in
@@ -80,7 +80,7 @@ trailing r t bytes rest h is some =
     longer [] ys s = absurd (omega arith)
     longer (x ∷ xs) ys s = omega arith
 
--- it ends before what comes next is whole
+-- the stream ends before what comes next is whole
 pub ended_short : {T : List Finding → Type 0} → (r : LayoutReader) (t : Tally) (bytes rest : List ℕ) → IsSoFar T r t bytes → IsCut r (length rest) → IsVerdictOn (bytes ++ rest) true (answers.Layout faults.Short)
 ended_short r t bytes rest h cut =
     on_fault (bytes ++ rest) faults.Short (subst (λ (l : List ℕ). IsFault (l ++ rest) faults.Short) (sym h.bytes_are) (cut_short h.at rest h.stands.right (cut.less h.at h.stands)))

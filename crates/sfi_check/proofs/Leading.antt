@@ -106,7 +106,7 @@ step_taken old new t so_far rest len ends.Whole some room off tallies h = absurd
 
 -- ---- pieces
 
--- so many bytes more of a list
+-- the first `at + n` bytes of a list are its first `at`, and then `n` more
 pub take_on : (at n : ℕ) (xs : List ℕ) → at ≤ length xs → take (at + n) xs ≡ take at xs ++ take n (drop at xs)
 take_on at n xs le =
     let len : length (take at xs) ≡ at = omega (arith, length-take at xs) in
@@ -116,7 +116,7 @@ pub so_far_on : {T : List Finding → Type 0} (r : LayoutReader) (t : Tally) (so
 so_far_on {T} r t so_far at n xs le h =
     subst (λ (l : List ℕ). IsSoFar T r t l) (append_assoc so_far (take at xs) (take n (drop at xs)) ∙ ap (λ (l : List ℕ). so_far ++ l) (sym (take_on at n xs le))) h
 
--- a fault after so many bytes of a piece is one of all of them
+-- a fault after `at` bytes of a piece is one of the whole piece
 pub fault_on : (so_far : List ℕ) (at : ℕ) (k : LayoutFault) (xs : List ℕ) → HasFaultWhateverFollows ((so_far ++ take at xs) ++ drop at xs) k → HasFaultWhateverFollows (so_far ++ xs) k
 fault_on so_far at k xs h =
     subst (λ (l : List ℕ). HasFaultWhateverFollows l k) (append_assoc so_far (take at xs) (drop at xs) ∙ ap (λ (l : List ℕ). so_far ++ l) (take-append-drop at xs)) h

@@ -9,7 +9,7 @@ use Rattle.sfi_rules.proofs.Facts.{one_image_list}
 
 -- ---- findings
 
--- they are those of the one list of parts that the bytes have
+-- the findings are those of the one list of parts that the bytes have
 on_one_image : (bytes : List ℕ) (ps : List Part) (found : List Finding) → IsImage bytes ps → HasFindings bytes found → AreImageFindings ps found
 on_one_image bytes ps found image h =
     subst (λ (qs : List Part). AreImageFindings qs found) (one_image bytes h.parts ps h.image image) h.found_are

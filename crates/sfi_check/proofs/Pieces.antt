@@ -45,7 +45,7 @@ module _ {S : Type 0} {reads : S → ℕ → Option (List ℕ) → S → Type 0}
         handed i.bytes h.0 h.2,
       )
 
-  -- it goes on, and what was read is fed
+  -- the stream goes on, and what was read is fed
   pub reads_on : {after : List Finding → Type 0} (u : S) (n : ℕ) (more : List ℕ) (new : Feed) → reads t n (Some more) u → n ≤ 4096 → 0 < length more
       → IsFedFinding after new (i.bytes ++ more) → IsBetween reads after s u new
   reads_on u n more new read few some fed = record { bytes = i.bytes ++ more; fed = fed; streams = some_read reads s t u i.bytes more n i.streams read few some }

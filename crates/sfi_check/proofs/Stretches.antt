@@ -10,7 +10,7 @@ use Rattle.sfi_scan.proofs.WordStretches.{found_in_part}
 use Rattle.sfi_check.proofs.Tallying.{Adds, code_tallies}
 use Rattle.sfi_check.proofs.Leading.{bundle_within, in_code, joined, place_at}
 
--- the tally with so many bundles more, then with their findings, and then with what is owed
+-- the tally with `n` bundles more, then with their findings, and then with what is owed
 pub adds_of : (t u v w : Tally) (sandbox n : ℕ) (found : List Finding) (next : Owed) → u ≡ record t { sandboxes = sandbox + 1; bundles = t.bundles + n } → AddsFindings u v found → w ≡ record v { owed = next } → length found ≤ findings_most * n
     → Adds t w sandbox n found
 adds_of t u v w sandbox n found next is a kept few =
@@ -23,7 +23,7 @@ adds_of t u v w sandbox n found next is a kept few =
 reads_code : (r : LayoutReader) (x : Front) (b : BundlePlace) → StandsFor r x → wants.Bundle b ≡ want_of x → r.next ≡ next_want.Code
 reads_code r x b h w = (rw ((in_code x b w).front_is) at h).kept.0
 
--- so many bytes of a stretch are bundles, and a stretch
+-- the bytes are `n` whole bundles, at most `most` bytes, and a stretch
 pub record IsTaken (most : ℕ) (b : BundlePlace) (bytes : List ℕ) (n : ℕ) : Type 0 where
   pub some : 1 ≤ n
   pub le : 16 * n ≤ most
@@ -63,7 +63,7 @@ begins : (base len : ℕ) → (base + len == base) ≡ (len == 0)
 begins base zero = eq-eqb (base + 0) base (let e : base + 0 ≡ base = omega arith in e)
 begins base (suc n) = ne_eqb (base + suc n) base (λ e. omega arith) ∙ sym (ne_eqb (suc n) 0 (λ e. omega arith))
 
--- so after some code what is kept is owed
+-- after some code, what the tally keeps is owed
 some_owed : (code s : List ℕ) (kept : Owed) → 0 < length s → owed_after (code ++ s) kept ≡ kept
 some_owed code s kept some = rw (ne_eqb (length (code ++ s)) 0 (λ e. omega (arith, length-append code s))) refl
 

@@ -102,7 +102,7 @@ init_tallies t (InInit n ps f gs code init) s y len w right h k =
     rw (h) (init_tally t n ps f gs code (init ++ s) (record { found = k.found; found_holds = k.found_holds; within = k.found_are; count = k.count; first = k.first; bundles = k.bundles; sandboxes = k.sandboxes; few = k.few }) right.2)
 init_tallies t x s y len w right h k = absurd cc
 
--- the tally with the findings of so many bundles of that sandbox
+-- the new tally is the old one with `n` bundles of that sandbox and their findings
 pub record Adds (old new : Tally) (sandbox n : ℕ) (found : List Finding) : Type 0 where
   pub sandboxes : new.sandboxes ≡ sandbox + 1
   pub bundles : new.bundles ≡ old.bundles + n
@@ -110,7 +110,7 @@ pub record Adds (old new : Tally) (sandbox n : ℕ) (found : List Finding) : Typ
   pub few : length found ≤ findings_most * n
   pub first : (before : List Finding) → old.first ≡ slice_get before 0 → new.first ≡ slice_get (before ++ found) 0
 
--- so many bundles of code more
+-- the tally of a front in code leads to that after `n` bundles more, with what was found in them
 pub code_tallies : {T U : List Finding → Type 0} (old new : Tally) (m : ℕ) (ps : List Part) (f : Fields) (gs : List Gate) (code s : List ℕ) (n : ℕ) (found : List Finding)
     → 0 < n → length s ≡ 16 * n
     → ((here : List Finding) → AreFindingsSoFar (length ps) f gs code here old.owed → AreFindingsSoFar (length ps) f gs (code ++ s) (here ++ found) new.owed)

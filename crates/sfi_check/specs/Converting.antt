@@ -25,20 +25,21 @@ use Rattle.sfi_safety.specs.Clean.{IsAccepted}
 abbrev pub IsSecond : List ℕ → Type 0
 IsSecond bytes = take 4 bytes ≡ magic Sfi2
 
--- they do not, and this is why they are no accepted image; want of memory is no reason
+-- the bytes don't begin as an image of the second format, and this is why they are no accepted
+-- image; want of memory is no reason
 abbrev pub IsRefusalOf : List ℕ → Refusal → Type 0
 IsRefusalOf bytes (refusal.Layout k) = (¬ IsSecond bytes) × IsFault bytes k
 IsRefusalOf bytes (refusal.Findings found) = (¬ IsSecond bytes) × HasFindings bytes found.items
 IsRefusalOf bytes refusal.Memory = ⊥
 
--- they are an accepted image of the third format
+-- the bytes are an accepted image of the third format
 pub record IsOfWords (bytes : List ℕ) : Type 0 where
   pub parts : List Part
   pub third : format_of parts ≡ Sfiw
   pub accepted : IsAccepted bytes parts
 
--- they are an accepted image of the first format, and these are the findings of the same sandboxes
--- in the second, of which there is at least one
+-- the bytes are an accepted image of the first format, and these are the findings of the same
+-- sandboxes in the second, of which there is at least one
 pub record HasStackFindings (bytes : List ℕ) (found : List Finding) : Type 0 where
   pub parts : List Part
   pub first : format_of parts ≡ Sfi1
@@ -46,8 +47,8 @@ pub record HasStackFindings (bytes : List ℕ) (found : List Finding) : Type 0 w
   pub found_are : AreImageFindings (all_in_format Sfi2 parts) found
   pub some : found ≢ []
 
--- they are an accepted image of the first format, and the new bytes are an accepted image of the
--- same sandboxes in the second
+-- the bytes are an accepted image of the first format, and the new bytes are an accepted image of
+-- the same sandboxes in the second
 pub record IsConversion (bytes new : List ℕ) : Type 0 where
   pub parts : List Part
   pub first : format_of parts ≡ Sfi1
@@ -64,7 +65,7 @@ number_of (Stack found) = 3
 number_of Memory = 4
 number_of Words = 5
 
--- the fault where `check` refuses so: its want of memory is want of memory
+-- the fault of a conversion where `check` refuses with this: its want of memory is want of memory
 abbrev pub fault_of : Refusal → ConvertFault
 fault_of (refusal.Layout k) = Refused (refusal.Layout k)
 fault_of (refusal.Findings found) = Refused (refusal.Findings found)
@@ -82,7 +83,7 @@ IsConvertFault bytes Words = IsOfWords bytes
 abbrev pub AreOfStack : List Finding → Type 0
 AreOfStack found = All (λ f. f.rule ≡ V10) found
 
--- a fact of the second format's findings, where they are the fault
+-- what holds of the second format's findings, where they are the fault
 abbrev pub IfStack : (List Finding → Type 0) → ConvertFault → Type 0
 IfStack P (Refused r) = Unit {0}
 IfStack P NotOld = Unit {0}

@@ -10,12 +10,13 @@ use Rattle.sfi_check.specs.Tallies.{IsSoFar, IsCut}
 
 -- ---- the parts of `IsFedFinding`, which only private contracts name themselves
 
--- so many bytes are fewer than what comes next has, or the image is whole and none is held
+-- the `count` bytes that are held are fewer than what comes next has, or the image is whole and
+-- none is held
 abbrev pub Rests : LayoutReader → ℕ → Type 0
 Rests r count = IsCut r count ⊎ ((r.next ≡ next.End) × (count ≡ 0))
 
--- the bytes are those that its reader has taken, and then those in its array; `holds` is true of what
--- was found in the former
+-- the bytes are those that the feed's reader has taken, and then those in its array; `holds` is
+-- true of what was found in the former
 pub record IsHeld (holds : List Finding → Type 0) (f : Feed) (bytes : List ℕ) : Type 0 where
   pub so_far : List ℕ
   pub at : IsSoFar holds f.reader f.tally so_far

@@ -26,13 +26,13 @@ number_of NoImage = 2
 abbrev pub finding_for_c : Finding → SfiFinding
 finding_for_c f = record { sandbox = f.sandbox; address = f.address; rule = rule_number f.rule }
 
--- where there is none
+-- no finding: zeros
 abbrev pub no_finding : SfiFinding
 no_finding = record { sandbox = 0; address = 0; rule = 0 }
 
 -- ---- verdicts: what a status doesn't speak of is 0
 
--- accepted, with so many sandboxes and bundles
+-- the verdict on an accepted image with these numbers of sandboxes and bundles
 abbrev pub acceptance : ℕ → ℕ → SfiVerdict
 acceptance sandboxes bundles = record {
   status = number_of Accepted;
@@ -43,7 +43,7 @@ acceptance sandboxes bundles = record {
   first = no_finding;
 }
 
--- refused for so many findings, of which this is the first
+-- the verdict on an image with `count` findings, the first of which is `first`
 abbrev pub refusal : ℕ → Finding → SfiVerdict
 refusal count first = record {
   status = number_of Refused;
@@ -54,7 +54,7 @@ refusal count first = record {
   first = finding_for_c first;
 }
 
--- no image, by the number of the layout's fault
+-- the verdict on bytes that are no image, by the number of the layout's fault
 abbrev pub no_image : ℕ → SfiVerdict
 no_image fault = record {
   status = number_of NoImage;
@@ -74,7 +74,7 @@ pub record IsAcceptance (bytes : List ℕ) (v : SfiVerdict) : Type 0 where
   pub safe : AllRunSafely parts
   pub verdict_is : v ≡ acceptance (length parts) (bundle_count parts)
 
--- the bytes are an image with findings: this one, and then these
+-- the bytes are an image with findings: `first`, and then `rest`
 pub record IsRefusal (bytes : List ℕ) (first : Finding) (rest : List Finding)
     (v : SfiVerdict) : Type 0 where
   pub found : HasFindings bytes (first ∷ rest)

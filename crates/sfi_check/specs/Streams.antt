@@ -11,7 +11,7 @@ use Rattle.sfi_check.specs.Verdict.{HasFindings, bundle_count}
 use Rattle.sfi_safety.specs.Clean.{IsAccepted}
 use Rattle.sfi_runs.specs.Safety.{AllRunSafely}
 
--- ---- a fact of the answer, where it is that one
+-- ---- what holds of an answer, where it is a certain one
 
 abbrev pub IfLayout : (LayoutFault → Type 0) → StreamAnswer → Type 0
 IfLayout P (answers.Accepted sandboxes bundles) = Unit {0}
@@ -33,7 +33,7 @@ IfAccepted P answers.ReadFault = Unit {0}
 
 -- ---- of bytes
 
--- the number and the first of findings
+-- `count` is the number of the findings, and `first` the first of them
 pub record AreCounted (count : ℕ) (first : Finding) (found : List Finding) : Type 0 where
   pub count_is : count ≡ length found
   pub first_is : slice_get found 0 ≡ Some first

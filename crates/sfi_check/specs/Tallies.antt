@@ -39,7 +39,7 @@ pub record AreFindingsWithin (ps : List Part) (f : Fields) (gs : List Gate) (cod
   pub here_are : AreFindingsSoFar (length ps) f gs code here kept
   pub found_is : found ≡ before ++ here
 
--- the findings of a front, `kept` being the tally's debt
+-- the findings of a front; `kept` is what the tally keeps as owed
 abbrev pub AreFrontFindings : Front → List Finding → Owed → Type 0
 AreFrontFindings Empty found kept = found ≡ []
 AreFrontFindings (AfterMagic format) found kept = found ≡ []
@@ -59,7 +59,7 @@ front_bundles (InCode n ps f gs code) = bundle_count ps + length code / bundle_s
 front_bundles (InInit n ps f gs code init) = bundle_count ps + length code / bundle_size
 front_bundles (Whole ps) = bundle_count ps
 
--- how many sandboxes have a bundle in it
+-- how many sandboxes have a bundle in the front
 abbrev pub front_sandboxes : Front → ℕ
 front_sandboxes Empty = 0
 front_sandboxes (AfterMagic format) = 0

@@ -32,6 +32,7 @@ impl<'a> Model for Accepted<'a> {
 }
 
 impl<'a> Accepted<'a> {
+    /// Marks the image, which is clean, as accepted.
     pub(crate) fn new(image: Image<'a>) -> Accepted<'a>
         requires { IsClean image }
         ensures { result ≡ image.entry }
@@ -68,6 +69,7 @@ impl<'a> Accepted<'a> {
     }
 }
 
+/// How many bundles the code of all sandboxes has.
 fn bundle_count(parts: &[SandboxPart]) -> usize
     requires { (format : Format) × IsRightLayout (views format parts.now) }
     ensures { (format : Format) → result ≡ bundle_count (views format parts.now) }

@@ -70,7 +70,8 @@ impl From<Refusal> for ConvertFault {
     }
 }
 
-/// The findings of the sandboxes of an image of this format, by sandbox and then by address.
+/// The findings of the sandboxes, if they were those of an image of this format, by sandbox and
+/// then by address.
 fn findings_as(
     alloc: Global,
     format: Format,
@@ -125,7 +126,7 @@ pub fn convert(alloc: Global, bytes: &[u8]) -> Result<Vec<u8>, ConvertFault>
     ensures fault { IfErr result (IsConvertFault bytes.now) }
     ensures stack_alone { IfErr result (IfStack AreOfStack) }
 
-    // Which bytes get it, want of memory aside.
+    // Which bytes get each answer, want of memory aside.
     ensures only_not_old { IsSecond bytes.now → AnswersNotOld result }
     ensures only_layout { (k : LayoutFault) → (¬ IsSecond bytes.now) → IsFault bytes.now k
         → AnswersLayout k result }

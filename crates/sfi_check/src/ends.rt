@@ -5,7 +5,7 @@ use sfi_image::LayoutFault;
 /// How one step ends.
 #[derive(Clone, Copy)]
 pub(crate) enum StepEnd {
-    /// It took so many bytes.
+    /// It took this number of bytes.
     Took(usize),
     /// More bytes are wanted than there are.
     Short,
@@ -18,9 +18,9 @@ pub(crate) enum StepEnd {
 /// How the steps on a piece end.
 #[derive(Clone, Copy)]
 pub(crate) enum PieceEnd {
-    /// More bytes are wanted than there are after so many.
+    /// After this number of bytes, more are wanted than the piece has left.
     More(usize),
-    /// The image is whole after so many.
+    /// The image is whole after this number of bytes.
     Whole(usize),
     /// A test of the layout failed.
     Fault(LayoutFault),

@@ -26,9 +26,9 @@ const ROOM: usize = 64;
 /// The fields are public so that a caller may keep them elsewhere between two pieces, as C does.
 #[derive(Drop)]
 pub struct Feed {
-    /// What has taken the bytes before those that are held.
+    /// The reader of the layout, which has taken all bytes before those that are held.
     pub reader: LayoutReader,
-    /// What was found in the bundles among them.
+    /// What was found in the bundles that the reader has taken.
     pub tally: Tally,
     /// At the front, the bytes that are held until what comes next is whole.
     pub held: [u8; ROOM],
@@ -39,7 +39,7 @@ pub struct Feed {
 }
 
 impl Feed {
-    /// No byte was fed.
+    /// A feed to which no byte was fed.
     pub fn new() -> Self
         ensures fed { IsFed result [] }
         ensures none_found { IsFedFinding (λ found. found ≡ []) result [] }
@@ -60,7 +60,7 @@ impl Feed {
         }
     }
 
-    // Holds the bytes that are left of a piece.
+    // Keeps the bytes that are left of a piece in `held`.
     fn hold(&mut self, bytes: &[u8])
         requires { length bytes.now < 28 }
         ensures reader { self.new.reader ≡ self.old.reader }
@@ -74,7 +74,7 @@ impl Feed {
         self.count = bytes.len();
     }
 
-    // Takes a piece that begins with what was held.
+    // Takes a piece that begins with the held bytes.
     fn take_all<F: FindingSink, const BLOCKS: bool>(&mut self, bytes: &[u8], sink: &mut F)
         requires fault { self.old.fault ≡ None }
         requires long { length self.old.held ≡ 64 }
@@ -98,7 +98,7 @@ impl Feed {
         }
     }
 
-    // How many bytes what comes next has, where it begins with those that are held.
+    // How many bytes what comes next has, which begins with the held bytes; or how many may be held.
     fn wanted(&self) -> usize
         requires front { (x : Front) × StandsFor self.now.reader x }
         requires cut { IsCut self.now.reader self.now.count }
@@ -112,8 +112,8 @@ impl Feed {
         }
     }
 
-    // Takes some of the bytes that come next, at the front of these, and says how many: where some are
-    // held, as many as make what comes next whole with them, and else all.
+    // Takes bytes from the front of `bytes`, and says how many: where some are held, as many as
+    // make what comes next whole with these, and else all.
     fn top_up<F: FindingSink, const BLOCKS: bool>(&mut self, bytes: &[u8], sink: &mut F) -> usize
         requires some { 0 < length bytes.now }
         requires fed { (first : F) × (before : List ℕ)

@@ -39,7 +39,8 @@ impl Status {
 pub struct SfiFinding {
     /// The sandbox's place in the image, counted from 0.
     pub sandbox: u32,
-    /// That of the instruction's first byte, or of the bytes that are none; for V9 the gate's.
+    /// The address of the instruction's first byte, or of bytes that are no instruction; for V9 the
+    /// gate's.
     pub address: u32,
     /// The rule's number, 1 for V1 to 12 for V12.
     pub rule: u32,
@@ -59,7 +60,7 @@ impl SfiFinding {
         }
     }
 
-    /// Where there is none: zeros.
+    /// No finding: zeros.
     pub fn none() -> SfiFinding
         ensures { result ≡ no_finding }
     {
@@ -89,7 +90,7 @@ pub struct SfiVerdict {
     pub first: SfiFinding,
 }
 
-// The image is accepted, with so many sandboxes and bundles.
+// The verdict on an accepted image with these numbers of sandboxes and bundles.
 fn acceptance(sandboxes: u32, bundles: u32) -> SfiVerdict
     ensures { result ≡ acceptance sandboxes bundles }
 {
@@ -103,7 +104,7 @@ fn acceptance(sandboxes: u32, bundles: u32) -> SfiVerdict
     }
 }
 
-// Rules are broken so often, the first time there.
+// The verdict on an image with this number of findings and this first one.
 fn refusal(findings: u32, first: Finding) -> SfiVerdict
     ensures { result ≡ refusal findings first }
 {
@@ -115,7 +116,7 @@ fn refusal(findings: u32, first: Finding) -> SfiVerdict
     }
 }
 
-// The bytes are no image, by the fault of that number.
+// The verdict on bytes that are no image, by the number of the layout's fault.
 fn no_image(layout_fault: u32) -> SfiVerdict
     ensures { result ≡ no_image layout_fault }
 {
@@ -126,7 +127,7 @@ fn no_image(layout_fault: u32) -> SfiVerdict
     }
 }
 
-// The verdict by that answer.
+// The verdict that says what `answer` says.
 fn verdict_for_c(answer: StreamAnswer) -> SfiVerdict
     requires { answer ≢ StreamAnswer.ReadFault }
     ensures { result ≡ verdict_for_c answer }

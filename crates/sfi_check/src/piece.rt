@@ -1,4 +1,4 @@
-//! How far a piece of an image leads on.
+//! Hands one piece of bytes to the reader and the scan.
 ghost use Rattle.std.specs.Prelude.{◌≡◌, ℕ, List, length};
 ghost use Rattle.sfi_image.specs.Fronts.{Front, want_of, IsLengthOf};
 ghost use Rattle.sfi_image.specs.Keeping.{StandsFor};
@@ -13,7 +13,7 @@ use sfi_image::{LayoutReader, Want};
 use sfi_policy::BUNDLE_BYTES;
 use sfi_scan::{BundlePlace, FindingSink};
 
-/// Takes these bytes off the reader.
+/// Hands these bytes to the reader.
 #[inline(always)]
 fn take_bytes(reader: &mut LayoutReader, bytes: &[u8]) -> StepEnd
     requires { (x : Front) × StandsFor reader.old x × IsLengthOf (length bytes.now) (want_of x) }
@@ -25,7 +25,8 @@ fn take_bytes(reader: &mut LayoutReader, bytes: &[u8]) -> StepEnd
     }
 }
 
-/// Takes the bundles that come next, as many as are there up to the next gate, and scans them.
+/// Hands the bundles that come next to the reader, as many as there are before the next gate, and
+/// scans them.
 #[inline(always)]
 fn take_code<F: FindingSink, const BLOCKS: bool>(
     reader: &mut LayoutReader,
@@ -58,7 +59,7 @@ fn take_code<F: FindingSink, const BLOCKS: bool>(
     StepEnd::Took(len)
 }
 
-/// Takes the bytes that come next, if they are there, and scans them where they are code.
+/// Hands what comes next to the reader, if its bytes are there, and scans it if it is code.
 #[inline(always)]
 fn step<F: FindingSink, const BLOCKS: bool>(
     reader: &mut LayoutReader,
@@ -92,7 +93,7 @@ fn step<F: FindingSink, const BLOCKS: bool>(
     }
 }
 
-/// Takes as many bytes of a piece as lead on.
+/// Hands a piece's bytes to the reader and the scan, as far as what comes next is whole.
 pub(crate) fn take_piece<F: FindingSink, const BLOCKS: bool>(
     reader: &mut LayoutReader,
     tally: &mut Tally,
@@ -117,7 +118,7 @@ pub(crate) fn take_piece<F: FindingSink, const BLOCKS: bool>(
     }
 }
 
-/// The verdict on an image with that tally.
+/// The verdict on a whole image, by its tally.
 pub(crate) fn verdict(tally: &Tally) -> StreamAnswer
     ensures { result ≡ verdict_of tally.now }
 {

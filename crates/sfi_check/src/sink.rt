@@ -52,8 +52,8 @@ impl<'a, F: FindingSink> FindingSink for Counted<'a, F> {
 }
 
 impl<'a, F: FindingSink> Counted<'a, F> {
-    /// Scans a stretch of code, of which the first bundle lies at that place and before which this is
-    /// owed. Answers what is owed after it.
+    /// Scans a stretch of code whose first bundle lies at `place`, with `owed` owed before it.
+    /// Answers what is owed after it.
     #[inline(always)]
     fn scan<const BLOCKS: bool>(&mut self, place: &BundlePlace, code: &[u8], owed: Owed) -> Owed
         requires { (n : ℕ) × IsStretch place.now code.now n }
@@ -67,8 +67,8 @@ impl<'a, F: FindingSink> Counted<'a, F> {
     }
 }
 
-/// Scans a stretch of code, of which the first bundle lies at that place and before which this is owed:
-/// counts the findings, and hands them to the sink. Answers what is owed after it.
+/// Scans a stretch of code whose first bundle lies at `place`, with `owed` owed before it: counts
+/// the findings, and hands them to the sink. Answers what is owed after it.
 #[inline(always)]
 pub(crate) fn scan_counted<F: FindingSink, const BLOCKS: bool>(
     place: &BundlePlace,

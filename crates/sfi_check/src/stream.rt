@@ -47,7 +47,7 @@ pub fn check_stream_into<S: ByteSource, F: FindingSink>(
         if let Some(fault) = feed.fault {
             return StreamAnswer::Layout(fault);
         }
-        // With what is held that is a whole piece, so few bundles lie across the end of one.
+        // With the held bytes that is a whole piece, so few bundles lie across the end of one.
         let most = PIECE - feed.count;
         match read_front(source, &mut piece, most) {
             Ok(0) => return feed.answer(),

@@ -17,11 +17,11 @@ pub struct Tally {
     pub count: u32,
     /// The first finding, by sandbox and then by address.
     pub first: Option<Finding>,
-    /// What is owed after the code of the last one, where code is in words.
+    /// What is owed after the code of the last bundle, where code is in words.
     pub owed: Owed,
 }
 
-/// The first finding of both.
+/// The first finding of all: `first`, or where there was none, the first of `found`.
 fn first_of(first: Option<Finding>, found: &BundleFindings) -> Option<Finding>
     ensures { (before : List Finding) → first ≡ slice_get before 0
         → result ≡ slice_get (before ++ found.now) 0 }
@@ -33,7 +33,7 @@ fn first_of(first: Option<Finding>, found: &BundleFindings) -> Option<Finding>
 }
 
 impl Tally {
-    /// What is owed before the code there: where its region begins, nothing.
+    /// What is owed before the code at `place`: nothing where its region begins.
     #[inline]
     pub(crate) fn owed_at(&self, place: &BundlePlace) -> Owed
         ensures { result ≡ cond (place.now.address == place.now.code_base) Owed.Nothing self.now.owed }
@@ -45,7 +45,7 @@ impl Tally {
         }
     }
 
-    /// Counts so many bundles more, of that sandbox.
+    /// Counts `bundles` more bundles of sandbox `sandbox`, and the sandboxes up to that one.
     #[inline]
     pub(crate) fn add_bundles(&mut self, sandbox: u32, bundles: u32)
         requires room { self.old.bundles + bundles < 2 ^ 32 }
@@ -59,7 +59,7 @@ impl Tally {
         self.bundles += bundles;
     }
 
-    /// Adds the findings of a bundle, which come after those so far.
+    /// Counts the findings of a bundle, which come after those so far.
     #[inline]
     pub(crate) fn add_findings(&mut self, found: &BundleFindings)
         ensures { Counts self.old self.new found.now }

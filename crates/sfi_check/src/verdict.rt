@@ -77,7 +77,7 @@ pub fn check<'a>(alloc: Global, bytes: &'a [u8]) -> Result<Accepted<'a>, Refusal
     ensures findings { IfErr result (IfFindings (HasFindings bytes.entry.now)) }
     ensures accepted { IfOk result (IsAccepted bytes.entry.now) }
 
-    // Which bytes get it, want of memory aside.
+    // Which bytes get each answer, want of memory aside.
     ensures only_layout { (k : LayoutFault) → IsFault bytes.entry.now k → AnswersLayout k result }
     ensures only_findings { (found : List Finding) → HasFindings bytes.entry.now found
         → AnswersFindings found result }

@@ -112,7 +112,7 @@ low : (n : ℕ) → word n < 2 ^ 32
 low n = omega arith
 
 module _ (machine : Machine) (is : IsMachine machine) where
-  -- it moves, or rests
+  -- the sandbox moves, or rests
   abbrev Does : {S : Type 0} → ℕ → Bytes → Seat → Moved S → Type 0
   Does i m s mv = ((s.status ≡ Ready) × MovesTo machine i m s mv) ⊎ Rests m s mv
 
@@ -319,7 +319,7 @@ module _ (machine : Machine) (is : IsMachine machine) where
     slots : slots_of n ≡ all.slots
     replies : given_in moves ≡ all.replies
 
-  -- shares of a plan's turns; the first ones, so many, come to that
+  -- a plan's moves, shared out among its turns; those of the first `k` turns come to `first k`
   abbrev PlanMoves : {S : Type 0} → List PlanTurn → Sandboxes → (ℕ → Joined S) → Type 0
   PlanMoves plan w first = (shares : List (List Move)) × AreShares plan shares × ((k : ℕ) → LeadTo w (all_of (take k shares)) (first k))
 

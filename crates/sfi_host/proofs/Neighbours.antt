@@ -43,7 +43,7 @@ module _ (m n : Bytes) (b : Bounds) (left : StaysOutside b.data m n) (t : Seat) 
     guards = λ a guard empty. left a (λ k. outside.guarded a k (keep.guard_guarded m t seat p is a guard)) ∙ empty;
   }
 
-  -- it is safe as before
+  -- the other sandbox is safe as before
   pub other_safe : IsMemory n → IsSafeSeat n t
   other_safe memory = keep.changed m t seat n memory (others_kept seat.part seat.bounds)
       (λ a h. ap is_some (data_same a h) ∙ seat.has_data a h)

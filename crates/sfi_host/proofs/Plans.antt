@@ -34,11 +34,11 @@ none_joint machine answer old before = record { slots = refl; host = refl; turns
 abbrev pub bare : {S : Type 0} → Joined S → Joined S
 bare j = record j { replies = [] }
 
--- one in which so many turns were begun, which a call ended or not
+-- a joint run without its replies, in which `turns` turns were begun, and which a call ended or not
 abbrev pub run_end : {S : Type 0} → List Slot → S → Option ℕ → ℕ → Bool → Joined (Limited S)
 run_end slots host left turns ended = record { slots = slots; host = with_left host left; replies = []; turns = turns; is_ended = ended }
 
--- the same, after one turn more
+-- a joint run without its replies, after one turn more
 abbrev pub with_turn : {S : Type 0} → Joined S → Joined S
 with_turn j = bare (joined_after_turn [] j)
 

@@ -75,7 +75,7 @@ covered s m a n q w h l f = (
   λ t. let x = held s m (a + (n - 1)) (last_there (bytes_in s m) a n t l) in let y = x.1 in grind (arith, y, f, l),
 )
 
--- those that begin below it aren't all there
+-- n addresses that begin below the region aren't all in it
 pub not_covered : (s : Span) (m : Bytes) (a n : ℕ) → a < s.base → 0 < n
     → (IsTrue (nat_le s.base a) ↔ IsSome (bytes_at (bytes_in s m) (range_with_len a n)))
 not_covered s m a n h l = (

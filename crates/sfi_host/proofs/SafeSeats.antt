@@ -34,7 +34,7 @@ code_at p k below = (omega arith, omega arith)
 abbrev pub KeepsOthers : Hart → Hart → Type 0
 KeepsOthers before after = (r : ℕ) → r ≢ a0_register → r ≢ a1_register → slice_index after.registers r ≡ slice_index before.registers r
 
--- those are none of the reserved registers
+-- a0 and a1 are none of the reserved registers
 reserved_kept : (before after : Hart) → KeepsOthers before after → KeepsReserved before after
 reserved_kept before after kept = record {
   code_base = kept 24 (λ e. cc) (λ e. cc);
@@ -143,7 +143,7 @@ module _ (m : Bytes) (s : Seat) (seat : IsSafeSeat m s) where
       (λ ready. goes_on_safely seat.part (state_in m s) (state_in n s) (Changes (state_in n s)) (seat.safe ready) (record { pc = refl; registers = refl; bytes = keeps }) refl)
       (stopped_still s.bounds m n (λ a inside. keeps.code a (subst (λ (b : Bounds). Holds b.code a) seat.bounds inside)) s.hart s.status seat.stopped)
 
-  -- the same, where all but its own data is left
+  -- a safe sandbox stays safe where all memory but its own data is left as it was
   pub own_changed : (n : Bytes) → IsMemory n → StaysOutside s.bounds.data m n → IsWhole s.bounds.data n → IsSafeSeat n s
   own_changed n memory stays whole = changed n memory (own_kept seat.part seat.bounds n stays) whole
 

@@ -78,7 +78,7 @@ moves_to law machine is host plan w n s safe lie left slots =
     let ran = law machine host plan w s is safe in
     subst (λ (x : Sandboxes). HaveRun machine plan w x (λ part. joined machine host part (slots_of w) s)) (same_world w ran.0 n lie (ran.1.whole.slots ∙ sym slots) ran.1.runs.outside left) ran.1
 
--- so it is where so many calls are answered
+-- so it is with a host that answers each call, or `limit` calls
 pub world_runs : {S : Type 0} → JoinedMoves (Limited S) → (machine : Machine) → IsMachine machine → (answer : S → Call → Answer S) (plan : List Turn) (w n : Sandboxes) (s : S) → IsSafeWorld w
     → bounds_in n ≡ bounds_in w → StaysOutsideData w n.bytes → (limit : Option ℕ) → slots_of n ≡ (joint machine answer plan (slots_of w) s limit).slots
     → HaveRun machine plan w n (λ part. joint machine answer part (slots_of w) s limit)

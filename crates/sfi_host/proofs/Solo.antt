@@ -4,7 +4,7 @@ use Rattle.sfi_host.specs.Solo.{IsSolo, JoinedIsSolo, JointIsSolo, turns_of, rep
 use Rattle.rv_step.specs.declared.outcome.Outcome.TheVariants as outcome
 use Rattle.sfi_host.proofs.Neighbours.{get_set_same, get_set_other}
 
--- the same with a host that has these replies left
+-- a step or turn of the sandbox alone, with a host that has these replies left
 abbrev alone : {S : Type 0} → Moved S → List Reply → Moved (List Reply)
 alone m left = record { slot = m.slot; host = left; replies = m.replies; next = m.next }
 

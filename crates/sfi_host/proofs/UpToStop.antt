@@ -112,7 +112,7 @@ module _ (machine : Machine) (number : ℕ) where
 
 -- ---- the loop
 
--- so many steps are done, and after none of them the sandbox stood at a stop
+-- `done` steps are done, and after none of them the sandbox stood at a stop
 pub record InUntil (stops : List ℕ) (m : Bytes) (s : Seat) (done : ℕ) (n : Bytes) (t : Seat) : Type 0 where
   pub stays : StaysSafe m s n t
   pub ran : (machine : Machine) → IsMachine machine → (number : ℕ) → slot_of n t ≡ after_steps machine number done (slot_of m s)
@@ -137,7 +137,7 @@ module _ (stops : List ℕ) (m : Bytes) (s : Seat) (done : ℕ) (n : Bytes) (t :
       ∙ ap (after_steps machine number 1) (sym (so_far.ran machine is number))
       ∙ one_step machine number (slot_of n t) (slot_of o u) pause (λ e. over e machine is) (λ left e. call left e machine is))
 
-  -- it stands at a stop
+  -- the sandbox stands at a stop before all steps are done
   pub at_stop : (steps : ℕ) → done < steps → Contains stops u.hart.pc → IsTurnUntil stops steps (slot_of m s) (slot_of o u)
   at_stop steps below c = record {
     count = done + 1;

@@ -74,7 +74,7 @@ pc_by : (words : Bool) (unit_size : ℕ) (code_at data_at : Span) (pc : ℕ) →
 pc_by true unit_size code_at data_at pc = refl
 pc_by false unit_size code_at data_at pc = refl
 
--- those of a fresh hart, in the words of sandboxes
+-- the registers of a fresh hart, in the words of sandboxes
 abbrev pub AreFreshOf : Bounds → ℕ → List ℕ → Type 0
 AreFreshOf b pc registers = AreFresh (has_words b.format) (unit b.format) b.code b.data pc registers
 

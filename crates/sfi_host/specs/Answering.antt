@@ -8,7 +8,7 @@ use Rattle.sfi_host.specs.Guests.{data_of, asked, outside, HasData}
 use Rattle.sfi_host.specs.Hosts.{Call, Way, Replied, Yield, Exit, Answer}
 
 -- Beside a0, a1 and its data bytes nothing of the caller changed, nor any byte of the memory
--- outside its data region, and each address of that has still a byte.
+-- outside its data region, and each address of its data region still has a byte.
 pub record LeavesOthers {M : Type 0} (bytes : M → Bytes) (old new : Guest M) : Type 0 where
   pub caller : (asked bytes new).caller ≡ (asked bytes old).caller
   pub service : (asked bytes new).service ≡ (asked bytes old).service
@@ -16,7 +16,7 @@ pub record LeavesOthers {M : Type 0} (bytes : M → Bytes) (old new : Guest M) :
   pub outside_same : outside bytes new ≡ outside bytes old
   pub has_data : HasData bytes new
 
--- what a call answers where the caller goes on so
+-- what a call answers where the caller goes on in this way
 abbrev pub spoken : Way → GateAnswer
 spoken Replied = gate.Replied
 spoken Yield = gate.Yield

@@ -8,8 +8,8 @@ use Rattle.sfi_host.specs.Regions.{bytes_in}
 use Rattle.sfi_host.specs.Slots.{Slot, bounds_of}
 use Rattle.sfi_host.specs.Worlds.{Seat, Sandboxes, slots_of, state_in}
 
--- its n data bytes from an address on, which isn't taken modulo 2 ^ 32; None where there is no such
--- sandbox, or one of them isn't in its data region
+-- the sandbox's n data bytes from an address on, which isn't taken modulo 2 ^ 32; None where there
+-- is no such sandbox, or one of them isn't in its data region
 abbrev pub data_bytes_of : Option Slot → ℕ → ℕ → Option (List ℕ)
 data_bytes_of None at n = None
 data_bytes_of (Some s) at n = bytes_at (bytes_in s.bounds.data s.bytes) (range_with_len at n)
@@ -26,8 +26,8 @@ abbrev pub OthersAreSame : Sandboxes → ℕ → Sandboxes → Type 0
 OthersAreSame w i n =
     (j : ℕ) → j ≢ i → slice_get (slots_of n) j ≡ slice_get (slots_of w) j
 
--- each sandbox is still there, and to it this is a change by others: its pc, registers, code and empty
--- guard zones are what they were
+-- each sandbox is still there, and to each this is a change by others: its pc, registers, code and
+-- empty guard zones are what they were
 abbrev pub AreChanges : Sandboxes → Sandboxes → Type 0
 AreChanges w n =
     (i : ℕ) (s : Seat) (p : Part) → slice_get w.seats i ≡ Some s → s.bounds ≡ bounds_of p

@@ -22,11 +22,11 @@ pub record ConsoleState : Type 0 where
   pub input : List ℕ
   pub sessions : List SessionState
 
--- nothing is written, read or posted
+-- at first nothing is written, read or posted
 abbrev pub new_session : SessionState
 new_session = record { output = []; place = 0; mailbox = [] }
 
--- at first that holds of each sandbox
+-- the console at first, for a number of sandboxes with this input
 abbrev pub new_console : ℕ → List ℕ → ConsoleState
 new_console sandboxes input = record { input = input; sessions = replicate sandboxes new_session }
 
@@ -59,7 +59,7 @@ replied c a0 s =
 
 -- ---- put: the handed bytes go to the end of the caller's output
 
--- they are refused where the output would be too long
+-- the bytes that a put appends; None where they can't be handed over, or the output would be too long
 abbrev pub appended : SessionState → Call → Option (List ℕ)
 appended x c = if nat_le (length x.output + c.a1) most_output then handed c else None
 
@@ -70,7 +70,7 @@ put_bytes x c (Some bytes) = replied c c.a1 (record x { output = x.output ++ byt
 abbrev pub put : SessionState → Call → Answer SessionState
 put x c = put_bytes x c (appended x c)
 
--- there are bytes, and they aren't none
+-- whether there are bytes to append, at least one
 abbrev pub has_bytes : Option (List ℕ) → Bool
 has_bytes None = false
 has_bytes (Some []) = false
@@ -89,7 +89,7 @@ get_bytes x c next = record {
   host = record x { place = x.place + length next };
 }
 
--- it is refused where the bytes at those a1 addresses couldn't be handed over
+-- the answer to a get: a refusal where its a1 bytes from a0 on couldn't be handed over
 abbrev pub get_if : List ℕ → SessionState → Call → Option (List ℕ) → Answer SessionState
 get_if input x c None = replied c failed x
 get_if input x c (Some old) = get_bytes x c (take c.a1 (drop x.place input))
@@ -103,7 +103,7 @@ get input x c = get_if input x c (handed c)
 abbrev pub most_messages : ℕ
 most_messages = 16
 
--- a1 and the caller's number
+-- the message of a post: a1 and the caller's number
 abbrev pub message_of : Call → Message
 message_of c = record { sender = c.caller; word = c.a1 }
 
@@ -111,7 +111,7 @@ message_of c = record { sender = c.caller; word = c.a1 }
 abbrev pub with_message : SessionState → Message → SessionState
 with_message x m = record x { mailbox = x.mailbox ++ m ∷ [] }
 
--- the console with another session of a sandbox
+-- the console with this session of the sandbox of that number
 abbrev pub with_session : ConsoleState → ℕ → SessionState → ConsoleState
 with_session s i x = record s { sessions = slice_set s.sessions i x }
 
@@ -150,7 +150,8 @@ take_message x c = take_oldest x c x.mailbox
 
 -- ---- all services
 
--- what needs the caller's session alone: put, get and take, and no other is served
+-- the answer to a service that needs the caller's session alone: put, get and take; any other is
+-- refused
 abbrev pub serve : List ℕ → SessionState → Call → Answer SessionState
 serve input x c =
     if c.service == put_service then put x c
@@ -158,27 +159,27 @@ serve input x c =
     else if c.service == take_service then take_message x c
     else replied c failed x
 
--- its session goes on in the console
+-- the same answer of the console, in which the caller's session goes on
 abbrev pub serve_own : ConsoleState → Call → SessionState → Answer ConsoleState
 serve_own s c x = let a = serve s.input x c in
     record { reply = a.reply; host = with_session s c.caller a.host }
 
--- a post; a caller that has no session is refused
+-- the answer to a post, or that of the caller's session; a caller that has none is refused
 abbrev pub serve_if : ConsoleState → Call → Option SessionState → Answer ConsoleState
 serve_if s c None = replied c failed s
 serve_if s c (Some x) = if c.service == post_service then post s c else serve_own s c x
 
--- the caller has stopped, with a0 as its number
+-- the answer to an exit: the caller has stopped, with a0 as its number
 abbrev pub exits : ConsoleState → Call → Answer ConsoleState
 exits s c =
     record { reply = record { way = Exit c.a0; a0 = c.a0; a1 = c.a1; bytes = c.bytes }; host = s }
 
--- the caller goes on in its next turn
+-- the answer to a yield: the caller goes on in its next turn
 abbrev pub yields : ConsoleState → Call → Answer ConsoleState
 yields s c =
     record { reply = record { way = Yield; a0 = c.a0; a1 = c.a1; bytes = c.bytes }; host = s }
 
--- exit and yield need no session, and the others do
+-- what a console answers to a call: exit and yield need no session, and the others do
 abbrev pub console : ConsoleState → Call → Answer ConsoleState
 console s c =
     if c.service == exit_service then exits s c

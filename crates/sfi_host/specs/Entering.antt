@@ -25,7 +25,7 @@ use Rattle.sfi_host.specs.Worlds.{Seat, Sandboxes, state_in}
 
 -- ---- where a sandbox may be entered
 
--- it has stopped, and a unit of its code, a bundle or a word, begins at pc
+-- the sandbox has stopped, and a unit of its code, a bundle or a word, begins at pc
 pub record MayEnter (b : Bounds) (status : Status) (pc : ℕ) : Type 0 where
   pub stopped : status ≢ Ready
   pub held : Holds b.code pc
@@ -39,7 +39,8 @@ pub record MayEnterAt (slots : List Slot) (i pc : ℕ) : Type 0 where
 
 -- ---- with which registers
 
--- with the data base in each data register but the stack pointer, and pc in the code register
+-- the hart with the data base in each data register but the stack pointer, and pc in the code
+-- register
 abbrev pub with_typed : Span → Hart → Hart
 with_typed data_at h =
     with_register
@@ -48,12 +49,12 @@ with_typed data_at h =
     29 data_at.base)
     code_register h.pc
 
--- so where code is in words
+-- the hart with typed registers set, where code is in words; else the hart itself
 abbrev pub typed_for : Format → Span → Hart → Hart
 typed_for format data_at h = cond (has_words format) (with_typed data_at h) h
 
--- at pc with all registers 0, but the typed registers, the stack pointer, which lies a first frame
--- below the data's end, and the reserved registers, which hold what is theirs
+-- the hart at pc with all registers 0 but these: the typed ones, the stack pointer, which lies
+-- `first_frame` bytes below the data's end, and the reserved ones
 abbrev pub fresh_hart : Format → Span → Span → ℕ → Hart
 fresh_hart format code_at data_at pc =
     let r = reserved_for (unit format) code_at data_at in
@@ -68,7 +69,7 @@ fresh_hart format code_at data_at pc =
     data_base_register r.data_base)
     data_mask_register r.data_mask
 
--- the hart with these values in its registers from one on
+-- the hart with these values in its registers from register `r` on
 abbrev pub with_registers : Hart → ℕ → List ℕ → Hart
 with_registers h r [] = h
 with_registers h r (v ∷ vs) = with_registers (with_register h r v) (r + 1) vs
@@ -78,7 +79,7 @@ abbrev pub exit_gate : List Gate → ℕ
 exit_gate [] = 0
 exit_gate (g ∷ gates) = cond (g.service == exit_service) g.address (exit_gate gates)
 
--- the same as at first, but at this pc, with a return address that is the exit gate's, and with the
+-- the hart at first, but at this pc, with the exit gate as the return address, and with the
 -- arguments from a0 on
 abbrev pub entered_hart : Bounds → ℕ → List ℕ → Hart
 entered_hart b pc arguments =
@@ -88,7 +89,7 @@ entered_hart b pc arguments =
 
 -- ---- what that makes of a world
 
--- ready at this pc; its steps are counted on
+-- the seat, ready at this pc; its steps are counted on
 abbrev pub entered_seat : Seat → ℕ → List ℕ → Seat
 entered_seat s pc arguments = record {
   bounds = s.bounds;
@@ -97,7 +98,8 @@ entered_seat s pc arguments = record {
   steps = s.steps;
 }
 
--- the world in which the sandbox of that number is entered; the same where there is none
+-- the world in which the sandbox of that number is entered; the world itself where there is no such
+-- sandbox
 abbrev pub with_entry_of : Sandboxes → ℕ → ℕ → List ℕ → Option Seat → Sandboxes
 with_entry_of w i pc arguments None = w
 with_entry_of w i pc arguments (Some s) =
@@ -124,6 +126,6 @@ pub record IsEnterable (m : Bytes) (b : Bounds) : Type 0 where
   pub runs : RunsSafely part
   pub calls : CallsTyped part
 
--- so is each sandbox of a world, whatever it may still do
+-- each sandbox of the world is enterable, whatever it may still do
 abbrev pub AreEnterable : Sandboxes → Type 0
 AreEnterable w = (i : ℕ) (s : Seat) → slice_get w.seats i ≡ Some s → IsEnterable w.bytes s.bounds

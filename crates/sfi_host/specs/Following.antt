@@ -6,7 +6,7 @@ use Rattle.sfi_host.specs.Hosts.{Call, Answer, Host}
 use Rattle.sfi_host.specs.Joint.{Machine, Joined, joined, joint}
 use Rattle.sfi_host.specs.Plans.{IsJoint, IsCutJoint}
 
--- two runs as one, of which the second goes on where the first left off
+-- two runs as one: the second goes on where the first left off
 abbrev pub after_run : {S : Type 0} → Joined S → Joined S → Joined S
 after_run first second = record {
   slots = second.slots;
@@ -17,7 +17,7 @@ after_run first second = record {
 }
 
 -- With any host, one plan after another comes to what the second comes to from where the first left
--- off; or to what the first comes to, if a call ended that.
+-- off; or, if a call ended the first, to what that comes to.
 abbrev pub JoinedFollows : Type 0 → Type 0
 JoinedFollows S =
     (machine : Machine) (host : Host S) (p q : List Turn) (slots : List Slot) (s : S)
@@ -25,7 +25,8 @@ JoinedFollows S =
     joined machine host (p ++ q) slots s
     ≡ cond first.is_ended first (after_run first (joined machine host q first.slots first.host))
 
--- with a host that answers each call, always to what the second comes to from there
+-- With a host that answers each call, one plan after another always comes to what the second comes
+-- to from where the first left off.
 abbrev pub JointFollows : Type 0 → Type 0
 JointFollows S =
     (machine : Machine) (answer : S → Call → Answer S) (p q : List Turn) (slots : List Slot) (s : S)
@@ -33,7 +34,7 @@ JointFollows S =
     joint machine answer (p ++ q) slots s None
     ≡ after_run first (joint machine answer q first.slots first.host.host None)
 
--- each turn of one plan was taken, and then each of another: so was each of both
+-- where each turn of one plan was taken, and then each of another, each turn of both in a row was
 abbrev pub PlansFollow : Type 0 → Type 0
 PlansFollow S =
     (machine : Machine) (answer : S → Call → Answer S) (p q : List Turn)
@@ -42,8 +43,8 @@ PlansFollow S =
     → IsJoint machine answer q mid between new after
     → IsJoint machine answer (p ++ q) old before new after
 
--- each turn of one plan was taken, and another plan ended at a call that the host may refuse: so
--- did both, at that place after the first plan's turns
+-- where each turn of one plan was taken, and another plan then ended at a call that the host may
+-- refuse, both in a row ended there, at that place after the first plan's turns
 abbrev pub CutFollows : Type 0 → Type 0
 CutFollows S =
     (machine : Machine) (answer : S → Call → Answer S) (may_refuse : S → Call → Bool)
@@ -54,14 +55,14 @@ CutFollows S =
 
 -- ---- what a plan did that ended at a call
 
--- the plan up to its turn at that place, which has so many steps now
+-- the plan up to its turn at `place`, with the steps of that turn set to `steps`
 abbrev pub shortened : List Turn → ℕ → ℕ → List Turn
 shortened [] place steps = []
 shortened (t ∷ plan) zero steps = record { sandbox = t.sandbox; steps = steps } ∷ []
 shortened (t ∷ plan) (suc place) steps = t ∷ shortened plan place steps
 
--- each turn of the plan before that place was taken, and of the turn there fewer steps than it
--- allows, maybe none
+-- each turn of the plan before turn `place` was taken, and of that turn fewer steps than it allows,
+-- maybe none
 pub record IsJointUpTo {S : Type 0} (machine : Machine) (answer : S → Call → Answer S)
     (plan : List Turn) (place : ℕ) (old : List Slot) (before : S) (new : List Slot)
     (after : S) : Type 0 where
@@ -71,7 +72,7 @@ pub record IsJointUpTo {S : Type 0} (machine : Machine) (answer : S → Call →
   pub fewer : steps < turn.steps
   pub joint : IsJoint machine answer (shortened plan place steps) old before new after
 
--- so it is where a plan ended at a call that the host may refuse
+-- a plan that ended at a call that the host may refuse was taken up to that call
 abbrev pub CutIsShorter : Type 0 → Type 0
 CutIsShorter S =
     (machine : Machine) (answer : S → Call → Answer S) (may_refuse : S → Call → Bool)
@@ -79,8 +80,8 @@ CutIsShorter S =
     → IsCutJoint machine answer may_refuse plan old before place new after
     → IsJointUpTo machine answer plan place old before new after
 
--- a plan that was tried after it follows the shortened one, whose last turn has some number of
--- steps, fewer than it allows
+-- a plan that is tried after such an end follows the shortened plan, whose last turn has some
+-- number of steps, fewer than it allows
 abbrev pub RetryFollows : Type 0 → Type 0
 RetryFollows S =
     (machine : Machine) (answer : S → Call → Answer S) (may_refuse : S → Call → Bool)

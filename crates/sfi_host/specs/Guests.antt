@@ -44,19 +44,19 @@ Borrows g memory = g.memory.ghost_name ≡ memory.ghost_name
 abbrev pub SameMemory : {M : Type 0} → Guest M → Guest M → Type 0
 SameMemory old new = new.memory.ghost_name ≡ old.memory.ghost_name
 
--- the same, with another a0
+-- the call with another a0
 abbrev pub with_a0 : Call → ℕ → Call
 with_a0 c value = record c { a0 = value }
 
--- the same, with another a1
+-- the call with another a1
 abbrev pub with_a1 : Call → ℕ → Call
 with_a1 c value = record c { a1 = value }
 
--- the same, with another byte at an address
+-- the call with another data byte at an address
 abbrev pub with_byte : Call → ℕ → ℕ → Call
 with_byte c at byte = record c { bytes = insert c.bytes at byte }
 
--- the same, with these bytes from an address on
+-- the call with these data bytes from an address on
 abbrev pub with_bytes_at : Call → ℕ → List ℕ → Call
 with_bytes_at c at bytes =
     record c { bytes = with_bytes c.bytes (range_with_len at (length bytes)) bytes }

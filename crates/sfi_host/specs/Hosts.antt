@@ -32,14 +32,14 @@ pub record Answer (S : Type 0) : Type 0 where
 abbrev pub Host : Type 0 → Type 0
 Host S = S → Call → Option (Answer S)
 
--- ---- the host that answers so many calls
+-- ---- the host that answers a limited number of calls
 
 -- a host's state, and how many calls it will still answer: None is no limit
 pub record Limited (S : Type 0) : Type 0 where
   pub host : S
   pub left : Option ℕ
 
--- the answer, if there is a call left for it
+-- the answer, if there is a call left for it; None: the limit is reached
 abbrev pub if_left : {S : Type 0} → Option ℕ → Answer S → Option (Answer (Limited S))
 if_left None a = Some (record { reply = a.reply; host = record { host = a.host; left = None } })
 if_left (Some zero) a = None

@@ -21,11 +21,11 @@ use Rattle.sfi_host.specs.Hosts.{Call, Way, Replied, Yield, Exit, Reply, Answer,
 
 -- ---- the machine
 
--- what each state comes to in one step
+-- a machine: what each state comes to in one step
 abbrev pub Machine : Type 0
 Machine = State → Stepped
 
--- it is the manual's step: by `rv_step`'s laws there is exactly one such function
+-- the machine is the manual's step: by `rv_step`'s laws there is exactly one such function
 pub record IsMachine (machine : Machine) : Type 0 where
   pub steps : (s : State) → IsStep s (machine s)
 
@@ -63,7 +63,8 @@ is_byte (Some n) = nat_lt n 256
 abbrev pub both : Bytes → Bytes → Bytes
 both m w = from_entries {R = nat_cmp} (entries m ++ entries w)
 
--- a sandbox's bytes with other data: at each address of its data region at which those have a byte
+-- a sandbox's bytes with other data: at each address of its data region where `data` has a byte,
+-- that byte
 abbrev pub with_data : Bounds → Bytes → Bytes → Bytes
 with_data b bytes others =
     both (retain_keys others (λ a. is_in b.data a && is_byte (byte_at others a))) bytes
@@ -100,7 +101,7 @@ pub record Moved (S : Type 0) : Type 0 where
   pub replies : List Reply
   pub next : StepResult
 
--- nothing happens, and then this comes
+-- nothing happens to the sandbox and the host, and then `next` comes
 abbrev pub still : {S : Type 0} → Slot → S → StepResult → Moved S
 still slot s next = record { slot = slot; host = s; replies = []; next = next }
 
@@ -110,7 +111,7 @@ next_after Replied = Continue
 next_after Yield = TurnEnds
 next_after (Exit n) = TurnEnds
 
--- a call that isn't answered ends the run
+-- what an answer makes of the caller; a call that isn't answered ends the run
 abbrev pub after_answer : {S : Type 0} → Slot → S → Option (Answer S) → Moved S
 after_answer slot s None = still slot s RunEnds
 after_answer slot s (Some a) = record {
@@ -140,7 +141,7 @@ slot_after_step host i slot s (outcome.Trap cause at) state =
     }) s TurnEnds
 slot_after_step host i slot s outcome.Call state = after_answer slot s (host s (call_of i slot))
 
--- a sandbox that isn't ready does nothing
+-- a step of a sandbox by its status: one that isn't ready does nothing
 abbrev pub moved_if : {S : Type 0} → Machine → Host S → ℕ → Slot → S → Status → Moved S
 moved_if machine host i slot s Ready = let r = machine (state_of slot) in
     slot_after_step host i slot s r.outcome r.state
@@ -154,18 +155,18 @@ moved machine host i slot s = moved_if machine host i slot s slot.status
 
 -- ---- a turn
 
--- the same, after replies that came before
+-- a step or turn, with the replies that came before it
 abbrev pub after_replies : {S : Type 0} → List Reply → Moved S → Moved S
 after_replies earlier m =
     record { slot = m.slot; host = m.host; replies = earlier ++ m.replies; next = m.next }
 
--- a step, and what follows it if the turn goes on
+-- a step, and what follows it if the turn goes on after it
 abbrev pub and_more : {S : Type 0} → StepResult → Moved S → (Slot → S → Moved S) → Moved S
 and_more Continue m rest = after_replies m.replies (rest m.slot m.host)
 and_more TurnEnds m rest = m
 and_more RunEnds m rest = m
 
--- at most so many steps
+-- what a turn of at most the given number of steps comes to
 unfoldable pub turned : {S : Type 0} → Machine → Host S → ℕ → ℕ → Slot → S → Moved S
 turned machine host i zero slot s = still slot s TurnEnds
 turned machine host i (suc k) slot s = let m = moved machine host i slot s in
@@ -191,7 +192,7 @@ pub record Joined (S : Type 0) : Type 0 where
   pub turns : ℕ
   pub is_ended : Bool
 
--- the same, after a turn with its replies
+-- a joint run after a turn with its replies: one turn more was begun
 abbrev pub joined_after_turn : {S : Type 0} → List Given → Joined S → Joined S
 joined_after_turn earlier j = record {
   slots = j.slots;
@@ -201,7 +202,7 @@ joined_after_turn earlier j = record {
   is_ended = j.is_ended;
 }
 
--- a turn of the sandbox of that number, and what follows it if the run goes on
+-- a turn of the sandbox of that number, and what follows it if the run goes on after it
 abbrev pub and_plan :
     {S : Type 0} → StepResult → ℕ → Moved S → List Slot → (List Slot → S → Joined S) → Joined S
 and_plan Continue i m slots rest =
@@ -216,7 +217,7 @@ and_plan RunEnds i m slots rest = record {
   is_ended = true;
 }
 
--- a turn that names no sandbox does nothing
+-- a turn by the sandbox that it names, and what follows it; one that names no sandbox does nothing
 abbrev pub turn_and : {S : Type 0} → Machine → Host S → Turn → List Slot → S → Option Slot
     → (List Slot → S → Joined S) → Joined S
 turn_and machine host t slots s None rest = joined_after_turn [] (rest slots s)
@@ -230,7 +231,7 @@ joined machine host [] slots s =
 joined machine host (t ∷ plan) slots s =
     turn_and machine host t slots s (slice_get slots t.sandbox) (joined machine host plan)
 
--- what the plan comes to with a host that answers so many calls, or each call: the next call
+-- what the plan comes to with a host that answers each call, or `limit` calls: the call after these
 -- changes nothing and ends the run
 abbrev pub joint : {S : Type 0} → Machine → (S → Call → Answer S) → List Turn → List Slot → S
     → Option ℕ → Joined (Limited S)

@@ -11,8 +11,8 @@ use Rattle.sfi_host.specs.Slots.{Slot}
 use Rattle.sfi_host.specs.Waiting.{Waits, to_call, later_way, later_reply}
 use Rattle.sfi_host.specs.Worlds.{Seat, Sandboxes, slot_of, slots_of, IsSafeWorld, StaysOutside}
 
--- Up to its first call a turn is what it is with any host: the whole turn where there is none, and
--- else a turn of fewer steps. The host isn't asked.
+-- Up to its first call a turn is what it is with any host: the whole turn where it makes no call,
+-- and else a turn of fewer steps. The host isn't asked.
 abbrev pub ToCallIsJoint : Type 0 → Type 0
 ToCallIsJoint S =
     (machine : Machine) (answer : S → Call → Answer S) (t : Turn) (slots : List Slot) (s : S)

@@ -17,12 +17,12 @@ use Rattle.sfi_host.specs.Worlds.{Seat, Sandboxes, slot_of, state_in, IsSafeSeat
 abbrev pub SomeMachine : Type 0
 SomeMachine = (machine : Machine) × IsMachine machine
 
--- there is one alone
+-- there is only one machine
 abbrev pub OneMachine : Type 0
 OneMachine = (machine other : Machine) → IsMachine machine → IsMachine other
     → (s : State) → machine s ≡ other s
 
--- what one sandbox of a safe world makes of its own data is, to each other one, a change by others
+-- what one sandbox of a safe world does to its own data is, to each other sandbox, a change by others
 abbrev pub NeighboursAreChanges : Type 0
 NeighboursAreChanges =
     (w : Sandboxes) (i j : ℕ) (s t : Seat) (new : Bytes) (p : Part) → IsSafeWorld w

@@ -24,15 +24,16 @@ use Rattle.sfi_host.specs.Worlds.{Seat, Sandboxes, slot_of, slots_of, state_in, 
 -- ---- moves
 
 -- One step of `moved`, with these replies given, one or none: the sandbox of that number gets them
--- all in it, and then it is the slot t. A call that isn't answered is no step: so the ecall at which
--- a plan ended is no move, though control reached the host there.
+-- all in it, and then it is the slot t. A call that isn't answered is no step: so the ecall at
+-- which a plan ended is no move, though control reached the host there.
 pub record StepsAlone (machine : Machine) (i : ℕ) (s : Slot) (replies : List Reply)
     (t : Slot) : Type 0 where
   pub slot : (moved machine replay i s replies).slot ≡ t
   pub got : (moved machine replay i s replies).replies ≡ replies
   pub answered : (moved machine replay i s replies).next ≢ RunEnds
 
--- which sandbox moves, the reply that it gets, if it does, and the memory and its seat after that
+-- a move: the number of the sandbox that moves, the reply that it gets, if it gets one, and the
+-- memory and the sandbox's seat after it
 pub record Move : Type 0 where
   pub number : ℕ
   pub replies : List Reply
@@ -60,7 +61,7 @@ AreMoves machine w [] n = n ≡ w
 AreMoves machine w (v ∷ moves) n =
     IsMove machine w v × IsSafeWorld (after_move w v) × AreMoves machine (after_move w v) moves n
 
--- ---- what they are to one sandbox
+-- ---- what moves are to one sandbox
 
 -- A sandbox's own move is, as a turn: a reply, if the sandbox goes on after one; else the machine's
 -- step in the one memory, at an exit that of the ecall. `after` is the state after the move.
@@ -71,7 +72,7 @@ own_turn step after (r ∷ replies) (Exited n) = Steps step
 own_turn step after (r ∷ replies) (Trapped cause at) = Steps step
 own_turn step after (r ∷ replies) Stopped = Steps step
 
--- its own turn and what comes then: after its last turn nothing comes
+-- the sandbox's own turn and the turns after it: after its last turn none comes
 abbrev pub own_turns : Status → Turn → List Turn → List Turn
 own_turns Ready turn later = turn ∷ later
 own_turns (Exited n) turn later = turn ∷ []
@@ -90,8 +91,8 @@ turns_to machine i m s (v ∷ moves) =
     (Changes (state_in v.bytes s) ∷ turns_to machine i v.bytes s moves)
 
 -- The turns are a run of the sandbox from the first world. Its code and its empty guard zones are
--- kept, and it lies where it lay. If it is ready in the second world the turns lead it to where it
--- is there; if it had stopped in the first, it is in the second what it was.
+-- kept, and it lies where it lay. If it is ready in the second world, the turns lead it to its
+-- state there; if it had stopped in the first world, it is the same in the second.
 pub record IsRunBetween (p : Part) (w n : Sandboxes) (i : ℕ) (s : Seat)
     (turns : List Turn) : Type 0 where
   pub run : IsRun p (Some (state_in w.bytes s)) turns
@@ -111,7 +112,7 @@ pub record AreRuns (machine : Machine) (w n : Sandboxes) (moves : List Move) : T
   pub each : (i : ℕ) (s : Seat) (p : Part) → slice_get w.seats i ≡ Some s → s.bounds ≡ bounds_of p
       → IsRunBetween p w n i s (turns_to machine i w.bytes s moves)
 
--- to each sandbox that was ready they are a safe run of the part whose code it has
+-- to each sandbox that was ready the moves are a safe run of the part whose code it has
 abbrev pub AreSafeRuns : Machine → Sandboxes → List Move → Type 0
 AreSafeRuns machine w moves =
     (i : ℕ) (s : Seat) (p : Part) → slice_get w.seats i ≡ Some s → s.bounds ≡ bounds_of p
@@ -120,7 +121,8 @@ AreSafeRuns machine w moves =
 
 -- ---- what a plan does
 
--- a turn's share of the moves: they are its sandbox's, and no more than it allows
+-- a turn's share of the moves: they are moves of its sandbox, at most as many as the turn allows
+-- steps
 pub record IsTurnsShare (turn : PlanTurn) (share : List Move) : Type 0 where
   pub only : All (λ (v : Move). v.number ≡ turn.sandbox) share
   pub count : length share ≤ turn.steps
@@ -171,7 +173,7 @@ JoinedMoves S =
     → IsMachine machine → IsSafeWorld w
     → (n : Sandboxes) × HaveRun machine plan w n (λ p. joined machine host p (slots_of w) s)
 
--- So it is with a host that answers each call, or so many calls.
+-- The same holds with a host that answers each call, or `limit` calls.
 abbrev pub JointMoves : Type 0 → Type 0
 JointMoves S =
     (machine : Machine) (answer : S → Call → Answer S) (plan : List PlanTurn) (w : Sandboxes) (s : S)
@@ -179,8 +181,8 @@ JointMoves S =
     → (n : Sandboxes)
     × HaveRun machine plan w n (λ p. joint machine answer p (slots_of w) s limit)
 
--- The plan ended at a call that the host may refuse, in the turn at that place, and the moves are
--- those of the same joint run, in which so many calls are answered.
+-- The plan ended at a call that the host may refuse, in the turn at `place` of the plan, and the
+-- moves are those of the same joint run, in which the calls before that one are answered.
 pub record HaveRunUpTo {S : Type 0} (machine : Machine) (answer : S → Call → Answer S)
     (may_refuse : S → Call → Bool) (plan : List PlanTurn) (place : ℕ) (w : Sandboxes) (before : S)
     (n : Sandboxes) (after : S) : Type 0 where
@@ -188,8 +190,8 @@ pub record HaveRunUpTo {S : Type 0} (machine : Machine) (answer : S → Call →
   pub moved : HaveRun machine plan w n
       (λ p. joint machine answer p (slots_of w) before (Some cut.answered))
 
--- So it is where a plan ended for want of memory; where it is done, the moves are those of the joint
--- run in which each call is answered.
+-- What a plan did, by its answer: where it is done, the moves are those of the joint run in which
+-- each call is answered; where it ended for want of memory, they are as `HaveRunUpTo` says.
 abbrev pub HaveRunJointly : {S : Type 0} → RunAnswer → Machine → (S → Call → Answer S)
     → (S → Call → Bool) → List PlanTurn → Sandboxes → S → Sandboxes → S → Type 0
 HaveRunJointly answers.Done machine answer may_refuse plan w before n after =

@@ -24,8 +24,8 @@ pub record IsRefusedIn {S : Type 0} (machine : Machine) (may_refuse : S → Call
   pub slot_is : slice_get slots turn.sandbox ≡ Some slot
   pub refused : IsAtRefusedCall machine may_refuse turn.sandbox slot host
 
--- The turn at that place ended at a call that the host may refuse: sandboxes and host are those of
--- the joint run in which so many calls are answered, and that call is the next.
+-- The turn at `place` of the plan ended at a call that the host may refuse: sandboxes and host are
+-- those of the joint run in which `answered` calls are answered, and that call is the next.
 pub record IsCutJoint {S : Type 0} (machine : Machine) (answer : S → Call → Answer S)
     (may_refuse : S → Call → Bool) (plan : List Turn) (old : List Slot) (before : S) (place : ℕ)
     (new : List Slot) (after : S) : Type 0 where

@@ -9,6 +9,6 @@ use Rattle.sfi_host.specs.Slots.{Slot}
 abbrev pub hart_at : List Slot → ℕ → Option Hart
 hart_at slots i = option_map (λ (s : Slot). s.hart) (slice_get slots i)
 
--- its data region
+-- the data region of the sandbox of that number
 abbrev pub data_region_at : List Slot → ℕ → Option Span
 data_region_at slots i = option_map (λ (s : Slot). s.bounds.data) (slice_get slots i)

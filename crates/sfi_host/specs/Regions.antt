@@ -1,4 +1,4 @@
--- The bytes of a memory in a region of addresses, and the others.
+-- The bytes of a memory in a region of addresses, and those outside it.
 use Rattle.std.specs.Prelude.{ℕ, ◌+◌, ◌&&◌, nat_le, nat_lt, not, Bool, IsSome}
 use Rattle.std.specs.FinMap.{retain_keys}
 use Rattle.rv_mem.specs.Bytes.{Bytes, byte_at}
@@ -18,7 +18,7 @@ is_in s a = nat_le s.base a && nat_lt a (s.base + s.size)
 abbrev pub bytes_in : Span → Bytes → Bytes
 bytes_in s m = retain_keys m (is_in s)
 
--- all others
+-- the bytes of a memory outside a region
 abbrev pub bytes_outside : Span → Bytes → Bytes
 bytes_outside s m = retain_keys m (λ a. not (is_in s a))
 

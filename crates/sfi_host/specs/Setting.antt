@@ -11,25 +11,25 @@ use Rattle.sfi_host.specs.Entering.{with_registers}
 use Rattle.sfi_host.specs.Slots.{Bounds, Slot}
 use Rattle.sfi_host.specs.Worlds.{Seat, Sandboxes}
 
--- this pc, and these registers from x0 on; x0 is 0 whatever is said of it
+-- the hart with this pc and these registers from x0 on; x0 is 0 whatever is given for it
 abbrev pub hart_of : ℕ → List ℕ → Hart
 hart_of pc registers = with_registers (record { pc = pc; registers = replicate 32 0 }) 0 registers
 
--- ---- which may be set
+-- ---- which pc and registers may be set
 
--- pc is where a unit of the code begins, a bundle or a word
+-- a unit of the code, a bundle or a word, begins at pc
 pub record IsUnitAt (b : Bounds) (pc : ℕ) : Type 0 where
   pub held : Holds b.code pc
   pub aligned : pc % unit b.format ≡ 0
 
--- the reserved registers hold what is theirs
+-- the reserved registers hold the values for a sandbox with these bounds
 pub record HoldsReserved (b : Bounds) (h : Hart) : Type 0 where
   pub code_base : register h code_base_register ≡ b.code.base
   pub code_mask : register h code_mask_register ≡ b.code.size - unit b.format
   pub data_base : register h data_base_register ≡ b.data.base
   pub data_mask : register h data_mask_register ≡ b.data.size - 1
 
--- in the region, or at most so many bytes below its first byte or above its last
+-- address `a` lies in the region, or at most `slack` bytes below its first byte or above its last
 pub record LiesNear (s : Span) (a : ℕ) : Type 0 where
   pub low : s.base ≤ a + slack
   pub high : a < s.base + s.size + slack
@@ -58,13 +58,14 @@ pub record MaySetAt (slots : List Slot) (i : ℕ) (h : Hart) : Type 0 where
   pub there : slice_get slots i ≡ Some slot
   pub may : IsEntryHart slot.bounds h
 
--- ---- what that makes of a world
+-- ---- what setting them makes of a world
 
--- ready with this pc and these registers; its steps are counted on
+-- the seat, ready with this pc and these registers; its steps are counted on
 abbrev pub set_seat : Seat → Hart → Seat
 set_seat s h = record { bounds = s.bounds; hart = h; status = Ready; steps = s.steps }
 
--- the world in which the sandbox of that number has them; the same where there is none
+-- the world in which the sandbox of that number has this pc and these registers; the world itself
+-- where there is no such sandbox
 abbrev pub with_hart_of : Sandboxes → ℕ → Hart → Option Seat → Sandboxes
 with_hart_of w i h None = w
 with_hart_of w i h (Some s) =

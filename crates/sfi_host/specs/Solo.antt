@@ -26,14 +26,14 @@ IsSolo machine plan i slot all =
     slice_get all.slots i
     ≡ slice_get (solo machine i slot (take all.turns plan) (replies_to i all.replies)).slots 0
 
--- So is each, with any host.
+-- Each sandbox comes to the same alone, with any host.
 abbrev pub JoinedIsSolo : Type 0 → Type 0
 JoinedIsSolo S =
     (machine : Machine) (host : Host S) (plan : List Turn) (slots : List Slot) (s : S) (i : ℕ)
     (slot : Slot) → slice_get slots i ≡ Some slot
     → IsSolo machine plan i slot (joined machine host plan slots s)
 
--- So is each, with a host that answers each call, or so many calls.
+-- Each sandbox comes to the same alone, with a host that answers each call, or `limit` calls.
 abbrev pub JointIsSolo : Type 0 → Type 0
 JointIsSolo S =
     (machine : Machine) (answer : S → Call → Answer S) (plan : List Turn) (slots : List Slot) (s : S)

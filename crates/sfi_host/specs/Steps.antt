@@ -11,14 +11,14 @@ use Rattle.sfi_host.specs.Joint.{Machine, IsMachine}
 use Rattle.sfi_host.specs.Stops.{StoppedItself}
 use Rattle.sfi_host.specs.Worlds.{Seat, slot_of, state_in, IsSafeSeat, StaysOutside}
 
--- the same, with the sandbox's own bytes alone
+-- a step's result with the sandbox's own bytes alone
 abbrev pub own_step : Bounds → Stepped → Stepped
 own_step b r = record {
   outcome = r.outcome;
   state = record { hart = r.state.hart; memory = own b r.state.memory };
 }
 
--- the seat with what a step made of it
+-- the seat with what a step made of the hart, and this count of steps
 abbrev pub stepped_seat : Seat → Stepped → ℕ → Seat
 stepped_seat s r steps =
     record { bounds = s.bounds; hart = r.state.hart; status = Ready; steps = steps }
@@ -36,7 +36,7 @@ pub record IsOwnStep (m : Bytes) (s : Seat) (r : Stepped) : Type 0 where
   pub trapped : (cause : Cause) (at : ℕ) → r.outcome ≡ Trap cause at
       → StoppedItself s.bounds (state_in m s) (Trapped cause at)
 
--- so is every step of a ready sandbox that is safe
+-- every step of a ready sandbox that is safe is such a step
 abbrev pub StepsAreOwn : Type 0
 StepsAreOwn = (m : Bytes) (s : Seat) (r : Stepped) → IsSafeSeat m s → s.status ≡ Ready
     → IsStep (state_in m s) r → IsOwnStep m s r

@@ -39,9 +39,9 @@ pub record TouchesGuard (b : Bounds) (s : State) (i : Instr) (at : ℕ) : Type 0
   pub among : Contains (addresses at count) address
   pub guard : InGuards b.data address
 
--- A sandbox with this status did it itself, if it has exited or trapped: it is at the ecall of one
--- of its gates, at its ebreak, or at its load or store that touches a guard zone. No other trap
--- stops it. One that its host stopped, by `World::stop`, may be anywhere.
+-- A sandbox with this status stopped by itself, if it has exited or trapped: it is at the ecall of
+-- one of its gates, at its ebreak, or at its load or store that touches a guard zone. No other trap
+-- stops it. A sandbox that its host stopped, by `World::stop`, may be anywhere.
 abbrev pub StoppedItself : Bounds → State → Status → Type 0
 StoppedItself b s Ready = Unit {0}
 StoppedItself b s (Exited code) = IsAtGate b s

@@ -14,16 +14,16 @@ pub record StandsAt (slots : List Slot) (i : ℕ) (stops : List ℕ) : Type 0 wh
   pub there : slice_get slots i ≡ Some slot
   pub among : Contains stops slot.hart.pc
 
--- a turn of the sandbox of that number, of at most so many steps
+-- a turn of sandbox `i`, of at most `steps` steps
 abbrev pub turn_of : ℕ → ℕ → Turn
 turn_of i steps = record { sandbox = i; steps = steps }
 
--- what it comes to, up to its first call
+-- the sandboxes after a turn of sandbox `i` of at most `steps` steps, up to its first call
 abbrev pub after_turn : Machine → ℕ → ℕ → List Slot → List Slot
 after_turn machine i steps slots = (to_call machine (turn_of i steps ∷ []) slots).slots
 
--- A turn of so many steps is the turn up to a stop: of the fewest steps, one at least, after which its
--- sandbox stands at one of the stops, and of all that it allows where there are none such.
+-- A turn of `count` steps is the turn up to a stop: the fewest steps, one at least, after which its
+-- sandbox stands at one of the stops, or all steps of `turn` if it stands at none by then.
 pub record IsUpToStop (stops : List ℕ) (turn : Turn) (w n : Sandboxes) (count : ℕ) : Type 0 where
   pub most : count ≤ turn.steps
   pub ran : (machine : Machine) → IsMachine machine
@@ -32,7 +32,7 @@ pub record IsUpToStop (stops : List ℕ) (turn : Turn) (w n : Sandboxes) (count 
       → StandsAt (after_turn machine turn.sandbox k (slots_of w)) turn.sandbox stops → ⊥
   pub ends : count < turn.steps → (0 < count) × StandsAt (slots_of n) turn.sandbox stops
 
--- it is a list of moves in the one memory, as each turn
+-- a turn up to a stop is a list of moves in the one memory, as each turn is
 pub record HasRunUntil (stops : List ℕ) (turn : Turn) (w n : Sandboxes) : Type 0 where
   pub count : ℕ
   pub is : IsUpToStop stops turn w n count

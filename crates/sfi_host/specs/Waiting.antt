@@ -15,11 +15,12 @@ use Rattle.sfi_host.specs.Slots.{Slot, state_of}
 
 -- ---- up to a call
 
--- a host that answers no call, so that each ends the run
+-- a host that answers no call, so that each call ends the run
 abbrev pub silent : Host (Unit {0})
 silent s call = None
 
--- what a plan comes to with it: up to the first call, which changes nothing and ends the run
+-- what a plan comes to with the silent host: up to the first call, which changes nothing and ends
+-- the run
 abbrev pub to_call : Machine → List Turn → List Slot → Joined (Unit {0})
 to_call machine plan slots = joined machine silent plan slots tt
 
@@ -33,7 +34,7 @@ pub record IsAtCall (slots : List Slot) (i : ℕ) : Type 0 where
   pub calls :
       (machine : Machine) → IsMachine machine → (machine (state_of slot)).outcome ≡ Calls
 
--- it is, and the call asks for this
+-- the sandbox of that number is ready and stands at a call, which asks for this
 pub record Waits (slots : List Slot) (i : ℕ) (r : Request) : Type 0 where
   pub at : IsAtCall slots i
   pub asks : call_by r (bytes_in at.slot.bounds.data at.slot.bytes) ≡ call_of i at.slot
@@ -52,12 +53,12 @@ pub record AsksAtGate (slots : List Slot) (i : ℕ) (r : Request) : Type 0 where
 
 -- ---- a reply that is given later
 
--- the caller stops with this number, if there is one
+-- how the caller goes on: it stops with this number, if there is one
 abbrev pub later_way : Option ℕ → Way
 later_way None = Replied
 later_way (Some n) = Exit n
 
--- its data bytes stay as they are
+-- the reply as one to this call: the caller's data bytes stay as they are
 abbrev pub later_reply : Later → Call → Reply
 later_reply r call =
     record { way = later_way r.exit; a0 = r.a0; a1 = r.a1; bytes = call.bytes }

@@ -15,8 +15,8 @@ use Rattle.sfi_host.specs.Regions.{bytes_in, IsWhole}
 use Rattle.sfi_host.specs.Slots.{Bounds, bounds_of, own, Slot}
 use Rattle.sfi_host.specs.Stops.{StoppedItself}
 
--- what there is of a sandbox beside the memory: where it lies, its pc and registers, what it may
--- still do, and how many steps it did
+-- a sandbox but for the memory: where it lies, its pc and registers, what it may still do, and how
+-- many steps it did
 pub record Seat : Type 0 where
   pub bounds : Bounds
   pub hart : Hart
@@ -52,11 +52,12 @@ state_in m s = record { hart = s.hart; memory = m }
 abbrev pub status_at : List Slot → ℕ → Option Status
 status_at slots i = option_map (λ (s : Slot). s.status) (slice_get slots i)
 
--- how many steps it did
+-- how many steps the sandbox of that number did
 abbrev pub steps_at : List Slot → ℕ → Option ℕ
 steps_at slots i = option_map (λ (s : Slot). s.steps) (slice_get slots i)
 
--- its data byte at an address; None where there is no such sandbox, or the address lies elsewhere
+-- the sandbox's data byte at an address; None where there is no such sandbox, or the address lies
+-- elsewhere
 abbrev pub data_byte_of : Option Slot → ℕ → Option ℕ
 data_byte_of None at = None
 data_byte_of (Some s) at = byte_at (bytes_in s.bounds.data s.bytes) at
@@ -94,20 +95,20 @@ pub record IsSafeWorld (w : Sandboxes) : Type 0 where
 abbrev pub StaysOutside : Span → Bytes → Bytes → Type 0
 StaysOutside region old new = (a : ℕ) → (Holds region a → ⊥) → byte_at new a ≡ byte_at old a
 
--- it keeps them wherever no sandbox of the world has its data
+-- a memory keeps its bytes, or their absence, wherever no sandbox of the world has its data
 abbrev pub StaysOutsideData : Sandboxes → Bytes → Type 0
 StaysOutsideData w new =
     (a : ℕ) → ((i : ℕ) (s : Seat) → slice_get w.seats i ≡ Some s → Holds s.bounds.data a → ⊥)
     → byte_at new a ≡ byte_at w.bytes a
 
--- the sandbox of that number has that status, and did it itself, if it has exited or trapped
+-- the sandbox of that number has that status, and stopped by itself, if it has exited or trapped
 pub record IsStopOf (w : Sandboxes) (i : ℕ) (status : Status) : Type 0 where
   pub seat : Seat
   pub there : slice_get w.seats i ≡ Some seat
   pub status_is : seat.status ≡ status
   pub itself : StoppedItself seat.bounds (state_in w.bytes seat) status
 
--- so it is of each sandbox, with the status that `World::status` answers
+-- each sandbox has stopped by itself, if at all, with the status that `World::status` answers
 abbrev pub HaveStoppedThemselves : Sandboxes → Type 0
 HaveStoppedThemselves w =
     (i : ℕ) (status : Status) → status_at (slots_of w) i ≡ Some status → IsStopOf w i status

@@ -58,7 +58,7 @@ impl Model for Console {
 }
 
 impl Console {
-    /// A console for so many sandboxes, numbered from 0, with that input.
+    /// A console for `sandboxes` sandboxes, numbered from 0, each of which reads `input`.
     pub fn new(alloc: Global, sandboxes: u32, input: &[u8]) -> Result<Console, AllocError>
         ensures { IfOk result (λ c. c ≡ new_console sandboxes input.now) }
     {
@@ -78,7 +78,7 @@ impl Console {
         Some(session.output())
     }
 
-    // The caller's word goes to the end of the mailbox of the sandbox that a0 names.
+    // Appends the caller's word to the mailbox of the sandbox that a0 names.
     fn post<M: Memory>(&mut self, guest: &mut Guest<'_, M>) -> GateAnswer
         requires has_data { HasData M.bytes guest.old }
         requires known { (asked M.bytes guest.old).caller < length self.old.sessions }

@@ -9,13 +9,13 @@ use rv_mem::Memory;
 /// How a caller goes on.
 #[derive(Clone, Copy, Debug, PartialEq, Eq)]
 pub enum GateAnswer {
-    /// After the call.
+    /// It goes on after the call.
     Replied,
-    /// After the call, in its next turn.
+    /// It goes on after the call, in its next turn.
     Yield,
     /// It has stopped, with this number.
     Exit(u32),
-    /// Not at all: the host has no memory for the reply, and nothing changed.
+    /// It doesn't: the host has no memory for the reply, and nothing changed.
     Memory,
 }
 

@@ -17,9 +17,9 @@ pub struct Request {
     pub gate: usize,
     /// The service of that gate.
     pub service: u32,
-    /// Its a0.
+    /// The caller's a0.
     pub a0: u32,
-    /// Its a1.
+    /// The caller's a1.
     pub a1: u32,
 }
 
@@ -79,28 +79,28 @@ impl<'a, M: Memory> Guest<'a, M> {
         self.request.service
     }
 
-    /// Its a0.
+    /// The caller's a0.
     pub fn arg0(&self) -> u32
         ensures { result ≡ (asked M.bytes self.now).a0 }
     {
         self.request.a0
     }
 
-    /// Its a1.
+    /// The caller's a1.
     pub fn arg1(&self) -> u32
         ensures { result ≡ (asked M.bytes self.now).a1 }
     {
         self.request.a1
     }
 
-    /// Its data region.
+    /// The caller's data region.
     pub fn data_region(&self) -> Region
         ensures { span_of result ≡ data_of self.now }
     {
         self.region
     }
 
-    /// The byte at an address of its data region; `None` for every other address.
+    /// The byte at an address of the caller's data region; `None` for every other address.
     pub fn byte(&self, at: u32) -> Option<u8>
         ensures value { result ≡ byte_at (asked M.bytes self.now).bytes at }
         ensures there { HasData M.bytes self.now → (IsSome result ↔ Holds (data_of self.now) at) }
@@ -175,7 +175,7 @@ impl<'a, M: Memory> Guest<'a, M> {
         true
     }
 
-    /// Sets its a0.
+    /// Sets the caller's a0.
     pub fn set0(&mut self, value: u32)
         ensures same_reference { SameMemory self.old self.new }
         ensures asked { asked M.bytes self.new ≡ with_a0 (asked M.bytes self.old) value }
@@ -186,7 +186,7 @@ impl<'a, M: Memory> Guest<'a, M> {
         self.request.a0 = value;
     }
 
-    /// Sets its a1.
+    /// Sets the caller's a1.
     pub fn set1(&mut self, value: u32)
         ensures same_reference { SameMemory self.old self.new }
         ensures asked { asked M.bytes self.new ≡ with_a1 (asked M.bytes self.old) value }

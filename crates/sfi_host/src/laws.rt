@@ -13,7 +13,7 @@ pub fn joint_is_solo<S>()
     // With any host.
     ensures any_host { JoinedIsSolo S }
 
-    // With a host that answers so many calls, or each call.
+    // With a host that answers each call, or only a limited number of calls.
     ensures limited { JointIsSolo S }
 {}
 
@@ -49,7 +49,7 @@ pub fn joined_moves<S>()
     // With any host.
     ensures any_host { JoinedMoves S }
 
-    // With a host that answers so many calls, or each call.
+    // With a host that answers each call, or only a limited number of calls.
     ensures limited { JointMoves S }
 {}
 
@@ -67,7 +67,7 @@ pub fn turns_are_counted<S>()
     // A turn counts no more steps than it allows, and none of a sandbox that has stopped.
     ensures counted { TurnsAreCounted S }
 
-    // One up to the next call counts none of a sandbox that waits.
+    // A turn up to the next call counts no step of a sandbox that waits.
     ensures waits { WaitsThroughTurns }
 
     // No plan stops a sandbox as `World::stop` does.

@@ -39,7 +39,7 @@ impl Model for Session {
         record { output = s.output.items; place = s.place; mailbox = s.mailbox.items } };
 }
 
-/// At most so many bytes of the input, from a place on.
+/// At most `most` bytes of the input, from byte `place` on.
 fn next_bytes(input: &[u8], place: usize, most: usize) -> &[u8]
     ensures { result.now ≡ take most (drop place input.now) }
 {
@@ -48,7 +48,7 @@ fn next_bytes(input: &[u8], place: usize, most: usize) -> &[u8]
 }
 
 impl Session {
-    /// Nothing is written, read or posted.
+    /// A session in which nothing is written, read or posted.
     pub(crate) fn new(alloc: Global) -> Session
         ensures { result ≡ new_session }
     {
@@ -59,7 +59,7 @@ impl Session {
         }
     }
 
-    /// The bytes that were put.
+    /// The bytes that the sandbox has put.
     pub(crate) fn output(&self) -> &[u8]
         ensures { result.now ≡ self.now.output }
     {

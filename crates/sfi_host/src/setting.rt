@@ -31,7 +31,8 @@ fn set_all(cpu: &mut Cpu, registers: &[u32; 32])
     }
 }
 
-/// This pc, and these registers from x0 on, which stays 0; `None` where the pc is odd.
+/// A state with this pc and these registers from x0 on, of which x0 stays 0; `None` where the pc is
+/// odd.
 pub(crate) fn cpu_of(pc: u32, registers: &[u32; 32]) -> Option<Cpu>
     ensures some { IfSome result (λ cpu. cpu ≡ hart_of pc registers.now) }
     ensures hart { IfSome result IsHart }
@@ -46,7 +47,7 @@ pub(crate) fn cpu_of(pc: u32, registers: &[u32; 32]) -> Option<Cpu>
 pub fn registers_of(cpu: &Cpu) -> [u32; 32]
     ensures { result ≡ cpu.now.registers }
 {
-    // That of x0 stands for each that isn't read yet.
+    // The value of x0 stands for each that isn't read yet.
     let mut registers = [cpu.reg(Reg::numbered(0)); 32];
     for number in 0..32 {
         registers[number] = cpu.reg(Reg::numbered(number as u8));
@@ -54,7 +55,7 @@ pub fn registers_of(cpu: &Cpu) -> [u32; 32]
     registers
 }
 
-// Whether the address lies in the region, or not further from it than an offset reaches.
+// Whether the address lies in the region, or at most `SLACK` bytes outside it.
 fn is_near(region: Region, at: u32) -> bool
     ensures { IsTrue result ↔ LiesNear (span_of region) at }
 {
@@ -64,14 +65,14 @@ fn is_near(region: Region, at: u32) -> bool
 }
 
 impl Sandbox {
-    // Whether a unit of its code begins at the address.
+    // Whether a unit of the sandbox's code begins at the address.
     fn begins_at(&self, pc: u32) -> bool
         ensures { IsTrue result ↔ IsUnitAt (seat_of self.now).bounds pc }
     {
         self.code.holds(pc) && pc % self.format.unit() == 0
     }
 
-    // Whether the reserved registers hold what is theirs.
+    // Whether the reserved registers hold the values of the sandbox.
     fn holds_reserved(&self, cpu: &Cpu) -> bool
         requires code_size { 16 ≤ self.now.code.size }
         requires data_size { 16 ≤ self.now.data.size }
@@ -119,7 +120,7 @@ impl Sandbox {
         self.holds_typed_words(cpu)
     }
 
-    /// Whether it may be entered with this pc and these registers.
+    /// Whether the sandbox may be entered with this pc and these registers.
     pub(crate) fn may_hold(&self, cpu: &Cpu) -> bool
         requires code_size { 16 ≤ self.now.code.size }
         requires data_size { 16 ≤ self.now.data.size }
@@ -131,8 +132,8 @@ impl Sandbox {
             && self.holds_words(cpu)
     }
 
-    /// Its pc and registers as at a call of the function at `pc` by its host, while it waits at a call
-    /// of its own; `None` where `pc` is odd.
+    /// The sandbox's pc and registers as at a call of the function at `pc` by its host, while it
+    /// waits at a call of its own; `None` where `pc` is odd.
     pub(crate) fn called_back(&self, pc: u32, arguments: &[u32; 8]) -> Option<Cpu>
         ensures some { IfSome result (λ cpu. cpu
             ≡ called_back_hart (seat_of self.now).bounds self.now.cpu pc arguments.now) }
@@ -144,7 +145,7 @@ impl Sandbox {
         Some(cpu)
     }
 
-    /// Makes it ready with this pc and these registers.
+    /// Makes the sandbox ready with this pc and these registers.
     pub(crate) fn resume(&mut self, cpu: Cpu)
         ensures { seat_of self.new ≡ set_seat (seat_of self.old) cpu }
     {

@@ -1,4 +1,4 @@
-//! Steps of a sandbox up to one of some addresses.
+//! Runs a sandbox up to one of some addresses.
 ghost use Rattle.std.specs.Prelude.{◌≡◌, ◌≢◌, ◌⊎◌, ◌↔◌, ℕ, IsTrue};
 ghost use Rattle.std.specs.Bool.{OnFalse};
 ghost use Rattle.std.specs.List.{Contains};
@@ -20,7 +20,7 @@ fn is_stop(stops: &[u32], pc: u32) -> bool
     stops.contains(&pc)
 }
 
-// Whether further steps do anything.
+// Whether further steps of the sandbox do anything.
 fn goes_on(pause: Pause, sandbox: &Sandbox) -> bool
     ensures { OnFalse result
         (((left : ℕ) × (pause ≡ Pause.Call left)) ⊎ (sandbox.now.status ≢ Status.Ready)) }
@@ -31,8 +31,8 @@ fn goes_on(pause: Pause, sandbox: &Sandbox) -> bool
     }
 }
 
-/// At most `steps` steps of a sandbox, up to its next call, and no further than to one of the stops,
-/// to which at least one step leads. Each step is a turn of its own.
+/// Runs a sandbox for at most `steps` steps, up to its next call, and no further than to one of the
+/// stops, after one step at least. Each step is a turn of its own.
 pub(crate) fn run_until<M: Memory>(
     memory: &mut M,
     program: &Program,

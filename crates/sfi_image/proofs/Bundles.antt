@@ -48,7 +48,7 @@ whole_bundles format base size address region =
     let whole = bundles_of format base size region in
     (whole.0, whole.1, whole.2, whole.3, region_end format base size address region)
 
--- so that of a sandbox ends within the addresses
+-- a sandbox's code region ends within the addresses
 pub code_ends : (p : Part) → IsRightPart p → p.code_base + length p.code ≤ 2 ^ 32
 code_ends p right = region_end p.format p.code_base _ right.code_base right.code_placed
 

@@ -32,7 +32,7 @@ some_init n ps f gs code some = rw (ne_eqb 0 f.init_len (λ e. some (sym e))) re
 pub all_init : (n : ℕ) (ps : List Part) (f : Fields) (gs : List Gate) (code init : List ℕ) → length init ≡ f.init_len → after_init n ps f gs code init ≡ after_parts f.format n (ps ++ part_of f gs code init ∷ [])
 all_init n ps f gs code init e = rw (eq-eqb (length init) f.init_len e) refl
 
--- the same front
+-- a cursor that has read one of two equal fronts has read the other
 pub at_front : {bytes : List ℕ} {x y : Front} {c : ImageCursor} → x ≡ y → HasRead bytes x c → HasRead bytes y c
 at_front {bytes = bytes} {c = c} e h = subst (λ (z : Front). HasRead bytes z c) e h
 
@@ -84,7 +84,7 @@ fields_read bytes format n ps s rest len old new f l e words kind =
           | inr e ↦ (rw (e.0) at h).right.0.words
         ]
 
--- so many of its gates, which were the front of these bytes
+-- `count` gates of the sandbox are read: `all` is their bytes, and then those still unread
 pub record GatesTaken (bytes : List ℕ) (n : ℕ) (ps : List Part) (f : Fields) (count : ℕ) (all : List ℕ) (c : ImageCursor) : Type 0 where
   pub gates : List Gate
   pub read : HasRead bytes (after_gates n ps f gates) c
@@ -197,7 +197,7 @@ some_bytes : (p : Part) → 0 < length (part p)
 unfolding part
 some_bytes p = omega (arith, length-fields (fields_of p) (flat_map gate p.gates ++ (p.code ++ p.init)))
 
--- so fewer are left
+-- after a sandbox is read, fewer bytes are left
 pub fewer_left : (bytes : List ℕ) (format : Format) (n : ℕ) (ps : List Part) (p : Part) (old new : ImageCursor) → HasPassed bytes format n ps old → HasPassed bytes format n (ps ++ p ∷ []) new
     → length (unread new) < length (unread old)
 fewer_left bytes format n ps p old new h g =
@@ -242,7 +242,7 @@ gate_there v p i h lt =
       bytes_are = take_all (length s - 8 * i) (drop (8 * i) s) (omega (arith, length-drop (8 * i) s)) ∙ ap (drop (8 * i)) h.gates_are ∙ t.4;
     }
 
--- these are the first of its gates
+-- these are the first gates of the sandbox
 pub record AreFirstGates (p : Part) (gs : List Gate) : Type 0 where
   pub front : gs ≡ take (length gs) p.gates
   pub most : length gs ≤ length p.gates
@@ -270,7 +270,7 @@ with_gates v format gs = part_of (record v.fields { format = format }) gs v.code
 pub part_again : (v : PartView) (p : Part) (gs : List Gate) → IsViewOf v p → gs ≡ p.gates → with_gates v p.format gs ≡ p
 part_again v p gs h e = rw (h.fields_are, e, h.code_is, h.init_is) refl
 
--- it has the image's format
+-- the last sandbox that was read has the image's format
 pub last_format : (bytes : List ℕ) (format : Format) (n : ℕ) (ps : List Part) (p : Part) (c : ImageCursor) → HasPassed bytes format n (ps ++ p ∷ []) c → p.format ≡ format
 last_format bytes format n ps p c h =
     subst (λ (q : Part). q.format ≡ format) (get_or_push ps p p (length ps) refl) (h.one_format (length ps) p (omega (arith, length_push ps p)))

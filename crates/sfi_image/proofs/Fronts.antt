@@ -4,7 +4,7 @@ use Rattle.byteorder.specs.Endian.{little_number}
 use Rattle.sfi_image.proofs.Numbers.{IsBytes, IsBytes-take, number_of_bytes}
 use Rattle.sfi_image.proofs.Cancelling.{gate_split, fields_split}
 
--- an item that is spelled at the front of bytes, in so many of them, and the bytes after it
+-- an item that the first `size` of these bytes spell, and the bytes after it
 pub record Spelled {X : Type 0} (spell : X → List ℕ) (Fits : X → Type 0) (size : ℕ) (bytes : List ℕ) : Type 0 where
   pub item : X
   pub rest : List ℕ

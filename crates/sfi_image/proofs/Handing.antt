@@ -28,7 +28,8 @@ module _ {S : Type 0} (known : S → Option (List ℕ)) (failed : S → Bool) wh
         | inr goes ↦ rw (goes) (more.0, one.2 ∙ ap (λ (l : List ℕ). bytes_of r.answer ++ l) more.1 ∙ sym (append_assoc (bytes_of r.answer) (bytes_handed_out rs) more.0), more.2)
       ]
 
-  -- so the bytes of a stream are the front of the reader's
+  -- the bytes of a stream are the front of the reader's bytes, and all of them where the end was
+  -- found
   pub handed_out : (most : ℕ) (s t : S) (bytes all : List ℕ) (ends : Bool) → Streams reads_known most s t bytes ends → known s ≡ Some all
       → (rest : List ℕ) × (all ≡ bytes ++ rest) × (ends ≡ true → rest ≡ [])
   handed_out most s t bytes all ends h e =

@@ -6,7 +6,7 @@ use Rattle.std.proofs.lemmas.Nat.Bits.{and_high}
 use Rattle.std.specs.Int.Bits.{bit_and, bit_or}
 use Rattle.sfi_image.proofs.Bundles.{exponent_le}
 
--- so many units of 2 ^ u, put into a region of 2 ^ j of them
+-- offset `y`, in units of 2 ^ u bytes, lies in a region of 2 ^ j units, and is a multiple of a unit
 units_placed : (q j u y : ℕ) → y < 2 ^ j → (y * 2 ^ u < 2 ^ j * 2 ^ u) × (q * (2 ^ j * 2 ^ u) + y * 2 ^ u ≡ (q * 2 ^ j + y) * 2 ^ u + 0)
 units_placed q j u y below =
     let some : 0 < 2 ^ u = pow_pos u in

@@ -215,7 +215,7 @@ no_count_fault format ps bytes k are right least most e (inr (m, more, eb, wb, b
     beyond (inl h) = h.0 (least, most)
     beyond (inr h) = no_parts_fault format ps (flat_map part ps) k are right refl h.2
 
--- the same magic, and what is after it
+-- bytes with two magics in front have one format, and the same bytes after it
 same_magic : (f g : Format) (r s : List ℕ) → magic f ++ r ≡ magic g ++ s → (f ≡ g) × (r ≡ s)
 same_magic f g r s e =
     let same = same_front (magic f) (magic g) r s (length_of_magic f ∙ sym (length_of_magic g)) e in

@@ -144,7 +144,7 @@ module _ {A : Type 0} (ps : List Part) (Found : A → Type 0) where
   only_fault right (Err (errors.Layout j)) h k wrong = inl (ap (λ (x : LayoutFault). Err (errors.Layout x)) (one_fault ps j k h wrong))
   only_fault right (Err errors.Memory) h k wrong = inr refl
 
-  -- it is that of the bytes
+  -- the fault that is answered is that of the bytes
   pub fault_as_read : (r : Result A ImageFault) → Reads Found (HaveFault ps) r → length ps ≤ 16 → AreOf (format_of ps) ps → All AreWords ps → IfErr r (λ e. IfLayout e (λ k. IsFault (spelling ps) k))
   fault_as_read (Ok a) h most are words = tt
   fault_as_read (Err (errors.Layout k)) h most are words = as_read ps k most are words h

@@ -3,7 +3,7 @@ use Rattle.sfi_image.proofs.Prelude.{◌≡◌, ℕ, ◌+◌, ◌-◌, ◌<◌, 
 use Rattle.sfi_image.proofs.Formats.{code_at_most}
 use Rattle.std.proofs.lemmas.List.Quantifiers.{all_pairs_push}
 
--- one more step over the spans before
+-- a span that lies apart from the first `i` spans lies apart from the next one, too
 pub apart_more : (xs : List Span) (one : Span) (i : ℕ) (x : Span) → i < length xs → ((k : ℕ) (d : Span) → k < i → AreApart (get_or xs k d) one)
     → AreApart (get_or xs i x) one → (k : ℕ) (d : Span) → k < i + 1 → AreApart (get_or xs k d) one
 apart_more xs one i x lt so_far here k d below =
@@ -41,7 +41,7 @@ front_apart xs ys pairs i j d lt within =
 pub two_spans : (a b : Span) (f : Fields) → a ≡ code_span f → b ≡ guarded_span f → (a ∷ b ∷ []) ≡ spans_of f
 two_spans a b f one other = ap (λ (x : Span). x ∷ b ∷ []) one ∙ ap (λ (y : Span). code_span f ∷ y ∷ []) other
 
--- they are put at the end, one after the other
+-- two spans are pushed, one after the other
 pub two_pushed : (old mid new two : List Span) (a b : Span) → mid ≡ old ++ a ∷ [] → new ≡ mid ++ b ∷ [] → (a ∷ b ∷ []) ≡ two → new ≡ old ++ two
 two_pushed old mid new two a b first then_ are = then_ ∙ ap (λ (t : List Span). t ++ b ∷ []) first ∙ append_assoc old (a ∷ []) (b ∷ []) ∙ ap (λ (t : List Span). old ++ t) are
 

@@ -58,7 +58,7 @@ pub first_is : (at : ℕ) (as' : List ℕ) → AreAhead at as' → is_first as' 
 first_is at [] ahead = refl
 first_is at (g ∷ more) ahead = rw (none_before (g + 16) at more (let low = ahead.0 in omega arith) ahead.2) (sym (or-false (g == at)))
 
--- those ahead of an end, where those below it are passed
+-- the addresses ahead of `end`, where those below it are dropped
 below_passed : (at end : ℕ) (as' : List ℕ) → AreAhead at as' → AreAhead end (drop (count_below end as') as')
 below_passed at end [] ahead = tt
 below_passed at end (g ∷ more) ahead =
@@ -83,7 +83,7 @@ below_most end (g ∷ more) =
       | inr e ↦ rw (e) (omega arith)
     ]
 
--- those from an end on
+-- the gates from `end` on
 pub rest_from : (at end : ℕ) (gs : List Gate) (as' : List ℕ) (k : ℕ) → at ≤ end → k ≤ length as' → AreRest at gs (drop k as')
     → (k + count_below end (drop k as') ≤ length as') × AreRest end gs (drop (k + count_below end (drop k as')) as')
 rest_from at end gs as' k on le rest =

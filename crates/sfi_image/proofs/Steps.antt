@@ -34,7 +34,7 @@ fields_leads old new (AfterCount format n ps) s f' h is e words kind passed coun
     }) p c i to)
 fields_leads old new _ s f' h is e words kind passed count begun spans_are fields_are gates p c i to = let k = h.kept.0 in absurd cc
 
--- one more gate, which may come next
+-- the reader takes another gate, which may come next
 pub gate_on : (old new : LayoutReader) (n : ℕ) (ps : List Part) (f : Fields) (gs : List Gate) (s : List ℕ) (g : Gate) → StandsFor old (InGates n ps f gs) → s ≡ gate g → AreGateWords g
     → AreGates (code_span f) (gs ++ g ∷ [])
     → new.count ≡ old.count → new.begun ≡ old.begun → new.spans ≡ old.spans → new.fields ≡ old.fields → new.gates ≡ old.gates ++ g.address ∷ []

@@ -9,16 +9,17 @@ use Rattle.sfi_image.specs.Parts.{AreOf}
 use Rattle.sfi_image.specs.Fronts.{Front, front, after_parts}
 use Rattle.sfi_image.specs.Keeping.{StandsFor}
 
--- the bytes after those that it has read
+-- the bytes that the cursor hasn't read
 abbrev pub unread : ImageCursor → List ℕ
 unread c = c.rest.now
 
--- it has read this front of the bytes, which passes its tests
+-- the cursor has read this front of the bytes, which passes its tests
 pub record HasRead (bytes : List ℕ) (x : Front) (c : ImageCursor) : Type 0 where
   pub stands : StandsFor c.reader x
   pub bytes_are : bytes ≡ front x ++ unread c
 
--- it has read the format's magic, the count and these whole sandboxes, with which the bytes begin
+-- the cursor has read the format's magic, the count and these whole sandboxes, with which the bytes
+-- begin
 pub record HasPassed (bytes : List ℕ) (format : Format) (n : ℕ) (ps : List Part) (c : ImageCursor)
     : Type 0 where
   pub one_format : AreOf format ps

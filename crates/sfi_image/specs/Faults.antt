@@ -29,11 +29,11 @@ number_of Init = 9
 number_of Overlap = 10
 number_of Trailing = 11
 
--- after these gates there is one more, which is cut short
+-- after these gates there is another one, which is cut short
 abbrev pub IsGateShort : Fields → List Gate → List ℕ → LayoutFault → Type 0
 IsGateShort f gs rest k = (length gs < f.gate_count) × (length rest < gate_bytes) × (k ≡ Short)
 
--- after these gates there is one more, with which they are no right gates
+-- after these gates there is another one, with which they aren't right gates
 abbrev pub IsGateWrong : Fields → List Gate → List ℕ → LayoutFault → Type 0
 IsGateWrong f gs rest k =
     (length gs < f.gate_count) × (g : Gate) × (after : List ℕ)

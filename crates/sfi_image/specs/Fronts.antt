@@ -18,9 +18,9 @@ use Rattle.sfi_image.specs.declared.fault.LayoutFault.TheVariants.{Short, Traili
 use Rattle.sfi_image.specs.Faults.{IsFault}
 use Rattle.sfi_image.specs.Images.{IsImage}
 
--- What was read: nothing; the magic of a format; then the count and so many whole sandboxes, after
--- which another comes; of that one the fields and its gates so far; all its gates, and its code so far;
--- all its code, and its first data bytes so far; or the whole image.
+-- What was read: nothing; the magic of a format; then the count and some whole sandboxes, after
+-- which another comes; of that one the fields and its gates so far; all its gates, and its code so
+-- far; all its code, and its first data bytes so far; or the whole image.
 pub data Front : Type 0 where
   Empty : Front
   AfterMagic : Format → Front
@@ -47,7 +47,7 @@ front (InInit n ps f gs code init) =
     head f.format n ps ++ (fields f ++ (flat_map gate gs ++ (code ++ init)))
 front (Whole ps) = head (format_of ps) (length ps) ps
 
--- ---- what passed its tests
+-- ---- which fronts passed the tests
 
 -- the count is from 1 to the most, and the sandboxes are of the format and right
 pub record IsHead (format : Format) (n : ℕ) (ps : List Part) : Type 0 where
@@ -56,7 +56,7 @@ pub record IsHead (format : Format) (n : ℕ) (ps : List Part) : Type 0 where
   pub one_format : AreOf format ps
   pub right : AreRight ps
 
--- after them the fields and the gates of one more pass theirs
+-- after the whole sandboxes, which are right, the fields and gates of another one pass their tests
 pub record IsOpened (n : ℕ) (ps : List Part) (f : Fields) (gs : List Gate) : Type 0 where
   pub before : IsHead f.format n ps
   pub more : length ps < n
@@ -65,7 +65,8 @@ pub record IsOpened (n : ℕ) (ps : List Part) (f : Fields) (gs : List Gate) : T
   pub gate_words : All AreGateWords gs
   pub gates : AreGates (code_span f) gs
 
--- all that was read passes its tests, and after what isn't whole another sandbox, gate or byte comes
+-- all that was read passes its tests, and where something isn't whole, another sandbox, gate or
+-- byte comes
 abbrev pub IsRightFront : Front → Type 0
 IsRightFront Empty = Unit {0}
 IsRightFront (AfterMagic format) = Unit {0}
@@ -99,14 +100,14 @@ want_of (InCode n ps f gs code) =
 want_of (InInit n ps f gs code init) = wants.Init (f.init_len - length init)
 want_of (Whole ps) = wants.End
 
--- a length is that of one or more whole bundles, and at most this
+-- `len` bytes are one or more whole bundles, and at most `most` bytes
 pub record AreBundlesWithin (most len : ℕ) : Type 0 where
   pub some : 1 ≤ len
   pub whole : len % bundle_size ≡ 0
   pub inside : len ≤ most
 
--- So many bytes of code from that address on are a stretch: whole bundles of the region, of which none
--- but the first is listed as a gate. It is the longest: after it comes a listed bundle, or the
+-- The `len` bytes of code from address `at` on are a stretch: whole bundles of the region, of which
+-- none but the first is listed as a gate. It is the longest: after it comes a listed bundle, or the
 -- region's end.
 pub record IsLongestStretch (f : Fields) (gs : List Gate) (at len : ℕ) : Type 0 where
   pub bundles : AreBundlesWithin (f.code_base + f.code_size - at) len
@@ -114,7 +115,7 @@ pub record IsLongestStretch (f : Fields) (gs : List Gate) (at len : ℕ) : Type 
       (i : ℕ) → 0 < i → bundle_size * i < len → is_gate_of gs (at + bundle_size * i) ≡ false
   pub ends : (at + len ≡ f.code_base + f.code_size) ⊎ (is_gate_of gs (at + len) ≡ true)
 
--- after the front a stretch of so many bytes comes next, or no code does and they are none
+-- after the front a stretch of `len` bytes comes next, or no code does and `len` is 0
 abbrev pub IsStretchLength : Front → ℕ → Type 0
 IsStretchLength (InCode n ps f gs code) len = IsLongestStretch f gs (f.code_base + length code) len
 IsStretchLength Empty len = len ≡ 0
@@ -139,26 +140,26 @@ part_of f gs code init = record {
   init = init;
 }
 
--- the front after so many whole sandboxes
+-- the front after the whole sandboxes `ps`, of `n` in all
 abbrev pub after_parts : Format → ℕ → List Part → Front
 after_parts format n ps = cond (length ps == n) (Whole ps) (AfterCount format n ps)
 
--- the front after so many first data bytes of the next one
+-- the front after the first data bytes `init` of the sandbox that comes after `ps`
 abbrev pub after_init : ℕ → List Part → Fields → List Gate → List ℕ → List ℕ → Front
 after_init n ps f gs code init =
     cond (length init == f.init_len) (after_parts f.format n (ps ++ part_of f gs code init ∷ []))
     (InInit n ps f gs code init)
 
--- the front after so much of its code
+-- the front after the bytes `code` of its code
 abbrev pub after_code : ℕ → List Part → Fields → List Gate → List ℕ → Front
 after_code n ps f gs code =
     cond (length code == f.code_size) (after_init n ps f gs code []) (InCode n ps f gs code)
 
--- the front after so many of its gates
+-- the front after its gates `gs`
 abbrev pub after_gates : ℕ → List Part → Fields → List Gate → Front
 after_gates n ps f gs = cond (length gs == f.gate_count) (InCode n ps f gs []) (InGates n ps f gs)
 
--- the second front is the first with these bytes, as many as come next
+-- the second front is the first with these bytes, which are as many as come next
 abbrev pub Follows : Front → List ℕ → Front → Type 0
 Follows Empty s y = (format : Format) × (s ≡ magic format) × (y ≡ AfterMagic format)
 Follows (AfterMagic format) s y = (n : ℕ) × (s ≡ number n) × (y ≡ AfterCount format n [])
@@ -176,7 +177,7 @@ Follows (Whole ps) s y = ⊥
 abbrev pub HasFaultWhateverFollows : List ℕ → LayoutFault → Type 0
 HasFaultWhateverFollows bytes k = (more : List ℕ) → IsFault (bytes ++ more) k
 
--- so many bytes are fewer than come next
+-- `len` bytes are fewer than what comes next has
 abbrev pub IsLess : ℕ → Want → Type 0
 IsLess len (wants.Field n) = len < n
 IsLess len (wants.Bundle place) = len < bundle_size

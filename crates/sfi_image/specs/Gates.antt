@@ -6,8 +6,8 @@ use Rattle.sfi_image.specs.declared.part.Gate.{Gate}
 use Rattle.sfi_image.specs.declared.span.Span.{Span}
 use Rattle.sfi_image.specs.Regions.{IsBundleStart}
 
--- each lies at a bundle start of the code region and names a service that there is,
--- and each lies below those after it
+-- each gate lies at a bundle start of the code region and names a service that there is, and each
+-- lies below those after it
 pub record AreGates (region : Span) (gs : List Gate) : Type 0 where
   pub starts : All (λ g. IsBundleStart region g.address) gs
   pub services : All (λ g. g.service ≤ service_most) gs

@@ -7,6 +7,6 @@ use Rattle.sfi_image.specs.Spelling.{Part}
 abbrev pub in_format : Format → Part → Part
 in_format f p = record p { format = f }
 
--- the same sandboxes in one
+-- the same sandboxes in an image of this format
 abbrev pub all_in_format : Format → List Part → List Part
 all_in_format f ps = map (in_format f) ps

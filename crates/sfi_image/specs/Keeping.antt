@@ -24,7 +24,7 @@ pub record KeepsHead (r : LayoutReader) (format : Format) (n : ℕ) (ps : List P
   pub begun : r.begun ≡ length ps
   pub spans : r.spans ≡ spans ps
 
--- it keeps what follows from these sandboxes, the fields of the next one and its gates so far
+-- the reader keeps what follows from these sandboxes, the fields of the next one and its gates so far
 pub record KeepsFields (r : LayoutReader) (n : ℕ) (ps : List Part) (f : Fields)
     (gs : List Gate) : Type 0 where
   pub count : r.count ≡ n
@@ -33,22 +33,23 @@ pub record KeepsFields (r : LayoutReader) (n : ℕ) (ps : List Part) (f : Fields
   pub fields : r.fields ≡ f
   pub gates : r.gates ≡ map (λ g. g.address) gs
 
--- addresses of bundles from that one on, in ascending order
+-- these are addresses of bundles, from `at` on and in ascending order
 abbrev pub AreAhead : ℕ → List ℕ → Type 0
 AreAhead at [] = Unit {0}
 AreAhead at (a ∷ more) = (at ≤ a) × (a % bundle_size ≡ 0) × AreAhead (a + bundle_size) more
 
--- the address is one of these
+-- the address is one of the list
 abbrev pub is_one_of : List ℕ → ℕ → Bool
 is_one_of [] at = false
 is_one_of (a ∷ more) at = (a == at) || is_one_of more at
 
--- the addresses are those of the gates from that address on
+-- the addresses in `ahead` are those of the gates from `at` on
 pub record AreRest (at : ℕ) (gs : List Gate) (ahead : List ℕ) : Type 0 where
   pub ahead_are : AreAhead at ahead
   pub same : (a : ℕ) → at ≤ a → is_one_of ahead a ≡ is_gate_of gs a
 
--- the same, how many bytes of its code are read, and which of its gates lie after these
+-- The reader keeps what `KeepsFields` says, how many bytes of the next sandbox's code are read, and
+-- which of its gates lie after these bytes.
 pub record KeepsCode (r : LayoutReader) (n : ℕ) (ps : List Part) (f : Fields) (gs : List Gate)
     (code : List ℕ) : Type 0 where
   pub head : KeepsFields r n ps f gs
@@ -57,7 +58,7 @@ pub record KeepsCode (r : LayoutReader) (n : ℕ) (ps : List Part) (f : Fields) 
   pub passed : r.passed ≤ length r.gates
   pub rest : AreRest (f.code_base + length code) gs (drop r.passed r.gates)
 
--- what it keeps is that of the front
+-- what the reader keeps is that of the front
 abbrev pub Keeps : LayoutReader → Front → Type 0
 Keeps r Empty = (r.next ≡ next.Magic) × (r.spans ≡ [])
 Keeps r (AfterMagic format) = (r.next ≡ next.Count) × (r.spans ≡ []) × (r.fields.format ≡ format)
@@ -69,37 +70,38 @@ Keeps r (InInit n ps f gs code init) =
     (r.next ≡ next.Init) × KeepsFields r n ps f gs × (r.init_read ≡ length init)
 Keeps r (Whole ps) = (r.next ≡ next.End) × (r.fields.format ≡ format_of ps)
 
--- the reader has read that front, and all of it passed its tests
+-- the reader has read this front, and all of it passed its tests
 pub record StandsFor (r : LayoutReader) (x : Front) : Type 0 where
   pub right : IsRightFront x
   pub kept : Keeps r x
 
--- it has met a fault, after which nothing is wanted
+-- the reader has met a fault, after which nothing is wanted
 abbrev pub HasStopped : LayoutReader → Type 0
 HasStopped r = r.next ≡ next.Nothing
 
 -- ---- one step
 
--- after the bytes the reader stands for the front that they make of that one
+-- the reader now stands for the front that front `x` and then these bytes make
 pub record Leads (x : Front) (s : List ℕ) (r : LayoutReader) : Type 0 where
   pub to : Front
   pub stands : StandsFor r to
   pub follows : Follows x s to
   pub bytes : front to ≡ front x ++ s
 
--- ---- how much is left
+-- ---- how much a reader has still to do
 
--- the most that one sandbox adds: 1 for its fields, so many for its gates, for the bytes of its
--- code and for its first data bytes, and 1 by which what is left within it stays above what is left
--- after it (no format's code is larger than the second's)
+-- the most that one sandbox adds: 1 for its fields, 1 for each gate, for each byte of its code and
+-- for each first data byte, and 1 by which what is left within it stays above what is left after it
+-- (no format's code is larger than the second's)
 abbrev pub part_most : ℕ
 part_most = 1 + gates_most + code_most Sfi2 + data_most + 1
 
--- what is left at first: so many sandboxes at most, and 1 each for the magic and the count
+-- what is left at first: the most sandboxes that an image may have, each with the most that it
+-- adds, and 1 each for the magic and the count
 abbrev pub left_most : ℕ
 left_most = sandboxes_most * part_most + 2
 
--- what is left before this comes next
+-- what is left to do where `next` comes next
 abbrev pub left_by : Next → LayoutReader → ℕ
 left_by next.Magic r = left_most
 left_by next.Count r = sandboxes_most * part_most + 1
@@ -113,6 +115,6 @@ left_by next.Init r = (r.count - r.begun) * part_most + (r.fields.init_len - r.i
 left_by next.End r = 0
 left_by next.Nothing r = 0
 
--- a number that falls with each step
+-- what is left to do: a number that falls with each step
 abbrev pub left : LayoutReader → ℕ
 left r = left_by r.next r

@@ -20,16 +20,16 @@ pub record IsRightPart (p : Part) : Type 0 where
   pub init_len : length p.init ≤ p.data_size
   pub gates : AreGates (code_region p) p.gates
 
--- each passes those tests, and no two of all their spans meet
+-- each part is right by itself, and no two of all their spans meet
 pub record AreRight (ps : List Part) : Type 0 where
   pub each : All IsRightPart ps
   pub apart : AllPairs AreApart (spans ps)
 
--- each has this format
+-- each part has this format
 abbrev pub AreOf : Format → List Part → Type 0
 AreOf format ps = All (λ p. p.format ≡ format) ps
 
--- from one such sandbox to `sandboxes_most`, of one format
+-- there are 1 to `sandboxes_most` right parts, all of one format
 pub record IsRightLayout (ps : List Part) : Type 0 where
   pub at_least_one : 1 ≤ length ps
   pub at_most : length ps ≤ sandboxes_most

@@ -15,11 +15,11 @@ pub record IsRegion (base size least most : ℕ) : Type 0 where
   pub multiple : ℕ
   pub base_is : base ≡ multiple * size
 
--- code may lie here, in this format
+-- a code region of this format may have this base and size
 abbrev pub IsCodeRegion : Format → ℕ → ℕ → Type 0
 IsCodeRegion format base size = IsRegion base size region_least (code_most format)
 
--- data may lie here
+-- a data region may have this base and size
 abbrev pub IsDataRegion : ℕ → ℕ → Type 0
 IsDataRegion base size = IsRegion base size region_least data_most
 
@@ -28,7 +28,7 @@ pub record HasGuardRoom (base size : ℕ) : Type 0 where
   pub below : guard ≤ base
   pub above : base + size + guard ≤ 2 ^ 32
 
--- a multiple of a bundle's size in the region
+-- the address is a multiple of a bundle's size in the region
 pub record IsBundleStart (region : Span) (at : ℕ) : Type 0 where
   pub held : Holds region at
   pub aligned : at % bundle_size ≡ 0

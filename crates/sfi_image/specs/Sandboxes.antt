@@ -14,7 +14,7 @@ pub record IsSandboxOf (bytes : List ℕ) (number : ℕ) (p : Part) : Type 0 whe
 abbrev pub IsBeyond : List ℕ → ℕ → Type 0
 IsBeyond bytes number = (ps : List Part) × IsImage bytes ps × (length ps ≤ number)
 
--- the bytes have this piece after `offset` others
+-- the bytes have this piece from byte `offset` on
 pub record LiesAt (bytes : List ℕ) (offset : ℕ) (piece : List ℕ) : Type 0 where
   pub before : List ℕ
   pub after : List ℕ

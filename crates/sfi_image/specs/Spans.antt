@@ -10,7 +10,7 @@ use Rattle.sfi_image.specs.Spelling.{Part, fields_of}
 abbrev pub Holds : Span → ℕ → Type 0
 Holds s at = (s.base ≤ at) × (at < s.base + s.size)
 
--- no address lies in both
+-- no address lies in both spans
 abbrev pub AreApart : Span → Span → Type 0
 AreApart s t = (at : ℕ) → Holds s at → Holds t at → ⊥
 
@@ -32,7 +32,7 @@ InGuards s at = Holds (lower_guard s) at ⊎ Holds (upper_guard s) at
 abbrev pub with_guards : Span → Span
 with_guards s = record { base = s.base - guard; size = guard + s.size + guard }
 
--- ---- by the fields
+-- ---- the spans that fields give
 
 -- the code region
 abbrev pub code_span : Fields → Span
@@ -50,13 +50,13 @@ guarded_span f = with_guards (data_span f)
 abbrev pub spans_of : Fields → List Span
 spans_of f = code_span f ∷ guarded_span f ∷ []
 
--- ---- of a sandbox
+-- ---- the spans of a sandbox
 
--- where its code lies
+-- where the sandbox's code lies
 abbrev pub code_region : Part → Span
 code_region p = code_span (fields_of p)
 
--- where its data lie
+-- where the sandbox's data lie
 abbrev pub data_region : Part → Span
 data_region p = data_span (fields_of p)
 
@@ -64,6 +64,6 @@ data_region p = data_span (fields_of p)
 abbrev pub guarded_region : Part → Span
 guarded_region p = guarded_span (fields_of p)
 
--- the spans of all
+-- the spans of all these sandboxes
 abbrev pub spans : List Part → List Span
 spans ps = flat_map (λ p. spans_of (fields_of p)) ps

@@ -110,12 +110,12 @@ pub record AreFieldWords (f : Fields) : Type 0 where
   pub gate_count : IsWord f.gate_count
   pub init_len : IsWord f.init_len
 
--- both numbers of a gate have
+-- both numbers of a gate have 32 bits
 pub record AreGateWords (g : Gate) : Type 0 where
   pub address : IsWord g.address
   pub service : IsWord g.service
 
--- each number of a sandbox has
+-- each number of a sandbox has 32 bits
 pub record AreWords (p : Part) : Type 0 where
   pub fields : AreFieldWords (fields_of p)
   pub gates : All AreGateWords p.gates

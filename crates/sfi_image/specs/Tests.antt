@@ -29,7 +29,7 @@ Passes before f Gates = f.gate_count ≤ gates_most
 Passes before f Init = f.init_len ≤ f.data_size
 Passes before f Overlap = AllPairs AreApart (before ++ spans_of f)
 
--- the fault of one that fails
+-- the fault where this test fails
 abbrev pub fault_of : FieldTest → LayoutFault
 fault_of Code = faults.Code
 fault_of Data = faults.Data

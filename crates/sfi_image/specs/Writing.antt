@@ -11,12 +11,13 @@ use Rattle.sfi_image.specs.Gates.{AreGates}
 use Rattle.sfi_image.specs.Parts.{AreRight}
 use Rattle.sfi_image.specs.Tests.{IsFirstFault, field_tests}
 
--- some first gates are right, and with the one after them they are not
+-- the gates up to one of them are right, and with the next one they are not
 abbrev pub HasWrongGate : Span → List Gate → Type 0
 HasWrongGate region gs = (front : List Gate) × (g : Gate) × (more : List Gate)
     × (gs ≡ front ++ g ∷ more) × AreGates region front × (¬ AreGates region (front ++ g ∷ []))
 
--- after sandboxes with these spans its fields fail a test, or pass them all and a gate is wrong
+-- after sandboxes with these spans the sandbox's fields fail a test, or pass them all and a gate is
+-- wrong
 abbrev pub HasFault : List Span → Part → LayoutFault → Type 0
 HasFault before p k =
     IsFirstFault before (fields_of p) field_tests (Some k)
@@ -28,7 +29,7 @@ abbrev pub HasWrongPart : List Part → LayoutFault → Type 0
 HasWrongPart ps k = (front : List Part) × (p : Part) × (more : List Part)
     × (ps ≡ front ++ p ∷ more) × AreRight front × HasFault (spans front) p k
 
--- there are none or too many of them, or the first wrong one has the fault
+-- there is no sandbox, or too many, or the first wrong one has the fault
 abbrev pub HaveFault : List Part → LayoutFault → Type 0
 HaveFault ps k =
     ((¬ ((1 ≤ length ps) × (length ps ≤ sandboxes_most))) × (k ≡ Count))

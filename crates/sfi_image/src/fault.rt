@@ -15,7 +15,7 @@ pub enum LayoutFault {
     Magic,
     /// The number of sandboxes isn't from 1 to 16.
     Count,
-    /// What is read next isn't there whole.
+    /// The bytes end before what is read next is whole.
     Short,
     /// The code size is no power of two from 256 to the format's largest, 65536 or 1048576, or the
     /// code base no multiple of it.

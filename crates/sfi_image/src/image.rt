@@ -28,6 +28,7 @@ impl<'a> Model for Image<'a> {
 }
 
 impl<'a> Image<'a> {
+    /// The image of these sandboxes, whose layout is right.
     pub(crate) fn new(format: Format, parts: Vec<SandboxPart<'a>>) -> Image<'a>
         requires { IsRightLayout (views format parts.items) }
         ensures { result ≡ views format parts.entry.items }

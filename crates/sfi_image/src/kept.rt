@@ -27,6 +27,7 @@ impl Model for KeptSpans {
 }
 
 impl KeptSpans {
+    /// No spans.
     pub(crate) fn new() -> Self
         ensures { result ≡ [] }
     {
@@ -36,7 +37,7 @@ impl KeptSpans {
         }
     }
 
-    /// Those at the front of an array: so many, or all.
+    /// The first `count` elements of the array, or all if it has fewer.
     pub fn of(spans: [Span; SPANS_MOST], count: usize) -> Self
         ensures { result ≡ take count spans }
     {
@@ -46,7 +47,7 @@ impl KeptSpans {
         }
     }
 
-    /// The array that has them at its front.
+    /// An array with the spans at its front.
     pub fn array(&self) -> [Span; SPANS_MOST]
         ensures { take (length self.now) result ≡ self.now }
     {
@@ -60,12 +61,14 @@ impl KeptSpans {
         self.count
     }
 
+    /// The spans, as a slice.
     pub(crate) fn as_slice(&self) -> &[Span]
         ensures { result.now ≡ self.now }
     {
         &self.spans[..self.count]
     }
 
+    /// Appends a span.
     pub(crate) fn push(&mut self, span: Span)
         requires { length self.old < 2 * sandboxes_most }
         ensures { self.new ≡ self.old ++ span ∷ [] }
@@ -91,6 +94,7 @@ impl Model for KeptGates {
 }
 
 impl KeptGates {
+    /// No gates.
     pub(crate) fn new() -> Self
         ensures { result ≡ [] }
     {
@@ -100,7 +104,7 @@ impl KeptGates {
         }
     }
 
-    /// Those at the front of an array: so many, or all.
+    /// The first `count` elements of the array, or all if it has fewer.
     pub fn of(addresses: [u32; GATE_COUNT_MOST], count: usize) -> Self
         ensures { result ≡ take count addresses }
     {
@@ -110,13 +114,14 @@ impl KeptGates {
         }
     }
 
-    /// The array that has them at its front.
+    /// An array with the gates' addresses at its front.
     pub fn array(&self) -> [u32; GATE_COUNT_MOST]
         ensures { take (length self.now) result ≡ self.now }
     {
         self.addresses
     }
 
+    /// The gates' addresses, as a slice.
     pub(crate) fn as_slice(&self) -> &[u32]
         ensures { result.now ≡ self.now }
     {
@@ -131,12 +136,14 @@ impl KeptGates {
         self.count
     }
 
+    /// Drops all gates.
     pub(crate) fn clear(&mut self)
         ensures { self.new ≡ [] }
     {
         self.count = 0;
     }
 
+    /// Appends a gate's address.
     pub(crate) fn push(&mut self, address: u32)
         requires { length self.old < gates_most }
         ensures { self.new ≡ self.old ++ address ∷ [] }

@@ -19,7 +19,7 @@ use crate::span::Span;
 use sfi_policy::{Format, SANDBOX_COUNT_MOST};
 use std::alloc::Global;
 
-// The length, or the greatest number where it has more than 32 bits.
+// The length as a number of 32 bits, or the greatest such number if it has more.
 fn capped(len: usize) -> u32
     ensures value { result ≡ capped len }
     ensures word { IsWord result }
@@ -31,8 +31,7 @@ fn capped(len: usize) -> u32
     }
 }
 
-// The number, of which the contract says that it has 32 bits: where it is seen by a reference, nothing
-// says so.
+// Returns `number`. It reminds the prover that a u32 behind a reference is below 2 ^ 32.
 fn word(number: u32) -> u32
     ensures value { result ≡ number }
     ensures word { IsWord result }
@@ -58,7 +57,7 @@ fn fields_of_part(format: Format, part: &SandboxPart<'_>) -> Fields
     }
 }
 
-// Each gate may come next after those before it.
+// Whether each gate may follow those before it.
 fn are_gates(fields: &Fields, gates: &[Gate]) -> bool
     ensures right { OnTrue result (AreGates (code_span fields.now) gates.now) }
     ensures words { OnTrue result (All AreGateWords gates.now) }
@@ -74,7 +73,7 @@ fn are_gates(fields: &Fields, gates: &[Gate]) -> bool
     true
 }
 
-// A sandbox's spans, or what is wrong with it, after others with those spans.
+// The spans of a sandbox, or its fault, after sandboxes with the spans `before`.
 fn part_spans(
     format: Format,
     before: &[Span],
@@ -97,7 +96,7 @@ fn part_spans(
     Ok(own)
 }
 
-// The sandboxes have a right layout, or the first of them that is wrong has a fault.
+// Tests that the sandboxes have a right layout. The error is the fault of the first that is wrong.
 pub(crate) fn check_layout(
     alloc: Global,
     format: Format,

@@ -27,19 +27,19 @@ pub struct LayoutReader {
     pub next: Next,
     /// How many sandboxes the image has.
     pub count: u32,
-    /// How many of these have had their fields read.
+    /// How many of these sandboxes have had their fields read.
     pub begun: u32,
-    /// The spans of these: two for each.
+    /// The spans of the sandboxes whose fields were read: two for each.
     pub spans: KeptSpans,
-    /// The fields of the last of these; before the first, the image's format in them.
+    /// The fields of the last sandbox; before the first, only the image's format in them.
     pub fields: Fields,
-    /// The addresses of its gates so far.
+    /// The addresses of the last sandbox's gates that were read.
     pub gates: KeptGates,
-    /// How many of these lie before the next bundle.
+    /// How many of these gates lie before the next bundle.
     pub passed: usize,
-    /// How many bytes of its code were read.
+    /// How many bytes of the last sandbox's code were read.
     pub code_read: u32,
-    /// How many of its first data bytes were read.
+    /// How many of the last sandbox's first data bytes were read.
     pub init_read: u32,
 }
 
@@ -54,8 +54,8 @@ fn next_part(begun: u32, count: u32) -> Next
     }
 }
 
-// What comes after `read` first data bytes of `len`: out of line,
-// since few bundles are the last of their code region.
+// What comes after `read` first data bytes of `len`. It is out of line, since few bundles are the
+// last of their code region.
 #[inline(never)]
 fn next_init(read: u32, len: u32, begun: u32, count: u32) -> Next
     ensures { result ≡ next_init read len begun count }
@@ -67,7 +67,7 @@ fn next_init(read: u32, len: u32, begun: u32, count: u32) -> Next
     }
 }
 
-// What comes after `read` bytes of code of `size`.
+// What comes after `read` bytes of a code region of `size`.
 #[inline]
 fn next_code(read: u32, size: u32, len: u32, begun: u32, count: u32) -> Next
     ensures { result ≡ next_code read size len begun count }
@@ -90,7 +90,7 @@ fn next_gate(read: u32, gate_count: u32) -> Next
     }
 }
 
-// Whether the first of the addresses after `passed` of them is `address`.
+// Whether the address after the first `passed` ones is `address`.
 #[inline]
 fn is_first_after(addresses: &[u32], passed: usize, address: u32) -> bool
     ensures { result ≡ is_first (drop passed addresses.now) address }
@@ -101,7 +101,7 @@ fn is_first_after(addresses: &[u32], passed: usize, address: u32) -> bool
     }
 }
 
-// How many addresses lie before `end`, where `passed` are known to, and all ascend.
+// How many of the addresses, which ascend, lie before `end`; the first `passed` are known to.
 #[inline]
 fn passed_before(addresses: &[u32], passed: usize, end: u64) -> usize
     ensures { result ≡ passed + count_below end (drop passed addresses.now) }
@@ -121,7 +121,7 @@ fn address_after(base: u32, read: u32) -> u64
     u64::from(base) + u64::from(read)
 }
 
-// The first of the addresses after `passed` of them, or else `other`.
+// The address after the first `passed` ones, or `other` where there is none.
 #[inline]
 fn first_after(addresses: &[u32], passed: usize, other: u64) -> u64
     ensures { result ≡ first_or other (drop passed addresses.now) }
@@ -133,7 +133,7 @@ fn first_after(addresses: &[u32], passed: usize, other: u64) -> u64
 }
 
 impl LayoutReader {
-    /// Nothing has been read.
+    /// A reader that has read nothing.
     pub fn new() -> Self
         ensures { StandsFor result Empty }
     {
@@ -192,7 +192,7 @@ impl LayoutReader {
         }
     }
 
-    // What comes next where no bundle does: out of line, since most that is read is bundles.
+    // What comes next where no bundle does. It is out of line, since most that is read is bundles.
     #[inline(never)]
     fn wants_no_bundle(&self) -> OtherWant
         requires { self.now.next ≢ Next.Code }
@@ -250,7 +250,7 @@ impl LayoutReader {
         self.advance(bytes)
     }
 
-    // The same, of a length that what is kept allows.
+    // Takes bytes as `take` does, if their length may be taken in this state.
     #[inline]
     pub(crate) fn advance(&mut self, bytes: &[u8]) -> Option<LayoutFault>
         requires { MayTake self.old (length bytes.now) }
@@ -267,7 +267,7 @@ impl LayoutReader {
         }
     }
 
-    // The same where no bundle comes next, out of line.
+    // Takes bytes as `advance` does, where no bundle comes next. It is out of line.
     #[inline(never)]
     fn advance_by_no_bundle(&mut self, bytes: &[u8]) -> Option<LayoutFault>
         requires next { self.old.next ≢ Next.Code }
@@ -288,6 +288,7 @@ impl LayoutReader {
         }
     }
 
+    // Takes the magic: its fault, if it is that of no format.
     #[inline(never)]
     fn take_magic(&mut self, bytes: &[u8]) -> Option<LayoutFault>
         requires reader { IsReader self.old }
@@ -305,6 +306,7 @@ impl LayoutReader {
         None
     }
 
+    // Takes the number of sandboxes: its fault, if that is 0 or too large.
     #[inline(never)]
     fn take_count(&mut self, bytes: &[u8]) -> Option<LayoutFault>
         requires reader { IsReader self.old }
@@ -324,6 +326,7 @@ impl LayoutReader {
         None
     }
 
+    // Takes a sandbox's seven fields: the first fault that their tests find, if any.
     #[inline(never)]
     fn take_fields(&mut self, bytes: &[u8]) -> Option<LayoutFault>
         requires reader { IsReader self.old }
@@ -352,6 +355,7 @@ impl LayoutReader {
         None
     }
 
+    // Takes a gate: its fault, if it may not follow the gates before it.
     #[inline(never)]
     fn take_gate(&mut self, bytes: &[u8]) -> Option<LayoutFault>
         requires reader { IsReader self.old }
@@ -371,7 +375,7 @@ impl LayoutReader {
         None
     }
 
-    // Takes whole bundles of a sandbox's code: out of line, since one call takes many.
+    // Takes whole bundles of a sandbox's code. It is out of line, since one call takes many.
     #[inline(never)]
     fn take_code(&mut self, code: &[u8])
         requires reader { IsReader self.old }
@@ -393,6 +397,7 @@ impl LayoutReader {
         );
     }
 
+    // Takes some of a sandbox's first data bytes.
     #[inline(never)]
     fn take_init(&mut self, bytes: &[u8])
         requires reader { IsReader self.old }

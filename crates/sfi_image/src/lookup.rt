@@ -9,8 +9,8 @@ use crate::cursor::{ImageCursor, PartView};
 use crate::fault::LayoutFault;
 
 /// The image's sandbox of that number, counted from 0, and where its bytes end, counted from the
-/// image's first; or none, where the image has fewer. It looks at the layout alone, of the whole
-/// image, and takes no memory.
+/// image's first; none, where the image has fewer sandboxes. It looks at the layout alone, of the
+/// whole image, and takes no memory.
 pub fn sandbox_of<'a>(
     image: &'a [u8],
     number: u32,

@@ -21,7 +21,7 @@ pub struct SandboxPart<'a> {
     pub data_size: u32,
     /// The address at which the sandbox starts to run.
     pub start: u32,
-    /// In the order of their addresses.
+    /// The gates, in the order of their addresses.
     pub gates: Vec<Gate>,
     /// All bytes of the code region.
     pub code: &'a [u8],

@@ -80,7 +80,7 @@ pub(crate) fn gate_at(bytes: &[u8]) -> (Gate, &[u8])
     (Gate { address, service }, rest)
 }
 
-// The bytes are those that each image of this format begins with.
+// Whether the bytes are the magic of the format.
 fn is_magic(format: Format, front: &[u8]) -> bool
     ensures { IsTrue result ↔ (front.now ≡ magic format) }
 {

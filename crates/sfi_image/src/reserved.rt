@@ -15,7 +15,7 @@ use sfi_policy::Format;
 pub struct Reserved {
     /// x24: the first address of the code region.
     pub code_base: u32,
-    /// x25: the code size less that of a unit of code, so that a masked offset is that of a unit.
+    /// x25: the code size less the size of a unit of code, so that a masked offset is that of a unit.
     pub code_mask: u32,
     /// x26: the first address of the data region.
     pub data_base: u32,
@@ -24,7 +24,7 @@ pub struct Reserved {
 }
 
 impl Reserved {
-    /// Those of a sandbox of an image of this format.
+    /// The values for a sandbox of an image of this format.
     pub fn of(format: Format, part: &SandboxPart<'_>) -> Self
         requires { IsRightPart (view format part.now) }
         ensures { result ≡ reserved_of (view format part.now) }

@@ -35,7 +35,7 @@ pub trait ByteSource {
     // A read that fails says so from then on.
     ghost fails: { (s t : Self) (n : ℕ) → reads s n None t → has_failed t ≡ true };
 
-    // One that hands out bytes doesn't change what is said.
+    // A read that hands out bytes doesn't change whether one has failed.
     ghost stays: { (s t : Self) (n : ℕ) (bytes : List ℕ) → reads s n (Some bytes) t
         → has_failed t ≡ has_failed s };
 }
@@ -48,7 +48,7 @@ pub struct Reading<'a, R: Read> {
 }
 
 impl<'a, R: Read> Reading<'a, R> {
-    /// Over this reader.
+    /// A source over this reader.
     pub fn new(reader: &'a mut R) -> Self
         ensures same_reference { result.reader.ghost_name ≡ reader.entry.ghost_name }
         ensures reader { R.remaining result.reader.now ≡ R.remaining reader.old }

@@ -4,7 +4,7 @@ ghost use Rattle.std.specs.List.{All, AllPairs};
 ghost use Rattle.sfi_image.specs.Spans.{AreApart};
 ghost use Rattle.sfi_image.specs.Bounded.{IsBounded};
 
-/// So many addresses from a first one on. The end may be 2 ^ 32, so both numbers have 64 bits.
+/// The `size` addresses from `base` on. The end may be 2 ^ 32, so both numbers have 64 bits.
 #[repr(C)]
 #[derive(Clone, Copy)]
 pub struct Span {
@@ -14,7 +14,7 @@ pub struct Span {
     pub size: u64,
 }
 
-// No address lies in both.
+// Whether no address lies in both spans.
 fn are_apart(one: Span, other: Span) -> bool
     requires one { IsBounded one }
     requires other { IsBounded other }
@@ -23,7 +23,7 @@ fn are_apart(one: Span, other: Span) -> bool
     one.base + one.size <= other.base || other.base + other.size <= one.base
 }
 
-// The span lies apart from each of the others.
+// Whether the span lies apart from each of the others.
 fn is_apart_from_all(one: Span, others: &[Span]) -> bool
     requires one { IsBounded one }
     requires others { All IsBounded others.now }
@@ -37,7 +37,7 @@ fn is_apart_from_all(one: Span, others: &[Span]) -> bool
     true
 }
 
-/// Tells whether two more spans lie apart from those before and from each other.
+/// Whether the spans `code` and `guarded` lie apart from those before and from each other.
 pub fn are_all_apart(before: &[Span], code: Span, guarded: Span) -> bool
     requires bounded { All IsBounded before.now }
     requires code { IsBounded code }

@@ -4,11 +4,11 @@ use crate::bundle::BundlePlace;
 /// What comes next of an image.
 #[derive(Clone, Copy)]
 pub enum Want {
-    /// So many bytes: 4 for the magic and for the count, 28 for the seven fields, 8 for a gate.
+    /// A number of bytes: 4 for the magic and for the count, 28 for the seven fields, 8 for a gate.
     Field(usize),
     /// The 16 bytes of the bundle at that place.
     Bundle(BundlePlace),
-    /// First data bytes: so many, or some of them.
+    /// First data bytes: this number of them, or fewer.
     Init(usize),
     /// Nothing: the image is whole.
     End,

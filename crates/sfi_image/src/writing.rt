@@ -20,7 +20,7 @@ use sfi_policy::Format;
 use std::alloc::{AllocError, Global};
 
 #[tactic(auto, unfolding(crate::specs::Spelling::number))]
-// The number in four bytes comes after the bytes so far.
+// Appends the number in four bytes.
 fn push_number(bytes: &mut Vec<u8>, n: u32) -> Result<(), AllocError>
     ensures { OnOk result (bytes.new.items ≡ bytes.old.items ++ number n) }
 {
@@ -31,7 +31,7 @@ fn push_number(bytes: &mut Vec<u8>, n: u32) -> Result<(), AllocError>
 }
 
 #[tactic(auto, using(std::proofs::Common::append_assoc), unfolding(crate::specs::Spelling::gate))]
-// The gate comes after the bytes so far.
+// Appends the gate.
 fn push_gate(bytes: &mut Vec<u8>, one: Gate) -> Result<(), AllocError>
     ensures { OnOk result (bytes.new.items ≡ bytes.old.items ++ gate one) }
 {
@@ -40,7 +40,7 @@ fn push_gate(bytes: &mut Vec<u8>, one: Gate) -> Result<(), AllocError>
     Ok(())
 }
 
-// The gates come after the bytes so far.
+// Appends the gates.
 fn push_gates(bytes: &mut Vec<u8>, gates: &[Gate]) -> Result<(), AllocError>
     ensures { OnOk result (bytes.new.items ≡ bytes.old.items ++ flat_map gate gates.now) }
 {
@@ -51,7 +51,7 @@ fn push_gates(bytes: &mut Vec<u8>, gates: &[Gate]) -> Result<(), AllocError>
 }
 
 #[tactic(auto, using(std::proofs::Common::append_assoc), unfolding(crate::specs::Spelling::fields))]
-// The seven fields of a sandbox come after the bytes so far.
+// Appends the seven fields of a sandbox.
 fn push_fields(bytes: &mut Vec<u8>, one: &SandboxPart<'_>) -> Result<(), AllocError>
     requires { (format : Format) × IsRightPart (view format one.now) }
     ensures { (format : Format) → OnOk result
@@ -68,7 +68,7 @@ fn push_fields(bytes: &mut Vec<u8>, one: &SandboxPart<'_>) -> Result<(), AllocEr
 }
 
 #[tactic(auto, using(std::proofs::Common::append_assoc), unfolding(crate::specs::Spelling::part))]
-// The sandbox comes after the bytes so far.
+// Appends the sandbox.
 fn push_part(bytes: &mut Vec<u8>, one: &SandboxPart<'_>) -> Result<(), AllocError>
     requires { (format : Format) × IsRightPart (view format one.now) }
     ensures { (format : Format) → OnOk result
@@ -119,7 +119,7 @@ pub fn write_image_as(
     ensures image { IfOk result (λ bytes. IsImage bytes.items (views format parts.now)) }
     ensures fault { IfErr result (λ e. IfLayout e (HaveFault (views format parts.now))) }
 
-    // Which sandboxes get it, want of memory aside.
+    // Which sandboxes get each answer, want of memory aside.
     ensures only_image { IsRightLayout (views format parts.now)
         → IfErr result (λ e. e ≡ ImageFault.Memory) }
     ensures only_fault { (k : LayoutFault) → HaveFault (views format parts.now) k
@@ -140,7 +140,7 @@ pub fn write_image(alloc: Global, parts: &[SandboxPart<'_>]) -> Result<Vec<u8>, 
     ensures image { IfOk result (λ bytes. IsImage bytes.items (views Sfi1 parts.now)) }
     ensures fault { IfErr result (λ e. IfLayout e (HaveFault (views Sfi1 parts.now))) }
 
-    // Which sandboxes get it, want of memory aside.
+    // Which sandboxes get each answer, want of memory aside.
     ensures only_image { IsRightLayout (views Sfi1 parts.now)
         → IfErr result (λ e. e ≡ ImageFault.Memory) }
     ensures only_fault { (k : LayoutFault) → HaveFault (views Sfi1 parts.now) k

@@ -57,7 +57,7 @@ filled read made high held piece count (Some bytes) (Some rest) none inside took
       spells = subst (λ (l : List ℕ). SpellsFront (waiting high (filter is_kept (held ++ bytes))) (waiting high (filter is_kept l)) []) all (spells_nothing _);
     }
 
--- it is over
+-- the text is over
 pub over : (read made : ℕ) (high : Option ℕ) (piece : List ℕ) (count : ℕ) (new : Option (List ℕ)) → count ≡ 0 → read + count ≤ limit → IsAtEnd new
     → IsOver (ahead_of (read + count) made high (take (count - 0) (drop 0 piece)) new) high
 over read made high piece count None none few end = tt
@@ -65,7 +65,7 @@ over read made high piece count (Some rest) none few end =
     let held : take (count - 0) (drop 0 piece) ≡ [] = ap (λ (n : ℕ). take (n - 0) piece) none in
     (ap (λ (l : List ℕ). waiting high (filter is_kept (l ++ rest))) held ∙ ap (λ (l : List ℕ). waiting high (filter is_kept l)) end, omega (arith, few, ap length end))
 
--- it is too large
+-- the text is too large
 pub too_large : (read made : ℕ) (high : Option ℕ) (held piece : List ℕ) (count : ℕ) (known new : Option (List ℕ)) → count ≤ length piece → limit - read < count → Consumes known new (take count piece)
     → IfSome (ahead_of read made high held known) (IsReadStop TooLarge)
 too_large read made high held piece count None new inside over took = tt
@@ -329,7 +329,7 @@ text_on text bytes at high s =
 kept_fewer : (xs : List ℕ) → length (filter is_kept xs) ≤ length xs
 kept_fewer xs = rw (length-filter is_kept xs) (count_by-le-length is_kept xs)
 
--- it makes at most half as many bytes
+-- a text makes at most half as many bytes as it has
 pub half : (text bytes : List ℕ) (at : ℕ) (high : Option ℕ) → at ≤ length text → SpellsFront (filter is_kept text) (waiting high (filter is_kept (drop at text))) bytes → 2 * length bytes + waits high ≤ at
 half text bytes at high inside s =
     let both = ap length (sym (filter-append is_kept (take at text) (drop at text)) ∙ ap (filter is_kept) (take-append-drop at text)) in

@@ -38,7 +38,7 @@ all_decoded digits = by (length digits % 2 == 1)
     by true = tt
     by false = pairs_decoded 0 digits
 
--- so the fault tells the error
+-- the fault of a decoding tells its error
 fault_tells : (r : Result (List ℕ) FromHexError) (fault : HexFault) → IsDecoded r → or_fault r ≡ Err (Fault fault) → IsErrorOf fault r
 fault_tells (Ok bytes) fault is e = absurd (cc)
 fault_tells (Err OddLength) Odd is e = refl

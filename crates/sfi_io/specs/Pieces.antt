@@ -22,7 +22,7 @@ pub record Ahead : Type 0 where
   pub place : ℕ
   pub digits : List ℕ
 
--- of a text of which none was read
+-- what is left of a text of which nothing was read
 abbrev pub start_of : List ℕ → Ahead
 start_of text = record { whole = length text; place = 0; digits = filter is_kept text }
 
@@ -32,19 +32,18 @@ abbrev pub decode_from : ℕ → List ℕ → Result (List ℕ) FromHexError
 decode_from place digits =
     if length digits % 2 == 1 then Err OddLength else decode_pairs place digits
 
--- the fault that such an error is
+-- the bytes, or the fault of the text that the error is
 abbrev pub or_fault : Result (List ℕ) FromHexError → Result (List ℕ) TextStop
 or_fault (Ok bytes) = Ok bytes
 or_fault (Err (InvalidHexCharacter byte place)) = Err (Fault (Digit place))
 or_fault (Err other) = Err (Fault Odd)
 
--- the bytes that are to come of a text, or why none of it is one: that it is above its limit goes
--- first
+-- the bytes that are to come of a text, or why there are none: that it is above its limit goes first
 abbrev pub outcome : Ahead → Result (List ℕ) TextStop
 outcome text =
     if nat_lt limit text.whole then Err TooLarge else or_fault (decode_from text.place text.digits)
 
--- these bytes, before the others
+-- the result with these bytes before its own
 abbrev pub prepend : {E : Type 0} → List ℕ → Result (List ℕ) E → Result (List ℕ) E
 prepend bytes (Ok others) = Ok (bytes ++ others)
 prepend bytes (Err e) = Err e
@@ -72,7 +71,7 @@ abbrev pub ahead : {R : Type 0} → (R → Option (List ℕ)) → HexReader R �
 ahead remaining r = ahead_of r.held.read r.held.made r.held.high
     (take (r.held.end - r.held.at) (drop r.held.at r.held.piece)) (remaining r.reader.now)
 
--- what is known to come of it
+-- what is known to come of a reader's text
 abbrev pub to_come :
     {R : Type 0} → (R → Option (List ℕ)) → HexReader R → Option (Result (List ℕ) TextStop)
 to_come remaining r = option_map outcome (ahead remaining r)

@@ -17,13 +17,13 @@ pub record IsByteOf (high low byte : ℕ) : Type 0 where
   pub high_kept : is_kept high ≡ true
   pub low_kept : is_kept low ≡ true
 
--- of these digits, the first spell the bytes, and then come the others
+-- the digits begin with those that spell these bytes, and `others` follow
 pub record SpellsFront (digits others bytes : List ℕ) : Type 0 where
   pub front : List ℕ
   pub digits_are : digits ≡ front ++ others
   pub spelled : (place : ℕ) → decode_pairs place front ≡ Ok bytes
 
--- the same text after its next digits, which spell these bytes
+-- the second text is what is left of the first after its next digits, which spell these bytes
 pub record IsAfter (first then_ : Ahead) (bytes : List ℕ) : Type 0 where
   pub whole : then_.whole ≡ first.whole
   pub place : then_.place ≡ first.place + 2 * length bytes
@@ -35,12 +35,12 @@ GoesOn None then_ bytes = Unit {0}
 GoesOn (Some first) None bytes = ⊥
 GoesOn (Some first) (Some then_) bytes = IsAfter first then_ bytes
 
--- two of a pair, neither of which is white space, and one of which is no digit
+-- two bytes, neither of which is white space, and one of which is no digit
 pub record IsNoPair (high low : ℕ) : Type 0 where
   pub low_kept : is_kept low ≡ true
   pub wrong : hex_digit_value high ≡ None ⊎ hex_digit_value low ≡ None
 
--- a first one waits, and with the second that comes it is such a pair
+-- a first byte waits, and with the second that comes it is no pair of digits
 abbrev pub IsBadPair : Option ℕ → ℕ → Type 0
 IsBadPair None low = ⊥
 IsBadPair (Some high) low = IsNoPair high low
@@ -61,7 +61,7 @@ ComesNoPair None high low = Unit {0}
 ComesNoPair (Some text) high low =
     (others : List ℕ) × (text.digits ≡ high ∷ low ∷ others) × (IsNoPair high low)
 
--- the place of the first of a pair that is no digit, after so many bytes
+-- the place of the first byte that is no digit, in the pair after `made` pairs
 abbrev pub IsWrongPlace : Option ℕ → ℕ → ℕ → Type 0
 IsWrongPlace None made place = Unit {0}
 IsWrongPlace (Some high) made place =

@@ -1,4 +1,4 @@
-//! Decoding what stands in memory of a text.
+//! Decodes the part of a text that is in memory.
 
 ghost use Rattle.std.specs.Prelude.{◌≡◌, ◌⊎◌, ◌*◌, ◌+◌, ◌%◌, ◌<◌, ◌≤◌, ℕ, drop, filter, length, slice_index, take, true};
 ghost use Rattle.sfi_io.specs.Hexadecimal.{is_kept};
@@ -26,7 +26,7 @@ struct Blocks {
     made: usize,
 }
 
-/// Where a text goes on after so many pairs of digits, and after a byte of white space that follows.
+/// Where a text goes on after `pairs` pairs of digits and a byte of white space that may follow.
 #[inline(always)]
 fn after_pairs(text: &[u8], pairs: usize) -> usize
     requires { 2 * pairs < length text.now }
@@ -39,7 +39,8 @@ fn after_pairs(text: &[u8], pairs: usize) -> usize
     if is_white(text[at]) { at + 1 } else { at }
 }
 
-/// Takes the pairs of digits that a text begins with, of a block, and what is white space after them.
+/// Takes the pairs of digits that a text's first block begins with, and a byte of white space after
+/// them.
 #[inline(always)]
 fn decode_line(text: &[u8], out: &mut [u8]) -> Blocks
     requires text { 64 < length text.now }
@@ -65,8 +66,8 @@ fn decode_line(text: &[u8], out: &mut [u8]) -> Blocks
     }
 }
 
-/// Decodes block by block, until a block gives fewer than 8 bytes, or there is no room for one more. A
-/// text is mostly one line after another, each of which is such a block.
+/// Decodes block by block, until a block gives fewer than 8 bytes, or text or room is too short for
+/// another. A text is mostly one line after another, each of which is a block.
 #[inline(always)]
 fn decode_lines(text: &[u8], out: &mut [u8]) -> Blocks
     ensures taken { result.taken ≤ length text.now }
@@ -95,8 +96,8 @@ fn decode_lines(text: &[u8], out: &mut [u8]) -> Blocks
     Blocks { taken, made }
 }
 
-/// Takes what a text begins with that doesn't begin with white space, where no digit waits: blocks, if
-/// they may be tried, or else one byte.
+/// Takes blocks from the front of a text, if they may be tried, or else one byte. The text doesn't
+/// begin with white space, and no digit waits.
 #[inline(always)]
 fn decode_first(text: &[u8], out: &mut [u8], quick: bool) -> Front
     requires some { 0 < length text.now }
@@ -127,7 +128,7 @@ fn decode_first(text: &[u8], out: &mut [u8], quick: bool) -> Front
     }
 }
 
-/// Takes what a text begins with; nothing, where the digit that waits and what comes are no pair.
+/// Takes what a text begins with; nothing, where the digit that waits and the next byte are no pair.
 #[inline(always)]
 fn decode_next(high: Option<u8>, text: &[u8], out: &mut [u8], quick: bool) -> Front
     requires text { 0 < length text.now }
@@ -201,8 +202,9 @@ pub(crate) fn decode_front(high: Option<u8>, text: &[u8], out: &mut [u8]) -> Fro
     Front { taken, made, high }
 }
 
-/// The fault where what waits and what comes are no pair, after so many bytes, with so many digits left
-/// in all: an odd number of them goes first, and then the place of the first of both that is no digit.
+/// The fault at a pair that isn't two digits. `high` is its first byte, `made` the number of pairs
+/// before it, `left` the number of digits from it on. An odd `left` goes first; else the first bad
+/// digit's place.
 #[cold]
 pub(crate) fn pair_fault(high: Option<u8>, made: usize, left: usize) -> HexFault
     requires { made ≤ limit }

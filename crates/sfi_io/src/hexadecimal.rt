@@ -63,6 +63,7 @@ const CLASSES: [u8; 256] = [
     32, 32, 32, 32, 32, 32, 32, 32, 32, 32, 32, 32, 32, 32, 32, 32, // 0xf0
 ];
 
+/// The byte's class: a digit's value, [`WHITE`], or 32 for what is neither.
 #[inline(always)]
 fn class_of(byte: u8) -> u8
     ensures { result ≡ slice_index CLASSES byte }
@@ -70,6 +71,7 @@ fn class_of(byte: u8) -> u8
     CLASSES[byte as usize]
 }
 
+/// Whether the byte is white space.
 #[inline(always)]
 #[tactic(auto, using(crate::proofs::Classes::class_white))]
 pub(crate) fn is_white(byte: u8) -> bool
@@ -117,7 +119,7 @@ pub(crate) fn byte_of(high: u8, low: u8) -> Option<u8>
     }
 }
 
-/// How many digits are read at a time, where so many stand there.
+/// How many digits are read at a time, where the text has as many.
 pub(crate) const BLOCK: usize = 64;
 
 /// Each digit's value and 240, found by arithmetic on all side by side; less for any other byte.

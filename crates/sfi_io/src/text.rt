@@ -14,15 +14,15 @@ const PIECE: usize = 16380;
 /// Why a text that is read gives no more bytes.
 #[derive(Clone, Copy)]
 pub enum TextStop {
-    /// It spells none.
+    /// The text spells no bytes.
     Fault(HexFault),
-    /// It passes the limit.
+    /// The text passes the limit.
     TooLarge,
     /// A read failed.
     Failed,
 }
 
-/// What is held of a text: of one piece, what is from `at` up to `end`.
+/// What is held of a text: the bytes of one piece from `at` up to `end`.
 #[derive(Drop)]
 struct HeldText {
     piece: [u8; PIECE],
@@ -50,7 +50,7 @@ impl<'a, R: Read> HexReader<'a, R> {
     ghost use Rattle.sfi_io.specs.Pieces.{ahead, most_to_come, outcome, start_of, to_come, Leads};
     ghost use Rattle.sfi_io.specs.private.{AreLeft, ComesNoPair, GoesOn, IsOver, IsReadStop, IsStopOf};
 
-    /// Over this reader.
+    /// A decoder over this reader.
     pub fn new(reader: &'a mut R) -> Self
         ensures { to_come R.remaining result
             ≡ option_map (λ text. outcome (start_of text)) (R.remaining reader.old) }
@@ -94,8 +94,8 @@ impl<'a, R: Read> HexReader<'a, R> {
         Ok(count)
     }
 
-    /// How many digits and other bytes that are no white space are left, up to the text's end, with a
-    /// digit that waits.
+    /// How many bytes that are no white space are left up to the text's end, counting a digit that
+    /// waits.
     fn digits_left(&mut self) -> Result<usize, TextStop>
         ensures left { IfOk result (λ count. AreLeft (ahead R.remaining self.old) count) }
         ensures stop { IfErr result (λ stop. IfSome (ahead R.remaining self.old) (IsReadStop stop)) }
@@ -112,8 +112,8 @@ impl<'a, R: Read> HexReader<'a, R> {
         }
     }
 
-    /// The fault of a text where what waits and what comes are no pair. It is read to its end, since an
-    /// odd number of digits goes first.
+    /// The fault of a text in which the digit that waits and the next byte are no pair. The text is
+    /// read to its end, since an odd number of digits goes first.
     #[cold]
     fn fault(&mut self) -> TextStop
         requires { (high : ℕ) × (low : ℕ) × (self.old.held.high ≡ Some high)
@@ -128,7 +128,7 @@ impl<'a, R: Read> HexReader<'a, R> {
         }
     }
 
-    /// No bytes, at the text's end, or the fault that a digit waits there.
+    /// At the text's end: no bytes, or the fault that a digit waits for its second.
     fn end(&self) -> Result<usize, TextStop>
         requires { IsOver (ahead R.remaining self.now) self.now.held.high }
         ensures none { IfOk result (λ n. n ≡ 0) }
@@ -142,8 +142,9 @@ impl<'a, R: Read> HexReader<'a, R> {
         }
     }
 
-    /// Decodes what is held, and writes its bytes to the front of `buf`. Says how many: it stops where
-    /// `buf` is full, where nothing is held any more, or before what is no pair.
+    /// Decodes held bytes, and writes what they spell to the front of `buf`. Says how many bytes
+    /// that is: it stops where `buf` is full, where nothing is held any more, or before two bytes
+    /// that are no pair.
     fn decode_held(&mut self, buf: &mut [u8]) -> usize
         ensures bound { result ≤ length buf.new }
         ensures size { length buf.new ≡ length buf.old }

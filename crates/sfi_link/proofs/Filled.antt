@@ -28,7 +28,7 @@ ends_fill (x ∷ y ∷ xs) (suc n) h = ends_fill (y ∷ xs) (suc n) h
 
 -- ---- bundles
 
--- so many full bundles, which are these bundles and so many c.ebreaks, the last of which ends in one
+-- these bundles and `fill` c.ebreaks after them are `n` full bundles, the last of which ends in one
 pub record AreFilled (f : Format) (c : ℕ) (bundles : List (List Slot)) (fill n : ℕ) : Type 0 where
   pub full : List (List Slot)
   pub slots : slots_of full ≡ slots_of bundles ++ replicate fill c_ebreak

@@ -37,7 +37,7 @@ bundle_unit _ e = refl
 whole_in : (f : Format) (count : ℕ) (bundles : List (List Slot)) (w : Bool) → has_words f ≡ w → AreWholeIn f count bundles → MatchBool w (AreOfItems count (slots_of bundles)) (All (AreWhole f count) bundles)
 whole_in f count bundles w e whole = subst (λ (b : Bool). MatchBool b (AreOfItems count (slots_of bundles)) (All (AreWhole f count) bundles)) e whole
 
--- the unit divides a bundle, and so what lies so many bytes after a bundle start
+-- the unit divides a bundle, and so an address whose offset from a bundle start it divides
 after_bundle : (f : Format) (start offset to : ℕ) → to ≡ start + offset → start % 16 ≡ 0 → offset % unit f ≡ 0 → to % unit f ≡ 0
 after_bundle Sfiw start offset to e whole even = omega arith
 after_bundle _ start offset to e whole even = omega arith

@@ -117,7 +117,7 @@ length_pairs : (n : ℕ) → length (repeat n pair) ≡ 2 * n
 length_pairs zero = refl
 length_pairs (suc n) = let h = length_pairs n in omega arith
 
--- the stubs, the slots and so many c.ebreaks that the size is reached
+-- the stubs, the slots and then c.ebreaks up to the size are the linked code
 pub linked_code : (given : List Place) → (number : ℕ) (p : Placement) (at : Bases) (size fill : ℕ) (stubs now code : List ℕ) → at ≡ bases_of given number p → IsCodeSize p.format (needed p) size
     → stubs ≡ repeat (length p.gates) (stub_of p.format) → AreWritten at p.names (slots_of p.bundles) stubs now → fill ≡ (size - length now) / 2 → code ≡ now ++ repeat fill pair
     → IsLinkedCode given number p code

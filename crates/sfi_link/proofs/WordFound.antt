@@ -48,7 +48,7 @@ quiet_append sandbox p n m owed between next [] ys e a b =
     subst (λ k. AreQuiet sandbox p k owed ys next) same (subst (λ o. AreQuiet sandbox p m o ys next) a b)
 quiet_append sandbox p n m owed between next (x ∷ xs) ys e a b = (a.0, a.1, quiet_append sandbox p (n + 1) m a.0 between next xs ys (omega arith) a.2 b)
 
--- nothing is found in the first words of the code, so many of them
+-- nothing is found in the first `n` words of the code
 record FoundTo (sandbox : ℕ) (p : Part) (n : ℕ) (owed : Owed) : Type 0 where
   bundles : ℕ
   words : ℕ

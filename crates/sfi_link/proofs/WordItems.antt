@@ -89,7 +89,7 @@ use_accesses d (Load kind rd a imm) h = refl
 use_accesses d (Store width a rs2 imm) h = refl
 use_accesses d _ h = absurd (true≢false (sym h))
 
--- so nothing is owed before another
+-- before an instruction that is neither a load nor a store nothing is owed
 nothing_before : (owed : Owed) (i : Instr) → is_access i ≡ false → IsOwedTo owed (Plain i) → owed ≡ kind.Nothing
 nothing_before owed i n (inl e) = e
 nothing_before owed i n (inr u) = absurd (true≢false (sym (use_accesses u.0 i u.2.1) ∙ n))

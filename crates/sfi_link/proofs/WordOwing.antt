@@ -57,7 +57,7 @@ free_one i n = by (destination i) refl
     by None e = tt
     by (Some d) e = written_free i d e n
 
--- so it is no reserved one, and not x31
+-- a register that is free is no reserved one, and not x31
 pub unreserved : (to : Option ℕ) → IsFreeOne to → is_reserved_one to ≡ false
 unreserved None f = refl
 unreserved (Some d) f = (free d f).reserved
@@ -69,7 +69,7 @@ no_offset i to e f = and_left _ (not (is_masking 27 31 i)) (ap (is_register 31) 
     by None f = refl
     by (Some d) f = (free d f).offset
 
--- it makes no data register an address by x31
+-- an instruction that names no withheld register makes no data register an address by x31
 pub no_place : (i : Instr) (d : ℕ) → names_withheld Sfiw i ≡ false → places d i ≡ false
 no_place (Op Or rd a b) d n =
     let z : (a == 31) ≡ false = (free a (or_parts (is_withheld Sfiw rd) (is_withheld Sfiw a) (or_parts (is_withheld Sfiw rd || is_withheld Sfiw a) (is_withheld Sfiw b) n).0).1).offset in

@@ -38,7 +38,7 @@ meets_by rest own pays owes next_is = record { rest = rest; pays = pays; own = o
 
 -- ---- no rule is broken there
 
--- the place of an instruction of so many bytes
+-- the place of an instruction of `n` bytes at address `at`
 abbrev pub place : BundlePlace → ℕ → Owed → Instr → ℕ → Place
 place b at owed i n = record { bundle = b; address = at; owed = owed; instr = i; size = n }
 

@@ -12,11 +12,11 @@ use Rattle.sfi_link.specs.declared.bases.Bases.{Bases}
 
 -- ---- where a sandbox lies
 
--- each gate's stub has 16 bytes, as a bundle has
+-- each gate's stub has 16 bytes, as many as a bundle
 abbrev pub stub_size : ℕ
 stub_size = bundle_size
 
--- the sandbox of that number: its code, the first byte after its gates' stubs, its data
+-- where the sandbox of that number lies: its code, the first byte after its gates' stubs, its data
 abbrev pub bases_of : List Place → ℕ → Placement → Bases
 bases_of given number p =
     let place = place_of given number in
@@ -28,8 +28,8 @@ bases_of given number p =
 
 -- ---- names
 
--- the address that stands for a name: that of the gate's stub, of the place in the code,
--- of the byte of the data
+-- the address for which a name stands: that of the gate's stub, of the place in the code, of the
+-- byte of the data
 abbrev pub address_of : Bases → PlacedName → Option ℕ
 address_of at (Gate k) = Some (at.code + stub_size * k)
 address_of at (Code place) = Some (at.start + place)
@@ -43,16 +43,16 @@ target_of at (Code place) = address_of at (Code place)
 target_of at (Data offset) = None
 target_of at Unknown = None
 
--- what f gives for the name, if there is one
+-- what `f` gives for the name, if there is a name
 abbrev pub of_name : (PlacedName → Option ℕ) → Option PlacedName → Option ℕ
 of_name f None = None
 of_name f (Some name) = f name
 
--- the address of the name at that place
+-- the address of what name `place` names
 abbrev pub address_at : Bases → List PlacedName → ℕ → Option ℕ
 address_at at names place = of_name (address_of at) (slice_get names place)
 
--- the address to which a jump to the name at that place leads
+-- the address to which a jump to name `place` leads
 abbrev pub target_at : Bases → List PlacedName → ℕ → Option ℕ
 target_at at names place = of_name (target_of at) (slice_get names place)
 

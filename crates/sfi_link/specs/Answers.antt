@@ -4,12 +4,12 @@ use Rattle.std.specs.Global.{Global}
 use Rattle.sfi_link.specs.declared.fault.LinkFault.{LinkFault}
 use Rattle.sfi_link.specs.declared.fault.LinkFault.TheVariants.{Memory}
 
--- what is said of a fault, where that isn't want of memory
+-- what holds of a fault, where that isn't want of memory
 abbrev pub UnlessMemory : (LinkFault → Type 0) → LinkFault → Type 0
 UnlessMemory P Memory = Unit {0}
 UnlessMemory P f = P f
 
--- the answer is these, or memory ran out
+-- the answer is a list of these items, or memory ran out
 abbrev pub AnswersItems : {X : Type 0} → List X → Result (Vec X Global) LinkFault → Type 0
 AnswersItems items (Ok v) = v.items ≡ items
 AnswersItems items (Err f) = f ≡ Memory

@@ -15,7 +15,7 @@ use Rattle.sfi_rewrite.specs.Slots.{slot_size}
 use Rattle.sfi_link.specs.declared.bases.Bases.{Bases}
 use Rattle.sfi_link.specs.Addresses.{address_at, target_at, with_offset}
 
--- the instruction made of an address, where there is one
+-- the instruction that `f` makes of an address, if there is one
 abbrev pub made_of : (ℕ → Instr) → Option ℕ → Option Instr
 made_of f None = None
 made_of f (Some address) = Some (f address)
@@ -36,7 +36,7 @@ resolved at names here (Lower rd name line) =
 abbrev IsWord : List ℕ → Instr → Type 0
 IsWord bytes i = InRange i × (bytes ≡ to_le_bytes w32 (spelling i))
 
--- the bytes of the slot with that instruction: a form's are those of its own row
+-- the bytes of the slot, whose instruction this is: a form's are those of its own row
 abbrev pub AreSlotBytes : List ℕ → Slot → Instr → Type 0
 AreSlotBytes bytes (Short f) i = IsTrue (allowed f) × (bytes ≡ to_le_bytes w16 (halfword_of f))
 AreSlotBytes bytes _ i = IsWord bytes i

@@ -55,7 +55,7 @@ HasSlotFault at names here (Jump i name line) f =
 HasSlotFault at names here (Upper rd name line) f = IsUnknown (address_at at names name) line f
 HasSlotFault at names here (Lower rd name line) f = IsUnknown (address_at at names name) line f
 
--- the first of the slots from `here` on that has a fault has this one; those before it have bytes
+-- this is the fault of the first slot from `here` on that has one; the slots before it have bytes
 abbrev pub IsSlotFault : Bases → List PlacedName → ℕ → List Slot → LinkFault → Type 0
 IsSlotFault at names here [] f = ⊥
 IsSlotFault at names here (s ∷ slots) f =
@@ -69,8 +69,8 @@ IsSlotFault at names here (s ∷ slots) f =
 abbrev pub IsTooLarge : Placement → Type 0
 IsTooLarge p = (size : ℕ) → HasRoom p.format (needed p) size → ⊥
 
--- the sandbox of that number may lie at its place: no two of its own two spans and those of the
--- sandboxes before it in the list meet
+-- the sandbox of that number may lie at its place: no two of its own two spans and of the spans
+-- `before` meet
 pub record MayLie (given : List Place) (number : ℕ) (p : Placement) (before : List Span)
     : Type 0 where
   pub size : ℕ
@@ -78,8 +78,8 @@ pub record MayLie (given : List Place) (number : ℕ) (p : Placement) (before : 
   pub right : IsRightPlace p size (place_of given number)
   pub apart : AllPairs AreApart (before ++ spans_at p size (place_of given number))
 
--- the fault of the sandbox of that number, which comes after others in the list, with those spans:
--- being too large goes first, then its place, then its instructions
+-- The fault of sandbox `number`, where the sandboxes before it have the spans `before`: being too
+-- large goes first, then its place, then its instructions.
 abbrev pub HasPartFault : List Place → ℕ → Placement → List Span → LinkFault → Type 0
 HasPartFault given number p before f =
     (IsTooLarge p × (f ≡ TooLarge number))
@@ -97,7 +97,7 @@ IsPartFault given number before (p ∷ placed) f =
     ⊎ ((q : Part) × IsLinked given number p q × AllPairs AreApart (before ++ spans (q ∷ []))
     × IsPartFault given (number + 1) (before ++ spans (q ∷ [])) placed f)
 
--- ---- of all
+-- ---- of all that is placed
 
 -- the fault of what is placed: too many sandboxes, or the first place without a sandbox, or that
 -- of the first sandbox that has one, in the order of the text

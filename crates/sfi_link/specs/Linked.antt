@@ -30,7 +30,7 @@ c_ebreak = Short CEbreak
 abbrev pub needed : Placement → ℕ
 needed p = stub_size * length p.gates + size_of (slots_of p.bundles) + 2
 
--- a code region of the format may have so many bytes, and so many have room in it
+-- a code region of the format may have `size` bytes, and `bytes` bytes have room in it
 pub record HasRoom (f : Format) (bytes size : ℕ) : Type 0 where
   pub power : ℕ
   pub size_is : size ≡ 2 ^ power
@@ -38,7 +38,7 @@ pub record HasRoom (f : Format) (bytes size : ℕ) : Type 0 where
   pub at_most : size ≤ code_most f
   pub room : bytes ≤ size
 
--- it is the least such size
+-- `size` is the least size of a code region of the format in which `bytes` bytes have room
 pub record IsCodeSize (f : Format) (bytes size : ℕ) : Type 0 where
   pub has_room : HasRoom f bytes size
   pub least : (other : ℕ) → HasRoom f bytes other → size ≤ other
@@ -84,7 +84,8 @@ pub record IsLinked (given : List Place) (number : ℕ) (p : Placement) (q : Par
   pub lies : IsRightPlace p (length q.code) (place_of given number)
   pub is : q ≡ part_with given number p q.code
 
--- the same of sandboxes, the first of which has that number
+-- the placed sandboxes make those of the image, as `IsLinked` says, the first of them as the one of
+-- that number
 abbrev pub AreLinkedFrom : List Place → ℕ → List Placement → List Part → Type 0
 AreLinkedFrom given number [] parts = parts ≡ []
 AreLinkedFrom given number (p ∷ placed) [] = ⊥

@@ -22,8 +22,8 @@ pub record MapEntry : Type 0 where
   pub kind : NameKind
   pub address : ℕ
 
--- what a name is: a gate, or a label in the code or in the data; neither where the text only cites
--- it and never says what it names
+-- what a name stands for: a gate, or a label in the code or in the data; none of these where the
+-- text only uses the name and never says what it names
 abbrev pub kind_of : PlacedName → Option NameKind
 kind_of (Gate k) = Some kind.Gate
 kind_of (Code place) = Some kind.Code
@@ -45,7 +45,7 @@ entries_of number at texts k (p ∷ placed) =
     entry_of number (slice_get texts k) (kind_of p) (address_of at p)
     ++ entries_of number at texts (k + 1) placed
 
--- those of all names of the sandbox, if the source has it
+-- the gates and labels of all names of the sandbox, if the source has it
 abbrev pub entries_in : ℕ → Bases → Option Sandbox → List PlacedName → List MapEntry
 entries_in number at None placed = []
 entries_in number at (Some s) placed = entries_of number at (map (λ e. e.0) s.names) 0 placed

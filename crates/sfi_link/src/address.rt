@@ -9,6 +9,7 @@ use rv_word::Instr;
 use sfi_policy::BUNDLE_SIZE;
 use sfi_rewrite::PlacedName;
 
+// The address of what the name names; none where that is unknown.
 pub(crate) fn address_of(at: Bases, name: PlacedName) -> Option<u32>
     requires near { IsNear at name }
     ensures is { result ≡ address_of at name }
@@ -21,6 +22,7 @@ pub(crate) fn address_of(at: Bases, name: PlacedName) -> Option<u32>
     }
 }
 
+// The address to which a jump to the name goes; none where the name is no place of the code.
 fn target_of(at: Bases, name: PlacedName) -> Option<u32>
     requires near { IsNear at name }
     ensures is { result ≡ target_of at name }
@@ -32,7 +34,7 @@ fn target_of(at: Bases, name: PlacedName) -> Option<u32>
     }
 }
 
-// The address of the name at that place.
+// The address of what name `place` names.
 pub(crate) fn address_at(at: Bases, names: &[PlacedName], place: usize) -> Option<u32>
     requires { AreNear at names.now }
     ensures is { result ≡ address_at at names.now place }
@@ -43,7 +45,7 @@ pub(crate) fn address_at(at: Bases, names: &[PlacedName], place: usize) -> Optio
     }
 }
 
-// The address to which a jump to the name at that place leads.
+// The address to which a jump to name `place` goes.
 pub(crate) fn target_at(at: Bases, names: &[PlacedName], place: usize) -> Option<u32>
     requires { AreNear at names.now }
     ensures is { result ≡ target_at at names.now place }
@@ -55,7 +57,7 @@ pub(crate) fn target_at(at: Bases, names: &[PlacedName], place: usize) -> Option
     }
 }
 
-// What a lui gives of the address.
+// The immediate of the lui for an address: bits 31:12 of the address plus 2048.
 pub(crate) fn upper(address: u32) -> u32
     ensures is { result ≡ upper (pos address) }
     ensures fits { result < 2 ^ 20 }
@@ -63,14 +65,14 @@ pub(crate) fn upper(address: u32) -> u32
     address.wrapping_add(2048) / 4096
 }
 
-// What an addi adds to that.
+// The immediate of the addi after that lui, from -2048 to 2047.
 pub(crate) fn lower(address: u32) -> i32
     ensures { result ≡ lower (pos address) }
 {
     (address.wrapping_add(2048) % 4096) as i32 - 2048
 }
 
-// How far it is from here to there.
+// The offset from address `here` to address `there`.
 pub(crate) fn distance(here: u32, there: u32) -> i32
     requires back { here ≤ there + 2 ^ 20 }
     requires ahead { there ≤ here + 2 ^ 20 }
@@ -79,7 +81,7 @@ pub(crate) fn distance(here: u32, there: u32) -> i32
     (i64::from(there) - i64::from(here)) as i32
 }
 
-// The jal or branch with that offset.
+// The jal or branch with this offset.
 pub(crate) fn with_offset(instr: Instr, offset: i32) -> Instr
     ensures { result ≡ with_offset offset instr }
 {

@@ -28,7 +28,7 @@ pub(crate) fn bases_of(given: &[Place], number: u32, part: &PlacedPart) -> Bases
     let place = place_of(given, number);
     Bases {
         code: place.code_base,
-        // Each gate's stub has 16 bytes, as a bundle has.
+        // Each gate's stub has 16 bytes, as many as a bundle.
         start: place.code_base + BUNDLE_SIZE * part.gates().len() as u32,
         data: place.data_base,
     }

@@ -23,7 +23,7 @@ use rv_word::{ImmOp, Instr, Reg};
 use sfi_rewrite::{Bundle, PlacedName, Slot};
 use std::alloc::AllocError;
 
-// A 32-bit instruction comes after the bytes so far.
+// Appends a 32-bit instruction.
 fn push_wide(code: &mut Vec<u8>, instr: Instr) -> Result<(), AllocError>
     requires { InRange instr }
     ensures { OnOk result (code.new.items ≡ code.old.items ++ to_le_bytes w32 (spelling instr)) }
@@ -34,7 +34,7 @@ fn push_wide(code: &mut Vec<u8>, instr: Instr) -> Result<(), AllocError>
     Ok(())
 }
 
-// A 16-bit form comes after the bytes so far.
+// Appends a 16-bit form.
 fn push_short(code: &mut Vec<u8>, form: Form16) -> Result<(), AllocError>
     requires { IsTrue (allowed form) }
     ensures { OnOk result (code.new.items ≡ code.old.items ++ to_le_bytes w16 (halfword_of form)) }
@@ -45,7 +45,7 @@ fn push_short(code: &mut Vec<u8>, form: Form16) -> Result<(), AllocError>
     Ok(())
 }
 
-// The jal or branch to the name comes after the bytes so far.
+// Appends the jal or branch to name `place`. `line` is that of the source, for a fault.
 fn push_jump(
     code: &mut Vec<u8>,
     at: Bases,
@@ -73,7 +73,7 @@ fn push_jump(
     Ok(())
 }
 
-// The address of the name at that place, or the fault of the line that asks for it.
+// The address of what name `place` names, or the fault that `line` uses a name without one.
 fn known_address(at: Bases, names: &[PlacedName], place: usize, line: u32) -> Result<u32, LinkFault>
     requires near { AreNear at names.now }
     ensures ok { IfOk result (λ address. address_at at names.now place ≡ Some address) }
@@ -85,7 +85,7 @@ fn known_address(at: Bases, names: &[PlacedName], place: usize, line: u32) -> Re
     }
 }
 
-// `addi rd, rd, imm` of what a lui leaves of the address
+// `addi rd, rd, imm`, which adds what a lui leaves of the address.
 fn add_lower(rd: Reg, address: u32) -> Instr
     ensures { result ≡ OpImm Addi rd rd (lower (pos address)) }
 {
@@ -97,7 +97,7 @@ fn add_lower(rd: Reg, address: u32) -> Instr
     }
 }
 
-// A slot comes after the bytes so far.
+// Appends a slot.
 fn push_slot(
     code: &mut Vec<u8>,
     at: Bases,
@@ -126,7 +126,7 @@ fn push_slot(
     Ok(())
 }
 
-// Slots come after the bytes so far, one after another.
+// Appends slots, one after another.
 fn push_slots(
     code: &mut Vec<u8>,
     at: Bases,
@@ -145,7 +145,7 @@ fn push_slots(
     Ok(())
 }
 
-// The slots of bundles come after the bytes so far, one after another.
+// Appends the slots of bundles, one after another.
 pub(crate) fn push_bundles(
     code: &mut Vec<u8>,
     at: Bases,

@@ -49,7 +49,7 @@ fn needed(part: &PlacedPart) -> usize
     BUNDLE_BYTES * part.gates().len() + size_of_bundles(part.bundles()) + C_EBREAK.len()
 }
 
-// The least size of a code region of the format in which so many bytes have room, if there is one.
+// The least size of a code region of the format in which `needed` bytes have room, if there is one.
 fn code_size(format: Format, needed: usize) -> Option<usize>
     ensures least { IfSome result (IsCodeSize format needed) }
     ensures none { IfNone result ((size : ℕ) → HasRoom format needed size → ⊥) }
@@ -63,7 +63,7 @@ fn code_size(format: Format, needed: usize) -> Option<usize>
     Some(needed.next_power_of_two())
 }
 
-// So many copies of some bytes come after the bytes so far.
+// Appends `count` copies of `copied` to the code.
 fn push_copies(code: &mut Vec<u8>, copied: &[u8], count: usize) -> Result<(), AllocError>
     ensures { OnOk result (code.new.items ≡ code.old.items ++ repeat count copied.now) }
 {

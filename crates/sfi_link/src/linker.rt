@@ -25,7 +25,7 @@ use sfi_rewrite::{Placed, PlacedPart};
 use sfi_source::SourceGate;
 use std::alloc::{AllocError, Global};
 
-// The gates, whose stubs lie one after another from the address on.
+// The gates, whose stubs lie one after another from `address` on.
 fn gates_from(alloc: Global, address: u32, gates: &[SourceGate]) -> Result<Vec<Gate>, AllocError>
     requires few { length gates.now ≤ gates_most }
     requires room { address + bundle_size * length gates.now < 2 ^ 32 }
@@ -41,7 +41,7 @@ fn gates_from(alloc: Global, address: u32, gates: &[SourceGate]) -> Result<Vec<G
     Ok(listed)
 }
 
-// The sandbox of that number, with this code.
+// The sandbox of that number, with this code, as a part of an image.
 fn linked_part<'a>(
     alloc: Global,
     given: &[Place],
@@ -147,13 +147,13 @@ pub fn link_at(alloc: Global, placed: &Placed, places: &[Place]) -> Result<Vec<u
     ensures image { IfOk result (λ bytes. IsLinkedImage places.now placed.now bytes.items) }
     ensures fault { IfErr result (UnlessMemory (IsLinkFault places.now placed.now)) }
 
-    // What is placed gets it, want of memory aside.
+    // Which placed sources get each answer, want of memory aside.
     ensures only_image { (bytes : List ℕ)
         → IsLinkedImage places.now placed.now bytes → AnswersItems bytes result }
     ensures only_fault { (f : LinkFault)
         → IsLinkFault places.now placed.now f → AnswersFault f result }
 
-    // Of too many sandboxes, whatever memory there is.
+    // Too many sandboxes get their fault, whatever memory there is.
     ensures too_many { sandboxes_most < length placed.now → result ≡ Err TooManySandboxes }
 
     // Where no place is given, no fault is that of a place.
@@ -172,12 +172,12 @@ pub fn link(alloc: Global, placed: &Placed) -> Result<Vec<u8>, LinkFault>
     ensures image { IfOk result (λ bytes. IsLinkedImage [] placed.now bytes.items) }
     ensures fault { IfErr result (UnlessMemory (IsLinkFault [] placed.now)) }
 
-    // What is placed gets it, want of memory aside.
+    // Which placed sources get each answer, want of memory aside.
     ensures only_image { (bytes : List ℕ)
         → IsLinkedImage [] placed.now bytes → AnswersItems bytes result }
     ensures only_fault { (f : LinkFault) → IsLinkFault [] placed.now f → AnswersFault f result }
 
-    // Of too many sandboxes, whatever memory there is.
+    // Too many sandboxes get their fault, whatever memory there is.
     ensures too_many { sandboxes_most < length placed.now → result ≡ Err TooManySandboxes }
 
     // No fault is that of a place.

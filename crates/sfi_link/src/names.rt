@@ -59,28 +59,28 @@ impl Model for NameAddress {
 }
 
 impl NameAddress {
-    /// The number of the sandbox that has it, counted from 0.
+    /// The number of the sandbox that has the name, counted from 0.
     pub fn sandbox(&self) -> u32
         ensures { result ≡ self.now.sandbox }
     {
         self.sandbox
     }
 
-    /// Its name.
+    /// The gate's or label's name.
     pub fn name(&self) -> &str
         ensures { result.now ≡ self.now.name }
     {
         self.name.as_str()
     }
 
-    /// Which of them it is.
+    /// What the name stands for.
     pub fn kind(&self) -> NameKind
         ensures { result ≡ self.now.kind }
     {
         self.kind
     }
 
-    /// The address that stands for it.
+    /// The address for which the name stands.
     pub fn address(&self) -> u32
         ensures { result ≡ self.now.address }
     {
@@ -88,6 +88,7 @@ impl NameAddress {
     }
 }
 
+// What the name names; none where that is unknown.
 fn kind_of(named: PlacedName) -> Option<NameKind>
     ensures { result ≡ kind_of named }
 {
@@ -99,7 +100,7 @@ fn kind_of(named: PlacedName) -> Option<NameKind>
     }
 }
 
-// The name of the sandbox of that number comes after those so far, where the text says what it names.
+// Appends the name of the sandbox of that number, if the text says what it names.
 fn push_name(
     alloc: Global,
     listed: &mut Vec<NameAddress>,
@@ -124,7 +125,7 @@ fn push_name(
     Ok(())
 }
 
-// The gates and labels of the sandbox of that number come after those so far.
+// Appends the gates and labels of the sandbox of that number.
 fn push_names(
     alloc: Global,
     listed: &mut Vec<NameAddress>,
@@ -191,13 +192,13 @@ pub fn names_of(
         (λ entries. IsLinkedMap places.now source.now placed.now entries.items) }
     ensures fault { IfErr result (UnlessMemory (IsLinkFault places.now placed.now)) }
 
-    // What is placed gets it, want of memory aside.
+    // Which placed sources get each answer, want of memory aside.
     ensures only_mapped { (entries : List MapEntry)
         → IsLinkedMap places.now source.now placed.now entries → AnswersItems entries result }
     ensures only_fault { (f : LinkFault)
         → IsLinkFault places.now placed.now f → AnswersFault f result }
 
-    // Of too many sandboxes, whatever memory there is.
+    // Too many sandboxes get their fault, whatever memory there is.
     ensures too_many { sandboxes_most < length placed.now → result ≡ Err TooManySandboxes }
 
     // Where no place is given, no fault is that of a place.

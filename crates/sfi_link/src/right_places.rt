@@ -12,7 +12,7 @@ use sfi_policy::{DATA_MOST, Place, REGION_LEAST};
 use sfi_rewrite::PlacedPart;
 use std::alloc::AllocError;
 
-// The sandbox may lie there by itself, with a code region of that size.
+// Whether the sandbox may lie at `place` by itself, with a code region of `size` bytes.
 fn is_right_place(part: &PlacedPart, size: u32, place: Place) -> bool
     ensures { IsTrue result ↔ IsRightPlace part.now size place }
 {
@@ -31,8 +31,8 @@ fn is_right_place(part: &PlacedPart, size: u32, place: Place) -> bool
     has_guard_room(place.data_base, data_size)
 }
 
-// The sandbox may lie there, with a code region of that size, apart from those spans. Then its own
-// come after them.
+// Whether the sandbox may lie at `place`, with a code region of `size` bytes, apart from `spans`.
+// If so, its own spans are appended to these.
 pub(crate) fn lies_beside(
     spans: &mut Vec<Span>,
     part: &PlacedPart,

@@ -39,7 +39,8 @@ may_write_in_words r = not (is_reserved r)
 abbrev pub may_be_on : Bool → ℕ → Bool
 may_be_on stack r = stack && (r == stack_pointer)
 
--- the same in words: a data register, or the base of the data
+-- in words an access on the register needs nothing beside it: a data register, or the base of the
+-- data
 abbrev pub may_be_on_in_words : ℕ → Bool
 may_be_on_in_words r = is_data_register r || (r == data_base_register)
 
@@ -55,13 +56,13 @@ is_free_by may on Orders = true
 is_free_by may on Stops = true
 is_free_by may on _ = false
 
--- the halfword spells such an instruction
+-- the halfword spells a free instruction, by `may` and `on`
 pub record IsFreeHalfBy (may on : ℕ → Bool) (half : ℕ) : Type 0 where
   pub instr : Instr
   pub spelled : IsShortSpelling half instr
   pub free : is_free_by may on (outline instr) ≡ true
 
--- the word spells such an instruction
+-- the word spells a free instruction, by `may` and `on`
 pub record IsFreeWordBy (may on : ℕ → Bool) (word : ℕ) : Type 0 where
   pub instr : Instr
   pub spelled : IsWordOf word instr
@@ -92,17 +93,17 @@ pub record AreMasksBy (may on : ℕ → Bool) (bytes : List ℕ) (m : Masks) : T
 
 -- ---- in bundles, where x2 is a stack pointer or not
 
--- An instruction that does this breaks no rule in a bundle that is neither a gate's nor its region's
--- last, whatever stands before and after it. Where x2 is a stack pointer, an access on it needs no
--- pair.
+-- An instruction with this outline breaks no rule in a bundle that is neither a gate's nor its
+-- region's last, whatever stands before and after it. Where x2 is a stack pointer, an access on it
+-- needs no pair.
 abbrev pub is_free : Bool → Outline → Bool
 is_free stack o = is_free_by (may_write stack) (may_be_on stack) o
 
--- the halfword spells such an instruction
+-- the halfword spells a free instruction
 abbrev pub IsFreeHalf : Bool → ℕ → Type 0
 IsFreeHalf stack half = IsFreeHalfBy (may_write stack) (may_be_on stack) half
 
--- the word spells such an instruction
+-- the word spells a free instruction
 abbrev pub IsFreeWord : Bool → ℕ → Type 0
 IsFreeWord stack word = IsFreeWordBy (may_write stack) (may_be_on stack) word
 
@@ -116,7 +117,7 @@ AreMasks stack bytes m = AreMasksBy (may_write stack) (may_be_on stack) bytes m
 
 -- ---- in words
 
--- What they tell of a block of code in words: a free instruction breaks none of V3 to V7 and V10 to
--- V12 where nothing is owed before it, and leaves nothing owed.
+-- What the masks tell of a block of code in words: a free instruction breaks none of V3 to V7 and
+-- V10 to V12 where nothing is owed before it, and leaves nothing owed.
 abbrev pub AreMasksInWords : List ℕ → Masks → Type 0
 AreMasksInWords bytes m = AreMasksBy may_write_in_words may_be_on_in_words bytes m

@@ -21,7 +21,7 @@ pub(crate) fn low_and_high(bytes: &[u8]) -> (u8x16, u8x16)
     first.deinterleave(second)
 }
 
-/// The table's number for each lane.
+/// For each lane, the table's number at that index.
 #[inline(always)]
 fn look_up(table: [u8; 16], lanes: u8x16) -> u8x16
     requires { (i : ℕ) → i < 16 → slice_index lanes i < 16 }
@@ -30,7 +30,7 @@ fn look_up(table: [u8; 16], lanes: u8x16) -> u8x16
     u8x16::from_array(table).swizzle_dyn(lanes)
 }
 
-/// The classes of each byte.
+/// The classes of each byte, by the table.
 #[inline(always)]
 fn classes_of_bytes(table: ByteTable, bytes: u8x16) -> u8x16
     ensures { HasLanes result (λ i. byte_classes table (slice_index bytes i)) }
@@ -38,7 +38,7 @@ fn classes_of_bytes(table: ByteTable, bytes: u8x16) -> u8x16
     look_up(table.low, bytes & u8x16::splat(15)) & look_up(table.high, bytes >> u8x16::splat(4))
 }
 
-/// The classes of each halfword.
+/// The classes of each halfword, by the table.
 #[inline(always)]
 pub(crate) fn classes_of_halves(table: HalfTable, low: u8x16, high: u8x16) -> u8x16
     ensures { HasLanes result (λ i. half_classes table (slice_index low i) (slice_index high i)) }
@@ -46,7 +46,7 @@ pub(crate) fn classes_of_halves(table: HalfTable, low: u8x16, high: u8x16) -> u8
     classes_of_bytes(table.low, low) & classes_of_bytes(table.high, high)
 }
 
-/// The classes of each halfword by the next one too; the next of the last is the first.
+/// The classes of each halfword, by the next halfword too; the first counts as the next of the last.
 #[inline(always)]
 pub(crate) fn followed_classes(low: u8x16, high: u8x16) -> u8x16
     ensures { HasLanes result
@@ -78,7 +78,7 @@ pub(crate) fn rest_classes(stack: bool, low: u8x16, high: u8x16) -> u8x16
     classes_of_halves(REST, low, high) & u8x16::splat(if stack { ALL } else { PLAIN })
 }
 
-/// The classes that each halfword may be in.
+/// The classes that each halfword may be in, by the register that its bits 11:7 name.
 #[inline(always)]
 pub(crate) fn kept_classes(stack: bool, low: u8x16, high: u8x16) -> u8x16
     ensures { HasLanes result (λ i. kept stack (slice_index low i) (slice_index high i)) }
@@ -91,7 +91,8 @@ pub(crate) fn kept_classes(stack: bool, low: u8x16, high: u8x16) -> u8x16
         .select(u8x16::splat(NO_RD), u8x16::splat(ALL))
 }
 
-/// The same in code in words, by whether bits 11:7 name an odd register.
+/// The classes that each halfword of code in words may be in, by the register that its bits 11:7
+/// name.
 #[inline(always)]
 pub(crate) fn kept_in_words(low: u8x16, high: u8x16) -> u8x16
     ensures { HasLanes result (λ i. kept_in_words (slice_index low i) (slice_index high i)) }

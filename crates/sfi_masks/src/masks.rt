@@ -13,7 +13,7 @@ use std::simd::prelude::*;
 /// Eight bundles.
 pub const BLOCK_BYTES: usize = 128;
 
-/// Of each of the 64 halfwords of a block a bit, the lowest for the first.
+/// Of each of the 64 halfwords of a block one bit in each mask, the lowest for the first.
 #[derive(Clone, Copy)]
 pub struct Masks {
     /// Its two lowest bits are 11: it begins no instruction of 16 bits.
@@ -74,7 +74,8 @@ fn joined(a: u64, b: u64, c: u64, d: u64) -> u64
     a | b << 16 | c << 32 | d << 48
 }
 
-/// The masks of a block, by code of its own for each kind of format: neither asks for each vector.
+/// The masks of a block. Each kind of format has code of its own, so that it isn't asked for at
+/// each vector.
 #[inline(always)]
 fn masks_in<const STACK: bool>(block: &[u8; BLOCK_BYTES]) -> Masks
     ensures { AreMasks STACK block.now result }

@@ -168,7 +168,7 @@ pub(crate) const WORDS_ODD: [u8; 16] = [
     ALL, NO_RD, ALL, ALL, ALL, ALL, ALL, ALL, ALL, ALL, ALL, ALL, ALL, ALL, NO_RD, NO_RD,
 ];
 
-/// The same where they name an even one: for x2, x4 and x30.
+/// `WORDS_ODD` where bits 11:7 name an even register: for x2, x4 and x30.
 pub(crate) const WORDS_EVEN: [u8; 16] = [
     ALL, NO_RD, NO_RD, ALL, ALL, ALL, ALL, ALL, ALL, ALL, ALL, ALL, ALL, ALL, ALL, NO_RD,
 ];
@@ -179,7 +179,7 @@ pub(crate) const ON_ODD: [u8; 16] = [
     FREE, ALL, FREE, FREE, FREE, FREE, FREE, FREE, FREE, FREE, FREE, FREE, FREE, FREE, ALL, FREE,
 ];
 
-/// The same where they name an even one: on x2, x4 and x26.
+/// `ON_ODD` where bits 19:15 name an even register: accesses on x2, x4 and x26.
 pub(crate) const ON_EVEN: [u8; 16] = [
     FREE, ALL, ALL, FREE, FREE, FREE, FREE, FREE, FREE, FREE, FREE, FREE, FREE, ALL, FREE, FREE,
 ];

@@ -9,15 +9,15 @@ use Rattle.sfi_policy.specs.Registers.{code_base_register, code_mask_register, d
 
 -- ---- the pairs
 
--- `and target, a, mask`
+-- the instruction `and target, a, mask`
 abbrev pub masking_instr : ℕ → ℕ → ℕ → Instr
 masking_instr mask target a = Op And target a mask
 
--- `or target, target, base`
+-- the instruction `or target, target, base`
 abbrev pub placing_instr : ℕ → ℕ → Instr
 placing_instr base target = Op Or target target base
 
--- the one, then the other
+-- the masking instruction, and then the placing one
 abbrev pub pair : ℕ → ℕ → ℕ → ℕ → List Instr
 pair mask base target a = masking_instr mask target a ∷ placing_instr base target ∷ []
 
@@ -30,19 +30,19 @@ data_pair target a = pair data_mask_register data_base_register target a
 abbrev pub code_pair : ℕ → ℕ → List Instr
 code_pair target a = pair code_mask_register code_base_register target a
 
--- ---- the same as tests
+-- ---- tests for the pairs
 
--- `and target, a, mask`, where a is any register
+-- the instruction is `and target, a, mask`, where a is any register
 abbrev pub is_masking : ℕ → ℕ → Instr → Bool
 is_masking mask target (Op And rd rs1 rs2) = (rd == target) && (rs2 == mask)
 is_masking mask target _ = false
 
--- `or target, target, base`
+-- the instruction is `or target, target, base`
 abbrev pub is_placing : ℕ → ℕ → Instr → Bool
 is_placing base target (Op Or rd rs1 rs2) = (rd == target) && (rs1 == target) && (rs2 == base)
 is_placing base target _ = false
 
--- the two are a pair on the target, of any register
+-- the two instructions are a pair on the target, of any register
 abbrev pub is_pair : ℕ → ℕ → ℕ → Instr → Instr → Bool
 is_pair mask base target first second =
     is_masking mask target first && is_placing base target second
@@ -54,7 +54,7 @@ is_pair mask base target first second =
 abbrev pub gate_stub : List Instr
 gate_stub = Ecall ∷ (code_pair scratch return_register ++ Jalr 0 scratch (pos 0) ∷ [])
 
--- its bytes
+-- the bytes of a gate's bundle
 abbrev pub stub : List ℕ
 stub =
     0x73 ∷ 0x00 ∷ 0x00 ∷ 0x00 ∷ 0xb3 ∷ 0xff ∷ 0x90 ∷ 0x01

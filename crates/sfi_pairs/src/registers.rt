@@ -19,15 +19,15 @@ pub fn is_reserved(register: Reg) -> bool
         || number == DATA_MASK_REGISTER
 }
 
-/// Whether a source of code in bundles may not name the register: it is reserved, or that of its
-/// expansions.
+/// Whether a source of code in bundles may not name the register: it is reserved, or the one in
+/// which expansions make addresses.
 pub fn is_withheld(register: Reg) -> bool
     ensures { result ≡ is_withheld register }
 {
     is_reserved(register) || register.number() == SCRATCH
 }
 
-/// Whether it is a data register of code in words, which lies in the data region or near it.
+/// Whether it is a data register of code in words, whose value lies in the data region or near it.
 #[inline]
 pub fn is_data_register(register: Reg) -> bool
     ensures { result ≡ is_data_register register }

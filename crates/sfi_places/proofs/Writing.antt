@@ -85,7 +85,7 @@ module _ (from to : ℕ) where
   abbrev there : Gate → Gate
   there = moved_gate from to
 
-  -- the first so many of them at the other place
+  -- the gates, of which the first `i` are moved to the other place
   abbrev pub some_moved : List Gate → ℕ → List Gate
   some_moved gs i = map there (take i gs) ++ drop i gs
 

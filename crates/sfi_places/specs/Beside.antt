@@ -9,19 +9,19 @@ use Rattle.sfi_runs.specs.Safety.{AllRunSafely}
 use Rattle.sfi_runs.specs.Calls.{AllCallTyped}
 use Rattle.sfi_safety.specs.Clean.{IsClean}
 
--- no code region and no data with its guard zones of the one meets one of the other
+-- no code region and no data with its guard zones of the first image meets one of the second
 abbrev pub AreBeside : List Part → List Part → Type 0
 AreBeside ps qs = All (λ (s : Span). All (λ (t : Span). AreApart s t) (spans qs)) (spans ps)
 
--- all that a world asks of the sandboxes of one clean image holds of those of two that lie so: each
--- passes its tests, no two of all their spans meet, each runs safely, and calls with its typed
--- registers set
+-- all that a world asks of the sandboxes of one clean image holds of those of two clean images that
+-- lie beside one another: each passes its tests, no two of all their spans meet, each runs safely,
+-- and calls with its typed registers set
 abbrev pub BesideIsAsOne : Type 0
 BesideIsAsOne =
     (ps qs : List Part) → IsClean ps → IsClean qs → AreBeside ps qs
     → AreRight (ps ++ qs) × AllRunSafely (ps ++ qs) × AllCallTyped (ps ++ qs)
 
--- two images lie so where each sandbox of the one does with each of the other
+-- two images lie beside one another where each sandbox of the first does with each of the second
 abbrev pub BesideByPairs : Type 0
 BesideByPairs =
     (ps qs : List Part)

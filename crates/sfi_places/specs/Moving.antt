@@ -8,15 +8,15 @@ use Rattle.sfi_safety.specs.Clean.{IsAccepted}
 use Rattle.sfi_rules.specs.declared.finding.Finding.{Finding}
 use Rattle.sfi_rules.specs.Findings.{AreFindings}
 
--- the address as far from one base as it was from the other
+-- the address, moved by as much as `to` is from `from`
 abbrev pub moved_address : ℕ → ℕ → ℕ → ℕ
 moved_address from to at = to + (at - from)
 
--- the gate so moved
+-- the gate with its address moved
 abbrev pub moved_gate : ℕ → ℕ → Gate → Gate
 moved_gate from to g = record g { address = moved_address from to g.address }
 
--- the finding so moved
+-- the finding with its address moved
 abbrev pub moved_finding : ℕ → ℕ → Finding → Finding
 moved_finding from to f = record f { address = moved_address from to f.address }
 

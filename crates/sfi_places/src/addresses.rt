@@ -19,7 +19,7 @@ pub(crate) const GATES_AT: usize = 28;
 
 const GATE_BYTES: usize = 8;
 
-// Writes the address at the offset, as far from `to` as it is from `from`.
+// Moves the address at `offset` of the image by as much as `to` is from `from`.
 fn write_address(image: &mut [u8], offset: usize, from: u32, to: u32)
     requires { (at : ℕ) × GoesTo from to at × LiesAt image.old offset (number at) }
     ensures { (at : ℕ) → GoesTo from to at
@@ -29,7 +29,8 @@ fn write_address(image: &mut [u8], offset: usize, from: u32, to: u32)
     LittleEndian::write_u32(&mut image[offset..], to + (address - from));
 }
 
-// Writes the addresses of `gate_count` gates from the offset on, as far from `to`.
+// Moves the addresses of `gate_count` gates, the first of which stands at `offset`, by as much as
+// `to` is from `from`.
 fn write_gates(image: &mut [u8], offset: usize, gate_count: u32, from: u32, to: u32)
     requires { (gs : List Gate) × (length gs ≡ gate_count) × GatesGo from to gs
         × LiesAt image.old offset (flat_map gate gs) }

@@ -48,7 +48,7 @@ fn fields_at(image: &[u8], number: u32) -> Result<(Fields, usize), MoveFault>
     Ok((view.fields, end - length - GATES_AT))
 }
 
-// The bytes are an image.
+// Whether the bytes are an image.
 fn is_image(bytes: &[u8]) -> bool
     ensures image { OnTrue result ((ps : List Part) × IsImage bytes.now ps) }
     ensures fault { OnFalse result ((k : LayoutFault) × IsFault bytes.now k) }
@@ -56,7 +56,7 @@ fn is_image(bytes: &[u8]) -> bool
     sandbox_of(bytes, 0).is_ok()
 }
 
-// The image with the sandbox at the place, where that is right.
+// Moves the sandbox to the place, if that is right.
 fn try_move(image: &mut [u8], number: u32, code_base: u32, data_base: u32) -> Result<(), MoveFault>
     ensures moved { OnOk result (IsMoved image.old number
         (record { code_base = code_base; data_base = data_base }) image.new) }
@@ -93,7 +93,7 @@ pub fn move_sandbox(image: &mut [u8], number: u32, to: Place) -> Result<(), Move
     ensures fault { IfErr result (IsMoveFault image.old number to) }
     ensures unmoved { IfErr result (λ e. image.new ≡ image.old) }
 
-    // Which bytes get it.
+    // Which bytes get each answer.
     ensures only_moved { (now : List ℕ) → IsMoved image.old number to now → result ≡ Ok tt }
     ensures only_fault { (e : MoveFault) → IsMoveFault image.old number to e → result ≡ Err e }
 

@@ -45,9 +45,9 @@ name_most = 64
 abbrev pub first_frame : ℕ
 first_frame = 16
 
--- How many bytes beside its data region the address in a data register of code in words may lie. It is
--- also the largest offset, up or down, of an access that may follow a step of such a register. So many
--- bytes beside the region, 2048 of a step, so many of an offset, and 3 more to the last byte of a word
--- are less than a guard zone.
+-- How many bytes outside its data region the address in a data register of code in words may lie.
+-- It is also the largest offset, up or down, of an access that may follow a step of such a
+-- register. The sum of 1020 bytes outside the region, 2048 of a step, 1020 of an offset, and 3 more
+-- to the last byte of a word is less than a guard zone.
 abbrev pub slack : ℕ
 slack = 1020

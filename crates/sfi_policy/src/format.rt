@@ -7,13 +7,14 @@ use crate::registers::STACK_POINTER;
 /// A format of images.
 #[derive(Clone, Copy, PartialEq, Eq, Debug)]
 pub enum Format {
-    /// The first one.
+    /// The first format: code in bundles.
     Sfi1,
-    /// That in which x2 is a stack pointer: it lies in the data region wherever a sandbox is
+    /// The format in which x2 is a stack pointer: it lies in the data region wherever a sandbox is
     /// entered or replied to, an access on it needs no pair, and what writes it is confined.
     Sfi2,
-    /// That of code in words of 4 bytes. In place of pairs there are typed registers, whose types say
-    /// where they lie wherever a sandbox is entered or replied to, and what writes one is confined.
+    /// The format of code in words of 4 bytes. In place of pairs there are typed registers, whose
+    /// types say where they lie wherever a sandbox is entered or replied to, and what writes one is
+    /// confined.
     Sfiw,
 }
 

@@ -3,7 +3,7 @@
 /// How many bytes a bundle has.
 pub const BUNDLE_SIZE: u32 = 16;
 
-/// The same, as a length of bytes.
+/// `BUNDLE_SIZE`, as a length of bytes.
 pub const BUNDLE_BYTES: usize = BUNDLE_SIZE as usize;
 
 /// How many addresses a guard zone has.
@@ -33,7 +33,7 @@ pub const NAME_MOST: u32 = 64;
 /// How far below its data region's end a sandbox's stack pointer lies at first.
 pub const FIRST_FRAME: u32 = 16;
 
-/// How many bytes beside its data region the address in a data register of code in words may lie.
+/// How many bytes outside its data region the address in a data register of code in words may lie.
 pub const SLACK: u32 = 1020;
 
 /// `REGION_LEAST`, as a length of bytes.

@@ -3,7 +3,7 @@
 /// x24, which holds the code base.
 pub const CODE_BASE_REGISTER: u8 = 24;
 
-/// x25, which holds the code size less that of a unit of code: the mask of a code address.
+/// x25, which holds the code size less the size of a unit of code: the mask of a code address.
 pub const CODE_MASK_REGISTER: u8 = 25;
 
 /// x26, which holds the data base.

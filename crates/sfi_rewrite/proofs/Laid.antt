@@ -14,7 +14,7 @@ size_next nops expanded rest =
 moved : (f : Format) (end other : ℕ) (x : Item) (nops : ℕ) (expanded : List Slot) → end ≡ other → IsNext f end x nops expanded → IsNext f other x nops expanded
 moved f end other x nops expanded e n = subst (λ (m : ℕ). IsNext f m x nops expanded) e n
 
--- one more item
+-- the laid slots with another item at the end
 pub laid_push : (f : Format) (end : ℕ) (items : List Item) (slots : List Slot) (x : Item) (nops : ℕ) (expanded : List Slot)
     → AreLaidFrom f end items slots → IsNext f (end + size_of slots) x nops expanded → AreLaidFrom f end (items ++ x ∷ []) (slots ++ (replicate nops c_nop ++ expanded))
 laid_push f end [] slots x nops expanded l n =

@@ -37,7 +37,8 @@ moved_data base size most x region =
     ap (λ n. bit_or n base) low_part ∙ ap (λ n. bit_or (x % 2 ^ k) n) base_is ∙ in_block q k (x % 2 ^ k) below
     ∙ ap (λ n. n + x % 2 ^ k) (sym base_is) ∙ ap (λ n. base + x % n) (sym region.size_is)
 
--- so under x27 and x26, while a sandbox of these regions runs
+-- masked by x27 and x26, while a sandbox of these regions runs, a number becomes an address of the
+-- data region
 pub masked_data : (u : ℕ) (c d : Span) (h : Hart) (x : ℕ) → AreRegions c d → HasReserved u c d h → bit_or (bit_and x (register h 27)) (register h 26) ≡ masked d x
 masked_data u c d h x regions reserved =
     ap (λ n. bit_or (bit_and x n) (register h 26)) reserved.data_mask ∙ ap (λ n. bit_or (bit_and x (d.size - 1)) n) reserved.data_base
@@ -74,7 +75,7 @@ mod_more c k x some =
     let both : c * 2 ^ k + x ≡ (c + y) * 2 ^ k + x % 2 ^ k = omega arith in
     ap (λ n. n % 2 ^ k) both ∙ mod_low (c + y) k (x % 2 ^ k) (omega arith)
 
--- nor does what 32 bits don't hold
+-- the bits of a number beyond 32 change no offset
 mod_word : (k x : ℕ) → k ≤ 32 → 0 < 2 ^ k → x % 2 ^ 32 % 2 ^ k ≡ x % 2 ^ k
 mod_word k x narrow some =
     let j = 32 - k in

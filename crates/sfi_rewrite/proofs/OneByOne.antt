@@ -121,7 +121,7 @@ label_here f items k end place code l e p = (code, l.laid, p ∙ ap next_bundle 
 
 -- ---- labels
 
--- one more label
+-- the labels with another one at the end
 pub label_push : (w : Bool) (f : Format) (items : List Item) (labels now : List ℕ) (n place : ℕ)
     → length labels ≡ n → ((k : ℕ) → k < n → IsLabelAt w f items k (get_or labels k 0)) → IsLabelAt w f items n place → now ≡ labels ++ place ∷ []
     → (k : ℕ) → k < n + 1 → IsLabelAt w f items k (get_or now k 0)

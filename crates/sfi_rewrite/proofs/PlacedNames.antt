@@ -39,7 +39,7 @@ is_placed_name : (s : Sandbox) (labels : List ℕ) (n : Named) → AreLabels (ha
 is_placed_name s labels (Code k) a t = (slice_index labels k, a.each k t, refl)
 is_placed_name s labels _ a t = refl
 
--- one more name
+-- the placed names with another one at the end
 pub names_push : (s : Sandbox) (labels : List ℕ) (k : ℕ) (n : Named) (found : Option Named) (names now : List PlacedName) (name : PlacedName)
     → IsSandbox s → AreLabels (has_words s.format) s.format s.items labels → k < length (named s) → found ≡ slice_get (named s) k → found ≡ Some n
     → AllZip (IsPlacedName s.format s.items) (take k (named s)) names → name ≡ placed_of labels n → now ≡ names ++ name ∷ []

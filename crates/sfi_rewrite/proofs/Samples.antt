@@ -29,7 +29,8 @@ regions = record {
   data_placed = record { power = 8; size_is = refl; at_least = omega arith; at_most = omega arith; multiple = 98304; base_is = refl };
 }
 
--- x2 and x11 point into the data, x12 to a bundle start of the code, the reserved registers have their values, for code in units of so many bytes, and all others are 0
+-- x2 and x11 point into the data, x12 to a bundle start of the code, the reserved registers have
+-- their values, for code in units of `unit_size` bytes, and all others are 0
 abbrev pub hart_with : ℕ → ℕ → Hart
 hart_with unit_size pc = record {
   pc = pc;

@@ -8,7 +8,7 @@ size_of-append xs ys = sum_by-append slot_size xs ys
 pub size_of-cons : (s : Slot) (xs : List Slot) → size_of (s ∷ xs) ≡ slot_size s + size_of xs
 size_of-cons s xs = sum_by-cons slot_size s xs
 
--- so many slots take so many bytes, each 2 or 4
+-- `count` slots take `size` bytes, each 2 or 4
 pub record AreSizes (count size : ℕ) : Type 0 where
   pub even : size % 2 ≡ 0
   pub least : 2 * count ≤ size
@@ -50,7 +50,7 @@ size_more xs k d h =
     let f = size_of-cons (get_or xs k d) [] in
     ap size_of e ∙ g ∙ (omega arith)
 
--- one more slot in a sum
+-- the size of the first slots with the next one
 pub size_step : (xs : List Slot) (k : ℕ) (d : Slot) (n r : ℕ) → k < length xs → n ≡ size_of (take k xs) → r ≡ slot_size (get_or xs k d) → n + r ≡ size_of (take (k + 1) xs)
 size_step xs k d n r h e f = let g = size_more xs k d h in omega arith
 

@@ -48,7 +48,7 @@ stand_transparent s p r k x at =
     let q = r.placement in
     stand_in s.format s.items p q.slots (HasEndLabel s) q.nops k x q.laid q.end q.code (all_fit (has_words s.format) s.format s.items q.slots q.laid r.faultless).permitted at
 
--- so does each of all sandboxes
+-- each sandbox of the source stands transparent in what is placed
 pub all_stand : (source : List Sandbox) (placed : List Placement) → AllZip IsRewritten source placed → AllZip StandTransparent source placed
 all_stand [] [] z = z
 all_stand [] (p ∷ placed) z = absurd z

@@ -158,7 +158,7 @@ jump_transparent rd a = record {
       (λ h aside e. jumps_same is_scratch rd 31 a (pos 0) h (with_pc s.hart h.pc) s.memory aside (ap (λ n. offset_by n (pos 0)) e));
 }
 
--- it isn't
+-- a jump's offset isn't 0
 sum_transparent : (rd a : ℕ) (imm : ℤ) → IsTransparent (Jalr rd a imm) (Wide (OpImm Addi 31 a imm) ∷ (code_pair_slots 31 ++ jump_to_x31 rd ∷ []))
 sum_transparent rd a imm = record {
   before = Wide (OpImm Addi 31 a imm) ∷ code_pair_slots 31;

@@ -12,7 +12,7 @@ whole-append f count _ ys (expansion x one rest p b e r) w =
 
 -- ---- pieces: an expansion or a c.nop each
 
--- it is whole, takes some bytes, and from that end on it crosses no bundle's end
+-- the piece is whole, takes some bytes, and from `end` on it crosses no bundle's end
 record IsPiece (f : Format) (count end : ℕ) (piece : List Slot) : Type 0 where
   whole : AreWhole f count piece
   some : 0 < size_of piece

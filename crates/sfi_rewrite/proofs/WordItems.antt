@@ -119,7 +119,7 @@ item_refused r sandbox x later old begun expanded slots is e b h =
 
 -- ---- the first items
 
--- one more item
+-- the expansions with that of another item at the end
 expanded_push : (items : List Item) (x : Item) (later : List Item) (slots : List Marked) (expanded : List Slot)
     → AreExpanded items (x ∷ later) slots → IsExpansion x later expanded → AreExpanded (items ++ x ∷ []) later (slots ++ marked x.labelled expanded)
 expanded_push [] x later slots expanded e is =

@@ -44,7 +44,7 @@ wide_leads words None l s h more = ap (λ v. words ++ v) (wide_alone l s more h)
 wide_leads words (Some f) l s h more =
     ap (λ v. words ++ v) (after_form f l s more h) ∙ sym (append_assoc words _ _) ∙ sym (append_assoc (words ++ in_words ((false, Short f) ∷ [])) (s ∷ []) _)
 
--- one more slot, which has no label before it where a form waits
+-- the words with another slot, which has no label before it where a form waits
 pub slot_leads : (words : List Slot) (waiting : Option Form16) (l : Bool) (s : Slot) → (IsTrue l → waiting ≡ None) → LeadsTo (so_far words waiting) ((l, s) ∷ []) (with_slot words waiting s)
 slot_leads words None l (Short g) h more = ap (λ v. words ++ v) (head_label l false (Short g) more)
 slot_leads words (Some f) false (Short g) h more = sym (append_assoc words _ _)

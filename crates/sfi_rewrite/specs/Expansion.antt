@@ -22,7 +22,7 @@ use Rattle.sfi_rewrite.specs.Stack.{writes_stack, is_on_stack, stack_pair, put_b
 abbrev pub data_pair_slots : ℕ → List Slot
 data_pair_slots a = map Wide (data_pair scratch a)
 
--- the pair by which x31 becomes a bundle start of the code region, likewise
+-- the pair by which x31 becomes a bundle start of the code region, both instructions wide
 abbrev pub code_pair_slots : ℕ → List Slot
 code_pair_slots a = map Wide (code_pair scratch a)
 
@@ -30,7 +30,7 @@ code_pair_slots a = map Wide (code_pair scratch a)
 abbrev pub jump_to_x31 : ℕ → Slot
 jump_to_x31 rd = Wide (Jalr rd scratch (pos 0))
 
--- `jalr rd, imm(a)`; an offset other than 0 is added before the pair
+-- the slots of `jalr rd, imm(a)`; an offset other than 0 is added before the pair
 abbrev pub jump_slots : ℕ → ℕ → ℤ → List Slot
 jump_slots rd a (pos zero) = code_pair_slots a ++ jump_to_x31 rd ∷ []
 jump_slots rd a imm =
@@ -56,7 +56,8 @@ IsMasked rvc (Store width a rs2 imm) slots =
 IsMasked rvc (Jalr rd a imm) slots = slots ≡ jump_slots rd a imm
 IsMasked rvc i slots = IsAlone rvc i slots
 
--- that of any: before the pair, if it writes the stack pointer; as it is, if it is an access on it
+-- the expansion of any instruction: before the stack pair, if it writes the stack pointer; as it
+-- is, if it is an access on that
 abbrev pub IsPlainExpansion : Format → Bool → Instr → List Slot → Type 0
 IsPlainExpansion f rvc i slots =
     MatchBool (writes_stack f i) (slots ≡ Wide i ∷ stack_pair)

@@ -34,16 +34,16 @@ pub record IsPermitted (f : Format) (x : Item) : Type 0 where
   pub no_stack_write : is_stack_write f x.body ≡ false
   pub no_barred_jump : is_barred_jump f x.body ≡ false
 
--- the first k of the items, in words or in bundles, have no fault, and these are their slots, for
--- which a code region has room
+-- the first k items, in words or in bundles, have no fault, and these are their slots, for which a
+-- code region has room
 pub record AreFaultless (in_words : Bool) (f : Format) (k : ℕ) (items : List Item)
     (slots : List Slot) : Type 0 where
   pub permitted : All (IsPermitted f) (take k items)
   pub laid : AreLaidIn in_words f (take k items) (drop k items) slots
   pub fits : size_of slots ≤ code_most f
 
--- no code region has room for the slots of the first k of the items; in bundles the last of these would
--- begin a bundle beyond the last, since an expansion lies in one bundle
+-- no code region has room for the slots of the first k items; in bundles the last of these items
+-- would begin a bundle beyond the region's last, since an expansion lies in one bundle
 abbrev pub AreTooLarge : Bool → Format → ℕ → List Item → Type 0
 AreTooLarge in_words f k items =
     (slots : List Slot) × AreLaidIn in_words f (take k items) (drop k items) slots
@@ -69,12 +69,12 @@ HasFault in_words f sandbox items k x (TooLarge number) =
     IsPermitted f x × AreTooLarge in_words f (k + 1) items × (number ≡ sandbox)
 HasFault in_words f sandbox items k x fault = HasItemFault f x fault
 
--- what is said of a fault, where that isn't want of memory
+-- what holds of a fault, where that isn't want of memory
 abbrev pub UnlessMemory : (RewriteFault → Type 0) → RewriteFault → Type 0
 UnlessMemory P Memory = Unit {0}
 UnlessMemory P f = P f
 
--- the first item that has a fault has this one
+-- this is the fault of the first item that has one
 pub record IsItemFault (in_words : Bool) (format : Format) (sandbox : ℕ) (items : List Item)
     (f : RewriteFault) : Type 0 where
   pub index : ℕ

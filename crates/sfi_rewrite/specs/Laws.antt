@@ -30,7 +30,7 @@ abbrev pub OneExpansion : Type 0
 OneExpansion = (f : Format) (x : Item) (slots others : List Slot) → IsExpansion f x slots
     → IsExpansion f x others → slots ≡ others
 
--- in words an item has at most one before the items after it
+-- in words an item has at most one expansion before the items after it
 abbrev pub OneWordExpansion : Type 0
 OneWordExpansion = (x : Item) (later : List Item) (slots others : List Slot)
     → words.IsExpansion x later slots → words.IsExpansion x later others → slots ≡ others

@@ -22,7 +22,7 @@ use Rattle.sfi_rewrite.specs.Placement.{Placement, AreBundles}
 
 -- ---- slots
 
--- Slots that are whole expansions of permitted items of a source with so many names, and c.nops: no
+-- Slots that are whole expansions of permitted items of a source with `count` names, and c.nops: no
 -- expansion is cut, and none stands that the format doesn't have.
 pub data AreWhole (f : Format) (count : ℕ) : List Slot → Type 0 where
   nothing : AreWhole f count []
@@ -40,7 +40,7 @@ Encodes (Jump i name line) = InRange i
 Encodes (Upper rd name line) = IsReg rd
 Encodes (Lower rd name line) = IsReg rd
 
--- the slot's name, if it has one, is one of so many
+-- the slot's name, if it has one, is one of the first `count`
 abbrev pub IsNamedBelow : ℕ → Slot → Type 0
 IsNamedBelow count (Wide i) = Unit {0}
 IsNamedBelow count (Short f) = Unit {0}
@@ -48,7 +48,7 @@ IsNamedBelow count (Jump i name line) = name < count
 IsNamedBelow count (Upper rd name line) = name < count
 IsNamedBelow count (Lower rd name line) = name < count
 
--- slots of code in words that are those of permitted items of a source with so many names
+-- slots of code in words that are those of permitted items of a source with `count` names
 pub record AreOfItems (count : ℕ) (slots : List Slot) : Type 0 where
   pub items : List Item
   pub permitted : All (IsPermitted Sfiw) items
@@ -62,8 +62,8 @@ AreWholeIn f count bundles =
 
 -- ---- sandboxes
 
--- there is what the name names: that gate, a place of the code where a jump may go or its end,
--- the place after so many data bytes
+-- there is what the name names: that gate, a place of the code where a jump may go or its end, or
+-- an offset in the data, at most its length
 abbrev pub IsPlacedThere : Placement → PlacedName → Type 0
 IsPlacedThere p (placed.Gate k) = k < length p.gates
 IsPlacedThere p (placed.Code place) =
@@ -99,7 +99,7 @@ format_of (p ∷ rest) = p.format
 abbrev pub AreOf : Format → List Placement → Type 0
 AreOf format parts = All (λ p. p.format ≡ format) parts
 
--- one such sandbox at least, all of one format
+-- there is one placed sandbox at least, and all are of one format
 pub record IsPlaced (parts : List Placement) : Type 0 where
   pub at_least_one : 1 ≤ length parts
   pub each : All IsPlacedPart parts

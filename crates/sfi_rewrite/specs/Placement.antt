@@ -38,14 +38,15 @@ abbrev pub label_place : Bool → ℕ → ℕ
 label_place true end = end
 label_place false end = next_bundle end
 
--- what a label before item k names: the first such place after what stands before the item
+-- what a label before item k names: the first place where a label may stand, after what stands
+-- before the item
 abbrev pub IsLabelAt : Bool → Format → List Item → ℕ → ℕ → Type 0
 IsLabelAt in_words f items k place =
     (before : List Slot) × AreLaidIn in_words f (take k items) (drop k items) before
     × (place ≡ label_place in_words (size_of before))
 
--- what a name of the source names once its items are placed:
--- a label the place of what stands after it
+-- what a name of the source names once its items are placed; a label names the place of what stands
+-- after it
 abbrev pub IsPlacedName : Format → List Item → Named → PlacedName → Type 0
 IsPlacedName f items (Gate k) name = name ≡ placed.Gate k
 IsPlacedName f items (Code k) name =
@@ -63,7 +64,7 @@ pub record FillsEnd (end : ℕ) (labelled : Type 0) (nops : ℕ) : Type 0 where
   pub enough : labelled → next_bundle end ≤ end + 2 * nops
   pub fewest : (n : ℕ) → (labelled → next_bundle end ≤ end + 2 * n) → nops ≤ n
 
--- so many c.nops stand after the last expansion; words need none
+-- `nops` c.nops stand after the last expansion; words need none
 abbrev pub FillsEndIn : Bool → ℕ → Type 0 → ℕ → Type 0
 FillsEndIn in_words end labelled nops = MatchBool in_words (nops ≡ 0) (FillsEnd end labelled nops)
 

@@ -7,7 +7,7 @@ use Rattle.sfi_policy.specs.Limits.{bundle_size}
 use Rattle.sfi_rewrite.specs.Slots.{size_of, c_nop}
 use Rattle.sfi_rewrite.specs.Expansion.{IsExpansion, is_call}
 
--- the first bundle start not before n
+-- the first bundle start at or after n
 abbrev pub next_bundle : ℕ → ℕ
 next_bundle n = (n + (bundle_size - 1)) / bundle_size * bundle_size
 
@@ -20,17 +20,18 @@ pub record MayStand (end : ℕ) (labelled call : Bool) (size here : ℕ) : Type 
   pub in_bundle : here % bundle_size + size ≤ bundle_size
   pub returns : IsTrue call → (here + size) % bundle_size ≡ 0
 
--- so many c.nops, of 2 bytes each, fill the gap up to the first place where it may stand
+-- `nops` c.nops, of 2 bytes each, fill the gap from `end` to the first place where an expansion of
+-- `size` bytes may stand
 pub record FillsGap (end : ℕ) (labelled call : Bool) (size nops : ℕ) : Type 0 where
   pub stands : MayStand end labelled call size (end + 2 * nops)
   pub first : (here : ℕ) → MayStand end labelled call size here → end + 2 * nops ≤ here
 
--- after that end the item's expansion stands next, after so many c.nops
+-- after `end` there stand `nops` c.nops, and then the item's expansion
 pub record IsNext (f : Format) (end : ℕ) (x : Item) (nops : ℕ) (expanded : List Slot) : Type 0 where
   pub expansion : IsExpansion f x expanded
   pub gap : FillsGap end x.labelled (is_call x.body) (size_of expanded) nops
 
--- from that end on, the expansions of the items stand one after another, each at its first place
+-- from `end` on, the expansions of the items stand one after another, each at its first place
 abbrev pub AreLaidFrom : Format → ℕ → List Item → List Slot → Type 0
 AreLaidFrom f end [] slots = slots ≡ []
 AreLaidFrom f end (x ∷ items) slots =

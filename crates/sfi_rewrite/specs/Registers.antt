@@ -13,15 +13,14 @@ use Rattle.sfi_policy.specs.Registers.{is_reserved, code_register, offset_regist
 abbrev pub address_register : ℕ
 address_register = 29
 
--- a reserved register, or one that the format's expansions write
+-- the register is reserved, or one that the format's expansions write
 abbrev pub is_withheld : Format → ℕ → Bool
 is_withheld f r =
     if has_words f then
     is_reserved r || (r == address_register) || (r == code_register) || (r == offset_register)
     else policy.is_withheld r
 
--- one of an instruction's register operands is such a register,
--- also one that the instruction doesn't use
+-- one of an instruction's register operands is withheld, also one that the instruction doesn't use
 abbrev pub names_withheld : Format → Instr → Bool
 names_withheld f (Op op rd rs1 rs2) = is_withheld f rd || is_withheld f rs1 || is_withheld f rs2
 names_withheld f (OpImm op rd rs1 imm) = is_withheld f rd || is_withheld f rs1
@@ -36,7 +35,7 @@ names_withheld f (Fence imm rd rs1) = is_withheld f rd || is_withheld f rs1
 names_withheld f Ecall = false
 names_withheld f Ebreak = false
 
--- the same of an item of the source
+-- `names_withheld` for the body of an item
 abbrev pub item_names_withheld : Format → Body → Bool
 item_names_withheld f (Plain i) = names_withheld f i
 item_names_withheld f (To i name) = names_withheld f i

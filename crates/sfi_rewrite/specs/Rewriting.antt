@@ -12,11 +12,11 @@ pub record IsRewritten (s : Sandbox) (p : Placement) : Type 0 where
   pub faultless : IsFaultless s
   pub placement : IsPlacement s p
 
--- each sandbox of the source, in order
+-- each sandbox of the source is rewritten, in order
 abbrev pub AreRewritten : List Sandbox → List Placement → Type 0
 AreRewritten source placed = AllZip IsRewritten source placed
 
--- the answer is this, or memory ran out
+-- the answer is these placements, or memory ran out
 abbrev pub AnswersPlaced : List Placement → Result (List Placement) RewriteFault → Type 0
 AnswersPlaced placed answer = (answer ≡ Ok placed) ⊎ (answer ≡ Err Memory)
 

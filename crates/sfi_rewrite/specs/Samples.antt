@@ -20,7 +20,7 @@ use Rattle.sfi_rewrite.specs.Expansion.{IsPlainExpansion}
 use Rattle.sfi_rewrite.specs.Transparency.{KeepsTo, IsAskedOf, effect_in}
 
 -- an expansion, and regions and a state for which all holds that is asked where its slots stand for i,
--- in code in units of so many bytes
+-- in code in units of `unit_size` bytes
 pub record Meets (unit_size : ℕ) (i : Instr) (IsExpanded : List Slot → Type 0) : Type 0 where
   pub slots : List Slot
   pub expansion : IsExpanded slots
@@ -37,27 +37,28 @@ LeavesInside data_at d r = (r.outcome ≡ Next) × Holds data_at (register r.sta
 abbrev pub LeavesOutside : Span → ℕ → Stepped → Type 0
 LeavesOutside data_at d r = (r.outcome ≡ Next) × (Holds data_at (register r.state.hart d) → ⊥)
 
--- the expansion of i in 32-bit slots
+-- `Meets` for the expansion of i in 32-bit slots
 abbrev pub MeetsExpansion : Format → Instr → Type 0
 MeetsExpansion f i = Meets bundle_size i (IsPlainExpansion f false i)
 
--- all that IsTransparent asks, and i is done
+-- all that IsTransparent asks holds in some state, and there i is done
 abbrev pub MeetsTransparent : Format → Instr → Type 0
 MeetsTransparent f i = (m : MeetsExpansion f i) × (writes_stack f i ≡ false)
     × KeepsTo m.code_at m.data_at m.state.hart i × ((effect_in m.state i).outcome ≡ Next)
 
--- all that KeepsStack asks of an instruction that writes the stack pointer, and it is done and leaves
--- it in the data region
+-- all that KeepsStack asks of an instruction that writes the stack pointer holds in some state;
+-- there i is done, and leaves the stack pointer in the data region
 abbrev pub MeetsInside : Format → Instr → Type 0
 MeetsInside f i = (m : MeetsExpansion f i) × (writes_stack f i ≡ true)
     × LeavesInside m.data_at stack_pointer (effect_in m.state i)
 
--- the same, but it leaves it outside
+-- all that KeepsStack asks holds in some state; there i is done, and leaves the stack pointer
+-- outside of the data region
 abbrev pub MeetsOutside : Format → Instr → Type 0
 MeetsOutside f i = (m : MeetsExpansion f i) × (writes_stack f i ≡ true)
     × LeavesOutside m.data_at stack_pointer (effect_in m.state i)
 
--- the same, but it isn't done
+-- all that KeepsStack asks holds in some state, and there i isn't done
 abbrev pub MeetsStop : Format → Instr → Type 0
 MeetsStop f i = (m : MeetsExpansion f i) × (writes_stack f i ≡ true)
     × ((effect_in m.state i).outcome ≢ Next)

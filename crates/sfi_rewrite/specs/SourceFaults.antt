@@ -13,11 +13,11 @@ IsFaultless s =
     (slots : List Slot)
     × AreFaultless (has_words s.format) s.format (length s.items) s.items slots
 
--- the first item of the sandbox of that number that has a fault has this one
+-- this is the fault of the first item that has one, in the sandbox of that number
 abbrev pub IsSandboxFault : ℕ → Sandbox → RewriteFault → Type 0
 IsSandboxFault number s f = IsItemFault (has_words s.format) s.format number s.items f
 
--- the first item of the source that has a fault has this one
+-- this is the fault of the first item of the source that has one
 pub record IsSourceFault (source : List Sandbox) (f : RewriteFault) : Type 0 where
   pub number : ℕ
   pub sandbox : Sandbox

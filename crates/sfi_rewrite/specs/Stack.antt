@@ -15,14 +15,14 @@ use Rattle.sfi_rewrite.specs.declared.slot.Slot.TheVariants.{Wide}
 
 -- ---- x2 in an instruction
 
--- a load or store on x2
+-- the instruction is a load or store on x2
 abbrev pub is_on_x2 : Instr → Bool
 is_on_x2 (Load kind rd a imm) = a == stack_pointer
 is_on_x2 (Store width a rs2 imm) = a == stack_pointer
 is_on_x2 _ = false
 
--- x2 is written by what can't stand before the pair: by a jump,
--- or by a load on another register, which has its own pair
+-- x2 is written by an instruction that can't stand before the pair: a jump, or a load on another
+-- register, which has its own pair
 abbrev pub jumps_or_loads_x2 : Body → Bool
 jumps_or_loads_x2 (Plain (Load kind rd a imm)) = (rd == stack_pointer) && not (a == stack_pointer)
 jumps_or_loads_x2 (Plain (Jal rd offset)) = rd == stack_pointer
@@ -30,7 +30,7 @@ jumps_or_loads_x2 (Plain (Jalr rd a imm)) = rd == stack_pointer
 jumps_or_loads_x2 (To (Jal rd offset) name) = rd == stack_pointer
 jumps_or_loads_x2 _ = false
 
--- ---- the same, where x2 is a stack pointer
+-- ---- the same tests, where x2 is a stack pointer
 
 abbrev pub writes_stack : Format → Instr → Bool
 writes_stack f i = has_stack f && writes_register stack_pointer i

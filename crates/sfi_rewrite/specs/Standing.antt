@@ -8,12 +8,12 @@ use Rattle.sfi_rewrite.specs.Placement.{Placement}
 use Rattle.sfi_rewrite.specs.Transparency.{StandsTransparent}
 use Rattle.sfi_rewrite.specs.words.Transparency as words
 
--- item k of these items stands so, as the format asks
+-- the expansion of item k stands transparent among the placed slots, as the format asks
 abbrev pub StandsAs : Format → List Item → Placement → ℕ → Item → Type 0
 StandsAs f items p k x =
     MatchBool (has_words f) (words.StandsTransparent items p k x) (StandsTransparent f items p k x)
 
--- each item does
+-- the expansion of each item stands transparent
 abbrev pub StandTransparent : Sandbox → Placement → Type 0
 StandTransparent s p =
     (k : ℕ) (x : Item) → slice_get s.items k ≡ Some x → StandsAs s.format s.items p k x

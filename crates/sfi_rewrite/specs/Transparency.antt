@@ -30,14 +30,14 @@ use Rattle.sfi_rewrite.specs.Placement.{Placement}
 
 -- ---- the sandbox
 
--- a sandbox's code, in some format, may lie in the one span, and its data in the other
+-- a sandbox's code, in some format, may lie in the first span, and its data in the second
 pub record AreRegions (code_at data_at : Span) : Type 0 where
   pub format : Format
   pub code_placed : IsCodeRegion format code_at.base code_at.size
   pub data_placed : IsDataRegion data_at.base data_at.size
 
 -- the reserved registers hold what they do while a sandbox of these regions runs, whose code is in
--- units of so many bytes
+-- units of `unit_size` bytes
 pub record HasReserved (unit_size : ℕ) (code_at data_at : Span) (h : Hart) : Type 0 where
   pub code_base : register h code_base_register ≡ (reserved_for unit_size code_at data_at).code_base
   pub code_mask : register h code_mask_register ≡ (reserved_for unit_size code_at data_at).code_mask
@@ -57,7 +57,7 @@ KeepsTo code_at data_at h _ = Unit {0}
 abbrev pub masked : Span → ℕ → ℕ
 masked data_at v = data_at.base + v % data_at.size
 
--- ---- what stands there
+-- ---- which slots stand at pc
 
 -- the bytes at pc are the slot's: a slot that waits for a name's address has become i
 abbrev pub SlotStands : Instr → State → Slot → Type 0
@@ -70,7 +70,7 @@ abbrev pub SlotsStand : Instr → State → List Slot → Type 0
 SlotsStand i s [] = Unit {0}
 SlotsStand i s (x ∷ slots) = SlotStands i s x × SlotsStand i (further s (slot_size x)) slots
 
--- ---- what it does
+-- ---- what slots do
 
 -- x31, the expansions' own register in bundles
 abbrev pub is_scratch : ℕ → Bool
@@ -96,8 +96,8 @@ pub record DoesAs (is_own : ℕ → Bool) (s : State) (i : Instr) (before : List
   pub step : IsStep there result
   pub same : IsSameAside is_own result (effect i (slot_size last) (with_pc s.hart there.hart.pc) s.memory)
 
--- What is asked wherever slots stand for i, in code in units of so many bytes: regions of a sandbox,
--- a state of the machine, the reserved registers, and the slots from pc on.
+-- What is asked wherever slots stand for i, in code in units of `unit_size` bytes: regions of a
+-- sandbox, a state of the machine, the reserved registers, and the slots from pc on.
 pub record IsAskedOf (unit_size : ℕ) (i : Instr) (slots : List Slot) (code_at data_at : Span)
     (s : State) : Type 0 where
   pub regions : AreRegions code_at data_at
@@ -150,7 +150,7 @@ ActsAs f i slots = MatchBool (writes_stack f i) (KeepsStack i slots) (IsTranspar
 
 -- ---- an item
 
--- the jal or branch with any offset: no other instruction goes to a name
+-- `i` is the given jal or branch with any offset: no other instruction goes to a name
 abbrev pub IsAimed : Instr → Instr → Type 0
 IsAimed (Jal rd offset) i = (z : ℤ) × (i ≡ Jal rd z)
 IsAimed (Branch cond rs1 rs2 offset) i = (z : ℤ) × (i ≡ Branch cond rs1 rs2 z)

@@ -8,7 +8,7 @@ use arrayvec::ArrayVec;
 use sfi_policy::BUNDLE_BYTES;
 use std::marker::Model;
 
-/// The most slots of a bundle: 16-bit forms alone.
+/// The most slots of a bundle: as many as it has 16-bit forms.
 const SLOTS_MOST: usize = BUNDLE_BYTES / 2;
 
 /// What stands in one bundle, in order. Contracts see the list of its slots.
@@ -50,14 +50,14 @@ impl Bundle {
         }
     }
 
-    /// How many bytes its slots take.
+    /// How many bytes the bundle's slots take.
     pub fn size(&self) -> usize
         ensures { result ≡ size_of self.now }
     {
         size_of(self.slots.as_slice())
     }
 
-    /// What stands in it, in order.
+    /// The bundle's slots, in order.
     pub fn slots(&self) -> &[Slot]
         ensures { result.now ≡ self.now }
     {

@@ -32,7 +32,7 @@ impl Model for Expansion {
 }
 
 impl Expansion {
-    /// No slot.
+    /// An expansion without a slot.
     pub(crate) fn new() -> Expansion
         ensures { result ≡ [] }
     {
@@ -52,7 +52,7 @@ impl Expansion {
         }
     }
 
-    /// These slots.
+    /// The expansion of these slots.
     pub(crate) fn of(slots: &[Slot]) -> Expansion
         requires { length slots.now ≤ 5 }
         ensures { result ≡ slots.now }
@@ -62,7 +62,7 @@ impl Expansion {
         expansion
     }
 
-    /// A pair, and what stands after it.
+    /// The expansion of a pair, and `last` after it.
     fn of_pair(pair: [Instr; 2], last: Slot) -> Expansion
         ensures { result ≡ map Wide pair ++ last ∷ [] }
     {
@@ -70,7 +70,7 @@ impl Expansion {
         Expansion::of(&[Slot::Wide(first), Slot::Wide(second), last])
     }
 
-    /// What writes the stack pointer, and the pair that puts it back.
+    /// The expansion of a slot that writes the stack pointer, and the pair that puts that back.
     fn with_stack_pair(first: Slot) -> Expansion
         ensures { result ≡ first ∷ stack_pair }
     {
@@ -79,7 +79,8 @@ impl Expansion {
         Expansion::of(&[first, Slot::Wide(mask), Slot::Wide(place)])
     }
 
-    /// One slot, before that pair if the slot writes the stack pointer.
+    /// The expansion of one slot, with the pair that puts the stack pointer back if the slot writes
+    /// it.
     fn put_back(first: Slot, writes_stack: bool) -> Expansion
         ensures { result ≡ first ∷ put_back writes_stack }
     {
@@ -90,7 +91,7 @@ impl Expansion {
         }
     }
 
-    /// In order.
+    /// The slots, in order.
     pub(crate) fn slots(&self) -> &[Slot]
         ensures slots { result.now ≡ self.now }
         ensures few { length self.now ≤ 5 }
@@ -122,7 +123,8 @@ fn of_jump(rd: Reg, a: Reg, imm: i32) -> Expansion
     Expansion::of(&[sum, Slot::Wide(mask), Slot::Wide(place), last])
 }
 
-/// An instruction that stays as it is, in a 16-bit form where these are asked for and there is one.
+/// The expansion of an instruction that stays as it is, in a 16-bit form where `rvc` asks for these
+/// and there is one.
 pub(crate) fn alone(rvc: bool, instr: &Instr) -> Slot
     ensures { IsAlone rvc instr.now (result ∷ []) }
 {

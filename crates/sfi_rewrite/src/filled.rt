@@ -33,7 +33,7 @@ impl Model for Filling {
 }
 
 impl Filling {
-    /// No bundle.
+    /// No bundles.
     pub(crate) fn new(alloc: Global) -> Filling
         ensures { result ≡ [] }
     {
@@ -50,8 +50,8 @@ impl Filling {
         self.end
     }
 
-    /// Adds slots of so many bytes: to the last bundle if it has room,
-    /// and else as the first of another.
+    /// Adds slots, of `size` bytes in all: to the last bundle if it has room, and else as the first
+    /// of another.
     pub(crate) fn push(&mut self, slots: &[Slot], size: usize) -> Result<(), AllocError>
         requires size { size ≡ size_of slots.now }
         requires some { 0 < size }
@@ -70,7 +70,7 @@ impl Filling {
         Ok(())
     }
 
-    /// Adds so many c.nops.
+    /// Adds `nops` c.nops.
     pub(crate) fn push_nops(&mut self, nops: usize) -> Result<(), AllocError>
         requires { size_of self.old + 2 * nops ≤ largest }
         ensures { IfOk result (λ _. self.new ≡ self.old ++ replicate nops c_nop) }

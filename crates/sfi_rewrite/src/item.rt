@@ -27,7 +27,7 @@ fn is_withheld(format: Format, register: Reg) -> bool
     }
 }
 
-/// Whether one of the instruction's register operands is such a register.
+/// Whether one of the instruction's register operands is withheld from a source of the format.
 fn names_withheld(format: Format, instr: &Instr) -> bool
     ensures { result ≡ names_withheld format instr.now }
 {
@@ -49,7 +49,7 @@ fn names_withheld(format: Format, instr: &Instr) -> bool
     }
 }
 
-/// The same of an item.
+/// `names_withheld` for an item's body.
 fn item_names_withheld(format: Format, body: &Body) -> bool
     ensures { result ≡ item_names_withheld format body.now }
 {
@@ -61,13 +61,14 @@ fn item_names_withheld(format: Format, body: &Body) -> bool
     }
 }
 
+/// Whether the item is an `ecall`.
 fn is_ecall(body: &Body) -> bool
     ensures { result ≡ is_ecall body.now }
 {
     matches!(body, Body::Plain(Instr::Ecall))
 }
 
-/// Whether it is a jal or jalr that writes a register other than x0.
+/// Whether the item is a jal or jalr that writes a register other than x0.
 pub(crate) fn is_call(body: &Body) -> bool
     ensures { result ≡ is_call body.now }
 {
@@ -78,7 +79,7 @@ pub(crate) fn is_call(body: &Body) -> bool
     }
 }
 
-/// Whether it is a jump, or a load on another register, that writes the stack pointer.
+/// Whether the item is a jump that writes the stack pointer, or a load into it on another register.
 fn is_stack_write(format: Format, body: &Body) -> bool
     ensures { result ≡ is_stack_write format body.now }
 {
@@ -93,8 +94,8 @@ fn is_stack_write(format: Format, body: &Body) -> bool
     }
 }
 
-/// Whether it is a jump of code in words that has no expansion: one that writes a data register, or
-/// a jalr with an offset.
+/// Whether the item is a jump of code in words that has no expansion: one that writes a data
+/// register, or a jalr with an offset.
 fn is_barred_jump(format: Format, body: &Body) -> bool
     ensures { result ≡ is_barred_jump format body.now }
 {
@@ -110,7 +111,7 @@ fn is_barred_jump(format: Format, body: &Body) -> bool
     }
 }
 
-/// The first of the faults that an item has wherever it stands, in the order of its four.
+/// The first of the four faults that an item can have wherever it stands, in their order.
 pub(crate) fn permit(format: Format, item: &Item) -> Result<(), RewriteFault>
     ensures permitted { IfOk result (λ _. IsPermitted format item.now) }
     ensures refused { IfErr result (HasItemFault format item.now) }

@@ -24,7 +24,7 @@ pub(crate) struct Laid {
     pub(crate) labels: Vec<u32>,
 }
 
-/// Adds an item, after its c.nops, to the code of the sandbox of that number.
+/// Adds an item, after its c.nops, to the code of sandbox `sandbox`.
 fn lay_item(
     format: Format,
     sandbox: u32,

@@ -10,7 +10,7 @@ use crate::placed::PlacedName;
 use sfi_source::{Named, SourcePart};
 use std::alloc::{AllocError, Global};
 
-/// What the name names, by the places that labels name.
+/// What the name names, by the places of the labels.
 fn placed_name(named: Named, labels: &[u32]) -> PlacedName
     requires { HasLabel (length labels.now) named }
     ensures { result ≡ placed_of labels.now named }
@@ -23,7 +23,7 @@ fn placed_name(named: Named, labels: &[u32]) -> PlacedName
     }
 }
 
-/// What the names of the sandbox name, by the places that labels name: one for each item, and last
+/// What the names of the sandbox name, by the places of the labels: one for each item, and last
 /// that of the end of the code.
 pub(crate) fn place_names(
     alloc: Global,

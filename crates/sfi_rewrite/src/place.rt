@@ -14,9 +14,9 @@ pub(crate) fn next_bundle(end: usize) -> u32
     (end.div_ceil(BUNDLE_BYTES) * BUNDLE_BYTES) as u32
 }
 
-/// How many c.nops stand between the end of what stands before an expansion of so many bytes and
-/// its place, which is the first that lies in one bundle, is not before the bundle start of its
-/// labels, and for a call ends its bundle.
+/// How many c.nops stand between `end`, where what stands before an expansion ends, and its place:
+/// the first from which its `size` bytes lie in one bundle, and, for a call, end it. Where the
+/// expansion has labels, it stands at or after the bundle start that they name.
 pub(crate) fn nops_before(end: usize, labelled: bool, call: bool, size: usize) -> usize
     requires end { end ≤ largest }
     requires even { end % 2 ≡ 0 }

@@ -12,9 +12,9 @@ use std::marker::Model;
 pub enum PlacedName {
     /// The gate of that number, counted from 0.
     Gate(usize),
-    /// A place in the code: so many bytes after the gates' stubs.
+    /// A place in the code, in bytes after the gates' stubs.
     Code(u32),
-    /// A place in the data: so many bytes after the data base.
+    /// A place in the data, in bytes after the data base.
     Data(u32),
     /// Nothing: the text never says what it names.
     Unknown,
@@ -47,6 +47,7 @@ impl Model for PlacedPart {
 }
 
 impl PlacedPart {
+    /// The sandbox with these parts.
     pub(crate) fn new(
         format: Format,
         data_size: u32,
@@ -137,6 +138,7 @@ impl Model for Placed {
 }
 
 impl Placed {
+    /// The sandboxes of a source, all placed.
     pub(crate) fn new(parts: Vec<PlacedPart>) -> Placed
         requires { IsPlaced parts.items }
         ensures { result ≡ parts.items }

@@ -24,7 +24,7 @@ pub record IsWithinBlock (b : BundlePlace) : Type 0 where
 abbrev pub bundle_at : BundlePlace → ℕ → BundlePlace
 bundle_at b n = record b { address = b.address + bundle_size * n; listed = false }
 
--- its bytes
+-- the bytes of the block's bundle of that number
 abbrev pub block_bundle : List ℕ → ℕ → List ℕ
 block_bundle block n = take bundle_size (drop (bundle_size * n) block)
 
@@ -41,6 +41,6 @@ bundle_place sandbox p n =
       listed = is_gate_of p.gates at;
     }
 
--- its bytes
+-- the bytes of the part's bundle of that number
 abbrev pub bundle_bytes : Part → ℕ → List ℕ
 bundle_bytes p n = take bundle_size (drop (bundle_size * n) p.code)

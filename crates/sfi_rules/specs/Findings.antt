@@ -65,7 +65,7 @@ AreFindingsOfFirst sandbox p (suc n) found =
     (front : List Finding) × (last : List Finding) × AreFindingsOfFirst sandbox p n front
     × AreBundleFindings (bundle_place sandbox p n) (bundle_bytes p n) last × (found ≡ front ++ last)
 
--- those of code in bundles: of all of them
+-- the findings of a part with code in bundles: of all its bundles
 abbrev pub AreFindingsInBundles : ℕ → Part → List Finding → Type 0
 AreFindingsInBundles sandbox p found = (bundles : ℕ) × (length p.code ≡ bundle_size * bundles)
     × AreFindingsOfFirst sandbox p bundles found
@@ -75,7 +75,8 @@ abbrev pub AreFindings : ℕ → Part → List Finding → Type 0
 AreFindings sandbox p found = MatchBool (has_words p.format) (AreFindingsInWords sandbox p found)
     (AreFindingsInBundles sandbox p found)
 
--- those of its first n bundles, and what is owed after them: in code in bundles nothing ever is
+-- the findings of the part's first n bundles, and what is owed after them: in code in bundles
+-- nothing ever is
 abbrev pub AreFoundUpTo : ℕ → Part → ℕ → List Finding → Owed → Type 0
 AreFoundUpTo sandbox p n found owed = MatchBool (has_words p.format)
     (AreFoundOfFirst sandbox p n found owed)

@@ -52,7 +52,7 @@ FirstFormatHasNoStack =
     → ((base : ℕ) (earlier : List Instr)
     → may_access x.bundle base earlier ≡ follows_data_pair base earlier) × (breaks x V10 ≡ false)
 
--- so V10 is no finding of a part of that format
+-- V10 is no finding of a part of the first format
 abbrev pub FirstFormatFindsNoV10 : Type 0
 FirstFormatFindsNoV10 = (sandbox : ℕ) (p : Part) (found : List Finding) → p.format ≡ Sfi1
     → AreFindings sandbox p found → All (λ f. f.rule ≢ V10) found

@@ -14,7 +14,7 @@ IsReading bytes [] = Unit {0}
 IsReading bytes (x ∷ reading) =
     Spells (take x.size bytes) x.instr x.size × IsReading (drop x.size bytes) reading
 
--- a reading, and none has more pieces
+-- a reading of the bytes, such that no reading has more pieces
 pub record IsLongestReading (bytes : List ℕ) (reading : List Piece) : Type 0 where
   pub is_reading : IsReading bytes reading
   pub longest : (other : List Piece) → IsReading bytes other → length other ≤ length reading

@@ -28,7 +28,7 @@ abbrev pub is_empty : {A : Type 0} → List A → Bool
 is_empty [] = true
 is_empty (x ∷ xs) = false
 
--- a multiple of a bundle's size in the bundle's code region
+-- the address is a multiple of a bundle's size in the bundle's code region
 abbrev pub is_bundle_start : BundlePlace → ℕ → Bool
 is_bundle_start b a =
     nat_le b.code_base a && nat_lt a (b.code_base + b.code_size) && (a % bundle_size == 0)
@@ -38,7 +38,7 @@ abbrev pub breaks_ecall : Place → Instr → Bool
 breaks_ecall x Ecall = not (is_empty x.earlier && x.bundle.listed)
 breaks_ecall x _ = false
 
--- it is a reserved register's number
+-- there is a number, and it is a reserved register's
 abbrev pub is_reserved_one : Option ℕ → Bool
 is_reserved_one None = false
 is_reserved_one (Some r) = is_reserved r
@@ -59,7 +59,8 @@ breaks_access x (Load kind rd rs1 imm) = not (may_access x.bundle rs1 x.earlier)
 breaks_access x (Store width rs1 rs2 imm) = not (may_access x.bundle rs1 x.earlier)
 breaks_access x _ = false
 
--- V6: a jalr whose offset is not 0, or the two directly before it are not the code pair on its base
+-- V6: a jalr whose offset is not 0, or before which the two instructions directly before it are not
+-- the code pair on its base
 abbrev pub breaks_jump : Place → Instr → Bool
 breaks_jump x (Jalr rd rs1 (pos n)) = not ((n == 0) && follows_code_pair rs1 x.earlier)
 breaks_jump x (Jalr rd rs1 (negsuc n)) = true
@@ -72,7 +73,7 @@ breaks_target x (Branch condition rs1 rs2 offset) =
     not (is_bundle_start x.bundle (offset_by x.address offset))
 breaks_target x _ = false
 
--- an ebreak, jal or jalr, after which control never runs on
+-- the instruction is an ebreak, jal or jalr, after which control never runs on
 abbrev pub ends_region : Instr → Bool
 ends_region (Jal rd offset) = true
 ends_region (Jalr rd rs1 imm) = true
@@ -88,13 +89,14 @@ is_last_bundle b = b.address + bundle_size == b.code_base + b.code_size
 abbrev pub breaks_end : Place → Instr → Bool
 breaks_end x i = is_last_bundle x.bundle && (x.whole && is_empty x.later) && not (ends_region i)
 
--- it stands in the pair on x2, or directly before it and control runs on
+-- the instruction is one of the pair on x2, or the pair stands directly after it and control runs
+-- on into it
 abbrev pub may_write_stack : Place → Instr → Bool
 may_write_stack x i =
     begins_pair i x.later || ends_pair x.earlier i || (not (is_jump i) && precedes_pair x.later)
 
--- V10: it writes the stack pointer, and does not stand so.
--- (Where the format has none this is never broken.)
+-- V10: the instruction writes the stack pointer, and may not. (Where the format has none this is
+-- never broken.)
 abbrev pub breaks_stack : Place → Instr → Bool
 breaks_stack x i = writes_stack x.bundle i && not (may_write_stack x i)
 

@@ -7,7 +7,7 @@ use crate::rule::Rule;
 pub struct Finding {
     /// The sandbox's place in the image, counted from 0.
     pub sandbox: u32,
-    /// That of the first byte of the instruction, or of what is none.
+    /// The address of the instruction's first byte, or of bytes that are no instruction.
     pub address: u32,
     pub rule: Rule,
 }

@@ -5,11 +5,12 @@
 pub enum Owed {
     /// No instruction in particular.
     Nothing,
-    /// The register is masked into x31, and then placed.
+    /// The data register is masked into x31, and then placed.
     Mask(u8),
-    /// It is placed: `or d, x31, x26`.
+    /// The data register is placed: `or d, x31, x26`.
     Place(u8),
-    /// It is masked and placed, or is the base of a load or store with an offset from -1020 to 1020.
+    /// The data register is masked and placed, or is the base of a load or store with an offset
+    /// from -1020 to 1020.
     MaskOrUse(u8),
     /// The code register is placed: `or x30, x30, x24`.
     Code,

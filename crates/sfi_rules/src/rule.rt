@@ -5,7 +5,7 @@ ghost use Rattle.std.specs.Prelude.{◌≡◌};
 /// formats, or in words.
 #[derive(Clone, Copy, PartialEq, Eq, Debug)]
 pub enum Rule {
-    /// What stands there is no instruction.
+    /// The bytes are no instruction.
     V1,
     /// A 32-bit instruction crosses the bundle's end, or in words isn't at a multiple of 4.
     V2,

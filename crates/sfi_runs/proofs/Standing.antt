@@ -9,7 +9,7 @@ use Rattle.sfi_image.proofs.Facts.{code_ends}
 use Rattle.sfi_runs.specs.Regions.{InCode}
 use Rattle.sfi_runs.proofs.Stepping.{read_all}
 
--- pc is at an offset of the code, from which so many bytes lie in it
+-- pc is at `offset` of the code, and the `n` bytes from there on lie in the code
 module _ (p : Part) (right : IsRightPart p) (h : Hart) (offset n : ℕ) (pc : h.pc ≡ p.code_base + offset) (within : offset + n ≤ length p.code) where
   address_is : (k : ℕ) → k < n → address_after h.pc k ≡ p.code_base + (offset + k)
   address_is k below = let end = code_ends p right in omega arith

@@ -83,7 +83,7 @@ module _ (p : Part) (right : IsRightPart p) (apart : AreApart (code_region p) (g
     traps a has guard Call e = absurd (no_call i n s.hart s.memory a has (ap (λ (x : Stepped). x.outcome) (sym step_is) ∙ e))
     traps a has guard (Trap cause at) e = tt
 
-    -- so it is safe, where it calls at a gate alone
+    -- the step is safe, if it calls at a gate alone
     pub step_safe : (r.outcome ≡ Call → IsGate p s.hart.pc) → IsSafeStep p s r
     step_safe called = record {
       within = λ j k there a has. near a (subst (λ (x : Instr). Accesses x s.hart a) (only j k there).0 has);

@@ -21,15 +21,17 @@ pub record CallsTypedFrom (p : Part) (s : State) : Type 0 where
   pub typed : (turns : List Turn) (at : State) (n : ℕ) → IsRun p (Some s) turns
       → after_turns (Some s) turns ≡ Some at → Stands at Ecall n → IsTyped p at.hart.registers
 
--- every run from this state is safe, and calls so: what a world keeps of each sandbox
+-- every run from this state is safe, and makes its calls with the typed registers as their types
+-- say: what a world keeps of each sandbox
 pub record GoesSafelyFrom (p : Part) (s : State) : Type 0 where
   pub safe : RunsSafelyFrom p s
   pub calls : CallsTypedFrom p s
 
--- it calls so in every run from every state in which the sandbox may be entered
+-- in every run from every state in which the sandbox may be entered, calls are made with the typed
+-- registers as their types say
 pub record CallsTyped (p : Part) : Type 0 where
   pub from : (s : State) → IsEntry p s → CallsTypedFrom p s
 
--- each of the sandboxes calls so
+-- each of the sandboxes makes its calls with the typed registers as their types say
 pub record AllCallTyped (ps : List Part) : Type 0 where
   pub each : All CallsTyped ps

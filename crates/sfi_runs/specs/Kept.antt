@@ -4,8 +4,8 @@ use Rattle.rv_step.specs.State.{State}
 use Rattle.sfi_image.specs.Spelling.{Part}
 use Rattle.sfi_runs.specs.Regions.{HasReserved, HasCode, HasEmptyGuards}
 
--- there are 32 registers, the reserved ones hold what is theirs, the code has the image's bytes, and no
--- byte is in the guard zones
+-- there are 32 registers, the reserved ones hold their values, the code has the image's bytes, and
+-- no byte is in the guard zones
 pub record KeepsAll (p : Part) (s : State) : Type 0 where
   pub count : length s.hart.registers ≡ 32
   pub reserved : HasReserved p s.hart.registers

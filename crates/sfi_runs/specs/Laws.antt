@@ -19,25 +19,26 @@ use Rattle.sfi_runs.specs.Runs.{Turn, IsTurn, IsEntry, after_turn}
 use Rattle.sfi_runs.specs.Safety.{IsSafeState, IsSafeTurn, RunsSafelyFrom}
 use Rattle.sfi_runs.specs.Calls.{GoesSafelyFrom}
 
--- from where every run is safe, the state is, and each turn
+-- where every run from a state is safe, the state is safe, and so is each turn from it
 abbrev pub SafeTurns : Type 0
 SafeTurns = (p : Part) (s : State) (turn : Turn) → RunsSafelyFrom p s → IsTurn p s turn
     → IsSafeState p s × IsSafeTurn p s turn
 
--- and every run is safe after that turn too
+-- where every run from a state is safe, every run is safe after each turn, too
 abbrev pub SafeStaysSafe : Type 0
 SafeStaysSafe =
     (p : Part) (s after : State) (turn : Turn) → RunsSafelyFrom p s → IsTurn p s turn
     → after_turn turn ≡ Some after
     → RunsSafelyFrom p after
 
--- from where every run is safe, no step traps for want of an instruction at pc
+-- where every run from a state is safe, no step traps for want of an instruction at pc
 abbrev pub SafeFetches : Type 0
 SafeFetches =
     (p : Part) (s : State) (r : Stepped) (at : ℕ) → RunsSafelyFrom p s → IsStep s r
     → (r.outcome ≢ Trap Fetch at) × (r.outcome ≢ Trap Illegal at)
 
--- from where every run is safe and calls so, it goes on so after each turn
+-- where every run from a state is safe and makes its calls with the typed registers set, so it is
+-- after each turn
 abbrev pub GoesOnSafely : Type 0
 GoesOnSafely =
     (p : Part) (s after : State) (turn : Turn) → GoesSafelyFrom p s → IsTurn p s turn

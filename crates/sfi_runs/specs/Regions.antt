@@ -8,11 +8,11 @@ use Rattle.sfi_image.specs.Registers.{reserved_of}
 use Rattle.sfi_image.specs.Spans.{Holds, InGuards, code_region, data_region}
 use Rattle.rv_mem.specs.Bytes.{Bytes, byte_at}
 
--- the address is one of the code's
+-- the address is one of the code region's
 abbrev pub InCode : Part → ℕ → Type 0
 InCode p a = Holds (code_region p) a
 
--- the address is one of the data's
+-- the address is one of the data region's
 abbrev pub InData : Part → ℕ → Type 0
 InData p a = Holds (data_region p) a
 
@@ -24,12 +24,13 @@ InGuard p a = InGuards (data_region p) a
 abbrev pub IsGate : Part → ℕ → Type 0
 IsGate p a = (k : ℕ) × (g : Gate) × (slice_get p.gates k ≡ Some g) × (g.address ≡ a)
 
--- a unit of the format's code begins there, a bundle or a word: a multiple of its size in the code
+-- the address is a multiple, in the code region, of the size of the format's unit of code, a bundle
+-- or a word
 pub record IsUnitStart (p : Part) (a : ℕ) : Type 0 where
   pub held : InCode p a
   pub aligned : a % unit p.format ≡ 0
 
--- the reserved registers hold what is theirs
+-- the reserved registers hold the sandbox's values
 pub record HasReserved (p : Part) (registers : List ℕ) : Type 0 where
   pub code_base : slice_index registers code_base_register ≡ (reserved_of p).code_base
   pub code_mask : slice_index registers code_mask_register ≡ (reserved_of p).code_mask

@@ -24,7 +24,7 @@ pub record IsEntry (p : Part) (s : State) : Type 0 where
 
 -- ---- turns
 
--- the code's bytes stay, and where a guard has none it gets none
+-- the code's bytes stay, and an address of a guard zone without a byte gets none
 pub record KeepsBytes (p : Part) (before after : Bytes) : Type 0 where
   pub code : (a : ℕ) → InCode p a → byte_at after a ≡ byte_at before a
   pub guards : (a : ℕ) → InGuard p a → byte_at before a ≡ None → byte_at after a ≡ None
@@ -36,8 +36,8 @@ pub record KeepsReserved (before after : Hart) : Type 0 where
   pub data_base : register after data_base_register ≡ register before data_base_register
   pub data_mask : register after data_mask_register ≡ register before data_mask_register
 
--- a reply to the ecall at pc: it goes on after that, and keeps the reserved registers, the code and
--- empty guards; the typed registers hold what their types say. All else is arbitrary.
+-- a reply to the ecall at pc: the sandbox goes on after it, and keeps the reserved registers, the
+-- code and empty guards; the typed registers hold what their types say. All else is arbitrary.
 pub record IsReply (p : Part) (before after : State) : Type 0 where
   pub size : ℕ
   pub asked : Stands before Ecall size
@@ -55,13 +55,14 @@ pub record IsChange (p : Part) (before after : State) : Type 0 where
   pub registers : after.hart.registers ≡ before.hart.registers
   pub bytes : KeepsBytes p before.memory after.memory
 
--- a step of the machine, a reply, or a change by others; the last two with the state after them
+-- a turn: a step of the machine, a reply, or a change by others; the last two with the state after
+-- them
 pub data Turn : Type 0 where
   Steps : Stepped → Turn
   Replies : State → Turn
   Changes : State → Turn
 
--- such a turn may come at this state
+-- this turn may come at this state
 abbrev pub IsTurn : Part → State → Turn → Type 0
 IsTurn p s (Steps r) = IsStep s r
 IsTurn p s (Replies after) = IsReply p s after

@@ -18,8 +18,8 @@ pub record HasInstruction (s : State) : Type 0 where
   pub size : ℕ
   pub stands : Stands s instr size
 
--- the code's bytes are the image's, an instruction stands at pc,
--- and pc and each byte of it lie in the code region
+-- the code's bytes are the image's, an instruction stands at pc, and pc and each of the
+-- instruction's bytes lie in the code region
 pub record IsSafeState (p : Part) (s : State) : Type 0 where
   pub code : HasCode p s.memory
   pub present : HasInstruction s
@@ -42,13 +42,13 @@ pub record IsSafeStep (p : Part) (s : State) (r : Stepped) : Type 0 where
       → InGuard p a → IsTrap r.outcome
   pub called : r.outcome ≡ Call → IsGate p s.hart.pc
 
--- the turn is safe: a reply too is at a listed gate
+-- the turn is safe: a reply, too, is made at a listed gate
 abbrev pub IsSafeTurn : Part → State → Turn → Type 0
 IsSafeTurn p s (Steps r) = IsSafeStep p s r
 IsSafeTurn p s (Replies after) = IsGate p s.hart.pc
 IsSafeTurn p s (Changes after) = Unit {0}
 
--- each state of the run is safe, and each turn (a trap ends the run in the state before it)
+-- each state and each turn of the run is safe (a trap ends the run in the state before it)
 abbrev pub IsSafeRun : Part → Option State → List Turn → Type 0
 IsSafeRun p None turns = Unit {0}
 IsSafeRun p (Some s) [] = IsSafeState p s
@@ -59,7 +59,7 @@ IsSafeRun p (Some s) (turn ∷ turns) =
 pub record RunsSafelyFrom (p : Part) (s : State) : Type 0 where
   pub safe : (turns : List Turn) → IsRun p (Some s) turns → IsSafeRun p (Some s) turns
 
--- so is every run from every state in which the sandbox may be entered
+-- every run from every state in which the sandbox may be entered is safe
 pub record RunsSafely (p : Part) : Type 0 where
   pub from : (s : State) → IsEntry p s → RunsSafelyFrom p s
 

@@ -13,12 +13,13 @@ StackInData p registers = has_stack p.format ≡ true → InData p (slice_index 
 
 -- ---- of code in words
 
--- a multiple of 4 in the code region
+-- the address is a multiple of 4 in the code region
 pub record IsWordStart (p : Part) (a : ℕ) : Type 0 where
   pub held : InCode p a
   pub aligned : a % word_size ≡ 0
 
--- in the data region, or at most so many bytes below its first byte or above its last
+-- address `a` lies in the data region, or at most `far` bytes below its first byte or above its
+-- last
 pub record IsNear (p : Part) (far a : ℕ) : Type 0 where
   pub low : p.data_base ≤ a + far
   pub high : a < p.data_base + p.data_size + far

@@ -47,7 +47,7 @@ Leads sandbox p h (Trap cause at) h' = Unit {0}
 lies : (sandbox : ℕ) (p : Part) (h : Hart) (i : Instr) (n : ℕ) → Here sandbox p h i n → is_of_pair i ≡ false → StackInData p h.registers
 lies sandbox p h i n here other = stack_here p here.place.earlier (record { instr = i; size = n }) here.place.later h.registers other here.stack
 
--- so does the base of an access that breaks no rule
+-- the base of an access that breaks no rule lies in the data or the guards
 base_lies : (sandbox : ℕ) (p : Part) (h : Hart) (i : Instr) (n : ℕ) (here : Here sandbox p h i n) → is_of_pair i ≡ false → (base : ℕ) → may_access here.place.bundle base here.place.earlier ≡ true
     → InData p (register h base)
 base_lies sandbox p h i n here other base may =
@@ -94,7 +94,7 @@ module _ (sandbox : ℕ) (p : Part) (h : Hart) (m : Bytes) (right : IsRightPart 
       let other : (rd == 2) ≡ false = rw has at free in
       kept rd value 2 k (λ e. eqb-false rd 2 other (sym e))
 
-  -- it writes a register and goes on
+  -- the instruction writes a register and goes on
   by_writing : (i : Instr) (n rd value : ℕ) (here : Here sandbox p h i n) → destination i ≡ Some rd → is_reserved rd ≡ false → ends_region i ≡ false → WritesResult i h (with_register (past h n) rd value) → IsGoodHart sandbox p (with_register (past h n) rd value)
   by_writing i n rd value here dest free goes writes =
       let h' = with_register (past h n) rd value in
@@ -102,7 +102,7 @@ module _ (sandbox : ℕ) (p : Part) (h : Hart) (m : Bytes) (right : IsRightPart 
       let stack = stack_after p here.place i n h.registers h'.registers here.format here.writing (keeps here.place.bundle i rd value (past h n) dest) leaves here.stack in
       good_writing (address_after h.pc n) rd value free (here.goes h' refl goes leaves stack)
 
-  -- it writes no register and goes on
+  -- the instruction writes no register and goes on
   by_moving : (i : Instr) (n : ℕ) (here : Here sandbox p h i n) → ends_region i ≡ false → WritesResult i h (past h n) → IsGoodHart sandbox p (past h n)
   by_moving i n here goes writes =
       let leaves = leaves_writing (past h n) i n here writes in

@@ -85,7 +85,7 @@ at_start sandbox p h clean start stack =
 -- ---- the one instruction there
 
 module _ (sandbox : ℕ) (p : Part) (h : Hart) (clean : AreCleanBundles sandbox p) (at : IsAtPlace sandbox p h) where
-  -- it lies in the bundle
+  -- the instruction lies in the bundle
   within_here : (0 < at.here.size) × (at.here.size ≤ length (drop at.offset (bundle_bytes p at.number)))
   within_here = spelled_within (drop at.offset (bundle_bytes p at.number)) at.here.instr at.here.size at.reading.0
 

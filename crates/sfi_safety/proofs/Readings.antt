@@ -31,7 +31,7 @@ most bytes (x ∷ xs) (y ∷ ys) a end b =
     let rest = most (drop x.size bytes) xs ys a.1 end (subst (λ (n : ℕ). IsReading (drop n bytes) ys) (sym e.1) b.1) in
     omega (arith, rest)
 
--- so such a reading is the longest
+-- a reading after which no instruction begins is the longest
 pub longest_of : (bytes : List ℕ) (reading : List Piece) → IsReading bytes reading → BeginsNothing (rest_of bytes reading) → IsLongestReading bytes reading
 longest_of bytes reading is end = record { is_reading = is; longest = λ other h. most bytes reading other is end h }
 
@@ -115,7 +115,7 @@ four_words place bytes a b c d found unlisted is sa sb sc sd e =
     subst (λ (l : List ℕ). AreBundleFindings place l found) is
     (read_bundle place (bytes_of (words_of (a ∷ b ∷ c ∷ d ∷ []))) (four a b c d) [] found unlisted (sa, (sb, (sc, (sd, tt)))) refl (nothing_begins [] refl) (append-nil (findings_from place true place.address [] (four a b c d)) ∙ e))
 
--- such a bundle is read as these four
+-- a bundle of the words of four instructions is read as these four
 pub four_longest : (bytes : List ℕ) (a b c d : Instr) → bytes_of (words_of (a ∷ b ∷ c ∷ d ∷ [])) ≡ bytes → IsSpelled a → IsSpelled b → IsSpelled c → IsSpelled d → IsLongestReading bytes (four a b c d)
 four_longest bytes a b c d is sa sb sc sd =
     subst (λ (l : List ℕ). IsLongestReading l (four a b c d)) is

@@ -187,7 +187,7 @@ then_turn p s after turn is e rest = record {
   unsafe = λ safe. rest.unsafe (subst (λ (o : Option State). IsSafeRun p o rest.turns) e safe.2);
 }
 
--- it has left the code
+-- where pc has left the code, the run isn't safe
 pub has_left : (p : Part) (m : Bytes) (h : Hart) → (InCode p h.pc → ⊥) → HasUnsafeRun p (record { hart = h; memory = m })
 has_left p m h out = record { turns = []; run = tt; unsafe = λ safe. out safe.pc }
 
@@ -200,7 +200,7 @@ module _ (s : Sample) (is : IsSample s) (m : Bytes) (code : HasCode (sandbox s) 
   pub then_step : (h' : Hart) → effect i n h m ≡ next h' m → HasUnsafeRun (sandbox s) (record { hart = h'; memory = m }) → HasUnsafeRun (sandbox s) (record { hart = h; memory = m })
   then_step h' e rest = then_turn (sandbox s) (record { hart = h; memory = m }) (record { hart = h'; memory = m }) (Steps (effect i n h m)) step_at (ap (λ (r : Stepped). after_step r.outcome r.state) e) rest
 
-  -- it accesses an address far below the data
+  -- where the instruction accesses an address far below the data, the run isn't safe
   pub reaches : (a : ℕ) → Accesses i h a → a + 4096 < 0x01800000 → HasUnsafeRun (sandbox s) (record { hart = h; memory = m })
   reaches a has below = record {
     turns = Steps (effect i n h m) ∷ [];
@@ -213,7 +213,7 @@ module _ (s : Sample) (is : IsSample s) (m : Bytes) (code : HasCode (sandbox s) 
       far (inr (inl (from, under))) = omega arith
       far (inr (inr (from, under))) = omega arith
 
-  -- it is a call, and there is no gate
+  -- where the instruction calls at no gate, the run isn't safe
   pub calls_elsewhere : effect i n h m ≡ unchanged Call h m → (IsGate (sandbox s) h.pc → ⊥) → HasUnsafeRun (sandbox s) (record { hart = h; memory = m })
   calls_elsewhere e nowhere = record {
     turns = Steps (effect i n h m) ∷ [];

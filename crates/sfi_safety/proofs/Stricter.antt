@@ -14,7 +14,7 @@ abbrev StopsAt : Sample → ℕ → Type 0
 StopsAt s n = Spells (take 4 (drop (16 * n) (sandbox s).code)) Ebreak 4
 
 module _ (s : Sample) (is : IsSample s) (bundles : has_words s.format ≡ false) (stops : (n : ℕ) → n < 16 → StopsAt s n) where
-  -- it stands at the start of a bundle, with the code as it was
+  -- the sandbox stands at the start of a bundle, with the code as it was
   record IsStopped (t : State) : Type 0 where
     code : HasCode (sandbox s) t.memory
     number : ℕ

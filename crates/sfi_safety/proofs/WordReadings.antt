@@ -9,7 +9,7 @@ use Rattle.sfi_safety.proofs.Readings.{IsSpelled, BeginsNothing, nothing_begins,
 
 -- ---- a word
 
--- it has the findings of its reading and of what that leaves
+-- a word has the findings of its reading and of the bytes that the reading leaves
 pub read_word : (b : BundlePlace) (at : ℕ) (owed next : Owed) (word : List ℕ) (reading : List Piece) (rest : List ℕ) (found : List Finding) → IsReading word reading → rest_of word reading ≡ rest → BeginsNothing rest
     → found_from b at owed reading ++ rest_finding b (at + (4 - length rest)) rest ≡ found → cond (is_empty rest) (owed_past owed reading) Nothing ≡ next → IsWordFound b at owed word found next
 read_word b at owed next word reading rest found is left end e f = record {
@@ -19,7 +19,7 @@ read_word b at owed next word reading rest found is left end e f = record {
   next_is = sym (subst (λ (rest : List ℕ). cond (is_empty rest) (owed_past owed reading) Nothing ≡ next) (sym left) f);
 }
 
--- that of an instruction
+-- the findings of a word that is one instruction
 pub one_word : (b : BundlePlace) (at : ℕ) (owed next : Owed) (i : Instr) (found : List Finding) → IsSpelled i → found_from b at owed (wide i ∷ []) ≡ found → owed_next owed i ≡ next → IsWordFound b at owed (to_le_bytes w32 (spelling i)) found next
 one_word b at owed next i found s e f = read_word b at owed next (to_le_bytes w32 (spelling i)) (wide i ∷ []) [] found (s, tt) refl (nothing_begins [] refl) (append-nil (found_from b at owed (wide i ∷ [])) ∙ e) f
 
@@ -81,12 +81,12 @@ module _ (a b c d i j k l : ℕ) where
       let at12 = more 11 x refl (more 10 x refl (more 9 x refl (more 8 x refl at8))) in
       more 14 x refl (more 13 x refl (more 12 x refl at12))
 
-  -- so all have those of the first and of the last
+  -- all bundles together have the findings of the first and of the last
   pub all_found : (x z : List Finding) (next : Owed) → AreFoundInBundle (bundle_place 0 (sandbox s) 0) Nothing (bundle_bytes (sandbox s) 0) x Nothing → AreFoundInBundle (bundle_place 0 (sandbox s) 15) Nothing (bundle_bytes (sandbox s) 15) z next
       → AreFindingsInWords 0 (sandbox s) (x ++ z)
   all_found x z next first last = (16, next, refl, (x, z, Nothing, before_last x first, last, refl))
 
--- those of the first, where the last is ebreaks
+-- all bundles together have the findings of the first, where the last is ebreaks
 pub first_found : (a b c d : ℕ) (x : List Finding) → AreFoundInBundle (bundle_place 0 (sandbox (s a b c d brk brk brk brk)) 0) Nothing (bundle_bytes (sandbox (s a b c d brk brk brk brk)) 0) x Nothing → AreFindingsInWords 0 (sandbox (s a b c d brk brk brk brk)) x
 first_found a b c d x first =
     let p = sandbox (s a b c d brk brk brk brk) in

@@ -15,8 +15,8 @@ use Rattle.sfi_safety.specs.Places.{IsCleanPart, AreCleanBundles, IsGood, IsGood
 
 -- ---- of code in bundles
 
--- where the instructions before a place have left what `Leaves` says, so has the one there,
--- whatever it is
+-- where the instructions before a place have left what `Leaves` says, so has the instruction at the
+-- place, whatever it is
 abbrev pub InstructionLeaves : Type 0
 InstructionLeaves =
     (p : Part) (before after : Hart) (i : Instr) (earlier : List Instr) → IsRightPart p

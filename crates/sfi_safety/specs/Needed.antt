@@ -31,7 +31,7 @@ pub record HasUnsafeRun (p : Part) (s : State) : Type 0 where
   pub run : IsRun p (Some s) turns
   pub unsafe : IsSafeRun p (Some s) turns → ⊥
 
--- ---- no other rule
+-- ---- that no other rule is broken
 
 -- The instruction at this address is one of its bundle's longest reading,
 -- and it breaks this rule and no other.
@@ -52,7 +52,7 @@ pub record BreaksAloneInBundle (rule : Rule) (address : ℕ) (p : Part) : Type 0
         whole = is_empty (rest_of (bundle_bytes p number) (reverse earlier ++ here ∷ later));
       }) r) all_rules ≡ rule ∷ []
 
--- this is owed before that word of that bundle of code in words, both counted from 0
+-- `owed` is owed before word `word` of bundle `number` of code in words, both counted from 0
 pub record IsOwedBefore (p : Part) (number word : ℕ) (owed : Owed) : Type 0 where
   pub front : List Finding  -- the findings of the bundles before it
   pub between : Owed  -- what is owed after these
@@ -84,14 +84,15 @@ pub record BreaksAloneInWord (rule : Rule) (address : ℕ) (p : Part) : Type 0 w
         size = here.size;
       }) r) all_rules ≡ rule ∷ []
 
--- by whether the code is in words
+-- the instruction at this address breaks this rule and no other, of code in bundles or of code in
+-- words
 abbrev pub BreaksAlone : Rule → ℕ → Part → Type 0
 BreaksAlone rule address p = MatchBool (has_words p.format) (BreaksAloneInWord rule address p)
     (BreaksAloneInBundle rule address p)
 
--- No other rule is broken where that rule's finding is. V1 and V2 are found where no instruction
--- is read, so there is none. V9 stands in place of all findings of its bundle,
--- and of these nothing is said.
+-- No other rule is broken where this rule's finding is. V1 and V2 are found where no instruction is
+-- read, so no other rule is broken there. V9 stands in place of all findings of its bundle, and
+-- nothing is said of these.
 abbrev pub BreaksNoOther : Rule → ℕ → Part → Type 0
 BreaksNoOther V1 address p = Unit {0}
 BreaksNoOther V2 address p = Unit {0}
@@ -122,12 +123,12 @@ EachRuleIsNeeded = (f : Format) → has_words f ≡ false
     → (rule : Rule) → number_of rule ≤ 10 → (rule ≡ V10 → has_stack f ≡ true)
     → (address : ℕ) × (p : Part) × (p.format ≡ f) × IsNeeded rule address p
 
--- and so is each of code in words: all but V9, which is none of these
+-- each rule of code in words is needed, too: all but V9, which is none of these
 abbrev pub EachRuleOfWordsIsNeeded : Type 0
 EachRuleOfWordsIsNeeded = (rule : Rule) → rule ≢ V9
     → (address : ℕ) × (p : Part) × (has_words p.format ≡ true) × IsNeeded rule address p
 
--- ---- one that is stricter
+-- ---- a rule that is stricter than safety asks
 
 -- The rule is stricter than safety asks: the image of this sandbox has a right layout and one
 -- finding, that rule at this address, and every run from every entry is safe.
@@ -135,7 +136,7 @@ pub record IsStricter (rule : Rule) (address : ℕ) (p : Part) : Type 0 where
   pub refused : HasOneFinding p (record { sandbox = 0; address = address; rule = rule })
   pub safe : RunsSafely p
 
--- ---- an accepted one
+-- ---- an accepted sandbox that does something
 
 -- a run in which others change a byte of the data,
 -- and three steps later the sandbox has stored one there
@@ -153,7 +154,7 @@ pub record StoresByte (p : Part) : Type 0 where
   pub before : byte_at changed.memory address ≡ Some 0
   pub after : byte_at stored.state.memory address ≡ Some 240
 
--- there is an accepted image of this sandbox, and such a run of it
+-- there is an accepted image of this sandbox, which has such a run
 pub record IsAcceptedAndRuns (p : Part) : Type 0 where
   pub bytes : List ℕ
   pub accepted : IsAccepted bytes (p ∷ [])

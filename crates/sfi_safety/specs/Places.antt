@@ -25,7 +25,7 @@ pub record IsCleanPart (sandbox : ℕ) (p : Part) : Type 0 where
   pub apart : AreApart (code_region p) (guarded_region p)
   pub none_found : AreFindings sandbox p []
 
--- the same, where its code is in bundles
+-- the part of the sandbox of that number is clean, and its code is in bundles
 pub record AreCleanBundles (sandbox : ℕ) (p : Part) : Type 0 where
   pub bundles : has_words p.format ≡ false
   pub right : IsRightPart p

@@ -56,7 +56,7 @@ ebreaks = words_of (replicate 4 Ebreak)
 abbrev pub code_as : Format → List Instr → Sample
 code_as f is = record { format = f; gates = []; first_words = words_of is; last_words = ebreaks }
 
--- the same in the first format
+-- 8 instructions and then ebreaks, without a gate, in the first format
 abbrev pub code : List Instr → Sample
 code is = code_as Sfi1 is
 
@@ -153,10 +153,10 @@ abbrev pub stack_not_put_back : Sample
 stack_not_put_back = code_as Sfi2 (OpImm Addi stack_pointer 0 (pos 0)
     ∷ Store Sw stack_pointer 11 (pos 0) ∷ Ebreak ∷ Ebreak ∷ Ebreak ∷ Ebreak ∷ Ebreak ∷ Ebreak ∷ [])
 
--- ---- refused, and safe: an ebreak stands before what the rule is broken by,
--- and at each other bundle's start
+-- ---- samples that are refused, and safe: an ebreak stands before what breaks the rule, and at the
+-- start of each other bundle
 
--- V1
+-- V1: a word that spells no instruction
 abbrev pub undecodable_after_ebreak : Sample
 undecodable_after_ebreak = record {
   format = Sfi1;
@@ -174,12 +174,12 @@ crossing_after_ebreak = record {
   last_words = ebreaks;
 }
 
--- V3
+-- V3: an ecall
 abbrev pub ecall_after_ebreak : Sample
 ecall_after_ebreak =
     code (Ebreak ∷ Ecall ∷ Ebreak ∷ Ebreak ∷ Ebreak ∷ Ebreak ∷ Ebreak ∷ Ebreak ∷ [])
 
--- V8
+-- V8: nops up to the region's end
 abbrev pub nops_after_ebreak : Sample
 nops_after_ebreak = record {
   format = Sfi1;
@@ -188,7 +188,7 @@ nops_after_ebreak = record {
   last_words = words_of (Ebreak ∷ nop ∷ nop ∷ nop ∷ []);
 }
 
--- ---- none
+-- ---- a sample that breaks no rule
 
 -- a store after its pair, and a jump back
 abbrev pub sandboxed_store : Sample

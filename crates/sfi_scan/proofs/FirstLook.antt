@@ -92,7 +92,7 @@ clean_is x last clean = clean_one x.bundle x.address x.earlier x.instr x.later x
 
 -- ---- the stack pointer written, and put back
 
--- it computes into the stack pointer, or loads into it from near it
+-- an instruction with this outline computes into the stack pointer, or loads into it from near it
 abbrev pub IsWrite : Outline → Type 0
 IsWrite o = (o ≡ Computes 2) ⊎ (o ≡ Loads 2 2)
 

@@ -47,7 +47,7 @@ below_end b code n at k run is less =
 
 -- ---- what is told at a front
 
--- it tells of the bundles alone
+-- `R` depends on the bundles' bytes and places alone
 abbrev pub IsOfBundles : (BundlePlace → List ℕ → ℕ → Type 0) → Type 0
 IsOfBundles R = (b : BundlePlace) (xs ys : List ℕ) (n : ℕ) → ((i : ℕ) → i < n → block_bundle xs i ≡ block_bundle ys i) → R b xs n → R b ys n
 
@@ -92,7 +92,7 @@ bundle_front R same b c code bundle at k is place bytes enough h = record {
 
 -- ---- the walk
 
--- it begins where no bundle has been passed yet
+-- a walk begins where no bundle has been passed yet
 pub run_none : {code : List ℕ} {holds : ℕ → Type 0} (at k : ℕ) → at ≡ 16 * k → at ≤ length code → holds 0 → AreBundlesTo code k at holds
 run_none at k is inside none = record {
   bundles = 0;
@@ -124,7 +124,7 @@ walk_nearer at_is front =
     let some = front.told.0 in
     omega (arith, at_is, front.end_is, some, front.inside)
 
--- it goes on over more bundles, from bundle m on
+-- a walk goes on over more bundles, from bundle m on
 pub walk_on : {code : List ℕ} {k m at end : ℕ} {holds told after : ℕ → Type 0} (b : BundlePlace) (w : AreBundlesTo code k at holds) → at ≡ 16 * m → AreBundlesTo code m end told
     → ((n : ℕ) → ((i : ℕ) → i < n → stretch_place (stretch_place b m) i ≡ stretch_place (stretch_place b k) (w.bundles + i))
     → ((i : ℕ) → i < n → block_bundle (drop (16 * m) code) i ≡ block_bundle (drop (16 * k) code) (w.bundles + i)) → told n → after (w.bundles + n))

@@ -31,7 +31,7 @@ one_gate (g ∷ gs) (suc k) d less = rw (one_gate gs k d (omega arith)) (or_righ
 
 -- ---- where the scan stands
 
--- so many bytes are scanned, up to the gate before the one of that number, if there is one
+-- the bytes before `at` are scanned: up to the gate before gate `i`, or none if `i` is 0
 pub record IsAtGate (sandbox : ℕ) (p : Part) (i : ℕ) (b : BundlePlace) (at : ℕ) (found : List Finding) (owed : Owed) (lacks : Bool) : Type 0 where
   pub bundles : ℕ
   pub at_is : at ≡ 16 * bundles

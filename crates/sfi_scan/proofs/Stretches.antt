@@ -29,7 +29,7 @@ plain_place b (suc i) e = refl
 
 -- ---- findings
 
--- the findings of so many bundles, and of those that follow them
+-- the findings of the first `k` bundles, followed by those of the next `n`, are those of `k + n`
 pub stretch_more : (b c : BundlePlace) (xs ys : List ℕ) (k n : ℕ) (front found : List Finding)
     → ((i : ℕ) → i < n → stretch_place b i ≡ stretch_place c (k + i)) → ((i : ℕ) → i < n → block_bundle xs i ≡ block_bundle ys (k + i))
     → AreStretchFindings c ys k front → AreStretchFindings b xs n found → AreStretchFindings c ys (k + n) (front ++ found)
@@ -40,7 +40,7 @@ stretch_more b c xs ys k (suc n) front found places bytes before are =
     let found_is = ap (λ (l : List Finding). front ++ l) are.4 ∙ sym (append_assoc front are.0 are.1) in
     subst (λ (m : ℕ). AreStretchFindings c ys m (front ++ found)) (let e : suc (k + n) ≡ k + suc n = omega arith in e) (front ++ are.0, are.1, more, one, found_is)
 
--- those of a stretch in a part, after those of so many bundles of it
+-- the findings of a part's first `k` bundles, followed by those of a stretch that lies after them
 pub stretch_in_part : (sandbox : ℕ) (p : Part) (b : BundlePlace) (xs : List ℕ) (k n : ℕ) (front found : List Finding)
     → ((i : ℕ) → i < n → stretch_place b i ≡ bundle_place sandbox p (k + i)) → ((i : ℕ) → i < n → block_bundle xs i ≡ bundle_bytes p (k + i))
     → AreFindingsOfFirst sandbox p k front → AreStretchFindings b xs n found → AreFindingsOfFirst sandbox p (k + n) (front ++ found)
@@ -60,7 +60,7 @@ stretch_clean b xs (suc n) clean = ([], [], stretch_clean b xs n (λ i less. cle
 pub stretch_push : (b : BundlePlace) (xs : List ℕ) (n : ℕ) (front last : List Finding) → AreStretchFindings b xs n front → AreBundleFindings (stretch_place b n) (block_bundle xs n) last → AreStretchFindings b xs (n + 1) (front ++ last)
 stretch_push b xs n front last are one = subst (λ (m : ℕ). AreStretchFindings b xs m (front ++ last)) (let e : suc n ≡ n + 1 = omega arith in e) (front, last, are, one, refl)
 
--- the same bundles of other bytes
+-- the findings are the same for other bytes with the same bundles
 pub stretch_same : (b : BundlePlace) (xs ys : List ℕ) (n : ℕ) (found : List Finding) → ((i : ℕ) → i < n → block_bundle xs i ≡ block_bundle ys i) → AreStretchFindings b xs n found → AreStretchFindings b ys n found
 stretch_same b xs ys zero found bytes none = none
 stretch_same b xs ys (suc n) found bytes are =

@@ -7,7 +7,8 @@ use Rattle.sfi_scan.specs.private.FirstLook.{IsFreeHalf}
 use Rattle.rv_comp.proofs.Facts.{halfwords_are_outlined}
 use Rattle.sfi_scan.proofs.PairTables.{second}
 
--- it computes into a register that is not reserved, and into x2 only where the halfword names it in bits 11:7
+-- the form computes into a register that is not reserved, and into x2 only where the halfword names
+-- it in bits 11:7
 abbrev is_free : Bool → Option Outline → Bool
 is_free two (Some (Computes rd)) = not (is_reserved rd) && (not (rd == 2) || two)
 is_free two _ = false

@@ -7,7 +7,7 @@ use Rattle.sfi_rules.specs.Rules.{breaks_reserved, is_reserved_one}
 use Rattle.sfi_rules.specs.words.Owing.{owed_of}
 use Rattle.sfi_rules.specs.words.Rules.{breaks_offset}
 
--- it keeps V4 and V12, and owes this
+-- the instruction breaks neither V4 nor V12, and `own` must come after it
 pub record IsWrite (i : Instr) (own : Owed) : Type 0 where
   pub reserved : breaks_reserved i ≡ false
   pub offset : breaks_offset i ≡ false

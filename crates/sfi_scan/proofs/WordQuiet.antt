@@ -9,7 +9,7 @@ use Rattle.sfi_rules.specs.words.Rules.{breaks_ecall, breaks_access, breaks_jump
 use Rattle.sfi_scan.proofs.WordKept.{IsWrite}
 use Rattle.sfi_scan.proofs.WordRules.{none_found}
 
--- it keeps V3, V5, V6 and V7 at the address
+-- the instruction breaks none of V3, V5, V6 and V7 at the address
 pub record IsSafe (b : BundlePlace) (at : ℕ) (i : Instr) : Type 0 where
   pub ecall : breaks_ecall (is_at_gate b at) i ≡ false
   pub access : breaks_access i ≡ false
@@ -24,7 +24,8 @@ module _ (b : BundlePlace) (at size : ℕ) (before : IsBeforeEnd b at size) wher
   before_end : (at + size == b.code_base + b.code_size) ≡ false
   before_end = ne_eqb (at + size) (b.code_base + b.code_size) (λ e. omega (arith, e, before))
 
-  -- it meets what was owed, of which this is left, and owes that itself
+  -- an instruction that meets what was owed, of which `rest` is left, and after which `own` must
+  -- come, is quiet
   pub quiet_where : (o rest own : Owed) (i : Instr) → IsSafe b at i → IsWrite i own → left o i ≡ Some rest → IsQuiet b at size o i (joined (Some rest) (Some own))
   quiet_where o rest own i safe write e =
       let there : is_some (left o i) ≡ true = ap is_some e in

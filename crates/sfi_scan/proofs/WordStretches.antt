@@ -12,7 +12,7 @@ pub words_push : (b : BundlePlace) (owed : Owed) (xs : List ℕ) (n : ℕ) (fron
 words_push b owed xs n front last between next are one =
     subst (λ (m : ℕ). AreWordStretchFindings b owed xs m (front ++ last) next) (let e : suc n ≡ n + 1 = omega arith in e) (front, last, between, are, one, refl)
 
--- the findings of so many bundles, and of those that follow them
+-- the findings of the first `k` bundles, followed by those of the next `n`, are those of `k + n`
 pub words_more : (b c : BundlePlace) (owed : Owed) (xs ys : List ℕ) (k n : ℕ) (front found : List Finding) (between next : Owed)
     → ((i : ℕ) → i < n → stretch_place b i ≡ stretch_place c (k + i)) → ((i : ℕ) → i < n → block_bundle xs i ≡ block_bundle ys (k + i))
     → AreWordStretchFindings c owed ys k front between → AreWordStretchFindings b between xs n found next → AreWordStretchFindings c owed ys (k + n) (front ++ found) next
@@ -25,7 +25,7 @@ words_more b c owed xs ys k (suc n) front found between next places bytes before
     let found_is = ap (λ (l : List Finding). front ++ l) are.5 ∙ sym (append_assoc front are.0 are.1) in
     subst (λ (m : ℕ). AreWordStretchFindings c owed ys m (front ++ found) next) (let e : suc (k + n) ≡ k + suc n = omega arith in e) (front ++ are.0, are.1, are.2, more, one, found_is)
 
--- the same bundles of other bytes
+-- the findings are the same for other bytes with the same bundles
 pub words_same : (b : BundlePlace) (owed : Owed) (xs ys : List ℕ) (n : ℕ) (found : List Finding) (next : Owed) → ((i : ℕ) → i < n → block_bundle xs i ≡ block_bundle ys i)
     → AreWordStretchFindings b owed xs n found next → AreWordStretchFindings b owed ys n found next
 words_same b owed xs ys zero found next bytes none = none
@@ -68,7 +68,7 @@ module _ {F : Type 0} (takes : F → List Finding → F → Type 0) where
 
 -- ---- in a part
 
--- those of a stretch in a part, after those of so many bundles of it
+-- the findings of a part's first `k` bundles, followed by those of a stretch that lies after them
 pub words_in_part : (sandbox : ℕ) (p : Part) (b : BundlePlace) (xs : List ℕ) (k n : ℕ) (front found : List Finding) (between next : Owed)
     → ((i : ℕ) → i < n → stretch_place b i ≡ bundle_place sandbox p (k + i)) → ((i : ℕ) → i < n → block_bundle xs i ≡ bundle_bytes p (k + i))
     → AreFoundOfFirst sandbox p k front between → AreWordStretchFindings b between xs n found next → AreFoundOfFirst sandbox p (k + n) (front ++ found) next
@@ -81,7 +81,8 @@ words_in_part sandbox p b xs k (suc n) front found between next places bytes bef
     let found_is = ap (λ (l : List Finding). front ++ l) are.5 ∙ sym (append_assoc front are.0 are.1) in
     subst (λ (m : ℕ). AreFoundOfFirst sandbox p m (front ++ found) next) (let e : suc (k + n) ≡ k + suc n = omega arith in e) (front ++ are.0, are.1, are.2, more, one, found_is)
 
--- the same of code of any format
+-- the findings of a part's first `k` bundles, followed by those of a stretch that lies after them,
+-- in any format
 pub found_in_part : (sandbox : ℕ) (p : Part) (b : BundlePlace) (xs : List ℕ) (k n : ℕ) (front found : List Finding) (between next : Owed) → b.format ≡ p.format
     → ((i : ℕ) → i < n → stretch_place b i ≡ bundle_place sandbox p (k + i)) → ((i : ℕ) → i < n → block_bundle xs i ≡ bundle_bytes p (k + i))
     → AreFoundUpTo sandbox p k front between → AreFoundInStretch b between xs n found next → AreFoundUpTo sandbox p (k + n) (front ++ found) next

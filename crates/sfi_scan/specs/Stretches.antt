@@ -12,8 +12,8 @@ use Rattle.sfi_rules.specs.declared.owed.Owed.TheVariants.{Nothing}
 use Rattle.sfi_rules.specs.Findings.{AreBundleFindings}
 use Rattle.sfi_rules.specs.words.Findings.{AreFoundInBundle}
 
--- The bytes are so many bundles, of which the first lies there. They lie in its code region, whose
--- end is at most 2 ^ 32.
+-- The bytes are `bundles` whole bundles, the first of which lies at `b`. All lie in b's code
+-- region, whose end is at most 2 ^ 32.
 pub record IsStretch (b : BundlePlace) (bytes : List ℕ) (bundles : ℕ) : Type 0 where
   pub whole : length bytes ≡ bundle_size * bundles
   pub base : b.code_base ≤ b.address
@@ -32,7 +32,7 @@ AreStretchFindings b bytes (suc n) found =
     (front : List Finding) × (last : List Finding) × AreStretchFindings b bytes n front
     × AreBundleFindings (stretch_place b n) (block_bundle bytes n) last × (found ≡ front ++ last)
 
--- a bundle has at most so many findings: one at each instruction, and each has two bytes at least
+-- the most findings of a bundle: one at each instruction, and an instruction has two bytes at least
 abbrev pub findings_most : ℕ
 findings_most = bundle_size / 2
 
@@ -44,10 +44,10 @@ pub record IsScanned {F : Type 0} (takes : F → List Finding → F → Type 0) 
   pub few : length found ≤ findings_most * n
   pub handed : takes before found after
 
--- ---- by the format
+-- ---- stretches of any format
 
--- of code in words: the findings of the stretch's first n bundles, before which this is owed, and
--- what is owed after them
+-- in code in words: the findings of the stretch's first n bundles, with `owed` owed before them,
+-- and what is owed after them
 abbrev pub AreWordStretchFindings : BundlePlace → Owed → List ℕ → ℕ → List Finding → Owed → Type 0
 AreWordStretchFindings b owed bytes zero found next = (found ≡ []) × (next ≡ owed)
 AreWordStretchFindings b owed bytes (suc n) found next =
@@ -56,7 +56,8 @@ AreWordStretchFindings b owed bytes (suc n) found next =
     × AreFoundInBundle (stretch_place b n) between (block_bundle bytes n) last next
     × (found ≡ front ++ last)
 
--- of code of any format: in bundles nothing is ever owed
+-- in code of any format: the findings of the stretch's first n bundles, and what is owed after
+-- them; in bundles nothing ever is
 abbrev pub AreFoundInStretch : BundlePlace → Owed → List ℕ → ℕ → List Finding → Owed → Type 0
 AreFoundInStretch b owed bytes n found next = MatchBool (has_words b.format)
     (AreWordStretchFindings b owed bytes n found next)
@@ -71,7 +72,7 @@ pub record IsWordCodeScanned {F : Type 0} (takes : F → List Finding → F → 
   pub few : length found ≤ findings_most * n
   pub handed : takes before found after
 
--- the same of code of any format
+-- the first n bundles of a stretch of any format are scanned: the sink took their findings
 pub record IsStretchScanned {F : Type 0} (takes : F → List Finding → F → Type 0)
     (b : BundlePlace) (owed : Owed) (bytes : List ℕ) (n : ℕ) (next : Owed)
     (before after : F) : Type 0 where

@@ -25,6 +25,7 @@ fn first_of(bytes: &[u8]) -> Option<Instr>
     }
 }
 
+/// No instruction.
 fn none_ahead() -> Ahead
     ensures { result ≡ ahead [] }
 {
@@ -34,7 +35,7 @@ fn none_ahead() -> Ahead
     }
 }
 
-/// The two that a bundle's last bytes begin with.
+/// The first two instructions of a bundle's last bytes.
 pub(crate) fn read_ahead(bytes: &[u8]) -> Ahead
     ensures { (later : List Piece) → IsLongestReading bytes.now later → result ≡ ahead later }
 {

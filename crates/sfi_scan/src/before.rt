@@ -17,7 +17,7 @@ pub(crate) struct Before {
     pub(crate) second: Option<Instr>,
 }
 
-/// Which reserved registers a pair uses.
+/// Which reserved registers a pair uses: a mask and a base.
 #[derive(Clone, Copy)]
 pub(crate) struct Pair {
     pub(crate) mask: u8,
@@ -42,7 +42,7 @@ pub(crate) fn may_be_target(reg: Reg) -> bool
     reg.number() != 0 && !is_reserved(reg)
 }
 
-/// `and target, a, mask`.
+/// Whether the instruction is `and target, a, mask`.
 pub(crate) fn is_masking(mask: u8, target: u8, instr: &Instr) -> bool
     ensures { result ≡ is_masking mask target instr.now }
 {
@@ -57,7 +57,7 @@ pub(crate) fn is_masking(mask: u8, target: u8, instr: &Instr) -> bool
     }
 }
 
-/// `or target, target, base`.
+/// Whether the instruction is `or target, target, base`.
 pub(crate) fn is_placing(base: u8, target: u8, instr: &Instr) -> bool
     ensures { result ≡ is_placing base target instr.now }
 {
@@ -73,7 +73,7 @@ pub(crate) fn is_placing(base: u8, target: u8, instr: &Instr) -> bool
 }
 
 impl Before {
-    /// At a bundle's first instruction.
+    /// What stands before a bundle's first instruction: nothing.
     pub(crate) fn nothing() -> Self
         ensures { result ≡ near [] }
     {
@@ -83,7 +83,7 @@ impl Before {
         }
     }
 
-    /// After this instruction too.
+    /// What stands before the instruction that follows `instr`.
     pub(crate) fn and_then(self, instr: Instr) -> Self
         ensures { (earlier : List Instr) → near earlier ≡ self →
             result ≡ near (instr ∷ earlier) }
@@ -94,7 +94,7 @@ impl Before {
         }
     }
 
-    /// Whether the two are the pair on this register.
+    /// Whether the two instructions are the pair on the target register.
     pub(crate) fn is_pair(&self, pair: Pair, target: Reg) -> bool
         ensures { (earlier : List Instr) → near earlier ≡ self.now →
             result ≡ follows_pair pair.mask pair.base target earlier }

@@ -35,6 +35,7 @@ pub(crate) fn has(mask: u64, i: usize) -> bool
     mask >> i & 1 == 1
 }
 
+/// The bits of `mask` that `other` hasn't.
 #[inline(always)]
 pub(crate) fn without(mask: u64, other: u64) -> u64
     ensures { IsWithout mask other result }
@@ -71,7 +72,7 @@ fn after_two(words: u64) -> u64
     (words & words >> 2) << 4 & LAST_FOUR
 }
 
-/// The places at which the first of three words begins that stand in one bundle, one behind another.
+/// The places where the first of three words begins that stand in one bundle, one after another.
 #[inline(always)]
 fn three_words(words: u64) -> u64
     ensures { AreThreeWords words result }
@@ -79,7 +80,7 @@ fn three_words(words: u64) -> u64
     words & words >> 2 & words >> 4 & FIRST_THREE
 }
 
-/// The place of the block's bundle so numbered.
+/// The place of the block's bundle of that number, counted from 0.
 #[inline(always)]
 pub(crate) fn bundle_at(place: &BundlePlace, bundle: usize) -> BundlePlace
     requires within { IsWithinBlock place.now }
@@ -94,7 +95,7 @@ pub(crate) fn bundle_at(place: &BundlePlace, bundle: usize) -> BundlePlace
     }
 }
 
-/// The halfword of that number.
+/// The halfword with index `i`.
 #[inline(always)]
 fn half_of(block: &[u8; BLOCK_BYTES], i: usize) -> u16
     requires { i < 64 }
@@ -114,7 +115,8 @@ fn word_of(block: &[u8; BLOCK_BYTES], i: usize) -> u32
     word_at(block, 2 * i)
 }
 
-/// The words of the two instructions directly before a place.
+/// The words of the two instructions directly before halfword `i`. `after` has the places after two
+/// words.
 #[inline(always)]
 fn words_before(block: &[u8; BLOCK_BYTES], after: u64, i: usize) -> Words
     requires place { i < 64 }
@@ -134,7 +136,7 @@ fn words_before(block: &[u8; BLOCK_BYTES], after: u64, i: usize) -> Words
     }
 }
 
-/// Whether the access there stays in the data and its guard zones.
+/// Whether the access at halfword `i` stays in the data and its guard zones.
 #[inline(always)]
 fn is_clean_access(stack: bool, block: &[u8; BLOCK_BYTES], after: u64, i: usize) -> bool
     requires place { i < 64 }
@@ -148,7 +150,7 @@ fn is_clean_access(stack: bool, block: &[u8; BLOCK_BYTES], after: u64, i: usize)
     may_access(stack, words_before(block, after, i), base)
 }
 
-/// Those of the accesses that stay in the data and its guard zones.
+/// The bits of `accesses` whose access stays in the data and its guard zones.
 #[inline(always)]
 fn clean_accesses(stack: bool, block: &[u8; BLOCK_BYTES], after: u64, accesses: u64) -> u64
     requires inside { (i : ℕ) → i < 64 → is_in accesses i ≡ true → i % 8 < 7 }
@@ -171,7 +173,7 @@ fn clean_accesses(stack: bool, block: &[u8; BLOCK_BYTES], after: u64, accesses: 
     clean
 }
 
-/// Whether the instruction that begins there breaks no rule, by its outline.
+/// Whether the instruction at halfword `i` breaks no rule, by its outline.
 #[inline(always)]
 fn is_clean_at(
     place: &BundlePlace,
@@ -209,7 +211,7 @@ fn is_clean_at(
     }
 }
 
-/// Those of these instructions that break no rule.
+/// The bits of `others` whose instruction breaks no rule.
 #[inline(always)]
 fn clean_others(
     place: &BundlePlace,
@@ -238,7 +240,8 @@ fn clean_others(
     clean
 }
 
-/// Whether the stack pointer is written there, and put back into the data.
+/// Whether the instruction at halfword `i` writes the stack pointer, and the pair after it puts
+/// that back.
 #[inline(always)]
 fn is_written(block: &[u8; BLOCK_BYTES], words: u64, i: usize) -> bool
     requires place { i < 64 }
@@ -251,8 +254,8 @@ fn is_written(block: &[u8; BLOCK_BYTES], words: u64, i: usize) -> bool
     is_stack_write(word_of(block, i))
 }
 
-/// Those of these places that write the stack pointer and put it back, with both words of each
-/// pair.
+/// The bits of `places` whose instruction writes the stack pointer, which the pair after it puts
+/// back, with the bits of that pair's words.
 #[inline(always)]
 fn stack_writes(stack: bool, block: &[u8; BLOCK_BYTES], words: u64, places: u64) -> u64
     ensures stack { (i : ℕ) → is_in result i ≡ true → stack ≡ true }
@@ -274,7 +277,8 @@ fn stack_writes(stack: bool, block: &[u8; BLOCK_BYTES], words: u64, places: u64)
     written
 }
 
-/// A mask with bits in each bundle that isn't seen clean: at its doubtful starts, or everywhere.
+/// A mask with bits in each bundle that isn't seen to be clean: at its doubtful instructions, or
+/// everywhere.
 #[inline(always)]
 fn unclean(place: &BundlePlace, stack: bool, block: &[u8; BLOCK_BYTES]) -> u64
     requires within { IsWithinBlock place.now }
@@ -302,7 +306,7 @@ fn unclean(place: &BundlePlace, stack: bool, block: &[u8; BLOCK_BYTES]) -> u64
     without(rest, stack_writes(stack, block, words, rest))
 }
 
-/// A bit for each bundle with none of these places.
+/// A bit for each bundle in which `places` has no bit.
 #[inline(always)]
 fn bundles_without(places: u64) -> u8
     ensures { (k : ℕ) → k < 8 → is_in result k ≡ true →

@@ -34,7 +34,7 @@ pub(crate) struct Words {
     pub(crate) second: u32,
 }
 
-/// The halfword at this place of the bytes.
+/// The halfword that begins at byte `at`.
 #[inline(always)]
 pub(crate) fn half_at(bytes: &[u8], at: usize) -> u16
     requires { at + 2 ≤ length bytes.now }
@@ -46,7 +46,7 @@ pub(crate) fn half_at(bytes: &[u8], at: usize) -> u16
     u16::from_le_bytes(*half)
 }
 
-/// The word at this place of the bytes.
+/// The word that begins at byte `at`.
 #[inline(always)]
 pub(crate) fn word_at(bytes: &[u8], at: usize) -> u32
     requires { at + 4 ≤ length bytes.now }
@@ -79,7 +79,7 @@ fn words_before(bytes: &[u8; BUNDLE_BYTES], at: usize, from: usize) -> Words
 }
 
 impl Words {
-    /// Whether the two are the pair on this register.
+    /// Whether the two words are the pair on the target register.
     #[inline(always)]
     fn is_pair(self, pair: Pair, target: Reg) -> bool
         requires mask { pair.mask < 32 }
@@ -101,7 +101,7 @@ impl Words {
     }
 }
 
-/// Whether nothing that this look lets pass writes the register.
+/// Whether this look lets pass no instruction that writes the register.
 #[inline(always)]
 fn is_protected(stack: bool, reg: Reg) -> bool
     ensures { (b : BundlePlace) → stack ≡ has_stack b.format → result ≡ is_protected b reg }
@@ -119,7 +119,7 @@ pub(crate) fn may_access(stack: bool, words: Words, base: Reg) -> bool
     (stack && base.number() == STACK) || are_data_pair(words.first, words.second, base)
 }
 
-/// Whether a load or store with these registers breaks no rule there.
+/// Whether an access with these registers, after these words, breaks no rule.
 #[inline(always)]
 fn is_clean_access(stack: bool, words: Words, access: Access) -> bool
     ensures { (b : BundlePlace) (earlier : List Instr) →
@@ -129,7 +129,7 @@ fn is_clean_access(stack: bool, words: Words, access: Access) -> bool
     !is_protected(stack, access.written) && may_access(stack, words, access.base)
 }
 
-/// Whether an indirect jump breaks no rule there.
+/// Whether an indirect jump, after these words, breaks no rule.
 #[inline(always)]
 fn is_clean_jump(
     place: &BundlePlace,
@@ -153,7 +153,7 @@ fn is_clean_jump(
     words.is_pair(CODE, base)
 }
 
-/// Whether an instruction that does this breaks no rule there. The bundle isn't the region's last.
+/// Whether an instruction with this outline breaks no rule. The bundle isn't the region's last.
 #[inline(always)]
 pub(crate) fn is_clean(
     place: &BundlePlace,

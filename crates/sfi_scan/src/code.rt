@@ -24,7 +24,7 @@ pub const IN_BLOCKS: bool = true;
 /// Bundle by bundle: less machine code, a fifth of it where there are no vectors.
 pub const BUNDLE_BY_BUNDLE: bool = false;
 
-/// The place of the stretch's bundle that `before` bytes precede.
+/// The place of the stretch's bundle after its first `before` bytes.
 #[inline(always)]
 pub(crate) fn place_after(place: &BundlePlace, before: usize) -> BundlePlace
     requires { place.now.address + before < 2 ^ 32 }
@@ -55,7 +55,7 @@ fn scan_one<F: FindingSink>(
     }
 }
 
-/// Scans those of the block's bundles, from number `from` on, that aren't seen clean, in order.
+/// Scans the block's bundles from number `from` on that aren't seen to be clean, in order.
 #[inline(never)]
 fn scan_unseen<F: FindingSink>(
     place: &BundlePlace,
@@ -102,7 +102,7 @@ fn scan_block<F: FindingSink>(
     }
 }
 
-/// Whether none of the eight bundles from that place on is its region's last.
+/// Whether none of the eight bundles from `place` on is its region's last.
 #[inline(always)]
 fn is_before_last(place: &BundlePlace) -> bool
     requires { IsWithin place.now }
@@ -111,7 +111,7 @@ fn is_before_last(place: &BundlePlace) -> bool
     place.code_size - (place.address - place.code_base) >= BLOCK_BYTES as u32 + BUNDLE_SIZE
 }
 
-/// The stretch's bytes from byte `start` on, so many.
+/// The `N` bytes of `code` from byte `start` on.
 #[inline(always)]
 pub(crate) fn bytes_from<const N: usize>(code: &[u8], start: usize) -> &[u8; N]
     requires { start + N ≤ length code.now }
@@ -153,8 +153,8 @@ pub(crate) fn block_start<const BLOCKS: bool>(
     Some(start)
 }
 
-/// Scans a stretch from byte `at` on: a block, as far as it comes after `at`, else the next bundle.
-/// Says up to where.
+/// Scans a stretch from byte `at` on: the rest of a block, or else the next bundle. Answers the
+/// offset after it.
 #[inline(always)]
 fn scan_front<F: FindingSink, const BLOCKS: bool>(
     place: &BundlePlace,
@@ -179,7 +179,7 @@ fn scan_front<F: FindingSink, const BLOCKS: bool>(
     at + BUNDLE_BYTES
 }
 
-/// Scans a stretch of bundles, of which the first lies at `place`, and hands the findings of each
+/// Scans a stretch of bundles, the first of which lies at `place`, and hands the findings of each
 /// to the sink, in order.
 pub fn scan_code<F: FindingSink, const BLOCKS: bool>(place: &BundlePlace, code: &[u8], sink: &mut F)
     requires { (n : ℕ) × IsStretch place.now code.now n }

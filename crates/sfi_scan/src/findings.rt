@@ -55,18 +55,21 @@ impl BundleFindings {
         }
     }
 
+    /// The findings, as a slice.
     pub(crate) fn as_slice(&self) -> &[Finding]
         ensures { result.now ≡ self.now }
     {
         &self.found[..self.count]
     }
 
+    /// Drops all findings.
     pub(crate) fn clear(&mut self)
         ensures { self.new ≡ [] }
     {
         self.count = 0;
     }
 
+    /// Appends a finding; there are at most eight.
     pub(crate) fn push(&mut self, finding: Finding)
         requires { length self.old < 8 }
         ensures { self.new ≡ self.old ++ finding ∷ [] }

@@ -9,9 +9,9 @@ use std::alloc::{AllocError, Global};
 /// All findings that it took, unless memory ran out.
 #[derive(Drop)]
 pub struct FindingList {
-    /// Those for which there was memory.
+    /// The findings for which there was memory.
     pub found: Vec<Finding>,
-    /// Whether memory ran out for some.
+    /// Whether memory ran out for a finding.
     pub lacks_memory: bool,
 }
 
@@ -34,7 +34,7 @@ impl FindingSink for FindingList {
 }
 
 impl FindingList {
-    /// It took none.
+    /// A list that took no finding.
     pub fn new(alloc: Global) -> Self
         ensures empty { result.found.items ≡ [] }
         ensures memory { result.lacks_memory ≡ false }

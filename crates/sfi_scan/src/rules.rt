@@ -16,6 +16,7 @@ use sfi_pairs::is_reserved;
 use sfi_policy::{BUNDLE_SIZE, STACK_POINTER};
 use sfi_rules::{BundlePlace, Rule};
 
+/// Whether the instruction breaks V3: an `ecall` that isn't the first instruction of a listed bundle.
 fn breaks_ecall(place: &BundlePlace, is_first: bool, instr: &Instr) -> bool
     ensures { (x : Place) → x.bundle ≡ place.now → is_empty x.earlier ≡ is_first →
         result ≡ breaks_ecall x instr.now }
@@ -26,6 +27,7 @@ fn breaks_ecall(place: &BundlePlace, is_first: bool, instr: &Instr) -> bool
     }
 }
 
+/// Whether the instruction breaks V4: it writes a reserved register.
 pub(crate) fn breaks_reserved(instr: &Instr) -> bool
     ensures { result ≡ breaks_reserved instr.now }
 {
@@ -38,6 +40,7 @@ pub(crate) fn breaks_reserved(instr: &Instr) -> bool
 /// The stack pointer's number.
 pub(crate) const STACK: u8 = STACK_POINTER;
 
+/// Whether the instruction breaks V5: an access neither on the stack pointer nor directly after its pair.
 fn breaks_access(place: &BundlePlace, before: &Before, instr: &Instr) -> bool
     ensures { (x : Place) → x.bundle ≡ place.now → near x.earlier ≡ before.now →
         result ≡ breaks_access x instr.now }
@@ -50,6 +53,7 @@ fn breaks_access(place: &BundlePlace, before: &Before, instr: &Instr) -> bool
     }
 }
 
+/// Whether the instruction breaks V6: a `jalr` with an offset, or not directly after its pair.
 fn breaks_jump(before: &Before, instr: &Instr) -> bool
     ensures { (x : Place) → near x.earlier ≡ before.now → result ≡ breaks_jump x instr.now }
 {
@@ -59,12 +63,14 @@ fn breaks_jump(before: &Before, instr: &Instr) -> bool
     }
 }
 
+/// The address plus the offset, modulo 2^32.
 pub(crate) fn offset_by(address: u32, offset: i32) -> u32
     ensures { result ≡ offset_by address offset }
 {
     address.wrapping_add_signed(offset)
 }
 
+/// Whether a bundle of the code region begins at the address.
 pub(crate) fn is_bundle_start(place: &BundlePlace, address: u32) -> bool
     requires { IsWithin place.now }
     ensures { result ≡ is_bundle_start place.now address }
@@ -74,6 +80,7 @@ pub(crate) fn is_bundle_start(place: &BundlePlace, address: u32) -> bool
         && address % BUNDLE_SIZE == 0
 }
 
+/// Whether the instruction breaks V7: a jump or branch to no bundle start of the code region.
 fn breaks_target(place: &BundlePlace, address: u32, instr: &Instr) -> bool
     requires { IsWithin place.now }
     ensures { (x : Place) → x.bundle ≡ place.now → x.address ≡ address →
@@ -87,6 +94,7 @@ fn breaks_target(place: &BundlePlace, address: u32, instr: &Instr) -> bool
     }
 }
 
+/// Whether the instruction may be the code region's last: control never runs on past it.
 pub(crate) fn ends_region(instr: &Instr) -> bool
     ensures { result ≡ ends_region instr.now }
 {
@@ -96,6 +104,7 @@ pub(crate) fn ends_region(instr: &Instr) -> bool
     )
 }
 
+/// Whether the bundle is the last of its code region.
 pub(crate) fn is_last_bundle(place: &BundlePlace) -> bool
     requires { IsWithin place.now }
     ensures { result ≡ is_last_bundle place.now }
@@ -103,25 +112,28 @@ pub(crate) fn is_last_bundle(place: &BundlePlace) -> bool
     place.address - place.code_base == place.code_size - BUNDLE_SIZE
 }
 
-/// The two are the pair on the stack pointer.
+/// Whether the two instructions are the pair on the stack pointer.
 fn is_stack_pair(first: &Instr, second: &Instr) -> bool
     ensures { result ≡ is_stack_pair first.now second.now }
 {
     is_masking(DATA.mask, STACK, first) && is_placing(DATA.base, STACK, second)
 }
 
+/// Whether the instruction writes the stack pointer, in a format that has one.
 fn writes_stack(place: &BundlePlace, instr: &Instr) -> bool
     ensures { result ≡ writes_stack place.now instr.now }
 {
     place.format.has_stack() && instr.writes_register(STACK)
 }
 
+/// Whether the instruction is a `jal` or a `jalr`.
 pub(crate) fn is_jump(instr: &Instr) -> bool
     ensures { result ≡ is_jump instr.now }
 {
     matches!(instr, Instr::Jal { .. } | Instr::Jalr { .. })
 }
 
+/// Whether the instruction and the one directly after it are the pair on the stack pointer.
 fn begins_pair(instr: &Instr, two: &Ahead) -> bool
     ensures { (later : List Piece) → ahead later ≡ two.now →
         result ≡ begins_pair instr.now later }
@@ -132,6 +144,7 @@ fn begins_pair(instr: &Instr, two: &Ahead) -> bool
     }
 }
 
+/// Whether the instruction directly before it and the instruction are the pair on the stack pointer.
 fn ends_pair(before: &Before, instr: &Instr) -> bool
     ensures { (earlier : List Instr) → near earlier ≡ before.now →
         result ≡ ends_pair earlier instr.now }
@@ -142,6 +155,7 @@ fn ends_pair(before: &Before, instr: &Instr) -> bool
     }
 }
 
+/// Whether the two instructions directly after it are the pair on the stack pointer.
 fn precedes_pair(two: &Ahead) -> bool
     ensures { (later : List Piece) → ahead later ≡ two.now → result ≡ precedes_pair later }
 {
@@ -151,6 +165,7 @@ fn precedes_pair(two: &Ahead) -> bool
     }
 }
 
+/// Whether the instruction breaks V10: it writes the stack pointer, and no pair on it stands there.
 fn breaks_stack(place: &BundlePlace, before: &Before, instr: &Instr, after: &[u8]) -> bool
     ensures { (x : Place) → x.bundle ≡ place.now → near x.earlier ≡ before.now →
         IsLongestReading after.now x.later → result ≡ breaks_stack x instr.now }
@@ -164,7 +179,7 @@ fn breaks_stack(place: &BundlePlace, before: &Before, instr: &Instr, after: &[u8
         || (!is_jump(instr) && precedes_pair(&two)))
 }
 
-/// The lowest rule that the instruction breaks, if any. These bytes of its bundle stand after it.
+/// The lowest rule that the instruction breaks, if any. `after` has the bytes of its bundle after it.
 pub(crate) fn lowest_rule(
     place: &BundlePlace,
     address: u32,

@@ -13,6 +13,7 @@ use sfi_pairs::STUB;
 use sfi_policy::BUNDLE_BYTES;
 use sfi_rules::{BundlePlace, Finding, Rule};
 
+/// The finding that `rule` is broken `offset` bytes after the bundle's first.
 fn finding(place: &BundlePlace, offset: usize, rule: Rule) -> Finding
     requires within { IsWithin place.now }
     requires inside { offset < bundle_size }

@@ -24,9 +24,9 @@ use sfi_rules::{BundlePlace, Owed};
 /// How many words a bundle has.
 const WORDS: usize = BUNDLE_BYTES / 4;
 
-/// Replaces the findings by those of the words of these 16 bytes, before which this is owed, in the
-/// order of their addresses. Answers what is owed after them. Before a region's first bytes nothing
-/// is owed.
+/// Replaces the findings by those of the words of these 16 bytes, in the order of their addresses.
+/// `owed` is owed before them; before a region's first bytes nothing is. Answers what is owed after
+/// them.
 pub fn scan_words(
     place: &BundlePlace,
     bytes: &[u8; BUNDLE_BYTES],
@@ -66,9 +66,8 @@ fn scan_one<F: FindingSink>(
     next
 }
 
-/// Up to where a look at a block sees a stretch, from byte `at` on, to break no rule, and what is
-/// owed there: over the next eight bundles; where fewer are left, over all of these, in the
-/// stretch's last block.
+/// Looks at the next block of the stretch from byte `at` on, or at its last one where fewer than
+/// eight bundles are left. If it is clean: the offset after it, and what is owed there.
 #[inline(always)]
 fn look_at_front(
     place: &BundlePlace,
@@ -88,8 +87,8 @@ fn look_at_front(
     Some((start + BLOCK_BYTES, next))
 }
 
-/// Up to where looks at blocks see a stretch, from byte `at` on, to break no rule, and what is owed
-/// there. It is compiled once, whatever takes the findings.
+/// Looks at blocks of the stretch from byte `at` on, until one isn't seen to be clean: the offset
+/// of that, and what is owed there. It is compiled once for all sinks.
 #[inline(never)]
 fn clean_blocks(
     place: &BundlePlace,
@@ -113,7 +112,8 @@ fn clean_blocks(
     (end, left)
 }
 
-/// What `clean_blocks` says, if scanning in blocks; else byte `at` itself, and what is owed there.
+/// The answer of `clean_blocks`, if scanning in blocks; else byte `at` itself, and what is owed
+/// there.
 #[inline(always)]
 fn clean_front<const BLOCKS: bool>(
     place: &BundlePlace,
@@ -132,8 +132,8 @@ fn clean_front<const BLOCKS: bool>(
     }
 }
 
-/// Up to where a stretch is scanned bundle by bundle from byte `at` on: to the end of the block that a
-/// look there doesn't see to break no rule, else of the next bundle.
+/// The offset up to which a stretch is scanned bundle by bundle from byte `at` on: the end of the
+/// block there, which wasn't seen to be clean, or else of the next bundle.
 #[inline(always)]
 fn unseen_end<const BLOCKS: bool>(place: &BundlePlace, code: &[u8], at: usize) -> usize
     requires { (n : ℕ) × (k : ℕ) × IsStretch place.now code.now n × (at ≡ bundle_size * k) × (k < n) }
@@ -146,8 +146,8 @@ fn unseen_end<const BLOCKS: bool>(place: &BundlePlace, code: &[u8], at: usize) -
     }
 }
 
-/// Scans a stretch bundle by bundle, from byte `at` on up to byte `stop`. Says up to where, and what is
-/// owed there.
+/// Scans a stretch bundle by bundle, from byte `at` up to byte `stop`. Answers the offset after it,
+/// and what is owed there.
 #[inline(always)]
 fn scan_bundles<F: FindingSink>(
     place: &BundlePlace,
@@ -174,8 +174,9 @@ fn scan_bundles<F: FindingSink>(
     (end, left)
 }
 
-/// Scans a stretch from byte `at` on: what looks at blocks see to break no rule, and then what the next
-/// look doesn't. Says up to where, and what is owed there.
+/// Scans a stretch from byte `at` on: blocks as long as they are seen to be clean, and then bundle
+/// by bundle up to the end of the next block. Answers the offset after that, and what is owed
+/// there.
 #[inline(always)]
 fn scan_front<F: FindingSink, const BLOCKS: bool>(
     place: &BundlePlace,
@@ -219,7 +220,7 @@ pub(crate) fn scan_words_as<F: FindingSink, const BLOCKS: bool>(
     left
 }
 
-/// Scans a stretch of code in words, before which this is owed, and hands the findings of each 16
+/// Scans a stretch of code in words, with `owed` owed before it, and hands the findings of each 16
 /// bytes to the sink, in order. Answers what is owed after it.
 pub fn scan_word_code<F: FindingSink>(
     place: &BundlePlace,

@@ -126,7 +126,7 @@ meaning_new (e ∷ es) name h = by (bytes_eq name e.0) (meaning_new es name) h
     by true more h = absurd (omega (arith, h))
     by false more h = more (omega (arith, h))
 
--- where a search among so many answers that place, it is this one
+-- where a search of the first `n` places, which stops at `a`, answers place `i`, `i` is `a`
 pub found_at : (a n i : ℕ) → Some i ≡ cond (nat_lt a n) (Some a) None → (i ≡ a) × (a < n)
 found_at a n i = by (nat_lt a n) refl
   where
@@ -155,7 +155,7 @@ module _ {A : Type 0} (es : List (String A × Named)) (names : List (List ℕ ×
       let f = found_at _ _ i h in
       (f.0 ∙ at_place, met_there names name (omega (arith, f.1, at_place, as_many)))
 
-  -- it finds none where the name is new
+  -- the map finds no place where the name is new
   pub new_place : None ≡ position (has_text name) (keys_of es) → (length es ≡ place_of names name) × (meaning names name ≡ Unknown)
   new_place h =
       let f = not_found _ _ h in

@@ -20,7 +20,7 @@ abbrev pub place_of : List (List ℕ × Named) → List ℕ → ℕ
 place_of [] name = 0
 place_of (e ∷ es) name = if bytes_eq name e.0 then 0 else 1 + place_of es name
 
--- the names, with this one naming that: it keeps its place, or goes last where it is new
+-- the names, where this one names `what`: it keeps its place, or goes last where it is new
 abbrev pub placed : List (List ℕ × Named) → List ℕ → Named → List (List ℕ × Named)
 placed [] name what = (name, what) ∷ []
 placed (e ∷ es) name what = if bytes_eq name e.0 then (name, what) ∷ es else e ∷ placed es name what

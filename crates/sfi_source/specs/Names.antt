@@ -4,11 +4,11 @@ use Rattle.std.specs.List.{AllByRecursion}
 use Rattle.std.specs.Char.{is_ascii_alphabetic, is_ascii_digit}
 use Rattle.sfi_policy.specs.Limits.{name_most}
 
--- a letter, `_` or `.`
+-- the byte is a letter, `_` or `.`
 abbrev pub begins_name : ℕ → Bool
 begins_name c = is_ascii_alphabetic c || ((c == 95) || (c == 46))
 
--- the same, or a digit
+-- the byte is a letter, `_`, `.` or a digit
 abbrev pub continues_name : ℕ → Bool
 continues_name c = begins_name c || is_ascii_digit c
 

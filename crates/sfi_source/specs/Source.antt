@@ -25,7 +25,7 @@ pub record Sandbox : Type 0 where
   pub items : List Item
   pub bytes : List ℕ
 
--- the sandbox of these
+-- the sandbox of these parts
 abbrev pub sandbox :
     Format → ℕ → List SourceGate → List (List ℕ × Named) → List Item → List ℕ → Sandbox
 sandbox format data_size gates names items bytes =
@@ -42,14 +42,14 @@ sandbox format data_size gates names items bytes =
 abbrev pub named : Sandbox → List Named
 named s = map (λ e. e.1) s.names
 
--- a power of two, and as many bytes as a data region may have
+-- the size is a power of two, and one that a data region may have
 pub record IsDataSize (size : ℕ) : Type 0 where
   pub power : ℕ
   pub size_is : size ≡ 2 ^ power
   pub at_least : region_least ≤ size
   pub at_most : size ≤ data_most
 
--- neither a jal nor a branch
+-- the instruction is neither a jal nor a branch
 abbrev pub IsStraight : Instr → Type 0
 IsStraight (instr.Branch cond rs1 rs2 offset) = ⊥
 IsStraight (instr.Jal rd offset) = ⊥
@@ -64,7 +64,7 @@ IsStraight (instr.Fence imm rd rs1) = Unit {0}
 IsStraight instr.Ecall = Unit {0}
 IsStraight instr.Ebreak = Unit {0}
 
--- a jal or a branch whose offset is left open, as 0
+-- the instruction is a jal or a branch whose offset is left open, as 0
 abbrev pub IsOpen : Instr → Type 0
 IsOpen (instr.Branch cond rs1 rs2 offset) = offset ≡ pos 0
 IsOpen (instr.Jal rd offset) = offset ≡ pos 0
@@ -79,15 +79,15 @@ IsOpen (instr.Fence imm rd rs1) = ⊥
 IsOpen instr.Ecall = ⊥
 IsOpen instr.Ebreak = ⊥
 
--- each field is in range, and the name is one of so many
+-- each field is in range, and the name is one of the first `count`
 abbrev pub IsBody : ℕ → Body → Type 0
 IsBody count (Plain i) = InRange i × IsStraight i
 IsBody count (To i place) = InRange i × IsOpen i × (place < count)
 IsBody count (High rd place) = IsReg rd × (place < count)
 IsBody count (Low rd place) = IsReg rd × (place < count)
 
--- there is what the name names: that gate, the place before that item or after the last,
--- the place after so many bytes
+-- there is what the name names: that gate, the place before that item or after the last, or an
+-- offset in the data, at most its length
 abbrev pub IsThere : Sandbox → Named → Type 0
 IsThere s (Gate k) = k < length s.gates
 IsThere s (Code k) = k ≤ length s.items
@@ -130,7 +130,7 @@ format_of (s ∷ rest) = s.format
 abbrev pub AreOf : Format → List Sandbox → Type 0
 AreOf format parts = All (λ s. s.format ≡ format) parts
 
--- one such sandbox at least, and no more than 32 bits can number, all of one format
+-- there is one sandbox at least, and no more than 32 bits can number, all of one format
 pub record IsSource (parts : List Sandbox) : Type 0 where
   pub at_least_one : 1 ≤ length parts
   pub numbered : length parts ≤ 2 ^ 32

@@ -8,9 +8,9 @@ pub enum Named {
     Gate(usize),
     /// The place before the item of that number, from 0; it may be the number of items.
     Code(usize),
-    /// The place that many bytes after the data base.
+    /// The place this many bytes after the data base.
     Data(u32),
-    /// Nothing: it is met in a statement and stands at no place.
+    /// Nothing: a statement uses the name, and no label or gate has it.
     Unknown,
 }
 
@@ -19,7 +19,7 @@ pub enum Named {
 pub enum Body {
     /// The instruction, which is no jal and no branch.
     Plain(Instr),
-    /// The jal or branch, to the name at that place. Its offset is still 0.
+    /// The jal or branch to the name at that place of the names. Its offset is still 0.
     To(Instr, usize),
     /// The lui of the upper half of the address of the name at that place.
     High(Reg, usize),

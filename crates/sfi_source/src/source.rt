@@ -28,7 +28,7 @@ impl Model for SourcePart {
 }
 
 impl SourcePart {
-    /// The sandbox of these. That they fit each other is asked by [`Source::new`].
+    /// A sandbox of these parts. [`Source::new`] asks that they fit each other.
     pub fn new(
         format: Format,
         data_size: u32,

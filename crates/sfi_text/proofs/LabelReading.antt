@@ -61,7 +61,7 @@ taken b text name rest true begins free =
 taken b text name rest false begins free =
     (λ h. (name, rest, begins, λ f. true≢false (sym (free.1 f))), λ t. refl)
 
--- one more label after others
+-- another label after these labels
 pub one_more : (names : List (List ℕ)) (old next new : SoFar) (text rest after name : List ℕ)
     → LabelsLead names old text next rest → BeginsWithLabel rest name after → Labels name next new
     → LabelsLead (names ++ name ∷ []) old text new after

@@ -152,7 +152,7 @@ refused_one (keyword.Pseudo name) text e f h j = departs_one (pseudo_form name) 
 refused_one (keyword.Directive name) text e f h j = departs_one (directive_form name) text e f h j
 refused_one (keyword.Numbers width) text e f h j = departs_list_one (data_kind width) text e f h j
 
--- the same of what is stated
+-- a keyword and its text state one thing at most
 pub states_one : (k : Keyword) (text : List ℕ) (s t : Stated) → StatesAfter k text s → StatesAfter k text t → s ≡ t
 states_one k text s t h j = reads_one k text s t (states_reads k text s h) (states_reads k text t j)
 

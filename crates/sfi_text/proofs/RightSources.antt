@@ -257,7 +257,7 @@ bytes_right values b d all fits =
       bytes = all_append (λ v. v < 256) b.sandbox.bytes values d.bytes all;
     }
 
--- one more gate
+-- the sandbox with another gate
 pub gate_right : (name : List ℕ) (service : ℕ) (b : Begun) (d : IsDraft b) → IsFree name b → IsShortLabel name → service ≤ service_most
     → length b.sandbox.gates + 1 ≤ 64 → IsDraft (with_gate name service b)
 gate_right name service b d free is_label known_service fits =

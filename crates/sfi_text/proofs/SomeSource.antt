@@ -114,7 +114,7 @@ labels_or_refuses name s =
       ]
     ]
 
--- with so many bytes of the line left
+-- `rest`, which is left of the line after some labels, has at most `n` bytes
 labels_on : (n : ℕ) (old now : SoFar) (text rest : List ℕ) (names : List (List ℕ)) → LabelsLead names old text now rest → length rest ≤ n
     → ((new : SoFar) × (last : List ℕ) × PassesLabels old text new last) ⊎ ((e : TextCause) × LabelRefused old text e)
 labels_on zero old now text rest names lead short =

@@ -16,11 +16,12 @@ pub enum TextCause {
     Register,
     /// Something else stands in a number's place, or a number that is out of its range.
     Number,
-    /// A token is missing, one more stands than is expected, or one isn't the expected name or mark.
+    /// A token is missing, another stands after the expected ones, or one isn't the expected name
+    /// or mark.
     Operands,
     /// A label or a gate has the name already.
     LabelTwice,
-    /// The statement may not come there.
+    /// The statement may not stand there.
     Directive,
     /// Something is longer or more than is allowed.
     Limit,

@@ -43,7 +43,7 @@ fn rounded(number: i64) -> u32
     low_word(number + 2048)
 }
 
-/// The immediate of the lui that comes nearest to the number.
+/// The immediate of the lui for the number: bits 31:12 of the number plus 2048.
 fn upper(number: i64) -> u32
     requires { IsNumberOf NumberKind.Word number }
     ensures { result ≡ upper number }

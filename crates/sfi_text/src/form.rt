@@ -116,6 +116,7 @@ impl Mnemonic {
     }
 }
 
+/// Whether the number is a power of two.
 #[tactic(auto, using(crate::proofs::Powers::power_test))]
 fn is_power_of_two(number: u64) -> bool
     ensures { IsTrue result ↔ IsPowerOfTwo number }
@@ -130,6 +131,7 @@ fn is_size(number: u64) -> bool
     REGION_LEAST as u64 <= number && number <= DATA_MOST as u64 && is_power_of_two(number)
 }
 
+/// Whether `number`, which may be negative, is a size of a data region.
 fn is_data_size(number: i64) -> bool
     ensures { IsTrue result ↔ IsNumberOf NumberKind.DataSize number }
 {

@@ -49,6 +49,7 @@ fn jal_form() -> &'static [Part]
     &[Part::Rd, Part::Comma, Part::Name]
 }
 
+/// The branch that the rest of a line states after its name.
 fn read_branch<'a>(cond: Cond, rest: &'a str) -> Result<Statement<'a>, TextCause>
     ensures ok { IfOk result (λ s. ReadsRow branch_form (branch_states cond) rest.now (stated s)) }
     ensures cause { IfErr result (λ e. Departs branch_form rest.now e) }
@@ -59,6 +60,7 @@ fn read_branch<'a>(cond: Cond, rest: &'a str) -> Result<Statement<'a>, TextCause
     }
 }
 
+/// The `jal` that the rest of a line states after its name.
 fn read_jal<'a>(rest: &'a str) -> Result<Statement<'a>, TextCause>
     ensures ok { IfOk result (λ s. ReadsRow jal_form jal_states rest.now (stated s)) }
     ensures cause { IfErr result (λ e. Departs jal_form rest.now e) }
@@ -69,6 +71,7 @@ fn read_jal<'a>(rest: &'a str) -> Result<Statement<'a>, TextCause>
     }
 }
 
+/// The pseudo-instruction that the rest of a line states after its name.
 fn read_pseudo<'a>(name: Pseudo, rest: &'a str) -> Result<Statement<'a>, TextCause>
     ensures ok { IfOk result (λ s.
         ReadsRow (pseudo_form name) (pseudo_states name) rest.now (stated s)) }
@@ -80,6 +83,7 @@ fn read_pseudo<'a>(name: Pseudo, rest: &'a str) -> Result<Statement<'a>, TextCau
     }
 }
 
+/// The directive that the rest of a line states after its name.
 fn read_directive<'a>(name: Directive, rest: &'a str) -> Result<Statement<'a>, TextCause>
     ensures ok { IfOk result (λ s.
         ReadsRow (directive_form name) (directive_states name) rest.now (stated s)) }
@@ -91,6 +95,7 @@ fn read_directive<'a>(name: Directive, rest: &'a str) -> Result<Statement<'a>, T
     }
 }
 
+/// The instruction that the rest of a line states after its name.
 fn read_instr<'a>(name: Mnemonic, rest: &'a str) -> Result<Statement<'a>, TextCause>
     ensures ok { IfOk result (λ s. ReadsInstr name rest.now (stated s)) }
     ensures cause { IfErr result (λ e. InstrDeparts name rest.now e) }

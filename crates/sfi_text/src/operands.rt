@@ -32,7 +32,7 @@ pub fn x0() -> Reg
 }
 
 impl<'a> Operands<'a> {
-    /// These registers and this number.
+    /// Operands of these registers and this number.
     fn new(rd: Reg, rs1: Reg, rs2: Reg, number: i64) -> Self
         ensures { values_of result ≡ operands rd rs1 rs2 number }
     {

@@ -27,7 +27,7 @@ fn is_name(token: &str) -> bool
     }
 }
 
-/// Why a token is refused with which a statement begins, and which is no keyword.
+/// Why a token that begins a statement and is no keyword is refused.
 pub fn name_cause(token: &str) -> TextCause
     requires { IsToken token.now }
     ensures { (IsName token.now × (result ≡ cause.Word))

@@ -25,8 +25,8 @@ use sfi_source::{Source, SourcePart};
 use std::alloc::Global;
 use std::marker::Model;
 
-/// The source so far: its format, if the text has said it, the sandboxes that are finished,
-/// and the sandbox begun last.
+/// The source so far: its format, if the text has said it, the sandboxes that are finished, and the
+/// sandbox begun last.
 #[derive(Drop)]
 pub struct Progress {
     format: Option<Format>,

@@ -15,6 +15,7 @@ const NAMES: &[&str; 65] = &[
     "s10", "s11", "t3", "t4", "t5", "t6", "fp",
 ];
 
+/// The names of the registers.
 fn names() -> &'static [&'static str; 65]
     ensures { map (λ name. name.now) result.now ≡ register_names }
 {
@@ -44,7 +45,7 @@ fn name_place(name: &str) -> usize
     PLACES[hash(0, 37, name)] as usize
 }
 
-/// The name at this place.
+/// The name at this place of `names`.
 #[tactic(auto, using(crate::proofs::RegisterNames::at_place))]
 fn name_at(place: usize) -> &'static str
     requires { place < 65 }
@@ -53,7 +54,7 @@ fn name_at(place: usize) -> &'static str
     names()[place]
 }
 
-/// The register of the name at this place.
+/// The register whose name stands at this place of `names`.
 fn register_at(place: usize) -> Reg
     ensures { result ≡ register_at place }
 {

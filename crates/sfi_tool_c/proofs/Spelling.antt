@@ -54,6 +54,6 @@ pub utf8_more : (ws more : List Text) (word read : Text) → All IsUtf8 ws → I
 utf8_more ws more word read all one is more_is =
     All-same IsUtf8 more (ws ++ word ∷ []) more_is (All-append IsUtf8 ws (word ∷ []) all (All-replicate IsUtf8 1 word (subst IsUtf8 (sym is) one)))
 
--- the same words, spelled by the same bytes
+-- equal words are spelled by the same bytes
 pub same_spelled : (bytes : List ℕ) (ws more : List Text) → SpellsWords bytes ws → ws ≡ more → SpellsWords bytes more
 same_spelled bytes ws more spelled is = subst (λ (all : List Text). SpellsWords bytes all) is spelled

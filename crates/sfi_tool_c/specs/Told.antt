@@ -24,7 +24,7 @@ pub record TellsText (text old new : List ℕ) (told : ℕ) : Type 0 where
   pub length_is : told ≡ length text
   pub output_is : new ≡ with_text text old
 
--- the answer's text was written so, and its length told
+-- the answer's text was written to the caller's array, and its length told
 pub record TellsAnswer (words input : List ℕ) (status : ℕ) (old new : List ℕ) (told : ℕ) : Type 0 where
   pub text : List ℕ
   pub answer : IsAnswer words input status text

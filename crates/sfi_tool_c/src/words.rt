@@ -22,6 +22,7 @@ impl From<AllocError> for WordsFault {
     }
 }
 
+/// Appends a copy of `word`.
 fn push_word(alloc: Global, words: &mut Vec<String>, word: &str) -> Result<(), AllocError>
     ensures { OnOk result (map string_bytes words.new.items
         ≡ map string_bytes words.old.items ++ word.now ∷ []) }

@@ -39,7 +39,7 @@ writes (Fence imm rd rs1) n h m = inl refl
 writes Ecall n h m = inl refl
 writes Ebreak n h m = inl refl
 
--- so the others stay, and how many there are
+-- the registers that the instruction doesn't write stay, and so does their number
 pub others_stay : (i : Instr) (h h' : Hart) (r : ℕ) → Writes i h h' → destination i ≢ Some r → register h' r ≡ register h r
 others_stay i h h' r (inl e) ne = ap (λ (l : List ℕ). slice_index l r) e
 others_stay i h h' r (inr (rd, value, at, e)) ne =

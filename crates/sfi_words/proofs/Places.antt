@@ -72,7 +72,7 @@ module _ (p : Part) (clean : IsCleanInWords p) where
       record { offset = k; place = place; pc = omega arith; even = omega arith; known = typed_known p h.registers (place.here ∷ place.later) typed }
 
   module _ (h : Hart) (at : IsAtPlaceInWords p h) where
-    -- it lies in the code
+    -- the instruction lies in the code
     pub here_within : (0 < at.place.here.size) × (at.offset + at.place.here.size ≤ length p.code)
     here_within =
         let w = spelled_within (drop at.offset p.code) at.place.here.instr at.place.here.size at.place.reading.0 in

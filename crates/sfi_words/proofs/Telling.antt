@@ -64,7 +64,7 @@ module _ (p : Part) (b : BundlePlace) (in_part : IsPlaceIn p b) (at : ℕ) (i : 
   fits : at + n ≤ length p.code
   fits = let w = spelled_within (drop at p.code) i n s in omega (arith, w.0, w.1, length-drop at p.code)
 
-  -- it is the region's last where the code ends with it
+  -- the instruction is the region's last where the code ends with it
   last_there : length p.code ≤ at + n → (p.code_base + at + n == b.code_base + b.code_size) ≡ true
   last_there past = let f = fits in let base = in_part.base in let size = in_part.size in eq-eqb (p.code_base + at + n) (b.code_base + b.code_size) (omega arith)
 
@@ -138,7 +138,7 @@ spelled_more p at m i n fits s = subst (λ (l : List ℕ). Spells l i n) (take-t
 spelled_less : (p : Part) (at m : ℕ) (i : Instr) (n : ℕ) → n ≤ m → Spells (take n (drop at p.code)) i n → Spells (take n (Code p at m)) i n
 spelled_less p at m i n fits s = subst (λ (l : List ℕ). Spells l i n) (sym (take-take n m (drop at p.code) fits)) s
 
--- where so many bytes are left of a word
+-- from offset `at` of the code on, `m` bytes are left of a word
 pub record IsLeft (p : Part) (at m : ℕ) : Type 0 where
   pub even : at % 2 ≡ 0
   pub ends : (at + m) % 4 ≡ 0

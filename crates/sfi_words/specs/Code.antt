@@ -9,7 +9,7 @@ use Rattle.sfi_rules.specs.Readings.{Piece, IsReading, rest_of}
 use Rattle.sfi_rules.specs.Rules.{breaks_reserved}
 use Rattle.sfi_rules.specs.words.Rules.{breaks_width, breaks_ecall, breaks_access, breaks_jump, breaks_target, breaks_end, breaks_data, breaks_code, breaks_offset}
 
--- no rule is broken by the piece at this address, before those
+-- no rule is broken by the piece at this address, with `later` after it
 pub record BreaksNone (p : Part) (at : ℕ) (x : Piece) (later : List Piece) : Type 0 where
   pub width : breaks_width at x.size ≡ false
   pub ecall : breaks_ecall (is_gate_of p.gates at) x.instr ≡ false
@@ -22,7 +22,7 @@ pub record BreaksNone (p : Part) (at : ℕ) (x : Piece) (later : List Piece) : T
   pub code_write : breaks_code x.instr later ≡ false
   pub offset_write : breaks_offset x.instr ≡ false
 
--- nor by any of these, the first of which is at this address
+-- no rule is broken by any of these pieces, the first of which is at this address
 abbrev pub BreakNone : Part → ℕ → List Piece → Type 0
 BreakNone p at [] = Unit {0}
 BreakNone p at (x ∷ later) = BreaksNone p at x later × BreakNone p (at + x.size) later

@@ -25,12 +25,13 @@ TurnKeepsInWords =
 abbrev pub CleanWordsRunSafely : Type 0
 CleanWordsRunSafely = (p : Part) → IsCleanInWords p → RunsSafely p
 
--- and each call is made with the typed registers set
+-- in every run from every entry each call is made with the typed registers holding what their types
+-- say
 abbrev pub CleanWordsCallTyped : Type 0
 CleanWordsCallTyped = (p : Part) → IsCleanInWords p → CallsTyped p
 
 -- a sandbox with a right layout, whatever its format, has no finding as code in words exactly if it
--- breaks no rule of these
+-- breaks no rule of code in words
 abbrev pub FindsWhatIsBroken : Type 0
 FindsWhatIsBroken =
     (sandbox : ℕ) (p : Part) (found : List Finding) → IsRightPart p

@@ -11,8 +11,9 @@ use Rattle.sfi_runs.specs.Typed.{IsWordStart, IsNear}
 use Rattle.sfi_rules.specs.words.Rules.{begins_placing, begins_masking, begins_using, begins_code}
 use Rattle.sfi_words.specs.Code.{BreakNone}
 
--- What is known of a data register before these pieces. It lies near the data; or it is placed
--- there now, or masked and placed; or it lies a step further, and is used now.
+-- What is known of a data register before these pieces. It lies near the data; or it is placed by
+-- the first piece, or masked and placed by the first two; or it lies a step further, and the first
+-- piece uses it.
 abbrev pub IsKnown : Part → ℕ → ℕ → List Piece → Type 0
 IsKnown p d value pieces =
     IsNear p slack value
@@ -20,7 +21,8 @@ IsKnown p d value pieces =
     ⊎ ((begins_masking d pieces ≡ true)
     ⊎ (IsNear p (slack + 2048) value × (begins_using d pieces ≡ true))))
 
--- What is known of the code register: it is a word's start; or it is masked, and placed now.
+-- What is known of the code register before these pieces: it is a word's start; or it is masked,
+-- and placed by the first piece.
 abbrev pub IsCodeKnown : Part → ℕ → List Piece → Type 0
 IsCodeKnown p value pieces =
     IsWordStart p value
@@ -32,7 +34,7 @@ pub record AreKnown (p : Part) (registers : List ℕ) (pieces : List Piece) : Ty
   pub code : IsCodeKnown p (slice_index registers code_register) pieces
   pub offset : slice_index registers offset_register < p.data_size
 
--- an offset of the code from which the rest is read whole, and breaks no rule
+-- from this offset on the rest of the code is read whole, and breaks no rule
 pub record IsPlace (p : Part) (offset : ℕ) : Type 0 where
   pub here : Piece
   pub later : List Piece
@@ -40,7 +42,7 @@ pub record IsPlace (p : Part) (offset : ℕ) : Type 0 where
   pub whole : rest_of (drop offset p.code) (here ∷ later) ≡ []
   pub none : BreakNone p (p.code_base + offset) (here ∷ later)
 
--- pc is at such an offset, and the typed registers hold what is known there
+-- pc is at such an offset of the code, and the typed registers hold what is known there
 pub record IsAtPlaceInWords (p : Part) (h : Hart) : Type 0 where
   pub offset : ℕ
   pub place : IsPlace p offset
@@ -48,7 +50,7 @@ pub record IsAtPlaceInWords (p : Part) (h : Hart) : Type 0 where
   pub even : offset % 2 ≡ 0
   pub known : AreKnown p h.registers (place.here ∷ place.later)
 
--- a good state
+-- a good state: it has what all turns keep, and stands at a good place
 pub record IsGoodInWords (p : Part) (s : State) : Type 0 where
   pub kept : KeepsAll p s
   pub place : IsAtPlaceInWords p s.hart

@@ -85,7 +85,7 @@ try_libraries() { # format
     report "a heap, and main's arguments, format $1" "sandbox=0 exit=1000 out=" "$(line_of "$room/heap.$1.elf")"
 }
 
-# A loop around a body of so many accesses, which its branch reaches, just not any more, or where `as` may think so.
+# A loop around a body of $1 accesses, which its branch reaches, just not any more, or where `as` may think so.
 far_loop() { # accesses
     printf '.globl main\nmain: li t0,3\nli a0,0\nla a1,word\nloop: addi t0,t0,-1\nbeqz t0,end\n'
     printf 'sw a0,0(a1)\n%.0s' $(seq "$1")

@@ -1,5 +1,5 @@
 #!/usr/bin/env python3
-"""Prints a C program with a `switch` of so many cases in a loop, which docs/C.md measures: 20 times over 1024 values.
+"""Prints a C program with a `switch` of CASES cases in a loop, which docs/C.md measures: 20 times over 1024 values.
 
     examples/c/programs/switch.py CASES > switch.c
 """

@@ -222,7 +222,7 @@ def parsed(words):
     parser.add_argument("names", nargs="*", metavar="NAME", help="tests that run in each way, in place of the sample")
     parser.add_argument("--all", action="store_true", help="all tests in each way")
     parser.add_argument("--ieee", action="store_true", help="the tests of the folder ieee, all in each way")
-    parser.add_argument("--csmith", type=int, default=0, metavar="COUNT", help="so many programs by csmith in place of the tests")
+    parser.add_argument("--csmith", type=int, default=0, metavar="COUNT", help="COUNT programs by csmith in place of the tests")
     parser.add_argument("--seed", type=int, default=SEED, help="the first one's seed; %(default)s if absent")
     parser.add_argument("--compiler", action="append", choices=COMPILERS, help="gcc and clang if absent")
     parser.add_argument("--level", action="append", choices=LEVELS, help="such as --level=-O2; all if absent")

@@ -1,5 +1,5 @@
 /* A shell on the serial line. Each line of it is a command, its numbers hexadecimal:
-       update SLOT LENGTH      an image of so many bytes comes for the slot ..
+       update SLOT LENGTH      an image of LENGTH bytes comes for the slot ..
        piece DIGITS            .. in pieces of at most PIECE_MOST bytes; after the last one it is judged
        start SLOT              the current version anew
        kill SLOT

@@ -48,7 +48,7 @@ def in_user_mode(image, folder, given=""):
 
 
 def built(text, image_format, count=1):
-    """The image of a source text of so many sandboxes."""
+    """The image of a source text of `count` sandboxes."""
     places = [f"{CODE + 0x10000 * number:x}:{DATA + 0x8000 * number:x}" for number in range(count)]
     words = [word for place in places for word in ("--at", place)]
     return subprocess.run([SFI, "build", *words], input=f".format {image_format}\n{text}".encode(),

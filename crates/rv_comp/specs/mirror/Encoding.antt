@@ -28,7 +28,7 @@ is_low (Rs2 k) = nat_lt k 32
 is_low (Imm k) = nat_lt k 32
 is_low _ = true
 
--- the same of each of 16 bits
+-- each of these 16 bits is one that 32 bits have
 abbrev pub AreLow : List Bit → Type 0
 AreLow bits = (k : ℕ) (other : Bit) → k < 16 → IsTrue (is_low (slice_index_or bits k other))
 

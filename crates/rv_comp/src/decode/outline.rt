@@ -35,7 +35,7 @@ fn jump(h: u16) -> Outline
     }
 }
 
-/// These, and C.EBREAK.
+/// C.JR, C.JALR, C.MV, C.ADD and C.EBREAK.
 #[tactic(auto, unfolding(crate::specs::mirror::Outlining::jump_or_stop))]
 #[inline(always)]
 fn jump_or_stop(h: u16) -> Option<Outline>
@@ -50,6 +50,7 @@ fn jump_or_stop(h: u16) -> Option<Outline>
     }
 }
 
+/// The outline of a halfword's form, by its quadrant and top three bits; none where it has no form.
 #[tactic(auto, unfolding(crate::specs::mirror::Outlining::outlined))]
 #[inline(always)]
 fn outline_halfword(h: u16) -> Option<Outline>

@@ -12,14 +12,17 @@ use rv_word::{
 };
 use std::process::Abort;
 
+/// The instruction on two registers with these operands.
 fn arithmetic(op: RegOp, rd: Reg, rs1: Reg, rs2: Reg) -> Instr {
     Instr::Op { op, rd, rs1, rs2 }
 }
 
+/// The instruction on a register and a constant with these operands.
 fn immediate(op: ImmOp, rd: Reg, rs1: Reg, imm: i32) -> Instr {
     Instr::OpImm { op, rd, rs1, imm }
 }
 
+/// `addi`, with registers by their numbers.
 fn addi(rd: u8, rs1: u8, imm: i32) -> Instr
     requires rd { rd < 32 }
     requires rs1 { rs1 < 32 }
@@ -43,6 +46,7 @@ fn store(rs1: Reg, rs2: Reg, imm: i32) -> Instr {
     }
 }
 
+/// The branch that compares `rs1` with x0.
 fn branch_on_zero(cond: Cond, rs1: Reg, offset: i32) -> Instr {
     Instr::Branch {
         cond,
@@ -62,16 +66,19 @@ fn jump_to(rd: Reg, rs1: Reg, imm: i32) -> Instr {
     Instr::Jalr { rd, rs1, imm }
 }
 
+/// `lui` with these operands.
 fn lui(rd: Reg, imm: u32) -> Instr {
     Instr::Lui { rd, imm }
 }
 
+/// `fence` with these fields.
 fn fence(imm: u32, rd: Reg, rs1: Reg) -> Instr {
     Instr::Fence { imm, rd, rs1 }
 }
 
 // ---- words
 
+/// Tries that `word` spells `instr`, and that both have one outline.
 fn spells(rt: &impl Abort, word: u32, instr: &Instr) {
     let is_spelled = decode32(word) == Some(*instr) && encode32(*instr) == Some(word);
     let is_outlined = outline32(word) == Some(outline_of(*instr));

@@ -14,7 +14,7 @@ pub(super) fn holds<M: Memory>(memory: &M, base: u32, bytes: &[u8]) -> bool {
     true
 }
 
-/// From the address on so many bytes are missing.
+/// Whether all `size` bytes from address `base` on are missing.
 fn lacks<M: Memory>(memory: &M, base: u32, size: u32) -> bool {
     (0..size).all(|k| memory.load(base.wrapping_add(k), Width::One).is_none())
 }
@@ -25,7 +25,7 @@ pub(super) enum Call {
     Store(u32, Width, u32, bool),
     Load(u32, Width, Option<u32>),
     Fetch(u32, Option<u16>),
-    /// From the address on so many bytes are missing.
+    /// From the address on, this number of bytes is missing.
     Lacks(u32, u32),
 }
 
@@ -95,6 +95,7 @@ impl Call {
     }
 }
 
+/// Tries the calls one after another: each is answered as it says.
 pub(super) fn are_answered<M: Memory>(rt: &impl Abort, memory: &mut M, calls: &[Call]) {
     let mut number = 0usize;
     for call in calls {
@@ -111,6 +112,7 @@ fn is_overlap<M: Memory>(memory: &mut M, base: u32, bytes: &[u8]) -> bool {
         && lacks(memory, 0x0180_2000, 256)
 }
 
+/// Tries that a region that overlaps another isn't added.
 fn overlaps_change_nothing<M: Memory>(rt: &impl Abort, memory: &mut M) {
     are_answered(rt, memory, &TWO_PAGES);
     let mut bytes = [0u8; 8192];

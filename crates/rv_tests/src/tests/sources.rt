@@ -25,6 +25,7 @@ fn push_body(out: &mut String, alloc: Global, body: &Body) -> Result<(), AllocEr
     }
 }
 
+// Appends the instruction's text.
 fn push_instr(out: &mut String, alloc: Global, instr: &Instr) -> Result<(), AllocError> {
     let text = print_instr(alloc, instr)?;
     out.push_str(text.as_str())
@@ -41,6 +42,7 @@ fn push_item(out: &mut String, alloc: Global, item: &Item) -> Result<(), AllocEr
     out.push_str("; ")
 }
 
+// Appends each gate as ` NAME=SERVICE`.
 fn push_gates(out: &mut String, part: &SourcePart) -> Result<(), AllocError> {
     for gate in part.gates() {
         let name = gate.name;
@@ -50,6 +52,7 @@ fn push_gates(out: &mut String, part: &SourcePart) -> Result<(), AllocError> {
     Ok(())
 }
 
+// Appends each name and what it names.
 fn push_names(out: &mut String, names: &Names) -> Result<(), AllocError> {
     for place in 0..names.len() {
         if let (Some(name), Some(named)) = (names.text(place), names.named(place)) {
@@ -59,6 +62,7 @@ fn push_names(out: &mut String, names: &Names) -> Result<(), AllocError> {
     Ok(())
 }
 
+// Appends each item, as `push_item` does.
 fn push_items(out: &mut String, alloc: Global, part: &SourcePart) -> Result<(), AllocError> {
     for item in part.items() {
         push_item(out, alloc, item)?;
@@ -66,6 +70,7 @@ fn push_items(out: &mut String, alloc: Global, part: &SourcePart) -> Result<(), 
     Ok(())
 }
 
+// Appends the data's first bytes, each in decimal.
 fn push_bytes(out: &mut String, part: &SourcePart) -> Result<(), AllocError> {
     for byte in part.bytes() {
         write!(out, " {byte}")?;
@@ -87,6 +92,7 @@ fn push_part(out: &mut String, alloc: Global, part: &SourcePart) -> Result<(), A
     out.push_str("\n")
 }
 
+// Appends each sandbox, as `push_part` does.
 fn push_parts(out: &mut String, alloc: Global, source: &Source) -> Result<(), AllocError> {
     for part in source.parts() {
         push_part(out, alloc, part)?;
@@ -190,7 +196,7 @@ const FAULTS: &str = "
 7 Limit line 4: .data; .zero 256; .byte 0
 ";
 
-// The same of whole texts.
+// Faults of whole texts, in the same form.
 const WHOLE_FAULTS: &str = "
 1 Word line 2: ; frob
 3 Number line 1: .sandbox 300
@@ -249,7 +255,7 @@ fn source_faults(rt: HostRuntime) -> Result<(), Fail> {
 
 // ---- texts at the limits of the assembler, and one step beyond
 
-// The text, so many times over, by doubling.
+// The text after `times` doublings.
 fn doubled(alloc: Global, text: &str, times: u32) -> Result<String, AllocError> {
     let mut whole = String::from_str(alloc, text)?;
     for _ in 0..times {

@@ -17,7 +17,7 @@ IsStackOf ps (Stack found) = AreImageFindings ps found.items × (found.items ≢
 IsStackOf ps Memory = Unit {0}
 IsStackOf ps Words = ⊥
 
--- these sandboxes break no rule, or the fault says which
+-- these sandboxes break no rule of the second format, or the fault says which they break
 pub record ChecksStack (ps : List Part) (answer : Result (Unit {0}) ConvertFault) : Type 0 where
   pub clean : IfOk answer (λ done. AreImageFindings ps [])
   pub fault : IfErr answer (IsStackOf ps)

@@ -8,7 +8,7 @@ use Rattle.sfi_rules.specs.declared.owed.Owed.{Owed}
 use Rattle.sfi_scan.specs.Stretches.{AreFoundInStretch, findings_most}
 use Rattle.sfi_check.specs.declared.tally.Tally.{Tally}
 
--- the second tally is the first with these findings more
+-- the second tally is the first with these findings added
 pub record AddsFindings (old new : Tally) (found : List Finding) : Type 0 where
   pub sandboxes : new.sandboxes ≡ old.sandboxes
   pub bundles : new.bundles ≡ old.bundles
@@ -18,7 +18,7 @@ pub record AddsFindings (old new : Tally) (found : List Finding) : Type 0 where
       → new.first ≡ slice_get (before ++ found) 0
   pub owed : new.owed ≡ old.owed
 
--- it is, where 32 bits have room for their number
+-- the second tally is the first with these findings added, where 32 bits have room for their number
 abbrev pub Counts : Tally → Tally → List Finding → Type 0
 Counts old new found = old.count + length found < 2 ^ 32 → AddsFindings old new found
 
@@ -47,8 +47,8 @@ counts_more t u v xs ys one two = λ room.
       owed = b.owed ∙ a.owed;
     }
 
--- the first n bundles of a stretch are scanned, before which this is owed: the tally counts their
--- findings, and the sink took them
+-- the first n bundles of a stretch are scanned, with `owed` owed before them: the tally counts
+-- their findings, and the sink took them
 pub record IsCounted {F : Type 0} (takes : F → List Finding → F → Type 0) (b : BundlePlace)
     (owed : Owed) (bytes : List ℕ) (n : ℕ) (next : Owed) (old new : Tally) (before after : F) : Type 0 where
   pub found : List Finding

@@ -6,7 +6,8 @@ use Rattle.sfi_check.specs.declared.feed.Feed.{Feed}
 use Rattle.sfi_rules.specs.declared.finding.Finding.{Finding}
 use Rattle.sfi_check.specs.Feeds.{IsFedFinding}
 
--- whatever it was fed, it then was fed these bytes, too, and the sink took the findings in them
+-- whatever bytes the feed was fed, it then was fed these bytes, too, and the sink took the findings
+-- in them
 abbrev pub IsFedOn : {F : Type 0} → (F → List Finding → F → Type 0) → F → F → Feed → Feed → List ℕ
     → Type 0
 IsFedOn {F} takes sink after old new bytes = (first : F) (before : List ℕ)

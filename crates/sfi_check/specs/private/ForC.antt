@@ -5,7 +5,7 @@ use Rattle.sfi_check.specs.declared.stream_answer.StreamAnswer.{StreamAnswer}
 use Rattle.sfi_check.specs.declared.stream_answer.StreamAnswer.TheVariants.{Accepted, Layout, Findings, ReadFault}
 use Rattle.sfi_check.specs.ForC.{no_finding, acceptance, refusal, no_image}
 
--- no read fails
+-- the verdict that says what the answer says; no read fails
 abbrev pub verdict_for_c : StreamAnswer → SfiVerdict
 verdict_for_c (Accepted sandboxes bundles) = acceptance sandboxes bundles
 verdict_for_c (Layout k) = no_image (fault_number k)

@@ -5,11 +5,11 @@ use Rattle.sfi_host.specs.Joint.{Machine, IsMachine, turned}
 use Rattle.sfi_host.specs.Slots.{Slot}
 use Rattle.sfi_host.specs.Waiting.{silent}
 
--- the sandbox of that number after so many steps, up to its first call
+-- the sandbox of that number after `steps` steps, or at its first call if that comes earlier
 abbrev pub after_steps : Machine → ℕ → ℕ → Slot → Slot
 after_steps machine number steps slot = (turned machine silent number steps slot tt).slot
 
--- to one sandbox, `IsUpToStop` of Until.antt
+-- `IsUpToStop` of Until.antt, for one sandbox
 pub record IsTurnUntil (stops : List ℕ) (steps : ℕ) (old new : Slot) : Type 0 where
   pub count : ℕ
   pub most : count ≤ steps

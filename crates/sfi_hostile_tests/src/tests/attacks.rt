@@ -15,7 +15,8 @@ enum Harm {
     FirstFormat,
     /// In the second format alone: in the first x2 is a register like others.
     SecondFormat,
-    /// Unless so many bytes after its first one a bundle of the region begins, or in words a word.
+    /// Where no bundle (in words, no word) of the region begins this many bytes after its first
+    /// byte.
     Jump(u32),
     /// As the region's last instruction alone.
     AtEnd,
@@ -39,7 +40,7 @@ enum Filler {
 use Filler::{CNop, Ebreak, Nop};
 
 impl Filler {
-    /// So many bytes of it, an even number.
+    /// Pieces with `bytes` bytes of it in all; `bytes` is even.
     fn pieces(self, bytes: u32) -> [(&'static str, usize); 2] {
         let words = (bytes / 4) as usize;
         let rest = (C_NOP, (bytes % 4 / 2) as usize);
@@ -103,8 +104,8 @@ second V10 0 41610290 c.addi16sp x2, 16
 second V10 8 b37fb501b3efaf0103a10f000290 lw x2
 ";
 
-/// The same of code in words. Where another instruction has to come, its place is that of what comes instead. An `ebreak` at
-/// the end keeps V8 where the region ends there.
+/// Such rows for code in words. Where another instruction has to come, its place is that of what
+/// comes instead. An `ebreak` at the end keeps V8 where the region ends there.
 const WORD_ATTACKS: &str = "
 anywhere V5 0 2320b500 store on x10
 anywhere V5 8 b37fb50133e5af012320b500 store on x10 after its pair
@@ -157,6 +158,7 @@ anywhere V1 0 00000000 no instruction
 end V8 0 13000000 addi at the end
 ";
 
+/// Where an attack breaks its rule, by the first word of its row.
 fn harm_of(word: &str) -> Option<Harm> {
     match word {
         "anywhere" => Some(Anywhere),
@@ -167,6 +169,7 @@ fn harm_of(word: &str) -> Option<Harm> {
     }
 }
 
+/// The rule of that name.
 fn rule_of(word: &str) -> Option<Rule> {
     match word {
         "V1" => Some(Rule::V1),
@@ -184,6 +187,7 @@ fn rule_of(word: &str) -> Option<Rule> {
     }
 }
 
+/// The attack of a row.
 fn attack_of<'a>(line: &'a str) -> Option<Attack<'a>> {
     let (harm, rest) = line.split_once(' ')?;
     let (rule, rest) = rest.split_once(' ')?;

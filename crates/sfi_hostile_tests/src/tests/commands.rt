@@ -50,6 +50,7 @@ const ON_X0: &[(&str, usize)] = &[(SFI1, 1), (HEAD, 1), (PAIR_ON_X0, 1), (EBREAK
 
 const PROGRAM: &[(&str, usize)] = &[(SFI1, 1), (HI, 1), (C_EBREAK, 88), ("4869", 1)];
 
+/// The pieces of the input of that name.
 fn pieces_of(name: &str) -> Option<&'static [(&'static str, usize)]> {
     match name {
         "smallest" | "smallest bytes" => Some(SMALLEST),

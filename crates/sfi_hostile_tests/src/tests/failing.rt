@@ -10,7 +10,7 @@ use std::alloc::{AllocError, Global};
 use std::io::{self, ErrorKind, Read, Write};
 use std::test::Fail;
 
-/// Gives at most so many bytes at a call, and fails after so many calls.
+/// Gives at most `step` bytes of `rest` at a call, and fails after `calls` calls.
 #[derive(Drop)]
 struct Tap<'a> {
     rest: &'a [u8],
@@ -34,7 +34,7 @@ impl<'a> Read for Tap<'a> {
     }
 }
 
-/// Takes at most so many bytes at a call, and after so many calls fails, or takes nothing.
+/// Takes at most `step` bytes at a call. After `calls` calls it fails, or takes nothing.
 #[derive(Drop)]
 struct Sink {
     taken: Vec<u8>,
@@ -96,7 +96,7 @@ struct Ended {
 }
 
 impl Ended {
-    // It ended with that status, having printed that, and tried no failed call again.
+    // Whether it ended with this status, having printed `printed`, and tried no failed call again.
     fn is(&self, status: u8, printed: &[u8]) -> bool {
         self.status == status && self.printed.as_slice() == printed && !self.is_tried_again
     }
@@ -220,7 +220,7 @@ fn commands_end_at_what_fails(rt: HostRuntime) -> Result<(), Fail> {
 
 // ---- long inputs, of which the test keeps one piece
 
-/// Gives bytes again and again, so many in all.
+/// Gives the bytes of `piece` again and again, until `left` bytes are given.
 #[derive(Drop)]
 struct Repeated<'a> {
     piece: &'a [u8],
@@ -239,7 +239,7 @@ impl<'a> Read for Repeated<'a> {
 /// The most bytes of an input text.
 const LIMIT: usize = 134217728;
 
-// The command over so many bytes of one value ends in status 2, having printed that.
+// Whether the command, given `count` bytes of value `byte`, prints `said` and ends in status 2.
 fn is_refused(
     alloc: Global,
     command: &str,

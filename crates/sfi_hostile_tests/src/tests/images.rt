@@ -39,7 +39,7 @@ pub(super) fn hi_pieces(magic: &str) -> [(&str, usize); 4] {
     [(magic, 1), (HI, 1), (C_EBREAK, 88), ("4869", 1)]
 }
 
-/// The digits of the pieces, each so many times.
+/// The digits of the pieces, each repeated by its count.
 pub(super) fn digits_of(alloc: Global, pieces: &[(&str, usize)]) -> Result<String, AllocError> {
     let mut digits = String::new(alloc);
     for (piece, times) in pieces {

@@ -5,13 +5,14 @@ use Rattle.sfi_image.specs.declared.cursor.ImageCursor.{ImageCursor}
 use Rattle.sfi_image.specs.Cursor.{HasRead, unread}
 use Rattle.sfi_image.specs.Fronts.{Front, Follows}
 
--- what was read meets Found, or the fault meets Faulty
+-- the result is a value for which `Found` holds, or a fault for which `Faulty` holds
 abbrev pub Gives :
     {X : Type 0} → (X → Type 0) → (LayoutFault → Type 0) → Result X LayoutFault → Type 0
 Gives Found Faulty (Ok x) = Found x
 Gives Found Faulty (Err k) = Faulty k
 
--- so many bytes were read on, after which the cursor has read the front that follows with them
+-- the next `len` bytes, `s`, were read: the cursor has now read the front that follows `x` with
+-- them
 pub record LeadsOn (bytes : List ℕ) (x : Front) (len : ℕ) (s : List ℕ) (old new : ImageCursor)
     : Type 0 where
   pub len_is : length s ≡ len

@@ -19,17 +19,17 @@ as_want (others.Init n) = wants.Init n
 as_want others.End = wants.End
 as_want others.Nothing = wants.Nothing
 
--- the first of the addresses is that one
+-- the first of the addresses is `at`
 abbrev pub is_first : List ℕ → ℕ → Bool
 is_first [] at = false
 is_first (a ∷ more) at = a == at
 
--- the first of the addresses, or else the other
+-- the first of the addresses, or `other` where there is none
 abbrev pub first_or : ℕ → List ℕ → ℕ
 first_or other [] = other
 first_or other (a ∷ more) = a
 
--- how many addresses at the front are below that one
+-- how many addresses at the front of the list are below `end`
 abbrev pub count_below : ℕ → List ℕ → ℕ
 count_below end [] = 0
 count_below end (a ∷ more) = cond (nat_lt a end) (suc (count_below end more)) 0
@@ -50,8 +50,8 @@ next_code read size len begun count = cond (read == size) (next_init 0 len begun
 abbrev pub next_gate : ℕ → ℕ → Next
 next_gate read gate_count = cond (read == gate_count) next.Code next.Gate
 
--- that comes next, for a sandbox with fields `f` of which `code` bytes of code and `init` first data
--- bytes are read: `len` bytes may be taken
+-- `len` bytes may be taken, where this comes next for a sandbox with fields `f` of which `code`
+-- bytes of code and `init` first data bytes are read
 abbrev pub TakesLength : Next → Fields → ℕ → ℕ → ℕ → Type 0
 TakesLength next.Magic f code init len = len ≡ magic_bytes
 TakesLength next.Count f code init len = len ≡ number_bytes
@@ -66,12 +66,12 @@ TakesLength next.Nothing f code init len = ⊥
 abbrev pub IsReader : LayoutReader → Type 0
 IsReader r = HasStopped r ⊎ ((x : Front) × StandsFor r x)
 
--- `len` bytes are as long as what comes next, told by what is kept
+-- `len` bytes may be taken in this state
 abbrev pub MayTake : LayoutReader → ℕ → Type 0
 MayTake r len = IsReader r × TakesLength r.next r.fields r.code_read r.init_read len
 
--- no fault, and it goes on from each front that it stands for;
--- or a fault of each of them with these bytes
+-- With no fault, the new reader stands for each front that the old one stood for, with these bytes
+-- after it. With a fault, each of those fronts has that fault with these bytes, whatever follows.
 abbrev pub Takes : LayoutReader → List ℕ → LayoutReader → Option LayoutFault → Type 0
 Takes old s new None = (x : Front) → StandsFor old x → Leads x s new
 Takes old s new (Some k) =

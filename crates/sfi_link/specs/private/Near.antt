@@ -34,7 +34,7 @@ pub record IsNear (at : Bases) (name : PlacedName) : Type 0 where
 abbrev pub AreNear : Bases → List PlacedName → Type 0
 AreNear at names = All (IsNear at) names
 
--- so many more bytes after the code so far have room below 2 ^ 32, and in a code region
+-- `more` bytes after the `old` bytes of code so far have room below 2 ^ 32, and in a code region
 pub record HasRoomFor (at : Bases) (old more : ℕ) : Type 0 where
   pub below : at.code + old + more < 2 ^ 32
   pub within : old + more ≤ code_most Sfi2

@@ -104,6 +104,6 @@ pub record AreSeen (code : Code) (byte : ℕ → ℕ) (m : Masks) : Type 0 where
       (i : ℕ) → i < 16 → is_in m.access i
       ≡ not (access_classes code (byte (2 * i)) (byte (2 * i + 1)) (byte (2 * ((i + 1) % 16) + 1)) == 0)
 
--- of four numbers the one of that place
+-- of four numbers the one with this index
 abbrev pub of_four : ℕ → ℕ → ℕ → ℕ → ℕ → ℕ
 of_four a b c d place = if place == 0 then a else if place == 1 then b else if place == 2 then c else d

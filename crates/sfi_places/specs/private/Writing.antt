@@ -22,7 +22,8 @@ pub record GoesTo (from to at : ℕ) : Type 0 where
 abbrev pub GatesGo : ℕ → ℕ → List Gate → Type 0
 GatesGo from to gs = All (λ (g : Gate). GoesTo from to g.address) gs
 
--- the sandbox lies at the first place and has so many gates, and its addresses can go to the second
+-- the sandbox lies at the first place and has `gate_count` gates, and its addresses can go to the
+-- second
 pub record CanMove (from to : Place) (gate_count : ℕ) (p : Part) : Type 0 where
   pub code_is : p.code_base ≡ from.code_base
   pub data_is : p.data_base ≡ from.data_base

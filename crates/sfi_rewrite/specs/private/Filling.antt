@@ -23,17 +23,17 @@ use Rattle.sfi_rewrite.specs.declared.fault.RewriteFault.TheVariants.{TooLarge}
 abbrev pub largest : ℕ
 largest = code_most Sfi2
 
--- a bundle's bytes of slots
+-- the slots have as many bytes as a bundle
 abbrev pub IsFull : List Slot → Type 0
 IsFull bundle = size_of bundle ≡ bundle_size
 
--- what the bundles keep; `end` is the bytes of all
+-- what the bundles keep; `end` is the number of bytes of all
 pub record IsFilled (bundles : List (List Slot)) (end : ℕ) : Type 0 where
   pub are_bundles : AreBundles bundles
   pub end_is : end ≡ size_of (slots_of bundles)
 
--- the slots with the item's c.nops and expansion after them,
--- within the most that a sandbox may have
+-- the new slots are the old ones with the item's c.nops and expansion after them, and a sandbox may
+-- have as many
 pub record HasNext (f : Format) (old : List Slot) (x : Item) (new : List Slot) : Type 0 where
   pub nops : ℕ
   pub expanded : List Slot
@@ -45,7 +45,8 @@ pub record HasNext (f : Format) (old : List Slot) (x : Item) (new : List Slot) :
 abbrev pub HaveBodies : List Item → Type 0
 HaveBodies items = All (λ x. (count : ℕ) × IsBody count x.body) items
 
--- after that end the item's expansion would begin a bundle beyond the last, and this fault says so
+-- after `end` the item's expansion would begin a bundle beyond the last, and this is the fault of
+-- that
 pub record IsTooLarge (f : Format) (sandbox end : ℕ) (x : Item) (fault : RewriteFault) : Type 0 where
   pub nops : ℕ
   pub expanded : List Slot
@@ -59,7 +60,7 @@ pub record AreLabels (in_words : Bool) (f : Format) (items : List Item)
   pub count : length labels ≡ length items + 1
   pub each : (k : ℕ) → k ≤ length items → IsLabelAt in_words f items k (slice_index labels k)
 
--- where a label stands before an item, there is a place of it among so many
+-- where the name is that of a place before an item, it is one of the `count` places that are known
 abbrev pub HasLabel : ℕ → Named → Type 0
 HasLabel count (Gate k) = Unit {0}
 HasLabel count (Code k) = k < count

@@ -26,16 +26,16 @@ abbrev pub waiting_size : Option Form16 → ℕ
 waiting_size None = 0
 waiting_size (Some f) = 4
 
--- how many bytes they take, if nothing more comes
+-- how many bytes the words take, if nothing more comes
 abbrev pub bytes_of : WordsSoFar → ℕ
 bytes_of w = size_of w.words + waiting_size w.waiting
 
--- how many bytes more they take with that slot
+-- how many bytes more the words take with this slot
 abbrev pub more_for : Option Form16 → Slot → ℕ
 more_for (Some f) (Short g) = 0
 more_for waiting s = 4
 
--- the form that waits alone in its word
+-- the words when no second form joins the one that waits: it stands alone in its word, in 32 bits
 abbrev pub ended : List Slot → Option Form16 → WordsSoFar
 ended words None = so_far words None
 ended words (Some f) = so_far (words ++ Wide (expansion f) ∷ []) None
@@ -46,7 +46,7 @@ with_slot words (Some f) (Short g) = so_far (words ++ Short f ∷ Short g ∷ []
 with_slot words None (Short g) = so_far words (Some g)
 with_slot words waiting s = so_far ((ended words waiting).words ++ s ∷ []) None
 
--- the words with these slots after them, of which no label stands before a second one
+-- the words with these slots after them, where no label stands before any but the first slot
 abbrev pub with_slots : WordsSoFar → List Slot → WordsSoFar
 with_slots w [] = w
 with_slots w (s ∷ slots) = with_slots (with_slot w.words w.waiting s) slots
@@ -60,7 +60,7 @@ waits (Some f) = (false, Short f) ∷ []
 abbrev pub with_more : WordsSoFar → List Marked → List Slot
 with_more w more = w.words ++ in_words (waits w.waiting ++ more)
 
--- the words with these slots after them are the other words, whatever comes after
+-- the old words with these slots after them come to the new words, whatever comes after
 abbrev pub LeadsTo : WordsSoFar → List Marked → WordsSoFar → Type 0
 LeadsTo old slots new = (more : List Marked) → with_more old (slots ++ more) ≡ with_more new more
 
@@ -68,28 +68,30 @@ LeadsTo old slots new = (more : List Marked) → with_more old (slots ++ more) �
 abbrev pub AreWords : WordsSoFar → Type 0
 AreWords w = size_of w.words % 4 ≡ 0
 
--- they are whole, and a code region has room for them
+-- the words are whole, and a code region has room for them
 pub record HaveRoom (w : WordsSoFar) : Type 0 where
   pub aligned : AreWords w
   pub fits : bytes_of w ≤ code_most Sfiw
 
--- the form that waits alone in its word where a label comes
+-- the words before what may be a label: where one comes, the form that waits stands alone in its word
 abbrev pub before_label : Bool → List Slot → Option Form16 → WordsSoFar
 before_label false words waiting = so_far words waiting
 before_label true words waiting = ended words waiting
 
--- the words with the slots of an item after them that stands before those items
+-- the new words are the old ones with the slots of item `x` after them, where `later` comes after
+-- the item
 pub record AreWith (x : Item) (later : List Item) (old new : WordsSoFar) : Type 0 where
   pub expanded : List Slot
   pub is_expansion : IsExpansion x later expanded
   pub lead : LeadsTo old (marked x.labelled expanded) new
 
--- no code region has room for the words, and this fault says so
+-- no code region has room for the words, and this is the fault of that
 pub record IsBeyond (sandbox : ℕ) (w : WordsSoFar) (f : RewriteFault) : Type 0 where
   pub beyond : code_most Sfiw < bytes_of w
   pub fault : f ≡ TooLarge sandbox
 
--- no code region has room for those, and this fault says so
+-- no code region has room for the words with the item's slots after them, and this is the fault of
+-- that
 pub record HasNoRoom (sandbox : ℕ) (x : Item) (later : List Item) (old : WordsSoFar)
     (f : RewriteFault) : Type 0 where
   pub new : WordsSoFar

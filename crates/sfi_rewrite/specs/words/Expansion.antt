@@ -26,13 +26,13 @@ data_mask d a =
 
 -- ---- a load, a store, an indirect jump
 
--- the register by which an access on a goes: a data register itself; for x0 it is x26, since a
--- masked 0 is the region's first address; for any other x29
+-- the base on which an access on a is made: a data register itself; x26 for x0, since a masked 0 is
+-- the region's first address; x29 for any other register
 abbrev pub base_of : ℕ → ℕ
 base_of a =
     if is_data_register a then a else if a == 0 then data_base_register else address_register
 
--- what makes that register the address that a masks to
+-- the mask by which x29 becomes the address of a, where an access on a is made on x29
 abbrev pub makes_base : ℕ → List Slot
 makes_base a = if is_data_register a || (a == 0) then [] else data_mask address_register a
 
@@ -44,7 +44,8 @@ before (Store width a rs2 imm) = makes_base a
 before (Jalr rd a imm) = map Wide (code_pair code_register a)
 before i = []
 
--- the instruction on the register that it goes by; an indirect jump has 32 bits
+-- the instruction, with its base or target replaced by the register on which it is confined; an
+-- indirect jump has 32 bits
 abbrev pub IsConfined : Bool → Instr → List Slot → Type 0
 IsConfined rvc (Load kind rd a imm) slots = IsAlone rvc (Load kind rd (base_of a) imm) slots
 IsConfined rvc (Store width a rs2 imm) slots = IsAlone rvc (Store width (base_of a) rs2 imm) slots
@@ -53,29 +54,30 @@ IsConfined rvc i slots = IsAlone rvc i slots
 
 -- ---- a write of a data register
 
--- the mask of that register, if it is one
+-- the mask of the register that is written, if it is a data register
 abbrev pub mask_after : Option ℕ → List Slot
 mask_after None = []
 mask_after (Some d) = if is_data_register d then data_mask d d else []
 
--- from -1020 to 1020
+-- the offset is from -1020 to 1020
 abbrev pub is_small : ℤ → Bool
 is_small (pos n) = nat_le n slack
 is_small (negsuc n) = nat_lt n slack
 
--- a load, other than into x0, or store on d at such an offset
+-- a load, other than into x0, or store on d with an offset from -1020 to 1020
 abbrev pub is_use : ℕ → Instr → Bool
 is_use d (Load kind rd a imm) = (a == d) && is_small imm && not (rd == 0)
 is_use d (Store width a rs2 imm) = (a == d) && is_small imm
 is_use d i = false
 
--- `addi d, d, k` of a data register, and a use of it
+-- the first body is `addi d, d, k` of a data register, and the second a load or store on d as
+-- `is_use` says
 abbrev pub is_step_to : Body → Body → Bool
 is_step_to (Plain (OpImm Addi d a k)) (Plain i) = is_data_register d && (a == d) && is_use d i
 is_step_to x y = false
 
--- The item is a step to the first of those after it: no label stands between. (The rules call any
--- `addi d, d, k` a step.)
+-- The item is a step of a data register that the first item of `later` uses: no label stands
+-- between. (The rules call any `addi d, d, k` a step.)
 abbrev pub is_step : Item → List Item → Bool
 is_step x [] = false
 is_step x (y ∷ later) = not y.labelled && is_step_to x.body y.body
@@ -102,20 +104,20 @@ moved (OpImm op d a imm) = data_mask d a
 moved (Op op d rs1 rs2) = data_mask d rs2
 moved i = []
 
--- ---- all
+-- ---- the whole expansion
 
--- the instruction as it is confined, between what stands before it and after it
+-- the confined instruction, with what has to stand before it and after it
 abbrev pub IsAround : Bool → Bool → Instr → List Slot → Type 0
 IsAround rvc step i slots =
     (confined : List Slot) × IsConfined rvc i confined
     × (slots ≡ before i ++ (confined ++ after step i))
 
--- that of an instruction, which is a step or not
+-- the expansion of an instruction, which is a step or not
 abbrev pub IsPlainExpansion : Bool → Bool → Instr → List Slot → Type 0
 IsPlainExpansion rvc step i slots =
     MatchBool (is_move i && not step) (slots ≡ moved i) (IsAround rvc step i slots)
 
--- that of the item on a line
+-- the expansion of the item on a line
 abbrev pub IsExpansionOf : ℕ → Bool → Bool → Body → List Slot → Type 0
 IsExpansionOf line rvc step (Plain i) slots = IsPlainExpansion rvc step i slots
 IsExpansionOf line rvc step (To i name) slots = slots ≡ Jump i name line ∷ []
@@ -123,11 +125,11 @@ IsExpansionOf line rvc step (High rd name) slots =
     slots ≡ Upper rd name line ∷ mask_after (Some rd)
 IsExpansionOf line rvc step (Low rd name) slots = slots ≡ Lower rd name line ∷ mask_after (Some rd)
 
--- the slots are the item's, before these items
+-- the slots are the expansion of the item, where `later` comes after it
 abbrev pub IsExpansion : Item → List Item → List Slot → Type 0
 IsExpansion x later slots = IsExpansionOf x.line x.rvc (is_step x later) x.body slots
 
--- ---- what has none
+-- ---- what has no expansion
 
 -- a jal or jalr that writes a data register, whose mask would never be reached; or a jalr with an
 -- offset other than 0, which is no form of the expansion of an indirect jump

@@ -26,7 +26,8 @@ abbrev pub MeetsTransparent : Instr → Type 0
 MeetsTransparent i = (m : MeetsExpansion i) × (mask_after (destination i) ≡ [])
     × KeepsTo m.code_at m.data_at m.state.hart i × ((effect_in m.state i).outcome ≡ Next)
 
--- all that it asks of the instruction of an item that is a step to the first of those after it
+-- all that IsTransparent asks of the instruction of an item that is a step, which the first item of
+-- `later` uses, holds in some state
 abbrev pub MeetsStep : Item → List Item → Instr → Type 0
 MeetsStep x later i = (m : Meets (unit Sfiw) i (IsExpansion x later)) × (x.body ≡ Plain i)
     × (is_step x later ≡ true) × KeepsTo m.code_at m.data_at m.state.hart i
@@ -37,18 +38,19 @@ abbrev pub WritesData : (d : ℕ) (i : Instr) → MeetsExpansion i → Type 0
 WritesData d i m = (destination i ≡ Some d) × (is_data_register d ≡ true)
     × KeepsTo m.code_at m.data_at m.state.hart i
 
--- all that KeepsData asks of an instruction that writes the data register, and it is done and leaves it
--- in the data region
+-- all that KeepsData asks of an instruction that writes data register d holds in some state; there
+-- i is done, and leaves d in the data region
 abbrev pub MeetsInside : ℕ → Instr → Type 0
 MeetsInside d i = (m : MeetsExpansion i) × WritesData d i m
     × LeavesInside m.data_at d (effect_in m.state i)
 
--- the same, but it leaves it outside
+-- all that KeepsData asks holds in some state; there i is done, and leaves d outside of the data
+-- region
 abbrev pub MeetsOutside : ℕ → Instr → Type 0
 MeetsOutside d i = (m : MeetsExpansion i) × WritesData d i m
     × LeavesOutside m.data_at d (effect_in m.state i)
 
--- the same, but it isn't done
+-- all that KeepsData asks holds in some state, and there i isn't done
 abbrev pub MeetsStop : ℕ → Instr → Type 0
 MeetsStop d i = (m : MeetsExpansion i) × WritesData d i m × ((effect_in m.state i).outcome ≢ Next)
 

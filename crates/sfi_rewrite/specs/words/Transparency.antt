@@ -29,11 +29,12 @@ use Rattle.sfi_rewrite.specs.words.Laying.{Marked, alone, AreExpanded, AreLaidBe
 
 -- ---- the sandbox
 
--- a register that the expansions write, and no source names
+-- the expansions write the register, and no source names it
 abbrev pub is_own : ℕ → Bool
 is_own r = (r == address_register) || (r == code_register) || (r == offset_register)
 
--- the base of an access lies in the data region; of one on a data register or on x0 nothing is asked
+-- the base of an access lies in the data region; of an access on a data register or on x0 nothing
+-- is asked
 abbrev pub IsBased : Span → Hart → ℕ → Type 0
 IsBased data_at h a =
     MatchBool (is_data_register a || (a == 0)) (Unit {0}) (Holds data_at (register h a))
@@ -51,7 +52,8 @@ KeepsTo code_at data_at h (Store width a rs2 imm) = IsBased data_at h a
 KeepsTo code_at data_at h (Jalr rd a imm) = IsWordStart code_at (offset_by (register h a) imm)
 KeepsTo code_at data_at h i = Unit {0}
 
--- x26 for x0, since no image's data region holds 0, and a masked 0 is the region's first address
+-- the base that is meant: x26 for x0, since no image's data region holds 0, and a masked 0 is the
+-- region's first address
 abbrev pub meant_base : ℕ → ℕ
 meant_base a = if a == 0 then data_base_register else a
 
@@ -61,7 +63,7 @@ meant (Load kind rd a imm) = Load kind rd (meant_base a) imm
 meant (Store width a rs2 imm) = Store width (meant_base a) rs2 imm
 meant i = i
 
--- ---- what it does
+-- ---- what slots do
 
 -- what the instruction, as it is meant, does in the state, where it has 4 bytes
 abbrev pub effect_in : State → Instr → Stepped
@@ -124,7 +126,7 @@ ActsAs step i slots = ActsBy (destination i) step i slots
 abbrev pub IsAsLaid : Slot → Slot → Type 0
 IsAsLaid s laid = (laid ≡ s) ⊎ (laid ≡ alone s)
 
--- the same of slots one after another
+-- each laid slot is the one of `slots` at its place, or that in 32 bits
 abbrev pub AreAsLaid : List Slot → List Slot → Type 0
 AreAsLaid slots laid = AllZip IsAsLaid slots laid
 

@@ -34,7 +34,7 @@ fn push_mask(slots: &mut Expansion, target: Reg, a: Reg)
     slots.push(&[Slot::Wide(mask), Slot::Wide(place)]);
 }
 
-/// Adds the mask of a data register after what writes it; nothing for another register.
+/// Adds the mask of the register that is written, if it is a data register.
 fn push_mask_after(slots: &mut Expansion, written: Reg)
     requires { length slots.old + 2 ≤ 5 }
     ensures { slots.new ≡ slots.old ++ mask_after (Some written) }
@@ -44,7 +44,7 @@ fn push_mask_after(slots: &mut Expansion, written: Reg)
     }
 }
 
-/// The register by which an access on `a` goes.
+/// The base on which an access on `a` is made: a data register itself, x26 for x0, or else x29.
 fn base_of(a: Reg) -> Reg
     ensures { result ≡ base_of a }
 {
@@ -57,7 +57,7 @@ fn base_of(a: Reg) -> Reg
     }
 }
 
-/// Adds what makes that register the address that `a` masks to.
+/// Adds the mask by which x29 becomes the address of `a`, where an access on `a` is made on x29.
 fn push_base(slots: &mut Expansion, a: Reg)
     requires { slots.old ≡ [] }
     ensures { slots.new ≡ makes_base a }
@@ -67,7 +67,7 @@ fn push_base(slots: &mut Expansion, a: Reg)
     }
 }
 
-/// Adds what stands before the instruction.
+/// Adds what has to stand before the instruction.
 fn push_before(slots: &mut Expansion, instr: &Instr)
     requires { slots.old ≡ [] }
     ensures { slots.new ≡ before instr.now }
@@ -82,7 +82,7 @@ fn push_before(slots: &mut Expansion, instr: &Instr)
     }
 }
 
-/// The instruction on the register that it goes by.
+/// The instruction, with its base or target replaced by the register on which it is confined.
 fn confined(rvc: bool, instr: &Instr) -> Slot
     ensures { IsConfined rvc instr.now (result ∷ []) }
 {
@@ -117,7 +117,7 @@ fn confined(rvc: bool, instr: &Instr) -> Slot
     }
 }
 
-/// The register that an instruction other than a fence has as its first operand.
+/// The register `rd` of an instruction, but for a fence.
 fn destination(instr: &Instr) -> Option<Reg>
     ensures { result ≡ destination instr.now }
 {
@@ -137,7 +137,7 @@ fn destination(instr: &Instr) -> Option<Reg>
     }
 }
 
-/// Whether it is `addi d, a, 0` or `add d, x0, a` of a data register `d`.
+/// Whether the instruction is `addi d, a, 0` or `add d, x0, a` of a data register `d`.
 fn is_move(instr: &Instr) -> bool
     ensures { result ≡ is_move instr.now }
 {
@@ -158,7 +158,7 @@ fn is_move(instr: &Instr) -> bool
     }
 }
 
-/// The mask in the place of such a move.
+/// The expansion of such a move: the mask of `a` into `d`.
 fn moved(instr: &Instr) -> Expansion
     ensures { result ≡ moved instr.now }
 {
@@ -171,7 +171,7 @@ fn moved(instr: &Instr) -> Expansion
     slots
 }
 
-/// The instruction as it is confined, between what stands before it and after it.
+/// The confined instruction, with what has to stand before it and after it.
 fn around(rvc: bool, step: bool, instr: &Instr) -> Expansion
     ensures { IsAround rvc step instr.now result }
 {
@@ -197,7 +197,7 @@ fn of_plain(rvc: bool, step: bool, instr: &Instr) -> Expansion
     around(rvc, step, instr)
 }
 
-/// A half of an address, and the mask of the register that it is in.
+/// The expansion of a half of an address into `rd`, with the mask of `rd`.
 fn of_half(half: Slot, rd: Reg) -> Expansion
     ensures { result ≡ half ∷ mask_after (Some rd) }
 {
@@ -213,7 +213,8 @@ fn is_small(imm: i32) -> bool
     -(SLACK as i32) <= imm && imm <= SLACK as i32
 }
 
-/// Whether the instruction is a load, other than into x0, or store on the register at such an offset.
+/// Whether the instruction is a load, other than into x0, or a store on the register with an offset
+/// from -1020 to 1020.
 fn is_use(register: Reg, instr: &Instr) -> bool
     ensures { result ≡ is_use register instr.now }
 {
@@ -226,7 +227,7 @@ fn is_use(register: Reg, instr: &Instr) -> bool
     }
 }
 
-/// Whether the first is `addi d, d, k` of a data register, and the second a use of it.
+/// Whether `body` is `addi d, d, k` of a data register, and `next` uses `d` with such an offset.
 fn is_step_to(body: &Body, next: &Body) -> bool
     ensures { result ≡ is_step_to body.now next.now }
 {
@@ -246,7 +247,7 @@ fn is_step_to(body: &Body, next: &Body) -> bool
     }
 }
 
-/// Whether the item is a step to the first of those after it.
+/// Whether the item is a step of a data register that the first item of `later` uses.
 fn is_step(item: &Item, later: &[Item]) -> bool
     ensures { result ≡ is_step item.now later.now }
 {
@@ -256,7 +257,7 @@ fn is_step(item: &Item, later: &[Item]) -> bool
     }
 }
 
-/// The expansion of an item, before those after it.
+/// The expansion of an item that stands before `later`.
 pub(crate) fn expand(item: &Item, later: &[Item]) -> Expansion
     ensures { IsExpansion item.now later.now result }
 {

@@ -30,7 +30,7 @@ impl Model for WordFilling {
 }
 
 impl WordFilling {
-    /// No word.
+    /// No words.
     pub(crate) fn new(alloc: Global) -> WordFilling
         ensures { result ≡ so_far [] None }
     {
@@ -51,7 +51,7 @@ impl WordFilling {
         }
     }
 
-    /// The place of what comes next, where a label stands before it.
+    /// The place of what comes next, if a label stands before it.
     pub(crate) fn place(&self) -> u32
         requires { bytes_of self.now ≤ largest }
         ensures { result ≡ bytes_of self.now }
@@ -59,7 +59,7 @@ impl WordFilling {
         self.end() as u32
     }
 
-    /// The same with one more slot.
+    /// How many bytes the words take with one more slot, if nothing else comes.
     pub(crate) fn end_with(&self, slot: &Slot) -> usize
         requires { bytes_of self.now ≤ largest }
         ensures { result ≡ bytes_of self.now + more_for self.now.waiting slot.now }
@@ -81,7 +81,7 @@ impl WordFilling {
         self.words.push(slots, WORD_SIZE)
     }
 
-    /// Gives a form that waits a word alone, in 32 bits.
+    /// Where a 16-bit form waits, ends its word: the form stands there as a 32-bit instruction.
     pub(crate) fn end_word(&mut self) -> Result<(), AllocError>
         requires aligned { size_of self.old.words % 4 ≡ 0 }
         requires room { bytes_of self.old ≤ largest }
@@ -94,7 +94,7 @@ impl WordFilling {
         Ok(())
     }
 
-    /// Adds a slot: with a form that waits to one word, if both have 16 bits.
+    /// Adds a slot. Two 16-bit slots, of which the first waits, make one word.
     pub(crate) fn push(&mut self, slot: Slot) -> Result<(), AllocError>
         requires aligned { size_of self.old.words % 4 ≡ 0 }
         requires room { bytes_of self.old + more_for self.old.waiting slot ≤ largest }
@@ -116,7 +116,7 @@ impl WordFilling {
         }
     }
 
-    /// The words, of which none waits.
+    /// The words, where no 16-bit form waits.
     pub(crate) fn finish(self) -> Filling
         ensures { result ≡ self.words }
     {

@@ -32,7 +32,7 @@ fn push_slots(sandbox: u32, slots: &[Slot], code: &mut WordFilling) -> Result<()
     Ok(())
 }
 
-/// Gives a form that waits a word alone where a label comes.
+/// Where a label comes, ends the word of a 16-bit form that waits.
 fn end_before(label: bool, code: &mut WordFilling) -> Result<(), AllocError>
     requires { HaveRoom code.old }
     ensures { IfOk result (λ _. code.new ≡ before_label label code.old.words code.old.waiting) }
@@ -40,7 +40,7 @@ fn end_before(label: bool, code: &mut WordFilling) -> Result<(), AllocError>
     if label { code.end_word() } else { Ok(()) }
 }
 
-/// Adds an item that stands before others to the code of the sandbox of that number.
+/// Adds an item that stands before `later` to the code of sandbox `sandbox`.
 fn lay_item(
     sandbox: u32,
     item: &Item,
@@ -58,7 +58,7 @@ fn lay_item(
     push_slots(sandbox, expansion.slots(), code)
 }
 
-/// The items after the one of that number.
+/// The items after item `number`.
 fn items_after(items: &[Item], number: usize) -> &[Item]
     requires { number < length items.now }
     ensures { result.now ≡ drop (number + 1) items.now }

@@ -80,7 +80,7 @@ lowest x = find (λ rule. breaks x rule) all_rules
 
 -- ---- of a word
 
--- the finding of that rule there, if there is a rule
+-- the finding that this rule is broken at this address, if there is a rule
 abbrev pub found_at : BundlePlace → ℕ → Option Rule → List Finding
 found_at b at None = []
 found_at b at (Some rule) = broken b at rule ∷ []
@@ -98,7 +98,7 @@ abbrev pub owed_past : Owed → List Piece → Owed
 owed_past owed [] = owed
 owed_past owed (x ∷ later) = owed_past (owed_next owed x.instr) later
 
--- The findings of the word at this address, before which this is owed, and what is owed after it:
+-- The findings of the word at this address, with `owed` owed before it, and what is owed after it:
 -- nothing, where it isn't read whole.
 pub record IsWordFound (b : BundlePlace) (at : ℕ) (owed : Owed) (word : List ℕ)
     (found : List Finding) (next : Owed) : Type 0 where
@@ -110,8 +110,8 @@ pub record IsWordFound (b : BundlePlace) (at : ℕ) (owed : Owed) (word : List �
 
 -- ---- of a bundle, and of a part
 
--- the findings of the first n words of a bundle with these bytes, before which this is owed, and what
--- is owed after them
+-- the findings of the first n words of a bundle with these bytes, with `owed` owed before them, and
+-- what is owed after them
 abbrev pub AreFoundInWords : BundlePlace → Owed → List ℕ → ℕ → List Finding → Owed → Type 0
 AreFoundInWords b owed bytes zero found next = (found ≡ []) × (next ≡ owed)
 AreFoundInWords b owed bytes (suc n) found next =
@@ -120,11 +120,12 @@ AreFoundInWords b owed bytes (suc n) found next =
     × IsWordFound b (b.address + word_size * n) between
     (take word_size (drop (word_size * n) bytes)) last next × (found ≡ front ++ last)
 
--- those of a bundle with these bytes, all four of its words
+-- the findings of a bundle with these bytes, in all four of its words
 abbrev pub AreFoundInBundle : BundlePlace → Owed → List ℕ → List Finding → Owed → Type 0
 AreFoundInBundle b owed bytes found next = AreFoundInWords b owed bytes 4 found next
 
--- those of a part's first n bundles; before the first nothing is owed
+-- the findings of a part's first n bundles, and what is owed after them; before the first nothing
+-- is owed
 abbrev pub AreFoundOfFirst : ℕ → Part → ℕ → List Finding → Owed → Type 0
 AreFoundOfFirst sandbox p zero found next = (found ≡ []) × (next ≡ Nothing)
 AreFoundOfFirst sandbox p (suc n) found next =

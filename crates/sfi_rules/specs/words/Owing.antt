@@ -10,7 +10,7 @@ use Rattle.sfi_rules.specs.declared.owed.Owed.{Owed}
 use Rattle.sfi_rules.specs.declared.owed.Owed.TheVariants.{Nothing, Mask, Place, MaskOrUse, Code}
 use Rattle.sfi_rules.specs.words.Rules.{places, masks, is_step, uses}
 
--- what of it is still owed after this instruction; None: the instruction isn't one that was owed
+-- what is still owed after this instruction; None: the instruction isn't one that was owed
 abbrev pub left : Owed → Instr → Option Owed
 left Nothing i = Some Nothing
 left (Mask d) i = if masks d i then Some (Place d) else None
@@ -31,7 +31,8 @@ owed_by_code i =
     if is_placing code_base_register code_register i then Some Nothing
     else if is_masking code_mask_register code_register i then Some Code else None
 
--- the same by the register that is written: a write of neither a data register nor x30 asks nothing
+-- what must come after a write of this register, if one is written: a write of neither a data
+-- register nor x30 asks nothing
 abbrev pub owed_of : Option ℕ → Instr → Option Owed
 owed_of None i = Some Nothing
 owed_of (Some d) i =
@@ -42,7 +43,8 @@ owed_of (Some d) i =
 abbrev pub owed_by : Instr → Option Owed
 owed_by i = owed_of (destination i) i
 
--- what is owed, and nothing where no next instruction can make this one right (it is found itself)
+-- what is owed; nothing where no next instruction can make the write right (the write itself is
+-- found)
 abbrev pub or_nothing : Option Owed → Owed
 or_nothing None = Nothing
 or_nothing (Some o) = o
@@ -57,11 +59,11 @@ joined (Some (Place d)) own = Place d
 joined (Some (MaskOrUse d)) own = MaskOrUse d
 joined (Some Code) own = Code
 
--- what is owed after an instruction before which this was owed, whether it meets that or not
+-- what is owed after an instruction with `o` owed before it, whether it meets that or not
 abbrev pub owed_next : Owed → Instr → Owed
 owed_next o i = joined (left o i) (owed_by i)
 
--- it is owed of a data register
+-- what is owed follows a write of a data register
 abbrev pub is_of_data : Owed → Bool
 is_of_data Nothing = false
 is_of_data (Mask d) = true
@@ -69,7 +71,7 @@ is_of_data (Place d) = true
 is_of_data (MaskOrUse d) = true
 is_of_data Code = false
 
--- it is owed of the code register
+-- what is owed follows a write of the code register
 abbrev pub is_of_code : Owed → Bool
 is_of_code Nothing = false
 is_of_code (Mask d) = false

@@ -34,12 +34,12 @@ places d i = is_or d offset_register data_base_register i
 abbrev pub masks : ℕ → Instr → Bool
 masks d i = is_and offset_register d data_mask_register i
 
--- `or d, x31, x26` comes first
+-- the pieces begin with `or d, x31, x26`
 abbrev pub begins_placing : ℕ → List Piece → Bool
 begins_placing d [] = false
 begins_placing d (x ∷ later) = places d x.instr
 
--- `and x31, d, x27` and then `or d, x31, x26` come first
+-- the pieces begin with `and x31, d, x27` and then `or d, x31, x26`
 abbrev pub begins_masking : ℕ → List Piece → Bool
 begins_masking d [] = false
 begins_masking d (x ∷ later) = masks d x.instr && begins_placing d later
@@ -61,12 +61,12 @@ uses d (Load kind rd rs1 imm) = (rs1 == d) && is_small imm && not (rd == 0)
 uses d (Store width rs1 rs2 imm) = (rs1 == d) && is_small imm
 uses d _ = false
 
--- such a use of d comes first
+-- the pieces begin with such a load or store on d
 abbrev pub begins_using : ℕ → List Piece → Bool
 begins_using d [] = false
 begins_using d (x ∷ later) = uses d x.instr
 
--- `or x30, x30, x24` comes first
+-- the pieces begin with `or x30, x30, x24`
 abbrev pub begins_code : List Piece → Bool
 begins_code [] = false
 begins_code (x ∷ later) = is_placing code_base_register code_register x.instr
@@ -77,8 +77,8 @@ begins_code (x ∷ later) = is_placing code_base_register code_register x.instr
 abbrev pub breaks_width : ℕ → ℕ → Bool
 breaks_width at size = (size == word_size) && not (at % word_size == 0)
 
--- V3: an ecall that isn't at a listed gate (`gate` says whether one is there). V4 is that of bundles,
--- `breaks_reserved`.
+-- V3: an ecall that isn't at a listed gate (`gate` says whether one is there). V4 is the rule of
+-- bundles, `breaks_reserved`.
 abbrev pub breaks_ecall : Bool → Instr → Bool
 breaks_ecall gate Ecall = not gate
 breaks_ecall gate _ = false
@@ -99,7 +99,7 @@ breaks_jump (Jalr rd rs1 (pos n)) = not ((n == 0) && (rs1 == code_register))
 breaks_jump (Jalr rd rs1 (negsuc n)) = true
 breaks_jump _ = false
 
--- a multiple of 4 in the code region of that base and size
+-- the address is a multiple of 4 in the code region of that base and size
 abbrev pub is_word_start : ℕ → ℕ → ℕ → Bool
 is_word_start base size a = nat_le base a && nat_lt a (base + size) && (a % word_size == 0)
 
@@ -110,37 +110,38 @@ breaks_target base size at (Branch condition rs1 rs2 offset) =
     not (is_word_start base size (offset_by at offset))
 breaks_target base size at _ = false
 
--- V8: nothing comes after it, and it isn't ebreak, jal or jalr
+-- V8: no instruction comes after this one, and it isn't ebreak, jal or jalr
 abbrev pub breaks_end : Instr → List Piece → Bool
 breaks_end i later = is_empty later && not (ends_region i)
 
--- Of an instruction that writes d: (a) it is `or d, x31, x26`; or (b) it is no jump, and d is masked
--- and placed next; or (c) it is `addi d, d, k`, and the next one uses d.
+-- An instruction may write d in three cases: (a) it is `or d, x31, x26`; or (b) it is no jump, and
+-- d is masked and placed next; or (c) it is `addi d, d, k`, and the next instruction uses d.
 abbrev pub may_write_data : ℕ → Instr → List Piece → Bool
 may_write_data d i later =
     places d i || (not (is_jump i) && begins_masking d later)
     || (is_step d i && begins_using d later)
 
--- the register that it writes, if it writes one, is a data register, and it may not write that
+-- the register that the instruction writes, if it writes one, is a data register, and it may not
+-- write that
 abbrev pub breaks_data_of : Option ℕ → Instr → List Piece → Bool
 breaks_data_of None i later = false
 breaks_data_of (Some d) i later = is_data_register d && not (may_write_data d i later)
 
--- V10: it writes a data register, and may not
+-- V10: the instruction writes a data register, and may not
 abbrev pub breaks_data : Instr → List Piece → Bool
 breaks_data i later = breaks_data_of (destination i) i later
 
--- of an instruction that writes x30: it is `or x30, x30, x24`, or `and x30, a, x25` directly before
--- that
+-- an instruction may write x30 in two cases: it is `or x30, x30, x24`, or `and x30, a, x25`
+-- directly before that
 abbrev pub may_write_code : Instr → List Piece → Bool
 may_write_code i later = is_placing code_base_register code_register i
     || (is_masking code_mask_register code_register i && begins_code later)
 
--- V11: it writes x30, and may not
+-- V11: the instruction writes x30, and may not
 abbrev pub breaks_code : Instr → List Piece → Bool
 breaks_code i later = writes_register code_register i && not (may_write_code i later)
 
--- V12: it writes x31, and isn't `and x31, a, x27`
+-- V12: the instruction writes x31, and isn't `and x31, a, x27`
 abbrev pub breaks_offset : Instr → Bool
 breaks_offset i =
     writes_register offset_register i && not (is_masking data_mask_register offset_register i)

@@ -9,7 +9,7 @@ use Rattle.sfi_rules.specs.Bundles.{bundle_at, block_bundle}
 use Rattle.sfi_image.specs.declared.bundle.BundlePlace.{BundlePlace}
 use Rattle.sfi_scan.specs.private.FirstLook.{half_at, word_at, AreWordsFrom, IsCleanOne, IsStackWrite, AreStackPair}
 
--- Instructions begin at the starts, from each bundle's first halfword on, one behind another; those
+-- Instructions begin at the starts, from each bundle's first halfword on, one after another; those
 -- at `words` have 32 bits. None crosses a bundle's end.
 pub record AreStarts (starts words : ℕ) : Type 0 where
   pub first : (i : ℕ) → i < 64 → i % 8 ≡ 0 → is_in starts i ≡ true
@@ -17,20 +17,20 @@ pub record AreStarts (starts words : ℕ) : Type 0 where
   pub only : (i : ℕ) → is_in words i ≡ true → is_in starts i ≡ true
   pub inside : (i : ℕ) → i < 64 → is_in words i ≡ true → i % 8 < 7
 
--- directly before each of these halfwords two of the words stand in its bundle
+-- directly before each halfword of `after` two of the words stand in its bundle
 pub record AreAfterTwo (words after : ℕ) : Type 0 where
   pub high : (i : ℕ) → i < 64 → is_in after i ≡ true → 4 ≤ i % 8
   pub first : (i : ℕ) → i < 64 → is_in after i ≡ true → is_in words (i - 4) ≡ true
   pub second : (i : ℕ) → i < 64 → is_in after i ≡ true → is_in words (i - 2) ≡ true
 
--- at each of these halfwords the first of three words of a bundle begins, one behind another
+-- at each halfword of `three` the first of three words of a bundle begins, one after another
 pub record AreThreeWords (words three : ℕ) : Type 0 where
   pub low : (i : ℕ) → i < 64 → is_in three i ≡ true → i % 8 ≤ 2
   pub first : (i : ℕ) → i < 64 → is_in three i ≡ true → is_in words i ≡ true
   pub second : (i : ℕ) → i < 64 → is_in three i ≡ true → is_in words (i + 2) ≡ true
   pub third : (i : ℕ) → i < 64 → is_in three i ≡ true → is_in words (i + 4) ≡ true
 
--- the bits of a mask that aren't bits of another
+-- the bits of the first mask that aren't bits of the second
 abbrev pub IsWithout : ℕ → ℕ → ℕ → Type 0
 IsWithout a b rest = (i : ℕ) → i < 64 → is_in rest i ≡ (is_in a i && not (is_in b i))
 
@@ -38,16 +38,16 @@ IsWithout a b rest = (i : ℕ) → i < 64 → is_in rest i ≡ (is_in a i && not
 abbrev pub offset : ℕ → ℕ
 offset i = 2 * (i % 8)
 
--- from which byte to `at` the bundle's bytes are known to be words
+-- the offset from which on, up to `at`, the bundle's bytes are known to be words
 abbrev pub words_from : ℕ → ℕ → ℕ → ℕ
 words_from after i at = cond (is_in after i) (at - 8) at
 
--- the word at the place, or the halfword, spells the instruction
+-- the word, or the halfword, that begins at the offset spells the instruction
 abbrev pub IsSpelledAt : Bool → List ℕ → ℕ → Instr → Type 0
 IsSpelledAt true bytes at i = IsWordOf (word_at bytes at) i
 IsSpelledAt false bytes at i = IsShortSpelling (half_at bytes at) i
 
--- at this place of this bundle an instruction begins that breaks no rule there; i indexes `after`
+-- at this offset of this bundle an instruction begins that breaks no rule there; i indexes `after`
 -- alone
 abbrev pub IsCleanIn : BundlePlace → List ℕ → Bool → ℕ → ℕ → ℕ → ℕ → Type 0
 IsCleanIn b block wide after i bundle at =
@@ -70,7 +70,7 @@ pub record IsWritten (block : List ℕ) (words i : ℕ) : Type 0 where
       AreStackPair (word_at (block_bundle block (i / 8)) (offset i + 4))
       (word_at (block_bundle block (i / 8)) (offset i + 8))
 
--- one of three such words begins with the halfword
+-- one of three words that write the stack pointer and put it back begins with the halfword
 abbrev pub IsOfWrite : List ℕ → ℕ → ℕ → Type 0
 IsOfWrite block words m =
     (i : ℕ) × IsWritten block words i × ((m ≡ i) ⊎ ((m ≡ i + 2) ⊎ (m ≡ i + 4)))

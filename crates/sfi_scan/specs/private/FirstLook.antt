@@ -19,17 +19,17 @@ use Rattle.sfi_pairs.specs.Pairs.{masking_instr, placing_instr}
 use Rattle.sfi_rules.specs.Pairs.{follows_code_pair}
 use Rattle.sfi_rules.specs.Rules.{is_bundle_start, may_access}
 
--- the instruction's word, or 0; 0 where there is none
+-- the instruction's word, or 0; 0 where there is no instruction
 abbrev pub IsWordOr0 : ℕ → Option Instr → Type 0
 IsWordOr0 word None = word ≡ 0
 IsWordOr0 word (Some i) = (word ≡ 0) ⊎ IsWordOf word i
 
--- the words of the two nearest instructions, or 0
+-- the words of the two instructions directly before, or zeros
 pub record AreBefore (words : Words) (before : Before) : Type 0 where
   pub first : IsWordOr0 words.first before.first
   pub second : IsWordOr0 words.second before.second
 
--- the halfword at a place of the bytes, and the word
+-- the halfword and the word that begin at an offset of the bytes
 abbrev pub half_at : List ℕ → ℕ → ℕ
 half_at bytes at = from_le_bytes w16 (take 2 (drop at bytes))
 
@@ -56,7 +56,8 @@ is_protected b r = is_reserved r || is_stack b.format r
 abbrev pub is_clean_access : BundlePlace → Access → List Instr → Bool
 is_clean_access b a earlier = not (is_protected b a.written) && may_access b a.base earlier
 
--- an instruction that does this at the address breaks none of V3 to V7 and V10, listed or not
+-- an instruction with this outline at the address breaks none of V3 to V7 and V10, whether a gate
+-- is listed or not
 abbrev pub is_clean : BundlePlace → ℕ → List Instr → Outline → Bool
 is_clean b at earlier (Computes rd) = not (is_protected b rd)
 is_clean b at earlier (Loads rd base) = not (is_protected b rd) && may_access b base earlier
@@ -70,8 +71,8 @@ is_clean b at earlier Orders = true
 is_clean b at earlier Calls = false
 is_clean b at earlier Stops = true
 
--- an instruction is spelled that breaks none of them after any two instructions of which `are`
--- holds
+-- an instruction is spelled that breaks none of these rules after any two instructions of which
+-- `are` holds
 pub record IsCleanOne (b : BundlePlace) (at : ℕ) (are : Before → Type 0)
     (spell : Instr → Type 0) : Type 0 where
   pub instr : Instr

@@ -2,7 +2,7 @@
 use Rattle.std.specs.Prelude.{◌+◌, ◌≤◌, ℕ}
 use Rattle.sfi_image.specs.declared.bundle.BundlePlace.{BundlePlace}
 
--- so many bytes at the address lie in the code region
+-- `size` bytes from the address on lie in the code region
 pub record IsInside (b : BundlePlace) (address size : ℕ) : Type 0 where
   pub from : b.code_base ≤ address
   pub to : address + size ≤ b.code_base + b.code_size

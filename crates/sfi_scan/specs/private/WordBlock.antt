@@ -21,7 +21,7 @@ use Rattle.sfi_rules.specs.words.Rules.{is_step, uses}
 abbrev pub bytes_at : List ℕ → ℕ → List ℕ
 bytes_at block i = take word_size (drop (2 * i) block)
 
--- the word breaks no rule there, with `owed` before it and `next` after it
+-- the word that begins with halfword i breaks no rule, with `owed` before it and `next` after it
 abbrev pub IsCleanWord : BundlePlace → List ℕ → ℕ → Owed → Owed → Type 0
 IsCleanWord b block i owed next =
     IsWordFound (bundle_at b (i / 8)) (b.address + 2 * i) owed (bytes_at block i) [] next
@@ -31,8 +31,8 @@ IsCleanWord b block i owed next =
 abbrev pub IsQuietWord : List ℕ → ℕ → Type 0
 IsQuietWord block i = (b : BundlePlace) → IsWithinBlock b → IsCleanWord b block i Nothing Nothing
 
--- wherever the block stands so, the word and the next one break no rule and leave nothing owed, if
--- nothing is owed before them; `between` is owed between them
+-- wherever the block stands before its region's last bundle, the word and the next one break no
+-- rule and leave nothing owed, if nothing is owed before them; `between` is owed between them
 pub record IsSteppedWord (block : List ℕ) (i : ℕ) : Type 0 where
   pub below : i + 2 < 64
   pub between : Owed
@@ -72,11 +72,11 @@ abbrev pub IsCodePair : ℕ → ℕ → Type 0
 IsCodePair first second = ((a : ℕ) × IsWordOf first (Op And code_register a code_mask_register))
     × IsWordOf second (Op Or code_register code_register code_base_register)
 
--- the words are these, or a pair of data
+-- the words are a pair: of data, or the pair of the code register
 abbrev pub IsPair : ℕ → ℕ → Type 0
 IsPair first second = (IsMasking first × IsPlacing second) ⊎ IsCodePair first second
 
--- such a pair begins with halfword i
+-- a pair begins with halfword i
 pub record IsPairAt (block : List ℕ) (i : ℕ) : Type 0 where
   pub below : i + 2 < 64
   pub even : i % 2 ≡ 0
@@ -86,22 +86,23 @@ pub record IsPairAt (block : List ℕ) (i : ℕ) : Type 0 where
 abbrev pub IsStepOf : ℕ → ℕ → Type 0
 IsStepOf d word = (i : Instr) × IsWordOf word i × (is_step d i ≡ true)
 
--- if it is a load or store, these are the bits of its offset
+-- where the instruction is a load or store, these are the bits of its offset
 abbrev pub IsOffset : Instr → ℕ → Type 0
 IsOffset (Load kind rd rs1 imm) n = modulo 12 imm ≡ n
 IsOffset (Store width rs1 rs2 imm) n = modulo 12 imm ≡ n
 IsOffset _ n = Unit {0}
 
--- it loads into x0
+-- the instruction loads into x0
 abbrev pub is_dropped : Instr → Bool
 is_dropped (Load kind rd rs1 imm) = rd == 0
 is_dropped _ = false
 
--- the word is a load or store on d near it, and doesn't load into x0
+-- the word is a load or store on d with an offset of at most 1020, up or down, and doesn't load
+-- into x0
 abbrev pub IsUseOf : ℕ → ℕ → Type 0
 IsUseOf d word = (i : Instr) × IsWordOf word i × (uses d i ≡ true)
 
--- the one word steps a data register, which the next one uses
+-- the first word steps a data register, which the next one uses
 pub record IsUsedStep (word next : ℕ) : Type 0 where
   pub register : ℕ
   pub is_data : is_data_register register ≡ true

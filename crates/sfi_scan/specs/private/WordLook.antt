@@ -19,8 +19,8 @@ use Rattle.sfi_scan.specs.private.FirstLook.{is_zero}
 abbrev pub is_kept : ℕ → Bool
 is_kept r = is_reserved r || is_data_register r || (r == code_register) || (r == offset_register)
 
--- an instruction that does this at the address, before which nothing is owed, breaks none of V3 to
--- V7 and V10 to V12, and leaves nothing owed
+-- an instruction with this outline at the address, before which nothing is owed, breaks none of V3
+-- to V7 and V10 to V12, and leaves nothing owed
 abbrev pub is_plain : BundlePlace → ℕ → Outline → Bool
 is_plain b at (Computes rd) = not (is_kept rd)
 is_plain b at (Loads rd base) = not (is_kept rd) && may_access base
@@ -33,7 +33,7 @@ is_plain b at Orders = true
 is_plain b at Calls = false
 is_plain b at Stops = true
 
--- so many bytes at the address end before the code region does
+-- `size` bytes from address `at` on end before the code region does
 abbrev pub IsBeforeEnd : BundlePlace → ℕ → ℕ → Type 0
 IsBeforeEnd b at size = at + size < b.code_base + b.code_size
 
@@ -45,14 +45,15 @@ pub record IsQuiet (b : BundlePlace) (at size : ℕ) (owed : Owed) (instr : Inst
       lowest (record { bundle = b; address = at; owed = owed; instr = instr; size = size }) ≡ None
   pub next_is : next ≡ owed_next owed instr
 
--- the word spells such an instruction at the address
+-- the word spells an instruction that breaks no rule at the address, with `owed` before it and
+-- `next` after it
 pub record IsQuietThere (b : BundlePlace) (at : ℕ) (owed : Owed) (word : ℕ) (next : Owed)
     : Type 0 where
   pub instr : Instr
   pub spelled : IsWordOf word instr
   pub quiet : IsQuiet b at 4 owed instr next
 
--- the halfword spells an instruction that is plain there
+-- the halfword spells an instruction that is plain at the address
 pub record IsPlainHalf (b : BundlePlace) (at half : ℕ) : Type 0 where
   pub instr : Instr
   pub spelled : IsShortSpelling half instr

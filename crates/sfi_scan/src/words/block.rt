@@ -37,13 +37,13 @@ const CODE_MASKING: u32 = 0x0190_7f33;
 /// `or x30, x30, x24`.
 const CODE_PLACING: u32 = 0x018f_6f33;
 
-/// How far beside a stepped data register it may be used.
+/// The largest offset, up or down, of an access on a data register after a step of it.
 const SLACK: u32 = sfi_policy::SLACK;
 
 /// The bits that name what a load writes, and the one that is set in a store's opcode.
 const LOADED: u32 = 0b11111 << 7 | 1 << 5;
 
-/// The words that the masks don't tell to be free.
+/// The words that aren't free by the masks. A word goes by its first halfword.
 #[inline(always)]
 fn not_free(masks: Masks) -> u64
     ensures words { (i : ℕ) → i < 64 → is_in result i ≡ true → i % 2 ≡ 0 }
@@ -169,8 +169,8 @@ fn is_used_step(word: u32, next: u32) -> bool
     is_use_of(d, next)
 }
 
-/// Those of the words that step a data register directly before its use, a free word that isn't
-/// among these words.
+/// The bits of the words that step a data register directly before an access on it, which is a free
+/// word.
 #[inline(always)]
 fn used_steps(block: &[u8; BLOCK_BYTES], free: u64, words: u64) -> u64
     requires words { (i : ℕ) → i < 64 → is_in words i ≡ true → i % 2 ≡ 0 }
@@ -193,7 +193,7 @@ fn used_steps(block: &[u8; BLOCK_BYTES], free: u64, words: u64) -> u64
     steps
 }
 
-/// Whether the word jumps or branches and breaks no rule there.
+/// Whether the word at halfword `i` jumps or branches and breaks no rule.
 #[inline(always)]
 fn is_plain_at(place: &BundlePlace, block: &[u8; BLOCK_BYTES], i: usize) -> bool
     requires within { IsWithinBlock place.now }
@@ -206,7 +206,7 @@ fn is_plain_at(place: &BundlePlace, block: &[u8; BLOCK_BYTES], i: usize) -> bool
     is_plain_word(&bundle, address, word_at(block, 2 * i))
 }
 
-/// Those of the words that jump or branch and break no rule.
+/// The bits of `words` that jump or branch and break no rule.
 #[inline(always)]
 fn plain_words(place: &BundlePlace, block: &[u8; BLOCK_BYTES], words: u64) -> u64
     requires within { IsWithinBlock place.now }
@@ -225,8 +225,8 @@ fn plain_words(place: &BundlePlace, block: &[u8; BLOCK_BYTES], words: u64) -> u6
     plain
 }
 
-/// Those of the words that aren't seen to be clean, by themselves or with the next one; `free` has
-/// free instructions of 32 bits.
+/// The bits of `words` that aren't seen to be clean, by themselves or with the next word. `free`
+/// has the free instructions of 32 bits.
 #[inline(always)]
 fn unseen(place: &BundlePlace, block: &[u8; BLOCK_BYTES], words: u64, free: u64) -> u64
     requires within { IsWithinBlock place.now }
@@ -244,7 +244,7 @@ fn unseen(place: &BundlePlace, block: &[u8; BLOCK_BYTES], words: u64, free: u64)
     without(rest, plain_words(place, block, rest))
 }
 
-/// What is owed after a word that breaks no rule.
+/// What is owed after the word at halfword `i`, if it breaks no rule with `owed` before it.
 #[inline(never)]
 fn after_word(
     place: &BundlePlace,
@@ -269,7 +269,7 @@ fn after_word(
     }
 }
 
-/// The first of the words from halfword `at` on, or 64.
+/// The first set bit of `words` from bit `at` on, or 64.
 #[inline(always)]
 fn first_from(words: u64, at: usize) -> usize
     requires { at < 64 }
@@ -285,7 +285,8 @@ fn first_from(words: u64, at: usize) -> usize
     at + ahead.trailing_zeros() as usize
 }
 
-/// Where to look on: at the first of the words, or right there if something is owed.
+/// The next word to look at: `at` if something is owed, else the first set bit of `words` from
+/// there on.
 #[inline(always)]
 fn next_of(words: u64, at: usize, owed: Owed) -> usize
     requires { at < 64 }
@@ -302,8 +303,8 @@ fn next_of(words: u64, at: usize, owed: Owed) -> usize
     }
 }
 
-/// What is owed after the block, if none of these words, from word `from` on, breaks a rule; no other
-/// word does.
+/// What is owed after the block, if none of `words`, from word `from` on, breaks a rule. No other
+/// word of the block does.
 #[inline(always)]
 fn after_words(
     place: &BundlePlace,
@@ -333,6 +334,7 @@ fn after_words(
     Some(left)
 }
 
+/// Whether nothing is owed.
 #[inline(always)]
 fn is_nothing(owed: Owed) -> bool
     ensures { OnTrue result (owed ≡ Nothing) }
@@ -340,8 +342,8 @@ fn is_nothing(owed: Owed) -> bool
     matches!(owed, Owed::Nothing)
 }
 
-/// What is owed after the block, if its words from word `from` on, before which this is owed, are seen to
-/// break no rule. None of its bundles is the region's last, nor a gate's.
+/// What is owed after the block, if its words from word `from` on, with `owed` before them, are
+/// seen to break no rule. None of its bundles is the region's last, nor a gate's.
 #[inline(always)]
 pub(crate) fn look_at_block(
     place: &BundlePlace,
@@ -361,7 +363,7 @@ pub(crate) fn look_at_block(
             return Some(Owed::Nothing);
         }
     }
-    // Of a copy, so that the place isn't put together in memory where it isn't needed.
+    // A copy, so that the place isn't put together in memory where it isn't needed.
     let there = *place;
     let free = masks.free & masks.long;
     let left = unseen(&there, block, words, free);

@@ -56,8 +56,8 @@ fn is_plain_jump(rd: Reg, base: Reg, imm: i32) -> bool
     base.number() == CODE_REGISTER
 }
 
-/// Whether an instruction that does this, before which nothing is owed, breaks no rule but perhaps
-/// at the region's end, and leaves nothing owed.
+/// Whether an instruction with this outline, before which nothing is owed, breaks no rule but
+/// perhaps at the region's end, and leaves nothing owed.
 #[inline(always)]
 fn is_plain(place: &BundlePlace, address: u32, outline: Outline) -> bool
     requires { IsWithin place.now }
@@ -126,7 +126,8 @@ fn after_typed(word: u32) -> Option<Owed>
     }
 }
 
-/// What is owed after a word that computes into a register that is kept.
+/// What is owed after a word that computes into a reserved or typed register; none where it isn't
+/// seen to break no rule.
 #[inline(never)]
 fn after_kept(word: u32) -> Option<Owed>
     requires { IsWordThat word (Computes (bits word 11 7)) }
@@ -146,7 +147,8 @@ fn after_kept(word: u32) -> Option<Owed>
     None
 }
 
-/// Whether a word that does this breaks no rule, and leaves nothing owed, where nothing is owed before it.
+/// Whether a word with this outline breaks no rule, and leaves nothing owed, where nothing is owed
+/// before it.
 #[inline(always)]
 fn is_plain_by(place: &BundlePlace, address: u32, outline: Option<Outline>) -> bool
     requires within { IsWithin place.now }

@@ -12,18 +12,21 @@ use sfi_pairs::is_data_register;
 use sfi_policy::{CODE_MASK_REGISTER, CODE_REGISTER};
 use sfi_rules::Owed;
 
+/// Whether what is owed follows a write of a data register.
 fn is_of_data(owed: Owed) -> bool
     ensures { result ≡ is_of_data owed }
 {
     matches!(owed, Owed::Mask(_) | Owed::Place(_) | Owed::MaskOrUse(_))
 }
 
+/// Whether what is owed follows a write of the code register.
 fn is_of_code(owed: Owed) -> bool
     ensures { result ≡ is_of_code owed }
 {
     matches!(owed, Owed::Code)
 }
 
+/// What is still owed after the instruction; none where it isn't an instruction that was owed.
 fn left(owed: Owed, instr: &Instr) -> Option<Owed>
     ensures { result ≡ left owed instr.now }
 {
@@ -42,6 +45,7 @@ fn left(owed: Owed, instr: &Instr) -> Option<Owed>
     }
 }
 
+/// What must come after this write of data register `d`; none where nothing can make it right.
 fn by_data(d: u8, instr: &Instr) -> Option<Owed>
     ensures { result ≡ owed_by_data d instr.now }
 {
@@ -56,6 +60,7 @@ fn by_data(d: u8, instr: &Instr) -> Option<Owed>
     }
 }
 
+/// What must come after this write of the code register; none where nothing can make it right.
 fn by_code(instr: &Instr) -> Option<Owed>
     ensures { result ≡ owed_by_code instr.now }
 {
@@ -68,6 +73,7 @@ fn by_code(instr: &Instr) -> Option<Owed>
     }
 }
 
+/// What must come after the instruction, by what it writes; none where nothing can make it right.
 pub(crate) fn owed_by(instr: &Instr) -> Option<Owed>
     ensures { result ≡ owed_by instr.now }
 {
@@ -114,6 +120,7 @@ pub(crate) fn fails_code(owed: Owed, instr: &Instr) -> bool
         || (instr.writes_register(CODE_REGISTER) && owed_by(instr).is_none())
 }
 
+/// Whether the instruction writes a data register.
 fn writes_data(instr: &Instr) -> bool
     ensures { result ≡ is_data_one (destination instr.now) }
 {

@@ -18,13 +18,14 @@ use sfi_rules::{BundlePlace, Owed, Rule};
 
 const SLACK: i32 = sfi_policy::SLACK as i32;
 
-/// `or x30, x30, x24`.
+/// Whether the instruction is `or x30, x30, x24`.
 pub(crate) fn places_code(instr: &Instr) -> bool
     ensures { result ≡ is_placing 24 30 instr.now }
 {
     is_placing(CODE_BASE_REGISTER, CODE_REGISTER, instr)
 }
 
+/// Whether the instruction is `or d, x31, x26`, which puts an address of the data into `d`.
 pub(crate) fn places(d: u8, instr: &Instr) -> bool
     ensures { result ≡ places d instr.now }
 {
@@ -43,6 +44,7 @@ pub(crate) fn places(d: u8, instr: &Instr) -> bool
     }
 }
 
+/// Whether the instruction is `and x31, d, x27`, which masks `d` to an offset in the data.
 pub(crate) fn masks(d: u8, instr: &Instr) -> bool
     ensures { result ≡ masks d instr.now }
 {
@@ -61,12 +63,14 @@ pub(crate) fn masks(d: u8, instr: &Instr) -> bool
     }
 }
 
+/// Whether the offset is at most 1020, up or down, as one after a step has to be.
 fn is_small(imm: i32) -> bool
     ensures { result ≡ is_small imm }
 {
     -SLACK <= imm && imm <= SLACK
 }
 
+/// Whether the instruction steps data register `d`: an `addi` from it to itself.
 pub(crate) fn is_step(d: u8, instr: &Instr) -> bool
     ensures { result ≡ is_step d instr.now }
 {
@@ -81,6 +85,7 @@ pub(crate) fn is_step(d: u8, instr: &Instr) -> bool
     }
 }
 
+/// Whether the instruction is an access on data register `d` that may follow a step of it.
 pub(crate) fn uses(d: u8, instr: &Instr) -> bool
     ensures { result ≡ uses d instr.now }
 {
@@ -95,12 +100,14 @@ pub(crate) fn uses(d: u8, instr: &Instr) -> bool
 
 // ---- the rules
 
+/// Whether the address is that of a listed gate.
 fn is_at_gate(place: &BundlePlace, address: u32) -> bool
     ensures { result ≡ is_at_gate place.now address }
 {
     place.listed && address == place.address
 }
 
+/// Whether the instruction breaks V3: an `ecall` at no listed gate.
 fn breaks_ecall(place: &BundlePlace, address: u32, instr: &Instr) -> bool
     ensures { result ≡ breaks_ecall (is_at_gate place.now address) instr.now }
 {
@@ -110,12 +117,14 @@ fn breaks_ecall(place: &BundlePlace, address: u32, instr: &Instr) -> bool
     }
 }
 
+/// Whether an access may have this base register: a data register, or the data base.
 pub(crate) fn may_access(base: Reg) -> bool
     ensures { result ≡ may_access base }
 {
     is_data_register(base) || base.number() == DATA_BASE_REGISTER
 }
 
+/// Whether the instruction breaks V5: an access on another base register.
 fn breaks_access(instr: &Instr) -> bool
     ensures { result ≡ breaks_access instr.now }
 {
@@ -125,6 +134,7 @@ fn breaks_access(instr: &Instr) -> bool
     }
 }
 
+/// Whether the instruction breaks V6: a `jalr` with an offset, or not on the code register.
 fn breaks_jump(instr: &Instr) -> bool
     ensures { result ≡ breaks_jump instr.now }
 {
@@ -134,6 +144,7 @@ fn breaks_jump(instr: &Instr) -> bool
     }
 }
 
+/// Whether a word of the code region begins at the address.
 pub(crate) fn is_word_start(place: &BundlePlace, address: u32) -> bool
     requires { IsWithin place.now }
     ensures { result ≡ is_word_start place.now.code_base place.now.code_size address }
@@ -141,6 +152,7 @@ pub(crate) fn is_word_start(place: &BundlePlace, address: u32) -> bool
     place.code_base <= address && address - place.code_base < place.code_size && address % 4 == 0
 }
 
+/// Whether the instruction breaks V7: a jump or branch to no word start of the code region.
 fn breaks_target(place: &BundlePlace, address: u32, instr: &Instr) -> bool
     requires { IsWithin place.now }
     ensures { result ≡
@@ -154,6 +166,7 @@ fn breaks_target(place: &BundlePlace, address: u32, instr: &Instr) -> bool
     }
 }
 
+/// Whether the instruction breaks V12: it writes x31, and isn't `and x31, a, x27`.
 fn breaks_offset(instr: &Instr) -> bool
     ensures { result ≡ breaks_offset instr.now }
 {
@@ -161,6 +174,7 @@ fn breaks_offset(instr: &Instr) -> bool
         && !is_masking(DATA_MASK_REGISTER, OFFSET_REGISTER, instr)
 }
 
+/// Whether the instruction breaks V8: it ends the code region, and control may run on past it.
 fn breaks_last(place: &BundlePlace, address: u32, size: u32, owed: Owed, instr: &Instr) -> bool
     requires within { IsWithin place.now }
     requires inside { IsInside place.now address size }
@@ -175,7 +189,7 @@ fn breaks_last(place: &BundlePlace, address: u32, size: u32, owed: Owed, instr: 
     address - place.code_base == place.code_size - size && !ends_region(instr)
 }
 
-/// The lowest rule that the instruction of so many bytes breaks there, if any.
+/// The lowest rule that the instruction of `size` bytes at `address` breaks, if any.
 pub(crate) fn lowest_rule(
     place: &BundlePlace,
     address: u32,

@@ -14,6 +14,7 @@ use rv_comp::{Front, read_front};
 use rv_word::Instr;
 use sfi_rules::{BundlePlace, Finding, Owed, Rule};
 
+/// Appends the finding that `rule` is broken at `address`.
 fn push(place: &BundlePlace, address: u32, rule: Rule, found: &mut BundleFindings)
     requires { length found.old < 8 }
     ensures { found.new ≡ found.old ++ found_at place.now address (Some rule) }
@@ -25,7 +26,7 @@ fn push(place: &BundlePlace, address: u32, rule: Rule, found: &mut BundleFinding
     });
 }
 
-/// Adds what the instruction breaks, and answers what is owed after it.
+/// Adds the finding of the instruction, if it has one, and answers what is owed after it.
 fn scan_instruction(
     place: &BundlePlace,
     address: u32,
@@ -53,8 +54,8 @@ fn scan_instruction(
     owed_next(owed, instr)
 }
 
-/// Adds the findings of the word there, instruction by instruction, and answers what is owed after
-/// it.
+/// Adds the findings of the word at `address`, instruction by instruction, and answers what is owed
+/// after it.
 #[inline(never)]
 fn scan_unseen(
     place: &BundlePlace,
@@ -96,8 +97,8 @@ fn scan_unseen(
     }
 }
 
-/// Adds the findings of the word there, and answers what is owed after it. Most have none, so a
-/// look comes first; the region's end has a rule of its own.
+/// Adds the findings of the word at `address`, and answers what is owed after it. Most have none,
+/// so a look comes first; the region's end has a rule of its own.
 #[inline(always)]
 pub(crate) fn scan_word(
     place: &BundlePlace,

@@ -19,7 +19,7 @@ pub(super) fn smallest_world(rt: &impl Abort, alloc: Global) -> Result<World<Seg
     Ok(World::load(alloc, &accepted, Segments::new(alloc))?)
 }
 
-// One sandbox, which has taken no step.
+// Whether the one sandbox has taken no step.
 fn is_fresh(world: &World<Segments>) -> bool {
     let is_first = match world.cpu(0) {
         Some(cpu) => cpu.pc() == 0x0100_0000 && cpu.reg(Reg::numbered(27)) == 255,
@@ -110,7 +110,7 @@ fn is_written(world: &mut World<Segments>) -> bool {
         && !world.write(1, DATA, &[4])
 }
 
-// The same of reading. What isn't read stays as it was.
+// Reading has the same limits. What isn't read stays as it was.
 fn is_read(world: &World<Segments>) -> bool {
     let mut bytes = [9, 9, 9];
     !world.read(0, DATA + 254, &mut bytes)

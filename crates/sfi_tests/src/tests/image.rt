@@ -13,7 +13,7 @@ pub(super) fn smallest(alloc: Global) -> Result<Vec<u8>, AllocError> {
     edited(alloc, HEAD.as_bytes(), &end_in(36, EBREAK, 64))
 }
 
-/// Digits, so many times, in place of the bytes from one place to another.
+/// Digits, repeated `times` times, in place of the bytes from one place to another.
 /// Places after the end stand for the end.
 #[derive(Clone, Copy)]
 pub(super) struct Edit<'a> {
@@ -43,7 +43,7 @@ pub(super) fn insert<'a>(at: usize, digits: &'a str) -> Edit<'a> {
     }
 }
 
-/// The digits, so many times, in place of what stands from the place on.
+/// The digits, repeated `times` times, in place of what stands from byte `at` on.
 pub(super) fn end_in<'a>(at: usize, digits: &'a str, times: usize) -> Edit<'a> {
     Edit {
         from: at,

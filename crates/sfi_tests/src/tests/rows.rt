@@ -62,11 +62,13 @@ struct Row {
     status: u8,
 }
 
+// Appends the bytes that hexadecimal digits spell.
 fn push_bytes(alloc: Global, text: &mut Vec<u8>, digits: &str) -> Result<(), Fail> {
     let bytes = hex::decode(alloc, digits.as_bytes())?;
     Ok(text.extend_from_slice(bytes.as_slice())?)
 }
 
+// Adds to `said` what the command prints of the row's input.
 fn push_printed(alloc: Global, row: &mut Row, command: &str) -> Result<(), Fail> {
     let Outcome { status: _, text } = answer(alloc, row, command)?;
     Ok(row.said.extend_from_slice(text.as_slice())?)
@@ -91,6 +93,7 @@ fn add_line(alloc: Global, row: &mut Row, line: Line<'_>) -> Result<(), Fail> {
     Ok(())
 }
 
+// The row of these lines, named `name`.
 fn read_row(alloc: Global, name: &str, lines: &str) -> Result<Row, Fail> {
     let mut row = Row {
         input: smallest(alloc)?,
@@ -203,7 +206,7 @@ fn try_row(rt: &impl Abort, alloc: Global, text: &str) -> Result<(), Fail> {
     Ok(())
 }
 
-// Tries each of the rows, which have so many commands.
+// Tries each of the rows, which have `count` commands in all.
 fn try_each(rt: &impl Abort, alloc: Global, rows: &str, count: usize) -> Result<(), Fail> {
     assert!(rt; rows.starts_with("\n= "), "{rows}");
     assert_eq!(rt; rows.matches("\n$ ").count(), count, "{rows}");
@@ -213,7 +216,7 @@ fn try_each(rt: &impl Abort, alloc: Global, rows: &str, count: usize) -> Result<
     Ok(())
 }
 
-// Tries each row of the table. They have so many commands, with those of its head in each.
+// Tries each row of the table. They have `count` commands in all, with those of its head in each.
 fn try_rows(rt: &impl Abort, alloc: Global, table: &str, count: usize) -> Result<(), Fail> {
     let rows = unfolded(alloc, table)?;
     try_each(rt, alloc, from_utf8(rows.as_slice())?, count)

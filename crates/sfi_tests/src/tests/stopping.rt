@@ -61,7 +61,7 @@ fn waiting_world(rt: &impl Abort, alloc: Global) -> Result<World<Segments>, Fail
     Ok(world)
 }
 
-// It waits no more, takes no reply, and takes no step in a turn.
+// Whether the sandbox waits no more, takes no reply, and takes no step in a turn.
 fn takes_nothing(world: &mut World<Segments>) -> bool {
     let reply = Later {
         a0: 1,

@@ -9,7 +9,7 @@ use std::io::{self, ErrorKind, Read};
 use std::process::Abort;
 use std::test::Fail;
 
-/// Gives at most so many bytes at a call, and fails after so many calls.
+/// Gives at most `step` bytes of `rest` at a call, and fails after `calls` calls.
 #[derive(Drop)]
 struct Pieces<'a> {
     rest: &'a [u8],
@@ -18,6 +18,7 @@ struct Pieces<'a> {
 }
 
 impl<'a> Pieces<'a> {
+    // A reader of these bytes.
     fn new(rest: &'a [u8], step: usize, calls: usize) -> Pieces<'a> {
         Pieces { rest, step, calls }
     }
@@ -47,7 +48,7 @@ pub(super) fn run_in_pieces(
     Ok(Outcome { status, text })
 }
 
-// The smallest image is accepted by so many reads of so many bytes, and not by fewer.
+// The smallest image is accepted after `enough` reads of `step` bytes, and not after fewer.
 fn try_reads(rt: &impl Abort, bytes: &[u8], step: usize, enough: usize) {
     for calls in 0..=enough {
         let mut reader = Pieces::new(bytes, step, calls);

@@ -27,7 +27,7 @@ const CASES: &[Case] = &[
     Case("reads", b"", (1, 1000), Status::Exited(0), 16, b""),
 ];
 
-// So many turns of the first sandbox.
+// A plan for the first sandbox. `turns` is the number of turns, and the steps of each.
 fn plan_of(alloc: Global, turns: (u32, u32)) -> Result<Vec<Turn>, AllocError> {
     let (count, steps) = turns;
     let mut plan = Vec::new(alloc);
@@ -37,6 +37,7 @@ fn plan_of(alloc: Global, turns: (u32, u32)) -> Result<Vec<Turn>, AllocError> {
     Ok(plan)
 }
 
+// Runs the case's program by its plan, and compares status, steps and output.
 fn try_case(rt: &impl Abort, alloc: Global, case: &Case) -> Result<(), AllocError> {
     let Case(name, input, turns, status, steps, output) = case;
     let text = text_named(name).expect(rt, "a text");

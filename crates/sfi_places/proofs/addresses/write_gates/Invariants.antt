@@ -6,7 +6,7 @@ use Rattle.sfi_places.specs.private.Writing.{IsReplaced, GatesGo}
 use Rattle.sfi_places.proofs.Writing.{some_moved}
 use Rattle.sfi_places.proofs.addresses.write_gates.Given as goal
 
--- so many of the gates are moved
+-- the first `i` gates are moved
 abbrev pub invariant-loop-i : goal.invariant-loop-i
 invariant-loop-i l =
     (gs : List Gate) → length gs ≡ l.fn.gate_count → GatesGo l.fn.from l.fn.to gs

@@ -1,7 +1,7 @@
 use Rattle.sfi_scan.proofs.Prelude.{◌≡◌, ◌-◌, ◌*◌, ℕ, drop, length, IsWordCodeScanned, AreBundlesTo, stretch_place}
 use Rattle.sfi_scan.proofs.words.scan_bundles.Given as goal
 
--- so many bundles are scanned
+-- the bundles from byte `at` up to byte `end` are scanned
 abbrev pub invariant-loop-end : goal.invariant-loop-end
 invariant-loop-end g l =
     (k : ℕ) → l.fn.at ≡ 16 * k →

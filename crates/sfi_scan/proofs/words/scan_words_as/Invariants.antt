@@ -1,7 +1,7 @@
 use Rattle.sfi_scan.proofs.Prelude.{◌-◌, length, IsWordCodeScanned, AreBundlesTo}
 use Rattle.sfi_scan.proofs.words.scan_words_as.Given as goal
 
--- so many bundles are scanned
+-- the bundles before byte `at` are scanned
 abbrev pub invariant-loop-at : goal.invariant-loop-at
 invariant-loop-at g l =
     AreBundlesTo l.code 0 l.at (λ k. IsWordCodeScanned g.F.FindingSink.takes l.place l.fn.owed l.code k l.left l.initial.sink l.sink)

@@ -97,7 +97,8 @@ $ sfi check
 > refused findings=1 first=V10 sandbox=0 at=01000000
 ";
 
-/// The same of code in words. `c.ebreak` ends a run, so what stands behind it in its word is never reached.
+/// Such sandboxes of code in words. `c.ebreak` ends a run, so what stands behind it in its word is
+/// never reached.
 pub(super) const SAFE_WORDS: &str = "
 put 0 53464957; $ sfi check
 = an undecodable halfword after a c.ebreak; put 36 02900000; > refused findings=1 first=V1 sandbox=0 at=01000002

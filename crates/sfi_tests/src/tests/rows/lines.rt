@@ -37,10 +37,12 @@ pub(super) enum Line<'a> {
     Status(u8),
 }
 
+// The number that decimal digits spell.
 fn number(digits: &str) -> Option<usize> {
     digits.parse().ok()
 }
 
+// A part with the text once.
 fn once<'a>(text: &'a str, end: &'a str) -> Part<'a> {
     Part {
         times: 1,
@@ -49,7 +51,7 @@ fn once<'a>(text: &'a str, end: &'a str) -> Part<'a> {
     }
 }
 
-// A number, and the text that stands so many times.
+// A number, and the text that it repeats.
 fn many<'a>(rest: &'a str, end: &'a str) -> Option<Part<'a>> {
     let (times, text) = rest.split_once(' ')?;
     Some(Part {
@@ -59,6 +61,7 @@ fn many<'a>(rest: &'a str, end: &'a str) -> Option<Part<'a>> {
     })
 }
 
+// The edit of a line whose first word is `word`.
 fn edit_of<'a>(word: &str, rest: &'a str) -> Option<Edit<'a>> {
     if word == "cut" {
         return Some(end_in(number(rest)?, "", 0));
@@ -76,7 +79,7 @@ fn edit_of<'a>(word: &str, rest: &'a str) -> Option<Edit<'a>> {
     }
 }
 
-// The text of that name, so many times.
+// The text of that name, repeated `times` times.
 fn named<'a>(times: usize, name: &'a str) -> Option<Part<'a>> {
     let text = text_named(name)?;
     Some(Part {

@@ -2,7 +2,7 @@ use Rattle.sfi_check.proofs.Prelude.{◌≡◌, ◌⊎◌, ◌<◌, ◌≤◌, �
 use Rattle.sfi_check.specs.private.Feeds.{IsFedOn}
 use Rattle.sfi_check.proofs.feed.Feed.feed_into.Given as goal
 
--- so many bytes of the piece are fed
+-- the first `at` bytes of the piece are fed
 abbrev pub invariant-loop-at : goal.invariant-loop-at
 invariant-loop-at g l = record {
   inside : l.at ≤ length l.bytes;

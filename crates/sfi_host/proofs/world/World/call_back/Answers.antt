@@ -11,7 +11,7 @@ returns-in_default-clause-may g c = not_waiting (slots_of c.args.self.now) c.arg
 pub returns-in_default-called_back-clause-may : goal.returns-in_default-called_back-clause-may
 returns-in_default-called_back-clause-may g c = odd_callback (slots_of c.args.self.now) c.args.i c.args.pc c.args.arguments.now (c.called_back.ensures.odd c.in_default-called_back.is)
 
--- it as it waits
+-- the sandbox as it waits
 abbrev slot : (g : given.Over) (c : goal.After-set_cpu g) → Slot
 slot g c = slot_in c.args.self.now.bytes c.in-Some-find.sandbox.now
 
