@@ -19,7 +19,7 @@ no_first t c are at n fits some e =
 
 -- ---- marks, as a number
 
--- so many marks
+-- a mark for each cell of the list, as a number
 abbrev pub ones : List ℕ → ℕ
 ones [] = 0
 ones (m ∷ ms) = 1 + 256 * ones ms

@@ -67,7 +67,7 @@ read_one_more m a k v bs below before here j l = elim (cases_lt j k) [
       ap (λ (x : ℕ). byte_at m (a + x)) e ∙ here ∙ ap Some (sym (ap (slice_index (set bs k v)) e ∙ get_or-set_same bs k v 0 below))
 ]
 
--- so many more, from cells in one page
+-- `count` more bytes are read, from cells in one page
 pub read_more : (t c old new : List ℕ) → ArePages t c → (at n done count frame : ℕ) → IsSome (bytes_at (values_of (cell_at t c)) (range_with_len at n)) → done + count ≤ n → at + done < 2 ^ 32
     → (at + done) % 4096 + count ≤ 4096 → frame ≡ frame_of t (at + done) → ((j : ℕ) → j < done → byte_at (values_of (cell_at t c)) (at + j) ≡ Some (slice_index old j))
     → Puts old new done count (λ j. slice_index c (frame + (at + done) % 4096 + j)) → (j : ℕ) → j < done + count → byte_at (values_of (cell_at t c)) (at + j) ≡ Some (slice_index new j)

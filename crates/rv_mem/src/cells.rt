@@ -40,7 +40,7 @@ pub(crate) fn put_bytes(cells: &mut [u8], place: usize, bytes: &[u8])
     cells[place..place + bytes.len()].copy_from_slice(bytes);
 }
 
-/// Copies so many cells from a place on to a room, from another place on.
+/// Copies `count` cells from `place` on to `room`, from place `to` on.
 pub(crate) fn copy_cells(cells: &[u8], place: usize, count: usize, room: &mut [u8], to: usize)
     requires cells { place + count ≤ length cells.now }
     requires room { to + count ≤ length room.old }
@@ -49,7 +49,7 @@ pub(crate) fn copy_cells(cells: &[u8], place: usize, count: usize, room: &mut [u
     room[to..to + count].copy_from_slice(&cells[place..place + count]);
 }
 
-/// Writes one value so many times from a place on.
+/// Writes `value` to the `count` cells from `place` on.
 pub(crate) fn put_same(cells: &mut [u8], place: usize, count: usize, value: u8)
     requires { place + count ≤ length cells.old }
     ensures { Puts cells.old cells.new place count (λ j. value) }
@@ -57,8 +57,8 @@ pub(crate) fn put_same(cells: &mut [u8], place: usize, count: usize, value: u8)
     cells[place..place + count].fill(value);
 }
 
-/// Writes so many bytes of front, from one of its places on and with zeros past its end,
-/// and their marks.
+/// Writes `count` bytes from `place` on, those of `front` from place `from` on and zeros past its end,
+/// and marks them as there.
 pub(crate) fn mark_cells(cells: &mut [u8], place: usize, count: usize, front: &[u8], from: usize)
     requires room { place + count + 4096 ≤ length cells.old }
     requires page { count ≤ 4096 }

@@ -190,7 +190,7 @@ impl Pages {
         self.cells[place] = byte;
     }
 
-    /// Whether one of so many addresses from one on, in one page, is there.
+    /// Whether one of the `count` addresses from `at` on, all in one page, is there.
     fn run_has(&self, at: u32, count: u32) -> bool
         requires { at % 4096 + count ≤ 4096 }
         ensures found { OnTrue result ((j : ℕ) × (j < count) ×
@@ -248,8 +248,8 @@ impl Pages {
         make_frame(&mut self.table, &mut self.cells, page)
     }
 
-    /// Writes so many bytes of front, from one of its places on and with zeros past its end, to an
-    /// address and those after it, in one page that has a frame. It marks them.
+    /// Writes `count` bytes, those of `front` from place `from` on and zeros past its end, to the
+    /// addresses from `at` on, all in one page that has a frame, and marks them as there.
     fn mark_run(&mut self, at: u32, count: u32, front: &[u8], from: u32)
         requires page { at % 4096 + count ≤ 4096 }
         requires made { slice_index self.old.table.items (at / 4096) ≢ 0 }

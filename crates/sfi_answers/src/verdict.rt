@@ -32,7 +32,7 @@ impl Answer {
     }
 }
 
-/// The verdict on an image without findings, which has so many sandboxes and bundles.
+/// The verdict on an image without findings, with its counts of sandboxes and bundles.
 pub(crate) fn accepted_line(
     alloc: Global,
     sandboxes: usize,
@@ -43,7 +43,7 @@ pub(crate) fn accepted_line(
     format!(in alloc; "accepted sandboxes={sandboxes} bundles={bundles}\n")
 }
 
-/// The verdict on an image with so many findings, of which this is the first.
+/// The verdict on an image with `count` findings, of which `first` is the first.
 pub(crate) fn refused_line(
     alloc: Global,
     count: usize,

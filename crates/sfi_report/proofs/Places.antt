@@ -26,7 +26,7 @@ use Rattle.sfi_report.specs.private.{SpellsFirst, IsPlace}
 use Rattle.sfi_rules.proofs.Lowest.{lowest_is}
 use Rattle.sfi_report.proofs.Lines.{spell_even, spell_fits}
 
--- the finding is one of the sandbox, so many bytes after the address, where these bytes are
+-- the finding is one of the sandbox, `offset` bytes after address `at`, where these bytes lie
 pub record StandsIn (sandbox at : ℕ) (bytes : List ℕ) (f : Finding) : Type 0 where
   pub offset : ℕ
   pub sandbox_is : f.sandbox ≡ sandbox

@@ -203,7 +203,7 @@ uint32_t sfi_run_api(const uint8_t *image, size_t length, uint32_t sandbox, uint
 /* ---- a turn, and the reply to a call */
 
 /*
- * Runs a sandbox for at most so many steps, and no further than its next call. Writes to *event how it stands then, and
+ * Runs a sandbox for at most `steps` steps, and no further than its next call. Writes to *event how it stands then, and
  * returns the event's kind. Where it stands at a call already, or has stopped, it does no step. An instruction that is done
  * and a call that is replied to are a step each (sfi_run_steps counts them). A trap isn't counted, but a turn of 0 steps
  * doesn't get as far as one.

@@ -28,7 +28,7 @@ pub record IsStillSafe (w n : Sandboxes) : Type 0 where
 abbrev pub plan_of : ℕ → ℕ → List Turn
 plan_of sandbox steps = record { sandbox = sandbox; steps = steps } ∷ []
 
--- the sandbox of that number took a turn of at most so many steps, up to its first call
+-- the sandbox of that number took a turn of at most `steps` steps, up to its first call
 pub record HasRunToCall (w n : Sandboxes) (sandbox steps : ℕ) : Type 0 where
   pub ran : (machine : Machine) → IsMachine machine
       → slots_of n ≡ (to_call machine (plan_of sandbox steps) (slots_of w)).slots

@@ -73,7 +73,7 @@ fn call(
     true
 }
 
-/// Runs a sandbox up to its next call, for at most so many steps, and tells how it stands then.
+/// Runs a sandbox up to its next call, for at most `steps` steps, and tells how it stands then.
 #[unsafe(no_mangle)]
 pub extern "C" fn sfi_run_turn(
     alloc: Global,
@@ -99,7 +99,7 @@ pub extern "C" fn sfi_run_turn(
     event.kind
 }
 
-/// Runs a sandbox up to its next call, for at most so many steps, and no further than to one of the
+/// Runs a sandbox up to its next call, for at most `steps` steps, and no further than to one of the
 /// addresses `stops`, to which at least one step leads. Tells how it stands then.
 #[unsafe(no_mangle)]
 pub extern "C" fn sfi_run_until(
@@ -128,7 +128,7 @@ pub extern "C" fn sfi_run_until(
 }
 
 /// Calls a function of a sandbox that has stopped: enters it at a bundle or word of its code, with these
-/// in a0 to a7, and runs it up to its next call, for at most so many steps. Tells how it stands then.
+/// in a0 to a7, and runs it up to its next call, for at most `steps` steps. Tells how it stands then.
 #[unsafe(no_mangle)]
 pub extern "C" fn sfi_run_call(
     alloc: Global,

@@ -114,7 +114,7 @@ word_whole p clean k within reading longest =
 -- ---- a unit
 
 module _ (p : Part) (number : ℕ) (reading : List Piece) where
-  -- of so many bytes
+  -- where units have `u` bytes, the reading of the unit leaves none of them
   abbrev IsWhole : ℕ → Type 0
   IsWhole u = u * number + u ≤ length p.code → IsLongestReading (take u (drop (u * number) p.code)) reading → rest_of (take u (drop (u * number) p.code)) reading ≡ []
 

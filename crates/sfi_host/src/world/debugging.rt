@@ -16,7 +16,7 @@ impl<M: Memory> World<M> {
     /// `stops`: it ends before the instruction there. Its first step is done in any case, so that it
     /// goes on from a stop at which it stands.
     pub fn run_until(&mut self, turn: Turn, stops: &[u32]) -> Option<Request>
-        // It is a turn of so many steps: the first one after which its sandbox stands at a stop.
+        // It is a turn that ends after the first step that leads its sandbox to a stop.
         ensures ran { HasRunUntil stops.now turn self.old self.new }
 
         // The answer is as that of `waiting`.
