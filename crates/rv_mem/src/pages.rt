@@ -353,6 +353,13 @@ impl Pages {
         true
     }
 
+    /// Makes room for the cells of some frames more, so that they are made without moving the others.
+    fn reserve_frames(&mut self, count: u32) -> Result<(), AllocError>
+        ensures same { bytes_of self.new ≡ bytes_of self.old }
+    {
+        self.cells.reserve(count as usize * FRAME)
+    }
+
     /// Makes the pages of the size addresses from base on.
     fn make_pages(&mut self, base: u32, size: u32) -> Result<(), AllocError>
         requires { base + size ≤ 2 ^ 32 }
@@ -363,6 +370,7 @@ impl Pages {
             return Ok(());
         }
         let last = (base + (size - 1)) / PAGE;
+        self.reserve_frames(last + 1 - base / PAGE)?;
         for page in base / PAGE..last + 1 {
             self.make_page(page)?;
         }
