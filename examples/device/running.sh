@@ -88,7 +88,11 @@ read_options() {
         --unchecked) unchecked=1 ;;
         --checker) checker=$(value "$@"); shift ;;
         --help) help && exit 3 ;;
-        *) own_option "$@" && shift || fail 3 "there is no option $1; --help names them" ;;
+        *)
+            own_values=0
+            own_option "$@" || fail 3 "there is no option $1; --help names them"
+            shift "$own_values"
+            ;;
         esac
         shift
     done

@@ -6,6 +6,7 @@
 #     examples/device/mcu/run.sh [OPTIONS] < IMAGE      # hexadecimal text, as `sfi run` reads it
 #
 #     --chip NAME      one of chips/table; sifive_e, a model of the FE310, if absent
+#     --no-pmp         without physical memory protection: guard zones are memory of nobody else
 #     --turn TICKS     how long a turn may be, in ticks of the clock; if absent, as chip.h says
 #
 # In the environment, MAIN names files of C and assembly in the place of main.c, from this folder on.
@@ -13,12 +14,15 @@ set -euo pipefail
 here=$(cd "$(dirname "${BASH_SOURCE[0]}")" && pwd)
 top=$here/../../..
 turn_most=4294967295
-chip=sifive_e
+chip=sifive_e no_pmp=''
 source "$here/../running.sh"
 
 own_option() {
-    [ "$1" = --chip ] || return
-    chip=$(value "$@")
+    case $1 in
+    --chip) chip=$(value "$@") && own_values=1 ;;
+    --no-pmp) no_pmp=1 ;;
+    *) return 1 ;;
+    esac
 }
 
 # What comes after the chip's name in chips/table.
@@ -68,8 +72,8 @@ fi
 needs_tools
 needs python3 "Debian's package python3"
 read_bytes
-out=${OUT:-$here/out}/$chip
-build_host OUT="$out" CHIP="$chip"
+out=${OUT:-$here/out}/$chip${no_pmp:+-no-pmp}
+build_host OUT="$out" CHIP="$chip" NO_PMP="$no_pmp"
 places=$(places_of_chip)
 read -r at_arguments at_image at_input ticks <<<"$places"
 write_arguments "${turn:-$ticks}"

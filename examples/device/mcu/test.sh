@@ -11,6 +11,7 @@ source "$here/../testing.sh"
 own=mcu
 source "$here/../test_guards.sh"
 source "$here/test_premises.sh"
+source "$here/test_pads.sh"
 by=(--unchecked)
 ! make_checker || by=(--checker "$room/checker/checker.o")
 
@@ -213,6 +214,7 @@ try_chip() {
     case $chip in
     sifive_e)
         try_script
+        try_without_pmp
         [ "${by[0]}" = --unchecked ] || judge_layouts
         ;;
     sifive_u) try_vendor "$(printf %08x $((flash_code)))" 3 ;; # once: a vendor's own files are the same on all
