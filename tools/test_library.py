@@ -10,7 +10,7 @@ import tempfile
 import unittest
 
 from test_floats import SOURCES  # finds the modules of sfi-cc, too
-from testing import GCC, SFI, SFI_CC, TOOLS
+from testing import GCC, SFI, SFI_CC, TOOLS, needs
 from sources import NEWLIB_SOURCE
 
 SFI_LIBRARY = os.path.join(TOOLS, "sfi-library")
@@ -171,6 +171,10 @@ class Library(unittest.TestCase):
 
     def test_errors_of_math(self):
         self.assertEqual(self.ran(ERRORS), ("sandbox=0 exit=0", ERRORS_TOLD))
+
+    @needs("clang", "llc")
+    def test_by_clang(self):
+        self.assertEqual(self.ran(ERRORS, "--cc", "clang"), ("sandbox=0 exit=0", ERRORS_TOLD))
 
     def test_new(self):
         """Memory of C++ where nothing else names malloc and free; and nothing is said."""

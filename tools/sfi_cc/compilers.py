@@ -16,6 +16,7 @@ COMMON = ["-march=rv32imc", "-mabi=ilp32", "-fno-builtin", "-ffunction-sections"
 OF_GCC = ["-Werror=trampolines", f"--param=case-values-threshold={CASES}"]
 PLUS_PLUS = ["-fno-exceptions", "-fno-rtti", "-fno-threadsafe-statics"]
 HOSTED = "-fhosted"  # what undoes -ffreestanding, which C++ isn't compiled with
+PLUS_PLUS_HEADERS = ["-idirafter", os.path.join(TOOLS, "sfi_cc", "plus_plus")]  # what C++ has where there is no C library
 LAST = ["-fno-lto"]  # what outweighs the options that are given
 TARGET = ["--target=riscv32-unknown-elf", "-fno-jump-tables"]  # llc makes tables of any five cases, or none
 LLC = ["-march=riscv32", "-target-abi=ilp32", "--function-sections", "--data-sections"]
@@ -82,12 +83,16 @@ def level(given):
 
 def language(file):
     """The options for C or C++. Without a hosted C++ a `main` is a name like any other."""
-    return PLUS_PLUS if file.endswith(PLUS_PLUS_SOURCES) else ["-ffreestanding"]
+    return [*PLUS_PLUS, *PLUS_PLUS_HEADERS] if file.endswith(PLUS_PLUS_SOURCES) else ["-ffreestanding"]
 
 
 def for_language(file, given):
     """The options that are given for all files, without what gcc takes for C alone."""
     return [word for word in given if word != HOSTED] if file.endswith(PLUS_PLUS_SOURCES) else given
+
+
+def is_clang(compiler):
+    return "clang" in os.path.basename(compiler)
 
 
 def default_compiler():
@@ -135,7 +140,7 @@ def by_clang(compiler, given, file, assembly, registers):
 
 
 def preprocessed(compiler, given, file, assembly, _):
-    target = TARGET if "clang" in os.path.basename(compiler) else []
+    target = TARGET if is_clang(compiler) else []
     return ran([compiler, "-E", *target, *COMMON, *given, *HEADERS, "-o", assembly, file])[1]
 
 
@@ -148,7 +153,7 @@ def compiled(compiler, given, file, place, registers=RESERVED_IN_WORDS):
         return file, b""
     os.mkdir(place)
     assembly = os.path.join(place, os.path.splitext(os.path.basename(file))[0] + ".asm")
-    compile_one = by_clang if "clang" in os.path.basename(compiler) else by_gcc
+    compile_one = by_clang if is_clang(compiler) else by_gcc
     if file.endswith(WITH_MACROS):
         compile_one = preprocessed
     return assembly, compile_one(compiler, given, file, assembly, registers)

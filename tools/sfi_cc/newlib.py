@@ -5,7 +5,7 @@ import shutil
 from concurrent.futures import ThreadPoolExecutor
 
 import softfloat
-from compilers import RESERVED_IN_WORDS, Failed, compiled, version
+from compilers import RESERVED_IN_WORDS, Failed, compiled, is_clang, version
 from kept import kept
 from sources import GCC_SOURCE, NEWLIB_SOURCE, identity, unpacked
 
@@ -34,6 +34,7 @@ VARIANTS += [(f"nano-{name}", "libc/stdlib/nano-mallocr.c", ["-DINTERNAL_NEWLIB"
                           "malloc_stats", "malloc_usable_size", "mallopt")]
 OPTIONS = ["-w", "-fhosted", "-fno-common", "-fno-tree-loop-distribute-patterns", "-D_LIBC", "-D_COMPILING_NEWLIB",
            "-D_POSIX_MODE"]  # the functions of math.h set errno, as its math_errhandling says
+OF_GCC = {"-fno-tree-loop-distribute-patterns"}  # of these, what clang doesn't know
 # Headers whose functions newlib has for other systems alone, or that want others of such a system. A program that asks for
 # one of them isn't to find it. stdatomic.h is the compiler's own.
 WITHOUT_FUNCTIONS = [f"{name}.h" for name in (
@@ -67,7 +68,8 @@ def compile_all(compiler, folder):
     include, room = os.path.join(folder, "include"), os.path.join(folder, "room")
     os.makedirs(room)
     headers(tree, include)
-    options = [*OPTIONS, "-isystem", include, *(word for part in SEARCHED for word in ("-I", f"{tree}/{part}"))]
+    own = [word for word in OPTIONS if not (is_clang(compiler) and word in OF_GCC)]
+    options = [*own, "-isystem", include, *(word for part in SEARCHED for word in ("-I", f"{tree}/{part}"))]
     glue = [(os.path.join(GLUE, f"{name}.c"), f"sandbox-{name}", []) for name in ("system", "heap", "pow")]
 
     def compile_one(job):
