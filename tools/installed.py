@@ -59,7 +59,8 @@ def library(crate):
     name, compatible = f"lib{crate}.so", libraries.shared_name(crate)
     whole = f"{name}.{version.version()}"
     return [
-        Item(f"include/{libraries.HEADERS[crate]}", pathlib.Path(libraries.header(crate))),
+        *(Item(f"include/{it}", pathlib.Path(libraries.path(crate, "include", it)))
+          for it in (libraries.HEADERS[crate], *libraries.MORE_HEADERS[crate])),
         Item(f"lib/lib{crate}.a", pathlib.Path(static)),
         Item(f"lib/{whole}", pathlib.Path(shared)),
         Item(f"lib/{compatible}", link=whole),

@@ -20,6 +20,7 @@ sys.path.insert(0, os.path.join(TOP, "tools"))
 import version
 
 HEADERS = {"sfi_c": "sfi.h", "sfi_run": "sfi_run.h"}
+MORE_HEADERS = {"sfi_c": [], "sfi_run": ["sfi_run_serve.h"]}  # which declare no call of the library
 C_FILES = {"sfi_c": [], "sfi_run": ["c/heap.c"]}
 
 

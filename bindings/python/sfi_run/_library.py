@@ -21,6 +21,11 @@ class World(ctypes.Structure):
     _fields_ = [("held", _WORD), ("at", ctypes.c_void_p)]
 
 
+class Console(ctypes.Structure):
+    """`struct sfi_run_console`, which begins as zeros."""
+    _fields_ = [("held", _WORD), ("at", ctypes.c_void_p)]
+
+
 class Verdict(ctypes.Structure):
     """`struct sfi_verdict` of sfi.h, with its `struct sfi_finding` as the last three."""
     _fields_ = [(name, _WORD) for name in ("status", "layout_fault", "sandboxes", "bundles", "findings", "sandbox", "address", "rule")]
@@ -44,6 +49,7 @@ class Registers(ctypes.Structure):
 Arguments = _WORD * 8
 
 _WORLD = ctypes.POINTER(World)
+_CONSOLE = ctypes.POINTER(Console)
 _EVENT = ctypes.POINTER(Event)
 _CALLS: dict[str, tuple[Any, list[Any]]] = {
     "version": (_WORD, []),
@@ -67,6 +73,11 @@ _CALLS: dict[str, tuple[Any, list[Any]]] = {
     "steps": (ctypes.c_uint64, [_WORLD, _WORD]),
     "registers": (ctypes.c_bool, [_WORLD, _WORD, ctypes.POINTER(Registers)]),
     "set_registers": (ctypes.c_bool, [_WORLD, _WORD, ctypes.POINTER(Registers)]),
+    "console_new": (ctypes.c_bool, [_WORD, _BYTES, _SIZE, _CONSOLE]),
+    "console_free": (None, [_CONSOLE]),
+    "console_turn": (ctypes.c_bool, [_CONSOLE, _WORLD, _WORD, _WORD]),
+    "console_written": (_SIZE, [_CONSOLE, _WORD]),
+    "console_read": (ctypes.c_bool, [_CONSOLE, _WORD, _SIZE, _ROOM, _SIZE]),
     "data": (ctypes.c_bool, [_WORLD, _WORD, ctypes.POINTER(Region)]),
 }
 

@@ -1,82 +1,61 @@
-"""The services of the console of `sfi run`, for sandboxes that are run by this library: docs/GATES.md says what each does."""
+"""The console of `sfi run`, ready made: the library's own host for sandboxes, whose services docs/GATES.md lists."""
 from __future__ import annotations
 
-from collections import deque
+import ctypes
+import os
 
-from . import Call, Exited, OutsideData, Sandbox, Stopped, Trapped, World
-
-FAILED = 0xFFFFFFFF
-LARGEST = 65536  # bytes of one put or get
-MOST_OUTPUT = 1048576  # bytes of a sandbox
-MAILBOX = 16  # words
+from . import Call, Exited, Sandbox, Stopped, Trapped, World, _bytes, _library, _word
 
 
 class Console:
     """What a console keeps of each sandbox of a world: its output, how far it has read the input, and its mailbox."""
 
     def __init__(self, world: World, given: bytes = b"") -> None:
-        self.world, self.given = world, given
-        self.output = [bytearray() for _ in world]
-        self._read = [0 for _ in world]
-        self._mail: list[deque[tuple[int, int]]] = [deque() for _ in world]
+        """A console in which each sandbox reads the bytes `given` from their beginning. Raises MemoryError where there is no
+        memory for it."""
+        given = _bytes(given)
+        self._raw, self._calls, self._process = _library.Console(), world._calls, os.getpid()
+        self._at = ctypes.byref(self._raw)
+        self.world = world
+        if not self._calls["console_new"](len(world), given, len(given), self._at):
+            raise MemoryError("there was no memory for the console")
+
+    def __del__(self) -> None:
+        if hasattr(self, "world") and os.getpid() == self._process:
+            self._calls["console_free"](self._at)
+
+    @property
+    def output(self) -> list[bytes]:
+        """What each sandbox has put."""
+        with self.world._lock:
+            return [self._output(number) for number in range(len(self.world))]
+
+    def _output(self, number: int) -> bytes:
+        count = self._calls["console_written"](self._at, number)
+        room = ctypes.create_string_buffer(count or 1)
+        self._calls["console_read"](self._at, number, 0, room, count)
+        return room.raw[:count]
 
     def serve(self, call: Call) -> bool:
         """Replies to a call. Whether the turn goes on."""
-        if call.service == 0:
-            call.exit(call.a0)
-        else:
-            serve = {1: self._put, 2: self._get, 3: self._yield, 4: self._post, 5: self._take}[call.service]
-            call.reply(*serve(call.sandbox, call.a0, call.a1))
+        self.turn(call._now(), 1)
         return call.service not in (0, 3)
 
-    def _put(self, sandbox: Sandbox, at: int, count: int) -> tuple[int, int]:
-        output = self.output[sandbox.number]
-        if count > min(LARGEST, MOST_OUTPUT - len(output)):
-            return FAILED, count
-        try:
-            output += sandbox.read(at, count)
-        except OutsideData:
-            return FAILED, count
-        return count, count
-
-    def _get(self, sandbox: Sandbox, at: int, count: int) -> tuple[int, int]:
-        begun = self._read[sandbox.number]
-        part = self.given[begun:begun + count]
-        try:
-            if count > LARGEST:
-                return FAILED, count
-            sandbox.read(at, count)  # the room has to be there for all that it asks for
-            sandbox.write(at, part)
-        except OutsideData:
-            return FAILED, count
-        self._read[sandbox.number] += len(part)
-        return len(part), count
-
-    @staticmethod
-    def _yield(sandbox: Sandbox, a0: int, a1: int) -> tuple[int, int]:
-        return a0, a1
-
-    def _post(self, sandbox: Sandbox, to: int, word: int) -> tuple[int, int]:
-        if to >= len(self._mail):
-            return FAILED, word
-        if len(self._mail[to]) == MAILBOX:
-            return 1, word
-        self._mail[to].append((word, sandbox.number + 1))
-        return 0, word
-
-    def _take(self, sandbox: Sandbox, a0: int, a1: int) -> tuple[int, int]:
-        mail = self._mail[sandbox.number]
-        return mail.popleft() if mail else (0, 0)
-
     def turn(self, sandbox: Sandbox, steps: int) -> None:
-        """A turn of at most `steps` steps, which ends at a yield, too. A call that comes when they are used is served in the
-        next turn."""
-        for event in sandbox.events(steps):
-            if isinstance(event, Call) and not self.serve(event):
-                return
+        """A turn of at most so many steps, which ends at a yield, too. A call that comes when they are used is served in the
+        next turn. Raises MemoryError where there is no memory for what is put: then the sandbox stands at that call."""
+        world = self.world
+        world._made_here()
+        with world._lock:
+            if sandbox.number >= len(world):
+                raise IndexError("the world is closed")
+            is_done = self._calls["console_turn"](self._at, world._at, sandbox.number, _word(steps))
+            world._gone_on[sandbox.number] = next(world._moves)
+        if not is_done:
+            raise MemoryError("there was no memory for what a sandbox put")
 
     def rounds(self, count: int, steps: int) -> None:
-        """`count` rounds of a turn of each sandbox, as `sfi run --rounds COUNT --quantum STEPS` has them."""
+        """So many rounds of a turn of each sandbox, as `sfi run --rounds COUNT --quantum STEPS` has them."""
         for _ in range(count):
             for sandbox in self.world:
                 self.turn(sandbox, steps)
@@ -91,4 +70,4 @@ class Console:
         else:
             assert not isinstance(event, Stopped)  # a console stops nobody
             state = "ready"
-        return f"sandbox={sandbox.number} {state} steps={sandbox.steps} out={self.output[sandbox.number].hex()}"
+        return f"sandbox={sandbox.number} {state} steps={sandbox.steps} out={self._output(sandbox.number).hex()}"

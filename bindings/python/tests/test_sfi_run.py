@@ -375,14 +375,12 @@ class Running(unittest.TestCase):
 class Services(unittest.TestCase):
     """What examples can't show of the console: each failure of docs/GATES.md."""
 
-    def served(self, service, a0, a1, given=b"", before=()):
+    def served(self, service, a0, a1, given=b""):
         """What a call of a gate is replied, and the console."""
         source = f".sandbox 256\n.gate it {service}\n li a0, {a0}\n li a1, {a1}\n call it\n ebreak\n.sandbox 256\n ebreak\n"
         world = sfi_run.World(built(source))
         self.addCleanup(world.close)
         console = Console(world, given)
-        for to, word in before:
-            console._post(world[0], to, word)
         console.turn(world[0], 100)
         x = world[0].registers.x
         return x[10], x[11], console
@@ -399,10 +397,11 @@ class Services(unittest.TestCase):
         for service in (1, 2):
             self.assertEqual(self.served(service, 3, 0, b"abc")[:2], (0, 0))
 
-    def test_a_full_mailbox(self):
-        self.assertEqual(self.served(4, 1, 9, before=[(1, 1)] * 15)[:2], (0, 9))
-        self.assertEqual(self.served(4, 1, 9, before=[(1, 1)] * 16)[:2], (1, 9))
-
-    def test_the_oldest_word_and_its_sender(self):
-        self.assertEqual(self.served(5, 8, 9)[:2], (0, 0))
-        self.assertEqual(self.served(5, 8, 9, before=[(0, 7), (0, 6)])[:2], (7, 1))
+    def test_a_call_is_served(self):
+        world = sfi_run.World(built(f".sandbox 256\n.gate put 1\n li a0, {DATA}\n li a1, 3\n call put\n ebreak\n"))
+        self.addCleanup(world.close)
+        console, call = Console(world), world[0].turn(100)
+        self.assertTrue(console.serve(call))
+        self.assertEqual(console.output, [bytes(3)])
+        with self.assertRaises(sfi_run.NotWaiting):
+            console.serve(call)

@@ -25,6 +25,7 @@ use std::error::Error;
 use std::fmt;
 use std::ptr;
 
+pub mod console;
 pub mod names;
 mod sys;
 pub use sys::{Region, Registers};

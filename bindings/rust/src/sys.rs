@@ -7,6 +7,12 @@ pub struct World {
     pub at: *mut c_void,
 }
 
+#[repr(C)]
+pub struct Console {
+    pub held: u32,
+    pub at: *mut c_void,
+}
+
 /// `SFI_RUN_VERSION_NUMBER` of the header that these are copied from.
 pub const VERSION_NUMBER: u32 = version_number(env!("CARGO_PKG_VERSION").as_bytes());
 
@@ -121,6 +127,27 @@ extern "C" {
         at: u32,
         bytes: *const u8,
         length: usize,
+    ) -> bool;
+    pub fn sfi_run_console_new(
+        sandboxes: u32,
+        input: *const u8,
+        length: usize,
+        console: *mut Console,
+    ) -> bool;
+    pub fn sfi_run_console_free(console: *mut Console);
+    pub fn sfi_run_console_turn(
+        console: *mut Console,
+        world: *mut World,
+        sandbox: u32,
+        steps: u32,
+    ) -> bool;
+    pub fn sfi_run_console_written(console: *mut Console, sandbox: u32) -> usize;
+    pub fn sfi_run_console_read(
+        console: *mut Console,
+        sandbox: u32,
+        from: usize,
+        bytes: *mut u8,
+        room: usize,
     ) -> bool;
     pub fn sfi_run_stop(world: *mut World, sandbox: u32) -> bool;
     pub fn sfi_run_reset(world: *mut World, sandbox: u32) -> bool;

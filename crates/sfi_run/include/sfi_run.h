@@ -331,7 +331,7 @@ struct sfi_run_console {
 #define SFI_RUN_NO_CONSOLE {0, NULL}
 
 /*
- * Frees the console that was there, and makes one for so many sandboxes, numbered from 0, each of which reads the same input
+ * Frees the console that was there, and makes one for `sandboxes` sandboxes, numbered from 0, each of which reads the same input
  * from its beginning. The input is copied. Returns false where there is no memory for it; there is no console then.
  */
 bool sfi_run_console_new(uint32_t sandboxes, const uint8_t *input, size_t length, struct sfi_run_console *console);
@@ -340,7 +340,7 @@ bool sfi_run_console_new(uint32_t sandboxes, const uint8_t *input, size_t length
 void sfi_run_console_free(struct sfi_run_console *console);
 
 /*
- * A turn of a sandbox of the world, for at most so many steps, each call of which the console answers: it ends where the steps
+ * A turn of a sandbox of the world, for at most `steps` steps, each call of which the console answers: it ends where the steps
  * are used, or the sandbox exits, traps or yields. A call that comes when the steps are used is answered in the next turn.
  * sfi_run_event says how the sandbox stands then. Returns false where there is no world or no console, or there was no memory
  * for what a put appends: then the sandbox stands at that call, all before it is done, and the next turn makes the call again.

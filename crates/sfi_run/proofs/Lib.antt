@@ -1,4 +1,5 @@
 pub mod Prelude
 pub mod AsBox
+pub mod AsConsoleBox
 pub mod Loaded
 pub mod Telling

@@ -7,7 +7,9 @@
 
 mod between;
 mod callbacks;
+mod consoles;
 mod held;
+mod held_console;
 mod holding;
 mod names;
 mod parts;
@@ -22,7 +24,12 @@ pub use between::{
     sfi_run_steps, sfi_run_stop, sfi_run_write,
 };
 pub use callbacks::sfi_run_call_back;
+pub use consoles::{
+    SfiRunConsole, sfi_run_console_free, sfi_run_console_new, sfi_run_console_read,
+    sfi_run_console_turn, sfi_run_console_written,
+};
 pub use held::Held;
+pub use held_console::HeldConsole;
 pub use holding::SfiRunWorld;
 pub use names::{sfi_run_api, sfi_run_export, sfi_run_import};
 pub use resets::sfi_run_reset;

@@ -1,9 +1,7 @@
 /* The calls of sfi_run.h on a translated image: sfi_native_run.h says how it is compiled. Nothing of this file is proved. */
 #include "sfi_native_run.h"
 
-#include <stdlib.h>
-#include <string.h>
-
+#include "sfi_native_console.c"
 #include "sfi_native.h"
 
 enum { SERVICE_EXIT = 0, CALL_SIZE = 4, SLACK = 1020 }; /* SLACK: docs/IMAGE.md, typed registers */
