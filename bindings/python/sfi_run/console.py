@@ -42,7 +42,7 @@ class Console:
         return call.service not in (0, 3)
 
     def turn(self, sandbox: Sandbox, steps: int) -> None:
-        """A turn of at most so many steps, which ends at a yield, too. A call that comes when they are used is served in the
+        """A turn of at most `steps` steps, which ends at a yield, too. A call that comes when they are used is served in the
         next turn. Raises MemoryError where there is no memory for what is put: then the sandbox stands at that call."""
         world = self.world
         world._made_here()
@@ -55,7 +55,7 @@ class Console:
             raise MemoryError("there was no memory for what a sandbox put")
 
     def rounds(self, count: int, steps: int) -> None:
-        """So many rounds of a turn of each sandbox, as `sfi run --rounds COUNT --quantum STEPS` has them."""
+        """COUNT rounds of a turn of each sandbox, as `sfi run --rounds COUNT --quantum STEPS` has them."""
         for _ in range(count):
             for sandbox in self.world:
                 self.turn(sandbox, steps)

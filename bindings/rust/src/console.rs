@@ -22,7 +22,7 @@ pub struct Console {
 }
 
 impl Console {
-    /// A console for so many sandboxes, each of which reads the same input from its beginning.
+    /// A console for `sandboxes` sandboxes, each of which reads the same input from its beginning.
     pub fn new(sandboxes: u32, input: &[u8]) -> Result<Console, NoMemory> {
         let mut raw = sys::Console {
             held: 0,
@@ -34,7 +34,7 @@ impl Console {
         is_made.then_some(Console { raw }).ok_or(NoMemory)
     }
 
-    /// A turn of a sandbox, for at most so many steps, each call of which the console answers: it ends at a yield, too. A call
+    /// A turn of a sandbox, for at most `steps` steps, each call of which the console answers: it ends at a yield, too. A call
     /// that comes when the steps are used is answered in the next turn.
     pub fn turn(&mut self, sandbox: &mut Sandbox, steps: u32) -> Result<(), NoMemory> {
         // SAFETY: the console was made and isn't freed, the world was loaded and isn't freed, and both are borrowed here alone.
