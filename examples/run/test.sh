@@ -104,6 +104,16 @@ beside_run() { # what is tried, the image's name, the input, and the lengths: ro
     done
 }
 
+# More input than an option of `sfi run` can have.
+long_input() {
+    local wanted
+    [ -n "${hosts[Python console]:-}" ] || { skip 1 "a long input" "there is no host in Python" && return; }
+    image "$here/../echo.s" 2 echo
+    wanted=$(yes 'a longer input' | head -c 300000 | tr a-z A-Z | digits_of)
+    report "a long input, in Python" "$wanted" "$(yes 'a longer input' | head -c 300000 |
+        ${hosts[Python console]} "$room/echo.image" 10000 1000000 - | sed 's/.*out=//')"
+}
+
 examples_beside_run() {
     local source format name input
     for format in $formats; do
@@ -319,6 +329,7 @@ install_python
 build_rust
 if has xxd; then
     examples_beside_run
+    long_input
     plug_ins
     no_images
     documented

@@ -41,25 +41,37 @@ line_of() { # image, input
         sed 's/^sandbox=0 //; s/ steps=[0-9]*//; s/ at=[0-9a-f]*//'
 }
 
+image_of() { # program, format; fails where sfi-cc does
+    ../../tools/sfi-cc --program "$sfi" --format "$2" --heap 98304 -o "$room/$1.image" "$room/$1.s" 2>"$room/messages"
+}
+
+of_calls() { # program, format; what sfi-cc says of it
+    [ "$1 $2" = "calls 1" ] && echo "more than format 1 has room for" || echo "an image"
+}
+
 try_program() { # program, format
     local input
-    if ! ./sfi-rustc --program "$sfi" --format "$2" -o "$room/image" "programs/$1.rs" 2>"$room/messages"; then
-        ! grep -q "more than format 1 has room for" "$room/messages" || { skip 1 "$1, format $2" "its code is too large" && return; }
-        report "$1, format $2: compiled" image "$(cat "$room/messages")"
+    if ! image_of "$1" "$2"; then
+        report "$1, format $2: compiled" "$(of_calls "$1" "$2")" "$(grep -o "more than format 1 .*\|.*error.*" "$room/messages")"
         return
     fi
     for input in $(inputs_of "$1"); do
-        report "$1, format $2, $input" "$(native_line "$1" "$input")" "$(line_of "$room/image" "$input")"
+        report "$1, format $2, $input" "$(native_line "$1" "$input")" "$(line_of "$room/$1.image" "$input")"
     done
 }
 
 # A panic without room for memory, where a native program has it.
-try_memory() { # format
+try_memory() {
     local line
-    ./sfi-rustc --program "$sfi" --format "$1" -o "$room/image" programs/panics.rs
-    line=$(line_of "$room/image" m)
-    report "no room, format $1" "trap=Break panicked at 'no room for 16777216 bytes'" \
+    line=$(line_of "$room/panics.image" m)
+    report "no room for memory" "trap=Break panicked at 'no room for 16777216 bytes'" \
         "${line% out=*} $(xxd -r -p <<<"${line#*out=}" | sed -n 's/, .*//; 2p')"
+}
+
+# The line of a trap by debug information, and the whole way.
+try_line() {
+    ./sfi-rustc --program "$sfi" -g --format words -o "$room/debugged.elf" programs/panics.rs
+    report "where a panic traps" 1 "$(riscv64-unknown-elf-objdump -dl "$room/debugged.elf" | grep -B2 ebreak | grep -c panicking.rs)"
 }
 
 if ! ./sfi-rustc --missing 2>"$room/messages"; then
@@ -68,9 +80,11 @@ if ! ./sfi-rustc --missing 2>"$room/messages"; then
 fi
 for program in words median panics calls; do
     succeeds "$program natively" ./sfi-rustc --native "$room/$program" "programs/$program.rs"
+    succeeds "$program as assembly" ./sfi-rustc -S -o "$room/$program.s" "programs/$program.rs"
     for format in $formats; do
         try_program "$program" "$format"
     done
 done
-try_memory words
+try_memory
+try_line
 finish
