@@ -83,7 +83,7 @@ enum { SFI_COMPUTATIONS(SFI_KIND) SFI_IMMEDIATES(SFI_KIND) SFI_LOADS(SFI_KIND) S
 struct sfi_hart { sfi_u32 x[32], pc, left; uint8_t *data; };
 struct sfi_row { sfi_u32 kind : 6, size : 3, rd : 5, rs1 : 5, rs2 : 5; sfi_i32 number; };
 struct sfi_native_gate { sfi_u32 address, service; };
-typedef int sfi_function(struct sfi_hart *);
+typedef int sfi_function(struct sfi_hart *restrict);
 struct sfi_sandbox {
     sfi_u32 unit, code, code_size, data, data_size, start, gates, init;
     const struct sfi_native_gate *gate;
@@ -142,47 +142,29 @@ static int sfi_turn(const struct sfi_sandbox *s, struct sfi_hart *h, sfi_u32 *at
     }
     return SFI_NEXT;
 }
-#define r0 0u
-#define r24 code_
-#define r25 (code_size_ - unit_)
-#define r26 data_
-#define r27 (data_size_ - 1u)
-#define SFI_REGISTERS(X) X(1) X(2) X(3) X(4) X(5) X(6) X(7) X(8) X(9) X(10) X(11) X(12) X(13) X(14) X(15) X(16) X(17) X(18) \
-    X(19) X(20) X(21) X(22) X(23) X(28) X(29) X(30) X(31)
+#define SFI_REGISTERS(X) X(8) X(9) X(10) X(11) X(12) X(13) X(14) X(15) X(31)
 #define SFI_GET(k) r##k = h->x[k],
 #define SFI_PUT(k) h->x[k] = r##k;
-#define W0(value)
-#define W24(value)
-#define W25(value)
-#define W26(value)
-#define W27(value)
-#define W1(value) r1 = value;
-#define W2(value) r2 = value;
-#define W3(value) r3 = value;
-#define W4(value) r4 = value;
-#define W5(value) r5 = value;
-#define W6(value) r6 = value;
-#define W7(value) r7 = value;
-#define W8(value) r8 = value;
-#define W9(value) r9 = value;
-#define W10(value) r10 = value;
-#define W11(value) r11 = value;
-#define W12(value) r12 = value;
-#define W13(value) r13 = value;
-#define W14(value) r14 = value;
-#define W15(value) r15 = value;
-#define W16(value) r16 = value;
-#define W17(value) r17 = value;
-#define W18(value) r18 = value;
-#define W19(value) r19 = value;
-#define W20(value) r20 = value;
-#define W21(value) r21 = value;
-#define W22(value) r22 = value;
-#define W23(value) r23 = value;
-#define W28(value) r28 = value;
-#define W29(value) r29 = value;
-#define W30(value) r30 = value;
-#define W31(value) r31 = value;
+#define r1 h->x[1]
+#define r2 h->x[2]
+#define r3 h->x[3]
+#define r4 h->x[4]
+#define r5 h->x[5]
+#define r6 h->x[6]
+#define r7 h->x[7]
+#define r16 h->x[16]
+#define r17 h->x[17]
+#define r18 h->x[18]
+#define r19 h->x[19]
+#define r20 h->x[20]
+#define r21 h->x[21]
+#define r22 h->x[22]
+#define r23 h->x[23]
+#define r28 h->x[28]
+#define r29 h->x[29]
+#define r30 h->x[30]
+#define SFI_IS_FIXED(k) ((k) == 0 || ((k) >= 24 && (k) <= 27))
+#define W(k, value) r##k = SFI_IS_FIXED(k) ? r##k : (value);
 #define ENTRY(at)
 #define HEAD(at)
 #define END(at)
@@ -287,11 +269,12 @@ enum { SFI_SANDBOXES = sizeof sfi_sandboxes / sizeof sfi_sandboxes[0] };
 #undef EBREAK
 #define SANDBOX(s, unit, code, code_size, data, data_size, start, gates, init) enum { sfi_unit##s = unit }; static const sfi_u32 \
     sfi_code##s = 0x##code##u, sfi_code_size##s = code_size, sfi_data##s = 0x##data##u, sfi_data_size##s = data_size;
-#define FUNCTION(s, first) static int sfi_f##s##_##first(struct sfi_hart *const h) { enum { unit_ = sfi_unit##s }; \
+#define FUNCTION(s, first) static int sfi_f##s##_##first(struct sfi_hart *restrict const h) { enum { unit_ = sfi_unit##s }; \
     const sfi_u32 part_ = 0x##first##u / SFI_PART * SFI_PART, code_ = sfi_code##s, code_size_ = sfi_code_size##s, \
         data_ = sfi_data##s, data_size_ = sfi_data_size##s; \
-    sfi_u32 SFI_REGISTERS(SFI_GET) pc_ = h->pc, left_ = h->left; uint8_t *const mem_ = h->data; int how_ = 0; \
-    (void)code_; (void)code_size_; (void)data_; (void)data_size_; (void)mem_; \
+    sfi_u32 r0 = 0, r24 = code_, r25 = code_size_ - unit_, r26 = data_, r27 = data_size_ - 1, \
+        SFI_REGISTERS(SFI_GET) pc_ = h->pc, left_ = h->left; uint8_t *const mem_ = h->data; int how_ = 0; \
+    (void)r0; (void)r24; (void)r25; (void)r26; (void)r27; (void)mem_; \
     enter: if (pc_ % unit_) goto slow; if ((pc_ ^ part_) >= SFI_PART) goto out; \
     switch (pc_ % SFI_PART / unit_) { default: goto slow;
 #define SFI_CLOSE } slow: how_ = 1; out: SFI_REGISTERS(SFI_PUT) h->pc = pc_; h->left = left_; return how_; }
@@ -303,22 +286,22 @@ enum { SFI_SANDBOXES = sizeof sfi_sandboxes / sizeof sfi_sandboxes[0] };
 #define HEAD(at) if (SFI_RARE(left_ < SFI_MOST)) SFI_SLOWLY(at)
 #define SFI_JUMP(at, to) { if ((0x##to##u <= 0x##at##u || (0x##to##u ^ 0x##at##u) >= SFI_HEAD) && SFI_RARE(left_ < SFI_MOST)) SFI_SLOWLY(to) goto L##to; }
 #define SFI_LEAVE(to) { pc_ = 0x##to##u; goto out; }
-#define OP(at, size, kind, rd, rs1, rs2) L##at: W##rd(SFI_##kind(r##rs1, r##rs2)) left_--;
-#define OPI(at, size, kind, rd, rs1, number) L##at: W##rd(SFI_##kind(r##rs1, (sfi_u32)(number))) left_--;
+#define OP(at, size, kind, rd, rs1, rs2) L##at: W(rd, SFI_##kind(r##rs1, r##rs2)) left_--;
+#define OPI(at, size, kind, rd, rs1, number) L##at: W(rd, SFI_##kind(r##rs1, (sfi_u32)(number))) left_--;
 #define SFI_PLACE(at, rs1, number, type) const sfi_u32 e_ = r##rs1 + (sfi_u32)(number) - data_; \
     if (SFI_RARE(e_ > data_size_ - sizeof(type))) SFI_SLOWLY(at)
 #define LOAD(at, size, kind, rd, rs1, number) L##at: { sfi_##kind v_; SFI_PLACE(at, rs1, number, v_) \
-    memcpy(&v_, mem_ + e_, sizeof v_); W##rd((sfi_u32)(sfi_i32)v_) left_--; }
+    memcpy(&v_, mem_ + e_, sizeof v_); W(rd, (sfi_u32)(sfi_i32)v_) left_--; }
 #define STORE(at, size, kind, rs1, rs2, number) L##at: { const sfi_##kind v_ = (sfi_##kind)r##rs2; SFI_PLACE(at, rs1, number, v_) \
     memcpy(mem_ + e_, &v_, sizeof v_); left_--; }
 #define BRANCH(at, size, kind, rs1, rs2, to) L##at: left_--; if (SFI_##kind(r##rs1, r##rs2)) SFI_JUMP(at, to)
 #define BRANCH_FAR(at, size, kind, rs1, rs2, to) L##at: left_--; if (SFI_##kind(r##rs1, r##rs2)) SFI_LEAVE(to)
-#define JAL(at, size, rd, to) L##at: W##rd(0x##at##u + size) left_--; SFI_JUMP(at, to)
-#define JAL_FAR(at, size, rd, to) L##at: W##rd(0x##at##u + size) left_--; SFI_LEAVE(to)
-#define JALR(at, size, rd, rs1, number) L##at: pc_ = (r##rs1 + (sfi_u32)(number)) & ~1u; W##rd(0x##at##u + size) left_--; \
+#define JAL(at, size, rd, to) L##at: W(rd, 0x##at##u + size) left_--; SFI_JUMP(at, to)
+#define JAL_FAR(at, size, rd, to) L##at: W(rd, 0x##at##u + size) left_--; SFI_LEAVE(to)
+#define JALR(at, size, rd, rs1, number) L##at: pc_ = (r##rs1 + (sfi_u32)(number)) & ~1u; W(rd, 0x##at##u + size) left_--; \
     if (SFI_RARE(left_ < SFI_MOST)) goto slow; else SFI_GO
-#define LUI(at, size, rd, number) L##at: W##rd((sfi_u32)(number) << 12) left_--;
-#define AUIPC(at, size, rd, number) L##at: W##rd(0x##at##u + ((sfi_u32)(number) << 12)) left_--;
+#define LUI(at, size, rd, number) L##at: W(rd, (sfi_u32)(number) << 12) left_--;
+#define AUIPC(at, size, rd, number) L##at: W(rd, 0x##at##u + ((sfi_u32)(number) << 12)) left_--;
 #define FENCE(at, size) L##at: left_--;
 #define ECALL(at, size) L##at: SFI_SLOWLY(at)
 #define EBREAK(at, size) L##at: SFI_SLOWLY(at)
