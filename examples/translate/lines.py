@@ -46,17 +46,15 @@ def sandboxes(sfi, digits):
 
 def entries_of(unit, box):
     """The units that a turn and an indirect jump enter at once: any choice is right."""
-    chosen = {box["start"]}
+    chosen = {box["start"], *range(box["code"], box["code"] + box["code_size"], FUNCTION_MOST)}
     last = None
     for at, size, name, operands in box["instructions"]:
-        if name == "jal":
-            target = at + int(operands[1])
-            if operands[0] != "0" or target <= at:
+        if name == "jal" or name in BRANCHES:
+            target = at + int(operands[-1])
+            if target <= at or target // FUNCTION_MOST != at // FUNCTION_MOST or name == "jal" and operands[0] != "0":
                 chosen.add(target)
         if name in ("jal", "jalr") and operands[0] != "0":
             chosen.add(at + size)
-        if name in BRANCHES and int(operands[2]) < 0:
-            chosen.add(at + int(operands[2]))
         if name == "addi" and last and last[0] == "lui" and last[1][0] == operands[1]:
             chosen.add((int(last[1][1], 0) << 12) + int(operands[2]) & 0xFFFFFFFF)
         last = (name, operands)

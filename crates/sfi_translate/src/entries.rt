@@ -1,6 +1,7 @@
 //! Which units of code a turn and an indirect jump enter at once. Any choice is right: with too few
 //! the text is slow, with too many the C compiler is.
 
+use crate::lines::FUNCTION_MOST;
 use rv_comp::{Front, read_front};
 use rv_word::Instr;
 use sfi_image::SandboxPart;
@@ -17,8 +18,8 @@ pub(crate) struct Entries {
 }
 
 impl Entries {
-    /// The start, each target of a call or of a jump backwards, what follows a call, and what the
-    /// code or the first data name.
+    /// The start, where a function of the text begins, each target of a call, of a jump backwards or
+    /// of one into another function, what follows a call, and what the code or the first data name.
     pub(crate) fn of(
         alloc: Global,
         format: Format,
@@ -83,6 +84,9 @@ impl Entries {
         let mut here = part.code_base;
         for place in 0..part.code.len() / 2 {
             let at = 2 * place;
+            if at % FUNCTION_MOST as usize == 0 {
+                self.add(here);
+            }
             if at >= next {
                 if let Front::Read(instr, size) = read_front(&part.code[at..]) {
                     self.add_of_instr(here, here.wrapping_add(size), &instr);
@@ -95,15 +99,16 @@ impl Entries {
         }
     }
 
-    /// Adds what an instruction jumps to, if that is a call or backwards, and what follows a call.
+    /// Adds what an instruction jumps to, if that is a call, or lies where a jump must enter, and
+    /// what follows a call.
     fn add_of_instr(&mut self, here: u32, after: u32, instr: &Instr) {
         match *instr {
             Instr::Jal { rd, offset } => {
-                if rd.number() != 0 || offset <= 0 {
-                    self.add(here.wrapping_add_signed(offset));
-                }
                 if rd.number() != 0 {
+                    self.add(here.wrapping_add_signed(offset));
                     self.add(after);
+                } else {
+                    self.add_of_jump(here, offset);
                 }
             }
             Instr::Jalr { rd, .. } => {
@@ -111,12 +116,16 @@ impl Entries {
                     self.add(after);
                 }
             }
-            Instr::Branch { offset, .. } => {
-                if offset <= 0 {
-                    self.add(here.wrapping_add_signed(offset));
-                }
-            }
+            Instr::Branch { offset, .. } => self.add_of_jump(here, offset),
             _ => {}
+        }
+    }
+
+    /// Adds the target of a jump backwards or into another function.
+    fn add_of_jump(&mut self, here: u32, offset: i32) {
+        let to = here.wrapping_add_signed(offset);
+        if to <= here || to / FUNCTION_MOST != here / FUNCTION_MOST {
+            self.add(to);
         }
     }
 
