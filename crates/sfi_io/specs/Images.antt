@@ -15,7 +15,7 @@ pub record AreOwnBytes (input bytes : List ℕ) : Type 0 where
   pub short : length input ≤ limit
   pub same : input ≡ bytes
 
--- the input is these bytes of an image, or spells them
+-- the input is these bytes, which begin as an image's, or spells them
 abbrev pub GivesImage : List ℕ → List ℕ → Type 0
 GivesImage input bytes = AreOwnBytes input bytes ⊎ SpellsBytes input bytes
 

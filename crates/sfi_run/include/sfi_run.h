@@ -8,15 +8,16 @@
  * with its premises, docs/PROOFS.md what is proved of each call). The sandboxes run in a memory of the library's own, step
  * by step: no code of theirs runs on the host's processor, and no address of theirs is one of the host's.
  *
- * One premise is worth a word: a trap ends the run. The sandbox goes on by sfi_run_enter, sfi_run_call and
- * sfi_run_set_registers alone, which set its registers anew. The library keeps this. A host that runs accepted code by
- * other means (sfi.h) has to: where it steps over an ebreak, or in the third format completes or steps over an access
- * with a byte in a guard zone, code can leave its sandbox.
+ * One premise is worth a word: a trap ends the run. The sandbox goes on by sfi_run_enter, sfi_run_call,
+ * sfi_run_set_registers and sfi_run_reset alone, which set its registers anew. The library keeps this. A host that runs
+ * accepted code by other means (sfi.h) has to: where it steps over an ebreak, or in the third format completes or steps
+ * over an access with a byte in a guard zone, code can leave its sandbox.
  *
- * The calls read nothing but their arguments and the world, keep nothing elsewhere, start no thread, and read and write
- * no file. sfi_run_load takes memory by malloc and realloc, for the world of an accepted image alone; sfi_run_load and
- * sfi_run_free give it back by free; the calls of a console do so, too, as they say; the other calls do neither. Each returns: sfi_run_turn, sfi_run_until and
- * sfi_run_call after at most the steps that they were given. A thread with 64 KiB of stack had room for each where that was measured.
+ * The calls read nothing but their arguments, the world and the console, keep nothing elsewhere, start no thread, and read
+ * and write no file. sfi_run_load takes memory by malloc and realloc, for the world of an accepted image alone; sfi_run_load
+ * and sfi_run_free give it back by free; the calls of a console do so, too, as they say; the other calls do neither. Each
+ * returns: sfi_run_turn, sfi_run_until, sfi_run_call and sfi_run_console_turn after at most the steps that they were given.
+ * A thread with 64 KiB of stack had room for each where that was measured.
  *
  * What a caller owes, since nothing checks it:
  *
@@ -94,7 +95,7 @@ enum sfi_run_kind {
     SFI_RUN_NONE = 0,   /* there is no sandbox of that number, or no world */
     SFI_RUN_READY = 1,  /* it can take a turn, and doesn't stand at a call */
     SFI_RUN_CALL = 2,   /* it stands at a call, and waits for a reply */
-    SFI_RUN_EXITED = 3, /* it has stopped, by a reply with sfi_run_exit */
+    SFI_RUN_EXITED = 3, /* it has stopped, by a reply with sfi_run_exit, or by a console's exit */
     SFI_RUN_TRAPPED = 4, /* it has stopped, at an instruction that trapped */
     SFI_RUN_STOPPED = 5  /* it has stopped, by sfi_run_stop */
 };
@@ -239,8 +240,8 @@ bool sfi_run_exit(struct sfi_run_world *world, uint32_t sandbox, uint32_t number
 
 /*
  * Stops a sandbox that is ready or stands at a call: no turn runs it, and no call of it gets a reply. Its data, pc,
- * registers and steps stay, and sfi_run_enter, sfi_run_call and sfi_run_set_registers make it ready again. So a host keeps
- * the data of one that was cut off in a loop. Returns false where there is no such sandbox or it has stopped already, and
+ * registers and steps stay, and sfi_run_enter, sfi_run_call, sfi_run_set_registers and sfi_run_reset make it ready again. So
+ * a host keeps the data of one that was cut off in a loop. Returns false where there is no such sandbox or it has stopped already, and
  * changes nothing then.
  */
 bool sfi_run_stop(struct sfi_run_world *world, uint32_t sandbox);
@@ -248,9 +249,11 @@ bool sfi_run_stop(struct sfi_run_world *world, uint32_t sandbox);
 /*
  * Takes a sandbox back to what sfi_run_load made of it, whatever it did and wherever it stands: its data are those of the
  * image and then zeros, its pc and registers are those of its start, it is ready, and its count of steps is 0. So a plug-in
- * begins anew for the next one who calls it: nothing is left of what it kept, and no other sandbox changes. The image isn't
- * needed for it, nothing is checked anew, and no memory is taken: it costs what writing its data does. Returns false where
- * there is no such sandbox.
+ * begins anew for the next one who calls it: nothing is left of what it kept in its data, and no other sandbox changes. What
+ * a console keeps of it stays, which is its output, its place in the input and its mailbox: make a new console for a new user.
+ * A call at which it stood is gone: registers that sfi_run_call_back kept are not to be set after that. The image isn't needed
+ * for a reset, nothing is checked anew, and no memory is taken: it costs what writing its data does. Returns false where there
+ * is no such sandbox.
  */
 bool sfi_run_reset(struct sfi_run_world *world, uint32_t sandbox);
 
@@ -332,7 +335,8 @@ struct sfi_run_console {
 
 /*
  * Frees the console that was there, and makes one for `sandboxes` sandboxes, numbered from 0, each of which reads the same input
- * from its beginning. The input is copied. Returns false where there is no memory for it; there is no console then.
+ * from its beginning. The input is copied. A sandbox from that number on gets 0xffffffff from each put, get, post and take.
+ * Returns false where there is no memory for it; there is no console then.
  */
 bool sfi_run_console_new(uint32_t sandboxes, const uint8_t *input, size_t length, struct sfi_run_console *console);
 
@@ -344,7 +348,7 @@ void sfi_run_console_free(struct sfi_run_console *console);
  * are used, or the sandbox exits, traps or yields. A call that comes when the steps are used is answered in the next turn.
  * sfi_run_event says how the sandbox stands then. Returns false where there is no world or no console, or there was no memory
  * for what a put appends: then the sandbox stands at that call, all before it is done, and the next turn makes the call again.
- * It takes memory for what is put alone.
+ * A turn of a sandbox that has stopped, or isn't there, does nothing, and returns true. It takes memory for what is put alone.
  */
 bool sfi_run_console_turn(struct sfi_run_console *console, struct sfi_run_world *world, uint32_t sandbox, uint32_t steps);
 

@@ -22,7 +22,8 @@ typedef bool sfi_run_handler(struct sfi_run_world *world, uint32_t sandbox, cons
 /*
  * Runs a sandbox for at most `steps` steps in all, and has each of its calls served. Writes to *event how it stands then, and
  * returns the event's kind, as sfi_run_event does. Each reply is a step: a call for which none is left is served in the next
- * run. Steps that `serve` itself has the sandbox do count, too: where they use up all that are left, the run is over.
+ * run. Steps that `serve` itself has the sandbox do count, too: where they use up all that are left, the run is over. A reset by
+ * `serve` ends it.
  */
 static inline uint32_t sfi_run_serve(struct sfi_run_world *world, uint32_t sandbox, uint64_t steps, sfi_run_handler *serve,
                                      void *context, struct sfi_run_event *event) {
@@ -37,8 +38,8 @@ static inline uint32_t sfi_run_serve(struct sfi_run_world *world, uint32_t sandb
         const uint64_t before = now;
         if (kind != SFI_RUN_CALL || now >= end || !serve(world, sandbox, event, context))
             break;
-        if ((now = sfi_run_steps(world, sandbox)) == before)
-            break; /* no reply */
+        if ((now = sfi_run_steps(world, sandbox)) <= before)
+            break; /* no reply, or a reset */
     }
     return sfi_run_event(world, sandbox, event);
 }

@@ -62,8 +62,8 @@ pub extern "C" fn sfi_run_console_free(alloc: Global, console: &mut SfiRunConsol
     drop(console.take(alloc));
 }
 
-/// Frees the console that was there, and makes one for the sandboxes from 0 on, with that input, of
-/// which it keeps a copy. `false` where memory is wanting, and then there is none.
+/// Frees the console that was there, and makes one for `sandboxes` sandboxes, numbered from 0, with
+/// that input, of which it keeps a copy. `false` where memory is wanting, and then there is none.
 #[unsafe(no_mangle)]
 pub extern "C" fn sfi_run_console_new(
     alloc: Global,
@@ -124,6 +124,8 @@ pub extern "C" fn sfi_run_console_turn(
     ensures no_console { console.old.inner.console ≡ None → result ≡ false }
     ensures alone { console.old.inner.console ≡ None
         → world.new.inner.world ≡ world.old.inner.world }
+    ensures no_turn { world.old.inner.world ≡ None
+        → console.new.inner.console ≡ console.old.inner.console }
 {
     let Some(mut host) = console.take(alloc) else {
         return false;
