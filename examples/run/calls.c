@@ -44,6 +44,25 @@ static void no_world(void) {
            "each call says so");
 }
 
+static void consoles(struct sfi_run_world *world) {
+    struct sfi_run_world none = SFI_RUN_NO_WORLD;
+    struct sfi_run_console console = SFI_RUN_NO_CONSOLE;
+    struct sfi_run_registers registers;
+    uint8_t byte = 7;
+    sfi_run_console_free(&console);
+    wanted(!sfi_run_console_turn(&console, world, 0, 100) && sfi_run_steps(world, 0) == 0, "without a console no turn is taken");
+    wanted(sfi_run_console_written(&console, 0) == 0 && !sfi_run_console_read(&console, 0, 0, &byte, 0), "nor is there an output");
+    wanted(sfi_run_console_new(1, NULL, 0, &console) && !sfi_run_console_turn(&console, &none, 0, 100), "nor without a world");
+    wanted(sfi_run_console_read(&console, 0, 0, &byte, 0) && !sfi_run_console_read(&console, 0, 0, &byte, 1) &&
+               !sfi_run_console_read(&console, 0, 1, &byte, 0) && !sfi_run_console_read(&console, 1, 0, &byte, 0) && byte == 7,
+           "nothing is read that isn't put");
+    wanted(sfi_run_console_turn(&console, world, 0, 100) && sfi_run_registers(world, 0, &registers) && registers.x[10] == UINT32_MAX,
+           "a post to who isn't there is refused");
+    wanted(sfi_run_steps(world, 0) == 100, "a turn has its steps");
+    sfi_run_console_free(&console);
+    wanted(sfi_run_reset(world, 0), "it begins anew");
+}
+
 static void reads(struct sfi_run_world *world) {
     struct sfi_run_region data;
     uint8_t bytes[8], nines[8];
@@ -93,6 +112,45 @@ static void resets(struct sfi_run_world *world, const struct sfi_run_registers *
     wanted(sfi_run_registers(world, 0, &now) && !memcmp(&now, first, sizeof now), "its registers are the first ones");
     wanted(sfi_run_read(world, 0, region.base, 256, bytes, 256) && !memcmp(bytes, data, 256), "its data are the first ones");
     wanted(!sfi_run_reset(world, 1) && !sfi_run_reset(world, UINT32_MAX), "who isn't there isn't reset");
+}
+
+struct served {
+    int calls;
+    bool is_replied, goes_on;
+    uint32_t more; /* steps that the handler has the sandbox do itself */
+};
+
+static bool serve(struct sfi_run_world *world, uint32_t sandbox, const struct sfi_run_event *call, void *context) {
+    struct served *it = context;
+    struct sfi_run_event event;
+    it->calls++;
+    if (it->is_replied)
+        wanted(sfi_run_reply(world, sandbox, call->a0, call->a1), "the call is the one that waits");
+    sfi_run_turn(world, sandbox, it->more, &event);
+    return it->goes_on;
+}
+
+/* How many steps a run of at most so many takes from the start, and how often it calls. */
+static uint64_t steps_of(struct sfi_run_world *world, uint64_t steps, struct served *it, uint32_t kind) {
+    struct sfi_run_event event;
+    sfi_run_reset(world, 0);
+    wanted(sfi_run_serve(world, 0, steps, serve, it, &event) == kind && event.kind == kind, "a run says how the sandbox stands");
+    return sfi_run_steps(world, 0);
+}
+
+static void serves(struct sfi_run_world *world) {
+    struct served never = {0, false, true, 0}, once = {0, true, true, 0}, last = {0, true, false, 0}, more = {0, true, true, 500};
+    struct sfi_run_event event;
+    const uint64_t before = steps_of(world, 100, &never, SFI_RUN_CALL);
+    wanted(never.calls == 1 && before < 100, "a call without a reply ends the run");
+    wanted(steps_of(world, 0, &once, SFI_RUN_READY) == 0, "a run of no steps does none");
+    wanted(steps_of(world, before, &once, SFI_RUN_CALL) == before && once.calls == 0, "a call at the end is left for the next run");
+    wanted(sfi_run_serve(world, 0, 1, serve, &once, &event) == SFI_RUN_READY && once.calls == 1 && sfi_run_steps(world, 0) == before + 1,
+           "where its reply is a step");
+    wanted(steps_of(world, 1000, &once, SFI_RUN_READY) == 1000 && once.calls == 2, "a run takes all of its steps, and no more");
+    wanted(steps_of(world, 1000, &last, SFI_RUN_READY) == before + 1 && last.calls == 1, "the handler ends a run");
+    wanted(steps_of(world, 100, &more, SFI_RUN_READY) == before + 501 && more.calls == 1, "steps of the handler's own count");
+    wanted(sfi_run_serve(world, 1, 100, serve, &more, &event) == SFI_RUN_NONE, "nobody runs who isn't there");
 }
 
 static void functions(struct sfi_run_world *world) {
@@ -190,12 +248,14 @@ int main(int count, char **words) {
     sfi_run_registers(&world, 0, &first);
     sfi_run_data(&world, 0, &region);
     wanted(sfi_run_read(&world, 0, region.base, sizeof data, data, sizeof data), "the first data are read");
+    consoles(&world);
     reads(&world);
     stops(&world);
     functions(&world);
     stops_at(&world);
     has_set(&world);
     resets(&world, &first, data);
+    serves(&world);
     wanted(!sfi_run_stop(&world, 1) && !sfi_run_stop(&world, UINT32_MAX), "who isn't there isn't stopped");
     sfi_run_free(&world);
     sfi_run_free(&world);

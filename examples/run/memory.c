@@ -113,6 +113,34 @@ static void judge_without(const struct image *image) {
     refused_from = UINT64_MAX;
 }
 
+/* Each allocation of a console is refused in turn, and then that of the first put. */
+static void console_without(const struct image *image) {
+    struct sfi_run_world world = SFI_RUN_NO_WORLD;
+    struct sfi_run_console console = SFI_RUN_NO_CONSOLE;
+    struct sfi_run_event event;
+    load(image, &world);
+    const uint64_t before = live;
+    uint64_t number = 0;
+    bool is_done = false;
+    while (!is_done) {
+        refused_from = tried + number++;
+        is_done = sfi_run_console_new(3, (const uint8_t *)"abc", 3, &console);
+        refused_from = UINT64_MAX;
+        wanted(is_done || live == before, "nothing is left of a console that isn't made");
+    }
+    wanted(number > 1, "a console takes memory");
+    refused_from = tried;
+    is_done = sfi_run_console_turn(&console, &world, 0, 100);
+    refused_from = UINT64_MAX;
+    wanted(is_done || (sfi_run_event(&world, 0, &event) == SFI_RUN_CALL && event.number == 1), "what can't be put waits at its call");
+    wanted(is_done || (sfi_run_console_turn(&console, &world, 0, 100) && sfi_run_console_written(&console, 0) > 0),
+           "it is put where there is memory again");
+    sfi_run_free(&world);
+    sfi_run_console_free(&console);
+    sfi_run_console_free(&console);
+    wanted(live == 0, "a freed console gives all back");
+}
+
 static uint32_t state = 1;
 static uint32_t below(uint32_t most) { /* xorshift32 */
     state ^= state << 13, state ^= state >> 17, state ^= state << 5;
@@ -177,7 +205,7 @@ int main(int count, char **words) {
     sfi_run_free(&world);
     for (uint32_t k = 0; k < given; k++)
         if (images[k].status == SFI_RUN_LOADED)
-            refused += refuse_each(&images[k], NULL) + refuse_each(&images[k], &images[0]);
+            refused += refuse_each(&images[k], NULL) + refuse_each(&images[k], &images[0]), console_without(&images[k]);
         else
             judge_without(&images[k]);
     for (int k = 0; k < SESSIONS; k++)

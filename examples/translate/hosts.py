@@ -45,7 +45,8 @@ LONG = "a" * 257  # a byte more than the data of turn.s
 HOSTS = [  # a host, a source of its plug-in, and the host's words
     ("calls", ON, []), ("function", "turn.s", ["plug-in", "Level 42", "x"]), ("function", "turn.s", ["ba", LONG]),
     ("messages", "squares.s", []), ("messages", "squares.s", ["2"]), ("words", "words.s", ["a plug-in of mine", "x"]),
-    ("words", "words.s", [LONG]), ("console", "../primes.s", ["40", "97"]), ("console", "../hanoi.s", ["3", "997"]),
+    ("words", "words.s", [LONG]), ("tally", "tally.s", ["5", "7", "new", "3"]), ("console", "../primes.s", ["40", "97"]),
+    ("console", "../hanoi.s", ["3", "997"]),
     ("console", "../echo.s", ["7", "13", "48656c6c6f"]), ("console", "../sort.s", ["200", "1000", "0903"]),
     ("threads", ON, ["3000"])]
 

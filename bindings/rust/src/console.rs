@@ -21,6 +21,9 @@ pub struct Console {
     raw: sys::Console,
 }
 
+// SAFETY: as of a world; that is proved of what the pointer leads to (`Send` of `HeldConsole` in crates/sfi_run).
+unsafe impl Send for Console {}
+
 impl Console {
     /// A console for `sandboxes` sandboxes, each of which reads the same input from its beginning.
     pub fn new(sandboxes: u32, input: &[u8]) -> Result<Console, NoMemory> {

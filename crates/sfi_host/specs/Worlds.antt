@@ -15,8 +15,8 @@ use Rattle.sfi_host.specs.Regions.{bytes_in, IsWhole}
 use Rattle.sfi_host.specs.Slots.{Bounds, bounds_of, own, Slot}
 use Rattle.sfi_host.specs.Stops.{StoppedItself}
 
--- a sandbox but for the memory: what it has of its image, its pc and registers, what it may still do, and how
--- many steps it did
+-- a sandbox but for the memory: what it has of its image, its pc and registers, what it may still
+-- do, and how many steps it did
 pub record Seat : Type 0 where
   pub bounds : Bounds
   pub hart : Hart

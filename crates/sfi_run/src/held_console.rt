@@ -9,7 +9,7 @@ use std::alloc::Global;
 use std::marker::Model;
 
 /// A console behind a pointer, or none. C sees an address of which it reads nothing. One that is
-/// dropped leaves its console behind.
+/// dropped leaves its console behind. It may go from one thread to another.
 #[repr(C)]
 #[derive(Drop)]
 pub struct HeldConsole {
@@ -21,6 +21,9 @@ pub struct HeldConsole {
 impl Model for HeldConsole {
     ghost also_owns = { λ h. console_owns h.alloc h.at h.console };
 }
+
+// What is in the box is plain data, and any thread may free it.
+unsafe impl Send for HeldConsole {}
 
 impl HeldConsole {
     /// No console.
