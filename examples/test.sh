@@ -76,4 +76,48 @@ both_formats hanoi 31 2534 4208 "$(digits_of_lines AC AB CB AC BA BC AC AB CB CA
 both_formats sort 61 14172 15372 \
     131718191d1e1e1f20232525292c2e3031343c3c3f44494d4d545c5c60696d71727b7c7f939499999da0a5afafb9bbbecacbd6d6d6d9dadee5e8eefdfe \
     --input a54dca182530bb1d6d132cded6237b2ed91e3f721fcb1971174494d6493c9d5c3460be31201e69fedaa0eee8b9997f5c7c2999fdafe593253cd654af4d
+# ---- a process: what is put goes to standard output as it is, and what is got comes from standard input
+executes() { # what is tried, standard output, the first line of standard error, the status; the words, which read standard input
+    local out status
+    out=$("$SFI" exec "${@:5}" 2>"$room/said"; echo "status $?")
+    report "$1" "$2status $4"$'\n'"$3" "$out"$'\n'"$(head -n 1 "$room/said")"
+}
+
+printf '%s' "$hi" >"$room/hi.hex"
+image_of hi --raw >"$room/hi.image"
+image_of echo --raw >"$room/echo.image"
+printf '.sandbox 256\nebreak\n' | "$SFI" build --raw >"$room/trap.image"
+printf '.sandbox 256\nagain: j again\n' | "$SFI" build --raw >"$room/endless.image"
+printf '.sandbox 256\n.gate quit 0\nli a0, 0\ncall quit\n.sandbox 256\n.gate quit 0\nli a0, 7\ncall quit\n.sandbox 256\nebreak\n' |
+    "$SFI" build --raw >"$room/three.image"
+printf '%s' "${hi/b37fb501/13000000}" >"$room/refused.hex"
+executes "hi.s as a process" "Hi" "" 105 "$room/hi.image" < <(printf x)
+executes "hi.s as a process, from hexadecimal text" "Hi" "" 105 "$room/hi.hex" </dev/null
+executes "a trap" "" "sandbox=0 trap=Break at=01000000 steps=0" 126 "$room/trap.image" </dev/null
+executes "steps that are used up" "" "sandbox=0 ready steps=1000" 124 --budget 1000 "$room/endless.image" </dev/null
+executes "as many steps as it takes" "Hi" "" 105 --budget 19 "$room/hi.image" </dev/null
+executes "a step less than it takes" "Hi" "sandbox=0 ready steps=18" 124 --budget 18 "$room/hi.image" </dev/null
+executes "the first of three that fails" "" "sandbox=2 trap=Break at=03000000 steps=0" 7 "$room/three.image" </dev/null
+executes "an image that is refused" "" "refused findings=1 first=V5 sandbox=0 at=01000048" 125 "$room/refused.hex" </dev/null
+executes "what is no image" "" "layout fault 3 Short" 125 <(printf SFI1) </dev/null
+executes "a file that isn't there" "" "exec fault file" 125 "$room/none.image" </dev/null
+yes 'one more line of small letters' | head -c 100000 >"$room/long"
+"$SFI" exec "$room/echo.image" <"$room/long" >"$room/echoed"
+report "the status of 100000 bytes" 160 $?
+report_as "$(tr a-z A-Z <"$room/long" | cmp - "$room/echoed" >"$room/log" 2>&1; echo $?)" "100000 bytes come out as capitals" "the same" "$(cat "$room/log")"
+# What was put is there before a get waits for what comes later.
+mkfifo "$room/in"
+"$SFI" exec "$room/echo.image" <"$room/in" >"$room/early" &
+process=$!
+exec 7>"$room/in"
+printf first >&7
+for _ in $(seq 100); do
+    [ ! -s "$room/early" ] || break
+    sleep 0.1
+done
+report "what is put before a get waits" FIRST "$(cat "$room/early")"
+exec 7>&-
+wait "$process"
+report "the end of the input" 5 $?
+
 finish

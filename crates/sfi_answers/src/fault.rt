@@ -25,6 +25,8 @@ pub enum InputFault {
     NotOld,
     /// It is an accepted image of code in words, which has no other format.
     Words,
+    /// The image is to be in a file, and files can't be opened here.
+    NoFile,
 }
 
 /// Why a command gives no verdict: a fault of the text, of the image that it spells or of the
@@ -90,6 +92,7 @@ fn input_line(alloc: Global, fault: InputFault) -> Result<String, AllocError> {
         InputFault::Utf8 => String::from_str(alloc, "input fault utf8\n"),
         InputFault::NotOld => String::from_str(alloc, "convert fault 2 NotOld\n"),
         InputFault::Words => String::from_str(alloc, "convert fault 5 Words\n"),
+        InputFault::NoFile => String::from_str(alloc, "exec fault no file\n"),
     }
 }
 

@@ -38,3 +38,7 @@ pub one_more_command : (a : App) (rows : List CommandRow) (k : ℕ) (d : Command
 one_more_command a rows k d old sub new within adds is before =
     adds.shape is.local ∙ (λ i. with_subcommand (before i) (is.shape_is i).top) ∙ sym (with_all-end a (map shape_of_row (take k rows)) _)
     ∙ ap (with_all a) (sym (map-take_more shape_of_row rows k d within))
+
+-- a program with a command more
+pub added_command : (a : App) (s : Shape) (old sub new : Command) → AddsSubcommand old sub new → IsCommandOf s sub → app_of old ≡ a → app_of new ≡ with_subcommand a s
+added_command a s old sub new adds is before = adds.shape is.local ∙ (λ i. with_subcommand (before i) (is.shape_is i).top)

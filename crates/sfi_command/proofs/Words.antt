@@ -1,6 +1,6 @@
 -- From what the command-line crate ensures to what the words ask for.
-use Rattle.std.proofs.Common.{◌≡◌, ◌≢◌, ◌⊎◌, ◌<◌, ◌≤◌, ◌^◌, ◌∙◌, ℕ, ap, refl, sym, true, Option, Some, None, List, [], subst, IfOk, Result, Ok, Err, inl, inr, arith, slice_index}
-use Rattle.std.specs.Prelude.{option_map, unwrap_or, find, IfErr, IsErr, IsTrue, ◌↔◌, Bool, false, codes, Vec}
+use Rattle.std.proofs.Common.{◌≡◌, ◌≢◌, ◌⊎◌, ◌<◌, ◌≤◌, ◌^◌, ◌-◌, ◌∙◌, ℕ, ap, refl, sym, true, Option, Some, None, List, [], subst, IfOk, Result, Ok, Err, inl, inr, arith, slice_index}
+use Rattle.std.specs.Prelude.{String, string_bytes, option_map, unwrap_or, find, IfErr, IsErr, IsTrue, ◌↔◌, Bool, false, codes, Vec}
 use Rattle.std.specs.Option.{option_map_or}
 use Rattle.std.specs.declared.alloc.Global.{Global}
 use Rattle.std.specs.Str.Parse.{IsNumeral, digits_value, without_leading_plus}
@@ -25,10 +25,10 @@ use Rattle.clap.specs.Simple.{App, is_simple, subcommand_of, subcommand_rows, Ha
 use Rattle.clap.specs.declared.parser.matches.ArgMatches.{ArgMatches}
 use Rattle.clap.specs.declared.parser.matches.ArgMatches.TheViews.{out-ArgMatches}
 use Rattle.clap.proofs.OnLiterals.{clap_on_literals}
-use Rattle.sfi_command.specs.Command.{sfi, quantum_most, rounds_most, texts_of, Names, NamesNoInput, Asks, IsCount, IsFaultOf, IsInputOf, IsNoInput, number_of}
+use Rattle.sfi_command.specs.Command.{sfi, quantum_most, rounds_most, texts_of, Names, NamesNoInput, Asks, IsBudget, IsCount, IsFaultOf, IsInputOf, IsNoInput, number_of}
 use Rattle.sfi_command.specs.private.{NamesNothing, IsFaultOfNamed, IsInputFault}
 use Rattle.sfi_command.specs.declared.job.Job.{Job}
-use Rattle.sfi_command.specs.declared.job.Job.TheVariants.{Check, Dis, Build, Map, Run, Convert, Translate}
+use Rattle.sfi_command.specs.declared.job.Job.TheVariants.{Check, Dis, Build, Map, Run, Exec, Convert, Translate}
 use Rattle.sfi_command.specs.declared.job.JobFault.{JobFault}
 use Rattle.sfi_command.specs.declared.job.JobFault.TheVariants.{Usage, Hex, Memory}
 
@@ -200,6 +200,7 @@ only_run rows none Dis names = other_name _ _ 114 100 names refl refl (λ e. abs
 only_run rows none (Build raw places) names = other_name _ _ 114 98 names.0 refl refl (λ e. absurd (omega (arith, e)))
 only_run rows none (Map places) names = other_name _ _ 114 109 names.0 refl refl (λ e. absurd (omega (arith, e)))
 only_run rows none (Run rounds quantum input report) names = none rounds quantum input report names
+only_run rows none (Exec image budget) names = other_name _ _ 114 101 names.0 refl refl (λ e. absurd (omega (arith, e)))
 only_run rows none (Convert raw) names = other_name _ _ 114 99 names.0 refl refl (λ e. absurd (omega (arith, e)))
 only_run rows none (Translate whole) names = other_name _ _ 114 116 names.0 refl refl (λ e. absurd (omega (arith, e)))
 
@@ -238,6 +239,44 @@ no_quantum rows bytes spells none = record {
   no_job = only_run rows (λ rounds quantum input report names. none quantum names.2);
   no_run = λ names. not_no_input (first_of (codes "input") rows) bytes spells names.1;
 }
+
+-- ---- the options of a run in a process
+
+only_exec : (rows : List Row) → ((image : String Global) (budget : ℕ) → ¬ Names (Some (codes "exec", rows)) (Exec image budget))
+    → (job : Job) → ¬ Names (Some (codes "exec", rows)) job
+only_exec rows none (Check raw report) names = other_name _ _ 101 99 names.0 refl refl (λ e. absurd (omega (arith, e)))
+only_exec rows none Dis names = other_name _ _ 101 100 names refl refl (λ e. absurd (omega (arith, e)))
+only_exec rows none (Build raw places) names = other_name _ _ 101 98 names.0 refl refl (λ e. absurd (omega (arith, e)))
+only_exec rows none (Map places) names = other_name _ _ 101 109 names.0 refl refl (λ e. absurd (omega (arith, e)))
+only_exec rows none (Run rounds quantum input report) names = other_name _ _ 101 114 names.0 refl refl (λ e. absurd (omega (arith, e)))
+only_exec rows none (Exec image budget) names = none image budget names
+only_exec rows none (Convert raw) names = other_name _ _ 101 99 names.0 refl refl (λ e. absurd (omega (arith, e)))
+only_exec rows none (Translate whole) names = other_name _ _ 101 116 names.0 refl refl (λ e. absurd (omega (arith, e)))
+
+no_exec : (rows : List Row) → ((image : String Global) (budget : ℕ) → ¬ Names (Some (codes "exec", rows)) (Exec image budget)) → NamesNothing (Some (codes "exec", rows))
+no_exec rows none = record {
+  no_job = only_exec rows none;
+  no_run = λ names. other_name _ _ 101 114 names.0 refl refl (λ e. absurd (omega (arith, e)));
+}
+
+-- without an image, or with a budget that is none, it names nothing
+pub no_image : (f : Found) → None ≡ first_value f (codes "image") → NamesNothing (Some (codes "exec", rows_of f))
+no_image f e = no_exec (rows_of f) (λ image budget names.
+    let none : None ≡ Some (string_bytes image) = e ∙ first_value-rows f (codes "image") ∙ names.1 in
+    absurd (cc))
+
+pub no_budget : (rows : List Row) → ((n : ℕ) → ¬ IsBudget (first_of (codes "budget") rows) n) → NamesNothing (Some (codes "exec", rows))
+no_budget rows none = no_exec rows (λ image budget names. none budget names.2)
+
+pub image_is : (f : Found) (v w : Text) → Some v ≡ first_value f (codes "image") → w ≡ v → first_of (codes "image") (rows_of f) ≡ Some w
+image_is f v w e same = sym (first_value-rows f (codes "image")) ∙ sym e ∙ ap Some (sym same)
+
+-- the budget of an option that was given, and of one that wasn't
+pub budget_is : (f : Found) (o : Option Text) (n : ℕ) → o ≡ first_value f (codes "budget") → IsBudget o n → IsBudget (first_of (codes "budget") (rows_of f)) n
+budget_is f o n e is = subst (λ (t : Option Text). IsBudget t n) (e ∙ first_value-rows f (codes "budget")) is
+
+pub budget_of_text : (f : Found) (o : Option Text) (n : ℕ) → o ≡ first_value f (codes "budget") → IsBudget (first_of (codes "budget") (rows_of f)) n → IsBudget o n
+budget_of_text f o n e is = subst (λ (t : Option Text). IsBudget t n) (sym (e ∙ first_value-rows f (codes "budget"))) is
 
 -- ---- words that don't parse
 

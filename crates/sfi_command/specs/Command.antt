@@ -1,5 +1,5 @@
 -- The command line of `sfi`, and the job that its words ask for.
-use Rattle.std.specs.Prelude.{◌≡◌, ◌↔◌, ◌≤◌, IsTrue, IsErr, ℕ, pos, Ok, List, [], ◌∷◌, Bool, Option, Some, None, codes, find, true, false}
+use Rattle.std.specs.Prelude.{◌≡◌, ◌↔◌, ◌≤◌, ◌<◌, ◌-◌, ◌^◌, IsTrue, IsErr, ℕ, pos, Ok, List, [], ◌∷◌, Bool, Option, Some, None, codes, find, true, false, string_bytes}
 use Rattle.std.specs.Option.{option_map_or}
 use Rattle.std.specs.Str.{bytes_eq}
 use Rattle.std.specs.Str.Parse.{IsNumeral, digits_value, without_leading_plus}
@@ -8,9 +8,9 @@ use Rattle.clap.specs.Faults.{fault_of}
 use Rattle.clap.specs.Simple.{App, Shape, new_app, new_rule, new_shape, on_top, subcommand_of, with_subcommand}
 use Rattle.clap.specs.Walk.{Row, Rule, Text, first_of}
 use Rattle.clap.specs.declared.builder.action.ArgAction.TheVariants.{Append, SetTrue}
-use Rattle.clap.specs.declared.builder.value_parser.ValueParser.TheVariants.{Signed}
+use Rattle.clap.specs.declared.builder.value_parser.ValueParser.TheVariants.{Signed, Unsigned}
 use Rattle.sfi_command.specs.declared.job.Job.{Job}
-use Rattle.sfi_command.specs.declared.job.Job.TheVariants.{Check, Dis, Build, Map, Run, Convert, Translate}
+use Rattle.sfi_command.specs.declared.job.Job.TheVariants.{Check, Dis, Build, Map, Run, Exec, Convert, Translate}
 use Rattle.sfi_command.specs.declared.job.JobFault.{JobFault}
 use Rattle.sfi_command.specs.declared.job.JobFault.TheVariants.{Usage, Hex, Memory}
 use Rattle.sfi_command.specs.Places.{SpellPlaces}
@@ -77,6 +77,21 @@ run = record (new_shape (codes "run")) {
       ∷ flag_rule (codes "report") ∷ [];
 }
 
+-- a text that has to be given, without a name
+abbrev pub required_rule : Text → Rule
+required_rule name = record (new_rule name) { required = true }
+
+-- an option that takes a number from 1 to the largest of 64 bits
+abbrev pub number_rule : Text → Rule
+number_rule name = record (value_rule name) { parser = Some (Unsigned 1 (2 ^ 64 - 1)) }
+
+-- `exec IMAGE [--budget N]`
+abbrev pub exec : Shape
+exec = record (new_shape (codes "exec")) {
+  rules = record (required_rule (codes "image")) { value_names = 1 }
+      ∷ number_rule (codes "budget") ∷ [];
+}
+
 -- `convert [--raw]`
 abbrev pub convert : Shape
 convert = record (new_shape (codes "convert")) { rules = flag_rule (codes "raw") ∷ [] }
@@ -85,14 +100,18 @@ convert = record (new_shape (codes "convert")) { rules = flag_rule (codes "raw")
 abbrev pub translate : Shape
 translate = record (new_shape (codes "translate")) { rules = flag_rule (codes "whole") ∷ [] }
 
--- the command line: the program with its subcommands
-abbrev pub sfi : App
-sfi =
+-- the program with the subcommands that read standard input
+abbrev pub on_input : App
+on_input =
     with_subcommand
     (with_subcommand
     (with_subcommand
     (with_subcommand (with_subcommand (with_subcommand (with_subcommand program check) dis) build)
     map_names) run) convert) translate
+
+-- the command line: the program with its subcommands
+abbrev pub sfi : App
+sfi = with_subcommand on_input exec
 
 -- ---- jobs
 
@@ -123,6 +142,13 @@ abbrev pub IsNoInput : Option Text → Type 0
 IsNoInput None = ⊥
 IsNoInput (Some text) = IsErr (decode_of text)
 
+-- the text of an option allows so many steps, at least one; no option, as many as 64 bits count
+abbrev pub IsBudget : Option Text → ℕ → Type 0
+IsBudget None n = n ≡ 2 ^ 64 - 1
+IsBudget (Some text) n =
+    IsNumeral 10 (without_leading_plus text) × (digits_value 10 (without_leading_plus text) ≡ n)
+    × (1 ≤ n) × (n < 2 ^ 64)
+
 -- the subcommand, with what was found for its options, asks for the job; a build and a map have the
 -- places that their uses of `--at` spell, and a check of an image's own bytes has no report
 abbrev pub Names : Option (Text × List Row) → Job → Type 0
@@ -141,6 +167,9 @@ Names (Some p) (Run rounds quantum input report) =
     × IsCount (codes "quantum") quantum_most p.1 quantum
     × IsInputOf (first_of (codes "input") p.1) input.items
     × IsGiven (codes "report") p.1 report
+Names (Some p) (Exec image budget) =
+    (p.0 ≡ codes "exec") × (first_of (codes "image") p.1 ≡ Some (string_bytes image))
+    × IsBudget (first_of (codes "budget") p.1) budget
 Names (Some p) (Convert raw) = (p.0 ≡ codes "convert") × IsGiven (codes "raw") p.1 raw
 Names (Some p) (Translate whole) =
     (p.0 ≡ codes "translate") × IsGiven (codes "whole") p.1 whole

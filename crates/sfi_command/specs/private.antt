@@ -7,7 +7,7 @@ use Rattle.clap.specs.declared.builder.command.Command.TheViews.{out-Command}
 use Rattle.sfi_command.specs.declared.job.Job.{Job}
 use Rattle.sfi_command.specs.declared.job.JobFault.{JobFault}
 use Rattle.sfi_command.specs.declared.job.JobFault.TheVariants.{Usage, Hex, Memory}
-use Rattle.sfi_command.specs.Command.{IsNoInput, Names, NamesNoInput, count_rule, flag_rule, value_rule}
+use Rattle.sfi_command.specs.Command.{IsNoInput, Names, NamesNoInput, count_rule, flag_rule, number_rule, required_rule, value_rule}
 use Rattle.sfi_policy.specs.declared.place.Place.{Place}
 use Rattle.sfi_command.specs.Places.{SpellPlaces}
 use Rattle.clap.specs.declared.builder.action.ArgAction.TheVariants.{Append}
@@ -60,6 +60,8 @@ abbrev pub rule_taking : Text → Takes → Rule
 rule_taking name takes.Nothing = flag_rule name
 rule_taking name (takes.Text word) = value_rule name
 rule_taking name (takes.Texts word) = record (value_rule name) { action = Some Append }
+rule_taking name (takes.Number word) = number_rule name
+rule_taking name (takes.Word word) = record (required_rule name) { value_names = 1 }
 rule_taking name (takes.Count word usual most) = count_rule name usual.now most
 
 abbrev pub rule_of_row : OptionRow → Rule

@@ -6,7 +6,7 @@ ghost use Rattle.clap.specs.Simple.{Shape, app_of, new_app, with_subcommand};
 ghost use Rattle.clap.specs.Values.{kind_of};
 ghost use Rattle.clap.specs.Walk.{first_of, rows_of, rule_of};
 ghost use Rattle.clap.specs.declared.builder.command.Command.TheViews.{out-Command};
-ghost use Rattle.sfi_command.specs.Command.{build, check, convert, count_rule, dis, flag_rule, input_rule, map_names, places_rule, program, quantum_most, rounds_most, run, sfi, texts_of, Asks, IsFaultOf, IsCount, IsGiven, IsInputOf, Names, number_of};
+ghost use Rattle.sfi_command.specs.Command.{build, check, convert, count_rule, dis, flag_rule, input_rule, map_names, places_rule, program, quantum_most, rounds_most, run, sfi, texts_of, Asks, IsBudget, IsFaultOf, IsCount, IsGiven, IsInputOf, Names, number_of};
 ghost use Rattle.sfi_command.specs.Places.{SpellPlaces};
 ghost use Rattle.sfi_command.specs.private.{IsCommandOf, IsFaultOfNamed, IsInputFault, ArePlacesFault};
 
@@ -161,6 +161,37 @@ fn run_of(alloc: Global, found: &ArgMatches<'_>) -> Result<Job, JobFault>
     })
 }
 
+/// The steps that the option's text allows, or as many as there may be where it wasn't given.
+fn budget_of(found: &ArgMatches<'_>) -> Option<u64>
+    ensures some { IfSome result (IsBudget (first_of (codes "budget") (rows_of (found_of found.now)))) }
+    ensures none { result ≡ None → (n : ℕ)
+        → ¬ IsBudget (first_of (codes "budget") (rows_of (found_of found.now))) n }
+{
+    let Some(text) = found.get_str("budget") else {
+        return Some(u64::MAX);
+    };
+    match text.parse::<u64>() {
+        Ok(budget) if budget >= 1 => Some(budget),
+        _ => None,
+    }
+}
+
+/// The run in a process that these options ask for.
+fn exec_of(alloc: Global, found: &ArgMatches<'_>) -> Result<Job, JobFault>
+    ensures job { IfOk result (Names (Some (codes "exec", rows_of (found_of found.now)))) }
+    ensures fault { IfErr result
+        (IsFaultOfNamed (Some (codes "exec", rows_of (found_of found.now)))) }
+{
+    let Some(path) = found.get_str("image") else {
+        return Err(no_command(alloc));
+    };
+    let Some(budget) = budget_of(found) else {
+        return Err(no_command(alloc));
+    };
+    let image = String::from_str(alloc, path)?;
+    Ok(Job::Exec { image, budget })
+}
+
 /// The check that these options ask for. A report wants the whole image,
 /// which a check of its own bytes doesn't keep.
 fn check_of(alloc: Global, found: &ArgMatches<'_>) -> Result<Job, JobFault>
@@ -187,6 +218,7 @@ fn job_named(alloc: Global, name: &str, found: &ArgMatches<'_>) -> Result<Job, J
         "build" => build_of(alloc, found),
         "map" => map_of(alloc, found),
         "run" => run_of(alloc, found),
+        "exec" => exec_of(alloc, found),
         "convert" => Ok(Job::Convert {
             raw: is_given(found, "raw"),
         }),

@@ -4,7 +4,7 @@ ghost use Rattle.std.specs.Prelude.{◌≡◌, IfOk, false, map};
 ghost use Rattle.clap.specs.Simple.{app_of, new_app};
 ghost use Rattle.clap.specs.Walk.{rule_of};
 ghost use Rattle.clap.specs.declared.builder.command.Command.TheViews.{out-Command};
-ghost use Rattle.sfi_command.specs.Command.{program, sfi};
+ghost use Rattle.sfi_command.specs.Command.{exec, on_input, program, required_rule, sfi};
 ghost use Rattle.sfi_command.specs.private.{IsCommandOf, named_rule, rule_of_row, shape_of_row, with_all};
 
 use crate::help;
@@ -28,6 +28,10 @@ enum Takes<'a> {
         usual: &'a str,
         most: u32,
     },
+    /// A number from 1 to 18446744073709551615.
+    Number(&'a str),
+    /// A text that has to be given, without the option's name.
+    Word(&'a str),
 }
 
 /// An option, with the line that help has for it.
@@ -57,6 +61,26 @@ const RAW_OUTPUT: OptionRow = OptionRow {
     about: help::RAW_OUTPUT,
 };
 
+/// The command that reads a file. It stands for itself, so that no table grows too long for its proof.
+const EXEC: CommandRow = CommandRow {
+    name: "exec",
+    about: help::EXEC,
+    notes: help::EXEC_NOTES,
+    options: &[
+        OptionRow {
+            name: "image",
+            takes: Takes::Word("IMAGE"),
+            about: help::EXEC_IMAGE,
+        },
+        OptionRow {
+            name: "budget",
+            takes: Takes::Number("N"),
+            about: help::EXEC_BUDGET,
+        },
+    ],
+};
+
+/// The commands that read standard input.
 const COMMANDS: &[CommandRow] = &[
     CommandRow {
         name: "check",
@@ -146,6 +170,14 @@ const COMMANDS: &[CommandRow] = &[
     },
 ];
 
+/// An argument of this name, with the line that help has for it.
+fn word_named<'a>(alloc: Global, name: &'a str, about: &'a str) -> Arg<'a>
+    ensures rule { rule_of result ≡ required_rule name.now }
+    ensures local { result.global ≡ false }
+{
+    Arg::new(alloc, name).help(about).required(true)
+}
+
 /// An option of this name, with the line that help has for it.
 fn option_named<'a>(alloc: Global, name: &'a str, about: &'a str) -> Arg<'a>
     ensures rule { rule_of result ≡ named_rule name.now }
@@ -159,6 +191,9 @@ fn option_of<'a>(alloc: Global, row: &OptionRow<'a>) -> Arg<'a>
     ensures rule { rule_of result ≡ rule_of_row row.now }
     ensures local { result.global ≡ false }
 {
+    if let Takes::Word(word) = row.takes {
+        return word_named(alloc, row.name, row.about).value_name(word);
+    }
     let option = option_named(alloc, row.name, row.about);
     match row.takes {
         Takes::Nothing => option.action(ArgAction::SetTrue),
@@ -168,6 +203,10 @@ fn option_of<'a>(alloc: Global, row: &OptionRow<'a>) -> Arg<'a>
             .value_name(word)
             .default_value(usual)
             .value_parser(value_parser!(u32).range(1..=i64::from(most))),
+        Takes::Number(word) => option
+            .value_name(word)
+            .value_parser(value_parser!(u64).range(1..)),
+        Takes::Word(word) => option.value_name(word),
     }
 }
 
@@ -211,9 +250,23 @@ fn program_with<'a>(alloc: Global, rows: &[CommandRow<'a>]) -> Result<Command<'a
     Ok(program)
 }
 
+/// The program with the subcommands that read standard input.
+fn program_on_input<'a>(alloc: Global) -> Result<Command<'a>, AllocError>
+    ensures { IfOk result (λ c. app_of c ≡ on_input) }
+{
+    program_with(alloc, COMMANDS)
+}
+
+/// The subcommand that reads a file.
+fn exec_command<'a>(alloc: Global) -> Result<Command<'a>, AllocError>
+    ensures { IfOk result (IsCommandOf exec) }
+{
+    command_of(alloc, &EXEC)
+}
+
 /// The program with its subcommands.
 pub(crate) fn program<'a>(alloc: Global) -> Result<Command<'a>, AllocError>
     ensures { IfOk result (λ c. app_of c ≡ sfi) }
 {
-    program_with(alloc, COMMANDS)
+    program_on_input(alloc)?.subcommand(exec_command(alloc)?)
 }

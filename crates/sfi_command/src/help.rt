@@ -142,6 +142,36 @@ Example:
   sfi run < hi.hex
   sfi run --rounds 10 --quantum 5000 --input 4869 < hi.hex";
 
+pub(crate) const EXEC: &str =
+    "Check an image file and, if it is accepted, run its sandboxes as a process";
+
+pub(crate) const EXEC_IMAGE: &str = "A file with an image, as bytes or as hexadecimal text";
+
+pub(crate) const EXEC_BUDGET: &str =
+    "Steps that each sandbox may do at most; without it there is no bound to wait for";
+
+pub(crate) const EXEC_NOTES: &str = "\
+Runs the sandboxes of an image file one after another, each to its end. What they
+get is standard input, which a get takes as it comes, and what they put goes to
+standard output, before a get waits and at the end. All else is as in `sfi run`.
+
+Of each sandbox that doesn't exit, standard error has a line of its trap, or of its
+steps that are used up, and then its pc and its registers as with `run --report`:
+  sandbox=S trap=CAUSE at=AAAAAAAA steps=N
+
+Exit status: that of the first sandbox that has one other than 0, or else 0:
+  0 to 255  the low 8 bits of its exit code
+  124  its steps are used up
+  126  it trapped
+Where there is no run, or it can't go on, a line on standard error says why:
+  125  the image is refused, or is none; the file, the input or the output can't
+       be read or written; or memory ran out
+  3  as `sfi help` says
+
+Example:
+  sfi build --raw < examples/hi.s > hi.image
+  sfi exec hi.image";
+
 pub(crate) const CONVERT: &str = "Write an image of the first format in the second format";
 
 pub(crate) const CONVERT_NOTES: &str = "\

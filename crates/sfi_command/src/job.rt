@@ -44,6 +44,15 @@ pub enum Job {
         /// Whether the pc and the registers are printed of each sandbox that may go on or trapped.
         report: bool,
     },
+    /// A run of the sandboxes of an image in a file, one after another, whose put and get are those of
+    /// the process.
+    Exec {
+        /// The file's path.
+        image: String,
+        /// How many steps each sandbox may do, at least 1; 18446744073709551615 where no number is
+        /// given.
+        budget: u64,
+    },
     /// The image in the second format.
     Convert {
         /// Whether its bytes are written as they are, and not as hexadecimal text.

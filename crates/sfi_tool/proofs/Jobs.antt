@@ -19,7 +19,7 @@ use Rattle.sfi_tool.specs.Running.{SaysRun}
 use Rattle.sfi_answers.specs.Converting.{SaysConversion}
 use Rattle.sfi_answers.specs.Translating.{SaysTranslation}
 use Rattle.sfi_command.specs.declared.job.Job.{Job}
-use Rattle.sfi_command.specs.declared.job.Job.TheVariants.{Check, Dis, Build, Map, Run, Convert, Translate}
+use Rattle.sfi_command.specs.declared.job.Job.TheVariants.{Check, Dis, Build, Map, Run, Exec, Convert, Translate}
 use Rattle.sfi_command.specs.Command.{is_raw}
 use Rattle.sfi_io.specs.Streams.{limit}
 
@@ -99,6 +99,7 @@ status_of_answer Dis input status text says = omega (arith, says.2.status_is)
 status_of_answer (Build raw places) input status text says = omega (arith, says.status_is)
 status_of_answer (Map places) input status text says = omega (arith, says.status_is)
 status_of_answer (Run rounds quantum given report) input status text says = of_run rounds quantum given.items report says.0 status text says.2
+status_of_answer (Exec image budget) input status text says = absurd says
 status_of_answer (Convert raw) input status text says = of_conversion raw says.0 status text says.2
 status_of_answer (Translate whole) input status text says = of_translation whole says.0 status text says.2
 
@@ -107,6 +108,7 @@ status_of_answer (Translate whole) input status text says = of_translation whole
 -- is a fault to each job that reads a text
 pub too_large : (job : Job) (text : List ℕ) → is_raw job ≡ false → limit < length text → HasInputFault job text
 too_large (Check true report) text read over = absurd (cc)
+too_large (Exec image budget) text read over = tt
 too_large _ text read over = inl (inl over)
 
 -- what gives an image keeps the limit
@@ -119,6 +121,7 @@ pub not_done : (job : Job) (text : List ℕ) → is_raw job ≡ false → limit 
 not_done (Check true report) text read over done = absurd (cc)
 not_done (Build raw places) text read over done = absurd (omega (arith, over, done.1.short))
 not_done (Map places) text read over done = absurd (omega (arith, over, done.1.short))
+not_done (Exec image budget) text read over done = done
 not_done _ text read over done = absurd (omega (arith, over, keeps_limit text done.0 done.1))
 
 -- nor refused
@@ -127,4 +130,5 @@ not_refused (Check true report) text read over refused = absurd (cc)
 not_refused Dis text read over refused = absurd refused.2
 not_refused (Build raw places) text read over refused = absurd refused
 not_refused (Map places) text read over refused = absurd refused
+not_refused (Exec image budget) text read over refused = refused
 not_refused _ text read over refused = absurd (omega (arith, over, keeps_limit text refused.0 refused.1))

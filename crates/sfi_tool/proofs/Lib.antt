@@ -1,4 +1,5 @@
 pub mod Prelude
 pub mod Told
 pub mod Rounds
+pub mod Calls
 pub mod Jobs

@@ -1,3 +1,4 @@
 pub mod private
+pub mod Executing
 pub mod Running
 pub mod Says

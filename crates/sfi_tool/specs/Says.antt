@@ -1,7 +1,7 @@
 -- What the job that was asked for answers on what was read, and what a run of the program writes.
 use Rattle.std.specs.Prelude.{ℕ, List, true, false, ◌⊎◌, Option, IfSome}
 use Rattle.sfi_command.specs.declared.job.Job.{Job}
-use Rattle.sfi_command.specs.declared.job.Job.TheVariants.{Check, Dis, Build, Map, Run, Convert, Translate}
+use Rattle.sfi_command.specs.declared.job.Job.TheVariants.{Check, Dis, Build, Map, Run, Exec, Convert, Translate}
 use Rattle.sfi_answers.specs.Answers.{Meaning, on_image}
 use Rattle.sfi_answers.specs.Checking.{check}
 use Rattle.sfi_answers.specs.Listing.{dis}
@@ -13,7 +13,16 @@ use Rattle.std.specs.Io.KnownBytes.{Appends}
 use Rattle.clap.specs.Walk.{Text}
 use Rattle.sfi_command.specs.Command.{Asks, AsksNoInput}
 
--- what is said of each job, by its command. All read an image's bytes or hexadecimal text, but for
+-- where no file can be opened, `exec` has a fault, whatever was read
+abbrev pub not_here : Meaning
+not_here = record {
+  says = λ input status answer. ⊥;
+  is_done = λ input. ⊥;
+  is_refused = λ input. ⊥;
+  has_fault = λ input. Unit {0};
+}
+
+-- what is said of each job, by its command, where no file can be opened. All read an image's bytes or hexadecimal text, but for
 -- a check of bytes, however they begin, and a build and a map of a source text
 abbrev pub meaning_of : Job → Meaning
 meaning_of (Check true report) = check report
@@ -23,6 +32,7 @@ meaning_of (Build raw places) = build raw places.items
 meaning_of (Map places) = map places.items
 meaning_of (Run rounds quantum given report) =
     on_image (run rounds quantum given.items report)
+meaning_of (Exec image budget) = not_here
 meaning_of (Convert raw) = on_image (convert raw)
 meaning_of (Translate whole) = on_image (translate whole)
 

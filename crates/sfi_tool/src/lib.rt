@@ -2,12 +2,19 @@
 #![tactic(auto)]
 
 mod answering;
+mod executing;
+mod piece;
+mod process;
 mod run_lines;
 mod running;
+mod serving;
 mod states;
+mod stopping;
 mod tool;
 
 pub use answering::answer;
+pub use process::exec;
+pub use serving::ExecFault;
 pub use sfi_answers::Answer;
 pub use sfi_command::{Job, JobFault, VERSION, job_of};
 pub use sfi_io::write_out;

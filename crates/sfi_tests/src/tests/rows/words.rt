@@ -9,7 +9,8 @@ $ sfi build source; $ sfi map --report; $ sfi map source; $ sfi dis image; $ sfi
 $ sfi run --report=yes; $ sfi run --report --report; $ sfi build --at; $ sfi check --at 20500000:80000000; $ sfi run --rounds; $ sfi run --rounds 0
 $ sfi run --rounds 10001; $ sfi run --rounds ten; $ sfi run --rounds=-1; $ sfi run --rounds 1 --rounds 1; $ sfi run --quantum 0
 $ sfi run --quantum 1000001; $ sfi run --quantum 0x10; $ sfi run --input; $ sfi run --rounds 0 --input 0; $ sfi check --version; $ sfi help frob
-$ sfi convert --report; $ sfi translate --report; >.. error: 
+$ sfi convert --report; $ sfi translate --report; $ sfi exec; $ sfi exec one two; $ sfi exec image --budget 0; $ sfi exec image --budget ten
+$ sfi exec image --budget 18446744073709551616; $ sfi exec --budget 5; $ sfi exec image --raw; >.. error: 
 = bytes, and a report; $ sfi check --raw --report; $ sfi check --report --raw
 > error: '--raw' and '--report' cannot be used together; >; > For more information, try '--help'.
 = no place; $ sfi build --at 20500000; $ sfi build --at :; $ sfi build --at 20500000:; $ sfi build --at :80000000; $ sfi build --at 120500000:80000000
@@ -47,6 +48,8 @@ source; status 3
 = help of run; $ sfi run --help
 ..; >; >; >.. Usage: sfi ; >.. --rounds <N> ; >.. --quantum <Q> ; >.. --report ; >text statuses; ..; >; >..   sfi run --
 = help of run, said in other words; as sfi run --help; $ sfi run -h; $ sfi help run
+= help of exec; $ sfi exec --help; ..; >; >; > Usage: sfi exec [OPTIONS] <IMAGE>; ..; >.. --budget <N> ; >.. 124  its steps are used up; >.. sfi exec hi.image
+= help of exec, said in other words; as sfi exec --help; $ sfi exec -h; $ sfi help exec
 = help of convert; $ sfi convert --help; ..; >.. second format; >; >; > Usage: sfi convert [OPTIONS]; ..; >.. --raw ; >text statuses; >.. convert < 
 = help of convert, said in other words; as sfi convert --help; $ sfi convert -h; $ sfi help convert
 = help of translate; $ sfi translate --help; ..; >.. as C; >; >; > Usage: sfi translate [OPTIONS]; ..; >.. --whole ; >text statuses

@@ -1,0 +1,113 @@
+//! Sandboxes that run one after another, each to its end.
+
+ghost use Rattle.std.specs.Prelude.{◌≡◌, ◌≤◌, IfSome, length, slice_get};
+ghost use Rattle.sfi_host.specs.Worlds.{slots_of};
+ghost use Rattle.sfi_tool.specs.private.{IsAsked, left_by, left_of};
+
+use crate::serving::{ExecFault, serve};
+use rv_mem::Memory;
+use sfi_host::{Console, Request, Status, Turn, World};
+use std::io::{Read, Write};
+
+/// How many steps a sandbox of that status may still do, which did so many.
+fn left_by(budget: u64, status: Status, steps: u64) -> u64
+    ensures { result ≡ left_by budget status steps }
+{
+    match status {
+        Status::Ready => budget.saturating_sub(steps),
+        Status::Exited(_) | Status::Trapped(_, _) | Status::Stopped => 0,
+    }
+}
+
+/// How many steps the sandbox of that number may still do.
+fn steps_left<M: Memory>(world: &World<M>, sandbox: u32, budget: u64) -> u64
+    ensures { result ≡ left_of budget (slice_get (slots_of world.now) sandbox) }
+{
+    let Some(status) = world.status(sandbox) else {
+        return 0;
+    };
+    let Some(steps) = world.steps(sandbox) else {
+        return 0;
+    };
+    left_by(budget, status, steps)
+}
+
+/// The steps of a turn, of which that many may be done.
+fn turn_steps(left: u64) -> u32
+    ensures { result ≤ left }
+{
+    left.min(u64::from(u32::MAX)) as u32
+}
+
+/// Runs a sandbox up to its next call, and says what that asks, if there is a step left for it.
+fn run_to_call<M: Memory>(world: &mut World<M>, sandbox: u32, budget: u64) -> Option<Request>
+    ensures { IfSome result (IsAsked sandbox (slots_of world.new)) }
+{
+    let left = steps_left(world, sandbox, budget);
+    let turn = Turn {
+        sandbox,
+        steps: turn_steps(left),
+    };
+    let request = world.run_to_call(turn)?;
+    if steps_left(world, sandbox, budget) == 0 {
+        return None;
+    }
+    Some(request)
+}
+
+/// Runs a sandbox up to its next call, and answers that, if there is a step left for it.
+fn run_on<M: Memory, R: Read, W: Write>(
+    world: &mut World<M>,
+    console: &mut Console,
+    sandbox: u32,
+    budget: u64,
+    buffer: &mut [u8],
+    reader: &mut R,
+    writer: &mut W,
+) -> Result<(), ExecFault>
+    requires { length buffer.old ≡ 65536 }
+{
+    let Some(request) = run_to_call(world, sandbox, budget) else {
+        return Ok(());
+    };
+    serve(world, request, console, buffer, reader, writer)
+}
+
+/// Runs a sandbox until it has stopped or its steps are used up.
+fn run_sandbox<M: Memory, R: Read, W: Write>(
+    world: &mut World<M>,
+    console: &mut Console,
+    sandbox: u32,
+    budget: u64,
+    buffer: &mut [u8],
+    reader: &mut R,
+    writer: &mut W,
+) -> Result<(), ExecFault>
+    requires { length buffer.old ≡ 65536 }
+{
+    for _ in 0..u64::MAX {
+        if steps_left(world, sandbox, budget) == 0 {
+            return Ok(());
+        }
+        run_on(world, console, sandbox, budget, buffer, reader, writer)?;
+    }
+    Err(ExecFault::TooLong)
+}
+
+/// Runs the first sandboxes, one after another.
+pub(crate) fn run_sandboxes<M: Memory, R: Read, W: Write>(
+    world: &mut World<M>,
+    console: &mut Console,
+    count: u32,
+    budget: u64,
+    buffer: &mut [u8],
+    reader: &mut R,
+    writer: &mut W,
+) -> Result<(), ExecFault>
+    requires { length buffer.old ≡ 65536 }
+{
+    for sandbox in 0..count {
+        run_sandbox(world, console, sandbox, budget, buffer, reader, writer)?;
+    }
+    Ok(())
+}

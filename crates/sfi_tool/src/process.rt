@@ -1,0 +1,149 @@
+//! The command `exec`, over readers and writers.
+
+ghost use Rattle.std.specs.Prelude.{◌≡◌, OnOk};
+ghost use Rattle.std.specs.Io.KnownBytes.{Appends};
+ghost use Rattle.sfi_answers.specs.Checking.{Refuses};
+
+use crate::executing::run_sandboxes;
+use crate::serving::{ExecFault, MOST_HANDED};
+use crate::stopping::{status_among, stop_text};
+use rv_mem::Pages;
+use sfi_answers::{Stop, TOO_LARGE_LINE, refusal_answer, stop_answer};
+use sfi_check::{Accepted, Refusal, check};
+use sfi_host::{Console, World};
+use sfi_io::{INPUT_LIMIT, Input, ReadStop, image_bytes, read_input, write_out};
+use std::alloc::{AllocError, Global};
+use std::io::{Read, Write};
+
+impl From<AllocError> for ExecFault {
+    ghost use Rattle.sfi_tool.specs.declared.serving.ExecFault.TheVariants.{Memory};
+
+    ghost from_gives = { λ _ e. e ≡ Memory };
+
+    fn from(_e: AllocError) -> ExecFault {
+        ExecFault::Memory
+    }
+}
+
+/// Says something, whole.
+fn say<E: Write>(errors: &mut E, text: &[u8]) -> Result<(), ExecFault>
+    ensures { OnOk result (Appends (E.contents errors.old) (E.contents errors.new) text.now) }
+{
+    if write_out(errors, text) {
+        Ok(())
+    } else {
+        Err(ExecFault::Write)
+    }
+}
+
+/// Runs the sandboxes of an accepted image.
+fn run_accepted<R: Read, W: Write, E: Write>(
+    alloc: Global,
+    accepted: &Accepted<'_>,
+    budget: u64,
+    reader: &mut R,
+    writer: &mut W,
+    errors: &mut E,
+) -> Result<u8, ExecFault> {
+    let count = accepted.sandboxes() as u32;
+    let mut world = World::load(alloc, accepted, Pages::new(alloc))?;
+    let mut console = Console::new(alloc, count, &[])?;
+    let mut buffer = vec![in alloc; 0u8; MOST_HANDED]?;
+    run_sandboxes(
+        &mut world,
+        &mut console,
+        count,
+        budget,
+        &mut buffer,
+        reader,
+        writer,
+    )?;
+    if writer.flush().is_err() {
+        return Err(ExecFault::Write);
+    }
+    let text = stop_text(alloc, accepted.image().parts(), &world)?;
+    say(errors, text.as_bytes())?;
+    Ok(status_among(&world, count))
+}
+
+/// Says why there is no run.
+fn say_stop<E: Write>(alloc: Global, stop: Stop, errors: &mut E) -> ExecFault {
+    match stop_answer(alloc, stop) {
+        Ok(answer) => match say(errors, &answer.output) {
+            Ok(()) => ExecFault::NotAccepted,
+            Err(fault) => fault,
+        },
+        Err(_) => ExecFault::Memory,
+    }
+}
+
+/// Says the verdict on an image that is refused.
+fn say_refusal<E: Write>(alloc: Global, bytes: &[u8], refusal: Refusal, errors: &mut E) -> ExecFault
+    requires { Refuses bytes.now refusal }
+{
+    match refusal_answer(alloc, false, bytes, refusal) {
+        Ok(answer) => match say(errors, &answer.output) {
+            Ok(()) => ExecFault::NotAccepted,
+            Err(fault) => fault,
+        },
+        Err(stop) => say_stop(alloc, stop, errors),
+    }
+}
+
+/// Says that the text passes the limit.
+fn say_too_large<E: Write>(errors: &mut E) -> ExecFault {
+    match say(errors, TOO_LARGE_LINE.as_bytes()) {
+        Ok(()) => ExecFault::NotAccepted,
+        Err(fault) => fault,
+    }
+}
+
+/// Runs the sandboxes of the image with these bytes, if it is accepted.
+fn run_image<R: Read, W: Write, E: Write>(
+    alloc: Global,
+    bytes: &[u8],
+    budget: u64,
+    reader: &mut R,
+    writer: &mut W,
+    errors: &mut E,
+) -> Result<u8, ExecFault> {
+    match check(alloc, bytes) {
+        Ok(accepted) => run_accepted(alloc, &accepted, budget, reader, writer, errors),
+        Err(refusal) => Err(say_refusal(alloc, bytes, refusal, errors)),
+    }
+}
+
+/// Runs the sandboxes of the image that the text is or spells.
+fn run_text<R: Read, W: Write, E: Write>(
+    alloc: Global,
+    text: &[u8],
+    budget: u64,
+    reader: &mut R,
+    writer: &mut W,
+    errors: &mut E,
+) -> Result<u8, ExecFault> {
+    if text.len() > INPUT_LIMIT {
+        return Err(say_too_large(errors));
+    }
+    match image_bytes(alloc, text) {
+        Ok(bytes) => run_image(alloc, &bytes, budget, reader, writer, errors),
+        Err(stop) => Err(say_stop(alloc, Stop::from(stop), errors)),
+    }
+}
+
+/// Runs the sandboxes of the image that a reader gives, one after another.
+pub fn exec<I: Read, R: Read, W: Write, E: Write>(
+    alloc: Global,
+    budget: u64,
+    image: &mut I,
+    reader: &mut R,
+    writer: &mut W,
+    errors: &mut E,
+) -> Result<u8, ExecFault> {
+    match read_input(alloc, image) {
+        Ok(Input::Whole(text)) => run_text(alloc, &text, budget, reader, writer, errors),
+        Ok(Input::TooLarge) => Err(say_too_large(errors)),
+        Err(ReadStop::Memory) => Err(ExecFault::Memory),
+        Err(ReadStop::Failed) => Err(ExecFault::Read),
+    }
+}

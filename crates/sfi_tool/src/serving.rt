@@ -1,0 +1,177 @@
+//! One call of a sandbox whose put and get are those of a process.
+
+ghost use Rattle.std.specs.Prelude.{◌≡◌, ◌≤◌, IfOk, Some, None, length, take};
+ghost use Rattle.std.specs.Bool.{OnTrue, OnFalse};
+ghost use Rattle.std.specs.Io.KnownBytes.{Keeps};
+ghost use Rattle.sfi_host.specs.Waiting.{Waits};
+ghost use Rattle.sfi_host.specs.Worlds.{slots_of};
+ghost use Rattle.sfi_tool.specs.private.{GoesOnWith, IsAnsweredBy, IsPiece, handed_by};
+
+use crate::piece::Piece;
+use rv_mem::Memory;
+use sfi_host::{Console, Gates, Later, Request, RunAnswer, Turn, World};
+use sfi_io::write_out;
+use std::io::{Read, Write};
+
+/// The most bytes that one call hands over.
+pub(crate) const MOST_HANDED: usize = 65536;
+
+/// a0 after a call that is refused.
+const FAILED: u32 = 0xffffffff;
+
+const PUT: u32 = 1;
+
+const GET: u32 = 2;
+
+/// Why a run of an image's sandboxes didn't come to its end.
+#[derive(Clone, Copy, Debug, Drop, PartialEq, Eq)]
+pub enum ExecFault {
+    /// The image can't be run. What was said tells why: the verdict on an image with findings, or the
+    /// line of a fault.
+    NotAccepted,
+    /// An allocation was refused.
+    Memory,
+    /// The image or the input can't be read.
+    Read,
+    /// The output, or what is said, can't be written.
+    Write,
+    /// A sandbox took 18446744073709551615 turns, which none lives to see.
+    TooLong,
+}
+
+/// Fills the front of the buffer with the bytes that a call hands over, or would hand over; `false`
+/// where they are too many or not all in the caller's data.
+fn take_handed<M: Memory>(world: &World<M>, request: Request, buffer: &mut [u8]) -> bool
+    requires { length buffer.old ≡ 65536 }
+    ensures few { OnTrue result (request.a1 ≤ 65536) }
+    ensures handed { OnTrue result
+        (handed_by (slots_of world.now) request ≡ Some (take request.a1 buffer.new)) }
+    ensures refused { OnFalse result (handed_by (slots_of world.now) request ≡ None) }
+{
+    let count = request.a1 as usize;
+    count <= MOST_HANDED && world.read(request.sandbox, request.a0, &mut buffer[..count])
+}
+
+/// Has a host answer a call.
+fn answer_call<M: Memory, G: Gates>(
+    world: &mut World<M>,
+    request: Request,
+    gates: &mut G,
+) -> Result<(), ExecFault>
+    requires { Waits (slots_of world.old) request.sandbox request }
+    ensures { IfOk result (λ u. IsAnsweredBy G.answer request (slots_of world.old) gates.old
+        (slots_of world.new) gates.new) }
+{
+    let turn = Turn {
+        sandbox: request.sandbox,
+        steps: 1,
+    };
+    match world.run_plan(&[turn], gates) {
+        RunAnswer::Done => Ok(()),
+        RunAnswer::Memory { .. } => Err(ExecFault::Memory),
+    }
+}
+
+/// Gives a caller this a0, and lets it go on.
+fn reply<M: Memory>(world: &mut World<M>, request: Request, a0: u32) -> Result<(), ExecFault>
+    requires { Waits (slots_of world.old) request.sandbox request }
+    ensures { IfOk result
+        (λ u. GoesOnWith request a0 (slots_of world.old) (slots_of world.new)) }
+{
+    let mut later = Later {
+        a0,
+        a1: request.a1,
+        exit: None,
+    };
+    answer_call(world, request, &mut later)
+}
+
+/// Writes what a put hands over.
+fn put<M: Memory, W: Write>(
+    world: &mut World<M>,
+    request: Request,
+    buffer: &mut [u8],
+    writer: &mut W,
+) -> Result<(), ExecFault>
+    requires waits { Waits (slots_of world.old) request.sandbox request }
+    requires buffer { length buffer.old ≡ 65536 }
+{
+    if !take_handed(world, request, buffer) {
+        return reply(world, request, FAILED);
+    }
+    if !write_out(writer, &buffer[..request.a1 as usize]) {
+        return Err(ExecFault::Write);
+    }
+    reply(world, request, request.a1)
+}
+
+/// Reads once, for a get, after all that was put has been written.
+fn read_piece<R: Read, W: Write>(
+    piece: &mut [u8],
+    reader: &mut R,
+    writer: &mut W,
+) -> Result<usize, ExecFault>
+    ensures piece { IfOk result (λ n. IsPiece (length piece.old) (R.remaining reader.old)
+        (R.remaining reader.new) (take n piece.new)) }
+    ensures few { IfOk result (λ n. n ≤ length piece.old) }
+    ensures flushed { IfOk result (λ n. Keeps (W.contents writer.old) (W.contents writer.new)) }
+{
+    if writer.flush().is_err() {
+        return Err(ExecFault::Write);
+    }
+    match reader.read(piece) {
+        Ok(count) => Ok(count),
+        Err(_) => Err(ExecFault::Read),
+    }
+}
+
+/// Gives a get the next piece of the input.
+fn get<M: Memory, R: Read, W: Write>(
+    world: &mut World<M>,
+    request: Request,
+    buffer: &mut [u8],
+    reader: &mut R,
+    writer: &mut W,
+) -> Result<(), ExecFault>
+    requires waits { Waits (slots_of world.old) request.sandbox request }
+    requires buffer { length buffer.old ≡ 65536 }
+{
+    if !take_handed(world, request, buffer) {
+        return reply(world, request, FAILED);
+    }
+    let count = read_piece(&mut buffer[..request.a1 as usize], reader, writer)?;
+    let mut piece = Piece {
+        bytes: &buffer[..count],
+    };
+    answer_call(world, request, &mut piece)
+}
+
+/// Has a console answer a call.
+fn ask_console<M: Memory>(
+    world: &mut World<M>,
+    request: Request,
+    console: &mut Console,
+) -> Result<(), ExecFault>
+    requires waits { Waits (slots_of world.old) request.sandbox request }
+{
+    answer_call(world, request, console)
+}
+
+/// Answers a call.
+pub(crate) fn serve<M: Memory, R: Read, W: Write>(
+    world: &mut World<M>,
+    request: Request,
+    console: &mut Console,
+    buffer: &mut [u8],
+    reader: &mut R,
+    writer: &mut W,
+) -> Result<(), ExecFault>
+    requires waits { Waits (slots_of world.old) request.sandbox request }
+    requires buffer { length buffer.old ≡ 65536 }
+{
+    match request.service {
+        PUT => put(world, request, buffer, writer),
+        GET => get(world, request, buffer, reader, writer),
+        _ => ask_console(world, request, console),
+    }
+}
