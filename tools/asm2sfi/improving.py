@@ -10,6 +10,7 @@ from pairing import with_pairs
 from placement import with_near_branches
 from pointing import with_pointing
 from raising import with_raised_steps
+from repeating import without_repeated_masks
 from sharing import with_shared_masks
 from stepping import with_steps
 from targeting import with_targets
@@ -46,4 +47,5 @@ def improved_words(code, passes, names):
     if "stepping" in passes:
         code = with_raised_steps(with_steps(code), registers)
     code = [piece if piece.is_mark or written(piece) in DATA else shortened(piece) for piece in code]
-    return with_pairs(code) if "pairing" in passes else code
+    code = with_pairs(code) if "pairing" in passes else code
+    return without_repeated_masks(code) if "sharing" in passes else code

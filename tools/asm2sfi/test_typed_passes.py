@@ -8,6 +8,7 @@ from loops import loops_of
 from naming import Names
 from pairing import with_pairs
 from raising import with_raised_steps
+from repeating import without_repeated_masks
 from sharing import with_shared_masks
 from stepping import with_steps
 from targeting import with_targets
@@ -136,6 +137,24 @@ class Sharing(unittest.TestCase):
         text = "f: mv gp,a4; .a: lw a0,0(a5); lw a1,4(a5); lw a2,0(gp); bnez a2,.a; ret"
         self.assertIn("mv tp, a5", self.shared(text))
         self.assertEqual(self.shared(text, ("gp",)), lines(code(text)))
+
+
+class Repeating(unittest.TestCase):
+    def test_rows(self):
+        rows = [
+            ("lw a0,0(a1); lw a2,4(a1); sb a0,-3(a1)", "lw a0,0(a1); lw a2,4(t4); sb a0,-3(t4)"),
+            ("lw a0,0(a1); bnez a0,.b; lw a2,4(gp); sw a0,8(sp); lw a3,8(a1); .b: ret",
+             "lw a0,0(a1); bnez a0,.b; lw a2,4(gp); sw a0,8(sp); lw a3,8(t4); .b: ret"),
+            ("lw a0,0(a1); lw a1,4(a1); lw a1,4(a1)", "lw a0,0(a1); lw a1,4(t4); lw a1,4(a1)"),
+            ("lw a1,0(a1); lw a2,0(a1)", None),
+            ("lw a0,0(a1); addi a1,a1,4; lw a2,0(a1)", None),
+            ("lw a0,0(a1); lw a2,0(a3); lw a2,4(a1)", None),
+            ("lw a0,0(a1); .b: lw a2,0(a1)", None),
+            ("lw a0,0(s1); call f; lw a2,0(s1)", None),
+            ("lw a0,0(s1); jalr ra,0(a0); lw a2,0(s1)", None),
+        ]
+        for text, wanted in rows:
+            self.assertEqual(lines(without_repeated_masks(code(text))), lines(code(wanted or text)), text)
 
 
 class Hoisting(unittest.TestCase):

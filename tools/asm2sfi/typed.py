@@ -13,6 +13,7 @@ from instructions import LOADS, SHAPES, Op, is_access, offset_and_base, written
 WORDS = "words"  # the format's name
 ADDRESSES = ("gp", "tp")  # the data registers that compilers leave alone
 DATA = ("sp", *ADDRESSES)
+MASKED = "t4"  # the one that has the masked base of an access on another register
 OWN = {"t4": 29, "t5": 30}  # the sandbox's own registers, beside those of the other formats
 MASKS = 2  # how many instructions it takes to mask an address, or to set a data register to another register
 LOWEST, HIGHEST = -2048, 2047  # the offsets of an access
@@ -30,7 +31,7 @@ def masked_base(piece):
     if not is_access(piece):
         return None
     base = offset_and_base(piece)[1]
-    return None if base == "zero" or base in DATA else base
+    return None if base in ("zero", MASKED) or base in DATA else base
 
 
 def on_base(op, base, offset):

@@ -248,3 +248,23 @@ small:
 	.size	large, 400
 large:
 	.zero	400
+
+# Three bases, two of which have data registers: the address of the third stays masked over accesses on these.
+        .section .text.repeated,"ax"
+        .globl repeated
+repeated:
+        lw a4, 0(a0)
+        lw a5, 0(a1)
+        lw a6, 0(a2)
+        lw t0, 4(a0)
+        lw t1, 4(a1)
+        lw t2, 4(a2)
+        add a2, a2, t2
+        lw t3, 0(a2)
+        add a4, a4, a5
+        add a6, a6, t0
+        add t1, t1, t2
+        add a4, a4, t3
+        add a4, a4, a6
+        add a0, a4, t1
+        ret
