@@ -58,7 +58,7 @@ try_addresses() { # format, compiler; options of sfi-cc
     local format=$1 place image="$room/addresses"
     shift
     "$tools/sfi-cc" --program "$sfi" --movable --format "$format" "$@" -o "$image" elf/addresses.c elf/elsewhere.c
-    for place in $places; do
+    for place in ${places#* }; do
         "$tools/sfi-cc" --program "$sfi" --at "$place" --movable --format "$format" "$@" -o "$image.built" elf/addresses.c elf/elsewhere.c
         move "$image" "$place" "$image.moved"
         report "addresses, format $format, at $place $*" "$(run_of "$image.built" "")" "$(run_of "$image.moved" "")"

@@ -111,6 +111,10 @@ bool are_apart(const struct part *one, const struct part *other) {
     return Z_sfiZ_sfi_c_apart(&module, told(&checker_memory.part, one), told(&checker_memory.other_part, other));
 }
 
+bool move_sandbox(uint8_t *image, uint32_t length, uint32_t number, uint32_t code_base, uint32_t data_base) {
+    return Z_sfiZ_sfi_c_move(&module, in_module(image), length, number, code_base, data_base) == SFI_FOUND;
+}
+
 static void tell_gates(const uint8_t *image, uint32_t length, uint32_t number, struct part *part) {
     const struct sfi_gate *told = checker_memory.gates;
     if (Z_sfiZ_sfi_c_gates(&module, in_module(image), length, number, in_module(told),

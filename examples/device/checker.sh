@@ -1,6 +1,6 @@
 #!/usr/bin/env bash
 # Makes FOLDER/checker.o: the proved checker for RV32, which Makefile links into the loader. It makes
-# measured.o too, which prints what each image costs it (with `run.sh --steps`).
+# measured.o too, which prints what each image costs it (with `run.sh --steps`), and moving.o, which moves sandboxes, too.
 #
 #     examples/device/checker.sh LIBRARY FOLDER     # LIBRARY is libsfi_c.a for wasm64
 #
@@ -63,7 +63,9 @@ warned=(-Wall -Wextra -Wconversion -Wshadow -Wmissing-prototypes -Werror -I"$her
 "$riscv" "${flags[@]}" -w -I"$here" -include reach.h -c -o sfi_wasm.o sfi_wasm.c
 "$riscv" "${flags[@]}" "${warned[@]}" -c -o judge.o "$here/checker.c"
 "$riscv" "${flags[@]}" "${warned[@]}" -c -o measure.o "$here/measure.c"
-"$riscv" "${machine[@]}" -nostdlib -r -Wl,--gc-sections,-echeck_image,-utell_part,-uare_apart -o checker.o judge.o sfi_wasm.o -lgcc
+linked=(-nostdlib -r -Wl,--gc-sections,-echeck_image,-utell_part,-uare_apart)
+"$riscv" "${machine[@]}" "${linked[@]}" -o checker.o judge.o sfi_wasm.o -lgcc
+"$riscv" "${machine[@]}" "${linked[@]}" -Wl,-umove_sandbox -o moving.o judge.o sfi_wasm.o -lgcc
 riscv64-unknown-elf-objcopy --redefine-sym check_image=checker_check_image \
     --redefine-sym tell_part=checker_tell_part checker.o renamed.o
 "$riscv" "${machine[@]}" -nostdlib -r -o measured.o measure.o renamed.o

@@ -93,6 +93,9 @@ void between_pieces(void);
 bool tell_part(const uint8_t *image, uint32_t length, uint32_t number, struct part *part);
 /* checker.c: no region and no guard zone of one of them meets one of the other */
 bool are_apart(const struct part *one, const struct part *other);
+/* checker.c, in moving.o alone: has the image's sandbox of that number lie at another place, in its bytes. False, and none
+   of them is changed, where it can't lie there */
+bool move_sandbox(uint8_t *image, uint32_t length, uint32_t number, uint32_t code_base, uint32_t data_base);
 
 /* image.c */
 uint32_t little_endian(const uint8_t *bytes);

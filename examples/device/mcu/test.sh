@@ -232,7 +232,7 @@ try_slots() {
         skip 1 "the host with slots" "there is no checker to judge its updates"
         return
     fi
-    CHECKER=${by[1]} "$shared/../../tools/unit_tests.py" "$shared/slots" >"$room/slots"
+    CHECKER=${by[1]%checker.o}moving.o "$shared/../../tools/unit_tests.py" "$shared/slots" >"$room/slots"
     add_counts "$(tail -n 1 "$room/slots")" || failed=$((failed + 1))
     sed '$d; /^\.*$/d' "$room/slots"
 }

@@ -5,12 +5,13 @@ import queue
 import shutil
 import subprocess
 import sys
+import tempfile
 import threading
 
 HERE = pathlib.Path(__file__).resolve().parent
 TOP = HERE.parents[2]
 SFI = os.environ.get("SFI", str(TOP / "crates" / "sfi" / "out" / "sfi"))
-CHECKER = os.environ.get("CHECKER", str(HERE.parent / "out" / "checker.o"))
+CHECKER = os.environ.get("CHECKER", str(HERE.parent / "out" / "moving.o"))
 FORMATS = ("1", "2", "words")
 CHIPS = {"virt": "virt", "sifive_u": "sifive_u", "spike": "spike"}  # those of chips/ whose memory holds code
 PIECE = 256
@@ -37,6 +38,15 @@ def image_of(text, image_format, *places):
     """The image of a source text, each of its sandboxes at the next of the places."""
     at = [word for code, data in places for word in ("--at", f"{code:x}:{data:x}")]
     return bytes.fromhex(sfi("build", *at, text=in_format(text, image_format)))
+
+
+def program_of(name, image_format, *words):
+    """The image of a program of cases/, by tools/sfi-cc."""
+    with tempfile.TemporaryDirectory() as room:
+        made = os.path.join(room, "made.image")
+        subprocess.run([TOP / "tools" / "sfi-cc", "--program", SFI, "--format", image_format, "--data", "4096", "--stack", "512",
+                        "--gate", "report=4", *words, "-o", made, HERE / "cases" / name], check=True)
+        return pathlib.Path(made).read_bytes()
 
 
 def names_of(text, image_format, place):
@@ -97,7 +107,14 @@ class Device:
 
     def update(self, slot, image, piece=PIECE):
         """The line after the last piece."""
-        line = self.ask("update", f"{slot:x}", f"{len(image):x}")
+        return self.fed(self.ask("update", f"{slot:x}", f"{len(image):x}"), image, piece)
+
+    def add(self, image):
+        """The same of an image for any place."""
+        return self.fed(self.ask("add", f"{len(image):x}"), image, PIECE)
+
+    def fed(self, line, image, piece):
+        """The line after the last piece of an image that is awaited."""
         for start in range(0, len(image), piece):
             if not line.startswith("awaits="):
                 return line

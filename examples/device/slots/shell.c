@@ -1,5 +1,6 @@
 /* A shell on the serial line. Each line of it is a command, its numbers hexadecimal:
        update SLOT LENGTH      an image of LENGTH bytes comes for the slot ..
+       add LENGTH              an image for any place comes for the first slot that has none
        piece DIGITS            .. in pieces of at most PIECE_MOST bytes; after the last one it is judged
        start SLOT              the current version anew
        kill SLOT
@@ -19,6 +20,7 @@ static const char *at; /* what isn't read of it */
 
 static struct {
     uint32_t slot, length, arrived;
+    bool moves;
 } update; /* NO_SLOT where none is on its way */
 
 /* ---- Words of a line */
@@ -103,18 +105,24 @@ static void answer(bool is_done, uint32_t number, const char *what) {
 
 /* ---- Commands */
 
-static void begin_update(void) {
-    uint32_t number, length;
-    if (!take_slot(&number) || !take_number(&length) || !is_over() || length == 0 || length > IMAGE_MOST ||
+static void await_update(uint32_t number, bool moves) {
+    uint32_t length;
+    if (number >= SLOTS || !take_number(&length) || !is_over() || length == 0 || length > IMAGE_MOST ||
         slots[number].trial_turns > 0)
         return print("no\n");
     drop_next(number);
     update.slot = number;
     update.length = length;
     update.arrived = 0;
+    update.moves = moves;
     print("awaits=");
     print_hex(length, 1 + 4);
     print("\n");
+}
+
+static void begin_update(void) {
+    uint32_t number;
+    await_update(take_slot(&number) ? number : NO_SLOT, false);
 }
 
 static void judge_update(void) {
@@ -125,7 +133,7 @@ static void judge_update(void) {
     struct sfi_verdict verdict = {0};
     uint32_t status, number = update.slot;
     update.slot = NO_SLOT;
-    enum update outcome = update_slot(number, update.length, &status, &verdict);
+    enum update outcome = update_slot(number, update.length, update.moves, &status, &verdict);
     if (outcome == STARTED)
         return print_slot(number, "started");
     item("slot=", number);
@@ -198,6 +206,8 @@ static void obey(void) {
     at = line;
     if (takes("update"))
         begin_update();
+    else if (takes("add"))
+        await_update(free_slot(), true);
     else if (takes("piece"))
         take_piece();
     else if (takes("start"))

@@ -9,6 +9,7 @@ struct slot slots[SLOTS];
 
 _Static_assert(SLOTS <= SANDBOXES_MOST, "chip.h");
 _Static_assert(CHECKER_RAM >= HOST_RAM, "chip.h: the checker's memory is where sandboxes' data are");
+_Static_assert(FLASH_CODE % SLOT_CODE == 0 && FLASH_ARGUMENTS - FLASH_CODE >= 2 * (SLOTS + 1) * SLOT_CODE, "chip.h");
 _Static_assert(FLASH_IMAGE + SLOTS * VERSIONS * IMAGE_MOST <= FLASH_INPUT, "chip.h");
 
 /* ---- The watchdog: a vendor stores to it here. QEMU's chips have none: how long it wasn't fed is counted */
@@ -33,6 +34,11 @@ void feed_watchdog(void) {
 
 static uint32_t data_at(uint32_t number) {
     return CHIP_RAM + number * (SLOT_DATA + 2 * GUARD_ZONE);
+}
+
+/* Of a plug-in that is moved. The first of these places are left to images that name theirs themselves. */
+static uint32_t code_at(uint32_t number) {
+    return FLASH_CODE + (FLASH_ARGUMENTS - FLASH_CODE) / SLOT_CODE / 2 * SLOT_CODE + number * SLOT_CODE;
 }
 
 static uint8_t *bytes_of(uint32_t number, uint32_t version) {
@@ -152,7 +158,20 @@ void between_pieces(void) {
     run_slots();
 }
 
-enum update update_slot(uint32_t number, uint32_t length, uint32_t *status, struct sfi_verdict *verdict) {
+uint32_t free_slot(void) {
+    uint32_t number = 0;
+    while (number < SLOTS && slots[number].versions[slots[number].current].number != 0)
+        number++;
+    return number;
+}
+
+/* The code stays as it was judged, so the moved image is accepted, too. */
+static bool move_to_slot(uint32_t number, uint32_t length, struct part *part) {
+    uint8_t *image = update_memory(number);
+    return move_sandbox(image, length, 0, code_at(number), data_at(number)) && tell_part(image, length, 0, part);
+}
+
+enum update update_slot(uint32_t number, uint32_t length, bool moves, uint32_t *status, struct sfi_verdict *verdict) {
     struct slot *slot = &slots[number];
     const uint8_t *image = update_memory(number);
     struct version *next = &slot->versions[next_of(slot)];
@@ -162,7 +181,7 @@ enum update update_slot(uint32_t number, uint32_t length, uint32_t *status, stru
         return NOT_ACCEPTED;
     if (!tell_part(image, length, 0, &next->part) || tell_part(image, length, 1, &further))
         return NOT_ONE_PLUGIN;
-    if (!is_its_place(number, &next->part))
+    if ((moves && !move_to_slot(number, length, &next->part)) || !is_its_place(number, &next->part))
         return NOT_ITS_PLACE;
     if (!is_apart(number, &next->part))
         return NOT_APART;

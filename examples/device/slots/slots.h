@@ -9,6 +9,7 @@ enum {
     VERSIONS = 2,               /* that a slot keeps: the one in its place, and the one before it or to come */
     IMAGE_MOST = 1 << 17,       /* bytes of an image */
     SLOT_DATA = 4096,           /* bytes of a plug-in's data region */
+    SLOT_CODE = 1 << 16,        /* at most, of the code of one that is moved to its slot */
     TRIAL_TURNS = 50,           /* in which a new version has to report */
     PLACED_AT_ONCE = 4096       /* bytes of code that are copied before the neighbours have a turn */
 };
@@ -41,7 +42,9 @@ void start_slots(void);         /* closes the guard zones of all of them */
 void run_slots(void);           /* one turn for each plug-in that is ready */
 uint8_t *update_memory(uint32_t number);                /* IMAGE_MOST bytes, for the slot's next update */
 void drop_next(uint32_t number);                        /* before these are written */
-enum update update_slot(uint32_t number, uint32_t length, uint32_t *status, struct sfi_verdict *verdict);
+uint32_t free_slot(void);                               /* the first that has no version; SLOTS where each has one */
+/* `moves`: the image is for any place, and is moved to the slot's before it is started */
+enum update update_slot(uint32_t number, uint32_t length, bool moves, uint32_t *status, struct sfi_verdict *verdict);
 bool start_slot(uint32_t number);                       /* the current version from its start, with new data */
 bool kill_slot(uint32_t number);                        /* false where it isn't ready */
 void feed_watchdog(void);

@@ -10,7 +10,7 @@ import unittest
 sys.dont_write_bytecode = True
 sys.path.insert(0, os.path.dirname(os.path.abspath(__file__)))
 import device
-from device import FORMATS, HERE, SLOTS, Device, image_of, names_of, place_of, verdict_of
+from device import FORMATS, HERE, SLOTS, Device, image_of, names_of, place_of, program_of, verdict_of
 
 
 def text_of(name):
@@ -32,6 +32,12 @@ class OnDevice(unittest.TestCase):
         why = device.missing()
         if why:
             self.skipTest(why)
+        self.device = Device(os.path.join(ROOM.name, self.chip), self.chip)
+        self.addCleanup(self.device.close)
+
+    def restart(self):
+        """Has the chip begin anew."""
+        self.device.close()
         self.device = Device(os.path.join(ROOM.name, self.chip), self.chip)
         self.addCleanup(self.device.close)
 
@@ -121,6 +127,32 @@ class Slots(OnDevice):
         text = ".sandbox 2048\n ebreak\n"
         self.assertEqual(self.device.update(1, image_of(text, "1", (code, data))), "slot=1 stays: not the slot's place")
 
+    def test_one_image_in_several_slots(self):
+        """It was linked for another place, and has addresses in its data."""
+        for image_format in FORMATS:
+            with self.subTest(image_format=image_format):
+                image = program_of("anywhere.c", image_format, "--movable")
+                for slot in (0, 1):
+                    self.assertRegex(self.device.add(image), f"^slot={slot} started: version=1 on trial ready put=0$")
+                for slot in (0, 1):
+                    self.assertRegex(self.settled(slot), f"^slot={slot} is: version=1 ready put=6 6f6e6574776f$")
+                self.restart()
+
+    def test_image_that_is_for_one_place(self):
+        """Moved, it is as safe as it was, and names what it doesn't have. There are no more slots than these."""
+        image = program_of("anywhere.c", "2")
+        for slot in range(SLOTS):
+            self.assertRegex(self.device.add(image), f"^slot={slot} started: version=1 on trial ready put=0$")
+        for slot in range(SLOTS):
+            self.assertRegex(self.settled(slot), f"^slot={slot} is: version=1 ready put=0$")
+        self.assertEqual(self.device.add(image), "no")
+
+    def settled(self, slot):
+        """The slot's line once it isn't on trial, and has had some turns more."""
+        while " on trial" in self.device.ask("show", slot):
+            pass
+        return [self.device.ask("show", slot) for _ in range(8)][-1]
+
     def test_watchdog(self):
         """It is fed after each 4096 bytes that are judged or placed, and the neighbour runs meanwhile."""
         text = ".sandbox 4096\n" + " addi sp, sp, 16\n" * 0x400
@@ -139,7 +171,7 @@ class Slots(OnDevice):
 
 class OnSifive(Slots):
     chip = "sifive_u"
-    test_older_version = test_updates_on_trial = test_places = test_watchdog = None
+    test_older_version = test_updates_on_trial = test_places = test_watchdog = test_image_that_is_for_one_place = None
 
 
 class OnSpike(OnDevice):
