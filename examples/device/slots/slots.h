@@ -4,6 +4,10 @@
 
 #include "../host.h"
 
+#ifdef NO_PMP
+#error "an update may be code in words, which guard zones that trap have to hold"
+#endif
+
 enum {
     SLOTS = 4,
     VERSIONS = 2,               /* that a slot keeps: the one in its place, and the one before it or to come */
