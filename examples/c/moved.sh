@@ -63,6 +63,15 @@ try_addresses() { # format, compiler; options of sfi-cc
         move "$image" "$place" "$image.moved"
         report "addresses, format $format, at $place $*" "$(run_of "$image.built" "")" "$(run_of "$image.moved" "")"
     done
+    "$tools/sfi-cc" --program "$sfi" --movable --format "$format" "$@" -o "$image" elf/labels.c
+    move "$image" "$place" "$image.moved"
+    report "data of addresses alone, format $format $*" "exit=4 out=" "$(run_of "$image.moved" "")"
+}
+
+# Those that it puts at the place where it was linked.
+try_putting() { # format
+    local image="$room/addresses"
+    "$tools/sfi-cc" --program "$sfi" --movable --format "$1" -O2 -o "$image" elf/addresses.c elf/elsewhere.c
     report "addresses, format $format: put" 1 "$(run_of "$image" "" | grep -c "^exit=0 out=[0-9a-f]\{4992\}$")"
 }
 
@@ -91,6 +100,7 @@ for format in $formats; do
 done | xargs -P 2 -I WORDS bash -c WORDS 2>"$room/messages"
 for format in $formats; do
     for program in $wanted_programs; do try_program "$program" "$format"; done
+    try_putting "$format"
     try_addresses "$format" -O2
     try_addresses "$format" -O1 -msmall-data-limit=0 --passes=
 done

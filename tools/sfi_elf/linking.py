@@ -63,22 +63,31 @@ def ran_linker(words, libraries):
 
 
 def linked(options, objects, folder):
-    """The program that objects and archives make. One that can be moved is linked a second time: with room for the list of
-    the addresses in its data, or, if there are none, without what sets them right."""
+    """The program that objects and archives make. One that can be moved is linked a second time: with the list of the
+    addresses in its data, or, if there are none, without what sets them right."""
     fresh, libraries, first, last = words_of(options, objects, folder)
     name = os.path.basename(options.output) if options.output else "the program"
 
-    def program(*numbers):
-        ran_linker([*first, *numbers, *last], libraries)
+    def program(*words):
+        ran_linker([*first, *words, *last], libraries)
         return Elf(fresh, name)
 
     if not options.target.is_movable:
         return program()
-    size = moving.room_for(program(*moving.KEEPING, *moving.settling(0)))
-    content = moving.made_movable(program(*moving.KEEPING, *(moving.settling(size) if size else [])))
+    content = moving.made_movable(program(*moving.KEEPING, *settling_of(program(*moving.KEEPING, *moving.SETTLING), folder)))
     with open(fresh, "wb") as file:
         file.write(content)
     return Elf(fresh, name)
+
+
+def settling_of(program, folder):
+    """What a program that was linked is linked with the second time."""
+    made = moving.list_of(program)
+    if made is None:
+        return []
+    output = os.path.join(folder, "places.o")
+    assembled(made.encode(), output)
+    return [*moving.SETTLING, output]
 
 
 def words_of(options, objects, folder):

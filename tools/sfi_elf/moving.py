@@ -1,14 +1,15 @@
 """Makes a linked program one that can be moved: its code has each address relative to the base of a region, and a list of
-the addresses in its data is where the linker script has room for it, by which the program sets them right when it begins
+the addresses in its data is linked with it, by which the program sets them right when it begins
 (asm2elf/lib/settle.c). The linker's relocations say where they are."""
 import struct
 from dataclasses import dataclass
 
 from elf import Wrong
 
-MOVABLE, ROOM = "__sfi_movable", "__sfi_places_size"  # what the linker script sees, and an image's tools
+MOVABLE = "__sfi_movable"  # a symbol that the linker script sees, and an image's tools
 START = "_sfi_start_movable"  # in asm2elf/lib/movable.s
 KEEPING = ["--emit-relocs", f"--defsym={MOVABLE}=1"]  # the linker's options
+SETTLING = ["-e", START]  # those of a program that has addresses in its data
 OWN = 2  # addresses in the data of what sets the others right
 RELOCATIONS, ALLOCATED, EXECUTABLE = 4, 2, 4  # a section's kind, and its flags
 ADDRESS, UPPER = 1, 26  # R_RISCV_32, R_RISCV_HI20
@@ -112,13 +113,10 @@ class Moving:
         for relocation in self.relocations:
             if relocation.kind == UPPER:
                 self.make_relative(relocation)
-        places = self.encoded()
         first, end = self.elf.symbol("__sfi_places"), self.elf.symbol("__sfi_places_end")
-        if len(places) != end - first:
-            raise Wrong(f"{self.elf.name}: {end - first} bytes for the list of addresses, and {len(places)} are wanted")
-        if places:
-            at = self.offset(first)
-            self.content[at:at + len(places)] = places
+        at = self.offset(first) if first < end else 0
+        if self.content[at:at + end - first] != self.encoded():
+            raise Wrong(f"{self.elf.name}: the list of the addresses in its data isn't that of the first link")
         return bytes(self.content)
 
 
@@ -134,15 +132,12 @@ def is_movable(elf):
     return MOVABLE in elf.symbols
 
 
-def settling(size):
-    """The linker's options for a program with a list of so many bytes."""
-    return [f"--defsym={ROOM}={size}", "-e", START]
-
-
-def room_for(elf):
-    """How many bytes the list takes, which the next link leaves room for; none where it has no address but its own."""
+def list_of(elf):
+    """The list as GNU assembly, for the next link; nothing where the program has no addresses but those two."""
     moving = Moving(elf)
-    return len(moving.encoded()) if len(moving.addresses()) > OWN else 0
+    if len(moving.addresses()) == OWN:
+        return None
+    return '\t.section .sfi.places,"a",@progbits\n' + "".join(f"\t.byte {number}\n" for number in moving.encoded())
 
 
 def made_movable(elf):

@@ -52,8 +52,8 @@ SECTIONS {
         __fini_array_start = .; KEEP(*(SORT_BY_INIT_PRIORITY(.fini_array.*))) KEEP(*(.fini_array)) __fini_array_end = .;
         *(.data .data.*)
         /* Of a program that can be moved, where the addresses in the data are: tools/sfi_elf/moving.py writes it. */
-        . = DEFINED(__sfi_places_size) ? ALIGN(4) : .;
-        __sfi_places = .; . += DEFINED(__sfi_places_size) ? __sfi_places_size : 0; __sfi_places_end = .;
+        . = DEFINED(__sfi_movable) ? ALIGN(4) : .;
+        __sfi_places = .; KEEP(*(.sfi.places)) __sfi_places_end = .;
         /* The table of names, whose last 16 bytes tools/sfi_elf/image.py writes. */
         __sfi_exports = .; KEEP(*(.sfi.exports)) __sfi_imports = .; KEEP(*(.sfi.imports)) __sfi_names = .;
         . += __sfi_names > __sfi_exports ? 16 : 0;
