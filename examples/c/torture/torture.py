@@ -51,6 +51,7 @@ HEAP = 300000
 MEMORY, SECONDS = 3 << 30, 300  # what a conversion may take
 NATIVE_SECONDS = 30
 RUN = ["run", "--rounds", "1000", "--quantum", "1000000"]
+ELSEWHERE = "05000000:09000000"  # a place for what can be moved
 MACHINE = ["-march=rv32imc", "-mabi=ilp32"]
 QUIET = ["-w", "-Wno-everything"]
 DIRECTIVE = re.compile(r'dg-(?:options|additional-options)\s+"([^"]*)"\s*(\{\s*target)?')
@@ -70,13 +71,14 @@ class Case:
 
 @dataclass(frozen=True)
 class Room:
-    """What all cases share: the tests' folder, a folder for what is made, the program, the libraries by compiler, and
-    the options of a hosted C."""
+    """What all cases share: the tests' folder, a folder for what is made, the program, the libraries by compiler, the options
+    of a hosted C, and whether each program is moved."""
     tests: str
     folder: str
     program: str
     libraries: dict
     hosted: tuple
+    is_moved: bool
 
     def source(self, case):
         return os.path.join(self.tests, f"{case.name}.c")
@@ -114,7 +116,7 @@ def linked(room, case, program):
     library = room.libraries[case.compiler]
     given = [*QUIET[:1 + (case.compiler == "clang")], *room.hosted, *room.options(case)]
     words = [f"{TOOLS}/sfi-cc", "--cc", COMPILERS[case.compiler], "--format", case.image_format, "--library", library, "--heap",
-             str(HEAP), *given, "-o", program, room.source(case)]
+             str(HEAP), *given, *["--movable"] * room.is_moved, "-o", program, room.source(case)]
     for stack in STACKS:
         try:
             done = subprocess.run([*words, "--stack", str(stack)], capture_output=True, check=False, timeout=SECONDS,
@@ -134,7 +136,7 @@ def sandboxed(room, case, place):
     if why:
         return f"refused: {why}"
     try:
-        image, _ = ran([f"{TOOLS}/sfi-image", program])
+        image, _ = ran([f"{TOOLS}/sfi-image", *["--at", ELSEWHERE] * room.is_moved, program])
         ran([room.program, "check"], image)
         line = ran([room.program, *RUN], image)[0].decode()
     except Failed as failed:
@@ -197,7 +199,7 @@ def room_of(options, folder):
     for name in options.compiler:
         compiler = COMPILERS[name]
         libraries[name] = options.library or small_library(compiler)
-    return Room(tests, folder, os.path.abspath(options.program), libraries, tuple(hosted(options.library)))
+    return Room(tests, folder, os.path.abspath(options.program), libraries, tuple(hosted(options.library)), options.moved)
 
 
 def hosted(library):
@@ -228,6 +230,7 @@ def parsed(words):
     parser.add_argument("--level", action="append", choices=LEVELS, help="such as --level=-O2; all if absent")
     parser.add_argument("--format", action="append", choices=FORMATS, help="all if absent")
     parser.add_argument("--library", metavar="NAME", help="sfi-cc's library of this name in place of the small one")
+    parser.add_argument("--moved", action="store_true", help="each at another place than that where it was linked, by --movable")
     parser.add_argument("--jobs", type=int, default=2, help="how many run side by side; 2 if absent")
     parser.add_argument("--program", default=os.path.join(TOP, "sfi"), help="the program sfi; ./sfi at the top if absent")
     options = parser.parse_args(words)
