@@ -123,17 +123,7 @@ static void begin(sfi_u32 number) {
     if (c->hart.data == NULL || c->output == NULL)
         exit(4);
     memcpy(c->hart.data, s->first_data, s->init);
-    sfi_u32 *const x = c->hart.x;
-    c->hart.pc = s->start;
-    x[2] = s->data + s->data_size - 16;
-    x[24] = s->code;
-    x[25] = s->code_size - s->unit;
-    x[26] = s->data;
-    x[27] = s->data_size - 1;
-    if (s->unit == 4) {
-        x[3] = x[4] = x[29] = s->data;
-        x[30] = s->start;
-    }
+    sfi_begin(s, &c->hart, s->start);
 }
 
 static void usage(void) {

@@ -9,20 +9,10 @@ static sfi_u32 at;
 /* Begins as `sfi run` does, and takes so many steps at most: how the turn ended. */
 __attribute__((export_name("turn"))) int turn(sfi_u32 steps) {
     const struct sfi_sandbox *s = &sfi_sandboxes[0];
-    sfi_u32 *const x = hart.x;
     memcpy(data, s->first_data, s->init);
     hart.data = data;
-    hart.pc = s->start;
     hart.left = steps;
-    x[2] = s->data + s->data_size - 16;
-    x[24] = s->code;
-    x[25] = s->code_size - s->unit;
-    x[26] = s->data;
-    x[27] = s->data_size - 1;
-    if (s->unit == 4) {
-        x[3] = x[4] = x[29] = s->data;
-        x[30] = s->start;
-    }
+    sfi_begin(s, &hart, s->start);
     return sfi_turn(s, &hart, &at);
 }
 

@@ -91,6 +91,15 @@ struct sfi_sandbox {
     const struct sfi_row *(*rows)(void);
     sfi_function *const *functions;
 };
+static inline void sfi_begin(const struct sfi_sandbox *s, struct sfi_hart *h, sfi_u32 pc) {
+    const struct sfi_hart first = { { [2] = s->data + s->data_size - 16, [24] = s->code, [25] = s->code_size - s->unit,
+        [26] = s->data, [27] = s->data_size - 1 }, pc, h->left, h->data };
+    *h = first;
+    if (s->unit == 4) {
+        h->x[3] = h->x[4] = h->x[29] = s->data;
+        h->x[30] = pc;
+    }
+}
 enum { SFI_NEXT, SFI_CALL, SFI_LOAD, SFI_STORE, SFI_BREAK, SFI_FETCH };
 enum { SFI_PART = 16384 };
 enum { SFI_HEAD = 128 };
@@ -410,17 +419,7 @@ static void begin(sfi_u32 number) {
     if (c->hart.data == NULL || c->output == NULL)
         exit(4);
     memcpy(c->hart.data, s->first_data, s->init);
-    sfi_u32 *const x = c->hart.x;
-    c->hart.pc = s->start;
-    x[2] = s->data + s->data_size - 16;
-    x[24] = s->code;
-    x[25] = s->code_size - s->unit;
-    x[26] = s->data;
-    x[27] = s->data_size - 1;
-    if (s->unit == 4) {
-        x[3] = x[4] = x[29] = s->data;
-        x[30] = s->start;
-    }
+    sfi_begin(s, &c->hart, s->start);
 }
 static void usage(void) {
     fprintf(stderr, "options: --rounds N (1 to 10000), --quantum Q (1 to 1000000), --input HEX\n");

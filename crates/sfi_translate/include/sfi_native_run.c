@@ -88,19 +88,7 @@ static bool is_at_call(const struct native_sandbox *it) {
 
 /* Makes it ready at pc, as at its start. */
 static void begin(struct native_sandbox *it, uint32_t pc) {
-    const struct sfi_sandbox *s = it->text;
-    uint32_t *const x = it->hart.x;
-    memset(x, 0, sizeof it->hart.x);
-    x[2] = s->data + s->data_size - 16;
-    x[24] = s->code;
-    x[25] = s->code_size - s->unit;
-    x[26] = s->data;
-    x[27] = s->data_size - 1;
-    if (has_words()) {
-        x[3] = x[4] = x[29] = s->data;
-        x[30] = pc;
-    }
-    it->hart.pc = pc;
+    sfi_begin(it->text, &it->hart, pc);
     it->kind = SFI_RUN_READY;
 }
 
