@@ -101,12 +101,13 @@ class Steps(Calls):
         self.assertEqual(self.call("-c", "-o", self.path("y.o"), file, file)[2][-1], "sfi-cc: error: -c with -o takes one source")
         self.assertEqual(self.call("-c", self.path("absent.s")), (1, "", [f"sfi-cc: {self.path('absent.s')} can't be read"]))
 
-    @needs(GCC)
+    @needs(GCC, "clang", "llc")
     def test_headers_of_cpp(self):
         """Those of the compiler alone, without a C library."""
         names = ("stdint", "stddef", "stdarg", "limits", "float", "stdbool")
         text = "".join(f"#include <{name}.h>\n" for name in names) + "uint64_t most = UINT32_MAX;\n"
-        self.assertEqual(self.call("-c", "-o", self.path("x.o"), self.write("x.cc", text)), (0, "", []))
+        for compiler in (GCC, "clang"):
+            self.assertEqual(self.call("--cc", compiler, "-c", "-o", self.path("x.o"), self.write("x.cc", text)), (0, "", []))
 
     def test_hosted(self):
         """gcc warns of -fhosted where a file is of C++."""

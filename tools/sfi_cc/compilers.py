@@ -16,7 +16,7 @@ COMMON = ["-march=rv32imc", "-mabi=ilp32", "-fno-builtin", "-ffunction-sections"
 OF_GCC = ["-Werror=trampolines", f"--param=case-values-threshold={CASES}"]
 PLUS_PLUS = ["-fno-exceptions", "-fno-rtti", "-fno-threadsafe-statics"]
 HOSTED = "-fhosted"  # what undoes -ffreestanding, which C++ isn't compiled with
-PLUS_PLUS_HEADERS = ["-idirafter", os.path.join(TOOLS, "sfi_cc", "plus_plus")]  # what C++ has where there is no C library
+GCC_HEADERS = ["-idirafter", os.path.join(TOOLS, "sfi_cc", "plus_plus")]  # what C++ by gcc has where there is no C library
 LAST = ["-fno-lto"]  # what outweighs the options that are given
 TARGET = ["--target=riscv32-unknown-elf", "-fno-jump-tables"]  # llc makes tables of any five cases, or none
 LLC = ["-march=riscv32", "-target-abi=ilp32", "--function-sections", "--data-sections"]
@@ -83,7 +83,7 @@ def level(given):
 
 def language(file):
     """The options for C or C++. Without a hosted C++ a `main` is a name like any other."""
-    return [*PLUS_PLUS, *PLUS_PLUS_HEADERS] if file.endswith(PLUS_PLUS_SOURCES) else ["-ffreestanding"]
+    return PLUS_PLUS if file.endswith(PLUS_PLUS_SOURCES) else ["-ffreestanding"]
 
 
 def for_language(file, given):
@@ -110,7 +110,7 @@ def reserved(image_format):
 
 
 def by_gcc(compiler, given, file, assembly, registers):
-    fixed = [*OF_GCC, *(f"-ffixed-x{number}" for number in registers)]
+    fixed = [*OF_GCC, *GCC_HEADERS, *(f"-ffixed-x{number}" for number in registers)]
     return ran([compiler, "-S", "-O2", *COMMON, *fixed, *language(file), *for_language(file, given), *LAST, *HEADERS,
                 "-o", assembly, file])[1]
 
