@@ -1,5 +1,5 @@
 #!/usr/bin/env python3
-"""Makes docs/DEFINITIONS.md, the list of must-fail edits in docs/PROOFS.md and the counts of lines in documents, and compares
+"""Makes docs/DEFINITIONS.md, the number of must-fail edits in docs/PROOFS.md and those of lines in documents, and compares
 them with the files.
 
     tools/definitions.py             # compares, and prints a line for each difference and last `N passed, M failed`
@@ -7,8 +7,8 @@ them with the files.
     tools/definitions.py CRATE ..    # prints each word of these crates: its line, its comment, and one that cites it
 
 A word is a definition in a crate's specs/, but for specs/private, which private contracts alone cite, and specs/mirror. The
-page names it where a public contract cites it (that of a `pub fn`, of a `pub trait`, or an impl's ghost items) or a law in
-proofs/Facts, and has the files of the words by which these are defined. tools/sources.txt has the public source of a file.
+page has the files of the words that a public contract cites (that of a `pub fn`, of a `pub trait`, or an impl's ghost items),
+or a law in proofs/Facts, and of those by which these are defined. tools/sources.txt has the public source of a file.
 
 It also compares: that no definition outside specs/private imports a word from there, that each contract in
 docs/PROOFS.md is one of its crate, and in documents each `PATH` (N), PATH being a file below crates/ of N lines (a name
@@ -29,17 +29,15 @@ DECLARED = re.compile(r"(?:(?:abbrev|unfoldable|pub) )+(record |data )?(\S+)|(re
 NOT_LISTED = ("private", "mirror", "declared")
 HEAD = """# Definitions
 
-A contract is as good as the definitions that it cites. Here are their files in `crates/CRATE/specs`, with the
-words that a public contract cites, and the public source. A file without words has only such as these are made
-of. The first line of a file says what it defines, and the comment above each word what that says:
-`tools/definitions.py CRATE ..` prints each word with its comment and one that cites it. The laws of a crate are
-in [PROOFS.md](PROOFS.md). Words that private contracts alone cite are in `specs/private`; `specs/mirror` of
-`rv_comp` repeats the code. `tools/definitions.py --write` makes this page.
+A contract is as good as the definitions that it cites. Here are their files in `crates/CRATE/specs`, lowest crate first,
+with the public source; a file without one is this project's own. The first line of a file says what it defines, and the
+comment above each word what that says. `tools/definitions.py CRATE ..` prints the words on which public contracts rest, each
+with its comment and one that cites it. The laws of a crate are in [PROOFS.md](PROOFS.md). Words that private contracts alone
+cite are in `specs/private`; `specs/mirror` of `rv_comp` repeats the code. `tools/definitions.py --write` makes this page.
 
-A file without a source is this project's own. **ISA** is the RISC-V Instruction Set Manual, Volume I:
-Unprivileged ISA, and **psABI** the RISC-V ABIs Specification. **Wahbe** is Wahbe, Lucco, Anderson and Graham,
-"Efficient Software-Based Fault Isolation", SOSP 1993. **Yee** is Yee and others, "Native Client: A Sandbox
-for Portable, Untrusted x86 Native Code", IEEE S&P 2009.
+**ISA** is the RISC-V Instruction Set Manual, Volume I: Unprivileged ISA, and **psABI** the RISC-V ABIs Specification.
+**Wahbe** is Wahbe, Lucco, Anderson and Graham, "Efficient Software-Based Fault Isolation", SOSP 1993. **Yee** is Yee and
+others, "Native Client: A Sandbox for Portable, Untrusted x86 Native Code", IEEE S&P 2009.
 """
 
 
@@ -224,22 +222,20 @@ def sources(text):
     return {tuple(file.split()): source for file, _, source in lines}
 
 
-def line_of_file(file, keys, source):
-    """The page's line for a file: its words, and its source."""
+def line_of_file(file, source):
+    """The page's line for a file: its link, and its source."""
     link = f"[{file[1].replace('.', '/')}](../{path_of(*file).relative_to(TOP)})"
-    words = ": " + ", ".join(f"`{name}`" for _, _, name in keys) if keys else ""
-    return f"- {link}{words}{' — ' + source if source else ''}"
+    return f"{link} ({source})" if source else link
 
 
 def page(words, source_of):
     """The text of docs/DEFINITIONS.md."""
-    needed, direct = sorted(wanted(words), key=lambda key: (key[:2], words[key].line)), cited(words)
+    needed = sorted(wanted(words), key=lambda key: (key[:2], words[key].line))
     text = [HEAD]
     for crate in crate_names():
         files = list(dict.fromkeys(key[:2] for key in needed if key[0] == crate and key[1] != "Laws"))
-        named = {file: [key for key in needed if key[:2] == file and key in direct] for file in files}
-        lines = [line_of_file(file, keys, source_of.get(file)) for file, keys in named.items()]
-        text += [f"\n## {crate}\n\n" + "\n".join(lines) + "\n"] if files else []
+        lines = [line_of_file(file, source_of.get(file)) for file in files]
+        text += [f"\n**{crate}**:\n" + ",\n".join(lines) + ".\n"] if files else []
     return "".join(text)
 
 
@@ -263,10 +259,8 @@ def told(words, crate):
 # ---- docs/PROOFS.md
 
 def with_edits(text):
-    """The text with a line of must-fail edits for each crate that has some, in the place of its list after `refuses it:`"""
-    edits = {crate: sorted(path.stem for path in (CRATES / crate).glob("must-fail/*.edit")) for crate in crate_names()}
-    lines = [f"- `{crate}`: {', '.join(f'`{name}`' for name in names)}\n" for crate, names in edits.items() if names]
-    return re.sub(r"(?<=refuses it:\n\n)(- .*\n)+", "".join(lines), text)
+    """The text with the number of all must-fail edits before `edits in all`."""
+    return re.sub(r"\d+(?= edits in all)", str(len(list(CRATES.glob("*/must-fail/*.edit")))), text)
 
 
 def contract_names(crate):
@@ -277,13 +271,14 @@ def contract_names(crate):
 
 
 def contracts(text):
-    """The contracts in the last brackets of the items of a text: of each its crate and its name."""
+    """The contracts in the last brackets of the items of a text: of each its crate and its name. `[only_]x` names x and only_x."""
     found = []
     for section in text.split("\n## ")[1:]:
         crate = section.split(":")[0]
         for item in re.findall(r"^- .*(?:\n  .*)*", section, flags=re.M) if (CRATES / crate).is_dir() else []:
             named = re.search(r"\(([^()]*)\)\.$", item)
-            found += [(crate, part) for name in re.findall(r"`([\w:]+)`", named[1] if named else "") for part in name.split("::")]
+            names = re.sub(r"`\[only_\](\w+)`", r"`\1`, `only_\1`", named[1] if named else "")
+            found += [(crate, part) for name in re.findall(r"`([\w:]+)`", names) for part in name.split("::")]
     return found
 
 
@@ -362,7 +357,7 @@ ITEMS = """a page
 
 - what is so (or not)
   (`laws::f`: `only`).
-- what else
+- what else (`g`: `[only_]x`).
 """
 
 
@@ -380,7 +375,7 @@ def checked_itself():
         "sources": sources("# note\na B: C: d\n") == {("a", "B"): "C: d"},
         "laws": laws("use Rattle.c.specs.Laws.{One, Two as Both}\npub one : One\none = it\npub both : (n : ℕ) → Both n\n")
                 == {"one": {("c", "Laws", "One")}, "both": {("c", "Laws", "Two")}},
-        "contracts": contracts(ITEMS) == [("rv_word", "laws"), ("rv_word", "f"), ("rv_word", "only")],
+        "contracts": contracts(ITEMS) == [("rv_word", name) for name in ("laws", "f", "only", "g", "x", "only_x")],
         "private": len(imports_of_private("crates/c/specs/A.antt", private)) == 2
                    and not imports_of_private("crates/c/specs/private/A.antt", private),
         "lines": with_counts("`a/specs/X.antt` (3), `Z` and (5)") == "`a/specs/X.antt` (no file), `Z` and (5)",

@@ -23,6 +23,7 @@ class Option:
     value: str
     is_repeated: bool
     about: str
+    is_word: bool = False  # a text that has to be given, without the option's name
 
 
 @dataclass(frozen=True)
@@ -43,14 +44,16 @@ def texts(code):
 
 def option_of(block, said):
     name, about = re.search(r'name: "(\w+)"', block)[1], re.search(r"about: help::(\w+)", block)[1]
-    value = re.search(r'Takes::(Texts?|Count)\b[^"]*"([^"]*)"', block)
-    return Option(name, value[2] if value else "", bool(value) and value[1] == "Texts", said[about])
+    value = re.search(r'Takes::(Texts?|Count|Number|Word)\b[^"]*"([^"]*)"', block)
+    kind = value[1] if value else ""
+    return Option(name, value[2] if value else "", kind == "Texts", said[about], kind == "Word")
 
 
 def commands(code, said):
     """The rows of commands.rt."""
     named = {name: option_of(block, said) for name, block in re.findall(r"const (\w+): OptionRow = OptionRow \{(.*?)\n\};", code, re.DOTALL)}
     rows = code.partition("const COMMANDS")[2].partition("\n];")[0].split("CommandRow {")[1:]
+    rows += re.findall(r"const \w+: CommandRow = CommandRow \{(.*?)\n\};", code, re.DOTALL)
     return [command_of(re.sub(r"//.*", "", row), named, said) for row in rows]
 
 
@@ -70,6 +73,8 @@ def all_commands():
 # ---- README.md
 
 def spelled(option):
+    if option.is_word:
+        return option.value
     words = f"--{option.name}" + (f" {option.value}" if option.value else "")
     return f"[{words}]" + (".." if option.is_repeated else "")
 
@@ -78,8 +83,7 @@ def table(found):
     rows = ["| command | what it does |", "|---|---|"]
     for it in found:
         line = " ".join(["sfi", it.name, *map(spelled, it.options)])
-        options = "".join(f"; `--{option.name}`: {option.about[0].lower()}{option.about[1:]}" for option in it.options)
-        rows.append(f"| `{line}` | {it.about}{options} |")
+        rows.append(f"| `{line}` | {it.about} |")
     return "\n".join(rows) + "\n"
 
 
@@ -105,6 +109,8 @@ def roff(text):
 
 
 def signature(option):
+    if option.is_word:
+        return f".I {option.value}"
     if not option.value:
         return f".RB [ \\-\\-{option.name} ]"
     return f".RB [ \\-\\-{option.name}\n.IR {option.value} ]" + ".\\|." * option.is_repeated
@@ -129,6 +135,7 @@ def options(found):
     for it in found:
         for option in it.options:
             name = f'.BI \\-\\-{option.name} " {option.value}"' if option.value else f".B \\-\\-{option.name}"
+            name = f".I {option.value}" if option.is_word else name
             lines.append(f".TP\n{name}\n.RB ( {it.name} )\n{escaped(option.about)}.\n")
     return "".join(lines) + (".TP\n.BR \\-h \", \" \\-\\-help\nPrint what\n.B sfi help\nprints of the command.\n"
                              ".TP\n.BR \\-V \", \" \\-\\-version\nPrint the name and the version of the program.\n")

@@ -42,7 +42,7 @@ class Documents(unittest.TestCase):
         self.assertLessEqual({"check", "build", "map", "dis", "run", "convert"}, {it.name for it in documents.all_commands()})
 
     def test_a_table(self):
-        wanted = '| `sfi walk [--at PLACE].. [--fast]` | Walks "far"; `--at`: runs; `--fast`: runs |\n'
+        wanted = '| `sfi walk [--at PLACE].. [--fast]` | Walks "far" |\n'
         self.assertTrue(documents.with_table("| command | x |\n|--|--|\n| old | row |\n\nend\n", self.found).endswith(wanted + "\nend\n"))
 
     def test_a_manual(self):

@@ -228,10 +228,12 @@ block() { # a heading, and the words after ``` of a block below it: the first on
 
 documented() {
     local found place=$room/document
+    has riscv64-unknown-elf-gcc || { skip 3 "the hosts of EMBEDDING.md" "gcc for RISC-V isn't there" && return; }
     mkdir -p "$place/src"
-    block "A host from nothing" "" >"$place/plugin.s"
-    "$SFI" build --raw <"$place/plugin.s" >"$place/plugin.image"
-    block "A host from nothing" c >"$place/host.c"
+    block "A host from nothing" c >"$place/plugin.c"
+    succeeds "the plug-in of EMBEDDING.md" env -C "$place" "$top/tools/sfi-cc" --program "$SFI" --export add --import print \
+        plugin.c -o plugin.image
+    block "The host in C" c >"$place/host.c"
     found=$(cd "$place" && gcc "${warnings[@]}" host.c "$room/lib/libsfi_run.a" -o host 2>&1 && ./host)
     report "the host in C of EMBEDDING.md" "hello 42" "$found"
     block "Running from Python" python >"$place/host.py"

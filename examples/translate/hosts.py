@@ -104,18 +104,24 @@ def try_hosts(sfi, library, folder, tally):
             tally.see(f"{name} {source if isinstance(source, str) else 'on.s'} {' '.join(words)[:20]}", wanted, found, image)
 
 
-def block(language):
-    """The first block of that language below a heading of docs/EMBEDDING.md."""
+def block(heading):
+    """The first block of C below a heading of docs/EMBEDDING.md."""
     text = measure.contents(os.path.join(TOP, "docs/EMBEDDING.md")).decode()
-    return text.partition("## A host from nothing\n")[2].partition(f"\n```{language}\n")[2].partition("```\n")[0].encode()
+    return text.partition(f"# {heading}\n")[2].partition("\n```c\n")[2].partition("```\n")[0].encode()
 
 
 def try_documented(sfi, folder, tally):
     """The host and the plug-in of docs/EMBEDDING.md."""
-    image = bytes.fromhex(fuzzing.output([sfi, "build"], block("")))
-    measure.written(os.path.join(folder, "plugin.image"), image)
-    source = measure.written(os.path.join(folder, "host.c"), block("c"))
-    host = built(os.path.join(folder, "host"), source, *translated(sfi, image, folder))
+    if not shutil.which("riscv64-unknown-elf-gcc"):
+        tally.skip(1, "the host of EMBEDDING.md", "gcc for RISC-V isn't there")
+        return
+    source, path = (os.path.join(folder, name) for name in ("plugin.c", "plugin.image"))
+    measure.written(source, block("A host from nothing"))
+    subprocess.run([os.path.join(TOP, "tools/sfi-cc"), "--program", sfi, "--export", "add", "--import", "print", source, "-o", path],
+                   check=True)
+    image = measure.contents(path)
+    host = built(os.path.join(folder, "host"), measure.written(os.path.join(folder, "host.c"), block("The host in C")),
+                 *translated(sfi, image, folder))
     found = subprocess.run([host], cwd=folder, stdout=subprocess.PIPE, check=False).stdout
     tally.see("the host of EMBEDDING.md", b"hello 42\n", found, image)
 
