@@ -151,16 +151,20 @@ pub(crate) const EXEC_BUDGET: &str =
     "Steps that each sandbox may do at most; without it there is no bound to wait for";
 
 pub(crate) const EXEC_NOTES: &str = "\
-Runs the sandboxes of an image file one after another, each to its end. What they
-get is standard input, which a get takes as it comes, and what they put goes to
-standard output, before a get waits and at the end. All else is as in `sfi run`.
+Runs the sandboxes of an image file one after another: each begins when the one
+before has ended, and goes on with the input that is left. A get takes standard
+input as it comes; what is put goes to standard output, before a get waits and at
+the end, and may have any length. Else they run as in `sfi run`. A sandbox that
+waits for a word from a later one waits for ever: give --budget.
 
-Of each sandbox that doesn't exit, standard error has a line of its trap, or of its
-steps that are used up, and then its pc and its registers as with `run --report`:
+Of each sandbox that doesn't exit, standard error has a line, of its trap or of its
+steps that are used up; then come pc and registers of each, as with `run --report`:
   sandbox=S trap=CAUSE at=AAAAAAAA steps=N
+  sandbox=S ready steps=N
 
 Exit status: that of the first sandbox that has one other than 0, or else 0:
-  0 to 255  the low 8 bits of its exit code
+  0 to 255  the low 8 bits of its exit code; where it is one of the following,
+       standard error tells them apart
   124  its steps are used up
   126  it trapped
 Where there is no run, or it can't go on, a line on standard error says why:
