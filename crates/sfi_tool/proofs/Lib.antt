@@ -1,5 +1,8 @@
 pub mod Prelude
 pub mod Told
 pub mod Rounds
+pub mod Streams
+pub mod Budgets
 pub mod Calls
+pub mod Processes
 pub mod Jobs

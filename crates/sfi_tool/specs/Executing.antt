@@ -1,16 +1,140 @@
--- The command `exec`: the status that it ends with, and what it says of sandboxes that have not exited.
-use Rattle.std.specs.Prelude.{◌≡◌, ◌==◌, ◌%◌, ◌^◌, ℕ, zero, suc, if◌then◌else◌, List, [], ◌++◌, length, Option, Some, None, slice_get, codes, decimal}
+-- The command `exec`: the sandboxes of an image run one after another, each to its end, and their put
+-- and get are those of a process.
+use Rattle.std.specs.Prelude.{◌≡◌, ◌≤◌, ◌==◌, ◌+◌, ◌%◌, ◌^◌, ℕ, zero, suc, min, if◌then◌else◌, List, [], ◌∷◌, ◌++◌, length, take, drop, map, Option, Some, None, slice_get, codes, decimal}
+use Rattle.std.specs.List.{range_with_len}
+use Rattle.std.specs.Io.KnownBytes.{Appends}
+use Rattle.rv_mem.specs.Bytes.{with_bytes}
 use Rattle.sfi_image.specs.Spelling.{Part}
 use Rattle.sfi_report.specs.Digits.{line_end}
 use Rattle.sfi_host.specs.declared.status.Status.{Status}
 use Rattle.sfi_host.specs.declared.status.Status.TheVariants.{Ready, Exited, Trapped, Stopped}
+use Rattle.sfi_host.specs.declared.turn.Turn.{Turn}
+use Rattle.sfi_host.specs.Consoles.{ConsoleState, console, failed, handed, new_console, replied}
+use Rattle.sfi_host.specs.Hosts.{Answer, Call, Replied}
+use Rattle.sfi_host.specs.Joint.{Machine, IsMachine}
+use Rattle.sfi_host.specs.Plans.{IsJoint}
+use Rattle.sfi_host.specs.Services.{get_service, put_service}
 use Rattle.sfi_host.specs.Slots.{Slot}
-use Rattle.sfi_tool.specs.Running.{AreTold, status_text}
+use Rattle.sfi_answers.specs.Answers.{GivesImageThat}
+use Rattle.sfi_answers.specs.Checking.{IsAcceptedImage}
+use Rattle.sfi_safety.specs.Clean.{IsAccepted}
+use Rattle.sfi_tool.specs.Running.{AreTold, first_slots, status_text}
+
+-- ---- the host
+
+-- What the host keeps: the input that is left; the cuts, one for each read to come; what was put; and a
+-- console, which answers all but put and get.
+pub record Streams : Type 0 where
+  pub input : List ℕ
+  pub cuts : List ℕ
+  pub output : List ℕ
+  pub console : ConsoleState
+
+-- how many of n bytes the next read gives at most: one more than the first cut says; with none left, all
+-- that is asked for and there
+abbrev pub most_of : ℕ → List ℕ → ℕ
+most_of n [] = n
+most_of n (k ∷ cuts) = min n (suc k)
+
+-- what a get of at most n bytes is given: a piece of the input, which is empty only where n is 0 or
+-- nothing of the input is left
+abbrev pub piece_of : ℕ → Streams → List ℕ
+piece_of n s = take (most_of n s.cuts) s.input
+
+-- what is kept once that was given
+abbrev pub after_piece : ℕ → Streams → Streams
+after_piece n s = record {
+  input = drop (length (piece_of n s)) s.input;
+  cuts = drop 1 s.cuts;
+  output = s.output;
+  console = s.console;
+}
+
+-- get: the next piece of the input is written from a0 on, if the bytes at those a1 addresses could be
+-- handed over
+abbrev pub get_if : Streams → Call → Option (List ℕ) → Answer Streams
+get_if s c None = replied c failed s
+get_if s c (Some old) = let next = piece_of c.a1 s in record {
+  reply = record {
+    way = Replied;
+    a0 = length next;
+    a1 = c.a1;
+    bytes = with_bytes c.bytes (range_with_len c.a0 (length next)) next;
+  };
+  host = after_piece c.a1 s;
+}
+
+-- put: the handed bytes go to the end of the output, which may have any length
+abbrev pub put_if : Streams → Call → Option (List ℕ) → Answer Streams
+put_if s c None = replied c failed s
+put_if s c (Some bytes) = replied c c.a1 (record {
+  input = s.input;
+  cuts = s.cuts;
+  output = s.output ++ bytes;
+  console = s.console;
+})
+
+-- all else: what the console answers
+abbrev pub other : Streams → Call → Answer Streams
+other s c = let a = console s.console c in record {
+  reply = a.reply;
+  host = record { input = s.input; cuts = s.cuts; output = s.output; console = a.host };
+}
+
+-- the host
+abbrev pub streams : Streams → Call → Answer Streams
+streams s c =
+    if c.service == put_service then put_if s c (handed c)
+    else if c.service == get_service then get_if s c (handed c)
+    else other s c
+
+-- before any call: nothing is put, and the console has no input of its own
+abbrev pub first_streams : List ℕ → List ℕ → ℕ → Streams
+first_streams input cuts count =
+    record { input = input; cuts = cuts; output = []; console = new_console count [] }
+
+-- ---- the sandboxes
+
+-- a turn of the sandbox of that number, of at most so many steps
+abbrev pub turn_of : ℕ → ℕ → Turn
+turn_of i n = record { sandbox = i; steps = n }
+
+-- such turns, one after another
+abbrev pub turns_of : ℕ → List ℕ → List Turn
+turns_of i ns = map (turn_of i) ns
+
+-- how many steps of its budget a sandbox took: those that are counted, and the one at which it trapped,
+-- which isn't
+abbrev pub taken_by : Status → ℕ → ℕ
+taken_by Ready steps = steps
+taken_by (Exited n) steps = steps
+taken_by (Trapped cause at) steps = steps + 1
+taken_by Stopped steps = steps
+
+abbrev pub taken : Slot → ℕ
+taken slot = taken_by slot.status slot.steps
+
+-- The sandbox of that number took turns, and no other did; the host answered each call. It took no more
+-- steps than the budget allows, and if it has not stopped, it did all of them.
+pub record IsExecuted (machine : Machine) (budget i : ℕ) (old : List Slot) (before : Streams)
+    (new : List Slot) (after : Streams) : Type 0 where
+  pub turns : List ℕ
+  pub joint : IsJoint machine streams (turns_of i turns) old before new after
+  pub within : (slot : Slot) → slice_get new i ≡ Some slot → taken slot ≤ budget
+  pub ended : (slot : Slot) → slice_get new i ≡ Some slot → slot.status ≡ Ready
+      → slot.steps ≡ budget
+
+-- the first n sandboxes did so, one after another
+abbrev pub AreExecuted : Machine → ℕ → ℕ → List Slot → Streams → List Slot → Streams → Type 0
+AreExecuted machine budget zero old before new after = (new ≡ old) × (after ≡ before)
+AreExecuted machine budget (suc n) old before new after =
+    (mid : List Slot) × (between : Streams) × AreExecuted machine budget n old before mid between
+    × IsExecuted machine budget n mid between new after
 
 -- ---- the status
 
 -- what a sandbox's end comes to: the low 8 bits of its exit's number; or that its budget was used up, or
--- that it trapped
+-- that it trapped (none is stopped by its host here)
 abbrev pub end_status : Status → ℕ
 end_status Ready = 124
 end_status (Exited n) = n % 2 ^ 8
@@ -21,7 +145,7 @@ end_status Stopped = 124
 abbrev pub first_of : ℕ → ℕ → ℕ
 first_of m n = if m == 0 then n else m
 
--- of the sandbox of that number
+-- of a slot; 0 where there is none
 abbrev pub status_of : Option Slot → ℕ
 status_of None = 0
 status_of (Some slot) = end_status slot.status
@@ -60,3 +184,49 @@ abbrev pub IsStopText : List Part → List Slot → List ℕ → Type 0
 IsStopText ps slots text =
     (told : List ℕ) × AreTold (length ps) ps slots told
     × (text ≡ stop_lines (length ps) slots ++ told)
+
+-- ---- the command
+
+-- The sandboxes of an image ran so, with some cuts of the input: what is left of the input, what was put,
+-- what is said and the status.
+pub record HaveExecuted (machine : Machine) (budget : ℕ) (ps : List Part) (input left : List ℕ)
+    (written said : List ℕ) (status : ℕ) : Type 0 where
+  pub cuts : List ℕ
+  pub slots : List Slot
+  pub after : Streams
+  pub ran : AreExecuted machine budget (length ps) (first_slots ps)
+      (first_streams input cuts (length ps)) slots after
+  pub left_is : after.input ≡ left
+  pub written_is : after.output ≡ written
+  pub said_is : IsStopText ps slots said
+  pub status_is : status ≡ status_among (length ps) slots
+
+-- The image with these bytes is accepted, and its sandboxes ran so. What is said of a run holds of the
+-- machine, which is one function.
+pub record IsExecution (budget : ℕ) (input left written said : List ℕ) (status : ℕ)
+    (bytes : List ℕ) : Type 0 where
+  pub parts : List Part
+  pub accepted : IsAccepted bytes parts
+  pub ran : (machine : Machine) → IsMachine machine
+      → HaveExecuted machine budget parts input left written said status
+
+-- The text is an image or spells one, and that was executed: the input lost what was read by get, what was
+-- put was written after what the writer held, and what is said after what the other one held.
+pub record Executes (budget : ℕ) (text input left : List ℕ) (out outs err errs : Option (List ℕ))
+    (status : ℕ) : Type 0 where
+  pub written : List ℕ
+  pub said : List ℕ
+  pub executed : GivesImageThat (IsExecution budget input left written said status) text
+  pub writes : Appends out outs written
+  pub says : Appends err errs said
+
+-- What is said where the reader of the image tells its bytes: where that of the input does too, what was
+-- executed, and else that the image is accepted.
+abbrev pub ExecutesKnown : ℕ → Option (List ℕ) → Option (List ℕ) → Option (List ℕ)
+    → Option (List ℕ) → Option (List ℕ) → Option (List ℕ) → Option (List ℕ) → ℕ → Type 0
+ExecutesKnown budget None input left out outs err errs status = Unit {0}
+ExecutesKnown budget (Some text) None left out outs err errs status =
+    GivesImageThat IsAcceptedImage text
+ExecutesKnown budget (Some text) (Some input) None out outs err errs status = ⊥
+ExecutesKnown budget (Some text) (Some input) (Some left) out outs err errs status =
+    Executes budget text input left out outs err errs status

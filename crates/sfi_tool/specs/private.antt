@@ -1,5 +1,5 @@
 -- Words that private contracts and proofs alone cite: no public statement rests on them.
-use Rattle.std.specs.Prelude.{◌≡◌, ◌≢◌, ◌⊎◌, ◌<◌, ◌≤◌, ◌-◌, ◌%◌, ◌^◌, ◌++◌, ℕ, List, [], Option, Some, None, IfSome, if◌then◌else◌, length, nat_le, slice_get, slice_set}
+use Rattle.std.specs.Prelude.{◌≡◌, ◌≢◌, ◌⊎◌, ◌<◌, ◌≤◌, ◌-◌, ◌%◌, ◌^◌, ◌++◌, ℕ, List, Option, Some, None, IfSome, if◌then◌else◌, length, nat_le, slice_get, slice_set}
 use Rattle.std.specs.Io.KnownBytes.{Consumes, IsAtEnd}
 use Rattle.std.specs.List.{range_with_len}
 use Rattle.std.specs.Io.KnownBytes.{Appends}
@@ -8,10 +8,12 @@ use Rattle.sfi_tool.specs.Says.{OnlyAppends, HasInputFault, Says}
 use Rattle.sfi_host.specs.Consoles.{ConsoleState, console}
 use Rattle.sfi_host.specs.Joint.{Machine, IsMachine}
 use Rattle.sfi_host.specs.Plans.{IsJoint}
+use Rattle.sfi_image.specs.Spelling.{Part}
+use Rattle.sfi_safety.specs.Clean.{IsAccepted}
 use Rattle.sfi_host.specs.Changing.{data_bytes_of}
 use Rattle.sfi_host.specs.Consoles.{most_handed}
 use Rattle.sfi_host.specs.Guests.{data_from}
-use Rattle.sfi_host.specs.Hosts.{Answer, Call, Replied}
+use Rattle.sfi_host.specs.Hosts.{Answer, Call, Replied, Reply}
 use Rattle.rv_mem.specs.Bytes.{Bytes, with_bytes}
 use Rattle.sfi_tool.specs.declared.piece.Piece.{Piece}
 use Rattle.sfi_host.specs.Joint.{call_of, replied}
@@ -20,6 +22,7 @@ use Rattle.sfi_host.specs.Waiting.{Waits, later_reply}
 use Rattle.sfi_host.specs.declared.guest.Request.{Request}
 use Rattle.sfi_host.specs.declared.status.Status.{Status}
 use Rattle.sfi_host.specs.declared.status.Status.TheVariants.{Ready, Exited, Trapped, Stopped}
+use Rattle.sfi_tool.specs.Executing.{AreExecuted, HaveExecuted, Streams, streams, taken, turns_of}
 use Rattle.sfi_tool.specs.Running.{plan_of}
 
 -- the status of a job's run on what its reader told, and what its writer holds then
@@ -82,6 +85,51 @@ pub record IsPiece (n : ℕ) (input left : Option (List ℕ)) (piece : List ℕ)
   pub few : length piece ≤ n
   pub none : length piece ≡ 0 → (n ≡ 0) ⊎ IsAtEnd left
 
+-- this holds of what was known of a reader and is left
+abbrev pub IfKnown : Option (List ℕ) → Option (List ℕ) → (List ℕ → List ℕ → Type 0) → Type 0
+IfKnown None left holds = Unit {0}
+IfKnown (Some input) None holds = ⊥
+IfKnown (Some input) (Some left) holds = holds input left
+
+-- what the host keeps
+abbrev pub kept : List ℕ → List ℕ → List ℕ → ConsoleState → Streams
+kept input cuts output c = record { input = input; cuts = cuts; output = output; console = c }
+
+-- turns of the sandbox of that number alone lead from there to there
+pub record TakesTurns (machine : Machine) (i : ℕ) (old : List Slot) (before : Streams) (new : List Slot)
+    (after : Streams) : Type 0 where
+  pub turns : List ℕ
+  pub joint : IsJoint machine streams (turns_of i turns) old before new after
+
+-- So they do, and reads cut the input as they did, whatever the later ones do, and after whatever was put
+-- before.
+pub record IsStreamed (machine : Machine) (i : ℕ) (old : List Slot) (c : ConsoleState)
+    (new : List Slot) (d : ConsoleState) (written input left : List ℕ) : Type 0 where
+  pub cuts : List ℕ
+  pub turns : (rest out : List ℕ) → TakesTurns machine i old (kept input (cuts ++ rest) out c)
+      new (kept left rest (out ++ written) d)
+
+-- such turns, where the reader tells its bytes; what was put was written
+pub record Streamed (i : ℕ) (old : List Slot) (c : ConsoleState) (new : List Slot) (d : ConsoleState)
+    (input left out outs : Option (List ℕ)) : Type 0 where
+  pub written : List ℕ
+  pub writes : Appends out outs written
+  pub ran : IfKnown input left (λ x y. (machine : Machine) → IsMachine machine
+      → IsStreamed machine i old c new d written x y)
+
+-- a step in which the sandbox of that number got a reply
+pub record IsReplyTo (i : ℕ) (old new : List Slot) : Type 0 where
+  pub slot : Slot
+  pub there : slice_get old i ≡ Some slot
+  pub reply : Reply
+  pub slots : new ≡ slice_set old i (replied slot reply)
+
+-- a call of the sandbox of that number was answered
+pub record IsServed (i : ℕ) (old : List Slot) (c : ConsoleState) (new : List Slot) (d : ConsoleState)
+    (input left out outs : Option (List ℕ)) : Type 0 where
+  pub replies : IsReplyTo i old new
+  pub streamed : Streamed i old c new d input left out outs
+
 -- how many steps a sandbox may still do
 abbrev pub left_by : ℕ → Status → ℕ → ℕ
 left_by budget Ready steps = budget - steps
@@ -93,7 +141,40 @@ abbrev pub left_of : ℕ → Option Slot → ℕ
 left_of budget None = 0
 left_of budget (Some slot) = left_by budget slot.status slot.steps
 
--- what was asked by the sandbox of that number, which waits
-pub record IsAsked (sandbox : ℕ) (slots : List Slot) (q : Request) : Type 0 where
+-- what was asked by the sandbox of that number, which waits and may still do a step
+pub record IsAsked (budget sandbox : ℕ) (slots : List Slot) (q : Request) : Type 0 where
   pub by : q.sandbox ≡ sandbox
   pub waits : Waits slots q.sandbox q
+  pub left : left_of budget (slice_get slots sandbox) ≢ 0
+
+-- no sandbox took more steps than the budget allows
+abbrev pub AreWithin : ℕ → List Slot → Type 0
+AreWithin budget slots =
+    (i : ℕ) (slot : Slot) → slice_get slots i ≡ Some slot → taken slot ≤ budget
+
+-- the first n sandboxes, where the reader tells its bytes
+pub record AreStreamed (budget n : ℕ) (old : List Slot) (c : ConsoleState) (new : List Slot)
+    (d : ConsoleState) (input left out outs : Option (List ℕ)) : Type 0 where
+  pub written : List ℕ
+  pub writes : Appends out outs written
+  pub ran : IfKnown input left (λ x y. (machine : Machine) → IsMachine machine
+      → (cuts : List ℕ) × ((rest put : List ℕ) → AreExecuted machine budget n old
+      (kept x (cuts ++ rest) put c) new (kept y rest (put ++ written) d)))
+
+-- the sandboxes of an image ran, where the reader tells its bytes; what was put and what is said was
+-- written
+pub record Ran (budget : ℕ) (ps : List Part) (input left out outs err errs : Option (List ℕ))
+    (status : ℕ) : Type 0 where
+  pub written : List ℕ
+  pub said : List ℕ
+  pub writes : Appends out outs written
+  pub says : Appends err errs said
+  pub ran : IfKnown input left (λ x y. (machine : Machine) → IsMachine machine
+      → HaveExecuted machine budget ps x y written said status)
+
+-- so did those of the image with these bytes, which is accepted
+pub record RanImage (budget : ℕ) (input left out outs err errs : Option (List ℕ)) (status : ℕ)
+    (bytes : List ℕ) : Type 0 where
+  pub parts : List Part
+  pub accepted : IsAccepted bytes parts
+  pub ran : Ran budget parts input left out outs err errs status

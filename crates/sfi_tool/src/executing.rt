@@ -1,8 +1,9 @@
 //! Sandboxes that run one after another, each to its end.
 
-ghost use Rattle.std.specs.Prelude.{◌≡◌, ◌≤◌, IfSome, length, slice_get};
+ghost use Rattle.std.specs.Prelude.{◌≡◌, ◌≤◌, ℕ, List, Option, IfOk, IfSome, length, slice_get};
+ghost use Rattle.sfi_host.specs.Consoles.{ConsoleState};
 ghost use Rattle.sfi_host.specs.Worlds.{slots_of};
-ghost use Rattle.sfi_tool.specs.private.{IsAsked, left_by, left_of};
+ghost use Rattle.sfi_tool.specs.private.{AreStreamed, AreWithin, IsAsked, Streamed, left_by, left_of};
 
 use crate::serving::{ExecFault, serve};
 use rv_mem::Memory;
@@ -41,7 +42,11 @@ fn turn_steps(left: u64) -> u32
 
 /// Runs a sandbox up to its next call, and says what that asks, if there is a step left for it.
 fn run_to_call<M: Memory>(world: &mut World<M>, sandbox: u32, budget: u64) -> Option<Request>
-    ensures { IfSome result (IsAsked sandbox (slots_of world.new)) }
+    requires { AreWithin budget (slots_of world.old) }
+    ensures streamed { (c : ConsoleState) (known told : Option (List ℕ)) → Streamed sandbox
+        (slots_of world.old) c (slots_of world.new) c known known told told }
+    ensures within { AreWithin budget (slots_of world.new) }
+    ensures asked { IfSome result (IsAsked budget sandbox (slots_of world.new)) }
 {
     let left = steps_left(world, sandbox, budget);
     let turn = Turn {
@@ -65,7 +70,12 @@ fn run_on<M: Memory, R: Read, W: Write>(
     reader: &mut R,
     writer: &mut W,
 ) -> Result<(), ExecFault>
-    requires { length buffer.old ≡ 65536 }
+    requires buffer { length buffer.old ≡ 65536 }
+    requires within { AreWithin budget (slots_of world.old) }
+    ensures streamed { IfOk result (λ u. Streamed sandbox (slots_of world.old) console.old
+        (slots_of world.new) console.new (R.remaining reader.old) (R.remaining reader.new)
+        (W.contents writer.old) (W.contents writer.new)) }
+    ensures within { IfOk result (λ u. AreWithin budget (slots_of world.new)) }
 {
     let Some(request) = run_to_call(world, sandbox, budget) else {
         return Ok(());
@@ -83,7 +93,14 @@ fn run_sandbox<M: Memory, R: Read, W: Write>(
     reader: &mut R,
     writer: &mut W,
 ) -> Result<(), ExecFault>
-    requires { length buffer.old ≡ 65536 }
+    requires buffer { length buffer.old ≡ 65536 }
+    requires within { AreWithin budget (slots_of world.old) }
+    ensures streamed { IfOk result (λ u. Streamed sandbox (slots_of world.old) console.old
+        (slots_of world.new) console.new (R.remaining reader.old) (R.remaining reader.new)
+        (W.contents writer.old) (W.contents writer.new)) }
+    ensures within { IfOk result (λ u. AreWithin budget (slots_of world.new)) }
+    ensures ended { IfOk result
+        (λ u. left_of budget (slice_get (slots_of world.new) sandbox) ≡ 0) }
 {
     for _ in 0..u64::MAX {
         if steps_left(world, sandbox, budget) == 0 {
@@ -104,7 +121,11 @@ pub(crate) fn run_sandboxes<M: Memory, R: Read, W: Write>(
     reader: &mut R,
     writer: &mut W,
 ) -> Result<(), ExecFault>
-    requires { length buffer.old ≡ 65536 }
+    requires buffer { length buffer.old ≡ 65536 }
+    requires within { AreWithin budget (slots_of world.old) }
+    ensures { IfOk result (λ u. AreStreamed budget count (slots_of world.old) console.old
+        (slots_of world.new) console.new (R.remaining reader.old) (R.remaining reader.new)
+        (W.contents writer.old) (W.contents writer.new)) }
 {
     for sandbox in 0..count {
         run_sandbox(world, console, sandbox, budget, buffer, reader, writer)?;

@@ -1,8 +1,11 @@
 //! The command `exec`, over readers and writers.
 
-ghost use Rattle.std.specs.Prelude.{◌≡◌, OnOk};
+ghost use Rattle.std.specs.Prelude.{◌≡◌, IfOk, OnOk};
 ghost use Rattle.std.specs.Io.KnownBytes.{Appends};
+ghost use Rattle.sfi_answers.specs.Answers.{GivesImageThat};
 ghost use Rattle.sfi_answers.specs.Checking.{Refuses};
+ghost use Rattle.sfi_tool.specs.Executing.{ExecutesKnown};
+ghost use Rattle.sfi_tool.specs.private.{Ran, RanImage};
 
 use crate::executing::run_sandboxes;
 use crate::serving::{ExecFault, MOST_HANDED};
@@ -44,7 +47,11 @@ fn run_accepted<R: Read, W: Write, E: Write>(
     reader: &mut R,
     writer: &mut W,
     errors: &mut E,
-) -> Result<u8, ExecFault> {
+) -> Result<u8, ExecFault>
+    ensures { IfOk result (Ran budget accepted.now (R.remaining reader.old) (R.remaining reader.new)
+        (W.contents writer.old) (W.contents writer.new) (E.contents errors.old)
+        (E.contents errors.new)) }
+{
     let count = accepted.sandboxes() as u32;
     let mut world = World::load(alloc, accepted, Pages::new(alloc))?;
     let mut console = Console::new(alloc, count, &[])?;
@@ -106,7 +113,11 @@ fn run_image<R: Read, W: Write, E: Write>(
     reader: &mut R,
     writer: &mut W,
     errors: &mut E,
-) -> Result<u8, ExecFault> {
+) -> Result<u8, ExecFault>
+    ensures { IfOk result (λ status. RanImage budget (R.remaining reader.old)
+        (R.remaining reader.new) (W.contents writer.old) (W.contents writer.new)
+        (E.contents errors.old) (E.contents errors.new) status bytes.now) }
+{
     match check(alloc, bytes) {
         Ok(accepted) => run_accepted(alloc, &accepted, budget, reader, writer, errors),
         Err(refusal) => Err(say_refusal(alloc, bytes, refusal, errors)),
@@ -121,7 +132,11 @@ fn run_text<R: Read, W: Write, E: Write>(
     reader: &mut R,
     writer: &mut W,
     errors: &mut E,
-) -> Result<u8, ExecFault> {
+) -> Result<u8, ExecFault>
+    ensures { IfOk result (λ status. GivesImageThat (RanImage budget (R.remaining reader.old)
+        (R.remaining reader.new) (W.contents writer.old) (W.contents writer.new)
+        (E.contents errors.old) (E.contents errors.new) status) text.now) }
+{
     if text.len() > INPUT_LIMIT {
         return Err(say_too_large(errors));
     }
@@ -139,7 +154,11 @@ pub fn exec<I: Read, R: Read, W: Write, E: Write>(
     reader: &mut R,
     writer: &mut W,
     errors: &mut E,
-) -> Result<u8, ExecFault> {
+) -> Result<u8, ExecFault>
+    ensures { IfOk result (ExecutesKnown budget (I.remaining image.old)
+        (R.remaining reader.old) (R.remaining reader.new) (W.contents writer.old)
+        (W.contents writer.new) (E.contents errors.old) (E.contents errors.new)) }
+{
     match read_input(alloc, image) {
         Ok(Input::Whole(text)) => run_text(alloc, &text, budget, reader, writer, errors),
         Ok(Input::TooLarge) => Err(say_too_large(errors)),

@@ -1,11 +1,12 @@
 //! One call of a sandbox whose put and get are those of a process.
 
-ghost use Rattle.std.specs.Prelude.{◌≡◌, ◌≤◌, IfOk, Some, None, length, take};
+ghost use Rattle.std.specs.Prelude.{◌≡◌, ◌≢◌, ◌≤◌, ℕ, List, Option, IfOk, Some, None, length, take};
 ghost use Rattle.std.specs.Bool.{OnTrue, OnFalse};
-ghost use Rattle.std.specs.Io.KnownBytes.{Keeps};
+ghost use Rattle.std.specs.Io.KnownBytes.{Appends, Keeps};
 ghost use Rattle.sfi_host.specs.Waiting.{Waits};
 ghost use Rattle.sfi_host.specs.Worlds.{slots_of};
-ghost use Rattle.sfi_tool.specs.private.{GoesOnWith, IsAnsweredBy, IsPiece, handed_by};
+ghost use Rattle.sfi_host.specs.Consoles.{ConsoleState};
+ghost use Rattle.sfi_tool.specs.private.{GoesOnWith, IsAnsweredBy, IsPiece, IsServed, handed_by};
 
 use crate::piece::Piece;
 use rv_mem::Memory;
@@ -93,8 +94,12 @@ fn put<M: Memory, W: Write>(
     buffer: &mut [u8],
     writer: &mut W,
 ) -> Result<(), ExecFault>
+    requires put { request.service ≡ 1 }
     requires waits { Waits (slots_of world.old) request.sandbox request }
     requires buffer { length buffer.old ≡ 65536 }
+    ensures { (c : ConsoleState) → (known : Option (List ℕ)) → IfOk result (λ u. IsServed request.sandbox
+        (slots_of world.old) c (slots_of world.new) c known known
+        (W.contents writer.old) (W.contents writer.new)) }
 {
     if !take_handed(world, request, buffer) {
         return reply(world, request, FAILED);
@@ -133,8 +138,12 @@ fn get<M: Memory, R: Read, W: Write>(
     reader: &mut R,
     writer: &mut W,
 ) -> Result<(), ExecFault>
+    requires get { request.service ≡ 2 }
     requires waits { Waits (slots_of world.old) request.sandbox request }
     requires buffer { length buffer.old ≡ 65536 }
+    ensures { (c : ConsoleState) → IfOk result (λ u. IsServed request.sandbox
+        (slots_of world.old) c (slots_of world.new) c (R.remaining reader.old) (R.remaining reader.new)
+        (W.contents writer.old) (W.contents writer.new)) }
 {
     if !take_handed(world, request, buffer) {
         return reply(world, request, FAILED);
@@ -152,7 +161,11 @@ fn ask_console<M: Memory>(
     request: Request,
     console: &mut Console,
 ) -> Result<(), ExecFault>
+    requires put { request.service ≢ 1 }
+    requires get { request.service ≢ 2 }
     requires waits { Waits (slots_of world.old) request.sandbox request }
+    ensures { (known told : Option (List ℕ)) → IfOk result (λ u. IsServed request.sandbox
+        (slots_of world.old) console.old (slots_of world.new) console.new known known told told) }
 {
     answer_call(world, request, console)
 }
@@ -168,6 +181,9 @@ pub(crate) fn serve<M: Memory, R: Read, W: Write>(
 ) -> Result<(), ExecFault>
     requires waits { Waits (slots_of world.old) request.sandbox request }
     requires buffer { length buffer.old ≡ 65536 }
+    ensures { IfOk result (λ u. IsServed request.sandbox (slots_of world.old) console.old
+        (slots_of world.new) console.new (R.remaining reader.old) (R.remaining reader.new)
+        (W.contents writer.old) (W.contents writer.new)) }
 {
     match request.service {
         PUT => put(world, request, buffer, writer),

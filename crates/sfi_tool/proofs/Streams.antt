@@ -1,0 +1,194 @@
+-- Turns under the host of `exec`: what one comes to, and several, one after another.
+use Rattle.sfi_tool.proofs.Prelude.{◌≡◌, ◌∙◌, ℕ, List, Bool, refl, sym, ap, subst, arith, slice_get}
+use Rattle.std.proofs.Common.{◌≢◌, suc, ◌+◌, ◌-◌, ◌≤◌, [], ◌∷◌, ◌++◌, true, false, Option, Some, None, append_assoc}
+use Rattle.std.specs.Prelude.{slice_set}
+use Rattle.std.specs.Io.KnownBytes.{Appends, Keeps}
+use Rattle.sfi_host.proofs.Facts.{plans_follow}
+use Rattle.sfi_host.proofs.LaterReplies.{reply_is_answer, to_call_is_joint}
+use Rattle.sfi_host.specs.Consoles.{ConsoleState}
+use Rattle.sfi_host.specs.Guests.{call_by}
+use Rattle.sfi_host.specs.Hosts.{Call, Reply}
+use Rattle.sfi_host.specs.Joint.{Machine, IsMachine, replied}
+use Rattle.sfi_host.specs.Plans.{IsJoint}
+use Rattle.sfi_host.specs.Regions.{bytes_in}
+use Rattle.sfi_host.specs.Slots.{Slot}
+use Rattle.sfi_host.specs.Waiting.{Waits, to_call}
+use Rattle.sfi_host.specs.declared.guest.Request.{Request}
+use Rattle.sfi_host.specs.declared.status.Status.{Status}
+use Rattle.sfi_host.specs.declared.status.Status.TheVariants.{Ready}
+use Rattle.sfi_host.specs.declared.turn.Turn.{Turn}
+use Rattle.std.proofs.lemmas.List.{map-append}
+use Rattle.std.proofs.lemmas.Option.{same_Some}
+use Rattle.sfi_tool.specs.Executing.{AreExecuted, IsExecuted, Streams, streams, taken, taken_by, turn_of, turns_of}
+use Rattle.sfi_tool.specs.private.{AreStreamed, AreWithin, IfKnown, IsAsked, IsStreamed, Streamed, TakesTurns, kept, left_by, left_of}
+use Rattle.sfi_tool.proofs.Rounds.{no_turn}
+
+-- ---- what is appended
+
+append_none : (xs : List ℕ) → xs ≡ xs ++ []
+append_none [] = refl
+append_none (x ∷ xs) = ap (λ (l : List ℕ). x ∷ l) (append_none xs)
+
+pub appends_none : (out : Option (List ℕ)) → Appends out out []
+appends_none None = tt
+appends_none (Some xs) = append_none xs
+
+pub appends_both : (a b c : Option (List ℕ)) (xs ys : List ℕ) → Appends a b xs → Appends b c ys → Appends a c (xs ++ ys)
+appends_both None b c xs ys first second = tt
+appends_both (Some x) None c xs ys first second = absurd first
+appends_both (Some x) (Some y) None xs ys first second = absurd second
+appends_both (Some x) (Some y) (Some z) xs ys first second = second ∙ ap (λ (l : List ℕ). l ++ ys) first ∙ append_assoc x xs ys
+
+pub keeps_appends : (a b : Option (List ℕ)) → Keeps a b → Appends a b []
+keeps_appends None b keeps = tt
+keeps_appends (Some x) None keeps = absurd keeps
+keeps_appends (Some x) (Some y) keeps = keeps ∙ append_none x
+
+-- ---- what is known
+
+pub known_same : (o : Option (List ℕ)) (holds : List ℕ → List ℕ → Type 0) → ((x : List ℕ) → holds x x) → IfKnown o o holds
+known_same None holds h = tt
+known_same (Some x) holds h = h x
+
+pub known_both : (a b c : Option (List ℕ)) (p q r : List ℕ → List ℕ → Type 0) → IfKnown a b p → IfKnown b c q
+    → ((x y z : List ℕ) → p x y → q y z → r x z) → IfKnown a c r
+known_both None b c p q r first second h = tt
+known_both (Some x) None c p q r first second h = absurd first
+known_both (Some x) (Some y) None p q r first second h = absurd second
+known_both (Some x) (Some y) (Some z) p q r first second h = h x y z first second
+
+-- ---- turns, one after another
+
+module _ (machine : Machine) (i : ℕ) where
+  pub no_turns : (slots : List Slot) (c : ConsoleState) (x : List ℕ) → IsStreamed machine i slots c slots c [] x x
+  no_turns slots c x = record {
+    cuts = [];
+    turns = λ rest out. subst (λ (put : List ℕ). TakesTurns machine i slots (kept x rest out c) slots (kept x rest put c)) (append_none out)
+        (record { turns = []; joint = no_turn machine streams slots (kept x rest out c) });
+  }
+
+  two_plans : (old mid new : List Slot) (r s t : Streams) → TakesTurns machine i old r mid s → TakesTurns machine i mid s new t → TakesTurns machine i old r new t
+  two_plans old mid new r s t first second = record {
+    turns = first.turns ++ second.turns;
+    joint = subst (λ (plan : List Turn). IsJoint machine streams plan old r new t) (sym (map-append (turn_of i) first.turns second.turns))
+        (plans_follow machine streams (turns_of i first.turns) (turns_of i second.turns) old mid new r s t first.joint second.joint);
+  }
+
+  pub turns_follow : (old mid new : List Slot) (c d e : ConsoleState) (v w x y z : List ℕ) → IsStreamed machine i old c mid d v x y → IsStreamed machine i mid d new e w y z
+      → IsStreamed machine i old c new e (v ++ w) x z
+  turns_follow old mid new c d e v w x y z first second = record {
+    cuts = first.cuts ++ second.cuts;
+    turns = λ rest out.
+        subst (λ (cuts : List ℕ). TakesTurns machine i old (kept x cuts out c) new (kept z rest (out ++ (v ++ w)) e)) (sym (append_assoc first.cuts second.cuts rest))
+        (subst (λ (put : List ℕ). TakesTurns machine i old (kept x (first.cuts ++ (second.cuts ++ rest)) out c) new (kept z rest put e)) (append_assoc out v w)
+        (two_plans old mid new (kept x (first.cuts ++ (second.cuts ++ rest)) out c) (kept y (second.cuts ++ rest) (out ++ v) d) (kept z rest ((out ++ v) ++ w) e)
+        (first.turns (second.cuts ++ rest) out) (second.turns rest (out ++ v))));
+  }
+
+pub streamed_none : (i : ℕ) (slots : List Slot) (c : ConsoleState) (input out : Option (List ℕ)) → Streamed i slots c slots c input input out out
+streamed_none i slots c input out = record {
+  written = [];
+  writes = appends_none out;
+  ran = known_same input (λ x y. (machine : Machine) → IsMachine machine → IsStreamed machine i slots c slots c [] x y) (λ x machine is. no_turns machine i slots c x);
+}
+
+pub streamed_both : (i : ℕ) (old mid new : List Slot) (c d e : ConsoleState) (p q r u v w : Option (List ℕ)) → Streamed i old c mid d p q u v → Streamed i mid d new e q r v w
+    → Streamed i old c new e p r u w
+streamed_both i old mid new c d e p q r u v w first second = record {
+  written = first.written ++ second.written;
+  writes = appends_both u v w first.written second.written first.writes second.writes;
+  ran = known_both p q r (λ x y. (machine : Machine) → IsMachine machine → IsStreamed machine i old c mid d first.written x y)
+      (λ x y. (machine : Machine) → IsMachine machine → IsStreamed machine i mid d new e second.written x y)
+      (λ x y. (machine : Machine) → IsMachine machine → IsStreamed machine i old c new e (first.written ++ second.written) x y)
+      first.ran second.ran (λ x y z one two machine is. turns_follow machine i old mid new c d e first.written second.written x y z (one machine is) (two machine is));
+}
+
+-- ---- a turn up to a call
+
+module _ (machine : Machine) (t : Turn) (old : List Slot) (s : Streams) where
+  go : (ended : Bool) → (to_call machine (t ∷ []) old).is_ended ≡ ended → TakesTurns machine t.sandbox old s (to_call machine (t ∷ []) old).slots s
+  go false e = record { turns = t.steps ∷ []; joint = (to_call_is_joint machine streams t old s).0 e }
+  go true e =
+      let k = (to_call_is_joint machine streams t old s).1 e in
+      record { turns = k.0 ∷ []; joint = k.2 }
+
+  to_call_turns : TakesTurns machine t.sandbox old s (to_call machine (t ∷ []) old).slots s
+  to_call_turns = go (to_call machine (t ∷ []) old).is_ended refl
+
+pub to_call_streamed : (t : Turn) (old new : List Slot) (c : ConsoleState) (input out : Option (List ℕ))
+    → ((machine : Machine) → IsMachine machine → new ≡ (to_call machine (t ∷ []) old).slots) → Streamed t.sandbox old c new c input input out out
+to_call_streamed t old new c input out ran = record {
+  written = [];
+  writes = appends_none out;
+  ran = known_same input (λ x y. (machine : Machine) → IsMachine machine → IsStreamed machine t.sandbox old c new c [] x y) (λ x machine is. record {
+    cuts = [];
+    turns = λ rest put.
+        subst (λ (n : List Slot). TakesTurns machine t.sandbox old (kept x rest put c) n (kept x rest (put ++ []) c)) (sym (ran machine is))
+        (subst (λ (p : List ℕ). TakesTurns machine t.sandbox old (kept x rest put c) (to_call machine (t ∷ []) old).slots (kept x rest p c)) (append_none put)
+        (to_call_turns machine t old (kept x rest put c)));
+  });
+}
+
+-- ---- a call that is answered
+
+-- the call of a sandbox that waits
+abbrev pub asked_by : (slots : List Slot) (i : ℕ) (q : Request) → Waits slots i q → Call
+asked_by slots i q waits = call_by q (bytes_in waits.at.slot.bounds.data waits.at.slot.bytes)
+
+pub answered_turns : (machine : Machine) → IsMachine machine → (i : ℕ) (old new : List Slot) (q : Request) (waits : Waits old i q) (r : Reply) (s after : Streams)
+    → streams s (asked_by old i q waits) ≡ record { reply = r; host = after } → new ≡ slice_set old i (replied waits.at.slot r)
+    → TakesTurns machine i old s new after
+answered_turns machine is i old new q waits r s after gives slots = record {
+  turns = 1 ∷ [];
+  joint = subst (λ (n : List Slot). IsJoint machine streams (record { sandbox = i; steps = 1 } ∷ []) old s n after) (sym slots)
+      (reply_is_answer machine is streams i old q r s after waits (ap (streams s) (sym waits.asks) ∙ gives));
+}
+
+-- what is asked is asked by who waits
+pub asked_is : (budget : ℕ) (slots : List Slot) (i : ℕ) (q : Request) → Waits slots i q → left_of budget (slice_get slots i) ≢ 0 → IsAsked budget i slots q
+asked_is budget slots i q waits left =
+    let by : q.sandbox ≡ i = ap (λ (c : Call). c.caller) waits.asks in
+    record { by = by; waits = subst (λ (n : ℕ). Waits slots n q) (sym by) waits; left = left }
+
+-- ---- sandboxes, one after another
+
+-- none that is left to do is a sandbox that has stopped, or did all
+over : (budget : ℕ) (o : Option Slot) (slot : Slot) → left_of budget o ≡ 0 → taken slot ≤ budget → o ≡ Some slot → slot.status ≡ Ready → slot.steps ≡ budget
+over budget None slot none fits there ready = absurd (cc)
+over budget (Some s) slot none fits there ready =
+    let same : s ≡ slot = same_Some s slot there in
+    let left : left_by budget slot.status slot.steps ≡ 0 = subst (λ (x : Slot). left_by budget x.status x.steps ≡ 0) same none in
+    let spare : budget - slot.steps ≡ 0 = subst (λ (x : Status). left_by budget x slot.steps ≡ 0) ready left in
+    let most : slot.steps ≤ budget = subst (λ (x : Status). taken_by x slot.steps ≤ budget) ready fits in
+    omega (arith, spare, most)
+
+pub none_ran : (budget : ℕ) (slots : List Slot) (c : ConsoleState) (input out : Option (List ℕ)) → AreStreamed budget 0 slots c slots c input input out out
+none_ran budget slots c input out = record {
+  written = [];
+  writes = appends_none out;
+  ran = known_same input (λ x y. (machine : Machine) → IsMachine machine → (cuts : List ℕ) × ((rest put : List ℕ) → AreExecuted machine budget 0 slots (kept x (cuts ++ rest) put c) slots (kept y rest (put ++ []) c)))
+      (λ x machine is. ([], λ rest put. (refl, ap (λ (p : List ℕ). kept x rest p c) (sym (append_none put)))));
+}
+
+pub one_more_ran : (budget n : ℕ) (old mid new : List Slot) (c d e : ConsoleState) (p q r u v w : Option (List ℕ)) → AreStreamed budget n old c mid d p q u v → Streamed n mid d new e q r v w
+    → left_of budget (slice_get new n) ≡ 0 → AreWithin budget new → AreStreamed budget (n + 1) old c new e p r u w
+one_more_ran budget n old mid new c d e p q r u v w first second none within = record {
+  written = first.written ++ second.written;
+  writes = appends_both u v w first.written second.written first.writes second.writes;
+  ran = known_both p q r _ _ (λ x z. (machine : Machine) → IsMachine machine → (cuts : List ℕ) × ((rest put : List ℕ)
+      → AreExecuted machine budget (n + 1) old (kept x (cuts ++ rest) put c) new (kept z rest (put ++ (first.written ++ second.written)) e)))
+      first.ran second.ran (λ x y z one two machine is.
+      let a = one machine is in
+      let b = two machine is in (
+        a.0 ++ b.cuts,
+        λ rest put.
+            let turns = b.turns rest (put ++ first.written) in
+            let this : IsExecuted machine budget n mid (kept y (b.cuts ++ rest) (put ++ first.written) d) new (kept z rest ((put ++ first.written) ++ second.written) e) =
+            record { turns = turns.turns; joint = turns.joint; within = within n; ended = λ slot there ready. over budget (slice_get new n) slot none (within n slot there) there ready } in
+            let all : AreExecuted machine budget (suc n) old (kept x (a.0 ++ (b.cuts ++ rest)) put c) new (kept z rest ((put ++ first.written) ++ second.written) e) =
+            (mid, kept y (b.cuts ++ rest) (put ++ first.written) d, a.1 (b.cuts ++ rest) put, this) in
+            subst (λ (k : ℕ). AreExecuted machine budget k old (kept x ((a.0 ++ b.cuts) ++ rest) put c) new (kept z rest (put ++ (first.written ++ second.written)) e)) (let k : suc n ≡ n + 1 = omega arith in k)
+            (subst (λ (cuts : List ℕ). AreExecuted machine budget (suc n) old (kept x cuts put c) new (kept z rest (put ++ (first.written ++ second.written)) e)) (sym (append_assoc a.0 b.cuts rest))
+            (subst (λ (o : List ℕ). AreExecuted machine budget (suc n) old (kept x (a.0 ++ (b.cuts ++ rest)) put c) new (kept z rest o e)) (append_assoc put first.written second.written) all)),
+      ));
+}
