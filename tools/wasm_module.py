@@ -1,4 +1,5 @@
-"""Makes sfi.wasm, the WebAssembly module of the page: the crates sfi_tool_c and sfi_run with a heap of their own.
+"""Makes WebAssembly modules of crates with a heap of their own: sfi.wasm of the page has sfi_tool_c and sfi_run, and
+sfi_run.wasm of the package for node has sfi_run alone.
 
 The toolchain compiles no crate for wasm64 that calls C, as one that takes memory does. So each crate is proved and built for
 x86-64, and what the toolchain then gives its clang, which is the whole library as one LLVM module, is compiled a second time,
@@ -122,23 +123,23 @@ def compiled_c(clang, path, room):
     return made
 
 
-def link(kit, target):
-    """Links the kept modules of the crates, and the C files, into the module `target`."""
+def link(kit, target, names):
+    """Links the kept modules of these crates, and the C files, into the module `target`."""
     clang = f"{kit}/toolchain/bin/clang"
-    headers = [libraries.path(name, "include", header) for name, header in HEADERS.items()]
+    headers = [libraries.path(name, "include", HEADERS[name]) for name in names]
     exports = ["malloc", "free", *(call for header in headers for call in libraries.calls(header))]
     with tempfile.TemporaryDirectory() as room:
-        objects = [compiled(clang, name, room) for name in HEADERS] + [compiled_c(clang, it, room) for it in C_FILES]
+        objects = [compiled(clang, name, room) for name in names] + [compiled_c(clang, it, room) for it in C_FILES]
         os.symlink(clang, f"{room}/wasm-ld")
         subprocess.run([f"{room}/wasm-ld", "-mwasm64", "--no-entry", "--gc-sections", "--strip-all", "-z", f"stack-size={STACK}",
                         "--stack-first", *(f"--export={it}" for it in exports), *objects, "-o", target], check=True)
 
 
-def make(target):
-    """Makes the module, after those LLVM modules that aren't kept or are older than a source."""
+def make(target, names=tuple(HEADERS)):
+    """Makes the module of these crates, after those LLVM modules that aren't kept or are older than a source."""
     rtlib = toolchain.rtlib()
     rtlib.guarded()  # what it starts ends with it
-    late = [name for name in HEADERS if is_older(kept_path(name), name)]
-    with ThreadPoolExecutor(len(HEADERS)) as pool:
+    late = [name for name in names if is_older(kept_path(name), name)]
+    with ThreadPoolExecutor(len(names)) as pool:
         list(pool.map(lambda name: keep_module(rtlib, name), late))
-    link(rtlib.KIT, target)
+    link(rtlib.KIT, target, names)
