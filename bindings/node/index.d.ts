@@ -1,0 +1,188 @@
+/** Why a sandbox trapped. Accepted code never meets the first two. */
+export declare const Cause: {
+  readonly FETCH: "Fetch"; readonly ILLEGAL: "Illegal"; readonly BREAK: "Break"; readonly LOAD: "Load"; readonly STORE: "Store";
+};
+export type Cause = (typeof Cause)[keyof typeof Cause];
+/** The version of this package. */
+export declare const VERSION: string;
+type Bytes = ArrayBuffer | ArrayBufferView;
+
+/** A rule that is broken, 1 for V1 to 12 for V12, and where: the sandbox, and the address of the instruction's first byte, or
+ * of the bytes that are none; for V9 that of the gate. */
+export interface Finding { readonly sandbox: number; readonly address: number; readonly rule: number }
+
+/** An image in which rules are broken `findings` times, the `first` time there. */
+export declare class Refused extends Error { readonly findings: number; readonly first: Finding }
+/** Bytes that are no image, by the layout's `fault` of that number, 1 to 11. */
+export declare class NoImage extends Error { readonly fault: number }
+/** A name for which there is no address. `why` is the number by which sfi_run.h tells the reason. */
+export declare class NoName extends Error { readonly why: number }
+/** A function that didn't return: the `event` says how its sandbox stands. */
+export declare class NotReturned extends Error { readonly event: Event }
+/** An address that isn't one of the sandbox's data. */
+export declare class OutsideData extends Error {}
+/** A reply to a sandbox that stands at no call, or no longer at the call that is replied to. */
+export declare class NotWaiting extends Error {}
+/** An entry into a sandbox that hasn't stopped, or at an address where no bundle or word of its code begins; or registers that
+ * it mustn't hold. */
+export declare class NotEntered extends Error {}
+/** A sandbox that is to be stopped, and has stopped already. */
+export declare class NotRunning extends Error {}
+/** There was no memory for what was asked. */
+export declare class NoMemory extends Error {}
+
+/** The sandbox can take a turn, and doesn't stand at a call. */
+export declare class Ready { private readonly kind: "ready" }
+/** The sandbox has stopped, by `stop`. */
+export declare class Stopped { private readonly kind: "stopped" }
+/** The sandbox has stopped, by `exit`. */
+export declare class Exited { readonly number: number }
+/** The sandbox has stopped, at an instruction that trapped. The address is that of the access, or else the pc. */
+export declare class Trapped { readonly cause: Cause; readonly address: number }
+
+/** The sandbox stands at a call of a gate, and waits for a reply. The service is 0 to 5; the gate is its place among the
+ * sandbox's gates, 0 to 63, and pc is its address. */
+export declare class Call {
+  readonly service: number;
+  readonly a0: number; readonly a1: number; readonly a2: number; readonly a3: number;
+  readonly a4: number; readonly a5: number; readonly a6: number; readonly a7: number;
+  readonly gate: number;
+  readonly pc: number;
+  readonly sandbox: Sandbox;
+  /** Whether the sandbox still stands at this call. */
+  readonly isWaiting: boolean;
+  /** Has the sandbox go on after the call in its next turn, with these in a0 and a1. Without an a1 that of the call stays.
+   * Throws RangeError where one isn't from 0 to 2^32 - 1: -1 is `-1 >>> 0` here; and NotWaiting. */
+  reply(a0: number, a1?: number): void;
+  /** Has the sandbox stop at the call, with that number. Throws as `reply` does. */
+  exit(number: number): void;
+}
+
+export type Event = Ready | Call | Exited | Trapped | Stopped;
+/** pc, and the registers x0 to x31. */
+export interface Registers { readonly pc: number; readonly x: readonly number[] }
+/** The addresses of a sandbox's data. */
+export interface Region { readonly base: number; readonly size: number }
+/** The most steps of a call in all, 1,000,000 if none are given, and what replies to its calls of gates of other services. */
+export interface CallOptions { steps?: number; serve?: (call: Call) => void }
+
+/** A sandbox of a world. After the world is closed every call of it throws RangeError. */
+export declare class Sandbox {
+  private constructor();
+  /** Its number in the world, from 0. */
+  readonly number: number;
+  /** Runs it for at most `steps` steps, and no further than its next call: how it stands then. An instruction that is done and
+   * a call that is replied to are a step each. One that stands at a call already, or has stopped, does none. */
+  turn(steps: number): Event;
+  /** The same, but the turn ends, too, before an instruction at one of the addresses `stops`. Its first step is made in any
+   * case, so that it goes on from a stop. */
+  until(stops: readonly number[], steps: number): Event;
+  /** How it stands. */
+  readonly event: Event;
+  /** Runs it for at most `steps` steps in all: yields each call, which is to be replied to before the next event is asked
+   * for, and last how it stands then. A call that comes when all steps are used counts as Ready here: it is the first event of
+   * the next run. One that isn't replied to is the last event. Steps that the loop's body has the sandbox do count, too. */
+  events(steps: number): Generator<Event, void, void>;
+  /** Such a loop, in which `serve` replies to each call: the last event. */
+  run(steps: number, serve?: (call: Call) => void): Event;
+  /** Replies to the call at which it stands. Throws NotWaiting where it stands at no call. */
+  reply(a0: number, a1: number): void;
+  /** The other reply: it stops at the call, with that number. */
+  exit(number: number): void;
+  /** The `count` bytes of its data from address `at` on. Throws OutsideData where one isn't of its data. */
+  read(at: number, count: number): Uint8Array;
+  /** Writes these bytes into its data from an address on, or none of them and throws OutsideData. */
+  write(at: number, data: Bytes): void;
+  /** Stops it, whether it is ready or stands at a call: no turn runs it, and it takes no reply. Its data, pc, registers and
+   * steps stay, and `enter` may enter it again. Throws NotRunning where it has stopped already. */
+  stop(): void;
+  /** Takes it back to what it was when its world was made, whatever it did and wherever it stands. */
+  reset(): void;
+  /** Makes it ready at pc, where it has stopped, with at most eight arguments in a0 to a7 and 0 in those that are left. Throws
+   * NotEntered where it hasn't stopped, or no bundle or word of its code begins at pc. */
+  enter(pc: number, given?: readonly number[]): void;
+  /** Calls a function, by its address or the name of an export: enters it with at most eight arguments, runs it, and answers
+   * its result, with which it exits. `serve` may call functions, too: while one waits for its reply, the other runs on its
+   * stack, and then it waits again. Throws NoName; NotEntered and RangeError as `enter` does; and NotReturned where it stops in
+   * another way, its steps are used, or a call gets no reply. */
+  call(at: number | string, ...given: [...number[], CallOptions] | number[]): number;
+  /** How many steps it has done. */
+  readonly steps: number;
+  /** Its pc and registers. Set, they make it ready, whether it was ready, stood at a call or had stopped; x0 stays 0. That
+   * throws NotEntered where no bundle or word of its code begins at pc, or a register would hold what it mustn't. */
+  registers: Registers;
+  /** The address of its next instruction. */
+  readonly pc: number;
+  /** Where its data lie. */
+  readonly data: Region;
+  /** The address of a function to call, or of an object of the data, as the image says. Throws NoName where there is none. */
+  export(name: string): number;
+  /** The address of a gate, at which pc is when it is called. Throws NoName where there is none. */
+  imported(name: string): number;
+  /** The version of the host's interface for which the code is made. Throws NoName where there is no table. */
+  readonly api: number;
+}
+
+/** The sandboxes of an image. It is freed by `close`, or when nothing refers to it any more. */
+export declare class World {
+  private constructor();
+  /** 1 to 16; none once the world is closed. */
+  readonly sandboxes: Sandbox[];
+  /** Frees the world. */
+  close(): void;
+  [Symbol.dispose](): void;
+}
+
+/** Checks the image's own bytes, and makes the world of its sandboxes, each ready at its start. Throws Refused or NoImage where
+ * it isn't accepted, NoMemory where there is no memory for it, and TypeError where it is no bytes. */
+export declare function load(image: Bytes, library?: Library): Promise<World>;
+
+/** The module sfi_run.wasm with a memory of its own, which the worlds share that are loaded with it. */
+export declare class Library {
+  private constructor();
+  /** The module of that path, or the one that SFI_RUN_MODULE names, or the one beside this file. */
+  static load(path?: string | URL): Promise<Library>;
+}
+
+/** Gets each call of the gate of its name, and answers its result: of an integer the lowest 32 bits, or 0. */
+export type Handler = (call: Call) => number | boolean | void | null;
+
+/** A sandbox of an image of its own, whose names are what the image says of itself. */
+export declare class Plugin {
+  private constructor();
+  /** Loads the image, and runs the sandbox of that number, 0 if none is given, through its start, which has to exit. Handlers
+   * whose name the image doesn't import are never called. A call has at most `steps` steps. Throws what `load` does, and
+   * NotReturned. */
+  static load(image: Bytes, options?: {
+    number?: number; steps?: number; handlers?: Record<string, Handler>; library?: Library;
+  }): Promise<Plugin>;
+  readonly world: World;
+  readonly sandbox: Sandbox;
+  /** Its exports, each a function with at most eight arguments. */
+  readonly exports: { readonly [name: string]: (...given: number[]) => number };
+  /** The address of an export. Throws NoName. */
+  address(name: string): number;
+  /** Calls an export. Throws NoName, and what `Sandbox.call` does. */
+  call(name: string, ...given: number[]): number;
+  close(): void;
+  [Symbol.dispose](): void;
+}
+
+/** The console of `sfi run`: what it keeps of each sandbox of a world is its output, how far it has read the input, and its
+ * mailbox. */
+export declare class Console {
+  /** One in which each sandbox reads the bytes `given` from their beginning. */
+  constructor(world: World, given?: Bytes);
+  readonly world: World;
+  /** What each sandbox has put. */
+  readonly output: Uint8Array[];
+  /** Replies to a call. Whether the turn goes on. */
+  serve(call: Call): boolean;
+  /** A turn of at most `steps` steps, which ends at a yield, too. A call that comes when they are used is served in the next
+   * turn. Throws NoMemory where there is no memory for what is put: then the sandbox stands at that call. */
+  turn(sandbox: Sandbox, steps: number): void;
+  /** So many rounds of a turn of each sandbox, as `sfi run --rounds COUNT --quantum STEPS` has them. */
+  rounds(count: number, steps: number): void;
+  /** What `sfi run` prints of a sandbox. */
+  line(sandbox: Sandbox): string;
+}

@@ -1,0 +1,100 @@
+// What this package throws, and how a sandbox stands: index.d.ts says what each means.
+const WHY = ["", "the bytes are no image", "there is no such sandbox", "there is no table of names",
+  "the table of names is broken", "the table doesn't have the name"];
+
+export const Cause = Object.freeze({ FETCH: "Fetch", ILLEGAL: "Illegal", BREAK: "Break", LOAD: "Load", STORE: "Store" });
+const CAUSES = ["", ...Object.values(Cause)]; // by the numbers of sfi_run.h
+
+export const hexadecimal = (address) => address.toString(16).padStart(8, "0");
+
+export class Refused extends Error {
+  constructor(findings, first) {
+    const place = `first=V${first.rule} sandbox=${first.sandbox} at=${hexadecimal(first.address)}`;
+    super(`rules are broken in the image: findings=${findings} ${place}`);
+    Object.assign(this, { findings, first });
+  }
+}
+
+export class NoImage extends Error {
+  constructor(fault) {
+    super(`the bytes are no image: layout fault ${fault}`);
+    this.fault = fault;
+  }
+}
+
+export class NoName extends Error {
+  constructor(name, why) {
+    super(`${name}: ${WHY[why] ?? why}`);
+    this.why = why;
+  }
+}
+
+export class NotReturned extends Error {
+  constructor(event) {
+    super(`a function didn't return: ${event.constructor.name}`);
+    this.event = event;
+  }
+}
+
+export class OutsideData extends Error {}
+export class NotWaiting extends Error {}
+export class NotEntered extends Error {}
+export class NotRunning extends Error {}
+
+export class Ready {}
+export class Stopped {}
+
+export class Exited {
+  constructor(number) {
+    this.number = number;
+  }
+}
+
+export class Trapped {
+  constructor(cause, address) {
+    Object.assign(this, { cause, address });
+  }
+}
+
+export class Call {
+  #sandbox;
+  #stands;
+
+  /** Of struct sfi_run_event. `stands` tells whether the sandbox hasn't gone on since. */
+  constructor([, service, gate, pc, a0, a1, a2, a3, a4, a5, a6, a7], sandbox, stands) {
+    Object.assign(this, { service, a0, a1, a2, a3, a4, a5, a6, a7, gate, pc });
+    this.#sandbox = sandbox;
+    this.#stands = stands;
+  }
+
+  get sandbox() {
+    return this.#sandbox;
+  }
+
+  get isWaiting() {
+    return this.#stands();
+  }
+
+  reply(a0, a1 = this.a1) {
+    this.#now().reply(a0, a1);
+  }
+
+  exit(number) {
+    this.#now().exit(number);
+  }
+
+  #now() {
+    if (!this.isWaiting) throw new NotWaiting(`sandbox ${this.#sandbox.number} no longer stands at this call`);
+    return this.#sandbox;
+  }
+}
+
+/** How a sandbox stands, by the words of struct sfi_run_event. */
+export function eventOf(kind, told, sandbox, stands) {
+  if (kind === 1) return new Ready();
+  if (kind === 2) return new Call(told, sandbox, stands);
+  if (kind === 3) return new Exited(told[1]);
+  if (kind === 4) return new Trapped(CAUSES[told[1]], told[4]);
+  if (kind === 5) return new Stopped();
+  throw new Error(`the library answered with an event of kind ${kind}, which this package doesn't know`);
+}
