@@ -1,5 +1,5 @@
 #!/usr/bin/env bash
-# Builds the hosts in C (also for aarch64), Python and Rust, and runs them: the console beside `sfi run` on all examples and the C programs, in
+# Builds the hosts in C (also for aarch64), Python, Rust and, of three examples, JavaScript, and runs them: the console beside `sfi run` on all examples and the C programs, in
 # each format and with turns of several lengths; a plug-in that is called as a function; and two that exchange words. Then
 # hosts that try the header's sentences, one in C++, and the bindings' own tests. Says what it skips for want of a tool.
 #
@@ -80,9 +80,21 @@ install_python() {
     done
 }
 
+# In node, over the module that tools/build_node.py makes.
+find_node() {
+    local name
+    export SFI_RUN_MODULE=$top/bindings/node/sfi_run.wasm
+    has node || { skip 2 "hosts in node, and the package's tests" "node isn't there" && return; }
+    [ -f "$SFI_RUN_MODULE" ] ||
+        { skip 2 "hosts in node, and the package's tests" "$SFI_RUN_MODULE isn't made (tools/build_node.py)" && return; }
+    for name in add order tally; do
+        hosts[node $name]="node $top/bindings/node/examples/$name.mjs"
+    done
+}
+
 languages() { # an example: the languages that have a host of it
     local language
-    for language in C aarch64 Python Rust; do
+    for language in C aarch64 Python Rust node; do
         [ -z "${hosts[$language $1]:-}" ] || echo "$language"
     done
 }
@@ -313,12 +325,19 @@ header_in_cpp() {
     says_so "a host in C++ on what is refused" "status 1, rule 5, layout fault 0" "$room/world" "$room/broken.image"
 }
 
-bindings() {
-    local last kind
-    SFI_RUN_LIBRARY=$room/lib/libsfi_run.so "$top/tools/unit_tests.py" "$top/bindings/python/tests" >"$room/log" 2>&1
+own_tests() { # a language, and a command whose last line counts its tests
+    local language=$1 last
+    shift
+    "$@" >"$room/log" 2>&1
     head -n -1 "$room/log" | grep -v '^OK$\|^\.*$\|^Ran\|^---'
     last=$(tail -n 1 "$room/log")
-    add_counts "$last" || report "the tests in Python" "N passed, M failed" "$last"
+    add_counts "$last" || report "the tests in $language" "N passed, M failed" "$last"
+}
+
+bindings() {
+    local kind
+    own_tests Python env SFI_RUN_LIBRARY="$room/lib/libsfi_run.so" "$top/tools/unit_tests.py" "$top/bindings/python/tests"
+    [ -z "${hosts[node add]:-}" ] || own_tests node node "$top/bindings/node/test.mjs"
     has cargo || return
     for kind in "" --release; do # arithmetic that overflows panics in the first alone
         succeeds "cargo test $kind" env -C "$top/bindings/rust" SFI_RUN_LIBRARY="$room/lib/libsfi_run.a" cargo test -q --locked $kind
@@ -329,6 +348,7 @@ build_c
 build_arm
 install_python
 build_rust
+find_node
 if has xxd; then
     examples_beside_run
     long_input

@@ -13,5 +13,5 @@ plugin.sandbox.write(at, Uint32Array.from(NUMBERS));
 plugin.exports.sort(NUMBERS.length);
 console.log(...new Uint32Array(plugin.sandbox.read(at, 4 * NUMBERS.length).buffer));
 const { digit } = plugin.exports;
-console.log(...NUMBERS.toSorted((a, b) => digit(a) - digit(b)));
+console.log(...[...NUMBERS].sort((a, b) => digit(a) - digit(b)));
 plugin.close();
