@@ -12,7 +12,7 @@ SHARE = "share/suygapid"  # the tools, at the places that they have in the repos
 NOTED = f"{SHARE}/installed"  # the list of all that was installed
 TOOLS = ("sfi-cc", "sfi-gdb", "sfi-image", "sfi-library", "sfi-move", "sfi-trace")
 FOLDERS = ("tools/asm2elf", "tools/asm2sfi", "tools/sfi_cc", "tools/sfi_elf", "tools/sfi_gdb", "tools/sfi_trace",
-           "examples/c/include", "examples/c/library", "bindings/python", "bindings/rust")
+           "examples/c/include", "examples/c/library", "bindings/python", "bindings/rust", "bindings/node")
 SINGLE = ("examples/c/gates.h",)
 PAGES = ("sfi.1", "sfi-cc.1", "sfi-gdb.1", "sfi-image.1", "sfi-library.1", "sfi-move.1",
          "sfi-trace.1")
@@ -44,7 +44,7 @@ def is_tool_file(path):
     """Whether a file of a tool's folder serves its user, and not its tests."""
     parts = path.relative_to(TOP).parts
     made = any(it in ("__pycache__", "target", "build", "tests") or it.endswith(".egg-info") for it in parts)
-    return path.is_file() and not made and not path.name.startswith(("test_", "random_c"))
+    return path.is_file() and not made and not path.name.startswith(("test_", "test.", "random_c"))
 
 
 def package(crate):

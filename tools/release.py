@@ -29,8 +29,9 @@ import toolchain
 import version
 
 MACHINE = "x86_64-linux"
-PAGE = [TOP / "page" / it for it in ("made.js", "sfi.wasm", "sfi.wasm.js")]  # what tools/build_page.py makes
-PAGE_CRATES = ["sfi_tool_c", "sfi_run"]
+# What tools/build_page.py and tools/build_node.py make.
+MADE = [TOP / it for it in ("page/made.js", "page/sfi.wasm", "page/sfi.wasm.js", "bindings/node/sfi_run.wasm")]
+MADE_CRATES = ["sfi_tool_c", "sfi_run"]
 
 
 def fail(text):
@@ -44,14 +45,14 @@ def git(*words):
 def stale():
     """What is built but older than a source, by the files' times."""
     sfi = toolchain.sfi()
-    made_of = {path: [path.parent.parent.name] for path in installed.built()} | {path: PAGE_CRATES for path in PAGE}
+    made_of = {path: [path.parent.parent.name] for path in installed.built()} | {path: MADE_CRATES for path in MADE}
     return [path for path, crates in made_of.items() for time in [path.stat().st_mtime]
             if any(sfi.is_changed(it, time) for crate in crates for it in sfi.needed_crates(crate))]
 
 
 def built_files():
     """The paths of what is built, from the top on: as rt built it, and as programs are linked with it."""
-    found = [str(path.relative_to(TOP)) for path in [*installed.built(), *PAGE]]
+    found = [str(path.relative_to(TOP)) for path in [*installed.built(), *MADE]]
     for crate in libraries.HEADERS:
         found += [os.path.relpath(path, TOP) for path in libraries.make(crate)]
     if not checker_file.missing():
@@ -82,7 +83,7 @@ def packed(name, files, time):
 
 
 def release(folder):
-    missing = [str(it.relative_to(TOP)) for it in [*installed.built(), *PAGE] if not it.is_file()]
+    missing = [str(it.relative_to(TOP)) for it in [*installed.built(), *MADE] if not it.is_file()]
     if missing:
         fail(f"{' and '.join(missing)} isn't built")
     if git("status", "--porcelain"):

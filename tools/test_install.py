@@ -1,5 +1,5 @@
 """Tests of ./install and tools/release.py: `tools/unit_tests.py tools`. They are skipped where the program or a library
-isn't built, or gcc isn't there; those of releases where the page isn't made."""
+isn't built, or gcc isn't there; those of releases and of node where a module isn't made."""
 import hashlib
 import os
 import pathlib
@@ -119,6 +119,18 @@ class Installed(Installing):
         done = run(sys.executable, "-c", words, given=bytes.fromhex(SMALLEST), env=env)
         self.assertEqual((done.stdout.decode(), done.stderr), ("Trapped(cause=<Cause.BREAK: 3>, address=16777216)\n", b""))
 
+    @needs("node")
+    @unittest.skipUnless(release.MADE[-1].is_file(), "node's module isn't made: tools/build_node.py")
+    def test_the_package_for_node_is_found(self):
+        package = self.prefix / installed.SHARE / "bindings" / "node"
+        words = f"import {{ load }} from '{package}/index.mjs'; import {{ readFileSync }} from 'node:fs'; " \
+                "console.log((await load(readFileSync(0))).sandboxes[0].turn(5).cause)"
+        env = {**self.env}
+        env.pop("SFI_RUN_MODULE", None)
+        done = run("node", "--input-type=module", "-e", words, given=bytes.fromhex(SMALLEST), env=env)
+        self.assertEqual((done.stdout, done.stderr), (b"Break\n", b""))
+        self.assertFalse((package / "test.mjs").exists())
+
     @needs("cargo")
     def test_the_crate_for_rust_is_linked(self):
         (self.room / "smallest.image").write_bytes(bytes.fromhex(SMALLEST))
@@ -210,7 +222,7 @@ class Removing(Installing):
         self.assertEqual(tree(self.prefix), before)
 
 
-@unittest.skipUnless(all(it.is_file() for it in release.PAGE), "the page isn't made: tools/build_page.py")
+@unittest.skipUnless(all(it.is_file() for it in release.MADE), "the page or node's module isn't made: tools/build_page.py, tools/build_node.py")
 class Scratch(Installing):
     """A scratch repository with the files of this one, and what is built here."""
 
@@ -229,7 +241,7 @@ class Scratch(Installing):
         env = {**os.environ, "GIT_COMMITTER_DATE": "2026-11-25T12:00:00Z"}
         for words in (["init", "-q"], ["add", "-A"], ["-c", "user.name=a", "-c", "user.email=a@b", "commit", "-qm", "all"]):
             self.assertEqual(run("git", "-C", top, *words, env=env).stderr, "")
-        for path in [*installed.built(), *release.PAGE]:
+        for path in [*installed.built(), *release.MADE]:
             place = top / path.relative_to(TOP)
             place.parent.mkdir(parents=True, exist_ok=True)
             shutil.copy(path, place)

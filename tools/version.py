@@ -22,6 +22,8 @@ PLACES = [
     ("bindings/python/sfi_run/__init__.py", r'^__version__ = "(.*)"'),
     ("bindings/rust/Cargo.toml", r'^version = "(.*)"'),
     ("bindings/rust/Cargo.lock", r'^name = "sfi-run"\nversion = "(.*)"'),
+    ("bindings/node/package.json", r'^  "version": "(.*)"'),
+    ("bindings/node/library.mjs", r'^export const VERSION = "(.*)"'),
     ("docs/sfi.1", r'^\.TH .* "Suygapid (.*)" '),
     ("docs/sfi-cc.1", r'^\.TH .* "Suygapid (.*)" '),
     ("docs/sfi-gdb.1", r'^\.TH .* "Suygapid (.*)" '),
