@@ -19,7 +19,7 @@ export class Library {
   #passageSize = TOLD_BYTES;
 
   /** The module of that path, or the one that SFI_RUN_MODULE names, or the one beside this file. */
-  static async load(path = process.env.SFI_RUN_MODULE ?? new URL("sfi_run.wasm", import.meta.url)) {
+  static async load(path = process.env.SFI_RUN_MODULE || new URL("sfi_run.wasm", import.meta.url)) {
     if (!WebAssembly.validate(WIDE)) setFlagsFromString("--experimental-wasm-memory64"); // before node 24
     const bytes = await readFile(path).catch((cause) => {
       throw new Error(`${cause.message}; tools/build_node.py makes the module, or SFI_RUN_MODULE has to name it`, { cause });

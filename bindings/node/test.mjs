@@ -2,8 +2,8 @@
 // that are wanted are those of docs/IMAGE.md and docs/GATES.md. The last line is `N passed, M failed`.
 import assert from "node:assert/strict";
 import { execFileSync } from "node:child_process";
-import { Call, Cause, Console, Exited, Library, NoImage, NoName, NotEntered, NotReturned, NotRunning, NotWaiting, OutsideData,
-  Plugin, Ready, Refused, Stopped, Trapped, load } from "./index.mjs";
+import { Call, Cause, Console, Exited, Library, NoImage, NoMemory, NoName, NotEntered, NotReturned, NotRunning, NotWaiting,
+  OutsideData, Plugin, Ready, Refused, Stopped, Trapped, load } from "./index.mjs";
 
 const SFI = process.env.SFI ?? new URL("../../crates/sfi/out/sfi", import.meta.url).pathname;
 const [CODE, DATA] = [0x01000000, 0x01800000]; // of the first sandbox
@@ -313,8 +313,24 @@ const tests = {
       assert.equal(world.sandboxes.map((sandbox) => `${console.line(sandbox)}\n`).join(""), wanted);
     }
   },
-  async "a module that isn't there"() {
+  async "a module that isn't there, or is of another version"() {
     await assert.rejects(Library.load("/none/sfi_run.wasm"), /\/none\/sfi_run.wasm.*SFI_RUN_MODULE has to name it/);
+    for (const number of [0x4d0100, 0x000200, 0x000000]) {
+      assert.throws(() => new Library({ sfi_run_version: () => number }), /another version/);
+    }
+  },
+  async "answers that are unknown, and no memory"() {
+    const library = await Library.load();
+    const [sandbox] = (await load(SMALLEST, library)).sandboxes;
+    for (const kind of [0, 6]) {
+      library.calls.event = () => kind;
+      assert.throws(() => sandbox.event, new RegExp(`kind ${kind}`));
+    }
+    library.calls.load = () => 4;
+    await assert.rejects(load(SMALLEST, library), /status 4/);
+    library.calls.load = () => 3;
+    await assert.rejects(load(SMALLEST, library), NoMemory);
+    assert.throws(() => library.room(2 ** 41), NoMemory);
   },
 };
 

@@ -7,6 +7,7 @@ export const STEPS = 1_000_000; // of a call, unless others are given
 export const EXIT = 0; // the service
 const WORD = 0xffffffff;
 const MOST_DATA = 1 << 20;
+const ARGUMENTS = 8;
 export const STRUCT_BYTES = 16; // of struct sfi_run_world, which begins as zeros, and struct sfi_run_console
 
 /** A number of 32 bits: WebAssembly would cut a larger one. */
@@ -21,8 +22,13 @@ export function bytesOf(data) {
   return new Uint8Array(data.buffer, data.byteOffset, data.byteLength);
 }
 
-/** Has numbers of 32 bits stand in the passage. */
-const passWords = (library, numbers) => library.pass(bytesOf(Uint32Array.from(numbers, word)));
+/** Has `count` words stand in the passage: these numbers, and then zeros. */
+function passWords(library, numbers, count = numbers.length) {
+  const at = library.passage(4 * count);
+  const words = library.words(count, at).fill(0);
+  numbers.forEach((number, index) => { words[index] = word(number); });
+  return at;
+}
 
 /** What frees a struct by a call of the library, and the block that it begins. */
 export const freeing = (library, call, at) => () => {
@@ -205,9 +211,8 @@ export class Sandbox {
 
   /** a0 to a7, in the passage. Those that are left are 0. */
   #arguments(given) {
-    const numbers = [...given];
-    if (numbers.length > 8) throw new RangeError("there are at most eight arguments");
-    return passWords(this.#open().library, Object.assign(new Array(8).fill(0), numbers));
+    if (given.length > ARGUMENTS) throw new RangeError("there are at most eight arguments");
+    return passWords(this.#open().library, given, ARGUMENTS);
   }
 
   enter(pc, given = []) {
