@@ -267,7 +267,7 @@ fn word_source_rows(rt: HostRuntime) -> Result<(), Fail> {
 
 #[test]
 fn word_rows(rt: HostRuntime) -> Result<(), Fail> {
-    try_rows(&rt, rt.alloc(), words::USAGE, 52)?;
+    try_rows(&rt, rt.alloc(), words::USAGE, 59)?;
     try_rows(&rt, rt.alloc(), words::ALLOWED, 8)?;
     try_rows(&rt, rt.alloc(), words::REFUSED, 10)
 }
@@ -275,7 +275,7 @@ fn word_rows(rt: HostRuntime) -> Result<(), Fail> {
 #[test]
 fn help_rows(rt: HostRuntime) -> Result<(), Fail> {
     try_rows(&rt, rt.alloc(), words::TEXTS, 5)?;
-    try_rows(&rt, rt.alloc(), words::HELP, 24)
+    try_rows(&rt, rt.alloc(), words::HELP, 27)
 }
 
 #[test]
