@@ -1,10 +1,15 @@
 -- From what the parts of `exec` ensure to what it does.
 use Rattle.sfi_tool.proofs.Prelude.{◌≡◌, ◌∙◌, ℕ, List, refl, ap, subst, length, slots_of, Part}
-use Rattle.std.proofs.Common.{[], ◌++◌, Option, Some, None, map, Vec, Global}
+use Rattle.std.proofs.Common.{[], ◌++◌, Option, Some, None, map, Vec, Global, ◌≢◌, Result, Ok, Err}
 use Rattle.std.specs.FinMap.{empty}
 use Rattle.std.specs.Io.KnownBytes.{Appends, Keeps}
 use Rattle.rv_mem.specs.Bytes.{Bytes}
-use Rattle.sfi_answers.specs.Answers.{GivesImageThat}
+use Rattle.sfi_answers.specs.Answers.{GivesImageThat, stop_of}
+use Rattle.sfi_answers.specs.declared.fault.Stop.TheVariants as stop
+use Rattle.sfi_io.specs.Hexadecimal.{GivesBytes}
+use Rattle.sfi_io.specs.declared.hexadecimal.HexStop.{HexStop}
+use Rattle.sfi_io.specs.declared.hexadecimal.HexStop.TheVariants as hex
+use Rattle.sfi_tool.specs.declared.process.ExecFault.{ExecFault}
 use Rattle.sfi_answers.specs.Checking.{IsAcceptedImage}
 use Rattle.sfi_io.specs.Streams.{IsInput}
 use Rattle.sfi_io.specs.declared.streams.Input.TheVariants.{Whole}
@@ -82,3 +87,17 @@ executes budget (Some text) (Some input) (Some left) out outs err errs status wh
       writes = r.writes;
       says = r.says;
     }
+
+-- ---- a refusal
+
+-- text that spells no bytes, where memory sufficed, gives none
+pub no_bytes : (why : HexStop) (bytes : List ℕ) → stop_of why ≢ stop.Memory → GivesBytes {Z = Global} bytes (Err why) → ⊥
+no_bytes (hex.Fault fault) bytes some gives = gives
+no_bytes hex.Memory bytes some gives = absurd (some refl)
+
+abbrev fault_or : ExecFault → Result ℕ ExecFault → ExecFault
+fault_or other (Ok status) = other
+fault_or other (Err fault) = fault
+
+pub same_fault : (one two : ExecFault) → ◌≡◌ {A = Result ℕ ExecFault} (Err one) (Err two) → one ≡ two
+same_fault one two e = ap (fault_or one) e

@@ -230,3 +230,7 @@ ExecutesKnown budget (Some text) None left out outs err errs status =
 ExecutesKnown budget (Some text) (Some input) None out outs err errs status = ⊥
 ExecutesKnown budget (Some text) (Some input) (Some left) out outs err errs status =
     Executes budget text input left out outs err errs status
+
+-- the text is no image that is accepted, nor does it spell one
+abbrev pub IsNotAccepted : List ℕ → Type 0
+IsNotAccepted text = ¬ GivesImageThat IsAcceptedImage text

@@ -13,8 +13,7 @@ mod stopping;
 mod tool;
 
 pub use answering::answer;
-pub use process::exec;
-pub use serving::ExecFault;
+pub use process::{ExecFault, exec};
 pub use sfi_answers::Answer;
 pub use sfi_command::{Job, JobFault, VERSION, job_of};
 pub use sfi_io::write_out;

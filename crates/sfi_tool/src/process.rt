@@ -1,14 +1,16 @@
 //! The command `exec`, over readers and writers.
 
-ghost use Rattle.std.specs.Prelude.{◌≡◌, IfOk, OnOk};
+ghost use Rattle.std.specs.Prelude.{◌≡◌, ◌≢◌, Err, IfOk, IfSome, OnOk};
 ghost use Rattle.std.specs.Io.KnownBytes.{Appends};
 ghost use Rattle.sfi_answers.specs.Answers.{GivesImageThat};
-ghost use Rattle.sfi_answers.specs.Checking.{Refuses};
-ghost use Rattle.sfi_tool.specs.Executing.{ExecutesKnown};
+ghost use Rattle.sfi_answers.specs.Checking.{IsAcceptedImage, Refuses};
+ghost use Rattle.sfi_answers.specs.declared.fault.Stop.TheVariants as stops;
+ghost use Rattle.sfi_tool.specs.Executing.{ExecutesKnown, IsNotAccepted};
+ghost use Rattle.sfi_tool.specs.declared.process.ExecFault.TheVariants.{NotAccepted};
 ghost use Rattle.sfi_tool.specs.private.{Ran, RanImage};
 
 use crate::executing::run_sandboxes;
-use crate::serving::{ExecFault, MOST_HANDED};
+use crate::serving::{MOST_HANDED, RunFault};
 use crate::stopping::{status_among, stop_text};
 use rv_mem::Pages;
 use sfi_answers::{Stop, TOO_LARGE_LINE, refusal_answer, stop_answer};
@@ -18,24 +20,53 @@ use sfi_io::{INPUT_LIMIT, Input, ReadStop, image_bytes, read_input, write_out};
 use std::alloc::{AllocError, Global};
 use std::io::{Read, Write};
 
-impl From<AllocError> for ExecFault {
-    ghost use Rattle.sfi_tool.specs.declared.serving.ExecFault.TheVariants.{Memory};
+/// Why a run of an image's sandboxes didn't come to its end.
+#[derive(Clone, Copy, Debug, Drop, PartialEq, Eq)]
+pub enum ExecFault {
+    /// The image can't be run. What was said tells why: the verdict on an image with findings, or the
+    /// line of a fault.
+    NotAccepted,
+    /// An allocation was refused.
+    Memory,
+    /// The image or the input can't be read.
+    Read,
+    /// The output, or what is said, can't be written.
+    Write,
+    /// A sandbox took 18446744073709551615 turns, which none lives to see.
+    TooLong,
+}
+
+impl From<AllocError> for RunFault {
+    ghost use Rattle.sfi_tool.specs.declared.serving.RunFault.TheVariants.{Memory};
 
     ghost from_gives = { λ _ e. e ≡ Memory };
 
-    fn from(_e: AllocError) -> ExecFault {
-        ExecFault::Memory
+    fn from(_e: AllocError) -> RunFault {
+        RunFault::Memory
+    }
+}
+
+impl From<RunFault> for ExecFault {
+    ghost from_gives = { λ _ e. e ≢ NotAccepted };
+
+    fn from(fault: RunFault) -> ExecFault {
+        match fault {
+            RunFault::Memory => ExecFault::Memory,
+            RunFault::Read => ExecFault::Read,
+            RunFault::Write => ExecFault::Write,
+            RunFault::TooLong => ExecFault::TooLong,
+        }
     }
 }
 
 /// Says something, whole.
-fn say<E: Write>(errors: &mut E, text: &[u8]) -> Result<(), ExecFault>
+fn say<E: Write>(errors: &mut E, text: &[u8]) -> Result<(), RunFault>
     ensures { OnOk result (Appends (E.contents errors.old) (E.contents errors.new) text.now) }
 {
     if write_out(errors, text) {
         Ok(())
     } else {
-        Err(ExecFault::Write)
+        Err(RunFault::Write)
     }
 }
 
@@ -47,7 +78,7 @@ fn run_accepted<R: Read, W: Write, E: Write>(
     reader: &mut R,
     writer: &mut W,
     errors: &mut E,
-) -> Result<u8, ExecFault>
+) -> Result<u8, RunFault>
     ensures { IfOk result (Ran budget accepted.now (R.remaining reader.old) (R.remaining reader.new)
         (W.contents writer.old) (W.contents writer.new) (E.contents errors.old)
         (E.contents errors.new)) }
@@ -66,7 +97,7 @@ fn run_accepted<R: Read, W: Write, E: Write>(
         writer,
     )?;
     if writer.flush().is_err() {
-        return Err(ExecFault::Write);
+        return Err(RunFault::Write);
     }
     let text = stop_text(alloc, accepted.image().parts(), &world)?;
     say(errors, text.as_bytes())?;
@@ -74,11 +105,13 @@ fn run_accepted<R: Read, W: Write, E: Write>(
 }
 
 /// Says why there is no run.
-fn say_stop<E: Write>(alloc: Global, stop: Stop, errors: &mut E) -> ExecFault {
+fn say_stop<E: Write>(alloc: Global, stop: Stop, errors: &mut E) -> ExecFault
+    ensures { result ≡ NotAccepted → stop ≢ stops.Memory }
+{
     match stop_answer(alloc, stop) {
         Ok(answer) => match say(errors, &answer.output) {
             Ok(()) => ExecFault::NotAccepted,
-            Err(fault) => fault,
+            Err(fault) => ExecFault::from(fault),
         },
         Err(_) => ExecFault::Memory,
     }
@@ -87,11 +120,12 @@ fn say_stop<E: Write>(alloc: Global, stop: Stop, errors: &mut E) -> ExecFault {
 /// Says the verdict on an image that is refused.
 fn say_refusal<E: Write>(alloc: Global, bytes: &[u8], refusal: Refusal, errors: &mut E) -> ExecFault
     requires { Refuses bytes.now refusal }
+    ensures { result ≡ NotAccepted → ¬ IsAcceptedImage bytes.now }
 {
     match refusal_answer(alloc, false, bytes, refusal) {
         Ok(answer) => match say(errors, &answer.output) {
             Ok(()) => ExecFault::NotAccepted,
-            Err(fault) => fault,
+            Err(fault) => ExecFault::from(fault),
         },
         Err(stop) => say_stop(alloc, stop, errors),
     }
@@ -101,7 +135,7 @@ fn say_refusal<E: Write>(alloc: Global, bytes: &[u8], refusal: Refusal, errors: 
 fn say_too_large<E: Write>(errors: &mut E) -> ExecFault {
     match say(errors, TOO_LARGE_LINE.as_bytes()) {
         Ok(()) => ExecFault::NotAccepted,
-        Err(fault) => fault,
+        Err(fault) => ExecFault::from(fault),
     }
 }
 
@@ -114,12 +148,15 @@ fn run_image<R: Read, W: Write, E: Write>(
     writer: &mut W,
     errors: &mut E,
 ) -> Result<u8, ExecFault>
-    ensures { IfOk result (λ status. RanImage budget (R.remaining reader.old)
+    ensures ran { IfOk result (λ status. RanImage budget (R.remaining reader.old)
         (R.remaining reader.new) (W.contents writer.old) (W.contents writer.new)
         (E.contents errors.old) (E.contents errors.new) status bytes.now) }
+    ensures not_accepted { result ≡ Err NotAccepted → ¬ IsAcceptedImage bytes.now }
+    ensures untouched { result ≡ Err NotAccepted
+        → (reader.new ≡ reader.old) × (writer.new ≡ writer.old) }
 {
     match check(alloc, bytes) {
-        Ok(accepted) => run_accepted(alloc, &accepted, budget, reader, writer, errors),
+        Ok(accepted) => Ok(run_accepted(alloc, &accepted, budget, reader, writer, errors)?),
         Err(refusal) => Err(say_refusal(alloc, bytes, refusal, errors)),
     }
 }
@@ -133,9 +170,12 @@ fn run_text<R: Read, W: Write, E: Write>(
     writer: &mut W,
     errors: &mut E,
 ) -> Result<u8, ExecFault>
-    ensures { IfOk result (λ status. GivesImageThat (RanImage budget (R.remaining reader.old)
+    ensures ran { IfOk result (λ status. GivesImageThat (RanImage budget (R.remaining reader.old)
         (R.remaining reader.new) (W.contents writer.old) (W.contents writer.new)
         (E.contents errors.old) (E.contents errors.new) status) text.now) }
+    ensures not_accepted { result ≡ Err NotAccepted → IsNotAccepted text.now }
+    ensures untouched { result ≡ Err NotAccepted
+        → (reader.new ≡ reader.old) × (writer.new ≡ writer.old) }
 {
     if text.len() > INPUT_LIMIT {
         return Err(say_too_large(errors));
@@ -155,9 +195,13 @@ pub fn exec<I: Read, R: Read, W: Write, E: Write>(
     writer: &mut W,
     errors: &mut E,
 ) -> Result<u8, ExecFault>
-    ensures { IfOk result (ExecutesKnown budget (I.remaining image.old)
+    ensures executes { IfOk result (ExecutesKnown budget (I.remaining image.old)
         (R.remaining reader.old) (R.remaining reader.new) (W.contents writer.old)
         (W.contents writer.new) (E.contents errors.old) (E.contents errors.new)) }
+    ensures not_accepted { result ≡ Err NotAccepted
+        → IfSome (I.remaining image.old) IsNotAccepted }
+    ensures untouched { result ≡ Err NotAccepted
+        → (reader.new ≡ reader.old) × (writer.new ≡ writer.old) }
 {
     match read_input(alloc, image) {
         Ok(Input::Whole(text)) => run_text(alloc, &text, budget, reader, writer, errors),

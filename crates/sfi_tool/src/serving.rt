@@ -24,15 +24,12 @@ const PUT: u32 = 1;
 
 const GET: u32 = 2;
 
-/// Why a run of an image's sandboxes didn't come to its end.
-#[derive(Clone, Copy, Debug, Drop, PartialEq, Eq)]
-pub enum ExecFault {
-    /// The image can't be run. What was said tells why: the verdict on an image with findings, or the
-    /// line of a fault.
-    NotAccepted,
+/// Why sandboxes that ran didn't come to their end.
+#[derive(Clone, Copy, Drop)]
+pub enum RunFault {
     /// An allocation was refused.
     Memory,
-    /// The image or the input can't be read.
+    /// The input can't be read.
     Read,
     /// The output, or what is said, can't be written.
     Write,
@@ -58,7 +55,7 @@ fn answer_call<M: Memory, G: Gates>(
     world: &mut World<M>,
     request: Request,
     gates: &mut G,
-) -> Result<(), ExecFault>
+) -> Result<(), RunFault>
     requires { Waits (slots_of world.old) request.sandbox request }
     ensures { IfOk result (λ u. IsAnsweredBy G.answer request (slots_of world.old) gates.old
         (slots_of world.new) gates.new) }
@@ -69,12 +66,12 @@ fn answer_call<M: Memory, G: Gates>(
     };
     match world.run_plan(&[turn], gates) {
         RunAnswer::Done => Ok(()),
-        RunAnswer::Memory { .. } => Err(ExecFault::Memory),
+        RunAnswer::Memory { .. } => Err(RunFault::Memory),
     }
 }
 
 /// Gives a caller this a0, and lets it go on.
-fn reply<M: Memory>(world: &mut World<M>, request: Request, a0: u32) -> Result<(), ExecFault>
+fn reply<M: Memory>(world: &mut World<M>, request: Request, a0: u32) -> Result<(), RunFault>
     requires { Waits (slots_of world.old) request.sandbox request }
     ensures { IfOk result
         (λ u. GoesOnWith request a0 (slots_of world.old) (slots_of world.new)) }
@@ -93,7 +90,7 @@ fn put<M: Memory, W: Write>(
     request: Request,
     buffer: &mut [u8],
     writer: &mut W,
-) -> Result<(), ExecFault>
+) -> Result<(), RunFault>
     requires put { request.service ≡ 1 }
     requires waits { Waits (slots_of world.old) request.sandbox request }
     requires buffer { length buffer.old ≡ 65536 }
@@ -105,7 +102,7 @@ fn put<M: Memory, W: Write>(
         return reply(world, request, FAILED);
     }
     if !write_out(writer, &buffer[..request.a1 as usize]) {
-        return Err(ExecFault::Write);
+        return Err(RunFault::Write);
     }
     reply(world, request, request.a1)
 }
@@ -115,18 +112,18 @@ fn read_piece<R: Read, W: Write>(
     piece: &mut [u8],
     reader: &mut R,
     writer: &mut W,
-) -> Result<usize, ExecFault>
+) -> Result<usize, RunFault>
     ensures piece { IfOk result (λ n. IsPiece (length piece.old) (R.remaining reader.old)
         (R.remaining reader.new) (take n piece.new)) }
     ensures few { IfOk result (λ n. n ≤ length piece.old) }
     ensures flushed { IfOk result (λ n. Keeps (W.contents writer.old) (W.contents writer.new)) }
 {
     if writer.flush().is_err() {
-        return Err(ExecFault::Write);
+        return Err(RunFault::Write);
     }
     match reader.read(piece) {
         Ok(count) => Ok(count),
-        Err(_) => Err(ExecFault::Read),
+        Err(_) => Err(RunFault::Read),
     }
 }
 
@@ -137,7 +134,7 @@ fn get<M: Memory, R: Read, W: Write>(
     buffer: &mut [u8],
     reader: &mut R,
     writer: &mut W,
-) -> Result<(), ExecFault>
+) -> Result<(), RunFault>
     requires get { request.service ≡ 2 }
     requires waits { Waits (slots_of world.old) request.sandbox request }
     requires buffer { length buffer.old ≡ 65536 }
@@ -160,7 +157,7 @@ fn ask_console<M: Memory>(
     world: &mut World<M>,
     request: Request,
     console: &mut Console,
-) -> Result<(), ExecFault>
+) -> Result<(), RunFault>
     requires put { request.service ≢ 1 }
     requires get { request.service ≢ 2 }
     requires waits { Waits (slots_of world.old) request.sandbox request }
@@ -178,7 +175,7 @@ pub(crate) fn serve<M: Memory, R: Read, W: Write>(
     buffer: &mut [u8],
     reader: &mut R,
     writer: &mut W,
-) -> Result<(), ExecFault>
+) -> Result<(), RunFault>
     requires waits { Waits (slots_of world.old) request.sandbox request }
     requires buffer { length buffer.old ≡ 65536 }
     ensures { IfOk result (λ u. IsServed request.sandbox (slots_of world.old) console.old

@@ -5,9 +5,9 @@ use Rattle.sfi_io.specs.declared.streams.Input.{Input}
 use Rattle.sfi_tool.proofs.Processes.{executes, whole_is}
 use Rattle.sfi_tool.proofs.process.exec.Goals as goal
 
-pub returns-in-Ok-Whole : goal.returns-in-Ok-Whole
-returns-in-Ok-Whole g c = IfOk-weaker c.run_text.result _ _ (λ status ran.
+pub returns-in-Ok-Whole-clause-executes : goal.returns-in-Ok-Whole-clause-executes
+returns-in-Ok-Whole-clause-executes g c = IfOk-weaker c.run_text.result _ _ (λ status ran.
     executes c.args.budget (g.I.Read.remaining c.args.image.now) (g.R.Read.remaining c.args.reader.now) (g.R.Read.remaining c.run_text.new.reader) (g.W.Write.contents c.args.writer.now)
     (g.W.Write.contents c.run_text.new.writer) (g.E.Write.contents c.args.errors.now) (g.E.Write.contents c.run_text.new.errors) status c.deref.result.now
     (λ known is. c.deref.ensures.value ∙ whole_is (g.I.Read.remaining c.args.image.now) c.in-Ok-Whole.text known is
-    (subst (λ (x : Input). IsInput (g.I.Read.remaining c.args.image.now) x) c.in-Ok-Whole.field-0-is c.in-Ok-Whole.ensures)) ran) c.run_text.ensures
+    (subst (λ (x : Input). IsInput (g.I.Read.remaining c.args.image.now) x) c.in-Ok-Whole.field-0-is c.in-Ok-Whole.ensures)) ran) c.run_text.ensures.ran
