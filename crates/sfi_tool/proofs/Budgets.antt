@@ -81,7 +81,7 @@ module _ {S : Type 0} (machine : Machine) (host : Host S) (i : ℕ) where
   and_takes TurnEnds m k slot rest first last = one_fewer (taken m.slot) (taken slot) k first
   and_takes RunEnds m k slot rest first last = one_fewer (taken m.slot) (taken slot) k first
 
-  -- a turn of k steps takes at most so many more
+  -- a turn of k steps takes at most k more
   turn_takes : (k : ℕ) (slot : Slot) (s : S) → taken (turned machine host i k slot s).slot ≤ taken slot + k
   unfolding turned
   turn_takes zero slot s = fewer (taken slot) 0

@@ -95,7 +95,7 @@ first_streams input cuts count =
 
 -- ---- the sandboxes
 
--- a turn of the sandbox of that number, of at most so many steps
+-- a turn of the sandbox of that number, of at most n steps
 abbrev pub turn_of : ℕ → ℕ → Turn
 turn_of i n = record { sandbox = i; steps = n }
 

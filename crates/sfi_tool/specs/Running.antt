@@ -99,7 +99,7 @@ abbrev pub round_of : ℕ → ℕ → List Turn
 round_of quantum zero = []
 round_of quantum (suc n) = round_of quantum n ++ record { sandbox = n; steps = quantum } ∷ []
 
--- so many rounds of so many sandboxes
+-- `rounds` rounds of the first `count` sandboxes
 abbrev pub plan_of : ℕ → ℕ → ℕ → List Turn
 plan_of zero quantum count = []
 plan_of (suc rounds) quantum count = plan_of rounds quantum count ++ round_of quantum count
@@ -141,7 +141,7 @@ abbrev pub SaysRun : ℕ → ℕ → List ℕ → Bool → List ℕ → ℕ → 
 SaysRun rounds quantum given report bytes status text =
     SaysRan rounds quantum given report bytes status text ⊎ SaysRefused false bytes status text
 
--- `run`, of so many rounds of turns of so many steps, where each sandbox reads what is given, with a
--- report or without
+-- `run`, of `rounds` rounds of turns of `quantum` steps, where each sandbox reads what is given, with
+-- a report or without
 abbrev pub run : ℕ → ℕ → List ℕ → Bool → Meaning
 run rounds quantum given report = on_verdict (SaysRun rounds quantum given report)

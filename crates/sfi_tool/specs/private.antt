@@ -34,8 +34,8 @@ pub record Runs (job : Job) (input old new : Option (List ℕ)) (status : ℕ) :
   pub usage : status ≢ 3
   pub appends : OnlyAppends old new
 
--- sandboxes and console after so many rounds, in each of which so many sandboxes take a turn of so
--- many steps
+-- sandboxes and console after `rounds` rounds, in each of which the first `count` sandboxes take a turn
+-- of `quantum` steps
 abbrev pub AreTaken : ℕ → ℕ → ℕ → List Slot → ConsoleState → List Slot → ConsoleState → Type 0
 AreTaken rounds quantum count old before new after =
     (machine : Machine) → IsMachine machine

@@ -10,7 +10,7 @@ use rv_mem::Memory;
 use sfi_host::{Console, Request, Status, Turn, World};
 use std::io::{Read, Write};
 
-/// How many steps a sandbox of that status may still do, which did so many.
+/// How many steps a sandbox of that status may still do, which did `steps`.
 fn left_by(budget: u64, status: Status, steps: u64) -> u64
     ensures { result ≡ left_by budget status steps }
 {

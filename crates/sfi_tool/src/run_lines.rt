@@ -81,7 +81,7 @@ fn push_line_of<M: Memory>(
     push_run_line(alloc, out, sandbox, status, steps, output)
 }
 
-/// The lines of the first sandboxes, so many, in order.
+/// The lines of the first `count` sandboxes, in order.
 pub(crate) fn run_lines<M: Memory>(
     alloc: Global,
     count: u32,

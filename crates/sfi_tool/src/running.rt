@@ -13,7 +13,7 @@ use sfi_check::{Accepted, check};
 use sfi_host::{Console, RunAnswer, Turn, World};
 use std::alloc::{AllocError, Global};
 
-/// One turn of so many steps for each of so many sandboxes, in order.
+/// One turn of `quantum` steps for each of the first `count` sandboxes, in order.
 fn round_of(alloc: Global, quantum: u32, count: u32) -> Result<Vec<Turn>, AllocError>
     ensures { IfOk result (λ turns. turns.items ≡ round_of quantum count) }
 {
@@ -27,8 +27,8 @@ fn round_of(alloc: Global, quantum: u32, count: u32) -> Result<Vec<Turn>, AllocE
     Ok(turns)
 }
 
-/// So many rounds of so many sandboxes. Where the console has no memory for a reply, no further
-/// turn is taken.
+/// Takes `rounds` rounds of the first `count` sandboxes. Where the console has no memory for a reply,
+/// no further turn is taken.
 pub(crate) fn take_rounds<M: Memory>(
     alloc: Global,
     rounds: u32,
