@@ -49,14 +49,14 @@ export class Library {
     return new Uint32Array(this.bytes.buffer, Number(at), count);
   }
 
-  /** A block of so many bytes, which hold anything. */
+  /** A block of `length` bytes, which hold anything. */
   room(length) {
     const at = this.#exports.malloc(BigInt(length || 1));
     if (!at) throw new NoMemory("the module has no memory left");
     return at;
   }
 
-  /** A block with these bytes, after so many zeros. */
+  /** A block with `bytes`, after `zeros` zeros. */
   put(bytes, zeros = 0) {
     const at = this.room(zeros + bytes.length);
     const place = Number(at);
@@ -64,7 +64,7 @@ export class Library {
     return at;
   }
 
-  /** A block with room for so many bytes, until it is asked for the next time. */
+  /** A block with room for `length` bytes, until it is asked for the next time. */
   passage(length) {
     if (length > this.#passageSize) {
       const wider = this.room(length);

@@ -130,7 +130,7 @@ static bool serve(struct sfi_run_world *world, uint32_t sandbox, const struct sf
     return it->goes_on;
 }
 
-/* How many steps a run of at most so many takes from the start, and how often it calls. */
+/* How many steps a run of at most `steps` steps takes from the start, and how often it calls. */
 static uint64_t steps_of(struct sfi_run_world *world, uint64_t steps, struct served *it, uint32_t kind) {
     struct sfi_run_event event;
     sfi_run_reset(world, 0);

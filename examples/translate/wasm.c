@@ -6,7 +6,7 @@ static uint8_t data[LARGEST];
 static struct sfi_hart hart;
 static sfi_u32 at;
 
-/* Begins as `sfi run` does, and takes so many steps at most: how the turn ended. */
+/* Begins as `sfi run` does, and takes `steps` steps at most: how the turn ended. */
 __attribute__((export_name("turn"))) int turn(sfi_u32 steps) {
     const struct sfi_sandbox *s = &sfi_sandboxes[0];
     memcpy(data, s->first_data, s->init);

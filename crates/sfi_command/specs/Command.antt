@@ -142,7 +142,7 @@ abbrev pub IsNoInput : Option Text → Type 0
 IsNoInput None = ⊥
 IsNoInput (Some text) = IsErr (decode_of text)
 
--- the text of an option allows so many steps, at least one; no option, as many as 64 bits count
+-- the text of an option is this number of steps, at least one; without the option, the most that 64 bits count
 abbrev pub IsBudget : Option Text → ℕ → Type 0
 IsBudget None n = n ≡ 2 ^ 64 - 1
 IsBudget (Some text) n =

@@ -8,7 +8,7 @@ use Rattle.sfi_host.specs.Plans.{IsJoint, IsCutJoint}
 use Rattle.sfi_host.specs.Worlds.{Sandboxes, slots_of}
 use Rattle.sfi_run.specs.Changes.{IsStillSafe, plan_of}
 
--- the sandbox of that number took a turn of at most so many steps, in which the console answered each
+-- the sandbox of that number took a turn of at most `steps` steps, in which the console answered each
 -- call
 pub record HasServed (w n : Sandboxes) (c d : ConsoleState) (sandbox steps : ℕ) : Type 0 where
   pub ran : (machine : Machine) → IsMachine machine
