@@ -70,7 +70,7 @@ fn say<E: Write>(errors: &mut E, text: &[u8]) -> Result<(), RunFault>
     }
 }
 
-/// Runs the sandboxes of an accepted image.
+/// Runs the sandboxes of an accepted image. What they put before a fault is written, too.
 fn run_accepted<R: Read, W: Write, E: Write>(
     alloc: Global,
     accepted: &Accepted<'_>,
@@ -87,7 +87,7 @@ fn run_accepted<R: Read, W: Write, E: Write>(
     let mut world = World::load(alloc, accepted, Pages::new(alloc))?;
     let mut console = Console::new(alloc, count, &[])?;
     let mut buffer = vec![in alloc; 0u8; MOST_HANDED]?;
-    run_sandboxes(
+    let ran = run_sandboxes(
         &mut world,
         &mut console,
         count,
@@ -95,10 +95,11 @@ fn run_accepted<R: Read, W: Write, E: Write>(
         &mut buffer,
         reader,
         writer,
-    )?;
+    );
     if writer.flush().is_err() {
         return Err(RunFault::Write);
     }
+    ran?;
     let text = stop_text(alloc, accepted.image().parts(), &world)?;
     say(errors, text.as_bytes())?;
     Ok(status_among(&world, count))

@@ -9,18 +9,18 @@ use Rattle.sfi_tool.proofs.Budgets.{first_within}
 use Rattle.sfi_tool.proofs.Processes.{ran_of}
 use Rattle.sfi_tool.proofs.process.run_accepted.Goals as goal
 
-pub run_sandboxes-requires-clause-within : goal.run_sandboxes-requires-clause-within
-run_sandboxes-requires-clause-within g c =
+pub run_sandboxes-ran-requires-clause-within : goal.run_sandboxes-ran-requires-clause-within
+run_sandboxes-ran-requires-clause-within g c =
     let w = c.in_ok-world.world in
     subst (λ (seats : List Seat). AreWithin c.args.budget (map (slot_of w.bytes) seats)) (sym c.in_ok-world.ensures.seats) (first_within c.args.budget w.bytes c.args.accepted.now)
 
 pub returns : goal.returns
 returns g c =
-    ran_of c.args.budget c.args.accepted.now c.sandboxes-count.result c.in_ok-world.world (slots_of c.run_sandboxes.new.world) c.in_ok-console.console c.run_sandboxes.new.console
+    ran_of c.args.budget c.args.accepted.now c.sandboxes-count.result c.in_ok-world.world (slots_of c.run_sandboxes-ran.new.world) c.in_ok-console.console c.run_sandboxes-ran.new.console
     c.sandboxes-count.ensures.count c.in_ok-world.ensures.seats c.in_ok-world.ensures.bytes c.in_ok-console.ensures
-    (g.R.Read.remaining c.args.reader.now) (g.R.Read.remaining c.run_sandboxes.new.reader) (g.W.Write.contents c.args.writer.now) (g.W.Write.contents c.run_sandboxes.new.writer)
+    (g.R.Read.remaining c.args.reader.now) (g.R.Read.remaining c.run_sandboxes-ran.new.reader) (g.W.Write.contents c.args.writer.now) (g.W.Write.contents c.run_sandboxes-ran.new.writer)
     (g.W.Write.contents c.flush.new.self) (g.E.Write.contents c.args.errors.now) (g.E.Write.contents c.say.new.errors) (string_bytes c.in_ok-text.text) c.status_among.result
-    c.in_ok-run_sandboxes.ensures c.flush.ensures.bytes
-    (subst (λ (ps : List Part). IsStopText ps (slots_of c.run_sandboxes.new.world) (string_bytes c.in_ok-text.text)) (c.parts.ensures.parts ∙ c.image.ensures.image)
+    c.in_ok-ran.ensures c.flush.ensures.bytes
+    (subst (λ (ps : List Part). IsStopText ps (slots_of c.run_sandboxes-ran.new.world) (string_bytes c.in_ok-text.text)) (c.parts.ensures.parts ∙ c.image.ensures.image)
     (c.in_ok-text.ensures (format_of c.image.result.now)))
     (subst (λ (text : List ℕ). Appends (g.E.Write.contents c.args.errors.now) (g.E.Write.contents c.say.new.errors) text) c.as_bytes.ensures.value c.in_ok-say.ensures) c.status_among.ensures
