@@ -13,7 +13,7 @@ use Rattle.std.specs.Io.KnownBytes.{Appends}
 use Rattle.clap.specs.Walk.{Text}
 use Rattle.sfi_command.specs.Command.{Asks, AsksNoInput}
 
--- where no file can be opened, `exec` has a fault, whatever was read
+-- `exec` has a fault here whatever was read: no file can be opened
 abbrev pub not_here : Meaning
 not_here = record {
   says = λ input status answer. ⊥;
