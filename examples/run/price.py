@@ -1,11 +1,12 @@
 #!/usr/bin/env python3
 """Measures what a step, a call, a read, a write and a load cost a host of libsfi_run: in instructions of this processor, which
-valgrind counts, from C; in microseconds from C and Python, the median of seven runs.
+valgrind counts, from C; in microseconds from C, Python and node, the median of seven runs.
 
     examples/run/price.py [LIBRARY [PROGRAM]]    # as test.sh takes them
 
 A loop of two instructions gives the price of a step, beside that of `sfi run`; a loop with a call in it, whose steps are
-taken off, that of a turn with its reply. From Python a call is measured as `turn` and `reply`, and as a loop over `events`.
+taken off, that of a turn with its reply. From Python and node a call is measured as `turn` and `reply`, and as a loop over
+`events`.
 """
 import os
 import pathlib
@@ -102,6 +103,9 @@ def main(library=None, sfi=None):
         print(f"from C, with these steps: {microseconds(lambda: run(*host('calls', TURNS * 20, 1000))) / 20:.2f} us")
         for name, calls in zip(("turn and reply", "events"), python_calls((room / "calls").read_bytes())):
             print(f"from Python, {name}: {microseconds(calls):.2f} us")
+        if shutil.which("node") and (TOP / "bindings" / "node" / "sfi_run.wasm").is_file():  # which tools/build_node.py makes
+            times = run("node", HERE / "price.mjs", room / "calls", str(TURNS), str(ROUNDS)).stdout.split()
+            print(f"from node, turn and reply: {times[0]} us, events: {times[1]} us")
 
 
 if __name__ == "__main__":
