@@ -150,6 +150,8 @@ const tests = {
       const x = kept.x.map((value, at) => value + (at === number && number ? 1 : 0));
       assert.throws(() => { sandbox.registers = { pc, x }; }, NotEntered);
     }
+    assert.throws(() => { sandbox.registers = { pc: kept.pc, x: [...kept.x, 0] }; }, RangeError);
+    assert.throws(() => sandbox.until([2 ** 32], 1), RangeError);
     assert.deepEqual(sandbox.registers, kept);
   },
   async "events, and no steps but those given"() {
@@ -205,8 +207,9 @@ const tests = {
     sandbox.enter(fresh[0].pc);
     const call = sandbox.turn(100);
     sandbox.reset();
-    assert.throws(() => call.reply(0), NotWaiting);
     assert.deepEqual([sandbox.registers, sandbox.read(DATA, 256), sandbox.steps], [...fresh, 0]);
+    assert.equal(sandbox.turn(100).service, 1);
+    assert.throws(() => call.reply(0), NotWaiting);
   },
   async "data"() {
     const sandbox = await first(TWICE);
@@ -237,6 +240,10 @@ const tests = {
     for (const pc of [SUM + 4, CODE - 16, CODE + 256, DATA]) assert.throws(() => sandbox.enter(pc), NotEntered);
     sandbox.enter(SUM, [1, 2, 3, 4, 5, 6, 7, 8]);
     assert.deepEqual(sandbox.registers.x.slice(10, 18), [1, 2, 3, 4, 5, 6, 7, 8]);
+    sandbox.stop();
+    assert.throws(() => sandbox.enter(SUM, [-1]), RangeError);
+    sandbox.enter(SUM, [9]);
+    assert.deepEqual(sandbox.registers.x.slice(10, 18), [9, 0, 0, 0, 0, 0, 0, 0]);
   },
   async "what a table of names says"() {
     const exported = Buffer.concat([entry(CODE, "add"), entry(CODE + 16, "add"), entry(0xffffffff, "~".repeat(180))]);
@@ -300,6 +307,8 @@ const tests = {
     assert.match(console.line(sandbox), /^sandbox=0 trap=Break at=010000\w\w steps=\d+ out=000000$/);
     world.close();
     assert.throws(() => console.turn(sandbox, 1), RangeError);
+    const other = await load(built(".sandbox 256\n.gate yield 3\n call yield\n ebreak\n"));
+    assert.equal(new Console(other).serve(other.sandboxes[0].turn(100)), false);
   },
   async "the console of `sfi run`"() {
     const echo = ".sandbox 256\n.gate exit 0\n.gate put 1\n.gate get 2\n.gate yield 3\n"
