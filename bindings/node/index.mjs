@@ -1,4 +1,4 @@
-// Runs sandboxes of untrusted RISC-V code, by Suygapid's proved library: index.d.ts says what each call does.
+// Runs sandboxes of untrusted RISC-V code, by Suygapid's proved library: index.d.mts says what each call does.
 export { Console } from "./console.mjs";
 export { Library, NoMemory, VERSION } from "./library.mjs";
 export { Plugin } from "./plugin.mjs";

@@ -1,4 +1,4 @@
-// What this package throws, and how a sandbox stands: index.d.ts says what each means.
+// What this package throws, and how a sandbox stands: index.d.mts says what each means.
 const WHY = ["", "the bytes are no image", "there is no such sandbox", "there is no table of names",
   "the table of names is broken", "the table doesn't have the name"];
 

@@ -1,4 +1,4 @@
-// Worlds and their sandboxes, over the calls of sfi_run.h: index.d.ts says what each does.
+// Worlds and their sandboxes, over the calls of sfi_run.h: index.d.mts says what each does.
 import { NoMemory, usualLibrary } from "./library.mjs";
 import { Call, Exited, NoImage, NoName, NotEntered, NotReturned, NotRunning, NotWaiting, OutsideData, Ready, Refused,
   eventOf, hexadecimal } from "./told.mjs";

@@ -152,7 +152,7 @@ export declare class Plugin {
   private constructor();
   /** Loads the image, and runs the sandbox of that number, 0 if none is given, through its start, which has to exit. Handlers
    * whose name the image doesn't import are never called. A call has at most `steps` steps. Throws what `load` does, and
-   * NotReturned. */
+   * NotReturned. For TypeScript a plug-in that its own handlers call is `const plugin: Plugin = await ..`. */
   static load(image: Bytes, options?: {
     number?: number; steps?: number; handlers?: Record<string, Handler>; library?: Library;
   }): Promise<Plugin>;
