@@ -73,7 +73,8 @@ class Device:
                    "-serial", "stdio", "-kernel", f"{out}/checked"]
         self.qemu = subprocess.Popen(command, stdin=subprocess.PIPE, stdout=subprocess.PIPE, bufsize=0)
         self.lines = queue.Queue()
-        threading.Thread(target=self.read, daemon=True).start()
+        self.reader = threading.Thread(target=self.read, daemon=True)
+        self.reader.start()
         self.wait_for("slots")
 
     def read(self):
@@ -83,6 +84,7 @@ class Device:
     def close(self):
         self.qemu.kill()
         self.qemu.wait()
+        self.reader.join()
         self.qemu.stdin.close()
         self.qemu.stdout.close()
 
