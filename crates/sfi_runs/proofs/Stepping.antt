@@ -22,7 +22,7 @@ gate_of (g ∷ gates) a h =
     (λ (e : is_gate_of gates a ≡ true). let x = gate_of gates a e in (suc x.0, x.1, x.2, x.3))
     (or_cases (g.address == a) (is_gate_of gates a) h)
 
-guarded : (p : Part) (a : ℕ) → IsRightPart p → InData p a ⊎ InGuard p a → Holds (guarded_region p) a
+pub guarded : (p : Part) (a : ℕ) → IsRightPart p → InData p a ⊎ InGuard p a → Holds (guarded_region p) a
 guarded p a right (inl (from, below)) = let room : 4096 ≤ p.data_base = right.guard_room.below in (omega arith, omega arith)
 guarded p a right (inr (inl (from, below))) = let room : 4096 ≤ p.data_base = right.guard_room.below in (omega arith, omega arith)
 guarded p a right (inr (inr (from, below))) = let room : 4096 ≤ p.data_base = right.guard_room.below in (omega arith, omega arith)

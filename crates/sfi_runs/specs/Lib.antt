@@ -4,4 +4,5 @@ pub mod Runs
 pub mod Safety
 pub mod Calls
 pub mod Kept
+pub mod Padded
 pub mod Laws

@@ -17,5 +17,7 @@ pub mod Samples
 pub mod Sandboxed
 pub mod SandboxedWords
 pub mod Stacking
+pub mod Standing
 pub mod Stepping
+pub mod Padded
 pub mod Facts

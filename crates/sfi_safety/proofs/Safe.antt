@@ -1,9 +1,10 @@
 -- Every sandbox without a finding runs safely, whatever its format, and so does each of a clean image.
-use Rattle.sfi_safety.proofs.Prelude.{◌≡◌, ℕ, zero, suc, ◌+◌, List, [], ◌∷◌, Bool, true, false, refl, sym, ◌∙◌, subst, arith, All, has_words, Part, AreApart, code_region, guarded_region, AreRight, Finding, AreFindings, AreFindingsFrom, RunsSafely, AllRunSafely, IsCleanPart, AreCleanBundles, CleanRunsSafely, CleanCallsTyped, IsClean, MayRun}
+use Rattle.sfi_safety.proofs.Prelude.{◌≡◌, ℕ, zero, suc, ◌+◌, List, [], ◌∷◌, Bool, true, false, refl, sym, ◌∙◌, subst, arith, All, has_words, Part, AreApart, code_region, guarded_region, AreRight, Finding, AreFindings, AreFindingsFrom, RunsSafely, AllRunSafely, IsCleanPart, AreCleanBundles, CleanRunsSafely, CleanCallsTyped, CleanRunsContained, IsClean, MayRun}
 use Rattle.sfi_rules.proofs.Facts.{in_bundles, in_words}
 use Rattle.sfi_runs.specs.Calls.{CallsTyped, AllCallTyped}
 use Rattle.sfi_words.specs.Code as words
 use Rattle.sfi_words.proofs.Facts as words_facts
+use Rattle.sfi_safety.proofs.Padded.{bundles_contained}
 use Rattle.sfi_safety.proofs.Places.{nothing_before}
 use Rattle.sfi_safety.proofs.TurnInvariant.{bundles_run, bundles_call}
 
@@ -33,6 +34,9 @@ clean_runs = in_any RunsSafely bundles_run words_facts.clean_runs_safely
 
 pub clean_calls : CleanCallsTyped
 clean_calls = in_any CallsTyped bundles_call words_facts.clean_calls_typed
+
+pub clean_contained : CleanRunsContained
+clean_contained sandbox p none clean = bundles_contained sandbox p (clean_bundles sandbox p clean none)
 
 -- ---- an image
 

@@ -10,6 +10,7 @@ use Rattle.sfi_runs.specs.Regions.{HasReserved}
 use Rattle.sfi_runs.specs.Runs.{Turn, IsTurn, IsEntry, after_turn}
 use Rattle.sfi_runs.specs.Safety.{IsSafeState, IsSafeTurn, RunsSafely}
 use Rattle.sfi_runs.specs.Calls.{CallsTyped}
+use Rattle.sfi_runs.specs.Padded.{RunsContained}
 use Rattle.sfi_safety.specs.Leaving.{Leaves, WritesResult}
 use Rattle.sfi_safety.specs.Places.{IsCleanPart, AreCleanBundles, IsGood, IsGoodIf}
 
@@ -48,3 +49,13 @@ CleanRunsSafely = (sandbox : ℕ) (p : Part) → IsCleanPart sandbox p → RunsS
 -- say: in the second format, with the stack pointer in the data region
 abbrev pub CleanCallsTyped : Type 0
 CleanCallsTyped = (sandbox : ℕ) (p : Part) → IsCleanPart sandbox p → CallsTyped p
+
+-- ---- where guard zones hold bytes
+
+-- In code in bundles every run is contained, whatever the guard zones hold: nothing is asked of them.
+-- In code in words this isn't so, and it is left out: `addi x2, x2, 2047` and a load on x2, one after
+-- the other, are accepted any number of times, since where x2 has left the data's surroundings the load
+-- traps. If a guard zone holds bytes, it needn't, and x2 walks on past the zone.
+abbrev pub CleanRunsContained : Type 0
+CleanRunsContained =
+    (sandbox : ℕ) (p : Part) → has_words p.format ≡ false → IsCleanPart sandbox p → RunsContained p

@@ -1,0 +1,88 @@
+-- What stands at a place: one instruction, whose accesses fall into the data and the guards; and where a reply and a change by others lead from there.
+use Rattle.sfi_safety.proofs.Prelude.{◌≡◌, ℕ, ◌+◌, ◌*◌, ◌^◌, ◌<◌, ◌≤◌, ◌⊎◌, List, [], ◌∷◌, length, true, refl, sym, ap, ◌∙◌, subst, arith, add-zero, false≢true, false, Instr, Ecall, InRange, Accesses, address_after, Hart, State, Stands, Part, bundle_place, is_empty, ends_region, InData, InGuard, IsGate, HasReserved, HasCode, IsTyped, Leaves, StackInDataBefore, AreCleanBundles, IsAtPlace}
+use Rattle.sfi_safety.proofs.Places.{pc_in_code, present, at_start}
+use Rattle.sfi_safety.proofs.NextPlace.{place_here, rules_kept, goes_on}
+use Rattle.sfi_safety.proofs.Effects.{Here, accesses_near}
+use Rattle.sfi_safety.proofs.PairResult.{leaves_after}
+use Rattle.sfi_safety.proofs.Stacking.{stack_lies}
+use Rattle.rv_comp.proofs.Facts.{spelled_in_range, ecall_is_wide}
+use Rattle.rv_step.proofs.Facts.{one_instruction}
+use Rattle.sfi_runs.proofs.Stepping.{gate_of}
+use Rattle.sfi_image.proofs.Facts.{code_ends}
+use Rattle.sfi_rules.proofs.Facts.{same_bundle_starts}
+
+no_earlier : {A : Type 0} (xs : List A) → is_empty xs ≡ true → xs ≡ []
+no_earlier [] h = refl
+no_earlier (x ∷ xs) h = absurd (false≢true h)
+
+ecall_in_range : InRange Ecall
+unfolding InRange
+ecall_in_range = tt
+
+module _ (sandbox : ℕ) (p : Part) (s : State) (clean : AreCleanBundles sandbox p) (at : IsAtPlace sandbox p s.hart) (code : HasCode p s.memory) where
+  pub stands_here : Stands s at.here.instr at.here.size
+  stands_here = present sandbox p s.hart clean at s.memory code
+
+  pub only : (i : Instr) (n : ℕ) → Stands s i n → (i ≡ at.here.instr) × (n ≡ at.here.size)
+  only i n stands = one_instruction s i at.here.instr n at.here.size stands stands_here
+
+  pub here : Here sandbox p s.hart at.here.instr at.here.size
+  here =
+      let rules = rules_kept sandbox p s.hart at in
+      let inside = pc_in_code sandbox p s.hart clean at in
+      let end : p.code_base + length p.code ≤ 2 ^ 32 = code_ends p clean.right in
+      let below : s.hart.pc < p.code_base + length p.code = inside.1 in
+      record {
+        place = place_here sandbox p s.hart at;
+        address = sym at.pc;
+        pc = omega arith;
+        end = end;
+        range = spelled_in_range stands_here.bytes at.here.instr at.here.size stands_here.spelled;
+        leaves = at.leaves;
+        ecall = rules.ecall;
+        reserved = rules.reserved;
+        access = rules.access;
+        jump = rules.jump;
+        target = rules.target;
+        writing = rules.stack;
+        format = refl;
+        stack = at.stack;
+        gate = λ e listed.
+            let first : p.code_base + 16 * at.number ≡ s.hart.pc = sym (at.pc ∙ ap (λ (n : ℕ). p.code_base + 16 * at.number + n) (at.first (no_earlier at.earlier e)) ∙ add-zero (p.code_base + 16 * at.number)) in
+            subst (λ (a : ℕ). IsGate p a) first (gate_of p.gates (p.code_base + 16 * at.number) listed);
+        is_start = λ a is. (same_bundle_starts (bundle_place sandbox p at.number) a).0 is;
+        goes = λ h' pc goes leaves stack. goes_on sandbox p s.hart h' clean at pc goes leaves stack;
+        start = λ h' start stack. at_start sandbox p h' clean start stack;
+      }
+
+  pub near_here : (a : ℕ) → Accesses at.here.instr s.hart a → InData p a ⊎ InGuard p a
+  near_here a has = accesses_near sandbox p s.hart at.here.instr at.here.size clean.right here a has
+
+  -- a reply to an ecall here leads to the place after it
+  pub place_replied : length s.hart.registers ≡ 32 → HasReserved p s.hart.registers → (after : Hart) (n : ℕ) → Stands s Ecall n → after.pc ≡ address_after s.hart.pc 4 → IsTyped p after.registers → IsAtPlace sandbox p after
+  place_replied count reserved after n asked pc typed =
+      let e = only Ecall n asked in
+      let four : n ≡ 4 = ecall_is_wide asked.bytes n asked.spelled in
+      let goes : ends_region at.here.instr ≡ false = ap ends_region (sym e.0) in
+      let left : Leaves p (Ecall ∷ at.earlier) after.registers = leaves_after p s.hart after Ecall at.earlier clean.right clean.bundles count reserved ecall_in_range tt at.leaves in
+      goes_on sandbox p s.hart after clean at (pc ∙ ap (λ (k : ℕ). address_after s.hart.pc k) (sym four ∙ e.1)) goes
+      (subst (λ (i : Instr). Leaves p (i ∷ at.earlier) after.registers) e.0 left)
+      (stack_lies p (at.here.instr ∷ at.earlier) at.later after.registers typed.stack)
+
+-- a hart of the same pc and registers is at the same place
+pub place_unchanged : (sandbox : ℕ) (p : Part) (h h' : Hart) → IsAtPlace sandbox p h → h'.pc ≡ h.pc → h'.registers ≡ h.registers → IsAtPlace sandbox p h'
+place_unchanged sandbox p h h' at pc registers = record {
+  number = at.number;
+  within = at.within;
+  offset = at.offset;
+  earlier = at.earlier;
+  here = at.here;
+  later = at.later;
+  reading = at.reading;
+  whole = at.whole;
+  clean = at.clean;
+  pc = pc ∙ at.pc;
+  first = at.first;
+  leaves = subst (λ (l : List ℕ). Leaves p at.earlier l) (sym registers) at.leaves;
+  stack = subst (λ (l : List ℕ). StackInDataBefore p at.earlier (at.here ∷ at.later) l) (sym registers) at.stack;
+}
