@@ -5,10 +5,10 @@ use Rattle.std.specs.FinMap.{empty, get-empty, insert, get-insert}
 use Rattle.std.specs.Ordering.{nat_cmp}
 use Rattle.sfi_image.proofs.Facts.{code_ends}
 
--- bytes from an address on, and nothing else
-bytes_from : ℕ → List ℕ → Bytes
-bytes_from at [] = empty
-bytes_from at (b ∷ bs) = insert (bytes_from (at + 1) bs) at b
+-- a memory with these bytes from an address on
+pub bytes_over : Bytes → ℕ → List ℕ → Bytes
+bytes_over m at [] = m
+bytes_over m at (b ∷ bs) = insert (bytes_over m (at + 1) bs) at b
 
 inserted : (m : Bytes) (a b q : ℕ) → byte_at (insert m a b) q ≡ cond (q == a) (Some b) (byte_at m q)
 inserted m a b q = get-insert nat_cmp_total m a b q ∙ ap (λ (t : Bool). cond t (Some b) (byte_at m q)) (unsigned_tied q a)
@@ -19,20 +19,22 @@ inserted_here m a b q e = inserted m a b q ∙ (let t : (q == a) ≡ true = grin
 pub inserted_elsewhere : (m : Bytes) (a b q : ℕ) → q ≢ a → byte_at (insert m a b) q ≡ byte_at m q
 inserted_elsewhere m a b q ne = inserted m a b q ∙ (let t : (q == a) ≡ false = grind arith in ap (λ (t : Bool). cond t (Some b) (byte_at m q)) t)
 
-there : (at : ℕ) (bs : List ℕ) (k : ℕ) → k < length bs → byte_at (bytes_from at bs) (at + k) ≡ Some (slice_index bs k)
-unfolding bytes_from
-there at [] k below = absurd (omega arith)
-there at (b ∷ bs) zero below = inserted_here (bytes_from (at + 1) bs) at b (at + 0) (omega arith)
-there at (b ∷ bs) (suc k) below =
+-- they are there
+pub there : (m : Bytes) (at : ℕ) (bs : List ℕ) (k : ℕ) → k < length bs → byte_at (bytes_over m at bs) (at + k) ≡ Some (slice_index bs k)
+unfolding bytes_over
+there m at [] k below = absurd (omega arith)
+there m at (b ∷ bs) zero below = inserted_here (bytes_over m (at + 1) bs) at b (at + 0) (omega arith)
+there m at (b ∷ bs) (suc k) below =
     let e : at + suc k ≡ at + 1 + k = omega arith in
-    inserted_elsewhere (bytes_from (at + 1) bs) at b (at + suc k) (λ same. omega arith)
-    ∙ ap (byte_at (bytes_from (at + 1) bs)) e ∙ there (at + 1) bs k (omega arith)
+    inserted_elsewhere (bytes_over m (at + 1) bs) at b (at + suc k) (λ same. omega arith)
+    ∙ ap (byte_at (bytes_over m (at + 1) bs)) e ∙ there m (at + 1) bs k (omega arith)
 
-nowhere_else : (at : ℕ) (bs : List ℕ) (q : ℕ) → (q < at) ⊎ (at + length bs ≤ q) → byte_at (bytes_from at bs) q ≡ None
-unfolding bytes_from
-nowhere_else at [] q out = get-empty nat_cmp q
-nowhere_else at (b ∷ bs) q (inl less) = inserted_elsewhere (bytes_from (at + 1) bs) at b q (λ same. omega arith) ∙ nowhere_else (at + 1) bs q (inl (omega arith))
-nowhere_else at (b ∷ bs) q (inr more) = inserted_elsewhere (bytes_from (at + 1) bs) at b q (λ same. omega arith) ∙ nowhere_else (at + 1) bs q (inr (omega arith))
+-- and elsewhere is what was
+pub elsewhere : (m : Bytes) (at : ℕ) (bs : List ℕ) (q : ℕ) → (q < at) ⊎ (at + length bs ≤ q) → byte_at (bytes_over m at bs) q ≡ byte_at m q
+unfolding bytes_over
+elsewhere m at [] q out = refl
+elsewhere m at (b ∷ bs) q (inl less) = inserted_elsewhere (bytes_over m (at + 1) bs) at b q (λ same. omega arith) ∙ elsewhere m (at + 1) bs q (inl (omega arith))
+elsewhere m at (b ∷ bs) q (inr more) = inserted_elsewhere (bytes_over m (at + 1) bs) at b q (λ same. omega arith) ∙ elsewhere m (at + 1) bs q (inr (omega arith))
 
 one_of : (P : ℕ → ℕ → Type 0) (q a b c : ℕ) (t : Bool) (o : Option ℕ) → (t ≡ true → q ≡ a) → P a b → ((d : ℕ) → o ≡ Some d → P q d) → cond t (Some b) o ≡ Some c → P q c
 one_of P q a b c true o at here others e =
@@ -46,13 +48,13 @@ insert_is m a b is f g = record {
   bytes = λ q c e. one_of (λ x y. y < 256) q a b c (q == a) (byte_at m q) (λ t. grind arith) g (is.bytes q) (sym (inserted m a b q) ∙ e);
 }
 
-bytes_are : (at : ℕ) (bs : List ℕ) → at + length bs ≤ 2 ^ 32 → ((k : ℕ) → slice_index bs k < 256) → IsMemory (bytes_from at bs)
-unfolding bytes_from
+bytes_are : (at : ℕ) (bs : List ℕ) → at + length bs ≤ 2 ^ 32 → ((k : ℕ) → slice_index bs k < 256) → IsMemory (bytes_over empty at bs)
+unfolding bytes_over
 bytes_are at [] fits small = record {
   addresses = λ a b e. absurd (let none : None ≡ Some b = sym (get-empty nat_cmp a) ∙ e in cc);
   bytes = λ a b e. absurd (let none : None ≡ Some b = sym (get-empty nat_cmp a) ∙ e in cc);
 }
-bytes_are at (b ∷ bs) fits small = insert_is (bytes_from (at + 1) bs) at b (bytes_are (at + 1) bs (omega arith) (λ k. small (suc k))) (omega arith) (small 0)
+bytes_are at (b ∷ bs) fits small = insert_is (bytes_over empty (at + 1) bs) at b (bytes_are (at + 1) bs (omega arith) (λ k. small (suc k))) (omega arith) (small 0)
 
 -- an address is in a guard or in the code, not in both
 outside : (p : Part) (a : ℕ) → IsRightPart p → AreApart (code_region p) (guarded_region p) → InGuard p a → (a < p.code_base) ⊎ (p.code_base + length p.code ≤ a)
@@ -80,7 +82,7 @@ outside p a right apart guard = by_order guard
 pub entered_at : (p : Part) → p.code_base + length p.code ≤ 2 ^ 32 → (h : Hart) → IsRightPart p → AreApart (code_region p) (guarded_region p) → ((k : ℕ) → slice_index p.code k < 256)
     → IsHart h → IsUnitStart p h.pc → HasReserved p h.registers → IsTyped p h.registers → (m : Bytes) × IsEntry p (record { hart = h; memory = m })
 entered_at p end h right apart small hart start reserved typed = (
-  bytes_from p.code_base p.code,
+  bytes_over empty p.code_base p.code,
   record {
     state = record {
       hart = hart;
@@ -89,8 +91,8 @@ entered_at p end h right apart small hart start reserved typed = (
     start = start;
     reserved = reserved;
     typed = typed;
-    code = there p.code_base p.code;
-    guards = λ a guard. nowhere_else p.code_base p.code a (outside p a right apart guard);
+    code = there empty p.code_base p.code;
+    guards = λ a guard. elsewhere empty p.code_base p.code a (outside p a right apart guard) ∙ get-empty nat_cmp a;
   },
 )
 

@@ -1,6 +1,7 @@
 -- What a reply and a change by others keep, and that runs are safe where each turn keeps a good state.
 use Rattle.sfi_runs.proofs.Prelude.{ℕ, ◌+◌, List, [], ◌∷◌, length, Option, Some, None, refl, sym, ap, ◌∙◌, subst, arith, Ecall, Call, State, Stands, IsStep, unchanged, Bytes, Part, HasReserved, HasCode, HasEmptyGuards, KeepsBytes, KeepsAll, IsTyped, IsEntry, IsReply, IsChange, Turn, Changes, IsTurn, IsRun, after_turn, after_turns, IsSafeState, IsSafeTurn, IsSafeRun, RunsSafely, CallsTyped, Stepped, Steps, Replies, IsSafeStep}
-use Rattle.std.specs.Prelude.{IfSome}
+use Rattle.std.specs.Prelude.{◌≡◌, IfSome}
+use Rattle.sfi_runs.specs.Runs.{KeepsReserved}
 use Rattle.rv_comp.specs.declared.front.Front.TheVariants.{Read}
 
 -- ---- what is kept
@@ -14,18 +15,22 @@ guards_kept p before after keeps has a guard = keeps.guards a guard (has a guard
 pub entry_keeps : (p : Part) (s : State) → IsEntry p s → KeepsAll p s
 entry_keeps p s entry = record { count = entry.state.hart.count; reserved = entry.reserved; code = entry.code; guards = entry.guards }
 
-pub reply_keeps : (p : Part) (s after : State) → KeepsAll p s → IsReply p s after → KeepsAll p after
-reply_keeps p s after kept r = record {
-  count = r.state.hart.count;
+-- what a reply keeps, of which only this is asked
+pub kept_after : (p : Part) (s after : State) → KeepsAll p s → length after.hart.registers ≡ 32 → KeepsReserved s.hart after.hart → KeepsBytes p s.memory after.memory → KeepsAll p after
+kept_after p s after kept count reserved bytes = record {
+  count = count;
   reserved = record {
-    code_base = r.reserved.code_base ∙ kept.reserved.code_base;
-    code_mask = r.reserved.code_mask ∙ kept.reserved.code_mask;
-    data_base = r.reserved.data_base ∙ kept.reserved.data_base;
-    data_mask = r.reserved.data_mask ∙ kept.reserved.data_mask;
+    code_base = reserved.code_base ∙ kept.reserved.code_base;
+    code_mask = reserved.code_mask ∙ kept.reserved.code_mask;
+    data_base = reserved.data_base ∙ kept.reserved.data_base;
+    data_mask = reserved.data_mask ∙ kept.reserved.data_mask;
   };
-  code = code_kept p s.memory after.memory r.bytes kept.code;
-  guards = guards_kept p s.memory after.memory r.bytes kept.guards;
+  code = code_kept p s.memory after.memory bytes kept.code;
+  guards = guards_kept p s.memory after.memory bytes kept.guards;
 }
+
+pub reply_keeps : (p : Part) (s after : State) → KeepsAll p s → IsReply p s after → KeepsAll p after
+reply_keeps p s after kept r = kept_after p s after kept r.state.hart.count r.reserved r.bytes
 
 pub change_keeps : (p : Part) (s after : State) → KeepsAll p s → IsChange p s after → KeepsAll p after
 change_keeps p s after kept c = record {

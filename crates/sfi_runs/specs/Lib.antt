@@ -5,4 +5,5 @@ pub mod Safety
 pub mod Calls
 pub mod Kept
 pub mod Padded
+pub mod Direct
 pub mod Laws

@@ -2,6 +2,8 @@
 //!
 //! `specs/Runs.antt` says what may happen to a sandbox (its steps, its host's replies, changes by
 //! others), `specs/Safety.antt` what is safe: both speak of addresses and states alone, and know no
-//! rule. `specs/Typed.antt` has what each format asks of its typed registers. The crate has no code:
-//! what is proved of these definitions are the laws of `proofs/Facts.antt`.
+//! rule. `specs/Typed.antt` has what each format asks of its typed registers. Two files are of other
+//! hosts: `specs/Padded.antt`, where guard zones hold bytes, and `specs/Direct.antt`, with gates that
+//! the host has made direct. The crate has no code: what is proved of these definitions are the laws
+//! of `proofs/Facts.antt`.
 #![tactic(auto)]

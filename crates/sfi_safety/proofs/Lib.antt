@@ -20,4 +20,7 @@ pub mod Stacking
 pub mod Standing
 pub mod Stepping
 pub mod Padded
+pub mod Direct
+pub mod DirectBundles
+pub mod DirectWords
 pub mod Facts

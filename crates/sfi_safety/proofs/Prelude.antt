@@ -34,7 +34,7 @@ pub use Rattle.sfi_rules.specs.Readings.{Piece, rest_of, IsReading, IsLongestRea
 pub use Rattle.sfi_rules.specs.Rules.{Place, is_empty, is_bundle_start, breaks_ecall, breaks_reserved, breaks_access, breaks_jump, breaks_target, breaks_stack, may_access, ends_region, breaks, breaks_end, may_write_stack}
 pub use Rattle.sfi_image.specs.declared.bundle.BundlePlace.{BundlePlace}
 pub use Rattle.sfi_rules.specs.declared.finding.Finding.{Finding}
-pub use Rattle.sfi_safety.specs.Laws.{CleanCallsTyped, CleanRunsContained, InstructionLeaves, TurnKeeps, EntryIsGood, CleanRunsSafely}
+pub use Rattle.sfi_safety.specs.Laws.{CleanCallsTyped, CleanRunsContained, CleanRunsDirectly, InstructionLeaves, TurnKeeps, EntryIsGood, CleanRunsSafely}
 pub use Rattle.sfi_safety.specs.Leaving.{Leaves, WritesResult, follows_mask}
 pub use Rattle.sfi_safety.specs.Needed.{BreaksAloneInBundle, IsNeeded, EachRuleIsNeeded, HasOneFinding, HasUnsafeRun, StoresByte, IsAcceptedAndRuns, IsStricter, BreaksNoOther, BreaksAlone, BreaksAloneInWord, IsOwedBefore}
 pub use Rattle.sfi_safety.specs.Places.{IsCleanPart, AreCleanBundles, IsGood, IsGoodIf, StackInDataBefore, IsAtPlace}

@@ -11,6 +11,7 @@ use Rattle.sfi_runs.specs.Runs.{Turn, IsTurn, IsEntry, after_turn}
 use Rattle.sfi_runs.specs.Safety.{IsSafeState, IsSafeTurn, RunsSafely}
 use Rattle.sfi_runs.specs.Calls.{CallsTyped}
 use Rattle.sfi_runs.specs.Padded.{RunsContained}
+use Rattle.sfi_runs.specs.Direct.{RunsDirectly}
 use Rattle.sfi_safety.specs.Leaving.{Leaves, WritesResult}
 use Rattle.sfi_safety.specs.Places.{IsCleanPart, AreCleanBundles, IsGood, IsGoodIf}
 
@@ -59,3 +60,11 @@ CleanCallsTyped = (sandbox : ℕ) (p : Part) → IsCleanPart sandbox p → Calls
 abbrev pub CleanRunsContained : Type 0
 CleanRunsContained =
     (sandbox : ℕ) (p : Part) → has_words p.format ≡ false → IsCleanPart sandbox p → RunsContained p
+
+-- ---- with direct gates
+
+-- Every run is safe, whichever of the listed gates the host has made direct: no byte of a springboard is
+-- executed as the sandbox's, and all else is as with the image's own ecalls.
+abbrev pub CleanRunsDirectly : Type 0
+CleanRunsDirectly =
+    (sandbox : ℕ) (p : Part) (direct : List ℕ) → IsCleanPart sandbox p → RunsDirectly p direct

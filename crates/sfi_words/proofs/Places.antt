@@ -9,7 +9,7 @@ use Rattle.sfi_words.proofs.Known.{typed_known}
 -- ---- pieces
 
 -- its size is 2, or 4 at a multiple of 4
-sized : (p : Part) (bytes : List ℕ) (offset : ℕ) (x : Piece) → p.code_base % 4 ≡ 0 → Spells (take x.size bytes) x.instr x.size → breaks_width (p.code_base + offset) x.size ≡ false
+pub sized : (p : Part) (bytes : List ℕ) (offset : ℕ) (x : Piece) → p.code_base % 4 ≡ 0 → Spells (take x.size bytes) x.instr x.size → breaks_width (p.code_base + offset) x.size ≡ false
     → (x.size ≡ 2) ⊎ ((x.size ≡ 4) × (offset % 4 ≡ 0))
 sized p bytes offset x base spelled kept =
     ⊎_elim
@@ -28,7 +28,7 @@ bundles_whole p right =
     (let e = bundles.3 in omega arith, let e = bundles.2 in omega arith)
 
 module _ (p : Part) (clean : IsCleanInWords p) where
-  base_aligned : p.code_base % 4 ≡ 0
+  pub base_aligned : p.code_base % 4 ≡ 0
   base_aligned = let both = bundles_whole p clean.right in omega (arith, both.0)
 
   -- ---- a word's start

@@ -39,7 +39,7 @@ module _ (p : Part) (s : State) (clean : IsCleanInWords p) (good : IsGoodInWords
     step_is : r ≡ effect good.place.place.here.instr good.place.place.here.size s.hart s.memory
     step_is = steps.step_is p clean.right clean.apart s good.kept i n stands_here near_here r step
 
-    step_leads : Leads p good.place.place.here.instr good.place.place.here.size s.hart r.outcome r.state.hart
+    pub step_leads : Leads p good.place.place.here.instr good.place.place.here.size s.hart r.outcome r.state.hart
     step_leads = subst (λ (x : Stepped). Leads p i n s.hart x.outcome x.state.hart) (sym step_is) leads_here
 
     in_data : r.outcome ≡ Next → (a : ℕ) → Accesses good.place.place.here.instr s.hart a → InData p a

@@ -1,6 +1,7 @@
 -- Each turn keeps a good state, and so does each run.
-use Rattle.sfi_words.proofs.Prelude.{◌≡◌, ℕ, List, ◌∷◌, sym, ap, ◌∙◌, subst, Ecall, address_after, State, Part, ends_region, IsReply, IsChange, Turn, Steps, Replies, Changes, IsTurn, after_turn, AreKnown, IsCleanInWords, IsGoodInWords, IsGoodInWordsIf, EntryIsGoodInWords, TurnKeepsInWords, CleanWordsRunSafely}
+use Rattle.sfi_words.proofs.Prelude.{◌≡◌, ℕ, List, ◌∷◌, sym, ap, ◌∙◌, subst, Ecall, address_after, Hart, State, Stands, Part, ends_region, IsReply, IsChange, Turn, Steps, Replies, Changes, IsTurn, after_turn, AreKnown, IsCleanInWords, IsAtPlaceInWords, IsGoodInWords, IsGoodInWordsIf, EntryIsGoodInWords, TurnKeepsInWords, CleanWordsRunSafely}
 use Rattle.rv_comp.proofs.Facts.{ecall_is_wide}
+use Rattle.sfi_runs.specs.Typed.{IsTyped}
 use Rattle.sfi_runs.proofs.Formats.{to_word, of_words_typed}
 use Rattle.sfi_runs.proofs.Turning.{entry_keeps, reply_keeps, change_keeps, turn_safe, runs_safely, calls_typed}
 use Rattle.sfi_words.specs.Laws.{CleanWordsCallTyped}
@@ -10,15 +11,16 @@ use Rattle.sfi_words.proofs.Stepping.{only, step_good, step_safe}
 
 module _ (p : Part) (clean : IsCleanInWords p) where
   module _ (s : State) (good : IsGoodInWords p s) where
+    -- a reply to an ecall leads to the place after it
+    pub place_replied : (after : Hart) (n : ℕ) → Stands s Ecall n → after.pc ≡ address_after s.hart.pc 4 → IsTyped p after.registers → IsAtPlaceInWords p after
+    place_replied after n asked pc typed =
+        let e = only p s clean good Ecall n asked in
+        let four : n ≡ 4 = ecall_is_wide asked.bytes n asked.spelled in
+        goes_on p clean s.hart good.place after (pc ∙ ap (λ (k : ℕ). address_after s.hart.pc k) (sym four ∙ e.1)) (ap ends_region (sym e.0))
+        (typed_known p after.registers good.place.place.later (typed.words clean.words))
+
     reply_good : (after : State) → IsReply p s after → IsGoodInWords p after
-    reply_good after r =
-        let e = only p s clean good Ecall r.size r.asked in
-        let four : r.size ≡ 4 = ecall_is_wide r.asked.bytes r.size r.asked.spelled in
-        let pc : after.hart.pc ≡ address_after s.hart.pc good.place.place.here.size = r.pc ∙ ap (λ (n : ℕ). address_after s.hart.pc n) (sym four ∙ e.1) in
-        record {
-          kept = reply_keeps p s after good.kept r;
-          place = goes_on p clean s.hart good.place after.hart pc (ap ends_region (sym e.0)) (typed_known p after.hart.registers good.place.place.later (r.typed.words clean.words));
-        }
+    reply_good after r = record { kept = reply_keeps p s after good.kept r; place = place_replied after.hart r.size r.asked r.pc r.typed }
 
     change_good : (after : State) → IsChange p s after → IsGoodInWords p after
     change_good after c = record {
