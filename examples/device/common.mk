@@ -9,7 +9,7 @@ FLAGS = -std=c11 -O2 -Wall -Wextra -Wconversion -Wshadow -Wmissing-prototypes -W
 FILES = switch.S image.c turns.c gates.c trap.c console.c verdict.c memory.c
 PROTECTION = $(if $(NO_PMP),pads.c,$(SHARED)protection.S $(SHARED)protection.c $(SHARED)guards.c)
 SOURCES = $(FILES:%=$(SHARED)%) $(PROTECTION) $(SERVICES) $(INTERRUPTS)
-NEEDED = $(SHARED)machine.h $(SHARED)host.h $(SHARED)common.mk Makefile
+NEEDED = $(SHARED)machine.h $(SHARED)host.h $(SHARED)registers.h $(SHARED)common.mk Makefile
 
 # The bytes of CHECKER decide, not its time: it may name an older file than before.
 $(OUT)/linked.o: force

@@ -19,22 +19,26 @@ static uint32_t service_at(const struct part *part, uint32_t pc) {
     refuse("an ecall at no gate"); /* never of accepted code */
 }
 
-bool answer_call(struct world *world, uint32_t number) {
-    struct sandbox *caller = &world->sandboxes[number];
-    uint32_t *x = caller->frame.x;
-    struct call call = {number, service_at(&caller->part, caller->frame.pc), x[A0], x[A1]};
-    enum outcome outcome = serve(world, &call);
+bool take_answer(struct sandbox *caller, const struct call *call, enum outcome outcome) {
     if (outcome == LEFT) {
         caller->state = EXITED;
-        caller->exit_code = call.a0;
+        caller->exit_code = call->a0;
         return false;
     }
+    caller->frame.pc += ECALL_SIZE;
+    caller->frame.x[A0] = call->a0;
+    caller->frame.x[A1] = call->a1;
+    return outcome == REPLIED;
+}
+
+bool answer_call(struct world *world, uint32_t number) {
+    struct sandbox *caller = &world->sandboxes[number];
+    const uint32_t *x = caller->frame.x;
+    struct call call = {number, service_at(&caller->part, caller->frame.pc), x[A0], x[A1]};
+    enum outcome outcome = serve(world, &call);
     if (outcome == GOES_ON) {
         caller->steps--; /* the ecall is counted once */
         return true;
     }
-    caller->frame.pc += ECALL_SIZE;
-    x[A0] = call.a0;
-    x[A1] = call.a1;
-    return outcome == REPLIED;
+    return take_answer(caller, &call, outcome);
 }

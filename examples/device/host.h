@@ -48,6 +48,7 @@ struct part {
 struct frame {
     uint32_t x[32], pc, host_stack;
     uint32_t retired_before, retired_after; /* counts of instructions, on the way in and out */
+    uint32_t called;                        /* and at a call without a trap */
 };
 
 enum state { READY, EXITED, TRAPPED };
@@ -108,6 +109,8 @@ bool enter_again(struct sandbox *sandbox, uint32_t pc, const uint32_t arguments[
 /* paging.c: all of this before there is a page table */
 void map_sandbox(uint32_t number, const struct part *part);
 uint32_t finish_page_table(void);       /* with the host in it; answers what satp takes */
+uint8_t *map_slots(uint32_t number, uint32_t address);          /* a page there that can be executed */
+uint32_t *word_of_code(uint32_t number, uint32_t address);      /* where the host can write it */
 
 /* protection.c: write_protection refuses to go on where mseccfg isn't 0, or an entry isn't as it was written */
 void protect(uint32_t entry, uint32_t address, uint8_t configuration);
@@ -121,6 +124,13 @@ void test_guards(const struct world *world);
 /* measure.c, if that is linked: the host enters a sandbox, and is left by it; and all is over */
 __attribute__((weak)) void has_run(const struct frame *frame);
 __attribute__((weak)) void print_masked(void);
+
+/* springboards.c, if that is linked: has each gate call without a trap, once all sandboxes are mapped; is told
+   which sandbox runs; answers board.S; and brings a sandbox that was interrupted in a slot back to its own code */
+__attribute__((weak)) void put_springboards(const struct world *of);
+__attribute__((weak)) void will_run(struct world *of, uint32_t number);
+uint32_t board_call(uint32_t back);     /* `back` is an address in the gate's slot */
+__attribute__((weak)) void leave_slot(uint32_t number, struct sandbox *sandbox);
 
 /* turns.c: one turn of a sandbox that is ready: until the timer, a yield, an exit or a trap ends it */
 void turn(struct world *world, uint32_t number);
@@ -144,6 +154,8 @@ enum outcome {
     LEFT        /* the caller has exited, with a0 */
 };
 enum outcome serve(struct world *world, struct call *call);
+/* gates.c: makes of the caller at its gate what the answer says, which isn't GOES_ON; false where the turn ends */
+bool take_answer(struct sandbox *caller, const struct call *call, enum outcome outcome);
 
 /* interrupts.c, or a vendor's file in its place. start_interrupts is called before the first turn.
    answer_interrupt is called at each interrupt but the timer's, with its cause less CAUSE_INTERRUPT, and

@@ -69,6 +69,7 @@
 #define MIE_MTIE                (1 << 7)        /* the timer may interrupt */
 
 /* ---- Supervisor-Level ISA: sstatus, sie (whose bits mie has too), satp */
+#define SSTATUS_SIE             (1 << 1)        /* interrupts are on */
 #define SSTATUS_SPIE            (1 << 5)        /* interrupts are on after sret */
 #define SSTATUS_SPP             (1 << 8)        /* sret stays in S-mode */
 #define SIE_STIE                (1 << 5)        /* the timer may interrupt */
@@ -126,6 +127,7 @@
 #define CAUSE                   scause
 #define STATUS                  sstatus
 #define STATUS_AT_ENTRY         (SSTATUS_SPP | SSTATUS_SPIE)
+#define STATUS_INTERRUPTS       SSTATUS_SIE
 #define RETURN                  sret
 #define RETIRED                 instret
 #define JUMPS_TO_TRAPPED        0
@@ -138,5 +140,13 @@
 #define FRAME_HOST_STACK        132
 #define FRAME_BEFORE            136
 #define FRAME_AFTER             140
+#define FRAME_CALLED            144
+
+/* ---- What board_call of springboards.c answers board.S, and the cause by which `enter` then tells of it: a
+   number that the manual leaves to custom use */
+#define BOARD_REPLIED           0
+#define BOARD_AGAIN             1               /* the call is made again, after an interrupt if one is due */
+#define BOARD_LEAVES            2               /* the turn ends */
+#define CAUSE_BOARD             24
 
 #endif

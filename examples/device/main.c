@@ -11,6 +11,8 @@ uint32_t load(void) {
     read_image(&world, ARGUMENTS, IMAGE, INPUT);
     for (uint32_t number = 0; number < world.count; number++)
         map_sandbox(number, &world.sandboxes[number].part);
+    if (put_springboards)
+        put_springboards(&world);
     return finish_page_table();
 }
 

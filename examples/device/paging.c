@@ -91,6 +91,16 @@ void map_sandbox(uint32_t number, const struct part *part) {
                part->first_count);
 }
 
+uint8_t *map_slots(uint32_t number, uint32_t address) {
+    uint8_t *page = new_page(number);
+    *entry_of(address, number) = entry_to(page, PTE_X | PTE_ACCESSED);
+    return page;
+}
+
+uint32_t *word_of_code(uint32_t number, uint32_t address) {
+    return (uint32_t *)(target_of(*entry_of(address, number)) + address % PAGE);
+}
+
 /* The host's memory has no protection from the sandboxes but what the checker says of them: one
    address space, one privilege. */
 uint32_t finish_page_table(void) {

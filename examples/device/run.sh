@@ -5,13 +5,21 @@
 #     examples/device/run.sh [OPTIONS] < IMAGE      # hexadecimal text, as `sfi run` reads it
 #
 #     --turn MICROSECONDS   how long a turn may be; 10000 if absent
+#     --springboards   gates call the host by a jump, without a trap
 set -euo pipefail
 here=$(cd "$(dirname "${BASH_SOURCE[0]}")" && pwd)
 top=$here/../..
 turn_most=429496729 # below 2^32 ticks of 100 ns
 source "$here/running.sh"
 
-own_option() { false; }
+springboards=''
+
+own_option() {
+    case $1 in
+    --springboards) springboards=1 ;;
+    *) return 1 ;;
+    esac
+}
 
 read_options "$@"
 [ -n "$checker" ] || [ "$unchecked" = 1 ] || needs "$sfi" "the program sfi; SFI=PATH names another"
@@ -21,8 +29,8 @@ if [ -z "$checker" ] && [ "$unchecked" = 0 ]; then
     "$sfi" check --raw <"$room/image" >"$room/verdict" ||
         { status=$? && cat "$room/verdict" && exit "$status"; }
 fi
-out=${OUT:-$here/out}
-build_host OUT="$out"
+out=${OUT:-$here/out}${springboards:+/springboards}
+build_host OUT="$out" SPRINGBOARDS="$springboards"
 write_arguments $((${turn:-10000} * 10))
 
 # The addresses are those of machine.h.

@@ -4,19 +4,11 @@
 # was: a kernel has its own in the place of the one below. `enter` is called with interrupts off, and comes back
 # so, on whatever stack.
 #include "machine.h"
+#include "registers.h"
 
         .macro  each_register operation # of a sandbox, but a0, which holds the frame
         .irp    r, 1,2,3,4,5,6,7,8,9,11,12,13,14,15,16,17,18,19,20,21,22,23,24,25,26,27,28,29,30,31
         \operation x\r, 4*\r(a0)
-        .endr
-        .endm
-
-        .macro  each_kept operation     # of the host, by the calling convention
-        \operation ra, 0(sp)
-        \operation gp, 4(sp)
-        \operation tp, 8(sp)
-        .irp    r, 0,1,2,3,4,5,6,7,8,9,10,11
-        \operation s\r, 12+4*\r(sp)
         .endr
         .endm
 
@@ -67,7 +59,9 @@ trap_of_host:
         j       host_fault
 
         .section .rodata
-        .globl  switch_instructions     # each has 4 bytes: the loader has no 16-bit forms
+        .globl  switch_instructions, trap_instructions  # each has 4 bytes: the loader has no 16-bit forms
         .balign 4
 switch_instructions:
         .word   (enter_end - count_before) / 4 + JUMPS_TO_TRAPPED + (count_after - trapped) / 4
+trap_instructions:
+        .word   JUMPS_TO_TRAPPED + (count_after - trapped) / 4

@@ -411,6 +411,11 @@ source "$here/test_premises.sh"
 try_vendor 01000000 1
 try_report "$room/words.hex"
 
+# ---- Gates without a trap
+
+source "$here/test_springboards.sh"
+try_springboards
+
 # ---- The checker on the device
 
 source "$here/test_checker.sh"

@@ -10,7 +10,7 @@ _Static_assert(offsetof(struct frame, retired_after) == FRAME_AFTER, "switch.S")
    processor may tell of an access that failed by an interrupt, or by an NMI. */
 static bool goes_on(struct world *world, uint32_t number, uint32_t cause) {
     struct sandbox *sandbox = &world->sandboxes[number];
-    if (cause == CAUSE_TIMER)
+    if (cause == CAUSE_TIMER || cause == CAUSE_BOARD)
         return false;
     if (cause == CAUSE_ECALL)
         return answer_call(world, number);
@@ -25,12 +25,16 @@ void turn(struct world *world, uint32_t number) {
     struct sandbox *sandbox = &world->sandboxes[number];
     uint32_t cause;
     interrupt_after(world->arguments->turn_ticks);
+    if (will_run)
+        will_run(world, number);
     do {
         cause = enter(&sandbox->frame);
         uint32_t retired = sandbox->frame.retired_after - sandbox->frame.retired_before;
         sandbox->steps += retired - switch_instructions;
         if (has_run)
             has_run(&sandbox->frame);
+        if (leave_slot)
+            leave_slot(number, sandbox);
     } while (goes_on(world, number, cause));
 }
 
