@@ -158,13 +158,31 @@ try_random() { # format
     done
 }
 
-# ---- Mistakes
+# ---- Edited hosts
+
+on_edited_boards() { # words of run.sh. The image is $room/image.hex
+    (cd "$edited" && OUT=$room/edited_out ./run.sh "${springing[@]}" --steps --rounds 100 --seconds 5 "$@" <"$room/image.hex")
+}
+
+# The instructions of the host for a put of no byte, which docs/DEVICE.md has: where they are counted with the steps.
+try_price() {
+    case $(riscv64-unknown-elf-gcc -dumpversion) in
+    12.*) ;;
+    *) skip 1 "what a call costs" "the number is that of gcc 12" && return ;;
+    esac
+    printf '.sandbox 4096\n.gate put 1\n li a1, 0\n call put\n ebreak\n' >"$room/price.s"
+    build "$room/price.s" words >"$room/image.hex"
+    edit_host board.S 's/^        sw      t1, FRAME_BEFORE(a0)$/        nop/'
+    report "springboards: a put of no byte" "steps=$((145 + $(steps_of < <("$SFI" run <"$room/image.hex"))))" \
+        "steps=$(on_edited_boards | steps_of)"
+}
+
+steps_of() { sed -n 's/.* steps=\([0-9]*\) .*/\1/p'; }
 
 seen() { # the mistake; words of run.sh. The image is $room/image.hex, and the host is edited
     local wanted found status=0
     wanted=$("$SFI" run --rounds 100 --quantum 1000000 <"$room/image.hex")
-    found=$(cd "$edited" && OUT=$room/edited_out ./run.sh "${springing[@]}" --steps --rounds 100 --seconds 5 "${@:2}" <"$room/image.hex" |
-        sed '/ pc=/d'; echo "status ${PIPESTATUS[0]}")
+    found=$(on_edited_boards "${@:2}" | sed '/ pc=/d'; echo "status ${PIPESTATUS[0]}")
     case $found in
     "status 3") status=1 ;;                 # the host isn't built
     "$wanted"$'\nstatus 0') status=1 ;;
@@ -221,6 +239,7 @@ try_springboards() {
     compare "springboards, sixteen sandboxes" "$room/sixteen.hex" '' steps
     try_entries
     try_long_code
+    try_price
     try_mistakes
     on=()
 }
