@@ -1,5 +1,6 @@
 pub mod Prelude
 pub mod Agreeing
+pub mod Apart
 pub mod Bytes
 pub mod Calls
 pub mod Fetching

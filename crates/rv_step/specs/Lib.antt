@@ -1,4 +1,5 @@
 pub mod Access
+pub mod Apart
 pub mod Laws
 pub mod State
 pub mod Step

@@ -69,9 +69,9 @@ impl Cpu {
         }
     }
 
-    /// Goes to an address.
+    /// Goes to an even address. The registers stay.
     #[inline(always)]
-    pub(crate) fn go_to(&mut self, pc: u32)
+    pub fn go_to(&mut self, pc: u32)
         requires { pc % 2 ≡ 0 }
         ensures gone { self.new ≡ with_pc self.old pc }
         ensures hart { IsHart self.new }

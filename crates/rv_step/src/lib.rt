@@ -13,5 +13,5 @@ pub mod machine;
 pub mod outcome;
 
 pub use cpu::{Cpu, after_call};
-pub use machine::{step, step_decoded};
+pub use machine::{step, step_apart, step_decoded};
 pub use outcome::{Cause, Outcome};
