@@ -7,4 +7,5 @@ pub mod PageWrites
 pub mod Paging
 pub mod Ranges
 pub mod Runs
+pub mod Tables
 pub mod Facts

@@ -39,33 +39,33 @@ some_other (m ∷ ms) other =
 
 -- ---- in one page
 
-module _ (t c : List ℕ) (are : ArePages t c) (at f : ℕ) (is : f ≡ frame_of t at) (n : ℕ) (fits : at < 2 ^ 32) (one_page : at % 4096 + n ≤ 4096) where
-  pub byte_after : (k : ℕ) → k < n → byte_at (values_of (cell_at t c)) (address_after at k) ≡ cell c (f + at % 4096 + k)
+module _ (t c : List ℕ) (are : ArePages t c) (at f : ℕ) (is : f ≡ frame_of t at) (n : ℕ) (fits : at < 2 ^ 32) (one_page : at % 512 + n ≤ 512) where
+  pub byte_after : (k : ℕ) → k < n → byte_at (values_of (cell_at t c)) (address_after at k) ≡ cell c (f + at % 512 + k)
   byte_after k small =
       let a : address_after at k ≡ at + k = omega arith in
-      let p : (at + k) / 4096 ≡ at / 4096 = omega arith in
-      let o : (at + k) % 4096 ≡ at % 4096 + k = omega arith in
-      let same : frame_of t (at + k) ≡ f = ap (λ (x : ℕ). slice_index t x * 8192) p ∙ sym is in
-      let place : frame_of t (at + k) + (at + k) % 4096 ≡ f + at % 4096 + k = omega (arith, same, o) in
+      let p : (at + k) / 512 ≡ at / 512 = omega arith in
+      let o : (at + k) % 512 ≡ at % 512 + k = omega arith in
+      let same : frame_of t (at + k) ≡ f = ap (λ (x : ℕ). slice_index t x * 1024) p ∙ sym is in
+      let place : frame_of t (at + k) + (at + k) % 512 ≡ f + at % 512 + k = omega (arith, same, o) in
       get_pages t c are (address_after at k) ∙ ap (cell_at t c) a ∙ ap (cell c) place
 
-  module _ (ms : List ℕ) (count : length ms ≡ n) (marks : (k : ℕ) → k < n → slice_index c (f + at % 4096 + 4096 + k) ≡ slice_index ms k) where
-    mark_after : (k : ℕ) → k < n → slice_index c (f + at % 4096 + k + 4096) ≡ slice_index ms k
-    mark_after k below = let z : f + at % 4096 + k + 4096 ≡ f + at % 4096 + 4096 + k = omega arith in ap (slice_index c) z ∙ marks k below
+  module _ (ms : List ℕ) (count : length ms ≡ n) (marks : (k : ℕ) → k < n → slice_index c (f + at % 512 + 512 + k) ≡ slice_index ms k) where
+    mark_after : (k : ℕ) → k < n → slice_index c (f + at % 512 + k + 512) ≡ slice_index ms k
+    mark_after k below = let z : f + at % 512 + k + 512 ≡ f + at % 512 + 512 + k = omega arith in ap (slice_index c) z ∙ marks k below
 
-    pub all_there : (bs : List ℕ) → length bs ≡ n → ((k : ℕ) → k < n → slice_index c (f + at % 4096 + k) ≡ slice_index bs k) → number_of ms ≡ ones ms → loaded (values_of (cell_at t c)) at n ≡ Some (number_of bs)
+    pub all_there : (bs : List ℕ) → length bs ≡ n → ((k : ℕ) → k < n → slice_index c (f + at % 512 + k) ≡ slice_index bs k) → number_of ms ≡ ones ms → loaded (values_of (cell_at t c)) at n ≡ Some (number_of bs)
     all_there bs many bytes e =
         let one = all_ones ms (λ k h. small_byte t c are _ _ (mark_after k (omega (arith, count)))) e in
         ap (option_map number_of) ((read_held (values_of (cell_at t c)) at n bs).1 (record {
           count = many;
-          each = λ k h. byte_after k h ∙ is_marked c (f + at % 4096 + k) (mark_after k h ∙ one k (omega (arith, count))) ∙ ap Some (bytes k h);
+          each = λ k h. byte_after k h ∙ is_marked c (f + at % 512 + k) (mark_after k h ∙ one k (omega (arith, count))) ∙ ap Some (bytes k h);
         }))
 
     pub one_missing : number_of ms ≢ ones ms → loaded (values_of (cell_at t c)) at n ≡ None
     one_missing other =
         let bad = some_other ms other in
         let below : bad.0 < n = omega (arith, count, bad.1) in
-        missing_byte (values_of (cell_at t c)) at n bad.0 below (byte_after bad.0 below ∙ unmarked c (f + at % 4096 + bad.0) (λ e. bad.2 (sym (mark_after bad.0 below) ∙ e)))
+        missing_byte (values_of (cell_at t c)) at n bad.0 below (byte_after bad.0 below ∙ unmarked c (f + at % 512 + bad.0) (λ e. bad.2 (sym (mark_after bad.0 below) ∙ e)))
 
 -- ---- what was read
 

@@ -3,7 +3,7 @@ use Rattle.rv_mem.proofs.Prelude.{◌^◌, ◌≡◌, ◌≢◌, ℕ, ◌+◌, �
 use Rattle.std.proofs.lemmas.Bool.{cases_eq, cases_lt}
 use Rattle.std.proofs.lemmas.Option.{slice_get-get_or, slice_get_past}
 use Rattle.rv_mem.proofs.Lookups.{get_with}
-use Rattle.rv_mem.proofs.Paging.{is_marked, no_frame, get_pages, table_value}
+use Rattle.rv_mem.proofs.Paging.{is_marked, no_frame, get_pages}
 
 -- ---- a run of bytes
 
@@ -47,14 +47,14 @@ filled base size f m m0 few fits run =
 
 -- ---- runs in one page
 
-pub none_in_page : (t c : List ℕ) → ArePages t c → (at n : ℕ) → at % 4096 + n ≤ 4096 → slice_index t (at / 4096) ≡ 0 → (j : ℕ) → j < n → byte_at (values_of (cell_at t c)) (at + j) ≡ None
+pub none_in_page : (t c : List ℕ) → ArePages t c → (at n : ℕ) → at % 512 + n ≤ 512 → slice_index t (at / 512) ≡ 0 → (j : ℕ) → j < n → byte_at (values_of (cell_at t c)) (at + j) ≡ None
 none_in_page t c are at n room e j below =
-    let p : (at + j) / 4096 ≡ at / 4096 = omega arith in
+    let p : (at + j) / 512 ≡ at / 512 = omega arith in
     get_pages t c are (at + j) ∙ no_frame t c are (at + j) (ap (slice_index t) p ∙ e)
 
 -- bytes, zeros after them, and their marks
-pub marks_run : (c d e g : List ℕ) (p n given : ℕ) (f ys : List ℕ) (k : ℕ) → n ≤ 4096 → given ≤ n
-    → Puts c d p given (slice_index ys) → Puts d e (p + given) (n - given) (λ j. 0) → Puts e g (p + 4096) n (λ j. 1)
+pub marks_run : (c d e g : List ℕ) (p n given : ℕ) (f ys : List ℕ) (k : ℕ) → n ≤ 512 → given ≤ n
+    → Puts c d p given (slice_index ys) → Puts d e (p + given) (n - given) (λ j. 0) → Puts e g (p + 512) n (λ j. 1)
     → ((j : ℕ) → j < given → slice_index ys j ≡ slice_index f (k + j)) → ((j : ℕ) → slice_index ys j < 256) → ((j : ℕ) → given ≤ j → j < n → slice_index f (k + j) ≡ 0)
     → MarksRun c g p n f k
 marks_run c d e g p n given f ys k page some first zeros marks is small none = record {
@@ -76,10 +76,10 @@ marks_run c d e g p n given f ys k page some first zeros marks is small none = r
 }
 
 -- what such cells are in a table in which they lie in one page
-module _ (t c d : List ℕ) (are : ArePages t c) (at n : ℕ) (f : List ℕ) (k : ℕ) (frame : slice_index t (at / 4096) ≢ 0) (room : at % 4096 + n ≤ 4096)
-    (run : MarksRun c d (frame_of t at + at % 4096) n f k) where
-  frame_above : 8192 ≤ frame_of t at
-  frame_above = let h : 0 < slice_index t (at / 4096) = omega (arith, frame) in omega (arith, h)
+module _ (t c d : List ℕ) (are : ArePages t c) (at n : ℕ) (f : List ℕ) (k : ℕ) (frame : slice_index t (at / 512) ≢ 0) (room : at % 512 + n ≤ 512)
+    (run : MarksRun c d (frame_of t at + at % 512) n f k) where
+  frame_above : 1024 ≤ frame_of t at
+  frame_above = let h : 0 < slice_index t (at / 512) = omega (arith, frame) in omega (arith, h)
 
   small_run : (x : ℕ) → slice_index d x < 256
   small_run x = elim (cases_lt x p) [
@@ -89,12 +89,12 @@ module _ (t c d : List ℕ) (are : ArePages t c) (at n : ℕ) (f : List ℕ) (k 
           let z : x ≡ p + (x - p) = omega (arith, h) in
           let less : x - p < n = omega (arith, h, l) in
           subst (λ (y : ℕ). y < 256) (sym (ap (slice_index d) z ∙ run.written (x - p) less)) (run.small (x - p) less)
-      | inr l ↦ elim (cases_lt x (p + 4096)) [
+      | inr l ↦ elim (cases_lt x (p + 512)) [
         | inl m ↦ as_before x (run.between x l m)
-        | inr m ↦ elim (cases_lt x (p + 4096 + n)) [
+        | inr m ↦ elim (cases_lt x (p + 512 + n)) [
           | inl o ↦
-              let z : x ≡ p + 4096 + (x - (p + 4096)) = omega (arith, m) in
-              let one : slice_index d x ≡ 1 = ap (slice_index d) z ∙ run.marks (x - (p + 4096)) (omega (arith, m, o)) in
+              let z : x ≡ p + 512 + (x - (p + 512)) = omega (arith, m) in
+              let one : slice_index d x ≡ 1 = ap (slice_index d) z ∙ run.marks (x - (p + 512)) (omega (arith, m, o)) in
               omega (arith, one)
           | inr o ↦ as_before x (run.past x o)
         ]
@@ -103,7 +103,7 @@ module _ (t c d : List ℕ) (are : ArePages t c) (at n : ℕ) (f : List ℕ) (k 
   ]
     where
       p : ℕ
-      p = frame_of t at + at % 4096
+      p = frame_of t at + at % 512
 
       as_before : (x : ℕ) → slice_index d x ≡ slice_index c x → slice_index d x < 256
       as_before x e = subst (λ (y : ℕ). y < 256) (sym e) (are.bytes x)
@@ -111,9 +111,9 @@ module _ (t c d : List ℕ) (are : ArePages t c) (at n : ℕ) (f : List ℕ) (k 
   pub are_run : ArePages t d
   are_run = record {
     count = are.count;
-    whole = ap (λ (x : ℕ). x % 8192) run.size ∙ are.whole;
-    frames = λ p h. subst (λ (x : ℕ). (slice_index t p + 1) * 8192 ≤ x) (sym run.size) (are.frames p h);
-    none = λ j h. run.below (4096 + j) (let a = frame_above in omega (arith, a, h)) ∙ are.none j h;
+    whole = ap (λ (x : ℕ). x % 1024) run.size ∙ are.whole;
+    frames = λ p h. subst (λ (x : ℕ). (slice_index t p + 1) * 1024 ≤ x) (sym run.size) (are.frames p h);
+    none = λ j h. run.below (512 + j) (let a = frame_above in omega (arith, a, h)) ∙ are.none j h;
     apart = are.apart;
     bytes = small_run;
   }
@@ -121,34 +121,34 @@ module _ (t c d : List ℕ) (are : ArePages t c) (at n : ℕ) (f : List ℕ) (k 
   -- in the run
   inside_run : (j : ℕ) → j < n → cell_at t d (at + j) ≡ Some (slice_index f (k + j))
   inside_run j h =
-      let page : (at + j) / 4096 ≡ at / 4096 = omega (arith, h, room) in
-      let rest : (at + j) % 4096 ≡ at % 4096 + j = omega (arith, h, room) in
-      let same : frame_of t (at + j) ≡ frame_of t at = ap (λ (x : ℕ). slice_index t x * 8192) page in
-      let place : frame_of t (at + j) + (at + j) % 4096 ≡ frame_of t at + at % 4096 + j = omega (arith, same, rest) in
-      let mark : frame_of t at + at % 4096 + j + 4096 ≡ frame_of t at + at % 4096 + 4096 + j = omega arith in
-      ap (cell d) place ∙ is_marked d (frame_of t at + at % 4096 + j) (ap (slice_index d) mark ∙ run.marks j h) ∙ ap Some (run.written j h)
+      let page : (at + j) / 512 ≡ at / 512 = omega (arith, h, room) in
+      let rest : (at + j) % 512 ≡ at % 512 + j = omega (arith, h, room) in
+      let same : frame_of t (at + j) ≡ frame_of t at = ap (λ (x : ℕ). slice_index t x * 1024) page in
+      let place : frame_of t (at + j) + (at + j) % 512 ≡ frame_of t at + at % 512 + j = omega (arith, same, rest) in
+      let mark : frame_of t at + at % 512 + j + 512 ≡ frame_of t at + at % 512 + 512 + j = omega arith in
+      ap (cell d) place ∙ is_marked d (frame_of t at + at % 512 + j) (ap (slice_index d) mark ∙ run.marks j h) ∙ ap Some (run.written j h)
 
   -- elsewhere all stays
   other_place : (q : ℕ) → ((q < at) ⊎ (at + n ≤ q)) → cell_at t d q ≡ cell_at t c q
-  other_place q out = elim (cases_eq (slice_index t (q / 4096)) (slice_index t (at / 4096))) [
+  other_place q out = elim (cases_eq (slice_index t (q / 512)) (slice_index t (at / 512))) [
     | inl s ↦
-        let page : at / 4096 ≡ q / 4096 = are.apart (at / 4096) (q / 4096) (sym s) frame in
+        let page : at / 512 ≡ q / 512 = are.apart (at / 512) (q / 512) (sym s) frame in
         ⊎_elim
-        (λ (h : q < at). stays q (run.below (frame_of t q + q % 4096) (omega (arith, h, page, s))) (run.between (frame_of t q + q % 4096 + 4096) (omega (arith, page, s, room)) (omega (arith, h, page, s))))
-        (λ (h : at + n ≤ q). stays q (run.between (frame_of t q + q % 4096) (omega (arith, h, page, s)) (omega (arith, page, s))) (run.past (frame_of t q + q % 4096 + 4096) (omega (arith, h, page, s))))
+        (λ (h : q < at). stays q (run.below (frame_of t q + q % 512) (omega (arith, h, page, s))) (run.between (frame_of t q + q % 512 + 512) (omega (arith, page, s, room)) (omega (arith, h, page, s))))
+        (λ (h : at + n ≤ q). stays q (run.between (frame_of t q + q % 512) (omega (arith, h, page, s)) (omega (arith, page, s))) (run.past (frame_of t q + q % 512 + 512) (omega (arith, h, page, s))))
         out
-    | inr other ↦ elim (cases_lt (slice_index t (q / 4096)) (slice_index t (at / 4096))) [
-      | inl less ↦ stays q (run.below (frame_of t q + q % 4096) (omega (arith, less))) (run.below (frame_of t q + q % 4096 + 4096) (omega (arith, less)))
+    | inr other ↦ elim (cases_lt (slice_index t (q / 512)) (slice_index t (at / 512))) [
+      | inl less ↦ stays q (run.below (frame_of t q + q % 512) (omega (arith, less))) (run.below (frame_of t q + q % 512 + 512) (omega (arith, less)))
       | inr above ↦
-          let more : slice_index t (at / 4096) < slice_index t (q / 4096) = omega (arith, above, other) in
-          stays q (run.past (frame_of t q + q % 4096) (omega (arith, more, room))) (run.past (frame_of t q + q % 4096 + 4096) (omega (arith, more, room)))
+          let more : slice_index t (at / 512) < slice_index t (q / 512) = omega (arith, above, other) in
+          stays q (run.past (frame_of t q + q % 512) (omega (arith, more, room))) (run.past (frame_of t q + q % 512 + 512) (omega (arith, more, room)))
     ]
   ]
     where
-      stays : (q : ℕ) → slice_index d (frame_of t q + q % 4096) ≡ slice_index c (frame_of t q + q % 4096) → slice_index d (frame_of t q + q % 4096 + 4096) ≡ slice_index c (frame_of t q + q % 4096 + 4096) → cell_at t d q ≡ cell_at t c q
+      stays : (q : ℕ) → slice_index d (frame_of t q + q % 512) ≡ slice_index c (frame_of t q + q % 512) → slice_index d (frame_of t q + q % 512 + 512) ≡ slice_index c (frame_of t q + q % 512 + 512) → cell_at t d q ≡ cell_at t c q
       stays q byte mark =
-          let p = frame_of t q + q % 4096 in
-          ap (λ (x : ℕ). cond (x == 1) (Some (slice_index d p)) None) mark ∙ ap (λ (x : ℕ). cond (slice_index c (p + 4096) == 1) (Some x) None) byte
+          let p = frame_of t q + q % 512 in
+          ap (λ (x : ℕ). cond (x == 1) (Some (slice_index d p)) None) mark ∙ ap (λ (x : ℕ). cond (slice_index c (p + 512) == 1) (Some x) None) byte
 
   pub run_written : (q : ℕ) → cell_at t d q ≡ run_of at n f k q (cell_at t c q)
   run_written q = elim (nat_lt q at) as (λ r. nat_lt q at ≡ r → cell_at t d q ≡ cond r (cell_at t c q) (cond (nat_lt q (at + n)) (Some (slice_index f (k + (q - at)))) (cell_at t c q))) [
@@ -164,13 +164,12 @@ module _ (t c d : List ℕ) (are : ArePages t c) (at n : ℕ) (f : List ℕ) (k 
   ] refl
 
 -- the frame was read, and the cells are those of a vector
-pub run_put : (t d first new items : List ℕ) → ArePages t d → (at n : ℕ) (f : List ℕ) (k frame : ℕ) → slice_index t (at / 4096) ≢ 0 → frame ≡ get_or t (at / 4096) frame → at % 4096 + n ≤ 4096
-    → first ≡ d → MarksRun first new (frame * 8192 + at % 4096) n f k → items ≡ new
+pub run_put : (t d first new items : List ℕ) → ArePages t d → (at n : ℕ) (f : List ℕ) (k frame : ℕ) → slice_index t (at / 512) ≢ 0 → frame ≡ slice_index t (at / 512) → at % 512 + n ≤ 512
+    → first ≡ d → MarksRun first new (frame * 1024 + at % 512) n f k → items ≡ new
     → ArePages t items × ((q : ℕ) → byte_at (values_of (cell_at t items)) q ≡ run_of at n f k q (byte_at (values_of (cell_at t d)) q))
 run_put t d first new items are at n f k frame some read room first_is marks items_is =
-    let value = table_value t (at / 4096) frame some read in
-    let place : frame * 8192 + at % 4096 ≡ frame_of t at + at % 4096 = omega (arith, value) in
-    let run : MarksRun d items (frame_of t at + at % 4096) n f k = rw (items_is, ← place, ← first_is) marks in
+    let place : frame * 1024 + at % 512 ≡ frame_of t at + at % 512 = omega (arith, read) in
+    let run : MarksRun d items (frame_of t at + at % 512) n f k = rw (items_is, ← place, ← first_is) marks in
     let all = are_run t d items are at n f k some room run in (
       all,
       λ q.
@@ -179,10 +178,10 @@ run_put t d first new items are at n f k frame some read room first_is marks ite
     )
 
 -- a run in the round of all addresses
-pub after_run : (base d n at j : ℕ) → at ≡ (base + d) % 2 ^ 32 → at % 4096 + n ≤ 4096 → j < n → address_after base (d + j) ≡ at + j
+pub after_run : (base d n at j : ℕ) → at ≡ (base + d) % 2 ^ 32 → at % 512 + n ≤ 512 → j < n → address_after base (d + j) ≡ at + j
 after_run base d n at j e room below = omega arith
 
-pub none_further : (m : Bytes) (base d n at : ℕ) → at ≡ (base + d) % 2 ^ 32 → at % 4096 + n ≤ 4096 → ((j : ℕ) → j < d → byte_at m (address_after base j) ≡ None) → ((j : ℕ) → j < n → byte_at m (at + j) ≡ None)
+pub none_further : (m : Bytes) (base d n at : ℕ) → at ≡ (base + d) % 2 ^ 32 → at % 512 + n ≤ 512 → ((j : ℕ) → j < d → byte_at m (address_after base j) ≡ None) → ((j : ℕ) → j < n → byte_at m (at + j) ≡ None)
     → (j : ℕ) → j < d + n → byte_at m (address_after base j) ≡ None
 none_further m base d n at e room before more j below = elim (cases_lt j d) [
   | inl h ↦ before j h

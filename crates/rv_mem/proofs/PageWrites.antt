@@ -12,30 +12,30 @@ use Rattle.rv_mem.proofs.PageRuns.{are_run, run_written}
 -- ---- a new frame
 
 pub frame_made : (t c t0 c0 d : List ℕ) (page number : ℕ) → ArePages t0 c0 → ArePages t c → ((k : ℕ) → slice_index c k ≡ slice_index c0 k) → ((k : ℕ) → slice_index t k ≡ slice_index t0 k)
-    → ((k : ℕ) → slice_index d k ≡ slice_index c k) → page < length t → slice_index t page ≡ 0 → number ≡ length c / 8192 → (q : ℕ) → cell_at (set t page number) d q ≡ cell_at t0 c0 q
-frame_made t c t0 c0 d page number are0 are cells table longer room none is q = elim (q / 4096 == page) as (λ r. (q / 4096 == page) ≡ r → cell_at (set t page number) d q ≡ cell_at t0 c0 q) [
+    → ((k : ℕ) → slice_index d k ≡ slice_index c k) → page < length t → slice_index t page ≡ 0 → number ≡ length c / 1024 → (q : ℕ) → cell_at (set t page number) d q ≡ cell_at t0 c0 q
+frame_made t c t0 c0 d page number are0 are cells table longer room none is q = elim (q / 512 == page) as (λ r. (q / 512 == page) ≡ r → cell_at (set t page number) d q ≡ cell_at t0 c0 q) [
   | true ↦ λ r.
-      let here : q / 4096 ≡ page = eqb-true (q / 4096) page r in
-      let f : slice_index (set t page number) (q / 4096) ≡ number = ap (slice_index (set t page number)) here ∙ get_or-set_same t page number 0 room in
-      let whole : length c % 8192 ≡ 0 = are.whole in
-      let past : length c ≤ frame_of (set t page number) q + q % 4096 + 4096 = omega (arith, f, is, whole) in
-      let mark : slice_index d (frame_of (set t page number) q + q % 4096 + 4096) ≡ 0 = longer (frame_of (set t page number) q + q % 4096 + 4096) ∙ get_or_past c (frame_of (set t page number) q + q % 4096 + 4096) 0 past in
-      let before : slice_index t0 (q / 4096) ≡ 0 = ap (slice_index t0) here ∙ sym (table page) ∙ none in
-      unmarked d (frame_of (set t page number) q + q % 4096) (λ o. let w : 0 ≡ 1 = sym mark ∙ o in absurd (omega arith))
+      let here : q / 512 ≡ page = eqb-true (q / 512) page r in
+      let f : slice_index (set t page number) (q / 512) ≡ number = ap (slice_index (set t page number)) here ∙ get_or-set_same t page number 0 room in
+      let whole : length c % 1024 ≡ 0 = are.whole in
+      let past : length c ≤ frame_of (set t page number) q + q % 512 + 512 = omega (arith, f, is, whole) in
+      let mark : slice_index d (frame_of (set t page number) q + q % 512 + 512) ≡ 0 = longer (frame_of (set t page number) q + q % 512 + 512) ∙ get_or_past c (frame_of (set t page number) q + q % 512 + 512) 0 past in
+      let before : slice_index t0 (q / 512) ≡ 0 = ap (slice_index t0) here ∙ sym (table page) ∙ none in
+      unmarked d (frame_of (set t page number) q + q % 512) (λ o. let w : 0 ≡ 1 = sym mark ∙ o in absurd (omega arith))
       ∙ sym (no_frame t0 c0 are0 q before)
   | false ↦ λ r.
-      let other : q / 4096 ≢ page = eqb-false (q / 4096) page r in
-      let f : slice_index (set t page number) (q / 4096) ≡ slice_index t0 (q / 4096) = get_or-set_other t page (q / 4096) number 0 other ∙ table (q / 4096) in
-      let p = frame_of t0 q + q % 4096 in
-      ap (λ (x : ℕ). cell d (x * 8192 + q % 4096)) f
-      ∙ ap (λ (x : ℕ). cond (x == 1) (Some (slice_index d p)) None) (longer (p + 4096) ∙ cells (p + 4096))
-      ∙ ap (λ (x : ℕ). cond (slice_index c0 (p + 4096) == 1) (Some x) None) (longer p ∙ cells p)
+      let other : q / 512 ≢ page = eqb-false (q / 512) page r in
+      let f : slice_index (set t page number) (q / 512) ≡ slice_index t0 (q / 512) = get_or-set_other t page (q / 512) number 0 other ∙ table (q / 512) in
+      let p = frame_of t0 q + q % 512 in
+      ap (λ (x : ℕ). cell d (x * 1024 + q % 512)) f
+      ∙ ap (λ (x : ℕ). cond (x == 1) (Some (slice_index d p)) None) (longer (p + 512) ∙ cells (p + 512))
+      ∙ ap (λ (x : ℕ). cond (slice_index c0 (p + 512) == 1) (Some x) None) (longer p ∙ cells p)
 ] refl
 
 -- ---- bytes that are there are written
 
 -- a byte is a run of one
-one_run : (d : List ℕ) (p b : ℕ) → b < 256 → slice_index d (p + 4096) ≡ 1 → MarksRun d (set d p b) p 1 (b ∷ []) 0
+one_run : (d : List ℕ) (p b : ℕ) → b < 256 → slice_index d (p + 512) ≡ 1 → MarksRun d (set d p b) p 1 (b ∷ []) 0
 one_run d p b small mark = record {
   size = simp length-set;
   written = written;
@@ -47,7 +47,7 @@ one_run d p b small mark = record {
 }
   where
     near : p < length d
-    near = let far : p + 4096 < length d = within d (p + 4096) (λ e. let w : 0 ≡ 1 = sym e ∙ mark in absurd (omega arith)) in omega arith
+    near = let far : p + 512 < length d = within d (p + 512) (λ e. let w : 0 ≡ 1 = sym e ∙ mark in absurd (omega arith)) in omega arith
 
     written : (j : ℕ) → j < 1 → slice_index (set d p b) (p + j) ≡ slice_index (b ∷ []) (0 + j)
     written zero h = let z : p + 0 ≡ p = omega arith in ap (slice_index (set d p b)) z ∙ get_or-set_same d p b 0 near
@@ -57,8 +57,8 @@ one_run d p b small mark = record {
     fits zero h = small
     fits (suc j) h = absurd (omega arith)
 
-    marks : (j : ℕ) → j < 1 → slice_index (set d p b) (p + 4096 + j) ≡ 1
-    marks zero h = let z : p + 4096 + 0 ≡ p + 4096 = omega arith in ap (slice_index (set d p b)) z ∙ get_or-set_other d p (p + 4096) b 0 (λ e. omega arith) ∙ mark
+    marks : (j : ℕ) → j < 1 → slice_index (set d p b) (p + 512 + j) ≡ 1
+    marks zero h = let z : p + 512 + 0 ≡ p + 512 = omega arith in ap (slice_index (set d p b)) z ∙ get_or-set_other d p (p + 512) b 0 (λ e. omega arith) ∙ mark
     marks (suc j) h = absurd (omega arith)
 
 one_at : (at b q : ℕ) (o : Option ℕ) → run_of at 1 (b ∷ []) 0 q o ≡ cond (q == at) (Some b) o
@@ -72,13 +72,13 @@ one_at at b q o = elim (cases_lt q at) [
       ]
 ]
 
-pub put_there : (t d : List ℕ) → ArePages t d → (q p b : ℕ) → p ≡ frame_of t q + q % 4096 → b < 256 → IsSome (byte_at (values_of (cell_at t d)) q)
+pub put_there : (t d : List ℕ) → ArePages t d → (q p b : ℕ) → p ≡ frame_of t q + q % 512 → b < 256 → IsSome (byte_at (values_of (cell_at t d)) q)
     → ArePages t (set d p b) × (values_of (cell_at t (set d p b)) ≡ insert (values_of (cell_at t d)) q b)
 put_there t d are q p b e small there =
     let here : IsSome (cell_at t d q) = subst (λ (o : Option ℕ). IsSome o) (get_pages t d are q) there in
     let frame = has_frame t d are q here in
-    let mark : slice_index d (p + 4096) ≡ 1 = ap (λ (x : ℕ). slice_index d (x + 4096)) e ∙ marked d (frame_of t q + q % 4096) here in
-    let run : MarksRun d (set d p b) (frame_of t q + q % 4096) 1 (b ∷ []) 0 = subst (λ (x : ℕ). MarksRun d (set d p b) x 1 (b ∷ []) 0) e (one_run d p b small mark) in
+    let mark : slice_index d (p + 512) ≡ 1 = ap (λ (x : ℕ). slice_index d (x + 512)) e ∙ marked d (frame_of t q + q % 512) here in
+    let run : MarksRun d (set d p b) (frame_of t q + q % 512) 1 (b ∷ []) 0 = subst (λ (x : ℕ). MarksRun d (set d p b) x 1 (b ∷ []) 0) e (one_run d p b small mark) in
     let all = are_run t d (set d p b) are q 1 (b ∷ []) 0 frame (omega arith) run in (
       all,
       same_map nat_cmp_total nat_cmp-IsAntisymmetric _ _ (λ r.
@@ -90,14 +90,14 @@ put_there t d are q p b e small there =
 still : (m n : Bytes) (a b q : ℕ) → n ≡ insert m a b → IsSome (byte_at m q) → IsSome (byte_at n q)
 still m n a b q e there = subst (λ (x : Bytes). IsSome (byte_at x q)) (sym e) (stays m a b q there)
 
-pub halfword_put : (t d first new items l : List ℕ) → ArePages t d → (at u value : ℕ) → u ≡ frame_of t at → at < 2 ^ 32 → at % 4096 ≤ 4094 → IsSome (loaded (values_of (cell_at t d)) at 2)
-    → l ≡ value % 256 ∷ value / 256 % 256 ∷ [] → first ≡ d → new ≡ with_two first (u + at % 4096) l → items ≡ new
+pub halfword_put : (t d first new items l : List ℕ) → ArePages t d → (at u value : ℕ) → u ≡ frame_of t at → at < 2 ^ 32 → at % 512 ≤ 510 → IsSome (loaded (values_of (cell_at t d)) at 2)
+    → l ≡ value % 256 ∷ value / 256 % 256 ∷ [] → first ≡ d → new ≡ with_two first (u + at % 512) l → items ≡ new
     → ArePages t items × (values_of (cell_at t items) ≡ insert (insert (values_of (cell_at t d)) (address_after at 0) (get_or l 0 0)) (address_after at 1) (get_or l 1 0))
 halfword_put t d first new items l are at u value is fits one_page there e first_is new_is items_is =
     let m = values_of (cell_at t d) in
-    let p = u + at % 4096 in
+    let p = u + at % 512 in
     let there' : (k : ℕ) → k < 2 → IsSome (byte_at m (address_after at k)) = λ k h. some_if _ _ (missing_byte m at 2 k h) there in
-    let place : (k x : ℕ) → k < 2 → x ≡ p + k → x ≡ frame_of t (address_after at k) + address_after at k % 4096 = λ k x h f. place_after k x h f in
+    let place : (k x : ℕ) → k < 2 → x ≡ p + k → x ≡ frame_of t (address_after at k) + address_after at k % 512 = λ k x h f. place_after k x h f in
     let small : (k : ℕ) → k < 2 → get_or l k 0 < 256 = λ k h. below_256 k h in
     let x0 = put_there t d are (address_after at 0) p (get_or l 0 0) (place 0 p (omega arith) (omega arith)) (small 0 (omega arith)) (there' 0 (omega arith)) in
     let x1 = put_there t _ x0.0 (address_after at 1) (p + 1) (get_or l 1 0) (place 1 (p + 1) (omega arith) refl) (small 1 (omega arith)) (still _ _ _ _ _ x0.1 (there' 1 (omega arith))) in
@@ -107,11 +107,11 @@ halfword_put t d first new items l are at u value is fits one_page there e first
           ∙ x1.1 ∙ ap (λ (m : Bytes). insert m (address_after at 1) (get_or l 1 0)) x0.1,
     )
   where
-    place_after : (k x : ℕ) → k < 2 → x ≡ u + at % 4096 + k → x ≡ frame_of t (address_after at k) + address_after at k % 4096
+    place_after : (k x : ℕ) → k < 2 → x ≡ u + at % 512 + k → x ≡ frame_of t (address_after at k) + address_after at k % 512
     place_after k x small f =
-        let page : address_after at k / 4096 ≡ at / 4096 = omega arith in
-        let rest : address_after at k % 4096 ≡ at % 4096 + k = omega arith in
-        let same : frame_of t (address_after at k) ≡ u = ap (λ (x : ℕ). slice_index t x * 8192) page ∙ sym is in
+        let page : address_after at k / 512 ≡ at / 512 = omega arith in
+        let rest : address_after at k % 512 ≡ at % 512 + k = omega arith in
+        let same : frame_of t (address_after at k) ≡ u = ap (λ (x : ℕ). slice_index t x * 1024) page ∙ sym is in
         omega (arith, same, rest, f)
 
     below_256 : (k : ℕ) → k < 2 → get_or l k 0 < 256
@@ -122,14 +122,14 @@ halfword_put t d first new items l are at u value is fits one_page there e first
         each (suc zero) h = omega arith
         each (suc (suc k)) h = absurd (omega arith)
 
-pub word_put : (t d first new items l : List ℕ) → ArePages t d → (at u value : ℕ) → u ≡ frame_of t at → at < 2 ^ 32 → at % 4096 ≤ 4092 → IsSome (loaded (values_of (cell_at t d)) at 4)
-    → l ≡ value % 256 ∷ value / 256 % 256 ∷ value / 65536 % 256 ∷ value / 16777216 % 256 ∷ [] → first ≡ d → new ≡ with_four first (u + at % 4096) l → items ≡ new
+pub word_put : (t d first new items l : List ℕ) → ArePages t d → (at u value : ℕ) → u ≡ frame_of t at → at < 2 ^ 32 → at % 512 ≤ 508 → IsSome (loaded (values_of (cell_at t d)) at 4)
+    → l ≡ value % 256 ∷ value / 256 % 256 ∷ value / 65536 % 256 ∷ value / 16777216 % 256 ∷ [] → first ≡ d → new ≡ with_four first (u + at % 512) l → items ≡ new
     → ArePages t items × (values_of (cell_at t items) ≡ insert (insert (insert (insert (values_of (cell_at t d)) (address_after at 0) (get_or l 0 0)) (address_after at 1) (get_or l 1 0)) (address_after at 2) (get_or l 2 0)) (address_after at 3) (get_or l 3 0))
 word_put t d first new items l are at u value is fits one_page there e first_is new_is items_is =
     let m = values_of (cell_at t d) in
-    let p = u + at % 4096 in
+    let p = u + at % 512 in
     let there' : (k : ℕ) → k < 4 → IsSome (byte_at m (address_after at k)) = λ k h. some_if _ _ (missing_byte m at 4 k h) there in
-    let place : (k x : ℕ) → k < 4 → x ≡ p + k → x ≡ frame_of t (address_after at k) + address_after at k % 4096 = λ k x h f. place_after k x h f in
+    let place : (k x : ℕ) → k < 4 → x ≡ p + k → x ≡ frame_of t (address_after at k) + address_after at k % 512 = λ k x h f. place_after k x h f in
     let small : (k : ℕ) → k < 4 → get_or l k 0 < 256 = λ k h. below_256 k h in
     let x0 = put_there t d are (address_after at 0) p (get_or l 0 0) (place 0 p (omega arith) (omega arith)) (small 0 (omega arith)) (there' 0 (omega arith)) in
     let x1 = put_there t _ x0.0 (address_after at 1) (p + 1) (get_or l 1 0) (place 1 (p + 1) (omega arith) refl) (small 1 (omega arith)) (still _ _ _ _ _ x0.1 (there' 1 (omega arith))) in
@@ -141,11 +141,11 @@ word_put t d first new items l are at u value is fits one_page there e first_is 
           ∙ x3.1 ∙ ap (λ (m : Bytes). insert m (address_after at 3) (get_or l 3 0)) (x2.1 ∙ ap (λ (m : Bytes). insert m (address_after at 2) (get_or l 2 0)) (x1.1 ∙ ap (λ (m : Bytes). insert m (address_after at 1) (get_or l 1 0)) x0.1)),
     )
   where
-    place_after : (k x : ℕ) → k < 4 → x ≡ u + at % 4096 + k → x ≡ frame_of t (address_after at k) + address_after at k % 4096
+    place_after : (k x : ℕ) → k < 4 → x ≡ u + at % 512 + k → x ≡ frame_of t (address_after at k) + address_after at k % 512
     place_after k x small f =
-        let page : address_after at k / 4096 ≡ at / 4096 = omega arith in
-        let rest : address_after at k % 4096 ≡ at % 4096 + k = omega arith in
-        let same : frame_of t (address_after at k) ≡ u = ap (λ (x : ℕ). slice_index t x * 8192) page ∙ sym is in
+        let page : address_after at k / 512 ≡ at / 512 = omega arith in
+        let rest : address_after at k % 512 ≡ at % 512 + k = omega arith in
+        let same : frame_of t (address_after at k) ≡ u = ap (λ (x : ℕ). slice_index t x * 1024) page ∙ sym is in
         omega (arith, same, rest, f)
 
     below_256 : (k : ℕ) → k < 4 → get_or l k 0 < 256

@@ -53,34 +53,34 @@ get_values f past q = get_below (2 ^ 32) f q ∙ elim (nat_lt q (2 ^ 32)) as (λ
 pub within : (xs : List ℕ) (k : ℕ) → slice_index xs k ≢ 0 → k < length xs
 within xs k h = elim (cases_lt k (length xs)) [ inl lt ↦ lt | inr le ↦ absurd (h (get_or_past xs k 0 le)) ]
 
-pub unmarked : (c : List ℕ) (p : ℕ) → slice_index c (p + 4096) ≢ 1 → cell c p ≡ None
-unmarked c p h = elim (slice_index c (p + 4096) == 1) as (λ t. (slice_index c (p + 4096) == 1) ≡ t → cond t (Some (slice_index c p)) None ≡ None) [
-  | true ↦ λ t. absurd (h (eqb-true (slice_index c (p + 4096)) 1 t))
+pub unmarked : (c : List ℕ) (p : ℕ) → slice_index c (p + 512) ≢ 1 → cell c p ≡ None
+unmarked c p h = elim (slice_index c (p + 512) == 1) as (λ t. (slice_index c (p + 512) == 1) ≡ t → cond t (Some (slice_index c p)) None ≡ None) [
+  | true ↦ λ t. absurd (h (eqb-true (slice_index c (p + 512)) 1 t))
   | false ↦ λ t. refl
 ] refl
 
-pub is_marked : (c : List ℕ) (p : ℕ) → slice_index c (p + 4096) ≡ 1 → cell c p ≡ Some (slice_index c p)
+pub is_marked : (c : List ℕ) (p : ℕ) → slice_index c (p + 512) ≡ 1 → cell c p ≡ Some (slice_index c p)
 is_marked c p h = ap (λ (k : ℕ). cond (k == 1) (Some (slice_index c p)) None) h
 
-pub marked : (c : List ℕ) (p : ℕ) → IsSome (cell c p) → slice_index c (p + 4096) ≡ 1
-marked c p h = elim (slice_index c (p + 4096) == 1) as (λ t. (slice_index c (p + 4096) == 1) ≡ t → IsSome (cond t (Some (slice_index c p)) None) → slice_index c (p + 4096) ≡ 1) [
-  | true ↦ λ t s. eqb-true (slice_index c (p + 4096)) 1 t
+pub marked : (c : List ℕ) (p : ℕ) → IsSome (cell c p) → slice_index c (p + 512) ≡ 1
+marked c p h = elim (slice_index c (p + 512) == 1) as (λ t. (slice_index c (p + 512) == 1) ≡ t → IsSome (cond t (Some (slice_index c p)) None) → slice_index c (p + 512) ≡ 1) [
+  | true ↦ λ t s. eqb-true (slice_index c (p + 512)) 1 t
   | false ↦ λ t s. absurd (cc)
 ] refl h
 
 module _ (t c : List ℕ) (are : ArePages t c) where
-  pub no_frame : (q : ℕ) → slice_index t (q / 4096) ≡ 0 → cell_at t c q ≡ None
+  pub no_frame : (q : ℕ) → slice_index t (q / 512) ≡ 0 → cell_at t c q ≡ None
   no_frame q e =
-      let k : frame_of t q + q % 4096 + 4096 ≡ 4096 + q % 4096 = omega (arith, e) in
-      let small : q % 4096 < 4096 = omega arith in
-      let z : slice_index c (frame_of t q + q % 4096 + 4096) ≡ 0 = ap (slice_index c) k ∙ are.none (q % 4096) small in
-      unmarked c (frame_of t q + q % 4096) (λ o. let w : 0 ≡ 1 = sym z ∙ o in absurd (omega arith))
+      let k : frame_of t q + q % 512 + 512 ≡ 512 + q % 512 = omega (arith, e) in
+      let small : q % 512 < 512 = omega arith in
+      let z : slice_index c (frame_of t q + q % 512 + 512) ≡ 0 = ap (slice_index c) k ∙ are.none (q % 512) small in
+      unmarked c (frame_of t q + q % 512) (λ o. let w : 0 ≡ 1 = sym z ∙ o in absurd (omega arith))
 
-  pub past_table : (q : ℕ) → length t ≤ q / 4096 → cell_at t c q ≡ None
-  past_table q h = no_frame q (get_or_past t (q / 4096) 0 h)
+  pub past_table : (q : ℕ) → length t ≤ q / 512 → cell_at t c q ≡ None
+  past_table q h = no_frame q (get_or_past t (q / 512) 0 h)
 
   past_all : (q : ℕ) → 2 ^ 32 ≤ q → cell_at t c q ≡ None
-  past_all q h = let n : length t ≤ 2 ^ 20 = are.count in past_table q (omega arith)
+  past_all q h = let n : length t ≤ 2 ^ 23 = are.count in past_table q (omega arith)
 
   pub get_pages : (q : ℕ) → byte_at (values_of (cell_at t c)) q ≡ cell_at t c q
   get_pages q = get_values (cell_at t c) past_all q
@@ -90,7 +90,7 @@ module _ (t c : List ℕ) (are : ArePages t c) where
 
   byte_is : (a b : ℕ) → cell_at t c a ≡ Some b → b < 256
   byte_is a b e =
-      let p = frame_of t a + a % 4096 in
+      let p = frame_of t a + a % 512 in
       let f : Some (slice_index c p) ≡ Some b = sym (is_marked c p (marked c p (ap is_some e))) ∙ e in
       let g : slice_index c p ≡ b = cc in
       subst (λ (x : ℕ). x < 256) g (are.bytes p)
@@ -101,7 +101,7 @@ module _ (t c : List ℕ) (are : ArePages t c) where
     bytes = λ a b e. byte_is a b (sym (get_pages a) ∙ e);
   }
 
-  pub has_frame : (q : ℕ) → IsSome (cell_at t c q) → slice_index t (q / 4096) ≢ 0
+  pub has_frame : (q : ℕ) → IsSome (cell_at t c q) → slice_index t (q / 512) ≢ 0
   has_frame q s e = let n : cell_at t c q ≡ None = no_frame q e in absurd (cc)
 
 -- ---- a memory without any byte
@@ -110,32 +110,29 @@ pub none_anywhere : (t c : List ℕ) → t ≡ [] → c ≡ [] → values_of (ce
 none_anywhere t c e f = same_map nat_cmp_total nat_cmp-IsAntisymmetric _ _ (λ q. get_values (cell_at t c) (λ r h. nothing r) q ∙ nothing q ∙ sym (get-empty nat_cmp q))
   where
     nothing : (q : ℕ) → cell_at t c q ≡ None
-    nothing q = unmarked c (frame_of t q + q % 4096) (λ o. let z : slice_index c (frame_of t q + q % 4096 + 4096) ≡ 0 = ap (λ (l : List ℕ). slice_index l (frame_of t q + q % 4096 + 4096)) f in let w : 0 ≡ 1 = sym z ∙ o in absurd (omega arith))
+    nothing q = unmarked c (frame_of t q + q % 512) (λ o. let z : slice_index c (frame_of t q + q % 512 + 512) ≡ 0 = ap (λ (l : List ℕ). slice_index l (frame_of t q + q % 512 + 512)) f in let w : 0 ≡ 1 = sym z ∙ o in absurd (omega arith))
 
 -- ---- what was read
 
 pub read_is : (xs : List ℕ) (k r : ℕ) → k < length xs → r ≡ get_or xs k r → slice_index xs k ≡ r
 read_is xs k r h e = get_or_default xs k 0 r h ∙ sym e
 
-pub table_value : (t : List ℕ) (k r : ℕ) → slice_index t k ≢ 0 → r ≡ get_or t k r → slice_index t k ≡ r
-table_value t k r h e = read_is t k r (within t k h) e
-
-module _ (t c : List ℕ) (are : ArePages t c) (at f : ℕ) (is : f ≡ frame_of t at) (room : f + 8192 ≤ length c) where
-  here : f + at % 4096 ≡ frame_of t at + at % 4096
+module _ (t c : List ℕ) (are : ArePages t c) (at f : ℕ) (is : f ≡ frame_of t at) (room : f + 1024 ≤ length c) where
+  here : f + at % 512 ≡ frame_of t at + at % 512
   here = omega (arith, is)
 
-  pub byte_here : (m r : ℕ) → m ≡ get_or c (f + at % 4096 + 4096) m → r ≡ get_or c (f + at % 4096) r → m ≡ 1 → Some r ≡ byte_at (values_of (cell_at t c)) at
+  pub byte_here : (m r : ℕ) → m ≡ get_or c (f + at % 512 + 512) m → r ≡ get_or c (f + at % 512) r → m ≡ 1 → Some r ≡ byte_at (values_of (cell_at t c)) at
   byte_here m r e g one =
-      let small : at % 4096 < 4096 = omega arith in
-      let mark : slice_index c (f + at % 4096 + 4096) ≡ 1 = read_is c (f + at % 4096 + 4096) m (omega arith) e ∙ one in
-      let byte : slice_index c (f + at % 4096) ≡ r = read_is c (f + at % 4096) r (omega arith) g in
-      sym (get_pages t c are at ∙ ap (cell c) (sym here) ∙ is_marked c (f + at % 4096) mark ∙ ap Some byte)
+      let small : at % 512 < 512 = omega arith in
+      let mark : slice_index c (f + at % 512 + 512) ≡ 1 = read_is c (f + at % 512 + 512) m (omega arith) e ∙ one in
+      let byte : slice_index c (f + at % 512) ≡ r = read_is c (f + at % 512) r (omega arith) g in
+      sym (get_pages t c are at ∙ ap (cell c) (sym here) ∙ is_marked c (f + at % 512) mark ∙ ap Some byte)
 
-  pub none_here : (m : ℕ) → m ≡ get_or c (f + at % 4096 + 4096) m → m ≢ 1 → None ≡ byte_at (values_of (cell_at t c)) at
+  pub none_here : (m : ℕ) → m ≡ get_or c (f + at % 512 + 512) m → m ≢ 1 → None ≡ byte_at (values_of (cell_at t c)) at
   none_here m e other =
-      let small : at % 4096 < 4096 = omega arith in
-      let mark : slice_index c (f + at % 4096 + 4096) ≡ m = read_is c (f + at % 4096 + 4096) m (omega arith) e in
-      sym (get_pages t c are at ∙ ap (cell c) (sym here) ∙ unmarked c (f + at % 4096) (λ o. other (sym mark ∙ o)))
+      let small : at % 512 < 512 = omega arith in
+      let mark : slice_index c (f + at % 512 + 512) ≡ m = read_is c (f + at % 512 + 512) m (omega arith) e in
+      sym (get_pages t c are at ∙ ap (cell c) (sym here) ∙ unmarked c (f + at % 512) (λ o. other (sym mark ∙ o)))
 
 pub small_byte : (t c : List ℕ) → ArePages t c → (k x : ℕ) → slice_index c k ≡ x → x < 256
 small_byte t c are k x e = subst (λ (y : ℕ). y < 256) e (are.bytes k)
@@ -157,9 +154,9 @@ no_pages t c e f =
     let z : (l : List ℕ) (k : ℕ) → l ≡ [] → slice_index l k ≡ 0 = λ l k g. ap (λ (x : List ℕ). slice_index x k) g in
     record {
       count = omega arith;
-      whole = ap (λ (x : ℕ). x % 8192) m;
+      whole = ap (λ (x : ℕ). x % 1024) m;
       frames = λ p h. absurd (omega (arith, h, n));
-      none = λ k h. z c (4096 + k) f;
+      none = λ k h. z c (512 + k) f;
       apart = λ p r g h. absurd (h (z t p e));
       bytes = λ k. let y = z c k f in omega (arith, y);
     }

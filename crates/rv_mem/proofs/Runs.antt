@@ -69,14 +69,14 @@ read_one_more m a k v bs below before here j l = elim (cases_lt j k) [
 
 -- `count` more bytes are read, from cells in one page
 pub read_more : (t c old new : List ℕ) → ArePages t c → (at n done count frame : ℕ) → IsSome (bytes_at (values_of (cell_at t c)) (range_with_len at n)) → done + count ≤ n → at + done < 2 ^ 32
-    → (at + done) % 4096 + count ≤ 4096 → frame ≡ frame_of t (at + done) → ((j : ℕ) → j < done → byte_at (values_of (cell_at t c)) (at + j) ≡ Some (slice_index old j))
-    → Puts old new done count (λ j. slice_index c (frame + (at + done) % 4096 + j)) → (j : ℕ) → j < done + count → byte_at (values_of (cell_at t c)) (at + j) ≡ Some (slice_index new j)
+    → (at + done) % 512 + count ≤ 512 → frame ≡ frame_of t (at + done) → ((j : ℕ) → j < done → byte_at (values_of (cell_at t c)) (at + j) ≡ Some (slice_index old j))
+    → Puts old new done count (λ j. slice_index c (frame + (at + done) % 512 + j)) → (j : ℕ) → j < done + count → byte_at (values_of (cell_at t c)) (at + j) ≡ Some (slice_index new j)
 read_more t c old new are at n done count frame some room fits page is before puts j l = elim (cases_lt j done) [
   | inl h ↦ before j h ∙ ap Some (sym (puts.below j h))
   | inr h ↦
       let i : ℕ = j - done in
       let small : i < count = omega (arith, h, l) in
-      let p : ℕ = frame + (at + done) % 4096 + i in
+      let p : ℕ = frame + (at + done) % 512 + i in
       let m : Bytes = values_of (cell_at t c) in
       let here : address_after (at + done) i ≡ at + j = omega (arith, h, small, page, fits) in
       let cell_is : byte_at m (at + j) ≡ cell c p = ap (byte_at m) (sym here) ∙ byte_after t c are (at + done) frame is count fits page i small in

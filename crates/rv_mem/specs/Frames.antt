@@ -3,28 +3,28 @@ use Rattle.std.specs.Prelude.{◌≡◌, ◌≢◌, ℕ, zero, suc, ◌+◌, ◌
 use Rattle.std.specs.FinMap.{empty, insert}
 use Rattle.rv_mem.specs.Bytes.{Bytes}
 
--- where the frame of an address's page begins in the cells: 4096 bytes,
+-- where the frame of an address's page begins in the cells: 512 bytes,
 -- and after them a mark for each
 abbrev pub frame_of : List ℕ → ℕ → ℕ
-frame_of table address = slice_index table (address / 4096) * 8192
+frame_of table address = slice_index table (address / 512) * 1024
 
 -- the byte of a cell, if that has its mark
 abbrev pub cell : List ℕ → ℕ → Option ℕ
 cell cells place =
-    if slice_index cells (place + 4096) == 1 then Some (slice_index cells place) else None
+    if slice_index cells (place + 512) == 1 then Some (slice_index cells place) else None
 
 -- the byte at an address, if one is there
 abbrev pub cell_at : List ℕ → List ℕ → ℕ → Option ℕ
-cell_at table cells address = cell cells (frame_of table address + address % 4096)
+cell_at table cells address = cell cells (frame_of table address + address % 512)
 
 -- The table leads from each page to its frame, which lies within the cells, and no page of an
--- address lies past 2 ^ 20. Frame 0 has no mark, and is that of all pages without a byte; every
+-- address lies past 2 ^ 23. Frame 0 has no mark, and is that of all pages without a byte; every
 -- other frame is that of one page.
 pub record ArePages (table cells : List ℕ) : Type 0 where
-  pub count : length table ≤ 2 ^ 20
-  pub whole : length cells % 8192 ≡ 0
-  pub frames : (page : ℕ) → page < length table → (slice_index table page + 1) * 8192 ≤ length cells
-  pub none : (k : ℕ) → k < 4096 → slice_index cells (4096 + k) ≡ 0
+  pub count : length table ≤ 2 ^ 23
+  pub whole : length cells % 1024 ≡ 0
+  pub frames : (page : ℕ) → page < length table → (slice_index table page + 1) * 1024 ≤ length cells
+  pub none : (k : ℕ) → k < 512 → slice_index cells (512 + k) ≡ 0
   pub apart : (page other : ℕ) → slice_index table page ≡ slice_index table other
       → slice_index table page ≢ 0 → page ≡ other
   pub bytes : (k : ℕ) → slice_index cells k < 256

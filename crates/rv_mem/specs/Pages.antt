@@ -5,4 +5,4 @@ use Rattle.rv_mem.specs.Frames.{values_of, cell_at}
 
 -- the bytes of a memory of pages, by address
 abbrev pub bytes_of : Pages → Bytes
-bytes_of p = values_of (cell_at p.table.items p.cells.items)
+bytes_of p = values_of (cell_at p.table p.cells.items)

@@ -2,3 +2,4 @@
 pub mod Frames
 pub mod Ranges
 pub mod Segment
+pub mod Tables

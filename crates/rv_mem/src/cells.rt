@@ -4,7 +4,7 @@ ghost use Rattle.std.specs.Int.{bytes_low_first};
 ghost use Rattle.rv_mem.specs.private.Frames.{with_two, with_four, Puts, MarksRun};
 
 /// How many bytes a page has.
-const PAGE: usize = 4096;
+const PAGE: usize = 512;
 
 /// Writes the four bytes of a number from a place on: over a slice,
 /// so that it is one store of the processor.
@@ -60,8 +60,8 @@ pub(crate) fn put_same(cells: &mut [u8], place: usize, count: usize, value: u8)
 /// Writes `count` bytes from `place` on, those of `front` from place `from` on and zeros past its end,
 /// and marks them as there.
 pub(crate) fn mark_cells(cells: &mut [u8], place: usize, count: usize, front: &[u8], from: usize)
-    requires room { place + count + 4096 ≤ length cells.old }
-    requires page { count ≤ 4096 }
+    requires room { place + count + 512 ≤ length cells.old }
+    requires page { count ≤ 512 }
     ensures { MarksRun cells.old cells.new place count front.now from }
 {
     let start = from.min(front.len());

@@ -2,7 +2,7 @@
 //!
 //! Contracts see a [`Memory`] as one finite map from address to byte (`specs/Bytes.antt`), and say
 //! of each call what it answers and what the whole map is afterwards. [`Segments`] keeps the map as
-//! runs of bytes, and [`Pages`] as pages of 4096 bytes,
+//! runs of bytes, and [`Pages`] as pages of 512 bytes,
 //! each with a mark for each byte that is there.
 #![tactic(auto)]
 
@@ -13,6 +13,7 @@ pub mod memory;
 pub mod pages;
 mod segment;
 pub mod segments;
+mod table;
 
 pub use fault::AddFault;
 pub use memory::{Memory, Width};

@@ -9,22 +9,23 @@ ghost use Rattle.rv_mem.specs.private.Frames.{KeepsFrames, HaveFrames, run_of};
 use crate::cells::{copy_cells, mark_cells, write_halfword, write_word};
 use crate::fault::AddFault;
 use crate::memory::{Memory, Width};
+use crate::table::Table;
 use std::alloc::{AllocError, Global};
 
 /// How many addresses there are.
 const ADDRESSES: u64 = 1 << 32;
 
 /// How many bytes a page has.
-const PAGE: u32 = 4096;
+const PAGE: u32 = 512;
 
 /// A page's bytes, and after them their marks.
-const FRAME: usize = 8192;
+const FRAME: usize = 1024;
 
 /// Where the last word begins that lies in one page.
-const LAST_WORD: u32 = 4092;
+const LAST_WORD: u32 = 508;
 
 /// Where the last halfword begins that lies in one page.
-const LAST_HALFWORD: u32 = 4094;
+const LAST_HALFWORD: u32 = 510;
 
 /// All marks of a word's bytes.
 const FOUR_MARKS: u32 = 0x0101_0101;
@@ -42,46 +43,33 @@ fn lengthen_cells(cells: &mut Vec<u8>, n: usize) -> Result<(), AllocError>
     cells.resize(n, 0)
 }
 
-/// Lengthens by zeros.
-fn lengthen_table(table: &mut Vec<u32>, n: usize) -> Result<(), AllocError>
-    requires { length table.old.items ≤ n }
-    ensures same { (k : ℕ) → slice_index table.new.items k ≡ slice_index table.old.items k }
-    ensures ok { OnOk result (length table.new.items ≡ n) }
-    ensures err { OnErr result (length table.new.items ≡ length table.old.items) }
-{
-    table.resize(n, 0)
-}
-
 /// Room for a page in the table, and for frame 0.
-fn make_room(table: &mut Vec<u32>, cells: &mut Vec<u8>, page: u32) -> Result<(), AllocError>
-    requires are { ArePages table.old.items cells.old.items }
-    requires page { page < 2 ^ 20 }
-    ensures are { ArePages table.new.items cells.new.items }
+fn make_room(table: &mut Table, cells: &mut Vec<u8>, page: u32) -> Result<(), AllocError>
+    requires are { ArePages table.old cells.old.items }
+    requires page { page < 2 ^ 23 }
+    ensures are { ArePages table.new cells.new.items }
     ensures cells { (k : ℕ) → slice_index cells.new.items k ≡ slice_index cells.old.items k }
-    ensures table { (k : ℕ) → slice_index table.new.items k ≡ slice_index table.old.items k }
-    ensures room { OnOk result (page < length table.new.items) }
+    ensures table { (k : ℕ) → slice_index table.new k ≡ slice_index table.old k }
+    ensures room { OnOk result (page < length table.new) }
 {
     if cells.is_empty() {
         lengthen_cells(cells, FRAME)?;
     }
-    if page as usize >= table.len() {
-        lengthen_table(table, page as usize + 1)?;
-    }
-    Ok(())
+    table.lengthen(page)
 }
 
 /// Makes a frame for a page that has none.
-fn make_frame(table: &mut Vec<u32>, cells: &mut Vec<u8>, page: u32) -> Result<(), AllocError>
-    requires are { ArePages table.old.items cells.old.items }
-    requires page { page < 2 ^ 20 }
-    ensures are { ArePages table.new.items cells.new.items }
+fn make_frame(table: &mut Table, cells: &mut Vec<u8>, page: u32) -> Result<(), AllocError>
+    requires are { ArePages table.old cells.old.items }
+    requires page { page < 2 ^ 23 }
+    ensures are { ArePages table.new cells.new.items }
     ensures same { (q : ℕ) →
-        cell_at table.new.items cells.new.items q ≡ cell_at table.old.items cells.old.items q }
-    ensures made { OnOk result (slice_index table.new.items page ≢ 0) }
-    ensures kept { KeepsFrames table.old.items table.new.items }
+        cell_at table.new cells.new.items q ≡ cell_at table.old cells.old.items q }
+    ensures made { OnOk result (slice_index table.new page ≢ 0) }
+    ensures kept { KeepsFrames table.old table.new }
 {
     make_room(table, cells, page)?;
-    if table[page as usize] != 0 {
+    if table.number(page) != 0 {
         return Ok(());
     }
     let frames = cells.len() / FRAME;
@@ -89,19 +77,19 @@ fn make_frame(table: &mut Vec<u32>, cells: &mut Vec<u8>, page: u32) -> Result<()
         return Err(AllocError);
     };
     lengthen_cells(cells, (frames + 1) * FRAME)?;
-    table[page as usize] = number;
+    table.set(page, number)?;
     Ok(())
 }
 
-/// A memory as pages of 4096 bytes. As in a machine's page table, each page's number leads to a
+/// A memory as pages of 512 bytes. As in a machine's page table, each page's number leads to a
 /// frame, in which its bytes stand; after them is a mark for each byte that is there. Pages without
 /// a byte share frame 0, which has no mark.
 #[derive(Drop)]
 pub struct Pages {
-    table: Vec<u32>,
+    table: Table,
     cells: Vec<u8>,
-    ghost are_pages: { ArePages table.items cells.items },
-    ghost in_range: { IsMemory (values_of (cell_at table.items cells.items)) },
+    ghost are_pages: { ArePages table cells.items },
+    ghost in_range: { IsMemory (values_of (cell_at table cells.items)) },
 }
 
 impl Pages {
@@ -112,7 +100,7 @@ impl Pages {
         ensures { bytes_of result ≡ empty }
     {
         Pages {
-            table: Vec::new(alloc),
+            table: Table::new(alloc),
             cells: Vec::new(alloc),
         }
     }
@@ -120,11 +108,11 @@ impl Pages {
     /// Where the frame of an address's page begins, if the table has that page.
     #[inline(always)]
     fn frame(&self, at: u32) -> Option<usize>
-        ensures value { IfSome result (λ f. f ≡ frame_of self.now.table.items at) }
-        ensures within { IfSome result (λ f. f + 8192 ≤ length self.now.cells.items) }
-        ensures none { result ≡ None → cell_at self.now.table.items self.now.cells.items at ≡ None }
+        ensures value { IfSome result (λ f. f ≡ frame_of self.now.table at) }
+        ensures within { IfSome result (λ f. f + 1024 ≤ length self.now.cells.items) }
+        ensures none { result ≡ None → cell_at self.now.table self.now.cells.items at ≡ None }
     {
-        let number = *self.table.get((at / PAGE) as usize)?;
+        let number = self.table.get(at / PAGE)?;
         Some(number as usize * FRAME)
     }
 
@@ -143,7 +131,7 @@ impl Pages {
     /// The four bytes from an address on, in one page.
     #[inline(always)]
     fn word_at(&self, at: u32) -> Option<u32>
-        requires { at % 4096 ≤ 4092 }
+        requires { at % 512 ≤ 508 }
         ensures { result ≡ loaded (bytes_of self.now) at 4 }
     {
         let place = self.frame(at)? + (at % PAGE) as usize;
@@ -168,7 +156,7 @@ impl Pages {
     /// The two bytes from an address on, in one page.
     #[inline(always)]
     fn halfword_at(&self, at: u32) -> Option<u16>
-        requires { at % 4096 ≤ 4094 }
+        requires { at % 512 ≤ 510 }
         ensures { result ≡ loaded (bytes_of self.now) at 2 }
     {
         let place = self.frame(at)? + (at % PAGE) as usize;
@@ -192,7 +180,7 @@ impl Pages {
 
     /// Whether one of the `count` addresses from `at` on, all in one page, is there.
     fn run_has(&self, at: u32, count: u32) -> bool
-        requires { at % 4096 + count ≤ 4096 }
+        requires { at % 512 + count ≤ 512 }
         ensures found { OnTrue result ((j : ℕ) × (j < count) ×
             IsSome (byte_at (bytes_of self.now) (at + j))) }
         ensures none { OnFalse result ((j : ℕ) → j < count →
@@ -211,14 +199,9 @@ impl Pages {
 
     /// The number of the frame of an address's page, or 0.
     fn frame_number(&self, at: u32) -> u32
-        ensures { result ≡ slice_index self.now.table.items (at / 4096) }
+        ensures { result ≡ slice_index self.now.table (at / 512) }
     {
-        let page = (at / PAGE) as usize;
-        if page < self.table.len() {
-            self.table[page]
-        } else {
-            0
-        }
+        self.table.number(at / PAGE)
     }
 
     /// Whether one of the size addresses from base on is there.
@@ -240,10 +223,10 @@ impl Pages {
 
     /// Makes the page of an address, if it has no frame.
     fn make_page(&mut self, page: u32) -> Result<(), AllocError>
-        requires { page < 2 ^ 20 }
+        requires { page < 2 ^ 23 }
         ensures same { bytes_of self.new ≡ bytes_of self.old }
-        ensures made { OnOk result (slice_index self.new.table.items page ≢ 0) }
-        ensures kept { KeepsFrames self.old.table.items self.new.table.items }
+        ensures made { OnOk result (slice_index self.new.table page ≢ 0) }
+        ensures kept { KeepsFrames self.old.table self.new.table }
     {
         make_frame(&mut self.table, &mut self.cells, page)
     }
@@ -251,13 +234,13 @@ impl Pages {
     /// Writes `count` bytes, those of `front` from place `from` on and zeros past its end, to the
     /// addresses from `at` on, all in one page that has a frame, and marks them as there.
     fn mark_run(&mut self, at: u32, count: u32, front: &[u8], from: u32)
-        requires page { at % 4096 + count ≤ 4096 }
-        requires made { slice_index self.old.table.items (at / 4096) ≢ 0 }
+        requires page { at % 512 + count ≤ 512 }
+        requires made { slice_index self.old.table (at / 512) ≢ 0 }
         ensures written { (q : ℕ) → byte_at (bytes_of self.new) q ≡
             run_of at count front.now from q (byte_at (bytes_of self.old) q) }
-        ensures table { self.new.table.items ≡ self.old.table.items }
+        ensures table { self.new.table ≡ self.old.table }
     {
-        let place = self.table[(at / PAGE) as usize] as usize * FRAME + (at % PAGE) as usize;
+        let place = self.table.number(at / PAGE) as usize * FRAME + (at % PAGE) as usize;
         mark_cells(&mut self.cells, place, count as usize, front, from as usize);
     }
 
@@ -265,7 +248,7 @@ impl Pages {
     /// and then nothing changed.
     #[inline(always)]
     fn put_word(&mut self, at: u32, value: u32) -> bool
-        requires { at % 4096 ≤ 4092 }
+        requires { at % 512 ≤ 508 }
         ensures there { IsTrue result ↔ IsThere (bytes_of self.old) at 4 }
         ensures done { OnTrue result (bytes_of self.new ≡ stored (bytes_of self.old) at 4 value) }
         ensures refused { OnFalse result (bytes_of self.new ≡ bytes_of self.old) }
@@ -282,7 +265,7 @@ impl Pages {
     /// and then nothing changed.
     #[inline(always)]
     fn put_halfword(&mut self, at: u32, value: u32) -> bool
-        requires { at % 4096 ≤ 4094 }
+        requires { at % 512 ≤ 510 }
         ensures there { IsTrue result ↔ IsThere (bytes_of self.old) at 2 }
         ensures done { OnTrue result (bytes_of self.new ≡ stored (bytes_of self.old) at 2 value) }
         ensures refused { OnFalse result (bytes_of self.new ≡ bytes_of self.old) }
@@ -353,18 +336,20 @@ impl Pages {
         true
     }
 
-    /// Makes room for the cells of some frames more, so that they are made without moving the others.
+    /// Makes room for the cells of some frames more, and for no others, so that they are made without
+    /// moving the cells again.
     fn reserve_frames(&mut self, count: u32) -> Result<(), AllocError>
         ensures same { bytes_of self.new ≡ bytes_of self.old }
     {
-        self.cells.reserve(count as usize * FRAME)
+        let first = if self.cells.is_empty() { FRAME } else { 0 };
+        self.cells.reserve_exact(first + count as usize * FRAME)
     }
 
     /// Makes the pages of the size addresses from base on.
     fn make_pages(&mut self, base: u32, size: u32) -> Result<(), AllocError>
         requires { base + size ≤ 2 ^ 32 }
         ensures same { bytes_of self.new ≡ bytes_of self.old }
-        ensures made { OnOk result (HaveFrames self.new.table.items base size) }
+        ensures made { OnOk result (HaveFrames self.new.table base size) }
     {
         if size == 0 {
             return Ok(());
@@ -381,7 +366,7 @@ impl Pages {
     fn fill(&mut self, base: u32, size: u64, front: &[u8])
         requires end { base + size ≤ 2 ^ 32 }
         requires room { length front.now ≤ size }
-        requires made { HaveFrames self.old.table.items base size }
+        requires made { HaveFrames self.old.table base size }
         ensures { bytes_of self.new ≡ added (bytes_of self.old) base size front.now }
     {
         let mut done = 0;

@@ -7,7 +7,7 @@ KeepsFrames before after = (page : ℕ) → slice_index before page ≢ 0 → sl
 
 -- the pages of the size addresses from base on have frames
 abbrev pub HaveFrames : List ℕ → ℕ → ℕ → Type 0
-HaveFrames table base size = (k : ℕ) → k < size → slice_index table ((base + k) / 4096) ≢ 0
+HaveFrames table base size = (k : ℕ) → k < size → slice_index table ((base + k) / 512) ≢ 0
 
 -- cells with the first two bytes of a list from a place on
 abbrev pub with_two : List ℕ → ℕ → List ℕ → List ℕ
@@ -44,8 +44,8 @@ pub record MarksRun (before after : List ℕ) (place n : ℕ) (bytes : List ℕ)
   pub size : length after ≡ length before
   pub written : (j : ℕ) → j < n → slice_index after (place + j) ≡ slice_index bytes (from + j)
   pub small : (j : ℕ) → j < n → slice_index bytes (from + j) < 256
-  pub marks : (j : ℕ) → j < n → slice_index after (place + 4096 + j) ≡ 1
+  pub marks : (j : ℕ) → j < n → slice_index after (place + 512 + j) ≡ 1
   pub below : (j : ℕ) → j < place → slice_index after j ≡ slice_index before j
   pub between :
-      (j : ℕ) → place + n ≤ j → j < place + 4096 → slice_index after j ≡ slice_index before j
-  pub past : (j : ℕ) → place + 4096 + n ≤ j → slice_index after j ≡ slice_index before j
+      (j : ℕ) → place + n ≤ j → j < place + 512 → slice_index after j ≡ slice_index before j
+  pub past : (j : ℕ) → place + 512 + n ≤ j → slice_index after j ≡ slice_index before j

@@ -68,8 +68,8 @@ const REGIONS_MEET: [Call; 8] = [
     Load(0x0180_01fe, Width::Two, Some(0)),
 ];
 
-/// Two pages of bytes.
-const TWO_PAGES: [Call; 3] = [
+/// Bytes in several pages.
+const SEVERAL_PAGES: [Call; 3] = [
     Add(0x0180_0000, 8192, &[], Ok(())),
     Store(0x0180_0ffe, Width::Four, 0x4433_2211, true),
     Load(0x0180_1000, Width::Two, Some(0x4433)),
@@ -104,7 +104,7 @@ pub(super) fn are_answered<M: Memory>(rt: &impl Abort, memory: &mut M, calls: &[
     }
 }
 
-// What overlaps two pages of these bytes changes none, and adds none on either side.
+// What overlaps these bytes changes none, and adds none on either side.
 fn is_overlap<M: Memory>(memory: &mut M, base: u32, bytes: &[u8]) -> bool {
     memory.add(base, 256, &[9; 256]) == Err(AddFault::Overlap)
         && holds(memory, 0x0180_0000, bytes)
@@ -114,7 +114,7 @@ fn is_overlap<M: Memory>(memory: &mut M, base: u32, bytes: &[u8]) -> bool {
 
 /// Tries that a region that overlaps another isn't added.
 fn overlaps_change_nothing<M: Memory>(rt: &impl Abort, memory: &mut M) {
-    are_answered(rt, memory, &TWO_PAGES);
+    are_answered(rt, memory, &SEVERAL_PAGES);
     let mut bytes = [0u8; 8192];
     bytes[0xffe..0x1002].copy_from_slice(&[0x11, 0x22, 0x33, 0x44]);
     for base in [0x017f_ff01, 0x0180_0000, 0x0180_1f00, 0x0180_1fff] {

@@ -5,7 +5,7 @@ use Rattle.rv_mem.proofs.pages.Pages.fill.Given as goal
 abbrev pub invariant-loop-done : goal.invariant-loop-done
 invariant-loop-done l = record {
   most : l.done ≤ l.size;
-  table : l.self.table.items ≡ l.fn.self.table.items;
+  table : l.self.table ≡ l.fn.self.table;
   run : (q : ℕ) → byte_at (bytes_of l.self) q ≡ run_at l.base l.done l.front q (byte_at (bytes_of l.fn.self) q);
 }
 

@@ -4,5 +4,5 @@ use Rattle.rv_mem.proofs.pages.Pages.make_pages.Given as goal
 abbrev pub invariant-loop-page : goal.invariant-loop-page
 invariant-loop-page l = record {
   same : bytes_of l.self ≡ bytes_of l.fn.self;
-  made : (p : ℕ) → l.base / 4096 ≤ p → p < l.page → slice_index l.self.table.items p ≢ 0;
+  made : (p : ℕ) → l.base / 512 ≤ p → p < l.page → slice_index l.self.table p ≢ 0;
 }

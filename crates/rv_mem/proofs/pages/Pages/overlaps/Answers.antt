@@ -9,7 +9,7 @@ returns-then-run_has-clause-found c =
     let n = c.min-count.result in
     let e = c.min-count.ensures in
     let at : ℕ = (c.args.base + d) % 2 ^ 32 in
-    let room : at % 4096 + n ≤ 4096 = omega (arith, e) in
+    let room : at % 512 + n ≤ 512 = omega (arith, e) in
     let most : d + n ≤ c.args.size = omega (arith, e, c.loop-done.invariant.most) in
     (d + f.0, omega (arith, most, f.1), subst (λ (x : ℕ). IsSome (byte_at (bytes_of c.args.self.now) x)) (sym (after_run c.args.base d n at f.0 refl room f.1)) f.2)
 
@@ -19,7 +19,7 @@ loop-done-preserved c =
     let n = c.min-count.result in
     let e = c.min-count.ensures in
     let at : ℕ = (c.args.base + d) % 2 ^ 32 in
-    let room : at % 4096 + n ≤ 4096 = omega (arith, e) in
+    let room : at % 512 + n ≤ 512 = omega (arith, e) in
     record {
       most = omega (arith, e, c.loop-done.invariant.most);
       none = none_further (bytes_of c.args.self.now) c.args.base d n at refl room c.loop-done.invariant.none c.if-run_has.ensures.none;

@@ -12,7 +12,7 @@ unwrap-requires c =
 
 pub invariant_of-self : goal.invariant_of-self
 invariant_of-self c =
-    let t = c.args.self.now.table.items in
+    let t = c.args.self.now.table in
     let there = subst (λ (o : Option ℕ). IsSome o) c.word_at.ensures c.if-is_none.ensures in
     let f : c.unwrap.result ≡ frame_of t c.args.at = subst (λ (o : Option ℕ). IfSome o (λ x. x ≡ frame_of t c.args.at)) c.unwrap.ensures c.frame.ensures.value in
     let are = (word_put t _ _ _ (with_items c.args.self.now.cells c.write_word.new.cells).items (bytes_low_first 0 4 c.args.value) c.args.self.now.are_pages c.args.at c.unwrap.result c.args.value f c.ranges.at.fits c.requires there refl
@@ -21,7 +21,7 @@ invariant_of-self c =
 
 pub returns-clause-done : goal.returns-clause-done
 returns-clause-done c =
-    let t = c.args.self.now.table.items in
+    let t = c.args.self.now.table in
     let there = subst (λ (o : Option ℕ). IsSome o) c.word_at.ensures c.if-is_none.ensures in
     let f : c.unwrap.result ≡ frame_of t c.args.at = subst (λ (o : Option ℕ). IfSome o (λ x. x ≡ frame_of t c.args.at)) c.unwrap.ensures c.frame.ensures.value in
     (word_put t _ _ _ (with_items c.args.self.now.cells c.write_word.new.cells).items (bytes_low_first 0 4 c.args.value) c.args.self.now.are_pages c.args.at c.unwrap.result c.args.value f c.ranges.at.fits c.requires there refl

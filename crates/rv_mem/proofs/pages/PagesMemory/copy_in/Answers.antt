@@ -8,7 +8,7 @@ fill-requires-clause-end c = ends_within (bytes_of c.args.self.now) c.args.at (l
 
 pub fill-requires-clause-made : goal.fill-requires-clause-made
 fill-requires-clause-made c k below =
-    let t = c.args.self.now.table.items in
+    let t = c.args.self.now.table in
     let d = c.args.self.now.cells.items in
     let are = c.args.self.now.are_pages in
     has_frame t d are _ (ap is_some (sym (get_pages t d are _)) ∙ each_there (bytes_of c.args.self.now) c.args.at (length c.args.copied.now) k c.requires below)

@@ -15,7 +15,7 @@ overflow_add-from c =
 
 pub unwrap-requires : goal.unwrap-requires
 unwrap-requires c =
-    let t = c.args.self.now.table.items in
+    let t = c.args.self.now.table in
     let d = c.args.self.now.cells.items in
     let there = each_there (bytes_of c.args.self.now) c.args.at (length c.args.room.now) c.loop-done.done c.requires (omega (arith, c.loop-done.invariant.many, c.loop-done-test.true)) in
     some_if c.frame.result _ c.frame.ensures.none (ap is_some (sym (get_pages t d c.args.self.now.are_pages (c.args.at + c.loop-done.done))) ∙ there)
@@ -23,7 +23,7 @@ unwrap-requires c =
 pub loop-done-preserved : goal.loop-done-preserved
 loop-done-preserved c =
     let i = c.loop-done.invariant in
-    let t = c.args.self.now.table.items in
+    let t = c.args.self.now.table in
     let d = c.args.self.now.cells.items in
     let below = each_below (bytes_of c.args.self.now) c.args.at (length c.args.room.now) c.loop-done.done c.args.self.now.in_range c.requires (omega (arith, c.loop-done.invariant.many, c.loop-done-test.true)) in
     let e = c.min-count.ensures in
@@ -33,7 +33,7 @@ loop-done-preserved c =
       many = c.copy_cells.ensures.size ∙ i.many;
       each = read_more t d c.loop-done.room c.copy_cells.new.room c.args.self.now.are_pages c.args.at (length c.args.room.now) c.loop-done.done c.min-count.result c.unwrap.result
           c.requires room below (omega (arith, e)) (value c.frame.result c.unwrap.result _ c.frame.ensures.value c.unwrap.ensures) i.each
-          (subst (λ (l : List ℕ). Puts c.loop-done.room c.copy_cells.new.room c.loop-done.done c.min-count.result (λ j. slice_index l (c.unwrap.result + (c.args.at + c.loop-done.done) % 4096 + j))) c.deref.ensures.value c.copy_cells.ensures);
+          (subst (λ (l : List ℕ). Puts c.loop-done.room c.copy_cells.new.room c.loop-done.done c.min-count.result (λ j. slice_index l (c.unwrap.result + (c.args.at + c.loop-done.done) % 512 + j))) c.deref.ensures.value c.copy_cells.ensures);
     }
   where
     value : (o : Option ℕ) (f is : ℕ) → IfSome o (λ x. x ≡ is) → o ≡ Some f → f ≡ is
