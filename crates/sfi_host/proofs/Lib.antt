@@ -4,6 +4,7 @@ pub mod Asked
 pub mod Decoding
 pub mod Blocks
 pub mod Passing
+pub mod Ecalls
 pub mod Entered
 pub mod SafeSeats
 pub mod RegionBytes

@@ -1,28 +1,13 @@
 -- Sandboxes that wait at a call.
 use Rattle.std.specs.Prelude.{IfSome}
 use Rattle.sfi_host.proofs.Prelude.{◌≡◌, ◌↔◌, ℕ, List, Option, Some, None, IsSome, slice_get, refl, sym, ap, ◌∙◌, subst, same_Some, Bytes, State, Ecall, Stands, Stepped, Slot, Sandbox, Sandboxes, Ready, call_by, bytes_in, own, Machine, IsMachine, seat_of, world_of, slot_of, slots_of, state_in, IsSafeSeat, IsSafeWorld, request_by}
-use Rattle.rv_comp.specs.declared.front.Front.{Front}
-use Rattle.rv_comp.specs.declared.front.Front.TheVariants.{Read, Short, Bad}
-use Rattle.rv_step.proofs.Facts.{one_instruction, step_is_effect, calls_are_ecalls}
-use Rattle.rv_step.specs.Step.{IsAtPc, after_front}
+use Rattle.rv_step.proofs.Facts.{step_is_effect, calls_are_ecalls}
 use Rattle.rv_step.specs.declared.outcome.Outcome.TheVariants.{Call as Calls}
 use Rattle.sfi_host.specs.Waiting.{Waits, IsAtCall}
 use Rattle.sfi_host.specs.declared.guest.Request.{Request}
 use Rattle.sfi_host.proofs.Asked.{seat_at, slot_is}
 use Rattle.sfi_host.proofs.Facts.{some_machine}
 use Rattle.sfi_host.proofs.OwnSteps.{steps_own}
-
--- ---- what is read at pc
-
--- another thing than an instruction leads to a trap
-no_trap : (s : State) (front : Front) (n : ℕ) → IsAtPc s front → Stands s Ecall n → (after_front front s.hart s.memory).outcome ≡ Calls
-no_trap s front n at stands = ap (λ (r : Stepped). r.outcome) (step_is_effect s Ecall n (after_front front s.hart s.memory) stands (record { front = front; at_pc = at; result = refl }))
-
--- where an ecall stands it is read
-pub ecall_read : (s : State) (front : Front) (n : ℕ) → IsAtPc s front → Stands s Ecall n → (m : ℕ) × (front ≡ Read Ecall m)
-ecall_read s (Read i m) n at stands = (m, ap (λ j. Read j m) (one_instruction s i Ecall m n at stands).0)
-ecall_read s Short n at stands = let wrong = no_trap s Short n at stands in absurd (cc)
-ecall_read s Bad n at stands = let wrong = no_trap s Bad n at stands in absurd (cc)
 
 -- ---- who waits
 
