@@ -1,0 +1,85 @@
+/* What worlds.py measures.
+ *
+ *     worlds IMAGE bytes TIMES 0          # prints the bytes that malloc has given out for TIMES worlds of the image
+ *     worlds IMAGE load TIMES 0           # the image is loaded TIMES times
+ *     worlds IMAGE call TIMES STEPS       # TIMES turns of at most STEPS steps, and each call gets a reply
+ *     worlds IMAGE read TIMES LENGTH      # LENGTH bytes of its data are read, TIMES times
+ *     worlds IMAGE write TIMES LENGTH     # they are written
+ *     worlds IMAGE zero TIMES 0           # it is reset, TIMES times
+ *
+ * It ends in 0, or in 1 where something isn't as it has to be.
+ */
+#include "sfi_run.h"
+#include <malloc.h>
+#include <stdio.h>
+#include <stdlib.h>
+#include <string.h>
+
+enum { MOST = 4096 };
+
+static uint8_t image[1 << 22], bytes[1 << 20];
+static size_t length;
+static struct sfi_run_world worlds[MOST];
+
+/* What malloc has given out, with what it adds to each block. */
+static size_t given(void) {
+    struct mallinfo2 info = mallinfo2();
+    return info.uordblks + info.hblkhd;
+}
+
+static void must(int is) {
+    if (!is)
+        exit(1);
+}
+
+static void load(struct sfi_run_world *world) {
+    struct sfi_verdict verdict;
+    must(sfi_run_load(image, length, world, &verdict) == SFI_RUN_LOADED);
+}
+
+static void measure_bytes(long times) {
+    must(times <= MOST);
+    size_t before = given();
+    for (long k = 0; k < times; k++)
+        load(&worlds[k]);
+    printf("%zu\n", given() - before);
+    for (long k = 0; k < times; k++)
+        sfi_run_free(&worlds[k]);
+}
+
+static void call(struct sfi_run_world *world, uint32_t steps) {
+    struct sfi_run_event event;
+    must(sfi_run_turn(world, 0, steps, &event) == SFI_RUN_CALL);
+    must(sfi_run_reply(world, 0, event.a0, event.a1));
+}
+
+static void repeat(const char *what, long times, uint32_t number) {
+    struct sfi_run_world world = SFI_RUN_NO_WORLD;
+    struct sfi_run_region data;
+    load(&world);
+    must(sfi_run_data(&world, 0, &data));
+    for (long k = 0; k < times; k++)
+        switch (what[0]) {
+        case 'l': load(&world); break;
+        case 'c': call(&world, number); break;
+        case 'r': must(sfi_run_read(&world, 0, data.base, number, bytes, sizeof bytes)); break;
+        case 'w': must(sfi_run_write(&world, 0, data.base, bytes, number)); break;
+        case 'z': must(sfi_run_reset(&world, 0)); break;
+        default: exit(1);
+        }
+    sfi_run_free(&world);
+}
+
+int main(int count, char **words) {
+    must(count == 5);
+    FILE *file = fopen(words[1], "rb");
+    must(file != NULL);
+    length = fread(image, 1, sizeof image, file);
+    must(fclose(file) == 0 && length < sizeof image);
+    long times = atol(words[3]);
+    if (strcmp(words[2], "bytes") == 0)
+        measure_bytes(times);
+    else
+        repeat(words[2], times, (uint32_t)atol(words[4]));
+    return 0;
+}
