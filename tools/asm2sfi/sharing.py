@@ -14,6 +14,9 @@ from operands import REGISTERS
 from typed import DATA, HIGHEST, LOWEST, masked_base, on_base, set_to, step_of
 
 
+ROUNDS = 8  # how often less is taken to be held in loops, before nothing is
+
+
 class Held:
     """What data registers hold: for each the registers that are it less a number."""
 
@@ -49,6 +52,12 @@ class Held:
             if less is not None:
                 others[target] = less
 
+    def __eq__(self, other):
+        return self.items() == other.items()
+
+    def items(self):
+        return {(name, *pair) for name, others in self.held.items() for pair in others.items()}
+
     def common(self, other):
         """What two have in common."""
         return Held({name: dict(others.items() & other.held.get(name, {}).items()) for name, others in self.held.items()})
@@ -73,10 +82,10 @@ def before_pieces(code, needs, kills, out):
 
 
 class Wanted:
-    """For each piece of the code the registers that are wanted after it: as bits, by what each piece needs and kills. What
-    the blocks in `cut` want isn't wanted before them."""
+    """For each piece of the code the registers that are wanted after it: as bits, by what each piece needs and kills, over
+    all ways from a block to another but those in `cut`."""
 
-    def __init__(self, code, blocks, needs, kills, cut=()):
+    def __init__(self, code, blocks, needs, kills, cut=frozenset()):
         self.after = [0] * len(code)
         ranges = list(zip(blocks.starts, blocks.ends))
         bodies = [code[start:end] for start, end in ranges]
@@ -86,15 +95,15 @@ class Wanted:
         found, waiting = list(own), list(range(len(own)))
         while waiting:
             block = waiting.pop()
-            for other in () if block in cut else blocks.before[block]:
+            for other in blocks.before[block]:
                 new = found[other] | found[block] & kept[other]
-                if new != found[other]:
+                if new != found[other] and (other, block) not in cut:
                     found[other] = new
                     waiting.append(other)
         for block, (start, end) in enumerate(ranges):
             out = 0
             for other in blocks.following[block]:
-                out |= 0 if other in cut else found[other]
+                out |= 0 if (block, other) in cut else found[other]
             self.after[start:end] = [*before_pieces(bodies[block], needs, kills, out)[1:], out]
 
 
@@ -129,33 +138,51 @@ class Sharer:
         self.code, self.registers = code, registers
         self.blocks = Blocks(code)
         rank = {block: number for number, block in enumerate(self.blocks.order)}
-        self.empty = {block for block in rank if block in self.blocks.entries
-                      or any(rank.get(other, len(rank)) >= rank[block] for other in self.blocks.before[block])}
-        self.later = Wanted(code, self.blocks, accessed, forgotten, self.empty).after
+        self.empty = {block for block in rank if block in self.blocks.entries or not rank.keys() >= set(self.blocks.before[block])}
+        self.back = [(other, block) for block in rank if block not in self.empty
+                     for other in self.blocks.before[block] if rank[other] >= rank[block]]
+        into_empty = {(other, block) for block in self.empty for other in self.blocks.before[block]}
+        self.around = Wanted(code, self.blocks, accessed, forgotten, into_empty).after
+        self.later = Wanted(code, self.blocks, accessed, forgotten, into_empty | set(self.back)).after
         self.live = Wanted(code, self.blocks, read_bits, written_bits).after
+        self.most = {}  # for the first block of a loop, the most that may be taken to be held there
 
     def shared(self):
-        ends, found = {}, {}
-        for block in self.blocks.order:
-            held = self.held_before(block, ends)
-            found[block] = list(self.pass_block(block, held))
-            ends[block] = held
+        """What is taken to be held at the first block of a loop has to be held where the loop leads back, too: as long as it
+        isn't, less is taken."""
+        for count in range(ROUNDS, -1, -1):
+            found, before, ends = self.passed()
+            less = {block: before[block].common(ends[other]) for other, block in self.back
+                    if before[block].common(ends[other]) != before[block]}
+            if not less:
+                break
+            self.most.update(less if count > 1 else {block: Held() for _, block in self.back})
         return [piece for block, (start, end) in enumerate(zip(self.blocks.starts, self.blocks.ends))
                 for piece in found.get(block, self.code[start:end])]
 
+    def passed(self):
+        """By block the new code, what is held before it, and what is held after it."""
+        found, before, ends = {}, {}, {}
+        for block in self.blocks.order:
+            before[block] = self.held_before(block, ends)
+            ends[block] = Held(before[block].held)
+            found[block] = list(self.pass_block(block, ends[block]))
+        return found, before, ends
+
     def held_before(self, block, ends):
-        """What is held where a block begins, on each way there: nothing where one leads back from later."""
-        before = self.blocks.before[block]
+        """What is held where a block begins, on each way there."""
         if block in self.empty:
             return Held()
-        held = Held(ends[before[0]].held)
-        for other in before[1:]:
-            held = held.common(ends[other])
-        return held
+        held, *others = [ends[other] for other in self.blocks.before[block] if other in ends]
+        for other in [*others, *([self.most[block]] if block in self.most else [])]:
+            held = held.common(other)
+        return Held(held.held)
 
     def pass_block(self, block, held):
         for number in range(self.blocks.starts[block], self.blocks.ends[block]):
             piece, found = self.code[number], None
+            if piece.word == "mv" and held.held.get(piece.operands[0], {}).get(piece.operands[1]) == 0:
+                continue
             base = masked_base(piece)
             if base:
                 offset = offset_and_base(piece)[0]
@@ -171,14 +198,15 @@ class Sharer:
 
     def register_for(self, number, base, held):
         """A data register for the base of an access, if the base is accessed later, too: one that holds nothing that is."""
-        later = self.later[number]
-        if base in writes(self.code[number]) or not later & bit(base):
+        around, later = self.around[number], self.later[number]
+        if base in writes(self.code[number]) or not around & bit(base):
             return None
         free = [name for name in self.registers if not self.is_live(number, name)]
-        for name in free:
-            if not any(later & bit(other) for other in held.held.get(name, ())):
-                return name
-        return self.farthest(number, base, free, held)
+        for wanted in (around, later) if later & bit(base) else (around,):
+            for name in free:
+                if not any(wanted & bit(other) for other in held.held.get(name, ())):
+                    return name
+        return self.farthest(number, base, free, held) if later & bit(base) else None
 
     def farthest(self, number, base, free, held):
         """The register whose next access is the farthest in the block, if that is farther than the base's next one."""

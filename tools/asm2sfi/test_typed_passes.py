@@ -121,7 +121,7 @@ class Sharing(unittest.TestCase):
             "f: mv gp,a5; lw a0,0(gp); mv tp,a4; lw a1,0(tp); lw a2,0(a3); lw a3,4(gp); lw a4,4(tp); ret")))
 
     def test_blocks(self):
-        """A block holds what each way to it does, and nothing at the beginning of a loop."""
+        """A block holds what each way to it does."""
         text = "f: lw a0,0(a5); beqz a0,.a; lw a1,4(a5); .a: lw a2,8(a5); ret"
         self.assertEqual(self.shared(text), lines(code(
             "f: mv gp,a5; lw a0,0(gp); beqz a0,.a; lw a1,4(gp); .a: lw a2,8(gp); ret")))
@@ -129,8 +129,25 @@ class Sharing(unittest.TestCase):
         self.assertIn("lw a2, 8(a5)", self.shared(text))
         text = "f: beqz a0,.a; addi a4,a5,4; lw a1,4(a5); .a: lw a2,8(a5); ret"
         self.assertIn("lw a2, 8(a5)", self.shared(text))
-        text = "f: lw a1,4(a5); .a: lw a5,8(a5); bnez a5,.a; ret"
-        self.assertEqual(self.shared(text), lines(code(text)))
+
+    def test_loops(self):
+        """The ways that lead back to a loop's beginning are ways to it."""
+        inner = ".b: addi a3,a3,-1; bnez a3,.b; "
+        rows = [
+            ("lw a1,4(a5); .a: lw a2,8(a5); bnez a2,.a", "mv gp,a5; lw a1,4(gp); .a: lw a2,8(gp); bnez a2,.a"),
+            ("lw a1,4(a5); .a: lw a5,8(a5); bnez a5,.a", "mv gp,a5; lw a1,4(gp); .a: lw a5,8(a5); bnez a5,.a"),
+            ("lw a1,4(s1); .a: lw a2,8(s1); call g; bnez a0,.a", "mv gp,s1; lw a1,4(gp); .a: lw a2,8(s1); call g; bnez a0,.a"),
+            (".a: lw a2,8(a5); bnez a2,.a", ".a: mv gp,a5; lw a2,8(gp); bnez a2,.a"),
+            ("lw a1,4(a5); " + inner + "lw a2,8(a5)", "mv gp,a5; lw a1,4(gp); " + inner + "lw a2,8(gp)"),
+        ]
+        for text, wanted in rows:
+            self.assertEqual(self.shared(f"f: {text}; ret"), lines(code(f"f: {wanted}; ret")), text)
+
+    def test_set_again(self):
+        """What the passes before have put there stays if it isn't held already."""
+        text = "f: mv gp,a5; lw a0,0(gp); lw a1,4(a5); lw a2,8(a5); mv gp,a5; lw a3,4(gp); ret"
+        self.assertEqual(self.shared(text, ("gp",)), lines(code(
+            "f: mv gp,a5; lw a0,0(gp); mv gp,a5; lw a1,4(gp); lw a2,8(gp); lw a3,4(gp); ret")))
 
     def test_registers_of_others(self):
         """A register that a loop has in use, or the program, isn't taken."""
@@ -149,12 +166,42 @@ class Repeating(unittest.TestCase):
             ("lw a1,0(a1); lw a2,0(a1)", None),
             ("lw a0,0(a1); addi a1,a1,4; lw a2,0(a1)", None),
             ("lw a0,0(a1); lw a2,0(a3); lw a2,4(a1)", None),
-            ("lw a0,0(a1); .b: lw a2,0(a1)", None),
+            ("lw a0,0(a1); .b: lw a2,0(a1)", "lw a0,0(a1); .b: lw a2,0(t4)"),
+            ("lw a0,0(a1); .b: lw a2,0(a1); bnez a2,.b; ret", "lw a0,0(a1); .b: lw a2,0(t4); bnez a2,.b; ret"),
+            ("lw a0,0(a1); .b: lw a1,0(a1); bnez a1,.b; ret", None),
+            ("lw a0,0(a1); .b: lw a2,0(a1); lw a2,0(a2); bnez a2,.b; ret", None),
+            ("beqz a0,.a; lw a0,0(a1); j .b; .a: lw a2,0(a1); .b: lw a3,0(a1); ret",
+             "beqz a0,.a; lw a0,0(a1); j .b; .a: lw a2,0(a1); .b: lw a3,0(t4); ret"),
+            ("beqz a0,.b; lw a0,0(a1); .b: lw a3,0(a1); ret", None),
+            ("mv gp,a1; lw a0,0(gp); lw a2,4(a1); mv gp,a1; lw a3,0(gp)", "mv gp,a1; lw a0,0(gp); lw a2,4(gp); lw a3,0(gp)"),
+            ("mv gp,a1; mv a3,a1; addi a1,a1,4; lw a2,4(a3)", "mv gp,a1; mv a3,a1; addi a1,a1,4; lw a2,4(gp)"),
+            ("mv gp,a1; mv a3,a2; lw a2,4(a3)", None),
+            ("mv gp,a1; addi gp,gp,4; lw a0,0(gp); lw a2,4(a1)", None),
+            ("mv gp,a1; call f; mv gp,a1; lw a0,0(gp)", None),
             ("lw a0,0(s1); call f; lw a2,0(s1)", None),
             ("lw a0,0(s1); jalr ra,0(a0); lw a2,0(s1)", None),
         ]
         for text, wanted in rows:
             self.assertEqual(lines(without_repeated_masks(code(text))), lines(code(wanted or text)), text)
+
+    def test_set_earlier(self):
+        """What is set already on some ways to a block is set on the others, if that is on no other way."""
+        rows = [
+            ("beqz a0,.a; mv gp,a1; lw a2,0(gp); j .b; .a: nop; .b: mv gp,a1; lw a3,4(gp); ret",
+             "beqz a0,.a; mv gp,a1; lw a2,0(gp); j .b; .a: nop; mv gp,a1; .b: lw a3,4(gp); ret"),
+            ("beqz a0,.a; nop; j .b; .a: mv gp,a1; .b: mv gp,a1; lw a3,4(gp); ret",
+             "beqz a0,.a; nop; mv gp,a1; j .b; .a: mv gp,a1; .b: lw a3,4(gp); ret"),
+            ("bnez a0,.c; .b: mv gp,a1; lw a3,4(gp); bnez a3,.b; .c: ret",
+             "bnez a0,.c; mv gp,a1; .b: lw a3,4(gp); bnez a3,.b; .c: ret"),
+            ("beqz a0,.b; mv gp,a1; lw a2,0(gp); .b: mv gp,a1; lw a3,4(gp); ret", None),
+            ("nop; .b: addi a1,a1,4; mv gp,a1; lw a3,4(gp); bnez a3,.b; ret", None),
+            ("mv gp,a2; .b: lw a0,0(gp); mv gp,a1; lw a3,4(gp); bnez a3,.b; ret", None),
+            ("nop; .b: call f; mv gp,s1; lw a3,4(gp); bnez a3,.b; ret", None),
+            ("nop; .b: mv gp,a1; lw a3,4(gp); bnez a3,.b; ret; g: j .b",
+             "nop; mv gp,a1; .b: lw a3,4(gp); bnez a3,.b; ret; g: mv gp,a1; j .b"),
+        ]
+        for text, wanted in rows:
+            self.assertEqual(lines(without_repeated_masks(code("f: " + text))), lines(code("f: " + (wanted or text))), text)
 
 
 class Hoisting(unittest.TestCase):

@@ -268,3 +268,26 @@ repeated:
         add a4, a4, a6
         add a0, a4, t1
         ret
+
+# A base that is accessed before a loop and in it, and changes on one of the ways back; a copy of it is accessed, too.
+        .section .text.around,"ax"
+        .globl around
+around:
+        lw a4, 0(a0)
+        beqz a4, .L40
+        lw a5, 4(a0)
+        add a4, a4, a5
+.L40:
+        lw a5, 8(a0)
+        mv a2, a0
+        add a4, a4, a5
+        addi a1, a1, -1
+        lw a3, 16(a2)
+        beqz a1, .L41
+        bltz a4, .L40
+        lw a0, 12(a0)
+        add a4, a4, a3
+        j .L40
+.L41:
+        mv a0, a4
+        ret
