@@ -1,4 +1,5 @@
-"""Several accesses on one base by way of a data register, in code in words, within a block and over the blocks after it.
+"""Several accesses on one base by way of a data register, in code in words, within a block and over the blocks after it, also
+around loops.
 
 There an access on a data register is itself, where one on another register gets two masks. So the base of an access is put
 in a data register that compilers leave alone, and later accesses on it, and on what it becomes by sums with numbers, are
@@ -14,7 +15,7 @@ from operands import REGISTERS
 from typed import DATA, HIGHEST, LOWEST, masked_base, on_base, set_to, step_of
 
 
-ROUNDS = 8  # how often less is taken to be held in loops, before nothing is
+ROUNDS = 8  # how often the code is gone through, before nothing is taken to be held at the beginning of a loop
 
 
 class Held:
@@ -29,6 +30,10 @@ class Held:
             if base in others and LOWEST <= offset - others[base] <= HIGHEST:
                 return name, offset - others[base]
         return None
+
+    def has(self, name, base):
+        """Whether a data register is equal to a base."""
+        return self.held.get(name, {}).get(base) == 0
 
     def set(self, name, base):
         self.held[name] = {base: 0}
@@ -138,10 +143,11 @@ class Sharer:
         self.code, self.registers = code, registers
         self.blocks = Blocks(code)
         rank = {block: number for number, block in enumerate(self.blocks.order)}
-        self.empty = {block for block in rank if block in self.blocks.entries or not rank.keys() >= set(self.blocks.before[block])}
+        self.empty = {block for block in rank if block in self.blocks.entries or not set(self.blocks.before[block]) <= set(rank)}
         self.back = [(other, block) for block in rank if block not in self.empty
                      for other in self.blocks.before[block] if rank[other] >= rank[block]]
         into_empty = {(other, block) for block in self.empty for other in self.blocks.before[block]}
+        # What is accessed later, on the ways that lead back in a loop, too, and on the others alone.
         self.around = Wanted(code, self.blocks, accessed, forgotten, into_empty).after
         self.later = Wanted(code, self.blocks, accessed, forgotten, into_empty | set(self.back)).after
         self.live = Wanted(code, self.blocks, read_bits, written_bits).after
@@ -149,16 +155,24 @@ class Sharer:
 
     def shared(self):
         """What is taken to be held at the first block of a loop has to be held where the loop leads back, too: as long as it
-        isn't, less is taken."""
-        for count in range(ROUNDS, -1, -1):
+        isn't, less is taken, and nothing in the end."""
+        for count in range(ROUNDS + 1):
             found, before, ends = self.passed()
-            less = {block: before[block].common(ends[other]) for other, block in self.back
-                    if before[block].common(ends[other]) != before[block]}
+            less = self.less(before, ends)
             if not less:
                 break
-            self.most.update(less if count > 1 else {block: Held() for _, block in self.back})
+            self.most.update(less if count < ROUNDS - 1 else {block: Held() for _, block in self.back})
         return [piece for block, (start, end) in enumerate(zip(self.blocks.starts, self.blocks.ends))
                 for piece in found.get(block, self.code[start:end])]
+
+    def less(self, before, ends):
+        """By the first block of a loop what is held there where a loop leads back with less than that."""
+        found = {}
+        for other, block in self.back:
+            held = found.get(block, before[block]).common(ends[other])
+            if held != before[block]:
+                found[block] = held
+        return found
 
     def passed(self):
         """By block the new code, what is held before it, and what is held after it."""
@@ -181,7 +195,7 @@ class Sharer:
     def pass_block(self, block, held):
         for number in range(self.blocks.starts[block], self.blocks.ends[block]):
             piece, found = self.code[number], None
-            if piece.word == "mv" and held.held.get(piece.operands[0], {}).get(piece.operands[1]) == 0:
+            if piece.word == "mv" and held.has(*piece.operands):
                 continue
             base = masked_base(piece)
             if base:
@@ -197,7 +211,8 @@ class Sharer:
             yield on_base(piece, *found) if found else piece
 
     def register_for(self, number, base, held):
-        """A data register for the base of an access, if the base is accessed later, too: one that holds nothing that is."""
+        """A data register for the base of an access, if the base is accessed later, too: one that holds nothing that is. If that
+        is so in the loop's next turn alone, one that holds nothing for that."""
         around, later = self.around[number], self.later[number]
         if base in writes(self.code[number]) or not around & bit(base):
             return None
