@@ -2,14 +2,11 @@
 
 An access on another register than those of the data leaves its masked base in `t4`, and `mv` leaves that of its source in the
 data register that it sets. Until one of the two registers is written this stays so, whatever the base is. So the next access on
-that base may be on that data register, and the same `mv` again may go, where this is so on each way there. Where it's so on
-some of the ways, the `mv` may stand on the others."""
-from control import Blocks, is_call, is_jump
-from dependences import reads, writes
+that base may be on that data register, and the same `mv` again may go, where this is so on each way there."""
+from control import Blocks, is_call
+from dependences import writes
 from instructions import offset_and_base, written
 from typed import DATA, HIGHEST, LOWEST, MASKED, masked_base, on_base
-
-ROUNDS = 8  # how often an `mv` may go to the block before
 
 
 def move_of(piece):
@@ -60,53 +57,7 @@ def held_at_starts(code, blocks):
     return states
 
 
-def first_set(pieces):
-    """The first `mv` into a data register, if nothing before it in a block uses that or writes the other register."""
-    used = changed = frozenset()
-    for piece in pieces:
-        move = move_of(piece)
-        if move and move[0] in DATA:
-            return piece if move[0] not in used | changed and move[1] not in changed else None
-        if is_call(piece):
-            return None
-        used, changed = used | reads(piece), changed | writes(piece)
-    return None
-
-
-def has_room(blocks, before, block):
-    """Whether there is a place at the end of one block that is on no way but that to another one."""
-    ways = blocks.following[before]
-    return len(ways) == 1 or before == block - 1 and ways.count(block) == 1
-
-
-def with_earlier_sets(code):
-    """The code with the first `mv` of a block also before it, on the ways there on which what it makes isn't held, if it's held
-    on another one."""
-    blocks, added = Blocks(code), {}
-    bodies = [code[start:end] for start, end in zip(blocks.starts, blocks.ends)]
-    ends = [held if held is None else after(body, held) for body, held in zip(bodies, held_at_starts(code, blocks))]
-    for block, others in enumerate(blocks.before):
-        piece = first_set(bodies[block])
-        if piece is None or block in blocks.entries or any(ends[other] is None for other in others):
-            continue
-        lacking = [other for other in others if move_of(piece) not in ends[other]]
-        if len(lacking) < len(others) and all(has_room(blocks, other, block) for other in lacking):
-            added.update(dict.fromkeys(lacking, piece))
-    return [piece for block, body in enumerate(bodies) for piece in with_last(body, added.get(block))]
-
-
-def with_last(body, piece):
-    """A block with one piece more at its end; without one for None."""
-    if piece is None:
-        return body
-    return [*body[:-1], piece, body[-1]] if is_jump(body[-1]) else [*body, piece]
-
-
 def without_repeated_masks(code):
-    for _ in range(ROUNDS):
-        code, before = with_earlier_sets(code), code
-        if len(code) == len(before):
-            break
     blocks, out = Blocks(code), []
     for start, end, held in zip(blocks.starts, blocks.ends, held_at_starts(code, blocks)):
         held = held or frozenset()

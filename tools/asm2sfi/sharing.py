@@ -147,8 +147,6 @@ class Sharer:
         self.back = [(other, block) for block in rank if block not in self.empty
                      for other in self.blocks.before[block] if rank[other] >= rank[block]]
         into_empty = {(other, block) for block in self.empty for other in self.blocks.before[block]}
-        # What is accessed later, on the ways that lead back in a loop, too, and on the others alone.
-        self.around = Wanted(code, self.blocks, accessed, forgotten, into_empty).after
         self.later = Wanted(code, self.blocks, accessed, forgotten, into_empty | set(self.back)).after
         self.live = Wanted(code, self.blocks, read_bits, written_bits).after
         self.most = {}  # for the first block of a loop, the most that may be taken to be held there
@@ -211,17 +209,15 @@ class Sharer:
             yield on_base(piece, *found) if found else piece
 
     def register_for(self, number, base, held):
-        """A data register for the base of an access, if the base is accessed later, too: one that holds nothing that is. If that
-        is so in the loop's next turn alone, one that holds nothing for that."""
-        around, later = self.around[number], self.later[number]
-        if base in writes(self.code[number]) or not around & bit(base):
+        """A data register for the base of an access, if the base is accessed later, too: one that holds nothing that is."""
+        later = self.later[number]
+        if base in writes(self.code[number]) or not later & bit(base):
             return None
         free = [name for name in self.registers if not self.is_live(number, name)]
-        for wanted in (around, later) if later & bit(base) else (around,):
-            for name in free:
-                if not any(wanted & bit(other) for other in held.held.get(name, ())):
-                    return name
-        return self.farthest(number, base, free, held) if later & bit(base) else None
+        for name in free:
+            if not any(later & bit(other) for other in held.held.get(name, ())):
+                return name
+        return self.farthest(number, base, free, held)
 
     def farthest(self, number, base, free, held):
         """The register whose next access is the farthest in the block, if that is farther than the base's next one."""
