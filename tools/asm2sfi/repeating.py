@@ -33,6 +33,7 @@ def after(pieces, held):
 
 
 def after_one(piece, held):
+    """The same after one instruction that is no call."""
     new, move, changed = set(), move_of(piece), writes(piece)
     if move:
         target, source = move
@@ -65,7 +66,7 @@ def without_repeated_masks(code):
             name = holder(piece, held)
             if name:
                 out.append(on_base(piece, name, offset_and_base(piece)[0]))
-            elif move_of(piece) not in held or written(piece) not in DATA:
+            elif move_of(piece) not in held:
                 out.append(piece)
             held = after([piece], held)
     return out
