@@ -1,4 +1,4 @@
--- The names of a sandbox, in the listing: what the table in which its first data bytes end says.
+-- The names of a sandbox, in the listing and the map: what the table in which its first data bytes end says.
 use Rattle.std.specs.Prelude.{◌≡◌, ◌⊎◌, ℕ, List, [], ◌++◌, codes, decimal}
 use Rattle.std.specs.List.{flat_map}
 use Rattle.sfi_names.specs.declared.image.Kind.{Kind}

@@ -4,6 +4,7 @@
 //! [`listing_text`] writes each sandbox's fields, its gates, the names that it tells, and its code as
 //! instructions, unit by unit, as the rules read it. `specs/Report.antt` and `specs/Listing.antt` are
 //! these texts.
+//! [`names_text`] writes the names alone.
 //! [`push_eight_digits`] writes a number as an address is written in them.
 #![tactic(auto)]
 
@@ -15,5 +16,6 @@ mod state;
 
 pub use digits::push_eight_digits;
 pub use listing::listing_text;
+pub use names::names_text;
 pub use report::report_text;
 pub use state::state_text;

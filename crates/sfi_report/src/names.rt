@@ -1,5 +1,5 @@
-//! The names of a sandbox, in the listing.
-ghost use Rattle.std.specs.Prelude.{◌≡◌, ◌≤◌, ◌++◌, ℕ, List, OnOk, string_bytes};
+//! The names of a sandbox, in the listing and the map.
+ghost use Rattle.std.specs.Prelude.{◌≡◌, ◌≤◌, ◌++◌, ℕ, List, OnOk, IfOk, string_bytes};
 ghost use Rattle.std.specs.List.{All, flat_map};
 ghost use Rattle.sfi_names.specs.Spelling.{Named, entries, IsNamed, IsName};
 ghost use Rattle.sfi_names.specs.Tables.{named};
@@ -8,7 +8,7 @@ ghost use Rattle.sfi_report.specs.private.{Adds};
 
 use crate::digits::push_eight_digits;
 use sfi_names::{Entry, Kind, Names, first_entry};
-use std::alloc::AllocError;
+use std::alloc::{AllocError, Global};
 
 /// Writes the word for a name of this kind.
 #[tactic(auto, unfolding(crate::specs::Names::kind_word))]
@@ -78,4 +78,14 @@ pub(crate) fn push_names(out: &mut String, init: &[u8]) -> Result<(), AllocError
     push_interface(out, names.version)?;
     push_entries(out, Kind::Exports, names.exports)?;
     push_entries(out, Kind::Imports, names.imports)
+}
+
+/// The lines of the names that the table at the end of a sandbox's first data bytes tells, as the
+/// listing has them: no text where there is no table. The one error is that an allocation was refused.
+pub fn names_text(alloc: Global, init: &[u8]) -> Result<String, AllocError>
+    ensures text { IfOk result (λ text. IsNamesText init.now (string_bytes text)) }
+{
+    let mut out = String::new(alloc);
+    push_names(&mut out, init)?;
+    Ok(out)
 }
