@@ -1,10 +1,15 @@
 -- The commands `build` and `map`, on a source text.
-use Rattle.std.specs.Prelude.{ℕ, List, ◌++◌, codes, decimal, ◌≡◌, ◌⊎◌, ◌<◌, ◌≤◌, length, IsUtf8, Bool, true, false}
+use Rattle.std.specs.Prelude.{ℕ, ◌+◌, ◌==◌, List, [], ◌∷◌, ◌++◌, codes, decimal, ◌≡◌, ◌⊎◌, ◌<◌, ◌≤◌, length, IsUtf8, Bool, true, false, if◌then◌else◌}
 use Rattle.std.specs.List.{flat_map}
+use Rattle.sfi_policy.specs.declared.format.Format.{Format}
+use Rattle.sfi_policy.specs.declared.format.Format.TheVariants.{Sfi1, Sfi2, Sfiw}
+use Rattle.sfi_image.specs.Spelling.{Part}
+use Rattle.sfi_image.specs.Images.{IsImage}
 use Rattle.sfi_link.specs.Names.{MapEntry}
 use Rattle.sfi_link.specs.declared.names.NameKind.{NameKind}
 use Rattle.sfi_link.specs.declared.names.NameKind.TheVariants.{Gate, Code, Data}
 use Rattle.sfi_report.specs.Digits.{hex_digits, line_end}
+use Rattle.sfi_report.specs.Names.{IsNamesText}
 use Rattle.hex.specs.Hex.{encode_lower}
 use Rattle.sfi_build.specs.declared.build_fault.BuildFault.{BuildFault}
 use Rattle.sfi_build.specs.Texts.{IsTextBuild, IsTextMap, IsBuildFault}
@@ -28,9 +33,39 @@ line_of_entry e =
     ++ codes " " ++ e.name
     ++ codes " at=" ++ hex_digits 8 e.address ++ line_end
 
--- the lines of gates and labels, in their order
-abbrev pub map_lines : List MapEntry → List ℕ
-map_lines entries = flat_map line_of_entry entries
+-- the line of a gate or label of the sandbox of that number, and nothing of one of another
+abbrev pub line_in : ℕ → MapEntry → List ℕ
+line_in sandbox e = if e.sandbox == sandbox then line_of_entry e else []
+
+-- the lines of the gates and labels of the sandbox of that number, in their order
+abbrev pub lines_in : ℕ → List MapEntry → List ℕ
+lines_in sandbox entries = flat_map (line_in sandbox) entries
+
+-- ---- the map of an image
+
+-- what a map says of first data bytes: what the table says in which they end; of a table in an image of
+-- the first format nothing
+abbrev pub IsTableText : Format → List ℕ → List ℕ → Type 0
+IsTableText Sfi1 init text = text ≡ []
+IsTableText Sfi2 init text = IsNamesText init text
+IsTableText Sfiw init text = IsNamesText init text
+
+-- the map of parts, the first of which is that of the sandbox of that number: of each the lines of its
+-- gates and labels, and then what is said of its first data bytes
+abbrev pub IsMapFrom : ℕ → List MapEntry → List Part → List ℕ → Type 0
+IsMapFrom sandbox entries [] text = text ≡ []
+IsMapFrom sandbox entries (p ∷ parts) text =
+    (table : List ℕ) × (rest : List ℕ) × IsTableText p.format p.init table
+    × IsMapFrom (sandbox + 1) entries parts rest
+    × (text ≡ lines_in sandbox entries ++ table ++ rest)
+
+-- the text has a build at the given places, and this is the map of its image
+pub record IsMapText (given : List Place) (source text : List ℕ) : Type 0 where
+  pub entries : List MapEntry
+  pub map : IsTextMap given source entries
+  pub parts : List Part
+  pub image : IsImage map.bytes parts
+  pub text_is : IsMapFrom 0 entries parts text
 
 -- ---- the commands
 
@@ -77,7 +112,7 @@ image_output false bytes = digits_line bytes
 abbrev pub build : Bool → List Place → Meaning
 build raw = of_source IsTextBuild (image_output raw)
 
--- `map`, with these places: the lines of the gates and labels, with the addresses that they have
--- there; what has no build has no map, and the same fault
+-- `map`, with these places: the map of the image, with the addresses that it has there; what has no
+-- build has no map, and the same fault
 abbrev pub map : List Place → Meaning
-map = of_source IsTextMap map_lines
+map = of_source IsMapText (λ text. text)
