@@ -300,7 +300,7 @@ fn run_rows(rt: HostRuntime) -> Result<(), Fail> {
     try_rows(&rt, rt.alloc(), runs::RUNS, 8)?;
     try_rows(&rt, rt.alloc(), runs::STATES, 5)?;
     try_rows(&rt, rt.alloc(), runs::NEIGHBOURS, 12)?;
-    try_rows(&rt, rt.alloc(), runs::MAPS, 6)
+    try_rows(&rt, rt.alloc(), runs::MAPS, 10)
 }
 
 // Those that take long stand alone, since a test has a minute.

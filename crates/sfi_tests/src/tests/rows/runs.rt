@@ -109,4 +109,14 @@ source
 = labels are at words' starts, also of 16-bit forms; | .format words; | .sandbox 256; | .option rvc; | a: add a0, a0, a1; | b: add a1, a1, a2
 | add a2, a2, a3; | c: lw a0, 0(a1); | d:; $ sfi map
 > sandbox=0 code a at=01000000; > sandbox=0 code b at=01000004; > sandbox=0 code c at=01000008; > sandbox=0 code d at=01000014
+= names that a table tells; | .format words; | .sandbox 256; | .gate log 2; | add: add a0, a0, a1; | ret; | .data; | .word 0x01000010
+| .byte 3, 97, 100, 100; | .word 0x01000000; | .byte 3, 108, 111, 103; | .word 7, 8, 8, 0x4e494653; $ sfi map
+> sandbox=0 gate log at=01000000; > sandbox=0 code add at=01000010; > interface 7; > export 01000010 add; > import 01000000 log
+= names of the first of two sandboxes; | .format 2; | .sandbox 256; | a: ret; | .data; | .word 0x01000000; | .byte 1, 97
+| .word 0, 6, 0, 0x4e494653; | .sandbox 256; | b: ret; $ sfi map
+> sandbox=0 code a at=01000000; > interface 0; > export 01000000 a; > sandbox=1 code b at=02000000
+= a table in the first format; | .sandbox 256; | a: ret; | .data; | .word 0x01000000; | .byte 1, 97; | .word 0, 6, 0, 0x4e494653; $ sfi map
+> sandbox=0 code a at=01000000
+= a table of names that is none, after a label; | .format 2; | .sandbox 256; | a: ret; | .data; | .word 0x01000000; | .byte 1, 97
+| .word 0, 7, 0, 0x4e494653; $ sfi map; > sandbox=0 code a at=01000000
 ";
