@@ -163,6 +163,12 @@ X 1
 status 0" "$room/turn.image" plug-in "Level 42" x
     says "a function on a text that is too long" function "AB 2
 status 1" "$room/turn.image" ba "$far"
+    local format
+    for format in $formats; do
+        image "$here/add.s" "$format" add
+        says "a function of a source text by its name, format $format" add "5
+status 0" "$room/add.image"
+    done
     image "$here/tally.s" 2 tally
     says "a plug-in that begins anew" tally "105
 112
