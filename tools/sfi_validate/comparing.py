@@ -4,11 +4,12 @@ compiler's.
 A requirement is an equation, of a sum over the rewritten code's registers with one over the compiler's, or that an address is
 near one that the compiler's code has accessed."""
 from functools import lru_cache
+from math import gcd
 from typing import NamedTuple
 
-from values import COMMUTATIVE, MASK, ZERO, Value, of, replaced
+from stretches import DATA_REGISTERS
+from values import COMMUTATIVE, MASK, ZERO, Value, of, replaced, signed
 
-DATA_REGISTERS = (2, 3, 4)  # sp, gp and tp
 UNSETTLED = ("load", "lost", "after", "kept")  # atoms that no register holds where a stretch begins
 
 
@@ -109,7 +110,18 @@ def parted(right, left):
             rest = Equation(rest.right.minus(of(*atom).times(factor)), rest.left.minus(of(*twin).times(factor)))
     if rest.right == ZERO and rest.left != ZERO:
         return [Equation(right, left)]
-    return found + [rest] * (rest.right != ZERO)
+    return found + [divided(rest)] * (rest.right != ZERO)
+
+
+def divided(equation):
+    """An equation of multiples of one number as that of what they are multiples of, from which it follows."""
+    numbers = [signed(count) for value in equation[:2] for count in (value.number, *value.terms.values())]
+    common = gcd(*numbers)
+    if common < 2:
+        return equation
+    right, left = (Value(signed(value.number) // common, {atom: signed(count) // common & MASK for atom, count in value.terms.items()})
+                   for value in equation[:2])
+    return Equation(right, left)
 
 
 def without_mask(right, left):

@@ -12,6 +12,7 @@ READING = {"word", "hi", "lo", "pcrel_hi", "got"}  # relocations by which an add
 WRITTEN_BESIDE = frozenset([3, 4])  # gp and tp: the compiler's code leaves them alone, and a call doesn't keep them
 SMALL = (".sdata", ".sbss", ".srodata")
 LARGEST_SMALL = 64  # bytes of an object in small data
+DATA_BASE = 26
 
 
 class Place(NamedTuple):
@@ -26,10 +27,11 @@ class Name(NamedTuple):
 
 
 class Code:
-    """An object file's code. `is_left` says whether it is the compiler's, and not the rewritten one."""
+    """An object file's code. `is_left` says whether it is the compiler's, and not the rewritten one, and `is_movable` whether
+    the linker is to make each address relative to its region's base."""
 
-    def __init__(self, objects, is_left):
-        self.objects, self.is_left = objects, is_left
+    def __init__(self, objects, is_left, is_movable=False):
+        self.objects, self.is_left, self.is_movable = objects, is_left, is_movable
         self.sections = {name: section for name, section in objects.sections.items() if section.is_code()}
         self.labels = {symbol.name: Place(symbol.section, symbol.value) for symbol in objects.symbols
                        if symbol.section in self.sections and symbol.name != symbol.section
@@ -82,6 +84,17 @@ class Code:
         symbol = self.objects.named.get(name)
         is_near = symbol is not None and symbol.section is not None and symbol.binding != 2
         return bool(is_near and symbol.section.startswith(SMALL) and -LARGEST_SMALL <= addend <= LARGEST_SMALL)
+
+    def is_relative(self, place, register):
+        """Whether the data base is added to a register after its `lui` there, or after the instruction of 4 bytes that follows:
+        the linker makes the upper part relative there, and of the base that of the address's region."""
+        content = self.sections[place.section].content
+        return any(self.adds_base(place._replace(offset=offset), register)
+                   for offset in (place.offset + 4, place.offset + 8) if offset < len(content))
+
+    def adds_base(self, place, register):
+        instruction = self.at(place)[0]
+        return instruction.word == "add" and (instruction.target, instruction.first, instruction.second) == (register, register, DATA_BASE)
 
     def owner(self, place):
         """The function that a place belongs to, or None."""

@@ -1,5 +1,7 @@
 """Mistakes of the converter's passes: for each what it is, the module, a text there, and what stands in its place."""
 
+MOVABLE = "movable: "  # begins those of a program that can be moved
+
 MISTAKES = [
     ("known: a sum's number is taken away", "known",
      "known[op.operands[1]] + int(op.operands[2])",
@@ -102,4 +104,16 @@ MISTAKES = [
     ("spelling: a number's sign", "spelling",
      'return f"c.addi16sp sp, {value}"',
      'return f"c.addi16sp sp, {-value if value != -512 else value}"'),
+    (MOVABLE + "the base of the other region, in words", "in_words",
+     'Op("add", (register, register, "x26"), None)',
+     'Op("add", (register, register, "x24"), None)'),
+    (MOVABLE + "no base, in words", "in_words",
+     "op.address == RELATIVE and register not in DATA",
+     "op.address == RELATIVE and register in DATA"),
+    (MOVABLE + "a mask in place of a base, in bundles", "in_bundles",
+     'f"add {register}, {register}, x26")',
+     'f"add {register}, {register}, x27")'),
+    (MOVABLE + "each address is taken to be near the data base", "rewriting",
+     "address=NEAR if is_near(small, piece.operands[1]) else RELATIVE",
+     "address=NEAR"),
 ]

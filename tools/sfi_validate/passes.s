@@ -249,6 +249,20 @@ small:
 large:
 	.zero	400
 
+# How far a pointer has moved in a loop is multiplied after it.
+        .section .text.scaled,"ax"
+        .globl scaled
+scaled:
+.Lback:
+        lbu t0, -1(a0)
+        addi a0, a0, -1
+        beq t0, a3, .Lback
+        sub a0, a0, a1
+        slli a0, a0, 2
+        add a0, a2, a0
+        lw a0, 0(a0)
+        ret
+
 # Three bases, two of which have data registers: the address of the third stays masked over accesses on these.
         .section .text.repeated,"ax"
         .globl repeated

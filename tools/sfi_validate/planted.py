@@ -1,5 +1,5 @@
 """Runs the converter with a mistake planted in one of its modules: `planted.py MODULE OLD NEW INPUT FORMAT OUTPUT ..`, with a
-format and an output for each way. test_validate.py uses it."""
+format and an output for each way: `2-movable` is the second format of a program that can be moved. test_validate.py uses it."""
 import os
 import sys
 from importlib.machinery import PathFinder, SourceFileLoader
@@ -42,10 +42,11 @@ def main(module, old, new, source, *ways):
     from rewriting import rewritten  # pylint: disable=import-outside-toplevel
     with open(source, encoding="utf-8") as file:
         text = file.read()
-    for name, output in zip(ways[::2], ways[1::2]):
+    for way, output in zip(ways[::2], ways[1::2]):
+        name, _, movable = way.partition("-")
         image_format = int(name) if name.isdigit() else name
         with open(output, "w", encoding="utf-8") as file:
-            file.write(rewritten(os.path.basename(source), text, PASSES, image_format))
+            file.write(rewritten(os.path.basename(source), text, PASSES, image_format, bool(movable)))
 
 
 if __name__ == "__main__":

@@ -10,6 +10,7 @@ LOADS, STORES = ("lb", "lh", "lw", "lbu", "lhu"), ("sb", "sh", "sw")
 WIDTHS = {"b": 1, "h": 2, "w": 4}
 LINK, STACK = 1, 2
 PART = 2048  # the addends of which the compiler pairs parts lie in one block of this number of bytes
+DATA_REGISTERS = (2, 3, 4)  # sp, gp and tp
 OWN = (24, 25, 26, 27)  # registers of the sandbox that hold the regions' bases and masks
 INVERSE = {"beq": "bne", "bne": "beq", "blt": "bge", "bge": "blt", "bltu": "bgeu", "bgeu": "bltu"}
 
@@ -152,8 +153,18 @@ class Runner:
         if relocation.kind in ("pcrel_lo", "lo"):
             return low
         if relocation.kind in ("hi", "pcrel_hi"):
-            return of("address", whole.symbol.name).plus(number(whole.addend)).minus(low)
+            upper = of("address", whole.symbol.name).plus(number(whole.addend)).minus(low)
+            return self.relative(place, instruction, upper) if self.code.is_movable else upper
         raise Unknown(place, f"a relocation {relocation.kind}")
+
+    def relative(self, place, instruction, upper):
+        """The upper part of an address in a program that can be moved: less its region's base, which is added after it. Masks
+        take the place of that in a data register."""
+        if self.code.is_relative(place, instruction.target):
+            return upper.minus(of(*values.DATA_BASE))
+        if instruction.target in DATA_REGISTERS:
+            return upper
+        raise Unknown(place, "an address that isn't relative to its region")
 
     def low(self, name, addend):
         """What `%lo` is. The compiler pairs it with an upper part of another addend near it, and stores upper parts alone. Its

@@ -13,6 +13,7 @@ It takes for granted that
   puts back sp and ra, too, and a caller doesn't read what it may overwrite; accesses lie in objects or the stack, sp in the data
   region; a jump by a table leads to labels of its section;
 - the two parts of an address that are added up are those of one symbol, with addends in one block of 2048 bytes;
+- the linker's step (tools/sfi_elf/moving.py) makes the addresses of a program that can be moved relative to their regions;
 - `ld` relocates, leaves the room that the file asks for, and puts small objects where the script says.
 """
 import re
@@ -34,9 +35,10 @@ def margins(objects):
     return found["below"], found["above"]
 
 
-def complaints(left, right):
-    """The line of the compiler's assembly, or None, and what is wrong there, of each instruction that isn't done."""
-    codes = Code(left, True), Code(right, False)
+def complaints(left, right, is_movable=False):
+    """The line of the compiler's assembly, or None, and what is wrong there, of each instruction that isn't done. Of a program
+    that can be moved, an address is the sum of a part that is relative to its region and of that region's base."""
+    codes = Code(left, True), Code(right, False, is_movable)
     walk = Walk(*codes)
     Requirements(walk, *margins(right))
     found = [told(codes[0], place, what) for place, what in walk.complaints]
