@@ -4,4 +4,5 @@ pub mod Sources
 pub mod Maps
 pub mod Verdicts
 pub mod Conversions
+pub mod Moves
 pub mod Images

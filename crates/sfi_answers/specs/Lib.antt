@@ -4,4 +4,5 @@ pub mod Checking
 pub mod Building
 pub mod Converting
 pub mod Listing
+pub mod Moving
 pub mod Translating

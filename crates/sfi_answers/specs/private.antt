@@ -1,10 +1,17 @@
 -- Words that private contracts and proofs alone cite: no public statement rests on them.
-use Rattle.std.specs.Prelude.{◌≡◌, ◌≢◌, ◌⊎◌, List, [], Result, Ok, Err, ℕ, Bool, true, false, ◌++◌, Option, Some, None, IfSome}
+use Rattle.std.specs.Prelude.{◌≡◌, ◌≢◌, ◌⊎◌, List, [], Result, Ok, Err, ℕ, Bool, true, false, ◌++◌, Option, Some, None, IfSome, Vec}
+use Rattle.std.specs.declared.alloc.Global.{Global}
+use Rattle.sfi_policy.specs.declared.place.Place.{Place}
+use Rattle.sfi_image.specs.Spelling.{Part}
+use Rattle.sfi_safety.specs.Clean.{IsAccepted}
+use Rattle.sfi_places.specs.Moves.{moved_one, IsMoved}
+use Rattle.sfi_answers.specs.Answers.{IsStop}
+use Rattle.sfi_answers.specs.Moving.{CannotMove}
 use Rattle.sfi_rules.specs.declared.finding.Finding.{Finding}
 use Rattle.sfi_check.specs.declared.conversion.ConvertFault.{ConvertFault}
 use Rattle.sfi_check.specs.declared.conversion.ConvertFault.TheVariants.{Refused, NotOld, Stack, Memory, Words}
 use Rattle.sfi_check.specs.declared.refusal.Refusal.TheVariants as refusal
-use Rattle.sfi_answers.specs.Checking.{refused_line}
+use Rattle.sfi_answers.specs.Checking.{refused_line, HasSomeFault}
 use Rattle.sfi_answers.specs.declared.fault.Stop.{Stop}
 use Rattle.sfi_answers.specs.declared.fault.Stop.TheVariants as stop
 use Rattle.sfi_answers.specs.declared.verdict.Answer.{Answer}
@@ -41,6 +48,25 @@ AnswersConvertFault fault (Err (stop.Input other)) = (fault ≡ NotOld) ⊎ (fau
 AnswersConvertFault fault (Err (stop.Layout k)) = fault ≡ Refused (refusal.Layout k)
 AnswersConvertFault fault (Err (stop.Build other)) = ⊥
 AnswersConvertFault fault (Err stop.Memory) = Unit {0}
+
+-- ---- a sandbox that is moved
+
+-- a move stops for want of memory, or for a fault, where there is one
+abbrev pub IsMoveStop : List ℕ → ℕ → Place → Stop → Type 0
+IsMoveStop bytes number to why = IsStop (HasSomeFault bytes ⊎ CannotMove number to bytes) why
+
+-- the bytes are those of the image with the sandbox at that place, which is accepted if it was
+pub record IsMovedCopy (bytes : List ℕ) (number : ℕ) (to : Place) (now : List ℕ) : Type 0 where
+  pub moved : IsMoved bytes number to now
+  pub still_accepted : (ps : List Part) → IsAccepted bytes ps → IsAccepted now (moved_one number to ps)
+
+-- the sandbox was moved, or memory ran out
+abbrev pub IsMovedOrMemory : Result (Vec ℕ Global) Stop → Type 0
+IsMovedOrMemory (Ok now) = Unit {0}
+IsMovedOrMemory (Err (stop.Input fault)) = ⊥
+IsMovedOrMemory (Err (stop.Layout k)) = ⊥
+IsMovedOrMemory (Err (stop.Build fault)) = ⊥
+IsMovedOrMemory (Err stop.Memory) = Unit {0}
 
 -- ---- a source text that isn't read
 

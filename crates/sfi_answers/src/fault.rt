@@ -25,6 +25,10 @@ pub enum InputFault {
     NotOld,
     /// It is an accepted image of code in words, which has no other format.
     Words,
+    /// It is an accepted image, which has no sandbox of the number that `move` is given.
+    NoSandbox,
+    /// It is an accepted image, in which the sandbox can't lie at the place that `move` is given.
+    NoPlace,
     /// The image is to be in a file, and files can't be opened here.
     NoFile,
 }
@@ -92,6 +96,8 @@ fn input_line(alloc: Global, fault: InputFault) -> Result<String, AllocError> {
         InputFault::Utf8 => String::from_str(alloc, "input fault utf8\n"),
         InputFault::NotOld => String::from_str(alloc, "convert fault 2 NotOld\n"),
         InputFault::Words => String::from_str(alloc, "convert fault 5 Words\n"),
+        InputFault::NoSandbox => String::from_str(alloc, "move fault 2 NoSandbox\n"),
+        InputFault::NoPlace => String::from_str(alloc, "move fault 3 NoPlace\n"),
         InputFault::NoFile => String::from_str(alloc, "exec fault no file\n"),
     }
 }

@@ -1,4 +1,4 @@
-//! What the commands answer that run no sandbox: `check`, `build`, `map`, `dis`, `convert` and `translate`.
+//! What the commands answer that run no sandbox: `check`, `build`, `map`, `dis`, `convert`, `move` and `translate`.
 #![tactic(auto)]
 
 mod building;
@@ -7,6 +7,7 @@ mod converting;
 mod fault;
 mod image;
 mod listing;
+mod moving;
 mod raw;
 mod text;
 mod translating;
@@ -19,6 +20,7 @@ pub use converting::conversion_answer;
 pub use fault::{InputFault, Stop, TOO_LARGE_LINE, stop_answer};
 pub use image::image_answer;
 pub use listing::listing_answer;
+pub use moving::move_answer;
 pub use raw::raw_answer;
 pub use translating::translation_answer;
 pub use verdict::Answer;

@@ -1,0 +1,132 @@
+-- What `move` answers on the bytes of an image.
+use Rattle.std.proofs.Common.{◌≡◌, ◌∙◌, ◌⊎◌, ◌++◌, ◌↔◌, ℕ, List, Bool, false, arith, length, refl, subst, sym, take, inl, inr}
+use Rattle.std.specs.Prelude.{Result, Ok, Err, IsErr, IsErrAnd}
+use Rattle.std.proofs.lemmas.Result.{IfOk-weaker, IfErr-weaker}
+use Rattle.std.proofs.lemmas.List.{take-append-le, take_all}
+use Rattle.sfi_policy.specs.declared.place.Place.{Place}
+use Rattle.sfi_image.specs.Spelling.{Part}
+use Rattle.sfi_image.specs.Faults.{IsFault}
+use Rattle.sfi_image.specs.Images.{IsImage}
+use Rattle.sfi_image.specs.Sandboxes.{IsBeyond}
+use Rattle.sfi_image.specs.declared.fault.LayoutFault.{LayoutFault}
+use Rattle.sfi_rules.specs.declared.finding.Finding.{Finding}
+use Rattle.sfi_safety.specs.Clean.{IsAccepted}
+use Rattle.sfi_check.specs.Verdict.{HasFindings}
+use Rattle.sfi_places.specs.Moves.{moved_one, IsMoved, IsMoveFault, IsWrongPlace}
+use Rattle.sfi_places.specs.declared.relocation.MoveFault.{MoveFault}
+use Rattle.sfi_places.specs.declared.relocation.MoveFault.TheVariants.{NoSandbox, NoPlace}
+use Rattle.sfi_answers.specs.Answers.{Answers, AnswersStatus, IsStop}
+use Rattle.sfi_answers.specs.Building.{image_output}
+use Rattle.sfi_answers.specs.Checking.{HasSomeFault, IsAcceptedImage, SaysRefused, on_verdict}
+use Rattle.sfi_answers.specs.Moving.{CannotMove, move}
+use Rattle.sfi_answers.specs.private.{IsMovedCopy, IsMovedOrMemory, IsMoveStop}
+use Rattle.sfi_answers.specs.declared.fault.Stop.{Stop}
+use Rattle.sfi_answers.specs.declared.fault.Stop.TheVariants as stop
+use Rattle.sfi_answers.specs.declared.verdict.Answer.{Answer}
+
+-- ---- a copy that is moved
+
+-- what is written into the front of a list of that length is all of it
+pub whole : (len : ℕ) (new rest : List ℕ) → length new ≡ len → take len (new ++ rest) ≡ new
+whole len new rest all = take-append-le len new rest (omega (arith, all)) ∙ take_all len new (omega (arith, all))
+
+pub copied : (bytes image new kept : List ℕ) (number : ℕ) (to : Place) → image ≡ bytes → kept ≡ new → IsMoved image number to new
+    → ((ps : List Part) → IsImage image ps → IsAccepted image ps ↔ IsAccepted new (moved_one number to ps)) → IsMovedCopy bytes number to kept
+copied bytes image new kept number to same all moves accepted =
+    let made : IsMovedCopy image number to new = record { moved = moves; still_accepted = λ ps a. (accepted ps a.image).0 a } in
+    subst (λ (b : List ℕ). IsMovedCopy b number to kept) same (subst (λ (n : List ℕ). IsMovedCopy image number to n) (sym all) made)
+
+-- where no fault of a move is that of the copy, none is that of the bytes
+pub can_move : (bytes image : List ℕ) (number : ℕ) (to : Place) → image ≡ bytes → ((e : MoveFault) → IsMoveFault image number to e → ⊥) → CannotMove number to bytes → ⊥
+can_move bytes image number to same none (inl beyond) = none NoSandbox (subst (λ (b : List ℕ). IsBeyond b number) (sym same) beyond)
+can_move bytes image number to same none (inr wrong) = none NoPlace (subst (λ (b : List ℕ). IsWrongPlace b number to) (sym same) wrong)
+
+pub no_image : (bytes image : List ℕ) (number : ℕ) (to : Place) (k : LayoutFault) → image ≡ bytes → IsFault image k → HasSomeFault bytes ⊎ CannotMove number to bytes
+no_image bytes image number to k same wrong = inl (k, subst (λ (b : List ℕ). IsFault b k) same wrong)
+
+pub no_move : (bytes image : List ℕ) (number : ℕ) (to : Place) → image ≡ bytes → ((now : List ℕ) → IsMoved image number to now → ⊥) → (now : List ℕ) → IsMoved bytes number to now → ⊥
+no_move bytes image number to same none now moves = none now (subst (λ (b : List ℕ). IsMoved b number to now) (sym same) moves)
+
+-- ---- what is answered
+
+-- a sandbox that is moved
+pub moved : (raw : Bool) (number : ℕ) (to : Place) (bytes now : List ℕ) (parts : List Part) (a : Answer) → IsAccepted bytes parts → IsMovedCopy bytes number to now
+    → (CannotMove number to bytes → ⊥) → ((found : List Finding) → ¬ HasFindings bytes found) → ((k : LayoutFault) → ¬ IsFault bytes k)
+    → a.status ≡ 0 → a.output.items ≡ image_output raw now → Answers (move raw number to) bytes (Ok a)
+moved raw number to bytes now parts a accepted copy can found layout status text = record {
+  says = inl (record {
+    parts = parts;
+    now = now;
+    accepted = accepted;
+    moved = copy.moved;
+    still_accepted = copy.still_accepted parts accepted;
+    status_is = status;
+    text_is = text;
+  });
+  stop = tt;
+  only_done = λ _. status;
+  only_refused = λ h. absurd (found h.0 h.1);
+  only_fault = fault;
+}
+  where
+    fault : HasSomeFault bytes ⊎ (IsAcceptedImage bytes × CannotMove number to bytes) → IsErr {T = Answer} {E = Stop} (Ok a)
+    fault (inl wrong) = absurd (layout wrong.0 wrong.1)
+    fault (inr wrong) = absurd (can wrong.1)
+
+-- a fault that follows from another
+follows : (P Q : Type 0) → (P → Q) → (s : Stop) → IsStop P s → IsStop Q s
+follows P Q h (stop.Input fault) is = h is
+follows P Q h (stop.Layout fault) is = h is
+follows P Q h (stop.Build fault) is = h is
+follows P Q h stop.Memory is = tt
+
+-- a stop where the sandbox would have been moved is want of memory
+done_status : (s : Stop) → IsMovedOrMemory (Err s) → AnswersStatus 0 (Err s)
+done_status (stop.Input fault) h = h
+done_status (stop.Layout fault) h = h
+done_status (stop.Build fault) h = h
+done_status stop.Memory h = tt
+
+-- one that isn't
+pub not_moved : (raw : Bool) (number : ℕ) (to : Place) (bytes : List ℕ) (parts : List Part) (s : Stop) → IsAccepted bytes parts → IsMoveStop bytes number to s
+    → ((now : List ℕ) → IsMoved bytes number to now → IsMovedOrMemory (Err s)) → ((found : List Finding) → ¬ HasFindings bytes found)
+    → Answers (move raw number to) bytes (Err s)
+not_moved raw number to bytes parts s accepted why only found = record {
+  says = tt;
+  stop = follows _ _ fault s why;
+  only_done = λ h. done_status s (only h.1.0 h.1.1);
+  only_refused = λ h. absurd (found h.0 h.1);
+  only_fault = λ _. refl;
+}
+  where
+    fault : HasSomeFault bytes ⊎ CannotMove number to bytes → HasSomeFault bytes ⊎ (IsAcceptedImage bytes × CannotMove number to bytes)
+    fault (inl wrong) = inl wrong
+    fault (inr wrong) = inr ((parts, accepted), wrong)
+
+pub stopped : (raw : Bool) (number : ℕ) (to : Place) (bytes : List ℕ) (parts : List Part) (why : Stop) (r : Result Answer Stop) → IsAccepted bytes parts → IsMoveStop bytes number to why
+    → ((now : List ℕ) → IsMoved bytes number to now → IsMovedOrMemory (Err why)) → ((found : List Finding) → ¬ HasFindings bytes found)
+    → IsErrAnd r (λ (s : Stop). s ≡ why) → Answers (move raw number to) bytes r
+stopped raw number to bytes parts why (Ok a) accepted is only found stops = absurd stops
+stopped raw number to bytes parts why (Err s) accepted is only found stops =
+    subst (λ (x : Stop). Answers (move raw number to) bytes (Err x)) (sym stops) (not_moved raw number to bytes parts why accepted is only found)
+
+-- an image that is refused
+pub refused : (raw : Bool) (number : ℕ) (to : Place) (bytes : List ℕ) (r : Result Answer Stop) → Answers (on_verdict (SaysRefused false)) bytes r → Answers (move raw number to) bytes r
+refused raw number to bytes r a = record {
+  says = IfOk-weaker r _ _ (λ x h. inr h) a.says;
+  stop = IfErr-weaker r _ _ (follows _ _ (λ h. inl h)) a.stop;
+  only_done = λ h. a.only_done h.0;
+  only_refused = a.only_refused;
+  only_fault = fault r a;
+}
+  where
+    other : (x : Answer) → Answers (on_verdict (SaysRefused false)) bytes (Ok x) → IsAcceptedImage bytes → ⊥
+    other x b h =
+        let zero : x.status ≡ 0 = b.only_done h in
+        let one : x.status ≡ 1 = b.says.status_is in
+        absurd (omega (arith, zero, one))
+
+    fault : (r : Result Answer Stop) → Answers (on_verdict (SaysRefused false)) bytes r → HasSomeFault bytes ⊎ (IsAcceptedImage bytes × CannotMove number to bytes) → IsErr r
+    fault r b (inl wrong) = b.only_fault wrong
+    fault (Err s) b (inr wrong) = refl
+    fault (Ok x) b (inr wrong) = absurd (other x b wrong.0)
