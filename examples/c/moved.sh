@@ -23,7 +23,7 @@ compile() { # program, format; makes an image that can be moved
 }
 
 move() { # an image, a place, the file for the moved one
-    "$tools/sfi-move" --at "$2" <"$1" >"$3"
+    "$sfi" move --at "$2" <"$1" >"$3"
 }
 
 run_of() { # image, input in digits; what it does, without the steps

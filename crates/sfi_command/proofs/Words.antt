@@ -25,10 +25,12 @@ use Rattle.clap.specs.Simple.{App, is_simple, subcommand_of, subcommand_rows, Ha
 use Rattle.clap.specs.declared.parser.matches.ArgMatches.{ArgMatches}
 use Rattle.clap.specs.declared.parser.matches.ArgMatches.TheViews.{out-ArgMatches}
 use Rattle.clap.proofs.OnLiterals.{clap_on_literals}
-use Rattle.sfi_command.specs.Command.{sfi, quantum_most, rounds_most, texts_of, Names, NamesNoInput, Asks, IsBudget, IsCount, IsFaultOf, IsInputOf, IsNoInput, number_of}
-use Rattle.sfi_command.specs.private.{NamesNothing, IsFaultOfNamed, IsInputFault}
+use Rattle.sfi_command.specs.Command.{sfi, quantum_most, rounds_most, texts_of, Names, NamesNoInput, Asks, IsBudget, IsCount, IsFaultOf, IsInputOf, IsNoInput, IsPlaceOf, number_of, sandbox_most}
+use Rattle.sfi_command.specs.private.{NamesNothing, IsFaultOfNamed, IsInputFault, IsPlaceFault, IsTextFault}
+use Rattle.sfi_command.specs.Places.{SpellsPlace}
+use Rattle.sfi_policy.specs.declared.place.Place.{Place}
 use Rattle.sfi_command.specs.declared.job.Job.{Job}
-use Rattle.sfi_command.specs.declared.job.Job.TheVariants.{Check, Dis, Build, Map, Run, Exec, Convert, Translate}
+use Rattle.sfi_command.specs.declared.job.Job.TheVariants.{Check, Dis, Build, Map, Run, Exec, Convert, Move, Translate}
 use Rattle.sfi_command.specs.declared.job.JobFault.{JobFault}
 use Rattle.sfi_command.specs.declared.job.JobFault.TheVariants.{Usage, Hex, Memory}
 
@@ -121,10 +123,10 @@ text_of f id v t e is =
     cc
 
 -- an option whose text reads as a number in its range
-pub count_is : (f : Found) (id v : Text) (most n : ℕ) → Some v ≡ first_value f id
+pub count_is : (f : Found) (id v : Text) (least most n : ℕ) → Some v ≡ first_value f id
     → (IsNumeral 10 (without_leading_plus v) × (digits_value 10 (without_leading_plus v) < 2 ^ 32)) × (n ≡ digits_value 10 (without_leading_plus v))
-    → 1 ≤ n → n ≤ most → IsCount id most (rows_of f) n
-count_is f id v most n e value_is low high = record {
+    → least ≤ n → n ≤ most → IsCount id least most (rows_of f) n
+count_is f id v least most n e value_is low high = record {
   text = v;
   text_is = sym (first_value-rows f id) ∙ sym e;
   numeral = value_is.0.0;
@@ -134,18 +136,18 @@ count_is f id v most n e value_is low high = record {
 }
 
 -- one whose text reads as a number out of it
-pub out_of_range : (f : Found) (id v : Text) (most n : ℕ) → Some v ≡ first_value f id
+pub out_of_range : (f : Found) (id v : Text) (least most n : ℕ) → Some v ≡ first_value f id
     → (IsNumeral 10 (without_leading_plus v) × (digits_value 10 (without_leading_plus v) < 2 ^ 32)) × (n ≡ digits_value 10 (without_leading_plus v))
-    → (1 ≤ n → n ≤ most → ⊥) → (k : ℕ) → ¬ IsCount id most (rows_of f) k
-out_of_range f id v most n e value_is out k is =
+    → (least ≤ n → n ≤ most → ⊥) → (k : ℕ) → ¬ IsCount id least most (rows_of f) k
+out_of_range f id v least most n e value_is out k is =
     let same = text_of f id v is.text e is.text_is in
     let value : digits_value 10 (without_leading_plus v) ≡ k = ap (λ (t : Text). digits_value 10 (without_leading_plus t)) same ∙ is.value in
     out (omega (arith, value_is.1, value, is.at_least)) (omega (arith, value_is.1, value, is.at_most))
 
 -- one whose text is no number
-pub no_number : (f : Found) (id v : Text) (most : ℕ) → most < 2 ^ 32 → Some v ≡ first_value f id
-    → ¬ (IsNumeral 10 (without_leading_plus v) × (digits_value 10 (without_leading_plus v) < 2 ^ 32)) → (k : ℕ) → ¬ IsCount id most (rows_of f) k
-no_number f id v most small e unread k is =
+pub no_number : (f : Found) (id v : Text) (least most : ℕ) → most < 2 ^ 32 → Some v ≡ first_value f id
+    → ¬ (IsNumeral 10 (without_leading_plus v) × (digits_value 10 (without_leading_plus v) < 2 ^ 32)) → (k : ℕ) → ¬ IsCount id least most (rows_of f) k
+no_number f id v least most small e unread k is =
     let same = text_of f id v is.text e is.text_is in
     let value : digits_value 10 (without_leading_plus v) ≡ k = ap (λ (t : Text). digits_value 10 (without_leading_plus t)) same ∙ is.value in
     let numeral : IsNumeral 10 (without_leading_plus v) = subst (λ (t : Text). IsNumeral 10 (without_leading_plus t)) (sym same) is.numeral in
@@ -153,8 +155,8 @@ no_number f id v most small e unread k is =
     unread (numeral, fits)
 
 -- and one without a text
-pub no_text : (f : Found) (id : Text) (most : ℕ) → None ≡ first_value f id → (n : ℕ) → ¬ IsCount id most (rows_of f) n
-no_text f id most e n is =
+pub no_text : (f : Found) (id : Text) (least most : ℕ) → None ≡ first_value f id → (n : ℕ) → ¬ IsCount id least most (rows_of f) n
+no_text f id least most e n is =
     let none : None ≡ Some is.text = e ∙ first_value-rows f id ∙ is.text_is in
     absurd (cc)
 
@@ -202,6 +204,7 @@ only_run rows none (Map places) names = other_name _ _ 114 109 names.0 refl refl
 only_run rows none (Run rounds quantum input report) names = none rounds quantum input report names
 only_run rows none (Exec image budget) names = other_name _ _ 114 101 names.0 refl refl (λ e. absurd (omega (arith, e)))
 only_run rows none (Convert raw) names = other_name _ _ 114 99 names.0 refl refl (λ e. absurd (omega (arith, e)))
+only_run rows none (Move raw sandbox place) names = other_name _ _ 114 109 names.0 refl refl (λ e. absurd (omega (arith, e)))
 only_run rows none (Translate whole) names = other_name _ _ 114 116 names.0 refl refl (λ e. absurd (omega (arith, e)))
 
 -- the texts of an option that was given, and of one that wasn't
@@ -227,14 +230,14 @@ not_no_input (Some text) bytes spells none = absurd (cc)
 
 -- a run with an input, but without rounds or without a quantum, names nothing
 pub no_rounds : (rows : List Row) (bytes : List ℕ) → IsInputOf (first_of (codes "input") rows) bytes
-    → ((n : ℕ) → ¬ IsCount (codes "rounds") rounds_most rows n) → NamesNothing (Some (codes "run", rows))
+    → ((n : ℕ) → ¬ IsCount (codes "rounds") 1 rounds_most rows n) → NamesNothing (Some (codes "run", rows))
 no_rounds rows bytes spells none = record {
   no_job = only_run rows (λ rounds quantum input report names. none rounds names.1);
   no_run = λ names. not_no_input (first_of (codes "input") rows) bytes spells names.1;
 }
 
 pub no_quantum : (rows : List Row) (bytes : List ℕ) → IsInputOf (first_of (codes "input") rows) bytes
-    → ((n : ℕ) → ¬ IsCount (codes "quantum") quantum_most rows n) → NamesNothing (Some (codes "run", rows))
+    → ((n : ℕ) → ¬ IsCount (codes "quantum") 1 quantum_most rows n) → NamesNothing (Some (codes "run", rows))
 no_quantum rows bytes spells none = record {
   no_job = only_run rows (λ rounds quantum input report names. none quantum names.2);
   no_run = λ names. not_no_input (first_of (codes "input") rows) bytes spells names.1;
@@ -251,6 +254,7 @@ only_exec rows none (Map places) names = other_name _ _ 101 109 names.0 refl ref
 only_exec rows none (Run rounds quantum input report) names = other_name _ _ 101 114 names.0 refl refl (λ e. absurd (omega (arith, e)))
 only_exec rows none (Exec image budget) names = none image budget names
 only_exec rows none (Convert raw) names = other_name _ _ 101 99 names.0 refl refl (λ e. absurd (omega (arith, e)))
+only_exec rows none (Move raw sandbox place) names = other_name _ _ 101 109 names.0 refl refl (λ e. absurd (omega (arith, e)))
 only_exec rows none (Translate whole) names = other_name _ _ 101 116 names.0 refl refl (λ e. absurd (omega (arith, e)))
 
 no_exec : (rows : List Row) → ((image : String Global) (budget : ℕ) → ¬ Names (Some (codes "exec", rows)) (Exec image budget)) → NamesNothing (Some (codes "exec", rows))
@@ -277,6 +281,68 @@ budget_is f o n e is = subst (λ (t : Option Text). IsBudget t n) (e ∙ first_v
 
 pub budget_of_text : (f : Found) (o : Option Text) (n : ℕ) → o ≡ first_value f (codes "budget") → IsBudget (first_of (codes "budget") (rows_of f)) n → IsBudget o n
 budget_of_text f o n e is = subst (λ (t : Option Text). IsBudget t n) (sym (e ∙ first_value-rows f (codes "budget"))) is
+
+-- ---- the options of a move
+
+-- names of commands that go on otherwise after the first letter are others
+other_second : (s t : Text) (a b : ℕ) → s ≡ t → slice_index s 1 ≡ a → slice_index t 1 ≡ b → a ≢ b → ⊥
+other_second s t a b e first second differs = differs (sym first ∙ ap (λ (u : Text). slice_index u 1) e ∙ second)
+
+only_move : (rows : List Row) → ((raw : Bool) (sandbox : ℕ) (place : Place) → ¬ Names (Some (codes "move", rows)) (Move raw sandbox place))
+    → (job : Job) → ¬ Names (Some (codes "move", rows)) job
+only_move rows none (Check raw report) names = other_name _ _ 109 99 names.0 refl refl (λ e. absurd (omega (arith, e)))
+only_move rows none Dis names = other_name _ _ 109 100 names refl refl (λ e. absurd (omega (arith, e)))
+only_move rows none (Build raw places) names = other_name _ _ 109 98 names.0 refl refl (λ e. absurd (omega (arith, e)))
+only_move rows none (Map places) names = other_second _ _ 111 97 names.0 refl refl (λ e. absurd (omega (arith, e)))
+only_move rows none (Run rounds quantum input report) names = other_name _ _ 109 114 names.0 refl refl (λ e. absurd (omega (arith, e)))
+only_move rows none (Exec image budget) names = other_name _ _ 109 101 names.0 refl refl (λ e. absurd (omega (arith, e)))
+only_move rows none (Convert raw) names = other_name _ _ 109 99 names.0 refl refl (λ e. absurd (omega (arith, e)))
+only_move rows none (Move raw sandbox place) names = none raw sandbox place names
+only_move rows none (Translate whole) names = other_name _ _ 109 116 names.0 refl refl (λ e. absurd (omega (arith, e)))
+
+no_move : (rows : List Row) → ((raw : Bool) (sandbox : ℕ) (place : Place) → ¬ Names (Some (codes "move", rows)) (Move raw sandbox place)) → NamesNothing (Some (codes "move", rows))
+no_move rows none = record {
+  no_job = only_move rows none;
+  no_run = λ names. other_name _ _ 109 114 names.0 refl refl (λ e. absurd (omega (arith, e)));
+}
+
+-- without a place, or with a sandbox that is none, it names nothing
+pub no_place : (rows : List Row) (fault : JobFault) → IsPlaceFault (first_of (codes "at") rows) fault → IsFaultOfNamed (Some (codes "move", rows)) fault
+no_place rows (Usage text) none = no_move rows (λ raw sandbox place names. none place names.3)
+no_place rows Hex none = absurd none
+no_place rows Memory none = tt
+
+pub no_sandbox : (rows : List Row) → ((n : ℕ) → ¬ IsCount (codes "sandbox") 0 sandbox_most rows n) → NamesNothing (Some (codes "move", rows))
+no_sandbox rows none = no_move rows (λ raw sandbox place names. none sandbox names.2)
+
+-- the place of an option that was given
+pub place_is : (f : Found) (v : Text) (r : Result Place JobFault) → Some v ≡ first_value f (codes "at") → IfOk r (SpellsPlace v)
+    → IfOk r (IsPlaceOf (first_of (codes "at") (rows_of f)))
+place_is f v r e is = subst (λ (t : Option Text). IfOk r (IsPlaceOf t)) (e ∙ first_value-rows f (codes "at")) is
+
+-- the fault of a text that spells no place, of an option that was given, and of one that wasn't
+pub text_fault : (text : Text) (fault : JobFault) → number_of fault ≢ 2 → ((place : Place) → ¬ SpellsPlace text place) → IsTextFault text fault
+text_fault text (Usage told) other none = none
+text_fault text Hex other none = absurd (other refl)
+text_fault text Memory other none = tt
+
+of_text : (v : Text) (fault : JobFault) → IsTextFault v fault → IsPlaceFault (Some v) fault
+of_text v (Usage told) none = none
+of_text v Hex none = none
+of_text v Memory none = tt
+
+pub place_fault : (f : Found) (v : Text) (r : Result Place JobFault) → Some v ≡ first_value f (codes "at") → IfErr r (IsTextFault v)
+    → IfErr r (IsPlaceFault (first_of (codes "at") (rows_of f)))
+place_fault f v r e is =
+    subst (λ (t : Option Text). IfErr r (IsPlaceFault t)) (e ∙ first_value-rows f (codes "at")) (IfErr-weaker r _ _ (of_text v) is)
+
+no_place_at_all : (fault : JobFault) → number_of fault ≢ 2 → IsPlaceFault None fault
+no_place_at_all (Usage told) other = λ place is. is
+no_place_at_all Hex other = absurd (other refl)
+no_place_at_all Memory other = tt
+
+pub no_place_fault : (f : Found) (fault : JobFault) → None ≡ first_value f (codes "at") → number_of fault ≢ 2 → IsPlaceFault (first_of (codes "at") (rows_of f)) fault
+no_place_fault f fault e other = subst (λ (t : Option Text). IsPlaceFault t fault) (e ∙ first_value-rows f (codes "at")) (no_place_at_all fault other)
 
 -- ---- words that don't parse
 

@@ -10,10 +10,11 @@ use Rattle.clap.specs.Walk.{Row, Rule, Text, first_of}
 use Rattle.clap.specs.declared.builder.action.ArgAction.TheVariants.{Append, SetTrue}
 use Rattle.clap.specs.declared.builder.value_parser.ValueParser.TheVariants.{Signed, Unsigned}
 use Rattle.sfi_command.specs.declared.job.Job.{Job}
-use Rattle.sfi_command.specs.declared.job.Job.TheVariants.{Check, Dis, Build, Map, Run, Exec, Convert, Translate}
+use Rattle.sfi_command.specs.declared.job.Job.TheVariants.{Check, Dis, Build, Map, Run, Exec, Convert, Move, Translate}
 use Rattle.sfi_command.specs.declared.job.JobFault.{JobFault}
 use Rattle.sfi_command.specs.declared.job.JobFault.TheVariants.{Usage, Hex, Memory}
-use Rattle.sfi_command.specs.Places.{SpellPlaces}
+use Rattle.sfi_command.specs.Places.{SpellPlaces, SpellsPlace}
+use Rattle.sfi_policy.specs.declared.place.Place.{Place}
 
 -- ---- the command line
 
@@ -60,10 +61,12 @@ build = record (new_shape
 abbrev pub map_names : Shape
 map_names = record (new_shape (codes "map")) { rules = places_rule ∷ [] }
 
--- an option that takes a number from 1 to the most, with its default
-abbrev pub count_rule : Text → Text → ℕ → Rule
-count_rule name usual most =
-    record (value_rule name) { defaults = usual ∷ []; parser = Some (Signed (pos 1) (pos most)) }
+-- an option that takes a number from the least to the most, with its default
+abbrev pub count_rule : Text → Text → ℕ → ℕ → Rule
+count_rule name usual least most = record (value_rule name) {
+  defaults = usual ∷ [];
+  parser = Some (Signed (pos least) (pos most));
+}
 
 -- the option `--input`, which takes a text
 abbrev pub input_rule : Rule
@@ -72,8 +75,8 @@ input_rule = value_rule (codes "input")
 -- `run [--rounds N] [--quantum Q] [--input HEX] [--report]`
 abbrev pub run : Shape
 run = record (new_shape (codes "run")) {
-  rules = count_rule (codes "rounds") (codes "1") rounds_most
-      ∷ count_rule (codes "quantum") (codes "1000") quantum_most ∷ input_rule
+  rules = count_rule (codes "rounds") (codes "1") 1 rounds_most
+      ∷ count_rule (codes "quantum") (codes "1000") 1 quantum_most ∷ input_rule
       ∷ flag_rule (codes "report") ∷ [];
 }
 
@@ -96,6 +99,21 @@ exec = record (new_shape (codes "exec")) {
 abbrev pub convert : Shape
 convert = record (new_shape (codes "convert")) { rules = flag_rule (codes "raw") ∷ [] }
 
+-- an option that takes a text and has to be given
+abbrev pub needed_rule : Text → Rule
+needed_rule name = record (value_rule name) { required = true }
+
+-- the largest number of a sandbox that an option takes
+abbrev pub sandbox_most : ℕ
+sandbox_most = 2 ^ 32 - 1
+
+-- `move --at CODE:DATA [--sandbox N] [--raw]`
+abbrev pub move_one : Shape
+move_one = record (new_shape (codes "move")) {
+  rules = needed_rule (codes "at") ∷ count_rule (codes "sandbox") (codes "0") 0 sandbox_most
+      ∷ flag_rule (codes "raw") ∷ [];
+}
+
 -- `translate [--whole]`
 abbrev pub translate : Shape
 translate = record (new_shape (codes "translate")) { rules = flag_rule (codes "whole") ∷ [] }
@@ -106,8 +124,9 @@ on_input =
     with_subcommand
     (with_subcommand
     (with_subcommand
+    (with_subcommand
     (with_subcommand (with_subcommand (with_subcommand (with_subcommand program check) dis) build)
-    map_names) run) convert) translate
+    map_names) run) convert) move_one) translate
 
 -- the command line: the program with its subcommands
 abbrev pub sfi : App
@@ -123,13 +142,13 @@ IsGiven option found given = IsTrue given ↔ (first_of option found ≡ Some (c
 abbrev pub texts_of : List ℕ → List Row → List Text
 texts_of option found = option_map_or (λ r. r.values) (find (λ r. bytes_eq r.id option) found) []
 
--- the option's text is this decimal number, from 1 to the most
-pub record IsCount (option : List ℕ) (most : ℕ) (found : List Row) (n : ℕ) : Type 0 where
+-- the option's text is this decimal number, from the least to the most
+pub record IsCount (option : List ℕ) (least most : ℕ) (found : List Row) (n : ℕ) : Type 0 where
   pub text : Text
   pub text_is : first_of option found ≡ Some text
   pub numeral : IsNumeral 10 (without_leading_plus text)
   pub value : digits_value 10 (without_leading_plus text) ≡ n
-  pub at_least : 1 ≤ n
+  pub at_least : least ≤ n
   pub at_most : n ≤ most
 
 -- the text of an option spells these bytes in hexadecimal; no option, none
@@ -149,6 +168,11 @@ IsBudget (Some text) n =
     IsNumeral 10 (without_leading_plus text) × (digits_value 10 (without_leading_plus text) ≡ n)
     × (1 ≤ n) × (n < 2 ^ 64)
 
+-- the text of an option spells this place; without the option there is none
+abbrev pub IsPlaceOf : Option Text → Place → Type 0
+IsPlaceOf None place = ⊥
+IsPlaceOf (Some text) place = SpellsPlace text place
+
 -- the subcommand, with what was found for its options, asks for the job; a build and a map have the
 -- places that their uses of `--at` spell, and a check of an image's own bytes has no report
 abbrev pub Names : Option (Text × List Row) → Job → Type 0
@@ -163,14 +187,18 @@ Names (Some p) (Build raw places) =
 Names (Some p) (Map places) =
     (p.0 ≡ codes "map") × SpellPlaces (texts_of (codes "at") p.1) places.items
 Names (Some p) (Run rounds quantum input report) =
-    (p.0 ≡ codes "run") × IsCount (codes "rounds") rounds_most p.1 rounds
-    × IsCount (codes "quantum") quantum_most p.1 quantum
+    (p.0 ≡ codes "run") × IsCount (codes "rounds") 1 rounds_most p.1 rounds
+    × IsCount (codes "quantum") 1 quantum_most p.1 quantum
     × IsInputOf (first_of (codes "input") p.1) input.items
     × IsGiven (codes "report") p.1 report
 Names (Some p) (Exec image budget) =
     (p.0 ≡ codes "exec") × (first_of (codes "image") p.1 ≡ Some (string_bytes image))
     × IsBudget (first_of (codes "budget") p.1) budget
 Names (Some p) (Convert raw) = (p.0 ≡ codes "convert") × IsGiven (codes "raw") p.1 raw
+Names (Some p) (Move raw sandbox place) =
+    (p.0 ≡ codes "move") × IsGiven (codes "raw") p.1 raw
+    × IsCount (codes "sandbox") 0 sandbox_most p.1 sandbox
+    × IsPlaceOf (first_of (codes "at") p.1) place
 Names (Some p) (Translate whole) =
     (p.0 ≡ codes "translate") × IsGiven (codes "whole") p.1 whole
 

@@ -7,9 +7,9 @@ use Rattle.clap.specs.declared.builder.command.Command.TheViews.{out-Command}
 use Rattle.sfi_command.specs.declared.job.Job.{Job}
 use Rattle.sfi_command.specs.declared.job.JobFault.{JobFault}
 use Rattle.sfi_command.specs.declared.job.JobFault.TheVariants.{Usage, Hex, Memory}
-use Rattle.sfi_command.specs.Command.{IsNoInput, Names, NamesNoInput, count_rule, flag_rule, number_rule, required_rule, value_rule}
+use Rattle.sfi_command.specs.Command.{IsNoInput, IsPlaceOf, Names, NamesNoInput, count_rule, flag_rule, needed_rule, number_rule, required_rule, value_rule}
 use Rattle.sfi_policy.specs.declared.place.Place.{Place}
-use Rattle.sfi_command.specs.Places.{SpellPlaces}
+use Rattle.sfi_command.specs.Places.{SpellPlaces, SpellsPlace}
 use Rattle.clap.specs.declared.builder.action.ArgAction.TheVariants.{Append}
 use Rattle.sfi_command.specs.declared.commands.CommandRow.{CommandRow}
 use Rattle.sfi_command.specs.declared.commands.OptionRow.{OptionRow}
@@ -49,6 +49,18 @@ ArePlacesFault texts (Usage text) = (places : List Place) → ¬ SpellPlaces tex
 ArePlacesFault texts Hex = ⊥
 ArePlacesFault texts Memory = Unit {0}
 
+-- the fault of a text that spells no place
+abbrev pub IsTextFault : Text → JobFault → Type 0
+IsTextFault text (Usage told) = (place : Place) → ¬ SpellsPlace text place
+IsTextFault text Hex = ⊥
+IsTextFault text Memory = Unit {0}
+
+-- the fault of an option that gives no place
+abbrev pub IsPlaceFault : Option Text → JobFault → Type 0
+IsPlaceFault text (Usage told) = (place : Place) → ¬ IsPlaceOf text place
+IsPlaceFault text Hex = ⊥
+IsPlaceFault text Memory = Unit {0}
+
 -- ---- rows of commands and options
 
 -- an option of this name, of which nothing more is said
@@ -61,8 +73,9 @@ rule_taking name takes.Nothing = flag_rule name
 rule_taking name (takes.Text word) = value_rule name
 rule_taking name (takes.Texts word) = record (value_rule name) { action = Some Append }
 rule_taking name (takes.Number word) = number_rule name
+rule_taking name (takes.Needed word) = needed_rule name
 rule_taking name (takes.Word word) = record (required_rule name) { value_names = 1 }
-rule_taking name (takes.Count word usual most) = count_rule name usual.now most
+rule_taking name (takes.Count word usual least most) = count_rule name usual.now least most
 
 abbrev pub rule_of_row : OptionRow → Rule
 rule_of_row row = rule_taking row.name.now row.takes

@@ -6,14 +6,14 @@ ghost use Rattle.clap.specs.Simple.{Shape, app_of, new_app, with_subcommand};
 ghost use Rattle.clap.specs.Values.{kind_of};
 ghost use Rattle.clap.specs.Walk.{first_of, rows_of, rule_of};
 ghost use Rattle.clap.specs.declared.builder.command.Command.TheViews.{out-Command};
-ghost use Rattle.sfi_command.specs.Command.{build, check, convert, count_rule, dis, flag_rule, input_rule, map_names, places_rule, program, quantum_most, rounds_most, run, sfi, texts_of, Asks, IsBudget, IsFaultOf, IsCount, IsGiven, IsInputOf, Names, number_of};
+ghost use Rattle.sfi_command.specs.Command.{build, check, convert, count_rule, dis, flag_rule, input_rule, map_names, places_rule, program, quantum_most, rounds_most, run, sfi, texts_of, Asks, IsBudget, IsFaultOf, IsCount, IsGiven, IsInputOf, IsPlaceOf, Names, number_of};
 ghost use Rattle.sfi_command.specs.Places.{SpellPlaces};
-ghost use Rattle.sfi_command.specs.private.{IsCommandOf, IsFaultOfNamed, IsInputFault, ArePlacesFault};
+ghost use Rattle.sfi_command.specs.private.{IsCommandOf, IsFaultOfNamed, IsInputFault, ArePlacesFault, IsPlaceFault};
 
-use crate::commands::{QUANTUM_MOST, ROUNDS_MOST, program};
+use crate::commands::{QUANTUM_MOST, ROUNDS_MOST, SANDBOX_MOST, program};
 use crate::escaped::escaped;
 use crate::job::{Job, JobFault, usage_fault};
-use crate::places::parse_places;
+use crate::places::{parse_places, place_that};
 use clap::error::ErrorKind;
 use clap::{ArgMatches, Error};
 use hex::FromHexError;
@@ -63,15 +63,15 @@ fn is_given(found: &ArgMatches<'_>, option: &str) -> bool
     }
 }
 
-/// The number that the option's text is, from 1 to the most.
-fn count_of(found: &ArgMatches<'_>, option: &str, most: u32) -> Option<u32>
-    ensures some { IfSome result (IsCount option.now most (rows_of (found_of found.now))) }
+/// The number that the option's text is, from the least to the most.
+fn count_of(found: &ArgMatches<'_>, option: &str, least: u32, most: u32) -> Option<u32>
+    ensures some { IfSome result (IsCount option.now least most (rows_of (found_of found.now))) }
     ensures none { result ≡ None → (n : ℕ)
-        → ¬ IsCount option.now most (rows_of (found_of found.now)) n }
+        → ¬ IsCount option.now least most (rows_of (found_of found.now)) n }
 {
     let text = found.get_str(option)?;
     match text.parse::<u32>() {
-        Ok(count) if 1 <= count && count <= most => Some(count),
+        Ok(count) if least <= count && count <= most => Some(count),
         _ => None,
     }
 }
@@ -118,6 +118,18 @@ fn places_of(alloc: Global, found: &ArgMatches<'_>) -> Result<Vec<Place>, JobFau
     }
 }
 
+/// The place that the option `--at` spells.
+fn place_of(alloc: Global, found: &ArgMatches<'_>) -> Result<Place, JobFault>
+    ensures place { IfOk result (IsPlaceOf (first_of (codes "at") (rows_of (found_of found.now)))) }
+    ensures fault { IfErr result
+        (IsPlaceFault (first_of (codes "at") (rows_of (found_of found.now)))) }
+{
+    match found.get_str("at") {
+        Some(text) => place_that(alloc, text),
+        None => Err(no_command(alloc)),
+    }
+}
+
 /// The build that these options ask for.
 fn build_of(alloc: Global, found: &ArgMatches<'_>) -> Result<Job, JobFault>
     ensures job { IfOk result (Names (Some (codes "build", rows_of (found_of found.now)))) }
@@ -146,10 +158,10 @@ fn run_of(alloc: Global, found: &ArgMatches<'_>) -> Result<Job, JobFault>
         (IsFaultOfNamed (Some (codes "run", rows_of (found_of found.now)))) }
 {
     let input = input_of(alloc, found)?;
-    let Some(rounds) = count_of(found, "rounds", ROUNDS_MOST) else {
+    let Some(rounds) = count_of(found, "rounds", 1, ROUNDS_MOST) else {
         return Err(no_command(alloc));
     };
-    let Some(quantum) = count_of(found, "quantum", QUANTUM_MOST) else {
+    let Some(quantum) = count_of(found, "quantum", 1, QUANTUM_MOST) else {
         return Err(no_command(alloc));
     };
     let report = is_given(found, "report");
@@ -207,6 +219,24 @@ fn check_of(alloc: Global, found: &ArgMatches<'_>) -> Result<Job, JobFault>
     Ok(Job::Check { raw, report })
 }
 
+/// The move that these options ask for.
+fn move_of(alloc: Global, found: &ArgMatches<'_>) -> Result<Job, JobFault>
+    ensures job { IfOk result (Names (Some (codes "move", rows_of (found_of found.now)))) }
+    ensures fault { IfErr result
+        (IsFaultOfNamed (Some (codes "move", rows_of (found_of found.now)))) }
+{
+    let place = place_of(alloc, found)?;
+    let Some(sandbox) = count_of(found, "sandbox", 0, SANDBOX_MOST) else {
+        return Err(no_command(alloc));
+    };
+    let raw = is_given(found, "raw");
+    Ok(Job::Move {
+        raw,
+        sandbox,
+        place,
+    })
+}
+
 /// The job that the subcommand of this name asks for, with what was found for its options.
 fn job_named(alloc: Global, name: &str, found: &ArgMatches<'_>) -> Result<Job, JobFault>
     ensures job { IfOk result (Names (Some (name.now, rows_of (found_of found.now)))) }
@@ -222,6 +252,7 @@ fn job_named(alloc: Global, name: &str, found: &ArgMatches<'_>) -> Result<Job, J
         "convert" => Ok(Job::Convert {
             raw: is_given(found, "raw"),
         }),
+        "move" => move_of(alloc, found),
         "translate" => Ok(Job::Translate {
             whole: is_given(found, "whole"),
         }),

@@ -8,12 +8,16 @@ ghost use Rattle.sfi_command.specs.Command.{exec, on_input, program, required_ru
 ghost use Rattle.sfi_command.specs.private.{IsCommandOf, named_rule, rule_of_row, shape_of_row, with_all};
 
 use crate::help;
+use clap::builder::ValueParser;
 use clap::{Arg, ArgAction, Command, value_parser};
 use std::alloc::{AllocError, Global};
 
 pub(crate) const ROUNDS_MOST: u32 = 10000;
 
 pub(crate) const QUANTUM_MOST: u32 = 1000000;
+
+// The largest number of a sandbox.
+pub(crate) const SANDBOX_MOST: u32 = u32::MAX;
 
 /// What an option takes. Help calls a value by the word.
 #[derive(Clone, Copy)]
@@ -22,10 +26,13 @@ enum Takes<'a> {
     Text(&'a str),
     /// A text, and the option may be given again and again.
     Texts(&'a str),
-    /// A number from 1 to `most`; `usual` where the option isn't given.
+    /// A text, and the option has to be given.
+    Needed(&'a str),
+    /// A number from `least` to `most`; `usual` where the option isn't given.
     Count {
         word: &'a str,
         usual: &'a str,
+        least: u32,
         most: u32,
     },
     /// A number from 1 to 18446744073709551615.
@@ -127,6 +134,7 @@ const COMMANDS: &[CommandRow] = &[
                 takes: Takes::Count {
                     word: "N",
                     usual: "1",
+                    least: 1,
                     most: ROUNDS_MOST,
                 },
                 about: help::RUN_ROUNDS,
@@ -136,6 +144,7 @@ const COMMANDS: &[CommandRow] = &[
                 takes: Takes::Count {
                     word: "Q",
                     usual: "1000",
+                    least: 1,
                     most: QUANTUM_MOST,
                 },
                 about: help::RUN_QUANTUM,
@@ -157,6 +166,29 @@ const COMMANDS: &[CommandRow] = &[
         about: help::CONVERT,
         notes: help::CONVERT_NOTES,
         options: &[RAW_OUTPUT],
+    },
+    CommandRow {
+        name: "move",
+        about: help::MOVE,
+        notes: help::MOVE_NOTES,
+        options: &[
+            OptionRow {
+                name: "at",
+                takes: Takes::Needed("CODE:DATA"),
+                about: help::MOVE_PLACE,
+            },
+            OptionRow {
+                name: "sandbox",
+                takes: Takes::Count {
+                    word: "N",
+                    usual: "0",
+                    least: 0,
+                    most: SANDBOX_MOST,
+                },
+                about: help::MOVE_SANDBOX,
+            },
+            RAW_OUTPUT,
+        ],
     },
     CommandRow {
         name: "translate",
@@ -199,10 +231,16 @@ fn option_of<'a>(alloc: Global, row: &OptionRow<'a>) -> Arg<'a>
         Takes::Nothing => option.action(ArgAction::SetTrue),
         Takes::Text(word) => option.value_name(word),
         Takes::Texts(word) => option.value_name(word).action(ArgAction::Append),
-        Takes::Count { word, usual, most } => option
+        Takes::Needed(word) => option.value_name(word).required(true),
+        Takes::Count {
+            word,
+            usual,
+            least,
+            most,
+        } => option
             .value_name(word)
             .default_value(usual)
-            .value_parser(value_parser!(u32).range(1..=i64::from(most))),
+            .value_parser(ValueParser::signed(i64::from(least), i64::from(most))),
         Takes::Number(word) => option
             .value_name(word)
             .value_parser(value_parser!(u64).range(1..)),

@@ -5,7 +5,7 @@
 pub const VERSION: &str = "0.1.0";
 
 pub(crate) const PROGRAM: &str =
-    "Build, map, check, list, convert, translate and run images of sandboxed RISC-V code (RV32IMC)";
+    "Build, map, check, list, convert, move, translate and run images of sandboxed RISC-V code (RV32IMC)";
 
 pub(crate) const PROGRAM_NOTES: &str = "\
 Each command reads standard input and writes standard output, lines about
@@ -14,8 +14,8 @@ of a format, else as hexadecimal text: digits of either case, with white space
 between them. `sfi help COMMAND` says more of a command.
 
 Exit status:
-  0  done: the image is accepted, built, mapped, listed, run, converted or
-     translated
+  0  done: the image is accepted, built, mapped, listed, run, converted, moved
+     or translated
   1  refused: the image breaks rules, and the verdict is printed
   2  the input or the text of --input has a fault, which one line names
   3  a usage error, or a help or version text
@@ -191,6 +191,32 @@ Exit status:
 
 Example:
   sfi convert < old.hex > new.hex";
+
+pub(crate) const MOVE: &str = "Write an image with a sandbox at another place, if it is accepted";
+
+pub(crate) const MOVE_PLACE: &str =
+    "Where the sandbox's code and data are to begin, in hexadecimal";
+
+pub(crate) const MOVE_SANDBOX: &str = "The sandbox, counted from 0";
+
+pub(crate) const MOVE_NOTES: &str = "\
+Reads an image, and prints it with that sandbox at that place, on one line of
+hexadecimal digits, or with --raw as bytes. Its bases, its start and its gates'
+addresses change, and no byte of its code or first data. So it is accepted, too; it
+does what it did where its code was made for any place, as by `sfi-cc --movable`.
+A table of names in its data keeps the addresses that it has: the tool sfi-move
+writes these anew.
+
+Exit status:
+  0  moved
+  1  refused: the image breaks rules, and the verdict is printed
+  2  the input is no image, it has no such sandbox (move fault 2), or the place is
+     wrong (move fault 3): a base is no multiple of its region's size, there is no
+     room for a guard zone, or two regions or guard zones meet
+  3, 4, 5  as `sfi help` says
+
+Example:
+  sfi move --at 02000000:02800000 < hi.hex > moved.hex";
 
 pub(crate) const TRANSLATE: &str = "Write an image as C, if it is accepted";
 

@@ -58,6 +58,15 @@ pub enum Job {
         /// Whether its bytes are written as they are, and not as hexadecimal text.
         raw: bool,
     },
+    /// The image with a sandbox at another place.
+    Move {
+        /// Whether its bytes are written as they are, and not as hexadecimal text.
+        raw: bool,
+        /// The sandbox's number, counted from 0.
+        sandbox: u32,
+        /// Where it is to lie.
+        place: Place,
+    },
     /// The image as C.
     Translate {
         /// Whether it is a whole program, with the header and the console of `run` in it.

@@ -2,7 +2,7 @@
 
 ghost use Rattle.std.specs.Prelude.{◌≡◌, ℕ, IfErr, IfOk, IfSome, map};
 ghost use Rattle.sfi_command.specs.Places.{SpellsAddress, SpellsPlace, SpellPlaces};
-ghost use Rattle.sfi_command.specs.private.{ArePlacesFault};
+ghost use Rattle.sfi_command.specs.private.{ArePlacesFault, IsTextFault};
 ghost use Rattle.sfi_policy.specs.declared.place.Place.{Place};
 
 use crate::job::{JobFault, usage_fault};
@@ -44,6 +44,17 @@ fn parse_place(text: &str) -> Option<Place>
         code_base,
         data_base,
     })
+}
+
+/// The place that the text spells, or the fault of one that spells none.
+pub(crate) fn place_that(alloc: Global, text: &str) -> Result<Place, JobFault>
+    ensures place { IfOk result (SpellsPlace text.now) }
+    ensures fault { IfErr result (IsTextFault text.now) }
+{
+    match parse_place(text) {
+        Some(place) => Ok(place),
+        None => Err(usage_fault(alloc, NO_PLACE)),
+    }
 }
 
 /// The places that the texts spell, in their order.

@@ -1,6 +1,6 @@
 -- What a job answers on a text: by the bytes that it spells, with which statuses, and above the limit.
 use Rattle.sfi_tool.proofs.Prelude.{◌≡◌, ℕ, List, Result, sym, subst, inl, arith, Bool, length}
-use Rattle.std.proofs.Common.{inr, ◌≤◌, true, false, ◌<◌, Ok, Err, Global, refl}
+use Rattle.std.proofs.Common.{◌⊎◌, inr, ◌≤◌, true, false, ◌<◌, Ok, Err, Global, refl}
 use Rattle.std.specs.Prelude.{IsErr, IsErrAnd}
 use Rattle.std.proofs.lemmas.Result.{IfOk-weaker, IfErr-weaker}
 use Rattle.sfi_io.specs.Hexadecimal.{GivesBytes, IsHexFault, IsHexStop, IsNoHexadecimal}
@@ -14,12 +14,14 @@ use Rattle.sfi_answers.specs.declared.fault.Stop.{Stop}
 use Rattle.sfi_answers.specs.declared.fault.Stop.TheVariants as stop
 use Rattle.sfi_answers.specs.declared.verdict.Answer.{Answer}
 use Rattle.sfi_tool.specs.Says.{Says, HasInputFault, IsDone, IsRefused}
-use Rattle.sfi_answers.specs.Checking.{SaysVerdict}
+use Rattle.sfi_answers.specs.Checking.{SaysVerdict, SaysRefused}
+use Rattle.sfi_policy.specs.declared.place.Place.{Place}
 use Rattle.sfi_tool.specs.Running.{SaysRun}
 use Rattle.sfi_answers.specs.Converting.{SaysConversion}
+use Rattle.sfi_answers.specs.Moving.{SaysMoved}
 use Rattle.sfi_answers.specs.Translating.{SaysTranslation}
 use Rattle.sfi_command.specs.declared.job.Job.{Job}
-use Rattle.sfi_command.specs.declared.job.Job.TheVariants.{Check, Dis, Build, Map, Run, Exec, Convert, Translate}
+use Rattle.sfi_command.specs.declared.job.Job.TheVariants.{Check, Dis, Build, Map, Run, Exec, Convert, Move, Translate}
 use Rattle.sfi_command.specs.Command.{is_raw}
 use Rattle.sfi_io.specs.Streams.{limit}
 
@@ -88,6 +90,10 @@ of_conversion raw bytes status text (inl converted) = omega (arith, converted.st
 of_conversion raw bytes status text (inr (inl refused)) = omega (arith, refused.1.status_is)
 of_conversion raw bytes status text (inr (inr stack)) = omega (arith, stack.status_is)
 
+of_move : (raw : Bool) (sandbox : ℕ) (place : Place) (bytes : List ℕ) (status : ℕ) (text : List ℕ) → SaysMoved raw sandbox place bytes status text ⊎ SaysRefused false bytes status text → status ≤ 1
+of_move raw sandbox place bytes status text (inl moved) = omega (arith, moved.status_is)
+of_move raw sandbox place bytes status text (inr refused) = omega (arith, refused.status_is)
+
 of_translation : (whole : Bool) (bytes : List ℕ) (status : ℕ) (text : List ℕ) → SaysTranslation whole bytes status text → status ≤ 1
 of_translation whole bytes status text (inl translated) = omega (arith, translated.status_is)
 of_translation whole bytes status text (inr refused) = omega (arith, refused.status_is)
@@ -101,6 +107,7 @@ status_of_answer (Map places) input status text says = omega (arith, says.status
 status_of_answer (Run rounds quantum given report) input status text says = of_run rounds quantum given.items report says.0 status text says.2
 status_of_answer (Exec image budget) input status text says = absurd says
 status_of_answer (Convert raw) input status text says = of_conversion raw says.0 status text says.2
+status_of_answer (Move raw sandbox place) input status text says = of_move raw sandbox place says.0 status text says.2
 status_of_answer (Translate whole) input status text says = of_translation whole says.0 status text says.2
 
 -- ---- a text above its limit

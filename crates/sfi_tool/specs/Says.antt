@@ -1,13 +1,14 @@
 -- What the job that was asked for answers on what was read, and what a run of the program writes.
 use Rattle.std.specs.Prelude.{ℕ, List, true, false, ◌⊎◌, Option, IfSome}
 use Rattle.sfi_command.specs.declared.job.Job.{Job}
-use Rattle.sfi_command.specs.declared.job.Job.TheVariants.{Check, Dis, Build, Map, Run, Exec, Convert, Translate}
+use Rattle.sfi_command.specs.declared.job.Job.TheVariants.{Check, Dis, Build, Map, Run, Exec, Convert, Move, Translate}
 use Rattle.sfi_answers.specs.Answers.{Meaning, on_image}
 use Rattle.sfi_answers.specs.Checking.{check}
 use Rattle.sfi_answers.specs.Listing.{dis}
 use Rattle.sfi_answers.specs.Building.{build, map}
 use Rattle.sfi_tool.specs.Running.{run}
 use Rattle.sfi_answers.specs.Converting.{convert}
+use Rattle.sfi_answers.specs.Moving.{move}
 use Rattle.sfi_answers.specs.Translating.{translate}
 use Rattle.std.specs.Io.KnownBytes.{Appends}
 use Rattle.clap.specs.Walk.{Text}
@@ -34,6 +35,7 @@ meaning_of (Run rounds quantum given report) =
     on_image (run rounds quantum given.items report)
 meaning_of (Exec image budget) = not_here
 meaning_of (Convert raw) = on_image (convert raw)
+meaning_of (Move raw sandbox place) = on_image (move raw sandbox place)
 meaning_of (Translate whole) = on_image (translate whole)
 
 -- the job's answer, with status 0 or 1, on what was read

@@ -9,7 +9,7 @@ ghost use Rattle.sfi_answers.specs.Answers.{Answers};
 use crate::running::run_answer;
 use sfi_answers::{
     Answer, InputFault, Stop, TOO_LARGE_LINE, build_answer, check_answer, conversion_answer,
-    listing_answer, map_answer, stop_answer, translation_answer,
+    listing_answer, map_answer, move_answer, stop_answer, translation_answer,
 };
 use sfi_command::Job;
 use sfi_io::{INPUT_LIMIT, image_bytes};
@@ -41,6 +41,11 @@ fn job_answer(alloc: Global, job: &Job, text: &[u8]) -> Result<Answer, Stop>
         ),
         Job::Exec { .. } => Err(Stop::Input(InputFault::NoFile)),
         Job::Convert { raw } => conversion_answer(alloc, *raw, &image_bytes(alloc, text)?),
+        Job::Move {
+            raw,
+            sandbox,
+            place,
+        } => move_answer(alloc, *raw, *sandbox, *place, &image_bytes(alloc, text)?),
         Job::Translate { whole } => translation_answer(alloc, *whole, &image_bytes(alloc, text)?),
     }
 }

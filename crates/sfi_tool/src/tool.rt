@@ -105,7 +105,7 @@ fn run_job<R: Read, W: Write>(alloc: Global, job: &Job, reader: &mut R, writer: 
 
 /// Runs the command that the words ask for, and answers the status to end with:
 ///
-/// - 0: accepted, built, mapped, listed, converted, translated or run; 1: findings;
+/// - 0: accepted, built, mapped, listed, converted, moved, translated or run; 1: findings;
 /// - 2: a fault of the input, or a text of `--input` that spells no bytes, which the text names;
 /// - 3: the words don't parse, have an `--at` that is no place, ask for both `--raw` and `--report`, or
 ///   for help or the version: what to print for them was written;

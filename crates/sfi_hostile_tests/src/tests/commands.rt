@@ -34,6 +34,7 @@ sandbox=0 gate quit at=01000010
 sandbox=0 pc=01000000 00100073 ebreak
 x1=00000000 x2=018000f0 
 = sfi convert | program | 0 | 534649320100000000000001
+= sfi move --at 20500000:80000000 | program | 0 | 534649310100000000005020
 = sfi translate | program | 0 | #include \"sfi_native.h\"
 SANDBOX(0,16,01000000,256,01800000,256,01000020,2,2)
 = sfi translate --whole | program | 0 | #ifndef SFI_NATIVE_H

@@ -267,7 +267,7 @@ fn word_source_rows(rt: HostRuntime) -> Result<(), Fail> {
 
 #[test]
 fn word_rows(rt: HostRuntime) -> Result<(), Fail> {
-    try_rows(&rt, rt.alloc(), words::USAGE, 59)?;
+    try_rows(&rt, rt.alloc(), words::USAGE, 69)?;
     try_rows(&rt, rt.alloc(), words::ALLOWED, 8)?;
     try_rows(&rt, rt.alloc(), words::REFUSED, 10)
 }
@@ -275,7 +275,7 @@ fn word_rows(rt: HostRuntime) -> Result<(), Fail> {
 #[test]
 fn help_rows(rt: HostRuntime) -> Result<(), Fail> {
     try_rows(&rt, rt.alloc(), words::TEXTS, 5)?;
-    try_rows(&rt, rt.alloc(), words::HELP, 27)
+    try_rows(&rt, rt.alloc(), words::HELP, 30)
 }
 
 #[test]
@@ -290,6 +290,8 @@ fn report_rows(rt: HostRuntime) -> Result<(), Fail> {
     try_rows(&rt, rt.alloc(), reports::REPORTS, 18)?;
     try_rows(&rt, rt.alloc(), reports::CONVERSIONS, 13)?;
     try_rows(&rt, rt.alloc(), reports::CONVERTED, 5)?;
+    try_rows(&rt, rt.alloc(), reports::MOVES, 5)?;
+    try_rows(&rt, rt.alloc(), reports::MOVED, 14)?;
     try_rows(&rt, rt.alloc(), reports::TRANSLATIONS, 5)?;
     try_rows(&rt, rt.alloc(), reports::LISTINGS, 11)
 }

@@ -1,4 +1,4 @@
-use Rattle.std.proofs.Common.{◌≡◌, ◌∙◌, Option, Some, [], ◌∷◌, ap, rules, sym}
+use Rattle.std.proofs.Common.{◌≡◌, ◌∙◌, Option, Some, [], ◌∷◌, ap, rules, sym, true}
 use Rattle.std.specs.Prelude.{pos}
 use Rattle.clap.specs.Walk.{Rule, rule_of}
 use Rattle.clap.specs.declared.builder.action.ArgAction.TheVariants.{Append, SetTrue}
@@ -24,12 +24,19 @@ returns-in-Texts-clause-rule c =
     (ap rule_of c.value_name-in-Texts.ensures ∙ ap (λ (r : Rule). record r { value_names = 1 }) c.option_named-option.ensures.rule)
     ∙ ap (rule_taking c.args.row.now.name.now) (sym c.in-Texts.is)
 
+pub returns-in-Needed-clause-rule : goal.returns-in-Needed-clause-rule
+returns-in-Needed-clause-rule c =
+    ap rule_of c.required.ensures
+    ∙ ap (λ (r : Rule). record r { required = true })
+    (ap rule_of c.value_name-in-Needed.ensures ∙ ap (λ (r : Rule). record r { value_names = 1 }) c.option_named-option.ensures.rule)
+    ∙ ap (rule_taking c.args.row.now.name.now) (sym c.in-Needed.is)
+
 pub returns-in-Count-clause-rule : goal.returns-in-Count-clause-rule
 returns-in-Count-clause-rule c =
-    let parser : c.value_parser-in-Count.result.value_parser ≡ Some (Signed (pos 1) (pos c.in-Count.most)) = search rules in
-    ap rule_of c.value_parser-in-Count.ensures.others
+    let parser : c.value_parser.result.value_parser ≡ Some (Signed (pos c.in-Count.least) (pos c.in-Count.most)) = search rules in
+    ap rule_of c.value_parser.ensures.others
     ∙ ap (λ (p : Option ValueParser). record (rule_of c.default_value.result) { parser = p }) parser
-    ∙ ap (λ (r : Rule). record r { parser = Some (Signed (pos 1) (pos c.in-Count.most)) })
+    ∙ ap (λ (r : Rule). record r { parser = Some (Signed (pos c.in-Count.least) (pos c.in-Count.most)) })
     (ap rule_of c.default_value.ensures
     ∙ ap (λ (r : Rule). record r { defaults = c.in-Count.usual.now ∷ [] })
     (ap rule_of c.value_name-in-Count.ensures ∙ ap (λ (r : Rule). record r { value_names = 1 }) c.option_named-option.ensures.rule))

@@ -1,4 +1,4 @@
-//! What `check --report`, `convert`, `translate` and `dis` print.
+//! What `check --report`, `convert`, `move`, `translate` and `dis` print.
 
 /// A line for each finding, and then the verdict or the fault.
 pub(super) const REPORTS: &str = "
@@ -60,6 +60,37 @@ $ sfi convert
 pub(super) const CONVERTED: &str = "
 = the new image is accepted; $ sfi convert | sfi check; $ sfi convert --raw | sfi check; > accepted sandboxes=1 bundles=16
 = what is converted runs alike; source; text front of hi; + 88 0290; + 1 4869; $ sfi run; $ sfi convert | sfi run; $ sfi convert --raw | sfi run; > sandbox=0 exit=105 steps=19 out=4869
+";
+
+/// What is moved to one place, and what isn't.
+pub(super) const MOVES: &str = "
+$ sfi move --at 20500000:80000000
+= the bases and the start change alone
+>+ 1 534649310100000000005020000100000000008000010000000050200000000000000000; >+ 64 73001000; >
+= of two letters the gates' addresses, too; source; text front of hi; + 88 0290; + 1 4869
+>+ 1 534649310100000000005020000100000000008000010000200050200200000002000000; >+ 1 00005020010000001000502000000000
+>+ 1 73000000b3ff9001b3ef8f0167800f0073000000b3ff9001b3ef8f0167800f00; >+ 1 370580011305050093052000eff05ffd37058001130505000100010001000100
+>+ 1 b37fb501b3efaf0103c51f00eff05ffc; >+ 88 0290; >+ 1 4869; >
+= in words with a finding; put 0 53464957; put 36 2320be00; > refused findings=1 first=V5 sandbox=0 at=01000000
+= less a byte; cut 291; > layout fault 3 Short
+= an odd digit; source; + 1 5; > input fault hex odd
+";
+
+/// Other places and sandboxes.
+pub(super) const MOVED: &str = "
+= the new image is accepted; $ sfi move --at 20500000:80000000 | sfi check; $ sfi move --at ffffff00:1000 --raw --sandbox 0 | sfi check
+> accepted sandboxes=1 bundles=16
+= to where it lies; $ sfi move --at 1000000:1800000
+>+ 1 534649310100000000000001000100000000800100010000000000010000000000000000; >+ 64 73001000; >
+= a wrong place; $ sfi move --at 20500080:80000000; $ sfi move --at 20500000:80000080; $ sfi move --at 20500000:00000f00
+$ sfi move --at 20500000:fffff000; $ sfi move --at 20500000:20501000; > move fault 3 NoPlace
+= no such sandbox; $ sfi move --at 20500000:80000000 --sandbox 1; $ sfi move --at 20500080:80000000 --sandbox 4294967295; > move fault 2 NoSandbox
+= a finding before a wrong place; put 36 3370b5013360a0012320b000; $ sfi move --at 1:2; $ sfi move --at 1:2 --sandbox 9
+> refused findings=1 first=V5 sandbox=0 at=01000008
+= the second of two sandboxes; source; | .sandbox 256; | ebreak; | .sandbox 256; | ebreak
+as sfi build --at 1000000:1800000 --at 20500000:80000000; $ sfi build | sfi move --sandbox 1 --at 20500000:80000000
+= the second where the first lies; source; | .sandbox 256; | ebreak; | .sandbox 256; | ebreak
+$ sfi build | sfi move --sandbox 1 --at 1000000:80000000; > move fault 3 NoPlace
 ";
 
 /// What is translated for a host and as a whole program, and what isn't.

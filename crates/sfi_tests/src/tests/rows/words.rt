@@ -10,12 +10,14 @@ $ sfi run --report=yes; $ sfi run --report --report; $ sfi build --at; $ sfi che
 $ sfi run --rounds 10001; $ sfi run --rounds ten; $ sfi run --rounds=-1; $ sfi run --rounds 1 --rounds 1; $ sfi run --quantum 0
 $ sfi run --quantum 1000001; $ sfi run --quantum 0x10; $ sfi run --input; $ sfi run --rounds 0 --input 0; $ sfi check --version; $ sfi help frob
 $ sfi convert --report; $ sfi translate --report; $ sfi exec; $ sfi exec one two; $ sfi exec image --budget 0; $ sfi exec image --budget ten
+$ sfi move; $ sfi move --raw; $ sfi move --sandbox 0; $ sfi move --at 1000000:1800000 --at 1000000:1800000; $ sfi move --at 1000000:1800000 --sandbox one
+$ sfi move --at 1000000:1800000 --sandbox=-1; $ sfi move --at 1000000:1800000 --sandbox 4294967296; $ sfi move --at 1000000:1800000 image
 $ sfi exec image --budget 18446744073709551616; $ sfi exec --budget 5; $ sfi exec image --raw; >.. error: 
 = bytes, and a report; $ sfi check --raw --report; $ sfi check --report --raw
 > error: '--raw' and '--report' cannot be used together; >; > For more information, try '--help'.
 = no place; $ sfi build --at 20500000; $ sfi build --at :; $ sfi build --at 20500000:; $ sfi build --at :80000000; $ sfi build --at 120500000:80000000
 $ sfi build --at 20500000:080000000; $ sfi build --at +2050000:80000000; $ sfi build --at 0x2050:80000000; $ sfi build --at 20500000:80000000:1
-$ sfi build --at 1000:2000,3000:4000; $ sfi map --at 20500000
+$ sfi build --at 1000:2000,3000:4000; $ sfi map --at 20500000; $ sfi move --at 20500000; $ sfi move --at 0x2050:80000000
 > error: '--at' wants CODE:DATA, two hexadecimal addresses; >; > For more information, try '--help'.
 ";
 
@@ -52,6 +54,9 @@ source; status 3
 = help of exec, said in other words; as sfi exec --help; $ sfi exec -h; $ sfi help exec
 = help of convert; $ sfi convert --help; ..; >.. second format; >; >; > Usage: sfi convert [OPTIONS]; ..; >.. --raw ; >text statuses; >.. convert < 
 = help of convert, said in other words; as sfi convert --help; $ sfi convert -h; $ sfi help convert
+= help of move; $ sfi move --help; ..; >.. if it is accepted; >; >; > Usage: sfi move [OPTIONS] --at <CODE:DATA>; ..; >.. --at <CODE:DATA> ; >.. --sandbox <N> ; >.. --raw 
+>text statuses; >.. move --at
+= help of move, said in other words; as sfi move --help; $ sfi move -h; $ sfi help move
 = help of translate; $ sfi translate --help; ..; >.. as C; >; >; > Usage: sfi translate [OPTIONS]; ..; >.. --whole ; >text statuses
 >.. translate --whole < 
 = help of translate, said in other words; as sfi translate --help; $ sfi translate -h; $ sfi help translate

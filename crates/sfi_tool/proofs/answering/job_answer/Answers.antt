@@ -3,6 +3,7 @@ use Rattle.std.proofs.Common.{false}
 use Rattle.sfi_tool.specs.Says.{meaning_of}
 use Rattle.sfi_answers.specs.Checking.{check}
 use Rattle.sfi_answers.specs.Converting.{convert}
+use Rattle.sfi_answers.specs.Moving.{move}
 use Rattle.sfi_answers.specs.Translating.{translate}
 use Rattle.sfi_answers.specs.Listing.{dis}
 use Rattle.sfi_tool.specs.Running.{run}
@@ -53,6 +54,13 @@ returns-in_ok-image_bytes-in-Convert c =
     c.in_ok-image_bytes-in-Convert.ensures.bytes c.in_ok-image_bytes-in-Convert.ensures.only_bytes (λ u. let e = c.in_ok-image_bytes-in-Convert.ensures.only_stop u in absurd cc) c.deref-in-Convert.ensures.value
     c.conversion_answer.ensures)
 
+pub returns-in_ok-image_bytes-in-Move : goal.returns-in_ok-image_bytes-in-Move
+returns-in_ok-image_bytes-in-Move c =
+    as_job _ _ _ c.move_answer.result c.in-Move.is
+    (on_bytes (move c.in-Move.raw c.in-Move.sandbox c.in-Move.place) c.args.text.now c.in_ok-image_bytes-in-Move.field-0.items c.deref-in-Move.result.now c.move_answer.result
+    c.in_ok-image_bytes-in-Move.ensures.bytes c.in_ok-image_bytes-in-Move.ensures.only_bytes (λ u. let e = c.in_ok-image_bytes-in-Move.ensures.only_stop u in absurd cc) c.deref-in-Move.ensures.value
+    c.move_answer.ensures)
+
 pub returns-in_ok-image_bytes-in-Translate : goal.returns-in_ok-image_bytes-in-Translate
 returns-in_ok-image_bytes-in-Translate c =
     as_job _ _ _ c.translation_answer.result c.in-Translate.is
@@ -83,6 +91,12 @@ returns-in_err-image_bytes-in-Convert c =
     as_job _ _ _ c.from_residual-in_err-image_bytes-in-Convert.result c.in-Convert.is
     (on_no_bytes (convert c.in-Convert.raw) c.args.text.now c.in_err-image_bytes-in-Convert.field-0.0 c.from_residual-in_err-image_bytes-in-Convert.result c.requires.within_limit c.in_err-image_bytes-in-Convert.ensures.stop c.in_err-image_bytes-in-Convert.ensures.only_bytes
     c.from_residual-in_err-image_bytes-in-Convert.ensures.1)
+
+pub returns-in_err-image_bytes-in-Move : goal.returns-in_err-image_bytes-in-Move
+returns-in_err-image_bytes-in-Move c =
+    as_job _ _ _ c.from_residual-in_err-image_bytes-in-Move.result c.in-Move.is
+    (on_no_bytes (move c.in-Move.raw c.in-Move.sandbox c.in-Move.place) c.args.text.now c.in_err-image_bytes-in-Move.field-0.0 c.from_residual-in_err-image_bytes-in-Move.result c.requires.within_limit c.in_err-image_bytes-in-Move.ensures.stop c.in_err-image_bytes-in-Move.ensures.only_bytes
+    c.from_residual-in_err-image_bytes-in-Move.ensures.1)
 
 pub returns-in_err-image_bytes-in-Translate : goal.returns-in_err-image_bytes-in-Translate
 returns-in_err-image_bytes-in-Translate c =
