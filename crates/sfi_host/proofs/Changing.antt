@@ -1,7 +1,11 @@
 -- A world of which one sandbox changed: it took a turn, or its data were written from outside.
 use Rattle.sfi_host.proofs.Prelude.{◌≡◌, ◌≢◌, ◌<◌, ⊎_elim, ℕ, ◌+◌, List, length, get_or, Some, set, slice_get, sym, ap, ◌∙◌, subst, refl, cases_eq, map-set, length-map, same_Some, arith, Bytes, IsMemory, Holds, Part, InCode, Program, Sandbox, AreEnterable, seat_of, seats_of, world_of, Bounds, Slot, bounds_of, Seat, Sandboxes, slot_of, slots_of, IsSafeSeat, IsSafeWorld, StaysOutside, StaysOutsideData, state_in, bounds_in, StaysSafe, IsSafeWith, IsChange, bytes_in, bytes_outside, IsWhole}
 use Rattle.sfi_host.specs.Changing.{OthersAreSame, AreChanges}
-use Rattle.sfi_host.specs.Programs.{AreDecoded}
+use Rattle.std.proofs.Math.ListN.{get_or-map}
+use Rattle.std.specs.Arc.{arc_value}
+use Rattle.std.specs.Global.{Global}
+use Rattle.std.specs.declared.sync.Arc.{Arc}
+use Rattle.sfi_host.specs.Programs.{programs_of, AreDecoded}
 use Rattle.sfi_host.proofs.Asked.{found, seat_at}
 use Rattle.sfi_host.proofs.Decoding.{are_decoded}
 use Rattle.sfi_host.proofs.Neighbours.{slots_are, world_safe, get_set_other, set_itself, neighbours_are}
@@ -83,6 +87,11 @@ module _ (m : Bytes) (items : List Sandbox) (programs : List Program) (i : ℕ) 
       let count : length programs ≡ length items = inside.1.count ∙ length-map items seat_of in
       let at : slice_get (seats_of items) i ≡ Some (seat_of x) = seat_at items i x there in
       record { safe = inside.0.each i (seat_of x) at; decoded = inside.1.each i p (seat_of x) (found programs programs i p refl (omega (arith, below, count)) program) at }
+
+  -- so of one that is shared
+  pub may_run_shared : (all : List (Arc Program Global)) → programs ≡ programs_of all → (p : Arc Program Global) → p ≡ get_or all i p → (q : Program) → q ≡ arc_value p → IsSafeWith m (seat_of x) q
+  may_run_shared all are p is q value =
+      may_run q (value ∙ ap arc_value is ∙ sym (get_or-map arc_value all i p) ∙ ap (λ (l : List Program). get_or l i (arc_value p)) (sym are) ∙ ap (λ (d : Program). get_or programs i d) (sym value))
 
   pub put_back : (n : Bytes) (new : Sandbox) → StaysSafe m (seat_of x) n (seat_of new) → (w : Sandboxes) → world_of m items ≡ w
       → AfterTurn w programs i (slot_of m (seat_of x)) (slot_of n (seat_of new)) (world_of n (set items i new))

@@ -18,7 +18,7 @@ pub record IsFirst (ps : List Part) (m : Bytes) (seats : List Seat) (programs : 
   pub first_data : HaveFirstData ps m
 
 pub is_first : (ps : List Part) → IsRightLayout ps → AllRunSafely ps → AllCallTyped ps
-    → (m : Bytes) (seats : List Seat) (programs : List Program) → IsMemory m → m ≡ with_parts empty ps → seats ≡ map first_seat ps → AreProgramsOf ps (length ps) programs → IsFirst ps m seats programs
+    → (m : Bytes) (seats : List Seat) (programs : List Program) → IsMemory m → m ≡ with_parts empty ps → seats ≡ map first_seat ps → AreProgramsOf ps programs → IsFirst ps m seats programs
 is_first ps layout safe calls m seats programs is_memory bytes are made =
     let memory : IsMemory (with_parts empty ps) = subst IsMemory bytes is_memory in
     let entries = entered ps layout memory in

@@ -43,5 +43,6 @@ pub use Rattle.sfi_host.specs.declared.turn.StepResult.{StepResult}
 pub use Rattle.sfi_host.specs.declared.turn.StepResult.TheVariants.{Continue, TurnEnds, RunEnds}
 pub use Rattle.sfi_host.specs.declared.turn.Turn.{Turn}
 pub use Rattle.sfi_host.specs.private.Limits.{allow, allows, with_left, end_of, limited_step, limited_turn, IsTurnOf, IsStepOf, IsCutTurnOf, IsOnItsWay}
-pub use Rattle.sfi_host.specs.private.Programs.{IsProgramOf, AreProgramsOf, IsSafeWith}
+pub use Rattle.sfi_host.specs.private.Programs.{AreProgramsOf, IsSafeWith}
+pub use Rattle.sfi_host.specs.Programs.{IsProgramOf}
 pub use Rattle.sfi_host.specs.private.Sandboxes.{gate_at, bounds_in, StaysSafe, IsReplied, IsNotReplied, request_by, IsTold, IsNotTold, after_ecall, after_told, next_after_answer}

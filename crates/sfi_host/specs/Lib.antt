@@ -24,6 +24,7 @@ pub mod Sandboxes
 pub mod Entries
 pub mod Blocks
 pub mod Programs
+pub mod Modules
 pub mod Steps
 pub mod Laws
 pub mod Moves

@@ -1,33 +1,34 @@
-//! From the parts of an image to sandboxes in a memory.
+//! From the parts of a module to sandboxes in a memory.
 ghost use Rattle.std.specs.Prelude.{◌≡◌, IfOk, OnOk, map};
-ghost use Rattle.sfi_image.specs.Spelling.{view, views};
 ghost use Rattle.sfi_image.specs.Parts.{IsRightPart, IsRightLayout};
+ghost use Rattle.sfi_host.specs.Modules.{part_of, parts_of};
 ghost use Rattle.sfi_host.specs.Loading.{first_seat, with_part, with_parts};
 ghost use Rattle.sfi_host.specs.Sandboxes.{seat_of, seats_of};
 
+use crate::modules::ModulePart;
 use crate::region::Region;
 use crate::sandbox::{Sandbox, fresh_cpu};
 use crate::status::Status;
 use rv_mem::Memory;
-use sfi_image::SandboxPart;
 use sfi_policy::Format;
 use std::alloc::{AllocError, Global};
+use std::sync::ArcSlice;
 
 // Adds a sandbox's code and data. All regions lie apart and end within the addresses,
 // so memory alone may be wanting.
-fn add_part<M: Memory>(memory: &mut M, part: &SandboxPart<'_>) -> Result<(), AllocError>
-    requires { (format : Format) × IsRightPart (view format part.now) }
+fn add_part<M: Memory>(memory: &mut M, part: &ModulePart) -> Result<(), AllocError>
+    requires { (format : Format) × IsRightPart (part_of format part.now) }
     ensures { (format : Format)
-        → OnOk result (M.bytes memory.new ≡ with_part (M.bytes memory.old) (view format part.now)) }
+        → OnOk result (M.bytes memory.new ≡ with_part (M.bytes memory.old) (part_of format part.now)) }
 {
     if memory
-        .add(part.code_base, part.code.len() as u32, part.code)
+        .add(part.code_base, part.code.len() as u32, &part.code)
         .is_err()
     {
         return Err(AllocError);
     }
     if memory
-        .add(part.data_base, part.data_size, part.init)
+        .add(part.data_base, part.data_size, &part.init)
         .is_err()
     {
         return Err(AllocError);
@@ -36,18 +37,13 @@ fn add_part<M: Memory>(memory: &mut M, part: &SandboxPart<'_>) -> Result<(), All
 }
 
 // A sandbox that has done nothing yet.
-fn first_sandbox(
-    alloc: Global,
-    format: Format,
-    part: &SandboxPart<'_>,
-) -> Result<Sandbox, AllocError>
-    requires { IsRightPart (view format part.now) }
-    ensures { IfOk result (λ s. seat_of s ≡ first_seat (view format part.now)) }
+fn first_sandbox(alloc: Global, format: Format, part: &ModulePart) -> Result<Sandbox, AllocError>
+    requires { IsRightPart (part_of format part.now) }
+    ensures { IfOk result (λ s. seat_of s ≡ first_seat (part_of format part.now)) }
 {
     let mut gates = Vec::with_capacity(alloc, part.gates.len())?;
     gates.extend_from_slice(&part.gates)?;
-    let mut init = Vec::with_capacity(alloc, part.init.len())?;
-    init.extend_from_slice(part.init)?;
+    let init = ArcSlice::clone(&part.init)?;
     let code = Region {
         base: part.code_base,
         size: part.code.len() as u32,
@@ -69,18 +65,18 @@ fn first_sandbox(
     })
 }
 
-/// The sandboxes of an image, with their code and data added to the memory.
+/// The sandboxes of a module, with their code and data added to the memory.
 pub(crate) fn load_parts<M: Memory>(
     alloc: Global,
     format: Format,
-    parts: &[SandboxPart<'_>],
+    parts: &[ModulePart],
     memory: &mut M,
 ) -> Result<Vec<Sandbox>, AllocError>
-    requires { IsRightLayout (views format parts.now) }
+    requires { IsRightLayout (parts_of format parts.now) }
     ensures seats { IfOk result
-        (λ all. seats_of all.items ≡ map first_seat (views format parts.now)) }
+        (λ all. seats_of all.items ≡ map first_seat (parts_of format parts.now)) }
     ensures bytes { OnOk result
-        (M.bytes memory.new ≡ with_parts (M.bytes memory.old) (views format parts.now)) }
+        (M.bytes memory.new ≡ with_parts (M.bytes memory.old) (parts_of format parts.now)) }
 {
     let mut sandboxes = Vec::with_capacity(alloc, parts.len())?;
     for part in parts {

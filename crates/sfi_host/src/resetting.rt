@@ -1,5 +1,6 @@
 //! A sandbox's first data and registers, once more.
 ghost use Rattle.std.specs.Prelude.{◌≡◌, ◌%◌, ◌+◌, ◌-◌, ◌<◌, ◌≤◌, ◌^◌, ◌++◌, length, replicate};
+ghost use Rattle.std.specs.Arc.{arc_slice_items};
 ghost use Rattle.std.specs.List.{range_with_len};
 ghost use Rattle.rv_mem.specs.Bytes.{with_bytes};
 ghost use Rattle.rv_step.specs.State.{IsHart};
@@ -59,7 +60,7 @@ impl Sandbox {
     pub(crate) fn reset<M: Memory>(&mut self, memory: &mut M)
         requires whole { IsWhole (span_of self.old.data)
             (bytes_in (span_of self.old.data) (M.bytes memory.old)) }
-        requires room { length self.old.init.items ≤ self.old.data.size }
+        requires room { length (arc_slice_items self.old.init) ≤ self.old.data.size }
         requires even { self.old.start % 2 ≡ 0 }
         requires code_size { 16 ≤ self.old.code.size }
         requires data_size { 16 ≤ self.old.data.size }

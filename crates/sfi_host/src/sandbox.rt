@@ -18,10 +18,11 @@ use sfi_policy::{
     CODE_BASE_REGISTER, CODE_MASK_REGISTER, CODE_REGISTER, DATA_BASE_REGISTER, DATA_MASK_REGISTER,
     FIRST_FRAME, Format, STACK_POINTER,
 };
+use std::sync::ArcSlice;
 
 /// Where a sandbox lies, what it begins with, its pc and registers, what it may still do, and how many
-/// steps it did. Its bytes lie in the world's memory; `init` is a copy of the first of its data bytes, as
-/// the image has them.
+/// steps it did. Its bytes lie in the world's memory; `init` are the first of its data bytes, as the
+/// image has them, which other worlds of the image share.
 #[derive(Drop)]
 pub struct Sandbox {
     pub format: Format,
@@ -29,7 +30,7 @@ pub struct Sandbox {
     pub data: Region,
     pub gates: Vec<Gate>,
     pub start: u32,
-    pub init: Vec<u8>,
+    pub init: ArcSlice<u8>,
     pub cpu: Cpu,
     pub status: Status,
     pub steps: u64,

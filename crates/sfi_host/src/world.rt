@@ -5,13 +5,15 @@ ghost use Rattle.std.specs.FinMap.{empty};
 ghost use Rattle.std.specs.Option.{option_map};
 ghost use Rattle.sfi_image.specs.Spans.{Holds};
 ghost use Rattle.sfi_host.specs.Changing.{data_bytes_of, with_world_bytes, OthersAreSame, AreChanges};
-ghost use Rattle.sfi_host.specs.Entering.{MayEnterAt, with_entry, IsAtEntry};
+ghost use Rattle.sfi_host.specs.Entering.{AreEnterable, MayEnterAt, with_entry, IsAtEntry};
 ghost use Rattle.sfi_host.specs.Joint.{Machine, IsMachine, call_of, joint, replied};
 ghost use Rattle.sfi_host.specs.Moves.{HaveRun, HaveRunJointly};
 ghost use Rattle.sfi_host.specs.Plans.{IsJoint, IsCutJoint};
 ghost use Rattle.sfi_host.specs.private.Sandboxes.{bounds_in, slot_in};
 ghost use Rattle.sfi_host.specs.Reading.{hart_at, data_region_at};
+ghost use Rattle.sfi_host.specs.Programs.{programs_of, AreDecoded};
 ghost use Rattle.sfi_host.specs.Regions.{span_of};
+ghost use Rattle.sfi_host.specs.Sandboxes.{world_of};
 ghost use Rattle.sfi_host.specs.Slots.{Slot};
 ghost use Rattle.sfi_host.specs.Stopping.{with_stop};
 ghost use Rattle.sfi_host.specs.Loading.{first_seat, with_parts, AreEntered, HaveFirstData};
@@ -26,8 +28,8 @@ mod setting;
 use crate::calls::{ask, asked_by};
 use crate::gates::Gates;
 use crate::guest::Request;
-use crate::loading::load_parts;
-use crate::program::{Program, decode_all};
+use crate::modules::Module;
+use crate::program::Program;
 use crate::region::Region;
 use crate::sandbox::Sandbox;
 use crate::status::Status;
@@ -38,6 +40,7 @@ use rv_step::Cpu;
 use sfi_check::Accepted;
 use std::alloc::{AllocError, Global};
 use std::marker::Model;
+use std::sync::Arc;
 
 /// The sandboxes of an accepted image, in one memory. Contracts see the memory's bytes and what
 /// there is of each sandbox beside them; the type keeps that each is safe,
@@ -46,7 +49,7 @@ use std::marker::Model;
 pub struct World<M: Memory> {
     memory: M,
     sandboxes: Vec<Sandbox>,
-    programs: Vec<Program>,
+    programs: Vec<Arc<Program>>,
 }
 
 impl<M: Memory> Model for World<M> {
@@ -60,14 +63,15 @@ impl<M: Memory> Model for World<M> {
     ghost coded = { Prim.hlevel (codes, map.code {R = nat_cmp} coded_ℕ coded_ℕ) };
 
     ghost use Rattle.sfi_host.specs.Sandboxes.{world_of};
-    ghost use Rattle.sfi_host.specs.Programs.{AreDecoded};
+    ghost use Rattle.sfi_host.specs.Programs.{programs_of, AreDecoded};
     ghost use Rattle.sfi_host.specs.Worlds.{IsSafeWorld};
     ghost use Rattle.sfi_host.specs.Entering.{AreEnterable};
 
     ghost view = { λ w. world_of (M.bytes w.memory) w.sandboxes.items };
 
     ghost invariant = { λ w. IsSafeWorld (world_of (M.bytes w.memory) w.sandboxes.items)
-        × AreDecoded (world_of (M.bytes w.memory) w.sandboxes.items) w.programs.items
+        × AreDecoded (world_of (M.bytes w.memory) w.sandboxes.items)
+        (programs_of w.programs.items)
         × AreEnterable (world_of (M.bytes w.memory) w.sandboxes.items) };
 }
 
@@ -88,15 +92,27 @@ impl<M: Memory> World<M> {
         // the premise of the laws on steps and neighbours.
         ensures safe { IfOk result (λ w. IsSafeWorld w) }
     {
-        let mut memory = memory;
-        let image = accepted.image();
-        let sandboxes = load_parts(alloc, image.format(), image.parts(), &mut memory)?;
-        let programs = decode_all(alloc, image.parts())?;
-        Ok(World {
+        let module = Module::of(alloc, accepted)?;
+        module.instance(alloc, memory)
+    }
+
+    /// A world of sandboxes that are safe in their memory, with the programs of their code.
+    pub(crate) fn of_parts(
+        memory: M,
+        sandboxes: Vec<Sandbox>,
+        programs: Vec<Arc<Program>>,
+    ) -> World<M>
+        requires safe { IsSafeWorld (world_of (M.bytes memory) sandboxes.items) }
+        requires decoded { AreDecoded (world_of (M.bytes memory) sandboxes.items)
+            (programs_of programs.items) }
+        requires enterable { AreEnterable (world_of (M.bytes memory) sandboxes.items) }
+        ensures { result ≡ world_of (M.bytes memory) sandboxes.items }
+    {
+        World {
             memory,
             sandboxes,
             programs,
-        })
+        }
     }
 
     /// Takes the turns of a plan in their order. A turn repeats steps of its sandbox until its
@@ -194,7 +210,7 @@ impl<M: Memory> World<M> {
         }
         run_quietly(
             &mut self.memory,
-            &self.programs[place],
+            &*self.programs[place],
             &mut self.sandboxes[place],
             turn.steps,
         );
@@ -270,7 +286,7 @@ impl<M: Memory> World<M> {
         }
         run_turn(
             &mut self.memory,
-            &self.programs[place],
+            &*self.programs[place],
             &mut self.sandboxes[place],
             turn.sandbox,
             turn.steps,

@@ -49,7 +49,7 @@ impl<M: Memory> World<M> {
         }
         run_until(
             &mut self.memory,
-            &self.programs[place],
+            &*self.programs[place],
             &mut self.sandboxes[place],
             turn.steps,
             stops,

@@ -1,12 +1,13 @@
 use Rattle.sfi_host.proofs.Prelude.{List, subst, sym, ◌+◌, arith, Sandbox}
+use Rattle.sfi_host.specs.Modules.{part_of}
 use Rattle.sfi_host.proofs.Loaded.{AreLoaded, right_part, one_more}
 use Rattle.sfi_host.proofs.loading.load_parts.Goals as goal
 
 pub add_part-requires : goal.add_part-requires
-add_part-requires g c = (c.args.format, right_part c.args.format c.args.parts.now c.loop-part.part-index c.part-item.result c.requires (omega arith) c.part-item.is)
+add_part-requires g c = (c.args.format, right_part (part_of c.args.format) c.args.parts.now c.loop-part.part-index c.part-item.result c.requires (omega arith) c.part-item.is)
 
 pub first_sandbox-requires : goal.first_sandbox-requires
-first_sandbox-requires g c = right_part c.args.format c.args.parts.now c.loop-part.part-index c.part-item.result c.requires (omega arith) c.part-item.is
+first_sandbox-requires g c = right_part (part_of c.args.format) c.args.parts.now c.loop-part.part-index c.part-item.result c.requires (omega arith) c.part-item.is
 
 pub loop-part-preserved : goal.loop-part-preserved
 loop-part-preserved g c =

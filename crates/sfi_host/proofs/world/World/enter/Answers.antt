@@ -1,4 +1,5 @@
 use Rattle.sfi_host.proofs.Prelude.{◌≡◌, true, set, slice_get, Some, refl, sym, ◌∙◌, subst, arith, slice_get_past, same_Some, Sandbox, MayEnter, seat_of, world_of, slot_of}
+use Rattle.sfi_host.specs.Programs.{programs_of}
 use Rattle.sfi_host.proofs.Asked.{found, seat_at}
 use Rattle.sfi_host.proofs.Changing.{others_same}
 use Rattle.sfi_runs.proofs.Entries.{even_unit}
@@ -43,10 +44,10 @@ may g c =
     subst (λ (y : Sandbox). MayEnter (seat_of y).bounds y.status c.args.pc) (same_Some x c.index_mut.result.now (sym here ∙ at g c)) (c.if-not-may_enter.ensures.0 refl)
 
 after : (g : given.Over) (c : goal.After-self-1 g) → let m = g.M.Memory.bytes c.self.inside.memory in let items = c.self.inside.sandboxes.items in
-    HasEntered c.args.self.now c.self.inside.programs.items c.args.i c.args.pc c.args.arguments.now (slot_of m (seat_of c.index_mut.result.now)) (slot_of m (seat_of c.enter.new.self)) (world_of m (set items c.args.i c.enter.new.self))
+    HasEntered c.args.self.now (programs_of c.self.inside.programs.items) c.args.i c.args.pc c.args.arguments.now (slot_of m (seat_of c.index_mut.result.now)) (slot_of m (seat_of c.enter.new.self)) (world_of m (set items c.args.i c.enter.new.self))
 after g c =
     let many = c.told-arguments in
-    has_entered (g.M.Memory.bytes c.self.inside.memory) c.self.inside.sandboxes.items c.self.inside.programs.items c.args.i c.index_mut.result.now c.enter.new.self
+    has_entered (g.M.Memory.bytes c.self.inside.memory) c.self.inside.sandboxes.items (programs_of c.self.inside.programs.items) c.args.i c.index_mut.result.now c.enter.new.self
     c.self.invariant (at g c) c.args.pc c.args.arguments.now (omega (arith, many)) (may g c).held (may g c).aligned c.enter.ensures.entered c.enter.ensures.hart c.args.self.now c.self.view_is
 
 pub invariant_of-self : goal.invariant_of-self

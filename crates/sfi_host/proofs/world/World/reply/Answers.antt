@@ -1,4 +1,5 @@
 use Rattle.sfi_host.proofs.Prelude.{◌≡◌, ◌≢◌, ℕ, [], ◌∷◌, set, slice_get, slice_set, Option, Some, None, IsSome, IsTrue, refl, sym, ap, ◌∙◌, subst, arith, same_Some, false, true, List, Ecall, Stands, Sandbox, Sandboxes, Slot, RunEnds, Machine, IsMachine, IsJoint, call_of, replied, seat_of, slot_of, slots_of, state_in, world_of, IsSafeWorld}
+use Rattle.sfi_host.specs.Programs.{programs_of}
 use Rattle.sfi_host.specs.declared.guest.Request.{Request}
 use Rattle.sfi_host.specs.Waiting.{Waits, later_answer, later_reply}
 use Rattle.sfi_host.proofs.Asked.{found, seat_at}
@@ -64,10 +65,10 @@ ask-requires g c =
 
 -- ---- what the reply leaves
 
-after : (g : given.Over) (c : goal.After-self-1 g) → AfterTurn c.args.self.now c.self.inside.programs.items c.args.i (slot_of (g.M.Memory.bytes c.self.inside.memory) (seat_of c.index_mut.result.now))
+after : (g : given.Over) (c : goal.After-self-1 g) → AfterTurn c.args.self.now (programs_of c.self.inside.programs.items) c.args.i (slot_of (g.M.Memory.bytes c.self.inside.memory) (seat_of c.index_mut.result.now))
     (slot_of (g.M.Memory.bytes c.ask.new.memory) (seat_of c.ask.new.sandbox)) (world_of (g.M.Memory.bytes c.ask.new.memory) (set c.self.inside.sandboxes.items c.args.i c.ask.new.sandbox))
 after g c =
-    turn_taken (g.M.Memory.bytes c.self.inside.memory) (g.M.Memory.bytes c.ask.new.memory) c.self.inside.sandboxes.items c.self.inside.programs.items c.args.i c.index_mut.result.now c.ask.new.sandbox
+    turn_taken (g.M.Memory.bytes c.self.inside.memory) (g.M.Memory.bytes c.ask.new.memory) c.self.inside.sandboxes.items (programs_of c.self.inside.programs.items) c.args.i c.index_mut.result.now c.ask.new.sandbox
     c.self.invariant (at g c.before.before) c.ask.ensures.stays c.args.self.now c.self.view_is
 
 pub invariant_of-self : goal.invariant_of-self

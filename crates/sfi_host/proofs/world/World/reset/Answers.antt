@@ -1,4 +1,5 @@
 use Rattle.sfi_host.proofs.Prelude.{◌≡◌, set, slice_get, Some, refl, arith, slice_get_past, seat_of, world_of, slot_of}
+use Rattle.sfi_host.specs.Programs.{programs_of}
 use Rattle.sfi_host.proofs.Asked.{found, seat_at}
 use Rattle.sfi_host.proofs.Changing.{others_same, whole_at}
 use Rattle.sfi_host.proofs.Entries.{sizes}
@@ -36,9 +37,9 @@ at g c =
     found items items c.args.i c.index_mut.result.now refl (omega (arith, c.len.ensures, c.if-place-len.false)) c.index_mut.ensures.value
 
 after : (g : given.Over) (c : goal.After-self-1 g) → let m = g.M.Memory.bytes c.self.inside.memory in let n = g.M.Memory.bytes c.reset.new.memory in let items = c.self.inside.sandboxes.items in
-    HasReset c.args.self.now c.self.inside.programs.items c.args.i (slot_of m (seat_of c.index_mut.result.now)) (slot_of n (seat_of c.reset.new.self)) (world_of n (set items c.args.i c.reset.new.self))
+    HasReset c.args.self.now (programs_of c.self.inside.programs.items) c.args.i (slot_of m (seat_of c.index_mut.result.now)) (slot_of n (seat_of c.reset.new.self)) (world_of n (set items c.args.i c.reset.new.self))
 after g c =
-    has_reset (g.M.Memory.bytes c.self.inside.memory) (g.M.Memory.bytes c.reset.new.memory) c.self.inside.sandboxes.items c.self.inside.programs.items c.args.i c.index_mut.result.now c.reset.new.self
+    has_reset (g.M.Memory.bytes c.self.inside.memory) (g.M.Memory.bytes c.reset.new.memory) c.self.inside.sandboxes.items (programs_of c.self.inside.programs.items) c.args.i c.index_mut.result.now c.reset.new.self
     c.self.invariant (at g c) (g.met.M.Memory.in_range c.reset.new.memory)
     c.reset.ensures.filled c.reset.ensures.outside c.reset.ensures.whole c.reset.ensures.reset c.reset.ensures.hart c.args.self.now c.self.view_is
 

@@ -1,4 +1,5 @@
 use Rattle.sfi_host.proofs.Prelude.{◌≡◌, ◌↔◌, IsTrue, true, false, set, slice_get, Some, refl, sym, ap, ◌∙◌, subst, arith, slice_get_past, same_Some, Hart, IsHart, Sandbox, seat_of, world_of, slot_of, slots_of}
+use Rattle.sfi_host.specs.Programs.{programs_of}
 use Rattle.sfi_host.specs.Setting.{IsEntryHart}
 use Rattle.sfi_host.proofs.Asked.{found, seat_at}
 use Rattle.sfi_host.proofs.Changing.{others_same}
@@ -44,9 +45,9 @@ may g c =
     (c.if-not-may_hold.ensures.0 refl)
 
 after : (g : given.Over) (c : goal.After-self-1 g) → let m = g.M.Memory.bytes c.self.inside.memory in let items = c.self.inside.sandboxes.items in
-    HasSet c.args.self.now c.self.inside.programs.items c.args.i c.args.cpu (slot_of m (seat_of c.index_mut.result.now)) (slot_of m (seat_of c.resume.new.self)) (world_of m (set items c.args.i c.resume.new.self))
+    HasSet c.args.self.now (programs_of c.self.inside.programs.items) c.args.i c.args.cpu (slot_of m (seat_of c.index_mut.result.now)) (slot_of m (seat_of c.resume.new.self)) (world_of m (set items c.args.i c.resume.new.self))
 after g c =
-    has_set (g.M.Memory.bytes c.self.inside.memory) c.self.inside.sandboxes.items c.self.inside.programs.items c.args.i c.index_mut.result.now c.resume.new.self
+    has_set (g.M.Memory.bytes c.self.inside.memory) c.self.inside.sandboxes.items (programs_of c.self.inside.programs.items) c.args.i c.index_mut.result.now c.resume.new.self
     c.self.invariant (at g c) c.args.cpu c.requires.hart (may g c) c.resume.ensures c.args.self.now c.self.view_is
 
 pub invariant_of-self : goal.invariant_of-self

@@ -1,4 +1,5 @@
 use Rattle.sfi_host.proofs.Prelude.{◌≡◌, true, set, slice_get, Some, refl, sym, ◌∙◌, subst, arith, slice_get_past, same_Some, Sandbox, Ready, seat_of, world_of, slot_of}
+use Rattle.sfi_host.specs.Programs.{programs_of}
 use Rattle.sfi_host.proofs.Asked.{found}
 use Rattle.sfi_host.proofs.Changing.{others_same}
 use Rattle.sfi_host.proofs.Stopping.{HasStopped, has_stopped, none_ready, ready_where}
@@ -32,9 +33,9 @@ ready g c =
     subst (λ (y : Sandbox). y.status ≡ Ready) (same_Some x c.index_mut.result.now (sym here ∙ at g c)) (c.if-not-is_ready.ensures.0 refl)
 
 after : (g : given.Over) (c : goal.After-self-1 g) → let m = g.M.Memory.bytes c.self.inside.memory in let items = c.self.inside.sandboxes.items in
-    HasStopped c.args.self.now c.self.inside.programs.items c.args.i (slot_of m (seat_of c.index_mut.result.now)) (slot_of m (seat_of c.stop.new.self)) (world_of m (set items c.args.i c.stop.new.self))
+    HasStopped c.args.self.now (programs_of c.self.inside.programs.items) c.args.i (slot_of m (seat_of c.index_mut.result.now)) (slot_of m (seat_of c.stop.new.self)) (world_of m (set items c.args.i c.stop.new.self))
 after g c =
-    has_stopped (g.M.Memory.bytes c.self.inside.memory) c.self.inside.sandboxes.items c.self.inside.programs.items c.args.i c.index_mut.result.now c.stop.new.self
+    has_stopped (g.M.Memory.bytes c.self.inside.memory) c.self.inside.sandboxes.items (programs_of c.self.inside.programs.items) c.args.i c.index_mut.result.now c.stop.new.self
     c.self.invariant (at g c) c.stop.ensures c.args.self.now c.self.view_is
 
 pub invariant_of-self : goal.invariant_of-self

@@ -1,8 +1,9 @@
-use Rattle.sfi_host.proofs.Prelude.{List, [], ◌∷◌, None, set, slice_get, sym, ap, ◌∙◌, subst, arith, slice_get_past, Slot, IsJoint, IsCutJoint, seat_of, world_of, Sandboxes, slot_of, slots_of}
+use Rattle.sfi_host.proofs.Prelude.{List, [], ◌∷◌, None, set, slice_get, refl, sym, ap, ◌∙◌, subst, arith, slice_get_past, Slot, IsJoint, IsCutJoint, seat_of, world_of, Sandboxes, slot_of, slots_of}
+use Rattle.sfi_host.specs.Programs.{programs_of}
 use Rattle.sfi_host.proofs.Asked.{no_slot}
 use Rattle.sfi_host.proofs.Neighbours.{get_set_same}
 use Rattle.sfi_host.proofs.Plans.{none_then, one_joint, one_turn, cut_turn}
-use Rattle.sfi_host.proofs.Changing.{AfterTurn, may_run, put_back}
+use Rattle.sfi_host.proofs.Changing.{AfterTurn, may_run_shared, put_back}
 use Rattle.sfi_host.proofs.world.World.take_turn.Given as given
 use Rattle.sfi_host.proofs.world.World.take_turn.Goals as goal
 
@@ -17,13 +18,13 @@ returns-then-place-len-clause-whole g c whole machine is =
 
 pub run_turn-requires : goal.run_turn-requires
 run_turn-requires g c =
-    may_run (g.M.Memory.bytes c.self.inside.memory) c.self.inside.sandboxes.items c.self.inside.programs.items c.args.turn.sandbox c.index_mut.result.now c.self.invariant (omega (arith, c.len.ensures, c.if-place-len.false)) c.index_mut.ensures.value
-    c.index.result.now c.index.ensures
+    may_run_shared (g.M.Memory.bytes c.self.inside.memory) c.self.inside.sandboxes.items (programs_of c.self.inside.programs.items) c.args.turn.sandbox c.index_mut.result.now c.self.invariant (omega (arith, c.len.ensures, c.if-place-len.false)) c.index_mut.ensures.value
+    c.self.inside.programs.items refl c.index.result.now c.index.ensures c.deref.result.now c.deref.ensures
 
-taken : (g : given.Over) (c : goal.After-self-1 g) → AfterTurn c.args.self.now c.self.inside.programs.items c.args.turn.sandbox (slot_of (g.M.Memory.bytes c.self.inside.memory) (seat_of c.index_mut.result.now))
+taken : (g : given.Over) (c : goal.After-self-1 g) → AfterTurn c.args.self.now (programs_of c.self.inside.programs.items) c.args.turn.sandbox (slot_of (g.M.Memory.bytes c.self.inside.memory) (seat_of c.index_mut.result.now))
     (slot_of (g.M.Memory.bytes c.run_turn.new.memory) (seat_of c.run_turn.new.sandbox)) (world_of (g.M.Memory.bytes c.run_turn.new.memory) (set c.self.inside.sandboxes.items c.args.turn.sandbox c.run_turn.new.sandbox))
 taken g c =
-    put_back (g.M.Memory.bytes c.self.inside.memory) c.self.inside.sandboxes.items c.self.inside.programs.items c.args.turn.sandbox c.index_mut.result.now c.self.invariant (omega (arith, c.len.ensures, c.if-place-len.false)) c.index_mut.ensures.value
+    put_back (g.M.Memory.bytes c.self.inside.memory) c.self.inside.sandboxes.items (programs_of c.self.inside.programs.items) c.args.turn.sandbox c.index_mut.result.now c.self.invariant (omega (arith, c.len.ensures, c.if-place-len.false)) c.index_mut.ensures.value
     (g.M.Memory.bytes c.run_turn.new.memory) c.run_turn.new.sandbox c.run_turn.ensures.stays c.args.self.now c.self.view_is
 
 pub invariant_of-self : goal.invariant_of-self

@@ -1,6 +1,7 @@
-use Rattle.sfi_host.proofs.Prelude.{set, slice_get, sym, ap, ◌∙◌, arith, slice_get_past, seat_of, world_of, Sandboxes, slot_of, slots_of}
+use Rattle.sfi_host.proofs.Prelude.{set, slice_get, refl, sym, ap, ◌∙◌, arith, slice_get_past, seat_of, world_of, Sandboxes, slot_of, slots_of}
+use Rattle.sfi_host.specs.Programs.{programs_of}
 use Rattle.sfi_host.proofs.Asked.{no_slot}
-use Rattle.sfi_host.proofs.Changing.{AfterTurn, may_run, put_back}
+use Rattle.sfi_host.proofs.Changing.{AfterTurn, may_run_shared, put_back}
 use Rattle.sfi_host.proofs.UpToStop.{up_to_stop, no_sandbox_there}
 use Rattle.sfi_host.proofs.world.World.take_turn_until.Given as given
 use Rattle.sfi_host.proofs.world.World.take_turn_until.Goals as goal
@@ -17,13 +18,13 @@ returns-then-place-len-clause-until g c =
 
 pub run_until-requires : goal.run_until-requires
 run_until-requires g c =
-    may_run (g.M.Memory.bytes c.self.inside.memory) c.self.inside.sandboxes.items c.self.inside.programs.items c.args.turn.sandbox c.index_mut.result.now c.self.invariant (omega (arith, c.len.ensures, c.if-place-len.false)) c.index_mut.ensures.value
-    c.index.result.now c.index.ensures
+    may_run_shared (g.M.Memory.bytes c.self.inside.memory) c.self.inside.sandboxes.items (programs_of c.self.inside.programs.items) c.args.turn.sandbox c.index_mut.result.now c.self.invariant (omega (arith, c.len.ensures, c.if-place-len.false)) c.index_mut.ensures.value
+    c.self.inside.programs.items refl c.index.result.now c.index.ensures c.deref.result.now c.deref.ensures
 
-taken : (g : given.Over) (c : goal.After-self-1 g) → AfterTurn c.args.self.now c.self.inside.programs.items c.args.turn.sandbox (slot_of (g.M.Memory.bytes c.self.inside.memory) (seat_of c.index_mut.result.now))
+taken : (g : given.Over) (c : goal.After-self-1 g) → AfterTurn c.args.self.now (programs_of c.self.inside.programs.items) c.args.turn.sandbox (slot_of (g.M.Memory.bytes c.self.inside.memory) (seat_of c.index_mut.result.now))
     (slot_of (g.M.Memory.bytes c.run_until.new.memory) (seat_of c.run_until.new.sandbox)) (world_of (g.M.Memory.bytes c.run_until.new.memory) (set c.self.inside.sandboxes.items c.args.turn.sandbox c.run_until.new.sandbox))
 taken g c =
-    put_back (g.M.Memory.bytes c.self.inside.memory) c.self.inside.sandboxes.items c.self.inside.programs.items c.args.turn.sandbox c.index_mut.result.now c.self.invariant (omega (arith, c.len.ensures, c.if-place-len.false)) c.index_mut.ensures.value
+    put_back (g.M.Memory.bytes c.self.inside.memory) c.self.inside.sandboxes.items (programs_of c.self.inside.programs.items) c.args.turn.sandbox c.index_mut.result.now c.self.invariant (omega (arith, c.len.ensures, c.if-place-len.false)) c.index_mut.ensures.value
     (g.M.Memory.bytes c.run_until.new.memory) c.run_until.new.sandbox c.run_until.ensures.stays c.args.self.now c.self.view_is
 
 pub invariant_of-self : goal.invariant_of-self

@@ -1,4 +1,5 @@
 use Rattle.sfi_host.proofs.Prelude.{◌≡◌, ◌↔◌, IsTrue, IsSome, List, length, ℕ, true, false, Option, Some, slice_get, refl, subst, arith, rules, seat_of, world_of, slot_of}
+use Rattle.sfi_host.specs.Programs.{programs_of}
 use Rattle.sfi_host.specs.Changing.{AreChanges}
 use Rattle.sfi_host.proofs.Asked.{found, data_bytes_is}
 use Rattle.sfi_host.proofs.Changing.{whole_at, data_written, others_same, AfterTurn}
@@ -32,9 +33,9 @@ here g c =
     found items items c.args.i c.index.result.now refl (omega (arith, c.len.ensures, c.if-place-len.false)) c.index.ensures
 
 after : (g : given.Over) (c : After-write g) → let m = g.M.Memory.bytes c.self.inside.memory in let n = g.M.Memory.bytes c.write.new.memory in let o = world_of n c.self.inside.sandboxes.items in
-    AfterTurn c.args.self.now c.self.inside.programs.items c.args.i (slot_of m (seat_of c.index.result.now)) (slot_of n (seat_of c.index.result.now)) o × AreChanges c.args.self.now o
+    AfterTurn c.args.self.now (programs_of c.self.inside.programs.items) c.args.i (slot_of m (seat_of c.index.result.now)) (slot_of n (seat_of c.index.result.now)) o × AreChanges c.args.self.now o
 after g c = data_written (g.M.Memory.bytes c.self.inside.memory) (g.M.Memory.bytes c.write.new.memory)
-    c.self.inside.sandboxes.items c.self.inside.programs.items c.args.i c.index.result.now c.self.invariant (here g c)
+    c.self.inside.sandboxes.items (programs_of c.self.inside.programs.items) c.args.i c.index.result.now c.self.invariant (here g c)
     (g.met.M.Memory.in_range c.write.new.memory) c.write.ensures.outside c.write.ensures.whole c.args.self.now c.self.view_is
 
 pub invariant_of-self : goal.invariant_of-self

@@ -1,0 +1,41 @@
+-- An image that was decoded once, for many worlds.
+use Rattle.std.specs.Prelude.{◌≡◌, ℕ, List, map, Some, slice_get}
+use Rattle.std.specs.Arc.{arc_value, arc_slice_items}
+use Rattle.sfi_policy.specs.declared.format.Format.{Format}
+use Rattle.sfi_image.specs.Spelling.{Part}
+use Rattle.sfi_safety.specs.Clean.{MayRun}
+use Rattle.sfi_host.specs.declared.modules.ModulePart.{ModulePart}
+use Rattle.sfi_host.specs.declared.program.Program.{Program}
+use Rattle.sfi_host.specs.Programs.{IsProgramOf}
+
+-- the part that a module's part stands for, in an image of this format
+abbrev pub part_of : Format → ModulePart → Part
+part_of f p = record {
+  format = f;
+  code_base = p.code_base;
+  data_base = p.data_base;
+  data_size = p.data_size;
+  start = p.start;
+  gates = p.gates.items;
+  code = p.code.items;
+  init = arc_slice_items p.init;
+}
+
+-- the parts that a list of such parts stands for
+abbrev pub parts_of : Format → List ModulePart → List Part
+parts_of f all = map (part_of f) all
+
+-- the program of a part
+abbrev pub program_in : ModulePart → Program
+program_in p = arc_value p.program
+
+-- the program of each part is that of its code
+abbrev pub HavePrograms : Format → List ModulePart → Type 0
+HavePrograms f all =
+    (i : ℕ) (p : ModulePart) → slice_get all i ≡ Some p
+    → IsProgramOf (part_of f p) (program_in p)
+
+-- the parts are those of an image that may run, and have their programs
+pub record IsModule (f : Format) (all : List ModulePart) : Type 0 where
+  pub runs : MayRun (parts_of f all)
+  pub programs : HavePrograms f all
