@@ -1,7 +1,9 @@
 /* What worlds.py measures.
  *
  *     worlds IMAGE bytes TIMES 0          # prints the bytes that malloc has given out for TIMES worlds of the image
+ *     worlds IMAGE beside TIMES 0         # the same of worlds of one module, beside the module
  *     worlds IMAGE load TIMES 0           # the image is loaded TIMES times
+ *     worlds IMAGE instance TIMES 0       # TIMES worlds are made of one module
  *     worlds IMAGE call TIMES STEPS       # TIMES turns of at most STEPS steps, and each call gets a reply
  *     worlds IMAGE read TIMES LENGTH      # LENGTH bytes of its data are read, TIMES times
  *     worlds IMAGE write TIMES LENGTH     # they are written
@@ -20,6 +22,7 @@ enum { MOST = 4096 };
 static uint8_t image[1 << 22], bytes[1 << 20];
 static size_t length;
 static struct sfi_run_world worlds[MOST];
+static struct sfi_run_module module = SFI_RUN_NO_MODULE;
 
 /* What malloc has given out, with what it adds to each block. */
 static size_t given(void) {
@@ -37,14 +40,25 @@ static void load(struct sfi_run_world *world) {
     must(sfi_run_load(image, length, world, &verdict) == SFI_RUN_LOADED);
 }
 
-static void measure_bytes(long times) {
+static void make_module(void) {
+    struct sfi_verdict verdict;
+    must(sfi_run_module_new(image, length, &module, &verdict) == SFI_RUN_LOADED);
+}
+
+static void instance(struct sfi_run_world *world) {
+    must(sfi_run_instance(&module, world));
+}
+
+static void measure_bytes(long times, void (*make)(struct sfi_run_world *)) {
     must(times <= MOST);
+    make_module();
     size_t before = given();
     for (long k = 0; k < times; k++)
-        load(&worlds[k]);
+        make(&worlds[k]);
     printf("%zu\n", given() - before);
     for (long k = 0; k < times; k++)
         sfi_run_free(&worlds[k]);
+    sfi_run_module_free(&module);
 }
 
 static void call(struct sfi_run_world *world, uint32_t steps) {
@@ -57,10 +71,12 @@ static void repeat(const char *what, long times, uint32_t number) {
     struct sfi_run_world world = SFI_RUN_NO_WORLD;
     struct sfi_run_region data;
     load(&world);
+    make_module();
     must(sfi_run_data(&world, 0, &data));
     for (long k = 0; k < times; k++)
         switch (what[0]) {
         case 'l': load(&world); break;
+        case 'i': instance(&world); break;
         case 'c': call(&world, number); break;
         case 'r': must(sfi_run_read(&world, 0, data.base, number, bytes, sizeof bytes)); break;
         case 'w': must(sfi_run_write(&world, 0, data.base, bytes, number)); break;
@@ -68,6 +84,7 @@ static void repeat(const char *what, long times, uint32_t number) {
         default: exit(1);
         }
     sfi_run_free(&world);
+    sfi_run_module_free(&module);
 }
 
 int main(int count, char **words) {
@@ -78,7 +95,9 @@ int main(int count, char **words) {
     must(fclose(file) == 0 && length < sizeof image);
     long times = atol(words[3]);
     if (strcmp(words[2], "bytes") == 0)
-        measure_bytes(times);
+        measure_bytes(times, load);
+    else if (strcmp(words[2], "beside") == 0)
+        measure_bytes(times, instance);
     else
         repeat(words[2], times, (uint32_t)atol(words[4]));
     return 0;

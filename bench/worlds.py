@@ -4,9 +4,10 @@ callgrind.
 
     bench/worlds.py [--library LIBRARY] [--program SFI]
 
-Prints the bytes of a world, the instructions of a load and what each byte of code and of data adds to both, and the instructions of a
-call with its reply, of 1 KiB in and out, and of a reset. The smallest image has 256 bytes of code and of data. The library is built by
-(cd crates/sfi_run && rt lib), the program by ./sfi check; it wants gcc with glibc 2.33 or newer, and valgrind.
+Prints the bytes of a world, the instructions of a load and what each byte of code and of data adds to both, the same of an instance
+of a module beside the module, and the instructions of a call with its reply, of 1 KiB in and out, and of a reset. The smallest image
+has 256 bytes of code and of data. The library is built by (cd crates/sfi_run && rt lib), the program by ./sfi check; it wants gcc with
+glibc 2.33 or newer, and valgrind.
 """
 import argparse
 import os
@@ -92,6 +93,8 @@ def main():
     with tempfile.TemporaryDirectory() as folder:
         host = Host(options.library, options.program, folder)
         print_making(host, "a world", host.bytes, lambda name: host.count(name, "load", times=4))
+        print_making(host, "an instance, beside its module,", lambda name: host.bytes(name, "beside"),
+                     lambda name: host.count(name, "instance", times=4))
         print(f"a turn to a call after its steps, and its reply: {host.count('calls', 'call', 1000, 2000):.0f} instructions")
         for what in ("read", "write"):
             print(f"1 KiB {what}: {host.count('calls', what, 1024):.0f} instructions")

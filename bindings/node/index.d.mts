@@ -168,6 +168,21 @@ export declare class Plugin {
   [Symbol.dispose](): void;
 }
 
+/** An image that is checked and decoded once. Its worlds share the decoded code, which nothing writes, and each has its data,
+ * registers and steps for itself. They may be closed in any order, and after the module. */
+export declare class Module {
+  private constructor();
+  /** Checks and decodes the image's own bytes. Throws what `load` does. */
+  static load(image: Bytes, library?: Library): Promise<Module>;
+  /** A world of the image: what `load` makes of its bytes, with nothing checked or decoded anew. Throws NoMemory. */
+  world(): World;
+  /** A plug-in in a world of its own: what `Plugin.load` makes of the image. */
+  instance(options?: { number?: number; steps?: number; handlers?: Record<string, Handler> }): Plugin;
+  /** Frees the module. Its worlds stay. */
+  close(): void;
+  [Symbol.dispose](): void;
+}
+
 /** The console of `sfi run`: what it keeps of each sandbox of a world is its output, how far it has read the input, and its
  * mailbox. */
 export declare class Console {

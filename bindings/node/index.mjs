@@ -1,6 +1,7 @@
 // Runs sandboxes of untrusted RISC-V code, by Suygapid's proved library: index.d.mts says what each call does.
 export { Console } from "./console.mjs";
 export { Library, NoMemory, VERSION } from "./library.mjs";
+export { Module } from "./module.mjs";
 export { Plugin } from "./plugin.mjs";
 export { Call, Cause, Exited, NoImage, NoName, NotEntered, NotReturned, NotRunning, NotWaiting, OutsideData, Ready, Refused,
   Stopped, Trapped } from "./told.mjs";

@@ -16,7 +16,11 @@ export class Plugin {
   #handlers = new Map(); // by the addresses of gates
 
   static async load(image, { number = 0, steps = STEPS, handlers = {}, library } = {}) {
-    const world = await load(image, library);
+    return Plugin.of(await load(image, library), number, steps, handlers);
+  }
+
+  /** In that world, which is closed where it can't be. */
+  static of(world, number, steps, handlers) {
     try {
       return new Plugin(world, number, steps, handlers);
     } catch (error) {

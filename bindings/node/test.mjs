@@ -2,7 +2,7 @@
 // that are wanted are those of docs/IMAGE.md and docs/GATES.md. The last line is `N passed, M failed`.
 import assert from "node:assert/strict";
 import { execFileSync } from "node:child_process";
-import { Call, Cause, Console, Exited, Library, NoImage, NoMemory, NoName, NotEntered, NotReturned, NotRunning, NotWaiting,
+import { Call, Cause, Console, Exited, Library, Module, NoImage, NoMemory, NoName, NotEntered, NotReturned, NotRunning, NotWaiting,
   OutsideData, Plugin, Ready, Refused, Stopped, Trapped, load } from "./index.mjs";
 
 const SFI = process.env.SFI ?? new URL("../../crates/sfi/out/sfi", import.meta.url).pathname;
@@ -64,6 +64,24 @@ const first = async (source) => (await load(built(source))).sandboxes[0];
 const answer = (call) => (call.service ? call.reply(0, 9) : call.exit(call.a0));
 
 const tests = {
+  async "the worlds of a module"() {
+    const image = withData(built(PLUGIN), table(NAMED, entry(ASK, "ask")));
+    const module = await Module.load(image);
+    const [one, two] = [1, 2].map((more) => module.instance({ handlers: { ask: (call) => call.a0 + more } }));
+    const world = module.world();
+    const loaded = (await load(image)).sandboxes[0];
+    module.close();
+    assert.throws(() => module.world(), /closed/);
+    assert.deepEqual([one.exports.twice(3), two.exports.twice(3), one.exports.sum(2, 3)], [8, 10, 5]);
+    one.sandbox.write(DATA, Buffer.from("mine"));
+    for (const sandbox of [world.sandboxes[0], two.sandbox])
+      assert.deepEqual(sandbox.read(DATA, 4), loaded.read(DATA, 4));
+    assert.deepEqual([world.sandboxes[0].steps, world.sandboxes[0].registers], [loaded.steps, loaded.registers]);
+    one.close();
+    assert.equal(two.exports.sum(4, 5), 9);
+    await assert.rejects(Module.load(image.subarray(1)), NoImage);
+  },
+
   async "bytes that are no image"() {
     // docs/IMAGE.md: 1 is the magic, 3 bytes that are cut short, 11 bytes that are left
     for (const [image, fault] of [["SFI9", 1], [SMALLEST.subarray(0, -1), 3], [Buffer.concat([SMALLEST, Buffer.alloc(1)]), 11]]) {

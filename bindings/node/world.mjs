@@ -39,31 +39,44 @@ export const freeing = (library, call, at) => () => {
 /** Frees what nothing refers to any more, between tasks of node's: so never during a call. */
 export const dropped = new FinalizationRegistry((free) => free());
 
+/** What struct sfi_verdict says of a status. */
+function fault(status, [, layoutFault, , , findings, sandbox, address, rule]) {
+  if (status === 1) return new Refused(findings, { sandbox, address, rule });
+  if (status === 2) return new NoImage(layoutFault);
+  if (status === 3) return new NoMemory("there was no memory for the world of the image");
+  return new Error(`the library answered with status ${status}, which this package doesn't know`);
+}
+
+/** Has a call make something of an image in the struct at that address, or frees it by another and throws why there is none. */
+export function make(library, call, freed, at, image) {
+  const status = library.calls[call](...image, at, library.told);
+  if (status === 0) return;
+  freeing(library, freed, at)();
+  throw fault(status, library.words(8));
+}
+
 /** What the sandboxes of a world share. Where the library has the world, the image's bytes follow: it is asked for names. */
 export class Held {
-  constructor(library, image) {
+  /** That of an image's bytes. */
+  static of(library, image) {
     const bytes = bytesOf(image);
-    this.at = library.put(bytes, STRUCT_BYTES);
+    const at = library.put(bytes, STRUCT_BYTES);
+    const placed = [at + BigInt(STRUCT_BYTES), BigInt(bytes.length)];
+    make(library, "load", "free", at, placed);
+    return new Held(library, at, placed);
+  }
+
+  /** A world that is there, and where its image's bytes are, which `keeps` has, if they don't follow it. */
+  constructor(library, at, image, keeps) {
+    this.at = at;
     this.library = library;
-    this.image = [this.at + BigInt(STRUCT_BYTES), BigInt(bytes.length)];
-    this.free = freeing(library, "free", this.at);
-    const status = library.calls.load(...this.image, this.at, library.told);
-    if (status !== 0) {
-      this.free();
-      throw Held.#fault(status, library.words(8));
-    }
+    this.image = image;
+    this.keeps = keeps;
+    this.free = freeing(library, "free", at);
     this.count = Number(library.calls.count(this.at));
     this.moves = 0; // each reply, stop and entry has its number
     this.goneOn = new Array(this.count).fill(0); // the last one of each sandbox
     dropped.register(this, this.free, this);
-  }
-
-  /** Of struct sfi_verdict. */
-  static #fault(status, [, fault, , , findings, sandbox, address, rule]) {
-    if (status === 1) return new Refused(findings, { sandbox, address, rule });
-    if (status === 2) return new NoImage(fault);
-    if (status === 3) return new NoMemory("there was no memory for the world of the image");
-    return new Error(`the library answered with status ${status}, which this package doesn't know`);
   }
 
   close() {
@@ -77,8 +90,8 @@ export class Held {
 export const heldBy = new WeakMap(); // what a world holds
 
 export class World {
-  constructor(image, library) {
-    heldBy.set(this, new Held(library, image));
+  constructor(held) {
+    heldBy.set(this, held);
   }
 
   get sandboxes() {
@@ -96,7 +109,7 @@ export class World {
 }
 
 export async function load(image, library) {
-  return new World(image, library ?? await usualLibrary());
+  return new World(Held.of(library ?? await usualLibrary(), image));
 }
 
 const outside = (at, count) => new OutsideData(`${count} bytes at ${hexadecimal(at)}`);

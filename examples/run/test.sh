@@ -287,12 +287,14 @@ header_in_c() {
     succeeds "calls.c" "${checked[@]}" "$here/calls.c" "$room/lib/libsfi_run.a" -o "$room/calls"
     succeeds "threads.c" "${checked[@]}" "$here/threads.c" "$room/lib/libsfi_run.a" -o "$room/threads"
     succeeds "memory.c" "${checked[@]}" "$here/memory.c" "$room/lib/libsfi_run.a" $wrapped -o "$room/memory"
+    succeeds "modules.c" "${checked[@]}" "$here/modules.c" "$room/lib/libsfi_run.a" $wrapped -o "$room/modules"
     printf '%s\n' '.sandbox 256' '.gate post 4' '.gate exit 0' 'li a0, 5' 'la a1, sum' 'call post' 'on: j on' \
         'sum: mv t0, a0' 'add a0, a0, a1' 'mv a1, t0' ret >"$room/on.s"
     for format in $formats; do
         image "$room/on.s" "$format" on
         says_so "single calls, format $format" "all is so" "$room/calls" "$room/on.image"
         says_so "four threads and one world, format $format" "10000 steps" "$room/threads" "$room/on.image" 10000
+        says_so "four threads and worlds of one module, format $format" "40000 steps" "$room/modules" "$room/on.image" 10000
         image "$here/../hi.s" "$format" "hi_$format"
         images+=("$room/hi_$format.image")
     done

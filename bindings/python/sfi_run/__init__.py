@@ -196,6 +196,20 @@ def _bytes(data: bytes) -> bytes:
     return memoryview(data).tobytes()
 
 
+def _make(make: Callable[..., int], image: bytes, made: Any) -> None:
+    """Has a call of the library make something of an image, or raises why there is none."""
+    verdict = _library.Verdict()
+    status = make(image, len(image), made, ctypes.byref(verdict))
+    if status == 1:
+        raise Refused(verdict.findings, Finding(verdict.sandbox, verdict.address, verdict.rule))
+    if status == 2:
+        raise NoImage(verdict.layout_fault)
+    if status == 3:
+        raise MemoryError("there was no memory for the world of the image")
+    if status:
+        raise RuntimeError(f"the library answered with status {status}, which this package doesn't know")
+
+
 class World:
     """The sandboxes of an image. Any thread may use it: a lock sees to it that one call is made at a time. A loop over `events`
     is many calls: threads that share a sandbox want a lock of their own around it. A forked child can't use the world of its
@@ -206,21 +220,16 @@ class World:
         """Checks the image's own bytes (`bytes.fromhex` of what `sfi build` prints), and makes the world of its sandboxes, each
         ready at its start. Raises Refused or NoImage where it isn't accepted, MemoryError where there is no memory for it,
         TypeError where it is no bytes, and OSError where there is no library."""
-        image = _bytes(image)
-        self._raw, verdict = _library.World(), _library.Verdict()
-        self._calls = library or _library.default()
+        image, calls = _bytes(image), library or _library.default()
+        self._begin(calls, lambda at: _make(calls["load"], image, at))
+
+    def _begin(self, calls: Library, make: Callable[[Any], None]) -> None:
+        """Begins as what `make` makes at the address that it is given."""
+        self._raw, self._calls = _library.World(), calls
         self._process = os.getpid()
         self._lock = threading.RLock()  # a collection in the midst of a call may free another world, and this one never
         self._at = ctypes.byref(self._raw)
-        status = self._calls["load"](image, len(image), self._at, ctypes.byref(verdict))
-        if status == 1:
-            raise Refused(verdict.findings, Finding(verdict.sandbox, verdict.address, verdict.rule))
-        if status == 2:
-            raise NoImage(verdict.layout_fault)
-        if status == 3:
-            raise MemoryError("there was no memory for the world of the image")
-        if status:
-            raise RuntimeError(f"the library answered with status {status}, which this package doesn't know")
+        make(self._at)
         self._count = self._calls["count"](self._at)
         self._moves = itertools.count(1)  # each reply, stop and entry has its number
         self._gone_on = [0] * self._count  # the last one of each sandbox

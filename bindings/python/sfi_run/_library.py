@@ -21,6 +21,11 @@ class World(ctypes.Structure):
     _fields_ = [("held", _WORD), ("at", ctypes.c_void_p)]
 
 
+class Module(ctypes.Structure):
+    """`struct sfi_run_module`, which begins as zeros."""
+    _fields_ = [("held", _WORD), ("at", ctypes.c_void_p)]
+
+
 class Console(ctypes.Structure):
     """`struct sfi_run_console`, which begins as zeros."""
     _fields_ = [("held", _WORD), ("at", ctypes.c_void_p)]
@@ -49,6 +54,7 @@ class Registers(ctypes.Structure):
 Arguments = _WORD * 8
 
 _WORLD = ctypes.POINTER(World)
+_MODULE = ctypes.POINTER(Module)
 _CONSOLE = ctypes.POINTER(Console)
 _EVENT = ctypes.POINTER(Event)
 _CALLS: dict[str, tuple[Any, list[Any]]] = {
@@ -56,6 +62,9 @@ _CALLS: dict[str, tuple[Any, list[Any]]] = {
     "load": (_WORD, [_BYTES, _SIZE, _WORLD, ctypes.POINTER(Verdict)]),
     "free": (None, [_WORLD]),
     "count": (_SIZE, [_WORLD]),
+    "module_new": (_WORD, [_BYTES, _SIZE, _MODULE, ctypes.POINTER(Verdict)]),
+    "module_free": (None, [_MODULE]),
+    "instance": (ctypes.c_bool, [_MODULE, _WORLD]),
     "export": (_WORD, [_BYTES, _SIZE, _WORD, _BYTES, _SIZE, ctypes.POINTER(_WORD)]),
     "import": (_WORD, [_BYTES, _SIZE, _WORD, _BYTES, _SIZE, ctypes.POINTER(_WORD)]),
     "api": (_WORD, [_BYTES, _SIZE, _WORD, ctypes.POINTER(_WORD)]),

@@ -64,8 +64,11 @@ class Plugin:
         """Loads the image, and runs the sandbox of that number through its start, which has to exit. A handler gets each call of
         the gate of its name, and answers its result; those whose name the image doesn't import are never called. A call has
         at most `steps` steps. Raises what World does, and NotReturned."""
-        self.image, self.steps, self._library = bytes(memoryview(image)), steps, library
-        self.world = World(self.image, library)
+        image = bytes(memoryview(image))
+        self._begin(image, library, World(image, library), number, steps, handlers)
+
+    def _begin(self, image: bytes, library: Library | None, world: World, number: int, steps: int, handlers: dict[str, Handler]) -> None:
+        self.image, self.steps, self._library, self.world = image, steps, library, world
         self.sandbox = self.world[number]
         self._handlers: dict[int, Handler] = {}
         for name, handler in handlers.items():

@@ -4,7 +4,7 @@ import unittest
 
 from test_sfi_run import CODE, SMALLEST, built  # which also finds the package
 import sfi_run
-from sfi_run import names
+from sfi_run import modules, names
 
 INIT_COUNT = 32  # where the first sandbox's number of first data bytes lies
 # At its start it exits. sum returns the sum of its arguments, twice the double of the answer to a call of ask.
@@ -94,6 +94,25 @@ class Plugins(unittest.TestCase):
                 calls[0].reply(0)
             waiting.reply(7)
             self.assertEqual(plugin.sandbox.turn(1000).a0, 14)
+
+    def test_modules(self):
+        with modules.Module(self.image) as module:
+            worlds = [module.world() for _ in range(3)]
+            first, second = (module.instance(ask=lambda call: call.a0 + 1) for _ in range(2))
+        with self.assertRaisesRegex(ValueError, "closed"):
+            module.world()
+        worlds[0].close()
+        data = first.sandbox.data.base
+        first.sandbox.write(data, b"mine")
+        self.assertEqual((first.sum(2, 3), second.twice(4)), (5, 10))
+        with sfi_run.World(self.image) as loaded:
+            for world in (worlds[1], loaded):
+                self.assertEqual((world[0].read(data, 4), world[0].steps, world[0].registers), (loaded[0].read(data, 4), 0, loaded[0].registers))
+        self.assertEqual(first.sandbox.read(data, 4), b"mine")
+        self.assertNotEqual(second.sandbox.read(data, 4), b"mine")
+        for image, error in ((self.image[1:], sfi_run.NoImage), (5, TypeError)):
+            with self.assertRaises(error):
+                modules.Module(image)
 
 
 if __name__ == "__main__":

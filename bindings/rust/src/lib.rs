@@ -26,6 +26,7 @@ use std::fmt;
 use std::ptr;
 
 pub mod console;
+pub mod modules;
 pub mod names;
 mod sys;
 pub use sys::{Region, Registers};
@@ -112,14 +113,23 @@ impl fmt::Display for CallError {
 }
 
 impl LoadError {
-    fn refused(verdict: &sys::Verdict) -> LoadError {
-        LoadError::Refused {
-            findings: verdict.findings,
-            first: Finding {
-                sandbox: verdict.sandbox,
-                address: verdict.address,
-                rule: verdict.rule,
-            },
+    /// What the status and the verdict of `make` say, which is called if the library is of this crate's version.
+    fn of(make: impl FnOnce(&mut sys::Verdict) -> u32) -> Result<(), LoadError> {
+        sys::has_this_version().map_err(LoadError::OtherVersion)?;
+        let mut verdict = sys::Verdict::default();
+        match make(&mut verdict) {
+            0 => Ok(()),
+            1 => Err(LoadError::Refused {
+                findings: verdict.findings,
+                first: Finding {
+                    sandbox: verdict.sandbox,
+                    address: verdict.address,
+                    rule: verdict.rule,
+                },
+            }),
+            2 => Err(LoadError::NoImage(verdict.layout_fault)),
+            3 => Err(LoadError::NoMemory),
+            status => unreachable!("a library of this version: status {status}"),
         }
     }
 }
@@ -247,24 +257,18 @@ impl World {
             held: 0,
             at: ptr::null_mut(),
         };
-        // SAFETY: it takes nothing.
-        let version = unsafe { sys::sfi_run_version() };
-        if version / 256 != sys::VERSION_NUMBER / 256 {
-            return Err(LoadError::OtherVersion(version));
-        }
-        let mut verdict = sys::Verdict::default();
         // SAFETY: the bytes can be read, a world of zeros is none, and the verdict can be written.
-        match unsafe { sys::sfi_run_load(image.as_ptr(), image.len(), &mut raw, &mut verdict) } {
-            0 => {
-                // SAFETY: as above.
-                let count = unsafe { sys::sfi_run_count(&mut raw) } as u32;
-                Ok(World { raw, count })
-            }
-            1 => Err(LoadError::refused(&verdict)),
-            2 => Err(LoadError::NoImage(verdict.layout_fault)),
-            3 => Err(LoadError::NoMemory),
-            status => unreachable!("a library of this version: status {status}"),
-        }
+        LoadError::of(|verdict| unsafe {
+            sys::sfi_run_load(image.as_ptr(), image.len(), &mut raw, verdict)
+        })?;
+        Ok(World::of(raw))
+    }
+
+    /// That of a world that is there.
+    fn of(mut raw: sys::World) -> World {
+        // SAFETY: nothing else uses it.
+        let count = unsafe { sys::sfi_run_count(&mut raw) } as u32;
+        World { raw, count }
     }
 
     /// How many sandboxes there are: 1 to 16.

@@ -8,6 +8,12 @@ pub struct World {
 }
 
 #[repr(C)]
+pub struct Module {
+    pub held: u32,
+    pub at: *mut c_void,
+}
+
+#[repr(C)]
 pub struct Console {
     pub held: u32,
     pub at: *mut c_void,
@@ -76,6 +82,14 @@ pub struct Registers {
 
 extern "C" {
     pub fn sfi_run_version() -> u32;
+    pub fn sfi_run_module_new(
+        image: *const u8,
+        length: usize,
+        module: *mut Module,
+        verdict: *mut Verdict,
+    ) -> u32;
+    pub fn sfi_run_module_free(module: *mut Module);
+    pub fn sfi_run_instance(module: *mut Module, world: *mut World) -> bool;
     pub fn sfi_run_load(
         image: *const u8,
         length: usize,
@@ -167,4 +181,15 @@ extern "C" {
         registers: *const Registers,
     ) -> bool;
     pub fn sfi_run_data(world: *mut World, sandbox: u32, data: *mut Region) -> bool;
+}
+
+/// Whether the library agrees with this crate's version in major and minor; if not, which it has.
+pub fn has_this_version() -> Result<(), u32> {
+    // SAFETY: it takes nothing.
+    let version = unsafe { sfi_run_version() };
+    if version / 256 == VERSION_NUMBER / 256 {
+        Ok(())
+    } else {
+        Err(version)
+    }
 }

@@ -1,4 +1,5 @@
 //! Tests of the crate. The addresses, registers and numbers that are wanted are those of docs/IMAGE.md and docs/GATES.md.
+use sfi_run::modules::Module;
 use sfi_run::{Call, CallError, Cause, Event, Finding, LoadError, Region, Sandbox, World};
 use std::env;
 use std::io::Write;
@@ -399,4 +400,40 @@ fn threads() {
     }
     let after = world.lock().unwrap().sandbox(0).unwrap().steps();
     assert_eq!(after, before + 4 * 100 * 10);
+}
+
+/// The worlds of a module are what the image's is, share nothing that changes, and outlive it in other threads.
+#[test]
+fn modules() {
+    let image = built(LOOPS);
+    let mut module = Module::new(&image).unwrap();
+    let mut first = module.instance().unwrap();
+    let mut loaded = World::load(&image).unwrap();
+    let data = loaded.sandbox(0).unwrap().data();
+    first.sandbox(0).unwrap().turn(1000);
+    first.sandbox(0).unwrap().write(data.base, b"mine").unwrap();
+    let mut second = module.instance().unwrap();
+    for world in [&mut second, &mut loaded] {
+        let mut sandbox = world.sandbox(0).unwrap();
+        assert_eq!(
+            (sandbox.steps(), sandbox.read_vec(data.base, 4).unwrap()),
+            (0, vec![0; 4])
+        );
+    }
+    let worlds: Vec<World> = (0..4).map(|_| module.instance().unwrap()).collect();
+    drop(module);
+    let threads = worlds.into_iter().map(|mut world| {
+        std::thread::spawn(move || matches!(world.sandbox(0).unwrap().turn(1000), Event::Call(_)))
+    });
+    for thread in threads.collect::<Vec<_>>() {
+        assert!(thread.join().unwrap());
+    }
+    assert_eq!(
+        second.sandbox(0).unwrap().registers(),
+        loaded.sandbox(0).unwrap().registers()
+    );
+    assert!(matches!(
+        Module::new(&image[1..]),
+        Err(LoadError::NoImage(1))
+    ));
 }

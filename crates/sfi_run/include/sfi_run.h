@@ -13,9 +13,10 @@
  * accepted code by other means (sfi.h) has to: where it steps over an ebreak, or in the third format completes or steps
  * over an access with a byte in a guard zone, code can leave its sandbox.
  *
- * The calls read nothing but their arguments, the world and the console, keep nothing elsewhere, start no thread, and read
- * and write no file. sfi_run_load takes memory by malloc and realloc, for the world of an accepted image alone; sfi_run_load
- * and sfi_run_free give it back by free; the calls of a console do so, too, as they say; the other calls do neither. Each
+ * The calls read nothing but their arguments, the world, the console and the module, keep nothing elsewhere, start no thread,
+ * and read and write no file. sfi_run_load takes memory by malloc and realloc, for the world of an accepted image alone;
+ * sfi_run_load and sfi_run_free give it back by free; the calls of a module and of a console do so, too, as they say; the other
+ * calls do neither. Each
  * returns: sfi_run_turn, sfi_run_until, sfi_run_call and sfi_run_console_turn after at most the steps that they were given.
  * A thread with 64 KiB of stack had room for each where that was measured.
  *
@@ -28,7 +29,7 @@
  *   struct may be freed twice: after the first time it holds no world. A world that goes out of use is freed first, or its
  *   memory is lost.
  * - One call at a time uses a world. Any thread may make it; where two threads use a world, a lock, a join or the like
- *   orders their calls, also those that only look. Calls on different worlds may be made at once.
+ *   orders their calls, also those that only look. Calls on different worlds may be made at once, also on those of one module.
  * - No call is made in a signal handler, nor in the forked child of a process that had threads. None is left by longjmp,
  *   by a C++ exception or by ending its thread: during a call, also one that only looks, the struct says that there is no
  *   world, and so the world of a call that is left is lost. What bounds the time of a turn is the number of its steps.
@@ -36,7 +37,7 @@
  *   written, and these are fewer than PTRDIFF_MAX. What the arguments of a call point to doesn't overlap. No value has to
  *   be in what a call is to write.
  * - Nothing else reads or writes what the arguments point to during the call: no thread, and no other process that shares
- *   the memory. sfi_run_load reads the image twice, to check it and to copy it: an image in a mapped file (mmap) that
+ *   the memory. sfi_run_load and sfi_run_module_new read the image twice, to check it and to copy it: an image in a mapped file (mmap) that
  *   changes in between isn't what was checked, and the theorem says nothing of it. Read the file into memory of your own.
  * - What malloc, realloc and free are to the library's heap.c is one allocator, which keeps what the C standard says.
  *
@@ -81,6 +82,15 @@ struct sfi_run_world {
     void *at;
 };
 #define SFI_RUN_NO_WORLD {0, NULL}
+
+/* A module, or none: an image that is checked and decoded once, for many worlds. Begin with
+ * `struct sfi_run_module module = SFI_RUN_NO_MODULE;`. What is said above of how a world is kept, moved, freed and used by
+ * threads holds of it, too. Both fields are the library's own. */
+struct sfi_run_module {
+    uint32_t held;
+    void *at;
+};
+#define SFI_RUN_NO_MODULE {0, NULL}
 
 /* What became of an image that was to be loaded. */
 enum sfi_run_status {
@@ -167,6 +177,25 @@ uint32_t sfi_run_load(const uint8_t *image, size_t length, struct sfi_run_world 
 /* Frees the world. There is none then, and another image may be loaded. Where there was none, nothing happens. */
 void sfi_run_free(struct sfi_run_world *world);
 
+/*
+ * Frees the module that was there, checks the image, and where it is accepted makes its module. The image is copied. Returns,
+ * and writes to *verdict, what sfi_run_load does; unless that is SFI_RUN_LOADED there is no module. It takes memory for an
+ * accepted image alone.
+ */
+uint32_t sfi_run_module_new(const uint8_t *image, size_t length, struct sfi_run_module *module, struct sfi_verdict *verdict);
+
+/* Frees the module. Worlds that were made of it go on as they are. Where there was none, nothing happens. */
+void sfi_run_module_free(struct sfi_run_module *module);
+
+/*
+ * Frees the world that was there, and makes one of the module: what sfi_run_load makes of the image, but nothing is checked or
+ * decoded anew. The worlds of a module share its decoded code and the first data bytes of its image, which no call writes, and
+ * count by atomic numbers how many they are: so each may be used, moved and freed by a thread of its own, in any order and before
+ * or after the module, and the last one gives the memory back. What a world can change it has alone. Returns false where there is
+ * no module or no memory; there is no world then.
+ */
+bool sfi_run_instance(struct sfi_run_module *module, struct sfi_run_world *world);
+
 /* How many sandboxes there are, 1 to 16; 0 where there is no world. They are numbered from 0, in the image's order. */
 size_t sfi_run_count(struct sfi_run_world *world);
 
@@ -247,7 +276,7 @@ bool sfi_run_exit(struct sfi_run_world *world, uint32_t sandbox, uint32_t number
 bool sfi_run_stop(struct sfi_run_world *world, uint32_t sandbox);
 
 /*
- * Takes a sandbox back to what sfi_run_load made of it, whatever it did and wherever it stands: its data are those of the
+ * Takes a sandbox back to what sfi_run_load or sfi_run_instance made of it, whatever it did and wherever it stands: its data are those of the
  * image and then zeros, its pc and registers are those of its start, it is ready, and its count of steps is 0. So a plug-in
  * begins anew for the next one who calls it: nothing is left of what it kept in its data, and no other sandbox changes. What
  * a console keeps of it stays, which is its output, its place in the input and its mailbox: make a new console for a new user.

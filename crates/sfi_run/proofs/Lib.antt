@@ -1,5 +1,6 @@
 pub mod Prelude
 pub mod AsBox
 pub mod AsConsoleBox
+pub mod AsModuleBox
 pub mod Loaded
 pub mod Telling

@@ -14,7 +14,7 @@ ghost use Rattle.sfi_run.specs.Loading.{first_world, fault_number, Means};
 use crate::holding::SfiRunWorld;
 use rv_mem::Pages;
 use sfi_check::{SfiVerdict, Status, StreamAnswer, accept, judge};
-use sfi_host::World;
+use sfi_host::{Module, World};
 use std::alloc::{AllocError, Global};
 
 /// Why there is no world.
@@ -41,14 +41,46 @@ impl LoadFault {
     }
 }
 
-// The world of an accepted image, in its box. An error means that memory ran out.
-fn boxed(alloc: Global, image: &[u8]) -> Result<Box<World<Pages>>, AllocError>
+// The module of an accepted image, in its box. An error means that memory ran out.
+fn boxed(alloc: Global, image: &[u8]) -> Result<Box<Module>, AllocError>
     requires { (ps : List Part) × IsAccepted image.now ps }
-    ensures { IfOk result (λ b. (ps : List Part) × IsAccepted image.now ps
-        × (b.value ≡ first_world ps)) }
+    ensures { IfOk result (λ b. IsAccepted image.now b.value) }
 {
     let accepted = accept(alloc, image)?;
-    let Ok(world) = World::load(alloc, &accepted, Pages::new(alloc)) else {
+    let made = Module::of(alloc, &accepted)?;
+    let Ok(boxed) = Box::new(alloc, made) else {
+        return Err(AllocError);
+    };
+    Ok(boxed)
+}
+
+/// The module of the image, if that is its verdict.
+pub(crate) fn module_of(
+    alloc: Global,
+    image: &[u8],
+    answer: StreamAnswer,
+) -> Result<Box<Module>, LoadFault>
+    requires judged { IsVerdictOn image.now true answer }
+    requires read { answer ≢ StreamAnswer.ReadFault }
+    ensures made { IfOk result (λ b. IsAccepted image.now b.value) }
+    ensures fault { IfErr result (Means image.now) }
+{
+    match answer {
+        StreamAnswer::Accepted { .. } => match boxed(alloc, image) {
+            Ok(boxed) => Ok(boxed),
+            Err(_) => Err(LoadFault::Memory),
+        },
+        StreamAnswer::Findings { .. } => Err(LoadFault::Refused),
+        StreamAnswer::Layout(_) => Err(LoadFault::NoImage),
+        StreamAnswer::ReadFault => unreachable!(),
+    }
+}
+
+/// A world of a module, in its box. An error means that memory ran out.
+pub(crate) fn instance(alloc: Global, from: &Module) -> Result<Box<World<Pages>>, AllocError>
+    ensures { IfOk result (λ b. b.value ≡ first_world from.now) }
+{
+    let Ok(world) = from.instance(alloc, Pages::new(alloc)) else {
         return Err(AllocError);
     };
     let Ok(boxed) = Box::new(alloc, world) else {
@@ -69,14 +101,12 @@ pub(crate) fn load(
         × (b.value ≡ first_world ps)) }
     ensures fault { IfErr result (Means image.now) }
 {
-    match answer {
-        StreamAnswer::Accepted { .. } => match boxed(alloc, image) {
+    match module_of(alloc, image, answer) {
+        Ok(from) => match instance(alloc, &from) {
             Ok(world) => Ok(world),
             Err(_) => Err(LoadFault::Memory),
         },
-        StreamAnswer::Findings { .. } => Err(LoadFault::Refused),
-        StreamAnswer::Layout(_) => Err(LoadFault::NoImage),
-        StreamAnswer::ReadFault => unreachable!(),
+        Err(fault) => Err(fault),
     }
 }
 

@@ -194,6 +194,26 @@ uint32_t sfi_run_load(const uint8_t *image, size_t length, struct sfi_run_world 
     return status;
 }
 
+/* A module of the one image has nothing but that it is there. */
+uint32_t sfi_run_module_new(const uint8_t *image, size_t length, struct sfi_run_module *module, struct sfi_verdict *verdict) {
+    struct sfi_run_world world = SFI_RUN_NO_WORLD;
+    const uint32_t status = sfi_run_load(image, length, &world, verdict);
+    sfi_run_free(&world);
+    module->held = status == SFI_RUN_LOADED;
+    module->at = NULL;
+    return status;
+}
+
+void sfi_run_module_free(struct sfi_run_module *module) {
+    module->held = 0;
+    module->at = NULL;
+}
+
+bool sfi_run_instance(struct sfi_run_module *module, struct sfi_run_world *world) {
+    sfi_run_free(world);
+    return module->held && sfi_native_load(world) == SFI_RUN_LOADED;
+}
+
 size_t sfi_run_count(struct sfi_run_world *world) {
     return world->held ? SFI_SANDBOXES : 0;
 }

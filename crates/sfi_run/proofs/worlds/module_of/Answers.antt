@@ -1,5 +1,5 @@
 use Rattle.sfi_run.proofs.Loaded.{accepted_by, refused_by, no_image_by}
-use Rattle.sfi_run.proofs.worlds.load.Goals as goal
+use Rattle.sfi_run.proofs.worlds.module_of.Goals as goal
 
 pub boxed-requires : goal.boxed-requires
 boxed-requires c = accepted_by c.args.image.now c.args.answer _ _ c.requires.judged c.in-Accepted.is

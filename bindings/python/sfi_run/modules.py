@@ -1,0 +1,72 @@
+"""Images that are checked and decoded once, for many worlds:
+
+    from sfi_run.modules import Module
+
+    with Module(image) as module:
+        plugins = [module.instance(log=lambda call: print(call.a0)) for _ in range(1000)]
+    print(plugins[0].add(2, 3))
+
+The worlds of a module share its decoded code, which nothing writes, and each has its data, registers and steps for itself. They
+may be closed in any order, and after the module.
+"""
+from __future__ import annotations
+
+import ctypes
+import os
+import threading
+from types import TracebackType
+from typing import Any
+
+from . import Library, World, _bytes, _library, _make
+from .names import Handler, Plugin
+
+
+class Module:
+    """An image, checked and decoded. Any thread may use it, and its worlds: a lock sees to it that one call is made at a time. A
+    forked child can't use that of its parent."""
+
+    def __init__(self, image: bytes, library: Library | None = None) -> None:
+        """Checks and decodes the image. Raises what World does."""
+        self.image, self._calls = _bytes(image), library or _library.default()
+        self._raw, self._lock, self._process = _library.Module(), threading.RLock(), os.getpid()
+        self._at = ctypes.byref(self._raw)
+        _make(self._calls["module_new"], self.image, self._at)
+        self._is_open = True
+
+    def _make_world(self, at: Any) -> None:
+        if os.getpid() != self._process:
+            raise RuntimeError("a module is used by the process that made it alone, and not by a forked child")
+        with self._lock:
+            if not self._is_open:
+                raise ValueError("the module is closed")
+            if not self._calls["instance"](self._at, at):
+                raise MemoryError("there was no memory for a world of the module")
+
+    def world(self) -> World:
+        """A world of the image: what World makes of its bytes, and nothing is checked or decoded anew."""
+        made = World.__new__(World)
+        made._begin(self._calls, self._make_world)
+        return made
+
+    def instance(self, *, number: int = 0, steps: int = 1_000_000, **handlers: Handler) -> Plugin:
+        """A plug-in in a world of its own: what Plugin makes of the image."""
+        made = Plugin.__new__(Plugin)
+        made._begin(self.image, self._calls, self.world(), number, steps, handlers)
+        return made
+
+    def close(self) -> None:
+        """Frees the module. Its worlds stay."""
+        with self._lock:
+            self._is_open = False
+            self._calls["module_free"](self._at)
+
+    def __enter__(self) -> Module:
+        return self
+
+    def __exit__(self, kind: type[BaseException] | None, value: BaseException | None, trace: TracebackType | None) -> None:
+        self.close()
+
+    def __del__(self) -> None:
+        # A forked child has a copy of the memory, which ends with it.
+        if getattr(self, "_is_open", False) and os.getpid() == self._process:
+            self.close()

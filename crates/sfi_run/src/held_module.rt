@@ -1,0 +1,74 @@
+//! A module behind a pointer, or none.
+ghost use Rattle.std.specs.Prelude.{◌≡◌, List, Option, Some, None};
+ghost use Rattle.sfi_image.specs.Spelling.{Part};
+ghost use Rattle.sfi_run.specs.HeldModule.{module_owns, module_coded};
+
+use crate::parts::Parts;
+use sfi_host::Module;
+use std::alloc::Global;
+use std::marker::Model;
+
+/// A module behind a pointer, or none. C sees an address of which it reads nothing. One that is
+/// dropped leaves its module behind. It may go from one thread to another.
+#[repr(C)]
+#[derive(Drop)]
+pub struct HeldModule {
+    at: *mut u8,
+    alloc: Global,
+    pub ghost parts: { Option (List Part) } by { module_coded },
+}
+
+impl Model for HeldModule {
+    ghost also_owns = { λ h. module_owns h.alloc h.at h.parts };
+}
+
+// What is in the box is plain data, and any thread may free it.
+unsafe impl Send for HeldModule {}
+
+impl HeldModule {
+    /// No module.
+    pub(crate) fn none(alloc: Global) -> HeldModule
+        ensures { result.parts ≡ None }
+    {
+        HeldModule {
+            at: std::ptr::null_mut(),
+            alloc,
+        }
+    }
+
+    fn of_parts(parts: Parts<Module, Global>) -> HeldModule
+        ensures { result.parts ≡ Some parts.value }
+    {
+        let Parts { ptr, alloc } = parts;
+        HeldModule {
+            at: ptr.cast(),
+            alloc,
+        }
+    }
+
+    fn into_parts(self) -> Parts<Module, Global>
+        requires { (ps : List Part) × (self.parts ≡ Some ps) }
+        ensures { Some result.value ≡ self.parts }
+    {
+        let HeldModule { at, alloc } = self;
+        Parts {
+            ptr: at.cast(),
+            alloc,
+        }
+    }
+
+    /// The module in the box.
+    pub(crate) fn of(boxed: Box<Module>) -> HeldModule
+        ensures { result.parts ≡ Some boxed.value }
+    {
+        HeldModule::of_parts(Parts::of(boxed))
+    }
+
+    /// The box again, where there is a module.
+    pub(crate) fn into_box(self) -> Box<Module>
+        requires { (ps : List Part) × (self.parts ≡ Some ps) }
+        ensures { Some result.value ≡ self.parts }
+    {
+        self.into_parts().into_box()
+    }
+}
