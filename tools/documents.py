@@ -24,6 +24,7 @@ class Option:
     is_repeated: bool
     about: str
     is_word: bool = False  # a text that has to be given, without the option's name
+    is_needed: bool = False  # an option that has to be given
 
 
 @dataclass(frozen=True)
@@ -44,9 +45,9 @@ def texts(code):
 
 def option_of(block, said):
     name, about = re.search(r'name: "(\w+)"', block)[1], re.search(r"about: help::(\w+)", block)[1]
-    value = re.search(r'Takes::(Texts?|Count|Number|Word)\b[^"]*"([^"]*)"', block)
+    value = re.search(r'Takes::(Texts?|Count|Number|Word|Needed)\b[^"]*"([^"]*)"', block)
     kind = value[1] if value else ""
-    return Option(name, value[2] if value else "", kind == "Texts", said[about], kind == "Word")
+    return Option(name, value[2] if value else "", kind == "Texts", said[about], kind == "Word", kind == "Needed")
 
 
 def commands(code, said):
@@ -76,7 +77,7 @@ def spelled(option):
     if option.is_word:
         return option.value
     words = f"--{option.name}" + (f" {option.value}" if option.value else "")
-    return f"[{words}]" + (".." if option.is_repeated else "")
+    return words if option.is_needed else f"[{words}]" + (".." if option.is_repeated else "")
 
 
 def table(found):
@@ -111,6 +112,8 @@ def roff(text):
 def signature(option):
     if option.is_word:
         return f".I {option.value}"
+    if option.is_needed:
+        return f".BI \\-\\-{option.name} \" {option.value}\""
     if not option.value:
         return f".RB [ \\-\\-{option.name} ]"
     return f".RB [ \\-\\-{option.name}\n.IR {option.value} ]" + ".\\|." * option.is_repeated
