@@ -4,7 +4,7 @@
 
 springing=(--springboards)
 
-# Each gate's call is compared with interrupts at all of its instructions, which come every 1000.
+# Calls of each gate, with an interrupt every 1000 instructions, so that one comes at each instruction of a call.
 calls_source() { # format
     cat <<'END'
 .sandbox 4096

@@ -33,9 +33,12 @@ class Module:
         _make(self._calls["module_new"], self.image, self._at)
         self._is_open = True
 
-    def _make_world(self, at: Any) -> None:
+    def _made_here(self) -> None:
         if os.getpid() != self._process:
             raise RuntimeError("a module is used by the process that made it alone, and not by a forked child")
+
+    def _make_world(self, at: Any) -> None:
+        self._made_here()
         with self._lock:
             if not self._is_open:
                 raise ValueError("the module is closed")
@@ -56,6 +59,7 @@ class Module:
 
     def close(self) -> None:
         """Frees the module. Its worlds stay."""
+        self._made_here()
         with self._lock:
             self._is_open = False
             self._calls["module_free"](self._at)

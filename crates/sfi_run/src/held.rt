@@ -23,7 +23,8 @@ impl Model for Held {
     ghost also_owns = { λ h. held_owns h.alloc h.at h.world };
 }
 
-// What is in the box is plain data, and any thread may free it.
+// What is in the box is data that no other thread writes, but for the counts of owners, which are atomic;
+// any thread may free it.
 unsafe impl Send for Held {}
 
 impl Held {
@@ -37,6 +38,7 @@ impl Held {
         }
     }
 
+    // The world of these parts.
     fn of_parts(parts: Parts<World<Pages>, Global>) -> Held
         ensures { result.world ≡ Some parts.value }
     {
@@ -47,6 +49,7 @@ impl Held {
         }
     }
 
+    // The parts of the world in it.
     fn into_parts(self) -> Parts<World<Pages>, Global>
         requires { (w : Sandboxes) × (self.world ≡ Some w) }
         ensures { Some result.value ≡ self.world }

@@ -22,7 +22,8 @@ impl Model for HeldModule {
     ghost also_owns = { λ h. module_owns h.alloc h.at h.parts };
 }
 
-// What is in the box is plain data, and any thread may free it.
+// What is in the box is data that no other thread writes, but for the counts of owners, which are atomic;
+// any thread may free it.
 unsafe impl Send for HeldModule {}
 
 impl HeldModule {
@@ -36,6 +37,7 @@ impl HeldModule {
         }
     }
 
+    // The module of these parts.
     fn of_parts(parts: Parts<Module, Global>) -> HeldModule
         ensures { result.parts ≡ Some parts.value }
     {
@@ -46,6 +48,7 @@ impl HeldModule {
         }
     }
 
+    // The parts of the module in it.
     fn into_parts(self) -> Parts<Module, Global>
         requires { (ps : List Part) × (self.parts ≡ Some ps) }
         ensures { Some result.value ≡ self.parts }

@@ -54,7 +54,7 @@ CleanCallsTyped = (sandbox : ℕ) (p : Part) → IsCleanPart sandbox p → Calls
 -- ---- where guard zones hold bytes
 
 -- In code in bundles every run is contained, whatever the guard zones hold: nothing is asked of them.
--- In code in words this isn't so, and it is left out: `addi x2, x2, 2047` and a load on x2, one after
+-- In code in words this isn't so, and the law leaves it out: `addi x2, x2, 2047` and a load on x2, one after
 -- the other, are accepted any number of times, since where x2 has left the data's surroundings the load
 -- traps. If a guard zone holds bytes, it needn't, and x2 walks on past the zone.
 abbrev pub CleanRunsContained : Type 0
@@ -64,7 +64,7 @@ CleanRunsContained =
 -- ---- with direct gates
 
 -- Every run is safe, whichever of the listed gates the host has made direct: no byte of a springboard is
--- executed as the sandbox's, and all else is as with the image's own ecalls.
+-- executed as the sandbox's, and each turn is as safe as with the image's own ecalls.
 abbrev pub CleanRunsDirectly : Type 0
 CleanRunsDirectly =
     (sandbox : ℕ) (p : Part) (direct : List ℕ) → IsCleanPart sandbox p → RunsDirectly p direct

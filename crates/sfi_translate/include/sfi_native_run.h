@@ -14,7 +14,7 @@
  * - Only that image is loaded, and named: of other bytes sfi_run_load, sfi_run_module_new, sfi_run_export, sfi_run_import and
  *   sfi_run_api return SFI_NATIVE_OTHER_IMAGE, and the verdict has this status and else zeros.
  * - sfi_run_load, sfi_run_instance and sfi_run_free take memory by calloc and give it back by free: the data's bytes, and 256
- *   bytes a sandbox. A module takes none.
+ *   bytes a sandbox. A module keeps none: sfi_run_module_new takes as much as a load, and gives it back.
  * - sfi_run_until takes a step at a time, from a table, as slowly as sfi_run_turn of libsfi_run.
  */
 #ifndef SFI_NATIVE_RUN_H

@@ -1,4 +1,5 @@
--- A held world may cross threads: what is in its box is plain data, and any thread may free the block.
+-- A held world may cross threads: no other thread writes what is in its box,
+-- but for counts of owners, which are atomic, and any thread may free the block.
 use Rattle.std.proofs.Common.{Option, Some, None}
 use mir.Raw.{raw}
 use base.Fraction.{full_share}

@@ -1,4 +1,5 @@
--- A held module may cross threads: what is in its box is plain data, and any thread may free the block.
+-- A held module may cross threads: no other thread writes what is in its box,
+-- but for counts of owners, which are atomic, and any thread may free the block.
 use Rattle.std.proofs.Common.{List, Option, Some, None}
 use mir.Raw.{raw}
 use base.Fraction.{full_share}
