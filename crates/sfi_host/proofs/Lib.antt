@@ -5,6 +5,7 @@ pub mod Decoding
 pub mod Blocks
 pub mod Passing
 pub mod Ecalls
+pub mod Apart
 pub mod Entered
 pub mod SafeSeats
 pub mod RegionBytes

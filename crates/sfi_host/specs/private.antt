@@ -1,4 +1,5 @@
 -- Words that private contracts and proofs alone cite: no public statement rests on them.
+pub mod Apart
 pub mod Limits
 pub mod Programs
 pub mod Sandboxes

@@ -21,6 +21,8 @@ pub mod laws;
 mod loading;
 mod message;
 mod modules;
+mod pairs;
+mod passed;
 mod places;
 mod program;
 mod region;
