@@ -5,10 +5,12 @@ use Rattle.std.proofs.Math.ListN.{get_or-map}
 use Rattle.std.specs.Arc.{arc_value}
 use Rattle.std.specs.Global.{Global}
 use Rattle.std.specs.declared.sync.Arc.{Arc}
+use Rattle.sfi_host.specs.Owning.{AreOwned}
 use Rattle.sfi_host.specs.Programs.{programs_of, AreDecoded}
 use Rattle.sfi_host.proofs.Asked.{found, seat_at}
 use Rattle.sfi_host.proofs.Decoding.{are_decoded}
 use Rattle.sfi_host.proofs.Neighbours.{slots_are, world_safe, get_set_other, set_itself, neighbours_are}
+use Rattle.sfi_host.proofs.Owned.{still_owned}
 use Rattle.sfi_host.proofs.SafeSeats as keep
 use Rattle.sfi_host.proofs.SameWorld.{get_map, same_bounds}
 use Rattle.sfi_host.proofs.Worlds.{map_get}
@@ -42,7 +44,7 @@ still_enterable w o safe same outside enterable i t at =
 
 -- what the type keeps of a world
 abbrev pub IsKept : Sandboxes → List Program → Type 0
-IsKept w programs = IsSafeWorld w × AreDecoded w programs × AreEnterable w
+IsKept w programs = IsSafeWorld w × AreDecoded w programs × AreEnterable w × AreOwned w
 
 -- the sandbox at that place, which was this slot, is that one now
 pub record AfterTurn (w : Sandboxes) (programs : List Program) (i : ℕ) (old new : Slot) (o : Sandboxes) : Type 0 where
@@ -66,6 +68,7 @@ module _ (m n : Bytes) (items : List Sandbox) (programs : List Program) (i : ℕ
           world_safe m n (seats_of items) i (seat_of x) (seat_of new) inside.0 there stays.others stays.safe stays.bounds,
           are_decoded m n (seats_of items) i (seat_of x) (seat_of new) inside.0 there stays programs inside.1,
           still_enterable w o inside.0 same outside inside.2,
+          still_owned w o same outside inside.3,
         );
         bounds = same;
         outside = outside;

@@ -1,7 +1,6 @@
--- An image whose parts lie apart, in an empty memory: what is where.
-use Rattle.sfi_host.proofs.Prelude.{◌≡◌, ◌≢◌, ℕ, zero, suc, ◌+◌, ◌-◌, ◌%◌, ◌^◌, ◌<◌, ◌≤◌, ◌==◌, ◌⊎◌, inl, inr, ⊎_elim, true, false, List, [], ◌∷◌, ◌++◌, length, get_or, Some, None, slice_get, refl, sym, ap, ◌∙◌, subst, arith, length-append, length-replicate, get_or_from_slice_get, slice_get_within, slice_index, replicate, Contains, AllPairs, empty, get-empty, cases_lt, eqb-true, eqb-false, Bytes, byte_at, addresses, with_bytes, added, Span, Part, Holds, AreApart, code_region, guarded_region, spans, IsRightPart, IsRightLayout, InCode, InData, InGuard, first_data, with_part, with_parts}
+-- An image whose parts lie apart, in a memory: what is where.
+use Rattle.sfi_host.proofs.Prelude.{◌≡◌, ◌≢◌, ℕ, zero, suc, ◌+◌, ◌-◌, ◌%◌, ◌^◌, ◌<◌, ◌≤◌, ◌==◌, ◌⊎◌, inl, inr, ⊎_elim, true, false, List, [], ◌∷◌, ◌++◌, length, get_or, Some, slice_get, refl, sym, ap, ◌∙◌, subst, arith, length-append, length-replicate, get_or_from_slice_get, slice_get_within, slice_index, replicate, Contains, AllPairs, cases_lt, eqb-true, eqb-false, Bytes, byte_at, addresses, with_bytes, added, Span, Part, Holds, AreApart, code_region, guarded_region, spans, IsRightPart, IsRightLayout, InCode, InData, InGuard, first_data, with_part, with_parts}
 use Rattle.std.proofs.Math.ListN.{get_or-append}
-use Rattle.std.specs.Ordering.{nat_cmp}
 use Rattle.rv_mem.proofs.Facts.{addresses_are_these, others_stay, written_is_there}
 use Rattle.sfi_image.proofs.Facts.{code_ends}
 
@@ -116,7 +115,7 @@ module _ (m : Bytes) (p : Part) (right : IsRightPart p) where
   data_fits : p.data_base + p.data_size ≤ 2 ^ 32
   data_fits = let above : p.data_base + p.data_size + 4096 ≤ 2 ^ 32 = right.guard_room.above in omega arith
 
-  part_outside : (a : ℕ) → (InCode p a → ⊥) → (InData p a → ⊥) → byte_at (with_part m p) a ≡ byte_at m a
+  pub part_outside : (a : ℕ) → (InCode p a → ⊥) → (InData p a → ⊥) → byte_at (with_part m p) a ≡ byte_at m a
   part_outside a no_code no_data =
       added_outside (added m p.code_base (length p.code) p.code) p.data_base p.data_size p.init a data_fits no_data
       ∙ added_outside m p.code_base (length p.code) p.code a code_fits no_code
@@ -133,7 +132,7 @@ module _ (m : Bytes) (p : Part) (right : IsRightPart p) where
 
 -- ---- all of them
 
-all_outside : (ps : List Part) (m : Bytes) (a : ℕ) → LieApart ps → ((i : ℕ) (q : Part) → slice_get ps i ≡ Some q → (InCode q a → ⊥) × (InData q a → ⊥)) → byte_at (with_parts m ps) a ≡ byte_at m a
+pub all_outside : (ps : List Part) (m : Bytes) (a : ℕ) → LieApart ps → ((i : ℕ) (q : Part) → slice_get ps i ≡ Some q → (InCode q a → ⊥) × (InData q a → ⊥)) → byte_at (with_parts m ps) a ≡ byte_at m a
 all_outside [] m a lie out = refl
 all_outside (p ∷ ps) m a lie out =
     all_outside ps (with_part m p) a (tail p ps lie) (λ i q e. out (suc i) q e)
@@ -170,12 +169,12 @@ has_data ps m i p lie e k below =
 same_part : (ps : List Part) (i j : ℕ) (p q : Part) → i ≡ j → slice_get ps i ≡ Some p → slice_get ps j ≡ Some q → q ≡ p
 same_part ps i j p q same e f = let g : slice_get ps j ≡ Some p = ap (slice_get ps) (sym same) ∙ e in cc
 
-pub has_empty_guards : (ps : List Part) (i : ℕ) (p : Part) → LieApart ps → slice_get ps i ≡ Some p → (a : ℕ) → InGuard p a → byte_at (with_parts empty ps) a ≡ None
-has_empty_guards ps i p lie e a guard =
-    all_outside ps empty a lie (λ j q f. elim (i == j) as (λ t. (i == j) ≡ t → (InCode q a → ⊥) × (InData q a → ⊥)) [
+-- no part has a byte in a guard zone of one of them
+pub guards_stay : (ps : List Part) (m : Bytes) (i : ℕ) (p : Part) → LieApart ps → slice_get ps i ≡ Some p → (a : ℕ) → InGuard p a → byte_at (with_parts m ps) a ≡ byte_at m a
+guards_stay ps m i p lie e a guard =
+    all_outside ps m a lie (λ j q f. elim (i == j) as (λ t. (i == j) ≡ t → (InCode q a → ⊥) × (InData q a → ⊥)) [
       | true ↦ λ t. subst (λ (x : Part). (InCode x a → ⊥) × (InData x a → ⊥)) (sym (same_part ps i j p q (eqb-true i j t) e f))
           (λ c. lie.own i p e a c (guard_in p a (lie.each i p e) guard), λ d. guard_not_data p a (lie.each i p e) guard d)
       | false ↦ λ t. let apart : Apart p q = lie.others i j p q (eqb-false i j t) e f in
           (λ c. apart.guarded_code a (guard_in p a (lie.each i p e) guard) c, λ d. apart.guarded_guarded a (guard_in p a (lie.each i p e) guard) (data_guarded q a (lie.each j q f) d))
     ] refl)
-    ∙ get-empty nat_cmp a

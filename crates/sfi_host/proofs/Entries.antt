@@ -1,13 +1,16 @@
 -- A sandbox that is entered again.
-use Rattle.sfi_host.proofs.Prelude.{◌≡◌, ◌≢◌, ◌⊎◌, inl, inr, ⊎_elim, ◌↔◌, IsTrue, ℕ, suc, ◌+◌, ◌%◌, ◌^◌, ◌<◌, ◌≤◌, ◌==◌, Bool, true, false, List, [], ◌∷◌, ◌++◌, map, length, take, get_or, Some, None, set, slice_get, refl, sym, ap, ◌∙◌, subst, arith, get_or-set_other, same_Some, slice_index, slice_set, cond, empty, map-set, take_more, length-take-le, Bytes, IsMemory, Hart, IsHart, with_register, IsRightLayout, Holds, AreApart, with_guards, Part, HasCode, IsEntry, AllRunSafely, AllCallTyped, Program, Sandbox, MayEnter, MayEnterAt, fresh_hart, with_registers, exit_gate, entered_hart, entered_seat, with_entry_of, with_entry, IsAtEntry, IsEnterable, first_seat, with_parts, AreEntered, HaveFirstData, seat_of, seats_of, world_of, Bounds, Slot, bounds_of, Seat, Sandboxes, slot_of, slots_of, state_in, IsSafeSeat, AreProgramsOf}
+use Rattle.sfi_host.proofs.Prelude.{◌≡◌, ◌≢◌, ◌⊎◌, inl, inr, ⊎_elim, ◌↔◌, IsTrue, ℕ, suc, ◌+◌, ◌%◌, ◌^◌, ◌<◌, ◌≤◌, ◌==◌, Bool, true, false, List, [], ◌∷◌, ◌++◌, map, length, take, get_or, Some, None, set, slice_get, refl, sym, ap, ◌∙◌, subst, arith, get_or-set_other, same_Some, slice_index, slice_set, cond, empty, get-empty, map-set, take_more, length-take-le, Bytes, IsMemory, Hart, IsHart, with_register, IsRightLayout, Holds, AreApart, with_guards, Part, HasCode, IsEntry, AllRunSafely, AllCallTyped, Program, Sandbox, MayEnter, MayEnterAt, fresh_hart, with_registers, exit_gate, entered_hart, entered_seat, with_entry_of, with_entry, IsAtEntry, IsEnterable, first_seat, with_parts, AreEntered, HaveFirstData, seat_of, seats_of, world_of, Bounds, Slot, bounds_of, Seat, Sandboxes, slot_of, slots_of, state_in, IsSafeSeat, AreProgramsOf}
+use Rattle.std.specs.Ordering.{nat_cmp}
 use Rattle.sfi_policy.specs.Formats.{unit}
 use Rattle.sfi_runs.specs.Regions.{IsUnitStart}
 use Rattle.sfi_host.proofs.Asked.{seat_at, slot_is, no_slot}
 use Rattle.sfi_host.proofs.Decoding.{first_decoded}
+use Rattle.sfi_host.proofs.Entered.{lie_apart}
 use Rattle.sfi_host.proofs.Neighbours.{get_set_same}
+use Rattle.sfi_host.proofs.Owned.{first_owned}
 use Rattle.sfi_host.proofs.SafeSeats as keep
 use Rattle.sfi_host.proofs.Changing.{IsKept, AfterTurn, turn_taken}
-use Rattle.sfi_host.proofs.Worlds.{AreFreshOf, fresh_are, fresh_pc, reserved_at, typed_at, entered, first_data_there, world_safe, all_enterable}
+use Rattle.sfi_host.proofs.Worlds.{AreFreshOf, fresh_are, fresh_pc, reserved_at, typed_at, AreFree, entered, first_data_there, world_safe, all_enterable}
 
 -- ---- each sandbox of a world may be entered
 
@@ -21,11 +24,12 @@ pub is_first : (ps : List Part) → IsRightLayout ps → AllRunSafely ps → All
     → (m : Bytes) (seats : List Seat) (programs : List Program) → IsMemory m → m ≡ with_parts empty ps → seats ≡ map first_seat ps → AreProgramsOf ps programs → IsFirst ps m seats programs
 is_first ps layout safe calls m seats programs is_memory bytes are made =
     let memory : IsMemory (with_parts empty ps) = subst IsMemory bytes is_memory in
-    let entries = entered ps layout memory in
+    let free : AreFree empty ps = λ i p e a guard. get-empty nat_cmp a in
+    let entries = entered ps layout empty free memory in
     subst (λ (x : Bytes × List Seat). IsFirst ps x.0 x.1 programs) (λ k. (sym bytes k, sym are k)) (record {
-      kept = (world_safe ps layout memory safe calls, first_decoded ps (with_parts empty ps) programs made entries, all_enterable ps layout memory safe calls);
+      kept = (world_safe ps layout empty free memory safe calls, first_decoded ps (with_parts empty ps) programs made entries, all_enterable ps layout empty free memory safe calls, first_owned ps (lie_apart ps layout).each);
       entered = entries;
-      first_data = first_data_there ps layout;
+      first_data = first_data_there ps empty layout;
     })
 
 -- ---- with which registers

@@ -17,6 +17,7 @@ pub mod Moves
 pub mod SlotSteps
 pub mod Neighbours
 pub mod OwnSteps
+pub mod Owned
 pub mod Plans
 pub mod Continuing
 pub mod Replying
@@ -26,6 +27,9 @@ pub mod SameWorld
 pub mod Serving
 pub mod Stops
 pub mod Changing
+pub mod Adding
+pub mod Copied
+pub mod Meetings
 pub mod Entries
 pub mod Stopping
 pub mod Refilling

@@ -9,13 +9,13 @@ pub get_map : {A B : Type 0} (f : A → B) (xs : List A) (i : ℕ) (x : A) → s
 get_map f xs i x e = slice_get-map f xs i ∙ ap (option_map f) e
 
 -- whose data the address lies in, if any
-abbrev IsIn : List Seat → ℕ → Type 0
+abbrev pub IsIn : List Seat → ℕ → Type 0
 IsIn seats a = (i : ℕ) × (s : Seat) × (slice_get seats i ≡ Some s) × Holds s.bounds.data a
 
-abbrev IsOut : List Seat → ℕ → Type 0
+abbrev pub IsOut : List Seat → ℕ → Type 0
 IsOut seats a = (i : ℕ) (s : Seat) → slice_get seats i ≡ Some s → Holds s.bounds.data a → ⊥
 
-found : (seats : List Seat) (a : ℕ) → IsIn seats a ⊎ IsOut seats a
+pub found : (seats : List Seat) (a : ℕ) → IsIn seats a ⊎ IsOut seats a
 found [] a = inr (λ i s e h. absurd (cc))
 found (x ∷ seats) a = elim (is_in x.bounds.data a) as (λ b. is_in x.bounds.data a ≡ b → IsIn (x ∷ seats) a ⊎ IsOut (x ∷ seats) a) [
   | true ↦ λ b. inl (0, x, refl, is_in-true x.bounds.data a b)

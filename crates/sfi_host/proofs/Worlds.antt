@@ -1,5 +1,5 @@
 -- A world at its start is safe.
-use Rattle.sfi_host.proofs.Prelude.{◌≡◌, ◌≢◌, Bool, true, false, cond, ℕ, zero, suc, ◌+◌, ◌-◌, ◌%◌, ◌^◌, ◌<◌, ◌≤◌, List, [], ◌∷◌, length, Some, is_some, slice_get, refl, sym, ap, ◌∙◌, subst, arith, get_or_from_slice_get, slice_get_within, slice_index, replicate, map, empty, IsMemory, byte_at, Hart, IsHart, with_register, Part, Span, code_region, IsRightPart, IsRightLayout, RunsSafely, AllRunSafely, CallsTyped, AllCallTyped, IsEnterable, AreEnterable, Bounds, bounds_of, fresh_hart, first_hart, first_seat, with_parts, AreEntered, HaveFirstData, Seat, IsSafeSeat, LiesOutside, IsSafeWorld}
+use Rattle.sfi_host.proofs.Prelude.{◌≡◌, ◌≢◌, Bool, true, false, cond, ℕ, zero, suc, ◌+◌, ◌-◌, ◌%◌, ◌^◌, ◌<◌, ◌≤◌, List, [], ◌∷◌, length, Some, is_some, slice_get, refl, sym, ap, ◌∙◌, subst, arith, get_or_from_slice_get, slice_get_within, slice_index, replicate, map, None, Bytes, IsMemory, byte_at, Hart, IsHart, with_register, Part, Span, code_region, IsRightPart, IsRightLayout, InGuard, RunsSafely, AllRunSafely, CallsTyped, AllCallTyped, IsEnterable, AreEnterable, Bounds, bounds_of, fresh_hart, first_hart, first_seat, with_parts, AreEntered, HaveFirstData, Seat, IsSafeSeat, LiesOutside, IsSafeWorld}
 use Rattle.rv_step.proofs.Harts.{register_is}
 use Rattle.sfi_policy.specs.Formats.{unit, has_words}
 use Rattle.sfi_image.specs.Regions.{IsBundleStart}
@@ -11,7 +11,7 @@ use Rattle.sfi_runs.proofs.Formats.{words, of_bundle}
 use Rattle.sfi_host.specs.Entering.{with_typed}
 use Rattle.sfi_image.proofs.Facts.{code_ends}
 use Rattle.sfi_host.proofs.SafeSeats.{ready_safe}
-use Rattle.sfi_host.proofs.Entered.{Apart, lie_apart, has_code, has_data, has_empty_guards, data_guarded}
+use Rattle.sfi_host.proofs.Entered.{Apart, lie_apart, has_code, has_data, guards_stay, data_guarded}
 
 -- ---- the first hart
 
@@ -107,11 +107,15 @@ map_get f [] i y e = absurd (cc)
 map_get f (x ∷ xs) zero y e = (x, refl, (let g : Some (f x) ≡ Some y = e in cc))
 map_get f (x ∷ xs) (suc i) y e = map_get f xs i y e
 
-pub first_data_there : (ps : List Part) → IsRightLayout ps → HaveFirstData ps (with_parts empty ps)
-first_data_there ps layout i p e k below = has_data ps empty i p (lie_apart ps layout) e k below
+pub first_data_there : (ps : List Part) (m : Bytes) → IsRightLayout ps → HaveFirstData ps (with_parts m ps)
+first_data_there ps m layout i p e k below = has_data ps m i p (lie_apart ps layout) e k below
 
-module _ (ps : List Part) (layout : IsRightLayout ps) (memory : IsMemory (with_parts empty ps)) where
-  pub entered : AreEntered ps (with_parts empty ps)
+-- the memory has no byte in a guard zone of these parts
+abbrev pub AreFree : Bytes → List Part → Type 0
+AreFree m ps = (i : ℕ) (p : Part) → slice_get ps i ≡ Some p → (a : ℕ) → InGuard p a → byte_at m a ≡ None
+
+module _ (ps : List Part) (layout : IsRightLayout ps) (m : Bytes) (free : AreFree m ps) (memory : IsMemory (with_parts m ps)) where
+  pub entered : AreEntered ps (with_parts m ps)
   entered i p e =
       let lie = lie_apart ps layout in
       record {
@@ -119,8 +123,8 @@ module _ (ps : List Part) (layout : IsRightLayout ps) (memory : IsMemory (with_p
         start = subst (IsUnitStart p) (sym (fresh_pc (bounds_of p) p.start)) (start_unit p p.start (lie.each i p e).start);
         reserved = reserved_at p p.start (first_hart p).registers (fresh_are (bounds_of p) p.start);
         typed = typed_at p p.start (first_hart p).registers (let least = (lie.each i p e).data_placed.at_least in omega arith) (start_unit p p.start (lie.each i p e).start) (fresh_are (bounds_of p) p.start);
-        code = has_code ps empty i p lie e;
-        guards = has_empty_guards ps i p lie e;
+        code = has_code ps m i p lie e;
+        guards = λ a guard. guards_stay ps m i p lie e a guard ∙ free i p e a guard;
       }
 
   outside : (i j : ℕ) (p q : Part) → i ≢ j → slice_get ps i ≡ Some p → slice_get ps j ≡ Some q → LiesOutside (bounds_of p) (bounds_of q)
@@ -133,7 +137,7 @@ module _ (ps : List Part) (layout : IsRightLayout ps) (memory : IsMemory (with_p
       }
 
   module _ (safe : AllRunSafely ps) (calls : AllCallTyped ps) where
-    abbrev part_enterable : (i : ℕ) (p : Part) → slice_get ps i ≡ Some p → IsEnterable (with_parts empty ps) (bounds_of p)
+    abbrev part_enterable : (i : ℕ) (p : Part) → slice_get ps i ≡ Some p → IsEnterable (with_parts m ps) (bounds_of p)
     part_enterable i p e = record {
       part = p;
       bounds = refl;
@@ -143,26 +147,26 @@ module _ (ps : List Part) (layout : IsRightLayout ps) (memory : IsMemory (with_p
       calls = subst (λ (q : Part). CallsTyped q) (get_or_from_slice_get ps i p p e) (calls.each i p (slice_get_within ps i p e));
     }
 
-    seat_safe : (i : ℕ) (p : Part) → slice_get ps i ≡ Some p → IsSafeSeat (with_parts empty ps) (first_seat p)
+    seat_safe : (i : ℕ) (p : Part) → slice_get ps i ≡ Some p → IsSafeSeat (with_parts m ps) (first_seat p)
     seat_safe i p e =
-        let m = with_parts empty ps in
+        let n = with_parts m ps in
         let lie = lie_apart ps layout in
-        ready_safe m (bounds_of p) (first_hart p) 0 (part_enterable i p e) (entered i p e) (lie.own i p e) (λ a h.
+        ready_safe n (bounds_of p) (first_hart p) 0 (part_enterable i p e) (entered i p e) (lie.own i p e) (λ a h.
         let z : p.data_base + (a - p.data_base) ≡ a = omega arith in
-        ap is_some (ap (byte_at m) (sym z) ∙ has_data ps empty i p lie e (a - p.data_base) (omega arith)))
+        ap is_some (ap (byte_at n) (sym z) ∙ has_data ps m i p lie e (a - p.data_base) (omega arith)))
 
-    pub world_safe : IsSafeWorld (record { bytes = with_parts empty ps; seats = map first_seat ps })
+    pub world_safe : IsSafeWorld (record { bytes = with_parts m ps; seats = map first_seat ps })
     world_safe = record {
       each = λ i s e.
           let x = map_get first_seat ps i s e in
-          subst (λ (t : Seat). IsSafeSeat (with_parts empty ps) t) (sym x.2) (seat_safe i x.0 x.1);
+          subst (λ (t : Seat). IsSafeSeat (with_parts m ps) t) (sym x.2) (seat_safe i x.0 x.1);
       others = λ i j s t ne e f.
           let x = map_get first_seat ps i s e in
           let y = map_get first_seat ps j t f in
           subst (λ (u : Seat). LiesOutside u.bounds t.bounds) (sym x.2) (subst (λ (u : Seat). LiesOutside (first_seat x.0).bounds u.bounds) (sym y.2) (outside i j x.0 y.0 ne x.1 y.1));
     }
 
-    pub all_enterable : AreEnterable (record { bytes = with_parts empty ps; seats = map first_seat ps })
+    pub all_enterable : AreEnterable (record { bytes = with_parts m ps; seats = map first_seat ps })
     all_enterable i s e =
         let x = map_get first_seat ps i s e in
-        subst (λ (t : Seat). IsEnterable (with_parts empty ps) t.bounds) (sym x.2) (part_enterable i x.0 x.1)
+        subst (λ (t : Seat). IsEnterable (with_parts m ps) t.bounds) (sym x.2) (part_enterable i x.0 x.1)

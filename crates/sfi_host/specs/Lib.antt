@@ -17,6 +17,7 @@ pub mod Worlds
 pub mod Reading
 pub mod Loading
 pub mod Changing
+pub mod Adding
 pub mod Entering
 pub mod Stopping
 pub mod Resetting
@@ -28,6 +29,7 @@ pub mod Modules
 pub mod Steps
 pub mod Laws
 pub mod Moves
+pub mod Owning
 pub mod private
 pub mod Waiting
 pub mod LaterReplies

@@ -2,6 +2,7 @@
 pub mod Apart
 pub mod Limits
 pub mod Programs
+pub mod Copying
 pub mod Sandboxes
 pub mod Quiet
 pub mod Until

@@ -1,16 +1,23 @@
 //! An accepted image that was decoded once, for many worlds.
-ghost use Rattle.std.specs.Prelude.{◌≡◌, map, IfOk};
+ghost use Rattle.std.specs.Prelude.{◌≡◌, ◌↔◌, map, length, IfOk, IsTrue, OnOk};
 ghost use Rattle.std.specs.FinMap.{empty};
 ghost use Rattle.sfi_policy.specs.declared.format.Format.{Format};
 ghost use Rattle.sfi_image.specs.Parts.{IsRightPart, IsRightLayout};
+ghost use Rattle.rv_mem.specs.Bytes.{Bytes};
 ghost use Rattle.sfi_image.specs.Spelling.{view, views};
+ghost use Rattle.sfi_safety.specs.Clean.{MayRun};
+ghost use Rattle.sfi_host.specs.Adding.{MeetsSome};
 ghost use Rattle.sfi_host.specs.Loading.{first_seat, with_parts, AreEntered, HaveFirstData};
 ghost use Rattle.sfi_host.specs.Modules.{part_of, parts_of, program_in, HavePrograms};
 ghost use Rattle.sfi_host.specs.Programs.{IsProgramOf, programs_of};
+ghost use Rattle.sfi_host.specs.Sandboxes.{seats_of, world_of};
 ghost use Rattle.sfi_host.specs.Worlds.{IsSafeWorld};
+ghost use Rattle.sfi_host.specs.private.Programs.{AreProgramsOf};
 
 use crate::loading::load_parts;
+use crate::meeting::some_meet;
 use crate::program::{Program, decode};
+use crate::sandbox::Sandbox;
 use crate::world::World;
 use rv_mem::Memory;
 use sfi_check::Accepted;
@@ -132,8 +139,45 @@ impl Module {
         ensures safe { IfOk result (λ w. IsSafeWorld w) }
     {
         let mut memory = memory;
-        let sandboxes = load_parts(alloc, self.format, &self.parts, &mut memory)?;
-        let programs = share_programs(alloc, &self.parts)?;
+        let sandboxes = self.load(alloc, &mut memory)?;
+        let programs = self.programs(alloc)?;
         Ok(World::of_parts(memory, sandboxes, programs))
+    }
+
+    /// The image's sandboxes before any turn, with their code and data added to the memory.
+    pub(crate) fn load<M: Memory>(
+        &self,
+        alloc: Global,
+        memory: &mut M,
+    ) -> Result<Vec<Sandbox>, AllocError>
+        ensures runs { MayRun self.now }
+        ensures seats { IfOk result (λ all. seats_of all.items ≡ map first_seat self.now) }
+        ensures bytes { OnOk result
+            (M.bytes memory.new ≡ with_parts (M.bytes memory.old) self.now) }
+    {
+        load_parts(alloc, self.format, &self.parts, memory)
+    }
+
+    /// The program of each part, shared.
+    pub(crate) fn programs(&self, alloc: Global) -> Result<Vec<Arc<Program>>, AllocError>
+        ensures { IfOk result (λ all. AreProgramsOf self.now (programs_of all.items)) }
+    {
+        share_programs(alloc, &self.parts)
+    }
+
+    /// Whether a sandbox of these meets one of the image. The bytes of their memory make no difference.
+    pub(crate) fn meets(&self, sandboxes: &[Sandbox]) -> bool
+        requires { (m : Bytes) × IsSafeWorld (world_of m sandboxes.now) }
+        ensures { (m : Bytes) → IsTrue result ↔ MeetsSome (world_of m sandboxes.now) self.now }
+    {
+        some_meet(sandboxes, self.format, &self.parts)
+    }
+
+    /// How many sandboxes the image has; at least one.
+    pub(crate) fn len(&self) -> usize
+        ensures runs { MayRun self.now }
+        ensures count { result ≡ length self.now }
+    {
+        self.parts.len()
     }
 }

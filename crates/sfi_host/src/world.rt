@@ -8,6 +8,7 @@ ghost use Rattle.sfi_host.specs.Changing.{data_bytes_of, with_world_bytes, Other
 ghost use Rattle.sfi_host.specs.Entering.{AreEnterable, MayEnterAt, with_entry, IsAtEntry};
 ghost use Rattle.sfi_host.specs.Joint.{Machine, IsMachine, call_of, joint, replied};
 ghost use Rattle.sfi_host.specs.Moves.{HaveRun, HaveRunJointly};
+ghost use Rattle.sfi_host.specs.Owning.{AreOwned};
 ghost use Rattle.sfi_host.specs.Plans.{IsJoint, IsCutJoint};
 ghost use Rattle.sfi_host.specs.private.Sandboxes.{bounds_in, slot_in};
 ghost use Rattle.sfi_host.specs.Reading.{hart_at, data_region_at};
@@ -20,6 +21,7 @@ ghost use Rattle.sfi_host.specs.Loading.{first_seat, with_parts, AreEntered, Hav
 ghost use Rattle.sfi_host.specs.Waiting.{AsksAtGate, IsAtCall, Waits, to_call, later_reply, later_answer};
 ghost use Rattle.sfi_host.specs.Worlds.{slots_of, status_at, steps_at, data_byte_of, HaveStoppedThemselves, IsSafeWorld, StaysOutsideData};
 
+mod adding;
 mod calling_back;
 mod debugging;
 mod resetting;
@@ -35,6 +37,7 @@ use crate::sandbox::Sandbox;
 use crate::status::Status;
 use crate::turn::{RunAnswer, StepResult, Turn, run_quietly, run_turn};
 use crate::waiting::Later;
+pub use adding::AddError;
 use rv_mem::Memory;
 use rv_step::Cpu;
 use sfi_check::Accepted;
@@ -66,13 +69,15 @@ impl<M: Memory> Model for World<M> {
     ghost use Rattle.sfi_host.specs.Programs.{programs_of, AreDecoded};
     ghost use Rattle.sfi_host.specs.Worlds.{IsSafeWorld};
     ghost use Rattle.sfi_host.specs.Entering.{AreEnterable};
+    ghost use Rattle.sfi_host.specs.Owning.{AreOwned};
 
     ghost view = { λ w. world_of (M.bytes w.memory) w.sandboxes.items };
 
     ghost invariant = { λ w. IsSafeWorld (world_of (M.bytes w.memory) w.sandboxes.items)
         × AreDecoded (world_of (M.bytes w.memory) w.sandboxes.items)
         (programs_of w.programs.items)
-        × AreEnterable (world_of (M.bytes w.memory) w.sandboxes.items) };
+        × AreEnterable (world_of (M.bytes w.memory) w.sandboxes.items)
+        × AreOwned (world_of (M.bytes w.memory) w.sandboxes.items) };
 }
 
 impl<M: Memory> World<M> {
@@ -106,6 +111,7 @@ impl<M: Memory> World<M> {
         requires decoded { AreDecoded (world_of (M.bytes memory) sandboxes.items)
             (programs_of programs.items) }
         requires enterable { AreEnterable (world_of (M.bytes memory) sandboxes.items) }
+        requires owned { AreOwned (world_of (M.bytes memory) sandboxes.items) }
         ensures { result ≡ world_of (M.bytes memory) sandboxes.items }
     {
         World {

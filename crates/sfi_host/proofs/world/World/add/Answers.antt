@@ -1,0 +1,46 @@
+use Rattle.sfi_host.proofs.Prelude.{List, length, length-map, refl, ap, sym, subst, arith, Sandbox, seat_of, world_of, Sandboxes, IsSafeWorld}
+use Rattle.sfi_host.specs.Adding.{MeetsSome}
+use Rattle.sfi_host.proofs.Meetings.{not_meeting}
+use Rattle.sfi_host.proofs.world.World.add.Goals as goal
+
+pub meets-requires : goal.meets-requires
+meets-requires g c =
+    let m = g.M.Memory.bytes c.self.inside.memory in
+    (m, subst (λ (l : List Sandbox). IsSafeWorld (world_of m l)) (sym c.deref.ensures.value) c.self.invariant.0)
+
+pub first_number-requires : goal.first_number-requires
+first_number-requires g c = omega (arith, c.len-2.ensures.runs.clean.layout.at_least_one, c.len-2.ensures.count)
+
+pub extend-requires-clause-apart : goal.extend-requires-clause-apart
+extend-requires-clause-apart g c =
+    let clear : MeetsSome c.args.self.now c.args.module.now → ⊥ = not_meeting c.args.self.now (g.M.Memory.bytes c.self.inside.memory) c.self.inside.sandboxes.items c.deref.result.now c.args.module.now
+    (c.if-meets.ensures (g.M.Memory.bytes c.self.inside.memory)) c.deref.ensures.value c.self.view_is in
+    clear
+
+pub returns-in-None-clause-meets : goal.returns-in-None-clause-meets
+returns-in-None-clause-meets g c =
+    let clear : MeetsSome c.args.self.now c.args.module.now → ⊥ = not_meeting c.args.self.now (g.M.Memory.bytes c.self.inside.memory) c.self.inside.sandboxes.items c.deref.result.now c.args.module.now
+    (c.if-meets.ensures (g.M.Memory.bytes c.self.inside.memory)) c.deref.ensures.value c.self.view_is in
+    (λ e. absurd (cc), λ h. absurd (clear h))
+
+pub returns-in-Ok-clause-meets : goal.returns-in-Ok-clause-meets
+returns-in-Ok-clause-meets g c =
+    let clear : MeetsSome c.args.self.now c.args.module.now → ⊥ = not_meeting c.args.self.now (g.M.Memory.bytes c.self.inside.memory) c.self.inside.sandboxes.items c.deref.result.now c.args.module.now
+    (c.if-meets.ensures (g.M.Memory.bytes c.self.inside.memory)) c.deref.ensures.value c.self.view_is in
+    (λ e. absurd (cc), λ h. absurd (clear h))
+
+pub returns-in-Err-clause-meets : goal.returns-in-Err-clause-meets
+returns-in-Err-clause-meets g c =
+    let clear : MeetsSome c.args.self.now c.args.module.now → ⊥ = not_meeting c.args.self.now (g.M.Memory.bytes c.self.inside.memory) c.self.inside.sandboxes.items c.deref.result.now c.args.module.now
+    (c.if-meets.ensures (g.M.Memory.bytes c.self.inside.memory)) c.deref.ensures.value c.self.view_is in
+    (λ e. absurd (cc), λ h. absurd (clear h))
+
+pub returns-in-None-clause-full : goal.returns-in-None-clause-full
+returns-in-None-clause-full g c =
+    let clear : MeetsSome c.args.self.now c.args.module.now → ⊥ = not_meeting c.args.self.now (g.M.Memory.bytes c.self.inside.memory) c.self.inside.sandboxes.items c.deref.result.now c.args.module.now
+    (c.if-meets.ensures (g.M.Memory.bytes c.self.inside.memory)) c.deref.ensures.value c.self.view_is in
+    let items = c.self.inside.sandboxes.items in
+    let seats = ap (λ (w : Sandboxes). length w.seats) c.self.view_is in
+    let count = length-map items seat_of in
+    let many = c.in-None.ensures.none.0 refl in
+    (λ e. (clear, omega (arith, many, c.len.ensures, seats, count, c.len-2.ensures.count)), λ x. refl)

@@ -1,0 +1,70 @@
+use Rattle.std.specs.Arc.{arc_value}
+use Rattle.sfi_host.proofs.Prelude.{List, ap, ◌∙◌, map-append, Bytes, with_parts, Sandbox, world_of}
+use Rattle.sfi_host.specs.Programs.{programs_of}
+use Rattle.sfi_host.proofs.Adding.{added_in, no_change}
+use Rattle.sfi_host.proofs.world.World.extend.Goals as goal
+
+pub returns-in_err-append_both-clause-changes : goal.returns-in_err-append_both-clause-changes
+returns-in_err-append_both-clause-changes g c =
+    let m = g.M.Memory.bytes c.self.inside.memory in
+    no_change c.args.self.now (world_of m c.append_both.new.sandboxes.items) (ap (λ (l : List Sandbox). world_of m l) c.in_err-append_both.ensures.refused ∙ c.self.view_is)
+
+pub invariant_of-self-2 : goal.invariant_of-self-2
+invariant_of-self-2 g c =
+    let m = g.M.Memory.bytes c.self.inside.memory in
+    (added_in m (g.M.Memory.bytes c.load.new.memory) c.self.inside.sandboxes.items c.in_ok-sandboxes.sandboxes.items c.append_both.new.sandboxes.items
+    (programs_of c.self.inside.programs.items) (programs_of c.in_ok-programs.programs.items) (programs_of c.append_both.new.programs.items) c.args.module.now c.self.invariant
+    c.load.ensures.runs.clean.layout c.load.ensures.runs.safe c.load.ensures.runs.calls c.args.self.now c.self.view_is c.requires.apart (g.met.M.Memory.in_range c.load.new.memory)
+    (c.in_ok-sandboxes.ensures.bytes ∙ ap (λ (b : Bytes). with_parts b c.args.module.now) c.in_ok-copy_all.ensures)
+    c.in_ok-sandboxes.ensures.seats c.in_ok-append_both.ensures.sandboxes c.in_ok-programs.ensures
+    (ap programs_of c.in_ok-append_both.ensures.programs ∙ map-append arc_value c.self.inside.programs.items c.in_ok-programs.programs.items)).kept
+
+pub returns-clause-entered : goal.returns-clause-entered
+returns-clause-entered g c =
+    let m = g.M.Memory.bytes c.self.inside.memory in
+    (added_in m (g.M.Memory.bytes c.load.new.memory) c.self.inside.sandboxes.items c.in_ok-sandboxes.sandboxes.items c.append_both.new.sandboxes.items
+    (programs_of c.self.inside.programs.items) (programs_of c.in_ok-programs.programs.items) (programs_of c.append_both.new.programs.items) c.args.module.now c.self.invariant
+    c.load.ensures.runs.clean.layout c.load.ensures.runs.safe c.load.ensures.runs.calls c.args.self.now c.self.view_is c.requires.apart (g.met.M.Memory.in_range c.load.new.memory)
+    (c.in_ok-sandboxes.ensures.bytes ∙ ap (λ (b : Bytes). with_parts b c.args.module.now) c.in_ok-copy_all.ensures)
+    c.in_ok-sandboxes.ensures.seats c.in_ok-append_both.ensures.sandboxes c.in_ok-programs.ensures
+    (ap programs_of c.in_ok-append_both.ensures.programs ∙ map-append arc_value c.self.inside.programs.items c.in_ok-programs.programs.items)).entered
+
+pub returns-clause-first_data : goal.returns-clause-first_data
+returns-clause-first_data g c =
+    let m = g.M.Memory.bytes c.self.inside.memory in
+    (added_in m (g.M.Memory.bytes c.load.new.memory) c.self.inside.sandboxes.items c.in_ok-sandboxes.sandboxes.items c.append_both.new.sandboxes.items
+    (programs_of c.self.inside.programs.items) (programs_of c.in_ok-programs.programs.items) (programs_of c.append_both.new.programs.items) c.args.module.now c.self.invariant
+    c.load.ensures.runs.clean.layout c.load.ensures.runs.safe c.load.ensures.runs.calls c.args.self.now c.self.view_is c.requires.apart (g.met.M.Memory.in_range c.load.new.memory)
+    (c.in_ok-sandboxes.ensures.bytes ∙ ap (λ (b : Bytes). with_parts b c.args.module.now) c.in_ok-copy_all.ensures)
+    c.in_ok-sandboxes.ensures.seats c.in_ok-append_both.ensures.sandboxes c.in_ok-programs.ensures
+    (ap programs_of c.in_ok-append_both.ensures.programs ∙ map-append arc_value c.self.inside.programs.items c.in_ok-programs.programs.items)).first_data
+
+pub returns-clause-earlier : goal.returns-clause-earlier
+returns-clause-earlier g c =
+    let m = g.M.Memory.bytes c.self.inside.memory in
+    (added_in m (g.M.Memory.bytes c.load.new.memory) c.self.inside.sandboxes.items c.in_ok-sandboxes.sandboxes.items c.append_both.new.sandboxes.items
+    (programs_of c.self.inside.programs.items) (programs_of c.in_ok-programs.programs.items) (programs_of c.append_both.new.programs.items) c.args.module.now c.self.invariant
+    c.load.ensures.runs.clean.layout c.load.ensures.runs.safe c.load.ensures.runs.calls c.args.self.now c.self.view_is c.requires.apart (g.met.M.Memory.in_range c.load.new.memory)
+    (c.in_ok-sandboxes.ensures.bytes ∙ ap (λ (b : Bytes). with_parts b c.args.module.now) c.in_ok-copy_all.ensures)
+    c.in_ok-sandboxes.ensures.seats c.in_ok-append_both.ensures.sandboxes c.in_ok-programs.ensures
+    (ap programs_of c.in_ok-append_both.ensures.programs ∙ map-append arc_value c.self.inside.programs.items c.in_ok-programs.programs.items)).earlier
+
+pub returns-clause-changes : goal.returns-clause-changes
+returns-clause-changes g c =
+    let m = g.M.Memory.bytes c.self.inside.memory in
+    (added_in m (g.M.Memory.bytes c.load.new.memory) c.self.inside.sandboxes.items c.in_ok-sandboxes.sandboxes.items c.append_both.new.sandboxes.items
+    (programs_of c.self.inside.programs.items) (programs_of c.in_ok-programs.programs.items) (programs_of c.append_both.new.programs.items) c.args.module.now c.self.invariant
+    c.load.ensures.runs.clean.layout c.load.ensures.runs.safe c.load.ensures.runs.calls c.args.self.now c.self.view_is c.requires.apart (g.met.M.Memory.in_range c.load.new.memory)
+    (c.in_ok-sandboxes.ensures.bytes ∙ ap (λ (b : Bytes). with_parts b c.args.module.now) c.in_ok-copy_all.ensures)
+    c.in_ok-sandboxes.ensures.seats c.in_ok-append_both.ensures.sandboxes c.in_ok-programs.ensures
+    (ap programs_of c.in_ok-append_both.ensures.programs ∙ map-append arc_value c.self.inside.programs.items c.in_ok-programs.programs.items)).changes
+
+pub returns-clause-safe : goal.returns-clause-safe
+returns-clause-safe g c =
+    let m = g.M.Memory.bytes c.self.inside.memory in
+    (added_in m (g.M.Memory.bytes c.load.new.memory) c.self.inside.sandboxes.items c.in_ok-sandboxes.sandboxes.items c.append_both.new.sandboxes.items
+    (programs_of c.self.inside.programs.items) (programs_of c.in_ok-programs.programs.items) (programs_of c.append_both.new.programs.items) c.args.module.now c.self.invariant
+    c.load.ensures.runs.clean.layout c.load.ensures.runs.safe c.load.ensures.runs.calls c.args.self.now c.self.view_is c.requires.apart (g.met.M.Memory.in_range c.load.new.memory)
+    (c.in_ok-sandboxes.ensures.bytes ∙ ap (λ (b : Bytes). with_parts b c.args.module.now) c.in_ok-copy_all.ensures)
+    c.in_ok-sandboxes.ensures.seats c.in_ok-append_both.ensures.sandboxes c.in_ok-programs.ensures
+    (ap programs_of c.in_ok-append_both.ensures.programs ∙ map-append arc_value c.self.inside.programs.items c.in_ok-programs.programs.items)).kept.0

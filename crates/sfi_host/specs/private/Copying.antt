@@ -1,0 +1,17 @@
+-- Words of private contracts and proofs: bytes that are copied from one memory to another.
+use Rattle.std.specs.Prelude.{◌≡◌, ◌⊎◌, ℕ, ◌<◌, List, Some, None, slice_get}
+use Rattle.rv_mem.specs.Bytes.{Bytes, byte_at}
+use Rattle.sfi_image.specs.declared.span.Span.{Span}
+use Rattle.sfi_image.specs.Spans.{Holds}
+use Rattle.sfi_host.specs.Worlds.{Seat}
+
+-- from old to new a memory got the region's bytes of another one, and no other address changed
+pub record CopiesRegion (region : Span) (from old new : Bytes) : Type 0 where
+  pub inside : (a : ℕ) → Holds region a → byte_at new a ≡ byte_at from a
+  pub outside : (a : ℕ) → (Holds region a → ⊥) → byte_at new a ≡ byte_at old a
+
+-- the memory has no byte that the other one hasn't, and has the code and data bytes of the first n seats
+pub record HasCopies (from : Bytes) (seats : List Seat) (n : ℕ) (to : Bytes) : Type 0 where
+  pub none_else : (a : ℕ) → (byte_at to a ≡ None) ⊎ (byte_at to a ≡ byte_at from a)
+  pub there : (i : ℕ) (s : Seat) → i < n → slice_get seats i ≡ Some s → (a : ℕ)
+      → Holds s.bounds.code a ⊎ Holds s.bounds.data a → byte_at to a ≡ byte_at from a

@@ -1,0 +1,68 @@
+//! Sandboxes' bytes, copied to another memory.
+ghost use Rattle.std.specs.Prelude.{◌≡◌, ◌+◌, ◌^◌, ◌≤◌, IfOk, OnOk, Some};
+ghost use Rattle.std.specs.FinMap.{empty};
+ghost use Rattle.std.specs.List.{range_with_len};
+ghost use Rattle.rv_mem.specs.Bytes.{bytes_at};
+ghost use Rattle.sfi_host.specs.Owning.{AreOwned};
+ghost use Rattle.sfi_host.specs.Regions.{span_of, bytes_in, IsWhole};
+ghost use Rattle.sfi_host.specs.Sandboxes.{world_of};
+ghost use Rattle.sfi_host.specs.Worlds.{IsSafeWorld};
+ghost use Rattle.sfi_host.specs.private.Copying.{CopiesRegion};
+
+use crate::region::Region;
+use crate::sandbox::Sandbox;
+use rv_mem::Memory;
+use std::alloc::{AllocError, Global};
+
+// The bytes that a memory has in a region; it has one at each of its addresses.
+fn region_bytes<M: Memory>(alloc: Global, region: Region, from: &M) -> Result<Vec<u8>, AllocError>
+    requires { IsWhole (span_of region) (bytes_in (span_of region) (M.bytes from.now)) }
+    ensures { IfOk result (λ bytes. bytes_at (bytes_in (span_of region) (M.bytes from.now))
+        (range_with_len region.base region.size) ≡ Some bytes.items) }
+{
+    let mut bytes = Vec::with_capacity(alloc, region.size as usize)?;
+    bytes.resize(region.size as usize, 0)?;
+    if !region.read(from, region.base, &mut bytes) {
+        return Err(AllocError);
+    }
+    Ok(bytes)
+}
+
+// Adds a region's bytes, as another memory has them.
+fn copy_region<M: Memory>(
+    alloc: Global,
+    region: Region,
+    from: &M,
+    to: &mut M,
+) -> Result<(), AllocError>
+    requires whole { IsWhole (span_of region) (bytes_in (span_of region) (M.bytes from.now)) }
+    requires end { region.base + region.size ≤ 2 ^ 32 }
+    ensures { OnOk result
+        (CopiesRegion (span_of region) (M.bytes from.now) (M.bytes to.old) (M.bytes to.new)) }
+{
+    let bytes = region_bytes(alloc, region, from)?;
+    match to.add(region.base, region.size, &bytes) {
+        Ok(()) => Ok(()),
+        Err(_) => Err(AllocError),
+    }
+}
+
+/// Copies the code and data of all sandboxes of a world to an empty memory, which has the world's bytes
+/// then.
+pub(crate) fn copy_all<M: Memory>(
+    alloc: Global,
+    sandboxes: &[Sandbox],
+    from: &M,
+    to: &mut M,
+) -> Result<(), AllocError>
+    requires safe { IsSafeWorld (world_of (M.bytes from.now) sandboxes.now) }
+    requires owned { AreOwned (world_of (M.bytes from.now) sandboxes.now) }
+    requires empty { M.bytes to.old ≡ empty }
+    ensures { OnOk result (M.bytes to.new ≡ M.bytes from.now) }
+{
+    for sandbox in sandboxes {
+        copy_region(alloc, sandbox.code, from, to)?;
+        copy_region(alloc, sandbox.data, from, to)?;
+    }
+    Ok(())
+}

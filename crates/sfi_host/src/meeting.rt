@@ -1,0 +1,102 @@
+//! Whether sandboxes of a world and of an image have addresses in common.
+ghost use Rattle.std.specs.Prelude.{◌≡◌, ◌+◌, ◌^◌, ◌<◌, ◌≤◌, ◌↔◌, ℕ, IsTrue, Some, slice_get};
+ghost use Rattle.std.specs.Bool.{OnTrue, OnFalse};
+ghost use Rattle.rv_mem.specs.Bytes.{Bytes};
+ghost use Rattle.sfi_policy.specs.declared.format.Format.{Format};
+ghost use Rattle.sfi_image.specs.Parts.{IsRightPart, IsRightLayout};
+ghost use Rattle.sfi_image.specs.Spans.{Holds, code_region};
+ghost use Rattle.sfi_image.specs.Spelling.{Part};
+ghost use Rattle.sfi_host.specs.Adding.{Meet, MeetsSome};
+ghost use Rattle.sfi_host.specs.Modules.{part_of, parts_of};
+ghost use Rattle.sfi_host.specs.Sandboxes.{seat_of, world_of};
+ghost use Rattle.sfi_host.specs.Slots.{bounds_of};
+ghost use Rattle.sfi_host.specs.Worlds.{IsSafeWorld};
+
+use crate::modules::ModulePart;
+use crate::sandbox::Sandbox;
+use sfi_image::{Span, with_guards};
+use sfi_policy::Format;
+
+// Whether an address lies in both spans.
+fn meet(one: Span, other: Span) -> bool
+    requires one { one.base + one.size < 2 ^ 64 }
+    requires other { other.base + other.size < 2 ^ 64 }
+    ensures { IsTrue result ↔ ((a : ℕ) × Holds one a × Holds other a) }
+{
+    one.base.max(other.base) < (one.base + one.size).min(other.base + other.size)
+}
+
+// The addresses of a code region.
+fn code_span(base: u32, size: u32) -> Span
+    ensures { result ≡ record { base = base; size = size } }
+{
+    Span {
+        base: u64::from(base),
+        size: u64::from(size),
+    }
+}
+
+// The addresses of a part's code.
+fn code_of(part: &ModulePart) -> Span
+    requires { (format : Format) × IsRightPart (part_of format part.now) }
+    ensures { (format : Format) → result ≡ code_region (part_of format part.now) }
+{
+    code_span(part.code_base, part.code.len() as u32)
+}
+
+// Whether the sandbox and the part take up an address both.
+fn meets(sandbox: &Sandbox, format: Format, part: &ModulePart) -> bool
+    requires room { 4096 ≤ sandbox.now.data.base }
+    requires right { IsRightPart (part_of format part.now) }
+    ensures { IsTrue result
+        ↔ Meet (seat_of sandbox.now).bounds (bounds_of (part_of format part.now)) }
+{
+    let code = code_span(sandbox.code.base, sandbox.code.size);
+    let guarded = with_guards(sandbox.data.base, sandbox.data.size);
+    let part_code = code_of(part);
+    let part_guarded = with_guards(part.data_base, part.data_size);
+    if meet(code, part_code) {
+        return true;
+    }
+    if meet(code, part_guarded) {
+        return true;
+    }
+    if meet(guarded, part_code) {
+        return true;
+    }
+    meet(guarded, part_guarded)
+}
+
+// Whether the sandbox meets one of the parts.
+fn meets_some(sandbox: &Sandbox, format: Format, parts: &[ModulePart]) -> bool
+    requires room { 4096 ≤ sandbox.now.data.base }
+    requires right { IsRightLayout (parts_of format parts.now) }
+    ensures found { OnTrue result ((j : ℕ) × (p : Part)
+        × (slice_get (parts_of format parts.now) j ≡ Some p)
+        × Meet (seat_of sandbox.now).bounds (bounds_of p)) }
+    ensures none { OnFalse result ((j : ℕ) (p : Part)
+        → slice_get (parts_of format parts.now) j ≡ Some p
+        → Meet (seat_of sandbox.now).bounds (bounds_of p) → ⊥) }
+{
+    for part in parts {
+        if meets(sandbox, format, part) {
+            return true;
+        }
+    }
+    false
+}
+
+/// Whether a sandbox of the world meets one of the parts. The world's bytes make no difference.
+pub(crate) fn some_meet(sandboxes: &[Sandbox], format: Format, parts: &[ModulePart]) -> bool
+    requires safe { (m : Bytes) × IsSafeWorld (world_of m sandboxes.now) }
+    requires right { IsRightLayout (parts_of format parts.now) }
+    ensures { (m : Bytes) → IsTrue result
+        ↔ MeetsSome (world_of m sandboxes.now) (parts_of format parts.now) }
+{
+    for sandbox in sandboxes {
+        if meets_some(sandbox, format, parts) {
+            return true;
+        }
+    }
+    false
+}
