@@ -1,3 +1,4 @@
+mod adding;
 mod build;
 mod consoles;
 mod entering;

@@ -1,0 +1,65 @@
+//! A world that gets the sandbox of another image.
+use super::entering::{smallest_world, turned};
+use super::rows::image_of;
+use rv_mem::Segments;
+use rv_step::Cause;
+use sfi_check::check;
+use sfi_host::{AddError, Module, Status};
+use std::alloc::Global;
+use std::process::Abort;
+use std::test::Fail;
+
+// Where the second image's code and data lie, as its digits, and the answer. The first one's code has 256
+// bytes from 01000000 on, its data 256 from 01800000 on.
+struct Case(&'static str, Result<u32, AddError>);
+
+const CASES: &[Case] = &[
+    Case("put 8 00000002\nput 16 00218001\nput 24 00000002", Ok(1)),
+    Case(
+        "put 8 00000002\nput 16 00208001\nput 24 00000002",
+        Err(AddError::Meets),
+    ),
+    Case(
+        "put 8 00108001\nput 16 00008002\nput 24 00108001",
+        Err(AddError::Meets),
+    ),
+    Case(
+        "put 8 00118001\nput 16 00008002\nput 24 00118001",
+        Ok(1),
+    ),
+    Case("put 8 00010001\nput 16 00008002\nput 24 00010001", Ok(1)),
+    Case(
+        "put 8 00000001\nput 16 00008002\nput 24 00000001",
+        Err(AddError::Meets),
+    ),
+];
+
+// Adds the case's image to a world whose sandbox has trapped, and runs what was added.
+fn try_case(rt: &impl Abort, alloc: Global, case: &Case) -> Result<(), Fail> {
+    let Case(lines, wanted) = case;
+    let mut world = smallest_world(rt, alloc)?;
+    let trapped = Some(Status::Trapped(Cause::Break, 0x0100_0000));
+    assert_eq!(rt; turned(&mut world, alloc)?, trapped);
+    let bytes = image_of(alloc, lines)?;
+    let accepted = check(alloc, bytes.as_slice()).expect(rt, "accepted");
+    let module = Module::of(alloc, &accepted)?;
+    let answer = world.add(alloc, &module, Segments::new(alloc));
+    assert_eq!(rt; answer, *wanted);
+    assert_eq!(rt; world.len(), if answer.is_ok() { 2 } else { 1 });
+    assert_eq!(rt; world.status(0), trapped);
+    let second = if answer.is_ok() {
+        Some(Status::Ready)
+    } else {
+        None
+    };
+    assert_eq!(rt; world.status(1), second);
+    Ok(())
+}
+
+#[test]
+fn what_lies_apart_is_added(rt: HostRuntime) -> Result<(), Fail> {
+    for case in CASES {
+        try_case(&rt, rt.alloc(), case)?;
+    }
+    Ok(())
+}
