@@ -23,10 +23,7 @@ const CASES: &[Case] = &[
         "put 8 00108001\nput 16 00008002\nput 24 00108001",
         Err(AddError::Meets),
     ),
-    Case(
-        "put 8 00118001\nput 16 00008002\nput 24 00118001",
-        Ok(1),
-    ),
+    Case("put 8 00118001\nput 16 00008002\nput 24 00118001", Ok(1)),
     Case("put 8 00010001\nput 16 00008002\nput 24 00010001", Ok(1)),
     Case(
         "put 8 00000001\nput 16 00008002\nput 24 00000001",
