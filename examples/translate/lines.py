@@ -31,7 +31,7 @@ def sandboxes(sfi, digits):
                               instructions=[]))
         elif words[0] == "gate":
             found[-1]["gates"].append((int(words[1], 16), int(words[2])))
-        elif words[0] != "format":
+        elif words[0] not in ("format", "interface", "export", "import"):
             operands = [word.lstrip("x") if re.fullmatch(r"x\d+", word) else word
                         for word in re.split(r"[ ,()]+", " ".join(words[3:])) if word]
             found[-1]["instructions"].append((int(words[0], 16), len(words[1]) // 2, words[2], operands))

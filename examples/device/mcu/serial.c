@@ -33,7 +33,7 @@ static void ask(uint32_t device_and_command, uint8_t byte) {
 }
 
 /* The answer to a byte that was sent says nothing. */
-static void take_answer(void) {
+static void take_htif_answer(void) {
     if (fromhost[1] == 0)
         return;
     if (fromhost[1] == RECEIVE && fromhost[0] & HAS_COME) {
@@ -45,12 +45,12 @@ static void take_answer(void) {
 }
 
 void send(char byte) {
-    take_answer();
+    take_htif_answer();
     ask(SEND, (uint8_t)byte);
 }
 
 int receive(void) {
-    take_answer();
+    take_htif_answer();
     if (byte_that_came == 0) {
         if (!is_asked)
             ask(RECEIVE, 0);

@@ -1,13 +1,13 @@
-/* What worlds.py measures.
+/* What world_counts.py measures.
  *
- *     worlds IMAGE bytes TIMES 0          # prints the bytes that malloc has given out for TIMES worlds of the image
- *     worlds IMAGE beside TIMES 0         # the same of worlds of one module, beside the module
- *     worlds IMAGE load TIMES 0           # the image is loaded TIMES times
- *     worlds IMAGE instance TIMES 0       # TIMES worlds are made of one module
- *     worlds IMAGE call TIMES STEPS       # TIMES turns of at most STEPS steps, and each call gets a reply
- *     worlds IMAGE read TIMES LENGTH      # LENGTH bytes of its data are read, TIMES times
- *     worlds IMAGE write TIMES LENGTH     # they are written
- *     worlds IMAGE zero TIMES 0           # it is reset, TIMES times
+ *     world_counts IMAGE bytes TIMES 0          # prints the bytes that malloc has given out for TIMES worlds of the image
+ *     world_counts IMAGE beside TIMES 0         # the same of worlds of one module, beside the module
+ *     world_counts IMAGE load TIMES 0           # the image is loaded TIMES times
+ *     world_counts IMAGE instance TIMES 0       # TIMES worlds are made of one module
+ *     world_counts IMAGE call TIMES STEPS       # TIMES turns of at most STEPS steps, and each call gets a reply
+ *     world_counts IMAGE read TIMES LENGTH      # LENGTH bytes of its data are read, TIMES times
+ *     world_counts IMAGE write TIMES LENGTH     # they are written
+ *     world_counts IMAGE zero TIMES 0           # it is reset, TIMES times
  *
  * It ends in 0, or in 1 where something isn't as it has to be.
  */

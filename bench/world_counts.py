@@ -2,7 +2,7 @@
 """What worlds take from a host in C, as counts that no other work on the machine changes: bytes of malloc, and x86 instructions by
 callgrind.
 
-    bench/worlds.py [--library LIBRARY] [--program SFI]
+    bench/world_counts.py [--library LIBRARY] [--program SFI]
 
 Prints the bytes of a world, the instructions of a load and what each byte of code and of data adds to both, the same of an instance
 of a module beside the module, and the instructions of a call with its reply, of 1 KiB in and out, and of a reset. The smallest image
@@ -42,14 +42,14 @@ def instructions(*words):
 
 
 class Host:
-    """worlds.c on the images, which are files of a folder."""
+    """world_counts.c on the images, which are files of a folder."""
 
     def __init__(self, library, program, folder):
         self.host = os.path.join(folder, "worlds")
         self.folder = folder
         static, _ = libraries.make("sfi_run", library, folder)
         includes = [f"-I{TOP}/crates/{crate}/include" for crate in ("sfi_run", "sfi_c")]
-        run("gcc", "-O2", *includes, os.path.join(HERE, "worlds.c"), static, "-o", self.host)
+        run("gcc", "-O2", *includes, os.path.join(HERE, "world_counts.c"), static, "-o", self.host)
         for name, source in SOURCES.items():
             with open(self.image(name), "wb") as file:
                 file.write(bytes.fromhex(run(program, "build", given=source).stdout))
