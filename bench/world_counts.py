@@ -11,7 +11,6 @@ glibc 2.33 or newer, and valgrind.
 """
 import argparse
 import os
-import re
 import subprocess
 import sys
 import tempfile
@@ -21,6 +20,7 @@ TOP = os.path.dirname(HERE)
 sys.dont_write_bytecode = True
 sys.path.insert(0, os.path.join(TOP, "tools"))
 import libraries
+import measure
 
 CODE, DATA = 65536, 65536
 SOURCES = {
@@ -35,12 +35,6 @@ def run(*words, given=""):
     return subprocess.run([str(word) for word in words], input=given, capture_output=True, text=True, check=True)
 
 
-def instructions(*words):
-    """How many instructions a program takes."""
-    counted = run("valgrind", "--tool=callgrind", "--callgrind-out-file=/dev/null", *words).stderr
-    return int(re.search(r"Collected : (\d+)", counted)[1])
-
-
 class Host:
     """world_counts.c on the images, which are files of a folder."""
 
@@ -51,8 +45,7 @@ class Host:
         includes = [f"-I{TOP}/crates/{crate}/include" for crate in ("sfi_run", "sfi_c")]
         run("gcc", "-O2", *includes, os.path.join(HERE, "world_counts.c"), static, "-o", self.host)
         for name, source in SOURCES.items():
-            with open(self.image(name), "wb") as file:
-                file.write(bytes.fromhex(run(program, "build", given=source).stdout))
+            measure.written(self.image(name), bytes.fromhex(run(program, "build", given=source).stdout))
 
     def image(self, name):
         return os.path.join(self.folder, name)
@@ -64,7 +57,7 @@ class Host:
 
     def count(self, name, what, number=0, times=40):
         """The instructions of what is done once, as the difference of two counts of times."""
-        found = [instructions(self.host, self.image(name), what, n, number) for n in (2 * times, times)]
+        found = [measure.instructions([self.host, self.image(name), what, str(n), str(number)], os.devnull) for n in (2 * times, times)]
         return (found[0] - found[1]) / times
 
 
