@@ -25,7 +25,7 @@ import measure
 CODE, DATA = 65536, 65536
 SOURCES = {
     "smallest": ".format 2\n.sandbox 256\n ebreak\n",
-    "code": f".format 2\n.sandbox 256\n" + " nop\n" * (CODE // 8) + " ebreak\n",
+    "code": ".format 2\n.sandbox 256\n" + " nop\n" * (CODE // 8) + " ebreak\n",
     "data": f".format 2\n.sandbox {DATA}\n ebreak\n",
     "calls": ".format 2\n.sandbox 1024\n.gate post 4\nloop: call post\n j loop\n",
 }
@@ -73,8 +73,8 @@ def print_making(host, what, bytes_of, count_of):
     bytes_there, count = bytes_of(small), count_of(small)
     more_code, more_data = code_size(host, "code")[0] - code, code_size(host, "data")[1] - data
     print(f"{what} of the smallest image, with {code} bytes of code and {data} of data: {bytes_there:.0f} bytes, {count:.0f} instructions")
-    for name, more, byte in (("code", more_code, "code"), ("data", more_data, "data")):
-        print(f"    each byte of {byte} more: {(bytes_of(name) - bytes_there) / more:.2f} bytes, "
+    for name, more in (("code", more_code), ("data", more_data)):
+        print(f"    each byte of {name} more: {(bytes_of(name) - bytes_there) / more:.2f} bytes, "
               f"{(count_of(name) - count) / more:.2f} instructions")
 
 
