@@ -4,20 +4,19 @@ use Rattle.std.specs.List.{range_with_len}
 use Rattle.rv_mem.specs.Bytes.{Bytes, bytes_at}
 use Rattle.sfi_policy.specs.Formats.{unit}
 use Rattle.sfi_image.specs.declared.span.Span.{Span}
-use Rattle.sfi_image.specs.Spans.{Holds}
+use Rattle.sfi_image.specs.Spelling.{Holds}
 use Rattle.sfi_host.specs.declared.turn.RunAnswer.{RunAnswer}
 use Rattle.sfi_host.specs.declared.turn.RunAnswer.TheVariants as answers
 use Rattle.sfi_host.specs.declared.turn.StepResult.{StepResult}
 use Rattle.sfi_host.specs.declared.turn.StepResult.TheVariants.{RunEnds}
 use Rattle.sfi_host.specs.declared.turn.Turn.{Turn}
 use Rattle.sfi_host.specs.Changing.{data_bytes_of, OthersAreSame}
-use Rattle.sfi_host.specs.Entering.{MayEnterAt, with_entry, with_entry_of, entered_seat}
+use Rattle.sfi_host.specs.Loading.{MayEnterAt, with_entry, with_entry_of, entered_seat}
 use Rattle.sfi_host.specs.Hosts.{Call, Answer, Host, limited}
 use Rattle.sfi_host.specs.Joint.{Machine, Moved, turned, Joined, joined, joint, and_plan, turn_and}
 use Rattle.sfi_host.specs.Moves.{HaveRunJointly}
 use Rattle.sfi_host.specs.Plans.{IsJoint, IsCutJoint}
-use Rattle.sfi_host.specs.Regions.{bytes_in, IsWhole}
-use Rattle.sfi_host.specs.Slots.{Bounds, Slot}
+use Rattle.sfi_host.specs.Slots.{bytes_in, IsWhole, Bounds, Slot}
 use Rattle.sfi_host.specs.Worlds.{Seat, Sandboxes, slot_of, slots_of, IsSafeWorld, StaysOutsideData}
 use Rattle.sfi_host.proofs.Leaving.{data_of_own, whole_in}
 use Rattle.sfi_host.proofs.Neighbours.{get_set_same, get_set_other}

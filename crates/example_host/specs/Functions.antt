@@ -4,7 +4,7 @@ use Rattle.sfi_host.specs.declared.status.Status.{Status}
 use Rattle.sfi_host.specs.declared.status.Status.TheVariants.{Ready, Exited, Trapped, Stopped}
 use Rattle.sfi_host.specs.declared.turn.Turn.{Turn}
 use Rattle.sfi_host.specs.Changing.{data_bytes_of, with_world_bytes}
-use Rattle.sfi_host.specs.Entering.{with_entry, MayEnterAt}
+use Rattle.sfi_host.specs.Loading.{with_entry, MayEnterAt}
 use Rattle.sfi_host.specs.Worlds.{Sandboxes, slots_of}
 use Rattle.example_host.specs.declared.function.Function.{Function}
 use Rattle.example_host.specs.declared.function.CallError.{CallError}

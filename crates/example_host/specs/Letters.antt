@@ -1,8 +1,7 @@
 -- What the host of letters answers to a call. Of its own state it keeps nothing.
 use Rattle.std.specs.Prelude.{ℕ, ◌-◌, ◌^◌, ◌==◌, nat_le, Bool, false, List, map, Option, Some, None, if◌then◌else◌}
 use Rattle.std.specs.Char.{to_ascii_uppercase}
-use Rattle.sfi_host.specs.Guests.{data_from, with_a0, with_bytes_at}
-use Rattle.sfi_host.specs.Hosts.{Call, Way, Replied, Exit, Answer}
+use Rattle.sfi_host.specs.Hosts.{data_from, with_a0, with_bytes_at, Call, Way, Replied, Exit, Answer}
 
 -- the caller goes on in this way, with the a0, a1 and data bytes of this call
 abbrev pub answered : {S : Type 0} → S → Way → Call → Answer S

@@ -1,7 +1,7 @@
 //! A host that turns letters of its callers into upper case, in their own data.
 ghost use Rattle.std.specs.Prelude.{◌≡◌};
-ghost use Rattle.sfi_host.specs.Answering.{IsAnswered, LeavesOthers};
-ghost use Rattle.sfi_host.specs.Guests.{HasData, SameMemory};
+ghost use Rattle.sfi_host.specs.Hosts.{IsAnswered, LeavesOthers};
+ghost use Rattle.sfi_host.specs.Hosts.{HasData, SameMemory};
 ghost use Rattle.example_host.specs.Letters.{upper};
 
 use rv_mem::Memory;

@@ -1,7 +1,7 @@
 //! The store as a host.
 ghost use Rattle.std.specs.Prelude.{◌≡◌};
-ghost use Rattle.sfi_host.specs.Answering.{IsAnswered, IsRefused, LeavesOthers};
-ghost use Rattle.sfi_host.specs.Guests.{HasData, SameMemory};
+ghost use Rattle.sfi_host.specs.Hosts.{IsAnswered, IsRefused, LeavesOthers};
+ghost use Rattle.sfi_host.specs.Hosts.{HasData, SameMemory};
 ghost use Rattle.example_host.specs.Store.{put, get, may_want};
 
 use crate::store::Store;

@@ -1,6 +1,6 @@
 -- What the code computes agrees with the table on each form that its row allows, by computation over the row's values.
 use Rattle.rv_comp.proofs.Prelude.{◌≡◌, subst, ℕ, ◌+◌, ◌-◌, ◌*◌, ◌^◌, ◌<◌, Bool, true, false, not, ◌&&◌, ◌==◌, refl, ap, sym, Option, Some, None, pos, ℤ, arith, and_parts, ltb-true, nat_lt, nat_le, halfword_of, allowed, expansion, place, is_reg, is_short_reg, is_unsigned, is_signed, is_not_zero, decoded, Form16, CAddi4spn, CLw, CSw, CAddi, CJal, CLi, CAddi16sp, CLui, CSrli, CSrai, CAndi, CSub, CXor, COr, CAnd, CJ, CBeqz, CBnez, CSlli, CLwsp, CJr, CJalr, CMv, CAdd, CEbreak, CSwsp}
-use Rattle.rv_comp.specs.mirror.First.{first_form, first_addi, upper_value}
+use Rattle.rv_comp.specs.mirror.{first_form, first_addi, upper_value}
 use Rattle.rv_comp.proofs.Same.{same, same_int, same-true}
 use Rattle.rv_comp.proofs.Whole.{all_below, all_below_at, tables}
 use Rattle.rv_comp.proofs.Ranges.{signed_at, at_unsigned, at_signed}

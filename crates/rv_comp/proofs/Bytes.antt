@@ -1,11 +1,9 @@
 -- The first bytes of a list, the halfword and the word that they are, and what their low bits tell.
 use Rattle.rv_comp.proofs.Prelude.{◌≡◌, ℕ, ◌%◌, ◌^◌, ◌<◌, ◌≤◌, refl, ap, subst, sym, ◌∙◌, Option, Some, None, List, [], ◌∷◌, length, get_or, take, arith, ◌≢◌, ne_eqb, and_mask, bit_and, w16, w32, from_le_bytes, Instr, IsWordOf, IsShortSpelling, decoded, SpellsShort, SpellsWide, Form16}
-use Rattle.rv_word.specs.Lengths.{length_of}
-use Rattle.rv_word.specs.Numbers.{bits}
+use Rattle.rv_word.specs.Spelling.{length_of, bits}
 use Rattle.rv_word.specs.declared.length.Length.{Length}
-use Rattle.rv_word.specs.declared.length.Length.TheVariants.{Wide, Longer}
+use Rattle.rv_word.specs.declared.length.Length.TheVariants.{Wide, Longer, Short}
 use Rattle.std.proofs.lemmas.List.{length-take}
-use Rattle.rv_word.specs.declared.length.Length.TheVariants.{Short}
 use Rattle.rv_comp.proofs.Exact.{decoded_only}
 use Rattle.rv_word.proofs.Facts.{spellings_are_wide}
 

@@ -1,6 +1,6 @@
 -- The first form of an instruction is a form of it, and no earlier row has one.
 use Rattle.rv_comp.proofs.Prelude.{◌≡◌, ℕ, zero, ◌*◌, ◌/◌, ◌^◌, ◌<◌, ℤ, pos, Bool, true, false, not, cond, ◌&&◌, ◌==◌, refl, ap, ap₂, subst, sym, ◌∙◌, Option, Some, None, arith, eqb-true, ◌⊎◌, inl, inr, and_parts, ltb-true, leb-true, IfSome, IfNone, IsTrue, nat_lt, w32, cast_unsigned, cast_signed, Instr, IsFirst, allowed, expansion, place, is_reg, is_signed, is_not_zero, Form16, CAddi4spn, CLw, CSw, CAddi, CJal, CLi, CAddi16sp, CLui, CSrli, CSrai, CAndi, CSub, CXor, COr, CAnd, CJ, CBeqz, CBnez, CSlli, CLwsp, CJr, CJalr, CMv, CAdd, CSwsp}
-use Rattle.rv_comp.specs.mirror.First.{taken, first_form, first_addi, upper_value}
+use Rattle.rv_comp.specs.mirror.{taken, first_form, first_addi, upper_value}
 use Rattle.rv_word.specs.declared.instr.Cond.TheVariants.{Beq, Bne}
 use Rattle.rv_word.specs.declared.instr.ImmOp.TheVariants.{Addi, Andi, Slli, Srli, Srai}
 use Rattle.rv_word.specs.declared.instr.Instr.TheVariants.{Op, OpImm, Load, Store, Branch, Jal, Jalr, Lui, Ebreak}

@@ -2,8 +2,8 @@
 use Rattle.rv_comp.proofs.Prelude.{◌≡◌, ℕ, ◌≤◌, ◌⊎◌, inl, inr, Bool, true, false, refl, subst, Option, Some, None, List, length, cases_lt, cases_eq, cases_Bool, w16, w32, from_le_bytes, Instr, IsWordOf, allowed, expansion, halfword_of, IsHalfwordOf, IsShortSpelling, IsFront, SomeFront, decoded, Form16}
 use Rattle.rv_comp.specs.declared.front.Front.{Front}
 use Rattle.rv_comp.specs.declared.front.Front.TheVariants.{Read, Short, Bad}
-use Rattle.rv_comp.specs.private.Fronts.{IsOnlyFront}
-use Rattle.rv_word.specs.Lengths.{length_of}
+use Rattle.rv_comp.specs.private.{IsOnlyFront}
+use Rattle.rv_word.specs.Spelling.{length_of}
 use Rattle.rv_word.specs.declared.length.Length.{Length}
 use Rattle.rv_word.specs.declared.length.Length.TheVariants as lengths
 use Rattle.rv_comp.proofs.Exact.{decoded_only}

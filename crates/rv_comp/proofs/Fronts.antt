@@ -2,8 +2,8 @@
 use Rattle.rv_comp.proofs.Prelude.{◌≡◌, ℕ, ◌<◌, ◌≤◌, refl, ap, subst, sym, ◌∙◌, List, length, take, arith, inl, inr, slice_index, w16, w32, from_le_bytes, Instr, IsWordOf, IsShortSpelling, Spells, IsCutShort, SpellsNothing, IsFront, OneFront}
 use Rattle.rv_comp.specs.declared.front.Front.{Front}
 use Rattle.rv_comp.specs.declared.front.Front.TheVariants.{Read, Short, Bad}
-use Rattle.rv_comp.specs.private.Fronts.{IsOnlyFront}
-use Rattle.rv_word.specs.Lengths.{length_of}
+use Rattle.rv_comp.specs.private.{IsOnlyFront}
+use Rattle.rv_word.specs.Spelling.{length_of}
 use Rattle.std.proofs.lemmas.List.{get_or-take}
 use Rattle.rv_word.specs.declared.length.Length.TheVariants as lengths
 use Rattle.rv_comp.proofs.Bytes.{first_two, first_four, two_bytes, four_bytes, short_long, wide_long, short_at, wide_at, wide_first, short_length, not_both, not_short_longer, not_wide_longer}

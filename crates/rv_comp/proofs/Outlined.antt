@@ -1,6 +1,6 @@
 -- What the outline tells of a halfword.
 use Rattle.rv_comp.proofs.Prelude.{◌≡◌, ℕ, ◌<◌, ◌^◌, refl, ap, sym, subst, ◌∙◌, Option, Some, None, IfSome, Instr, expansion, IsHalfwordOf, IsShortSpelling, IsHalfwordThat, Form16, decoded}
-use Rattle.rv_comp.specs.mirror.Outlining.{outlined}
+use Rattle.rv_comp.specs.mirror.{outlined}
 use Rattle.rv_word.specs.Outlines.{outline}
 use Rattle.rv_word.specs.declared.outline.Outline.{Outline}
 use Rattle.std.specs.Option.{option_map}

@@ -7,12 +7,11 @@ pub use Rattle.std.specs.Int.{w16, w32, from_le_bytes, cast_unsigned, cast_signe
 pub use Rattle.rv_word.specs.Spelling.{IsWordOf, IsImm12, IsBranchOffset, IsJumpOffset, spelling}
 unfoldable pub use Rattle.rv_word.specs.Spelling.{InRange}
 pub use Rattle.rv_word.specs.declared.instr.Instr.{Instr}
-pub use Rattle.rv_comp.specs.Fronts.{SpellsShort, SpellsWide, IsFront, Spells, IsCutShort, SpellsNothing}
-pub use Rattle.rv_comp.specs.Halfwords.{halfword_of, IsShortSpelling, IsHalfwordOf, IsFirst, IsHalfwordThat}
+pub use Rattle.rv_comp.specs.Fronts.{SpellsShort, SpellsWide, IsFront, Spells, IsCutShort, SpellsNothing, halfword_of, IsShortSpelling, IsHalfwordOf, IsFirst, IsHalfwordThat}
 pub use Rattle.rv_comp.specs.Laws.{SomeFront, OneFront, SpelledInRange, OneSpelling, TwoLengths, EcallIsWide}
 pub use Rattle.rv_comp.specs.Table.{allowed, expansion, place, is_reg, is_short_reg, is_unsigned, is_signed, is_not_zero, row, fields_of}
 pub use Rattle.rv_comp.specs.declared.form.Form16.{Form16}
 pub use Rattle.rv_comp.specs.declared.form.Form16.TheVariants.{CAddi4spn, CLw, CSw, CAddi, CJal, CLi, CAddi16sp, CLui, CSrli, CSrai, CAndi, CSub, CXor, COr, CAnd, CJ, CBeqz, CBnez, CSlli, CLwsp, CJr, CJalr, CMv, CAdd, CEbreak, CSwsp}
-unfoldable pub use Rattle.rv_comp.specs.mirror.Decoding.{decoded, quadrant0, quadrant1, quadrant2, arithmetic, upper, jump_or_move, extended, word_offset, six, jump_offset, branch_offset, stack_step, stack_address, load_offset, store_offset}
-pub use Rattle.rv_comp.specs.mirror.Encoding.{row_bit, row_fields, is_low, AreLow}
-unfoldable pub use Rattle.rv_comp.specs.mirror.Encoding.{row_number}
+unfoldable pub use Rattle.rv_comp.specs.mirror.{decoded, quadrant0, quadrant1, quadrant2, arithmetic, upper, jump_or_move, extended, word_offset, six, jump_offset, branch_offset, stack_step, stack_address, load_offset, store_offset}
+pub use Rattle.rv_comp.specs.mirror.{row_bit, row_fields, is_low, AreLow}
+unfoldable pub use Rattle.rv_comp.specs.mirror.{row_number}

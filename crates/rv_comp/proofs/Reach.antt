@@ -1,6 +1,6 @@
 -- What a form expands to has its fields in range.
 use Rattle.rv_comp.proofs.Prelude.{◌≡◌, ℕ, suc, ◌-◌, ◌/◌, ◌%◌, ◌^◌, ◌<◌, ◌≤◌, true, not, ◌&&◌, ◌==◌, subst, pos, negsuc, ℤ, arith, eqb-true, inl, inr, and_parts, ltb-true, nat_lt, nat_le, IsTrue, w32, cast_unsigned, InRange, IsImm12, IsBranchOffset, IsJumpOffset, allowed, expansion, is_reg, is_short_reg, is_unsigned, is_signed, is_not_zero, SpelledInRange, Form16, CAddi4spn, CLw, CSw, CAddi, CJal, CLi, CAddi16sp, CLui, CSrli, CSrai, CAndi, CSub, CXor, COr, CAnd, CJ, CBeqz, CBnez, CSlli, CLwsp, CJr, CJalr, CMv, CAdd, CEbreak, CSwsp}
-use Rattle.rv_word.specs.Numbers.{IsBetween, IsEven}
+use Rattle.rv_word.specs.Spelling.{IsBetween, IsEven}
 use Rattle.std.proofs.lemmas.Int.{ints}
 
 long : (r : ℕ) → is_reg r ≡ true → r < 32

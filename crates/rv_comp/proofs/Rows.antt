@@ -5,7 +5,7 @@ use Rattle.std.proofs.Math.Nat.{pow-suc}
 use Rattle.std.proofs.Math.Pow.{pow_mono}
 use Rattle.std.proofs.Math.Seq.{drop-cons, drop-length}
 use Rattle.rv_comp.specs.declared.encode.Fields.{Fields}
-use Rattle.rv_comp.specs.Bits as table
+use Rattle.rv_comp.specs.Table as table
 use Rattle.rv_comp.specs.declared.encode.rows.Bit as coded
 use Rattle.rv_comp.proofs.Whole.{all_below, all_below_at}
 

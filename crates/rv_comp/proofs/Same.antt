@@ -1,6 +1,6 @@
 -- Two forms with one row and the same fields are one form.
 use Rattle.rv_comp.proofs.Prelude.{◌≡◌, ℕ, Bool, true, false, cond, ◌&&◌, eqb, refl, ap, ap₂, sym, ◌∙◌, pos, negsuc, ℤ, eqb-true, and_parts, fields_of, place, Form16, CAddi4spn, CLw, CSw, CAddi, CJal, CLi, CAddi16sp, CLui, CSrli, CSrai, CAndi, CSub, CXor, COr, CAnd, CJ, CBeqz, CBnez, CSlli, CLwsp, CJr, CJalr, CMv, CAdd, CEbreak, CSwsp}
-use Rattle.rv_comp.specs.Bits.{Fields}
+use Rattle.rv_comp.specs.Table.{Fields}
 
 -- the form of the row at this place with these fields
 abbrev pub form : ℕ → Fields → Form16

@@ -1,6 +1,6 @@
 -- The whole table, by computation: each halfword that decodes is that of its form, and its outline is what the form's expansion does.
 use Rattle.rv_comp.proofs.Prelude.{◌≡◌, ℕ, ◌+◌, ◌-◌, ◌^◌, ◌<◌, Bool, true, false, ◌&&◌, ◌==◌, refl, ap, ◌∙◌, arith, eqb-true, inl, inr, Option, Some, None, agree_below, agree_below_at, and_parts, cases_lt, halfword_of, allowed, expansion, decoded, quadrant0, quadrant1, quadrant2, arithmetic, upper, jump_or_move, extended, word_offset, six, jump_offset, branch_offset, stack_step, stack_address, load_offset, store_offset, Form16}
-use Rattle.rv_comp.specs.mirror.Outlining.{row_of, jump, jump_or_stop, outlined}
+use Rattle.rv_comp.specs.mirror.{row_of, jump, jump_or_stop, outlined}
 use Rattle.rv_word.specs.Outlines.{outline}
 use Rattle.rv_word.specs.declared.outline.Outline.{Outline}
 use Rattle.rv_word.specs.declared.outline.Outline.TheVariants.{Computes, Loads, Stores, Branches, Jumps, JumpsTo, Stops}

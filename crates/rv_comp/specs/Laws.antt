@@ -4,10 +4,9 @@ use Rattle.rv_word.specs.declared.instr.Instr.{Instr}
 use Rattle.rv_word.specs.declared.instr.Instr.TheVariants.{Ecall}
 use Rattle.rv_word.specs.Outlines.{outline}
 use Rattle.rv_word.specs.Spelling.{InRange}
-use Rattle.rv_comp.specs.Fronts.{Spells, IsFront}
-use Rattle.rv_comp.specs.Halfwords.{IsFirst, IsShortSpelling, IsHalfwordThat}
+use Rattle.rv_comp.specs.Fronts.{Spells, IsFront, IsFirst, IsShortSpelling, IsHalfwordThat}
 use Rattle.rv_comp.specs.Table.{allowed, expansion}
-use Rattle.rv_comp.specs.mirror.Outlining.{outlined}
+use Rattle.rv_comp.specs.mirror.{outlined}
 use Rattle.rv_comp.specs.declared.form.Form16.{Form16}
 use Rattle.rv_comp.specs.declared.front.Front.{Front}
 

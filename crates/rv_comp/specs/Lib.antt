@@ -1,6 +1,4 @@
-pub mod Bits
 pub mod Fronts
-pub mod Halfwords
 pub mod Laws
 pub mod Table
 pub mod mirror

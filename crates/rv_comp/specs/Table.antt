@@ -1,10 +1,6 @@
--- The table of the 16-bit forms: each form's row of bits, what the row asks of its fields, and the
--- form's expansion. RISC-V Unprivileged ISA, chapter '"C" Extension for Compressed Instructions',
--- instruction listings, for RV32 without floating point. Reserved and custom points are forbidden.
--- A HINT stands for its expansion, and C.NOP is C.ADDI of x0 and 0. The order of the rows is this
--- project's own.
-use Rattle.std.specs.Prelude.{ℕ, suc, ◌-◌, ◌/◌, ◌%◌, ◌^◌, ℤ, pos, negsuc, Bool, true, false, not, ◌&&◌, ◌==◌, nat_lt, nat_le, List, ◌++◌}
-use Rattle.std.specs.Int.{w32, cast_unsigned}
+-- The 16-bit instructions: rows of bits, and the table of the forms.
+use Rattle.std.specs.Prelude.{ℕ, suc, zero, ◌+◌, ◌-◌, ◌*◌, ℤ, List, [], ◌∷◌, ◌/◌, ◌%◌, ◌^◌, pos, negsuc, Bool, true, false, not, ◌&&◌, ◌==◌, nat_lt, nat_le, ◌++◌}
+use Rattle.std.specs.Int.{w32, bit_at, cast_unsigned}
 use Rattle.rv_word.specs.declared.instr.Instr.{Instr}
 use Rattle.rv_word.specs.declared.instr.Instr.TheVariants.{Op, OpImm, Load, Store, Branch, Jal, Jalr, Lui, Ebreak}
 use Rattle.rv_word.specs.declared.instr.RegOp.TheVariants.{Add, Sub, Xor, Or, And}
@@ -12,9 +8,67 @@ use Rattle.rv_word.specs.declared.instr.ImmOp.TheVariants.{Addi, Andi, Slli, Srl
 use Rattle.rv_word.specs.declared.instr.LoadKind.TheVariants.{Lw}
 use Rattle.rv_word.specs.declared.instr.StoreWidth.TheVariants.{Sw}
 use Rattle.rv_word.specs.declared.instr.Cond.TheVariants.{Beq, Bne}
-use Rattle.rv_comp.specs.Bits.{Bit, Fields, rd, rs1, rs2, imm, fixed, ◌⟦◌∶◌⟧}
 use Rattle.rv_comp.specs.declared.form.Form16.{Form16}
 use Rattle.rv_comp.specs.declared.form.Form16.TheVariants.{CAddi4spn, CLw, CSw, CAddi, CJal, CLi, CAddi16sp, CLui, CSrli, CSrai, CAndi, CSub, CXor, COr, CAnd, CJ, CBeqz, CBnez, CSlli, CLwsp, CJr, CJalr, CMv, CAdd, CEbreak, CSwsp}
+
+-- ==== Rows of bits: a halfword written as the manual draws it, from bit 15 down.
+
+-- a field of a form
+pub data Field : Type 0 where
+  rd : Field
+  rs1 : Field
+  rs2 : Field
+  imm : Field
+
+-- a bit of a row: fixed, or bit k of a field
+pub data Bit : Type 0 where
+  is : ℕ → Bit
+  bit_of : Field → ℕ → Bit
+
+-- the n low bits of a number, the highest first
+abbrev pub fixed : ℕ → ℕ → List Bit
+fixed zero b = []
+fixed (suc n) b = is (bit_at b n) ∷ fixed n b
+
+-- n bits of a field, from bit low + n - 1 down to bit low
+abbrev pub piece : Field → ℕ → ℕ → List Bit
+piece f zero low = []
+piece f (suc n) low = bit_of f (low + n) ∷ piece f n low
+
+-- bits high down to low of a field
+infix 70 ◌⟦◌∶◌⟧
+abbrev pub ◌⟦◌∶◌⟧ : Field → ℕ → ℕ → List Bit
+f ⟦ high ∶ low ⟧ = piece f (high + 1 - low) low
+
+-- the values of the fields; those that a form hasn't are 0
+pub record Fields : Type 0 where
+  pub rd : ℕ
+  pub rs1 : ℕ
+  pub rs2 : ℕ
+  pub imm : ℤ
+
+-- the number whose bits a row takes; a negative immediate's is its two's complement
+abbrev pub field_value : Fields → Field → ℕ
+field_value v rd = v.rd
+field_value v rs1 = v.rs1
+field_value v rs2 = v.rs2
+field_value v imm = cast_unsigned w32 v.imm
+
+-- a bit of a row, for these values
+abbrev pub bit_value : Fields → Bit → ℕ
+bit_value v (is b) = b
+bit_value v (bit_of f k) = bit_at (field_value v f) k
+
+-- the number of a list of bits, the highest first, after the bits of n
+abbrev pub number_after : ℕ → Fields → List Bit → ℕ
+number_after n v [] = n
+number_after n v (b ∷ bs) = number_after (2 * n + bit_value v b) v bs
+
+-- ==== The table of the 16-bit forms: each form's row of bits, what the row asks of its fields, and
+-- the form's expansion. RISC-V Unprivileged ISA, chapter '"C" Extension for Compressed
+-- Instructions', instruction listings, for RV32 without floating point. Reserved and custom points
+-- are forbidden. A HINT stands for its expansion, and C.NOP is C.ADDI of x0 and 0. The order of the
+-- rows is this project's own.
 
 -- ---- rows
 

@@ -1,6 +1,6 @@
 //! Bits of a halfword, by their numbers.
 ghost use Rattle.std.specs.Prelude.{◌≡◌, ◌+◌, ◌<◌, ◌≤◌};
-ghost use Rattle.rv_word.specs.Numbers.{bits};
+ghost use Rattle.rv_word.specs.Spelling.{bits};
 
 /// The number that bits `high` to `low` make.
 #[tactic(auto, using(crate::proofs::Moves::masked))]

@@ -1,7 +1,7 @@
 //! Reading a halfword: by its low two bits, the quadrant, and its top three.
 ghost use Rattle.std.specs.Prelude.{◌≡◌, IfSome};
-ghost use Rattle.rv_comp.specs.Halfwords.{IsHalfwordOf};
-ghost use Rattle.rv_comp.specs.mirror.Decoding.{decoded, quadrant0, quadrant1, quadrant2, arithmetic, upper, jump_or_move};
+ghost use Rattle.rv_comp.specs.Fronts.{IsHalfwordOf};
+ghost use Rattle.rv_comp.specs.mirror.{decoded, quadrant0, quadrant1, quadrant2, arithmetic, upper, jump_or_move};
 ghost use Rattle.rv_comp.specs.declared.form.Form16.{Form16};
 
 mod fields;
@@ -15,7 +15,7 @@ use fields::{
 };
 
 /// Low bits 00: forms on x8 to x15.
-#[tactic(auto, unfolding(crate::specs::mirror::Decoding::quadrant0))]
+#[tactic(auto, unfolding(crate::specs::mirror::quadrant0))]
 fn decode_quadrant0(h: u16) -> Option<Form16>
     ensures { result ≡ quadrant0 h }
 {
@@ -46,7 +46,7 @@ fn decode_quadrant0(h: u16) -> Option<Form16>
 }
 
 /// Low bits 01: immediates, arithmetic on x8 to x15, jumps and branches.
-#[tactic(auto, unfolding(crate::specs::mirror::Decoding::quadrant1))]
+#[tactic(auto, unfolding(crate::specs::mirror::quadrant1))]
 fn decode_quadrant1(h: u16) -> Option<Form16>
     ensures { result ≡ quadrant1 h }
 {
@@ -79,7 +79,7 @@ fn decode_quadrant1(h: u16) -> Option<Form16>
 }
 
 /// C.ADDI16SP and C.LUI.
-#[tactic(auto, unfolding(crate::specs::mirror::Decoding::upper))]
+#[tactic(auto, unfolding(crate::specs::mirror::upper))]
 fn decode_upper(h: u16) -> Option<Form16>
     ensures { result ≡ upper h }
 {
@@ -104,7 +104,7 @@ fn decode_upper(h: u16) -> Option<Form16>
 }
 
 /// The forms that compute on x8 to x15.
-#[tactic(auto, unfolding(crate::specs::mirror::Decoding::arithmetic))]
+#[tactic(auto, unfolding(crate::specs::mirror::arithmetic))]
 fn decode_arithmetic(h: u16) -> Option<Form16>
     ensures { result ≡ arithmetic h }
 {
@@ -136,7 +136,7 @@ fn decode_arithmetic(h: u16) -> Option<Form16>
 }
 
 /// Low bits 10: shifts, loads and stores on the stack, and jumps and moves by registers.
-#[tactic(auto, unfolding(crate::specs::mirror::Decoding::quadrant2))]
+#[tactic(auto, unfolding(crate::specs::mirror::quadrant2))]
 fn decode_quadrant2(h: u16) -> Option<Form16>
     ensures { result ≡ quadrant2 h }
 {
@@ -160,7 +160,7 @@ fn decode_quadrant2(h: u16) -> Option<Form16>
 }
 
 /// C.JR, C.MV, C.EBREAK, C.JALR and C.ADD.
-#[tactic(auto, unfolding(crate::specs::mirror::Decoding::jump_or_move))]
+#[tactic(auto, unfolding(crate::specs::mirror::jump_or_move))]
 fn decode_jump_or_move(h: u16) -> Option<Form16>
     ensures { result ≡ jump_or_move h }
 {
@@ -190,7 +190,7 @@ fn decode_jump_or_move(h: u16) -> Option<Form16>
 }
 
 /// The form of a halfword, by its quadrant; none where no row of the table has it.
-#[tactic(auto, unfolding(crate::specs::mirror::Decoding::decoded))]
+#[tactic(auto, unfolding(crate::specs::mirror::decoded))]
 fn decode_halfword(h: u16) -> Option<Form16>
     ensures { result ≡ decoded h }
 {

@@ -2,10 +2,10 @@
 //! them.
 ghost use Rattle.std.specs.Prelude.{◌≡◌, ◌<◌, map, IsTrue};
 ghost use Rattle.std.specs.Option.{SomeIff};
-ghost use Rattle.rv_comp.specs.Bits.{bit_value};
-ghost use Rattle.rv_comp.specs.Halfwords.{halfword_of};
+ghost use Rattle.rv_comp.specs.Table.{bit_value};
+ghost use Rattle.rv_comp.specs.Fronts.{halfword_of};
 ghost use Rattle.rv_comp.specs.Table.{allowed, fields_of, place};
-ghost use Rattle.rv_comp.specs.mirror.Encoding.{row_bit, row_fields, row_number, is_low, AreLow};
+ghost use Rattle.rv_comp.specs.mirror.{row_bit, row_fields, row_number, is_low, AreLow};
 
 mod allowed;
 mod rows;

@@ -1,8 +1,8 @@
 //! The first form of an instruction: the rows that may expand to it, from the top of the table.
 ghost use Rattle.std.specs.Prelude.{◌≡◌, ◌≢◌, ◌<◌, ◌^◌, ◌==◌, IsTrue, IfSome, IfNone};
-ghost use Rattle.rv_comp.specs.Halfwords.{IsFirst};
+ghost use Rattle.rv_comp.specs.Fronts.{IsFirst};
 ghost use Rattle.rv_comp.specs.Table.{allowed, expansion};
-ghost use Rattle.rv_comp.specs.mirror.First.{first_form, first_addi, upper_value, taken};
+ghost use Rattle.rv_comp.specs.mirror.{first_form, first_addi, upper_value, taken};
 ghost use Rattle.rv_comp.specs.declared.form.Form16.{Form16};
 ghost use Rattle.rv_word.specs.declared.instr.Instr.TheVariants.{Op, OpImm, Load, Store, Branch, Jal, Jalr, Lui};
 
@@ -32,7 +32,7 @@ fn form_or(expands: bool, form: Form16, later: Option<Form16>) -> Option<Form16>
 }
 
 /// The first form of `addi rd, rs1, imm`, if any.
-#[tactic(auto, unfolding(crate::specs::mirror::First::first_addi))]
+#[tactic(auto, unfolding(crate::specs::mirror::first_addi))]
 fn first_of_addi(rd: Reg, rs1: Reg, imm: i32) -> Option<Form16>
     ensures { result ≡ first_addi rd rs1 imm }
 {
@@ -43,7 +43,7 @@ fn first_of_addi(rd: Reg, rs1: Reg, imm: i32) -> Option<Form16>
 }
 
 /// The first form of an instruction on two registers, if any.
-#[tactic(auto, unfolding(crate::specs::mirror::First::first_form))]
+#[tactic(auto, unfolding(crate::specs::mirror::first_form))]
 fn first_of_op(op: RegOp, rd: Reg, rs1: Reg, rs2: Reg) -> Option<Form16>
     ensures { result ≡ first_form (Op op rd rs1 rs2) }
 {
@@ -62,7 +62,7 @@ fn first_of_op(op: RegOp, rd: Reg, rs1: Reg, rs2: Reg) -> Option<Form16>
 }
 
 /// The first form of an instruction on a register and a constant, if any.
-#[tactic(auto, unfolding(crate::specs::mirror::First::first_form))]
+#[tactic(auto, unfolding(crate::specs::mirror::first_form))]
 fn first_of_op_imm(op: ImmOp, rd: Reg, rs1: Reg, imm: i32) -> Option<Form16>
     ensures { result ≡ first_form (OpImm op rd rs1 imm) }
 {
@@ -78,7 +78,7 @@ fn first_of_op_imm(op: ImmOp, rd: Reg, rs1: Reg, imm: i32) -> Option<Form16>
 }
 
 /// The first form of a load, if any: only `lw` has one.
-#[tactic(auto, unfolding(crate::specs::mirror::First::first_form))]
+#[tactic(auto, unfolding(crate::specs::mirror::first_form))]
 fn first_of_load(kind: LoadKind, rd: Reg, rs1: Reg, imm: i32) -> Option<Form16>
     ensures { result ≡ first_form (Load kind rd rs1 imm) }
 {
@@ -92,7 +92,7 @@ fn first_of_load(kind: LoadKind, rd: Reg, rs1: Reg, imm: i32) -> Option<Form16>
 }
 
 /// The first form of a store, if any: only `sw` has one.
-#[tactic(auto, unfolding(crate::specs::mirror::First::first_form))]
+#[tactic(auto, unfolding(crate::specs::mirror::first_form))]
 fn first_of_store(width: StoreWidth, rs1: Reg, rs2: Reg, imm: i32) -> Option<Form16>
     ensures { result ≡ first_form (Store width rs1 rs2 imm) }
 {
@@ -106,7 +106,7 @@ fn first_of_store(width: StoreWidth, rs1: Reg, rs2: Reg, imm: i32) -> Option<For
 }
 
 /// The first form of a branch, if any: only `beq` and `bne` against x0 have one.
-#[tactic(auto, unfolding(crate::specs::mirror::First::first_form))]
+#[tactic(auto, unfolding(crate::specs::mirror::first_form))]
 fn first_of_branch(cond: Cond, rs1: Reg, rs2: Reg, offset: i32) -> Option<Form16>
     ensures { result ≡ first_form (Branch cond rs1 rs2 offset) }
 {
@@ -118,7 +118,7 @@ fn first_of_branch(cond: Cond, rs1: Reg, rs2: Reg, offset: i32) -> Option<Form16
 }
 
 /// The first form of `jal rd, offset`, if any.
-#[tactic(auto, unfolding(crate::specs::mirror::First::first_form))]
+#[tactic(auto, unfolding(crate::specs::mirror::first_form))]
 fn first_of_jal(rd: Reg, offset: i32) -> Option<Form16>
     ensures { result ≡ first_form (Jal rd offset) }
 {
@@ -127,7 +127,7 @@ fn first_of_jal(rd: Reg, offset: i32) -> Option<Form16>
 }
 
 /// The first form of `jalr rd, imm(rs1)`, if any.
-#[tactic(auto, unfolding(crate::specs::mirror::First::first_form))]
+#[tactic(auto, unfolding(crate::specs::mirror::first_form))]
 fn first_of_jalr(rd: Reg, rs1: Reg, imm: i32) -> Option<Form16>
     ensures { result ≡ first_form (Jalr rd rs1 imm) }
 {
@@ -139,7 +139,7 @@ fn first_of_jalr(rd: Reg, rs1: Reg, imm: i32) -> Option<Form16>
 }
 
 /// The first form of `lui rd, imm`, if any: none where `imm` has more than 20 bits.
-#[tactic(auto, unfolding(crate::specs::mirror::First::first_form, crate::specs::mirror::First::upper_value))]
+#[tactic(auto, unfolding(crate::specs::mirror::first_form, crate::specs::mirror::upper_value))]
 fn first_of_lui(rd: Reg, imm: u32) -> Option<Form16>
     ensures { result ≡ first_form (Lui rd imm) }
 {
@@ -158,7 +158,7 @@ fn first_of_lui(rd: Reg, imm: u32) -> Option<Form16>
 }
 
 /// The first form of an instruction, if any.
-#[tactic(auto, unfolding(crate::specs::mirror::First::first_form))]
+#[tactic(auto, unfolding(crate::specs::mirror::first_form))]
 fn first_of(instr: Instr) -> Option<Form16>
     ensures { result ≡ first_form instr }
 {

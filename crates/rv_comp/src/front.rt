@@ -1,8 +1,8 @@
 //! The instruction at the front of a list of bytes.
 ghost use Rattle.std.specs.Prelude.{◌≡◌, ◌<◌, length};
 ghost use Rattle.rv_comp.specs.Fronts.{IsFront};
-ghost use Rattle.rv_comp.specs.Halfwords.{IsShortSpelling};
-ghost use Rattle.rv_comp.specs.private.Fronts.{IsOnlyFront};
+ghost use Rattle.rv_comp.specs.Fronts.{IsShortSpelling};
+ghost use Rattle.rv_comp.specs.private.{IsOnlyFront};
 ghost use Rattle.rv_word.specs.Spelling.{IsWordOf};
 
 use crate::decode::decode16;

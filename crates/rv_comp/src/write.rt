@@ -3,7 +3,7 @@ ghost use Rattle.std.specs.Prelude.{◌≡◌, ◌↔◌, IsTrue};
 ghost use Rattle.std.specs.Bool.{OnTrue, OnFalse};
 ghost use Rattle.std.specs.Int.{w16, w32, to_le_bytes};
 ghost use Rattle.rv_word.specs.Spelling.{spelling, InRange};
-ghost use Rattle.rv_comp.specs.Halfwords.{halfword_of};
+ghost use Rattle.rv_comp.specs.Fronts.{halfword_of};
 ghost use Rattle.rv_comp.specs.Table.{allowed};
 
 use crate::encode::encode16;

@@ -10,5 +10,4 @@ pub use Rattle.rv_mem.specs.Frames.{frame_of, cell, cell_at, ArePages, with_entr
 unfoldable pub use Rattle.rv_mem.specs.Frames.{values_of, values_below}
 pub use Rattle.rv_mem.specs.Pages.{bytes_of}
 pub use Rattle.rv_mem.specs.private.Frames.{run_of, Puts, MarksRun, with_two, with_four}
-pub use Rattle.rv_mem.specs.private.Ranges.{HasIn, HasNone}
-pub use Rattle.rv_mem.specs.private.Segment.{byte_in, byte_among}
+pub use Rattle.rv_mem.specs.private.Segment.{HasIn, HasNone, byte_in, byte_among}

@@ -4,7 +4,7 @@ use Rattle.std.proofs.Math.ListN.{length-set}
 use Rattle.std.proofs.lemmas.Bool.{cases_eq, cases_lt}
 use Rattle.std.proofs.lemmas.List.{ext_get_or, get_or_past}
 use Rattle.std.proofs.lemmas.List.FromFn.{get_or-map-range_with_len, length-map-range_with_len}
-use Rattle.rv_mem.specs.private.Tables.{number_at, numbers_of, IsTable}
+use Rattle.rv_mem.specs.private.Frames.{number_at, numbers_of, IsTable}
 
 -- ---- as one list
 

@@ -1,5 +1,3 @@
 -- Words that private contracts and proofs alone cite: no public statement rests on them.
 pub mod Frames
-pub mod Ranges
 pub mod Segment
-pub mod Tables

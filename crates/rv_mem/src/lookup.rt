@@ -1,7 +1,7 @@
 //! What a list of segments has at an address.
 ghost use Rattle.std.specs.Prelude.{◌≡◌, ◌↔◌, IsTrue, IsSome};
 ghost use Rattle.std.specs.Bool.{OnTrue, OnFalse};
-ghost use Rattle.rv_mem.specs.private.Ranges.{HasIn, HasNone};
+ghost use Rattle.rv_mem.specs.private.Segment.{HasIn, HasNone};
 ghost use Rattle.rv_mem.specs.private.Segment.{byte_among, Puts};
 
 use crate::segment::Segment;

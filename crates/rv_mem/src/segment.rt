@@ -15,7 +15,7 @@ pub struct Segment {
 
 impl Segment {
     ghost use Rattle.rv_mem.specs.private.Segment.{byte_in, Puts};
-    ghost use Rattle.rv_mem.specs.private.Ranges.{HasIn, HasNone};
+    ghost use Rattle.rv_mem.specs.private.Segment.{HasIn, HasNone};
 
     /// The bytes of front and then zeros.
     pub fn new(alloc: Global, base: u32, size: u32, front: &[u8]) -> Result<Segment, AllocError>

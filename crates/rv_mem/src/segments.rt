@@ -3,7 +3,7 @@ ghost use Rattle.std.specs.Prelude.{◌≡◌, IsSome};
 ghost use Rattle.std.specs.Bool.{OnTrue, OnFalse};
 ghost use Rattle.std.specs.FinMap.{empty, insert};
 ghost use Rattle.rv_mem.specs.Bytes.{IsMemory, byte_at, Overlaps, IsFree};
-ghost use Rattle.rv_mem.specs.private.Ranges.{HasIn, HasNone};
+ghost use Rattle.rv_mem.specs.private.Segment.{HasIn, HasNone};
 ghost use Rattle.rv_mem.specs.Segment.{bytes_among};
 
 use crate::fault::AddFault;

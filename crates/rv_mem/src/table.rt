@@ -1,6 +1,6 @@
 //! A page table in two levels.
 ghost use Rattle.std.specs.Prelude.{◌≡◌, ◌≢◌, ◌*◌, ◌/◌, ◌^◌, ◌<◌, ◌≤◌, [], ℕ, IfSome, IsSome, None, OnOk, OnErr, length, slice_index, slice_set};
-ghost use Rattle.rv_mem.specs.private.Tables.{number_at, IsTable};
+ghost use Rattle.rv_mem.specs.private.Frames.{number_at, IsTable};
 
 use std::alloc::{AllocError, Global};
 use std::marker::Model;
@@ -21,7 +21,7 @@ pub struct Table {
 
 impl Model for Table {
     ghost use Rattle.std.specs.Prelude.{List, ℕ};
-    ghost use Rattle.rv_mem.specs.private.Tables.{numbers_of, IsTable};
+    ghost use Rattle.rv_mem.specs.private.Frames.{numbers_of, IsTable};
 
     ghost Value = { List ℕ };
 

@@ -1,7 +1,7 @@
 -- What is at pc, by one parcel and by two.
 use Rattle.rv_step.proofs.Prelude.{◌≡◌, ℕ, ◌+◌, ◌*◌, ◌/◌, ◌%◌, ◌^◌, ◌<◌, List, [], ◌∷◌, length, map, take, Option, Some, None, refl, sym, ap, ◌∙◌, subst, arith, inl, inr, ◌⊎◌, range_with_len, option_map, Instr, Front, Read, Short, Bad, Bytes, IsMemory, byte_at, address_after, addresses, in_front, number_of, loaded, State, present_then, present_at, IsAtPc}
 use Rattle.rv_comp.specs.Fronts.{Spells, SpellsNothing, IsCutShort, IsFront}
-use Rattle.rv_word.specs.Lengths.{length_of}
+use Rattle.rv_word.specs.Spelling.{length_of}
 use Rattle.rv_word.specs.declared.length.Length.TheVariants.{Wide}
 use Rattle.std.specs.Int.{w16, w32, from_le_bytes}
 use Rattle.rv_step.proofs.Standing.{from_front}

@@ -1,6 +1,6 @@
 -- What a step leaves of the registers.
 use Rattle.rv_step.proofs.Prelude.{◌≡◌, ◌≢◌, ℕ, ◌==◌, Bool, true, false, cond, List, set, get_or, Option, Some, None, is_some, refl, sym, ap, ◌∙◌, Instr, Op, OpImm, Load, Store, Branch, Jal, Jalr, Lui, Auipc, LoadKind, offset_by, Bytes, bytes_at, addresses, loaded, Trap, OtherRegistersStay, Hart, register, with_register, with_pc, past, Stepped, next, unchanged, after_load, effect, load_size, store_size, is_taken}
-use Rattle.rv_word.specs.Writes.{unless_x0, written}
+use Rattle.rv_word.specs.Outlines.{unless_x0, written}
 use Rattle.std.proofs.lemmas.List.{get_or-set_other}
 use Rattle.rv_step.specs.declared.outcome.Cause.TheVariants as cause
 use Rattle.rv_step.proofs.Steps.{effect_of}

@@ -1,6 +1,6 @@
 -- What a step comes to.
 use Rattle.rv_step.proofs.Prelude.{◌≡◌, ◌≢◌, ℕ, ◌-◌, ◌%◌, ◌^◌, ◌<◌, ◌⊎◌, inl, inr, Bool, true, false, cond, List, Option, Some, None, is_some, IsSome, refl, sym, ap, subst, ◌∙◌, arith, Contains, option_map, Instr, Op, OpImm, Load, Store, Branch, Jal, Jalr, Lui, Auipc, Fence, Ecall, Ebreak, LoadKind, offset_by, Front, Read, Short, Bad, Bytes, byte_at, bytes_at, addresses, number_of, loaded, stored, Next, Trap, OneStep, SomeStep, StepIsEffect, StepKeepsState, StoppedStays, OtherBytesStay, AccessedIsThere, Hart, State, IsHart, IsState, register, past, Stepped, next, unchanged, after_load, effect, bytes_at_pc, IsAtPc, after_front, register_op, load_size, store_size}
-use Rattle.rv_step.specs.Access.{Accesses}
+use Rattle.rv_step.specs.Step.{Accesses}
 use Rattle.rv_word.specs.Spelling.{InRange}
 use Rattle.rv_word.specs.declared.instr.StoreWidth.{StoreWidth}
 use Rattle.rv_step.specs.declared.outcome.Cause.TheVariants as cause

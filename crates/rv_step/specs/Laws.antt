@@ -3,15 +3,13 @@ use Rattle.std.specs.Prelude.{◌≡◌, ◌≢◌, ◌↔◌, ℕ, ◌<◌, Som
 use Rattle.rv_word.specs.declared.instr.Instr.{Instr}
 use Rattle.rv_word.specs.declared.instr.RegOp.TheVariants.{And, Or}
 use Rattle.rv_word.specs.declared.instr.Instr.TheVariants.{Op, Ecall}
-use Rattle.rv_word.specs.Writes.{written}
+use Rattle.rv_word.specs.Outlines.{written}
 use Rattle.rv_comp.specs.declared.front.Front.{Front}
 use Rattle.rv_comp.specs.Fronts.{IsFront}
 use Rattle.rv_mem.specs.Bytes.{byte_at, address_after}
 use Rattle.rv_step.specs.declared.outcome.Outcome.TheVariants.{Next, Call}
-use Rattle.rv_step.specs.Access.{Accesses}
+use Rattle.rv_step.specs.Step.{Accesses, Stepped, Stands, effect, bytes_at_pc, IsAtPc, IsStep, StandInRow, LeadTo}
 use Rattle.rv_step.specs.State.{State, IsState, register, with_register, past}
-use Rattle.rv_step.specs.Step.{Stepped, Stands, effect, bytes_at_pc, IsAtPc, IsStep}
-use Rattle.rv_step.specs.Steps.{StandInRow, LeadTo}
 
 -- one instruction at most stands at pc
 abbrev pub OneInstruction : Type 0

@@ -1,7 +1,7 @@
 //! What the instructions compute.
 ghost use Rattle.std.specs.Prelude.{◌≡◌, ◌%◌, ◌^◌, ◌<◌};
-ghost use Rattle.rv_word.specs.Numbers.{IsEven, offset_by};
-ghost use Rattle.rv_step.specs.Values.{extended, is_taken, load_size, register_op, result_of as op_result, shifted_right, word};
+ghost use Rattle.rv_word.specs.Spelling.{IsEven, offset_by};
+ghost use Rattle.rv_step.specs.Step.{extended, is_taken, load_size, register_op, result_of as op_result, shifted_right, word};
 
 use rv_word::{Cond, ImmOp, LoadKind, RegOp};
 

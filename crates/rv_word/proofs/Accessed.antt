@@ -1,6 +1,6 @@
 -- What was told to load or store does, and nothing else.
 use Rattle.rv_word.proofs.Prelude.{◌≡◌, ℕ, ◌+◌, ◌*◌, ◌^◌, ◌<◌, Bool, true, false, ◌&&◌, ◌==◌, Some, None, refl, sym, ap, ◌∙◌, subst, inl, inr, arith, eqb-true, ◌||◌, not, nat_lt, if◌then◌else◌, and_parts, cases_eq, ltb-true, Parts, LoadKind, StoreWidth, Instr, Load, Store, bits, load_funct3, store_funct3, spelling, InRange, IsWordOf, word_of, Fits, is_access}
-use Rattle.rv_word.specs.Accesses.{access, IsAccessOf}
+use Rattle.rv_word.specs.Outlines.{access, IsAccessOf}
 use Rattle.rv_word.specs.declared.access.Access.{Access}
 use Rattle.rv_word.specs.declared.instr.LoadKind.TheVariants.{Lb, Lh, Lw, Lbu, Lhu}
 use Rattle.rv_word.specs.declared.instr.StoreWidth.TheVariants.{Sb, Sh, Sw}

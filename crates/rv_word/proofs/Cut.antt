@@ -1,6 +1,6 @@
 -- The word that spells an instruction, cut at the borders of the R format.
 use Rattle.rv_word.proofs.Prelude.{◌≡◌, ℕ, ◌+◌, ◌*◌, ◌<◌, ◌/◌, ◌%◌, ℤ, pos, negsuc, arith, refl, sym, ap, ◌∙◌, Parts, RegOp, ImmOp, Slli, Srli, Srai, LoadKind, StoreWidth, Instr, Op, OpImm, Load, Store, Branch, Jal, Jalr, Lui, Auipc, Fence, Ecall, Ebreak, modulo, bits, op_funct3, op_funct7, imm_funct3, load_funct3, store_funct3, cond_funct3, spelling, InRange, IsWordOf, word_of, Fits}
-use Rattle.rv_word.specs.Formats.{r_format}
+use Rattle.rv_word.specs.Spelling.{r_format}
 use Rattle.rv_word.specs.declared.instr.Cond.{Cond}
 use Rattle.rv_word.specs.declared.instr.Cond.TheVariants.{Beq, Bne, Blt, Bge, Bltu, Bgeu}
 use Rattle.rv_word.specs.declared.instr.LoadKind.TheVariants.{Lb, Lh, Lw, Lbu, Lhu}

@@ -1,6 +1,6 @@
 -- A word that spells an instruction tells 32 bits.
 use Rattle.rv_word.proofs.Prelude.{◌≡◌, ℕ, ◌^◌, ◌<◌, ◌/◌, ◌%◌, arith, refl, sym, subst, ◌∙◌, ◌≢◌, Parts, Instr, Op, OpImm, Load, Store, Branch, Jal, Jalr, Lui, Auipc, Fence, Ecall, Ebreak, bits, word_of, Fits, ne_eqb, eq-eqb, SpellingsAreWide}
-use Rattle.rv_word.specs.Lengths.{length_of}
+use Rattle.rv_word.specs.Spelling.{length_of}
 use Rattle.rv_word.specs.declared.length.Length.TheVariants.{Wide}
 use Rattle.rv_word.proofs.Cut.{cut, cut_fits, cut_sum, opcode_of, cut_opcode}
 

@@ -1,6 +1,6 @@
 -- Fields that an `|` puts side by side are added.
 use Rattle.std.proofs.Common.{◌≡◌, ℕ, ◌+◌, ◌*◌, ◌^◌, ◌<◌, ◌≤◌, ◌%◌, arith, bit_or, bit_and, ◌∙◌, refl}
-use Rattle.rv_word.specs.Formats.{r_format, u_format}
+use Rattle.rv_word.specs.Spelling.{r_format, u_format}
 use Rattle.std.proofs.lemmas.Nat.{or_shifted, and_mask, shl_whole}
 
 -- high | low, where low has k bits and high none of them

@@ -2,8 +2,7 @@
 use Rattle.std.specs.Prelude.{◌≡◌, ℕ, ◌%◌, ◌^◌, ◌<◌, ◌⊎◌}
 use Rattle.rv_word.specs.declared.instr.Instr.{Instr}
 use Rattle.rv_word.specs.declared.length.Length.TheVariants.{Wide}
-use Rattle.rv_word.specs.Lengths.{length_of}
-use Rattle.rv_word.specs.Spelling.{IsWordOf}
+use Rattle.rv_word.specs.Spelling.{length_of, IsWordOf}
 
 -- a word spells one instruction at most
 abbrev pub OneSpelling : Type 0

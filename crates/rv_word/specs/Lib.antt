@@ -1,10 +1,4 @@
-pub mod Numbers
-pub mod Formats
-pub mod Functs
 pub mod Spelling
-pub mod Lengths
-pub mod Writes
 pub mod Outlines
-pub mod Accesses
 pub mod Laws
 pub mod private

@@ -1,8 +1,8 @@
 //! Loads and stores, told by one test for both.
 ghost use Rattle.std.specs.Prelude.{◌≡◌, IfSome, if◌then◌else◌, ◌==◌};
 ghost use Rattle.rv_word.specs.declared.instr.Instr.{Instr};
-ghost use Rattle.rv_word.specs.Accesses.{access, IsAccessOf};
-ghost use Rattle.rv_word.specs.private.Parts.{word_of, Fits, is_access};
+ghost use Rattle.rv_word.specs.Outlines.{access, IsAccessOf};
+ghost use Rattle.rv_word.specs.private.{word_of, Fits, is_access};
 ghost use Rattle.rv_word.specs.Spelling.{IsWordOf};
 
 use crate::opcode;

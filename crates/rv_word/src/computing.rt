@@ -2,7 +2,7 @@
 //! without making an outline.
 ghost use Rattle.std.specs.Prelude.{◌≡◌, ℕ, true};
 ghost use Rattle.std.specs.Bool.{OnTrue};
-ghost use Rattle.rv_word.specs.Numbers.{bits};
+ghost use Rattle.rv_word.specs.Spelling.{bits};
 ghost use Rattle.rv_word.specs.declared.outline.Outline.TheVariants.{Computes};
 ghost use Rattle.rv_word.specs.Outlines.{IsWordThat};
 

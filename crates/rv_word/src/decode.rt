@@ -1,7 +1,7 @@
 //! Reading a word as an instruction.
 ghost use Rattle.std.specs.Prelude.{◌≡◌, IfSome, IfNone};
 ghost use Rattle.rv_word.specs.declared.instr.Instr.{Instr};
-ghost use Rattle.rv_word.specs.private.Parts.{word_of, Fits, SpellsNone};
+ghost use Rattle.rv_word.specs.private.{word_of, Fits, SpellsNone};
 ghost use Rattle.rv_word.specs.Spelling.{IsWordOf};
 
 use crate::instr::{Cond, ImmOp, Instr, LoadKind, RegOp, StoreWidth};

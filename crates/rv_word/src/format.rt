@@ -1,8 +1,8 @@
 //! Words of the formats I, S, B, U and J. An immediate that its bits don't hold has none.
 ghost use Rattle.std.specs.Prelude.{◌≡◌, ℕ, ◌^◌, ◌<◌};
 ghost use Rattle.std.specs.Option.{SomeIff};
-ghost use Rattle.rv_word.specs.Numbers.{modulo};
-ghost use Rattle.rv_word.specs.Formats.{i_format, s_format, b_format, u_format, j_format};
+ghost use Rattle.rv_word.specs.Spelling.{modulo};
+ghost use Rattle.rv_word.specs.Spelling.{i_format, s_format, b_format, u_format, j_format};
 ghost use Rattle.rv_word.specs.Spelling.{IsImm12, IsBranchOffset, IsJumpOffset};
 
 use crate::bits::side_by_side;

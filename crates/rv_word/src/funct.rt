@@ -5,7 +5,7 @@ ghost use Rattle.rv_word.specs.declared.instr.ImmOp.{ImmOp};
 ghost use Rattle.rv_word.specs.declared.instr.LoadKind.{LoadKind};
 ghost use Rattle.rv_word.specs.declared.instr.StoreWidth.{StoreWidth};
 ghost use Rattle.rv_word.specs.declared.instr.Cond.{Cond};
-ghost use Rattle.rv_word.specs.Functs.{op_funct3, op_funct7, imm_funct3, is_shift, shift_funct7, load_funct3, store_funct3, cond_funct3};
+ghost use Rattle.rv_word.specs.Spelling.{op_funct3, op_funct7, imm_funct3, is_shift, shift_funct7, load_funct3, store_funct3, cond_funct3};
 
 use crate::instr::{Cond, ImmOp, LoadKind, RegOp, StoreWidth};
 

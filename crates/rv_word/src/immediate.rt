@@ -1,7 +1,7 @@
 //! Signed numbers as the bits of a word hold them: immediates and offsets, both ways.
 ghost use Rattle.std.specs.Prelude.{◌≡◌, ◌^◌, ◌<◌, pos, IfSome};
 ghost use Rattle.std.specs.Option.{SomeIff};
-ghost use Rattle.rv_word.specs.Numbers.{modulo, minus, IsBetween};
+ghost use Rattle.rv_word.specs.Spelling.{modulo, minus, IsBetween};
 ghost use Rattle.rv_word.specs.Spelling.{IsImm12, IsBranchOffset, IsJumpOffset};
 
 /// The signed number that these 12 bits hold.

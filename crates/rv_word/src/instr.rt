@@ -1,6 +1,6 @@
 //! The instructions.
 ghost use Rattle.std.specs.Prelude.{◌≡◌};
-ghost use Rattle.rv_word.specs.Writes.{destination, written, writes_register};
+ghost use Rattle.rv_word.specs.Outlines.{destination, written, writes_register};
 
 use crate::reg::Reg;
 

@@ -1,6 +1,6 @@
 //! How long an instruction is.
 ghost use Rattle.std.specs.Prelude.{◌≡◌};
-ghost use Rattle.rv_word.specs.Lengths.{length_of};
+ghost use Rattle.rv_word.specs.Spelling.{length_of};
 
 /// The length that an instruction's first halfword tells.
 #[derive(Clone, Copy, PartialEq, Eq, Debug)]

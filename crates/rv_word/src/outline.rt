@@ -3,7 +3,7 @@ ghost use Rattle.std.specs.Prelude.{◌≡◌, IfSome, IfNone, Some};
 ghost use Rattle.rv_word.specs.declared.instr.Instr.{Instr};
 ghost use Rattle.std.specs.Option.{option_map};
 ghost use Rattle.rv_word.specs.Outlines.{outline, IsWordThat};
-ghost use Rattle.rv_word.specs.private.Parts.{word_of, Fits, SpellsNone};
+ghost use Rattle.rv_word.specs.private.{word_of, Fits, SpellsNone};
 ghost use Rattle.rv_word.specs.Spelling.{IsWordOf};
 
 use crate::instr::Instr;

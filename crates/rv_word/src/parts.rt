@@ -1,8 +1,8 @@
 //! A word cut at the borders of the R format, and the immediates that its parts make.
 ghost use Rattle.std.specs.Prelude.{◌≡◌, ◌^◌, ◌<◌};
-ghost use Rattle.rv_word.specs.Numbers.{modulo};
-ghost use Rattle.rv_word.specs.Formats.{i_format, s_format, b_format, u_format, j_format};
-ghost use Rattle.rv_word.specs.private.Parts.{word_of, Fits};
+ghost use Rattle.rv_word.specs.Spelling.{modulo};
+ghost use Rattle.rv_word.specs.Spelling.{i_format, s_format, b_format, u_format, j_format};
+ghost use Rattle.rv_word.specs.private.{word_of, Fits};
 ghost use Rattle.rv_word.specs.Spelling.{IsImm12, IsBranchOffset, IsJumpOffset};
 
 use crate::bits::side_by_side;

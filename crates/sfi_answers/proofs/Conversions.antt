@@ -11,10 +11,8 @@ use Rattle.sfi_check.specs.declared.conversion.ConvertFault.{ConvertFault}
 use Rattle.sfi_check.specs.declared.conversion.ConvertFault.TheVariants.{Refused, NotOld, Stack, Memory}
 use Rattle.sfi_check.specs.declared.refusal.Refusal.TheVariants as refusal
 use Rattle.sfi_answers.specs.private.{HasFound, AnswersConvertFault}
-use Rattle.sfi_answers.specs.Checking.{refused_line, HasSomeFault}
-use Rattle.sfi_answers.specs.Building.{image_output}
-use Rattle.sfi_answers.specs.Converting.{SaysConversion, convert}
-use Rattle.sfi_answers.specs.Answers.{Answers, IsStop, AnswersStatus}
+use Rattle.sfi_answers.specs.Answers.{refused_line, HasSomeFault, Answers, IsStop, AnswersStatus}
+use Rattle.sfi_answers.specs.Building.{image_output, SaysConversion, convert}
 use Rattle.sfi_answers.specs.declared.fault.Stop.{Stop}
 use Rattle.sfi_answers.specs.declared.fault.Stop.TheVariants as stop
 use Rattle.sfi_answers.specs.declared.verdict.Answer.{Answer}

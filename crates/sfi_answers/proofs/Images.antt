@@ -3,8 +3,7 @@ use Rattle.std.proofs.Common.{◌≡◌, ◌∙◌, ◌⊎◌, ◌↔◌, ℕ, B
 use Rattle.std.specs.Prelude.{IsTrue}
 use Rattle.std.specs.Io.KnownBytes.{Consumes}
 use Rattle.std.specs.Fmt.{option_append}
-use Rattle.sfi_io.specs.Images.{BeginsAsImage, GivesNoImage}
-use Rattle.sfi_io.specs.Streams.{IsInput}
+use Rattle.sfi_io.specs.Hexadecimal.{BeginsAsImage, GivesNoImage, IsInput}
 use Rattle.sfi_io.specs.declared.streams.Input.TheVariants.{Whole}
 use Rattle.sfi_answers.specs.Answers.{GivesImageThat}
 

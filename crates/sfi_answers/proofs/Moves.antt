@@ -6,18 +6,17 @@ use Rattle.std.proofs.lemmas.List.{take-append-le, take_all}
 use Rattle.sfi_policy.specs.declared.place.Place.{Place}
 use Rattle.sfi_image.specs.Spelling.{Part}
 use Rattle.sfi_image.specs.Faults.{IsFault}
-use Rattle.sfi_image.specs.Images.{IsImage}
-use Rattle.sfi_image.specs.Sandboxes.{IsBeyond}
+use Rattle.sfi_image.specs.Parts.{IsImage}
+use Rattle.sfi_image.specs.Keeping.{IsBeyond}
 use Rattle.sfi_image.specs.declared.fault.LayoutFault.{LayoutFault}
 use Rattle.sfi_rules.specs.declared.finding.Finding.{Finding}
 use Rattle.sfi_safety.specs.Clean.{IsAccepted}
 use Rattle.sfi_check.specs.Verdict.{HasFindings}
-use Rattle.sfi_places.specs.Moves.{moved_one, IsMoved, IsMoveFault, IsWrongPlace}
+use Rattle.sfi_places.specs.Moving.{moved_one, IsMoved, IsMoveFault, IsWrongPlace}
 use Rattle.sfi_places.specs.declared.relocation.MoveFault.{MoveFault}
 use Rattle.sfi_places.specs.declared.relocation.MoveFault.TheVariants.{NoSandbox, NoPlace}
-use Rattle.sfi_answers.specs.Answers.{Answers, AnswersStatus, IsStop}
+use Rattle.sfi_answers.specs.Answers.{Answers, AnswersStatus, IsStop, HasSomeFault, IsAcceptedImage, SaysRefused, on_verdict}
 use Rattle.sfi_answers.specs.Building.{image_output}
-use Rattle.sfi_answers.specs.Checking.{HasSomeFault, IsAcceptedImage, SaysRefused, on_verdict}
 use Rattle.sfi_answers.specs.Moving.{CannotMove, move}
 use Rattle.sfi_answers.specs.private.{IsMovedCopy, IsMovedOrMemory, IsMoveStop}
 use Rattle.sfi_answers.specs.declared.fault.Stop.{Stop}

@@ -5,10 +5,9 @@ use Rattle.std.proofs.lemmas.Bool.Decides.{nat_tests}
 use Rattle.hex.specs.Hex.{decode_of}
 use Rattle.hex.specs.declared.error.FromHexError.{FromHexError}
 use Rattle.sfi_image.specs.Sources.{OneRead, IsChain, Streams, bytes_handed_out, bytes_of, finds_end, is_end}
-use Rattle.sfi_check.specs.Streams.{IsVerdictOn}
+use Rattle.sfi_check.specs.Verdict.{IsVerdictOn}
 use Rattle.sfi_check.specs.declared.stream_answer.StreamAnswer.{StreamAnswer}
-use Rattle.sfi_io.specs.Hexadecimal.{IsUnreadable, SpellsBytes, is_kept}
-use Rattle.sfi_io.specs.Streams.{limit}
+use Rattle.sfi_io.specs.Hexadecimal.{IsUnreadable, SpellsBytes, is_kept, limit}
 use Rattle.sfi_io.specs.Pieces.{Leads, or_fault, outcome, prepend, start_of}
 use Rattle.sfi_io.specs.declared.text.TextStop.{TextStop}
 use Rattle.sfi_io.specs.declared.text.TextStop.TheVariants.{TooLarge, Failed}

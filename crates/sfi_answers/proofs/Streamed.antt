@@ -9,8 +9,8 @@ use Rattle.sfi_image.proofs.Handing.{reads_known, handed_out}
 use Rattle.sfi_rules.specs.declared.finding.Finding.{Finding}
 use Rattle.sfi_check.specs.declared.stream_answer.StreamAnswer.{StreamAnswer}
 use Rattle.sfi_check.specs.declared.stream_answer.StreamAnswer.TheVariants as answers
-use Rattle.sfi_check.specs.Streams.{AreCounted, IsVerdictOn}
-use Rattle.sfi_answers.specs.Checking.{HasSomeFault, SaysVerdict, accepted_text, refused_line, refused_text}
+use Rattle.sfi_check.specs.Verdict.{AreCounted, IsVerdictOn}
+use Rattle.sfi_answers.specs.Answers.{HasSomeFault, SaysVerdict, accepted_text, refused_line, refused_text}
 use Rattle.sfi_answers.specs.private.{IsJudged}
 
 -- the line of counted findings is that of the findings

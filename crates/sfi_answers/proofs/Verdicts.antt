@@ -5,8 +5,7 @@ use Rattle.sfi_check.specs.declared.refusal.Refusal.TheVariants.{Layout, Finding
 use Rattle.sfi_image.specs.Faults.{IsFault}
 use Rattle.sfi_image.specs.declared.fault.LayoutFault.{LayoutFault}
 use Rattle.sfi_rules.specs.declared.finding.Finding.{Finding}
-use Rattle.sfi_answers.specs.Checking.{IsRefusalText, SaysRefused, on_verdict, Refuses}
-use Rattle.sfi_answers.specs.Answers.{Answers, IsStop}
+use Rattle.sfi_answers.specs.Answers.{IsRefusalText, SaysRefused, on_verdict, Refuses, Answers, IsStop}
 use Rattle.sfi_answers.specs.declared.fault.Stop.{Stop}
 use Rattle.sfi_answers.specs.declared.fault.Stop.TheVariants as stop
 use Rattle.sfi_answers.specs.declared.verdict.Answer.{Answer}

@@ -1,21 +1,25 @@
--- The commands `build` and `map`, on a source text.
+-- The commands `build`, `map` and `convert`.
 use Rattle.std.specs.Prelude.{ℕ, ◌+◌, ◌==◌, List, [], ◌∷◌, ◌++◌, codes, decimal, ◌≡◌, ◌⊎◌, ◌<◌, ◌≤◌, length, IsUtf8, Bool, true, false, if◌then◌else◌}
 use Rattle.std.specs.List.{flat_map}
 use Rattle.sfi_policy.specs.declared.format.Format.{Format}
 use Rattle.sfi_policy.specs.declared.format.Format.TheVariants.{Sfi1, Sfi2, Sfiw}
 use Rattle.sfi_image.specs.Spelling.{Part}
-use Rattle.sfi_image.specs.Images.{IsImage}
+use Rattle.sfi_image.specs.Parts.{IsImage}
 use Rattle.sfi_link.specs.Names.{MapEntry}
 use Rattle.sfi_link.specs.declared.names.NameKind.{NameKind}
 use Rattle.sfi_link.specs.declared.names.NameKind.TheVariants.{Gate, Code, Data}
-use Rattle.sfi_report.specs.Digits.{hex_digits, line_end}
-use Rattle.sfi_report.specs.Names.{IsNamesText}
+use Rattle.sfi_report.specs.Listing.{hex_digits, line_end, IsNamesText}
 use Rattle.hex.specs.Hex.{encode_lower}
 use Rattle.sfi_build.specs.declared.build_fault.BuildFault.{BuildFault}
 use Rattle.sfi_build.specs.Texts.{IsTextBuild, IsTextMap, IsBuildFault}
 use Rattle.sfi_policy.specs.declared.place.Place.{Place}
-use Rattle.sfi_io.specs.Streams.{limit}
-use Rattle.sfi_answers.specs.Answers.{Meaning}
+use Rattle.sfi_io.specs.Hexadecimal.{limit}
+use Rattle.sfi_answers.specs.Answers.{Meaning, refused_line, SaysRefused, HasSomeFault}
+use Rattle.sfi_check.specs.Converting.{IsSecond, IsOfWords, IsConversion, HasStackFindings}
+use Rattle.sfi_check.specs.Verdict.{HasFindings}
+use Rattle.sfi_rules.specs.declared.finding.Finding.{Finding}
+
+-- ==== The commands `build` and `map`, on a source text.
 
 -- ---- the lines that say the addresses of gates and labels
 
@@ -116,3 +120,50 @@ build raw = of_source IsTextBuild (image_output raw)
 -- build has no map, and the same fault
 abbrev pub map : List Place → Meaning
 map = of_source IsMapText (λ text. text)
+
+-- ==== The command `convert`, on an image's bytes.
+
+-- ---- the answer
+
+-- the image has a conversion: status 0 and the new bytes, or one line of their digits
+pub record SaysConverted (raw : Bool) (bytes : List ℕ) (status : ℕ) (text : List ℕ) : Type 0 where
+  pub new : List ℕ
+  pub conversion : IsConversion bytes new
+  pub status_is : status ≡ 0
+  pub text_is : text ≡ image_output raw new
+
+-- the image has no findings in the first format, and its sandboxes have some in the second: status
+-- 1 and the line of the first
+pub record SaysStack (bytes : List ℕ) (status : ℕ) (text : List ℕ) : Type 0 where
+  pub found : List Finding
+  pub refused : HasStackFindings bytes found
+  pub status_is : status ≡ 1
+  pub text_is : text ≡ refused_line found
+
+-- the conversion, or the verdict on an image of the first or third format with findings, or on one
+-- of the first whose sandboxes have findings in the second alone
+abbrev pub SaysConversion : Bool → List ℕ → ℕ → List ℕ → Type 0
+SaysConversion raw bytes status text =
+    SaysConverted raw bytes status text
+    ⊎ (((¬ IsSecond bytes) × SaysRefused false bytes status text) ⊎ SaysStack bytes status text)
+
+-- ---- when it is due
+
+-- the bytes are an image of the first or third format with findings, or one of the first whose
+-- sandboxes have findings in the second alone
+abbrev pub HasFindingsForConvert : List ℕ → Type 0
+HasFindingsForConvert bytes =
+    (found : List Finding)
+    × (((¬ IsSecond bytes) × HasFindings bytes found) ⊎ HasStackFindings bytes found)
+
+-- ---- the command
+
+-- `convert`. Bytes that begin with the magic of the second format have a fault, whatever follows,
+-- and so has an accepted image of code in words
+abbrev pub convert : Bool → Meaning
+convert raw = record {
+  says = SaysConversion raw;
+  is_done = λ bytes. (new : List ℕ) × IsConversion bytes new;
+  is_refused = HasFindingsForConvert;
+  has_fault = λ bytes. HasSomeFault bytes ⊎ (IsSecond bytes ⊎ IsOfWords bytes);
+}

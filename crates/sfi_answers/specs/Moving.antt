@@ -2,12 +2,11 @@
 use Rattle.std.specs.Prelude.{◌≡◌, ◌⊎◌, ℕ, List, Bool, false}
 use Rattle.sfi_policy.specs.declared.place.Place.{Place}
 use Rattle.sfi_image.specs.Spelling.{Part}
-use Rattle.sfi_image.specs.Sandboxes.{IsBeyond}
+use Rattle.sfi_image.specs.Keeping.{IsBeyond}
 use Rattle.sfi_safety.specs.Clean.{IsAccepted}
-use Rattle.sfi_places.specs.Moves.{moved_one, IsMoved, IsWrongPlace}
-use Rattle.sfi_answers.specs.Answers.{Meaning}
+use Rattle.sfi_places.specs.Moving.{moved_one, IsMoved, IsWrongPlace}
+use Rattle.sfi_answers.specs.Answers.{Meaning, HasSomeFault, HasSomeFindings, IsAcceptedImage, SaysRefused}
 use Rattle.sfi_answers.specs.Building.{image_output}
-use Rattle.sfi_answers.specs.Checking.{HasSomeFault, HasSomeFindings, IsAcceptedImage, SaysRefused}
 
 -- the image has no findings, nor has it with the sandbox at that place: status 0 and that image
 pub record SaysMoved (raw : Bool) (number : ℕ) (to : Place) (bytes : List ℕ) (status : ℕ)

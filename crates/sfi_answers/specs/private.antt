@@ -4,20 +4,19 @@ use Rattle.std.specs.declared.alloc.Global.{Global}
 use Rattle.sfi_policy.specs.declared.place.Place.{Place}
 use Rattle.sfi_image.specs.Spelling.{Part}
 use Rattle.sfi_safety.specs.Clean.{IsAccepted}
-use Rattle.sfi_places.specs.Moves.{moved_one, IsMoved}
-use Rattle.sfi_answers.specs.Answers.{IsStop}
+use Rattle.sfi_places.specs.Moving.{moved_one, IsMoved}
+use Rattle.sfi_answers.specs.Answers.{IsStop, refused_line, HasSomeFault}
 use Rattle.sfi_answers.specs.Moving.{CannotMove}
 use Rattle.sfi_rules.specs.declared.finding.Finding.{Finding}
 use Rattle.sfi_check.specs.declared.conversion.ConvertFault.{ConvertFault}
 use Rattle.sfi_check.specs.declared.conversion.ConvertFault.TheVariants.{Refused, NotOld, Stack, Memory, Words}
 use Rattle.sfi_check.specs.declared.refusal.Refusal.TheVariants as refusal
-use Rattle.sfi_answers.specs.Checking.{refused_line, HasSomeFault}
 use Rattle.sfi_answers.specs.declared.fault.Stop.{Stop}
 use Rattle.sfi_answers.specs.declared.fault.Stop.TheVariants as stop
 use Rattle.sfi_answers.specs.declared.verdict.Answer.{Answer}
 use Rattle.sfi_answers.specs.Building.{IsNoSourceText}
 use Rattle.sfi_image.specs.Sources.{bytes_of, is_end}
-use Rattle.sfi_check.specs.Streams.{IsVerdictOn}
+use Rattle.sfi_check.specs.Verdict.{IsVerdictOn}
 use Rattle.sfi_check.specs.declared.stream_answer.StreamAnswer.{StreamAnswer}
 use Rattle.sfi_io.specs.Pieces.{Leads}
 use Rattle.sfi_io.specs.declared.text.TextStop.{TextStop}

@@ -1,11 +1,11 @@
 //! The commands `build` and `map`.
 ghost use Rattle.std.specs.Prelude.{◌≡◌, ◌++◌, List, ℕ, OnOk, IfOk, string_bytes, ◌≤◌, IfErr, length};
-ghost use Rattle.sfi_image.specs.Images.{IsImage};
+ghost use Rattle.sfi_image.specs.Parts.{IsImage};
 ghost use Rattle.sfi_image.specs.Spelling.{Part};
 ghost use Rattle.sfi_answers.specs.Building.{kind_name, line_of_entry, lines_in, IsTableText, IsMapFrom, IsSourceText, build, map};
 ghost use Rattle.sfi_answers.specs.Answers.{Answers};
 ghost use Rattle.sfi_answers.specs.private.{IsSourceStop};
-ghost use Rattle.sfi_io.specs.Streams.{limit};
+ghost use Rattle.sfi_io.specs.Hexadecimal.{limit};
 
 use crate::fault::{InputFault, Stop};
 use crate::verdict::{Answer, image_output};

@@ -3,7 +3,7 @@
 ghost use Rattle.std.specs.Prelude.{◌≡◌, ◌<◌, ◌≤◌, IfOk, string_bytes};
 ghost use Rattle.sfi_check.specs.Verdict.{HasFindings};
 ghost use Rattle.sfi_answers.specs.Answers.{Answers};
-ghost use Rattle.sfi_answers.specs.Checking.{Refuses, IsRefusalText, IsReportOf, SaysRefused, check, on_verdict};
+ghost use Rattle.sfi_answers.specs.Answers.{Refuses, IsRefusalText, IsReportOf, SaysRefused, check, on_verdict};
 
 use crate::fault::{Stop, stop_answer};
 use crate::verdict::{Answer, accepted_line, refused_line};

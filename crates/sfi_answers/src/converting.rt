@@ -4,8 +4,8 @@ ghost use Rattle.std.specs.Prelude.{◌≡◌, ◌≢◌, [], IfOk, string_bytes
 ghost use Rattle.sfi_check.specs.declared.conversion.ConvertFault.TheVariants.{Refused};
 ghost use Rattle.sfi_answers.specs.private.{AnswersConvertFault, HoldsSome};
 ghost use Rattle.sfi_answers.specs.Answers.{Answers};
-ghost use Rattle.sfi_answers.specs.Checking.{refused_line};
-ghost use Rattle.sfi_answers.specs.Converting.{convert};
+ghost use Rattle.sfi_answers.specs.Answers.{refused_line};
+ghost use Rattle.sfi_answers.specs.Building.{convert};
 
 use crate::fault::{InputFault, Stop};
 use crate::verdict::{Answer, image_output, refused_line};

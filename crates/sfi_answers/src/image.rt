@@ -1,9 +1,9 @@
 //! The command `check` on an image that is read: its own bytes, or its text.
 
 ghost use Rattle.std.specs.Prelude.{◌≡◌, ◌<◌, ◌≤◌, false, IfOk, IfSome};
-ghost use Rattle.sfi_io.specs.Images.{BeginsAsImage};
+ghost use Rattle.sfi_io.specs.Hexadecimal.{BeginsAsImage};
 ghost use Rattle.sfi_answers.specs.Answers.{on_image};
-ghost use Rattle.sfi_answers.specs.Checking.{check};
+ghost use Rattle.sfi_answers.specs.Answers.{check};
 
 use crate::checking::bytes_answer;
 use crate::fault::TOO_LARGE_LINE;

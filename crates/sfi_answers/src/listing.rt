@@ -1,7 +1,7 @@
 //! The command `dis`.
 
 ghost use Rattle.sfi_answers.specs.Answers.{Answers};
-ghost use Rattle.sfi_answers.specs.Listing.{dis};
+ghost use Rattle.sfi_answers.specs.Answers.{dis};
 
 use crate::fault::Stop;
 use crate::verdict::Answer;

@@ -1,9 +1,9 @@
 //! The command `move`.
 
 ghost use Rattle.std.specs.Prelude.{ℕ, List, IfErr, IfOk, IsErr};
-ghost use Rattle.sfi_places.specs.Moves.{IsMoved};
+ghost use Rattle.sfi_places.specs.Moving.{IsMoved};
 ghost use Rattle.sfi_answers.specs.Answers.{Answers};
-ghost use Rattle.sfi_answers.specs.Checking.{HasSomeFault};
+ghost use Rattle.sfi_answers.specs.Answers.{HasSomeFault};
 ghost use Rattle.sfi_answers.specs.Moving.{CannotMove, move};
 ghost use Rattle.sfi_answers.specs.private.{IsMovedCopy, IsMovedOrMemory, IsMoveStop};
 

@@ -1,8 +1,8 @@
 //! The command `check --raw`.
 
 ghost use Rattle.std.specs.Prelude.{◌≡◌, ◌<◌, ◌≤◌, ℕ, List, Bool, true, false, IfOk, IfSome, string_bytes};
-ghost use Rattle.sfi_check.specs.Streams.{IsVerdictOn};
-ghost use Rattle.sfi_answers.specs.Checking.{HasSomeFault, check};
+ghost use Rattle.sfi_check.specs.Verdict.{IsVerdictOn};
+ghost use Rattle.sfi_answers.specs.Answers.{HasSomeFault, check};
 ghost use Rattle.sfi_answers.specs.private.{IsJudged};
 
 use crate::fault::layout_line;

@@ -2,8 +2,8 @@
 
 ghost use Rattle.std.specs.Prelude.{◌≡◌, ◌<◌, ◌≤◌, false, IfOk, IfSome, string_bytes};
 ghost use Rattle.sfi_answers.specs.Answers.{on_image};
-ghost use Rattle.sfi_answers.specs.Checking.{check};
-ghost use Rattle.sfi_io.specs.Images.{BeginsAsImage};
+ghost use Rattle.sfi_answers.specs.Answers.{check};
+ghost use Rattle.sfi_io.specs.Hexadecimal.{BeginsAsImage};
 
 use crate::fault::{InputFault, Stop, TOO_LARGE_LINE, stop_answer};
 use crate::raw::stream_answer;

@@ -2,7 +2,7 @@
 
 ghost use Rattle.std.specs.Prelude.{◌≡◌, IfOk, string_bytes};
 ghost use Rattle.sfi_answers.specs.Answers.{Answers};
-ghost use Rattle.sfi_answers.specs.Translating.{IsTranslationText, back_text, front_text, translate};
+ghost use Rattle.sfi_answers.specs.Answers.{IsTranslationText, back_text, front_text, translate};
 
 use crate::checking::refusal_answer;
 use crate::fault::Stop;
@@ -14,7 +14,7 @@ use sfi_translate::translation_text;
 use std::alloc::{AllocError, Global};
 
 /// What stands before the lines.
-#[tactic(auto, unfolding(crate::specs::Translating::front_text))]
+#[tactic(auto, unfolding(crate::specs::Answers::front_text))]
 fn front_text(whole: bool) -> &'static str
     ensures { result.now ≡ front_text whole }
 {
@@ -26,7 +26,7 @@ fn front_text(whole: bool) -> &'static str
 }
 
 /// What stands after them.
-#[tactic(auto, unfolding(crate::specs::Translating::back_text))]
+#[tactic(auto, unfolding(crate::specs::Answers::back_text))]
 fn back_text(whole: bool) -> &'static str
     ensures { result.now ≡ back_text whole }
 {

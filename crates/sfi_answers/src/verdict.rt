@@ -1,7 +1,7 @@
 //! What a command answers.
 
 ghost use Rattle.std.specs.Prelude.{◌≡◌, IfOk, string_bytes};
-ghost use Rattle.sfi_answers.specs.Checking.{accepted_text, refused_text};
+ghost use Rattle.sfi_answers.specs.Answers.{accepted_text, refused_text};
 ghost use Rattle.sfi_answers.specs.Building.{digits_line, image_output};
 
 use sfi_report::push_eight_digits;

@@ -3,13 +3,12 @@ use Rattle.sfi_link.proofs.Prelude.{◌≡◌, ℕ, List, [], ◌∷◌, ap, ◌
 use Rattle.std.specs.Prelude.{◌≢◌}
 use Rattle.std.proofs.lemmas.Result.{IfOk-weaker}
 use Rattle.sfi_text.specs.Texts.{MeansSource}
-use Rattle.sfi_link.specs.Building.{IsLinkedImage, ArePlacements, IsBuild}
+use Rattle.sfi_link.specs.Linked.{IsLinkedImage, ArePlacements, IsBuild}
 use Rattle.sfi_link.specs.Standing.{ImageRunsAs}
 use Rattle.sfi_build.specs.Texts.{IsTextBuild, IsTextMap, IsCleanImage, IsBuildFault, IsWantOfMemory, AnswersBuild, AnswersBuildFault}
 use Rattle.sfi_build.specs.declared.build_fault.BuildFault.{BuildFault}
 use Rattle.sfi_build.specs.declared.build_fault.BuildFault.TheVariants.{Text, Rewrite, Link}
-use Rattle.sfi_rewrite.specs.SourceFaults.{IsSourceFault}
-use Rattle.sfi_rewrite.specs.Rewriting.{AreRewritten}
+use Rattle.sfi_rewrite.specs.Rewriting.{IsSourceFault, AreRewritten}
 use Rattle.sfi_rewrite.specs.declared.fault.RewriteFault.{RewriteFault}
 use Rattle.sfi_text.proofs.Facts as texts
 use Rattle.sfi_rewrite.proofs.Facts as sources

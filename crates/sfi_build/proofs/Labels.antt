@@ -1,6 +1,6 @@
 -- At each label in the code of a text's map a unit of its sandbox's code begins in the text's image.
 use Rattle.sfi_link.proofs.Prelude.{◌≡◌, ℕ, List, Some, sym, subst, arith, All, Part, slice_get}
-use Rattle.sfi_image.specs.Images.{IsImage}
+use Rattle.sfi_image.specs.Parts.{IsImage}
 use Rattle.sfi_image.proofs.Facts.{one_image}
 use Rattle.sfi_link.specs.Names.{BeginsUnit, map_from}
 use Rattle.sfi_link.proofs.Labels.{labels_begin_units}

@@ -1,21 +1,20 @@
 -- What the build and the map of a text are, and why a text has none.
 use Rattle.std.specs.Prelude.{◌≡◌, ◌⊎◌, ℕ, List, [], Result, Ok, Err, Vec}
 use Rattle.std.specs.Global.{Global}
-use Rattle.sfi_text.specs.Causes.{memory}
+use Rattle.sfi_text.specs.Tokens.{memory}
 use Rattle.sfi_source.specs.Source.{Sandbox}
 use Rattle.sfi_text.specs.Texts.{MeansSource, IsFault}
 use Rattle.sfi_image.specs.Spelling.{Part}
 use Rattle.sfi_policy.specs.declared.place.Place.{Place}
-use Rattle.sfi_image.specs.Images.{IsImage}
+use Rattle.sfi_image.specs.Parts.{IsImage}
 use Rattle.sfi_rules.specs.Findings.{AreImageFindings}
 use Rattle.sfi_rewrite.specs.declared.fault.RewriteFault.TheVariants as rewriter
 use Rattle.sfi_rewrite.specs.Placement.{Placement}
-use Rattle.sfi_rewrite.specs.SourceFaults.{IsSourceFault}
-use Rattle.sfi_rewrite.specs.Rewriting.{AreRewritten}
+use Rattle.sfi_rewrite.specs.Rewriting.{IsSourceFault, AreRewritten}
 use Rattle.sfi_link.specs.declared.fault.LinkFault.TheVariants as linker
 use Rattle.sfi_build.specs.declared.build_fault.BuildFault.{BuildFault}
 use Rattle.sfi_build.specs.declared.build_fault.BuildFault.TheVariants.{Text, Rewrite, Link}
-use Rattle.sfi_link.specs.Building.{IsLinkedImage}
+use Rattle.sfi_link.specs.Linked.{IsLinkedImage}
 use Rattle.sfi_link.specs.Faults.{IsLinkFault}
 use Rattle.sfi_link.specs.Names.{MapEntry, map_from}
 

@@ -6,7 +6,7 @@ ghost use Rattle.sfi_text.specs.declared.cause.TextCause.TheVariants.{Limit};
 ghost use Rattle.sfi_build.specs.declared.build_fault.BuildFault.{BuildFault};
 ghost use Rattle.sfi_build.specs.declared.build_fault.BuildFault.TheVariants.{Text, Link};
 ghost use Rattle.sfi_link.specs.declared.fault.LinkFault.TheVariants as fault;
-ghost use Rattle.sfi_link.specs.Building.{IsBuild};
+ghost use Rattle.sfi_link.specs.Linked.{IsBuild};
 ghost use Rattle.sfi_link.specs.Names.{MapEntry};
 ghost use Rattle.sfi_link.specs.Standing.{ImageRunsAs};
 ghost use Rattle.sfi_build.specs.Texts.{IsTextBuild, IsTextMap, IsCleanImage, IsBuildFault, IsWantOfMemory, AnswersBuild, AnswersBuildFault};

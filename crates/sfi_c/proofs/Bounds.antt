@@ -10,11 +10,9 @@ use Rattle.sfi_policy.specs.Formats.{code_most}
 use Rattle.sfi_image.specs.declared.fault.LayoutFault.TheVariants.{Short}
 use Rattle.sfi_image.specs.declared.fields.Fields.{Fields}
 use Rattle.sfi_image.specs.declared.span.Span.{Span}
-use Rattle.sfi_image.specs.Spelling.{part, gate, number}
-use Rattle.sfi_image.specs.Spans.{spans}
-use Rattle.sfi_image.specs.Tests.{FieldTest, IsFirstFault, fault_of, field_tests}
-use Rattle.sfi_image.specs.Tests.FieldTest.{Code, Data, GuardRoom, Start, Gates, Init, Overlap}
-use Rattle.sfi_image.specs.Parts.{IsRightPart}
+use Rattle.sfi_image.specs.Spelling.{part, gate, number, spans}
+use Rattle.sfi_image.specs.Parts.{FieldTest, IsFirstFault, fault_of, field_tests, IsRightPart}
+use Rattle.sfi_image.specs.Parts.FieldTest.{Code, Data, GuardRoom, Start, Gates, Init, Overlap}
 use Rattle.sfi_image.specs.Fronts.{HasFaultWhateverFollows}
 use Rattle.sfi_image.specs.Faults.{IsFault, IsCountFault, ArePartsFault, IsPartFault, IsBodyFault}
 use Rattle.sfi_image.proofs.Standing.{region, Region}

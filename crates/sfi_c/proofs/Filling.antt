@@ -5,8 +5,7 @@ use Rattle.sfi_check.specs.declared.for_c.SfiFinding.{SfiFinding}
 use Rattle.sfi_c.specs.private.{Has}
 use Rattle.sfi_c.proofs.Writing.{over, with_is, over_length, written_after}
 use Rattle.sfi_check.specs.declared.stream_answer.StreamAnswer.{StreamAnswer}
-use Rattle.sfi_check.specs.Verdict.{HasFindings}
-use Rattle.sfi_check.specs.Streams.{IsVerdictOn, IfFindings, AreHandedOver}
+use Rattle.sfi_check.specs.Verdict.{HasFindings, IsVerdictOn, IfFindings, AreHandedOver}
 use Rattle.sfi_check.proofs.Facts.{one_list_of_findings}
 
 -- the array before has these findings; then others are written after them, as many as there is room for

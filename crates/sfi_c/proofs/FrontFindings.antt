@@ -18,15 +18,13 @@ use Rattle.sfi_image.proofs.Bundles.{right_words}
 use Rattle.sfi_image.proofs.Cancelling.{same_gate, same_fields, same_list, length-fields, part_split}
 use Rattle.sfi_rules.specs.declared.owed.Owed.{Owed}
 use Rattle.sfi_rules.specs.declared.owed.Owed.TheVariants.{Nothing}
-use Rattle.sfi_rules.specs.Broken.{rest_finding}
-use Rattle.sfi_rules.specs.Bundles.{bundle_place, bundle_bytes}
-use Rattle.sfi_rules.specs.Readings.{Piece, rest_of}
-use Rattle.sfi_rules.specs.Rules.{is_empty}
+use Rattle.sfi_rules.specs.Rules.{rest_finding, is_empty}
+use Rattle.sfi_rules.specs.Readings.{bundle_place, bundle_bytes, Piece, rest_of}
 use Rattle.sfi_rules.specs.Findings.{AreFindings, AreFindingsFrom, AreFoundUpTo, AreFindingsOfFirst, AreFindingsInBundles}
 use Rattle.sfi_rules.specs.words.Findings.{found_from, owed_past, IsWordFound, AreFoundInWords, AreFoundOfFirst, AreFindingsInWords}
 use Rattle.sfi_rules.proofs.Facts.{one_longest_reading, one_bundle_list}
 use Rattle.sfi_safety.proofs.Places.{nothing_before}
-use Rattle.sfi_check.specs.Tallies.{AreFindingsSoFar, owed_after}
+use Rattle.sfi_check.specs.Feeds.{AreFindingsSoFar, owed_after}
 use Rattle.sfi_image.proofs.Offsets.{length-gates}
 
 -- ---- the first bundles of a part, where more have no finding

@@ -5,7 +5,7 @@ use Rattle.std.specs.Prelude.{slice_get}
 use Rattle.sfi_image.proofs.Facts.{one_image, never_both}
 use Rattle.sfi_c.specs.declared.looking.Lookup.{Lookup}
 use Rattle.sfi_c.specs.declared.looking.Lookup.TheVariants.{NoImage}
-use Rattle.sfi_image.specs.Sandboxes.{IsBeyond}
+use Rattle.sfi_image.specs.Keeping.{IsBeyond}
 use Rattle.sfi_c.specs.Parts.{lookup_number, IsBeyondGates}
 use Rattle.sfi_c.specs.private.{HasPart, HasGate, HasFault, IsSaid, said_by}
 

@@ -8,7 +8,7 @@ use Rattle.sfi_image.specs.Spelling.{fields_of, fields, gate, part}
 use Rattle.sfi_image.proofs.Cancelling.{length-fields}
 use Rattle.sfi_c.specs.declared.part.SfiPart.{SfiPart}
 use Rattle.sfi_c.specs.Parts.{Tells, told_at}
-use Rattle.sfi_image.specs.Sandboxes.{LiesAt}
+use Rattle.sfi_image.specs.Keeping.{LiesAt}
 use Rattle.sfi_image.proofs.Offsets.{length-gates, length-part, sandbox_lies}
 
 -- ---- pieces

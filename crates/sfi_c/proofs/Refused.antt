@@ -12,8 +12,7 @@ use Rattle.sfi_image.specs.declared.fault.LayoutFault.TheVariants.{Short}
 use Rattle.sfi_image.specs.declared.fields.Fields.{Fields}
 use Rattle.sfi_image.specs.declared.part.Gate.{Gate}
 use Rattle.sfi_image.specs.declared.want.Want.TheVariants as wants
-use Rattle.sfi_image.specs.Spelling.{fields_of, format_of, number, fields, gate, part, spelling}
-use Rattle.sfi_image.specs.Spans.{spans}
+use Rattle.sfi_image.specs.Spelling.{fields_of, format_of, number, fields, gate, part, spelling, spans}
 use Rattle.sfi_image.specs.Parts.{IsRightPart, AreOf}
 use Rattle.sfi_image.specs.Faults.{IsFault}
 use Rattle.sfi_image.specs.Fronts.{Front, front, want_of, IsLess, IsRightFront, HasFaultWhateverFollows, part_of}
@@ -29,14 +28,13 @@ use Rattle.sfi_rules.specs.Findings.{AreFindings, AreImageFindings}
 use Rattle.sfi_rules.proofs.Facts.{one_image_list}
 use Rattle.sfi_safety.proofs.Places.{nothing_before}
 use Rattle.sfi_safety.specs.Clean.{IsAccepted}
-use Rattle.sfi_check.specs.Tallies.{AreFrontFindings, AreFindingsSoFar, AreFindingsWithin}
+use Rattle.sfi_check.specs.Feeds.{AreFrontFindings, AreFindingsSoFar, AreFindingsWithin, IsFed}
 use Rattle.sfi_image.specs.declared.layout_reader.LayoutReader.{LayoutReader}
 use Rattle.sfi_image.specs.declared.want.Next.TheVariants as next
 use Rattle.sfi_image.specs.Keeping.{StandsFor}
 use Rattle.sfi_check.specs.declared.feed.Feed.{Feed}
-use Rattle.sfi_check.specs.Feeds.{IsFed}
 use Rattle.sfi_check.proofs.Feeding.{fed_held, fed_fault, no_fault as no_fault_met}
-use Rattle.sfi_c.specs.Refused.{HaveFrontFindings, AreRefusedAlready}
+use Rattle.sfi_c.specs.Streams.{HaveFrontFindings, AreRefusedAlready}
 use Rattle.sfi_image.proofs.Offsets.{length-gates, length-number}
 use Rattle.sfi_c.proofs.Bounds.{never_short}
 use Rattle.sfi_c.proofs.FrontFindings.{none_so_far, none_of_part, first_clean, Reads, IsPartial, HasNoCode, HasCode, IsAllThereIs, no_part, no_code, begins, same_code}

@@ -4,11 +4,11 @@ use Rattle.std.proofs.Common.{◌↔◌}
 use Rattle.std.specs.List.{All}
 use Rattle.std.proofs.lemmas.List.Elements.{All-head, All-tail, All-from_recursion}
 use Rattle.sfi_image.specs.declared.span.Span.{Span}
-use Rattle.sfi_image.specs.Spans.{AreApart, code_region, guarded_region, spans}
+use Rattle.sfi_image.specs.Spelling.{AreApart, code_region, guarded_region, spans}
 use Rattle.sfi_places.specs.Beside.{AreBeside}
 use Rattle.sfi_c.specs.declared.part.SfiPart.{SfiPart}
 use Rattle.sfi_c.specs.Parts.{Tells}
-use Rattle.sfi_c.specs.Apart.{AreToldApart}
+use Rattle.sfi_c.specs.Moves.{AreToldApart}
 
 -- all of the two spans of a sandbox
 two : (P : Span → Type 0) (p : Part) → P (code_region p) → P (guarded_region p) → All P (spans (p ∷ []))

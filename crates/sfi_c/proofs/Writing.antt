@@ -3,7 +3,7 @@ use Rattle.sfi_c.proofs.Prelude.{◌≡◌, ℕ, suc, ◌+◌, ◌<◌, List, []
 use Rattle.std.proofs.Common.{zero, get_or}
 use Rattle.std.specs.Prelude.{map, slice_set}
 use Rattle.std.proofs.Math.Seq.{take-nil}
-use Rattle.sfi_c.specs.Arrays.{with_front}
+use Rattle.sfi_c.specs.Parts.{with_front}
 
 module _ {A B : Type 0} (form : A → B) where
   -- an array after these were written to it, by recursion

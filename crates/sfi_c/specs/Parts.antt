@@ -1,15 +1,30 @@
--- What C is told of the sandboxes and gates of an image's bytes.
-use Rattle.std.specs.Prelude.{◌≡◌, ℕ, ◌+◌, ◌*◌, ◌≤◌, ◌⊎◌, List, Some, length, slice_get}
+-- What C is told of the sandboxes and gates of an image, and the arrays it is written to.
+use Rattle.std.specs.Prelude.{List, ◌++◌, length, map, take, drop, ◌≡◌, ℕ, ◌+◌, ◌*◌, ◌≤◌, ◌⊎◌, Some, slice_get}
+use Rattle.sfi_rules.specs.declared.finding.Finding.{Finding}
+use Rattle.sfi_check.specs.declared.for_c.SfiFinding.{SfiFinding}
+use Rattle.sfi_check.specs.ForC.{finding_for_c}
 use Rattle.sfi_policy.specs.declared.format.Format.{Format}
 use Rattle.sfi_policy.specs.declared.format.Format.TheVariants.{Sfi1, Sfi2, Sfiw}
 use Rattle.sfi_image.specs.declared.part.Gate.{Gate}
 use Rattle.sfi_image.specs.Spelling.{Part, fields_bytes, gate_bytes}
-use Rattle.sfi_image.specs.Sandboxes.{IsSandboxOf, IsBeyond, LiesAt, sandbox_offset}
+use Rattle.sfi_image.specs.Keeping.{IsSandboxOf, IsBeyond, LiesAt, sandbox_offset}
 use Rattle.sfi_c.specs.declared.looking.Lookup.{Lookup}
 use Rattle.sfi_c.specs.declared.looking.Lookup.TheVariants.{Found, Beyond, NoImage}
 use Rattle.sfi_c.specs.declared.part.SfiGate.{SfiGate}
 use Rattle.sfi_c.specs.declared.part.SfiPart.{SfiPart}
-use Rattle.sfi_c.specs.Arrays.{with_front}
+
+-- ==== Arrays of a caller, to which a call writes.
+
+-- an array to which the items were written, each in this form: at its front as many as it has room
+-- for, and then what it held there before
+abbrev pub with_front : {A B : Type 0} → (A → B) → List A → List B → List B
+with_front form xs array = map form (take (length array) xs) ++ drop (length xs) array
+
+-- an array after findings were written to it
+abbrev pub with_findings : List Finding → List SfiFinding → List SfiFinding
+with_findings found array = with_front finding_for_c found array
+
+-- ==== What C is told of the sandboxes and gates of an image's bytes.
 
 -- ---- numbers
 

@@ -1,5 +1,5 @@
 -- What C keeps of an image that comes in pieces.
-use Rattle.std.specs.Prelude.{◌==◌, ◌/◌, ◌%◌, ℕ, List, [], ◌∷◌, cond, take, Option}
+use Rattle.std.specs.Prelude.{◌==◌, ◌/◌, ◌%◌, ℕ, List, [], ◌∷◌, cond, take, Option, ◌≡◌, ◌≢◌, ◌⊎◌, ◌++◌, length}
 use Rattle.std.specs.List.{find}
 use Rattle.std.specs.Option.{option_map}
 use Rattle.sfi_policy.specs.declared.format.Format.{Format}
@@ -12,14 +12,16 @@ use Rattle.sfi_image.specs.declared.fault.LayoutFault.TheVariants as faults
 use Rattle.sfi_image.specs.declared.layout_reader.LayoutReader.{LayoutReader}
 use Rattle.sfi_image.specs.Faults.{number_of}
 use Rattle.sfi_rules.specs.declared.finding.Finding.{Finding}
-use Rattle.sfi_rules.specs.Numbers.{numbered}
+use Rattle.sfi_rules.specs.Rules.{numbered}
 use Rattle.sfi_rules.specs.declared.owed.Owed.{Owed}
 use Rattle.sfi_rules.specs.declared.owed.Owed.TheVariants as owed
 use Rattle.sfi_check.specs.declared.feed.Feed.{Feed}
 use Rattle.sfi_check.specs.declared.tally.Tally.{Tally}
-use Rattle.sfi_check.specs.Feeds.{IsFed}
+use Rattle.sfi_check.specs.Feeds.{IsFed, AreFrontFindings}
 use Rattle.sfi_check.specs.declared.for_c.SfiFinding.{SfiFinding}
 use Rattle.sfi_c.specs.declared.stream.SfiStream.{SfiStream}
+use Rattle.sfi_image.specs.declared.want.Want.TheVariants as wants
+use Rattle.sfi_image.specs.Fronts.{Front, front, want_of, IsRightFront, IsLess, HasFaultWhateverFollows}
 
 -- ---- what numbers stand for: `IsStreamOf`, and its parts, which only private contracts name
 -- themselves
@@ -120,3 +122,28 @@ feed_of s = record {
 -- the numbers are those of a feed that was fed these bytes, in any pieces
 pub record IsStreamOf (s : SfiStream) (bytes : List ℕ) : Type 0 where
   pub fed : IsFed (feed_of s) bytes
+
+-- ==== Bytes of an image that are refused before all of them have come.
+
+-- the bytes are those of a right front of an image, and then fewer than come next, or none where the
+-- image is whole
+pub record AreReadTo (bytes : List ℕ) (at : Front) : Type 0 where
+  pub right : IsRightFront at
+  pub held : List ℕ
+  pub bytes_are : bytes ≡ front at ++ held
+  pub rests :
+      IsLess (length held) (want_of at) ⊎ ((want_of at ≡ wants.End) × (held ≡ []))
+
+-- the bytes are read to a front whose whole sandboxes and whole bundles have these findings
+pub record HaveFrontFindings (bytes : List ℕ) (found : List Finding) : Type 0 where
+  pub at : Front
+  pub read : AreReadTo bytes at
+  pub owed : Owed
+  pub found_are : AreFrontFindings at found owed
+
+-- The bytes are refused already: they have a fault of the layout, whatever follows them, or a rule is
+-- broken in the bundles that have come whole.
+abbrev pub AreRefusedAlready : List ℕ → Type 0
+AreRefusedAlready bytes =
+    ((k : LayoutFault) × HasFaultWhateverFollows bytes k)
+    ⊎ ((found : List Finding) × (found ≢ []) × HaveFrontFindings bytes found)

@@ -5,12 +5,12 @@ use Rattle.sfi_image.specs.Spelling.{Part}
 use Rattle.sfi_image.specs.Faults.{IsFault}
 use Rattle.sfi_c.specs.declared.looking.Lookup.{Lookup}
 use Rattle.sfi_c.specs.declared.looking.Lookup.TheVariants.{Found, Beyond, NoImage}
-use Rattle.sfi_image.specs.Sandboxes.{IsSandboxOf}
+use Rattle.sfi_image.specs.Keeping.{IsSandboxOf}
 use Rattle.sfi_places.specs.declared.relocation.MoveFault.{MoveFault}
 use Rattle.sfi_places.specs.declared.relocation.MoveFault.TheVariants as faults
 use Rattle.sfi_c.specs.declared.moving.Move.{Move}
 use Rattle.sfi_c.specs.declared.moving.Move.TheVariants as moves
-use Rattle.sfi_c.specs.Arrays.{with_findings}
+use Rattle.sfi_c.specs.Parts.{with_findings}
 use Rattle.std.proofs.Common.{sym, subst, append_assoc}
 use Rattle.std.proofs.lemmas.List.{append-nil}
 use Rattle.sfi_rules.specs.declared.finding.Finding.{Finding}

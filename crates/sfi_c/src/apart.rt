@@ -1,10 +1,10 @@
 //! Whether two sandboxes lie apart, of one image or of two.
 ghost use Rattle.std.specs.Prelude.{◌≡◌, ◌+◌, ◌<◌, ◌^◌, ◌↔◌, IsTrue, List, ℕ, [], ◌∷◌};
 ghost use Rattle.sfi_image.specs.Spelling.{Part};
-ghost use Rattle.sfi_image.specs.Spans.{AreApart};
+ghost use Rattle.sfi_image.specs.Spelling.{AreApart};
 ghost use Rattle.sfi_places.specs.Beside.{AreBeside};
-ghost use Rattle.sfi_c.specs.Apart.{told_code, told_guarded, AreToldApart};
-ghost use Rattle.sfi_image.specs.Sandboxes.{IsSandboxOf};
+ghost use Rattle.sfi_c.specs.Moves.{told_code, told_guarded, AreToldApart};
+ghost use Rattle.sfi_image.specs.Keeping.{IsSandboxOf};
 ghost use Rattle.sfi_c.specs.Parts.{Tells};
 
 use crate::part::SfiPart;

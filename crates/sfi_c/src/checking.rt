@@ -7,7 +7,7 @@ ghost use Rattle.sfi_rules.specs.declared.finding.Finding.{Finding};
 ghost use Rattle.sfi_check.specs.Verdict.{HasFindings, bundle_count};
 ghost use Rattle.sfi_safety.specs.Clean.{IsAccepted};
 ghost use Rattle.sfi_check.specs.ForC.{number_of, acceptance, refusal, no_image, IsAcceptance, IsRefusal, IsLayoutFault};
-ghost use Rattle.sfi_c.specs.Arrays.{with_findings};
+ghost use Rattle.sfi_c.specs.Parts.{with_findings};
 
 use crate::finding::{Array, write_findings};
 use sfi_check::{SfiFinding, SfiVerdict, Status, check_into};

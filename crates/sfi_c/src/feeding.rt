@@ -8,7 +8,7 @@ ghost use Rattle.sfi_check.specs.Verdict.{HasFindings, bundle_count};
 ghost use Rattle.sfi_safety.specs.Clean.{IsAccepted};
 ghost use Rattle.sfi_check.specs.ForC.{number_of, acceptance, refusal, no_image, IsAcceptance, IsRefusal, IsLayoutFault};
 ghost use Rattle.sfi_c.specs.Streams.{IsStreamOf};
-ghost use Rattle.sfi_c.specs.Refused.{AreRefusedAlready};
+ghost use Rattle.sfi_c.specs.Streams.{AreRefusedAlready};
 
 use crate::stage::fault_of;
 use crate::stream::{SfiStream, feed_of, kept};

@@ -1,6 +1,6 @@
 //! An array of C's as a sink of findings.
 ghost use Rattle.std.specs.Prelude.{◌≡◌};
-ghost use Rattle.sfi_c.specs.Arrays.{with_findings};
+ghost use Rattle.sfi_c.specs.Parts.{with_findings};
 
 use sfi_check::{FindingSink, SfiFinding};
 use sfi_scan::BundleFindings;

@@ -4,9 +4,9 @@ ghost use Rattle.sfi_c.specs.declared.looking.Lookup.TheVariants.{NoImage};
 ghost use Rattle.sfi_c.specs.private.{said_by, HasPart, HasGate, HasFault, IsSaid};
 ghost use Rattle.sfi_image.specs.declared.fault.LayoutFault.{LayoutFault};
 ghost use Rattle.sfi_image.specs.Spelling.{Part, part};
-ghost use Rattle.sfi_image.specs.Cursor.{IsViewOf};
+ghost use Rattle.sfi_image.specs.Keeping.{IsViewOf};
 ghost use Rattle.sfi_image.specs.Faults.{IsFault};
-ghost use Rattle.sfi_image.specs.Sandboxes.{sandbox_offset, IsSandboxOf, IsBeyond};
+ghost use Rattle.sfi_image.specs.Keeping.{sandbox_offset, IsSandboxOf, IsBeyond};
 ghost use Rattle.sfi_c.specs.Parts.{lookup_number, IsPartOf, IsGateOf, IsBeyondGates, AreGatesOf};
 
 use crate::part::{SfiGate, SfiPart, gate_told, part_told, write_gates};

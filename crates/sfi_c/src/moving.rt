@@ -2,11 +2,11 @@
 ghost use Rattle.std.specs.Prelude.{◌≡◌, ◌≢◌, ◌≤◌, ◌↔◌, ℕ, List};
 ghost use Rattle.sfi_image.specs.declared.fault.LayoutFault.{LayoutFault};
 ghost use Rattle.sfi_image.specs.Spelling.{Part};
-ghost use Rattle.sfi_image.specs.Images.{IsImage};
+ghost use Rattle.sfi_image.specs.Parts.{IsImage};
 ghost use Rattle.sfi_image.specs.Faults.{IsFault};
 ghost use Rattle.sfi_safety.specs.Clean.{IsAccepted};
-ghost use Rattle.sfi_image.specs.Sandboxes.{IsBeyond};
-ghost use Rattle.sfi_places.specs.Moves.{moved_one, IsMoved, IsWrongPlace};
+ghost use Rattle.sfi_image.specs.Keeping.{IsBeyond};
+ghost use Rattle.sfi_places.specs.Moving.{moved_one, IsMoved, IsWrongPlace};
 ghost use Rattle.sfi_c.specs.Moves.{move_number, to_place};
 ghost use Rattle.sfi_c.specs.private.{move_said_of};
 

@@ -1,7 +1,7 @@
 //! Sandboxes and gates of an image as C sees them.
 ghost use Rattle.std.specs.Prelude.{◌≡◌, ℕ, ◌+◌, length};
 ghost use Rattle.sfi_image.specs.Spelling.{Part, part};
-ghost use Rattle.sfi_image.specs.Cursor.{IsViewOf};
+ghost use Rattle.sfi_image.specs.Keeping.{IsViewOf};
 ghost use Rattle.sfi_c.specs.Parts.{told_at, told_gate, with_gates};
 
 use crate::stage::format_number;

@@ -1,15 +1,14 @@
 -- What a refusal is to a conversion, and which format an image begins with.
 use Rattle.sfi_check.proofs.Prelude.{◌≡◌, ℕ, List, [], ◌∷◌, ◌++◌, take, get_or, refl, sym, ap, ◌∙◌, subst, arith, Result, Ok, Err, Vec, IfOk, IfErr, false, Format, Sfi1, Sfi2, has_words, magic, IsFault, SandboxPart, Part, view, views, format_of, Finding, AreImageFindings, IsAccepted, HasFindings, IfLayoutFault, Refusal, LayoutFault}
 use Rattle.sfi_check.specs.Converting.{IsSecond, IsConversion, IsConvertFault, IfStack, AreOfStack, fault_of, AnswersLayout, AnswersFindings}
-use Rattle.sfi_check.specs.Refusals.{IfFindings}
+use Rattle.sfi_check.specs.OneVerdict.{IfFindings}
 use Rattle.sfi_check.specs.declared.conversion.ConvertFault.{ConvertFault}
 use Rattle.sfi_check.specs.declared.conversion.ConvertFault.TheVariants.{Stack}
 use Rattle.sfi_check.specs.declared.refusal.Refusal.TheVariants.{Layout, Findings, Memory}
-use Rattle.sfi_check.specs.private.Converting.{IsStackOf, Converts}
-use Rattle.sfi_image.specs.InFormat.{all_in_format}
+use Rattle.sfi_check.specs.private.{IsStackOf, Converts}
+use Rattle.sfi_image.specs.Spelling.{all_in_format, spelling}
 use Rattle.std.specs.Global.{Global}
 use Rattle.std.specs.Result.{IsErrAnd}
-use Rattle.sfi_image.specs.Spelling.{spelling}
 use Rattle.sfi_image.specs.Parts.{AreOf}
 use Rattle.sfi_policy.specs.declared.format.Format.TheVariants.{Sfiw}
 use Rattle.sfi_rules.proofs.Facts.{clean_breaks_stack_alone}

@@ -2,7 +2,7 @@
 use Rattle.sfi_check.proofs.Prelude.{◌≡◌, ◌≢◌, ◌⊎◌, ◌≤◌, ℕ, List, [], ◌∷◌, ◌∙◌, Some, true, refl, ap, subst, inl, inr, arith, append-nil, Finding, IsFault, LayoutFault, HasFaultWhateverFollows, StreamAnswer, HasFindings, IsVerdictOn, AreCounted}
 use Rattle.sfi_check.specs.declared.stream_answer.StreamAnswer.TheVariants.{Accepted, Layout, Findings, ReadFault}
 use Rattle.sfi_check.specs.ForC.{refusal, IsAcceptance, IsRefusal, IsLayoutFault, IsVerdictForC}
-use Rattle.sfi_check.specs.private.ForC.{verdict_for_c}
+use Rattle.sfi_check.specs.private.{verdict_for_c}
 
 accepted : (bytes : List ℕ) (a : StreamAnswer) → IsVerdictOn bytes true a → (verdict_for_c a).status ≡ 0 → IsAcceptance bytes (verdict_for_c a)
 accepted bytes (Accepted sandboxes bundles) v e =

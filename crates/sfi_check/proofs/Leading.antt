@@ -1,12 +1,12 @@
 -- One step of a reader with its tally.
 use Rattle.sfi_check.proofs.Prelude.{◌≡◌, ℕ, ◌+◌, ◌-◌, ◌<◌, ◌≤◌, List, ◌++◌, length, take, drop, refl, sym, ap, ◌∙◌, subst, arith, append_assoc, inl, inr, None, take-append-drop, length-take, length-drop, take_all, take-append-add, spans, IsCodeRegion, Part, Gate, is_gate_of, Front, Follows, front, IsRightFront, want_of, IsLengthOf, HasFaultWhateverFollows, Empty, AfterMagic, AfterCount, InGates, InCode, InInit, LayoutReader, StandsFor, left, Finding, BundlePlace, IsWithin, Tally, Tallies, IsSoFar, HoldsOfSome, Fields, LayoutFault}
-use Rattle.sfi_image.specs.Tests.{IsFirstFault, field_tests}
+use Rattle.sfi_image.specs.Parts.{IsFirstFault, field_tests}
 use Rattle.sfi_image.specs.declared.span.Span.{Span}
 use Rattle.sfi_image.specs.declared.want.Want.{Want}
 use Rattle.sfi_image.specs.declared.want.Want.TheVariants as wants
 use Rattle.sfi_check.specs.declared.ends.StepEnd.{StepEnd}
 use Rattle.sfi_check.specs.declared.ends.StepEnd.TheVariants as ends
-use Rattle.sfi_check.specs.private.Tallies.{IsTakenOff, Steps}
+use Rattle.sfi_check.specs.private.{IsTakenOff, Steps}
 use Rattle.sfi_check.proofs.Tallying.{fault_onwards}
 use Rattle.sfi_image.proofs.Facts.{whole_bundles}
 

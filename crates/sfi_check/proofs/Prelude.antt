@@ -12,33 +12,25 @@ pub use Rattle.sfi_policy.specs.declared.format.Format.TheVariants.{Sfi1, Sfi2}
 pub use Rattle.sfi_image.specs.Faults.{IsFault}
 pub use Rattle.sfi_image.specs.Fronts.{Front, AreBundlesWithin, IsStretchLength, Follows, want_of, IsLess, HasFaultWhateverFollows, front, IsRightFront, IsLengthOf, part_of, after_parts, after_init, after_code, after_gates}
 pub use Rattle.sfi_image.specs.Fronts.Front.{Empty, AfterMagic, AfterCount, InGates, InCode, InInit, Whole}
-pub use Rattle.sfi_image.specs.Gates.{is_gate_of}
+pub use Rattle.sfi_image.specs.Parts.{is_gate_of, IsRightPart, IsRightLayout, IsCodeRegion, IsImage}
 pub use Rattle.sfi_image.specs.declared.layout_reader.LayoutReader.{LayoutReader}
 pub use Rattle.sfi_image.specs.Keeping.{StandsFor, Leads, left, left_most}
-pub use Rattle.sfi_image.specs.Parts.{IsRightPart, IsRightLayout}
-pub use Rattle.sfi_image.specs.Regions.{IsCodeRegion}
-pub use Rattle.sfi_image.specs.Spans.{spans}
-pub use Rattle.sfi_image.specs.Spelling.{Part, view, views, format_of}
+pub use Rattle.sfi_image.specs.Spelling.{spans, Part, view, views, format_of}
 pub use Rattle.sfi_image.specs.declared.part.Gate.{Gate}
 pub use Rattle.sfi_image.specs.declared.part.SandboxPart.{SandboxPart}
-pub use Rattle.sfi_rules.specs.Bundles.{block_bundle, bundle_at, IsWithin, bundle_place, bundle_bytes}
+pub use Rattle.sfi_rules.specs.Readings.{block_bundle, bundle_at, IsWithin, bundle_place, bundle_bytes}
 pub use Rattle.sfi_rules.specs.Findings.{AreBundleFindings, AreReadingFindings, AreFindings, AreFindingsFrom, AreImageFindings, AreFoundUpTo}
 pub use Rattle.sfi_image.specs.declared.bundle.BundlePlace.{BundlePlace}
 pub use Rattle.sfi_rules.specs.declared.finding.Finding.{Finding}
-pub use Rattle.sfi_check.specs.Feeds.{IsFed, IsFedFinding, IsFedBy, IsHeld}
+pub use Rattle.sfi_check.specs.Feeds.{IsFed, IsFedFinding, IsFedBy, IsHeld, owed_after, AreFindingsSoFar, IsSoFar, Tallies, IsCut, AreFindingsWithin}
 pub use Rattle.sfi_runs.specs.Safety.{AllRunSafely}
-pub use Rattle.sfi_check.specs.Streams.{IsVerdictOn, AreHandedOver, AreCounted}
-pub use Rattle.sfi_check.specs.Verdict.{HasFindings, bundle_count}
+pub use Rattle.sfi_check.specs.Verdict.{IsVerdictOn, AreHandedOver, AreCounted, HasFindings, bundle_count}
 pub use Rattle.sfi_safety.specs.Clean.{IsAccepted}
 pub use Rattle.sfi_check.specs.declared.stream_answer.StreamAnswer.{StreamAnswer}
 pub use Rattle.sfi_check.specs.declared.tally.Tally.{Tally}
-pub use Rattle.sfi_check.specs.Tallies.{owed_after, AreFindingsSoFar, IsSoFar, Tallies, IsCut, AreFindingsWithin}
 pub use Rattle.sfi_scan.specs.Stretches.{findings_most, IsStretch, AreFoundInStretch, stretch_place}
-pub use Rattle.sfi_check.specs.private.Counting.{AddsFindings, Counts}
-pub use Rattle.sfi_check.specs.private.Tallies.{verdict_of, verdict_by, HoldsOfSome, Goes, LeadsOn}
-pub use Rattle.sfi_check.specs.Refusals.{IfLayoutFault}
+pub use Rattle.sfi_check.specs.private.{AddsFindings, Counts, verdict_of, verdict_by, HoldsOfSome, Goes, LeadsOn, left_to_feed}
+pub use Rattle.sfi_check.specs.OneVerdict.{IfLayoutFault}
 pub use Rattle.sfi_check.specs.declared.refusal.Refusal.{Refusal}
-pub use Rattle.sfi_check.specs.private.Feeds.{left_to_feed}
-pub use Rattle.sfi_image.specs.Images.{IsImage}
 pub use Rattle.sfi_image.specs.declared.fault.LayoutFault.{LayoutFault}
 pub use Rattle.sfi_image.specs.declared.fields.Fields.{Fields}

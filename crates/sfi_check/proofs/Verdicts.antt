@@ -1,9 +1,9 @@
 -- What the refusal of bytes with a fault says, and what no refusal says of an image.
 use Rattle.sfi_check.proofs.Prelude.{◌≡◌, ◌≢◌, ◌⊎◌, ℕ, List, [], Bool, true, false, Err, refl, ◌∙◌, inl, inr, subst, append-nil, Part, IsFault, HasFaultWhateverFollows, Finding, IsAccepted, IsVerdictOn, StreamAnswer, IfLayoutFault, Refusal, IsImage, LayoutFault}
-use Rattle.sfi_check.specs.Refusals.{refusal_of, IfFindings}
+use Rattle.sfi_check.specs.OneVerdict.{refusal_of, IfFindings}
 use Rattle.sfi_check.specs.declared.refusal.Refusal.TheVariants as refusals
 use Rattle.sfi_check.specs.declared.stream_answer.StreamAnswer.TheVariants as answers
-use Rattle.sfi_image.specs.Outcome.{IfLayout}
+use Rattle.sfi_image.specs.Faults.{IfLayout}
 use Rattle.sfi_image.specs.declared.fault.ImageFault.{ImageFault}
 use Rattle.sfi_check.specs.Verdict.{AnswersLayout, AnswersFindings}
 use Rattle.sfi_image.specs.declared.fault.ImageFault.TheVariants as image

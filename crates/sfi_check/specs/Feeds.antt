@@ -1,12 +1,105 @@
--- What a feed knows of the bytes that it was fed.
-use Rattle.std.specs.Prelude.{◌≡◌, ◌⊎◌, ℕ, List, ◌++◌, length, take, Option, Some, None}
+-- What an image is found to be piece by piece: what was found in its front, and what a feed keeps.
+use Rattle.std.specs.Prelude.{◌≡◌, ℕ, ◌+◌, ◌*◌, ◌/◌, ◌<◌, ◌≤◌, ◌==◌, List, [], ◌++◌, length, cond, slice_get, ◌⊎◌, take, Option, Some, None}
+use Rattle.sfi_policy.specs.Limits.{bundle_size}
+use Rattle.sfi_image.specs.declared.part.Gate.{Gate}
+use Rattle.sfi_image.specs.declared.fields.Fields.{Fields}
+use Rattle.sfi_image.specs.Spelling.{Part}
+use Rattle.sfi_image.specs.Fronts.{Front, front, want_of, IsLess, part_of, HasFaultWhateverFollows}
+use Rattle.sfi_image.specs.Fronts.Front.{Empty, AfterMagic, AfterCount, InGates, InCode, InInit, Whole}
+use Rattle.sfi_image.specs.declared.layout_reader.LayoutReader.{LayoutReader}
+use Rattle.sfi_image.specs.Keeping.{StandsFor, left, left_most}
+use Rattle.sfi_rules.specs.declared.finding.Finding.{Finding}
+use Rattle.sfi_rules.specs.declared.owed.Owed.{Owed}
+use Rattle.sfi_rules.specs.declared.owed.Owed.TheVariants.{Nothing}
+use Rattle.sfi_rules.specs.Findings.{AreFoundUpTo, AreImageFindings}
+use Rattle.sfi_scan.specs.Stretches.{findings_most}
+use Rattle.sfi_check.specs.declared.tally.Tally.{Tally}
+use Rattle.sfi_check.specs.Verdict.{bundle_count}
 use Rattle.sfi_image.specs.declared.want.Next.TheVariants as next
 use Rattle.sfi_image.specs.declared.fault.LayoutFault.{LayoutFault}
-use Rattle.sfi_image.specs.Fronts.{HasFaultWhateverFollows}
-use Rattle.sfi_image.specs.declared.layout_reader.LayoutReader.{LayoutReader}
-use Rattle.sfi_rules.specs.declared.finding.Finding.{Finding}
 use Rattle.sfi_check.specs.declared.feed.Feed.{Feed}
-use Rattle.sfi_check.specs.Tallies.{IsSoFar, IsCut}
+
+-- ==== What was found in the front of an image, and where a reader of it stands.
+
+-- what is owed after the code so far of a sandbox: what the tally keeps, and nothing before the first
+-- bundle
+abbrev pub owed_after : List ℕ → Owed → Owed
+owed_after code kept = cond (length code == 0) Nothing kept
+
+-- the findings of the code so far of the sandbox of that number, and what is owed after it,
+-- whatever its other code and its data are
+pub record AreFindingsSoFar (sandbox : ℕ) (f : Fields) (gs : List Gate) (code : List ℕ)
+    (found : List Finding) (kept : Owed) : Type 0 where
+  pub bundles : ℕ
+  pub len : length code ≡ bundle_size * bundles
+  pub found_are : (more init : List ℕ) → length (code ++ more) ≡ f.code_size
+      → AreFoundUpTo sandbox (part_of f gs (code ++ more) init) bundles found (owed_after code kept)
+
+-- the findings of whole sandboxes and of the code so far of the next
+pub record AreFindingsWithin (ps : List Part) (f : Fields) (gs : List Gate) (code : List ℕ)
+    (found : List Finding) (kept : Owed) : Type 0 where
+  pub before : List Finding
+  pub here : List Finding
+  pub before_are : AreImageFindings ps before
+  pub here_are : AreFindingsSoFar (length ps) f gs code here kept
+  pub found_is : found ≡ before ++ here
+
+-- the findings of a front; `kept` is what the tally keeps as owed
+abbrev pub AreFrontFindings : Front → List Finding → Owed → Type 0
+AreFrontFindings Empty found kept = found ≡ []
+AreFrontFindings (AfterMagic format) found kept = found ≡ []
+AreFrontFindings (AfterCount format n ps) found kept = AreImageFindings ps found
+AreFrontFindings (InGates n ps f gs) found kept = AreImageFindings ps found
+AreFrontFindings (InCode n ps f gs code) found kept = AreFindingsWithin ps f gs code found kept
+AreFrontFindings (InInit n ps f gs code init) found kept = AreFindingsWithin ps f gs code found kept
+AreFrontFindings (Whole ps) found kept = AreImageFindings ps found
+
+-- how many bundles a front has
+abbrev pub front_bundles : Front → ℕ
+front_bundles Empty = 0
+front_bundles (AfterMagic format) = 0
+front_bundles (AfterCount format n ps) = bundle_count ps
+front_bundles (InGates n ps f gs) = bundle_count ps
+front_bundles (InCode n ps f gs code) = bundle_count ps + length code / bundle_size
+front_bundles (InInit n ps f gs code init) = bundle_count ps + length code / bundle_size
+front_bundles (Whole ps) = bundle_count ps
+
+-- how many sandboxes have a bundle in the front
+abbrev pub front_sandboxes : Front → ℕ
+front_sandboxes Empty = 0
+front_sandboxes (AfterMagic format) = 0
+front_sandboxes (AfterCount format n ps) = length ps
+front_sandboxes (InGates n ps f gs) = length ps
+front_sandboxes (InCode n ps f gs code) = cond (length code == 0) (length ps) (length ps + 1)
+front_sandboxes (InInit n ps f gs code init) = length ps + 1
+front_sandboxes (Whole ps) = length ps
+
+-- the tally is that of the front, and `holds` is true of its findings
+pub record Tallies (holds : List Finding → Type 0) (t : Tally) (x : Front) : Type 0 where
+  pub found : List Finding
+  pub found_holds : holds found
+  pub found_are : AreFrontFindings x found t.owed
+  pub count : t.count ≡ length found
+  pub first : t.first ≡ slice_get found 0
+  pub bundles : t.bundles ≡ front_bundles x
+  pub sandboxes : t.sandboxes ≡ front_sandboxes x
+  pub few : t.count ≤ findings_most * t.bundles
+
+-- the reader and the tally are those of the bytes so far, and `holds` is true of their findings
+pub record IsSoFar (holds : List Finding → Type 0) (r : LayoutReader) (t : Tally)
+    (bytes : List ℕ) : Type 0 where
+  pub at : Front
+  pub stands : StandsFor r at
+  pub bytes_are : bytes ≡ front at
+  pub tallies : Tallies holds t at
+  pub few : t.bundles + left r ≤ left_most
+
+-- the bytes end before what comes next is whole, and are fewer than 28
+pub record IsCut (r : LayoutReader) (len : ℕ) : Type 0 where
+  pub less : (x : Front) → StandsFor r x → IsLess len (want_of x)
+  pub few : len < 28
+
+-- ==== What a feed knows of the bytes that it was fed.
 
 -- ---- the parts of `IsFedFinding`, which only private contracts name themselves
 

@@ -1,8 +1,5 @@
-pub mod Refusals
 pub mod OneVerdict
 pub mod Verdict
-pub mod Tallies
-pub mod Streams
 pub mod Feeds
 pub mod ForC
 pub mod Converting

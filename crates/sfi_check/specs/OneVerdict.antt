@@ -1,16 +1,38 @@
--- That bytes have one verdict, however they are read.
-use Rattle.std.specs.Prelude.{◌≡◌, ◌≢◌, ℕ, List, [], ◌++◌, Bool, true, length, slice_get, Some, Result, Ok, Err, IfOk, IfErr}
-use Rattle.sfi_image.specs.Spelling.{Part}
-use Rattle.sfi_image.specs.Faults.{IsFault}
+-- That bytes have one verdict, however they are read, and what a refusal says.
+use Rattle.std.specs.Prelude.{List, ◌≡◌, ◌≢◌, ℕ, [], ◌++◌, Bool, true, length, slice_get, Some, Result, Ok, Err, IfOk, IfErr}
+use Rattle.sfi_image.specs.declared.fault.LayoutFault.{LayoutFault}
+use Rattle.sfi_image.specs.declared.fault.ImageFault.{ImageFault}
+use Rattle.sfi_image.specs.declared.fault.ImageFault.TheVariants as image
 use Rattle.sfi_rules.specs.declared.finding.Finding.{Finding}
 use Rattle.sfi_check.specs.declared.refusal.Refusal.{Refusal}
 use Rattle.sfi_check.specs.declared.refusal.Refusal.TheVariants.{Layout, Findings, Memory}
+use Rattle.sfi_image.specs.Spelling.{Part}
+use Rattle.sfi_image.specs.Faults.{IsFault}
 use Rattle.sfi_check.specs.declared.stream_answer.StreamAnswer.{StreamAnswer}
 use Rattle.sfi_check.specs.declared.stream_answer.StreamAnswer.TheVariants as answers
-use Rattle.sfi_check.specs.Refusals.{IfLayoutFault, IfFindings}
-use Rattle.sfi_check.specs.Verdict.{HasFindings, bundle_count}
+use Rattle.sfi_check.specs.Verdict.{HasFindings, bundle_count, IsVerdictOn}
 use Rattle.sfi_safety.specs.Clean.{IsAccepted}
-use Rattle.sfi_check.specs.Streams.{IsVerdictOn}
+
+-- ==== Refusals.
+
+-- the refusal of bytes with this layout fault
+abbrev pub refusal_of : ImageFault → Refusal
+refusal_of (image.Layout k) = Layout k
+refusal_of image.Memory = Memory
+
+-- what holds of the layout's fault, where that is the refusal
+abbrev pub IfLayoutFault : (LayoutFault → Type 0) → Refusal → Type 0
+IfLayoutFault P (Layout k) = P k
+IfLayoutFault P (Findings found) = Unit {0}
+IfLayoutFault P Memory = Unit {0}
+
+-- what holds of the findings, where they are the refusal
+abbrev pub IfFindings : (List Finding → Type 0) → Refusal → Type 0
+IfFindings P (Layout k) = Unit {0}
+IfFindings P (Findings found) = P found.items
+IfFindings P Memory = Unit {0}
+
+-- ==== That bytes have one verdict, however they are read.
 
 -- what `check` promises of its answer on the bytes: its clauses `layout`, `findings` and `accepted`
 pub record Answers (bytes : List ℕ) (answer : Result (List Part) Refusal) : Type 0 where

@@ -9,7 +9,7 @@ ghost use Rattle.sfi_rules.specs.declared.finding.Finding.{Finding};
 ghost use Rattle.sfi_rules.specs.Findings.{AreImageFindings};
 ghost use Rattle.sfi_check.specs.Verdict.{HasFindings};
 ghost use Rattle.sfi_check.specs.Converting.{number_of, IsSecond, IsOfWords, HasStackFindings, IsConversion, AreOfStack, IfStack, IsConvertFault, AnswersNotOld, AnswersLayout, AnswersFindings, AnswersStack, AnswersWords, AnswersConversion};
-ghost use Rattle.sfi_check.specs.private.Converting.{ChecksStack, Converts};
+ghost use Rattle.sfi_check.specs.private.{ChecksStack, Converts};
 
 use crate::accepted::Accepted;
 use crate::refusal::Refusal;

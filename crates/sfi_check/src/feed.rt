@@ -3,10 +3,10 @@ ghost use Rattle.std.specs.Prelude.{◌≡◌, ◌≢◌, ℕ, ◌+◌, ◌<◌,
 ghost use Rattle.sfi_image.specs.Fronts.{Front};
 ghost use Rattle.sfi_image.specs.Keeping.{StandsFor};
 ghost use Rattle.sfi_rules.specs.declared.finding.Finding.{Finding};
-ghost use Rattle.sfi_check.specs.Streams.{IsVerdictOn, AreHandedOver};
-ghost use Rattle.sfi_check.specs.Tallies.{IsSoFar, IsCut};
+ghost use Rattle.sfi_check.specs.Verdict.{IsVerdictOn, AreHandedOver};
+ghost use Rattle.sfi_check.specs.Feeds.{IsSoFar, IsCut};
 ghost use Rattle.sfi_check.specs.Feeds.{IsFed, IsFedFinding};
-ghost use Rattle.sfi_check.specs.private.Feeds.{IsFedOn, left_to_feed};
+ghost use Rattle.sfi_check.specs.private.{IsFedOn, left_to_feed};
 
 use crate::ends::PieceEnd;
 use crate::piece::{take_piece, verdict};

@@ -1,8 +1,8 @@
 //! The verdict and its first finding as C sees them.
 ghost use Rattle.std.specs.Prelude.{◌≡◌, ◌≢◌, ℕ, List, true};
-ghost use Rattle.sfi_check.specs.Streams.{IsVerdictOn};
+ghost use Rattle.sfi_check.specs.Verdict.{IsVerdictOn};
 ghost use Rattle.sfi_check.specs.ForC.{acceptance, refusal, no_image, IsVerdictForC};
-ghost use Rattle.sfi_check.specs.private.ForC.{verdict_for_c};
+ghost use Rattle.sfi_check.specs.private.{verdict_for_c};
 
 use crate::stream_answer::StreamAnswer;
 use sfi_scan::Finding;

@@ -2,8 +2,8 @@
 ghost use Rattle.std.specs.Prelude.{◌≡◌, ℕ, List, length};
 ghost use Rattle.sfi_image.specs.Fronts.{Front, want_of, IsLengthOf};
 ghost use Rattle.sfi_image.specs.Keeping.{StandsFor};
-ghost use Rattle.sfi_check.specs.Tallies.{IsSoFar};
-ghost use Rattle.sfi_check.specs.private.Tallies.{IsTakenOff, Steps, Goes, verdict_of};
+ghost use Rattle.sfi_check.specs.Feeds.{IsSoFar};
+ghost use Rattle.sfi_check.specs.private.{IsTakenOff, Steps, Goes, verdict_of};
 
 use crate::ends::{PieceEnd, StepEnd};
 use crate::sink::scan_counted;

@@ -21,7 +21,7 @@ pub enum Refusal {
 }
 
 impl From<ImageFault> for Refusal {
-    ghost use Rattle.sfi_check.specs.Refusals.{refusal_of};
+    ghost use Rattle.sfi_check.specs.OneVerdict.{refusal_of};
 
     ghost from_gives = { λ fault refusal. refusal ≡ refusal_of fault };
 

@@ -1,7 +1,7 @@
 //! Sinks of findings: one that keeps none, and one that counts them.
 ghost use Rattle.std.specs.Prelude.{◌≡◌, ℕ};
 ghost use Rattle.sfi_scan.specs.Stretches.{IsStretch};
-ghost use Rattle.sfi_check.specs.private.Counting.{IsCounted};
+ghost use Rattle.sfi_check.specs.private.{IsCounted};
 
 use crate::tally::Tally;
 use sfi_scan::{BundleFindings, BundlePlace, FindingSink, Owed, scan_stretch};
@@ -29,7 +29,7 @@ struct Counted<'a, F> {
 
 impl<'a, F: FindingSink> FindingSink for Counted<'a, F> {
     ghost use Rattle.std.proofs.Common.{refl, ◌∙◌};
-    ghost use Rattle.sfi_check.specs.private.Counting.{Counts, counts_none, counts_more};
+    ghost use Rattle.sfi_check.specs.private.{Counts, counts_none, counts_more};
 
     // The tally and the sink stay the same ones.
     ghost takes = { λ s found t. (t.tally.ghost_name ≡ s.tally.ghost_name)

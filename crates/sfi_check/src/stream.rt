@@ -2,7 +2,7 @@
 ghost use Rattle.std.specs.Prelude.{◌≡◌, ◌↔◌, ℕ, ◌≤◌, List, Bool, true, false, take, Some, None, IfOk, OnErr};
 ghost use Rattle.sfi_image.specs.Sources.{Streams};
 ghost use Rattle.sfi_rules.specs.declared.finding.Finding.{Finding};
-ghost use Rattle.sfi_check.specs.Streams.{IsVerdictOn, AreHandedOver};
+ghost use Rattle.sfi_check.specs.Verdict.{IsVerdictOn, AreHandedOver};
 
 use crate::feed::Feed;
 use crate::sink::Nowhere;

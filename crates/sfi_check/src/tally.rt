@@ -2,7 +2,7 @@
 ghost use Rattle.std.specs.Prelude.{◌≡◌, ◌==◌, ◌+◌, ◌<◌, ◌≤◌, ◌^◌, ◌++◌, List, cond, length, slice_get};
 ghost use Rattle.sfi_policy.specs.Limits.{sandboxes_most};
 ghost use Rattle.sfi_rules.specs.declared.finding.Finding.{Finding};
-ghost use Rattle.sfi_check.specs.private.Counting.{Counts};
+ghost use Rattle.sfi_check.specs.private.{Counts};
 
 use sfi_scan::{BundleFindings, BundlePlace, Finding, Owed};
 

@@ -12,11 +12,10 @@ use Rattle.std.specs.Prelude.{◌==◌}
 use Rattle.std.specs.Str.Parse.{AllDigits, IsNumeral, digits_value, without_leading_plus}
 use Rattle.clap.specs.Walk.{Text}
 use Rattle.sfi_command.proofs.Rows.{map-take_more}
-use Rattle.sfi_command.specs.Command.{number_of}
+use Rattle.sfi_command.specs.Command.{number_of, SpellsAddress, SpellsPlace, SpellPlaces}
 use Rattle.sfi_command.specs.declared.job.JobFault.{JobFault}
 use Rattle.sfi_command.specs.declared.job.JobFault.TheVariants.{Usage, Hex, Memory}
 use Rattle.sfi_command.specs.private.{ArePlacesFault}
-use Rattle.sfi_command.specs.Places.{SpellsAddress, SpellsPlace, SpellPlaces}
 use Rattle.sfi_policy.specs.declared.place.Place.{Place}
 
 -- a text of digits begins with no plus

@@ -25,9 +25,8 @@ use Rattle.clap.specs.Simple.{App, is_simple, subcommand_of, subcommand_rows, Ha
 use Rattle.clap.specs.declared.parser.matches.ArgMatches.{ArgMatches}
 use Rattle.clap.specs.declared.parser.matches.ArgMatches.TheViews.{out-ArgMatches}
 use Rattle.clap.proofs.OnLiterals.{clap_on_literals}
-use Rattle.sfi_command.specs.Command.{sfi, quantum_most, rounds_most, texts_of, Names, NamesNoInput, Asks, IsBudget, IsCount, IsFaultOf, IsInputOf, IsNoInput, IsPlaceOf, number_of, sandbox_most}
+use Rattle.sfi_command.specs.Command.{sfi, quantum_most, rounds_most, texts_of, Names, NamesNoInput, Asks, IsBudget, IsCount, IsFaultOf, IsInputOf, IsNoInput, IsPlaceOf, number_of, sandbox_most, SpellsPlace}
 use Rattle.sfi_command.specs.private.{NamesNothing, IsFaultOfNamed, IsInputFault, IsPlaceFault, IsTextFault}
-use Rattle.sfi_command.specs.Places.{SpellsPlace}
 use Rattle.sfi_policy.specs.declared.place.Place.{Place}
 use Rattle.sfi_command.specs.declared.job.Job.{Job}
 use Rattle.sfi_command.specs.declared.job.Job.TheVariants.{Check, Dis, Build, Map, Run, Exec, Convert, Move, Translate}

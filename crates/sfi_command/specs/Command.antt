@@ -1,20 +1,44 @@
--- The command line of `sfi`, and the job that its words ask for.
-use Rattle.std.specs.Prelude.{◌≡◌, ◌↔◌, ◌≤◌, ◌<◌, ◌-◌, ◌^◌, IsTrue, IsErr, ℕ, pos, Ok, List, [], ◌∷◌, Bool, Option, Some, None, codes, find, true, false, string_bytes}
+-- The command line of `sfi`: its options, the job that its words ask for, and its faults.
+use Rattle.std.specs.Prelude.{◌≡◌, ◌≤◌, ◌++◌, ℕ, List, [], ◌∷◌, codes, length, ◌↔◌, ◌<◌, ◌-◌, ◌^◌, IsTrue, IsErr, pos, Ok, Bool, Option, Some, None, find, true, false, string_bytes}
+use Rattle.std.specs.Str.Parse.{IsNumeral, digits_value, without_leading_plus}
+use Rattle.clap.specs.Walk.{Text, Row, Rule, first_of}
+use Rattle.sfi_policy.specs.declared.place.Place.{Place}
 use Rattle.std.specs.Option.{option_map_or}
 use Rattle.std.specs.Str.{bytes_eq}
-use Rattle.std.specs.Str.Parse.{IsNumeral, digits_value, without_leading_plus}
 use Rattle.hex.specs.Hex.{decode_of}
 use Rattle.clap.specs.Faults.{fault_of}
 use Rattle.clap.specs.Simple.{App, Shape, new_app, new_rule, new_shape, on_top, subcommand_of, with_subcommand}
-use Rattle.clap.specs.Walk.{Row, Rule, Text, first_of}
 use Rattle.clap.specs.declared.builder.action.ArgAction.TheVariants.{Append, SetTrue}
 use Rattle.clap.specs.declared.builder.value_parser.ValueParser.TheVariants.{Signed, Unsigned}
 use Rattle.sfi_command.specs.declared.job.Job.{Job}
 use Rattle.sfi_command.specs.declared.job.Job.TheVariants.{Check, Dis, Build, Map, Run, Exec, Convert, Move, Translate}
 use Rattle.sfi_command.specs.declared.job.JobFault.{JobFault}
 use Rattle.sfi_command.specs.declared.job.JobFault.TheVariants.{Usage, Hex, Memory}
-use Rattle.sfi_command.specs.Places.{SpellPlaces, SpellsPlace}
-use Rattle.sfi_policy.specs.declared.place.Place.{Place}
+
+-- ==== The places that the option `--at` gives.
+
+-- the text spells this address: 1 to 8 hexadecimal digits, of either case
+pub record SpellsAddress (text : Text) (address : ℕ) : Type 0 where
+  pub numeral : IsNumeral 16 text
+  pub short : length text ≤ 8
+  pub value : digits_value 16 text ≡ address
+
+-- the text spells this place: where the code begins, a colon, and where the data begins
+pub record SpellsPlace (text : Text) (place : Place) : Type 0 where
+  pub before : Text
+  pub after : Text
+  pub text_is : text ≡ before ++ (codes ":" ++ after)
+  pub code_is : SpellsAddress before place.code_base
+  pub data_is : SpellsAddress after place.data_base
+
+-- the texts spell these places, one each, in this order
+abbrev pub SpellPlaces : List Text → List Place → Type 0
+SpellPlaces [] [] = Unit {0}
+SpellPlaces [] (place ∷ places) = ⊥
+SpellPlaces (text ∷ texts) [] = ⊥
+SpellPlaces (text ∷ texts) (place ∷ places) = SpellsPlace text place × SpellPlaces texts places
+
+-- ==== The command line of `sfi`, and the job that its words ask for.
 
 -- ---- the command line
 

@@ -7,7 +7,7 @@ ghost use Rattle.clap.specs.Values.{kind_of};
 ghost use Rattle.clap.specs.Walk.{first_of, rows_of, rule_of};
 ghost use Rattle.clap.specs.declared.builder.command.Command.TheViews.{out-Command};
 ghost use Rattle.sfi_command.specs.Command.{build, check, convert, count_rule, dis, flag_rule, input_rule, map_names, places_rule, program, quantum_most, rounds_most, run, sfi, texts_of, Asks, IsBudget, IsFaultOf, IsCount, IsGiven, IsInputOf, IsPlaceOf, Names, number_of};
-ghost use Rattle.sfi_command.specs.Places.{SpellPlaces};
+ghost use Rattle.sfi_command.specs.Command.{SpellPlaces};
 ghost use Rattle.sfi_command.specs.private.{IsCommandOf, IsFaultOfNamed, IsInputFault, ArePlacesFault, IsPlaceFault};
 
 use crate::commands::{QUANTUM_MOST, ROUNDS_MOST, SANDBOX_MOST, program};

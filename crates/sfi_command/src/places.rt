@@ -1,7 +1,7 @@
 //! The places that the option `--at` gives.
 
 ghost use Rattle.std.specs.Prelude.{◌≡◌, ℕ, IfErr, IfOk, IfSome, map};
-ghost use Rattle.sfi_command.specs.Places.{SpellsAddress, SpellsPlace, SpellPlaces};
+ghost use Rattle.sfi_command.specs.Command.{SpellsAddress, SpellsPlace, SpellPlaces};
 ghost use Rattle.sfi_command.specs.private.{ArePlacesFault, IsTextFault};
 ghost use Rattle.sfi_policy.specs.declared.place.Place.{Place};
 

@@ -6,7 +6,7 @@ use Rattle.rv_step.specs.declared.outcome.Outcome.TheVariants.{Call as Calls}
 use Rattle.sfi_policy.specs.Limits.{gates_most, service_most}
 use Rattle.sfi_image.specs.declared.part.Gate.{Gate}
 use Rattle.sfi_host.specs.declared.guest.Request.{Request}
-use Rattle.sfi_host.specs.Stops.{IsAtGate}
+use Rattle.sfi_host.specs.Worlds.{IsAtGate}
 use Rattle.sfi_host.specs.Waiting.{Waits, AsksAtGate}
 use Rattle.sfi_host.proofs.Facts.{some_machine}
 use Rattle.sfi_host.proofs.OwnSteps.{steps_own}

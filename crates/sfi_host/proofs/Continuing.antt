@@ -1,6 +1,6 @@
 -- A plan that goes on where another one left off.
 use Rattle.sfi_host.proofs.Prelude.{◌≡◌, ◌≢◌, ◌⊎◌, inl, inr, ⊎_elim, ℕ, zero, suc, ◌+◌, ◌<◌, Bool, true, false, cond, List, [], ◌∷◌, ◌++◌, take, drop, get_or, length, Option, Some, None, slice_get, set, refl, sym, ap, ◌∙◌, subst, arith, length-append, take_more, take-append-drop, length-take-le, State, Outcome, Status, Ready, Turn, StepResult, Continue, TurnEnds, RunEnds, Slot, state_of, Call, Way, Replied, Answer, Limited, limited, if_left, Machine, Moved, still, moved, moved_if, slot_after_step, after_answer, call_of, next_after, replied, Joined, joined, joint, IsJoint, IsRefusedIn, IsCutJoint, allow, allows, with_left, end_of, limited_step, limited_turn, IsTurnOf, IsStepOf}
-use Rattle.sfi_host.specs.Following.{after_run, shortened, IsJointUpTo, JointFollows, CutFollows, CutIsShorter, RetryFollows}
+use Rattle.sfi_host.specs.Plans.{after_run, shortened, IsJointUpTo, JointFollows, CutFollows, CutIsShorter, RetryFollows}
 use Rattle.rv_step.specs.declared.outcome.Outcome.TheVariants as outcome
 use Rattle.sfi_host.proofs.Plans.{follows, allows_some, no_limit, joined_nil, bare, run_end, with_turn, is_joint, is_cut, none_then, turn_then}
 use Rattle.sfi_host.proofs.SlotSteps.{left_for_one}

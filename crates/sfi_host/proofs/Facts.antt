@@ -1,9 +1,9 @@
 -- What holds of the definitions, of safe worlds and of plans: laws, for proofs here and in the crates above.
 use Rattle.rv_step.proofs.Facts.{one_step, some_step}
-use Rattle.sfi_host.specs.Callbacks.{PutBackIsChange}
-use Rattle.sfi_host.specs.Resetting.{ResetIsFirst}
+use Rattle.sfi_host.specs.Changing.{PutBackIsChange}
+use Rattle.sfi_host.specs.Loading.{ResetIsFirst}
 use Rattle.sfi_host.specs.Laws.{SomeMachine, OneMachine, NeighboursAreChanges, CallsAreTyped, AnswersAreReplies}
-use Rattle.sfi_host.specs.Steps.{StepsAreOwn}
+use Rattle.sfi_host.specs.Worlds.{StepsAreOwn}
 use Rattle.sfi_host.proofs.Callbacks.{put_back_is}
 use Rattle.sfi_host.proofs.FirstAgain as first
 use Rattle.sfi_host.proofs.Neighbours as neighbours

@@ -1,6 +1,6 @@
 -- A sandbox that is reset is what it was at first.
 use Rattle.sfi_host.proofs.Prelude.{◌≡◌, ℕ, zero, suc, ◌∷◌, ◌+◌, ◌-◌, ◌^◌, ◌<◌, ◌≤◌, Bool, true, false, cond, List, [], ◌++◌, length, map, set, Some, None, slice_get, refl, sym, ap, ◌∙◌, subst, arith, or_cases, replicate, empty, range_with_len, Bytes, byte_at, address_after, with_bytes, added, Holds, InCode, InData, Part, IsRightPart, IsRightLayout, HasCode, Ready, first_seat, with_parts, is_in, is_own, own, Bounds, bounds_of, Slot, Sandboxes, slot_of, slots_of, ⊎_elim}
-use Rattle.sfi_host.specs.Resetting.{with_first_bytes, reset_seat, with_reset_of, ResetIsFirst}
+use Rattle.sfi_host.specs.Loading.{with_first_bytes, reset_seat, with_reset_of, ResetIsFirst}
 use Rattle.sfi_host.proofs.Entered.{lie_apart, has_code, has_data, added_inside, added_outside}
 use Rattle.sfi_host.proofs.Neighbours.{get_set_same}
 use Rattle.sfi_host.proofs.RegionBytes.{get_kept, same_bytes, is_in-true}

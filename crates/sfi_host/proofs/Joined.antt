@@ -1,7 +1,7 @@
 -- What the joint run does from a safe world is a list of moves.
 use Rattle.sfi_host.proofs.Prelude.{◌≡◌, ◌≢◌, ◌⊎◌, inl, inr, IsSome, is_some, ℕ, zero, suc, ◌<◌, ◌≤◌, ◌^◌, ◌||◌, ◌&&◌, Bool, true, false, cond, List, [], ◌∷◌, ◌++◌, length, take, Option, Some, None, slice_get, set, set-set, refl, sym, ap, ◌∙◌, subst, arith, append_assoc, append-nil, All, option_map, option_or, slice_get-map, map-append, take_all, Bytes, IsMemory, byte_at, Ecall, Outcome, State, Stepped, Stands, IsStep, Part, IsReply, IsTurn, Status, Ready, Trapped, StepResult, Continue, TurnEnds, RunEnds, Way, Exit, Reply, Answer, Host, limited, replay, is_in, IsWhole, Bounds, Slot, bounds_of, one_more, is_own, own, Machine, IsMachine, word, is_byte, with_arguments, with_data, after_way, status_after, replied, Moved, moved, still, after_answer, slot_after_step, after_replies, and_more, turned, Given, given, Joined, joined, joined_after_turn, and_plan, turn_and, call_of, Seat, Sandboxes, slot_of, slots_of, state_in, IsSafeSeat, IsSafeWorld, StaysOutside}
 use Rattle.sfi_host.specs.Moves.{StepsAlone, Move, after_move, IsTurnsShare, AreShares, all_of, given_in, ComeTo, HaveRun, JoinedMoves, JointMoves}
-use Rattle.sfi_host.specs.Steps.{IsOwnStep}
+use Rattle.sfi_host.specs.Worlds.{IsOwnStep}
 use Rattle.std.proofs.lemmas.List.Elements.{All-cons, All-nil}
 use Rattle.sfi_runs.specs.Runs.{after_step as step_to, after_turn as goes_to}
 use Rattle.sfi_host.specs.declared.turn.Turn.{Turn as PlanTurn}

@@ -3,8 +3,7 @@ use Rattle.sfi_host.proofs.Prelude.{◌≡◌, ℕ, zero, suc, List, [], ◌∷�
 use Rattle.sfi_host.proofs.Leaving.{put_back, data_of_own}
 use Rattle.sfi_host.proofs.Neighbours.{set_itself, slots_are}
 use Rattle.rv_step.specs.declared.outcome.Outcome.TheVariants as outcome
-use Rattle.sfi_host.specs.LaterReplies.{ToCallIsJoint, ReplyIsAnswer, WritesAreReplies}
-use Rattle.sfi_host.specs.Waiting.{silent, to_call, later_reply}
+use Rattle.sfi_host.specs.Waiting.{ToCallIsJoint, ReplyIsAnswer, WritesAreReplies, silent, to_call, later_reply}
 use Rattle.sfi_host.proofs.Continuing.{first_call, no_call, way_goes}
 use Rattle.sfi_host.proofs.Plans.{one_turn}
 use Rattle.sfi_host.proofs.Quiet.{answered_is}

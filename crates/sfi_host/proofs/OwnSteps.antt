@@ -1,10 +1,9 @@
 -- A step in the one memory, and the same step in the sandbox's own.
 use Rattle.sfi_host.proofs.Prelude.{◌≡◌, ◌≢◌, ℕ, ◌⊎◌, inl, inr, ⊎_elim, Bool, true, false, cond, None, refl, sym, ap, ◌∙◌, subst, or_left, or_right, or_cases, Bytes, byte_at, Outcome, State, Stepped, Stands, IsStep, Holds, InCode, InData, InGuard, Steps, IsSafeState, IsSafeStep, IsTrap, Ready, is_in, Bounds, is_own, own, state_of, Machine, IsMachine, Seat, slot_of, state_in, IsSafeSeat, StaysOutside}
-use Rattle.rv_step.specs.Access.{Accesses}
+use Rattle.rv_step.specs.Step.{Accesses}
 use Rattle.rv_step.specs.Laws.{AgreeHere, IsSameStep}
-use Rattle.rv_step.specs.declared.outcome.Outcome.TheVariants.{Next, Trap}
-use Rattle.sfi_host.specs.Steps.{own_step, stepped_seat, IsOwnStep}
-use Rattle.rv_step.specs.declared.outcome.Outcome.TheVariants.{Call}
+use Rattle.rv_step.specs.declared.outcome.Outcome.TheVariants.{Next, Trap, Call}
+use Rattle.sfi_host.specs.Worlds.{own_step, stepped_seat, IsOwnStep}
 use Rattle.sfi_runs.specs.Runs.{after_step}
 use Rattle.rv_step.proofs.Facts.{agreeing_stands_too, agreeing_steps_are_same, other_bytes_stay, stopped_stays, step_keeps_state, no_byte_goes, calls_are_ecalls}
 use Rattle.sfi_runs.proofs.Facts.{safe_turns, goes_on_safely}

@@ -1,7 +1,7 @@
 -- Each byte of a world's memory is a sandbox's own.
 use Rattle.sfi_host.proofs.Prelude.{◌≡◌, ◌⊎◌, inl, inr, ⊎_elim, true, false, ℕ, suc, List, [], ◌∷◌, map, Some, IsSome, is_some, slice_get, refl, sym, ap, ◌∙◌, subst, empty, get-empty, Bytes, byte_at, Span, Holds, Part, code_region, IsRightPart, InCode, InData, first_seat, with_part, with_parts, is_in, Bounds, Seat, Sandboxes, StaysOutsideData, bounds_in}
 use Rattle.std.specs.Ordering.{nat_cmp}
-use Rattle.sfi_image.specs.Spans.{data_region}
+use Rattle.sfi_image.specs.Spelling.{data_region}
 use Rattle.sfi_host.specs.Owning.{IsOwned, AreOwned}
 use Rattle.sfi_host.proofs.Entered.{part_outside}
 use Rattle.sfi_host.proofs.OwnSteps.{true_false}

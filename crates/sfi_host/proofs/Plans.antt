@@ -1,6 +1,6 @@
 -- What a plan comes to, by the turn at its front; and one plan after another.
 use Rattle.sfi_host.proofs.Prelude.{◌≡◌, ℕ, zero, suc, ◌+◌, Bool, true, false, List, [], ◌∷◌, Option, Some, None, length, slice_get, set, refl, sym, ap, ◌∙◌, arith, cond, ◌++◌, append_assoc, Turn, TurnEnds, RunEnds, Call, Answer, Host, Limited, limited, Slot, Machine, Moved, still, Joined, joined, joint, and_plan, turn_and, joined_after_turn, turned, Given, given, IsJoint, IsRefusedIn, IsCutJoint, allow, allows, with_left, end_of, limited_turn, IsTurnOf, IsCutTurnOf, StepResult}
-use Rattle.sfi_host.specs.Following.{after_run, JoinedFollows}
+use Rattle.sfi_host.specs.Plans.{after_run, JoinedFollows}
 
 -- ---- limits
 

@@ -11,30 +11,22 @@ pub use Rattle.std.specs.Option.{option_map, option_or}
 pub use Rattle.rv_word.specs.declared.instr.Instr.TheVariants.{Ecall, Load, Store, Ebreak}
 pub use Rattle.rv_mem.specs.Bytes.{Bytes, byte_at, bytes_at, IsMemory, address_after, addresses, with_bytes, added, loaded, stored, number_of, in_front, IsThere}
 pub use Rattle.rv_step.specs.State.{State, Hart, IsHart, with_register, past, IsState, register}
-pub use Rattle.rv_step.specs.Steps.{LeadTo}
-pub use Rattle.rv_step.specs.Step.{Stands, Stepped, IsStep, next, unchanged, after_load, effect}
+pub use Rattle.rv_step.specs.Step.{LeadTo, Stands, Stepped, IsStep, next, unchanged, after_load, effect}
 pub use Rattle.rv_step.specs.declared.outcome.Outcome.{Outcome}
 pub use Rattle.sfi_policy.specs.declared.format.Format.{Format}
 pub use Rattle.sfi_image.specs.Parts.{IsRightPart, IsRightLayout}
-pub use Rattle.sfi_image.specs.Spans.{Holds, code_region, AreApart, guarded_region, spans, with_guards, InGuards}
-pub use Rattle.sfi_image.specs.Spelling.{Part, view, views}
+pub use Rattle.sfi_image.specs.Spelling.{Holds, code_region, AreApart, guarded_region, spans, with_guards, InGuards, Part, view, views}
 pub use Rattle.sfi_image.specs.declared.span.Span.{Span}
-pub use Rattle.sfi_runs.specs.Regions.{InCode, HasCode, InData, InGuard, IsGate}
-pub use Rattle.sfi_runs.specs.Runs.{IsChange, IsEntry, IsReply, IsTurn, Steps, Replies, Changes, KeepsBytes, IsRun, KeepsReserved}
-pub use Rattle.sfi_runs.specs.Safety.{AllRunSafely, IsSafeState, IsSafeTurn, IsSafeRun, IsSafeStep, IsTrap, RunsSafely}
-pub use Rattle.sfi_runs.specs.Calls.{AllCallTyped, after_turns, GoesSafelyFrom, CallsTyped}
+pub use Rattle.sfi_runs.specs.Runs.{InCode, HasCode, InData, InGuard, IsGate, IsChange, IsEntry, IsReply, IsTurn, Steps, Replies, Changes, KeepsBytes, IsRun, KeepsReserved}
+pub use Rattle.sfi_runs.specs.Safety.{AllRunSafely, IsSafeState, IsSafeTurn, IsSafeRun, IsSafeStep, IsTrap, RunsSafely, AllCallTyped, after_turns, GoesSafelyFrom, CallsTyped}
 pub use Rattle.sfi_host.specs.Consoles.{SessionState, ConsoleState, with_session, serve, serve_own, console, may_want, may_want_if, console_may_refuse, new_session, failed, most_messages, posted, mailbox_full, message_of, with_message, post_to, post}
-pub use Rattle.sfi_host.specs.Entering.{AreEnterable, MayEnter, MayEnterAt, fresh_hart, with_registers, exit_gate, entered_hart, entered_seat, with_entry_of, with_entry, IsAtEntry, IsEnterable}
-pub use Rattle.sfi_host.specs.Guests.{call_by, asked, with_a0, data_of}
-pub use Rattle.sfi_host.specs.Hosts.{Call, Way, Replied, Answer, Limited, limited, if_left, Exit, Reply, Host, replay}
+pub use Rattle.sfi_host.specs.Loading.{AreEnterable, MayEnter, MayEnterAt, fresh_hart, with_registers, exit_gate, entered_hart, entered_seat, with_entry_of, with_entry, IsAtEntry, IsEnterable, first_seat, AreEntered, first_data, with_part, with_parts, HaveFirstData, first_hart}
+pub use Rattle.sfi_host.specs.Hosts.{call_by, asked, with_a0, data_of, Call, Way, Replied, Answer, Limited, limited, if_left, Exit, Reply, Host, replay}
 pub use Rattle.sfi_host.specs.Joint.{Machine, Moved, still, moved_if, slot_after_step, after_answer, call_of, next_after, replied, Joined, joint, IsMachine, word, is_byte, with_arguments, with_data, after_way, status_after, after_replies, and_more, Given, given, joined_after_turn, and_plan, turn_and, both, service_at}
 unfoldable pub use Rattle.sfi_host.specs.Joint.{moved, joined, turned}
-pub use Rattle.sfi_host.specs.Loading.{first_seat, AreEntered, first_data, with_part, with_parts, HaveFirstData, first_hart}
 pub use Rattle.sfi_host.specs.Plans.{IsJoint, IsRefusedIn, IsCutJoint}
-pub use Rattle.sfi_host.specs.Regions.{bytes_in, bytes_outside, IsWhole, is_in, span_of}
-pub use Rattle.sfi_host.specs.Sandboxes.{seat_of, seats_of, world_of}
-pub use Rattle.sfi_host.specs.Slots.{Slot, Bounds, bounds_of, state_of, one_more, is_own, own}
-pub use Rattle.sfi_host.specs.Worlds.{Sandboxes, slot_of, slots_of, data_byte_of, Seat, IsSafeSeat, IsSafeWorld, StaysOutside, StaysOutsideData, state_in, LiesOutside, status_at, HaveStoppedThemselves}
+pub use Rattle.sfi_host.specs.Slots.{bytes_in, bytes_outside, IsWhole, is_in, span_of, Slot, Bounds, bounds_of, state_of, one_more, is_own, own}
+pub use Rattle.sfi_host.specs.Worlds.{seat_of, seats_of, world_of, Sandboxes, slot_of, slots_of, data_byte_of, Seat, IsSafeSeat, IsSafeWorld, StaysOutside, StaysOutsideData, state_in, LiesOutside, status_at, HaveStoppedThemselves}
 pub use Rattle.sfi_host.specs.declared.program.Program.{Program}
 pub use Rattle.sfi_host.specs.declared.sandbox.Sandbox.{Sandbox}
 pub use Rattle.sfi_host.specs.declared.status.Status.{Status}
@@ -42,7 +34,7 @@ pub use Rattle.sfi_host.specs.declared.status.Status.TheVariants.{Ready, Trapped
 pub use Rattle.sfi_host.specs.declared.turn.StepResult.{StepResult}
 pub use Rattle.sfi_host.specs.declared.turn.StepResult.TheVariants.{Continue, TurnEnds, RunEnds}
 pub use Rattle.sfi_host.specs.declared.turn.Turn.{Turn}
-pub use Rattle.sfi_host.specs.private.Limits.{allow, allows, with_left, end_of, limited_step, limited_turn, IsTurnOf, IsStepOf, IsCutTurnOf, IsOnItsWay}
+pub use Rattle.sfi_host.specs.private.Turns.{allow, allows, with_left, end_of, limited_step, limited_turn, IsTurnOf, IsStepOf, IsCutTurnOf, IsOnItsWay}
 pub use Rattle.sfi_host.specs.private.Programs.{AreProgramsOf, IsSafeWith}
 pub use Rattle.sfi_host.specs.Programs.{IsProgramOf}
 pub use Rattle.sfi_host.specs.private.Sandboxes.{gate_at, bounds_in, StaysSafe, IsReplied, IsNotReplied, request_by, IsTold, IsNotTold, after_ecall, after_told, next_after_answer}

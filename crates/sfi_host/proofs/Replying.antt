@@ -1,6 +1,6 @@
 -- A sandbox after an answered call is the slot that the definition makes.
 use Rattle.sfi_host.proofs.Prelude.{◌≡◌, ◌≢◌, ℕ, ◌<◌, ◌^◌, Bool, refl, sym, ap, ◌∙◌, subst, arith, Bytes, IsMemory, Ecall, past, Stands, Status, Ready, Sandbox, StepResult, Continue, RunEnds, call_by, Call, Way, Replied, Exit, Reply, Answer, bytes_in, IsWhole, one_more, own, word, call_of, with_arguments, with_data, after_way, status_after, replied, next_after, seat_of, IsReplied, IsNotReplied, request_by, IsTold, IsNotTold, after_ecall, after_told, next_after_answer, slot_of, state_in, IsSafeSeat, StaysOutside}
-use Rattle.sfi_host.specs.Answering.{spoken}
+use Rattle.sfi_host.specs.Hosts.{spoken}
 use Rattle.sfi_host.specs.declared.calls.Told.{Told}
 use Rattle.sfi_host.specs.declared.gates.GateAnswer.{GateAnswer}
 use Rattle.sfi_host.specs.declared.guest.Request.{Request}

@@ -1,11 +1,10 @@
 -- What leaves a sandbox safe.
 use Rattle.sfi_host.proofs.Prelude.{◌≡◌, ◌≢◌, ℕ, ◌+◌, ◌^◌, ◌<◌, ◌≤◌, List, [], length, true, refl, sym, ap, ◌∙◌, subst, arith, get_or-set_other, slice_index, slice_set, Ecall, Bytes, IsMemory, byte_at, address_after, Hart, IsHart, IsState, past, Stands, Part, Holds, InGuards, AreApart, with_guards, code_region, guarded_region, InCode, InData, InGuard, IsEntry, Replies, Changes, KeepsBytes, KeepsReserved, IsReply, GoesSafelyFrom, Ready, IsEnterable, IsWhole, Bounds, bounds_of, one_more, Way, Replied, Exit, word, with_arguments, after_way, status_after, Seat, state_in, IsSafeSeat, StaysOutside, StaysSafe}
-use Rattle.sfi_host.specs.Arguments.{a0_register, a1_register}
+use Rattle.sfi_host.specs.Hosts.{a0_register, a1_register}
 use Rattle.sfi_host.specs.Laws.{CallsAreTyped, AnswersAreReplies}
-use Rattle.sfi_host.specs.Stops.{StoppedItself}
-use Rattle.sfi_policy.specs.Formats.{has_stack, has_words}
-use Rattle.sfi_policy.specs.Registers.{is_data_register}
-use Rattle.sfi_runs.specs.Typed.{IsTyped, IsNear, IsWordStart}
+use Rattle.sfi_host.specs.Worlds.{StoppedItself}
+use Rattle.sfi_policy.specs.Formats.{has_stack, has_words, is_data_register}
+use Rattle.sfi_runs.specs.Runs.{IsTyped, IsNear, IsWordStart}
 use Rattle.rv_step.proofs.Harts.{register_is, after_is}
 use Rattle.sfi_runs.proofs.Facts.{goes_on_safely}
 use Rattle.sfi_host.proofs.Entered as parts

@@ -1,12 +1,10 @@
 -- A console's answers: to a caller that has a session, to one that posts a word, and to one that it doesn't know.
 use Rattle.sfi_host.proofs.Prelude.{slice_set, ◌≡◌, ◌≢◌, ℕ, List, Some, sym, ap, subst, ◌∙◌, arith, ◌↔◌, IsTrue, ◌<◌, ◌≤◌, Bool, true, false, if◌then◌else◌, length, get_or, None, refl, Bytes, asked, with_a0, Call, Answer, SessionState, ConsoleState, with_session, serve, serve_own, console, may_want, may_want_if, console_may_refuse, new_session, failed, most_messages, posted, mailbox_full, message_of, with_message, post_to, post, ltb_from_iff, slice_get-get_or, slice_get_past, OnTrue, OnFalse}
-use Rattle.sfi_host.specs.Answering.{IsGiven, IsRefusal}
-use Rattle.sfi_host.specs.Messages.{Message}
-use Rattle.sfi_host.specs.Services.{exit_service, yield_service, post_service}
+use Rattle.sfi_host.specs.Hosts.{IsGiven, IsRefusal}
+use Rattle.sfi_host.specs.Consoles.{Message, exit_service, yield_service, post_service, replied}
 use Rattle.sfi_host.specs.declared.gates.GateAnswer.{GateAnswer}
 use Rattle.sfi_host.specs.declared.guest.Guest.{Guest}
 use Rattle.std.specs.List.{slice_get}
-use Rattle.sfi_host.specs.Consoles.{replied}
 use Rattle.sfi_host.proofs.Neighbours.{set_itself}
 use Rattle.sfi_host.specs.declared.gates.GateAnswer.TheVariants as gate
 

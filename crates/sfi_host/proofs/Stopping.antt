@@ -1,6 +1,6 @@
 -- A sandbox that is stopped from outside.
 use Rattle.sfi_host.proofs.Prelude.{◌≡◌, ◌↔◌, ℕ, List, Some, None, IsTrue, Bool, false, set, slice_get, refl, sym, ap, ◌∙◌, subst, map-set, same_Some, option_map, Bytes, Program, Sandbox, seat_of, seats_of, world_of, Slot, Seat, Sandboxes, slot_of, slots_of, IsSafeSeat, status_at, Ready}
-use Rattle.sfi_host.specs.Stopping.{stopped_seat, with_stop_of, with_stop}
+use Rattle.sfi_host.specs.Changing.{stopped_seat, with_stop_of, with_stop}
 use Rattle.sfi_host.proofs.Asked.{no_slot, seat_at, slot_is}
 use Rattle.sfi_host.proofs.Changing.{AfterTurn, IsKept, turn_taken}
 use Rattle.sfi_host.proofs.SafeSeats.{halted}

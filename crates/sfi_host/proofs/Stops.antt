@@ -1,16 +1,14 @@
 -- What stops a safe sandbox is its own instruction, and it stays at that.
 use Rattle.sfi_host.proofs.Prelude.{◌≡◌, ℕ, zero, suc, ◌<◌, inl, inr, List, [], ◌∷◌, cond, Option, Some, None, is_some, IsSome, slice_get, refl, sym, ap, ◌∙◌, subst, arith, ℤ, Contains, option_map, slice_get_within, get_or_from_slice_get, Load, Store, Ecall, Ebreak, Bytes, byte_at, bytes_at, address_after, addresses, in_front, number_of, Hart, register, Stepped, Stands, IsStep, next, unchanged, after_load, effect, Span, Holds, InGuards, InData, InGuard, IsGate, Steps, IsSafeState, IsSafeStep, Status, Ready, Exited, Trapped, Bounds, Seat, Sandboxes, slots_of, status_at, state_in, IsSafeSeat, IsSafeWorld, HaveStoppedThemselves}
 use Rattle.rv_comp.specs.declared.front.Front.TheVariants.{Read}
-use Rattle.rv_step.specs.Access.{accessed, Accesses}
-use Rattle.rv_step.specs.Values.{load_size, store_size}
+use Rattle.rv_step.specs.Step.{accessed, Accesses, load_size, store_size}
 use Rattle.rv_step.specs.declared.outcome.Cause.{Cause}
-use Rattle.rv_step.specs.declared.outcome.Outcome.TheVariants.{Trap}
-use Rattle.rv_word.specs.Numbers.{offset_by}
+use Rattle.rv_step.specs.declared.outcome.Outcome.TheVariants.{Trap, Call}
+use Rattle.rv_word.specs.Spelling.{offset_by}
 use Rattle.rv_word.specs.declared.instr.Instr.{Instr}
 use Rattle.rv_word.specs.declared.instr.LoadKind.{LoadKind}
 use Rattle.rv_word.specs.declared.instr.StoreWidth.{StoreWidth}
-use Rattle.sfi_host.specs.Stops.{IsAt, IsAtGate, TouchesGuard, StoppedItself}
-use Rattle.rv_step.specs.declared.outcome.Outcome.TheVariants.{Call}
+use Rattle.sfi_host.specs.Worlds.{IsAt, IsAtGate, TouchesGuard, StoppedItself}
 use Rattle.rv_mem.proofs.Facts.{read_is_held}
 use Rattle.rv_step.specs.declared.outcome.Cause.TheVariants as cause
 use Rattle.rv_step.proofs.Facts.{step_is_effect}

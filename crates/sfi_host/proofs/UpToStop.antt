@@ -2,12 +2,10 @@
 use Rattle.sfi_host.proofs.Prelude.{◌≡◌, ◌≢◌, ◌<◌, ◌≤◌, ◌↔◌, ◌⊎◌, inl, inr, ⊎_elim, ℕ, zero, suc, ◌+◌, ◌-◌, ◌==◌, ◌||◌, Bool, true, false, IsTrue, Contains, List, [], ◌∷◌, Some, None, slice_get, set, same_Some, refl, sym, ap, ◌∙◌, subst, arith, cases_lt, eqb-true, Status, Ready, Exited, Trapped, Stopped, Outcome, Slot, state_of, slot_of, Seat, Bytes, StaysSafe, Machine, IsMachine, Moved, still, moved, moved_if, slot_after_step, and_more, turned, StepResult, Continue, TurnEnds, RunEnds, Turn, joined, turn_and, and_plan, Sandboxes, slots_of}
 use Rattle.rv_step.specs.declared.outcome.Outcome.TheVariants as outcome
 use Rattle.std.specs.List.{list_any}
-use Rattle.sfi_host.specs.Until.{StandsAt, IsUpToStop, turn_of, after_turn}
-use Rattle.sfi_host.specs.Waiting.{silent}
+use Rattle.sfi_host.specs.Waiting.{StandsAt, IsUpToStop, turn_of, after_turn, silent}
 use Rattle.sfi_host.specs.declared.turn.Pause.{Pause}
 use Rattle.sfi_host.specs.declared.turn.Pause.TheVariants.{Over, Call as PausedAt}
-use Rattle.sfi_host.specs.private.Quiet.{IsCallOf, IsQuietTurn, IsQuietToCall}
-use Rattle.sfi_host.specs.private.Until.{after_steps, IsTurnUntil}
+use Rattle.sfi_host.specs.private.Turns.{IsCallOf, IsQuietTurn, IsQuietToCall, after_steps, IsTurnUntil}
 use Rattle.sfi_host.proofs.Neighbours.{get_set_same}
 use Rattle.sfi_host.proofs.Quiet.{first_is, none, turn_over, turn_called, stays_quiet, no_sandbox}
 use Rattle.sfi_host.proofs.SafeSeats.{stays_on}

@@ -1,7 +1,6 @@
 -- A world gets the sandboxes of another accepted image, between plans.
 use Rattle.std.specs.Prelude.{◌≡◌, ◌⊎◌, ℕ, ◌+◌, ◌^◌, ◌<◌, List, ◌++◌, length, map, Some, slice_get}
-use Rattle.sfi_image.specs.Spelling.{Part}
-use Rattle.sfi_image.specs.Spans.{Holds, with_guards}
+use Rattle.sfi_image.specs.Spelling.{Part, Holds, with_guards}
 use Rattle.sfi_host.specs.Loading.{first_seat, with_parts}
 use Rattle.sfi_host.specs.Slots.{Bounds, bounds_of}
 use Rattle.sfi_host.specs.Worlds.{Seat, Sandboxes, slots_of}

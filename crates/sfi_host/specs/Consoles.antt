@@ -1,12 +1,44 @@
--- What a console answers: a function of what it keeps of each sandbox, and of a call.
+-- Consoles: messages, services, and what is answered.
 use Rattle.std.specs.Prelude.{ℕ, ◌+◌, ◌-◌, ◌^◌, ◌==◌, nat_le, nat_lt, ◌&&◌, Bool, true, false, List, [], ◌∷◌, ◌++◌, length, take, drop, replicate, Option, Some, None, slice_get, slice_set, if◌then◌else◌}
 use Rattle.std.specs.List.{range_with_len}
 use Rattle.std.specs.Option.{option_map}
 use Rattle.rv_mem.specs.Bytes.{with_bytes}
-use Rattle.sfi_host.specs.Guests.{data_from}
-use Rattle.sfi_host.specs.Hosts.{Call, Replied, Yield, Exit, Answer}
-use Rattle.sfi_host.specs.Messages.{Message}
-use Rattle.sfi_host.specs.Services.{exit_service, put_service, get_service, yield_service, post_service, take_service}
+use Rattle.sfi_host.specs.Hosts.{data_from, Call, Replied, Yield, Exit, Answer}
+
+-- ==== What one sandbox posts to another.
+
+-- a word, and the number of the sandbox that posted it
+pub record Message : Type 0 where
+  pub sender : ℕ
+  pub word : ℕ
+
+-- ==== The services of a console, by the numbers that a gate asks with.
+
+-- the caller stops
+abbrev pub exit_service : ℕ
+exit_service = 0
+
+-- bytes of the caller go to its output
+abbrev pub put_service : ℕ
+put_service = 1
+
+-- bytes of the input go to the caller
+abbrev pub get_service : ℕ
+get_service = 2
+
+-- the caller's turn ends
+abbrev pub yield_service : ℕ
+yield_service = 3
+
+-- a word goes to a mailbox
+abbrev pub post_service : ℕ
+post_service = 4
+
+-- a word leaves the caller's mailbox
+abbrev pub take_service : ℕ
+take_service = 5
+
+-- ==== What a console answers: a function of what it keeps of each sandbox, and of a call.
 
 -- ---- what a console keeps
 

@@ -1,6 +1,6 @@
--- What sandboxes and their host come to under a plan.
--- Each sandbox runs in a memory of its own code and data alone.
-use Rattle.std.specs.Prelude.{ℕ, zero, suc, ◌==◌, ◌%◌, ◌^◌, ◌&&◌, nat_lt, cond, Bool, true, false, List, [], ◌∷◌, ◌++◌, map, Option, Some, None, slice_get, slice_set}
+-- What sandboxes and their host come to under a plan, each sandbox in a memory of its own code and
+-- data alone.
+use Rattle.std.specs.Prelude.{ℕ, zero, suc, ◌==◌, ◌%◌, ◌^◌, ◌&&◌, nat_lt, cond, Bool, true, false, List, [], ◌∷◌, ◌++◌, map, Option, Some, None, slice_get, slice_set, ◌≡◌}
 use Rattle.std.specs.FinMap.{from_entries, entries, retain_keys}
 use Rattle.std.specs.Ordering.{nat_cmp}
 use Rattle.rv_mem.specs.Bytes.{Bytes, byte_at}
@@ -14,10 +14,12 @@ use Rattle.sfi_host.specs.declared.status.Status.TheVariants.{Ready, Exited, Tra
 use Rattle.sfi_host.specs.declared.turn.StepResult.{StepResult}
 use Rattle.sfi_host.specs.declared.turn.StepResult.TheVariants.{Continue, TurnEnds, RunEnds}
 use Rattle.sfi_host.specs.declared.turn.Turn.{Turn}
-use Rattle.sfi_host.specs.Arguments.{a0_register, a1_register}
-use Rattle.sfi_host.specs.Regions.{is_in, bytes_in}
-use Rattle.sfi_host.specs.Slots.{Bounds, Slot, one_more, state_of}
-use Rattle.sfi_host.specs.Hosts.{Call, Way, Replied, Yield, Exit, Reply, Answer, Host, Limited, limited}
+use Rattle.sfi_host.specs.Hosts.{a0_register, a1_register, Call, Way, Replied, Yield, Exit, Reply, Answer, Host, Limited, limited}
+use Rattle.sfi_host.specs.Slots.{is_in, bytes_in, Bounds, Slot, one_more, state_of}
+use Rattle.rv_step.specs.declared.outcome.Outcome.TheVariants.{Call as Calls}
+
+-- ==== What sandboxes and their host come to under a plan. Each sandbox runs in a memory of its own
+-- code and data alone.
 
 -- ---- the machine
 
@@ -237,3 +239,13 @@ abbrev pub joint : {S : Type 0} → Machine → (S → Call → Answer S) → Li
     → Option ℕ → Joined (Limited S)
 joint machine answer plan slots s limit =
     joined machine (limited answer) plan slots (record { host = s; left = limit })
+
+-- ==== A call at which a host may refuse for want of memory.
+
+-- the sandbox of that number is ready and stands at a call,
+-- at which the host's test allows a refusal
+pub record IsAtRefusedCall {S : Type 0} (machine : Machine) (may_refuse : S → Call → Bool)
+    (number : ℕ) (slot : Slot) (host : S) : Type 0 where
+  pub ready : slot.status ≡ Ready
+  pub calls : (machine (state_of slot)).outcome ≡ Calls
+  pub test : may_refuse host (call_of number slot) ≡ true

@@ -1,7 +1,7 @@
 -- Which bytes a world has.
 use Rattle.std.specs.Prelude.{◌≡◌, ◌⊎◌, ℕ, IsSome, Some, slice_get}
 use Rattle.rv_mem.specs.Bytes.{byte_at}
-use Rattle.sfi_image.specs.Spans.{Holds}
+use Rattle.sfi_image.specs.Spelling.{Holds}
 use Rattle.sfi_host.specs.Worlds.{Seat, Sandboxes}
 
 -- the address lies in the code or in the data of a sandbox of the world

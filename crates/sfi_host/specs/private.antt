@@ -1,8 +1,6 @@
 -- Words that private contracts and proofs alone cite: no public statement rests on them.
 pub mod Apart
-pub mod Limits
 pub mod Programs
 pub mod Copying
 pub mod Sandboxes
-pub mod Quiet
-pub mod Until
+pub mod Turns

@@ -1,9 +1,9 @@
 //! The host of `sfi run`.
 ghost use Rattle.std.specs.Prelude.{◌≡◌, ◌<◌, IfOk, length};
 ghost use Rattle.std.specs.Option.{option_map};
-ghost use Rattle.sfi_host.specs.Answering.{IsAnswered, LeavesOthers};
+ghost use Rattle.sfi_host.specs.Hosts.{IsAnswered, LeavesOthers};
 ghost use Rattle.sfi_host.specs.Consoles.{new_console, output_of, post};
-ghost use Rattle.sfi_host.specs.Guests.{asked, HasData, SameMemory};
+ghost use Rattle.sfi_host.specs.Hosts.{asked, HasData, SameMemory};
 
 use crate::gates::{GateAnswer, Gates};
 use crate::guest::Guest;

@@ -4,8 +4,8 @@ ghost use Rattle.std.specs.FinMap.{empty};
 ghost use Rattle.std.specs.List.{range_with_len};
 ghost use Rattle.rv_mem.specs.Bytes.{bytes_at};
 ghost use Rattle.sfi_host.specs.Owning.{AreOwned};
-ghost use Rattle.sfi_host.specs.Regions.{span_of, bytes_in, IsWhole};
-ghost use Rattle.sfi_host.specs.Sandboxes.{world_of};
+ghost use Rattle.sfi_host.specs.Slots.{span_of, bytes_in, IsWhole};
+ghost use Rattle.sfi_host.specs.Worlds.{world_of};
 ghost use Rattle.sfi_host.specs.Worlds.{IsSafeWorld};
 ghost use Rattle.sfi_host.specs.private.Copying.{CopiesRegion};
 

@@ -1,7 +1,7 @@
 //! What a host is.
 ghost use Rattle.std.specs.Prelude.{Bool};
 ghost use Rattle.sfi_host.specs.Hosts.{Call, Answer};
-ghost use Rattle.sfi_host.specs.Guests.{HasData, SameMemory};
+ghost use Rattle.sfi_host.specs.Hosts.{HasData, SameMemory};
 
 use crate::guest::Guest;
 use rv_mem::Memory;
@@ -24,7 +24,7 @@ pub enum GateAnswer {
 /// `may_refuse`, a test on the same values that says whether memory may be wanting. That `call`
 /// changes nothing but the caller's a0, a1 and data region comes from the calls of [`Guest`] alone.
 pub trait Gates {
-    ghost use Rattle.sfi_host.specs.Answering.{IsAnswered, IsRefused, LeavesOthers};
+    ghost use Rattle.sfi_host.specs.Hosts.{IsAnswered, IsRefused, LeavesOthers};
 
     ghost answer: { Self → Call → Answer Self };
 

@@ -2,8 +2,8 @@
 ghost use Rattle.std.specs.Prelude.{◌≡◌, ◌+◌, ◌^◌, ◌≤◌, ◌↔◌, IsTrue, IsSome, Some, length};
 ghost use Rattle.std.specs.Bool.{OnTrue, OnFalse};
 ghost use Rattle.rv_mem.specs.Bytes.{byte_at};
-ghost use Rattle.sfi_image.specs.Spans.{Holds};
-ghost use Rattle.sfi_host.specs.Regions.{span_of, bytes_in, bytes_outside, IsWhole};
+ghost use Rattle.sfi_image.specs.Spelling.{Holds};
+ghost use Rattle.sfi_host.specs.Slots.{span_of, bytes_in, bytes_outside, IsWhole};
 
 use crate::region::Region;
 use rv_mem::{Memory, Width};
@@ -33,7 +33,7 @@ pub struct Guest<'a, M: Memory> {
 }
 
 impl<'a, M: Memory> Guest<'a, M> {
-    ghost use Rattle.sfi_host.specs.Guests.{data_of, asked, outside, call_by, Borrows, HasData, SameMemory, data_from, with_a0, with_a1, with_byte, with_bytes_at};
+    ghost use Rattle.sfi_host.specs.Hosts.{data_of, asked, outside, call_by, Borrows, HasData, SameMemory, data_from, with_a0, with_a1, with_byte, with_bytes_at};
 
     /// The caller with this data region that asks this. A [`World`](crate::World) makes one for each call;
     /// over a memory of one's own it tries a host without an image. [`Gates::call`](crate::Gates::call)

@@ -2,7 +2,7 @@
 ghost use Rattle.std.specs.Prelude.{◌≡◌, ◌+◌, ◌^◌, ◌≤◌, ◌++◌, ◌↔◌, IsTrue, IsSome, IsOk, Some, OnOk, OnErr, length};
 ghost use Rattle.std.specs.Bool.{OnTrue};
 ghost use Rattle.std.specs.Option.{option_map};
-ghost use Rattle.sfi_host.specs.Guests.{data_of, asked, outside, HasData, SameMemory, data_from, with_a0};
+ghost use Rattle.sfi_host.specs.Hosts.{data_of, asked, outside, HasData, SameMemory, data_from, with_a0};
 ghost use Rattle.sfi_host.specs.Consoles.{failed, handed};
 
 use crate::gates::GateAnswer;

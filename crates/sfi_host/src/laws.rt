@@ -1,10 +1,10 @@
 //! What holds of plans and of their joint runs, with hosts of any state. The other laws are in
 //! proofs/Facts.
-ghost use Rattle.sfi_host.specs.Following.{JoinedFollows, JointFollows, PlansFollow, CutFollows, CutIsShorter, RetryFollows};
-ghost use Rattle.sfi_host.specs.LaterReplies.{ToCallIsJoint, ReplyIsAnswer, WritesAreReplies};
+ghost use Rattle.sfi_host.specs.Plans.{JoinedFollows, JointFollows, PlansFollow, CutFollows, CutIsShorter, RetryFollows};
+ghost use Rattle.sfi_host.specs.Waiting.{ToCallIsJoint, ReplyIsAnswer, WritesAreReplies};
 ghost use Rattle.sfi_host.specs.Moves.{JoinedMoves, JointMoves};
-ghost use Rattle.sfi_host.specs.Solo.{JoinedIsSolo, JointIsSolo};
-ghost use Rattle.sfi_host.specs.Turns.{TurnsAreCounted, WaitsThroughTurns, PlansStopNone};
+ghost use Rattle.sfi_host.specs.Plans.{JoinedIsSolo, JointIsSolo};
+ghost use Rattle.sfi_host.specs.Waiting.{TurnsAreCounted, WaitsThroughTurns, PlansStopNone};
 
 /// What a sandbox comes to among others is what it comes to alone with the replies that it got.
 /// `S` is a host's state.

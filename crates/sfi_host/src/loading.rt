@@ -3,7 +3,7 @@ ghost use Rattle.std.specs.Prelude.{◌≡◌, IfOk, OnOk, map};
 ghost use Rattle.sfi_image.specs.Parts.{IsRightPart, IsRightLayout};
 ghost use Rattle.sfi_host.specs.Modules.{part_of, parts_of};
 ghost use Rattle.sfi_host.specs.Loading.{first_seat, with_part, with_parts};
-ghost use Rattle.sfi_host.specs.Sandboxes.{seat_of, seats_of};
+ghost use Rattle.sfi_host.specs.Worlds.{seat_of, seats_of};
 
 use crate::modules::ModulePart;
 use crate::region::Region;

@@ -4,11 +4,11 @@ ghost use Rattle.std.specs.Bool.{OnTrue, OnFalse};
 ghost use Rattle.rv_mem.specs.Bytes.{Bytes};
 ghost use Rattle.sfi_policy.specs.declared.format.Format.{Format};
 ghost use Rattle.sfi_image.specs.Parts.{IsRightPart, IsRightLayout};
-ghost use Rattle.sfi_image.specs.Spans.{Holds, code_region};
+ghost use Rattle.sfi_image.specs.Spelling.{Holds, code_region};
 ghost use Rattle.sfi_image.specs.Spelling.{Part};
 ghost use Rattle.sfi_host.specs.Adding.{Meet, MeetsSome};
 ghost use Rattle.sfi_host.specs.Modules.{part_of, parts_of};
-ghost use Rattle.sfi_host.specs.Sandboxes.{seat_of, world_of};
+ghost use Rattle.sfi_host.specs.Worlds.{seat_of, world_of};
 ghost use Rattle.sfi_host.specs.Slots.{bounds_of};
 ghost use Rattle.sfi_host.specs.Worlds.{IsSafeWorld};
 

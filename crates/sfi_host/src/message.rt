@@ -11,7 +11,7 @@ pub struct Message {
 
 impl Model for Message {
     ghost use Rattle.std.specs.Prelude.{◌-◌, ◌^◌, ◌<◌};
-    ghost use Rattle.sfi_host.specs.Messages.{Message as Posted};
+    ghost use Rattle.sfi_host.specs.Consoles.{Message as Posted};
 
     ghost Value = { Posted };
 

@@ -10,7 +10,7 @@ ghost use Rattle.sfi_host.specs.Adding.{MeetsSome};
 ghost use Rattle.sfi_host.specs.Loading.{first_seat, with_parts, AreEntered, HaveFirstData};
 ghost use Rattle.sfi_host.specs.Modules.{part_of, parts_of, program_in, HavePrograms};
 ghost use Rattle.sfi_host.specs.Programs.{IsProgramOf, programs_of};
-ghost use Rattle.sfi_host.specs.Sandboxes.{seats_of, world_of};
+ghost use Rattle.sfi_host.specs.Worlds.{seats_of, world_of};
 ghost use Rattle.sfi_host.specs.Worlds.{IsSafeWorld};
 ghost use Rattle.sfi_host.specs.private.Programs.{AreProgramsOf};
 

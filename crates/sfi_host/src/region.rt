@@ -3,8 +3,8 @@ ghost use Rattle.std.specs.Prelude.{◌≡◌, ◌+◌, ◌^◌, ◌≤◌, ◌�
 ghost use Rattle.std.specs.Bool.{OnTrue, OnFalse};
 ghost use Rattle.std.specs.List.{range_with_len};
 ghost use Rattle.rv_mem.specs.Bytes.{Bytes, IsMemory, byte_at, bytes_at, with_bytes};
-ghost use Rattle.sfi_image.specs.Spans.{Holds};
-ghost use Rattle.sfi_host.specs.Regions.{span_of, is_in, bytes_in, bytes_outside, IsWhole};
+ghost use Rattle.sfi_image.specs.Spelling.{Holds};
+ghost use Rattle.sfi_host.specs.Slots.{span_of, is_in, bytes_in, bytes_outside, IsWhole};
 
 use rv_mem::{Memory, Width};
 

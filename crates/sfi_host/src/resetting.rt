@@ -4,9 +4,9 @@ ghost use Rattle.std.specs.Arc.{arc_slice_items};
 ghost use Rattle.std.specs.List.{range_with_len};
 ghost use Rattle.rv_mem.specs.Bytes.{with_bytes};
 ghost use Rattle.rv_step.specs.State.{IsHart};
-ghost use Rattle.sfi_host.specs.Regions.{span_of, bytes_in, bytes_outside, IsWhole};
-ghost use Rattle.sfi_host.specs.Resetting.{reset_seat, with_first_bytes};
-ghost use Rattle.sfi_host.specs.Sandboxes.{seat_of};
+ghost use Rattle.sfi_host.specs.Slots.{span_of, bytes_in, bytes_outside, IsWhole};
+ghost use Rattle.sfi_host.specs.Loading.{reset_seat, with_first_bytes};
+ghost use Rattle.sfi_host.specs.Worlds.{seat_of};
 
 use crate::region::Region;
 use crate::sandbox::{Sandbox, fresh_cpu};

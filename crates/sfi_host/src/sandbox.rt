@@ -1,12 +1,12 @@
 //! A sandbox of a world, and how it is entered.
 ghost use Rattle.std.specs.Prelude.{◌≡◌, ◌%◌, ◌+◌, ◌<◌, ◌≤◌, ◌^◌, ◌↔◌, IsTrue};
 ghost use Rattle.rv_step.specs.State.{IsHart, with_register};
-ghost use Rattle.sfi_policy.specs.Registers.{return_register};
-ghost use Rattle.sfi_host.specs.Arguments.{a0_register};
-ghost use Rattle.sfi_host.specs.Entering.{MayEnter, fresh_hart, typed_for, with_registers, exit_gate, entered_seat};
-ghost use Rattle.sfi_host.specs.Regions.{span_of};
-ghost use Rattle.sfi_host.specs.Sandboxes.{seat_of};
-ghost use Rattle.sfi_host.specs.Stopping.{stopped_seat};
+ghost use Rattle.sfi_policy.specs.Formats.{return_register};
+ghost use Rattle.sfi_host.specs.Hosts.{a0_register};
+ghost use Rattle.sfi_host.specs.Loading.{MayEnter, fresh_hart, typed_for, with_registers, exit_gate, entered_seat};
+ghost use Rattle.sfi_host.specs.Slots.{span_of};
+ghost use Rattle.sfi_host.specs.Worlds.{seat_of};
+ghost use Rattle.sfi_host.specs.Changing.{stopped_seat};
 
 use crate::region::Region;
 use crate::services::EXIT;

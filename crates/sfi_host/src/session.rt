@@ -1,8 +1,8 @@
 //! What a console keeps of one sandbox.
 ghost use Rattle.std.specs.Prelude.{◌≡◌, ◌<◌, ◌↔◌, IsTrue, length, take, drop};
 ghost use Rattle.std.specs.Bool.{OnTrue, OnFalse};
-ghost use Rattle.sfi_host.specs.Answering.{IsAnswered, IsRefused, LeavesOthers};
-ghost use Rattle.sfi_host.specs.Guests.{HasData, SameMemory};
+ghost use Rattle.sfi_host.specs.Hosts.{IsAnswered, IsRefused, LeavesOthers};
+ghost use Rattle.sfi_host.specs.Hosts.{HasData, SameMemory};
 ghost use Rattle.sfi_host.specs.Consoles.{new_session, appended, put, get, has_bytes, most_messages, with_message, take_message, serve, may_want};
 
 use crate::gates::GateAnswer;

@@ -2,13 +2,13 @@
 ghost use Rattle.std.specs.Prelude.{◌≡◌, ◌≢◌, ◌%◌, ◌+◌, ◌<◌, ◌≤◌, ◌^◌, ◌↔◌, IfSome, IsTrue, None, true};
 ghost use Rattle.rv_step.specs.State.{IsHart, register};
 ghost use Rattle.sfi_policy.specs.Formats.{has_stack, has_words};
-ghost use Rattle.sfi_policy.specs.Registers.{stack_pointer};
-ghost use Rattle.sfi_image.specs.Spans.{Holds};
-ghost use Rattle.sfi_host.specs.Callbacks.{called_back_hart};
-ghost use Rattle.sfi_host.specs.Entering.{with_registers};
-ghost use Rattle.sfi_host.specs.Regions.{span_of};
-ghost use Rattle.sfi_host.specs.Sandboxes.{seat_of};
-ghost use Rattle.sfi_host.specs.Setting.{hart_of, IsUnitAt, HoldsReserved, LiesNear, HoldsTypedWords, IsEntryHart, set_seat};
+ghost use Rattle.sfi_policy.specs.Formats.{stack_pointer};
+ghost use Rattle.sfi_image.specs.Spelling.{Holds};
+ghost use Rattle.sfi_host.specs.Changing.{called_back_hart};
+ghost use Rattle.sfi_host.specs.Loading.{with_registers};
+ghost use Rattle.sfi_host.specs.Slots.{span_of};
+ghost use Rattle.sfi_host.specs.Worlds.{seat_of};
+ghost use Rattle.sfi_host.specs.Changing.{hart_of, IsUnitAt, HoldsReserved, LiesNear, HoldsTypedWords, IsEntryHart, set_seat};
 
 use crate::region::Region;
 use crate::sandbox::Sandbox;

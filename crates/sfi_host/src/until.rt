@@ -2,10 +2,10 @@
 ghost use Rattle.std.specs.Prelude.{◌≡◌, ◌≢◌, ◌⊎◌, ◌↔◌, ℕ, IsTrue};
 ghost use Rattle.std.specs.Bool.{OnFalse};
 ghost use Rattle.std.specs.List.{Contains};
-ghost use Rattle.sfi_host.specs.Sandboxes.{seat_of};
+ghost use Rattle.sfi_host.specs.Worlds.{seat_of};
 ghost use Rattle.sfi_host.specs.private.Programs.{IsSafeWith};
 ghost use Rattle.sfi_host.specs.private.Sandboxes.{slot_in, StaysSafe};
-ghost use Rattle.sfi_host.specs.private.Until.{IsTurnUntil};
+ghost use Rattle.sfi_host.specs.private.Turns.{IsTurnUntil};
 
 use crate::program::Program;
 use crate::sandbox::Sandbox;

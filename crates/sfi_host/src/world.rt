@@ -3,20 +3,20 @@ ghost use Rattle.std.specs.Prelude.{◌≡◌, ◌≢◌, ◌↔◌, ◌<◌, �
 ghost use Rattle.std.specs.Bool.{OnTrue, OnFalse};
 ghost use Rattle.std.specs.FinMap.{empty};
 ghost use Rattle.std.specs.Option.{option_map};
-ghost use Rattle.sfi_image.specs.Spans.{Holds};
+ghost use Rattle.sfi_image.specs.Spelling.{Holds};
 ghost use Rattle.sfi_host.specs.Changing.{data_bytes_of, with_world_bytes, OthersAreSame, AreChanges};
-ghost use Rattle.sfi_host.specs.Entering.{AreEnterable, MayEnterAt, with_entry, IsAtEntry};
+ghost use Rattle.sfi_host.specs.Loading.{AreEnterable, MayEnterAt, with_entry, IsAtEntry};
 ghost use Rattle.sfi_host.specs.Joint.{Machine, IsMachine, call_of, joint, replied};
 ghost use Rattle.sfi_host.specs.Moves.{HaveRun, HaveRunJointly};
 ghost use Rattle.sfi_host.specs.Owning.{AreOwned};
 ghost use Rattle.sfi_host.specs.Plans.{IsJoint, IsCutJoint};
 ghost use Rattle.sfi_host.specs.private.Sandboxes.{bounds_in, slot_in};
-ghost use Rattle.sfi_host.specs.Reading.{hart_at, data_region_at};
+ghost use Rattle.sfi_host.specs.Slots.{hart_at, data_region_at};
 ghost use Rattle.sfi_host.specs.Programs.{programs_of, AreDecoded};
-ghost use Rattle.sfi_host.specs.Regions.{span_of};
-ghost use Rattle.sfi_host.specs.Sandboxes.{world_of};
+ghost use Rattle.sfi_host.specs.Slots.{span_of};
+ghost use Rattle.sfi_host.specs.Worlds.{world_of};
 ghost use Rattle.sfi_host.specs.Slots.{Slot};
-ghost use Rattle.sfi_host.specs.Stopping.{with_stop};
+ghost use Rattle.sfi_host.specs.Changing.{with_stop};
 ghost use Rattle.sfi_host.specs.Loading.{first_seat, with_parts, AreEntered, HaveFirstData};
 ghost use Rattle.sfi_host.specs.Waiting.{AsksAtGate, IsAtCall, Waits, to_call, later_reply, later_answer};
 ghost use Rattle.sfi_host.specs.Worlds.{slots_of, status_at, steps_at, data_byte_of, HaveStoppedThemselves, IsSafeWorld, StaysOutsideData};
@@ -65,10 +65,10 @@ impl<M: Memory> Model for World<M> {
 
     ghost coded = { Prim.hlevel (codes, map.code {R = nat_cmp} coded_ℕ coded_ℕ) };
 
-    ghost use Rattle.sfi_host.specs.Sandboxes.{world_of};
+    ghost use Rattle.sfi_host.specs.Worlds.{world_of};
     ghost use Rattle.sfi_host.specs.Programs.{programs_of, AreDecoded};
     ghost use Rattle.sfi_host.specs.Worlds.{IsSafeWorld};
-    ghost use Rattle.sfi_host.specs.Entering.{AreEnterable};
+    ghost use Rattle.sfi_host.specs.Loading.{AreEnterable};
     ghost use Rattle.sfi_host.specs.Owning.{AreOwned};
 
     ghost view = { λ w. world_of (M.bytes w.memory) w.sandboxes.items };

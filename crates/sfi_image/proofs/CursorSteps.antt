@@ -5,8 +5,8 @@ use Rattle.std.proofs.Math.Seq.{take-append_seam}
 use Rattle.sfi_image.specs.declared.cursor.ImageCursor.{ImageCursor}
 use Rattle.sfi_image.specs.declared.cursor.PartView.{PartView}
 use Rattle.sfi_image.specs.declared.want.Want.TheVariants as wants
-use Rattle.sfi_image.specs.Cursor.{HasRead, HasPassed, IsViewOf, unread}
-use Rattle.sfi_image.specs.private.Cursor.{Gives, LeadsOn}
+use Rattle.sfi_image.specs.Keeping.{HasRead, HasPassed, IsViewOf, unread}
+use Rattle.sfi_image.specs.private.{Gives, LeadsOn}
 use denote.Ref.{Bor}
 use Rattle.sfi_image.proofs.Cancelling.{same_fields, length-fields, length-gate}
 use Rattle.sfi_image.proofs.Ending.{code_short, cut_short, trails, whole_is_image}

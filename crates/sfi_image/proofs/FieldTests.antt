@@ -1,6 +1,6 @@
 -- What fields that pass their tests are.
 use Rattle.sfi_image.proofs.Prelude.{◌≡◌, List, [], ◌∷◌, ◌++◌, refl, sym, subst, inl, inr, Option, None, All, AllPairs, AllByRecursion, Fields, Span, LayoutFault, Part, fields_of, AreFieldWords, AreGateWords, AreApart, code_span, spans_of, AreGates, IsRightPart, FieldTest, Passes, IsFirstFault, field_tests}
-use Rattle.sfi_image.specs.Tests.FieldTest.{Code, Data, GuardRoom, Start, Gates, Init, Overlap}
+use Rattle.sfi_image.specs.Parts.FieldTest.{Code, Data, GuardRoom, Start, Gates, Init, Overlap}
 
 -- where no test fails, each is passed
 pub all_pass : (before : List Span) (f : Fields) (ts : List FieldTest) → IsFirstFault before f ts None → AllByRecursion (Passes before f) ts

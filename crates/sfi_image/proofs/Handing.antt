@@ -1,7 +1,6 @@
 -- What a stream of a reader hands out, whose bytes are known. Crates above cite this.
 use Rattle.sfi_image.proofs.Prelude.{◌≡◌, ℕ, Bool, true, List, [], ◌∷◌, ◌++◌, Option, Some, None, refl, sym, ap, ◌∙◌, subst, inl, inr, append_assoc, cases_Bool, ltb-true}
-use Rattle.sfi_image.specs.Reading.{ReadsOf}
-use Rattle.sfi_image.specs.Sources.{OneRead, IsChain, bytes_of, bytes_handed_out, finds_end, is_end, Streams}
+use Rattle.sfi_image.specs.Sources.{ReadsOf, OneRead, IsChain, bytes_of, bytes_handed_out, finds_end, is_end, Streams}
 
 -- one read hands out the front of the known bytes, and none where it finds the end, at which none are left
 handed : (n : ℕ) (answer new : Option (List ℕ)) (was is : Bool) (all : List ℕ) → ReadsOf (Some all) was n answer new is

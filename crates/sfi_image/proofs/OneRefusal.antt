@@ -1,8 +1,8 @@
 -- Sandboxes that are to be written have one fault at most, that of their bytes.
 use Rattle.sfi_image.proofs.Prelude.{◌≡◌, ℕ, ◌≤◌, List, [], ◌∷◌, ◌++◌, length, refl, sym, ap, subst, ◌∙◌, arith, append_assoc, inl, inr, ◌⊎◌, Some, None, Result, Ok, Err, IfErr, All, AllPairs, flat_map, flat_map-append, length-append, All-cons, All-head, All-tail, Format, Span, LayoutFault, Part, format_of, fields_of, gate, part, number, spelling, AreGateWords, AreWords, AreApart, code_region, spans_of, spans, AreGates, IsRightPart, AreOf, AreRight, IsRightLayout, field_tests, IsBodyFault, IsPartFault, ArePartsFault, IsFault, IfLayout}
-use Rattle.sfi_image.specs.Writing.{HasWrongGate, HasFault, HasWrongPart, HaveFault}
+use Rattle.sfi_image.specs.Faults.{HasWrongGate, HasFault, HasWrongPart, HaveFault}
 use Rattle.sfi_image.specs.declared.fault.ImageFault.{ImageFault}
-use Rattle.sfi_image.specs.private.Outcome.{Reads}
+use Rattle.sfi_image.specs.private.{Reads}
 use Rattle.std.proofs.Common.{append-nil}
 use Rattle.sfi_image.specs.declared.fault.LayoutFault.TheVariants as faults
 use Rattle.sfi_image.specs.declared.fault.ImageFault.TheVariants as errors

@@ -14,23 +14,17 @@ unfoldable pub use Rattle.sfi_policy.specs.Formats.{magic}
 pub use Rattle.sfi_policy.specs.Limits.{bundle_size, gates_most, service_most}
 pub use Rattle.sfi_policy.specs.declared.format.Format.{Format}
 pub use Rattle.sfi_policy.specs.declared.format.Format.TheVariants.{Sfi1, Sfi2, Sfiw}
-pub use Rattle.sfi_image.specs.Bounded.{IsBounded}
-pub use Rattle.sfi_image.specs.Faults.{IsFault, IsBodyFault, IsPartFault, ArePartsFault, IsCountFault, IsGateShort, IsGateWrong, AreContentsShort}
+pub use Rattle.sfi_image.specs.Sources.{IsBounded}
+pub use Rattle.sfi_image.specs.Faults.{IsFault, IsBodyFault, IsPartFault, ArePartsFault, IsCountFault, IsGateShort, IsGateWrong, AreContentsShort, IfLayout}
 pub use Rattle.sfi_image.specs.Fronts.{front, head, IsRightFront, CutShort, Trails, WholeIsImage, Front, IsHead, IsOpened, part_of, after_parts, after_init, after_code, after_gates, Follows, want_of, HasFaultWhateverFollows, IsLengthOf, AreBundlesWithin, IsLongestStretch, IsStretchLength}
 pub use Rattle.sfi_image.specs.Fronts.Front.{Empty, AfterMagic, AfterCount, InGates, InCode, InInit, Whole}
-pub use Rattle.sfi_image.specs.Gates.{AreGates, is_gate_of}
-pub use Rattle.sfi_image.specs.Images.{IsImage}
+pub use Rattle.sfi_image.specs.Parts.{AreGates, is_gate_of, IsImage, IsRightPart, AreOf, AreRight, IsRightLayout, IsCodeRegion, IsRegion, HasGuardRoom, IsBundleStart, FieldTest, Passes, IsFirstFault, fault_of, field_tests}
 pub use Rattle.sfi_image.specs.Keeping.{LayoutReader, StandsFor, Leads, AreAhead, is_one_of, KeepsHead, KeepsFields, KeepsCode, AreRest}
-pub use Rattle.sfi_image.specs.Outcome.{IfLayout}
-pub use Rattle.sfi_image.specs.Parts.{IsRightPart, AreOf, AreRight, IsRightLayout}
-pub use Rattle.sfi_image.specs.Regions.{IsCodeRegion, IsRegion, HasGuardRoom, IsBundleStart}
-pub use Rattle.sfi_image.specs.Spans.{Holds, AreApart, code_span, spans_of, spans, code_region, guarded_span}
-pub use Rattle.sfi_image.specs.Spelling.{Part, AreWords, fields_of, IsWord, AreFieldWords, AreGateWords, format_of, views, view}
+pub use Rattle.sfi_image.specs.Spelling.{Holds, AreApart, code_span, spans_of, spans, code_region, guarded_span, Part, AreWords, fields_of, IsWord, AreFieldWords, AreGateWords, format_of, views, view}
 unfoldable pub use Rattle.sfi_image.specs.Spelling.{number, fields, gate, part, spelling}
-pub use Rattle.sfi_image.specs.Tests.{FieldTest, Passes, IsFirstFault, fault_of, field_tests}
 pub use Rattle.sfi_image.specs.declared.fault.LayoutFault.{LayoutFault}
 pub use Rattle.sfi_image.specs.declared.fault.LayoutFault.TheVariants.{Count, Short, Trailing, Magic}
 pub use Rattle.sfi_image.specs.declared.fields.Fields.{Fields}
 pub use Rattle.sfi_image.specs.declared.part.Gate.{Gate}
 pub use Rattle.sfi_image.specs.declared.span.Span.{Span}
-pub use Rattle.sfi_image.specs.private.Keeping.{IsReader, MayTake, TakesLength, next_code, is_first, first_or, count_below, next_part, next_init, next_gate}
+pub use Rattle.sfi_image.specs.private.{IsReader, MayTake, TakesLength, next_code, is_first, first_or, count_below, next_part, next_init, next_gate}

@@ -1,7 +1,7 @@
 -- What is wrong with sandboxes that are to be written.
 use Rattle.sfi_image.proofs.Prelude.{suc, ◌≡◌, ℕ, ◌+◌, ◌<◌, ◌≤◌, ◌^◌, List, [], ◌∷◌, ◌++◌, length, get_or, map, take, drop, refl, sym, ap, subst, ◌∙◌, arith, inl, inr, ◌⊎◌, Some, None, Option, All, AllPairs, take_more, map_push, All-push, All-append, cases_lt, nat_tests, nat_le, true, false, code_most, Gate, Fields, Span, LayoutFault, Part, fields_of, AreFieldWords, AreGateWords, AreApart, code_span, code_region, spans_of, spans, IsBounded, gates_most, AreGates, IsRightPart, AreRight, IsFirstFault, field_tests}
-use Rattle.sfi_image.specs.Writing.{HasWrongGate, HasFault, HaveFault}
-use Rattle.sfi_image.specs.private.Writing.{capped, capped_fields}
+use Rattle.sfi_image.specs.Faults.{HasWrongGate, HasFault, HaveFault}
+use Rattle.sfi_image.specs.private.{capped, capped_fields}
 use Rattle.std.proofs.Math.ListN.{get_or-map}
 use Rattle.std.proofs.Math.Seq.{split_at}
 use Rattle.sfi_image.specs.declared.fault.LayoutFault.TheVariants as faults

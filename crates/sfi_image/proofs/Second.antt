@@ -1,6 +1,6 @@
 -- A right layout is one in the second format too: its code regions may be larger.
 use Rattle.sfi_image.proofs.Prelude.{◌≡◌, List, [], ◌∷◌, ◌++◌, length, refl, ap, subst, arith, All, AllPairs, length-map, All-map, All-weaker, Sfi2, Span, Part, format_of, fields_of, AreApart, spans_of, spans, IsRightPart, AreOf, IsRightLayout}
-use Rattle.sfi_image.specs.InFormat.{in_format, all_in_format}
+use Rattle.sfi_image.specs.Spelling.{in_format, all_in_format}
 use Rattle.sfi_image.proofs.Formats.{code_at_most}
 
 part_in_second : (p : Part) → IsRightPart p → IsRightPart (in_format Sfi2 p)

@@ -12,10 +12,9 @@ use Rattle.sfi_image.specs.declared.cursor.PartView.{PartView}
 use Rattle.sfi_image.specs.Spelling.{Part}
 unfoldable use Rattle.sfi_image.specs.Spelling.{part}
 use Rattle.sfi_image.specs.Fronts.{head}
-use Rattle.sfi_image.specs.Images.{IsImage}
-use Rattle.sfi_image.specs.Cursor.{HasPassed, IsViewOf, unread}
+use Rattle.sfi_image.specs.Parts.{IsImage}
+use Rattle.sfi_image.specs.Keeping.{HasPassed, IsViewOf, unread, IsSandboxOf, IsBeyond, sandbox_offset}
 use Rattle.sfi_image.proofs.CursorSteps.{passed_bytes}
-use Rattle.sfi_image.specs.Sandboxes.{IsSandboxOf, IsBeyond, sandbox_offset}
 use Rattle.sfi_image.proofs.Offsets.{length-head}
 
 -- of these sandboxes the one of that number was found, and its end; or there are fewer

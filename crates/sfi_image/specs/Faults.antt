@@ -1,4 +1,7 @@
--- The fault of bytes that are no image: a right front, and then what is wrong after it.
+-- What is wrong with bytes that are no image, and with sandboxes that are to be written.
+use Rattle.sfi_image.specs.declared.fault.LayoutFault.{LayoutFault}
+use Rattle.sfi_image.specs.declared.fault.ImageFault.{ImageFault}
+use Rattle.sfi_image.specs.declared.fault.ImageFault.TheVariants.{Layout, Memory}
 use Rattle.std.specs.Prelude.{◌≡◌, ◌≢◌, ℕ, ◌+◌, ◌<◌, ◌≤◌, ◌⊎◌, List, [], ◌∷◌, ◌++◌, length, take, Some, None}
 use Rattle.std.specs.List.{All, flat_map}
 use Rattle.sfi_policy.specs.Limits.{sandboxes_most}
@@ -7,13 +10,18 @@ use Rattle.sfi_policy.specs.Formats.{magic}
 use Rattle.sfi_image.specs.declared.part.Gate.{Gate}
 use Rattle.sfi_image.specs.declared.fields.Fields.{Fields}
 use Rattle.sfi_image.specs.declared.span.Span.{Span}
-use Rattle.sfi_image.specs.declared.fault.LayoutFault.{LayoutFault}
 use Rattle.sfi_image.specs.declared.fault.LayoutFault.TheVariants.{Magic, Count, Short, Code, Data, GuardRoom, Start, Gates, Init, Overlap, Trailing}
-use Rattle.sfi_image.specs.Spelling.{Part, magic_bytes, number_bytes, fields_bytes, gate_bytes, number, fields, gate, part, IsWord, AreFieldWords, AreGateWords}
-use Rattle.sfi_image.specs.Spans.{code_span, spans}
-use Rattle.sfi_image.specs.Gates.{AreGates}
-use Rattle.sfi_image.specs.Parts.{AreOf, AreRight}
-use Rattle.sfi_image.specs.Tests.{IsFirstFault, field_tests}
+use Rattle.sfi_image.specs.Spelling.{Part, magic_bytes, number_bytes, fields_bytes, gate_bytes, number, fields, gate, part, IsWord, AreFieldWords, AreGateWords, fields_of, code_span, spans, code_region}
+use Rattle.sfi_image.specs.Parts.{AreGates, AreOf, AreRight, IsFirstFault, field_tests}
+
+-- ==== What a reader of part of an image answers.
+
+-- the layout fault meets the fact, where it is one
+abbrev pub IfLayout : ImageFault → (LayoutFault → Type 0) → Type 0
+IfLayout (Layout k) P = P k
+IfLayout Memory P = Unit {0}
+
+-- ==== The fault of bytes that are no image: a right front, and then what is wrong after it.
 
 -- the number of a fault
 abbrev pub number_of : LayoutFault → ℕ
@@ -82,3 +90,30 @@ IsFault bytes k =
     × ((format : Format) → take magic_bytes bytes ≢ magic format) × (k ≡ Magic))
     ⊎ ((format : Format) × (rest : List ℕ) × (bytes ≡ magic format ++ rest)
     × IsCountFault format rest k))
+
+-- ==== What is wrong with sandboxes that are to be written: what reading their bytes would find
+-- first.
+
+-- the gates up to one of them are right, and with the next one they are not
+abbrev pub HasWrongGate : Span → List Gate → Type 0
+HasWrongGate region gs = (front : List Gate) × (g : Gate) × (more : List Gate)
+    × (gs ≡ front ++ g ∷ more) × AreGates region front × (¬ AreGates region (front ++ g ∷ []))
+
+-- after sandboxes with these spans the sandbox's fields fail a test, or pass them all and a gate is
+-- wrong
+abbrev pub HasFault : List Span → Part → LayoutFault → Type 0
+HasFault before p k =
+    IsFirstFault before (fields_of p) field_tests (Some k)
+    ⊎ (IsFirstFault before (fields_of p) field_tests None
+    × HasWrongGate (code_region p) p.gates × (k ≡ Gates))
+
+-- after right sandboxes the next one has the fault
+abbrev pub HasWrongPart : List Part → LayoutFault → Type 0
+HasWrongPart ps k = (front : List Part) × (p : Part) × (more : List Part)
+    × (ps ≡ front ++ p ∷ more) × AreRight front × HasFault (spans front) p k
+
+-- there is no sandbox, or too many, or the first wrong one has the fault
+abbrev pub HaveFault : List Part → LayoutFault → Type 0
+HaveFault ps k =
+    ((¬ ((1 ≤ length ps) × (length ps ≤ sandboxes_most))) × (k ≡ Count))
+    ⊎ ((1 ≤ length ps) × (length ps ≤ sandboxes_most) × HasWrongPart ps k)

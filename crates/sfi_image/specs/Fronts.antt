@@ -9,14 +9,10 @@ use Rattle.sfi_image.specs.declared.fields.Fields.{Fields}
 use Rattle.sfi_image.specs.declared.fault.LayoutFault.{LayoutFault}
 use Rattle.sfi_image.specs.declared.want.Want.{Want}
 use Rattle.sfi_image.specs.declared.want.Want.TheVariants as wants
-use Rattle.sfi_image.specs.Spelling.{Part, format_of, magic_bytes, number_bytes, fields_bytes, gate_bytes, number, fields, gate, part, AreFieldWords, AreGateWords}
-use Rattle.sfi_image.specs.Spans.{code_span, spans}
-use Rattle.sfi_image.specs.Gates.{AreGates, is_gate_of}
-use Rattle.sfi_image.specs.Parts.{AreOf, AreRight}
-use Rattle.sfi_image.specs.Tests.{IsFirstFault, field_tests}
+use Rattle.sfi_image.specs.Spelling.{Part, format_of, magic_bytes, number_bytes, fields_bytes, gate_bytes, number, fields, gate, part, AreFieldWords, AreGateWords, code_span, spans}
+use Rattle.sfi_image.specs.Parts.{AreGates, is_gate_of, AreOf, AreRight, IsFirstFault, field_tests, IsImage}
 use Rattle.sfi_image.specs.declared.fault.LayoutFault.TheVariants.{Short, Trailing}
 use Rattle.sfi_image.specs.Faults.{IsFault}
-use Rattle.sfi_image.specs.Images.{IsImage}
 
 -- What was read: nothing; the magic of a format; then the count and some whole sandboxes, after
 -- which another comes; of that one the fields and its gates so far; all its gates, and its code so

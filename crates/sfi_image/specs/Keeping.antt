@@ -1,5 +1,5 @@
--- What a reader in fixed arrays keeps of the front that it has read.
-use Rattle.std.specs.Prelude.{◌≡◌, ℕ, ◌+◌, ◌-◌, ◌*◌, ◌%◌, ◌≤◌, ◌==◌, ◌||◌, Bool, false, List, [], ◌∷◌, ◌++◌, length, map, drop}
+-- What a reader keeps of an image: the reader of its layout, a cursor, and a sandbox by its number.
+use Rattle.std.specs.Prelude.{◌≡◌, ℕ, ◌+◌, ◌-◌, ◌*◌, ◌%◌, ◌≤◌, ◌==◌, ◌||◌, Bool, false, List, [], ◌∷◌, ◌++◌, length, map, drop, Some, slice_get, take}
 use Rattle.sfi_policy.specs.Limits.{bundle_size, data_most, gates_most, sandboxes_most}
 use Rattle.sfi_policy.specs.declared.format.Format.{Format}
 use Rattle.sfi_policy.specs.declared.format.Format.TheVariants.{Sfi2}
@@ -9,11 +9,15 @@ use Rattle.sfi_image.specs.declared.fields.Fields.{Fields}
 pub use Rattle.sfi_image.specs.declared.layout_reader.LayoutReader.{LayoutReader}
 use Rattle.sfi_image.specs.declared.want.Next.{Next}
 use Rattle.sfi_image.specs.declared.want.Next.TheVariants as next
-use Rattle.sfi_image.specs.Spelling.{Part, format_of}
-use Rattle.sfi_image.specs.Spans.{spans, spans_of}
-use Rattle.sfi_image.specs.Gates.{is_gate_of}
-use Rattle.sfi_image.specs.Fronts.{Front, front, IsRightFront, Follows}
+use Rattle.sfi_image.specs.Spelling.{Part, format_of, fields_of, gate, AreGateWords, part, magic_bytes, number_bytes, spans, spans_of}
+use Rattle.sfi_image.specs.Parts.{is_gate_of, AreOf, IsImage}
+use Rattle.sfi_image.specs.Fronts.{Front, front, IsRightFront, Follows, after_parts}
 use Rattle.sfi_image.specs.Fronts.Front.{Empty, AfterMagic, AfterCount, InGates, InCode, InInit, Whole}
+use Rattle.std.specs.List.{All, flat_map}
+use Rattle.sfi_image.specs.declared.cursor.ImageCursor.{ImageCursor}
+use Rattle.sfi_image.specs.declared.cursor.PartView.{PartView}
+
+-- ==== What a reader in fixed arrays keeps of the front that it has read.
 
 -- ---- of which fronts: `StandsFor`, and its parts, which only private contracts name themselves
 
@@ -118,3 +122,54 @@ left_by next.Nothing r = 0
 -- what is left to do: a number that falls with each step
 abbrev pub left : LayoutReader → ℕ
 left r = left_by r.next r
+
+-- ==== What a cursor has read of an image's bytes, and a sandbox as it hands it out.
+
+-- the bytes that the cursor hasn't read
+abbrev pub unread : ImageCursor → List ℕ
+unread c = c.rest.now
+
+-- the cursor has read this front of the bytes, which passes its tests
+pub record HasRead (bytes : List ℕ) (x : Front) (c : ImageCursor) : Type 0 where
+  pub stands : StandsFor c.reader x
+  pub bytes_are : bytes ≡ front x ++ unread c
+
+-- the cursor has read the format's magic, the count and these whole sandboxes, with which the bytes
+-- begin
+pub record HasPassed (bytes : List ℕ) (format : Format) (n : ℕ) (ps : List Part) (c : ImageCursor)
+    : Type 0 where
+  pub one_format : AreOf format ps
+  pub read : HasRead bytes (after_parts format n ps) c
+
+-- the fields are the sandbox's, and the slices hold its gates' bytes, its code and its first data
+-- bytes; each number of a gate has 32 bits
+pub record IsViewOf (v : PartView) (p : Part) : Type 0 where
+  pub fields_are : v.fields ≡ fields_of p
+  pub gates_are : v.gates.now ≡ flat_map gate p.gates
+  pub code_is : v.code.now ≡ p.code
+  pub init_is : v.init.now ≡ p.init
+  pub words : All AreGateWords p.gates
+
+-- ==== The sandboxes of an image by their numbers, and where one lies in its bytes.
+
+-- the bytes are an image, and this is its sandbox of that number
+pub record IsSandboxOf (bytes : List ℕ) (number : ℕ) (p : Part) : Type 0 where
+  pub parts : List Part
+  pub image : IsImage bytes parts
+  pub sandbox_is : slice_get parts number ≡ Some p
+
+-- the bytes are an image with no sandbox of that number
+abbrev pub IsBeyond : List ℕ → ℕ → Type 0
+IsBeyond bytes number = (ps : List Part) × IsImage bytes ps × (length ps ≤ number)
+
+-- the bytes have this piece from byte `offset` on
+pub record LiesAt (bytes : List ℕ) (offset : ℕ) (piece : List ℕ) : Type 0 where
+  pub before : List ℕ
+  pub after : List ℕ
+  pub bytes_are : bytes ≡ before ++ (piece ++ after)
+  pub offset_is : offset ≡ length before
+
+-- where the sandbox of that number begins in the bytes of an image with these sandboxes: after the
+-- magic, the count and the sandboxes before it
+abbrev pub sandbox_offset : List Part → ℕ → ℕ
+sandbox_offset ps number = magic_bytes + number_bytes + length (flat_map part (take number ps))

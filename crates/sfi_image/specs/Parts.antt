@@ -1,12 +1,121 @@
--- Sandboxes that pass each test but Overlap, and that lie apart.
-use Rattle.std.specs.Prelude.{◌≡◌, ◌≤◌, List, length}
-use Rattle.std.specs.List.{All, AllPairs}
-use Rattle.sfi_policy.specs.Limits.{gates_most, sandboxes_most}
+-- Right sandboxes: regions, reserved registers, gates, and the tests in their order; and images of
+-- them.
+use Rattle.std.specs.Prelude.{◌≡◌, ℕ, ◌+◌, ◌*◌, ◌%◌, ◌^◌, ◌≤◌, ◌-◌, ◌<◌, ◌==◌, ◌||◌, Bool, false, List, [], ◌∷◌, ◌⊎◌, ◌++◌, Option, Some, None, length}
+use Rattle.sfi_policy.specs.Limits.{bundle_size, guard, region_least, data_most, service_most, gates_most, sandboxes_most}
 use Rattle.sfi_policy.specs.declared.format.Format.{Format}
-use Rattle.sfi_image.specs.Spelling.{Part, format_of, IsWord}
-use Rattle.sfi_image.specs.Spans.{AreApart, code_region, spans}
-use Rattle.sfi_image.specs.Regions.{IsCodeRegion, IsDataRegion, HasGuardRoom, IsBundleStart}
-use Rattle.sfi_image.specs.Gates.{AreGates}
+use Rattle.sfi_policy.specs.Formats.{code_most, unit}
+use Rattle.sfi_image.specs.declared.span.Span.{Span}
+use Rattle.sfi_image.specs.Spelling.{Holds, code_region, data_region, AreApart, code_span, spans_of, spans, Part, format_of, IsWord, spelling}
+use Rattle.sfi_image.specs.declared.reserved.Reserved.{Reserved}
+use Rattle.std.specs.List.{All, AllPairs}
+use Rattle.sfi_image.specs.declared.part.Gate.{Gate}
+use Rattle.sfi_image.specs.declared.fields.Fields.{Fields}
+use Rattle.sfi_image.specs.declared.fault.LayoutFault.{LayoutFault}
+use Rattle.sfi_image.specs.declared.fault.LayoutFault.TheVariants as faults
+
+-- ==== Where the regions of a sandbox may lie.
+
+-- the size is a power of two within the bounds, the base a multiple of it
+pub record IsRegion (base size least most : ℕ) : Type 0 where
+  pub power : ℕ
+  pub size_is : size ≡ 2 ^ power
+  pub at_least : least ≤ size
+  pub at_most : size ≤ most
+  pub multiple : ℕ
+  pub base_is : base ≡ multiple * size
+
+-- a code region of this format may have this base and size
+abbrev pub IsCodeRegion : Format → ℕ → ℕ → Type 0
+IsCodeRegion format base size = IsRegion base size region_least (code_most format)
+
+-- a data region may have this base and size
+abbrev pub IsDataRegion : ℕ → ℕ → Type 0
+IsDataRegion base size = IsRegion base size region_least data_most
+
+-- a guard zone has room below the data, and another between its end and 2 ^ 32
+pub record HasGuardRoom (base size : ℕ) : Type 0 where
+  pub below : guard ≤ base
+  pub above : base + size + guard ≤ 2 ^ 32
+
+-- the address is a multiple of a bundle's size in the region
+pub record IsBundleStart (region : Span) (at : ℕ) : Type 0 where
+  pub held : Holds region at
+  pub aligned : at % bundle_size ≡ 0
+
+-- ==== What the reserved registers hold.
+
+-- what the reserved registers hold while a sandbox runs whose code, in units of `unit_size` bytes,
+-- lies in the first span, and its data in the second
+abbrev pub reserved_for : ℕ → Span → Span → Reserved
+reserved_for unit_size code_at data_at = record {
+  code_base = code_at.base;
+  code_mask = code_at.size - unit_size;
+  data_base = data_at.base;
+  data_mask = data_at.size - 1;
+}
+
+-- what the reserved registers hold while this sandbox runs
+abbrev pub reserved_of : Part → Reserved
+reserved_of p = reserved_for (unit p.format) (code_region p) (data_region p)
+
+-- ==== The gates of a sandbox.
+
+-- each gate lies at a bundle start of the code region and names a service that there is, and each
+-- lies below those after it
+pub record AreGates (region : Span) (gs : List Gate) : Type 0 where
+  pub starts : All (λ g. IsBundleStart region g.address) gs
+  pub services : All (λ g. g.service ≤ service_most) gs
+  pub ascending : AllPairs (λ g h. g.address < h.address) gs
+
+-- the address is that of one of the gates
+abbrev pub is_gate_of : List Gate → ℕ → Bool
+is_gate_of [] at = false
+is_gate_of (g ∷ gs) at = (g.address == at) || is_gate_of gs at
+
+-- ==== The tests of the seven fields, in their order.
+
+-- what is tested of the fields
+pub data FieldTest : Type 0 where
+  Code : FieldTest
+  Data : FieldTest
+  GuardRoom : FieldTest
+  Start : FieldTest
+  Gates : FieldTest
+  Init : FieldTest
+  Overlap : FieldTest
+
+-- what each test asks of the fields, after sandboxes with these spans
+abbrev pub Passes : List Span → Fields → FieldTest → Type 0
+Passes before f Code = IsCodeRegion f.format f.code_base f.code_size
+Passes before f Data = IsDataRegion f.data_base f.data_size
+Passes before f GuardRoom = HasGuardRoom f.data_base f.data_size
+Passes before f Start = IsBundleStart (code_span f) f.start
+Passes before f Gates = f.gate_count ≤ gates_most
+Passes before f Init = f.init_len ≤ f.data_size
+Passes before f Overlap = AllPairs AreApart (before ++ spans_of f)
+
+-- the fault where this test fails
+abbrev pub fault_of : FieldTest → LayoutFault
+fault_of Code = faults.Code
+fault_of Data = faults.Data
+fault_of GuardRoom = faults.GuardRoom
+fault_of Start = faults.Start
+fault_of Gates = faults.Gates
+fault_of Init = faults.Init
+fault_of Overlap = faults.Overlap
+
+-- the order of the tests
+abbrev pub field_tests : List FieldTest
+field_tests = Code ∷ Data ∷ GuardRoom ∷ Start ∷ Gates ∷ Init ∷ Overlap ∷ []
+
+-- the fault of the first of these tests that fails; None where all pass
+abbrev pub IsFirstFault : List Span → Fields → List FieldTest → Option LayoutFault → Type 0
+IsFirstFault before f [] found = found ≡ None
+IsFirstFault before f (t ∷ ts) found =
+    (Passes before f t × IsFirstFault before f ts found)
+    ⊎ ((¬ Passes before f t) × (found ≡ Some (fault_of t)))
+
+-- ==== Sandboxes that pass each test but Overlap, and that lie apart.
 
 -- the code's first address has 32 bits, and the sandbox passes each test but Overlap: its own code
 -- and guard zones may still meet. (All its other numbers have 32 bits by these tests.)
@@ -35,3 +144,10 @@ pub record IsRightLayout (ps : List Part) : Type 0 where
   pub at_most : length ps ≤ sandboxes_most
   pub one_format : AreOf (format_of ps) ps
   pub right : AreRight ps
+
+-- ==== What it is for bytes to be an image.
+
+-- the bytes are the image of these sandboxes, whose layout is right
+pub record IsImage (bytes : List ℕ) (ps : List Part) : Type 0 where
+  pub bytes_are : bytes ≡ spelling ps
+  pub layout : IsRightLayout ps

@@ -1,6 +1,17 @@
--- Reads of a source, one after another, and the bytes that they hand out.
-use Rattle.std.specs.Prelude.{◌≡◌, ℕ, ◌≤◌, Bool, false, cond, ◌||◌, nat_lt, List, [], ◌∷◌, ◌++◌, Option, Some, None}
+-- Sources of bytes, and what reads of them hand out.
+use Rattle.std.specs.Prelude.{◌+◌, ◌^◌, ◌<◌, ◌≡◌, ℕ, ◌≤◌, Bool, false, cond, ◌||◌, nat_lt, List, [], ◌∷◌, ◌++◌, Option, Some, None, true, length}
+use Rattle.sfi_image.specs.declared.span.Span.{Span}
 use Rattle.std.specs.List.{All}
+use Rattle.std.specs.Io.KnownBytes.{Consumes, IsAtEnd, Keeps}
+
+-- ==== Spans whose ends can be compared in 64 bits.
+
+-- the span holds an address, and its end has 64 bits
+pub record IsBounded (s : Span) : Type 0 where
+  pub some : 0 < s.size
+  pub end : s.base + s.size < 2 ^ 64
+
+-- ==== Reads of a source, one after another, and the bytes that they hand out.
 
 -- one read: the length of its buffer, the bytes that it hands out or None where it fails,
 -- and the source after it
@@ -49,3 +60,12 @@ pub record Streams {S : Type 0} (reads : S → ℕ → Option (List ℕ) → S �
   pub bytes_are : bytes ≡ bytes_handed_out chain
   pub ends_is : ends ≡ finds_end chain
   pub pieces : All (λ r. r.buffer_length ≤ most) chain
+
+-- ==== One read of a reader.
+
+-- A read of known bytes, with what is known before and after it and whether a read has failed: what
+-- is handed out is the front of the bytes, and none only at their end; a failure takes none.
+abbrev pub ReadsOf : Option (List ℕ) → Bool → ℕ → Option (List ℕ) → Option (List ℕ) → Bool → Type 0
+ReadsOf old was n None new is = (is ≡ true) × Keeps old new
+ReadsOf old was n (Some bytes) new is =
+    (is ≡ was) × Consumes old new bytes × (length bytes ≤ n) × (bytes ≡ [] → 0 < n → IsAtEnd new)

@@ -1,5 +1,123 @@
 -- Words that private contracts and proofs alone cite: no public statement rests on them.
-pub mod Cursor
-pub mod Keeping
-pub mod Outcome
-pub mod Writing
+use Rattle.std.specs.Prelude.{◌≡◌, ℕ, List, ◌++◌, length, Result, Ok, Err, suc, nat_lt, ◌+◌, ◌-◌, ◌≤◌, ◌==◌, ◌⊎◌, Bool, false, [], ◌∷◌, cond, Option, Some, None, nat_le, if◌then◌else◌}
+use Rattle.sfi_image.specs.declared.fault.LayoutFault.{LayoutFault}
+use Rattle.sfi_image.specs.declared.cursor.ImageCursor.{ImageCursor}
+use Rattle.sfi_image.specs.Keeping.{HasRead, unread, HasStopped, Leads, LayoutReader, StandsFor}
+use Rattle.sfi_image.specs.Fronts.{Front, Follows, front, AreBundlesWithin, HasFaultWhateverFollows}
+use Rattle.sfi_image.specs.declared.fields.Fields.{Fields}
+use Rattle.sfi_image.specs.declared.want.Want.{Want}
+use Rattle.sfi_image.specs.declared.want.Want.TheVariants as wants
+use Rattle.sfi_image.specs.declared.want.OtherWant.{OtherWant}
+use Rattle.sfi_image.specs.declared.want.OtherWant.TheVariants as others
+use Rattle.sfi_image.specs.declared.want.Next.{Next}
+use Rattle.sfi_image.specs.declared.want.Next.TheVariants as next
+use Rattle.sfi_image.specs.Spelling.{magic_bytes, number_bytes, fields_bytes, gate_bytes, Part, fields_of}
+use Rattle.sfi_image.specs.declared.fault.ImageFault.{ImageFault}
+use Rattle.sfi_image.specs.Faults.{IfLayout}
+
+-- ==== What a cursor reads.
+
+-- the result is a value for which `Found` holds, or a fault for which `Faulty` holds
+abbrev pub Gives :
+    {X : Type 0} → (X → Type 0) → (LayoutFault → Type 0) → Result X LayoutFault → Type 0
+Gives Found Faulty (Ok x) = Found x
+Gives Found Faulty (Err k) = Faulty k
+
+-- the next `len` bytes, `s`, were read: the cursor has now read the front that follows `x` with
+-- them
+pub record LeadsOn (bytes : List ℕ) (x : Front) (len : ℕ) (s : List ℕ) (old new : ImageCursor)
+    : Type 0 where
+  pub len_is : length s ≡ len
+  pub taken : unread old ≡ s ++ unread new
+  pub to : Front
+  pub follows : Follows x s to
+  pub read : HasRead bytes to new
+
+-- ==== What the reader of a layout keeps.
+
+-- what is wanted, where that is no bundle
+abbrev pub as_want : OtherWant → Want
+as_want (others.Field n) = wants.Field n
+as_want (others.Init n) = wants.Init n
+as_want others.End = wants.End
+as_want others.Nothing = wants.Nothing
+
+-- the first of the addresses is `at`
+abbrev pub is_first : List ℕ → ℕ → Bool
+is_first [] at = false
+is_first (a ∷ more) at = a == at
+
+-- the first of the addresses, or `other` where there is none
+abbrev pub first_or : ℕ → List ℕ → ℕ
+first_or other [] = other
+first_or other (a ∷ more) = a
+
+-- how many addresses at the front of the list are below `end`
+abbrev pub count_below : ℕ → List ℕ → ℕ
+count_below end [] = 0
+count_below end (a ∷ more) = cond (nat_lt a end) (suc (count_below end more)) 0
+
+-- what comes next after `begun` sandboxes of `count`
+abbrev pub next_part : ℕ → ℕ → Next
+next_part begun count = cond (begun == count) next.End next.Fields
+
+-- what comes next after `read` first data bytes of `len`
+abbrev pub next_init : ℕ → ℕ → ℕ → ℕ → Next
+next_init read len begun count = cond (read == len) (next_part begun count) next.Init
+
+-- what comes next after `read` bytes of code of `size`
+abbrev pub next_code : ℕ → ℕ → ℕ → ℕ → ℕ → Next
+next_code read size len begun count = cond (read == size) (next_init 0 len begun count) next.Code
+
+-- what comes next after `read` gates of `gate_count`
+abbrev pub next_gate : ℕ → ℕ → Next
+next_gate read gate_count = cond (read == gate_count) next.Code next.Gate
+
+-- `len` bytes may be taken, where this comes next for a sandbox with fields `f` of which `code`
+-- bytes of code and `init` first data bytes are read
+abbrev pub TakesLength : Next → Fields → ℕ → ℕ → ℕ → Type 0
+TakesLength next.Magic f code init len = len ≡ magic_bytes
+TakesLength next.Count f code init len = len ≡ number_bytes
+TakesLength next.Fields f code init len = len ≡ fields_bytes
+TakesLength next.Gate f code init len = len ≡ gate_bytes
+TakesLength next.Code f code init len = AreBundlesWithin (f.code_size - code) len
+TakesLength next.Init f code init len = (1 ≤ len) × (len + init ≤ f.init_len)
+TakesLength next.End f code init len = ⊥
+TakesLength next.Nothing f code init len = ⊥
+
+-- a reader that was handed bytes from the start stands for a front, or has met a fault
+abbrev pub IsReader : LayoutReader → Type 0
+IsReader r = HasStopped r ⊎ ((x : Front) × StandsFor r x)
+
+-- `len` bytes may be taken in this state
+abbrev pub MayTake : LayoutReader → ℕ → Type 0
+MayTake r len = IsReader r × TakesLength r.next r.fields r.code_read r.init_read len
+
+-- With no fault, the new reader stands for each front that the old one stood for, with these bytes
+-- after it. With a fault, each of those fronts has that fault with these bytes, whatever follows.
+abbrev pub Takes : LayoutReader → List ℕ → LayoutReader → Option LayoutFault → Type 0
+Takes old s new None = (x : Front) → StandsFor old x → Leads x s new
+Takes old s new (Some k) =
+    HasStopped new × ((x : Front) → StandsFor old x → HasFaultWhateverFollows (front x ++ s) k)
+
+-- ==== What a read of part of an image answers.
+
+-- the value that was read meets `Found`, or the layout fault meets `Faulty`, or memory ran out
+abbrev pub Reads :
+    {X : Type 0} → (X → Type 0) → (LayoutFault → Type 0) → Result X ImageFault → Type 0
+Reads Found Faulty (Ok x) = Found x
+Reads Found Faulty (Err e) = IfLayout e Faulty
+
+-- ==== What is written of an image.
+
+-- the number, or the greatest of 32 bits where it has more
+abbrev pub capped : ℕ → ℕ
+capped n = if nat_le n 0xffffffff then n else 0xffffffff
+
+-- the seven fields, with lengths that fit
+abbrev pub capped_fields : Part → Fields
+capped_fields p = record (fields_of p) {
+  code_size = capped (length p.code);
+  gate_count = capped (length p.gates);
+  init_len = capped (length p.init);
+}

@@ -4,13 +4,13 @@ ghost use Rattle.std.specs.List.{flat_map};
 ghost use Rattle.sfi_policy.specs.declared.format.Format.{Format};
 ghost use Rattle.sfi_image.specs.declared.part.Gate.{Gate};
 ghost use Rattle.sfi_image.specs.Spelling.{Part, gate};
-ghost use Rattle.sfi_image.specs.Images.{IsImage};
+ghost use Rattle.sfi_image.specs.Parts.{IsImage};
 ghost use Rattle.sfi_image.specs.Faults.{IsFault};
 ghost use Rattle.sfi_image.specs.Fronts.{Front, after_gates, after_code, after_init, after_parts, part_of};
 ghost use Rattle.sfi_image.specs.Fronts.Front.{AfterCount, InCode};
-ghost use Rattle.sfi_image.specs.Cursor.{HasPassed, HasRead, IsViewOf, unread};
-ghost use Rattle.sfi_image.specs.private.Keeping.{MayTake};
-ghost use Rattle.sfi_image.specs.private.Cursor.{Gives, LeadsOn};
+ghost use Rattle.sfi_image.specs.Keeping.{HasPassed, HasRead, IsViewOf, unread};
+ghost use Rattle.sfi_image.specs.private.{MayTake};
+ghost use Rattle.sfi_image.specs.private.{Gives, LeadsOn};
 
 use crate::fault::LayoutFault;
 use crate::fields::Fields;

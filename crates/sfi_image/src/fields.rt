@@ -2,10 +2,10 @@
 ghost use Rattle.std.specs.Prelude.{◌≡◌, ◌≤◌, ◌↔◌, IsTrue, IfOk, IfErr, Some, None};
 ghost use Rattle.std.specs.List.{All, AllPairs};
 ghost use Rattle.sfi_policy.specs.Limits.{guard};
-ghost use Rattle.sfi_image.specs.Spans.{AreApart, code_span, guarded_span, with_guards};
-ghost use Rattle.sfi_image.specs.Bounded.{IsBounded};
-ghost use Rattle.sfi_image.specs.Regions.{IsRegion, IsBundleStart, HasGuardRoom};
-ghost use Rattle.sfi_image.specs.Tests.{IsFirstFault, field_tests};
+ghost use Rattle.sfi_image.specs.Spelling.{AreApart, code_span, guarded_span, with_guards};
+ghost use Rattle.sfi_image.specs.Sources.{IsBounded};
+ghost use Rattle.sfi_image.specs.Parts.{IsRegion, IsBundleStart, HasGuardRoom};
+ghost use Rattle.sfi_image.specs.Parts.{IsFirstFault, field_tests};
 
 use crate::fault::LayoutFault;
 use crate::span::{Span, are_all_apart};

@@ -2,8 +2,8 @@
 ghost use Rattle.std.specs.Prelude.{◌≡◌, ◌-◌, ◌++◌, ◌↔◌, ◌∷◌, [], List, length, map, slice_get, IsTrue};
 ghost use Rattle.sfi_image.specs.declared.part.Gate.{Gate};
 ghost use Rattle.sfi_image.specs.Spelling.{AreGateWords};
-ghost use Rattle.sfi_image.specs.Spans.{code_span};
-ghost use Rattle.sfi_image.specs.Gates.{AreGates};
+ghost use Rattle.sfi_image.specs.Spelling.{code_span};
+ghost use Rattle.sfi_image.specs.Parts.{AreGates};
 
 use crate::fields::{Fields, is_bundle_start};
 use crate::part::Gate;

@@ -3,13 +3,13 @@ ghost use Rattle.std.specs.Prelude.{◌≡◌, ◌++◌, ◌∷◌, [], OnOk, If
 ghost use Rattle.std.specs.Bool.{OnTrue, OnFalse};
 ghost use Rattle.std.specs.List.{All, AllPairs};
 ghost use Rattle.sfi_image.specs.Spelling.{view, views, fields_of, IsWord, AreFieldWords, AreGateWords};
-ghost use Rattle.sfi_image.specs.Spans.{AreApart, code_span, spans_of};
-ghost use Rattle.sfi_image.specs.Bounded.{IsBounded};
-ghost use Rattle.sfi_image.specs.Gates.{AreGates};
+ghost use Rattle.sfi_image.specs.Spelling.{AreApart, code_span, spans_of};
+ghost use Rattle.sfi_image.specs.Sources.{IsBounded};
+ghost use Rattle.sfi_image.specs.Parts.{AreGates};
 ghost use Rattle.sfi_image.specs.Parts.{IsRightPart, IsRightLayout};
-ghost use Rattle.sfi_image.specs.Writing.{HasWrongGate, HasFault, HaveFault};
-ghost use Rattle.sfi_image.specs.private.Writing.{capped, capped_fields};
-ghost use Rattle.sfi_image.specs.Outcome.{IfLayout};
+ghost use Rattle.sfi_image.specs.Faults.{HasWrongGate, HasFault, HaveFault};
+ghost use Rattle.sfi_image.specs.private.{capped, capped_fields};
+ghost use Rattle.sfi_image.specs.Faults.{IfLayout};
 
 use crate::fault::{ImageFault, LayoutFault};
 use crate::fields::{Fields, OwnSpans, spans_after};

@@ -5,7 +5,7 @@ ghost use Rattle.sfi_image.specs.declared.fault.LayoutFault.{LayoutFault};
 ghost use Rattle.sfi_image.specs.Fronts.{Front, front, want_of, AreBundlesWithin, IsLengthOf, IsStretchLength, HasFaultWhateverFollows};
 ghost use Rattle.sfi_image.specs.Fronts.Front.{Empty};
 ghost use Rattle.sfi_image.specs.Keeping.{StandsFor, HasStopped, Leads, left};
-ghost use Rattle.sfi_image.specs.private.Keeping.{IsReader, MayTake, Takes, as_want, count_below, first_or, is_first, next_part, next_init, next_code, next_gate};
+ghost use Rattle.sfi_image.specs.private.{IsReader, MayTake, Takes, as_want, count_below, first_or, is_first, next_part, next_init, next_code, next_gate};
 
 use crate::bundle::BundlePlace;
 use crate::fault::LayoutFault;

@@ -1,9 +1,9 @@
 //! A sandbox of an image, by its number.
 ghost use Rattle.std.specs.Prelude.{◌≡◌, ◌+◌, length, IfOk, IfErr, IfSome, IfNone};
 ghost use Rattle.sfi_image.specs.Spelling.{Part, part};
-ghost use Rattle.sfi_image.specs.Cursor.{IsViewOf};
+ghost use Rattle.sfi_image.specs.Keeping.{IsViewOf};
 ghost use Rattle.sfi_image.specs.Faults.{IsFault};
-ghost use Rattle.sfi_image.specs.Sandboxes.{sandbox_offset, IsSandboxOf, IsBeyond};
+ghost use Rattle.sfi_image.specs.Keeping.{sandbox_offset, IsSandboxOf, IsBeyond};
 
 use crate::cursor::{ImageCursor, PartView};
 use crate::fault::LayoutFault;

@@ -3,11 +3,11 @@ ghost use Rattle.std.specs.Prelude.{◌≡◌, ◌+◌, ◌≤◌, ◌++◌, ◌
 ghost use Rattle.sfi_policy.specs.Formats.{magic};
 ghost use Rattle.sfi_image.specs.declared.fault.LayoutFault.{LayoutFault};
 ghost use Rattle.sfi_image.specs.Spelling.{Part, view, number, fields, gate, IsWord, AreFieldWords, AreGateWords};
-ghost use Rattle.sfi_image.specs.Images.{IsImage};
+ghost use Rattle.sfi_image.specs.Parts.{IsImage};
 ghost use Rattle.sfi_image.specs.Faults.{IsFault};
-ghost use Rattle.sfi_image.specs.Outcome.{IfLayout};
-ghost use Rattle.sfi_image.specs.Cursor.{IsViewOf};
-ghost use Rattle.sfi_image.specs.private.Outcome.{Reads};
+ghost use Rattle.sfi_image.specs.Faults.{IfLayout};
+ghost use Rattle.sfi_image.specs.Keeping.{IsViewOf};
+ghost use Rattle.sfi_image.specs.private.{Reads};
 
 use crate::cursor::{ImageCursor, PartView};
 use crate::fault::{ImageFault, LayoutFault};

@@ -4,7 +4,7 @@ ghost use Rattle.std.specs.Prelude.{◌≡◌};
 ghost use Rattle.sfi_policy.specs.declared.format.Format.{Format};
 ghost use Rattle.sfi_image.specs.Spelling.{view};
 ghost use Rattle.sfi_image.specs.Parts.{IsRightPart};
-ghost use Rattle.sfi_image.specs.Registers.{reserved_of};
+ghost use Rattle.sfi_image.specs.Parts.{reserved_of};
 
 use crate::part::SandboxPart;
 use sfi_policy::Format;

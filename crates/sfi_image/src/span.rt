@@ -1,8 +1,8 @@
 //! Spans of addresses.
 ghost use Rattle.std.specs.Prelude.{◌++◌, ◌↔◌, ◌∷◌, [], IsTrue};
 ghost use Rattle.std.specs.List.{All, AllPairs};
-ghost use Rattle.sfi_image.specs.Spans.{AreApart};
-ghost use Rattle.sfi_image.specs.Bounded.{IsBounded};
+ghost use Rattle.sfi_image.specs.Spelling.{AreApart};
+ghost use Rattle.sfi_image.specs.Sources.{IsBounded};
 
 /// The `size` addresses from `base` on. The end may be 2 ^ 32, so both numbers have 64 bits.
 #[repr(C)]

@@ -7,10 +7,10 @@ ghost use Rattle.sfi_image.specs.declared.fault.LayoutFault.{LayoutFault};
 ghost use Rattle.sfi_image.specs.Spelling.{view, views, number, fields, fields_of, gate, part, spelling, AreWords};
 ghost use Rattle.sfi_image.specs.Parts.{IsRightPart, IsRightLayout};
 ghost use Rattle.sfi_image.specs.Faults.{IsFault};
-ghost use Rattle.sfi_image.specs.Writing.{HaveFault};
-ghost use Rattle.sfi_image.specs.Images.{IsImage};
-ghost use Rattle.sfi_image.specs.Outcome.{IfLayout};
-ghost use Rattle.sfi_image.specs.private.Outcome.{Reads};
+ghost use Rattle.sfi_image.specs.Faults.{HaveFault};
+ghost use Rattle.sfi_image.specs.Parts.{IsImage};
+ghost use Rattle.sfi_image.specs.Faults.{IfLayout};
+ghost use Rattle.sfi_image.specs.private.{Reads};
 
 use crate::fault::ImageFault;
 use crate::layout::check_layout;

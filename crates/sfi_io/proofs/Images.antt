@@ -6,8 +6,7 @@ use Rattle.std.specs.Io.KnownBytes.{Consumes, IsAtEnd}
 use Rattle.sfi_policy.specs.declared.format.Format.{Format}
 use Rattle.sfi_policy.specs.declared.format.Format.TheVariants.{Sfi1, Sfi2, Sfiw}
 use Rattle.sfi_policy.specs.Formats.{magic}
-use Rattle.sfi_io.specs.Hexadecimal.{SpellsBytes}
-use Rattle.sfi_io.specs.Images.{BeginsAsImage}
+use Rattle.sfi_io.specs.Hexadecimal.{SpellsBytes, BeginsAsImage}
 use Rattle.sfi_io.specs.Laws.{TextsBeginAsNone}
 
 -- an S is no digit

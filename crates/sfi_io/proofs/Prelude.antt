@@ -7,8 +7,7 @@ pub use Rattle.hex.specs.Hex.{hex_digit_value, decode_of, digit_or_error}
 unfoldable pub use Rattle.hex.specs.Hex.{decode_pairs}
 pub use Rattle.hex.specs.declared.error.FromHexError.{FromHexError}
 pub use Rattle.hex.specs.declared.error.FromHexError.TheVariants.{InvalidHexCharacter, InvalidStringLength, OddLength, OutOfMemory}
-pub use Rattle.sfi_io.specs.Hexadecimal.{is_kept}
+pub use Rattle.sfi_io.specs.Hexadecimal.{is_kept, limit}
 pub use Rattle.sfi_io.specs.Pieces.{ahead, Leads, or_fault, outcome, prepend, waiting}
-pub use Rattle.sfi_io.specs.Streams.{limit}
 pub use Rattle.sfi_io.specs.declared.text.TextStop.TheVariants.{TooLarge, Fault}
 pub use Rattle.sfi_io.specs.private.{SpellsFront, GoesOn, IsByteOf}

@@ -1,12 +1,35 @@
--- Hexadecimal text with white space in it.
-use Rattle.std.specs.Prelude.{◌≡◌, ◌⊎◌, ◌<◌, ◌≤◌, ℕ, List, Vec, Bool, not, ◌==◌, ◌||◌, filter, length, Result, Ok, Err, IsErr}
+-- What is read and written: bytes, hexadecimal text, and an image as either.
+use Rattle.std.specs.Prelude.{◌≡◌, ℕ, ◌<◌, ◌≤◌, List, length, Option, Some, None, ◌++◌, ◌⊎◌, Vec, Bool, not, ◌==◌, ◌||◌, filter, Result, Ok, Err, IsErr, take}
+use Rattle.sfi_io.specs.declared.streams.Input.{Input}
+use Rattle.sfi_io.specs.declared.streams.Input.TheVariants.{Whole, TooLarge}
+use Rattle.std.specs.Io.KnownBytes.{Appends}
 use Rattle.hex.specs.Hex.{decode_of}
 use Rattle.hex.specs.declared.error.FromHexError.TheVariants.{OddLength, InvalidHexCharacter}
 use Rattle.sfi_io.specs.declared.hexadecimal.HexFault.{HexFault}
 use Rattle.sfi_io.specs.declared.hexadecimal.HexFault.TheVariants.{Odd, Digit}
 use Rattle.sfi_io.specs.declared.hexadecimal.HexStop.{HexStop}
 use Rattle.sfi_io.specs.declared.hexadecimal.HexStop.TheVariants.{Fault, Memory}
-use Rattle.sfi_io.specs.Streams.{limit}
+use Rattle.sfi_policy.specs.declared.format.Format.{Format}
+use Rattle.sfi_policy.specs.Formats.{magic}
+
+-- ==== What is read and written, where the reader and the writer tell their bytes.
+
+-- the most bytes of input text
+abbrev pub limit : ℕ
+limit = 134217728
+
+-- what was read of a reader that held these bytes: all of them, where they keep the limit
+abbrev pub IsInput : Option (List ℕ) → Input → Type 0
+IsInput None input = Unit {0}
+IsInput (Some bytes) (Whole text) = (text.items ≡ bytes) × (length bytes ≤ limit)
+IsInput (Some bytes) TooLarge = limit < length bytes
+
+-- a beginning of the text was written, and not all of it
+abbrev pub WritesPart : Option (List ℕ) → Option (List ℕ) → List ℕ → Type 0
+WritesPart old new text = (front : List ℕ) × (rest : List ℕ) × (text ≡ front ++ rest)
+    × (0 < length rest) × Appends old new front
+
+-- ==== Hexadecimal text with white space in it.
 
 -- a byte that counts: no space, tab, CR or LF
 abbrev pub is_kept : ℕ → Bool
@@ -43,3 +66,23 @@ abbrev pub GivesBytes : {Z : Type 0} → List ℕ → Result (Vec ℕ Z) HexStop
 GivesBytes bytes (Ok others) = others.items ≡ bytes
 GivesBytes bytes (Err (Fault fault)) = ⊥
 GivesBytes bytes (Err Memory) = Unit {0}
+
+-- ==== Input that is an image: its own bytes, or hexadecimal text.
+
+-- the first four bytes are the magic of a format
+abbrev pub BeginsAsImage : List ℕ → Type 0
+BeginsAsImage input = (f : Format) × (take 4 input ≡ magic f)
+
+-- the input begins as an image, keeps the limit, and is these bytes
+pub record AreOwnBytes (input bytes : List ℕ) : Type 0 where
+  pub begins : BeginsAsImage input
+  pub short : length input ≤ limit
+  pub same : input ≡ bytes
+
+-- the input is these bytes, which begin as an image's, or spells them
+abbrev pub GivesImage : List ℕ → List ℕ → Type 0
+GivesImage input bytes = AreOwnBytes input bytes ⊎ SpellsBytes input bytes
+
+-- the input is above its limit, or neither begins as an image nor is hexadecimal text
+abbrev pub GivesNoImage : List ℕ → Type 0
+GivesNoImage input = (limit < length input) ⊎ ((¬ BeginsAsImage input) × IsNoHexadecimal input)

@@ -1,8 +1,6 @@
 -- What holds of the definitions themselves.
 use Rattle.std.specs.Prelude.{◌≡◌, ◌↔◌, ◌≤◌, ℕ, List, length, Ok, Err}
-use Rattle.sfi_io.specs.Hexadecimal.{SpellsBytes, IsHexFault}
-use Rattle.sfi_io.specs.Images.{BeginsAsImage}
-use Rattle.sfi_io.specs.Streams.{limit}
+use Rattle.sfi_io.specs.Hexadecimal.{SpellsBytes, IsHexFault, BeginsAsImage, limit}
 use Rattle.sfi_io.specs.Pieces.{outcome, start_of}
 use Rattle.sfi_io.specs.declared.hexadecimal.HexFault.{HexFault}
 use Rattle.sfi_io.specs.declared.text.TextStop.TheVariants.{Fault}

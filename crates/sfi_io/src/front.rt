@@ -2,7 +2,7 @@
 
 ghost use Rattle.std.specs.Prelude.{◌≡◌, ◌⊎◌, ◌*◌, ◌+◌, ◌%◌, ◌<◌, ◌≤◌, ℕ, drop, filter, length, slice_index, take, true};
 ghost use Rattle.sfi_io.specs.Hexadecimal.{is_kept};
-ghost use Rattle.sfi_io.specs.Streams.{limit};
+ghost use Rattle.sfi_io.specs.Hexadecimal.{limit};
 ghost use Rattle.sfi_io.specs.private.{IsBadPair, IsWrongPlace, SpellsFront};
 ghost use Rattle.sfi_io.specs.Pieces.{waiting};
 ghost use Rattle.sfi_io.specs.declared.hexadecimal.HexFault.TheVariants.{Odd, Digit};

@@ -4,7 +4,7 @@ ghost use Rattle.std.specs.Prelude.{◌≡◌, ◌⊎◌, ◌<◌, ◌≤◌, �
 ghost use Rattle.sfi_io.specs.declared.hexadecimal.TheConstants.{CLASSES};
 ghost use Rattle.hex.specs.Hex.{decode_of, hex_digit_value, pair_value};
 ghost use Rattle.sfi_io.specs.Hexadecimal.{is_kept, GivesBytes, IsHexStop, IsUnreadable, SpellsBytes};
-ghost use Rattle.sfi_io.specs.Streams.{limit};
+ghost use Rattle.sfi_io.specs.Hexadecimal.{limit};
 ghost use Rattle.sfi_io.specs.private.{IsByteOf};
 ghost use Rattle.sfi_io.specs.declared.hexadecimal.HexFault.TheVariants.{Odd, Digit};
 ghost use Rattle.sfi_io.specs.declared.hexadecimal.HexStop.TheVariants.{Memory};

@@ -3,8 +3,8 @@
 ghost use Rattle.std.specs.Prelude.{◌≡◌, ◌<◌, ◌≤◌, ◌↔◌, ℕ, List, IsTrue, IfOk, IfErr, IfSome, IsErr, length};
 ghost use Rattle.std.specs.Io.KnownBytes.{Consumes, IsAtEnd};
 ghost use Rattle.sfi_io.specs.Hexadecimal.{GivesBytes, IsHexStop};
-ghost use Rattle.sfi_io.specs.Images.{BeginsAsImage, GivesImage, GivesNoImage};
-ghost use Rattle.sfi_io.specs.Streams.{limit};
+ghost use Rattle.sfi_io.specs.Hexadecimal.{BeginsAsImage, GivesImage, GivesNoImage};
+ghost use Rattle.sfi_io.specs.Hexadecimal.{limit};
 
 use crate::hexadecimal::{HexStop, bytes_of};
 use crate::streams::ReadStop;

@@ -1,6 +1,6 @@
 //! Reading the input to its end, and writing a text whole.
 ghost use Rattle.std.specs.Prelude.{◌≡◌, IfOk};
-ghost use Rattle.sfi_io.specs.Streams.{IsInput, WritesPart};
+ghost use Rattle.sfi_io.specs.Hexadecimal.{IsInput, WritesPart};
 ghost use Rattle.sfi_io.specs.declared.streams.ReadStop.TheVariants.{Memory};
 ghost use Rattle.std.specs.Bool.{OnTrue, OnFalse};
 ghost use Rattle.std.specs.Io.KnownBytes.{Appends};

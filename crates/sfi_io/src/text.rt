@@ -1,7 +1,7 @@
 //! Hexadecimal text that is read in pieces.
 
 ghost use Rattle.std.specs.Prelude.{◌≤◌, ◌+◌, ◌-◌};
-ghost use Rattle.sfi_io.specs.Streams.{limit};
+ghost use Rattle.sfi_io.specs.Hexadecimal.{limit};
 
 use crate::front::{decode_front, pair_fault};
 use crate::hexadecimal::{HexFault, digits_in};

@@ -2,23 +2,20 @@
 use Rattle.sfi_link.proofs.Prelude.{◌≡◌, ℕ, zero, suc, ◌+◌, ◌^◌, ◌<◌, ◌≤◌, List, [], ◌∷◌, ◌++◌, length, Option, Some, None, Bool, true, false, refl, sym, ap, ◌∙◌, subst, arith, append_assoc, inl, inr, replicate, ℤ, pos, negsuc, ◌-ℤ◌, ◌==◌, ◌&&◌, ◌||◌, not, MatchBool, Addi, Instr, Op, OpImm, Load, Store, Branch, Jal, Jalr, Lui, Fence, Ecall, Ebreak, has_stack, is_stack, IsBody, Piece, upper, lower, Slot, Wide, Short, Jump, Upper, Lower, PlacedName, slot_size, size_of, c_nop, AreWhole, nothing, padding, Bases, target_at, address_at, with_offset, c_ebreak, resolved, made_of, AreSlots}
 use Rattle.sfi_source.specs.declared.item.Body.{Body}
 use Rattle.sfi_source.specs.declared.item.Body.TheVariants.{Plain, To, High, Low}
-use Rattle.rv_word.specs.Numbers.{offset_by}
-use Rattle.rv_word.specs.Writes.{destination, is_register, writes_register}
+use Rattle.rv_word.specs.Spelling.{offset_by}
+use Rattle.rv_word.specs.Outlines.{destination, is_register, writes_register}
 use Rattle.rv_word.specs.declared.instr.RegOp.TheVariants.{And, Or}
-use Rattle.sfi_policy.specs.Registers.{is_reserved, is_withheld}
-use Rattle.sfi_policy.specs.Formats.{has_words}
+use Rattle.sfi_policy.specs.Formats.{is_reserved, is_withheld, has_words}
 use Rattle.sfi_policy.specs.declared.format.Format.{Format}
 use Rattle.sfi_policy.specs.declared.format.Format.TheVariants.{Sfi1, Sfi2, Sfiw}
 use Rattle.std.proofs.lemmas.Bool.{true≢false}
-use Rattle.sfi_rewrite.specs.Expansion.{jump_to_x31, jump_slots, IsAlone, IsMasked, IsExpansionOf}
-use Rattle.sfi_rewrite.specs.Registers.{names_withheld, item_names_withheld, is_ecall}
-use Rattle.sfi_rules.specs.Pairs.{follows_data_pair}
+use Rattle.sfi_rewrite.specs.Expansion.{jump_to_x31, jump_slots, IsAlone, IsMasked, IsExpansionOf, names_withheld, item_names_withheld, is_ecall}
+use Rattle.sfi_rules.specs.Readings.{follows_data_pair, writes_stack, begins_pair, ends_pair, precedes_pair, is_jump}
 use Rattle.sfi_rules.specs.Rules.{is_bundle_start, breaks_reserved, breaks_stack}
-use Rattle.sfi_rules.specs.Stack.{writes_stack, begins_pair, ends_pair, precedes_pair, is_jump}
 use Rattle.sfi_image.specs.declared.bundle.BundlePlace.{BundlePlace}
 use Rattle.sfi_rewrite.specs.Placed.{expansion as whole_expansion}
 use Rattle.std.proofs.lemmas.Bool as bool
-use Rattle.sfi_rewrite.specs.Stack as stack
+use Rattle.sfi_rewrite.specs.Expansion as stack
 use Rattle.sfi_rewrite.proofs.Sizes.{size_of-cons}
 use Rattle.sfi_link.proofs.Sizes.{slot_some}
 use Rattle.sfi_link.proofs.CleanPlaces.{AreStarts, IsReadAs, IsCleanFrom, passes, place, or_left, unreserved, is_calm, writes_unreserved, calm, no_write, well_written, pair_read, or_read, second_false, on_stack, lands, direct, PassesBefore, step, some_same, made, slot_spells, lone_ends}

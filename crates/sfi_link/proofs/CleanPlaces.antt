@@ -2,19 +2,18 @@
 use Rattle.sfi_link.proofs.Prelude.{◌≡◌, ℕ, ◌+◌, ◌^◌, ◌<◌, List, [], ◌∷◌, ◌++◌, length, take, drop, Option, Some, None, Bool, true, false, refl, sym, ap, ◌∙◌, subst, arith, length-append, ℤ, pos, negsuc, ◌+ℤ◌, ◌-ℤ◌, ◌==◌, ◌&&◌, ◌||◌, not, and_right, or_parts, ints, Instr, Op, OpImm, Load, Branch, Jal, Jalr, Lui, Auipc, Fence, Ebreak, Spells, expansion, has_stack, is_stack, IsBody, Piece, IsReading, rest_of, is_masking, is_placing, Slot, Wide, Short, PlacedName, slot_size, size_of, Bases, target_at, with_offset, resolved, made_of, IsSlot, ◌≤◌, length-take, ⊎_elim, IsLongestReading}
 use Rattle.rv_comp.specs.declared.form.Form16.TheVariants.{CEbreak}
 use Rattle.sfi_source.specs.declared.item.Body.TheVariants.{To}
-use Rattle.rv_word.specs.Numbers.{modulo, offset_by}
-use Rattle.rv_word.specs.Writes.{writes_register}
+use Rattle.rv_word.specs.Spelling.{modulo, offset_by}
+use Rattle.rv_word.specs.Outlines.{writes_register}
 use Rattle.rv_word.specs.declared.instr.RegOp.TheVariants.{And, Or}
-use Rattle.sfi_policy.specs.Registers.{is_reserved, is_withheld}
+use Rattle.sfi_policy.specs.Formats.{is_reserved, is_withheld}
 use Rattle.sfi_policy.specs.declared.format.Format.TheVariants.{Sfi1}
-use Rattle.sfi_rewrite.specs.Registers.{names_withheld}
+use Rattle.sfi_rewrite.specs.Expansion.{names_withheld}
 use Rattle.sfi_rules.specs.Findings.{lowest, all_rules, findings_from}
-use Rattle.sfi_rules.specs.Rules.{is_empty, is_bundle_start, breaks_ecall, breaks_reserved, breaks_access, breaks_jump, breaks_target, breaks_end, breaks_stack, may_write_stack, ends_region, is_last_bundle}
-use Rattle.sfi_rules.specs.Stack.{writes_stack, begins_pair, precedes_pair}
+use Rattle.sfi_rules.specs.Rules.{is_empty, is_bundle_start, breaks_ecall, breaks_reserved, breaks_access, breaks_jump, breaks_target, breaks_end, breaks_stack, may_write_stack, ends_region, is_last_bundle, Place}
+use Rattle.sfi_rules.specs.Readings.{writes_stack, begins_pair, precedes_pair}
 use Rattle.sfi_image.specs.declared.bundle.BundlePlace.{BundlePlace}
 use Rattle.std.proofs.Math.Seq.{take-append_seam, drop-append_seam}
-use Rattle.sfi_rules.specs.Rules.{Place}
-use Rattle.sfi_rewrite.specs.Stack as stack
+use Rattle.sfi_rewrite.specs.Expansion as stack
 use Rattle.rv_comp.proofs.Facts.{word_spells, spelled_length, two_lengths}
 use Rattle.sfi_link.proofs.Written.{short_spells}
 use Rattle.sfi_rewrite.proofs.Sizes.{size_of-cons}

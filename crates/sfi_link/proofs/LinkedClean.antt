@@ -1,6 +1,6 @@
 -- What is made of a placed sandbox breaks no rule.
 use Rattle.sfi_link.proofs.Prelude.{◌≡◌, ℕ, ◌+◌, ◌-◌, ◌*◌, ◌^◌, ◌<◌, ◌≤◌, List, [], ◌∷◌, length, Option, Some, None, refl, sym, ap, ◌∙◌, subst, arith, slice_get, All, repeat, All-head, All-tail, Format, Part, stub_of, Slot, PlacedName, size_of, slots_of, Placement, AreWhole, IsPlacedPart, IsPlacedThere, Place, bases_of, of_name, target_at, target_of, AreSlots, needed, part_with, IsLinked, AreLinkedFrom}
-use Rattle.sfi_image.specs.Regions.{IsBundleStart}
+use Rattle.sfi_image.specs.Parts.{IsBundleStart}
 use Rattle.sfi_rewrite.specs.declared.placed.PlacedName.TheVariants.{Gate, Code}
 use Rattle.std.specs.Prelude.{◌++◌, ◌%◌, Bool, true, false, MatchBool}
 use Rattle.std.proofs.lemmas.Bool.{true≢false, and_from, le-leb, lt-ltb, eq-eqb}
@@ -10,7 +10,7 @@ use Rattle.sfi_rewrite.specs.Placed.{AreOfItems, AreWholeIn}
 use Rattle.sfi_rules.specs.Findings.{AreFindings, AreFindingsFrom}
 use Rattle.sfi_rules.proofs.Facts.{of_bundles, of_words, same_bundle_starts}
 use Rattle.std.proofs.lemmas.Option.{slice_get_within, get_or_from_slice_get}
-use Rattle.sfi_rules.specs.Bundles.{bundle_place}
+use Rattle.sfi_rules.specs.Readings.{bundle_place}
 use Rattle.sfi_rules.specs.declared.owed.Owed.TheVariants as kind
 use Rattle.sfi_rewrite.proofs.WordView.{InWords, view, as_laid, word_aligned}
 use Rattle.sfi_link.proofs.WordItems.{AreWordStarts, nothing_owed, items_right}

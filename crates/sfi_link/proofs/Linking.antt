@@ -1,9 +1,9 @@
 -- From the code of each sandbox to the image.
 use Rattle.sfi_link.proofs.Prelude.{◌≡◌, ℕ, zero, suc, ◌+◌, ◌-◌, ◌*◌, ◌/◌, ◌^◌, ◌<◌, ◌≤◌, List, [], ◌∷◌, ◌++◌, length, drop, get_or, replicate, refl, sym, ap, ◌∙◌, subst, arith, append_assoc, append-nil, length-append, inl, inr, Vec, Global, max, Result, Ok, Err, IfOk, All, AllPairs, repeat, cases_lt, All-nil, Format, code_most, Sandbox, Span, Part, stub_of, PlacedName, size_of, slots_of, Placement, IsPlacedPart, IsPlacedThere, Place, Bases, LinkFault, place_of, IsRightPlace, spans_at, AreApart, spans, bases_of, AreSlots, c_ebreak, needed, HasRoom, IsCodeSize, gates_from, IsLinkedCode, IsLinked, AreLinkedFrom, AreLinked, MayLie, IsSlotFault, HasPartFault, IsPartFault, IsLinkFault, IsNear, AreNear, HasRoomFor, AreWritten, LiesBeside, IsCodeBeside, AreCodes, Links, part_with, parts_with, All-push, with_guards}
 use Rattle.sfi_source.specs.declared.item.SourceGate.{SourceGate}
-use Rattle.sfi_image.specs.Bounded.{IsBounded}
-use Rattle.sfi_link.specs.Answers.{UnlessMemory, AnswersItems, AnswersFault}
-use Rattle.sfi_link.specs.Building.{IsLinkedImage, ArePlacements, IsBuild}
+use Rattle.sfi_image.specs.Sources.{IsBounded}
+use Rattle.sfi_link.specs.Faults.{UnlessMemory, AnswersItems, AnswersFault}
+use Rattle.sfi_link.specs.Linked.{IsLinkedImage, ArePlacements, IsBuild}
 use Rattle.sfi_policy.specs.declared.format.Format.TheVariants.{Sfi1}
 use Rattle.std.proofs.Math.Nat.{pow-suc}
 use Rattle.std.proofs.Math.Pow.{pow_mono}

@@ -15,30 +15,26 @@ pub use Rattle.rv_word.specs.declared.instr.Instr.{Instr}
 pub use Rattle.rv_word.specs.declared.instr.Instr.TheVariants.{Op, OpImm, Load, Store, Branch, Jal, Jalr, Lui, Fence, Ecall, Ebreak, Auipc}
 pub use Rattle.rv_comp.specs.Fronts.{Spells}
 pub use Rattle.rv_comp.specs.Table.{expansion, row, allowed}
-pub use Rattle.sfi_source.specs.Halves.{upper, lower}
-pub use Rattle.sfi_source.specs.Source.{Sandbox, IsBody, IsSandbox}
+pub use Rattle.sfi_source.specs.Source.{upper, lower, Sandbox, IsBody, IsSandbox}
 pub use Rattle.sfi_policy.specs.Formats.{has_stack, is_stack, code_most}
 pub use Rattle.sfi_pairs.specs.Pairs.{is_masking, is_placing, stub}
-unfoldable pub use Rattle.sfi_link.specs.Stubs.{stub_of}
+unfoldable pub use Rattle.sfi_link.specs.Code.{stub_of}
 pub use Rattle.sfi_policy.specs.declared.format.Format.{Format}
-pub use Rattle.sfi_policy.specs.Places.{place_of}
+pub use Rattle.sfi_policy.specs.Limits.{place_of}
 pub use Rattle.sfi_policy.specs.declared.place.Place.{Place}
-pub use Rattle.sfi_image.specs.Spans.{AreApart, with_guards, spans, spans_of, code_region}
-pub use Rattle.sfi_image.specs.Spelling.{Part, fields_of, format_of, views, view}
+pub use Rattle.sfi_image.specs.Spelling.{AreApart, with_guards, spans, spans_of, code_region, Part, fields_of, format_of, views, view}
 pub use Rattle.sfi_image.specs.declared.span.Span.{Span}
 pub use Rattle.sfi_rules.specs.Readings.{Piece, IsReading, rest_of, IsLongestReading}
 pub use Rattle.sfi_rewrite.specs.Placed.{AreWhole, nothing, padding, IsPlacedPart, IsPlacedThere, IsPlaced, Encodes}
 pub use Rattle.sfi_rewrite.specs.Placement.{Placement, AreBundles}
-pub use Rattle.sfi_rewrite.specs.Slots.{slot_size, size_of, c_nop, slots_of}
+pub use Rattle.sfi_rewrite.specs.Expansion.{slot_size, size_of, c_nop, slots_of}
 pub use Rattle.sfi_rewrite.specs.declared.placed.PlacedName.{PlacedName}
 pub use Rattle.sfi_rewrite.specs.declared.slot.Slot.{Slot}
 pub use Rattle.sfi_rewrite.specs.declared.slot.Slot.TheVariants.{Wide, Short, Jump, Upper, Lower}
-pub use Rattle.sfi_link.specs.Addresses.{target_at, address_at, with_offset, bases_of, of_name, target_of, stub_size}
-pub use Rattle.sfi_link.specs.Code.{resolved, made_of, AreSlots, IsSlot}
+pub use Rattle.sfi_link.specs.Code.{target_at, address_at, with_offset, bases_of, of_name, target_of, stub_size, resolved, made_of, AreSlots, IsSlot}
 pub use Rattle.sfi_link.specs.Faults.{IsLinkFault, MayLie, IsSlotFault, HasPartFault, IsPartFault, HasSlotFault}
-pub use Rattle.sfi_link.specs.Linked.{c_ebreak, needed, gates_from, part_with, IsLinked, AreLinkedFrom, HasRoom, IsCodeSize, IsLinkedCode, AreLinked}
-pub use Rattle.sfi_link.specs.RightPlaces.{IsRightPlace, spans_at}
+pub use Rattle.sfi_link.specs.Linked.{c_ebreak, needed, gates_from, part_with, IsLinked, AreLinkedFrom, HasRoom, IsCodeSize, IsLinkedCode, AreLinked, IsRightPlace, spans_at}
 pub use Rattle.sfi_link.specs.Names.{kind_of, entry_of, entries_of, entries_in, map_from}
 pub use Rattle.sfi_link.specs.declared.bases.Bases.{Bases}
 pub use Rattle.sfi_link.specs.declared.fault.LinkFault.{LinkFault}
-pub use Rattle.sfi_link.specs.private.Near.{LiesBeside, IsNear, AreNear, HasRoomFor, AreWritten, IsCodeBeside, AreCodes, Links, IsPushed, contents, parts_with}
+pub use Rattle.sfi_link.specs.private.{LiesBeside, IsNear, AreNear, HasRoomFor, AreWritten, IsCodeBeside, AreCodes, Links, IsPushed, contents, parts_with}

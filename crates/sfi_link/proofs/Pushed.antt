@@ -1,7 +1,7 @@
 -- Slots written one after another.
 use Rattle.sfi_link.proofs.Prelude.{◌≡◌, ℕ, zero, suc, ◌+◌, ◌<◌, List, [], ◌∷◌, ◌++◌, length, drop, get_or, replicate, Some, refl, sym, ap, ◌∙◌, subst, arith, append_assoc, append-nil, length-append, inl, inr, ℤ, pos, All, repeat, w32, to_le_bytes, ints, OpImm, Lui, Addi, InRange, IsReg, IsImm12, spelling, expansion, upper, lower, Slot, Upper, Lower, PlacedName, slot_size, size_of, Bases, LinkFault, address_at, IsSlot, AreSlots, made_of, c_ebreak, HasRoomFor, IsPushed, AreWritten, HasSlotFault, IsSlotFault, ◌⊎◌, Encodes}
 use Rattle.rv_comp.specs.declared.form.Form16.TheVariants.{CEbreak}
-use Rattle.sfi_link.specs.Answers.{UnlessMemory}
+use Rattle.sfi_link.specs.Faults.{UnlessMemory}
 use Rattle.std.proofs.Math.Seq.{take-append_seam, drop-append_seam}
 use Rattle.std.proofs.lemmas.List.{at_drop_more}
 use Rattle.std.proofs.lemmas.List.Elements.{All-take, All-drop}

@@ -7,18 +7,15 @@ use Rattle.sfi_source.specs.declared.item.Body.TheVariants.{Plain, To, High, Low
 use Rattle.sfi_source.specs.declared.item.Item.{Item}
 use Rattle.sfi_image.specs.Parts.{IsRightPart}
 use Rattle.sfi_link.specs.Standing.{IsResolvedTo, AreResolvedTo, RunsAt, RunsAs, WordRunsAs, RunsAsIn, LinkedRunsAs, LinkedImagesRunAs, SandboxesRunAs}
-use Rattle.sfi_rewrite.specs.Expansion.{jump_slots, IsAlone, IsMasked, IsExpansionOf}
+use Rattle.sfi_rewrite.specs.Expansion.{jump_slots, IsAlone, IsMasked, IsExpansionOf, is_on_stack, stack_pair, put_back, writes_stack}
 use Rattle.sfi_rewrite.specs.Rewriting.{IsRewritten, AreRewritten}
-use Rattle.sfi_rewrite.specs.Stack.{is_on_stack, stack_pair, put_back}
-use Rattle.sfi_policy.specs.Formats.{has_words}
+use Rattle.sfi_policy.specs.Formats.{has_words, is_data_register}
 use Rattle.sfi_rewrite.specs.Transparency.{IsAimed, MayBe, SlotsStand, StandsTransparent}
 use Rattle.sfi_rewrite.specs.words.Transparency as words
 use Rattle.sfi_rewrite.specs.words.Expansion as words_expansion
 use Rattle.sfi_rewrite.specs.words.Expansion.{data_mask, base_of, before, after, mask_after, IsConfined, IsAround, is_move, moved, is_step}
-use Rattle.sfi_policy.specs.Registers.{is_data_register}
-use Rattle.rv_word.specs.Writes.{destination}
+use Rattle.rv_word.specs.Outlines.{destination}
 use Rattle.std.specs.Prelude.{not, ◌&&◌, ◌||◌, ◌==◌, drop, Option, None, if◌then◌else◌}
-use Rattle.sfi_rewrite.specs.Stack.{writes_stack}
 use Rattle.sfi_rewrite.proofs.Facts.{rewritten_is_transparent}
 use Rattle.sfi_rewrite.proofs.WordStanding.{body_laid}
 use Rattle.sfi_link.proofs.CleanPlaces.{made}

@@ -3,8 +3,7 @@ use Rattle.sfi_link.proofs.Prelude.{◌≡◌, ℕ, ◌+◌, List, [], ◌∷◌
 use Rattle.rv_mem.specs.Bytes.{Bytes, byte_at, address_after}
 use Rattle.rv_mem.specs.Laws.{Holds}
 use Rattle.rv_step.specs.State.{State}
-use Rattle.rv_step.specs.Step.{Stands}
-use Rattle.rv_step.specs.Steps.{further}
+use Rattle.rv_step.specs.Step.{Stands, further}
 use Rattle.sfi_link.specs.Standing.{IsResolvedTo, AreResolvedTo}
 use Rattle.sfi_rewrite.specs.Transparency.{SlotStands, SlotsStand}
 use Rattle.rv_mem.proofs.Facts.{read_is_held}

@@ -1,7 +1,7 @@
 -- What is placed has an image, or a fault.
 use Rattle.sfi_link.proofs.Prelude.{◌≡◌, ℕ, zero, suc, ◌+◌, ◌-◌, ◌/◌, ◌^◌, ◌<◌, ◌≤◌, List, [], ◌∷◌, ◌++◌, length, Option, Some, None, refl, sym, ap, subst, arith, inl, inr, ◌⊎◌, ℤ, pos, ◌-ℤ◌, All, AllPairs, repeat, w16, w32, to_le_bytes, cases_lt, cases_eq, ints, All-head, All-tail, Instr, Branch, Jal, InRange, IsReg, spelling, expansion, Format, code_most, stub_of, Slot, Wide, Short, Jump, Upper, Lower, PlacedName, slot_size, slots_of, Placement, Encodes, IsPlacedPart, Bases, LinkFault, Place, Span, AreApart, spans, place_of, IsRightPlace, spans_at, bases_of, address_at, target_at, with_offset, made_of, IsSlot, AreSlots, needed, HasRoom, IsCodeSize, IsLinkedCode, part_with, IsLinked, AreLinkedFrom, AreLinked, AreWritten, MayLie, HasSlotFault, IsSlotFault, HasPartFault, IsPartFault}
-use Rattle.rv_comp.specs.Halfwords.{halfword_of}
-use Rattle.rv_word.specs.Numbers.{modulo, minus, IsBetween}
+use Rattle.rv_comp.specs.Fronts.{halfword_of}
+use Rattle.rv_word.specs.Spelling.{modulo, minus, IsBetween}
 use Rattle.sfi_link.specs.Laws.{SomeLinking}
 use Rattle.std.specs.Prelude.{◌≤ℤ◌}
 use Rattle.std.proofs.lemmas.Int.{by_lt_z}

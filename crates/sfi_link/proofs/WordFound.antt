@@ -6,9 +6,8 @@ use Rattle.std.proofs.Math.Seq.{take-append_seam, drop-append_seam}
 use Rattle.sfi_image.specs.declared.bundle.BundlePlace.{BundlePlace}
 use Rattle.sfi_rules.specs.declared.owed.Owed.{Owed}
 use Rattle.sfi_rules.specs.declared.owed.Owed.TheVariants.{Nothing}
-use Rattle.sfi_rules.specs.Broken.{rest_finding}
-use Rattle.sfi_rules.specs.Rules.{is_empty}
-use Rattle.sfi_rules.specs.Bundles.{bundle_place, bundle_bytes}
+use Rattle.sfi_rules.specs.Rules.{rest_finding, is_empty}
+use Rattle.sfi_rules.specs.Readings.{bundle_place, bundle_bytes}
 use Rattle.sfi_rules.specs.words.Findings.{found_from, owed_past, IsWordFound, AreFoundInWords, AreFoundOfFirst, AreFindingsInWords}
 use Rattle.sfi_link.proofs.CleanPlaces.{whole_is_longest}
 use Rattle.sfi_link.proofs.Sizes.{join}

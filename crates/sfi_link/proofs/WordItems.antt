@@ -4,8 +4,8 @@ use Rattle.sfi_link.proofs.Prelude.{◌≡◌, ◌⊎◌, ℕ, ◌+◌, ◌^◌,
 use Rattle.std.specs.Prelude.{if◌then◌else◌}
 use Rattle.std.proofs.lemmas.Bool.{true≢false, not-false}
 use Rattle.std.proofs.lemmas.List.{map-append}
-use Rattle.rv_word.specs.Numbers.{offset_by}
-use Rattle.rv_word.specs.Writes.{destination}
+use Rattle.rv_word.specs.Spelling.{offset_by}
+use Rattle.rv_word.specs.Outlines.{destination}
 use Rattle.rv_word.specs.declared.instr.RegOp.TheVariants.{Add, And, Or}
 use Rattle.rv_word.specs.declared.instr.LoadKind.{LoadKind}
 use Rattle.rv_word.specs.declared.instr.StoreWidth.{StoreWidth}
@@ -13,18 +13,15 @@ use Rattle.sfi_source.specs.declared.item.Body.{Body}
 use Rattle.sfi_source.specs.declared.item.Body.TheVariants.{Plain, To, High, Low}
 use Rattle.sfi_source.specs.declared.item.Item.{Item}
 use Rattle.sfi_policy.specs.declared.format.Format.TheVariants.{Sfiw}
-use Rattle.sfi_policy.specs.Registers.{is_data_register}
-use Rattle.sfi_rewrite.specs.Expansion.{IsAlone}
-use Rattle.sfi_rewrite.specs.Faults.{IsPermitted}
-use Rattle.sfi_rewrite.specs.Registers.{is_withheld, names_withheld, item_names_withheld, is_ecall}
-use Rattle.sfi_rewrite.specs.words.Expansion.{data_mask, IsAround, IsExpansionOf, IsExpansion, mask_after, is_use, is_step_to, is_step, is_zero, is_move, moved, is_barred_jump}
-use Rattle.sfi_rewrite.specs.words.Laying.{Marked, marked, AreExpanded}
+use Rattle.sfi_policy.specs.Formats.{is_data_register}
+use Rattle.sfi_rewrite.specs.Expansion.{IsAlone, is_withheld, names_withheld, item_names_withheld, is_ecall}
+use Rattle.sfi_rewrite.specs.Rewriting.{IsPermitted}
+use Rattle.sfi_rewrite.specs.words.Expansion.{data_mask, IsAround, IsExpansionOf, IsExpansion, mask_after, is_use, is_step_to, is_step, is_zero, is_move, moved, is_barred_jump, Marked, marked, AreExpanded}
 use Rattle.sfi_rewrite.specs.words.Transparency.{AreAsLaid}
 use Rattle.sfi_rules.specs.declared.owed.Owed.{Owed}
 use Rattle.sfi_rules.specs.declared.owed.Owed.TheVariants as kind
-use Rattle.sfi_rules.specs.Stack.{is_jump}
-use Rattle.sfi_rules.specs.words.Rules.{is_word_start, may_access, places, masks, breaks_ecall}
-use Rattle.sfi_rules.specs.words.Owing.{left}
+use Rattle.sfi_rules.specs.Readings.{is_jump}
+use Rattle.sfi_rules.specs.words.Rules.{is_word_start, may_access, places, masks, breaks_ecall, left}
 use Rattle.sfi_rewrite.proofs.Sizes.{size_of-append}
 use Rattle.sfi_rewrite.proofs.WordStanding.{apart, body_laid, slots_of_marked}
 use Rattle.sfi_link.proofs.CleanPlaces.{is_calm, lands, made}

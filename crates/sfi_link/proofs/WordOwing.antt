@@ -3,19 +3,18 @@ use Rattle.sfi_link.proofs.Prelude.{◌≡◌, ◌⊎◌, ℕ, Option, Some, Non
 use Rattle.std.specs.Prelude.{cond}
 use Rattle.std.proofs.lemmas.Bool.{true≢false}
 use Rattle.rv_word.specs.declared.instr.RegOp.TheVariants.{Or}
-use Rattle.rv_word.specs.Writes.{destination, is_register}
+use Rattle.rv_word.specs.Outlines.{destination, is_register}
 use Rattle.sfi_source.specs.declared.item.Body.TheVariants.{Plain}
 use Rattle.sfi_pairs.specs.Pairs.{is_masking}
 use Rattle.sfi_policy.specs.declared.format.Format.TheVariants.{Sfiw}
-use Rattle.sfi_policy.specs.Registers.{is_reserved, is_data_register}
-use Rattle.sfi_rewrite.specs.Registers.{is_withheld, names_withheld}
+use Rattle.sfi_policy.specs.Formats.{is_reserved, is_data_register}
+use Rattle.sfi_rewrite.specs.Expansion.{is_withheld, names_withheld}
 use Rattle.sfi_rewrite.specs.words.Expansion as words
 use Rattle.sfi_rules.specs.declared.owed.Owed.{Owed}
 use Rattle.sfi_rules.specs.declared.owed.Owed.TheVariants as kind
 use Rattle.sfi_rules.specs.Rules.{is_reserved_one}
-use Rattle.sfi_rules.specs.Stack.{is_jump}
-use Rattle.sfi_rules.specs.words.Rules.{is_small, places, is_step, uses, breaks_offset}
-use Rattle.sfi_rules.specs.words.Owing.{owed_by_code, owed_of, owed_by}
+use Rattle.sfi_rules.specs.Readings.{is_jump}
+use Rattle.sfi_rules.specs.words.Rules.{is_small, places, is_step, uses, breaks_offset, owed_by_code, owed_of, owed_by}
 use Rattle.sfi_rewrite.proofs.WordKept.{written_free}
 
 -- ---- registers

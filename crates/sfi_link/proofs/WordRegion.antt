@@ -1,13 +1,13 @@
 -- A code region of words, stubs, slots and c.ebreaks, has no finding.
 use Rattle.sfi_link.proofs.Prelude.{◌≡◌, ℕ, zero, suc, ◌+◌, ◌-◌, ◌*◌, ◌/◌, ◌%◌, ◌<◌, ◌≤◌, List, [], ◌∷◌, ◌++◌, length, take, drop, true, false, refl, sym, ap, ◌∙◌, subst, arith, append_assoc, append-nil, length-append, replicate, repeat, ◌==◌, not, pos, and_left, and_right, ne_eqb, eq-eqb, ints, w32, to_le_bytes, InRange, spelling, Instr, Op, Jalr, Ecall, Ebreak, Spells, c_ebreak, stub_of, Part, Piece, IsReading, rest_of, Slot, Short, PlacedName, slot_size, size_of, Bases, AreSlots}
 use Rattle.rv_word.specs.declared.instr.RegOp.TheVariants.{And, Or}
-use Rattle.sfi_image.specs.Gates.{is_gate_of}
+use Rattle.sfi_image.specs.Parts.{is_gate_of}
 use Rattle.sfi_image.specs.declared.bundle.BundlePlace.{BundlePlace}
 use Rattle.sfi_policy.specs.declared.format.Format.TheVariants.{Sfiw}
-use Rattle.sfi_rewrite.specs.words.Laying.{Marked, alone}
+use Rattle.sfi_rewrite.specs.words.Expansion.{Marked, alone}
 use Rattle.sfi_rules.specs.declared.owed.Owed.{Owed}
 use Rattle.sfi_rules.specs.declared.owed.Owed.TheVariants as kind
-use Rattle.sfi_rules.specs.Bundles.{bundle_place}
+use Rattle.sfi_rules.specs.Readings.{bundle_place}
 use Rattle.sfi_rules.specs.Rules.{ends_region}
 use Rattle.sfi_rules.specs.words.Rules.{breaks_ecall}
 use Rattle.sfi_rules.specs.words.Findings.{is_at_gate, breaks_last, AreFindingsInWords}

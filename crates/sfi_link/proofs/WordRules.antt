@@ -1,14 +1,13 @@
 -- No rule is broken at the place of an instruction of code in words, and that is owed after it.
 use Rattle.sfi_link.proofs.Prelude.{◌≡◌, ℕ, ◌+◌, List, [], ◌∷◌, ◌++◌, Option, Some, None, Bool, true, false, refl, sym, ap, ◌∙◌, ◌&&◌, ◌||◌, not, Instr, Piece}
 use Rattle.std.specs.Prelude.{is_some, cond}
-use Rattle.rv_word.specs.Writes.{destination, writes_register}
+use Rattle.rv_word.specs.Outlines.{destination, writes_register}
 use Rattle.sfi_image.specs.declared.bundle.BundlePlace.{BundlePlace}
 use Rattle.sfi_rules.specs.declared.owed.Owed.{Owed}
 use Rattle.sfi_rules.specs.declared.rule.Rule.{Rule}
 use Rattle.sfi_rules.specs.declared.rule.Rule.TheVariants.{V3, V4, V5, V6, V7, V8, V10, V11, V12}
 use Rattle.sfi_rules.specs.Rules.{breaks_reserved}
-use Rattle.sfi_rules.specs.words.Rules.{breaks_ecall, breaks_access, breaks_jump, breaks_target, breaks_offset}
-use Rattle.sfi_rules.specs.words.Owing.{left, owed_by, joined, owed_next, is_of_data, is_of_code}
+use Rattle.sfi_rules.specs.words.Rules.{breaks_ecall, breaks_access, breaks_jump, breaks_target, breaks_offset, left, owed_by, joined, owed_next, is_of_data, is_of_code}
 use Rattle.sfi_rules.specs.words.Findings.{Place, is_at_gate, is_data_one, breaks_last, fails_data, fails_code, lowest, found_at, found_from, owed_past}
 
 -- ---- what is asked of an instruction

@@ -1,12 +1,11 @@
 -- What is written of a 16-bit form spells it.
 use Rattle.sfi_link.proofs.Prelude.{◌≡◌, ℕ, ◌+◌, ◌*◌, ◌^◌, ◌<◌, List, [], ◌∷◌, Bool, true, refl, subst, arith, inl, IsTrue, ◌&&◌, nat_lt, w16, bit_at, to_le_bytes, and_parts, ltb-true, row, allowed, expansion, Spells}
-use Rattle.rv_comp.specs.Bits.{Bit, is, bit_of, Fields, number_after, field_value}
-use Rattle.rv_comp.specs.Halfwords.{halfword_of}
+use Rattle.rv_comp.specs.Table.{Bit, is, bit_of, Fields, number_after, field_value, fields_of}
+use Rattle.rv_comp.specs.Fronts.{halfword_of}
 use Rattle.rv_comp.specs.declared.form.Form16.{Form16}
 use Rattle.rv_comp.specs.declared.form.Form16.TheVariants.{CAddi4spn}
 use Rattle.std.proofs.lemmas.Nat.{from_le_bytes-to_le_bytes_2}
 use Rattle.std.proofs.lemmas.Nat.Bits.{bit_at-lt}
-use Rattle.rv_comp.specs.Table.{fields_of}
 
 -- ---- a row of 16 bits makes a number of 16 bits
 

@@ -1,27 +1,26 @@
--- Why what is placed can't be linked.
-use Rattle.std.specs.Prelude.{◌≡◌, ◌⊎◌, ℕ, ◌+◌, ◌++◌, ◌<◌, ◌≤◌, pos, ◌-ℤ◌, List, [], ◌∷◌, length, Option, Some, None}
+-- Why what is placed can't be linked, and what a linker answers.
+use Rattle.std.specs.Prelude.{◌≡◌, ◌⊎◌, ℕ, ◌+◌, ◌++◌, ◌<◌, ◌≤◌, pos, ◌-ℤ◌, List, [], ◌∷◌, length, Option, Some, None, Result, Ok, Err, Vec}
 use Rattle.std.specs.List.{AllPairs}
 use Rattle.rv_word.specs.declared.instr.Instr.{Instr}
 use Rattle.rv_word.specs.Spelling.{InRange}
-use Rattle.sfi_policy.specs.Limits.{sandboxes_most}
+use Rattle.sfi_policy.specs.Limits.{sandboxes_most, place_of}
 use Rattle.sfi_image.specs.declared.span.Span.{Span}
-use Rattle.sfi_image.specs.Spelling.{Part}
-use Rattle.sfi_image.specs.Spans.{AreApart, spans}
+use Rattle.sfi_image.specs.Spelling.{Part, AreApart, spans}
 use Rattle.sfi_policy.specs.declared.place.Place.{Place}
-use Rattle.sfi_policy.specs.Places.{place_of}
 use Rattle.sfi_rewrite.specs.declared.slot.Slot.{Slot}
 use Rattle.sfi_rewrite.specs.declared.slot.Slot.TheVariants.{Wide, Short, Jump, Upper, Lower}
 use Rattle.sfi_rewrite.specs.declared.placed.PlacedName.{PlacedName}
-use Rattle.sfi_rewrite.specs.Slots.{slot_size, slots_of}
+use Rattle.sfi_rewrite.specs.Expansion.{slot_size, slots_of}
 use Rattle.sfi_rewrite.specs.Placement.{Placement}
 use Rattle.sfi_link.specs.declared.bases.Bases.{Bases}
 use Rattle.sfi_link.specs.declared.fault.LinkFault.{LinkFault}
 use Rattle.sfi_link.specs.declared.fault.LinkFault.TheVariants.{UnknownName, BranchReach, TooLarge, TooManySandboxes, Memory}
 use Rattle.sfi_link.specs.declared.fault.LinkFault.TheVariants as fault
-use Rattle.sfi_link.specs.Addresses.{address_at, target_at, with_offset, bases_of}
-use Rattle.sfi_link.specs.Code.{IsSlot}
-use Rattle.sfi_link.specs.Linked.{needed, HasRoom, IsCodeSize, IsLinked}
-use Rattle.sfi_link.specs.RightPlaces.{IsRightPlace, spans_at}
+use Rattle.sfi_link.specs.Code.{address_at, target_at, with_offset, bases_of, IsSlot}
+use Rattle.sfi_link.specs.Linked.{needed, HasRoom, IsCodeSize, IsLinked, IsRightPlace, spans_at}
+use Rattle.std.specs.Global.{Global}
+
+-- ==== Why what is placed can't be linked.
 
 -- the number of a fault
 abbrev pub number_of : LinkFault → ℕ
@@ -108,3 +107,19 @@ IsLinkFault given placed f =
     × (f ≡ fault.Place (length placed)))
     ⊎ ((length placed ≤ sandboxes_most) × (length given ≤ length placed)
     × IsPartFault given 0 [] placed f)
+
+-- ==== What a linker answers, want of memory aside.
+
+-- what holds of a fault, where that isn't want of memory
+abbrev pub UnlessMemory : (LinkFault → Type 0) → LinkFault → Type 0
+UnlessMemory P Memory = Unit {0}
+UnlessMemory P f = P f
+
+-- the answer is a list of these items, or memory ran out
+abbrev pub AnswersItems : {X : Type 0} → List X → Result (Vec X Global) LinkFault → Type 0
+AnswersItems items (Ok v) = v.items ≡ items
+AnswersItems items (Err f) = f ≡ Memory
+
+-- the answer is this fault, or memory ran out
+abbrev pub AnswersFault : {X : Type 0} → LinkFault → Result X LinkFault → Type 0
+AnswersFault f answer = (answer ≡ Err f) ⊎ (answer ≡ Err Memory)

@@ -8,8 +8,7 @@ use Rattle.sfi_rewrite.specs.Placement.{Placement}
 use Rattle.sfi_rewrite.specs.Placed.{IsPlacedPart, IsPlaced}
 use Rattle.sfi_link.specs.declared.fault.LinkFault.{LinkFault}
 use Rattle.sfi_link.specs.declared.fault.LinkFault.TheVariants as fault
-use Rattle.sfi_link.specs.Linked.{IsLinked, AreLinked}
-use Rattle.sfi_link.specs.Building.{IsLinkedImage}
+use Rattle.sfi_link.specs.Linked.{IsLinked, AreLinked, IsLinkedImage}
 use Rattle.sfi_policy.specs.Limits.{sandboxes_most}
 use Rattle.sfi_link.specs.Faults.{IsLinkFault}
 

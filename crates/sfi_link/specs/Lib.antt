@@ -1,11 +1,6 @@
-pub mod Addresses
-pub mod Stubs
 pub mod Code
-pub mod RightPlaces
 pub mod Linked
 pub mod Faults
-pub mod Building
-pub mod Answers
 pub mod Standing
 pub mod Names
 pub mod Laws

@@ -1,24 +1,41 @@
--- The sandbox of an image that is made of a placed one.
-use Rattle.std.specs.Prelude.{◌≡◌, ℕ, ◌+◌, ◌*◌, ◌^◌, ◌≤◌, List, [], ◌∷◌, ◌++◌, length, replicate}
-use Rattle.std.specs.List.{repeat, AllPairs}
+-- The image of what is placed.
+use Rattle.std.specs.Prelude.{ℕ, List, [], ◌∷◌, ◌≡◌, ◌+◌, ◌*◌, ◌^◌, ◌≤◌, ◌++◌, length, replicate}
+use Rattle.sfi_image.specs.declared.span.Span.{Span}
+use Rattle.sfi_image.specs.Spelling.{IsWord, Part, spelling, with_guards, AreApart, spans}
+use Rattle.sfi_image.specs.Parts.{IsCodeRegion, IsDataRegion, HasGuardRoom, IsImage}
+use Rattle.sfi_policy.specs.declared.place.Place.{Place}
+use Rattle.sfi_rewrite.specs.Placement.{Placement, IsPlacement}
+use Rattle.std.specs.List.{repeat, AllPairs, AllZip}
 use Rattle.rv_comp.specs.declared.form.Form16.TheVariants.{CEbreak}
 use Rattle.sfi_policy.specs.declared.format.Format.{Format}
 use Rattle.sfi_policy.specs.Formats.{code_most}
 use Rattle.sfi_source.specs.declared.item.SourceGate.{SourceGate}
-use Rattle.sfi_policy.specs.Limits.{region_least}
+use Rattle.sfi_policy.specs.Limits.{region_least, place_of}
 use Rattle.sfi_image.specs.declared.part.Gate.{Gate}
-use Rattle.sfi_image.specs.Spelling.{Part}
-use Rattle.sfi_image.specs.Spans.{AreApart, spans}
-use Rattle.sfi_policy.specs.declared.place.Place.{Place}
-use Rattle.sfi_policy.specs.Places.{place_of}
 use Rattle.sfi_rewrite.specs.declared.slot.Slot.{Slot}
 use Rattle.sfi_rewrite.specs.declared.slot.Slot.TheVariants.{Short}
-use Rattle.sfi_rewrite.specs.Slots.{size_of, slots_of}
-use Rattle.sfi_rewrite.specs.Placement.{Placement}
-use Rattle.sfi_link.specs.Addresses.{stub_size, bases_of}
-use Rattle.sfi_link.specs.Stubs.{stub_of}
-use Rattle.sfi_link.specs.Code.{AreSlots}
-use Rattle.sfi_link.specs.RightPlaces.{IsRightPlace}
+use Rattle.sfi_rewrite.specs.Expansion.{size_of, slots_of}
+use Rattle.sfi_link.specs.Code.{stub_size, bases_of, stub_of, AreSlots}
+use Rattle.sfi_source.specs.Source.{Sandbox}
+use Rattle.sfi_rules.specs.Findings.{AreImageFindings}
+
+-- ==== Where a placed sandbox may lie.
+
+-- its code, of that size, and its data may begin there: each a multiple of its region's size, with
+-- room for the guard zones round the data
+pub record IsRightPlace (p : Placement) (size : ℕ) (place : Place) : Type 0 where
+  pub word : IsWord place.code_base
+  pub code : IsCodeRegion p.format place.code_base size
+  pub «data» : IsDataRegion place.data_base p.data_size
+  pub guard_room : HasGuardRoom place.data_base p.data_size
+
+-- its two spans there: the code, and the data with a guard zone on each side
+abbrev pub spans_at : Placement → ℕ → Place → List Span
+spans_at p size place =
+    record { base = place.code_base; size = size }
+    ∷ with_guards (record { base = place.data_base; size = p.data_size }) ∷ []
+
+-- ==== The sandbox of an image that is made of a placed one.
 
 -- ---- how large the code region is
 
@@ -99,3 +116,26 @@ pub record AreLinked (given : List Place) (placed : List Placement) (parts : Lis
   pub used : length given ≤ length placed
   pub each : AreLinkedFrom given 0 placed parts
   pub apart : AllPairs AreApart (spans parts)
+
+-- ==== When bytes are the image of what is placed, and when they are a source's build.
+
+-- the bytes are an image, with a right layout and no broken rule,
+-- and it is that of the placed sandboxes at the given places
+pub record IsLinkedImage (given : List Place) (placed : List Placement)
+    (bytes : List ℕ) : Type 0 where
+  pub parts : List Part
+  pub linked : AreLinked given placed parts
+  pub image : IsImage bytes parts
+  pub none_found : AreImageFindings parts []
+
+-- the placed sandboxes are those of the source, in order, each with its expansions in their places
+abbrev pub ArePlacements : List Sandbox → List Placement → Type 0
+ArePlacements source placed = AllZip IsPlacement source placed
+
+-- The bytes are the source's build: its expansions in their places, with an address for each name.
+pub record IsBuild (given : List Place) (source : List Sandbox) (bytes : List ℕ) : Type 0 where
+  pub placed : List Placement
+  pub placements : ArePlacements source placed
+  pub parts : List Part
+  pub linked : AreLinked given placed parts
+  pub bytes_are : bytes ≡ spelling parts

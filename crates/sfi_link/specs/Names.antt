@@ -3,16 +3,15 @@ use Rattle.std.specs.Prelude.{◌≡◌, ℕ, ◌+◌, ◌%◌, List, [], ◌∷
 use Rattle.sfi_source.specs.Source.{Sandbox}
 use Rattle.sfi_policy.specs.declared.place.Place.{Place}
 use Rattle.sfi_policy.specs.Formats.{unit}
-use Rattle.sfi_image.specs.Spelling.{Part}
-use Rattle.sfi_image.specs.Spans.{Holds, code_region}
+use Rattle.sfi_image.specs.Spelling.{Part, Holds, code_region}
 use Rattle.sfi_rewrite.specs.declared.placed.PlacedName.{PlacedName}
 use Rattle.sfi_rewrite.specs.declared.placed.PlacedName.TheVariants.{Gate, Code, Data, Unknown}
 use Rattle.sfi_rewrite.specs.Placement.{Placement}
 use Rattle.sfi_link.specs.declared.bases.Bases.{Bases}
 use Rattle.sfi_link.specs.declared.names.NameKind.{NameKind}
 use Rattle.sfi_link.specs.declared.names.NameKind.TheVariants as kind
-use Rattle.sfi_link.specs.Addresses.{address_of, bases_of}
-use Rattle.sfi_link.specs.Building.{IsLinkedImage}
+use Rattle.sfi_link.specs.Code.{address_of, bases_of}
+use Rattle.sfi_link.specs.Linked.{IsLinkedImage}
 
 -- a gate or a label in an image: the number of its sandbox, counted from 0, its name, which of them
 -- it is, and the address that stands for it

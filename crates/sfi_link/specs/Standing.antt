@@ -7,14 +7,13 @@ use Rattle.rv_mem.specs.Laws.{Holds}
 use Rattle.rv_step.specs.State.{State}
 use Rattle.sfi_source.specs.declared.item.Item.{Item}
 use Rattle.sfi_source.specs.Source.{Sandbox, IsSandbox, IsSource}
-use Rattle.sfi_image.specs.Spelling.{Part}
-use Rattle.sfi_image.specs.Spans.{code_region, data_region}
-use Rattle.sfi_image.specs.Images.{IsImage}
+use Rattle.sfi_image.specs.Spelling.{Part, code_region, data_region}
+use Rattle.sfi_image.specs.Parts.{IsImage}
 use Rattle.sfi_policy.specs.declared.place.Place.{Place}
 use Rattle.sfi_rewrite.specs.declared.slot.Slot.{Slot}
 use Rattle.sfi_rewrite.specs.declared.slot.Slot.TheVariants.{Wide, Short}
 use Rattle.sfi_rewrite.specs.declared.placed.PlacedName.{PlacedName}
-use Rattle.sfi_rewrite.specs.Slots.{slot_size, size_of}
+use Rattle.sfi_rewrite.specs.Expansion.{slot_size, size_of}
 use Rattle.sfi_rewrite.specs.Placement.{Placement, IsPlacement}
 use Rattle.sfi_rewrite.specs.Placed.{IsPlacedPart}
 use Rattle.sfi_rewrite.specs.Rewriting.{IsRewritten, AreRewritten}
@@ -22,10 +21,8 @@ use Rattle.sfi_rewrite.specs.Transparency.{AreRegions, SlotsStand, MayBe, Stands
 use Rattle.sfi_policy.specs.Formats.{has_words}
 use Rattle.sfi_rewrite.specs.words.Transparency as words
 use Rattle.sfi_link.specs.declared.bases.Bases.{Bases}
-use Rattle.sfi_link.specs.Addresses.{bases_of}
-use Rattle.sfi_link.specs.Code.{resolved}
-use Rattle.sfi_link.specs.Linked.{IsLinked}
-use Rattle.sfi_link.specs.Building.{IsLinkedImage}
+use Rattle.sfi_link.specs.Code.{bases_of, resolved}
+use Rattle.sfi_link.specs.Linked.{IsLinked, IsLinkedImage}
 
 -- the slot at `here` becomes i, if it waits for a name
 abbrev pub IsResolvedTo : Bases → List PlacedName → ℕ → Instr → Slot → Type 0

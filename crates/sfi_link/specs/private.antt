@@ -1,2 +1,91 @@
 -- Words that private contracts and proofs alone cite: no public statement rests on them.
-pub mod Near
+use Rattle.std.specs.Prelude.{◌≡◌, ℕ, ◌+◌, ◌^◌, ◌<◌, ◌≤◌, List, [], ◌∷◌, ◌++◌, length, map, IfSome, Result, Ok, Err, Vec}
+use Rattle.std.specs.List.{All, AllPairs}
+use Rattle.std.specs.Global.{Global}
+use Rattle.sfi_policy.specs.declared.format.Format.TheVariants.{Sfi2}
+use Rattle.sfi_policy.specs.Formats.{code_most}
+use Rattle.sfi_image.specs.declared.span.Span.{Span}
+use Rattle.sfi_image.specs.Spelling.{Part, IsWord, AreApart}
+use Rattle.sfi_image.specs.Sources.{IsBounded}
+use Rattle.sfi_policy.specs.declared.place.Place.{Place}
+use Rattle.sfi_policy.specs.Limits.{place_of}
+use Rattle.sfi_rewrite.specs.declared.slot.Slot.{Slot}
+use Rattle.sfi_rewrite.specs.declared.placed.PlacedName.{PlacedName}
+use Rattle.sfi_rewrite.specs.Placement.{Placement}
+use Rattle.sfi_link.specs.declared.bases.Bases.{Bases}
+use Rattle.sfi_link.specs.declared.fault.LinkFault.{LinkFault}
+use Rattle.sfi_link.specs.Faults.{UnlessMemory}
+use Rattle.sfi_link.specs.Code.{IsSlot, AreSlots, address_of, target_of}
+use Rattle.sfi_link.specs.Linked.{IsRightPlace, spans_at, IsLinkedCode, part_with}
+
+-- ==== What fits the linker's numbers, what is written so far, and what a step answers.
+
+-- an address of code of a sandbox that lies so: a distance between two of these fits
+abbrev pub IsInCode : Bases → ℕ → Type 0
+IsInCode at address = (at.code ≤ address) × (address ≤ at.code + code_most Sfi2)
+
+-- the name's address has 32 bits, and a jump's is one of the code
+pub record IsNear (at : Bases) (name : PlacedName) : Type 0 where
+  pub fits : IfSome (address_of at name) IsWord
+  pub within : IfSome (target_of at name) (IsInCode at)
+
+-- so are all of the names
+abbrev pub AreNear : Bases → List PlacedName → Type 0
+AreNear at names = All (IsNear at) names
+
+-- `more` bytes after the `old` bytes of code so far have room below 2 ^ 32, and in a code region
+pub record HasRoomFor (at : Bases) (old more : ℕ) : Type 0 where
+  pub below : at.code + old + more < 2 ^ 32
+  pub within : old + more ≤ code_most Sfi2
+
+-- after the old bytes, which lie from the code base on, stand those of the slot
+abbrev pub IsPushed : Bases → List PlacedName → Slot → List ℕ → List ℕ → Type 0
+IsPushed at names s old new =
+    (bytes : List ℕ) × (new ≡ old ++ bytes) × IsSlot at names (at.code + length old) s bytes
+
+-- after the old bytes, which lie from the code base on, stand those of the slots
+pub record AreWritten (at : Bases) (names : List PlacedName) (slots : List Slot)
+    (old new : List ℕ) : Type 0 where
+  pub bytes : List ℕ
+  pub appended : new ≡ old ++ bytes
+  pub spelled : AreSlots at names (at.code + length old) slots bytes
+
+-- the sandbox lies there, with a code region of that size: its spans are added to the old ones, each
+-- holds an address, and no two meet
+pub record LiesBeside (p : Placement) (size : ℕ) (place : Place) (old new : List Span)
+    : Type 0 where
+  pub right : IsRightPlace p size place
+  pub spans_are : new ≡ old ++ spans_at p size place
+  pub bounded : All IsBounded new
+  pub apart : AllPairs AreApart new
+
+-- the code of the sandbox of that number, which lies so
+pub record IsCodeBeside (given : List Place) (number : ℕ) (p : Placement) (bytes : List ℕ)
+    (old new : List Span) : Type 0 where
+  pub code : IsLinkedCode given number p bytes
+  pub lies : LiesBeside p (length bytes) (place_of given number) old new
+
+-- the code of each placed sandbox, of which the first has that number, and comes after others that
+-- have those spans
+abbrev pub AreCodes : List Place → ℕ → List Span → List Placement → List (List ℕ) → Type 0
+AreCodes given number before [] codes = codes ≡ []
+AreCodes given number before (p ∷ placed) [] = ⊥
+AreCodes given number before (p ∷ placed) (code ∷ codes) =
+    (now : List Span) × IsCodeBeside given number p code before now
+    × AreCodes given (number + 1) now placed codes
+
+-- the sandboxes of the image that have this code, the first of which has that number
+abbrev pub parts_with : List Place → ℕ → List Placement → List (List ℕ) → List Part
+parts_with given number [] codes = []
+parts_with given number (p ∷ placed) [] = []
+parts_with given number (p ∷ placed) (code ∷ codes) =
+    part_with given number p code ∷ parts_with given (number + 1) placed codes
+
+-- the bytes of each
+abbrev pub contents : List (Vec ℕ Global) → List (List ℕ)
+contents codes = map (λ code. code.items) codes
+
+-- the value that was made meets Made, or the fault meets Faulty, or memory ran out
+abbrev pub Links : {X : Type 0} → (X → Type 0) → (LinkFault → Type 0) → Result X LinkFault → Type 0
+Links Made Faulty (Ok x) = Made x
+Links Made Faulty (Err f) = UnlessMemory Faulty f

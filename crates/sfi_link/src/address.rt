@@ -1,8 +1,8 @@
 //! Addresses for names, and what an instruction holds of them.
 ghost use Rattle.std.specs.Prelude.{◌≡◌, ◌+◌, ◌<◌, ◌≤◌, ◌^◌, pos, ◌-ℤ◌, IfSome};
-ghost use Rattle.sfi_source.specs.Halves.{upper, lower};
-ghost use Rattle.sfi_link.specs.Addresses.{address_of, target_of, address_at, target_at, with_offset};
-ghost use Rattle.sfi_link.specs.private.Near.{IsInCode, IsNear, AreNear};
+ghost use Rattle.sfi_source.specs.Source.{upper, lower};
+ghost use Rattle.sfi_link.specs.Code.{address_of, target_of, address_at, target_at, with_offset};
+ghost use Rattle.sfi_link.specs.private.{IsInCode, IsNear, AreNear};
 
 use crate::bases::Bases;
 use rv_word::Instr;

@@ -1,7 +1,7 @@
 //! Where the regions of a sandbox lie.
 ghost use Rattle.std.specs.Prelude.{◌≡◌, ◌<◌, ◌^◌};
 ghost use Rattle.sfi_rewrite.specs.Placed.{IsPlacedPart};
-ghost use Rattle.sfi_link.specs.Addresses.{bases_of};
+ghost use Rattle.sfi_link.specs.Code.{bases_of};
 ghost use Rattle.sfi_policy.specs.Limits.{sandboxes_most};
 
 use sfi_policy::{BUNDLE_SIZE, Place, place_of};

@@ -6,12 +6,12 @@ ghost use Rattle.rv_word.specs.Spelling.{InRange, IsReg, spelling};
 ghost use Rattle.rv_word.specs.declared.instr.Instr.TheVariants.{OpImm};
 ghost use Rattle.rv_word.specs.declared.instr.ImmOp.TheVariants.{Addi};
 ghost use Rattle.rv_comp.specs.Table.{allowed};
-ghost use Rattle.rv_comp.specs.Halfwords.{halfword_of};
-ghost use Rattle.sfi_rewrite.specs.Slots.{size_of, slots_of};
+ghost use Rattle.rv_comp.specs.Fronts.{halfword_of};
+ghost use Rattle.sfi_rewrite.specs.Expansion.{size_of, slots_of};
 ghost use Rattle.sfi_rewrite.specs.Placed.{Encodes};
-ghost use Rattle.sfi_source.specs.Halves.{lower};
-ghost use Rattle.sfi_link.specs.Addresses.{address_at};
-ghost use Rattle.sfi_link.specs.private.Near.{HasRoomFor, AreNear, IsPushed, AreWritten, Links};
+ghost use Rattle.sfi_source.specs.Source.{lower};
+ghost use Rattle.sfi_link.specs.Code.{address_at};
+ghost use Rattle.sfi_link.specs.private.{HasRoomFor, AreNear, IsPushed, AreWritten, Links};
 ghost use Rattle.sfi_link.specs.Faults.{IsUnknown, HasSlotFault, IsSlotFault};
 ghost use Rattle.sfi_rewrite.specs.declared.slot.Slot.TheVariants.{Jump};
 

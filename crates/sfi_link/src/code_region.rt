@@ -3,15 +3,15 @@ ghost use Rattle.std.specs.Prelude.{◌≡◌, ◌++◌, ◌<◌, ◌≤◌, ℕ
 ghost use Rattle.std.specs.List.{All, AllPairs, repeat};
 ghost use Rattle.sfi_policy.specs.declared.format.Format.TheVariants.{Sfi2};
 ghost use Rattle.sfi_policy.specs.Formats.{code_most};
-ghost use Rattle.sfi_rewrite.specs.Slots.{size_of, slots_of};
+ghost use Rattle.sfi_rewrite.specs.Expansion.{size_of, slots_of};
 ghost use Rattle.sfi_rewrite.specs.Placement.{AreBundles};
 ghost use Rattle.sfi_rewrite.specs.Placed.{IsPlacedPart};
-ghost use Rattle.sfi_image.specs.Bounded.{IsBounded};
-ghost use Rattle.sfi_image.specs.Spans.{AreApart};
+ghost use Rattle.sfi_image.specs.Sources.{IsBounded};
+ghost use Rattle.sfi_image.specs.Spelling.{AreApart};
 ghost use Rattle.sfi_link.specs.Linked.{needed, HasRoom, IsCodeSize};
 ghost use Rattle.sfi_link.specs.Faults.{HasPartFault};
 ghost use Rattle.sfi_policy.specs.Limits.{sandboxes_most};
-ghost use Rattle.sfi_link.specs.private.Near.{IsCodeBeside, Links};
+ghost use Rattle.sfi_link.specs.private.{IsCodeBeside, Links};
 
 use crate::bases::bases_of;
 use crate::code::push_bundles;

@@ -2,10 +2,10 @@
 ghost use Rattle.std.specs.Prelude.{◌++◌, ◌↔◌, IsTrue, IfOk};
 ghost use Rattle.std.specs.Bool.{OnTrue, OnFalse};
 ghost use Rattle.std.specs.List.{All, AllPairs};
-ghost use Rattle.sfi_image.specs.Bounded.{IsBounded};
-ghost use Rattle.sfi_image.specs.Spans.{AreApart};
-ghost use Rattle.sfi_link.specs.RightPlaces.{IsRightPlace, spans_at};
-ghost use Rattle.sfi_link.specs.private.Near.{LiesBeside};
+ghost use Rattle.sfi_image.specs.Sources.{IsBounded};
+ghost use Rattle.sfi_image.specs.Spelling.{AreApart};
+ghost use Rattle.sfi_link.specs.Linked.{IsRightPlace, spans_at};
+ghost use Rattle.sfi_link.specs.private.{LiesBeside};
 
 use sfi_image::{Span, are_all_apart, has_guard_room, is_region, with_guards};
 use sfi_policy::{DATA_MOST, Place, REGION_LEAST};

@@ -1,6 +1,6 @@
 //! A gate's stub: 16 bytes, those of code in bundles or those of code in words.
 ghost use Rattle.std.specs.Prelude.{◌≡◌};
-ghost use Rattle.sfi_link.specs.Stubs.{stub_of};
+ghost use Rattle.sfi_link.specs.Code.{stub_of};
 
 use sfi_pairs::STUB;
 use sfi_policy::{BUNDLE_BYTES, Format};

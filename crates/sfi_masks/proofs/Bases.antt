@@ -5,14 +5,13 @@ use Rattle.std.specs.Int.{bit_at}
 use Rattle.std.proofs.lemmas.Bool.{and_parts, agree_below, agree_below_at, and_from, eqb-false, ne_eqb}
 use Rattle.std.proofs.lemmas.Nat.{and_mask}
 use Rattle.std.proofs.lemmas.Nat.Bits.{bit_at-lt, bit_at_and, bit_at_or, bit_at-suc, bit_at-zero, bit_at_lowest}
-use Rattle.rv_word.specs.Accesses.{access}
-use Rattle.rv_word.specs.Outlines.{outline}
+use Rattle.rv_word.specs.Outlines.{access, outline}
 use Rattle.rv_word.specs.declared.access.Access.{Access}
 use Rattle.rv_word.specs.declared.instr.Instr.{Instr}
 use Rattle.rv_word.specs.declared.instr.Instr.TheVariants.{Load, Store}
 use Rattle.sfi_masks.specs.Masks.{is_in, may_be_on_in_words, is_free_by, IsFreeWordBy, IsFreeAccessBy}
 use Rattle.sfi_masks.specs.declared.tables.TheConstants.{ON_EVEN, ON_ODD}
-use Rattle.sfi_masks.specs.private.Seen.{free_in_words}
+use Rattle.sfi_masks.specs.private.{free_in_words}
 use Rattle.sfi_masks.proofs.Fields.{accesses}
 
 -- ---- a bit of a number that isn't 0

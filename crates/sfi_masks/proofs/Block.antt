@@ -5,7 +5,7 @@ use Rattle.std.proofs.lemmas.Bool.{cases_eq}
 use Rattle.std.proofs.lemmas.List.{get_or-take, get_or-drop}
 use Rattle.sfi_masks.specs.declared.masks.Masks.{Masks}
 use Rattle.sfi_masks.specs.Masks.{half_at, is_in, AreMasksBy, IsFreeHalfBy, IsFreeWordBy, IsFreeAccessBy}
-use Rattle.sfi_masks.specs.private.Seen.{Code, may_of, on_of, AreSeen, of_four, free_classes, access_classes}
+use Rattle.sfi_masks.specs.private.{Code, may_of, on_of, AreSeen, of_four, free_classes, access_classes}
 use Rattle.sfi_masks.proofs.Told.{half_is, word_is, free_half, free_word, free_access}
 
 -- the same of bytes that are the same

@@ -4,11 +4,10 @@ use Rattle.std.specs.Prelude.{if◌then◌else◌}
 use Rattle.std.specs.Int.Bits.{and_zero_l}
 use Rattle.std.proofs.lemmas.Bool.{agree_below, agree_below_at, and_parts}
 use Rattle.rv_word.specs.declared.outline.Outline.{Outline}
-use Rattle.rv_comp.specs.mirror.Decoding.{extended, jump_offset, branch_offset}
-use Rattle.rv_comp.specs.mirror.Outlining.{row_of, jump, jump_or_stop, outlined}
+use Rattle.rv_comp.specs.mirror.{extended, jump_offset, branch_offset, row_of, jump, jump_or_stop, outlined}
 use Rattle.sfi_masks.specs.Masks.{is_free_by}
 use Rattle.sfi_masks.specs.declared.tables.TheConstants.{ALONE, FOLLOWED, NEXT, REST, ALL, PLAIN}
-use Rattle.sfi_masks.specs.private.Seen.{Code, bundles, words, may_of, on_of, is_on_x2, byte_classes, half_classes, followed, kept, kept_in_words, kept_of, rest, classes_with, access_classes}
+use Rattle.sfi_masks.specs.private.{Code, bundles, words, may_of, on_of, is_on_x2, byte_classes, half_classes, followed, kept, kept_in_words, kept_of, rest, classes_with, access_classes}
 use Rattle.sfi_masks.proofs.Fields.{computes, accesses, with_each_funct7}
 
 -- ---- the fields of a halfword

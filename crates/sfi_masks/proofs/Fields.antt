@@ -16,12 +16,8 @@ use Rattle.rv_word.specs.declared.instr.StoreWidth.{StoreWidth}
 use Rattle.rv_word.specs.declared.instr.StoreWidth.TheVariants.{Sb, Sh, Sw}
 use Rattle.rv_word.specs.declared.instr.Instr.TheVariants.{Op, OpImm, Load, Store, Lui, Auipc}
 use Rattle.rv_word.specs.declared.outline.Outline.TheVariants.{Computes}
-use Rattle.rv_word.specs.Accesses.{IsAccessOf}
-use Rattle.rv_word.specs.Formats.{r_format}
-use Rattle.rv_word.specs.Functs.{op_funct3, op_funct7, imm_funct3, is_shift, shift_funct7, load_funct3, store_funct3}
-use Rattle.rv_word.specs.Numbers.{modulo, bits}
-use Rattle.rv_word.specs.Outlines.{IsWordThat}
-use Rattle.rv_word.specs.Spelling.{spelling, InRange, IsImm12}
+use Rattle.rv_word.specs.Outlines.{IsAccessOf, IsWordThat}
+use Rattle.rv_word.specs.Spelling.{r_format, op_funct3, op_funct7, imm_funct3, is_shift, shift_funct7, load_funct3, store_funct3, modulo, bits, spelling, InRange, IsImm12}
 
 abbrev ops : List RegOp
 ops = Add ∷ Sub ∷ Sll ∷ Slt ∷ Sltu ∷ Xor ∷ Srl ∷ Sra ∷ Or ∷ And ∷ Mul ∷ Mulh ∷ Mulhsu ∷ Mulhu ∷ Div ∷ Divu ∷ Rem ∷ Remu ∷ []

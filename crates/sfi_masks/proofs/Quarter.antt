@@ -3,7 +3,7 @@ use Rattle.std.proofs.Common.{ℕ, ◌+◌, ◌*◌, ◌%◌, List, replicate, a
 use Rattle.std.specs.Prelude.{slice_index}
 use lib.Lanes.{zip2}
 use Rattle.sfi_masks.specs.declared.tables.TheConstants.{ALONE}
-use Rattle.sfi_masks.specs.private.Seen.{Code, is_on_x2, HasLanes, half_classes, followed, free_followed, kept_of, rest, free_classes, access_classes}
+use Rattle.sfi_masks.specs.private.{Code, is_on_x2, HasLanes, half_classes, followed, free_followed, kept_of, rest, free_classes, access_classes}
 use Rattle.sfi_masks.proofs.Vectors.{splat, zipped, same_lanes}
 
 module _ (code : Code) (byte : ℕ → ℕ) (low high : List ℕ) (lows : HasLanes low (λ i. byte (2 * i))) (highs : HasLanes high (λ i. byte (2 * i + 1))) where

@@ -4,7 +4,7 @@ use Rattle.std.proofs.lemmas.Bool.{cases_eq}
 use Rattle.std.proofs.lemmas.Nat.{or_shifted, or_comm, shr-shr}
 use Rattle.std.proofs.lemmas.Nat.Bits.{bit_at_cat_low}
 use Rattle.sfi_masks.specs.Masks.{is_in}
-use Rattle.sfi_masks.specs.private.Seen.{of_four}
+use Rattle.sfi_masks.specs.private.{of_four}
 
 above : (low high k whole : ℕ) → low < 2 ^ k → high * 2 ^ k + low ≡ whole → bit_or low (high * 2 ^ k) ≡ whole
 above low high k whole small sum = or_comm low (high * 2 ^ k) ∙ or_shifted high k low small ∙ sum

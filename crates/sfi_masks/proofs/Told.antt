@@ -6,14 +6,13 @@ use Rattle.std.proofs.lemmas.List.{get_or-take, get_or-drop}
 use Rattle.rv_word.specs.declared.outline.Outline.{Outline}
 use Rattle.rv_word.specs.declared.outline.Outline.TheVariants.{Computes}
 use Rattle.rv_word.specs.declared.access.Access.{Access}
-use Rattle.rv_word.specs.Accesses.{IsAccessOf}
-use Rattle.rv_word.specs.Formats.{r_format}
-use Rattle.rv_word.specs.Outlines.{IsWordThat}
-use Rattle.rv_comp.specs.Halfwords.{IsHalfwordThat}
-use Rattle.rv_comp.specs.mirror.Outlining.{outlined}
+use Rattle.rv_word.specs.Outlines.{IsAccessOf, IsWordThat}
+use Rattle.rv_word.specs.Spelling.{r_format}
+use Rattle.rv_comp.specs.Fronts.{IsHalfwordThat}
+use Rattle.rv_comp.specs.mirror.{outlined}
 use Rattle.sfi_masks.specs.Masks.{half_at, word_at, is_free_by, IsFreeHalfBy, IsFreeWordBy, IsFreeAccessBy}
 use Rattle.sfi_masks.specs.declared.tables.TheConstants.{ALONE}
-use Rattle.sfi_masks.specs.private.Seen.{Code, bundles, words, may_of, on_of, half_classes, followed, rest, kept_of, classes_with, free_classes, access_classes}
+use Rattle.sfi_masks.specs.private.{Code, bundles, words, may_of, on_of, half_classes, followed, rest, kept_of, classes_with, free_classes, access_classes}
 use Rattle.sfi_masks.proofs.Fields.{computes, accesses, that_computes, that_accesses}
 use Rattle.sfi_masks.proofs.Cells.{opcode, rd, funct3, is_free_half, is_free_word, begins_free, begins_access, free_begins, access_begins}
 use Rattle.sfi_masks.proofs.Bases.{split, base_told, access_free, access_long}

@@ -7,7 +7,7 @@ use Rattle.std.proofs.lemmas.Nat.{and_mask}
 use Rattle.std.proofs.lemmas.Simd.{length-zip2, get_or-zip2, length-replicate, get_or-replicate, Each1-from_get_or, Each1-get_or, swz_l, SwzOk, SwzOk-from_below, length-swz_l, get_or-swz_l_below, bitmask_splat, mask_l-lt, bit_mask_l, pick_l_left, tops_compared, length-sel_l, get_or-sel_l}
 use lib.Lanes.{zip2, mask_l, chunk, top, pick_l, sel_l, Each1}
 use Rattle.sfi_masks.specs.Masks.{is_in}
-use Rattle.sfi_masks.specs.private.Seen.{HasLanes}
+use Rattle.sfi_masks.specs.private.{HasLanes}
 
 pub own : (v : List ℕ) → length v ≡ 16 → HasLanes v (λ i. slice_index v i)
 own v count = record { count = count; lanes = λ i h. refl }

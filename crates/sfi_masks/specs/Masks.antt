@@ -1,16 +1,14 @@
 -- What the masks of a block say of the instructions that its halfwords begin.
 use Rattle.std.specs.Int.{w16, w32, from_le_bytes, bit_at}
 use Rattle.std.specs.Prelude.{◌≡◌, ◌<◌, ◌*◌, ◌%◌, ◌&&◌, ◌||◌, ◌==◌, not, ℕ, List, Bool, true, false, take, drop}
-use Rattle.rv_word.specs.Accesses.{IsAccessOf}
-use Rattle.rv_word.specs.Numbers.{bits}
-use Rattle.rv_word.specs.Outlines.{outline}
-use Rattle.rv_word.specs.Spelling.{IsWordOf}
+use Rattle.rv_word.specs.Outlines.{IsAccessOf, outline}
+use Rattle.rv_word.specs.Spelling.{bits, IsWordOf}
 use Rattle.rv_word.specs.declared.access.Access.{Access}
 use Rattle.rv_word.specs.declared.instr.Instr.{Instr}
 use Rattle.rv_word.specs.declared.outline.Outline.{Outline}
 use Rattle.rv_word.specs.declared.outline.Outline.TheVariants.{Computes, Loads, Stores, Orders, Stops}
-use Rattle.rv_comp.specs.Halfwords.{IsShortSpelling}
-use Rattle.sfi_policy.specs.Registers.{is_reserved, is_data_register, code_register, data_base_register, offset_register, stack_pointer}
+use Rattle.rv_comp.specs.Fronts.{IsShortSpelling}
+use Rattle.sfi_policy.specs.Formats.{is_reserved, is_data_register, code_register, data_base_register, offset_register, stack_pointer}
 use Rattle.sfi_masks.specs.declared.masks.Masks.{Masks}
 
 -- halfword i of the bytes, and the word that begins there

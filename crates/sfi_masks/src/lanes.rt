@@ -1,7 +1,7 @@
 //! Steps on vectors of sixteen bytes, by their lanes.
 ghost use Rattle.std.specs.Prelude.{◌≡◌, ℕ, ◌+◌, ◌*◌, ◌%◌, ◌^◌, ◌<◌, ◌==◌, not, length, slice_index, bit_and};
 ghost use Rattle.sfi_masks.specs.Masks.{is_in};
-ghost use Rattle.sfi_masks.specs.private.Seen.{HasLanes, byte_classes, half_classes, followed, free_in_words, kept, kept_in_words, rest};
+ghost use Rattle.sfi_masks.specs.private.{HasLanes, byte_classes, half_classes, followed, free_in_words, kept, kept_in_words, rest};
 
 use crate::tables::{
     ALL, ByteTable, FOLLOWED, HalfTable, NEXT, NO_RD, ON_EVEN, ON_ODD, PLAIN, REST, WORDS_EVEN,

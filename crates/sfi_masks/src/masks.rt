@@ -1,7 +1,7 @@
 //! The masks of a block of eight bundles.
 ghost use Rattle.std.specs.Prelude.{◌≡◌, ℕ, ◌/◌, ◌%◌, ◌^◌, ◌<◌, length, slice_index};
 ghost use Rattle.sfi_masks.specs.Masks.{AreMasks, AreMasksInWords, is_in};
-ghost use Rattle.sfi_masks.specs.private.Seen.{AreSeen, bundles, words, of_four};
+ghost use Rattle.sfi_masks.specs.private.{AreSeen, bundles, words, of_four};
 
 use crate::lanes::{
     bits_of, classes_of_halves, followed_classes, free_in_words, kept_classes, kept_in_words,

@@ -5,9 +5,7 @@ use Rattle.sfi_names.specs.declared.image.Missing.{Missing}
 use Rattle.sfi_names.specs.declared.image.Missing.TheVariants.{NoImage, NoSandbox, NoTable, BadTable, NoName}
 use Rattle.sfi_names.specs.declared.image.Kind.{Kind}
 use Rattle.sfi_names.specs.declared.fault.NamesFault.TheVariants as faults
-use Rattle.sfi_names.specs.Spelling.{Table}
-use Rattle.sfi_names.specs.Tables.{HasTable, IsNamesOf}
-use Rattle.sfi_names.specs.Lookups.{address_of}
+use Rattle.sfi_names.specs.Tables.{Table, HasTable, IsNamesOf, address_of}
 use Rattle.sfi_names.specs.Faults.{IsFault}
 use Rattle.sfi_names.specs.Images.{IsInitOf, HasTableOf, HasNoTable, IsAnswer, of_kind}
 use Rattle.sfi_names.specs.private.{HasNoInit}

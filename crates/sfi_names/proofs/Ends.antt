@@ -6,9 +6,8 @@ use Rattle.sfi_image.specs.Spelling.{IsWord}
 unfoldable use Rattle.sfi_image.specs.Spelling.{number}
 use Rattle.sfi_image.proofs.Cancelling.{same_number, fronts}
 use Rattle.sfi_names.specs.declared.names.Names.{Names}
-use Rattle.sfi_names.specs.Spelling.{Named, Table, magic, entry, entries, IsNamed, IsTable}
-unfoldable use Rattle.sfi_names.specs.Spelling.{footer, spelling}
-use Rattle.sfi_names.specs.Tables.{EndsIn, HasTable, IsNamesOf}
+use Rattle.sfi_names.specs.Tables.{Named, Table, magic, entry, entries, IsNamed, IsTable, EndsIn, HasTable, IsNamesOf}
+unfoldable use Rattle.sfi_names.specs.Tables.{footer, spelling}
 use Rattle.sfi_names.proofs.Entries.{same_end, same_entry, length-entry, AreEntries}
 
 -- three numbers, as a table's footer has them

@@ -8,8 +8,8 @@ use Rattle.std.proofs.lemmas.Grind.{flat_map-append}
 use Rattle.sfi_image.specs.Spelling.{IsWord}
 unfoldable use Rattle.sfi_image.specs.Spelling.{number}
 use Rattle.sfi_image.proofs.Cancelling.{same_front, same_number, fronts}
-use Rattle.sfi_names.specs.Spelling.{Named, entries, IsNamed, IsName}
-unfoldable use Rattle.sfi_names.specs.Spelling.{entry}
+use Rattle.sfi_names.specs.Tables.{Named, entries, IsNamed, IsName}
+unfoldable use Rattle.sfi_names.specs.Tables.{entry}
 
 -- two ends of one length are the same end
 pub same_end : (xs ys : List ℕ) (a b : List ℕ) → length a ≡ length b → xs ++ a ≡ ys ++ b → (xs ≡ ys) × (a ≡ b)

@@ -3,8 +3,7 @@ use Rattle.std.proofs.Common.{◌≡◌, ℕ, List, [], ◌∷◌, ◌++◌, len
 use Rattle.std.specs.List.{All}
 use Rattle.std.specs.Str.{bytes_eq}
 use Rattle.std.proofs.lemmas.List.Elements.{All-head, All-tail}
-use Rattle.sfi_names.specs.Spelling.{Named, entries, entry, IsNamed}
-use Rattle.sfi_names.specs.Lookups.{address_of}
+use Rattle.sfi_names.specs.Tables.{Named, entries, entry, IsNamed, address_of}
 use Rattle.sfi_names.specs.Laws.{FollowsFirst, OneFirst}
 use Rattle.sfi_names.proofs.Entries.{same_entry, length-entry, BeginsNone}
 

@@ -2,8 +2,7 @@
 use Rattle.std.specs.Prelude.{ℕ, List}
 use Rattle.sfi_names.specs.declared.fault.NamesFault.{NamesFault}
 use Rattle.sfi_names.specs.declared.fault.NamesFault.TheVariants.{NoTable, BadTable}
-use Rattle.sfi_names.specs.Spelling.{Table, magic}
-use Rattle.sfi_names.specs.Tables.{EndsIn, HasTable}
+use Rattle.sfi_names.specs.Tables.{Table, magic, EndsIn, HasTable}
 
 -- the bytes have this fault: they don't end in the magic, or they do and not in a table
 abbrev pub IsFault : List ℕ → NamesFault → Type 0

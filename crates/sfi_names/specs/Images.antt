@@ -2,7 +2,7 @@
 use Rattle.std.specs.Prelude.{◌≡◌, ℕ, List, Some, None, Result, Ok, Err}
 use Rattle.sfi_image.specs.declared.fault.LayoutFault.{LayoutFault}
 use Rattle.sfi_image.specs.Spelling.{Part}
-use Rattle.sfi_image.specs.Sandboxes.{IsSandboxOf, IsBeyond}
+use Rattle.sfi_image.specs.Keeping.{IsSandboxOf, IsBeyond}
 use Rattle.sfi_image.specs.Faults.{IsFault}
 use Rattle.sfi_names.specs.declared.fault.NamesFault.{NamesFault}
 use Rattle.sfi_names.specs.declared.fault.NamesFault.TheVariants as faults
@@ -10,9 +10,7 @@ use Rattle.sfi_names.specs.declared.image.Missing.{Missing}
 use Rattle.sfi_names.specs.declared.image.Missing.TheVariants.{NoImage, NoSandbox, NoTable, BadTable, NoName}
 use Rattle.sfi_names.specs.declared.image.Kind.{Kind}
 use Rattle.sfi_names.specs.declared.image.Kind.TheVariants.{Exports, Imports}
-use Rattle.sfi_names.specs.Spelling.{Named, Table}
-use Rattle.sfi_names.specs.Tables.{HasTable}
-use Rattle.sfi_names.specs.Lookups.{address_of}
+use Rattle.sfi_names.specs.Tables.{Named, Table, HasTable, address_of}
 use Rattle.sfi_names.specs.Faults as names
 
 -- the number of what is missing

@@ -1,8 +1,7 @@
 -- What holds of the definitions themselves.
 use Rattle.std.specs.Prelude.{◌≡◌, ℕ, List, ◌∷◌, ◌++◌}
 use Rattle.std.specs.List.{All}
-use Rattle.sfi_names.specs.Spelling.{Named, Table, IsNamed, entry, entries}
-use Rattle.sfi_names.specs.Tables.{HasTable}
+use Rattle.sfi_names.specs.Tables.{Named, Table, IsNamed, entry, entries, HasTable}
 
 -- bytes end in one table at most
 abbrev pub OneTable : Type 0

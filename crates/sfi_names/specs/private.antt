@@ -2,7 +2,7 @@
 use Rattle.std.specs.Prelude.{ℕ, List}
 use Rattle.sfi_names.specs.declared.image.Missing.{Missing}
 use Rattle.sfi_names.specs.declared.image.Missing.TheVariants.{NoImage, NoSandbox}
-use Rattle.sfi_image.specs.Sandboxes.{IsBeyond}
+use Rattle.sfi_image.specs.Keeping.{IsBeyond}
 use Rattle.sfi_names.specs.Images.{IsNoImage}
 
 -- why there are no first data bytes of a sandbox of that number

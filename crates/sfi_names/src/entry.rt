@@ -2,9 +2,9 @@
 ghost use Rattle.std.specs.Prelude.{◌≡◌, ◌≢◌, ℕ, ◌<◌, ◌≤◌, ◌+◌, ◌++◌, ◌↔◌, ◌-◌, List, length, take, drop, IsTrue, IfSome, IfNone};
 ghost use Rattle.std.specs.List.{All};
 ghost use Rattle.sfi_image.specs.Spelling.{number, IsWord};
-ghost use Rattle.sfi_names.specs.Spelling.{Named, entry, entries, IsName, IsNamed};
+ghost use Rattle.sfi_names.specs.Tables.{Named, entry, entries, IsName, IsNamed};
 ghost use Rattle.sfi_names.specs.Tables.{named};
-ghost use Rattle.sfi_names.specs.Lookups.{address_of};
+ghost use Rattle.sfi_names.specs.Tables.{address_of};
 
 use byteorder::{ByteOrder, LittleEndian};
 

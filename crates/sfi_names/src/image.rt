@@ -4,7 +4,7 @@ ghost use Rattle.sfi_names.specs.declared.image.Missing.{Missing};
 ghost use Rattle.sfi_names.specs.declared.image.Missing.TheVariants.{NoImage};
 ghost use Rattle.sfi_names.specs.Images.{IsInitOf, HasTableOf, HasNoTable, IsAnswer};
 ghost use Rattle.sfi_names.specs.private.{HasNoInit};
-ghost use Rattle.sfi_names.specs.Spelling.{Table};
+ghost use Rattle.sfi_names.specs.Tables.{Table};
 ghost use Rattle.sfi_names.specs.Tables.{IsNamesOf};
 
 use crate::fault::NamesFault;

@@ -1,9 +1,9 @@
 //! A table of names at the end of bytes.
 ghost use Rattle.std.specs.Prelude.{◌≡◌, ◌↔◌, ◌++◌, List, Ok, Err, IsTrue, IfOk, IfErr, IfSome, IfNone, IsOkAnd};
 ghost use Rattle.sfi_names.specs.declared.fault.NamesFault.{NamesFault};
-ghost use Rattle.sfi_names.specs.Spelling.{Table, magic};
+ghost use Rattle.sfi_names.specs.Tables.{Table, magic};
 ghost use Rattle.sfi_names.specs.Tables.{EndsIn, HasTable, IsNamesOf};
-ghost use Rattle.sfi_names.specs.Lookups.{address_of};
+ghost use Rattle.sfi_names.specs.Tables.{address_of};
 ghost use Rattle.sfi_names.specs.Faults.{IsFault};
 
 use crate::entry::{address_named, are_entries};

@@ -1,6 +1,6 @@
 //! The tests for the registers that have a part in a sandbox's confinement.
 ghost use Rattle.std.specs.Prelude.{◌≡◌};
-ghost use Rattle.sfi_policy.specs.Registers.{is_reserved, is_withheld, is_data_register};
+ghost use Rattle.sfi_policy.specs.Formats.{is_reserved, is_withheld, is_data_register};
 
 use rv_word::Reg;
 use sfi_policy::{

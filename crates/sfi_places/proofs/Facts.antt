@@ -1,7 +1,6 @@
 -- What holds of sandboxes at other places, and beside those of another image: the laws, for proofs in the crates above.
-use Rattle.sfi_places.specs.Moving.{FindingsArePlaceless, CleanIsPlaceless, MovedIsRight, AcceptedMoves}
+use Rattle.sfi_places.specs.Moving.{FindingsArePlaceless, CleanIsPlaceless, MovedIsRight, AcceptedMoves, OneMoves}
 use Rattle.sfi_places.specs.Beside.{BesideIsAsOne, BesideByPairs}
-use Rattle.sfi_places.specs.Moves.{OneMoves}
 use Rattle.sfi_places.proofs.Beside as beside
 use Rattle.sfi_places.proofs.Moves as moves
 use Rattle.sfi_places.proofs.Moving as moving

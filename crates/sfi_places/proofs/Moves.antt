@@ -15,9 +15,7 @@ use Rattle.sfi_image.specs.Spelling.{Part, format_of, IsWord, AreWords, AreGateW
 unfoldable use Rattle.sfi_image.specs.Spelling.{number, part, spelling}
 use Rattle.sfi_image.specs.Fronts.{head}
 use Rattle.sfi_image.specs.Faults.{IsFault}
-use Rattle.sfi_image.specs.Images.{IsImage}
-use Rattle.sfi_image.specs.Parts.{IsRightPart, IsRightLayout}
-use Rattle.sfi_image.specs.Regions.{IsCodeRegion}
+use Rattle.sfi_image.specs.Parts.{IsImage, IsRightPart, IsRightLayout, IsCodeRegion}
 use Rattle.sfi_image.proofs.Bundles.{right_words}
 use Rattle.sfi_image.proofs.Cancelling.{same_front, same_number, same_list, same_part}
 use Rattle.sfi_image.proofs.Facts.{whole_bundles, code_ends, one_image, never_both, one_fault}
@@ -25,16 +23,14 @@ use Rattle.sfi_image.proofs.Formats.{one_magic}
 use Rattle.sfi_places.specs.declared.relocation.MoveFault.{MoveFault}
 use Rattle.sfi_places.specs.declared.relocation.MoveFault.TheVariants.{NoImage, NoSandbox, NoPlace}
 use Rattle.sfi_image.specs.declared.cursor.PartView.{PartView}
-use Rattle.sfi_image.specs.Cursor.{IsViewOf}
+use Rattle.sfi_image.specs.Keeping.{IsViewOf, IsSandboxOf, IsBeyond, LiesAt, sandbox_offset}
 use Rattle.sfi_rules.specs.declared.finding.Finding.{Finding}
 use Rattle.sfi_rules.specs.Findings.{AreFindings, AreFindingsFrom}
 use Rattle.sfi_safety.proofs.Places.{nothing_before}
 use Rattle.sfi_safety.specs.Clean.{IsAccepted}
-use Rattle.sfi_places.specs.Moves.{moved_one, IsMoved, IsMoveFault, OneMoves}
+use Rattle.sfi_places.specs.Moving.{moved_one, IsMoved, IsMoveFault, OneMoves, moved_address, moved_gate, moved}
 use Rattle.sfi_places.proofs.Moving.{clean_is_placeless}
-use Rattle.sfi_places.specs.Moving.{moved_address, moved_gate, moved}
-use Rattle.sfi_image.specs.Sandboxes.{IsSandboxOf, IsBeyond, LiesAt, sandbox_offset}
-use Rattle.sfi_places.specs.private.Writing.{IsReplaced, GoesTo, GatesGo, CanMove}
+use Rattle.sfi_places.specs.private.{IsReplaced, GoesTo, GatesGo, CanMove}
 use Rattle.sfi_image.proofs.Offsets.{length-head, split_at, spelled, spelled_round, image_split}
 use Rattle.sfi_places.proofs.Writing.{one_of}
 

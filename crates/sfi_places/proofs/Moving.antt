@@ -6,29 +6,25 @@ use Rattle.std.proofs.lemmas.Int.{ints}
 use Rattle.std.proofs.lemmas.Bool.{and_parts, and_from, leb-true, ltb-true, eqb-true, le-leb, lt-ltb, eq-eqb}
 use Rattle.std.proofs.lemmas.List.{map-append}
 use Rattle.std.proofs.lemmas.List.Elements.{All-head, All-tail}
-use Rattle.rv_word.specs.Numbers.{modulo, offset_by}
+use Rattle.rv_word.specs.Spelling.{modulo, offset_by}
 use Rattle.rv_word.specs.declared.instr.Instr.{Instr}
 use Rattle.rv_word.specs.declared.instr.Instr.TheVariants.{Load, Store, Branch, Jal, Jalr, Ecall}
 use Rattle.sfi_policy.specs.Formats.{has_words}
 use Rattle.sfi_image.specs.declared.part.Gate.{Gate}
 use Rattle.sfi_image.specs.declared.bundle.BundlePlace.{BundlePlace}
 use Rattle.sfi_image.specs.Spelling.{Part}
-use Rattle.sfi_image.specs.Gates.{is_gate_of}
-use Rattle.sfi_image.specs.Parts.{IsRightPart}
+use Rattle.sfi_image.specs.Parts.{is_gate_of, IsRightPart}
 use Rattle.sfi_image.proofs.Facts.{whole_bundles, code_ends}
 use Rattle.sfi_rules.specs.declared.finding.Finding.{Finding}
 use Rattle.sfi_rules.specs.declared.rule.Rule.{Rule}
 use Rattle.sfi_rules.specs.declared.rule.Rule.TheVariants.{V1, V3, V5, V6, V7, V8, V9}
-use Rattle.sfi_rules.specs.Broken.{broken, all_rules, rest_finding}
-use Rattle.sfi_rules.specs.Bundles.{bundle_place, bundle_bytes}
-use Rattle.sfi_rules.specs.Readings.{Piece, rest_of}
-use Rattle.sfi_rules.specs.Rules.{Place, is_empty, breaks_ecall, breaks_access, breaks_jump, breaks_target, breaks, is_last_bundle}
+use Rattle.sfi_rules.specs.Rules.{broken, all_rules, rest_finding, Place, is_empty, breaks_ecall, breaks_access, breaks_jump, breaks_target, breaks, is_last_bundle}
+use Rattle.sfi_rules.specs.Readings.{bundle_place, bundle_bytes, Piece, rest_of}
 use Rattle.sfi_rules.specs.Findings.{lowest, findings_from, AreReadingFindings, AreBundleFindings, AreFindingsOfFirst, AreFindingsInBundles}
-use Rattle.sfi_rules.specs.words.Rules.{is_word_start}
+use Rattle.sfi_rules.specs.words.Rules.{is_word_start, owed_next}
 use Rattle.sfi_rules.specs.words.Rules as word_rules
 use Rattle.sfi_rules.specs.words.Findings as words
 use Rattle.sfi_rules.specs.words.Findings.{found_from, found_at, owed_past, IsWordFound, AreFoundInWords, AreFoundOfFirst, AreFindingsInWords}
-use Rattle.sfi_rules.specs.words.Owing.{owed_next}
 use Rattle.sfi_rules.specs.declared.owed.Owed.{Owed}
 use Rattle.sfi_places.specs.Moving.{moved_address, moved_gate, moved_finding, moved, FindingsArePlaceless, CleanIsPlaceless}
 

@@ -12,8 +12,8 @@ unfoldable use Rattle.sfi_image.specs.Spelling.{number, gate}
 use Rattle.sfi_image.proofs.Cancelling.{gate_split}
 use Rattle.sfi_image.proofs.GateLists.{flat_split}
 use Rattle.sfi_places.specs.Moving.{moved_address, moved_gate}
-use Rattle.sfi_image.specs.Sandboxes.{LiesAt}
-use Rattle.sfi_places.specs.private.Writing.{IsReplaced, GoesTo, GatesGo}
+use Rattle.sfi_image.specs.Keeping.{LiesAt}
+use Rattle.sfi_places.specs.private.{IsReplaced, GoesTo, GatesGo}
 use Rattle.sfi_image.proofs.Offsets.{length-number, length-gates}
 
 -- ---- an address

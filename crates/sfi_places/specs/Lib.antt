@@ -1,4 +1,3 @@
 pub mod Beside
-pub mod Moves
 pub mod Moving
 pub mod private

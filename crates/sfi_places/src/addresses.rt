@@ -4,8 +4,8 @@ ghost use Rattle.std.specs.List.{flat_map};
 ghost use Rattle.sfi_image.specs.declared.part.Gate.{Gate};
 ghost use Rattle.sfi_image.specs.Spelling.{Part, number, gate, part};
 ghost use Rattle.sfi_places.specs.Moving.{moved_address, moved_gate, moved};
-ghost use Rattle.sfi_image.specs.Sandboxes.{LiesAt};
-ghost use Rattle.sfi_places.specs.private.Writing.{IsReplaced, GoesTo, GatesGo, CanMove};
+ghost use Rattle.sfi_image.specs.Keeping.{LiesAt};
+ghost use Rattle.sfi_places.specs.private.{IsReplaced, GoesTo, GatesGo, CanMove};
 
 use byteorder::{ByteOrder, LittleEndian};
 use sfi_policy::Place;

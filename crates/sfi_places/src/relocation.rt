@@ -3,10 +3,10 @@ ghost use Rattle.std.specs.Prelude.{◌≡◌, ℕ, ◌↔◌, List, Ok, Err, On
 ghost use Rattle.sfi_image.specs.Spelling.{Part, part, fields_of};
 ghost use Rattle.std.specs.Bool.{OnTrue, OnFalse};
 ghost use Rattle.sfi_image.specs.Faults.{IsFault};
-ghost use Rattle.sfi_image.specs.Images.{IsImage};
+ghost use Rattle.sfi_image.specs.Parts.{IsImage};
 ghost use Rattle.sfi_safety.specs.Clean.{IsAccepted};
-ghost use Rattle.sfi_image.specs.Sandboxes.{IsSandboxOf, sandbox_offset};
-ghost use Rattle.sfi_places.specs.Moves.{moved_one, IsMoved, IsMoveFault};
+ghost use Rattle.sfi_image.specs.Keeping.{IsSandboxOf, sandbox_offset};
+ghost use Rattle.sfi_places.specs.Moving.{moved_one, IsMoved, IsMoveFault};
 
 use crate::addresses::{GATES_AT, write_place};
 use sfi_image::{Fields, LayoutFault, is_region, sandbox_of};

@@ -1,4 +1,2 @@
 pub mod Limits
-pub mod Registers
 pub mod Formats
-pub mod Places

@@ -1,7 +1,7 @@
 //! That the constants are what the definitions say.
 ghost use Rattle.std.specs.Prelude.{◌≡◌};
 ghost use Rattle.sfi_policy.specs.Limits.{bundle_size, guard, region_least, data_most, sandboxes_most, gates_most, service_most, items_most, name_most, first_frame, slack};
-ghost use Rattle.sfi_policy.specs.Registers.{code_base_register, code_mask_register, data_base_register, data_mask_register, scratch, stack_pointer, code_register, offset_register};
+ghost use Rattle.sfi_policy.specs.Formats.{code_base_register, code_mask_register, data_base_register, data_mask_register, scratch, stack_pointer, code_register, offset_register};
 ghost use Rattle.sfi_policy.specs.declared.limits.TheConstants.{BUNDLE_SIZE, BUNDLE_BYTES, GUARD, REGION_LEAST, DATA_MOST, SANDBOXES_MOST, GATES_MOST, SERVICE_MOST, ITEMS_MOST, NAME_MOST, FIRST_FRAME, SLACK, REGION_LEAST_BYTES, SANDBOX_COUNT_MOST, GATE_COUNT_MOST, ITEM_COUNT_MOST, NAME_MOST_BYTES};
 ghost use Rattle.sfi_policy.specs.declared.registers.TheConstants.{CODE_BASE_REGISTER, CODE_MASK_REGISTER, DATA_BASE_REGISTER, DATA_MASK_REGISTER, SCRATCH, STACK_POINTER, CODE_REGISTER, OFFSET_REGISTER};
 

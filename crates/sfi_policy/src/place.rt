@@ -1,6 +1,6 @@
 //! Where the regions of a sandbox begin.
 ghost use Rattle.std.specs.Prelude.{◌≡◌, ◌<◌};
-ghost use Rattle.sfi_policy.specs.Places.{place_of, usual};
+ghost use Rattle.sfi_policy.specs.Limits.{place_of, usual};
 ghost use Rattle.sfi_policy.specs.Limits.{sandboxes_most};
 
 // The first code base, and how far the code of one sandbox lies from that of the next.

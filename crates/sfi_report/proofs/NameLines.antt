@@ -4,10 +4,9 @@ use Rattle.std.specs.List.{All}
 use Rattle.std.proofs.lemmas.List.Elements.{All-head}
 use Rattle.sfi_names.specs.declared.image.Kind.{Kind}
 use Rattle.sfi_names.specs.declared.image.Kind.TheVariants.{Exports, Imports}
-use Rattle.sfi_names.specs.Spelling.{Named, Table, entry, entries, IsNamed}
-use Rattle.sfi_names.specs.Tables.{HasTable}
+use Rattle.sfi_names.specs.Tables.{Named, Table, entry, entries, IsNamed, HasTable}
 use Rattle.sfi_names.proofs.Facts.{one_first, one_table}
-use Rattle.sfi_report.specs.Names.{name_line, interface_line, table_lines, IsNamesText}
+use Rattle.sfi_report.specs.Listing.{name_line, interface_line, table_lines, IsNamesText}
 
 -- of these entries some are written, and the others are left
 pub record IsWrittenTo (kind : Kind) (rest : List ℕ) (es : List Named) (old new : List ℕ) : Type 0 where

@@ -2,14 +2,13 @@
 use Rattle.sfi_report.proofs.Prelude.{◌≡◌, ℕ, zero, suc, ◌+◌, ◌-◌, ◌*◌, List, [], ◌∷◌, ◌++◌, take, drop, sym, ap, ◌∙◌, subst, arith, Some, flat_map, Part, format_of, Format, Finding, V1, IsFindingLine, gate_line, format_line, IsUnitListing, IsSandboxListing, registers_text}
 use Rattle.std.proofs.Common.{get_or-take}
 use Rattle.rv_comp.specs.declared.front.Front.{Front}
-use Rattle.sfi_text.specs.Printed.{printed}
+use Rattle.sfi_text.specs.Statement.{printed}
 use Rattle.sfi_policy.specs.Formats.{unit}
 use Rattle.sfi_policy.specs.declared.format.Format.TheVariants.{Sfi1, Sfi2, Sfiw}
 use Rattle.sfi_rules.specs.declared.rule.Rule.{Rule}
 use Rattle.sfi_rules.specs.declared.rule.Rule.TheVariants.{V2, V9}
-use Rattle.sfi_report.specs.Digits.{line_end}
+use Rattle.sfi_report.specs.Listing.{line_end, reading_lines, unit_bytes, sandbox_line, IsListingOfFirst, IsCodeListing, IsListingFrom}
 use Rattle.sfi_report.specs.Report.{IsInstructionText, IsPlaceText, line_front}
-use Rattle.sfi_report.specs.Listing.{reading_lines, unit_bytes, sandbox_line, IsListingOfFirst, IsCodeListing, IsListingFrom}
 use Rattle.sfi_report.specs.State.{code_from, place_line, state_front}
 use Rattle.sfi_report.specs.Laws.{OneReport, OneListing, OneState}
 use Rattle.rv_comp.proofs.Facts.{one_front, one_spelling}

@@ -2,7 +2,7 @@
 use Rattle.sfi_report.proofs.Prelude.{◌≡◌, ◌-◌, ℕ, [], length, arith}
 use Rattle.std.proofs.Common.{false, append-nil}
 use Rattle.std.specs.Fmt.{padded_integral, char_count, format_spec, digits}
-use Rattle.sfi_report.specs.Digits.{hex_digits}
+use Rattle.sfi_report.specs.Listing.{hex_digits}
 
 -- up to a width, zeros stand before the digits
 pub padding_is_zeros : (width : ℕ) (n : ℕ) → padded_integral (format_spec 32 0 4 width 18446744073709551615) false [] (digits 16 false n) ≡ hex_digits width n

@@ -9,18 +9,17 @@ use Rattle.std.proofs.lemmas.List.Elements.{All-append}
 use Rattle.rv_word.specs.declared.instr.Instr.{Instr}
 use Rattle.rv_word.specs.declared.length.Length.{Length}
 use Rattle.rv_word.specs.declared.length.Length.TheVariants as lengths
-use Rattle.rv_word.specs.Lengths.{length_of}
+use Rattle.rv_word.specs.Spelling.{length_of}
 use Rattle.rv_comp.specs.Fronts.{Spells}
 use Rattle.sfi_image.specs.declared.bundle.BundlePlace.{BundlePlace}
 use Rattle.sfi_rules.specs.declared.rule.Rule.{Rule}
 use Rattle.sfi_rules.specs.declared.rule.Rule.TheVariants.{V2, V9}
-use Rattle.sfi_rules.specs.Bundles.{bundle_bytes, bundle_place}
-use Rattle.sfi_rules.specs.Readings.{Piece, IsReading, rest_of}
+use Rattle.sfi_rules.specs.Readings.{bundle_bytes, bundle_place, Piece, IsReading, rest_of}
 use Rattle.sfi_rules.specs.Rules.{breaks}
 use Rattle.sfi_rules.specs.Findings.{broken, lowest, all_rules, findings_from, rest_finding, rule_of_length, AreBundleFindings, AreFindingsOfFirst, AreFindingsInBundles, AreFindings, AreFindingsFrom, AreImageFindings}
 use Rattle.sfi_policy.specs.Formats.{has_words}
 use Rattle.sfi_rules.specs.declared.owed.Owed.{Owed}
-use Rattle.sfi_rules.specs.words.Owing.{owed_next}
+use Rattle.sfi_rules.specs.words.Rules.{owed_next}
 use Rattle.sfi_rules.specs.words.Findings as words
 use Rattle.sfi_report.specs.private.{SpellsFirst, IsPlace}
 use Rattle.sfi_rules.proofs.Lowest.{lowest_is}

@@ -5,7 +5,7 @@ use Rattle.std.specs.Prelude.{slice_get, Result, Ok, Err, OnOk, if◌then◌else
 use Rattle.std.specs.Result.{is_ok}
 use Rattle.std.proofs.lemmas.List.{take_more}
 use Rattle.sfi_image.specs.Spelling.{views}
-use Rattle.sfi_report.specs.Digits.{line_end}
+use Rattle.sfi_report.specs.Listing.{line_end}
 use Rattle.sfi_report.specs.Report.{IsPlaceText, line_front}
 
 -- the part of that number

@@ -8,8 +8,7 @@ use Rattle.sfi_policy.specs.declared.format.Format.TheVariants.{Sfi1, Sfi2, Sfiw
 use Rattle.sfi_image.specs.Spelling.{views}
 use Rattle.sfi_image.specs.Parts.{IsRightPart, IsRightLayout}
 use Rattle.sfi_image.proofs.Facts.{whole_bundles}
-use Rattle.sfi_report.specs.Names.{IsNamesText}
-use Rattle.sfi_report.specs.Listing.{sandbox_line, IsListingOfFirst, IsCodeListing, IsListingFrom, IsListing}
+use Rattle.sfi_report.specs.Listing.{IsNamesText, sandbox_line, IsListingOfFirst, IsCodeListing, IsListingFrom, IsListing}
 
 -- before the end of whole bundles there is a whole unit, and one unit more is that many
 unit_there : (format : Format) (n m at size : ℕ) → size ≡ 16 * n → at ≡ unit format * m → at < size → (at + unit format ≤ size) × (at + unit format ≡ unit format * suc m)

@@ -1,6 +1,4 @@
-pub mod Digits
 pub mod Report
-pub mod Names
 pub mod Listing
 pub mod State
 pub mod Laws

@@ -1,16 +1,67 @@
 -- The listing of an image.
-use Rattle.std.specs.Prelude.{◌≡◌, ℕ, zero, suc, ◌+◌, ◌*◌, List, [], ◌∷◌, ◌++◌, length, take, drop, codes, decimal}
+use Rattle.std.specs.Prelude.{ℕ, false, ◌+◌, ◌*◌, ◌-◌, List, [], ◌∷◌, ◌++◌, length, replicate, ◌≡◌, ◌⊎◌, codes, decimal, zero, suc, take, drop}
+use Rattle.std.specs.Fmt.{digits}
 use Rattle.std.specs.List.{flat_map}
+use Rattle.sfi_names.specs.declared.image.Kind.{Kind}
+use Rattle.sfi_names.specs.declared.image.Kind.TheVariants.{Exports, Imports}
+use Rattle.sfi_names.specs.Tables.{Named, Table, HasTable}
 use Rattle.rv_word.specs.declared.instr.Instr.{Instr}
 use Rattle.sfi_policy.specs.declared.format.Format.{Format}
 use Rattle.sfi_policy.specs.declared.format.Format.TheVariants.{Sfi1, Sfi2, Sfiw}
-use Rattle.sfi_text.specs.Printed.{printed}
+use Rattle.sfi_text.specs.Statement.{printed}
 use Rattle.sfi_policy.specs.Formats.{unit}
 use Rattle.sfi_image.specs.Spelling.{Part, format_of}
 use Rattle.sfi_image.specs.declared.part.Gate.{Gate}
 use Rattle.sfi_rules.specs.Readings.{Piece, IsLongestReading}
-use Rattle.sfi_report.specs.Digits.{hex_digits, line_end, word_digits}
-use Rattle.sfi_report.specs.Names.{IsNamesText}
+
+-- ==== Numbers in hexadecimal digits, and the end of a line.
+
+-- LF
+abbrev pub line_end : List ℕ
+line_end = 10 ∷ []
+
+-- lower hexadecimal digits, with zeros before them up to that many
+unfoldable pub hex_digits : ℕ → ℕ → List ℕ
+hex_digits width n = replicate (width - length (digits 16 false n)) 48 ++ digits 16 false n
+
+-- the number of bytes, the lowest first
+abbrev pub number_of : List ℕ → ℕ
+number_of [] = 0
+number_of (b ∷ bytes) = b + 256 * number_of bytes
+
+-- that number in two digits a byte
+abbrev pub word_digits : List ℕ → List ℕ
+word_digits bytes = hex_digits (2 * length bytes) (number_of bytes)
+
+-- ==== The names of a sandbox, in the listing and the map: what the table in which its first data
+-- bytes end says.
+
+-- the word for a name of this kind
+unfoldable pub kind_word : Kind → List ℕ
+kind_word Exports = codes "export "
+kind_word Imports = codes "import "
+
+-- the address for which a name stands, and the name
+abbrev pub name_line : Kind → Named → List ℕ
+name_line kind n = kind_word kind ++ hex_digits 8 n.address ++ codes " " ++ n.name ++ line_end
+
+-- the version of the host's interface for which the code is made
+abbrev pub interface_line : ℕ → List ℕ
+interface_line version = codes "interface " ++ decimal version ++ line_end
+
+-- all that a table says
+abbrev pub table_lines : Table → List ℕ
+table_lines t =
+    interface_line t.version
+    ++ flat_map (name_line Exports) t.exports ++ flat_map (name_line Imports) t.imports
+
+-- what the table says in which the bytes end, and nothing where they end in none
+abbrev pub IsNamesText : List ℕ → List ℕ → Type 0
+IsNamesText bytes text =
+    ((t : Table) × HasTable bytes t × (text ≡ table_lines t))
+    ⊎ (((t : Table) → ¬ HasTable bytes t) × (text ≡ []))
+
+-- ==== The listing of an image.
 
 -- ---- of a unit of code
 

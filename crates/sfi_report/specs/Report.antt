@@ -2,15 +2,15 @@
 use Rattle.std.specs.Prelude.{◌≡◌, ◌-◌, ℕ, List, [], ◌∷◌, ◌++◌, Some, take, drop, codes, decimal, slice_get, if◌then◌else◌}
 use Rattle.rv_word.specs.declared.instr.Instr.{Instr}
 use Rattle.rv_comp.specs.Fronts.{Spells}
-use Rattle.sfi_text.specs.Printed.{printed}
+use Rattle.sfi_text.specs.Statement.{printed}
 use Rattle.sfi_policy.specs.Formats.{has_words}
 use Rattle.sfi_policy.specs.declared.format.Format.{Format}
 use Rattle.sfi_image.specs.Spelling.{Part}
-use Rattle.sfi_rules.specs.Numbers.{number_of}
+use Rattle.sfi_rules.specs.Rules.{number_of}
 use Rattle.sfi_rules.specs.declared.finding.Finding.{Finding}
 use Rattle.sfi_rules.specs.declared.rule.Rule.{Rule}
 use Rattle.sfi_rules.specs.declared.rule.Rule.TheVariants.{V1, V2, V3, V4, V5, V6, V7, V8, V9, V10, V11, V12}
-use Rattle.sfi_report.specs.Digits.{hex_digits, line_end, word_digits}
+use Rattle.sfi_report.specs.Listing.{hex_digits, line_end, word_digits}
 
 -- the name of a rule of the format: V10 is about the data registers in words, else about x2
 abbrev pub rule_name : Format → Rule → List ℕ

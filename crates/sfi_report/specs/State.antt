@@ -5,8 +5,7 @@ use Rattle.rv_comp.specs.declared.front.Front.{Front}
 use Rattle.rv_comp.specs.declared.front.Front.TheVariants.{Read, Short, Bad}
 use Rattle.rv_step.specs.State.{Hart, register}
 use Rattle.sfi_image.specs.Spelling.{Part}
-use Rattle.sfi_report.specs.Digits.{hex_digits, line_end}
-use Rattle.sfi_report.specs.Listing.{instruction_line}
+use Rattle.sfi_report.specs.Listing.{hex_digits, line_end, instruction_line}
 
 -- ---- the pc
 

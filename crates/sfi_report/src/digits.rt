@@ -1,6 +1,6 @@
 //! Hexadecimal digits.
 ghost use Rattle.std.specs.Prelude.{◌≡◌, ◌++◌, ◌⊎◌, OnOk, length, string_bytes};
-ghost use Rattle.sfi_report.specs.Digits.{hex_digits, word_digits};
+ghost use Rattle.sfi_report.specs.Listing.{hex_digits, word_digits};
 
 use std::alloc::AllocError;
 

@@ -1,9 +1,9 @@
 //! The names of a sandbox, in the listing and the map.
 ghost use Rattle.std.specs.Prelude.{◌≡◌, ◌≤◌, ◌++◌, ℕ, List, OnOk, IfOk, string_bytes};
 ghost use Rattle.std.specs.List.{All, flat_map};
-ghost use Rattle.sfi_names.specs.Spelling.{Named, entries, IsNamed, IsName};
+ghost use Rattle.sfi_names.specs.Tables.{Named, entries, IsNamed, IsName};
 ghost use Rattle.sfi_names.specs.Tables.{named};
-ghost use Rattle.sfi_report.specs.Names.{kind_word, name_line, interface_line, IsNamesText};
+ghost use Rattle.sfi_report.specs.Listing.{kind_word, name_line, interface_line, IsNamesText};
 ghost use Rattle.sfi_report.specs.private.{Adds};
 
 use crate::digits::push_eight_digits;
@@ -11,7 +11,7 @@ use sfi_names::{Entry, Kind, Names, first_entry};
 use std::alloc::{AllocError, Global};
 
 /// Writes the word for a name of this kind.
-#[tactic(auto, unfolding(crate::specs::Names::kind_word))]
+#[tactic(auto, unfolding(crate::specs::Listing::kind_word))]
 fn push_kind(out: &mut String, kind: Kind) -> Result<(), AllocError>
     ensures { OnOk result (string_bytes out.new ≡ string_bytes out.old ++ kind_word kind) }
 {

@@ -1,6 +1,6 @@
 -- Harts that agree but for the expansions' own registers, and what an instruction does from them.
 use Rattle.sfi_rewrite.proofs.Prelude.{◌≡◌, ◌≢◌, ℕ, ◌+◌, ◌%◌, ◌^◌, ◌<◌, ◌==◌, Bool, true, false, cond, List, length, length-set, set, get_or, Option, Some, None, is_some, refl, sym, ap, ◌∙◌, subst, arith, ⊎_elim, ℤ, pos, negsuc, ◌+ℤ◌, cases_lt, eqb-true, eqb-false, get_or-set_same, get_or-set_other, get_or_past, LoadKind, Load, Store, Jalr, Bytes, bytes_at, addresses, address_after, loaded, stored, Hart, register, with_register, with_pc, past, even_of, next, unchanged, after_load, effect, IsSameAside, Trap, offset_by, StoreWidth, ints}
-use Rattle.rv_step.specs.Values.{word, load_size, store_size}
+use Rattle.rv_step.specs.Step.{word, load_size, store_size}
 use Rattle.rv_step.specs.declared.outcome.Cause.TheVariants as cause
 use Rattle.rv_step.proofs.Pairs.{written_list, written_elsewhere}
 

@@ -2,8 +2,8 @@
 use Rattle.sfi_rewrite.proofs.Prelude.{◌≡◌, ℕ, ◌+◌, ◌-◌, ◌*◌, ◌/◌, ◌%◌, ◌^◌, ◌<◌, ◌≤◌, sym, ap, ◌∙◌, arith, bit_and, bit_or, code_most, Hart, register, AreRegions, HasReserved, Add, Holds, Span, masked}
 use Rattle.std.proofs.Common.{mul_assoc}
 use Rattle.std.proofs.lemmas.Nat.{and_mask, div-add-mod', mod_low, pow-add, or_shifted, or_comm, mod-mul-add}
-use Rattle.rv_step.specs.Values.{result_of}
-use Rattle.sfi_image.specs.Regions.{IsRegion}
+use Rattle.rv_step.specs.Step.{result_of}
+use Rattle.sfi_image.specs.Parts.{IsRegion}
 use Rattle.sfi_image.proofs.Bundles.{exponent_le}
 use Rattle.sfi_image.proofs.Facts.{masked_unit}
 use Rattle.sfi_rewrite.specs.Laws.{MasksCompose}

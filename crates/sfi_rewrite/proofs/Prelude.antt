@@ -12,57 +12,45 @@ pub use Rattle.rv_word.specs.declared.instr.LoadKind.{LoadKind}
 pub use Rattle.rv_word.specs.declared.instr.RegOp.TheVariants.{And, Or, Add}
 pub use Rattle.rv_mem.specs.Bytes.{Bytes, bytes_at, addresses, address_after, loaded, stored, IsMemory, byte_at, with_bytes, number_of}
 pub use Rattle.rv_step.specs.State.{Hart, register, with_register, with_pc, past, even_of, IsHart, State, IsState}
-pub use Rattle.rv_step.specs.Step.{next, unchanged, after_load, effect, Stands, Stepped, IsStep}
+pub use Rattle.rv_step.specs.Step.{next, unchanged, after_load, effect, Stands, Stepped, IsStep, further, StandInRow, LeadsTo, LeadTo, load_size}
 pub use Rattle.sfi_source.specs.Source.{IsBody, Sandbox, named, IsSandbox, IsThere, IsSource}
 pub use Rattle.sfi_source.specs.declared.item.Body.{Body}
 pub use Rattle.sfi_source.specs.declared.item.Body.TheVariants.{Plain, To, High, Low}
 pub use Rattle.sfi_source.specs.declared.item.Item.{Item}
 pub use Rattle.sfi_source.specs.declared.item.Named.{Named}
 pub use Rattle.sfi_source.specs.declared.item.Named.TheVariants.{Code, Unknown, Gate, Data}
-pub use Rattle.sfi_policy.specs.Formats.{is_stack, code_most, has_stack, has_words}
+pub use Rattle.sfi_policy.specs.Formats.{is_stack, code_most, has_stack, has_words, is_data_register}
 pub use Rattle.sfi_policy.specs.declared.format.Format.{Format}
-pub use Rattle.sfi_rewrite.specs.Expansion.{jump_slots, IsAlone, IsMasked, IsExpansionOf, IsExpansion, code_pair_slots, jump_to_x31, is_call, data_pair_slots}
-pub use Rattle.sfi_rewrite.specs.Faults.{IsPermitted, AreFaultless, HasItemFault, HasFault, UnlessMemory, IsItemFault, AreTooLarge}
-pub use Rattle.sfi_rewrite.specs.SourceFaults.{IsFaultless, IsSourceFault, IsSandboxFault}
+pub use Rattle.sfi_rewrite.specs.Expansion.{jump_slots, IsAlone, IsMasked, IsExpansionOf, IsExpansion, code_pair_slots, jump_to_x31, is_call, data_pair_slots, size_of, slots_of, c_nop, slot_size, writes_stack, is_on_stack, stack_pair, put_back, is_stack_write, jumps_or_loads_x2, item_names_withheld, is_ecall, names_withheld, is_withheld}
+pub use Rattle.sfi_rewrite.specs.Rewriting.{IsPermitted, AreFaultless, HasItemFault, HasFault, UnlessMemory, IsItemFault, AreTooLarge, IsFaultless, IsSourceFault, IsSandboxFault, IsRewritten, AreRewritten, AnswersFault}
 pub use Rattle.sfi_rewrite.specs.Laws.{TransparencyCanBeMet, SomeRewriting, ExpansionsAreTransparent, RewrittenIsTransparent}
 pub use Rattle.sfi_rewrite.specs.Placed.{Encodes, IsNamedBelow, AreWhole, IsPlacedThere, IsPlacedGate, IsPlacedPart, IsPlaced, AreOf, format_of, nothing, padding}
-pub use Rattle.sfi_rewrite.specs.Placement.{AreBundles, Placement, IsPlacedName, HasEndLabel, FillsEnd, IsPlacement, AreLaidIn, FillsEndIn, IsLabelAt, label_place}
-pub use Rattle.sfi_rewrite.specs.Places.{AreLaidFrom, FillsGap, IsNext, next_bundle, AreLaid}
-pub use Rattle.sfi_rewrite.specs.Rewriting.{IsRewritten, AreRewritten, AnswersFault}
-pub use Rattle.sfi_rewrite.specs.Slots.{size_of, slots_of, c_nop, slot_size}
-pub use Rattle.sfi_rewrite.specs.Stack.{writes_stack, is_on_stack, stack_pair, put_back, is_stack_write, jumps_or_loads_x2}
+pub use Rattle.sfi_rewrite.specs.Placement.{AreBundles, Placement, IsPlacedName, HasEndLabel, FillsEnd, IsPlacement, AreLaidIn, FillsEndIn, IsLabelAt, label_place, AreLaidFrom, FillsGap, IsNext, next_bundle, AreLaid}
 pub use Rattle.sfi_rewrite.specs.Transparency.{IsSameAside, AreRegions, HasReserved, IsAskedOf, SlotStands, IsTransparent, put_back_at, KeepsStack, ActsAs, IsAimed, MayBe, DoesAs, masked, SlotsStand}
 pub use Rattle.sfi_rewrite.specs.Standing.{StandTransparent}
 pub use Rattle.sfi_rewrite.specs.declared.fault.RewriteFault.{RewriteFault}
 pub use Rattle.sfi_rewrite.specs.declared.placed.PlacedName.{PlacedName}
 pub use Rattle.sfi_rewrite.specs.declared.slot.Slot.{Slot}
 pub use Rattle.sfi_rewrite.specs.declared.slot.Slot.TheVariants.{Wide, Upper, Lower, Short, Jump}
-pub use Rattle.sfi_rewrite.specs.private.Filling.{IsFull, IsFilled, largest, HasNext, HaveBodies, AreLabels, HasLabel, placed_of, HasEnd, IsTooLarge}
+pub use Rattle.sfi_rewrite.specs.private.{IsFull, IsFilled, largest, HasNext, HaveBodies, AreLabels, HasLabel, placed_of, HasEnd, IsTooLarge, so_far, bytes_of, AreOfFirst, with_slots, ended, HasNoRoom}
 pub use Rattle.rv_step.specs.declared.outcome.Outcome.TheVariants.{Trap, Next}
-pub use Rattle.rv_word.specs.Numbers.{offset_by}
+pub use Rattle.rv_word.specs.Spelling.{offset_by, spelling, InRange}
 pub use Rattle.rv_word.specs.declared.instr.StoreWidth.{StoreWidth}
 pub use Rattle.std.proofs.lemmas.Int.{ints}
 pub use Rattle.sfi_policy.specs.Limits.{bundle_size}
 pub use Rattle.rv_word.specs.declared.instr.ImmOp.TheVariants.{Addi}
 pub use Rattle.rv_comp.specs.declared.form.Form16.{Form16}
-pub use Rattle.sfi_image.specs.Spans.{Holds}
+pub use Rattle.sfi_image.specs.Spelling.{Holds}
 pub use Rattle.sfi_image.specs.declared.span.Span.{Span}
 pub use Rattle.sfi_policy.specs.declared.format.Format.TheVariants.{Sfi1, Sfi2, Sfiw}
 pub use Rattle.sfi_rewrite.specs.declared.fault.RewriteFault.TheVariants.{TooLarge, Memory}
 pub use Rattle.std.proofs.Math.Seq.{drop-cons}
-pub use Rattle.sfi_rewrite.specs.Registers.{item_names_withheld, is_ecall, names_withheld, is_withheld}
 pub use Rattle.sfi_source.specs.declared.item.SourceGate.{SourceGate}
-pub use Rattle.sfi_rewrite.specs.private.Words.{so_far, bytes_of, AreOfFirst, with_slots, ended, HasNoRoom}
-pub use Rattle.rv_word.specs.Spelling.{spelling, InRange}
 pub use Rattle.rv_word.specs.declared.instr.LoadKind.TheVariants.{Lw}
-pub use Rattle.sfi_rewrite.specs.words.Expansion.{IsConfined, IsAround, base_of, before, after, is_move, moved, mask_after, is_step, data_mask}
-pub use Rattle.sfi_rewrite.specs.words.Laying.{Marked, marked, alone, in_words, AreExpanded, AreLaidBefore}
+pub use Rattle.sfi_rewrite.specs.words.Expansion.{IsConfined, IsAround, base_of, before, after, is_move, moved, mask_after, is_step, data_mask, Marked, marked, alone, in_words, AreExpanded, AreLaidBefore}
 pub use Rattle.std.proofs.lemmas.Slice.Zip.{AllZip-long}
-pub use Rattle.rv_step.specs.Steps.{further, StandInRow, LeadsTo, LeadTo}
-pub use Rattle.rv_step.specs.Values.{load_size}
 pub use Rattle.rv_comp.specs.Table.{expansion}
 pub use Rattle.std.proofs.lemmas.Result.{IfOk-weaker, IfErr-weaker, err_from_is_err_and}
-pub use Rattle.rv_word.specs.Writes.{destination}
-pub use Rattle.sfi_policy.specs.Registers.{is_data_register}
+pub use Rattle.rv_word.specs.Outlines.{destination}
 pub use Rattle.sfi_rewrite.specs.Samples.{sample_load, sample_jump, sample_push, sample_upper, sample_pop}
 pub use Rattle.sfi_rewrite.specs.words.Transparency.{AreAsLaid}

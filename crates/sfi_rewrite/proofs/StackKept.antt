@@ -1,6 +1,6 @@
 -- What each expansion does.
 use Rattle.sfi_rewrite.proofs.Prelude.{◌≡◌, ◌≢◌, ℕ, ◌+◌, ◌*◌, ◌%◌, ◌^◌, next, ◌==◌, ◌&&◌, List, [], ◌∷◌, Bool, true, false, Option, Some, None, refl, sym, ap, ◌∙◌, subst, arith, bit_and, bit_or, MatchBool, eqb-true, true≢false, and_parts, and_right, And, Or, LoadKind, Instr, Op, OpImm, Load, Branch, Jal, Jalr, Lui, Auipc, Format, has_stack, is_stack, Bytes, address_after, loaded, Hart, State, IsState, register, with_register, with_pc, past, Stepped, Stands, after_load, effect, IsStep, Body, Plain, To, High, Low, Slot, Wide, Jump, Upper, Lower, slot_size, IsAlone, IsMasked, IsExpansionOf, writes_stack, is_on_stack, is_stack_write, jumps_or_loads_x2, stack_pair, put_back, ExpansionsAreTransparent, AreRegions, HasReserved, SlotStands, IsTransparent, put_back_at, KeepsStack, ActsAs, IsAimed, MayBe, further, StandInRow, LeadsTo, LeadTo, load_size, Next, offset_by, Addi, Span, names_withheld, item_names_withheld, masked}
-use Rattle.rv_word.specs.Writes.{writes_register, is_register, destination}
+use Rattle.rv_word.specs.Outlines.{writes_register, is_register, destination}
 use Rattle.rv_step.proofs.Facts.{pair_leaves, step_keeps_state}
 use Rattle.rv_step.proofs.Pairs.{written_elsewhere}
 use Rattle.sfi_rewrite.proofs.Masks.{masked_data}

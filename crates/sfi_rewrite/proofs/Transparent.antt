@@ -2,7 +2,7 @@
 use Rattle.sfi_rewrite.proofs.Prelude.{◌≡◌, ◌≢◌, ℕ, zero, suc, ◌^◌, ◌<◌, List, [], ◌∷◌, ◌++◌, Bool, true, false, refl, sym, ap, ◌∙◌, subst, arith, inl, inr, ℤ, pos, negsuc, bit_and, bit_or, or_parts, And, Or, LoadKind, Instr, Op, OpImm, Load, Store, Jalr, address_after, Hart, State, IsState, register, with_register, with_pc, Stands, effect, IsStep, Slot, Wide, Short, slot_size, data_pair_slots, code_pair_slots, jump_to_x31, jump_slots, IsAlone, IsMasked, SlotStands, IsSameAside, DoesAs, IsTransparent, expansion, Form16, further, StandInRow, LeadsTo, LeadTo, offset_by, Addi, StoreWidth, Format, Sfi1, Sfi2, Sfiw, is_withheld, names_withheld}
 use Rattle.rv_comp.specs.declared.front.Front.TheVariants.{Read}
 use Rattle.std.proofs.lemmas.Bool.{ne_eqb}
-use Rattle.sfi_image.specs.Regions.{IsBundleStart}
+use Rattle.sfi_image.specs.Parts.{IsBundleStart}
 use Rattle.sfi_rewrite.specs.Transparency.{is_scratch}
 use Rattle.rv_step.proofs.Facts.{pair_leaves, step_keeps_state}
 use Rattle.rv_step.proofs.Pairs.{written_here}

@@ -1,6 +1,6 @@
 -- Words with more slots after them: how many bytes they take, and what they lead to.
 use Rattle.sfi_rewrite.proofs.Prelude.{◌≡◌, ℕ, ◌+◌, ◌%◌, ◌^◌, ◌<◌, ◌≤◌, Fits, w64, rules, Bool, false, List, [], ◌∷◌, ◌++◌, Option, Some, None, refl, sym, ap, ◌∙◌, arith, IsTrue, true≢false, Slot, Wide, Short, size_of, expansion, Form16, marked}
-use Rattle.sfi_rewrite.specs.private.Words.{WordsSoFar, bytes_of, waiting_size, more_for, ended, with_slot, with_slots, LeadsTo}
+use Rattle.sfi_rewrite.specs.private.{WordsSoFar, bytes_of, waiting_size, more_for, ended, with_slot, with_slots, LeadsTo}
 use Rattle.sfi_rewrite.proofs.Sizes.{size_of-append}
 use Rattle.sfi_rewrite.proofs.WordLaying.{slot_leads}
 

@@ -1,6 +1,6 @@
 -- Slots in words, one after another.
 use Rattle.sfi_rewrite.proofs.Prelude.{◌≡◌, Bool, true, false, List, [], ◌∷◌, ◌++◌, Option, Some, None, refl, sym, ap, ◌∙◌, append_assoc, append-nil, IsTrue, Slot, Short, Form16, Marked, in_words}
-use Rattle.sfi_rewrite.specs.private.Words.{so_far, ended, with_slot, with_more, LeadsTo}
+use Rattle.sfi_rewrite.specs.private.{so_far, ended, with_slot, with_more, LeadsTo}
 
 -- whether a label stands before the first slot changes nothing
 head_label : (l m : Bool) (s : Slot) (slots : List Marked) → in_words ((l, s) ∷ slots) ≡ in_words ((m, s) ∷ slots)

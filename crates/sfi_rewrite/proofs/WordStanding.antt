@@ -1,8 +1,7 @@
 -- Each item of code in words stands transparent in what is placed.
 use Rattle.sfi_rewrite.proofs.Prelude.{◌≡◌, ℕ, ◌+◌, ◌<◌, ◌&&◌, ◌==◌, arith, true≢false, List, [], ◌∷◌, ◌++◌, Bool, true, false, MatchBool, length, map, take, drop, Option, Some, None, refl, sym, ap, ◌∙◌, subst, inl, inr, ◌⊎◌, append-nil, All, All-get_or, slice_get, drop_more, get_or_from_slice_get, slice_get_within, Instr, Op, OpImm, Load, Store, Jalr, Item, Body, Plain, To, High, Low, Slot, Wide, Short, Jump, Upper, Lower, slots_of, IsAlone, IsPermitted, MayBe, Placement, not, ◌||◌, if◌then◌else◌, destination, Sfiw, is_data_register}
 use Rattle.std.proofs.lemmas.List.{take-append-drop, map-append}
-use Rattle.sfi_rewrite.specs.words.Expansion.{IsConfined, IsAround, IsExpansionOf, IsExpansion, before, after, base_of, data_mask, mask_after, is_move, moved, is_step}
-use Rattle.sfi_rewrite.specs.words.Laying.{Marked, marked, alone, in_words, AreExpanded, AreLaid}
+use Rattle.sfi_rewrite.specs.words.Expansion.{IsConfined, IsAround, IsExpansionOf, IsExpansion, before, after, base_of, data_mask, mask_after, is_move, moved, is_step, Marked, marked, alone, in_words, AreExpanded, AreLaid}
 use Rattle.sfi_rewrite.specs.words.Transparency.{AreAsLaid, ActsAs, StandsTransparent}
 use Rattle.sfi_rewrite.proofs.WordView.{view, as_laid, words_at_label}
 use Rattle.sfi_rewrite.proofs.WordLaid.{expanded_split}

@@ -1,6 +1,6 @@
 -- What in_words makes of slots: one slot or two of them to a word, and how many bytes that takes.
 use Rattle.sfi_rewrite.proofs.Prelude.{◌≡◌, ◌%◌, ◌≤◌, Bool, true, false, List, [], ◌∷◌, ◌++◌, map, None, refl, sym, ap, ◌∙◌, arith, append-nil, inl, inr, true≢false, All, All-nil, All-cons, All-head, All-tail, Slot, Short, slot_size, size_of, Form16, Marked, alone, in_words, AreAsLaid}
-use Rattle.sfi_rewrite.specs.private.Words.{WordsSoFar, so_far, bytes_of, waiting_size, waits, ended, before_label, with_slot, with_more}
+use Rattle.sfi_rewrite.specs.private.{WordsSoFar, so_far, bytes_of, waiting_size, waits, ended, before_label, with_slot, with_more}
 use Rattle.sfi_rewrite.proofs.WordLaying.{slot_leads, ended_leads, ended_last}
 use Rattle.sfi_rewrite.proofs.WordFilled.{slot_bytes, slot_aligned, ended_bytes, ended_aligned, ended_none}
 

@@ -2,12 +2,12 @@
 use Rattle.std.specs.Prelude.{◌≡◌, ◌⊎◌, ℕ, List, [], ◌∷◌}
 use Rattle.rv_word.specs.declared.instr.RegOp.TheVariants.{Add}
 use Rattle.rv_word.specs.declared.instr.Instr.{Instr}
-use Rattle.rv_step.specs.Values.{result_of}
-use Rattle.sfi_policy.specs.Registers.{stack_pointer}
+use Rattle.rv_step.specs.Step.{result_of}
+use Rattle.sfi_policy.specs.Formats.{stack_pointer}
 use Rattle.sfi_policy.specs.declared.format.Format.{Format}
 use Rattle.sfi_policy.specs.declared.format.Format.TheVariants.{Sfi2, Sfiw}
 use Rattle.sfi_image.specs.declared.span.Span.{Span}
-use Rattle.sfi_image.specs.Spans.{Holds}
+use Rattle.sfi_image.specs.Spelling.{Holds}
 use Rattle.sfi_source.specs.declared.item.Item.{Item}
 use Rattle.sfi_source.specs.Source.{Sandbox, IsSource}
 use Rattle.sfi_rewrite.specs.declared.slot.Slot.{Slot}
@@ -15,13 +15,11 @@ use Rattle.sfi_rewrite.specs.declared.fault.RewriteFault.{RewriteFault}
 use Rattle.sfi_rewrite.specs.Expansion.{IsExpansion}
 use Rattle.sfi_rewrite.specs.Placement.{Placement, IsPlacement}
 use Rattle.sfi_rewrite.specs.Placed.{IsPlaced}
-use Rattle.sfi_rewrite.specs.Faults.{IsPermitted}
-use Rattle.sfi_rewrite.specs.SourceFaults.{IsSourceFault}
+use Rattle.sfi_rewrite.specs.Rewriting.{IsPermitted, IsSourceFault, IsRewritten, AreRewritten}
 use Rattle.sfi_rewrite.specs.words.Expansion as words
 use Rattle.sfi_rewrite.specs.words.Transparency as words_transparency
 use Rattle.sfi_rewrite.specs.words.Samples as words_samples
 use Rattle.sfi_rewrite.specs.Standing.{StandTransparent}
-use Rattle.sfi_rewrite.specs.Rewriting.{IsRewritten, AreRewritten}
 use Rattle.sfi_rewrite.specs.Transparency.{AreRegions, masked, MayBe, ActsAs}
 use Rattle.sfi_rewrite.specs.Samples.{MeetsTransparent, MeetsInside, MeetsOutside, MeetsStop, sample_load, sample_jump, sample_push, sample_upper, sample_pop}
 

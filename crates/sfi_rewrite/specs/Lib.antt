@@ -1,12 +1,6 @@
-pub mod Slots
-pub mod Registers
-pub mod Stack
 pub mod Expansion
 pub mod words
-pub mod Places
 pub mod Placement
-pub mod Faults
-pub mod SourceFaults
 pub mod Placed
 pub mod Rewriting
 pub mod Transparency

@@ -13,11 +13,10 @@ use Rattle.sfi_rewrite.specs.declared.slot.Slot.{Slot}
 use Rattle.sfi_rewrite.specs.declared.slot.Slot.TheVariants.{Wide, Short, Jump, Upper, Lower}
 use Rattle.sfi_rewrite.specs.declared.placed.PlacedName.{PlacedName}
 use Rattle.sfi_rewrite.specs.declared.placed.PlacedName.TheVariants as placed
-use Rattle.sfi_rewrite.specs.Expansion.{IsExpansion}
-use Rattle.sfi_rewrite.specs.Faults.{IsPermitted}
-use Rattle.sfi_rewrite.specs.words.Laying as words
+use Rattle.sfi_rewrite.specs.Expansion.{IsExpansion, size_of, slots_of, c_nop}
+use Rattle.sfi_rewrite.specs.Rewriting.{IsPermitted}
+use Rattle.sfi_rewrite.specs.words.Expansion as words
 use Rattle.sfi_policy.specs.Limits.{gates_most, service_most}
-use Rattle.sfi_rewrite.specs.Slots.{size_of, slots_of, c_nop}
 use Rattle.sfi_rewrite.specs.Placement.{Placement, AreBundles}
 
 -- ---- slots

@@ -1,7 +1,7 @@
 -- What an expansion does: within its sandbox it does what its instruction does, x31 aside; a stack
 -- pointer that the instruction writes has the address of the data region that its value masks to.
 use Rattle.std.specs.Prelude.{◌≡◌, ◌≢◌, ◌+◌, ◌%◌, ◌==◌, ◌++◌, ℕ, ℤ, Bool, false, MatchBool, List, [], ◌∷◌, length, take, replicate}
-use Rattle.rv_word.specs.Numbers.{offset_by}
+use Rattle.rv_word.specs.Spelling.{offset_by}
 use Rattle.rv_word.specs.declared.instr.Instr.{Instr}
 use Rattle.rv_word.specs.declared.instr.ImmOp.TheVariants.{Addi}
 use Rattle.rv_word.specs.declared.instr.Instr.TheVariants.{OpImm, Load, Store, Branch, Jal, Jalr, Lui}
@@ -11,22 +11,18 @@ use Rattle.sfi_policy.specs.declared.format.Format.{Format}
 use Rattle.rv_mem.specs.Bytes.{address_after}
 use Rattle.rv_step.specs.declared.outcome.Outcome.TheVariants.{Next}
 use Rattle.rv_step.specs.State.{Hart, State, IsState, register, with_register, with_pc}
-use Rattle.rv_step.specs.Step.{Stepped, Stands, effect, IsStep}
-use Rattle.rv_step.specs.Steps.{further, LeadTo}
+use Rattle.rv_step.specs.Step.{Stepped, Stands, effect, IsStep, further, LeadTo}
 use Rattle.sfi_source.specs.declared.item.Body.{Body}
 use Rattle.sfi_source.specs.declared.item.Body.TheVariants.{Plain, To, High, Low}
 use Rattle.sfi_source.specs.declared.item.Item.{Item}
-use Rattle.sfi_policy.specs.Registers.{code_base_register, code_mask_register, data_base_register, data_mask_register, scratch, stack_pointer}
+use Rattle.sfi_policy.specs.Formats.{code_base_register, code_mask_register, data_base_register, data_mask_register, scratch, stack_pointer}
 use Rattle.sfi_image.specs.declared.span.Span.{Span}
-use Rattle.sfi_image.specs.Spans.{Holds}
-use Rattle.sfi_image.specs.Regions.{IsCodeRegion, IsDataRegion, IsBundleStart}
-use Rattle.sfi_image.specs.Registers.{reserved_for}
+use Rattle.sfi_image.specs.Spelling.{Holds}
+use Rattle.sfi_image.specs.Parts.{IsCodeRegion, IsDataRegion, IsBundleStart, reserved_for}
 use Rattle.sfi_rewrite.specs.declared.slot.Slot.{Slot}
 use Rattle.sfi_rewrite.specs.declared.slot.Slot.TheVariants.{Wide, Short}
-use Rattle.sfi_rewrite.specs.Stack.{writes_stack}
-use Rattle.sfi_rewrite.specs.Slots.{slot_size, size_of, slots_of, c_nop}
-use Rattle.sfi_rewrite.specs.Places.{IsNext, AreLaid}
-use Rattle.sfi_rewrite.specs.Placement.{Placement}
+use Rattle.sfi_rewrite.specs.Expansion.{writes_stack, slot_size, size_of, slots_of, c_nop}
+use Rattle.sfi_rewrite.specs.Placement.{IsNext, AreLaid, Placement}
 
 -- ---- the sandbox
 

@@ -1,5 +1,4 @@
 -- The expansions and the placement of code in words, its faults, and what its expansions do.
 pub mod Expansion
-pub mod Laying
 pub mod Transparency
 pub mod Samples

@@ -1,7 +1,7 @@
 //! Bundles.
 ghost use Rattle.std.specs.Prelude.{◌≡◌, ◌+◌, ◌++◌, ◌≤◌};
 ghost use Rattle.sfi_policy.specs.Limits.{bundle_size};
-ghost use Rattle.sfi_rewrite.specs.Slots.{size_of};
+ghost use Rattle.sfi_rewrite.specs.Expansion.{size_of};
 
 use crate::slot::{Slot, size_of};
 use arrayvec::ArrayVec;

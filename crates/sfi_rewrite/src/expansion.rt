@@ -1,7 +1,7 @@
 //! What an item of the source becomes in a format.
 ghost use Rattle.std.specs.Prelude.{◌≡◌, ◌+◌, ◌++◌, ◌∷◌, ◌≤◌, [], length, map};
 ghost use Rattle.sfi_rewrite.specs.Expansion.{jump_slots, IsAlone, IsMasked, IsPlainExpansion, IsExpansion};
-ghost use Rattle.sfi_rewrite.specs.Stack.{stack_pair, put_back, is_on_x2};
+ghost use Rattle.sfi_rewrite.specs.Expansion.{stack_pair, put_back, is_on_x2};
 ghost use Rattle.sfi_rewrite.specs.declared.slot.Slot.TheVariants.{Wide};
 
 use crate::slot::Slot;

@@ -1,7 +1,7 @@
 //! Why a source isn't rewritten.
 ghost use Rattle.std.specs.Prelude.{◌≡◌};
 ghost use Rattle.sfi_rewrite.specs.declared.fault.RewriteFault.TheVariants.{Memory};
-ghost use Rattle.sfi_rewrite.specs.Faults.{number_of};
+ghost use Rattle.sfi_rewrite.specs.Rewriting.{number_of};
 
 use std::alloc::{AllocError, AllocFailed};
 use thiserror::Error;

@@ -1,8 +1,8 @@
 //! Bundles that are filled one after another.
 ghost use Rattle.std.specs.Prelude.{◌≡◌, ◌%◌, ◌+◌, ◌*◌, ◌<◌, ◌≤◌, ◌++◌, [], IfOk, length, replicate};
 ghost use Rattle.sfi_policy.specs.Limits.{bundle_size};
-ghost use Rattle.sfi_rewrite.specs.Slots.{size_of, slots_of, c_nop};
-ghost use Rattle.sfi_rewrite.specs.private.Filling.{largest};
+ghost use Rattle.sfi_rewrite.specs.Expansion.{size_of, slots_of, c_nop};
+ghost use Rattle.sfi_rewrite.specs.private.{largest};
 ghost use Rattle.sfi_rewrite.specs.Placement.{AreBundles};
 
 use crate::bundle::Bundle;
@@ -22,8 +22,8 @@ pub(crate) struct Filling {
 impl Model for Filling {
     ghost use Rattle.std.specs.Prelude.{List};
     ghost use Rattle.sfi_rewrite.specs.declared.slot.Slot.{Slot};
-    ghost use Rattle.sfi_rewrite.specs.Slots.{slots_of};
-    ghost use Rattle.sfi_rewrite.specs.private.Filling.{IsFilled};
+    ghost use Rattle.sfi_rewrite.specs.Expansion.{slots_of};
+    ghost use Rattle.sfi_rewrite.specs.private.{IsFilled};
 
     ghost Value = { List Slot };
 

@@ -1,9 +1,9 @@
 //! What the rewriter asks of an item of the source.
 ghost use Rattle.std.specs.Prelude.{◌≡◌, IfOk, IfErr};
-ghost use Rattle.sfi_rewrite.specs.Registers.{is_withheld, names_withheld, item_names_withheld, is_ecall};
+ghost use Rattle.sfi_rewrite.specs.Expansion.{is_withheld, names_withheld, item_names_withheld, is_ecall};
 ghost use Rattle.sfi_rewrite.specs.Expansion.{is_call};
-ghost use Rattle.sfi_rewrite.specs.Stack.{is_stack_write};
-ghost use Rattle.sfi_rewrite.specs.Faults.{is_barred_jump, IsPermitted, HasItemFault};
+ghost use Rattle.sfi_rewrite.specs.Expansion.{is_stack_write};
+ghost use Rattle.sfi_rewrite.specs.Rewriting.{is_barred_jump, IsPermitted, HasItemFault};
 
 use crate::fault::RewriteFault;
 use crate::words::ADDRESS_REGISTER;

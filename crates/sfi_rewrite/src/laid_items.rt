@@ -2,9 +2,9 @@
 ghost use Rattle.std.specs.Prelude.{◌≡◌, ◌<◌, ◌≤◌, ◌+◌, ◌*◌, ℕ, false, IfOk, IfErr, length, slice_index};
 ghost use Rattle.sfi_policy.specs.Formats.{code_most};
 ghost use Rattle.sfi_source.specs.Source.{IsBody};
-ghost use Rattle.sfi_rewrite.specs.Slots.{size_of};
-ghost use Rattle.sfi_rewrite.specs.private.Filling.{HasNext, IsTooLarge, HaveBodies, AreLabels};
-ghost use Rattle.sfi_rewrite.specs.Faults.{IsPermitted, AreFaultless, UnlessMemory, IsItemFault};
+ghost use Rattle.sfi_rewrite.specs.Expansion.{size_of};
+ghost use Rattle.sfi_rewrite.specs.private.{HasNext, IsTooLarge, HaveBodies, AreLabels};
+ghost use Rattle.sfi_rewrite.specs.Rewriting.{IsPermitted, AreFaultless, UnlessMemory, IsItemFault};
 
 use crate::expansion::expand;
 use crate::fault::RewriteFault;

@@ -2,14 +2,14 @@
 ghost use Rattle.std.specs.Prelude.{◌≡◌, ◌<◌, ◌≤◌, ◌^◌, ℕ, List, length, IfOk, IfErr, IsTrue, Ok, Err};
 ghost use Rattle.std.specs.List.{All, AllZip};
 ghost use Rattle.sfi_source.specs.Source.{IsSandbox, IsSource};
-ghost use Rattle.sfi_rewrite.specs.Slots.{size_of};
+ghost use Rattle.sfi_rewrite.specs.Expansion.{size_of};
 ghost use Rattle.sfi_rewrite.specs.Placement.{Placement};
 ghost use Rattle.sfi_rewrite.specs.Placed.{IsPlacedPart};
 ghost use Rattle.sfi_policy.specs.Formats.{has_words};
-ghost use Rattle.sfi_rewrite.specs.private.Filling.{AreLabels, HasEnd, HaveBodies, largest};
+ghost use Rattle.sfi_rewrite.specs.private.{AreLabels, HasEnd, HaveBodies, largest};
 ghost use Rattle.sfi_rewrite.specs.declared.fault.RewriteFault.{RewriteFault};
-ghost use Rattle.sfi_rewrite.specs.Faults.{AreFaultless, UnlessMemory, IsItemFault};
-ghost use Rattle.sfi_rewrite.specs.SourceFaults.{IsSandboxFault, IsSourceFault};
+ghost use Rattle.sfi_rewrite.specs.Rewriting.{AreFaultless, UnlessMemory, IsItemFault};
+ghost use Rattle.sfi_rewrite.specs.Rewriting.{IsSandboxFault, IsSourceFault};
 ghost use Rattle.sfi_rewrite.specs.Standing.{StandTransparent};
 ghost use Rattle.sfi_rewrite.specs.Rewriting.{IsRewritten, AreRewritten, AnswersPlaced, AnswersFault};
 

@@ -1,8 +1,8 @@
 //! Where an expansion stands.
 ghost use Rattle.std.specs.Prelude.{◌≡◌, ◌%◌, ◌+◌, ◌*◌, ◌<◌, ◌≤◌, IsTrue};
 ghost use Rattle.sfi_policy.specs.Limits.{bundle_size};
-ghost use Rattle.sfi_rewrite.specs.private.Filling.{largest};
-ghost use Rattle.sfi_rewrite.specs.Places.{next_bundle, FillsGap};
+ghost use Rattle.sfi_rewrite.specs.private.{largest};
+ghost use Rattle.sfi_rewrite.specs.Placement.{next_bundle, FillsGap};
 
 use sfi_policy::BUNDLE_BYTES;
 

@@ -3,11 +3,10 @@ use Rattle.sfi_rules.proofs.Prelude.{◌≡◌, ℕ, Bool, true, false, ◌&&◌
 use Rattle.std.proofs.lemmas.Bool.{false≢true}
 use Rattle.rv_word.specs.declared.instr.Instr.TheVariants.{Op}
 use Rattle.rv_word.specs.declared.instr.RegOp.TheVariants.{And}
-use Rattle.sfi_policy.specs.Registers.{code_base_register, code_register}
+use Rattle.sfi_policy.specs.Formats.{code_base_register, code_register}
 use Rattle.sfi_pairs.specs.Pairs.{is_placing}
 use Rattle.sfi_rules.specs.declared.owed.Owed.TheVariants.{Nothing, Mask, Place, MaskOrUse, Code}
-use Rattle.sfi_rules.specs.words.Rules.{is_and, masks, places, uses}
-use Rattle.sfi_rules.specs.words.Owing.{owed_by, or_nothing, joined, owed_next}
+use Rattle.sfi_rules.specs.words.Rules.{is_and, masks, places, uses, owed_by, or_nothing, joined, owed_next}
 use Rattle.sfi_rules.specs.Laws.{OwedIsOfTwo, owed_after_two}
 
 pub and_is : (rd a b : ℕ) (i : Instr) → is_and rd a b i ≡ true → i ≡ Op And rd a b

@@ -1,6 +1,6 @@
 -- The lowest rule that is broken at a place. Crates above cite this, too.
 use Rattle.sfi_rules.proofs.Prelude.{◌≡◌, ◌-◌, ◌<◌, List, [], ◌∷◌, length, Bool, true, false, cond, refl, subst, arith, get_or, All, Rule, Finding, Place, breaks, broken, lowest, all_rules, V1}
-use Rattle.sfi_rules.specs.Numbers.{number_of}
+use Rattle.sfi_rules.specs.Rules.{number_of}
 use Rattle.std.proofs.lemmas.List.Elements.{All-cons, All-get_or, All-nil}
 
 -- what holds of the finding of each rule that is broken holds of the lowest one's

@@ -9,10 +9,9 @@ use Rattle.sfi_rules.specs.declared.finding.Finding.{Finding}
 use Rattle.sfi_image.specs.declared.bundle.BundlePlace.{BundlePlace}
 use Rattle.sfi_policy.specs.Limits.{bundle_size}
 use Rattle.sfi_pairs.specs.Pairs.{stub}
-use Rattle.sfi_rules.specs.Bundles.{bundle_place, bundle_bytes}
-use Rattle.sfi_rules.specs.Readings.{Piece, IsLongestReading, rest_of}
+use Rattle.sfi_rules.specs.Readings.{bundle_place, bundle_bytes, Piece, IsLongestReading, rest_of}
 use Rattle.sfi_rules.specs.Rules.{Place, breaks, is_empty}
-pub use Rattle.sfi_rules.specs.Broken.{broken, all_rules, rule_of_length, rest_finding}
+pub use Rattle.sfi_rules.specs.Rules.{broken, all_rules, rule_of_length, rest_finding}
 use Rattle.sfi_rules.specs.declared.owed.Owed.{Owed}
 use Rattle.sfi_rules.specs.declared.owed.Owed.TheVariants.{Nothing}
 use Rattle.sfi_rules.specs.words.Findings.{AreFindingsInWords, AreFoundOfFirst}

@@ -4,18 +4,15 @@ use Rattle.std.specs.List.{All}
 use Rattle.rv_word.specs.declared.instr.Instr.{Instr}
 use Rattle.sfi_policy.specs.declared.format.Format.TheVariants.{Sfi1, Sfi2}
 use Rattle.sfi_policy.specs.Formats.{has_words}
-use Rattle.sfi_image.specs.Spelling.{Part}
-use Rattle.sfi_image.specs.InFormat.{all_in_format}
-use Rattle.sfi_image.specs.Regions.{IsBundleStart}
+use Rattle.sfi_image.specs.Spelling.{Part, all_in_format}
+use Rattle.sfi_image.specs.Parts.{IsBundleStart}
 use Rattle.sfi_image.specs.declared.bundle.BundlePlace.{BundlePlace}
 use Rattle.sfi_rules.specs.declared.finding.Finding.{Finding}
 use Rattle.sfi_rules.specs.declared.rule.Rule.TheVariants.{V10}
-use Rattle.sfi_rules.specs.Pairs.{follows_data_pair}
+use Rattle.sfi_rules.specs.Readings.{follows_data_pair, Piece, IsLongestReading}
 use Rattle.sfi_rules.specs.declared.owed.Owed.{Owed}
 use Rattle.sfi_rules.specs.declared.owed.Owed.TheVariants as kind
-use Rattle.sfi_rules.specs.words.Rules.{masks}
-use Rattle.sfi_rules.specs.words.Owing.{owed_by, owed_next, or_nothing}
-use Rattle.sfi_rules.specs.Readings.{Piece, IsLongestReading}
+use Rattle.sfi_rules.specs.words.Rules.{masks, owed_by, owed_next, or_nothing}
 use Rattle.sfi_rules.specs.Rules.{Place, breaks, is_bundle_start, may_access}
 use Rattle.sfi_rules.specs.Findings.{AreBundleFindings, AreFindings, AreImageFindings}
 

@@ -1,10 +1,5 @@
-pub mod Bundles
 pub mod Readings
-pub mod Pairs
-pub mod Stack
 pub mod Rules
-pub mod Broken
 pub mod words
 pub mod Findings
-pub mod Numbers
 pub mod Laws

@@ -1,18 +1,23 @@
--- Which rules are broken at a place of a bundle's reading, in the formats whose code is in bundles.
+-- The rules of code in bundles, and the finding of a broken rule.
 use Rattle.std.specs.Prelude.{◌+◌, ◌%◌, ◌==◌, ◌&&◌, ◌||◌, not, ℕ, pos, negsuc, List, [], ◌∷◌, Bool, true, false, Option, Some, None, nat_lt, nat_le}
 use Rattle.rv_word.specs.declared.instr.Instr.{Instr}
 use Rattle.rv_word.specs.declared.instr.Instr.TheVariants.{Load, Store, Branch, Jal, Jalr, Ecall, Ebreak}
-use Rattle.rv_word.specs.Numbers.{offset_by}
-use Rattle.rv_word.specs.Writes.{destination}
-use Rattle.sfi_policy.specs.Formats.{is_stack}
+use Rattle.rv_word.specs.Spelling.{offset_by, length_of}
+use Rattle.rv_word.specs.Outlines.{destination}
+use Rattle.sfi_policy.specs.Formats.{is_stack, is_reserved}
 use Rattle.sfi_rules.specs.declared.rule.Rule.{Rule}
 use Rattle.sfi_rules.specs.declared.rule.Rule.TheVariants.{V1, V2, V3, V4, V5, V6, V7, V8, V9, V10, V11, V12}
 use Rattle.sfi_image.specs.declared.bundle.BundlePlace.{BundlePlace}
 use Rattle.sfi_policy.specs.Limits.{bundle_size}
-use Rattle.sfi_policy.specs.Registers.{is_reserved}
-use Rattle.sfi_rules.specs.Pairs.{follows_data_pair, follows_code_pair}
-use Rattle.sfi_rules.specs.Readings.{Piece}
-use Rattle.sfi_rules.specs.Stack.{writes_stack, begins_pair, ends_pair, precedes_pair, is_jump}
+use Rattle.sfi_rules.specs.Readings.{follows_data_pair, follows_code_pair, Piece, writes_stack, begins_pair, ends_pair, precedes_pair, is_jump}
+use Rattle.std.specs.Int.{w16, from_le_bytes}
+use Rattle.rv_word.specs.declared.length.Length.{Length}
+use Rattle.rv_word.specs.declared.length.Length.TheVariants.{Short, Wide, Longer}
+use Rattle.sfi_rules.specs.declared.finding.Finding.{Finding}
+use Rattle.std.specs.List.{find}
+
+-- ==== Which rules are broken at a place of a bundle's reading, in the formats whose code is in
+-- bundles.
 
 -- a place of a bundle's reading
 pub record Place : Type 0 where
@@ -116,3 +121,48 @@ breaks x V9 = false
 breaks x V10 = breaks_stack x x.instr
 breaks x V11 = false
 breaks x V12 = false
+
+-- ==== The rules in order, and a broken one's finding, at an instruction or where none is read.
+
+-- a rule broken in the bundle, at that address
+abbrev pub broken : BundlePlace → ℕ → Rule → Finding
+broken b at rule = record { sandbox = b.sandbox; address = at; rule = rule }
+
+-- the rules, from the lowest up
+abbrev pub all_rules : List Rule
+all_rules = V1 ∷ V2 ∷ V3 ∷ V4 ∷ V5 ∷ V6 ∷ V7 ∷ V8 ∷ V9 ∷ V10 ∷ V11 ∷ V12 ∷ []
+
+-- V2 where the two bytes that are left begin a 32-bit instruction, which crosses the end of its
+-- bundle, or of its word
+abbrev pub rule_of_length : Length → Rule
+rule_of_length Wide = V2
+rule_of_length Short = V1
+rule_of_length Longer = V1
+
+-- what is found of the bytes that a reading leaves: V2 or else V1 at their address, and nothing of none
+abbrev pub rest_finding : BundlePlace → ℕ → List ℕ → List Finding
+rest_finding b at [] = []
+rest_finding b at (low ∷ high ∷ []) =
+    broken b at (rule_of_length (length_of (from_le_bytes w16 (low ∷ high ∷ [])))) ∷ []
+rest_finding b at _ = broken b at V1 ∷ []
+
+-- ==== The numbers of the rules.
+
+-- the number by which a rule is known
+abbrev pub number_of : Rule → ℕ
+number_of V1 = 1
+number_of V2 = 2
+number_of V3 = 3
+number_of V4 = 4
+number_of V5 = 5
+number_of V6 = 6
+number_of V7 = 7
+number_of V8 = 8
+number_of V9 = 9
+number_of V10 = 10
+number_of V11 = 11
+number_of V12 = 12
+
+-- the rule of that number, if there is one
+abbrev pub numbered : ℕ → Option Rule
+numbered n = find (λ rule. n == number_of rule) all_rules

@@ -1,4 +1,3 @@
 -- The rules of code in words.
 pub mod Rules
-pub mod Owing
 pub mod Findings

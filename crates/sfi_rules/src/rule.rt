@@ -40,7 +40,7 @@ pub enum Rule {
 }
 
 impl Rule {
-    ghost use Rattle.sfi_rules.specs.Numbers.{number_of, numbered};
+    ghost use Rattle.sfi_rules.specs.Rules.{number_of, numbered};
 
     /// The rule's number, 1 to 12.
     pub fn number(self) -> u32

@@ -6,7 +6,7 @@ use Rattle.std.specs.contracts.alloc.Global as Heap
 use Rattle.std.specs.contracts.impls.GlobalAllocator.TheImpl.{ghosts, dict}
 use Rattle.std.proofs.alloc.Global.TheLaws as heap
 use Rattle.sfi_host.proofs.console.Console.TheLaws as console
-use Rattle.sfi_run.specs.HeldConsole.{console_row}
+use Rattle.sfi_run.specs.Held.{console_row}
 use Rattle.sfi_run.specs.contracts.parts.Parts as Parts
 use Rattle.sfi_run.specs.contracts.held_console.HeldConsole as Held
 

@@ -6,7 +6,7 @@ use Rattle.std.specs.contracts.alloc.Global as Heap
 use Rattle.std.specs.contracts.impls.GlobalAllocator.TheImpl.{ghosts, dict}
 use Rattle.std.proofs.alloc.Global.TheLaws as heap
 use Rattle.sfi_host.proofs.modules.Module.TheLaws as modules
-use Rattle.sfi_run.specs.HeldModule.{module_row}
+use Rattle.sfi_run.specs.Held.{module_row}
 use Rattle.sfi_run.specs.contracts.parts.Parts as Parts
 use Rattle.sfi_run.specs.contracts.held_module.HeldModule as Held
 

@@ -10,10 +10,9 @@ use Rattle.sfi_rules.specs.declared.finding.Finding.{Finding}
 use Rattle.sfi_safety.specs.Clean.{IsAccepted}
 use Rattle.sfi_check.specs.declared.stream_answer.StreamAnswer.{StreamAnswer}
 use Rattle.sfi_check.specs.declared.stream_answer.StreamAnswer.TheVariants as answers
-use Rattle.sfi_check.specs.Verdict.{HasFindings}
-use Rattle.sfi_check.specs.Streams.{IsVerdictOn}
+use Rattle.sfi_check.specs.Verdict.{HasFindings, IsVerdictOn}
 use Rattle.sfi_check.proofs.Facts.{never_both}
-use Rattle.sfi_run.specs.Loading.{Means, fault_number}
+use Rattle.sfi_run.specs.Held.{Means, fault_number}
 use Rattle.sfi_run.specs.declared.worlds.LoadFault.{LoadFault}
 use Rattle.sfi_run.specs.declared.worlds.LoadFault.TheVariants.{Refused, NoImage, Memory}
 

@@ -6,8 +6,7 @@ use Rattle.rv_step.specs.State.{Hart}
 use Rattle.sfi_policy.specs.Limits.{gates_most, service_most}
 use Rattle.sfi_host.specs.declared.guest.Request.{Request}
 use Rattle.sfi_host.specs.declared.status.Status.{Status}
-use Rattle.sfi_host.specs.Reading.{hart_at}
-use Rattle.sfi_host.specs.Slots.{Slot}
+use Rattle.sfi_host.specs.Slots.{hart_at, Slot}
 use Rattle.sfi_host.specs.Waiting.{AsksAtGate, IsAtCall}
 use Rattle.sfi_host.specs.Worlds.{status_at}
 use Rattle.sfi_run.specs.declared.told.SfiRunEvent.{SfiRunEvent}

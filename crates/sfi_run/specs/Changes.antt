@@ -3,19 +3,16 @@ use Rattle.std.specs.Prelude.{◌≡◌, ℕ, [], ◌∷◌, List, Some, None, s
 use Rattle.rv_step.specs.State.{Hart}
 use Rattle.sfi_host.specs.declared.turn.Turn.{Turn}
 use Rattle.sfi_host.specs.declared.waiting.Later.{Later}
-use Rattle.sfi_host.specs.Callbacks.{with_callback}
-use Rattle.sfi_host.specs.Changing.{OthersAreSame, AreChanges, with_world_bytes}
-use Rattle.sfi_host.specs.Entering.{IsAtEntry, with_entry}
+use Rattle.sfi_host.specs.Changing.{with_callback, OthersAreSame, AreChanges, with_world_bytes, with_hart, with_stop}
+use Rattle.sfi_host.specs.Loading.{IsAtEntry, with_entry, with_reset}
 use Rattle.sfi_host.specs.Joint.{Machine, IsMachine, call_of, joint as joint_run, replied}
-use Rattle.sfi_host.specs.Moves.{HaveRun}
-use Rattle.sfi_host.specs.Plans.{IsJoint}
-use Rattle.sfi_host.specs.Resetting.{with_reset}
-use Rattle.sfi_host.specs.Setting.{with_hart}
+use Rattle.sfi_host.specs.Moves.{HaveRun, HaveRunJointly}
+use Rattle.sfi_host.specs.Plans.{IsJoint, IsCutJoint}
 use Rattle.sfi_host.specs.Slots.{Slot}
-use Rattle.sfi_host.specs.Stopping.{with_stop}
-use Rattle.sfi_host.specs.Until.{HasRunUntil, turn_of}
-use Rattle.sfi_host.specs.Waiting.{to_call, later_answer, later_reply}
+use Rattle.sfi_host.specs.Waiting.{HasRunUntil, turn_of, to_call, later_answer, later_reply}
 use Rattle.sfi_host.specs.Worlds.{Sandboxes, slots_of, IsSafeWorld, StaysOutsideData, HaveStoppedThemselves}
+use Rattle.sfi_host.specs.declared.turn.RunAnswer.TheVariants.{Done, Memory}
+use Rattle.sfi_host.specs.Consoles.{ConsoleState, console, console_may_refuse}
 
 -- Still a safe world. What has exited or trapped in it did so itself, and no byte outside all data
 -- has changed.
@@ -96,3 +93,23 @@ pub record HasBeenReset (w n : Sandboxes) (sandbox : ℕ) : Type 0 where
   pub others : OthersAreSame w sandbox n
   pub outside : StaysOutsideData w n.bytes
   pub entry : IsAtEntry n sandbox
+
+-- ==== A console as the host of a sandbox's turn.
+
+-- the sandbox of that number took a turn of at most `steps` steps, in which the console answered each
+-- call
+pub record HasServed (w n : Sandboxes) (c d : ConsoleState) (sandbox steps : ℕ) : Type 0 where
+  pub ran : (machine : Machine) → IsMachine machine
+      → IsJoint machine console (plan_of sandbox steps) (slots_of w) c (slots_of n) d
+  pub runs : (machine : Machine) → IsMachine machine
+      → HaveRunJointly Done machine console console_may_refuse (plan_of sandbox steps) w c n d
+  pub still : IsStillSafe w n
+
+-- it took the turn up to a put for which the console had no memory, and stands at that call
+pub record HasRunShort (w n : Sandboxes) (c d : ConsoleState) (sandbox steps : ℕ) : Type 0 where
+  pub cut : (machine : Machine) → IsMachine machine
+      → IsCutJoint machine console console_may_refuse (plan_of sandbox steps) (slots_of w) c 0
+      (slots_of n) d
+  pub runs : (machine : Machine) → IsMachine machine
+      → HaveRunJointly (Memory 0) machine console console_may_refuse (plan_of sandbox steps) w c n d
+  pub still : IsStillSafe w n

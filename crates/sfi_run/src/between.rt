@@ -3,9 +3,9 @@ ghost use Rattle.std.specs.Prelude.{◌≡◌, ◌↔◌, ◌≤◌, ℕ, length
 ghost use Rattle.std.specs.Bool.{OnTrue, OnFalse};
 ghost use Rattle.rv_step.specs.State.{Hart};
 ghost use Rattle.sfi_host.specs.Changing.{data_bytes_of};
-ghost use Rattle.sfi_host.specs.Entering.{MayEnterAt};
-ghost use Rattle.sfi_host.specs.Reading.{hart_at, data_region_at};
-ghost use Rattle.sfi_host.specs.Setting.{hart_of, MaySetAt};
+ghost use Rattle.sfi_host.specs.Loading.{MayEnterAt};
+ghost use Rattle.sfi_host.specs.Slots.{hart_at, data_region_at};
+ghost use Rattle.sfi_host.specs.Changing.{hart_of, MaySetAt};
 ghost use Rattle.sfi_host.specs.Worlds.{Sandboxes, slots_of, status_at, steps_at, IsSafeWorld};
 ghost use Rattle.sfi_run.specs.Changes.{HasWritten, HasEntered, HasBeenStopped, HasRegisters};
 ghost use Rattle.sfi_run.specs.Told.{span_told, AreRegistersOf};

@@ -2,8 +2,8 @@
 ghost use Rattle.std.specs.Prelude.{◌≡◌, ◌↔◌, Some, None, IsSome, IsTrue, false};
 ghost use Rattle.std.specs.Bool.{OnTrue, OnFalse};
 ghost use Rattle.rv_step.specs.State.{Hart};
-ghost use Rattle.sfi_host.specs.Callbacks.{MayCallBackAt};
-ghost use Rattle.sfi_host.specs.Reading.{hart_at};
+ghost use Rattle.sfi_host.specs.Changing.{MayCallBackAt};
+ghost use Rattle.sfi_host.specs.Slots.{hart_at};
 ghost use Rattle.sfi_host.specs.Worlds.{Sandboxes, slots_of, IsSafeWorld};
 ghost use Rattle.sfi_run.specs.Changes.{HasCalledBack};
 ghost use Rattle.sfi_run.specs.Told.{AreRegistersOf};

@@ -4,7 +4,7 @@ ghost use Rattle.std.specs.Bool.{OnTrue, OnFalse};
 ghost use Rattle.std.specs.Option.{option_map};
 ghost use Rattle.sfi_host.specs.Consoles.{ConsoleState, new_console, output_of};
 ghost use Rattle.sfi_host.specs.Worlds.{Sandboxes, IsSafeWorld};
-ghost use Rattle.sfi_run.specs.Consoles.{HasServed, HasRunShort};
+ghost use Rattle.sfi_run.specs.Changes.{HasServed, HasRunShort};
 ghost use Rattle.sfi_run.specs.Held.{flag_of};
 
 use crate::held_console::HeldConsole;

@@ -1,7 +1,7 @@
 //! A console behind a pointer, or none.
 ghost use Rattle.std.specs.Prelude.{◌≡◌, Option, Some, None};
 ghost use Rattle.sfi_host.specs.Consoles.{ConsoleState};
-ghost use Rattle.sfi_run.specs.HeldConsole.{console_owns, console_coded};
+ghost use Rattle.sfi_run.specs.Held.{console_owns, console_coded};
 
 use crate::parts::Parts;
 use sfi_host::Console;

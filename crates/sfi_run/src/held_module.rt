@@ -1,7 +1,7 @@
 //! A module behind a pointer, or none.
 ghost use Rattle.std.specs.Prelude.{◌≡◌, List, Option, Some, None};
 ghost use Rattle.sfi_image.specs.Spelling.{Part};
-ghost use Rattle.sfi_run.specs.HeldModule.{module_owns, module_coded};
+ghost use Rattle.sfi_run.specs.Held.{module_owns, module_coded};
 
 use crate::parts::Parts;
 use sfi_host::Module;

@@ -11,7 +11,7 @@ ghost use Rattle.sfi_check.specs.ForC.{number_of, acceptance, refusal, no_image,
 ghost use Rattle.sfi_safety.specs.Clean.{IsAccepted};
 ghost use Rattle.sfi_host.specs.Worlds.{Sandboxes, IsSafeWorld};
 ghost use Rattle.sfi_run.specs.Held.{flag_of};
-ghost use Rattle.sfi_run.specs.Loading.{first_world, fault_number};
+ghost use Rattle.sfi_run.specs.Held.{first_world, fault_number};
 
 use crate::held_module::HeldModule;
 use crate::holding::SfiRunWorld;

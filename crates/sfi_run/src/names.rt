@@ -1,7 +1,7 @@
 //! The calls by which C reads the table of names of an image.
 ghost use Rattle.std.specs.Prelude.{◌≡◌, ◌≢◌, ℕ, ◌≤◌, Ok, Err};
 ghost use Rattle.sfi_names.specs.declared.image.Missing.{Missing};
-ghost use Rattle.sfi_names.specs.Spelling.{Table};
+ghost use Rattle.sfi_names.specs.Tables.{Table};
 ghost use Rattle.sfi_names.specs.Images.{HasTableOf, HasNoTable, IsAnswer, number_of};
 
 use sfi_names::{Kind, address_in, names_in};

@@ -156,7 +156,7 @@ pub struct SfiRunRegion {
 }
 
 impl SfiRunRegion {
-    ghost use Rattle.sfi_host.specs.Regions.{span_of};
+    ghost use Rattle.sfi_host.specs.Slots.{span_of};
     ghost use Rattle.sfi_run.specs.Told.{span_told};
 
     /// The same addresses.

@@ -1,7 +1,7 @@
 //! Turns up to a call, replies, and functions that are called.
 ghost use Rattle.std.specs.Prelude.{◌≡◌, ◌↔◌, Some, None, IsSome, IsTrue, false};
 ghost use Rattle.std.specs.Bool.{OnTrue, OnFalse};
-ghost use Rattle.sfi_host.specs.Entering.{MayEnterAt};
+ghost use Rattle.sfi_host.specs.Loading.{MayEnterAt};
 ghost use Rattle.sfi_host.specs.Waiting.{IsAtCall};
 ghost use Rattle.sfi_host.specs.Worlds.{Sandboxes, slots_of, IsSafeWorld};
 ghost use Rattle.sfi_run.specs.Changes.{HasRunToCall, HasRunToStop, HasReplied, HasCalled};

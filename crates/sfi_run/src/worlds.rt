@@ -5,11 +5,11 @@ ghost use Rattle.sfi_image.specs.Faults.{IsFault, number_of as layout_number};
 ghost use Rattle.sfi_image.specs.Spelling.{Part};
 ghost use Rattle.sfi_rules.specs.declared.finding.Finding.{Finding};
 ghost use Rattle.sfi_check.specs.Verdict.{HasFindings, bundle_count};
-ghost use Rattle.sfi_check.specs.Streams.{IsVerdictOn};
+ghost use Rattle.sfi_check.specs.Verdict.{IsVerdictOn};
 ghost use Rattle.sfi_check.specs.ForC.{number_of, acceptance, refusal, no_image, IsAcceptance, IsRefusal, IsLayoutFault};
 ghost use Rattle.sfi_safety.specs.Clean.{IsAccepted};
 ghost use Rattle.sfi_host.specs.Worlds.{Sandboxes, slots_of, IsSafeWorld};
-ghost use Rattle.sfi_run.specs.Loading.{first_world, fault_number, Means};
+ghost use Rattle.sfi_run.specs.Held.{first_world, fault_number, Means};
 
 use crate::holding::SfiRunWorld;
 use rv_mem::Pages;

@@ -3,8 +3,8 @@ use Rattle.sfi_runs.proofs.Prelude.{◌≡◌, ◌≢◌, ℕ, suc, ◌+◌, ◌
 use Rattle.std.proofs.lemmas.Bool.{cond-false, ne_eqb}
 use Rattle.std.proofs.lemmas.List.{get_or-set_same}
 use Rattle.rv_word.specs.declared.instr.RegOp.TheVariants.{Add}
-use Rattle.rv_step.specs.Values.{result_of}
-use Rattle.sfi_policy.specs.Registers.{is_reserved}
+use Rattle.rv_step.specs.Step.{result_of}
+use Rattle.sfi_policy.specs.Formats.{is_reserved}
 use Rattle.std.proofs.lemmas.List.FromFn.{length-range_with_len, get_or-map-range_with_len}
 
 -- ---- sums

@@ -1,10 +1,9 @@
 -- What the formats ask.
 use Rattle.sfi_runs.proofs.Prelude.{◌≡◌, ℕ, ◌%◌, List, true, false, refl, sym, ap, ◌∙◌, false≢true, Part, IsUnitStart, IsTyped, Format, Sfi1, Sfi2, Sfiw}
 use Rattle.sfi_policy.specs.Formats.{unit, has_stack, has_words}
-use Rattle.sfi_image.specs.Regions.{IsBundleStart}
-use Rattle.sfi_image.specs.Registers.{reserved_for}
-use Rattle.sfi_image.specs.Spans.{code_region, data_region}
-use Rattle.sfi_runs.specs.Typed.{StackInData, IsWordStart, AreWordsTyped}
+use Rattle.sfi_image.specs.Parts.{IsBundleStart, reserved_for}
+use Rattle.sfi_image.specs.Spelling.{code_region, data_region}
+use Rattle.sfi_runs.specs.Runs.{StackInData, IsWordStart, AreWordsTyped}
 use Rattle.sfi_runs.specs.Laws.{BundlesAskTheSame, WordsAsk, FirstFormatAsksNoStack}
 
 -- code that isn't in words is in bundles

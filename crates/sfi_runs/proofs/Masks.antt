@@ -2,7 +2,7 @@
 use Rattle.std.proofs.Common.{◌≡◌, ℕ, ◌+◌, ◌-◌, ◌*◌, ◌%◌, ◌^◌, ◌<◌, ◌≤◌, ap, sym, ◌∙◌, arith}
 use Rattle.std.proofs.lemmas.Nat.{and_mask, or_shifted, or_comm, or_block, mod_below, pow_pos}
 use Rattle.std.specs.Int.Bits.{bit_and, bit_or, or_self, or_zero_r}
-use Rattle.sfi_image.specs.Regions.{IsRegion}
+use Rattle.sfi_image.specs.Parts.{IsRegion}
 use Rattle.sfi_image.proofs.Facts.{masked_unit}
 
 -- a number below 2 ^ k, put into a block of 2 ^ k

@@ -5,8 +5,7 @@ pub use Rattle.std.proofs.lemmas.Bool.{cases_lt, or_parts, eqb-false, cond_both,
 pub use Rattle.std.proofs.lemmas.Int.{ints}
 pub use Rattle.std.proofs.lemmas.List.{get_or-set_other, length-set, length-map}
 pub use Rattle.std.specs.List.{Contains, range_with_len}
-pub use Rattle.rv_word.specs.Numbers.{offset_by}
-pub use Rattle.rv_word.specs.Spelling.{IsImm12}
+pub use Rattle.rv_word.specs.Spelling.{offset_by, IsImm12}
 unfoldable pub use Rattle.rv_word.specs.Spelling.{InRange}
 pub use Rattle.rv_word.specs.declared.instr.Instr.{Instr}
 pub use Rattle.rv_word.specs.declared.instr.Instr.TheVariants.{Load, Store, Ecall}
@@ -15,25 +14,16 @@ pub use Rattle.rv_word.specs.declared.instr.LoadKind.TheVariants.{Lb, Lh, Lw, Lb
 pub use Rattle.rv_word.specs.declared.instr.StoreWidth.{StoreWidth}
 pub use Rattle.rv_word.specs.declared.instr.StoreWidth.TheVariants.{Sb, Sh, Sw}
 pub use Rattle.rv_mem.specs.Bytes.{Bytes, IsMemory, byte_at, bytes_at, address_after, addresses, loaded}
-pub use Rattle.rv_step.specs.Access.{Accesses}
+pub use Rattle.rv_step.specs.Step.{Accesses, Stands, effect, after_load, next, unchanged, Stepped, IsStep, word, load_size, store_size}
 pub use Rattle.rv_step.specs.State.{Hart, IsHart, State, register, with_register}
-pub use Rattle.rv_step.specs.Step.{Stands, effect, after_load, next, unchanged, Stepped, IsStep}
-pub use Rattle.rv_step.specs.Values.{word, load_size, store_size}
 pub use Rattle.rv_step.specs.declared.outcome.Outcome.{Outcome}
 pub use Rattle.rv_step.specs.declared.outcome.Outcome.TheVariants.{Next, Call, Trap}
-pub use Rattle.sfi_image.specs.Gates.{is_gate_of}
-pub use Rattle.sfi_image.specs.Parts.{IsRightPart}
-pub use Rattle.sfi_image.specs.Regions.{HasGuardRoom}
-pub use Rattle.sfi_image.specs.Spans.{code_region, AreApart, guarded_region, Holds}
-pub use Rattle.sfi_image.specs.Spelling.{Part}
+pub use Rattle.sfi_image.specs.Parts.{is_gate_of, IsRightPart, HasGuardRoom}
+pub use Rattle.sfi_image.specs.Spelling.{code_region, AreApart, guarded_region, Holds, Part}
 pub use Rattle.sfi_image.specs.declared.part.Gate.{Gate}
 pub use Rattle.sfi_runs.specs.Laws.{SafeTurns, SafeStaysSafe, SafeFetches, GoesOnSafely, CanBeEntered}
-pub use Rattle.sfi_runs.specs.Regions.{InData, InGuard, IsUnitStart, HasReserved, IsGate, HasCode, HasEmptyGuards}
-pub use Rattle.sfi_runs.specs.Typed.{IsNear, IsTyped, IsWordStart}
-pub use Rattle.sfi_runs.specs.Runs.{Turn, IsTurn, IsRun, after_turn, IsEntry, Steps, Replies, IsReply, KeepsBytes, Changes, IsChange}
-pub use Rattle.sfi_runs.specs.Safety.{IsSafeRun, RunsSafelyFrom, RunsSafely, IsSafeStep, IsTrap, IsSafeState, IsSafeTurn}
-pub use Rattle.sfi_runs.specs.Calls.{after_turns, CallsTyped}
-pub use Rattle.sfi_runs.specs.Kept.{KeepsAll}
+pub use Rattle.sfi_runs.specs.Runs.{InData, InGuard, IsUnitStart, HasReserved, IsGate, HasCode, HasEmptyGuards, IsNear, IsTyped, IsWordStart, Turn, IsTurn, IsRun, after_turn, IsEntry, Steps, Replies, IsReply, KeepsBytes, Changes, IsChange}
+pub use Rattle.sfi_runs.specs.Safety.{IsSafeRun, RunsSafelyFrom, RunsSafely, IsSafeStep, IsTrap, IsSafeState, IsSafeTurn, after_turns, CallsTyped, KeepsAll}
 pub use Rattle.sfi_policy.specs.declared.format.Format.{Format}
 pub use Rattle.sfi_policy.specs.declared.format.Format.TheVariants.{Sfi1, Sfi2, Sfiw}
 pub use Rattle.sfi_policy.specs.Formats.{unit, has_words}

@@ -6,7 +6,7 @@ use Rattle.rv_comp.specs.Fronts.{Spells}
 use Rattle.rv_comp.proofs.Facts.{spelled_length, spelled_some}
 use Rattle.rv_step.proofs.Facts.{one_instruction}
 use Rattle.sfi_image.proofs.Facts.{code_ends}
-use Rattle.sfi_runs.specs.Regions.{InCode}
+use Rattle.sfi_runs.specs.Runs.{InCode}
 use Rattle.sfi_runs.proofs.Stepping.{read_all}
 
 -- pc is at `offset` of the code, and the `n` bytes from there on lie in the code

@@ -10,9 +10,7 @@ use Rattle.rv_mem.specs.Bytes.{Bytes, byte_at, address_after}
 use Rattle.rv_step.specs.State.{State, IsState}
 use Rattle.rv_step.specs.Step.{Stands, IsStep}
 use Rattle.sfi_image.specs.Spelling.{Part}
-use Rattle.sfi_runs.specs.Regions.{InCode, InGuard, IsUnitStart, IsGate, HasReserved, HasEmptyGuards}
-use Rattle.sfi_runs.specs.Typed.{IsTyped}
-use Rattle.sfi_runs.specs.Runs.{KeepsReserved, Turn, Steps, Replies, Changes, after_turn}
+use Rattle.sfi_runs.specs.Runs.{InCode, InGuard, IsUnitStart, IsGate, HasReserved, HasEmptyGuards, IsTyped, KeepsReserved, Turn, Steps, Replies, Changes, after_turn}
 use Rattle.sfi_runs.specs.Safety.{HasInstruction, IsSafeTurn}
 
 -- at the address is a listed gate, which is one of those that the host has made direct

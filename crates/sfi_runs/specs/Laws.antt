@@ -8,16 +8,10 @@ use Rattle.rv_step.specs.Step.{Stepped, IsStep}
 use Rattle.sfi_policy.specs.declared.format.Format.TheVariants.{Sfi1}
 use Rattle.sfi_policy.specs.Formats.{has_words}
 use Rattle.sfi_policy.specs.Limits.{bundle_size, word_size}
-use Rattle.sfi_image.specs.Parts.{IsRightPart}
-use Rattle.sfi_image.specs.Regions.{IsBundleStart}
-use Rattle.sfi_image.specs.Registers.{reserved_for, reserved_of}
-use Rattle.sfi_image.specs.Spans.{AreApart, code_region, data_region, guarded_region}
-use Rattle.sfi_image.specs.Spelling.{Part}
-use Rattle.sfi_runs.specs.Regions.{IsUnitStart, HasReserved}
-use Rattle.sfi_runs.specs.Typed.{StackInData, IsTyped, IsWordStart, AreWordsTyped}
-use Rattle.sfi_runs.specs.Runs.{Turn, IsTurn, IsEntry, after_turn}
-use Rattle.sfi_runs.specs.Safety.{IsSafeState, IsSafeTurn, RunsSafelyFrom}
-use Rattle.sfi_runs.specs.Calls.{GoesSafelyFrom}
+use Rattle.sfi_image.specs.Parts.{IsRightPart, IsBundleStart, reserved_for, reserved_of}
+use Rattle.sfi_image.specs.Spelling.{AreApart, code_region, data_region, guarded_region, Part}
+use Rattle.sfi_runs.specs.Runs.{IsUnitStart, HasReserved, StackInData, IsTyped, IsWordStart, AreWordsTyped, Turn, IsTurn, IsEntry, after_turn}
+use Rattle.sfi_runs.specs.Safety.{IsSafeState, IsSafeTurn, RunsSafelyFrom, GoesSafelyFrom}
 
 -- where every run from a state is safe, the state is safe, and so is each turn from it
 abbrev pub SafeTurns : Type 0

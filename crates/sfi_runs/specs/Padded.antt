@@ -4,14 +4,11 @@ use Rattle.std.specs.Prelude.{◌≡◌, ◌⊎◌, ℕ, List, [], ◌∷◌, Op
 use Rattle.rv_word.specs.declared.instr.Instr.{Instr}
 use Rattle.rv_word.specs.declared.instr.Instr.TheVariants.{Ecall}
 use Rattle.rv_mem.specs.Bytes.{Bytes, byte_at, address_after}
-use Rattle.rv_step.specs.Access.{Accesses}
+use Rattle.rv_step.specs.Step.{Accesses, Stepped, Stands, IsStep}
 use Rattle.rv_step.specs.State.{State, IsState}
-use Rattle.rv_step.specs.Step.{Stepped, Stands, IsStep}
 use Rattle.rv_step.specs.declared.outcome.Outcome.TheVariants.{Call}
 use Rattle.sfi_image.specs.Spelling.{Part}
-use Rattle.sfi_runs.specs.Regions.{InCode, InData, InGuard, IsGate, IsUnitStart, HasReserved, HasCode}
-use Rattle.sfi_runs.specs.Typed.{IsTyped}
-use Rattle.sfi_runs.specs.Runs.{KeepsReserved, Turn, Steps, Replies, Changes, after_turn}
+use Rattle.sfi_runs.specs.Runs.{InCode, InData, InGuard, IsGate, IsUnitStart, HasReserved, HasCode, IsTyped, KeepsReserved, Turn, Steps, Replies, Changes, after_turn}
 use Rattle.sfi_runs.specs.Safety.{IsSafeState}
 
 -- a sandbox may be entered here: as `IsEntry` says, and nothing is asked of the guard zones

@@ -1,15 +1,92 @@
--- What may happen to a sandbox: where it is entered, and the turns of a run.
-use Rattle.std.specs.Prelude.{◌≡◌, ℕ, List, [], ◌∷◌, Option, Some, None}
-use Rattle.rv_word.specs.declared.instr.Instr.TheVariants.{Ecall}
+-- Runs of a sandbox: its addresses, its typed registers, and what may happen to it.
+use Rattle.std.specs.Prelude.{◌≡◌, ◌+◌, ◌%◌, ◌<◌, ℕ, List, length, slice_get, slice_index, Some, None, ◌≤◌, true, [], ◌∷◌, Option}
+use Rattle.sfi_policy.specs.Formats.{code_base_register, code_mask_register, data_base_register, data_mask_register, stack_pointer, is_data_register, code_register, offset_register, unit, has_stack, has_words}
+use Rattle.sfi_image.specs.declared.part.Gate.{Gate}
+use Rattle.sfi_image.specs.Spelling.{Part, Holds, InGuards, code_region, data_region}
+use Rattle.sfi_image.specs.Parts.{reserved_of}
 use Rattle.rv_mem.specs.Bytes.{Bytes, byte_at, address_after}
+use Rattle.sfi_policy.specs.Limits.{slack, word_size}
+use Rattle.rv_word.specs.declared.instr.Instr.TheVariants.{Ecall}
 use Rattle.rv_step.specs.declared.outcome.Outcome.{Outcome}
 use Rattle.rv_step.specs.declared.outcome.Outcome.TheVariants.{Next, Call, Trap}
 use Rattle.rv_step.specs.State.{Hart, State, IsState, register}
 use Rattle.rv_step.specs.Step.{Stepped, Stands, IsStep}
-use Rattle.sfi_policy.specs.Registers.{code_base_register, code_mask_register, data_base_register, data_mask_register}
-use Rattle.sfi_image.specs.Spelling.{Part}
-use Rattle.sfi_runs.specs.Regions.{InCode, InGuard, IsUnitStart, HasReserved, HasCode, HasEmptyGuards}
-use Rattle.sfi_runs.specs.Typed.{IsTyped}
+
+-- ==== The addresses of a sandbox, and what of them a machine holds.
+
+-- the address is one of the code region's
+abbrev pub InCode : Part → ℕ → Type 0
+InCode p a = Holds (code_region p) a
+
+-- the address is one of the data region's
+abbrev pub InData : Part → ℕ → Type 0
+InData p a = Holds (data_region p) a
+
+-- the address is one of the guard zones, on each side of the data
+abbrev pub InGuard : Part → ℕ → Type 0
+InGuard p a = InGuards (data_region p) a
+
+-- the address is that of a listed gate
+abbrev pub IsGate : Part → ℕ → Type 0
+IsGate p a = (k : ℕ) × (g : Gate) × (slice_get p.gates k ≡ Some g) × (g.address ≡ a)
+
+-- the address is a multiple, in the code region, of the size of the format's unit of code, a bundle
+-- or a word
+pub record IsUnitStart (p : Part) (a : ℕ) : Type 0 where
+  pub held : InCode p a
+  pub aligned : a % unit p.format ≡ 0
+
+-- the reserved registers hold the sandbox's values
+pub record HasReserved (p : Part) (registers : List ℕ) : Type 0 where
+  pub code_base : slice_index registers code_base_register ≡ (reserved_of p).code_base
+  pub code_mask : slice_index registers code_mask_register ≡ (reserved_of p).code_mask
+  pub data_base : slice_index registers data_base_register ≡ (reserved_of p).data_base
+  pub data_mask : slice_index registers data_mask_register ≡ (reserved_of p).data_mask
+
+-- at each code address is the image's byte
+abbrev pub HasCode : Part → Bytes → Type 0
+HasCode p m =
+    (k : ℕ) → k < length p.code → byte_at m (p.code_base + k) ≡ Some (slice_index p.code k)
+
+-- at no guard address is a byte
+abbrev pub HasEmptyGuards : Part → Bytes → Type 0
+HasEmptyGuards p m = (a : ℕ) → InGuard p a → byte_at m a ≡ None
+
+-- ==== The typed registers of each format: what they hold wherever a sandbox is entered, replied to
+-- or calls.
+
+-- where its format has a stack pointer, x2 lies in the data region; else nothing is asked
+abbrev pub StackInData : Part → List ℕ → Type 0
+StackInData p registers = has_stack p.format ≡ true → InData p (slice_index registers stack_pointer)
+
+-- ---- of code in words
+
+-- the address is a multiple of 4 in the code region
+pub record IsWordStart (p : Part) (a : ℕ) : Type 0 where
+  pub held : InCode p a
+  pub aligned : a % word_size ≡ 0
+
+-- address `a` lies in the data region, or at most `far` bytes below its first byte or above its
+-- last
+pub record IsNear (p : Part) (far a : ℕ) : Type 0 where
+  pub low : p.data_base ≤ a + far
+  pub high : a < p.data_base + p.data_size + far
+
+-- each of the six typed registers of code in words holds what its type says
+pub record AreWordsTyped (p : Part) (registers : List ℕ) : Type 0 where
+  pub each_data : (d : ℕ) → is_data_register d ≡ true → IsNear p slack (slice_index registers d)
+  pub code : IsWordStart p (slice_index registers code_register)
+  pub offset : slice_index registers offset_register < p.data_size
+
+-- ---- of any format
+
+-- The typed registers of its format hold what their types say: x2 lies in the data region where it is
+-- a stack pointer, and in words six registers are typed. The first format has none, so nothing is asked.
+pub record IsTyped (p : Part) (registers : List ℕ) : Type 0 where
+  pub stack : has_stack p.format ≡ true → InData p (slice_index registers stack_pointer)
+  pub words : has_words p.format ≡ true → AreWordsTyped p registers
+
+-- ==== What may happen to a sandbox: where it is entered, and the turns of a run.
 
 -- A sandbox may be entered here: at the start of any bundle, or word, with the reserved registers set,
 -- the typed ones holding what their types say (in the second format, a stack pointer in the data), the

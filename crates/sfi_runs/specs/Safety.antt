@@ -1,16 +1,15 @@
 -- Which runs of a sandbox are safe. This speaks of addresses and states alone, and of no rule.
-use Rattle.std.specs.Prelude.{◌≡◌, ◌<◌, ◌⊎◌, ℕ, List, [], ◌∷◌, Option, Some, None}
+use Rattle.std.specs.Prelude.{◌≡◌, ◌<◌, ◌⊎◌, ℕ, List, [], ◌∷◌, Option, Some, None, length}
 use Rattle.std.specs.List.{All}
 use Rattle.rv_word.specs.declared.instr.Instr.{Instr}
 use Rattle.rv_mem.specs.Bytes.{address_after}
 use Rattle.rv_step.specs.declared.outcome.Outcome.{Outcome}
 use Rattle.rv_step.specs.declared.outcome.Outcome.TheVariants.{Next, Call, Trap}
-use Rattle.rv_step.specs.Access.{Accesses}
+use Rattle.rv_step.specs.Step.{Accesses, Stepped, Stands}
 use Rattle.rv_step.specs.State.{State}
-use Rattle.rv_step.specs.Step.{Stepped, Stands}
 use Rattle.sfi_image.specs.Spelling.{Part}
-use Rattle.sfi_runs.specs.Regions.{InCode, InData, InGuard, IsGate, HasCode}
-use Rattle.sfi_runs.specs.Runs.{Turn, Steps, Replies, Changes, IsEntry, IsRun, after_turn}
+use Rattle.sfi_runs.specs.Runs.{InCode, InData, InGuard, IsGate, HasCode, HasReserved, HasEmptyGuards, Turn, Steps, Replies, Changes, IsEntry, IsRun, after_turn, IsTyped}
+use Rattle.rv_word.specs.declared.instr.Instr.TheVariants.{Ecall}
 
 -- an instruction stands at pc
 pub record HasInstruction (s : State) : Type 0 where
@@ -66,3 +65,42 @@ pub record RunsSafely (p : Part) : Type 0 where
 -- each of the sandboxes runs safely
 pub record AllRunSafely (ps : List Part) : Type 0 where
   pub each : All RunsSafely ps
+
+-- ==== What the typed registers hold when a sandbox calls: what its host may rely on.
+
+-- the state after the last of the turns, if the run goes on there
+abbrev pub after_turns : Option State → List Turn → Option State
+after_turns o [] = o
+after_turns None (turn ∷ turns) = None
+after_turns (Some s) (turn ∷ turns) = after_turns (after_turn turn) turns
+
+-- in every run from this state the typed registers hold what their types say wherever an ecall
+-- stands
+pub record CallsTypedFrom (p : Part) (s : State) : Type 0 where
+  pub typed : (turns : List Turn) (at : State) (n : ℕ) → IsRun p (Some s) turns
+      → after_turns (Some s) turns ≡ Some at → Stands at Ecall n → IsTyped p at.hart.registers
+
+-- every run from this state is safe, and makes its calls with the typed registers as their types
+-- say: what a world keeps of each sandbox
+pub record GoesSafelyFrom (p : Part) (s : State) : Type 0 where
+  pub safe : RunsSafelyFrom p s
+  pub calls : CallsTypedFrom p s
+
+-- in every run from every state in which the sandbox may be entered, calls are made with the typed
+-- registers as their types say
+pub record CallsTyped (p : Part) : Type 0 where
+  pub from : (s : State) → IsEntry p s → CallsTypedFrom p s
+
+-- each of the sandboxes makes its calls with the typed registers as their types say
+pub record AllCallTyped (ps : List Part) : Type 0 where
+  pub each : All CallsTyped ps
+
+-- ==== What no turn changes, from an entry of code that breaks no rule on.
+
+-- there are 32 registers, the reserved ones hold their values, the code has the image's bytes, and
+-- no byte is in the guard zones
+pub record KeepsAll (p : Part) (s : State) : Type 0 where
+  pub count : length s.hart.registers ≡ 32
+  pub reserved : HasReserved p s.hart.registers
+  pub code : HasCode p s.memory
+  pub guards : HasEmptyGuards p s.memory

@@ -3,7 +3,7 @@ use Rattle.sfi_safety.proofs.Prelude.{◌≡◌, ℕ, ◌+◌, ◌*◌, ◌%◌,
 use Rattle.rv_word.specs.declared.instr.LoadKind.{LoadKind}
 use Rattle.rv_step.specs.declared.outcome.Cause.TheVariants as cause
 use Rattle.rv_step.proofs.Facts.{step_is_effect}
-use Rattle.sfi_rules.specs.Pairs.{follows_code_pair}
+use Rattle.sfi_rules.specs.Readings.{follows_code_pair}
 use Rattle.sfi_runs.specs.Direct.{RunsDirectly}
 use Rattle.sfi_runs.specs.Runs.{KeepsReserved}
 use Rattle.sfi_runs.proofs.Turning.{kept_after}

@@ -4,8 +4,7 @@ use Rattle.sfi_runs.specs.Direct.{RunsDirectly}
 use Rattle.sfi_runs.specs.Runs.{KeepsReserved}
 use Rattle.sfi_runs.proofs.Turning.{kept_after}
 use Rattle.sfi_runs.proofs.Formats.{words, to_word, of_word}
-use Rattle.sfi_words.specs.Code.{IsCleanInWords}
-use Rattle.sfi_words.specs.Places.{IsGoodInWords}
+use Rattle.sfi_words.specs.Code.{IsCleanInWords, IsGoodInWords}
 use Rattle.sfi_words.proofs.Effects.{Leads}
 use Rattle.sfi_words.proofs.Facts.{turn_keeps}
 use Rattle.sfi_words.proofs.Places.{at_start, base_aligned, sized}

@@ -1,8 +1,8 @@
 -- What each instruction at a place without a finding does: it accesses the data and the guards, calls at a gate, and goes on to a place.
 use Rattle.sfi_safety.proofs.Prelude.{has_words, IsImm12, Contains, ◌≡◌, ℕ, ◌+◌, ◌%◌, ◌^◌, ◌<◌, ◌≤◌, ◌⊎◌, ◌∷◌, length, Option, Some, None, Bool, true, false, cond, not, ◌==◌, refl, sym, ap, ◌∙◌, subst, ⊎_elim, arith, ◌&&◌, ℤ, pos, negsuc, is_some, slice_index, and_parts, or_cases, eqb-true, eqb-false, not-false, offset_by, Instr, Op, OpImm, Load, Store, Branch, Jal, Jalr, Lui, Auipc, Fence, Ecall, Ebreak, InRange, has_stack, is_stack, Bytes, bytes_at, address_after, addresses, loaded, stored, Next, Call, Trap, Accesses, Hart, register, with_register, with_pc, past, even_of, effect, after_load, next, unchanged, load_size, store_size, extended, is_taken, Part, code_region, IsBundleStart, IsRightPart, BundlePlace, Place, is_empty, is_bundle_start, breaks_ecall, breaks_reserved, breaks_access, breaks_jump, breaks_target, breaks_stack, may_access, ends_region, InData, InGuard, IsGate, HasReserved, StackInData, Leaves, WritesResult, StackInDataBefore, IsAtPlace, Outcome, is_reserved, writes_stack, is_jump}
-use Rattle.rv_word.specs.Writes.{destination, is_register}
+use Rattle.rv_word.specs.Outlines.{destination, is_register}
 use Rattle.rv_word.specs.declared.instr.LoadKind.{LoadKind}
-use Rattle.sfi_rules.specs.Pairs.{follows_data_pair, follows_code_pair}
+use Rattle.sfi_rules.specs.Readings.{follows_data_pair, follows_code_pair}
 use Rattle.rv_step.specs.declared.outcome.Cause.TheVariants as cause
 use Rattle.sfi_runs.proofs.Accessing.{near_access, imm12_within, load_sized, store_sized, load_range, store_range, kept, count_kept, reserved_kept}
 use Rattle.sfi_safety.proofs.Stacking.{is_of_pair, stack_here, stack_after, jump_keeps}

@@ -5,8 +5,7 @@ pub use Rattle.std.proofs.lemmas.Bool.{cases_lt, eqb-false, and_parts, or_cases,
 pub use Rattle.std.proofs.lemmas.Int.{ints}
 pub use Rattle.std.proofs.lemmas.List.{drop-drop, append-nil}
 pub use Rattle.std.specs.List.{Contains, All, list_all}
-pub use Rattle.rv_word.specs.Numbers.{offset_by, minus}
-pub use Rattle.rv_word.specs.Spelling.{IsImm12, IsWordOf}
+pub use Rattle.rv_word.specs.Spelling.{offset_by, minus, IsImm12, IsWordOf}
 unfoldable pub use Rattle.rv_word.specs.Spelling.{InRange, spelling}
 pub use Rattle.rv_word.specs.declared.instr.Instr.{Instr}
 pub use Rattle.rv_word.specs.declared.instr.Instr.TheVariants.{Load, Store, Ecall, Op, OpImm, Branch, Jal, Jalr, Lui, Auipc, Fence, Ebreak}
@@ -14,38 +13,27 @@ pub use Rattle.rv_word.specs.declared.instr.RegOp.TheVariants.{And, Or}
 pub use Rattle.rv_word.specs.declared.instr.StoreWidth.TheVariants.{Sb, Sw}
 pub use Rattle.rv_comp.specs.Fronts.{Spells}
 pub use Rattle.rv_mem.specs.Bytes.{address_after, addresses, Bytes, bytes_at, loaded, stored, byte_at, in_front}
-pub use Rattle.rv_step.specs.Access.{Accesses}
+pub use Rattle.rv_step.specs.Step.{Accesses, Stands, effect, after_load, next, unchanged, Stepped, IsStep, load_size, store_size, extended, is_taken, result_of}
 pub use Rattle.rv_step.specs.State.{Hart, with_register, State, register, with_pc, past, even_of, IsHart}
-pub use Rattle.rv_step.specs.Step.{Stands, effect, after_load, next, unchanged, Stepped, IsStep}
-pub use Rattle.rv_step.specs.Values.{load_size, store_size, extended, is_taken, result_of}
 pub use Rattle.rv_step.specs.declared.outcome.Outcome.TheVariants.{Next, Call, Trap}
-pub use Rattle.sfi_policy.specs.Formats.{code_most, has_stack, has_words, is_stack, unit}
+pub use Rattle.sfi_policy.specs.Formats.{code_most, has_stack, has_words, is_stack, unit, is_reserved}
 pub use Rattle.sfi_policy.specs.declared.format.Format.{Format}
 pub use Rattle.sfi_policy.specs.declared.format.Format.TheVariants.{Sfi1, Sfi2, Sfiw}
-pub use Rattle.sfi_image.specs.Gates.{is_gate_of, AreGates}
-pub use Rattle.sfi_image.specs.Parts.{IsRightPart, AreRight, IsRightLayout, AreOf}
-pub use Rattle.sfi_image.specs.Regions.{IsBundleStart}
-pub use Rattle.sfi_image.specs.Spans.{code_region, AreApart, guarded_region}
-pub use Rattle.sfi_image.specs.Spelling.{Part, AreGateWords}
+pub use Rattle.sfi_image.specs.Parts.{is_gate_of, AreGates, IsRightPart, AreRight, IsRightLayout, AreOf, IsBundleStart}
+pub use Rattle.sfi_image.specs.Spelling.{code_region, AreApart, guarded_region, Part, AreGateWords}
 pub use Rattle.sfi_image.specs.declared.part.Gate.{Gate}
-pub use Rattle.sfi_rules.specs.Bundles.{bundle_place, bundle_bytes}
+pub use Rattle.sfi_rules.specs.Readings.{bundle_place, bundle_bytes, Piece, rest_of, IsReading, IsLongestReading, writes_stack, is_jump, follows_data_pair}
 pub use Rattle.sfi_rules.specs.Findings.{AreBundleFindings, AreReadingFindings, AreFindings, AreFindingsInBundles, AreFindingsFrom, all_rules, lowest, findings_from, rest_finding, AreFindingsOfFirst}
-pub use Rattle.sfi_rules.specs.Readings.{Piece, rest_of, IsReading, IsLongestReading}
 pub use Rattle.sfi_rules.specs.Rules.{Place, is_empty, is_bundle_start, breaks_ecall, breaks_reserved, breaks_access, breaks_jump, breaks_target, breaks_stack, may_access, ends_region, breaks, breaks_end, may_write_stack}
 pub use Rattle.sfi_image.specs.declared.bundle.BundlePlace.{BundlePlace}
 pub use Rattle.sfi_rules.specs.declared.finding.Finding.{Finding}
 pub use Rattle.sfi_safety.specs.Laws.{CleanCallsTyped, CleanRunsContained, CleanRunsDirectly, InstructionLeaves, TurnKeeps, EntryIsGood, CleanRunsSafely}
-pub use Rattle.sfi_safety.specs.Leaving.{Leaves, WritesResult, follows_mask}
+pub use Rattle.sfi_safety.specs.Places.{Leaves, WritesResult, follows_mask, IsCleanPart, AreCleanBundles, IsGood, IsGoodIf, StackInDataBefore, IsAtPlace}
 pub use Rattle.sfi_safety.specs.Needed.{BreaksAloneInBundle, IsNeeded, EachRuleIsNeeded, HasOneFinding, HasUnsafeRun, StoresByte, IsAcceptedAndRuns, IsStricter, BreaksNoOther, BreaksAlone, BreaksAloneInWord, IsOwedBefore}
-pub use Rattle.sfi_safety.specs.Places.{IsCleanPart, AreCleanBundles, IsGood, IsGoodIf, StackInDataBefore, IsAtPlace}
-pub use Rattle.sfi_runs.specs.Regions.{InData, InGuard, HasReserved, IsGate, HasCode, IsUnitStart, InCode}
-pub use Rattle.sfi_runs.specs.Typed.{StackInData, IsTyped}
-pub use Rattle.sfi_runs.specs.Runs.{Turn, IsRun, after_turn, IsEntry, Steps, Replies, IsReply, IsTurn, after_step, KeepsBytes, Changes, IsChange}
-pub use Rattle.sfi_runs.specs.Safety.{AllRunSafely, IsSafeRun, RunsSafely, IsSafeStep, IsSafeState}
+pub use Rattle.sfi_runs.specs.Runs.{InData, InGuard, HasReserved, IsGate, HasCode, IsUnitStart, InCode, StackInData, IsTyped, Turn, IsRun, after_turn, IsEntry, Steps, Replies, IsReply, IsTurn, after_step, KeepsBytes, Changes, IsChange}
+pub use Rattle.sfi_runs.specs.Safety.{AllRunSafely, IsSafeRun, RunsSafely, IsSafeStep, IsSafeState, CallsTyped}
 pub use Rattle.sfi_safety.specs.Clean.{IsClean, IsAccepted, MayRun}
 pub use Rattle.rv_step.specs.declared.outcome.Outcome.{Outcome}
-pub use Rattle.sfi_policy.specs.Registers.{is_reserved}
-pub use Rattle.sfi_rules.specs.Stack.{writes_stack, is_jump}
 pub use Rattle.rv_word.specs.declared.instr.ImmOp.TheVariants.{Addi}
 pub use Rattle.sfi_rules.specs.declared.rule.Rule.{Rule}
 pub use Rattle.sfi_rules.specs.declared.rule.Rule.TheVariants.{V1, V2, V3, V4, V5, V6, V7, V8, V9, V10, V11, V12}
@@ -55,5 +43,3 @@ pub use Rattle.rv_word.specs.declared.instr.RegOp.{RegOp}
 pub use Rattle.sfi_pairs.specs.Pairs.{is_masking, is_placing}
 pub use Rattle.std.specs.Int.{w32, to_le_bytes}
 pub use Rattle.sfi_rules.specs.declared.owed.Owed.TheVariants.{Nothing}
-pub use Rattle.sfi_rules.specs.Pairs.{follows_data_pair}
-pub use Rattle.sfi_runs.specs.Calls.{CallsTyped}

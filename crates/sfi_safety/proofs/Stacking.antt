@@ -1,6 +1,6 @@
 -- Where a format has a stack pointer, it lies in the data region, or is put there.
 use Rattle.sfi_safety.proofs.Prelude.{◌≡◌, ℕ, List, [], ◌∷◌, true, false, Bool, not, ◌&&◌, ◌||◌, ◌==◌, refl, sym, ◌∙◌, subst, inl, inr, ⊎_elim, slice_index, cases_Bool, and_parts, and_from, or_cases, or_left, or_right, not-false, false≢true, Instr, Op, Jal, Jalr, And, Or, has_stack, Part, BundlePlace, Piece, Place, may_write_stack, breaks_stack, InData, StackInData, Leaves, StackInDataBefore, is_masking, is_placing, follows_data_pair}
-use Rattle.sfi_rules.specs.Stack.{writes_stack, is_stack_pair, begins_pair, ends_pair, precedes_pair, is_jump}
+use Rattle.sfi_rules.specs.Readings.{writes_stack, is_stack_pair, begins_pair, ends_pair, precedes_pair, is_jump}
 
 -- the instruction is one of the pair's two
 abbrev pub is_of_pair : Instr → Bool

@@ -1,13 +1,12 @@
 -- A word of ones spells no instruction, nor does its first halfword.
 use Rattle.sfi_safety.proofs.Prelude.{◌≡◌, ℕ, ◌+◌, ◌*◌, ◌<◌, List, [], ◌∷◌, ◌++◌, take, drop, refl, sym, ap, ◌∙◌, subst, inl, inr, arith, Instr, IsWordOf}
-use Rattle.rv_comp.specs.Halfwords.{IsShortSpelling}
-use Rattle.rv_comp.specs.Table.{row, fields_of}
+use Rattle.rv_comp.specs.Fronts.{IsShortSpelling}
+use Rattle.rv_comp.specs.Table.{row, fields_of, Fields, Bit, is, bit_value, number_after}
 use Rattle.rv_comp.specs.declared.form.Form16.{Form16}
 use Rattle.rv_comp.specs.declared.form.Form16.TheVariants.{CAddi4spn, CLw, CSw, CSlli, CLwsp, CJr, CJalr, CMv, CAdd, CEbreak, CSwsp}
 use Rattle.rv_word.specs.declared.length.Length.TheVariants.{Wide, Longer}
 use Rattle.std.specs.Int.{w16, w32, from_le_bytes}
 use Rattle.std.proofs.Common.{take-append-drop}
-use Rattle.rv_comp.specs.Bits.{Fields, Bit, is, bit_value, number_after}
 use Rattle.sfi_safety.proofs.Readings.{BeginsNothing}
 use Rattle.rv_word.proofs.Facts.{spellings_are_wide}
 

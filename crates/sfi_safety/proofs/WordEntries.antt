@@ -1,6 +1,6 @@
 -- Where the samples in words are entered.
 use Rattle.sfi_safety.proofs.Prelude.{◌≡◌, ℕ, ◌+◌, ◌-◌, ◌*◌, ◌%◌, ◌^◌, ◌<◌, [], ◌∷◌, ◌++◌, length, replicate, true, refl, sym, ap, ◌∙◌, arith, has_words, Bytes, Hart, IsHart, IsEntry, HasReserved, IsUnitStart, IsTyped, AreFindings, IsNeeded, BreaksNoOther, HasUnsafeRun, unit, Rule, Sample, sandbox}
-use Rattle.sfi_runs.specs.Typed.{IsNear, IsWordStart}
+use Rattle.sfi_runs.specs.Runs.{IsNear, IsWordStart}
 use Rattle.sfi_runs.proofs.Formats.{words as word_unit, of_word, of_words_typed}
 use Rattle.sfi_runs.proofs.Entries.{each_near}
 use Rattle.sfi_safety.proofs.Samples.{IsSample, size, each_below, enters_with, needed_from}

@@ -2,7 +2,7 @@
 use Rattle.sfi_safety.proofs.Prelude.{◌≡◌, ℕ, suc, ◌+◌, ◌-◌, ◌*◌, ◌==◌, Bool, List, [], ◌∷◌, ◌++◌, length, take, drop, filter, replicate, cond, Some, None, refl, sym, ap, ◌∙◌, subst, append-nil, add-zero, Instr, Ebreak, spelling, Sfiw, BundlePlace, Finding, bundle_place, bundle_bytes, Piece, IsReading, IsLongestReading, rest_of, is_empty, rest_finding, all_rules, w32, to_le_bytes, Nothing, Rule, V8, IsOwedBefore, BreaksAloneInWord, Sample, sandbox, words_of, bytes_of}
 use Rattle.std.proofs.Math.Bool.{and-false}
 use Rattle.sfi_rules.specs.declared.owed.Owed.{Owed}
-use Rattle.sfi_rules.specs.words.Owing.{owed_next}
+use Rattle.sfi_rules.specs.words.Rules.{owed_next}
 use Rattle.sfi_rules.specs.words.Findings.{breaks, found_at, found_from, owed_past, IsWordFound, AreFoundInBundle, AreFoundOfFirst, AreFindingsInWords}
 use Rattle.sfi_safety.specs.WordSamples.{in_words}
 use Rattle.sfi_safety.proofs.Readings.{IsSpelled, BeginsNothing, nothing_begins, longest_of, ebreak_spelled, wide}

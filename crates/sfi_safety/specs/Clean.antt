@@ -1,11 +1,9 @@
 -- Images without a finding, and that they may run.
 use Rattle.std.specs.Prelude.{ℕ, List, []}
-use Rattle.sfi_image.specs.Images.{IsImage}
-use Rattle.sfi_image.specs.Parts.{IsRightLayout}
+use Rattle.sfi_image.specs.Parts.{IsImage, IsRightLayout}
 use Rattle.sfi_image.specs.Spelling.{Part}
 use Rattle.sfi_rules.specs.Findings.{AreImageFindings}
-use Rattle.sfi_runs.specs.Safety.{AllRunSafely}
-use Rattle.sfi_runs.specs.Calls.{AllCallTyped}
+use Rattle.sfi_runs.specs.Safety.{AllRunSafely, AllCallTyped}
 
 -- the layout is right, and no rule is broken
 pub record IsClean (ps : List Part) : Type 0 where

@@ -6,14 +6,11 @@ use Rattle.rv_step.specs.State.{Hart, State}
 use Rattle.sfi_policy.specs.Formats.{has_words}
 use Rattle.sfi_image.specs.Spelling.{Part}
 use Rattle.sfi_image.specs.Parts.{IsRightPart}
-use Rattle.sfi_runs.specs.Regions.{HasReserved}
-use Rattle.sfi_runs.specs.Runs.{Turn, IsTurn, IsEntry, after_turn}
-use Rattle.sfi_runs.specs.Safety.{IsSafeState, IsSafeTurn, RunsSafely}
-use Rattle.sfi_runs.specs.Calls.{CallsTyped}
+use Rattle.sfi_runs.specs.Runs.{HasReserved, Turn, IsTurn, IsEntry, after_turn}
+use Rattle.sfi_runs.specs.Safety.{IsSafeState, IsSafeTurn, RunsSafely, CallsTyped}
 use Rattle.sfi_runs.specs.Padded.{RunsContained}
 use Rattle.sfi_runs.specs.Direct.{RunsDirectly}
-use Rattle.sfi_safety.specs.Leaving.{Leaves, WritesResult}
-use Rattle.sfi_safety.specs.Places.{IsCleanPart, AreCleanBundles, IsGood, IsGoodIf}
+use Rattle.sfi_safety.specs.Places.{Leaves, WritesResult, IsCleanPart, AreCleanBundles, IsGood, IsGoodIf}
 
 -- ---- of code in bundles
 

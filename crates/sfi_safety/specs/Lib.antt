@@ -1,5 +1,4 @@
 pub mod Laws
-pub mod Leaving
 pub mod Places
 pub mod Samples
 pub mod WordSamples

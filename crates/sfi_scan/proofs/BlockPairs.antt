@@ -2,16 +2,13 @@
 use Rattle.sfi_scan.proofs.Prelude.{◌≡◌, ◌≢◌, ℕ, ◌+◌, ◌*◌, ◌/◌, ◌%◌, ◌^◌, ◌<◌, Bool, true, false, not, inr, sym, ap, ap₂, ◌∙◌, arith, bit_and, nat_eq, nat_le, OnTrue, eqb-true, and_mask, and_block, Op, OpImm, Load, Store, And, Or, spelling, InRange, IsWordOf, Instr, refl, ◌-◌, ◌&&◌, ◌==◌, ℤ, pos, negsuc, inl, Some, eq-eqb, cases_lt, and_from, access, IsAccessOf, Access, is_data_register, uses}
 use Rattle.std.proofs.lemmas.Bool.{false≢true, leb-true, le-leb, lt-ltb, not-false}
 use Rattle.std.proofs.lemmas.Int.{ints}
-use Rattle.rv_word.specs.Formats.{i_format, s_format}
-use Rattle.rv_word.specs.Functs.{load_funct3, store_funct3}
-use Rattle.rv_word.specs.Numbers.{modulo}
+use Rattle.rv_word.specs.Spelling.{i_format, s_format, load_funct3, store_funct3, modulo, IsImm12}
 use Rattle.rv_word.specs.declared.instr.LoadKind.{LoadKind}
 use Rattle.rv_word.specs.declared.instr.LoadKind.TheVariants.{Lb, Lh, Lw, Lbu, Lhu}
 use Rattle.rv_word.specs.declared.instr.StoreWidth.{StoreWidth}
 use Rattle.rv_word.specs.declared.instr.StoreWidth.TheVariants.{Sb, Sh, Sw}
-use Rattle.rv_word.specs.Spelling.{IsImm12}
 use Rattle.rv_word.specs.declared.instr.ImmOp.TheVariants.{Addi}
-use Rattle.sfi_scan.specs.private.WordBlock.{IsMasking, IsPlacing, IsPair, IsStepOf, IsOffset, is_dropped, IsUseOf, IsUsedStep}
+use Rattle.sfi_scan.specs.private.Words.{IsMasking, IsPlacing, IsPair, IsStepOf, IsOffset, is_dropped, IsUseOf, IsUsedStep}
 use Rattle.sfi_rules.specs.words.Rules.{is_small}
 use Rattle.sfi_scan.proofs.PairTables.{any_of, kept, without_any, masking_word}
 

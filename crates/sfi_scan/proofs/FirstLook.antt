@@ -1,7 +1,7 @@
 -- The first look at a bundle: what breaks no rule.
 use Rattle.sfi_scan.proofs.Prelude.{◌≡◌, ℕ, ◌==◌, Bool, true, false, List, [], ◌∷◌, Option, Some, None, ℤ, pos, negsuc, of_z, to_z, SFits, refl, sym, ap, ◌∙◌, ◌⊎◌, subst, inl, inr, arith, ◌&&◌, ◌||◌, not, and_parts, and_right, or_parts, OnTrue, Instr, Op, OpImm, Load, Store, Branch, Jal, Jalr, Lui, Auipc, Fence, Ecall, Ebreak, And, Or, outline, spelling, IsWordOf, has_stack, is_stack, BundlePlace, is_reserved, follows_pair, follows_code_pair, Piece, Place, is_last_bundle, is_bundle_start, may_access, lowest, all_rules, IsWordOr0, AreBefore, is_protected, is_clean, is_zero, near, Outline, Computes, Loads, Words, not-true, or_left, w32, eq-eqb}
-use Rattle.rv_word.specs.Numbers.{offset_by}
-use Rattle.sfi_rules.specs.Stack.{begins_pair, ends_pair, precedes_pair, is_jump}
+use Rattle.rv_word.specs.Spelling.{offset_by}
+use Rattle.sfi_rules.specs.Readings.{begins_pair, ends_pair, precedes_pair, is_jump}
 use Rattle.std.proofs.lemmas.Bool.{or_right}
 use Rattle.std.proofs.lemmas.Int.{to_z-of_z}
 use Rattle.rv_word.proofs.Facts.{one_spelling}

@@ -2,14 +2,12 @@
 use Rattle.sfi_scan.proofs.Prelude.{◌++◌, bundle_bytes, ◌≡◌, ℕ, zero, suc, ◌+◌, ◌-◌, ◌*◌, ◌<◌, ◌≤◌, ◌==◌, ◌⊎◌, Bool, true, false, List, [], ◌∷◌, length, take, drop, get_or, inl, inr, refl, sym, ap, ◌∙◌, subst, arith, ne_eqb, length-drop, length-take, BundlePlace, Finding, Part, bundle_place, block_bundle, eq-eqb, ◌/◌, Owed, Nothing, AreFoundUpTo, stretch_place}
 use Rattle.std.proofs.lemmas.List.{get_or_default}
 use Rattle.std.proofs.lemmas.Bool.{or_right}
-use Rattle.sfi_image.specs.Gates.{is_gate_of}
-use Rattle.sfi_image.specs.Parts.{IsRightPart}
+use Rattle.sfi_image.specs.Parts.{is_gate_of, IsRightPart}
 use Rattle.sfi_image.specs.declared.part.Gate.{Gate}
 use Rattle.sfi_image.proofs.Facts.{whole_bundles}
 use Rattle.sfi_rules.proofs.Facts.{none_found}
-use Rattle.sfi_scan.specs.Stretches.{IsStretch, AreFoundInStretch}
+use Rattle.sfi_scan.specs.Stretches.{IsStretch, AreFoundInStretch, Lists}
 use Rattle.sfi_scan.proofs.WordStretches.{found_in_part}
-use Rattle.sfi_scan.specs.Listing.{Lists}
 use Rattle.sfi_scan.proofs.Stretches.{front_bundle, rest_bundle}
 
 -- ---- gates

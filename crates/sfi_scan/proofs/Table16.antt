@@ -1,9 +1,8 @@
 -- The table of halfwords that compute, seen right at each halfword.
 use Rattle.sfi_scan.proofs.Prelude.{List, ◌≡◌, ℕ, ◌+◌, ◌*◌, ◌/◌, ◌%◌, ◌<◌, Bool, true, false, ◌&&◌, ◌==◌, refl, ap, sym, ◌∙◌, subst, arith, Option, Some, IfSome, bit_and, ◌^◌, ◌≢◌, slice_index, ◌||◌, not, OnTrue, and_mask, agree_below, agree_below_at, and_parts, ne_eqb, outline, IsWordOf, has_stack, is_reserved, may_access, AreBefore, IsCleanOne, is_clean, is_clean_access, is_protected, BundlePlace, Before, near, Instr, Load, Store, IsHalfwordThat, access, IsAccessOf, Access, Outline, Computes, Words, not-true}
-use Rattle.rv_comp.specs.mirror.Decoding.{extended, jump_offset, branch_offset}
-use Rattle.rv_comp.specs.mirror.Outlining.{row_of, jump, jump_or_stop, outlined}
+use Rattle.rv_comp.specs.mirror.{extended, jump_offset, branch_offset, row_of, jump, jump_or_stop, outlined}
 use Rattle.sfi_scan.specs.declared.computing.TheConstants.{COMPUTING}
-use Rattle.sfi_scan.specs.private.FirstLook.{IsFreeHalf}
+use Rattle.sfi_scan.specs.private.Blocks.{IsFreeHalf}
 use Rattle.rv_comp.proofs.Facts.{halfwords_are_outlined}
 use Rattle.sfi_scan.proofs.PairTables.{second}
 

@@ -1,6 +1,6 @@
 -- The walk over a bundle: what is found so far, and what the rest adds.
 use Rattle.sfi_scan.proofs.Prelude.{◌≡◌, ℕ, ◌+◌, ◌-◌, ◌*◌, ◌%◌, ◌<◌, ◌≤◌, false, List, [], ◌∷◌, ◌++◌, length, take, drop, Option, Some, None, refl, sym, ap, ◌∙◌, subst, inl, inr, arith, append_assoc, length-drop, ◌&&◌, and_right, length-append, append-nil, drop_all, drop-drop, take_all, w16, from_le_bytes, Instr, Spells, IsCutShort, SpellsNothing, Before, BundlePlace, Rule, Finding, Piece, IsReading, IsLongestReading, rest_of, Place, is_empty, broken, lowest, all_rules, findings_from, rest_finding, rule_of_length, AreReadingFindings, near, finding_of, V1, V2}
-use Rattle.rv_word.specs.Lengths.{length_of}
+use Rattle.rv_word.specs.Spelling.{length_of}
 use Rattle.rv_word.specs.declared.length.Length.{Length}
 use Rattle.rv_word.specs.declared.length.Length.TheVariants.{Wide}
 use Rattle.sfi_rules.proofs.Readings.{IsStuck, spelled_within}

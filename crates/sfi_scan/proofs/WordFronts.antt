@@ -2,7 +2,7 @@
 use Rattle.sfi_scan.proofs.Prelude.{◌≡◌, ℕ, zero, suc, ◌+◌, ◌-◌, ◌*◌, ◌/◌, ◌<◌, List, [], take, drop, false, refl, sym, ap, ◌∙◌, subst, arith, take-take, drop-drop, drop-take, BundlePlace, bundle_at, block_bundle, Owed, IsWordFound, AreWordStretchFindings, stretch_place, IsCleanWord, AreCleanWords}
 use Rattle.sfi_rules.specs.words.Findings.{AreFoundInBundle}
 use Rattle.sfi_scan.specs.private.Scanning.{IsBlockStart, IsFrontClean}
-use Rattle.sfi_scan.specs.private.WordBlock.{bytes_at}
+use Rattle.sfi_scan.specs.private.Words.{bytes_at}
 use Rattle.sfi_scan.proofs.Fronts.{block_front}
 use Rattle.sfi_scan.proofs.Stretches.{place_in_block, rest_bundle}
 use Rattle.sfi_scan.proofs.WordStretches.{words_same}

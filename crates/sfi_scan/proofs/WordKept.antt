@@ -1,11 +1,10 @@
 -- What an instruction writes: a register that is free, or a typed one and what it then owes.
 use Rattle.sfi_scan.proofs.Prelude.{◌≡◌, ℕ, Bool, true, false, ◌&&◌, ◌||◌, ◌==◌, not, Option, Some, None, refl, sym, ap, ◌∙◌, subst, or_parts, eqb-true, Instr, is_reserved, destination, is_data_register, Owed, Nothing, owed_by, is_kept}
 use Rattle.std.proofs.lemmas.Bool.{and_left}
-use Rattle.rv_word.specs.Writes.{is_register}
+use Rattle.rv_word.specs.Outlines.{is_register}
 use Rattle.sfi_pairs.specs.Pairs.{is_masking}
 use Rattle.sfi_rules.specs.Rules.{breaks_reserved, is_reserved_one}
-use Rattle.sfi_rules.specs.words.Owing.{owed_of}
-use Rattle.sfi_rules.specs.words.Rules.{breaks_offset}
+use Rattle.sfi_rules.specs.words.Rules.{owed_of, breaks_offset}
 
 -- the instruction breaks neither V4 nor V12, and `own` must come after it
 pub record IsWrite (i : Instr) (own : Owed) : Type 0 where

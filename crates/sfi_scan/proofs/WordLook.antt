@@ -3,9 +3,8 @@ use Rattle.sfi_scan.proofs.Prelude.{◌≡◌, ℕ, ◌+◌, ◌≤◌, ◌==◌
 use Rattle.std.proofs.lemmas.Bool.{not_from_false}
 use Rattle.rv_word.proofs.Facts.{one_spelling}
 use Rattle.sfi_rules.specs.words.Findings.{lowest, found_at}
-use Rattle.sfi_rules.specs.words.Owing.{owed_next}
-use Rattle.sfi_rules.specs.words.Rules.{may_access}
-use Rattle.sfi_scan.specs.private.WordLook.{IsPlainHalf}
+use Rattle.sfi_rules.specs.words.Rules.{owed_next, may_access}
+use Rattle.sfi_scan.specs.private.Words.{IsPlainHalf}
 use Rattle.sfi_scan.proofs.WordPairs.{owing}
 use Rattle.sfi_scan.proofs.WordPlain.{plain, used}
 use Rattle.sfi_scan.proofs.WordReadings.{word_wide, word_two}

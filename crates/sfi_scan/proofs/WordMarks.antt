@@ -5,7 +5,7 @@ use Rattle.std.proofs.lemmas.Bool.{cases_Bool, or_cases, or_right}
 use Rattle.sfi_masks.specs.Masks.{AreMasksInWords}
 use Rattle.sfi_masks.specs.declared.masks.Masks.{Masks}
 use Rattle.sfi_scan.specs.declared.block.TheConstants.{EVEN}
-use Rattle.sfi_scan.specs.private.WordBlock.{IsQuietWord, IsSeen, IsToldFree}
+use Rattle.sfi_scan.specs.private.Words.{IsQuietWord, IsSeen, IsToldFree}
 use Rattle.sfi_scan.proofs.Bits.{in_or, in_rest, in_rest_other, in_shr, in_shl, in_shl_low, shl}
 use Rattle.sfi_scan.proofs.Seen.{stays, taken}
 use Rattle.sfi_scan.proofs.WordSteps.{in_below}

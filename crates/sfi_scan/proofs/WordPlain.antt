@@ -1,7 +1,7 @@
 -- What an outline tells of an instruction of code in words.
 use Rattle.sfi_scan.proofs.Prelude.{◌≡◌, ℕ, ◌==◌, Bool, true, false, ◌&&◌, not, Some, ℤ, pos, negsuc, refl, subst, OnTrue, and_parts, Instr, Op, OpImm, Load, Store, Branch, Jal, Jalr, Lui, Auipc, Ecall, outline, BundlePlace, is_zero, not-true, destination, Computes, uses, left, Nothing, MaskOrUse, is_kept, is_plain, IsQuiet, IsBeforeEnd}
 use Rattle.std.proofs.lemmas.Bool.{not_from_true}
-use Rattle.rv_word.specs.Numbers.{offset_by}
+use Rattle.rv_word.specs.Spelling.{offset_by}
 use Rattle.sfi_rules.specs.words.Rules.{may_access, is_word_start}
 use Rattle.sfi_scan.proofs.WordKept.{is_kept_one, unkept}
 use Rattle.sfi_scan.proofs.WordQuiet.{IsSafe, quiet_where}

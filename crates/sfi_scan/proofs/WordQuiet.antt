@@ -1,11 +1,10 @@
 -- Instructions of code in words that break no rule, and what is owed after them.
 use Rattle.sfi_scan.proofs.Prelude.{◌≡◌, ℕ, ◌+◌, ◌==◌, Bool, true, false, ◌&&◌, ◌||◌, not, Option, Some, is_some, sym, ap, ap₂, arith, and_right, ne_eqb, Instr, BundlePlace, destination, Owed, left, owed_by, IsQuiet, IsBeforeEnd}
 use Rattle.std.proofs.lemmas.Bool.{and_left, or_from}
-use Rattle.rv_word.specs.Writes.{is_register}
+use Rattle.rv_word.specs.Outlines.{is_register}
 use Rattle.sfi_rules.specs.Rules.{ends_region}
 use Rattle.sfi_rules.specs.words.Findings.{is_at_gate, is_data_one}
-use Rattle.sfi_rules.specs.words.Owing.{joined, is_of_data, is_of_code}
-use Rattle.sfi_rules.specs.words.Rules.{breaks_ecall, breaks_access, breaks_jump, breaks_target}
+use Rattle.sfi_rules.specs.words.Rules.{joined, is_of_data, is_of_code, breaks_ecall, breaks_access, breaks_jump, breaks_target}
 use Rattle.sfi_scan.proofs.WordKept.{IsWrite}
 use Rattle.sfi_scan.proofs.WordRules.{none_found}
 

@@ -3,11 +3,11 @@ use Rattle.sfi_scan.proofs.Prelude.{append_assoc, Option, None, ◌≡◌, ℕ, 
 use Rattle.rv_word.specs.declared.length.Length.{Length}
 use Rattle.rv_word.specs.declared.length.Length.TheVariants.{Wide}
 use Rattle.rv_word.specs.declared.length.Length.TheVariants as lengths
-use Rattle.rv_word.specs.Lengths.{length_of}
+use Rattle.rv_word.specs.Spelling.{length_of}
 use Rattle.sfi_rules.specs.declared.owed.Owed.TheVariants as kind
-use Rattle.sfi_rules.specs.words.Owing.{owed_next}
+use Rattle.sfi_rules.specs.words.Rules.{owed_next}
 use Rattle.sfi_rules.specs.words.Findings.{lowest, found_at, found_from, owed_past}
-use Rattle.sfi_rules.specs.Broken.{rest_finding, rule_of_length, broken}
+use Rattle.sfi_rules.specs.Rules.{rest_finding, rule_of_length, broken}
 use Rattle.sfi_rules.proofs.Readings.{IsStuck, spelled_within}
 use Rattle.sfi_scan.proofs.After.{longest_more, longest_none, no_bytes_left, tail_is}
 

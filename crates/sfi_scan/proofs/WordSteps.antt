@@ -2,7 +2,7 @@
 use Rattle.sfi_scan.proofs.Prelude.{◌≡◌, ◌≢◌, ℕ, zero, suc, ◌+◌, ◌-◌, ◌*◌, ◌/◌, ◌%◌, ◌^◌, ◌<◌, ◌≤◌, true, false, ◌==◌, ◌⊎◌, inl, inr, List, refl, sym, ap, ◌∙◌, subst, arith, w64, pow_pos, trailing_zeros, is_in, BundlePlace, IsWithinBlock, both_ways, cases_lt, Owed, Nothing, IsCleanWord, AreCleanWords}
 use Rattle.std.proofs.lemmas.Nat.{div_below}
 use Rattle.std.proofs.lemmas.Nat.Bits.{bit_at_above, bit_at-trailing_zeros}
-use Rattle.sfi_scan.specs.private.WordBlock.{IsSeen}
+use Rattle.sfi_scan.specs.private.Words.{IsSeen}
 use Rattle.sfi_scan.proofs.Bits.{in_shr, in_zero}
 
 -- ---- the first bit from a place on

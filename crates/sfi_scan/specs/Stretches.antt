@@ -1,16 +1,25 @@
--- Stretches of bundles: code of one region, one bundle behind another, of which only the first may be a
--- listed gate's. The caller cuts a region's code at each gate: the places of the other bundles of a
--- stretch say that no gate is listed there, whatever the image lists.
-use Rattle.std.specs.Prelude.{◌≡◌, ◌+◌, ◌*◌, ◌/◌, ◌^◌, ◌≤◌, ℕ, zero, suc, List, [], ◌++◌, length, MatchBool}
+-- Stretches of bundles, and the list that takes their findings.
+use Rattle.std.specs.Prelude.{◌≡◌, List, Bool, false, ◌++◌, ◌+◌, ◌*◌, ◌/◌, ◌^◌, ◌≤◌, ℕ, zero, suc, [], length, MatchBool}
+use Rattle.sfi_rules.specs.declared.finding.Finding.{Finding}
 use Rattle.sfi_policy.specs.Formats.{has_words}
 use Rattle.sfi_policy.specs.Limits.{bundle_size}
 use Rattle.sfi_image.specs.declared.bundle.BundlePlace.{BundlePlace}
-use Rattle.sfi_rules.specs.declared.finding.Finding.{Finding}
-use Rattle.sfi_rules.specs.Bundles.{block_bundle, bundle_at}
+use Rattle.sfi_rules.specs.Readings.{block_bundle, bundle_at}
 use Rattle.sfi_rules.specs.declared.owed.Owed.{Owed}
 use Rattle.sfi_rules.specs.declared.owed.Owed.TheVariants.{Nothing}
 use Rattle.sfi_rules.specs.Findings.{AreBundleFindings}
 use Rattle.sfi_rules.specs.words.Findings.{AreFoundInBundle}
+
+-- ==== A list that takes findings as long as there is memory.
+
+-- where the list has not run out of memory, it had not before, and these findings were added to its
+-- end
+abbrev pub Lists : List Finding → Bool → List Finding → List Finding → Bool → Type 0
+Lists old lacked found new lacks = lacks ≡ false → (lacked ≡ false) × (new ≡ old ++ found)
+
+-- ==== Stretches of bundles: code of one region, one bundle behind another, of which only the first
+-- may be a listed gate's. The caller cuts a region's code at each gate: the places of the other
+-- bundles of a stretch say that no gate is listed there, whatever the image lists.
 
 -- The bytes are `bundles` whole bundles, the first of which lies at `b`. All lie in b's code
 -- region, whose end is at most 2 ^ 32.

@@ -1,6 +1,6 @@
 //! The instructions directly after a place.
 ghost use Rattle.std.specs.Prelude.{◌≡◌, ◌+◌, ◌≤◌, length, List, []};
-ghost use Rattle.sfi_scan.specs.private.Near.{ahead};
+ghost use Rattle.sfi_scan.specs.private.Blocks.{ahead};
 ghost use Rattle.sfi_rules.specs.Readings.{Piece, IsLongestReading};
 
 use rv_comp::{Front, read_front};

@@ -2,9 +2,9 @@
 ghost use Rattle.std.specs.Prelude.{◌≡◌, ◌==◌, ◌&&◌, not, List, [], ◌∷◌};
 ghost use Rattle.rv_word.specs.declared.instr.Instr.{Instr};
 ghost use Rattle.sfi_pairs.specs.Pairs.{is_masking, is_placing};
-ghost use Rattle.sfi_policy.specs.Registers.{is_reserved};
-ghost use Rattle.sfi_rules.specs.Pairs.{follows_pair};
-ghost use Rattle.sfi_scan.specs.private.Near.{near};
+ghost use Rattle.sfi_policy.specs.Formats.{is_reserved};
+ghost use Rattle.sfi_rules.specs.Readings.{follows_pair};
+ghost use Rattle.sfi_scan.specs.private.Blocks.{near};
 
 use rv_word::{Instr, Reg, RegOp};
 use sfi_pairs::is_reserved;

@@ -5,10 +5,10 @@ ghost use Rattle.sfi_masks.specs.Masks.{is_in, IsFreeAccess, word_at as block_wo
 ghost use Rattle.sfi_policy.specs.Formats.{has_stack};
 ghost use Rattle.sfi_scan.specs.declared.before.Before.{Before};
 ghost use Rattle.sfi_image.specs.declared.bundle.BundlePlace.{BundlePlace};
-ghost use Rattle.sfi_rules.specs.Bundles.{IsWithin, IsWithinBlock, bundle_at, block_bundle};
+ghost use Rattle.sfi_rules.specs.Readings.{IsWithin, IsWithinBlock, bundle_at, block_bundle};
 ghost use Rattle.sfi_rules.specs.Findings.{AreReadingFindings};
-ghost use Rattle.sfi_scan.specs.private.Block.{AreStarts, AreAfterTwo, AreThreeWords, IsWithout, IsWritten, IsOfWrite, offset, words_from, IsCleanAt};
-ghost use Rattle.sfi_scan.specs.private.FirstLook.{half_at, word_at, AreWordsFrom, AreBefore};
+ghost use Rattle.sfi_scan.specs.private.Blocks.{AreStarts, AreAfterTwo, AreThreeWords, IsWithout, IsWritten, IsOfWrite, offset, words_from, IsCleanAt};
+ghost use Rattle.sfi_scan.specs.private.Blocks.{half_at, word_at, AreWordsFrom, AreBefore};
 
 use crate::clean::{Words, half_at, is_clean, is_stack_pair, is_stack_write, may_access, word_at};
 use rv_comp::outline16;

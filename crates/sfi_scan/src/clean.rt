@@ -2,19 +2,19 @@
 //! what it doesn't let pass may still be clean.
 ghost use Rattle.std.specs.Prelude.{◌≡◌, ◌+◌, ◌<◌, ◌≤◌, ◌&&◌, not, List, [], length, false, true};
 ghost use Rattle.std.specs.Bool.{OnTrue};
-ghost use Rattle.rv_comp.specs.Halfwords.{IsShortSpelling};
+ghost use Rattle.rv_comp.specs.Fronts.{IsShortSpelling};
 ghost use Rattle.rv_word.specs.declared.instr.Instr.{Instr};
 ghost use Rattle.rv_word.specs.Spelling.{IsWordOf};
 ghost use Rattle.sfi_policy.specs.Formats.{has_stack};
 ghost use Rattle.sfi_scan.specs.declared.before.Before.{Before};
-ghost use Rattle.sfi_rules.specs.Bundles.{IsWithin};
+ghost use Rattle.sfi_rules.specs.Readings.{IsWithin};
 ghost use Rattle.sfi_rules.specs.Findings.{AreReadingFindings};
-ghost use Rattle.sfi_scan.specs.private.Near.{near};
+ghost use Rattle.sfi_scan.specs.private.Blocks.{near};
 ghost use Rattle.sfi_policy.specs.Limits.{bundle_size};
-ghost use Rattle.sfi_policy.specs.Registers.{is_reserved};
-ghost use Rattle.sfi_rules.specs.Pairs.{follows_pair, follows_code_pair};
+ghost use Rattle.sfi_policy.specs.Formats.{is_reserved};
+ghost use Rattle.sfi_rules.specs.Readings.{follows_pair, follows_code_pair};
 ghost use Rattle.sfi_rules.specs.Rules.{is_last_bundle, may_access};
-ghost use Rattle.sfi_scan.specs.private.FirstLook.{half_at, word_at, AreWordsFrom, AreBefore, is_zero, is_protected, is_clean, is_clean_access, IsCleanOne, IsStackWrite, AreStackPair};
+ghost use Rattle.sfi_scan.specs.private.Blocks.{half_at, word_at, AreWordsFrom, AreBefore, is_zero, is_protected, is_clean, is_clean_access, IsCleanOne, IsStackWrite, AreStackPair};
 
 use crate::before::{CODE, DATA, Pair, may_be_target};
 use crate::computing::is_free_half;

@@ -3,7 +3,7 @@ ghost use Rattle.std.specs.Prelude.{◌≡◌, ℕ, ◌+◌, ◌*◌, ◌^◌, �
 ghost use Rattle.std.specs.Bool.{OnTrue};
 ghost use Rattle.sfi_policy.specs.Limits.{bundle_size};
 ghost use Rattle.sfi_masks.specs.Masks.{is_in};
-ghost use Rattle.sfi_rules.specs.Bundles.{IsWithin, IsWithinBlock, block_bundle, bundle_at};
+ghost use Rattle.sfi_rules.specs.Readings.{IsWithin, IsWithinBlock, block_bundle, bundle_at};
 ghost use Rattle.sfi_rules.specs.Findings.{AreReadingFindings};
 ghost use Rattle.sfi_scan.specs.Stretches.{IsStretch, IsScanned, IsStretchScanned, stretch_place};
 ghost use Rattle.sfi_scan.specs.private.Scanning.{IsInBytesOfBlock, IsBlockScanned, IsBlockStart, IsFrontScanned};

@@ -3,7 +3,7 @@ ghost use Rattle.std.specs.Prelude.{◌≡◌, not};
 ghost use Rattle.std.specs.Bool.{OnTrue};
 ghost use Rattle.sfi_policy.specs.Formats.{has_stack};
 ghost use Rattle.sfi_image.specs.declared.bundle.BundlePlace.{BundlePlace};
-ghost use Rattle.sfi_scan.specs.private.FirstLook.{IsFreeHalf};
+ghost use Rattle.sfi_scan.specs.private.Blocks.{IsFreeHalf};
 
 use crate::rules::STACK;
 

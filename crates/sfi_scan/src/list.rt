@@ -16,8 +16,8 @@ pub struct FindingList {
 }
 
 impl FindingSink for FindingList {
-    ghost use Rattle.sfi_scan.specs.Listing.{Lists};
-    ghost use Rattle.sfi_scan.specs.private.Listing.{lists_none, lists_more};
+    ghost use Rattle.sfi_scan.specs.Stretches.{Lists};
+    ghost use Rattle.sfi_scan.specs.private.Scanning.{lists_none, lists_more};
 
     ghost takes = { λ s found t. Lists s.found.items s.lacks_memory found t.found.items t.lacks_memory };
 

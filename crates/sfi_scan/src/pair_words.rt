@@ -2,9 +2,9 @@
 ghost use Rattle.std.specs.Prelude.{◌≡◌, List, true};
 ghost use Rattle.std.specs.Bool.{OnTrue};
 ghost use Rattle.rv_word.specs.declared.instr.Instr.{Instr};
-ghost use Rattle.sfi_rules.specs.Pairs.{follows_data_pair};
-ghost use Rattle.sfi_scan.specs.private.FirstLook.{AreBefore};
-ghost use Rattle.sfi_scan.specs.private.Near.{near};
+ghost use Rattle.sfi_rules.specs.Readings.{follows_data_pair};
+ghost use Rattle.sfi_scan.specs.private.Blocks.{AreBefore};
+ghost use Rattle.sfi_scan.specs.private.Blocks.{near};
 
 use rv_word::Reg;
 use sfi_policy::{DATA_BASE_REGISTER, DATA_MASK_REGISTER};

@@ -1,13 +1,13 @@
 //! The rules, each as a test on an instruction and what stands around it.
 ghost use Rattle.std.specs.Prelude.{◌≡◌, ◌&&◌, not, List};
-ghost use Rattle.rv_word.specs.Numbers.{offset_by};
+ghost use Rattle.rv_word.specs.Spelling.{offset_by};
 ghost use Rattle.rv_word.specs.declared.instr.Instr.{Instr};
 ghost use Rattle.sfi_rules.specs.Readings.{Piece, IsLongestReading};
-ghost use Rattle.sfi_rules.specs.Stack.{writes_stack, is_stack_pair, begins_pair, ends_pair, precedes_pair, is_jump};
-ghost use Rattle.sfi_rules.specs.Bundles.{IsWithin};
+ghost use Rattle.sfi_rules.specs.Readings.{writes_stack, is_stack_pair, begins_pair, ends_pair, precedes_pair, is_jump};
+ghost use Rattle.sfi_rules.specs.Readings.{IsWithin};
 ghost use Rattle.sfi_rules.specs.Rules.{Place, is_empty, is_bundle_start, is_last_bundle, breaks_ecall, breaks_reserved, breaks_access, breaks_jump, breaks_target, breaks_stack, may_write_stack, may_access, ends_region};
 ghost use Rattle.sfi_rules.specs.Findings.{lowest, all_rules};
-ghost use Rattle.sfi_scan.specs.private.Near.{near, ahead, finding_of};
+ghost use Rattle.sfi_scan.specs.private.Blocks.{near, ahead, finding_of};
 
 use crate::ahead::{Ahead, read_ahead};
 use crate::before::{Before, CODE, DATA, is_masking, is_placing};

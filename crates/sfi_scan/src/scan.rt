@@ -1,7 +1,7 @@
 //! The scan of a bundle.
 ghost use Rattle.std.specs.Prelude.{◌≡◌, ◌+◌, ◌<◌};
 ghost use Rattle.sfi_policy.specs.Limits.{bundle_size};
-ghost use Rattle.sfi_rules.specs.Bundles.{IsWithin};
+ghost use Rattle.sfi_rules.specs.Readings.{IsWithin};
 ghost use Rattle.sfi_rules.specs.Findings.{AreBundleFindings, AreReadingFindings};
 
 use crate::before::Before;

@@ -1,7 +1,7 @@
 //! The scan of code in words, 16 bytes at a time.
 ghost use Rattle.std.specs.Prelude.{◌≡◌, ◌*◌, ◌≤◌, ◌<◌, ℕ, IfSome, length};
 ghost use Rattle.sfi_policy.specs.Limits.{bundle_size};
-ghost use Rattle.sfi_rules.specs.Bundles.{IsWithin};
+ghost use Rattle.sfi_rules.specs.Readings.{IsWithin};
 ghost use Rattle.sfi_rules.specs.words.Findings.{AreFoundInBundle};
 ghost use Rattle.sfi_scan.specs.Stretches.{IsStretch, IsWordCodeScanned};
 ghost use Rattle.sfi_scan.specs.private.Scanning.{IsFrontClean, IsRunClean, IsWordFrontScanned};

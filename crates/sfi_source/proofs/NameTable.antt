@@ -13,7 +13,7 @@ use Rattle.std.proofs.lemmas.Slice.Eq.{bytes_eq-Decides}
 use Rattle.indexmap.specs.IndexMap.{insert_entry}
 use Rattle.sfi_source.specs.declared.item.Named.{Named}
 use Rattle.sfi_source.specs.declared.item.Named.TheVariants.{Unknown}
-use Rattle.sfi_source.specs.NameTable.{entry_of, meaning, place_of, placed, met}
+use Rattle.sfi_source.specs.Names.{entry_of, meaning, place_of, placed, met}
 
 -- texts that the test of names finds equal are equal
 pub same_text : (x y : List ℕ) → bytes_eq x y ≡ true → x ≡ y

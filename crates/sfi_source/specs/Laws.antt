@@ -2,7 +2,7 @@
 use Rattle.std.specs.Prelude.{◌≡◌, ◌<◌, ◌≤◌, ℕ, List, length}
 use Rattle.sfi_source.specs.declared.item.Named.{Named}
 use Rattle.sfi_source.specs.declared.item.Named.TheVariants.{Unknown}
-use Rattle.sfi_source.specs.NameTable.{meaning, place_of, met}
+use Rattle.sfi_source.specs.Names.{meaning, place_of, met}
 
 -- a name that is there is met without a change
 abbrev pub MetNamesStay : Type 0

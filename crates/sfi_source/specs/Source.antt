@@ -1,9 +1,9 @@
 -- What a text of the assembler means: sandboxes.
-use Rattle.std.specs.Prelude.{◌≡◌, ◌≢◌, ◌↔◌, ℕ, ◌^◌, ◌<◌, ◌≤◌, IsTrue, List, [], ◌∷◌, length, map, slice_get, Some, Contains, pos}
+use Rattle.std.specs.Prelude.{ℕ, ◌/◌, ◌%◌, ℤ, pos, ◌+ℤ◌, ◌-ℤ◌, ◌≡◌, ◌≢◌, ◌↔◌, ◌^◌, ◌<◌, ◌≤◌, IsTrue, List, [], ◌∷◌, length, map, slice_get, Some, Contains}
+use Rattle.rv_word.specs.Spelling.{modulo, IsReg, InRange}
 use Rattle.std.specs.List.{All, AllPairs}
 use Rattle.rv_word.specs.declared.instr.Instr.{Instr}
 use Rattle.rv_word.specs.declared.instr.Instr.TheVariants as instr
-use Rattle.rv_word.specs.Spelling.{IsReg, InRange}
 use Rattle.sfi_policy.specs.Limits.{data_most, gates_most, items_most, region_least, service_most}
 use Rattle.sfi_policy.specs.declared.format.Format.{Format}
 use Rattle.sfi_policy.specs.declared.format.Format.TheVariants.{Sfi1}
@@ -14,6 +14,22 @@ use Rattle.sfi_source.specs.declared.item.Body.{Body}
 use Rattle.sfi_source.specs.declared.item.Body.TheVariants.{Plain, To, High, Low}
 use Rattle.sfi_source.specs.declared.item.Item.{Item}
 use Rattle.sfi_source.specs.declared.item.SourceGate.{SourceGate}
+
+-- ==== The two halves of a 32-bit number that a lui and an addi put together.
+
+-- z + 2048 as 32 bits hold it: the nearest multiple of 4096 is its bits 31:12
+abbrev pub rounded : ℤ → ℕ
+rounded z = modulo 32 (z +ℤ pos 2048)
+
+-- the number of lui: (z + 2048) div 4096, rounded down, modulo 1048576
+abbrev pub upper : ℤ → ℕ
+upper z = rounded z / 4096
+
+-- the number of addi: the low 12 bits of z, signed
+abbrev pub lower : ℤ → ℤ
+lower z = pos (rounded z % 4096) -ℤ pos 2048
+
+-- ==== What a text of the assembler means: sandboxes.
 
 -- a sandbox: the format of its source, how many data bytes it has, its gates, its names with what
 -- they name, its instructions and its first data bytes

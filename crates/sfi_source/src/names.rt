@@ -3,7 +3,7 @@ ghost use Rattle.std.specs.Prelude.{◌≡◌, ◌<◌, ◌^◌, [], length, map
 ghost use Rattle.std.specs.List.{IsDistinct};
 ghost use Rattle.std.specs.Option.{option_copied};
 ghost use Rattle.std.specs.Str.{bytes_eq};
-ghost use Rattle.sfi_source.specs.NameTable.{meaning, place_of, placed, met};
+ghost use Rattle.sfi_source.specs.Names.{meaning, place_of, placed, met};
 
 use crate::item::Named;
 use indexmap::IndexMap;
@@ -19,7 +19,7 @@ pub struct Names {
 impl Model for Names {
     ghost use Rattle.std.specs.Prelude.{List, ℕ, map};
     ghost use Rattle.sfi_source.specs.declared.item.Named.{Named};
-    ghost use Rattle.sfi_source.specs.NameTable.{entry_of};
+    ghost use Rattle.sfi_source.specs.Names.{entry_of};
 
     ghost Value = { List (List ℕ × Named) };
 

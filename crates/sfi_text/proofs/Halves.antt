@@ -1,6 +1,6 @@
 -- The upper and the lower half of a number: they add up to it, and a lui and an addi hold them.
 use Rattle.sfi_text.proofs.Prelude.{◌≡◌, ℕ, ◌+◌, ◌-◌, ◌*◌, ◌/◌, ◌%◌, ◌^◌, ◌<◌, inl, inr, ap, ◌∙◌, arith, ℤ, pos, negsuc, ◌+ℤ◌, ◌-ℤ◌, ints, cases_lt, modulo, IsImm12, ConstantsAddUp}
-use Rattle.sfi_source.specs.Halves.{rounded, upper, lower}
+use Rattle.sfi_source.specs.Source.{rounded, upper, lower}
 
 -- 2048 less
 less : (r t : ℕ) → t < 2 ^ 32 → (t + 2048) % 2 ^ 32 ≡ r → modulo 32 (pos r -ℤ pos 2048) ≡ t

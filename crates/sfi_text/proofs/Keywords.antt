@@ -12,7 +12,7 @@ use Rattle.sfi_text.proofs.Lexing.{Passes}
 use Rattle.sfi_text.proofs.RegisterNames.{below}
 use Rattle.sfi_text.specs.declared.keyword.Keyword.TheVariants as keyword
 use Rattle.sfi_text.specs.declared.keyword.Directive.TheVariants.{Sandbox}
-use Rattle.sfi_text.specs.private.Lookup.{hash, candidate, mnemonic_in}
+use Rattle.sfi_text.specs.private.Reading.{hash, candidate, mnemonic_in}
 
 -- each name begins with a letter, and goes on with letters, digits, `_` and `.`
 abbrev is_name : List ℕ → Bool

@@ -3,7 +3,7 @@ use Rattle.sfi_text.proofs.Prelude.{◌≡◌, ℕ, List, [], ◌∷◌, ◌⊎�
 use Rattle.sfi_text.specs.declared.keyword.Directive.{Directive}
 use Rattle.sfi_text.specs.declared.keyword.Pseudo.{Pseudo}
 use Rattle.sfi_text.specs.declared.statement.Statement.{Statement}
-use Rattle.sfi_text.specs.private.Lists.{ReadsRow, ReadsInstr, ReadsAfter, ReadsList}
+use Rattle.sfi_text.specs.private.Lines.{ReadsRow, ReadsInstr, ReadsAfter, ReadsList}
 use Rattle.rv_word.specs.declared.instr.Cond.{Cond}
 use Rattle.sfi_text.specs.declared.cause.TextCause.TheVariants as cause
 use Rattle.sfi_text.specs.declared.mnemonic.Mnemonic.TheVariants as mnemonic

@@ -1,6 +1,6 @@
 -- A list of data is read in one way.
 use Rattle.sfi_text.proofs.Prelude.{◌≡◌, ℕ, List, [], ◌∷◌, ◌++◌, ◌⊎◌, inl, inr, refl, sym, ap, ◌∙◌, subst, ℤ, pos, Some, codes, flat_map, TextCause, NumberKind, Number, Comma, DataWidth, Takes, IsBlank, AreTokens, IsNumber, IsNumberOf, Differs, data_kind, data_bytes, operands, Writes, AreMore, LeadsByMore, NumberDeparts, MoreDeparts, ListDeparts}
-use Rattle.sfi_text.specs.private.Lists.{ReadsNumber, ReadsList, ReadsAnother}
+use Rattle.sfi_text.specs.private.Lines.{ReadsNumber, ReadsList, ReadsAnother}
 use Rattle.std.proofs.lemmas.List.{flat_map_more}
 use Rattle.sfi_text.specs.declared.cause.TextCause.TheVariants as cause
 use Rattle.sfi_text.proofs.Numbers.{number_unique}

@@ -1,6 +1,6 @@
 -- A text writes one number, and one whose digits write none of 64 bits writes none that 32 bits hold.
 use Rattle.sfi_text.proofs.Prelude.{◌≡◌, ℕ, ◌<◌, ◌^◌, List, ◌∷◌, ◌++◌, inl, inr, get_or, sym, ap, ◌∙◌, subst, arith, ℤ, pos, neg_ℤ, codes, ints, nat_tests, IsMagnitude, IsNumber, NumberKind, DataSize, IsNumberOf}
-use Rattle.sfi_text.specs.private.Numbers.{IsInReach}
+use Rattle.sfi_text.specs.private.Reading.{IsInReach}
 use Rattle.std.specs.Str.Parse.{AllDigits, digits_value}
 
 abbrev WritesNone : List ℕ → Type 0

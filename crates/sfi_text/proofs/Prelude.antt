@@ -9,25 +9,17 @@ pub use Rattle.std.proofs.lemmas.Result.{IfOk-weaker, on_ok_weaker}
 pub use Rattle.std.proofs.lemmas.Slice.Eq.{bytes_eq-Decides}
 pub use Rattle.std.specs.List.{AllByRecursion, prefix_len, flat_map, list_all, range_with_len, All, before_first, after_first}
 pub use Rattle.std.specs.Prelude.{◌≤ℤ◌, MatchResult, unsigned_abs, count_ones, MatchBool}
-pub use Rattle.sfi_source.specs.NameTable.{meaning, place_of, placed, met}
-pub use Rattle.sfi_source.specs.Names.{begins_name, continues_name, IsName, begins_label, IsLabel, IsShortLabel}
+pub use Rattle.sfi_source.specs.Names.{meaning, place_of, placed, met, begins_name, continues_name, IsName, begins_label, IsLabel, IsShortLabel}
 pub use Rattle.sfi_source.specs.Source.{IsDataSize, IsStraight, Sandbox, IsBody, IsThere, IsEntry, IsGate, IsSandbox, AreOf, format_of}
 pub use Rattle.sfi_source.specs.declared.item.Named.{Named}
 pub use Rattle.sfi_source.specs.declared.item.Named.TheVariants.{Unknown, Gate, Code, Data}
-pub use Rattle.sfi_text.specs.Constants.{constant, data_bytes, is_small, add_lower}
-pub use Rattle.sfi_text.specs.Effects.{Does, IsFree, Labels, RefusesLabel, Fits, GoesOn, with_stated, HasNoRoom, MayCome}
-pub use Rattle.sfi_text.specs.Forms.{IsNumberOf, form_of}
+pub use Rattle.sfi_text.specs.SoFar.{constant, data_bytes, is_small, add_lower, Does, IsFree, Labels, RefusesLabel, Fits, GoesOn, with_stated, HasNoRoom, MayCome, Begun, SoFar, nothing, begin, format_or_sfi1, last_sandbox, sandboxes, with_label, with_names, with_gate, items_of, with_bodies, with_bytes, Stated, format, sandbox, within, gate, compressed, bytes, plain, jump, address, StatedWithin, data_part}
+pub use Rattle.sfi_text.specs.Operands.{IsNumberOf, form_of, name_of, OperandValues, Stands, SaysFormat, mode_name, Departs, part_cause, Unformed, Missing, Differs, HasForm}
 pub use Rattle.sfi_text.specs.Keywords.{keyword_name, directive_form, directive_states, pseudo_form, pseudo_states, branch_form, branch_states, jal_form, jal_states, data_kind, place_of_keyword}
 pub use Rattle.sfi_text.specs.Laws.{ConstantsAddUp, OneMeaning, MeaningsAreInRange, LeadsOnce, LeadingIsNotRefused, RefusedOnce, OneSource, OneFault, MeantHasNoFault, OneCause, MeantIsNotRefused, PrintedReadsBack, SomeMeaning, SomeSource}
-pub use Rattle.sfi_text.specs.Leads.{LabelsLead, RestLeads, BeginsWithName, BeginsWithLabel, HasNoLabel, IsTaken, LabelRefused, PassesLabels, LeadsAfter, PassesLimit, OperandsRefused, RefusedAfter, RefusedFrom, StatementRefused, Leads, IsGateTwice, LineRefused}
+pub use Rattle.sfi_text.specs.Texts.{LabelsLead, RestLeads, BeginsWithName, BeginsWithLabel, HasNoLabel, IsTaken, LabelRefused, PassesLabels, LeadsAfter, PassesLimit, OperandsRefused, RefusedAfter, RefusedFrom, StatementRefused, Leads, IsGateTwice, LineRefused, uncommented, lines, LinesLead, LeadsFromNothing, FirstRefused, most_bytes, first_line, LineFault, MeansSource, IsFault}
 pub use Rattle.sfi_text.specs.Lines.{Writes, AreMore, IsRow, IsData, StatesAfter, InstrDeparts, RefusedWith, LeadsByMore, NumberDeparts, MoreDeparts, ListDeparts, NameRefused, After}
-pub use Rattle.sfi_text.specs.Mnemonics.{name_of}
-pub use Rattle.sfi_text.specs.Operands.{OperandValues, Stands, SaysFormat, mode_name, Departs, part_cause, Unformed, Missing, Differs, HasForm}
-pub use Rattle.sfi_text.specs.Printed.{number_text, format_name, part_text, operands_text, printed}
-pub use Rattle.sfi_text.specs.SoFar.{Begun, SoFar, nothing, begin, format_or_sfi1, last_sandbox, sandboxes, with_label, with_names, with_gate, items_of, with_bodies, with_bytes}
-pub use Rattle.sfi_text.specs.Stated.{Stated, format, sandbox, within, gate, compressed, bytes, plain, jump, address, StatedWithin, data_part}
-pub use Rattle.sfi_text.specs.Statement.{Means, Refused, RefusedAt, operands, mnemonic_of, operands_of, Spells, OperandsDepart, full_fence, IsBareFence}
-pub use Rattle.sfi_text.specs.Texts.{uncommented, lines, LinesLead, LeadsFromNothing, FirstRefused, most_bytes, first_line, LineFault, MeansSource, IsFault}
+pub use Rattle.sfi_text.specs.Statement.{number_text, format_name, part_text, operands_text, printed, Means, Refused, RefusedAt, operands, mnemonic_of, operands_of, Spells, OperandsDepart, full_fence, IsBareFence}
 pub use Rattle.sfi_text.specs.Tokens.{Takes, IsBlank, is_mark, IsMark, IsNumber, IsToken, IsStuck, is_space, IsMagnitude, AreTokens, LeadsTo}
 pub use Rattle.sfi_text.specs.declared.cause.TextCause.{TextCause}
 pub use Rattle.sfi_text.specs.declared.form.NumberKind.{NumberKind}
@@ -38,9 +30,7 @@ pub use Rattle.sfi_text.specs.declared.keyword.DataWidth.{DataWidth}
 pub use Rattle.sfi_text.specs.declared.keyword.Keyword.{Keyword}
 pub use Rattle.sfi_text.specs.declared.keyword.Pseudo.TheVariants.{Nop, Ret, Li}
 pub use Rattle.sfi_text.specs.declared.mnemonic.Mnemonic.{Mnemonic}
-pub use Rattle.sfi_text.specs.private.Reading.{FollowsToken, Reads, SameAt, Suits, AllSuit, slot, is_fresh, has_no_repeat, KeepsOthers, AgreesOn, FollowsName, Follows}
-pub use Rattle.sfi_text.specs.private.Scan.{body_of, token_len, begins_hex, after_sign}
-pub use Rattle.sfi_text.specs.private.Stated.{stated, IsRightStatement, place_of_stated, IsRightWithin, place_within}
-pub use Rattle.rv_word.specs.Numbers.{modulo, IsBetween}
-pub use Rattle.rv_word.specs.Spelling.{InRange, IsImm12}
+pub use Rattle.sfi_text.specs.private.Reading.{FollowsToken, Reads, SameAt, Suits, AllSuit, slot, is_fresh, has_no_repeat, KeepsOthers, AgreesOn, FollowsName, Follows, body_of, token_len, begins_hex, after_sign}
+pub use Rattle.sfi_text.specs.private.Lines.{stated, IsRightStatement, place_of_stated, IsRightWithin, place_within}
+pub use Rattle.rv_word.specs.Spelling.{modulo, IsBetween, InRange, IsImm12}
 pub use Rattle.rv_word.specs.declared.instr.Instr.{Instr}

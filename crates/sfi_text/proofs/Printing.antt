@@ -1,7 +1,7 @@
 -- What a printed word of each kind is: a name, a register, a decimal or a hexadecimal number.
 use Rattle.sfi_text.proofs.Prelude.{◌≡◌, ℕ, ◌<◌, ◌^◌, true, false, ◌++◌, inl, inr, refl, sym, arith, suc, ℤ, pos, negsuc, codes, ints, nat_tests, Mnemonic, NumberKind, Upper, IsNumber, IsToken, continues_name, name_of, IsNumberOf, number_text}
-use Rattle.sfi_text.specs.Registers.{x_name}
-use Rattle.sfi_text.specs.private.Numbers.{IsInReach}
+use Rattle.sfi_text.specs.Tokens.{x_name}
+use Rattle.sfi_text.specs.private.Reading.{IsInReach}
 use Rattle.std.proofs.lemmas.Fmt.{decimal_is_IsNumeral, digits_is_IsNumeral}
 use Rattle.std.specs.Char.{is_ascii_digit}
 use Rattle.std.specs.Fmt.{decimal, signed_decimal, digits}

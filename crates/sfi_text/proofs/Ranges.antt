@@ -1,8 +1,7 @@
 -- An instruction is in range where its operands fit its form.
 use Rattle.sfi_text.proofs.Prelude.{ℕ, ◌<◌, ◌^◌, Bool, true, false, arith, rules, ℤ, pos, MatchBool, if◌then◌else◌, ints, Instr, IsBetween, IsImm12, Immediate, ShiftAmount, IsNumberOf, form_of, AllSuit, mnemonic_of, operands_of, full_fence}
-use Rattle.rv_word.specs.Functs.{is_shift}
+use Rattle.rv_word.specs.Spelling.{is_shift, InRange}
 use Rattle.rv_word.specs.declared.instr.Instr.TheVariants as instr
-use Rattle.rv_word.specs.Spelling.{InRange}
 
 abbrev IsImmediate : Bool → ℤ → Type 0
 IsImmediate shift z = MatchBool shift (IsBetween (pos 0) (pos 31) z) (IsImm12 z)

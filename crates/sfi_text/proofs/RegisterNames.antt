@@ -1,12 +1,12 @@
 -- The table of the names of registers has just those that the definitions give.
 use Rattle.sfi_text.proofs.Prelude.{◌≡◌, ℕ, ◌+◌, ◌*◌, ◌%◌, ◌<◌, Bool, true, ◌&&◌, ◌||◌, List, [], ◌∷◌, map, get_or, slice_index, slice_index_or, length, ◌⊎◌, inl, inr, ⊎_elim, refl, sym, ap, ◌∙◌, subst, subst₂, arith, zero-add, Some, bytes_eq, nat_lt, codes, ◌==◌, list_all, range_with_len, bytes_eq-Decides, AllPass-from_list_all, get_or_from_slice_get, slice_get-get_or, and_parts, ltb-true, eqb-true, or_cases}
-use Rattle.sfi_text.specs.Registers.{abi_names, x_name, IsRegister}
+use Rattle.sfi_text.specs.Tokens.{abi_names, x_name, IsRegister}
 use Rattle.std.proofs.lemmas.List.{get_or-map, length-map}
 use Rattle.std.proofs.lemmas.List.FromFn.{length-range_with_len, get_or-range_with_len}
 use Rattle.std.specs.Fmt.{digits}
 use Rattle.sfi_text.proofs.Decided.{decided_same}
 use Rattle.sfi_text.specs.declared.register.TheConstants.{PLACES}
-use Rattle.sfi_text.specs.private.Lookup.{hash, name_place, register_names, name_at, register_at}
+use Rattle.sfi_text.specs.private.Reading.{hash, name_place, register_names, name_at, register_at}
 
 -- a test that passes at each number below a bound by computation
 pub below : (n : ℕ) (test : ℕ → Bool) → list_all test (range_with_len 0 n) ≡ true → (r : ℕ) → r < n → test r ≡ true

@@ -2,7 +2,7 @@
 use Rattle.sfi_text.proofs.Prelude.{◌≡◌, ◌≢◌, ℕ, zero, suc, ◌≤◌, true, List, [], ◌∷◌, length, ◌⊎◌, inl, inr, refl, sym, arith, rules, ℤ, pos, negsuc, IsTrue, codes, flat_map, ints, Instr, IsBetween, TextCause, Mnemonic, NumberKind, Part, Rd, Rs1, Rs2, Number, Name, Mode, ImageFormat, Comma, Open, Close, Nop, DataWidth, Keyword, IsBlank, form_of, data_bytes, OperandValues, Departs, part_cause, mnemonic_of, operands, operands_of, full_fence, IsBareFence, OperandsDepart, Reads, SameAt, AgreesOn, AllSuit, FollowsName, slot, is_fresh, has_no_repeat, directive_form, directive_states, pseudo_form, pseudo_states, branch_form, branch_states, jal_form, jal_states, data_kind, StatesAfter, LeadsByMore, NumberDeparts, ListDeparts, InstrDeparts, RefusedWith, Stated, within, plain, bytes}
 use Rattle.sfi_text.specs.declared.keyword.Directive.{Directive}
 use Rattle.sfi_text.specs.declared.keyword.Pseudo.{Pseudo}
-use Rattle.sfi_text.specs.private.Lists.{ReadsNumber, ReadsList, MoreDepartsAfter, ReadsRow, ReadsInstr, ReadsAfter}
+use Rattle.sfi_text.specs.private.Lines.{ReadsNumber, ReadsList, MoreDepartsAfter, ReadsRow, ReadsInstr, ReadsAfter}
 use Rattle.sfi_text.specs.declared.cause.TextCause.TheVariants as cause
 use Rattle.sfi_text.specs.declared.mnemonic.Mnemonic.TheVariants as mnemonic
 use Rattle.sfi_text.specs.declared.keyword.Directive.TheVariants as directive

@@ -4,7 +4,7 @@ use Rattle.std.proofs.Math.ListN.{drop_of_length-le}
 use Rattle.std.proofs.Math.Seq.{take-append_seam, drop-append_seam}
 use Rattle.std.proofs.lemmas.List.Folds.{length-prefix_len}
 use Rattle.std.specs.Str.{IsUtf8, IsCharBoundary}
-use Rattle.sfi_text.specs.private.Scan.{body_of, token_len}
+use Rattle.sfi_text.specs.private.Reading.{body_of, token_len}
 use Rattle.sfi_text.proofs.Lexing.{front_passes, token_within, token_found, token_begins, token_len-le, cut_after_ascii, blank_ascii, token_ascii}
 
 skips : (gap : List ℕ) (c : ℕ) (cs : List ℕ) → IsBlank gap → is_space c ≡ false → prefix_len is_space (gap ++ (c ∷ cs)) ≡ length gap

@@ -1,8 +1,8 @@
 -- Reading a text line by line.
 use Rattle.sfi_text.proofs.Prelude.{◌≡◌, sym, ap, subst, ◌∙◌, ℕ, ◌⊎◌, inl, inr, List, [], ◌∷◌, length, length-append, ◌==◌, Option, None, Some, Bor, Result, Ok, Err, IfOk, IfErr, arith, MatchOption, MatchResult, before_first, after_first, fails_before_first, split_at_first, TextCause, Sandbox, SoFar, LineRefused, lines, uncommented, LinesLead, LineFault, FirstRefused, MeansSource, IsFault}
-use Rattle.sfi_text.specs.Causes.{memory}
+use Rattle.sfi_text.specs.Tokens.{memory}
 use Rattle.sfi_text.specs.declared.fault.TextFault.{TextFault}
-use Rattle.sfi_text.specs.private.Texts.{BeginsWithLine}
+use Rattle.sfi_text.specs.private.Lines.{BeginsWithLine}
 use Rattle.std.proofs.lemmas.List.Splits.{slice_split_none, slice_split_first}
 use Rattle.std.proofs.lemmas.Str.Pattern.{IsSplitOnceResult, split_once_first}
 use Rattle.sfi_text.specs.declared.cause.TextCause.TheVariants as cause

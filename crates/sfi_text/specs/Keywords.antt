@@ -19,10 +19,8 @@ use Rattle.sfi_text.specs.declared.form.NumberKind.{NumberKind}
 use Rattle.sfi_text.specs.declared.form.NumberKind.TheVariants.{DataSize, Service, Word, Half, Byte, ZeroCount}
 use Rattle.sfi_text.specs.declared.form.Part.{Part}
 use Rattle.sfi_text.specs.declared.form.Part.TheVariants.{Rd, Rs1, Rs2, Number, Name, Mode, ImageFormat, Comma}
-use Rattle.sfi_text.specs.Mnemonics.{name_of}
-use Rattle.sfi_text.specs.Operands.{OperandValues}
-use Rattle.sfi_text.specs.Constants.{constant}
-use Rattle.sfi_text.specs.Stated.{Stated, format, sandbox, within, gate, compressed, data_part, bytes, plain, jump, address}
+use Rattle.sfi_text.specs.Operands.{name_of, OperandValues}
+use Rattle.sfi_text.specs.SoFar.{constant, Stated, format, sandbox, within, gate, compressed, data_part, bytes, plain, jump, address}
 
 -- directives
 abbrev pub directive_name : Directive → List ℕ

@@ -1,17 +1,13 @@
 -- Laws of the text of an instruction, and of the text of a source.
 use Rattle.std.specs.Prelude.{◌≡◌, ◌⊎◌, ℕ, ◌*◌, List, ℤ, pos, ◌+ℤ◌}
 use Rattle.rv_word.specs.declared.instr.Instr.{Instr}
-use Rattle.rv_word.specs.Numbers.{modulo}
-use Rattle.rv_word.specs.Spelling.{InRange}
+use Rattle.rv_word.specs.Spelling.{modulo, InRange}
 use Rattle.sfi_text.specs.declared.cause.TextCause.{TextCause}
-use Rattle.sfi_text.specs.Statement.{Means, Refused}
-use Rattle.sfi_text.specs.Printed.{printed}
+use Rattle.sfi_text.specs.Statement.{Means, Refused, printed}
 use Rattle.sfi_text.specs.declared.fault.TextFault.{TextFault}
-use Rattle.sfi_source.specs.Source.{Sandbox}
+use Rattle.sfi_source.specs.Source.{Sandbox, upper, lower}
 use Rattle.sfi_text.specs.SoFar.{SoFar}
-use Rattle.sfi_text.specs.Leads.{Leads, LineRefused}
-use Rattle.sfi_text.specs.Texts.{MeansSource, IsFault}
-use Rattle.sfi_source.specs.Halves.{upper, lower}
+use Rattle.sfi_text.specs.Texts.{Leads, LineRefused, MeansSource, IsFault}
 
 -- a text means one instruction at most
 abbrev pub OneMeaning : Type 0

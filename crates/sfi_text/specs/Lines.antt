@@ -14,13 +14,10 @@ use Rattle.sfi_text.specs.declared.keyword.Keyword.{Keyword}
 use Rattle.sfi_text.specs.declared.keyword.Keyword.TheVariants as keyword
 use Rattle.sfi_text.specs.Tokens.{IsNumber, Takes, AreTokens}
 use Rattle.sfi_source.specs.Names.{IsName}
-use Rattle.sfi_text.specs.Mnemonics.{name_of}
-use Rattle.sfi_text.specs.Forms.{IsNumberOf}
-use Rattle.sfi_text.specs.Operands.{OperandValues, HasForm, Unformed, Missing, Differs, Departs}
+use Rattle.sfi_text.specs.Operands.{name_of, IsNumberOf, OperandValues, HasForm, Unformed, Missing, Differs, Departs}
 use Rattle.sfi_text.specs.Statement.{Spells, OperandsDepart}
-use Rattle.sfi_text.specs.Constants.{data_bytes}
+use Rattle.sfi_text.specs.SoFar.{data_bytes, Stated, within, bytes, plain}
 use Rattle.sfi_text.specs.Keywords.{directive_form, directive_states, pseudo_form, pseudo_states, branch_form, branch_states, jal_form, jal_states, data_kind, keyword_name}
-use Rattle.sfi_text.specs.Stated.{Stated, within, bytes, plain}
 
 -- `tokens` stand at the parts of `form`, and their operands state `s`
 abbrev pub IsRow : List Part → (OperandValues → Stated) → List (List ℕ) → Stated → Type 0

@@ -1,16 +1,142 @@
--- The operands of a statement, and the tokens that give them.
-use Rattle.std.specs.Prelude.{◌≡◌, ℕ, ◌≤◌, ◌⊎◌, Bool, true, false, List, [], ◌∷◌, length, ℤ, if◌then◌else◌, codes, pos}
-use Rattle.sfi_policy.specs.Limits.{name_most}
+-- Mnemonics, and the operands that follow each.
+use Rattle.std.specs.Prelude.{ℕ, List, codes, ◌≡◌, [], ◌∷◌, ℤ, pos, negsuc, if◌then◌else◌, ◌≤◌, ◌⊎◌, Bool, true, false, length}
+use Rattle.rv_word.specs.declared.instr.RegOp.{RegOp}
+use Rattle.rv_word.specs.declared.instr.RegOp.TheVariants.{Add, Sub, Sll, Slt, Sltu, Xor, Srl, Sra, Or, And, Mul, Mulh, Mulhsu, Mulhu, Div, Divu, Rem, Remu}
+use Rattle.rv_word.specs.declared.instr.ImmOp.{ImmOp}
+use Rattle.rv_word.specs.declared.instr.ImmOp.TheVariants.{Addi, Slti, Sltiu, Xori, Ori, Andi, Slli, Srli, Srai}
+use Rattle.rv_word.specs.declared.instr.LoadKind.{LoadKind}
+use Rattle.rv_word.specs.declared.instr.LoadKind.TheVariants.{Lb, Lh, Lw, Lbu, Lhu}
+use Rattle.rv_word.specs.declared.instr.StoreWidth.{StoreWidth}
+use Rattle.rv_word.specs.declared.instr.StoreWidth.TheVariants.{Sb, Sh, Sw}
+use Rattle.rv_word.specs.declared.instr.Cond.{Cond}
+use Rattle.rv_word.specs.declared.instr.Cond.TheVariants.{Beq, Bne, Blt, Bge, Bltu, Bgeu}
+use Rattle.sfi_text.specs.declared.mnemonic.Mnemonic.{Mnemonic}
+use Rattle.sfi_text.specs.declared.mnemonic.Mnemonic.TheVariants as mnemonic
+use Rattle.rv_word.specs.Spelling.{IsBetween, is_shift, IsImm12, IsBranchOffset, IsJumpOffset}
+use Rattle.sfi_policy.specs.Limits.{data_most, service_most, name_most}
+use Rattle.sfi_source.specs.Source.{IsDataSize}
+use Rattle.sfi_text.specs.declared.form.NumberKind.{NumberKind}
+use Rattle.sfi_text.specs.declared.form.NumberKind.TheVariants.{Immediate, ShiftAmount, BranchOffset, JumpOffset, Upper, FenceFields, DataSize, Service, Word, Half, Byte, ZeroCount}
+use Rattle.sfi_text.specs.declared.form.Part.{Part}
+use Rattle.sfi_text.specs.declared.form.Part.TheVariants.{Rd, Rs1, Rs2, Number, Comma, Open, Close, Name, Mode, ImageFormat}
 use Rattle.sfi_text.specs.declared.cause.TextCause.{TextCause}
 use Rattle.sfi_text.specs.declared.cause.TextCause.TheVariants as cause
 use Rattle.sfi_policy.specs.declared.format.Format.{Format}
 use Rattle.sfi_policy.specs.declared.format.Format.TheVariants.{Sfi1, Sfi2, Sfiw}
-use Rattle.sfi_text.specs.declared.form.Part.{Part}
-use Rattle.sfi_text.specs.declared.form.Part.TheVariants.{Rd, Rs1, Rs2, Number, Name, Mode, ImageFormat, Comma, Open, Close}
-use Rattle.sfi_text.specs.Tokens.{IsNumber, is_too_long, Takes, IsBlank, IsStuck}
+use Rattle.sfi_text.specs.Tokens.{IsNumber, is_too_long, Takes, IsBlank, IsStuck, IsRegister}
 use Rattle.sfi_source.specs.Names.{IsLabel}
-use Rattle.sfi_text.specs.Registers.{IsRegister}
-use Rattle.sfi_text.specs.Forms.{IsNumberOf}
+
+-- ==== The names of the instructions. RISC-V Unprivileged ISA, chapter "RV32/64G Instruction Set
+-- Listings".
+
+-- computations on two registers
+abbrev pub op_name : RegOp → List ℕ
+op_name Add = codes "add"
+op_name Sub = codes "sub"
+op_name Sll = codes "sll"
+op_name Slt = codes "slt"
+op_name Sltu = codes "sltu"
+op_name Xor = codes "xor"
+op_name Srl = codes "srl"
+op_name Sra = codes "sra"
+op_name Or = codes "or"
+op_name And = codes "and"
+op_name Mul = codes "mul"
+op_name Mulh = codes "mulh"
+op_name Mulhsu = codes "mulhsu"
+op_name Mulhu = codes "mulhu"
+op_name Div = codes "div"
+op_name Divu = codes "divu"
+op_name Rem = codes "rem"
+op_name Remu = codes "remu"
+
+-- computations on an immediate
+abbrev pub immediate_name : ImmOp → List ℕ
+immediate_name Addi = codes "addi"
+immediate_name Slti = codes "slti"
+immediate_name Sltiu = codes "sltiu"
+immediate_name Xori = codes "xori"
+immediate_name Ori = codes "ori"
+immediate_name Andi = codes "andi"
+immediate_name Slli = codes "slli"
+immediate_name Srli = codes "srli"
+immediate_name Srai = codes "srai"
+
+-- loads
+abbrev pub load_name : LoadKind → List ℕ
+load_name Lb = codes "lb"
+load_name Lh = codes "lh"
+load_name Lw = codes "lw"
+load_name Lbu = codes "lbu"
+load_name Lhu = codes "lhu"
+
+-- stores
+abbrev pub store_name : StoreWidth → List ℕ
+store_name Sb = codes "sb"
+store_name Sh = codes "sh"
+store_name Sw = codes "sw"
+
+-- branches
+abbrev pub branch_name : Cond → List ℕ
+branch_name Beq = codes "beq"
+branch_name Bne = codes "bne"
+branch_name Blt = codes "blt"
+branch_name Bge = codes "bge"
+branch_name Bltu = codes "bltu"
+branch_name Bgeu = codes "bgeu"
+
+-- an instruction's name
+abbrev pub name_of : Mnemonic → List ℕ
+name_of (mnemonic.Op op) = op_name op
+name_of (mnemonic.OpImm op) = immediate_name op
+name_of (mnemonic.Load kind) = load_name kind
+name_of (mnemonic.Store width) = store_name width
+name_of (mnemonic.Branch cond) = branch_name cond
+name_of mnemonic.Jal = codes "jal"
+name_of mnemonic.Jalr = codes "jalr"
+name_of mnemonic.Lui = codes "lui"
+name_of mnemonic.Auipc = codes "auipc"
+name_of mnemonic.Fence = codes "fence"
+name_of mnemonic.Ecall = codes "ecall"
+name_of mnemonic.Ebreak = codes "ebreak"
+
+-- ==== What stands after the name of each instruction, and which numbers may stand in a statement.
+
+-- a number of this kind: one that the instruction's field, or the directive's, can hold
+abbrev pub IsNumberOf : NumberKind → ℤ → Type 0
+IsNumberOf Immediate z = IsImm12 z
+IsNumberOf ShiftAmount z = IsBetween (pos 0) (pos 31) z
+IsNumberOf BranchOffset z = IsBranchOffset z
+IsNumberOf JumpOffset z = IsJumpOffset z
+IsNumberOf Upper z = IsBetween (pos 0) (pos 1048575) z
+IsNumberOf FenceFields z = IsBetween (pos 0) (pos 4095) z
+IsNumberOf DataSize z = (size : ℕ) × (z ≡ pos size) × IsDataSize size
+IsNumberOf Service z = IsBetween (pos 0) (pos service_most) z
+IsNumberOf Word z = IsBetween (negsuc 2147483647) (pos 4294967295) z
+IsNumberOf Half z = IsBetween (negsuc 32767) (pos 65535) z
+IsNumberOf Byte z = IsBetween (negsuc 127) (pos 255) z
+IsNumberOf ZeroCount z = IsBetween (pos 0) (pos data_most) z
+
+-- a shift's amount, or an immediate of 12 bits
+abbrev pub immediate_kind : ImmOp → NumberKind
+immediate_kind op = if is_shift op then ShiftAmount else Immediate
+
+-- the operands after the name, and the marks between them
+abbrev pub form_of : Mnemonic → List Part
+form_of (mnemonic.Op op) = Rd ∷ Comma ∷ Rs1 ∷ Comma ∷ Rs2 ∷ []
+form_of (mnemonic.OpImm op) = Rd ∷ Comma ∷ Rs1 ∷ Comma ∷ Number (immediate_kind op) ∷ []
+form_of (mnemonic.Load kind) = Rd ∷ Comma ∷ Number Immediate ∷ Open ∷ Rs1 ∷ Close ∷ []
+form_of (mnemonic.Store width) = Rs2 ∷ Comma ∷ Number Immediate ∷ Open ∷ Rs1 ∷ Close ∷ []
+form_of (mnemonic.Branch cond) = Rs1 ∷ Comma ∷ Rs2 ∷ Comma ∷ Number BranchOffset ∷ []
+form_of mnemonic.Jal = Rd ∷ Comma ∷ Number JumpOffset ∷ []
+form_of mnemonic.Jalr = Rd ∷ Comma ∷ Number Immediate ∷ Open ∷ Rs1 ∷ Close ∷ []
+form_of mnemonic.Lui = Rd ∷ Comma ∷ Number Upper ∷ []
+form_of mnemonic.Auipc = Rd ∷ Comma ∷ Number Upper ∷ []
+form_of mnemonic.Fence = Number FenceFields ∷ Comma ∷ Rd ∷ Comma ∷ Rs1 ∷ []
+form_of mnemonic.Ecall = []
+form_of mnemonic.Ebreak = []
+
+-- ==== The operands of a statement, and the tokens that give them.
 
 -- the operands of a statement: registers, a number, a name, whether `rvc` stands there, and a format
 pub record OperandValues : Type 0 where

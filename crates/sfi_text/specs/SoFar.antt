@@ -1,13 +1,80 @@
--- The source so far: what the lines read so far have made.
-use Rattle.std.specs.Prelude.{ℕ, Bool, true, false, ◌||◌, not, List, [], ◌∷◌, ◌++◌, Option, None, Some, length, if◌then◌else◌}
+-- What the lines of a source make, one after another.
+use Rattle.std.specs.Prelude.{ℕ, List, Bool, [], ◌∷◌, ◌&&◌, ◌==◌, ℤ, pos, negsuc, int_le, unsigned_abs, if◌then◌else◌, true, false, ◌||◌, not, ◌++◌, Option, None, Some, length, ◌≡◌, ◌+◌, ◌<◌, ◌≤◌, ◌⊎◌, map}
+use Rattle.rv_word.specs.declared.instr.Instr.{Instr}
 use Rattle.sfi_policy.specs.declared.format.Format.{Format}
+use Rattle.std.specs.Int.{w16, w32, to_le_bytes}
+use Rattle.rv_word.specs.declared.instr.Instr.TheVariants as instr
+use Rattle.rv_word.specs.declared.instr.ImmOp.TheVariants.{Addi}
+use Rattle.rv_word.specs.Spelling.{modulo}
+use Rattle.sfi_source.specs.Source.{upper, lower, Sandbox}
+use Rattle.sfi_text.specs.declared.keyword.DataWidth.{DataWidth}
+use Rattle.sfi_text.specs.declared.keyword.DataWidth.TheVariants.{Word, Half, Byte}
 use Rattle.sfi_policy.specs.declared.format.Format.TheVariants.{Sfi1}
 use Rattle.sfi_source.specs.declared.item.Body.{Body}
 use Rattle.sfi_source.specs.declared.item.Item.{Item}
 use Rattle.sfi_source.specs.declared.item.Named.{Named}
-use Rattle.sfi_source.specs.declared.item.Named.TheVariants.{Gate, Code, Data}
-use Rattle.sfi_source.specs.NameTable.{place_of, placed}
-use Rattle.sfi_source.specs.Source.{Sandbox}
+use Rattle.sfi_source.specs.declared.item.Named.TheVariants.{Gate, Code, Data, Unknown}
+use Rattle.sfi_source.specs.Names.{place_of, placed, meaning, met}
+use Rattle.std.specs.Option.{IsSomeAnd}
+use Rattle.sfi_policy.specs.Limits.{gates_most, items_most, name_most}
+use Rattle.sfi_text.specs.declared.cause.TextCause.{TextCause}
+use Rattle.sfi_text.specs.declared.cause.TextCause.TheVariants as cause
+use Rattle.sfi_source.specs.declared.item.Body.TheVariants.{Plain, To, High, Low}
+use Rattle.sfi_text.specs.declared.statement.Place.{Place}
+use Rattle.sfi_text.specs.declared.statement.Place.TheVariants as place
+
+-- ==== What one line of source states, after its labels.
+
+-- what a line states within the sandbox begun last; a name is its text
+pub data StatedWithin : Type 0 where
+  -- the name is that of a gate of this service
+  gate : (name : List ℕ) (service : ℕ) → StatedWithin
+  -- whether 16-bit forms are taken from here on
+  compressed : (rvc : Bool) → StatedWithin
+  -- the data follow
+  data_part : StatedWithin
+  -- these bytes of data
+  bytes : (values : List ℕ) → StatedWithin
+  -- these instructions, none of which names a place
+  plain : (instrs : List Instr) → StatedWithin
+  -- a jump or a branch, with offset 0, to the place of this name
+  jump : (instr : Instr) (name : List ℕ) → StatedWithin
+  -- the register takes the address of the place of this name
+  address : (rd : ℕ) (name : List ℕ) → StatedWithin
+
+-- what a line states
+pub data Stated : Type 0 where
+  -- the format of the source is this one
+  format : (value : Format) → Stated
+  -- a sandbox with `size` bytes of data begins
+  sandbox : (size : ℕ) → Stated
+  -- something within the sandbox begun last
+  within : (what : StatedWithin) → Stated
+
+-- ==== The instructions that put a number into a register, and the bytes of a number in data.
+
+-- one addi can put the number into a register
+abbrev pub is_small : ℤ → Bool
+is_small z = int_le (negsuc 2047) z && int_le z (pos 2047)
+
+-- an addi to the register itself, unless it adds 0
+abbrev pub add_lower : ℕ → ℤ → List Instr
+add_lower rd z =
+    if unsigned_abs (lower z) == 0 then [] else instr.OpImm Addi rd rd (lower z) ∷ []
+
+-- what li stands for
+abbrev pub constant : ℕ → ℤ → List Instr
+constant rd z =
+    if is_small z then instr.OpImm Addi rd 0 z ∷ []
+    else instr.Lui rd (upper z) ∷ add_lower rd z
+
+-- the bytes of a number in data, the lowest first
+abbrev pub data_bytes : DataWidth → ℤ → List ℕ
+data_bytes Word z = to_le_bytes w32 (modulo 32 z)
+data_bytes Half z = to_le_bytes w16 (modulo 16 z)
+data_bytes Byte z = modulo 8 z ∷ []
+
+-- ==== The source so far: what the lines read so far have made.
 
 -- the sandbox begun last
 pub record Begun : Type 0 where
@@ -121,3 +188,74 @@ with_bodies line bodies b =
 -- the sandbox after more bytes of data
 abbrev pub with_bytes : List ℕ → Begun → Begun
 with_bytes bytes b = record b { sandbox = record b.sandbox { bytes = b.sandbox.bytes ++ bytes } }
+
+-- ==== What a label and a statement do to the source so far, and what keeps them from it.
+
+-- the name may still be given to a label or a gate: it names nothing yet
+abbrev pub IsFree : List ℕ → Begun → Type 0
+IsFree name b = meaning b.sandbox.names name ≡ Unknown
+
+-- a label of this name may come in the sandbox begun last, and changes `old` to `new`
+abbrev pub Labels : List ℕ → SoFar → SoFar → Type 0
+Labels name old new =
+    (b : Begun) × (old.begun ≡ Some b) × (length name ≤ name_most) × IsFree name b
+    × (new ≡ record old { begun = Some (with_label name b) })
+
+-- a label of this name is refused: no sandbox was begun, the name is too long,
+-- or a label or a gate has it already
+abbrev pub RefusesLabel : List ℕ → SoFar → TextCause → Type 0
+RefusesLabel name old e =
+    ((old.begun ≡ None) × (e ≡ cause.Directive))
+    ⊎ ((b : Begun) × (old.begun ≡ Some b)
+    × (((name_most < length name) × (e ≡ cause.Limit))
+    ⊎ ((length name ≤ name_most) × (IsFree name b → ⊥) × (e ≡ cause.LabelTwice))))
+
+-- a statement of this kind may come there: the format once, before the first sandbox, gates before
+-- the sandbox's first label and instruction, instructions in the code part, data in the data part
+abbrev pub MayCome : Place → SoFar → Type 0
+MayCome place.Head s = (s.format ≡ None) × (s.begun ≡ None)
+MayCome place.Outside s = Unit {0}
+MayCome place.Gates s = IsSomeAnd s.begun (λ b. b.opened ≡ false)
+MayCome place.Code s = IsSomeAnd s.begun (λ b. b.in_data ≡ false)
+MayCome place.Data s = IsSomeAnd s.begun (λ b. b.in_data ≡ true)
+
+-- `b` has room for what is stated: for gates and instructions up to a limit, for bytes up to the
+-- size of data with which it was begun
+abbrev pub Fits : StatedWithin → Begun → Type 0
+Fits (gate name service) b = length b.sandbox.gates + 1 ≤ gates_most
+Fits (bytes values) b = length b.sandbox.bytes + length values ≤ b.sandbox.data_size
+Fits (plain instrs) b = length b.sandbox.items + length instrs ≤ items_most
+Fits (jump instr name) b = length b.sandbox.items + 1 ≤ items_most
+Fits (address rd name) b = length b.sandbox.items + 2 ≤ items_most
+Fits _ b = Unit {0}
+
+-- the sandbox after a statement of a line; a name that an instruction goes to is met
+abbrev pub with_stated : ℕ → StatedWithin → Begun → Begun
+with_stated line (gate name service) b = with_gate name service b
+with_stated line (compressed rvc) b = record b { rvc = rvc }
+with_stated line data_part b = record b { in_data = true }
+with_stated line (bytes values) b = with_bytes values b
+with_stated line (plain instrs) b = with_bodies line (map Plain instrs) b
+with_stated line (jump instr name) b =
+    with_bodies line (To instr (place_of b.sandbox.names name) ∷ [])
+    (with_names (met b.sandbox.names name) b)
+with_stated line (address rd name) b = with_bodies line
+    (High rd (place_of b.sandbox.names name) ∷ Low rd (place_of b.sandbox.names name) ∷ [])
+    (with_names (met b.sandbox.names name) b)
+
+-- what a line states within a sandbox fits in the sandbox begun last, and changes `old` to `new`
+abbrev pub GoesOn : ℕ → StatedWithin → SoFar → SoFar → Type 0
+GoesOn line s old new =
+    (b : Begun) × (old.begun ≡ Some b) × Fits s b
+    × (new ≡ record old { begun = Some (with_stated line s b) })
+
+-- what a line states, where it may come after `old`, changes `old` to `new`
+abbrev pub Does : ℕ → Stated → SoFar → SoFar → Type 0
+Does line (format value) old new = new ≡ record old { format = Some value }
+Does line (sandbox size) old new = new ≡ with_sandbox size old
+Does line (within what) old new = GoesOn line what old new
+
+-- the sandbox begun last has no room for what is stated within it
+abbrev pub HasNoRoom : Stated → SoFar → Type 0
+HasNoRoom (within what) old = (b : Begun) × (old.begun ≡ Some b) × (Fits what b → ⊥)
+HasNoRoom _ old = ⊥

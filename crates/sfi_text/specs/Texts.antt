@@ -1,12 +1,131 @@
--- What a text of the assembler means, and what its fault is.
-use Rattle.std.specs.Prelude.{◌≡◌, ℕ, ◌+◌, ◌<◌, ◌≤◌, ◌⊎◌, ◌==◌, List, [], ◌∷◌, length, None, Some}
-use Rattle.std.specs.List.{slice_split, before_first}
+-- What a text means, line by line, and for what cause it is refused.
+use Rattle.std.specs.Prelude.{◌≡◌, ℕ, ◌⊎◌, List, [], ◌∷◌, Some, codes, ◌+◌, ◌<◌, ◌≤◌, ◌==◌, length, None}
 use Rattle.sfi_text.specs.declared.cause.TextCause.{TextCause}
 use Rattle.sfi_text.specs.declared.cause.TextCause.TheVariants as cause
+use Rattle.sfi_text.specs.declared.keyword.Directive.TheVariants as directive
+use Rattle.sfi_text.specs.declared.keyword.Keyword.{Keyword}
+use Rattle.sfi_text.specs.declared.keyword.Keyword.TheVariants as keyword
+use Rattle.sfi_text.specs.Tokens.{Takes, IsBlank}
+use Rattle.sfi_source.specs.Names.{IsLabel}
+use Rattle.sfi_text.specs.Operands.{Unformed}
+use Rattle.sfi_text.specs.Keywords.{keyword_name, place_of_keyword}
+use Rattle.sfi_text.specs.Lines.{StatesAfter, RefusedWith, NameRefused}
+use Rattle.sfi_text.specs.SoFar.{Stated, Begun, SoFar, nothing, sandboxes, IsFree, Labels, RefusesLabel, MayCome, Does, HasNoRoom}
+use Rattle.std.specs.List.{slice_split, before_first}
 use Rattle.sfi_text.specs.declared.fault.TextFault.{TextFault}
 use Rattle.sfi_source.specs.Source.{Sandbox}
-use Rattle.sfi_text.specs.SoFar.{Begun, SoFar, nothing, sandboxes}
-use Rattle.sfi_text.specs.Leads.{Leads, LineRefused}
+
+-- ==== What a line of a text does to the source so far: its labels, then its statement; and for
+-- what cause it is refused.
+
+-- `text` begins with `name`, which a label or a gate may have, and `rest` follows it
+abbrev pub BeginsWithName : List ℕ → List ℕ → List ℕ → Type 0
+BeginsWithName text name rest = Takes text name rest × IsLabel name
+
+-- `text` begins with a label, which is `name` and a colon, and `rest` follows it
+abbrev pub BeginsWithLabel : List ℕ → List ℕ → List ℕ → Type 0
+BeginsWithLabel text name rest =
+    (after : List ℕ) × BeginsWithName text name after × Takes after (codes ":") rest
+
+-- `text` begins with no label
+abbrev pub HasNoLabel : List ℕ → Type 0
+HasNoLabel text = (name rest : List ℕ) → BeginsWithLabel text name rest → ⊥
+
+-- `text` begins with labels of these names, which change the source so far from `old` to `new`,
+-- and `rest` follows them
+abbrev pub LabelsLead : List (List ℕ) → SoFar → List ℕ → SoFar → List ℕ → Type 0
+LabelsLead [] old text new rest = (new ≡ old) × (rest ≡ text)
+LabelsLead (name ∷ names) old text new rest =
+    (next : SoFar) × (after : List ℕ) × BeginsWithLabel text name after × Labels name old next
+    × LabelsLead names next after new rest
+
+-- the labels at the front of `text` change the source so far from `old` to `new`, and `rest`,
+-- which begins with no label, follows them
+pub record PassesLabels (old : SoFar) (text : List ℕ) (new : SoFar) (rest : List ℕ) : Type 0 where
+  pub names : List (List ℕ)
+  pub lead : LabelsLead names old text new rest
+  pub all : HasNoLabel rest
+
+-- `text` begins with a name that a label or a gate of `b` has
+abbrev pub IsTaken : Begun → List ℕ → Type 0
+IsTaken b text =
+    (name : List ℕ) × (rest : List ℕ) × BeginsWithName text name rest × (IsFree name b → ⊥)
+
+-- `k` is `.gate`, and the name after it is one that a label or a gate of the sandbox begun last has
+abbrev pub IsGateTwice : Keyword → SoFar → List ℕ → Type 0
+IsGateTwice k s text =
+    (k ≡ keyword.Directive directive.Gate) × ((b : Begun) × (s.begun ≡ Some b) × IsTaken b text)
+
+-- the statement of keyword `k` and the text after it may come after `old`, and on this line changes
+-- it to `new`
+abbrev pub LeadsAfter : Keyword → ℕ → SoFar → List ℕ → SoFar → Type 0
+LeadsAfter k line old text new =
+    MayCome (place_of_keyword k) old × (IsGateTwice k old text → ⊥)
+    × ((s : Stated) × StatesAfter k text s × Does line s old new)
+
+-- `text` is a statement, which on this line changes the source so far from `old` to `new`
+abbrev pub StatementLeads : ℕ → SoFar → List ℕ → SoFar → Type 0
+StatementLeads line old text new =
+    (k : Keyword) × (rest : List ℕ) × Takes text (keyword_name k) rest
+    × LeadsAfter k line old rest new
+
+-- `text`, which follows the labels of a line, is blank and changes nothing, or is a statement
+abbrev pub RestLeads : ℕ → SoFar → List ℕ → SoFar → Type 0
+RestLeads line old text new = (IsBlank text × (new ≡ old)) ⊎ StatementLeads line old text new
+
+-- the line `text` changes the source so far from `old` to `new`: by its labels, and then by its
+-- statement, if it has one
+abbrev pub Leads : ℕ → SoFar → List ℕ → SoFar → Type 0
+Leads line old text new =
+    (next : SoFar) × (rest : List ℕ) × PassesLabels old text next rest
+    × RestLeads line next rest new
+
+-- `text` begins with labels, of which the last is refused for cause `e`, and none before it
+abbrev pub LabelRefused : SoFar → List ℕ → TextCause → Type 0
+LabelRefused old text e =
+    (names : List (List ℕ)) × (next : SoFar) × (rest : List ℕ) × (name : List ℕ) × (after : List ℕ)
+    × LabelsLead names old text next rest × BeginsWithLabel rest name after
+    × RefusesLabel name next e
+
+-- keyword `k` and the text after it state what the sandbox begun last has no room for
+abbrev pub PassesLimit : Keyword → SoFar → List ℕ → Type 0
+PassesLimit k s text =
+    (st : Stated) × StatesAfter k text st × HasNoRoom st s
+
+-- the text after keyword `k`, which may come after `s`, is refused for cause `e`
+abbrev pub OperandsRefused : Keyword → SoFar → List ℕ → TextCause → Type 0
+OperandsRefused k s text e =
+    (IsGateTwice k s text × (e ≡ cause.LabelTwice))
+    ⊎ ((IsGateTwice k s text → ⊥)
+    × (RefusedWith k text e ⊎ (PassesLimit k s text × (e ≡ cause.Limit))))
+
+-- the statement of keyword `k` and the text after it is refused for cause `e`
+abbrev pub RefusedAfter : Keyword → SoFar → List ℕ → TextCause → Type 0
+RefusedAfter k s text e =
+    ((MayCome (place_of_keyword k) s → ⊥) × (e ≡ cause.Directive))
+    ⊎ (MayCome (place_of_keyword k) s × OperandsRefused k s text e)
+
+-- the statement of `token` and the rest after it is refused for cause `e`
+abbrev pub RefusedFrom : SoFar → List ℕ → List ℕ → TextCause → Type 0
+RefusedFrom s token rest e =
+    NameRefused token e
+    ⊎ ((k : Keyword) × (keyword_name k ≡ token) × RefusedAfter k s rest e)
+
+-- `text`, which follows the labels of a line, is no statement that may come after `s`: `e` is the
+-- cause of its first token that departs from one
+abbrev pub StatementRefused : SoFar → List ℕ → TextCause → Type 0
+StatementRefused s text e =
+    Unformed text e
+    ⊎ ((token : List ℕ) × (rest : List ℕ) × Takes text token rest × RefusedFrom s token rest e)
+
+-- the line `text` is refused after `old`: `e` is the cause of its first token that departs
+abbrev pub LineRefused : SoFar → List ℕ → TextCause → Type 0
+LineRefused old text e =
+    LabelRefused old text e
+    ⊎ ((next : SoFar) × (rest : List ℕ) × PassesLabels old text next rest
+    × StatementRefused next rest e)
+
+-- ==== What a text of the assembler means, and what its fault is.
 
 -- the most bytes of a text
 abbrev pub most_bytes : ℕ

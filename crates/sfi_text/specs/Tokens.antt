@@ -1,9 +1,33 @@
--- The tokens of a line of source. A text is the list of its UTF-8 bytes, and a token is its text.
-use Rattle.std.specs.Prelude.{◌≡◌, ℕ, ◌≤◌, ◌⊎◌, Bool, ◌||◌, ◌==◌, List, [], ◌∷◌, ◌++◌, length, ℤ, pos, neg_ℤ, IsTrue, codes, ◌&&◌, nat_lt}
+-- The tokens of a line, the names of the registers, and the causes of refusals by number.
+use Rattle.std.specs.Prelude.{ℕ, ◌≡◌, ◌≤◌, ◌⊎◌, Bool, ◌||◌, ◌==◌, List, [], ◌∷◌, ◌++◌, length, ℤ, pos, neg_ℤ, IsTrue, codes, ◌&&◌, nat_lt, ◌<◌, Some, slice_get}
+use Rattle.sfi_text.specs.declared.cause.TextCause.{TextCause}
+use Rattle.sfi_text.specs.declared.fault.TextFault.{TextFault}
+use Rattle.sfi_text.specs.declared.cause.TextCause.TheVariants.{Word, Register, Number, Operands, LabelTwice, Directive, Limit, Memory}
 use Rattle.std.specs.List.{AllByRecursion}
 use Rattle.std.specs.Str.Parse.{IsNumeral, digits_value}
 use Rattle.sfi_policy.specs.Limits.{name_most}
 use Rattle.sfi_source.specs.Names.{IsName, begins_label}
+use Rattle.std.specs.Fmt.{decimal}
+
+-- ==== The numbers of the causes for which a text is refused.
+
+-- the number by which a cause is told
+abbrev pub cause_number : TextCause → ℕ
+cause_number Word = 1
+cause_number Register = 2
+cause_number Number = 3
+cause_number Operands = 4
+cause_number LabelTwice = 5
+cause_number Directive = 6
+cause_number Limit = 7
+cause_number Memory = 8
+
+-- memory was refused; nothing is known of the text
+abbrev pub memory : TextFault
+memory = record { line = 0; cause = Memory }
+
+-- ==== The tokens of a line of source. A text is the list of its UTF-8 bytes, and a token is its
+-- text.
 
 -- space, tab and carriage return stand between tokens
 abbrev pub is_space : ℕ → Bool
@@ -66,3 +90,28 @@ AreTokens text tokens = (rest : List ℕ) × LeadsTo text tokens rest × IsBlank
 pub record IsStuck (text : List ℕ) : Type 0 where
   pub nothing : (token rest : List ℕ) → Takes text token rest → ⊥
   pub something : IsBlank text → ⊥
+
+-- ==== The names of the registers. RISC-V ABIs Specification, "Register Convention"; ISA manual,
+-- "RISC-V Assembly Programmer's Handbook".
+
+-- the second names of x0 to x31, in order
+abbrev pub abi_names : List (List ℕ)
+abi_names =
+    codes "zero" ∷ codes "ra" ∷ codes "sp" ∷ codes "gp" ∷ codes "tp" ∷ codes "t0"
+    ∷ codes "t1" ∷ codes "t2"
+    ∷ codes "s0" ∷ codes "s1" ∷ codes "a0" ∷ codes "a1" ∷ codes "a2" ∷ codes "a3"
+    ∷ codes "a4" ∷ codes "a5"
+    ∷ codes "a6" ∷ codes "a7" ∷ codes "s2" ∷ codes "s3" ∷ codes "s4" ∷ codes "s5"
+    ∷ codes "s6" ∷ codes "s7"
+    ∷ codes "s8" ∷ codes "s9" ∷ codes "s10" ∷ codes "s11" ∷ codes "t3" ∷ codes "t4"
+    ∷ codes "t5" ∷ codes "t6" ∷ []
+
+-- x and the number
+abbrev pub x_name : ℕ → List ℕ
+x_name r = codes "x" ++ decimal r
+
+-- a name of register r; fp is a third name of x8
+abbrev pub IsRegister : List ℕ → ℕ → Type 0
+IsRegister text r =
+    (r < 32)
+    × ((text ≡ x_name r) ⊎ ((slice_get abi_names r ≡ Some text) ⊎ ((text ≡ codes "fp") × (r ≡ 8))))

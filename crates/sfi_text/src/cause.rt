@@ -1,7 +1,7 @@
 //! Why a text means nothing.
 ghost use Rattle.std.specs.Prelude.{◌≡◌};
 ghost use Rattle.sfi_text.specs.declared.cause.TextCause.TheVariants as cause;
-ghost use Rattle.sfi_text.specs.Causes.{cause_number};
+ghost use Rattle.sfi_text.specs.Tokens.{cause_number};
 
 use std::alloc::{AllocError, AllocFailed};
 use std::error::Error;

@@ -1,11 +1,11 @@
 //! The instructions that put a number into a register, and the bytes of a number in data.
 ghost use Rattle.std.specs.Prelude.{◌≡◌, ◌++◌, OnOk};
-ghost use Rattle.rv_word.specs.Numbers.{modulo};
-ghost use Rattle.sfi_text.specs.Forms.{IsNumberOf};
-ghost use Rattle.sfi_source.specs.Halves.{rounded, upper, lower};
-ghost use Rattle.sfi_text.specs.Constants.{constant, data_bytes};
-ghost use Rattle.sfi_text.specs.Stated.{plain};
-ghost use Rattle.sfi_text.specs.private.Stated.{stated_within};
+ghost use Rattle.rv_word.specs.Spelling.{modulo};
+ghost use Rattle.sfi_text.specs.Operands.{IsNumberOf};
+ghost use Rattle.sfi_source.specs.Source.{rounded, upper, lower};
+ghost use Rattle.sfi_text.specs.SoFar.{constant, data_bytes};
+ghost use Rattle.sfi_text.specs.SoFar.{plain};
+ghost use Rattle.sfi_text.specs.private.Lines.{stated_within};
 
 use crate::form::NumberKind;
 use crate::keyword::DataWidth;

@@ -4,7 +4,7 @@ ghost use Rattle.std.specs.Option.{option_map};
 ghost use Rattle.sfi_text.specs.declared.cause.TextCause.TheVariants as cause;
 ghost use Rattle.sfi_text.specs.Keywords.{data_kind};
 ghost use Rattle.sfi_text.specs.Lines.{NumberDeparts, MoreDeparts, ListDeparts};
-ghost use Rattle.sfi_text.specs.private.Lists.{ReadsNumber, ReadsMore, ReadsList, ReadsOne, ReadsAnother, MoreDepartsAfter};
+ghost use Rattle.sfi_text.specs.private.Lines.{ReadsNumber, ReadsMore, ReadsList, ReadsOne, ReadsAnother, MoreDepartsAfter};
 
 use crate::cause::TextCause;
 use crate::constant::push_number;

@@ -3,10 +3,10 @@ ghost use Rattle.std.specs.Prelude.{◌≡◌, ◌≤◌, ◌+◌, ◌<◌, ◌�
 ghost use Rattle.sfi_policy.specs.Limits.{gates_most, items_most};
 ghost use Rattle.sfi_text.specs.declared.cause.TextCause.TheVariants as cause;
 ghost use Rattle.sfi_source.specs.declared.item.Body.TheVariants.{Plain, To, High, Low};
-ghost use Rattle.sfi_text.specs.Effects.{IsFree, Fits, with_stated};
-ghost use Rattle.sfi_source.specs.NameTable.{place_of, met};
-ghost use Rattle.sfi_text.specs.private.Draft.{AddsUpTo};
-ghost use Rattle.sfi_text.specs.private.Stated.{stated_within};
+ghost use Rattle.sfi_text.specs.SoFar.{IsFree, Fits, with_stated};
+ghost use Rattle.sfi_source.specs.Names.{place_of, met};
+ghost use Rattle.sfi_text.specs.private.Lines.{AddsUpTo};
+ghost use Rattle.sfi_text.specs.private.Lines.{stated_within};
 ghost use Rattle.sfi_text.specs.SoFar.{begin, here, with_names, with_label, with_gate, with_bodies, with_bytes};
 
 use crate::cause::TextCause;

@@ -1,6 +1,6 @@
 //! Why a text is no source.
 ghost use Rattle.std.specs.Prelude.{◌≡◌};
-ghost use Rattle.sfi_text.specs.Causes.{memory};
+ghost use Rattle.sfi_text.specs.Tokens.{memory};
 
 use crate::cause::TextCause;
 use std::alloc::{AllocError, AllocFailed};

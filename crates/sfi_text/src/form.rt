@@ -1,7 +1,7 @@
 //! What stands after the name of a statement: its operands and the marks between them.
 ghost use Rattle.std.specs.Prelude.{◌≡◌, ◌↔◌, IsTrue};
 ghost use Rattle.std.specs.Int.{IsPowerOfTwo};
-ghost use Rattle.sfi_text.specs.Forms.{form_of, IsNumberOf};
+ghost use Rattle.sfi_text.specs.Operands.{form_of, IsNumberOf};
 ghost use Rattle.sfi_source.specs.Source.{IsDataSize};
 
 use crate::mnemonic::Mnemonic;

@@ -1,8 +1,8 @@
 //! The first words of statements: directives, pseudo-instructions and the names of instructions.
 ghost use Rattle.std.specs.Prelude.{◌≡◌, ◌<◌, IfSome, IfNone};
 ghost use Rattle.sfi_text.specs.Keywords.{directive_name, directive_form, pseudo_name, pseudo_form, data_name, data_kind, keyword_name, place_of_keyword};
-ghost use Rattle.sfi_text.specs.private.Lookup.{hash, candidate, mnemonic_in};
-ghost use Rattle.sfi_text.specs.Mnemonics.{name_of};
+ghost use Rattle.sfi_text.specs.private.Reading.{hash, candidate, mnemonic_in};
+ghost use Rattle.sfi_text.specs.Operands.{name_of};
 
 use crate::form::{NumberKind, Part};
 use crate::mnemonic::Mnemonic;
@@ -227,7 +227,7 @@ const PLACES: &[u8; 256] = &[
 
 /// The hash of a name: the seed, and then for each byte the factor times what was there before and
 /// the byte, modulo 256.
-#[tactic(auto, using(std::proofs::lemmas::List::Sums::fold_more), unfolding(crate::specs::private::Lookup::hash))]
+#[tactic(auto, using(std::proofs::lemmas::List::Sums::fold_more), unfolding(crate::specs::private::Reading::hash))]
 pub fn hash(seed: usize, factor: usize, name: &str) -> usize
     requires seed { seed < 256 }
     requires factor { factor < 256 }

@@ -4,8 +4,8 @@ ghost use Rattle.std.specs.List.{prefix_len};
 ghost use Rattle.std.specs.Char.{is_ascii_digit, is_ascii_hexdigit};
 ghost use Rattle.sfi_text.specs.Tokens.{is_space, is_mark};
 ghost use Rattle.sfi_source.specs.Names.{begins_name, continues_name};
-ghost use Rattle.sfi_text.specs.private.Scan.{magnitude_len, token_len, begins_hex, body_of};
-ghost use Rattle.sfi_text.specs.private.Next.{IsNext};
+ghost use Rattle.sfi_text.specs.private.Reading.{magnitude_len, token_len, begins_hex, body_of};
+ghost use Rattle.sfi_text.specs.private.Reading.{IsNext};
 
 /// What stands at the front of a text.
 #[derive(Clone, Copy)]
@@ -89,7 +89,7 @@ fn begins_hex(text: &[u8]) -> bool
 }
 
 /// The length of the longest number without a sign that stands at the front, 0 where none does.
-#[tactic(auto, unfolding(crate::specs::private::Scan::magnitude_len))]
+#[tactic(auto, unfolding(crate::specs::private::Reading::magnitude_len))]
 fn magnitude_len(text: &[u8]) -> usize
     ensures value { result ≡ magnitude_len text.now }
     ensures within { result ≤ length text.now }
@@ -102,7 +102,7 @@ fn magnitude_len(text: &[u8]) -> usize
 }
 
 /// The length of the longest token that stands at the front, 0 where none does.
-#[tactic(auto, unfolding(crate::specs::private::Scan::token_len))]
+#[tactic(auto, unfolding(crate::specs::private::Reading::token_len))]
 fn token_len(text: &[u8]) -> usize
     ensures value { result ≡ token_len text.now }
     ensures within { result ≤ length text.now }
@@ -127,7 +127,7 @@ fn token_len(text: &[u8]) -> usize
 }
 
 /// The text after its leading spaces.
-#[tactic(auto, using(crate::proofs::Taking::gap_boundary), unfolding(crate::specs::private::Scan::body_of))]
+#[tactic(auto, using(crate::proofs::Taking::gap_boundary), unfolding(crate::specs::private::Reading::body_of))]
 pub fn body(text: &str) -> &str
     ensures { result.now ≡ body_of text.now }
 {

@@ -6,9 +6,9 @@ ghost use Rattle.sfi_text.specs.Tokens.{IsToken};
 ghost use Rattle.sfi_text.specs.Keywords.{branch_form, jal_form, branch_states, jal_states, pseudo_form, pseudo_states, directive_form, directive_states, keyword_name};
 ghost use Rattle.sfi_text.specs.Operands.{Departs};
 ghost use Rattle.sfi_text.specs.Lines.{StatesAfter, InstrDeparts, RefusedWith, NameRefused};
-ghost use Rattle.sfi_text.specs.private.Lists.{ReadsRow, ReadsInstr, ReadsAfter};
-ghost use Rattle.sfi_text.specs.Stated.{Stated};
-ghost use Rattle.sfi_text.specs.private.Stated.{stated, IsRightStatement};
+ghost use Rattle.sfi_text.specs.private.Lines.{ReadsRow, ReadsInstr, ReadsAfter};
+ghost use Rattle.sfi_text.specs.SoFar.{Stated};
+ghost use Rattle.sfi_text.specs.private.Lines.{stated, IsRightStatement};
 
 use crate::cause::TextCause;
 use crate::data::read_list;

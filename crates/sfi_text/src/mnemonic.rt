@@ -1,6 +1,6 @@
 //! The names of the instructions.
 ghost use Rattle.std.specs.Prelude.{◌≡◌};
-ghost use Rattle.sfi_text.specs.Mnemonics.{name_of, op_name, immediate_name, load_name, store_name, branch_name};
+ghost use Rattle.sfi_text.specs.Operands.{name_of, op_name, immediate_name, load_name, store_name, branch_name};
 
 use rv_word::{Cond, ImmOp, LoadKind, RegOp, StoreWidth};
 

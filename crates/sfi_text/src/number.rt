@@ -2,7 +2,7 @@
 ghost use Rattle.std.specs.Prelude.{◌≡◌, ◌++◌, ◌<◌, ◌≤◌, ◌^◌, ℕ, ℤ, List, MatchOption, IfSome, IfNone};
 ghost use Rattle.std.specs.Str.Parse.{IsNumeral, digits_value};
 ghost use Rattle.sfi_text.specs.Tokens.{IsMagnitude, IsNumber};
-ghost use Rattle.sfi_text.specs.private.Numbers.{IsInReach};
+ghost use Rattle.sfi_text.specs.private.Reading.{IsInReach};
 
 /// What follows this prefix of a text.
 pub fn after_prefix<'a>(text: &'a str, prefix: &str) -> Option<&'a str>

@@ -1,8 +1,8 @@
 //! The operands of a statement, and the instruction that they make with its name.
 ghost use Rattle.std.specs.Prelude.{◌≡◌, pos};
-ghost use Rattle.sfi_text.specs.Forms.{form_of};
+ghost use Rattle.sfi_text.specs.Operands.{form_of};
 ghost use Rattle.sfi_text.specs.private.Reading.{AgreesOn, AllSuit};
-ghost use Rattle.sfi_text.specs.private.Operands.{values_of};
+ghost use Rattle.sfi_text.specs.private.Reading.{values_of};
 ghost use Rattle.sfi_text.specs.Statement.{mnemonic_of, operands_of, operands};
 
 use crate::mnemonic::Mnemonic;

@@ -2,10 +2,10 @@
 ghost use Rattle.std.specs.Prelude.{◌≡◌, ◌++◌, OnOk, IfOk, string_bytes};
 ghost use Rattle.std.specs.List.{flat_map};
 ghost use Rattle.rv_word.specs.Spelling.{InRange};
-ghost use Rattle.sfi_text.specs.Registers.{x_name};
-ghost use Rattle.sfi_text.specs.private.Operands.{values_of};
+ghost use Rattle.sfi_text.specs.Tokens.{x_name};
+ghost use Rattle.sfi_text.specs.private.Reading.{values_of};
 ghost use Rattle.sfi_text.specs.Statement.{mnemonic_of, Means};
-ghost use Rattle.sfi_text.specs.Printed.{part_text, format_name, number_text, printed, statement_text};
+ghost use Rattle.sfi_text.specs.Statement.{part_text, format_name, number_text, printed, statement_text};
 
 use crate::form::{NumberKind, Part};
 use crate::mnemonic::Mnemonic;

@@ -1,13 +1,13 @@
 //! The source so far, and how the lines of a text change it.
 ghost use Rattle.std.specs.Prelude.{◌≡◌, ◌⊎◌, ◌↔◌, List, ℕ, None, Some, IsTrue, IfOk, IfErr, OnOk, MatchOption, codes};
 ghost use Rattle.sfi_text.specs.declared.cause.TextCause.TheVariants as cause;
-ghost use Rattle.sfi_text.specs.Effects.{Labels, RefusesLabel, MayCome, Does, HasNoRoom};
-ghost use Rattle.sfi_text.specs.Leads.{BeginsWithName, IsTaken, IsGateTwice, LeadsAfter, Leads, LabelRefused, RefusedAfter, RefusedFrom, LineRefused};
-ghost use Rattle.sfi_text.specs.private.Leads.{IsFront, PassesTo, LeadsFrom};
+ghost use Rattle.sfi_text.specs.SoFar.{Labels, RefusesLabel, MayCome, Does, HasNoRoom};
+ghost use Rattle.sfi_text.specs.Texts.{BeginsWithName, IsTaken, IsGateTwice, LeadsAfter, Leads, LabelRefused, RefusedAfter, RefusedFrom, LineRefused};
+ghost use Rattle.sfi_text.specs.private.Lines.{IsFront, PassesTo, LeadsFrom};
 ghost use Rattle.sfi_text.specs.SoFar.{format_or_sfi1, nothing, with_sandbox};
-ghost use Rattle.sfi_text.specs.private.Stated.{stated, place_of_stated};
+ghost use Rattle.sfi_text.specs.private.Lines.{stated, place_of_stated};
 ghost use Rattle.sfi_text.specs.Texts.{LeadsFromNothing, MeansSource, IsFault};
-ghost use Rattle.sfi_text.specs.Causes.{memory};
+ghost use Rattle.sfi_text.specs.Tokens.{memory};
 ghost use Rattle.sfi_source.specs.Names.{IsLabel};
 ghost use Rattle.sfi_text.specs.Tokens.{IsToken, Takes};
 

@@ -5,11 +5,11 @@ ghost use Rattle.sfi_text.specs.declared.cause.TextCause.{TextCause};
 ghost use Rattle.sfi_text.specs.declared.cause.TextCause.TheVariants as cause;
 ghost use Rattle.sfi_text.specs.Tokens.{IsNumber, IsToken, is_too_long};
 ghost use Rattle.sfi_source.specs.Names.{IsLabel, begins_label};
-ghost use Rattle.sfi_text.specs.Registers.{IsRegister};
-ghost use Rattle.sfi_text.specs.Forms.{IsNumberOf};
+ghost use Rattle.sfi_text.specs.Tokens.{IsRegister};
+ghost use Rattle.sfi_text.specs.Operands.{IsNumberOf};
 ghost use Rattle.sfi_text.specs.Operands.{OperandValues, Stands, Departs, part_cause, label_cause, mode_name, SaysFormat};
 ghost use Rattle.sfi_policy.specs.declared.format.Format.{Format};
-ghost use Rattle.sfi_text.specs.private.Operands.{values_of};
+ghost use Rattle.sfi_text.specs.private.Reading.{values_of};
 ghost use Rattle.sfi_text.specs.private.Reading.{Reads, SameAt, has_no_repeat, is_fresh, KeepsOthers};
 
 use crate::cause::TextCause;

@@ -1,7 +1,7 @@
 //! The names of the registers: x0 to x31, and those of the ABI.
 ghost use Rattle.std.specs.Prelude.{◌≡◌, ◌<◌, ℕ, map, IfSome, IfNone};
-ghost use Rattle.sfi_text.specs.Registers.{IsRegister};
-ghost use Rattle.sfi_text.specs.private.Lookup.{register_names, name_place, name_at, register_at};
+ghost use Rattle.sfi_text.specs.Tokens.{IsRegister};
+ghost use Rattle.sfi_text.specs.private.Reading.{register_names, name_place, name_at, register_at};
 
 use crate::keyword::hash;
 use rv_word::Reg;

@@ -2,11 +2,11 @@
 ghost use Rattle.std.specs.Prelude.{◌≡◌, pos};
 ghost use Rattle.rv_word.specs.declared.instr.Instr.TheVariants as instr;
 ghost use Rattle.rv_word.specs.declared.instr.ImmOp.TheVariants.{Addi};
-ghost use Rattle.sfi_text.specs.private.Operands.{values_of};
+ghost use Rattle.sfi_text.specs.private.Reading.{values_of};
 ghost use Rattle.sfi_text.specs.private.Reading.{AllSuit};
 ghost use Rattle.sfi_text.specs.Keywords.{directive_form, directive_states, pseudo_form, pseudo_states};
-ghost use Rattle.sfi_text.specs.Stated.{within, jump};
-ghost use Rattle.sfi_text.specs.private.Stated.{stated};
+ghost use Rattle.sfi_text.specs.SoFar.{within, jump};
+ghost use Rattle.sfi_text.specs.private.Lines.{stated};
 
 use crate::constant::constant;
 use crate::keyword::{Directive, Pseudo};

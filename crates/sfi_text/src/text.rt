@@ -2,11 +2,11 @@
 ghost use Rattle.std.specs.Prelude.{◌≡◌, ◌∷◌, [], ◌⊎◌, ◌<◌, ◌≤◌, List, length, MatchOption, MatchResult, IfOk, IfErr, OnOk, Err};
 ghost use Rattle.sfi_text.specs.declared.fault.TextFault.{TextFault};
 ghost use Rattle.sfi_text.specs.declared.cause.TextCause.TheVariants as causes;
-ghost use Rattle.sfi_text.specs.Causes.{memory};
-ghost use Rattle.sfi_text.specs.Leads.{Leads};
+ghost use Rattle.sfi_text.specs.Tokens.{memory};
+ghost use Rattle.sfi_text.specs.Texts.{Leads};
 ghost use Rattle.sfi_source.specs.Source.{Sandbox};
 ghost use Rattle.sfi_text.specs.Texts.{most_bytes, first_line, uncommented, lines, LinesLead, FirstRefused, LineFault, MeansSource, IsFault};
-ghost use Rattle.sfi_text.specs.private.Texts.{BeginsWithLine};
+ghost use Rattle.sfi_text.specs.private.Lines.{BeginsWithLine};
 
 use crate::cause::TextCause;
 use crate::fault::TextFault;

@@ -14,11 +14,9 @@ use Rattle.sfi_host.proofs.LaterReplies.{reply_is_answer}
 use Rattle.sfi_host.proofs.Runs.{fewer_there}
 use Rattle.sfi_host.specs.Plans.{IsJoint}
 use Rattle.sfi_host.specs.Changing.{data_bytes_of}
-use Rattle.sfi_host.specs.Consoles.{ConsoleState, console, failed, handed, most_handed}
-use Rattle.sfi_host.specs.Guests.{data_from, with_a0, with_bytes_at}
-use Rattle.sfi_host.specs.Hosts.{Answer, Call, Reply, Replied}
+use Rattle.sfi_host.specs.Consoles.{ConsoleState, console, failed, handed, most_handed, get_service, put_service}
+use Rattle.sfi_host.specs.Hosts.{data_from, with_a0, with_bytes_at, Answer, Call, Reply, Replied}
 use Rattle.sfi_host.specs.Joint.{Machine, IsMachine, call_of, replied}
-use Rattle.sfi_host.specs.Services.{get_service, put_service}
 use Rattle.sfi_host.specs.Slots.{Slot}
 use Rattle.sfi_host.specs.Waiting.{Waits}
 use Rattle.sfi_host.specs.declared.guest.Request.{Request}

@@ -3,27 +3,23 @@ use Rattle.sfi_tool.proofs.Prelude.{◌≡◌, ℕ, List, Result, sym, subst, in
 use Rattle.std.proofs.Common.{◌⊎◌, inr, ◌≤◌, true, false, ◌<◌, Ok, Err, Global, refl}
 use Rattle.std.specs.Prelude.{IsErr, IsErrAnd}
 use Rattle.std.proofs.lemmas.Result.{IfOk-weaker, IfErr-weaker}
-use Rattle.sfi_io.specs.Hexadecimal.{GivesBytes, IsHexFault, IsHexStop, IsNoHexadecimal}
-use Rattle.sfi_io.specs.Images.{GivesImage, GivesNoImage}
+use Rattle.sfi_io.specs.Hexadecimal.{GivesBytes, IsHexFault, IsHexStop, IsNoHexadecimal, GivesImage, GivesNoImage, limit}
 use Rattle.sfi_io.specs.declared.hexadecimal.HexFault.{HexFault}
 use Rattle.sfi_io.specs.declared.hexadecimal.HexFault.TheVariants.{Odd, Digit}
 use Rattle.sfi_io.specs.declared.hexadecimal.HexStop.{HexStop}
 use Rattle.sfi_io.specs.declared.hexadecimal.HexStop.TheVariants as hex
-use Rattle.sfi_answers.specs.Answers.{Meaning, on_image, Answers, IsStop, stop_of}
+use Rattle.sfi_answers.specs.Answers.{Meaning, on_image, Answers, IsStop, stop_of, SaysVerdict, SaysRefused, SaysTranslation}
 use Rattle.sfi_answers.specs.declared.fault.Stop.{Stop}
 use Rattle.sfi_answers.specs.declared.fault.Stop.TheVariants as stop
 use Rattle.sfi_answers.specs.declared.verdict.Answer.{Answer}
 use Rattle.sfi_tool.specs.Says.{Says, HasInputFault, IsDone, IsRefused}
-use Rattle.sfi_answers.specs.Checking.{SaysVerdict, SaysRefused}
 use Rattle.sfi_policy.specs.declared.place.Place.{Place}
 use Rattle.sfi_tool.specs.Running.{SaysRun}
-use Rattle.sfi_answers.specs.Converting.{SaysConversion}
+use Rattle.sfi_answers.specs.Building.{SaysConversion}
 use Rattle.sfi_answers.specs.Moving.{SaysMoved}
-use Rattle.sfi_answers.specs.Translating.{SaysTranslation}
 use Rattle.sfi_command.specs.declared.job.Job.{Job}
 use Rattle.sfi_command.specs.declared.job.Job.TheVariants.{Check, Dis, Build, Map, Run, Exec, Convert, Move, Translate}
 use Rattle.sfi_command.specs.Command.{is_raw}
-use Rattle.sfi_io.specs.Streams.{limit}
 
 -- a fault that follows from another
 stops_more : (P Q : Type 0) → (P → Q) → (s : Stop) → IsStop P s → IsStop Q s

@@ -4,14 +4,12 @@ use Rattle.std.proofs.Common.{[], ◌++◌, Option, Some, None, map, Vec, Global
 use Rattle.std.specs.FinMap.{empty}
 use Rattle.std.specs.Io.KnownBytes.{Appends, Keeps}
 use Rattle.rv_mem.specs.Bytes.{Bytes}
-use Rattle.sfi_answers.specs.Answers.{GivesImageThat, stop_of}
+use Rattle.sfi_answers.specs.Answers.{GivesImageThat, stop_of, IsAcceptedImage}
 use Rattle.sfi_answers.specs.declared.fault.Stop.TheVariants as stop
-use Rattle.sfi_io.specs.Hexadecimal.{GivesBytes}
+use Rattle.sfi_io.specs.Hexadecimal.{GivesBytes, IsInput}
 use Rattle.sfi_io.specs.declared.hexadecimal.HexStop.{HexStop}
 use Rattle.sfi_io.specs.declared.hexadecimal.HexStop.TheVariants as hex
 use Rattle.sfi_tool.specs.declared.process.ExecFault.{ExecFault}
-use Rattle.sfi_answers.specs.Checking.{IsAcceptedImage}
-use Rattle.sfi_io.specs.Streams.{IsInput}
 use Rattle.sfi_io.specs.declared.streams.Input.TheVariants.{Whole}
 use Rattle.sfi_host.specs.Consoles.{ConsoleState, new_console}
 use Rattle.sfi_host.specs.Joint.{Machine, IsMachine}

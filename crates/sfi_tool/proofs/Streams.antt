@@ -6,12 +6,10 @@ use Rattle.std.specs.Io.KnownBytes.{Appends, Keeps}
 use Rattle.sfi_host.proofs.Facts.{plans_follow}
 use Rattle.sfi_host.proofs.LaterReplies.{reply_is_answer, to_call_is_joint}
 use Rattle.sfi_host.specs.Consoles.{ConsoleState}
-use Rattle.sfi_host.specs.Guests.{call_by}
-use Rattle.sfi_host.specs.Hosts.{Call, Reply}
+use Rattle.sfi_host.specs.Hosts.{call_by, Call, Reply}
 use Rattle.sfi_host.specs.Joint.{Machine, IsMachine, replied}
 use Rattle.sfi_host.specs.Plans.{IsJoint}
-use Rattle.sfi_host.specs.Regions.{bytes_in}
-use Rattle.sfi_host.specs.Slots.{Slot}
+use Rattle.sfi_host.specs.Slots.{bytes_in, Slot}
 use Rattle.sfi_host.specs.Waiting.{Waits, to_call}
 use Rattle.sfi_host.specs.declared.guest.Request.{Request}
 use Rattle.sfi_host.specs.declared.status.Status.{Status}

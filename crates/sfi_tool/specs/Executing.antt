@@ -5,18 +5,16 @@ use Rattle.std.specs.List.{range_with_len}
 use Rattle.std.specs.Io.KnownBytes.{Appends}
 use Rattle.rv_mem.specs.Bytes.{with_bytes}
 use Rattle.sfi_image.specs.Spelling.{Part}
-use Rattle.sfi_report.specs.Digits.{line_end}
+use Rattle.sfi_report.specs.Listing.{line_end}
 use Rattle.sfi_host.specs.declared.status.Status.{Status}
 use Rattle.sfi_host.specs.declared.status.Status.TheVariants.{Ready, Exited, Trapped, Stopped}
 use Rattle.sfi_host.specs.declared.turn.Turn.{Turn}
-use Rattle.sfi_host.specs.Consoles.{ConsoleState, console, failed, handed, new_console, replied}
+use Rattle.sfi_host.specs.Consoles.{ConsoleState, console, failed, handed, new_console, replied, get_service, put_service}
 use Rattle.sfi_host.specs.Hosts.{Answer, Call, Replied}
 use Rattle.sfi_host.specs.Joint.{Machine, IsMachine}
 use Rattle.sfi_host.specs.Plans.{IsJoint}
-use Rattle.sfi_host.specs.Services.{get_service, put_service}
 use Rattle.sfi_host.specs.Slots.{Slot}
-use Rattle.sfi_answers.specs.Answers.{GivesImageThat}
-use Rattle.sfi_answers.specs.Checking.{IsAcceptedImage}
+use Rattle.sfi_answers.specs.Answers.{GivesImageThat, IsAcceptedImage}
 use Rattle.sfi_safety.specs.Clean.{IsAccepted}
 use Rattle.sfi_tool.specs.Running.{AreTold, first_slots, status_text}
 

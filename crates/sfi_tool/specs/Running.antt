@@ -6,7 +6,7 @@ use Rattle.rv_step.specs.declared.outcome.Cause.{Cause}
 use Rattle.rv_step.specs.declared.outcome.Cause.TheVariants.{Fetch, Illegal, Break, Load, Store}
 use Rattle.rv_step.specs.State.{Hart}
 use Rattle.sfi_image.specs.Spelling.{Part}
-use Rattle.sfi_report.specs.Digits.{hex_digits, line_end}
+use Rattle.sfi_report.specs.Listing.{hex_digits, line_end}
 use Rattle.sfi_report.specs.State.{IsStateText}
 use Rattle.sfi_host.specs.declared.status.Status.{Status}
 use Rattle.sfi_host.specs.declared.status.Status.TheVariants.{Ready, Exited, Trapped, Stopped}
@@ -18,8 +18,7 @@ use Rattle.sfi_host.specs.Loading.{first_seat, with_parts}
 use Rattle.sfi_host.specs.Slots.{Slot}
 use Rattle.sfi_host.specs.Worlds.{slots_of}
 use Rattle.sfi_safety.specs.Clean.{IsAccepted}
-use Rattle.sfi_answers.specs.Answers.{Meaning}
-use Rattle.sfi_answers.specs.Checking.{SaysRefused, on_verdict}
+use Rattle.sfi_answers.specs.Answers.{Meaning, SaysRefused, on_verdict}
 
 -- ---- lines
 

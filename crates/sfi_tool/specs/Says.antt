@@ -2,14 +2,10 @@
 use Rattle.std.specs.Prelude.{ℕ, List, true, false, ◌⊎◌, Option, IfSome}
 use Rattle.sfi_command.specs.declared.job.Job.{Job}
 use Rattle.sfi_command.specs.declared.job.Job.TheVariants.{Check, Dis, Build, Map, Run, Exec, Convert, Move, Translate}
-use Rattle.sfi_answers.specs.Answers.{Meaning, on_image}
-use Rattle.sfi_answers.specs.Checking.{check}
-use Rattle.sfi_answers.specs.Listing.{dis}
-use Rattle.sfi_answers.specs.Building.{build, map}
+use Rattle.sfi_answers.specs.Answers.{Meaning, on_image, check, dis, translate}
+use Rattle.sfi_answers.specs.Building.{build, map, convert}
 use Rattle.sfi_tool.specs.Running.{run}
-use Rattle.sfi_answers.specs.Converting.{convert}
 use Rattle.sfi_answers.specs.Moving.{move}
-use Rattle.sfi_answers.specs.Translating.{translate}
 use Rattle.std.specs.Io.KnownBytes.{Appends}
 use Rattle.clap.specs.Walk.{Text}
 use Rattle.sfi_command.specs.Command.{Asks, AsksNoInput}

@@ -1,22 +1,18 @@
 -- Words that private contracts and proofs alone cite: no public statement rests on them.
 use Rattle.std.specs.Prelude.{◌≡◌, ◌≢◌, ◌⊎◌, ◌<◌, ◌≤◌, ◌-◌, ◌%◌, ◌^◌, ◌++◌, ℕ, List, Option, Some, None, IfSome, if◌then◌else◌, length, nat_le, slice_get, slice_set}
-use Rattle.std.specs.Io.KnownBytes.{Consumes, IsAtEnd}
+use Rattle.std.specs.Io.KnownBytes.{Consumes, IsAtEnd, Appends}
 use Rattle.std.specs.List.{range_with_len}
-use Rattle.std.specs.Io.KnownBytes.{Appends}
 use Rattle.sfi_command.specs.declared.job.Job.{Job}
 use Rattle.sfi_tool.specs.Says.{OnlyAppends, HasInputFault, Says}
-use Rattle.sfi_host.specs.Consoles.{ConsoleState, console}
-use Rattle.sfi_host.specs.Joint.{Machine, IsMachine}
+use Rattle.sfi_host.specs.Consoles.{ConsoleState, console, most_handed}
+use Rattle.sfi_host.specs.Joint.{Machine, IsMachine, call_of, replied}
 use Rattle.sfi_host.specs.Plans.{IsJoint}
 use Rattle.sfi_image.specs.Spelling.{Part}
 use Rattle.sfi_safety.specs.Clean.{IsAccepted}
 use Rattle.sfi_host.specs.Changing.{data_bytes_of}
-use Rattle.sfi_host.specs.Consoles.{most_handed}
-use Rattle.sfi_host.specs.Guests.{data_from}
-use Rattle.sfi_host.specs.Hosts.{Answer, Call, Replied, Reply}
+use Rattle.sfi_host.specs.Hosts.{data_from, Answer, Call, Replied, Reply}
 use Rattle.rv_mem.specs.Bytes.{Bytes, with_bytes}
 use Rattle.sfi_tool.specs.declared.piece.Piece.{Piece}
-use Rattle.sfi_host.specs.Joint.{call_of, replied}
 use Rattle.sfi_host.specs.Slots.{Slot}
 use Rattle.sfi_host.specs.Waiting.{Waits, later_reply}
 use Rattle.sfi_host.specs.declared.guest.Request.{Request}

@@ -2,7 +2,7 @@
 
 ghost use Rattle.std.specs.Prelude.{◌≡◌, ◌≤◌, ◌<◌, false, length, IfOk};
 ghost use Rattle.sfi_command.specs.Command.{is_raw};
-ghost use Rattle.sfi_io.specs.Streams.{limit};
+ghost use Rattle.sfi_io.specs.Hexadecimal.{limit};
 ghost use Rattle.sfi_tool.specs.Says.{HasInputFault, IsDone, IsRefused, Says, meaning_of};
 ghost use Rattle.sfi_answers.specs.Answers.{Answers};
 

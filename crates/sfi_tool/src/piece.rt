@@ -1,5 +1,5 @@
 //! The host that hands a piece of the input over.
-ghost use Rattle.sfi_host.specs.Guests.{HasData, SameMemory};
+ghost use Rattle.sfi_host.specs.Hosts.{HasData, SameMemory};
 
 use rv_mem::Memory;
 use sfi_host::{GateAnswer, Gates, Guest};
@@ -12,7 +12,7 @@ pub struct Piece<'a> {
 }
 
 impl Gates for Piece<'_> {
-    ghost use Rattle.sfi_host.specs.Answering.{IsAnswered, IsRefused, LeavesOthers};
+    ghost use Rattle.sfi_host.specs.Hosts.{IsAnswered, IsRefused, LeavesOthers};
     ghost use Rattle.sfi_host.specs.Waiting.{never};
     ghost use Rattle.sfi_tool.specs.private.{piece_answer};
 

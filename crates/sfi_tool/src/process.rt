@@ -3,7 +3,7 @@
 ghost use Rattle.std.specs.Prelude.{◌≡◌, ◌≢◌, Err, IfOk, IfSome, OnOk};
 ghost use Rattle.std.specs.Io.KnownBytes.{Appends};
 ghost use Rattle.sfi_answers.specs.Answers.{GivesImageThat};
-ghost use Rattle.sfi_answers.specs.Checking.{IsAcceptedImage, Refuses};
+ghost use Rattle.sfi_answers.specs.Answers.{IsAcceptedImage, Refuses};
 ghost use Rattle.sfi_answers.specs.declared.fault.Stop.TheVariants as stops;
 ghost use Rattle.sfi_tool.specs.Executing.{ExecutesKnown, IsNotAccepted};
 ghost use Rattle.sfi_tool.specs.declared.process.ExecFault.TheVariants.{NotAccepted};

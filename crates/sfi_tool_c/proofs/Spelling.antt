@@ -3,12 +3,11 @@ use Rattle.std.proofs.Common.{◌≡◌, ◌≢◌, ◌≤◌, ◌<◌, ◌++◌
 use Rattle.std.specs.List.{flat_map, All, AllWithin}
 use Rattle.std.specs.Prelude.{IsUtf8}
 use Rattle.std.proofs.Math.Path.{subst}
-use Rattle.std.proofs.lemmas.List.{get_or-take, get_or-drop, get_or_default, length-take}
+use Rattle.std.proofs.lemmas.List.{get_or-take, get_or-drop, get_or_default, length-take, flat_map_more}
 use Rattle.std.proofs.lemmas.List.Elements.{All-append, All-same, All-replicate, AllWithin-more}
 use Rattle.std.proofs.Math.Seq.{take-suc, take-add}
-use Rattle.std.proofs.lemmas.List.{flat_map_more}
 use Rattle.clap.specs.Walk.{Text}
-use Rattle.sfi_tool_c.specs.Words.{SpellsWords, ended, HasNoZero}
+use Rattle.sfi_tool_c.specs.Told.{SpellsWords, ended, HasNoZero}
 
 -- the bytes before `at` are those before `from` and those between
 pub between : (bytes : List ℕ) (from at : ℕ) → from ≤ at → take from bytes ++ take (at - from) (drop from bytes) ≡ take at bytes

@@ -6,13 +6,12 @@ use Rattle.std.proofs.lemmas.Bool.{cond_both, eqb-true, eqb-false, ltb-false, le
 use Rattle.rv_word.specs.declared.instr.Instr.{Instr}
 use Rattle.rv_word.specs.declared.instr.Instr.TheVariants.{Op, OpImm, Load, Store, Branch, Jal, Jalr, Lui, Auipc, Fence, Ecall, Ebreak}
 use Rattle.rv_word.specs.declared.instr.LoadKind.{LoadKind}
-use Rattle.rv_word.specs.Numbers.{offset_by}
+use Rattle.rv_word.specs.Spelling.{offset_by}
 use Rattle.rv_mem.specs.Bytes.{Bytes, bytes_at, loaded, addresses, address_after}
 use Rattle.rv_step.specs.declared.outcome.Outcome.TheVariants.{Next, Trap}
 use Rattle.rv_step.specs.declared.outcome.Cause.TheVariants as cause
 use Rattle.rv_step.specs.State.{Hart, State, register, past, with_pc, even_of}
-use Rattle.rv_step.specs.Step.{IsStep, effect, after_load, next, unchanged}
-use Rattle.rv_step.specs.Values.{load_size, store_size, is_taken}
+use Rattle.rv_step.specs.Step.{IsStep, effect, after_load, next, unchanged, load_size, store_size, is_taken}
 use Rattle.sfi_policy.specs.Formats.{unit}
 use Rattle.sfi_translate.specs.Machine.{Place, Label, Slow, Loop, Stopped, at_head, onto, falls, jumps, enters, after_line, from_loop}
 

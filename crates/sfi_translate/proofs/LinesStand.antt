@@ -15,7 +15,7 @@ use Rattle.sfi_image.proofs.Facts.{whole_bundles}
 use Rattle.sfi_rules.specs.Readings.{Piece, IsReading}
 use Rattle.sfi_rules.proofs.Readings.{spelled_within}
 use Rattle.sfi_report.specs.Listing.{unit_bytes}
-use Rattle.sfi_runs.specs.Regions.{HasCode}
+use Rattle.sfi_runs.specs.Runs.{HasCode}
 use Rattle.sfi_runs.proofs.Standing.{stands_there}
 use Rattle.sfi_translate.specs.Machine.{IsLine, bytes_of}
 

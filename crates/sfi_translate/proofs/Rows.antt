@@ -8,20 +8,18 @@ use Rattle.rv_word.specs.declared.instr.Instr.{Instr}
 use Rattle.rv_word.specs.declared.instr.Instr.TheVariants.{Op, OpImm, Load, Store, Branch, Jal, Jalr, Lui, Auipc, Fence, Ecall, Ebreak}
 use Rattle.rv_word.specs.declared.instr.LoadKind.{LoadKind}
 use Rattle.rv_word.specs.declared.instr.StoreWidth.{StoreWidth}
-use Rattle.rv_word.specs.Numbers.{offset_by}
+use Rattle.rv_word.specs.Spelling.{offset_by}
 use Rattle.rv_comp.specs.declared.front.Front.TheVariants.{Read}
 use Rattle.rv_mem.specs.Bytes.{bytes_at, loaded, stored, addresses, address_after}
 use Rattle.rv_mem.proofs.Facts.{addresses_are_these}
-use Rattle.rv_step.specs.Access.{Accesses}
+use Rattle.rv_step.specs.Step.{Accesses, Stepped, Stands, IsStep, effect, after_load, next, unchanged, load_size, store_size}
 use Rattle.rv_step.specs.declared.outcome.Outcome.TheVariants.{Next, Trap}
 use Rattle.rv_step.specs.declared.outcome.Cause.TheVariants as cause
 use Rattle.rv_step.specs.State.{State, register, past}
-use Rattle.rv_step.specs.Step.{Stepped, Stands, IsStep, effect, after_load, next, unchanged}
-use Rattle.rv_step.specs.Values.{load_size, store_size}
 use Rattle.sfi_image.specs.Parts.{IsRightPart}
-use Rattle.sfi_image.specs.Spans.{AreApart, code_region, guarded_region}
-use Rattle.sfi_runs.specs.Regions.{InData, InGuard}
-use Rattle.sfi_runs.specs.Kept.{KeepsAll}
+use Rattle.sfi_image.specs.Spelling.{AreApart, code_region, guarded_region}
+use Rattle.sfi_runs.specs.Runs.{InData, InGuard}
+use Rattle.sfi_runs.specs.Safety.{KeepsAll}
 use Rattle.sfi_runs.proofs.Accessing.{load_sized, store_sized}
 use Rattle.sfi_runs.proofs.Stepping.{in_data}
 use Rattle.sfi_translate.specs.Machine.{is_tested, row_step}

@@ -9,16 +9,15 @@ use Rattle.std.proofs.lemmas.List.{set-get_or}
 use Rattle.rv_word.specs.declared.instr.Instr.{Instr}
 use Rattle.rv_word.specs.declared.instr.Instr.TheVariants.{Op, OpImm, Load, Store, Branch, Jal, Jalr, Lui, Auipc, Fence, Ecall, Ebreak}
 use Rattle.rv_word.specs.declared.instr.LoadKind.{LoadKind}
-use Rattle.rv_word.specs.Numbers.{offset_by}
+use Rattle.rv_word.specs.Spelling.{offset_by}
 use Rattle.rv_mem.specs.Bytes.{Bytes, byte_at, bytes_at, in_front, number_of, addresses, address_after}
 use Rattle.rv_step.specs.declared.outcome.Outcome.TheVariants.{Next, Trap}
 use Rattle.rv_step.specs.declared.outcome.Cause.TheVariants as cause
 use Rattle.rv_step.specs.State.{Hart, register}
-use Rattle.rv_step.specs.Step.{effect, after_load, next, unchanged}
-use Rattle.rv_step.specs.Values.{load_size, store_size}
+use Rattle.rv_step.specs.Step.{effect, after_load, next, unchanged, load_size, store_size}
 use Rattle.sfi_policy.specs.Formats.{unit}
 use Rattle.sfi_image.specs.Parts.{IsRightPart}
-use Rattle.sfi_runs.specs.Regions.{HasReserved}
+use Rattle.sfi_runs.specs.Runs.{HasReserved}
 use Rattle.sfi_runs.proofs.Accessing.{load_sized, store_sized}
 use Rattle.sfi_translate.specs.Machine.{is_tested, is_done, fixed}
 use Rattle.sfi_translate.specs.Laws.{HasData}

@@ -9,8 +9,7 @@ use Rattle.rv_comp.proofs.Facts.{two_lengths}
 use Rattle.rv_step.specs.State.{Hart}
 use Rattle.sfi_policy.specs.Formats.{unit}
 use Rattle.sfi_image.proofs.Facts.{whole_bundles}
-use Rattle.sfi_rules.specs.Readings.{Piece, IsReading, IsLongestReading, rest_of}
-use Rattle.sfi_rules.specs.Bundles.{bundle_bytes}
+use Rattle.sfi_rules.specs.Readings.{Piece, IsReading, IsLongestReading, rest_of, bundle_bytes}
 use Rattle.sfi_rules.specs.words.Rules.{breaks_width}
 use Rattle.sfi_rules.proofs.Facts.{one_longest_reading}
 use Rattle.sfi_rules.proofs.Readings.{spelled_within}

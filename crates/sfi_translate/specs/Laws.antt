@@ -5,18 +5,15 @@ use Rattle.rv_mem.specs.Bytes.{Bytes, byte_at}
 use Rattle.rv_step.specs.declared.outcome.Outcome.{Outcome}
 use Rattle.rv_step.specs.declared.outcome.Outcome.TheVariants.{Next}
 use Rattle.rv_step.specs.State.{State, IsState}
-use Rattle.rv_step.specs.Step.{IsStep}
-use Rattle.rv_step.specs.Steps.{LeadTo}
+use Rattle.rv_step.specs.Step.{IsStep, LeadTo}
 use Rattle.sfi_policy.specs.Formats.{unit}
 use Rattle.sfi_image.specs.Spelling.{Part}
 use Rattle.sfi_rules.specs.Readings.{Piece, IsLongestReading, rest_of}
 use Rattle.sfi_report.specs.Listing.{unit_bytes}
-use Rattle.sfi_runs.specs.Regions.{InData}
-use Rattle.sfi_runs.specs.Runs.{Turn, IsEntry, IsRun}
-use Rattle.sfi_runs.specs.Calls.{after_turns}
+use Rattle.sfi_runs.specs.Runs.{InData, Turn, IsEntry, IsRun}
+use Rattle.sfi_runs.specs.Safety.{after_turns}
 use Rattle.sfi_safety.specs.Places.{IsCleanPart}
-use Rattle.sfi_translate.specs.Lines.{line_text}
-use Rattle.sfi_translate.specs.Translation.{IsCodeText}
+use Rattle.sfi_translate.specs.Translation.{line_text, IsCodeText}
 use Rattle.sfi_translate.specs.Machine.{Going, Loop, Stopped, IsLine, AreMoves}
 
 -- a byte is at each address of the data

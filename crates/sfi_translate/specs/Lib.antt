@@ -1,4 +1,3 @@
-pub mod Lines
 pub mod Translation
 pub mod Machine
 pub mod Laws

@@ -4,20 +4,18 @@
 use Rattle.std.specs.Prelude.{◌≡◌, ℕ, zero, suc, ◌+◌, ◌-◌, ◌*◌, ◌/◌, ◌%◌, ◌^◌, ◌<◌, ◌≤◌, ◌==◌, nat_le, nat_lt, ◌||◌, ◌&&◌, not, Bool, true, false, List, [], ◌∷◌, ◌++◌, length, slice_set, if◌then◌else◌}
 use Rattle.rv_word.specs.declared.instr.Instr.{Instr}
 use Rattle.rv_word.specs.declared.instr.Instr.TheVariants.{Load, Store, Branch, Jal, Jalr, Ecall, Ebreak}
-use Rattle.rv_word.specs.Numbers.{offset_by}
+use Rattle.rv_word.specs.Spelling.{offset_by}
 use Rattle.rv_mem.specs.Bytes.{address_after}
 use Rattle.rv_step.specs.declared.outcome.Outcome.{Outcome}
 use Rattle.rv_step.specs.declared.outcome.Outcome.TheVariants.{Next, Call, Trap}
 use Rattle.rv_step.specs.declared.outcome.Cause.TheVariants as cause
 use Rattle.rv_step.specs.State.{Hart, State, register, with_pc, even_of}
-use Rattle.rv_step.specs.Step.{Stepped, effect, unchanged}
-use Rattle.rv_step.specs.Values.{load_size, store_size, is_taken}
+use Rattle.rv_step.specs.Step.{Stepped, effect, unchanged, load_size, store_size, is_taken}
 use Rattle.sfi_policy.specs.Formats.{unit}
 use Rattle.sfi_image.specs.Spelling.{Part}
 use Rattle.sfi_rules.specs.Readings.{Piece, IsLongestReading}
 use Rattle.sfi_report.specs.Listing.{unit_bytes}
-use Rattle.sfi_translate.specs.Lines.{function_most}
-use Rattle.sfi_translate.specs.Translation.{head_bytes}
+use Rattle.sfi_translate.specs.Translation.{function_most, head_bytes}
 
 -- ---- where a turn is
 

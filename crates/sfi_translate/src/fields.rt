@@ -1,13 +1,13 @@
 //! The parts of a line.
 ghost use Rattle.std.specs.Prelude.{◌≡◌, ◌++◌, OnOk, string_bytes};
-ghost use Rattle.sfi_translate.specs.Lines.{opening, name_field, number_field, signed_field, address_field, closing, address_line};
+ghost use Rattle.sfi_translate.specs.Translation.{opening, name_field, number_field, signed_field, address_field, closing, address_line};
 
 use rv_word::Reg;
 use sfi_report::push_eight_digits;
 use std::alloc::AllocError;
 
 /// Appends the form, the address and the size.
-#[tactic(auto, unfolding(crate::specs::Lines::opening))]
+#[tactic(auto, unfolding(crate::specs::Translation::opening))]
 pub(crate) fn push_opening(
     out: &mut String,
     form: &str,
@@ -24,7 +24,7 @@ pub(crate) fn push_opening(
 }
 
 /// Appends a name.
-#[tactic(auto, unfolding(crate::specs::Lines::name_field))]
+#[tactic(auto, unfolding(crate::specs::Translation::name_field))]
 pub(crate) fn push_name(out: &mut String, name: &str) -> Result<(), AllocError>
     ensures { OnOk result (string_bytes out.new ≡ string_bytes out.old ++ name_field name.now) }
 {
@@ -33,7 +33,7 @@ pub(crate) fn push_name(out: &mut String, name: &str) -> Result<(), AllocError>
 }
 
 /// Appends a number that is never negative.
-#[tactic(auto, unfolding(crate::specs::Lines::number_field))]
+#[tactic(auto, unfolding(crate::specs::Translation::number_field))]
 pub(crate) fn push_number(out: &mut String, number: usize) -> Result<(), AllocError>
     ensures { OnOk result (string_bytes out.new ≡ string_bytes out.old ++ number_field number) }
 {
@@ -41,7 +41,7 @@ pub(crate) fn push_number(out: &mut String, number: usize) -> Result<(), AllocEr
 }
 
 /// Appends a register's number.
-#[tactic(auto, unfolding(crate::specs::Lines::number_field))]
+#[tactic(auto, unfolding(crate::specs::Translation::number_field))]
 pub(crate) fn push_register(out: &mut String, register: Reg) -> Result<(), AllocError>
     ensures { OnOk result (string_bytes out.new ≡ string_bytes out.old ++ number_field register) }
 {
@@ -50,7 +50,7 @@ pub(crate) fn push_register(out: &mut String, register: Reg) -> Result<(), Alloc
 }
 
 /// Appends a number that may be negative.
-#[tactic(auto, unfolding(crate::specs::Lines::signed_field))]
+#[tactic(auto, unfolding(crate::specs::Translation::signed_field))]
 pub(crate) fn push_signed(out: &mut String, number: i32) -> Result<(), AllocError>
     ensures { OnOk result (string_bytes out.new ≡ string_bytes out.old ++ signed_field number) }
 {
@@ -58,7 +58,7 @@ pub(crate) fn push_signed(out: &mut String, number: i32) -> Result<(), AllocErro
 }
 
 /// Appends an address.
-#[tactic(auto, unfolding(crate::specs::Lines::address_field))]
+#[tactic(auto, unfolding(crate::specs::Translation::address_field))]
 pub(crate) fn push_address(out: &mut String, at: u32) -> Result<(), AllocError>
     ensures { OnOk result (string_bytes out.new ≡ string_bytes out.old ++ address_field at) }
 {
@@ -67,7 +67,7 @@ pub(crate) fn push_address(out: &mut String, at: u32) -> Result<(), AllocError>
 }
 
 /// Appends the end of a line.
-#[tactic(auto, unfolding(crate::specs::Lines::closing))]
+#[tactic(auto, unfolding(crate::specs::Translation::closing))]
 pub(crate) fn push_closing(out: &mut String) -> Result<(), AllocError>
     ensures { OnOk result (string_bytes out.new ≡ string_bytes out.old ++ closing) }
 {
@@ -75,7 +75,7 @@ pub(crate) fn push_closing(out: &mut String) -> Result<(), AllocError>
 }
 
 /// Appends a line of a form and an address.
-#[tactic(auto, unfolding(crate::specs::Lines::address_line))]
+#[tactic(auto, unfolding(crate::specs::Translation::address_line))]
 pub(crate) fn push_address_line(out: &mut String, form: &str, at: u32) -> Result<(), AllocError>
     ensures { OnOk result
         (string_bytes out.new ≡ string_bytes out.old ++ address_line form.now at) }

@@ -1,8 +1,8 @@
 //! The line of an instruction.
 ghost use Rattle.std.specs.Prelude.{◌≡◌, ◌++◌, OnOk, codes, string_bytes};
-ghost use Rattle.rv_word.specs.Numbers.{offset_by};
+ghost use Rattle.rv_word.specs.Spelling.{offset_by};
 ghost use Rattle.rv_word.specs.declared.instr.Instr.TheVariants as instr;
-ghost use Rattle.sfi_translate.specs.Lines.{opening, name_field, number_field, signed_field, address_field, closing, far, line_text};
+ghost use Rattle.sfi_translate.specs.Translation.{opening, name_field, number_field, signed_field, address_field, closing, far, line_text};
 
 use crate::fields::{
     push_address, push_closing, push_name, push_number, push_opening, push_register, push_signed,
@@ -41,7 +41,7 @@ fn push_immediate(
 }
 
 /// What stands after the form of a jump.
-#[tactic(auto, unfolding(crate::specs::Lines::far))]
+#[tactic(auto, unfolding(crate::specs::Translation::far))]
 fn far(at: u32, to: u32) -> &'static str
     ensures { result.now ≡ far at to }
 {
@@ -53,7 +53,7 @@ fn far(at: u32, to: u32) -> &'static str
 }
 
 /// Appends the opening of a jump's line.
-#[tactic(auto, unfolding(crate::specs::Lines::opening))]
+#[tactic(auto, unfolding(crate::specs::Translation::opening))]
 fn push_jump(out: &mut String, form: &str, at: u32, size: u32, to: u32) -> Result<(), AllocError>
     ensures { OnOk result (string_bytes out.new
         ≡ string_bytes out.old ++ opening (form.now ++ far at to) at size) }
@@ -90,7 +90,7 @@ fn push_plain(out: &mut String, form: &str, at: u32, size: u32) -> Result<(), Al
 }
 
 /// Appends the line of an instruction of that size at that address.
-#[tactic(auto, unfolding(crate::specs::Lines::line_text))]
+#[tactic(auto, unfolding(crate::specs::Translation::line_text))]
 pub(crate) fn push_line(
     out: &mut String,
     at: u32,

@@ -2,7 +2,7 @@
 ghost use Rattle.std.specs.Prelude.{◌≡◌, ◌+◌, ◌^◌, ◌<◌, ◌≤◌, ◌++◌, OnOk, IfOk, Bool, length, string_bytes, codes};
 ghost use Rattle.sfi_image.specs.Spelling.{view};
 ghost use Rattle.sfi_image.specs.Parts.{IsRightPart};
-ghost use Rattle.sfi_translate.specs.Lines.{address_line};
+ghost use Rattle.sfi_translate.specs.Translation.{address_line};
 ghost use Rattle.sfi_translate.specs.Translation.{function_line, function_text, entry_text, head_text, sandbox_line, gate_line, data_line, last_line, IsUnitText, IsCodeText, IsSandboxText, IsTranslation};
 ghost use Rattle.sfi_translate.specs.private.{Adds, IsReadingText};
 

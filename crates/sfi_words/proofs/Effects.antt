@@ -2,7 +2,7 @@
 use Rattle.sfi_words.proofs.Prelude.{◌≡◌, ◌≢◌, ℕ, ◌+◌, ◌*◌, ◌%◌, ◌^◌, ◌<◌, ◌≤◌, ◌⊎◌, List, length, Bool, true, false, cond, not, ◌&&◌, ◌==◌, refl, sym, ap, ◌∙◌, subst, inl, inr, arith, Option, Some, None, ℤ, pos, negsuc, slice_index, is_some, and_parts, eqb-true, leb-true, ltb-true, not-false, false≢true, offset_by, destination, Instr, Op, OpImm, Load, Store, Branch, Jal, Jalr, Lui, Auipc, Fence, Ecall, Ebreak, RegOp, Addi, LoadKind, Bytes, bytes_at, address_after, addresses, loaded, Hart, register, with_register, with_pc, past, even_of, effect, after_load, next, unchanged, word, result_of, load_size, store_size, is_taken, extended, Outcome, Next, Call, Trap, is_reserved, Part, is_gate_of, IsGate, breaks_reserved, ends_region, IsWordStart, HasReserved, is_word_start, breaks_ecall, breaks_jump, breaks_target}
 use Rattle.std.specs.Prelude.{nat_le, nat_lt}
 use Rattle.rv_step.specs.declared.outcome.Cause.TheVariants as cause
-use Rattle.rv_step.specs.Values.{register_op}
+use Rattle.rv_step.specs.Step.{register_op}
 use Rattle.sfi_runs.proofs.Accessing.{kept, count_kept, written}
 use Rattle.sfi_runs.proofs.Stepping.{gate_of}
 

@@ -3,7 +3,7 @@ use Rattle.sfi_words.proofs.Prelude.{◌≡◌, ℕ, Bool, true, false, cond, no
 use Rattle.std.proofs.lemmas.Bool.{or_parts, not-false}
 use Rattle.sfi_rules.specs.declared.owed.Owed.TheVariants as kind
 use Rattle.sfi_rules.specs.declared.rule.Rule.TheVariants.{V3, V4, V5, V6, V7, V8, V10, V11, V12}
-use Rattle.sfi_rules.specs.words.Owing.{left, owed_by_data, owed_by_code, owed_of, owed_by, or_nothing, joined, owed_next, is_of_data, is_of_code}
+use Rattle.sfi_rules.specs.words.Rules.{left, owed_by_data, owed_by_code, owed_of, owed_by, or_nothing, joined, owed_next, is_of_data, is_of_code}
 use Rattle.sfi_rules.specs.words.Findings.{Place, is_at_gate, is_data_one, breaks_last, fails_data, fails_code, lowest}
 use Rattle.sfi_words.proofs.Owing.{meets, meets_if, is_nothing, both, owed_after, keeps, left_is, keeps_is}
 

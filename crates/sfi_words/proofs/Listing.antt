@@ -6,9 +6,9 @@ use Rattle.std.proofs.lemmas.Bool.{eqb-true, eq-eqb, ne_eqb, false≢true}
 use Rattle.std.proofs.lemmas.List.Elements.{All-head, All-tail}
 use Rattle.sfi_image.specs.declared.part.Gate.{Gate}
 use Rattle.sfi_image.specs.declared.span.Span.{Span}
-use Rattle.sfi_image.specs.Spans.{code_region}
-use Rattle.sfi_image.specs.Regions.{IsBundleStart}
-use Rattle.sfi_rules.specs.Bundles.{bundle_place, bundle_bytes}
+use Rattle.sfi_image.specs.Spelling.{code_region}
+use Rattle.sfi_image.specs.Parts.{IsBundleStart}
+use Rattle.sfi_rules.specs.Readings.{bundle_place, bundle_bytes}
 use Rattle.sfi_rules.specs.words.Findings.{is_at_gate, IsWordFound, AreFoundInWords, AreFoundOfFirst}
 use Rattle.sfi_words.specs.Laws.{FindsWhatIsBroken}
 use Rattle.sfi_words.proofs.Places as places

@@ -5,7 +5,7 @@ use Rattle.sfi_image.specs.declared.bundle.BundlePlace.{BundlePlace}
 use Rattle.sfi_rules.specs.Readings.{Piece, IsReading, IsLongestReading, rest_of}
 use Rattle.sfi_rules.specs.declared.owed.Owed.TheVariants as kind
 use Rattle.sfi_rules.specs.words.Findings.{Place, is_at_gate, lowest, found_at, found_from, owed_past, IsWordFound}
-use Rattle.sfi_rules.specs.Broken.{rest_finding}
+use Rattle.sfi_rules.specs.Rules.{rest_finding}
 use Rattle.sfi_words.proofs.Owing.{is_nothing}
 use Rattle.sfi_words.proofs.Judging.{AreKept, kept_of, none_of, after_is_next, ends_owing}
 use Rattle.sfi_words.proofs.Passing.{BreaksNoneHere, IsKeptHere, IsCleanWith, IsSameWith, with_first, with_last, kept_here, goes}

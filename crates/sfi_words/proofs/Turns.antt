@@ -1,7 +1,7 @@
 -- Each turn keeps a good state, and so does each run.
 use Rattle.sfi_words.proofs.Prelude.{◌≡◌, ℕ, List, ◌∷◌, sym, ap, ◌∙◌, subst, Ecall, address_after, Hart, State, Stands, Part, ends_region, IsReply, IsChange, Turn, Steps, Replies, Changes, IsTurn, after_turn, AreKnown, IsCleanInWords, IsAtPlaceInWords, IsGoodInWords, IsGoodInWordsIf, EntryIsGoodInWords, TurnKeepsInWords, CleanWordsRunSafely}
 use Rattle.rv_comp.proofs.Facts.{ecall_is_wide}
-use Rattle.sfi_runs.specs.Typed.{IsTyped}
+use Rattle.sfi_runs.specs.Runs.{IsTyped}
 use Rattle.sfi_runs.proofs.Formats.{to_word, of_words_typed}
 use Rattle.sfi_runs.proofs.Turning.{entry_keeps, reply_keeps, change_keeps, turn_safe, runs_safely, calls_typed}
 use Rattle.sfi_words.specs.Laws.{CleanWordsCallTyped}

@@ -6,10 +6,8 @@ use Rattle.sfi_image.specs.Parts.{IsRightPart}
 use Rattle.sfi_rules.specs.declared.finding.Finding.{Finding}
 use Rattle.sfi_rules.specs.words.Findings.{AreFindingsInWords}
 use Rattle.sfi_runs.specs.Runs.{Turn, IsEntry, IsTurn, after_turn}
-use Rattle.sfi_runs.specs.Safety.{IsSafeState, IsSafeTurn, RunsSafely}
-use Rattle.sfi_runs.specs.Calls.{CallsTyped}
-use Rattle.sfi_words.specs.Code.{AreWordsClean, IsCleanInWords}
-use Rattle.sfi_words.specs.Places.{IsGoodInWords, IsGoodInWordsIf}
+use Rattle.sfi_runs.specs.Safety.{IsSafeState, IsSafeTurn, RunsSafely, CallsTyped}
+use Rattle.sfi_words.specs.Code.{AreWordsClean, IsCleanInWords, IsGoodInWords, IsGoodInWordsIf}
 
 -- an entry is a good state
 abbrev pub EntryIsGoodInWords : Type 0

@@ -1,6 +1,6 @@
 //! The fields of a halfword. An immediate's bits lie in it as the table's row says.
 ghost use Rattle.std.specs.Prelude.{◌≡◌, ◌<◌, ◌≤◌, pos, ◌*ℤ◌};
-ghost use Rattle.rv_comp.specs.mirror.Decoding.{extended, short, long, word_offset, six, jump_offset, branch_offset, stack_step, stack_address, load_offset, store_offset};
+ghost use Rattle.rv_comp.specs.mirror.{extended, short, long, word_offset, six, jump_offset, branch_offset, stack_step, stack_address, load_offset, store_offset};
 
 use crate::bits::bits;
 use rv_word::Reg;
@@ -22,7 +22,7 @@ pub(super) fn long_reg(h: u16, low: u32) -> Reg
 }
 
 /// A number of `width` bits as a signed one.
-#[tactic(auto, unfolding(crate::specs::mirror::Decoding::extended))]
+#[tactic(auto, unfolding(crate::specs::mirror::extended))]
 pub(super) fn sign_extended(number: u16, width: u32) -> i32
     requires some { 0 < width }
     requires few { width ≤ 16 }
@@ -36,7 +36,7 @@ pub(super) fn sign_extended(number: u16, width: u32) -> i32
 }
 
 /// The immediate of C.LW and C.SW.
-#[tactic(auto, unfolding(crate::specs::mirror::Decoding::word_offset))]
+#[tactic(auto, unfolding(crate::specs::mirror::word_offset))]
 pub(super) fn word_offset(h: u16) -> i32
     ensures { result ≡ pos (word_offset h) }
 {
@@ -44,7 +44,7 @@ pub(super) fn word_offset(h: u16) -> i32
 }
 
 /// The six bits of an immediate beside a register.
-#[tactic(auto, unfolding(crate::specs::mirror::Decoding::six))]
+#[tactic(auto, unfolding(crate::specs::mirror::six))]
 pub(super) fn six_bits(h: u16) -> u16
     ensures { result ≡ six h }
 {
@@ -52,7 +52,7 @@ pub(super) fn six_bits(h: u16) -> u16
 }
 
 /// The offset of C.JAL and C.J.
-#[tactic(auto, unfolding(crate::specs::mirror::Decoding::jump_offset))]
+#[tactic(auto, unfolding(crate::specs::mirror::jump_offset))]
 pub(super) fn jump_offset(h: u16) -> i32
     ensures { result ≡ extended 12 (jump_offset h) }
 {
@@ -68,7 +68,7 @@ pub(super) fn jump_offset(h: u16) -> i32
 }
 
 /// The offset of C.BEQZ and C.BNEZ.
-#[tactic(auto, unfolding(crate::specs::mirror::Decoding::branch_offset))]
+#[tactic(auto, unfolding(crate::specs::mirror::branch_offset))]
 pub(super) fn branch_offset(h: u16) -> i32
     ensures { result ≡ extended 9 (branch_offset h) }
 {
@@ -81,7 +81,7 @@ pub(super) fn branch_offset(h: u16) -> i32
 }
 
 /// The bits of the immediate of C.ADDI4SPN.
-#[tactic(auto, unfolding(crate::specs::mirror::Decoding::stack_address))]
+#[tactic(auto, unfolding(crate::specs::mirror::stack_address))]
 pub(super) fn stack_address(h: u16) -> u16
     ensures { result ≡ stack_address h }
 {
@@ -89,7 +89,7 @@ pub(super) fn stack_address(h: u16) -> u16
 }
 
 /// The bits of the immediate of C.ADDI16SP.
-#[tactic(auto, unfolding(crate::specs::mirror::Decoding::stack_step))]
+#[tactic(auto, unfolding(crate::specs::mirror::stack_step))]
 pub(super) fn stack_step(h: u16) -> u16
     ensures { result ≡ stack_step h }
 {
@@ -101,7 +101,7 @@ pub(super) fn stack_step(h: u16) -> u16
 }
 
 /// The immediate of C.LUI.
-#[tactic(auto, unfolding(crate::specs::mirror::Decoding::extended))]
+#[tactic(auto, unfolding(crate::specs::mirror::extended))]
 pub(super) fn upper_imm(h: u16) -> i32
     ensures { result ≡ extended 6 (six h) *ℤ pos 4096 }
 {
@@ -110,7 +110,7 @@ pub(super) fn upper_imm(h: u16) -> i32
 }
 
 /// The immediate of C.LWSP.
-#[tactic(auto, unfolding(crate::specs::mirror::Decoding::load_offset))]
+#[tactic(auto, unfolding(crate::specs::mirror::load_offset))]
 pub(super) fn load_offset(h: u16) -> i32
     ensures { result ≡ pos (load_offset h) }
 {
@@ -118,7 +118,7 @@ pub(super) fn load_offset(h: u16) -> i32
 }
 
 /// The immediate of C.SWSP.
-#[tactic(auto, unfolding(crate::specs::mirror::Decoding::store_offset))]
+#[tactic(auto, unfolding(crate::specs::mirror::store_offset))]
 pub(super) fn store_offset(h: u16) -> i32
     ensures { result ≡ pos (store_offset h) }
 {

@@ -2,15 +2,15 @@
 ghost use Rattle.std.specs.Prelude.{◌≡◌, ◌<◌, IfSome, Some};
 ghost use Rattle.rv_word.specs.declared.instr.Instr.{Instr};
 ghost use Rattle.rv_word.specs.Outlines.{outline};
-ghost use Rattle.rv_comp.specs.Halfwords.{IsShortSpelling, IsHalfwordThat};
-ghost use Rattle.rv_comp.specs.mirror.Outlining.{row_of, jump, jump_or_stop, outlined};
+ghost use Rattle.rv_comp.specs.Fronts.{IsShortSpelling, IsHalfwordThat};
+ghost use Rattle.rv_comp.specs.mirror.{row_of, jump, jump_or_stop, outlined};
 
 use super::fields::{branch_offset, jump_offset, long_reg, short_reg};
 use crate::bits::bits;
 use rv_word::{Outline, Reg};
 
 /// Bits 15:13, and after them bits 1:0.
-#[tactic(auto, unfolding(crate::specs::mirror::Outlining::row_of))]
+#[tactic(auto, unfolding(crate::specs::mirror::row_of))]
 fn row_of(h: u16) -> u16
     ensures { result ≡ row_of h }
 {
@@ -18,7 +18,7 @@ fn row_of(h: u16) -> u16
 }
 
 /// C.JR, C.JALR, C.MV and C.ADD.
-#[tactic(auto, unfolding(crate::specs::mirror::Outlining::jump))]
+#[tactic(auto, unfolding(crate::specs::mirror::jump))]
 #[inline(always)]
 fn jump(h: u16) -> Outline
     ensures { result ≡ jump h }
@@ -36,7 +36,7 @@ fn jump(h: u16) -> Outline
 }
 
 /// C.JR, C.JALR, C.MV, C.ADD and C.EBREAK.
-#[tactic(auto, unfolding(crate::specs::mirror::Outlining::jump_or_stop))]
+#[tactic(auto, unfolding(crate::specs::mirror::jump_or_stop))]
 #[inline(always)]
 fn jump_or_stop(h: u16) -> Option<Outline>
     ensures { result ≡ jump_or_stop h }
@@ -51,7 +51,7 @@ fn jump_or_stop(h: u16) -> Option<Outline>
 }
 
 /// The outline of a halfword's form, by its quadrant and top three bits; none where it has no form.
-#[tactic(auto, unfolding(crate::specs::mirror::Outlining::outlined))]
+#[tactic(auto, unfolding(crate::specs::mirror::outlined))]
 #[inline(always)]
 fn outline_halfword(h: u16) -> Option<Outline>
     ensures { result ≡ outlined h }

@@ -1,7 +1,19 @@
--- What segments have at an address.
-use Rattle.std.specs.Prelude.{◌≡◌, ℕ, ◌-◌, ◌==◌, List, [], ◌∷◌, Option, None, Some, nat_lt, slice_get, if◌then◌else◌}
+-- Words of private contracts and proofs: where a memory of segments has values.
+use Rattle.std.specs.Prelude.{◌≡◌, ℕ, ◌<◌, ◌≤◌, Option, None, IsSome, ◌-◌, ◌==◌, List, [], ◌∷◌, Some, nat_lt, slice_get, if◌then◌else◌}
 use Rattle.std.specs.Option.{option_or}
 use Rattle.rv_mem.specs.declared.segment.Segment.{Segment}
+
+-- ==== Where a partial function has values.
+
+-- the function has a value at a number from the first up to the second, which isn't included
+abbrev pub HasIn : (ℕ → Option ℕ) → ℕ → ℕ → Type 0
+HasIn f from to = (q : ℕ) × (from ≤ q) × (q < to) × IsSome (f q)
+
+-- the function has no value at a number from the first up to the second
+abbrev pub HasNone : (ℕ → Option ℕ) → ℕ → ℕ → Type 0
+HasNone f from to = (q : ℕ) → from ≤ q → q < to → f q ≡ None
+
+-- ==== What segments have at an address.
 
 -- what bytes from an address on have at q
 abbrev pub byte_in : ℕ → List ℕ → ℕ → Option ℕ

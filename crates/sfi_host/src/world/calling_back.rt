@@ -1,9 +1,9 @@
 //! A sandbox of a world that waits at a call is called back.
 ghost use Rattle.std.specs.Prelude.{◌≡◌, ◌↔◌, IsTrue};
 ghost use Rattle.std.specs.Bool.{OnTrue, OnFalse};
-ghost use Rattle.sfi_host.specs.Callbacks.{MayCallBackAt, with_callback};
+ghost use Rattle.sfi_host.specs.Changing.{MayCallBackAt, with_callback};
 ghost use Rattle.sfi_host.specs.Changing.{OthersAreSame};
-ghost use Rattle.sfi_host.specs.Entering.{IsAtEntry};
+ghost use Rattle.sfi_host.specs.Loading.{IsAtEntry};
 ghost use Rattle.sfi_host.specs.Worlds.{slots_of, IsSafeWorld};
 
 use crate::world::World;

@@ -1,7 +1,7 @@
 //! What a debugger asks of a world.
 ghost use Rattle.std.specs.Prelude.{◌≡◌, ◌↔◌, ℕ, IfSome, IsSome};
 ghost use Rattle.sfi_host.specs.private.Sandboxes.{bounds_in};
-ghost use Rattle.sfi_host.specs.Until.{IsUpToStop, HasRunUntil};
+ghost use Rattle.sfi_host.specs.Waiting.{IsUpToStop, HasRunUntil};
 ghost use Rattle.sfi_host.specs.Waiting.{AsksAtGate, IsAtCall, Waits};
 ghost use Rattle.sfi_host.specs.Worlds.{slots_of, HaveStoppedThemselves, IsSafeWorld, StaysOutsideData};
 

@@ -2,8 +2,8 @@
 ghost use Rattle.std.specs.Prelude.{◌≡◌, ◌↔◌, IsSome, IsTrue, slice_get};
 ghost use Rattle.std.specs.Bool.{OnTrue, OnFalse};
 ghost use Rattle.sfi_host.specs.Changing.{OthersAreSame};
-ghost use Rattle.sfi_host.specs.Entering.{IsAtEntry};
-ghost use Rattle.sfi_host.specs.Resetting.{with_reset};
+ghost use Rattle.sfi_host.specs.Loading.{IsAtEntry};
+ghost use Rattle.sfi_host.specs.Loading.{with_reset};
 ghost use Rattle.sfi_host.specs.Worlds.{slots_of, IsSafeWorld, StaysOutsideData};
 
 use crate::world::World;

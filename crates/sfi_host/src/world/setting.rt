@@ -3,8 +3,8 @@ ghost use Rattle.std.specs.Prelude.{◌≡◌, ◌↔◌, IsTrue};
 ghost use Rattle.std.specs.Bool.{OnTrue, OnFalse};
 ghost use Rattle.rv_step.specs.State.{IsHart};
 ghost use Rattle.sfi_host.specs.Changing.{OthersAreSame};
-ghost use Rattle.sfi_host.specs.Entering.{IsAtEntry};
-ghost use Rattle.sfi_host.specs.Setting.{hart_of, with_hart, MaySetAt};
+ghost use Rattle.sfi_host.specs.Loading.{IsAtEntry};
+ghost use Rattle.sfi_host.specs.Changing.{hart_of, with_hart, MaySetAt};
 ghost use Rattle.sfi_host.specs.Worlds.{slots_of, IsSafeWorld};
 
 use crate::setting::cpu_of;

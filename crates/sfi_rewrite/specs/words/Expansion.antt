@@ -1,22 +1,24 @@
--- The expansion of an item in code in words: each access is on a data register or on x26, each
--- indirect jump on x30, and what writes a data register stands before its mask, is the mask, or is
--- a step before its use.
+-- The expansion of an item in code in words, and how expansions stand in words.
 use Rattle.std.specs.Prelude.{◌≡◌, ◌==◌, ◌&&◌, ◌||◌, not, ℕ, ℤ, pos, negsuc, nat_le, nat_lt, List, [], ◌∷◌, ◌++◌, map, Bool, false, MatchBool, Option, Some, None, if◌then◌else◌}
 use Rattle.rv_word.specs.declared.instr.ImmOp.TheVariants.{Addi}
 use Rattle.rv_word.specs.declared.instr.RegOp.TheVariants.{Add, And, Or}
 use Rattle.rv_word.specs.declared.instr.Instr.{Instr}
 use Rattle.rv_word.specs.declared.instr.Instr.TheVariants.{Op, OpImm, Load, Store, Jal, Jalr}
-use Rattle.rv_word.specs.Writes.{destination}
+use Rattle.rv_word.specs.Outlines.{destination}
 use Rattle.sfi_policy.specs.Limits.{slack}
-use Rattle.sfi_policy.specs.Registers.{data_base_register, data_mask_register, is_data_register, code_register, offset_register}
+use Rattle.sfi_policy.specs.Formats.{data_base_register, data_mask_register, is_data_register, code_register, offset_register}
 use Rattle.sfi_source.specs.declared.item.Body.{Body}
 use Rattle.sfi_source.specs.declared.item.Body.TheVariants.{Plain, To, High, Low}
 use Rattle.sfi_source.specs.declared.item.Item.{Item}
 use Rattle.sfi_pairs.specs.Pairs.{code_pair}
 use Rattle.sfi_rewrite.specs.declared.slot.Slot.{Slot}
-use Rattle.sfi_rewrite.specs.declared.slot.Slot.TheVariants.{Wide, Jump, Upper, Lower}
-use Rattle.sfi_rewrite.specs.Registers.{address_register}
-use Rattle.sfi_rewrite.specs.Expansion.{IsAlone}
+use Rattle.sfi_rewrite.specs.declared.slot.Slot.TheVariants.{Wide, Jump, Upper, Lower, Short}
+use Rattle.sfi_rewrite.specs.Expansion.{address_register, IsAlone}
+use Rattle.rv_comp.specs.Table.{expansion}
+
+-- ==== The expansion of an item in code in words: each access is on a data register or on x26, each
+-- indirect jump on x30, and what writes a data register stands before its mask, is the mask, or is
+-- a step before its use.
 
 -- `and x31, a, x27`; `or d, x31, x26`: d becomes the address of the data region with the offset of a
 abbrev pub data_mask : ℕ → ℕ → List Slot
@@ -138,3 +140,42 @@ is_barred_jump (Plain (Jal rd offset)) = is_data_register rd
 is_barred_jump (Plain (Jalr rd a imm)) = is_data_register rd || not (is_zero imm)
 is_barred_jump (To (Jal rd offset) name) = is_data_register rd
 is_barred_jump x = false
+
+-- ==== How expansions stand in words of 4 bytes.
+
+-- a slot, and whether a label stands before it
+abbrev pub Marked : Type 0
+Marked = Bool × Slot
+
+-- a label before slots stands before the first of them
+abbrev pub marked : Bool → List Slot → List Marked
+marked labelled [] = []
+marked labelled (s ∷ slots) = (labelled, s) ∷ marked false slots
+
+-- the expansions of items one after another, before other items
+abbrev pub AreExpanded : List Item → List Item → List Marked → Type 0
+AreExpanded [] later slots = slots ≡ []
+AreExpanded (x ∷ items) later slots =
+    (expanded : List Slot) × (rest : List Marked) × IsExpansion x (items ++ later) expanded
+    × (slots ≡ marked x.labelled expanded ++ rest) × AreExpanded items later rest
+
+-- a slot that has a word alone has 32 bits
+abbrev pub alone : Slot → Slot
+alone (Short f) = Wide (expansion f)
+alone s = s
+
+-- The slots in words: of 16-bit forms two share a word, unless a label stands before the second; any
+-- other slot has a word alone. So each label is at a word's start, and no c.nop is needed.
+abbrev pub in_words : List Marked → List Slot
+in_words [] = []
+in_words ((labelled, Short f) ∷ (false, Short g) ∷ slots) = Short f ∷ Short g ∷ in_words slots
+in_words ((labelled, s) ∷ slots) = alone s ∷ in_words slots
+
+-- the slots of items, before other items
+abbrev pub AreLaidBefore : List Item → List Item → List Slot → Type 0
+AreLaidBefore items later slots =
+    (expanded : List Marked) × AreExpanded items later expanded × (slots ≡ in_words expanded)
+
+-- the slots of all the items
+abbrev pub AreLaid : List Item → List Slot → Type 0
+AreLaid items slots = AreLaidBefore items [] slots

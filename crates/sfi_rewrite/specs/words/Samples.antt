@@ -6,12 +6,11 @@ use Rattle.rv_word.specs.declared.instr.LoadKind.TheVariants.{Lw}
 use Rattle.rv_word.specs.declared.instr.StoreWidth.TheVariants.{Sw}
 use Rattle.rv_word.specs.declared.instr.Instr.{Instr}
 use Rattle.rv_word.specs.declared.instr.Instr.TheVariants.{OpImm, Load, Store}
-use Rattle.rv_word.specs.Writes.{destination}
+use Rattle.rv_word.specs.Outlines.{destination}
 use Rattle.rv_step.specs.declared.outcome.Outcome.TheVariants.{Next}
 use Rattle.sfi_source.specs.declared.item.Body.TheVariants.{Plain}
 use Rattle.sfi_source.specs.declared.item.Item.{Item}
-use Rattle.sfi_policy.specs.Formats.{unit}
-use Rattle.sfi_policy.specs.Registers.{is_data_register, stack_pointer}
+use Rattle.sfi_policy.specs.Formats.{unit, is_data_register, stack_pointer}
 use Rattle.sfi_policy.specs.declared.format.Format.TheVariants.{Sfiw}
 use Rattle.sfi_rewrite.specs.Samples.{Meets, LeavesInside, LeavesOutside, sample_push}
 use Rattle.sfi_rewrite.specs.words.Expansion.{mask_after, is_step, IsPlainExpansion, IsExpansion}

@@ -4,28 +4,24 @@
 -- instruction does.
 use Rattle.std.specs.Prelude.{◌≡◌, ◌≢◌, ◌+◌, ◌%◌, ◌==◌, ◌||◌, ◌++◌, ℕ, Bool, true, false, MatchBool, List, [], ◌∷◌, length, map, take, drop, Some, Option, None, not, ◌&&◌, ◌⊎◌, if◌then◌else◌}
 use Rattle.std.specs.List.{AllZip}
-use Rattle.rv_word.specs.Numbers.{offset_by}
+use Rattle.rv_word.specs.Spelling.{offset_by}
 use Rattle.rv_word.specs.declared.instr.Instr.{Instr}
 use Rattle.rv_word.specs.declared.instr.Instr.TheVariants.{Load, Store, Jalr}
-use Rattle.rv_word.specs.Writes.{destination}
+use Rattle.rv_word.specs.Outlines.{destination}
 use Rattle.rv_mem.specs.Bytes.{address_after}
 use Rattle.rv_step.specs.declared.outcome.Outcome.TheVariants.{Next}
 use Rattle.rv_step.specs.State.{Hart, State, register}
-use Rattle.rv_step.specs.Step.{Stepped, effect}
-use Rattle.rv_step.specs.Steps.{LeadTo}
+use Rattle.rv_step.specs.Step.{Stepped, effect, LeadTo}
 use Rattle.sfi_source.specs.declared.item.Item.{Item}
-use Rattle.sfi_policy.specs.Registers.{data_base_register, is_data_register, code_register, offset_register}
-use Rattle.sfi_policy.specs.Formats.{unit}
+use Rattle.sfi_policy.specs.Formats.{data_base_register, is_data_register, code_register, offset_register, unit}
 use Rattle.sfi_policy.specs.declared.format.Format.TheVariants.{Sfiw}
 use Rattle.sfi_image.specs.declared.span.Span.{Span}
-use Rattle.sfi_image.specs.Spans.{Holds}
+use Rattle.sfi_image.specs.Spelling.{Holds}
 use Rattle.sfi_rewrite.specs.declared.slot.Slot.{Slot}
-use Rattle.sfi_rewrite.specs.Registers.{address_register}
-use Rattle.sfi_rewrite.specs.Slots.{size_of, slots_of}
+use Rattle.sfi_rewrite.specs.Expansion.{address_register, size_of, slots_of}
 use Rattle.sfi_rewrite.specs.Placement.{Placement}
 use Rattle.sfi_rewrite.specs.Transparency.{masked, DoesAs, IsAskedOf, MayBe}
-use Rattle.sfi_rewrite.specs.words.Expansion.{IsExpansion, is_step}
-use Rattle.sfi_rewrite.specs.words.Laying.{Marked, alone, AreExpanded, AreLaidBefore}
+use Rattle.sfi_rewrite.specs.words.Expansion.{IsExpansion, is_step, Marked, alone, AreExpanded, AreLaidBefore}
 
 -- ---- the sandbox
 

@@ -1,7 +1,7 @@
 //! What an item of the source becomes in code in words.
 ghost use Rattle.std.specs.Prelude.{◌≡◌, ◌∷◌, ◌++◌, ◌+◌, ◌≤◌, [], Some, length};
 ghost use Rattle.sfi_rewrite.specs.words.Expansion.{base_of, data_mask, makes_base, before, mask_after, IsConfined, IsPlainExpansion, IsExpansion, is_step_to, is_step, is_small, is_use, is_zero, is_move, moved, IsAround};
-ghost use Rattle.rv_word.specs.Writes.{destination};
+ghost use Rattle.rv_word.specs.Outlines.{destination};
 
 use crate::expansion::{Expansion, alone};
 use crate::slot::Slot;

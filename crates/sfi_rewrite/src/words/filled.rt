@@ -1,8 +1,8 @@
 //! Words that are filled one after another.
 ghost use Rattle.std.specs.Prelude.{◌≡◌, ◌++◌, ◌+◌, ◌%◌, ◌≤◌, [], None, IfOk};
-ghost use Rattle.sfi_rewrite.specs.Slots.{size_of};
-ghost use Rattle.sfi_rewrite.specs.private.Filling.{largest};
-ghost use Rattle.sfi_rewrite.specs.private.Words.{so_far, bytes_of, more_for, ended, with_slot};
+ghost use Rattle.sfi_rewrite.specs.Expansion.{size_of};
+ghost use Rattle.sfi_rewrite.specs.private.{largest};
+ghost use Rattle.sfi_rewrite.specs.private.{so_far, bytes_of, more_for, ended, with_slot};
 
 use crate::filled::Filling;
 use crate::slot::Slot;
@@ -22,7 +22,7 @@ pub(crate) struct WordFilling {
 }
 
 impl Model for WordFilling {
-    ghost use Rattle.sfi_rewrite.specs.private.Words.{WordsSoFar, so_far};
+    ghost use Rattle.sfi_rewrite.specs.private.{WordsSoFar, so_far};
 
     ghost Value = { WordsSoFar };
 

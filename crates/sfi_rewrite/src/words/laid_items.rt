@@ -1,9 +1,9 @@
 //! The items of a sandbox of code in words, laid one after another.
 ghost use Rattle.std.specs.Prelude.{◌≡◌, ◌<◌, ◌+◌, true, IfOk, IfErr, length, drop};
-ghost use Rattle.sfi_rewrite.specs.private.Words.{before_label, with_slots, HaveRoom, AreWith, HasNoRoom, IsBeyond};
-ghost use Rattle.sfi_rewrite.specs.private.Filling.{AreLabels};
+ghost use Rattle.sfi_rewrite.specs.private.{before_label, with_slots, HaveRoom, AreWith, HasNoRoom, IsBeyond};
+ghost use Rattle.sfi_rewrite.specs.private.{AreLabels};
 ghost use Rattle.sfi_policy.specs.declared.format.Format.TheVariants.{Sfiw};
-ghost use Rattle.sfi_rewrite.specs.Faults.{AreFaultless, UnlessMemory, IsItemFault};
+ghost use Rattle.sfi_rewrite.specs.Rewriting.{AreFaultless, UnlessMemory, IsItemFault};
 
 use crate::fault::RewriteFault;
 use crate::item::permit;

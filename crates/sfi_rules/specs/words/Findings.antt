@@ -5,22 +5,19 @@
 use Rattle.std.specs.Prelude.{◌≡◌, ◌+◌, ◌-◌, ◌*◌, ◌==◌, ◌&&◌, ◌||◌, not, ℕ, zero, suc, List, [], ◌∷◌, ◌++◌, Bool, false, Option, Some, None, cond, length, take, drop, is_some}
 use Rattle.std.specs.List.{find}
 use Rattle.rv_word.specs.declared.instr.Instr.{Instr}
-use Rattle.rv_word.specs.Writes.{destination, writes_register}
+use Rattle.rv_word.specs.Outlines.{destination, writes_register}
 use Rattle.sfi_policy.specs.Limits.{bundle_size, word_size}
-use Rattle.sfi_policy.specs.Registers.{is_data_register, code_register}
+use Rattle.sfi_policy.specs.Formats.{is_data_register, code_register}
 use Rattle.sfi_image.specs.Spelling.{Part}
 use Rattle.sfi_image.specs.declared.bundle.BundlePlace.{BundlePlace}
 use Rattle.sfi_rules.specs.declared.finding.Finding.{Finding}
 use Rattle.sfi_rules.specs.declared.rule.Rule.{Rule}
 use Rattle.sfi_rules.specs.declared.rule.Rule.TheVariants.{V1, V2, V3, V4, V5, V6, V7, V8, V9, V10, V11, V12}
-use Rattle.sfi_rules.specs.Broken.{broken, all_rules, rest_finding}
-use Rattle.sfi_rules.specs.Bundles.{bundle_place, bundle_bytes}
-use Rattle.sfi_rules.specs.Readings.{Piece, IsLongestReading, rest_of}
-use Rattle.sfi_rules.specs.Rules.{breaks_reserved, ends_region, is_empty}
+use Rattle.sfi_rules.specs.Rules.{broken, all_rules, rest_finding, breaks_reserved, ends_region, is_empty}
+use Rattle.sfi_rules.specs.Readings.{bundle_place, bundle_bytes, Piece, IsLongestReading, rest_of}
 use Rattle.sfi_rules.specs.declared.owed.Owed.{Owed}
 use Rattle.sfi_rules.specs.declared.owed.Owed.TheVariants.{Nothing}
-use Rattle.sfi_rules.specs.words.Rules.{breaks_ecall, breaks_access, breaks_jump, breaks_target, breaks_offset}
-use Rattle.sfi_rules.specs.words.Owing.{left, owed_by, owed_next, is_of_data, is_of_code}
+use Rattle.sfi_rules.specs.words.Rules.{breaks_ecall, breaks_access, breaks_jump, breaks_target, breaks_offset, left, owed_by, owed_next, is_of_data, is_of_code}
 
 -- ---- at an instruction
 

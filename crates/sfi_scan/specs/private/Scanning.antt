@@ -1,11 +1,34 @@
--- Words of private contracts: the scan of a stretch, front by front.
-use Rattle.std.specs.Prelude.{◌≡◌, ◌+◌, ◌-◌, ◌*◌, ◌^◌, ◌<◌, ◌≤◌, ℕ, List, [], length, drop, false}
-use Rattle.sfi_policy.specs.Limits.{bundle_size}
+-- Words of private contracts: the scan of a stretch.
+use Rattle.std.specs.Prelude.{◌+◌, ◌≤◌, ℕ, ◌≡◌, ◌-◌, ◌*◌, ◌^◌, ◌<◌, length, drop, false}
 use Rattle.sfi_image.specs.declared.bundle.BundlePlace.{BundlePlace}
-use Rattle.sfi_rules.specs.Bundles.{IsWithinBlock}
+use Rattle.std.proofs.Common.{List, Bool, [], ◌++◌, ap, sym, ◌∙◌, append_assoc}
+use Rattle.std.proofs.lemmas.List.{append-nil}
 use Rattle.sfi_rules.specs.declared.finding.Finding.{Finding}
+use Rattle.sfi_scan.specs.Stretches.{Lists, stretch_place, IsScanned, IsWordCodeScanned, AreWordStretchFindings}
+use Rattle.sfi_policy.specs.Limits.{bundle_size}
+use Rattle.sfi_rules.specs.Readings.{IsWithinBlock}
 use Rattle.sfi_rules.specs.declared.owed.Owed.{Owed}
-use Rattle.sfi_scan.specs.Stretches.{stretch_place, IsScanned, IsWordCodeScanned, AreWordStretchFindings}
+
+-- ==== Where bytes lie in a bundle's code region.
+
+-- `size` bytes from the address on lie in the code region
+pub record IsInside (b : BundlePlace) (address size : ℕ) : Type 0 where
+  pub from : b.code_base ≤ address
+  pub to : address + size ≤ b.code_base + b.code_size
+
+-- ==== Lemmas that `FindingList`'s impl cites: it takes no findings, and some findings after
+-- others.
+
+pub lists_none : (old : List Finding) (lacked : Bool) → Lists old lacked [] old lacked
+lists_none old lacked = λ had. (had, sym (append-nil old))
+
+pub lists_more : (a : List Finding) (p : Bool) (xs b : List Finding) (q : Bool) (ys c : List Finding) (r : Bool) → Lists a p xs b q → Lists b q ys c r → Lists a p (xs ++ ys) c r
+lists_more a p xs b q ys c r one two = λ had.
+    let second = two had in
+    let first = one second.0 in
+    (first.0, second.1 ∙ ap (λ (l : List Finding). l ++ ys) first.1 ∙ append_assoc a xs ys)
+
+-- ==== The scan of a stretch, front by front.
 
 -- a plain block of the stretch begins at byte `start`, before its region's last bundle, and has the
 -- stretch's bundle k

@@ -5,9 +5,9 @@ ghost use Rattle.std.specs.Bool.{OnTrue};
 ghost use Rattle.rv_word.specs.Spelling.{IsWordOf};
 ghost use Rattle.rv_word.specs.declared.instr.Instr.{Instr};
 ghost use Rattle.sfi_masks.specs.Masks.{is_in, IsFreeWordBy, may_write_in_words, may_be_on_in_words, word_at as block_word};
-ghost use Rattle.sfi_rules.specs.Bundles.{IsWithinBlock};
+ghost use Rattle.sfi_rules.specs.Readings.{IsWithinBlock};
 ghost use Rattle.sfi_rules.specs.declared.owed.Owed.TheVariants.{Nothing};
-ghost use Rattle.sfi_scan.specs.private.WordBlock.{IsToldFree, IsQuietWord, IsSteppedWord, IsSeen, IsCleanWord, AreCleanWords, IsMasking, IsPlacing, IsPair, IsPairAt, IsStepOf, IsOffset, is_dropped, IsUseOf, IsUsedStep};
+ghost use Rattle.sfi_scan.specs.private.Words.{IsToldFree, IsQuietWord, IsSteppedWord, IsSeen, IsCleanWord, AreCleanWords, IsMasking, IsPlacing, IsPair, IsPairAt, IsStepOf, IsOffset, is_dropped, IsUseOf, IsUsedStep};
 
 use crate::block::{EVEN, bundle_at, without};
 use crate::clean::word_at;

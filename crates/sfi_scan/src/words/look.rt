@@ -3,19 +3,19 @@
 //! what follows a step, so it is quick. A word of which it tells nothing may still break no rule.
 ghost use Rattle.std.specs.Prelude.{◌≡◌, ◌+◌, ◌<◌, ◌==◌, ◌&&◌, ◌||◌, not, ℕ, true, IfSome, length, []};
 ghost use Rattle.std.specs.Bool.{OnTrue};
-ghost use Rattle.rv_word.specs.Numbers.{bits};
+ghost use Rattle.rv_word.specs.Spelling.{bits};
 ghost use Rattle.rv_word.specs.Outlines.{IsWordThat};
 ghost use Rattle.rv_word.specs.Spelling.{IsWordOf};
 ghost use Rattle.rv_word.specs.declared.instr.Instr.TheVariants.{Op};
 ghost use Rattle.rv_word.specs.declared.instr.RegOp.TheVariants.{And, Or};
 ghost use Rattle.rv_word.specs.declared.outline.Outline.TheVariants.{Computes};
 ghost use Rattle.sfi_image.specs.declared.bundle.BundlePlace.{BundlePlace};
-ghost use Rattle.sfi_policy.specs.Registers.{is_data_register};
-ghost use Rattle.sfi_rules.specs.Bundles.{IsWithin};
+ghost use Rattle.sfi_policy.specs.Formats.{is_data_register};
+ghost use Rattle.sfi_rules.specs.Readings.{IsWithin};
 ghost use Rattle.sfi_rules.specs.declared.owed.Owed.TheVariants.{Nothing, MaskOrUse};
 ghost use Rattle.sfi_rules.specs.words.Findings.{IsWordFound};
-ghost use Rattle.sfi_scan.specs.private.FirstLook.{is_zero};
-ghost use Rattle.sfi_scan.specs.private.WordLook.{is_kept, is_plain, IsQuietThere, IsBeforeEnd, IsPlainHalf};
+ghost use Rattle.sfi_scan.specs.private.Blocks.{is_zero};
+ghost use Rattle.sfi_scan.specs.private.Words.{is_kept, is_plain, IsQuietThere, IsBeforeEnd, IsPlainHalf};
 
 use crate::clean::{half_at, word_at};
 use crate::rules::offset_by;

@@ -1,7 +1,7 @@
 //! What the next instructions owe: the state of a scan.
 ghost use Rattle.std.specs.Prelude.{◌≡◌};
-ghost use Rattle.rv_word.specs.Writes.{destination};
-ghost use Rattle.sfi_rules.specs.words.Owing.{left, owed_by_data, owed_by_code, owed_by, owed_next, is_of_data, is_of_code};
+ghost use Rattle.rv_word.specs.Outlines.{destination};
+ghost use Rattle.sfi_rules.specs.words.Rules.{left, owed_by_data, owed_by_code, owed_by, owed_next, is_of_data, is_of_code};
 ghost use Rattle.sfi_rules.specs.words.Findings.{fails_data, fails_code, is_data_one};
 
 use crate::before::is_masking;

@@ -1,9 +1,9 @@
 //! The rules, each as a test on an instruction and what is owed before it.
 ghost use Rattle.std.specs.Prelude.{◌≡◌};
 ghost use Rattle.sfi_pairs.specs.Pairs.{is_placing};
-ghost use Rattle.sfi_rules.specs.Bundles.{IsWithin};
+ghost use Rattle.sfi_rules.specs.Readings.{IsWithin};
 ghost use Rattle.sfi_rules.specs.words.Rules.{places, masks, is_small, is_step, uses, breaks_ecall, may_access, breaks_access, breaks_jump, is_word_start, breaks_target, breaks_offset};
-ghost use Rattle.sfi_scan.specs.private.Inside.{IsInside};
+ghost use Rattle.sfi_scan.specs.private.Scanning.{IsInside};
 ghost use Rattle.sfi_rules.specs.words.Findings.{breaks_last, is_at_gate, lowest};
 
 use crate::before::{is_masking, is_placing};

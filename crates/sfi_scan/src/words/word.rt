@@ -1,10 +1,10 @@
 //! The scan of one word of code in words.
 ghost use Rattle.std.specs.Prelude.{◌≡◌, ◌+◌, ◌*◌, ◌≤◌, ◌<◌, ◌++◌, List, Some, length};
-ghost use Rattle.sfi_rules.specs.Bundles.{IsWithin};
+ghost use Rattle.sfi_rules.specs.Readings.{IsWithin};
 ghost use Rattle.sfi_rules.specs.declared.finding.Finding.{Finding};
 ghost use Rattle.sfi_rules.specs.words.Findings.{IsWordFound, found_at, lowest};
-ghost use Rattle.sfi_rules.specs.words.Owing.{owed_next};
-ghost use Rattle.sfi_scan.specs.private.Inside.{IsInside};
+ghost use Rattle.sfi_rules.specs.words.Rules.{owed_next};
+ghost use Rattle.sfi_scan.specs.private.Scanning.{IsInside};
 
 use crate::findings::BundleFindings;
 use crate::words::look::look;

@@ -1,6 +1,6 @@
 //! Each service of the console, called over a memory, without an image.
 ghost use Rattle.rv_mem.specs.Segments.{bytes_of};
-ghost use Rattle.sfi_host.specs.Regions.{bytes_in, IsWhole};
+ghost use Rattle.sfi_host.specs.Slots.{bytes_in, IsWhole};
 
 use super::guests::{DATA, call, memory, request};
 use rv_mem::{Memory, Width};

@@ -2,7 +2,7 @@
 ghost use Rattle.std.specs.Prelude.{◌≤◌, length};
 ghost use Rattle.rv_mem.specs.Segments.{bytes_of};
 ghost use Rattle.sfi_host.specs.Hosts.{Yield};
-ghost use Rattle.sfi_host.specs.Regions.{bytes_in, IsWhole};
+ghost use Rattle.sfi_host.specs.Slots.{bytes_in, IsWhole};
 
 use rv_mem::{Memory, Segments, Width};
 use sfi_host::{GateAnswer, Gates, Guest, Region, Request};

@@ -1,5 +1,5 @@
 use Rattle.rv_comp.proofs.Prelude.{◌∙◌, sym, ap, ℤ, row_fields}
-use Rattle.rv_comp.specs.Bits.{Fields}
+use Rattle.rv_comp.specs.Table.{Fields}
 use Rattle.std.proofs.lemmas.Int.{to_z-of_z}
 use Rattle.std.proofs.Common.{w32}
 use Rattle.rv_comp.proofs.Rows.{rows_low, row_below, halfword_is}

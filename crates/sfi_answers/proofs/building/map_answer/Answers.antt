@@ -3,7 +3,7 @@ use Rattle.std.specs.Prelude.{◌⊎◌, string_bytes}
 use Rattle.sfi_build.specs.declared.build_fault.BuildFault.{BuildFault}
 use Rattle.sfi_build.specs.Texts.{IsBuildFault}
 use Rattle.sfi_link.specs.Names.{MapEntry}
-use Rattle.sfi_image.specs.Images.{IsImage}
+use Rattle.sfi_image.specs.Parts.{IsImage}
 use Rattle.sfi_answers.specs.Building.{IsMapFrom, IsMapText, IsSourceText, IsNoSourceText}
 use Rattle.sfi_answers.proofs.Sources.{not_made}
 use Rattle.sfi_answers.proofs.building.map_answer.Goals as goal

@@ -1,5 +1,5 @@
 use Rattle.std.proofs.Common.{◌∙◌, inl, refl}
-use Rattle.sfi_answers.specs.Checking.{SaysVerdict}
+use Rattle.sfi_answers.specs.Answers.{SaysVerdict}
 use Rattle.sfi_answers.proofs.Verdicts.{accepted}
 use Rattle.sfi_answers.proofs.checking.check_answer.Goals as goal
 

@@ -1,6 +1,6 @@
 use Rattle.std.proofs.Common.{◌∙◌, false, subst}
-use Rattle.sfi_io.specs.Streams.{IsInput}
-use Rattle.sfi_answers.specs.Checking.{HasSomeFault}
+use Rattle.sfi_io.specs.Hexadecimal.{IsInput}
+use Rattle.sfi_answers.specs.Answers.{HasSomeFault}
 use Rattle.sfi_answers.proofs.Images.{fault_of_whole}
 use Rattle.sfi_answers.proofs.image.held_answer.Goals as goal
 

@@ -1,8 +1,7 @@
 use Rattle.std.proofs.Common.{false}
 use Rattle.std.proofs.lemmas.Result.{IfOk-weaker}
-use Rattle.sfi_io.specs.Images.{BeginsAsImage}
-use Rattle.sfi_answers.specs.Answers.{on_image}
-use Rattle.sfi_answers.specs.Checking.{check}
+use Rattle.sfi_io.specs.Hexadecimal.{BeginsAsImage}
+use Rattle.sfi_answers.specs.Answers.{on_image, check}
 use Rattle.sfi_answers.proofs.Images.{all_begin, none_begins, of_front}
 use Rattle.sfi_answers.proofs.image.image_answer.Goals as goal
 

@@ -1,5 +1,5 @@
 use Rattle.std.proofs.Common.{◌≡◌, rules, length, subst}
-use Rattle.sfi_places.specs.Moves.{IsMoveFault}
+use Rattle.sfi_places.specs.Moving.{IsMoveFault}
 use Rattle.sfi_answers.proofs.Moves.{can_move, copied, no_image, no_move, whole}
 use Rattle.sfi_answers.proofs.moving.moved_copy.Goals as goal
 

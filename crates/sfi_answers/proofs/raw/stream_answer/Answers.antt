@@ -1,5 +1,5 @@
 use Rattle.std.proofs.Common.{◌∙◌, ℕ, false, subst, sym}
-use Rattle.sfi_answers.specs.Checking.{SaysVerdict}
+use Rattle.sfi_answers.specs.Answers.{SaysVerdict}
 use Rattle.sfi_check.specs.declared.stream_answer.StreamAnswer.{StreamAnswer}
 use Rattle.sfi_answers.specs.private.{IsJudged}
 use Rattle.sfi_answers.proofs.Streamed.{says_accepted, says_refused, has_fault}

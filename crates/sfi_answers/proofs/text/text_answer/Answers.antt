@@ -1,10 +1,8 @@
 use Rattle.std.proofs.Common.{ℕ, List, ◌∙◌, false, inl, inr, sym}
 use Rattle.std.proofs.lemmas.Result.{IfOk-weaker}
-use Rattle.sfi_io.specs.Hexadecimal.{IsUnreadable}
-use Rattle.sfi_io.specs.Images.{BeginsAsImage}
+use Rattle.sfi_io.specs.Hexadecimal.{IsUnreadable, BeginsAsImage}
 use Rattle.sfi_io.specs.Pieces.{to_come}
-use Rattle.sfi_answers.specs.Checking.{check}
-use Rattle.sfi_answers.specs.Answers.{on_image}
+use Rattle.sfi_answers.specs.Answers.{check, on_image}
 use Rattle.sfi_answers.specs.private.{known, is_stopped}
 use Rattle.sfi_answers.specs.declared.text.TextState.TheVariants.{Reading}
 use Rattle.sfi_answers.proofs.Spelled.{says_text, stops_text}

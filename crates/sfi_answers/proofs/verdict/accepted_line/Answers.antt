@@ -1,6 +1,6 @@
 use Rattle.std.proofs.Common.{append_assoc}
 use Rattle.std.proofs.lemmas.Result.{IfOk-weaker}
-use Rattle.sfi_answers.specs.Checking.{accepted_text}
+use Rattle.sfi_answers.specs.Answers.{accepted_text}
 use Rattle.sfi_answers.proofs.verdict.accepted_line.Goals as goal
 
 pub returns : goal.returns

@@ -1,8 +1,8 @@
 use Rattle.std.proofs.Common.{◌≡◌, ◌∙◌, ℕ, List, ◌++◌, ap, append_assoc, codes, decimal}
-use Rattle.sfi_rules.specs.Numbers.{number_of}
+use Rattle.sfi_rules.specs.Rules.{number_of}
 use Rattle.sfi_rules.specs.declared.finding.Finding.{Finding}
-use Rattle.sfi_report.specs.Digits.{hex_digits, line_end}
-use Rattle.sfi_answers.specs.Checking.{refused_text}
+use Rattle.sfi_report.specs.Listing.{hex_digits, line_end}
+use Rattle.sfi_answers.specs.Answers.{refused_text}
 use Rattle.sfi_answers.proofs.verdict.refused_line.Goals as goal
 
 -- seven pieces, grouped to the right and to the left

@@ -1,5 +1,5 @@
 use Rattle.sfi_check.proofs.Prelude.{◌≡◌, ◌++◌, ℕ, List, take, refl, subst, arith, inl, inr, length-drop, left, IsCut}
-use Rattle.sfi_check.specs.private.Tallies.{Steps}
+use Rattle.sfi_check.specs.private.{Steps}
 use Rattle.sfi_check.specs.declared.ends.StepEnd.TheVariants as steps
 use Rattle.sfi_check.proofs.Leading.{tail_is, so_far_on, fault_on}
 use Rattle.sfi_check.proofs.piece.take_piece.Goals as goal

@@ -1,6 +1,5 @@
 use Rattle.sfi_check.proofs.Prelude.{◌∙◌, ◌++◌, List, Err, ap, sym, subst, Part, IsFault, Finding, HasFindings, StreamAnswer, IfLayoutFault, Refusal}
-use Rattle.sfi_check.specs.Streams.{IfFindings}
-use Rattle.sfi_check.specs.Verdict.{AnswersLayout}
+use Rattle.sfi_check.specs.Verdict.{IfFindings, AnswersLayout}
 use Rattle.sfi_check.proofs.OneVerdict as verdicts
 use Rattle.sfi_check.proofs.Verdicts.{fault_means, fault_layout, accepted_by, listed_answers, on_list}
 use Rattle.sfi_check.proofs.verdict.check.Goals as goal

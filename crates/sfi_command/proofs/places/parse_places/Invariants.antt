@@ -1,5 +1,5 @@
 use Rattle.std.proofs.Common.{map, take}
-use Rattle.sfi_command.specs.Places.{SpellPlaces}
+use Rattle.sfi_command.specs.Command.{SpellPlaces}
 use Rattle.sfi_command.proofs.places.parse_places.Given as goal
 
 abbrev pub invariant-loop-text : goal.invariant-loop-text

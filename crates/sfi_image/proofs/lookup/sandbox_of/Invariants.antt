@@ -1,5 +1,5 @@
 use Rattle.std.proofs.Common.{length}
-use Rattle.sfi_image.specs.Cursor.{unread}
+use Rattle.sfi_image.specs.Keeping.{unread}
 use Rattle.sfi_image.proofs.Seeking.{HasSought}
 use Rattle.sfi_image.proofs.lookup.sandbox_of.Given as goal
 

@@ -1,5 +1,5 @@
 use Rattle.sfi_image.proofs.Prelude.{◌≡◌, ◌++◌, ◌∷◌, [], ◌∙◌, List, sym, ap, subst, map_push, Part, view, views}
-use Rattle.sfi_image.specs.Cursor.{HasPassed}
+use Rattle.sfi_image.specs.Keeping.{HasPassed}
 use Rattle.sfi_image.proofs.CursorSteps.{last_format}
 use Rattle.sfi_image.proofs.reading.image_at.Goals as goal
 

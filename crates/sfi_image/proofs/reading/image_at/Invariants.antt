@@ -1,5 +1,5 @@
 use Rattle.sfi_image.proofs.Prelude.{ℕ, length, views}
-use Rattle.sfi_image.specs.Cursor.{HasPassed, unread}
+use Rattle.sfi_image.specs.Keeping.{HasPassed, unread}
 use Rattle.sfi_image.proofs.reading.image_at.Given as goal
 
 abbrev pub invariant-loop-parts : goal.invariant-loop-parts

@@ -1,5 +1,5 @@
 use Rattle.sfi_image.proofs.Prelude.{◌-◌, length, Part}
-use Rattle.sfi_image.specs.Cursor.{IsViewOf}
+use Rattle.sfi_image.specs.Keeping.{IsViewOf}
 use Rattle.sfi_image.proofs.CursorSteps.{AreFirstGates}
 use Rattle.sfi_image.proofs.reading.part_of_view.Given as goal
 

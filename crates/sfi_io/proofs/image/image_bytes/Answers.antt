@@ -1,5 +1,5 @@
 use Rattle.sfi_io.proofs.Prelude.{◌≡◌, ◌∙◌, List, ℕ, inl, inr}
-use Rattle.sfi_io.specs.Images.{GivesImage}
+use Rattle.sfi_io.specs.Hexadecimal.{GivesImage}
 use Rattle.sfi_io.proofs.Images.{texts_begin_as_none}
 use Rattle.sfi_io.proofs.image.image_bytes.Goals as goal
 

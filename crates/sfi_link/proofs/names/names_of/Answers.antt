@@ -1,5 +1,5 @@
 use Rattle.sfi_link.proofs.Prelude.{◌≡◌, ◌∙◌, List, sym, subst, Placement, map_from, Part, AreLinkedFrom, err_from_is_err_and}
-use Rattle.sfi_link.specs.Answers.{AnswersItems}
+use Rattle.sfi_link.specs.Faults.{AnswersItems}
 use Rattle.sfi_link.specs.declared.fault.LinkFault.TheVariants.{Memory}
 use Rattle.sfi_link.proofs.names.names_of.Goals as goal
 

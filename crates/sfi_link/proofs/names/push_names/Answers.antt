@@ -1,5 +1,5 @@
 use Rattle.sfi_link.proofs.Prelude.{◌+◌, ◌++◌, ◌∙◌, map, drop, get_or, sym, ap, append_assoc, kind_of, entry_of, entries_of}
-use Rattle.sfi_link.specs.Addresses.{address_of}
+use Rattle.sfi_link.specs.Code.{address_of}
 use Rattle.sfi_rewrite.specs.declared.placed.PlacedName.TheVariants.{Gate}
 use Rattle.std.proofs.lemmas.List.{at_drop_more}
 use Rattle.sfi_link.proofs.names.push_names.Goals as goal

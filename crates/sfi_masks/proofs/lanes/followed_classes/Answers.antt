@@ -1,5 +1,5 @@
 use Rattle.std.proofs.Common.{bit_and}
-use Rattle.sfi_masks.specs.private.Seen.{followed}
+use Rattle.sfi_masks.specs.private.{followed}
 use Rattle.sfi_masks.proofs.Vectors.{zipped, rotated}
 use Rattle.sfi_masks.proofs.lanes.followed_classes.Goals as goal
 

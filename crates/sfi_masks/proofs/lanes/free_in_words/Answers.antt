@@ -1,6 +1,6 @@
 use Rattle.std.proofs.Common.{ap, bit_and, slice_index}
 use Rattle.sfi_masks.specs.declared.tables.TheConstants.{ON_EVEN, ON_ODD}
-use Rattle.sfi_masks.specs.private.Seen.{free_in_words}
+use Rattle.sfi_masks.specs.private.{free_in_words}
 use Rattle.sfi_masks.proofs.Vectors.{own, splat, zipped, chosen_of, rotated, same_lanes, by_low_nibble}
 use Rattle.sfi_masks.proofs.lanes.free_in_words.Goals as goal
 

@@ -1,5 +1,5 @@
 use Rattle.std.proofs.Common.{ap, sym, bit_and, bit_or, slice_index}
-use Rattle.sfi_masks.specs.private.Seen.{kept}
+use Rattle.sfi_masks.specs.private.{kept}
 use Rattle.sfi_masks.proofs.Vectors.{own, splat, zipped, chosen, same_lanes}
 use Rattle.sfi_masks.proofs.lanes.kept_classes.Goals as goal
 

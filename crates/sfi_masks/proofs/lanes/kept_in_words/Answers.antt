@@ -1,6 +1,6 @@
 use Rattle.std.proofs.Common.{ap, bit_and, slice_index}
 use Rattle.sfi_masks.specs.declared.tables.TheConstants.{WORDS_EVEN, WORDS_ODD}
-use Rattle.sfi_masks.specs.private.Seen.{kept_in_words}
+use Rattle.sfi_masks.specs.private.{kept_in_words}
 use Rattle.sfi_masks.proofs.Vectors.{own, splat, zipped, chosen_of, same_lanes, by_low_nibble}
 use Rattle.sfi_masks.proofs.lanes.kept_in_words.Goals as goal
 

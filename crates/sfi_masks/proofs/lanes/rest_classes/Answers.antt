@@ -1,6 +1,6 @@
 use Rattle.std.proofs.Common.{◌≡◌, ap, bit_and, slice_index, ◌∙◌, sym}
 use Rattle.std.specs.Prelude.{if◌then◌else◌}
-use Rattle.sfi_masks.specs.private.Seen.{rest, half_classes}
+use Rattle.sfi_masks.specs.private.{rest, half_classes}
 use Rattle.sfi_masks.specs.declared.tables.TheConstants.{REST}
 use Rattle.sfi_masks.proofs.Vectors.{splat, zipped, same_lanes}
 use Rattle.sfi_masks.proofs.lanes.rest_classes.Goals as goal

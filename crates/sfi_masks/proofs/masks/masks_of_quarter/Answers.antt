@@ -1,5 +1,5 @@
 use Rattle.std.proofs.Common.{ℕ, ◌%◌, ◌==◌, not, ap, ◌∙◌, slice_index}
-use Rattle.sfi_masks.specs.private.Seen.{bundles}
+use Rattle.sfi_masks.specs.private.{bundles}
 use Rattle.sfi_masks.proofs.Vectors.{splat}
 use Rattle.sfi_masks.proofs.Quarter.{free_lanes, access_lanes}
 use Rattle.sfi_masks.proofs.masks.masks_of_quarter.Goals as goal

@@ -1,6 +1,6 @@
 use Rattle.std.proofs.Common.{◌≡◌, ◌++◌, length, get_or, arith, true}
 use Rattle.std.specs.List.{between}
-use Rattle.sfi_names.specs.Spelling.{IsName}
+use Rattle.sfi_names.specs.Tables.{IsName}
 use Rattle.sfi_names.proofs.Entries.{too_few, too_short, no_name, reads, parts_of}
 use Rattle.sfi_names.proofs.entry.first_entry.Goals as goal
 

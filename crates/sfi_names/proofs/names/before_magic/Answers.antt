@@ -1,7 +1,7 @@
 use Rattle.std.proofs.Common.{◌≡◌, ◌∙◌, sym, eqb, true}
 use Rattle.std.proofs.lemmas.Bool.Decides.{Decides-eqb}
 use Rattle.std.proofs.lemmas.Slice.Eq.{slice_eq-Decides}
-use Rattle.sfi_names.specs.Spelling.{magic}
+use Rattle.sfi_names.specs.Tables.{magic}
 use Rattle.sfi_names.proofs.Entries.{same_end}
 use Rattle.sfi_names.proofs.names.before_magic.Goals as goal
 

@@ -2,7 +2,7 @@ use Rattle.std.proofs.Common.{◌≡◌, List, length}
 use Rattle.std.specs.List.{flat_map}
 use Rattle.sfi_image.specs.declared.part.Gate.{Gate}
 use Rattle.sfi_image.specs.Spelling.{gate}
-use Rattle.sfi_places.specs.private.Writing.{IsReplaced, GatesGo}
+use Rattle.sfi_places.specs.private.{IsReplaced, GatesGo}
 use Rattle.sfi_places.proofs.Writing.{some_moved}
 use Rattle.sfi_places.proofs.addresses.write_gates.Given as goal
 

@@ -1,6 +1,6 @@
 use Rattle.sfi_run.proofs.Prelude.{◌≡◌, ◌↔◌, IsTrue, Some, ap, ◌∙◌, same_Some, Sandboxes, slots_of}
 use Rattle.std.proofs.Common.{subst}
-use Rattle.sfi_host.specs.Setting.{hart_of, MaySetAt}
+use Rattle.sfi_host.specs.Changing.{hart_of, MaySetAt}
 use Rattle.sfi_run.proofs.between.sfi_run_set_registers.Goals as goal
 
 pub returns-clause-may : goal.returns-clause-may

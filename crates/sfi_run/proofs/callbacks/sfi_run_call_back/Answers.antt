@@ -1,6 +1,6 @@
 use Rattle.sfi_run.proofs.Prelude.{◌≡◌, ◌↔◌, IsTrue, Some, ap, ◌∙◌, same_Some, Sandboxes, slots_of}
 use Rattle.std.proofs.Common.{subst}
-use Rattle.sfi_host.specs.Callbacks.{MayCallBackAt}
+use Rattle.sfi_host.specs.Changing.{MayCallBackAt}
 use Rattle.sfi_run.proofs.callbacks.sfi_run_call_back.Goals as goal
 
 pub returns-clause-may : goal.returns-clause-may

@@ -1,6 +1,6 @@
 use Rattle.sfi_run.proofs.Prelude.{◌≡◌, ◌↔◌, IsTrue, Some, ap, ◌∙◌, same_Some, Sandboxes, slots_of}
 use Rattle.std.proofs.Common.{subst}
-use Rattle.sfi_host.specs.Entering.{MayEnterAt}
+use Rattle.sfi_host.specs.Loading.{MayEnterAt}
 use Rattle.sfi_run.proofs.turns.sfi_run_call.Goals as goal
 
 pub returns-clause-may : goal.returns-clause-may

@@ -3,7 +3,7 @@ use denote.Shadow.{shadow}
 use denote.Text.{Utf8}
 use Rattle.std.specs.List.{flat_map}
 use Rattle.sfi_text.specs.Keywords.{data_kind}
-use Rattle.sfi_text.specs.Constants.{data_bytes}
+use Rattle.sfi_text.specs.SoFar.{data_bytes}
 use Rattle.sfi_text.specs.Lines.{LeadsByMore}
 use Rattle.sfi_text.proofs.data.read_more.Given as goal
 

@@ -1,6 +1,6 @@
 use Rattle.std.proofs.Common.{◌≡◌, ◌<◌, sym, ap, ◌∙◌, arith, length, take, drop}
 use Rattle.std.proofs.lemmas.Bool.Decides.{nat_tests}
-use Rattle.sfi_text.specs.private.Scan.{body_of, token_len}
+use Rattle.sfi_text.specs.private.Reading.{body_of, token_len}
 use Rattle.sfi_text.proofs.Taking.{token_boundary, body_blank, stuck, takes_found}
 use Rattle.sfi_text.proofs.lexer.next_token.Goals as goal
 use Rattle.sfi_text.proofs.lexer.next_token.Goals.{Else-len-eq0, Else-is_empty, Then-len-eq0}

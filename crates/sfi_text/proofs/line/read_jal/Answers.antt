@@ -1,6 +1,5 @@
 use Rattle.std.proofs.Common.{subst}
-use Rattle.sfi_text.specs.private.Operands.{values_of}
-use Rattle.sfi_text.specs.private.Reading.{Reads}
+use Rattle.sfi_text.specs.private.Reading.{values_of, Reads}
 use Rattle.sfi_text.proofs.line.read_jal.Goals as goal
 
 pub returns-in-Ok-clause-ok : goal.returns-in-Ok-clause-ok

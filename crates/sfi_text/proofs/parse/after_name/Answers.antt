@@ -1,7 +1,6 @@
 use Rattle.std.proofs.Common.{subst}
-use Rattle.sfi_text.specs.Forms.{form_of}
-use Rattle.sfi_text.specs.private.Operands.{values_of}
-use Rattle.sfi_text.specs.private.Reading.{Reads}
+use Rattle.sfi_text.specs.Operands.{form_of}
+use Rattle.sfi_text.specs.private.Reading.{values_of, Reads}
 use Rattle.sfi_text.proofs.Meaning.{follows}
 use Rattle.sfi_text.proofs.parse.after_name.Goals as goal
 

@@ -1,5 +1,5 @@
 use Rattle.std.proofs.Common.{◌∙◌, ◌++◌, ap}
-use Rattle.sfi_text.specs.Printed.{printed}
+use Rattle.sfi_text.specs.Statement.{printed}
 use Rattle.sfi_text.proofs.RoundTrip.{printed_means}
 use Rattle.sfi_text.proofs.print.print_instr.Goals as goal
 

@@ -1,5 +1,5 @@
 use Rattle.sfi_text.proofs.Forms.{reads_result, keeps_result, departs_stuck, departs_beyond, departs_missing, departs_other, departs_later}
-use Rattle.sfi_text.specs.private.Operands.{values_of}
+use Rattle.sfi_text.specs.private.Reading.{values_of}
 use Rattle.sfi_text.proofs.read.+fill.Goals as goal
 
 pub returns-in-Stuck-clause-cause : goal.returns-in-Stuck-clause-cause

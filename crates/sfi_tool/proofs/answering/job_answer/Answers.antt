@@ -1,15 +1,12 @@
 use Rattle.sfi_tool.proofs.Prelude.{◌≡◌, ◌∙◌, ℕ, Bool, List, Result, ap, sym, subst}
 use Rattle.std.proofs.Common.{false}
 use Rattle.sfi_tool.specs.Says.{meaning_of}
-use Rattle.sfi_answers.specs.Checking.{check}
-use Rattle.sfi_answers.specs.Converting.{convert}
+use Rattle.sfi_answers.specs.Answers.{check, translate, dis, Answers}
+use Rattle.sfi_answers.specs.Building.{convert}
 use Rattle.sfi_answers.specs.Moving.{move}
-use Rattle.sfi_answers.specs.Translating.{translate}
-use Rattle.sfi_answers.specs.Listing.{dis}
 use Rattle.sfi_tool.specs.Running.{run}
 use Rattle.sfi_answers.specs.declared.fault.Stop.{Stop}
 use Rattle.sfi_answers.specs.declared.verdict.Answer.{Answer}
-use Rattle.sfi_answers.specs.Answers.{Answers}
 use Rattle.sfi_command.specs.Command.{is_raw}
 use Rattle.sfi_command.specs.declared.job.Job.{Job}
 use Rattle.sfi_command.specs.declared.job.Job.TheVariants.{Check}

@@ -1,5 +1,5 @@
 use Rattle.sfi_tool.proofs.Prelude.{◌∙◌, subst, sym}
-use Rattle.sfi_answers.specs.Checking.{IsAcceptedImage}
+use Rattle.sfi_answers.specs.Answers.{IsAcceptedImage}
 use Rattle.sfi_tool.proofs.Processes.{no_bytes, same_fault}
 use Rattle.sfi_tool.proofs.process.run_text.Goals as goal
 

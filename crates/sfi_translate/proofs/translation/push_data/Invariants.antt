@@ -1,5 +1,5 @@
 use Rattle.sfi_translate.proofs.Prelude.{◌≡◌, ◌++◌, take, string_bytes, flat_map}
-use Rattle.sfi_translate.specs.Lines.{number_field}
+use Rattle.sfi_translate.specs.Translation.{number_field}
 use Rattle.sfi_translate.proofs.translation.push_data.Given as goal
 
 -- the bytes so far are written

@@ -1,5 +1,5 @@
 use Rattle.std.proofs.Common.{length, refl, sym, ap, subst, arith}
-use Rattle.sfi_host.specs.Entering.{MayEnterAt}
+use Rattle.sfi_host.specs.Loading.{MayEnterAt}
 use Rattle.sfi_host.specs.Worlds.{Sandboxes, slots_of}
 use Rattle.example_host.specs.Functions.{arguments}
 use Rattle.example_host.proofs.Calling.{few, seat_there, enter_too, room_entered, outside_entered}

@@ -1,5 +1,5 @@
 use Rattle.rv_mem.proofs.Prelude.{◌≡◌, ◌*◌, ◌<◌, ℕ, List, length, set, refl, sym, ap, ◌∙◌, subst, arith}
-use Rattle.rv_mem.specs.private.Tables.{numbers_of}
+use Rattle.rv_mem.specs.private.Frames.{numbers_of}
 use Rattle.rv_mem.proofs.Tables.{many, same_numbers, one_set}
 use Rattle.rv_mem.proofs.table.Table.set.Goals as goal
 

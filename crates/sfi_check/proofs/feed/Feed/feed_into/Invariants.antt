@@ -1,5 +1,5 @@
 use Rattle.sfi_check.proofs.Prelude.{◌≡◌, ◌⊎◌, ◌<◌, ◌≤◌, ◌-◌, length, take, None, left_to_feed}
-use Rattle.sfi_check.specs.private.Feeds.{IsFedOn}
+use Rattle.sfi_check.specs.private.{IsFedOn}
 use Rattle.sfi_check.proofs.feed.Feed.feed_into.Given as goal
 
 -- the first `at` bytes of the piece are fed

@@ -1,5 +1,5 @@
 use Rattle.sfi_host.proofs.Prelude.{◌≡◌, refl, sym, ap, ◌∙◌, if◌then◌else◌, Some, slice_get_read, message_of, asked}
-use Rattle.sfi_host.specs.Messages.{Message}
+use Rattle.sfi_host.specs.Consoles.{Message}
 use Rattle.std.specs.List.{slice_get}
 use Rattle.sfi_host.proofs.Serving.{posted_at}
 use Rattle.sfi_host.proofs.console.Console.post.Goals.{then-deliver, else-deliver}

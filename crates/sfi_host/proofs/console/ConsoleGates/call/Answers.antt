@@ -1,5 +1,5 @@
 use Rattle.sfi_host.proofs.Prelude.{◌≡◌, ◌≢◌, ◌<◌, ◌≤◌, length, sym, ap, ◌∙◌, Some, arith, slice_get_read, ConsoleState, asked}
-use Rattle.sfi_host.specs.Services.{exit_service, yield_service, post_service}
+use Rattle.sfi_host.specs.Consoles.{exit_service, yield_service, post_service}
 use Rattle.std.specs.Vec.{vec_len}
 use Rattle.std.specs.List.{slice_get}
 use Rattle.sfi_host.proofs.Serving.{given_at, refusal_at, posts_at, unknown_at}

@@ -2,8 +2,7 @@ use Rattle.sfi_host.proofs.Prelude.{[], ◌∷◌}
 use Rattle.sfi_host.proofs.Joined.{joined_are}
 use Rattle.sfi_host.proofs.SameWorld.{moves_to}
 use Rattle.sfi_host.proofs.Stops.{have_stopped}
-use Rattle.sfi_host.specs.Until.{turn_of}
-use Rattle.sfi_host.specs.Waiting.{silent}
+use Rattle.sfi_host.specs.Waiting.{turn_of, silent}
 use Rattle.sfi_host.proofs.world.World.run_until.Goals as goal
 
 pub returns-clause-ran : goal.returns-clause-ran

@@ -1,5 +1,5 @@
 use Rattle.sfi_image.proofs.Prelude.{◌≡◌, length, refl, inr, ap, arith, length-append, err_from_is_err_and, flat_map, gate, InGates}
-use Rattle.sfi_image.specs.Cursor.{unread}
+use Rattle.sfi_image.specs.Keeping.{unread}
 use Rattle.sfi_image.proofs.CursorSteps.{at_front, more_gates, all_gates, one_more, taken_front}
 use Rattle.sfi_image.proofs.cursor.ImageCursor.take_gates.Goals as goal
 

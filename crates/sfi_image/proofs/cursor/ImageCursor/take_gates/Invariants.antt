@@ -1,5 +1,5 @@
 use Rattle.sfi_image.proofs.Prelude.{ℕ, List, [], Part, after_gates}
-use Rattle.sfi_image.specs.Cursor.{HasRead}
+use Rattle.sfi_image.specs.Keeping.{HasRead}
 use Rattle.sfi_image.proofs.CursorSteps.{GatesTaken}
 use Rattle.sfi_image.proofs.cursor.ImageCursor.take_gates.Given as goal
 

@@ -1,5 +1,5 @@
 use Rattle.sfi_image.proofs.Prelude.{[], ◌∷◌, ◌++◌, refl, subst, err_from_is_err_and, Format, part_of, after_parts}
-use Rattle.sfi_image.specs.Cursor.{HasRead}
+use Rattle.sfi_image.specs.Keeping.{HasRead}
 use Rattle.sfi_image.proofs.CursorSteps.{viewed}
 use Rattle.sfi_image.proofs.cursor.ImageCursor.take_part.Goals as goal
 

@@ -1,7 +1,7 @@
 use Rattle.sfi_image.proofs.Prelude.{◌++◌, length, List, ℕ, Option, Some, None, Front, front, HasFaultWhateverFollows, LayoutFault, LayoutReader, StandsFor, Leads}
 use Rattle.std.specs.Prelude.{IfSome, IfNone}
 use Rattle.sfi_image.specs.Keeping.{HasStopped}
-use Rattle.sfi_image.specs.private.Keeping.{Takes}
+use Rattle.sfi_image.specs.private.{Takes}
 use Rattle.sfi_image.proofs.Places.{may_take}
 use Rattle.sfi_image.proofs.layout_reader.LayoutReader.take.Goals as goal
 

@@ -1,6 +1,5 @@
 use Rattle.std.proofs.Common.{subst}
-use Rattle.sfi_names.specs.Spelling.{Table}
-use Rattle.sfi_names.specs.Tables.{HasTable, IsNamesOf}
+use Rattle.sfi_names.specs.Tables.{Table, HasTable, IsNamesOf}
 use Rattle.sfi_names.proofs.Ends.{ends_in_magic, one_table}
 use Rattle.sfi_names.proofs.names.Names.at_end.Goals as goal
 

@@ -15,7 +15,7 @@ use Rattle.std.proofs.Crossing.{frees}
 use Rattle.std.proofs.alloc.Global.TheSendSync as handle
 use Rattle.sfi_host.specs.Consoles.{ConsoleState}
 use Rattle.sfi_host.proofs.console.Console.TheSendSync as console
-use Rattle.sfi_run.specs.HeldConsole.{console_row, console_owns}
+use Rattle.sfi_run.specs.Held.{console_row, console_owns}
 use Rattle.sfi_run.specs.contracts.held_console.HeldConsole.{the_row, the_type}
 
 console_send : IsSend console_row

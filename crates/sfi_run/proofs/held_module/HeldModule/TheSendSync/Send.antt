@@ -16,7 +16,7 @@ use Rattle.std.proofs.Crossing.{frees}
 use Rattle.std.proofs.alloc.Global.TheSendSync as handle
 use Rattle.sfi_image.specs.Spelling.{Part}
 use Rattle.sfi_host.proofs.modules.Module.TheSendSync as modules
-use Rattle.sfi_run.specs.HeldModule.{module_row, module_owns}
+use Rattle.sfi_run.specs.Held.{module_row, module_owns}
 use Rattle.sfi_run.specs.contracts.held_module.HeldModule.{the_row, the_type}
 
 module_send : IsSend module_row

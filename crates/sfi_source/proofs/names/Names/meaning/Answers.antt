@@ -1,7 +1,7 @@
 use Rattle.std.proofs.Common.{ap, ◌∙◌}
 use Rattle.std.specs.Option.{unwrap_or}
 use Rattle.sfi_source.specs.declared.item.Named.TheVariants.{Unknown}
-use Rattle.sfi_source.specs.NameTable.{meaning}
+use Rattle.sfi_source.specs.Names.{meaning}
 use Rattle.sfi_source.proofs.NameTable.{looked_up}
 use Rattle.sfi_source.proofs.names.Names.meaning.Goals as goal
 

@@ -1,6 +1,6 @@
 use Rattle.std.proofs.Common.{ap, sym, ◌∙◌, map}
 use Rattle.sfi_source.specs.declared.item.Named.TheVariants.{Unknown}
-use Rattle.sfi_source.specs.NameTable.{entry_of, placed}
+use Rattle.sfi_source.specs.Names.{entry_of, placed}
 use Rattle.sfi_source.proofs.NameTable.{inserted, found_place, new_place}
 use Rattle.sfi_source.proofs.names.Names.meet.Goals as goal
 

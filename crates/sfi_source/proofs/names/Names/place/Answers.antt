@@ -1,5 +1,5 @@
 use Rattle.std.proofs.Common.{ap, refl, ◌∙◌, map}
-use Rattle.sfi_source.specs.NameTable.{entry_of}
+use Rattle.sfi_source.specs.Names.{entry_of}
 use Rattle.sfi_source.proofs.NameTable.{inserted}
 use Rattle.sfi_source.proofs.names.Names.place.Goals as goal
 

@@ -1,6 +1,6 @@
 use Rattle.rv_mem.specs.Bytes.{Bytes}
 use Rattle.rv_mem.specs.Segments.{bytes_of}
-use Rattle.sfi_host.specs.Regions.{bytes_in, IsWhole}
+use Rattle.sfi_host.specs.Slots.{bytes_in, IsWhole}
 use Rattle.sfi_tests.proofs.tests.consoles.a_console_passes_words_on.Given as goal
 
 abbrev HasTestData : Bytes → Type 0

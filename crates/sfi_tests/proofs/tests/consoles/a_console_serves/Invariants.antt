@@ -1,5 +1,5 @@
 use Rattle.rv_mem.specs.Segments.{bytes_of}
-use Rattle.sfi_host.specs.Regions.{bytes_in, IsWhole}
+use Rattle.sfi_host.specs.Slots.{bytes_in, IsWhole}
 use Rattle.sfi_tests.proofs.tests.consoles.a_console_serves.Given as goal
 
 abbrev pub invariant-loop-asked : goal.invariant-loop-asked

@@ -4,7 +4,7 @@ use Rattle.rv_mem.specs.Bytes.{Bytes, byte_at, with_bytes, addresses, added}
 use Rattle.rv_mem.specs.Segments.{bytes_of}
 use Rattle.rv_mem.proofs.Facts.{written_is_there}
 use Rattle.sfi_image.specs.declared.span.Span.{Span}
-use Rattle.sfi_host.specs.Regions.{bytes_in, IsWhole}
+use Rattle.sfi_host.specs.Slots.{bytes_in, IsWhole}
 use Rattle.sfi_host.proofs.RegionBytes.{byte_in, is_in-Holds}
 use Rattle.sfi_tests.proofs.tests.guests.memory.Goals as goal
 

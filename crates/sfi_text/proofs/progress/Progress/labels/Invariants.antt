@@ -1,7 +1,7 @@
 use Rattle.std.proofs.Common.{ℕ, List, length}
 use denote.Text.{Utf8}
 use denote.Shadow.{shadow}
-use Rattle.sfi_text.specs.Leads.{LabelsLead}
+use Rattle.sfi_text.specs.Texts.{LabelsLead}
 use Rattle.sfi_text.proofs.progress.Progress.labels.Given as goal
 
 abbrev pub invariant-loop-name : goal.invariant-loop-name

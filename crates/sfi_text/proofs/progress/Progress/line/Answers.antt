@@ -2,9 +2,9 @@ use Rattle.std.proofs.Common.{ℕ, List, inr, sym, subst, Result, Ok, Err, OnOk}
 use Rattle.sfi_text.specs.declared.cause.TextCause.{TextCause}
 use Rattle.sfi_text.specs.SoFar.{SoFar}
 use Rattle.sfi_text.specs.Tokens.{Takes}
-use Rattle.sfi_text.specs.Leads.{PassesLabels, Leads}
-use Rattle.sfi_text.specs.private.Leads.{LeadsFrom}
-use Rattle.sfi_text.specs.private.Next.{IsNext}
+use Rattle.sfi_text.specs.Texts.{PassesLabels, Leads}
+use Rattle.sfi_text.specs.private.Lines.{LeadsFrom}
+use Rattle.sfi_text.specs.private.Reading.{IsNext}
 use Rattle.sfi_text.proofs.progress.Progress.line.Goals as goal
 
 -- a line's labels, and then a statement that begins with this token

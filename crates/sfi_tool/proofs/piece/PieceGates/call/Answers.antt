@@ -1,6 +1,5 @@
 use Rattle.sfi_tool.proofs.Prelude.{ap, refl}
-use Rattle.sfi_host.specs.Guests.{asked}
-use Rattle.sfi_host.specs.Hosts.{Call}
+use Rattle.sfi_host.specs.Hosts.{asked, Call}
 use Rattle.sfi_tool.proofs.Calls.{given_piece}
 use Rattle.sfi_tool.proofs.piece.PieceGates.call.Goals as goal
 
