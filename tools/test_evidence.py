@@ -53,7 +53,7 @@ class Evidence(testing.Folder):
         shutil.copy(testing.TOP / "crates.txt", self.room)
         with open(self.path("page"), "w", encoding="utf-8") as file:
             file.write(self.page)
-        for crate, name, old, new in (("rv_step", "Step", "Call", "Next"), ("sfi_host", "Stops", "Exited", "Ready")):
+        for crate, name, old, new in (("rv_step", "Step", "Call", "Next"), ("sfi_host", "Worlds", "Exited", "Ready")):
             path = self.room / "crates" / crate / "specs" / f"{name}.antt"
             text = path.read_text(encoding="utf-8")
             self.assertIn(old, text)
