@@ -2,15 +2,17 @@
 """What worlds take from a host in C, as counts that no other work on the machine changes: bytes of malloc, and x86 instructions by
 callgrind.
 
-    bench/world_counts.py [--library LIBRARY] [--program SFI]
+    bench/world_counts.py [--peers] [--library LIBRARY] [--program SFI]
 
 Prints the bytes of a world, the instructions of a load and what each byte of code and of data adds to both, the same of an instance
 of a module beside the module, and the instructions of a call with its reply, of 1 KiB in and out, and of a reset. The smallest image
-has 256 bytes of code and of data. The library is built by (cd crates/sfi_run && rt lib), the program by ./sfi check; it wants gcc with
+has 256 bytes of code and of data. With --peers it prints times, too, beside those of node's WebAssembly and wabt's wasm-interp
+where they are (and wat2wasm). The library is built by (cd crates/sfi_run && rt lib), the program by ./sfi check; it wants gcc with
 glibc 2.33 or newer, and valgrind.
 """
 import argparse
 import os
+import shutil
 import subprocess
 import sys
 import tempfile
@@ -33,6 +35,17 @@ SOURCES = {
 
 def run(*words, given=""):
     return subprocess.run([str(word) for word in words], input=given, capture_output=True, text=True, check=True)
+
+
+# a module whose function calls its host in a loop, and one with three bytes of code for each instruction
+CALLING = """(module (import "host" "post" (func $post (param i32 i32) (result i32)))
+  (func (export "run") (param $times i32)
+    (loop $again
+      (drop (call $post (local.get $times) (i32.const 1)))
+      (local.set $times (i32.sub (local.get $times) (i32.const 1)))
+      (br_if $again (local.get $times)))))"""
+INSTANCE = "(module (memory 1))"
+LARGE = "(module (func (export \"run\")" + " (drop (i32.const 1))" * (CODE // 3) + "))"
 
 
 class Host:
@@ -61,6 +74,46 @@ class Host:
         return (found[0] - found[1]) / times
 
 
+    def nanoseconds(self, name, what, number=0, times=20000):
+        """The processor time of what is done once, as the difference of the least times of two counts of times."""
+        runs = {n: ([self.host, self.image(name), what, str(n), str(number)], os.devnull) for n in (2 * times, times)}
+        least = measure.leasts(runs, 5)
+        return (least[2 * times] - least[times]) / times * 1e9
+
+    def module(self, name, text):
+        """The WebAssembly module of a text, which is a file of the folder."""
+        with open(self.image(f"{name}.wat"), "w", encoding="ascii") as file:
+            file.write(text)
+        run("wat2wasm", self.image(f"{name}.wat"), "-o", self.image(f"{name}.wasm"))
+        return self.image(f"{name}.wasm")
+
+
+def node(module, what, times):
+    """What node takes for one of what host_calls.mjs measures, or how many bytes."""
+    return float(run("node", "--expose-gc", os.path.join(HERE, "host_calls.mjs"), module, what, times).stdout)
+
+
+def print_peers(host):
+    """Times of sfi_run, and of those of node and wasm-interp that are there."""
+    code = code_size(host, "code")[0] - code_size(host, "smallest")[0]
+    loads = [host.nanoseconds(name, "load", times=times) for name, times in (("code", 20), ("smallest", 2000))]
+    print(f"sfi_run: a call and its reply {host.nanoseconds('calls', 'call', 1000):.0f} ns, an instance of the smallest image "
+          f"{host.nanoseconds('smallest', 'instance'):.0f} ns, a load {(loads[0] - loads[1]) / code:.2f} ns for each byte of code")
+    if not shutil.which("wat2wasm"):
+        return
+    calling, instance, large = (host.module(*each) for each in (("calling", CALLING), ("instance", INSTANCE), ("large", LARGE)))
+    if shutil.which("node"):
+        print(f"node {run('node', '--version').stdout.strip()}: a call from WebAssembly {node(calling, 'call', 10 ** 7):.0f} ns, an instance "
+              f"{node(instance, 'instance', 2000):.0f} ns and {node(instance, 'bytes', 1000):.0f} bytes, "
+              f"a load {node(large, 'load', 50) / os.path.getsize(large):.2f} ns for each byte of code")
+    if shutil.which("wasm-interp"):
+        words = {module: (["wasm-interp", module], os.devnull) for module in (large, instance)}
+        times = measure.leasts(words, 5)
+        counts = [measure.instructions(*words[module]) for module in (large, instance)]
+        print(f"wasm-interp: a load {(times[large] - times[instance]) / os.path.getsize(large) * 1e9:.2f} ns and "
+              f"{(counts[0] - counts[1]) / os.path.getsize(large):.0f} instructions for each byte of code")
+
+
 def code_size(host, name):
     with open(host.image(name), "rb") as file:
         fields = file.read(36)[8:]
@@ -80,6 +133,7 @@ def print_making(host, what, bytes_of, count_of):
 
 def main():
     parser = argparse.ArgumentParser(description=__doc__.split("\n", maxsplit=1)[0])
+    parser.add_argument("--peers", action="store_true", help="prints times beside those of node and wasm-interp")
     parser.add_argument("--library", default=libraries.built("sfi_run"))
     parser.add_argument("--program", default=os.path.join(TOP, "crates", "sfi", "out", "sfi"))
     options = parser.parse_args()
@@ -94,6 +148,8 @@ def main():
         for name in ("smallest", "data"):
             size = code_size(host, name)[1]
             print(f"a reset of {size} bytes of data: {host.count(name, 'zero'):.0f} instructions")
+        if options.peers:
+            print_peers(host)
 
 
 if __name__ == "__main__":
