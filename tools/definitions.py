@@ -12,7 +12,8 @@ or a law in proofs/Facts, and of those by which these are defined. tools/sources
 
 It also compares: that no definition outside specs/private imports a word from there, that each contract in
 docs/PROOFS.md is one of its crate, and in documents each `PATH` (N), PATH being a file below crates/ of N lines (a name
-without a folder, such as `Runs` (86), goes on with the folder of the path before it).
+without a folder, such as `Runs` (86), goes on with the folder of the path before it); and that the files are there which
+CONTRIBUTING.md and the heads of src/lib.rt name.
 """
 import pathlib
 import re
@@ -290,6 +291,25 @@ def compared_contracts(text):
     return len(named) - len(faults), faults
 
 
+# ---- files
+
+def files_in(text):
+    """The files of crates that a text names from `specs`, `proofs` or `src` on, without `.antt`."""
+    return sorted(set(re.findall(r"\b(?:specs|proofs)/(?:\w+/)*[A-Z][a-z]\w*|\bsrc/(?:\w+/)*\w+\.rt", text)))
+
+
+def compared_files():
+    """How many files that CONTRIBUTING.md and the crates' heads name are in a crate, and a line for each other one."""
+    texts = {"CONTRIBUTING.md": (TOP / "CONTRIBUTING.md").read_text(encoding="utf-8")}
+    for path in sorted(CRATES.glob("*/src/lib.rt")):
+        lines = path.read_text(encoding="utf-8").splitlines(keepends=True)
+        texts[path.relative_to(TOP)] = "".join(line for line in lines if line.startswith("//!"))
+    named = [(text, file) for text, content in texts.items() for file in files_in(content)]
+    faults = [f"{text}: there is no {file}" for text, file in named
+              if not any(any(CRATES.glob(f"*/{file}{suffix}")) for suffix in ("", ".antt"))]
+    return len(named) - len(faults), faults
+
+
 # ---- lines
 
 def with_counts(text):
@@ -378,6 +398,7 @@ def checked_itself():
         "contracts": contracts(ITEMS) == [("rv_word", name) for name in ("laws", "f", "only", "g", "x", "only_x")],
         "private": len(imports_of_private("crates/c/specs/A.antt", private)) == 2
                    and not imports_of_private("crates/c/specs/private/A.antt", private),
+        "files": files_in("`specs/words/Rules.antt`, src/a/b.rt, specs/private") == ["specs/words/Rules", "src/a/b.rt"],
         "lines": with_counts("`a/specs/X.antt` (3), `Z` and (5)") == "`a/specs/X.antt` (no file), `Z` and (5)",
     }
     return sum(found.values()), [f"tools/definitions.py itself: {name}" for name, holds in found.items() if not holds]
@@ -396,7 +417,7 @@ def main(options):
         for path, text in texts.items():
             path.write_text(text, encoding="utf-8")
     differences = [compared(path, text) for path, text in texts.items()]
-    results = [checked_itself(), compared_imports(), compared_contracts(texts[PROOFS])]
+    results = [checked_itself(), compared_imports(), compared_contracts(texts[PROOFS]), compared_files()]
     faults = sum([found for _, found in results] + differences, faults_of_sources(words, source_of))
     passed = sum(right for right, _ in results) + sum(not found for found in differences)
     print("\n".join(faults + [f"{passed} passed, {len(faults)} failed"]))

@@ -1,13 +1,12 @@
 //! The assembler's text, of sources and of single instructions.
 //!
-//! [`parse_source`] reads a text to its sandboxes: what it means is `specs/Texts.antt`, line by
-//! line `specs/Leads.antt`, over the table of statements in `specs/Keywords.antt`.
+//! [`parse_source`] reads a text to its sandboxes: what it means, line by line, is
+//! `specs/Texts.antt`, over the table of statements in `specs/Keywords.antt`.
 //!
 //! [`parse_instr`] reads the text of one instruction, [`print_instr`] and [`push_instr`] write it;
-//! a printed instruction that a word spells reads back as itself. What a text means is
-//! `specs/Statement.antt`, over the tokens of `specs/Tokens.antt` and the operands of
-//! `specs/Forms.antt`; the printed text is `specs/Printed.antt`. [`op_name`] and its like are the
-//! names of `specs/Mnemonics.antt`.
+//! a printed instruction that a word spells reads back as itself. What a text means, and what is
+//! printed, is `specs/Statement.antt`, over the tokens of `specs/Tokens.antt` and the mnemonics
+//! ([`op_name`] and its like) and operands of `specs/Operands.antt`.
 #![tactic(auto)]
 
 mod cause;
