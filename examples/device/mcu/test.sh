@@ -228,6 +228,9 @@ done <chips/table
 # ---- Plug-ins that come and go
 
 try_slots() {
+    report "the host with slots: a checker that isn't there" \
+        "there is no checker none: examples/device/checker.sh makes moving.o (CHECKER=FILE names another).  Stop." \
+        "$(make -s -C "$shared/slots" CHECKER=none 2>&1 | sed -n 's/^Makefile:[0-9]*: \*\*\* //p')"
     if [ "${by[0]}" = --unchecked ]; then
         skip 1 "the host with slots" "there is no checker to judge its updates"
         return
