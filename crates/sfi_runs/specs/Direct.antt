@@ -1,7 +1,7 @@
 -- Runs with gates that the host has made direct: in the place of such a gate's ecall may be a word of the
 -- host's own, a springboard, and control that comes to it is the call. What the machine does from there
 -- until the sandbox goes on is the host's, and no step of the sandbox.
-use Rattle.std.specs.Prelude.{◌≡◌, ◌+◌, ◌<◌, ◌≤◌, ℕ, List, [], ◌∷◌, length, take, drop, slice_index, Option, Some, None}
+use Rattle.std.specs.Prelude.{◌≡◌, ◌⊎◌, ◌+◌, ◌<◌, ◌≤◌, ℕ, List, [], ◌∷◌, length, take, drop, slice_index, Option, Some, None}
 use Rattle.std.specs.List.{Contains}
 use Rattle.rv_word.specs.declared.instr.Instr.{Instr}
 use Rattle.rv_word.specs.declared.instr.Instr.TheVariants.{Ecall}
@@ -11,7 +11,7 @@ use Rattle.rv_step.specs.State.{State, IsState}
 use Rattle.rv_step.specs.Step.{Stands, IsStep}
 use Rattle.sfi_image.specs.Spelling.{Part}
 use Rattle.sfi_runs.specs.Runs.{InCode, InGuard, IsUnitStart, IsGate, HasReserved, HasEmptyGuards, IsTyped, KeepsReserved, Turn, Steps, Replies, Changes, after_turn}
-use Rattle.sfi_runs.specs.Safety.{HasInstruction, IsSafeTurn}
+use Rattle.sfi_runs.specs.Safety.{HasInstruction, IsSafeTurn, after_turns}
 
 -- at the address is a listed gate, which is one of those that the host has made direct
 abbrev pub IsDirect : Part → List ℕ → ℕ → Type 0
@@ -109,3 +109,18 @@ IsDirectSafeRun p direct (Some s) (turn ∷ turns) =
 pub record RunsDirectly (p : Part) (direct : List ℕ) : Type 0 where
   pub from : (s : State) → IsDirectEntry p direct s → (turns : List Turn)
       → IsDirectRun p direct (Some s) turns → IsDirectSafeRun p direct (Some s) turns
+
+-- ---- what the typed registers hold when a sandbox calls
+
+-- the sandbox calls here: the image has an ecall at pc, be there a springboard or not, or the memory has
+-- one where no gate is direct
+abbrev pub IsCalling : Part → List ℕ → State → Type 0
+IsCalling p direct s =
+    HasEcall p s.hart.pc ⊎ ((n : ℕ) × Stands s Ecall n × (IsDirect p direct s.hart.pc → ⊥))
+
+-- in every run from every such entry the typed registers hold what their types say wherever the
+-- sandbox calls
+pub record CallsTypedDirectly (p : Part) (direct : List ℕ) : Type 0 where
+  pub from : (s : State) → IsDirectEntry p direct s → (turns : List Turn) (at : State)
+      → IsDirectRun p direct (Some s) turns → after_turns (Some s) turns ≡ Some at
+      → IsCalling p direct at → IsTyped p at.hart.registers

@@ -9,7 +9,7 @@ use Rattle.rv_step.specs.State.{State, IsState}
 use Rattle.rv_step.specs.declared.outcome.Outcome.TheVariants.{Call}
 use Rattle.sfi_image.specs.Spelling.{Part}
 use Rattle.sfi_runs.specs.Runs.{InCode, InData, InGuard, IsGate, IsUnitStart, HasReserved, HasCode, IsTyped, KeepsReserved, Turn, Steps, Replies, Changes, after_turn}
-use Rattle.sfi_runs.specs.Safety.{IsSafeState}
+use Rattle.sfi_runs.specs.Safety.{IsSafeState, after_turns}
 
 -- a sandbox may be entered here: as `IsEntry` says, and nothing is asked of the guard zones
 pub record IsPaddedEntry (p : Part) (s : State) : Type 0 where
@@ -78,3 +78,10 @@ IsContainedRun p (Some s) (turn ∷ turns) =
 pub record RunsContained (p : Part) : Type 0 where
   pub from : (s : State) → IsPaddedEntry p s → (turns : List Turn)
       → IsPaddedRun p (Some s) turns → IsContainedRun p (Some s) turns
+
+-- in every run from every such entry the typed registers hold what their types say wherever an ecall
+-- stands
+pub record CallsTypedPadded (p : Part) : Type 0 where
+  pub from : (s : State) → IsPaddedEntry p s → (turns : List Turn) (at : State) (n : ℕ)
+      → IsPaddedRun p (Some s) turns → after_turns (Some s) turns ≡ Some at → Stands at Ecall n
+      → IsTyped p at.hart.registers

@@ -1,5 +1,5 @@
 -- Runs with direct gates are as runs of the image's own code, in a memory in which the springboards' bytes are the image's: each turn is one there.
-use Rattle.sfi_safety.proofs.Prelude.{◌≡◌, ℕ, zero, suc, ◌+◌, ◌-◌, ◌%◌, ◌^◌, ◌<◌, ◌≤◌, ◌⊎◌, List, [], ◌∷◌, length, refl, sym, ap, ◌∙◌, subst, inl, inr, ⊎_elim, cases_lt, arith, Option, Some, None, All, unit, Format, Sfi1, Sfi2, Sfiw, Instr, Ecall, Next, Call, Trap, Outcome, Accesses, address_after, Hart, State, Stepped, Stands, IsStep, unchanged, Part, Gate, IsRightPart, IsBundleStart, AreApart, code_region, guarded_region, InData, InGuard, InCode, IsGate, IsUnitStart, HasCode, IsTyped, Bytes, byte_at, Turn, Steps, Replies, Changes, IsTurn, KeepsBytes, after_step, after_turn, IsSafeState, IsSafeStep}
+use Rattle.sfi_safety.proofs.Prelude.{◌≡◌, ℕ, zero, suc, ◌+◌, ◌-◌, ◌%◌, ◌^◌, ◌<◌, ◌≤◌, ◌⊎◌, List, [], ◌∷◌, length, refl, sym, ap, ◌∙◌, subst, inl, inr, ⊎_elim, cases_lt, arith, Option, Some, None, All, unit, Format, Sfi1, Sfi2, Sfiw, Instr, Ecall, Next, Call, Trap, Outcome, Accesses, address_after, Hart, State, Stepped, Stands, IsStep, unchanged, Part, Gate, IsRightPart, IsBundleStart, AreApart, code_region, guarded_region, InData, InGuard, InCode, IsGate, IsUnitStart, HasCode, IsTyped, Bytes, byte_at, Turn, Steps, Replies, Changes, IsTurn, KeepsBytes, after_step, after_turn, after_turns, IsSafeState, IsSafeStep}
 use Rattle.std.specs.Prelude.{IfSome, slice_get}
 use Rattle.rv_step.specs.Laws.{AgreeHere, IsSameStep}
 use Rattle.rv_comp.specs.declared.front.Front.TheVariants.{Read}
@@ -8,7 +8,7 @@ use Rattle.sfi_image.specs.declared.span.Span.{Span}
 use Rattle.sfi_image.proofs.Facts.{code_ends}
 use Rattle.sfi_runs.specs.Safety.{KeepsAll, IsTrap, IsSafeTurn}
 use Rattle.sfi_runs.specs.Runs.{KeepsReserved}
-use Rattle.sfi_runs.specs.Direct.{IsDirect, IsInBoard, HasEcall, HasCodeButBoards, KeepsButBoards, IsDirectEntry, IsDirectReply, IsDirectChange, IsDirectTurn, IsDirectRun, IsDirectState, IsDirectSafeRun, RunsDirectly}
+use Rattle.sfi_runs.specs.Direct.{IsDirect, IsInBoard, HasEcall, HasCodeButBoards, KeepsButBoards, IsDirectEntry, IsDirectReply, IsDirectChange, IsDirectTurn, IsDirectRun, IsDirectState, IsDirectSafeRun, RunsDirectly, IsCalling, CallsTypedDirectly}
 use Rattle.sfi_runs.proofs.Entering.{bytes_over, there, elsewhere}
 use Rattle.sfi_runs.proofs.Standing.{stands_there}
 use Rattle.sfi_runs.proofs.Stepping.{guarded}
@@ -122,14 +122,15 @@ module _ (p : Part) (right : IsRightPart p) (direct : List ℕ) where
     -- ---- good states
 
     -- states of the image's own runs are good, if an entry is good, a turn from a good state is safe and
-    -- leads to a good one, so does a reply whatever its memory, the instruction there fits into its unit, and a step goes on after it or to
-    -- a start
+    -- leads to a good one, so does a reply whatever its memory, the instruction there fits into its unit, a step goes on after it or to
+    -- a start, and the typed registers hold what their types say at an ecall
     module _ (IsGood : State → Type 0)
         (enters : (s : State) → KeepsAll p s → IsUnitStart p s.hart.pc → IsTyped p s.hart.registers → IsGood s)
         (keeps : (s : State) (turn : Turn) → IsGood s → IsTurn p s turn → IsSafeState p s × IsSafeTurn p s turn × IfSome (after_turn turn) IsGood)
         (replies : (s after : State) (n : ℕ) → IsGood s → Stands s Ecall n → after.hart.pc ≡ address_after s.hart.pc 4 → length after.hart.registers ≡ 32 → KeepsReserved s.hart after.hart → IsTyped p after.hart.registers → KeepsBytes p s.memory after.memory → IsGood after)
         (fits : (s : State) (i : Instr) (n : ℕ) → IsGood s → Stands s i n → s.hart.pc % unit p.format + n ≤ unit p.format)
-        (goes : (s : State) (i : Instr) (n : ℕ) (r : Stepped) → IsGood s → Stands s i n → IsStep s r → r.outcome ≡ Next → (r.state.hart.pc ≡ address_after s.hart.pc n) ⊎ IsUnitStart p r.state.hart.pc) where
+        (goes : (s : State) (i : Instr) (n : ℕ) (r : Stepped) → IsGood s → Stands s i n → IsStep s r → r.outcome ≡ Next → (r.state.hart.pc ≡ address_after s.hart.pc n) ⊎ IsUnitStart p r.state.hart.pc)
+        (typed : (s : State) (n : ℕ) → IsGood s → Stands s Ecall n → IsTyped p s.hart.registers) where
       -- with another memory, which has the image's bytes in the springboards, the state is good
       record IsHeld (s : State) : Type 0 where
         there : Bytes
@@ -367,5 +368,24 @@ module _ (p : Part) (right : IsRightPart p) (direct : List ℕ) where
         run_safe turns (after_turn turn) (turn_held s held turn run.0) run.1,
       )
 
-      pub runs_directly : RunsDirectly p direct
-      runs_directly = record { from = λ s entry turns run. run_safe turns (Some s) (entry_held s entry) run }
+      -- ---- calls
+
+      run_held : (turns : List Turn) (o : Option State) → IfSome o (λ x. IsHeld x) → IsDirectRun p direct o turns → IfSome (after_turns o turns) (λ x. IsHeld x)
+      run_held [] o held run = held
+      run_held (turn ∷ turns) None held run = tt
+      run_held (turn ∷ turns) (Some s) held run = run_held turns (after_turn turn) (turn_held s held turn run.0) run.1
+
+      call_typed : (s : State) → IsHeld s → IsCalling p direct s → IsTyped p s.hart.registers
+      call_typed s held (inl asked) = typed (own s held) 4 held.good (own_ecall s held asked)
+      call_typed s held (inr (n, stands, away)) =
+          let here = (own_safe s held).present in
+          typed (own s held) here.size held.good (subst (λ (x : Instr). Stands (own s held) x here.size) (sym (only s held away Ecall n stands).0) here.stands)
+
+      pub runs_and_calls : RunsDirectly p direct × CallsTypedDirectly p direct
+      runs_and_calls = (
+        record { from = λ s entry turns run. run_safe turns (Some s) (entry_held s entry) run },
+        record {
+          from = λ s entry turns at run after calls.
+              call_typed at (subst (λ (o : Option State). IfSome o (λ x. IsHeld x)) after (run_held turns (Some s) (entry_held s entry) run)) calls;
+        },
+      )

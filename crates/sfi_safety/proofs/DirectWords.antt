@@ -1,6 +1,6 @@
 -- Code in words that breaks no rule runs safely with direct gates.
 use Rattle.sfi_safety.proofs.Prelude.{◌≡◌, ℕ, ◌+◌, ◌%◌, ◌≤◌, ◌⊎◌, sym, ap, ◌∙◌, subst, inl, inr, ⊎_elim, arith, List, length, drop, Instr, Outcome, Next, address_after, State, Stepped, Stands, IsStep, unit, Part, IsUnitStart, IsTyped, KeepsBytes, Ecall}
-use Rattle.sfi_runs.specs.Direct.{RunsDirectly}
+use Rattle.sfi_runs.specs.Direct.{RunsDirectly, CallsTypedDirectly}
 use Rattle.sfi_runs.specs.Runs.{KeepsReserved}
 use Rattle.sfi_runs.proofs.Turning.{kept_after}
 use Rattle.sfi_runs.proofs.Formats.{words, to_word, of_word}
@@ -9,8 +9,8 @@ use Rattle.sfi_words.proofs.Effects.{Leads}
 use Rattle.sfi_words.proofs.Facts.{turn_keeps}
 use Rattle.sfi_words.proofs.Places.{at_start, base_aligned, sized}
 use Rattle.sfi_words.proofs.Stepping.{only, step_leads}
-use Rattle.sfi_words.proofs.Turns.{place_replied}
-use Rattle.sfi_safety.proofs.Direct.{runs_directly}
+use Rattle.sfi_words.proofs.Turns.{place_replied, good_calls}
+use Rattle.sfi_safety.proofs.Direct.{runs_and_calls}
 
 module _ (p : Part) (clean : IsCleanInWords p) (s : State) (i : Instr) (n : ℕ) (good : IsGoodInWords p s) (stands : Stands s i n) where
   size_is : n ≡ good.place.place.here.size
@@ -45,11 +45,12 @@ replied p clean s n good asked after pc count reserved typed bytes = record {
   place = place_replied p clean s good after.hart n asked pc typed;
 }
 
-pub words_directly : (p : Part) → IsCleanInWords p → (direct : List ℕ) → RunsDirectly p direct
+pub words_directly : (p : Part) → IsCleanInWords p → (direct : List ℕ) → RunsDirectly p direct × CallsTypedDirectly p direct
 words_directly p clean direct =
-    runs_directly p clean.right direct clean.apart (IsGoodInWords p)
+    runs_and_calls p clean.right direct clean.apart (IsGoodInWords p)
     (λ s kept start typed. record { kept = kept; place = at_start p clean s.hart (to_word p s.hart.pc clean.words start) (typed.words clean.words) })
     (λ s turn good h. turn_keeps p s turn clean good h)
     (λ s after n good asked pc count reserved typed bytes. replied p clean s n good asked after pc count reserved typed bytes)
     (λ s i n good stands. fits p clean s i n good stands)
     (λ s i n r good stands step done. goes p clean s i n good stands r step done)
+    (λ s n good stands. good_calls p s n clean good stands)

@@ -1,5 +1,5 @@
 -- What each instruction at a place without a finding does: it accesses the data and the guards, calls at a gate, and goes on to a place.
-use Rattle.sfi_safety.proofs.Prelude.{has_words, IsImm12, Contains, ◌≡◌, ℕ, ◌+◌, ◌%◌, ◌^◌, ◌<◌, ◌≤◌, ◌⊎◌, ◌∷◌, length, Option, Some, None, Bool, true, false, cond, not, ◌==◌, refl, sym, ap, ◌∙◌, subst, ⊎_elim, arith, ◌&&◌, ℤ, pos, negsuc, is_some, slice_index, and_parts, or_cases, eqb-true, eqb-false, not-false, offset_by, Instr, Op, OpImm, Load, Store, Branch, Jal, Jalr, Lui, Auipc, Fence, Ecall, Ebreak, InRange, has_stack, is_stack, Bytes, bytes_at, address_after, addresses, loaded, stored, Next, Call, Trap, Accesses, Hart, register, with_register, with_pc, past, even_of, effect, after_load, next, unchanged, load_size, store_size, extended, is_taken, Part, code_region, IsBundleStart, IsRightPart, BundlePlace, Place, is_empty, is_bundle_start, breaks_ecall, breaks_reserved, breaks_access, breaks_jump, breaks_target, breaks_stack, may_access, ends_region, InData, InGuard, IsGate, HasReserved, StackInData, Leaves, WritesResult, StackInDataBefore, IsAtPlace, Outcome, is_reserved, writes_stack, is_jump}
+use Rattle.sfi_safety.proofs.Prelude.{has_words, IsImm12, Contains, ◌≡◌, ℕ, ◌+◌, ◌%◌, ◌^◌, ◌<◌, ◌≤◌, ◌⊎◌, inl, inr, ◌∷◌, length, Option, Some, None, Bool, true, false, cond, not, ◌==◌, refl, sym, ap, ◌∙◌, subst, ⊎_elim, arith, ◌&&◌, ℤ, pos, negsuc, is_some, slice_index, and_parts, or_cases, eqb-true, eqb-false, not-false, offset_by, Instr, Op, OpImm, Load, Store, Branch, Jal, Jalr, Lui, Auipc, Fence, Ecall, Ebreak, InRange, has_stack, is_stack, Bytes, bytes_at, address_after, addresses, loaded, stored, Next, Call, Trap, Accesses, Hart, register, with_register, with_pc, past, even_of, effect, after_load, next, unchanged, load_size, store_size, extended, is_taken, Part, code_region, IsBundleStart, IsRightPart, BundlePlace, Place, is_empty, is_bundle_start, breaks_ecall, breaks_reserved, breaks_access, breaks_jump, breaks_target, breaks_stack, may_access, ends_region, InData, InGuard, IsGate, HasReserved, StackInData, Leaves, WritesResult, StackInDataBefore, IsAtPlace, Outcome, is_reserved, writes_stack, is_jump}
 use Rattle.rv_word.specs.Outlines.{destination, is_register}
 use Rattle.rv_word.specs.declared.instr.LoadKind.{LoadKind}
 use Rattle.sfi_rules.specs.Readings.{follows_data_pair, follows_code_pair}
@@ -35,11 +35,15 @@ pub record IsGoodHart (sandbox : ℕ) (p : Part) (h : Hart) : Type 0 where
   pub reserved : HasReserved p h.registers
   pub place : IsAtPlace sandbox p h
 
--- what a step leads to, by its outcome
-abbrev pub Leads : ℕ → Part → Hart → Outcome → Hart → Type 0
-Leads sandbox p h Next h' = IsGoodHart sandbox p h'
-Leads sandbox p h Call h' = IsGate p h.pc
-Leads sandbox p h (Trap cause at) h' = Unit {0}
+-- pc is at the next instruction, or at a bundle's start
+abbrev pub GoesTo : Part → Hart → ℕ → ℕ → Type 0
+GoesTo p h n pc = (pc ≡ address_after h.pc n) ⊎ IsBundleStart (code_region p) pc
+
+-- what a step of n bytes leads to, by its outcome
+abbrev pub Leads : ℕ → Part → Hart → ℕ → Outcome → Hart → Type 0
+Leads sandbox p h n Next h' = IsGoodHart sandbox p h' × GoesTo p h n h'.pc
+Leads sandbox p h n Call h' = IsGate p h.pc
+Leads sandbox p h n (Trap cause at) h' = Unit {0}
 
 -- ---- accesses
 
@@ -109,17 +113,17 @@ module _ (sandbox : ℕ) (p : Part) (h : Hart) (m : Bytes) (right : IsRightPart 
       let stack = stack_after p here.place i n h.registers h.registers here.format here.writing (λ has none. refl) leaves here.stack in
       good_moving (address_after h.pc n) (here.goes (past h n) refl goes leaves stack)
 
-  by_load : (kind : LoadKind) (rd rs1 : ℕ) (imm : ℤ) (n : ℕ) → Here sandbox p h (Load kind rd rs1 imm) n → (o : Option ℕ) (at : ℕ) → Leads sandbox p h (after_load o kind rd at n h m).outcome (after_load o kind rd at n h m).state.hart
+  by_load : (kind : LoadKind) (rd rs1 : ℕ) (imm : ℤ) (n : ℕ) → Here sandbox p h (Load kind rd rs1 imm) n → (o : Option ℕ) (at : ℕ) → Leads sandbox p h n (after_load o kind rd at n h m).outcome (after_load o kind rd at n h m).state.hart
   by_load kind rd rs1 imm n here None at = tt
-  by_load kind rd rs1 imm n here (Some v) at = by_writing (Load kind rd rs1 imm) n rd (extended kind v) here refl here.reserved refl tt
+  by_load kind rd rs1 imm n here (Some v) at = (by_writing (Load kind rd rs1 imm) n rd (extended kind v) here refl here.reserved refl tt, inl refl)
 
-  by_store : (b : Bool) (w : Bytes) (at n : ℕ) → IsGoodHart sandbox p (past h n) → Leads sandbox p h (cond b (next (past h n) w) (unchanged (Trap cause.Store at) h m)).outcome (cond b (next (past h n) w) (unchanged (Trap cause.Store at) h m)).state.hart
-  by_store true w at n good = good
+  by_store : (b : Bool) (w : Bytes) (at n : ℕ) → IsGoodHart sandbox p (past h n) → Leads sandbox p h n (cond b (next (past h n) w) (unchanged (Trap cause.Store at) h m)).outcome (cond b (next (past h n) w) (unchanged (Trap cause.Store at) h m)).state.hart
+  by_store true w at n good = (good, inl refl)
   by_store false w at n good = tt
 
-  by_branch : (taken : Bool) (i : Instr) (n target : ℕ) (here : Here sandbox p h i n) → is_of_pair i ≡ false → ends_region i ≡ false → WritesResult i h (past h n) → IsBundleStart (code_region p) target → IsGoodHart sandbox p (cond taken (with_pc h target) (past h n))
-  by_branch true i n target here other goes writes start = good_moving target (here.start (with_pc h target) start (lies sandbox p h i n here other))
-  by_branch false i n target here other goes writes start = by_moving i n here goes writes
+  by_branch : (taken : Bool) (i : Instr) (n target : ℕ) (here : Here sandbox p h i n) → is_of_pair i ≡ false → ends_region i ≡ false → WritesResult i h (past h n) → IsBundleStart (code_region p) target → Leads sandbox p h n Next (cond taken (with_pc h target) (past h n))
+  by_branch true i n target here other goes writes start = (good_moving target (here.start (with_pc h target) start (lies sandbox p h i n here other)), inr start)
+  by_branch false i n target here other goes writes start = (by_moving i n here goes writes, inl refl)
 
   -- the target that the rules allow is where the machine goes
   target_start : (i : Instr) (n : ℕ) (offset : ℤ) (here : Here sandbox p h i n) → not (is_bundle_start here.place.bundle (offset_by here.place.address offset)) ≡ false → IsBundleStart (code_region p) (offset_by h.pc offset)
@@ -133,7 +137,7 @@ module _ (sandbox : ℕ) (p : Part) (h : Hart) (m : Bytes) (right : IsRightPart 
       subst (λ (a : ℕ). InData p a) (sym (keeps here.place.bundle i rd value (with_pc h pc) dest (here.format ∙ has) (jump_keeps here.place i jump here.writing)))
       (lies sandbox p h i n here other has)
 
-  by_jalr : (rd rs1 n : ℕ) (imm : ℤ) → Here sandbox p h (Jalr rd rs1 imm) n → IsGoodHart sandbox p (with_register (with_pc h (even_of (offset_by (register h rs1) imm))) rd (address_after h.pc n))
+  by_jalr : (rd rs1 n : ℕ) (imm : ℤ) → Here sandbox p h (Jalr rd rs1 imm) n → Leads sandbox p h n Next (with_register (with_pc h (even_of (offset_by (register h rs1) imm))) rd (address_after h.pc n))
   by_jalr rd rs1 n (pos k) here =
       let parts = and_parts (k == 0) (follows_code_pair rs1 here.place.earlier) (not-false _ here.jump) in
       let none : k ≡ 0 = eqb-true k 0 parts.0 in
@@ -144,7 +148,8 @@ module _ (sandbox : ℕ) (p : Part) (h : Hart) (m : Bytes) (right : IsRightPart 
       let same : register h rs1 ≡ even_of ((register h rs1 + k) % 2 ^ 32) = omega arith in
       let pc = even_of (offset_by (register h rs1) (pos k)) in
       let h' = with_register (with_pc h pc) rd (address_after h.pc n) in
-      good_writing pc rd (address_after h.pc n) here.reserved (here.start h' (subst (λ (a : ℕ). IsBundleStart (code_region p) a) same start) (jump_lies (Jalr rd rs1 (pos k)) n rd (address_after h.pc n) pc here refl refl refl))
+      let target = subst (λ (a : ℕ). IsBundleStart (code_region p) a) same start in
+      (good_writing pc rd (address_after h.pc n) here.reserved (here.start h' target (jump_lies (Jalr rd rs1 (pos k)) n rd (address_after h.pc n) pc here refl refl refl)), inr target)
   by_jalr rd rs1 n (negsuc k) here = absurd (let e = here.jump in cc)
 
   by_ecall : (n : ℕ) → Here sandbox p h Ecall n → IsGate p h.pc
@@ -152,9 +157,9 @@ module _ (sandbox : ℕ) (p : Part) (h : Hart) (m : Bytes) (right : IsRightPart 
       let parts = and_parts (is_empty here.place.earlier) here.place.bundle.listed (not-false _ here.ecall) in
       here.gate parts.0 parts.1
 
-  pub leads : (i : Instr) (n : ℕ) → Here sandbox p h i n → Leads sandbox p h (effect i n h m).outcome (effect i n h m).state.hart
-  leads (Op op rd rs1 rs2) n here = by_writing (Op op rd rs1 rs2) n rd _ here refl here.reserved refl refl
-  leads (OpImm op rd rs1 imm) n here = by_writing (OpImm op rd rs1 imm) n rd _ here refl here.reserved refl tt
+  pub leads : (i : Instr) (n : ℕ) → Here sandbox p h i n → Leads sandbox p h n (effect i n h m).outcome (effect i n h m).state.hart
+  leads (Op op rd rs1 rs2) n here = (by_writing (Op op rd rs1 rs2) n rd _ here refl here.reserved refl refl, inl refl)
+  leads (OpImm op rd rs1 imm) n here = (by_writing (OpImm op rd rs1 imm) n rd _ here refl here.reserved refl tt, inl refl)
   leads (Load kind rd rs1 imm) n here = by_load kind rd rs1 imm n here (loaded m (offset_by (register h rs1) imm) (load_size kind)) (offset_by (register h rs1) imm)
   leads (Store width rs1 rs2 imm) n here =
       by_store (is_some (bytes_at m (addresses (offset_by (register h rs1) imm) (store_size width)))) (stored m (offset_by (register h rs1) imm) (store_size width) (register h rs2)) (offset_by (register h rs1) imm) n (by_moving (Store width rs1 rs2 imm) n here refl tt)
@@ -162,10 +167,11 @@ module _ (sandbox : ℕ) (p : Part) (h : Hart) (m : Bytes) (right : IsRightPart 
       by_branch (is_taken condition (register h rs1) (register h rs2)) (Branch condition rs1 rs2 offset) n (offset_by h.pc offset) here refl refl tt (target_start (Branch condition rs1 rs2 offset) n offset here here.target)
   leads (Jal rd offset) n here =
       let h' = with_register (with_pc h (offset_by h.pc offset)) rd (address_after h.pc n) in
-      good_writing (offset_by h.pc offset) rd (address_after h.pc n) here.reserved (here.start h' (target_start (Jal rd offset) n offset here here.target) (jump_lies (Jal rd offset) n rd (address_after h.pc n) (offset_by h.pc offset) here refl refl refl))
+      let target = target_start (Jal rd offset) n offset here here.target in
+      (good_writing (offset_by h.pc offset) rd (address_after h.pc n) here.reserved (here.start h' target (jump_lies (Jal rd offset) n rd (address_after h.pc n) (offset_by h.pc offset) here refl refl refl)), inr target)
   leads (Jalr rd rs1 imm) n here = by_jalr rd rs1 n imm here
-  leads (Lui rd imm) n here = by_writing (Lui rd imm) n rd _ here refl here.reserved refl tt
-  leads (Auipc rd imm) n here = by_writing (Auipc rd imm) n rd _ here refl here.reserved refl tt
-  leads (Fence imm rd rs1) n here = by_moving (Fence imm rd rs1) n here refl tt
+  leads (Lui rd imm) n here = (by_writing (Lui rd imm) n rd _ here refl here.reserved refl tt, inl refl)
+  leads (Auipc rd imm) n here = (by_writing (Auipc rd imm) n rd _ here refl here.reserved refl tt, inl refl)
+  leads (Fence imm rd rs1) n here = (by_moving (Fence imm rd rs1) n here refl tt, inl refl)
   leads Ecall n here = by_ecall n here
   leads Ebreak n here = tt

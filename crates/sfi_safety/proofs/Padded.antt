@@ -1,14 +1,14 @@
 -- Code in bundles without a finding is contained, whatever its guard zones hold.
-use Rattle.sfi_safety.proofs.Prelude.{◌≡◌, ℕ, ◌+◌, ◌⊎◌, List, [], ◌∷◌, length, refl, sym, ap, ◌∙◌, subst, arith, Instr, Ecall, Option, Some, None, Next, Call, Trap, Accesses, State, Stepped, Stands, IsStep, unchanged, Part, InData, InGuard, HasReserved, HasCode, after_step, AreCleanBundles, IsAtPlace, IsSafeState, Outcome, Bytes, byte_at, Turn, Steps, Replies, Changes, after_turn}
+use Rattle.sfi_safety.proofs.Prelude.{◌≡◌, ℕ, ◌+◌, ◌⊎◌, List, [], ◌∷◌, length, refl, sym, ap, ◌∙◌, subst, arith, Instr, Ecall, Option, Some, None, Next, Call, Trap, Accesses, State, Stepped, Stands, IsStep, unchanged, Part, InData, InGuard, HasReserved, HasCode, IsTyped, after_step, AreCleanBundles, IsAtPlace, IsSafeState, Outcome, Bytes, byte_at, Turn, Steps, Replies, Changes, after_turn, after_turns}
 use Rattle.std.specs.Prelude.{IfSome}
 use Rattle.rv_comp.specs.declared.front.Front.TheVariants.{Read}
 use Rattle.rv_step.proofs.Facts.{stopped_stays, step_is_effect, other_bytes_stay}
 use Rattle.sfi_runs.proofs.Formats.{to_bundle}
 use Rattle.sfi_runs.proofs.Stepping.{guarded}
-use Rattle.sfi_runs.specs.Padded.{KeepsCode, IsPaddedEntry, IsPaddedReply, IsPaddedChange, IsPaddedTurn, IsPaddedRun, IsContainedStep, IsContainedTurn, IsContainedRun, RunsContained}
+use Rattle.sfi_runs.specs.Padded.{KeepsCode, IsPaddedEntry, IsPaddedReply, IsPaddedChange, IsPaddedTurn, IsPaddedRun, IsContainedStep, IsContainedTurn, IsContainedRun, RunsContained, CallsTypedPadded}
 use Rattle.sfi_safety.proofs.Effects.{Leads, leads}
 use Rattle.sfi_safety.proofs.Places.{at_start, safe_here}
-use Rattle.sfi_safety.proofs.Standing.{stands_here, only, here, near_here, place_replied, place_unchanged}
+use Rattle.sfi_safety.proofs.Standing.{stands_here, only, here, near_here, place_replied, place_unchanged, typed_at_ecall}
 
 -- a good state, of whose guard zones nothing is known
 record IsHeld (sandbox : ℕ) (p : Part) (s : State) : Type 0 where
@@ -30,9 +30,9 @@ module _ (sandbox : ℕ) (p : Part) (s : State) (clean : AreCleanBundles sandbox
   -- ---- a step
 
   module _ (r : Stepped) (step : IsStep s r) where
-    step_leads : Leads sandbox p s.hart r.outcome r.state.hart
+    step_leads : Leads sandbox p s.hart good.place.here.size r.outcome r.state.hart
     step_leads =
-        subst (λ (x : Stepped). Leads sandbox p s.hart x.outcome x.state.hart) (sym (step_is_effect s good.place.here.instr good.place.here.size r stands step))
+        subst (λ (x : Stepped). Leads sandbox p s.hart good.place.here.size x.outcome x.state.hart) (sym (step_is_effect s good.place.here.instr good.place.here.size r stands step))
         (leads sandbox p s.hart s.memory clean.right clean.bundles good.count good.reserved good.place.here.instr good.place.here.size (here sandbox p s clean good.place good.code))
 
     others_stay : (a : ℕ) → (InData p a ⊎ InGuard p a → ⊥) → byte_at r.state.memory a ≡ byte_at s.memory a
@@ -43,8 +43,8 @@ module _ (sandbox : ℕ) (p : Part) (s : State) (clean : AreCleanBundles sandbox
         others_stay (p.code_base + k) (λ in_it. clean.apart (p.code_base + k) (omega arith, omega (arith, below)) (guarded p (p.code_base + k) clean.right in_it))
         ∙ good.code k below
 
-    by_outcome : (o : Outcome) → r.outcome ≡ o → Leads sandbox p s.hart o r.state.hart → IfSome (after_step o r.state) (λ x. IsHeld sandbox p x)
-    by_outcome Next e led = record { count = led.count; reserved = led.reserved; code = code_stays; place = led.place }
+    by_outcome : (o : Outcome) → r.outcome ≡ o → Leads sandbox p s.hart good.place.here.size o r.state.hart → IfSome (after_step o r.state) (λ x. IsHeld sandbox p x)
+    by_outcome Next e (there, goes) = record { count = there.count; reserved = there.reserved; code = code_stays; place = there.place }
     by_outcome Call e led = subst (λ (x : State). IsHeld sandbox p x) (sym (stopped_stays s r step (λ done. let clash : Next ≡ Call = sym done ∙ e in cc))) good
     by_outcome (Trap cause at) e led = tt
 
@@ -55,7 +55,7 @@ module _ (sandbox : ℕ) (p : Part) (s : State) (clean : AreCleanBundles sandbox
     step_contained = record {
       within = λ j k there a has. near a (subst (λ (x : Instr). Accesses x s.hart a) (only sandbox p s clean good.place good.code j k there).0 has);
       stays = others_stay;
-      called = λ e. subst (λ (o : Outcome). Leads sandbox p s.hart o r.state.hart) e step_leads;
+      called = λ e. subst (λ (o : Outcome). Leads sandbox p s.hart good.place.here.size o r.state.hart) e step_leads;
     }
 
   -- ---- what is not a step
@@ -117,4 +117,21 @@ entry_held sandbox p s clean entry = record {
 pub bundles_contained : (sandbox : ℕ) (p : Part) → AreCleanBundles sandbox p → RunsContained p
 bundles_contained sandbox p clean = record {
   from = λ s entry turns run. run_contained sandbox p clean turns (Some s) (entry_held sandbox p s clean entry) run;
+}
+
+-- ---- calls
+
+run_held : (sandbox : ℕ) (p : Part) → AreCleanBundles sandbox p → (turns : List Turn) (o : Option State) → IfSome o (λ x. IsHeld sandbox p x) → IsPaddedRun p o turns → IfSome (after_turns o turns) (λ x. IsHeld sandbox p x)
+run_held sandbox p clean [] o good run = good
+run_held sandbox p clean (turn ∷ turns) None good run = tt
+run_held sandbox p clean (turn ∷ turns) (Some s) good run = run_held sandbox p clean turns (after_turn turn) (turn_held sandbox p s clean good turn run.0) run.1
+
+held_typed : (sandbox : ℕ) (p : Part) (s : State) (n : ℕ) → AreCleanBundles sandbox p → IsHeld sandbox p s → Stands s Ecall n → IsTyped p s.hart.registers
+held_typed sandbox p s n clean good asked = typed_at_ecall sandbox p s clean good.place good.code n asked
+
+pub bundles_call_padded : (sandbox : ℕ) (p : Part) → AreCleanBundles sandbox p → CallsTypedPadded p
+bundles_call_padded sandbox p clean = record {
+  from = λ s entry turns at n run after asked.
+      held_typed sandbox p at n clean
+      (subst (λ (o : Option State). IfSome o (λ x. IsHeld sandbox p x)) after (run_held sandbox p clean turns (Some s) (entry_held sandbox p s clean entry) run)) asked;
 }

@@ -27,11 +27,11 @@ pub use Rattle.sfi_rules.specs.Findings.{AreBundleFindings, AreReadingFindings, 
 pub use Rattle.sfi_rules.specs.Rules.{Place, is_empty, is_bundle_start, breaks_ecall, breaks_reserved, breaks_access, breaks_jump, breaks_target, breaks_stack, may_access, ends_region, breaks, breaks_end, may_write_stack}
 pub use Rattle.sfi_image.specs.declared.bundle.BundlePlace.{BundlePlace}
 pub use Rattle.sfi_rules.specs.declared.finding.Finding.{Finding}
-pub use Rattle.sfi_safety.specs.Laws.{CleanCallsTyped, CleanRunsContained, CleanRunsDirectly, InstructionLeaves, TurnKeeps, EntryIsGood, CleanRunsSafely}
+pub use Rattle.sfi_safety.specs.Laws.{CleanCallsTyped, CleanRunsContained, CleanPaddedCallsTyped, CleanRunsDirectly, CleanDirectCallsTyped, InstructionLeaves, TurnKeeps, EntryIsGood, CleanRunsSafely}
 pub use Rattle.sfi_safety.specs.Places.{Leaves, WritesResult, follows_mask, IsCleanPart, AreCleanBundles, IsGood, IsGoodIf, StackInDataBefore, IsAtPlace}
 pub use Rattle.sfi_safety.specs.Needed.{BreaksAloneInBundle, IsNeeded, EachRuleIsNeeded, HasOneFinding, HasUnsafeRun, StoresByte, IsAcceptedAndRuns, IsStricter, BreaksNoOther, BreaksAlone, BreaksAloneInWord, IsOwedBefore}
 pub use Rattle.sfi_runs.specs.Runs.{InData, InGuard, HasReserved, IsGate, HasCode, IsUnitStart, InCode, StackInData, IsTyped, Turn, IsRun, after_turn, IsEntry, Steps, Replies, IsReply, IsTurn, after_step, KeepsBytes, Changes, IsChange}
-pub use Rattle.sfi_runs.specs.Safety.{AllRunSafely, IsSafeRun, RunsSafely, IsSafeStep, IsSafeState, CallsTyped}
+pub use Rattle.sfi_runs.specs.Safety.{AllRunSafely, after_turns, IsSafeRun, RunsSafely, IsSafeStep, IsSafeState, CallsTyped}
 pub use Rattle.sfi_safety.specs.Clean.{IsClean, IsAccepted, MayRun}
 pub use Rattle.rv_step.specs.declared.outcome.Outcome.{Outcome}
 pub use Rattle.rv_word.specs.declared.instr.ImmOp.TheVariants.{Addi}

@@ -1,13 +1,13 @@
 -- Every sandbox without a finding runs safely, whatever its format, and so does each of a clean image.
-use Rattle.sfi_safety.proofs.Prelude.{◌≡◌, ℕ, zero, suc, ◌+◌, List, [], ◌∷◌, Bool, true, false, refl, sym, ◌∙◌, subst, arith, All, has_words, Part, AreApart, code_region, guarded_region, AreRight, Finding, AreFindings, AreFindingsFrom, RunsSafely, AllRunSafely, IsCleanPart, AreCleanBundles, CleanRunsSafely, CleanCallsTyped, CleanRunsContained, CleanRunsDirectly, IsClean, MayRun}
+use Rattle.sfi_safety.proofs.Prelude.{◌≡◌, ℕ, zero, suc, ◌+◌, List, [], ◌∷◌, Bool, true, false, refl, sym, ◌∙◌, subst, arith, All, has_words, Part, AreApart, code_region, guarded_region, AreRight, Finding, AreFindings, AreFindingsFrom, RunsSafely, AllRunSafely, IsCleanPart, AreCleanBundles, CleanRunsSafely, CleanCallsTyped, CleanRunsContained, CleanPaddedCallsTyped, CleanRunsDirectly, CleanDirectCallsTyped, IsClean, MayRun}
 use Rattle.sfi_rules.proofs.Facts.{in_bundles, in_words}
 use Rattle.sfi_runs.specs.Safety.{CallsTyped, AllCallTyped}
 use Rattle.sfi_words.specs.Code as words
 use Rattle.sfi_words.proofs.Facts as words_facts
-use Rattle.sfi_runs.specs.Direct.{RunsDirectly}
+use Rattle.sfi_runs.specs.Direct.{RunsDirectly, CallsTypedDirectly}
 use Rattle.sfi_safety.proofs.DirectBundles.{bundles_directly}
 use Rattle.sfi_safety.proofs.DirectWords.{words_directly}
-use Rattle.sfi_safety.proofs.Padded.{bundles_contained}
+use Rattle.sfi_safety.proofs.Padded.{bundles_contained, bundles_call_padded}
 use Rattle.sfi_safety.proofs.Places.{nothing_before}
 use Rattle.sfi_safety.proofs.TurnInvariant.{bundles_run, bundles_call}
 
@@ -41,8 +41,17 @@ clean_calls = in_any CallsTyped bundles_call words_facts.clean_calls_typed
 pub clean_contained : CleanRunsContained
 clean_contained sandbox p none clean = bundles_contained sandbox p (clean_bundles sandbox p clean none)
 
+pub clean_padded_calls : CleanPaddedCallsTyped
+clean_padded_calls sandbox p none clean = bundles_call_padded sandbox p (clean_bundles sandbox p clean none)
+
+both_direct : (sandbox : ℕ) (p : Part) (direct : List ℕ) → IsCleanPart sandbox p → RunsDirectly p direct × CallsTypedDirectly p direct
+both_direct sandbox p direct = in_any (λ (q : Part). RunsDirectly q direct × CallsTypedDirectly q direct) (λ number q clean. bundles_directly number q clean direct) (λ q clean. words_directly q clean direct) sandbox p
+
 pub clean_direct : CleanRunsDirectly
-clean_direct sandbox p direct = in_any (λ (q : Part). RunsDirectly q direct) (λ number q clean. bundles_directly number q clean direct) (λ q clean. words_directly q clean direct) sandbox p
+clean_direct sandbox p direct clean = (both_direct sandbox p direct clean).0
+
+pub clean_direct_calls : CleanDirectCallsTyped
+clean_direct_calls sandbox p direct clean = (both_direct sandbox p direct clean).1
 
 -- ---- an image
 

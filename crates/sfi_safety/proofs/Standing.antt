@@ -4,9 +4,10 @@ use Rattle.sfi_safety.proofs.Places.{pc_in_code, present, at_start}
 use Rattle.sfi_safety.proofs.NextPlace.{place_here, rules_kept, goes_on}
 use Rattle.sfi_safety.proofs.Effects.{Here, accesses_near}
 use Rattle.sfi_safety.proofs.PairResult.{leaves_after}
-use Rattle.sfi_safety.proofs.Stacking.{stack_lies}
+use Rattle.sfi_safety.proofs.Stacking.{is_of_pair, stack_here, stack_lies}
 use Rattle.rv_comp.proofs.Facts.{spelled_in_range, ecall_is_wide}
 use Rattle.rv_step.proofs.Facts.{one_instruction}
+use Rattle.sfi_runs.proofs.Formats.{of_stack}
 use Rattle.sfi_runs.proofs.Stepping.{gate_of}
 use Rattle.sfi_image.proofs.Facts.{code_ends}
 use Rattle.sfi_rules.proofs.Facts.{same_bundle_starts}
@@ -57,6 +58,10 @@ module _ (sandbox : ℕ) (p : Part) (s : State) (clean : AreCleanBundles sandbox
 
   pub near_here : (a : ℕ) → Accesses at.here.instr s.hart a → InData p a ⊎ InGuard p a
   near_here a has = accesses_near sandbox p s.hart at.here.instr at.here.size clean.right here a has
+
+  -- at an ecall here the typed registers hold what their types say
+  pub typed_at_ecall : (n : ℕ) → Stands s Ecall n → IsTyped p s.hart.registers
+  typed_at_ecall n asked = of_stack p s.hart.registers clean.bundles (stack_here p at.earlier at.here at.later s.hart.registers (sym (ap is_of_pair (only Ecall n asked).0)) at.stack)
 
   -- a reply to an ecall here leads to the place after it
   pub place_replied : length s.hart.registers ≡ 32 → HasReserved p s.hart.registers → (after : Hart) (n : ℕ) → Stands s Ecall n → after.pc ≡ address_after s.hart.pc 4 → IsTyped p after.registers → IsAtPlace sandbox p after

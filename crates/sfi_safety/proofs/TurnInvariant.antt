@@ -1,11 +1,10 @@
 -- Each turn keeps a good state, and so does each run.
-use Rattle.sfi_safety.proofs.Prelude.{ℕ, sym, ap, Ecall, State, Stands, Part, IsReply, IsChange, Turn, Steps, Replies, Changes, IsTurn, after_turn, RunsSafely, IsTyped, AreCleanBundles, IsGood, IsGoodIf, EntryIsGood, TurnKeeps, CallsTyped}
-use Rattle.sfi_runs.proofs.Formats.{to_bundle, of_stack}
+use Rattle.sfi_safety.proofs.Prelude.{ℕ, Ecall, State, Stands, Part, IsReply, IsChange, Turn, Steps, Replies, Changes, IsTurn, after_turn, RunsSafely, IsTyped, AreCleanBundles, IsGood, IsGoodIf, EntryIsGood, TurnKeeps, CallsTyped}
+use Rattle.sfi_runs.proofs.Formats.{to_bundle}
 use Rattle.sfi_runs.proofs.Turning.{entry_keeps, reply_keeps, change_keeps, turn_safe, runs_safely, calls_typed}
 use Rattle.sfi_safety.proofs.Places.{at_start, safe_here}
-use Rattle.sfi_safety.proofs.Stacking.{is_of_pair, stack_here}
-use Rattle.sfi_safety.proofs.Standing.{place_replied, place_unchanged}
-use Rattle.sfi_safety.proofs.Stepping.{only, step_good, step_safe}
+use Rattle.sfi_safety.proofs.Standing.{place_replied, place_unchanged, typed_at_ecall}
+use Rattle.sfi_safety.proofs.Stepping.{step_good, step_safe}
 
 -- ---- what is not a step
 
@@ -40,11 +39,8 @@ entry_good sandbox p s clean entry = record {
   place = at_start sandbox p s.hart clean (to_bundle p s.hart.pc clean.bundles entry.start) entry.typed.stack;
 }
 
-good_calls : (sandbox : ℕ) (p : Part) (s : State) (n : ℕ) → AreCleanBundles sandbox p → IsGood sandbox p s → Stands s Ecall n → IsTyped p s.hart.registers
-good_calls sandbox p s n clean good stands =
-    let at = good.place in
-    of_stack p s.hart.registers clean.bundles
-    (stack_here p at.earlier at.here at.later s.hart.registers (sym (ap is_of_pair (only sandbox p s clean good Ecall n stands).0)) at.stack)
+pub good_calls : (sandbox : ℕ) (p : Part) (s : State) (n : ℕ) → AreCleanBundles sandbox p → IsGood sandbox p s → Stands s Ecall n → IsTyped p s.hart.registers
+good_calls sandbox p s n clean good stands = typed_at_ecall sandbox p s clean good.place good.kept.code n stands
 
 pub bundles_run : (sandbox : ℕ) (p : Part) → AreCleanBundles sandbox p → RunsSafely p
 bundles_run sandbox p clean = runs_safely p (IsGood sandbox p) (λ s turn good h. turn_keeps sandbox p s turn clean good h) (λ s entry. entry_good sandbox p s clean entry)

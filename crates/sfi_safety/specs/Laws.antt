@@ -8,8 +8,8 @@ use Rattle.sfi_image.specs.Spelling.{Part}
 use Rattle.sfi_image.specs.Parts.{IsRightPart}
 use Rattle.sfi_runs.specs.Runs.{HasReserved, Turn, IsTurn, IsEntry, after_turn}
 use Rattle.sfi_runs.specs.Safety.{IsSafeState, IsSafeTurn, RunsSafely, CallsTyped}
-use Rattle.sfi_runs.specs.Padded.{RunsContained}
-use Rattle.sfi_runs.specs.Direct.{RunsDirectly}
+use Rattle.sfi_runs.specs.Padded.{RunsContained, CallsTypedPadded}
+use Rattle.sfi_runs.specs.Direct.{RunsDirectly, CallsTypedDirectly}
 use Rattle.sfi_safety.specs.Places.{Leaves, WritesResult, IsCleanPart, AreCleanBundles, IsGood, IsGoodIf}
 
 -- ---- of code in bundles
@@ -58,6 +58,12 @@ abbrev pub CleanRunsContained : Type 0
 CleanRunsContained =
     (sandbox : ℕ) (p : Part) → has_words p.format ≡ false → IsCleanPart sandbox p → RunsContained p
 
+-- each call of such runs is made with the typed registers holding what their types say
+abbrev pub CleanPaddedCallsTyped : Type 0
+CleanPaddedCallsTyped =
+    (sandbox : ℕ) (p : Part) → has_words p.format ≡ false → IsCleanPart sandbox p
+    → CallsTypedPadded p
+
 -- ---- with direct gates
 
 -- Every run is safe, whichever of the listed gates the host has made direct: no byte of a springboard is
@@ -65,3 +71,9 @@ CleanRunsContained =
 abbrev pub CleanRunsDirectly : Type 0
 CleanRunsDirectly =
     (sandbox : ℕ) (p : Part) (direct : List ℕ) → IsCleanPart sandbox p → RunsDirectly p direct
+
+-- each call of such runs, of a direct gate or of another, is made with the typed registers holding what
+-- their types say
+abbrev pub CleanDirectCallsTyped : Type 0
+CleanDirectCallsTyped =
+    (sandbox : ℕ) (p : Part) (direct : List ℕ) → IsCleanPart sandbox p → CallsTypedDirectly p direct

@@ -53,7 +53,11 @@ entry_good p s clean entry = record {
 pub clean_runs : CleanWordsRunSafely
 clean_runs p clean = runs_safely p (IsGoodInWords p) (λ s turn good h. turn_keeps p s turn clean good h) (λ s entry. entry_good p s clean entry)
 
+-- at an ecall the typed registers hold what their types say
+pub good_calls : (p : Part) (s : State) (n : ℕ) → IsCleanInWords p → IsGoodInWords p s → Stands s Ecall n → IsTyped p s.hart.registers
+good_calls p s n clean good stands =
+    let here = good.place.place in
+    of_words_typed p s.hart.registers clean.words (typed_at_ecall p s.hart.registers here.here here.later (only p s clean good Ecall n stands).0 good.place.known)
+
 pub clean_calls : CleanWordsCallTyped
-clean_calls p clean = calls_typed p (IsGoodInWords p) (λ s turn good h. turn_keeps p s turn clean good h) (λ s entry. entry_good p s clean entry)
-    (λ s n good stands.
-    of_words_typed p s.hart.registers clean.words (typed_at_ecall p s.hart.registers good.place.place.here good.place.place.later (only p s clean good Ecall n stands).0 good.place.known))
+clean_calls p clean = calls_typed p (IsGoodInWords p) (λ s turn good h. turn_keeps p s turn clean good h) (λ s entry. entry_good p s clean entry) (λ s n good stands. good_calls p s n clean good stands)
