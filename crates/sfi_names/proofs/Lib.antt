@@ -3,4 +3,5 @@ pub mod Lookups
 pub mod Ends
 pub mod Seeking
 pub mod Answering
+pub mod Writing
 pub mod Facts

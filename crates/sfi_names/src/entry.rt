@@ -1,5 +1,5 @@
 //! Names with their addresses, one after another.
-ghost use Rattle.std.specs.Prelude.{◌≡◌, ◌≢◌, ℕ, ◌<◌, ◌≤◌, ◌+◌, ◌++◌, ◌↔◌, ◌-◌, List, length, take, drop, IsTrue, IfSome, IfNone};
+ghost use Rattle.std.specs.Prelude.{◌≡◌, ◌≢◌, ℕ, ◌<◌, ◌≤◌, ◌+◌, ◌++◌, ◌↔◌, ◌-◌, List, length, take, drop, IsTrue, IfSome, IfNone, OnOk};
 ghost use Rattle.std.specs.List.{All};
 ghost use Rattle.sfi_image.specs.Spelling.{number, IsWord};
 ghost use Rattle.sfi_names.specs.Tables.{Named, entry, entries, IsName, IsNamed};
@@ -7,6 +7,7 @@ ghost use Rattle.sfi_names.specs.Tables.{named};
 ghost use Rattle.sfi_names.specs.Tables.{address_of};
 
 use byteorder::{ByteOrder, LittleEndian};
+use std::alloc::AllocError;
 
 /// How many bytes a number has.
 pub(crate) const NUMBER_BYTES: usize = 4;
@@ -29,6 +30,31 @@ pub(crate) fn number_at(bytes: &[u8]) -> (u32, &[u8])
 {
     let (front, rest) = bytes.split_at(NUMBER_BYTES);
     (LittleEndian::read_u32(front), rest)
+}
+
+// Appends the number in four bytes.
+#[tactic(auto, unfolding(sfi_image::specs::Spelling::number))]
+pub(crate) fn push_number(bytes: &mut Vec<u8>, n: u32) -> Result<(), AllocError>
+    ensures { OnOk result (bytes.new.items ≡ bytes.old.items ++ number n) }
+{
+    let mut four = [0; NUMBER_BYTES];
+    LittleEndian::write_u32(&mut four, n);
+    bytes.extend_from_slice(&four)?;
+    Ok(())
+}
+
+impl Entry<'_> {
+    /// Appends the entry's bytes.
+    #[tactic(auto, using(std::proofs::Common::append_assoc), unfolding(crate::specs::Tables::entry))]
+    pub fn push(&self, bytes: &mut Vec<u8>) -> Result<(), AllocError>
+        requires { IsName self.now.name.now }
+        ensures { OnOk result (bytes.new.items ≡ bytes.old.items ++ entry (named self.now)) }
+    {
+        push_number(bytes, self.address)?;
+        bytes.push(self.name.len() as u8)?;
+        bytes.extend_from_slice(self.name)?;
+        Ok(())
+    }
 }
 
 // The bytes are a name.

@@ -1,14 +1,15 @@
 //! A table of names at the end of bytes.
-ghost use Rattle.std.specs.Prelude.{◌≡◌, ◌↔◌, ◌++◌, List, Ok, Err, IsTrue, IfOk, IfErr, IfSome, IfNone, IsOkAnd};
+ghost use Rattle.std.specs.Prelude.{◌≡◌, ◌↔◌, ◌++◌, List, Ok, Err, IsTrue, IfOk, IfErr, IfSome, IfNone, IsOkAnd, OnOk};
 ghost use Rattle.sfi_names.specs.declared.fault.NamesFault.{NamesFault};
-ghost use Rattle.sfi_names.specs.Tables.{Table, magic};
+ghost use Rattle.sfi_names.specs.Tables.{Table, magic, spelling};
 ghost use Rattle.sfi_names.specs.Tables.{EndsIn, HasTable, IsNamesOf};
 ghost use Rattle.sfi_names.specs.Tables.{address_of};
 ghost use Rattle.sfi_names.specs.Faults.{IsFault};
 
-use crate::entry::{address_named, are_entries};
+use crate::entry::{address_named, are_entries, push_number};
 use crate::fault::NamesFault;
 use crate::footer::{cut_end, footer_of};
+use std::alloc::AllocError;
 
 /// The four bytes in which a table ends.
 const MAGIC: [u8; 4] = *b"SFIN";
@@ -56,6 +57,21 @@ impl<'a> Names<'a> {
         ensures { (t : Table) → IsNamesOf self.now t → result ≡ address_of name.now t.imports }
     {
         address_named(self.imports, name)
+    }
+
+    /// Appends the table's bytes.
+    pub fn push(&self, bytes: &mut Vec<u8>) -> Result<(), AllocError>
+        requires { (t : Table) × IsNamesOf self.now t }
+        ensures { (t : Table) → IsNamesOf self.now t
+            → OnOk result (bytes.new.items ≡ bytes.old.items ++ spelling t) }
+    {
+        bytes.extend_from_slice(self.exports)?;
+        bytes.extend_from_slice(self.imports)?;
+        push_number(bytes, self.version)?;
+        push_number(bytes, self.exports.len() as u32)?;
+        push_number(bytes, self.imports.len() as u32)?;
+        bytes.extend_from_slice(&MAGIC)?;
+        Ok(())
     }
 }
 
