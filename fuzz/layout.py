@@ -47,6 +47,14 @@ class Part:
     def has_data(self, address, length):
         return 0 <= address - self.data_base <= self.data_size - length
 
+    def spans(self, guard):
+        """What it takes up, with so many bytes on each side of its data: from the first address to that after the last."""
+        data_end = self.data_base + self.data_size
+        return [(self.code_base, self.code_base + self.code_size), (self.data_base - guard, data_end + guard)]
+
+    def meets(self, other):
+        return not all(are_apart(it, that) for it in self.spans(GUARD) for that in other.spans(GUARD))
+
 
 class Bytes:
     """The bytes that are still to be read."""
@@ -68,13 +76,17 @@ def is_region(base, size, most):
     return 256 <= size <= most and size & (size - 1) == 0 and base % size == 0
 
 
+def are_apart(one, other):
+    return one[1] <= other[0] or other[1] <= one[0]
+
+
 def need(fact, name):
     if not fact:
         raise Fault(name)
 
 
 def add_span(spans, begin, end):
-    need(all(end <= other_begin or other_end <= begin for other_begin, other_end in spans), "Overlap")
+    need(all(are_apart((begin, end), it) for it in spans), "Overlap")
     spans.append((begin, end))
 
 
@@ -117,3 +129,17 @@ def parts(data):
     found = [read_part(read, format, spans) for _ in range(count)]
     need(read.at == len(data), "Trailing")
     return found
+
+
+def moved(data, place_of):
+    """The image with each sandbox at another place, where it is an image, too, and no byte of its code changed: `place_of` gives
+    the bases of a part's code and data."""
+    made = data[:8]
+    for part in parts(data):
+        code_base, data_base = place_of(part)
+        made += struct.pack("<7I", code_base, part.code_size, data_base, part.data_size, part.start - part.code_base + code_base,
+                            len(part.gates), len(part.init))
+        for address, service in part.gates.items():
+            made += struct.pack("<2I", address - part.code_base + code_base, service)
+        made += part.code + part.init
+    return made

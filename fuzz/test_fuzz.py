@@ -8,6 +8,7 @@ import tempfile
 import unittest
 
 import fuzzing
+import beside
 import calls
 import commands
 import corpus
@@ -151,6 +152,18 @@ class Planted(testing.Folder):
         for name, planted in worlds.PLANTS.items():
             tally = fuzzing.Tally()
             self.found(tally, lambda pick: calls.World(pick, images_of, worlds.Model(judge), planted(judge), tally).live(), name)
+
+
+    @testing.needs_program
+    def test_beside_finds_a_fault_of_the_model(self):
+        judge, images = verdicts.Judge(self.folder), beside.images_of(testing.SFI)
+        for name, planted in worlds.PLANTS_BESIDE.items():
+            tally = fuzzing.Tally()
+
+            def try_one(pick):
+                beside.Beside(pick, images, planted(judge), lambda: worlds.Model(judge), tally).live()
+
+            self.found(tally, try_one, name)
 
 
 class Scripts(testing.Folder):

@@ -13,6 +13,8 @@ import layout
 import machine
 
 NONE, READY, CALL, EXITED, TRAPPED, STOPPED = range(6)
+CHANGED, NO_WORLD, NO_MODULE, NO_SANDBOX, MEETS, FULL, NO_MEMORY = range(7)
+SLACK = 1020  # how far off the data the address in a data register may be, in the third format
 Event = collections.namedtuple("Event", "kind number gate pc a0 a1 a2 a3 a4 a5 a6 a7", defaults=[0] * 11)
 HEADER = os.path.join(fuzzing.TOP, "crates", "sfi_run", "include", "sfi_run.h")
 FILL = 0xA5  # what a buffer holds before a read
@@ -34,6 +36,22 @@ class Sandbox(machine.Machine):
         if part.format == 3:
             self.x[3] = self.x[4] = self.x[29] = part.data_base
             self.x[30] = pc
+
+    def exit_gate(self):
+        return next((address for address, service in self.part.gates.items() if service == 0), 0)
+
+    def is_near(self, address):
+        return self.part.data_base <= address + SLACK and address < self.part.data_base + self.part.data_size + SLACK
+
+    def may_hold(self, pc, x):
+        """Whether it may be ready with this pc and these registers, as at an entry."""
+        part = self.part
+        if pc % part.unit() or not part.has_code(pc) or x[24:28] != part.reserved():
+            return False
+        if part.format == 3:
+            near = all(self.is_near(x[it]) for it in (2, 3, 4, 29))
+            return near and x[30] % 4 == 0 and part.has_code(x[30]) and x[31] < part.data_size
+        return part.format == 1 or part.has_data(x[2], 1)
 
     def event(self):
         if self.ended:
@@ -67,6 +85,28 @@ class Model:
         self.sandboxes = [] if verdict.status else [Sandbox(part) for part in layout.parts(data)]
         return verdict.status, numbers_of(verdict)
 
+    def module(self, data):
+        """What `instance` and `add` take: the image, which is accepted."""
+        return layout.parts(data)
+
+    def instance(self, module):
+        self.sandboxes = [Sandbox(part) for part in module]
+        return True
+
+    def add(self, module):
+        """The status, and the number of the first that was added; FILL where there is none."""
+        if any(part.meets(it.part) for it in self.sandboxes for part in module):
+            return MEETS, FILL
+        first = len(self.sandboxes)
+        self.sandboxes += [Sandbox(part) for part in module]
+        return CHANGED, first
+
+    def remove(self, number):
+        if not self.at(number):
+            return NO_SANDBOX
+        del self.sandboxes[number]
+        return CHANGED
+
     def free(self):
         self.sandboxes = []
 
@@ -84,6 +124,16 @@ class Model:
         sandbox = self.at(number)
         if sandbox:
             sandbox.turn(steps)
+        return self.event(number)
+
+    def until(self, number, stops, steps):
+        """A turn that ends, too, where it comes to one of these addresses."""
+        sandbox = self.at(number)
+        for _ in range(steps if sandbox else 0):
+            before = sandbox.steps
+            sandbox.turn(1)
+            if sandbox.steps == before or sandbox.pc in stops:
+                break
         return self.event(number)
 
     def end_call(self, number, a0, a1):
@@ -145,13 +195,31 @@ class Model:
         if not sandbox or not sandbox.ended or pc % sandbox.part.unit() or not sandbox.part.has_code(pc):
             return False
         sandbox.begin(pc)
-        sandbox.x[1] = next((address for address, service in sandbox.part.gates.items() if service == 0), 0)
+        sandbox.x[1] = sandbox.exit_gate()
         sandbox.x[10:18] = arguments
         return True
 
     def call(self, number, pc, arguments, steps):
         is_done = self.enter(number, pc, arguments)
         return is_done, self.turn(number, steps) if is_done else self.event(number)
+
+    def call_back(self, number, pc, arguments):
+        """Whether it is called back, and the pc and registers of its call; FILL where it isn't."""
+        kept = self.registers(number)
+        if self.event(number).kind != CALL:
+            return False, [FILL] * 33
+        registers = [pc, *kept[1:]]
+        registers[2], registers[11:19] = self.at(number).exit_gate(), arguments
+        if not self.set_registers(number, registers):
+            return False, [FILL] * 33
+        return True, kept
+
+    def set_registers(self, number, registers):
+        sandbox = self.at(number)
+        if not sandbox or not sandbox.may_hold(registers[0], registers[1:]):
+            return False
+        sandbox.pc, sandbox.x, sandbox.ended = registers[0], [0, *registers[2:]], None
+        return True
 
     def steps(self, number):
         sandbox = self.at(number)
@@ -226,6 +294,32 @@ class TrapCounts(Model):
         return event
 
 
+class RemoveTakesTheNext(Model):
+    def remove(self, number):
+        return super().remove(number + 1 if self.at(number + 1) else number)
+
+
+class AddBeginsTheFirstAnew(Model):
+    def add(self, module):
+        status, first = super().add(module)
+        if status == CHANGED and first:
+            self.reset(0)
+        return status, first
+
+
+class AddOverlooksTheGuards(Model):
+    def add(self, module):
+        first = len(self.sandboxes)
+        status, number = super().add(module)
+        spans = [it for sandbox in self.sandboxes[:first] for it in sandbox.part.spans(0)]
+        if status == MEETS and all(layout.are_apart(it, other) for part in module for it in part.spans(0) for other in spans):
+            self.sandboxes += [Sandbox(part) for part in module]
+            return CHANGED, first
+        return status, number
+
+
+# those of worlds that sandboxes come into and leave
+PLANTS_BESIDE = {it.__name__: it for it in (RemoveTakesTheNext, AddBeginsTheFirstAnew, AddOverlooksTheGuards)}
 PLANTS = {
     it.__name__: it
     for it in (ReplyIsNoStep, ReadGoesPastTheRoom, EnterIsLoose, CallForgetsTheTurn, StopForgetsData, ResetKeepsAByte, TrapCounts)
@@ -241,13 +335,23 @@ class CWorld(ctypes.Structure):
     _fields_ = [("held", _WORD), ("at", ctypes.c_void_p)]
 
 
+class CModule(ctypes.Structure):
+    _fields_ = [("held", _WORD), ("at", ctypes.c_void_p)]
+
+
 _EVENT, _VERDICT, _REGISTERS, _REGION, _ARGUMENTS = (_WORD * count for count in (12, 8, 33, 2, 8))
-_OF_WORLD = ctypes.POINTER(CWorld)
+_OF_WORLD, _OF_MODULE = ctypes.POINTER(CWorld), ctypes.POINTER(CModule)
 _CALLS = {
     "load": (_WORD, [_BYTES, _SIZE, _OF_WORLD, _ROOM]),
+    "module_new": (_WORD, [_BYTES, _SIZE, _OF_MODULE, _ROOM]),
+    "module_free": (None, [_OF_MODULE]),
+    "instance": (_BOOL, [_OF_MODULE, _OF_WORLD]),
+    "add": (_WORD, [_OF_WORLD, _OF_MODULE, _ROOM]),
+    "remove": (_WORD, [_OF_WORLD, _WORD]),
     "free": (None, [_OF_WORLD]),
     "count": (_SIZE, [_OF_WORLD]),
     "turn": (_WORD, [_OF_WORLD, _WORD, _WORD, _ROOM]),
+    "until": (_WORD, [_OF_WORLD, _WORD, _ROOM, _SIZE, _WORD, _ROOM]),
     "event": (_WORD, [_OF_WORLD, _WORD, _ROOM]),
     "reply": (_BOOL, [_OF_WORLD, _WORD, _WORD, _WORD]),
     "exit": (_BOOL, [_OF_WORLD, _WORD, _WORD]),
@@ -257,8 +361,10 @@ _CALLS = {
     "write": (_BOOL, [_OF_WORLD, _WORD, _WORD, _BYTES, _SIZE]),
     "enter": (_BOOL, [_OF_WORLD, _WORD, _WORD, _ROOM]),
     "call": (_BOOL, [_OF_WORLD, _WORD, _WORD, _ROOM, _WORD, _ROOM]),
+    "call_back": (_BOOL, [_OF_WORLD, _WORD, _WORD, _ROOM, _ROOM]),
     "steps": (ctypes.c_uint64, [_OF_WORLD, _WORD]),
     "registers": (_BOOL, [_OF_WORLD, _WORD, _ROOM]),
+    "set_registers": (_BOOL, [_OF_WORLD, _WORD, _ROOM]),
     "data": (_BOOL, [_OF_WORLD, _WORD, _ROOM]),
     "version": (_WORD, []),
 }
@@ -283,6 +389,18 @@ class Calls:
             setattr(self, name, call)
 
 
+class Module:
+    """A module of the library, freed with it. ValueError where the image isn't accepted."""
+
+    def __init__(self, calls, data):
+        self.calls, self.raw = calls, CModule()
+        if calls.module_new(data, len(data), self.raw, _VERDICT()):
+            raise ValueError("the image isn't accepted")
+
+    def __del__(self):
+        self.calls.module_free(self.raw)
+
+
 class Library:
     """A world of the library, by the methods of Model. What a call may not write is looked at, too."""
 
@@ -292,6 +410,19 @@ class Library:
     def load(self, data):
         verdict = _VERDICT(*[FILL] * 8)
         return self.calls.load(data, len(data), self.world, verdict), tuple(verdict)
+
+    def module(self, data):
+        return Module(self.calls, data)
+
+    def instance(self, module):
+        return self.calls.instance(module.raw, self.world)
+
+    def add(self, module):
+        first = _WORD(FILL)
+        return self.calls.add(self.world, module.raw, ctypes.byref(first)), first.value
+
+    def remove(self, number):
+        return self.calls.remove(self.world, number)
 
     def free(self):
         self.calls.free(self.world)
@@ -313,6 +444,9 @@ class Library:
 
     def turn(self, number, steps):
         return self.told(self.calls.turn, number, steps)
+
+    def until(self, number, stops, steps):
+        return self.told(self.calls.until, number, (_WORD * len(stops))(*stops), len(stops), steps)
 
     def reply(self, number, a0, a1):
         return self.calls.reply(self.world, number, a0, a1)
@@ -340,6 +474,13 @@ class Library:
     def call(self, number, pc, arguments, steps):
         event = _EVENT(*[FILL] * 12)
         return self.calls.call(self.world, number, pc, _ARGUMENTS(*arguments), steps, event), Event(*event)
+
+    def call_back(self, number, pc, arguments):
+        kept = _REGISTERS(*[FILL] * 33)
+        return self.calls.call_back(self.world, number, pc, _ARGUMENTS(*arguments), kept), list(kept)
+
+    def set_registers(self, number, registers):
+        return self.calls.set_registers(self.world, number, _REGISTERS(*registers))
 
     def steps(self, number):
         return self.calls.steps(self.world, number)
