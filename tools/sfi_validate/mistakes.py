@@ -95,6 +95,9 @@ MISTAKES = [
      "        self.wide",
      "offset = 0\n"
      "        self.wide"),
+    ("words: an access by a number leads elsewhere", "in_words",
+     'self.access(op, [], "x26")',
+     'self.access(Op(op.word, (op.operands[0], "8(zero)"), op.place) if offset_and_base(op)[0] == 0 else op, [], "x26")'),
     ("bundles: masks of another base", "in_bundles",
      "masks = [text.format(base) for text in MASKS_OF_ACCESS]",
      "masks = [text.format(op.operands[0]) for text in MASKS_OF_ACCESS]"),

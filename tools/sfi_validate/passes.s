@@ -305,3 +305,14 @@ around:
 .L41:
         mv a0, a4
         ret
+
+# What gcc makes of an access by a null pointer, and one of its parts.
+        .section .text.null,"ax"
+        .globl null
+null:
+        beqz a1, .L50
+        sw a0, 0(zero)
+        ebreak
+.L50:
+        sw zero, 4(zero)
+        ebreak

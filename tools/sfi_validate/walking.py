@@ -5,7 +5,7 @@ from dataclasses import dataclass, field
 from machine_code import CALLER_SAVED, WRITTEN_BESIDE
 from pairing import Pairs
 from stretches import INVERSE, LINK, STACK, STORES, Runner, Stretch, Unknown
-from values import of
+from values import DATA_BASE, of
 
 ARGUMENTS, RESULTS = range(10, 18), (10, 11)
 SAVED = (8, 9, *range(18, 24))
@@ -42,6 +42,12 @@ class Want:
     place: object
     what: str
     accessed: object = None
+
+
+def by_number(address, wanted):
+    """The address of an access as a number where the compiler's is one, such as 0 before a trap: no object is there, and it's
+    counted from the data region's beginning."""
+    return address.minus(of(*DATA_BASE)) if wanted.is_number() and address.terms == {DATA_BASE: 1} else address
 
 
 class Walk:
@@ -110,7 +116,8 @@ class Walk:
             self.complain(changed.place, f"this {changed.word} has another place among the accesses")
         for number, other in zip(pairs.order, pairs.others):
             access = pairs.accesses[number]
-            self.want(node, other.address, access.address, access.place, "the address", accessed=access.address)
+            address = by_number(other.address, access.address)
+            self.want(node, address, access.address, access.place, "the address", accessed=access.address)
             if access.word in STORES:
                 self.want(node, other.stored, access.stored, access.place, "what is stored")
 
