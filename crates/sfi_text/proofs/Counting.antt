@@ -27,7 +27,7 @@ labels_count (name ∷ names) old new text rest (next, after, begins, (b, is, sh
 
 rest_count : (line : ℕ) (old new : SoFar) (text : List ℕ) → RestLeads line old text new → count new ≤ count old + 1
 rest_count line old new text (inl (blank, same)) = omega (arith, ap count same)
-rest_count line old new text (inr (k, rest, takes, (may, once, (s, states, does)))) = does_count line s old new does
+rest_count line old new text (inr (k, rest, takes, (known, may, once, (s, states, does)))) = does_count line s old new does
 
 lines_count : (line : ℕ) (old new : SoFar) (texts : List (List ℕ)) → LinesLead line old texts new → count new ≤ count old + length texts
 lines_count line old new [] same = omega (arith, ap count same)

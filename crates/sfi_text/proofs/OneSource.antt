@@ -1,5 +1,5 @@
 -- A line leads to one source so far at most, or is refused for one cause at most, and never both; so a text has one meaning or one fault at most.
-use Rattle.sfi_text.proofs.Prelude.{◌≡◌, refl, sym, ap, subst, subst₂, ◌∙◌, ℕ, ◌+◌, ◌⊎◌, inl, inr, List, [], ◌∷◌, Some, arith, codes, same_Some, none-some, TextCause, Keyword, Takes, IsName, keyword_name, RefusedWith, NameRefused, Stated, format, sandbox, within, StatedWithin, SoFar, with_label, nothing, sandboxes, IsFree, Fits, Labels, RefusesLabel, GoesOn, Does, with_stated, HasNoRoom, BeginsWithLabel, HasNoLabel, LabelsLead, PassesLabels, LeadsAfter, RestLeads, LabelRefused, PassesLimit, OperandsRefused, RefusedAfter, RefusedFrom, StatementRefused, uncommented, lines, LinesLead, FirstRefused, LeadsOnce, LeadingIsNotRefused, RefusedOnce, OneSource, OneFault, MeantHasNoFault}
+use Rattle.sfi_text.proofs.Prelude.{◌≡◌, refl, sym, ap, subst, subst₂, ◌∙◌, ℕ, ◌+◌, ◌⊎◌, inl, inr, List, [], ◌∷◌, Some, arith, codes, same_Some, none-some, TextCause, Keyword, Takes, IsName, keyword_name, RefusedWith, NameRefused, Stated, format, sandbox, within, StatedWithin, SoFar, with_label, nothing, sandboxes, tables, IsFree, Fits, Labels, RefusesLabel, GoesOn, Does, with_stated, HasNoRoom, BeginsWithLabel, HasNoLabel, LabelsLead, PassesLabels, LeadsAfter, RestLeads, LabelRefused, PassesLimit, OperandsRefused, KnownRefused, RefusedAfter, RefusedFrom, StatementRefused, uncommented, lines, LinesLead, FirstRefused, LeadsOnce, LeadingIsNotRefused, RefusedOnce, OneSource, OneListing, OneFault, MeantHasNoFault}
 use Rattle.sfi_text.specs.declared.fault.TextFault.{TextFault}
 use Rattle.sfi_text.specs.declared.cause.TextCause.TheVariants as cause
 use Rattle.sfi_text.proofs.Taking.{takes_unique, blank_takes_none}
@@ -97,14 +97,15 @@ does_fit line (sandbox size) old new h none = absurd none
 does_fit line (within what) old new h none = goes_fits line what old new h none
 
 after_one : (k : Keyword) (line : ℕ) (old a b : SoFar) (text : List ℕ) → LeadsAfter k line old text a → LeadsAfter k line old text b → a ≡ b
-after_one k line old a b text (stands, once, (s, states, does)) (_, _, (t, stated_too, did)) =
+after_one k line old a b text (known, stands, once, (s, states, does)) (_, _, _, (t, stated_too, did)) =
     does_one line t old a b (subst (λ x. Does line x old a) (states_one k text s t states stated_too) does) did
 
 after_not : (k : Keyword) (line : ℕ) (old new : SoFar) (text : List ℕ) (e : TextCause) → LeadsAfter k line old text new → RefusedAfter k old text e → ⊥
-after_not k line old new text e (stands, once, (s, states, does)) (inl r) = r.0 stands
-after_not k line old new text e (stands, once, (s, states, does)) (inr (_, inl twice)) = once twice.0
-after_not k line old new text e (stands, once, (s, states, does)) (inr (_, inr (_, inl refused))) = states_not k text s e states refused
-after_not k line old new text e (stands, once, (s, states, does)) (inr (_, inr (_, inr ((t, stated_too, none), is)))) =
+after_not k line old new text e (known, stands, once, (s, states, does)) (inl r) = r.0 known
+after_not k line old new text e (known, stands, once, (s, states, does)) (inr (_, inl r)) = r.0 stands
+after_not k line old new text e (known, stands, once, (s, states, does)) (inr (_, inr (_, inl twice))) = once twice.0
+after_not k line old new text e (known, stands, once, (s, states, does)) (inr (_, inr (_, inr (_, inl refused)))) = states_not k text s e states refused
+after_not k line old new text e (known, stands, once, (s, states, does)) (inr (_, inr (_, inr (_, inr ((t, stated_too, none), is))))) =
     does_fit line t old new (subst (λ x. Does line x old new) (states_one k text s t states stated_too) does) none
 
 stated_refused_one : (k : Keyword) (old : SoFar) (text : List ℕ) → One (λ e. RefusedWith k text e ⊎ (PassesLimit k old text × (e ≡ cause.Limit)))
@@ -115,9 +116,13 @@ operands_refused_one : (k : Keyword) (old : SoFar) (text : List ℕ) → One (Op
 operands_refused_one k old text =
     either_one _ _ (λ e f h g. h.1 ∙ sym g.1) (λ e f h g. stated_refused_one k old text e f h.1 g.1) (λ e f twice once. once.0 twice.0)
 
+known_refused_one : (k : Keyword) (old : SoFar) (text : List ℕ) → One (KnownRefused k old text)
+known_refused_one k old text =
+    either_one _ _ (λ e f h g. h.1 ∙ sym g.1) (λ e f h g. operands_refused_one k old text e f h.1 g.1) (λ e f never may. never.0 may.0)
+
 after_refused_one : (k : Keyword) (old : SoFar) (text : List ℕ) → One (RefusedAfter k old text)
 after_refused_one k old text =
-    either_one _ _ (λ e f h g. h.1 ∙ sym g.1) (λ e f h g. operands_refused_one k old text e f h.1 g.1) (λ e f never may. never.0 may.0)
+    either_one _ _ (λ e f h g. h.1 ∙ sym g.1) (λ e f h g. known_refused_one k old text e f h.1 g.1) (λ e f never known. never.0 known.0)
 
 name_refused_one : (token : List ℕ) → One (NameRefused token)
 name_refused_one token = either_one _ _ (λ e f h g. h.1 ∙ sym g.1) (λ e f h g. h.1 ∙ sym g.1) (λ e f no_name unknown. no_name.0 unknown.0.0)
@@ -202,6 +207,11 @@ first_once line old (text ∷ texts) f g (inr (next, leads, r)) (inr (other, led
 pub one_source : OneSource
 one_source text p q (a, x, leads, is, p_is) (b, y, led, other, q_is) =
     p_is ∙ ap sandboxes (lines_once 1 nothing a b (lines text) leads.lead led.lead) ∙ sym q_is
+
+pub one_listing : OneListing
+one_listing text p q s t (a, x, leads, is, p_is, s_is) (b, y, led, other, q_is, t_is) =
+    let same = lines_once 1 nothing a b (lines text) leads.lead led.lead in
+    (p_is ∙ ap sandboxes same ∙ sym q_is, s_is ∙ ap tables same ∙ sym t_is)
 
 pub meant_has_no_fault : MeantHasNoFault
 meant_has_no_fault text p f (a, x, leads, is, p_is) (inl long) = omega (arith, leads.within, long.0)

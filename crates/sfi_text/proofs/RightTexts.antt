@@ -1,5 +1,5 @@
 -- What a text means is right: by its lines, from nothing.
-use Rattle.sfi_text.proofs.Prelude.{◌≡◌, refl, sym, ap, subst, ◌∙◌, ℕ, ◌+◌, inl, inr, Bool, true, List, [], ◌∷◌, ◌++◌, Option, None, Some, map, length, length-append, arith, All, AllByRecursion, same_Some, none-some, Instr, InRange, Keyword, Takes, IsLabel, place_of_keyword, StatesAfter, Stated, format, sandbox, within, StatedWithin, gate, compressed, data_part, bytes, plain, jump, address, IsRightWithin, IsRightStatement, place_of_stated, meaning, place_of, met, IsStraight, Sandbox, IsBody, IsSandbox, AreOf, format_of, Begun, SoFar, format_or_sfi1, with_label, with_names, nothing, last_sandbox, sandboxes, IsFree, Labels, Fits, MayCome, GoesOn, Does, with_stated, BeginsWithName, LabelsLead, IsTaken, LeadsAfter, RestLeads, Leads, uncommented, lines, LinesLead, MeansSource}
+use Rattle.sfi_text.proofs.Prelude.{◌≡◌, refl, sym, ap, subst, ◌∙◌, ℕ, ◌+◌, inl, inr, Bool, true, List, [], ◌∷◌, ◌++◌, Option, None, Some, map, length, length-append, arith, All, AllByRecursion, same_Some, none-some, Instr, InRange, Keyword, Takes, IsLabel, Part, Name, Number, OperandValues, IsRow, AreTokens, place_of_keyword, makes_gate, directive_states, StatesAfter, Stated, format, sandbox, within, StatedWithin, gate, exported, imported, compressed, data_part, bytes, plain, jump, address, IsRightWithin, IsRightStatement, place_of_stated, meaning, place_of, met, IsStraight, Sandbox, IsBody, IsSandbox, AreOf, format_of, Begun, Shared, SoFar, format_or_sfi1, with_label, with_names, with_gate, with_export, with_import, nothing, last_sandbox, sandboxes, IsFree, Labels, Fits, MayCome, GoesOn, Does, with_stated, BeginsWithName, LabelsLead, IsTaken, LeadsAfter, RestLeads, Leads, uncommented, lines, LinesLead, MeansSource}
 use Rattle.sfi_source.specs.declared.item.Body.TheVariants.{Plain, To, High, Low}
 use Rattle.sfi_policy.specs.declared.format.Format.{Format}
 use Rattle.std.proofs.lemmas.List.{length-map}
@@ -8,6 +8,7 @@ use Rattle.sfi_source.specs.Source.{IsSource}
 use Rattle.sfi_text.specs.declared.keyword.Directive.TheVariants as directive
 use Rattle.sfi_text.specs.declared.keyword.Keyword.TheVariants as keyword
 use Rattle.sfi_text.specs.declared.statement.Place.TheVariants as place
+use Rattle.sfi_text.specs.declared.form.NumberKind.TheVariants.{Service}
 use Rattle.sfi_text.proofs.Placing.{place_among}
 use Rattle.sfi_text.proofs.Counting.{few_sandboxes}
 use Rattle.sfi_text.proofs.LabelReading.{free_or_not}
@@ -49,18 +50,28 @@ plain_bodies : (n : ℕ) (instrs : List Instr) → AllByRecursion (λ i. InRange
 plain_bodies n [] h = tt
 plain_bodies n (i ∷ instrs) h = (h.0, plain_bodies n instrs h.1)
 
--- whether its data follow, and whether 16-bit forms are taken, leaves a sandbox right
-flags_right : (b : Begun) (in_data rvc : Bool) → IsDraft b → IsDraft (record b { in_data = in_data; rvc = rvc })
-flags_right b in_data rvc d =
+-- whether its data follow, whether 16-bit forms are taken, and what its table is to have leave a sandbox right
+flags_right : (b : Begun) (in_data rvc : Bool) (shared : Shared) → IsDraft b → IsDraft (record b { in_data = in_data; rvc = rvc; shared = shared })
+flags_right b in_data rvc shared d =
     record { data_size = d.data_size; gate_count = d.gate_count; gates = d.gates; names = d.names; differ = d.differ; item_count = d.item_count; items = d.items; labelled = d.labelled; byte_count = d.byte_count; bytes = d.bytes }
 
+-- the name of a gate that the statement adds
+abbrev gate_of : StatedWithin → Option (List ℕ)
+gate_of (gate name service) = Some name
+gate_of (imported name service) = Some name
+gate_of _ = None
+
 -- each sandbox after a statement is right
-goes_right : (line : ℕ) (s : StatedWithin) (b : Begun) → IsRightWithin s → ((name : List ℕ) (service : ℕ) → s ≡ gate name service → IsFree name b)
+goes_right : (line : ℕ) (s : StatedWithin) (b : Begun) → IsRightWithin s → ((name : List ℕ) → gate_of s ≡ Some name → IsFree name b)
     → Fits s b → IsDraft b → IsDraft (with_stated line s b)
 goes_right line (gate name service) b right free fits d =
-    gate_right name service b d (free name service refl) right.0 right.1 fits
-goes_right line (compressed rvc) b right free fits d = flags_right b b.in_data rvc d
-goes_right line data_part b right free fits d = flags_right b true b.rvc d
+    gate_right name service b d (free name refl) right.0 right.1 fits
+goes_right line (exported name) b right free fits d =
+    flags_right (with_names (met b.sandbox.names name) b) b.in_data b.rvc (with_export line name b).shared (met_right b d name right)
+goes_right line (imported name service) b right free fits d =
+    flags_right (with_gate name service b) b.in_data b.rvc (with_import line name service b).shared (gate_right name service b d (free name refl) right.0 right.1 fits)
+goes_right line (compressed rvc) b right free fits d = flags_right b b.in_data rvc b.shared d
+goes_right line data_part b right free fits d = flags_right b true b.rvc b.shared d
 goes_right line (bytes values) b right free fits d = bytes_right values b d (recursion_from_All _ values right) fits
 goes_right line (plain instrs) b right free fits d =
     bodies_right line (map Plain instrs) b d (plain_bodies _ instrs (recursion_from_All _ instrs right.1))
@@ -76,13 +87,15 @@ goes_right line (address rd name) b right free fits d =
 -- a statement leaves the sandbox's format
 stays_of : (line : ℕ) (s : StatedWithin) (b : Begun) (said : Option Format) → IsOf said b.sandbox → IsOf said (with_stated line s b).sandbox
 stays_of line (gate name service) b said h = h
+stays_of line (exported name) b said h = h
+stays_of line (imported name service) b said h = h
 stays_of line _ b said h = h
 
 goes_on : (line : ℕ) (s : StatedWithin) (old new : SoFar) → IsRightWithin s
-    → ((b : Begun) (name : List ℕ) (service : ℕ) → old.begun ≡ Some b → s ≡ gate name service → IsFree name b)
+    → ((b : Begun) (name : List ℕ) → old.begun ≡ Some b → gate_of s ≡ Some name → IsFree name b)
     → GoesOn line s old new → IsRightSoFar old → IsRightSoFar new
 goes_on line s old new right free (b, is, fits, new_is) so_far =
-    subst IsRightSoFar (sym new_is) (begun_is old (with_stated line s b) so_far (goes_right line s b right (λ name service e. free b name service is e) fits (so_far.begun b is)) (stays_of line s b old.format (so_far.begun_format b is)))
+    subst IsRightSoFar (sym new_is) (begun_is old (with_stated line s b) so_far (goes_right line s b right (λ name e. free b name is e) fits (so_far.begun b is)) (stays_of line s b old.format (so_far.begun_format b is)))
 
 last_right : (s : SoFar) (b : Option Begun) → s.begun ≡ b → IsRightSoFar s → AllByRecursion IsSandbox (last_sandbox b)
 last_right s None is right = tt
@@ -108,8 +121,13 @@ format_said value old none right = record {
   first = right.first;
 }
 
+-- the name of a gate that a line adds
+abbrev gate_in : Stated → Option (List ℕ)
+gate_in (within what) = gate_of what
+gate_in _ = None
+
 does_right : (line : ℕ) (s : Stated) (old new : SoFar) → IsRightStatement s
-    → ((b : Begun) (name : List ℕ) (service : ℕ) → old.begun ≡ Some b → s ≡ within (gate name service) → IsFree name b)
+    → ((b : Begun) (name : List ℕ) → old.begun ≡ Some b → gate_in s ≡ Some name → IsFree name b)
     → MayCome (place_of_stated s) old → Does line s old new → IsRightSoFar old → IsRightSoFar new
 does_right line (format value) old new right free may does so_far = subst IsRightSoFar (sym does) (format_said value old may.1 so_far)
 does_right line (sandbox size) old new right free may does so_far =
@@ -121,24 +139,41 @@ does_right line (sandbox size) old new right free may does so_far =
       first = λ e. absurd (none-some _ (sym e));
     })
 does_right line (within what) old new right free may does so_far =
-    goes_on line what old new right (λ b name service is e. free b name service is (ap within e)) does so_far
+    goes_on line what old new right free does so_far
 
--- a keyword that stands where gates do is that of a gate
-gate_keyword : (k : Keyword) → place_of_keyword k ≡ place.Gates → k ≡ keyword.Directive directive.Gate
-gate_keyword (keyword.Directive directive.Gate) h = refl
-gate_keyword _ h = cc
+-- where a line adds a gate, its statement stands where gates do
+gate_place : (s : Stated) (name : List ℕ) → gate_in s ≡ Some name → place_of_stated s ≡ place.Gates
+gate_place (within (gate n service)) name h = refl
+gate_place (within (imported n service)) name h = refl
+gate_place (within (exported n)) name h = absurd (none-some name h)
+gate_place (within (compressed rvc)) name h = absurd (none-some name h)
+gate_place (within data_part) name h = absurd (none-some name h)
+gate_place (within (bytes values)) name h = absurd (none-some name h)
+gate_place (within (plain instrs)) name h = absurd (none-some name h)
+gate_place (within (jump i n)) name h = absurd (none-some name h)
+gate_place (within (address rd n)) name h = absurd (none-some name h)
+gate_place (format value) name h = absurd (none-some name h)
+gate_place (sandbox size) name h = absurd (none-some name h)
 
-abbrev gate_name_of : Stated → List ℕ
-gate_name_of (within (gate name service)) = name
-gate_name_of _ = []
-
--- the tokens after a gate's keyword begin with its name
-gate_begins : (text : List ℕ) (name : List ℕ) (service : ℕ) → StatesAfter (keyword.Directive directive.Gate) text (within (gate name service))
+-- the tokens of operands of which a name is the first begin with it
+name_begins : (form : List Part) (states : OperandValues → Stated) (text name : List ℕ) (s : Stated) (tokens : List (List ℕ))
+    → ((o : OperandValues) → gate_in (states o) ≡ Some o.name) → AreTokens text tokens → IsRow (Name ∷ form) states tokens s → gate_in s ≡ Some name
     → (rest : List ℕ) × BeginsWithName text name rest
-gate_begins text name service ([], are, (o, form, is)) = absurd form
-gate_begins text name service (token ∷ tokens, (last, (after, takes, leads), blank), (o, form, is)) =
-    let same = form.0.2 ∙ sym (ap gate_name_of is) in
-    (after, (subst (λ t. Takes text t after) same takes, subst IsLabel same form.0.0))
+name_begins form states text name s [] names are (o, has, is) h = absurd has
+name_begins form states text name s (token ∷ tokens) names (last, (after, takes, leads), blank) (o, has, is) h =
+    let same = has.0.2 ∙ same_Some _ _ (sym (names o) ∙ sym (ap gate_in is) ∙ h) in
+    (after, (subst (λ t. Takes text t after) same takes, subst IsLabel same has.0.0))
+
+-- the keyword of a line that adds a gate says so, and the gate's name follows it
+gate_begins : (k : Keyword) (text name : List ℕ) (s : Stated) → place_of_keyword k ≡ place.Gates → StatesAfter k text s → gate_in s ≡ Some name
+    → (makes_gate k ≡ true) × ((rest : List ℕ) × BeginsWithName text name rest)
+gate_begins (keyword.Directive directive.Gate) text name s at (tokens, are, row) h =
+    (refl, name_begins (Number Service ∷ []) (directive_states directive.Gate) text name s tokens (λ o. refl) are row h)
+gate_begins (keyword.Directive directive.Import) text name s at (tokens, are, row) h =
+    (refl, name_begins (Number Service ∷ []) (directive_states directive.Import) text name s tokens (λ o. refl) are row h)
+gate_begins (keyword.Directive directive.Export) text name s at (tokens, are, (o, has, is)) h =
+    absurd (none-some name (sym (ap gate_in is) ∙ h))
+gate_begins _ text name s at states h = cc
 
 -- a name that isn't taken is free
 not_taken : (b : Begun) (text name rest : List ℕ) → BeginsWithName text name rest → (IsTaken b text → ⊥) → IsFree name b
@@ -146,17 +181,14 @@ not_taken b text name rest begins none =
     elim (free_or_not name b) [ inl free ↦ free | inr not ↦ absurd (none (name, rest, begins, not)) ]
 
 after_leads : (k : Keyword) (line : ℕ) (old new : SoFar) (text : List ℕ) → LeadsAfter k line old text new → IsRightSoFar old → IsRightSoFar new
-after_leads k line old new text (stands, once, (s, (tokens, are, after_k), does)) so_far =
+after_leads k line old new text (known, stands, once, (s, (tokens, are, after_k), does)) so_far =
     does_right line s old new (after_right k tokens s after_k) free (subst (λ p. MayCome p old) (after_place k tokens s after_k) stands) does so_far
   where
-    free : (b : Begun) (name : List ℕ) (service : ℕ) → old.begun ≡ Some b → s ≡ within (gate name service) → IsFree name b
-    free b name service is gate_is =
-        let at : place_of_keyword k ≡ place.Gates = after_place k tokens s after_k ∙ ap place_of_stated gate_is in
-        let key = gate_keyword k at in
-        let states : StatesAfter (keyword.Directive directive.Gate) text (within (gate name service)) =
-        subst (λ t. StatesAfter (keyword.Directive directive.Gate) text t) gate_is (subst (λ q. StatesAfter q text s) key (tokens, are, after_k)) in
-        let begins = gate_begins text name service states in
-        not_taken b text name begins.0 begins.1 (λ t. once (key, (b, is, t)))
+    free : (b : Begun) (name : List ℕ) → old.begun ≡ Some b → gate_in s ≡ Some name → IsFree name b
+    free b name is gate_is =
+        let at : place_of_keyword k ≡ place.Gates = after_place k tokens s after_k ∙ gate_place s name gate_is in
+        let begins = gate_begins k text name s at (tokens, are, after_k) gate_is in
+        not_taken b text name begins.1.0 begins.1.1 (λ t. once (begins.0, (b, is, t)))
 
 rest_leads : (line : ℕ) (old new : SoFar) (text : List ℕ) → RestLeads line old text new → IsRightSoFar old → IsRightSoFar new
 rest_leads line old new text (inl (blank, same)) so_far = subst IsRightSoFar (sym same) so_far

@@ -1,10 +1,9 @@
 -- A text means an instruction or is refused; a text means a source or has a fault.
-use Rattle.sfi_text.proofs.Prelude.{◌≡◌, ℕ, zero, suc, ◌+◌, ◌≤◌, Bool, List, [], ◌∷◌, ◌++◌, length, ◌⊎◌, inl, inr, refl, sym, ◌∙◌, subst, arith, Option, Some, None, codes, cases_lt, same_Some, none-some, TextCause, Keyword, Mnemonic, Takes, name_of, keyword_name, place_of_keyword, Stated, StatedWithin, format, sandbox, within, gate, compressed, data_part, IsRightStatement, place_within, place_of_stated, Begun, SoFar, nothing, sandboxes, begin, format_or_sfi1, with_label, IsFree, Labels, RefusesLabel, MayCome, Fits, with_stated, Does, HasNoRoom, BeginsWithName, BeginsWithLabel, HasNoLabel, LabelsLead, PassesLabels, IsTaken, IsGateTwice, LeadsAfter, RestLeads, Leads, LabelRefused, RefusedAfter, StatementRefused, LineRefused, most_bytes, lines, uncommented, LinesLead, FirstRefused, first_line, SomeMeaning, SomeSource}
+use Rattle.sfi_text.proofs.Prelude.{◌≡◌, ℕ, zero, suc, ◌+◌, ◌≤◌, Bool, true, not, ◌||◌, List, [], ◌∷◌, ◌++◌, length, ◌⊎◌, inl, inr, refl, sym, ◌∙◌, subst, arith, Option, Some, None, codes, cases_lt, same_Some, none-some, TextCause, Keyword, Mnemonic, Takes, name_of, keyword_name, place_of_keyword, makes_table, makes_gate, Stated, StatedWithin, format, sandbox, within, gate, exported, imported, compressed, data_part, IsRightStatement, place_within, place_of_stated, Begun, SoFar, nothing, sandboxes, tables, has_tables, begin, format_or_sfi1, with_label, IsFree, Labels, RefusesLabel, MayCome, Fits, with_stated, Does, HasNoRoom, BeginsWithName, BeginsWithLabel, HasNoLabel, LabelsLead, PassesLabels, IsTaken, IsGateTwice, IsKnown, LeadsAfter, RestLeads, Leads, LabelRefused, RefusedAfter, StatementRefused, LineRefused, most_bytes, lines, uncommented, LinesLead, FirstRefused, first_line, SomeMeaning, SomeSource}
 use Rattle.sfi_text.specs.declared.fault.TextFault.{TextFault}
 use Rattle.sfi_text.specs.declared.statement.Place.{Place}
 use Rattle.std.specs.Option.{IsSomeAnd}
 use Rattle.sfi_text.specs.declared.cause.TextCause.TheVariants as cause
-use Rattle.sfi_text.specs.declared.keyword.Directive.TheVariants as directive
 use Rattle.sfi_text.specs.declared.keyword.Keyword.TheVariants as keyword
 use Rattle.sfi_text.specs.declared.statement.Place.TheVariants as place
 use Rattle.sfi_text.proofs.Keywords.{no_mnemonic_of_name}
@@ -135,10 +134,6 @@ passes_or_refused old text = labels_on (length text) old old text text [] (refl,
 
 -- ---- a statement
 
-gate_or_not : (k : Keyword) → Decided (k ≡ keyword.Directive directive.Gate)
-gate_or_not (keyword.Directive directive.Gate) = inl refl
-gate_or_not _ = inr (λ e. cc)
-
 taken_or_not : (b : Begun) (text : List ℕ) → Decided (IsTaken b text)
 taken_or_not b text =
     elim (name_or_none text) [
@@ -160,11 +155,15 @@ begun_or_not s text =
     ]
 
 twice_or_not : (k : Keyword) (s : SoFar) (text : List ℕ) → Decided (IsGateTwice k s text)
-twice_or_not k s text = decided_both (gate_or_not k) (begun_or_not s text)
+twice_or_not k s text = decided_both (decided_bit (makes_gate k) true) (begun_or_not s text)
+
+known_or_not : (k : Keyword) (s : SoFar) → Decided (IsKnown k s)
+known_or_not k s = decided_bit (not (makes_table k) || has_tables (format_or_sfi1 s.format)) true
 
 fits_or_not : (what : StatedWithin) (b : Begun) → Decided (Fits what b)
 fits_or_not (compressed rvc) b = inl tt
 fits_or_not data_part b = inl tt
+fits_or_not (exported name) b = inl tt
 fits_or_not _ b = decided_le _ _
 
 -- within a sandbox there is one begun last
@@ -174,12 +173,14 @@ begun_of (Some b) P h = (b, refl)
 
 begun_within : (what : StatedWithin) (s : SoFar) → MayCome (place_within what) s → (b : Begun) × (s.begun ≡ Some b)
 begun_within (gate name service) s may = begun_of s.begun _ may
+begun_within (exported name) s may = begun_of s.begun _ may
+begun_within (imported name service) s may = begun_of s.begun _ may
 begun_within _ s may = begun_of s.begun _ may
 
 does_or_full : (line : ℕ) (st : Stated) (s : SoFar) → IsRightStatement st → MayCome (place_of_stated st) s → ((new : SoFar) × Does line st s new) ⊎ HasNoRoom st s
 does_or_full line (format value) s right may = inl (record s { format = Some value }, refl)
 does_or_full line (sandbox size) s right may =
-    inl (record { format = s.format; finished = sandboxes s; begun = Some (begin (format_or_sfi1 s.format) size) }, refl)
+    inl (record { format = s.format; finished = sandboxes s; shared = tables s; begun = Some (begin (format_or_sfi1 s.format) size) }, refl)
 does_or_full line (within what) s right may =
     let begun = begun_within what s may in
     elim (fits_or_not what begun.0) [
@@ -189,15 +190,18 @@ does_or_full line (within what) s right may =
 
 after_or_refused : (k : Keyword) (line : ℕ) (s : SoFar) (text : List ℕ) → ((new : SoFar) × LeadsAfter k line s text new) ⊎ ((e : TextCause) × RefusedAfter k s text e)
 after_or_refused k line s text =
-    elim (may_or_not (place_of_keyword k) s) [
-      | inr not ↦ inr (cause.Directive, inl (not, refl))
-      | inl may ↦ elim (twice_or_not k s text) [
-        | inl twice ↦ inr (cause.LabelTwice, inr (may, inl (twice, refl)))
-        | inr once ↦ elim (states_or_refused k text) [
-          | inr (e, refused) ↦ inr (e, inr (may, inr (once, inl refused)))
-          | inl (st, states) ↦ elim (does_or_full line st s (after_right k states.0 st states.2) (subst (λ p. MayCome p s) (after_place k states.0 st states.2) may)) [
-            | inl (new, does) ↦ inl (new, (may, once, (st, states, does)))
-            | inr full ↦ inr (cause.Limit, inr (may, inr (once, inr ((st, states, full), refl))))
+    elim (known_or_not k s) [
+      | inr not ↦ inr (cause.Word, inl (not, refl))
+      | inl known ↦ elim (may_or_not (place_of_keyword k) s) [
+        | inr not ↦ inr (cause.Directive, inr (known, inl (not, refl)))
+        | inl may ↦ elim (twice_or_not k s text) [
+          | inl twice ↦ inr (cause.LabelTwice, inr (known, inr (may, inl (twice, refl))))
+          | inr once ↦ elim (states_or_refused k text) [
+            | inr (e, refused) ↦ inr (e, inr (known, inr (may, inr (once, inl refused))))
+            | inl (st, states) ↦ elim (does_or_full line st s (after_right k states.0 st states.2) (subst (λ p. MayCome p s) (after_place k states.0 st states.2) may)) [
+              | inl (new, does) ↦ inl (new, (known, may, once, (st, states, does)))
+              | inr full ↦ inr (cause.Limit, inr (known, inr (may, inr (once, inr ((st, states, full), refl)))))
+            ]
           ]
         ]
       ]

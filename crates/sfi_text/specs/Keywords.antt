@@ -1,6 +1,6 @@
 -- The statements of source: the name of each, what stands after it, and what it states.
 -- RISC-V ISA manual, "RISC-V Assembly Programmer's Handbook", has the pseudo-instructions.
-use Rattle.std.specs.Prelude.{ℕ, List, [], ◌∷◌, pos, unsigned_abs, replicate, codes}
+use Rattle.std.specs.Prelude.{ℕ, List, [], ◌∷◌, pos, unsigned_abs, replicate, codes, Bool, true, false}
 use Rattle.rv_word.specs.declared.instr.Instr.TheVariants as instr
 use Rattle.rv_word.specs.declared.instr.ImmOp.TheVariants.{Addi}
 use Rattle.rv_word.specs.declared.instr.Cond.{Cond}
@@ -20,7 +20,7 @@ use Rattle.sfi_text.specs.declared.form.NumberKind.TheVariants.{DataSize, Servic
 use Rattle.sfi_text.specs.declared.form.Part.{Part}
 use Rattle.sfi_text.specs.declared.form.Part.TheVariants.{Rd, Rs1, Rs2, Number, Name, Mode, ImageFormat, Comma}
 use Rattle.sfi_text.specs.Operands.{name_of, OperandValues}
-use Rattle.sfi_text.specs.SoFar.{constant, Stated, format, sandbox, within, gate, compressed, data_part, bytes, plain, jump, address}
+use Rattle.sfi_text.specs.SoFar.{constant, Stated, format, sandbox, within, gate, exported, imported, compressed, data_part, bytes, plain, jump, address}
 
 -- directives
 abbrev pub directive_name : Directive → List ℕ
@@ -30,6 +30,8 @@ directive_name directive.Gate = codes ".gate"
 directive_name directive.Option = codes ".option"
 directive_name directive.Data = codes ".data"
 directive_name directive.Zero = codes ".zero"
+directive_name directive.Export = codes ".export"
+directive_name directive.Import = codes ".import"
 
 abbrev pub directive_form : Directive → List Part
 directive_form directive.Format = ImageFormat ∷ []
@@ -38,6 +40,8 @@ directive_form directive.Gate = Name ∷ Number Service ∷ []
 directive_form directive.Option = Mode ∷ []
 directive_form directive.Data = []
 directive_form directive.Zero = Number ZeroCount ∷ []
+directive_form directive.Export = Name ∷ []
+directive_form directive.Import = Name ∷ Number Service ∷ []
 
 abbrev pub directive_states : Directive → OperandValues → Stated
 directive_states directive.Format o = format o.format
@@ -46,6 +50,8 @@ directive_states directive.Gate o = within (gate o.name (unsigned_abs o.number))
 directive_states directive.Option o = within (compressed o.compressed)
 directive_states directive.Data o = within data_part
 directive_states directive.Zero o = within (bytes (replicate (unsigned_abs o.number) 0))
+directive_states directive.Export o = within (exported o.name)
+directive_states directive.Import o = within (imported o.name (unsigned_abs o.number))
 
 -- pseudo-instructions
 abbrev pub pseudo_name : Pseudo → List ℕ
@@ -120,6 +126,20 @@ abbrev pub place_of_keyword : Keyword → Place
 place_of_keyword (keyword.Directive directive.Format) = place.Head
 place_of_keyword (keyword.Directive directive.Sandbox) = place.Outside
 place_of_keyword (keyword.Directive directive.Gate) = place.Gates
+place_of_keyword (keyword.Directive directive.Export) = place.Gates
+place_of_keyword (keyword.Directive directive.Import) = place.Gates
 place_of_keyword (keyword.Directive directive.Zero) = place.Data
 place_of_keyword (keyword.Numbers width) = place.Data
 place_of_keyword _ = place.Code
+
+-- the statement adds to the sandbox's table of names
+abbrev pub makes_table : Keyword → Bool
+makes_table (keyword.Directive directive.Export) = true
+makes_table (keyword.Directive directive.Import) = true
+makes_table _ = false
+
+-- the statement adds a gate, and the gate's name stands after the keyword
+abbrev pub makes_gate : Keyword → Bool
+makes_gate (keyword.Directive directive.Gate) = true
+makes_gate (keyword.Directive directive.Import) = true
+makes_gate _ = false

@@ -9,7 +9,8 @@ use Rattle.rv_word.specs.Spelling.{modulo}
 use Rattle.sfi_source.specs.Source.{upper, lower, Sandbox}
 use Rattle.sfi_text.specs.declared.keyword.DataWidth.{DataWidth}
 use Rattle.sfi_text.specs.declared.keyword.DataWidth.TheVariants.{Word, Half, Byte}
-use Rattle.sfi_policy.specs.declared.format.Format.TheVariants.{Sfi1}
+use Rattle.sfi_policy.specs.declared.format.Format.TheVariants.{Sfi1, Sfi2, Sfiw}
+use Rattle.sfi_text.specs.declared.listing.Listed.{Listed}
 use Rattle.sfi_source.specs.declared.item.Body.{Body}
 use Rattle.sfi_source.specs.declared.item.Item.{Item}
 use Rattle.sfi_source.specs.declared.item.Named.{Named}
@@ -29,6 +30,10 @@ use Rattle.sfi_text.specs.declared.statement.Place.TheVariants as place
 pub data StatedWithin : Type 0 where
   -- the name is that of a gate of this service
   gate : (name : List ℕ) (service : ℕ) → StatedWithin
+  -- the name is one that the sandbox's table of names has as an export
+  exported : (name : List ℕ) → StatedWithin
+  -- the name is that of a gate of this service, and one that the table has as an import
+  imported : (name : List ℕ) (service : ℕ) → StatedWithin
   -- whether 16-bit forms are taken from here on
   compressed : (rvc : Bool) → StatedWithin
   -- the data follow
@@ -76,10 +81,17 @@ data_bytes Byte z = modulo 8 z ∷ []
 
 -- ==== The source so far: what the lines read so far have made.
 
+-- what a sandbox's table of names is to have, in the order of the text
+pub record Shared : Type 0 where
+  pub exports : List Listed
+  pub imports : List Listed
+
 -- the sandbox begun last
 pub record Begun : Type 0 where
   -- what it has so far
   pub sandbox : Sandbox
+  -- what its table of names has so far
+  pub shared : Shared
   -- its code part has ended
   pub in_data : Bool
   -- 16-bit forms may stand for the instructions from here on
@@ -89,33 +101,42 @@ pub record Begun : Type 0 where
   -- it has a label or an instruction
   pub opened : Bool
 
--- the format, if the text has said it, the finished sandboxes, and the sandbox begun last
+-- the format, if the text has said it, the finished sandboxes, what the table of each is to have, and
+-- the sandbox begun last
 pub record SoFar : Type 0 where
   pub format : Option Format
   pub finished : List Sandbox
+  pub shared : List Shared
   pub begun : Option Begun
 
 -- the source so far before the first line
 abbrev pub nothing : SoFar
-nothing = record { format = None; finished = []; begun = None }
+nothing = record { format = None; finished = []; shared = []; begun = None }
 
 -- the format that the text says, or SFI1 where it says none
 abbrev pub format_or_sfi1 : Option Format → Format
 format_or_sfi1 None = Sfi1
-format_or_sfi1 (Some format) = format
+format_or_sfi1 (Some said) = said
+
+-- the language of the format has statements of which tables of names are made: the first has none
+abbrev pub has_tables : Format → Bool
+has_tables Sfi1 = false
+has_tables Sfi2 = true
+has_tables Sfiw = true
 
 -- a sandbox at its beginning: it has a format and a size of data, and nothing else
 abbrev pub begin : Format → ℕ → Begun
-begin format size =
+begin of size =
     record {
       sandbox = record {
-        format = format;
+        format = of;
         data_size = size;
         gates = [];
         names = [];
         items = [];
         bytes = [];
       };
+      shared = record { exports = []; imports = [] };
       in_data = false;
       rvc = false;
       labelled = false;
@@ -131,12 +152,22 @@ last_sandbox (Some b) = b.sandbox ∷ []
 abbrev pub sandboxes : SoFar → List Sandbox
 sandboxes s = s.finished ++ last_sandbox s.begun
 
+-- what the table of the sandbox begun last is to have, if one was begun
+abbrev pub last_shared : Option Begun → List Shared
+last_shared None = []
+last_shared (Some b) = b.shared ∷ []
+
+-- what the table of each sandbox that was begun is to have
+abbrev pub tables : SoFar → List Shared
+tables s = s.shared ++ last_shared s.begun
+
 -- the source so far after a `.sandbox` with `size` bytes of data
 abbrev pub with_sandbox : ℕ → SoFar → SoFar
 with_sandbox size s =
     record {
       format = s.format;
       finished = sandboxes s;
+      shared = tables s;
       begun = Some (begin (format_or_sfi1 s.format) size);
     }
 
@@ -167,6 +198,24 @@ with_gate name service b =
       };
     }
 
+-- a name of the sandbox in the table of a line: its place among the names
+abbrev pub listed : ℕ → List ℕ → Begun → List Listed
+listed line name b = record { name = place_of b.sandbox.names name; line = line } ∷ []
+
+-- the sandbox after an export: the name is met
+abbrev pub with_export : ℕ → List ℕ → Begun → Begun
+with_export line name b =
+    record (with_names (met b.sandbox.names name) b) {
+      shared = record b.shared { exports = b.shared.exports ++ listed line name b };
+    }
+
+-- the sandbox after an import: a gate of this name and service
+abbrev pub with_import : ℕ → List ℕ → ℕ → Begun → Begun
+with_import line name service b =
+    record (with_gate name service b) {
+      shared = record b.shared { imports = b.shared.imports ++ listed line name b };
+    }
+
 -- the items of `bodies`, all of one line: `labelled` says whether a label stands before the first,
 -- and none stands before another
 abbrev pub items_of : ℕ → Bool → Bool → List Body → List Item
@@ -187,7 +236,7 @@ with_bodies line bodies b =
 
 -- the sandbox after more bytes of data
 abbrev pub with_bytes : List ℕ → Begun → Begun
-with_bytes bytes b = record b { sandbox = record b.sandbox { bytes = b.sandbox.bytes ++ bytes } }
+with_bytes values b = record b { sandbox = record b.sandbox { bytes = b.sandbox.bytes ++ values } }
 
 -- ==== What a label and a statement do to the source so far, and what keeps them from it.
 
@@ -223,6 +272,7 @@ MayCome place.Data s = IsSomeAnd s.begun (λ b. b.in_data ≡ true)
 -- size of data with which it was begun
 abbrev pub Fits : StatedWithin → Begun → Type 0
 Fits (gate name service) b = length b.sandbox.gates + 1 ≤ gates_most
+Fits (imported name service) b = length b.sandbox.gates + 1 ≤ gates_most
 Fits (bytes values) b = length b.sandbox.bytes + length values ≤ b.sandbox.data_size
 Fits (plain instrs) b = length b.sandbox.items + length instrs ≤ items_most
 Fits (jump instr name) b = length b.sandbox.items + 1 ≤ items_most
@@ -232,6 +282,8 @@ Fits _ b = Unit {0}
 -- the sandbox after a statement of a line; a name that an instruction goes to is met
 abbrev pub with_stated : ℕ → StatedWithin → Begun → Begun
 with_stated line (gate name service) b = with_gate name service b
+with_stated line (exported name) b = with_export line name b
+with_stated line (imported name service) b = with_import line name service b
 with_stated line (compressed rvc) b = record b { rvc = rvc }
 with_stated line data_part b = record b { in_data = true }
 with_stated line (bytes values) b = with_bytes values b

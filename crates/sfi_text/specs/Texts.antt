@@ -1,16 +1,14 @@
 -- What a text means, line by line, and for what cause it is refused.
-use Rattle.std.specs.Prelude.{◌≡◌, ℕ, ◌⊎◌, List, [], ◌∷◌, Some, codes, ◌+◌, ◌<◌, ◌≤◌, ◌==◌, length, None}
+use Rattle.std.specs.Prelude.{◌≡◌, ℕ, ◌⊎◌, List, [], ◌∷◌, Some, codes, ◌+◌, ◌<◌, ◌≤◌, ◌==◌, length, None, IsTrue, not, ◌||◌}
 use Rattle.sfi_text.specs.declared.cause.TextCause.{TextCause}
 use Rattle.sfi_text.specs.declared.cause.TextCause.TheVariants as cause
-use Rattle.sfi_text.specs.declared.keyword.Directive.TheVariants as directive
 use Rattle.sfi_text.specs.declared.keyword.Keyword.{Keyword}
-use Rattle.sfi_text.specs.declared.keyword.Keyword.TheVariants as keyword
 use Rattle.sfi_text.specs.Tokens.{Takes, IsBlank}
 use Rattle.sfi_source.specs.Names.{IsLabel}
 use Rattle.sfi_text.specs.Operands.{Unformed}
-use Rattle.sfi_text.specs.Keywords.{keyword_name, place_of_keyword}
+use Rattle.sfi_text.specs.Keywords.{keyword_name, place_of_keyword, makes_table, makes_gate}
 use Rattle.sfi_text.specs.Lines.{StatesAfter, RefusedWith, NameRefused}
-use Rattle.sfi_text.specs.SoFar.{Stated, Begun, SoFar, nothing, sandboxes, IsFree, Labels, RefusesLabel, MayCome, Does, HasNoRoom}
+use Rattle.sfi_text.specs.SoFar.{Stated, Begun, Shared, SoFar, nothing, sandboxes, tables, has_tables, format_or_sfi1, IsFree, Labels, RefusesLabel, MayCome, Does, HasNoRoom}
 use Rattle.std.specs.List.{slice_split, before_first}
 use Rattle.sfi_text.specs.declared.fault.TextFault.{TextFault}
 use Rattle.sfi_source.specs.Source.{Sandbox}
@@ -51,16 +49,20 @@ abbrev pub IsTaken : Begun → List ℕ → Type 0
 IsTaken b text =
     (name : List ℕ) × (rest : List ℕ) × BeginsWithName text name rest × (IsFree name b → ⊥)
 
--- `k` is `.gate`, and the name after it is one that a label or a gate of the sandbox begun last has
+-- `k` adds a gate, and the name after it is one that a label or a gate of the sandbox begun last has
 abbrev pub IsGateTwice : Keyword → SoFar → List ℕ → Type 0
 IsGateTwice k s text =
-    (k ≡ keyword.Directive directive.Gate) × ((b : Begun) × (s.begun ≡ Some b) × IsTaken b text)
+    IsTrue (makes_gate k) × ((b : Begun) × (s.begun ≡ Some b) × IsTaken b text)
+
+-- `k` is a keyword of the language of the format
+abbrev pub IsKnown : Keyword → SoFar → Type 0
+IsKnown k s = IsTrue (not (makes_table k) || has_tables (format_or_sfi1 s.format))
 
 -- the statement of keyword `k` and the text after it may come after `old`, and on this line changes
 -- it to `new`
 abbrev pub LeadsAfter : Keyword → ℕ → SoFar → List ℕ → SoFar → Type 0
 LeadsAfter k line old text new =
-    MayCome (place_of_keyword k) old × (IsGateTwice k old text → ⊥)
+    IsKnown k old × MayCome (place_of_keyword k) old × (IsGateTwice k old text → ⊥)
     × ((s : Stated) × StatesAfter k text s × Does line s old new)
 
 -- `text` is a statement, which on this line changes the source so far from `old` to `new`
@@ -99,11 +101,16 @@ OperandsRefused k s text e =
     ⊎ ((IsGateTwice k s text → ⊥)
     × (RefusedWith k text e ⊎ (PassesLimit k s text × (e ≡ cause.Limit))))
 
+-- the statement of keyword `k`, which the language has, and the text after it is refused for cause `e`
+abbrev pub KnownRefused : Keyword → SoFar → List ℕ → TextCause → Type 0
+KnownRefused k s text e =
+    ((MayCome (place_of_keyword k) s → ⊥) × (e ≡ cause.Directive))
+    ⊎ (MayCome (place_of_keyword k) s × OperandsRefused k s text e)
+
 -- the statement of keyword `k` and the text after it is refused for cause `e`
 abbrev pub RefusedAfter : Keyword → SoFar → List ℕ → TextCause → Type 0
 RefusedAfter k s text e =
-    ((MayCome (place_of_keyword k) s → ⊥) × (e ≡ cause.Directive))
-    ⊎ (MayCome (place_of_keyword k) s × OperandsRefused k s text e)
+    ((IsKnown k s → ⊥) × (e ≡ cause.Word)) ⊎ (IsKnown k s × KnownRefused k s text e)
 
 -- the statement of `token` and the rest after it is refused for cause `e`
 abbrev pub RefusedFrom : SoFar → List ℕ → List ℕ → TextCause → Type 0
@@ -155,6 +162,12 @@ abbrev pub MeansSource : List ℕ → List Sandbox → Type 0
 MeansSource text parts =
     (new : SoFar) × (last : Begun)
     × LeadsFromNothing text new × (new.begun ≡ Some last) × (parts ≡ sandboxes new)
+
+-- `text` means these sandboxes, and this is what the table of names of each is to have
+abbrev pub MeansListing : List ℕ → List Sandbox → List Shared → Type 0
+MeansListing text parts shared =
+    (new : SoFar) × (last : Begun) × LeadsFromNothing text new × (new.begun ≡ Some last)
+    × (parts ≡ sandboxes new) × (shared ≡ tables new)
 
 -- `text`, as the line of this number, is refused with fault `f`
 abbrev pub LineFault : ℕ → SoFar → List ℕ → TextFault → Type 0

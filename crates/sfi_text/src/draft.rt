@@ -7,9 +7,10 @@ ghost use Rattle.sfi_text.specs.SoFar.{IsFree, Fits, with_stated};
 ghost use Rattle.sfi_source.specs.Names.{place_of, met};
 ghost use Rattle.sfi_text.specs.private.Lines.{AddsUpTo};
 ghost use Rattle.sfi_text.specs.private.Lines.{stated_within};
-ghost use Rattle.sfi_text.specs.SoFar.{begin, here, with_names, with_label, with_gate, with_bodies, with_bytes};
+ghost use Rattle.sfi_text.specs.SoFar.{begin, here, with_names, with_label, with_gate, with_export, with_import, with_bodies, with_bytes};
 
 use crate::cause::TextCause;
+use crate::listing::{Listed, Shared};
 use crate::statement::SandboxStatement;
 use sfi_policy::{Format, GATE_COUNT_MOST, ITEM_COUNT_MOST};
 use sfi_source::{Body, Item, Named, Names, SourceGate, SourcePart};
@@ -25,6 +26,8 @@ pub struct Draft {
     names: Names,
     items: Vec<Item>,
     bytes: Vec<u8>,
+    exports: Vec<Listed>,
+    imports: Vec<Listed>,
     in_data: bool,
     rvc: bool,
     labelled: bool,
@@ -40,6 +43,7 @@ impl Model for Draft {
 
     ghost view = { λ b. record {
       sandbox = sandbox b.format b.data_size b.gates.items b.names b.items.items b.bytes.items;
+      shared = record { exports = b.exports.items; imports = b.imports.items };
       in_data = b.in_data;
       rvc = b.rvc;
       labelled = b.labelled;
@@ -61,6 +65,8 @@ impl Draft {
             names: Names::new(alloc),
             items: Vec::new(alloc),
             bytes: Vec::new(alloc),
+            exports: Vec::new(alloc),
+            imports: Vec::new(alloc),
             in_data: false,
             rvc: false,
             labelled: false,
@@ -130,6 +136,33 @@ impl Draft {
             name: place,
             service,
         })?;
+        Ok(())
+    }
+
+    /// Lists the name as an export of the line of this number.
+    fn export(&mut self, alloc: Global, line: u32, name: &str) -> Result<(), TextCause>
+        ensures exported { OnOk result (self.new ≡ with_export line name.now self.old) }
+        ensures memory { IfErr result (λ e. e ≡ cause.Memory) }
+    {
+        let name = self.meet(alloc, name)?;
+        self.exports.push(Listed { name, line })?;
+        Ok(())
+    }
+
+    /// Adds a gate of this service, and lists its name as an import of the line of this number.
+    fn import(
+        &mut self,
+        alloc: Global,
+        line: u32,
+        name: &str,
+        service: u32,
+    ) -> Result<(), TextCause>
+        ensures { AddsUpTo gates_most (length self.old.sandbox.gates + 1) result self.new
+            (with_import line name.now service self.old) }
+    {
+        let place = self.names.place_of(name);
+        self.gate(alloc, name, service)?;
+        self.imports.push(Listed { name: place, line })?;
         Ok(())
     }
 
@@ -213,6 +246,8 @@ impl Draft {
     {
         match *statement {
             SandboxStatement::Gate { name, service } => self.gate(alloc, name, service),
+            SandboxStatement::Export(name) => self.export(alloc, line, name),
+            SandboxStatement::Import { name, service } => self.import(alloc, line, name, service),
             SandboxStatement::Compressed(rvc) => {
                 self.rvc = rvc;
                 Ok(())
@@ -238,17 +273,23 @@ impl Draft {
         }
     }
 
-    /// The sandbox as it stands.
-    pub fn finish(self) -> SourcePart
-        ensures { result ≡ self.sandbox }
+    /// The sandbox as it stands, and what its table of names is to have.
+    pub fn finish(self) -> (SourcePart, Shared)
+        ensures sandbox { result.0 ≡ self.sandbox }
+        ensures shared { result.1 ≡ self.shared }
     {
-        SourcePart::new(
+        let part = SourcePart::new(
             self.format,
             self.data_size,
             self.gates,
             self.names,
             self.items,
             self.bytes,
-        )
+        );
+        let shared = Shared {
+            exports: self.exports,
+            imports: self.imports,
+        };
+        (part, shared)
     }
 }

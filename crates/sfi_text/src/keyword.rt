@@ -1,6 +1,6 @@
 //! The first words of statements: directives, pseudo-instructions and the names of instructions.
 ghost use Rattle.std.specs.Prelude.{◌≡◌, ◌<◌, IfSome, IfNone};
-ghost use Rattle.sfi_text.specs.Keywords.{directive_name, directive_form, pseudo_name, pseudo_form, data_name, data_kind, keyword_name, place_of_keyword};
+ghost use Rattle.sfi_text.specs.Keywords.{directive_name, directive_form, pseudo_name, pseudo_form, data_name, data_kind, keyword_name, place_of_keyword, makes_table, makes_gate};
 ghost use Rattle.sfi_text.specs.private.Reading.{hash, candidate, mnemonic_in};
 ghost use Rattle.sfi_text.specs.Operands.{name_of};
 
@@ -18,6 +18,8 @@ pub enum Directive {
     Option,
     Data,
     Zero,
+    Export,
+    Import,
 }
 
 /// A pseudo-instruction.
@@ -64,6 +66,8 @@ impl Directive {
             Directive::Option => ".option",
             Directive::Data => ".data",
             Directive::Zero => ".zero",
+            Directive::Export => ".export",
+            Directive::Import => ".import",
         }
     }
 
@@ -74,7 +78,10 @@ impl Directive {
         match self {
             Directive::Format => &[Part::ImageFormat],
             Directive::Sandbox => &[Part::Number(NumberKind::DataSize)],
-            Directive::Gate => &[Part::Name, Part::Number(NumberKind::Service)],
+            Directive::Gate | Directive::Import => {
+                &[Part::Name, Part::Number(NumberKind::Service)]
+            }
+            Directive::Export => &[Part::Name],
             Directive::Option => &[Part::Mode],
             Directive::Data => &[],
             Directive::Zero => &[Part::Number(NumberKind::ZeroCount)],
@@ -142,7 +149,7 @@ impl DataWidth {
 }
 
 /// Every keyword.
-const ALL: &[Keyword; 67] = &[
+const ALL: &[Keyword; 69] = &[
     Keyword::Instr(Mnemonic::Op(RegOp::Add)),
     Keyword::Instr(Mnemonic::Op(RegOp::Sub)),
     Keyword::Instr(Mnemonic::Op(RegOp::Sll)),
@@ -210,19 +217,21 @@ const ALL: &[Keyword; 67] = &[
     Keyword::Numbers(DataWidth::Word),
     Keyword::Numbers(DataWidth::Half),
     Keyword::Numbers(DataWidth::Byte),
+    Keyword::Directive(Directive::Export),
+    Keyword::Directive(Directive::Import),
 ];
 
 /// By the hash of a name, the place in [`ALL`] of the keyword that alone can have the name.
 const PLACES: &[u8; 256] = &[
     0, 0, 0, 0, 0, 28, 50, 0, 0, 0, 0, 0, 0, 0, 30, 64, 0, 0, 0, 0, 29, 63, 42, 24, 0, 0, 0, 10,
     58, 0, 0, 0, 0, 0, 2, 0, 0, 0, 48, 21, 0, 0, 3, 0, 0, 55, 0, 12, 0, 0, 59, 0, 0, 0, 40, 0, 13,
-    0, 0, 0, 0, 0, 20, 0, 60, 52, 0, 0, 8, 11, 0, 0, 0, 0, 0, 0, 0, 0, 0, 19, 26, 0, 56, 0, 0, 0,
+    0, 0, 0, 0, 0, 20, 0, 60, 52, 0, 0, 8, 11, 0, 0, 0, 67, 0, 0, 0, 0, 0, 19, 26, 0, 56, 0, 0, 0,
     0, 0, 14, 53, 0, 4, 0, 0, 0, 0, 0, 0, 0, 23, 0, 0, 0, 0, 36, 0, 0, 0, 0, 0, 0, 0, 45, 0, 0, 47,
     39, 0, 0, 0, 31, 0, 51, 0, 0, 0, 0, 44, 65, 7, 61, 0, 0, 66, 0, 0, 0, 0, 46, 0, 6, 0, 0, 0, 0,
     0, 5, 0, 0, 0, 0, 38, 0, 0, 0, 0, 0, 0, 0, 0, 0, 0, 0, 0, 0, 0, 0, 43, 0, 37, 0, 0, 0, 0, 0, 0,
-    0, 0, 0, 0, 0, 0, 0, 1, 0, 0, 0, 0, 41, 25, 0, 0, 0, 0, 0, 0, 0, 22, 0, 0, 0, 0, 0, 0, 0, 0, 0,
-    54, 32, 0, 0, 0, 0, 35, 33, 62, 0, 0, 0, 0, 0, 15, 0, 0, 0, 16, 0, 0, 0, 34, 0, 0, 49, 0, 0, 0,
-    0, 0, 0, 0, 0, 0, 0, 0, 0, 0, 9, 0, 0, 18, 0, 0, 17, 0, 57, 27,
+    0, 0, 0, 0, 0, 0, 0, 1, 0, 0, 68, 0, 41, 25, 0, 0, 0, 0, 0, 0, 0, 22, 0, 0, 0, 0, 0, 0, 0, 0,
+    0, 54, 32, 0, 0, 0, 0, 35, 33, 62, 0, 0, 0, 0, 0, 15, 0, 0, 0, 16, 0, 0, 0, 34, 0, 0, 49, 0, 0,
+    0, 0, 0, 0, 0, 0, 0, 0, 0, 0, 0, 9, 0, 0, 18, 0, 0, 17, 0, 57, 27,
 ];
 
 /// The hash of a name: the seed, and then for each byte the factor times what was there before and
@@ -294,10 +303,34 @@ impl Keyword {
             Keyword::Numbers(_) => Place::Data,
             Keyword::Directive(Directive::Format) => Place::Head,
             Keyword::Directive(Directive::Sandbox) => Place::Outside,
-            Keyword::Directive(Directive::Gate) => Place::Gates,
+            Keyword::Directive(Directive::Gate | Directive::Export | Directive::Import) => {
+                Place::Gates
+            }
             Keyword::Directive(Directive::Option | Directive::Data) => Place::Code,
             Keyword::Directive(Directive::Zero) => Place::Data,
         }
+    }
+}
+
+impl Keyword {
+    /// Whether the statement adds to the sandbox's table of names.
+    pub fn makes_table(self) -> bool
+        ensures { result ≡ makes_table self }
+    {
+        matches!(
+            self,
+            Keyword::Directive(Directive::Export | Directive::Import)
+        )
+    }
+
+    /// Whether the statement adds a gate, whose name stands after the keyword.
+    pub fn makes_gate(self) -> bool
+        ensures { result ≡ makes_gate self }
+    {
+        matches!(
+            self,
+            Keyword::Directive(Directive::Gate | Directive::Import)
+        )
     }
 }
 

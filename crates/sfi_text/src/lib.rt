@@ -1,7 +1,8 @@
 //! The assembler's text, of sources and of single instructions.
 //!
-//! [`parse_source`] reads a text to its sandboxes: what it means, line by line, is
-//! `specs/Texts.antt`, over the table of statements in `specs/Keywords.antt`.
+//! [`parse_listing`] reads a text to its sandboxes, with what their tables of names are to have, and
+//! [`parse_source`] to the sandboxes alone: what it means, line by line, is `specs/Texts.antt`, over
+//! the table of statements in `specs/Keywords.antt`.
 //!
 //! [`parse_instr`] reads the text of one instruction, [`print_instr`] and [`push_instr`] write it;
 //! a printed instruction that a word spells reads back as itself. What a text means, and what is
@@ -18,6 +19,7 @@ mod form;
 mod keyword;
 mod lexer;
 mod line;
+mod listing;
 mod mnemonic;
 mod number;
 mod operands;
@@ -32,9 +34,10 @@ mod text;
 
 pub use cause::TextCause;
 pub use fault::TextFault;
+pub use listing::{Listed, Listing, Shared};
 pub use mnemonic::{branch_name, immediate_name, load_name, op_name, store_name};
 pub use parse::parse_instr;
 pub use print::{print_instr, push_instr};
 pub use sfi_policy::Format;
 pub use sfi_source::{Body, Item, Named, Names, Source, SourceGate, SourcePart};
-pub use text::parse_source;
+pub use text::{parse_listing, parse_source};

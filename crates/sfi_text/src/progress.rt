@@ -2,11 +2,11 @@
 ghost use Rattle.std.specs.Prelude.{◌≡◌, ◌⊎◌, ◌↔◌, List, ℕ, None, Some, IsTrue, IfOk, IfErr, OnOk, MatchOption, codes};
 ghost use Rattle.sfi_text.specs.declared.cause.TextCause.TheVariants as cause;
 ghost use Rattle.sfi_text.specs.SoFar.{Labels, RefusesLabel, MayCome, Does, HasNoRoom};
-ghost use Rattle.sfi_text.specs.Texts.{BeginsWithName, IsTaken, IsGateTwice, LeadsAfter, Leads, LabelRefused, RefusedAfter, RefusedFrom, LineRefused};
+ghost use Rattle.sfi_text.specs.Texts.{BeginsWithName, IsTaken, IsGateTwice, IsKnown, KnownRefused, LeadsAfter, Leads, LabelRefused, RefusedAfter, RefusedFrom, LineRefused};
 ghost use Rattle.sfi_text.specs.private.Lines.{IsFront, PassesTo, LeadsFrom};
-ghost use Rattle.sfi_text.specs.SoFar.{format_or_sfi1, nothing, with_sandbox};
+ghost use Rattle.sfi_text.specs.SoFar.{format_or_sfi1, has_tables, nothing, with_sandbox};
 ghost use Rattle.sfi_text.specs.private.Lines.{stated, place_of_stated};
-ghost use Rattle.sfi_text.specs.Texts.{LeadsFromNothing, MeansSource, IsFault};
+ghost use Rattle.sfi_text.specs.Texts.{LeadsFromNothing, MeansListing, IsFault};
 ghost use Rattle.sfi_text.specs.Tokens.{memory};
 ghost use Rattle.sfi_source.specs.Names.{IsLabel};
 ghost use Rattle.sfi_text.specs.Tokens.{IsToken, Takes};
@@ -14,9 +14,10 @@ ghost use Rattle.sfi_text.specs.Tokens.{IsToken, Takes};
 use crate::cause::TextCause;
 use crate::draft::Draft;
 use crate::fault::TextFault;
-use crate::keyword::{Directive, Keyword};
+use crate::keyword::Keyword;
 use crate::lexer::{Next, body, next_token};
 use crate::line::{read_keyword, read_statement};
+use crate::listing::{Listing, Shared};
 use crate::number::after_prefix;
 use crate::read::is_label;
 use crate::statement::{Place, Statement};
@@ -31,6 +32,7 @@ use std::marker::Model;
 pub struct Progress {
     format: Option<Format>,
     finished: Vec<SourcePart>,
+    shared: Vec<Shared>,
     begun: Option<Draft>,
 }
 
@@ -40,7 +42,22 @@ impl Model for Progress {
     ghost Value = { SoFar };
 
     ghost view = { λ p.
-        record { format = p.format; finished = p.finished.items; begun = p.begun } };
+        record {
+          format = p.format;
+          finished = p.finished.items;
+          shared = p.shared.items;
+          begun = p.begun;
+        } };
+}
+
+/// Whether the language of the format has statements of which tables of names are made.
+fn has_tables(format: Format) -> bool
+    ensures { result ≡ has_tables format }
+{
+    match format {
+        Format::Sfi1 => false,
+        Format::Sfi2 | Format::Sfiw => true,
+    }
 }
 
 /// What follows a colon that is the first token of a text.
@@ -126,6 +143,7 @@ impl Progress {
         Progress {
             format: None,
             finished: Vec::new(alloc),
+            shared: Vec::new(alloc),
             begun: None,
         }
     }
@@ -181,13 +199,13 @@ impl Progress {
         }
     }
 
-    /// Whether the statement is a gate, and a label or a gate has its name already.
+    /// Whether the statement adds a gate, and a label or a gate has its name already.
     fn is_gate_twice(&self, keyword: Keyword, text: &str) -> bool
         ensures { IsTrue result ↔ IsGateTwice keyword self.now text.now }
     {
-        match (keyword, &self.begun) {
-            (Keyword::Directive(Directive::Gate), Some(draft)) => is_taken(draft, text),
-            _ => false,
+        match &self.begun {
+            Some(draft) => keyword.makes_gate() && is_taken(draft, text),
+            None => false,
         }
     }
 
@@ -201,13 +219,22 @@ impl Progress {
         }
     }
 
+    /// Whether the keyword is one of the language of the format.
+    fn is_known(&self, keyword: Keyword) -> bool
+        ensures { IsTrue result ↔ IsKnown keyword self.now }
+    {
+        !keyword.makes_table() || has_tables(self.format())
+    }
+
     /// Begins a sandbox with `data_size` bytes of data.
     fn begin(&mut self, alloc: Global, data_size: u32) -> Result<(), TextCause>
         ensures begins { OnOk result (self.new ≡ with_sandbox data_size self.old) }
         ensures memory { IfErr result (λ e. e ≡ cause.Memory) }
     {
         if let Some(draft) = self.begun.take() {
-            self.finished.push(draft.finish())?;
+            let (part, shared) = draft.finish();
+            self.finished.push(part)?;
+            self.shared.push(shared)?;
         }
         self.begun = Some(Draft::new(alloc, self.format(), data_size));
         Ok(())
@@ -250,6 +277,9 @@ impl Progress {
         ensures cause { IfErr result (λ e.
             (e ≡ cause.Memory) ⊎ RefusedAfter keyword self.old text.now e) }
     {
+        if !self.is_known(keyword) {
+            return Err(TextCause::Word);
+        }
         if !self.may_come(keyword.place()) {
             return Err(TextCause::Directive);
         }
@@ -289,17 +319,23 @@ impl Progress {
         }
     }
 
-    /// The source that a text means whose lines were all read.
-    pub fn finish(self, text: &str) -> Result<Source, TextFault>
+    /// What a text means whose lines were all read.
+    pub fn finish(self, text: &str) -> Result<Listing, TextFault>
         requires { LeadsFromNothing text.now self }
-        ensures source { IfOk result (λ s. MeansSource text.now s) }
+        ensures listing { IfOk result (λ l. MeansListing text.now l.source l.shared.items) }
         ensures fault { IfErr result (λ f. (f ≡ memory) ⊎ IsFault text.now f) }
     {
         let mut parts = self.finished;
+        let mut shared = self.shared;
         match self.begun {
             Some(draft) => {
-                parts.push(draft.finish())?;
-                Ok(Source::new(parts))
+                let (part, last) = draft.finish();
+                parts.push(part)?;
+                shared.push(last)?;
+                Ok(Listing {
+                    source: Source::new(parts),
+                    shared,
+                })
             }
             None => Err(TextFault {
                 line: 1,

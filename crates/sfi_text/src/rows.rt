@@ -32,6 +32,11 @@ impl Directive {
             Directive::Option => Statement::Within(SandboxStatement::Compressed(o.compressed)),
             Directive::Data => Statement::Within(SandboxStatement::Data),
             Directive::Zero => Statement::Within(SandboxStatement::Zeros(o.number as u32)),
+            Directive::Export => Statement::Within(SandboxStatement::Export(o.name)),
+            Directive::Import => Statement::Within(SandboxStatement::Import {
+                name: o.name,
+                service: o.number as u32,
+            }),
         }
     }
 }

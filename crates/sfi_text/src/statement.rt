@@ -22,6 +22,10 @@ pub enum Statement<'a> {
 pub enum SandboxStatement<'a> {
     /// `.gate L N`: the name is that of a gate of this service.
     Gate { name: &'a str, service: u32 },
+    /// `.export L`: the sandbox's table of names has the name as an export.
+    Export(&'a str),
+    /// `.import L N`: a gate as `.gate` makes it, and the table has its name as an import.
+    Import { name: &'a str, service: u32 },
     /// `.option rvc`, where true, or `.option norvc`: whether 16-bit forms are taken from here on.
     Compressed(bool),
     /// `.data`: the data follow.

@@ -5,11 +5,13 @@ ghost use Rattle.sfi_text.specs.declared.cause.TextCause.TheVariants as causes;
 ghost use Rattle.sfi_text.specs.Tokens.{memory};
 ghost use Rattle.sfi_text.specs.Texts.{Leads};
 ghost use Rattle.sfi_source.specs.Source.{Sandbox};
-ghost use Rattle.sfi_text.specs.Texts.{most_bytes, first_line, uncommented, lines, LinesLead, FirstRefused, LineFault, MeansSource, IsFault};
+ghost use Rattle.sfi_text.specs.Texts.{most_bytes, first_line, uncommented, lines, LinesLead, FirstRefused, LineFault, MeansSource, MeansListing, IsFault};
+ghost use Rattle.sfi_text.specs.SoFar.{Shared};
 ghost use Rattle.sfi_text.specs.private.Lines.{BeginsWithLine};
 
 use crate::cause::TextCause;
 use crate::fault::TextFault;
+use crate::listing::Listing;
 use crate::progress::Progress;
 use sfi_source::Source;
 use std::alloc::Global;
@@ -88,9 +90,9 @@ fn read_lines(progress: &mut Progress, alloc: Global, text: &str) -> Result<(), 
     read_line(progress, alloc, number, rest)
 }
 
-/// The source that a text means, or its fault.
-fn read_source(alloc: Global, text: &str) -> Result<Source, TextFault>
-    ensures source { IfOk result (λ s. MeansSource text.now s) }
+/// What a text means, or its fault.
+fn read_listing(alloc: Global, text: &str) -> Result<Listing, TextFault>
+    ensures listing { IfOk result (λ l. MeansListing text.now l.source l.shared.items) }
     ensures fault { IfErr result (λ f. (f ≡ memory) ⊎ IsFault text.now f) }
     ensures too_long { most_bytes < length text.now → result ≡ Err (first_line causes.Limit) }
 {
@@ -105,13 +107,27 @@ fn read_source(alloc: Global, text: &str) -> Result<Source, TextFault>
     progress.finish(text)
 }
 
-/// The source that a text means: one sandbox at least, each begun by a `.sandbox` line.
+/// The source that a text means, with what its sandboxes' tables of names are to have: one sandbox at
+/// least, each begun by a `.sandbox` line.
 ///
 /// A line has labels, each a name and a colon, and then a statement or nothing; `#` begins a
 /// comment. A text has at most 1048576 bytes. The fault of a text is that of the first line that is
 /// refused, and its cause that of the first token there that departs from a statement that may come
 /// there; `Limit` on line 1 for a longer text,
 /// and `Directive` on line 1 for one that begins no sandbox.
+pub fn parse_listing(alloc: Global, text: &str) -> Result<Listing, TextFault>
+    ensures listing { IfOk result (λ l. MeansListing text.now l.source l.shared.items) }
+    ensures only_listing { (s : List Sandbox) (t : List Shared) → MeansListing text.now s t
+        → MatchResult result (λ l. (l.source ≡ s) × (l.shared.items ≡ t)) (λ f. f ≡ memory) }
+    ensures fault { IfErr result (λ f. (f ≡ memory) ⊎ IsFault text.now f) }
+    ensures only_fault { (f : TextFault) → IsFault text.now f
+        → MatchResult result (λ _. ⊥) (λ g. (g ≡ f) ⊎ (g ≡ memory)) }
+    ensures too_long { most_bytes < length text.now → result ≡ Err (first_line causes.Limit) }
+{
+    read_listing(alloc, text)
+}
+
+/// The source that a text means, as [`parse_listing`] reads it.
 pub fn parse_source(alloc: Global, text: &str) -> Result<Source, TextFault>
     ensures source { IfOk result (λ s. MeansSource text.now s) }
     ensures only_source { (s : List Sandbox) → MeansSource text.now s
@@ -121,5 +137,8 @@ pub fn parse_source(alloc: Global, text: &str) -> Result<Source, TextFault>
         → MatchResult result (λ _. ⊥) (λ g. (g ≡ f) ⊎ (g ≡ memory)) }
     ensures too_long { most_bytes < length text.now → result ≡ Err (first_line causes.Limit) }
 {
-    read_source(alloc, text)
+    match parse_listing(alloc, text) {
+        Ok(listing) => Ok(listing.source),
+        Err(fault) => Err(fault),
+    }
 }

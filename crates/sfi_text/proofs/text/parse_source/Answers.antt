@@ -1,8 +1,11 @@
-use Rattle.sfi_text.proofs.TextLines.{only_source, only_fault}
+use Rattle.std.proofs.Common.{Err}
+use Rattle.sfi_text.proofs.OneSource.{one_source}
+use Rattle.sfi_text.proofs.TextLines.{listed_means, only_source}
 use Rattle.sfi_text.proofs.text.parse_source.Goals as goal
 
-pub returns-clause-only_source : goal.returns-clause-only_source
-returns-clause-only_source c = only_source c.args.text.now c.read_source.result c.read_source.ensures.source c.read_source.ensures.fault
+pub returns-in-Ok-clause-only_source : goal.returns-in-Ok-clause-only_source
+returns-in-Ok-clause-only_source c = λ s h.
+    one_source c.args.text.now c.in-Ok.listing.source s (listed_means c.args.text.now c.in-Ok.listing.source c.in-Ok.listing.shared.items c.in-Ok.ensures.listing) h
 
-pub returns-clause-only_fault : goal.returns-clause-only_fault
-returns-clause-only_fault c = only_fault c.args.text.now c.read_source.result c.read_source.ensures.source c.read_source.ensures.fault
+pub returns-in-Err-clause-only_source : goal.returns-in-Err-clause-only_source
+returns-in-Err-clause-only_source c = only_source c.args.text.now (Err c.in-Err.fault) tt c.in-Err.ensures.fault
