@@ -112,8 +112,9 @@ pub record RunsDirectly (p : Part) (direct : List ℕ) : Type 0 where
 
 -- ---- what the typed registers hold when a sandbox calls
 
--- the sandbox calls here: the image has an ecall at pc, be there a springboard or not, or the memory has
--- one where no gate is direct
+-- The sandbox calls here: the image has an ecall at pc, be there a springboard or not, or the memory
+-- has one where no gate is direct. Of a direct gate at which the image has no ecall nothing is said: a
+-- host makes none of these direct, since the typed registers may be on their way there.
 abbrev pub IsCalling : Part → List ℕ → State → Type 0
 IsCalling p direct s =
     HasEcall p s.hart.pc ⊎ ((n : ℕ) × Stands s Ecall n × (IsDirect p direct s.hart.pc → ⊥))
