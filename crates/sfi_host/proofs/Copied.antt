@@ -1,13 +1,17 @@
 -- What is copied from one memory to another.
-use Rattle.sfi_host.proofs.Prelude.{◌≡◌, ◌⊎◌, inl, inr, ⊎_elim, ℕ, zero, suc, ◌+◌, ◌-◌, ◌^◌, ◌<◌, ◌≤◌, List, [], ◌∷◌, length, replicate, Option, Some, None, is_some, IsSome, slice_get, slice_get_within, slice_index, refl, sym, ap, ◌∙◌, subst, arith, empty, get-empty, same_Some, cases_eq, range_with_len, Bytes, byte_at, bytes_at, in_front, added, Span, Holds, code_region, bytes_in, IsWhole, Bounds, Seat, IsSafeSeat, Sandboxes}
+use Rattle.sfi_host.proofs.Prelude.{◌≡◌, ◌⊎◌, inl, inr, ⊎_elim, Bool, true, false, cond, or_left, or_right, or_cases, is_own, ℕ, zero, suc, ◌+◌, ◌-◌, ◌^◌, ◌<◌, ◌≤◌, List, [], ◌∷◌, length, replicate, Option, Some, None, is_some, IsSome, slice_get, slice_get_within, slice_index, refl, sym, ap, ◌∙◌, subst, arith, empty, get-empty, same_Some, cases_eq, range_with_len, Bytes, byte_at, bytes_at, in_front, added, Span, Holds, code_region, bytes_in, IsWhole, Bounds, Seat, IsSafeSeat, Sandboxes}
 use Rattle.std.proofs.Math.ListN.{get_or-append}
 use Rattle.std.specs.Ordering.{nat_cmp}
 use Rattle.sfi_image.proofs.Facts.{code_ends}
+use Rattle.std.specs.List.{remove}
+use Rattle.sfi_host.specs.Adding.{is_own_of, bytes_of, number_without}
 use Rattle.sfi_host.specs.Owning.{AreOwned}
-use Rattle.sfi_host.specs.private.Copying.{CopiesRegion, HasCopies}
+use Rattle.sfi_host.specs.private.Copying.{CopiesRegion, CopiesSeat, HasCopies}
 use Rattle.sfi_host.proofs.Entered.{added_inside, added_outside}
 use Rattle.sfi_host.proofs.Owned.{in_or_out}
-use Rattle.sfi_host.proofs.RegionBytes.{byte_in, is_in-Holds, same_bytes}
+use Rattle.sfi_host.proofs.OwnSteps.{own_code, own_data, own_is, true_false}
+use Rattle.sfi_host.proofs.RegionBytes.{byte_in, get_kept, is_in-Holds, same_bytes}
+use Rattle.sfi_host.proofs.Removed.{old_number, old_other, get_removed, get_rest}
 use Rattle.sfi_host.proofs.Runs.{all_there}
 
 -- ---- one region
@@ -57,63 +61,105 @@ copied r from old new bs fits read many is = record {
 
 -- ---- those of one more sandbox
 
-module _ (from m0 m1 m2 : Bytes) (s : Seat) (first : CopiesRegion s.bounds.code from m0 m1) (second : CopiesRegion s.bounds.data from m1 m2) where
-  code_copied : (a : ℕ) → Holds s.bounds.code a → byte_at m2 a ≡ byte_at from a
-  code_copied a h = ⊎_elim
+pub seat_copied : (s : Seat) (from m0 m1 m2 : Bytes) → CopiesRegion s.bounds.code from m0 m1 → CopiesRegion s.bounds.data from m1 m2 → CopiesSeat s from m0 m2
+seat_copied s from m0 m1 m2 first second = record {
+  inside = λ a h. ⊎_elim
       (λ (d : Holds s.bounds.data a). second.inside a d)
-      (λ (no : Holds s.bounds.data a → ⊥). second.outside a no ∙ first.inside a h)
-      (in_or_out s.bounds.data a)
-
-  own_copied : (a : ℕ) → Holds s.bounds.code a ⊎ Holds s.bounds.data a → byte_at m2 a ≡ byte_at from a
-  own_copied a h = ⊎_elim (λ (c : Holds s.bounds.code a). code_copied a c) (λ (d : Holds s.bounds.data a). second.inside a d) h
-
-  still_same : (a : ℕ) → byte_at m0 a ≡ byte_at from a → byte_at m2 a ≡ byte_at from a
-  still_same a e = ⊎_elim
-      (λ (d : Holds s.bounds.data a). second.inside a d)
-      (λ (no_data : Holds s.bounds.data a → ⊥). ⊎_elim
-      (λ (c : Holds s.bounds.code a). code_copied a c)
-      (λ (no_code : Holds s.bounds.code a → ⊥). second.outside a no_data ∙ first.outside a no_code ∙ e)
-      (in_or_out s.bounds.code a))
-      (in_or_out s.bounds.data a)
-
-  no_more : (a : ℕ) → byte_at m0 a ≡ None → (byte_at m2 a ≡ None) ⊎ (byte_at m2 a ≡ byte_at from a)
-  no_more a e = ⊎_elim
-      (λ (d : Holds s.bounds.data a). inr (second.inside a d))
-      (λ (no_data : Holds s.bounds.data a → ⊥). ⊎_elim
-      (λ (c : Holds s.bounds.code a). inr (code_copied a c))
-      (λ (no_code : Holds s.bounds.code a → ⊥). inl (second.outside a no_data ∙ first.outside a no_code ∙ e))
-      (in_or_out s.bounds.code a))
-      (in_or_out s.bounds.data a)
-
-  pub next_copied : (seats : List Seat) (n : ℕ) → slice_get seats n ≡ Some s → HasCopies from seats n m0 → HasCopies from seats (n + 1) m2
-  next_copied seats n at before = record {
-    none_else = λ a. ⊎_elim
-        (λ (e : byte_at m0 a ≡ None). no_more a e)
-        (λ (e : byte_at m0 a ≡ byte_at from a). inr (still_same a e))
-        (before.none_else a);
-    there = λ i t below e a h. ⊎_elim
-        (λ (same : i ≡ n).
-        let one : t ≡ s = same_Some t s (sym e ∙ ap (slice_get seats) same ∙ at) in
-        own_copied a (subst (λ (x : Seat). Holds x.bounds.code a ⊎ Holds x.bounds.data a) one h))
-        (λ (other : i ≡ n → ⊥). still_same a (before.there i t (omega (arith, below, other)) e a h))
-        (cases_eq i n);
-  }
-
-pub none_copied : (from : Bytes) (seats : List Seat) (m : Bytes) → m ≡ empty → HasCopies from seats 0 m
-none_copied from seats m is = record {
-  none_else = λ a. inl (ap (λ (x : Bytes). byte_at x a) is ∙ get-empty nat_cmp a);
-  there = λ i s below. absurd (omega (arith, below));
+      (λ (no : Holds s.bounds.data a → ⊥). second.outside a no ∙ ⊎_elim (λ (c : Holds s.bounds.code a). first.inside a c) (λ (d : Holds s.bounds.data a). absurd (no d)) h)
+      (in_or_out s.bounds.data a);
+  outside = λ a out. second.outside a (λ d. out (inr d)) ∙ first.outside a (λ c. out (inl c));
 }
 
-pub all_copied : (w : Sandboxes) → AreOwned w → (m : Bytes) (n : ℕ) → length w.seats ≤ n → HasCopies w.bytes w.seats n m → m ≡ w.bytes
-all_copied w owned m n all copies = same_bytes m w.bytes (λ a. by a (byte_at w.bytes a) refl)
+own_or_not : (s : Seat) (a : ℕ) → (Holds s.bounds.code a ⊎ Holds s.bounds.data a) ⊎ (Holds s.bounds.code a ⊎ Holds s.bounds.data a → ⊥)
+own_or_not s a = ⊎_elim
+    (λ (c : Holds s.bounds.code a). inl (inl c))
+    (λ (no_code : Holds s.bounds.code a → ⊥). ⊎_elim
+    (λ (d : Holds s.bounds.data a). inl (inr d))
+    (λ (no_data : Holds s.bounds.data a → ⊥). inr (λ h. ⊎_elim no_code no_data h))
+    (in_or_out s.bounds.data a))
+    (in_or_out s.bounds.code a)
+
+module _ (from m0 m2 : Bytes) (seats : List Seat) (n but : ℕ) (before : HasCopies from seats n but m0) where
+  pub next_copied : (s : Seat) → CopiesSeat s from m0 m2 → (n ≡ but → ⊥) → slice_get seats n ≡ Some s → HasCopies from seats (n + 1) but m2
+  next_copied s copies other at = record {
+    there = λ i t below ne e a h. ⊎_elim
+        (λ (same : i ≡ n).
+        let one : t ≡ s = same_Some t s (sym e ∙ ap (slice_get seats) same ∙ at) in
+        copies.inside a (subst (λ (x : Seat). Holds x.bounds.code a ⊎ Holds x.bounds.data a) one h))
+        (λ (differs : i ≡ n → ⊥).
+        let kept : byte_at m0 a ≡ byte_at from a = before.there i t (omega (arith, below, differs)) ne e a h in
+        ⊎_elim
+        (λ (own : Holds s.bounds.code a ⊎ Holds s.bounds.data a). copies.inside a own)
+        (λ (out : Holds s.bounds.code a ⊎ Holds s.bounds.data a → ⊥). copies.outside a out ∙ kept)
+        (own_or_not s a))
+        (cases_eq i n);
+    none_left = λ a none. copies.outside a (λ h. none n s (omega arith) other at h) ∙ before.none_left a (λ i t below ne e h. none i t (omega (arith, below)) ne e h);
+  }
+
+  pub left_out : n ≡ but → HasCopies from seats (n + 1) but m0
+  left_out same = record {
+    there = λ i t below ne e a h. before.there i t (omega (arith, below, ne, same)) ne e a h;
+    none_left = λ a none. before.none_left a (λ i t below ne e h. none i t (omega (arith, below)) ne e h);
+  }
+
+pub none_copied : (from : Bytes) (seats : List Seat) (but : ℕ) (m : Bytes) → m ≡ empty → HasCopies from seats 0 but m
+none_copied from seats but m is = record {
+  there = λ i s below. absurd (omega (arith, below));
+  none_left = λ a none. ap (λ (x : Bytes). byte_at x a) is ∙ get-empty nat_cmp a;
+}
+
+-- ---- the bytes of some sandboxes
+
+own_here : (s : Seat) (a : ℕ) → Holds s.bounds.code a ⊎ Holds s.bounds.data a → is_own s.bounds a ≡ true
+own_here s a h = ⊎_elim (λ (c : Holds s.bounds.code a). own_code s.bounds a c) (λ (d : Holds s.bounds.data a). own_data s.bounds a d) h
+
+pub own_of : (seats : List Seat) (a j : ℕ) (s : Seat) → slice_get seats j ≡ Some s → Holds s.bounds.code a ⊎ Holds s.bounds.data a → is_own_of seats a ≡ true
+own_of [] a j s e h = absurd (cc)
+own_of (x ∷ seats) a zero s e h =
+    let same : x ≡ s = same_Some x s e in
+    or_left (is_own x.bounds a) (is_own_of seats a) (subst (λ (y : Seat). is_own y.bounds a ≡ true) (sym same) (own_here s a h))
+own_of (x ∷ seats) a (suc j) s e h = or_right (is_own x.bounds a) (is_own_of seats a) (own_of seats a j s e h)
+
+-- whose code or data the address is in
+abbrev pub IsOwnOf : List Seat → ℕ → Type 0
+IsOwnOf seats a = (j : ℕ) × (s : Seat) × (slice_get seats j ≡ Some s) × (Holds s.bounds.code a ⊎ Holds s.bounds.data a)
+
+pub whose : (seats : List Seat) (a : ℕ) → is_own_of seats a ≡ true → IsOwnOf seats a
+whose [] a e = absurd (cc)
+whose (x ∷ seats) a e = ⊎_elim
+    (λ (h : is_own x.bounds a ≡ true). (0, x, refl, own_is x.bounds a h))
+    (λ (h : is_own_of seats a ≡ true). let y = whose seats a h in (suc y.0, y.1, y.2, y.3))
+    (or_cases (is_own x.bounds a) (is_own_of seats a) e)
+
+pub others_copied : (from : Bytes) (seats : List Seat) (n but : ℕ) (m : Bytes) → length seats ≤ n → HasCopies from seats n but m → m ≡ bytes_of (remove seats but) from
+others_copied from seats n but m all copies = same_bytes m (bytes_of (remove seats but) from) (λ a. by a (is_own_of (remove seats but) a) refl)
   where
-    by : (a : ℕ) (o : Option ℕ) → byte_at w.bytes a ≡ o → byte_at m a ≡ byte_at w.bytes a
-    by a None e = ⊎_elim (λ (none : byte_at m a ≡ None). none ∙ sym e) (λ (same : byte_at m a ≡ byte_at w.bytes a). same) (copies.none_else a)
+    by : (a : ℕ) (b : Bool) → is_own_of (remove seats but) a ≡ b → byte_at m a ≡ byte_at (bytes_of (remove seats but) from) a
+    by a true e =
+        let o = whose (remove seats but) a e in
+        let i = old_number but o.0 in
+        let at : slice_get seats i ≡ Some o.1 = sym (get_removed seats but o.0) ∙ o.2 in
+        let below : i < length seats = slice_get_within seats i o.1 at in
+        copies.there i o.1 (omega (arith, below, all)) (old_other but o.0) at a o.3
+        ∙ sym (get_kept from (is_own_of (remove seats but)) a ∙ ap (λ t. cond t (byte_at from a) None) e)
+    by a false e =
+        copies.none_left a (λ i s below ne at h. true_false (is_own_of (remove seats but) a) (own_of (remove seats but) a (number_without but i) s (get_rest seats but i ne ∙ at) h) e)
+        ∙ sym (get_kept from (is_own_of (remove seats but)) a ∙ ap (λ t. cond t (byte_at from a) None) e)
+
+-- where each byte is a sandbox's own, those of all are all
+pub all_copied : (w : Sandboxes) → AreOwned w → (but : ℕ) → length w.seats ≤ but → bytes_of (remove w.seats but) w.bytes ≡ w.bytes
+all_copied w owned but past = same_bytes (bytes_of (remove w.seats but) w.bytes) w.bytes (λ a. get_kept w.bytes (is_own_of (remove w.seats but)) a ∙ by a (byte_at w.bytes a) refl)
+  where
+    by : (a : ℕ) (o : Option ℕ) → byte_at w.bytes a ≡ o → cond (is_own_of (remove w.seats but) a) (byte_at w.bytes a) None ≡ byte_at w.bytes a
+    by a None e = elim (is_own_of (remove w.seats but) a) as (λ t. cond t (byte_at w.bytes a) None ≡ byte_at w.bytes a) [
+      | true ↦ refl
+      | false ↦ sym e
+    ]
     by a (Some b) e =
         let o = owned a (ap is_some e) in
         let below : o.0 < length w.seats = slice_get_within w.seats o.0 o.1 o.2 in
-        copies.there o.0 o.1 (omega (arith, below, all)) o.2 a o.3
+        let other : o.0 ≡ but → ⊥ = omega (arith, below, past) in
+        ap (λ t. cond t (byte_at w.bytes a) None) (own_of (remove w.seats but) a (number_without but o.0) o.1 (get_rest w.seats but o.0 other ∙ o.2) o.3)
 
 -- ---- the regions of a safe sandbox
 

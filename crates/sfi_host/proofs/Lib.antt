@@ -29,6 +29,8 @@ pub mod Stops
 pub mod Changing
 pub mod Adding
 pub mod Copied
+pub mod Removed
+pub mod Removing
 pub mod Meetings
 pub mod Entries
 pub mod Stopping

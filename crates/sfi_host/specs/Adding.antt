@@ -1,9 +1,15 @@
--- A world gets the sandboxes of another accepted image, between plans.
-use Rattle.std.specs.Prelude.{◌≡◌, ◌⊎◌, ℕ, ◌+◌, ◌^◌, ◌<◌, List, ◌++◌, length, map, Some, slice_get}
+-- A world gets the sandboxes of another accepted image, or loses a sandbox, between plans.
+use Rattle.std.specs.Prelude.{◌≡◌, ◌≢◌, ◌⊎◌, ◌||◌, ℕ, ◌+◌, ◌-◌, ◌^◌, ◌<◌, nat_lt, cond, Bool, false, List, [], ◌∷◌, ◌++◌, length, map, Option, None, Some, slice_get}
+use Rattle.std.specs.FinMap.{retain_keys}
+use Rattle.std.specs.List.{remove}
+use Rattle.rv_mem.specs.Bytes.{Bytes}
 use Rattle.sfi_image.specs.Spelling.{Part, Holds, with_guards}
+use Rattle.sfi_runs.specs.Runs.{IsChange}
 use Rattle.sfi_host.specs.Loading.{first_seat, with_parts}
-use Rattle.sfi_host.specs.Slots.{Bounds, bounds_of}
-use Rattle.sfi_host.specs.Worlds.{Seat, Sandboxes, slots_of}
+use Rattle.sfi_host.specs.Slots.{Bounds, bounds_of, is_own}
+use Rattle.sfi_host.specs.Worlds.{Seat, Sandboxes, slots_of, state_in}
+
+-- ==== A world gets the sandboxes of another image.
 
 -- the address lies in its code, its data or a guard zone of these
 abbrev pub TakesUp : Bounds → ℕ → Type 0
@@ -36,3 +42,41 @@ with_image w ps =
 abbrev pub EarlierAreSame : Sandboxes → Sandboxes → Type 0
 EarlierAreSame w n =
     (i : ℕ) → i < length w.seats → slice_get (slots_of n) i ≡ slice_get (slots_of w) i
+
+-- ==== A world loses a sandbox.
+
+-- the address lies in the code or in the data of one of these
+abbrev pub is_own_of : List Seat → ℕ → Bool
+is_own_of [] a = false
+is_own_of (s ∷ seats) a = is_own s.bounds a || is_own_of seats a
+
+-- the bytes of a memory that are the code and data of these
+abbrev pub bytes_of : List Seat → Bytes → Bytes
+bytes_of seats m = retain_keys m (is_own_of seats)
+
+-- the world without the sandbox of that number: each later one has a number less by one then, and of
+-- the bytes those of the others are left; the same where there is no such sandbox
+abbrev pub without_of : Sandboxes → ℕ → Option Seat → Sandboxes
+without_of w i None = w
+without_of w i (Some s) =
+    record { bytes = bytes_of (remove w.seats i) w.bytes; seats = remove w.seats i }
+
+abbrev pub without : Sandboxes → ℕ → Sandboxes
+without w i = without_of w i (slice_get w.seats i)
+
+-- the number of sandbox j once sandbox i, another one, is gone
+abbrev pub number_without : ℕ → ℕ → ℕ
+number_without i j = cond (nat_lt j i) j (j - 1)
+
+-- each sandbox but that of number i is what it was, at its number then
+abbrev pub RestIsSame : Sandboxes → ℕ → Sandboxes → Type 0
+RestIsSame w i n =
+    (j : ℕ) → j ≢ i → slice_get (slots_of n) (number_without i j) ≡ slice_get (slots_of w) j
+
+-- each sandbox but that of number i is still there, and to each this is a change by others: its pc,
+-- registers, code and empty guard zones are what they were
+abbrev pub AreChangesToRest : Sandboxes → ℕ → Sandboxes → Type 0
+AreChangesToRest w i n =
+    (j : ℕ) (s : Seat) (p : Part) → j ≢ i → slice_get w.seats j ≡ Some s → s.bounds ≡ bounds_of p
+    → (t : Seat) × (slice_get n.seats (number_without i j) ≡ Some t)
+    × IsChange p (state_in w.bytes s) (state_in n.bytes t)

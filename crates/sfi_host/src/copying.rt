@@ -1,13 +1,13 @@
 //! Sandboxes' bytes, copied to another memory.
 ghost use Rattle.std.specs.Prelude.{◌≡◌, ◌+◌, ◌^◌, ◌≤◌, IfOk, OnOk, Some};
 ghost use Rattle.std.specs.FinMap.{empty};
-ghost use Rattle.std.specs.List.{range_with_len};
+ghost use Rattle.std.specs.List.{range_with_len, remove};
 ghost use Rattle.rv_mem.specs.Bytes.{bytes_at};
+ghost use Rattle.sfi_host.specs.Adding.{bytes_of};
 ghost use Rattle.sfi_host.specs.Owning.{AreOwned};
 ghost use Rattle.sfi_host.specs.Slots.{span_of, bytes_in, IsWhole};
-ghost use Rattle.sfi_host.specs.Worlds.{world_of};
-ghost use Rattle.sfi_host.specs.Worlds.{IsSafeWorld};
-ghost use Rattle.sfi_host.specs.private.Copying.{CopiesRegion};
+ghost use Rattle.sfi_host.specs.Worlds.{seat_of, seats_of, world_of, IsSafeSeat, IsSafeWorld};
+ghost use Rattle.sfi_host.specs.private.Copying.{CopiesRegion, CopiesSeat};
 
 use crate::region::Region;
 use crate::sandbox::Sandbox;
@@ -47,6 +47,44 @@ fn copy_region<M: Memory>(
     }
 }
 
+// Adds a sandbox's code and data, as another memory has them.
+fn copy_sandbox<M: Memory>(
+    alloc: Global,
+    sandbox: &Sandbox,
+    from: &M,
+    to: &mut M,
+) -> Result<(), AllocError>
+    requires { IsSafeSeat (M.bytes from.now) (seat_of sandbox.now) }
+    ensures { OnOk result (CopiesSeat (seat_of sandbox.now) (M.bytes from.now) (M.bytes to.old)
+        (M.bytes to.new)) }
+{
+    copy_region(alloc, sandbox.code, from, to)?;
+    copy_region(alloc, sandbox.data, from, to)
+}
+
+/// Copies the code and data of all sandboxes of a world but that of one number to an empty memory, which
+/// has these bytes and no others then.
+pub(crate) fn copy_others<M: Memory>(
+    alloc: Global,
+    sandboxes: &[Sandbox],
+    but: usize,
+    from: &M,
+    to: &mut M,
+) -> Result<(), AllocError>
+    requires safe { IsSafeWorld (world_of (M.bytes from.now) sandboxes.now) }
+    requires empty { M.bytes to.old ≡ empty }
+    ensures { OnOk result (M.bytes to.new
+        ≡ bytes_of (remove (seats_of sandboxes.now) but) (M.bytes from.now)) }
+{
+    for place in 0..sandboxes.len() {
+        if place == but {
+            continue;
+        }
+        copy_sandbox(alloc, &sandboxes[place], from, to)?;
+    }
+    Ok(())
+}
+
 /// Copies the code and data of all sandboxes of a world to an empty memory, which has the world's bytes
 /// then.
 pub(crate) fn copy_all<M: Memory>(
@@ -60,9 +98,6 @@ pub(crate) fn copy_all<M: Memory>(
     requires empty { M.bytes to.old ≡ empty }
     ensures { OnOk result (M.bytes to.new ≡ M.bytes from.now) }
 {
-    for sandbox in sandboxes {
-        copy_region(alloc, sandbox.code, from, to)?;
-        copy_region(alloc, sandbox.data, from, to)?;
-    }
+    copy_others(alloc, sandboxes, sandboxes.len(), from, to)?;
     Ok(())
 }

@@ -49,4 +49,4 @@ pub use setting::registers_of;
 pub use status::Status;
 pub use turn::{RunAnswer, Turn};
 pub use waiting::Later;
-pub use world::{AddError, World};
+pub use world::{AddError, RemoveError, World};

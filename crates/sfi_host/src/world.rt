@@ -24,6 +24,7 @@ ghost use Rattle.sfi_host.specs.Worlds.{slots_of, status_at, steps_at, data_byte
 mod adding;
 mod calling_back;
 mod debugging;
+mod removing;
 mod resetting;
 mod setting;
 
@@ -38,6 +39,7 @@ use crate::status::Status;
 use crate::turn::{RunAnswer, StepResult, Turn, run_quietly, run_turn};
 use crate::waiting::Later;
 pub use adding::AddError;
+pub use removing::RemoveError;
 use rv_mem::Memory;
 use rv_step::Cpu;
 use sfi_check::Accepted;
