@@ -59,12 +59,19 @@ MISTAKES = {  # what the header says, and what it says then
     "a jump reads what it has written": ("L##at: pc_ = (r##rs1 + (sfi_u32)(number)) & ~1u; W(rd, 0x##at##u + size)",
                                          "L##at: W(rd, 0x##at##u + size) pc_ = (r##rs1 + (sfi_u32)(number)) & ~1u;"),
     "auipc forgets the pc": ("W(rd, 0x##at##u + ((sfi_u32)(number) << 12))", "W(rd, (sfi_u32)(number) << 12)"),
-    "a branch isn't counted": ("#define BRANCH_FAR(at, size, kind, rs1, rs2, to) L##at: left_--;", "#define BRANCH_FAR(at, size, kind, rs1, rs2, to) L##at:"),
-    "an ecall is counted": ("#define ECALL(at, size) L##at: SFI_SLOWLY(at)", "#define ECALL(at, size) L##at: left_--; SFI_SLOWLY(at)"),
+    "a branch isn't counted": ("#define BRANCH_FAR(at, size, kind, rs1, rs2, to) L##at: SFI_DONE(at, size)", "#define BRANCH_FAR(at, size, kind, rs1, rs2, to) L##at:"),
+    "an ecall is counted": ("#define ECALL(at, size) L##at: SFI_SLOWLY(at)", "#define ECALL(at, size) L##at: sum_--; SFI_SLOWLY(at)"),
+    "two short lines are one step": ("sum_ -= 1 - (SFI_QUARTER(0x##at##u + size) - SFI_QUARTER(0x##at##u));", ""),
+    "a jump takes the steps between with it": ("#define SFI_MOVE(from, to) sum_ += (uint64_t)SFI_QUARTER(to) - SFI_QUARTER(from);", "#define SFI_MOVE(from, to)"),
+    "a jump is from its own line": ("{ SFI_MOVE(0x##at##u + size, 0x##to##u) pc_", "{ SFI_MOVE(0x##at##u, 0x##to##u) pc_"),
+    "a mask's sum carries": ("(((a) & ~(b)) + (b))", "((a) + (b))"),
+    "a step within a unit is the unit's": ("(place) / unit_ | (place) << (unit_ == 4 ? 30 : 28)", "(place) / unit_"),
+    "a function takes another's steps for its own": ("(place) / unit_ | (place) << (unit_ == 4 ? 30 : 28)", "(place) % SFI_PART / unit_ | (place) << (unit_ == 4 ? 30 : 28)"),
+    "the sum has 32 bits": ("uint64_t sum_ = (uint64_t)h->left", "sfi_u32 sum_ = h->left"),
     "x0 is written": ("((k) == 0 || ((k) >= 24", "(((k) >= 24"),
     "a step writes x0": ("if (writes)", "if (1)"),
     "a turn does a step too many": ("enum { SFI_MOST = SFI_HEAD / 2 + 1 };", "enum { SFI_MOST = 8 };"),
-    "a head lets all go on": ("#define HEAD(at) if (SFI_RARE(left_ < SFI_MOST)) SFI_SLOWLY(at)", "#define HEAD(at)"),
+    "a head lets all go on": ("#define HEAD(at) if (SFI_IS_SHORT(0x##at##u)) SFI_SLOWLY(at)", "#define HEAD(at)"),
     "a jump back isn't looked at": ("(0x##to##u <= 0x##at##u || ", "("),
     "a function's end is forgotten": ("#define END(at) pc_ = 0x##at##u; goto out;", "#define END(at) goto out;"),
     "x25 is that of bundles": ("r25 = code_size_ - unit_,", "r25 = code_size_ - 16u,"),
@@ -225,6 +232,20 @@ def vectors():
     return made, tried
 
 
+def landings():
+    """Indirect jumps by x11 and what the function does after them, in the same shape: to a short line that adds 1 to x10, behind
+    it, to a line that is no entry, into another function, and out of the code."""
+    made = [Line(random.Random(0), kind, CODE + PLACE * number, [CODE + 4], 2 * (2 - number)) for number, kind in enumerate(("jalr", "addi"))]
+    made[0].operands, made[1].operands, tried = ["0", "0", "11"], ["10", "10", "1"], []
+    for to, how, steps in ((CODE + 8, 1, 2), (CODE + 10, 1, 1), (CODE + 4, 1, 1), (CODE + lines.FUNCTION_MOST + 8, 0, 1), (0, 0, 1), (2, 1, 1)):
+        x = [0] * 32
+        x[24:28], x[11] = part().reserved(), to
+        after = x[:10] + [steps - 1] + x[11:]
+        tried.append((made[0], struct.pack(GIVEN, FUNCTION_WAY, CODE, 99, *x, bytes(DATA_SIZE)),
+                      (how, 0, to + 2 * (steps - 1), 99 - steps, *after, bytes(DATA_SIZE))))
+    return made, tried
+
+
 def compiled(folder, compiler, header, text):
     """The program of a text by a header; None where that can't be compiled."""
     for name, content in (("sfi_native.h", header), ("image.inc", text)):
@@ -295,8 +316,7 @@ def main():
     given = parser.parse_args()
     pick = random.Random(given.seed)
     made, run = made_lines(pick, given.lines), made_run(pick, 600)
-    known, known_cases = vectors()
-    tally = Tally([(text_of(made), list(cases(pick, made, given.states))), (text_of(known), known_cases),
+    tally = Tally([(text_of(made), list(cases(pick, made, given.states))), *((text_of(it), tried) for it, tried in (vectors(), landings())),
                    (text_of(run, Line.text), list(turns(pick, run, 100 * given.states)))])
     with open(HEADER, encoding="ascii") as file:
         header = file.read()

@@ -33,7 +33,7 @@ typedef int32_t sfi_i32;
 #define SFI_add(a, b) ((a) + (b))
 #define SFI_sub(a, b) ((a) - (b))
 #define SFI_xor(a, b) ((a) ^ (b))
-#define SFI_or(a, b) ((a) | (b))
+#define SFI_or(a, b) (((a) & ~(b)) + (b))
 #define SFI_and(a, b) ((a) & (b))
 #define SFI_sll(a, b) ((a) << ((b) & 31u))
 #define SFI_srl(a, b) ((a) >> ((b) & 31u))
@@ -151,16 +151,16 @@ static int sfi_turn(const struct sfi_sandbox *s, struct sfi_hart *h, sfi_u32 *at
     }
     return SFI_NEXT;
 }
-#define SFI_REGISTERS(X) X(8) X(9) X(10) X(11) X(12) X(13) X(14) X(15) X(31)
+#define SFI_REGISTERS(X) X(3) X(8) X(10) X(11) X(12) X(13) X(14) X(15) X(29) X(31)
 #define SFI_GET(k) r##k = h->x[k],
 #define SFI_PUT(k) h->x[k] = r##k;
 #define r1 h->x[1]
 #define r2 h->x[2]
-#define r3 h->x[3]
 #define r4 h->x[4]
 #define r5 h->x[5]
 #define r6 h->x[6]
 #define r7 h->x[7]
+#define r9 h->x[9]
 #define r16 h->x[16]
 #define r17 h->x[17]
 #define r18 h->x[18]
@@ -170,7 +170,6 @@ static int sfi_turn(const struct sfi_sandbox *s, struct sfi_hart *h, sfi_u32 *at
 #define r22 h->x[22]
 #define r23 h->x[23]
 #define r28 h->x[28]
-#define r29 h->x[29]
 #define r30 h->x[30]
 #define SFI_IS_FIXED(k) ((k) == 0 || ((k) >= 24 && (k) <= 27))
 #define W(k, value) r##k = SFI_IS_FIXED(k) ? r##k : (value);
@@ -278,43 +277,55 @@ enum { SFI_SANDBOXES = sizeof sfi_sandboxes / sizeof sfi_sandboxes[0] };
 #undef EBREAK
 #define SANDBOX(s, unit, code, code_size, data, data_size, start, gates, init) enum { sfi_unit##s = unit }; static const sfi_u32 \
     sfi_code##s = 0x##code##u, sfi_code_size##s = code_size, sfi_data##s = 0x##data##u, sfi_data_size##s = data_size;
+#define SFI_QUARTER(place) ((sfi_u32)((place) - part_) / 4)
+#define SFI_TURNED(place) ((place) / unit_ | (place) << (unit_ == 4 ? 30 : 28))
 #define FUNCTION(s, first) static int sfi_f##s##_##first(struct sfi_hart *restrict const h) { enum { unit_ = sfi_unit##s }; \
     const sfi_u32 part_ = 0x##first##u / SFI_PART * SFI_PART, code_ = sfi_code##s, code_size_ = sfi_code_size##s, \
         data_ = sfi_data##s, data_size_ = sfi_data_size##s; \
-    sfi_u32 r0 = 0, r24 = code_, r25 = code_size_ - unit_, r26 = data_, r27 = data_size_ - 1, \
-        SFI_REGISTERS(SFI_GET) pc_ = h->pc, left_ = h->left; uint8_t *const mem_ = h->data; int how_ = 0; \
+    sfi_u32 r0 = 0, r24 = code_, r25 = code_size_ - unit_, r26 = data_, r27 = data_size_ - 1, SFI_REGISTERS(SFI_GET) pc_ = h->pc; \
+    uint64_t sum_ = (uint64_t)h->left + SFI_QUARTER(pc_); uint8_t *const mem_ = h->data; int how_ = 0; \
     (void)r0; (void)r24; (void)r25; (void)r26; (void)r27; (void)mem_; \
-    enter: if (pc_ % unit_) goto slow; if ((pc_ ^ part_) >= SFI_PART) goto out; \
-    switch (pc_ % SFI_PART / unit_) { default: goto slow;
-#define SFI_CLOSE } slow: how_ = 1; out: SFI_REGISTERS(SFI_PUT) h->pc = pc_; h->left = left_; return how_; }
+    enter: switch (SFI_TURNED(pc_ - part_)) { default: if (pc_ % unit_ || pc_ - part_ < SFI_PART) goto slow; goto out;
+#define SFI_CLOSE } slow: how_ = 1; out: SFI_REGISTERS(SFI_PUT) h->pc = pc_; h->left = (sfi_u32)(sum_ - SFI_QUARTER(pc_)); return how_; }
 #define END(at) pc_ = 0x##at##u; goto out; SFI_CLOSE
 #define LAST pc_ = code_ + code_size_; goto out; SFI_CLOSE
 #define ENTRY(at) case 0x##at##u % SFI_PART / unit_:
 #define SFI_GO goto enter;
 #define SFI_SLOWLY(at) { pc_ = 0x##at##u; goto slow; }
-#define HEAD(at) if (SFI_RARE(left_ < SFI_MOST)) SFI_SLOWLY(at)
-#define SFI_JUMP(at, to) { if ((0x##to##u <= 0x##at##u || (0x##to##u ^ 0x##at##u) >= SFI_HEAD) && SFI_RARE(left_ < SFI_MOST)) SFI_SLOWLY(to) goto L##to; }
-#define SFI_LEAVE(to) { pc_ = 0x##to##u; goto out; }
-#define OP(at, size, kind, rd, rs1, rs2) L##at: W(rd, SFI_##kind(r##rs1, r##rs2)) left_--;
-#define OPI(at, size, kind, rd, rs1, number) L##at: W(rd, SFI_##kind(r##rs1, (sfi_u32)(number))) left_--;
+#define SFI_IS_SHORT(place) SFI_RARE(sum_ < SFI_QUARTER(place) + SFI_MOST)
+#define SFI_DONE(at, size) sum_ -= 1 - (SFI_QUARTER(0x##at##u + size) - SFI_QUARTER(0x##at##u));
+#define SFI_MOVE(from, to) sum_ += (uint64_t)SFI_QUARTER(to) - SFI_QUARTER(from);
+#define HEAD(at) if (SFI_IS_SHORT(0x##at##u)) SFI_SLOWLY(at)
+#define SFI_JUMP(at, size, to) { SFI_MOVE(0x##at##u + size, 0x##to##u) \
+    if ((0x##to##u <= 0x##at##u || (0x##to##u ^ 0x##at##u) >= SFI_HEAD) && SFI_IS_SHORT(0x##to##u)) SFI_SLOWLY(to) goto L##to; }
+#define SFI_LEAVE(at, size, to) { SFI_MOVE(0x##at##u + size, 0x##to##u) pc_ = 0x##to##u; goto out; }
+#define OP(at, size, kind, rd, rs1, rs2) L##at: W(rd, SFI_##kind(r##rs1, r##rs2)) SFI_DONE(at, size)
+#define OPI(at, size, kind, rd, rs1, number) L##at: W(rd, SFI_##kind(r##rs1, (sfi_u32)(number))) SFI_DONE(at, size)
 #define SFI_PLACE(at, rs1, number, type) const sfi_u32 e_ = r##rs1 + (sfi_u32)(number) - data_; \
     if (SFI_RARE(e_ > data_size_ - sizeof(type))) SFI_SLOWLY(at)
 #define LOAD(at, size, kind, rd, rs1, number) L##at: { sfi_##kind v_; SFI_PLACE(at, rs1, number, v_) \
-    memcpy(&v_, mem_ + e_, sizeof v_); W(rd, (sfi_u32)(sfi_i32)v_) left_--; }
+    memcpy(&v_, mem_ + e_, sizeof v_); W(rd, (sfi_u32)(sfi_i32)v_) SFI_DONE(at, size) }
 #define STORE(at, size, kind, rs1, rs2, number) L##at: { const sfi_##kind v_ = (sfi_##kind)r##rs2; SFI_PLACE(at, rs1, number, v_) \
-    memcpy(mem_ + e_, &v_, sizeof v_); left_--; }
-#define BRANCH(at, size, kind, rs1, rs2, to) L##at: left_--; if (SFI_##kind(r##rs1, r##rs2)) SFI_JUMP(at, to)
-#define BRANCH_FAR(at, size, kind, rs1, rs2, to) L##at: left_--; if (SFI_##kind(r##rs1, r##rs2)) SFI_LEAVE(to)
-#define JAL(at, size, rd, to) L##at: W(rd, 0x##at##u + size) left_--; SFI_JUMP(at, to)
-#define JAL_FAR(at, size, rd, to) L##at: W(rd, 0x##at##u + size) left_--; SFI_LEAVE(to)
-#define JALR(at, size, rd, rs1, number) L##at: pc_ = (r##rs1 + (sfi_u32)(number)) & ~1u; W(rd, 0x##at##u + size) left_--; \
-    if (SFI_RARE(left_ < SFI_MOST)) goto slow; else SFI_GO
-#define LUI(at, size, rd, number) L##at: W(rd, (sfi_u32)(number) << 12) left_--;
-#define AUIPC(at, size, rd, number) L##at: W(rd, 0x##at##u + ((sfi_u32)(number) << 12)) left_--;
-#define FENCE(at, size) L##at: left_--;
+    memcpy(mem_ + e_, &v_, sizeof v_); SFI_DONE(at, size) }
+#define BRANCH(at, size, kind, rs1, rs2, to) L##at: SFI_DONE(at, size) if (SFI_##kind(r##rs1, r##rs2)) SFI_JUMP(at, size, to)
+#define BRANCH_FAR(at, size, kind, rs1, rs2, to) L##at: SFI_DONE(at, size) if (SFI_##kind(r##rs1, r##rs2)) SFI_LEAVE(at, size, to)
+#define JAL(at, size, rd, to) L##at: W(rd, 0x##at##u + size) SFI_DONE(at, size) SFI_JUMP(at, size, to)
+#define JAL_FAR(at, size, rd, to) L##at: W(rd, 0x##at##u + size) SFI_DONE(at, size) SFI_LEAVE(at, size, to)
+#define JALR(at, size, rd, rs1, number) L##at: pc_ = (r##rs1 + (sfi_u32)(number)) & ~1u; W(rd, 0x##at##u + size) SFI_DONE(at, size) { \
+    const int is_short_ = SFI_IS_SHORT(0x##at##u + size); SFI_MOVE(0x##at##u + size, pc_) if (is_short_) goto slow; } SFI_GO
+#define LUI(at, size, rd, number) L##at: W(rd, (sfi_u32)(number) << 12) SFI_DONE(at, size)
+#define AUIPC(at, size, rd, number) L##at: W(rd, 0x##at##u + ((sfi_u32)(number) << 12)) SFI_DONE(at, size)
+#define FENCE(at, size) L##at: SFI_DONE(at, size)
 #define ECALL(at, size) L##at: SFI_SLOWLY(at)
 #define EBREAK(at, size) L##at: SFI_SLOWLY(at)
+#if defined(__GNUC__) && !defined(__clang__)
+#pragma GCC push_options
+#pragma GCC optimize("no-ivopts")
 #include SFI_TEXT
+#pragma GCC pop_options
+#else
+#include SFI_TEXT
+#endif
 #endif
 enum { MAILS = 16, PUT_MOST = 65536, OUTPUT_MOST = 1048576 };
 enum { EXIT, PUT, GET, YIELD, POST, TAKE };
