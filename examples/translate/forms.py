@@ -64,7 +64,7 @@ MISTAKES = {  # what the header says, and what it says then
     "two short lines are one step": ("sum_ -= 1 - (SFI_QUARTER(0x##at##u + size) - SFI_QUARTER(0x##at##u));", ""),
     "a jump takes the steps between with it": ("#define SFI_MOVE(from, to) sum_ += (uint64_t)SFI_QUARTER(to) - SFI_QUARTER(from);", "#define SFI_MOVE(from, to)"),
     "a jump is from its own line": ("{ SFI_MOVE(0x##at##u + size, 0x##to##u) pc_", "{ SFI_MOVE(0x##at##u, 0x##to##u) pc_"),
-    "a mask's sum carries": ("(((a) & ~(b)) + (b))", "((a) + (b))"),
+    "a mask's sum carries": ("(r##rs1 & ~r##rs2) + r##rs2", "r##rs1 + r##rs2"),
     "a step within a unit is the unit's": ("(place) / unit_ | (place) << (unit_ == 4 ? 30 : 28)", "(place) / unit_"),
     "a function takes another's steps for its own": ("(place) / unit_ | (place) << (unit_ == 4 ? 30 : 28)", "(place) % SFI_PART / unit_ | (place) << (unit_ == 4 ? 30 : 28)"),
     "the sum has 32 bits": ("uint64_t sum_ = (uint64_t)h->left", "sfi_u32 sum_ = h->left"),
@@ -86,6 +86,8 @@ class Line:
         self.at, self.kind, self.size = at, kind, size or (4 if kind == "ecall" else pick.choice([2, 4]))
         if kind in lines.LOADS + lines.STORES:
             rs1 = pick.choice([rs1, 26, 31])
+        elif kind == "or":
+            rs2 = pick.choice([rs2, 26, 27])
         elif pick.random() < 0.3:
             rd = rs1 if rs1 in FREE else rd
         if kind in lines.BRANCHES or kind == "jal":

@@ -33,7 +33,7 @@ typedef int32_t sfi_i32;
 #define SFI_add(a, b) ((a) + (b))
 #define SFI_sub(a, b) ((a) - (b))
 #define SFI_xor(a, b) ((a) ^ (b))
-#define SFI_or(a, b) (((a) & ~(b)) + (b))
+#define SFI_or(a, b) ((a) | (b))
 #define SFI_and(a, b) ((a) & (b))
 #define SFI_sll(a, b) ((a) << ((b) & 31u))
 #define SFI_srl(a, b) ((a) >> ((b) & 31u))
@@ -299,7 +299,9 @@ enum { SFI_SANDBOXES = sizeof sfi_sandboxes / sizeof sfi_sandboxes[0] };
 #define SFI_JUMP(at, size, to) { SFI_MOVE(0x##at##u + size, 0x##to##u) \
     if ((0x##to##u <= 0x##at##u || (0x##to##u ^ 0x##at##u) >= SFI_HEAD) && SFI_IS_SHORT(0x##to##u)) SFI_SLOWLY(to) goto L##to; }
 #define SFI_LEAVE(at, size, to) { SFI_MOVE(0x##at##u + size, 0x##to##u) pc_ = 0x##to##u; goto out; }
-#define OP(at, size, kind, rd, rs1, rs2) L##at: W(rd, SFI_##kind(r##rs1, r##rs2)) SFI_DONE(at, size)
+#define SFI_IS_BASE(kind, rs2) (SFI_KIND_##kind == SFI_KIND_or && SFI_IS_FIXED(rs2))
+#define OP(at, size, kind, rd, rs1, rs2) \
+    L##at: W(rd, SFI_IS_BASE(kind, rs2) ? (r##rs1 & ~r##rs2) + r##rs2 : SFI_##kind(r##rs1, r##rs2)) SFI_DONE(at, size)
 #define OPI(at, size, kind, rd, rs1, number) L##at: W(rd, SFI_##kind(r##rs1, (sfi_u32)(number))) SFI_DONE(at, size)
 #define SFI_PLACE(at, rs1, number, type) const sfi_u32 e_ = r##rs1 + (sfi_u32)(number) - data_; \
     if (SFI_RARE(e_ > data_size_ - sizeof(type))) SFI_SLOWLY(at)
