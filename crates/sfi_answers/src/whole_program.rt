@@ -142,14 +142,17 @@ static int sfi_step(const struct sfi_sandbox *s, struct sfi_hart *h, sfi_u32 *at
     return SFI_NEXT;
 }
 static int sfi_turn(const struct sfi_sandbox *s, struct sfi_hart *h, sfi_u32 *at) {
-    while (h->left) {
-        if (h->left >= SFI_MOST && h->pc - s->code < s->code_size && !s->functions[h->pc / SFI_PART - s->code / SFI_PART](h))
-            continue;
+    sfi_function *const *const functions = s->functions;
+    const sfi_u32 code = s->code, code_size = s->code_size;
+    for (;;) {
+        while (h->left >= SFI_MOST && h->pc - code < code_size && !functions[h->pc / SFI_PART - code / SFI_PART](h))
+            ;
+        if (h->left == 0)
+            return SFI_NEXT;
         const int how = sfi_step(s, h, at);
         if (how != SFI_NEXT)
             return how;
     }
-    return SFI_NEXT;
 }
 #define SFI_REGISTERS(X) X(3) X(8) X(10) X(11) X(12) X(13) X(14) X(15) X(29) X(31)
 #define SFI_GET(k) r##k = h->x[k],
@@ -322,7 +325,7 @@ enum { SFI_SANDBOXES = sizeof sfi_sandboxes / sizeof sfi_sandboxes[0] };
 #define EBREAK(at, size) L##at: SFI_SLOWLY(at)
 #if defined(__GNUC__) && !defined(__clang__)
 #pragma GCC push_options
-#pragma GCC optimize("no-ivopts")
+#pragma GCC optimize("no-ivopts", "no-tree-slp-vectorize")
 #include SFI_TEXT
 #pragma GCC pop_options
 #else
