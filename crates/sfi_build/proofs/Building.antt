@@ -2,12 +2,18 @@
 use Rattle.sfi_link.proofs.Prelude.{◌≡◌, ℕ, List, [], ◌∷◌, ap, ◌∙◌, sym, subst, ◌⊎◌, inl, inr, Vec, Global, Result, Ok, Err, IfOk, IfErr, Sandbox, Placement, Place, IsLinkFault}
 use Rattle.std.specs.Prelude.{◌≢◌}
 use Rattle.std.proofs.lemmas.Result.{IfOk-weaker}
-use Rattle.sfi_text.specs.Texts.{MeansSource}
+use Rattle.sfi_text.specs.Texts.{MeansSource, MeansListing}
+use Rattle.sfi_text.specs.SoFar.{Shared}
+use Rattle.sfi_source.specs.Source.{IsSource, IsSandbox}
+use Rattle.std.proofs.lemmas.List.Elements.{recursion_from_All}
+use Rattle.sfi_build.specs.Tables.{tails_from, each_with, sandbox_with}
+use Rattle.sfi_build.proofs.Tails.{source_right}
+use Rattle.sfi_build.proofs.Fitting.{tails_fit, same_ok, same_err, ok_not_err}
 use Rattle.sfi_link.specs.Linked.{IsLinkedImage, ArePlacements, IsBuild}
 use Rattle.sfi_link.specs.Standing.{ImageRunsAs}
-use Rattle.sfi_build.specs.Texts.{IsTextBuild, IsTextMap, IsCleanImage, IsBuildFault, IsWantOfMemory, AnswersBuild, AnswersBuildFault}
+use Rattle.sfi_build.specs.Texts.{IsPlainBuild, MeansWhole, IsTextBuild, IsTextMap, IsCleanImage, IsBuildFault, IsWantOfMemory, AnswersBuild, AnswersBuildFault}
 use Rattle.sfi_build.specs.declared.build_fault.BuildFault.{BuildFault}
-use Rattle.sfi_build.specs.declared.build_fault.BuildFault.TheVariants.{Text, Rewrite, Link}
+use Rattle.sfi_build.specs.declared.build_fault.BuildFault.TheVariants.{Text, Rewrite, Link, Names}
 use Rattle.sfi_rewrite.specs.Rewriting.{IsSourceFault, AreRewritten}
 use Rattle.sfi_rewrite.specs.declared.fault.RewriteFault.{RewriteFault}
 use Rattle.sfi_text.proofs.Facts as texts
@@ -21,40 +27,91 @@ use Rattle.sfi_link.specs.declared.fault.LinkFault.TheVariants as fault
 
 -- ---- one build, one fault
 
-same_placed : (text : List ℕ) (s t : List Sandbox) (p q : List Placement) → MeansSource text s → MeansSource text t → AreRewritten s p → AreRewritten t q → p ≡ q
-same_placed text s t p q a b x y = sources.one_rewriting t p q (subst (λ u. AreRewritten u p) (texts.one_source text s t a b) x) y
+-- the fault comes before those of tables
+abbrev IsEarly : BuildFault → Type 0
+IsEarly (Names f) = ⊥
+IsEarly _ = Unit {0}
+
+same_placed : (text : List ℕ) (s t : List Sandbox) (l m : List Shared) (p q : List Placement) → MeansListing text s l → MeansListing text t m → AreRewritten s p → AreRewritten t q → p ≡ q
+same_placed text s t l m p q a b x y = sources.one_rewriting t p q (subst (λ u. AreRewritten u p) (texts.one_listing text s t l m a b).0 x) y
+
+listed_means : (text : List ℕ) (s : List Sandbox) (l : List Shared) → MeansListing text s l → MeansSource text s
+listed_means text s l (new, last, leads, begun, is, shared) = (new, last, leads, begun, is)
+
+-- the tables are the same, and the sandboxes to whose data they belong
+same_tails : (given : List Place) (text : List ℕ) (s t : List Sandbox) (l m : List Shared) (p q : List Placement) → IsPlainBuild given text s l p → IsPlainBuild given text t m q
+    → (tails_from given p 0 l s ≡ tails_from given q 0 m t) × (s ≡ t)
+same_tails given text s t l m p q a b =
+    let same = texts.one_listing text s t l m a.means b.means in
+    let placed = same_placed text s t l m p q a.means b.means a.rewritten b.rewritten in
+    ((λ i. tails_from given (placed i) 0 (same.1 i) (same.0 i)), same.0)
+
+pub one_whole : (given : List Place) (text : List ℕ) (x y : List Sandbox) → MeansWhole given text x → MeansWhole given text y → x ≡ y
+one_whole given text x y a b =
+    let same = same_tails given text a.source b.source a.shared b.shared a.placed b.placed a.plain b.plain in
+    let tails = same_ok a.tails b.tails (sym a.tails_are ∙ same.0 ∙ b.tails_are) in
+    a.whole_is ∙ (λ i. each_with sandbox_with (tails i) (same.1 i)) ∙ sym b.whole_is
+
+pub whole_right : (given : List Place) (text : List ℕ) (whole : List Sandbox) → MeansWhole given text whole → IsSource whole
+whole_right given text whole a =
+    let right = texts.sources_are_right text a.source (listed_means text a.source a.shared a.plain.means) in
+    let fit = tails_fit given a.placed 0 a.shared a.source a.tails (recursion_from_All IsSandbox a.source right.each) a.tails_are in
+    subst IsSource (sym a.whole_is) (source_right a.tails a.source fit right)
+
+built_placed : (given : List Place) (text xs ys : List ℕ) (a : IsTextBuild given text xs) (b : IsTextBuild given text ys) → a.placed ≡ b.placed
+built_placed given text xs ys a b =
+    sources.one_rewriting b.source a.placed b.placed (subst (λ u. AreRewritten u a.placed) (one_whole given text a.source b.source a.means b.means) a.rewritten) b.rewritten
 
 pub one_build : (given : List Place) → (text xs ys : List ℕ) → IsTextBuild given text xs → IsTextBuild given text ys → xs ≡ ys
 one_build given text xs ys a b =
-    one_bytes given b.placed xs ys (subst (λ p. IsLinkedImage given p xs) (same_placed text a.source b.source a.placed b.placed a.means b.means a.rewritten b.rewritten) a.image) b.image
+    one_bytes given b.placed xs ys (subst (λ p. IsLinkedImage given p xs) (built_placed given text xs ys a b) a.image) b.image
 
-not_rewritten : (text : List ℕ) (s t : List Sandbox) (p : List Placement) (f : RewriteFault) → MeansSource text s → MeansSource text t → AreRewritten s p → IsSourceFault t f → ⊥
-not_rewritten text s t p f a b x h = sources.never_both t p f (subst (λ u. AreRewritten u p) (texts.one_source text s t a b) x) h
+-- where a text's source is placed and linked, there is no fault before its tables
+plain_never : (given : List Place) (text : List ℕ) (s : List Sandbox) (l : List Shared) (p : List Placement) (f : BuildFault) → IsPlainBuild given text s l p → IsEarly f → IsBuildFault given text f → ⊥
+plain_never given text s l p (Text f) a early h = texts.meant_has_no_fault text s f (listed_means text s l a.means) h
+plain_never given text s l p (Rewrite f) a early (t, m, means, h) =
+    sources.never_both t p f (subst (λ u. AreRewritten u p) (texts.one_listing text s t l m a.means means).0 a.rewritten) h
+plain_never given text s l p (Link f) a early (t, m, q, means, rewritten, h) =
+    never given q a.bytes f (subst (λ u. IsLinkedImage given u a.bytes) (same_placed text s t l m p q a.means means a.rewritten rewritten) a.image) h
+plain_never given text s l p (Names f) a early h = absurd early
 
 pub never_built : (given : List Place) → (text bytes : List ℕ) (f : BuildFault) → IsTextBuild given text bytes → IsBuildFault given text f → ⊥
-never_built given text bytes (Text f) a h = texts.meant_has_no_fault text a.source f a.means h
-never_built given text bytes (Rewrite f) a (t, means, h) = not_rewritten text a.source t a.placed f a.means means a.rewritten h
-never_built given text bytes (Link f) a (t, q, means, rewritten, h) =
-    never given q bytes f (subst (λ p. IsLinkedImage given p bytes) (same_placed text a.source t a.placed q a.means means a.rewritten rewritten) a.image) h
+never_built given text bytes (Names f) a (t, m, q, plain, h) =
+    let b = a.means in
+    let same = same_tails given text b.source t b.shared m b.placed q b.plain plain in
+    ok_not_err b.tails f (sym b.tails_are ∙ same.0 ∙ h)
+never_built given text bytes (Text f) a h = plain_never given text a.means.source a.means.shared a.means.placed (Text f) a.means.plain tt h
+never_built given text bytes (Rewrite f) a h = plain_never given text a.means.source a.means.shared a.means.placed (Rewrite f) a.means.plain tt h
+never_built given text bytes (Link f) a h = plain_never given text a.means.source a.means.shared a.means.placed (Link f) a.means.plain tt h
 
-one_build_fault : (given : List Place) → (text : List ℕ) (f g : BuildFault) → IsBuildFault given text f → IsBuildFault given text g → f ≡ g
+not_rewritten : (text : List ℕ) (s t : List Sandbox) (l m : List Shared) (p : List Placement) (f : RewriteFault) → MeansListing text s l → MeansListing text t m → AreRewritten s p → IsSourceFault t f → ⊥
+not_rewritten text s t l m p f a b x h = sources.never_both t p f (subst (λ u. AreRewritten u p) (texts.one_listing text s t l m a b).0 x) h
+
+pub one_build_fault : (given : List Place) → (text : List ℕ) (f g : BuildFault) → IsBuildFault given text f → IsBuildFault given text g → f ≡ g
+one_build_fault given text (Names f) (Names g) (s, l, p, a, h) (t, m, q, b, k) =
+    ap (λ x. Names x) (same_err f g (sym h ∙ (same_tails given text s t l m p q a b).0 ∙ k))
+one_build_fault given text (Names f) (Text g) (s, l, p, a, h) k = absurd (plain_never given text s l p (Text g) a tt k)
+one_build_fault given text (Names f) (Rewrite g) (s, l, p, a, h) k = absurd (plain_never given text s l p (Rewrite g) a tt k)
+one_build_fault given text (Names f) (Link g) (s, l, p, a, h) k = absurd (plain_never given text s l p (Link g) a tt k)
+one_build_fault given text (Text f) (Names g) h (s, l, p, a, k) = absurd (plain_never given text s l p (Text f) a tt h)
+one_build_fault given text (Rewrite f) (Names g) h (s, l, p, a, k) = absurd (plain_never given text s l p (Rewrite f) a tt h)
+one_build_fault given text (Link f) (Names g) h (s, l, p, a, k) = absurd (plain_never given text s l p (Link f) a tt h)
 one_build_fault given text (Text f) (Text g) a b = ap (λ x. Text x) (texts.one_fault text f g a b)
-one_build_fault given text (Text f) (Rewrite g) a (t, means, h) = absurd (texts.meant_has_no_fault text t f means a)
-one_build_fault given text (Text f) (Link g) a (t, q, means, rewritten, h) = absurd (texts.meant_has_no_fault text t f means a)
-one_build_fault given text (Rewrite f) (Text g) (s, means, h) b = absurd (texts.meant_has_no_fault text s g means b)
-one_build_fault given text (Rewrite f) (Rewrite g) (s, means, h) (t, other, k) =
-    ap (λ x. Rewrite x) (sources.one_fault t f g (subst (λ u. IsSourceFault u f) (texts.one_source text s t means other) h) k)
-one_build_fault given text (Rewrite f) (Link g) (s, means, h) (t, q, other, rewritten, k) = absurd (not_rewritten text t s q f other means rewritten h)
-one_build_fault given text (Link f) (Text g) (s, p, means, rewritten, h) b = absurd (texts.meant_has_no_fault text s g means b)
-one_build_fault given text (Link f) (Rewrite g) (s, p, means, rewritten, h) (t, other, k) = absurd (not_rewritten text s t p g means other rewritten k)
-one_build_fault given text (Link f) (Link g) (s, p, means, rewritten, h) (t, q, other, again, k) =
-    ap (λ x. Link x) (one_fault given q f g (subst (λ u. IsLinkFault given u f) (same_placed text s t p q means other rewritten again) h) k)
+one_build_fault given text (Text f) (Rewrite g) a (t, m, means, h) = absurd (texts.meant_has_no_fault text t f (listed_means text t m means) a)
+one_build_fault given text (Text f) (Link g) a (t, m, q, means, rewritten, h) = absurd (texts.meant_has_no_fault text t f (listed_means text t m means) a)
+one_build_fault given text (Rewrite f) (Text g) (s, l, means, h) b = absurd (texts.meant_has_no_fault text s g (listed_means text s l means) b)
+one_build_fault given text (Rewrite f) (Rewrite g) (s, l, means, h) (t, m, other, k) =
+    ap (λ x. Rewrite x) (sources.one_fault t f g (subst (λ u. IsSourceFault u f) (texts.one_listing text s t l m means other).0 h) k)
+one_build_fault given text (Rewrite f) (Link g) (s, l, means, h) (t, m, q, other, rewritten, k) = absurd (not_rewritten text t s m l q f other means rewritten h)
+one_build_fault given text (Link f) (Text g) (s, l, p, means, rewritten, h) b = absurd (texts.meant_has_no_fault text s g (listed_means text s l means) b)
+one_build_fault given text (Link f) (Rewrite g) (s, l, p, means, rewritten, h) (t, m, other, k) = absurd (not_rewritten text s t l m p g means other rewritten k)
+one_build_fault given text (Link f) (Link g) (s, l, p, means, rewritten, h) (t, m, q, other, again, k) =
+    ap (λ x. Link x) (one_fault given q f g (subst (λ u. IsLinkFault given u f) (same_placed text s t l m p q means other rewritten again) h) k)
 
 pub one_map : (given : List Place) (text : List ℕ) (xs ys : List MapEntry) → IsTextMap given text xs → IsTextMap given text ys → xs ≡ ys
 one_map given text xs ys a b =
-    let source = texts.one_source text a.build.source b.build.source a.build.means b.build.means in
-    let placed =
-    same_placed text a.build.source b.build.source a.build.placed b.build.placed a.build.means b.build.means a.build.rewritten b.build.rewritten in
+    let source = one_whole given text a.build.source b.build.source a.build.means b.build.means in
+    let placed = built_placed given text a.bytes b.bytes a.build b.build in
     a.entries_are ∙ ap (λ s. map_from given 0 s a.build.placed) source ∙ ap (λ p. map_from given 0 b.build.source p) placed ∙ sym b.entries_are
 
 -- ---- what is answered that way
@@ -81,8 +138,8 @@ pub never_place_built : {X : Type 0} (given : List Place) (text : List ℕ) (r :
 never_place_built given text r wrong none k e =
     elim (subst (λ x. IfErr x (λ f. IsWantOfMemory f ⊎ IsBuildFault given text f)) e wrong) [
       | inl memory ↦ cc
-      | inr (source, placed, means, rewritten, here) ↦
-          usual_places_are_free placed k (sources.rewritten_is_placed source placed (texts.sources_are_right text source means) rewritten) (subst (λ g. IsLinkFault g placed (fault.Place k)) none here)
+      | inr (source, shared, placed, means, rewritten, here) ↦
+          usual_places_are_free placed k (sources.rewritten_is_placed source placed (texts.sources_are_right text source (listed_means text source shared means)) rewritten) (subst (λ g. IsLinkFault g placed (fault.Place k)) none here)
     ]
 
 -- ---- what a build is
@@ -93,9 +150,9 @@ placements [] (p ∷ placed) h = h
 placements (s ∷ source) [] h = h
 placements (s ∷ source) (p ∷ placed) h = (h.0.placement, placements source placed h.1)
 
-pub text_build : (given : List Place) → (text : List ℕ) (r : Result (Vec ℕ Global) BuildFault) → IfOk r (λ v. IsTextBuild given text v.items) → (source : List Sandbox) → MeansSource text source → IfOk r (λ v. IsBuild given source v.items)
+pub text_build : (given : List Place) → (text : List ℕ) (r : Result (Vec ℕ Global) BuildFault) → IfOk r (λ v. IsTextBuild given text v.items) → (source : List Sandbox) → MeansWhole given text source → IfOk r (λ v. IsBuild given source v.items)
 text_build given text (Ok v) h source means =
-    let same = texts.one_source text h.source source h.means means in
+    let same = one_whole given text h.source source h.means means in
     record {
       placed = h.placed;
       placements = placements source h.placed (subst (λ u. AreRewritten u h.placed) same h.rewritten);
@@ -110,8 +167,8 @@ means_clean given text r = IfOk-weaker r (λ (v : Vec ℕ Global). IsTextBuild g
 
 -- the image acts as the source that its text means
 pub build_runs_as : (given : List Place) → (text : List ℕ) (r : Result (Vec ℕ Global) BuildFault) → IfOk r (λ v. IsTextBuild given text v.items)
-    → (source : List Sandbox) → MeansSource text source → IfOk r (λ v. ImageRunsAs given source v.items)
+    → (source : List Sandbox) → MeansWhole given text source → IfOk r (λ v. ImageRunsAs given source v.items)
 build_runs_as given text (Ok v) h source means =
-    let same = texts.one_source text h.source source h.means means in
-    images_run_as given source h.placed v.items (texts.sources_are_right text source means) (subst (λ u. AreRewritten u h.placed) same h.rewritten) h.image
+    let same = one_whole given text h.source source h.means means in
+    images_run_as given source h.placed v.items (whole_right given text source means) (subst (λ u. AreRewritten u h.placed) same h.rewritten) h.image
 build_runs_as given text (Err f) h source means = tt

@@ -1,2 +1,4 @@
+pub mod Tables
 pub mod Texts
 pub mod Laws
+pub mod private

@@ -3,7 +3,8 @@ use Rattle.std.specs.Prelude.{◌≡◌, ◌⊎◌, ℕ, List, [], Result, Ok, E
 use Rattle.std.specs.Global.{Global}
 use Rattle.sfi_text.specs.Tokens.{memory}
 use Rattle.sfi_source.specs.Source.{Sandbox}
-use Rattle.sfi_text.specs.Texts.{MeansSource, IsFault}
+use Rattle.sfi_text.specs.SoFar.{Shared}
+use Rattle.sfi_text.specs.Texts.{MeansListing, IsFault}
 use Rattle.sfi_image.specs.Spelling.{Part}
 use Rattle.sfi_policy.specs.declared.place.Place.{Place}
 use Rattle.sfi_image.specs.Parts.{IsImage}
@@ -13,15 +14,36 @@ use Rattle.sfi_rewrite.specs.Placement.{Placement}
 use Rattle.sfi_rewrite.specs.Rewriting.{IsSourceFault, AreRewritten}
 use Rattle.sfi_link.specs.declared.fault.LinkFault.TheVariants as linker
 use Rattle.sfi_build.specs.declared.build_fault.BuildFault.{BuildFault}
-use Rattle.sfi_build.specs.declared.build_fault.BuildFault.TheVariants.{Text, Rewrite, Link}
+use Rattle.sfi_build.specs.declared.build_fault.BuildFault.TheVariants.{Text, Rewrite, Link, Names}
+use Rattle.sfi_build.specs.Tables.{tails_from, each_with, sandbox_with}
 use Rattle.sfi_link.specs.Linked.{IsLinkedImage}
 use Rattle.sfi_link.specs.Faults.{IsLinkFault}
 use Rattle.sfi_link.specs.Names.{MapEntry, map_from}
 
--- the text means a source without a fault, and the bytes are the image of its placement
+-- the text means a source, of whose placement an image can be made; `shared` is what the tables of
+-- names are to have
+pub record IsPlainBuild (given : List Place) (text : List ℕ) (source : List Sandbox)
+    (shared : List Shared) (placed : List Placement) : Type 0 where
+  pub means : MeansListing text source shared
+  pub rewritten : AreRewritten source placed
+  pub bytes : List ℕ
+  pub image : IsLinkedImage given placed bytes
+
+-- the text means a source without a fault, and `whole` is that source with its tables of names at the
+-- ends of the first data bytes
+pub record MeansWhole (given : List Place) (text : List ℕ) (whole : List Sandbox) : Type 0 where
+  pub source : List Sandbox
+  pub shared : List Shared
+  pub placed : List Placement
+  pub plain : IsPlainBuild given text source shared placed
+  pub tails : List (List ℕ)
+  pub tails_are : tails_from given placed 0 shared source ≡ Ok tails
+  pub whole_is : whole ≡ each_with sandbox_with tails source
+
+-- the text means a source, and the bytes are the image of its placement, tables included
 pub record IsTextBuild (given : List Place) (text bytes : List ℕ) : Type 0 where
   pub source : List Sandbox
-  pub means : MeansSource text source
+  pub means : MeansWhole given text source
   pub placed : List Placement
   pub rewritten : AreRewritten source placed
   pub image : IsLinkedImage given placed bytes
@@ -41,20 +63,26 @@ pub record IsCleanImage (bytes : List ℕ) : Type 0 where
   pub none_found : AreImageFindings parts []
 
 -- the fault of the text: it means no source, or its source can't be rewritten,
--- or what is placed can't be linked
+-- or what is placed can't be linked, or a table of names can't be made
 abbrev pub IsBuildFault : List Place → List ℕ → BuildFault → Type 0
 IsBuildFault given text (Text f) = IsFault text f
 IsBuildFault given text (Rewrite f) =
-    (source : List Sandbox) × MeansSource text source × IsSourceFault source f
+    (source : List Sandbox) × (shared : List Shared) × MeansListing text source shared
+    × IsSourceFault source f
 IsBuildFault given text (Link f) =
-    (source : List Sandbox) × (placed : List Placement) × MeansSource text source
-    × AreRewritten source placed × IsLinkFault given placed f
+    (source : List Sandbox) × (shared : List Shared) × (placed : List Placement)
+    × MeansListing text source shared × AreRewritten source placed × IsLinkFault given placed f
+IsBuildFault given text (Names f) =
+    (source : List Sandbox) × (shared : List Shared) × (placed : List Placement)
+    × IsPlainBuild given text source shared placed
+    × (tails_from given placed 0 shared source ≡ Err f)
 
 -- memory ran out
 abbrev pub IsWantOfMemory : BuildFault → Type 0
 IsWantOfMemory (Text f) = f ≡ memory
 IsWantOfMemory (Rewrite f) = f ≡ rewriter.Memory
 IsWantOfMemory (Link f) = f ≡ linker.Memory
+IsWantOfMemory (Names f) = ⊥
 
 -- the answer is these, or memory ran out
 abbrev pub AnswersBuild : {X : Type 0} → List X → Result (Vec X Global) BuildFault → Type 0

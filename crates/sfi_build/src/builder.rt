@@ -1,7 +1,7 @@
 //! From a text to an image, and to the addresses of its names.
 ghost use Rattle.std.specs.Prelude.{◌≡◌, ◌≢◌, ◌⊎◌, ◌<◌, ℕ, List, [], length, Err, IfOk, IfErr};
 ghost use Rattle.sfi_source.specs.Source.{Sandbox};
-ghost use Rattle.sfi_text.specs.Texts.{MeansSource, most_bytes, first_line};
+ghost use Rattle.sfi_text.specs.Texts.{most_bytes, first_line};
 ghost use Rattle.sfi_text.specs.declared.cause.TextCause.TheVariants.{Limit};
 ghost use Rattle.sfi_build.specs.declared.build_fault.BuildFault.{BuildFault};
 ghost use Rattle.sfi_build.specs.declared.build_fault.BuildFault.TheVariants.{Text, Link};
@@ -9,35 +9,39 @@ ghost use Rattle.sfi_link.specs.declared.fault.LinkFault.TheVariants as fault;
 ghost use Rattle.sfi_link.specs.Linked.{IsBuild};
 ghost use Rattle.sfi_link.specs.Names.{MapEntry};
 ghost use Rattle.sfi_link.specs.Standing.{ImageRunsAs};
-ghost use Rattle.sfi_build.specs.Texts.{IsTextBuild, IsTextMap, IsCleanImage, IsBuildFault, IsWantOfMemory, AnswersBuild, AnswersBuildFault};
+ghost use Rattle.sfi_build.specs.Texts.{MeansWhole, IsTextBuild, IsTextMap, IsCleanImage, IsBuildFault, IsWantOfMemory, AnswersBuild, AnswersBuildFault};
 
 use crate::build_fault::BuildFault;
+use crate::inits::image_with;
+use crate::tables::inits_of;
 use sfi_link::{NameAddress, link_at, names_of};
 use sfi_policy::Place;
 use sfi_rewrite::rewrite;
-use sfi_text::parse_source;
+use sfi_text::{Listing, parse_listing};
 use std::alloc::Global;
 
-// The build of the text, or its fault.
+// The build of the text, or its fault: its image without tables is made first, which has all addresses.
 fn build_of(alloc: Global, text: &str, places: &[Place]) -> Result<Vec<u8>, BuildFault>
     ensures built { IfOk result (λ bytes. IsTextBuild places.now text.now bytes.items) }
     ensures fault { IfErr result (λ f. IsWantOfMemory f ⊎ IsBuildFault places.now text.now f) }
     ensures too_long { most_bytes < length text.now → result ≡ Err (Text (first_line Limit)) }
 {
-    let source = parse_source(alloc, text)?;
+    let Listing { source, shared } = parse_listing(alloc, text)?;
     let placed = rewrite(alloc, &source)?;
-    Ok(link_at(alloc, &placed, places)?)
+    let bytes = link_at(alloc, &placed, places)?;
+    let inits = inits_of(alloc, &placed, places, &shared, source.parts())?;
+    Ok(image_with(alloc, &bytes, &inits)?)
 }
 
-/// Reads a source, places it and links it: the image of a text, or the first fault of the three in
-/// this order. The image has a right layout and breaks no rule, so the checker accepts it. The
+/// Reads a source, places it, links it and makes its tables of names: the image of a text, or the first
+/// fault of the four in this order. The image has a right layout and breaks no rule, so the checker accepts it. The
 /// sandboxes lie at the places, in order; those for which none is given lie at their usual ones.
 pub fn build_at(alloc: Global, text: &str, places: &[Place]) -> Result<Vec<u8>, BuildFault>
     // What each answer means.
     ensures built { IfOk result (λ bytes. IsTextBuild places.now text.now bytes.items) }
-    ensures build { (source : List Sandbox) → MeansSource text.now source
+    ensures build { (source : List Sandbox) → MeansWhole places.now text.now source
         → IfOk result (λ bytes. IsBuild places.now source bytes.items) }
-    ensures runs_as { (source : List Sandbox) → MeansSource text.now source
+    ensures runs_as { (source : List Sandbox) → MeansWhole places.now text.now source
         → IfOk result (λ bytes. ImageRunsAs places.now source bytes.items) }
     ensures clean { IfOk result (λ bytes. IsCleanImage bytes.items) }
     ensures fault { IfErr result (λ f. IsWantOfMemory f ⊎ IsBuildFault places.now text.now f) }
@@ -62,9 +66,9 @@ pub fn build_at(alloc: Global, text: &str, places: &[Place]) -> Result<Vec<u8>, 
 pub fn build(alloc: Global, text: &str) -> Result<Vec<u8>, BuildFault>
     // What each answer means.
     ensures built { IfOk result (λ bytes. IsTextBuild [] text.now bytes.items) }
-    ensures build { (source : List Sandbox) → MeansSource text.now source
+    ensures build { (source : List Sandbox) → MeansWhole [] text.now source
         → IfOk result (λ bytes. IsBuild [] source bytes.items) }
-    ensures runs_as { (source : List Sandbox) → MeansSource text.now source
+    ensures runs_as { (source : List Sandbox) → MeansWhole [] text.now source
         → IfOk result (λ bytes. ImageRunsAs [] source bytes.items) }
     ensures clean { IfOk result (λ bytes. IsCleanImage bytes.items) }
     ensures fault { IfErr result (λ f. IsWantOfMemory f ⊎ IsBuildFault [] text.now f) }
@@ -90,9 +94,11 @@ fn map_of(alloc: Global, text: &str, places: &[Place]) -> Result<Vec<NameAddress
     ensures fault { IfErr result (λ f. IsWantOfMemory f ⊎ IsBuildFault places.now text.now f) }
     ensures too_long { most_bytes < length text.now → result ≡ Err (Text (first_line Limit)) }
 {
-    let source = parse_source(alloc, text)?;
+    let Listing { source, shared } = parse_listing(alloc, text)?;
     let placed = rewrite(alloc, &source)?;
-    Ok(names_of(alloc, &source, &placed, places)?)
+    let names = names_of(alloc, &source, &placed, places)?;
+    inits_of(alloc, &placed, places, &shared, source.parts())?;
+    Ok(names)
 }
 
 /// The gates and labels of a text in the image that is built of it with its sandboxes at these

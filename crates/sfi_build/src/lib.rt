@@ -1,14 +1,20 @@
 //! From a text to an image.
 //!
 //! [`build`] reads a text, places its instructions in bundles or in words and links them; [`build_at`] does the
-//! same at places that the caller gives. [`names_at`] answers the addresses of the text's gates and
+//! same at places that the caller gives. Where the text lists names, the first data bytes of its
+//! sandboxes end in tables of names. [`names_at`] answers the addresses of the text's gates and
 //! labels in that image.
 #![tactic(auto)]
 
+mod address;
 mod build_fault;
 mod builder;
+mod inits;
+mod table_fault;
+mod tables;
 
 pub use build_fault::BuildFault;
 pub use builder::{build, build_at, names_at};
 pub use sfi_link::{NameAddress, NameKind};
 pub use sfi_policy::Place;
+pub use table_fault::TableFault;

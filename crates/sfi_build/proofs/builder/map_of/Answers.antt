@@ -1,16 +1,52 @@
+use Rattle.sfi_link.proofs.Prelude.{◌≡◌, ◌∙◌, sym, ap, ℕ, List, Ok, length, arith}
+use Rattle.std.proofs.Common.{rules}
+use Rattle.sfi_text.specs.Texts.{MeansListing}
+use Rattle.sfi_build.specs.Tables.{tails_from}
+use Rattle.sfi_build.specs.Texts.{IsPlainBuild}
+use Rattle.sfi_build.proofs.Even.{even}
+use Rattle.sfi_build.proofs.Whole.{rewritten_count, linked_count, mapped}
 use Rattle.sfi_build.proofs.builder.map_of.Goals as goal
+
+pub inits_of-requires-clause-linked : goal.inits_of-requires-clause-linked
+inits_of-requires-clause-linked c = (c.in_ok-names.ensures.mapped.bytes, c.in_ok-names.ensures.mapped.image)
+
+pub inits_of-requires-clause-short : goal.inits_of-requires-clause-short
+inits_of-requires-clause-short c =
+    let given = c.args.places.now in
+    let text = c.args.text.now in
+    let source = c.in_ok-source.field-0.source in
+    let shared = c.in_ok-source.field-0.shared.items in
+    let placed = c.in_ok-placed.placed in
+    let listing : MeansListing text source shared = c.in_ok-source.ensures.listing in
+    let image = c.in_ok-names.ensures.mapped.image in
+    omega (
+      arith,
+      image.image.layout.at_most,
+      linked_count given 0 placed image.parts image.linked.each,
+      rewritten_count source placed c.in_ok-placed.ensures.placed,
+      ap length c.parts.ensures.parts,
+    )
+
+pub inits_of-requires-clause-listed : goal.inits_of-requires-clause-listed
+inits_of-requires-clause-listed c =
+    let given = c.args.places.now in
+    let text = c.args.text.now in
+    let source = c.in_ok-source.field-0.source in
+    let shared = c.in_ok-source.field-0.shared.items in
+    let placed = c.in_ok-placed.placed in
+    let listing : MeansListing text source shared = c.in_ok-source.ensures.listing in
+    omega (arith, even text source shared listing, ap length c.deref.ensures.value, ap length c.parts.ensures.parts)
 
 pub returns-clause-mapped : goal.returns-clause-mapped
 returns-clause-mapped c =
-    let is = c.in_ok-names_of.ensures.mapped in
-    record {
-      bytes = is.bytes;
-      build = record {
-        source = _;
-        means = c.in_ok-source.ensures.source;
-        placed = _;
-        rewritten = c.in_ok-placed.ensures.placed;
-        image = is.image;
-      };
-      entries_are = is.entries_are;
-    }
+    let given = c.args.places.now in
+    let text = c.args.text.now in
+    let source = c.in_ok-source.field-0.source in
+    let shared = c.in_ok-source.field-0.shared.items in
+    let placed = c.in_ok-placed.placed in
+    let listing : MeansListing text source shared = c.in_ok-source.ensures.listing in
+    let is = c.in_ok-names.ensures.mapped in
+    let plain : IsPlainBuild given text source shared placed = record { means = listing; rewritten = c.in_ok-placed.ensures.placed; bytes = is.bytes; image = is.image } in
+    let (tails, made, inits) = c.in_ok-inits_of.ensures.inits in
+    let are : tails_from given placed 0 shared source ≡ Ok tails = (λ i. tails_from given placed 0 (sym c.deref.ensures.value i) (sym c.parts.ensures.parts i)) ∙ made in
+    mapped given text source shared placed plain tails are _ is.entries_are

@@ -1,0 +1,97 @@
+-- The image of a source with its tables is that without them, with other first data bytes.
+use Rattle.sfi_link.proofs.Prelude.{◌≡◌, refl, sym, ap, subst, ◌∙◌, ℕ, ◌+◌, ◌≤◌, List, [], ◌∷◌, Ok, length, length-map, arith, Sandbox, IsSandbox, Placement, Place, Part, AreLinkedFrom, AreLinked, IsPlaced, map_from}
+use Rattle.sfi_image.specs.Spelling.{spelling}
+use Rattle.sfi_link.specs.Names.{MapEntry}
+use Rattle.std.proofs.lemmas.List.Elements.{recursion_from_All}
+use Rattle.sfi_source.specs.Source.{IsSource}
+use Rattle.sfi_text.specs.SoFar.{Shared}
+use Rattle.sfi_text.proofs.Facts as texts
+use Rattle.sfi_image.specs.Parts.{IsImage, IsRightLayout}
+use Rattle.sfi_rewrite.specs.Rewriting.{AreRewritten}
+use Rattle.sfi_rewrite.proofs.Facts as sources
+use Rattle.sfi_link.proofs.Parts.{linked_is_right}
+use Rattle.sfi_link.proofs.LinkedClean.{all_are_clean}
+use Rattle.sfi_build.specs.Tables.{tails_from, each_with, sandbox_with}
+use Rattle.sfi_image.proofs.Facts.{one_image}
+use Rattle.sfi_build.specs.private.{MayHave, HasInits, set_init}
+use Rattle.sfi_build.specs.Texts.{IsPlainBuild, MeansWhole, IsTextBuild, IsTextMap}
+use Rattle.sfi_build.proofs.Tails.{placement_of, inits_of, tails_as_inits, length-each_with, rewritten_as, linked_as, map_as}
+use Rattle.sfi_build.proofs.Fitting.{tails_fit}
+use Rattle.sfi_build.proofs.Building.{whole_right}
+
+pub rewritten_count : (source : List Sandbox) (placed : List Placement) → AreRewritten source placed → length placed ≡ length source
+rewritten_count [] [] h = refl
+rewritten_count [] (p ∷ placed) h = absurd h
+rewritten_count (s ∷ source) [] h = absurd h
+rewritten_count (s ∷ source) (p ∷ placed) h = omega (arith, rewritten_count source placed h.1)
+
+pub linked_count : (given : List Place) (number : ℕ) (placed : List Placement) (parts : List Part) → AreLinkedFrom given number placed parts → length parts ≡ length placed
+linked_count given number [] parts h = ap length h
+linked_count given number (p ∷ placed) [] h = absurd h
+linked_count given number (p ∷ placed) (q ∷ parts) h = omega (arith, linked_count given (number + 1) placed parts h.1)
+
+module _ (given : List Place) (text : List ℕ) (source : List Sandbox) (shared : List Shared) (placed : List Placement) (plain : IsPlainBuild given text source shared placed)
+    (tails : List (List ℕ)) (tails_are : tails_from given placed 0 shared source ≡ Ok tails) where
+  pub means : MeansWhole given text (each_with sandbox_with tails source)
+  means = record { source = source; shared = shared; placed = placed; plain = plain; tails = tails; tails_are = tails_are; whole_is = refl }
+
+  abbrev inits : List (List ℕ)
+  inits = inits_of (each_with sandbox_with tails source)
+
+  abbrev placed_as : List Placement
+  placed_as = each_with placement_of inits placed
+
+  abbrev parts_as : List Part
+  parts_as = each_with set_init inits plain.image.parts
+
+  rewritten : AreRewritten (each_with sandbox_with tails source) placed_as
+  rewritten = subst (λ w. AreRewritten w placed_as) (sym (tails_as_inits tails source)) (rewritten_as inits source placed plain.rewritten)
+
+  is_placed : IsPlaced placed_as
+  is_placed = sources.rewritten_is_placed (each_with sandbox_with tails source) placed_as (whole_right given text (each_with sandbox_with tails source) means) rewritten
+
+  linked : AreLinked given placed_as parts_as
+  linked = linked_as given inits placed plain.image.parts plain.image.linked
+
+  pub layout : IsRightLayout parts_as
+  layout =
+      linked_is_right given placed_as parts_as is_placed
+      (omega (arith, plain.image.image.layout.at_most, linked_count given 0 placed plain.image.parts plain.image.linked.each, length-each_with placement_of inits placed)) linked
+
+  pub may_have : (bytes : List ℕ) (bs : List (List ℕ)) → bytes ≡ plain.bytes → bs ≡ inits → length placed ≡ length source → MayHave bytes bs
+  may_have bytes bs bytes_are are count = record {
+    parts = plain.image.parts;
+    image = subst (λ b. IsImage b plain.image.parts) (sym bytes_are) plain.image.image;
+    enough = omega (
+      arith,
+      ap length are,
+      length-map (each_with sandbox_with tails source) (λ (s : Sandbox). s.bytes),
+      length-each_with sandbox_with tails source,
+      linked_count given 0 placed plain.image.parts plain.image.linked.each,
+      count,
+    );
+    right = subst (λ bs. IsRightLayout (each_with set_init bs plain.image.parts)) (sym are) layout;
+  }
+
+  pub built : (bytes : List ℕ) → IsImage bytes parts_as → IsTextBuild given text bytes
+  built bytes image = record {
+    source = each_with sandbox_with tails source;
+    means = means;
+    placed = placed_as;
+    rewritten = rewritten;
+    image = record { parts = parts_as; linked = linked; image = image; none_found = all_are_clean given 0 placed_as parts_as is_placed.each linked.each };
+  }
+
+  pub has_inits : (bytes : List ℕ) (bs : List (List ℕ)) (new : List ℕ) → bytes ≡ plain.bytes → bs ≡ inits → HasInits bytes bs new → IsTextBuild given text new
+  has_inits bytes bs new bytes_are are h =
+      let same = one_image plain.bytes h.parts plain.image.parts (subst (λ b. IsImage b h.parts) bytes_are h.old) plain.image.image in
+      built new (subst (λ ps. IsImage new ps) (λ i. each_with set_init (are i) (same i)) h.image)
+
+  -- a map of the source without its tables is that of the source with them
+  pub mapped : (entries : List MapEntry) → entries ≡ map_from given 0 source placed → IsTextMap given text entries
+  unfolding built
+  mapped entries are = record {
+    bytes = spelling parts_as;
+    build = built (spelling parts_as) (record { bytes_are = refl; layout = layout });
+    entries_are = are ∙ sym (ap (λ w. map_from given 0 w placed_as) (tails_as_inits tails source) ∙ map_as given 0 inits source inits placed);
+  }

@@ -1,0 +1,65 @@
+use Rattle.sfi_link.proofs.Prelude.{◌≡◌, ◌∙◌, sym, ap, subst, ℕ, List, Ok, length, arith}
+use Rattle.std.proofs.Common.{rules}
+use Rattle.sfi_text.specs.Texts.{MeansListing}
+use Rattle.sfi_build.specs.Tables.{tails_from, each_with, sandbox_with}
+use Rattle.sfi_build.specs.Texts.{IsPlainBuild}
+use Rattle.sfi_build.specs.private.{contents}
+use Rattle.sfi_build.proofs.Even.{even}
+use Rattle.sfi_build.proofs.Tails.{inits_of}
+use Rattle.sfi_build.proofs.Whole.{rewritten_count, linked_count, may_have, has_inits}
+use Rattle.sfi_build.proofs.builder.build_of.Goals as goal
+
+pub inits_of-requires-clause-short : goal.inits_of-requires-clause-short
+inits_of-requires-clause-short c =
+    let given = c.args.places.now in
+    let text = c.args.text.now in
+    let source = c.in_ok-source.field-0.source in
+    let shared = c.in_ok-source.field-0.shared.items in
+    let placed = c.in_ok-placed.placed in
+    let listing : MeansListing text source shared = c.in_ok-source.ensures.listing in
+    let image = c.in_ok-bytes.ensures.image in
+    omega (
+      arith,
+      image.image.layout.at_most,
+      linked_count given 0 placed image.parts image.linked.each,
+      rewritten_count source placed c.in_ok-placed.ensures.placed,
+      ap length c.parts.ensures.parts,
+    )
+
+pub inits_of-requires-clause-listed : goal.inits_of-requires-clause-listed
+inits_of-requires-clause-listed c =
+    let given = c.args.places.now in
+    let text = c.args.text.now in
+    let source = c.in_ok-source.field-0.source in
+    let shared = c.in_ok-source.field-0.shared.items in
+    let placed = c.in_ok-placed.placed in
+    let listing : MeansListing text source shared = c.in_ok-source.ensures.listing in
+    omega (arith, even text source shared listing, ap length c.deref.ensures.value, ap length c.parts.ensures.parts)
+
+pub image_with-requires : goal.image_with-requires
+image_with-requires c =
+    let given = c.args.places.now in
+    let text = c.args.text.now in
+    let source = c.in_ok-source.field-0.source in
+    let shared = c.in_ok-source.field-0.shared.items in
+    let placed = c.in_ok-placed.placed in
+    let listing : MeansListing text source shared = c.in_ok-source.ensures.listing in
+    let plain : IsPlainBuild given text source shared placed = record { means = listing; rewritten = c.in_ok-placed.ensures.placed; bytes = c.in_ok-bytes.bytes.items; image = c.in_ok-bytes.ensures.image } in
+    let (tails, made, inits) = c.in_ok-inits.ensures.inits in
+    let are : tails_from given placed 0 shared source ≡ Ok tails = (λ i. tails_from given placed 0 (sym c.deref.ensures.value i) (sym c.parts.ensures.parts i)) ∙ made in
+    let bs : contents c.deref-3.result.now ≡ inits_of (each_with sandbox_with tails source) = ap contents c.deref-3.ensures.value ∙ inits ∙ (λ i. inits_of (each_with sandbox_with tails (c.parts.ensures.parts i))) in
+    may_have given text source shared placed plain tails are c.deref-2.result.now (contents c.deref-3.result.now) c.deref-2.ensures.value bs (rewritten_count source placed c.in_ok-placed.ensures.placed)
+
+pub returns-clause-built : goal.returns-clause-built
+returns-clause-built c =
+    let given = c.args.places.now in
+    let text = c.args.text.now in
+    let source = c.in_ok-source.field-0.source in
+    let shared = c.in_ok-source.field-0.shared.items in
+    let placed = c.in_ok-placed.placed in
+    let listing : MeansListing text source shared = c.in_ok-source.ensures.listing in
+    let plain : IsPlainBuild given text source shared placed = record { means = listing; rewritten = c.in_ok-placed.ensures.placed; bytes = c.in_ok-bytes.bytes.items; image = c.in_ok-bytes.ensures.image } in
+    let (tails, made, inits) = c.in_ok-inits.ensures.inits in
+    let are : tails_from given placed 0 shared source ≡ Ok tails = (λ i. tails_from given placed 0 (sym c.deref.ensures.value i) (sym c.parts.ensures.parts i)) ∙ made in
+    let bs : contents c.deref-3.result.now ≡ inits_of (each_with sandbox_with tails source) = ap contents c.deref-3.ensures.value ∙ inits ∙ (λ i. inits_of (each_with sandbox_with tails (c.parts.ensures.parts i))) in
+    has_inits given text source shared placed plain tails are c.deref-2.result.now (contents c.deref-3.result.now) _ c.deref-2.ensures.value bs c.in_ok-image_with.ensures

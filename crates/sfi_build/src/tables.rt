@@ -1,0 +1,167 @@
+//! The tables of names for which a text asks.
+ghost use Rattle.std.specs.Prelude.{◌≡◌, ◌+◌, ◌++◌, ◌≤◌, ◌↔◌, ℕ, List, length, map, slice_get, Ok, Some, IsTrue, IfOk, IfErr, OnOk};
+ghost use Rattle.std.specs.List.{All};
+ghost use Rattle.sfi_policy.specs.Limits.{sandboxes_most};
+ghost use Rattle.sfi_source.specs.Names.{IsShortLabel};
+ghost use Rattle.sfi_source.specs.Source.{IsSandbox};
+ghost use Rattle.sfi_names.specs.Tables.{Named, IsNamed, entry, entries};
+ghost use Rattle.sfi_link.specs.Linked.{IsLinkedImage};
+ghost use Rattle.sfi_build.specs.Tables.{address_in, entry_with, entries_of, is_unlisted, tail_of, tails_from, each_with, sandbox_with};
+ghost use Rattle.sfi_build.specs.private.{IsEntryStop, IsTableStop, contents};
+
+use crate::address::address_in;
+use crate::build_fault::BuildFault;
+use crate::table_fault::TableFault;
+use sfi_names::{Entry, Names as Table};
+use sfi_policy::Place;
+use sfi_rewrite::Placed;
+use sfi_source::{Names, SourcePart};
+use sfi_text::{Listed, Shared};
+use std::alloc::Global;
+
+/// How many bytes of a table are no entry's.
+const FOOTER_BYTES: usize = 16;
+
+// Appends the entry of what is listed, with the address that it has in the image of what is placed, in the
+// sandbox of that number.
+fn push_entry(
+    bytes: &mut Vec<u8>,
+    placed: &Placed,
+    places: &[Place],
+    sandbox: u32,
+    names: &Names,
+    one: &Listed,
+) -> Result<(), BuildFault>
+    requires few { length placed.now ≤ sandboxes_most }
+    requires linked { (bytes : List ℕ) × IsLinkedImage places.now placed.now bytes }
+    requires names { All (λ e. IsShortLabel e.0) names.now }
+    ensures pushed { OnOk result ((e : Named) × IsNamed e
+        × (entry_with (slice_get (map (λ e. e.0) names.now) one.now.name)
+        (address_in places.now sandbox (slice_get placed.now sandbox) one.now.name) ≡ Some e)
+        × (bytes.new.items ≡ bytes.old.items ++ entry e)) }
+    ensures fault { IfErr result (IsEntryStop
+        (entry_with (slice_get (map (λ e. e.0) names.now) one.now.name)
+        (address_in places.now sandbox (slice_get placed.now sandbox) one.now.name)) one.now.line) }
+{
+    let name = names.text(one.name);
+    let address = address_in(placed, places, sandbox, one.name);
+    let (Some(name), Some(address)) = (name, address) else {
+        return Err(BuildFault::Names(TableFault::Unknown { line: one.line }));
+    };
+    let entry = Entry {
+        address,
+        name: name.as_bytes(),
+    };
+    entry.push(bytes)?;
+    Ok(())
+}
+
+// The bytes of the entries of what is listed: the names have the addresses that they have in the image of
+// what is placed, in the sandbox of that number.
+fn entries_of(
+    alloc: Global,
+    placed: &Placed,
+    places: &[Place],
+    sandbox: u32,
+    names: &Names,
+    listed: &[Listed],
+) -> Result<Vec<u8>, BuildFault>
+    requires few { length placed.now ≤ sandboxes_most }
+    requires linked { (bytes : List ℕ) × IsLinkedImage places.now placed.now bytes }
+    requires names { All (λ e. IsShortLabel e.0) names.now }
+    ensures entries { IfOk result (λ bytes. (es : List Named) × All IsNamed es
+        × (bytes.items ≡ entries es)
+        × (entries_of (address_in places.now sandbox (slice_get placed.now sandbox))
+        (map (λ e. e.0) names.now) listed.now ≡ Ok es)) }
+    ensures fault { IfErr result (IsTableStop
+        (entries_of (address_in places.now sandbox (slice_get placed.now sandbox))
+        (map (λ e. e.0) names.now) listed.now)) }
+{
+    let mut bytes = Vec::new(alloc);
+    for one in listed {
+        push_entry(&mut bytes, placed, places, sandbox, names, one)?;
+    }
+    Ok(bytes)
+}
+
+// Whether nothing is listed.
+fn is_unlisted(shared: &Shared) -> bool
+    ensures { result ≡ is_unlisted shared.now }
+{
+    shared.exports.is_empty() && shared.imports.is_empty()
+}
+
+// Whether a table whose entries have so many bytes has room.
+fn has_room(room: usize, exports: usize, imports: usize) -> bool
+    ensures { IsTrue result ↔ (exports + imports + FOOTER_BYTES ≤ room) }
+{
+    exports <= room && imports <= room - exports && FOOTER_BYTES <= room - exports - imports
+}
+
+// The first data bytes of the sandbox of that number, which end in its table where something is listed.
+fn init_of(
+    alloc: Global,
+    placed: &Placed,
+    places: &[Place],
+    sandbox: u32,
+    shared: &Shared,
+    part: &SourcePart,
+) -> Result<Vec<u8>, BuildFault>
+    requires few { length placed.now ≤ sandboxes_most }
+    requires linked { (bytes : List ℕ) × IsLinkedImage places.now placed.now bytes }
+    requires right { IsSandbox part.now }
+    ensures init { IfOk result (λ init. (tail : List ℕ) × (init.items ≡ part.now.bytes ++ tail)
+        × (tail_of (address_in places.now sandbox (slice_get placed.now sandbox)) sandbox shared.now
+        part.now ≡ Ok tail)) }
+    ensures fault { IfErr result (IsTableStop
+        (tail_of (address_in places.now sandbox (slice_get placed.now sandbox)) sandbox shared.now
+        part.now)) }
+{
+    let mut init = Vec::new(alloc);
+    init.extend_from_slice(part.bytes())?;
+    if is_unlisted(shared) {
+        return Ok(init);
+    }
+    let names = part.names();
+    let exports = entries_of(alloc, placed, places, sandbox, names, &shared.exports)?;
+    let imports = entries_of(alloc, placed, places, sandbox, names, &shared.imports)?;
+    let room = part.data_size() as usize - part.bytes().len();
+    if !has_room(room, exports.len(), imports.len()) {
+        return Err(BuildFault::Names(TableFault::NoRoom { sandbox }));
+    }
+    let table = Table {
+        version: 0,
+        exports: &exports,
+        imports: &imports,
+    };
+    table.push(&mut init)?;
+    Ok(init)
+}
+
+// The first data bytes of each sandbox, with its table.
+pub(crate) fn inits_of(
+    alloc: Global,
+    placed: &Placed,
+    places: &[Place],
+    shared: &[Shared],
+    parts: &[SourcePart],
+) -> Result<Vec<Vec<u8>>, BuildFault>
+    requires few { length placed.now ≤ sandboxes_most }
+    requires linked { (bytes : List ℕ) × IsLinkedImage places.now placed.now bytes }
+    requires right { All IsSandbox parts.now }
+    requires short { length parts.now ≤ sandboxes_most }
+    requires listed { length shared.now ≡ length parts.now }
+    ensures inits { IfOk result (λ inits. (tails : List (List ℕ))
+        × (tails_from places.now placed.now 0 shared.now parts.now ≡ Ok tails)
+        × (contents inits.items ≡ map (λ s. s.bytes) (each_with sandbox_with tails parts.now))) }
+    ensures fault { IfErr result (IsTableStop
+        (tails_from places.now placed.now 0 shared.now parts.now)) }
+{
+    let mut inits = Vec::new(alloc);
+    for (sandbox, part) in parts.iter().enumerate() {
+        let listed = &shared[sandbox];
+        let init = init_of(alloc, placed, places, sandbox as u32, listed, part)?;
+        inits.push(init)?;
+    }
+    Ok(inits)
+}
