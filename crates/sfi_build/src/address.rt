@@ -23,8 +23,8 @@ fn address_of(at: Place, start: u32, name: PlacedName) -> Option<u32>
     }
 }
 
-// The address of the name at that place among the names of the sandbox of that number, in the image of what
-// is placed.
+// The address of the name at that place among the names of the sandbox of that number, in the image
+// of what is placed.
 pub(crate) fn address_in(
     placed: &Placed,
     places: &[Place],

@@ -20,7 +20,8 @@ use sfi_rewrite::rewrite;
 use sfi_text::{Listing, parse_listing};
 use std::alloc::Global;
 
-// The build of the text, or its fault: its image without tables is made first, which has all addresses.
+// The build of the text, or its fault: its image without tables is made first, which has all
+// addresses.
 fn build_of(alloc: Global, text: &str, places: &[Place]) -> Result<Vec<u8>, BuildFault>
     ensures built { IfOk result (λ bytes. IsTextBuild places.now text.now bytes.items) }
     ensures fault { IfErr result (λ f. IsWantOfMemory f ⊎ IsBuildFault places.now text.now f) }
@@ -33,9 +34,10 @@ fn build_of(alloc: Global, text: &str, places: &[Place]) -> Result<Vec<u8>, Buil
     Ok(image_with(alloc, &bytes, &inits)?)
 }
 
-/// Reads a source, places it, links it and makes its tables of names: the image of a text, or the first
-/// fault of the four in this order. The image has a right layout and breaks no rule, so the checker accepts it. The
-/// sandboxes lie at the places, in order; those for which none is given lie at their usual ones.
+/// Reads a source, places it, links it and makes its tables of names: the image of a text, or the
+/// first fault of the four in this order. The image has a right layout and breaks no rule, so the
+/// checker accepts it. The sandboxes lie at the places, in order; those for which none is given lie
+/// at their usual ones.
 pub fn build_at(alloc: Global, text: &str, places: &[Place]) -> Result<Vec<u8>, BuildFault>
     // What each answer means.
     ensures built { IfOk result (λ bytes. IsTextBuild places.now text.now bytes.items) }

@@ -22,8 +22,8 @@ use std::alloc::Global;
 /// How many bytes of a table are no entry's.
 const FOOTER_BYTES: usize = 16;
 
-// Appends the entry of what is listed, with the address that it has in the image of what is placed, in the
-// sandbox of that number.
+// Appends the entry of what is listed, with the address that it has in the image of what is placed,
+// in the sandbox of that number.
 fn push_entry(
     bytes: &mut Vec<u8>,
     placed: &Placed,
@@ -56,8 +56,8 @@ fn push_entry(
     Ok(())
 }
 
-// The bytes of the entries of what is listed: the names have the addresses that they have in the image of
-// what is placed, in the sandbox of that number.
+// The bytes of the entries of what is listed: the names have the addresses that they have in the
+// image of what is placed, in the sandbox of that number.
 fn entries_of(
     alloc: Global,
     placed: &Placed,
@@ -98,7 +98,8 @@ fn has_room(room: usize, exports: usize, imports: usize) -> bool
     exports <= room && imports <= room - exports && FOOTER_BYTES <= room - exports - imports
 }
 
-// The first data bytes of the sandbox of that number, which end in its table where something is listed.
+// The first data bytes of the sandbox of that number, which end in its table where something is
+// listed.
 fn init_of(
     alloc: Global,
     placed: &Placed,
