@@ -76,9 +76,10 @@ impl From<BuildFault> for Stop {
             )
             | BuildFault::Rewrite(RewriteFault::Memory)
             | BuildFault::Link(LinkFault::Memory) => Stop::Memory,
-            BuildFault::Text(_) | BuildFault::Rewrite(_) | BuildFault::Link(_) => Stop::Build(
-                fault,
-            ),
+            BuildFault::Text(_)
+            | BuildFault::Rewrite(_)
+            | BuildFault::Link(_)
+            | BuildFault::Names(_) => Stop::Build(fault),
         }
     }
 }
