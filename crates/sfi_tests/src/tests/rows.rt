@@ -261,7 +261,7 @@ fn typed_runs(rt: HostRuntime) -> Result<(), Fail> {
 #[test]
 fn word_source_rows(rt: HostRuntime) -> Result<(), Fail> {
     try_rows(&rt, rt.alloc(), word_sources::EXPANSIONS, 20)?;
-    try_rows(&rt, rt.alloc(), word_sources::IMAGES, 2)?;
+    try_rows(&rt, rt.alloc(), word_sources::IMAGES, 3)?;
     try_rows(&rt, rt.alloc(), word_sources::REFUSED, 14)
 }
 
@@ -302,7 +302,7 @@ fn run_rows(rt: HostRuntime) -> Result<(), Fail> {
     try_rows(&rt, rt.alloc(), runs::RUNS, 8)?;
     try_rows(&rt, rt.alloc(), runs::STATES, 5)?;
     try_rows(&rt, rt.alloc(), runs::NEIGHBOURS, 12)?;
-    try_rows(&rt, rt.alloc(), runs::MAPS, 10)
+    try_rows(&rt, rt.alloc(), runs::MAPS, 23)
 }
 
 // Those that take long stand alone, since a test has a minute.

@@ -119,4 +119,24 @@ source
 > sandbox=0 code a at=01000000
 = a table of names that is none, after a label; | .format 2; | .sandbox 256; | a: ret; | .data; | .word 0x01000000; | .byte 1, 97
 | .word 0, 7, 0, 0x4e494653; $ sfi map; > sandbox=0 code a at=01000000
+= a table that the text asks for; | .format words; | .sandbox 256; | .export add; | .import log 2; | add: add a0, a0, a1; | ret; $ sfi map
+> sandbox=0 code add at=01000010; > sandbox=0 gate log at=01000000; > interface 0; > export 01000010 add; > import 01000000 log
+= exports of data and of a gate, after the first data bytes; | .format 2; | .sandbox 256; | .export text; | .gate put 1; | .export put; | ret
+| .data; | .byte 1; | text: .byte 2; | .sandbox 256; | .import quit 0; | end:; $ sfi map
+> sandbox=0 data text at=01800001; > sandbox=0 gate put at=01000000; > interface 0; > export 01800001 text; > export 01000000 put
+> sandbox=1 gate quit at=02000000; > sandbox=1 code end at=02000010; > interface 0; > import 02000000 quit
+= an export at a place of its own; | .format 2; | .sandbox 256; | .export a; | nop; | a: ret; $ sfi map --at 20500000:80000000
+> sandbox=0 code a at=20500010; > interface 0; > export 20500010 a
+= as much data as leaves room for a table of 22 bytes; | .format 2; | .sandbox 256; | .export a; | a: ret; | .data; | .zero 234; $ sfi map
+> sandbox=0 code a at=01000000; > interface 0; > export 01000000 a
+= a byte more; | .format 2; | .sandbox 256; | .export a; | a: ret; | .data; | .zero 235; $ sfi map; > names fault 2 NoRoom sandbox 0
+= an export of no name; | .format 2; | .sandbox 256; | nop; | .sandbox 256; | .export a; | .export b; | a: ret; $ sfi map
+> names fault 1 Unknown line 6
+= a fault of linking goes first; | .format 2; | .sandbox 256; | .export a; | j b; $ sfi map; > link fault 1 UnknownName line 4
+= in the first format; | .sandbox 256; | .export a; $ sfi map; > source fault 1 Word line 2
+= a gate to import there; | .sandbox 256; | .import log 2; $ sfi map; > source fault 1 Word line 2
+= an export before the first sandbox; | .format 2; | .export a; $ sfi map; > source fault 6 Directive line 2
+= an export after an instruction; | .format 2; | .sandbox 256; | nop; | .export a; $ sfi map; > source fault 6 Directive line 4
+= an import of a gate's name; | .format 2; | .sandbox 256; | .gate log 1; | .import log 2; $ sfi map; > source fault 5 LabelTwice line 4
+= an import of a service that there isn't; | .format 2; | .sandbox 256; | .import log 6; $ sfi map; > source fault 3 Number line 3
 ";
