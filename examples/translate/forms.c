@@ -3,7 +3,7 @@
 #include <stdlib.h>
 #include "sfi_native.h"
 
-enum { FUNCTION_WAY, STEP_WAY, TURN_WAY, DATA_SIZE = 256 };
+enum { FUNCTION_WAY, STEP_WAY, TURN_WAY, MANY_WAY, DATA_SIZE = 256 };
 
 struct given {
     sfi_u32 way, pc, left, x[32];
@@ -37,11 +37,47 @@ static void do_lines(const struct given *given, struct found *found) {
     free(hart.data);
 }
 
+static sfi_u32 number(void) {
+    static sfi_u32 last = 1;
+    last ^= last << 13;
+    last ^= last >> 17;
+    return last ^= last << 5;
+}
+
+/* A number that is small, at an end of the data, or any. */
+static sfi_u32 word(const struct sfi_sandbox *s) {
+    const sfi_u32 kind = number() % 4, some = number();
+    return kind == 0 ? some % 600 - 300 : kind == 1 ? s->data + some % 8 - 4 : kind == 2 ? s->data + DATA_SIZE - 4 + some % 8 : some;
+}
+
+/* In how many of so many random states (left) the line at pc does something else in its function than in sfi_step. */
+static sfi_u32 differing(const struct given *given) {
+    static uint8_t stepped_data[DATA_SIZE], done_data[DATA_SIZE];
+    const struct sfi_sandbox *s = &sfi_sandboxes[0];
+    sfi_u32 count = 0, at;
+    for (sfi_u32 k = 0; k < given->left; k++) {
+        struct sfi_hart stepped = {.pc = given->pc, .left = SFI_MOST, .data = stepped_data}, done;
+        for (int r = 1; r < 32; r++)
+            stepped.x[r] = r >= 24 && r <= 27 ? given->x[r] : word(s);
+        stepped_data[number() % DATA_SIZE] = (uint8_t)number();
+        done = stepped;
+        done.data = memcpy(done_data, stepped_data, DATA_SIZE);
+        const int is_next = sfi_step(s, &stepped, &at) == SFI_NEXT;
+        const int is_left = s->functions[given->pc / SFI_PART - s->code / SFI_PART](&done);
+        count += !(is_next || is_left) || stepped.pc != done.pc || stepped.left != done.left ||
+            memcmp(stepped.x, done.x, sizeof done.x) || memcmp(stepped_data, done_data, DATA_SIZE);
+    }
+    return count;
+}
+
 int main(void) {
     static struct given given;
     static struct found found;
     while (fread(&given, sizeof given, 1, stdin) == 1) {
-        do_lines(&given, &found);
+        if (given.way == MANY_WAY)
+            found.how = differing(&given);
+        else
+            do_lines(&given, &found);
         fwrite(&found, sizeof found, 1, stdout);
     }
     return 0;

@@ -4,7 +4,9 @@ function and once by sfi_step, from random registers and data, and random code i
 some lines whose values the manual states. By gcc and clang, without optimization, with it, and under sanitizers. Then the
 header gets one mistake after another, and the comparison has to see each.
 
-    examples/translate/forms.py [--states N] [--lines N] [--seed SEED]    # N states for a line, N lines of a kind
+    examples/translate/forms.py [--states N] [--many N] [--lines N] [--seed SEED]
+
+For each of N lines of a kind N states beside the manual's machine, and many more in which the function does what sfi_step does.
 """
 import argparse
 import os
@@ -30,7 +32,7 @@ CODE, CODE_SIZE, DATA, DATA_SIZE, PLACE, MASK = 0x01000000, 65536, 0x01800000, 2
 RESERVED = (24, 25, 26, 27)
 FREE = [number for number in range(32) if number not in RESERVED]
 GIVEN, FOUND = "<35I256s", "<36I256s"
-FUNCTION_WAY, STEP_WAY, TURN_WAY = range(3)
+FUNCTION_WAY, STEP_WAY, TURN_WAY, MANY_WAY = range(4)
 LEAST_LEFT = 65  # SFI_MOST: with this many steps left no jump goes on
 NEXT, CALL, LOAD, STORE, BREAK = range(5)
 OUTCOMES = {0: CALL, machine.BREAK: BREAK, machine.LOAD: LOAD, machine.STORE: STORE}
@@ -202,6 +204,12 @@ def cases(pick, made, states):
                 yield line, struct.pack(GIVEN, way, line.at, left, *x, data), told + rest
 
 
+def many(made, states):
+    """For each line so many states, in the same shape: its function is to do in each what sfi_step does."""
+    x = [0] * 24 + list(part().reserved()) + [0] * 4
+    return [(line, struct.pack(GIVEN, MANY_WAY, line.at, states, *x, bytes(DATA_SIZE)), (0,)) for line in made]
+
+
 def turns(pick, made, count):
     """So many turns of those lines, in the same shape."""
     given, decoded = part(), {line.at: line.instruction for line in made}
@@ -313,12 +321,13 @@ class Tally:
 def main():
     parser = argparse.ArgumentParser(description=__doc__, formatter_class=argparse.RawDescriptionHelpFormatter)
     parser.add_argument("--states", type=int, default=8, help="states for each line (8)")
+    parser.add_argument("--many", type=int, default=4000, help="states for each line, by the function and sfi_step (4000)")
     parser.add_argument("--lines", type=int, default=6, help="lines of each kind (6)")
     parser.add_argument("--seed", type=int, default=0)
     given = parser.parse_args()
     pick = random.Random(given.seed)
     made, run = made_lines(pick, given.lines), made_run(pick, 600)
-    tally = Tally([(text_of(made), list(cases(pick, made, given.states))), *((text_of(it), tried) for it, tried in (vectors(), landings())),
+    tally = Tally([(text_of(made), list(cases(pick, made, given.states)) + many(made, given.many)), *((text_of(it), tried) for it, tried in (vectors(), landings())),
                    (text_of(run, Line.text), list(turns(pick, run, 100 * given.states)))])
     with open(HEADER, encoding="ascii") as file:
         header = file.read()
