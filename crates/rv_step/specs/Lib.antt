@@ -2,3 +2,4 @@ pub mod Apart
 pub mod Laws
 pub mod State
 pub mod Step
+pub mod private
