@@ -1,10 +1,10 @@
 -- A bundle of whole expansions breaks no rule.
-use Rattle.sfi_link.proofs.Prelude.{◌≡◌, ℕ, zero, suc, ◌+◌, ◌^◌, ◌<◌, ◌≤◌, List, [], ◌∷◌, ◌++◌, length, Option, Some, None, Bool, true, false, refl, sym, ap, ◌∙◌, subst, arith, append_assoc, inl, inr, replicate, ℤ, pos, negsuc, ◌-ℤ◌, ◌==◌, ◌&&◌, ◌||◌, not, MatchBool, Addi, Instr, Op, OpImm, Load, Store, Branch, Jal, Jalr, Lui, Fence, Ecall, Ebreak, has_stack, is_stack, IsBody, Piece, upper, lower, Slot, Wide, Short, Jump, Upper, Lower, PlacedName, slot_size, size_of, c_nop, AreWhole, nothing, padding, Bases, target_at, address_at, with_offset, c_ebreak, resolved, made_of, AreSlots}
+use Rattle.sfi_link.proofs.Prelude.{◌≡◌, ℕ, zero, suc, ◌+◌, ◌^◌, ◌<◌, ◌≤◌, List, [], ◌∷◌, ◌++◌, length, Option, Some, None, Bool, true, false, refl, sym, ap, ◌∙◌, subst, arith, append_assoc, inl, inr, replicate, ℤ, pos, negsuc, ◌-ℤ◌, ◌==◌, ◌&&◌, ◌||◌, not, MatchBool, Addi, Instr, Op, OpImm, Load, Store, Branch, Jal, Jalr, Lui, Fence, Ecall, Ebreak, has_stack, is_stack, IsBody, Piece, upper, lower, Slot, Wide, Short, Jump, Upper, Lower, Region, PlacedName, slot_size, size_of, c_nop, AreWhole, nothing, padding, Bases, target_at, value_at, base_at, with_offset, c_ebreak, resolved, made_of, AreSlots}
 use Rattle.sfi_source.specs.declared.item.Body.{Body}
-use Rattle.sfi_source.specs.declared.item.Body.TheVariants.{Plain, To, High, Low}
+use Rattle.sfi_source.specs.declared.item.Body.TheVariants.{Plain, To, High, Low, Base}
 use Rattle.rv_word.specs.Spelling.{offset_by}
 use Rattle.rv_word.specs.Outlines.{destination, is_register, writes_register}
-use Rattle.rv_word.specs.declared.instr.RegOp.TheVariants.{And, Or}
+use Rattle.rv_word.specs.declared.instr.RegOp.TheVariants.{Add, And, Or}
 use Rattle.sfi_policy.specs.Formats.{is_reserved, is_withheld, has_words}
 use Rattle.sfi_policy.specs.declared.format.Format.{Format}
 use Rattle.sfi_policy.specs.declared.format.Format.TheVariants.{Sfi1, Sfi2, Sfiw}
@@ -256,11 +256,15 @@ body_clean b at names starts here earlier line rvc (To j k) count expanded more 
         room bytes
 body_clean b at names starts here earlier line rvc (High rd k) count expanded more h c s is x rest =
     subst (λ v. IsCleanly b at names here earlier (v ++ more)) (sym x)
-    (made_clean b at names here earlier (is_stack b.format rd) rd (Upper rd k line) (λ address. Lui rd (upper (pos address))) (address_at at names k) more refl refl
+    (made_clean b at names here earlier (is_stack b.format rd) rd (Upper rd k line) (λ address. Lui rd (upper (pos address))) (value_at at names k) more refl refl
     (λ a. (refl, refl, refl, unreserved rd h)) (λ i. tt) rest)
 body_clean b at names starts here earlier line rvc (Low rd k) count expanded more h c s is x rest =
     subst (λ v. IsCleanly b at names here earlier (v ++ more)) (sym x)
-    (made_clean b at names here earlier (is_stack b.format rd) rd (Lower rd k line) (λ address. OpImm Addi rd rd (lower (pos address))) (address_at at names k) more refl refl
+    (made_clean b at names here earlier (is_stack b.format rd) rd (Lower rd k line) (λ address. OpImm Addi rd rd (lower (pos address))) (value_at at names k) more refl refl
+    (λ a. (refl, refl, refl, unreserved rd h)) (λ i. tt) rest)
+body_clean b at names starts here earlier line rvc (Base rd k) count expanded more h c s is x rest =
+    subst (λ v. IsCleanly b at names here earlier (v ++ more)) (sym x)
+    (made_clean b at names here earlier (is_stack b.format rd) rd (Region rd k line) (λ r. Op Add rd rd r) (base_at names k) more refl refl
     (λ a. (refl, refl, refl, unreserved rd h)) (λ i. tt) rest)
 
 -- ---- whole expansions

@@ -1,7 +1,8 @@
 -- What holds of what is linked: the laws, for proofs here and in the crates above.
-use Rattle.sfi_link.specs.Laws.{LinkedIsClean, LinkedIsRight, OneLinking, OneImage, OneFault, NeverBoth, ImageHasNoFault, SomeLinking, UsualPlacesAreFree}
+use Rattle.sfi_link.specs.Laws.{LinkedIsClean, LinkedIsRight, OneLinking, MovableCodeIsPlaceless, OneImage, OneFault, NeverBoth, ImageHasNoFault, SomeLinking, UsualPlacesAreFree}
 use Rattle.sfi_link.proofs.LinkedClean as clean
 use Rattle.sfi_link.proofs.Linking as linking
+use Rattle.sfi_link.proofs.Moving as moving
 use Rattle.sfi_link.proofs.OneLinking as one
 use Rattle.sfi_link.proofs.Parts as parts
 use Rattle.sfi_link.proofs.RunsAs as runs
@@ -17,6 +18,9 @@ linked_is_right = parts.linked_is_right
 
 pub one_linking : OneLinking
 one_linking = λ given placed parts others a b. one.one_linking given 0 placed parts others a.each b.each
+
+pub movable_code_is_placeless : MovableCodeIsPlaceless
+movable_code_is_placeless = moving.placeless
 
 pub one_image : OneImage
 one_image = linking.one_bytes

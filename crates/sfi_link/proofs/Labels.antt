@@ -1,5 +1,5 @@
 -- At a label in the code a unit of its sandbox's code begins.
-use Rattle.sfi_link.proofs.Prelude.{◌≡◌, ℕ, zero, suc, ◌+◌, ◌*◌, ◌%◌, List, [], ◌∷◌, ◌++◌, length, Option, Some, None, refl, sym, ap, ◌∙◌, subst, arith, slice_get, All, All-nil, All-cons, All-head, All-tail, All-append, Format, Part, code_region, PlacedName, Placement, IsPlacedPart, IsPlacedThere, Place, Bases, bases_of, place_of, part_with, IsLinked, AreLinkedFrom, Sandbox, kind_of, entry_of, entries_of, entries_in, map_from}
+use Rattle.sfi_link.proofs.Prelude.{◌≡◌, ℕ, suc, ◌+◌, ◌*◌, ◌%◌, List, [], ◌∷◌, length, Option, Some, None, refl, sym, ap, subst, arith, slice_get, All, All-nil, All-cons, All-head, All-tail, All-append, Format, Part, code_region, PlacedName, Placement, IsPlacedPart, IsPlacedThere, Place, bases_of, place_of, part_with, IsLinked, AreLinkedFrom, Sandbox, kind_of, entry_of, entries_of, entries_in, map_from}
 use Rattle.sfi_policy.specs.Formats.{unit}
 use Rattle.sfi_policy.specs.declared.format.Format.TheVariants.{Sfi1, Sfi2, Sfiw}
 use Rattle.sfi_image.specs.Spelling.{Holds}
@@ -7,7 +7,7 @@ use Rattle.sfi_rewrite.specs.declared.placed.PlacedName.TheVariants.{Gate, Code,
 use Rattle.sfi_link.specs.declared.names.NameKind.{NameKind}
 use Rattle.sfi_link.specs.declared.names.NameKind.TheVariants as kind
 use Rattle.sfi_link.specs.Code.{address_of}
-use Rattle.sfi_link.specs.Names.{MapEntry, BeginsUnit}
+use Rattle.sfi_link.specs.Names.{BeginsUnit}
 use Rattle.sfi_link.proofs.Parts.{well_placed}
 
 -- ---- a label

@@ -22,5 +22,6 @@ pub mod Linking
 pub mod SomeLinking
 pub mod Usual
 pub mod Mapping
+pub mod Moving
 pub mod Labels
 pub mod Facts

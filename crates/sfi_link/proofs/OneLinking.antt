@@ -1,5 +1,5 @@
 -- One list of sandboxes is made of what is placed, or it has one fault.
-use Rattle.sfi_link.proofs.Prelude.{append_assoc, ◌≡◌, ℕ, ◌+◌, ◌*◌, ◌≤◌, List, [], ◌∷◌, ◌++◌, length, replicate, sym, ap, ◌∙◌, subst, arith, inl, inr, length-append, pos, ◌-ℤ◌, repeat, w32, to_le_bytes, InRange, spelling, Format, Part, fields_of, stub_of, Slot, Wide, Short, Jump, Upper, Lower, PlacedName, slot_size, size_of, slots_of, Placement, Place, Bases, LinkFault, bases_of, address_at, target_at, with_offset, IsSlot, AreSlots, place_of, spans_at, Span, AreApart, spans_of, spans, AllPairs, c_ebreak, needed, IsCodeSize, IsLinkedCode, part_with, IsLinked, AreLinkedFrom, AreLinked, HasSlotFault, IsSlotFault, HasPartFault, IsPartFault, IsLinkFault}
+use Rattle.sfi_link.proofs.Prelude.{append_assoc, ◌≡◌, ℕ, ◌+◌, ◌*◌, ◌≤◌, List, [], ◌∷◌, ◌++◌, length, replicate, sym, ap, ◌∙◌, subst, arith, inl, inr, length-append, pos, ◌-ℤ◌, repeat, w32, to_le_bytes, InRange, spelling, Format, Part, fields_of, stub_of, Slot, Wide, Short, Jump, Upper, Lower, Region, PlacedName, slot_size, size_of, slots_of, Placement, Place, Bases, LinkFault, bases_of, value_at, base_at, target_at, with_offset, IsSlot, AreSlots, place_of, spans_at, Span, AreApart, spans_of, spans, AllPairs, c_ebreak, needed, IsCodeSize, IsLinkedCode, part_with, IsLinked, AreLinkedFrom, AreLinked, HasSlotFault, IsSlotFault, HasPartFault, IsPartFault, IsLinkFault}
 use Rattle.std.proofs.lemmas.Option.{none-some}
 use Rattle.sfi_image.proofs.SpanLists.{front_apart}
 use Rattle.sfi_rewrite.proofs.Sizes.{size_of-append}
@@ -64,8 +64,9 @@ never_slot at names here (Jump i k line) bytes f x (inr h) =
     let aim = λ (to : ℕ). with_offset (pos to -ℤ pos here) i in
     let m = made aim (target_at at names k) x.instr x.resolves in
     h.2 (subst InRange (m.2 ∙ ap aim (some_same m.0 h.0 (sym m.1 ∙ h.1))) x.spelled.0)
-never_slot at names here (Upper rd k line) bytes f x h = none-some _ (sym h.0 ∙ (made _ (address_at at names k) x.instr x.resolves).1)
-never_slot at names here (Lower rd k line) bytes f x h = none-some _ (sym h.0 ∙ (made _ (address_at at names k) x.instr x.resolves).1)
+never_slot at names here (Upper rd k line) bytes f x h = none-some _ (sym h.0 ∙ (made _ (value_at at names k) x.instr x.resolves).1)
+never_slot at names here (Lower rd k line) bytes f x h = none-some _ (sym h.0 ∙ (made _ (value_at at names k) x.instr x.resolves).1)
+never_slot at names here (Region rd k line) bytes f x h = none-some _ (sym h.0 ∙ (made _ (base_at names k) x.instr x.resolves).1)
 
 -- a slot has one fault
 one_of_slot : (at : Bases) (names : List PlacedName) (here : ℕ) (s : Slot) (f g : LinkFault) → HasSlotFault at names here s f → HasSlotFault at names here s g → f ≡ g

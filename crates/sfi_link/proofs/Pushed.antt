@@ -1,6 +1,9 @@
 -- Slots written one after another.
-use Rattle.sfi_link.proofs.Prelude.{◌≡◌, ℕ, zero, suc, ◌+◌, ◌<◌, List, [], ◌∷◌, ◌++◌, length, drop, get_or, replicate, Some, refl, sym, ap, ◌∙◌, subst, arith, append_assoc, append-nil, length-append, inl, inr, ℤ, pos, All, repeat, w32, to_le_bytes, ints, OpImm, Lui, Addi, InRange, IsReg, IsImm12, spelling, expansion, upper, lower, Slot, Upper, Lower, PlacedName, slot_size, size_of, Bases, LinkFault, address_at, IsSlot, AreSlots, made_of, c_ebreak, HasRoomFor, IsPushed, AreWritten, HasSlotFault, IsSlotFault, ◌⊎◌, Encodes}
+use Rattle.sfi_link.proofs.Prelude.{◌≡◌, ℕ, zero, suc, ◌+◌, ◌<◌, List, [], ◌∷◌, ◌++◌, length, drop, get_or, replicate, Some, refl, sym, ap, ◌∙◌, subst, arith, append_assoc, append-nil, length-append, inl, inr, ℤ, pos, All, repeat, w32, to_le_bytes, ints, Op, OpImm, Lui, Addi, Option, None, slice_get, of_name, InRange, IsReg, IsImm12, spelling, expansion, upper, lower, Slot, Upper, Lower, Region, PlacedName, slot_size, size_of, Bases, LinkFault, value_at, IsSlot, AreSlots, made_of, c_ebreak, HasRoomFor, IsPushed, AreWritten, HasSlotFault, IsSlotFault, ◌⊎◌, Encodes}
 use Rattle.rv_comp.specs.declared.form.Form16.TheVariants.{CEbreak}
+use Rattle.rv_word.specs.declared.instr.RegOp.TheVariants.{Add}
+use Rattle.sfi_rewrite.specs.declared.placed.PlacedName.TheVariants as name
+use Rattle.sfi_link.specs.Code.{base_of, base_at}
 use Rattle.sfi_link.specs.Faults.{UnlessMemory}
 use Rattle.std.proofs.Math.Seq.{take-append_seam, drop-append_seam}
 use Rattle.std.proofs.lemmas.List.{at_drop_more}
@@ -35,13 +38,35 @@ low_in_range rd a reg = (reg, reg, fits (pos a))
     fits z = (omega (arith, ints), omega (arith, ints))
 
 -- the bytes of a slot whose name has an address
-pub upper_slot : (at : Bases) (names : List PlacedName) (here rd place line a : ℕ) → address_at at names place ≡ Some a → IsReg rd → IsSlot at names here (Upper rd place line) (to_le_bytes w32 (spelling (Lui rd (upper (pos a)))))
+pub upper_slot : (at : Bases) (names : List PlacedName) (here rd place line a : ℕ) → value_at at names place ≡ Some a → IsReg rd → IsSlot at names here (Upper rd place line) (to_le_bytes w32 (spelling (Lui rd (upper (pos a)))))
 upper_slot at names here rd place line a there reg =
     record { instr = Lui rd (upper (pos a)); resolves = ap (made_of (λ address. Lui rd (upper (pos address)))) there; spelled = (high_in_range rd a reg, refl) }
 
-pub lower_slot : (at : Bases) (names : List PlacedName) (here rd place line a : ℕ) → address_at at names place ≡ Some a → IsReg rd → IsSlot at names here (Lower rd place line) (to_le_bytes w32 (spelling (OpImm Addi rd rd (lower (pos a)))))
+pub lower_slot : (at : Bases) (names : List PlacedName) (here rd place line a : ℕ) → value_at at names place ≡ Some a → IsReg rd → IsSlot at names here (Lower rd place line) (to_le_bytes w32 (spelling (OpImm Addi rd rd (lower (pos a)))))
 lower_slot at names here rd place line a there reg =
     record { instr = OpImm Addi rd rd (lower (pos a)); resolves = ap (made_of (λ address. OpImm Addi rd rd (lower (pos address)))) there; spelled = (low_in_range rd a reg, refl) }
+
+pub base_in_range : (rd base : ℕ) → IsReg rd → IsReg base → InRange (Op Add rd rd base)
+unfolding InRange
+base_in_range rd base reg other = (reg, reg, other)
+
+-- a base is one of two registers
+pub which_base : (names : List PlacedName) (place base : ℕ) → base_at names place ≡ Some base → (base ≡ 26) ⊎ (base ≡ 24)
+which_base names place base e = of (slice_get names place) e
+  where
+    of : (o : Option PlacedName) → of_name base_of o ≡ Some base → (base ≡ 26) ⊎ (base ≡ 24)
+    of None e = absurd cc
+    of (Some (name.Gate k)) e = let is : 24 ≡ base = cc in inr (sym is)
+    of (Some (name.Code at)) e = let is : 24 ≡ base = cc in inr (sym is)
+    of (Some (name.Data offset)) e = let is : 26 ≡ base = cc in inl (sym is)
+    of (Some name.Unknown) e = absurd cc
+
+pub is_register : (names : List PlacedName) (place base : ℕ) → base_at names place ≡ Some base → IsReg base
+is_register names place base e = elim (which_base names place base e) [ inl d ↦ omega arith | inr c ↦ omega arith ]
+
+pub region_slot : (at : Bases) (names : List PlacedName) (here rd place line base : ℕ) → base_at names place ≡ Some base → IsReg rd → IsSlot at names here (Region rd place line) (to_le_bytes w32 (spelling (Op Add rd rd base)))
+region_slot at names here rd place line base there reg =
+    record { instr = Op Add rd rd base; resolves = ap (made_of (λ r. Op Add rd rd r)) there; spelled = (base_in_range rd base reg (is_register names place base there), refl) }
 
 -- ---- one list after another
 

@@ -1,9 +1,9 @@
 -- Each item of a source does in the image what its instruction does.
-use Rattle.sfi_link.proofs.Prelude.{◌≡◌, ℕ, ◌+◌, ◌*◌, List, [], ◌∷◌, ◌++◌, length, length-append, replicate, Some, Bool, true, false, refl, sym, ap, ◌∙◌, subst, arith, append_assoc, inl, inr, pos, ℤ, negsuc, zero, suc, ◌-ℤ◌, MatchBool, slice_get, repeat, All, Instr, OpImm, Load, Store, Branch, Jal, Jalr, Lui, Addi, Format, is_stack, upper, lower, Sandbox, IsSandbox, IsBody, Part, stub_of, Slot, Wide, Short, Jump, Upper, Lower, PlacedName, slot_size, size_of, resolved, slots_of, c_nop, Placement, Place, Bases, bases_of, with_offset, target_at, address_at, AreSlots, c_ebreak, IsLinked, AreLinkedFrom, All-head, All-tail}
+use Rattle.sfi_link.proofs.Prelude.{◌≡◌, ℕ, ◌+◌, ◌*◌, List, [], ◌∷◌, ◌++◌, length, length-append, replicate, Some, Bool, true, false, refl, sym, ap, ◌∙◌, subst, arith, append_assoc, inl, inr, pos, ℤ, negsuc, zero, suc, ◌-ℤ◌, MatchBool, slice_get, repeat, All, Instr, Op, OpImm, Load, Store, Branch, Jal, Jalr, Lui, Addi, Format, is_stack, upper, lower, Sandbox, IsSandbox, IsBody, Part, stub_of, Slot, Wide, Short, Jump, Upper, Lower, Region, PlacedName, slot_size, size_of, resolved, slots_of, c_nop, Placement, Place, Bases, bases_of, with_offset, target_at, value_at, base_at, AreSlots, c_ebreak, IsLinked, AreLinkedFrom, All-head, All-tail}
 use Rattle.rv_mem.specs.Laws.{Holds}
 use Rattle.rv_step.specs.State.{State}
 use Rattle.sfi_source.specs.declared.item.Body.{Body}
-use Rattle.sfi_source.specs.declared.item.Body.TheVariants.{Plain, To, High, Low}
+use Rattle.sfi_source.specs.declared.item.Body.TheVariants.{Plain, To, High, Low, Base}
 use Rattle.sfi_source.specs.declared.item.Item.{Item}
 use Rattle.sfi_image.specs.Parts.{IsRightPart}
 use Rattle.sfi_link.specs.Standing.{IsResolvedTo, AreResolvedTo, RunsAt, RunsAs, WordRunsAs, RunsAsIn, LinkedRunsAs, LinkedImagesRunAs, SandboxesRunAs}
@@ -19,6 +19,8 @@ use Rattle.std.specs.Prelude.{not, ◌&&◌, ◌||◌, ◌==◌, drop, Option, N
 use Rattle.sfi_rewrite.proofs.Facts.{rewritten_is_transparent}
 use Rattle.sfi_rewrite.proofs.WordStanding.{body_laid}
 use Rattle.sfi_link.proofs.CleanPlaces.{made}
+use Rattle.sfi_link.proofs.Pushed.{which_base}
+use Rattle.rv_word.specs.declared.instr.RegOp.TheVariants.{Add}
 use Rattle.sfi_link.proofs.SlotsThere.{held_part, slots_there}
 use Rattle.sfi_link.proofs.Stubs.{length_stubs}
 use Rattle.sfi_link.proofs.Region.{AreCut, cut}
@@ -112,18 +114,21 @@ AwaitName (Plain i) slots = AreBare slots
 AwaitName (To i name) slots = (line : ℕ) × (rest : List Slot) × (slots ≡ Jump i name line ∷ rest) × AreBare rest
 AwaitName (High rd name) slots = (line : ℕ) × (rest : List Slot) × (slots ≡ Upper rd name line ∷ rest) × AreBare rest
 AwaitName (Low rd name) slots = (line : ℕ) × (rest : List Slot) × (slots ≡ Lower rd name line ∷ rest) × AreBare rest
+AwaitName (Base rd name) slots = (line : ℕ) × (rest : List Slot) × (slots ≡ Region rd name line ∷ rest) × AreBare rest
 
 await_in_bundles : (f : Format) (line : ℕ) (rvc : Bool) (body : Body) (slots : List Slot) → IsExpansionOf f line rvc body slots → AwaitName body slots
 await_in_bundles f line rvc (Plain i) slots e = bare_bundled (writes_stack f i) (is_on_stack f i) rvc i slots e
 await_in_bundles f line rvc (To i name) slots e = (line, [], e, tt)
 await_in_bundles f line rvc (High rd name) slots e = (line, put_back (is_stack f rd), e, bare_pair (is_stack f rd))
 await_in_bundles f line rvc (Low rd name) slots e = (line, put_back (is_stack f rd), e, bare_pair (is_stack f rd))
+await_in_bundles f line rvc (Base rd name) slots e = (line, put_back (is_stack f rd), e, bare_pair (is_stack f rd))
 
 await_in_words : (line : ℕ) (rvc step : Bool) (body : Body) (slots : List Slot) → words_expansion.IsExpansionOf line rvc step body slots → AwaitName body slots
 await_in_words line rvc step (Plain i) slots e = bare_plain (is_move i && not step) rvc step i slots e
 await_in_words line rvc step (To i name) slots e = (line, [], e, tt)
 await_in_words line rvc step (High rd name) slots e = (line, mask_after (Some rd), e, bare_mask (Some rd))
 await_in_words line rvc step (Low rd name) slots e = (line, mask_after (Some rd), e, bare_mask (Some rd))
+await_in_words line rvc step (Base rd name) slots e = (line, mask_after (Some rd), e, bare_mask (Some rd))
 
 aimed : (j i : Instr) (z : ℤ) (count name : ℕ) → IsBody count (To j name) → i ≡ with_offset z j → IsAimed j i
 aimed (Jal rd offset) i z count name b e = (z, e)
@@ -151,12 +156,20 @@ becomes at names here count (To j name) slots bytes b (line, rest, e, bare) h =
     record { instr = w.0; may_be = aimed j w.0 (pos m.0 -ℤ pos here) count name b m.2; goes = w.2 }
 becomes at names here count (High rd name) slots bytes b (line, rest, e, bare) h =
     let w = first_waits at names here (Upper rd name line) rest slots bytes e bare (λ i r. r) h in
-    let m = made (λ address. Lui rd (upper (pos address))) (address_at at names name) w.0 w.1 in
+    let m = made (λ address. Lui rd (upper (pos address))) (value_at at names name) w.0 w.1 in
     record { instr = w.0; may_be = (upper (pos m.0), m.2); goes = w.2 }
 becomes at names here count (Low rd name) slots bytes b (line, rest, e, bare) h =
     let w = first_waits at names here (Lower rd name line) rest slots bytes e bare (λ i r. r) h in
-    let m = made (λ address. OpImm Addi rd rd (lower (pos address))) (address_at at names name) w.0 w.1 in
+    let m = made (λ address. OpImm Addi rd rd (lower (pos address))) (value_at at names name) w.0 w.1 in
     record { instr = w.0; may_be = (lower (pos m.0), m.2); goes = w.2 }
+becomes at names here count (Base rd name) slots bytes b (line, rest, e, bare) h =
+    let w = first_waits at names here (Region rd name line) rest slots bytes e bare (λ i r. r) h in
+    let m = made (λ base. Op Add rd rd base) (base_at names name) w.0 w.1 in
+    record {
+      instr = w.0;
+      may_be = elim (which_base names name m.0 m.1) [ inl d ↦ inl (m.2 ∙ ap (λ base. Op Add rd rd base) d) | inr c ↦ inr (m.2 ∙ ap (λ base. Op Add rd rd base) c) ];
+      goes = w.2;
+    }
 
 -- ---- where it stands in the code
 

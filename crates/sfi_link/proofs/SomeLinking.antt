@@ -1,5 +1,5 @@
 -- What is placed has an image, or a fault.
-use Rattle.sfi_link.proofs.Prelude.{◌≡◌, ℕ, zero, suc, ◌+◌, ◌-◌, ◌/◌, ◌^◌, ◌<◌, ◌≤◌, List, [], ◌∷◌, ◌++◌, length, Option, Some, None, refl, sym, ap, subst, arith, inl, inr, ◌⊎◌, ℤ, pos, ◌-ℤ◌, All, AllPairs, repeat, w16, w32, to_le_bytes, cases_lt, cases_eq, ints, All-head, All-tail, Instr, Branch, Jal, InRange, IsReg, spelling, expansion, Format, code_most, stub_of, Slot, Wide, Short, Jump, Upper, Lower, PlacedName, slot_size, slots_of, Placement, Encodes, IsPlacedPart, Bases, LinkFault, Place, Span, AreApart, spans, place_of, IsRightPlace, spans_at, bases_of, address_at, target_at, with_offset, made_of, IsSlot, AreSlots, needed, HasRoom, IsCodeSize, IsLinkedCode, part_with, IsLinked, AreLinkedFrom, AreLinked, AreWritten, MayLie, HasSlotFault, IsSlotFault, HasPartFault, IsPartFault}
+use Rattle.sfi_link.proofs.Prelude.{◌≡◌, ℕ, zero, suc, ◌+◌, ◌-◌, ◌/◌, ◌^◌, ◌<◌, ◌≤◌, List, [], ◌∷◌, ◌++◌, length, Option, Some, None, refl, sym, ap, subst, arith, inl, inr, ◌⊎◌, ℤ, pos, ◌-ℤ◌, All, AllPairs, repeat, w16, w32, to_le_bytes, cases_lt, cases_eq, ints, All-head, All-tail, Instr, Branch, Jal, InRange, IsReg, spelling, expansion, Format, code_most, stub_of, Slot, Wide, Short, Jump, Upper, Lower, Region, PlacedName, slot_size, slots_of, Placement, Encodes, IsPlacedPart, Bases, LinkFault, Place, Span, AreApart, spans, place_of, IsRightPlace, spans_at, bases_of, value_at, base_at, target_at, with_offset, made_of, IsSlot, AreSlots, needed, HasRoom, IsCodeSize, IsLinkedCode, part_with, IsLinked, AreLinkedFrom, AreLinked, AreWritten, MayLie, HasSlotFault, IsSlotFault, HasPartFault, IsPartFault}
 use Rattle.rv_comp.specs.Fronts.{halfword_of}
 use Rattle.rv_word.specs.Spelling.{modulo, minus, IsBetween}
 use Rattle.sfi_link.specs.Laws.{SomeLinking}
@@ -17,7 +17,7 @@ use Rattle.sfi_link.proofs.Stubs.{length_stubs}
 use Rattle.sfi_image.proofs.Formats.{code_at_most}
 use Rattle.sfi_link.proofs.LinkedClean.{all_are_clean}
 use Rattle.sfi_link.proofs.Parts.{linked_is_right}
-use Rattle.sfi_link.proofs.Pushed.{upper_slot, lower_slot}
+use Rattle.sfi_link.proofs.Pushed.{upper_slot, lower_slot, region_slot}
 use Rattle.sfi_link.proofs.Linking.{small_size, least_size, no_room, linked_code, pair, none_apart}
 
 -- ---- offsets
@@ -50,20 +50,25 @@ jump_slot at names here i name line (Some to) is h =
       | inr far ↦ inr (BranchReach line, inr (to, is, far, refl))
     ]
 
-upper_or_fault : (at : Bases) (names : List PlacedName) (here rd name line : ℕ) (address : Option ℕ) → address_at at names name ≡ address → IsReg rd → SlotOrFault at names here (Upper rd name line)
+upper_or_fault : (at : Bases) (names : List PlacedName) (here rd name line : ℕ) (address : Option ℕ) → value_at at names name ≡ address → IsReg rd → SlotOrFault at names here (Upper rd name line)
 upper_or_fault at names here rd name line None is reg = inr (UnknownName line, (is, refl))
 upper_or_fault at names here rd name line (Some a) is reg = inl (_, upper_slot at names here rd name line a is reg)
 
-lower_or_fault : (at : Bases) (names : List PlacedName) (here rd name line : ℕ) (address : Option ℕ) → address_at at names name ≡ address → IsReg rd → SlotOrFault at names here (Lower rd name line)
+lower_or_fault : (at : Bases) (names : List PlacedName) (here rd name line : ℕ) (address : Option ℕ) → value_at at names name ≡ address → IsReg rd → SlotOrFault at names here (Lower rd name line)
 lower_or_fault at names here rd name line None is reg = inr (UnknownName line, (is, refl))
 lower_or_fault at names here rd name line (Some a) is reg = inl (_, lower_slot at names here rd name line a is reg)
+
+region_or_fault : (at : Bases) (names : List PlacedName) (here rd name line : ℕ) (base : Option ℕ) → base_at names name ≡ base → IsReg rd → SlotOrFault at names here (Region rd name line)
+region_or_fault at names here rd name line None is reg = inr (UnknownName line, (is, refl))
+region_or_fault at names here rd name line (Some base) is reg = inl (_, region_slot at names here rd name line base is reg)
 
 slot_or_fault : (at : Bases) (names : List PlacedName) (here : ℕ) (s : Slot) → Encodes s → SlotOrFault at names here s
 slot_or_fault at names here (Wide i) h = inl (to_le_bytes w32 (spelling i), record { instr = i; resolves = refl; spelled = (h, refl) })
 slot_or_fault at names here (Short f) h = inl (to_le_bytes w16 (halfword_of f), record { instr = expansion f; resolves = refl; spelled = (h, refl) })
 slot_or_fault at names here (Jump i name line) h = jump_slot at names here i name line (target_at at names name) refl h
-slot_or_fault at names here (Upper rd name line) h = upper_or_fault at names here rd name line (address_at at names name) refl h
-slot_or_fault at names here (Lower rd name line) h = lower_or_fault at names here rd name line (address_at at names name) refl h
+slot_or_fault at names here (Upper rd name line) h = upper_or_fault at names here rd name line (value_at at names name) refl h
+slot_or_fault at names here (Lower rd name line) h = lower_or_fault at names here rd name line (value_at at names name) refl h
+slot_or_fault at names here (Region rd name line) h = region_or_fault at names here rd name line (base_at names name) refl h
 
 -- ---- slots
 

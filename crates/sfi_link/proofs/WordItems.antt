@@ -1,6 +1,6 @@
 -- The expansions of items in words break no rule, as they are laid: before each of them nothing is
 -- owed, or it is the use of the step before it.
-use Rattle.sfi_link.proofs.Prelude.{◌≡◌, ◌⊎◌, ℕ, ◌+◌, ◌^◌, ◌<◌, ◌≤◌, List, [], ◌∷◌, ◌++◌, map, Option, Some, None, Bool, true, false, refl, sym, ap, ◌∙◌, subst, arith, inl, inr, append-nil, ◌==◌, ◌&&◌, ◌||◌, not, or_parts, and_parts, eqb-true, ℤ, pos, negsuc, ◌-ℤ◌, MatchBool, Addi, All, All-head, All-tail, Instr, Op, OpImm, Load, Store, Branch, Jal, Jalr, Lui, Auipc, Fence, Ecall, Ebreak, IsBody, upper, lower, Slot, Wide, Upper, Lower, PlacedName, slot_size, size_of, Bases, target_at, address_at, with_offset, resolved, made_of}
+use Rattle.sfi_link.proofs.Prelude.{◌≡◌, ◌⊎◌, ℕ, ◌+◌, ◌^◌, ◌<◌, ◌≤◌, List, [], ◌∷◌, ◌++◌, map, Option, Some, None, Bool, true, false, refl, sym, ap, ◌∙◌, subst, arith, inl, inr, append-nil, ◌==◌, ◌&&◌, ◌||◌, not, or_parts, and_parts, eqb-true, ℤ, pos, negsuc, ◌-ℤ◌, MatchBool, Addi, All, All-head, All-tail, Instr, Op, OpImm, Load, Store, Branch, Jal, Jalr, Lui, Auipc, Fence, Ecall, Ebreak, IsBody, upper, lower, Slot, Wide, Upper, Lower, Region, PlacedName, slot_size, size_of, Bases, target_at, value_at, base_at, with_offset, resolved, made_of}
 use Rattle.std.specs.Prelude.{if◌then◌else◌}
 use Rattle.std.proofs.lemmas.Bool.{true≢false, not-false}
 use Rattle.std.proofs.lemmas.List.{map-append}
@@ -10,7 +10,7 @@ use Rattle.rv_word.specs.declared.instr.RegOp.TheVariants.{Add, And, Or}
 use Rattle.rv_word.specs.declared.instr.LoadKind.{LoadKind}
 use Rattle.rv_word.specs.declared.instr.StoreWidth.{StoreWidth}
 use Rattle.sfi_source.specs.declared.item.Body.{Body}
-use Rattle.sfi_source.specs.declared.item.Body.TheVariants.{Plain, To, High, Low}
+use Rattle.sfi_source.specs.declared.item.Body.TheVariants.{Plain, To, High, Low, Base}
 use Rattle.sfi_source.specs.declared.item.Item.{Item}
 use Rattle.sfi_policy.specs.declared.format.Format.TheVariants.{Sfiw}
 use Rattle.sfi_policy.specs.Formats.{is_data_register}
@@ -331,11 +331,15 @@ body_right base size at names starts here owed line rvc step (To j k) count slot
 body_right base size at names starts here owed line rvc step (High rd k) count slots room o is n c b s x =
     named_right base size at names here owed step (High rd k) slots refl o
     (subst (λ v. AreRight base size at names here kind.Nothing v kind.Nothing) (sym x)
-    (made_right base size at names here (Upper rd k line) (λ address. Lui rd (upper (pos address))) (address_at at names k) rd refl refl n (λ a. (refl, refl, refl, refl))))
+    (made_right base size at names here (Upper rd k line) (λ address. Lui rd (upper (pos address))) (value_at at names k) rd refl refl n (λ a. (refl, refl, refl, refl))))
 body_right base size at names starts here owed line rvc step (Low rd k) count slots room o is n c b s x =
     named_right base size at names here owed step (Low rd k) slots refl o
     (subst (λ v. AreRight base size at names here kind.Nothing v kind.Nothing) (sym x)
-    (made_right base size at names here (Lower rd k line) (λ address. OpImm Addi rd rd (lower (pos address))) (address_at at names k) rd refl refl n (λ a. (refl, refl, refl, refl))))
+    (made_right base size at names here (Lower rd k line) (λ address. OpImm Addi rd rd (lower (pos address))) (value_at at names k) rd refl refl n (λ a. (refl, refl, refl, refl))))
+body_right base size at names starts here owed line rvc step (Base rd k) count slots room o is n c b s x =
+    named_right base size at names here owed step (Base rd k) slots refl o
+    (subst (λ v. AreRight base size at names here kind.Nothing v kind.Nothing) (sym x)
+    (made_right base size at names here (Region rd k line) (λ r. Op Add rd rd r) (base_at names k) rd refl refl n (λ a. (refl, refl, refl, refl))))
 
 -- ---- items
 

@@ -1,7 +1,7 @@
 -- The bytes of what is placed: addresses for names, stubs, and code.
-use Rattle.std.specs.Prelude.{ℕ, ◌+◌, ◌*◌, ℤ, List, length, slice_get, Option, Some, None, pos, [], ◌∷◌, ◌++◌, if◌then◌else◌, ◌≡◌, ◌-ℤ◌, IsTrue}
+use Rattle.std.specs.Prelude.{ℕ, ◌+◌, ◌-◌, ◌*◌, ℤ, List, length, slice_get, Option, Some, None, pos, [], ◌∷◌, ◌++◌, if◌then◌else◌, ◌≡◌, ◌-ℤ◌, IsTrue}
 use Rattle.rv_word.specs.declared.instr.Instr.{Instr}
-use Rattle.rv_word.specs.declared.instr.Instr.TheVariants.{Branch, Jal, Jalr, Ecall, OpImm, Lui}
+use Rattle.rv_word.specs.declared.instr.Instr.TheVariants.{Branch, Jal, Jalr, Ecall, Op, OpImm, Lui}
 use Rattle.sfi_policy.specs.Limits.{bundle_size, place_of}
 use Rattle.sfi_policy.specs.declared.place.Place.{Place}
 use Rattle.sfi_rewrite.specs.declared.placed.PlacedName.{PlacedName}
@@ -12,14 +12,15 @@ use Rattle.std.specs.List.{flat_map}
 use Rattle.std.specs.Int.{w32, to_le_bytes, w16}
 use Rattle.rv_word.specs.Spelling.{spelling, InRange}
 use Rattle.sfi_policy.specs.declared.format.Format.{Format}
-use Rattle.sfi_policy.specs.Formats.{has_words, code_register, return_register}
+use Rattle.sfi_policy.specs.Formats.{has_words, code_base_register, data_base_register, code_register, return_register}
 use Rattle.sfi_pairs.specs.Pairs.{code_pair, stub}
 use Rattle.rv_word.specs.declared.instr.ImmOp.TheVariants.{Addi}
+use Rattle.rv_word.specs.declared.instr.RegOp.TheVariants.{Add}
 use Rattle.rv_comp.specs.Table.{allowed, expansion}
 use Rattle.rv_comp.specs.Fronts.{halfword_of}
 use Rattle.sfi_source.specs.Source.{upper, lower}
 use Rattle.sfi_rewrite.specs.declared.slot.Slot.{Slot}
-use Rattle.sfi_rewrite.specs.declared.slot.Slot.TheVariants.{Wide, Short, Jump, Upper, Lower}
+use Rattle.sfi_rewrite.specs.declared.slot.Slot.TheVariants.{Wide, Short, Jump, Upper, Lower, Region}
 use Rattle.sfi_rewrite.specs.Expansion.{slot_size}
 
 -- ==== Addresses for names.
@@ -30,7 +31,8 @@ use Rattle.sfi_rewrite.specs.Expansion.{slot_size}
 abbrev pub stub_size : ℕ
 stub_size = bundle_size
 
--- where the sandbox of that number lies: its code, the first byte after its gates' stubs, its data
+-- where the sandbox of that number lies: its code, the first byte after its gates' stubs, its data; and
+-- whether it can be moved
 abbrev pub bases_of : List Place → ℕ → Placement → Bases
 bases_of given number p =
     let place = place_of given number in
@@ -38,6 +40,7 @@ bases_of given number p =
       code = place.code_base;
       start = place.code_base + stub_size * length p.gates;
       «data» = place.data_base;
+      movable = p.movable;
     }
 
 -- ---- names
@@ -62,9 +65,34 @@ abbrev pub of_name : (PlacedName → Option ℕ) → Option PlacedName → Optio
 of_name f None = None
 of_name f (Some name) = f name
 
+-- how far the name's address is from the base of its region, the code or the data
+abbrev pub offset_of : Bases → PlacedName → Option ℕ
+offset_of at (Gate k) = Some (stub_size * k)
+offset_of at (Code place) = Some (at.start + place - at.code)
+offset_of at (Data offset) = Some offset
+offset_of at Unknown = None
+
+-- the reserved register that holds the base of the region of what the name names
+abbrev pub base_of : PlacedName → Option ℕ
+base_of (Gate k) = Some code_base_register
+base_of (Code place) = Some code_base_register
+base_of (Data offset) = Some data_base_register
+base_of Unknown = None
+
 -- the address of what name `place` names
 abbrev pub address_at : Bases → List PlacedName → ℕ → Option ℕ
 address_at at names place = of_name (address_of at) (slice_get names place)
+
+-- the number that the lui and the addi of `la` hold of name `place`: its address or, in a movable
+-- sandbox, how far that is from its region's base
+abbrev pub value_at : Bases → List PlacedName → ℕ → Option ℕ
+value_at at names place =
+    if at.movable then of_name (offset_of at) (slice_get names place)
+    else address_at at names place
+
+-- the register that holds the base of the region of what name `place` names
+abbrev pub base_at : List PlacedName → ℕ → Option ℕ
+base_at names place = of_name base_of (slice_get names place)
 
 -- the address to which a jump to name `place` leads
 abbrev pub target_at : Bases → List PlacedName → ℕ → Option ℕ
@@ -109,9 +137,11 @@ resolved at names here (Short f) = Some (expansion f)
 resolved at names here (Jump i name line) =
     made_of (λ to. with_offset (pos to -ℤ pos here) i) (target_at at names name)
 resolved at names here (Upper rd name line) =
-    made_of (λ address. Lui rd (upper (pos address))) (address_at at names name)
+    made_of (λ value. Lui rd (upper (pos value))) (value_at at names name)
 resolved at names here (Lower rd name line) =
-    made_of (λ address. OpImm Addi rd rd (lower (pos address))) (address_at at names name)
+    made_of (λ value. OpImm Addi rd rd (lower (pos value))) (value_at at names name)
+resolved at names here (Region rd name line) =
+    made_of (λ base. Op Add rd rd base) (base_at names name)
 
 -- the four bytes of a 32-bit instruction, the lowest first
 abbrev IsWord : List ℕ → Instr → Type 0

@@ -8,7 +8,7 @@ use Rattle.sfi_image.specs.declared.span.Span.{Span}
 use Rattle.sfi_image.specs.Spelling.{Part, AreApart, spans}
 use Rattle.sfi_policy.specs.declared.place.Place.{Place}
 use Rattle.sfi_rewrite.specs.declared.slot.Slot.{Slot}
-use Rattle.sfi_rewrite.specs.declared.slot.Slot.TheVariants.{Wide, Short, Jump, Upper, Lower}
+use Rattle.sfi_rewrite.specs.declared.slot.Slot.TheVariants.{Wide, Short, Jump, Upper, Lower, Region}
 use Rattle.sfi_rewrite.specs.declared.placed.PlacedName.{PlacedName}
 use Rattle.sfi_rewrite.specs.Expansion.{slot_size, slots_of}
 use Rattle.sfi_rewrite.specs.Placement.{Placement}
@@ -16,7 +16,7 @@ use Rattle.sfi_link.specs.declared.bases.Bases.{Bases}
 use Rattle.sfi_link.specs.declared.fault.LinkFault.{LinkFault}
 use Rattle.sfi_link.specs.declared.fault.LinkFault.TheVariants.{UnknownName, BranchReach, TooLarge, TooManySandboxes, Memory}
 use Rattle.sfi_link.specs.declared.fault.LinkFault.TheVariants as fault
-use Rattle.sfi_link.specs.Code.{address_at, target_at, with_offset, bases_of, IsSlot}
+use Rattle.sfi_link.specs.Code.{value_at, base_at, target_at, with_offset, bases_of, IsSlot}
 use Rattle.sfi_link.specs.Linked.{needed, HasRoom, IsCodeSize, IsLinked, IsRightPlace, spans_at}
 use Rattle.std.specs.Global.{Global}
 
@@ -33,7 +33,7 @@ number_of (fault.Place sandbox) = 6
 
 -- ---- of a slot
 
--- the fault of a name on that line that has no address
+-- the fault of a name on that line that names nothing
 abbrev pub IsUnknown : Option ℕ → ℕ → LinkFault → Type 0
 IsUnknown address line f = (address ≡ None) × (f ≡ UnknownName line)
 
@@ -51,8 +51,9 @@ HasSlotFault at names here (Short form) f = ⊥
 HasSlotFault at names here (Jump i name line) f =
     IsUnknown (target_at at names name) line f
     ⊎ IsOutOfReach here i (target_at at names name) line f
-HasSlotFault at names here (Upper rd name line) f = IsUnknown (address_at at names name) line f
-HasSlotFault at names here (Lower rd name line) f = IsUnknown (address_at at names name) line f
+HasSlotFault at names here (Upper rd name line) f = IsUnknown (value_at at names name) line f
+HasSlotFault at names here (Lower rd name line) f = IsUnknown (value_at at names name) line f
+HasSlotFault at names here (Region rd name line) f = IsUnknown (base_at names name) line f
 
 -- this is the fault of the first slot from `here` on that has one; the slots before it have bytes
 abbrev pub IsSlotFault : Bases → List PlacedName → ℕ → List Slot → LinkFault → Type 0

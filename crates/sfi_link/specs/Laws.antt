@@ -1,5 +1,5 @@
 -- What holds of all that is placed.
-use Rattle.std.specs.Prelude.{◌≡◌, ◌⊎◌, ℕ, ◌≤◌, List, [], length}
+use Rattle.std.specs.Prelude.{◌≡◌, ◌⊎◌, ℕ, ◌≤◌, List, [], length, true}
 use Rattle.sfi_image.specs.Spelling.{Part}
 use Rattle.sfi_image.specs.Parts.{IsRightLayout}
 use Rattle.sfi_policy.specs.declared.place.Place.{Place}
@@ -8,7 +8,7 @@ use Rattle.sfi_rewrite.specs.Placement.{Placement}
 use Rattle.sfi_rewrite.specs.Placed.{IsPlacedPart, IsPlaced}
 use Rattle.sfi_link.specs.declared.fault.LinkFault.{LinkFault}
 use Rattle.sfi_link.specs.declared.fault.LinkFault.TheVariants as fault
-use Rattle.sfi_link.specs.Linked.{IsLinked, AreLinked, IsLinkedImage}
+use Rattle.sfi_link.specs.Linked.{IsLinkedCode, IsLinked, AreLinked, IsLinkedImage}
 use Rattle.sfi_policy.specs.Limits.{sandboxes_most}
 use Rattle.sfi_link.specs.Faults.{IsLinkFault}
 
@@ -26,6 +26,13 @@ LinkedIsRight = (given : List Place) (placed : List Placement) (parts : List Par
 abbrev pub OneLinking : Type 0
 OneLinking = (given : List Place) (placed : List Placement) (parts others : List Part)
     → AreLinked given placed parts → AreLinked given placed others → parts ≡ others
+
+-- a sandbox that can be moved has the same code at each place: so what is built there is what was built
+-- elsewhere, and moved
+abbrev pub MovableCodeIsPlaceless : Type 0
+MovableCodeIsPlaceless =
+    (given others : List Place) (number : ℕ) (p : Placement) (code : List ℕ) → p.movable ≡ true
+    → IsLinkedCode given number p code → IsLinkedCode others number p code
 
 -- what is placed has at most one image
 abbrev pub OneImage : Type 0

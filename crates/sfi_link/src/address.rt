@@ -1,12 +1,12 @@
 //! Addresses for names, and what an instruction holds of them.
-ghost use Rattle.std.specs.Prelude.{◌≡◌, ◌+◌, ◌<◌, ◌≤◌, ◌^◌, pos, ◌-ℤ◌, IfSome};
+ghost use Rattle.std.specs.Prelude.{◌≡◌, ◌+◌, ◌<◌, ◌≤◌, ◌^◌, pos, ◌-ℤ◌, IfSome, slice_get};
 ghost use Rattle.sfi_source.specs.Source.{upper, lower};
-ghost use Rattle.sfi_link.specs.Code.{address_of, target_of, address_at, target_at, with_offset};
+ghost use Rattle.sfi_link.specs.Code.{address_of, target_of, address_at, offset_of, base_of, value_at, base_at, target_at, of_name, with_offset};
 ghost use Rattle.sfi_link.specs.private.{IsInCode, IsNear, AreNear};
 
 use crate::bases::Bases;
-use rv_word::Instr;
-use sfi_policy::BUNDLE_SIZE;
+use rv_word::{Instr, Reg};
+use sfi_policy::{BUNDLE_SIZE, CODE_BASE_REGISTER, DATA_BASE_REGISTER};
 use sfi_rewrite::PlacedName;
 
 // The address of what the name names; none where that is unknown.
@@ -34,6 +34,30 @@ fn target_of(at: Bases, name: PlacedName) -> Option<u32>
     }
 }
 
+// How far the name's address is from the base of its region; none where the name is unknown.
+fn offset_of(at: Bases, name: PlacedName) -> Option<u32>
+    requires near { IsNear at name }
+    ensures is { result ≡ offset_of at name }
+{
+    match name {
+        PlacedName::Gate(k) => Some(BUNDLE_SIZE * k as u32),
+        PlacedName::Code(place) => Some(at.start + place - at.code),
+        PlacedName::Data(offset) => Some(offset),
+        PlacedName::Unknown => None,
+    }
+}
+
+// The register that holds the base of the region of what the name names; none where that is unknown.
+fn base_of(name: PlacedName) -> Option<Reg>
+    ensures is { result ≡ base_of name }
+{
+    match name {
+        PlacedName::Gate(_) | PlacedName::Code(_) => Some(Reg::numbered(CODE_BASE_REGISTER)),
+        PlacedName::Data(_) => Some(Reg::numbered(DATA_BASE_REGISTER)),
+        PlacedName::Unknown => None,
+    }
+}
+
 // The address of what name `place` names.
 pub(crate) fn address_at(at: Bases, names: &[PlacedName], place: usize) -> Option<u32>
     requires { AreNear at names.now }
@@ -41,6 +65,39 @@ pub(crate) fn address_at(at: Bases, names: &[PlacedName], place: usize) -> Optio
 {
     match names.get(place) {
         Some(name) => address_of(at, *name),
+        None => None,
+    }
+}
+
+// How far that is from the base of its region.
+fn offset_at(at: Bases, names: &[PlacedName], place: usize) -> Option<u32>
+    requires { AreNear at names.now }
+    ensures is { result ≡ of_name (offset_of at) (slice_get names.now place) }
+{
+    match names.get(place) {
+        Some(name) => offset_of(at, *name),
+        None => None,
+    }
+}
+
+// The number that the lui and the addi of `la` hold of name `place`.
+pub(crate) fn value_at(at: Bases, names: &[PlacedName], place: usize) -> Option<u32>
+    requires { AreNear at names.now }
+    ensures is { result ≡ value_at at names.now place }
+{
+    if at.movable {
+        offset_at(at, names, place)
+    } else {
+        address_at(at, names, place)
+    }
+}
+
+// The register that holds the base of the region of what name `place` names.
+pub(crate) fn base_at(names: &[PlacedName], place: usize) -> Option<Reg>
+    ensures is { result ≡ base_at names.now place }
+{
+    match names.get(place) {
+        Some(name) => base_of(*name),
         None => None,
     }
 }
@@ -57,19 +114,19 @@ pub(crate) fn target_at(at: Bases, names: &[PlacedName], place: usize) -> Option
     }
 }
 
-// The immediate of the lui for an address: bits 31:12 of the address plus 2048.
-pub(crate) fn upper(address: u32) -> u32
-    ensures is { result ≡ upper (pos address) }
+// The immediate of the lui for a number: bits 31:12 of the number plus 2048.
+pub(crate) fn upper(value: u32) -> u32
+    ensures is { result ≡ upper (pos value) }
     ensures fits { result < 2 ^ 20 }
 {
-    address.wrapping_add(2048) / 4096
+    value.wrapping_add(2048) / 4096
 }
 
 // The immediate of the addi after that lui, from -2048 to 2047.
-pub(crate) fn lower(address: u32) -> i32
-    ensures { result ≡ lower (pos address) }
+pub(crate) fn lower(value: u32) -> i32
+    ensures { result ≡ lower (pos value) }
 {
-    (address.wrapping_add(2048) % 4096) as i32 - 2048
+    (value.wrapping_add(2048) % 4096) as i32 - 2048
 }
 
 // The offset from address `here` to address `there`.

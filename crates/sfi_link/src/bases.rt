@@ -16,6 +16,8 @@ pub struct Bases {
     pub start: u32,
     /// The first address of the data.
     pub data: u32,
+    /// Whether the sandbox can be moved.
+    pub movable: bool,
 }
 
 // Where the sandbox of that number lies.
@@ -31,5 +33,6 @@ pub(crate) fn bases_of(given: &[Place], number: u32, part: &PlacedPart) -> Bases
         // Each gate's stub has 16 bytes, as many as a bundle.
         start: place.code_base + BUNDLE_SIZE * part.gates().len() as u32,
         data: place.data_base,
+        movable: part.is_movable(),
     }
 }

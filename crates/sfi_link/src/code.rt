@@ -3,23 +3,24 @@ ghost use Rattle.std.specs.Prelude.{◌≡◌, ◌+◌, ◌^◌, ◌<◌, ◌++�
 ghost use Rattle.std.specs.List.{All};
 ghost use Rattle.std.specs.Int.{w16, w32, to_le_bytes};
 ghost use Rattle.rv_word.specs.Spelling.{InRange, IsReg, spelling};
-ghost use Rattle.rv_word.specs.declared.instr.Instr.TheVariants.{OpImm};
+ghost use Rattle.rv_word.specs.declared.instr.Instr.TheVariants.{Op, OpImm};
 ghost use Rattle.rv_word.specs.declared.instr.ImmOp.TheVariants.{Addi};
+ghost use Rattle.rv_word.specs.declared.instr.RegOp.TheVariants.{Add};
 ghost use Rattle.rv_comp.specs.Table.{allowed};
 ghost use Rattle.rv_comp.specs.Fronts.{halfword_of};
 ghost use Rattle.sfi_rewrite.specs.Expansion.{size_of, slots_of};
 ghost use Rattle.sfi_rewrite.specs.Placed.{Encodes};
 ghost use Rattle.sfi_source.specs.Source.{lower};
-ghost use Rattle.sfi_link.specs.Code.{address_at};
+ghost use Rattle.sfi_link.specs.Code.{value_at, base_at};
 ghost use Rattle.sfi_link.specs.private.{HasRoomFor, AreNear, IsPushed, AreWritten, Links};
 ghost use Rattle.sfi_link.specs.Faults.{IsUnknown, HasSlotFault, IsSlotFault};
 ghost use Rattle.sfi_rewrite.specs.declared.slot.Slot.TheVariants.{Jump};
 
-use crate::address::{address_at, distance, lower, target_at, upper, with_offset};
+use crate::address::{base_at, distance, lower, target_at, upper, value_at, with_offset};
 use crate::bases::Bases;
 use crate::fault::LinkFault;
 use rv_comp::{Form16, write_short, write_wide};
-use rv_word::{ImmOp, Instr, Reg};
+use rv_word::{ImmOp, Instr, Reg, RegOp};
 use sfi_rewrite::{Bundle, PlacedName, Slot};
 use std::alloc::AllocError;
 
@@ -73,27 +74,50 @@ fn push_jump(
     Ok(())
 }
 
-// The address of what name `place` names, or the fault that `line` uses a name without one.
-fn known_address(at: Bases, names: &[PlacedName], place: usize, line: u32) -> Result<u32, LinkFault>
+// The number for which name `place` stands, or the fault that `line` uses a name without one.
+fn known_value(at: Bases, names: &[PlacedName], place: usize, line: u32) -> Result<u32, LinkFault>
     requires near { AreNear at names.now }
-    ensures ok { IfOk result (λ address. address_at at names.now place ≡ Some address) }
-    ensures err { IfErr result (IsUnknown (address_at at names.now place) line) }
+    ensures ok { IfOk result (λ value. value_at at names.now place ≡ Some value) }
+    ensures err { IfErr result (IsUnknown (value_at at names.now place) line) }
 {
-    match address_at(at, names, place) {
-        Some(address) => Ok(address),
+    match value_at(at, names, place) {
+        Some(value) => Ok(value),
         None => Err(LinkFault::UnknownName { line }),
     }
 }
 
-// `addi rd, rd, imm`, which adds what a lui leaves of the address.
-fn add_lower(rd: Reg, address: u32) -> Instr
-    ensures { result ≡ OpImm Addi rd rd (lower (pos address)) }
+// The register with the base of the region of what name `place` names, or that fault.
+fn known_base(names: &[PlacedName], place: usize, line: u32) -> Result<Reg, LinkFault>
+    ensures ok { IfOk result (λ base. base_at names.now place ≡ Some base) }
+    ensures err { IfErr result (IsUnknown (base_at names.now place) line) }
+{
+    match base_at(names, place) {
+        Some(base) => Ok(base),
+        None => Err(LinkFault::UnknownName { line }),
+    }
+}
+
+// `addi rd, rd, imm`, which adds what a lui leaves of the number.
+fn add_lower(rd: Reg, value: u32) -> Instr
+    ensures { result ≡ OpImm Addi rd rd (lower (pos value)) }
 {
     Instr::OpImm {
         op: ImmOp::Addi,
         rd,
         rs1: rd,
-        imm: lower(address),
+        imm: lower(value),
+    }
+}
+
+// `add rd, rd, base`.
+fn add_base(rd: Reg, base: Reg) -> Instr
+    ensures { result ≡ Op Add rd rd base }
+{
+    Instr::Op {
+        op: RegOp::Add,
+        rd,
+        rs1: rd,
+        rs2: base,
     }
 }
 
@@ -115,12 +139,16 @@ fn push_slot(
         Slot::Short(form) => push_short(code, form)?,
         Slot::Jump { instr, name, line } => push_jump(code, at, names, instr, name, line)?,
         Slot::Upper { rd, name, line } => {
-            let imm = upper(known_address(at, names, name, line)?);
+            let imm = upper(known_value(at, names, name, line)?);
             push_wide(code, Instr::Lui { rd, imm })?;
         }
         Slot::Lower { rd, name, line } => {
-            let address = known_address(at, names, name, line)?;
-            push_wide(code, add_lower(rd, address))?;
+            let value = known_value(at, names, name, line)?;
+            push_wide(code, add_lower(rd, value))?;
+        }
+        Slot::Region { rd, name, line } => {
+            let base = known_base(names, name, line)?;
+            push_wide(code, add_base(rd, base))?;
         }
     }
     Ok(())

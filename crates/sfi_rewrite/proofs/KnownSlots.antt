@@ -1,5 +1,5 @@
 -- What is known of the slots of a sandbox's items: they encode, and their names are the sandbox's.
-use Rattle.sfi_rewrite.proofs.Prelude.{◌≡◌, ℕ, zero, suc, ◌+◌, ◌*◌, ◌<◌, List, [], ◌∷◌, ◌++◌, replicate, refl, arith, inl, inr, ℤ, pos, negsuc, Bool, true, false, MatchBool, All, All-nil, All-cons, All-append, All-head, All-tail, All-replicate, Instr, And, Or, Op, OpImm, Load, Store, Jalr, Format, is_stack, Item, Body, Plain, To, High, Low, IsBody, Slot, Wide, Short, Jump, Upper, Lower, size_of, c_nop, writes_stack, is_on_stack, stack_pair, put_back, code_pair_slots, jump_to_x31, jump_slots, IsAlone, IsMasked, IsExpansionOf, AreLaidFrom, Encodes, IsNamedBelow, Addi, ints, alone, subst, sym}
+use Rattle.sfi_rewrite.proofs.Prelude.{◌≡◌, ℕ, zero, suc, ◌+◌, ◌*◌, ◌<◌, List, [], ◌∷◌, ◌++◌, replicate, refl, arith, inl, inr, ℤ, pos, negsuc, Bool, true, false, MatchBool, All, All-nil, All-cons, All-append, All-head, All-tail, All-replicate, Instr, And, Or, Op, OpImm, Load, Store, Jalr, Format, is_stack, Item, Body, Plain, To, High, Low, Base, IsBody, Slot, Wide, Short, Jump, Upper, Lower, Region, size_of, c_nop, writes_stack, is_on_stack, stack_pair, put_back, code_pair_slots, jump_to_x31, jump_slots, IsAlone, IsMasked, IsExpansionOf, AreLaidFrom, Encodes, IsNamedBelow, Addi, ints, alone, subst, sym}
 use Rattle.rv_word.specs.Spelling.{InRange, IsImm12}
 
 pub record IsKnown (count : ℕ) (s : Slot) : Type 0 where
@@ -86,6 +86,8 @@ expansion_known f line rvc (High rd name) count slots e b =
     rw e (named_known count (Upper rd name line) (put_back (is_stack f rd)) b.0 b.1 refl (put_back_known count (is_stack f rd)))
 expansion_known f line rvc (Low rd name) count slots e b =
     rw e (named_known count (Lower rd name line) (put_back (is_stack f rd)) b.0 b.1 refl (put_back_known count (is_stack f rd)))
+expansion_known f line rvc (Base rd name) count slots e b =
+    rw e (named_known count (Region rd name line) (put_back (is_stack f rd)) b.0 b.1 refl (put_back_known count (is_stack f rd)))
 
 pub nops_known : (count n : ℕ) → All (IsKnown count) (replicate n c_nop)
 nops_known count n = All-replicate (IsKnown count) n c_nop (record { encodes = refl; name = tt })

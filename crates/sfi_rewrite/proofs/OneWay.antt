@@ -105,13 +105,14 @@ end_in_one_way : (w : Bool) (end : ℕ) (labelled : Type 0) (m n : ℕ) → Fill
 end_in_one_way false end labelled m n a b = end_one_way end labelled m n a b
 end_in_one_way true end labelled m n a b = a ∙ sym b
 
-same_placement : (p q : Placement) → p.format ≡ q.format → p.data_size ≡ q.data_size → p.gates ≡ q.gates → p.names ≡ q.names → p.bytes ≡ q.bytes → p.bundles ≡ q.bundles → p ≡ q
-same_placement p q f d g n b c =
+same_placement : (p q : Placement) → p.format ≡ q.format → p.movable ≡ q.movable → p.data_size ≡ q.data_size → p.gates ≡ q.gates → p.names ≡ q.names → p.bytes ≡ q.bytes → p.bundles ≡ q.bundles → p ≡ q
+same_placement p q f m d g n b c =
     ap (λ (v : Format). record p { format = v }) f
-    ∙ ap (λ (v : ℕ). record p { format = q.format; data_size = v }) d
-    ∙ ap (λ (v : List SourceGate). record p { format = q.format; data_size = q.data_size; gates = v }) g
-    ∙ ap (λ (v : List PlacedName). record p { format = q.format; data_size = q.data_size; gates = q.gates; names = v }) n
-    ∙ ap (λ (v : List ℕ). record p { format = q.format; data_size = q.data_size; gates = q.gates; names = q.names; bytes = v }) b
+    ∙ ap (λ (v : Bool). record p { format = q.format; movable = v }) m
+    ∙ ap (λ (v : ℕ). record p { format = q.format; movable = q.movable; data_size = v }) d
+    ∙ ap (λ (v : List SourceGate). record p { format = q.format; movable = q.movable; data_size = q.data_size; gates = v }) g
+    ∙ ap (λ (v : List PlacedName). record p { format = q.format; movable = q.movable; data_size = q.data_size; gates = q.gates; names = v }) n
+    ∙ ap (λ (v : List ℕ). record p { format = q.format; movable = q.movable; data_size = q.data_size; gates = q.gates; names = q.names; bytes = v }) b
     ∙ ap (λ (v : List (List Slot)). record q { bundles = v }) c
 
 pub placement_one_way : (s : Sandbox) (p q : Placement) → IsPlacement s p → IsPlacement s q → p ≡ q
@@ -119,7 +120,7 @@ placement_one_way s p q a b =
     let slots = laid_in_one_way (has_words s.format) s.format s.items [] a.slots b.slots a.laid b.laid in
     let nops = end_in_one_way (has_words s.format) (size_of b.slots) (HasEndLabel s) a.nops b.nops (subst (λ (v : List Slot). FillsEndIn (has_words s.format) (size_of v) (HasEndLabel s) a.nops) slots a.end) b.end in
     let code = a.code ∙ ap (λ (v : List Slot). v ++ replicate a.nops c_nop) slots ∙ ap (λ (n : ℕ). b.slots ++ replicate n c_nop) nops ∙ sym b.code in
-    same_placement p q (a.format ∙ sym b.format) (a.data_size ∙ sym b.data_size) (a.gates ∙ sym b.gates) (names_one_way s.format s.items (named s) p.names q.names a.names b.names)
+    same_placement p q (a.format ∙ sym b.format) (a.movable ∙ sym b.movable) (a.data_size ∙ sym b.data_size) (a.gates ∙ sym b.gates) (names_one_way s.format s.items (named s) p.names q.names a.names b.names)
     (a.bytes ∙ sym b.bytes) (bundles_one_way p.bundles q.bundles a.bundles b.bundles code)
 
 pub rewriting_one_way : (source : List Sandbox) (a b : List Placement) → AllZip IsRewritten source a → AllZip IsRewritten source b → a ≡ b

@@ -212,6 +212,7 @@ pub record IsMade (s : Sandbox) (p : Placement) : Type 0 where
   pub end : HasEnd s.format slots (HasEndLabel s) all
   pub code : slots_of p.bundles ≡ all
   pub format : p.format ≡ s.format
+  pub movable : p.movable ≡ s.movable
   pub data_size : p.data_size ≡ s.data_size
   pub gates : p.gates ≡ s.gates
   pub bytes : p.bytes ≡ s.bytes
@@ -223,6 +224,7 @@ rewritten s p m = record {
   faultless = (m.slots, m.faultless);
   placement = record {
     format = m.format;
+    movable = m.movable;
     data_size = m.data_size;
     gates = m.gates;
     bytes = m.bytes;

@@ -15,7 +15,7 @@ pub use Rattle.rv_step.specs.State.{Hart, register, with_register, with_pc, past
 pub use Rattle.rv_step.specs.Step.{next, unchanged, after_load, effect, Stands, Stepped, IsStep, further, StandInRow, LeadsTo, LeadTo, load_size}
 pub use Rattle.sfi_source.specs.Source.{IsBody, Sandbox, named, IsSandbox, IsThere, IsSource}
 pub use Rattle.sfi_source.specs.declared.item.Body.{Body}
-pub use Rattle.sfi_source.specs.declared.item.Body.TheVariants.{Plain, To, High, Low}
+pub use Rattle.sfi_source.specs.declared.item.Body.TheVariants.{Plain, To, High, Low, Base}
 pub use Rattle.sfi_source.specs.declared.item.Item.{Item}
 pub use Rattle.sfi_source.specs.declared.item.Named.{Named}
 pub use Rattle.sfi_source.specs.declared.item.Named.TheVariants.{Code, Unknown, Gate, Data}
@@ -31,7 +31,7 @@ pub use Rattle.sfi_rewrite.specs.Standing.{StandTransparent}
 pub use Rattle.sfi_rewrite.specs.declared.fault.RewriteFault.{RewriteFault}
 pub use Rattle.sfi_rewrite.specs.declared.placed.PlacedName.{PlacedName}
 pub use Rattle.sfi_rewrite.specs.declared.slot.Slot.{Slot}
-pub use Rattle.sfi_rewrite.specs.declared.slot.Slot.TheVariants.{Wide, Upper, Lower, Short, Jump}
+pub use Rattle.sfi_rewrite.specs.declared.slot.Slot.TheVariants.{Wide, Upper, Lower, Region, Short, Jump}
 pub use Rattle.sfi_rewrite.specs.private.{IsFull, IsFilled, largest, HasNext, HaveBodies, AreLabels, HasLabel, placed_of, HasEnd, IsTooLarge, so_far, bytes_of, AreOfFirst, with_slots, ended, HasNoRoom}
 pub use Rattle.rv_step.specs.declared.outcome.Outcome.TheVariants.{Trap, Next}
 pub use Rattle.rv_word.specs.Spelling.{offset_by, spelling, InRange}

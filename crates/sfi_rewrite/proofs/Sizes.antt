@@ -1,5 +1,5 @@
 -- How many bytes slots take.
-use Rattle.sfi_rewrite.proofs.Prelude.{◌≡◌, ℕ, zero, suc, ◌+◌, ◌*◌, ◌%◌, ◌<◌, ◌≤◌, List, [], ◌∷◌, ◌++◌, length, take, get_or, replicate, refl, sym, ap, ◌∙◌, arith, length-take, ◌^◌, Fits, w64, rules, take_more, Slot, Short, slot_size, size_of, c_nop, Bool, true, false, inl, inr, ℤ, pos, negsuc, MatchBool, Instr, Load, Store, Jalr, Format, is_stack, Body, Plain, To, High, Low, Item, Wide, Upper, Lower, writes_stack, is_on_stack, stack_pair, put_back, jump_slots, IsAlone, IsMasked, IsExpansionOf, IsExpansion, bundle_size}
+use Rattle.sfi_rewrite.proofs.Prelude.{◌≡◌, ℕ, zero, suc, ◌+◌, ◌*◌, ◌%◌, ◌<◌, ◌≤◌, List, [], ◌∷◌, ◌++◌, length, take, get_or, replicate, refl, sym, ap, ◌∙◌, arith, length-take, ◌^◌, Fits, w64, rules, take_more, Slot, Short, slot_size, size_of, c_nop, Bool, true, false, inl, inr, ℤ, pos, negsuc, MatchBool, Instr, Load, Store, Jalr, Format, is_stack, Body, Plain, To, High, Low, Base, Item, Wide, Upper, Lower, Region, writes_stack, is_on_stack, stack_pair, put_back, jump_slots, IsAlone, IsMasked, IsExpansionOf, IsExpansion, bundle_size}
 use Rattle.std.proofs.lemmas.List.Sums.{sum_by-append, sum_by-cons}
 
 pub size_of-append : (xs ys : List Slot) → size_of (xs ++ ys) ≡ size_of xs + size_of ys
@@ -126,11 +126,16 @@ lower_one : (writes : Bool) (rd name line : ℕ) (slots : List Slot) → slots �
 lower_one false rd name line slots e = rw e (record { some = omega arith; few = omega arith })
 lower_one true rd name line slots e = rw e (record { some = omega arith; few = omega arith })
 
+region_one : (writes : Bool) (rd name line : ℕ) (slots : List Slot) → slots ≡ Region rd name line ∷ put_back writes → IsOne slots
+region_one false rd name line slots e = rw e (record { some = omega arith; few = omega arith })
+region_one true rd name line slots e = rw e (record { some = omega arith; few = omega arith })
+
 expansion_of_one : (f : Format) (line : ℕ) (rvc : Bool) (body : Body) (slots : List Slot) → IsExpansionOf f line rvc body slots → IsOne slots
 expansion_of_one f line rvc (Plain i) slots e = plain_one (writes_stack f i) (is_on_stack f i) rvc i slots e
 expansion_of_one f line rvc (To i name) slots e = rw e (record { some = omega arith; few = omega arith })
 expansion_of_one f line rvc (High rd name) slots e = upper_one (is_stack f rd) rd name line slots e
 expansion_of_one f line rvc (Low rd name) slots e = lower_one (is_stack f rd) rd name line slots e
+expansion_of_one f line rvc (Base rd name) slots e = region_one (is_stack f rd) rd name line slots e
 
 -- an item's expansion fits one bundle
 pub expansion_one : (f : Format) (x : Item) (slots : List Slot) → IsExpansion f x slots → IsOne slots

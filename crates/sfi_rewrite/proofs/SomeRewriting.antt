@@ -1,5 +1,5 @@
 -- A source is rewritten, or has a fault.
-use Rattle.sfi_rewrite.proofs.Prelude.{◌≡◌, ℕ, zero, suc, ◌+◌, ◌-◌, ◌*◌, ◌/◌, ◌%◌, ◌<◌, ◌≤◌, List, [], ◌∷◌, ◌++◌, length, take, get_or, replicate, refl, sym, ap, ◌∙◌, subst, arith, append_assoc, append-nil, inl, inr, ◌⊎◌, Bool, true, false, MatchBool, Contains, All-nil, Some, drop, ◌&&◌, AllZip, cases_lt, cases_eq, cases_Bool, false≢true, take_all, get_or_default, Contains-append_right, Instr, Load, Store, Jalr, Ecall, Format, code_most, is_stack, Item, Body, Plain, To, High, Low, Named, Gate, Code, Data, Unknown, Sandbox, named, Slot, Wide, Short, Jump, Upper, Lower, RewriteFault, PlacedName, size_of, slots_of, c_nop, writes_stack, is_on_stack, is_stack_write, stack_pair, put_back, data_pair_slots, jump_slots, IsAlone, IsMasked, IsExpansionOf, IsExpansion, is_call, next_bundle, FillsGap, Placement, IsPlacedName, HasEndLabel, FillsEnd, AreBundles, IsPermitted, AreFaultless, HasItemFault, IsItemFault, IsSourceFault, IsRewritten, AreRewritten, SomeRewriting, bundle_size, Sfi1, not, AreLaidIn, FillsEndIn, IsConfined, IsAround, base_of, before, after, is_move, moved, mask_after, is_step, Marked, marked, alone, in_words, AreExpanded, AreLaidBefore, item_names_withheld, is_ecall, AreLaidFrom, IsFaultless, label_place, has_words}
+use Rattle.sfi_rewrite.proofs.Prelude.{◌≡◌, ℕ, zero, suc, ◌+◌, ◌-◌, ◌*◌, ◌/◌, ◌%◌, ◌<◌, ◌≤◌, List, [], ◌∷◌, ◌++◌, length, take, get_or, replicate, refl, sym, ap, ◌∙◌, subst, arith, append_assoc, append-nil, inl, inr, ◌⊎◌, Bool, true, false, MatchBool, Contains, All-nil, Some, drop, ◌&&◌, AllZip, cases_lt, cases_eq, cases_Bool, false≢true, take_all, get_or_default, Contains-append_right, Instr, Load, Store, Jalr, Ecall, Format, code_most, is_stack, Item, Body, Plain, To, High, Low, Base, Named, Gate, Code, Data, Unknown, Sandbox, named, Slot, Wide, Short, Jump, Upper, Lower, Region, RewriteFault, PlacedName, size_of, slots_of, c_nop, writes_stack, is_on_stack, is_stack_write, stack_pair, put_back, data_pair_slots, jump_slots, IsAlone, IsMasked, IsExpansionOf, IsExpansion, is_call, next_bundle, FillsGap, Placement, IsPlacedName, HasEndLabel, FillsEnd, AreBundles, IsPermitted, AreFaultless, HasItemFault, IsItemFault, IsSourceFault, IsRewritten, AreRewritten, SomeRewriting, bundle_size, Sfi1, not, AreLaidIn, FillsEndIn, IsConfined, IsAround, base_of, before, after, is_move, moved, mask_after, is_step, Marked, marked, alone, in_words, AreExpanded, AreLaidBefore, item_names_withheld, is_ecall, AreLaidFrom, IsFaultless, label_place, has_words}
 use Rattle.sfi_rewrite.specs.Rewriting.{is_barred_jump}
 use Rattle.sfi_rewrite.specs.words.Expansion as words_expansion
 use Rattle.sfi_rewrite.proofs.WordView.{InWords, no_word, two_forms, one_slot, view}
@@ -40,6 +40,7 @@ some_expansion_of f line rvc (Plain i) = some_plain (writes_stack f i) (is_on_st
 some_expansion_of f line rvc (To i name) = (Jump i name line ∷ [], refl)
 some_expansion_of f line rvc (High rd name) = (Upper rd name line ∷ put_back (is_stack f rd), refl)
 some_expansion_of f line rvc (Low rd name) = (Lower rd name line ∷ put_back (is_stack f rd), refl)
+some_expansion_of f line rvc (Base rd name) = (Region rd name line ∷ put_back (is_stack f rd), refl)
 
 some_expansion : (f : Format) (x : Item) → (slots : List Slot) × IsExpansion f x slots
 some_expansion f x = some_expansion_of f x.line x.rvc x.body
@@ -193,6 +194,7 @@ some_word_expansion_of line rvc step (Plain i) = some_moved (is_move i && not st
 some_word_expansion_of line rvc step (To i name) = (Jump i name line ∷ [], refl)
 some_word_expansion_of line rvc step (High rd name) = (Upper rd name line ∷ mask_after (Some rd), refl)
 some_word_expansion_of line rvc step (Low rd name) = (Lower rd name line ∷ mask_after (Some rd), refl)
+some_word_expansion_of line rvc step (Base rd name) = (Region rd name line ∷ mask_after (Some rd), refl)
 
 some_expanded : (items later : List Item) → (slots : List Marked) × AreExpanded items later slots
 some_expanded [] later = ([], refl)
@@ -307,11 +309,12 @@ part_made s l =
     let end = some_end_in w (size_of l.0) (HasEndLabel s) (size_even l.0) (label_or_none (named s) (length s.items)) in
     let whole = push_nops end.0 l.0 (in_bundles w s.format s.items [] l.0 laid) in
     let names = some_names s.format s.items (named s) in (
-      record { format = s.format; data_size = s.data_size; gates = s.gates; names = names.0; bytes = s.bytes; bundles = whole.bundles },
+      record { format = s.format; movable = s.movable; data_size = s.data_size; gates = s.gates; names = names.0; bytes = s.bytes; bundles = whole.bundles },
       record {
         faultless = l;
         placement = record {
           format = refl;
+          movable = refl;
           data_size = refl;
           gates = refl;
           bytes = refl;
@@ -329,7 +332,7 @@ part_made s l =
 -- ---- all sandboxes
 
 any_sandbox : Sandbox
-any_sandbox = record { format = Sfi1; data_size = 0; gates = []; names = []; items = []; bytes = [] }
+any_sandbox = record { format = Sfi1; movable = false; data_size = 0; gates = []; names = []; items = []; bytes = [] }
 
 sandboxes_on : (source : List Sandbox) (d k : ℕ) (placed : List Placement) → k + d ≡ length source → AllZip IsRewritten (take k source) placed
     → ((all : List Placement) × AreRewritten source all) ⊎ ((e : RewriteFault) × IsSourceFault source e)

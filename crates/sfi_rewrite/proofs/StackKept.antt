@@ -1,5 +1,5 @@
 -- What each expansion does.
-use Rattle.sfi_rewrite.proofs.Prelude.{◌≡◌, ◌≢◌, ℕ, ◌+◌, ◌*◌, ◌%◌, ◌^◌, next, ◌==◌, ◌&&◌, List, [], ◌∷◌, Bool, true, false, Option, Some, None, refl, sym, ap, ◌∙◌, subst, arith, bit_and, bit_or, MatchBool, eqb-true, true≢false, and_parts, and_right, And, Or, LoadKind, Instr, Op, OpImm, Load, Branch, Jal, Jalr, Lui, Auipc, Format, has_stack, is_stack, Bytes, address_after, loaded, Hart, State, IsState, register, with_register, with_pc, past, Stepped, Stands, after_load, effect, IsStep, Body, Plain, To, High, Low, Slot, Wide, Jump, Upper, Lower, slot_size, IsAlone, IsMasked, IsExpansionOf, writes_stack, is_on_stack, is_stack_write, jumps_or_loads_x2, stack_pair, put_back, ExpansionsAreTransparent, AreRegions, HasReserved, SlotStands, IsTransparent, put_back_at, KeepsStack, ActsAs, IsAimed, MayBe, further, StandInRow, LeadsTo, LeadTo, load_size, Next, offset_by, Addi, Span, names_withheld, item_names_withheld, masked}
+use Rattle.sfi_rewrite.proofs.Prelude.{◌≡◌, ◌≢◌, ℕ, ◌+◌, ◌*◌, ◌%◌, ◌^◌, next, ◌==◌, ◌&&◌, List, [], ◌∷◌, Bool, true, false, Option, Some, None, inl, inr, refl, sym, ap, ◌∙◌, subst, arith, bit_and, bit_or, MatchBool, eqb-true, true≢false, and_parts, and_right, And, Or, LoadKind, Instr, Op, OpImm, Load, Branch, Jal, Jalr, Lui, Auipc, Format, has_stack, is_stack, Bytes, address_after, loaded, Hart, State, IsState, register, with_register, with_pc, past, Stepped, Stands, after_load, effect, IsStep, Body, Plain, To, High, Low, Base, Slot, Wide, Jump, Upper, Lower, Region, slot_size, IsAlone, IsMasked, IsExpansionOf, writes_stack, is_on_stack, is_stack_write, jumps_or_loads_x2, stack_pair, put_back, ExpansionsAreTransparent, AreRegions, HasReserved, SlotStands, IsTransparent, put_back_at, KeepsStack, ActsAs, IsAimed, MayBe, further, StandInRow, LeadsTo, LeadTo, load_size, Next, offset_by, Addi, Add, Span, names_withheld, item_names_withheld, masked}
 use Rattle.rv_word.specs.Outlines.{writes_register, is_register, destination}
 use Rattle.rv_step.proofs.Facts.{pair_leaves, step_keeps_state}
 use Rattle.rv_step.proofs.Pairs.{written_elsewhere}
@@ -156,6 +156,11 @@ of_body f line rvc (High rd name) i slots be n w h =
 of_body f line rvc (Low rd name) i slots be n w h =
     subst (λ (k : Instr). ActsAs f k slots) (sym be.1)
     (at_half (has_stack f) (OpImm Addi rd rd be.0) rd (Lower rd name line) slots refl refl refl (λ s st. st) h)
+of_body f line rvc (Base rd name) i slots be n w h =
+    elim be [ inl e ↦ adds 26 e | inr e ↦ adds 24 e ]
+  where
+    adds : (base : ℕ) → i ≡ Op Add rd rd base → ActsAs f i slots
+    adds base e = subst (λ (k : Instr). ActsAs f k slots) (sym e) (at_half (has_stack f) (Op Add rd rd base) rd (Region rd name line) slots refl refl refl (λ s st. st) h)
 
 pub all_transparent : ExpansionsAreTransparent
 all_transparent f x i slots be p h = of_body f x.line x.rvc x.body i slots be p.operands p.no_stack_write h

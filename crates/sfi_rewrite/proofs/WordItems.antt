@@ -1,5 +1,5 @@
 -- The items of code in words, laid one after another.
-use Rattle.sfi_rewrite.proofs.Prelude.{◌≡◌, ℕ, ◌+◌, ◌<◌, ◌≤◌, Bool, true, false, List, [], ◌∷◌, ◌++◌, length, take, drop, get_or, Some, refl, sym, ap, ◌∙◌, subst, arith, append_assoc, append-nil, true≢false, inl, inr, MatchBool, ◌&&◌, and_parts, take_more, All, Instr, Load, Store, Jalr, Body, Plain, To, High, Low, Item, Slot, Wide, Upper, Lower, Short, Jump, IsAlone, IsPermitted, UnlessMemory, RewriteFault, Op, OpImm, And, Or, code_most, Sfiw, not, take-append-drop, IfOk-weaker, IfErr-weaker, TooLarge, Memory, AreFaultless, IsItemFault, IsLabelAt, Marked, marked, in_words, AreExpanded, AreLaidBefore}
+use Rattle.sfi_rewrite.proofs.Prelude.{◌≡◌, ℕ, ◌+◌, ◌<◌, ◌≤◌, Bool, true, false, List, [], ◌∷◌, ◌++◌, length, take, drop, get_or, Some, refl, sym, ap, ◌∙◌, subst, arith, append_assoc, append-nil, true≢false, inl, inr, MatchBool, ◌&&◌, and_parts, take_more, All, Instr, Load, Store, Jalr, Body, Plain, To, High, Low, Base, Item, Slot, Wide, Upper, Lower, Region, Short, Jump, IsAlone, IsPermitted, UnlessMemory, RewriteFault, Op, OpImm, And, Or, code_most, Sfiw, not, take-append-drop, IfOk-weaker, IfErr-weaker, TooLarge, Memory, AreFaultless, IsItemFault, IsLabelAt, Marked, marked, in_words, AreExpanded, AreLaidBefore}
 use Rattle.std.specs.Prelude.{Result, IfOk, IfErr}
 use Rattle.sfi_rewrite.specs.words.Expansion.{IsConfined, IsAround, IsExpansionOf, IsExpansion, before, after, base_of, is_step, is_move, moved, mask_after}
 use Rattle.sfi_rewrite.specs.private.{WordsSoFar, bytes_of, waiting_size, more_for, ended, before_label, with_slot, with_slots, with_more, LeadsTo, HaveRoom, AreWith, IsBeyond, HasNoRoom, AreOfFirst}
@@ -69,6 +69,7 @@ expansion_of_some line rvc step (Plain i) slots e = plain_some (is_move i && not
 expansion_of_some line rvc step (To i name) slots e = record { first = Jump i name line; rest = []; are = e }
 expansion_of_some line rvc step (High rd name) slots e = record { first = Upper rd name line; rest = mask_after (Some rd); are = e }
 expansion_of_some line rvc step (Low rd name) slots e = record { first = Lower rd name line; rest = mask_after (Some rd); are = e }
+expansion_of_some line rvc step (Base rd name) slots e = record { first = Region rd name line; rest = mask_after (Some rd); are = e }
 
 -- where a label comes, or not
 begun_leads : (old : WordsSoFar) (labelled : Bool) (slots : List Slot) → AreSome slots → LeadsTo old (marked labelled slots) (with_slots (before_label labelled old.words old.waiting) slots)

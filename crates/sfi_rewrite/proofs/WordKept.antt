@@ -1,5 +1,5 @@
 -- The expansion in words acts as its instruction: what writes a data register keeps what that leaves.
-use Rattle.sfi_rewrite.proofs.Prelude.{◌≡◌, ◌≢◌, ℕ, zero, suc, ◌+◌, ◌%◌, ◌^◌, ◌<◌, ◌==◌, ◌&&◌, List, [], ◌∷◌, ◌++◌, length, Bool, true, false, MatchBool, Option, Some, None, refl, sym, ap, ◌∙◌, subst, arith, length-append, append_assoc, append-nil, eqb-true, true≢false, and_parts, or_parts, ℤ, pos, negsuc, And, Or, LoadKind, Instr, Op, OpImm, Load, Store, Jal, Jalr, Branch, Lui, Auipc, Bytes, address_after, Hart, State, IsState, register, with_register, with_pc, past, Stepped, Stands, next, effect, IsStep, Item, Body, Plain, To, High, Low, Slot, Wide, Jump, Upper, Lower, slot_size, size_of, IsAlone, HasReserved, SlotStands, IsAskedOf, IsAimed, MayBe, not, ◌||◌, if◌then◌else◌, destination, Addi, StoreWidth, Add, further, LeadsTo, LeadTo, Next, Sfiw, is_data_register, Holds, Span, masked, SlotsStand, is_withheld, names_withheld, item_names_withheld}
+use Rattle.sfi_rewrite.proofs.Prelude.{◌≡◌, ◌≢◌, ℕ, zero, suc, ◌+◌, ◌%◌, ◌^◌, ◌<◌, ◌==◌, ◌&&◌, List, [], ◌∷◌, ◌++◌, length, Bool, true, false, MatchBool, Option, Some, None, inl, inr, refl, sym, ap, ◌∙◌, subst, arith, length-append, append_assoc, append-nil, eqb-true, true≢false, and_parts, or_parts, ℤ, pos, negsuc, And, Or, LoadKind, Instr, Op, OpImm, Load, Store, Jal, Jalr, Branch, Lui, Auipc, Bytes, address_after, Hart, State, IsState, register, with_register, with_pc, past, Stepped, Stands, next, effect, IsStep, Item, Body, Plain, To, High, Low, Base, Slot, Wide, Jump, Upper, Lower, Region, slot_size, size_of, IsAlone, HasReserved, SlotStands, IsAskedOf, IsAimed, MayBe, not, ◌||◌, if◌then◌else◌, destination, Addi, StoreWidth, Add, further, LeadsTo, LeadTo, Next, Sfiw, is_data_register, Holds, Span, masked, SlotsStand, is_withheld, names_withheld, item_names_withheld}
 use Rattle.sfi_rewrite.specs.Laws.{WordExpansionsAreTransparent}
 use Rattle.sfi_rewrite.specs.words.Expansion.{IsConfined, IsAround, IsExpansionOf, before, after, data_mask, mask_after, is_move, moved, is_step, is_step_to, is_zero, is_barred_jump}
 use Rattle.sfi_rewrite.specs.words.Transparency.{is_own, meant, IsTransparent, KeepsData, ActsBy, ActsAs}
@@ -364,6 +364,14 @@ body_acts line rvc step (Low rd name) i slots be n b p h =
     subst (λ (t : Bool). ActsAs t i slots) (sym (p refl))
     (subst (λ (k : Instr). ActsAs false k slots) (sym be.1)
     (half_acts (OpImm Addi rd rd be.0) (Lower rd name line) rd slots refl refl n (waits_for (OpImm Addi rd rd be.0) (Lower rd name line) refl refl (λ s st. st)) h))
+body_acts line rvc step (Base rd name) i slots be n b p h =
+    elim be [ inl e ↦ adds 26 e | inr e ↦ adds 24 e ]
+  where
+    adds : (base : ℕ) → i ≡ Op Add rd rd base → ActsAs step i slots
+    adds base e =
+        subst (λ (t : Bool). ActsAs t i slots) (sym (p refl))
+        (subst (λ (k : Instr). ActsAs false k slots) (sym e)
+        (half_acts (Op Add rd rd base) (Region rd name line) rd slots refl refl n (waits_for (Op Add rd rd base) (Region rd name line) refl refl (λ s st. st)) h))
 
 -- a step is an instruction that names nothing
 no_step : (labelled : Bool) (body other : Body) → is_plain body ≡ false → (not labelled && is_step_to body other) ≡ false
@@ -374,6 +382,8 @@ no_step true (High rd name) other h = refl
 no_step false (High rd name) other h = refl
 no_step true (Low rd name) other h = refl
 no_step false (Low rd name) other h = refl
+no_step true (Base rd name) other h = refl
+no_step false (Base rd name) other h = refl
 
 pub plain_steps : (x : Item) (later : List Item) → is_plain x.body ≡ false → is_step x later ≡ false
 plain_steps x [] h = refl

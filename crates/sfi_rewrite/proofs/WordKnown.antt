@@ -1,5 +1,5 @@
 -- What is known of the slots of a sandbox's items in words: they encode, also alone in a word, and their names are the sandbox's.
-use Rattle.sfi_rewrite.proofs.Prelude.{◌≡◌, ◌<◌, ◌==◌, ◌&&◌, ℕ, List, [], ◌∷◌, ◌++◌, sym, subst, arith, Bool, true, false, MatchBool, Some, All, All-nil, All-cons, All-append, All-head, All-tail, Instr, And, Or, Op, OpImm, Load, Store, Jalr, Jal, Lui, Auipc, Item, Body, Plain, To, High, Low, IsBody, Slot, Wide, Jump, Upper, Lower, not, ◌||◌, if◌then◌else◌, destination, is_data_register, Marked, marked, AreExpanded, AreLaidBefore, refl}
+use Rattle.sfi_rewrite.proofs.Prelude.{◌≡◌, ◌<◌, ◌==◌, ◌&&◌, ℕ, List, [], ◌∷◌, ◌++◌, sym, subst, arith, Bool, true, false, MatchBool, Some, All, All-nil, All-cons, All-append, All-head, All-tail, Instr, And, Or, Op, OpImm, Load, Store, Jalr, Jal, Lui, Auipc, Item, Body, Plain, To, High, Low, Base, IsBody, Slot, Wide, Jump, Upper, Lower, Region, not, ◌||◌, if◌then◌else◌, destination, is_data_register, Marked, marked, AreExpanded, AreLaidBefore, refl}
 use Rattle.rv_word.specs.Spelling.{InRange}
 use Rattle.sfi_rewrite.specs.words.Expansion.{IsConfined, IsAround, IsExpansionOf, before, after, base_of, data_mask, mask_after, is_move, moved, is_step}
 use Rattle.sfi_rewrite.proofs.KnownSlots.{IsKnown, IsKnownBoth, one, wide_known, two_known, alone_known, named_known}
@@ -82,6 +82,7 @@ expansion_known count line rvc step (Plain i) slots e b = plain_known count (is_
 expansion_known count line rvc step (To i name) slots e b = rw e (named_known count (Jump i name line) [] b.0 b.2 refl (All-nil (IsKnownBoth count)))
 expansion_known count line rvc step (High rd name) slots e b = rw e (named_known count (Upper rd name line) (mask_after (Some rd)) b.0 b.1 refl (mask_after_known count rd b.0))
 expansion_known count line rvc step (Low rd name) slots e b = rw e (named_known count (Lower rd name line) (mask_after (Some rd)) b.0 b.1 refl (mask_after_known count rd b.0))
+expansion_known count line rvc step (Base rd name) slots e b = rw e (named_known count (Region rd name line) (mask_after (Some rd)) b.0 b.1 refl (mask_after_known count rd b.0))
 
 all_marked : (P : Slot → Type 0) (l : Bool) (slots : List Slot) → All P slots → All (λ m. P m.1) (marked l slots)
 all_marked P l [] h = All-nil (λ m. P m.1)

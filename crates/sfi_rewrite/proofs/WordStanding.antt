@@ -1,5 +1,5 @@
 -- Each item of code in words stands transparent in what is placed.
-use Rattle.sfi_rewrite.proofs.Prelude.{◌≡◌, ℕ, ◌+◌, ◌<◌, ◌&&◌, ◌==◌, arith, true≢false, List, [], ◌∷◌, ◌++◌, Bool, true, false, MatchBool, length, map, take, drop, Option, Some, None, refl, sym, ap, ◌∙◌, subst, inl, inr, ◌⊎◌, append-nil, All, All-get_or, slice_get, drop_more, get_or_from_slice_get, slice_get_within, Instr, Op, OpImm, Load, Store, Jalr, Item, Body, Plain, To, High, Low, Slot, Wide, Short, Jump, Upper, Lower, slots_of, IsAlone, IsPermitted, MayBe, Placement, not, ◌||◌, if◌then◌else◌, destination, Sfiw, is_data_register}
+use Rattle.sfi_rewrite.proofs.Prelude.{◌≡◌, ℕ, ◌+◌, ◌<◌, ◌&&◌, ◌==◌, arith, true≢false, List, [], ◌∷◌, ◌++◌, Bool, true, false, MatchBool, length, map, take, drop, Option, Some, None, refl, sym, ap, ◌∙◌, subst, inl, inr, ◌⊎◌, append-nil, All, All-get_or, slice_get, drop_more, get_or_from_slice_get, slice_get_within, Instr, Op, OpImm, Load, Store, Jalr, Item, Body, Plain, To, High, Low, Base, Slot, Wide, Short, Jump, Upper, Lower, Region, slots_of, IsAlone, IsPermitted, MayBe, Placement, not, ◌||◌, if◌then◌else◌, destination, Sfiw, is_data_register}
 use Rattle.std.proofs.lemmas.List.{take-append-drop, map-append}
 use Rattle.sfi_rewrite.specs.words.Expansion.{IsConfined, IsAround, IsExpansionOf, IsExpansion, before, after, base_of, data_mask, mask_after, is_move, moved, is_step, Marked, marked, alone, in_words, AreExpanded, AreLaid}
 use Rattle.sfi_rewrite.specs.words.Transparency.{AreAsLaid, ActsAs, StandsTransparent}
@@ -111,6 +111,8 @@ body_laid line rvc step (High rd name) slots laid e h =
     (rvc, wide_stays (Upper rd name line ∷ mask_after (Some rd)) laid (refl, mask_wide (Some rd)) (subst (λ v. AreAsLaid v laid) e h))
 body_laid line rvc step (Low rd name) slots laid e h =
     (rvc, wide_stays (Lower rd name line ∷ mask_after (Some rd)) laid (refl, mask_wide (Some rd)) (subst (λ v. AreAsLaid v laid) e h))
+body_laid line rvc step (Base rd name) slots laid e h =
+    (rvc, wide_stays (Region rd name line ∷ mask_after (Some rd)) laid (refl, mask_wide (Some rd)) (subst (λ v. AreAsLaid v laid) e h))
 
 laid_acts : (x : Item) (later : List Item) (expanded own : List Slot) (i : Instr) → MayBe x.body i → IsPermitted Sfiw x → IsExpansion x later expanded → AreAsLaid expanded own → ActsAs (is_step x later) i own
 laid_acts x later expanded own i be p is h =

@@ -3,11 +3,11 @@ use Rattle.std.specs.Prelude.{ℕ, List, pos, sum_by, ◌||◌, ◌==◌, Bool, 
 use Rattle.std.specs.List.{flat_map}
 use Rattle.rv_comp.specs.declared.form.Form16.TheVariants.{CAddi}
 use Rattle.sfi_rewrite.specs.declared.slot.Slot.{Slot}
-use Rattle.sfi_rewrite.specs.declared.slot.Slot.TheVariants.{Short, Wide, Jump, Upper, Lower}
+use Rattle.sfi_rewrite.specs.declared.slot.Slot.TheVariants.{Short, Wide, Jump, Upper, Lower, Region}
 use Rattle.rv_word.specs.declared.instr.Instr.{Instr}
 use Rattle.rv_word.specs.declared.instr.Instr.TheVariants.{Op, OpImm, Load, Store, Branch, Jal, Jalr, Lui, Auipc, Fence, Ecall, Ebreak}
 use Rattle.sfi_source.specs.declared.item.Body.{Body}
-use Rattle.sfi_source.specs.declared.item.Body.TheVariants.{Plain, To, High, Low}
+use Rattle.sfi_source.specs.declared.item.Body.TheVariants.{Plain, To, High, Low, Base}
 use Rattle.sfi_policy.specs.declared.format.Format.{Format}
 use Rattle.sfi_policy.specs.Formats.{has_words, has_stack, is_stack, is_reserved, code_register, offset_register, stack_pointer, scratch}
 use Rattle.sfi_policy.specs.Formats as policy
@@ -72,6 +72,7 @@ item_names_withheld f (Plain i) = names_withheld f i
 item_names_withheld f (To i name) = names_withheld f i
 item_names_withheld f (High rd name) = is_withheld f rd
 item_names_withheld f (Low rd name) = is_withheld f rd
+item_names_withheld f (Base rd name) = is_withheld f rd
 
 -- the item is an ecall
 abbrev pub is_ecall : Body → Bool
@@ -175,6 +176,8 @@ IsExpansionOf f line rvc (To i name) slots = slots ≡ Jump i name line ∷ []
 IsExpansionOf f line rvc (High rd name) slots =
     slots ≡ Upper rd name line ∷ put_back (is_stack f rd)
 IsExpansionOf f line rvc (Low rd name) slots = slots ≡ Lower rd name line ∷ put_back (is_stack f rd)
+IsExpansionOf f line rvc (Base rd name) slots =
+    slots ≡ Region rd name line ∷ put_back (is_stack f rd)
 
 -- the slots are the item's in this format, in order
 abbrev pub IsExpansion : Format → Item → List Slot → Type 0

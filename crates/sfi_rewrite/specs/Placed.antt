@@ -10,7 +10,7 @@ use Rattle.sfi_source.specs.declared.item.Item.{Item}
 use Rattle.sfi_source.specs.declared.item.SourceGate.{SourceGate}
 use Rattle.sfi_source.specs.Source.{IsDataSize, IsBody}
 use Rattle.sfi_rewrite.specs.declared.slot.Slot.{Slot}
-use Rattle.sfi_rewrite.specs.declared.slot.Slot.TheVariants.{Wide, Short, Jump, Upper, Lower}
+use Rattle.sfi_rewrite.specs.declared.slot.Slot.TheVariants.{Wide, Short, Jump, Upper, Lower, Region}
 use Rattle.sfi_rewrite.specs.declared.placed.PlacedName.{PlacedName}
 use Rattle.sfi_rewrite.specs.declared.placed.PlacedName.TheVariants as placed
 use Rattle.sfi_rewrite.specs.Expansion.{IsExpansion, size_of, slots_of, c_nop}
@@ -38,6 +38,7 @@ Encodes (Short f) = IsTrue (allowed f)
 Encodes (Jump i name line) = InRange i
 Encodes (Upper rd name line) = IsReg rd
 Encodes (Lower rd name line) = IsReg rd
+Encodes (Region rd name line) = IsReg rd
 
 -- the slot's name, if it has one, is one of the first `count`
 abbrev pub IsNamedBelow : ℕ → Slot → Type 0
@@ -46,6 +47,7 @@ IsNamedBelow count (Short f) = Unit {0}
 IsNamedBelow count (Jump i name line) = name < count
 IsNamedBelow count (Upper rd name line) = name < count
 IsNamedBelow count (Lower rd name line) = name < count
+IsNamedBelow count (Region rd name line) = name < count
 
 -- slots of code in words that are those of permitted items of a source with `count` names
 pub record AreOfItems (count : ℕ) (slots : List Slot) : Type 0 where

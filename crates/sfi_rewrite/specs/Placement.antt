@@ -59,6 +59,7 @@ AreLaid f items slots = AreLaidFrom f 0 items slots
 -- one sandbox, placed
 pub record Placement : Type 0 where
   pub format : Format
+  pub movable : Bool
   pub data_size : ℕ
   pub gates : List SourceGate
   pub names : List PlacedName
@@ -116,6 +117,7 @@ AreBundles (b ∷ c ∷ bundles) = (size_of b ≡ bundle_size) × AreBundles (c 
 -- this is the placement of the sandbox
 pub record IsPlacement (s : Sandbox) (p : Placement) : Type 0 where
   pub format : p.format ≡ s.format
+  pub movable : p.movable ≡ s.movable
   pub data_size : p.data_size ≡ s.data_size
   pub gates : p.gates ≡ s.gates
   pub bytes : p.bytes ≡ s.bytes

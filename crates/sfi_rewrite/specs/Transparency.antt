@@ -1,10 +1,11 @@
 -- What an expansion does: within its sandbox it does what its instruction does, x31 aside; a stack
 -- pointer that the instruction writes has the address of the data region that its value masks to.
-use Rattle.std.specs.Prelude.{◌≡◌, ◌≢◌, ◌+◌, ◌%◌, ◌==◌, ◌++◌, ℕ, ℤ, Bool, false, MatchBool, List, [], ◌∷◌, length, take, replicate}
+use Rattle.std.specs.Prelude.{◌≡◌, ◌≢◌, ◌⊎◌, ◌+◌, ◌%◌, ◌==◌, ◌++◌, ℕ, ℤ, Bool, false, MatchBool, List, [], ◌∷◌, length, take, replicate}
 use Rattle.rv_word.specs.Spelling.{offset_by}
 use Rattle.rv_word.specs.declared.instr.Instr.{Instr}
 use Rattle.rv_word.specs.declared.instr.ImmOp.TheVariants.{Addi}
-use Rattle.rv_word.specs.declared.instr.Instr.TheVariants.{OpImm, Load, Store, Branch, Jal, Jalr, Lui}
+use Rattle.rv_word.specs.declared.instr.RegOp.TheVariants.{Add}
+use Rattle.rv_word.specs.declared.instr.Instr.TheVariants.{Op, OpImm, Load, Store, Branch, Jal, Jalr, Lui}
 use Rattle.rv_comp.specs.Table.{expansion}
 use Rattle.sfi_policy.specs.Limits.{bundle_size}
 use Rattle.sfi_policy.specs.declared.format.Format.{Format}
@@ -13,7 +14,7 @@ use Rattle.rv_step.specs.declared.outcome.Outcome.TheVariants.{Next}
 use Rattle.rv_step.specs.State.{Hart, State, IsState, register, with_register, with_pc}
 use Rattle.rv_step.specs.Step.{Stepped, Stands, effect, IsStep, further, LeadTo}
 use Rattle.sfi_source.specs.declared.item.Body.{Body}
-use Rattle.sfi_source.specs.declared.item.Body.TheVariants.{Plain, To, High, Low}
+use Rattle.sfi_source.specs.declared.item.Body.TheVariants.{Plain, To, High, Low, Base}
 use Rattle.sfi_source.specs.declared.item.Item.{Item}
 use Rattle.sfi_policy.specs.Formats.{code_base_register, code_mask_register, data_base_register, data_mask_register, scratch, stack_pointer}
 use Rattle.sfi_image.specs.declared.span.Span.{Span}
@@ -158,6 +159,8 @@ MayBe (Plain j) i = i ≡ j
 MayBe (To j name) i = IsAimed j i
 MayBe (High rd name) i = (imm : ℕ) × (i ≡ Lui rd imm)
 MayBe (Low rd name) i = (imm : ℤ) × (i ≡ OpImm Addi rd rd imm)
+MayBe (Base rd name) i =
+    (i ≡ Op Add rd rd data_base_register) ⊎ (i ≡ Op Add rd rd code_base_register)
 
 -- ---- what is placed
 

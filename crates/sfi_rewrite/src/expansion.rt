@@ -215,5 +215,11 @@ pub(crate) fn expand(format: Format, item: &Item) -> Expansion
         Body::Low(rd, name) => {
             Expansion::put_back(Slot::Lower { rd, name, line }, format.is_stack(rd.number()))
         }
+        Body::Base(rd, name) => {
+            Expansion::put_back(
+                Slot::Region { rd, name, line },
+                format.is_stack(rd.number()),
+            )
+        }
     }
 }

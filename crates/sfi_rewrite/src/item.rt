@@ -58,6 +58,7 @@ fn item_names_withheld(format: Format, body: &Body) -> bool
         Body::To(instr, _) => names_withheld(format, instr),
         Body::High(rd, _) => is_withheld(format, *rd),
         Body::Low(rd, _) => is_withheld(format, *rd),
+        Body::Base(rd, _) => is_withheld(format, *rd),
     }
 }
 

@@ -70,6 +70,7 @@ fn place_part(alloc: Global, sandbox: u32, part: &SourcePart) -> Result<PlacedPa
     let bundles = code.finish();
     Ok(PlacedPart::new(
         part.format(),
+        part.is_movable(),
         part.data_size(),
         gates,
         names,

@@ -24,6 +24,7 @@ pub enum PlacedName {
 #[derive(Drop)]
 pub struct PlacedPart {
     format: Format,
+    movable: bool,
     data_size: u32,
     gates: Vec<SourceGate>,
     names: Vec<PlacedName>,
@@ -38,6 +39,7 @@ impl Model for PlacedPart {
 
     ghost view = { λ p. record {
       format = p.format;
+      movable = p.movable;
       data_size = p.data_size;
       gates = p.gates.items;
       names = p.names.items;
@@ -50,6 +52,7 @@ impl PlacedPart {
     /// The sandbox with these parts.
     pub(crate) fn new(
         format: Format,
+        movable: bool,
         data_size: u32,
         gates: Vec<SourceGate>,
         names: Vec<PlacedName>,
@@ -57,6 +60,7 @@ impl PlacedPart {
         bundles: Vec<Bundle>,
     ) -> PlacedPart
         ensures format { result.format ≡ format }
+        ensures movable { result.movable ≡ movable }
         ensures data_size { result.data_size ≡ data_size }
         ensures gates { result.gates ≡ gates.items }
         ensures names { result.names ≡ names.items }
@@ -65,6 +69,7 @@ impl PlacedPart {
     {
         PlacedPart {
             format,
+            movable,
             data_size,
             gates,
             names,
@@ -78,6 +83,13 @@ impl PlacedPart {
         ensures { result ≡ self.now.format }
     {
         self.format
+    }
+
+    /// Whether it can be moved once it is built.
+    pub fn is_movable(&self) -> bool
+        ensures { result ≡ self.now.movable }
+    {
+        self.movable
     }
 
     /// How many bytes the data region has, a power of two from `REGION_LEAST` to `DATA_MOST` of

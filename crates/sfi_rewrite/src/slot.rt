@@ -21,14 +21,20 @@ pub enum Slot {
         name: usize,
         line: u32,
     },
-    /// The lui of the name's address.
+    /// The lui of the name's address; in a movable sandbox, of how far it is from its region's base.
     Upper {
         rd: Reg,
         name: usize,
         line: u32,
     },
-    /// The addi to `rd` of what the lui leaves of the name's address.
+    /// The addi to `rd` of what the lui leaves of that number.
     Lower {
+        rd: Reg,
+        name: usize,
+        line: u32,
+    },
+    /// The add to `rd` of the base of the region in which the name's address lies.
+    Region {
         rd: Reg,
         name: usize,
         line: u32,
@@ -42,7 +48,11 @@ impl Slot {
     {
         match self {
             Slot::Short(_) => 2,
-            Slot::Wide(_) | Slot::Jump { .. } | Slot::Upper { .. } | Slot::Lower { .. } => 4,
+            Slot::Wide(_)
+            | Slot::Jump { .. }
+            | Slot::Upper { .. }
+            | Slot::Lower { .. }
+            | Slot::Region { .. } => 4,
         }
     }
 }

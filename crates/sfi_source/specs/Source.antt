@@ -1,5 +1,5 @@
 -- What a text of the assembler means: sandboxes.
-use Rattle.std.specs.Prelude.{ℕ, ◌/◌, ◌%◌, ℤ, pos, ◌+ℤ◌, ◌-ℤ◌, ◌≡◌, ◌≢◌, ◌↔◌, ◌^◌, ◌<◌, ◌≤◌, IsTrue, List, [], ◌∷◌, length, map, slice_get, Some, Contains}
+use Rattle.std.specs.Prelude.{ℕ, Bool, ◌/◌, ◌%◌, ℤ, pos, ◌+ℤ◌, ◌-ℤ◌, ◌≡◌, ◌≢◌, ◌↔◌, ◌^◌, ◌<◌, ◌≤◌, IsTrue, List, [], ◌∷◌, length, map, slice_get, Some, Contains}
 use Rattle.rv_word.specs.Spelling.{modulo, IsReg, InRange}
 use Rattle.std.specs.List.{All, AllPairs}
 use Rattle.rv_word.specs.declared.instr.Instr.{Instr}
@@ -11,7 +11,7 @@ use Rattle.sfi_source.specs.Names.{IsShortLabel}
 use Rattle.sfi_source.specs.declared.item.Named.{Named}
 use Rattle.sfi_source.specs.declared.item.Named.TheVariants.{Gate, Code, Data, Unknown}
 use Rattle.sfi_source.specs.declared.item.Body.{Body}
-use Rattle.sfi_source.specs.declared.item.Body.TheVariants.{Plain, To, High, Low}
+use Rattle.sfi_source.specs.declared.item.Body.TheVariants.{Plain, To, High, Low, Base}
 use Rattle.sfi_source.specs.declared.item.Item.{Item}
 use Rattle.sfi_source.specs.declared.item.SourceGate.{SourceGate}
 
@@ -31,10 +31,11 @@ lower z = pos (rounded z % 4096) -ℤ pos 2048
 
 -- ==== What a text of the assembler means: sandboxes.
 
--- a sandbox: the format of its source, how many data bytes it has, its gates, its names with what
--- they name, its instructions and its first data bytes
+-- a sandbox: the format of its source, whether it can be moved once it is built, how many data bytes
+-- it has, its gates, its names with what they name, its instructions and its first data bytes
 pub record Sandbox : Type 0 where
   pub format : Format
+  pub movable : Bool
   pub data_size : ℕ
   pub gates : List SourceGate
   pub names : List (List ℕ × Named)
@@ -43,10 +44,11 @@ pub record Sandbox : Type 0 where
 
 -- the sandbox of these parts
 abbrev pub sandbox :
-    Format → ℕ → List SourceGate → List (List ℕ × Named) → List Item → List ℕ → Sandbox
-sandbox format data_size gates names items bytes =
+    Format → Bool → ℕ → List SourceGate → List (List ℕ × Named) → List Item → List ℕ → Sandbox
+sandbox format movable data_size gates names items bytes =
     record {
       format = format;
+      movable = movable;
       data_size = data_size;
       gates = gates;
       names = names;
@@ -101,6 +103,7 @@ IsBody count (Plain i) = InRange i × IsStraight i
 IsBody count (To i place) = InRange i × IsOpen i × (place < count)
 IsBody count (High rd place) = IsReg rd × (place < count)
 IsBody count (Low rd place) = IsReg rd × (place < count)
+IsBody count (Base rd place) = IsReg rd × (place < count)
 
 -- there is what the name names: that gate, the place before that item or after the last, or an
 -- offset in the data, at most its length

@@ -21,10 +21,13 @@ pub enum Body {
     Plain(Instr),
     /// The jal or branch to the name at that place of the names. Its offset is still 0.
     To(Instr, usize),
-    /// The lui of the upper half of the address of the name at that place.
+    /// The lui of the upper half of the address of the name at that place; in a movable sandbox, of
+    /// how far the address is from its region's base.
     High(Reg, usize),
-    /// The addi of the lower half of that address.
+    /// The addi of the lower half of that number.
     Low(Reg, usize),
+    /// The add of the base of the region in which that address lies, in a movable sandbox.
+    Base(Reg, usize),
 }
 
 /// An instruction of the code.

@@ -11,6 +11,7 @@ use std::marker::Model;
 #[derive(Drop)]
 pub struct SourcePart {
     format: Format,
+    movable: bool,
     data_size: u32,
     gates: Vec<SourceGate>,
     names: Names,
@@ -23,7 +24,7 @@ impl Model for SourcePart {
 
     ghost Value = { Sandbox };
 
-    ghost view = { λ p. sandbox p.format p.data_size p.gates.items p.names
+    ghost view = { λ p. sandbox p.format p.movable p.data_size p.gates.items p.names
         p.items.items p.bytes.items };
 }
 
@@ -31,16 +32,19 @@ impl SourcePart {
     /// A sandbox of these parts. [`Source::new`] asks that they fit each other.
     pub fn new(
         format: Format,
+        movable: bool,
         data_size: u32,
         gates: Vec<SourceGate>,
         names: Names,
         items: Vec<Item>,
         bytes: Vec<u8>,
     ) -> SourcePart
-        ensures { result ≡ sandbox format data_size gates.items names items.items bytes.items }
+        ensures { result ≡ sandbox format movable data_size gates.items names items.items
+            bytes.items }
     {
         SourcePart {
             format,
+            movable,
             data_size,
             gates,
             names,
@@ -54,6 +58,14 @@ impl SourcePart {
         ensures { result ≡ self.now.format }
     {
         self.format
+    }
+
+    /// Whether it can be moved once it is built: no instruction holds an address, but how far that is
+    /// from its region's base, which is added.
+    pub fn is_movable(&self) -> bool
+        ensures { result ≡ self.now.movable }
+    {
+        self.movable
     }
 
     /// How many bytes the data region has, a power of two from `REGION_LEAST` to `DATA_MOST` of

@@ -8,11 +8,11 @@ use Rattle.rv_word.specs.Outlines.{destination}
 use Rattle.sfi_policy.specs.Limits.{slack}
 use Rattle.sfi_policy.specs.Formats.{data_base_register, data_mask_register, is_data_register, code_register, offset_register}
 use Rattle.sfi_source.specs.declared.item.Body.{Body}
-use Rattle.sfi_source.specs.declared.item.Body.TheVariants.{Plain, To, High, Low}
+use Rattle.sfi_source.specs.declared.item.Body.TheVariants.{Plain, To, High, Low, Base}
 use Rattle.sfi_source.specs.declared.item.Item.{Item}
 use Rattle.sfi_pairs.specs.Pairs.{code_pair}
 use Rattle.sfi_rewrite.specs.declared.slot.Slot.{Slot}
-use Rattle.sfi_rewrite.specs.declared.slot.Slot.TheVariants.{Wide, Jump, Upper, Lower, Short}
+use Rattle.sfi_rewrite.specs.declared.slot.Slot.TheVariants.{Wide, Jump, Upper, Lower, Region, Short}
 use Rattle.sfi_rewrite.specs.Expansion.{address_register, IsAlone}
 use Rattle.rv_comp.specs.Table.{expansion}
 
@@ -126,6 +126,8 @@ IsExpansionOf line rvc step (To i name) slots = slots ≡ Jump i name line ∷ [
 IsExpansionOf line rvc step (High rd name) slots =
     slots ≡ Upper rd name line ∷ mask_after (Some rd)
 IsExpansionOf line rvc step (Low rd name) slots = slots ≡ Lower rd name line ∷ mask_after (Some rd)
+IsExpansionOf line rvc step (Base rd name) slots =
+    slots ≡ Region rd name line ∷ mask_after (Some rd)
 
 -- the slots are the expansion of the item, where `later` comes after it
 abbrev pub IsExpansion : Item → List Item → List Slot → Type 0

@@ -197,11 +197,11 @@ fn of_plain(rvc: bool, step: bool, instr: &Instr) -> Expansion
     around(rvc, step, instr)
 }
 
-/// The expansion of a half of an address into `rd`, with the mask of `rd`.
-fn of_half(half: Slot, rd: Reg) -> Expansion
-    ensures { result ≡ half ∷ mask_after (Some rd) }
+/// The expansion of a part of an address, which it puts into `rd`, with the mask of `rd`.
+fn of_part(part: Slot, rd: Reg) -> Expansion
+    ensures { result ≡ part ∷ mask_after (Some rd) }
 {
-    let mut slots = Expansion::of(&[half]);
+    let mut slots = Expansion::of(&[part]);
     push_mask_after(&mut slots, rd);
     slots
 }
@@ -265,7 +265,8 @@ pub(crate) fn expand(item: &Item, later: &[Item]) -> Expansion
     match item.body {
         Body::Plain(ref instr) => of_plain(item.rvc, is_step(item, later), instr),
         Body::To(instr, name) => Expansion::of(&[Slot::Jump { instr, name, line }]),
-        Body::High(rd, name) => of_half(Slot::Upper { rd, name, line }, rd),
-        Body::Low(rd, name) => of_half(Slot::Lower { rd, name, line }, rd),
+        Body::High(rd, name) => of_part(Slot::Upper { rd, name, line }, rd),
+        Body::Low(rd, name) => of_part(Slot::Lower { rd, name, line }, rd),
+        Body::Base(rd, name) => of_part(Slot::Region { rd, name, line }, rd),
     }
 }

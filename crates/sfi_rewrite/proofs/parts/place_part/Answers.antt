@@ -18,6 +18,7 @@ made c =
           (subst (λ f. HasEnd f c.in_ok-laid.laid.code (IsTrue c.has_end_label.result) c.fill_end.new.code) c.format-2.ensures c.in_ok-fill_end.ensures);
       code = ap slots_of c.new.ensures.bundles ∙ c.finish-bundles.ensures.code;
       format = c.new.ensures.format ∙ c.format-3.ensures;
+      movable = c.new.ensures.movable ∙ c.is_movable.ensures;
       data_size = c.new.ensures.data_size ∙ c.data_size.ensures;
       gates = c.new.ensures.gates ∙ copied c.new-gates.result.items c.extend_from_slice.new.self.items c.gates.result.now c.args.part.now.gates c.in_ok-extend_from_slice.ensures.items c.new-gates.ensures.items c.gates.ensures;
       bytes = c.new.ensures.bytes ∙ copied c.new-bytes.result.items c.extend_from_slice-2.new.self.items c.bytes.result.now c.args.part.now.bytes c.in_ok-extend_from_slice-2.ensures.items c.new-bytes.ensures.items c.bytes.ensures;

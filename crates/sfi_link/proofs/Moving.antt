@@ -1,0 +1,96 @@
+-- The code of a sandbox that can be moved is the same at each place.
+use Rattle.sfi_link.proofs.Prelude.{◌≡◌, ℕ, ◌+◌, ◌-◌, ◌*◌, List, [], ◌∷◌, ◌++◌, length, replicate, Option, Some, None, Bool, true, false, refl, sym, ap, ◌∙◌, subst, arith, ints, pos, ◌-ℤ◌, slice_get, Instr, Lui, OpImm, Addi, upper, lower, Slot, Wide, Short, Jump, Upper, Lower, Region, PlacedName, slot_size, slots_of, c_ebreak, Bases, bases_of, of_name, target_of, value_at, with_offset, resolved, made_of, IsSlot, AreSlots}
+use Rattle.std.specs.Prelude.{if◌then◌else◌}
+use Rattle.sfi_rewrite.specs.declared.placed.PlacedName.TheVariants as name
+use Rattle.sfi_link.specs.Code.{address_at, offset_of}
+use Rattle.sfi_link.specs.Laws.{MovableCodeIsPlaceless}
+
+-- two places of a sandbox that can be moved, with as many stubs
+record AreMoved (a b : Bases) : Type 0 where
+  stubs : ℕ
+  first : a.start ≡ a.code + stubs
+  second : b.start ≡ b.code + stubs
+  first_moves : a.movable ≡ true
+  second_moves : b.movable ≡ true
+
+-- distances in the code are the same
+same_distance : (c d s to off : ℕ) → pos (c + to) -ℤ pos (c + s + off) ≡ pos (d + to) -ℤ pos (d + s + off)
+same_distance c d s to off = omega (arith, ints)
+
+chosen : {A : Type 0} (moves : Bool) (x y : A) → moves ≡ true → (if moves then x else y) ≡ x
+chosen true x y e = refl
+chosen false x y e = absurd cc
+
+module _ (a b : Bases) (same : AreMoved a b) where
+  same_target : (here : ℕ) (i : Instr) (o : Option PlacedName)
+      → made_of (λ to. with_offset (pos to -ℤ pos (a.start + here)) i) (of_name (target_of a) o) ≡ made_of (λ to. with_offset (pos to -ℤ pos (b.start + here)) i) (of_name (target_of b) o)
+  same_target here i None = refl
+  same_target here i (Some (name.Gate k)) =
+      let f = same.first in let g = same.second in
+      ap (λ z. Some (with_offset z i)) (ap (λ (s : ℕ). pos (a.code + 16 * k) -ℤ pos (s + here)) f ∙ same_distance a.code b.code same.stubs (16 * k) here ∙ ap (λ (s : ℕ). pos (b.code + 16 * k) -ℤ pos (s + here)) (sym g))
+  same_target here i (Some (name.Code place)) = ap (λ z. Some (with_offset z i)) (from_start a.start b.start place here)
+    where
+      from_start : (s t place here : ℕ) → pos (s + place) -ℤ pos (s + here) ≡ pos (t + place) -ℤ pos (t + here)
+      from_start s t place here = omega (arith, ints)
+  same_target here i (Some (name.Data offset)) = refl
+  same_target here i (Some name.Unknown) = refl
+
+  same_offset : (o : Option PlacedName) → of_name (offset_of a) o ≡ of_name (offset_of b) o
+  same_offset None = refl
+  same_offset (Some (name.Gate k)) = refl
+  same_offset (Some (name.Code place)) =
+      ap Some (ap (λ (s : ℕ). s + place - a.code) same.first ∙ after a.code same.stubs place ∙ sym (after b.code same.stubs place) ∙ ap (λ (s : ℕ). s + place - b.code) (sym same.second))
+    where
+      after : (c s place : ℕ) → c + s + place - c ≡ s + place
+      after c s place = omega arith
+  same_offset (Some (name.Data offset)) = refl
+  same_offset (Some name.Unknown) = refl
+
+  same_value : (names : List PlacedName) (k : ℕ) → value_at a names k ≡ value_at b names k
+  same_value names k =
+      chosen a.movable (of_name (offset_of a) (slice_get names k)) (address_at a names k) same.first_moves
+      ∙ same_offset (slice_get names k)
+      ∙ sym (chosen b.movable (of_name (offset_of b) (slice_get names k)) (address_at b names k) same.second_moves)
+
+  same_resolved : (names : List PlacedName) (here : ℕ) (s : Slot) → resolved a names (a.start + here) s ≡ resolved b names (b.start + here) s
+  same_resolved names here (Wide i) = refl
+  same_resolved names here (Short f) = refl
+  same_resolved names here (Jump i k line) = same_target here i (slice_get names k)
+  same_resolved names here (Upper rd k line) = ap (made_of (λ value. Lui rd (upper (pos value)))) (same_value names k)
+  same_resolved names here (Lower rd k line) = ap (made_of (λ value. OpImm Addi rd rd (lower (pos value)))) (same_value names k)
+  same_resolved names here (Region rd k line) = refl
+
+  same_slot : (names : List PlacedName) (here : ℕ) (s : Slot) (bytes : List ℕ) → IsSlot a names (a.start + here) s bytes → IsSlot b names (b.start + here) s bytes
+  same_slot names here s bytes is = record { instr = is.instr; resolves = sym (same_resolved names here s) ∙ is.resolves; spelled = is.spelled }
+
+  same_slots : (names : List PlacedName) (here : ℕ) (slots : List Slot) (bytes : List ℕ) → AreSlots a names (a.start + here) slots bytes → AreSlots b names (b.start + here) slots bytes
+  same_slots names here [] bytes none = none
+  same_slots names here (s ∷ slots) bytes (front, rest, is, more, both) = (
+    front,
+    rest,
+    same_slot names here s front is,
+    subst (λ (n : ℕ). AreSlots b names n slots rest) (sym (further b.start here (slot_size s)))
+        (same_slots names (here + slot_size s) slots rest (subst (λ (n : ℕ). AreSlots a names n slots rest) (further a.start here (slot_size s)) more)),
+    both,
+  )
+    where
+      further : (s here size : ℕ) → s + here + size ≡ s + (here + size)
+      further s here size = omega arith
+
+pub placeless : MovableCodeIsPlaceless
+placeless given others number p code moves is = record {
+  size = is.size;
+  fill = is.fill;
+  bytes = is.bytes;
+  slots =
+      let a = bases_of given number p in
+      let b = bases_of others number p in
+      let slots = slots_of p.bundles ++ replicate is.fill c_ebreak in
+      subst (λ (n : ℕ). AreSlots b p.names n slots is.bytes) (none b.start)
+      (same_slots a b (record { stubs = 16 * length p.gates; first = refl; second = refl; first_moves = moves; second_moves = moves }) p.names 0 slots is.bytes
+      (subst (λ (n : ℕ). AreSlots a p.names n slots is.bytes) (sym (none a.start)) is.slots));
+  code_is = is.code_is;
+}
+  where
+    none : (n : ℕ) → n + 0 ≡ n
+    none n = omega arith
