@@ -64,8 +64,8 @@ pub none_of_other : (text : List ℕ) (found : Keyword) → found ≡ candidate 
 none_of_other text found e other k named = other (ap keyword_name (e ∙ ap candidate (sym named) ∙ candidate_own k) ∙ named)
 
 -- what the tables give at the hash
-pub place_small : (h : ℕ) → h < 256 → slice_index PLACES.now h < 69
-place_small h lt = ltb-true _ _ (below 256 (λ k. nat_lt (slice_index PLACES.now k) 69) refl h lt)
+pub place_small : (h : ℕ) → h < 256 → slice_index PLACES.now h < 70
+place_small h lt = ltb-true _ _ (below 256 (λ k. nat_lt (slice_index PLACES.now k) 70) refl h lt)
 
 pub at_hash : (text : List ℕ) (h : ℕ) (d : Keyword) → h ≡ hash 57 103 text → h < 256 → slice_index_or ALL.now (slice_index PLACES.now h) d ≡ candidate text
 unfolding candidate

@@ -99,6 +99,7 @@ directive_right directive.Sandbox o h = natural_size o.number h.0
 directive_right directive.Gate o h = (h.0, natural_service o.number h.1.0)
 directive_right directive.Option o h = tt
 directive_right directive.Export o h = h.0
+directive_right directive.Movable o h = tt
 directive_right directive.Import o h = (h.0, natural_service o.number h.1.0)
 directive_right directive.Data o h = tt
 directive_right directive.Zero o h = All-replicate IsByte (unsigned_abs o.number) 0 (omega arith)

@@ -1,7 +1,7 @@
 -- What a text means is right: each sandbox is within its limits, and its names, gates and items fit each other.
 use Rattle.sfi_text.proofs.Prelude.{◌≡◌, ◌≢◌, ◌↔◌, refl, sym, ap, subst, ◌∙◌, ℕ, zero, suc, ◌+◌, ◌<◌, ◌≤◌, ◌⊎◌, inl, inr, Bool, true, false, not, ◌||◌, IsTrue, true≢false, if◌then◌else◌, List, [], ◌∷◌, ◌++◌, Some, map, slice_get, length, length-append, arith, AllByRecursion, bytes_eq, same_Some, none-some, slice_get_within, cases_lt, bytes_eq-Decides, Named, Gate, Code, Data, Unknown, IsShortLabel, place_of, placed, met, Sandbox, IsDataSize, IsBody, IsThere, IsEntry, IsGate, IsSandbox, Begun, begin, with_names, with_label, with_gate, items_of, with_bodies, with_bytes, IsFree}
 use Rattle.sfi_source.specs.declared.item.Body.{Body}
-use Rattle.sfi_source.specs.declared.item.Body.TheVariants.{Plain, To, High, Low}
+use Rattle.sfi_source.specs.declared.item.Body.TheVariants.{Plain, To, High, Low, Base}
 use Rattle.sfi_source.specs.declared.item.Item.{Item}
 use Rattle.sfi_source.specs.declared.item.SourceGate.{SourceGate}
 use Rattle.sfi_policy.specs.declared.format.Format.{Format}
@@ -67,6 +67,7 @@ body_stays n m (Plain i) more h = h
 body_stays n m (To i place) more h = (h.0, h.1, omega (arith, h.2, more))
 body_stays n m (High rd place) more h = (h.0, omega (arith, h.1, more))
 body_stays n m (Low rd place) more h = (h.0, omega (arith, h.1, more))
+body_stays n m (Base rd place) more h = (h.0, omega (arith, h.1, more))
 
 -- what is begun last is right as it stands
 pub finished : (b : Begun) → IsDraft b → IsSandbox b.sandbox
@@ -237,6 +238,23 @@ bodies_right line bodies b d all some fits =
     item k i (inr (j, at, is)) =
         let found = item_at (length b.sandbox.names) line b.rvc b.labelled bodies j i all is in
         record { labelled = flag k j i at found.1; body = found.0 }
+
+-- that it can be moved leaves a sandbox right
+pub movable_right : (b : Begun) → IsDraft b → IsDraft (record b { sandbox = record b.sandbox { movable = true } })
+movable_right b d =
+    let s : Sandbox = record b.sandbox { movable = true } in
+    record {
+      data_size = d.data_size;
+      gate_count = d.gate_count;
+      gates = λ k g at. record { service = (d.gates k g at).service; name = (d.gates k g at).name };
+      names = entries_stay b.sandbox s (omega arith) (omega arith) (omega arith) b.sandbox.names d.names;
+      differ = d.differ;
+      item_count = d.item_count;
+      items = λ k i at. record { labelled = (d.items k i at).labelled; body = (d.items k i at).body };
+      labelled = d.labelled;
+      byte_count = d.byte_count;
+      bytes = d.bytes;
+    }
 
 -- bytes after the others
 pub bytes_right : (values : List ℕ) (b : Begun) (d : IsDraft b) → AllByRecursion (λ v. v < 256) values

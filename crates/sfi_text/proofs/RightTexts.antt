@@ -1,6 +1,7 @@
 -- What a text means is right: by its lines, from nothing.
-use Rattle.sfi_text.proofs.Prelude.{◌≡◌, refl, sym, ap, subst, ◌∙◌, ℕ, ◌+◌, inl, inr, Bool, true, List, [], ◌∷◌, ◌++◌, Option, None, Some, map, length, length-append, arith, All, AllByRecursion, same_Some, none-some, Instr, InRange, Keyword, Takes, IsLabel, Part, Name, Number, OperandValues, IsRow, AreTokens, place_of_keyword, makes_gate, directive_states, StatesAfter, Stated, format, sandbox, within, StatedWithin, gate, exported, imported, compressed, data_part, bytes, plain, jump, address, IsRightWithin, IsRightStatement, place_of_stated, meaning, place_of, met, IsStraight, Sandbox, IsBody, IsSandbox, AreOf, format_of, Begun, Shared, SoFar, format_or_sfi1, with_label, with_names, with_gate, with_export, with_import, nothing, last_sandbox, sandboxes, IsFree, Labels, Fits, MayCome, GoesOn, Does, with_stated, BeginsWithName, LabelsLead, IsTaken, LeadsAfter, RestLeads, Leads, uncommented, lines, LinesLead, MeansSource}
-use Rattle.sfi_source.specs.declared.item.Body.TheVariants.{Plain, To, High, Low}
+use Rattle.sfi_text.proofs.Prelude.{◌≡◌, ◌≤◌, refl, sym, ap, subst, ◌∙◌, ℕ, ◌+◌, inl, inr, Bool, true, List, [], ◌∷◌, ◌++◌, Option, None, Some, map, length, length-append, arith, All, AllByRecursion, same_Some, none-some, Instr, InRange, Keyword, Takes, IsLabel, Part, Name, Number, OperandValues, IsRow, AreTokens, place_of_keyword, makes_gate, directive_states, StatesAfter, Stated, format, sandbox, within, StatedWithin, gate, exported, imported, movable, compressed, data_part, bytes, plain, jump, address, IsRightWithin, IsRightStatement, place_of_stated, meaning, place_of, met, IsStraight, Sandbox, IsBody, IsSandbox, AreOf, format_of, Begun, Shared, SoFar, format_or_sfi1, with_label, with_names, with_gate, with_export, with_import, nothing, last_sandbox, sandboxes, IsFree, Labels, Fits, MayCome, GoesOn, Does, with_stated, BeginsWithName, LabelsLead, IsTaken, LeadsAfter, RestLeads, Leads, uncommented, lines, LinesLead, MeansSource, with_bodies, address_bodies, address_count, IsShortLabel, false}
+use Rattle.rv_word.specs.Spelling.{IsReg}
+use Rattle.sfi_source.specs.declared.item.Body.TheVariants.{Plain, To}
 use Rattle.sfi_policy.specs.declared.format.Format.{Format}
 use Rattle.std.proofs.lemmas.List.{length-map}
 use Rattle.std.proofs.lemmas.List.Elements.{All-from_recursion, recursion_from_All}
@@ -13,7 +14,7 @@ use Rattle.sfi_text.proofs.Placing.{place_among}
 use Rattle.sfi_text.proofs.Counting.{few_sandboxes}
 use Rattle.sfi_text.proofs.LabelReading.{free_or_not}
 use Rattle.sfi_text.proofs.Right.{after_right, after_place}
-use Rattle.sfi_text.proofs.RightSources.{IsDraft, all_append, finished, begun_right, label_right, met_right, bodies_right, bytes_right, gate_right}
+use Rattle.sfi_text.proofs.RightSources.{IsDraft, all_append, finished, begun_right, movable_right, label_right, met_right, bodies_right, bytes_right, gate_right}
 
 -- the sandbox is of the format that the text has said, or of SFI1
 abbrev IsOf : Option Format → Sandbox → Type 0
@@ -61,6 +62,18 @@ gate_of (gate name service) = Some name
 gate_of (imported name service) = Some name
 gate_of _ = None
 
+-- the instructions that put an address into a register leave it right
+address_right : (moves : Bool) (line rd : ℕ) (name : List ℕ) (b : Begun) → IsReg rd → IsShortLabel name → length b.sandbox.items + address_count moves ≤ 65536
+    → IsDraft b → IsDraft (with_bodies line (address_bodies moves rd (place_of b.sandbox.names name)) (with_names (met b.sandbox.names name) b))
+address_right false line rd name b reg label fits d =
+    let among = place_among b.sandbox.names name (meaning b.sandbox.names name) in
+    bodies_right line (address_bodies false rd (place_of b.sandbox.names name)) (with_names (met b.sandbox.names name) b) (met_right b d name label)
+    ((reg, among), ((reg, among), tt)) (omega arith) fits
+address_right true line rd name b reg label fits d =
+    let among = place_among b.sandbox.names name (meaning b.sandbox.names name) in
+    bodies_right line (address_bodies true rd (place_of b.sandbox.names name)) (with_names (met b.sandbox.names name) b) (met_right b d name label)
+    ((reg, among), ((reg, among), ((reg, among), tt))) (omega arith) fits
+
 -- each sandbox after a statement is right
 goes_right : (line : ℕ) (s : StatedWithin) (b : Begun) → IsRightWithin s → ((name : List ℕ) → gate_of s ≡ Some name → IsFree name b)
     → Fits s b → IsDraft b → IsDraft (with_stated line s b)
@@ -70,6 +83,7 @@ goes_right line (exported name) b right free fits d =
     flags_right (with_names (met b.sandbox.names name) b) b.in_data b.rvc (with_export line name b).shared (met_right b d name right)
 goes_right line (imported name service) b right free fits d =
     flags_right (with_gate name service b) b.in_data b.rvc (with_import line name service b).shared (gate_right name service b d (free name refl) right.0 right.1 fits)
+goes_right line movable b right free fits d = movable_right b d
 goes_right line (compressed rvc) b right free fits d = flags_right b b.in_data rvc b.shared d
 goes_right line data_part b right free fits d = flags_right b true b.rvc b.shared d
 goes_right line (bytes values) b right free fits d = bytes_right values b d (recursion_from_All _ values right) fits
@@ -79,16 +93,14 @@ goes_right line (plain instrs) b right free fits d =
 goes_right line (jump i name) b right free fits d =
     bodies_right line (To i (place_of b.sandbox.names name) ∷ []) (with_names (met b.sandbox.names name) b) (met_right b d name right.2)
     ((right.0, right.1, place_among b.sandbox.names name (meaning b.sandbox.names name)), tt) (omega arith) fits
-goes_right line (address rd name) b right free fits d =
-    let among = place_among b.sandbox.names name (meaning b.sandbox.names name) in
-    bodies_right line (High rd (place_of b.sandbox.names name) ∷ Low rd (place_of b.sandbox.names name) ∷ []) (with_names (met b.sandbox.names name) b) (met_right b d name right.1)
-    ((right.0, among), ((right.0, among), tt)) (omega arith) fits
+goes_right line (address rd name) b right free fits d = address_right b.sandbox.movable line rd name b right.0 right.1 fits d
 
 -- a statement leaves the sandbox's format
 stays_of : (line : ℕ) (s : StatedWithin) (b : Begun) (said : Option Format) → IsOf said b.sandbox → IsOf said (with_stated line s b).sandbox
 stays_of line (gate name service) b said h = h
 stays_of line (exported name) b said h = h
 stays_of line (imported name service) b said h = h
+stays_of line movable b said h = h
 stays_of line _ b said h = h
 
 goes_on : (line : ℕ) (s : StatedWithin) (old new : SoFar) → IsRightWithin s
@@ -146,6 +158,7 @@ gate_place : (s : Stated) (name : List ℕ) → gate_in s ≡ Some name → plac
 gate_place (within (gate n service)) name h = refl
 gate_place (within (imported n service)) name h = refl
 gate_place (within (exported n)) name h = absurd (none-some name h)
+gate_place (within movable) name h = absurd (none-some name h)
 gate_place (within (compressed rvc)) name h = absurd (none-some name h)
 gate_place (within data_part) name h = absurd (none-some name h)
 gate_place (within (bytes values)) name h = absurd (none-some name h)
@@ -172,6 +185,8 @@ gate_begins (keyword.Directive directive.Gate) text name s at (tokens, are, row)
 gate_begins (keyword.Directive directive.Import) text name s at (tokens, are, row) h =
     (refl, name_begins (Number Service ∷ []) (directive_states directive.Import) text name s tokens (λ o. refl) are row h)
 gate_begins (keyword.Directive directive.Export) text name s at (tokens, are, (o, has, is)) h =
+    absurd (none-some name (sym (ap gate_in is) ∙ h))
+gate_begins (keyword.Directive directive.Movable) text name s at (tokens, are, (o, has, is)) h =
     absurd (none-some name (sym (ap gate_in is) ∙ h))
 gate_begins _ text name s at states h = cc
 

@@ -1,5 +1,5 @@
 -- A text means an instruction or is refused; a text means a source or has a fault.
-use Rattle.sfi_text.proofs.Prelude.{◌≡◌, ℕ, zero, suc, ◌+◌, ◌≤◌, Bool, true, not, ◌||◌, List, [], ◌∷◌, ◌++◌, length, ◌⊎◌, inl, inr, refl, sym, ◌∙◌, subst, arith, Option, Some, None, codes, cases_lt, same_Some, none-some, TextCause, Keyword, Mnemonic, Takes, name_of, keyword_name, place_of_keyword, makes_table, makes_gate, Stated, StatedWithin, format, sandbox, within, gate, exported, imported, compressed, data_part, IsRightStatement, place_within, place_of_stated, Begun, SoFar, nothing, sandboxes, tables, has_tables, begin, format_or_sfi1, with_label, IsFree, Labels, RefusesLabel, MayCome, Fits, with_stated, Does, HasNoRoom, BeginsWithName, BeginsWithLabel, HasNoLabel, LabelsLead, PassesLabels, IsTaken, IsGateTwice, IsKnown, LeadsAfter, RestLeads, Leads, LabelRefused, RefusedAfter, StatementRefused, LineRefused, most_bytes, lines, uncommented, LinesLead, FirstRefused, first_line, SomeMeaning, SomeSource}
+use Rattle.sfi_text.proofs.Prelude.{◌≡◌, ℕ, zero, suc, ◌+◌, ◌≤◌, Bool, true, not, ◌||◌, List, [], ◌∷◌, ◌++◌, length, ◌⊎◌, inl, inr, refl, sym, ◌∙◌, subst, arith, Option, Some, None, codes, cases_lt, same_Some, none-some, TextCause, Keyword, Mnemonic, Takes, name_of, keyword_name, place_of_keyword, is_added, makes_gate, Stated, StatedWithin, format, sandbox, within, gate, exported, imported, movable, compressed, data_part, IsRightStatement, place_within, place_of_stated, Begun, SoFar, nothing, sandboxes, tables, has_tables, begin, format_or_sfi1, with_label, IsFree, Labels, RefusesLabel, MayCome, Fits, with_stated, Does, HasNoRoom, BeginsWithName, BeginsWithLabel, HasNoLabel, LabelsLead, PassesLabels, IsTaken, IsGateTwice, IsKnown, LeadsAfter, RestLeads, Leads, LabelRefused, RefusedAfter, StatementRefused, LineRefused, most_bytes, lines, uncommented, LinesLead, FirstRefused, first_line, SomeMeaning, SomeSource}
 use Rattle.sfi_text.specs.declared.fault.TextFault.{TextFault}
 use Rattle.sfi_text.specs.declared.statement.Place.{Place}
 use Rattle.std.specs.Option.{IsSomeAnd}
@@ -158,12 +158,13 @@ twice_or_not : (k : Keyword) (s : SoFar) (text : List ℕ) → Decided (IsGateTw
 twice_or_not k s text = decided_both (decided_bit (makes_gate k) true) (begun_or_not s text)
 
 known_or_not : (k : Keyword) (s : SoFar) → Decided (IsKnown k s)
-known_or_not k s = decided_bit (not (makes_table k) || has_tables (format_or_sfi1 s.format)) true
+known_or_not k s = decided_bit (not (is_added k) || has_tables (format_or_sfi1 s.format)) true
 
 fits_or_not : (what : StatedWithin) (b : Begun) → Decided (Fits what b)
 fits_or_not (compressed rvc) b = inl tt
 fits_or_not data_part b = inl tt
 fits_or_not (exported name) b = inl tt
+fits_or_not movable b = inl tt
 fits_or_not _ b = decided_le _ _
 
 -- within a sandbox there is one begun last
@@ -174,6 +175,7 @@ begun_of (Some b) P h = (b, refl)
 begun_within : (what : StatedWithin) (s : SoFar) → MayCome (place_within what) s → (b : Begun) × (s.begun ≡ Some b)
 begun_within (gate name service) s may = begun_of s.begun _ may
 begun_within (exported name) s may = begun_of s.begun _ may
+begun_within movable s may = begun_of s.begun _ may
 begun_within (imported name service) s may = begun_of s.begun _ may
 begun_within _ s may = begun_of s.begun _ may
 

@@ -20,7 +20,7 @@ use Rattle.sfi_text.specs.declared.form.NumberKind.TheVariants.{DataSize, Servic
 use Rattle.sfi_text.specs.declared.form.Part.{Part}
 use Rattle.sfi_text.specs.declared.form.Part.TheVariants.{Rd, Rs1, Rs2, Number, Name, Mode, ImageFormat, Comma}
 use Rattle.sfi_text.specs.Operands.{name_of, OperandValues}
-use Rattle.sfi_text.specs.SoFar.{constant, Stated, format, sandbox, within, gate, exported, imported, compressed, data_part, bytes, plain, jump, address}
+use Rattle.sfi_text.specs.SoFar.{constant, Stated, format, sandbox, within, gate, exported, imported, movable, compressed, data_part, bytes, plain, jump, address}
 
 -- directives
 abbrev pub directive_name : Directive → List ℕ
@@ -32,6 +32,7 @@ directive_name directive.Data = codes ".data"
 directive_name directive.Zero = codes ".zero"
 directive_name directive.Export = codes ".export"
 directive_name directive.Import = codes ".import"
+directive_name directive.Movable = codes ".movable"
 
 abbrev pub directive_form : Directive → List Part
 directive_form directive.Format = ImageFormat ∷ []
@@ -42,6 +43,7 @@ directive_form directive.Data = []
 directive_form directive.Zero = Number ZeroCount ∷ []
 directive_form directive.Export = Name ∷ []
 directive_form directive.Import = Name ∷ Number Service ∷ []
+directive_form directive.Movable = []
 
 abbrev pub directive_states : Directive → OperandValues → Stated
 directive_states directive.Format o = format o.format
@@ -52,6 +54,7 @@ directive_states directive.Data o = within data_part
 directive_states directive.Zero o = within (bytes (replicate (unsigned_abs o.number) 0))
 directive_states directive.Export o = within (exported o.name)
 directive_states directive.Import o = within (imported o.name (unsigned_abs o.number))
+directive_states directive.Movable o = within movable
 
 -- pseudo-instructions
 abbrev pub pseudo_name : Pseudo → List ℕ
@@ -128,15 +131,17 @@ place_of_keyword (keyword.Directive directive.Sandbox) = place.Outside
 place_of_keyword (keyword.Directive directive.Gate) = place.Gates
 place_of_keyword (keyword.Directive directive.Export) = place.Gates
 place_of_keyword (keyword.Directive directive.Import) = place.Gates
+place_of_keyword (keyword.Directive directive.Movable) = place.Gates
 place_of_keyword (keyword.Directive directive.Zero) = place.Data
 place_of_keyword (keyword.Numbers width) = place.Data
 place_of_keyword _ = place.Code
 
--- the statement adds to the sandbox's table of names
-abbrev pub makes_table : Keyword → Bool
-makes_table (keyword.Directive directive.Export) = true
-makes_table (keyword.Directive directive.Import) = true
-makes_table _ = false
+-- the language of the first format lacks the keyword
+abbrev pub is_added : Keyword → Bool
+is_added (keyword.Directive directive.Export) = true
+is_added (keyword.Directive directive.Import) = true
+is_added (keyword.Directive directive.Movable) = true
+is_added _ = false
 
 -- the statement adds a gate, and the gate's name stands after the keyword
 abbrev pub makes_gate : Keyword → Bool

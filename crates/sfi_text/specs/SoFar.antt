@@ -20,7 +20,7 @@ use Rattle.std.specs.Option.{IsSomeAnd}
 use Rattle.sfi_policy.specs.Limits.{gates_most, items_most, name_most}
 use Rattle.sfi_text.specs.declared.cause.TextCause.{TextCause}
 use Rattle.sfi_text.specs.declared.cause.TextCause.TheVariants as cause
-use Rattle.sfi_source.specs.declared.item.Body.TheVariants.{Plain, To, High, Low}
+use Rattle.sfi_source.specs.declared.item.Body.TheVariants.{Plain, To, High, Low, Base}
 use Rattle.sfi_text.specs.declared.statement.Place.{Place}
 use Rattle.sfi_text.specs.declared.statement.Place.TheVariants as place
 
@@ -34,6 +34,8 @@ pub data StatedWithin : Type 0 where
   exported : (name : List ℕ) → StatedWithin
   -- the name is that of a gate of this service, and one that the table has as an import
   imported : (name : List ℕ) (service : ℕ) → StatedWithin
+  -- the sandbox can be moved once it is built
+  movable : StatedWithin
   -- whether 16-bit forms are taken from here on
   compressed : (rvc : Bool) → StatedWithin
   -- the data follow
@@ -130,6 +132,7 @@ begin of size =
     record {
       sandbox = record {
         format = of;
+        movable = false;
         data_size = size;
         gates = [];
         names = [];
@@ -238,6 +241,17 @@ with_bodies line bodies b =
 abbrev pub with_bytes : List ℕ → Begun → Begun
 with_bytes values b = record b { sandbox = record b.sandbox { bytes = b.sandbox.bytes ++ values } }
 
+-- the instructions that put an address into a register: where the sandbox can be moved, the base of the
+-- address's region is added last
+abbrev pub address_bodies : Bool → ℕ → ℕ → List Body
+address_bodies false rd name = High rd name ∷ Low rd name ∷ []
+address_bodies true rd name = High rd name ∷ Low rd name ∷ Base rd name ∷ []
+
+-- how many they are
+abbrev pub address_count : Bool → ℕ
+address_count false = 2
+address_count true = 3
+
 -- ==== What a label and a statement do to the source so far, and what keeps them from it.
 
 -- the name may still be given to a label or a gate: it names nothing yet
@@ -276,7 +290,7 @@ Fits (imported name service) b = length b.sandbox.gates + 1 ≤ gates_most
 Fits (bytes values) b = length b.sandbox.bytes + length values ≤ b.sandbox.data_size
 Fits (plain instrs) b = length b.sandbox.items + length instrs ≤ items_most
 Fits (jump instr name) b = length b.sandbox.items + 1 ≤ items_most
-Fits (address rd name) b = length b.sandbox.items + 2 ≤ items_most
+Fits (address rd name) b = length b.sandbox.items + address_count b.sandbox.movable ≤ items_most
 Fits _ b = Unit {0}
 
 -- the sandbox after a statement of a line; a name that an instruction goes to is met
@@ -284,6 +298,7 @@ abbrev pub with_stated : ℕ → StatedWithin → Begun → Begun
 with_stated line (gate name service) b = with_gate name service b
 with_stated line (exported name) b = with_export line name b
 with_stated line (imported name service) b = with_import line name service b
+with_stated line movable b = record b { sandbox = record b.sandbox { movable = true } }
 with_stated line (compressed rvc) b = record b { rvc = rvc }
 with_stated line data_part b = record b { in_data = true }
 with_stated line (bytes values) b = with_bytes values b
@@ -292,7 +307,7 @@ with_stated line (jump instr name) b =
     with_bodies line (To instr (place_of b.sandbox.names name) ∷ [])
     (with_names (met b.sandbox.names name) b)
 with_stated line (address rd name) b = with_bodies line
-    (High rd (place_of b.sandbox.names name) ∷ Low rd (place_of b.sandbox.names name) ∷ [])
+    (address_bodies b.sandbox.movable rd (place_of b.sandbox.names name))
     (with_names (met b.sandbox.names name) b)
 
 -- what a line states within a sandbox fits in the sandbox begun last, and changes `old` to `new`

@@ -6,7 +6,7 @@ use Rattle.sfi_text.specs.declared.keyword.Keyword.{Keyword}
 use Rattle.sfi_text.specs.Tokens.{Takes, IsBlank}
 use Rattle.sfi_source.specs.Names.{IsLabel}
 use Rattle.sfi_text.specs.Operands.{Unformed}
-use Rattle.sfi_text.specs.Keywords.{keyword_name, place_of_keyword, makes_table, makes_gate}
+use Rattle.sfi_text.specs.Keywords.{keyword_name, place_of_keyword, is_added, makes_gate}
 use Rattle.sfi_text.specs.Lines.{StatesAfter, RefusedWith, NameRefused}
 use Rattle.sfi_text.specs.SoFar.{Stated, Begun, Shared, SoFar, nothing, sandboxes, tables, has_tables, format_or_sfi1, IsFree, Labels, RefusesLabel, MayCome, Does, HasNoRoom}
 use Rattle.std.specs.List.{slice_split, before_first}
@@ -56,7 +56,7 @@ IsGateTwice k s text =
 
 -- `k` is a keyword of the language of the format
 abbrev pub IsKnown : Keyword → SoFar → Type 0
-IsKnown k s = IsTrue (not (makes_table k) || has_tables (format_or_sfi1 s.format))
+IsKnown k s = IsTrue (not (is_added k) || has_tables (format_or_sfi1 s.format))
 
 -- the statement of keyword `k` and the text after it may come after `old`, and on this line changes
 -- it to `new`

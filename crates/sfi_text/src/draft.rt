@@ -2,8 +2,8 @@
 ghost use Rattle.std.specs.Prelude.{◌≡◌, ◌≤◌, ◌+◌, ◌<◌, ◌⊎◌, ◌∷◌, [], length, replicate, IfOk, IfErr, OnOk, IsTrue, ◌↔◌, true};
 ghost use Rattle.sfi_policy.specs.Limits.{gates_most, items_most};
 ghost use Rattle.sfi_text.specs.declared.cause.TextCause.TheVariants as cause;
-ghost use Rattle.sfi_source.specs.declared.item.Body.TheVariants.{Plain, To, High, Low};
-ghost use Rattle.sfi_text.specs.SoFar.{IsFree, Fits, with_stated};
+ghost use Rattle.sfi_source.specs.declared.item.Body.TheVariants.{Plain, To, High, Low, Base};
+ghost use Rattle.sfi_text.specs.SoFar.{IsFree, Fits, with_stated, address_bodies, address_count};
 ghost use Rattle.sfi_source.specs.Names.{place_of, met};
 ghost use Rattle.sfi_text.specs.private.Lines.{AddsUpTo};
 ghost use Rattle.sfi_text.specs.private.Lines.{stated_within};
@@ -12,6 +12,7 @@ ghost use Rattle.sfi_text.specs.SoFar.{begin, here, with_names, with_label, with
 use crate::cause::TextCause;
 use crate::listing::{Listed, Shared};
 use crate::statement::SandboxStatement;
+use rv_word::Reg;
 use sfi_policy::{Format, GATE_COUNT_MOST, ITEM_COUNT_MOST};
 use sfi_source::{Body, Item, Named, Names, SourceGate, SourcePart};
 use std::alloc::Global;
@@ -21,6 +22,7 @@ use std::marker::Model;
 #[derive(Drop)]
 pub struct Draft {
     format: Format,
+    movable: bool,
     data_size: u32,
     gates: Vec<SourceGate>,
     names: Names,
@@ -42,7 +44,8 @@ impl Model for Draft {
     ghost Value = { Begun };
 
     ghost view = { λ b. record {
-      sandbox = sandbox b.format b.data_size b.gates.items b.names b.items.items b.bytes.items;
+      sandbox = sandbox b.format b.movable b.data_size b.gates.items b.names b.items.items
+          b.bytes.items;
       shared = record { exports = b.exports.items; imports = b.imports.items };
       in_data = b.in_data;
       rvc = b.rvc;
@@ -60,6 +63,7 @@ impl Draft {
     {
         Draft {
             format,
+            movable: false,
             data_size,
             gates: Vec::new(alloc),
             names: Names::new(alloc),
@@ -231,6 +235,20 @@ impl Draft {
         self.push(line, second)
     }
 
+    /// Adds the instructions of the line of this number that put the address of the name at that place
+    /// into the register.
+    fn push_address(&mut self, line: u32, rd: Reg, place: usize) -> Result<(), TextCause>
+        ensures { AddsUpTo items_most
+            (length self.old.sandbox.items + address_count self.old.sandbox.movable) result self.new
+            (with_bodies line (address_bodies self.old.sandbox.movable rd place) self.old) }
+    {
+        self.push_two(line, Body::High(rd, place), Body::Low(rd, place))?;
+        if self.movable {
+            self.push(line, Body::Base(rd, place))?;
+        }
+        Ok(())
+    }
+
     /// Adds what the line of this number states.
     pub fn state(
         &mut self,
@@ -248,6 +266,10 @@ impl Draft {
             SandboxStatement::Gate { name, service } => self.gate(alloc, name, service),
             SandboxStatement::Export(name) => self.export(alloc, line, name),
             SandboxStatement::Import { name, service } => self.import(alloc, line, name, service),
+            SandboxStatement::Movable => {
+                self.movable = true;
+                Ok(())
+            }
             SandboxStatement::Compressed(rvc) => {
                 self.rvc = rvc;
                 Ok(())
@@ -268,7 +290,7 @@ impl Draft {
             }
             SandboxStatement::Address { rd, name } => {
                 let place = self.meet(alloc, name)?;
-                self.push_two(line, Body::High(rd, place), Body::Low(rd, place))
+                self.push_address(line, rd, place)
             }
         }
     }
@@ -280,6 +302,7 @@ impl Draft {
     {
         let part = SourcePart::new(
             self.format,
+            self.movable,
             self.data_size,
             self.gates,
             self.names,

@@ -1,6 +1,6 @@
 //! The first words of statements: directives, pseudo-instructions and the names of instructions.
 ghost use Rattle.std.specs.Prelude.{◌≡◌, ◌<◌, IfSome, IfNone};
-ghost use Rattle.sfi_text.specs.Keywords.{directive_name, directive_form, pseudo_name, pseudo_form, data_name, data_kind, keyword_name, place_of_keyword, makes_table, makes_gate};
+ghost use Rattle.sfi_text.specs.Keywords.{directive_name, directive_form, pseudo_name, pseudo_form, data_name, data_kind, keyword_name, place_of_keyword, is_added, makes_gate};
 ghost use Rattle.sfi_text.specs.private.Reading.{hash, candidate, mnemonic_in};
 ghost use Rattle.sfi_text.specs.Operands.{name_of};
 
@@ -20,6 +20,7 @@ pub enum Directive {
     Zero,
     Export,
     Import,
+    Movable,
 }
 
 /// A pseudo-instruction.
@@ -68,6 +69,7 @@ impl Directive {
             Directive::Zero => ".zero",
             Directive::Export => ".export",
             Directive::Import => ".import",
+            Directive::Movable => ".movable",
         }
     }
 
@@ -83,7 +85,7 @@ impl Directive {
             }
             Directive::Export => &[Part::Name],
             Directive::Option => &[Part::Mode],
-            Directive::Data => &[],
+            Directive::Data | Directive::Movable => &[],
             Directive::Zero => &[Part::Number(NumberKind::ZeroCount)],
         }
     }
@@ -149,7 +151,7 @@ impl DataWidth {
 }
 
 /// Every keyword.
-const ALL: &[Keyword; 69] = &[
+const ALL: &[Keyword; 70] = &[
     Keyword::Instr(Mnemonic::Op(RegOp::Add)),
     Keyword::Instr(Mnemonic::Op(RegOp::Sub)),
     Keyword::Instr(Mnemonic::Op(RegOp::Sll)),
@@ -219,11 +221,12 @@ const ALL: &[Keyword; 69] = &[
     Keyword::Numbers(DataWidth::Byte),
     Keyword::Directive(Directive::Export),
     Keyword::Directive(Directive::Import),
+    Keyword::Directive(Directive::Movable),
 ];
 
 /// By the hash of a name, the place in [`ALL`] of the keyword that alone can have the name.
 const PLACES: &[u8; 256] = &[
-    0, 0, 0, 0, 0, 28, 50, 0, 0, 0, 0, 0, 0, 0, 30, 64, 0, 0, 0, 0, 29, 63, 42, 24, 0, 0, 0, 10,
+    0, 0, 0, 0, 0, 28, 50, 0, 0, 69, 0, 0, 0, 0, 30, 64, 0, 0, 0, 0, 29, 63, 42, 24, 0, 0, 0, 10,
     58, 0, 0, 0, 0, 0, 2, 0, 0, 0, 48, 21, 0, 0, 3, 0, 0, 55, 0, 12, 0, 0, 59, 0, 0, 0, 40, 0, 13,
     0, 0, 0, 0, 0, 20, 0, 60, 52, 0, 0, 8, 11, 0, 0, 0, 67, 0, 0, 0, 0, 0, 19, 26, 0, 56, 0, 0, 0,
     0, 0, 14, 53, 0, 4, 0, 0, 0, 0, 0, 0, 0, 23, 0, 0, 0, 0, 36, 0, 0, 0, 0, 0, 0, 0, 45, 0, 0, 47,
@@ -303,9 +306,9 @@ impl Keyword {
             Keyword::Numbers(_) => Place::Data,
             Keyword::Directive(Directive::Format) => Place::Head,
             Keyword::Directive(Directive::Sandbox) => Place::Outside,
-            Keyword::Directive(Directive::Gate | Directive::Export | Directive::Import) => {
-                Place::Gates
-            }
+            Keyword::Directive(
+                Directive::Gate | Directive::Export | Directive::Import | Directive::Movable,
+            ) => Place::Gates,
             Keyword::Directive(Directive::Option | Directive::Data) => Place::Code,
             Keyword::Directive(Directive::Zero) => Place::Data,
         }
@@ -313,13 +316,13 @@ impl Keyword {
 }
 
 impl Keyword {
-    /// Whether the statement adds to the sandbox's table of names.
-    pub fn makes_table(self) -> bool
-        ensures { result ≡ makes_table self }
+    /// Whether the language of the first format lacks it.
+    pub fn is_added(self) -> bool
+        ensures { result ≡ is_added self }
     {
         matches!(
             self,
-            Keyword::Directive(Directive::Export | Directive::Import)
+            Keyword::Directive(Directive::Export | Directive::Import | Directive::Movable)
         )
     }
 

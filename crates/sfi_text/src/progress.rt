@@ -223,7 +223,7 @@ impl Progress {
     fn is_known(&self, keyword: Keyword) -> bool
         ensures { IsTrue result ↔ IsKnown keyword self.now }
     {
-        !keyword.makes_table() || has_tables(self.format())
+        !keyword.is_added() || has_tables(self.format())
     }
 
     /// Begins a sandbox with `data_size` bytes of data.

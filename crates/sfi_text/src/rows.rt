@@ -33,6 +33,7 @@ impl Directive {
             Directive::Data => Statement::Within(SandboxStatement::Data),
             Directive::Zero => Statement::Within(SandboxStatement::Zeros(o.number as u32)),
             Directive::Export => Statement::Within(SandboxStatement::Export(o.name)),
+            Directive::Movable => Statement::Within(SandboxStatement::Movable),
             Directive::Import => Statement::Within(SandboxStatement::Import {
                 name: o.name,
                 service: o.number as u32,

@@ -26,6 +26,8 @@ pub enum SandboxStatement<'a> {
     Export(&'a str),
     /// `.import L N`: a gate as `.gate` makes it, and the table has its name as an import.
     Import { name: &'a str, service: u32 },
+    /// `.movable`: the sandbox can be moved once it is built.
+    Movable,
     /// `.option rvc`, where true, or `.option norvc`: whether 16-bit forms are taken from here on.
     Compressed(bool),
     /// `.data`: the data follow.
@@ -41,7 +43,7 @@ pub enum SandboxStatement<'a> {
     /// A jump or a branch to the place of this name; its offset is 0.
     Jump { instr: Instr, name: &'a str },
     /// `la rd, L`: the register takes the address of the place of this name, by a `lui` and an
-    /// `addi`.
+    /// `addi`, and an `add` where the sandbox can be moved.
     Address { rd: Reg, name: &'a str },
 }
 

@@ -5,7 +5,7 @@ use Rattle.sfi_text.specs.declared.form.NumberKind.{NumberKind}
 use Rattle.sfi_text.specs.declared.keyword.DataWidth.{DataWidth}
 use Rattle.sfi_text.specs.Tokens.{Takes, IsBlank}
 use Rattle.sfi_text.specs.Keywords.{data_kind, directive_form, directive_states, pseudo_form, pseudo_states, branch_form, branch_states, jal_form, jal_states, keyword_name}
-use Rattle.sfi_text.specs.SoFar.{data_bytes, Stated, within, bytes, plain, StatedWithin, address, compressed, data_part, exported, format, gate, imported, jump, sandbox, Begun, SoFar}
+use Rattle.sfi_text.specs.SoFar.{data_bytes, Stated, within, bytes, plain, StatedWithin, address, compressed, data_part, exported, format, gate, imported, movable, jump, sandbox, Begun, SoFar}
 use Rattle.sfi_text.specs.Lines.{Writes, LeadsByMore, MoreDeparts}
 use Rattle.sfi_text.specs.declared.cause.TextCause.{TextCause}
 use Rattle.sfi_text.specs.declared.form.Part.{Part}
@@ -95,6 +95,7 @@ abbrev pub stated_within : SandboxStatement → StatedWithin
 stated_within (within_sandbox.Gate name service) = gate name.now service
 stated_within (within_sandbox.Export name) = exported name.now
 stated_within (within_sandbox.Import name service) = imported name.now service
+stated_within within_sandbox.Movable = movable
 stated_within (within_sandbox.Compressed rvc) = compressed rvc
 stated_within within_sandbox.Data = data_part
 stated_within (within_sandbox.Bytes values) = bytes values.items
@@ -132,6 +133,7 @@ abbrev pub place_within : StatedWithin → Place
 place_within (gate name service) = place.Gates
 place_within (exported name) = place.Gates
 place_within (imported name service) = place.Gates
+place_within movable = place.Gates
 place_within (bytes values) = place.Data
 place_within _ = place.Code
 
