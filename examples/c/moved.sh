@@ -89,6 +89,40 @@ try_refusals() {
         "$(refusal "$tools/sfi-image" --at 02000000:02800000 "$room/fixed.elf")"
 }
 
+# A source text: what is moved to a place is what is built there.
+try_text() { # format
+    local place image="$room/text"
+    cat >"$image.s" <<END
+.format $1
+.sandbox 256
+.movable
+.gate put 1
+.gate quit 0
+        la   a0, text
+        li   a1, 3
+        call put
+        la   t0, last
+        jalr ra, 0(t0)
+        la   t0, quit
+        jr   t0
+last:   la   t1, text
+        lbu  a0, 2(t1)
+        la   sp, text
+        sb   a0, 1(sp)
+        ret
+.data
+text:   .byte 72, 105, 33
+END
+    "$sfi" build <"$image.s" >"$image"
+    for place in $places; do
+        move "$image" "$place" "$image.moved"
+        report "a text, format $1, at $place" "$("$sfi" build --at "$place" <"$image.s")" "$(cat "$image.moved")"
+        report "a text, format $1, at $place: run" "exit=33 out=486921" "$(run_of "$image.moved" "")"
+        report "a text, format $1, at $place: check" accepted "$("$sfi" check <"$image.moved" | cut -d' ' -f1)"
+    done
+}
+
+for format in 2 words; do try_text "$format"; done
 if ! has riscv64-unknown-elf-gcc; then
     skip 1 "images that are moved" "riscv64-unknown-elf-gcc isn't there"
     finish

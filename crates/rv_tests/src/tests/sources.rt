@@ -22,6 +22,10 @@ fn push_body(out: &mut String, alloc: Global, body: &Body) -> Result<(), AllocEr
             let rd = rd.number();
             write!(out, "low x{rd} of {place}")
         }
+        Body::Base(rd, place) => {
+            let rd = rd.number();
+            write!(out, "base x{rd} of {place}")
+        }
     }
 }
 
@@ -78,10 +82,14 @@ fn push_bytes(out: &mut String, part: &SourcePart) -> Result<(), AllocError> {
     Ok(())
 }
 
-// Appends a sandbox: its size, gates, names, items and bytes.
+// Appends a sandbox: its size, whether it can be moved, gates, names, items and bytes.
 fn push_part(out: &mut String, alloc: Global, part: &SourcePart) -> Result<(), AllocError> {
     let size = part.data_size();
-    write!(out, "{size} |")?;
+    write!(out, "{size} ")?;
+    if part.is_movable() {
+        out.push_str("movable ")?;
+    }
+    out.push_str("|")?;
     push_gates(out, part)?;
     out.push_str(" |")?;
     push_names(out, part.names())?;
@@ -166,6 +174,14 @@ j b; a: .sandbox 512; a: b: => 256 | | b=Unknown a=Code(1) | 2 jal x0, 0 to 0; |
 .gate gggggggggggggggggggggggggggggggggggggggggggggggggggggggggggggggg 3; xxxxxxxxxxxxxxxxxxxxxxxxxxxxxxxxxxxxxxxxxxxxxxxxxxxxxxxxxxxxxxxx: j xxxxxxxxxxxxxxxxxxxxxxxxxxxxxxxxxxxxxxxxxxxxxxxxxxxxxxxxxxxxxxxx; la a0, gggggggggggggggggggggggggggggggggggggggggggggggggggggggggggggggg => 256 | 0=3 | gggggggggggggggggggggggggggggggggggggggggggggggggggggggggggggggg=Gate(0) xxxxxxxxxxxxxxxxxxxxxxxxxxxxxxxxxxxxxxxxxxxxxxxxxxxxxxxxxxxxxxxx=Code(0) | 3L jal x0, 0 to 1; 4 high x10 of 0; 4 low x10 of 0; |
 ";
 
+// The same after `.format words` and `.sandbox 256`: a sandbox that can be moved.
+const MOVABLE: &str = "
+.movable => 256 movable | | | |
+.gate y 3; .movable; la a0, d; .data; d:.zero 0 => 256 movable | 0=3 | y=Gate(0) d=Data(0) | 5 high x10 of 1; 5 low x10 of 1; 5 base x10 of 1; |
+.movable; .movable; x: la sp, x => 256 movable | | x=Code(0) | 5L high x2 of 0; 5 low x2 of 0; 5 base x2 of 0; |
+.movable; .sandbox 256; la a0, x => 256 movable | | | | & 256 | | x=Unknown | 5 high x10 of 0; 5 low x10 of 0; |
+";
+
 // Faults: each line has one, and the texts that have it, with ` | ` between them. These come after `.sandbox 256`; the names
 // of 7 have 65 letters.
 const FAULTS: &str = "
@@ -198,6 +214,10 @@ const FAULTS: &str = "
 
 // Faults of whole texts, in the same form.
 const WHOLE_FAULTS: &str = "
+1 Word line 2: .sandbox 256; .movable
+1 Word line 1: .movable
+4 Operands line 3: .format words; .sandbox 256; .movable 1 | .format 2; .sandbox 256; .movable x
+6 Directive line 4: .format 2; .sandbox 256; nop; .movable | .format words; .sandbox 256; x:; .movable | .format 2; .sandbox 256; .data; x: .movable
 1 Word line 2: ; frob
 3 Number line 1: .sandbox 300
 6 Directive line 1:  | # nothing; ;  | nop | x: | .gate g 1 | .option rvc | .data | .byte 300 | nop 5
@@ -215,10 +235,10 @@ fn lines_of(alloc: Global, first: &str, text: &str) -> Result<String, AllocError
     Ok(lines)
 }
 
-// The row's text means what the row says.
-fn is_meant(rt: &impl Abort, alloc: Global, row: &str) -> Result<(), AllocError> {
+// The row's text means, after the first lines, what the row says.
+fn is_meant(rt: &impl Abort, alloc: Global, first: &str, row: &str) -> Result<(), AllocError> {
     let (text, wanted) = row.split_once(" => ").unwrap_or((row, ""));
-    let meant = meaning(alloc, lines_of(alloc, SANDBOX, text)?.as_str())?;
+    let meant = meaning(alloc, lines_of(alloc, first, text)?.as_str())?;
     assert!(rt; meant.as_str().lines().eq(wanted.split(" & ")), "{row}");
     Ok(())
 }
@@ -226,7 +246,10 @@ fn is_meant(rt: &impl Abort, alloc: Global, row: &str) -> Result<(), AllocError>
 #[test]
 fn sources(rt: HostRuntime) -> Result<(), Fail> {
     for row in STATEMENTS.lines().skip(1) {
-        is_meant(&rt, rt.alloc(), row)?;
+        is_meant(&rt, rt.alloc(), SANDBOX, row)?;
+    }
+    for row in MOVABLE.lines().skip(1) {
+        is_meant(&rt, rt.alloc(), ".format words\n.sandbox 256\n", row)?;
     }
     Ok(())
 }
@@ -294,7 +317,15 @@ fn instructions(rt: HostRuntime) -> Result<(), Fail> {
     let full = lines_of(alloc, SANDBOX, doubled(alloc, "nop\n", 16)?.as_str())?;
     is_full(&rt, alloc, full.as_str(), "nop", 65538)?;
     let pairs = lines_of(alloc, SANDBOX, doubled(alloc, "la a0, x\n", 15)?.as_str())?;
-    is_full(&rt, alloc, pairs.as_str(), "nop", 32770)
+    is_full(&rt, alloc, pairs.as_str(), "nop", 32770)?;
+    let all_but_one = lines_of(
+        alloc,
+        ".format 2\n.sandbox 256\n.movable\n",
+        doubled(alloc, "la a0, x\n", 14)?.as_str(),
+    )?;
+    let rest = doubled(alloc, "nop\n", 14)?;
+    let full = format!(in alloc; "{all_but_one}{rest}")?;
+    is_full(&rt, alloc, full.as_str(), "nop", 32772)
 }
 
 #[test]
