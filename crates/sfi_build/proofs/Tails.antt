@@ -44,6 +44,7 @@ part_as b s p h =
       faultless = h.faultless;
       placement = record {
         format = l.format;
+        movable = l.movable;
         data_size = l.data_size;
         gates = l.gates;
         bytes = refl;

@@ -1,5 +1,5 @@
 -- Words that private contracts and proofs alone cite: no public statement rests on them.
-use Rattle.std.specs.Prelude.{◌≡◌, ◌⊎◌, ◌≤◌, ℕ, List, length, map, Option, None, Result, Err, Vec}
+use Rattle.std.specs.Prelude.{◌≡◌, ◌⊎◌, ◌≤◌, ℕ, false, List, length, map, Option, None, Result, Err, Vec}
 use Rattle.sfi_names.specs.Tables.{Named}
 use Rattle.sfi_build.specs.declared.table_fault.TableFault.TheVariants.{Unknown}
 use Rattle.std.specs.Global.{Global}
@@ -21,9 +21,11 @@ IsTableStop due f = IsWantOfMemory f ⊎ ((g : TableFault) × (f ≡ Names g) ×
 abbrev pub IsEntryStop : Option Named → ℕ → BuildFault → Type 0
 IsEntryStop due line f = IsWantOfMemory f ⊎ ((f ≡ Names (Unknown line)) × (due ≡ None))
 
--- where a sandbox lies that is at that place and starts there
+-- where a sandbox lies that is at that place and starts there, whether or not it can be moved: addresses
+-- are the same
 abbrev pub bases_with : Place → ℕ → Bases
-bases_with at start = record { code = at.code_base; start = start; «data» = at.data_base }
+bases_with at start =
+    record { code = at.code_base; start = start; «data» = at.data_base; movable = false }
 
 -- the bytes of each
 abbrev pub contents : List (Vec ℕ Global) → List (List ℕ)
