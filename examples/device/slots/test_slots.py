@@ -1,4 +1,5 @@
-"""The host with slots: updates, trials, calls and attacks, in three formats."""
+"""The host with slots: updates, trials, calls and attacks, in three formats. ATTACKS=300,200 tries so many random images and
+programs in place of 12 of each."""
 import os
 import queue
 import random
@@ -224,6 +225,31 @@ HOSTILE_TEXTS = {
     "yields with any registers": " li ra, HOST\n li sp, HOST\n li s0, HOST\n call yield\n ebreak\n"}
 
 
+# How many images and programs by chance are tried.
+RANDOM_IMAGES, RANDOM_TEXTS = (int(number) for number in os.environ.get("ATTACKS", "12,12").split(","))
+REGISTERS = "ra sp t0 t1 t2 s0 s1 a0 a1 a2 a3".split()
+RANDOM_LINES = 40
+
+
+def random_line(chance):
+    """A statement by chance: it makes an address, or accesses, jumps or calls by what registers hold."""
+    one, other = chance.sample(REGISTERS, 2)
+    value = chance.choice(["HOST", "DATA", "CODE", str(chance.getrandbits(32))])
+    number = chance.choice([0, 4, -4, 1020, 2044, -2048, chance.randrange(-2048, 2048)])
+    line = f"line{chance.randrange(RANDOM_LINES)}"
+    return chance.choice([
+        f"li {one}, {value}", f"li {one}, {value}", f"addi {one}, {other}, {number}",
+        f"{chance.choice(['add', 'sub', 'xor', 'or', 'sll', 'mul'])} {one}, {one}, {other}",
+        f"{chance.choice(['lb', 'lhu', 'lw'])} {chance.choice(REGISTERS[2:])}, {number}({other})",  # no build loads sp
+        f"{chance.choice(['sb', 'sh', 'sw'])} {one}, {number}({other})",
+        f"{chance.choice(['beq', 'bltu'])} {one}, {other}, {line}", f"jal ra, {line}", f"jr {one}", f"jalr ra, 0({one})",
+        f"call {chance.choice(['put', 'yield', 'report', 'exit'])}"])
+
+
+def random_text(chance):
+    return "".join(f"line{number}: {random_line(chance)}\n" for number in range(RANDOM_LINES)) + " call exit\n"
+
+
 def hostile_text(body):
     text = ".sandbox 4096\n.gate exit 0\n.gate put 1\n.gate yield 3\n.gate report 4\n call report\n" + body
     for name, value in (("HOST", 0x80000000), ("DATA", place_of(2)[1]), ("CODE", place_of(2)[0])):
@@ -297,6 +323,30 @@ class Attacks(OnDevice):
                     self.device.ask("call", 1, f"{place_of(1)[0] + offset:x}", "80000000", "ffffffff")
                     self.settle()
                     self.attacked(f"{what}, entered at {offset}")
+
+    def test_random_images(self):
+        """Up to eight instructions of an accepted image are others by chance: hostile ones, or any words."""
+        chance = random.Random(3)
+        images = [image_of(PLUGIN, image_format, place_of(1)) for image_format in FORMATS]
+        for number in range(RANDOM_IMAGES):
+            image = bytearray(images[number % len(images)])
+            code = 36 + 8 * int.from_bytes(image[28:32], "little")
+            for _ in range(chance.randrange(1, 9)):
+                at = code + 4 * chance.randrange(64)
+                word = chance.choice([chance.choice(list(HOSTILE_WORDS.values())), chance.getrandbits(32)])
+                image[at:at + 4] = word.to_bytes(4, "little")
+            self.send(f"random image {number}", bytes(image))
+
+    def test_random_texts(self):
+        """Accepted programs by chance, each of which is entered within its code, too."""
+        chance = random.Random(4)
+        for number in range(RANDOM_TEXTS):
+            text = random_text(chance)
+            what = f"random program {number}:\n{text}"
+            self.assertEqual(self.send(what, image_of(hostile_text(text), FORMATS[number % len(FORMATS)], place_of(1))), "accepted")
+            self.device.ask("call", 1, f"{place_of(1)[0] + 16 * chance.randrange(8, 20):x}", "80000000", "ffffffff")
+            self.settle()
+            self.attacked(what)
 
     def test_flipped_bits(self):
         """An update in which a few bits have changed on the way."""
