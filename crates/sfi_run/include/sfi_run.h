@@ -15,9 +15,8 @@
  *
  * The calls read nothing but their arguments, the world, the console and the module, keep nothing elsewhere, start no thread,
  * and read and write no file. sfi_run_load takes memory by malloc and realloc, for the world of an accepted image alone;
- * sfi_run_load and sfi_run_free give it back by free; the calls of a module and of a console do so, too, as they say; the other
- * calls do neither. Each
- * returns: sfi_run_turn, sfi_run_until, sfi_run_call and sfi_run_console_turn after at most the steps that they were given.
+ * sfi_run_load and sfi_run_free give it back by free; sfi_run_add, sfi_run_remove and the calls of a module and of a console do
+ * so, too, as they say; the other calls do neither. Each returns: sfi_run_turn, sfi_run_until, sfi_run_call and sfi_run_console_turn after at most the steps that they were given.
  * A thread with 64 KiB of stack had room for each where that was measured.
  *
  * What a caller owes, since nothing checks it:
@@ -98,6 +97,17 @@ enum sfi_run_status {
     SFI_RUN_REFUSED = 1,  /* rules are broken in it: the verdict says how often, and the first finding */
     SFI_RUN_NO_IMAGE = 2, /* the bytes are no image: the verdict says why */
     SFI_RUN_NO_MEMORY = 3 /* it is accepted, and there was no memory for its world */
+};
+
+/* What became of a world that was to get sandboxes, or to lose one. */
+enum sfi_run_change {
+    SFI_RUN_CHANGED = 0,
+    SFI_RUN_CHANGE_NO_WORLD = 1,
+    SFI_RUN_CHANGE_NO_MODULE = 2,
+    SFI_RUN_CHANGE_NO_SANDBOX = 3, /* there is none of that number */
+    SFI_RUN_CHANGE_MEETS = 4,      /* code, or data with the guard zones, would lie on an address of a sandbox that is there */
+    SFI_RUN_CHANGE_FULL = 5,       /* there would be more sandboxes than numbers of 32 bits */
+    SFI_RUN_CHANGE_NO_MEMORY = 6   /* there was no memory for it */
 };
 
 /* How a sandbox stands. */
@@ -196,7 +206,29 @@ void sfi_run_module_free(struct sfi_run_module *module);
  */
 bool sfi_run_instance(struct sfi_run_module *module, struct sfi_run_world *world);
 
-/* How many sandboxes there are, 1 to 16; 0 where there is no world. They are numbered from 0, in the image's order. */
+/*
+ * Adds the sandboxes of the module to the world, beside those that are there: each is as sfi_run_instance makes it, and they
+ * have the numbers from *first on, in the image's order. Nothing changes of those that are there: not what they hold, nor the
+ * call at which one stands. Returns one of enum sfi_run_change, of several the first; unless it is SFI_RUN_CHANGED nothing changes and
+ * *first isn't written.
+ *
+ * A sandbox lies where its image says, so two modules of a world are made for different places, or moved to them (`sfi move`).
+ * Images of different formats may share a world. Nothing is checked or decoded anew, and the module may be freed afterwards;
+ * but what the world has is copied: for a moment it takes its memory twice.
+ */
+uint32_t sfi_run_add(struct sfi_run_world *world, struct sfi_run_module *module, uint32_t *first);
+
+/*
+ * Removes a sandbox from the world, whatever it did and wherever it stands: its code and data are gone, and others may be added
+ * where they lay. EACH SANDBOX OF A HIGHER NUMBER HAS A NUMBER LESS BY ONE THEN: a host that keeps something of each by its
+ * number takes out the same place of what it keeps, and so it does not write to one what was meant for another. Nothing else changes of
+ * those that are left, and a world of which none is left may get others. A console knows sandboxes by their numbers, too:
+ * make a new one. Returns one of enum sfi_run_change; unless it is SFI_RUN_CHANGED nothing changes. What is left is copied, as
+ * by sfi_run_add.
+ */
+uint32_t sfi_run_remove(struct sfi_run_world *world, uint32_t sandbox);
+
+/* How many sandboxes there are, of one image 1 to 16; 0 where there is no world. They are numbered from 0, in the image's order. */
 size_t sfi_run_count(struct sfi_run_world *world);
 
 /* ---- names: what an image's table says (docs/IMAGE.md) */

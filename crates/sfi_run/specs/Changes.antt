@@ -3,10 +3,13 @@ use Rattle.std.specs.Prelude.{◌≡◌, ℕ, [], ◌∷◌, List, Some, None, s
 use Rattle.rv_step.specs.State.{Hart}
 use Rattle.sfi_host.specs.declared.turn.Turn.{Turn}
 use Rattle.sfi_host.specs.declared.waiting.Later.{Later}
+use Rattle.sfi_image.specs.Spelling.{Part}
+use Rattle.sfi_host.specs.Adding.{with_image, EarlierAreSame, without, RestIsSame, AreChangesToRest}
 use Rattle.sfi_host.specs.Changing.{with_callback, OthersAreSame, AreChanges, with_world_bytes, with_hart, with_stop}
-use Rattle.sfi_host.specs.Loading.{IsAtEntry, with_entry, with_reset}
+use Rattle.sfi_host.specs.Loading.{AreEntered, HaveFirstData, IsAtEntry, with_entry, with_reset}
 use Rattle.sfi_host.specs.Joint.{Machine, IsMachine, call_of, joint as joint_run, replied}
 use Rattle.sfi_host.specs.Moves.{HaveRun, HaveRunJointly}
+use Rattle.sfi_host.specs.Owning.{AreOwned}
 use Rattle.sfi_host.specs.Plans.{IsJoint, IsCutJoint}
 use Rattle.sfi_host.specs.Slots.{Slot}
 use Rattle.sfi_host.specs.Waiting.{HasRunUntil, turn_of, to_call, later_answer, later_reply}
@@ -93,6 +96,21 @@ pub record HasBeenReset (w n : Sandboxes) (sandbox : ℕ) : Type 0 where
   pub others : OthersAreSame w sandbox n
   pub outside : StaysOutsideData w n.bytes
   pub entry : IsAtEntry n sandbox
+
+-- it has the sandboxes of these parts after its own, each as at its start, and nothing else changed
+pub record HasAdded (w : Sandboxes) (ps : List Part) (n : Sandboxes) : Type 0 where
+  pub done : n ≡ with_image w ps
+  pub entered : AreEntered ps n.bytes
+  pub first_data : HaveFirstData ps n.bytes
+  pub earlier : EarlierAreSame w n
+  pub changes : AreChanges w n
+
+-- the sandbox of that number is gone, each later one has a number less by one, and nothing else changed
+pub record HasLost (w : Sandboxes) (sandbox : ℕ) (n : Sandboxes) : Type 0 where
+  pub done : n ≡ without w sandbox
+  pub owned : AreOwned n
+  pub rest : RestIsSame w sandbox n
+  pub changes : AreChangesToRest w sandbox n
 
 -- ==== A console as the host of a sandbox's turn.
 

@@ -9,6 +9,12 @@ use Rattle.sfi_check.specs.Verdict.{HasFindings}
 use Rattle.sfi_safety.specs.Clean.{IsAccepted}
 use Rattle.sfi_host.specs.Loading.{first_seat, with_parts}
 use Rattle.sfi_host.specs.Worlds.{Sandboxes}
+use Rattle.sfi_host.specs.declared.world.adding.AddError.{AddError}
+use Rattle.sfi_host.specs.declared.world.adding.AddError.TheVariants.{Meets, Full}
+use Rattle.sfi_host.specs.declared.world.adding.AddError.TheVariants as add
+use Rattle.sfi_host.specs.declared.world.removing.RemoveError.{RemoveError}
+use Rattle.sfi_host.specs.declared.world.removing.RemoveError.TheVariants.{Missing}
+use Rattle.sfi_host.specs.declared.world.removing.RemoveError.TheVariants as remove
 use Rattle.sfi_run.specs.declared.worlds.LoadFault.{LoadFault}
 use Rattle.sfi_run.specs.declared.worlds.LoadFault.TheVariants.{Refused, NoImage, Memory}
 use base.Fml.{Fml, ftrue}
@@ -43,6 +49,23 @@ abbrev pub Means : List ℕ → LoadFault → Type 0
 Means bytes Refused = (found : List Finding) × HasFindings bytes found
 Means bytes NoImage = (k : LayoutFault) × IsFault bytes k
 Means bytes Memory = (ps : List Part) × IsAccepted bytes ps
+
+-- ==== The numbers by which C knows why a world got or lost no sandbox; 0 is none.
+
+abbrev pub no_world_number : ℕ
+no_world_number = 1
+
+abbrev pub no_module_number : ℕ
+no_module_number = 2
+
+abbrev pub remove_number : RemoveError → ℕ
+remove_number Missing = 3
+remove_number remove.Memory = 6
+
+abbrev pub add_number : AddError → ℕ
+add_number Meets = 4
+add_number Full = 5
+add_number add.Memory = 6
 
 -- ==== What a held world owns, and whether there is one, as a number.
 

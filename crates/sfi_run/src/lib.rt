@@ -5,6 +5,7 @@
 //! nothing checks it.
 #![tactic(auto)]
 
+mod adds;
 mod between;
 mod callbacks;
 mod consoles;
@@ -21,6 +22,7 @@ mod turns;
 mod version;
 mod worlds;
 
+pub use adds::{sfi_run_add, sfi_run_remove};
 pub use between::{
     sfi_run_data, sfi_run_enter, sfi_run_read, sfi_run_registers, sfi_run_set_registers,
     sfi_run_steps, sfi_run_stop, sfi_run_write,
