@@ -1,7 +1,7 @@
 // The console of `sfi run`, ready made: the library's own host for sandboxes, whose services docs/GATES.md lists.
 import { NoMemory } from "./library.mjs";
 import { Exited, NotWaiting, Trapped, hexadecimal } from "./told.mjs";
-import { EXIT, STRUCT_BYTES, bytesOf, dropped, freeing, heldBy, word } from "./world.mjs";
+import { EXIT, STRUCT_BYTES, bytesOf, dropped, freeing, heldBy, seatOf, word } from "./world.mjs";
 
 const YIELD = 3; // the service
 
@@ -11,13 +11,13 @@ export class Console {
 
   constructor(world, given = new Uint8Array()) {
     const held = heldBy.get(world);
-    const { library, count } = held;
+    const { library, seats } = held;
     const bytes = bytesOf(given);
     this.world = world;
     this.#held = held;
     this.#at = library.put(new Uint8Array(), STRUCT_BYTES);
     const free = freeing(library, "console_free", this.#at);
-    if (!library.calls.console_new(count, library.pass(bytes), BigInt(bytes.length), this.#at)) {
+    if (!library.calls.console_new(seats.length, library.pass(bytes), BigInt(bytes.length), this.#at)) {
       free();
       throw new NoMemory("there was no memory for the console");
     }
@@ -43,11 +43,11 @@ export class Console {
   }
 
   turn(sandbox, steps) {
-    const { library, at, count, goneOn } = this.#held;
-    const { number } = sandbox;
-    if (number >= count) throw new RangeError("the world is closed");
-    const isDone = library.calls.console_turn(this.#at, at, number, word(steps));
-    goneOn[number] = ++this.#held.moves;
+    const { library, at } = this.#held;
+    const seat = seatOf.get(sandbox);
+    if (!this.#held.has(seat)) throw new RangeError("the world is closed, or the sandbox removed");
+    const isDone = library.calls.console_turn(this.#at, at, seat.number, word(steps));
+    seat.goneOn = ++this.#held.moves;
     if (!isDone) throw new NoMemory("there was no memory for what a sandbox put");
   }
 

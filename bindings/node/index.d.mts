@@ -28,6 +28,8 @@ export declare class NotWaiting extends Error {}
 export declare class NotEntered extends Error {}
 /** A sandbox that is to be stopped, and has stopped already. */
 export declare class NotRunning extends Error {}
+/** Sandboxes that are to be added to a world, where one would lie on an address that one of the world's takes up. */
+export declare class Meets extends Error {}
 /** There was no memory for what was asked. */
 export declare class NoMemory extends Error {}
 
@@ -66,7 +68,7 @@ export interface Region { readonly base: number; readonly size: number }
 /** The most steps of a call in all, 1,000,000 if none are given, and what replies to its calls of gates of other services. */
 export interface CallOptions { steps?: number; serve?: (call: Call) => void }
 
-/** A sandbox of a world. After the world is closed every call of it throws RangeError. */
+/** A sandbox of a world. After it is removed, or the world is closed, every call of it throws RangeError. */
 export declare class Sandbox {
   private constructor();
   /** Its number in the world, from 0. */
@@ -123,11 +125,17 @@ export declare class Sandbox {
   readonly api: number;
 }
 
-/** The sandboxes of an image. It is freed by `close`, or when nothing refers to it any more. */
+/** The sandboxes of an image, to which those of others may be added. It is freed by `close`, or when nothing refers to it any more. */
 export declare class World {
   private constructor();
-  /** 1 to 16; none once the world is closed. */
+  /** Of one image 1 to 16; none once the world is closed. */
   readonly sandboxes: Sandbox[];
+  /** Adds the sandboxes of a module, beside those that are there, of which nothing changes: these new ones, each ready at its start,
+   * with the numbers after theirs. Throws Meets, NoMemory, and RangeError where one is closed; nothing changes then. */
+  add(module: Module): Sandbox[];
+  /** Removes a sandbox, whatever it did: what it had is gone. Those of higher numbers have a number less by one then, which
+   * their objects know. Throws RangeError where it isn't there, and NoMemory; nothing changes then. A Console has to be made anew. */
+  remove(sandbox: Sandbox): void;
   /** Frees the world. */
   close(): void;
   [Symbol.dispose](): void;

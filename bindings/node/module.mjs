@@ -1,7 +1,7 @@
 // An image that is checked and decoded once, for many worlds: index.d.mts says what each call does.
 import { NoMemory, usualLibrary } from "./library.mjs";
 import { Plugin } from "./plugin.mjs";
-import { Held, STEPS, STRUCT_BYTES, World, bytesOf, dropped, freeing, make } from "./world.mjs";
+import { Held, STEPS, STRUCT_BYTES, World, bytesOf, dropped, freeing, heldBy, make } from "./world.mjs";
 
 export class Module {
   #library;
@@ -20,6 +20,7 @@ export class Module {
     this.#image = [this.#at + BigInt(STRUCT_BYTES), BigInt(bytes.length)];
     make(library, "module_new", "module_free", this.#at, this.#image);
     dropped.register(this, freeing(library, "module_free", this.#at));
+    heldBy.set(this, { library, at: this.#at, image: this.#image, isOpen: true });
   }
 
   world() {
@@ -38,6 +39,7 @@ export class Module {
 
   close() {
     this.#isOpen = false;
+    heldBy.get(this).isOpen = false;
     this.#library.calls.module_free(this.#at);
   }
 

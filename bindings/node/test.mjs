@@ -2,7 +2,7 @@
 // that are wanted are those of docs/IMAGE.md and docs/GATES.md. The last line is `N passed, M failed`.
 import assert from "node:assert/strict";
 import { execFileSync } from "node:child_process";
-import { Call, Cause, Console, Exited, Library, Module, NoImage, NoMemory, NoName, NotEntered, NotReturned, NotRunning, NotWaiting,
+import { Call, Cause, Console, Exited, Library, Meets, Module, NoImage, NoMemory, NoName, NotEntered, NotReturned, NotRunning, NotWaiting,
   OutsideData, Plugin, Ready, Refused, Stopped, Trapped, load } from "./index.mjs";
 
 const SFI = process.env.SFI ?? new URL("../../crates/sfi/out/sfi", import.meta.url).pathname;
@@ -45,7 +45,9 @@ const EBREAKS = Buffer.from("73001000".repeat(64), "hex");
 const HEAD = "53464931010000000000000100010000000080010001000000000001" + "0000000000000000";
 const SMALLEST = Buffer.concat([Buffer.from(HEAD, "hex"), EBREAKS]);
 
-const built = (source) => Buffer.from(execFileSync(SFI, ["build"], { input: source }).toString(), "hex");
+const built = (source, ...options) => Buffer.from(execFileSync(SFI, ["build", ...options], { input: source }).toString(), "hex");
+const place = (number) => number.toString(16).padStart(8, "0");
+const moduleAt = (source, by) => Module.load(built(source, "--at", `${place(CODE + by)}:${place(DATA + by)}`));
 const numbers = (...words) => Buffer.from(Uint32Array.from(words).buffer);
 const entry = (address, name) => Buffer.concat([numbers(address), Buffer.from([name.length]), Buffer.from(name)]);
 const table = (exported, imported = Buffer.alloc(0), version = 0) =>
@@ -308,6 +310,43 @@ const tests = {
     assert.throws(() => calls[0].reply(0), NotWaiting);
     waiting.reply(7);
     assert.equal(keeps.sandbox.turn(1000).a0, 14);
+  },
+  async "sandboxes come and go"() {
+    const [twice, other, near] = await Promise.all([0, 0x100000, 0x1000].map((by) => moduleAt(TWICE, by)));
+    const world = twice.world();
+    const [one] = world.sandboxes;
+    const waiting = one.turn(1000);
+    for (const module of [twice, near]) assert.throws(() => world.add(module), Meets);
+    const [two] = world.add(other);
+    assert.deepEqual([two.number, two.steps, two.data, world.sandboxes.length], [1, 0, { base: DATA + 0x100000, size: 256 }, 2]);
+    const kept = two.turn(1000);
+    assert.throws(() => near.world().remove(one), RangeError);
+    world.remove(one);
+    assert.deepEqual([two.number, world.sandboxes.length, waiting.isWaiting, kept.isWaiting], [0, 1, false, true]);
+    for (const use of [() => one.event, () => world.remove(one), () => waiting.reply(0)]) assert.throws(use);
+    kept.reply(0, 8);
+    assert.equal(two.turn(100).a0, 8);
+    assert.equal(world.add(near)[0].number, 1);
+    for (const sandbox of world.sandboxes) world.remove(sandbox);
+    assert.deepEqual(world.sandboxes, []);
+    near.close();
+    assert.throws(() => world.add(near), RangeError);
+    world.close();
+    assert.throws(() => world.add(twice), RangeError);
+    const elsewhere = (await load(SMALLEST, await Library.load()));
+    assert.throws(() => elsewhere.add(other), RangeError);
+    const library = await Library.load();
+    const fourth = await load(SMALLEST, library);
+    for (const [status, why] of [[5, NoMemory], [6, NoMemory], [7, /status 7/]]) {
+      library.calls.remove = () => status;
+      assert.throws(() => fourth.remove(fourth.sandboxes[0]), why);
+    }
+  },
+  async "names of what is added"() {
+    const image = withData(built(PLUGIN), table(NAMED, entry(ASK, "ask")));
+    const world = (await moduleAt(TWICE, 0x100000)).world();
+    const [added] = world.add(await Module.load(image));
+    assert.deepEqual([added.number, added.export("sum"), added.imported("ask")], [1, SUM, ASK]);
   },
   async "traps"() {
     const [sandbox] = (await load(SMALLEST)).sandboxes;

@@ -40,6 +40,7 @@ export class OutsideData extends Error {}
 export class NotWaiting extends Error {}
 export class NotEntered extends Error {}
 export class NotRunning extends Error {}
+export class Meets extends Error {}
 
 export class Ready {}
 export class Stopped {}

@@ -1,6 +1,6 @@
 // Worlds and their sandboxes, over the calls of sfi_run.h: index.d.mts says what each does.
 import { NoMemory, usualLibrary } from "./library.mjs";
-import { Call, Exited, NoImage, NoName, NotEntered, NotReturned, NotRunning, NotWaiting, OutsideData, Ready, Refused,
+import { Call, Exited, Meets, NoImage, NoName, NotEntered, NotReturned, NotRunning, NotWaiting, OutsideData, Ready, Refused,
   eventOf, hexadecimal } from "./told.mjs";
 
 export const STEPS = 1_000_000; // of a call, unless others are given
@@ -70,24 +70,53 @@ export class Held {
   constructor(library, at, image, keeps) {
     this.at = at;
     this.library = library;
-    this.image = image;
-    this.keeps = keeps;
     this.free = freeing(library, "free", at);
-    this.count = Number(library.calls.count(this.at));
+    this.isOpen = true;
     this.moves = 0; // each reply, stop and entry has its number
-    this.goneOn = new Array(this.count).fill(0); // the last one of each sandbox
+    this.seats = [];
+    this.seat(image, keeps);
     dropped.register(this, this.free, this);
   }
 
+  /** Takes note of the sandboxes of an image that have no seat yet, and gives the seats: what the objects of each share. */
+  seat(image, keeps) {
+    const first = this.seats.length;
+    const count = Number(this.library.calls.count(this.at));
+    for (let number = first; number < count; number++) {
+      this.seats.push({ number, place: number - first, image, keeps, goneOn: 0 }); // goneOn: its last reply, stop or entry
+    }
+    return this.seats.slice(first);
+  }
+
+  /** Where its number is no more what it was, its object knows. */
+  remove(seat) {
+    seat.goneOn = ++this.moves;
+    this.seats.splice(seat.number, 1);
+    this.seats.forEach((other, number) => { other.number = number; });
+  }
+
+  has(seat) {
+    return this.seats[seat.number] === seat;
+  }
+
   close() {
-    if (this.count === 0) return;
-    this.count = 0;
+    if (!this.isOpen) return;
+    this.isOpen = false;
+    this.seats = [];
     dropped.unregister(this);
     this.free();
   }
 }
 
-export const heldBy = new WeakMap(); // what a world holds
+export const heldBy = new WeakMap(); // what a world holds, and what a module does
+export const seatOf = new WeakMap(); // of a sandbox
+
+/** Throws why a call of the library changed nothing of a world, if so. */
+function changes(status) {
+  if (status === 4) throw new Meets("a sandbox of the module would lie where one of the world does");
+  if (status === 5 || status === 6) throw new NoMemory("there was no memory, or no number left, for a sandbox more");
+  if (status !== 0) throw new Error(`the library answered with status ${status}, which this package doesn't know`);
+}
 
 export class World {
   constructor(held) {
@@ -96,7 +125,25 @@ export class World {
 
   get sandboxes() {
     const held = heldBy.get(this);
-    return Array.from({ length: held.count }, (_, number) => new Sandbox(held, number));
+    return held.seats.map((seat) => new Sandbox(held, seat));
+  }
+
+  add(module) {
+    const held = heldBy.get(this);
+    const { library, at, image, isOpen } = heldBy.get(module);
+    if (!held.isOpen || !isOpen || library !== held.library) {
+      throw new RangeError("the world or the module is closed, or the module is one of another library");
+    }
+    changes(library.calls.add(held.at, at, library.told));
+    return held.seat(image, module).map((seat) => new Sandbox(held, seat));
+  }
+
+  remove(sandbox) {
+    const held = heldBy.get(this);
+    const seat = seatOf.get(sandbox);
+    if (!held.has(seat)) throw new RangeError("the sandbox isn't one of this world, or no more");
+    changes(held.library.calls.remove(held.at, seat.number));
+    held.remove(seat);
   }
 
   close() {
@@ -116,31 +163,32 @@ const outside = (at, count) => new OutsideData(`${count} bytes at ${hexadecimal(
 
 export class Sandbox {
   #held;
-  #number;
+  #seat;
 
-  constructor(held, number) {
+  constructor(held, seat) {
     this.#held = held;
-    this.#number = number;
+    this.#seat = seat;
+    seatOf.set(this, seat);
   }
 
   get number() {
-    return this.#number;
+    return this.#seat.number;
   }
 
   #open() {
-    if (this.#number >= this.#held.count) throw new RangeError("the world is closed");
+    if (!this.#held.has(this.#seat)) throw new RangeError(this.#held.isOpen ? "the sandbox is removed" : "the world is closed");
     return this.#held;
   }
 
   #call(name, ...words) {
     const { library, at } = this.#open();
-    return library.calls[name](at, this.#number, ...words);
+    return library.calls[name](at, this.#seat.number, ...words);
   }
 
   /** Whether a call did what it is for, after which a Call that was told before is no more. */
   #changed(name, ...words) {
     const isDone = this.#call(name, ...words) !== 0;
-    if (isDone) this.#held.goneOn[this.#number] = ++this.#held.moves;
+    if (isDone) this.#seat.goneOn = ++this.#held.moves;
     return isDone;
   }
 
@@ -148,8 +196,8 @@ export class Sandbox {
     const held = this.#open();
     const kind = this.#call(name, ...words, held.library.told);
     const told = held.library.words(12);
-    const goneOn = held.goneOn[this.#number];
-    return eventOf(kind, told, this, () => held.goneOn[this.#number] === goneOn);
+    const { goneOn } = this.#seat;
+    return eventOf(kind, told, this, () => this.#seat.goneOn === goneOn);
   }
 
   turn(steps) {
@@ -193,11 +241,11 @@ export class Sandbox {
   }
 
   reply(a0, a1) {
-    if (!this.#changed("reply", word(a0), word(a1))) throw new NotWaiting(`sandbox ${this.#number} stands at no call`);
+    if (!this.#changed("reply", word(a0), word(a1))) throw new NotWaiting(`sandbox ${this.number} stands at no call`);
   }
 
   exit(number) {
-    if (!this.#changed("exit", word(number))) throw new NotWaiting(`sandbox ${this.#number} stands at no call`);
+    if (!this.#changed("exit", word(number))) throw new NotWaiting(`sandbox ${this.number} stands at no call`);
   }
 
   read(at, count) {
@@ -215,7 +263,7 @@ export class Sandbox {
   }
 
   stop() {
-    if (!this.#changed("stop")) throw new NotRunning(`sandbox ${this.#number} has stopped already`);
+    if (!this.#changed("stop")) throw new NotRunning(`sandbox ${this.number} has stopped already`);
   }
 
   reset() {
@@ -230,7 +278,7 @@ export class Sandbox {
 
   enter(pc, given = []) {
     if (!this.#changed("enter", word(pc), this.#arguments(given))) {
-      throw new NotEntered(`sandbox ${this.#number} can't be entered at ${hexadecimal(pc)}`);
+      throw new NotEntered(`sandbox ${this.number} can't be entered at ${hexadecimal(pc)}`);
     }
   }
 
@@ -247,14 +295,13 @@ export class Sandbox {
 
   /** Enters a function where it stands at a call: what has it stand there again. Nothing where it can't be entered so. */
   #calledBack(pc, given) {
-    const held = this.#open();
-    const { library, goneOn } = held;
-    const standing = goneOn[this.#number];
+    const { library } = this.#open();
+    const standing = this.#seat.goneOn;
     if (!this.#changed("call_back", word(pc), this.#arguments(given), library.told)) return undefined;
     const kept = library.words(33).slice();
     return () => {
       this.#call("set_registers", passWords(library, kept));
-      goneOn[this.#number] = standing;
+      this.#seat.goneOn = standing;
     };
   }
 
@@ -271,7 +318,7 @@ export class Sandbox {
   set registers({ pc, x }) {
     if (x.length !== 32) throw new RangeError(`${x.length} registers, not 32`);
     if (!this.#changed("set_registers", passWords(this.#open().library, [pc, ...x]))) {
-      throw new NotEntered(`sandbox ${this.#number} can't go on with these registers`);
+      throw new NotEntered(`sandbox ${this.number} can't go on with these registers`);
     }
   }
 
@@ -287,10 +334,11 @@ export class Sandbox {
 
   /** What the image's table says: the call, and the name where it takes one. */
   #named(call, name) {
-    const { library, image } = this.#open();
+    const { library } = this.#open();
+    const { image, place } = this.#seat;
     const text = new TextEncoder().encode(name ?? "");
     const words = name === undefined ? [] : [library.pass(text), BigInt(text.length)];
-    const why = library.calls[call](...image, this.#number, ...words, library.told);
+    const why = library.calls[call](...image, place, ...words, library.told);
     if (why !== 0) throw new NoName(name ?? "the version", why);
     return library.words(1)[0];
   }

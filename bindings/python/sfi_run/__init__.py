@@ -28,13 +28,16 @@ import threading
 from collections.abc import Callable, Iterator, Sequence
 from dataclasses import dataclass, field
 from types import TracebackType
-from typing import Any, Union
+from typing import TYPE_CHECKING, Any, Union
 
 from . import _library
 
+if TYPE_CHECKING:
+    from .modules import Module
+
 __all__ = [
-    "Call", "Cause", "Event", "Exited", "Finding", "Library", "NoImage", "NotEntered", "NotReturned", "NotRunning", "NotWaiting",
-    "OutsideData", "Ready", "Refused", "Registers", "Region", "Sandbox", "Stopped", "Trapped", "World",
+    "Call", "Cause", "Event", "Exited", "Finding", "Library", "Meets", "NoImage", "NotEntered", "NotReturned", "NotRunning",
+    "NotWaiting", "OutsideData", "Ready", "Refused", "Registers", "Region", "Sandbox", "Stopped", "Trapped", "World",
 ]
 __version__ = "0.1.0"
 
@@ -99,6 +102,10 @@ class NotRunning(Exception):
     """A sandbox that is to be stopped, and has stopped already."""
 
 
+class Meets(Exception):
+    """Sandboxes that are to be added to a world, where one would lie on an address that one of the world's takes up."""
+
+
 class Cause(enum.Enum):
     """Why a sandbox trapped. Accepted code never meets the first two."""
     FETCH = 1
@@ -144,8 +151,8 @@ class Call:
     def _now(self) -> Sandbox:
         """The sandbox, if it still stands at this call: it has gone on where it was replied to, stopped or entered since."""
         sandbox = self.sandbox
-        if sandbox._world._gone_on[sandbox._number] != self._turns:
-            raise NotWaiting(f"sandbox {sandbox._number} no longer stands at this call")
+        if sandbox._seat.gone_on != self._turns:
+            raise NotWaiting(f"sandbox {sandbox.number} no longer stands at this call")
         return sandbox
 
 
@@ -210,8 +217,16 @@ def _make(make: Callable[..., int], image: bytes, made: Any) -> None:
         raise RuntimeError(f"the library answered with status {status}, which this package doesn't know")
 
 
+class _Seat:
+    """What the objects of one sandbox share: its number, which is that of its world's list, and its last reply, stop or entry."""
+    __slots__ = ("gone_on", "number")
+
+    def __init__(self, number: int) -> None:
+        self.number, self.gone_on = number, 0
+
+
 class World:
-    """The sandboxes of an image. Any thread may use it: a lock sees to it that one call is made at a time. A loop over `events`
+    """The sandboxes of an image, to which those of others may be added. Any thread may use it: a lock sees to it that one call is made at a time. A loop over `events`
     is many calls: threads that share a sandbox want a lock of their own around it. A forked child can't use the world of its
     parent, and shouldn't make one where the parent had threads. It is freed by `close`, at the end of a `with`, or when
     nothing refers to it any more."""
@@ -230,9 +245,9 @@ class World:
         self._lock = threading.RLock()  # a collection in the midst of a call may free another world, and this one never
         self._at = ctypes.byref(self._raw)
         make(self._at)
-        self._count = self._calls["count"](self._at)
+        self._seats = [_Seat(number) for number in range(self._calls["count"](self._at))]
         self._moves = itertools.count(1)  # each reply, stop and entry has its number
-        self._gone_on = [0] * self._count  # the last one of each sandbox
+        self._is_open = True
 
     def _made_here(self) -> None:
         """The library asks that no call is made in a forked child, where another thread's call may never end."""
@@ -244,7 +259,44 @@ class World:
         self._made_here()
         with self._lock:
             self._calls["free"](self._at)
-            self._count = 0
+            self._seats, self._is_open = [], False
+
+    def add(self, module: Module) -> list[Sandbox]:
+        """Adds the sandboxes of a module, beside those that are there, of which nothing changes: these new ones, each ready at
+        its start, with the numbers after theirs. Raises Meets where one would lie where another does (`sfi move` gives an image
+        with other places), and MemoryError where there is no memory; nothing changes then. A Console has to be made anew."""
+        first = ctypes.c_uint32()
+        self._made_here()
+        with self._lock:
+            if not self._is_open or module._calls is not self._calls:
+                raise ValueError("the world is closed, or the module is one of another library")
+            self._has_changed(module._used(lambda at: self._calls["add"](self._at, at, ctypes.byref(first))))
+            count = self._calls["count"](self._at)
+            self._seats += [_Seat(number) for number in range(first.value, count)]
+            return [Sandbox(self, seat) for seat in self._seats[first.value :]]
+
+    def remove(self, sandbox: Sandbox) -> None:
+        """Removes a sandbox of this world, whatever it did: what it had is gone, and each call of it raises IndexError. Those of
+        higher numbers have a number less by one then, which their objects know; nothing else of them changes. Raises MemoryError
+        where there is no memory; nothing changes then. A Console has to be made anew."""
+        if sandbox._world is not self:
+            raise ValueError("the sandbox is one of another world")
+        with self._lock:
+            self._has_changed(sandbox._call("remove"))
+            sandbox._seat.gone_on = next(self._moves)
+            self._seats.remove(sandbox._seat)
+            for number, other in enumerate(self._seats):
+                other.number = number
+
+    @staticmethod
+    def _has_changed(status: int) -> None:
+        """Raises why a call of the library changed nothing, if so."""
+        if status == 4:
+            raise Meets("a sandbox of the module would lie where one of the world does")
+        if status in (5, 6):
+            raise MemoryError("there was no memory, or no number left, for a sandbox more")
+        if status:
+            raise RuntimeError(f"the library answered with status {status}, which this package doesn't know")
 
     def __enter__(self) -> World:
         return self
@@ -254,21 +306,21 @@ class World:
 
     def __del__(self) -> None:
         # A forked child has a copy of the memory, which ends with it.
-        if getattr(self, "_count", 0) and os.getpid() == self._process:
+        if getattr(self, "_is_open", False) and os.getpid() == self._process:
             self.close()
 
     def __len__(self) -> int:
-        """How many sandboxes there are: 1 to 16."""
-        return self._count
+        """How many sandboxes there are: of one image 1 to 16."""
+        return len(self._seats)
 
     def __getitem__(self, number: int) -> Sandbox:
         """A sandbox, by its number from 0."""
-        if not 0 <= number < self._count:
+        if not 0 <= number < len(self._seats):
             raise IndexError(f"there is no sandbox {number}")
-        return Sandbox(self, number)
+        return Sandbox(self, self._seats[number])
 
     def __iter__(self) -> Iterator[Sandbox]:
-        return (Sandbox(self, number) for number in range(self._count))
+        return iter([Sandbox(self, seat) for seat in self._seats])
 
 
 def _words(arguments: Sequence[int]) -> Any:
@@ -279,38 +331,43 @@ def _words(arguments: Sequence[int]) -> Any:
 
 
 class Sandbox:
-    """A sandbox of a world. After the world is closed every call of it raises IndexError."""
-    __slots__ = ("_number", "_world")
+    """A sandbox of a world. After it is removed, or the world is closed, every call of it raises IndexError."""
+    __slots__ = ("_seat", "_world")
 
-    def __init__(self, world: World, number: int) -> None:
-        self._world, self._number = world, number
+    def __init__(self, world: World, seat: _Seat) -> None:
+        self._world, self._seat = world, seat
 
     @property
     def number(self) -> int:
         """Its number in the world, from 0."""
-        return self._number
+        return self._seat.number
+
+    def _place(self) -> int:
+        """Its number, if it is still there."""
+        world, number = self._world, self._seat.number
+        if number >= len(world._seats) or world._seats[number] is not self._seat:
+            raise IndexError("the sandbox is removed" if world._is_open else "the world is closed")
+        return number
 
     def _call(self, name: str, *arguments: Any) -> Any:
         world = self._world
         world._made_here()
         with world._lock:
-            if self._number >= world._count:
-                raise IndexError("the world is closed")
-            return world._calls[name](world._at, self._number, *arguments)
+            return world._calls[name](world._at, self._place(), *arguments)
 
     def _changed(self, name: str, *arguments: Any) -> bool:
         """Whether a call did what it is for, after which a Call that was told before is no more."""
         with self._world._lock:
             is_done = self._call(name, *arguments)
             if is_done:
-                self._world._gone_on[self._number] = next(self._world._moves)
+                self._seat.gone_on = next(self._world._moves)
             return is_done
 
     def _told(self, name: str, *arguments: Any) -> Event:
         raw = _library.Event()
         with self._world._lock:
             kind = self._call(name, *arguments, ctypes.byref(raw))
-            turns = self._world._gone_on[self._number]
+            turns = self._seat.gone_on
         if kind == 1:
             return Ready()
         if kind == 2:
@@ -358,7 +415,7 @@ class Sandbox:
                 if now >= end:
                     event = Ready()
             yield event
-            if not isinstance(event, Call) or self._world._gone_on[self._number] == event._turns:
+            if not isinstance(event, Call) or self._seat.gone_on == event._turns:
                 return
             now = self.steps
 
@@ -366,12 +423,12 @@ class Sandbox:
         """Replies to the call at which it stands: it goes on after it in its next turn, with these in a0 and a1. Raises
         NotWaiting where it stands at no call, and ValueError as `Call.reply` does."""
         if not self._changed("reply", _word(a0), _word(a1)):
-            raise NotWaiting(f"sandbox {self._number} stands at no call")
+            raise NotWaiting(f"sandbox {self.number} stands at no call")
 
     def exit(self, number: int) -> None:
         """The other reply: it stops at the call, with that number."""
         if not self._changed("exit", _word(number)):
-            raise NotWaiting(f"sandbox {self._number} stands at no call")
+            raise NotWaiting(f"sandbox {self.number} stands at no call")
 
     def read(self, at: int, count: int) -> bytes:
         """The `count` bytes of its data from address `at` on. Raises OutsideData where one isn't of its data."""
@@ -391,7 +448,7 @@ class Sandbox:
         """Stops it, whether it is ready or stands at a call: no turn runs it, and it takes no reply. Its data, pc, registers and
         steps stay, and `enter` may enter it again. Raises NotRunning where it has stopped already."""
         if not self._changed("stop"):
-            raise NotRunning(f"sandbox {self._number} has stopped already")
+            raise NotRunning(f"sandbox {self.number} has stopped already")
 
     def reset(self) -> None:
         """Takes it back to what it was when its world was made, whatever it did and wherever it stands: its data, pc and
@@ -403,7 +460,7 @@ class Sandbox:
         left. A function that returns calls its first gate of service 0. Its data stay, and its steps are counted on. Raises
         NotEntered where it hasn't stopped, or no bundle or word of its code begins at pc."""
         if not self._changed("enter", _word(pc), _words(arguments)):
-            raise NotEntered(f"sandbox {self._number} can't be entered at {pc:08x}")
+            raise NotEntered(f"sandbox {self.number} can't be entered at {pc:08x}")
 
     def call(self, pc: int, *arguments: int, steps: int, serve: Callable[[Call], object] | None = None) -> int:
         """Calls a function: enters it at pc, runs it for at most `steps` steps in all, and answers its result, with which it
@@ -429,14 +486,14 @@ class Sandbox:
         """Enters a function where it stands at a call: what has it stand there again. None where it can't be entered so."""
         kept = _library.Registers()
         with self._world._lock:
-            standing = self._world._gone_on[self._number]
+            standing = self._seat.gone_on
             if not self._changed("call_back", _word(pc), _words(arguments), ctypes.byref(kept)):
                 return None
 
         def put_back() -> None:
             with self._world._lock:
                 self._call("set_registers", kept)
-                self._world._gone_on[self._number] = standing
+                self._seat.gone_on = standing
         return put_back
 
     @property
@@ -459,7 +516,7 @@ class Sandbox:
         if len(registers.x) != 32:
             raise ValueError(f"{len(registers.x)} registers, not 32")
         if not self._changed("set_registers", _library.Registers(_word(registers.pc), tuple(map(_word, registers.x)))):
-            raise NotEntered(f"sandbox {self._number} can't go on with these registers")
+            raise NotEntered(f"sandbox {self.number} can't go on with these registers")
 
     @property
     def pc(self) -> int:

@@ -65,6 +65,8 @@ _CALLS: dict[str, tuple[Any, list[Any]]] = {
     "module_new": (_WORD, [_BYTES, _SIZE, _MODULE, ctypes.POINTER(Verdict)]),
     "module_free": (None, [_MODULE]),
     "instance": (ctypes.c_bool, [_MODULE, _WORLD]),
+    "add": (_WORD, [_WORLD, _MODULE, ctypes.POINTER(_WORD)]),
+    "remove": (_WORD, [_WORLD, _WORD]),
     "export": (_WORD, [_BYTES, _SIZE, _WORD, _BYTES, _SIZE, ctypes.POINTER(_WORD)]),
     "import": (_WORD, [_BYTES, _SIZE, _WORD, _BYTES, _SIZE, ctypes.POINTER(_WORD)]),
     "api": (_WORD, [_BYTES, _SIZE, _WORD, ctypes.POINTER(_WORD)]),

@@ -47,10 +47,8 @@ class Console:
         world = self.world
         world._made_here()
         with world._lock:
-            if sandbox.number >= len(world):
-                raise IndexError("the world is closed")
-            is_done = self._calls["console_turn"](self._at, world._at, sandbox.number, _word(steps))
-            world._gone_on[sandbox.number] = next(world._moves)
+            is_done = self._calls["console_turn"](self._at, world._at, sandbox._place(), _word(steps))
+            sandbox._seat.gone_on = next(world._moves)
         if not is_done:
             raise MemoryError("there was no memory for what a sandbox put")
 

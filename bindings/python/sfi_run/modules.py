@@ -6,6 +6,8 @@
         plugins = [module.instance(log=lambda call: print(call.a0)) for _ in range(1000)]
     print(plugins[0].add(2, 3))
 
+Or its sandboxes are added to a world beside those of others: `world.add(module)`, and `world.remove(sandbox)`.
+
 The worlds of a module share its decoded code, which nothing writes, and each has its data, registers and steps for itself. They
 may be closed in any order, and after the module.
 """
@@ -14,6 +16,7 @@ from __future__ import annotations
 import ctypes
 import os
 import threading
+from collections.abc import Callable
 from types import TracebackType
 from typing import Any
 
@@ -37,13 +40,17 @@ class Module:
         if os.getpid() != self._process:
             raise RuntimeError("a module is used by the process that made it alone, and not by a forked child")
 
-    def _make_world(self, at: Any) -> None:
+    def _used(self, use: Callable[[Any], Any]) -> Any:
+        """What `use` makes of the module at the address that it is given."""
         self._made_here()
         with self._lock:
             if not self._is_open:
                 raise ValueError("the module is closed")
-            if not self._calls["instance"](self._at, at):
-                raise MemoryError("there was no memory for a world of the module")
+            return use(self._at)
+
+    def _make_world(self, at: Any) -> None:
+        if not self._used(lambda module: self._calls["instance"](module, at)):
+            raise MemoryError("there was no memory for a world of the module")
 
     def world(self) -> World:
         """A world of the image: what World makes of its bytes, and nothing is checked or decoded anew."""

@@ -15,6 +15,7 @@ HERE = pathlib.Path(__file__).resolve().parent
 sys.path.insert(0, str(HERE.parent))
 import sfi_run
 from sfi_run.console import Console
+from sfi_run.modules import Module
 
 SFI = os.environ.get("SFI") or shutil.which("sfi") or str(HERE.parents[2] / "crates" / "sfi" / "out" / "sfi")
 CODE, DATA = 0x01000000, 0x01800000  # of the first sandbox
@@ -53,8 +54,8 @@ EBREAKS = bytes.fromhex("73001000" * 64)
 SMALLEST = bytes.fromhex("5346493101000000" "0000000100010000" "0000800100010000" "00000001" "00000000" "00000000") + EBREAKS
 
 
-def built(source):
-    done = subprocess.run([SFI, "build"], input=source, capture_output=True, text=True, check=True)
+def built(source, *options):
+    done = subprocess.run([SFI, "build", *options], input=source, capture_output=True, text=True, check=True)
     return bytes.fromhex(done.stdout)
 
 
@@ -370,6 +371,63 @@ class Running(unittest.TestCase):
         self.assertEqual(self.sandbox.event, call)
         call.reply(0, 0xFFFFFFFF)
         self.assertEqual(self.sandbox.turn(1000).a0, 0xFFFFFFFF)
+
+
+class Beside(unittest.TestCase):
+    """Sandboxes that come into a world and leave it. `--at` gives them places beside each other."""
+
+    def modules(self):
+        return [Module(built(source, "--at", f"{CODE + place:08x}:{DATA + place:08x}"))
+                for source, place in ((TWICE, 0), (SUM, 0x100000), (TWICE, 0x200000), (LOOPS, 0x1000))]
+
+    def test_added_and_removed(self):
+        twice, total, other, _ = self.modules()
+        world = twice.world()
+        first = world[0]
+        waiting = first.turn(1000)
+        (second,), (third,) = world.add(total), world.add(other)
+        self.assertEqual((len(world), second.number, third.number, third.steps), (3, 1, 2, 0))
+        self.assertEqual(third.data, sfi_run.Region(DATA + 0x200000, 256))
+        kept = third.turn(1000)
+        self.assertEqual(second.turn(100), sfi_run.Call(0, *[0] * 8, 1, CODE + 0x100010, second))
+        world.remove(second)
+        self.assertEqual((len(world), first.number, third.number), (2, 0, 1))
+        kept.reply(0, 8)
+        waiting.reply(0, 9)
+        self.assertEqual((first.turn(100).a0, third.turn(100).a0), (9, 8))
+        for use in (lambda: second.event, lambda: world.remove(second), lambda: world[2]):
+            with self.assertRaises(IndexError):
+                use()
+        (again,) = world.add(total)
+        self.assertEqual((again.number, again.steps), (2, 0))
+        for sandbox in list(world):
+            world.remove(sandbox)
+        self.assertEqual(len(world), 0)
+        world.close()
+
+    def test_what_is_not_added(self):
+        twice, _, _, near = self.modules()
+        world = twice.world()
+        for module in (twice, near):
+            with self.assertRaises(sfi_run.Meets):
+                world.add(module)
+        self.assertEqual(len(world), 1)
+        with self.assertRaises(ValueError):
+            world.remove(near.world()[0])
+        near.close()
+        with self.assertRaises(ValueError):
+            world.add(near)
+        world.close()
+        with self.assertRaises(ValueError):
+            world.add(twice)
+
+    def test_answers_that_are_unknown(self):
+        world, module = self.modules()[0].world(), self.modules()[2]
+        for status, why in ((5, MemoryError), (6, MemoryError), (7, RuntimeError)):
+            with mock.patch.dict(world._calls._functions, {"add": lambda *_: status, "remove": lambda *_: status}):
+                for use in (lambda: world.add(module), lambda: world.remove(world[0])):
+                    with self.assertRaises(why):
+                        use()
 
 
 class Services(unittest.TestCase):

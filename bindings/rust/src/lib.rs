@@ -77,6 +77,31 @@ pub enum CallError {
     NotRunning,
 }
 
+/// Why a world got or lost no sandbox.
+#[derive(Clone, Copy, Debug, PartialEq, Eq)]
+pub enum ChangeError {
+    /// There is no sandbox of that number.
+    NoSandbox,
+    /// A sandbox that was to be added would lie on an address that one of the world's takes up with its code, or its data and
+    /// their guard zones. `sfi move` gives an image with other places.
+    Meets,
+    /// There would be more sandboxes than numbers of 32 bits.
+    Full,
+    /// There was no memory for it.
+    NoMemory,
+}
+
+impl fmt::Display for ChangeError {
+    fn fmt(&self, to: &mut fmt::Formatter<'_>) -> fmt::Result {
+        to.write_str(match self {
+            ChangeError::NoSandbox => "there is no sandbox of that number",
+            ChangeError::Meets => "a sandbox would lie where one of the world does",
+            ChangeError::Full => "there would be more sandboxes than numbers of 32 bits",
+            ChangeError::NoMemory => "there was no memory for the change of the world",
+        })
+    }
+}
+
 impl fmt::Display for LoadError {
     fn fmt(&self, to: &mut fmt::Formatter<'_>) -> fmt::Result {
         match self {
@@ -136,6 +161,7 @@ impl LoadError {
 
 impl Error for LoadError {}
 impl Error for CallError {}
+impl Error for ChangeError {}
 
 /// Why a sandbox trapped. Accepted code never meets the first two.
 #[derive(Clone, Copy, Debug, PartialEq, Eq)]
@@ -231,7 +257,7 @@ impl Cause {
     }
 }
 
-/// The sandboxes of an image. It is freed when it is dropped. It may go from thread to thread; since each call borrows it
+/// The sandboxes of an image, to which those of others may be added. It is freed when it is dropped. It may go from thread to thread; since each call borrows it
 /// alone, one call at a time uses it, as the library asks:
 ///
 /// ```
@@ -271,10 +297,47 @@ impl World {
         World { raw, count }
     }
 
-    /// How many sandboxes there are: 1 to 16.
-    #[allow(clippy::len_without_is_empty)] // there is always one
+    /// Adds the sandboxes of a module, beside those that are there, of which nothing changes: each ready at its start, with the
+    /// numbers from the answer on. On an error nothing changes. A console has to be made anew.
+    pub fn add(&mut self, module: &mut modules::Module) -> Result<u32, ChangeError> {
+        let mut first = 0;
+        // SAFETY: nothing else uses the world and the module during the call.
+        let status = unsafe { sys::sfi_run_add(&mut self.raw, &mut module.raw, &mut first) };
+        self.changed(status)?;
+        Ok(first)
+    }
+
+    /// Removes a sandbox, whatever it did: what it had is gone, and each one of a higher number has a number less by one then, as
+    /// [`Vec::remove`] has it: do the same to what you keep of each. Nothing else of them changes, and on an error nothing does.
+    /// A console has to be made anew.
+    pub fn remove(&mut self, number: u32) -> Result<(), ChangeError> {
+        // SAFETY: nothing else uses the world.
+        let status = unsafe { sys::sfi_run_remove(&mut self.raw, number) };
+        self.changed(status)
+    }
+
+    /// What a status says of a change of the world, after which it may have another count of sandboxes.
+    fn changed(&mut self, status: u32) -> Result<(), ChangeError> {
+        // SAFETY: nothing else uses it.
+        self.count = unsafe { sys::sfi_run_count(&mut self.raw) } as u32;
+        match status {
+            0 => Ok(()),
+            3 => Err(ChangeError::NoSandbox),
+            4 => Err(ChangeError::Meets),
+            5 => Err(ChangeError::Full),
+            6 => Err(ChangeError::NoMemory),
+            status => unreachable!("a library of this version: status {status}"),
+        }
+    }
+
+    /// How many sandboxes there are: of one image 1 to 16.
     pub fn len(&self) -> u32 {
         self.count
+    }
+
+    /// Whether all sandboxes were removed.
+    pub fn is_empty(&self) -> bool {
+        self.count == 0
     }
 
     /// A sandbox by its number from 0, or none where there is no such one.

@@ -17,9 +17,11 @@ use std::ptr;
 /// # }
 /// ```
 ///
+/// Or its sandboxes come into a world beside those of others: [`World::add`].
+///
 /// It is freed when it is dropped. What is said of a [`World`] and threads holds of it, too.
 pub struct Module {
-    raw: sys::Module,
+    pub(crate) raw: sys::Module,
 }
 
 // SAFETY: as of a world (`Send` of `HeldModule` in crates/sfi_run).

@@ -90,6 +90,8 @@ extern "C" {
     ) -> u32;
     pub fn sfi_run_module_free(module: *mut Module);
     pub fn sfi_run_instance(module: *mut Module, world: *mut World) -> bool;
+    pub fn sfi_run_add(world: *mut World, module: *mut Module, first: *mut u32) -> u32;
+    pub fn sfi_run_remove(world: *mut World, sandbox: u32) -> u32;
     pub fn sfi_run_load(
         image: *const u8,
         length: usize,

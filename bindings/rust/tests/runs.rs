@@ -1,6 +1,8 @@
 //! Tests of the crate. The addresses, registers and numbers that are wanted are those of docs/IMAGE.md and docs/GATES.md.
 use sfi_run::modules::Module;
-use sfi_run::{Call, CallError, Cause, Event, Finding, LoadError, Region, Sandbox, World};
+use sfi_run::{
+    Call, CallError, Cause, ChangeError, Event, Finding, LoadError, Region, Sandbox, World,
+};
 use std::env;
 use std::io::Write;
 use std::path::Path;
@@ -32,6 +34,10 @@ fn smallest() -> Vec<u8> {
 }
 
 fn built(source: &str) -> Vec<u8> {
+    built_with(source, &[])
+}
+
+fn built_with(source: &str, options: &[&str]) -> Vec<u8> {
     let beside = Path::new(env!("CARGO_MANIFEST_DIR")).join("../../crates/sfi/out/sfi");
     let sfi = env::var_os("SFI").unwrap_or_else(|| {
         if beside.exists() {
@@ -42,6 +48,7 @@ fn built(source: &str) -> Vec<u8> {
     });
     let mut child = Command::new(sfi)
         .arg("build")
+        .args(options)
         .stdin(Stdio::piped())
         .stdout(Stdio::piped())
         .spawn()
@@ -436,4 +443,41 @@ fn modules() {
         Module::new(&image[1..]),
         Err(LoadError::NoImage(1))
     ));
+}
+
+/// A module of it beside the usual places.
+fn module_at(source: &str, place: u32) -> Module {
+    let at = format!("{:08x}:{:08x}", CODE + place, DATA + place);
+    Module::new(&built_with(source, &["--at", &at])).unwrap()
+}
+
+#[test]
+fn sandboxes_come_and_go() {
+    let mut other = module_at(TWICE, 0x10_0000);
+    let mut near = module_at(TWICE, 0x1000); // data within the guard zone
+    let mut world = twice();
+    let told = world.sandbox(0).unwrap().turn(1000);
+    assert_eq!(world.add(&mut near), Err(ChangeError::Meets));
+    assert_eq!(world.add(&mut other), Ok(1));
+    assert_eq!(world.add(&mut other), Err(ChangeError::Meets));
+    assert_eq!((world.len(), world.sandbox(0).unwrap().event()), (2, told));
+    let mut added = world.sandbox(1).unwrap();
+    assert!(matches!(added.turn(1000), Event::Call(_)));
+    added.reply(0, 8).unwrap();
+    assert_eq!(world.remove(2), Err(ChangeError::NoSandbox));
+    assert_eq!(world.remove(0), Ok(()));
+    assert!(world.sandbox(1).is_none());
+    let mut left = world.sandbox(0).unwrap();
+    assert_eq!(left.data().base, DATA + 0x10_0000);
+    assert!(matches!(
+        left.turn(100),
+        Event::Call(Call {
+            service: 0,
+            a0: 8,
+            ..
+        })
+    ));
+    assert_eq!(world.add(&mut near), Ok(1));
+    assert_eq!((world.remove(1), world.remove(0)), (Ok(()), Ok(())));
+    assert!(world.is_empty());
 }
