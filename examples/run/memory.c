@@ -141,6 +141,43 @@ static void console_without(const struct image *image) {
     wanted(live == 0, "a freed console gives all back");
 }
 
+/* Adds the module's sandboxes, or removes the first where there is no module, while each allocation in turn is refused: until
+ * it is done nothing changes, and nothing is left. */
+static void change_without(struct sfi_run_world *world, struct sfi_run_module *module) {
+    const uint64_t before = live;
+    const size_t count = sfi_run_count(world);
+    uint32_t status = SFI_RUN_CHANGE_NO_MEMORY, first = 99;
+    for (uint64_t number = 0; status == SFI_RUN_CHANGE_NO_MEMORY; number++) {
+        refused_from = tried + number;
+        status = module ? sfi_run_add(world, module, &first) : sfi_run_remove(world, 0);
+        refused_from = UINT64_MAX;
+        wanted(status != SFI_RUN_CHANGE_NO_MEMORY || (live == before && sfi_run_count(world) == count && first == 99),
+               "a change without memory is none");
+    }
+    wanted(status == SFI_RUN_CHANGED && (!module || first == count), "it is done where there is memory");
+}
+
+static void changes_without(const struct image *image) {
+    struct sfi_run_world world = SFI_RUN_NO_WORLD;
+    struct sfi_run_module module = SFI_RUN_NO_MODULE;
+    struct sfi_verdict verdict;
+    uint32_t first = 99;
+    wanted(sfi_run_add(&world, &module, &first) == SFI_RUN_CHANGE_NO_WORLD && sfi_run_remove(&world, 0) == SFI_RUN_CHANGE_NO_WORLD,
+           "without a world nothing is added or removed");
+    load(image, &world);
+    wanted(sfi_run_add(&world, &module, &first) == SFI_RUN_CHANGE_NO_MODULE, "without a module nothing is added");
+    sfi_run_module_new(image->bytes, image->length, &module, &verdict);
+    wanted(sfi_run_add(&world, &module, &first) == SFI_RUN_CHANGE_MEETS, "two don't lie at one place");
+    wanted(sfi_run_remove(&world, 99) == SFI_RUN_CHANGE_NO_SANDBOX && first == 99, "who isn't there isn't removed");
+    while (sfi_run_count(&world) > 0)
+        change_without(&world, NULL);
+    change_without(&world, &module);
+    wanted(sfi_run_count(&world) == verdict.sandboxes, "all of the module are added");
+    sfi_run_module_free(&module);
+    sfi_run_free(&world);
+    wanted(live == 0, "a freed world gives all back that was added");
+}
+
 static uint32_t state = 1;
 static uint32_t below(uint32_t most) { /* xorshift32 */
     state ^= state << 13, state ^= state >> 17, state ^= state << 5;
@@ -205,7 +242,8 @@ int main(int count, char **words) {
     sfi_run_free(&world);
     for (uint32_t k = 0; k < given; k++)
         if (images[k].status == SFI_RUN_LOADED)
-            refused += refuse_each(&images[k], NULL) + refuse_each(&images[k], &images[0]), console_without(&images[k]);
+            refused += refuse_each(&images[k], NULL) + refuse_each(&images[k], &images[0]), console_without(&images[k]),
+                changes_without(&images[k]);
         else
             judge_without(&images[k]);
     for (int k = 0; k < SESSIONS; k++)

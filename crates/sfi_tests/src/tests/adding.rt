@@ -1,10 +1,10 @@
-//! A world that gets the sandbox of another image.
+//! A world that gets the sandbox of another image, and loses one.
 use super::entering::{smallest_world, turned};
 use super::rows::image_of;
 use rv_mem::Segments;
 use rv_step::Cause;
 use sfi_check::check;
-use sfi_host::{AddError, Module, Status};
+use sfi_host::{AddError, Module, RemoveError, Status};
 use std::alloc::Global;
 use std::process::Abort;
 use std::test::Fail;
@@ -58,5 +58,28 @@ fn what_lies_apart_is_added(rt: HostRuntime) -> Result<(), Fail> {
     for case in CASES {
         try_case(&rt, rt.alloc(), case)?;
     }
+    Ok(())
+}
+
+// The first leaves, the second too, and then there is room for the second again.
+#[test]
+fn what_is_removed_leaves_its_room(rt: HostRuntime) -> Result<(), Fail> {
+    let alloc = rt.alloc();
+    let mut world = smallest_world(&rt, alloc)?;
+    let bytes = image_of(alloc, "put 8 00000002\nput 16 00218001\nput 24 00000002")?;
+    let accepted = check(alloc, bytes.as_slice()).expect(&rt, "accepted");
+    let module = Module::of(alloc, &accepted)?;
+    assert_eq!(rt; world.add(alloc, &module, Segments::new(alloc)), Ok(1));
+    let missing = world.remove(alloc, 2, Segments::new(alloc));
+    assert_eq!(rt; missing, Err(RemoveError::Missing));
+    assert_eq!(rt; world.remove(alloc, 0, Segments::new(alloc)), Ok(()));
+    assert_eq!(rt; world.status(0), Some(Status::Ready));
+    assert_eq!(rt; world.data_byte(0, 0x0180_2100), Some(0));
+    assert_eq!(rt; world.status(1), None);
+    let again = world.add(alloc, &module, Segments::new(alloc));
+    assert_eq!(rt; again, Err(AddError::Meets));
+    assert_eq!(rt; world.remove(alloc, 0, Segments::new(alloc)), Ok(()));
+    assert_eq!(rt; world.len(), 0);
+    assert_eq!(rt; world.add(alloc, &module, Segments::new(alloc)), Ok(0));
     Ok(())
 }
