@@ -16,8 +16,9 @@
  * The calls read nothing but their arguments, the world, the console and the module, keep nothing elsewhere, start no thread,
  * and read and write no file. sfi_run_load takes memory by malloc and realloc, for the world of an accepted image alone;
  * sfi_run_load and sfi_run_free give it back by free; sfi_run_add, sfi_run_remove and the calls of a module and of a console do
- * so, too, as they say; the other calls do neither. Each returns: sfi_run_turn, sfi_run_until, sfi_run_call and sfi_run_console_turn after at most the steps that they were given.
- * A thread with 64 KiB of stack had room for each where that was measured.
+ * so, too, as they say; the other calls do neither. Each returns: sfi_run_turn, sfi_run_until, sfi_run_call and
+ * sfi_run_console_turn after at most the steps that they were given. A thread with 64 KiB of stack had room for each where that
+ * was measured.
  *
  * What a caller owes, since nothing checks it:
  *
@@ -28,7 +29,8 @@
  *   struct may be freed twice: after the first time it holds no world. A world that goes out of use is freed first, or its
  *   memory is lost.
  * - One call at a time uses a world. Any thread may make it; where two threads use a world, a lock, a join or the like
- *   orders their calls, also those that only look. Calls on different worlds may be made at once, also on those of one module.
+ *   orders their calls, also those that only look. Calls on different worlds may be made at once, also on those of one module;
+ *   a call that is handed a module uses that, too.
  * - No call is made in a signal handler, nor in the forked child of a process that had threads. None is left by longjmp,
  *   by a C++ exception or by ending its thread: during a call, also one that only looks, the struct says that there is no
  *   world, and so the world of a call that is left is lost. What bounds the time of a turn is the number of its steps.
@@ -105,8 +107,8 @@ enum sfi_run_change {
     SFI_RUN_CHANGE_NO_WORLD = 1,
     SFI_RUN_CHANGE_NO_MODULE = 2,
     SFI_RUN_CHANGE_NO_SANDBOX = 3, /* there is none of that number */
-    SFI_RUN_CHANGE_MEETS = 4,      /* code, or data with the guard zones, would lie on an address of a sandbox that is there */
-    SFI_RUN_CHANGE_FULL = 5,       /* there would be more sandboxes than numbers of 32 bits */
+    SFI_RUN_CHANGE_MEETS = 4,      /* code, data or a guard zone of one would meet those of a sandbox that is there */
+    SFI_RUN_CHANGE_FULL = 5,       /* there would be more sandboxes than numbers of 32 bits, which don't fit into memory */
     SFI_RUN_CHANGE_NO_MEMORY = 6   /* there was no memory for it */
 };
 
@@ -209,8 +211,11 @@ bool sfi_run_instance(struct sfi_run_module *module, struct sfi_run_world *world
 /*
  * Adds the sandboxes of the module to the world, beside those that are there: each is as sfi_run_instance makes it, and they
  * have the numbers from *first on, in the image's order. Nothing changes of those that are there: not what they hold, nor the
- * call at which one stands. Returns one of enum sfi_run_change, of several the first; unless it is SFI_RUN_CHANGED nothing changes and
- * *first isn't written.
+ * call at which one stands. Returns one of enum sfi_run_change, of several the first; unless it is SFI_RUN_CHANGED nothing
+ * changes and *first isn't written.
+ *
+ * A sandbox posts to others by their numbers in the world; in the names of its image (sfi_run_export) *first is sandbox 0. A
+ * console that was made before knows none of the new ones, and refuses their calls but exit and yield.
  *
  * A sandbox lies where its image says, so two modules of a world are made for different places, or moved to them (`sfi move`).
  * Images of different formats may share a world. Nothing is checked or decoded anew, and the module may be freed afterwards;
@@ -221,14 +226,20 @@ uint32_t sfi_run_add(struct sfi_run_world *world, struct sfi_run_module *module,
 /*
  * Removes a sandbox from the world, whatever it did and wherever it stands: its code and data are gone, and others may be added
  * where they lay. EACH SANDBOX OF A HIGHER NUMBER HAS A NUMBER LESS BY ONE THEN: a host that keeps something of each by its
- * number takes out the same place of what it keeps, and so it does not write to one what was meant for another. Nothing else changes of
- * those that are left, and a world of which none is left may get others. A console knows sandboxes by their numbers, too:
- * make a new one. Returns one of enum sfi_run_change; unless it is SFI_RUN_CHANGED nothing changes. What is left is copied, as
- * by sfi_run_add.
+ * number takes out the same place of what it keeps, and so it does not write to one what was meant for another. Nothing else
+ * changes of those that are left, and a world of which none is left may get others. Returns one of enum sfi_run_change; unless it
+ * is SFI_RUN_CHANGED nothing changes. What is left is copied, as by sfi_run_add.
+ *
+ * A console knows sandboxes by their numbers, too: read its outputs, and make a new one. Registers that sfi_run_call_back kept
+ * of the sandbox are not to be set after that; those of a later one are set at its new number. While sfi_run_serve or
+ * sfi_run_function runs a sandbox, its handler removes none of that number or a lower one: the run would go on with another.
  */
 uint32_t sfi_run_remove(struct sfi_run_world *world, uint32_t sandbox);
 
-/* How many sandboxes there are, of one image 1 to 16; 0 where there is no world. They are numbered from 0, in the image's order. */
+/*
+ * How many sandboxes there are, of one image 1 to 16; 0 where there is no world, and where none is left (such a world is freed,
+ * too). They are numbered from 0, in the image's order.
+ */
 size_t sfi_run_count(struct sfi_run_world *world);
 
 /* ---- names: what an image's table says (docs/IMAGE.md) */
@@ -308,7 +319,7 @@ bool sfi_run_exit(struct sfi_run_world *world, uint32_t sandbox, uint32_t number
 bool sfi_run_stop(struct sfi_run_world *world, uint32_t sandbox);
 
 /*
- * Takes a sandbox back to what sfi_run_load or sfi_run_instance made of it, whatever it did and wherever it stands: its data are those of the
+ * Takes a sandbox back to what sfi_run_load, sfi_run_instance or sfi_run_add made of it, whatever it did and wherever it stands: its data are those of the
  * image and then zeros, its pc and registers are those of its start, it is ready, and its count of steps is 0. So a plug-in
  * begins anew for the next one who calls it: nothing is left of what it kept in its data, and no other sandbox changes. What
  * a console keeps of it stays, which is its output, its place in the input and its mailbox: make a new console for a new user.

@@ -23,7 +23,7 @@ typedef bool sfi_run_handler(struct sfi_run_world *world, uint32_t sandbox, cons
  * Runs a sandbox for at most `steps` steps in all, and has each of its calls served. Writes to *event how it stands then, and
  * returns the event's kind, as sfi_run_event does. Each reply is a step: a call for which none is left is served in the next
  * run. Steps that `serve` itself has the sandbox do count, too: where they use up all that are left, the run is over. A reset by
- * `serve` ends it.
+ * `serve` ends it. `serve` removes neither that sandbox nor one of a lower number: the run would go on with another.
  */
 static inline uint32_t sfi_run_serve(struct sfi_run_world *world, uint32_t sandbox, uint64_t steps, sfi_run_handler *serve,
                                      void *context, struct sfi_run_event *event) {
