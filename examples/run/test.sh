@@ -131,6 +131,7 @@ examples_beside_run() {
     for format in $formats; do
         for source in "$here"/../*.s "$here"/*.s; do
             name=$(basename "$source" .s)
+            [ "$format" != 1 ] || ! grep -q '^\.export' "$source" || continue # which the first format doesn't have
             image "$source" "$format" "$name" || report "$name is built in format $format" image none
             beside_run "$name, format $format" "$name" 48656c6c6f 1:1000 7:13 40:1 3:97 200:1000
         done
@@ -164,7 +165,7 @@ status 0" "$room/turn.image" plug-in "Level 42" x
     says "a function on a text that is too long" function "AB 2
 status 1" "$room/turn.image" ba "$far"
     local format
-    for format in $formats; do
+    for format in 2 words; do
         image "$here/add.s" "$format" add
         says "a function of a source text by its name, format $format" add "5
 status 0" "$room/add.image"
