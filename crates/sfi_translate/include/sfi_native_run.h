@@ -16,6 +16,8 @@
  * - sfi_run_load, sfi_run_instance and sfi_run_free take memory by calloc and give it back by free: the data's bytes, and 256
  *   bytes a sandbox. A module keeps none: sfi_run_module_new takes as much as a load, and gives it back.
  * - sfi_run_until takes a step at a time, from a table, as slowly as sfi_run_turn of libsfi_run.
+ * - A world keeps its sandboxes: none can be added, since they would meet those that are there, and sfi_run_remove returns
+ *   SFI_NATIVE_STAYS.
  */
 #ifndef SFI_NATIVE_RUN_H
 #define SFI_NATIVE_RUN_H
@@ -27,7 +29,8 @@ extern "C" {
 #endif
 
 enum sfi_native_refusal {
-    SFI_NATIVE_OTHER_IMAGE = 16 /* the bytes aren't those of the image that was translated */
+    SFI_NATIVE_OTHER_IMAGE = 16, /* the bytes aren't those of the image that was translated */
+    SFI_NATIVE_STAYS = 17        /* the sandbox can't leave its world */
 };
 
 /* sfi_run_load of the image that was translated, for a host that doesn't hold its bytes: SFI_RUN_LOADED, SFI_RUN_NO_MEMORY, or
