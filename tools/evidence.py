@@ -22,7 +22,7 @@ import installed
 import version
 
 CONTRACT = pathlib.Path("crates/sfi_check/src/verdict.rt")
-ROOTS = [("sfi_runs", "Safety", "AllRunSafely"), ("sfi_safety", "Clean", "IsAccepted")]
+ROOTS = [("sfi_safe_runs", "Safety", "AllRunSafely"), ("sfi_safety", "Clean", "IsAccepted")]
 TITLE = "# Evidence for the theorem of Suygapid "
 THEOREM = "\n## The theorem\n"
 HASH = "page sha256="

@@ -2,7 +2,7 @@
 use Rattle.std.proofs.Common.{◌≡◌, ◌≢◌, ℕ, zero, suc, ◌+◌, ◌%◌, ◌^◌, ◌<◌, ◌≤◌, Bool, List, [], ◌∷◌, map, set, Option, Some, None, IsSome, is_some, slice_get, refl, sym, ap, ◌∙◌, subst, arith}
 use Rattle.std.specs.List.{range_with_len}
 use Rattle.rv_mem.specs.Bytes.{Bytes, bytes_at}
-use Rattle.sfi_policy.specs.Formats.{unit}
+use Rattle.sfi_formats.specs.Formats.{unit}
 use Rattle.sfi_image.specs.declared.span.Span.{Span}
 use Rattle.sfi_image.specs.Spelling.{Holds}
 use Rattle.sfi_host.specs.declared.turn.RunAnswer.{RunAnswer}

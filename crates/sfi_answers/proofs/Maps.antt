@@ -1,7 +1,7 @@
 -- The map of an image, one sandbox more.
 use Rattle.std.proofs.Common.{◌≡◌, ◌∙◌, ℕ, ◌+◌, ◌<◌, ◌≤◌, arith, List, [], ◌∷◌, ◌++◌, length, take, get_or, refl, sym, ap, subst, add-zero, append_assoc}
 use Rattle.std.proofs.lemmas.List.{take_all, take_more, append-nil, length-take, length-map, get_or-map}
-use Rattle.sfi_policy.specs.declared.format.Format.{Format}
+use Rattle.sfi_formats.specs.declared.format.Format.{Format}
 use Rattle.sfi_image.specs.Spelling.{Part, view, views}
 use Rattle.sfi_image.specs.declared.part.SandboxPart.{SandboxPart}
 use Rattle.sfi_link.specs.Names.{MapEntry}

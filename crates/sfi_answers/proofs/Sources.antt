@@ -3,7 +3,7 @@ use Rattle.std.proofs.Common.{◌≡◌, ◌⊎◌, ℕ, List, Result, Err, refl
 use Rattle.std.specs.Prelude.{IsErrAnd}
 use Rattle.sfi_build.specs.declared.build_fault.BuildFault.{BuildFault}
 use Rattle.sfi_build.specs.Texts.{IsBuildFault, IsWantOfMemory}
-use Rattle.sfi_policy.specs.declared.place.Place.{Place}
+use Rattle.sfi_formats.specs.declared.place.Place.{Place}
 use Rattle.sfi_answers.specs.Building.{of_source}
 use Rattle.sfi_answers.specs.Answers.{Answers, StopsBuild}
 use Rattle.sfi_answers.specs.declared.fault.Stop.{Stop}

@@ -1,8 +1,8 @@
 -- The commands `build`, `map` and `convert`.
 use Rattle.std.specs.Prelude.{ℕ, ◌+◌, ◌==◌, List, [], ◌∷◌, ◌++◌, codes, decimal, ◌≡◌, ◌⊎◌, ◌<◌, ◌≤◌, length, IsUtf8, Bool, true, false, if◌then◌else◌}
 use Rattle.std.specs.List.{flat_map}
-use Rattle.sfi_policy.specs.declared.format.Format.{Format}
-use Rattle.sfi_policy.specs.declared.format.Format.TheVariants.{Sfi1, Sfi2, Sfiw}
+use Rattle.sfi_formats.specs.declared.format.Format.{Format}
+use Rattle.sfi_formats.specs.declared.format.Format.TheVariants.{Sfi1, Sfi2, Sfiw}
 use Rattle.sfi_image.specs.Spelling.{Part}
 use Rattle.sfi_image.specs.Parts.{IsImage}
 use Rattle.sfi_link.specs.Names.{MapEntry}
@@ -12,7 +12,7 @@ use Rattle.sfi_report.specs.Listing.{hex_digits, line_end, IsNamesText}
 use Rattle.hex.specs.Hex.{encode_lower}
 use Rattle.sfi_build.specs.declared.build_fault.BuildFault.{BuildFault}
 use Rattle.sfi_build.specs.Texts.{IsTextBuild, IsTextMap, IsBuildFault}
-use Rattle.sfi_policy.specs.declared.place.Place.{Place}
+use Rattle.sfi_formats.specs.declared.place.Place.{Place}
 use Rattle.sfi_io.specs.Hexadecimal.{limit}
 use Rattle.sfi_answers.specs.Answers.{Meaning, refused_line, SaysRefused, HasSomeFault}
 use Rattle.sfi_check.specs.Converting.{IsSecond, IsOfWords, IsConversion, HasStackFindings}

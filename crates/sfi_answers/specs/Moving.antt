@@ -1,6 +1,6 @@
 -- The command `move`, on an image's bytes.
 use Rattle.std.specs.Prelude.{◌≡◌, ◌⊎◌, ℕ, List, Bool, false}
-use Rattle.sfi_policy.specs.declared.place.Place.{Place}
+use Rattle.sfi_formats.specs.declared.place.Place.{Place}
 use Rattle.sfi_image.specs.Spelling.{Part}
 use Rattle.sfi_image.specs.Keeping.{IsBeyond}
 use Rattle.sfi_safety.specs.Clean.{IsAccepted}

@@ -10,9 +10,9 @@ ghost use Rattle.sfi_io.specs.Hexadecimal.{limit};
 use crate::fault::{InputFault, Stop};
 use crate::verdict::{Answer, image_output};
 use sfi_build::{build_at, names_at};
+use sfi_formats::{Format, Place};
 use sfi_image::{Image, ImageFault, parse_image};
 use sfi_link::{NameAddress, NameKind};
-use sfi_policy::{Format, Place};
 use sfi_report::{names_text, push_eight_digits};
 use std::alloc::{AllocError, Global};
 

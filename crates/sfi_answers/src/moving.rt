@@ -11,8 +11,8 @@ use crate::checking::refusal_answer;
 use crate::fault::{InputFault, Stop};
 use crate::verdict::{Answer, image_output};
 use sfi_check::check;
+use sfi_formats::Place;
 use sfi_places::{MoveFault, move_sandbox};
-use sfi_policy::Place;
 use std::alloc::Global;
 
 // A copy of the image's bytes with the sandbox of that number at the place.

@@ -1,7 +1,7 @@
 -- A text has a build, or a fault.
 use Rattle.std.proofs.Common.{◌≡◌, refl, ℕ, List, Result, Ok, Err, inl, inr, ◌⊎◌}
 use Rattle.sfi_image.specs.Spelling.{spelling}
-use Rattle.sfi_policy.specs.declared.place.Place.{Place}
+use Rattle.sfi_formats.specs.declared.place.Place.{Place}
 use Rattle.sfi_source.specs.Source.{Sandbox}
 use Rattle.sfi_rewrite.specs.Placement.{Placement}
 use Rattle.sfi_text.specs.SoFar.{Shared, tables}

@@ -3,7 +3,7 @@ use Rattle.sfi_link.proofs.Prelude.{◌≡◌, refl, sym, ap, subst, ℕ, zero, 
 use Rattle.sfi_link.specs.declared.bases.Bases.{Bases}
 use Rattle.std.specs.List.{AllByRecursion}
 use Rattle.std.proofs.lemmas.List.Elements.{All-from_recursion, recursion_from_All}
-use Rattle.sfi_policy.specs.declared.format.Format.{Format}
+use Rattle.sfi_formats.specs.declared.format.Format.{Format}
 use Rattle.sfi_source.specs.Source.{IsSource, IsThere, AreOf, format_of}
 use Rattle.sfi_source.specs.declared.item.Named.{Named}
 use Rattle.sfi_source.specs.declared.item.Named.TheVariants.{Gate, Code, Data, Unknown}

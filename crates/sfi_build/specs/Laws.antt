@@ -1,7 +1,7 @@
 -- What holds of every text.
 use Rattle.std.specs.Prelude.{◌⊎◌, ℕ, List}
 use Rattle.std.specs.List.{All}
-use Rattle.sfi_policy.specs.declared.place.Place.{Place}
+use Rattle.sfi_formats.specs.declared.place.Place.{Place}
 use Rattle.sfi_image.specs.Spelling.{Part}
 use Rattle.sfi_image.specs.Parts.{IsImage}
 use Rattle.sfi_link.specs.Names.{MapEntry, BeginsUnit}

@@ -1,6 +1,6 @@
 -- The tables of names for which a text asks, and the source whose first data bytes end in them.
 use Rattle.std.specs.Prelude.{◌≡◌, ◌+◌, ◌-◌, ◌++◌, ◌==◌, ◌&&◌, ℕ, List, [], ◌∷◌, Bool, length, map, slice_get, nat_lt, if◌then◌else◌, Option, None, Some, Result, Ok, Err}
-use Rattle.sfi_policy.specs.declared.place.Place.{Place}
+use Rattle.sfi_formats.specs.declared.place.Place.{Place}
 use Rattle.sfi_names.specs.Tables.{Named, Table, spelling}
 use Rattle.sfi_source.specs.Source.{Sandbox}
 use Rattle.sfi_text.specs.declared.listing.Listed.{Listed}

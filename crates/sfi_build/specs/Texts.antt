@@ -6,7 +6,7 @@ use Rattle.sfi_source.specs.Source.{Sandbox}
 use Rattle.sfi_text.specs.SoFar.{Shared}
 use Rattle.sfi_text.specs.Texts.{MeansListing, IsFault}
 use Rattle.sfi_image.specs.Spelling.{Part}
-use Rattle.sfi_policy.specs.declared.place.Place.{Place}
+use Rattle.sfi_formats.specs.declared.place.Place.{Place}
 use Rattle.sfi_image.specs.Parts.{IsImage}
 use Rattle.sfi_rules.specs.Findings.{AreImageFindings}
 use Rattle.sfi_rewrite.specs.declared.fault.RewriteFault.TheVariants as rewriter

@@ -3,7 +3,7 @@ use Rattle.std.specs.Prelude.{◌≡◌, ◌⊎◌, ◌≤◌, ℕ, false, List,
 use Rattle.sfi_names.specs.Tables.{Named}
 use Rattle.sfi_build.specs.declared.table_fault.TableFault.TheVariants.{Unknown}
 use Rattle.std.specs.Global.{Global}
-use Rattle.sfi_policy.specs.declared.place.Place.{Place}
+use Rattle.sfi_formats.specs.declared.place.Place.{Place}
 use Rattle.sfi_link.specs.declared.bases.Bases.{Bases}
 use Rattle.sfi_image.specs.Spelling.{Part}
 use Rattle.sfi_image.specs.Parts.{IsImage, IsRightLayout}

@@ -1,13 +1,13 @@
 //! The addresses for which names stand.
 ghost use Rattle.std.specs.Prelude.{◌≡◌, ◌≤◌, ℕ, List, length, slice_get, IfSome};
-ghost use Rattle.sfi_policy.specs.Limits.{sandboxes_most};
+ghost use Rattle.sfi_formats.specs.Limits.{sandboxes_most};
 ghost use Rattle.sfi_image.specs.Spelling.{IsWord};
 ghost use Rattle.sfi_link.specs.Code.{address_of};
 ghost use Rattle.sfi_link.specs.Linked.{IsLinkedImage};
 ghost use Rattle.sfi_build.specs.Tables.{address_in};
 ghost use Rattle.sfi_build.specs.private.{bases_with};
 
-use sfi_policy::{BUNDLE_SIZE, Place, place_of};
+use sfi_formats::{BUNDLE_SIZE, Place, place_of};
 use sfi_rewrite::{Placed, PlacedName};
 
 // The address of what the name names, in a sandbox that lies at this place and starts there.

@@ -14,8 +14,8 @@ ghost use Rattle.sfi_build.specs.Texts.{MeansWhole, IsTextBuild, IsTextMap, IsCl
 use crate::build_fault::BuildFault;
 use crate::inits::image_with;
 use crate::tables::inits_of;
+use sfi_formats::Place;
 use sfi_link::{NameAddress, link_at, names_of};
-use sfi_policy::Place;
 use sfi_rewrite::rewrite;
 use sfi_text::{Listing, parse_listing};
 use std::alloc::Global;

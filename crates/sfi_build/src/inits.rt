@@ -1,6 +1,6 @@
 //! An image with other first data bytes.
 ghost use Rattle.std.specs.Prelude.{◌≡◌, ◌≤◌, ℕ, List, length, IfOk};
-ghost use Rattle.sfi_policy.specs.declared.format.Format.{Format};
+ghost use Rattle.sfi_formats.specs.declared.format.Format.{Format};
 ghost use Rattle.sfi_image.specs.Spelling.{view, views};
 ghost use Rattle.sfi_build.specs.Tables.{each_with};
 ghost use Rattle.sfi_build.specs.private.{MayHave, HasInits, contents, set_init};

@@ -15,6 +15,6 @@ mod tables;
 
 pub use build_fault::BuildFault;
 pub use builder::{build, build_at, names_at};
+pub use sfi_formats::Place;
 pub use sfi_link::{NameAddress, NameKind};
-pub use sfi_policy::Place;
 pub use table_fault::TableFault;

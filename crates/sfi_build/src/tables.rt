@@ -1,7 +1,7 @@
 //! The tables of names for which a text asks.
 ghost use Rattle.std.specs.Prelude.{◌≡◌, ◌+◌, ◌++◌, ◌≤◌, ◌↔◌, ℕ, List, length, map, slice_get, Ok, Some, IsTrue, IfOk, IfErr, OnOk};
 ghost use Rattle.std.specs.List.{All};
-ghost use Rattle.sfi_policy.specs.Limits.{sandboxes_most};
+ghost use Rattle.sfi_formats.specs.Limits.{sandboxes_most};
 ghost use Rattle.sfi_source.specs.Names.{IsShortLabel};
 ghost use Rattle.sfi_source.specs.Source.{IsSandbox};
 ghost use Rattle.sfi_names.specs.Tables.{Named, IsNamed, entry, entries};
@@ -12,8 +12,8 @@ ghost use Rattle.sfi_build.specs.private.{IsEntryStop, IsTableStop, contents};
 use crate::address::address_in;
 use crate::build_fault::BuildFault;
 use crate::table_fault::TableFault;
+use sfi_formats::Place;
 use sfi_names::{Entry, Names as Table};
-use sfi_policy::Place;
 use sfi_rewrite::Placed;
 use sfi_source::{Names, SourcePart};
 use sfi_text::{Listed, Shared};

@@ -4,9 +4,9 @@ use Rattle.std.proofs.Common.{◌≤◌, inl, inr, replicate}
 use Rattle.std.proofs.lemmas.List.{length-replicate}
 use Rattle.std.proofs.lemmas.List.Elements.{All-head, All-tail}
 use Rattle.std.specs.List.{All, flat_map}
-use Rattle.sfi_policy.specs.declared.format.Format.{Format}
-use Rattle.sfi_policy.specs.declared.format.Format.TheVariants as formats
-use Rattle.sfi_policy.specs.Formats.{code_most}
+use Rattle.sfi_formats.specs.declared.format.Format.{Format}
+use Rattle.sfi_formats.specs.declared.format.Format.TheVariants as formats
+use Rattle.sfi_formats.specs.Formats.{code_most}
 use Rattle.sfi_image.specs.declared.fault.LayoutFault.TheVariants.{Short}
 use Rattle.sfi_image.specs.declared.fields.Fields.{Fields}
 use Rattle.sfi_image.specs.declared.span.Span.{Span}

@@ -4,9 +4,9 @@ use Rattle.std.proofs.Common.{◌≤◌, ◌⊎◌, ◌%◌, zero, suc, inl, app
 use Rattle.std.specs.Prelude.{is_some}
 use Rattle.std.proofs.lemmas.List.{length-take, append-nil}
 use Rattle.std.specs.List.{All, flat_map}
-use Rattle.sfi_policy.specs.declared.format.Format.{Format}
-unfoldable use Rattle.sfi_policy.specs.Formats.{magic}
-use Rattle.sfi_policy.proofs.Formats.{length_of_magic}
+use Rattle.sfi_formats.specs.declared.format.Format.{Format}
+unfoldable use Rattle.sfi_formats.specs.Formats.{magic}
+use Rattle.sfi_formats.proofs.Formats.{length_of_magic}
 use Rattle.sfi_image.specs.declared.fault.LayoutFault.{LayoutFault}
 use Rattle.sfi_image.specs.declared.fault.LayoutFault.TheVariants.{Short}
 use Rattle.sfi_image.specs.declared.fields.Fields.{Fields}

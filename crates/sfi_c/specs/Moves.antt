@@ -3,7 +3,7 @@ use Rattle.sfi_image.specs.declared.span.Span.{Span}
 use Rattle.sfi_image.specs.Spelling.{AreApart, with_guards}
 use Rattle.sfi_c.specs.declared.part.SfiPart.{SfiPart}
 use Rattle.std.specs.Prelude.{ℕ}
-use Rattle.sfi_policy.specs.declared.place.Place.{Place}
+use Rattle.sfi_formats.specs.declared.place.Place.{Place}
 use Rattle.sfi_c.specs.declared.moving.Move.{Move}
 use Rattle.sfi_c.specs.declared.moving.Move.TheVariants.{Moved, Beyond, NoImage, NoPlace}
 

@@ -3,8 +3,8 @@ use Rattle.std.specs.Prelude.{List, ◌++◌, length, map, take, drop, ◌≡◌
 use Rattle.sfi_rules.specs.declared.finding.Finding.{Finding}
 use Rattle.sfi_check.specs.declared.for_c.SfiFinding.{SfiFinding}
 use Rattle.sfi_check.specs.ForC.{finding_for_c}
-use Rattle.sfi_policy.specs.declared.format.Format.{Format}
-use Rattle.sfi_policy.specs.declared.format.Format.TheVariants.{Sfi1, Sfi2, Sfiw}
+use Rattle.sfi_formats.specs.declared.format.Format.{Format}
+use Rattle.sfi_formats.specs.declared.format.Format.TheVariants.{Sfi1, Sfi2, Sfiw}
 use Rattle.sfi_image.specs.declared.part.Gate.{Gate}
 use Rattle.sfi_image.specs.Spelling.{Part, fields_bytes, gate_bytes}
 use Rattle.sfi_image.specs.Keeping.{IsSandboxOf, IsBeyond, LiesAt, sandbox_offset}

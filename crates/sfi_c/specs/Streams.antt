@@ -2,8 +2,8 @@
 use Rattle.std.specs.Prelude.{◌==◌, ◌/◌, ◌%◌, ℕ, List, [], ◌∷◌, cond, take, Option, ◌≡◌, ◌≢◌, ◌⊎◌, ◌++◌, length}
 use Rattle.std.specs.List.{find}
 use Rattle.std.specs.Option.{option_map}
-use Rattle.sfi_policy.specs.declared.format.Format.{Format}
-use Rattle.sfi_policy.specs.declared.format.Format.TheVariants.{Sfi1, Sfi2, Sfiw}
+use Rattle.sfi_formats.specs.declared.format.Format.{Format}
+use Rattle.sfi_formats.specs.declared.format.Format.TheVariants.{Sfi1, Sfi2, Sfiw}
 use Rattle.sfi_image.specs.declared.fields.Fields.{Fields}
 use Rattle.sfi_image.specs.declared.want.Next.{Next}
 use Rattle.sfi_image.specs.declared.want.Next.TheVariants as next

@@ -8,8 +8,8 @@ ghost use Rattle.sfi_image.specs.Keeping.{IsSandboxOf};
 ghost use Rattle.sfi_c.specs.Parts.{Tells};
 
 use crate::part::SfiPart;
+use sfi_formats::GUARD;
 use sfi_image::Span;
-use sfi_policy::GUARD;
 
 /// The sandbox's code region.
 fn told_code(part: &SfiPart) -> Span

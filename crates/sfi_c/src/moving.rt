@@ -10,8 +10,8 @@ ghost use Rattle.sfi_places.specs.Moving.{moved_one, IsMoved, IsWrongPlace};
 ghost use Rattle.sfi_c.specs.Moves.{move_number, to_place};
 ghost use Rattle.sfi_c.specs.private.{move_said_of};
 
+use sfi_formats::Place;
 use sfi_places::{MoveFault, move_sandbox};
-use sfi_policy::Place;
 
 /// What is said of a sandbox that was to be moved.
 #[derive(Clone, Copy, PartialEq, Eq, Debug)]

@@ -10,7 +10,7 @@ use Rattle.sfi_image.specs.Spelling.{all_in_format, spelling}
 use Rattle.std.specs.Global.{Global}
 use Rattle.std.specs.Result.{IsErrAnd}
 use Rattle.sfi_image.specs.Parts.{AreOf}
-use Rattle.sfi_policy.specs.declared.format.Format.TheVariants.{Sfiw}
+use Rattle.sfi_formats.specs.declared.format.Format.TheVariants.{Sfiw}
 use Rattle.sfi_rules.proofs.Facts.{clean_breaks_stack_alone}
 use Rattle.sfi_check.specs.Verdict as verdict
 use Rattle.sfi_check.specs.declared.conversion.ConvertFault.TheVariants as convert

@@ -5,10 +5,10 @@ pub use Rattle.std.proofs.Math.Seq.{take-append_seam, take-append-add}
 pub use Rattle.std.proofs.lemmas.Bool.{lt-ltb, eqb-true, cases_Bool, eq-eqb}
 pub use Rattle.std.proofs.lemmas.List.{length-map, length-append, length-take, length-drop, drop-drop, append-nil, take_all, take_more, get_or-map, take-append-drop, length_push, drop-take}
 pub use Rattle.std.specs.List.{All}
-pub use Rattle.sfi_policy.specs.Formats.{code_most, has_words}
-unfoldable pub use Rattle.sfi_policy.specs.Formats.{magic}
-pub use Rattle.sfi_policy.specs.declared.format.Format.{Format}
-pub use Rattle.sfi_policy.specs.declared.format.Format.TheVariants.{Sfi1, Sfi2}
+pub use Rattle.sfi_formats.specs.Formats.{code_most, has_words}
+unfoldable pub use Rattle.sfi_formats.specs.Formats.{magic}
+pub use Rattle.sfi_formats.specs.declared.format.Format.{Format}
+pub use Rattle.sfi_formats.specs.declared.format.Format.TheVariants.{Sfi1, Sfi2}
 pub use Rattle.sfi_image.specs.Faults.{IsFault}
 pub use Rattle.sfi_image.specs.Fronts.{Front, AreBundlesWithin, IsStretchLength, Follows, want_of, IsLess, HasFaultWhateverFollows, front, IsRightFront, IsLengthOf, part_of, after_parts, after_init, after_code, after_gates}
 pub use Rattle.sfi_image.specs.Fronts.Front.{Empty, AfterMagic, AfterCount, InGates, InCode, InInit, Whole}
@@ -23,7 +23,7 @@ pub use Rattle.sfi_rules.specs.Findings.{AreBundleFindings, AreReadingFindings, 
 pub use Rattle.sfi_image.specs.declared.bundle.BundlePlace.{BundlePlace}
 pub use Rattle.sfi_rules.specs.declared.finding.Finding.{Finding}
 pub use Rattle.sfi_check.specs.Feeds.{IsFed, IsFedFinding, IsFedBy, IsHeld, owed_after, AreFindingsSoFar, IsSoFar, Tallies, IsCut, AreFindingsWithin}
-pub use Rattle.sfi_runs.specs.Safety.{AllRunSafely}
+pub use Rattle.sfi_safe_runs.specs.Safety.{AllRunSafely}
 pub use Rattle.sfi_check.specs.Verdict.{IsVerdictOn, AreHandedOver, AreCounted, HasFindings, bundle_count}
 pub use Rattle.sfi_safety.specs.Clean.{IsAccepted}
 pub use Rattle.sfi_check.specs.declared.stream_answer.StreamAnswer.{StreamAnswer}

@@ -1,6 +1,6 @@
 -- What an image is found to be piece by piece: what was found in its front, and what a feed keeps.
 use Rattle.std.specs.Prelude.{◌≡◌, ℕ, ◌+◌, ◌*◌, ◌/◌, ◌<◌, ◌≤◌, ◌==◌, List, [], ◌++◌, length, cond, slice_get, ◌⊎◌, take, Option, Some, None}
-use Rattle.sfi_policy.specs.Limits.{bundle_size}
+use Rattle.sfi_formats.specs.Limits.{bundle_size}
 use Rattle.sfi_image.specs.declared.part.Gate.{Gate}
 use Rattle.sfi_image.specs.declared.fields.Fields.{Fields}
 use Rattle.sfi_image.specs.Spelling.{Part}

@@ -5,7 +5,7 @@ use Rattle.sfi_image.specs.Spelling.{Part}
 use Rattle.sfi_image.specs.Faults.{IsFault, number_of as fault_number}
 use Rattle.sfi_rules.specs.declared.finding.Finding.{Finding}
 use Rattle.sfi_rules.specs.Rules.{number_of as rule_number}
-use Rattle.sfi_runs.specs.Safety.{AllRunSafely}
+use Rattle.sfi_safe_runs.specs.Safety.{AllRunSafely}
 use Rattle.sfi_safety.specs.Clean.{IsAccepted}
 use Rattle.sfi_check.specs.Verdict.{HasFindings, bundle_count}
 use Rattle.sfi_check.specs.declared.for_c.SfiFinding.{SfiFinding}

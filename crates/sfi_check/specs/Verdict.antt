@@ -1,6 +1,6 @@
 -- What `check` says of an image's bytes.
 use Rattle.std.specs.Prelude.{◌≡◌, ◌≢◌, ◌/◌, ℕ, List, [], length, sum_by, Result, Ok, Err, ◌⊎◌, Bool, true, slice_get, Some}
-use Rattle.sfi_policy.specs.Limits.{bundle_size}
+use Rattle.sfi_formats.specs.Limits.{bundle_size}
 use Rattle.sfi_image.specs.declared.fault.LayoutFault.{LayoutFault}
 use Rattle.sfi_image.specs.Spelling.{Part}
 use Rattle.sfi_image.specs.Parts.{IsImage}
@@ -13,7 +13,7 @@ use Rattle.sfi_image.specs.Fronts.{HasFaultWhateverFollows}
 use Rattle.sfi_check.specs.declared.stream_answer.StreamAnswer.{StreamAnswer}
 use Rattle.sfi_check.specs.declared.stream_answer.StreamAnswer.TheVariants as answers
 use Rattle.sfi_safety.specs.Clean.{IsAccepted}
-use Rattle.sfi_runs.specs.Safety.{AllRunSafely}
+use Rattle.sfi_safe_runs.specs.Safety.{AllRunSafely}
 
 -- ---- images
 

@@ -1,15 +1,15 @@
 //! An image that was accepted.
 ghost use Rattle.std.specs.Prelude.{◌≡◌, length};
-ghost use Rattle.sfi_policy.specs.declared.format.Format.{Format};
+ghost use Rattle.sfi_formats.specs.declared.format.Format.{Format};
 ghost use Rattle.sfi_image.specs.Spelling.{views};
 ghost use Rattle.sfi_image.specs.Parts.{IsRightLayout};
-ghost use Rattle.sfi_runs.specs.Safety.{AllRunSafely};
-ghost use Rattle.sfi_runs.specs.Safety.{AllCallTyped};
+ghost use Rattle.sfi_safe_runs.specs.Safety.{AllRunSafely};
+ghost use Rattle.sfi_safe_runs.specs.Safety.{AllCallTyped};
 ghost use Rattle.sfi_check.specs.Verdict.{bundle_count};
 ghost use Rattle.sfi_safety.specs.Clean.{IsClean};
 
+use sfi_formats::BUNDLE_BYTES;
 use sfi_image::{Image, SandboxPart};
-use sfi_policy::BUNDLE_BYTES;
 use std::marker::Model;
 
 /// An accepted image: its layout is right, no rule is broken in it, and so every run from every

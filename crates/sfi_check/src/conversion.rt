@@ -1,6 +1,6 @@
 //! From the first format to the second.
 ghost use Rattle.std.specs.Prelude.{◌≡◌, ℕ, List, IfOk, IfErr};
-ghost use Rattle.sfi_policy.specs.declared.format.Format.TheVariants.{Sfi2};
+ghost use Rattle.sfi_formats.specs.declared.format.Format.TheVariants.{Sfi2};
 ghost use Rattle.sfi_image.specs.declared.fault.LayoutFault.{LayoutFault};
 ghost use Rattle.sfi_image.specs.Spelling.{views};
 ghost use Rattle.sfi_image.specs.Parts.{IsRightLayout};
@@ -14,8 +14,8 @@ ghost use Rattle.sfi_check.specs.private.{ChecksStack, Converts};
 use crate::accepted::Accepted;
 use crate::refusal::Refusal;
 use crate::verdict::check;
+use sfi_formats::Format;
 use sfi_image::{SandboxPart, write_image_as};
-use sfi_policy::Format;
 use sfi_scan::{Finding, scan_part_as};
 use std::alloc::{AllocError, Global};
 use thiserror::Error;

@@ -13,8 +13,8 @@ use crate::piece::{take_piece, verdict};
 use crate::sink::Nowhere;
 use crate::stream_answer::StreamAnswer;
 use crate::tally::Tally;
+use sfi_formats::BUNDLE_BYTES;
 use sfi_image::{LayoutFault, LayoutReader, Want};
-use sfi_policy::BUNDLE_BYTES;
 use sfi_scan::{BUNDLE_BY_BUNDLE, FindingSink, Owed};
 
 /// The size of the array for the bytes that are held. At most 27 are: what comes next of an image has at

@@ -6,7 +6,7 @@
 //! every word, with x24 to x27 set and the typed registers of the format, as the stack pointer of the
 //! second, holding what their types say; whatever the other registers and the data hold, and however
 //! the turns of its neighbours and its host's replies fall between its steps: `specs/Runs.antt`
-//! of `sfi_runs` says what may happen, and `specs/Safety.antt` what is safe.
+//! of `sfi_safe_runs` says what may happen, and `specs/Safety.antt` what is safe.
 #![tactic(auto)]
 
 mod accepted;

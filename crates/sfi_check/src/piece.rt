@@ -9,8 +9,8 @@ use crate::ends::{PieceEnd, StepEnd};
 use crate::sink::scan_counted;
 use crate::stream_answer::StreamAnswer;
 use crate::tally::Tally;
+use sfi_formats::BUNDLE_BYTES;
 use sfi_image::{LayoutReader, Want};
-use sfi_policy::BUNDLE_BYTES;
 use sfi_scan::{BundlePlace, FindingSink};
 
 /// Hands these bytes to the reader.

@@ -6,7 +6,7 @@ ghost use Rattle.sfi_image.specs.Faults.{IsFault};
 ghost use Rattle.sfi_rules.specs.declared.finding.Finding.{Finding};
 ghost use Rattle.sfi_check.specs.OneVerdict.{IfLayoutFault, IfFindings};
 ghost use Rattle.sfi_check.specs.Verdict.{IsVerdictOn, AreHandedOver};
-ghost use Rattle.sfi_runs.specs.Safety.{AllRunSafely};
+ghost use Rattle.sfi_safe_runs.specs.Safety.{AllRunSafely};
 ghost use Rattle.sfi_check.specs.Verdict.{HasFindings, AnswersLayout, AnswersFindings, AnswersAccepted};
 ghost use Rattle.sfi_safety.specs.Clean.{IsAccepted};
 

@@ -16,7 +16,7 @@ use Rattle.sfi_command.specs.Command.{number_of, SpellsAddress, SpellsPlace, Spe
 use Rattle.sfi_command.specs.declared.job.JobFault.{JobFault}
 use Rattle.sfi_command.specs.declared.job.JobFault.TheVariants.{Usage, Hex, Memory}
 use Rattle.sfi_command.specs.private.{ArePlacesFault}
-use Rattle.sfi_policy.specs.declared.place.Place.{Place}
+use Rattle.sfi_formats.specs.declared.place.Place.{Place}
 
 -- a text of digits begins with no plus
 first_digit : (text : Text) → 0 < length text → AllDigits 16 text → get_or text 0 0 ≢ 43

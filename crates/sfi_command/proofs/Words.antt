@@ -27,7 +27,7 @@ use Rattle.clap.specs.declared.parser.matches.ArgMatches.TheViews.{out-ArgMatche
 use Rattle.clap.proofs.OnLiterals.{clap_on_literals}
 use Rattle.sfi_command.specs.Command.{sfi, quantum_most, rounds_most, texts_of, Names, NamesNoInput, Asks, IsBudget, IsCount, IsFaultOf, IsInputOf, IsNoInput, IsPlaceOf, number_of, sandbox_most, SpellsPlace}
 use Rattle.sfi_command.specs.private.{NamesNothing, IsFaultOfNamed, IsInputFault, IsPlaceFault, IsTextFault}
-use Rattle.sfi_policy.specs.declared.place.Place.{Place}
+use Rattle.sfi_formats.specs.declared.place.Place.{Place}
 use Rattle.sfi_command.specs.declared.job.Job.{Job}
 use Rattle.sfi_command.specs.declared.job.Job.TheVariants.{Check, Dis, Build, Map, Run, Exec, Convert, Move, Translate}
 use Rattle.sfi_command.specs.declared.job.JobFault.{JobFault}

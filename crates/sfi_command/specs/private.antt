@@ -8,7 +8,7 @@ use Rattle.sfi_command.specs.declared.job.Job.{Job}
 use Rattle.sfi_command.specs.declared.job.JobFault.{JobFault}
 use Rattle.sfi_command.specs.declared.job.JobFault.TheVariants.{Usage, Hex, Memory}
 use Rattle.sfi_command.specs.Command.{IsNoInput, IsPlaceOf, Names, NamesNoInput, count_rule, flag_rule, needed_rule, number_rule, required_rule, value_rule, SpellPlaces, SpellsPlace}
-use Rattle.sfi_policy.specs.declared.place.Place.{Place}
+use Rattle.sfi_formats.specs.declared.place.Place.{Place}
 use Rattle.clap.specs.declared.builder.action.ArgAction.TheVariants.{Append}
 use Rattle.sfi_command.specs.declared.commands.CommandRow.{CommandRow}
 use Rattle.sfi_command.specs.declared.commands.OptionRow.{OptionRow}

@@ -17,7 +17,7 @@ use crate::places::{parse_places, place_that};
 use clap::error::ErrorKind;
 use clap::{ArgMatches, Error};
 use hex::FromHexError;
-use sfi_policy::Place;
+use sfi_formats::Place;
 use std::alloc::{AllocError, Global};
 
 const RAW_REPORT: &str = "\

@@ -4,7 +4,7 @@ ghost use Rattle.std.specs.Prelude.{◌≡◌, ◌≢◌};
 ghost use Rattle.sfi_command.specs.Command.{is_raw, number_of};
 ghost use Rattle.sfi_command.specs.declared.job.JobFault.TheVariants.{Memory};
 
-use sfi_policy::Place;
+use sfi_formats::Place;
 use std::alloc::{AllocError, Global};
 use thiserror::Error;
 

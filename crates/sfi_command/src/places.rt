@@ -3,10 +3,10 @@
 ghost use Rattle.std.specs.Prelude.{◌≡◌, ℕ, IfErr, IfOk, IfSome, map};
 ghost use Rattle.sfi_command.specs.Command.{SpellsAddress, SpellsPlace, SpellPlaces};
 ghost use Rattle.sfi_command.specs.private.{ArePlacesFault, IsTextFault};
-ghost use Rattle.sfi_policy.specs.declared.place.Place.{Place};
+ghost use Rattle.sfi_formats.specs.declared.place.Place.{Place};
 
 use crate::job::{JobFault, usage_fault};
-use sfi_policy::Place;
+use sfi_formats::Place;
 use std::alloc::Global;
 
 // The most digits of an address.

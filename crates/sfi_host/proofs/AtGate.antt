@@ -3,7 +3,7 @@ use Rattle.std.specs.Prelude.{IfSome}
 use Rattle.std.proofs.lemmas.List.Elements.{All-contains}
 use Rattle.sfi_host.proofs.Prelude.{◌≡◌, ℕ, zero, suc, ◌<◌, ◌≤◌, ◌==◌, length, Bool, true, false, cond, List, [], ◌∷◌, Option, Some, None, refl, sym, ap, ◌∙◌, subst, arith, eqb-true, eqb-false, Contains, Bytes, State, Stepped, Stands, Ecall, Slot, Bounds, Seat, Sandboxes, slot_of, slots_of, state_in, IsSafeSeat, IsSafeWorld, Ready, Call, service_at, gate_at, state_of, slice_get, slice_get_within, same_Some, Sandbox, seat_of, request_by}
 use Rattle.rv_step.specs.declared.outcome.Outcome.TheVariants.{Call as Calls}
-use Rattle.sfi_policy.specs.Limits.{gates_most, service_most}
+use Rattle.sfi_formats.specs.Limits.{gates_most, service_most}
 use Rattle.sfi_image.specs.declared.part.Gate.{Gate}
 use Rattle.sfi_host.specs.declared.guest.Request.{Request}
 use Rattle.sfi_host.specs.Worlds.{IsAtGate}

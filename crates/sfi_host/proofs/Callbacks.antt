@@ -2,8 +2,8 @@
 use Rattle.sfi_host.proofs.Prelude.{◌≡◌, ◌≢◌, ◌↔◌, ◌⊎◌, ◌%◌, ℕ, Bool, true, false, is_some, List, Option, None, Some, IsSome, IsTrue, OnTrue, slice_get, refl, sym, ap, ◌∙◌, subst, ⊎_elim, cases_eq, same_Some, Bytes, Hart, Holds, InCode, InGuard, IsChange, KeepsBytes, Part, Bounds, bounds_of, Slot, Seat, Sandboxes, slot_of, slots_of, state_in, IsSafeSeat, IsSafeWorld, LiesOutside, StaysOutsideData, Sandbox, seat_of, world_of}
 use Rattle.sfi_host.specs.Changing.{called_back_hart, MayCallBackAt, PutBackIsChange, with_callback, with_callback_of, IsEntryHart, MaySetAt, with_hart}
 use Rattle.sfi_host.specs.Waiting.{IsAtCall}
-use Rattle.sfi_policy.specs.Formats.{unit}
-use Rattle.sfi_runs.proofs.Entries.{even_unit}
+use Rattle.sfi_formats.specs.Formats.{unit}
+use Rattle.sfi_safe_runs.proofs.Entries.{even_unit}
 use Rattle.sfi_host.proofs.Entries.{pc_kept}
 use Rattle.sfi_host.proofs.Worlds.{map_get}
 use Rattle.sfi_host.proofs.SafeSeats as keep

@@ -1,8 +1,8 @@
 -- A sandbox that is entered again.
 use Rattle.sfi_host.proofs.Prelude.{◌≡◌, ◌≢◌, ◌⊎◌, inl, inr, ⊎_elim, ◌↔◌, IsTrue, ℕ, suc, ◌+◌, ◌%◌, ◌^◌, ◌<◌, ◌≤◌, ◌==◌, Bool, true, false, List, [], ◌∷◌, ◌++◌, map, length, take, get_or, Some, None, set, slice_get, refl, sym, ap, ◌∙◌, subst, arith, get_or-set_other, same_Some, slice_index, slice_set, cond, empty, get-empty, map-set, take_more, length-take-le, Bytes, IsMemory, Hart, IsHart, with_register, IsRightLayout, Holds, AreApart, with_guards, Part, HasCode, IsEntry, AllRunSafely, AllCallTyped, Program, Sandbox, MayEnter, MayEnterAt, fresh_hart, with_registers, exit_gate, entered_hart, entered_seat, with_entry_of, with_entry, IsAtEntry, IsEnterable, first_seat, with_parts, AreEntered, HaveFirstData, seat_of, seats_of, world_of, Bounds, Slot, bounds_of, Seat, Sandboxes, slot_of, slots_of, state_in, IsSafeSeat, AreProgramsOf}
 use Rattle.std.specs.Ordering.{nat_cmp}
-use Rattle.sfi_policy.specs.Formats.{unit}
-use Rattle.sfi_runs.specs.Runs.{IsUnitStart}
+use Rattle.sfi_formats.specs.Formats.{unit}
+use Rattle.sfi_safe_runs.specs.Runs.{IsUnitStart}
 use Rattle.sfi_host.proofs.Asked.{seat_at, slot_is, no_slot}
 use Rattle.sfi_host.proofs.Decoding.{first_decoded}
 use Rattle.sfi_host.proofs.Entered.{lie_apart}

@@ -3,7 +3,7 @@ use Rattle.sfi_host.proofs.Prelude.{◌≡◌, ◌≢◌, ◌⊎◌, inl, inr, I
 use Rattle.sfi_host.specs.Moves.{StepsAlone, Move, after_move, IsTurnsShare, AreShares, all_of, given_in, ComeTo, HaveRun, JoinedMoves, JointMoves}
 use Rattle.sfi_host.specs.Worlds.{IsOwnStep}
 use Rattle.std.proofs.lemmas.List.Elements.{All-cons, All-nil}
-use Rattle.sfi_runs.specs.Runs.{after_step as step_to, after_turn as goes_to}
+use Rattle.sfi_safe_runs.specs.Runs.{after_step as step_to, after_turn as goes_to}
 use Rattle.sfi_host.specs.declared.turn.Turn.{Turn as PlanTurn}
 use Rattle.rv_step.specs.declared.outcome.Outcome.TheVariants as outcome
 use Rattle.sfi_host.proofs.Continuing.{way_goes}

@@ -2,7 +2,7 @@
 use Rattle.sfi_host.proofs.Prelude.{◌≡◌, inl, inr, ℕ, ◌+◌, ◌<◌, List, [], ◌∷◌, length, Option, Some, None, slice_get, sym, ap, ◌∙◌, subst, ◌≢◌, ◌==◌, cond, true, false, ◌++◌, set, refl, Bytes, byte_at, State, Part, Holds, InGuards, InCode, InData, InGuard, IsGate, HasCode, Steps, Replies, Changes, KeepsBytes, IsTurn, IsRun, IsSafeState, IsSafeTurn, IsSafeRun, Bounds, bounds_of, Slot, eqb-true, eqb-false, same_Some, after_turns, Status, Ready, Reply, Machine, Seat, Sandboxes, slot_of, slots_of, state_in, IsSafeWorld, StaysSafe}
 use Rattle.sfi_host.specs.Moves.{StepsAlone, Move, after_move, AreMoves, own_turn, own_turns, turns_to, IsRunBetween, AreRuns, AreSafeRuns}
 use Rattle.sfi_image.specs.declared.part.Gate.{Gate}
-use Rattle.sfi_runs.specs.Runs.{Turn, after_turn}
+use Rattle.sfi_safe_runs.specs.Runs.{Turn, after_turn}
 use Rattle.sfi_host.proofs.SafeSeats as keep
 use Rattle.sfi_host.proofs.Neighbours.{get_set_same, get_set_other, other_same, slots_are, world_safe, neighbours_are}
 use Rattle.sfi_host.proofs.SameWorld.{outside_more, same_bounds}

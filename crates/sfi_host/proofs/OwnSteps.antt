@@ -4,9 +4,9 @@ use Rattle.rv_step.specs.Step.{Accesses}
 use Rattle.rv_step.specs.Laws.{AgreeHere, IsSameStep}
 use Rattle.rv_step.specs.declared.outcome.Outcome.TheVariants.{Next, Trap, Call}
 use Rattle.sfi_host.specs.Worlds.{own_step, stepped_seat, IsOwnStep}
-use Rattle.sfi_runs.specs.Runs.{after_step}
+use Rattle.sfi_safe_runs.specs.Runs.{after_step}
 use Rattle.rv_step.proofs.Facts.{agreeing_stands_too, agreeing_steps_are_same, other_bytes_stay, stopped_stays, step_keeps_state, no_byte_goes, calls_are_ecalls}
-use Rattle.sfi_runs.proofs.Facts.{safe_turns, goes_on_safely}
+use Rattle.sfi_safe_runs.proofs.Facts.{safe_turns, goes_on_safely}
 use Rattle.sfi_host.proofs.SafeSeats as keep
 use Rattle.sfi_host.proofs.Stops.{trap_itself}
 use Rattle.sfi_host.proofs.RegionBytes.{get_kept, same_bytes, is_in-true, is_in-Holds}

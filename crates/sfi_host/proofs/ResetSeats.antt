@@ -1,8 +1,8 @@
 -- A sandbox that is taken back to its first state.
 use Rattle.sfi_host.proofs.Prelude.{◌≡◌, ◌↔◌, ℕ, ◌+◌, ◌%◌, ◌≤◌, List, length, Some, None, IsSome, is_some, IsTrue, false, true, set, slice_get, refl, sym, ap, ◌∙◌, subst, map-set, same_Some, Bytes, IsMemory, IsHart, Holds, AreApart, with_guards, Part, HasCode, IsEntry, Program, Sandbox, IsAtEntry, IsEnterable, seat_of, seats_of, world_of, Bounds, bounds_of, Slot, Seat, Sandboxes, slot_of, slots_of, state_in, IsSafeSeat, StaysOutside, bytes_in, bytes_outside, IsWhole}
-use Rattle.sfi_policy.specs.Formats.{unit}
-use Rattle.sfi_runs.specs.Runs.{IsUnitStart}
-use Rattle.sfi_runs.proofs.Entries.{even_unit}
+use Rattle.sfi_formats.specs.Formats.{unit}
+use Rattle.sfi_safe_runs.specs.Runs.{IsUnitStart}
+use Rattle.sfi_safe_runs.proofs.Entries.{even_unit}
 use Rattle.sfi_host.specs.Loading.{reset_seat, with_first_bytes, with_reset_of, with_reset}
 use Rattle.sfi_host.proofs.Asked.{seat_at, slot_is, no_slot}
 use Rattle.sfi_host.proofs.Changing.{IsKept, AfterTurn, turn_taken}

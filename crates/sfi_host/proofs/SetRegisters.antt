@@ -1,10 +1,10 @@
 -- Registers that are set from outside.
 use Rattle.sfi_host.proofs.Prelude.{◌≡◌, ◌↔◌, ◌%◌, ◌==◌, ◌||◌, ℕ, Bool, true, false, List, Some, None, IsTrue, set, slice_get, refl, sym, ap, ◌∙◌, subst, map-set, same_Some, eqb-true, Hart, IsHart, AreApart, with_guards, Part, HasCode, IsEntry, Program, Sandbox, IsAtEntry, IsEnterable, seat_of, seats_of, world_of, Bounds, Slot, bounds_of, Seat, Sandboxes, slot_of, slots_of, state_in, IsSafeSeat, Bytes}
 use Rattle.rv_step.specs.State.{register}
-use Rattle.sfi_policy.specs.Formats.{unit}
-use Rattle.sfi_runs.specs.Runs.{AreWordsTyped, IsNear}
-use Rattle.sfi_policy.specs.Limits.{slack}
-use Rattle.sfi_runs.proofs.Entries.{even_unit}
+use Rattle.sfi_formats.specs.Formats.{unit}
+use Rattle.sfi_safe_runs.specs.Runs.{AreWordsTyped, IsNear}
+use Rattle.sfi_formats.specs.Limits.{slack}
+use Rattle.sfi_safe_runs.proofs.Entries.{even_unit}
 use Rattle.sfi_host.proofs.Entries.{pc_kept}
 use Rattle.sfi_host.specs.Changing.{hart_of, IsEntryHart, HoldsTypedWords, MaySetAt, set_seat, with_hart_of, with_hart}
 use Rattle.sfi_host.proofs.Asked.{seat_at, slot_is, no_slot}

@@ -1,12 +1,12 @@
 -- A world at its start is safe.
 use Rattle.sfi_host.proofs.Prelude.{◌≡◌, ◌≢◌, Bool, true, false, cond, ℕ, zero, suc, ◌+◌, ◌-◌, ◌%◌, ◌^◌, ◌<◌, ◌≤◌, List, [], ◌∷◌, length, Some, is_some, slice_get, refl, sym, ap, ◌∙◌, subst, arith, get_or_from_slice_get, slice_get_within, slice_index, replicate, map, None, Bytes, IsMemory, byte_at, Hart, IsHart, with_register, Part, Span, code_region, IsRightPart, IsRightLayout, InGuard, RunsSafely, AllRunSafely, CallsTyped, AllCallTyped, IsEnterable, AreEnterable, Bounds, bounds_of, fresh_hart, first_hart, first_seat, with_parts, AreEntered, HaveFirstData, Seat, IsSafeSeat, LiesOutside, IsSafeWorld}
 use Rattle.rv_step.proofs.Harts.{register_is}
-use Rattle.sfi_policy.specs.Formats.{unit, has_words}
+use Rattle.sfi_formats.specs.Formats.{unit, has_words}
 use Rattle.sfi_image.specs.Parts.{IsBundleStart}
 use Rattle.sfi_image.specs.Spelling.{data_region}
-use Rattle.sfi_runs.specs.Runs.{IsUnitStart, HasReserved, IsTyped}
-use Rattle.sfi_runs.proofs.Entries.{zero_words, some_unit, typed_when}
-use Rattle.sfi_runs.proofs.Formats.{words, of_bundle}
+use Rattle.sfi_safe_runs.specs.Runs.{IsUnitStart, HasReserved, IsTyped}
+use Rattle.sfi_safe_runs.proofs.Entries.{zero_words, some_unit, typed_when}
+use Rattle.sfi_safe_runs.proofs.Formats.{words, of_bundle}
 use Rattle.sfi_host.specs.Loading.{with_typed}
 use Rattle.sfi_image.proofs.Facts.{code_ends}
 use Rattle.sfi_host.proofs.SafeSeats.{ready_safe}

@@ -4,7 +4,7 @@ use Rattle.std.specs.FinMap.{retain_keys}
 use Rattle.std.specs.List.{remove}
 use Rattle.rv_mem.specs.Bytes.{Bytes}
 use Rattle.sfi_image.specs.Spelling.{Part, Holds, with_guards}
-use Rattle.sfi_runs.specs.Runs.{IsChange}
+use Rattle.sfi_safe_runs.specs.Runs.{IsChange}
 use Rattle.sfi_host.specs.Loading.{first_seat, with_parts}
 use Rattle.sfi_host.specs.Slots.{Bounds, bounds_of, is_own}
 use Rattle.sfi_host.specs.Worlds.{Seat, Sandboxes, slots_of, state_in}

@@ -4,13 +4,13 @@ use Rattle.std.specs.Prelude.{◌≡◌, ◌≢◌, ℕ, List, length, Option, S
 use Rattle.std.specs.List.{range_with_len}
 use Rattle.rv_mem.specs.Bytes.{bytes_at, with_bytes, Bytes}
 use Rattle.sfi_image.specs.Spelling.{Part, Holds}
-use Rattle.sfi_runs.specs.Runs.{IsChange}
+use Rattle.sfi_safe_runs.specs.Runs.{IsChange}
 use Rattle.sfi_host.specs.Slots.{bytes_in, Slot, bounds_of, Bounds}
 use Rattle.sfi_host.specs.Worlds.{Seat, Sandboxes, slots_of, state_in, IsSafeWorld, StaysOutsideData}
 use Rattle.sfi_host.specs.declared.status.Status.TheVariants.{Stopped, Ready}
 use Rattle.rv_step.specs.State.{Hart, register, with_register}
-use Rattle.sfi_policy.specs.Formats.{unit, has_stack, has_words, code_base_register, code_mask_register, data_base_register, data_mask_register, stack_pointer, code_register, offset_register, return_register}
-use Rattle.sfi_policy.specs.Limits.{slack, word_size}
+use Rattle.sfi_formats.specs.Formats.{unit, has_stack, has_words, code_base_register, code_mask_register, data_base_register, data_mask_register, stack_pointer, code_register, offset_register, return_register}
+use Rattle.sfi_formats.specs.Limits.{slack, word_size}
 use Rattle.sfi_image.specs.declared.span.Span.{Span}
 use Rattle.sfi_host.specs.Loading.{with_registers, exit_gate}
 use Rattle.sfi_host.specs.Hosts.{a0_register}

@@ -5,7 +5,7 @@ use Rattle.rv_mem.specs.Bytes.{Bytes}
 use Rattle.rv_step.specs.State.{State, IsState}
 use Rattle.rv_step.specs.Step.{Stands}
 use Rattle.sfi_image.specs.Spelling.{Part}
-use Rattle.sfi_runs.specs.Runs.{IsTyped, IsReply, IsChange}
+use Rattle.sfi_safe_runs.specs.Runs.{IsTyped, IsReply, IsChange}
 use Rattle.sfi_host.specs.declared.status.Status.TheVariants.{Ready}
 use Rattle.sfi_host.specs.Hosts.{Reply}
 use Rattle.sfi_host.specs.Slots.{bounds_of}

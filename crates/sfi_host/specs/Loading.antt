@@ -2,15 +2,15 @@
 use Rattle.std.specs.Prelude.{◌≡◌, ◌≢◌, ℕ, ◌+◌, ◌-◌, ◌%◌, ◌==◌, List, [], ◌∷◌, cond, replicate, Option, Some, None, slice_get, slice_set, ◌<◌, ◌++◌, length, slice_index, map}
 use Rattle.rv_mem.specs.Bytes.{Bytes, byte_at, added, with_bytes}
 use Rattle.rv_step.specs.State.{Hart, with_register}
-use Rattle.sfi_policy.specs.Limits.{first_frame}
-use Rattle.sfi_policy.specs.Formats.{unit, has_words, code_base_register, code_mask_register, data_base_register, data_mask_register, stack_pointer, code_register, return_register}
-use Rattle.sfi_policy.specs.declared.format.Format.{Format}
+use Rattle.sfi_formats.specs.Limits.{first_frame}
+use Rattle.sfi_formats.specs.Formats.{unit, has_words, code_base_register, code_mask_register, data_base_register, data_mask_register, stack_pointer, code_register, return_register}
+use Rattle.sfi_formats.specs.declared.format.Format.{Format}
 use Rattle.sfi_image.specs.declared.part.Gate.{Gate}
 use Rattle.sfi_image.specs.declared.span.Span.{Span}
 use Rattle.sfi_image.specs.Parts.{IsRightPart, IsRightLayout, reserved_for}
 use Rattle.sfi_image.specs.Spelling.{Holds, code_region, data_region, Part}
-use Rattle.sfi_runs.specs.Runs.{HasCode, IsEntry}
-use Rattle.sfi_runs.specs.Safety.{RunsSafely, CallsTyped}
+use Rattle.sfi_safe_runs.specs.Runs.{HasCode, IsEntry}
+use Rattle.sfi_safe_runs.specs.Safety.{RunsSafely, CallsTyped}
 use Rattle.sfi_host.specs.declared.status.Status.{Status}
 use Rattle.sfi_host.specs.declared.status.Status.TheVariants.{Ready}
 use Rattle.sfi_host.specs.Hosts.{a0_register}

@@ -1,7 +1,7 @@
 -- An image that was decoded once, for many worlds.
 use Rattle.std.specs.Prelude.{◌≡◌, ℕ, List, map, Some, slice_get}
 use Rattle.std.specs.Arc.{arc_value, arc_slice_items}
-use Rattle.sfi_policy.specs.declared.format.Format.{Format}
+use Rattle.sfi_formats.specs.declared.format.Format.{Format}
 use Rattle.sfi_image.specs.Spelling.{Part}
 use Rattle.sfi_safety.specs.Clean.{MayRun}
 use Rattle.sfi_host.specs.declared.modules.ModulePart.{ModulePart}

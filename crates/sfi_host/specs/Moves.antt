@@ -5,8 +5,8 @@ use Rattle.rv_mem.specs.Bytes.{Bytes}
 use Rattle.rv_step.specs.State.{State}
 use Rattle.rv_step.specs.Step.{Stepped}
 use Rattle.sfi_image.specs.Spelling.{Part}
-use Rattle.sfi_runs.specs.Runs.{HasCode, Turn, Steps, Replies, Changes, KeepsBytes, IsRun}
-use Rattle.sfi_runs.specs.Safety.{IsSafeRun, after_turns}
+use Rattle.sfi_safe_runs.specs.Runs.{HasCode, Turn, Steps, Replies, Changes, KeepsBytes, IsRun}
+use Rattle.sfi_safe_runs.specs.Safety.{IsSafeRun, after_turns}
 use Rattle.sfi_host.specs.declared.status.Status.{Status}
 use Rattle.sfi_host.specs.declared.status.Status.TheVariants.{Ready, Exited, Trapped, Stopped}
 use Rattle.sfi_host.specs.declared.turn.RunAnswer.{RunAnswer}

@@ -1,7 +1,7 @@
 -- Turns that end at a call or at an address, and sandboxes that wait for a reply.
 use Rattle.std.specs.Prelude.{◌≡◌, ◌<◌, ◌≤◌, ℕ, Bool, false, List, Option, Some, None, slice_get, true, [], ◌∷◌, slice_set, ◌≢◌, ◌+◌}
 use Rattle.rv_step.specs.declared.outcome.Outcome.TheVariants.{Call as Calls}
-use Rattle.sfi_policy.specs.Limits.{gates_most, service_most}
+use Rattle.sfi_formats.specs.Limits.{gates_most, service_most}
 use Rattle.sfi_image.specs.declared.part.Gate.{Gate}
 use Rattle.sfi_host.specs.declared.guest.Request.{Request}
 use Rattle.sfi_host.specs.declared.status.Status.TheVariants.{Ready, Stopped}

@@ -10,7 +10,7 @@ use crate::region::Region;
 use crate::sandbox::{Sandbox, fresh_cpu};
 use crate::status::Status;
 use rv_mem::Memory;
-use sfi_policy::Format;
+use sfi_formats::Format;
 use std::alloc::{AllocError, Global};
 use std::sync::ArcSlice;
 

@@ -2,7 +2,7 @@
 ghost use Rattle.std.specs.Prelude.{◌≡◌, ◌+◌, ◌^◌, ◌<◌, ◌≤◌, ◌↔◌, ℕ, IsTrue, Some, slice_get};
 ghost use Rattle.std.specs.Bool.{OnTrue, OnFalse};
 ghost use Rattle.rv_mem.specs.Bytes.{Bytes};
-ghost use Rattle.sfi_policy.specs.declared.format.Format.{Format};
+ghost use Rattle.sfi_formats.specs.declared.format.Format.{Format};
 ghost use Rattle.sfi_image.specs.Parts.{IsRightPart, IsRightLayout};
 ghost use Rattle.sfi_image.specs.Spelling.{Holds, code_region};
 ghost use Rattle.sfi_image.specs.Spelling.{Part};
@@ -14,8 +14,8 @@ ghost use Rattle.sfi_host.specs.Worlds.{IsSafeWorld};
 
 use crate::modules::ModulePart;
 use crate::sandbox::Sandbox;
+use sfi_formats::Format;
 use sfi_image::{Span, with_guards};
-use sfi_policy::Format;
 
 // Whether an address lies in both spans.
 fn meet(one: Span, other: Span) -> bool

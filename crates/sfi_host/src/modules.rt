@@ -1,7 +1,7 @@
 //! An accepted image that was decoded once, for many worlds.
 ghost use Rattle.std.specs.Prelude.{◌≡◌, ◌↔◌, map, length, IfOk, IsTrue, OnOk};
 ghost use Rattle.std.specs.FinMap.{empty};
-ghost use Rattle.sfi_policy.specs.declared.format.Format.{Format};
+ghost use Rattle.sfi_formats.specs.declared.format.Format.{Format};
 ghost use Rattle.sfi_image.specs.Parts.{IsRightPart, IsRightLayout};
 ghost use Rattle.rv_mem.specs.Bytes.{Bytes};
 ghost use Rattle.sfi_image.specs.Spelling.{view, views};
@@ -21,8 +21,8 @@ use crate::sandbox::Sandbox;
 use crate::world::World;
 use rv_mem::Memory;
 use sfi_check::Accepted;
+use sfi_formats::Format;
 use sfi_image::{Gate, SandboxPart};
-use sfi_policy::Format;
 use std::alloc::{AllocError, Global};
 use std::marker::Model;
 use std::sync::{Arc, ArcSlice};

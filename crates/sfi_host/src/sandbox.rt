@@ -1,7 +1,7 @@
 //! A sandbox of a world, and how it is entered.
 ghost use Rattle.std.specs.Prelude.{◌≡◌, ◌%◌, ◌+◌, ◌<◌, ◌≤◌, ◌^◌, ◌↔◌, IsTrue};
 ghost use Rattle.rv_step.specs.State.{IsHart, with_register};
-ghost use Rattle.sfi_policy.specs.Formats.{return_register};
+ghost use Rattle.sfi_formats.specs.Formats.{return_register};
 ghost use Rattle.sfi_host.specs.Hosts.{a0_register};
 ghost use Rattle.sfi_host.specs.Loading.{MayEnter, fresh_hart, typed_for, with_registers, exit_gate, entered_seat};
 ghost use Rattle.sfi_host.specs.Slots.{span_of};
@@ -13,11 +13,11 @@ use crate::services::EXIT;
 use crate::status::Status;
 use rv_step::Cpu;
 use rv_word::Reg;
-use sfi_image::Gate;
-use sfi_policy::{
+use sfi_formats::{
     CODE_BASE_REGISTER, CODE_MASK_REGISTER, CODE_REGISTER, DATA_BASE_REGISTER, DATA_MASK_REGISTER,
     FIRST_FRAME, Format, STACK_POINTER,
 };
+use sfi_image::Gate;
 use std::sync::ArcSlice;
 
 /// Where a sandbox lies, what it begins with, its pc and registers, what it may still do, and how many

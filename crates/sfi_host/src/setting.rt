@@ -1,8 +1,8 @@
 //! Registers that are set from outside.
 ghost use Rattle.std.specs.Prelude.{◌≡◌, ◌≢◌, ◌%◌, ◌+◌, ◌<◌, ◌≤◌, ◌^◌, ◌↔◌, IfSome, IsTrue, None, true};
 ghost use Rattle.rv_step.specs.State.{IsHart, register};
-ghost use Rattle.sfi_policy.specs.Formats.{has_stack, has_words};
-ghost use Rattle.sfi_policy.specs.Formats.{stack_pointer};
+ghost use Rattle.sfi_formats.specs.Formats.{has_stack, has_words};
+ghost use Rattle.sfi_formats.specs.Formats.{stack_pointer};
 ghost use Rattle.sfi_image.specs.Spelling.{Holds};
 ghost use Rattle.sfi_host.specs.Changing.{called_back_hart};
 ghost use Rattle.sfi_host.specs.Loading.{with_registers};
@@ -15,7 +15,7 @@ use crate::sandbox::Sandbox;
 use crate::status::Status;
 use rv_step::Cpu;
 use rv_word::Reg;
-use sfi_policy::{
+use sfi_formats::{
     CODE_BASE_REGISTER, CODE_MASK_REGISTER, CODE_REGISTER, DATA_BASE_REGISTER, DATA_MASK_REGISTER,
     OFFSET_REGISTER, SLACK, STACK_POINTER,
 };

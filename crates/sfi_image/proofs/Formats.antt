@@ -1,7 +1,7 @@
 -- What holds of each format, and of parts of one.
 use Rattle.sfi_image.proofs.Prelude.{◌≡◌, ℕ, ◌+◌, ◌≤◌, List, [], ◌∷◌, ◌++◌, length, get_or, take, refl, ap, arith, length-append, Format, Sfi1, Sfi2, Sfiw, magic, code_most, Part, view, views, format_of, AreOf, All-map}
 use Rattle.sfi_image.specs.declared.part.SandboxPart.{SandboxPart}
-use Rattle.sfi_policy.proofs.Formats.{length_of_magic}
+use Rattle.sfi_formats.proofs.Formats.{length_of_magic}
 
 -- no code region is larger than this
 pub code_at_most : (f : Format) → code_most f ≤ 1048576

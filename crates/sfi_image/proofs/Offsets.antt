@@ -5,8 +5,8 @@ use Rattle.std.specs.List.{flat_map}
 use Rattle.std.proofs.lemmas.Grind.{flat_map-append}
 use Rattle.std.proofs.lemmas.List.{length-append}
 use Rattle.std.proofs.lemmas.Option.{get_or_from_slice_get, slice_get_within}
-unfoldable use Rattle.sfi_policy.specs.Formats.{magic}
-use Rattle.sfi_policy.specs.declared.format.Format.{Format}
+unfoldable use Rattle.sfi_formats.specs.Formats.{magic}
+use Rattle.sfi_formats.specs.declared.format.Format.{Format}
 use Rattle.sfi_image.specs.declared.part.Gate.{Gate}
 use Rattle.sfi_image.specs.Spelling.{Part, fields_of, format_of}
 unfoldable use Rattle.sfi_image.specs.Spelling.{number, fields, gate, part, spelling}

@@ -4,7 +4,7 @@ use Rattle.sfi_image.specs.declared.fault.ImageFault.{ImageFault}
 use Rattle.sfi_image.specs.private.{Reads}
 use Rattle.sfi_image.specs.declared.fault.LayoutFault.TheVariants.{Gates}
 use Rattle.sfi_image.specs.declared.fault.ImageFault.TheVariants as errors
-use Rattle.sfi_policy.proofs.Formats.{length_of_magic}
+use Rattle.sfi_formats.proofs.Formats.{length_of_magic}
 use Rattle.sfi_image.proofs.Formats.{one_magic, length-magic, take-magic}
 use Rattle.sfi_image.proofs.GateLists.{front_gates}
 use Rattle.sfi_image.proofs.SpanLists.{front_apart}

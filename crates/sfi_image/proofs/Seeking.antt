@@ -6,7 +6,7 @@ use Rattle.std.proofs.Math.Seq.{take-append_seam}
 use Rattle.std.proofs.lemmas.Grind.{flat_map-append}
 use Rattle.std.proofs.lemmas.List.{length-append, length_push, take-append-le}
 use Rattle.std.proofs.lemmas.Option.{slice_get_within}
-use Rattle.sfi_policy.specs.declared.format.Format.{Format}
+use Rattle.sfi_formats.specs.declared.format.Format.{Format}
 use Rattle.sfi_image.specs.declared.cursor.ImageCursor.{ImageCursor}
 use Rattle.sfi_image.specs.declared.cursor.PartView.{PartView}
 use Rattle.sfi_image.specs.Spelling.{Part}

@@ -1,9 +1,9 @@
 -- The front of an image: as much of it as has been read, from its first byte on.
 use Rattle.std.specs.Prelude.{◌≡◌, ℕ, ◌+◌, ◌-◌, ◌*◌, ◌%◌, ◌<◌, ◌≤◌, ◌⊎◌, ◌==◌, true, false, List, [], ◌∷◌, ◌++◌, length, cond, None}
 use Rattle.std.specs.List.{All, flat_map}
-use Rattle.sfi_policy.specs.Limits.{bundle_size, sandboxes_most}
-use Rattle.sfi_policy.specs.declared.format.Format.{Format}
-use Rattle.sfi_policy.specs.Formats.{magic}
+use Rattle.sfi_formats.specs.Limits.{bundle_size, sandboxes_most}
+use Rattle.sfi_formats.specs.declared.format.Format.{Format}
+use Rattle.sfi_formats.specs.Formats.{magic}
 use Rattle.sfi_image.specs.declared.part.Gate.{Gate}
 use Rattle.sfi_image.specs.declared.fields.Fields.{Fields}
 use Rattle.sfi_image.specs.declared.fault.LayoutFault.{LayoutFault}

@@ -1,9 +1,9 @@
 -- What a reader keeps of an image: the reader of its layout, a cursor, and a sandbox by its number.
 use Rattle.std.specs.Prelude.{◌≡◌, ℕ, ◌+◌, ◌-◌, ◌*◌, ◌%◌, ◌≤◌, ◌==◌, ◌||◌, Bool, false, List, [], ◌∷◌, ◌++◌, length, map, drop, Some, slice_get, take}
-use Rattle.sfi_policy.specs.Limits.{bundle_size, data_most, gates_most, sandboxes_most}
-use Rattle.sfi_policy.specs.declared.format.Format.{Format}
-use Rattle.sfi_policy.specs.declared.format.Format.TheVariants.{Sfi2}
-use Rattle.sfi_policy.specs.Formats.{code_most}
+use Rattle.sfi_formats.specs.Limits.{bundle_size, data_most, gates_most, sandboxes_most}
+use Rattle.sfi_formats.specs.declared.format.Format.{Format}
+use Rattle.sfi_formats.specs.declared.format.Format.TheVariants.{Sfi2}
+use Rattle.sfi_formats.specs.Formats.{code_most}
 use Rattle.sfi_image.specs.declared.part.Gate.{Gate}
 use Rattle.sfi_image.specs.declared.fields.Fields.{Fields}
 pub use Rattle.sfi_image.specs.declared.layout_reader.LayoutReader.{LayoutReader}

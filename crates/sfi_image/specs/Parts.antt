@@ -1,9 +1,9 @@
 -- Right sandboxes: regions, reserved registers, gates, and the tests in their order; and images of
 -- them.
 use Rattle.std.specs.Prelude.{◌≡◌, ℕ, ◌+◌, ◌*◌, ◌%◌, ◌^◌, ◌≤◌, ◌-◌, ◌<◌, ◌==◌, ◌||◌, Bool, false, List, [], ◌∷◌, ◌⊎◌, ◌++◌, Option, Some, None, length}
-use Rattle.sfi_policy.specs.Limits.{bundle_size, guard, region_least, data_most, service_most, gates_most, sandboxes_most}
-use Rattle.sfi_policy.specs.declared.format.Format.{Format}
-use Rattle.sfi_policy.specs.Formats.{code_most, unit}
+use Rattle.sfi_formats.specs.Limits.{bundle_size, guard, region_least, data_most, service_most, gates_most, sandboxes_most}
+use Rattle.sfi_formats.specs.declared.format.Format.{Format}
+use Rattle.sfi_formats.specs.Formats.{code_most, unit}
 use Rattle.sfi_image.specs.declared.span.Span.{Span}
 use Rattle.sfi_image.specs.Spelling.{Holds, code_region, data_region, AreApart, code_span, spans_of, spans, Part, format_of, IsWord, spelling}
 use Rattle.sfi_image.specs.declared.reserved.Reserved.{Reserved}

@@ -3,13 +3,13 @@
 use Rattle.std.specs.Prelude.{ℕ, ◌^◌, ◌<◌, List, [], ◌∷◌, ◌++◌, length, map, ◌+◌, ◌-◌, ◌≤◌, ◌⊎◌}
 use Rattle.std.specs.List.{All, flat_map}
 use Rattle.std.specs.Int.{w32, to_le_bytes}
-use Rattle.sfi_policy.specs.declared.format.Format.{Format}
-use Rattle.sfi_policy.specs.declared.format.Format.TheVariants.{Sfi1}
-use Rattle.sfi_policy.specs.Formats.{magic}
+use Rattle.sfi_formats.specs.declared.format.Format.{Format}
+use Rattle.sfi_formats.specs.declared.format.Format.TheVariants.{Sfi1}
+use Rattle.sfi_formats.specs.Formats.{magic}
 use Rattle.sfi_image.specs.declared.part.Gate.{Gate}
 use Rattle.sfi_image.specs.declared.fields.Fields.{Fields}
 use Rattle.sfi_image.specs.declared.part.SandboxPart.{SandboxPart}
-use Rattle.sfi_policy.specs.Limits.{guard}
+use Rattle.sfi_formats.specs.Limits.{guard}
 use Rattle.sfi_image.specs.declared.span.Span.{Span}
 
 -- ==== What a sandbox's part of an image holds, and the bytes of an image.

@@ -1,6 +1,6 @@
 //! A bundle's place.
 
-use sfi_policy::Format;
+use sfi_formats::Format;
 
 /// Where a bundle stands.
 #[derive(Clone, Copy, PartialEq, Eq, Debug)]

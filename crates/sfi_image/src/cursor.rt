@@ -1,7 +1,7 @@
 //! A cursor over an image's bytes, which steps from sandbox to sandbox.
 ghost use Rattle.std.specs.Prelude.{◌≡◌, ◌<◌, ◌++◌, ◌∷◌, [], ℕ, List, length, slice_get, IfOk, IfErr, IfSome, IfNone};
 ghost use Rattle.std.specs.List.{flat_map};
-ghost use Rattle.sfi_policy.specs.declared.format.Format.{Format};
+ghost use Rattle.sfi_formats.specs.declared.format.Format.{Format};
 ghost use Rattle.sfi_image.specs.declared.part.Gate.{Gate};
 ghost use Rattle.sfi_image.specs.Spelling.{Part, gate};
 ghost use Rattle.sfi_image.specs.Parts.{IsImage};
@@ -18,7 +18,7 @@ use crate::layout_reader::LayoutReader;
 use crate::part::Gate;
 use crate::reading::{FIELDS_BYTES, GATE_BYTES, MAGIC_BYTES, NUMBER_BYTES, fields_at, gate_at};
 use crate::want::Want;
-use sfi_policy::Format;
+use sfi_formats::Format;
 
 /// A sandbox as it lies in the bytes of an image.
 #[derive(Clone, Copy)]

@@ -27,7 +27,7 @@ pub enum LayoutFault {
     /// The start is no bundle start of the code region.
     Start,
     /// There are more than 64 gates, or one is no bundle start of the code region, isn't above the
-    /// gate before it, or names a service above `SERVICE_MOST` of `sfi_policy`.
+    /// gate before it, or names a service above `SERVICE_MOST` of `sfi_formats`.
     Gates,
     /// There are more first data bytes than the data region holds.
     Init,

@@ -1,7 +1,7 @@
 //! The seven fields of a sandbox and their tests.
 ghost use Rattle.std.specs.Prelude.{◌≡◌, ◌≤◌, ◌↔◌, IsTrue, IfOk, IfErr, Some, None};
 ghost use Rattle.std.specs.List.{All, AllPairs};
-ghost use Rattle.sfi_policy.specs.Limits.{guard};
+ghost use Rattle.sfi_formats.specs.Limits.{guard};
 ghost use Rattle.sfi_image.specs.Spelling.{AreApart, code_span, guarded_span, with_guards};
 ghost use Rattle.sfi_image.specs.Sources.{IsBounded};
 ghost use Rattle.sfi_image.specs.Parts.{IsRegion, IsBundleStart, HasGuardRoom};
@@ -9,7 +9,7 @@ ghost use Rattle.sfi_image.specs.Parts.{IsFirstFault, field_tests};
 
 use crate::fault::LayoutFault;
 use crate::span::{Span, are_all_apart};
-use sfi_policy::{BUNDLE_SIZE, DATA_MOST, Format, GATES_MOST, REGION_LEAST};
+use sfi_formats::{BUNDLE_SIZE, DATA_MOST, Format, GATES_MOST, REGION_LEAST};
 
 /// The seven numbers at the head of a sandbox, and its image's format.
 #[derive(Clone, Copy)]
@@ -41,7 +41,7 @@ pub(crate) struct OwnSpans {
     pub(crate) guarded: Span,
 }
 
-const GUARD: u64 = sfi_policy::GUARD as u64;
+const GUARD: u64 = sfi_formats::GUARD as u64;
 
 const TOP: u64 = 1 << 32;
 

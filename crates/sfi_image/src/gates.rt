@@ -7,7 +7,7 @@ ghost use Rattle.sfi_image.specs.Parts.{AreGates};
 
 use crate::fields::{Fields, is_bundle_start};
 use crate::part::Gate;
-use sfi_policy::SERVICE_MOST;
+use sfi_formats::SERVICE_MOST;
 
 // Whether the gate may follow gates whose last one, if there is one, has address `last`.
 pub(crate) fn is_next_gate(fields: &Fields, last: Option<u32>, gate: Gate) -> bool

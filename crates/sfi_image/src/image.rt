@@ -4,7 +4,7 @@ ghost use Rattle.sfi_image.specs.Spelling.{views, format_of};
 ghost use Rattle.sfi_image.specs.Parts.{IsRightLayout};
 
 use crate::part::SandboxPart;
-use sfi_policy::Format;
+use sfi_formats::Format;
 use std::marker::Model;
 
 /// The sandboxes of an image, 1 to 16 of them, with a right layout.

@@ -1,10 +1,10 @@
 //! Lists of bounded length, in arrays.
 ghost use Rattle.std.specs.Prelude.{◌≡◌, ◌<◌, ◌≤◌, ◌++◌, ◌∷◌, ◌*◌, [], List, ℕ, length, take};
-ghost use Rattle.sfi_policy.specs.Limits.{gates_most, sandboxes_most};
+ghost use Rattle.sfi_formats.specs.Limits.{gates_most, sandboxes_most};
 ghost use Rattle.sfi_image.specs.declared.span.Span.{Span};
 
 use crate::span::Span;
-use sfi_policy::{GATE_COUNT_MOST, SANDBOX_COUNT_MOST};
+use sfi_formats::{GATE_COUNT_MOST, SANDBOX_COUNT_MOST};
 use std::marker::Model;
 
 /// How many spans are kept at most: two for each of as many sandboxes as an image may have.

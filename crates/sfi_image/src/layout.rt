@@ -16,7 +16,7 @@ use crate::fields::{Fields, OwnSpans, spans_after};
 use crate::gates::is_next_gate;
 use crate::part::{Gate, SandboxPart};
 use crate::span::Span;
-use sfi_policy::{Format, SANDBOX_COUNT_MOST};
+use sfi_formats::{Format, SANDBOX_COUNT_MOST};
 use std::alloc::Global;
 
 // The length as a number of 32 bits, or the greatest such number if it has more.

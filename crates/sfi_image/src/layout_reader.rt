@@ -1,6 +1,6 @@
 //! Reading an image's layout piece by piece, without taking memory.
 ghost use Rattle.std.specs.Prelude.{◌≡◌, ◌≢◌, ℕ, ◌+◌, ◌-◌, ◌<◌, ◌≤◌, ◌↔◌, ◌*◌, ◌++◌, ◌∷◌, [], List, length, map, drop, cond, ◌==◌, IsTrue, IfSome, IfNone, false};
-ghost use Rattle.sfi_policy.specs.Limits.{bundle_size};
+ghost use Rattle.sfi_formats.specs.Limits.{bundle_size};
 ghost use Rattle.sfi_image.specs.declared.fault.LayoutFault.{LayoutFault};
 ghost use Rattle.sfi_image.specs.Fronts.{Front, front, want_of, AreBundlesWithin, IsLengthOf, IsStretchLength, HasFaultWhateverFollows};
 ghost use Rattle.sfi_image.specs.Fronts.Front.{Empty};
@@ -16,7 +16,7 @@ use crate::reading::{
     FIELDS_BYTES, GATE_BYTES, MAGIC_BYTES, NUMBER_BYTES, fields_at, format_at, gate_at, number_at,
 };
 use crate::want::{Next, OtherWant, Want};
-use sfi_policy::{BUNDLE_SIZE, Format, SANDBOXES_MOST};
+use sfi_formats::{BUNDLE_SIZE, Format, SANDBOXES_MOST};
 
 /// Reads an image's bytes in order, as they come, and keeps of them only what its tests need.
 ///

@@ -42,7 +42,7 @@ pub use lookup::sandbox_of;
 pub use part::{Gate, SandboxPart};
 pub use reading::parse_image;
 pub use reserved::Reserved;
-pub use sfi_policy::Format;
+pub use sfi_formats::Format;
 pub use source::{ByteSource, ReadFault, Reading};
 pub use span::{Span, are_all_apart};
 pub use want::{Next, Want};

@@ -5,7 +5,7 @@
 pub struct Gate {
     /// A bundle's first address. In code in bundles its stub stands there; in words an `ecall` may.
     pub address: u32,
-    /// What the host is asked for, at most `SERVICE_MOST` of `sfi_policy` in an image.
+    /// What the host is asked for, at most `SERVICE_MOST` of `sfi_formats` in an image.
     pub service: u32,
 }
 

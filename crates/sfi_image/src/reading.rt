@@ -1,6 +1,6 @@
 //! Reading an image from left to right.
 ghost use Rattle.std.specs.Prelude.{◌≡◌, ◌+◌, ◌≤◌, ◌++◌, ◌≢◌, ◌↔◌, ◌⊎◌, List, length, IsTrue, IfOk, IfErr, IfSome, IfNone};
-ghost use Rattle.sfi_policy.specs.Formats.{magic};
+ghost use Rattle.sfi_formats.specs.Formats.{magic};
 ghost use Rattle.sfi_image.specs.declared.fault.LayoutFault.{LayoutFault};
 ghost use Rattle.sfi_image.specs.Spelling.{Part, view, number, fields, gate, IsWord, AreFieldWords, AreGateWords};
 ghost use Rattle.sfi_image.specs.Parts.{IsImage};
@@ -15,7 +15,7 @@ use crate::fields::Fields;
 use crate::image::Image;
 use crate::part::{Gate, SandboxPart};
 use byteorder::{ByteOrder, LittleEndian};
-use sfi_policy::Format;
+use sfi_formats::Format;
 use std::alloc::Global;
 
 pub(crate) const MAGIC_BYTES: usize = 4;

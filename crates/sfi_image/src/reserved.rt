@@ -1,13 +1,13 @@
 //! What the reserved registers hold.
 
 ghost use Rattle.std.specs.Prelude.{◌≡◌};
-ghost use Rattle.sfi_policy.specs.declared.format.Format.{Format};
+ghost use Rattle.sfi_formats.specs.declared.format.Format.{Format};
 ghost use Rattle.sfi_image.specs.Spelling.{view};
 ghost use Rattle.sfi_image.specs.Parts.{IsRightPart};
 ghost use Rattle.sfi_image.specs.Parts.{reserved_of};
 
 use crate::part::SandboxPart;
-use sfi_policy::Format;
+use sfi_formats::Format;
 
 /// The values of the four reserved registers while a sandbox runs. A mask keeps an address's offset
 /// in a region, and a base sets the region's own bits (Wahbe and others, 1993).

@@ -1,8 +1,8 @@
 //! Writing an image from left to right.
 ghost use Rattle.std.specs.Prelude.{◌≡◌, ◌++◌, ◌⊎◌, ◌≤◌, ◌<◌, List, length, OnOk, IfOk, IfErr};
 ghost use Rattle.std.specs.List.{All, flat_map};
-ghost use Rattle.sfi_policy.specs.Limits.{sandboxes_most};
-ghost use Rattle.sfi_policy.specs.declared.format.Format.TheVariants.{Sfi1};
+ghost use Rattle.sfi_formats.specs.Limits.{sandboxes_most};
+ghost use Rattle.sfi_formats.specs.declared.format.Format.TheVariants.{Sfi1};
 ghost use Rattle.sfi_image.specs.declared.fault.LayoutFault.{LayoutFault};
 ghost use Rattle.sfi_image.specs.Spelling.{view, views, number, fields, fields_of, gate, part, spelling, AreWords};
 ghost use Rattle.sfi_image.specs.Parts.{IsRightPart, IsRightLayout};
@@ -16,7 +16,7 @@ use crate::fault::ImageFault;
 use crate::layout::check_layout;
 use crate::part::{Gate, SandboxPart};
 use byteorder::{ByteOrder, LittleEndian};
-use sfi_policy::Format;
+use sfi_formats::Format;
 use std::alloc::{AllocError, Global};
 
 #[tactic(auto, unfolding(crate::specs::Spelling::number))]

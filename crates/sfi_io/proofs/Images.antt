@@ -3,9 +3,9 @@ use Rattle.sfi_io.proofs.Prelude.{◌≡◌, ◌∙◌, ℕ, arith, ◌≤◌, �
 use Rattle.std.proofs.Common.{◌⊎◌, IfSome, ◌↔◌}
 use Rattle.std.proofs.lemmas.List.{append-nil, take-append-le}
 use Rattle.std.specs.Io.KnownBytes.{Consumes, IsAtEnd}
-use Rattle.sfi_policy.specs.declared.format.Format.{Format}
-use Rattle.sfi_policy.specs.declared.format.Format.TheVariants.{Sfi1, Sfi2, Sfiw}
-use Rattle.sfi_policy.specs.Formats.{magic}
+use Rattle.sfi_formats.specs.declared.format.Format.{Format}
+use Rattle.sfi_formats.specs.declared.format.Format.TheVariants.{Sfi1, Sfi2, Sfiw}
+use Rattle.sfi_formats.specs.Formats.{magic}
 use Rattle.sfi_io.specs.Hexadecimal.{SpellsBytes, BeginsAsImage}
 use Rattle.sfi_io.specs.Laws.{TextsBeginAsNone}
 

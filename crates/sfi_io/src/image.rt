@@ -8,7 +8,7 @@ ghost use Rattle.sfi_io.specs.Hexadecimal.{limit};
 
 use crate::hexadecimal::{HexStop, bytes_of};
 use crate::streams::ReadStop;
-use sfi_policy::Format;
+use sfi_formats::Format;
 use std::alloc::Global;
 use std::io::Read;
 

@@ -5,9 +5,9 @@ use Rattle.sfi_source.specs.declared.item.Body.TheVariants.{Plain, To, High, Low
 use Rattle.rv_word.specs.Spelling.{offset_by}
 use Rattle.rv_word.specs.Outlines.{destination, is_register, writes_register}
 use Rattle.rv_word.specs.declared.instr.RegOp.TheVariants.{Add, And, Or}
-use Rattle.sfi_policy.specs.Formats.{is_reserved, is_withheld, has_words}
-use Rattle.sfi_policy.specs.declared.format.Format.{Format}
-use Rattle.sfi_policy.specs.declared.format.Format.TheVariants.{Sfi1, Sfi2, Sfiw}
+use Rattle.sfi_formats.specs.Formats.{is_reserved, is_withheld, has_words}
+use Rattle.sfi_formats.specs.declared.format.Format.{Format}
+use Rattle.sfi_formats.specs.declared.format.Format.TheVariants.{Sfi1, Sfi2, Sfiw}
 use Rattle.std.proofs.lemmas.Bool.{true≢false}
 use Rattle.sfi_rewrite.specs.Expansion.{jump_to_x31, jump_slots, IsAlone, IsMasked, IsExpansionOf, names_withheld, item_names_withheld, is_ecall}
 use Rattle.sfi_rules.specs.Readings.{follows_data_pair, writes_stack, begins_pair, ends_pair, precedes_pair, is_jump}

@@ -5,8 +5,8 @@ use Rattle.sfi_source.specs.declared.item.Body.TheVariants.{To}
 use Rattle.rv_word.specs.Spelling.{modulo, offset_by}
 use Rattle.rv_word.specs.Outlines.{writes_register}
 use Rattle.rv_word.specs.declared.instr.RegOp.TheVariants.{And, Or}
-use Rattle.sfi_policy.specs.Formats.{is_reserved, is_withheld}
-use Rattle.sfi_policy.specs.declared.format.Format.TheVariants.{Sfi1}
+use Rattle.sfi_formats.specs.Formats.{is_reserved, is_withheld}
+use Rattle.sfi_formats.specs.declared.format.Format.TheVariants.{Sfi1}
 use Rattle.sfi_rewrite.specs.Expansion.{names_withheld}
 use Rattle.sfi_rules.specs.Findings.{lowest, all_rules, findings_from}
 use Rattle.sfi_rules.specs.Rules.{is_empty, is_bundle_start, breaks_ecall, breaks_reserved, breaks_access, breaks_jump, breaks_target, breaks_end, breaks_stack, may_write_stack, ends_region, is_last_bundle, Place}

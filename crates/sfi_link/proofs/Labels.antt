@@ -1,7 +1,7 @@
 -- At a label in the code a unit of its sandbox's code begins.
 use Rattle.sfi_link.proofs.Prelude.{◌≡◌, ℕ, suc, ◌+◌, ◌*◌, ◌%◌, List, [], ◌∷◌, length, Option, Some, None, refl, sym, ap, subst, arith, slice_get, All, All-nil, All-cons, All-head, All-tail, All-append, Format, Part, code_region, PlacedName, Placement, IsPlacedPart, IsPlacedThere, Place, bases_of, place_of, part_with, IsLinked, AreLinkedFrom, Sandbox, kind_of, entry_of, entries_of, entries_in, map_from}
-use Rattle.sfi_policy.specs.Formats.{unit}
-use Rattle.sfi_policy.specs.declared.format.Format.TheVariants.{Sfi1, Sfi2, Sfiw}
+use Rattle.sfi_formats.specs.Formats.{unit}
+use Rattle.sfi_formats.specs.declared.format.Format.TheVariants.{Sfi1, Sfi2, Sfiw}
 use Rattle.sfi_image.specs.Spelling.{Holds}
 use Rattle.sfi_rewrite.specs.declared.placed.PlacedName.TheVariants.{Gate, Code, Data, Unknown}
 use Rattle.sfi_link.specs.declared.names.NameKind.{NameKind}

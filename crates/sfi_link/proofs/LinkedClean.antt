@@ -4,8 +4,8 @@ use Rattle.sfi_image.specs.Parts.{IsBundleStart}
 use Rattle.sfi_rewrite.specs.declared.placed.PlacedName.TheVariants.{Gate, Code}
 use Rattle.std.specs.Prelude.{◌++◌, ◌%◌, Bool, true, false, MatchBool}
 use Rattle.std.proofs.lemmas.Bool.{true≢false, and_from, le-leb, lt-ltb, eq-eqb}
-use Rattle.sfi_policy.specs.Formats.{has_words, unit}
-use Rattle.sfi_policy.specs.declared.format.Format.TheVariants.{Sfiw}
+use Rattle.sfi_formats.specs.Formats.{has_words, unit}
+use Rattle.sfi_formats.specs.declared.format.Format.TheVariants.{Sfiw}
 use Rattle.sfi_rewrite.specs.Placed.{AreOfItems, AreWholeIn}
 use Rattle.sfi_rules.specs.Findings.{AreFindings, AreFindingsFrom}
 use Rattle.sfi_rules.proofs.Facts.{of_bundles, of_words, same_bundle_starts}

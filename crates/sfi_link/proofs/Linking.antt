@@ -4,7 +4,7 @@ use Rattle.sfi_source.specs.declared.item.SourceGate.{SourceGate}
 use Rattle.sfi_image.specs.Sources.{IsBounded}
 use Rattle.sfi_link.specs.Faults.{UnlessMemory, AnswersItems, AnswersFault}
 use Rattle.sfi_link.specs.Linked.{IsLinkedImage, ArePlacements, IsBuild}
-use Rattle.sfi_policy.specs.declared.format.Format.TheVariants.{Sfi1}
+use Rattle.sfi_formats.specs.declared.format.Format.TheVariants.{Sfi1}
 use Rattle.std.proofs.Math.Nat.{pow-suc}
 use Rattle.std.proofs.Math.Pow.{pow_mono}
 use Rattle.std.proofs.lemmas.List.{at_drop_more}

@@ -2,7 +2,7 @@
 use Rattle.sfi_link.proofs.Prelude.{◌≡◌, ℕ, zero, suc, ◌+◌, ◌*◌, ◌%◌, ◌^◌, ◌<◌, ◌≤◌, ◌==◌, List, [], ◌∷◌, length, get_or, true, refl, sym, ap, ◌∙◌, subst, arith, inl, inr, length-append, All, AllPairs, eq-eqb, eqb-true, or_right, or_cases, All-nil, All-cons, All-head, All-tail, Format, Span, Part, format_of, Slot, Wide, PlacedName, slot_size, size_of, Placement, IsPlacedPart, IsPlaced, Place, Bases, bases_of, stub_size, IsSlot, AreSlots, place_of, IsRightPlace, needed, HasRoom, gates_from, part_with, IsLinkedCode, IsLinked, AreLinkedFrom, AreLinked}
 use Rattle.sfi_source.specs.declared.item.SourceGate.{SourceGate}
 use Rattle.sfi_image.specs.Parts.{is_gate_of, IsRightPart, IsRightLayout, AreOf, IsBundleStart}
-use Rattle.sfi_policy.specs.Limits.{service_most}
+use Rattle.sfi_formats.specs.Limits.{service_most}
 use Rattle.std.proofs.lemmas.List.Kept.{AllPairs-cons}
 use Rattle.std.proofs.lemmas.Option.{slice_get-get_or}
 use Rattle.sfi_rewrite.specs.Placed as placements

@@ -16,12 +16,12 @@ pub use Rattle.rv_word.specs.declared.instr.Instr.TheVariants.{Op, OpImm, Load, 
 pub use Rattle.rv_comp.specs.Fronts.{Spells}
 pub use Rattle.rv_comp.specs.Table.{expansion, row, allowed}
 pub use Rattle.sfi_source.specs.Source.{upper, lower, Sandbox, IsBody, IsSandbox}
-pub use Rattle.sfi_policy.specs.Formats.{has_stack, is_stack, code_most}
+pub use Rattle.sfi_formats.specs.Formats.{has_stack, is_stack, code_most}
 pub use Rattle.sfi_pairs.specs.Pairs.{is_masking, is_placing, stub}
 unfoldable pub use Rattle.sfi_link.specs.Code.{stub_of}
-pub use Rattle.sfi_policy.specs.declared.format.Format.{Format}
-pub use Rattle.sfi_policy.specs.Limits.{place_of}
-pub use Rattle.sfi_policy.specs.declared.place.Place.{Place}
+pub use Rattle.sfi_formats.specs.declared.format.Format.{Format}
+pub use Rattle.sfi_formats.specs.Limits.{place_of}
+pub use Rattle.sfi_formats.specs.declared.place.Place.{Place}
 pub use Rattle.sfi_image.specs.Spelling.{AreApart, with_guards, spans, spans_of, code_region, Part, fields_of, format_of, views, view}
 pub use Rattle.sfi_image.specs.declared.span.Span.{Span}
 pub use Rattle.sfi_rules.specs.Readings.{Piece, IsReading, rest_of, IsLongestReading}

@@ -1,6 +1,6 @@
 -- A region of clean bundles has no finding.
 use Rattle.sfi_link.proofs.Prelude.{◌≡◌, ℕ, zero, suc, ◌+◌, ◌-◌, ◌*◌, ◌^◌, ◌<◌, ◌≤◌, List, [], ◌∷◌, ◌++◌, length, take, drop, get_or, Bool, true, false, refl, sym, ap, ◌∙◌, subst, arith, inl, inr, length-append, append_assoc, replicate, ◌==◌, ◌&&◌, not, pos, All, repeat, cases_lt, cases_eq, ne_eqb, and_left, and_right, not_from_true, ints, length-replicate, get_or-replicate, get_or_append_left, get_or-append-add, All-head, All-tail, All-nil, All-cons, All-append, All-replicate, Op, Jalr, Ecall, InRange, spelling, Format, Instr, has_stack, c_ebreak, Part, stub, Piece, IsReading, Slot, PlacedName, slot_size, size_of, slots_of, AreWhole, Bases, AreSlots}
-use Rattle.sfi_policy.specs.Formats.{has_words}
+use Rattle.sfi_formats.specs.Formats.{has_words}
 use Rattle.rv_word.specs.declared.instr.RegOp.TheVariants.{And, Or}
 use Rattle.sfi_image.specs.Parts.{is_gate_of}
 use Rattle.sfi_rules.specs.Readings.{bundle_bytes, bundle_place}

@@ -9,7 +9,7 @@ use Rattle.sfi_image.specs.Parts.{IsRightPart}
 use Rattle.sfi_link.specs.Standing.{IsResolvedTo, AreResolvedTo, RunsAt, RunsAs, WordRunsAs, RunsAsIn, LinkedRunsAs, LinkedImagesRunAs, SandboxesRunAs}
 use Rattle.sfi_rewrite.specs.Expansion.{jump_slots, IsAlone, IsMasked, IsExpansionOf, is_on_stack, stack_pair, put_back, writes_stack}
 use Rattle.sfi_rewrite.specs.Rewriting.{IsRewritten, AreRewritten}
-use Rattle.sfi_policy.specs.Formats.{has_words, is_data_register}
+use Rattle.sfi_formats.specs.Formats.{has_words, is_data_register}
 use Rattle.sfi_rewrite.specs.Transparency.{IsAimed, MayBe, SlotsStand, StandsTransparent}
 use Rattle.sfi_rewrite.specs.words.Transparency as words
 use Rattle.sfi_rewrite.specs.words.Expansion as words_expansion

@@ -6,7 +6,7 @@ use Rattle.sfi_link.specs.Laws.{SomeLinking}
 use Rattle.std.specs.Prelude.{◌≤ℤ◌}
 use Rattle.std.proofs.lemmas.Int.{by_lt_z}
 use Rattle.sfi_link.specs.declared.fault.LinkFault.TheVariants.{UnknownName, BranchReach, TooLarge, TooManySandboxes}
-use Rattle.sfi_policy.specs.Limits.{data_most}
+use Rattle.sfi_formats.specs.Limits.{data_most}
 use Rattle.std.proofs.Math.Nat.{pow-suc}
 use Rattle.std.proofs.lemmas.List.{append-nil, append_assoc}
 use Rattle.sfi_image.specs.Spelling as image

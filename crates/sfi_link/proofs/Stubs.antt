@@ -1,8 +1,8 @@
 -- A gate's bundle in each format.
 use Rattle.sfi_link.proofs.Prelude.{◌≡◌, ℕ, zero, suc, ◌*◌, [], ◌∷◌, length, length-append, true, false, refl, sym, arith, repeat, Format, spelling, stub, stub_of}
 use Rattle.std.proofs.lemmas.Bool.{true≢false}
-use Rattle.sfi_policy.specs.Formats.{has_words}
-use Rattle.sfi_policy.specs.declared.format.Format.TheVariants.{Sfiw}
+use Rattle.sfi_formats.specs.Formats.{has_words}
+use Rattle.sfi_formats.specs.declared.format.Format.TheVariants.{Sfiw}
 
 -- ---- their bytes
 

@@ -12,8 +12,8 @@ use Rattle.rv_word.specs.declared.instr.StoreWidth.{StoreWidth}
 use Rattle.sfi_source.specs.declared.item.Body.{Body}
 use Rattle.sfi_source.specs.declared.item.Body.TheVariants.{Plain, To, High, Low, Base}
 use Rattle.sfi_source.specs.declared.item.Item.{Item}
-use Rattle.sfi_policy.specs.declared.format.Format.TheVariants.{Sfiw}
-use Rattle.sfi_policy.specs.Formats.{is_data_register}
+use Rattle.sfi_formats.specs.declared.format.Format.TheVariants.{Sfiw}
+use Rattle.sfi_formats.specs.Formats.{is_data_register}
 use Rattle.sfi_rewrite.specs.Expansion.{IsAlone, is_withheld, names_withheld, item_names_withheld, is_ecall}
 use Rattle.sfi_rewrite.specs.Rewriting.{IsPermitted}
 use Rattle.sfi_rewrite.specs.words.Expansion.{data_mask, IsAround, IsExpansionOf, IsExpansion, mask_after, is_use, is_step_to, is_step, is_zero, is_move, moved, is_barred_jump, Marked, marked, AreExpanded}

@@ -6,8 +6,8 @@ use Rattle.rv_word.specs.declared.instr.RegOp.TheVariants.{Or}
 use Rattle.rv_word.specs.Outlines.{destination, is_register}
 use Rattle.sfi_source.specs.declared.item.Body.TheVariants.{Plain}
 use Rattle.sfi_pairs.specs.Pairs.{is_masking}
-use Rattle.sfi_policy.specs.declared.format.Format.TheVariants.{Sfiw}
-use Rattle.sfi_policy.specs.Formats.{is_reserved, is_data_register}
+use Rattle.sfi_formats.specs.declared.format.Format.TheVariants.{Sfiw}
+use Rattle.sfi_formats.specs.Formats.{is_reserved, is_data_register}
 use Rattle.sfi_rewrite.specs.Expansion.{is_withheld, names_withheld}
 use Rattle.sfi_rewrite.specs.words.Expansion as words
 use Rattle.sfi_rules.specs.declared.owed.Owed.{Owed}

@@ -2,7 +2,7 @@
 use Rattle.sfi_link.proofs.Prelude.{◌≡◌, ◌⊎◌, ℕ, ◌+◌, List, [], ◌∷◌, ◌++◌, Option, Some, None, Bool, true, false, refl, sym, ap, ◌∙◌, subst, arith, inl, inr, MatchBool, Instr, Op, Slot, Wide, Short, PlacedName, slot_size, size_of, Bases, resolved}
 use Rattle.std.specs.Prelude.{if◌then◌else◌}
 use Rattle.rv_word.specs.declared.instr.RegOp.TheVariants.{And, Or}
-use Rattle.sfi_policy.specs.Formats.{is_data_register}
+use Rattle.sfi_formats.specs.Formats.{is_data_register}
 use Rattle.sfi_rewrite.specs.Expansion.{IsAlone}
 use Rattle.sfi_rewrite.specs.words.Expansion.{data_mask, mask_after}
 use Rattle.sfi_rules.specs.declared.owed.Owed.{Owed}

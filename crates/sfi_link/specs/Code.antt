@@ -2,8 +2,8 @@
 use Rattle.std.specs.Prelude.{ℕ, ◌+◌, ◌-◌, ◌*◌, ℤ, List, length, slice_get, Option, Some, None, pos, [], ◌∷◌, ◌++◌, if◌then◌else◌, ◌≡◌, ◌-ℤ◌, IsTrue}
 use Rattle.rv_word.specs.declared.instr.Instr.{Instr}
 use Rattle.rv_word.specs.declared.instr.Instr.TheVariants.{Branch, Jal, Jalr, Ecall, Op, OpImm, Lui}
-use Rattle.sfi_policy.specs.Limits.{bundle_size, place_of}
-use Rattle.sfi_policy.specs.declared.place.Place.{Place}
+use Rattle.sfi_formats.specs.Limits.{bundle_size, place_of}
+use Rattle.sfi_formats.specs.declared.place.Place.{Place}
 use Rattle.sfi_rewrite.specs.declared.placed.PlacedName.{PlacedName}
 use Rattle.sfi_rewrite.specs.declared.placed.PlacedName.TheVariants.{Gate, Code, Data, Unknown}
 use Rattle.sfi_rewrite.specs.Placement.{Placement}
@@ -11,8 +11,8 @@ use Rattle.sfi_link.specs.declared.bases.Bases.{Bases}
 use Rattle.std.specs.List.{flat_map}
 use Rattle.std.specs.Int.{w32, to_le_bytes, w16}
 use Rattle.rv_word.specs.Spelling.{spelling, InRange}
-use Rattle.sfi_policy.specs.declared.format.Format.{Format}
-use Rattle.sfi_policy.specs.Formats.{has_words, code_base_register, data_base_register, code_register, return_register}
+use Rattle.sfi_formats.specs.declared.format.Format.{Format}
+use Rattle.sfi_formats.specs.Formats.{has_words, code_base_register, data_base_register, code_register, return_register}
 use Rattle.sfi_pairs.specs.Pairs.{code_pair, stub}
 use Rattle.rv_word.specs.declared.instr.ImmOp.TheVariants.{Addi}
 use Rattle.rv_word.specs.declared.instr.RegOp.TheVariants.{Add}

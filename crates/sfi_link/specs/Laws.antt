@@ -2,14 +2,14 @@
 use Rattle.std.specs.Prelude.{◌≡◌, ◌⊎◌, ℕ, ◌≤◌, List, [], length, true}
 use Rattle.sfi_image.specs.Spelling.{Part}
 use Rattle.sfi_image.specs.Parts.{IsRightLayout}
-use Rattle.sfi_policy.specs.declared.place.Place.{Place}
+use Rattle.sfi_formats.specs.declared.place.Place.{Place}
 use Rattle.sfi_rules.specs.Findings.{AreFindings}
 use Rattle.sfi_rewrite.specs.Placement.{Placement}
 use Rattle.sfi_rewrite.specs.Placed.{IsPlacedPart, IsPlaced}
 use Rattle.sfi_link.specs.declared.fault.LinkFault.{LinkFault}
 use Rattle.sfi_link.specs.declared.fault.LinkFault.TheVariants as fault
 use Rattle.sfi_link.specs.Linked.{IsLinkedCode, IsLinked, AreLinked, IsLinkedImage}
-use Rattle.sfi_policy.specs.Limits.{sandboxes_most}
+use Rattle.sfi_formats.specs.Limits.{sandboxes_most}
 use Rattle.sfi_link.specs.Faults.{IsLinkFault}
 
 -- what is made of a placed sandbox breaks no rule

@@ -3,14 +3,14 @@ use Rattle.std.specs.Prelude.{ℕ, List, [], ◌∷◌, ◌≡◌, ◌+◌, ◌*
 use Rattle.sfi_image.specs.declared.span.Span.{Span}
 use Rattle.sfi_image.specs.Spelling.{IsWord, Part, spelling, with_guards, AreApart, spans}
 use Rattle.sfi_image.specs.Parts.{IsCodeRegion, IsDataRegion, HasGuardRoom, IsImage}
-use Rattle.sfi_policy.specs.declared.place.Place.{Place}
+use Rattle.sfi_formats.specs.declared.place.Place.{Place}
 use Rattle.sfi_rewrite.specs.Placement.{Placement, IsPlacement}
 use Rattle.std.specs.List.{repeat, AllPairs, AllZip}
 use Rattle.rv_comp.specs.declared.form.Form16.TheVariants.{CEbreak}
-use Rattle.sfi_policy.specs.declared.format.Format.{Format}
-use Rattle.sfi_policy.specs.Formats.{code_most}
+use Rattle.sfi_formats.specs.declared.format.Format.{Format}
+use Rattle.sfi_formats.specs.Formats.{code_most}
 use Rattle.sfi_source.specs.declared.item.SourceGate.{SourceGate}
-use Rattle.sfi_policy.specs.Limits.{region_least, place_of}
+use Rattle.sfi_formats.specs.Limits.{region_least, place_of}
 use Rattle.sfi_image.specs.declared.part.Gate.{Gate}
 use Rattle.sfi_rewrite.specs.declared.slot.Slot.{Slot}
 use Rattle.sfi_rewrite.specs.declared.slot.Slot.TheVariants.{Short}

@@ -2,14 +2,14 @@
 -- the image what its instruction does.
 use Rattle.std.specs.Prelude.{◌≡◌, ℕ, ◌+◌, ◌*◌, List, [], ◌∷◌, MatchBool, length, slice_get, Some}
 use Rattle.rv_word.specs.declared.instr.Instr.{Instr}
-use Rattle.sfi_policy.specs.declared.format.Format.{Format}
+use Rattle.sfi_formats.specs.declared.format.Format.{Format}
 use Rattle.rv_mem.specs.Laws.{Holds}
 use Rattle.rv_step.specs.State.{State}
 use Rattle.sfi_source.specs.declared.item.Item.{Item}
 use Rattle.sfi_source.specs.Source.{Sandbox, IsSandbox, IsSource}
 use Rattle.sfi_image.specs.Spelling.{Part, code_region, data_region}
 use Rattle.sfi_image.specs.Parts.{IsImage}
-use Rattle.sfi_policy.specs.declared.place.Place.{Place}
+use Rattle.sfi_formats.specs.declared.place.Place.{Place}
 use Rattle.sfi_rewrite.specs.declared.slot.Slot.{Slot}
 use Rattle.sfi_rewrite.specs.declared.slot.Slot.TheVariants.{Wide, Short}
 use Rattle.sfi_rewrite.specs.declared.placed.PlacedName.{PlacedName}
@@ -18,7 +18,7 @@ use Rattle.sfi_rewrite.specs.Placement.{Placement, IsPlacement}
 use Rattle.sfi_rewrite.specs.Placed.{IsPlacedPart}
 use Rattle.sfi_rewrite.specs.Rewriting.{IsRewritten, AreRewritten}
 use Rattle.sfi_rewrite.specs.Transparency.{AreRegions, SlotsStand, MayBe, StandsTransparent}
-use Rattle.sfi_policy.specs.Formats.{has_words}
+use Rattle.sfi_formats.specs.Formats.{has_words}
 use Rattle.sfi_rewrite.specs.words.Transparency as words
 use Rattle.sfi_link.specs.declared.bases.Bases.{Bases}
 use Rattle.sfi_link.specs.Code.{bases_of, resolved}

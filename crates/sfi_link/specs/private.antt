@@ -2,13 +2,13 @@
 use Rattle.std.specs.Prelude.{◌≡◌, ℕ, ◌+◌, ◌^◌, ◌<◌, ◌≤◌, List, [], ◌∷◌, ◌++◌, length, map, IfSome, Result, Ok, Err, Vec}
 use Rattle.std.specs.List.{All, AllPairs}
 use Rattle.std.specs.Global.{Global}
-use Rattle.sfi_policy.specs.declared.format.Format.TheVariants.{Sfi2}
-use Rattle.sfi_policy.specs.Formats.{code_most}
+use Rattle.sfi_formats.specs.declared.format.Format.TheVariants.{Sfi2}
+use Rattle.sfi_formats.specs.Formats.{code_most}
 use Rattle.sfi_image.specs.declared.span.Span.{Span}
 use Rattle.sfi_image.specs.Spelling.{Part, IsWord, AreApart}
 use Rattle.sfi_image.specs.Sources.{IsBounded}
-use Rattle.sfi_policy.specs.declared.place.Place.{Place}
-use Rattle.sfi_policy.specs.Limits.{place_of}
+use Rattle.sfi_formats.specs.declared.place.Place.{Place}
+use Rattle.sfi_formats.specs.Limits.{place_of}
 use Rattle.sfi_rewrite.specs.declared.slot.Slot.{Slot}
 use Rattle.sfi_rewrite.specs.declared.placed.PlacedName.{PlacedName}
 use Rattle.sfi_rewrite.specs.Placement.{Placement}

@@ -6,7 +6,7 @@ ghost use Rattle.sfi_link.specs.private.{IsInCode, IsNear, AreNear};
 
 use crate::bases::Bases;
 use rv_word::{Instr, Reg};
-use sfi_policy::{BUNDLE_SIZE, CODE_BASE_REGISTER, DATA_BASE_REGISTER};
+use sfi_formats::{BUNDLE_SIZE, CODE_BASE_REGISTER, DATA_BASE_REGISTER};
 use sfi_rewrite::PlacedName;
 
 // The address of what the name names; none where that is unknown.

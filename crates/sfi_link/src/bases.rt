@@ -2,9 +2,9 @@
 ghost use Rattle.std.specs.Prelude.{◌≡◌, ◌<◌, ◌^◌};
 ghost use Rattle.sfi_rewrite.specs.Placed.{IsPlacedPart};
 ghost use Rattle.sfi_link.specs.Code.{bases_of};
-ghost use Rattle.sfi_policy.specs.Limits.{sandboxes_most};
+ghost use Rattle.sfi_formats.specs.Limits.{sandboxes_most};
 
-use sfi_policy::{BUNDLE_SIZE, Place, place_of};
+use sfi_formats::{BUNDLE_SIZE, Place, place_of};
 use sfi_rewrite::PlacedPart;
 
 /// Where the regions of a sandbox begin.

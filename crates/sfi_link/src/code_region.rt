@@ -1,8 +1,8 @@
 //! The code region of a sandbox: its gates' stubs, its code, and c.ebreaks up to its end.
 ghost use Rattle.std.specs.Prelude.{◌≡◌, ◌++◌, ◌<◌, ◌≤◌, ℕ, length, IfSome, IfNone, OnOk};
 ghost use Rattle.std.specs.List.{All, AllPairs, repeat};
-ghost use Rattle.sfi_policy.specs.declared.format.Format.TheVariants.{Sfi2};
-ghost use Rattle.sfi_policy.specs.Formats.{code_most};
+ghost use Rattle.sfi_formats.specs.declared.format.Format.TheVariants.{Sfi2};
+ghost use Rattle.sfi_formats.specs.Formats.{code_most};
 ghost use Rattle.sfi_rewrite.specs.Expansion.{size_of, slots_of};
 ghost use Rattle.sfi_rewrite.specs.Placement.{AreBundles};
 ghost use Rattle.sfi_rewrite.specs.Placed.{IsPlacedPart};
@@ -10,7 +10,7 @@ ghost use Rattle.sfi_image.specs.Sources.{IsBounded};
 ghost use Rattle.sfi_image.specs.Spelling.{AreApart};
 ghost use Rattle.sfi_link.specs.Linked.{needed, HasRoom, IsCodeSize};
 ghost use Rattle.sfi_link.specs.Faults.{HasPartFault};
-ghost use Rattle.sfi_policy.specs.Limits.{sandboxes_most};
+ghost use Rattle.sfi_formats.specs.Limits.{sandboxes_most};
 ghost use Rattle.sfi_link.specs.private.{IsCodeBeside, Links};
 
 use crate::bases::bases_of;
@@ -18,8 +18,8 @@ use crate::code::push_bundles;
 use crate::fault::LinkFault;
 use crate::right_places::lies_beside;
 use crate::stub::stub_of;
+use sfi_formats::{BUNDLE_BYTES, Format, Place, REGION_LEAST_BYTES, place_of};
 use sfi_image::Span;
-use sfi_policy::{BUNDLE_BYTES, Format, Place, REGION_LEAST_BYTES, place_of};
 use sfi_rewrite::{Bundle, PlacedPart};
 use std::alloc::{AllocError, Global};
 

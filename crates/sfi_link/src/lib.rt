@@ -19,4 +19,4 @@ mod stub;
 pub use fault::LinkFault;
 pub use linker::{link, link_at};
 pub use names::{NameAddress, NameKind, names_of};
-pub use sfi_policy::Place;
+pub use sfi_formats::Place;

@@ -1,7 +1,7 @@
 //! The addresses of a source's gates and labels in the image that is linked.
 ghost use Rattle.std.specs.Prelude.{◌≡◌, ◌≢◌, ◌≤◌, ◌<◌, ◌++◌, ℕ, List, [], length, map, Some, Err, IfOk, IfErr, OnOk};
 ghost use Rattle.std.specs.List.{All};
-ghost use Rattle.sfi_policy.specs.Limits.{sandboxes_most};
+ghost use Rattle.sfi_formats.specs.Limits.{sandboxes_most};
 ghost use Rattle.sfi_rewrite.specs.Placed.{IsPlacedPart};
 ghost use Rattle.sfi_image.specs.Spelling.{Part};
 ghost use Rattle.sfi_link.specs.declared.fault.LinkFault.{LinkFault};
@@ -18,7 +18,7 @@ use crate::address::address_of;
 use crate::bases::{Bases, bases_of};
 use crate::fault::LinkFault;
 use crate::linker::link_at;
-use sfi_policy::Place;
+use sfi_formats::Place;
 use sfi_rewrite::{Placed, PlacedName, PlacedPart};
 use sfi_source::{Names, Source, SourcePart};
 use std::alloc::{AllocError, Global};

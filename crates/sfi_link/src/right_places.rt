@@ -7,8 +7,8 @@ ghost use Rattle.sfi_image.specs.Spelling.{AreApart};
 ghost use Rattle.sfi_link.specs.Linked.{IsRightPlace, spans_at};
 ghost use Rattle.sfi_link.specs.private.{LiesBeside};
 
+use sfi_formats::{DATA_MOST, Place, REGION_LEAST};
 use sfi_image::{Span, are_all_apart, has_guard_room, is_region, with_guards};
-use sfi_policy::{DATA_MOST, Place, REGION_LEAST};
 use sfi_rewrite::PlacedPart;
 use std::alloc::AllocError;
 

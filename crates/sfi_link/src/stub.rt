@@ -2,8 +2,8 @@
 ghost use Rattle.std.specs.Prelude.{◌≡◌};
 ghost use Rattle.sfi_link.specs.Code.{stub_of};
 
+use sfi_formats::{BUNDLE_BYTES, Format};
 use sfi_pairs::STUB;
-use sfi_policy::{BUNDLE_BYTES, Format};
 
 /// A gate's stub in code in words: `ecall`, `and x30, x1, x25`, `or x30, x30, x24`, `jalr x0, 0(x30)`.
 const WORD_STUB: [u8; BUNDLE_BYTES] = [

@@ -8,7 +8,7 @@ use Rattle.rv_word.specs.declared.instr.Instr.{Instr}
 use Rattle.rv_word.specs.declared.outline.Outline.{Outline}
 use Rattle.rv_word.specs.declared.outline.Outline.TheVariants.{Computes, Loads, Stores, Orders, Stops}
 use Rattle.rv_comp.specs.Fronts.{IsShortSpelling}
-use Rattle.sfi_policy.specs.Formats.{is_reserved, is_data_register, code_register, data_base_register, offset_register, stack_pointer}
+use Rattle.sfi_formats.specs.Formats.{is_reserved, is_data_register, code_register, data_base_register, offset_register, stack_pointer}
 use Rattle.sfi_masks.specs.declared.masks.Masks.{Masks}
 
 -- halfword i of the bytes, and the word that begins there

@@ -5,7 +5,7 @@ use Rattle.std.specs.Prelude.{◌==◌, ◌&&◌, ℕ, pos, List, [], ◌∷◌,
 use Rattle.rv_word.specs.declared.instr.RegOp.TheVariants.{And, Or}
 use Rattle.rv_word.specs.declared.instr.Instr.{Instr}
 use Rattle.rv_word.specs.declared.instr.Instr.TheVariants.{Op, Jalr, Ecall}
-use Rattle.sfi_policy.specs.Formats.{code_base_register, code_mask_register, data_base_register, data_mask_register, scratch, return_register}
+use Rattle.sfi_formats.specs.Formats.{code_base_register, code_mask_register, data_base_register, data_mask_register, scratch, return_register}
 
 -- ---- the pairs
 

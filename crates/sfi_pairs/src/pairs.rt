@@ -3,7 +3,7 @@ ghost use Rattle.std.specs.Prelude.{◌≡◌};
 ghost use Rattle.sfi_pairs.specs.Pairs.{pair, data_pair, code_pair};
 
 use rv_word::{Instr, Reg, RegOp};
-use sfi_policy::{CODE_BASE_REGISTER, CODE_MASK_REGISTER, DATA_BASE_REGISTER, DATA_MASK_REGISTER};
+use sfi_formats::{CODE_BASE_REGISTER, CODE_MASK_REGISTER, DATA_BASE_REGISTER, DATA_MASK_REGISTER};
 
 /// `and target, a, mask`, `or target, target, base`.
 #[inline]

@@ -1,9 +1,9 @@
 //! The tests for the registers that have a part in a sandbox's confinement.
 ghost use Rattle.std.specs.Prelude.{◌≡◌};
-ghost use Rattle.sfi_policy.specs.Formats.{is_reserved, is_withheld, is_data_register};
+ghost use Rattle.sfi_formats.specs.Formats.{is_reserved, is_withheld, is_data_register};
 
 use rv_word::Reg;
-use sfi_policy::{
+use sfi_formats::{
     CODE_BASE_REGISTER, CODE_MASK_REGISTER, DATA_BASE_REGISTER, DATA_MASK_REGISTER, SCRATCH,
 };
 

@@ -1,5 +1,5 @@
 //! A gate's bundle, in code in bundles.
-use sfi_policy::BUNDLE_BYTES;
+use sfi_formats::BUNDLE_BYTES;
 
 /// `ecall`, `and x31, x1, x25`, `or x31, x31, x24`, `jalr x0, 0(x31)`.
 pub const STUB: [u8; BUNDLE_BYTES] = [

@@ -7,7 +7,7 @@ use Rattle.std.proofs.lemmas.List.Kept.{AllPairs-cons}
 use Rattle.sfi_image.specs.declared.span.Span.{Span}
 use Rattle.sfi_image.specs.Spelling.{Part, fields_of, AreApart, spans, spans_of}
 use Rattle.sfi_image.specs.Parts.{IsRightPart}
-use Rattle.sfi_runs.specs.Safety.{RunsSafely, CallsTyped}
+use Rattle.sfi_safe_runs.specs.Safety.{RunsSafely, CallsTyped}
 use Rattle.sfi_safety.proofs.Safe.{all_safe, all_call}
 use Rattle.sfi_places.specs.Beside.{AreBeside, BesideIsAsOne, BesideByPairs}
 

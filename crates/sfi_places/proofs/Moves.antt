@@ -5,10 +5,10 @@ use Rattle.std.specs.Bool.{OnTrue, OnFalse}
 use Rattle.std.specs.List.{All, flat_map}
 use Rattle.std.proofs.lemmas.List.{length-map, append-nil}
 use Rattle.std.proofs.lemmas.List.Elements.{All-head, All-tail, All-cons, All-map}
-unfoldable use Rattle.sfi_policy.specs.Formats.{magic}
-use Rattle.sfi_policy.specs.declared.format.Format.{Format}
-use Rattle.sfi_policy.specs.declared.place.Place.{Place}
-use Rattle.sfi_policy.proofs.Formats.{length_of_magic}
+unfoldable use Rattle.sfi_formats.specs.Formats.{magic}
+use Rattle.sfi_formats.specs.declared.format.Format.{Format}
+use Rattle.sfi_formats.specs.declared.place.Place.{Place}
+use Rattle.sfi_formats.proofs.Formats.{length_of_magic}
 use Rattle.sfi_image.specs.declared.fault.LayoutFault.{LayoutFault}
 use Rattle.sfi_image.specs.declared.part.Gate.{Gate}
 use Rattle.sfi_image.specs.Spelling.{Part, format_of, IsWord, AreWords, AreGateWords}

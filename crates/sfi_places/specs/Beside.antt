@@ -4,7 +4,7 @@ use Rattle.std.specs.List.{All}
 use Rattle.sfi_image.specs.declared.span.Span.{Span}
 use Rattle.sfi_image.specs.Spelling.{Part, AreApart, spans}
 use Rattle.sfi_image.specs.Parts.{AreRight}
-use Rattle.sfi_runs.specs.Safety.{AllRunSafely, AllCallTyped}
+use Rattle.sfi_safe_runs.specs.Safety.{AllRunSafely, AllCallTyped}
 use Rattle.sfi_safety.specs.Clean.{IsClean}
 
 -- no code region and no data with its guard zones of the first image meets one of the second

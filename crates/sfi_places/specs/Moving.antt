@@ -6,7 +6,7 @@ use Rattle.sfi_image.specs.Parts.{IsRightPart, IsRightLayout, IsCodeRegion, IsDa
 use Rattle.sfi_safety.specs.Clean.{IsAccepted}
 use Rattle.sfi_rules.specs.declared.finding.Finding.{Finding}
 use Rattle.sfi_rules.specs.Findings.{AreFindings}
-use Rattle.sfi_policy.specs.declared.place.Place.{Place}
+use Rattle.sfi_formats.specs.declared.place.Place.{Place}
 use Rattle.sfi_image.specs.Faults.{IsFault}
 use Rattle.sfi_places.specs.declared.relocation.MoveFault.{MoveFault}
 use Rattle.sfi_places.specs.declared.relocation.MoveFault.TheVariants.{NoImage, NoSandbox, NoPlace}

@@ -1,7 +1,7 @@
 -- Words that private contracts and proofs alone cite: no public statement rests on them.
 use Rattle.std.specs.Prelude.{◌≡◌, ℕ, ◌+◌, ◌-◌, ◌≤◌, List, ◌++◌, length}
 use Rattle.std.specs.List.{All}
-use Rattle.sfi_policy.specs.declared.place.Place.{Place}
+use Rattle.sfi_formats.specs.declared.place.Place.{Place}
 use Rattle.sfi_image.specs.declared.part.Gate.{Gate}
 use Rattle.sfi_image.specs.Spelling.{Part, IsWord}
 

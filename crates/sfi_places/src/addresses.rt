@@ -8,7 +8,7 @@ ghost use Rattle.sfi_image.specs.Keeping.{LiesAt};
 ghost use Rattle.sfi_places.specs.private.{IsReplaced, GoesTo, GatesGo, CanMove};
 
 use byteorder::{ByteOrder, LittleEndian};
-use sfi_policy::Place;
+use sfi_formats::Place;
 
 // Where some numbers of a sandbox lie, counted from its first byte, and how many bytes a gate has.
 const DATA_BASE_AT: usize = 8;

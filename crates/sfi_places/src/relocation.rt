@@ -9,8 +9,8 @@ ghost use Rattle.sfi_image.specs.Keeping.{IsSandboxOf, sandbox_offset};
 ghost use Rattle.sfi_places.specs.Moving.{moved_one, IsMoved, IsMoveFault};
 
 use crate::addresses::{GATES_AT, write_place};
+use sfi_formats::{Place, REGION_LEAST};
 use sfi_image::{Fields, LayoutFault, is_region, sandbox_of};
-use sfi_policy::{Place, REGION_LEAST};
 
 /// Why a sandbox can't be moved.
 #[derive(Clone, Copy, PartialEq, Eq, Debug)]

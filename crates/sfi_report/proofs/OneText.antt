@@ -3,8 +3,8 @@ use Rattle.sfi_report.proofs.Prelude.{◌≡◌, ℕ, zero, suc, ◌+◌, ◌-�
 use Rattle.std.proofs.Common.{get_or-take}
 use Rattle.rv_comp.specs.declared.front.Front.{Front}
 use Rattle.sfi_text.specs.Statement.{printed}
-use Rattle.sfi_policy.specs.Formats.{unit}
-use Rattle.sfi_policy.specs.declared.format.Format.TheVariants.{Sfi1, Sfi2, Sfiw}
+use Rattle.sfi_formats.specs.Formats.{unit}
+use Rattle.sfi_formats.specs.declared.format.Format.TheVariants.{Sfi1, Sfi2, Sfiw}
 use Rattle.sfi_rules.specs.declared.rule.Rule.{Rule}
 use Rattle.sfi_rules.specs.declared.rule.Rule.TheVariants.{V2, V9}
 use Rattle.sfi_report.specs.Listing.{line_end, reading_lines, unit_bytes, sandbox_line, IsListingOfFirst, IsCodeListing, IsListingFrom}

@@ -17,7 +17,7 @@ use Rattle.sfi_rules.specs.declared.rule.Rule.TheVariants.{V2, V9}
 use Rattle.sfi_rules.specs.Readings.{bundle_bytes, bundle_place, Piece, IsReading, rest_of}
 use Rattle.sfi_rules.specs.Rules.{breaks}
 use Rattle.sfi_rules.specs.Findings.{broken, lowest, all_rules, findings_from, rest_finding, rule_of_length, AreBundleFindings, AreFindingsOfFirst, AreFindingsInBundles, AreFindings, AreFindingsFrom, AreImageFindings}
-use Rattle.sfi_policy.specs.Formats.{has_words}
+use Rattle.sfi_formats.specs.Formats.{has_words}
 use Rattle.sfi_rules.specs.declared.owed.Owed.{Owed}
 use Rattle.sfi_rules.specs.words.Rules.{owed_next}
 use Rattle.sfi_rules.specs.words.Findings as words

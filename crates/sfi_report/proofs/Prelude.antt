@@ -7,7 +7,7 @@ pub use Rattle.std.specs.Prelude.{string_bytes}
 pub use Rattle.rv_comp.specs.declared.front.Front.TheVariants.{Read}
 pub use Rattle.sfi_image.specs.Spelling.{view, format_of, Part}
 pub use Rattle.sfi_image.specs.declared.part.SandboxPart.{SandboxPart}
-pub use Rattle.sfi_policy.specs.declared.format.Format.{Format}
+pub use Rattle.sfi_formats.specs.declared.format.Format.{Format}
 pub use Rattle.sfi_rules.specs.declared.finding.Finding.{Finding}
 pub use Rattle.sfi_rules.specs.declared.rule.Rule.TheVariants.{V1}
 pub use Rattle.sfi_report.specs.Listing.{gate_line, IsUnitListing, IsSandboxListing}

@@ -6,10 +6,10 @@ use Rattle.sfi_names.specs.declared.image.Kind.{Kind}
 use Rattle.sfi_names.specs.declared.image.Kind.TheVariants.{Exports, Imports}
 use Rattle.sfi_names.specs.Tables.{Named, Table, HasTable}
 use Rattle.rv_word.specs.declared.instr.Instr.{Instr}
-use Rattle.sfi_policy.specs.declared.format.Format.{Format}
-use Rattle.sfi_policy.specs.declared.format.Format.TheVariants.{Sfi1, Sfi2, Sfiw}
+use Rattle.sfi_formats.specs.declared.format.Format.{Format}
+use Rattle.sfi_formats.specs.declared.format.Format.TheVariants.{Sfi1, Sfi2, Sfiw}
 use Rattle.sfi_text.specs.Statement.{printed}
-use Rattle.sfi_policy.specs.Formats.{unit}
+use Rattle.sfi_formats.specs.Formats.{unit}
 use Rattle.sfi_image.specs.Spelling.{Part, format_of}
 use Rattle.sfi_image.specs.declared.part.Gate.{Gate}
 use Rattle.sfi_rules.specs.Readings.{Piece, IsLongestReading}

@@ -9,8 +9,8 @@ use crate::digits::{push_eight_digits, push_two_digits, push_word};
 use crate::names::push_names;
 use rv_comp::{Front, read_front};
 use rv_word::Instr;
+use sfi_formats::Format;
 use sfi_image::{Gate, Image, SandboxPart};
-use sfi_policy::Format;
 use sfi_text::push_instr;
 use std::alloc::{AllocError, Global};
 

@@ -8,8 +8,8 @@ ghost use Rattle.sfi_report.specs.private.{Adds, IsPlace, SpellsFirst, Stands};
 
 use crate::digits::{push_eight_digits, push_halfword};
 use rv_comp::{Front, read_front};
+use sfi_formats::Format;
 use sfi_image::{Image, SandboxPart};
-use sfi_policy::Format;
 use sfi_rules::{Finding, Rule};
 use sfi_text::push_instr;
 use std::alloc::{AllocError, Global};

@@ -1,6 +1,6 @@
 //! The state of a sandbox: its pc, the instruction there, and its registers.
 ghost use Rattle.std.specs.Prelude.{◌≡◌, ◌++◌, OnOk, IfOk, string_bytes};
-ghost use Rattle.sfi_policy.specs.declared.format.Format.{Format};
+ghost use Rattle.sfi_formats.specs.declared.format.Format.{Format};
 ghost use Rattle.sfi_image.specs.Spelling.{view};
 ghost use Rattle.sfi_report.specs.State.{code_from, register_text, registers_text, state_front, IsStateText};
 ghost use Rattle.sfi_report.specs.private.{Adds, IsPlaceLine};

@@ -1,6 +1,6 @@
 -- The placement of a sandbox keeps what the type of what is placed keeps.
 use Rattle.sfi_rewrite.proofs.Prelude.{◌≡◌, ℕ, suc, ◌+◌, ◌-◌, ◌*◌, ◌/◌, ◌%◌, ◌<◌, ◌≤◌, List, [], ◌∷◌, ◌++◌, length, take, drop, get_or, replicate, refl, sym, ap, ◌∙◌, subst, arith, Some, None, Option, inl, inr, slice_get, IsTrue, ◌↔◌, Contains, Bool, false, IsPermitted, append-nil, MatchOption, All, AllZip, cases_lt, take_all, length-map, All-nil, All-cons, All-append, All-head, All-tail, All-contains_itself, slice_get-get_or, Ecall, Format, code_most, Item, Plain, Named, Gate, Code, Data, Unknown, Sandbox, IsSandbox, IsThere, IsBody, named, Slot, PlacedName, size_of, slots_of, c_nop, next_bundle, AreLaid, AreLaidFrom, IsLabelAt, Placement, IsPlacedName, HasEndLabel, FillsEnd, AreBundles, IsPlacedThere, IsPlacedGate, IsPlacedPart, HaveBodies, HasEnd, IsRewritten, SourceGate, Sfi1, Sfi2, Sfiw, AreLaidIn, FillsEndIn, drop-cons, AreFaultless, true}
-use Rattle.sfi_policy.specs.Formats.{unit, has_words}
+use Rattle.sfi_formats.specs.Formats.{unit, has_words}
 use Rattle.sfi_rewrite.specs.Placed.{AreWholeIn}
 use Rattle.sfi_rewrite.specs.words.Expansion as words
 use Rattle.sfi_rewrite.proofs.WordLaid.{first_fits, all_first, laid_aligned, all_fit, laid_of}

@@ -8,9 +8,9 @@ use Rattle.rv_word.specs.declared.instr.Instr.{Instr}
 use Rattle.rv_word.specs.declared.instr.Instr.TheVariants.{Op, OpImm, Load, Store, Branch, Jal, Jalr, Lui, Auipc, Fence, Ecall, Ebreak}
 use Rattle.sfi_source.specs.declared.item.Body.{Body}
 use Rattle.sfi_source.specs.declared.item.Body.TheVariants.{Plain, To, High, Low, Base}
-use Rattle.sfi_policy.specs.declared.format.Format.{Format}
-use Rattle.sfi_policy.specs.Formats.{has_words, has_stack, is_stack, is_reserved, code_register, offset_register, stack_pointer, scratch}
-use Rattle.sfi_policy.specs.Formats as policy
+use Rattle.sfi_formats.specs.declared.format.Format.{Format}
+use Rattle.sfi_formats.specs.Formats.{has_words, has_stack, is_stack, is_reserved, code_register, offset_register, stack_pointer, scratch}
+use Rattle.sfi_formats.specs.Formats as policy
 use Rattle.rv_word.specs.Outlines.{writes_register}
 use Rattle.sfi_pairs.specs.Pairs.{data_pair, code_pair}
 use Rattle.rv_word.specs.declared.instr.ImmOp.TheVariants.{Addi}

@@ -3,9 +3,9 @@ use Rattle.std.specs.Prelude.{◌≡◌, ◌⊎◌, ℕ, List, [], ◌∷◌}
 use Rattle.rv_word.specs.declared.instr.RegOp.TheVariants.{Add}
 use Rattle.rv_word.specs.declared.instr.Instr.{Instr}
 use Rattle.rv_step.specs.Step.{result_of}
-use Rattle.sfi_policy.specs.Formats.{stack_pointer}
-use Rattle.sfi_policy.specs.declared.format.Format.{Format}
-use Rattle.sfi_policy.specs.declared.format.Format.TheVariants.{Sfi2, Sfiw}
+use Rattle.sfi_formats.specs.Formats.{stack_pointer}
+use Rattle.sfi_formats.specs.declared.format.Format.{Format}
+use Rattle.sfi_formats.specs.declared.format.Format.TheVariants.{Sfi2, Sfiw}
 use Rattle.sfi_image.specs.declared.span.Span.{Span}
 use Rattle.sfi_image.specs.Spelling.{Holds}
 use Rattle.sfi_source.specs.declared.item.Item.{Item}

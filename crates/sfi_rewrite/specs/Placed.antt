@@ -3,9 +3,9 @@ use Rattle.std.specs.Prelude.{◌≡◌, ◌%◌, ◌≤◌, ◌<◌, ◌++◌, 
 use Rattle.std.specs.List.{All}
 use Rattle.rv_word.specs.Spelling.{InRange, IsReg}
 use Rattle.rv_comp.specs.Table.{allowed}
-use Rattle.sfi_policy.specs.declared.format.Format.{Format}
-use Rattle.sfi_policy.specs.declared.format.Format.TheVariants.{Sfi1, Sfiw}
-use Rattle.sfi_policy.specs.Formats.{code_most, has_words, unit}
+use Rattle.sfi_formats.specs.declared.format.Format.{Format}
+use Rattle.sfi_formats.specs.declared.format.Format.TheVariants.{Sfi1, Sfiw}
+use Rattle.sfi_formats.specs.Formats.{code_most, has_words, unit}
 use Rattle.sfi_source.specs.declared.item.Item.{Item}
 use Rattle.sfi_source.specs.declared.item.SourceGate.{SourceGate}
 use Rattle.sfi_source.specs.Source.{IsDataSize, IsBody}
@@ -16,7 +16,7 @@ use Rattle.sfi_rewrite.specs.declared.placed.PlacedName.TheVariants as placed
 use Rattle.sfi_rewrite.specs.Expansion.{IsExpansion, size_of, slots_of, c_nop}
 use Rattle.sfi_rewrite.specs.Rewriting.{IsPermitted}
 use Rattle.sfi_rewrite.specs.words.Expansion as words
-use Rattle.sfi_policy.specs.Limits.{gates_most, service_most}
+use Rattle.sfi_formats.specs.Limits.{gates_most, service_most}
 use Rattle.sfi_rewrite.specs.Placement.{Placement, AreBundles}
 
 -- ---- slots

@@ -1,9 +1,9 @@
 -- Where each expansion stands: the placement of a sandbox.
 use Rattle.std.specs.Prelude.{◌≡◌, ◌+◌, ◌-◌, ◌*◌, ◌/◌, ◌%◌, ◌≤◌, ◌++◌, IsTrue, ℕ, List, [], ◌∷◌, Bool, replicate, ◌<◌, true, false, length, take, drop, Contains, MatchBool}
-use Rattle.sfi_policy.specs.declared.format.Format.{Format}
+use Rattle.sfi_formats.specs.declared.format.Format.{Format}
 use Rattle.sfi_source.specs.declared.item.Item.{Item}
 use Rattle.sfi_rewrite.specs.declared.slot.Slot.{Slot}
-use Rattle.sfi_policy.specs.Limits.{bundle_size}
+use Rattle.sfi_formats.specs.Limits.{bundle_size}
 use Rattle.sfi_rewrite.specs.Expansion.{size_of, c_nop, slots_of, IsExpansion, is_call}
 use Rattle.std.specs.List.{AllZip}
 use Rattle.sfi_source.specs.declared.item.Named.{Named}
@@ -13,7 +13,7 @@ use Rattle.sfi_source.specs.Source.{Sandbox, named}
 use Rattle.sfi_rewrite.specs.declared.placed.PlacedName.{PlacedName}
 use Rattle.sfi_rewrite.specs.declared.placed.PlacedName.TheVariants as placed
 use Rattle.sfi_rewrite.specs.words.Expansion as words
-use Rattle.sfi_policy.specs.Formats.{has_words}
+use Rattle.sfi_formats.specs.Formats.{has_words}
 
 -- ==== Where each expansion stands. A place is a number of bytes from the end of the gates' stubs.
 

@@ -1,8 +1,8 @@
 -- What `rewrite` answers, and the faults of a source.
 use Rattle.std.specs.Prelude.{◌≡◌, ◌+◌, ◌<◌, ◌≤◌, ◌&&◌, ℕ, List, Bool, true, false, take, drop, slice_get, Some, length, ◌⊎◌, Result, Ok, Err}
 use Rattle.std.specs.List.{All, AllZip}
-use Rattle.sfi_policy.specs.declared.format.Format.{Format}
-use Rattle.sfi_policy.specs.Formats.{code_most, has_words}
+use Rattle.sfi_formats.specs.declared.format.Format.{Format}
+use Rattle.sfi_formats.specs.Formats.{code_most, has_words}
 use Rattle.sfi_source.specs.declared.item.Body.{Body}
 use Rattle.sfi_source.specs.declared.item.Item.{Item}
 use Rattle.sfi_rewrite.specs.declared.slot.Slot.{Slot}

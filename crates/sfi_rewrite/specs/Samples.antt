@@ -6,12 +6,12 @@ use Rattle.rv_word.specs.declared.instr.LoadKind.TheVariants.{Lw}
 use Rattle.rv_word.specs.declared.instr.Instr.{Instr}
 use Rattle.rv_word.specs.declared.instr.Instr.TheVariants.{Load, Jalr, OpImm, Lui}
 use Rattle.rv_word.specs.Spelling.{minus}
-use Rattle.sfi_policy.specs.Limits.{bundle_size}
-use Rattle.sfi_policy.specs.declared.format.Format.{Format}
+use Rattle.sfi_formats.specs.Limits.{bundle_size}
+use Rattle.sfi_formats.specs.declared.format.Format.{Format}
 use Rattle.rv_step.specs.declared.outcome.Outcome.TheVariants.{Next}
 use Rattle.rv_step.specs.State.{State, register}
 use Rattle.rv_step.specs.Step.{Stepped}
-use Rattle.sfi_policy.specs.Formats.{stack_pointer}
+use Rattle.sfi_formats.specs.Formats.{stack_pointer}
 use Rattle.sfi_image.specs.declared.span.Span.{Span}
 use Rattle.sfi_image.specs.Spelling.{Holds}
 use Rattle.sfi_rewrite.specs.declared.slot.Slot.{Slot}

@@ -7,8 +7,8 @@ use Rattle.rv_word.specs.declared.instr.ImmOp.TheVariants.{Addi}
 use Rattle.rv_word.specs.declared.instr.RegOp.TheVariants.{Add}
 use Rattle.rv_word.specs.declared.instr.Instr.TheVariants.{Op, OpImm, Load, Store, Branch, Jal, Jalr, Lui}
 use Rattle.rv_comp.specs.Table.{expansion}
-use Rattle.sfi_policy.specs.Limits.{bundle_size}
-use Rattle.sfi_policy.specs.declared.format.Format.{Format}
+use Rattle.sfi_formats.specs.Limits.{bundle_size}
+use Rattle.sfi_formats.specs.declared.format.Format.{Format}
 use Rattle.rv_mem.specs.Bytes.{address_after}
 use Rattle.rv_step.specs.declared.outcome.Outcome.TheVariants.{Next}
 use Rattle.rv_step.specs.State.{Hart, State, IsState, register, with_register, with_pc}
@@ -16,7 +16,7 @@ use Rattle.rv_step.specs.Step.{Stepped, Stands, effect, IsStep, further, LeadTo}
 use Rattle.sfi_source.specs.declared.item.Body.{Body}
 use Rattle.sfi_source.specs.declared.item.Body.TheVariants.{Plain, To, High, Low, Base}
 use Rattle.sfi_source.specs.declared.item.Item.{Item}
-use Rattle.sfi_policy.specs.Formats.{code_base_register, code_mask_register, data_base_register, data_mask_register, scratch, stack_pointer}
+use Rattle.sfi_formats.specs.Formats.{code_base_register, code_mask_register, data_base_register, data_mask_register, scratch, stack_pointer}
 use Rattle.sfi_image.specs.declared.span.Span.{Span}
 use Rattle.sfi_image.specs.Spelling.{Holds}
 use Rattle.sfi_image.specs.Parts.{IsCodeRegion, IsDataRegion, IsBundleStart, reserved_for}

@@ -1,10 +1,10 @@
 -- Words that private contracts and proofs alone cite: no public statement rests on them.
 use Rattle.std.specs.Prelude.{◌≡◌, ◌+◌, ◌*◌, ◌<◌, ◌≤◌, ◌++◌, ℕ, Bool, List, length, replicate, slice_index, ◌%◌, [], ◌∷◌, true, false, Option, Some, None, take, drop}
 use Rattle.std.specs.List.{All}
-use Rattle.sfi_policy.specs.Limits.{bundle_size}
-use Rattle.sfi_policy.specs.declared.format.Format.{Format}
-use Rattle.sfi_policy.specs.declared.format.Format.TheVariants.{Sfi2, Sfiw}
-use Rattle.sfi_policy.specs.Formats.{code_most, has_words}
+use Rattle.sfi_formats.specs.Limits.{bundle_size}
+use Rattle.sfi_formats.specs.declared.format.Format.{Format}
+use Rattle.sfi_formats.specs.declared.format.Format.TheVariants.{Sfi2, Sfiw}
+use Rattle.sfi_formats.specs.Formats.{code_most, has_words}
 use Rattle.sfi_source.specs.declared.item.Item.{Item}
 use Rattle.sfi_source.specs.declared.item.Named.{Named}
 use Rattle.sfi_source.specs.declared.item.Named.TheVariants.{Gate, Code, Data, Unknown}

@@ -1,11 +1,11 @@
 //! Bundles.
 ghost use Rattle.std.specs.Prelude.{◌≡◌, ◌+◌, ◌++◌, ◌≤◌};
-ghost use Rattle.sfi_policy.specs.Limits.{bundle_size};
+ghost use Rattle.sfi_formats.specs.Limits.{bundle_size};
 ghost use Rattle.sfi_rewrite.specs.Expansion.{size_of};
 
 use crate::slot::{Slot, size_of};
 use arrayvec::ArrayVec;
-use sfi_policy::BUNDLE_BYTES;
+use sfi_formats::BUNDLE_BYTES;
 use std::marker::Model;
 
 /// The most slots of a bundle: as many as it has 16-bit forms.

@@ -8,8 +8,8 @@ use crate::slot::Slot;
 use arrayvec::ArrayVec;
 use rv_comp::form_of;
 use rv_word::{ImmOp, Instr, Reg};
+use sfi_formats::{Format, SCRATCH, STACK_POINTER};
 use sfi_pairs::{code_pair, data_pair};
-use sfi_policy::{Format, SCRATCH, STACK_POINTER};
 use sfi_source::{Body, Item};
 use std::marker::Model;
 

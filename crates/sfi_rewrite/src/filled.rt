@@ -1,13 +1,13 @@
 //! Bundles that are filled one after another.
 ghost use Rattle.std.specs.Prelude.{◌≡◌, ◌%◌, ◌+◌, ◌*◌, ◌<◌, ◌≤◌, ◌++◌, [], IfOk, length, replicate};
-ghost use Rattle.sfi_policy.specs.Limits.{bundle_size};
+ghost use Rattle.sfi_formats.specs.Limits.{bundle_size};
 ghost use Rattle.sfi_rewrite.specs.Expansion.{size_of, slots_of, c_nop};
 ghost use Rattle.sfi_rewrite.specs.private.{largest};
 ghost use Rattle.sfi_rewrite.specs.Placement.{AreBundles};
 
 use crate::bundle::Bundle;
 use crate::slot::Slot;
-use sfi_policy::BUNDLE_BYTES;
+use sfi_formats::BUNDLE_BYTES;
 use std::alloc::{AllocError, Global};
 use std::marker::Model;
 

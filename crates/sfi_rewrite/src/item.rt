@@ -8,8 +8,8 @@ ghost use Rattle.sfi_rewrite.specs.Rewriting.{is_barred_jump, IsPermitted, HasIt
 use crate::fault::RewriteFault;
 use crate::words::ADDRESS_REGISTER;
 use rv_word::{Instr, Reg};
+use sfi_formats::{CODE_REGISTER, Format, OFFSET_REGISTER};
 use sfi_pairs::{is_data_register, is_reserved};
-use sfi_policy::{CODE_REGISTER, Format, OFFSET_REGISTER};
 use sfi_source::{Body, Item};
 
 /// Whether a source of the format may not name the register.

@@ -1,6 +1,6 @@
 //! The items of a sandbox, laid one after another.
 ghost use Rattle.std.specs.Prelude.{◌≡◌, ◌<◌, ◌≤◌, ◌+◌, ◌*◌, ℕ, false, IfOk, IfErr, length, slice_index};
-ghost use Rattle.sfi_policy.specs.Formats.{code_most};
+ghost use Rattle.sfi_formats.specs.Formats.{code_most};
 ghost use Rattle.sfi_source.specs.Source.{IsBody};
 ghost use Rattle.sfi_rewrite.specs.Expansion.{size_of};
 ghost use Rattle.sfi_rewrite.specs.private.{HasNext, IsTooLarge, HaveBodies, AreLabels};
@@ -12,7 +12,7 @@ use crate::filled::Filling;
 use crate::item::{is_call, permit};
 use crate::place::{next_bundle, nops_before};
 use crate::slot::size_of;
-use sfi_policy::Format;
+use sfi_formats::Format;
 use sfi_source::Item;
 use std::alloc::Global;
 

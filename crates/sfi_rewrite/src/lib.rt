@@ -25,6 +25,6 @@ pub use bundle::Bundle;
 pub use fault::RewriteFault;
 pub use parts::rewrite;
 pub use placed::{Placed, PlacedName, PlacedPart};
-pub use sfi_policy::Format;
+pub use sfi_formats::Format;
 pub use sfi_source::{Source, SourceGate};
 pub use slot::Slot;

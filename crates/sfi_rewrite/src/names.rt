@@ -3,7 +3,7 @@ ghost use Rattle.std.specs.Prelude.{◌≡◌, ◌<◌, ◌↔◌, IfOk, IsTrue,
 ghost use Rattle.std.specs.List.{AllZip};
 ghost use Rattle.sfi_source.specs.Source.{named, IsSandbox};
 ghost use Rattle.sfi_rewrite.specs.Placement.{IsPlacedName, HasEndLabel};
-ghost use Rattle.sfi_policy.specs.Formats.{has_words};
+ghost use Rattle.sfi_formats.specs.Formats.{has_words};
 ghost use Rattle.sfi_rewrite.specs.private.{AreLabels, HasLabel, placed_of};
 
 use crate::placed::PlacedName;

@@ -5,7 +5,7 @@ ghost use Rattle.sfi_source.specs.Source.{IsSandbox, IsSource};
 ghost use Rattle.sfi_rewrite.specs.Expansion.{size_of};
 ghost use Rattle.sfi_rewrite.specs.Placement.{Placement};
 ghost use Rattle.sfi_rewrite.specs.Placed.{IsPlacedPart};
-ghost use Rattle.sfi_policy.specs.Formats.{has_words};
+ghost use Rattle.sfi_formats.specs.Formats.{has_words};
 ghost use Rattle.sfi_rewrite.specs.private.{AreLabels, HasEnd, HaveBodies, largest};
 ghost use Rattle.sfi_rewrite.specs.declared.fault.RewriteFault.{RewriteFault};
 ghost use Rattle.sfi_rewrite.specs.Rewriting.{AreFaultless, UnlessMemory, IsItemFault};
@@ -20,7 +20,7 @@ use crate::names::{has_end_label, place_names};
 use crate::place::nops_at_end;
 use crate::placed::{Placed, PlacedPart};
 use crate::words::lay_in_words;
-use sfi_policy::Format;
+use sfi_formats::Format;
 use sfi_source::{Item, Source, SourcePart};
 use std::alloc::{AllocError, Global};
 

@@ -1,10 +1,10 @@
 //! Where an expansion stands.
 ghost use Rattle.std.specs.Prelude.{◌≡◌, ◌%◌, ◌+◌, ◌*◌, ◌<◌, ◌≤◌, IsTrue};
-ghost use Rattle.sfi_policy.specs.Limits.{bundle_size};
+ghost use Rattle.sfi_formats.specs.Limits.{bundle_size};
 ghost use Rattle.sfi_rewrite.specs.private.{largest};
 ghost use Rattle.sfi_rewrite.specs.Placement.{next_bundle, FillsGap};
 
-use sfi_policy::BUNDLE_BYTES;
+use sfi_formats::BUNDLE_BYTES;
 
 /// The first bundle start not before a place of the code.
 pub(crate) fn next_bundle(end: usize) -> u32

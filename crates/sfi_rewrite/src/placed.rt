@@ -3,7 +3,7 @@ ghost use Rattle.std.specs.Prelude.{◌≡◌};
 ghost use Rattle.sfi_rewrite.specs.Placed.{format_of, IsPlaced};
 
 use crate::bundle::Bundle;
-use sfi_policy::Format;
+use sfi_formats::Format;
 use sfi_source::SourceGate;
 use std::marker::Model;
 
@@ -93,7 +93,7 @@ impl PlacedPart {
     }
 
     /// How many bytes the data region has, a power of two from `REGION_LEAST` to `DATA_MOST` of
-    /// `sfi_policy`.
+    /// `sfi_formats`.
     pub fn data_size(&self) -> u32
         ensures { result ≡ self.now.data_size }
     {

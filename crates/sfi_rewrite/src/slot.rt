@@ -1,6 +1,6 @@
 //! What stands in a bundle.
 ghost use Rattle.std.specs.Prelude.{◌≡◌, ◌≤◌, length};
-ghost use Rattle.sfi_policy.specs.Limits.{bundle_size};
+ghost use Rattle.sfi_formats.specs.Limits.{bundle_size};
 ghost use Rattle.sfi_rewrite.specs.Expansion.{slot_size, size_of, c_nop};
 
 use rv_comp::Form16;

@@ -3,7 +3,7 @@ use Rattle.sfi_rules.proofs.Prelude.{◌≡◌, ℕ, Bool, true, false, ◌&&◌
 use Rattle.std.proofs.lemmas.Bool.{false≢true}
 use Rattle.rv_word.specs.declared.instr.Instr.TheVariants.{Op}
 use Rattle.rv_word.specs.declared.instr.RegOp.TheVariants.{And}
-use Rattle.sfi_policy.specs.Formats.{code_base_register, code_register}
+use Rattle.sfi_formats.specs.Formats.{code_base_register, code_register}
 use Rattle.sfi_pairs.specs.Pairs.{is_placing}
 use Rattle.sfi_rules.specs.declared.owed.Owed.TheVariants.{Nothing, Mask, Place, MaskOrUse, Code}
 use Rattle.sfi_rules.specs.words.Rules.{is_and, masks, places, uses, owed_by, or_nothing, joined, owed_next}

@@ -1,6 +1,6 @@
 -- What holds of readings, rules and findings: the laws, for proofs here and in the crates above.
 use Rattle.sfi_rules.proofs.Prelude.{[], refl, ◌+◌, ◌%◌, ◌==◌, ◌&&◌, nat_le, nat_lt, and_parts, and_from, leb-true, ltb-true, eqb-true, le-leb, lt-ltb, eq-eqb}
-use Rattle.sfi_policy.specs.Limits.{bundle_size}
+use Rattle.sfi_formats.specs.Limits.{bundle_size}
 use Rattle.sfi_rules.specs.Laws.{SameBundleStarts, OneLongestReading, OneBundleList, OneList, OneImageList, FirstFormatHasNoStack, FirstFormatFindsNoV10, CleanBreaksStackAlone, OwedIsOfTwo}
 use Rattle.sfi_rules.proofs.AfterTwo.{of_two}
 pub use Rattle.sfi_rules.proofs.AfterTwo.{and_is}

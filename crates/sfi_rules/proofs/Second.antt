@@ -1,7 +1,7 @@
 -- Where no rule is broken, the second format's findings are V10 alone.
 use Rattle.sfi_rules.proofs.Prelude.{◌≡◌, ℕ, pos, negsuc, zero, suc, ◌+◌, ◌-◌, List, [], ◌∷◌, ◌++◌, length, Bool, true, false, not, ◌&&◌, ◌||◌, refl, sym, ◌∙◌, subst, inl, inr, arith, All, Instr, Load, Store, Branch, Jal, Jalr, Ecall, has_stack, Part, Rule, BundlePlace, Finding, bundle_place, bundle_bytes, Piece, rest_of, follows_data_pair, Place, breaks, breaks_ecall, breaks_access, breaks_jump, breaks_target, is_empty, lowest, all_rules, findings_from, rest_finding, AreReadingFindings, AreBundleFindings, AreFindingsOfFirst, AreFindingsInBundles, AreFindings, AreFindingsFrom, has_words, Format}
 use Rattle.sfi_image.specs.Spelling.{in_format, all_in_format}
-use Rattle.sfi_policy.specs.declared.format.Format.TheVariants.{Sfi1, Sfi2, Sfiw}
+use Rattle.sfi_formats.specs.declared.format.Format.TheVariants.{Sfi1, Sfi2, Sfiw}
 use Rattle.sfi_rules.specs.declared.rule.Rule.TheVariants.{V3, V4, V5, V6, V7, V8, V10}
 use Rattle.std.proofs.lemmas.List.Elements.{All-append, All-nil, All-head, All-tail}
 use Rattle.sfi_rules.proofs.InBundles.{in_bundles}

@@ -1,13 +1,13 @@
 -- The findings of a bundle, of a sandbox's part and of an image, in order.
 use Rattle.std.specs.Prelude.{◌≡◌, ◌≢◌, ◌+◌, ◌-◌, ◌*◌, ◌⊎◌, ℕ, zero, suc, List, [], ◌∷◌, ◌++◌, Bool, true, cond, length, MatchBool}
 use Rattle.rv_word.specs.declared.instr.Instr.{Instr}
-use Rattle.sfi_policy.specs.Formats.{has_words}
+use Rattle.sfi_formats.specs.Formats.{has_words}
 use Rattle.sfi_image.specs.Spelling.{Part}
 use Rattle.sfi_rules.specs.declared.rule.Rule.{Rule}
 use Rattle.sfi_rules.specs.declared.rule.Rule.TheVariants.{V9}
 use Rattle.sfi_rules.specs.declared.finding.Finding.{Finding}
 use Rattle.sfi_image.specs.declared.bundle.BundlePlace.{BundlePlace}
-use Rattle.sfi_policy.specs.Limits.{bundle_size}
+use Rattle.sfi_formats.specs.Limits.{bundle_size}
 use Rattle.sfi_pairs.specs.Pairs.{stub}
 use Rattle.sfi_rules.specs.Readings.{bundle_place, bundle_bytes, Piece, IsLongestReading, rest_of}
 use Rattle.sfi_rules.specs.Rules.{Place, breaks, is_empty}

@@ -2,8 +2,8 @@
 use Rattle.std.specs.Prelude.{◌≡◌, ◌≢◌, ◌↔◌, ℕ, List, [], IsTrue, false, Option, Some, if◌then◌else◌}
 use Rattle.std.specs.List.{All}
 use Rattle.rv_word.specs.declared.instr.Instr.{Instr}
-use Rattle.sfi_policy.specs.declared.format.Format.TheVariants.{Sfi1, Sfi2}
-use Rattle.sfi_policy.specs.Formats.{has_words}
+use Rattle.sfi_formats.specs.declared.format.Format.TheVariants.{Sfi1, Sfi2}
+use Rattle.sfi_formats.specs.Formats.{has_words}
 use Rattle.sfi_image.specs.Spelling.{Part, all_in_format}
 use Rattle.sfi_image.specs.Parts.{IsBundleStart}
 use Rattle.sfi_image.specs.declared.bundle.BundlePlace.{BundlePlace}

@@ -1,12 +1,12 @@
 -- What a bundle is read as, and what stands before a place of it.
 use Rattle.std.specs.Prelude.{ℕ, ◌+◌, ◌*◌, ◌^◌, ◌≤◌, List, length, take, drop, false, [], ◌∷◌, ◌==◌, ◌&&◌, not, Bool, true}
-use Rattle.sfi_policy.specs.Limits.{bundle_size}
+use Rattle.sfi_formats.specs.Limits.{bundle_size}
 use Rattle.sfi_image.specs.Spelling.{Part}
 use Rattle.sfi_image.specs.Parts.{is_gate_of}
 use Rattle.sfi_image.specs.declared.bundle.BundlePlace.{BundlePlace}
 use Rattle.rv_word.specs.declared.instr.Instr.{Instr}
 use Rattle.rv_comp.specs.Fronts.{Spells}
-use Rattle.sfi_policy.specs.Formats.{code_base_register, code_mask_register, data_base_register, data_mask_register, is_reserved, stack_pointer, has_stack}
+use Rattle.sfi_formats.specs.Formats.{code_base_register, code_mask_register, data_base_register, data_mask_register, is_reserved, stack_pointer, has_stack}
 use Rattle.sfi_pairs.specs.Pairs.{is_pair}
 use Rattle.rv_word.specs.declared.instr.Instr.TheVariants.{Jal, Jalr}
 use Rattle.rv_word.specs.Outlines.{writes_register}

@@ -4,11 +4,11 @@ use Rattle.rv_word.specs.declared.instr.Instr.{Instr}
 use Rattle.rv_word.specs.declared.instr.Instr.TheVariants.{Load, Store, Branch, Jal, Jalr, Ecall, Ebreak}
 use Rattle.rv_word.specs.Spelling.{offset_by, length_of}
 use Rattle.rv_word.specs.Outlines.{destination}
-use Rattle.sfi_policy.specs.Formats.{is_stack, is_reserved}
+use Rattle.sfi_formats.specs.Formats.{is_stack, is_reserved}
 use Rattle.sfi_rules.specs.declared.rule.Rule.{Rule}
 use Rattle.sfi_rules.specs.declared.rule.Rule.TheVariants.{V1, V2, V3, V4, V5, V6, V7, V8, V9, V10, V11, V12}
 use Rattle.sfi_image.specs.declared.bundle.BundlePlace.{BundlePlace}
-use Rattle.sfi_policy.specs.Limits.{bundle_size}
+use Rattle.sfi_formats.specs.Limits.{bundle_size}
 use Rattle.sfi_rules.specs.Readings.{follows_data_pair, follows_code_pair, Piece, writes_stack, begins_pair, ends_pair, precedes_pair, is_jump}
 use Rattle.std.specs.Int.{w16, from_le_bytes}
 use Rattle.rv_word.specs.declared.length.Length.{Length}

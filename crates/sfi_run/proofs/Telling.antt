@@ -3,7 +3,7 @@ use Rattle.std.proofs.Common.{◌≡◌, ◌<◌, ◌≤◌, inl, inr, ℕ, List
 use Rattle.std.proofs.lemmas.Option.{same_Some}
 use Rattle.std.specs.Option.{option_map}
 use Rattle.rv_step.specs.State.{Hart}
-use Rattle.sfi_policy.specs.Limits.{gates_most, service_most}
+use Rattle.sfi_formats.specs.Limits.{gates_most, service_most}
 use Rattle.sfi_host.specs.declared.guest.Request.{Request}
 use Rattle.sfi_host.specs.declared.status.Status.{Status}
 use Rattle.sfi_host.specs.Slots.{hart_at, Slot}

@@ -6,13 +6,13 @@ use Rattle.rv_comp.specs.declared.front.Front.TheVariants.{Read}
 use Rattle.rv_step.proofs.Facts.{one_instruction, stopped_stays, some_step, agreeing_stands_too, agreeing_steps_are_same}
 use Rattle.sfi_image.specs.declared.span.Span.{Span}
 use Rattle.sfi_image.proofs.Facts.{code_ends}
-use Rattle.sfi_runs.specs.Safety.{KeepsAll, IsTrap, IsSafeTurn}
-use Rattle.sfi_runs.specs.Runs.{KeepsReserved}
-use Rattle.sfi_runs.specs.Direct.{IsDirect, IsInBoard, HasEcall, HasCodeButBoards, KeepsButBoards, IsDirectEntry, IsDirectReply, IsDirectChange, IsDirectTurn, IsDirectRun, IsDirectState, IsDirectSafeRun, RunsDirectly, IsCalling, CallsTypedDirectly}
-use Rattle.sfi_runs.proofs.Entering.{bytes_over, there, elsewhere}
-use Rattle.sfi_runs.proofs.Standing.{stands_there}
-use Rattle.sfi_runs.proofs.Stepping.{guarded}
-use Rattle.sfi_words.proofs.Places.{bundles_whole}
+use Rattle.sfi_safe_runs.specs.Safety.{KeepsAll, IsTrap, IsSafeTurn}
+use Rattle.sfi_safe_runs.specs.Runs.{KeepsReserved}
+use Rattle.sfi_safe_runs.specs.Direct.{IsDirect, IsInBoard, HasEcall, HasCodeButBoards, KeepsButBoards, IsDirectEntry, IsDirectReply, IsDirectChange, IsDirectTurn, IsDirectRun, IsDirectState, IsDirectSafeRun, RunsDirectly, IsCalling, CallsTypedDirectly}
+use Rattle.sfi_safe_runs.proofs.Entering.{bytes_over, there, elsewhere}
+use Rattle.sfi_safe_runs.proofs.Standing.{stands_there}
+use Rattle.sfi_safe_runs.proofs.Stepping.{guarded}
+use Rattle.sfi_word_safety.proofs.Places.{bundles_whole}
 
 -- ---- units of code
 

@@ -1,15 +1,15 @@
 -- Code in words that breaks no rule runs safely with direct gates.
 use Rattle.sfi_safety.proofs.Prelude.{◌≡◌, ℕ, ◌+◌, ◌%◌, ◌≤◌, ◌⊎◌, sym, ap, ◌∙◌, subst, inl, inr, ⊎_elim, arith, List, length, drop, Instr, Outcome, Next, address_after, State, Stepped, Stands, IsStep, unit, Part, IsUnitStart, IsTyped, KeepsBytes, Ecall}
-use Rattle.sfi_runs.specs.Direct.{RunsDirectly, CallsTypedDirectly}
-use Rattle.sfi_runs.specs.Runs.{KeepsReserved}
-use Rattle.sfi_runs.proofs.Turning.{kept_after}
-use Rattle.sfi_runs.proofs.Formats.{words, to_word, of_word}
-use Rattle.sfi_words.specs.Code.{IsCleanInWords, IsGoodInWords}
-use Rattle.sfi_words.proofs.Effects.{Leads}
-use Rattle.sfi_words.proofs.Facts.{turn_keeps}
-use Rattle.sfi_words.proofs.Places.{at_start, base_aligned, sized}
-use Rattle.sfi_words.proofs.Stepping.{only, step_leads}
-use Rattle.sfi_words.proofs.Turns.{place_replied, good_calls}
+use Rattle.sfi_safe_runs.specs.Direct.{RunsDirectly, CallsTypedDirectly}
+use Rattle.sfi_safe_runs.specs.Runs.{KeepsReserved}
+use Rattle.sfi_safe_runs.proofs.Turning.{kept_after}
+use Rattle.sfi_safe_runs.proofs.Formats.{words, to_word, of_word}
+use Rattle.sfi_word_safety.specs.Code.{IsCleanInWords, IsGoodInWords}
+use Rattle.sfi_word_safety.proofs.Effects.{Leads}
+use Rattle.sfi_word_safety.proofs.Facts.{turn_keeps}
+use Rattle.sfi_word_safety.proofs.Places.{at_start, base_aligned, sized}
+use Rattle.sfi_word_safety.proofs.Stepping.{only, step_leads}
+use Rattle.sfi_word_safety.proofs.Turns.{place_replied, good_calls}
 use Rattle.sfi_safety.proofs.Direct.{runs_and_calls}
 
 module _ (p : Part) (clean : IsCleanInWords p) (s : State) (i : Instr) (n : ℕ) (good : IsGoodInWords p s) (stands : Stands s i n) where

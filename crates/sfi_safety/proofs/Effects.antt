@@ -4,7 +4,7 @@ use Rattle.rv_word.specs.Outlines.{destination, is_register}
 use Rattle.rv_word.specs.declared.instr.LoadKind.{LoadKind}
 use Rattle.sfi_rules.specs.Readings.{follows_data_pair, follows_code_pair}
 use Rattle.rv_step.specs.declared.outcome.Cause.TheVariants as cause
-use Rattle.sfi_runs.proofs.Accessing.{near_access, imm12_within, load_sized, store_sized, load_range, store_range, kept, count_kept, reserved_kept}
+use Rattle.sfi_safe_runs.proofs.Accessing.{near_access, imm12_within, load_sized, store_sized, load_range, store_range, kept, count_kept, reserved_kept}
 use Rattle.sfi_safety.proofs.Stacking.{is_of_pair, stack_here, stack_after, jump_keeps}
 use Rattle.sfi_safety.proofs.PairResult.{leaves_after}
 

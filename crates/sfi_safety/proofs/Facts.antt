@@ -1,7 +1,7 @@
 -- What holds of every sandbox without a finding, and that each rule is needed: the laws, for proofs here and in the crates above.
 use Rattle.std.specs.Prelude.{◌≡◌, false}
-use Rattle.sfi_policy.specs.declared.format.Format.{Format}
-use Rattle.sfi_policy.specs.Formats.{has_words}
+use Rattle.sfi_formats.specs.declared.format.Format.{Format}
+use Rattle.sfi_formats.specs.Formats.{has_words}
 use Rattle.sfi_rules.specs.declared.rule.Rule.TheVariants.{V1, V2, V3, V4, V5, V6, V7, V8, V9, V10, V11, V12}
 use Rattle.sfi_safety.specs.Laws.{InstructionLeaves, TurnKeeps, EntryIsGood, CleanRunsSafely, CleanCallsTyped, CleanRunsContained, CleanPaddedCallsTyped, CleanRunsDirectly, CleanDirectCallsTyped}
 use Rattle.sfi_safety.specs.Needed.{IsNeeded, EachRuleIsNeeded, EachRuleOfWordsIsNeeded, IsStricter, IsAcceptedAndRuns}

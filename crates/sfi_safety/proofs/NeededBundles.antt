@@ -1,6 +1,6 @@
 -- That the rules on what is read, on the region's end and on gates are needed.
 use Rattle.sfi_safety.proofs.Prelude.{◌≡◌, ◌≢◌, ℕ, zero, suc, ◌+◌, ◌*◌, ◌<◌, ◌≤◌, ◌==◌, ◌||◌, List, [], ◌∷◌, length, take, drop, Some, false, refl, sym, ap, ◌∙◌, subst, inl, inr, arith, get_or-take, pos, slice_index, All, ints, Instr, And, Or, Sw, Op, Store, Jalr, Ecall, Ebreak, spelling, InRange, Spells, Bytes, Stands, unchanged, Call, is_gate_of, IsBundleStart, AreGateWords, bundle_place, bundle_bytes, HasCode, Steps, Replies, IsReply, IsEntry, IsNeeded, HasUnsafeRun, Hart, Finding, Format, has_words, CAddi, Sample, sandbox, nop, undecodable, crossing_store, running_off_the_end, gate_comes_back_elsewhere, V1, V2, V8, V9}
-use Rattle.sfi_policy.specs.Limits.{service_most}
+use Rattle.sfi_formats.specs.Limits.{service_most}
 use Rattle.sfi_pairs.specs.Pairs.{stub}
 use Rattle.sfi_safety.proofs.Readings.{read_in_both, BrokenIn, IsSpelled, BeginsNothing, op_spelled, nothing_begins, ebreak_spelled, four, read_bundle, four_longest, wide, all_findings, quiet, none_listed, ecall_spelled, jalr_past}
 use Rattle.sfi_safety.proofs.Samples.{IsSample, without_gates, hart, is_hart, first, bytes_there, stands, then_turn, step_at, then_step, reaches, has_left, past_end, needed, of_both, breaks_alone}

@@ -16,9 +16,9 @@ pub use Rattle.rv_mem.specs.Bytes.{address_after, addresses, Bytes, bytes_at, lo
 pub use Rattle.rv_step.specs.Step.{Accesses, Stands, effect, after_load, next, unchanged, Stepped, IsStep, load_size, store_size, extended, is_taken, result_of}
 pub use Rattle.rv_step.specs.State.{Hart, with_register, State, register, with_pc, past, even_of, IsHart}
 pub use Rattle.rv_step.specs.declared.outcome.Outcome.TheVariants.{Next, Call, Trap}
-pub use Rattle.sfi_policy.specs.Formats.{code_most, has_stack, has_words, is_stack, unit, is_reserved}
-pub use Rattle.sfi_policy.specs.declared.format.Format.{Format}
-pub use Rattle.sfi_policy.specs.declared.format.Format.TheVariants.{Sfi1, Sfi2, Sfiw}
+pub use Rattle.sfi_formats.specs.Formats.{code_most, has_stack, has_words, is_stack, unit, is_reserved}
+pub use Rattle.sfi_formats.specs.declared.format.Format.{Format}
+pub use Rattle.sfi_formats.specs.declared.format.Format.TheVariants.{Sfi1, Sfi2, Sfiw}
 pub use Rattle.sfi_image.specs.Parts.{is_gate_of, AreGates, IsRightPart, AreRight, IsRightLayout, AreOf, IsBundleStart}
 pub use Rattle.sfi_image.specs.Spelling.{code_region, AreApart, guarded_region, Part, AreGateWords}
 pub use Rattle.sfi_image.specs.declared.part.Gate.{Gate}
@@ -30,8 +30,8 @@ pub use Rattle.sfi_rules.specs.declared.finding.Finding.{Finding}
 pub use Rattle.sfi_safety.specs.Laws.{CleanCallsTyped, CleanRunsContained, CleanPaddedCallsTyped, CleanRunsDirectly, CleanDirectCallsTyped, InstructionLeaves, TurnKeeps, EntryIsGood, CleanRunsSafely}
 pub use Rattle.sfi_safety.specs.Places.{Leaves, WritesResult, follows_mask, IsCleanPart, AreCleanBundles, IsGood, IsGoodIf, StackInDataBefore, IsAtPlace}
 pub use Rattle.sfi_safety.specs.Needed.{BreaksAloneInBundle, IsNeeded, EachRuleIsNeeded, HasOneFinding, HasUnsafeRun, StoresByte, IsAcceptedAndRuns, IsStricter, BreaksNoOther, BreaksAlone, BreaksAloneInWord, IsOwedBefore}
-pub use Rattle.sfi_runs.specs.Runs.{InData, InGuard, HasReserved, IsGate, HasCode, IsUnitStart, InCode, StackInData, IsTyped, Turn, IsRun, after_turn, IsEntry, Steps, Replies, IsReply, IsTurn, after_step, KeepsBytes, Changes, IsChange}
-pub use Rattle.sfi_runs.specs.Safety.{AllRunSafely, after_turns, IsSafeRun, RunsSafely, IsSafeStep, IsSafeState, CallsTyped}
+pub use Rattle.sfi_safe_runs.specs.Runs.{InData, InGuard, HasReserved, IsGate, HasCode, IsUnitStart, InCode, StackInData, IsTyped, Turn, IsRun, after_turn, IsEntry, Steps, Replies, IsReply, IsTurn, after_step, KeepsBytes, Changes, IsChange}
+pub use Rattle.sfi_safe_runs.specs.Safety.{AllRunSafely, after_turns, IsSafeRun, RunsSafely, IsSafeStep, IsSafeState, CallsTyped}
 pub use Rattle.sfi_safety.specs.Clean.{IsClean, IsAccepted, MayRun}
 pub use Rattle.rv_step.specs.declared.outcome.Outcome.{Outcome}
 pub use Rattle.rv_word.specs.declared.instr.ImmOp.TheVariants.{Addi}

@@ -1,10 +1,10 @@
 -- Every sandbox without a finding runs safely, whatever its format, and so does each of a clean image.
 use Rattle.sfi_safety.proofs.Prelude.{◌≡◌, ℕ, zero, suc, ◌+◌, List, [], ◌∷◌, Bool, true, false, refl, sym, ◌∙◌, subst, arith, All, has_words, Part, AreApart, code_region, guarded_region, AreRight, Finding, AreFindings, AreFindingsFrom, RunsSafely, AllRunSafely, IsCleanPart, AreCleanBundles, CleanRunsSafely, CleanCallsTyped, CleanRunsContained, CleanPaddedCallsTyped, CleanRunsDirectly, CleanDirectCallsTyped, IsClean, MayRun}
 use Rattle.sfi_rules.proofs.Facts.{in_bundles, in_words}
-use Rattle.sfi_runs.specs.Safety.{CallsTyped, AllCallTyped}
-use Rattle.sfi_words.specs.Code as words
-use Rattle.sfi_words.proofs.Facts as words_facts
-use Rattle.sfi_runs.specs.Direct.{RunsDirectly, CallsTypedDirectly}
+use Rattle.sfi_safe_runs.specs.Safety.{CallsTyped, AllCallTyped}
+use Rattle.sfi_word_safety.specs.Code as words
+use Rattle.sfi_word_safety.proofs.Facts as words_facts
+use Rattle.sfi_safe_runs.specs.Direct.{RunsDirectly, CallsTypedDirectly}
 use Rattle.sfi_safety.proofs.DirectBundles.{bundles_directly}
 use Rattle.sfi_safety.proofs.DirectWords.{words_directly}
 use Rattle.sfi_safety.proofs.Padded.{bundles_contained, bundles_call_padded}

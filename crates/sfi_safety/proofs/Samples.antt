@@ -2,11 +2,11 @@
 use Rattle.sfi_safety.proofs.Prelude.{◌≡◌, ℕ, zero, suc, ◌+◌, ◌-◌, ◌*◌, ◌%◌, ◌^◌, ◌<◌, ◌≤◌, ◌⊎◌, List, [], ◌∷◌, ◌++◌, length, replicate, take, drop, Option, Some, inl, inr, refl, sym, ap, subst, ◌∙◌, arith, get_or, get_or-drop, get_or-take, slice_index, true, false, nat_lt, All, list_all, and_parts, ltb-true, Instr, Ebreak, Spells, Format, Sfi1, Sfi2, Sfiw, has_words, code_most, Bytes, byte_at, bytes_at, addresses, address_after, Accesses, Hart, IsHart, State, Stepped, Stands, IsStep, effect, next, unchanged, Call, AreGates, Part, AreGateWords, AreApart, code_region, guarded_region, IsBundleStart, IsRightPart, IsRightLayout, AreOf, Finding, AreFindings, AreFindingsInBundles, InData, InGuard, IsGate, HasReserved, HasCode, IsUnitStart, IsTyped, Turn, Steps, IsEntry, IsRun, IsTurn, after_turn, after_step, IsSafeRun, HasOneFinding, HasUnsafeRun, IsNeeded, BreaksNoOther, BreaksAloneInBundle, Bool, false≢true, Sample, sandbox, bytes_of, words_of, Rule, InCode, unit, BreaksAlone, BreaksAloneInWord}
 use Rattle.rv_comp.specs.declared.front.Front.TheVariants.{Read}
 use Rattle.sfi_image.specs.declared.span.Span.{Span}
-use Rattle.sfi_policy.specs.Limits.{gates_most}
+use Rattle.sfi_formats.specs.Limits.{gates_most}
 use Rattle.std.proofs.Common.{length-append, length-take, length-drop}
-use Rattle.sfi_runs.proofs.Facts.{can_be_entered}
-use Rattle.sfi_runs.proofs.Formats.{bundles as bundle_unit, of_bundle, of_stack}
-use Rattle.sfi_runs.proofs.Stepping.{read_all}
+use Rattle.sfi_safe_runs.proofs.Facts.{can_be_entered}
+use Rattle.sfi_safe_runs.proofs.Formats.{bundles as bundle_unit, of_bundle, of_stack}
+use Rattle.sfi_safe_runs.proofs.Stepping.{read_all}
 use Rattle.sfi_rules.proofs.InBundles.{of_bundles}
 use Rattle.std.specs.Prelude.{MatchBool}
 

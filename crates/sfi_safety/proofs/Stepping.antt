@@ -3,7 +3,7 @@ use Rattle.sfi_safety.proofs.Prelude.{◌≡◌, ℕ, ◌⊎◌, refl, sym, ◌�
 use Rattle.sfi_safety.proofs.Effects.{Leads, leads}
 use Rattle.sfi_safety.proofs.Standing as standing
 use Rattle.rv_step.proofs.Facts.{stopped_stays}
-use Rattle.sfi_runs.proofs.Stepping as steps
+use Rattle.sfi_safe_runs.proofs.Stepping as steps
 
 module _ (sandbox : ℕ) (p : Part) (s : State) (clean : AreCleanBundles sandbox p) (good : IsGood sandbox p s) where
   stands_here : Stands s good.place.here.instr good.place.here.size

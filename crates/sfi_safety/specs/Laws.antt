@@ -3,13 +3,13 @@ use Rattle.std.specs.Prelude.{◌≡◌, ℕ, List, ◌∷◌, length, false}
 use Rattle.rv_word.specs.declared.instr.Instr.{Instr}
 use Rattle.rv_word.specs.Spelling.{InRange}
 use Rattle.rv_step.specs.State.{Hart, State}
-use Rattle.sfi_policy.specs.Formats.{has_words}
+use Rattle.sfi_formats.specs.Formats.{has_words}
 use Rattle.sfi_image.specs.Spelling.{Part}
 use Rattle.sfi_image.specs.Parts.{IsRightPart}
-use Rattle.sfi_runs.specs.Runs.{HasReserved, Turn, IsTurn, IsEntry, after_turn}
-use Rattle.sfi_runs.specs.Safety.{IsSafeState, IsSafeTurn, RunsSafely, CallsTyped}
-use Rattle.sfi_runs.specs.Padded.{RunsContained, CallsTypedPadded}
-use Rattle.sfi_runs.specs.Direct.{RunsDirectly, CallsTypedDirectly}
+use Rattle.sfi_safe_runs.specs.Runs.{HasReserved, Turn, IsTurn, IsEntry, after_turn}
+use Rattle.sfi_safe_runs.specs.Safety.{IsSafeState, IsSafeTurn, RunsSafely, CallsTyped}
+use Rattle.sfi_safe_runs.specs.Padded.{RunsContained, CallsTypedPadded}
+use Rattle.sfi_safe_runs.specs.Direct.{RunsDirectly, CallsTypedDirectly}
 use Rattle.sfi_safety.specs.Places.{Leaves, WritesResult, IsCleanPart, AreCleanBundles, IsGood, IsGoodIf}
 
 -- ---- of code in bundles

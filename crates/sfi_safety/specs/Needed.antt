@@ -4,7 +4,7 @@ use Rattle.rv_mem.specs.Bytes.{byte_at}
 use Rattle.rv_step.specs.declared.outcome.Outcome.TheVariants.{Next}
 use Rattle.rv_step.specs.State.{State}
 use Rattle.rv_step.specs.Step.{Stepped}
-use Rattle.sfi_policy.specs.Limits.{bundle_size, word_size}
+use Rattle.sfi_formats.specs.Limits.{bundle_size, word_size}
 use Rattle.sfi_image.specs.Parts.{IsImage}
 use Rattle.sfi_image.specs.Spelling.{Part, spelling}
 use Rattle.sfi_rules.specs.declared.rule.Rule.{Rule}
@@ -12,14 +12,14 @@ use Rattle.sfi_rules.specs.declared.rule.Rule.TheVariants.{V1, V2, V9, V10}
 use Rattle.sfi_rules.specs.Readings.{bundle_place, bundle_bytes, Piece, IsLongestReading, rest_of}
 use Rattle.sfi_rules.specs.Rules.{breaks, is_empty, number_of}
 use Rattle.sfi_rules.specs.declared.finding.Finding.{Finding}
-use Rattle.sfi_policy.specs.declared.format.Format.{Format}
-use Rattle.sfi_policy.specs.Formats.{has_stack, has_words}
+use Rattle.sfi_formats.specs.declared.format.Format.{Format}
+use Rattle.sfi_formats.specs.Formats.{has_stack, has_words}
 use Rattle.sfi_rules.specs.Findings.{AreImageFindings, all_rules}
 use Rattle.sfi_rules.specs.declared.owed.Owed.{Owed}
 use Rattle.sfi_rules.specs.words.Findings as words
 use Rattle.sfi_rules.specs.words.Findings.{owed_past, AreFoundInWords, AreFoundOfFirst}
-use Rattle.sfi_runs.specs.Runs.{InData, Turn, Steps, Changes, IsEntry, IsRun}
-use Rattle.sfi_runs.specs.Safety.{IsSafeRun, RunsSafely}
+use Rattle.sfi_safe_runs.specs.Runs.{InData, Turn, Steps, Changes, IsEntry, IsRun}
+use Rattle.sfi_safe_runs.specs.Safety.{IsSafeRun, RunsSafely}
 use Rattle.sfi_safety.specs.Clean.{IsAccepted}
 
 -- a run from this state is not safe

@@ -4,15 +4,15 @@ use Rattle.rv_word.specs.declared.instr.Instr.{Instr}
 use Rattle.rv_word.specs.declared.instr.Instr.TheVariants.{Op}
 use Rattle.rv_step.specs.State.{Hart, register, with_register, State}
 use Rattle.rv_step.specs.Step.{result_of}
-use Rattle.sfi_policy.specs.Formats.{code_mask_register, data_mask_register, stack_pointer, has_stack, has_words}
+use Rattle.sfi_formats.specs.Formats.{code_mask_register, data_mask_register, stack_pointer, has_stack, has_words}
 use Rattle.sfi_image.specs.Spelling.{Part, code_region, AreApart, guarded_region}
 use Rattle.sfi_image.specs.Parts.{reserved_of, IsBundleStart, IsRightPart}
 use Rattle.sfi_pairs.specs.Pairs.{is_masking}
 use Rattle.sfi_rules.specs.Readings.{follows_data_pair, follows_code_pair, bundle_place, bundle_bytes, Piece, IsReading, rest_of, begins_pair, ends_pair}
-use Rattle.sfi_runs.specs.Runs.{InData, StackInData}
-use Rattle.sfi_policy.specs.Limits.{bundle_size}
+use Rattle.sfi_safe_runs.specs.Runs.{InData, StackInData}
+use Rattle.sfi_formats.specs.Limits.{bundle_size}
 use Rattle.sfi_rules.specs.Findings.{findings_from, AreFindings, AreFindingsInBundles}
-use Rattle.sfi_runs.specs.Safety.{KeepsAll}
+use Rattle.sfi_safe_runs.specs.Safety.{KeepsAll}
 
 -- ==== What the one or two instructions directly before a place leave in the registers.
 

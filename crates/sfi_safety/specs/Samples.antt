@@ -8,11 +8,11 @@ use Rattle.rv_word.specs.declared.instr.StoreWidth.TheVariants.{Sb, Sw}
 use Rattle.rv_word.specs.declared.instr.Instr.{Instr}
 use Rattle.rv_word.specs.declared.instr.Instr.TheVariants.{OpImm, Store, Jal, Jalr, Ecall, Ebreak}
 use Rattle.rv_word.specs.Spelling.{minus, spelling}
-use Rattle.sfi_policy.specs.Limits.{region_least}
-use Rattle.sfi_policy.specs.Formats.{data_base_register, scratch, stack_pointer, return_register}
+use Rattle.sfi_formats.specs.Limits.{region_least}
+use Rattle.sfi_formats.specs.Formats.{data_base_register, scratch, stack_pointer, return_register}
 use Rattle.sfi_pairs.specs.Pairs.{data_pair, code_pair}
-use Rattle.sfi_policy.specs.declared.format.Format.{Format}
-use Rattle.sfi_policy.specs.declared.format.Format.TheVariants.{Sfi1, Sfi2}
+use Rattle.sfi_formats.specs.declared.format.Format.{Format}
+use Rattle.sfi_formats.specs.declared.format.Format.TheVariants.{Sfi1, Sfi2}
 use Rattle.sfi_image.specs.declared.part.Gate.{Gate}
 use Rattle.sfi_image.specs.Spelling.{Part}
 

@@ -7,8 +7,8 @@ use Rattle.rv_word.specs.declared.instr.StoreWidth.TheVariants.{Sb, Sw}
 use Rattle.rv_word.specs.declared.instr.Instr.{Instr}
 use Rattle.rv_word.specs.declared.instr.Instr.TheVariants.{OpImm, Op, Lui, Store, Jal, Jalr, Ecall, Ebreak}
 use Rattle.rv_word.specs.Spelling.{minus}
-use Rattle.sfi_policy.specs.Formats.{data_base_register, data_mask_register, code_register, offset_register}
-use Rattle.sfi_policy.specs.declared.format.Format.TheVariants.{Sfiw}
+use Rattle.sfi_formats.specs.Formats.{data_base_register, data_mask_register, code_register, offset_register}
+use Rattle.sfi_formats.specs.declared.format.Format.TheVariants.{Sfiw}
 use Rattle.sfi_safety.specs.Samples.{Sample, words_of, code_as, ebreaks, nop}
 
 -- four instructions and then ebreaks, in words

@@ -14,7 +14,7 @@ pub use Rattle.rv_word.specs.declared.instr.Instr.TheVariants.{Op, OpImm, Load, 
 pub use Rattle.rv_word.specs.declared.instr.RegOp.TheVariants.{And, Or}
 pub use Rattle.rv_comp.specs.Fronts.{Spells, IsCutShort, SpellsNothing, IsHalfwordThat, IsShortSpelling}
 pub use Rattle.rv_comp.specs.declared.front.Front.TheVariants.{Read, Short}
-pub use Rattle.sfi_policy.specs.Formats.{has_stack, is_stack, is_reserved, stack_pointer, is_data_register}
+pub use Rattle.sfi_formats.specs.Formats.{has_stack, is_stack, is_reserved, stack_pointer, is_data_register}
 pub use Rattle.sfi_image.specs.Spelling.{Part, view}
 pub use Rattle.sfi_masks.specs.Masks.{is_in, AreMasks, IsFreeAccess, may_write, is_free, IsFreeHalf, IsFreeWord}
 pub use Rattle.sfi_rules.specs.Readings.{bundle_place, bundle_bytes, block_bundle, bundle_at, IsWithinBlock, IsWithin, follows_data_pair, follows_pair, follows_code_pair, Piece, IsReading, IsLongestReading, rest_of}

@@ -1,7 +1,7 @@
 -- Stretches of code in words: the findings of one after another, and those of a stretch in a part.
 use Rattle.sfi_scan.proofs.Prelude.{◌≡◌, ℕ, zero, suc, ◌+◌, ◌<◌, ◌≤◌, Bool, true, false, List, [], ◌++◌, length, length-append, take_all, refl, sym, ap, ◌∙◌, subst, arith, append-nil, append_assoc, BundlePlace, Finding, Part, block_bundle, bundle_bytes, bundle_place, AreFindingsOfFirst, Owed, Nothing, AreFoundUpTo, stretch_place, AreStretchFindings, AreWordStretchFindings, IsWordCodeScanned}
 use Rattle.std.specs.Prelude.{MatchBool}
-use Rattle.sfi_policy.specs.Formats.{has_words}
+use Rattle.sfi_formats.specs.Formats.{has_words}
 use Rattle.sfi_rules.specs.words.Findings.{AreFoundInBundle, AreFoundOfFirst}
 use Rattle.sfi_scan.specs.Stretches.{AreFoundInStretch}
 use Rattle.sfi_scan.proofs.Stretches.{stretch_in_part}

@@ -1,8 +1,8 @@
 -- Stretches of bundles, and the list that takes their findings.
 use Rattle.std.specs.Prelude.{◌≡◌, List, Bool, false, ◌++◌, ◌+◌, ◌*◌, ◌/◌, ◌^◌, ◌≤◌, ℕ, zero, suc, [], length, MatchBool}
 use Rattle.sfi_rules.specs.declared.finding.Finding.{Finding}
-use Rattle.sfi_policy.specs.Formats.{has_words}
-use Rattle.sfi_policy.specs.Limits.{bundle_size}
+use Rattle.sfi_formats.specs.Formats.{has_words}
+use Rattle.sfi_formats.specs.Limits.{bundle_size}
 use Rattle.sfi_image.specs.declared.bundle.BundlePlace.{BundlePlace}
 use Rattle.sfi_rules.specs.Readings.{block_bundle, bundle_at}
 use Rattle.sfi_rules.specs.declared.owed.Owed.{Owed}

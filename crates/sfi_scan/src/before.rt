@@ -2,13 +2,13 @@
 ghost use Rattle.std.specs.Prelude.{◌≡◌, ◌==◌, ◌&&◌, not, List, [], ◌∷◌};
 ghost use Rattle.rv_word.specs.declared.instr.Instr.{Instr};
 ghost use Rattle.sfi_pairs.specs.Pairs.{is_masking, is_placing};
-ghost use Rattle.sfi_policy.specs.Formats.{is_reserved};
+ghost use Rattle.sfi_formats.specs.Formats.{is_reserved};
 ghost use Rattle.sfi_rules.specs.Readings.{follows_pair};
 ghost use Rattle.sfi_scan.specs.private.Blocks.{near};
 
 use rv_word::{Instr, Reg, RegOp};
+use sfi_formats::{CODE_BASE_REGISTER, CODE_MASK_REGISTER, DATA_BASE_REGISTER, DATA_MASK_REGISTER};
 use sfi_pairs::is_reserved;
-use sfi_policy::{CODE_BASE_REGISTER, CODE_MASK_REGISTER, DATA_BASE_REGISTER, DATA_MASK_REGISTER};
 
 /// The two instructions directly before a place in its bundle, as far as there are.
 #[derive(Clone, Copy)]

@@ -2,7 +2,7 @@
 ghost use Rattle.std.specs.Prelude.{bit_and, ◌≡◌, ℕ, ◌+◌, ◌*◌, ◌/◌, ◌%◌, ◌<◌, ◌≤◌, [], true, false};
 ghost use Rattle.std.specs.Bool.{OnTrue};
 ghost use Rattle.sfi_masks.specs.Masks.{is_in, IsFreeAccess, word_at as block_word};
-ghost use Rattle.sfi_policy.specs.Formats.{has_stack};
+ghost use Rattle.sfi_formats.specs.Formats.{has_stack};
 ghost use Rattle.sfi_scan.specs.declared.before.Before.{Before};
 ghost use Rattle.sfi_image.specs.declared.bundle.BundlePlace.{BundlePlace};
 ghost use Rattle.sfi_rules.specs.Readings.{IsWithin, IsWithinBlock, bundle_at, block_bundle};
@@ -13,8 +13,8 @@ ghost use Rattle.sfi_scan.specs.private.Blocks.{half_at, word_at, AreWordsFrom, 
 use crate::clean::{Words, half_at, is_clean, is_stack_pair, is_stack_write, may_access, word_at};
 use rv_comp::outline16;
 use rv_word::{Reg, outline32};
+use sfi_formats::BUNDLE_SIZE;
 use sfi_masks::{BLOCK_BYTES, masks_of};
-use sfi_policy::BUNDLE_SIZE;
 use sfi_rules::BundlePlace;
 
 /// Every second halfword, from the first.

@@ -5,13 +5,13 @@ ghost use Rattle.std.specs.Bool.{OnTrue};
 ghost use Rattle.rv_comp.specs.Fronts.{IsShortSpelling};
 ghost use Rattle.rv_word.specs.declared.instr.Instr.{Instr};
 ghost use Rattle.rv_word.specs.Spelling.{IsWordOf};
-ghost use Rattle.sfi_policy.specs.Formats.{has_stack};
+ghost use Rattle.sfi_formats.specs.Formats.{has_stack};
 ghost use Rattle.sfi_scan.specs.declared.before.Before.{Before};
 ghost use Rattle.sfi_rules.specs.Readings.{IsWithin};
 ghost use Rattle.sfi_rules.specs.Findings.{AreReadingFindings};
 ghost use Rattle.sfi_scan.specs.private.Blocks.{near};
-ghost use Rattle.sfi_policy.specs.Limits.{bundle_size};
-ghost use Rattle.sfi_policy.specs.Formats.{is_reserved};
+ghost use Rattle.sfi_formats.specs.Limits.{bundle_size};
+ghost use Rattle.sfi_formats.specs.Formats.{is_reserved};
 ghost use Rattle.sfi_rules.specs.Readings.{follows_pair, follows_code_pair};
 ghost use Rattle.sfi_rules.specs.Rules.{is_last_bundle, may_access};
 ghost use Rattle.sfi_scan.specs.private.Blocks.{half_at, word_at, AreWordsFrom, AreBefore, is_zero, is_protected, is_clean, is_clean_access, IsCleanOne, IsStackWrite, AreStackPair};
@@ -22,8 +22,8 @@ use crate::pair_words::are_data_pair;
 use crate::rules::{STACK, is_bundle_start, is_last_bundle, offset_by};
 use rv_comp::outline16;
 use rv_word::{Access, Outline, Reg, RegOp, access32, computes32, op_word, outline32};
+use sfi_formats::BUNDLE_BYTES;
 use sfi_pairs::is_reserved;
-use sfi_policy::BUNDLE_BYTES;
 use sfi_rules::BundlePlace;
 
 /// The words of the two instructions directly before a place in its bundle. Both are 0, which no

@@ -1,7 +1,7 @@
 //! The scan of code that lies together.
 ghost use Rattle.std.specs.Prelude.{◌≡◌, ℕ, ◌+◌, ◌*◌, ◌^◌, ◌<◌, ◌≤◌, [], false, true, IfSome, length, take, drop};
 ghost use Rattle.std.specs.Bool.{OnTrue};
-ghost use Rattle.sfi_policy.specs.Limits.{bundle_size};
+ghost use Rattle.sfi_formats.specs.Limits.{bundle_size};
 ghost use Rattle.sfi_masks.specs.Masks.{is_in};
 ghost use Rattle.sfi_rules.specs.Readings.{IsWithin, IsWithinBlock, block_bundle, bundle_at};
 ghost use Rattle.sfi_rules.specs.Findings.{AreReadingFindings};
@@ -13,8 +13,8 @@ use crate::findings::BundleFindings;
 use crate::scan::scan_bundle;
 use crate::sink::FindingSink;
 use crate::words::scan_words_as;
+use sfi_formats::{BUNDLE_BYTES, BUNDLE_SIZE};
 use sfi_masks::BLOCK_BYTES;
-use sfi_policy::{BUNDLE_BYTES, BUNDLE_SIZE};
 use sfi_rules::{BundlePlace, Owed};
 
 /// How a stretch is scanned. Blocks of eight bundles are looked at as wholes: fast where the processor

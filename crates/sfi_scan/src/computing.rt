@@ -1,7 +1,7 @@
 //! Which forms compute into a register that may be written, by a table: most forms do.
 ghost use Rattle.std.specs.Prelude.{◌≡◌, not};
 ghost use Rattle.std.specs.Bool.{OnTrue};
-ghost use Rattle.sfi_policy.specs.Formats.{has_stack};
+ghost use Rattle.sfi_formats.specs.Formats.{has_stack};
 ghost use Rattle.sfi_image.specs.declared.bundle.BundlePlace.{BundlePlace};
 ghost use Rattle.sfi_scan.specs.private.Blocks.{IsFreeHalf};
 

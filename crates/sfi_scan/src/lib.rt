@@ -31,7 +31,7 @@ pub use findings::BundleFindings;
 pub use list::FindingList;
 pub use part::{scan_part, scan_part_as};
 pub use scan::scan_bundle;
-pub use sfi_policy::Format;
+pub use sfi_formats::Format;
 pub use sfi_rules::{BundlePlace, Finding, Owed, Rule};
 pub use sink::FindingSink;
 pub use words::{scan_word_code, scan_words};

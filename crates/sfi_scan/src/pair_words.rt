@@ -7,7 +7,7 @@ ghost use Rattle.sfi_scan.specs.private.Blocks.{AreBefore};
 ghost use Rattle.sfi_scan.specs.private.Blocks.{near};
 
 use rv_word::Reg;
-use sfi_policy::{DATA_BASE_REGISTER, DATA_MASK_REGISTER};
+use sfi_formats::{DATA_BASE_REGISTER, DATA_MASK_REGISTER};
 
 /// Bits 19:15 of a word, which name its first operand.
 const OPERAND: u32 = 0b11111 << 15;

@@ -1,14 +1,14 @@
 //! The scan of a sandbox's part of an image.
 ghost use Rattle.std.specs.Prelude.{◌≡◌, IfOk};
-ghost use Rattle.sfi_policy.specs.declared.format.Format.TheVariants.{Sfi1};
+ghost use Rattle.sfi_formats.specs.declared.format.Format.TheVariants.{Sfi1};
 ghost use Rattle.sfi_image.specs.Spelling.{view};
 ghost use Rattle.sfi_image.specs.Parts.{IsRightPart};
 ghost use Rattle.sfi_rules.specs.Findings.{AreFindings};
 
 use crate::code::{IN_BLOCKS, scan_stretch};
 use crate::list::FindingList;
+use sfi_formats::Format;
 use sfi_image::SandboxPart;
-use sfi_policy::Format;
 use sfi_rules::{BundlePlace, Finding, Owed};
 use std::alloc::{AllocError, Global};
 

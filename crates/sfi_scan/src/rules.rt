@@ -12,8 +12,8 @@ ghost use Rattle.sfi_scan.specs.private.Blocks.{near, ahead, finding_of};
 use crate::ahead::{Ahead, read_ahead};
 use crate::before::{Before, CODE, DATA, is_masking, is_placing};
 use rv_word::Instr;
+use sfi_formats::{BUNDLE_SIZE, STACK_POINTER};
 use sfi_pairs::is_reserved;
-use sfi_policy::{BUNDLE_SIZE, STACK_POINTER};
 use sfi_rules::{BundlePlace, Rule};
 
 /// Whether the instruction breaks V3: an `ecall` that isn't the first instruction of a listed bundle.

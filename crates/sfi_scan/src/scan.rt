@@ -1,6 +1,6 @@
 //! The scan of a bundle.
 ghost use Rattle.std.specs.Prelude.{◌≡◌, ◌+◌, ◌<◌};
-ghost use Rattle.sfi_policy.specs.Limits.{bundle_size};
+ghost use Rattle.sfi_formats.specs.Limits.{bundle_size};
 ghost use Rattle.sfi_rules.specs.Readings.{IsWithin};
 ghost use Rattle.sfi_rules.specs.Findings.{AreBundleFindings, AreReadingFindings};
 
@@ -9,8 +9,8 @@ use crate::clean::is_seen_clean;
 use crate::findings::BundleFindings;
 use crate::rules::lowest_rule;
 use rv_comp::{Front, read_front};
+use sfi_formats::BUNDLE_BYTES;
 use sfi_pairs::STUB;
-use sfi_policy::BUNDLE_BYTES;
 use sfi_rules::{BundlePlace, Finding, Rule};
 
 /// The finding that `rule` is broken `offset` bytes after the bundle's first.

@@ -1,6 +1,6 @@
 //! The scan of code in words, 16 bytes at a time.
 ghost use Rattle.std.specs.Prelude.{◌≡◌, ◌*◌, ◌≤◌, ◌<◌, ℕ, IfSome, length};
-ghost use Rattle.sfi_policy.specs.Limits.{bundle_size};
+ghost use Rattle.sfi_formats.specs.Limits.{bundle_size};
 ghost use Rattle.sfi_rules.specs.Readings.{IsWithin};
 ghost use Rattle.sfi_rules.specs.words.Findings.{AreFoundInBundle};
 ghost use Rattle.sfi_scan.specs.Stretches.{IsStretch, IsWordCodeScanned};
@@ -17,8 +17,8 @@ use crate::findings::BundleFindings;
 use crate::sink::FindingSink;
 use crate::words::block::look_at_block;
 use crate::words::word::scan_word;
+use sfi_formats::BUNDLE_BYTES;
 use sfi_masks::BLOCK_BYTES;
-use sfi_policy::BUNDLE_BYTES;
 use sfi_rules::{BundlePlace, Owed};
 
 /// How many words a bundle has.

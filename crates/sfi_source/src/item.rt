@@ -47,6 +47,6 @@ pub struct Item {
 pub struct SourceGate {
     /// The place of its name among the sandbox's names.
     pub name: usize,
-    /// What the host is asked for, at most `SERVICE_MOST` of `sfi_policy`.
+    /// What the host is asked for, at most `SERVICE_MOST` of `sfi_formats`.
     pub service: u32,
 }

@@ -12,5 +12,5 @@ mod source;
 
 pub use item::{Body, Item, Named, SourceGate};
 pub use names::Names;
-pub use sfi_policy::Format;
+pub use sfi_formats::Format;
 pub use source::{Source, SourcePart};

@@ -4,7 +4,7 @@ ghost use Rattle.sfi_source.specs.Source.{sandbox, format_of, IsSource};
 
 use crate::item::{Item, SourceGate};
 use crate::names::Names;
-use sfi_policy::Format;
+use sfi_formats::Format;
 use std::marker::Model;
 
 /// A sandbox of a source.
@@ -69,7 +69,7 @@ impl SourcePart {
     }
 
     /// How many bytes the data region has, a power of two from `REGION_LEAST` to `DATA_MOST` of
-    /// `sfi_policy`.
+    /// `sfi_formats`.
     pub fn data_size(&self) -> u32
         ensures { result ≡ self.now.data_size }
     {

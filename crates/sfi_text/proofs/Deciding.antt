@@ -1,8 +1,8 @@
 -- Each token is what a part of a statement asks for, or isn't.
 use Rattle.sfi_text.proofs.Prelude.{◌≡◌, ℕ, Bool, true, false, List, [], ◌∷◌, length, take, drop, ◌⊎◌, inl, inr, refl, sym, ap, ◌∙◌, subst, arith, ℤ, pos, negsuc, codes, ◌≤ℤ◌, cases_lt, cases_eq, false≢true, bytes_eq, bytes_eq-Decides, ints, modulo, IsBetween, IsDataSize, NumberKind, BranchOffset, JumpOffset, DataSize, Part, Rd, Rs1, Rs2, Number, Name, Mode, ImageFormat, Comma, Open, Close, Keyword, IsBlank, is_mark, IsMark, IsNumber, IsToken, Takes, IsStuck, begins_name, IsName, begins_label, IsLabel, IsNumberOf, keyword_name, OperandValues, Stands, SaysFormat, mode_name, body_of, token_len, operands}
 use Rattle.sfi_text.specs.private.Reading.{candidate, IsInReach}
-use Rattle.sfi_policy.specs.declared.format.Format.{Format}
-use Rattle.sfi_policy.specs.declared.format.Format.TheVariants.{Sfi1, Sfi2, Sfiw}
+use Rattle.sfi_formats.specs.declared.format.Format.{Format}
+use Rattle.sfi_formats.specs.declared.format.Format.TheVariants.{Sfi1, Sfi2, Sfiw}
 use Rattle.std.specs.Int.{is_power_of_two}
 use Rattle.sfi_text.proofs.Keywords.{none_of_other}
 use Rattle.sfi_text.proofs.Decided.{Decided, decided_both, decided_le, decided_bit, decided_same}

@@ -5,8 +5,8 @@ use Rattle.sfi_text.proofs.Numbers.{number_unique}
 use Rattle.sfi_text.proofs.Taking.{takes_unique}
 use Rattle.sfi_text.proofs.Forms.{stands_by_operand}
 use Rattle.sfi_text.proofs.Deciding.{number_no_name}
-use Rattle.sfi_policy.specs.declared.format.Format.{Format}
-use Rattle.sfi_policy.specs.declared.format.Format.TheVariants.{Sfi1, Sfi2, Sfiw}
+use Rattle.sfi_formats.specs.declared.format.Format.{Format}
+use Rattle.sfi_formats.specs.declared.format.Format.TheVariants.{Sfi1, Sfi2, Sfiw}
 
 mode_unique : (a b : Bool) → mode_name a ≡ mode_name b → a ≡ b
 mode_unique true true h = refl

@@ -8,7 +8,7 @@ use Rattle.sfi_text.specs.declared.statement.Place.{Place}
 use Rattle.rv_word.specs.declared.instr.Cond.{Cond}
 use Rattle.rv_word.specs.declared.instr.ImmOp.TheVariants.{Addi}
 use Rattle.std.proofs.lemmas.List.Elements.{All-nil, All-cons, All-append, All-replicate, All-from_recursion}
-use Rattle.sfi_policy.specs.Limits.{service_most}
+use Rattle.sfi_formats.specs.Limits.{service_most}
 use Rattle.rv_word.specs.declared.instr.Instr.TheVariants as instr
 use Rattle.rv_word.specs.Spelling.{InRange}
 use Rattle.sfi_text.specs.declared.mnemonic.Mnemonic.TheVariants as mnemonic

@@ -4,11 +4,11 @@ use Rattle.sfi_source.specs.declared.item.Body.{Body}
 use Rattle.sfi_source.specs.declared.item.Body.TheVariants.{Plain, To, High, Low, Base}
 use Rattle.sfi_source.specs.declared.item.Item.{Item}
 use Rattle.sfi_source.specs.declared.item.SourceGate.{SourceGate}
-use Rattle.sfi_policy.specs.declared.format.Format.{Format}
+use Rattle.sfi_formats.specs.declared.format.Format.{Format}
 use Rattle.std.proofs.lemmas.List.Elements.{All-from_recursion}
 use Rattle.std.proofs.lemmas.Map.Made.{AllPairs-from_IsDistinct}
 use Rattle.std.specs.List.{IsDistinct}
-use Rattle.sfi_policy.specs.Limits.{service_most}
+use Rattle.sfi_formats.specs.Limits.{service_most}
 use Rattle.sfi_source.proofs.NameTable.{met_there, meaning_new}
 use Rattle.sfi_text.proofs.Lexing.{all_by}
 use Rattle.sfi_text.proofs.Placing.{Has, has_contained, contained_has, placed_has, placed_keeps, placed_back, placed_at, placed_stays, placed_all, placed_grows, placed_differ}

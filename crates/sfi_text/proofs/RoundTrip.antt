@@ -6,8 +6,8 @@ use Rattle.sfi_text.proofs.Ranges.{in_range_fits}
 use Rattle.sfi_text.proofs.Meaning.{means}
 use Rattle.sfi_text.proofs.Longest.{Ends, takes_word, takes_mark}
 use Rattle.sfi_text.proofs.Printing.{name_token, register_token, printed_number}
-use Rattle.sfi_policy.specs.declared.format.Format.{Format}
-use Rattle.sfi_policy.specs.declared.format.Format.TheVariants.{Sfi1, Sfi2, Sfiw}
+use Rattle.sfi_formats.specs.declared.format.Format.{Format}
+use Rattle.sfi_formats.specs.declared.format.Format.TheVariants.{Sfi1, Sfi2, Sfiw}
 
 abbrev is_mark_part : Part → Bool
 is_mark_part part = nat_lt 6 (slot part)

@@ -13,7 +13,7 @@ use Rattle.rv_word.specs.declared.instr.Cond.TheVariants.{Beq, Bne, Blt, Bge, Bl
 use Rattle.sfi_text.specs.declared.mnemonic.Mnemonic.{Mnemonic}
 use Rattle.sfi_text.specs.declared.mnemonic.Mnemonic.TheVariants as mnemonic
 use Rattle.rv_word.specs.Spelling.{IsBetween, is_shift, IsImm12, IsBranchOffset, IsJumpOffset}
-use Rattle.sfi_policy.specs.Limits.{data_most, service_most, name_most}
+use Rattle.sfi_formats.specs.Limits.{data_most, service_most, name_most}
 use Rattle.sfi_source.specs.Source.{IsDataSize}
 use Rattle.sfi_text.specs.declared.form.NumberKind.{NumberKind}
 use Rattle.sfi_text.specs.declared.form.NumberKind.TheVariants.{Immediate, ShiftAmount, BranchOffset, JumpOffset, Upper, FenceFields, DataSize, Service, Word, Half, Byte, ZeroCount}
@@ -21,8 +21,8 @@ use Rattle.sfi_text.specs.declared.form.Part.{Part}
 use Rattle.sfi_text.specs.declared.form.Part.TheVariants.{Rd, Rs1, Rs2, Number, Comma, Open, Close, Name, Mode, ImageFormat}
 use Rattle.sfi_text.specs.declared.cause.TextCause.{TextCause}
 use Rattle.sfi_text.specs.declared.cause.TextCause.TheVariants as cause
-use Rattle.sfi_policy.specs.declared.format.Format.{Format}
-use Rattle.sfi_policy.specs.declared.format.Format.TheVariants.{Sfi1, Sfi2, Sfiw}
+use Rattle.sfi_formats.specs.declared.format.Format.{Format}
+use Rattle.sfi_formats.specs.declared.format.Format.TheVariants.{Sfi1, Sfi2, Sfiw}
 use Rattle.sfi_text.specs.Tokens.{IsNumber, is_too_long, Takes, IsBlank, IsStuck, IsRegister}
 use Rattle.sfi_source.specs.Names.{IsLabel}
 

@@ -1,7 +1,7 @@
 -- What the lines of a source make, one after another.
 use Rattle.std.specs.Prelude.{ℕ, List, Bool, [], ◌∷◌, ◌&&◌, ◌==◌, ℤ, pos, negsuc, int_le, unsigned_abs, if◌then◌else◌, true, false, ◌||◌, not, ◌++◌, Option, None, Some, length, ◌≡◌, ◌+◌, ◌<◌, ◌≤◌, ◌⊎◌, map}
 use Rattle.rv_word.specs.declared.instr.Instr.{Instr}
-use Rattle.sfi_policy.specs.declared.format.Format.{Format}
+use Rattle.sfi_formats.specs.declared.format.Format.{Format}
 use Rattle.std.specs.Int.{w16, w32, to_le_bytes}
 use Rattle.rv_word.specs.declared.instr.Instr.TheVariants as instr
 use Rattle.rv_word.specs.declared.instr.ImmOp.TheVariants.{Addi}
@@ -9,7 +9,7 @@ use Rattle.rv_word.specs.Spelling.{modulo}
 use Rattle.sfi_source.specs.Source.{upper, lower, Sandbox}
 use Rattle.sfi_text.specs.declared.keyword.DataWidth.{DataWidth}
 use Rattle.sfi_text.specs.declared.keyword.DataWidth.TheVariants.{Word, Half, Byte}
-use Rattle.sfi_policy.specs.declared.format.Format.TheVariants.{Sfi1, Sfi2, Sfiw}
+use Rattle.sfi_formats.specs.declared.format.Format.TheVariants.{Sfi1, Sfi2, Sfiw}
 use Rattle.sfi_text.specs.declared.listing.Listed.{Listed}
 use Rattle.sfi_source.specs.declared.item.Body.{Body}
 use Rattle.sfi_source.specs.declared.item.Item.{Item}
@@ -17,7 +17,7 @@ use Rattle.sfi_source.specs.declared.item.Named.{Named}
 use Rattle.sfi_source.specs.declared.item.Named.TheVariants.{Gate, Code, Data, Unknown}
 use Rattle.sfi_source.specs.Names.{place_of, placed, meaning, met}
 use Rattle.std.specs.Option.{IsSomeAnd}
-use Rattle.sfi_policy.specs.Limits.{gates_most, items_most, name_most}
+use Rattle.sfi_formats.specs.Limits.{gates_most, items_most, name_most}
 use Rattle.sfi_text.specs.declared.cause.TextCause.{TextCause}
 use Rattle.sfi_text.specs.declared.cause.TextCause.TheVariants as cause
 use Rattle.sfi_source.specs.declared.item.Body.TheVariants.{Plain, To, High, Low, Base}

@@ -2,7 +2,7 @@
 use Rattle.std.specs.Prelude.{◌≡◌, ℕ, ◌⊎◌, List, [], ◌∷◌, ℤ, pos, false, ◌++◌, codes}
 use Rattle.rv_word.specs.declared.instr.Instr.{Instr}
 use Rattle.rv_word.specs.declared.instr.Instr.TheVariants as instr
-use Rattle.sfi_policy.specs.declared.format.Format.TheVariants.{Sfi1, Sfi2, Sfiw}
+use Rattle.sfi_formats.specs.declared.format.Format.TheVariants.{Sfi1, Sfi2, Sfiw}
 use Rattle.sfi_text.specs.declared.cause.TextCause.{TextCause}
 use Rattle.sfi_text.specs.declared.cause.TextCause.TheVariants as cause
 use Rattle.sfi_text.specs.declared.mnemonic.Mnemonic.{Mnemonic}
@@ -12,7 +12,7 @@ use Rattle.sfi_source.specs.Names.{IsName}
 use Rattle.sfi_text.specs.Operands.{name_of, form_of, OperandValues, HasForm, Unformed, Missing, Departs, mode_name}
 use Rattle.std.specs.List.{flat_map}
 use Rattle.std.specs.Fmt.{signed_decimal, digits}
-use Rattle.sfi_policy.specs.declared.format.Format.{Format}
+use Rattle.sfi_formats.specs.declared.format.Format.{Format}
 use Rattle.sfi_text.specs.declared.form.NumberKind.{NumberKind}
 use Rattle.sfi_text.specs.declared.form.NumberKind.TheVariants.{Upper}
 use Rattle.sfi_text.specs.declared.form.Part.{Part}

@@ -5,7 +5,7 @@ use Rattle.sfi_text.specs.declared.fault.TextFault.{TextFault}
 use Rattle.sfi_text.specs.declared.cause.TextCause.TheVariants.{Word, Register, Number, Operands, LabelTwice, Directive, Limit, Memory}
 use Rattle.std.specs.List.{AllByRecursion}
 use Rattle.std.specs.Str.Parse.{IsNumeral, digits_value}
-use Rattle.sfi_policy.specs.Limits.{name_most}
+use Rattle.sfi_formats.specs.Limits.{name_most}
 use Rattle.sfi_source.specs.Names.{IsName, begins_label}
 use Rattle.std.specs.Fmt.{decimal}
 

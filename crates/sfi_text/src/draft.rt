@@ -1,6 +1,6 @@
 //! The sandbox begun last, as far as the lines have come.
 ghost use Rattle.std.specs.Prelude.{◌≡◌, ◌≤◌, ◌+◌, ◌<◌, ◌⊎◌, ◌∷◌, [], length, replicate, IfOk, IfErr, OnOk, IsTrue, ◌↔◌, true};
-ghost use Rattle.sfi_policy.specs.Limits.{gates_most, items_most};
+ghost use Rattle.sfi_formats.specs.Limits.{gates_most, items_most};
 ghost use Rattle.sfi_text.specs.declared.cause.TextCause.TheVariants as cause;
 ghost use Rattle.sfi_source.specs.declared.item.Body.TheVariants.{Plain, To, High, Low, Base};
 ghost use Rattle.sfi_text.specs.SoFar.{IsFree, Fits, with_stated, address_bodies, address_count};
@@ -13,7 +13,7 @@ use crate::cause::TextCause;
 use crate::listing::{Listed, Shared};
 use crate::statement::SandboxStatement;
 use rv_word::Reg;
-use sfi_policy::{Format, GATE_COUNT_MOST, ITEM_COUNT_MOST};
+use sfi_formats::{Format, GATE_COUNT_MOST, ITEM_COUNT_MOST};
 use sfi_source::{Body, Item, Named, Names, SourceGate, SourcePart};
 use std::alloc::Global;
 use std::marker::Model;

@@ -6,7 +6,7 @@ ghost use Rattle.sfi_source.specs.Source.{IsDataSize};
 
 use crate::mnemonic::Mnemonic;
 use rv_word::ImmOp;
-use sfi_policy::{DATA_MOST, REGION_LEAST, SERVICE_MOST};
+use sfi_formats::{DATA_MOST, REGION_LEAST, SERVICE_MOST};
 
 /// Which numbers may stand at a place, in bytes where they are offsets.
 #[derive(Clone, Copy)]
@@ -23,7 +23,7 @@ pub enum NumberKind {
     Upper,
     /// 0 to 4095: the fence mode, predecessors and successors.
     FenceFields,
-    /// A power of two of `REGION_LEAST` to `DATA_MOST` of `sfi_policy`:
+    /// A power of two of `REGION_LEAST` to `DATA_MOST` of `sfi_formats`:
     /// the bytes of a sandbox's data.
     DataSize,
     /// 0 to `SERVICE_MOST`: a gate's service.

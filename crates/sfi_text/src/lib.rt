@@ -38,6 +38,6 @@ pub use listing::{Listed, Listing, Shared};
 pub use mnemonic::{branch_name, immediate_name, load_name, op_name, store_name};
 pub use parse::parse_instr;
 pub use print::{print_instr, push_instr};
-pub use sfi_policy::Format;
+pub use sfi_formats::Format;
 pub use sfi_source::{Body, Item, Named, Names, Source, SourceGate, SourcePart};
 pub use text::{parse_listing, parse_source};

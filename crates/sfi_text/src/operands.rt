@@ -7,7 +7,7 @@ ghost use Rattle.sfi_text.specs.Statement.{mnemonic_of, operands_of, operands};
 
 use crate::mnemonic::Mnemonic;
 use rv_word::{Instr, Reg};
-use sfi_policy::Format;
+use sfi_formats::Format;
 
 /// The operands of a statement; those that its form lacks are 0, none or the first format.
 #[derive(Clone, Copy)]

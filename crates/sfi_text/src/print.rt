@@ -11,7 +11,7 @@ use crate::form::{NumberKind, Part};
 use crate::mnemonic::Mnemonic;
 use crate::operands::Operands;
 use rv_word::{Instr, Reg};
-use sfi_policy::Format;
+use sfi_formats::Format;
 use std::alloc::{AllocError, Global};
 
 impl Mnemonic {

@@ -21,7 +21,7 @@ use crate::listing::{Listing, Shared};
 use crate::number::after_prefix;
 use crate::read::is_label;
 use crate::statement::{Place, Statement};
-use sfi_policy::{Format, NAME_MOST_BYTES};
+use sfi_formats::{Format, NAME_MOST_BYTES};
 use sfi_source::{Source, SourcePart};
 use std::alloc::Global;
 use std::marker::Model;

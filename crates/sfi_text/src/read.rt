@@ -1,6 +1,6 @@
 //! Reading the operands of a statement off its text.
 ghost use Rattle.std.specs.Prelude.{◌≡◌, ◌≤◌, ◌↔◌, IfOk, OnOk, OnErr, IfErr, IsTrue, Bool, length, ℕ, ℤ};
-ghost use Rattle.sfi_policy.specs.Limits.{name_most};
+ghost use Rattle.sfi_formats.specs.Limits.{name_most};
 ghost use Rattle.sfi_text.specs.declared.cause.TextCause.{TextCause};
 ghost use Rattle.sfi_text.specs.declared.cause.TextCause.TheVariants as cause;
 ghost use Rattle.sfi_text.specs.Tokens.{IsNumber, IsToken, is_too_long};
@@ -8,7 +8,7 @@ ghost use Rattle.sfi_source.specs.Names.{IsLabel, begins_label};
 ghost use Rattle.sfi_text.specs.Tokens.{IsRegister};
 ghost use Rattle.sfi_text.specs.Operands.{IsNumberOf};
 ghost use Rattle.sfi_text.specs.Operands.{OperandValues, Stands, Departs, part_cause, label_cause, mode_name, SaysFormat};
-ghost use Rattle.sfi_policy.specs.declared.format.Format.{Format};
+ghost use Rattle.sfi_formats.specs.declared.format.Format.{Format};
 ghost use Rattle.sfi_text.specs.private.Reading.{values_of};
 ghost use Rattle.sfi_text.specs.private.Reading.{Reads, SameAt, has_no_repeat, is_fresh, KeepsOthers};
 
@@ -19,7 +19,7 @@ use crate::number::number;
 use crate::operands::Operands;
 use crate::register::register;
 use rv_word::Reg;
-use sfi_policy::{Format, NAME_MOST_BYTES};
+use sfi_formats::{Format, NAME_MOST_BYTES};
 
 /// The register that the token names.
 fn read_register(token: &str) -> Result<Reg, TextCause>

@@ -1,7 +1,7 @@
 //! What one line of source states, after its labels.
 
 use rv_word::{Instr, Reg};
-use sfi_policy::Format;
+use sfi_formats::Format;
 
 /// What a line of source states.
 #[derive(Drop)]

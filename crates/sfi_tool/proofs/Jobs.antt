@@ -13,7 +13,7 @@ use Rattle.sfi_answers.specs.declared.fault.Stop.{Stop}
 use Rattle.sfi_answers.specs.declared.fault.Stop.TheVariants as stop
 use Rattle.sfi_answers.specs.declared.verdict.Answer.{Answer}
 use Rattle.sfi_tool.specs.Says.{Says, HasInputFault, IsDone, IsRefused}
-use Rattle.sfi_policy.specs.declared.place.Place.{Place}
+use Rattle.sfi_formats.specs.declared.place.Place.{Place}
 use Rattle.sfi_tool.specs.Running.{SaysRun}
 use Rattle.sfi_answers.specs.Building.{SaysConversion}
 use Rattle.sfi_answers.specs.Moving.{SaysMoved}

@@ -3,7 +3,7 @@
 ghost use Rattle.std.specs.Prelude.{◌<◌, ◌^◌, Some, OnOk, length, slice_get, string_bytes};
 ghost use Rattle.sfi_host.specs.Worlds.{slots_of};
 ghost use Rattle.sfi_image.specs.Spelling.{view, views};
-ghost use Rattle.sfi_policy.specs.declared.format.Format.{Format};
+ghost use Rattle.sfi_formats.specs.declared.format.Format.{Format};
 ghost use Rattle.sfi_report.specs.State.{IsStateText};
 ghost use Rattle.sfi_tool.specs.Running.{AreTold, IsToldOf};
 ghost use Rattle.sfi_report.specs.private.{Adds};

@@ -3,7 +3,7 @@
 ghost use Rattle.std.specs.Prelude.{◌≡◌, ◌++◌, ◌<◌, ◌^◌, IfOk, OnOk, length, slice_get, string_bytes};
 ghost use Rattle.sfi_host.specs.Worlds.{slots_of};
 ghost use Rattle.sfi_image.specs.Spelling.{views};
-ghost use Rattle.sfi_policy.specs.declared.format.Format.{Format};
+ghost use Rattle.sfi_formats.specs.declared.format.Format.{Format};
 ghost use Rattle.sfi_tool.specs.Executing.{IsStopText, end_status, status_among, status_of, stop_line, stop_line_of, stop_lines};
 
 use crate::run_lines::push_status;

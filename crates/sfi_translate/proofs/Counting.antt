@@ -12,7 +12,7 @@ use Rattle.rv_step.specs.declared.outcome.Outcome.TheVariants.{Next, Trap}
 use Rattle.rv_step.specs.declared.outcome.Cause.TheVariants as cause
 use Rattle.rv_step.specs.State.{Hart, State, register, past, with_pc, even_of}
 use Rattle.rv_step.specs.Step.{IsStep, effect, after_load, next, unchanged, load_size, store_size, is_taken}
-use Rattle.sfi_policy.specs.Formats.{unit}
+use Rattle.sfi_formats.specs.Formats.{unit}
 use Rattle.sfi_translate.specs.Machine.{Place, Label, Slow, Loop, Stopped, at_head, onto, falls, jumps, enters, after_line, from_loop}
 
 -- at a label, which pc is at, there are 65 steps less one for each two bytes since the last head; before a slow step one

@@ -3,16 +3,16 @@ use Rattle.sfi_translate.proofs.Prelude.{◌≡◌, ℕ, [], refl, subst, Part}
 use Rattle.std.proofs.Common.{◌^◌, ◌<◌, Bool, true, false, Option, Some}
 use Rattle.std.specs.Prelude.{IfSome}
 use Rattle.rv_step.specs.State.{State}
-use Rattle.sfi_policy.specs.Formats.{has_words}
-use Rattle.sfi_runs.specs.Runs.{Turn, IsTurn, after_turn}
-use Rattle.sfi_runs.specs.Safety.{KeepsAll, IsSafeState, IsSafeTurn}
+use Rattle.sfi_formats.specs.Formats.{has_words}
+use Rattle.sfi_safe_runs.specs.Runs.{Turn, IsTurn, after_turn}
+use Rattle.sfi_safe_runs.specs.Safety.{KeepsAll, IsSafeState, IsSafeTurn}
 use Rattle.sfi_rules.specs.Readings.{rest_of}
 use Rattle.sfi_rules.proofs.Facts.{in_bundles, in_words}
 use Rattle.sfi_report.specs.Listing.{unit_bytes}
 use Rattle.sfi_safety.specs.Places.{IsCleanPart, AreCleanBundles, IsGood}
 use Rattle.sfi_safety.proofs.Facts as bundles
-use Rattle.sfi_words.specs.Code.{IsCleanInWords, IsGoodInWords}
-use Rattle.sfi_words.proofs.Facts as words
+use Rattle.sfi_word_safety.specs.Code.{IsCleanInWords, IsGoodInWords}
+use Rattle.sfi_word_safety.proofs.Facts as words
 use Rattle.sfi_translate.specs.Machine.{Going, Loop, AreMoves}
 use Rattle.sfi_translate.specs.Laws.{UnitsAreWhole, LinesAreInText, IsReached, IsAsImage, TranslatedRunsAsImage}
 use Rattle.sfi_translate.proofs.InText.{in_text}

@@ -3,7 +3,7 @@ use Rattle.sfi_translate.proofs.Prelude.{◌≡◌, ℕ, zero, suc, ◌+◌, ◌
 use Rattle.std.proofs.Common.{◌<◌, ◌⊎◌, ⊎_elim}
 use Rattle.std.proofs.lemmas.Bool.{cases_lt}
 use Rattle.rv_word.specs.declared.instr.Instr.{Instr}
-use Rattle.sfi_policy.specs.Formats.{unit}
+use Rattle.sfi_formats.specs.Formats.{unit}
 use Rattle.sfi_rules.specs.Readings.{Piece}
 use Rattle.sfi_rules.proofs.Facts.{one_longest_reading}
 use Rattle.sfi_report.specs.Listing.{unit_bytes}

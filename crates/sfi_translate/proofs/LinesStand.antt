@@ -8,15 +8,15 @@ use Rattle.rv_comp.proofs.Facts.{two_lengths}
 use Rattle.rv_mem.specs.Bytes.{Bytes}
 use Rattle.rv_step.specs.State.{Hart}
 use Rattle.rv_step.specs.Step.{Stands}
-use Rattle.sfi_policy.specs.declared.format.Format.TheVariants.{Sfi1, Sfi2, Sfiw}
-use Rattle.sfi_policy.specs.Formats.{unit}
+use Rattle.sfi_formats.specs.declared.format.Format.TheVariants.{Sfi1, Sfi2, Sfiw}
+use Rattle.sfi_formats.specs.Formats.{unit}
 use Rattle.sfi_image.specs.Parts.{IsRightPart}
 use Rattle.sfi_image.proofs.Facts.{whole_bundles}
 use Rattle.sfi_rules.specs.Readings.{Piece, IsReading}
 use Rattle.sfi_rules.proofs.Readings.{spelled_within}
 use Rattle.sfi_report.specs.Listing.{unit_bytes}
-use Rattle.sfi_runs.specs.Runs.{HasCode}
-use Rattle.sfi_runs.proofs.Standing.{stands_there}
+use Rattle.sfi_safe_runs.specs.Runs.{HasCode}
+use Rattle.sfi_safe_runs.proofs.Standing.{stands_there}
 use Rattle.sfi_translate.specs.Machine.{IsLine, bytes_of}
 
 -- ---- in its unit

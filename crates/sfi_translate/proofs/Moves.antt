@@ -11,8 +11,8 @@ use Rattle.rv_step.specs.Step.{Stepped, IsStep, effect, LeadsTo, LeadTo}
 use Rattle.rv_step.proofs.Facts.{step_keeps_state, stopped_stays, no_byte_goes}
 use Rattle.sfi_image.specs.Parts.{IsRightPart}
 use Rattle.sfi_image.specs.Spelling.{AreApart, code_region, guarded_region}
-use Rattle.sfi_runs.specs.Runs.{Turn, Steps, IsTurn, IsRun, after_step, after_turn}
-use Rattle.sfi_runs.specs.Safety.{after_turns, KeepsAll, IsSafeState, IsSafeTurn}
+use Rattle.sfi_safe_runs.specs.Runs.{Turn, Steps, IsTurn, IsRun, after_step, after_turn}
+use Rattle.sfi_safe_runs.specs.Safety.{after_turns, KeepsAll, IsSafeState, IsSafeTurn}
 use Rattle.sfi_translate.specs.Machine.{Place, Label, Slow, Loop, Stopped, Going, one_less, after_line, is_done, fixed, line_done, row_step, step_done, from_loop, IsLine, IsMoveAt, AreMoves}
 use Rattle.sfi_translate.specs.Laws.{HasData, IsAsImage}
 use Rattle.sfi_translate.proofs.LinesStand.{stands, two_or_four, between_heads}

@@ -18,10 +18,10 @@ use Rattle.rv_step.specs.declared.outcome.Cause.TheVariants as cause
 use Rattle.rv_step.specs.State.{State, register, past}
 use Rattle.sfi_image.specs.Parts.{IsRightPart}
 use Rattle.sfi_image.specs.Spelling.{AreApart, code_region, guarded_region}
-use Rattle.sfi_runs.specs.Runs.{InData, InGuard}
-use Rattle.sfi_runs.specs.Safety.{KeepsAll}
-use Rattle.sfi_runs.proofs.Accessing.{load_sized, store_sized}
-use Rattle.sfi_runs.proofs.Stepping.{in_data}
+use Rattle.sfi_safe_runs.specs.Runs.{InData, InGuard}
+use Rattle.sfi_safe_runs.specs.Safety.{KeepsAll}
+use Rattle.sfi_safe_runs.proofs.Accessing.{load_sized, store_sized}
+use Rattle.sfi_safe_runs.proofs.Stepping.{in_data}
 use Rattle.sfi_translate.specs.Machine.{is_tested, row_step}
 
 -- an access of some bytes whose first and last lie in a region passes its test

@@ -2,8 +2,8 @@
 use Rattle.sfi_translate.proofs.Prelude.{◌≡◌, ℕ, suc, ◌+◌, ◌*◌, ◌≤◌, List, [], ◌∷◌, ◌++◌, length, get_or, take, drop, refl, sym, ap, ◌∙◌, subst, arith, append_assoc, flat_map, append-nil, take_all, length-take, Format, SandboxPart, Part, view, Adds, gate_line, IsUnitText, IsCodeText, IsReadingText, IsSandboxText}
 use Rattle.std.proofs.Common.{◌<◌, ◌^◌, add-zero, Bool}
 use Rattle.std.proofs.lemmas.List.{take_more, length-map, get_or-map}
-use Rattle.sfi_policy.specs.Formats.{unit}
-use Rattle.sfi_policy.specs.declared.format.Format.TheVariants.{Sfi1, Sfi2, Sfiw}
+use Rattle.sfi_formats.specs.Formats.{unit}
+use Rattle.sfi_formats.specs.declared.format.Format.TheVariants.{Sfi1, Sfi2, Sfiw}
 use Rattle.sfi_image.specs.Spelling.{views}
 use Rattle.sfi_image.specs.Parts.{IsRightPart}
 use Rattle.sfi_image.proofs.Facts.{whole_bundles}

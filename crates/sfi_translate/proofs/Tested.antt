@@ -15,10 +15,10 @@ use Rattle.rv_step.specs.declared.outcome.Outcome.TheVariants.{Next, Trap}
 use Rattle.rv_step.specs.declared.outcome.Cause.TheVariants as cause
 use Rattle.rv_step.specs.State.{Hart, register}
 use Rattle.rv_step.specs.Step.{effect, after_load, next, unchanged, load_size, store_size}
-use Rattle.sfi_policy.specs.Formats.{unit}
+use Rattle.sfi_formats.specs.Formats.{unit}
 use Rattle.sfi_image.specs.Parts.{IsRightPart}
-use Rattle.sfi_runs.specs.Runs.{HasReserved}
-use Rattle.sfi_runs.proofs.Accessing.{load_sized, store_sized}
+use Rattle.sfi_safe_runs.specs.Runs.{HasReserved}
+use Rattle.sfi_safe_runs.proofs.Accessing.{load_sized, store_sized}
 use Rattle.sfi_translate.specs.Machine.{is_tested, is_done, fixed}
 use Rattle.sfi_translate.specs.Laws.{HasData}
 

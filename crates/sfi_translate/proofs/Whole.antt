@@ -7,18 +7,18 @@ use Rattle.std.proofs.lemmas.List.{take-take, drop-take, drop_all}
 use Rattle.rv_comp.specs.Fronts.{Spells}
 use Rattle.rv_comp.proofs.Facts.{two_lengths}
 use Rattle.rv_step.specs.State.{Hart}
-use Rattle.sfi_policy.specs.Formats.{unit}
+use Rattle.sfi_formats.specs.Formats.{unit}
 use Rattle.sfi_image.proofs.Facts.{whole_bundles}
 use Rattle.sfi_rules.specs.Readings.{Piece, IsReading, IsLongestReading, rest_of, bundle_bytes}
 use Rattle.sfi_rules.specs.words.Rules.{breaks_width}
 use Rattle.sfi_rules.proofs.Facts.{one_longest_reading}
 use Rattle.sfi_rules.proofs.Readings.{spelled_within}
-use Rattle.sfi_runs.proofs.Formats.{bundles, words}
+use Rattle.sfi_safe_runs.proofs.Formats.{bundles, words}
 use Rattle.sfi_safety.specs.Places.{AreCleanBundles, IsAtPlace}
 use Rattle.sfi_safety.proofs.Places.{at_start, here_within}
 use Rattle.sfi_safety.proofs.Readings.{longest_of, nothing_begins}
-use Rattle.sfi_words.specs.Code.{IsCleanInWords, BreakNone}
-use Rattle.sfi_words.proofs.Places.{word_place}
+use Rattle.sfi_word_safety.specs.Code.{IsCleanInWords, BreakNone}
+use Rattle.sfi_word_safety.proofs.Places.{word_place}
 
 -- where one reading leaves nothing, neither does the longest
 all_read : (bytes : List ℕ) (one reading : List Piece) → IsReading bytes one → rest_of bytes one ≡ [] → IsLongestReading bytes reading → rest_of bytes reading ≡ []

@@ -11,7 +11,7 @@ use Rattle.rv_step.specs.declared.outcome.Outcome.TheVariants.{Next, Call, Trap}
 use Rattle.rv_step.specs.declared.outcome.Cause.TheVariants as cause
 use Rattle.rv_step.specs.State.{Hart, State, register, with_pc, even_of}
 use Rattle.rv_step.specs.Step.{Stepped, effect, unchanged, load_size, store_size, is_taken}
-use Rattle.sfi_policy.specs.Formats.{unit}
+use Rattle.sfi_formats.specs.Formats.{unit}
 use Rattle.sfi_image.specs.Spelling.{Part}
 use Rattle.sfi_rules.specs.Readings.{Piece, IsLongestReading}
 use Rattle.sfi_report.specs.Listing.{unit_bytes}

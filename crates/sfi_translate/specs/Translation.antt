@@ -7,7 +7,7 @@ use Rattle.rv_word.specs.Spelling.{offset_by}
 use Rattle.sfi_text.specs.Operands.{op_name, immediate_name, load_name, store_name, branch_name}
 use Rattle.sfi_report.specs.Listing.{hex_digits, line_end, unit_bytes}
 use Rattle.std.specs.List.{flat_map}
-use Rattle.sfi_policy.specs.Formats.{unit}
+use Rattle.sfi_formats.specs.Formats.{unit}
 use Rattle.sfi_image.specs.Spelling.{Part}
 use Rattle.sfi_image.specs.declared.part.Gate.{Gate}
 use Rattle.sfi_rules.specs.Readings.{Piece, IsLongestReading}

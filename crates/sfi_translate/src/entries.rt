@@ -4,8 +4,8 @@
 use crate::lines::FUNCTION_MOST;
 use rv_comp::{Front, read_front};
 use rv_word::Instr;
+use sfi_formats::Format;
 use sfi_image::SandboxPart;
-use sfi_policy::Format;
 use std::alloc::{AllocError, Global};
 
 /// The entries of a sandbox's code.

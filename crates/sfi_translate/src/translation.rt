@@ -10,8 +10,8 @@ use crate::entries::Entries;
 use crate::fields::{push_address, push_address_line, push_closing, push_number};
 use crate::lines::{FUNCTION_MOST, push_line};
 use rv_comp::{Front, read_front};
+use sfi_formats::Format;
 use sfi_image::{Gate, Image, SandboxPart};
-use sfi_policy::Format;
 use sfi_report::push_eight_digits;
 use std::alloc::{AllocError, Global};
 

@@ -1,8 +1,8 @@
 //! Code that tries to get out of its sandbox.
 use super::images::{C_EBREAK, C_NOP, EBREAK, HEAD, SFI1, SFI2, SFIW, bytes_of};
 use sfi_check::{Feed, Refusal, StreamAnswer, check, check_stream};
+use sfi_formats::Format;
 use sfi_image::Reading;
-use sfi_policy::Format;
 use sfi_scan::{Finding, Rule};
 use std::alloc::Global;
 use std::test::Fail;

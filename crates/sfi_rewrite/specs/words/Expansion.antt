@@ -5,8 +5,8 @@ use Rattle.rv_word.specs.declared.instr.RegOp.TheVariants.{Add, And, Or}
 use Rattle.rv_word.specs.declared.instr.Instr.{Instr}
 use Rattle.rv_word.specs.declared.instr.Instr.TheVariants.{Op, OpImm, Load, Store, Jal, Jalr}
 use Rattle.rv_word.specs.Outlines.{destination}
-use Rattle.sfi_policy.specs.Limits.{slack}
-use Rattle.sfi_policy.specs.Formats.{data_base_register, data_mask_register, is_data_register, code_register, offset_register}
+use Rattle.sfi_formats.specs.Limits.{slack}
+use Rattle.sfi_formats.specs.Formats.{data_base_register, data_mask_register, is_data_register, code_register, offset_register}
 use Rattle.sfi_source.specs.declared.item.Body.{Body}
 use Rattle.sfi_source.specs.declared.item.Body.TheVariants.{Plain, To, High, Low, Base}
 use Rattle.sfi_source.specs.declared.item.Item.{Item}

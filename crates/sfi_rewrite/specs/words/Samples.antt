@@ -10,8 +10,8 @@ use Rattle.rv_word.specs.Outlines.{destination}
 use Rattle.rv_step.specs.declared.outcome.Outcome.TheVariants.{Next}
 use Rattle.sfi_source.specs.declared.item.Body.TheVariants.{Plain}
 use Rattle.sfi_source.specs.declared.item.Item.{Item}
-use Rattle.sfi_policy.specs.Formats.{unit, is_data_register, stack_pointer}
-use Rattle.sfi_policy.specs.declared.format.Format.TheVariants.{Sfiw}
+use Rattle.sfi_formats.specs.Formats.{unit, is_data_register, stack_pointer}
+use Rattle.sfi_formats.specs.declared.format.Format.TheVariants.{Sfiw}
 use Rattle.sfi_rewrite.specs.Samples.{Meets, LeavesInside, LeavesOutside, sample_push}
 use Rattle.sfi_rewrite.specs.words.Expansion.{mask_after, is_step, IsPlainExpansion, IsExpansion}
 use Rattle.sfi_rewrite.specs.words.Transparency.{KeepsTo, effect_in}

@@ -13,8 +13,8 @@ use Rattle.rv_step.specs.declared.outcome.Outcome.TheVariants.{Next}
 use Rattle.rv_step.specs.State.{Hart, State, register}
 use Rattle.rv_step.specs.Step.{Stepped, effect, LeadTo}
 use Rattle.sfi_source.specs.declared.item.Item.{Item}
-use Rattle.sfi_policy.specs.Formats.{data_base_register, is_data_register, code_register, offset_register, unit}
-use Rattle.sfi_policy.specs.declared.format.Format.TheVariants.{Sfiw}
+use Rattle.sfi_formats.specs.Formats.{data_base_register, is_data_register, code_register, offset_register, unit}
+use Rattle.sfi_formats.specs.declared.format.Format.TheVariants.{Sfiw}
 use Rattle.sfi_image.specs.declared.span.Span.{Span}
 use Rattle.sfi_image.specs.Spelling.{Holds}
 use Rattle.sfi_rewrite.specs.declared.slot.Slot.{Slot}

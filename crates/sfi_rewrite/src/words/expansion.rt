@@ -6,8 +6,8 @@ ghost use Rattle.rv_word.specs.Outlines.{destination};
 use crate::expansion::{Expansion, alone};
 use crate::slot::Slot;
 use rv_word::{ImmOp, Instr, Reg, RegOp};
+use sfi_formats::{CODE_REGISTER, DATA_BASE_REGISTER, DATA_MASK_REGISTER, OFFSET_REGISTER, SLACK};
 use sfi_pairs::{code_pair, is_data_register};
-use sfi_policy::{CODE_REGISTER, DATA_BASE_REGISTER, DATA_MASK_REGISTER, OFFSET_REGISTER, SLACK};
 use sfi_source::{Body, Item};
 
 /// The data register in which the expansions make addresses, x29.

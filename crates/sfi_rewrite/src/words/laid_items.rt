@@ -2,7 +2,7 @@
 ghost use Rattle.std.specs.Prelude.{◌≡◌, ◌<◌, ◌+◌, true, IfOk, IfErr, length, drop};
 ghost use Rattle.sfi_rewrite.specs.private.{before_label, with_slots, HaveRoom, AreWith, HasNoRoom, IsBeyond};
 ghost use Rattle.sfi_rewrite.specs.private.{AreLabels};
-ghost use Rattle.sfi_policy.specs.declared.format.Format.TheVariants.{Sfiw};
+ghost use Rattle.sfi_formats.specs.declared.format.Format.TheVariants.{Sfiw};
 ghost use Rattle.sfi_rewrite.specs.Rewriting.{AreFaultless, UnlessMemory, IsItemFault};
 
 use crate::fault::RewriteFault;
@@ -11,7 +11,7 @@ use crate::laid_items::Laid;
 use crate::slot::Slot;
 use crate::words::expansion::expand;
 use crate::words::filled::WordFilling;
-use sfi_policy::Format;
+use sfi_formats::Format;
 use sfi_source::Item;
 use std::alloc::{AllocError, Global};
 

@@ -1,13 +1,13 @@
 -- The findings of code in words, in order. Each word of 4 bytes is read on its own, from its first
 -- byte; V10 and V11 are found at the instruction that doesn't meet what is owed, or at a write that
 -- nothing can make right. That nothing is found exactly where the rules of words/Rules.antt aren't
--- broken is a law of the crate sfi_words (FindsWhatIsBroken).
+-- broken is a law of the crate sfi_word_safety (FindsWhatIsBroken).
 use Rattle.std.specs.Prelude.{◌≡◌, ◌+◌, ◌-◌, ◌*◌, ◌==◌, ◌&&◌, ◌||◌, not, ℕ, zero, suc, List, [], ◌∷◌, ◌++◌, Bool, false, Option, Some, None, cond, length, take, drop, is_some}
 use Rattle.std.specs.List.{find}
 use Rattle.rv_word.specs.declared.instr.Instr.{Instr}
 use Rattle.rv_word.specs.Outlines.{destination, writes_register}
-use Rattle.sfi_policy.specs.Limits.{bundle_size, word_size}
-use Rattle.sfi_policy.specs.Formats.{is_data_register, code_register}
+use Rattle.sfi_formats.specs.Limits.{bundle_size, word_size}
+use Rattle.sfi_formats.specs.Formats.{is_data_register, code_register}
 use Rattle.sfi_image.specs.Spelling.{Part}
 use Rattle.sfi_image.specs.declared.bundle.BundlePlace.{BundlePlace}
 use Rattle.sfi_rules.specs.declared.finding.Finding.{Finding}

@@ -7,8 +7,8 @@ use Rattle.rv_word.specs.declared.instr.ImmOp.TheVariants.{Addi}
 use Rattle.rv_word.specs.Spelling.{offset_by}
 use Rattle.rv_word.specs.Outlines.{destination, writes_register}
 use Rattle.sfi_pairs.specs.Pairs.{is_masking, is_placing}
-use Rattle.sfi_policy.specs.Limits.{slack, word_size}
-use Rattle.sfi_policy.specs.Formats.{code_base_register, code_mask_register, data_base_register, data_mask_register, is_data_register, code_register, offset_register}
+use Rattle.sfi_formats.specs.Limits.{slack, word_size}
+use Rattle.sfi_formats.specs.Formats.{code_base_register, code_mask_register, data_base_register, data_mask_register, is_data_register, code_register, offset_register}
 use Rattle.sfi_rules.specs.Readings.{Piece, is_jump}
 use Rattle.sfi_rules.specs.Rules.{is_empty, ends_region}
 use Rattle.sfi_rules.specs.declared.owed.Owed.{Owed}

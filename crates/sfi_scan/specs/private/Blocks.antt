@@ -15,7 +15,7 @@ use Rattle.rv_word.specs.declared.outline.Outline.{Outline}
 use Rattle.rv_word.specs.declared.outline.Outline.TheVariants.{Computes, Loads, Stores, Branches, Jumps, JumpsTo, Orders, Calls, Stops}
 use Rattle.rv_word.specs.Outlines.{outline}
 use Rattle.rv_comp.specs.Fronts.{IsHalfwordThat, IsShortSpelling}
-use Rattle.sfi_policy.specs.Formats.{is_stack, data_base_register, data_mask_register, is_reserved, stack_pointer}
+use Rattle.sfi_formats.specs.Formats.{is_stack, data_base_register, data_mask_register, is_reserved, stack_pointer}
 use Rattle.sfi_scan.specs.declared.clean.Words.{Words}
 use Rattle.sfi_pairs.specs.Pairs.{masking_instr, placing_instr}
 use Rattle.sfi_rules.specs.Rules.{is_bundle_start, may_access}

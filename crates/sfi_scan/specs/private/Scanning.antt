@@ -5,7 +5,7 @@ use Rattle.std.proofs.Common.{List, Bool, [], ◌++◌, ap, sym, ◌∙◌, appe
 use Rattle.std.proofs.lemmas.List.{append-nil}
 use Rattle.sfi_rules.specs.declared.finding.Finding.{Finding}
 use Rattle.sfi_scan.specs.Stretches.{Lists, stretch_place, IsScanned, IsWordCodeScanned, AreWordStretchFindings}
-use Rattle.sfi_policy.specs.Limits.{bundle_size}
+use Rattle.sfi_formats.specs.Limits.{bundle_size}
 use Rattle.sfi_rules.specs.Readings.{IsWithinBlock}
 use Rattle.sfi_rules.specs.declared.owed.Owed.{Owed}
 

@@ -6,7 +6,7 @@ use Rattle.rv_comp.specs.Fronts.{IsShortSpelling}
 use Rattle.rv_word.specs.declared.instr.Instr.{Instr}
 use Rattle.rv_word.specs.declared.outline.Outline.{Outline}
 use Rattle.rv_word.specs.declared.outline.Outline.TheVariants.{Computes, Loads, Stores, Branches, Jumps, JumpsTo, Orders, Calls, Stops}
-use Rattle.sfi_policy.specs.Formats.{code_register, is_data_register, is_reserved, offset_register, code_base_register, code_mask_register, data_base_register, data_mask_register}
+use Rattle.sfi_formats.specs.Formats.{code_register, is_data_register, is_reserved, offset_register, code_base_register, code_mask_register, data_base_register, data_mask_register}
 use Rattle.sfi_image.specs.declared.bundle.BundlePlace.{BundlePlace}
 use Rattle.sfi_rules.specs.declared.owed.Owed.{Owed}
 use Rattle.sfi_rules.specs.words.Findings.{lowest, IsWordFound}
@@ -16,7 +16,7 @@ use Rattle.rv_word.specs.declared.instr.Instr.TheVariants.{Op, Load, Store}
 use Rattle.rv_word.specs.declared.instr.RegOp.TheVariants.{And, Or}
 use Rattle.sfi_masks.specs.Masks.{is_in, word_at}
 use Rattle.sfi_masks.specs.declared.masks.Masks.{Masks}
-use Rattle.sfi_policy.specs.Limits.{word_size}
+use Rattle.sfi_formats.specs.Limits.{word_size}
 use Rattle.sfi_rules.specs.Readings.{IsWithinBlock, bundle_at}
 use Rattle.sfi_rules.specs.declared.owed.Owed.TheVariants.{Nothing}
 

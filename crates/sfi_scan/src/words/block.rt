@@ -38,7 +38,7 @@ const CODE_MASKING: u32 = 0x0190_7f33;
 const CODE_PLACING: u32 = 0x018f_6f33;
 
 /// The largest offset, up or down, of an access on a data register after a step of it.
-const SLACK: u32 = sfi_policy::SLACK;
+const SLACK: u32 = sfi_formats::SLACK;
 
 /// The bits that name what a load writes, and the one that is set in a store's opcode.
 const LOADED: u32 = 0b11111 << 7 | 1 << 5;

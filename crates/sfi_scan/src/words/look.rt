@@ -10,7 +10,7 @@ ghost use Rattle.rv_word.specs.declared.instr.Instr.TheVariants.{Op};
 ghost use Rattle.rv_word.specs.declared.instr.RegOp.TheVariants.{And, Or};
 ghost use Rattle.rv_word.specs.declared.outline.Outline.TheVariants.{Computes};
 ghost use Rattle.sfi_image.specs.declared.bundle.BundlePlace.{BundlePlace};
-ghost use Rattle.sfi_policy.specs.Formats.{is_data_register};
+ghost use Rattle.sfi_formats.specs.Formats.{is_data_register};
 ghost use Rattle.sfi_rules.specs.Readings.{IsWithin};
 ghost use Rattle.sfi_rules.specs.declared.owed.Owed.TheVariants.{Nothing, MaskOrUse};
 ghost use Rattle.sfi_rules.specs.words.Findings.{IsWordFound};
@@ -25,10 +25,10 @@ use rv_comp::outline16;
 use rv_word::{
     Outline, Reg, RegOp, access32, computes32, decode32, op_word, outline_of, outline32,
 };
-use sfi_pairs::{is_data_register, is_reserved};
-use sfi_policy::{
+use sfi_formats::{
     CODE_BASE_REGISTER, CODE_REGISTER, DATA_BASE_REGISTER, DATA_MASK_REGISTER, OFFSET_REGISTER,
 };
+use sfi_pairs::{is_data_register, is_reserved};
 use sfi_rules::{BundlePlace, Owed};
 
 /// Whether the register is reserved or typed: a write of it has rules of its own.

@@ -8,8 +8,8 @@ use crate::before::is_masking;
 use crate::rules::is_jump;
 use crate::words::rules::{is_step, masks, places, places_code, uses};
 use rv_word::Instr;
+use sfi_formats::{CODE_MASK_REGISTER, CODE_REGISTER};
 use sfi_pairs::is_data_register;
-use sfi_policy::{CODE_MASK_REGISTER, CODE_REGISTER};
 use sfi_rules::Owed;
 
 /// Whether what is owed follows a write of a data register.

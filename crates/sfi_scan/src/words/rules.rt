@@ -10,13 +10,13 @@ use crate::before::{is_masking, is_placing};
 use crate::rules::{breaks_reserved, ends_region, offset_by};
 use crate::words::owed::{fails_code, fails_data};
 use rv_word::{ImmOp, Instr, Reg, RegOp};
-use sfi_pairs::is_data_register;
-use sfi_policy::{
+use sfi_formats::{
     CODE_BASE_REGISTER, CODE_REGISTER, DATA_BASE_REGISTER, DATA_MASK_REGISTER, OFFSET_REGISTER,
 };
+use sfi_pairs::is_data_register;
 use sfi_rules::{BundlePlace, Owed, Rule};
 
-const SLACK: i32 = sfi_policy::SLACK as i32;
+const SLACK: i32 = sfi_formats::SLACK as i32;
 
 /// Whether the instruction is `or x30, x30, x24`.
 pub(crate) fn places_code(instr: &Instr) -> bool

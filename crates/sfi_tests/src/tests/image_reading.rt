@@ -1,7 +1,7 @@
 //! Images as bytes and as parts, and the lines of their faults.
 use sfi_check::Refusal;
+use sfi_formats::Format;
 use sfi_image::{Gate, ImageFault, LayoutFault, parse_image, write_image, write_image_as};
-use sfi_policy::Format;
 use std::test::Fail;
 
 // The head of an image with one sandbox: code 256 at 01000000, data 256 at 01800000, start

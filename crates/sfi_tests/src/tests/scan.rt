@@ -1,5 +1,5 @@
 //! What the look at eight bundles at once sees to be clean: its contract lets it see none.
-use sfi_policy::Format;
+use sfi_formats::Format;
 use sfi_scan::{BundlePlace, clean_bundles};
 use std::alloc::Global;
 use std::process::Abort;

@@ -16,7 +16,7 @@ use Rattle.sfi_text.specs.Operands.{OperandValues}
 use Rattle.sfi_text.specs.private.Reading.{Reads, FollowsName, IsNext}
 use Rattle.sfi_text.specs.declared.keyword.Keyword.TheVariants as keyword
 use Rattle.sfi_text.specs.declared.mnemonic.Mnemonic.TheVariants as mnemonic
-use Rattle.sfi_policy.specs.Limits.{service_most}
+use Rattle.sfi_formats.specs.Limits.{service_most}
 use Rattle.rv_word.specs.Spelling.{IsReg, InRange}
 use Rattle.sfi_source.specs.Names.{IsShortLabel}
 use Rattle.sfi_source.specs.Source.{IsDataSize, IsStraight, IsOpen}

@@ -14,7 +14,7 @@ use Rattle.sfi_text.specs.declared.mnemonic.Mnemonic.{Mnemonic}
 use Rattle.sfi_text.specs.declared.mnemonic.Mnemonic.TheVariants.{Jal}
 use Rattle.sfi_text.specs.declared.operands.Operands.{Operands}
 use Rattle.sfi_text.specs.Operands.{OperandValues, Stands, IsNumberOf, form_of, name_of}
-use Rattle.sfi_policy.specs.Limits.{name_most}
+use Rattle.sfi_formats.specs.Limits.{name_most}
 use Rattle.rv_word.specs.declared.instr.Instr.{Instr}
 use Rattle.sfi_text.specs.declared.form.Part.{Part}
 use Rattle.sfi_text.specs.declared.form.Part.TheVariants.{Rd, Rs1, Rs2, Number, Name, Mode, ImageFormat, Comma, Open, Close}

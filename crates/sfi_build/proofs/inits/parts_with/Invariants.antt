@@ -1,5 +1,5 @@
 use Rattle.sfi_link.proofs.Prelude.{◌≡◌, ◌++◌, drop, views}
-use Rattle.sfi_policy.specs.declared.format.Format.{Format}
+use Rattle.sfi_formats.specs.declared.format.Format.{Format}
 use Rattle.sfi_build.specs.Tables.{each_with}
 use Rattle.sfi_build.specs.private.{contents, set_init}
 use Rattle.sfi_build.proofs.inits.parts_with.Given as goal

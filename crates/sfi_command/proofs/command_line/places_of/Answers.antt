@@ -2,7 +2,7 @@ use Rattle.std.proofs.Common.{List, [], codes, subst, sym, IfOk}
 use Rattle.std.specs.Prelude.{IfErr}
 use Rattle.clap.specs.Matches.{found_of}
 use Rattle.clap.specs.Walk.{Text}
-use Rattle.sfi_policy.specs.declared.place.Place.{Place}
+use Rattle.sfi_formats.specs.declared.place.Place.{Place}
 use Rattle.sfi_command.specs.Command.{SpellPlaces}
 use Rattle.sfi_command.specs.private.{ArePlacesFault}
 use Rattle.sfi_command.proofs.Words.{no_texts, texts_are}

@@ -1,5 +1,5 @@
 use Rattle.std.proofs.Common.{◌+◌, List, arith, map, subst, sym, take}
-use Rattle.sfi_policy.specs.declared.place.Place.{Place}
+use Rattle.sfi_formats.specs.declared.place.Place.{Place}
 use Rattle.sfi_command.specs.Command.{SpellPlaces}
 use Rattle.sfi_command.proofs.Spelled.{fault_of_none, none_spelled, one_more_read}
 use Rattle.sfi_command.proofs.places.parse_places.Goals as goal

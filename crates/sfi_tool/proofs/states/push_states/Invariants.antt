@@ -1,5 +1,5 @@
 use Rattle.sfi_tool.proofs.Prelude.{string_bytes, slots_of, views, AreTold, Adds}
-use Rattle.sfi_policy.specs.declared.format.Format.{Format}
+use Rattle.sfi_formats.specs.declared.format.Format.{Format}
 use Rattle.sfi_tool.proofs.states.push_states.Given as goal
 
 -- the first sandboxes are told of

@@ -2,7 +2,7 @@ use Rattle.sfi_host.proofs.Prelude.{◌≡◌, true, set, slice_get, Some, refl,
 use Rattle.sfi_host.specs.Programs.{programs_of}
 use Rattle.sfi_host.proofs.Asked.{found, seat_at}
 use Rattle.sfi_host.proofs.Changing.{others_same}
-use Rattle.sfi_runs.proofs.Entries.{even_unit}
+use Rattle.sfi_safe_runs.proofs.Entries.{even_unit}
 use Rattle.sfi_host.proofs.Entries.{sizes, HasEntered, has_entered, no_entry, entry_where}
 use Rattle.sfi_host.proofs.world.World.enter.Given as given
 use Rattle.sfi_host.proofs.world.World.enter.Goals as goal

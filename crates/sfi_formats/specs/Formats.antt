@@ -1,0 +1,98 @@
+-- The formats of images, and the registers that have a part in a sandbox's confinement.
+use Rattle.std.specs.Prelude.{◌==◌, ◌||◌, ℕ, Bool, ◌&&◌, List, true, false, codes}
+use Rattle.sfi_formats.specs.declared.format.Format.{Format}
+use Rattle.sfi_formats.specs.declared.format.Format.TheVariants.{Sfi1, Sfi2, Sfiw}
+
+-- ==== The registers that have a part in a sandbox's confinement, by their parts.
+
+-- it holds the code base
+abbrev pub code_base_register : ℕ
+code_base_register = 24
+
+-- it holds the code size less that of a unit of code: the mask of a code address
+abbrev pub code_mask_register : ℕ
+code_mask_register = 25
+
+-- it holds the data base
+abbrev pub data_base_register : ℕ
+data_base_register = 26
+
+-- it holds the data size less 1: the mask of a data address
+abbrev pub data_mask_register : ℕ
+data_mask_register = 27
+
+-- in it the expansions of code in bundles make addresses; in words it holds offsets
+abbrev pub scratch : ℕ
+scratch = 31
+
+-- the stack pointer, of a format that has one
+abbrev pub stack_pointer : ℕ
+stack_pointer = 2
+
+-- ---- the typed registers of code in words
+
+-- a data register, x2, x3, x4 or x29: it holds an address in the data region or near it
+abbrev pub is_data_register : ℕ → Bool
+is_data_register r = (r == 2) || (r == 3) || (r == 4) || (r == 29)
+
+-- the one that an indirect jump goes by: it holds a word's start
+abbrev pub code_register : ℕ
+code_register = 30
+
+-- the one that holds an offset in the data region
+abbrev pub offset_register : ℕ
+offset_register = 31
+
+-- ---- the return address
+
+-- in it a call leaves where to return to; a gate returns there
+abbrev pub return_register : ℕ
+return_register = 1
+
+-- one of the four that hold the bounds of the regions: nothing in a sandbox may write it
+abbrev pub is_reserved : ℕ → Bool
+is_reserved r = (r == code_base_register) || (r == code_mask_register) || (r == data_base_register)
+    || (r == data_mask_register)
+
+-- one that a source of code in bundles may not name: a reserved one, or that of its expansions
+abbrev pub is_withheld : ℕ → Bool
+is_withheld r = is_reserved r || (r == scratch)
+
+-- ==== The formats of images, and all that they differ in.
+
+-- the first four bytes
+unfoldable pub magic : Format → List ℕ
+magic Sfi1 = codes "SFI1"
+magic Sfi2 = codes "SFI2"
+magic Sfiw = codes "SFIW"
+
+-- the largest code region
+abbrev pub code_most : Format → ℕ
+code_most Sfi1 = 65536
+code_most Sfi2 = 1048576
+code_most Sfiw = 1048576
+
+-- The bytes of a unit of code, a bundle's or a word's: a sandbox is entered at multiples of it alone,
+-- and jumps to no other address.
+abbrev pub unit : Format → ℕ
+unit Sfi1 = 16
+unit Sfi2 = 16
+unit Sfiw = 4
+
+-- Whether x2 is a stack pointer: it lies in the data region wherever a sandbox is entered or
+-- replied to, an access on it needs no pair, and what writes it is confined.
+abbrev pub has_stack : Format → Bool
+has_stack Sfi1 = false
+has_stack Sfi2 = true
+has_stack Sfiw = false
+
+-- Whether code is in words: some registers have types, which say where they lie wherever a sandbox
+-- is entered or replied to, and what writes one of them is confined.
+abbrev pub has_words : Format → Bool
+has_words Sfi1 = false
+has_words Sfi2 = false
+has_words Sfiw = true
+
+-- the register of that number is the format's stack pointer
+abbrev pub is_stack : Format → ℕ → Bool
+is_stack f r = has_stack f && (r == stack_pointer)

@@ -1,0 +1,88 @@
+//! The formats of images.
+ghost use Rattle.std.specs.Prelude.{◌≡◌, ◌↔◌, IsTrue, take};
+ghost use Rattle.sfi_formats.specs.Formats.{magic, code_most, unit, has_stack, has_words, is_stack};
+
+use crate::registers::STACK_POINTER;
+
+/// A format of images.
+#[derive(Clone, Copy, PartialEq, Eq, Debug)]
+pub enum Format {
+    /// The first format: code in bundles.
+    Sfi1,
+    /// The format in which x2 is a stack pointer: it lies in the data region wherever a sandbox is
+    /// entered or replied to, an access on it needs no pair, and what writes it is confined.
+    Sfi2,
+    /// The format of code in words of 4 bytes. In place of pairs there are typed registers, whose
+    /// types say where they lie wherever a sandbox is entered or replied to, and what writes one is
+    /// confined.
+    Sfiw,
+}
+
+impl Format {
+    #[tactic(auto, unfolding(crate::specs::Formats::magic))]
+    /// The bytes that an image of this format begins with.
+    pub fn magic(self) -> [u8; 4]
+        ensures { result ≡ magic self }
+    {
+        match self {
+            Format::Sfi1 => *b"SFI1",
+            Format::Sfi2 => *b"SFI2",
+            Format::Sfiw => *b"SFIW",
+        }
+    }
+
+    /// The largest size of a code region, in bytes.
+    pub fn code_most(self) -> u32
+        ensures { result ≡ code_most self }
+    {
+        match self {
+            Format::Sfi1 => 65536,
+            Format::Sfi2 | Format::Sfiw => 1_048_576,
+        }
+    }
+
+    /// The size in bytes of a unit of code, a bundle or a word: a sandbox is entered, and jumps, at
+    /// multiples of it alone.
+    pub fn unit(self) -> u32
+        ensures { result ≡ unit self }
+    {
+        match self {
+            Format::Sfi1 | Format::Sfi2 => 16,
+            Format::Sfiw => 4,
+        }
+    }
+
+    /// Whether x2 is a stack pointer.
+    pub fn has_stack(self) -> bool
+        ensures { result ≡ has_stack self }
+    {
+        match self {
+            Format::Sfi1 | Format::Sfiw => false,
+            Format::Sfi2 => true,
+        }
+    }
+
+    /// Whether code is in words, with typed registers.
+    pub fn has_words(self) -> bool
+        ensures { result ≡ has_words self }
+    {
+        match self {
+            Format::Sfi1 | Format::Sfi2 => false,
+            Format::Sfiw => true,
+        }
+    }
+
+    /// Whether the register of this number is the stack pointer.
+    pub fn is_stack(self, register: u8) -> bool
+        ensures { result ≡ is_stack self register }
+    {
+        self.has_stack() && register == STACK_POINTER
+    }
+
+    /// Whether the bytes begin as an image of this format does, whatever follows.
+    pub fn begins(self, bytes: &[u8]) -> bool
+        ensures { IsTrue result ↔ (take 4 bytes.now ≡ magic self) }
+    {
+        bytes.len() >= 4 && &bytes[..4] == self.magic().as_slice()
+    }
+}

@@ -1,0 +1,45 @@
+//! Where the regions of a sandbox begin.
+ghost use Rattle.std.specs.Prelude.{◌≡◌, ◌<◌};
+ghost use Rattle.sfi_formats.specs.Limits.{place_of, usual};
+ghost use Rattle.sfi_formats.specs.Limits.{sandboxes_most};
+
+// The first code base, and how far the code of one sandbox lies from that of the next.
+const SANDBOX_STRIDE: u32 = 0x0100_0000;
+
+// How far the data lies from the code.
+const DATA_OFFSET: u32 = 0x0080_0000;
+
+/// Where the two regions of a sandbox begin.
+#[derive(Clone, Copy, Debug)]
+pub struct Place {
+    /// The first address of the code region.
+    pub code_base: u32,
+    /// The first address of the data region.
+    pub data_base: u32,
+}
+
+impl Place {
+    /// Where the sandbox of that number, counted from 0, lies if nobody says another place.
+    pub fn usual(number: u32) -> Place
+        requires few { number < sandboxes_most }
+        ensures is { result ≡ usual number }
+    {
+        let code_base = SANDBOX_STRIDE * (number + 1);
+        Place {
+            code_base,
+            data_base: code_base + DATA_OFFSET,
+        }
+    }
+}
+
+/// Where the sandbox of that number, counted from 0, lies: at the place that is given for it, or
+/// else at its usual place.
+pub fn place_of(given: &[Place], number: u32) -> Place
+    requires few { number < sandboxes_most }
+    ensures is { result ≡ place_of given.now number }
+{
+    match given.get(number as usize) {
+        Some(place) => *place,
+        None => Place::usual(number),
+    }
+}

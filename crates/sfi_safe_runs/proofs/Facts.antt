@@ -1,0 +1,33 @@
+-- What holds of runs, whatever the rules: laws, and further lemmas, for proofs here and in the crates above.
+use Rattle.sfi_safe_runs.specs.Laws.{SafeTurns, SafeStaysSafe, SafeFetches, GoesOnSafely, CanBeEntered, HasEntries, BundlesAskTheSame, WordsAsk, FirstFormatAsksNoStack}
+use Rattle.sfi_safe_runs.proofs.Entering.{entered}
+use Rattle.sfi_safe_runs.proofs.Entries.{entries}
+use Rattle.sfi_safe_runs.proofs.Formats.{bundles_ask, words_asks, first_asks}
+use Rattle.sfi_safe_runs.proofs.Safe.{turns_safe, stays_safe, fetches, goes_on}
+
+pub safe_turns : SafeTurns
+safe_turns = turns_safe
+
+pub safe_stays_safe : SafeStaysSafe
+safe_stays_safe = stays_safe
+
+pub safe_fetches : SafeFetches
+safe_fetches = fetches
+
+pub goes_on_safely : GoesOnSafely
+goes_on_safely = goes_on
+
+pub can_be_entered : CanBeEntered
+can_be_entered = entered
+
+pub has_entries : HasEntries
+has_entries = entries
+
+pub bundles_ask_the_same : BundlesAskTheSame
+bundles_ask_the_same = bundles_ask
+
+pub words_ask : WordsAsk
+words_ask = words_asks
+
+pub first_format_asks_no_stack : FirstFormatAsksNoStack
+first_format_asks_no_stack = first_asks

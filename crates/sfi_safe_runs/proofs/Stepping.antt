@@ -1,0 +1,92 @@
+-- What a step keeps, if its accesses fall into the data and the guards.
+use Rattle.sfi_safe_runs.proofs.Prelude.{◌≡◌, ℕ, suc, ◌+◌, ◌<◌, ◌≤◌, ◌⊎◌, List, [], ◌∷◌, length, map, Option, Some, None, Bool, true, false, cond, ◌==◌, refl, sym, ap, ◌∙◌, subst, inl, inr, ⊎_elim, arith, add-zero, slice_index, slice_get, is_some, IsSome, range_with_len, or_cases, eqb-true, false≢true, offset_by, Instr, Load, Store, LoadKind, Bytes, byte_at, bytes_at, addresses, loaded, Next, Call, Trap, Outcome, Accesses, Hart, State, register, Stepped, Stands, IsStep, effect, after_load, next, unchanged, load_size, store_size, Gate, Part, Holds, AreApart, code_region, guarded_region, IsRightPart, is_gate_of, InData, InGuard, IsGate, HasCode, HasEmptyGuards, KeepsAll, IsTrap, IsSafeStep}
+use Rattle.rv_step.specs.declared.outcome.Cause.TheVariants as cause
+use Rattle.rv_step.proofs.Facts.{one_instruction, step_is_effect, other_bytes_stay, accessed_is_there}
+
+-- ---- bytes
+
+-- bytes that stand one after another are read as a list
+pub read_all : (m : Bytes) (f : ℕ → ℕ) (a : ℕ) (bytes : List ℕ) → ((k : ℕ) → k < length bytes → byte_at m (f (a + k)) ≡ Some (slice_index bytes k)) → bytes_at m (map f (range_with_len a (length bytes))) ≡ Some bytes
+read_all m f a [] each = refl
+read_all m f a (b ∷ bytes) each =
+    let first : byte_at m (f a) ≡ Some b = ap (λ (n : ℕ). byte_at m (f n)) (sym (add-zero a)) ∙ each 0 (omega arith) in
+    let others = read_all m f (a + 1) bytes (λ k h. let e : a + 1 + k ≡ a + suc k = omega arith in ap (λ (n : ℕ). byte_at m (f n)) e ∙ each (suc k) (omega arith)) in
+    rw (first, others) refl
+
+-- a gate of the list at the address
+pub gate_of : (gates : List Gate) (a : ℕ) → is_gate_of gates a ≡ true → (k : ℕ) × (g : Gate) × (slice_get gates k ≡ Some g) × (g.address ≡ a)
+gate_of [] a h = absurd (false≢true h)
+gate_of (g ∷ gates) a h =
+    ⊎_elim
+    (λ (e : (g.address == a) ≡ true). (0, g, refl, eqb-true g.address a e))
+    (λ (e : is_gate_of gates a ≡ true). let x = gate_of gates a e in (suc x.0, x.1, x.2, x.3))
+    (or_cases (g.address == a) (is_gate_of gates a) h)
+
+pub guarded : (p : Part) (a : ℕ) → IsRightPart p → InData p a ⊎ InGuard p a → Holds (guarded_region p) a
+guarded p a right (inl (from, below)) = let room : 4096 ≤ p.data_base = right.guard_room.below in (omega arith, omega arith)
+guarded p a right (inr (inl (from, below))) = let room : 4096 ≤ p.data_base = right.guard_room.below in (omega arith, omega arith)
+guarded p a right (inr (inr (from, below))) = let room : 4096 ≤ p.data_base = right.guard_room.below in (omega arith, omega arith)
+
+none_there : (o : Option ℕ) → IsSome o → o ≡ None → ⊥
+none_there None some e = cc
+none_there (Some b) some e = cc
+
+-- ---- what accesses anything does not call
+
+load_no_call : (o : Option ℕ) (kind : LoadKind) (rd at n : ℕ) (h : Hart) (m : Bytes) → (after_load o kind rd at n h m).outcome ≡ Call → ⊥
+load_no_call None kind rd at n h m e = cc
+load_no_call (Some v) kind rd at n h m e = cc
+
+store_no_call : (b : Bool) (at : ℕ) (k : Hart) (w : Bytes) (h : Hart) (m : Bytes) → (cond b (next k w) (unchanged (Trap cause.Store at) h m)).outcome ≡ Call → ⊥
+store_no_call true at k w h m e = cc
+store_no_call false at k w h m e = cc
+
+-- what accesses anything does not call
+pub no_call : (i : Instr) (n : ℕ) (h : Hart) (m : Bytes) (a : ℕ) → Accesses i h a → (effect i n h m).outcome ≡ Call → ⊥
+no_call (Load kind rd rs1 imm) n h m a has e = load_no_call (loaded m (offset_by (register h rs1) imm) (load_size kind)) kind rd _ n h m e
+no_call (Store width rs1 rs2 imm) n h m a has e = store_no_call (is_some (bytes_at m (addresses (offset_by (register h rs1) imm) (store_size width)))) _ _ _ h m e
+no_call other n h m a (k, below, is) e = omega arith
+
+-- ---- the step
+
+-- an instruction stands at pc, and all its accesses fall into the data and the guards
+module _ (p : Part) (right : IsRightPart p) (apart : AreApart (code_region p) (guarded_region p)) (s : State) (kept : KeepsAll p s) (i : Instr) (n : ℕ) (stands : Stands s i n)
+    (near : (a : ℕ) → Accesses i s.hart a → InData p a ⊎ InGuard p a) where
+  pub only : (j : Instr) (k : ℕ) → Stands s j k → (j ≡ i) × (k ≡ n)
+  only j k there = one_instruction s j i k n there stands
+
+  module _ (r : Stepped) (step : IsStep s r) where
+    -- a step has the effect of that instruction
+    pub step_is : r ≡ effect i n s.hart s.memory
+    step_is = step_is_effect s i n r stands step
+
+    -- what a step that is done found is in no guard, so it is in the data
+    not_in_guard : r.outcome ≡ Next → (a : ℕ) → Accesses i s.hart a → InGuard p a → ⊥
+    not_in_guard done a has guard = none_there (byte_at s.memory a) (accessed_is_there s i n r a stands step done has) (kept.guards a guard)
+
+    pub in_data : r.outcome ≡ Next → (a : ℕ) → Accesses i s.hart a → InData p a
+    in_data done a has = ⊎_elim (λ inside. inside) (λ guard. absurd (not_in_guard done a has guard)) (near a has)
+
+    pub code_stays : HasCode p r.state.memory
+    code_stays k below =
+        other_bytes_stay s i n r (p.code_base + k) stands step
+        (λ has. apart (p.code_base + k) (omega arith, omega (arith, below)) (guarded p (p.code_base + k) right (near (p.code_base + k) has)))
+        ∙ kept.code k below
+
+    pub guards_stay : r.outcome ≡ Next → HasEmptyGuards p r.state.memory
+    guards_stay done a guard =
+        other_bytes_stay s i n r a stands step (λ has. not_in_guard done a has guard)
+        ∙ kept.guards a guard
+
+    traps : (a : ℕ) → Accesses i s.hart a → InGuard p a → (o : Outcome) → r.outcome ≡ o → IsTrap o
+    traps a has guard Next e = absurd (not_in_guard e a has guard)
+    traps a has guard Call e = absurd (no_call i n s.hart s.memory a has (ap (λ (x : Stepped). x.outcome) (sym step_is) ∙ e))
+    traps a has guard (Trap cause at) e = tt
+
+    -- the step is safe, if it calls at a gate alone
+    pub step_safe : (r.outcome ≡ Call → IsGate p s.hart.pc) → IsSafeStep p s r
+    step_safe called = record {
+      within = λ j k there a has. near a (subst (λ (x : Instr). Accesses x s.hart a) (only j k there).0 has);
+      trapped = λ j k there a has guard. traps a (subst (λ (x : Instr). Accesses x s.hart a) (only j k there).0 has) guard r.outcome refl;
+      called = called;
+    }
