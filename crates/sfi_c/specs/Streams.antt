@@ -46,7 +46,7 @@ abbrev pub owed_by : ℕ → ℕ → Owed
 owed_by kind register =
     cond (kind == 1) owed.Code
     (cond (kind == 2) (owed.Mask register)
-    (cond (kind == 3) (owed.Place register)
+    (cond (kind == 3) (owed.PlaceOnly register)
     (cond (kind == 4) (owed.MaskOrUse register) owed.Nothing)))
 
 abbrev pub owed_of : ℕ → Owed

@@ -70,7 +70,7 @@ pub(crate) fn owed_number(owed: Owed) -> u32
         Owed::Nothing => 0,
         Owed::Code => 1,
         Owed::Mask(register) => 8 * register as u32 + 2,
-        Owed::Place(register) => 8 * register as u32 + 3,
+        Owed::PlaceOnly(register) => 8 * register as u32 + 3,
         Owed::MaskOrUse(register) => 8 * register as u32 + 4,
     }
 }
@@ -83,7 +83,7 @@ pub(crate) fn owed_of(number: u32) -> Owed
     match number % 8 {
         1 => Owed::Code,
         2 => Owed::Mask(register),
-        3 => Owed::Place(register),
+        3 => Owed::PlaceOnly(register),
         4 => Owed::MaskOrUse(register),
         _ => Owed::Nothing,
     }

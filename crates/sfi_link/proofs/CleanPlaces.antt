@@ -9,7 +9,7 @@ use Rattle.sfi_formats.specs.Formats.{is_reserved, is_withheld}
 use Rattle.sfi_formats.specs.declared.format.Format.TheVariants.{Sfi1}
 use Rattle.sfi_rewrite.specs.Expansion.{names_withheld}
 use Rattle.sfi_rules.specs.Findings.{lowest, all_rules, findings_from}
-use Rattle.sfi_rules.specs.Rules.{is_empty, is_bundle_start, breaks_ecall, breaks_reserved, breaks_access, breaks_jump, breaks_target, breaks_end, breaks_stack, may_write_stack, ends_region, is_last_bundle, Place}
+use Rattle.sfi_rules.specs.Rules.{is_empty, is_bundle_start, breaks_ecall, breaks_reserved, breaks_access, breaks_jump, breaks_target, breaks_end, breaks_stack, may_write_stack, ends_region, is_last_bundle, InstrInBundle}
 use Rattle.sfi_rules.specs.Readings.{writes_stack, begins_pair, precedes_pair}
 use Rattle.sfi_image.specs.declared.bundle.BundlePlace.{BundlePlace}
 use Rattle.std.proofs.Math.Seq.{take-append_seam, drop-append_seam}
@@ -71,7 +71,7 @@ pub record IsCleanFrom (b : BundlePlace) (here : ℕ) (earlier : List Instr) (sl
 -- ---- one place
 
 -- no rule is broken at a place
-pub record Passes (x : Place) : Type 0 where
+pub record Passes (x : InstrInBundle) : Type 0 where
   pub v3 : breaks_ecall x x.instr ≡ false
   pub v4 : breaks_reserved x.instr ≡ false
   pub v5 : breaks_access x x.instr ≡ false
@@ -80,11 +80,11 @@ pub record Passes (x : Place) : Type 0 where
   pub v8 : breaks_end x x.instr ≡ false
   pub v10 : breaks_stack x x.instr ≡ false
 
-pub passes : (x : Place) → breaks_ecall x x.instr ≡ false → breaks_reserved x.instr ≡ false → breaks_access x x.instr ≡ false → breaks_jump x x.instr ≡ false → breaks_target x x.instr ≡ false → breaks_end x x.instr ≡ false
+pub passes : (x : InstrInBundle) → breaks_ecall x x.instr ≡ false → breaks_reserved x.instr ≡ false → breaks_access x x.instr ≡ false → breaks_jump x x.instr ≡ false → breaks_target x x.instr ≡ false → breaks_end x x.instr ≡ false
     → breaks_stack x x.instr ≡ false → Passes x
 passes x ecall reserved access jump target end stack = record { v3 = ecall; v4 = reserved; v5 = access; v6 = jump; v7 = target; v8 = end; v10 = stack }
 
-none_lowest : (x : Place) → Passes x → lowest x all_rules ≡ []
+none_lowest : (x : InstrInBundle) → Passes x → lowest x all_rules ≡ []
 none_lowest x h = simp (h.v3, h.v4, h.v5, h.v6, h.v7, h.v8, h.v10)
 
 end_passes : (a : Bool) (x : Piece) (later : List Piece) → (a && not (ends_well (x ∷ later))) ≡ false → (a && (true && is_empty later) && not (ends_region x.instr)) ≡ false
@@ -97,7 +97,7 @@ end_later a x [] h = and_right a false refl
 end_later a x (y ∷ later) h = h
 
 -- the place of a piece in a bundle that is read whole
-abbrev pub place : BundlePlace → ℕ → List Instr → Instr → List Piece → Place
+abbrev pub place : BundlePlace → ℕ → List Instr → Instr → List Piece → InstrInBundle
 place b here earlier i later = record { bundle = b; address = here; earlier = earlier; instr = i; later = later; whole = true }
 
 pub or_left : (a b : Bool) → (a || b) ≡ false → a ≡ false
@@ -140,15 +140,15 @@ calm b here earlier _ later h r w e = cc
 -- ---- the stack pointer
 
 -- V10, of what doesn't write it
-pub no_write : (x : Place) (i : Instr) → writes_stack x.bundle i ≡ false → breaks_stack x i ≡ false
+pub no_write : (x : InstrInBundle) (i : Instr) → writes_stack x.bundle i ≡ false → breaks_stack x i ≡ false
 no_write x i h = ap (λ w. w && not (may_write_stack x i)) h
 
 -- above all of what has no rd
-unwritten : (x : Place) (i : Instr) → writes_register 2 i ≡ false → breaks_stack x i ≡ false
+unwritten : (x : InstrInBundle) (i : Instr) → writes_register 2 i ≡ false → breaks_stack x i ≡ false
 unwritten x i h = no_write x i (ap (λ w. has_stack x.bundle.format && w) h ∙ and_right (has_stack x.bundle.format) false refl)
 
 -- and of what may
-pub well_written : (x : Place) (i : Instr) → may_write_stack x i ≡ true → breaks_stack x i ≡ false
+pub well_written : (x : InstrInBundle) (i : Instr) → may_write_stack x i ≡ true → breaks_stack x i ≡ false
 well_written x i h = ap (λ m. writes_stack x.bundle i && not m) h ∙ and_right (writes_stack x.bundle i) false refl
 
 -- the pair directly after is read

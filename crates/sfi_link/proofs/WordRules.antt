@@ -8,7 +8,7 @@ use Rattle.sfi_rules.specs.declared.rule.Rule.{Rule}
 use Rattle.sfi_rules.specs.declared.rule.Rule.TheVariants.{V3, V4, V5, V6, V7, V8, V10, V11, V12}
 use Rattle.sfi_rules.specs.Rules.{breaks_reserved}
 use Rattle.sfi_rules.specs.words.Rules.{breaks_ecall, breaks_access, breaks_jump, breaks_target, breaks_offset, left, owed_by, joined, owed_next, is_of_data, is_of_code}
-use Rattle.sfi_rules.specs.words.Findings.{Place, is_at_gate, is_data_one, breaks_last, fails_data, fails_code, lowest, found_at, found_from, owed_past}
+use Rattle.sfi_rules.specs.words.Findings.{InstrInWord, is_at_gate, is_data_one, breaks_last, fails_data, fails_code, lowest, found_at, found_from, owed_past}
 
 -- ---- what is asked of an instruction
 
@@ -38,7 +38,7 @@ meets_by rest own pays owes next_is = record { rest = rest; pays = pays; own = o
 -- ---- no rule is broken there
 
 -- the place of an instruction of `n` bytes at address `at`
-abbrev pub place : BundlePlace → ℕ → Owed → Instr → ℕ → Place
+abbrev pub place : BundlePlace → ℕ → Owed → Instr → ℕ → InstrInWord
 place b at owed i n = record { bundle = b; address = at; owed = owed; instr = i; size = n }
 
 first_true : (b3 b4 b5 b6 b7 b8 b10 b11 b12 : Bool) → Option Rule
@@ -50,7 +50,7 @@ all_false : (b3 b4 b5 b6 b7 b8 b10 b11 b12 : Bool) → b3 ≡ false → b4 ≡ f
 unfolding first_true
 all_false b3 b4 b5 b6 b7 b8 b10 b11 b12 h3 h4 h5 h6 h7 h8 h10 h11 h12 = rw (h3, h4, h5, h6, h7, h8, h10, h11, h12) refl
 
-lowest_is : (x : Place) → lowest x ≡ first_true (breaks_ecall (is_at_gate x.bundle x.address) x.instr) (breaks_reserved x.instr) (breaks_access x.instr) (breaks_jump x.instr) (breaks_target x.bundle.code_base x.bundle.code_size x.address x.instr) (breaks_last x)
+lowest_is : (x : InstrInWord) → lowest x ≡ first_true (breaks_ecall (is_at_gate x.bundle x.address) x.instr) (breaks_reserved x.instr) (breaks_access x.instr) (breaks_jump x.instr) (breaks_target x.bundle.code_base x.bundle.code_size x.address x.instr) (breaks_last x)
     (fails_data x.owed x.instr) (fails_code x.owed x.instr) (breaks_offset x.instr)
 unfolding first_true
 lowest_is x = refl

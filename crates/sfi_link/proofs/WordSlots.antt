@@ -67,15 +67,15 @@ put base size here d owed typed m = record {
 }
 
 -- so it does where nothing is owed
-put_meets : (d : ℕ) → is_data_register d ≡ true → Meets kind.Nothing (Op Or d 31 26) kind.Nothing × Meets (kind.Place d) (Op Or d 31 26) kind.Nothing
-put_meets = of_data (λ e. Meets kind.Nothing (Op Or e 31 26) kind.Nothing × Meets (kind.Place e) (Op Or e 31 26) kind.Nothing)
+put_meets : (d : ℕ) → is_data_register d ≡ true → Meets kind.Nothing (Op Or d 31 26) kind.Nothing × Meets (kind.PlaceOnly d) (Op Or d 31 26) kind.Nothing
+put_meets = of_data (λ e. Meets kind.Nothing (Op Or e 31 26) kind.Nothing × Meets (kind.PlaceOnly e) (Op Or e 31 26) kind.Nothing)
     (meets_by kind.Nothing kind.Nothing refl refl refl, meets_by kind.Nothing kind.Nothing refl refl refl) (meets_by kind.Nothing kind.Nothing refl refl refl, meets_by kind.Nothing kind.Nothing refl refl refl)
     (meets_by kind.Nothing kind.Nothing refl refl refl, meets_by kind.Nothing kind.Nothing refl refl refl) (meets_by kind.Nothing kind.Nothing refl refl refl, meets_by kind.Nothing kind.Nothing refl refl refl)
 
-mask_meets : (d : ℕ) → is_data_register d ≡ true → Meets (kind.Mask d) (Op And 31 d 27) (kind.Place d) × Meets (kind.MaskOrUse d) (Op And 31 d 27) (kind.Place d)
-mask_meets = of_data (λ e. Meets (kind.Mask e) (Op And 31 e 27) (kind.Place e) × Meets (kind.MaskOrUse e) (Op And 31 e 27) (kind.Place e))
-    (meets_by (kind.Place 2) kind.Nothing refl refl refl, meets_by (kind.Place 2) kind.Nothing refl refl refl) (meets_by (kind.Place 3) kind.Nothing refl refl refl, meets_by (kind.Place 3) kind.Nothing refl refl refl)
-    (meets_by (kind.Place 4) kind.Nothing refl refl refl, meets_by (kind.Place 4) kind.Nothing refl refl refl) (meets_by (kind.Place 29) kind.Nothing refl refl refl, meets_by (kind.Place 29) kind.Nothing refl refl refl)
+mask_meets : (d : ℕ) → is_data_register d ≡ true → Meets (kind.Mask d) (Op And 31 d 27) (kind.PlaceOnly d) × Meets (kind.MaskOrUse d) (Op And 31 d 27) (kind.PlaceOnly d)
+mask_meets = of_data (λ e. Meets (kind.Mask e) (Op And 31 e 27) (kind.PlaceOnly e) × Meets (kind.MaskOrUse e) (Op And 31 e 27) (kind.PlaceOnly e))
+    (meets_by (kind.PlaceOnly 2) kind.Nothing refl refl refl, meets_by (kind.PlaceOnly 2) kind.Nothing refl refl refl) (meets_by (kind.PlaceOnly 3) kind.Nothing refl refl refl, meets_by (kind.PlaceOnly 3) kind.Nothing refl refl refl)
+    (meets_by (kind.PlaceOnly 4) kind.Nothing refl refl refl, meets_by (kind.PlaceOnly 4) kind.Nothing refl refl refl) (meets_by (kind.PlaceOnly 29) kind.Nothing refl refl refl, meets_by (kind.PlaceOnly 29) kind.Nothing refl refl refl)
 
 mask_free : (a : ℕ) → Meets kind.Nothing (Op And 31 a 27) kind.Nothing
 mask_free a = meets_by kind.Nothing kind.Nothing refl refl refl
@@ -99,5 +99,5 @@ after_right base size at names here owed (Some d) m = by (is_data_register d) re
   where
     by : (t : Bool) → is_data_register d ≡ t → MatchBool t ((owed ≡ kind.Mask d) ⊎ (owed ≡ kind.MaskOrUse d)) (owed ≡ kind.Nothing) → AreRight base size at names here owed (if t then data_mask d d else []) kind.Nothing
     by false e m = sym m
-    by true e (inl is) = subst (λ o. AreRight base size at names here o (data_mask d d) kind.Nothing) (sym is) (mask_then base size at names here d d (kind.Mask d) (kind.Place d) e (mask_meets d e).0 (put_meets d e).1)
-    by true e (inr is) = subst (λ o. AreRight base size at names here o (data_mask d d) kind.Nothing) (sym is) (mask_then base size at names here d d (kind.MaskOrUse d) (kind.Place d) e (mask_meets d e).1 (put_meets d e).1)
+    by true e (inl is) = subst (λ o. AreRight base size at names here o (data_mask d d) kind.Nothing) (sym is) (mask_then base size at names here d d (kind.Mask d) (kind.PlaceOnly d) e (mask_meets d e).0 (put_meets d e).1)
+    by true e (inr is) = subst (λ o. AreRight base size at names here o (data_mask d d) kind.Nothing) (sym is) (mask_then base size at names here d d (kind.MaskOrUse d) (kind.PlaceOnly d) e (mask_meets d e).1 (put_meets d e).1)

@@ -18,7 +18,7 @@ use Rattle.sfi_image.proofs.Facts.{whole_bundles, code_ends}
 use Rattle.sfi_rules.specs.declared.finding.Finding.{Finding}
 use Rattle.sfi_rules.specs.declared.rule.Rule.{Rule}
 use Rattle.sfi_rules.specs.declared.rule.Rule.TheVariants.{V1, V3, V5, V6, V7, V8, V9}
-use Rattle.sfi_rules.specs.Rules.{broken, all_rules, rest_finding, Place, is_empty, breaks_ecall, breaks_access, breaks_jump, breaks_target, breaks, is_last_bundle}
+use Rattle.sfi_rules.specs.Rules.{broken, all_rules, rest_finding, InstrInBundle, is_empty, breaks_ecall, breaks_access, breaks_jump, breaks_target, breaks, is_last_bundle}
 use Rattle.sfi_rules.specs.Readings.{bundle_place, bundle_bytes, Piece, rest_of}
 use Rattle.sfi_rules.specs.Findings.{lowest, findings_from, AreReadingFindings, AreBundleFindings, AreFindingsOfFirst, AreFindingsInBundles}
 use Rattle.sfi_rules.specs.words.Rules.{is_word_start, owed_next}
@@ -103,7 +103,7 @@ module _ (from to size : ℕ) (end : from + size ≤ 2 ^ 32) (end' : to + size �
 
   -- ---- in bundles
 
-  abbrev place_at : BundlePlace → ℕ → List Instr → Instr → List Piece → Bool → Place
+  abbrev place_at : BundlePlace → ℕ → List Instr → Instr → List Piece → Bool → InstrInBundle
   place_at b k earlier i later whole = record { bundle = b; address = k; earlier = earlier; instr = i; later = later; whole = whole }
 
   target_same : (b : BundlePlace) (n k : ℕ) (earlier : List Instr) (i j : Instr) (later : List Piece) (whole : Bool)
@@ -203,7 +203,7 @@ module _ (from to size : ℕ) (end : from + size ≤ 2 ^ 32) (end' : to + size �
 
   -- ---- in words
 
-  abbrev word_at : BundlePlace → ℕ → Owed → Instr → ℕ → words.Place
+  abbrev word_at : BundlePlace → ℕ → Owed → Instr → ℕ → words.InstrInWord
   word_at b k owed i n = record { bundle = b; address = k; owed = owed; instr = i; size = n }
 
   word_target_same : (k : ℕ) (i : Instr) → word_rules.breaks_target to size (to + k) i ≡ word_rules.breaks_target from size (from + k) i

@@ -194,7 +194,7 @@ pieces_stand b at owed rest (x ∷ later) h =
     (first (words.lowest here) refl)
     (λ k d g. after_piece _ _ _ _ _ h.0 _ (pieces_stand b (at + x.size) (owed_next owed x.instr) (drop x.size rest) later h.1 k d g))
   where
-    here : words.Place
+    here : words.InstrInWord
     here = record { bundle = b; address = at; owed = owed; instr = x.instr; size = x.size }
 
     begins : SpellsFirst rest

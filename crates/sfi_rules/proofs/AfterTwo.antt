@@ -5,7 +5,7 @@ use Rattle.rv_word.specs.declared.instr.Instr.TheVariants.{Op}
 use Rattle.rv_word.specs.declared.instr.RegOp.TheVariants.{And}
 use Rattle.sfi_formats.specs.Formats.{code_base_register, code_register}
 use Rattle.sfi_pairs.specs.Pairs.{is_placing}
-use Rattle.sfi_rules.specs.declared.owed.Owed.TheVariants.{Nothing, Mask, Place, MaskOrUse, Code}
+use Rattle.sfi_rules.specs.declared.owed.Owed.TheVariants.{Nothing, Mask, PlaceOnly, MaskOrUse, Code}
 use Rattle.sfi_rules.specs.words.Rules.{is_and, masks, places, uses, owed_by, or_nothing, joined, owed_next}
 use Rattle.sfi_rules.specs.Laws.{OwedIsOfTwo, owed_after_two}
 
@@ -25,11 +25,11 @@ last true own = refl
 last false own = refl
 
 -- the masking that was owed leaves the placing
-masked : (t : Bool) (d : ℕ) (own : Option Owed) → joined (cond t (Some (Place d)) None) own ≡ cond t (Place d) (or_nothing own)
+masked : (t : Bool) (d : ℕ) (own : Option Owed) → joined (cond t (Some (PlaceOnly d)) None) own ≡ cond t (PlaceOnly d) (or_nothing own)
 masked true d own = refl
 masked false d own = refl
 
-masked_or_used : (t u : Bool) (d : ℕ) (own : Option Owed) → joined (cond t (Some (Place d)) (cond u (Some Nothing) None)) own ≡ cond t (Place d) (or_nothing own)
+masked_or_used : (t u : Bool) (d : ℕ) (own : Option Owed) → joined (cond t (Some (PlaceOnly d)) (cond u (Some Nothing) None)) own ≡ cond t (PlaceOnly d) (or_nothing own)
 masked_or_used true u d own = refl
 masked_or_used false true d own = refl
 masked_or_used false false d own = refl
@@ -39,18 +39,18 @@ settled : (asked : Option Owed) (m : Instr) → owed_next (or_nothing asked) m �
 settled None m = refl
 settled (Some Nothing) m = refl
 settled (Some (Mask d)) m = masked (masks d m) d (owed_by m)
-settled (Some (Place d)) m = last (places d m) (owed_by m)
+settled (Some (PlaceOnly d)) m = last (places d m) (owed_by m)
 settled (Some (MaskOrUse d)) m = masked_or_used (masks d m) (uses d m) d (owed_by m)
 settled (Some Code) m = last (is_placing code_base_register code_register m) (owed_by m)
 
 -- a masking asks nothing itself, and what it leaves doesn't outlast the next instruction
-after_masking : (t : Bool) (d : ℕ) (w m : Instr) → masks d w ≡ t → owed_next (cond t (Place d) (or_nothing (owed_by w))) m ≡ owed_after_two (owed_by w) m
+after_masking : (t : Bool) (d : ℕ) (w m : Instr) → masks d w ≡ t → owed_next (cond t (PlaceOnly d) (or_nothing (owed_by w))) m ≡ owed_after_two (owed_by w) m
 after_masking true d w m e = last (places d m) (owed_by m) ∙ ap (λ (i : Instr). owed_after_two (owed_by i) m) (sym (and_is 31 d 27 w e))
 after_masking false d w m e = settled (owed_by w) m
 
 pub of_two : OwedIsOfTwo
 of_two Nothing w m = settled (owed_by w) m
 of_two (Mask d) w m = ap (λ (o : Owed). owed_next o m) (masked (masks d w) d (owed_by w)) ∙ after_masking (masks d w) d w m refl
-of_two (Place d) w m = ap (λ (o : Owed). owed_next o m) (last (places d w) (owed_by w)) ∙ settled (owed_by w) m
+of_two (PlaceOnly d) w m = ap (λ (o : Owed). owed_next o m) (last (places d w) (owed_by w)) ∙ settled (owed_by w) m
 of_two (MaskOrUse d) w m = ap (λ (o : Owed). owed_next o m) (masked_or_used (masks d w) (uses d w) d (owed_by w)) ∙ after_masking (masks d w) d w m refl
 of_two Code w m = ap (λ (o : Owed). owed_next o m) (last (is_placing code_base_register code_register w) (owed_by w)) ∙ settled (owed_by w) m

@@ -1,5 +1,5 @@
 -- The first format has no stack pointer: no place breaks V10.
-use Rattle.sfi_rules.proofs.Prelude.{◌≡◌, ◌≢◌, ◌∷◌, ◌++◌, ℕ, zero, suc, ◌+◌, Bool, true, false, List, [], refl, sym, ap, subst, inl, inr, All, Instr, has_stack, Part, BundlePlace, Finding, Rule, bundle_place, bundle_bytes, follows_data_pair, Piece, Place, breaks, breaks_stack, may_access, broken, lowest, all_rules, rule_of_length, findings_from, rest_finding, AreReadingFindings, AreBundleFindings, AreFindingsOfFirst, has_words, Format, Sfi1, All-append, All-cons, All-nil}
+use Rattle.sfi_rules.proofs.Prelude.{◌≡◌, ◌≢◌, ◌∷◌, ◌++◌, ℕ, zero, suc, ◌+◌, Bool, true, false, List, [], refl, sym, ap, subst, inl, inr, All, Instr, has_stack, Part, BundlePlace, Finding, Rule, bundle_place, bundle_bytes, follows_data_pair, Piece, InstrInBundle, breaks, breaks_stack, may_access, broken, lowest, all_rules, rule_of_length, findings_from, rest_finding, AreReadingFindings, AreBundleFindings, AreFindingsOfFirst, has_words, Format, Sfi1, All-append, All-cons, All-nil}
 use Rattle.rv_word.specs.declared.length.Length.{Length}
 use Rattle.rv_word.specs.declared.length.Length.TheVariants.{Wide}
 use Rattle.sfi_rules.specs.Laws.{FirstFormatHasNoStack, FirstFormatFindsNoV10}
@@ -13,7 +13,7 @@ no_stack f e = ap has_stack e
 access_as_ever : (b : BundlePlace) → b.format ≡ Sfi1 → (base : ℕ) (earlier : List Instr) → may_access b base earlier ≡ follows_data_pair base earlier
 access_as_ever b e base earlier = rw (no_stack b.format e) refl
 
-never : (x : Place) (i : Instr) → x.bundle.format ≡ Sfi1 → breaks_stack x i ≡ false
+never : (x : InstrInBundle) (i : Instr) → x.bundle.format ≡ Sfi1 → breaks_stack x i ≡ false
 never x i e = rw (no_stack x.bundle.format e) refl
 
 pub first_format_has_no_stack : FirstFormatHasNoStack
@@ -30,11 +30,11 @@ both xs ys a b = All-append IsOther xs ys a b
 one : (f : Finding) → IsOther f → All IsOther (f ∷ [])
 one f other = All-cons IsOther f [] other (All-nil IsOther)
 
-broken_other : (x : Place) → x.bundle.format ≡ Sfi1 → (rule : Rule) → breaks x rule ≡ true → rule ≢ V10
+broken_other : (x : InstrInBundle) → x.bundle.format ≡ Sfi1 → (rule : Rule) → breaks x rule ≡ true → rule ≢ V10
 broken_other x e V10 h = absurd (let n = never x x.instr e in cc)
 broken_other x e _ h = λ s. cc
 
-lowest_other : (x : Place) → x.bundle.format ≡ Sfi1 → All IsOther (lowest x all_rules)
+lowest_other : (x : InstrInBundle) → x.bundle.format ≡ Sfi1 → All IsOther (lowest x all_rules)
 lowest_other x e = lowest_is IsOther x all_rules (broken_other x e)
 
 from_other : (b : BundlePlace) (whole : Bool) (at : ℕ) (earlier : List Instr) (later : List Piece) → b.format ≡ Sfi1 → All IsOther (findings_from b whole at earlier later)

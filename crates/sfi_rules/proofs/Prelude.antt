@@ -9,7 +9,7 @@ pub use Rattle.sfi_formats.specs.Formats.{has_stack, has_words}
 pub use Rattle.sfi_image.specs.Spelling.{Part}
 pub use Rattle.sfi_rules.specs.Readings.{bundle_place, bundle_bytes, follows_data_pair, Piece, IsReading, IsLongestReading, rest_of}
 pub use Rattle.sfi_rules.specs.Findings.{broken, lowest, all_rules, rule_of_length, findings_from, rest_finding, AreReadingFindings, AreBundleFindings, AreFindingsOfFirst, AreFindingsInBundles, AreFindings, AreFindingsFrom}
-pub use Rattle.sfi_rules.specs.Rules.{Place, breaks, breaks_stack, may_access, is_empty, breaks_ecall, breaks_access, breaks_jump, breaks_target}
+pub use Rattle.sfi_rules.specs.Rules.{InstrInBundle, breaks, breaks_stack, may_access, is_empty, breaks_ecall, breaks_access, breaks_jump, breaks_target}
 pub use Rattle.sfi_image.specs.declared.bundle.BundlePlace.{BundlePlace}
 pub use Rattle.sfi_rules.specs.declared.finding.Finding.{Finding}
 pub use Rattle.sfi_rules.specs.declared.rule.Rule.{Rule}

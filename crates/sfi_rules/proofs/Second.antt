@@ -1,5 +1,5 @@
 -- Where no rule is broken, the second format's findings are V10 alone.
-use Rattle.sfi_rules.proofs.Prelude.{◌≡◌, ℕ, pos, negsuc, zero, suc, ◌+◌, ◌-◌, List, [], ◌∷◌, ◌++◌, length, Bool, true, false, not, ◌&&◌, ◌||◌, refl, sym, ◌∙◌, subst, inl, inr, arith, All, Instr, Load, Store, Branch, Jal, Jalr, Ecall, has_stack, Part, Rule, BundlePlace, Finding, bundle_place, bundle_bytes, Piece, rest_of, follows_data_pair, Place, breaks, breaks_ecall, breaks_access, breaks_jump, breaks_target, is_empty, lowest, all_rules, findings_from, rest_finding, AreReadingFindings, AreBundleFindings, AreFindingsOfFirst, AreFindingsInBundles, AreFindings, AreFindingsFrom, has_words, Format}
+use Rattle.sfi_rules.proofs.Prelude.{◌≡◌, ℕ, pos, negsuc, zero, suc, ◌+◌, ◌-◌, List, [], ◌∷◌, ◌++◌, length, Bool, true, false, not, ◌&&◌, ◌||◌, refl, sym, ◌∙◌, subst, inl, inr, arith, All, Instr, Load, Store, Branch, Jal, Jalr, Ecall, has_stack, Part, Rule, BundlePlace, Finding, bundle_place, bundle_bytes, Piece, rest_of, follows_data_pair, InstrInBundle, breaks, breaks_ecall, breaks_access, breaks_jump, breaks_target, is_empty, lowest, all_rules, findings_from, rest_finding, AreReadingFindings, AreBundleFindings, AreFindingsOfFirst, AreFindingsInBundles, AreFindings, AreFindingsFrom, has_words, Format}
 use Rattle.sfi_image.specs.Spelling.{in_format, all_in_format}
 use Rattle.sfi_formats.specs.declared.format.Format.TheVariants.{Sfi1, Sfi2, Sfiw}
 use Rattle.sfi_rules.specs.declared.rule.Rule.TheVariants.{V3, V4, V5, V6, V7, V8, V10}
@@ -28,19 +28,19 @@ two_empty (x ∷ xs) ys e = absurd (cc)
 abbrev second_bundle : BundlePlace → BundlePlace
 second_bundle b = record b { format = Sfi2 }
 
-abbrev second_place : Place → Place
+abbrev second_place : InstrInBundle → InstrInBundle
 second_place x = record x { bundle = record x.bundle { format = Sfi2 } }
 
-same_ecall : (x : Place) (i : Instr) → breaks_ecall (second_place x) i ≡ breaks_ecall x i
+same_ecall : (x : InstrInBundle) (i : Instr) → breaks_ecall (second_place x) i ≡ breaks_ecall x i
 same_ecall x Ecall = refl
 same_ecall x _ = refl
 
-same_jump : (x : Place) (i : Instr) → breaks_jump (second_place x) i ≡ breaks_jump x i
+same_jump : (x : InstrInBundle) (i : Instr) → breaks_jump (second_place x) i ≡ breaks_jump x i
 same_jump x (Jalr rd rs1 (pos n)) = refl
 same_jump x (Jalr rd rs1 (negsuc n)) = refl
 same_jump x _ = refl
 
-same_target : (x : Place) (i : Instr) → breaks_target (second_place x) i ≡ breaks_target x i
+same_target : (x : InstrInBundle) (i : Instr) → breaks_target (second_place x) i ≡ breaks_target x i
 same_target x (Jal rd offset) = refl
 same_target x (Branch condition rs1 rs2 offset) = refl
 same_target x _ = refl
@@ -52,13 +52,13 @@ more_allowed Sfi2 on paired e = e
 more_allowed Sfiw true paired e = refl
 more_allowed Sfiw false paired e = e
 
-fewer_accesses : (x : Place) (i : Instr) → breaks_access x i ≡ false → breaks_access (second_place x) i ≡ false
+fewer_accesses : (x : InstrInBundle) (i : Instr) → breaks_access x i ≡ false → breaks_access (second_place x) i ≡ false
 fewer_accesses x (Load kind rd rs1 imm) e = more_allowed x.bundle.format _ (follows_data_pair rs1 x.earlier) e
 fewer_accesses x (Store width rs1 rs2 imm) e = more_allowed x.bundle.format _ (follows_data_pair rs1 x.earlier) e
 fewer_accesses x _ e = refl
 
 -- of the rules that are kept, the second format breaks V10 alone
-broken_of_stack : (x : Place) → ((rule : Rule) → breaks x rule ≡ false) → (rule : Rule) → breaks (second_place x) rule ≡ true → rule ≡ V10
+broken_of_stack : (x : InstrInBundle) → ((rule : Rule) → breaks x rule ≡ false) → (rule : Rule) → breaks (second_place x) rule ≡ true → rule ≡ V10
 broken_of_stack x are_kept V3 h = absurd (let e = same_ecall x x.instr ∙ are_kept V3 in cc)
 broken_of_stack x are_kept V4 h = absurd (let e = are_kept V4 in cc)
 broken_of_stack x are_kept V5 h = absurd (let e = fewer_accesses x x.instr (are_kept V5) in cc)
@@ -68,7 +68,7 @@ broken_of_stack x are_kept V8 h = absurd (let e = are_kept V8 in cc)
 broken_of_stack x are_kept V10 h = refl
 broken_of_stack x are_kept _ h = absurd cc
 
-place_of_stack : (x : Place) → lowest x all_rules ≡ [] → OfStack (lowest (second_place x) all_rules)
+place_of_stack : (x : InstrInBundle) → lowest x all_rules ≡ [] → OfStack (lowest (second_place x) all_rules)
 place_of_stack x none = lowest_is (λ (f : Finding). f.rule ≡ V10) (second_place x) all_rules (broken_of_stack x (kept x none))
 
 -- ---- a reading, a bundle, and all
@@ -76,7 +76,7 @@ place_of_stack x none = lowest_is (λ (f : Finding). f.rule ≡ V10) (second_pla
 pieces_of_stack : (b : BundlePlace) (whole : Bool) (at : ℕ) (earlier : List Instr) (reading : List Piece) → findings_from b whole at earlier reading ≡ [] → OfStack (findings_from (second_bundle b) whole at earlier reading)
 pieces_of_stack b whole at earlier [] h = none
 pieces_of_stack b whole at earlier (x ∷ later) h =
-    let here : Place = record { bundle = b; address = at; earlier = earlier; instr = x.instr; later = later; whole = whole } in
+    let here : InstrInBundle = record { bundle = b; address = at; earlier = earlier; instr = x.instr; later = later; whole = whole } in
     let e = two_empty (lowest here all_rules) (findings_from b whole (at + x.size) (x.instr ∷ earlier) later) h in
     both (lowest (second_place here) all_rules) (findings_from (second_bundle b) whole (at + x.size) (x.instr ∷ earlier) later)
     (place_of_stack here e.0) (pieces_of_stack b whole (at + x.size) (x.instr ∷ earlier) later e.1)

@@ -10,7 +10,7 @@ use Rattle.sfi_image.specs.declared.bundle.BundlePlace.{BundlePlace}
 use Rattle.sfi_formats.specs.Limits.{bundle_size}
 use Rattle.sfi_pairs.specs.Pairs.{stub}
 use Rattle.sfi_rules.specs.Readings.{bundle_place, bundle_bytes, Piece, IsLongestReading, rest_of}
-use Rattle.sfi_rules.specs.Rules.{Place, breaks, is_empty}
+use Rattle.sfi_rules.specs.Rules.{InstrInBundle, breaks, is_empty}
 pub use Rattle.sfi_rules.specs.Rules.{broken, all_rules, rule_of_length, rest_finding}
 use Rattle.sfi_rules.specs.declared.owed.Owed.{Owed}
 use Rattle.sfi_rules.specs.declared.owed.Owed.TheVariants.{Nothing}
@@ -19,7 +19,7 @@ use Rattle.sfi_rules.specs.words.Findings.{AreFindingsInWords, AreFoundOfFirst}
 -- ---- of a bundle
 
 -- the first of the rules that is broken at the place
-abbrev pub lowest : Place → List Rule → List Finding
+abbrev pub lowest : InstrInBundle → List Rule → List Finding
 lowest x [] = []
 lowest x (rule ∷ rules) =
     cond (breaks x rule) (broken x.bundle x.address rule ∷ []) (lowest x rules)

@@ -13,7 +13,7 @@ use Rattle.sfi_rules.specs.Readings.{follows_data_pair, Piece, IsLongestReading}
 use Rattle.sfi_rules.specs.declared.owed.Owed.{Owed}
 use Rattle.sfi_rules.specs.declared.owed.Owed.TheVariants as kind
 use Rattle.sfi_rules.specs.words.Rules.{masks, owed_by, owed_next, or_nothing}
-use Rattle.sfi_rules.specs.Rules.{Place, breaks, is_bundle_start, may_access}
+use Rattle.sfi_rules.specs.Rules.{InstrInBundle, breaks, is_bundle_start, may_access}
 use Rattle.sfi_rules.specs.Findings.{AreBundleFindings, AreFindings, AreImageFindings}
 
 -- the rules' bundle starts are those of the image's code region
@@ -45,7 +45,7 @@ OneImageList = (ps : List Part) (xs ys : List Finding) → AreImageFindings ps x
 -- and no place breaks V10.
 abbrev pub FirstFormatHasNoStack : Type 0
 FirstFormatHasNoStack =
-    (x : Place) → x.bundle.format ≡ Sfi1
+    (x : InstrInBundle) → x.bundle.format ≡ Sfi1
     → ((base : ℕ) (earlier : List Instr)
     → may_access x.bundle base earlier ≡ follows_data_pair base earlier) × (breaks x V10 ≡ false)
 
@@ -67,9 +67,9 @@ CleanBreaksStackAlone = (ps : List Part) (found : List Finding)
 -- register be masked, and the second does that, the register's placing; else what the second asks,
 -- or nothing where no next instruction can make that right.
 abbrev pub owed_after_two : Option Owed → Instr → Owed
-owed_after_two (Some (kind.Mask d)) m = if masks d m then kind.Place d else or_nothing (owed_by m)
+owed_after_two (Some (kind.Mask d)) m = if masks d m then kind.PlaceOnly d else or_nothing (owed_by m)
 owed_after_two (Some (kind.MaskOrUse d)) m =
-    if masks d m then kind.Place d else or_nothing (owed_by m)
+    if masks d m then kind.PlaceOnly d else or_nothing (owed_by m)
 owed_after_two asked m = or_nothing (owed_by m)
 
 -- what is owed after two instructions depends on these alone, whatever was owed before them

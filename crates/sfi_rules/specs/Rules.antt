@@ -16,11 +16,11 @@ use Rattle.rv_word.specs.declared.length.Length.TheVariants.{Short, Wide, Longer
 use Rattle.sfi_rules.specs.declared.finding.Finding.{Finding}
 use Rattle.std.specs.List.{find}
 
--- ==== Which rules are broken at a place of a bundle's reading, in the formats whose code is in
+-- ==== Which rules an instruction of a bundle breaks, in the formats whose code is in
 -- bundles.
 
--- a place of a bundle's reading
-pub record Place : Type 0 where
+-- an instruction of a bundle, and what its rules look at beside it
+pub record InstrInBundle : Type 0 where
   pub bundle : BundlePlace
   pub address : ℕ  -- that of the instruction
   pub earlier : List Instr  -- the instructions before it in the bundle, the nearest first
@@ -39,7 +39,7 @@ is_bundle_start b a =
     nat_le b.code_base a && nat_lt a (b.code_base + b.code_size) && (a % bundle_size == 0)
 
 -- V3: an ecall that is not the first instruction of a listed gate
-abbrev pub breaks_ecall : Place → Instr → Bool
+abbrev pub breaks_ecall : InstrInBundle → Instr → Bool
 breaks_ecall x Ecall = not (is_empty x.earlier && x.bundle.listed)
 breaks_ecall x _ = false
 
@@ -59,20 +59,20 @@ may_access b base earlier = is_stack b.format base || follows_data_pair base ear
 
 -- V5: a load or store, and the two instructions directly before it are not the data pair on its
 -- base (on the stack pointer of a format that has one it is never broken)
-abbrev pub breaks_access : Place → Instr → Bool
+abbrev pub breaks_access : InstrInBundle → Instr → Bool
 breaks_access x (Load kind rd rs1 imm) = not (may_access x.bundle rs1 x.earlier)
 breaks_access x (Store width rs1 rs2 imm) = not (may_access x.bundle rs1 x.earlier)
 breaks_access x _ = false
 
 -- V6: a jalr whose offset is not 0, or before which the two instructions directly before it are not
 -- the code pair on its base
-abbrev pub breaks_jump : Place → Instr → Bool
+abbrev pub breaks_jump : InstrInBundle → Instr → Bool
 breaks_jump x (Jalr rd rs1 (pos n)) = not ((n == 0) && follows_code_pair rs1 x.earlier)
 breaks_jump x (Jalr rd rs1 (negsuc n)) = true
 breaks_jump x _ = false
 
 -- V7: a jal or branch whose target is no bundle start of its own code region
-abbrev pub breaks_target : Place → Instr → Bool
+abbrev pub breaks_target : InstrInBundle → Instr → Bool
 breaks_target x (Jal rd offset) = not (is_bundle_start x.bundle (offset_by x.address offset))
 breaks_target x (Branch condition rs1 rs2 offset) =
     not (is_bundle_start x.bundle (offset_by x.address offset))
@@ -91,24 +91,24 @@ is_last_bundle b = b.address + bundle_size == b.code_base + b.code_size
 
 -- V8: the region's last bundle is read whole and this, its last instruction, is not ebreak,
 -- jal or jalr
-abbrev pub breaks_end : Place → Instr → Bool
+abbrev pub breaks_end : InstrInBundle → Instr → Bool
 breaks_end x i = is_last_bundle x.bundle && (x.whole && is_empty x.later) && not (ends_region i)
 
 -- the instruction is one of the pair on x2, or the pair stands directly after it and control runs
 -- on into it
-abbrev pub may_write_stack : Place → Instr → Bool
+abbrev pub may_write_stack : InstrInBundle → Instr → Bool
 may_write_stack x i =
     begins_pair i x.later || ends_pair x.earlier i || (not (is_jump i) && precedes_pair x.later)
 
 -- V10: the instruction writes the stack pointer, and may not. (Where the format has none this is
 -- never broken.)
-abbrev pub breaks_stack : Place → Instr → Bool
+abbrev pub breaks_stack : InstrInBundle → Instr → Bool
 breaks_stack x i = writes_stack x.bundle i && not (may_write_stack x i)
 
 -- The rule is broken at the place. (Each test takes the place's instruction again, to go by its
 -- cases.) V1 and V2 are broken where no instruction is read, and V9 by a whole bundle,
 -- so never at a place; V11 and V12 are rules of code in words.
-abbrev pub breaks : Place → Rule → Bool
+abbrev pub breaks : InstrInBundle → Rule → Bool
 breaks x V1 = false
 breaks x V2 = false
 breaks x V3 = breaks_ecall x x.instr

@@ -8,7 +8,7 @@ pub enum Owed {
     /// The data register is masked into x31, and then placed.
     Mask(u8),
     /// The data register is placed: `or d, x31, x26`.
-    Place(u8),
+    PlaceOnly(u8),
     /// The data register is masked and placed, or is the base of a load or store with an offset
     /// from -1020 to 1020.
     MaskOrUse(u8),

@@ -1,5 +1,5 @@
 -- What each instruction at a place without a finding does: it accesses the data and the guards, calls at a gate, and goes on to a place.
-use Rattle.sfi_safety.proofs.Prelude.{has_words, IsImm12, Contains, ◌≡◌, ℕ, ◌+◌, ◌%◌, ◌^◌, ◌<◌, ◌≤◌, ◌⊎◌, inl, inr, ◌∷◌, length, Option, Some, None, Bool, true, false, cond, not, ◌==◌, refl, sym, ap, ◌∙◌, subst, ⊎_elim, arith, ◌&&◌, ℤ, pos, negsuc, is_some, slice_index, and_parts, or_cases, eqb-true, eqb-false, not-false, offset_by, Instr, Op, OpImm, Load, Store, Branch, Jal, Jalr, Lui, Auipc, Fence, Ecall, Ebreak, InRange, has_stack, is_stack, Bytes, bytes_at, address_after, addresses, loaded, stored, Next, Call, Trap, Accesses, Hart, register, with_register, with_pc, past, even_of, effect, after_load, next, unchanged, load_size, store_size, extended, is_taken, Part, code_region, IsBundleStart, IsRightPart, BundlePlace, Place, is_empty, is_bundle_start, breaks_ecall, breaks_reserved, breaks_access, breaks_jump, breaks_target, breaks_stack, may_access, ends_region, InData, InGuard, IsGate, HasReserved, StackInData, Leaves, WritesResult, StackInDataBefore, IsAtPlace, Outcome, is_reserved, writes_stack, is_jump}
+use Rattle.sfi_safety.proofs.Prelude.{has_words, IsImm12, Contains, ◌≡◌, ℕ, ◌+◌, ◌%◌, ◌^◌, ◌<◌, ◌≤◌, ◌⊎◌, inl, inr, ◌∷◌, length, Option, Some, None, Bool, true, false, cond, not, ◌==◌, refl, sym, ap, ◌∙◌, subst, ⊎_elim, arith, ◌&&◌, ℤ, pos, negsuc, is_some, slice_index, and_parts, or_cases, eqb-true, eqb-false, not-false, offset_by, Instr, Op, OpImm, Load, Store, Branch, Jal, Jalr, Lui, Auipc, Fence, Ecall, Ebreak, InRange, has_stack, is_stack, Bytes, bytes_at, address_after, addresses, loaded, stored, Next, Call, Trap, Accesses, Hart, register, with_register, with_pc, past, even_of, effect, after_load, next, unchanged, load_size, store_size, extended, is_taken, Part, code_region, IsBundleStart, IsRightPart, BundlePlace, InstrInBundle, is_empty, is_bundle_start, breaks_ecall, breaks_reserved, breaks_access, breaks_jump, breaks_target, breaks_stack, may_access, ends_region, InData, InGuard, IsGate, HasReserved, StackInData, Leaves, WritesResult, StackInDataBefore, IsAtPlace, Outcome, is_reserved, writes_stack, is_jump}
 use Rattle.rv_word.specs.Outlines.{destination, is_register}
 use Rattle.rv_word.specs.declared.instr.LoadKind.{LoadKind}
 use Rattle.sfi_rules.specs.Readings.{follows_data_pair, follows_code_pair}
@@ -10,7 +10,7 @@ use Rattle.sfi_safety.proofs.PairResult.{leaves_after}
 
 -- what is used of the place where a step begins, for the instruction there
 pub record Here (sandbox : ℕ) (p : Part) (h : Hart) (i : Instr) (n : ℕ) : Type 0 where
-  pub place : Place
+  pub place : InstrInBundle
   pub address : place.address ≡ h.pc
   pub pc : h.pc < 2 ^ 32
   pub end : p.code_base + length p.code ≤ 2 ^ 32

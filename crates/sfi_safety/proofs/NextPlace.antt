@@ -1,12 +1,12 @@
 -- What a place without a finding keeps, and that the machine goes on from it to a place again.
-use Rattle.sfi_safety.proofs.Prelude.{◌≡◌, ◌≢◌, ℕ, ◌+◌, ◌*◌, ◌<◌, ◌≤◌, List, [], ◌∷◌, length, drop, Bool, true, false, not, ◌&&◌, ◌==◌, refl, ap, ◌∙◌, subst, arith, eqb-false, drop-drop, address_after, Hart, Part, bundle_place, bundle_bytes, Piece, IsReading, rest_of, Place, breaks_ecall, breaks_reserved, breaks_access, breaks_jump, breaks_target, breaks_end, breaks_stack, ends_region, is_empty, lowest, all_rules, findings_from, Leaves, AreCleanBundles, StackInDataBefore, IsAtPlace, V3, V4, V5, V6, V7, V8, V10, length-drop}
+use Rattle.sfi_safety.proofs.Prelude.{◌≡◌, ◌≢◌, ℕ, ◌+◌, ◌*◌, ◌<◌, ◌≤◌, List, [], ◌∷◌, length, drop, Bool, true, false, not, ◌&&◌, ◌==◌, refl, ap, ◌∙◌, subst, arith, eqb-false, drop-drop, address_after, Hart, Part, bundle_place, bundle_bytes, Piece, IsReading, rest_of, InstrInBundle, breaks_ecall, breaks_reserved, breaks_access, breaks_jump, breaks_target, breaks_end, breaks_stack, ends_region, is_empty, lowest, all_rules, findings_from, Leaves, AreCleanBundles, StackInDataBefore, IsAtPlace, V3, V4, V5, V6, V7, V8, V10, length-drop}
 use Rattle.sfi_rules.proofs.Lowest.{kept}
 use Rattle.sfi_rules.proofs.Readings.{spelled_within}
 use Rattle.sfi_image.proofs.Facts.{whole_bundles, code_ends}
 use Rattle.sfi_safety.proofs.Places.{nothing_before, at_start, bundle_length, here_within}
 
 -- none of the rules is broken at a place
-pub record KeepsRules (x : Place) : Type 0 where
+pub record KeepsRules (x : InstrInBundle) : Type 0 where
   pub ecall : breaks_ecall x x.instr ≡ false
   pub reserved : breaks_reserved x.instr ≡ false
   pub access : breaks_access x x.instr ≡ false
@@ -15,13 +15,13 @@ pub record KeepsRules (x : Place) : Type 0 where
   pub end : breaks_end x x.instr ≡ false
   pub stack : breaks_stack x x.instr ≡ false
 
-keeps_rules : (x : Place) → lowest x all_rules ≡ [] → KeepsRules x
+keeps_rules : (x : InstrInBundle) → lowest x all_rules ≡ [] → KeepsRules x
 keeps_rules x none =
     let each = kept x none in
     record { ecall = each V3; reserved = each V4; access = each V5; jump = each V6; target = each V7; end = each V8; stack = each V10 }
 
 -- the place where the machine is
-abbrev pub place_here : (sandbox : ℕ) (p : Part) (h : Hart) → IsAtPlace sandbox p h → Place
+abbrev pub place_here : (sandbox : ℕ) (p : Part) (h : Hart) → IsAtPlace sandbox p h → InstrInBundle
 place_here sandbox p h at = record {
   bundle = bundle_place sandbox p at.number;
   address = p.code_base + 16 * at.number + at.offset;

@@ -1,5 +1,5 @@
 -- Where a format has a stack pointer, it lies in the data region, or is put there.
-use Rattle.sfi_safety.proofs.Prelude.{◌≡◌, ℕ, List, [], ◌∷◌, true, false, Bool, not, ◌&&◌, ◌||◌, ◌==◌, refl, sym, ◌∙◌, subst, inl, inr, ⊎_elim, slice_index, cases_Bool, and_parts, and_from, or_cases, or_left, or_right, not-false, false≢true, Instr, Op, Jal, Jalr, And, Or, has_stack, Part, BundlePlace, Piece, Place, may_write_stack, breaks_stack, InData, StackInData, Leaves, StackInDataBefore, is_masking, is_placing, follows_data_pair}
+use Rattle.sfi_safety.proofs.Prelude.{◌≡◌, ℕ, List, [], ◌∷◌, true, false, Bool, not, ◌&&◌, ◌||◌, ◌==◌, refl, sym, ◌∙◌, subst, inl, inr, ⊎_elim, slice_index, cases_Bool, and_parts, and_from, or_cases, or_left, or_right, not-false, false≢true, Instr, Op, Jal, Jalr, And, Or, has_stack, Part, BundlePlace, Piece, InstrInBundle, may_write_stack, breaks_stack, InData, StackInData, Leaves, StackInDataBefore, is_masking, is_placing, follows_data_pair}
 use Rattle.sfi_rules.specs.Readings.{writes_stack, is_stack_pair, begins_pair, ends_pair, precedes_pair, is_jump}
 
 -- the instruction is one of the pair's two
@@ -62,7 +62,7 @@ data_pair [] i h = absurd (false≢true h)
 data_pair (b ∷ earlier) i h = rw h refl
 
 -- after an instruction that breaks no rule, and from which control runs on
-pub stack_after : (p : Part) (x : Place) (i : Instr) (size : ℕ) (before after : List ℕ) → has_stack x.bundle.format ≡ has_stack p.format → breaks_stack x i ≡ false
+pub stack_after : (p : Part) (x : InstrInBundle) (i : Instr) (size : ℕ) (before after : List ℕ) → has_stack x.bundle.format ≡ has_stack p.format → breaks_stack x i ≡ false
     → (has_stack x.bundle.format ≡ true → writes_stack x.bundle i ≡ false → slice_index after 2 ≡ slice_index before 2)
     → Leaves p (i ∷ x.earlier) after
     → StackInDataBefore p x.earlier (record { instr = i; size = size } ∷ x.later) before
@@ -97,7 +97,7 @@ jump_other (Jalr rd rs1 imm) jump = refl
 jump_other other jump = absurd (false≢true jump)
 
 -- a jump that breaks no rule does not write it
-pub jump_keeps : (x : Place) (i : Instr) → is_jump i ≡ true → breaks_stack x i ≡ false → writes_stack x.bundle i ≡ false
+pub jump_keeps : (x : InstrInBundle) (i : Instr) → is_jump i ≡ true → breaks_stack x i ≡ false → writes_stack x.bundle i ≡ false
 jump_keeps x i jump free = ⊎_elim (λ some. absurd (none_may (not-false _ (rw some at free)))) (λ none. none) (cases_Bool (writes_stack x.bundle i))
   where
     none_may : may_write_stack x i ≡ true → ⊥

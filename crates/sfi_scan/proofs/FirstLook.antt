@@ -1,5 +1,5 @@
 -- The first look at a bundle: what breaks no rule.
-use Rattle.sfi_scan.proofs.Prelude.{◌≡◌, ℕ, ◌==◌, Bool, true, false, List, [], ◌∷◌, Option, Some, None, ℤ, pos, negsuc, of_z, to_z, SFits, refl, sym, ap, ◌∙◌, ◌⊎◌, subst, inl, inr, arith, ◌&&◌, ◌||◌, not, and_parts, and_right, or_parts, OnTrue, Instr, Op, OpImm, Load, Store, Branch, Jal, Jalr, Lui, Auipc, Fence, Ecall, Ebreak, And, Or, outline, spelling, IsWordOf, has_stack, is_stack, BundlePlace, is_reserved, follows_pair, follows_code_pair, Piece, Place, is_last_bundle, is_bundle_start, may_access, lowest, all_rules, IsWordOr0, AreBefore, is_protected, is_clean, is_zero, near, Outline, Computes, Loads, Words, not-true, or_left, w32, eq-eqb}
+use Rattle.sfi_scan.proofs.Prelude.{◌≡◌, ℕ, ◌==◌, Bool, true, false, List, [], ◌∷◌, Option, Some, None, ℤ, pos, negsuc, of_z, to_z, SFits, refl, sym, ap, ◌∙◌, ◌⊎◌, subst, inl, inr, arith, ◌&&◌, ◌||◌, not, and_parts, and_right, or_parts, OnTrue, Instr, Op, OpImm, Load, Store, Branch, Jal, Jalr, Lui, Auipc, Fence, Ecall, Ebreak, And, Or, outline, spelling, IsWordOf, has_stack, is_stack, BundlePlace, is_reserved, follows_pair, follows_code_pair, Piece, InstrInBundle, is_last_bundle, is_bundle_start, may_access, lowest, all_rules, IsWordOr0, AreBefore, is_protected, is_clean, is_zero, near, Outline, Computes, Loads, Words, not-true, or_left, w32, eq-eqb}
 use Rattle.rv_word.specs.Spelling.{offset_by}
 use Rattle.sfi_rules.specs.Readings.{begins_pair, ends_pair, precedes_pair, is_jump}
 use Rattle.std.proofs.lemmas.Bool.{or_right}
@@ -87,7 +87,7 @@ clean_one b at earlier (Fence imm rd rs1) later whole last clean = rw (last, and
 clean_one b at earlier Ecall later whole last clean = absurd cc
 clean_one b at earlier Ebreak later whole last clean = rw (last, and_right (has_stack b.format) false refl) refl
 
-pub clean_is : (x : Place) → is_last_bundle x.bundle ≡ false → is_clean x.bundle x.address x.earlier (outline x.instr) ≡ true → lowest x all_rules ≡ []
+pub clean_is : (x : InstrInBundle) → is_last_bundle x.bundle ≡ false → is_clean x.bundle x.address x.earlier (outline x.instr) ≡ true → lowest x all_rules ≡ []
 clean_is x last clean = clean_one x.bundle x.address x.earlier x.instr x.later x.whole last clean
 
 -- ---- the stack pointer written, and put back
@@ -119,17 +119,17 @@ not_jump (Jalr rd rs1 imm) (inl e) = absurd cc
 not_jump (Jalr rd rs1 imm) (inr e) = absurd cc
 not_jump _ kind = refl
 
-pub write_quiet : (x : Place) → is_last_bundle x.bundle ≡ false → has_stack x.bundle.format ≡ true → IsWrite (outline x.instr) → precedes_pair x.later ≡ true → lowest x all_rules ≡ []
+pub write_quiet : (x : InstrInBundle) → is_last_bundle x.bundle ≡ false → has_stack x.bundle.format ≡ true → IsWrite (outline x.instr) → precedes_pair x.later ≡ true → lowest x all_rules ≡ []
 write_quiet x last has kind pair =
     write_one x.bundle x.address x.earlier x.instr x.later x.whole last has kind
     (or_right (begins_pair x.instr x.later || ends_pair x.earlier x.instr) (not (is_jump x.instr) && precedes_pair x.later) (rw (not_jump x.instr kind, pair) refl))
 
-pub masking_quiet : (x : Place) (a : ℕ) → is_last_bundle x.bundle ≡ false → has_stack x.bundle.format ≡ true → x.instr ≡ Op And 2 a 27 → begins_pair (Op And 2 a 27) x.later ≡ true → lowest x all_rules ≡ []
+pub masking_quiet : (x : InstrInBundle) (a : ℕ) → is_last_bundle x.bundle ≡ false → has_stack x.bundle.format ≡ true → x.instr ≡ Op And 2 a 27 → begins_pair (Op And 2 a 27) x.later ≡ true → lowest x all_rules ≡ []
 masking_quiet x a last has e pair =
     write_one x.bundle x.address x.earlier x.instr x.later x.whole last has (inl (ap outline e))
     (or_left _ (not (is_jump x.instr) && precedes_pair x.later) (or_left _ (ends_pair x.earlier x.instr) (ap (λ (i : Instr). begins_pair i x.later) e ∙ pair)))
 
-pub placing_quiet : (x : Place) (a : ℕ) → is_last_bundle x.bundle ≡ false → has_stack x.bundle.format ≡ true → x.instr ≡ Op Or 2 2 26 → (near x.earlier).second ≡ Some (Op And 2 a 27) → lowest x all_rules ≡ []
+pub placing_quiet : (x : InstrInBundle) (a : ℕ) → is_last_bundle x.bundle ≡ false → has_stack x.bundle.format ≡ true → x.instr ≡ Op Or 2 2 26 → (near x.earlier).second ≡ Some (Op And 2 a 27) → lowest x all_rules ≡ []
 placing_quiet x a last has e before =
     write_one x.bundle x.address x.earlier x.instr x.later x.whole last has (inl (ap outline e))
     (or_left _ (not (is_jump x.instr) && precedes_pair x.later) (or_right (begins_pair x.instr x.later) _ (ap (ends_pair x.earlier) e ∙ ends x.earlier before)))

@@ -1,5 +1,5 @@
 -- The first look walks as the scan does, and finds nothing.
-use Rattle.sfi_scan.proofs.Prelude.{◌≡◌, ℕ, ◌+◌, ◌<◌, ◌≤◌, false, true, List, [], ◌∷◌, length, take, drop, Some, None, refl, sym, ap, ◌∙◌, subst, inl, inr, arith, length-drop, length-take, drop-drop, Instr, outline, IsWordOf, Spells, has_stack, Before, BundlePlace, near, Place, is_last_bundle, lowest, all_rules, Op, And, Or, Piece, IsLongestReading, half_at, word_at, AreWordsFrom, IsCleanOne, is_clean, IsStackWrite, AreStackPair, IsShortSpelling}
+use Rattle.sfi_scan.proofs.Prelude.{◌≡◌, ℕ, ◌+◌, ◌<◌, ◌≤◌, false, true, List, [], ◌∷◌, length, take, drop, Some, None, refl, sym, ap, ◌∙◌, subst, inl, inr, arith, length-drop, length-take, drop-drop, Instr, outline, IsWordOf, Spells, has_stack, Before, BundlePlace, near, InstrInBundle, is_last_bundle, lowest, all_rules, Op, And, Or, Piece, IsLongestReading, half_at, word_at, AreWordsFrom, IsCleanOne, is_clean, IsStackWrite, AreStackPair, IsShortSpelling}
 use Rattle.sfi_rules.specs.Readings.{begins_pair, precedes_pair}
 use Rattle.sfi_scan.proofs.After.{Begins, begins}
 use Rattle.sfi_scan.proofs.FirstLook.{clean_is, kind_of, write_quiet, masking_quiet, placing_quiet, masking_before}
@@ -41,7 +41,7 @@ near_step i (a ∷ b ∷ earlier) = refl
 looks_quiet : (b : BundlePlace) (bytes : List ℕ) (at n from after_from : ℕ) (i : Instr)
     → length bytes ≡ 16 → (l : Looks b bytes at from)
     → Spells (take n (drop at bytes)) i n
-    → ((x : Place) → x.bundle ≡ b → x.address ≡ b.address + at → near x.earlier ≡ l.before → x.instr ≡ i → IsLongestReading (drop (at + n) bytes) x.later → lowest x all_rules ≡ [])
+    → ((x : InstrInBundle) → x.bundle ≡ b → x.address ≡ b.address + at → near x.earlier ≡ l.before → x.instr ≡ i → IsLongestReading (drop (at + n) bytes) x.later → lowest x all_rules ≡ [])
     → AreWordsFrom bytes (at + n) after_from (record { first = l.before.second; second = Some i }) → after_from ≤ at + n
     → (after_it : Looks b bytes (at + n) after_from) × (after_it.before.second ≡ Some i)
 looks_quiet b bytes at n from after_from i count l spelled quiet words order =
@@ -106,7 +106,7 @@ looks_word b bytes at from word count below last l word_is one =
 
 -- a word that stands where it may write the stack pointer
 looks_as : (b : BundlePlace) (bytes : List ℕ) (at from : ℕ) (i : Instr) → length bytes ≡ 16 → at ≤ 12 → (l : Looks b bytes at from) → IsWordOf (word_at bytes at) i
-    → ((x : Place) → x.bundle ≡ b → near x.earlier ≡ l.before → x.instr ≡ i → IsLongestReading (drop (at + 4) bytes) x.later → lowest x all_rules ≡ [])
+    → ((x : InstrInBundle) → x.bundle ≡ b → near x.earlier ≡ l.before → x.instr ≡ i → IsLongestReading (drop (at + 4) bytes) x.later → lowest x all_rules ≡ [])
     → Looks b bytes (at + 4) from
 looks_as b bytes at from i count below l is quiet =
     let order = l.order in
@@ -128,7 +128,7 @@ placing = Op Or 2 2 26
 begins_there : (bytes : List ℕ) (at any : ℕ) → length bytes ≡ 16 → at ≤ 12 → IsWordOf (word_at bytes at) placing → (later : List Piece) → IsLongestReading (drop at bytes) later → begins_pair (masking any) later ≡ true
 begins_there bytes at any count below is later longest = ap (begins_pair (masking any)) (ahead_is bytes at placing count below is later longest).is
 
-in_place : (b : BundlePlace) (x : Place) → is_last_bundle b ≡ false → has_stack b.format ≡ true → x.bundle ≡ b → (is_last_bundle x.bundle ≡ false) × (has_stack x.bundle.format ≡ true)
+in_place : (b : BundlePlace) (x : InstrInBundle) → is_last_bundle b ≡ false → has_stack b.format ≡ true → x.bundle ≡ b → (is_last_bundle x.bundle ≡ false) × (has_stack x.bundle.format ≡ true)
 in_place b x last has place = (ap is_last_bundle place ∙ last, ap (λ (y : BundlePlace). has_stack y.format) place ∙ has)
 
 pub looks_write : (b : BundlePlace) (bytes : List ℕ) (at from : ℕ) → length bytes ≡ 16 → at ≤ 4 → is_last_bundle b ≡ false → has_stack b.format ≡ true → Looks b bytes at from

@@ -19,7 +19,7 @@ pub use Rattle.sfi_image.specs.Spelling.{Part, view}
 pub use Rattle.sfi_masks.specs.Masks.{is_in, AreMasks, IsFreeAccess, may_write, is_free, IsFreeHalf, IsFreeWord}
 pub use Rattle.sfi_rules.specs.Readings.{bundle_place, bundle_bytes, block_bundle, bundle_at, IsWithinBlock, IsWithin, follows_data_pair, follows_pair, follows_code_pair, Piece, IsReading, IsLongestReading, rest_of}
 pub use Rattle.sfi_rules.specs.Findings.{broken, lowest, all_rules, rule_of_length, findings_from, rest_finding, AreReadingFindings, AreBundleFindings, AreFindingsOfFirst, AreFoundUpTo}
-pub use Rattle.sfi_rules.specs.Rules.{Place, may_access, is_last_bundle, is_bundle_start, is_empty, breaks_ecall}
+pub use Rattle.sfi_rules.specs.Rules.{InstrInBundle, may_access, is_last_bundle, is_bundle_start, is_empty, breaks_ecall}
 pub use Rattle.sfi_scan.specs.declared.before.Before.{Before}
 pub use Rattle.sfi_image.specs.declared.bundle.BundlePlace.{BundlePlace}
 pub use Rattle.sfi_rules.specs.declared.finding.Finding.{Finding}

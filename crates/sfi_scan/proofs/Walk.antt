@@ -1,5 +1,5 @@
 -- The walk over a bundle: what is found so far, and what the rest adds.
-use Rattle.sfi_scan.proofs.Prelude.{◌≡◌, ℕ, ◌+◌, ◌-◌, ◌*◌, ◌%◌, ◌<◌, ◌≤◌, false, List, [], ◌∷◌, ◌++◌, length, take, drop, Option, Some, None, refl, sym, ap, ◌∙◌, subst, inl, inr, arith, append_assoc, length-drop, ◌&&◌, and_right, length-append, append-nil, drop_all, drop-drop, take_all, w16, from_le_bytes, Instr, Spells, IsCutShort, SpellsNothing, Before, BundlePlace, Rule, Finding, Piece, IsReading, IsLongestReading, rest_of, Place, is_empty, broken, lowest, all_rules, findings_from, rest_finding, rule_of_length, AreReadingFindings, near, finding_of, V1, V2}
+use Rattle.sfi_scan.proofs.Prelude.{◌≡◌, ℕ, ◌+◌, ◌-◌, ◌*◌, ◌%◌, ◌<◌, ◌≤◌, false, List, [], ◌∷◌, ◌++◌, length, take, drop, Option, Some, None, refl, sym, ap, ◌∙◌, subst, inl, inr, arith, append_assoc, length-drop, ◌&&◌, and_right, length-append, append-nil, drop_all, drop-drop, take_all, w16, from_le_bytes, Instr, Spells, IsCutShort, SpellsNothing, Before, BundlePlace, Rule, Finding, Piece, IsReading, IsLongestReading, rest_of, InstrInBundle, is_empty, broken, lowest, all_rules, findings_from, rest_finding, rule_of_length, AreReadingFindings, near, finding_of, V1, V2}
 use Rattle.rv_word.specs.Spelling.{length_of}
 use Rattle.rv_word.specs.declared.length.Length.{Length}
 use Rattle.rv_word.specs.declared.length.Length.TheVariants.{Wide}
@@ -65,7 +65,7 @@ pub next : (b : BundlePlace) (bytes : List ℕ) (at n : ℕ) (before after : Bef
     → length bytes ≡ 16
     → Leads b bytes at before found
     → Spells (take n (drop at bytes)) i n
-    → ((x : Place) → x.bundle ≡ b → x.address ≡ b.address + at → near x.earlier ≡ before → x.instr ≡ i → (x.whole && is_empty x.later) ≡ is_empty (drop (at + n) bytes) → IsLongestReading (drop (at + n) bytes) x.later → lowest x all_rules ≡ finding_of b (b.address + at) o)
+    → ((x : InstrInBundle) → x.bundle ≡ b → x.address ≡ b.address + at → near x.earlier ≡ before → x.instr ≡ i → (x.whole && is_empty x.later) ≡ is_empty (drop (at + n) bytes) → IsLongestReading (drop (at + n) bytes) x.later → lowest x all_rules ≡ finding_of b (b.address + at) o)
     → ((earlier : List Instr) → near earlier ≡ before → after ≡ near (i ∷ earlier))
     → Leads b bytes (at + n) after (found ++ finding_of b (b.address + at) o)
 next b bytes at n before after found i o count so_far s rule go =
@@ -97,7 +97,7 @@ next b bytes at n before after found i o count so_far s rule go =
     leads later longest =
         let longest' = subst (λ (r : List ℕ). IsLongestReading r later) (sym beyond) longest in
         let old = so_far.leads (record { instr = i; size = n } ∷ later) (longest_more (drop at bytes) (record { instr = i; size = n }) later s longest') in
-        let place : Place = record { bundle = b; address = b.address + at; earlier = so_far.earlier; instr = i; later = later; whole = is_empty (rest_of (drop n (drop at bytes)) later) } in
+        let place : InstrInBundle = record { bundle = b; address = b.address + at; earlier = so_far.earlier; instr = i; later = later; whole = is_empty (rest_of (drop n (drop at bytes)) later) } in
         let last = is_last (drop n (drop at bytes)) later longest'.is_reading ∙ ap (λ (r : List ℕ). is_empty r) beyond in
         let here = rule place refl refl so_far.near_is refl last longest in
         let joined = regroup found (lowest place all_rules) (finding_of b (b.address + at) o) (findings_from b (is_empty (rest_of (drop n (drop at bytes)) later)) (b.address + at + n) (i ∷ so_far.earlier) later) (rest_finding b (b.address + (length bytes - length (rest_of (drop n (drop at bytes)) later))) (rest_of (drop n (drop at bytes)) later)) here in
@@ -152,7 +152,7 @@ pub next_of : (b : BundlePlace) (bytes : List ℕ) (at n : ℕ) (before after : 
     → length bytes ≡ 16
     → Leads b bytes at before found
     → Spells (take n (take (16 - at) (drop at bytes))) i n
-    → ((x : Place) → x.bundle ≡ b → x.address ≡ b.address + at → near x.earlier ≡ before → x.instr ≡ i → (x.whole && is_empty x.later) ≡ is_empty (take (16 - (at + n)) (drop (at + n) bytes)) → IsLongestReading (take (16 - (at + n)) (drop (at + n) bytes)) x.later → lowest x all_rules ≡ finding_of b (b.address + at) o)
+    → ((x : InstrInBundle) → x.bundle ≡ b → x.address ≡ b.address + at → near x.earlier ≡ before → x.instr ≡ i → (x.whole && is_empty x.later) ≡ is_empty (take (16 - (at + n)) (drop (at + n) bytes)) → IsLongestReading (take (16 - (at + n)) (drop (at + n) bytes)) x.later → lowest x all_rules ≡ finding_of b (b.address + at) o)
     → ((earlier : List Instr) → near earlier ≡ before → after ≡ near (i ∷ earlier))
     → Leads b bytes (at + n) after (found ++ finding_of b (b.address + at) o)
 next_of b bytes at n before after found i o count so_far s rule go =

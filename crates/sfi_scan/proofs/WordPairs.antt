@@ -1,7 +1,7 @@
 -- The words of pairs, and what owes something itself: each breaks no rule where what is owed is met.
 use Rattle.sfi_scan.proofs.Prelude.{◌≡◌, ℕ, ◌==◌, true, ◌||◌, Some, refl, ap, and_parts, eqb-true, Instr, Op, OpImm, And, Or, outline, BundlePlace, eq-eqb, or_left, Computes, is_data_register, Owed, Nothing, MaskOrUse, Code, owed_by, IsQuiet, IsBeforeEnd}
 use Rattle.rv_word.specs.declared.instr.ImmOp.TheVariants.{Addi}
-use Rattle.sfi_rules.specs.declared.owed.Owed.TheVariants.{Mask, Place}
+use Rattle.sfi_rules.specs.declared.owed.Owed.TheVariants.{Mask, PlaceOnly}
 use Rattle.sfi_rules.specs.words.Rules.{is_step}
 use Rattle.sfi_scan.proofs.WordKept.{IsWrite, typed}
 use Rattle.sfi_scan.proofs.WordPlain.{computing}
@@ -31,17 +31,17 @@ module _ (b : BundlePlace) (at size : ℕ) (before : IsBeforeEnd b at size) wher
   pub masked : (a : ℕ) → IsQuiet b at size Nothing (masking a) Nothing
   masked a = quiet_where b at size before Nothing Nothing Nothing (masking a) (computing b at (masking a) 31 refl).safe (masking_write a) refl
 
-  pub masked_owed : (d : ℕ) → IsQuiet b at size (Mask d) (masking d) (Place d)
-  masked_owed d = quiet_where b at size before (Mask d) (Place d) Nothing (masking d) (computing b at (masking d) 31 refl).safe (masking_write d) (rw (same d) refl)
+  pub masked_owed : (d : ℕ) → IsQuiet b at size (Mask d) (masking d) (PlaceOnly d)
+  masked_owed d = quiet_where b at size before (Mask d) (PlaceOnly d) Nothing (masking d) (computing b at (masking d) 31 refl).safe (masking_write d) (rw (same d) refl)
 
-  pub masked_or_used : (d : ℕ) → IsQuiet b at size (MaskOrUse d) (masking d) (Place d)
-  masked_or_used d = quiet_where b at size before (MaskOrUse d) (Place d) Nothing (masking d) (computing b at (masking d) 31 refl).safe (masking_write d) (rw (same d) refl)
+  pub masked_or_used : (d : ℕ) → IsQuiet b at size (MaskOrUse d) (masking d) (PlaceOnly d)
+  masked_or_used d = quiet_where b at size before (MaskOrUse d) (PlaceOnly d) Nothing (masking d) (computing b at (masking d) 31 refl).safe (masking_write d) (rw (same d) refl)
 
   pub placed : (d : ℕ) → is_data_register d ≡ true → IsQuiet b at size Nothing (placing d) Nothing
   placed d h = quiet_where b at size before Nothing Nothing Nothing (placing d) (computing b at (placing d) d refl).safe (placing_write d h) refl
 
-  pub placed_owed : (d : ℕ) → is_data_register d ≡ true → IsQuiet b at size (Place d) (placing d) Nothing
-  placed_owed d h = quiet_where b at size before (Place d) Nothing Nothing (placing d) (computing b at (placing d) d refl).safe (placing_write d h) (rw (same d) refl)
+  pub placed_owed : (d : ℕ) → is_data_register d ≡ true → IsQuiet b at size (PlaceOnly d) (placing d) Nothing
+  placed_owed d h = quiet_where b at size before (PlaceOnly d) Nothing Nothing (placing d) (computing b at (placing d) d refl).safe (placing_write d h) (rw (same d) refl)
 
   pub code_owed : IsQuiet b at size Code placing_code Nothing
   code_owed = quiet_where b at size before Code Nothing Nothing placing_code (computing b at placing_code 30 refl).safe (record { reserved = refl; offset = refl; own_is = refl }) refl

@@ -5,7 +5,7 @@ ghost use Rattle.rv_word.specs.declared.instr.Instr.{Instr};
 ghost use Rattle.sfi_rules.specs.Readings.{Piece, IsLongestReading};
 ghost use Rattle.sfi_rules.specs.Readings.{writes_stack, is_stack_pair, begins_pair, ends_pair, precedes_pair, is_jump};
 ghost use Rattle.sfi_rules.specs.Readings.{IsWithin};
-ghost use Rattle.sfi_rules.specs.Rules.{Place, is_empty, is_bundle_start, is_last_bundle, breaks_ecall, breaks_reserved, breaks_access, breaks_jump, breaks_target, breaks_stack, may_write_stack, may_access, ends_region};
+ghost use Rattle.sfi_rules.specs.Rules.{InstrInBundle, is_empty, is_bundle_start, is_last_bundle, breaks_ecall, breaks_reserved, breaks_access, breaks_jump, breaks_target, breaks_stack, may_write_stack, may_access, ends_region};
 ghost use Rattle.sfi_rules.specs.Findings.{lowest, all_rules};
 ghost use Rattle.sfi_scan.specs.private.Blocks.{near, ahead, finding_of};
 
@@ -18,7 +18,7 @@ use sfi_rules::{BundlePlace, Rule};
 
 /// Whether the instruction breaks V3: an `ecall` that isn't the first instruction of a listed bundle.
 fn breaks_ecall(place: &BundlePlace, is_first: bool, instr: &Instr) -> bool
-    ensures { (x : Place) → x.bundle ≡ place.now → is_empty x.earlier ≡ is_first →
+    ensures { (x : InstrInBundle) → x.bundle ≡ place.now → is_empty x.earlier ≡ is_first →
         result ≡ breaks_ecall x instr.now }
 {
     match instr {
@@ -42,7 +42,7 @@ pub(crate) const STACK: u8 = STACK_POINTER;
 
 /// Whether the instruction breaks V5: an access neither on the stack pointer nor directly after its pair.
 fn breaks_access(place: &BundlePlace, before: &Before, instr: &Instr) -> bool
-    ensures { (x : Place) → x.bundle ≡ place.now → near x.earlier ≡ before.now →
+    ensures { (x : InstrInBundle) → x.bundle ≡ place.now → near x.earlier ≡ before.now →
         result ≡ breaks_access x instr.now }
 {
     match *instr {
@@ -55,7 +55,7 @@ fn breaks_access(place: &BundlePlace, before: &Before, instr: &Instr) -> bool
 
 /// Whether the instruction breaks V6: a `jalr` with an offset, or not directly after its pair.
 fn breaks_jump(before: &Before, instr: &Instr) -> bool
-    ensures { (x : Place) → near x.earlier ≡ before.now → result ≡ breaks_jump x instr.now }
+    ensures { (x : InstrInBundle) → near x.earlier ≡ before.now → result ≡ breaks_jump x instr.now }
 {
     match *instr {
         Instr::Jalr { rs1, imm, .. } => !(imm == 0 && before.is_pair(CODE, rs1)),
@@ -83,7 +83,7 @@ pub(crate) fn is_bundle_start(place: &BundlePlace, address: u32) -> bool
 /// Whether the instruction breaks V7: a jump or branch to no bundle start of the code region.
 fn breaks_target(place: &BundlePlace, address: u32, instr: &Instr) -> bool
     requires { IsWithin place.now }
-    ensures { (x : Place) → x.bundle ≡ place.now → x.address ≡ address →
+    ensures { (x : InstrInBundle) → x.bundle ≡ place.now → x.address ≡ address →
         result ≡ breaks_target x instr.now }
 {
     match *instr {
@@ -167,7 +167,7 @@ fn precedes_pair(two: &Ahead) -> bool
 
 /// Whether the instruction breaks V10: it writes the stack pointer, and no pair on it stands there.
 fn breaks_stack(place: &BundlePlace, before: &Before, instr: &Instr, after: &[u8]) -> bool
-    ensures { (x : Place) → x.bundle ≡ place.now → near x.earlier ≡ before.now →
+    ensures { (x : InstrInBundle) → x.bundle ≡ place.now → near x.earlier ≡ before.now →
         IsLongestReading after.now x.later → result ≡ breaks_stack x instr.now }
 {
     if !writes_stack(place, instr) {
@@ -188,7 +188,7 @@ pub(crate) fn lowest_rule(
     after: &[u8],
 ) -> Option<Rule>
     requires { IsWithin place.now }
-    ensures { (x : Place) → x.bundle ≡ place.now → x.address ≡ address →
+    ensures { (x : InstrInBundle) → x.bundle ≡ place.now → x.address ≡ address →
         near x.earlier ≡ before.now → x.instr ≡ instr.now →
         (x.whole && is_empty x.later) ≡ is_empty after.now → IsLongestReading after.now x.later →
         lowest x all_rules ≡ finding_of place.now address result }

@@ -4,7 +4,7 @@ use Rattle.std.proofs.lemmas.Bool.{or_parts, not-false}
 use Rattle.sfi_rules.specs.declared.owed.Owed.TheVariants as kind
 use Rattle.sfi_rules.specs.declared.rule.Rule.TheVariants.{V3, V4, V5, V6, V7, V8, V10, V11, V12}
 use Rattle.sfi_rules.specs.words.Rules.{left, owed_by_data, owed_by_code, owed_of, owed_by, or_nothing, joined, owed_next, is_of_data, is_of_code}
-use Rattle.sfi_rules.specs.words.Findings.{Place, is_at_gate, is_data_one, breaks_last, fails_data, fails_code, lowest}
+use Rattle.sfi_rules.specs.words.Findings.{InstrInWord, is_at_gate, is_data_one, breaks_last, fails_data, fails_code, lowest}
 use Rattle.sfi_word_safety.proofs.Owing.{meets, meets_if, is_nothing, both, owed_after, keeps, left_is, keeps_is}
 
 -- ---- no rule is found where none is broken
@@ -42,19 +42,19 @@ all_false : (b3 b4 b5 b6 b7 b8 b10 b11 b12 : Bool) → AreFalse b3 b4 b5 b6 b7 b
 unfolding first_true
 all_false b3 b4 b5 b6 b7 b8 b10 b11 b12 h = rw (h.v3, h.v4, h.v5, h.v6, h.v7, h.v8, h.v10, h.v11, h.v12) refl
 
-abbrev pub AreKept : Place → Type 0
+abbrev pub AreKept : InstrInWord → Type 0
 AreKept x = AreFalse (breaks_ecall (is_at_gate x.bundle x.address) x.instr) (breaks_reserved x.instr) (breaks_access x.instr) (breaks_jump x.instr) (breaks_target x.bundle.code_base x.bundle.code_size x.address x.instr) (breaks_last x)
     (fails_data x.owed x.instr) (fails_code x.owed x.instr) (breaks_offset x.instr)
 
-pub lowest_is : (x : Place) → lowest x ≡ first_true (breaks_ecall (is_at_gate x.bundle x.address) x.instr) (breaks_reserved x.instr) (breaks_access x.instr) (breaks_jump x.instr) (breaks_target x.bundle.code_base x.bundle.code_size x.address x.instr) (breaks_last x)
+pub lowest_is : (x : InstrInWord) → lowest x ≡ first_true (breaks_ecall (is_at_gate x.bundle x.address) x.instr) (breaks_reserved x.instr) (breaks_access x.instr) (breaks_jump x.instr) (breaks_target x.bundle.code_base x.bundle.code_size x.address x.instr) (breaks_last x)
     (fails_data x.owed x.instr) (fails_code x.owed x.instr) (breaks_offset x.instr)
 unfolding first_true
 lowest_is x = refl
 
-pub kept_of : (x : Place) → lowest x ≡ None → AreKept x
+pub kept_of : (x : InstrInWord) → lowest x ≡ None → AreKept x
 kept_of x e = none_true _ _ _ _ _ _ _ _ _ (sym (lowest_is x) ∙ e)
 
-pub none_of : (x : Place) → AreKept x → lowest x ≡ None
+pub none_of : (x : InstrInWord) → AreKept x → lowest x ≡ None
 none_of x h = lowest_is x ∙ all_false _ _ _ _ _ _ _ _ _ h
 
 -- ---- what is owed after it
@@ -65,7 +65,7 @@ is_there c e = not-false c e
 left_there : (o : Owed) (i : Instr) → fails_data o i ≡ false → fails_code o i ≡ false → is_some (left o i) ≡ true
 left_there kind.Nothing i e f = refl
 left_there (kind.Mask d) i e f = is_there _ (or_parts _ _ e).0
-left_there (kind.Place d) i e f = is_there _ (or_parts _ _ e).0
+left_there (kind.InstrInWord d) i e f = is_there _ (or_parts _ _ e).0
 left_there (kind.MaskOrUse d) i e f = is_there _ (or_parts _ _ e).0
 left_there kind.Code i e f = is_there _ (or_parts _ _ f).0
 
@@ -87,7 +87,7 @@ joined_is None w e f = absurd cc
 joined_is (Some l) None e f = absurd cc
 joined_is (Some kind.Nothing) (Some w) e f = refl
 joined_is (Some (kind.Mask d)) (Some w) e f = refl
-joined_is (Some (kind.Place d)) (Some w) e f = refl
+joined_is (Some (kind.InstrInWord d)) (Some w) e f = refl
 joined_is (Some (kind.MaskOrUse d)) (Some w) e f = refl
 joined_is (Some kind.Code) (Some w) e f = refl
 
@@ -116,7 +116,7 @@ none_failing o x later m k =
 clear : (i : Instr) → ((d : ℕ) → masks d i ≡ false) → ((d : ℕ) → places d i ≡ false) → ((d : ℕ) → uses d i ≡ false) → is_placing 24 30 i ≡ false → (o : Owed) (w : Option Owed) → joined (left o i) w ≡ or_nothing w
 clear i m p u c kind.Nothing w = refl
 clear i m p u c (kind.Mask d) w = let e = m d in rw e refl
-clear i m p u c (kind.Place d) w = let e = p d in rw e refl
+clear i m p u c (kind.InstrInWord d) w = let e = p d in rw e refl
 clear i m p u c (kind.MaskOrUse d) w = let e = m d in let f = u d in rw (e, f) refl
 clear i m p u c kind.Code w = rw c refl
 

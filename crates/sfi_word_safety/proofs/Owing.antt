@@ -1,12 +1,12 @@
 -- What is owed after an instruction is what comes there, where it breaks no rule that looks ahead and what was owed before it comes.
-use Rattle.sfi_word_safety.proofs.Prelude.{◌≡◌, ℕ, Bool, true, false, cond, not, ◌&&◌, ◌||◌, ◌==◌, List, ◌∷◌, Option, Some, None, refl, sym, ap, ◌∙◌, subst, destination, Instr, is_masking, is_placing, Piece, is_jump, is_data_register, places, masks, begins_placing, begins_masking, is_step, uses, begins_using, begins_code, may_write_data, breaks_data_of, breaks_data, may_write_code, breaks_code, eqb-true, false≢true, is_register, Owed, Nothing, Mask, Place, MaskOrUse, Code, left, owed_by_data, owed_by_code, owed_of, owed_by}
+use Rattle.sfi_word_safety.proofs.Prelude.{◌≡◌, ℕ, Bool, true, false, cond, not, ◌&&◌, ◌||◌, ◌==◌, List, ◌∷◌, Option, Some, None, refl, sym, ap, ◌∙◌, subst, destination, Instr, is_masking, is_placing, Piece, is_jump, is_data_register, places, masks, begins_placing, begins_masking, is_step, uses, begins_using, begins_code, may_write_data, breaks_data_of, breaks_data, may_write_code, breaks_code, eqb-true, false≢true, is_register, Owed, Nothing, Mask, PlaceOnly, MaskOrUse, Code, left, owed_by_data, owed_by_code, owed_of, owed_by}
 use Rattle.sfi_rules.proofs.Facts.{and_is}
 
 -- what is owed comes
 abbrev pub meets : Owed → List Piece → Bool
 meets Nothing later = true
 meets (Mask d) later = begins_masking d later
-meets (Place d) later = begins_placing d later
+meets (PlaceOnly d) later = begins_placing d later
 meets (MaskOrUse d) later = begins_masking d later || begins_using d later
 meets Code later = begins_code later
 
@@ -19,7 +19,7 @@ abbrev pub both : Option Owed → Option Owed → Option Owed
 both None own = None
 both (Some Nothing) own = own
 both (Some (Mask d)) own = Some (Mask d)
-both (Some (Place d)) own = Some (Place d)
+both (Some (PlaceOnly d)) own = Some (PlaceOnly d)
 both (Some (MaskOrUse d)) own = Some (MaskOrUse d)
 both (Some Code) own = Some Code
 
@@ -30,7 +30,7 @@ owed_after o i = both (left o i) (owed_by i)
 abbrev pub is_nothing : Owed → Bool
 is_nothing Nothing = true
 is_nothing (Mask d) = false
-is_nothing (Place d) = false
+is_nothing (PlaceOnly d) = false
 is_nothing (MaskOrUse d) = false
 is_nothing Code = false
 
@@ -53,10 +53,10 @@ either false false b o later apart e = refl
 
 pub left_is : (o : Owed) (x : Piece) (later : List Piece) → meets o (x ∷ later) ≡ meets_if (left o x.instr) later
 left_is Nothing x later = refl
-left_is (Mask d) x later = one (masks d x.instr) (Some (Place d)) later (begins_placing d later) refl
-left_is (Place d) x later = last (places d x.instr) later
+left_is (Mask d) x later = one (masks d x.instr) (Some (PlaceOnly d)) later (begins_placing d later) refl
+left_is (PlaceOnly d) x later = last (places d x.instr) later
 left_is (MaskOrUse d) x later =
-    either (masks d x.instr) (uses d x.instr) (begins_placing d later) (Place d) later (λ h. ap (uses d) (and_is 31 d 27 x.instr h)) refl
+    either (masks d x.instr) (uses d x.instr) (begins_placing d later) (PlaceOnly d) later (λ h. ap (uses d) (and_is 31 d 27 x.instr h)) refl
 left_is Code x later = last (is_placing 24 30 x.instr) later
 
 -- ---- what an instruction owes
@@ -123,14 +123,14 @@ left_masks : (o : Owed) (i : Instr) (later : List Piece) → (meets_if (left o i
 left_masks Nothing i later = refl
 left_masks (Mask d) i later = by (masks d i) refl
   where
-    by : (m : Bool) → masks d i ≡ m → (meets_if (cond m (Some (Place d)) None) later && meets_if (owed_by i) later) ≡ meets_if (both (cond m (Some (Place d)) None) (owed_by i)) later
+    by : (m : Bool) → masks d i ≡ m → (meets_if (cond m (Some (PlaceOnly d)) None) later && meets_if (owed_by i) later) ≡ meets_if (both (cond m (Some (PlaceOnly d)) None) (owed_by i)) later
     by true e = ap (λ (j : Instr). begins_placing d later && meets_if (owed_by j) later) (and_is 31 d 27 i e) ∙ and_true (begins_placing d later)
       where
         and_true : (b : Bool) → (b && true) ≡ b
         and_true true = refl
         and_true false = refl
     by false e = refl
-left_masks (Place d) i later = by (places d i)
+left_masks (PlaceOnly d) i later = by (places d i)
   where
     by : (m : Bool) → (meets_if (cond m (Some Nothing) None) later && meets_if (owed_by i) later) ≡ meets_if (both (cond m (Some Nothing) None) (owed_by i)) later
     by true = refl
@@ -141,7 +141,7 @@ left_masks (MaskOrUse d) i later = by (masks d i) (uses d i) refl
     and_true true = refl
     and_true false = refl
 
-    by : (m u : Bool) → masks d i ≡ m → (meets_if (cond m (Some (Place d)) (cond u (Some Nothing) None)) later && meets_if (owed_by i) later) ≡ meets_if (both (cond m (Some (Place d)) (cond u (Some Nothing) None)) (owed_by i)) later
+    by : (m u : Bool) → masks d i ≡ m → (meets_if (cond m (Some (PlaceOnly d)) (cond u (Some Nothing) None)) later && meets_if (owed_by i) later) ≡ meets_if (both (cond m (Some (PlaceOnly d)) (cond u (Some Nothing) None)) (owed_by i)) later
     by true u e = ap (λ (j : Instr). begins_placing d later && meets_if (owed_by j) later) (and_is 31 d 27 i e) ∙ and_true (begins_placing d later)
     by false true e = refl
     by false false e = refl

@@ -1,5 +1,5 @@
 -- What a scan in one pass keeps: the sandbox is clean where the rest of its code is, and what is owed comes.
-use Rattle.sfi_word_safety.proofs.Prelude.{◌≡◌, ◌↔◌, ℕ, ◌+◌, ◌≤◌, List, [], ◌∷◌, length, take, drop, Bool, true, false, not, ◌&&◌, Option, Some, refl, sym, ap, ◌∙◌, subst, arith, add-zero, length-drop, drop-drop, Instr, Spells, Part, Piece, IsReading, rest_of, is_empty, breaks_reserved, ends_region, is_gate_of, Owed, Nothing, Mask, Place, MaskOrUse, Code, fails_data, fails_code}
+use Rattle.sfi_word_safety.proofs.Prelude.{◌≡◌, ◌↔◌, ℕ, ◌+◌, ◌≤◌, List, [], ◌∷◌, length, take, drop, Bool, true, false, not, ◌&&◌, Option, Some, refl, sym, ap, ◌∙◌, subst, arith, add-zero, length-drop, drop-drop, Instr, Spells, Part, Piece, IsReading, rest_of, is_empty, breaks_reserved, ends_region, is_gate_of, Owed, Nothing, Mask, PlaceOnly, MaskOrUse, Code, fails_data, fails_code}
 use Rattle.std.proofs.lemmas.Bool.{and_parts, and_from, not-true, not-false}
 use Rattle.sfi_rules.specs.words.Rules.{breaks_width, breaks_ecall, breaks_access, breaks_jump, breaks_target, breaks_end, breaks_data, breaks_code, breaks_offset}
 use Rattle.sfi_word_safety.specs.Code.{BreaksNone, BreakNone, AreWordsClean}
@@ -95,7 +95,7 @@ with_first p = (
 nothing_meets : (o : Owed) (later : List Piece) → is_nothing o ≡ true → meets o later ≡ true
 nothing_meets Nothing later h = refl
 nothing_meets (Mask d) later h = absurd cc
-nothing_meets (Place d) later h = absurd cc
+nothing_meets (PlaceOnly d) later h = absurd cc
 nothing_meets (MaskOrUse d) later h = absurd cc
 nothing_meets Code later h = absurd cc
 

@@ -32,5 +32,5 @@ pub use Rattle.sfi_word_safety.specs.Laws.{EntryIsGoodInWords, TurnKeepsInWords,
 pub use Rattle.sfi_rules.specs.declared.owed.Owed.{Owed}
 pub use Rattle.sfi_rules.specs.declared.rule.Rule.{Rule}
 pub use Rattle.sfi_rules.specs.declared.finding.Finding.{Finding}
-pub use Rattle.sfi_rules.specs.declared.owed.Owed.TheVariants.{Nothing, Mask, Place, MaskOrUse, Code}
+pub use Rattle.sfi_rules.specs.declared.owed.Owed.TheVariants.{Nothing, Mask, PlaceOnly, MaskOrUse, Code}
 pub use Rattle.sfi_rules.specs.words.Findings.{fails_data, fails_code}

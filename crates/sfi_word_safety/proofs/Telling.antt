@@ -4,7 +4,7 @@ use Rattle.std.proofs.lemmas.List.{length-drop, length-take, drop-drop, drop-tak
 use Rattle.sfi_image.specs.declared.bundle.BundlePlace.{BundlePlace}
 use Rattle.sfi_rules.specs.Readings.{Piece, IsReading, IsLongestReading, rest_of}
 use Rattle.sfi_rules.specs.declared.owed.Owed.TheVariants as kind
-use Rattle.sfi_rules.specs.words.Findings.{Place, is_at_gate, lowest, found_at, found_from, owed_past, IsWordFound}
+use Rattle.sfi_rules.specs.words.Findings.{InstrInWord, is_at_gate, lowest, found_at, found_from, owed_past, IsWordFound}
 use Rattle.sfi_rules.specs.Rules.{rest_finding}
 use Rattle.sfi_word_safety.proofs.Owing.{is_nothing}
 use Rattle.sfi_word_safety.proofs.Judging.{AreKept, kept_of, none_of, after_is_next, ends_owing}
@@ -58,7 +58,7 @@ pub record IsPlaceIn (p : Part) (b : BundlePlace) : Type 0 where
 
 module _ (p : Part) (b : BundlePlace) (in_part : IsPlaceIn p b) (at : ℕ) (i : Instr) (n : ℕ) (s : Spells (take n (drop at p.code)) i n) (o : Owed) (found : List Finding)
     (width : breaks_width (p.code_base + at) n ≡ false) (gate : is_at_gate b (p.code_base + at) ≡ is_gate_of p.gates (p.code_base + at)) (t : Tells p at o found) where
-  abbrev this : Place
+  abbrev this : InstrInWord
   this = record { bundle = b; address = p.code_base + at; owed = o; instr = i; size = n }
 
   fits : at + n ≤ length p.code

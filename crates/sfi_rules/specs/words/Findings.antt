@@ -21,8 +21,8 @@ use Rattle.sfi_rules.specs.words.Rules.{breaks_ecall, breaks_access, breaks_jump
 
 -- ---- at an instruction
 
--- a place of a word's reading
-pub record Place : Type 0 where
+-- an instruction of a word, and what its rules look at beside it
+pub record InstrInWord : Type 0 where
   pub bundle : BundlePlace
   pub address : ℕ  -- that of the instruction
   pub owed : Owed  -- before the instruction
@@ -39,7 +39,7 @@ abbrev pub is_at_gate : BundlePlace → ℕ → Bool
 is_at_gate b at = b.listed && (at == b.address)
 
 -- V8: the region ends after it, and it is not ebreak, jal or jalr
-abbrev pub breaks_last : Place → Bool
+abbrev pub breaks_last : InstrInWord → Bool
 breaks_last x =
     (x.address + x.size == x.bundle.code_base + x.bundle.code_size) && not (ends_region x.instr)
 
@@ -57,7 +57,7 @@ fails_code o i = (is_of_code o && not (is_some (left o i)))
 
 -- the rule is broken at the place (V1 and V2 where no instruction is read, so never at a place; V9
 -- is none of code in words)
-abbrev pub breaks : Place → Rule → Bool
+abbrev pub breaks : InstrInWord → Rule → Bool
 breaks x V1 = false
 breaks x V2 = false
 breaks x V3 = breaks_ecall (is_at_gate x.bundle x.address) x.instr
@@ -72,7 +72,7 @@ breaks x V11 = fails_code x.owed x.instr
 breaks x V12 = breaks_offset x.instr
 
 -- the lowest rule that is broken at the place
-abbrev pub lowest : Place → Option Rule
+abbrev pub lowest : InstrInWord → Option Rule
 lowest x = find (λ rule. breaks x rule) all_rules
 
 -- ---- of a word

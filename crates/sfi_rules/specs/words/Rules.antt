@@ -12,7 +12,7 @@ use Rattle.sfi_formats.specs.Formats.{code_base_register, code_mask_register, da
 use Rattle.sfi_rules.specs.Readings.{Piece, is_jump}
 use Rattle.sfi_rules.specs.Rules.{is_empty, ends_region}
 use Rattle.sfi_rules.specs.declared.owed.Owed.{Owed}
-use Rattle.sfi_rules.specs.declared.owed.Owed.TheVariants.{Nothing, Mask, Place, MaskOrUse, Code}
+use Rattle.sfi_rules.specs.declared.owed.Owed.TheVariants.{Nothing, Mask, PlaceOnly, MaskOrUse, Code}
 
 -- ==== The rules of code in words. Each looks at an instruction and at those after it, two at most,
 -- and at none before it.
@@ -155,10 +155,10 @@ breaks_offset i =
 -- what is still owed after this instruction; None: the instruction isn't one that was owed
 abbrev pub left : Owed → Instr → Option Owed
 left Nothing i = Some Nothing
-left (Mask d) i = if masks d i then Some (Place d) else None
-left (Place d) i = if places d i then Some Nothing else None
+left (Mask d) i = if masks d i then Some (PlaceOnly d) else None
+left (PlaceOnly d) i = if places d i then Some Nothing else None
 left (MaskOrUse d) i =
-    if masks d i then Some (Place d) else if uses d i then Some Nothing else None
+    if masks d i then Some (PlaceOnly d) else if uses d i then Some Nothing else None
 left Code i = if is_placing code_base_register code_register i then Some Nothing else None
 
 -- what must come after this write of data register d; None: nothing can make it right
@@ -197,7 +197,7 @@ abbrev pub joined : Option Owed → Option Owed → Owed
 joined None own = or_nothing own
 joined (Some Nothing) own = or_nothing own
 joined (Some (Mask d)) own = Mask d
-joined (Some (Place d)) own = Place d
+joined (Some (PlaceOnly d)) own = PlaceOnly d
 joined (Some (MaskOrUse d)) own = MaskOrUse d
 joined (Some Code) own = Code
 
@@ -209,7 +209,7 @@ owed_next o i = joined (left o i) (owed_by i)
 abbrev pub is_of_data : Owed → Bool
 is_of_data Nothing = false
 is_of_data (Mask d) = true
-is_of_data (Place d) = true
+is_of_data (PlaceOnly d) = true
 is_of_data (MaskOrUse d) = true
 is_of_data Code = false
 
@@ -217,6 +217,6 @@ is_of_data Code = false
 abbrev pub is_of_code : Owed → Bool
 is_of_code Nothing = false
 is_of_code (Mask d) = false
-is_of_code (Place d) = false
+is_of_code (PlaceOnly d) = false
 is_of_code (MaskOrUse d) = false
 is_of_code Code = true

@@ -289,9 +289,9 @@ fn after_owed(place: &BundlePlace, address: u32, owed: Owed, word: u32) -> Optio
             if !is_masking_of(d, word) {
                 return None;
             }
-            Some(Owed::Place(d))
+            Some(Owed::PlaceOnly(d))
         }
-        Owed::Place(d) => {
+        Owed::PlaceOnly(d) => {
             if !is_placing_of(d, word) {
                 return None;
             }
@@ -299,7 +299,7 @@ fn after_owed(place: &BundlePlace, address: u32, owed: Owed, word: u32) -> Optio
         }
         Owed::MaskOrUse(d) => {
             if is_masking_of(d, word) {
-                return Some(Owed::Place(d));
+                return Some(Owed::PlaceOnly(d));
             }
             if !is_use(place, address, d, word) {
                 return None;
@@ -346,7 +346,7 @@ fn after_halves(place: &BundlePlace, address: u32, word: &[u8], owed: Owed) -> O
             }
             Some(Owed::Nothing)
         }
-        Owed::Mask(_) | Owed::Place(_) | Owed::MaskOrUse(_) | Owed::Code => None,
+        Owed::Mask(_) | Owed::PlaceOnly(_) | Owed::MaskOrUse(_) | Owed::Code => None,
     }
 }
 
@@ -359,7 +359,7 @@ fn after_word(place: &BundlePlace, address: u32, owed: Owed, word: u32) -> Optio
 {
     match owed {
         Owed::Nothing => after_nothing(place, address, word),
-        Owed::Mask(_) | Owed::Place(_) | Owed::MaskOrUse(_) | Owed::Code => {
+        Owed::Mask(_) | Owed::PlaceOnly(_) | Owed::MaskOrUse(_) | Owed::Code => {
             after_owed(place, address, owed, word)
         }
     }

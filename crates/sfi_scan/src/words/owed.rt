@@ -16,7 +16,10 @@ use sfi_rules::Owed;
 fn is_of_data(owed: Owed) -> bool
     ensures { result ≡ is_of_data owed }
 {
-    matches!(owed, Owed::Mask(_) | Owed::Place(_) | Owed::MaskOrUse(_))
+    matches!(
+        owed,
+        Owed::Mask(_) | Owed::PlaceOnly(_) | Owed::MaskOrUse(_)
+    )
 }
 
 /// Whether what is owed follows a write of the code register.
@@ -32,11 +35,11 @@ fn left(owed: Owed, instr: &Instr) -> Option<Owed>
 {
     match owed {
         Owed::Nothing => Some(Owed::Nothing),
-        Owed::Mask(d) => masks(d, instr).then_some(Owed::Place(d)),
-        Owed::Place(d) => places(d, instr).then_some(Owed::Nothing),
+        Owed::Mask(d) => masks(d, instr).then_some(Owed::PlaceOnly(d)),
+        Owed::PlaceOnly(d) => places(d, instr).then_some(Owed::Nothing),
         Owed::MaskOrUse(d) => {
             if masks(d, instr) {
-                Some(Owed::Place(d))
+                Some(Owed::PlaceOnly(d))
             } else {
                 uses(d, instr).then_some(Owed::Nothing)
             }

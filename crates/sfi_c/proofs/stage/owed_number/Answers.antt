@@ -10,8 +10,8 @@ owed_back kind register low small = ap₂ owed_by (let e : (8 * register + kind)
 pub returns-in-Mask : goal.returns-in-Mask
 returns-in-Mask c = owed_back 2 c.in-Mask.register (omega arith) (omega arith) ∙ sym c.in-Mask.is
 
-pub returns-in-Place : goal.returns-in-Place
-returns-in-Place c = owed_back 3 c.in-Place.register (omega arith) (omega arith) ∙ sym c.in-Place.is
+pub returns-in-PlaceOnly : goal.returns-in-PlaceOnly
+returns-in-PlaceOnly c = owed_back 3 c.in-PlaceOnly.register (omega arith) (omega arith) ∙ sym c.in-PlaceOnly.is
 
 pub returns-in-MaskOrUse : goal.returns-in-MaskOrUse
 returns-in-MaskOrUse c = owed_back 4 c.in-MaskOrUse.register (omega arith) (omega arith) ∙ sym c.in-MaskOrUse.is
