@@ -1,7 +1,7 @@
 """Tests of reading assembly: `tools/unit_tests.py tools/asm2sfi`. The assembly is what gcc 12 and clang 14 write."""
 import unittest
 
-from assembly import Label, Place, Refused, Statement, read_assembly
+from assembly import Label, SourceLine, Refused, Statement, read_assembly
 from instructions import Converter
 from pcrel import pcrel_labels
 from trampolines import check_trampolines
@@ -17,8 +17,8 @@ class Reading(unittest.TestCase):
     def test_pieces(self):
         pieces = list(read_assembly("a.s", 'a: b:\tlw\ta0, 4(sp) # x\n\n.ascii "#;,\\"", "b"; ret'))
         self.assertEqual(pieces, [
-            Label("a", Place("a.s", 1)), Label("b", Place("a.s", 1)), Statement("lw", ("a0", "4(sp)"), Place("a.s", 1)),
-            Statement(".ascii", ('"#;,\\""', '"b"'), Place("a.s", 3)), Statement("ret", (), Place("a.s", 3))])
+            Label("a", SourceLine("a.s", 1)), Label("b", SourceLine("a.s", 1)), Statement("lw", ("a0", "4(sp)"), SourceLine("a.s", 1)),
+            Statement(".ascii", ('"#;,\\""', '"b"'), SourceLine("a.s", 3)), Statement("ret", (), SourceLine("a.s", 3))])
 
     def test_labels_that_are_numbers(self):
         pieces = list(read_assembly("a.s", "1:\nbeqz a0, 1f\nj 1b\n1:\nj 1b"))

@@ -38,7 +38,7 @@ def run(*words, given=""):
 
 
 @dataclass(frozen=True)
-class Place:
+class FunctionLine:
     """The function of an instruction, and the line in a file of C or assembly where that is known."""
     function: str
     line: str = ""
@@ -67,7 +67,7 @@ class Program:
     def place(self, address):
         """What an instruction belongs to."""
         number = bisect_right(self.functions, (address, "\x7f")) - 1
-        return Place(self.functions[number][1]) if number >= 0 else Place(f"{address:08x}")
+        return FunctionLine(self.functions[number][1]) if number >= 0 else FunctionLine(f"{address:08x}")
 
     def label(self, address):
         """The name of a gate or label at an address, or nothing."""
@@ -103,7 +103,7 @@ class Compiled(Program):
         self.functions = sorted((at, "start" if name == START else name) for at, name, kind in self.labels if kind != "data")
 
     def place(self, address):
-        return Place(super().place(address).function, self.lines.get(address, ""))
+        return FunctionLine(super().place(address).function, self.lines.get(address, ""))
 
     def addresses(self, word):
         """Also those where a line's instructions begin, by FILE:LINE."""

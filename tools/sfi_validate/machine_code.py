@@ -15,8 +15,8 @@ LARGEST_SMALL = 64  # bytes of an object in small data
 DATA_BASE = 26
 
 
-class Place(NamedTuple):
-    """A place in the code."""
+class SectionOffset(NamedTuple):
+    """Where something of the code lies: its section, and how far from its begin."""
     section: str
     offset: int
 
@@ -33,13 +33,13 @@ class Code:
     def __init__(self, objects, is_left, is_movable=False):
         self.objects, self.is_left, self.is_movable = objects, is_left, is_movable
         self.sections = {name: section for name, section in objects.sections.items() if section.is_code()}
-        self.labels = {symbol.name: Place(symbol.section, symbol.value) for symbol in objects.symbols
+        self.labels = {symbol.name: SectionOffset(symbol.section, symbol.value) for symbol in objects.symbols
                        if symbol.section in self.sections and symbol.name != symbol.section
                        and not symbol.name.startswith(("$", LINE))}
         self.functions = {name: place for name, place in self.labels.items() if not name.startswith(".")}
         self.function_at = {place: name for name, place in self.functions.items()}
         self.taken = self.taken_names()
-        self.lines = {Place(symbol.section, symbol.value): int(symbol.name[len(LINE):])
+        self.lines = {SectionOffset(symbol.section, symbol.value): int(symbol.name[len(LINE):])
                       for symbol in objects.symbols if symbol.name.startswith(LINE)}
         self.starts = {}
         for place in sorted(self.function_at):
@@ -68,16 +68,16 @@ class Code:
     def target(self, place, instruction, relocation):
         """Where a branch or a jump leads."""
         if relocation is None:
-            return Place(place.section, place.offset + instruction.number)
+            return SectionOffset(place.section, place.offset + instruction.number)
         symbol = relocation.symbol
         if symbol.section in self.sections:
-            return Place(symbol.section, symbol.value + relocation.addend)
+            return SectionOffset(symbol.section, symbol.value + relocation.addend)
         return Name(symbol.name)
 
     def upper(self, relocation):
         """The relocation of the `auipc` of which a `%pcrel_lo` speaks."""
         symbol = relocation.symbol
-        return self.at(Place(symbol.section, symbol.value))[1]
+        return self.at(SectionOffset(symbol.section, symbol.value))[1]
 
     def is_small(self, name, addend):
         """Whether an address is reached from the data region's first one: that of a small object, or beside one."""
@@ -99,13 +99,13 @@ class Code:
     def owner(self, place):
         """The function that a place belongs to, or None."""
         before = [start for start in self.starts.get(place.section, ()) if start <= place.offset]
-        return self.function_at[Place(place.section, before[-1])] if before else None
+        return self.function_at[SectionOffset(place.section, before[-1])] if before else None
 
     def written(self):
         """By the name of each function the registers that it may write, with those of all that it calls."""
         own, leads = {name: set() for name in self.functions}, {name: set() for name in self.functions}
         for section in self.sections:
-            place = Place(section, 0)
+            place = SectionOffset(section, 0)
             while self.is_in(place):
                 name = self.owner(place)
                 instruction, relocation = self.at(place)
@@ -120,7 +120,7 @@ class Code:
         everything = CALLER_SAVED if self.is_left else CALLER_SAVED | WRITTEN_BESIDE
         if instruction.word in ("jal", *BRANCHES) or relocation is not None and relocation.kind == "call":
             target = self.target(place, instruction, relocation)
-            other = self.owner(target) if isinstance(target, Place) else None
+            other = self.owner(target) if isinstance(target, SectionOffset) else None
             if other is None:
                 own[name] |= everything
             elif other != name:

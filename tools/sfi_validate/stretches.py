@@ -3,7 +3,7 @@ from dataclasses import dataclass, field
 from typing import NamedTuple
 
 import values
-from machine_code import BRANCHES, Name, Place
+from machine_code import BRANCHES, Name, SectionOffset
 from values import ZERO, Value, computed, number, of
 
 LOADS, STORES = ("lb", "lh", "lw", "lbu", "lhu"), ("sb", "sh", "sw")
@@ -21,7 +21,7 @@ class Access(NamedTuple):
     register: int
     address: Value
     stored: Value
-    place: Place
+    place: SectionOffset
 
     def width(self):
         return WIDTHS[self.word[1]]
@@ -30,7 +30,7 @@ class Access(NamedTuple):
 class Event(NamedTuple):
     """What ends a stretch: `branch`, `call`, `jump` to a name, `indirect` jump, `return`, `break`, `loop` or `end`."""
     kind: str
-    place: Place
+    place: SectionOffset
     word: str = ""
     values: tuple = ()
     target: object = None
@@ -39,7 +39,7 @@ class Event(NamedTuple):
 
 @dataclass
 class Stretch:
-    start: Place
+    start: SectionOffset
     registers: list
     accesses: list = field(default_factory=list)
     stacks: list = field(default_factory=list)  # what the stack pointer holds, one after another
@@ -110,7 +110,7 @@ class Runner:
 
     def jump(self, place, instruction, relocation, following):
         target = self.code.target(place, instruction, relocation)
-        name = self.code.function_at.get(target) if isinstance(target, Place) else target.name
+        name = self.code.function_at.get(target) if isinstance(target, SectionOffset) else target.name
         if instruction.target:
             if name is None:
                 raise Unknown(place, "a call of what is no function")

@@ -15,7 +15,7 @@ pub use Rattle.sfi_source.specs.declared.item.Named.{Named}
 pub use Rattle.sfi_source.specs.declared.item.Named.TheVariants.{Unknown, Gate, Code, Data}
 pub use Rattle.sfi_text.specs.SoFar.{constant, data_bytes, is_small, add_lower, Does, IsFree, Labels, RefusesLabel, Fits, GoesOn, with_stated, HasNoRoom, MayCome, Begun, SoFar, nothing, begin, format_or_sfi1, last_sandbox, sandboxes, with_label, with_names, with_gate, with_export, with_import, listed, address_bodies, address_count, Shared, tables, has_tables, items_of, with_bodies, with_bytes, Stated, format, sandbox, within, gate, exported, imported, movable, compressed, bytes, plain, jump, address, StatedWithin, data_part}
 pub use Rattle.sfi_text.specs.Operands.{IsNumberOf, form_of, name_of, OperandValues, Stands, SaysFormat, mode_name, Departs, part_cause, Unformed, Missing, Differs, HasForm}
-pub use Rattle.sfi_text.specs.Keywords.{keyword_name, directive_form, directive_states, pseudo_form, pseudo_states, branch_form, branch_states, jal_form, jal_states, data_kind, place_of_keyword, is_added, makes_gate}
+pub use Rattle.sfi_text.specs.Keywords.{keyword_name, directive_form, directive_states, pseudo_form, pseudo_states, branch_form, branch_states, jal_form, jal_states, data_kind, position_of_keyword, is_added, makes_gate}
 pub use Rattle.sfi_text.specs.Laws.{ConstantsAddUp, OneMeaning, MeaningsAreInRange, LeadsOnce, LeadingIsNotRefused, RefusedOnce, OneSource, OneListing, OneFault, MeantHasNoFault, OneCause, MeantIsNotRefused, PrintedReadsBack, SomeMeaning, SomeSource}
 pub use Rattle.sfi_text.specs.Texts.{LabelsLead, RestLeads, BeginsWithName, BeginsWithLabel, HasNoLabel, IsTaken, LabelRefused, PassesLabels, LeadsAfter, PassesLimit, OperandsRefused, IsKnown, KnownRefused, RefusedAfter, RefusedFrom, StatementRefused, Leads, IsGateTwice, LineRefused, uncommented, lines, LinesLead, LeadsFromNothing, FirstRefused, most_bytes, first_line, LineFault, MeansSource, MeansListing, IsFault}
 pub use Rattle.sfi_text.specs.Lines.{Writes, AreMore, IsRow, IsData, StatesAfter, InstrDeparts, RefusedWith, LeadsByMore, NumberDeparts, MoreDeparts, ListDeparts, NameRefused, After}
@@ -31,6 +31,6 @@ pub use Rattle.sfi_text.specs.declared.keyword.Keyword.{Keyword}
 pub use Rattle.sfi_text.specs.declared.keyword.Pseudo.TheVariants.{Nop, Ret, Li}
 pub use Rattle.sfi_text.specs.declared.mnemonic.Mnemonic.{Mnemonic}
 pub use Rattle.sfi_text.specs.private.Reading.{FollowsToken, Reads, SameAt, Suits, AllSuit, slot, is_fresh, has_no_repeat, KeepsOthers, AgreesOn, FollowsName, Follows, body_of, token_len, begins_hex, after_sign}
-pub use Rattle.sfi_text.specs.private.Lines.{stated, IsRightStatement, place_of_stated, IsRightWithin, place_within}
+pub use Rattle.sfi_text.specs.private.Lines.{stated, IsRightStatement, position_of_stated, IsRightWithin, position_within}
 pub use Rattle.rv_word.specs.Spelling.{modulo, IsBetween, InRange, IsImm12}
 pub use Rattle.rv_word.specs.declared.instr.Instr.{Instr}

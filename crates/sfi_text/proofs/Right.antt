@@ -1,10 +1,10 @@
 -- What a line states is in range.
-use Rattle.sfi_text.proofs.Prelude.{rules, ◌≡◌, ℕ, ◌^◌, ◌<◌, ◌≤◌, Bool, true, false, cond, List, [], ◌∷◌, length, inl, inr, refl, sym, ap, ◌∙◌, subst, arith, ℤ, pos, negsuc, unsigned_abs, ◌==◌, All, flat_map, ints, Instr, IsImm12, Mnemonic, Part, Nop, Li, DataWidth, Keyword, IsDataSize, IsStraight, name_of, form_of, IsNumberOf, OperandValues, HasForm, AllSuit, mnemonic_of, operands_of, Spells, is_small, add_lower, constant, data_bytes, directive_form, directive_states, pseudo_form, pseudo_states, branch_form, branch_states, jal_form, jal_states, place_of_keyword, IsRow, After, Stated, within, plain, IsRightStatement, place_of_stated}
+use Rattle.sfi_text.proofs.Prelude.{rules, ◌≡◌, ℕ, ◌^◌, ◌<◌, ◌≤◌, Bool, true, false, cond, List, [], ◌∷◌, length, inl, inr, refl, sym, ap, ◌∙◌, subst, arith, ℤ, pos, negsuc, unsigned_abs, ◌==◌, All, flat_map, ints, Instr, IsImm12, Mnemonic, Part, Nop, Li, DataWidth, Keyword, IsDataSize, IsStraight, name_of, form_of, IsNumberOf, OperandValues, HasForm, AllSuit, mnemonic_of, operands_of, Spells, is_small, add_lower, constant, data_bytes, directive_form, directive_states, pseudo_form, pseudo_states, branch_form, branch_states, jal_form, jal_states, position_of_keyword, IsRow, After, Stated, within, plain, IsRightStatement, position_of_stated}
 use Rattle.sfi_source.specs.Source.{upper, lower}
 use Rattle.sfi_text.specs.declared.keyword.DataWidth.TheVariants.{Word, Half, Byte}
 use Rattle.sfi_text.specs.declared.keyword.Directive.{Directive}
 use Rattle.sfi_text.specs.declared.keyword.Pseudo.{Pseudo}
-use Rattle.sfi_text.specs.declared.statement.Place.{Place}
+use Rattle.sfi_text.specs.declared.statement.Position.{Position}
 use Rattle.rv_word.specs.declared.instr.Cond.{Cond}
 use Rattle.rv_word.specs.declared.instr.ImmOp.TheVariants.{Addi}
 use Rattle.std.proofs.lemmas.List.Elements.{All-nil, All-cons, All-append, All-replicate, All-from_recursion}
@@ -149,21 +149,21 @@ after_right (keyword.Directive name) ts s h = row_right (directive_form name) (d
 after_right (keyword.Numbers width) ts s (numbers, are, e) = subst IsRightStatement (sym e) (list_right width numbers)
 
 -- a statement may stand where its keyword may
-row_place : (place : Place) (form : List Part) (states : OperandValues → Stated) → ((o : OperandValues) → place ≡ place_of_stated (states o)) → (tokens : List (List ℕ)) (s : Stated) → IsRow form states tokens s → place ≡ place_of_stated s
-row_place place form states same tokens s (o, has, e) = same o ∙ ap place_of_stated (sym e)
+row_position : (place : Position) (form : List Part) (states : OperandValues → Stated) → ((o : OperandValues) → place ≡ position_of_stated (states o)) → (tokens : List (List ℕ)) (s : Stated) → IsRow form states tokens s → place ≡ position_of_stated s
+row_position place form states same tokens s (o, has, e) = same o ∙ ap position_of_stated (sym e)
 
-directive_place : (d : Directive) (o : OperandValues) → place_of_keyword (keyword.Directive d) ≡ place_of_stated (directive_states d o)
+directive_place : (d : Directive) (o : OperandValues) → position_of_keyword (keyword.Directive d) ≡ position_of_stated (directive_states d o)
 directive_place directive.Format o = refl
 directive_place _ o = refl
 
-pseudo_place : (p : Pseudo) (o : OperandValues) → place_of_keyword (keyword.Pseudo p) ≡ place_of_stated (pseudo_states p o)
+pseudo_place : (p : Pseudo) (o : OperandValues) → position_of_keyword (keyword.Pseudo p) ≡ position_of_stated (pseudo_states p o)
 pseudo_place Nop o = refl
 pseudo_place _ o = refl
 
-pub after_place : (k : Keyword) (tokens : List (List ℕ)) (s : Stated) → After k tokens s → place_of_keyword k ≡ place_of_stated s
-after_place (keyword.Instr (mnemonic.Branch cond)) ts s (o, has, e) = ap place_of_stated (sym e)
-after_place (keyword.Instr mnemonic.Jal) ts s (o, has, e) = ap place_of_stated (sym e)
-after_place (keyword.Instr name) ts s (i, has, e) = ap place_of_stated (sym e)
-after_place (keyword.Pseudo name) ts s h = row_place _ (pseudo_form name) (pseudo_states name) (pseudo_place name) ts s h
-after_place (keyword.Directive name) ts s h = row_place _ (directive_form name) (directive_states name) (directive_place name) ts s h
-after_place (keyword.Numbers width) ts s (numbers, are, e) = ap place_of_stated (sym e)
+pub after_place : (k : Keyword) (tokens : List (List ℕ)) (s : Stated) → After k tokens s → position_of_keyword k ≡ position_of_stated s
+after_place (keyword.Instr (mnemonic.Branch cond)) ts s (o, has, e) = ap position_of_stated (sym e)
+after_place (keyword.Instr mnemonic.Jal) ts s (o, has, e) = ap position_of_stated (sym e)
+after_place (keyword.Instr name) ts s (i, has, e) = ap position_of_stated (sym e)
+after_place (keyword.Pseudo name) ts s h = row_position _ (pseudo_form name) (pseudo_states name) (pseudo_place name) ts s h
+after_place (keyword.Directive name) ts s h = row_position _ (directive_form name) (directive_states name) (directive_place name) ts s h
+after_place (keyword.Numbers width) ts s (numbers, are, e) = ap position_of_stated (sym e)

@@ -1,5 +1,5 @@
 -- What a text means is right: by its lines, from nothing.
-use Rattle.sfi_text.proofs.Prelude.{◌≡◌, ◌≤◌, refl, sym, ap, subst, ◌∙◌, ℕ, ◌+◌, inl, inr, Bool, true, List, [], ◌∷◌, ◌++◌, Option, None, Some, map, length, length-append, arith, All, AllByRecursion, same_Some, none-some, Instr, InRange, Keyword, Takes, IsLabel, Part, Name, Number, OperandValues, IsRow, AreTokens, place_of_keyword, makes_gate, directive_states, StatesAfter, Stated, format, sandbox, within, StatedWithin, gate, exported, imported, movable, compressed, data_part, bytes, plain, jump, address, IsRightWithin, IsRightStatement, place_of_stated, meaning, place_of, met, IsStraight, Sandbox, IsBody, IsSandbox, AreOf, format_of, Begun, Shared, SoFar, format_or_sfi1, with_label, with_names, with_gate, with_export, with_import, nothing, last_sandbox, sandboxes, IsFree, Labels, Fits, MayCome, GoesOn, Does, with_stated, BeginsWithName, LabelsLead, IsTaken, LeadsAfter, RestLeads, Leads, uncommented, lines, LinesLead, MeansSource, with_bodies, address_bodies, address_count, IsShortLabel, false}
+use Rattle.sfi_text.proofs.Prelude.{◌≡◌, ◌≤◌, refl, sym, ap, subst, ◌∙◌, ℕ, ◌+◌, inl, inr, Bool, true, List, [], ◌∷◌, ◌++◌, Option, None, Some, map, length, length-append, arith, All, AllByRecursion, same_Some, none-some, Instr, InRange, Keyword, Takes, IsLabel, Part, Name, Number, OperandValues, IsRow, AreTokens, position_of_keyword, makes_gate, directive_states, StatesAfter, Stated, format, sandbox, within, StatedWithin, gate, exported, imported, movable, compressed, data_part, bytes, plain, jump, address, IsRightWithin, IsRightStatement, position_of_stated, meaning, place_of, met, IsStraight, Sandbox, IsBody, IsSandbox, AreOf, format_of, Begun, Shared, SoFar, format_or_sfi1, with_label, with_names, with_gate, with_export, with_import, nothing, last_sandbox, sandboxes, IsFree, Labels, Fits, MayCome, GoesOn, Does, with_stated, BeginsWithName, LabelsLead, IsTaken, LeadsAfter, RestLeads, Leads, uncommented, lines, LinesLead, MeansSource, with_bodies, address_bodies, address_count, IsShortLabel, false}
 use Rattle.rv_word.specs.Spelling.{IsReg}
 use Rattle.sfi_source.specs.declared.item.Body.TheVariants.{Plain, To}
 use Rattle.sfi_formats.specs.declared.format.Format.{Format}
@@ -8,7 +8,7 @@ use Rattle.std.proofs.lemmas.List.Elements.{All-from_recursion, recursion_from_A
 use Rattle.sfi_source.specs.Source.{IsSource}
 use Rattle.sfi_text.specs.declared.keyword.Directive.TheVariants as directive
 use Rattle.sfi_text.specs.declared.keyword.Keyword.TheVariants as keyword
-use Rattle.sfi_text.specs.declared.statement.Place.TheVariants as place
+use Rattle.sfi_text.specs.declared.statement.Position.TheVariants as position
 use Rattle.sfi_text.specs.declared.form.NumberKind.TheVariants.{Service}
 use Rattle.sfi_text.proofs.Placing.{place_among}
 use Rattle.sfi_text.proofs.Counting.{few_sandboxes}
@@ -140,7 +140,7 @@ gate_in _ = None
 
 does_right : (line : ℕ) (s : Stated) (old new : SoFar) → IsRightStatement s
     → ((b : Begun) (name : List ℕ) → old.begun ≡ Some b → gate_in s ≡ Some name → IsFree name b)
-    → MayCome (place_of_stated s) old → Does line s old new → IsRightSoFar old → IsRightSoFar new
+    → MayCome (position_of_stated s) old → Does line s old new → IsRightSoFar old → IsRightSoFar new
 does_right line (format value) old new right free may does so_far = subst IsRightSoFar (sym does) (format_said value old may.1 so_far)
 does_right line (sandbox size) old new right free may does so_far =
     subst IsRightSoFar (sym does) (record {
@@ -154,7 +154,7 @@ does_right line (within what) old new right free may does so_far =
     goes_on line what old new right free does so_far
 
 -- where a line adds a gate, its statement stands where gates do
-gate_place : (s : Stated) (name : List ℕ) → gate_in s ≡ Some name → place_of_stated s ≡ place.Gates
+gate_place : (s : Stated) (name : List ℕ) → gate_in s ≡ Some name → position_of_stated s ≡ position.Gates
 gate_place (within (gate n service)) name h = refl
 gate_place (within (imported n service)) name h = refl
 gate_place (within (exported n)) name h = absurd (none-some name h)
@@ -178,7 +178,7 @@ name_begins form states text name s (token ∷ tokens) names (last, (after, take
     (after, (subst (λ t. Takes text t after) same takes, subst IsLabel same has.0.0))
 
 -- the keyword of a line that adds a gate says so, and the gate's name follows it
-gate_begins : (k : Keyword) (text name : List ℕ) (s : Stated) → place_of_keyword k ≡ place.Gates → StatesAfter k text s → gate_in s ≡ Some name
+gate_begins : (k : Keyword) (text name : List ℕ) (s : Stated) → position_of_keyword k ≡ position.Gates → StatesAfter k text s → gate_in s ≡ Some name
     → (makes_gate k ≡ true) × ((rest : List ℕ) × BeginsWithName text name rest)
 gate_begins (keyword.Directive directive.Gate) text name s at (tokens, are, row) h =
     (refl, name_begins (Number Service ∷ []) (directive_states directive.Gate) text name s tokens (λ o. refl) are row h)
@@ -201,7 +201,7 @@ after_leads k line old new text (known, stands, once, (s, (tokens, are, after_k)
   where
     free : (b : Begun) (name : List ℕ) → old.begun ≡ Some b → gate_in s ≡ Some name → IsFree name b
     free b name is gate_is =
-        let at : place_of_keyword k ≡ place.Gates = after_place k tokens s after_k ∙ gate_place s name gate_is in
+        let at : position_of_keyword k ≡ position.Gates = after_place k tokens s after_k ∙ gate_place s name gate_is in
         let begins = gate_begins k text name s at (tokens, are, after_k) gate_is in
         not_taken b text name begins.1.0 begins.1.1 (λ t. once (begins.0, (b, is, t)))
 

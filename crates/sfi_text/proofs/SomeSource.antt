@@ -1,11 +1,11 @@
 -- A text means an instruction or is refused; a text means a source or has a fault.
-use Rattle.sfi_text.proofs.Prelude.{◌≡◌, ℕ, zero, suc, ◌+◌, ◌≤◌, Bool, true, not, ◌||◌, List, [], ◌∷◌, ◌++◌, length, ◌⊎◌, inl, inr, refl, sym, ◌∙◌, subst, arith, Option, Some, None, codes, cases_lt, same_Some, none-some, TextCause, Keyword, Mnemonic, Takes, name_of, keyword_name, place_of_keyword, is_added, makes_gate, Stated, StatedWithin, format, sandbox, within, gate, exported, imported, movable, compressed, data_part, IsRightStatement, place_within, place_of_stated, Begun, SoFar, nothing, sandboxes, tables, has_tables, begin, format_or_sfi1, with_label, IsFree, Labels, RefusesLabel, MayCome, Fits, with_stated, Does, HasNoRoom, BeginsWithName, BeginsWithLabel, HasNoLabel, LabelsLead, PassesLabels, IsTaken, IsGateTwice, IsKnown, LeadsAfter, RestLeads, Leads, LabelRefused, RefusedAfter, StatementRefused, LineRefused, most_bytes, lines, uncommented, LinesLead, FirstRefused, first_line, SomeMeaning, SomeSource}
+use Rattle.sfi_text.proofs.Prelude.{◌≡◌, ℕ, zero, suc, ◌+◌, ◌≤◌, Bool, true, not, ◌||◌, List, [], ◌∷◌, ◌++◌, length, ◌⊎◌, inl, inr, refl, sym, ◌∙◌, subst, arith, Option, Some, None, codes, cases_lt, same_Some, none-some, TextCause, Keyword, Mnemonic, Takes, name_of, keyword_name, position_of_keyword, is_added, makes_gate, Stated, StatedWithin, format, sandbox, within, gate, exported, imported, movable, compressed, data_part, IsRightStatement, position_within, position_of_stated, Begun, SoFar, nothing, sandboxes, tables, has_tables, begin, format_or_sfi1, with_label, IsFree, Labels, RefusesLabel, MayCome, Fits, with_stated, Does, HasNoRoom, BeginsWithName, BeginsWithLabel, HasNoLabel, LabelsLead, PassesLabels, IsTaken, IsGateTwice, IsKnown, LeadsAfter, RestLeads, Leads, LabelRefused, RefusedAfter, StatementRefused, LineRefused, most_bytes, lines, uncommented, LinesLead, FirstRefused, first_line, SomeMeaning, SomeSource}
 use Rattle.sfi_text.specs.declared.fault.TextFault.{TextFault}
-use Rattle.sfi_text.specs.declared.statement.Place.{Place}
+use Rattle.sfi_text.specs.declared.statement.Position.{Position}
 use Rattle.std.specs.Option.{IsSomeAnd}
 use Rattle.sfi_text.specs.declared.cause.TextCause.TheVariants as cause
 use Rattle.sfi_text.specs.declared.keyword.Keyword.TheVariants as keyword
-use Rattle.sfi_text.specs.declared.statement.Place.TheVariants as place
+use Rattle.sfi_text.specs.declared.statement.Position.TheVariants as position
 use Rattle.sfi_text.proofs.Keywords.{no_mnemonic_of_name}
 use Rattle.sfi_text.proofs.LabelReading.{other_name, no_colon, free_or_not, one_more, label_shortens}
 use Rattle.sfi_text.proofs.Meaning.{means}
@@ -59,12 +59,12 @@ begun_and : (o : Option Begun) (test : Begun → Bool) (b : Bool) → Decided (I
 begun_and None test b = inr (λ h. h)
 begun_and (Some x) test b = decided_bit (test x) b
 
-may_or_not : (p : Place) (s : SoFar) → Decided (MayCome p s)
-may_or_not place.Head s = decided_both (none_or_not s.format) (none_or_not s.begun)
-may_or_not place.Outside s = inl tt
-may_or_not place.Gates s = begun_and s.begun (λ b. b.opened) _
-may_or_not place.Code s = begun_and s.begun (λ b. b.in_data) _
-may_or_not place.Data s = begun_and s.begun (λ b. b.in_data) _
+may_or_not : (p : Position) (s : SoFar) → Decided (MayCome p s)
+may_or_not position.Head s = decided_both (none_or_not s.format) (none_or_not s.begun)
+may_or_not position.Outside s = inl tt
+may_or_not position.Gates s = begun_and s.begun (λ b. b.opened) _
+may_or_not position.Code s = begun_and s.begun (λ b. b.in_data) _
+may_or_not position.Data s = begun_and s.begun (λ b. b.in_data) _
 
 -- ---- labels
 
@@ -172,14 +172,14 @@ begun_of : (o : Option Begun) (P : Begun → Type 0) → IsSomeAnd o P → (b : 
 begun_of None P h = absurd h
 begun_of (Some b) P h = (b, refl)
 
-begun_within : (what : StatedWithin) (s : SoFar) → MayCome (place_within what) s → (b : Begun) × (s.begun ≡ Some b)
+begun_within : (what : StatedWithin) (s : SoFar) → MayCome (position_within what) s → (b : Begun) × (s.begun ≡ Some b)
 begun_within (gate name service) s may = begun_of s.begun _ may
 begun_within (exported name) s may = begun_of s.begun _ may
 begun_within movable s may = begun_of s.begun _ may
 begun_within (imported name service) s may = begun_of s.begun _ may
 begun_within _ s may = begun_of s.begun _ may
 
-does_or_full : (line : ℕ) (st : Stated) (s : SoFar) → IsRightStatement st → MayCome (place_of_stated st) s → ((new : SoFar) × Does line st s new) ⊎ HasNoRoom st s
+does_or_full : (line : ℕ) (st : Stated) (s : SoFar) → IsRightStatement st → MayCome (position_of_stated st) s → ((new : SoFar) × Does line st s new) ⊎ HasNoRoom st s
 does_or_full line (format value) s right may = inl (record s { format = Some value }, refl)
 does_or_full line (sandbox size) s right may =
     inl (record { format = s.format; finished = sandboxes s; shared = tables s; begun = Some (begin (format_or_sfi1 s.format) size) }, refl)
@@ -194,7 +194,7 @@ after_or_refused : (k : Keyword) (line : ℕ) (s : SoFar) (text : List ℕ) → 
 after_or_refused k line s text =
     elim (known_or_not k s) [
       | inr not ↦ inr (cause.Word, inl (not, refl))
-      | inl known ↦ elim (may_or_not (place_of_keyword k) s) [
+      | inl known ↦ elim (may_or_not (position_of_keyword k) s) [
         | inr not ↦ inr (cause.Directive, inr (known, inl (not, refl)))
         | inl may ↦ elim (twice_or_not k s text) [
           | inl twice ↦ inr (cause.LabelTwice, inr (known, inr (may, inl (twice, refl))))

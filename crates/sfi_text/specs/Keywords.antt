@@ -5,8 +5,8 @@ use Rattle.rv_word.specs.declared.instr.Instr.TheVariants as instr
 use Rattle.rv_word.specs.declared.instr.ImmOp.TheVariants.{Addi}
 use Rattle.rv_word.specs.declared.instr.Cond.{Cond}
 use Rattle.rv_word.specs.declared.instr.Cond.TheVariants.{Beq, Bne}
-use Rattle.sfi_text.specs.declared.statement.Place.{Place}
-use Rattle.sfi_text.specs.declared.statement.Place.TheVariants as place
+use Rattle.sfi_text.specs.declared.statement.Position.{Position}
+use Rattle.sfi_text.specs.declared.statement.Position.TheVariants as position
 use Rattle.sfi_text.specs.declared.keyword.Directive.{Directive}
 use Rattle.sfi_text.specs.declared.keyword.Directive.TheVariants as directive
 use Rattle.sfi_text.specs.declared.keyword.Pseudo.{Pseudo}
@@ -125,16 +125,16 @@ keyword_name (keyword.Directive name) = directive_name name
 keyword_name (keyword.Numbers width) = data_name width
 
 -- where a statement of this name may come
-abbrev pub place_of_keyword : Keyword → Place
-place_of_keyword (keyword.Directive directive.Format) = place.Head
-place_of_keyword (keyword.Directive directive.Sandbox) = place.Outside
-place_of_keyword (keyword.Directive directive.Gate) = place.Gates
-place_of_keyword (keyword.Directive directive.Export) = place.Gates
-place_of_keyword (keyword.Directive directive.Import) = place.Gates
-place_of_keyword (keyword.Directive directive.Movable) = place.Gates
-place_of_keyword (keyword.Directive directive.Zero) = place.Data
-place_of_keyword (keyword.Numbers width) = place.Data
-place_of_keyword _ = place.Code
+abbrev pub position_of_keyword : Keyword → Position
+position_of_keyword (keyword.Directive directive.Format) = position.Head
+position_of_keyword (keyword.Directive directive.Sandbox) = position.Outside
+position_of_keyword (keyword.Directive directive.Gate) = position.Gates
+position_of_keyword (keyword.Directive directive.Export) = position.Gates
+position_of_keyword (keyword.Directive directive.Import) = position.Gates
+position_of_keyword (keyword.Directive directive.Movable) = position.Gates
+position_of_keyword (keyword.Directive directive.Zero) = position.Data
+position_of_keyword (keyword.Numbers width) = position.Data
+position_of_keyword _ = position.Code
 
 -- the language of the first format lacks the keyword
 abbrev pub is_added : Keyword → Bool

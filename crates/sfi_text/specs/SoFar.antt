@@ -21,8 +21,8 @@ use Rattle.sfi_formats.specs.Limits.{gates_most, items_most, name_most}
 use Rattle.sfi_text.specs.declared.cause.TextCause.{TextCause}
 use Rattle.sfi_text.specs.declared.cause.TextCause.TheVariants as cause
 use Rattle.sfi_source.specs.declared.item.Body.TheVariants.{Plain, To, High, Low, Base}
-use Rattle.sfi_text.specs.declared.statement.Place.{Place}
-use Rattle.sfi_text.specs.declared.statement.Place.TheVariants as place
+use Rattle.sfi_text.specs.declared.statement.Position.{Position}
+use Rattle.sfi_text.specs.declared.statement.Position.TheVariants as position
 
 -- ==== What one line of source states, after its labels.
 
@@ -275,12 +275,12 @@ RefusesLabel name old e =
 
 -- a statement of this kind may come there: the format once, before the first sandbox, gates before
 -- the sandbox's first label and instruction, instructions in the code part, data in the data part
-abbrev pub MayCome : Place → SoFar → Type 0
-MayCome place.Head s = (s.format ≡ None) × (s.begun ≡ None)
-MayCome place.Outside s = Unit {0}
-MayCome place.Gates s = IsSomeAnd s.begun (λ b. b.opened ≡ false)
-MayCome place.Code s = IsSomeAnd s.begun (λ b. b.in_data ≡ false)
-MayCome place.Data s = IsSomeAnd s.begun (λ b. b.in_data ≡ true)
+abbrev pub MayCome : Position → SoFar → Type 0
+MayCome position.Head s = (s.format ≡ None) × (s.begun ≡ None)
+MayCome position.Outside s = Unit {0}
+MayCome position.Gates s = IsSomeAnd s.begun (λ b. b.opened ≡ false)
+MayCome position.Code s = IsSomeAnd s.begun (λ b. b.in_data ≡ false)
+MayCome position.Data s = IsSomeAnd s.begun (λ b. b.in_data ≡ true)
 
 -- `b` has room for what is stated: for gates and instructions up to a limit, for bytes up to the
 -- size of data with which it was begun

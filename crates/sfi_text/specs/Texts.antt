@@ -6,7 +6,7 @@ use Rattle.sfi_text.specs.declared.keyword.Keyword.{Keyword}
 use Rattle.sfi_text.specs.Tokens.{Takes, IsBlank}
 use Rattle.sfi_source.specs.Names.{IsLabel}
 use Rattle.sfi_text.specs.Operands.{Unformed}
-use Rattle.sfi_text.specs.Keywords.{keyword_name, place_of_keyword, is_added, makes_gate}
+use Rattle.sfi_text.specs.Keywords.{keyword_name, position_of_keyword, is_added, makes_gate}
 use Rattle.sfi_text.specs.Lines.{StatesAfter, RefusedWith, NameRefused}
 use Rattle.sfi_text.specs.SoFar.{Stated, Begun, Shared, SoFar, nothing, sandboxes, tables, has_tables, format_or_sfi1, IsFree, Labels, RefusesLabel, MayCome, Does, HasNoRoom}
 use Rattle.std.specs.List.{slice_split, before_first}
@@ -62,7 +62,7 @@ IsKnown k s = IsTrue (not (is_added k) || has_tables (format_or_sfi1 s.format))
 -- it to `new`
 abbrev pub LeadsAfter : Keyword → ℕ → SoFar → List ℕ → SoFar → Type 0
 LeadsAfter k line old text new =
-    IsKnown k old × MayCome (place_of_keyword k) old × (IsGateTwice k old text → ⊥)
+    IsKnown k old × MayCome (position_of_keyword k) old × (IsGateTwice k old text → ⊥)
     × ((s : Stated) × StatesAfter k text s × Does line s old new)
 
 -- `text` is a statement, which on this line changes the source so far from `old` to `new`
@@ -104,8 +104,8 @@ OperandsRefused k s text e =
 -- the statement of keyword `k`, which the language has, and the text after it is refused for cause `e`
 abbrev pub KnownRefused : Keyword → SoFar → List ℕ → TextCause → Type 0
 KnownRefused k s text e =
-    ((MayCome (place_of_keyword k) s → ⊥) × (e ≡ cause.Directive))
-    ⊎ (MayCome (place_of_keyword k) s × OperandsRefused k s text e)
+    ((MayCome (position_of_keyword k) s → ⊥) × (e ≡ cause.Directive))
+    ⊎ (MayCome (position_of_keyword k) s × OperandsRefused k s text e)
 
 -- the statement of keyword `k` and the text after it is refused for cause `e`
 abbrev pub RefusedAfter : Keyword → SoFar → List ℕ → TextCause → Type 0

@@ -1,12 +1,12 @@
 //! The first words of statements: directives, pseudo-instructions and the names of instructions.
 ghost use Rattle.std.specs.Prelude.{◌≡◌, ◌<◌, IfSome, IfNone};
-ghost use Rattle.sfi_text.specs.Keywords.{directive_name, directive_form, pseudo_name, pseudo_form, data_name, data_kind, keyword_name, place_of_keyword, is_added, makes_gate};
+ghost use Rattle.sfi_text.specs.Keywords.{directive_name, directive_form, pseudo_name, pseudo_form, data_name, data_kind, keyword_name, position_of_keyword, is_added, makes_gate};
 ghost use Rattle.sfi_text.specs.private.Reading.{hash, candidate, mnemonic_in};
 ghost use Rattle.sfi_text.specs.Operands.{name_of};
 
 use crate::form::{NumberKind, Part};
 use crate::mnemonic::Mnemonic;
-use crate::statement::Place;
+use crate::statement::Position;
 use rv_word::{Cond, ImmOp, LoadKind, RegOp, StoreWidth};
 
 /// A directive, but for those of lists of data.
@@ -298,19 +298,19 @@ impl Keyword {
     }
 
     /// Where a statement of this name may come.
-    pub fn place(self) -> Place
-        ensures { result ≡ place_of_keyword self }
+    pub fn position(self) -> Position
+        ensures { result ≡ position_of_keyword self }
     {
         match self {
-            Keyword::Instr(_) | Keyword::Pseudo(_) => Place::Code,
-            Keyword::Numbers(_) => Place::Data,
-            Keyword::Directive(Directive::Format) => Place::Head,
-            Keyword::Directive(Directive::Sandbox) => Place::Outside,
+            Keyword::Instr(_) | Keyword::Pseudo(_) => Position::Code,
+            Keyword::Numbers(_) => Position::Data,
+            Keyword::Directive(Directive::Format) => Position::Head,
+            Keyword::Directive(Directive::Sandbox) => Position::Outside,
             Keyword::Directive(
                 Directive::Gate | Directive::Export | Directive::Import | Directive::Movable,
-            ) => Place::Gates,
-            Keyword::Directive(Directive::Option | Directive::Data) => Place::Code,
-            Keyword::Directive(Directive::Zero) => Place::Data,
+            ) => Position::Gates,
+            Keyword::Directive(Directive::Option | Directive::Data) => Position::Code,
+            Keyword::Directive(Directive::Zero) => Position::Data,
         }
     }
 }

@@ -5,7 +5,7 @@ ghost use Rattle.sfi_text.specs.SoFar.{Labels, RefusesLabel, MayCome, Does, HasN
 ghost use Rattle.sfi_text.specs.Texts.{BeginsWithName, IsTaken, IsGateTwice, IsKnown, KnownRefused, LeadsAfter, Leads, LabelRefused, RefusedAfter, RefusedFrom, LineRefused};
 ghost use Rattle.sfi_text.specs.private.Lines.{IsFront, PassesTo, LeadsFrom};
 ghost use Rattle.sfi_text.specs.SoFar.{format_or_sfi1, has_tables, nothing, with_sandbox};
-ghost use Rattle.sfi_text.specs.private.Lines.{stated, place_of_stated};
+ghost use Rattle.sfi_text.specs.private.Lines.{stated, position_of_stated};
 ghost use Rattle.sfi_text.specs.Texts.{LeadsFromNothing, MeansListing, IsFault};
 ghost use Rattle.sfi_text.specs.Tokens.{memory};
 ghost use Rattle.sfi_source.specs.Names.{IsLabel};
@@ -20,7 +20,7 @@ use crate::line::{read_keyword, read_statement};
 use crate::listing::{Listing, Shared};
 use crate::number::after_prefix;
 use crate::read::is_label;
-use crate::statement::{Place, Statement};
+use crate::statement::{Position, Statement};
 use sfi_formats::{Format, NAME_MOST_BYTES};
 use sfi_source::{Source, SourcePart};
 use std::alloc::Global;
@@ -149,17 +149,17 @@ impl Progress {
     }
 
     /// Whether a statement of this kind may come here.
-    fn may_come(&self, place: Place) -> bool
-        ensures { IsTrue result ↔ MayCome place self.now }
+    fn may_come(&self, position: Position) -> bool
+        ensures { IsTrue result ↔ MayCome position self.now }
     {
-        match (place, &self.begun) {
-            (Place::Head, None) => self.format.is_none(),
-            (Place::Head, Some(_)) => false,
-            (Place::Outside, _) => true,
-            (Place::Gates | Place::Code | Place::Data, None) => false,
-            (Place::Gates, Some(draft)) => !draft.is_opened(),
-            (Place::Code, Some(draft)) => !draft.is_in_data(),
-            (Place::Data, Some(draft)) => draft.is_in_data(),
+        match (position, &self.begun) {
+            (Position::Head, None) => self.format.is_none(),
+            (Position::Head, Some(_)) => false,
+            (Position::Outside, _) => true,
+            (Position::Gates | Position::Code | Position::Data, None) => false,
+            (Position::Gates, Some(draft)) => !draft.is_opened(),
+            (Position::Code, Some(draft)) => !draft.is_in_data(),
+            (Position::Data, Some(draft)) => draft.is_in_data(),
         }
     }
 
@@ -247,7 +247,7 @@ impl Progress {
         line: u32,
         statement: &Statement<'_>,
     ) -> Result<(), TextCause>
-        requires { MayCome (place_of_stated (stated statement.now)) self.old }
+        requires { MayCome (position_of_stated (stated statement.now)) self.old }
         ensures does { OnOk result (Does line (stated statement.now) self.old self.new) }
         ensures cause { IfErr result (λ e. (e ≡ cause.Memory)
             ⊎ (HasNoRoom (stated statement.now) self.old × (e ≡ cause.Limit))) }
@@ -280,7 +280,7 @@ impl Progress {
         if !self.is_known(keyword) {
             return Err(TextCause::Word);
         }
-        if !self.may_come(keyword.place()) {
+        if !self.may_come(keyword.position()) {
             return Err(TextCause::Directive);
         }
         if self.is_gate_twice(keyword, text) {

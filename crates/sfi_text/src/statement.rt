@@ -49,7 +49,7 @@ pub enum SandboxStatement<'a> {
 
 /// Where a statement may come.
 #[derive(Clone, Copy)]
-pub enum Place {
+pub enum Position {
     /// Once, before the first sandbox.
     Head,
     /// Anywhere, before the first sandbox too: it begins one.

@@ -24,8 +24,8 @@ use Rattle.sfi_text.specs.declared.statement.Statement.{Statement}
 use Rattle.sfi_text.specs.declared.statement.Statement.TheVariants as statement
 use Rattle.sfi_text.specs.declared.statement.SandboxStatement.{SandboxStatement}
 use Rattle.sfi_text.specs.declared.statement.SandboxStatement.TheVariants as within_sandbox
-use Rattle.sfi_text.specs.declared.statement.Place.{Place}
-use Rattle.sfi_text.specs.declared.statement.Place.TheVariants as place
+use Rattle.sfi_text.specs.declared.statement.Position.{Position}
+use Rattle.sfi_text.specs.declared.statement.Position.TheVariants as position
 use Rattle.sfi_text.specs.declared.cause.TextCause.TheVariants as cause
 use Rattle.sfi_text.specs.declared.lexer.Next.{Next}
 use Rattle.sfi_text.specs.declared.progress.Front.{Front}
@@ -129,19 +129,19 @@ IsRightStatement (sandbox size) = IsDataSize size
 IsRightStatement (within what) = IsRightWithin what
 
 -- where each statement within a sandbox may come
-abbrev pub place_within : StatedWithin → Place
-place_within (gate name service) = place.Gates
-place_within (exported name) = place.Gates
-place_within (imported name service) = place.Gates
-place_within movable = place.Gates
-place_within (bytes values) = place.Data
-place_within _ = place.Code
+abbrev pub position_within : StatedWithin → Position
+position_within (gate name service) = position.Gates
+position_within (exported name) = position.Gates
+position_within (imported name service) = position.Gates
+position_within movable = position.Gates
+position_within (bytes values) = position.Data
+position_within _ = position.Code
 
 -- where each statement may come
-abbrev pub place_of_stated : Stated → Place
-place_of_stated (format value) = place.Head
-place_of_stated (sandbox size) = place.Outside
-place_of_stated (within what) = place_within what
+abbrev pub position_of_stated : Stated → Position
+position_of_stated (format value) = position.Head
+position_of_stated (sandbox size) = position.Outside
+position_of_stated (within what) = position_within what
 
 -- ==== What adding to the sandbox begun last does.
 
