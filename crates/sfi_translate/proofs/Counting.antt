@@ -13,10 +13,10 @@ use Rattle.rv_step.specs.declared.outcome.Cause.TheVariants as cause
 use Rattle.rv_step.specs.State.{Hart, State, register, past, with_pc, even_of}
 use Rattle.rv_step.specs.Step.{IsStep, effect, after_load, next, unchanged, load_size, store_size, is_taken}
 use Rattle.sfi_formats.specs.Formats.{unit}
-use Rattle.sfi_translate.specs.Machine.{Place, Label, Slow, Loop, Stopped, at_head, onto, falls, jumps, enters, after_line, from_loop}
+use Rattle.sfi_translate.specs.Machine.{ControlPoint, Label, Slow, Loop, Stopped, at_head, onto, falls, jumps, enters, after_line, from_loop}
 
 -- at a label, which pc is at, there are 65 steps less one for each two bytes since the last head; before a slow step one
-abbrev pub IsEnough : Place → State → ℕ → Type 0
+abbrev pub IsEnough : ControlPoint → State → ℕ → Type 0
 IsEnough (Label at) s left = (s.hart.pc ≡ at) × (65 ≤ left + at % 128 / 2)
 IsEnough Slow s left = 0 < left
 IsEnough Loop s left = Unit {0}
@@ -28,23 +28,23 @@ none_less a b e = omega arith
 module _ (s : State) (left : ℕ) (some : 0 < left) where
   head_enough : (to : ℕ) → s.hart.pc ≡ to → IsEnough (at_head to left) s left
   head_enough to is =
-      cond_both (nat_lt left 65) Slow (Label to) (λ (q : Place). IsEnough q s left) (λ e. some)
+      cond_both (nat_lt left 65) Slow (Label to) (λ (q : ControlPoint). IsEnough q s left) (λ e. some)
       (λ e. let many : 65 ≤ left = ltb-false left 65 e in (is, omega (arith, many)))
 
   onto_enough : (to : ℕ) → s.hart.pc ≡ to → ((to % 128) ≢ 0 → 65 ≤ left + to % 128 / 2) → IsEnough (onto to left) s left
   onto_enough to is other =
-      cond_both (to % 128 == 0) (at_head to left) (Label to) (λ (q : Place). IsEnough q s left) (λ e. head_enough to is) (λ e. (is, other (eqb-false (to % 128) 0 e)))
+      cond_both (to % 128 == 0) (at_head to left) (Label to) (λ (q : ControlPoint). IsEnough q s left) (λ e. head_enough to is) (λ e. (is, other (eqb-false (to % 128) 0 e)))
 
   falls_enough : (p : Part) (to : ℕ) → s.hart.pc ≡ to → ((to % 128) ≢ 0 → 65 ≤ left + to % 128 / 2) → IsEnough (falls p to left) s left
   falls_enough p to is other =
       let inside = (to - p.code_base) % 16384 == 0 in
-      cond_both (to == (p.code_base + length p.code) % 2 ^ 32) Loop (cond inside Loop (onto to left)) (λ (q : Place). IsEnough q s left) (λ e. tt)
-      (λ e. cond_both inside Loop (onto to left) (λ (q : Place). IsEnough q s left) (λ f. tt) (λ f. onto_enough to is other))
+      cond_both (to == (p.code_base + length p.code) % 2 ^ 32) Loop (cond inside Loop (onto to left)) (λ (q : ControlPoint). IsEnough q s left) (λ e. tt)
+      (λ e. cond_both inside Loop (onto to left) (λ (q : ControlPoint). IsEnough q s left) (λ f. tt) (λ f. onto_enough to is other))
 
   jumps_enough : (from to : ℕ) → s.hart.pc ≡ to → (from < to → from / 128 ≡ to / 128 → 65 ≤ left + to % 128 / 2) → IsEnough (jumps from to left) s left
   jumps_enough from to is other =
-      cond_both _ Loop _ (λ (q : Place). IsEnough q s left) (λ e. tt)
-      (λ e. cond_both (nat_le to from || not ((from / 128) == (to / 128))) (at_head to left) (Label to) (λ (q : Place). IsEnough q s left) (λ f. head_enough to is)
+      cond_both _ Loop _ (λ (q : ControlPoint). IsEnough q s left) (λ e. tt)
+      (λ e. cond_both (nat_le to from || not ((from / 128) == (to / 128))) (at_head to left) (Label to) (λ (q : ControlPoint). IsEnough q s left) (λ f. head_enough to is)
       (λ f.
       let both = or_parts (nat_le to from) (not ((from / 128) == (to / 128))) f in
       (is, other (leb-false to from both.0) (eqb-true (from / 128) (to / 128) (not-false ((from / 128) == (to / 128)) both.1)))))
@@ -54,15 +54,15 @@ module _ (s : State) (left : ℕ) (some : 0 < left) where
       let start = to - to % unit p.format in
       let here = cond (entries start) (onto start left) Slow in
       let other = not ((from / 16384) == (to / 16384)) in
-      cond_both (not (to % unit p.format == 0)) Slow (cond other Loop here) (λ (q : Place). IsEnough q s left) (λ e. some)
+      cond_both (not (to % unit p.format == 0)) Slow (cond other Loop here) (λ (q : ControlPoint). IsEnough q s left) (λ e. some)
       (λ e.
       let same : to ≡ start = none_less to (to % unit p.format) (eqb-true (to % unit p.format) 0 (not-false (to % unit p.format == 0) e)) in
-      cond_both other Loop here (λ (q : Place). IsEnough q s left) (λ f. tt)
-      (λ f. cond_both (entries start) (onto start left) Slow (λ (q : Place). IsEnough q s left) (λ g. onto_enough start (is ∙ same) (λ o. omega (arith, many))) (λ g. some)))
+      cond_both other Loop here (λ (q : ControlPoint). IsEnough q s left) (λ f. tt)
+      (λ f. cond_both (entries start) (onto start left) Slow (λ (q : ControlPoint). IsEnough q s left) (λ g. onto_enough start (is ∙ same) (λ o. omega (arith, many))) (λ g. some)))
 
   pub loop_enough : (p : Part) (entries : ℕ → Bool) → IsEnough (from_loop p entries s.hart.pc left) s left
   loop_enough p entries =
-      cond_both (nat_le 65 left && _) (enters p entries s.hart.pc s.hart.pc left) Slow (λ (q : Place). IsEnough q s left)
+      cond_both (nat_le 65 left && _) (enters p entries s.hart.pc s.hart.pc left) Slow (λ (q : ControlPoint). IsEnough q s left)
       (λ e. enters_enough p entries s.hart.pc s.hart.pc refl (leb-true 65 left (and_parts (nat_le 65 left) _ e).0))
       (λ e. some)
 
@@ -105,7 +105,7 @@ module _ (p : Part) (entries : ℕ → Bool) (n : ℕ) (h : Hart) (left fewer : 
 
   jalr_on : (t : State) (to : ℕ) → t.hart.pc ≡ to → IsEnough (cond (nat_lt fewer 65) Slow (enters p entries h.pc to fewer)) t fewer
   jalr_on t to is =
-      cond_both (nat_lt fewer 65) Slow (enters p entries h.pc to fewer) (λ (q : Place). IsEnough q t fewer) (λ e. some_left)
+      cond_both (nat_lt fewer 65) Slow (enters p entries h.pc to fewer) (λ (q : ControlPoint). IsEnough q t fewer) (λ e. some_left)
       (λ e. enters_enough t fewer some_left p entries h.pc to is (ltb-false fewer 65 e))
 
   pub line_enough : (i : Instr) (m : Bytes) → (effect i n h m).outcome ≡ Next → (effect i n h m).state.hart.pc % 2 ≡ 0 → IsEnough (after_line p entries i n h fewer) (effect i n h m).state fewer

@@ -13,7 +13,7 @@ use Rattle.sfi_image.specs.Parts.{IsRightPart}
 use Rattle.sfi_image.specs.Spelling.{AreApart, code_region, guarded_region}
 use Rattle.sfi_safe_runs.specs.Runs.{Turn, Steps, IsTurn, IsRun, after_step, after_turn}
 use Rattle.sfi_safe_runs.specs.Safety.{after_turns, KeepsAll, IsSafeState, IsSafeTurn}
-use Rattle.sfi_translate.specs.Machine.{Place, Label, Slow, Loop, Stopped, Going, one_less, after_line, is_done, fixed, line_done, row_step, step_done, from_loop, IsLine, IsMoveAt, AreMoves}
+use Rattle.sfi_translate.specs.Machine.{ControlPoint, Label, Slow, Loop, Stopped, Going, one_less, after_line, is_done, fixed, line_done, row_step, step_done, from_loop, IsLine, IsMoveAt, AreMoves}
 use Rattle.sfi_translate.specs.Laws.{HasData, IsAsImage}
 use Rattle.sfi_translate.proofs.LinesStand.{stands, two_or_four, between_heads}
 use Rattle.sfi_translate.proofs.Counting.{IsEnough, loop_enough, line_enough}
@@ -52,7 +52,7 @@ module _ (p : Part) (right : IsRightPart p) (apart : AreApart (code_region p) (g
   bound g so = let e = so.counted in omega (arith, e, fits)
 
   -- a step that is done
-  stepped : (g : Going) (so : SoFar g) (r : Stepped) → IsStep g.state r → r.outcome ≡ Next → 0 < g.left → (q : Place) → IsEnough q r.state (one_less g.left) → SoFar (record { place = q; state = r.state; left = one_less g.left })
+  stepped : (g : Going) (so : SoFar g) (r : Stepped) → IsStep g.state r → r.outcome ≡ Next → 0 < g.left → (q : ControlPoint) → IsEnough q r.state (one_less g.left) → SoFar (record { place = q; state = r.state; left = one_less g.left })
   stepped g so r step done some q enough =
       let less = less_is g.left some (bound g so) in
       let count = so.counted in
@@ -67,7 +67,7 @@ module _ (p : Part) (right : IsRightPart p) (apart : AreApart (code_region p) (g
       }
 
   -- no step
-  moved : (g : Going) (so : SoFar g) (q : Place) → IsEnough q g.state g.left → SoFar (record { place = q; state = g.state; left = g.left })
+  moved : (g : Going) (so : SoFar g) (q : ControlPoint) → IsEnough q g.state g.left → SoFar (record { place = q; state = g.state; left = g.left })
   moved g so q enough = record { good = so.good; state = so.state; has_data = so.has_data; steps = so.steps; lead = so.lead; counted = so.counted; enough = enough }
 
   -- ---- a line
@@ -133,13 +133,13 @@ module _ (p : Part) (right : IsRightPart p) (apart : AreApart (code_region p) (g
 
   -- ---- any move
 
-  one_move : (g k : Going) (so : SoFar g) (q : Place) → g.place ≡ q → IsMoveAt q p entries g k → SoFar k
+  one_move : (g k : Going) (so : SoFar g) (q : ControlPoint) → g.place ≡ q → IsMoveAt q p entries g k → SoFar k
   one_move g k so (Label at) e move =
-      let here : IsEnough (Label at) g.state g.left = subst (λ (q : Place). IsEnough q g.state g.left) e so.enough in
+      let here : IsEnough (Label at) g.state g.left = subst (λ (q : ControlPoint). IsEnough q g.state g.left) e so.enough in
       subst SoFar (sym move.3) (line_moves g so at here.0 here.1 move.0 move.1 move.2)
   one_move g k so Slow e move =
       let r = row_step p move.0 move.1 g.state in
-      subst SoFar (sym move.3) (slow_moves g so (subst (λ (q : Place). IsEnough q g.state g.left) e so.enough) r (row_here g so move.0 move.1 move.2) r.outcome refl)
+      subst SoFar (sym move.3) (slow_moves g so (subst (λ (q : ControlPoint). IsEnough q g.state g.left) e so.enough) r (row_here g so move.0 move.1 move.2) r.outcome refl)
   one_move g k so Loop e move =
       subst SoFar (sym move.1) (moved g so (from_loop p entries g.state.hart.pc g.left) (loop_enough g.state g.left move.0 p entries))
   one_move g k so (Stopped o) e move = absurd move
@@ -151,7 +151,7 @@ module _ (p : Part) (right : IsRightPart p) (apart : AreApart (code_region p) (g
   pub as_image : (n : ℕ) (g : Going) → IsGood s → IsState s → HasData p s.memory → AreMoves p entries n (record { place = Loop; state = s; left = left }) g → IsAsImage s left g
   as_image n g good state has moves =
       let so = after_moves n _ g (record { good = good; state = state; has_data = has; steps = 0; lead = refl; counted = omega arith; enough = tt }) moves in
-      record { steps = so.steps; lead = so.lead; counted = so.counted; stopped = λ o e. subst (λ (q : Place). IsEnough q g.state g.left) e so.enough }
+      record { steps = so.steps; lead = so.lead; counted = so.counted; stopped = λ o e. subst (λ (q : ControlPoint). IsEnough q g.state g.left) e so.enough }
 
 -- ---- the states that a run comes to
 

@@ -21,16 +21,16 @@ use Rattle.sfi_translate.specs.Translation.{function_most, head_bytes}
 
 -- within a function, at the label of the line of that address; before a step of `sfi_step`, whatever is
 -- left; in the loop of `sfi_turn`, where it has ended if no step is left; or ended by a call or a trap
-pub data Place : Type 0 where
-  Label : ℕ → Place
-  Slow : Place
-  Loop : Place
-  Stopped : Outcome → Place
+pub data ControlPoint : Type 0 where
+  Label : ℕ → ControlPoint
+  Slow : ControlPoint
+  Loop : ControlPoint
+  Stopped : Outcome → ControlPoint
 
 -- a turn that is there, its sandbox's state (at a label C keeps the pc as the label alone), and the steps
 -- left
 pub record Going : Type 0 where
-  pub place : Place
+  pub place : ControlPoint
   pub state : State
   pub left : ℕ
 
@@ -46,21 +46,21 @@ one_less left = (left + (2 ^ 32 - 1)) % 2 ^ 32
 -- ---- where it goes on
 
 -- to a label, if the test of a head lets it
-abbrev pub at_head : ℕ → ℕ → Place
+abbrev pub at_head : ℕ → ℕ → ControlPoint
 at_head to left = if nat_lt left most then Slow else Label to
 
 -- to a label, from the text before it, where a HEAD may stand
-abbrev pub onto : ℕ → ℕ → Place
+abbrev pub onto : ℕ → ℕ → ControlPoint
 onto to left = if to % head_bytes == 0 then at_head to left else Label to
 
 -- past a line: out to the loop after the last line, and where another function begins
-abbrev pub falls : Part → ℕ → ℕ → Place
+abbrev pub falls : Part → ℕ → ℕ → ControlPoint
 falls p to left =
     if to == (p.code_base + length p.code) % 2 ^ 32 then Loop
     else if (to - p.code_base) % function_most == 0 then Loop else onto to left
 
 -- by a jump: into another function through the loop; backwards, or past a head, with its test
-abbrev pub jumps : ℕ → ℕ → ℕ → Place
+abbrev pub jumps : ℕ → ℕ → ℕ → ControlPoint
 jumps from to left =
     if not ((from / function_most) == (to / function_most)) then Loop
     else if nat_le to from || not ((from / head_bytes) == (to / head_bytes)) then at_head to left
@@ -68,7 +68,7 @@ jumps from to left =
 
 -- to an address that no line names, in the function that `from` belongs to: at the entry of its unit, by
 -- whose number C's switch knows it
-abbrev pub enters : Part → (ℕ → Bool) → ℕ → ℕ → ℕ → Place
+abbrev pub enters : Part → (ℕ → Bool) → ℕ → ℕ → ℕ → ControlPoint
 enters p entries from to left =
     let start = to - to % unit p.format in
     if not (to % unit p.format == 0) then Slow
@@ -76,7 +76,7 @@ enters p entries from to left =
     else if entries start then onto start left else Slow
 
 -- after the line of that instruction, of n bytes, which a hart has done from its pc on
-abbrev pub after_line : Part → (ℕ → Bool) → Instr → ℕ → Hart → ℕ → Place
+abbrev pub after_line : Part → (ℕ → Bool) → Instr → ℕ → Hart → ℕ → ControlPoint
 after_line p entries (Branch cond rs1 rs2 offset) n h left =
     if is_taken cond (register h rs1) (register h rs2)
     then jumps h.pc (offset_by h.pc offset) left else falls p (address_after h.pc n) left
@@ -87,7 +87,7 @@ after_line p entries (Jalr rd rs1 imm) n h left =
 after_line p entries i n h left = falls p (address_after h.pc n) left
 
 -- from the loop
-abbrev pub from_loop : Part → (ℕ → Bool) → ℕ → ℕ → Place
+abbrev pub from_loop : Part → (ℕ → Bool) → ℕ → ℕ → ControlPoint
 from_loop p entries pc left =
     if nat_le most left && (nat_le p.code_base pc && nat_lt pc (p.code_base + length p.code))
     then enters p entries pc pc left else Slow
@@ -167,7 +167,7 @@ pub record IsLine (p : Part) (at : ℕ) (i : Instr) (n : ℕ) : Type 0 where
   pub at_is : at ≡ p.code_base + unit p.format * number + bytes_of before
 
 -- what may follow at that place
-abbrev pub IsMoveAt : Place → Part → (ℕ → Bool) → Going → Going → Type 0
+abbrev pub IsMoveAt : ControlPoint → Part → (ℕ → Bool) → Going → Going → Type 0
 IsMoveAt (Label at) p entries g k =
     (i : Instr) × (n : ℕ) × IsLine p at i n × (k ≡ line_done p entries at i n g)
 IsMoveAt Slow p entries g k =
