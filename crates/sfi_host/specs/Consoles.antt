@@ -46,7 +46,7 @@ take_service = 5
 -- mailbox, the oldest first
 pub record SessionState : Type 0 where
   pub output : List ℕ
-  pub place : ℕ
+  pub input_read : ℕ
   pub mailbox : List Message
 
 -- the input, and of each sandbox, by number, what is kept
@@ -56,7 +56,7 @@ pub record ConsoleState : Type 0 where
 
 -- at first nothing is written, read or posted
 abbrev pub new_session : SessionState
-new_session = record { output = []; place = 0; mailbox = [] }
+new_session = record { output = []; input_read = 0; mailbox = [] }
 
 -- the console at first, for a number of sandboxes with this input
 abbrev pub new_console : ℕ → List ℕ → ConsoleState
@@ -118,13 +118,13 @@ get_bytes x c next = record {
     a1 = c.a1;
     bytes = with_bytes c.bytes (range_with_len c.a0 (length next)) next;
   };
-  host = record x { place = x.place + length next };
+  host = record x { input_read = x.input_read + length next };
 }
 
 -- the answer to a get: a refusal where its a1 bytes from a0 on couldn't be handed over
 abbrev pub get_if : List ℕ → SessionState → Call → Option (List ℕ) → Answer SessionState
 get_if input x c None = replied c failed x
-get_if input x c (Some old) = get_bytes x c (take c.a1 (drop x.place input))
+get_if input x c (Some old) = get_bytes x c (take c.a1 (drop x.input_read input))
 
 abbrev pub get : List ℕ → SessionState → Call → Answer SessionState
 get input x c = get_if input x c (handed c)

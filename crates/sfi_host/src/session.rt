@@ -26,7 +26,7 @@ const MOST_MESSAGES: usize = 16;
 #[derive(Drop)]
 pub struct Session {
     output: Vec<u8>,
-    place: usize,
+    input_read: usize,
     mailbox: ArrayVec<Message, MOST_MESSAGES>,
 }
 
@@ -36,14 +36,14 @@ impl Model for Session {
     ghost Value = { SessionState };
 
     ghost view = { λ s.
-        record { output = s.output.items; place = s.place; mailbox = s.mailbox.items } };
+        record { output = s.output.items; input_read = s.input_read; mailbox = s.mailbox.items } };
 }
 
-/// At most `most` bytes of the input, from byte `place` on.
-fn next_bytes(input: &[u8], place: usize, most: usize) -> &[u8]
-    ensures { result.now ≡ take most (drop place input.now) }
+/// At most `most` bytes of the input, from byte `input_read` on.
+fn next_bytes(input: &[u8], input_read: usize, most: usize) -> &[u8]
+    ensures { result.now ≡ take most (drop input_read input.now) }
 {
-    let rest = &input[place.min(input.len())..];
+    let rest = &input[input_read.min(input.len())..];
     &rest[..most.min(rest.len())]
 }
 
@@ -54,7 +54,7 @@ impl Session {
     {
         Session {
             output: Vec::new(alloc),
-            place: 0,
+            input_read: 0,
             mailbox: ArrayVec::new(),
         }
     }
@@ -98,10 +98,10 @@ impl Session {
         if !may_hand(guest) {
             return refuse(guest);
         }
-        let next = next_bytes(input, self.place, guest.arg1() as usize);
+        let next = next_bytes(input, self.input_read, guest.arg1() as usize);
         guest.put_bytes(guest.arg0(), next);
         guest.set0(next.len() as u32);
-        self.place += next.len();
+        self.input_read += next.len();
         GateAnswer::Replied
     }
 
