@@ -37,4 +37,4 @@ pub use Rattle.sfi_host.specs.declared.turn.Turn.{Turn}
 pub use Rattle.sfi_host.specs.private.Turns.{allow, allows, with_left, end_of, limited_step, limited_turn, IsTurnOf, IsStepOf, IsCutTurnOf, IsOnItsWay}
 pub use Rattle.sfi_host.specs.private.Programs.{AreProgramsOf, IsSafeWith}
 pub use Rattle.sfi_host.specs.Programs.{IsProgramOf}
-pub use Rattle.sfi_host.specs.private.Sandboxes.{gate_at, bounds_in, StaysSafe, IsReplied, IsNotReplied, request_by, IsTold, IsNotTold, after_ecall, after_told, next_after_answer}
+pub use Rattle.sfi_host.specs.private.Sandboxes.{gate_at, bounds_in, StaysSafe, IsReplied, IsNotReplied, request_by, IsAnswerOf, IsNotAnswered, after_ecall, after_host_answer, next_after_answer}
