@@ -13,7 +13,7 @@ mod block;
 mod calls;
 mod console;
 mod copying;
-mod entry;
+mod decoded_op;
 mod extent;
 mod gates;
 mod guest;
