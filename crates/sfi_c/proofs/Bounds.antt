@@ -13,7 +13,7 @@ use Rattle.sfi_image.specs.declared.span.Span.{Span}
 use Rattle.sfi_image.specs.Spelling.{part, gate, number, spans}
 use Rattle.sfi_image.specs.Parts.{FieldTest, IsFirstFault, fault_of, field_tests, IsRightPart}
 use Rattle.sfi_image.specs.Parts.FieldTest.{Code, Data, GuardRoom, Start, Gates, Init, Overlap}
-use Rattle.sfi_image.specs.Fronts.{HasFaultWhateverFollows}
+use Rattle.sfi_image.specs.Prefixes.{HasFaultWhateverFollows}
 use Rattle.sfi_image.specs.Faults.{IsFault, IsCountFault, ArePartsFault, IsPartFault, IsBodyFault}
 use Rattle.sfi_image.proofs.Standing.{region, Region}
 use Rattle.sfi_image.proofs.Cancelling.{length-fields}

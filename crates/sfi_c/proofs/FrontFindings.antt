@@ -1,4 +1,4 @@
--- A front of bytes with a finding is no front of bytes without one, whatever follows.
+-- A prefix of bytes with a finding is no prefix of bytes without one, whatever follows.
 use Rattle.sfi_c.proofs.Prelude.{◌≡◌, ◌∙◌, ℕ, suc, ◌+◌, ◌-◌, ◌*◌, ◌<◌, List, [], ◌∷◌, ◌++◌, length, refl, sym, ap, subst, arith, inr, length-append, Part, Finding}
 use Rattle.std.proofs.Common.{◌≤◌, ◌⊎◌, ◌%◌, zero, inl, Bool, true, false, cond, take, drop, replicate, append_assoc}
 use Rattle.std.proofs.lemmas.Bool.{cases_lt}
@@ -13,7 +13,7 @@ use Rattle.sfi_image.specs.declared.part.Gate.{Gate}
 use Rattle.sfi_image.specs.declared.bundle.BundlePlace.{BundlePlace}
 use Rattle.sfi_image.specs.Spelling.{fields_of, number, fields, gate, part, AreFieldWords, AreGateWords}
 use Rattle.sfi_image.specs.Parts.{IsRightPart, AreOf}
-use Rattle.sfi_image.specs.Fronts.{part_of}
+use Rattle.sfi_image.specs.Prefixes.{part_of}
 use Rattle.sfi_image.proofs.Bundles.{right_words}
 use Rattle.sfi_image.proofs.Cancelling.{same_gate, same_fields, same_list, length-fields, part_split}
 use Rattle.sfi_rules.specs.declared.owed.Owed.{Owed}
@@ -137,9 +137,9 @@ first_clean sandbox (p ∷ ps) qs h =
     let at : sandbox + 1 + length ps ≡ sandbox + suc (length ps) = omega arith in
     (([], [], subst (λ (l : List Finding). AreFindings sandbox p l) none.0 h.2, rest.0, refl), subst (λ (n : ℕ). AreFindingsFrom n qs []) at rest.1)
 
--- ---- fronts
+-- ---- prefixes
 
--- the bytes of a front lie after the format's magic and the count, and these whole sandboxes
+-- the bytes of a prefix lie after the format's magic and the count, and these whole sandboxes
 pub record Reads (format : Format) (ps : List Part) (tail : List ℕ) (bytes : List ℕ) : Type 0 where
   pub count : ℕ
   pub few : count ≤ 16

@@ -15,8 +15,8 @@ use Rattle.sfi_image.specs.declared.want.Want.TheVariants as wants
 use Rattle.sfi_image.specs.Spelling.{fields_of, format_of, number, fields, gate, part, spelling, spans}
 use Rattle.sfi_image.specs.Parts.{IsRightPart, AreOf}
 use Rattle.sfi_image.specs.Faults.{IsFault}
-use Rattle.sfi_image.specs.Fronts.{Front, front, want_of, IsLess, IsRightFront, HasFaultWhateverFollows, part_of}
-use Rattle.sfi_image.specs.Fronts.Front.{Empty, AfterMagic, AfterCount, InGates, InCode, InInit, Whole}
+use Rattle.sfi_image.specs.Prefixes.{ImagePrefix, prefix_bytes, want_of, IsLess, IsRightPrefix, HasFaultWhateverFollows, part_of}
+use Rattle.sfi_image.specs.Prefixes.ImagePrefix.{Empty, AfterMagic, AfterCount, InGates, InCode, InInit, Whole}
 use Rattle.sfi_image.proofs.Standing.{region}
 use Rattle.sfi_image.proofs.Bundles.{right_words}
 use Rattle.sfi_image.proofs.Cancelling.{same_front, same_number, same_gate, same_fields, same_part, same_list, fronts, part_split}
@@ -39,7 +39,7 @@ use Rattle.sfi_image.proofs.Offsets.{length-gates, length-number}
 use Rattle.sfi_c.proofs.Bounds.{never_short}
 use Rattle.sfi_c.proofs.FrontFindings.{none_so_far, none_of_part, first_clean, Reads, IsPartial, HasNoCode, HasCode, IsAllThereIs, no_part, no_code, begins, same_code}
 
--- ---- a front by what lies after its whole sandboxes
+-- ---- a prefix by what lies after its whole sandboxes
 
 -- code of one more, and the findings up to its end
 record HasCodeFindings (format : Format) (ps : List Part) (tail : List ℕ) (found : List Finding) : Type 0 where
@@ -75,7 +75,7 @@ between format n ps held bytes found few of right e short are = record {
   findings = inl (are, inl short);
 }
 
-view : (x : Front) (held bytes : List ℕ) (found : List Finding) (owed : Owed) → IsRightFront x → bytes ≡ front x ++ held → IsLess (length held) (want_of x) ⊎ ((want_of x ≡ wants.End) × (held ≡ []))
+view : (x : ImagePrefix) (held bytes : List ℕ) (found : List Finding) (owed : Owed) → IsRightPrefix x → bytes ≡ prefix_bytes x ++ held → IsLess (length held) (want_of x) ⊎ ((want_of x ≡ wants.End) × (held ≡ []))
     → AreFrontFindings x found owed → HasView bytes found
 view Empty held bytes found owed right e (inl less) are = inl (omega (arith, less, ap length e), are)
 view (AfterMagic format) held bytes found owed right e (inl less) are = inl (omega (arith, less, ap length e, length-magic format held), are)
@@ -262,7 +262,7 @@ view_format f g bytes more found others x y =
     let split : magic f ++ (number r.count ++ ((flat_map part x.parts ++ x.tail) ++ more)) ≡ bytes ++ more = sym (ap (λ (l : List ℕ). l ++ more) r.bytes_are ∙ simp append_assoc) in
     (peeled f g r.count s.count _ _ r.few s.few (split ∙ s.bytes_are)).0
 
--- where bytes are read without a finding, their front was, too
+-- where bytes are read without a finding, their prefix was, too
 pub none_before : (bytes more : List ℕ) (found : List Finding) → HaveFrontFindings bytes found → HaveFrontFindings (bytes ++ more) [] → found ≡ []
 none_before bytes more found h g = by (viewed bytes found h) (viewed (bytes ++ more) [] g)
   where
@@ -283,7 +283,7 @@ accepted_front bytes ps ok = record {
   read = record {
     right = record { at_least = ok.image.layout.at_least_one; at_most = ok.image.layout.at_most; one_format = ok.image.layout.one_format; right = ok.image.layout.right };
     held = [];
-    bytes_are = ok.image.bytes_are ∙ sym (append-nil (front (Whole ps)));
+    bytes_are = ok.image.bytes_are ∙ sym (append-nil (prefix_bytes (Whole ps)));
     rests = inr (refl, refl);
   };
   owed = owed.Nothing;
@@ -295,14 +295,14 @@ never_accepted bytes more ps (inl fault) ok = never_both (bytes ++ more) ps faul
 never_accepted bytes more ps (inr found) ok = found.1 (none_before bytes more found.0 found.2 (accepted_front (bytes ++ more) ps ok))
 
 -- what is read without a finding and a fault
-no_fault : (bytes : List ℕ) (x : Front) (held : List ℕ) (k : LayoutFault) → IsRightFront x → bytes ≡ front x ++ held → IsLess (length held) (want_of x) ⊎ ((want_of x ≡ wants.End) × (held ≡ [])) → HasFaultWhateverFollows bytes k → ⊥
+no_fault : (bytes : List ℕ) (x : ImagePrefix) (held : List ℕ) (k : LayoutFault) → IsRightPrefix x → bytes ≡ prefix_bytes x ++ held → IsLess (length held) (want_of x) ⊎ ((want_of x ≡ wants.End) × (held ≡ [])) → HasFaultWhateverFollows bytes k → ⊥
 no_fault bytes x held k right e (inl less) fault =
     let here = subst (λ (l : List ℕ). IsFault l k) (append-nil bytes) (fault []) in
     let short = subst (λ (l : List ℕ). IsFault l Short) (sym e) (cut_short x held right less) in
     never_short bytes (subst (λ (j : LayoutFault). HasFaultWhateverFollows bytes j) (one_fault bytes k Short here short) fault)
 no_fault bytes (Whole ps) held k right e (inr end) fault =
-    let whole : bytes ≡ front (Whole ps) = e ∙ ap (λ (l : List ℕ). front (Whole ps) ++ l) end.1 ∙ append-nil (front (Whole ps)) in
-    never_both (front (Whole ps)) ps k (whole_is_image ps right) (subst (λ (l : List ℕ). IsFault l k) (append-nil bytes ∙ whole) (fault []))
+    let whole : bytes ≡ prefix_bytes (Whole ps) = e ∙ ap (λ (l : List ℕ). prefix_bytes (Whole ps) ++ l) end.1 ∙ append-nil (prefix_bytes (Whole ps)) in
+    never_both (prefix_bytes (Whole ps)) ps k (whole_is_image ps right) (subst (λ (l : List ℕ). IsFault l k) (append-nil bytes ∙ whole) (fault []))
 no_fault bytes x held k right e (inr end) fault = let no = end.0 in absurd cc
 
 pub not_refused : (bytes : List ℕ) → HaveFrontFindings bytes [] → AreRefusedAlready bytes → ⊥
@@ -311,7 +311,7 @@ not_refused bytes h (inr found) = found.1 (none_before bytes [] found.0 found.2 
 
 -- ---- by what a feed keeps
 
-at_end : (r : LayoutReader) (x : Front) → StandsFor r x → r.next ≡ next.End → want_of x ≡ wants.End
+at_end : (r : LayoutReader) (x : ImagePrefix) → StandsFor r x → r.next ≡ next.End → want_of x ≡ wants.End
 at_end r (Whole ps) stands e = refl
 at_end r x stands e = let is = stands.kept.0 in absurd cc
 

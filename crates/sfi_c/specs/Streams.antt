@@ -21,7 +21,7 @@ use Rattle.sfi_check.specs.Feeds.{IsFed, AreFrontFindings}
 use Rattle.sfi_check.specs.declared.for_c.SfiFinding.{SfiFinding}
 use Rattle.sfi_c.specs.declared.stream.SfiStream.{SfiStream}
 use Rattle.sfi_image.specs.declared.want.Want.TheVariants as wants
-use Rattle.sfi_image.specs.Fronts.{Front, front, want_of, IsRightFront, IsLess, HasFaultWhateverFollows}
+use Rattle.sfi_image.specs.Prefixes.{ImagePrefix, prefix_bytes, want_of, IsRightPrefix, IsLess, HasFaultWhateverFollows}
 
 -- ---- what numbers stand for: `IsStreamOf`, and its parts, which only private contracts name
 -- themselves
@@ -125,18 +125,18 @@ pub record IsStreamOf (s : SfiStream) (bytes : List ℕ) : Type 0 where
 
 -- ==== Bytes of an image that are refused before all of them have come.
 
--- the bytes are those of a right front of an image, and then fewer than come next, or none where the
+-- the bytes are those of a right prefix of an image, and then fewer than come next, or none where the
 -- image is whole
-pub record AreReadTo (bytes : List ℕ) (at : Front) : Type 0 where
-  pub right : IsRightFront at
+pub record AreReadTo (bytes : List ℕ) (at : ImagePrefix) : Type 0 where
+  pub right : IsRightPrefix at
   pub held : List ℕ
-  pub bytes_are : bytes ≡ front at ++ held
+  pub bytes_are : bytes ≡ prefix_bytes at ++ held
   pub rests :
       IsLess (length held) (want_of at) ⊎ ((want_of at ≡ wants.End) × (held ≡ []))
 
--- the bytes are read to a front whose whole sandboxes and whole bundles have these findings
+-- the bytes are read to a prefix whose whole sandboxes and whole bundles have these findings
 pub record HaveFrontFindings (bytes : List ℕ) (found : List Finding) : Type 0 where
-  pub at : Front
+  pub at : ImagePrefix
   pub read : AreReadTo bytes at
   pub owed : Owed
   pub found_are : AreFrontFindings at found owed

@@ -1,5 +1,5 @@
 -- What a feed holds.
-use Rattle.sfi_check.proofs.Prelude.{◌≡◌, ◌∙◌, ◌≤◌, ◌<◌, ◌+◌, ◌⊎◌, ℕ, List, [], ◌++◌, true, false, refl, Option, None, Some, take, length, sym, ap, subst, arith, inl, inr, append_assoc, is_some, append-nil, length-take, length-append, take-append_seam, IsFault, Front, want_of, IsLess, HasFaultWhateverFollows, Empty, Whole, LayoutReader, StandsFor, left, Finding, Tally, IsSoFar, IsCut, HoldsOfSome, verdict_of, IsFedFinding, IsFedBy, IsHeld, IsVerdictOn, left_to_feed, LayoutFault}
+use Rattle.sfi_check.proofs.Prelude.{◌≡◌, ◌∙◌, ◌≤◌, ◌<◌, ◌+◌, ◌⊎◌, ℕ, List, [], ◌++◌, true, false, refl, Option, None, Some, take, length, sym, ap, subst, arith, inl, inr, append_assoc, is_some, append-nil, length-take, length-append, take-append_seam, IsFault, ImagePrefix, want_of, IsLess, HasFaultWhateverFollows, Empty, Whole, LayoutReader, StandsFor, left, Finding, Tally, IsSoFar, IsCut, HoldsOfSome, verdict_of, IsFedFinding, IsFedBy, IsHeld, IsVerdictOn, left_to_feed, LayoutFault}
 use Rattle.sfi_check.specs.declared.feed.Feed.{Feed}
 use Rattle.sfi_image.specs.declared.fault.LayoutFault.TheVariants as faults
 use Rattle.sfi_image.specs.declared.want.Want.{Want}
@@ -60,7 +60,7 @@ from_nothing takes s f none h = fed_weaker f [] (λ found is. subst (λ (l : Lis
 
 -- ---- before the first byte
 
-first_cut : (r : LayoutReader) → StandsFor r Empty → (x : Front) → StandsFor r x → IsLess 0 (want_of x)
+first_cut : (r : LayoutReader) → StandsFor r Empty → (x : ImagePrefix) → StandsFor r x → IsLess 0 (want_of x)
 first_cut r e Empty h = omega arith
 first_cut r e x h = let n = h.kept.0 in let m = e.kept.0 in absurd cc
 
@@ -95,11 +95,11 @@ at_reader r s t u bytes a b h = rw (a, b) h
 pub answered_fault : (bytes : List ℕ) (k : LayoutFault) → HasFaultWhateverFollows bytes k → IsVerdictOn bytes true (answers.Layout k)
 answered_fault bytes k h = on_fault bytes k (subst (λ (l : List ℕ). IsFault l k) (append-nil bytes) (h []))
 
-is_end : (r : LayoutReader) (x : Front) → StandsFor r x → wants.End ≡ want_of x → r.next ≡ next.End
+is_end : (r : LayoutReader) (x : ImagePrefix) → StandsFor r x → wants.End ≡ want_of x → r.next ≡ next.End
 is_end r (Whole ps) h w = h.kept.0
 is_end r x h w = absurd cc
 
-never_less : (x : Front) (len : ℕ) → wants.End ≡ want_of x → IsLess len (want_of x) → ⊥
+never_less : (x : ImagePrefix) (len : ℕ) → wants.End ≡ want_of x → IsLess len (want_of x) → ⊥
 never_less x len w h = subst (λ (v : Want). IsLess len v) (sym w) h
 
 none_held : {T : List Finding → Type 0} (f : Feed) (bytes : List ℕ) (h : IsHeld T f bytes) → wants.End ≡ want_of h.at.at → f.count ≡ 0
@@ -108,13 +108,13 @@ none_held f bytes h w = elim h.rests [
   | inr end ↦ end.1
 ]
 
-pub answered_whole : {T : List Finding → Type 0} (f : Feed) (bytes : List ℕ) → IsHeld T f bytes → ((x : Front) → StandsFor f.reader x → wants.End ≡ want_of x) → IsJudgedWhole T bytes (verdict_of f.tally)
+pub answered_whole : {T : List Finding → Type 0} (f : Feed) (bytes : List ℕ) → IsHeld T f bytes → ((x : ImagePrefix) → StandsFor f.reader x → wants.End ≡ want_of x) → IsJudgedWhole T bytes (verdict_of f.tally)
 answered_whole {T} f bytes h want =
     let w = want h.at.at h.at.stands in
     let same : bytes ≡ h.so_far = h.bytes_are ∙ ap (λ (k : ℕ). h.so_far ++ take k f.held) (none_held f bytes h w) ∙ append-nil h.so_far in
     subst (λ (l : List ℕ). IsJudgedWhole T l (verdict_of f.tally)) (sym same) (ended_whole f.reader f.tally h.so_far h.at (is_end f.reader h.at.at h.at.stands w))
 
-is_whole : (r : LayoutReader) (x : Front) → StandsFor r x → r.next ≡ next.End → wants.End ≡ want_of x
+is_whole : (r : LayoutReader) (x : ImagePrefix) → StandsFor r x → r.next ≡ next.End → wants.End ≡ want_of x
 is_whole r (Whole ps) h e = refl
 is_whole r x h e = let n = h.kept.0 in absurd cc
 
@@ -153,8 +153,8 @@ joined_is count more held bytes ys rest room few is =
 
 -- ---- fewer bytes than come next
 
-pub less_field : (x : Front) (len count : ℕ) → wants.Field len ≡ want_of x → IsLess count (want_of x) → count < len
+pub less_field : (x : ImagePrefix) (len count : ℕ) → wants.Field len ≡ want_of x → IsLess count (want_of x) → count < len
 less_field x len count w h = subst (λ (v : Want). IsLess count v) (sym w) h
 
-pub less_bundle : (x : Front) (w : Want) (count : ℕ) → w ≡ want_of x → IsLess count (want_of x) → IsLess count w
+pub less_bundle : (x : ImagePrefix) (w : Want) (count : ℕ) → w ≡ want_of x → IsLess count (want_of x) → IsLess count w
 less_bundle x w count e h = subst (λ (v : Want). IsLess count v) (sym e) h

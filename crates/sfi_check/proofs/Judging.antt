@@ -1,5 +1,5 @@
 -- The answer on a stream.
-use Rattle.sfi_check.proofs.Prelude.{◌≡◌, ℕ, ◌<◌, true, false, List, [], ◌∷◌, ◌++◌, length, Option, None, refl, sym, ap, ◌∙◌, subst, arith, append_assoc, inr, slice_get, Part, IsFault, Front, front, HasFaultWhateverFollows, Empty, Whole, LayoutReader, StandsFor, left, left_most, Finding, AreImageFindings, StreamAnswer, Tally, Tallies, IsSoFar, IsCut, verdict_by, verdict_of, HasFindings, IsVerdictOn, AreHandedOver, IsImage, LayoutFault}
+use Rattle.sfi_check.proofs.Prelude.{◌≡◌, ℕ, ◌<◌, true, false, List, [], ◌∷◌, ◌++◌, length, Option, None, refl, sym, ap, ◌∙◌, subst, arith, append_assoc, inr, slice_get, Part, IsFault, ImagePrefix, prefix_bytes, HasFaultWhateverFollows, Empty, Whole, LayoutReader, StandsFor, left, left_most, Finding, AreImageFindings, StreamAnswer, Tally, Tallies, IsSoFar, IsCut, verdict_by, verdict_of, HasFindings, IsVerdictOn, AreHandedOver, IsImage, LayoutFault}
 use Rattle.sfi_image.specs.declared.fault.LayoutFault.TheVariants as faults
 use Rattle.sfi_image.specs.declared.want.Next.TheVariants as next
 use Rattle.sfi_check.specs.declared.stream_answer.StreamAnswer.TheVariants as answers
@@ -57,8 +57,8 @@ judged_whole {T} bytes ps t image k = by k.found k.found_holds k.found_are k.cou
 
 -- ---- the reader's end
 
-at_whole : {T : List Finding → Type 0} (r : LayoutReader) (t : Tally) (bytes : List ℕ) (x : Front) → StandsFor r x → bytes ≡ front x → Tallies T t x → r.next ≡ next.End
-    → (ps : List Part) × (bytes ≡ front (Whole ps)) × StandsFor r (Whole ps) × Tallies T t (Whole ps)
+at_whole : {T : List Finding → Type 0} (r : LayoutReader) (t : Tally) (bytes : List ℕ) (x : ImagePrefix) → StandsFor r x → bytes ≡ prefix_bytes x → Tallies T t x → r.next ≡ next.End
+    → (ps : List Part) × (bytes ≡ prefix_bytes (Whole ps)) × StandsFor r (Whole ps) × Tallies T t (Whole ps)
 at_whole r t bytes (Whole ps) h e k is = (ps, e, h, k)
 at_whole r t bytes x h e k is = let n = h.kept.0 in absurd cc
 
@@ -73,7 +73,7 @@ pub trailing : {T : List Finding → Type 0} → (r : LayoutReader) (t : Tally) 
 trailing r t bytes rest h is some =
     let w = at_whole r t bytes h.at h.stands h.bytes_are h.tallies is in
     λ more.
-    let regroup : (bytes ++ rest) ++ more ≡ front (Whole w.0) ++ (rest ++ more) = append_assoc bytes rest more ∙ ap (λ (l : List ℕ). l ++ (rest ++ more)) w.1 in
+    let regroup : (bytes ++ rest) ++ more ≡ prefix_bytes (Whole w.0) ++ (rest ++ more) = append_assoc bytes rest more ∙ ap (λ (l : List ℕ). l ++ (rest ++ more)) w.1 in
     rw (regroup) (trails w.0 (rest ++ more) w.2.right (longer rest more some))
   where
     longer : (xs ys : List ℕ) → 0 < length xs → 0 < length (xs ++ ys)

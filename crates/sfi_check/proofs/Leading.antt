@@ -1,5 +1,5 @@
 -- One step of a reader with its tally.
-use Rattle.sfi_check.proofs.Prelude.{◌≡◌, ℕ, ◌+◌, ◌-◌, ◌<◌, ◌≤◌, List, ◌++◌, length, take, drop, refl, sym, ap, ◌∙◌, subst, arith, append_assoc, inl, inr, None, take-append-drop, length-take, length-drop, take_all, take-append-add, spans, IsCodeRegion, Part, Gate, is_gate_of, Front, Follows, front, IsRightFront, want_of, IsLengthOf, HasFaultWhateverFollows, Empty, AfterMagic, AfterCount, InGates, InCode, InInit, LayoutReader, StandsFor, left, Finding, BundlePlace, IsWithin, Tally, Tallies, IsSoFar, HoldsOfSome, Fields, LayoutFault}
+use Rattle.sfi_check.proofs.Prelude.{◌≡◌, ℕ, ◌+◌, ◌-◌, ◌<◌, ◌≤◌, List, ◌++◌, length, take, drop, refl, sym, ap, ◌∙◌, subst, arith, append_assoc, inl, inr, None, take-append-drop, length-take, length-drop, take_all, take-append-add, spans, IsCodeRegion, Part, Gate, is_gate_of, ImagePrefix, Follows, prefix_bytes, IsRightPrefix, want_of, IsLengthOf, HasFaultWhateverFollows, Empty, AfterMagic, AfterCount, InGates, InCode, InInit, LayoutReader, StandsFor, left, Finding, BundlePlace, IsWithin, Tally, Tallies, IsSoFar, HoldsOfSome, Fields, LayoutFault}
 use Rattle.sfi_image.specs.Parts.{IsFirstFault, field_tests}
 use Rattle.sfi_image.specs.declared.span.Span.{Span}
 use Rattle.sfi_image.specs.declared.want.Want.{Want}
@@ -20,8 +20,8 @@ code_test before f (inr h) = let e = h.1 in absurd cc
 abbrev pub place_at : ℕ → Fields → List Gate → ℕ → BundlePlace
 place_at sandbox f gs at = record { sandbox = sandbox; address = at; format = f.format; code_base = f.code_base; code_size = f.code_size; listed = is_gate_of gs at }
 
--- the front ends within code, and the place is that after it
-pub record IsInCode (x : Front) (b : BundlePlace) : Type 0 where
+-- the prefix ends within code, and the place is that after it
+pub record IsInCode (x : ImagePrefix) (b : BundlePlace) : Type 0 where
   pub count : ℕ
   pub before : List Part
   pub fields : Fields
@@ -30,11 +30,11 @@ pub record IsInCode (x : Front) (b : BundlePlace) : Type 0 where
   pub front_is : x ≡ InCode count before fields gates code
   pub place_is : b ≡ place_at (length before) fields gates (fields.code_base + length code)
 
-pub in_code : (x : Front) (b : BundlePlace) → wants.Bundle b ≡ want_of x → IsInCode x b
+pub in_code : (x : ImagePrefix) (b : BundlePlace) → wants.Bundle b ≡ want_of x → IsInCode x b
 in_code (InCode n ps f gs code) b w = record { count = n; before = ps; fields = f; gates = gs; code = code; front_is = refl; place_is = cc }
 in_code x b w = absurd cc
 
-pub bundle_within : (x : Front) (b : BundlePlace) → IsRightFront x → wants.Bundle b ≡ want_of x → IsWithin b
+pub bundle_within : (x : ImagePrefix) (b : BundlePlace) → IsRightPrefix x → wants.Bundle b ≡ want_of x → IsWithin b
 bundle_within x b right w =
     let i = in_code x b w in
     let there = rw (i.front_is) at right in
@@ -46,23 +46,23 @@ bundle_within x b right w =
 
 -- ---- where others do
 
-pub field_len : (x : Front) (len : ℕ) → wants.Field len ≡ want_of x → (1 ≤ len) × (len ≤ 28)
+pub field_len : (x : ImagePrefix) (len : ℕ) → wants.Field len ≡ want_of x → (1 ≤ len) × (len ≤ 28)
 field_len Empty len w = let e : len ≡ 4 = cc in (omega arith, omega arith)
 field_len (AfterMagic kind) len w = let e : len ≡ 4 = cc in (omega arith, omega arith)
 field_len (AfterCount kind n ps) len w = let e : len ≡ 28 = cc in (omega arith, omega arith)
 field_len (InGates n ps f gs) len w = let e : len ≡ 8 = cc in (omega arith, omega arith)
 field_len x len w = absurd cc
 
-pub init_some : (x : Front) (len : ℕ) → wants.Init len ≡ want_of x → IsRightFront x → 1 ≤ len
+pub init_some : (x : ImagePrefix) (len : ℕ) → wants.Init len ≡ want_of x → IsRightPrefix x → 1 ≤ len
 init_some (InInit n ps f gs code init) len w right = let e : len ≡ f.init_len - length init = cc in let less = right.3 in omega arith
 init_some x len w right = absurd cc
 
 -- ---- as many bytes as are wanted
 
-pub field_taken : (x : Front) (len : ℕ) (xs : List ℕ) → wants.Field len ≡ want_of x → len ≤ length xs → IsLengthOf (length (take len xs)) (want_of x)
+pub field_taken : (x : ImagePrefix) (len : ℕ) (xs : List ℕ) → wants.Field len ≡ want_of x → len ≤ length xs → IsLengthOf (length (take len xs)) (want_of x)
 field_taken x len xs w le = let same : length (take len xs) ≡ len = omega (arith, length-take len xs) in subst (λ (v : Want). IsLengthOf (length (take len xs)) v) w same
 
-pub init_taken : (x : Front) (most len : ℕ) (xs : List ℕ) → wants.Init most ≡ want_of x → 1 ≤ len → len ≤ most → len ≤ length xs → IsLengthOf (length (take len xs)) (want_of x)
+pub init_taken : (x : ImagePrefix) (most len : ℕ) (xs : List ℕ) → wants.Init most ≡ want_of x → 1 ≤ len → len ≤ most → len ≤ length xs → IsLengthOf (length (take len xs)) (want_of x)
 init_taken x most len xs w some le room =
     let same : length (take len xs) ≡ len = omega (arith, length-take len xs) in
     let least : 1 ≤ length (take len xs) = omega arith in
@@ -71,19 +71,19 @@ init_taken x most len xs w some le room =
 
 -- ---- steps
 
-pub joined : (so_far : List ℕ) (x : Front) (s : List ℕ) (y : Front) → so_far ≡ front x → front y ≡ front x ++ s → so_far ++ s ≡ front y
+pub joined : (so_far : List ℕ) (x : ImagePrefix) (s : List ℕ) (y : ImagePrefix) → so_far ≡ prefix_bytes x → prefix_bytes y ≡ prefix_bytes x ++ s → so_far ++ s ≡ prefix_bytes y
 joined so_far x s y a b = ap (λ (l : List ℕ). l ++ s) a ∙ sym b
 
 -- what is taken off the reader has a fault
 pub step_fault : {T : List Finding → Type 0} (old : LayoutReader) (t : Tally) (so_far s rest : List ℕ) (len : ℕ) (k : LayoutFault) → s ≡ take len rest
-    → ((x : Front) → StandsFor old x → HasFaultWhateverFollows (front x ++ s) k) → IsSoFar T old t so_far → HasFaultWhateverFollows (so_far ++ rest) k × HoldsOfSome T
+    → ((x : ImagePrefix) → StandsFor old x → HasFaultWhateverFollows (prefix_bytes x ++ s) k) → IsSoFar T old t so_far → HasFaultWhateverFollows (so_far ++ rest) k × HoldsOfSome T
 step_fault old t so_far s rest len k e wrong h =
     let here = subst (λ (l : List ℕ). HasFaultWhateverFollows (l ++ s) k) (sym h.bytes_are) (wrong h.at h.stands) in
     (fault_onwards so_far s rest (drop len rest) k (sym (take-append-drop len rest) ∙ ap (λ (l : List ℕ). l ++ drop len rest) (sym e)) here, (h.tallies.found, h.tallies.found_holds))
 
 -- or leads on, where it is no code
 pub step_taken : {T : List Finding → Type 0} (old new : LayoutReader) (t : Tally) (so_far rest : List ℕ) (len : ℕ) (end : StepEnd) → 1 ≤ len → len ≤ length rest → IsTakenOff old new (take len rest) end
-    → ((x y : Front) → StandsFor old x → Follows x (take len rest) y → Tallies T t x → Tallies T t y) → IsSoFar T old t so_far → Steps T old new t so_far rest end
+    → ((x y : ImagePrefix) → StandsFor old x → Follows x (take len rest) y → Tallies T t x → Tallies T t y) → IsSoFar T old t so_far → Steps T old new t so_far rest end
 step_taken {T = T} old new t so_far rest len (ends.Took n) some room off tallies h =
     let same : n ≡ len = omega (arith, off.0, length-take len rest) in
     let l = off.1 h.at h.stands in

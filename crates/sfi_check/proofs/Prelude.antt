@@ -10,8 +10,8 @@ unfoldable pub use Rattle.sfi_formats.specs.Formats.{magic}
 pub use Rattle.sfi_formats.specs.declared.format.Format.{Format}
 pub use Rattle.sfi_formats.specs.declared.format.Format.TheVariants.{Sfi1, Sfi2}
 pub use Rattle.sfi_image.specs.Faults.{IsFault}
-pub use Rattle.sfi_image.specs.Fronts.{Front, AreBundlesWithin, IsStretchLength, Follows, want_of, IsLess, HasFaultWhateverFollows, front, IsRightFront, IsLengthOf, part_of, after_parts, after_init, after_code, after_gates}
-pub use Rattle.sfi_image.specs.Fronts.Front.{Empty, AfterMagic, AfterCount, InGates, InCode, InInit, Whole}
+pub use Rattle.sfi_image.specs.Prefixes.{ImagePrefix, AreBundlesWithin, IsStretchLength, Follows, want_of, IsLess, HasFaultWhateverFollows, prefix_bytes, IsRightPrefix, IsLengthOf, part_of, after_parts, after_init, after_code, after_gates}
+pub use Rattle.sfi_image.specs.Prefixes.ImagePrefix.{Empty, AfterMagic, AfterCount, InGates, InCode, InInit, Whole}
 pub use Rattle.sfi_image.specs.Parts.{is_gate_of, IsRightPart, IsRightLayout, IsCodeRegion, IsImage}
 pub use Rattle.sfi_image.specs.declared.layout_reader.LayoutReader.{LayoutReader}
 pub use Rattle.sfi_image.specs.Keeping.{StandsFor, Leads, left, left_most}

@@ -1,5 +1,5 @@
 -- A stretch of bundles more: its findings, and the tally with them.
-use Rattle.sfi_check.proofs.Prelude.{◌≡◌, ◌==◌, ℕ, zero, suc, ◌+◌, ◌-◌, ◌*◌, ◌/◌, ◌<◌, ◌≤◌, Bool, false, cond, List, [], ◌∷◌, ◌++◌, length, take, drop, refl, sym, ap, ◌∙◌, subst, arith, eq-eqb, ne_eqb, append_assoc, length-append, length-take, take-append_seam, Gate, is_gate_of, Front, IsStretchLength, IsRightFront, want_of, Follows, LayoutReader, StandsFor, Leads, left, BundlePlace, Finding, Tally, part_of, block_bundle, AreFoundUpTo, AddsFindings, Counts, owed_after, AreFindingsSoFar, IsSoFar, IsStretch, AreFoundInStretch, Tallies, findings_most, stretch_place, Fields}
+use Rattle.sfi_check.proofs.Prelude.{◌≡◌, ◌==◌, ℕ, zero, suc, ◌+◌, ◌-◌, ◌*◌, ◌/◌, ◌<◌, ◌≤◌, Bool, false, cond, List, [], ◌∷◌, ◌++◌, length, take, drop, refl, sym, ap, ◌∙◌, subst, arith, eq-eqb, ne_eqb, append_assoc, length-append, length-take, take-append_seam, Gate, is_gate_of, ImagePrefix, IsStretchLength, IsRightPrefix, want_of, Follows, LayoutReader, StandsFor, Leads, left, BundlePlace, Finding, Tally, part_of, block_bundle, AreFoundUpTo, AddsFindings, Counts, owed_after, AreFindingsSoFar, IsSoFar, IsStretch, AreFoundInStretch, Tallies, findings_most, stretch_place, Fields}
 use Rattle.std.specs.Prelude.{min, ◌%◌}
 use Rattle.sfi_image.specs.declared.want.Next.TheVariants as next_want
 use Rattle.sfi_image.specs.declared.want.Want.TheVariants as wants
@@ -20,7 +20,7 @@ adds_of t u v w sandbox n found next is a kept few =
 -- ---- what comes next
 
 -- where bundles come next, the reader reads code
-reads_code : (r : LayoutReader) (x : Front) (b : BundlePlace) → StandsFor r x → wants.Bundle b ≡ want_of x → r.next ≡ next_want.Code
+reads_code : (r : LayoutReader) (x : ImagePrefix) (b : BundlePlace) → StandsFor r x → wants.Bundle b ≡ want_of x → r.next ≡ next_want.Code
 reads_code r x b h w = (rw ((in_code x b w).front_is) at h).kept.0
 
 -- the bytes are `n` whole bundles, at most `most` bytes, and a stretch
@@ -29,7 +29,7 @@ pub record IsTaken (most : ℕ) (b : BundlePlace) (bytes : List ℕ) (n : ℕ) :
   pub le : 16 * n ≤ most
   pub stretch : IsStretch b bytes n
 
-pub stretch_taken : (x : Front) (b : BundlePlace) (most len : ℕ) (rest : List ℕ) → IsRightFront x → wants.Bundle b ≡ want_of x → IsStretchLength x most → len ≡ min most (length rest - length rest % 16) → 0 < len
+pub stretch_taken : (x : ImagePrefix) (b : BundlePlace) (most len : ℕ) (rest : List ℕ) → IsRightPrefix x → wants.Bundle b ≡ want_of x → IsStretchLength x most → len ≡ min most (length rest - length rest % 16) → 0 < len
     → IsTaken most b (take len rest) (len / 16)
 stretch_taken x b most len rest right w is e some =
     let i = in_code x b w in
@@ -97,7 +97,7 @@ stretch_more sandbox f gs code s here kept next n found so_far some len plain ar
 
 -- ---- a step
 
-stretch_tallies : {T U : List Finding → Type 0} (old new : Tally) (x : Front) (s : List ℕ) (y : Front) (b : BundlePlace) (most n : ℕ) (found : List Finding) (owed : Owed)
+stretch_tallies : {T U : List Finding → Type 0} (old new : Tally) (x : ImagePrefix) (s : List ℕ) (y : ImagePrefix) (b : BundlePlace) (most n : ℕ) (found : List Finding) (owed : Owed)
     → wants.Bundle b ≡ want_of x → IsStretchLength x most → 16 * n ≤ most → 0 < n → length s ≡ 16 * n → Follows x s y → owed ≡ cond (b.address == b.code_base) Nothing old.owed → AreFoundInStretch b owed s n found new.owed
     → Adds old new b.sandbox n found → ((before : List Finding) → T before → U (before ++ found)) → Tallies T old x → Tallies U new y
 stretch_tallies {T = T} old new x s y b most n found owed w is le some len h before are adds on k =
@@ -107,18 +107,18 @@ stretch_tallies {T = T} old new x s y b most n found owed w is le some len h bef
     let gs = i.gates in
     let code = i.code in
     let place = place_at (length ps) f gs (f.code_base + length code) in
-    let long = subst (λ (z : Front). IsStretchLength z most) i.front_is is in
+    let long = subst (λ (z : ImagePrefix). IsStretchLength z most) i.front_is is in
     let begin : (b.address == b.code_base) ≡ (length code == 0) = ap (λ (p : BundlePlace). p.address == p.code_base) i.place_is ∙ begins f.code_base (length code) in
     let before' : owed ≡ owed_after code old.owed = before ∙ ap (λ (z : Bool). cond z Nothing old.owed) begin in
     let are' = subst (λ (o : Owed). AreFoundInStretch place o s n found new.owed) before' (subst (λ (p : BundlePlace). AreFoundInStretch p owed s n found new.owed) i.place_is are) in
-    rw (subst (λ (z : Front). Follows z s y) i.front_is h) (code_tallies old new i.count ps f gs code s n found some len
+    rw (subst (λ (z : ImagePrefix). Follows z s y) i.front_is h) (code_tallies old new i.count ps f gs code s n found some len
     (λ here so_far. stretch_more (length ps) f gs code s here old.owed new.owed n found so_far some len (λ j first less. long.unlisted j first (omega arith)) are')
-    (subst (λ (p : BundlePlace). Adds old new p.sandbox n found) i.place_is adds) on (subst (λ (z : Front). Tallies T old z) i.front_is k))
+    (subst (λ (p : BundlePlace). Adds old new p.sandbox n found) i.place_is adds) on (subst (λ (z : ImagePrefix). Tallies T old z) i.front_is k))
 
 pub stretch_step : {T U : List Finding → Type 0} (old new : LayoutReader) (t u v w : Tally) (so_far s : List ℕ) (b : BundlePlace) (most n : ℕ) (found : List Finding) (owed next : Owed)
-    → ((x : Front) → StandsFor old x → wants.Bundle b ≡ want_of x) → ((x : Front) → StandsFor old x → IsStretchLength x most) → 16 * n ≤ most → 0 < n → length s ≡ 16 * n
+    → ((x : ImagePrefix) → StandsFor old x → wants.Bundle b ≡ want_of x) → ((x : ImagePrefix) → StandsFor old x → IsStretchLength x most) → 16 * n ≤ most → 0 < n → length s ≡ 16 * n
     → owed ≡ cond (b.address == b.code_base) Nothing t.owed → AreFoundInStretch b owed s n found next → length found ≤ findings_most * n → u ≡ record t { sandboxes = b.sandbox + 1; bundles = t.bundles + n } → Counts u v found → w ≡ record v { owed = next }
-    → ((x : Front) → StandsFor old x → Leads x s new) → (old.next ≡ next_want.Code → left new + length s ≤ left old) → ((before : List Finding) → T before → U (before ++ found)) → IsSoFar T old t so_far → IsSoFar U new w (so_far ++ s)
+    → ((x : ImagePrefix) → StandsFor old x → Leads x s new) → (old.next ≡ next_want.Code → left new + length s ≤ left old) → ((before : List Finding) → T before → U (before ++ found)) → IsSoFar T old t so_far → IsSoFar U new w (so_far ++ s)
 stretch_step old new t u v w so_far s b most n found owed next wanted stretch le some len before are few is counts kept leads falls on h =
     let l = leads h.at h.stands in
     let less = falls (reads_code old h.at b h.stands (wanted h.at h.stands)) in

@@ -1,5 +1,5 @@
--- The tally of a front and of the one that follows it.
-use Rattle.sfi_check.proofs.Prelude.{◌≡◌, ℕ, ◌+◌, ◌*◌, ◌/◌, ◌<◌, ◌≤◌, eqb, List, [], ◌∷◌, ◌++◌, length, refl, sym, ap, ◌∙◌, subst, arith, append_assoc, inl, inr, slice_get, cases_Bool, eqb-true, length-append, length_push, append-nil, Gate, Part, Front, IsRightFront, want_of, part_of, after_parts, after_init, after_code, after_gates, Follows, HasFaultWhateverFollows, Empty, AfterMagic, AfterCount, InGates, InCode, InInit, Finding, AreFindings, AreFoundUpTo, AreImageFindings, Tally, bundle_count, owed_after, AreFindingsSoFar, AreFindingsWithin, findings_most, Tallies, Fields, LayoutFault}
+-- The tally of a prefix and of the one that follows it.
+use Rattle.sfi_check.proofs.Prelude.{◌≡◌, ℕ, ◌+◌, ◌*◌, ◌/◌, ◌<◌, ◌≤◌, eqb, List, [], ◌∷◌, ◌++◌, length, refl, sym, ap, ◌∙◌, subst, arith, append_assoc, inl, inr, slice_get, cases_Bool, eqb-true, length-append, length_push, append-nil, Gate, Part, ImagePrefix, IsRightPrefix, want_of, part_of, after_parts, after_init, after_code, after_gates, Follows, HasFaultWhateverFollows, Empty, AfterMagic, AfterCount, InGates, InCode, InInit, Finding, AreFindings, AreFoundUpTo, AreImageFindings, Tally, bundle_count, owed_after, AreFindingsSoFar, AreFindingsWithin, findings_most, Tallies, Fields, LayoutFault}
 use Rattle.std.proofs.lemmas.List.Sums.{sum_by-append}
 use Rattle.sfi_image.specs.declared.want.Want.TheVariants as wants
 use Rattle.sfi_rules.proofs.Facts.{all_found, none_found}
@@ -90,14 +90,14 @@ gates_tally t n ps f gs found holds are count first bundles sandboxes few =
 
 -- ---- steps
 
-pub field_tallies : {T : List Finding → Type 0} (t : Tally) (x : Front) (s : List ℕ) (y : Front) (len : ℕ) → wants.Field len ≡ want_of x → Follows x s y → Tallies T t x → Tallies T t y
+pub field_tallies : {T : List Finding → Type 0} (t : Tally) (x : ImagePrefix) (s : List ℕ) (y : ImagePrefix) (len : ℕ) → wants.Field len ≡ want_of x → Follows x s y → Tallies T t x → Tallies T t y
 field_tallies t Empty s y len w h k = rw (h.2) (record { found = k.found; found_holds = k.found_holds; found_are = k.found_are; count = k.count; first = k.first; bundles = k.bundles; sandboxes = k.sandboxes; few = k.few })
 field_tallies t (AfterMagic kind) s y len w h k = rw (h.2) (record { found = k.found; found_holds = k.found_holds; found_are = k.found_are; count = k.count; first = k.first; bundles = k.bundles; sandboxes = k.sandboxes; few = k.few })
 field_tallies t (AfterCount kind n ps) s y len w h k = rw (h.3) (gates_tally t n ps h.0 [] k.found k.found_holds k.found_are k.count k.first k.bundles k.sandboxes k.few)
 field_tallies t (InGates n ps f gs) s y len w h k = rw (h.2) (gates_tally t n ps f (gs ++ h.0 ∷ []) k.found k.found_holds k.found_are k.count k.first k.bundles k.sandboxes k.few)
 field_tallies t x s y len w h k = absurd cc
 
-pub init_tallies : {T : List Finding → Type 0} (t : Tally) (x : Front) (s : List ℕ) (y : Front) (len : ℕ) → wants.Init len ≡ want_of x → IsRightFront x → Follows x s y → Tallies T t x → Tallies T t y
+pub init_tallies : {T : List Finding → Type 0} (t : Tally) (x : ImagePrefix) (s : List ℕ) (y : ImagePrefix) (len : ℕ) → wants.Init len ≡ want_of x → IsRightPrefix x → Follows x s y → Tallies T t x → Tallies T t y
 init_tallies t (InInit n ps f gs code init) s y len w right h k =
     rw (h) (init_tally t n ps f gs code (init ++ s) (record { found = k.found; found_holds = k.found_holds; within = k.found_are; count = k.count; first = k.first; bundles = k.bundles; sandboxes = k.sandboxes; few = k.few }) right.2)
 init_tallies t x s y len w right h k = absurd cc
@@ -110,7 +110,7 @@ pub record Adds (old new : Tally) (sandbox n : ℕ) (found : List Finding) : Typ
   pub few : length found ≤ findings_most * n
   pub first : (before : List Finding) → old.first ≡ slice_get before 0 → new.first ≡ slice_get (before ++ found) 0
 
--- the tally of a front in code leads to that after `n` bundles more, with what was found in them
+-- the tally of a prefix in code leads to that after `n` bundles more, with what was found in them
 pub code_tallies : {T U : List Finding → Type 0} (old new : Tally) (m : ℕ) (ps : List Part) (f : Fields) (gs : List Gate) (code s : List ℕ) (n : ℕ) (found : List Finding)
     → 0 < n → length s ≡ 16 * n
     → ((here : List Finding) → AreFindingsSoFar (length ps) f gs code here old.owed → AreFindingsSoFar (length ps) f gs (code ++ s) (here ++ found) new.owed)

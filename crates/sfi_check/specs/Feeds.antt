@@ -1,11 +1,11 @@
--- What an image is found to be piece by piece: what was found in its front, and what a feed keeps.
+-- What an image is found to be piece by piece: what was found in its prefix, and what a feed keeps.
 use Rattle.std.specs.Prelude.{◌≡◌, ℕ, ◌+◌, ◌*◌, ◌/◌, ◌<◌, ◌≤◌, ◌==◌, List, [], ◌++◌, length, cond, slice_get, ◌⊎◌, take, Option, Some, None}
 use Rattle.sfi_formats.specs.Limits.{bundle_size}
 use Rattle.sfi_image.specs.declared.part.Gate.{Gate}
 use Rattle.sfi_image.specs.declared.fields.Fields.{Fields}
 use Rattle.sfi_image.specs.Spelling.{Part}
-use Rattle.sfi_image.specs.Fronts.{Front, front, want_of, IsLess, part_of, HasFaultWhateverFollows}
-use Rattle.sfi_image.specs.Fronts.Front.{Empty, AfterMagic, AfterCount, InGates, InCode, InInit, Whole}
+use Rattle.sfi_image.specs.Prefixes.{ImagePrefix, prefix_bytes, want_of, IsLess, part_of, HasFaultWhateverFollows}
+use Rattle.sfi_image.specs.Prefixes.ImagePrefix.{Empty, AfterMagic, AfterCount, InGates, InCode, InInit, Whole}
 use Rattle.sfi_image.specs.declared.layout_reader.LayoutReader.{LayoutReader}
 use Rattle.sfi_image.specs.Keeping.{StandsFor, left, left_most}
 use Rattle.sfi_rules.specs.declared.finding.Finding.{Finding}
@@ -19,7 +19,7 @@ use Rattle.sfi_image.specs.declared.want.Next.TheVariants as next
 use Rattle.sfi_image.specs.declared.fault.LayoutFault.{LayoutFault}
 use Rattle.sfi_check.specs.declared.feed.Feed.{Feed}
 
--- ==== What was found in the front of an image, and where a reader of it stands.
+-- ==== What was found in the prefix of an image, and where a reader of it stands.
 
 -- what is owed after the code so far of a sandbox: what the tally keeps, and nothing before the first
 -- bundle
@@ -44,8 +44,8 @@ pub record AreFindingsWithin (ps : List Part) (f : Fields) (gs : List Gate) (cod
   pub here_are : AreFindingsSoFar (length ps) f gs code here kept
   pub found_is : found ≡ before ++ here
 
--- the findings of a front; `kept` is what the tally keeps as owed
-abbrev pub AreFrontFindings : Front → List Finding → Owed → Type 0
+-- the findings of a prefix; `kept` is what the tally keeps as owed
+abbrev pub AreFrontFindings : ImagePrefix → List Finding → Owed → Type 0
 AreFrontFindings Empty found kept = found ≡ []
 AreFrontFindings (AfterMagic format) found kept = found ≡ []
 AreFrontFindings (AfterCount format n ps) found kept = AreImageFindings ps found
@@ -54,8 +54,8 @@ AreFrontFindings (InCode n ps f gs code) found kept = AreFindingsWithin ps f gs 
 AreFrontFindings (InInit n ps f gs code init) found kept = AreFindingsWithin ps f gs code found kept
 AreFrontFindings (Whole ps) found kept = AreImageFindings ps found
 
--- how many bundles a front has
-abbrev pub front_bundles : Front → ℕ
+-- how many bundles a prefix has
+abbrev pub front_bundles : ImagePrefix → ℕ
 front_bundles Empty = 0
 front_bundles (AfterMagic format) = 0
 front_bundles (AfterCount format n ps) = bundle_count ps
@@ -64,8 +64,8 @@ front_bundles (InCode n ps f gs code) = bundle_count ps + length code / bundle_s
 front_bundles (InInit n ps f gs code init) = bundle_count ps + length code / bundle_size
 front_bundles (Whole ps) = bundle_count ps
 
--- how many sandboxes have a bundle in the front
-abbrev pub front_sandboxes : Front → ℕ
+-- how many sandboxes have a bundle in the prefix
+abbrev pub front_sandboxes : ImagePrefix → ℕ
 front_sandboxes Empty = 0
 front_sandboxes (AfterMagic format) = 0
 front_sandboxes (AfterCount format n ps) = length ps
@@ -74,8 +74,8 @@ front_sandboxes (InCode n ps f gs code) = cond (length code == 0) (length ps) (l
 front_sandboxes (InInit n ps f gs code init) = length ps + 1
 front_sandboxes (Whole ps) = length ps
 
--- the tally is that of the front, and `holds` is true of its findings
-pub record Tallies (holds : List Finding → Type 0) (t : Tally) (x : Front) : Type 0 where
+-- the tally is that of the prefix, and `holds` is true of its findings
+pub record Tallies (holds : List Finding → Type 0) (t : Tally) (x : ImagePrefix) : Type 0 where
   pub found : List Finding
   pub found_holds : holds found
   pub found_are : AreFrontFindings x found t.owed
@@ -88,15 +88,15 @@ pub record Tallies (holds : List Finding → Type 0) (t : Tally) (x : Front) : T
 -- the reader and the tally are those of the bytes so far, and `holds` is true of their findings
 pub record IsSoFar (holds : List Finding → Type 0) (r : LayoutReader) (t : Tally)
     (bytes : List ℕ) : Type 0 where
-  pub at : Front
+  pub at : ImagePrefix
   pub stands : StandsFor r at
-  pub bytes_are : bytes ≡ front at
+  pub bytes_are : bytes ≡ prefix_bytes at
   pub tallies : Tallies holds t at
   pub few : t.bundles + left r ≤ left_most
 
 -- the bytes end before what comes next is whole, and are fewer than 28
 pub record IsCut (r : LayoutReader) (len : ℕ) : Type 0 where
-  pub less : (x : Front) → StandsFor r x → IsLess len (want_of x)
+  pub less : (x : ImagePrefix) → StandsFor r x → IsLess len (want_of x)
   pub few : len < 28
 
 -- ==== What a feed knows of the bytes that it was fed.

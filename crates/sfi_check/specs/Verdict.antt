@@ -9,7 +9,7 @@ use Rattle.sfi_rules.specs.Findings.{AreImageFindings}
 use Rattle.sfi_check.specs.declared.refusal.Refusal.{Refusal}
 use Rattle.sfi_check.specs.declared.refusal.Refusal.TheVariants.{Layout, Findings, Memory}
 use Rattle.sfi_image.specs.Faults.{IsFault}
-use Rattle.sfi_image.specs.Fronts.{HasFaultWhateverFollows}
+use Rattle.sfi_image.specs.Prefixes.{HasFaultWhateverFollows}
 use Rattle.sfi_check.specs.declared.stream_answer.StreamAnswer.{StreamAnswer}
 use Rattle.sfi_check.specs.declared.stream_answer.StreamAnswer.TheVariants as answers
 use Rattle.sfi_safety.specs.Clean.{IsAccepted}

@@ -24,7 +24,7 @@ use Rattle.sfi_image.specs.Keeping.{left, StandsFor, Leads}
 use Rattle.sfi_check.specs.declared.feed.Feed.{Feed}
 use Rattle.sfi_check.specs.Feeds.{IsFedFinding, IsSoFar, IsCut}
 use Rattle.sfi_image.specs.declared.want.Next.TheVariants as next
-use Rattle.sfi_image.specs.Fronts.{Front, front, HasFaultWhateverFollows}
+use Rattle.sfi_image.specs.Prefixes.{ImagePrefix, prefix_bytes, HasFaultWhateverFollows}
 use Rattle.sfi_image.specs.declared.layout_reader.LayoutReader.{LayoutReader}
 use Rattle.sfi_check.specs.declared.stream_answer.StreamAnswer.TheVariants as answers
 use Rattle.sfi_check.specs.declared.ends.StepEnd.{StepEnd}
@@ -146,9 +146,9 @@ HoldsOfSome holds = (found : List Finding) × holds found
 -- the reader took these bytes, or they have a fault with all before them
 abbrev pub IsTakenOff : LayoutReader → LayoutReader → List ℕ → StepEnd → Type 0
 IsTakenOff old new bytes (steps.Took n) =
-    (n ≡ length bytes) × ((x : Front) → StandsFor old x → Leads x bytes new) × (left new < left old)
+    (n ≡ length bytes) × ((x : ImagePrefix) → StandsFor old x → Leads x bytes new) × (left new < left old)
 IsTakenOff old new bytes (steps.Fault k) =
-    (x : Front) → StandsFor old x → HasFaultWhateverFollows (front x ++ bytes) k
+    (x : ImagePrefix) → StandsFor old x → HasFaultWhateverFollows (prefix_bytes x ++ bytes) k
 IsTakenOff old new bytes steps.Short = ⊥
 IsTakenOff old new bytes steps.Whole = ⊥
 

@@ -1,6 +1,6 @@
 //! The judge: the verdict on bytes that are handed in piece by piece, without taking memory.
 ghost use Rattle.std.specs.Prelude.{◌≡◌, ◌≢◌, ℕ, ◌+◌, ◌<◌, ◌≤◌, List, [], ◌++◌, length, take, true, None};
-ghost use Rattle.sfi_image.specs.Fronts.{Front};
+ghost use Rattle.sfi_image.specs.Prefixes.{ImagePrefix};
 ghost use Rattle.sfi_image.specs.Keeping.{StandsFor};
 ghost use Rattle.sfi_rules.specs.declared.finding.Finding.{Finding};
 ghost use Rattle.sfi_check.specs.Verdict.{IsVerdictOn, AreHandedOver};
@@ -100,7 +100,7 @@ impl Feed {
 
     // How many bytes what comes next has, which begins with the held bytes; or how many may be held.
     fn wanted(&self) -> usize
-        requires front { (x : Front) × StandsFor self.now.reader x }
+        requires front { (x : ImagePrefix) × StandsFor self.now.reader x }
         requires cut { IsCut self.now.reader self.now.count }
         ensures more { self.now.count < result }
         ensures room { result ≤ 64 }

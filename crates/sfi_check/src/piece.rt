@@ -1,6 +1,6 @@
 //! Hands one piece of bytes to the reader and the scan.
 ghost use Rattle.std.specs.Prelude.{◌≡◌, ℕ, List, length};
-ghost use Rattle.sfi_image.specs.Fronts.{Front, want_of, IsLengthOf};
+ghost use Rattle.sfi_image.specs.Prefixes.{ImagePrefix, want_of, IsLengthOf};
 ghost use Rattle.sfi_image.specs.Keeping.{StandsFor};
 ghost use Rattle.sfi_check.specs.Feeds.{IsSoFar};
 ghost use Rattle.sfi_check.specs.private.{IsTakenOff, Steps, Goes, verdict_of};
@@ -16,7 +16,7 @@ use sfi_scan::{BundlePlace, FindingSink};
 /// Hands these bytes to the reader.
 #[inline(always)]
 fn take_bytes(reader: &mut LayoutReader, bytes: &[u8]) -> StepEnd
-    requires { (x : Front) × StandsFor reader.old x × IsLengthOf (length bytes.now) (want_of x) }
+    requires { (x : ImagePrefix) × StandsFor reader.old x × IsLengthOf (length bytes.now) (want_of x) }
     ensures { IsTakenOff reader.old reader.new bytes.now result }
 {
     match reader.take(bytes) {
@@ -37,7 +37,7 @@ fn take_code<F: FindingSink, const BLOCKS: bool>(
 ) -> StepEnd
     requires so_far { (first : F) × (so_far : List ℕ)
         × IsSoFar (λ found. F.takes first found sink.old) reader.old tally.old so_far }
-    requires next { (x : Front) → StandsFor reader.old x → Want.Bundle place.now ≡ want_of x }
+    requires next { (x : ImagePrefix) → StandsFor reader.old x → Want.Bundle place.now ≡ want_of x }
     ensures { (first : F) (so_far : List ℕ)
         → IsSoFar (λ found. F.takes first found sink.old) reader.old tally.old so_far
         → Steps (λ found. F.takes first found sink.new)

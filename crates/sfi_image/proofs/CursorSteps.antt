@@ -1,5 +1,5 @@
 -- What a cursor has read after each step, and what it hands out.
-use Rattle.sfi_image.proofs.Prelude.{◌≡◌, ◌≢◌, ℕ, zero, suc, ◌+◌, ◌*◌, ◌<◌, ◌≤◌, ◌-◌, List, [], ◌∷◌, ◌++◌, length, take, drop, take_all, length-drop, drop-drop, part, Some, refl, sym, ap, ◌∙◌, subst, arith, append_assoc, inl, inr, eqb_tells, All, All-head, All-tail, All-push, None, length_push, get_or_push, take_more, Result, Ok, Err, flat_map, slice_get, ne_eqb, eq-eqb, length-append, append-nil, Format, Gate, Fields, LayoutFault, Short, Trailing, Part, fields_of, number, fields, gate, AreFieldWords, AreGateWords, IsImage, IsFault, Front, front, head, want_of, spans, part_of, after_parts, after_init, after_code, after_gates, HasFaultWhateverFollows, AfterCount, InGates, InCode, InInit, Whole, LayoutReader, StandsFor, MayTake}
+use Rattle.sfi_image.proofs.Prelude.{◌≡◌, ◌≢◌, ℕ, zero, suc, ◌+◌, ◌*◌, ◌<◌, ◌≤◌, ◌-◌, List, [], ◌∷◌, ◌++◌, length, take, drop, take_all, length-drop, drop-drop, part, Some, refl, sym, ap, ◌∙◌, subst, arith, append_assoc, inl, inr, eqb_tells, All, All-head, All-tail, All-push, None, length_push, get_or_push, take_more, Result, Ok, Err, flat_map, slice_get, ne_eqb, eq-eqb, length-append, append-nil, Format, Gate, Fields, LayoutFault, Short, Trailing, Part, fields_of, number, fields, gate, AreFieldWords, AreGateWords, IsImage, IsFault, ImagePrefix, prefix_bytes, head, want_of, spans, part_of, after_parts, after_init, after_code, after_gates, HasFaultWhateverFollows, AfterCount, InGates, InCode, InInit, Whole, LayoutReader, StandsFor, MayTake}
 use Rattle.std.proofs.lemmas.Option.{slice_get_within, get_or_from_slice_get}
 use Rattle.std.proofs.Math.Seq.{take-append_seam}
 use Rattle.sfi_image.specs.declared.cursor.ImageCursor.{ImageCursor}
@@ -15,7 +15,7 @@ use Rattle.sfi_image.proofs.Standing.{region}
 use Rattle.sfi_image.proofs.Formats.{same_format}
 use Rattle.sfi_image.proofs.Following.{fields_again, parts_bytes, flat_gate, head_push}
 
--- ---- which front it is
+-- ---- which prefix it is
 
 pub more_gates : (n : ℕ) (ps : List Part) (f : Fields) (gs : List Gate) → length gs < f.gate_count → after_gates n ps f gs ≡ InGates n ps f gs
 more_gates n ps f gs lt = rw (ne_eqb (length gs) f.gate_count (λ e. omega arith)) refl
@@ -32,17 +32,17 @@ some_init n ps f gs code some = rw (ne_eqb 0 f.init_len (λ e. some (sym e))) re
 pub all_init : (n : ℕ) (ps : List Part) (f : Fields) (gs : List Gate) (code init : List ℕ) → length init ≡ f.init_len → after_init n ps f gs code init ≡ after_parts f.format n (ps ++ part_of f gs code init ∷ [])
 all_init n ps f gs code init e = rw (eq-eqb (length init) f.init_len e) refl
 
--- a cursor that has read one of two equal fronts has read the other
-pub at_front : {bytes : List ℕ} {x y : Front} {c : ImageCursor} → x ≡ y → HasRead bytes x c → HasRead bytes y c
-at_front {bytes = bytes} {c = c} e h = subst (λ (z : Front). HasRead bytes z c) e h
+-- a cursor that has read one of two equal prefixes has read the other
+pub at_front : {bytes : List ℕ} {x y : ImagePrefix} {c : ImageCursor} → x ≡ y → HasRead bytes x c → HasRead bytes y c
+at_front {bytes = bytes} {c = c} e h = subst (λ (z : ImagePrefix). HasRead bytes z c) e h
 
 -- ---- faults
 
 -- fewer bytes are left than may be taken
-pub short : (bytes : List ℕ) (x : Front) (c : ImageCursor) (len : ℕ) → HasRead bytes x c → MayTake c.reader len → length (unread c) < len → IsFault bytes Short
+pub short : (bytes : List ℕ) (x : ImagePrefix) (c : ImageCursor) (len : ℕ) → HasRead bytes x c → MayTake c.reader len → length (unread c) < len → IsFault bytes Short
 short bytes x c len h may lt = subst (λ (l : List ℕ). IsFault l Short) (sym h.bytes_are) (less c.reader x len (unread c) h.stands may lt)
   where
-    less : (r : LayoutReader) (x : Front) (len : ℕ) (rest : List ℕ) → StandsFor r x → MayTake r len → length rest < len → IsFault (front x ++ rest) Short
+    less : (r : LayoutReader) (x : ImagePrefix) (len : ℕ) (rest : List ℕ) → StandsFor r x → MayTake r len → length rest < len → IsFault (prefix_bytes x ++ rest) Short
     less r (InCode n ps f gs code) len rest h may lt =
         let inside = (rw (h.kept.0) at may.1).inside in
         let read = h.kept.1.code_read in
@@ -57,8 +57,8 @@ short bytes x c len h may lt = subst (λ (l : List ℕ). IsFault l Short) (sym h
     less r x len rest h may lt = cut_short x rest h.right (let is = rw (h.kept.0) at may.1 in omega arith)
 
 -- a fault of the bytes taken is one of all of them
-pub faulty : (bytes : List ℕ) (x : Front) (c : ImageCursor) (s rest : List ℕ) (k : LayoutFault) → HasRead bytes x c → unread c ≡ s ++ rest → HasFaultWhateverFollows (front x ++ s) k → IsFault bytes k
-faulty bytes x c s rest k h e f = subst (λ (l : List ℕ). IsFault l k) (append_assoc (front x) s rest ∙ ap (λ (l : List ℕ). front x ++ l) (sym e) ∙ sym h.bytes_are) (f rest)
+pub faulty : (bytes : List ℕ) (x : ImagePrefix) (c : ImageCursor) (s rest : List ℕ) (k : LayoutFault) → HasRead bytes x c → unread c ≡ s ++ rest → HasFaultWhateverFollows (prefix_bytes x ++ s) k → IsFault bytes k
+faulty bytes x c s rest k h e f = subst (λ (l : List ℕ). IsFault l k) (append_assoc (prefix_bytes x) s rest ∙ ap (λ (l : List ℕ). prefix_bytes x ++ l) (sym e) ∙ sym h.bytes_are) (f rest)
 
 -- what was at the front of bytes before these
 pub taken_front : (all s rest : List ℕ) → all ≡ s ++ rest → take (length all - length rest) all ≡ s
@@ -167,7 +167,7 @@ module _ (bytes : List ℕ) (format : Format) (n : ℕ) (ps : List Part) (c : Im
   pub image : want_of (after_parts format n ps) ≡ wants.End → unread c ≡ [] → IsImage bytes ps
   image end none =
       let w = at_end end in
-      subst (λ (l : List ℕ). IsImage l ps) (sym (w.bytes_are ∙ ap (λ (l : List ℕ). front (Whole ps) ++ l) none ∙ append-nil (front (Whole ps)))) (whole_is_image ps w.stands.right)
+      subst (λ (l : List ℕ). IsImage l ps) (sym (w.bytes_are ∙ ap (λ (l : List ℕ). prefix_bytes (Whole ps) ++ l) none ∙ append-nil (prefix_bytes (Whole ps)))) (whole_is_image ps w.stands.right)
 
   pub trailing : want_of (after_parts format n ps) ≡ wants.End → 0 < length (unread c) → IsFault bytes Trailing
   trailing end some =

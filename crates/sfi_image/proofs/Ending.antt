@@ -1,12 +1,12 @@
--- Where bytes end after a front.
-use Rattle.sfi_image.proofs.Prelude.{◌≡◌, ℕ, ◌+◌, ◌<◌, List, ◌++◌, length, refl, arith, append_assoc, inl, inr, flat_map, length-append, Gate, Fields, IsFault, Part, format_of, number, fields, gate, part, spelling, spans, front, head, IsRightFront, CutShort, Trails, WholeIsImage, Empty, AfterMagic, AfterCount, InGates, InCode, InInit, Whole}
+-- Where bytes end after a prefix.
+use Rattle.sfi_image.proofs.Prelude.{◌≡◌, ℕ, ◌+◌, ◌<◌, List, ◌++◌, length, refl, arith, append_assoc, inl, inr, flat_map, length-append, Gate, Fields, IsFault, Part, format_of, number, fields, gate, part, spelling, spans, prefix_bytes, head, IsRightPrefix, CutShort, Trails, WholeIsImage, Empty, AfterMagic, AfterCount, InGates, InCode, InInit, Whole}
 use Rattle.sfi_image.specs.declared.fault.LayoutFault.TheVariants as faults
 use Rattle.sfi_image.proofs.Standing.{region}
 use Rattle.sfi_image.proofs.Steps.{head_fault, body_fault}
 
 -- the code is cut short
-pub code_short : (n : ℕ) (ps : List Part) (f : Fields) (gs : List Gate) (code rest : List ℕ) → IsRightFront (InCode n ps f gs code) → length code + length rest < f.code_size
-    → IsFault (front (InCode n ps f gs code) ++ rest) faults.Short
+pub code_short : (n : ℕ) (ps : List Part) (f : Fields) (gs : List Gate) (code rest : List ℕ) → IsRightPrefix (InCode n ps f gs code) → length code + length rest < f.code_size
+    → IsFault (prefix_bytes (InCode n ps f gs code) ++ rest) faults.Short
 code_short n ps f gs code rest right less =
     let regroup : (head f.format n ps ++ (fields f ++ (flat_map gate gs ++ code))) ++ rest ≡ head f.format n ps ++ (fields f ++ (flat_map gate gs ++ (code ++ rest))) = simp append_assoc in
     rw (regroup) (body_fault n ps f gs (code ++ rest) faults.Short right.0 (inr (inr (right.1, omega (arith, length-append code rest), refl))))

@@ -1,5 +1,5 @@
 -- What holds of images, of their faults and regions: laws, and further lemmas, for proofs here and in the crates above.
-use Rattle.sfi_image.specs.Fronts.{CutShort, Trails, WholeIsImage}
+use Rattle.sfi_image.specs.Prefixes.{CutShort, Trails, WholeIsImage}
 use Rattle.sfi_image.specs.Laws.{OneImage, NeverBoth, OneFault, SomeReading}
 use Rattle.sfi_image.proofs.Ending as ending
 use Rattle.sfi_image.proofs.OneReading as reading

@@ -1,12 +1,12 @@
--- The bytes of fronts that follow one another, and that what they hold is right.
-use Rattle.sfi_image.proofs.Prelude.{◌≡◌, ℕ, ◌≤◌, List, [], ◌∷◌, ◌++◌, length, refl, sym, ap, ◌∙◌, subst, arith, append_assoc, inl, inr, eqb_tells, AllPairs, flat_map, flat_map-append, append-nil, All-push, Format, magic, Gate, Fields, Part, number, fields, fields_of, gate, part, AreApart, spans, spans_of, IsRightPart, AreOf, Front, front, head, IsHead, IsOpened, IsRightFront, part_of, after_parts, after_init, after_code, after_gates, Follows, Empty, AfterMagic, AfterCount, InGates, InCode, InInit, Whole}
+-- The bytes of prefixes that follow one another, and that what they hold is right.
+use Rattle.sfi_image.proofs.Prelude.{◌≡◌, ℕ, ◌≤◌, List, [], ◌∷◌, ◌++◌, length, refl, sym, ap, ◌∙◌, subst, arith, append_assoc, inl, inr, eqb_tells, AllPairs, flat_map, flat_map-append, append-nil, All-push, Format, magic, Gate, Fields, Part, number, fields, fields_of, gate, part, AreApart, spans, spans_of, IsRightPart, AreOf, ImagePrefix, prefix_bytes, head, IsHead, IsOpened, IsRightPrefix, part_of, after_parts, after_init, after_code, after_gates, Follows, Empty, AfterMagic, AfterCount, InGates, InCode, InInit, Whole}
 use Rattle.sfi_image.proofs.FieldTests.{right_part}
 use Rattle.sfi_image.proofs.Formats.{same_format}
 use Rattle.sfi_image.proofs.SpanLists.{spans_push}
 
 -- ---- bytes
 
-pub parts_bytes : (format : Format) (n : ℕ) (ps : List Part) → 1 ≤ n → AreOf format ps → front (after_parts format n ps) ≡ head format n ps
+pub parts_bytes : (format : Format) (n : ℕ) (ps : List Part) → 1 ≤ n → AreOf format ps → prefix_bytes (after_parts format n ps) ≡ head format n ps
 parts_bytes format n ps some are =
     elim (eqb_tells (length ps) n) [
       | inl h ↦ rw (h.0) (ap (λ (g : Format). head g (length ps) ps) (same_format ps are (omega (arith, h.1))) ∙ ap (λ (k : ℕ). head format k ps) h.1)
@@ -29,7 +29,7 @@ unfolding part
 part_bytes f gs code init g c i = ap (λ (h : Fields). fields h ++ (flat_map gate gs ++ (code ++ init))) (fields_again f gs code init g c i)
 
 pub init_bytes : (n : ℕ) (ps : List Part) (f : Fields) (gs : List Gate) (code init : List ℕ) → IsHead f.format n ps → length gs ≡ f.gate_count → length code ≡ f.code_size
-    → front (after_init n ps f gs code init) ≡ head f.format n ps ++ (fields f ++ (flat_map gate gs ++ (code ++ init)))
+    → prefix_bytes (after_init n ps f gs code init) ≡ head f.format n ps ++ (fields f ++ (flat_map gate gs ++ (code ++ init)))
 init_bytes n ps f gs code init before g c =
     elim (eqb_tells (length init) f.init_len) [
       | inl h ↦ rw (h.0) (
@@ -39,14 +39,14 @@ init_bytes n ps f gs code init before g c =
     ]
 
 pub code_bytes : (n : ℕ) (ps : List Part) (f : Fields) (gs : List Gate) (code : List ℕ) → IsHead f.format n ps → length gs ≡ f.gate_count
-    → front (after_code n ps f gs code) ≡ head f.format n ps ++ (fields f ++ (flat_map gate gs ++ code))
+    → prefix_bytes (after_code n ps f gs code) ≡ head f.format n ps ++ (fields f ++ (flat_map gate gs ++ code))
 code_bytes n ps f gs code before g =
     elim (eqb_tells (length code) f.code_size) [
       | inl h ↦ rw (h.0) (init_bytes n ps f gs code [] before g h.1 ∙ ap (λ (t : List ℕ). head f.format n ps ++ (fields f ++ (flat_map gate gs ++ t))) (append-nil code))
       | inr h ↦ rw (h.0) refl
     ]
 
-pub gates_bytes : (n : ℕ) (ps : List Part) (f : Fields) (gs : List Gate) → front (after_gates n ps f gs) ≡ head f.format n ps ++ (fields f ++ flat_map gate gs)
+pub gates_bytes : (n : ℕ) (ps : List Part) (f : Fields) (gs : List Gate) → prefix_bytes (after_gates n ps f gs) ≡ head f.format n ps ++ (fields f ++ flat_map gate gs)
 gates_bytes n ps f gs =
     elim (eqb_tells (length gs) f.gate_count) [
       | inl h ↦ rw (h.0) (ap (λ (t : List ℕ). head f.format n ps ++ (fields f ++ t)) (append-nil (flat_map gate gs)))
@@ -56,8 +56,8 @@ gates_bytes n ps f gs =
 pub flat_gate : (gs : List Gate) (g : Gate) → flat_map gate (gs ++ g ∷ []) ≡ flat_map gate gs ++ gate g
 flat_gate gs g = flat_map-append gate gs (g ∷ []) ∙ ap (λ (t : List ℕ). flat_map gate gs ++ t) (append-nil (gate g))
 
--- a front that follows another is that with the bytes
-pub following_bytes : (x : Front) (s : List ℕ) (y : Front) → IsRightFront x → Follows x s y → front y ≡ front x ++ s
+-- a prefix that follows another is that with the bytes
+pub following_bytes : (x : ImagePrefix) (s : List ℕ) (y : ImagePrefix) → IsRightPrefix x → Follows x s y → prefix_bytes y ≡ prefix_bytes x ++ s
 following_bytes Empty s y right h = rw (h.2) (sym h.1)
 following_bytes (AfterMagic format) s y right h = rw (h.2, h.1) (ap (λ (t : List ℕ). magic format ++ t) (append-nil (number h.0)))
 following_bytes (AfterCount format n ps) s y right h =

@@ -10,7 +10,7 @@ use Rattle.sfi_formats.specs.declared.format.Format.{Format}
 use Rattle.sfi_image.specs.declared.part.Gate.{Gate}
 use Rattle.sfi_image.specs.Spelling.{Part, fields_of, format_of}
 unfoldable use Rattle.sfi_image.specs.Spelling.{number, fields, gate, part, spelling}
-use Rattle.sfi_image.specs.Fronts.{head}
+use Rattle.sfi_image.specs.Prefixes.{head}
 use Rattle.sfi_image.specs.Parts.{IsImage}
 use Rattle.sfi_image.proofs.Cancelling.{length-fields, length-gate}
 use Rattle.sfi_image.proofs.Formats.{length-magic}

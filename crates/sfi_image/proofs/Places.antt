@@ -1,23 +1,23 @@
 -- What a reader stands for, by what it reads next; and what its numbers are there.
-use Rattle.sfi_image.proofs.Prelude.{◌≡◌, ℕ, ◌+◌, ◌-◌, ◌*◌, ◌^◌, ◌<◌, ◌≤◌, List, [], ◌∷◌, length, drop, refl, sym, ap, ◌∙◌, subst, arith, All, AllPairs, length-map, All-append, All-head, All-tail, Format, Gate, Fields, Part, fields_of, AreApart, spans, spans_of, IsBounded, IsRightPart, Front, want_of, IsLengthOf, AfterCount, InGates, InCode, InInit, Whole, LayoutReader, StandsFor, IsReader, MayTake, TakesLength, is_first, inr}
+use Rattle.sfi_image.proofs.Prelude.{◌≡◌, ℕ, ◌+◌, ◌-◌, ◌*◌, ◌^◌, ◌<◌, ◌≤◌, List, [], ◌∷◌, length, drop, refl, sym, ap, ◌∙◌, subst, arith, All, AllPairs, length-map, All-append, All-head, All-tail, Format, Gate, Fields, Part, fields_of, AreApart, spans, spans_of, IsBounded, IsRightPart, ImagePrefix, want_of, IsLengthOf, AfterCount, InGates, InCode, InInit, Whole, LayoutReader, StandsFor, IsReader, MayTake, TakesLength, is_first, inr}
 use Rattle.sfi_image.specs.declared.want.Next.TheVariants as next
 use Rattle.sfi_image.specs.declared.want.Want.TheVariants as wants
 use Rattle.sfi_image.proofs.SpanLists.{right_bounded}
 use Rattle.sfi_image.proofs.Standing.{region, first_is, front_of}
 
-by_fields : (r : LayoutReader) (x : Front) → StandsFor r x → r.next ≡ next.Fields → (format : Format) × (n : ℕ) × (ps : List Part) × StandsFor r (AfterCount format n ps)
+by_fields : (r : LayoutReader) (x : ImagePrefix) → StandsFor r x → r.next ≡ next.Fields → (format : Format) × (n : ℕ) × (ps : List Part) × StandsFor r (AfterCount format n ps)
 by_fields r (AfterCount format n ps) h is = (format, n, ps, h)
 by_fields r _ h is = let k = h.kept.0 in absurd cc
 
-by_gates : (r : LayoutReader) (x : Front) → StandsFor r x → r.next ≡ next.Gate → (n : ℕ) × (ps : List Part) × (f : Fields) × (gs : List Gate) × StandsFor r (InGates n ps f gs)
+by_gates : (r : LayoutReader) (x : ImagePrefix) → StandsFor r x → r.next ≡ next.Gate → (n : ℕ) × (ps : List Part) × (f : Fields) × (gs : List Gate) × StandsFor r (InGates n ps f gs)
 by_gates r (InGates n ps f gs) h is = (n, ps, f, gs, h)
 by_gates r _ h is = let k = h.kept.0 in absurd cc
 
-pub by_code : (r : LayoutReader) (x : Front) → StandsFor r x → r.next ≡ next.Code → (n : ℕ) × (ps : List Part) × (f : Fields) × (gs : List Gate) × (code : List ℕ) × StandsFor r (InCode n ps f gs code)
+pub by_code : (r : LayoutReader) (x : ImagePrefix) → StandsFor r x → r.next ≡ next.Code → (n : ℕ) × (ps : List Part) × (f : Fields) × (gs : List Gate) × (code : List ℕ) × StandsFor r (InCode n ps f gs code)
 by_code r (InCode n ps f gs code) h is = (n, ps, f, gs, code, h)
 by_code r _ h is = let k = h.kept.0 in absurd cc
 
-by_init : (r : LayoutReader) (x : Front) → StandsFor r x → r.next ≡ next.Init → (n : ℕ) × (ps : List Part) × (f : Fields) × (gs : List Gate) × (code : List ℕ) × (init : List ℕ) × StandsFor r (InInit n ps f gs code init)
+by_init : (r : LayoutReader) (x : ImagePrefix) → StandsFor r x → r.next ≡ next.Init → (n : ℕ) × (ps : List Part) × (f : Fields) × (gs : List Gate) × (code : List ℕ) × (init : List ℕ) × StandsFor r (InInit n ps f gs code init)
 by_init r (InInit n ps f gs code init) h is = (n, ps, f, gs, code, init, h)
 by_init r _ h is = let k = h.kept.0 in absurd cc
 
@@ -114,7 +114,7 @@ init_next r reader is =
 
 -- ---- what is wanted
 
-pub wants_bundle : (r : LayoutReader) (x : Front) → StandsFor r x → r.next ≡ next.Code
+pub wants_bundle : (r : LayoutReader) (x : ImagePrefix) → StandsFor r x → r.next ≡ next.Code
     → wants.Bundle (record {
       sandbox = r.begun - 1;
       address = r.fields.code_base + r.code_read;
@@ -130,7 +130,7 @@ wants_bundle r (InCode n ps f gs code) h is =
     rw (k.head.fields, k.head.begun, k.code_read, begun, first) refl
 wants_bundle r _ h is = let k = h.kept.0 in absurd cc
 
-takes_length : (r : LayoutReader) (x : Front) (len : ℕ) → StandsFor r x → IsLengthOf len (want_of x) → TakesLength r.next r.fields r.code_read r.init_read len
+takes_length : (r : LayoutReader) (x : ImagePrefix) (len : ℕ) → StandsFor r x → IsLengthOf len (want_of x) → TakesLength r.next r.fields r.code_read r.init_read len
 takes_length r (InInit n ps f gs code init) len h e =
     let room : len + length init ≤ f.init_len = omega (arith, e.0, e.1) in
     rw (h.kept.0, h.kept.1.fields, h.kept.2) (e.0, room)
@@ -141,5 +141,5 @@ takes_length r (Whole ps) len h e = absurd e
 takes_length r _ len h e = rw (h.kept.0) e
 
 -- as many bytes as come next may be taken
-pub may_take : (r : LayoutReader) (x : Front) (len : ℕ) → StandsFor r x → IsLengthOf len (want_of x) → MayTake r len
+pub may_take : (r : LayoutReader) (x : ImagePrefix) (len : ℕ) → StandsFor r x → IsLengthOf len (want_of x) → MayTake r len
 may_take r x len h e = (inr (x, h), takes_length r x len h e)

@@ -11,7 +11,7 @@ use Rattle.sfi_image.specs.declared.cursor.ImageCursor.{ImageCursor}
 use Rattle.sfi_image.specs.declared.cursor.PartView.{PartView}
 use Rattle.sfi_image.specs.Spelling.{Part}
 unfoldable use Rattle.sfi_image.specs.Spelling.{part}
-use Rattle.sfi_image.specs.Fronts.{head}
+use Rattle.sfi_image.specs.Prefixes.{head}
 use Rattle.sfi_image.specs.Parts.{IsImage}
 use Rattle.sfi_image.specs.Keeping.{HasPassed, IsViewOf, unread, IsSandboxOf, IsBeyond, sandbox_offset}
 use Rattle.sfi_image.proofs.CursorSteps.{passed_bytes}

@@ -1,5 +1,5 @@
--- Bytes have an image or a fault: a reader goes from front to front, to the image's end or to a fault.
-use Rattle.sfi_image.proofs.Prelude.{◌≡◌, ℕ, ◌+◌, ◌<◌, List, [], ◌∷◌, ◌++◌, length, take, drop, refl, sym, ap, subst, ◌∙◌, arith, append_assoc, zero, suc, inl, inr, ◌⊎◌, Some, None, Option, cases_lt, append-nil, take-append-drop, length-take, length-drop, Format, Sfi1, Sfi2, Sfiw, magic, LayoutFault, Magic, Count, Short, Trailing, Part, number, fields, gate, AreFieldWords, code_span, spans_of, IsFirstFault, field_tests, IsImage, IsFault, Front, front, HasFaultWhateverFollows, Empty, AfterMagic, AfterCount, InGates, InCode, InInit, Whole, LayoutReader, StandsFor, Leads, count_below, next_gate, next_code, next_init}
+-- Bytes have an image or a fault: a reader goes from prefix to prefix, to the image's end or to a fault.
+use Rattle.sfi_image.proofs.Prelude.{◌≡◌, ℕ, ◌+◌, ◌<◌, List, [], ◌∷◌, ◌++◌, length, take, drop, refl, sym, ap, subst, ◌∙◌, arith, append_assoc, zero, suc, inl, inr, ◌⊎◌, Some, None, Option, cases_lt, append-nil, take-append-drop, length-take, length-drop, Format, Sfi1, Sfi2, Sfiw, magic, LayoutFault, Magic, Count, Short, Trailing, Part, number, fields, gate, AreFieldWords, code_span, spans_of, IsFirstFault, field_tests, IsImage, IsFault, ImagePrefix, prefix_bytes, HasFaultWhateverFollows, Empty, AfterMagic, AfterCount, InGates, InCode, InInit, Whole, LayoutReader, StandsFor, Leads, count_below, next_gate, next_code, next_init}
 use Rattle.sfi_image.specs.Laws.{SomeReading}
 use Rattle.sfi_image.specs.declared.fault.LayoutFault.TheVariants.{Gates}
 use Rattle.sfi_image.specs.declared.want.Next.TheVariants as next
@@ -15,19 +15,19 @@ use Rattle.sfi_image.proofs.Ending.{cut_short, trails, whole_is_image}
 abbrev IsRead : List ℕ → Type 0
 IsRead bytes = ((ps : List Part) × IsImage bytes ps) ⊎ ((k : LayoutFault) × IsFault bytes k)
 
--- so are a front that a reader stands for and fewer than n bytes after it
+-- so are a prefix that a reader stands for and fewer than n bytes after it
 abbrev AreRead : ℕ → Type 0
-AreRead n = (r : LayoutReader) (x : Front) (rest : List ℕ) → StandsFor r x → IsBytes rest → length rest < n → IsRead (front x ++ rest)
+AreRead n = (r : LayoutReader) (x : ImagePrefix) (rest : List ℕ) → StandsFor r x → IsBytes rest → length rest < n → IsRead (prefix_bytes x ++ rest)
 
 -- bytes that lead on
-on : (n : ℕ) → AreRead n → (x : Front) (s more rest : List ℕ) (r : LayoutReader) → Leads x s r → rest ≡ s ++ more → length more < length rest → IsBytes more → length rest < suc n → IsRead (front x ++ rest)
+on : (n : ℕ) → AreRead n → (x : ImagePrefix) (s more rest : List ℕ) (r : LayoutReader) → Leads x s r → rest ≡ s ++ more → length more < length rest → IsBytes more → length rest < suc n → IsRead (prefix_bytes x ++ rest)
 on n further x s more rest r l is less small lt =
-    subst IsRead (ap (λ (t : List ℕ). t ++ more) l.bytes ∙ append_assoc (front x) s more ∙ ap (λ (t : List ℕ). front x ++ t) (sym is))
+    subst IsRead (ap (λ (t : List ℕ). t ++ more) l.bytes ∙ append_assoc (prefix_bytes x) s more ∙ ap (λ (t : List ℕ). prefix_bytes x ++ t) (sym is))
     (further r l.to more l.stands small (omega arith))
 
 -- bytes with a fault
-wrong : (x : Front) (s more rest : List ℕ) (k : LayoutFault) → HasFaultWhateverFollows (front x ++ s) k → rest ≡ s ++ more → IsRead (front x ++ rest)
-wrong x s more rest k fault is = inr (k, subst (λ (b : List ℕ). IsFault b k) (append_assoc (front x) s more ∙ ap (λ (t : List ℕ). front x ++ t) (sym is)) (fault more))
+wrong : (x : ImagePrefix) (s more rest : List ℕ) (k : LayoutFault) → HasFaultWhateverFollows (prefix_bytes x ++ s) k → rest ≡ s ++ more → IsRead (prefix_bytes x ++ rest)
+wrong x s more rest k fault is = inr (k, subst (λ (b : List ℕ). IsFault b k) (append_assoc (prefix_bytes x) s more ∙ ap (λ (t : List ℕ). prefix_bytes x ++ t) (sym is)) (fault more))
 
 some_magic : (s : List ℕ) → ((format : Format) × (s ≡ magic format)) ⊎ ((format : Format) → s ≡ magic format → ⊥)
 some_magic s =
@@ -49,7 +49,7 @@ some_magic s =
 
 -- the fields pass their tests, or fail one
 after_fields : (n : ℕ) → AreRead n → (r : LayoutReader) (format : Format) (count : ℕ) (ps : List Part) (rest : List ℕ) → StandsFor r (AfterCount format count ps) → length rest < suc n
-    → (f : Spelled fields AreFieldWords 28 rest) → f.item.format ≡ format → (found : Option LayoutFault) → IsFirstFault r.spans f.item field_tests found → IsRead (front (AfterCount format count ps) ++ rest)
+    → (f : Spelled fields AreFieldWords 28 rest) → f.item.format ≡ format → (found : Option LayoutFault) → IsFirstFault r.spans f.item field_tests found → IsRead (prefix_bytes (AfterCount format count ps) ++ rest)
 after_fields n further r format count ps rest h lt f kind (Some k) failed =
     wrong (AfterCount format count ps) (fields f.item) f.rest rest k (fields_fault r (AfterCount format count ps) (fields f.item) f.item k h h.kept.0 refl f.fits (kind ∙ sym h.kept.1.of) failed) f.bytes_are
 after_fields n further r format count ps rest h lt f kind None passed =
@@ -128,7 +128,7 @@ step n further r (InInit count ps f gs code init) rest h small lt =
           (init_leads r _ (InInit count ps f gs code init) s h h.kept.0 (omega arith) (omega arith) refl refl refl refl refl refl refl)
           (sym (take-append-drop 1 rest)) (omega (arith, some, length-drop 1 rest)) (IsBytes-drop 1 rest small) lt
     ]
-step n further r (Whole ps) [] h small lt = inl (ps, subst (λ (b : List ℕ). IsImage b ps) (sym (append-nil (front (Whole ps)))) (whole_is_image ps h.right))
+step n further r (Whole ps) [] h small lt = inl (ps, subst (λ (b : List ℕ). IsImage b ps) (sym (append-nil (prefix_bytes (Whole ps)))) (whole_is_image ps h.right))
 step n further r (Whole ps) (b ∷ rest) h small lt = inr (Trailing, trails ps (b ∷ rest) h.right (omega arith))
 
 are_read : (n : ℕ) → AreRead n

@@ -1,5 +1,5 @@
 -- What a reader stands for after each step.
-use Rattle.sfi_image.proofs.Prelude.{◌≡◌, ℕ, suc, ◌+◌, ◌*◌, ◌%◌, ◌<◌, ◌≤◌, ◌==◌, false, ◌^◌, List, [], ◌∷◌, ◌++◌, length, map, drop, refl, sym, ap, ◌∙◌, subst, arith, inl, inr, None, eqb_tells, All, AllPairs, cases_Bool, ltb-true, ne_eqb, length-drop, length_push, drop-drop, Format, magic, Gate, Fields, Span, Part, number, AreFieldWords, code_span, spans, spans_of, AreGates, is_gate_of, AreOf, AreRight, IsFirstFault, field_tests, Front, IsHead, IsOpened, IsRightFront, part_of, after_parts, after_init, after_code, after_gates, Follows, Empty, AfterMagic, AfterCount, LayoutReader, KeepsHead, KeepsFields, StandsFor, KeepsCode, IsReader, Leads, AreAhead, AreRest, is_one_of, next_part, next_init, next_code, next_gate, is_first, count_below}
+use Rattle.sfi_image.proofs.Prelude.{◌≡◌, ℕ, suc, ◌+◌, ◌*◌, ◌%◌, ◌<◌, ◌≤◌, ◌==◌, false, ◌^◌, List, [], ◌∷◌, ◌++◌, length, map, drop, refl, sym, ap, ◌∙◌, subst, arith, inl, inr, None, eqb_tells, All, AllPairs, cases_Bool, ltb-true, ne_eqb, length-drop, length_push, drop-drop, Format, magic, Gate, Fields, Span, Part, number, AreFieldWords, code_span, spans, spans_of, AreGates, is_gate_of, AreOf, AreRight, IsFirstFault, field_tests, ImagePrefix, IsHead, IsOpened, IsRightPrefix, part_of, after_parts, after_init, after_code, after_gates, Follows, Empty, AfterMagic, AfterCount, LayoutReader, KeepsHead, KeepsFields, StandsFor, KeepsCode, IsReader, Leads, AreAhead, AreRest, is_one_of, next_part, next_init, next_code, next_gate, is_first, count_below}
 use Rattle.std.proofs.Math.Bool.{or-false}
 use Rattle.std.proofs.Math.Dec.{ltb}
 use Rattle.std.proofs.lemmas.Bool.{ltb-false}
@@ -12,17 +12,17 @@ use Rattle.sfi_image.proofs.Formats.{code_at_most, same_format}
 use Rattle.sfi_image.proofs.Following.{fields_again, finished, following_bytes}
 
 -- one step, from where it leads
-pub leads : (x : Front) (s : List ℕ) (r : LayoutReader) (y : Front) → IsRightFront x → Follows x s y → StandsFor r y → Leads x s r
+pub leads : (x : ImagePrefix) (s : List ℕ) (r : LayoutReader) (y : ImagePrefix) → IsRightPrefix x → Follows x s y → StandsFor r y → Leads x s r
 leads x s r y right follows stands = record { to = y; stands = stands; follows = follows; bytes = following_bytes x s y right follows }
 
--- a front that a reader stands for, where it hasn't stopped
-pub front_of : (r : LayoutReader) (w : Next) → IsReader r → r.next ≡ w → (w ≡ next.Nothing → ⊥) → (x : Front) × StandsFor r x
+-- a prefix that a reader stands for, where it hasn't stopped
+pub front_of : (r : LayoutReader) (w : Next) → IsReader r → r.next ≡ w → (w ≡ next.Nothing → ⊥) → (x : ImagePrefix) × StandsFor r x
 front_of r w (inl stopped) is goes = absurd (goes (sym is ∙ stopped))
 front_of r w (inr x) is goes = x
 
 -- ---- magic and count
 
-pub magic_leads : (old new : LayoutReader) (x : Front) (s : List ℕ) (format : Format) → StandsFor old x → old.next ≡ next.Magic → s ≡ magic format
+pub magic_leads : (old new : LayoutReader) (x : ImagePrefix) (s : List ℕ) (format : Format) → StandsFor old x → old.next ≡ next.Magic → s ≡ magic format
     → new.next ≡ next.Count → new.spans ≡ old.spans → new.fields.format ≡ format → Leads x s new
 magic_leads old new Empty s format h is e to spans_are kind =
     leads Empty s new (AfterMagic format) tt (format, e, refl) (record { right = tt; kept = (to, spans_are ∙ h.kept.1, kind) })
@@ -34,7 +34,7 @@ none_of format = λ k d h. absurd (omega arith)
 none_right : AreRight []
 none_right = record { each = λ k d h. absurd (omega arith); apart = λ i j d h e. absurd (omega arith) }
 
-pub count_leads : (old : LayoutReader) (x : Front) (s : List ℕ) (n : ℕ) → StandsFor old x → old.next ≡ next.Count → s ≡ number n → 1 ≤ n → n ≤ 16
+pub count_leads : (old : LayoutReader) (x : ImagePrefix) (s : List ℕ) (n : ℕ) → StandsFor old x → old.next ≡ next.Count → s ≡ number n → 1 ≤ n → n ≤ 16
     → Leads x s (record old { next = next.Fields; count = n; begun = 0 })
 count_leads old (AfterMagic format) s n h is e low high =
     leads (AfterMagic format) s _ (AfterCount format n []) tt (n, e, refl) (record {

@@ -1,5 +1,5 @@
 -- Where a stretch of bundles ends that comes next.
-use Rattle.sfi_image.proofs.Prelude.{◌≡◌, ℕ, suc, ◌+◌, ◌-◌, ◌*◌, ◌%◌, ◌<◌, ◌≤◌, ◌==◌, true, List, [], ◌∷◌, length, drop, refl, sym, ap, ◌∙◌, subst, arith, inl, inr, cases_Bool, eqb-true, eq-eqb, All, Gate, Fields, Span, code_span, spans, IsBundleStart, is_gate_of, IsLongestStretch, IsStretchLength, Front, InCode, LayoutReader, StandsFor, IsReader, ◌^◌, Part, AreRest, count_below, first_or}
+use Rattle.sfi_image.proofs.Prelude.{◌≡◌, ℕ, suc, ◌+◌, ◌-◌, ◌*◌, ◌%◌, ◌<◌, ◌≤◌, ◌==◌, true, List, [], ◌∷◌, length, drop, refl, sym, ap, ◌∙◌, subst, arith, inl, inr, cases_Bool, eqb-true, eq-eqb, All, Gate, Fields, Span, code_span, spans, IsBundleStart, is_gate_of, IsLongestStretch, IsStretchLength, ImagePrefix, InCode, LayoutReader, StandsFor, IsReader, ◌^◌, Part, AreRest, count_below, first_or}
 use Rattle.sfi_image.specs.declared.want.Next.TheVariants as next
 use Rattle.sfi_image.proofs.Standing.{Region, front_of, none_before, region, rest_from}
 use Rattle.sfi_image.proofs.Places.{by_code}
@@ -37,7 +37,7 @@ by_ahead f gs at len (g ∷ more) reg starts low high even rest is =
     }
 
 -- where the next gate after the first bundle lies
-pub stretch_kept : (r : LayoutReader) (x : Front) (len : ℕ) → StandsFor r x → r.next ≡ next.Code
+pub stretch_kept : (r : LayoutReader) (x : ImagePrefix) (len : ℕ) → StandsFor r x → r.next ≡ next.Code
     → len ≡ first_or (r.fields.code_base + r.fields.code_size) (drop (r.passed + count_below (r.fields.code_base + r.code_read + 16) (drop r.passed r.gates)) r.gates) - (r.fields.code_base + r.code_read)
     → IsStretchLength x len
 stretch_kept r (InCode n ps f gs code) len h is e =

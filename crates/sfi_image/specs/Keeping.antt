@@ -11,15 +11,15 @@ use Rattle.sfi_image.specs.declared.want.Next.{Next}
 use Rattle.sfi_image.specs.declared.want.Next.TheVariants as next
 use Rattle.sfi_image.specs.Spelling.{Part, format_of, fields_of, gate, AreGateWords, part, magic_bytes, number_bytes, spans, spans_of}
 use Rattle.sfi_image.specs.Parts.{is_gate_of, AreOf, IsImage}
-use Rattle.sfi_image.specs.Fronts.{Front, front, IsRightFront, Follows, after_parts}
-use Rattle.sfi_image.specs.Fronts.Front.{Empty, AfterMagic, AfterCount, InGates, InCode, InInit, Whole}
+use Rattle.sfi_image.specs.Prefixes.{ImagePrefix, prefix_bytes, IsRightPrefix, Follows, after_parts}
+use Rattle.sfi_image.specs.Prefixes.ImagePrefix.{Empty, AfterMagic, AfterCount, InGates, InCode, InInit, Whole}
 use Rattle.std.specs.List.{All, flat_map}
 use Rattle.sfi_image.specs.declared.cursor.ImageCursor.{ImageCursor}
 use Rattle.sfi_image.specs.declared.cursor.PartView.{PartView}
 
--- ==== What a reader in fixed arrays keeps of the front that it has read.
+-- ==== What a reader in fixed arrays keeps of the prefix that it has read.
 
--- ---- of which fronts: `StandsFor`, and its parts, which only private contracts name themselves
+-- ---- of which prefixes: `StandsFor`, and its parts, which only private contracts name themselves
 
 -- the reader keeps what follows from the format, the count and these whole sandboxes
 pub record KeepsHead (r : LayoutReader) (format : Format) (n : ℕ) (ps : List Part) : Type 0 where
@@ -62,8 +62,8 @@ pub record KeepsCode (r : LayoutReader) (n : ℕ) (ps : List Part) (f : Fields) 
   pub passed : r.passed ≤ length r.gates
   pub rest : AreRest (f.code_base + length code) gs (drop r.passed r.gates)
 
--- what the reader keeps is that of the front
-abbrev pub Keeps : LayoutReader → Front → Type 0
+-- what the reader keeps is that of the prefix
+abbrev pub Keeps : LayoutReader → ImagePrefix → Type 0
 Keeps r Empty = (r.next ≡ next.Magic) × (r.spans ≡ [])
 Keeps r (AfterMagic format) = (r.next ≡ next.Count) × (r.spans ≡ []) × (r.fields.format ≡ format)
 Keeps r (AfterCount format n ps) = (r.next ≡ next.Fields) × KeepsHead r format n ps
@@ -74,9 +74,9 @@ Keeps r (InInit n ps f gs code init) =
     (r.next ≡ next.Init) × KeepsFields r n ps f gs × (r.init_read ≡ length init)
 Keeps r (Whole ps) = (r.next ≡ next.End) × (r.fields.format ≡ format_of ps)
 
--- the reader has read this front, and all of it passed its tests
-pub record StandsFor (r : LayoutReader) (x : Front) : Type 0 where
-  pub right : IsRightFront x
+-- the reader has read this prefix, and all of it passed its tests
+pub record StandsFor (r : LayoutReader) (x : ImagePrefix) : Type 0 where
+  pub right : IsRightPrefix x
   pub kept : Keeps r x
 
 -- the reader has met a fault, after which nothing is wanted
@@ -85,12 +85,12 @@ HasStopped r = r.next ≡ next.Nothing
 
 -- ---- one step
 
--- the reader now stands for the front that front `x` and then these bytes make
-pub record Leads (x : Front) (s : List ℕ) (r : LayoutReader) : Type 0 where
-  pub to : Front
+-- the reader now stands for the prefix that prefix `x` and then these bytes make
+pub record Leads (x : ImagePrefix) (s : List ℕ) (r : LayoutReader) : Type 0 where
+  pub to : ImagePrefix
   pub stands : StandsFor r to
   pub follows : Follows x s to
-  pub bytes : front to ≡ front x ++ s
+  pub bytes : prefix_bytes to ≡ prefix_bytes x ++ s
 
 -- ---- how much a reader has still to do
 
@@ -129,10 +129,10 @@ left r = left_by r.next r
 abbrev pub unread : ImageCursor → List ℕ
 unread c = c.rest.now
 
--- the cursor has read this front of the bytes, which passes its tests
-pub record HasRead (bytes : List ℕ) (x : Front) (c : ImageCursor) : Type 0 where
+-- the cursor has read this prefix of the bytes, which passes its tests
+pub record HasRead (bytes : List ℕ) (x : ImagePrefix) (c : ImageCursor) : Type 0 where
   pub stands : StandsFor c.reader x
-  pub bytes_are : bytes ≡ front x ++ unread c
+  pub bytes_are : bytes ≡ prefix_bytes x ++ unread c
 
 -- the cursor has read the format's magic, the count and these whole sandboxes, with which the bytes
 -- begin

@@ -2,7 +2,7 @@ pub mod Spelling
 pub mod Parts
 pub mod Faults
 pub mod Laws
-pub mod Fronts
+pub mod Prefixes
 pub mod Keeping
 pub mod Sources
 pub mod private

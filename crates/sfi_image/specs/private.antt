@@ -3,7 +3,7 @@ use Rattle.std.specs.Prelude.{◌≡◌, ℕ, List, ◌++◌, length, Result, Ok
 use Rattle.sfi_image.specs.declared.fault.LayoutFault.{LayoutFault}
 use Rattle.sfi_image.specs.declared.cursor.ImageCursor.{ImageCursor}
 use Rattle.sfi_image.specs.Keeping.{HasRead, unread, HasStopped, Leads, LayoutReader, StandsFor}
-use Rattle.sfi_image.specs.Fronts.{Front, Follows, front, AreBundlesWithin, HasFaultWhateverFollows}
+use Rattle.sfi_image.specs.Prefixes.{ImagePrefix, Follows, prefix_bytes, AreBundlesWithin, HasFaultWhateverFollows}
 use Rattle.sfi_image.specs.declared.fields.Fields.{Fields}
 use Rattle.sfi_image.specs.declared.want.Want.{Want}
 use Rattle.sfi_image.specs.declared.want.Want.TheVariants as wants
@@ -23,13 +23,13 @@ abbrev pub Gives :
 Gives Found Faulty (Ok x) = Found x
 Gives Found Faulty (Err k) = Faulty k
 
--- the next `len` bytes, `s`, were read: the cursor has now read the front that follows `x` with
+-- the next `len` bytes, `s`, were read: the cursor has now read the prefix that follows `x` with
 -- them
-pub record LeadsOn (bytes : List ℕ) (x : Front) (len : ℕ) (s : List ℕ) (old new : ImageCursor)
+pub record LeadsOn (bytes : List ℕ) (x : ImagePrefix) (len : ℕ) (s : List ℕ) (old new : ImageCursor)
     : Type 0 where
   pub len_is : length s ≡ len
   pub taken : unread old ≡ s ++ unread new
-  pub to : Front
+  pub to : ImagePrefix
   pub follows : Follows x s to
   pub read : HasRead bytes to new
 
@@ -85,20 +85,20 @@ TakesLength next.Init f code init len = (1 ≤ len) × (len + init ≤ f.init_le
 TakesLength next.End f code init len = ⊥
 TakesLength next.Nothing f code init len = ⊥
 
--- a reader that was handed bytes from the start stands for a front, or has met a fault
+-- a reader that was handed bytes from the start stands for a prefix, or has met a fault
 abbrev pub IsReader : LayoutReader → Type 0
-IsReader r = HasStopped r ⊎ ((x : Front) × StandsFor r x)
+IsReader r = HasStopped r ⊎ ((x : ImagePrefix) × StandsFor r x)
 
 -- `len` bytes may be taken in this state
 abbrev pub MayTake : LayoutReader → ℕ → Type 0
 MayTake r len = IsReader r × TakesLength r.next r.fields r.code_read r.init_read len
 
--- With no fault, the new reader stands for each front that the old one stood for, with these bytes
--- after it. With a fault, each of those fronts has that fault with these bytes, whatever follows.
+-- With no fault, the new reader stands for each prefix that the old one stood for, with these bytes
+-- after it. With a fault, each of those prefixes has that fault with these bytes, whatever follows.
 abbrev pub Takes : LayoutReader → List ℕ → LayoutReader → Option LayoutFault → Type 0
-Takes old s new None = (x : Front) → StandsFor old x → Leads x s new
+Takes old s new None = (x : ImagePrefix) → StandsFor old x → Leads x s new
 Takes old s new (Some k) =
-    HasStopped new × ((x : Front) → StandsFor old x → HasFaultWhateverFollows (front x ++ s) k)
+    HasStopped new × ((x : ImagePrefix) → StandsFor old x → HasFaultWhateverFollows (prefix_bytes x ++ s) k)
 
 -- ==== What a read of part of an image answers.
 

@@ -6,8 +6,8 @@ ghost use Rattle.sfi_image.specs.declared.part.Gate.{Gate};
 ghost use Rattle.sfi_image.specs.Spelling.{Part, gate};
 ghost use Rattle.sfi_image.specs.Parts.{IsImage};
 ghost use Rattle.sfi_image.specs.Faults.{IsFault};
-ghost use Rattle.sfi_image.specs.Fronts.{Front, after_gates, after_code, after_init, after_parts, part_of};
-ghost use Rattle.sfi_image.specs.Fronts.Front.{AfterCount, InCode};
+ghost use Rattle.sfi_image.specs.Prefixes.{ImagePrefix, after_gates, after_code, after_init, after_parts, part_of};
+ghost use Rattle.sfi_image.specs.Prefixes.ImagePrefix.{AfterCount, InCode};
 ghost use Rattle.sfi_image.specs.Keeping.{HasPassed, HasRead, IsViewOf, unread};
 ghost use Rattle.sfi_image.specs.private.{MayTake};
 ghost use Rattle.sfi_image.specs.private.{Gives, LeadsOn};
@@ -138,7 +138,7 @@ impl<'a> ImageCursor<'a> {
     // Hands the next `len` bytes to the reader, and returns them.
     fn take(&mut self, len: usize) -> Result<&'a [u8], LayoutFault>
         requires { MayTake self.old.reader len }
-        ensures { (bytes : List ℕ) (x : Front) → HasRead bytes x self.old
+        ensures { (bytes : List ℕ) (x : ImagePrefix) → HasRead bytes x self.old
             → Gives (λ s. LeadsOn bytes x len s.now self.old self.new) (IsFault bytes) result }
     {
         if self.rest.len() < len {

@@ -2,8 +2,8 @@
 ghost use Rattle.std.specs.Prelude.{◌≡◌, ◌≢◌, ℕ, ◌+◌, ◌-◌, ◌<◌, ◌≤◌, ◌↔◌, ◌*◌, ◌++◌, ◌∷◌, [], List, length, map, drop, cond, ◌==◌, IsTrue, IfSome, IfNone, false};
 ghost use Rattle.sfi_formats.specs.Limits.{bundle_size};
 ghost use Rattle.sfi_image.specs.declared.fault.LayoutFault.{LayoutFault};
-ghost use Rattle.sfi_image.specs.Fronts.{Front, front, want_of, AreBundlesWithin, IsLengthOf, IsStretchLength, HasFaultWhateverFollows};
-ghost use Rattle.sfi_image.specs.Fronts.Front.{Empty};
+ghost use Rattle.sfi_image.specs.Prefixes.{ImagePrefix, prefix_bytes, want_of, AreBundlesWithin, IsLengthOf, IsStretchLength, HasFaultWhateverFollows};
+ghost use Rattle.sfi_image.specs.Prefixes.ImagePrefix.{Empty};
 ghost use Rattle.sfi_image.specs.Keeping.{StandsFor, HasStopped, Leads, left};
 ghost use Rattle.sfi_image.specs.private.{IsReader, MayTake, Takes, as_want, count_below, first_or, is_first, next_part, next_init, next_code, next_gate};
 
@@ -169,7 +169,7 @@ impl LayoutReader {
     /// What comes next.
     #[inline]
     pub fn wants(&self) -> Want
-        ensures want { (x : Front) → StandsFor self.now x → result ≡ want_of x }
+        ensures want { (x : ImagePrefix) → StandsFor self.now x → result ≡ want_of x }
         ensures stopped { HasStopped self.now → result ≡ Want.Nothing }
     {
         if let Next::Code = self.next {
@@ -196,7 +196,7 @@ impl LayoutReader {
     #[inline(never)]
     fn wants_no_bundle(&self) -> OtherWant
         requires { self.now.next ≢ Next.Code }
-        ensures want { (x : Front) → StandsFor self.now x → as_want result ≡ want_of x }
+        ensures want { (x : ImagePrefix) → StandsFor self.now x → as_want result ≡ want_of x }
         ensures stopped { HasStopped self.now → result ≡ OtherWant.Nothing }
     {
         match self.next {
@@ -217,7 +217,7 @@ impl LayoutReader {
     /// the code region's end: none where no code comes next.
     #[inline(never)]
     pub fn stretch_length(&self) -> usize
-        ensures length { (x : Front) → StandsFor self.now x → IsStretchLength x result }
+        ensures length { (x : ImagePrefix) → StandsFor self.now x → IsStretchLength x result }
         ensures stopped { HasStopped self.now → result ≡ 0 }
     {
         let Next::Code = self.next else {
@@ -236,12 +236,12 @@ impl LayoutReader {
     /// code region. The answer is the first test that fails, if one does; then nothing is wanted any more.
     #[inline]
     pub fn take(&mut self, bytes: &[u8]) -> Option<LayoutFault>
-        requires { (x : Front) × StandsFor self.old x × IsLengthOf (length bytes.now) (want_of x) }
+        requires { (x : ImagePrefix) × StandsFor self.old x × IsLengthOf (length bytes.now) (want_of x) }
         ensures goes_on { IfNone result
-            ((x : Front) → StandsFor self.old x → Leads x bytes.now self.new) }
+            ((x : ImagePrefix) → StandsFor self.old x → Leads x bytes.now self.new) }
         ensures fault { IfSome result (λ k.
-            (x : Front) → StandsFor self.old x
-            → HasFaultWhateverFollows (front x ++ bytes.now) k) }
+            (x : ImagePrefix) → StandsFor self.old x
+            → HasFaultWhateverFollows (prefix_bytes x ++ bytes.now) k) }
         ensures stopped { IfSome result (λ k. HasStopped self.new) }
         ensures falls { left self.new < left self.old }
         ensures code { self.old.next ≡ Next.Code →

@@ -13,7 +13,7 @@ use Rattle.sfi_image.specs.declared.fault.LayoutFault.{LayoutFault}
 use Rattle.sfi_image.specs.declared.part.Gate.{Gate}
 use Rattle.sfi_image.specs.Spelling.{Part, format_of, IsWord, AreWords, AreGateWords}
 unfoldable use Rattle.sfi_image.specs.Spelling.{number, part, spelling}
-use Rattle.sfi_image.specs.Fronts.{head}
+use Rattle.sfi_image.specs.Prefixes.{head}
 use Rattle.sfi_image.specs.Faults.{IsFault}
 use Rattle.sfi_image.specs.Parts.{IsImage, IsRightPart, IsRightLayout, IsCodeRegion}
 use Rattle.sfi_image.proofs.Bundles.{right_words}

@@ -1,15 +1,15 @@
-use Rattle.sfi_image.proofs.Prelude.{◌++◌, length, List, ℕ, Option, Some, None, Front, front, HasFaultWhateverFollows, LayoutFault, LayoutReader, StandsFor, Leads}
+use Rattle.sfi_image.proofs.Prelude.{◌++◌, length, List, ℕ, Option, Some, None, ImagePrefix, prefix_bytes, HasFaultWhateverFollows, LayoutFault, LayoutReader, StandsFor, Leads}
 use Rattle.std.specs.Prelude.{IfSome, IfNone}
 use Rattle.sfi_image.specs.Keeping.{HasStopped}
 use Rattle.sfi_image.specs.private.{Takes}
 use Rattle.sfi_image.proofs.Places.{may_take}
 use Rattle.sfi_image.proofs.layout_reader.LayoutReader.take.Goals as goal
 
-goes_on : (old new : LayoutReader) (s : List ℕ) (r : Option LayoutFault) → Takes old s new r → IfNone r ((x : Front) → StandsFor old x → Leads x s new)
+goes_on : (old new : LayoutReader) (s : List ℕ) (r : Option LayoutFault) → Takes old s new r → IfNone r ((x : ImagePrefix) → StandsFor old x → Leads x s new)
 goes_on old new s None t = t
 goes_on old new s (Some k) t = tt
 
-fault : (old new : LayoutReader) (s : List ℕ) (r : Option LayoutFault) → Takes old s new r → IfSome r (λ k. (x : Front) → StandsFor old x → HasFaultWhateverFollows (front x ++ s) k)
+fault : (old new : LayoutReader) (s : List ℕ) (r : Option LayoutFault) → Takes old s new r → IfSome r (λ k. (x : ImagePrefix) → StandsFor old x → HasFaultWhateverFollows (prefix_bytes x ++ s) k)
 fault old new s None t = tt
 fault old new s (Some k) t = t.1
 

@@ -1,4 +1,4 @@
--- The front of an image: as much of it as has been read, from its first byte on.
+-- A prefix of an image: as much of it as has been read, from its first byte on.
 use Rattle.std.specs.Prelude.{◌≡◌, ℕ, ◌+◌, ◌-◌, ◌*◌, ◌%◌, ◌<◌, ◌≤◌, ◌⊎◌, ◌==◌, true, false, List, [], ◌∷◌, ◌++◌, length, cond, None}
 use Rattle.std.specs.List.{All, flat_map}
 use Rattle.sfi_formats.specs.Limits.{bundle_size, sandboxes_most}
@@ -17,14 +17,14 @@ use Rattle.sfi_image.specs.Faults.{IsFault}
 -- What was read: nothing; the magic of a format; then the count and some whole sandboxes, after
 -- which another comes; of that one the fields and its gates so far; all its gates, and its code so
 -- far; all its code, and its first data bytes so far; or the whole image.
-pub data Front : Type 0 where
-  Empty : Front
-  AfterMagic : Format → Front
-  AfterCount : Format → ℕ → List Part → Front
-  InGates : ℕ → List Part → Fields → List Gate → Front
-  InCode : ℕ → List Part → Fields → List Gate → List ℕ → Front
-  InInit : ℕ → List Part → Fields → List Gate → List ℕ → List ℕ → Front
-  Whole : List Part → Front
+pub data ImagePrefix : Type 0 where
+  Empty : ImagePrefix
+  AfterMagic : Format → ImagePrefix
+  AfterCount : Format → ℕ → List Part → ImagePrefix
+  InGates : ℕ → List Part → Fields → List Gate → ImagePrefix
+  InCode : ℕ → List Part → Fields → List Gate → List ℕ → ImagePrefix
+  InInit : ℕ → List Part → Fields → List Gate → List ℕ → List ℕ → ImagePrefix
+  Whole : List Part → ImagePrefix
 
 -- ---- bytes
 
@@ -32,18 +32,18 @@ pub data Front : Type 0 where
 abbrev pub head : Format → ℕ → List Part → List ℕ
 head format n ps = magic format ++ (number n ++ flat_map part ps)
 
--- the bytes of a front
-abbrev pub front : Front → List ℕ
-front Empty = []
-front (AfterMagic format) = magic format
-front (AfterCount format n ps) = head format n ps
-front (InGates n ps f gs) = head f.format n ps ++ (fields f ++ flat_map gate gs)
-front (InCode n ps f gs code) = head f.format n ps ++ (fields f ++ (flat_map gate gs ++ code))
-front (InInit n ps f gs code init) =
+-- the bytes of a prefix
+abbrev pub prefix_bytes : ImagePrefix → List ℕ
+prefix_bytes Empty = []
+prefix_bytes (AfterMagic format) = magic format
+prefix_bytes (AfterCount format n ps) = head format n ps
+prefix_bytes (InGates n ps f gs) = head f.format n ps ++ (fields f ++ flat_map gate gs)
+prefix_bytes (InCode n ps f gs code) = head f.format n ps ++ (fields f ++ (flat_map gate gs ++ code))
+prefix_bytes (InInit n ps f gs code init) =
     head f.format n ps ++ (fields f ++ (flat_map gate gs ++ (code ++ init)))
-front (Whole ps) = head (format_of ps) (length ps) ps
+prefix_bytes (Whole ps) = head (format_of ps) (length ps) ps
 
--- ---- which fronts passed the tests
+-- ---- which prefixes passed the tests
 
 -- the count is from 1 to the most, and the sandboxes are of the format and right
 pub record IsHead (format : Format) (n : ℕ) (ps : List Part) : Type 0 where
@@ -63,22 +63,22 @@ pub record IsOpened (n : ℕ) (ps : List Part) (f : Fields) (gs : List Gate) : T
 
 -- all that was read passes its tests, and where something isn't whole, another sandbox, gate or
 -- byte comes
-abbrev pub IsRightFront : Front → Type 0
-IsRightFront Empty = Unit {0}
-IsRightFront (AfterMagic format) = Unit {0}
-IsRightFront (AfterCount format n ps) = IsHead format n ps × (length ps < n)
-IsRightFront (InGates n ps f gs) = IsOpened n ps f gs × (length gs < f.gate_count)
-IsRightFront (InCode n ps f gs code) = IsOpened n ps f gs × (length gs ≡ f.gate_count)
+abbrev pub IsRightPrefix : ImagePrefix → Type 0
+IsRightPrefix Empty = Unit {0}
+IsRightPrefix (AfterMagic format) = Unit {0}
+IsRightPrefix (AfterCount format n ps) = IsHead format n ps × (length ps < n)
+IsRightPrefix (InGates n ps f gs) = IsOpened n ps f gs × (length gs < f.gate_count)
+IsRightPrefix (InCode n ps f gs code) = IsOpened n ps f gs × (length gs ≡ f.gate_count)
     × (length code % bundle_size ≡ 0) × (length code < f.code_size)
-IsRightFront (InInit n ps f gs code init) =
+IsRightPrefix (InInit n ps f gs code init) =
     IsOpened n ps f gs × (length gs ≡ f.gate_count) × (length code ≡ f.code_size)
     × (length init < f.init_len)
-IsRightFront (Whole ps) = IsHead (format_of ps) (length ps) ps
+IsRightPrefix (Whole ps) = IsHead (format_of ps) (length ps) ps
 
 -- ---- what comes next
 
--- what is read next after a front
-abbrev pub want_of : Front → Want
+-- what is read next after a prefix
+abbrev pub want_of : ImagePrefix → Want
 want_of Empty = wants.Field magic_bytes
 want_of (AfterMagic format) = wants.Field number_bytes
 want_of (AfterCount format n ps) = wants.Field fields_bytes
@@ -111,8 +111,8 @@ pub record IsLongestStretch (f : Fields) (gs : List Gate) (at len : ℕ) : Type 
       (i : ℕ) → 0 < i → bundle_size * i < len → is_gate_of gs (at + bundle_size * i) ≡ false
   pub ends : (at + len ≡ f.code_base + f.code_size) ⊎ (is_gate_of gs (at + len) ≡ true)
 
--- after the front a stretch of `len` bytes comes next, or no code does and `len` is 0
-abbrev pub IsStretchLength : Front → ℕ → Type 0
+-- after the prefix a stretch of `len` bytes comes next, or no code does and `len` is 0
+abbrev pub IsStretchLength : ImagePrefix → ℕ → Type 0
 IsStretchLength (InCode n ps f gs code) len = IsLongestStretch f gs (f.code_base + length code) len
 IsStretchLength Empty len = len ≡ 0
 IsStretchLength (AfterMagic format) len = len ≡ 0
@@ -121,7 +121,7 @@ IsStretchLength (InGates n ps f gs) len = len ≡ 0
 IsStretchLength (InInit n ps f gs code init) len = len ≡ 0
 IsStretchLength (Whole ps) len = len ≡ 0
 
--- ---- how a front goes on: `Follows`, and its parts, which only private contracts name themselves
+-- ---- how a prefix goes on: `Follows`, and its parts, which only private contracts name themselves
 
 -- the sandbox with these fields, gates, code and first data bytes
 abbrev pub part_of : Fields → List Gate → List ℕ → List ℕ → Part
@@ -136,27 +136,27 @@ part_of f gs code init = record {
   init = init;
 }
 
--- the front after the whole sandboxes `ps`, of `n` in all
-abbrev pub after_parts : Format → ℕ → List Part → Front
+-- the prefix after the whole sandboxes `ps`, of `n` in all
+abbrev pub after_parts : Format → ℕ → List Part → ImagePrefix
 after_parts format n ps = cond (length ps == n) (Whole ps) (AfterCount format n ps)
 
--- the front after the first data bytes `init` of the sandbox that comes after `ps`
-abbrev pub after_init : ℕ → List Part → Fields → List Gate → List ℕ → List ℕ → Front
+-- the prefix after the first data bytes `init` of the sandbox that comes after `ps`
+abbrev pub after_init : ℕ → List Part → Fields → List Gate → List ℕ → List ℕ → ImagePrefix
 after_init n ps f gs code init =
     cond (length init == f.init_len) (after_parts f.format n (ps ++ part_of f gs code init ∷ []))
     (InInit n ps f gs code init)
 
--- the front after the bytes `code` of its code
-abbrev pub after_code : ℕ → List Part → Fields → List Gate → List ℕ → Front
+-- the prefix after the bytes `code` of its code
+abbrev pub after_code : ℕ → List Part → Fields → List Gate → List ℕ → ImagePrefix
 after_code n ps f gs code =
     cond (length code == f.code_size) (after_init n ps f gs code []) (InCode n ps f gs code)
 
--- the front after its gates `gs`
-abbrev pub after_gates : ℕ → List Part → Fields → List Gate → Front
+-- the prefix after its gates `gs`
+abbrev pub after_gates : ℕ → List Part → Fields → List Gate → ImagePrefix
 after_gates n ps f gs = cond (length gs == f.gate_count) (InCode n ps f gs []) (InGates n ps f gs)
 
--- the second front is the first with these bytes, which are as many as come next
-abbrev pub Follows : Front → List ℕ → Front → Type 0
+-- the second prefix is the first with these bytes, which are as many as come next
+abbrev pub Follows : ImagePrefix → List ℕ → ImagePrefix → Type 0
 Follows Empty s y = (format : Format) × (s ≡ magic format) × (y ≡ AfterMagic format)
 Follows (AfterMagic format) s y = (n : ℕ) × (s ≡ number n) × (y ≡ AfterCount format n [])
 Follows (AfterCount format n ps) s y =
@@ -195,14 +195,14 @@ IsLengthOf len wants.Nothing = ⊥
 
 -- bytes that end before what comes next is whole are cut short
 abbrev pub CutShort : Type 0
-CutShort = (x : Front) (rest : List ℕ) → IsRightFront x → IsLess (length rest) (want_of x)
-    → IsFault (front x ++ rest) Short
+CutShort = (x : ImagePrefix) (rest : List ℕ) → IsRightPrefix x → IsLess (length rest) (want_of x)
+    → IsFault (prefix_bytes x ++ rest) Short
 
 -- bytes that follow a whole image trail it
 abbrev pub Trails : Type 0
-Trails = (ps : List Part) (rest : List ℕ) → IsRightFront (Whole ps) → 0 < length rest
-    → IsFault (front (Whole ps) ++ rest) Trailing
+Trails = (ps : List Part) (rest : List ℕ) → IsRightPrefix (Whole ps) → 0 < length rest
+    → IsFault (prefix_bytes (Whole ps) ++ rest) Trailing
 
 -- the bytes of a whole image are its image
 abbrev pub WholeIsImage : Type 0
-WholeIsImage = (ps : List Part) → IsRightFront (Whole ps) → IsImage (front (Whole ps)) ps
+WholeIsImage = (ps : List Part) → IsRightPrefix (Whole ps) → IsImage (prefix_bytes (Whole ps)) ps
