@@ -30,7 +30,7 @@ use Rattle.sfi_safety.proofs.Places.{nothing_before}
 use Rattle.sfi_safety.specs.Clean.{IsAccepted}
 use Rattle.sfi_check.specs.Feeds.{AreFrontFindings, AreFindingsSoFar, AreFindingsWithin, IsFed}
 use Rattle.sfi_image.specs.declared.layout_reader.LayoutReader.{LayoutReader}
-use Rattle.sfi_image.specs.declared.want.Next.TheVariants as next
+use Rattle.sfi_image.specs.declared.want.Stage.TheVariants as stage
 use Rattle.sfi_image.specs.Keeping.{StandsFor}
 use Rattle.sfi_check.specs.declared.feed.Feed.{Feed}
 use Rattle.sfi_check.proofs.Feeding.{fed_held, fed_fault, no_fault as no_fault_met}
@@ -311,7 +311,7 @@ not_refused bytes h (inr found) = found.1 (none_before bytes [] found.0 found.2 
 
 -- ---- by what a feed keeps
 
-at_end : (r : LayoutReader) (x : ImagePrefix) → StandsFor r x → r.next ≡ next.End → want_of x ≡ wants.End
+at_end : (r : LayoutReader) (x : ImagePrefix) → StandsFor r x → r.next ≡ stage.End → want_of x ≡ wants.End
 at_end r (Whole ps) stands e = refl
 at_end r x stands e = let is = stands.kept.0 in absurd cc
 

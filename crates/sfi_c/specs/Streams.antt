@@ -5,8 +5,8 @@ use Rattle.std.specs.Option.{option_map}
 use Rattle.sfi_formats.specs.declared.format.Format.{Format}
 use Rattle.sfi_formats.specs.declared.format.Format.TheVariants.{Sfi1, Sfi2, Sfiw}
 use Rattle.sfi_image.specs.declared.fields.Fields.{Fields}
-use Rattle.sfi_image.specs.declared.want.Next.{Next}
-use Rattle.sfi_image.specs.declared.want.Next.TheVariants as next
+use Rattle.sfi_image.specs.declared.want.Stage.{Stage}
+use Rattle.sfi_image.specs.declared.want.Stage.TheVariants as stage
 use Rattle.sfi_image.specs.declared.fault.LayoutFault.{LayoutFault}
 use Rattle.sfi_image.specs.declared.fault.LayoutFault.TheVariants as faults
 use Rattle.sfi_image.specs.declared.layout_reader.LayoutReader.{LayoutReader}
@@ -27,15 +27,15 @@ use Rattle.sfi_image.specs.Prefixes.{ImagePrefix, prefix_bytes, want_of, IsRight
 -- themselves
 
 -- what comes next, by its number
-abbrev pub stage_of : ℕ → Next
+abbrev pub stage_of : ℕ → Stage
 stage_of n =
-    cond (n == 0) next.Magic
-    (cond (n == 1) next.Count
-    (cond (n == 2) next.Fields
-    (cond (n == 3) next.Gate
-    (cond (n == 4) next.Code
-    (cond (n == 5) next.Init
-    (cond (n == 6) next.End next.Nothing))))))
+    cond (n == 0) stage.Magic
+    (cond (n == 1) stage.Count
+    (cond (n == 2) stage.Fields
+    (cond (n == 3) stage.Gate
+    (cond (n == 4) stage.Code
+    (cond (n == 5) stage.Init
+    (cond (n == 6) stage.End stage.Nothing))))))
 
 -- a format, by its number
 abbrev pub format_of : ℕ → Format

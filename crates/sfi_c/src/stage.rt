@@ -4,38 +4,38 @@ ghost use Rattle.sfi_c.specs.Parts.{format_number};
 ghost use Rattle.sfi_c.specs.Streams.{stage_of, format_of, owed_of, fault_of, first_finding};
 
 use sfi_check::SfiFinding;
-use sfi_image::{Format, LayoutFault, Next};
+use sfi_image::{Format, LayoutFault, Stage};
 use sfi_rules::{Finding, Owed, Rule};
 
 /// The number of what comes next.
-pub(crate) fn stage_number(next: Next) -> u32
+pub(crate) fn stage_number(next: Stage) -> u32
     ensures { stage_of result ≡ next }
 {
     match next {
-        Next::Magic => 0,
-        Next::Count => 1,
-        Next::Fields => 2,
-        Next::Gate => 3,
-        Next::Code => 4,
-        Next::Init => 5,
-        Next::End => 6,
-        Next::Nothing => 7,
+        Stage::Magic => 0,
+        Stage::Count => 1,
+        Stage::Fields => 2,
+        Stage::Gate => 3,
+        Stage::Code => 4,
+        Stage::Init => 5,
+        Stage::End => 6,
+        Stage::Nothing => 7,
     }
 }
 
 /// What comes next, by its number.
-pub(crate) fn stage_of(number: u32) -> Next
+pub(crate) fn stage_of(number: u32) -> Stage
     ensures { result ≡ stage_of number }
 {
     match number {
-        0 => Next::Magic,
-        1 => Next::Count,
-        2 => Next::Fields,
-        3 => Next::Gate,
-        4 => Next::Code,
-        5 => Next::Init,
-        6 => Next::End,
-        _ => Next::Nothing,
+        0 => Stage::Magic,
+        1 => Stage::Count,
+        2 => Stage::Fields,
+        3 => Stage::Gate,
+        4 => Stage::Code,
+        5 => Stage::Init,
+        6 => Stage::End,
+        _ => Stage::Nothing,
     }
 }
 

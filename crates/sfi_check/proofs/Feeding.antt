@@ -4,7 +4,7 @@ use Rattle.sfi_check.specs.declared.feed.Feed.{Feed}
 use Rattle.sfi_image.specs.declared.fault.LayoutFault.TheVariants as faults
 use Rattle.sfi_image.specs.declared.want.Want.{Want}
 use Rattle.sfi_image.specs.declared.want.Want.TheVariants as wants
-use Rattle.sfi_image.specs.declared.want.Next.TheVariants as next
+use Rattle.sfi_image.specs.declared.want.Stage.TheVariants as stage
 use Rattle.sfi_check.specs.declared.stream_answer.StreamAnswer.TheVariants as answers
 use Rattle.sfi_check.proofs.OneVerdict.{on_fault}
 use Rattle.sfi_check.proofs.Judging.{IsJudgedWhole, ended_whole, ended_short, nothing_yet}
@@ -95,7 +95,7 @@ at_reader r s t u bytes a b h = rw (a, b) h
 pub answered_fault : (bytes : List ℕ) (k : LayoutFault) → HasFaultWhateverFollows bytes k → IsVerdictOn bytes true (answers.Layout k)
 answered_fault bytes k h = on_fault bytes k (subst (λ (l : List ℕ). IsFault l k) (append-nil bytes) (h []))
 
-is_end : (r : LayoutReader) (x : ImagePrefix) → StandsFor r x → wants.End ≡ want_of x → r.next ≡ next.End
+is_end : (r : LayoutReader) (x : ImagePrefix) → StandsFor r x → wants.End ≡ want_of x → r.next ≡ stage.End
 is_end r (Whole ps) h w = h.kept.0
 is_end r x h w = absurd cc
 
@@ -114,7 +114,7 @@ answered_whole {T} f bytes h want =
     let same : bytes ≡ h.so_far = h.bytes_are ∙ ap (λ (k : ℕ). h.so_far ++ take k f.held) (none_held f bytes h w) ∙ append-nil h.so_far in
     subst (λ (l : List ℕ). IsJudgedWhole T l (verdict_of f.tally)) (sym same) (ended_whole f.reader f.tally h.so_far h.at (is_end f.reader h.at.at h.at.stands w))
 
-is_whole : (r : LayoutReader) (x : ImagePrefix) → StandsFor r x → r.next ≡ next.End → wants.End ≡ want_of x
+is_whole : (r : LayoutReader) (x : ImagePrefix) → StandsFor r x → r.next ≡ stage.End → wants.End ≡ want_of x
 is_whole r (Whole ps) h e = refl
 is_whole r x h e = let n = h.kept.0 in absurd cc
 

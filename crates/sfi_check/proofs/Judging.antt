@@ -1,7 +1,7 @@
 -- The answer on a stream.
 use Rattle.sfi_check.proofs.Prelude.{◌≡◌, ℕ, ◌<◌, true, false, List, [], ◌∷◌, ◌++◌, length, Option, None, refl, sym, ap, ◌∙◌, subst, arith, append_assoc, inr, slice_get, Part, IsFault, ImagePrefix, prefix_bytes, HasFaultWhateverFollows, Empty, Whole, LayoutReader, StandsFor, left, left_most, Finding, AreImageFindings, StreamAnswer, Tally, Tallies, IsSoFar, IsCut, verdict_by, verdict_of, HasFindings, IsVerdictOn, AreHandedOver, IsImage, LayoutFault}
 use Rattle.sfi_image.specs.declared.fault.LayoutFault.TheVariants as faults
-use Rattle.sfi_image.specs.declared.want.Next.TheVariants as next
+use Rattle.sfi_image.specs.declared.want.Stage.TheVariants as stage
 use Rattle.sfi_check.specs.declared.stream_answer.StreamAnswer.TheVariants as answers
 use Rattle.sfi_check.proofs.OneVerdict.{on_fault, on_accepted, on_findings}
 use Rattle.sfi_safety.proofs.Safe.{all_safe}
@@ -57,19 +57,19 @@ judged_whole {T} bytes ps t image k = by k.found k.found_holds k.found_are k.cou
 
 -- ---- the reader's end
 
-at_whole : {T : List Finding → Type 0} (r : LayoutReader) (t : Tally) (bytes : List ℕ) (x : ImagePrefix) → StandsFor r x → bytes ≡ prefix_bytes x → Tallies T t x → r.next ≡ next.End
+at_whole : {T : List Finding → Type 0} (r : LayoutReader) (t : Tally) (bytes : List ℕ) (x : ImagePrefix) → StandsFor r x → bytes ≡ prefix_bytes x → Tallies T t x → r.next ≡ stage.End
     → (ps : List Part) × (bytes ≡ prefix_bytes (Whole ps)) × StandsFor r (Whole ps) × Tallies T t (Whole ps)
 at_whole r t bytes (Whole ps) h e k is = (ps, e, h, k)
 at_whole r t bytes x h e k is = let n = h.kept.0 in absurd cc
 
 -- the stream ends where the image does
-pub ended_whole : {T : List Finding → Type 0} → (r : LayoutReader) (t : Tally) (bytes : List ℕ) → IsSoFar T r t bytes → r.next ≡ next.End → IsJudgedWhole T bytes (verdict_of t)
+pub ended_whole : {T : List Finding → Type 0} → (r : LayoutReader) (t : Tally) (bytes : List ℕ) → IsSoFar T r t bytes → r.next ≡ stage.End → IsJudgedWhole T bytes (verdict_of t)
 ended_whole r t bytes h is =
     let w = at_whole r t bytes h.at h.stands h.bytes_are h.tallies is in
     judged_whole bytes w.0 t (subst (λ (l : List ℕ). IsImage l w.0) (sym w.1) (whole_is_image w.0 w.2.right)) w.3
 
 -- the stream goes on after the image
-pub trailing : {T : List Finding → Type 0} → (r : LayoutReader) (t : Tally) (bytes rest : List ℕ) → IsSoFar T r t bytes → r.next ≡ next.End → 0 < length rest → HasFaultWhateverFollows (bytes ++ rest) faults.Trailing
+pub trailing : {T : List Finding → Type 0} → (r : LayoutReader) (t : Tally) (bytes rest : List ℕ) → IsSoFar T r t bytes → r.next ≡ stage.End → 0 < length rest → HasFaultWhateverFollows (bytes ++ rest) faults.Trailing
 trailing r t bytes rest h is some =
     let w = at_whole r t bytes h.at h.stands h.bytes_are h.tallies is in
     λ more.

@@ -1,7 +1,7 @@
 -- A stretch of bundles more: its findings, and the tally with them.
 use Rattle.sfi_check.proofs.Prelude.{◌≡◌, ◌==◌, ℕ, zero, suc, ◌+◌, ◌-◌, ◌*◌, ◌/◌, ◌<◌, ◌≤◌, Bool, false, cond, List, [], ◌∷◌, ◌++◌, length, take, drop, refl, sym, ap, ◌∙◌, subst, arith, eq-eqb, ne_eqb, append_assoc, length-append, length-take, take-append_seam, Gate, is_gate_of, ImagePrefix, IsStretchLength, IsRightPrefix, want_of, Follows, LayoutReader, StandsFor, Leads, left, BundlePlace, Finding, Tally, part_of, block_bundle, AreFoundUpTo, AddsFindings, Counts, owed_after, AreFindingsSoFar, IsSoFar, IsStretch, AreFoundInStretch, Tallies, findings_most, stretch_place, Fields}
 use Rattle.std.specs.Prelude.{min, ◌%◌}
-use Rattle.sfi_image.specs.declared.want.Next.TheVariants as next_want
+use Rattle.sfi_image.specs.declared.want.Stage.TheVariants as stage
 use Rattle.sfi_image.specs.declared.want.Want.TheVariants as wants
 use Rattle.sfi_rules.specs.declared.owed.Owed.{Owed}
 use Rattle.sfi_rules.specs.declared.owed.Owed.TheVariants.{Nothing}
@@ -20,7 +20,7 @@ adds_of t u v w sandbox n found next is a kept few =
 -- ---- what comes next
 
 -- where bundles come next, the reader reads code
-reads_code : (r : LayoutReader) (x : ImagePrefix) (b : BundlePlace) → StandsFor r x → wants.Bundle b ≡ want_of x → r.next ≡ next_want.Code
+reads_code : (r : LayoutReader) (x : ImagePrefix) (b : BundlePlace) → StandsFor r x → wants.Bundle b ≡ want_of x → r.next ≡ stage.Code
 reads_code r x b h w = (rw ((in_code x b w).front_is) at h).kept.0
 
 -- the bytes are `n` whole bundles, at most `most` bytes, and a stretch
@@ -118,7 +118,7 @@ stretch_tallies {T = T} old new x s y b most n found owed w is le some len h bef
 pub stretch_step : {T U : List Finding → Type 0} (old new : LayoutReader) (t u v w : Tally) (so_far s : List ℕ) (b : BundlePlace) (most n : ℕ) (found : List Finding) (owed next : Owed)
     → ((x : ImagePrefix) → StandsFor old x → wants.Bundle b ≡ want_of x) → ((x : ImagePrefix) → StandsFor old x → IsStretchLength x most) → 16 * n ≤ most → 0 < n → length s ≡ 16 * n
     → owed ≡ cond (b.address == b.code_base) Nothing t.owed → AreFoundInStretch b owed s n found next → length found ≤ findings_most * n → u ≡ record t { sandboxes = b.sandbox + 1; bundles = t.bundles + n } → Counts u v found → w ≡ record v { owed = next }
-    → ((x : ImagePrefix) → StandsFor old x → Leads x s new) → (old.next ≡ next_want.Code → left new + length s ≤ left old) → ((before : List Finding) → T before → U (before ++ found)) → IsSoFar T old t so_far → IsSoFar U new w (so_far ++ s)
+    → ((x : ImagePrefix) → StandsFor old x → Leads x s new) → (old.next ≡ stage.Code → left new + length s ≤ left old) → ((before : List Finding) → T before → U (before ++ found)) → IsSoFar T old t so_far → IsSoFar U new w (so_far ++ s)
 stretch_step old new t u v w so_far s b most n found owed next wanted stretch le some len before are few is counts kept leads falls on h =
     let l = leads h.at h.stands in
     let less = falls (reads_code old h.at b h.stands (wanted h.at h.stands)) in

@@ -15,7 +15,7 @@ use Rattle.sfi_rules.specs.Findings.{AreFoundUpTo, AreImageFindings}
 use Rattle.sfi_scan.specs.Stretches.{findings_most}
 use Rattle.sfi_check.specs.declared.tally.Tally.{Tally}
 use Rattle.sfi_check.specs.Verdict.{bundle_count}
-use Rattle.sfi_image.specs.declared.want.Next.TheVariants as next
+use Rattle.sfi_image.specs.declared.want.Stage.TheVariants as stage
 use Rattle.sfi_image.specs.declared.fault.LayoutFault.{LayoutFault}
 use Rattle.sfi_check.specs.declared.feed.Feed.{Feed}
 
@@ -106,7 +106,7 @@ pub record IsCut (r : LayoutReader) (len : ℕ) : Type 0 where
 -- the `count` bytes that are held are fewer than what comes next has, or the image is whole and
 -- none is held
 abbrev pub Rests : LayoutReader → ℕ → Type 0
-Rests r count = IsCut r count ⊎ ((r.next ≡ next.End) × (count ≡ 0))
+Rests r count = IsCut r count ⊎ ((r.next ≡ stage.End) × (count ≡ 0))
 
 -- the bytes are those that the feed's reader has taken, and then those in its array; `holds` is
 -- true of what was found in the former

@@ -23,7 +23,7 @@ use Rattle.sfi_image.specs.declared.fault.LayoutFault.{LayoutFault}
 use Rattle.sfi_image.specs.Keeping.{left, StandsFor, Leads}
 use Rattle.sfi_check.specs.declared.feed.Feed.{Feed}
 use Rattle.sfi_check.specs.Feeds.{IsFedFinding, IsSoFar, IsCut}
-use Rattle.sfi_image.specs.declared.want.Next.TheVariants as next
+use Rattle.sfi_image.specs.declared.want.Stage.TheVariants as stage
 use Rattle.sfi_image.specs.Prefixes.{ImagePrefix, prefix_bytes, HasFaultWhateverFollows}
 use Rattle.sfi_image.specs.declared.layout_reader.LayoutReader.{LayoutReader}
 use Rattle.sfi_check.specs.declared.stream_answer.StreamAnswer.TheVariants as answers
@@ -159,7 +159,7 @@ Steps holds old new t so_far rest (steps.Took n) =
     (1 ≤ n) × (n ≤ length rest) × IsSoFar holds new t (so_far ++ take n rest) × (left new < left old)
 Steps holds old new t so_far rest steps.Short =
     IsSoFar holds new t so_far × IsCut new (length rest) × (left new ≤ left old)
-Steps holds old new t so_far rest steps.Whole = IsSoFar holds new t so_far × (new.next ≡ next.End)
+Steps holds old new t so_far rest steps.Whole = IsSoFar holds new t so_far × (new.next ≡ stage.End)
 Steps holds old new t so_far rest (steps.Fault k) =
     HasFaultWhateverFollows (so_far ++ rest) k × HoldsOfSome holds
 
@@ -170,7 +170,7 @@ Goes holds old new t so_far rest (ways.More n) =
     (n ≤ length rest) × IsSoFar holds new t (so_far ++ take n rest) × IsCut new (length rest - n)
     × ((left new < left old) ⊎ ((n ≡ 0) × (left new ≤ left old)))
 Goes holds old new t so_far rest (ways.Whole n) =
-    (n ≤ length rest) × IsSoFar holds new t (so_far ++ take n rest) × (new.next ≡ next.End)
+    (n ≤ length rest) × IsSoFar holds new t (so_far ++ take n rest) × (new.next ≡ stage.End)
     × ((left new < left old) ⊎ ((n ≡ 0) × (left new ≤ left old)))
 Goes holds old new t so_far rest (ways.Fault k) =
     HasFaultWhateverFollows (so_far ++ rest) k × HoldsOfSome holds

@@ -1,23 +1,23 @@
 -- What a reader stands for, by what it reads next; and what its numbers are there.
 use Rattle.sfi_image.proofs.Prelude.{◌≡◌, ℕ, ◌+◌, ◌-◌, ◌*◌, ◌^◌, ◌<◌, ◌≤◌, List, [], ◌∷◌, length, drop, refl, sym, ap, ◌∙◌, subst, arith, All, AllPairs, length-map, All-append, All-head, All-tail, Format, Gate, Fields, Part, fields_of, AreApart, spans, spans_of, IsBounded, IsRightPart, ImagePrefix, want_of, IsLengthOf, AfterCount, InGates, InCode, InInit, Whole, LayoutReader, StandsFor, IsReader, MayTake, TakesLength, is_first, inr}
-use Rattle.sfi_image.specs.declared.want.Next.TheVariants as next
+use Rattle.sfi_image.specs.declared.want.Stage.TheVariants as stage
 use Rattle.sfi_image.specs.declared.want.Want.TheVariants as wants
 use Rattle.sfi_image.proofs.SpanLists.{right_bounded}
 use Rattle.sfi_image.proofs.Standing.{region, first_is, front_of}
 
-by_fields : (r : LayoutReader) (x : ImagePrefix) → StandsFor r x → r.next ≡ next.Fields → (format : Format) × (n : ℕ) × (ps : List Part) × StandsFor r (AfterCount format n ps)
+by_fields : (r : LayoutReader) (x : ImagePrefix) → StandsFor r x → r.next ≡ stage.Fields → (format : Format) × (n : ℕ) × (ps : List Part) × StandsFor r (AfterCount format n ps)
 by_fields r (AfterCount format n ps) h is = (format, n, ps, h)
 by_fields r _ h is = let k = h.kept.0 in absurd cc
 
-by_gates : (r : LayoutReader) (x : ImagePrefix) → StandsFor r x → r.next ≡ next.Gate → (n : ℕ) × (ps : List Part) × (f : Fields) × (gs : List Gate) × StandsFor r (InGates n ps f gs)
+by_gates : (r : LayoutReader) (x : ImagePrefix) → StandsFor r x → r.next ≡ stage.Gate → (n : ℕ) × (ps : List Part) × (f : Fields) × (gs : List Gate) × StandsFor r (InGates n ps f gs)
 by_gates r (InGates n ps f gs) h is = (n, ps, f, gs, h)
 by_gates r _ h is = let k = h.kept.0 in absurd cc
 
-pub by_code : (r : LayoutReader) (x : ImagePrefix) → StandsFor r x → r.next ≡ next.Code → (n : ℕ) × (ps : List Part) × (f : Fields) × (gs : List Gate) × (code : List ℕ) × StandsFor r (InCode n ps f gs code)
+pub by_code : (r : LayoutReader) (x : ImagePrefix) → StandsFor r x → r.next ≡ stage.Code → (n : ℕ) × (ps : List Part) × (f : Fields) × (gs : List Gate) × (code : List ℕ) × StandsFor r (InCode n ps f gs code)
 by_code r (InCode n ps f gs code) h is = (n, ps, f, gs, code, h)
 by_code r _ h is = let k = h.kept.0 in absurd cc
 
-by_init : (r : LayoutReader) (x : ImagePrefix) → StandsFor r x → r.next ≡ next.Init → (n : ℕ) × (ps : List Part) × (f : Fields) × (gs : List Gate) × (code : List ℕ) × (init : List ℕ) × StandsFor r (InInit n ps f gs code init)
+by_init : (r : LayoutReader) (x : ImagePrefix) → StandsFor r x → r.next ≡ stage.Init → (n : ℕ) × (ps : List Part) × (f : Fields) × (gs : List Gate) × (code : List ℕ) × (init : List ℕ) × StandsFor r (InInit n ps f gs code init)
 by_init r (InInit n ps f gs code init) h is = (n, ps, f, gs, code, init, h)
 by_init r _ h is = let k = h.kept.0 in absurd cc
 
@@ -39,9 +39,9 @@ pub record FieldsNext (r : LayoutReader) : Type 0 where
   pub more : r.begun < r.count
   pub few : r.count ≤ 16
 
-pub fields_next : (r : LayoutReader) → IsReader r → r.next ≡ next.Fields → FieldsNext r
+pub fields_next : (r : LayoutReader) → IsReader r → r.next ≡ stage.Fields → FieldsNext r
 fields_next r reader is =
-    let x = front_of r next.Fields reader is (λ e. absurd cc) in
+    let x = front_of r stage.Fields reader is (λ e. absurd cc) in
     let at = by_fields r x.0 x.1 is in
     let right = at.3.right in
     let k = at.3.kept.1 in
@@ -59,9 +59,9 @@ pub record CodeNext (r : LayoutReader) : Type 0 where
   pub address : r.fields.code_base + r.code_read < 2 ^ 32
   pub size : r.fields.code_size ≤ 1048576
 
-pub code_next : (r : LayoutReader) → IsReader r → r.next ≡ next.Code → CodeNext r
+pub code_next : (r : LayoutReader) → IsReader r → r.next ≡ stage.Code → CodeNext r
 code_next r reader is =
-    let x = front_of r next.Code reader is (λ e. absurd cc) in
+    let x = front_of r stage.Code reader is (λ e. absurd cc) in
     let at = by_code r x.0 x.1 is in
     let f = at.2 in
     let right = at.5.right in
@@ -84,9 +84,9 @@ pub record GateNext (r : LayoutReader) : Type 0 where
   pub more : length r.gates < r.fields.gate_count
   pub few : r.fields.gate_count ≤ 64
 
-pub gate_next : (r : LayoutReader) → IsReader r → r.next ≡ next.Gate → GateNext r
+pub gate_next : (r : LayoutReader) → IsReader r → r.next ≡ stage.Gate → GateNext r
 gate_next r reader is =
-    let x = front_of r next.Gate reader is (λ e. absurd cc) in
+    let x = front_of r stage.Gate reader is (λ e. absurd cc) in
     let at = by_gates r x.0 x.1 is in
     let right = at.4.right in
     let k = at.4.kept.1 in
@@ -102,9 +102,9 @@ pub record InitNext (r : LayoutReader) : Type 0 where
   pub less : r.init_read < r.fields.init_len
   pub few : r.fields.init_len ≤ 1048576
 
-pub init_next : (r : LayoutReader) → IsReader r → r.next ≡ next.Init → InitNext r
+pub init_next : (r : LayoutReader) → IsReader r → r.next ≡ stage.Init → InitNext r
 init_next r reader is =
-    let x = front_of r next.Init reader is (λ e. absurd cc) in
+    let x = front_of r stage.Init reader is (λ e. absurd cc) in
     let at = by_init r x.0 x.1 is in
     let right = at.6.right in
     let k = at.6.kept in
@@ -114,7 +114,7 @@ init_next r reader is =
 
 -- ---- what is wanted
 
-pub wants_bundle : (r : LayoutReader) (x : ImagePrefix) → StandsFor r x → r.next ≡ next.Code
+pub wants_bundle : (r : LayoutReader) (x : ImagePrefix) → StandsFor r x → r.next ≡ stage.Code
     → wants.Bundle (record {
       sandbox = r.begun - 1;
       address = r.fields.code_base + r.code_read;

@@ -2,7 +2,7 @@
 use Rattle.sfi_image.proofs.Prelude.{◌≡◌, ℕ, ◌+◌, ◌<◌, List, [], ◌∷◌, ◌++◌, length, take, drop, refl, sym, ap, subst, ◌∙◌, arith, append_assoc, zero, suc, inl, inr, ◌⊎◌, Some, None, Option, cases_lt, append-nil, take-append-drop, length-take, length-drop, Format, Sfi1, Sfi2, Sfiw, magic, LayoutFault, Magic, Count, Short, Trailing, Part, number, fields, gate, AreFieldWords, code_span, spans_of, IsFirstFault, field_tests, IsImage, IsFault, ImagePrefix, prefix_bytes, HasFaultWhateverFollows, Empty, AfterMagic, AfterCount, InGates, InCode, InInit, Whole, LayoutReader, StandsFor, Leads, count_below, next_gate, next_code, next_init}
 use Rattle.sfi_image.specs.Laws.{SomeReading}
 use Rattle.sfi_image.specs.declared.fault.LayoutFault.TheVariants.{Gates}
-use Rattle.sfi_image.specs.declared.want.Next.TheVariants as next
+use Rattle.sfi_image.specs.declared.want.Stage.TheVariants as stage
 use Rattle.sfi_image.proofs.Numbers.{IsBytes}
 use Rattle.sfi_image.proofs.Deciding.{decided_le, decided_both, decided_same, decided_gates, some_first_fault}
 use Rattle.sfi_image.proofs.Fronts.{Spelled, IsBytes-from_all, IsBytes-drop, number_front, gate_front, fields_front}
@@ -65,7 +65,7 @@ step n further r Empty rest h small lt =
           let split = sym (take-append-drop 4 rest) in
           elim (some_magic (take 4 rest)) [
             | inl is ↦
-                on n further Empty (take 4 rest) (drop 4 rest) rest (record r { next = next.Count; fields = record r.fields { format = is.0 } })
+                on n further Empty (take 4 rest) (drop 4 rest) rest (record r { next = stage.Count; fields = record r.fields { format = is.0 } })
                 (magic_leads r _ Empty (take 4 rest) is.0 h h.kept.0 is.1 refl refl refl) split (omega (arith, length-drop 4 rest)) (IsBytes-drop 4 rest small) lt
             | inr none ↦ wrong Empty (take 4 rest) (drop 4 rest) rest Magic (magic_fault r Empty (take 4 rest) h h.kept.0 (omega (arith, length-take 4 rest)) none) split
           ]
@@ -77,7 +77,7 @@ step n further r (AfterMagic format) rest h small lt =
           let m = number_front rest long small in
           elim (decided_both (decided_le 1 m.item) (decided_le m.item 16)) [
             | inl within ↦
-                on n further (AfterMagic format) (number m.item) m.rest rest (record r { next = next.Fields; count = m.item; begun = 0 })
+                on n further (AfterMagic format) (number m.item) m.rest rest (record r { next = stage.Fields; count = m.item; begun = 0 })
                 (count_leads r (AfterMagic format) (number m.item) m.item h h.kept.0 refl within.0 within.1) m.bytes_are (omega (arith, m.len)) m.small lt
             | inr out ↦ wrong (AfterMagic format) (number m.item) m.rest rest Count (count_fault r (AfterMagic format) (number m.item) m.item h h.kept.0 refl m.fits (λ low high. out (low, high))) m.bytes_are
           ]
@@ -140,7 +140,7 @@ some_reading bytes all = are_read (suc (length bytes)) first Empty bytes (record
   where
     first : LayoutReader
     first = record {
-      next = next.Magic;
+      next = stage.Magic;
       count = 0;
       begun = 0;
       spans = [];

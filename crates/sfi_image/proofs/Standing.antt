@@ -3,8 +3,8 @@ use Rattle.sfi_image.proofs.Prelude.{◌≡◌, ℕ, suc, ◌+◌, ◌*◌, ◌%
 use Rattle.std.proofs.Math.Bool.{or-false}
 use Rattle.std.proofs.Math.Dec.{ltb}
 use Rattle.std.proofs.lemmas.Bool.{ltb-false}
-use Rattle.sfi_image.specs.declared.want.Next.{Next}
-use Rattle.sfi_image.specs.declared.want.Next.TheVariants as next
+use Rattle.sfi_image.specs.declared.want.Stage.{Stage}
+use Rattle.sfi_image.specs.declared.want.Stage.TheVariants as stage
 use Rattle.sfi_image.proofs.FieldTests.{all_pass}
 use Rattle.sfi_image.proofs.SpanLists.{spans_push}
 use Rattle.sfi_image.proofs.Bundles.{whole_bundles}
@@ -16,14 +16,14 @@ pub leads : (x : ImagePrefix) (s : List ℕ) (r : LayoutReader) (y : ImagePrefix
 leads x s r y right follows stands = record { to = y; stands = stands; follows = follows; bytes = following_bytes x s y right follows }
 
 -- a prefix that a reader stands for, where it hasn't stopped
-pub front_of : (r : LayoutReader) (w : Next) → IsReader r → r.next ≡ w → (w ≡ next.Nothing → ⊥) → (x : ImagePrefix) × StandsFor r x
+pub front_of : (r : LayoutReader) (w : Stage) → IsReader r → r.next ≡ w → (w ≡ stage.Nothing → ⊥) → (x : ImagePrefix) × StandsFor r x
 front_of r w (inl stopped) is goes = absurd (goes (sym is ∙ stopped))
 front_of r w (inr x) is goes = x
 
 -- ---- magic and count
 
-pub magic_leads : (old new : LayoutReader) (x : ImagePrefix) (s : List ℕ) (format : Format) → StandsFor old x → old.next ≡ next.Magic → s ≡ magic format
-    → new.next ≡ next.Count → new.spans ≡ old.spans → new.fields.format ≡ format → Leads x s new
+pub magic_leads : (old new : LayoutReader) (x : ImagePrefix) (s : List ℕ) (format : Format) → StandsFor old x → old.next ≡ stage.Magic → s ≡ magic format
+    → new.next ≡ stage.Count → new.spans ≡ old.spans → new.fields.format ≡ format → Leads x s new
 magic_leads old new Empty s format h is e to spans_are kind =
     leads Empty s new (AfterMagic format) tt (format, e, refl) (record { right = tt; kept = (to, spans_are ∙ h.kept.1, kind) })
 magic_leads old new _ s format h is e to spans_are kind = let k = h.kept.0 in absurd cc
@@ -34,8 +34,8 @@ none_of format = λ k d h. absurd (omega arith)
 none_right : AreRight []
 none_right = record { each = λ k d h. absurd (omega arith); apart = λ i j d h e. absurd (omega arith) }
 
-pub count_leads : (old : LayoutReader) (x : ImagePrefix) (s : List ℕ) (n : ℕ) → StandsFor old x → old.next ≡ next.Count → s ≡ number n → 1 ≤ n → n ≤ 16
-    → Leads x s (record old { next = next.Fields; count = n; begun = 0 })
+pub count_leads : (old : LayoutReader) (x : ImagePrefix) (s : List ℕ) (n : ℕ) → StandsFor old x → old.next ≡ stage.Count → s ≡ number n → 1 ≤ n → n ≤ 16
+    → Leads x s (record old { next = stage.Fields; count = n; begun = 0 })
 count_leads old (AfterMagic format) s n h is e low high =
     leads (AfterMagic format) s _ (AfterCount format n []) tt (n, e, refl) (record {
       right = (record { at_least = low; at_most = high; one_format = none_of format; right = none_right }, omega arith);

@@ -2,7 +2,7 @@
 use Rattle.sfi_image.proofs.Prelude.{◌≡◌, ◌↔◌, IsTrue, Bool, true, false, Option, slice_get, ℕ, ◌+◌, ◌-◌, ◌<◌, ◌≤◌, ◌⊎◌, List, [], ◌∷◌, ◌++◌, length, map, take, drop, refl, sym, ap, ◌∙◌, subst, arith, append_assoc, inl, inr, None, Some, All, flat_map, length-append, length_push, append-nil, map_push, length-map, All-push, Format, magic, Gate, Fields, Span, LayoutFault, Part, number, fields, gate, part, IsWord, AreFieldWords, AreGateWords, code_span, spans, spans_of, AreGates, IsFirstFault, field_tests, IsFault, IsPartFault, IsGateShort, IsGateWrong, AreContentsShort, ImagePrefix, AreBundlesWithin, prefix_bytes, head, IsHead, IsOpened, IsRightPrefix, after_init, after_code, after_gates, HasFaultWhateverFollows, Empty, AfterMagic, AfterCount, InGates, InCode, InInit, LayoutReader, StandsFor, Leads, next_init, next_code, next_gate, count_below}
 use Rattle.std.proofs.Math.Seq.{take-append_seam}
 use Rattle.sfi_image.specs.declared.fault.LayoutFault.TheVariants as faults
-use Rattle.sfi_image.specs.declared.want.Next.TheVariants as next
+use Rattle.sfi_image.specs.declared.want.Stage.TheVariants as stage
 use Rattle.sfi_image.proofs.Standing.{leads, gates_stand, code_stand, init_stand, rest_from}
 
 none_gates : (region : Span) → AreGates region []
@@ -11,7 +11,7 @@ none_gates region = record { starts = λ k d h. absurd (omega arith); services =
 none_words : All AreGateWords []
 none_words = λ k d h. absurd (omega arith)
 
-pub fields_leads : (old new : LayoutReader) (x : ImagePrefix) (s : List ℕ) (f : Fields) → StandsFor old x → old.next ≡ next.Fields → s ≡ fields f → AreFieldWords f
+pub fields_leads : (old new : LayoutReader) (x : ImagePrefix) (s : List ℕ) (f : Fields) → StandsFor old x → old.next ≡ stage.Fields → s ≡ fields f → AreFieldWords f
     → f.format ≡ old.fields.format → IsFirstFault old.spans f field_tests None → new.count ≡ old.count → new.begun ≡ old.begun + 1 → new.spans ≡ old.spans ++ spans_of f → new.fields ≡ f → new.gates ≡ []
     → new.passed ≡ 0 → new.code_read ≡ 0 → new.init_read ≡ 0 → new.next ≡ next_gate 0 f.gate_count → Leads x s new
 fields_leads old new (AfterCount format n ps) s f' h is e words kind passed count begun spans_are fields_are gates p c i to =
@@ -74,14 +74,14 @@ told old n ps f gs g last r h is tells =
     let at : last ≡ slice_get (map (λ (y : Gate). y.address) gs) (length gs - 1) = is ∙ rw (len, k.gates) refl in
     subst (λ (y : Fields). NextIsTold y g last r) k.fields tells gs at h.right.0.gates
 
-pub gate_leads : (old new : LayoutReader) (x : ImagePrefix) (s : List ℕ) (g : Gate) (last : Option ℕ) → StandsFor old x → old.next ≡ next.Gate → s ≡ gate g → AreGateWords g
+pub gate_leads : (old new : LayoutReader) (x : ImagePrefix) (s : List ℕ) (g : Gate) (last : Option ℕ) → StandsFor old x → old.next ≡ stage.Gate → s ≡ gate g → AreGateWords g
     → last ≡ slice_get old.gates (length old.gates - 1) → NextIsTold old.fields g last true
     → new.count ≡ old.count → new.begun ≡ old.begun → new.spans ≡ old.spans → new.fields ≡ old.fields → new.gates ≡ old.gates ++ g.address ∷ []
     → new.passed ≡ old.passed → new.code_read ≡ old.code_read → new.init_read ≡ old.init_read → new.next ≡ next_gate (length new.gates) old.fields.gate_count → Leads x s new
 gate_leads old new (InGates n ps f gs) s g last h is e words at tells = gate_on old new n ps f gs s g h e words ((told old n ps f gs g last true h at tells).0 refl)
 gate_leads old new _ s g last h is e words at tells = let k = h.kept.0 in absurd cc
 
-pub code_leads : (old new : LayoutReader) (x : ImagePrefix) (s : List ℕ) → StandsFor old x → old.next ≡ next.Code → AreBundlesWithin (old.fields.code_size - old.code_read) (length s)
+pub code_leads : (old new : LayoutReader) (x : ImagePrefix) (s : List ℕ) → StandsFor old x → old.next ≡ stage.Code → AreBundlesWithin (old.fields.code_size - old.code_read) (length s)
     → new.count ≡ old.count → new.begun ≡ old.begun → new.spans ≡ old.spans → new.fields ≡ old.fields → new.gates ≡ old.gates
     → new.passed ≡ old.passed + count_below (old.fields.code_base + (old.code_read + length s)) (drop old.passed old.gates)
     → new.code_read ≡ old.code_read + length s → new.init_read ≡ old.init_read
@@ -116,7 +116,7 @@ code_leads old new (InCode n ps f gs code) s h is len count begun spans_are fiel
     }) where_to)
 code_leads old new _ s h is len count begun spans_are fields_are gates p c i to = let k = h.kept.0 in absurd cc
 
-pub init_leads : (old new : LayoutReader) (x : ImagePrefix) (s : List ℕ) → StandsFor old x → old.next ≡ next.Init → 1 ≤ length s → length s + old.init_read ≤ old.fields.init_len
+pub init_leads : (old new : LayoutReader) (x : ImagePrefix) (s : List ℕ) → StandsFor old x → old.next ≡ stage.Init → 1 ≤ length s → length s + old.init_read ≤ old.fields.init_len
     → new.count ≡ old.count → new.begun ≡ old.begun → new.spans ≡ old.spans → new.fields ≡ old.fields → new.gates ≡ old.gates
     → new.init_read ≡ old.init_read + length s
     → new.next ≡ next_init (old.init_read + length s) old.fields.init_len old.begun old.count → Leads x s new
@@ -155,18 +155,18 @@ body_fault n ps f gs rest k opened wrong =
     head_fault f.format n ps (fields f ++ (flat_map gate gs ++ rest)) k opened.before opened.more
     (inr (f, flat_map gate gs ++ rest, refl, opened.words, refl, inr (opened.passed, (gs, rest, refl, opened.gate_words, opened.gates, wrong))))
 
-pub magic_fault : (old : LayoutReader) (x : ImagePrefix) (s : List ℕ) → StandsFor old x → old.next ≡ next.Magic → length s ≡ 4 → ((format : Format) → s ≡ magic format → ⊥) → HasFaultWhateverFollows (prefix_bytes x ++ s) faults.Magic
+pub magic_fault : (old : LayoutReader) (x : ImagePrefix) (s : List ℕ) → StandsFor old x → old.next ≡ stage.Magic → length s ≡ 4 → ((format : Format) → s ≡ magic format → ⊥) → HasFaultWhateverFollows (prefix_bytes x ++ s) faults.Magic
 magic_fault old Empty s h is len wrong =
     λ more. let first : take 4 (s ++ more) ≡ s = ap (λ (j : ℕ). take j (s ++ more)) (sym len) ∙ take-append_seam s more in
     inr (inl (omega (arith, length-append s more), λ format e. wrong format (sym first ∙ e), refl))
 magic_fault old _ s h is len wrong = let k = h.kept.0 in absurd cc
 
-pub count_fault : (old : LayoutReader) (x : ImagePrefix) (s : List ℕ) (m : ℕ) → StandsFor old x → old.next ≡ next.Count → s ≡ number m → IsWord m → (1 ≤ m → m ≤ 16 → ⊥) → HasFaultWhateverFollows (prefix_bytes x ++ s) faults.Count
+pub count_fault : (old : LayoutReader) (x : ImagePrefix) (s : List ℕ) (m : ℕ) → StandsFor old x → old.next ≡ stage.Count → s ≡ number m → IsWord m → (1 ≤ m → m ≤ 16 → ⊥) → HasFaultWhateverFollows (prefix_bytes x ++ s) faults.Count
 count_fault old (AfterMagic format) s m h is e word wrong =
     λ more. inr (inr (format, s ++ more, append_assoc (magic format) s more, inr (m, more, ap (λ (t : List ℕ). t ++ more) e, word, inl (λ r. wrong r.0 r.1, refl))))
 count_fault old _ s m h is e word wrong = let k = h.kept.0 in absurd cc
 
-pub fields_fault : (old : LayoutReader) (x : ImagePrefix) (s : List ℕ) (f : Fields) (k : LayoutFault) → StandsFor old x → old.next ≡ next.Fields → s ≡ fields f → AreFieldWords f
+pub fields_fault : (old : LayoutReader) (x : ImagePrefix) (s : List ℕ) (f : Fields) (k : LayoutFault) → StandsFor old x → old.next ≡ stage.Fields → s ≡ fields f → AreFieldWords f
     → f.format ≡ old.fields.format → IsFirstFault old.spans f field_tests (Some k) → HasFaultWhateverFollows (prefix_bytes x ++ s) k
 fields_fault old (AfterCount format n ps) s f' k' h is e words kind wrong =
     λ more. rw (append_assoc (head format n ps) s more) (head_fault format n ps (s ++ more) k' h.right.0 h.right.1
@@ -180,7 +180,7 @@ gate_wrong n ps f gs s more g right e words none =
     let regroup : (head f.format n ps ++ (fields f ++ flat_map gate gs)) ++ s ≡ head f.format n ps ++ (fields f ++ (flat_map gate gs ++ s)) = simp append_assoc in
     rw (regroup) (body_fault n ps f gs s faults.Gates right.0 (inr (inl (right.1, g, more, e, words, none, refl))))
 
-pub gate_fault : (old : LayoutReader) (x : ImagePrefix) (s : List ℕ) (g : Gate) (last : Option ℕ) → StandsFor old x → old.next ≡ next.Gate → s ≡ gate g → AreGateWords g
+pub gate_fault : (old : LayoutReader) (x : ImagePrefix) (s : List ℕ) (g : Gate) (last : Option ℕ) → StandsFor old x → old.next ≡ stage.Gate → s ≡ gate g → AreGateWords g
     → last ≡ slice_get old.gates (length old.gates - 1) → NextIsTold old.fields g last false → HasFaultWhateverFollows (prefix_bytes x ++ s) faults.Gates
 gate_fault old (InGates n ps f gs) s g last h is e words at tells =
     λ more. rw (append_assoc (prefix_bytes (InGates n ps f gs)) s more) (gate_wrong n ps f gs (s ++ more) more g h.right (ap (λ (t : List ℕ). t ++ more) e) words (λ are. let no = (told old n ps f gs g last false h at tells).1 are in absurd cc))

@@ -1,6 +1,6 @@
 -- Where a stretch of bundles ends that comes next.
 use Rattle.sfi_image.proofs.Prelude.{◌≡◌, ℕ, suc, ◌+◌, ◌-◌, ◌*◌, ◌%◌, ◌<◌, ◌≤◌, ◌==◌, true, List, [], ◌∷◌, length, drop, refl, sym, ap, ◌∙◌, subst, arith, inl, inr, cases_Bool, eqb-true, eq-eqb, All, Gate, Fields, Span, code_span, spans, IsBundleStart, is_gate_of, IsLongestStretch, IsStretchLength, ImagePrefix, InCode, LayoutReader, StandsFor, IsReader, ◌^◌, Part, AreRest, count_below, first_or}
-use Rattle.sfi_image.specs.declared.want.Next.TheVariants as next
+use Rattle.sfi_image.specs.declared.want.Stage.TheVariants as stage
 use Rattle.sfi_image.proofs.Standing.{Region, front_of, none_before, region, rest_from}
 use Rattle.sfi_image.proofs.Places.{by_code}
 
@@ -37,7 +37,7 @@ by_ahead f gs at len (g ∷ more) reg starts low high even rest is =
     }
 
 -- where the next gate after the first bundle lies
-pub stretch_kept : (r : LayoutReader) (x : ImagePrefix) (len : ℕ) → StandsFor r x → r.next ≡ next.Code
+pub stretch_kept : (r : LayoutReader) (x : ImagePrefix) (len : ℕ) → StandsFor r x → r.next ≡ stage.Code
     → len ≡ first_or (r.fields.code_base + r.fields.code_size) (drop (r.passed + count_below (r.fields.code_base + r.code_read + 16) (drop r.passed r.gates)) r.gates) - (r.fields.code_base + r.code_read)
     → IsStretchLength x len
 stretch_kept r (InCode n ps f gs code) len h is e =
@@ -69,10 +69,10 @@ bounds r n ps f gs code end h e =
     let inside = long.bundles.inside in
     (omega arith, omega arith)
 
-pub stretch_bounds : (r : LayoutReader) (end : ℕ) → IsReader r → r.next ≡ next.Code
+pub stretch_bounds : (r : LayoutReader) (end : ℕ) → IsReader r → r.next ≡ stage.Code
     → end ≡ first_or (r.fields.code_base + r.fields.code_size) (drop (r.passed + count_below (r.fields.code_base + r.code_read + 16) (drop r.passed r.gates)) r.gates)
     → (r.fields.code_base + r.code_read ≤ end) × (end - (r.fields.code_base + r.code_read) < 2 ^ 32)
 stretch_bounds r end reader is e =
-    let x = front_of r next.Code reader is (λ e. absurd cc) in
+    let x = front_of r stage.Code reader is (λ e. absurd cc) in
     let at = by_code r x.0 x.1 is in
     bounds r at.0 at.1 at.2 at.3 at.4 end at.5 e

@@ -7,8 +7,8 @@ use Rattle.sfi_formats.specs.Formats.{code_most}
 use Rattle.sfi_image.specs.declared.part.Gate.{Gate}
 use Rattle.sfi_image.specs.declared.fields.Fields.{Fields}
 pub use Rattle.sfi_image.specs.declared.layout_reader.LayoutReader.{LayoutReader}
-use Rattle.sfi_image.specs.declared.want.Next.{Next}
-use Rattle.sfi_image.specs.declared.want.Next.TheVariants as next
+use Rattle.sfi_image.specs.declared.want.Stage.{Stage}
+use Rattle.sfi_image.specs.declared.want.Stage.TheVariants as stage
 use Rattle.sfi_image.specs.Spelling.{Part, format_of, fields_of, gate, AreGateWords, part, magic_bytes, number_bytes, spans, spans_of}
 use Rattle.sfi_image.specs.Parts.{is_gate_of, AreOf, IsImage}
 use Rattle.sfi_image.specs.Prefixes.{ImagePrefix, prefix_bytes, IsRightPrefix, Follows, after_parts}
@@ -64,15 +64,15 @@ pub record KeepsCode (r : LayoutReader) (n : ℕ) (ps : List Part) (f : Fields) 
 
 -- what the reader keeps is that of the prefix
 abbrev pub Keeps : LayoutReader → ImagePrefix → Type 0
-Keeps r Empty = (r.next ≡ next.Magic) × (r.spans ≡ [])
-Keeps r (AfterMagic format) = (r.next ≡ next.Count) × (r.spans ≡ []) × (r.fields.format ≡ format)
-Keeps r (AfterCount format n ps) = (r.next ≡ next.Fields) × KeepsHead r format n ps
-Keeps r (InGates n ps f gs) = (r.next ≡ next.Gate) × KeepsFields r n ps f gs × (r.passed ≡ 0)
+Keeps r Empty = (r.next ≡ stage.Magic) × (r.spans ≡ [])
+Keeps r (AfterMagic format) = (r.next ≡ stage.Count) × (r.spans ≡ []) × (r.fields.format ≡ format)
+Keeps r (AfterCount format n ps) = (r.next ≡ stage.Fields) × KeepsHead r format n ps
+Keeps r (InGates n ps f gs) = (r.next ≡ stage.Gate) × KeepsFields r n ps f gs × (r.passed ≡ 0)
     × (r.code_read ≡ 0) × (r.init_read ≡ 0)
-Keeps r (InCode n ps f gs code) = (r.next ≡ next.Code) × KeepsCode r n ps f gs code
+Keeps r (InCode n ps f gs code) = (r.next ≡ stage.Code) × KeepsCode r n ps f gs code
 Keeps r (InInit n ps f gs code init) =
-    (r.next ≡ next.Init) × KeepsFields r n ps f gs × (r.init_read ≡ length init)
-Keeps r (Whole ps) = (r.next ≡ next.End) × (r.fields.format ≡ format_of ps)
+    (r.next ≡ stage.Init) × KeepsFields r n ps f gs × (r.init_read ≡ length init)
+Keeps r (Whole ps) = (r.next ≡ stage.End) × (r.fields.format ≡ format_of ps)
 
 -- the reader has read this prefix, and all of it passed its tests
 pub record StandsFor (r : LayoutReader) (x : ImagePrefix) : Type 0 where
@@ -81,7 +81,7 @@ pub record StandsFor (r : LayoutReader) (x : ImagePrefix) : Type 0 where
 
 -- the reader has met a fault, after which nothing is wanted
 abbrev pub HasStopped : LayoutReader → Type 0
-HasStopped r = r.next ≡ next.Nothing
+HasStopped r = r.next ≡ stage.Nothing
 
 -- ---- one step
 
@@ -106,18 +106,18 @@ abbrev pub left_most : ℕ
 left_most = sandboxes_most * part_most + 2
 
 -- what is left to do where `next` comes next
-abbrev pub left_by : Next → LayoutReader → ℕ
-left_by next.Magic r = left_most
-left_by next.Count r = sandboxes_most * part_most + 1
-left_by next.Fields r = (r.count - r.begun) * part_most
-left_by next.Gate r =
+abbrev pub left_by : Stage → LayoutReader → ℕ
+left_by stage.Magic r = left_most
+left_by stage.Count r = sandboxes_most * part_most + 1
+left_by stage.Fields r = (r.count - r.begun) * part_most
+left_by stage.Gate r =
     (r.count - r.begun) * part_most + (r.fields.gate_count - length r.gates)
     + r.fields.code_size + r.fields.init_len + 1
-left_by next.Code r =
+left_by stage.Code r =
     (r.count - r.begun) * part_most + (r.fields.code_size - r.code_read) + r.fields.init_len + 1
-left_by next.Init r = (r.count - r.begun) * part_most + (r.fields.init_len - r.init_read) + 1
-left_by next.End r = 0
-left_by next.Nothing r = 0
+left_by stage.Init r = (r.count - r.begun) * part_most + (r.fields.init_len - r.init_read) + 1
+left_by stage.End r = 0
+left_by stage.Nothing r = 0
 
 -- what is left to do: a number that falls with each step
 abbrev pub left : LayoutReader → ℕ

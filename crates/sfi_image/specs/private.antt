@@ -9,8 +9,8 @@ use Rattle.sfi_image.specs.declared.want.Want.{Want}
 use Rattle.sfi_image.specs.declared.want.Want.TheVariants as wants
 use Rattle.sfi_image.specs.declared.want.OtherWant.{OtherWant}
 use Rattle.sfi_image.specs.declared.want.OtherWant.TheVariants as others
-use Rattle.sfi_image.specs.declared.want.Next.{Next}
-use Rattle.sfi_image.specs.declared.want.Next.TheVariants as next
+use Rattle.sfi_image.specs.declared.want.Stage.{Stage}
+use Rattle.sfi_image.specs.declared.want.Stage.TheVariants as stage
 use Rattle.sfi_image.specs.Spelling.{magic_bytes, number_bytes, fields_bytes, gate_bytes, Part, fields_of}
 use Rattle.sfi_image.specs.declared.fault.ImageFault.{ImageFault}
 use Rattle.sfi_image.specs.Faults.{IfLayout}
@@ -58,32 +58,32 @@ count_below end [] = 0
 count_below end (a ∷ more) = cond (nat_lt a end) (suc (count_below end more)) 0
 
 -- what comes next after `begun` sandboxes of `count`
-abbrev pub next_part : ℕ → ℕ → Next
-next_part begun count = cond (begun == count) next.End next.Fields
+abbrev pub next_part : ℕ → ℕ → Stage
+next_part begun count = cond (begun == count) stage.End stage.Fields
 
 -- what comes next after `read` first data bytes of `len`
-abbrev pub next_init : ℕ → ℕ → ℕ → ℕ → Next
-next_init read len begun count = cond (read == len) (next_part begun count) next.Init
+abbrev pub next_init : ℕ → ℕ → ℕ → ℕ → Stage
+next_init read len begun count = cond (read == len) (next_part begun count) stage.Init
 
 -- what comes next after `read` bytes of code of `size`
-abbrev pub next_code : ℕ → ℕ → ℕ → ℕ → ℕ → Next
-next_code read size len begun count = cond (read == size) (next_init 0 len begun count) next.Code
+abbrev pub next_code : ℕ → ℕ → ℕ → ℕ → ℕ → Stage
+next_code read size len begun count = cond (read == size) (next_init 0 len begun count) stage.Code
 
 -- what comes next after `read` gates of `gate_count`
-abbrev pub next_gate : ℕ → ℕ → Next
-next_gate read gate_count = cond (read == gate_count) next.Code next.Gate
+abbrev pub next_gate : ℕ → ℕ → Stage
+next_gate read gate_count = cond (read == gate_count) stage.Code stage.Gate
 
 -- `len` bytes may be taken, where this comes next for a sandbox with fields `f` of which `code`
 -- bytes of code and `init` first data bytes are read
-abbrev pub TakesLength : Next → Fields → ℕ → ℕ → ℕ → Type 0
-TakesLength next.Magic f code init len = len ≡ magic_bytes
-TakesLength next.Count f code init len = len ≡ number_bytes
-TakesLength next.Fields f code init len = len ≡ fields_bytes
-TakesLength next.Gate f code init len = len ≡ gate_bytes
-TakesLength next.Code f code init len = AreBundlesWithin (f.code_size - code) len
-TakesLength next.Init f code init len = (1 ≤ len) × (len + init ≤ f.init_len)
-TakesLength next.End f code init len = ⊥
-TakesLength next.Nothing f code init len = ⊥
+abbrev pub TakesLength : Stage → Fields → ℕ → ℕ → ℕ → Type 0
+TakesLength stage.Magic f code init len = len ≡ magic_bytes
+TakesLength stage.Count f code init len = len ≡ number_bytes
+TakesLength stage.Fields f code init len = len ≡ fields_bytes
+TakesLength stage.Gate f code init len = len ≡ gate_bytes
+TakesLength stage.Code f code init len = AreBundlesWithin (f.code_size - code) len
+TakesLength stage.Init f code init len = (1 ≤ len) × (len + init ≤ f.init_len)
+TakesLength stage.End f code init len = ⊥
+TakesLength stage.Nothing f code init len = ⊥
 
 -- a reader that was handed bytes from the start stands for a prefix, or has met a fault
 abbrev pub IsReader : LayoutReader → Type 0

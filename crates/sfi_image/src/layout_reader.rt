@@ -15,7 +15,7 @@ use crate::kept::{KeptGates, KeptSpans};
 use crate::reading::{
     FIELDS_BYTES, GATE_BYTES, MAGIC_BYTES, NUMBER_BYTES, fields_at, format_at, gate_at, number_at,
 };
-use crate::want::{Next, OtherWant, Want};
+use crate::want::{OtherWant, Stage, Want};
 use sfi_formats::{BUNDLE_SIZE, Format, SANDBOXES_MOST};
 
 /// Reads an image's bytes in order, as they come, and keeps of them only what its tests need.
@@ -24,7 +24,7 @@ use sfi_formats::{BUNDLE_SIZE, Format, SANDBOXES_MOST};
 #[derive(Drop)]
 pub struct LayoutReader {
     /// What comes next.
-    pub next: Next,
+    pub next: Stage,
     /// How many sandboxes the image has.
     pub count: u32,
     /// How many of these sandboxes have had their fields read.
@@ -44,49 +44,49 @@ pub struct LayoutReader {
 }
 
 // What comes after `begun` sandboxes of `count`.
-fn next_part(begun: u32, count: u32) -> Next
+fn next_part(begun: u32, count: u32) -> Stage
     ensures { result ≡ next_part begun count }
 {
     if begun == count {
-        Next::End
+        Stage::End
     } else {
-        Next::Fields
+        Stage::Fields
     }
 }
 
 // What comes after `read` first data bytes of `len`. It is out of line, since few bundles are the
 // last of their code region.
 #[inline(never)]
-fn next_init(read: u32, len: u32, begun: u32, count: u32) -> Next
+fn next_init(read: u32, len: u32, begun: u32, count: u32) -> Stage
     ensures { result ≡ next_init read len begun count }
 {
     if read == len {
         next_part(begun, count)
     } else {
-        Next::Init
+        Stage::Init
     }
 }
 
 // What comes after `read` bytes of a code region of `size`.
 #[inline]
-fn next_code(read: u32, size: u32, len: u32, begun: u32, count: u32) -> Next
+fn next_code(read: u32, size: u32, len: u32, begun: u32, count: u32) -> Stage
     ensures { result ≡ next_code read size len begun count }
 {
     if read == size {
         next_init(0, len, begun, count)
     } else {
-        Next::Code
+        Stage::Code
     }
 }
 
 // What comes after `read` gates of `gate_count`.
-fn next_gate(read: u32, gate_count: u32) -> Next
+fn next_gate(read: u32, gate_count: u32) -> Stage
     ensures { result ≡ next_gate read gate_count }
 {
     if read == gate_count {
-        Next::Code
+        Stage::Code
     } else {
-        Next::Gate
+        Stage::Gate
     }
 }
 
@@ -138,7 +138,7 @@ impl LayoutReader {
         ensures { StandsFor result Empty }
     {
         LayoutReader {
-            next: Next::Magic,
+            next: Stage::Magic,
             count: 0,
             begun: 0,
             spans: KeptSpans::new(),
@@ -172,7 +172,7 @@ impl LayoutReader {
         ensures want { (x : ImagePrefix) → StandsFor self.now x → result ≡ want_of x }
         ensures stopped { HasStopped self.now → result ≡ Want.Nothing }
     {
-        if let Next::Code = self.next {
+        if let Stage::Code = self.next {
             let address = self.fields.code_base.wrapping_add(self.code_read);
             Want::Bundle(BundlePlace {
                 sandbox: self.begun.saturating_sub(1),
@@ -195,21 +195,21 @@ impl LayoutReader {
     // What comes next where no bundle does. It is out of line, since most that is read is bundles.
     #[inline(never)]
     fn wants_no_bundle(&self) -> OtherWant
-        requires { self.now.next ≢ Next.Code }
+        requires { self.now.next ≢ Stage.Code }
         ensures want { (x : ImagePrefix) → StandsFor self.now x → as_want result ≡ want_of x }
         ensures stopped { HasStopped self.now → result ≡ OtherWant.Nothing }
     {
         match self.next {
-            Next::Magic => OtherWant::Field(MAGIC_BYTES),
-            Next::Count => OtherWant::Field(NUMBER_BYTES),
-            Next::Fields => OtherWant::Field(FIELDS_BYTES),
-            Next::Gate => OtherWant::Field(GATE_BYTES),
-            Next::Code => unreachable!(),
-            Next::Init => OtherWant::Init(
+            Stage::Magic => OtherWant::Field(MAGIC_BYTES),
+            Stage::Count => OtherWant::Field(NUMBER_BYTES),
+            Stage::Fields => OtherWant::Field(FIELDS_BYTES),
+            Stage::Gate => OtherWant::Field(GATE_BYTES),
+            Stage::Code => unreachable!(),
+            Stage::Init => OtherWant::Init(
                 self.fields.init_len.saturating_sub(self.init_read) as usize,
             ),
-            Next::End => OtherWant::End,
-            Next::Nothing => OtherWant::Nothing,
+            Stage::End => OtherWant::End,
+            Stage::Nothing => OtherWant::Nothing,
         }
     }
 
@@ -220,7 +220,7 @@ impl LayoutReader {
         ensures length { (x : ImagePrefix) → StandsFor self.now x → IsStretchLength x result }
         ensures stopped { HasStopped self.now → result ≡ 0 }
     {
-        let Next::Code = self.next else {
+        let Stage::Code = self.next else {
             return 0;
         };
         let fields = &self.fields;
@@ -244,7 +244,7 @@ impl LayoutReader {
             → HasFaultWhateverFollows (prefix_bytes x ++ bytes.now) k) }
         ensures stopped { IfSome result (λ k. HasStopped self.new) }
         ensures falls { left self.new < left self.old }
-        ensures code { self.old.next ≡ Next.Code →
+        ensures code { self.old.next ≡ Stage.Code →
             left self.new + length bytes.now ≤ left self.old }
     {
         self.advance(bytes)
@@ -256,10 +256,10 @@ impl LayoutReader {
         requires { MayTake self.old (length bytes.now) }
         ensures takes { Takes self.old bytes.now self.new result }
         ensures falls { left self.new < left self.old }
-        ensures code { self.old.next ≡ Next.Code →
+        ensures code { self.old.next ≡ Stage.Code →
             left self.new + length bytes.now ≤ left self.old }
     {
-        if let Next::Code = self.next {
+        if let Stage::Code = self.next {
             self.take_code(bytes);
             None
         } else {
@@ -270,21 +270,21 @@ impl LayoutReader {
     // Takes bytes as `advance` does, where no bundle comes next. It is out of line.
     #[inline(never)]
     fn advance_by_no_bundle(&mut self, bytes: &[u8]) -> Option<LayoutFault>
-        requires next { self.old.next ≢ Next.Code }
+        requires next { self.old.next ≢ Stage.Code }
         requires may { MayTake self.old (length bytes.now) }
         ensures takes { Takes self.old bytes.now self.new result }
         ensures falls { left self.new < left self.old }
     {
         match self.next {
-            Next::Magic => self.take_magic(bytes),
-            Next::Count => self.take_count(bytes),
-            Next::Fields => self.take_fields(bytes),
-            Next::Gate => self.take_gate(bytes),
-            Next::Init => {
+            Stage::Magic => self.take_magic(bytes),
+            Stage::Count => self.take_count(bytes),
+            Stage::Fields => self.take_fields(bytes),
+            Stage::Gate => self.take_gate(bytes),
+            Stage::Init => {
                 self.take_init(bytes);
                 None
             }
-            Next::Code | Next::End | Next::Nothing => unreachable!(),
+            Stage::Code | Stage::End | Stage::Nothing => unreachable!(),
         }
     }
 
@@ -292,16 +292,16 @@ impl LayoutReader {
     #[inline(never)]
     fn take_magic(&mut self, bytes: &[u8]) -> Option<LayoutFault>
         requires reader { IsReader self.old }
-        requires next { self.old.next ≡ Next.Magic }
+        requires next { self.old.next ≡ Stage.Magic }
         requires len { length bytes.now ≡ MAGIC_BYTES }
         ensures takes { Takes self.old bytes.now self.new result }
         ensures falls { left self.new < left self.old }
     {
         let Some(format) = format_at(bytes) else {
-            self.next = Next::Nothing;
+            self.next = Stage::Nothing;
             return Some(LayoutFault::Magic);
         };
-        self.next = Next::Count;
+        self.next = Stage::Count;
         self.fields.format = format;
         None
     }
@@ -310,17 +310,17 @@ impl LayoutReader {
     #[inline(never)]
     fn take_count(&mut self, bytes: &[u8]) -> Option<LayoutFault>
         requires reader { IsReader self.old }
-        requires next { self.old.next ≡ Next.Count }
+        requires next { self.old.next ≡ Stage.Count }
         requires len { length bytes.now ≡ NUMBER_BYTES }
         ensures takes { Takes self.old bytes.now self.new result }
         ensures falls { left self.new < left self.old }
     {
         let (count, _) = number_at(bytes);
         if count < 1 || count > SANDBOXES_MOST {
-            self.next = Next::Nothing;
+            self.next = Stage::Nothing;
             return Some(LayoutFault::Count);
         }
-        self.next = Next::Fields;
+        self.next = Stage::Fields;
         self.count = count;
         self.begun = 0;
         None
@@ -330,7 +330,7 @@ impl LayoutReader {
     #[inline(never)]
     fn take_fields(&mut self, bytes: &[u8]) -> Option<LayoutFault>
         requires reader { IsReader self.old }
-        requires next { self.old.next ≡ Next.Fields }
+        requires next { self.old.next ≡ Stage.Fields }
         requires len { length bytes.now ≡ FIELDS_BYTES }
         ensures takes { Takes self.old bytes.now self.new result }
         ensures falls { left self.new < left self.old }
@@ -339,7 +339,7 @@ impl LayoutReader {
         let own = match spans_after(self.spans.as_slice(), &fields) {
             Ok(own) => own,
             Err(fault) => {
-                self.next = Next::Nothing;
+                self.next = Stage::Nothing;
                 return Some(fault);
             }
         };
@@ -359,7 +359,7 @@ impl LayoutReader {
     #[inline(never)]
     fn take_gate(&mut self, bytes: &[u8]) -> Option<LayoutFault>
         requires reader { IsReader self.old }
-        requires next { self.old.next ≡ Next.Gate }
+        requires next { self.old.next ≡ Stage.Gate }
         requires len { length bytes.now ≡ GATE_BYTES }
         ensures takes { Takes self.old bytes.now self.new result }
         ensures falls { left self.new < left self.old }
@@ -367,7 +367,7 @@ impl LayoutReader {
         let (gate, _) = gate_at(bytes);
         let last = self.gates.as_slice().last().copied();
         if !is_next_gate(&self.fields, last, gate) {
-            self.next = Next::Nothing;
+            self.next = Stage::Nothing;
             return Some(LayoutFault::Gates);
         }
         self.gates.push(gate.address);
@@ -379,7 +379,7 @@ impl LayoutReader {
     #[inline(never)]
     fn take_code(&mut self, code: &[u8])
         requires reader { IsReader self.old }
-        requires next { self.old.next ≡ Next.Code }
+        requires next { self.old.next ≡ Stage.Code }
         requires len { AreBundlesWithin (self.old.fields.code_size - self.old.code_read) (length code.now) }
         ensures takes { Takes self.old code.now self.new None }
         ensures falls { left self.new + length code.now ≤ left self.old }
@@ -401,7 +401,7 @@ impl LayoutReader {
     #[inline(never)]
     fn take_init(&mut self, bytes: &[u8])
         requires reader { IsReader self.old }
-        requires next { self.old.next ≡ Next.Init }
+        requires next { self.old.next ≡ Stage.Init }
         requires len { 1 ≤ length bytes.now }
         requires room { length bytes.now + self.old.init_read ≤ self.old.fields.init_len }
         ensures takes { Takes self.old bytes.now self.new None }

@@ -45,5 +45,5 @@ pub use reserved::Reserved;
 pub use sfi_formats::Format;
 pub use source::{ByteSource, ReadFault, Reading};
 pub use span::{Span, are_all_apart};
-pub use want::{Next, Want};
+pub use want::{Stage, Want};
 pub use writing::{write_image, write_image_as};

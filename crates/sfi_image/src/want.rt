@@ -26,9 +26,9 @@ pub(crate) enum OtherWant {
     Nothing,
 }
 
-/// What a reader reads next.
+/// How far a reader has come: what it reads next.
 #[derive(Clone, Copy)]
-pub enum Next {
+pub enum Stage {
     /// The four bytes of the format.
     Magic,
     /// How many sandboxes there are.
