@@ -2,8 +2,8 @@
 use Rattle.sfi_link.proofs.Prelude.{◌≡◌, ℕ, List, [], ◌∷◌, ap, ◌∙◌, sym, subst, ◌⊎◌, inl, inr, Vec, Global, Result, Ok, Err, IfOk, IfErr, Sandbox, Placement, Place, IsLinkFault}
 use Rattle.std.specs.Prelude.{◌≢◌}
 use Rattle.std.proofs.lemmas.Result.{IfOk-weaker}
-use Rattle.sfi_text.specs.Texts.{MeansSource, MeansListing}
-use Rattle.sfi_text.specs.SoFar.{Shared}
+use Rattle.sfi_text.specs.Texts.{MeansSource, MeansText}
+use Rattle.sfi_text.specs.SoFar.{SharedNames}
 use Rattle.sfi_source.specs.Source.{IsSource, IsSandbox}
 use Rattle.std.proofs.lemmas.List.Elements.{recursion_from_All}
 use Rattle.sfi_build.specs.Tables.{tails_from, each_with, sandbox_with}
@@ -32,17 +32,17 @@ abbrev IsEarly : BuildFault → Type 0
 IsEarly (Names f) = ⊥
 IsEarly _ = Unit {0}
 
-same_placed : (text : List ℕ) (s t : List Sandbox) (l m : List Shared) (p q : List Placement) → MeansListing text s l → MeansListing text t m → AreRewritten s p → AreRewritten t q → p ≡ q
-same_placed text s t l m p q a b x y = sources.one_rewriting t p q (subst (λ u. AreRewritten u p) (texts.one_listing text s t l m a b).0 x) y
+same_placed : (text : List ℕ) (s t : List Sandbox) (l m : List SharedNames) (p q : List Placement) → MeansText text s l → MeansText text t m → AreRewritten s p → AreRewritten t q → p ≡ q
+same_placed text s t l m p q a b x y = sources.one_rewriting t p q (subst (λ u. AreRewritten u p) (texts.one_text text s t l m a b).0 x) y
 
-listed_means : (text : List ℕ) (s : List Sandbox) (l : List Shared) → MeansListing text s l → MeansSource text s
+listed_means : (text : List ℕ) (s : List Sandbox) (l : List SharedNames) → MeansText text s l → MeansSource text s
 listed_means text s l (new, last, leads, begun, is, shared) = (new, last, leads, begun, is)
 
 -- the tables are the same, and the sandboxes to whose data they belong
-same_tails : (given : List Place) (text : List ℕ) (s t : List Sandbox) (l m : List Shared) (p q : List Placement) → IsPlainBuild given text s l p → IsPlainBuild given text t m q
+same_tails : (given : List Place) (text : List ℕ) (s t : List Sandbox) (l m : List SharedNames) (p q : List Placement) → IsPlainBuild given text s l p → IsPlainBuild given text t m q
     → (tails_from given p 0 l s ≡ tails_from given q 0 m t) × (s ≡ t)
 same_tails given text s t l m p q a b =
-    let same = texts.one_listing text s t l m a.means b.means in
+    let same = texts.one_text text s t l m a.means b.means in
     let placed = same_placed text s t l m p q a.means b.means a.rewritten b.rewritten in
     ((λ i. tails_from given (placed i) 0 (same.1 i) (same.0 i)), same.0)
 
@@ -67,10 +67,10 @@ one_build given text xs ys a b =
     one_bytes given b.placed xs ys (subst (λ p. IsLinkedImage given p xs) (built_placed given text xs ys a b) a.image) b.image
 
 -- where a text's source is placed and linked, there is no fault before its tables
-plain_never : (given : List Place) (text : List ℕ) (s : List Sandbox) (l : List Shared) (p : List Placement) (f : BuildFault) → IsPlainBuild given text s l p → IsEarly f → IsBuildFault given text f → ⊥
+plain_never : (given : List Place) (text : List ℕ) (s : List Sandbox) (l : List SharedNames) (p : List Placement) (f : BuildFault) → IsPlainBuild given text s l p → IsEarly f → IsBuildFault given text f → ⊥
 plain_never given text s l p (Text f) a early h = texts.meant_has_no_fault text s f (listed_means text s l a.means) h
 plain_never given text s l p (Rewrite f) a early (t, m, means, h) =
-    sources.never_both t p f (subst (λ u. AreRewritten u p) (texts.one_listing text s t l m a.means means).0 a.rewritten) h
+    sources.never_both t p f (subst (λ u. AreRewritten u p) (texts.one_text text s t l m a.means means).0 a.rewritten) h
 plain_never given text s l p (Link f) a early (t, m, q, means, rewritten, h) =
     never given q a.bytes f (subst (λ u. IsLinkedImage given u a.bytes) (same_placed text s t l m p q a.means means a.rewritten rewritten) a.image) h
 plain_never given text s l p (Names f) a early h = absurd early
@@ -84,8 +84,8 @@ never_built given text bytes (Text f) a h = plain_never given text a.means.sourc
 never_built given text bytes (Rewrite f) a h = plain_never given text a.means.source a.means.shared a.means.placed (Rewrite f) a.means.plain tt h
 never_built given text bytes (Link f) a h = plain_never given text a.means.source a.means.shared a.means.placed (Link f) a.means.plain tt h
 
-not_rewritten : (text : List ℕ) (s t : List Sandbox) (l m : List Shared) (p : List Placement) (f : RewriteFault) → MeansListing text s l → MeansListing text t m → AreRewritten s p → IsSourceFault t f → ⊥
-not_rewritten text s t l m p f a b x h = sources.never_both t p f (subst (λ u. AreRewritten u p) (texts.one_listing text s t l m a b).0 x) h
+not_rewritten : (text : List ℕ) (s t : List Sandbox) (l m : List SharedNames) (p : List Placement) (f : RewriteFault) → MeansText text s l → MeansText text t m → AreRewritten s p → IsSourceFault t f → ⊥
+not_rewritten text s t l m p f a b x h = sources.never_both t p f (subst (λ u. AreRewritten u p) (texts.one_text text s t l m a b).0 x) h
 
 pub one_build_fault : (given : List Place) → (text : List ℕ) (f g : BuildFault) → IsBuildFault given text f → IsBuildFault given text g → f ≡ g
 one_build_fault given text (Names f) (Names g) (s, l, p, a, h) (t, m, q, b, k) =
@@ -101,7 +101,7 @@ one_build_fault given text (Text f) (Rewrite g) a (t, m, means, h) = absurd (tex
 one_build_fault given text (Text f) (Link g) a (t, m, q, means, rewritten, h) = absurd (texts.meant_has_no_fault text t f (listed_means text t m means) a)
 one_build_fault given text (Rewrite f) (Text g) (s, l, means, h) b = absurd (texts.meant_has_no_fault text s g (listed_means text s l means) b)
 one_build_fault given text (Rewrite f) (Rewrite g) (s, l, means, h) (t, m, other, k) =
-    ap (λ x. Rewrite x) (sources.one_fault t f g (subst (λ u. IsSourceFault u f) (texts.one_listing text s t l m means other).0 h) k)
+    ap (λ x. Rewrite x) (sources.one_fault t f g (subst (λ u. IsSourceFault u f) (texts.one_text text s t l m means other).0 h) k)
 one_build_fault given text (Rewrite f) (Link g) (s, l, means, h) (t, m, q, other, rewritten, k) = absurd (not_rewritten text t s m l q f other means rewritten h)
 one_build_fault given text (Link f) (Text g) (s, l, p, means, rewritten, h) b = absurd (texts.meant_has_no_fault text s g (listed_means text s l means) b)
 one_build_fault given text (Link f) (Rewrite g) (s, l, p, means, rewritten, h) (t, m, other, k) = absurd (not_rewritten text s t l m p g means other rewritten k)

@@ -1,5 +1,5 @@
 -- A text's lists for tables of names are as many as its sandboxes.
-use Rattle.sfi_text.proofs.Prelude.{◌≡◌, refl, sym, ap, subst, ◌∙◌, ℕ, ◌+◌, inl, inr, List, [], ◌∷◌, ◌++◌, Option, None, Some, length, length-append, arith, Sandbox, Begun, Shared, SoFar, nothing, begin, format_or_sfi1, last_sandbox, sandboxes, tables, Stated, format, sandbox, within, Does, LabelsLead, RestLeads, uncommented, lines, LinesLead, MeansListing}
+use Rattle.sfi_text.proofs.Prelude.{◌≡◌, refl, sym, ap, subst, ◌∙◌, ℕ, ◌+◌, inl, inr, List, [], ◌∷◌, ◌++◌, Option, None, Some, length, length-append, arith, Sandbox, Begun, SharedNames, SoFar, nothing, begin, format_or_sfi1, last_sandbox, sandboxes, tables, Stated, format, sandbox, within, Does, LabelsLead, RestLeads, uncommented, lines, LinesLead, MeansText}
 use Rattle.sfi_text.specs.SoFar.{last_shared}
 
 -- each finished sandbox has its list
@@ -29,6 +29,6 @@ lines_even line old new [] same h = subst IsEven (sym same) h
 lines_even line old new (text ∷ texts) (next, (labelled, rest, passes, leads), more) h =
     lines_even (line + 1) next new texts more (rest_even line labelled next rest leads (labels_even passes.names old labelled (uncommented text) rest passes.lead h))
 
-pub even : (text : List ℕ) (source : List Sandbox) (shared : List Shared) → MeansListing text source shared → length shared ≡ length source
+pub even : (text : List ℕ) (source : List Sandbox) (shared : List SharedNames) → MeansText text source shared → length shared ≡ length source
 even text source shared (new, last, leads, begun, source_is, shared_is) =
     ap length shared_is ∙ all_even new new.begun (lines_even 1 nothing new (lines text) leads.lead refl) ∙ sym (ap length source_is)

@@ -14,8 +14,8 @@ unfoldable use Rattle.sfi_names.specs.Tables.{entry, footer, spelling}
 use Rattle.sfi_source.specs.Source.{IsEntry}
 use Rattle.sfi_source.specs.Names.{IsShortLabel, begins_name, continues_name}
 use Rattle.sfi_source.specs.declared.item.Named.{Named as Meaning}
-use Rattle.sfi_text.specs.declared.listing.Listed.{Listed}
-use Rattle.sfi_text.specs.SoFar.{Shared}
+use Rattle.sfi_text.specs.declared.source_text.Listed.{Listed}
+use Rattle.sfi_text.specs.SoFar.{SharedNames}
 use Rattle.sfi_build.specs.declared.table_fault.TableFault.{TableFault}
 use Rattle.sfi_build.specs.declared.table_fault.TableFault.TheVariants.{NoRoom}
 use Rattle.sfi_build.specs.Tables.{address_in, on_ok, entry_with, entry_before, entries_of, table_of, bytes_within, is_unlisted, room_of, tail_of, tails_from}
@@ -146,7 +146,7 @@ within number room t tail h =
       | false ↦ λ e h. let same = sym (same_ok _ _ h) in (omega (arith, ap length same, ltb-false _ _ e), same)
     ] refl h
 
-tail_fits : (f : ℕ → Option ℕ) (number : ℕ) (shared : Shared) (s : Sandbox) (tail : List ℕ) → IsSandbox s → tail_of f number shared s ≡ Ok tail
+tail_fits : (f : ℕ → Option ℕ) (number : ℕ) (shared : SharedNames) (s : Sandbox) (tail : List ℕ) → IsSandbox s → tail_of f number shared s ≡ Ok tail
     → (length s.bytes + length tail ≤ s.data_size) × All IsByte tail
 tail_fits f number shared s tail right h =
     elim (is_unlisted shared) as (λ b. cond b (Ok []) (on_ok (table_of f texts shared) (bytes_within number (room_of s))) ≡ Ok tail → (length s.bytes + length tail ≤ s.data_size) × All IsByte tail) [
@@ -167,7 +167,7 @@ tail_fits f number shared s tail right h =
     short : AreShort (map (λ e. e.0) s.names)
     short = texts_short s right
 
-pub tails_fit : (given : List Place) (placed : List Placement) (number : ℕ) (shared : List Shared) (source : List Sandbox) (tails : List (List ℕ)) → AllByRecursion IsSandbox source
+pub tails_fit : (given : List Place) (placed : List Placement) (number : ℕ) (shared : List SharedNames) (source : List Sandbox) (tails : List (List ℕ)) → AllByRecursion IsSandbox source
     → tails_from given placed number shared source ≡ Ok tails → Fit tails source
 tails_fit given placed number [] source tails all h = subst (λ x. Fit x source) (same_ok _ _ h) tt
 tails_fit given placed number (l ∷ shared) [] tails all h = subst (λ x. Fit x []) (same_ok _ _ h) tt

@@ -10,8 +10,8 @@ use Rattle.sfi_build.specs.declared.build_fault.BuildFault.{BuildFault}
 use Rattle.sfi_build.specs.private.{IsTableStop}
 use Rattle.sfi_source.specs.Names.{IsShortLabel}
 use Rattle.sfi_source.specs.declared.item.Named.{Named as Meaning}
-use Rattle.sfi_text.specs.declared.listing.Listed.{Listed}
-use Rattle.sfi_text.specs.SoFar.{Shared}
+use Rattle.sfi_text.specs.declared.source_text.Listed.{Listed}
+use Rattle.sfi_text.specs.SoFar.{SharedNames}
 use Rattle.sfi_build.specs.declared.table_fault.TableFault.{TableFault}
 use Rattle.sfi_build.specs.declared.table_fault.TableFault.TheVariants.{Unknown, NoRoom}
 use Rattle.sfi_build.specs.Tables.{on_ok, entry_with, entry_before, entries_of, table_of, bytes_within, is_unlisted, room_of, address_in, tail_of, tails_from, each_with, sandbox_with}
@@ -53,7 +53,7 @@ table_with es fs = record { version = 0; exports = es; imports = fs }
 pub is_table : (es fs : List Named) → All IsNamed es → All IsNamed fs → length (entries es) + length (entries fs) < 2 ^ 32 → IsTable (table_with es fs)
 is_table es fs all_es all_fs few = record { exports = all_es; imports = all_fs; version = omega arith; exports_bytes = omega (arith, few); imports_bytes = omega (arith, few) }
 
-module _ (f : ℕ → Option ℕ) (number : ℕ) (shared : Shared) (s : Sandbox) where
+module _ (f : ℕ → Option ℕ) (number : ℕ) (shared : SharedNames) (s : Sandbox) where
   abbrev texts : List (List ℕ)
   texts = map (λ e. e.0) s.names
 
@@ -83,7 +83,7 @@ module _ (f : ℕ → Option ℕ) (number : ℕ) (shared : Shared) (s : Sandbox)
     fits less = both ∙ ap (λ b. cond b (Err (NoRoom number)) (Ok (spelling (table_with es fs)))) (le-ltb (room_of s) (length (spelling (table_with es fs))) less)
 
 -- the tables of sandboxes, one after another: those of what is left are made of the next one's and the rest's
-module _ (given : List Place) (placed : List Placement) (shared rest_shared : List Shared) (source rest : List Sandbox) (tails : List (List ℕ)) (k : ℕ) (l : Shared) (s : Sandbox)
+module _ (given : List Place) (placed : List Placement) (shared rest_shared : List SharedNames) (source rest : List Sandbox) (tails : List (List ℕ)) (k : ℕ) (l : SharedNames) (s : Sandbox)
     (one : drop k shared ≡ l ∷ rest_shared) (two : drop k source ≡ s ∷ rest)
     (made : tails_from given placed 0 shared source ≡ after tails (tails_from given placed k (drop k shared) (drop k source))) where
   abbrev tail : Result (List ℕ) TableFault

@@ -4,8 +4,8 @@ use Rattle.sfi_image.specs.Spelling.{spelling}
 use Rattle.sfi_formats.specs.declared.place.Place.{Place}
 use Rattle.sfi_source.specs.Source.{Sandbox}
 use Rattle.sfi_rewrite.specs.Placement.{Placement}
-use Rattle.sfi_text.specs.SoFar.{Shared, tables}
-use Rattle.sfi_text.specs.Texts.{MeansSource, MeansListing}
+use Rattle.sfi_text.specs.SoFar.{SharedNames, tables}
+use Rattle.sfi_text.specs.Texts.{MeansSource, MeansText}
 use Rattle.sfi_build.specs.Laws.{SomeBuilding}
 use Rattle.sfi_build.specs.Tables.{tails_from}
 use Rattle.sfi_build.specs.Texts.{IsPlainBuild, IsTextBuild, IsBuildFault}
@@ -17,11 +17,11 @@ use Rattle.sfi_rewrite.proofs.Facts.{some_rewriting, rewritten_is_placed}
 use Rattle.sfi_link.proofs.SomeLinking.{some_linking}
 use Rattle.sfi_build.proofs.Whole.{layout, built}
 
-listing : (text : List ℕ) (source : List Sandbox) → MeansSource text source → (shared : List Shared) × MeansListing text source shared
-listing text source (new, last, leads, begun, is) = (tables new, (new, last, leads, begun, is, refl))
+meaning : (text : List ℕ) (source : List Sandbox) → MeansSource text source → (shared : List SharedNames) × MeansText text source shared
+meaning text source (new, last, leads, begun, is) = (tables new, (new, last, leads, begun, is, refl))
 
 -- with its tables, or the fault of one
-with_tables : (given : List Place) (text : List ℕ) (source : List Sandbox) (shared : List Shared) (placed : List Placement) → IsPlainBuild given text source shared placed
+with_tables : (given : List Place) (text : List ℕ) (source : List Sandbox) (shared : List SharedNames) (placed : List Placement) → IsPlainBuild given text source shared placed
     → (made : Result (List (List ℕ)) TableFault) → tails_from given placed 0 shared source ≡ made
     → ((bytes : List ℕ) × IsTextBuild given text bytes) ⊎ ((f : BuildFault) × IsBuildFault given text f)
 with_tables given text source shared placed plain (Err f) is = inr (Names f, (source, shared, placed, plain, is))
@@ -33,7 +33,7 @@ some_building given text =
     elim (some_source text) [
       | inr (f, wrong) ↦ inr (Text f, wrong)
       | inl (source, means) ↦
-          let (shared, lists) = listing text source means in
+          let (shared, lists) = meaning text source means in
           elim (some_rewriting source) [
             | inr (f, wrong) ↦ inr (Rewrite f, (source, shared, lists, wrong))
             | inl (placed, rewritten) ↦ elim (some_linking given placed (rewritten_is_placed source placed (sources_are_right text source means) rewritten)) [

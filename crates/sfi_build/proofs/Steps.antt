@@ -2,8 +2,8 @@
 use Rattle.sfi_link.proofs.Prelude.{◌≡◌, refl, sym, ap, subst, ◌∙◌, ℕ, zero, suc, ◌+◌, ◌<◌, List, [], ◌∷◌, ◌++◌, Option, None, Some, Result, Ok, Err, length, map, slice_get, get_or, take, drop, arith, append_assoc, append-nil, Sandbox, Placement, Place}
 use Rattle.std.proofs.lemmas.List.{at_drop_more, drop_all, take_more, map_push}
 use Rattle.sfi_names.specs.Tables.{Named}
-use Rattle.sfi_text.specs.declared.listing.Listed.{Listed}
-use Rattle.sfi_text.specs.SoFar.{Shared}
+use Rattle.sfi_text.specs.declared.source_text.Listed.{Listed}
+use Rattle.sfi_text.specs.SoFar.{SharedNames}
 use Rattle.sfi_build.specs.declared.table_fault.TableFault.{TableFault}
 use Rattle.sfi_build.specs.declared.table_fault.TableFault.TheVariants.{Unknown}
 use Rattle.sfi_build.specs.Tables.{address_in, on_ok, entry_with, entry_before, entries_of, tail_of, tails_from, each_with, sandbox_with}

@@ -4,7 +4,7 @@ use Rattle.sfi_image.specs.Spelling.{spelling}
 use Rattle.sfi_link.specs.Names.{MapEntry}
 use Rattle.std.proofs.lemmas.List.Elements.{recursion_from_All}
 use Rattle.sfi_source.specs.Source.{IsSource}
-use Rattle.sfi_text.specs.SoFar.{Shared}
+use Rattle.sfi_text.specs.SoFar.{SharedNames}
 use Rattle.sfi_text.proofs.Facts as texts
 use Rattle.sfi_image.specs.Parts.{IsImage, IsRightLayout}
 use Rattle.sfi_rewrite.specs.Rewriting.{AreRewritten}
@@ -30,7 +30,7 @@ linked_count given number [] parts h = ap length h
 linked_count given number (p ∷ placed) [] h = absurd h
 linked_count given number (p ∷ placed) (q ∷ parts) h = omega (arith, linked_count given (number + 1) placed parts h.1)
 
-module _ (given : List Place) (text : List ℕ) (source : List Sandbox) (shared : List Shared) (placed : List Placement) (plain : IsPlainBuild given text source shared placed)
+module _ (given : List Place) (text : List ℕ) (source : List Sandbox) (shared : List SharedNames) (placed : List Placement) (plain : IsPlainBuild given text source shared placed)
     (tails : List (List ℕ)) (tails_are : tails_from given placed 0 shared source ≡ Ok tails) where
   pub means : MeansWhole given text (each_with sandbox_with tails source)
   means = record { source = source; shared = shared; placed = placed; plain = plain; tails = tails; tails_are = tails_are; whole_is = refl }

@@ -3,8 +3,8 @@ use Rattle.std.specs.Prelude.{◌≡◌, ◌+◌, ◌-◌, ◌++◌, ◌==◌, �
 use Rattle.sfi_formats.specs.declared.place.Place.{Place}
 use Rattle.sfi_names.specs.Tables.{Named, Table, spelling}
 use Rattle.sfi_source.specs.Source.{Sandbox}
-use Rattle.sfi_text.specs.declared.listing.Listed.{Listed}
-use Rattle.sfi_text.specs.SoFar.{Shared}
+use Rattle.sfi_text.specs.declared.source_text.Listed.{Listed}
+use Rattle.sfi_text.specs.SoFar.{SharedNames}
 use Rattle.sfi_rewrite.specs.Placement.{Placement}
 use Rattle.sfi_link.specs.Code.{address_at, bases_of}
 use Rattle.sfi_build.specs.declared.table_fault.TableFault.{TableFault}
@@ -46,7 +46,7 @@ entries_of address_of texts (l ∷ listed) =
     (entries_of address_of texts listed)
 
 -- the table of all that is listed, for version 0 of the host's interface
-abbrev pub table_of : (ℕ → Option ℕ) → List (List ℕ) → Shared → Result Table TableFault
+abbrev pub table_of : (ℕ → Option ℕ) → List (List ℕ) → SharedNames → Result Table TableFault
 table_of address_of texts shared =
     on_ok (entries_of address_of texts shared.exports) (λ exports.
     on_ok (entries_of address_of texts shared.imports) (λ imports.
@@ -58,7 +58,7 @@ bytes_within sandbox room t =
     if nat_lt room (length (spelling t)) then Err (NoRoom sandbox) else Ok (spelling t)
 
 -- nothing is listed
-abbrev pub is_unlisted : Shared → Bool
+abbrev pub is_unlisted : SharedNames → Bool
 is_unlisted shared = (length shared.exports == 0) && (length shared.imports == 0)
 
 -- how many bytes of its data a sandbox leaves
@@ -66,7 +66,7 @@ abbrev pub room_of : Sandbox → ℕ
 room_of s = s.data_size - length s.bytes
 
 -- the bytes of the table of the sandbox of that number; none where nothing is listed
-abbrev pub tail_of : (ℕ → Option ℕ) → ℕ → Shared → Sandbox → Result (List ℕ) TableFault
+abbrev pub tail_of : (ℕ → Option ℕ) → ℕ → SharedNames → Sandbox → Result (List ℕ) TableFault
 tail_of address_of number shared s =
     if is_unlisted shared then Ok []
     else on_ok (table_of address_of (map (λ e. e.0) s.names) shared) (bytes_within number (room_of s))
@@ -75,7 +75,7 @@ tail_of address_of number shared s =
 
 -- those of its sandboxes, the first of which has that number, or the first fault: the addresses are
 -- those that the names have in the image of what is placed
-abbrev pub tails_from : List Place → List Placement → ℕ → List Shared → List Sandbox
+abbrev pub tails_from : List Place → List Placement → ℕ → List SharedNames → List Sandbox
     → Result (List (List ℕ)) TableFault
 tails_from given placed number (l ∷ shared) (s ∷ source) =
     on_ok (tail_of (address_in given number (slice_get placed number)) number l s) (λ t.

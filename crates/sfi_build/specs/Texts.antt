@@ -3,8 +3,8 @@ use Rattle.std.specs.Prelude.{◌≡◌, ◌⊎◌, ℕ, List, [], Result, Ok, E
 use Rattle.std.specs.Global.{Global}
 use Rattle.sfi_text.specs.Tokens.{memory}
 use Rattle.sfi_source.specs.Source.{Sandbox}
-use Rattle.sfi_text.specs.SoFar.{Shared}
-use Rattle.sfi_text.specs.Texts.{MeansListing, IsFault}
+use Rattle.sfi_text.specs.SoFar.{SharedNames}
+use Rattle.sfi_text.specs.Texts.{MeansText, IsFault}
 use Rattle.sfi_image.specs.Spelling.{Part}
 use Rattle.sfi_formats.specs.declared.place.Place.{Place}
 use Rattle.sfi_image.specs.Parts.{IsImage}
@@ -23,8 +23,8 @@ use Rattle.sfi_link.specs.Names.{MapEntry, map_from}
 -- the text means a source, of whose placement an image can be made; `shared` is what the tables of
 -- names are to have
 pub record IsPlainBuild (given : List Place) (text : List ℕ) (source : List Sandbox)
-    (shared : List Shared) (placed : List Placement) : Type 0 where
-  pub means : MeansListing text source shared
+    (shared : List SharedNames) (placed : List Placement) : Type 0 where
+  pub means : MeansText text source shared
   pub rewritten : AreRewritten source placed
   pub bytes : List ℕ
   pub image : IsLinkedImage given placed bytes
@@ -33,7 +33,7 @@ pub record IsPlainBuild (given : List Place) (text : List ℕ) (source : List Sa
 -- ends of the first data bytes
 pub record MeansWhole (given : List Place) (text : List ℕ) (whole : List Sandbox) : Type 0 where
   pub source : List Sandbox
-  pub shared : List Shared
+  pub shared : List SharedNames
   pub placed : List Placement
   pub plain : IsPlainBuild given text source shared placed
   pub tails : List (List ℕ)
@@ -67,13 +67,13 @@ pub record IsCleanImage (bytes : List ℕ) : Type 0 where
 abbrev pub IsBuildFault : List Place → List ℕ → BuildFault → Type 0
 IsBuildFault given text (Text f) = IsFault text f
 IsBuildFault given text (Rewrite f) =
-    (source : List Sandbox) × (shared : List Shared) × MeansListing text source shared
+    (source : List Sandbox) × (shared : List SharedNames) × MeansText text source shared
     × IsSourceFault source f
 IsBuildFault given text (Link f) =
-    (source : List Sandbox) × (shared : List Shared) × (placed : List Placement)
-    × MeansListing text source shared × AreRewritten source placed × IsLinkFault given placed f
+    (source : List Sandbox) × (shared : List SharedNames) × (placed : List Placement)
+    × MeansText text source shared × AreRewritten source placed × IsLinkFault given placed f
 IsBuildFault given text (Names f) =
-    (source : List Sandbox) × (shared : List Shared) × (placed : List Placement)
+    (source : List Sandbox) × (shared : List SharedNames) × (placed : List Placement)
     × IsPlainBuild given text source shared placed
     × (tails_from given placed 0 shared source ≡ Err f)
 

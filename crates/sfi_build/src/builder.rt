@@ -17,7 +17,7 @@ use crate::tables::inits_of;
 use sfi_formats::Place;
 use sfi_link::{NameAddress, link_at, names_of};
 use sfi_rewrite::rewrite;
-use sfi_text::{Listing, parse_listing};
+use sfi_text::{SourceText, parse_text};
 use std::alloc::Global;
 
 // The build of the text, or its fault: its image without tables is made first, which has all
@@ -27,7 +27,7 @@ fn build_of(alloc: Global, text: &str, places: &[Place]) -> Result<Vec<u8>, Buil
     ensures fault { IfErr result (λ f. IsWantOfMemory f ⊎ IsBuildFault places.now text.now f) }
     ensures too_long { most_bytes < length text.now → result ≡ Err (Text (first_line Limit)) }
 {
-    let Listing { source, shared } = parse_listing(alloc, text)?;
+    let SourceText { source, shared } = parse_text(alloc, text)?;
     let placed = rewrite(alloc, &source)?;
     let bytes = link_at(alloc, &placed, places)?;
     let inits = inits_of(alloc, &placed, places, &shared, source.parts())?;
@@ -96,7 +96,7 @@ fn map_of(alloc: Global, text: &str, places: &[Place]) -> Result<Vec<NameAddress
     ensures fault { IfErr result (λ f. IsWantOfMemory f ⊎ IsBuildFault places.now text.now f) }
     ensures too_long { most_bytes < length text.now → result ≡ Err (Text (first_line Limit)) }
 {
-    let Listing { source, shared } = parse_listing(alloc, text)?;
+    let SourceText { source, shared } = parse_text(alloc, text)?;
     let placed = rewrite(alloc, &source)?;
     let names = names_of(alloc, &source, &placed, places)?;
     inits_of(alloc, &placed, places, &shared, source.parts())?;

@@ -16,7 +16,7 @@ use sfi_formats::Place;
 use sfi_names::{Entry, Names as Table};
 use sfi_rewrite::Placed;
 use sfi_source::{Names, SourcePart};
-use sfi_text::{Listed, Shared};
+use sfi_text::{Listed, SharedNames};
 use std::alloc::Global;
 
 /// How many bytes of a table are no entry's.
@@ -85,7 +85,7 @@ fn entries_of(
 }
 
 // Whether nothing is listed.
-fn is_unlisted(shared: &Shared) -> bool
+fn is_unlisted(shared: &SharedNames) -> bool
     ensures { result ≡ is_unlisted shared.now }
 {
     shared.exports.is_empty() && shared.imports.is_empty()
@@ -105,7 +105,7 @@ fn init_of(
     placed: &Placed,
     places: &[Place],
     sandbox: u32,
-    shared: &Shared,
+    shared: &SharedNames,
     part: &SourcePart,
 ) -> Result<Vec<u8>, BuildFault>
     requires few { length placed.now ≤ sandboxes_most }
@@ -144,7 +144,7 @@ pub(crate) fn inits_of(
     alloc: Global,
     placed: &Placed,
     places: &[Place],
-    shared: &[Shared],
+    shared: &[SharedNames],
     parts: &[SourcePart],
 ) -> Result<Vec<Vec<u8>>, BuildFault>
     requires few { length placed.now ≤ sandboxes_most }

@@ -1,5 +1,5 @@
 -- What holds of every text: laws, and that sources are right, for proofs here and in the crates above.
-use Rattle.sfi_text.specs.Laws.{OneMeaning, OneCause, MeantIsNotRefused, SomeMeaning, MeaningsAreInRange, PrintedReadsBack, LeadsOnce, LeadingIsNotRefused, RefusedOnce, OneSource, OneListing, OneFault, MeantHasNoFault, SomeSource, ConstantsAddUp}
+use Rattle.sfi_text.specs.Laws.{OneMeaning, OneCause, MeantIsNotRefused, SomeMeaning, MeaningsAreInRange, PrintedReadsBack, LeadsOnce, LeadingIsNotRefused, RefusedOnce, OneSource, OneText, OneFault, MeantHasNoFault, SomeSource, ConstantsAddUp}
 use Rattle.sfi_text.proofs.Halves as halves
 use Rattle.sfi_text.proofs.OneMeaning as meaning
 use Rattle.sfi_text.proofs.OneSource as one
@@ -41,8 +41,8 @@ constants_add_up = halves.add_up
 pub one_source : OneSource
 one_source = one.one_source
 
-pub one_listing : OneListing
-one_listing = one.one_listing
+pub one_text : OneText
+one_text = one.one_text
 
 pub one_fault : OneFault
 one_fault = one.one_fault

@@ -1,5 +1,5 @@
 -- A line leads to one source so far at most, or is refused for one cause at most, and never both; so a text has one meaning or one fault at most.
-use Rattle.sfi_text.proofs.Prelude.{◌≡◌, refl, sym, ap, subst, subst₂, ◌∙◌, ℕ, ◌+◌, ◌⊎◌, inl, inr, List, [], ◌∷◌, Some, arith, codes, same_Some, none-some, TextCause, Keyword, Takes, IsName, keyword_name, RefusedWith, NameRefused, Stated, format, sandbox, within, StatedWithin, SoFar, with_label, nothing, sandboxes, tables, IsFree, Fits, Labels, RefusesLabel, GoesOn, Does, with_stated, HasNoRoom, BeginsWithLabel, HasNoLabel, LabelsLead, PassesLabels, LeadsAfter, RestLeads, LabelRefused, PassesLimit, OperandsRefused, KnownRefused, RefusedAfter, RefusedFrom, StatementRefused, uncommented, lines, LinesLead, FirstRefused, LeadsOnce, LeadingIsNotRefused, RefusedOnce, OneSource, OneListing, OneFault, MeantHasNoFault}
+use Rattle.sfi_text.proofs.Prelude.{◌≡◌, refl, sym, ap, subst, subst₂, ◌∙◌, ℕ, ◌+◌, ◌⊎◌, inl, inr, List, [], ◌∷◌, Some, arith, codes, same_Some, none-some, TextCause, Keyword, Takes, IsName, keyword_name, RefusedWith, NameRefused, Stated, format, sandbox, within, StatedWithin, SoFar, with_label, nothing, sandboxes, tables, IsFree, Fits, Labels, RefusesLabel, GoesOn, Does, with_stated, HasNoRoom, BeginsWithLabel, HasNoLabel, LabelsLead, PassesLabels, LeadsAfter, RestLeads, LabelRefused, PassesLimit, OperandsRefused, KnownRefused, RefusedAfter, RefusedFrom, StatementRefused, uncommented, lines, LinesLead, FirstRefused, LeadsOnce, LeadingIsNotRefused, RefusedOnce, OneSource, OneText, OneFault, MeantHasNoFault}
 use Rattle.sfi_text.specs.declared.fault.TextFault.{TextFault}
 use Rattle.sfi_text.specs.declared.cause.TextCause.TheVariants as cause
 use Rattle.sfi_text.proofs.Taking.{takes_unique, blank_takes_none}
@@ -208,8 +208,8 @@ pub one_source : OneSource
 one_source text p q (a, x, leads, is, p_is) (b, y, led, other, q_is) =
     p_is ∙ ap sandboxes (lines_once 1 nothing a b (lines text) leads.lead led.lead) ∙ sym q_is
 
-pub one_listing : OneListing
-one_listing text p q s t (a, x, leads, is, p_is, s_is) (b, y, led, other, q_is, t_is) =
+pub one_text : OneText
+one_text text p q s t (a, x, leads, is, p_is, s_is) (b, y, led, other, q_is, t_is) =
     let same = lines_once 1 nothing a b (lines text) leads.lead led.lead in
     (p_is ∙ ap sandboxes same ∙ sym q_is, s_is ∙ ap tables same ∙ sym t_is)
 

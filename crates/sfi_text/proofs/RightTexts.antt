@@ -1,5 +1,5 @@
 -- What a text means is right: by its lines, from nothing.
-use Rattle.sfi_text.proofs.Prelude.{◌≡◌, ◌≤◌, refl, sym, ap, subst, ◌∙◌, ℕ, ◌+◌, inl, inr, Bool, true, List, [], ◌∷◌, ◌++◌, Option, None, Some, map, length, length-append, arith, All, AllByRecursion, same_Some, none-some, Instr, InRange, Keyword, Takes, IsLabel, Part, Name, Number, OperandValues, IsRow, AreTokens, position_of_keyword, makes_gate, directive_states, StatesAfter, Stated, format, sandbox, within, StatedWithin, gate, exported, imported, movable, compressed, data_part, bytes, plain, jump, address, IsRightWithin, IsRightStatement, position_of_stated, meaning, place_of, met, IsStraight, Sandbox, IsBody, IsSandbox, AreOf, format_of, Begun, Shared, SoFar, format_or_sfi1, with_label, with_names, with_gate, with_export, with_import, nothing, last_sandbox, sandboxes, IsFree, Labels, Fits, MayCome, GoesOn, Does, with_stated, BeginsWithName, LabelsLead, IsTaken, LeadsAfter, RestLeads, Leads, uncommented, lines, LinesLead, MeansSource, with_bodies, address_bodies, address_count, IsShortLabel, false}
+use Rattle.sfi_text.proofs.Prelude.{◌≡◌, ◌≤◌, refl, sym, ap, subst, ◌∙◌, ℕ, ◌+◌, inl, inr, Bool, true, List, [], ◌∷◌, ◌++◌, Option, None, Some, map, length, length-append, arith, All, AllByRecursion, same_Some, none-some, Instr, InRange, Keyword, Takes, IsLabel, Part, Name, Number, OperandValues, IsRow, AreTokens, position_of_keyword, makes_gate, directive_states, StatesAfter, Stated, format, sandbox, within, StatedWithin, gate, exported, imported, movable, compressed, data_part, bytes, plain, jump, address, IsRightWithin, IsRightStatement, position_of_stated, meaning, place_of, met, IsStraight, Sandbox, IsBody, IsSandbox, AreOf, format_of, Begun, SharedNames, SoFar, format_or_sfi1, with_label, with_names, with_gate, with_export, with_import, nothing, last_sandbox, sandboxes, IsFree, Labels, Fits, MayCome, GoesOn, Does, with_stated, BeginsWithName, LabelsLead, IsTaken, LeadsAfter, RestLeads, Leads, uncommented, lines, LinesLead, MeansSource, with_bodies, address_bodies, address_count, IsShortLabel, false}
 use Rattle.rv_word.specs.Spelling.{IsReg}
 use Rattle.sfi_source.specs.declared.item.Body.TheVariants.{Plain, To}
 use Rattle.sfi_formats.specs.declared.format.Format.{Format}
@@ -52,7 +52,7 @@ plain_bodies n [] h = tt
 plain_bodies n (i ∷ instrs) h = (h.0, plain_bodies n instrs h.1)
 
 -- whether its data follow, whether 16-bit forms are taken, and what its table is to have leave a sandbox right
-flags_right : (b : Begun) (in_data rvc : Bool) (shared : Shared) → IsDraft b → IsDraft (record b { in_data = in_data; rvc = rvc; shared = shared })
+flags_right : (b : Begun) (in_data rvc : Bool) (shared : SharedNames) → IsDraft b → IsDraft (record b { in_data = in_data; rvc = rvc; shared = shared })
 flags_right b in_data rvc shared d =
     record { data_size = d.data_size; gate_count = d.gate_count; gates = d.gates; names = d.names; differ = d.differ; item_count = d.item_count; items = d.items; labelled = d.labelled; byte_count = d.byte_count; bytes = d.bytes }
 

@@ -1,12 +1,12 @@
 -- Reading a text line by line.
-use Rattle.sfi_text.proofs.Prelude.{◌≡◌, sym, ap, subst, ◌∙◌, ℕ, ◌⊎◌, inl, inr, List, [], ◌∷◌, length, length-append, ◌==◌, Option, None, Some, Bor, Result, Ok, Err, IfOk, IfErr, arith, MatchOption, MatchResult, before_first, after_first, fails_before_first, split_at_first, TextCause, Sandbox, SoFar, LineRefused, lines, uncommented, LinesLead, LineFault, FirstRefused, MeansSource, MeansListing, Shared, IsFault}
+use Rattle.sfi_text.proofs.Prelude.{◌≡◌, sym, ap, subst, ◌∙◌, ℕ, ◌⊎◌, inl, inr, List, [], ◌∷◌, length, length-append, ◌==◌, Option, None, Some, Bor, Result, Ok, Err, IfOk, IfErr, arith, MatchOption, MatchResult, before_first, after_first, fails_before_first, split_at_first, TextCause, Sandbox, SoFar, LineRefused, lines, uncommented, LinesLead, LineFault, FirstRefused, MeansSource, MeansText, SharedNames, IsFault}
 use Rattle.sfi_text.specs.Tokens.{memory}
 use Rattle.sfi_text.specs.declared.fault.TextFault.{TextFault}
 use Rattle.sfi_text.specs.private.Lines.{BeginsWithLine}
 use Rattle.std.proofs.lemmas.List.Splits.{slice_split_none, slice_split_first}
 use Rattle.std.proofs.lemmas.Str.Pattern.{IsSplitOnceResult, split_once_first}
 use Rattle.sfi_text.specs.declared.cause.TextCause.TheVariants as cause
-use Rattle.sfi_text.proofs.OneSource.{one_source, one_listing, one_fault, meant_has_no_fault}
+use Rattle.sfi_text.proofs.OneSource.{one_source, one_text, one_fault, meant_has_no_fault}
 
 -- what the lines that are left lead to, all lines lead to from the first source so far; and so with their fault
 pub record Carries (first : SoFar) (all : List ℕ) (number : ℕ) (now : SoFar) (rest : List ℕ) : Type 0 where
@@ -55,16 +55,16 @@ only_source text (Err f) means fault s h = unless fault
     unless (inl is) = is
     unless (inr bad) = absurd (meant_has_no_fault text s f h bad)
 
--- a listing means its source
-pub listed_means : (text : List ℕ) (s : List Sandbox) (t : List Shared) → MeansListing text s t → MeansSource text s
+-- a text that means a source with its tables of names means the source
+pub listed_means : (text : List ℕ) (s : List Sandbox) (t : List SharedNames) → MeansText text s t → MeansSource text s
 listed_means text s t (new, last, leads, begun, is, shared_is) = (new, last, leads, begun, is)
 
 -- with what each table is to have
-pub only_listing : {L : Type 0} (source : L → List Sandbox) (shared : L → List Shared) (text : List ℕ) (r : Result L TextFault)
-    → IfOk r (λ l. MeansListing text (source l) (shared l)) → IfErr r (λ f. (f ≡ memory) ⊎ IsFault text f)
-    → (s : List Sandbox) (t : List Shared) → MeansListing text s t → MatchResult r (λ l. (source l ≡ s) × (shared l ≡ t)) (λ f. f ≡ memory)
-only_listing source shared text (Ok l) means fault s t h = one_listing text (source l) s (shared l) t means h
-only_listing source shared text (Err f) means fault s t h = unless fault
+pub only_meaning : {L : Type 0} (source : L → List Sandbox) (shared : L → List SharedNames) (text : List ℕ) (r : Result L TextFault)
+    → IfOk r (λ l. MeansText text (source l) (shared l)) → IfErr r (λ f. (f ≡ memory) ⊎ IsFault text f)
+    → (s : List Sandbox) (t : List SharedNames) → MeansText text s t → MatchResult r (λ l. (source l ≡ s) × (shared l ≡ t)) (λ f. f ≡ memory)
+only_meaning source shared text (Ok l) means fault s t h = one_text text (source l) s (shared l) t means h
+only_meaning source shared text (Err f) means fault s t h = unless fault
   where
     unless : (f ≡ memory) ⊎ IsFault text f → f ≡ memory
     unless (inl is) = is

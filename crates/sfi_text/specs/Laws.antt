@@ -6,8 +6,8 @@ use Rattle.sfi_text.specs.declared.cause.TextCause.{TextCause}
 use Rattle.sfi_text.specs.Statement.{Means, Refused, printed}
 use Rattle.sfi_text.specs.declared.fault.TextFault.{TextFault}
 use Rattle.sfi_source.specs.Source.{Sandbox, upper, lower}
-use Rattle.sfi_text.specs.SoFar.{Shared, SoFar}
-use Rattle.sfi_text.specs.Texts.{Leads, LineRefused, MeansSource, MeansListing, IsFault}
+use Rattle.sfi_text.specs.SoFar.{SharedNames, SoFar}
+use Rattle.sfi_text.specs.Texts.{Leads, LineRefused, MeansSource, MeansText, IsFault}
 
 -- a text means one instruction at most
 abbrev pub OneMeaning : Type 0
@@ -54,9 +54,9 @@ abbrev pub OneSource : Type 0
 OneSource = (text : List ℕ) (p q : List Sandbox) → MeansSource text p → MeansSource text q → p ≡ q
 
 -- a text means one source at most, with one list for each table
-abbrev pub OneListing : Type 0
-OneListing = (text : List ℕ) (p q : List Sandbox) (s t : List Shared)
-    → MeansListing text p s → MeansListing text q t → (p ≡ q) × (s ≡ t)
+abbrev pub OneText : Type 0
+OneText = (text : List ℕ) (p q : List Sandbox) (s t : List SharedNames)
+    → MeansText text p s → MeansText text q t → (p ≡ q) × (s ≡ t)
 
 -- a text has one fault at most
 abbrev pub OneFault : Type 0

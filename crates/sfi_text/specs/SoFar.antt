@@ -10,7 +10,7 @@ use Rattle.sfi_source.specs.Source.{upper, lower, Sandbox}
 use Rattle.sfi_text.specs.declared.keyword.DataWidth.{DataWidth}
 use Rattle.sfi_text.specs.declared.keyword.DataWidth.TheVariants.{Word, Half, Byte}
 use Rattle.sfi_formats.specs.declared.format.Format.TheVariants.{Sfi1, Sfi2, Sfiw}
-use Rattle.sfi_text.specs.declared.listing.Listed.{Listed}
+use Rattle.sfi_text.specs.declared.source_text.Listed.{Listed}
 use Rattle.sfi_source.specs.declared.item.Body.{Body}
 use Rattle.sfi_source.specs.declared.item.Item.{Item}
 use Rattle.sfi_source.specs.declared.item.Named.{Named}
@@ -84,7 +84,7 @@ data_bytes Byte z = modulo 8 z ∷ []
 -- ==== The source so far: what the lines read so far have made.
 
 -- what a sandbox's table of names is to have, in the order of the text
-pub record Shared : Type 0 where
+pub record SharedNames : Type 0 where
   pub exports : List Listed
   pub imports : List Listed
 
@@ -93,7 +93,7 @@ pub record Begun : Type 0 where
   -- what it has so far
   pub sandbox : Sandbox
   -- what its table of names has so far
-  pub shared : Shared
+  pub shared : SharedNames
   -- its code part has ended
   pub in_data : Bool
   -- 16-bit forms may stand for the instructions from here on
@@ -108,7 +108,7 @@ pub record Begun : Type 0 where
 pub record SoFar : Type 0 where
   pub format : Option Format
   pub finished : List Sandbox
-  pub shared : List Shared
+  pub shared : List SharedNames
   pub begun : Option Begun
 
 -- the source so far before the first line
@@ -156,12 +156,12 @@ abbrev pub sandboxes : SoFar → List Sandbox
 sandboxes s = s.finished ++ last_sandbox s.begun
 
 -- what the table of the sandbox begun last is to have, if one was begun
-abbrev pub last_shared : Option Begun → List Shared
+abbrev pub last_shared : Option Begun → List SharedNames
 last_shared None = []
 last_shared (Some b) = b.shared ∷ []
 
 -- what the table of each sandbox that was begun is to have
-abbrev pub tables : SoFar → List Shared
+abbrev pub tables : SoFar → List SharedNames
 tables s = s.shared ++ last_shared s.begun
 
 -- the source so far after a `.sandbox` with `size` bytes of data

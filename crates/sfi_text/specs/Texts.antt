@@ -8,7 +8,7 @@ use Rattle.sfi_source.specs.Names.{IsLabel}
 use Rattle.sfi_text.specs.Operands.{Unformed}
 use Rattle.sfi_text.specs.Keywords.{keyword_name, position_of_keyword, is_added, makes_gate}
 use Rattle.sfi_text.specs.Lines.{StatesAfter, RefusedWith, NameRefused}
-use Rattle.sfi_text.specs.SoFar.{Stated, Begun, Shared, SoFar, nothing, sandboxes, tables, has_tables, format_or_sfi1, IsFree, Labels, RefusesLabel, MayCome, Does, HasNoRoom}
+use Rattle.sfi_text.specs.SoFar.{Stated, Begun, SharedNames, SoFar, nothing, sandboxes, tables, has_tables, format_or_sfi1, IsFree, Labels, RefusesLabel, MayCome, Does, HasNoRoom}
 use Rattle.std.specs.List.{slice_split, before_first}
 use Rattle.sfi_text.specs.declared.fault.TextFault.{TextFault}
 use Rattle.sfi_source.specs.Source.{Sandbox}
@@ -164,8 +164,8 @@ MeansSource text parts =
     × LeadsFromNothing text new × (new.begun ≡ Some last) × (parts ≡ sandboxes new)
 
 -- `text` means these sandboxes, and this is what the table of names of each is to have
-abbrev pub MeansListing : List ℕ → List Sandbox → List Shared → Type 0
-MeansListing text parts shared =
+abbrev pub MeansText : List ℕ → List Sandbox → List SharedNames → Type 0
+MeansText text parts shared =
     (new : SoFar) × (last : Begun) × LeadsFromNothing text new × (new.begun ≡ Some last)
     × (parts ≡ sandboxes new) × (shared ≡ tables new)
 

@@ -10,7 +10,7 @@ ghost use Rattle.sfi_text.specs.private.Lines.{stated_within};
 ghost use Rattle.sfi_text.specs.SoFar.{begin, here, with_names, with_label, with_gate, with_export, with_import, with_bodies, with_bytes};
 
 use crate::cause::TextCause;
-use crate::listing::{Listed, Shared};
+use crate::source_text::{Listed, SharedNames};
 use crate::statement::SandboxStatement;
 use rv_word::Reg;
 use sfi_formats::{Format, GATE_COUNT_MOST, ITEM_COUNT_MOST};
@@ -296,7 +296,7 @@ impl Draft {
     }
 
     /// The sandbox as it stands, and what its table of names is to have.
-    pub fn finish(self) -> (SourcePart, Shared)
+    pub fn finish(self) -> (SourcePart, SharedNames)
         ensures sandbox { result.0 ≡ self.sandbox }
         ensures shared { result.1 ≡ self.shared }
     {
@@ -309,7 +309,7 @@ impl Draft {
             self.items,
             self.bytes,
         );
-        let shared = Shared {
+        let shared = SharedNames {
             exports: self.exports,
             imports: self.imports,
         };

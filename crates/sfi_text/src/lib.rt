@@ -1,6 +1,6 @@
 //! The assembler's text, of sources and of single instructions.
 //!
-//! [`parse_listing`] reads a text to its sandboxes, with what their tables of names are to have, and
+//! [`parse_text`] reads a text to its sandboxes, with what their tables of names are to have, and
 //! [`parse_source`] to the sandboxes alone: what it means, line by line, is `specs/Texts.antt`, over
 //! the table of statements in `specs/Keywords.antt`.
 //!
@@ -19,7 +19,6 @@ mod form;
 mod keyword;
 mod lexer;
 mod line;
-mod listing;
 mod mnemonic;
 mod number;
 mod operands;
@@ -29,15 +28,16 @@ mod progress;
 mod read;
 mod register;
 mod rows;
+mod source_text;
 mod statement;
 mod text;
 
 pub use cause::TextCause;
 pub use fault::TextFault;
-pub use listing::{Listed, Listing, Shared};
 pub use mnemonic::{branch_name, immediate_name, load_name, op_name, store_name};
 pub use parse::parse_instr;
 pub use print::{print_instr, push_instr};
 pub use sfi_formats::Format;
 pub use sfi_source::{Body, Item, Named, Names, Source, SourceGate, SourcePart};
-pub use text::{parse_listing, parse_source};
+pub use source_text::{Listed, SharedNames, SourceText};
+pub use text::{parse_source, parse_text};

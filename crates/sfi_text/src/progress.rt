@@ -6,7 +6,7 @@ ghost use Rattle.sfi_text.specs.Texts.{BeginsWithName, IsTaken, IsGateTwice, IsK
 ghost use Rattle.sfi_text.specs.private.Lines.{IsFront, PassesTo, LeadsFrom};
 ghost use Rattle.sfi_text.specs.SoFar.{format_or_sfi1, has_tables, nothing, with_sandbox};
 ghost use Rattle.sfi_text.specs.private.Lines.{stated, position_of_stated};
-ghost use Rattle.sfi_text.specs.Texts.{LeadsFromNothing, MeansListing, IsFault};
+ghost use Rattle.sfi_text.specs.Texts.{LeadsFromNothing, MeansText, IsFault};
 ghost use Rattle.sfi_text.specs.Tokens.{memory};
 ghost use Rattle.sfi_source.specs.Names.{IsLabel};
 ghost use Rattle.sfi_text.specs.Tokens.{IsToken, Takes};
@@ -17,9 +17,9 @@ use crate::fault::TextFault;
 use crate::keyword::Keyword;
 use crate::lexer::{Next, body, next_token};
 use crate::line::{read_keyword, read_statement};
-use crate::listing::{Listing, Shared};
 use crate::number::after_prefix;
 use crate::read::is_label;
+use crate::source_text::{SharedNames, SourceText};
 use crate::statement::{Position, Statement};
 use sfi_formats::{Format, NAME_MOST_BYTES};
 use sfi_source::{Source, SourcePart};
@@ -32,7 +32,7 @@ use std::marker::Model;
 pub struct Progress {
     format: Option<Format>,
     finished: Vec<SourcePart>,
-    shared: Vec<Shared>,
+    shared: Vec<SharedNames>,
     begun: Option<Draft>,
 }
 
@@ -320,9 +320,9 @@ impl Progress {
     }
 
     /// What a text means whose lines were all read.
-    pub fn finish(self, text: &str) -> Result<Listing, TextFault>
+    pub fn finish(self, text: &str) -> Result<SourceText, TextFault>
         requires { LeadsFromNothing text.now self }
-        ensures listing { IfOk result (λ l. MeansListing text.now l.source l.shared.items) }
+        ensures meaning { IfOk result (λ l. MeansText text.now l.source l.shared.items) }
         ensures fault { IfErr result (λ f. (f ≡ memory) ⊎ IsFault text.now f) }
     {
         let mut parts = self.finished;
@@ -332,7 +332,7 @@ impl Progress {
                 let (part, last) = draft.finish();
                 parts.push(part)?;
                 shared.push(last)?;
-                Ok(Listing {
+                Ok(SourceText {
                     source: Source::new(parts),
                     shared,
                 })

@@ -5,14 +5,14 @@ ghost use Rattle.sfi_text.specs.declared.cause.TextCause.TheVariants as causes;
 ghost use Rattle.sfi_text.specs.Tokens.{memory};
 ghost use Rattle.sfi_text.specs.Texts.{Leads};
 ghost use Rattle.sfi_source.specs.Source.{Sandbox};
-ghost use Rattle.sfi_text.specs.Texts.{most_bytes, first_line, uncommented, lines, LinesLead, FirstRefused, LineFault, MeansSource, MeansListing, IsFault};
-ghost use Rattle.sfi_text.specs.SoFar.{Shared};
+ghost use Rattle.sfi_text.specs.Texts.{most_bytes, first_line, uncommented, lines, LinesLead, FirstRefused, LineFault, MeansSource, MeansText, IsFault};
+ghost use Rattle.sfi_text.specs.SoFar.{SharedNames};
 ghost use Rattle.sfi_text.specs.private.Lines.{BeginsWithLine};
 
 use crate::cause::TextCause;
 use crate::fault::TextFault;
-use crate::listing::Listing;
 use crate::progress::Progress;
+use crate::source_text::SourceText;
 use sfi_source::Source;
 use std::alloc::Global;
 
@@ -91,8 +91,8 @@ fn read_lines(progress: &mut Progress, alloc: Global, text: &str) -> Result<(), 
 }
 
 /// What a text means, or its fault.
-fn read_listing(alloc: Global, text: &str) -> Result<Listing, TextFault>
-    ensures listing { IfOk result (λ l. MeansListing text.now l.source l.shared.items) }
+fn read_text(alloc: Global, text: &str) -> Result<SourceText, TextFault>
+    ensures meaning { IfOk result (λ l. MeansText text.now l.source l.shared.items) }
     ensures fault { IfErr result (λ f. (f ≡ memory) ⊎ IsFault text.now f) }
     ensures too_long { most_bytes < length text.now → result ≡ Err (first_line causes.Limit) }
 {
@@ -115,19 +115,19 @@ fn read_listing(alloc: Global, text: &str) -> Result<Listing, TextFault>
 /// refused, and its cause that of the first token there that departs from a statement that may come
 /// there; `Limit` on line 1 for a longer text,
 /// and `Directive` on line 1 for one that begins no sandbox.
-pub fn parse_listing(alloc: Global, text: &str) -> Result<Listing, TextFault>
-    ensures listing { IfOk result (λ l. MeansListing text.now l.source l.shared.items) }
-    ensures only_listing { (s : List Sandbox) (t : List Shared) → MeansListing text.now s t
+pub fn parse_text(alloc: Global, text: &str) -> Result<SourceText, TextFault>
+    ensures meaning { IfOk result (λ l. MeansText text.now l.source l.shared.items) }
+    ensures only_meaning { (s : List Sandbox) (t : List SharedNames) → MeansText text.now s t
         → MatchResult result (λ l. (l.source ≡ s) × (l.shared.items ≡ t)) (λ f. f ≡ memory) }
     ensures fault { IfErr result (λ f. (f ≡ memory) ⊎ IsFault text.now f) }
     ensures only_fault { (f : TextFault) → IsFault text.now f
         → MatchResult result (λ _. ⊥) (λ g. (g ≡ f) ⊎ (g ≡ memory)) }
     ensures too_long { most_bytes < length text.now → result ≡ Err (first_line causes.Limit) }
 {
-    read_listing(alloc, text)
+    read_text(alloc, text)
 }
 
-/// The source that a text means, as [`parse_listing`] reads it.
+/// The source that a text means, as [`parse_text`] reads it.
 pub fn parse_source(alloc: Global, text: &str) -> Result<Source, TextFault>
     ensures source { IfOk result (λ s. MeansSource text.now s) }
     ensures only_source { (s : List Sandbox) → MeansSource text.now s
@@ -137,8 +137,8 @@ pub fn parse_source(alloc: Global, text: &str) -> Result<Source, TextFault>
         → MatchResult result (λ _. ⊥) (λ g. (g ≡ f) ⊎ (g ≡ memory)) }
     ensures too_long { most_bytes < length text.now → result ≡ Err (first_line causes.Limit) }
 {
-    match parse_listing(alloc, text) {
-        Ok(listing) => Ok(listing.source),
+    match parse_text(alloc, text) {
+        Ok(meaning) => Ok(meaning.source),
         Err(fault) => Err(fault),
     }
 }

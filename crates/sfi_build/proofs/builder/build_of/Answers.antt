@@ -1,6 +1,6 @@
 use Rattle.sfi_link.proofs.Prelude.{◌≡◌, ◌∙◌, sym, ap, subst, ℕ, List, Ok, length, arith}
 use Rattle.std.proofs.Common.{rules}
-use Rattle.sfi_text.specs.Texts.{MeansListing}
+use Rattle.sfi_text.specs.Texts.{MeansText}
 use Rattle.sfi_build.specs.Tables.{tails_from, each_with, sandbox_with}
 use Rattle.sfi_build.specs.Texts.{IsPlainBuild}
 use Rattle.sfi_build.specs.private.{contents}
@@ -16,7 +16,7 @@ inits_of-requires-clause-short c =
     let source = c.in_ok-source.field-0.source in
     let shared = c.in_ok-source.field-0.shared.items in
     let placed = c.in_ok-placed.placed in
-    let listing : MeansListing text source shared = c.in_ok-source.ensures.listing in
+    let meaning : MeansText text source shared = c.in_ok-source.ensures.meaning in
     let image = c.in_ok-bytes.ensures.image in
     omega (
       arith,
@@ -33,8 +33,8 @@ inits_of-requires-clause-listed c =
     let source = c.in_ok-source.field-0.source in
     let shared = c.in_ok-source.field-0.shared.items in
     let placed = c.in_ok-placed.placed in
-    let listing : MeansListing text source shared = c.in_ok-source.ensures.listing in
-    omega (arith, even text source shared listing, ap length c.deref.ensures.value, ap length c.parts.ensures.parts)
+    let meaning : MeansText text source shared = c.in_ok-source.ensures.meaning in
+    omega (arith, even text source shared meaning, ap length c.deref.ensures.value, ap length c.parts.ensures.parts)
 
 pub image_with-requires : goal.image_with-requires
 image_with-requires c =
@@ -43,8 +43,8 @@ image_with-requires c =
     let source = c.in_ok-source.field-0.source in
     let shared = c.in_ok-source.field-0.shared.items in
     let placed = c.in_ok-placed.placed in
-    let listing : MeansListing text source shared = c.in_ok-source.ensures.listing in
-    let plain : IsPlainBuild given text source shared placed = record { means = listing; rewritten = c.in_ok-placed.ensures.placed; bytes = c.in_ok-bytes.bytes.items; image = c.in_ok-bytes.ensures.image } in
+    let meaning : MeansText text source shared = c.in_ok-source.ensures.meaning in
+    let plain : IsPlainBuild given text source shared placed = record { means = meaning; rewritten = c.in_ok-placed.ensures.placed; bytes = c.in_ok-bytes.bytes.items; image = c.in_ok-bytes.ensures.image } in
     let (tails, made, inits) = c.in_ok-inits.ensures.inits in
     let are : tails_from given placed 0 shared source ≡ Ok tails = (λ i. tails_from given placed 0 (sym c.deref.ensures.value i) (sym c.parts.ensures.parts i)) ∙ made in
     let bs : contents c.deref-3.result.now ≡ inits_of (each_with sandbox_with tails source) = ap contents c.deref-3.ensures.value ∙ inits ∙ (λ i. inits_of (each_with sandbox_with tails (c.parts.ensures.parts i))) in
@@ -57,8 +57,8 @@ returns-clause-built c =
     let source = c.in_ok-source.field-0.source in
     let shared = c.in_ok-source.field-0.shared.items in
     let placed = c.in_ok-placed.placed in
-    let listing : MeansListing text source shared = c.in_ok-source.ensures.listing in
-    let plain : IsPlainBuild given text source shared placed = record { means = listing; rewritten = c.in_ok-placed.ensures.placed; bytes = c.in_ok-bytes.bytes.items; image = c.in_ok-bytes.ensures.image } in
+    let meaning : MeansText text source shared = c.in_ok-source.ensures.meaning in
+    let plain : IsPlainBuild given text source shared placed = record { means = meaning; rewritten = c.in_ok-placed.ensures.placed; bytes = c.in_ok-bytes.bytes.items; image = c.in_ok-bytes.ensures.image } in
     let (tails, made, inits) = c.in_ok-inits.ensures.inits in
     let are : tails_from given placed 0 shared source ≡ Ok tails = (λ i. tails_from given placed 0 (sym c.deref.ensures.value i) (sym c.parts.ensures.parts i)) ∙ made in
     let bs : contents c.deref-3.result.now ≡ inits_of (each_with sandbox_with tails source) = ap contents c.deref-3.ensures.value ∙ inits ∙ (λ i. inits_of (each_with sandbox_with tails (c.parts.ensures.parts i))) in

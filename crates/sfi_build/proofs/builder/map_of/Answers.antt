@@ -1,6 +1,6 @@
 use Rattle.sfi_link.proofs.Prelude.{◌≡◌, ◌∙◌, sym, ap, ℕ, List, Ok, length, arith}
 use Rattle.std.proofs.Common.{rules}
-use Rattle.sfi_text.specs.Texts.{MeansListing}
+use Rattle.sfi_text.specs.Texts.{MeansText}
 use Rattle.sfi_build.specs.Tables.{tails_from}
 use Rattle.sfi_build.specs.Texts.{IsPlainBuild}
 use Rattle.sfi_build.proofs.Even.{even}
@@ -17,7 +17,7 @@ inits_of-requires-clause-short c =
     let source = c.in_ok-source.field-0.source in
     let shared = c.in_ok-source.field-0.shared.items in
     let placed = c.in_ok-placed.placed in
-    let listing : MeansListing text source shared = c.in_ok-source.ensures.listing in
+    let meaning : MeansText text source shared = c.in_ok-source.ensures.meaning in
     let image = c.in_ok-names.ensures.mapped.image in
     omega (
       arith,
@@ -34,8 +34,8 @@ inits_of-requires-clause-listed c =
     let source = c.in_ok-source.field-0.source in
     let shared = c.in_ok-source.field-0.shared.items in
     let placed = c.in_ok-placed.placed in
-    let listing : MeansListing text source shared = c.in_ok-source.ensures.listing in
-    omega (arith, even text source shared listing, ap length c.deref.ensures.value, ap length c.parts.ensures.parts)
+    let meaning : MeansText text source shared = c.in_ok-source.ensures.meaning in
+    omega (arith, even text source shared meaning, ap length c.deref.ensures.value, ap length c.parts.ensures.parts)
 
 pub returns-clause-mapped : goal.returns-clause-mapped
 returns-clause-mapped c =
@@ -44,9 +44,9 @@ returns-clause-mapped c =
     let source = c.in_ok-source.field-0.source in
     let shared = c.in_ok-source.field-0.shared.items in
     let placed = c.in_ok-placed.placed in
-    let listing : MeansListing text source shared = c.in_ok-source.ensures.listing in
+    let meaning : MeansText text source shared = c.in_ok-source.ensures.meaning in
     let is = c.in_ok-names.ensures.mapped in
-    let plain : IsPlainBuild given text source shared placed = record { means = listing; rewritten = c.in_ok-placed.ensures.placed; bytes = is.bytes; image = is.image } in
+    let plain : IsPlainBuild given text source shared placed = record { means = meaning; rewritten = c.in_ok-placed.ensures.placed; bytes = is.bytes; image = is.image } in
     let (tails, made, inits) = c.in_ok-inits_of.ensures.inits in
     let are : tails_from given placed 0 shared source ≡ Ok tails = (λ i. tails_from given placed 0 (sym c.deref.ensures.value i) (sym c.parts.ensures.parts i)) ∙ made in
     mapped given text source shared placed plain tails are _ is.entries_are

@@ -1,7 +1,7 @@
 use Rattle.sfi_link.proofs.Prelude.{◌≡◌, ◌+◌, ◌++◌, ◌∙◌, ◌⊎◌, inl, inr, sym, ap, subst, refl, ℕ, List, [], ◌∷◌, Option, map, drop, slice_get, get_or, arith, All, All-push, err_from_is_err_and}
 use Rattle.std.specs.Prelude.{IfErr}
 use Rattle.sfi_names.specs.Tables.{Named, IsNamed, entry}
-use Rattle.sfi_text.specs.declared.listing.Listed.{Listed}
+use Rattle.sfi_text.specs.declared.source_text.Listed.{Listed}
 use Rattle.sfi_build.specs.Tables.{address_in, entry_with, entries_of}
 use Rattle.sfi_build.specs.private.{IsTableStop, IsEntryStop}
 use Rattle.sfi_build.specs.declared.build_fault.BuildFault.{BuildFault}

@@ -14,23 +14,23 @@ pub struct Listed {
 
 /// What a sandbox's table of names is to have, in the order of the text.
 #[derive(Drop)]
-pub struct Shared {
+pub struct SharedNames {
     pub exports: Vec<Listed>,
     pub imports: Vec<Listed>,
 }
 
-impl Model for Shared {
-    ghost use Rattle.sfi_text.specs.SoFar.{Shared};
+impl Model for SharedNames {
+    ghost use Rattle.sfi_text.specs.SoFar.{SharedNames};
 
-    ghost Value = { Shared };
+    ghost Value = { SharedNames };
 
     ghost view = { λ s. record { exports = s.exports.items; imports = s.imports.items } };
 }
 
 /// What a text means.
 #[derive(Drop)]
-pub struct Listing {
+pub struct SourceText {
     pub source: Source,
     /// Of each sandbox what its table of names is to have.
-    pub shared: Vec<Shared>,
+    pub shared: Vec<SharedNames>,
 }
