@@ -10,7 +10,7 @@ use crate::cause::TextCause;
 use crate::constant::push_number;
 use crate::form::NumberKind;
 use crate::keyword::DataWidth;
-use crate::lexer::{Next, next_token};
+use crate::lexer::{NextToken, next_token};
 use crate::read::{read_mark, read_number};
 use std::alloc::Global;
 
@@ -20,9 +20,9 @@ fn read_first(kind: NumberKind, text: &str) -> Result<(i64, &str), TextCause>
     ensures cause { IfErr result (λ e. NumberDeparts kind text.now e) }
 {
     match next_token(text) {
-        Next::End => Err(TextCause::Operands),
-        Next::Stuck => Err(TextCause::Word),
-        Next::Token(token, rest) => match read_number(token, kind) {
+        NextToken::End => Err(TextCause::Operands),
+        NextToken::Stuck => Err(TextCause::Word),
+        NextToken::Token(token, rest) => match read_number(token, kind) {
             Ok(number) => Ok((number, rest)),
             Err(e) => Err(e),
         },
@@ -59,9 +59,9 @@ fn read_another<'a>(
         (e ≡ cause.Memory) ⊎ MoreDeparts (data_kind width) text.now e) }
 {
     match next_token(text) {
-        Next::End => Ok(None),
-        Next::Stuck => Err(TextCause::Word),
-        Next::Token(comma, after) => match read_mark(comma, ",") {
+        NextToken::End => Ok(None),
+        NextToken::Stuck => Err(TextCause::Word),
+        NextToken::Token(comma, after) => match read_mark(comma, ",") {
             Ok(()) => match read_one(bytes, width, after) {
                 Ok(rest) => Ok(Some(rest)),
                 Err(e) => Err(e),

@@ -9,7 +9,7 @@ ghost use Rattle.sfi_text.specs.private.Reading.{IsNext};
 
 /// What stands at the front of a text.
 #[derive(Clone, Copy)]
-pub enum Next<'a> {
+pub enum NextToken<'a> {
     /// A token, and what follows it.
     Token(&'a str, &'a str),
     /// No more than spaces.
@@ -135,17 +135,17 @@ pub fn body(text: &str) -> &str
 }
 
 /// The first token of a text.
-pub fn next_token(text: &str) -> Next<'_>
+pub fn next_token(text: &str) -> NextToken<'_>
     ensures { IsNext text.now result }
 {
     let body = body(text);
     let len = token_len(body.as_bytes());
     if body.is_empty() {
-        Next::End
+        NextToken::End
     } else if len == 0 {
-        Next::Stuck
+        NextToken::Stuck
     } else {
         let (token, rest) = body.split_at(len);
-        Next::Token(token, rest)
+        NextToken::Token(token, rest)
     }
 }

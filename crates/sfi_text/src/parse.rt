@@ -10,7 +10,7 @@ ghost use Rattle.sfi_source.specs.Names.{IsName};
 ghost use Rattle.sfi_text.specs.Statement.{Means, Refused, RefusedAt, IsBareFence, OperandsDepart};
 
 use crate::cause::TextCause;
-use crate::lexer::{Next, begins_name, next_token};
+use crate::lexer::{NextToken, begins_name, next_token};
 use crate::mnemonic::Mnemonic;
 use crate::operands::x0;
 use crate::read::read_operands;
@@ -46,9 +46,9 @@ fn is_bare_fence(name: Mnemonic, rest: &str) -> bool
 {
     match name {
         Mnemonic::Fence => match next_token(rest) {
-            Next::End => true,
-            Next::Token(..) => false,
-            Next::Stuck => false,
+            NextToken::End => true,
+            NextToken::Token(..) => false,
+            NextToken::Stuck => false,
         },
         _ => false,
     }
@@ -100,8 +100,8 @@ pub fn parse_instr(text: &str) -> Result<Instr, TextCause>
     ensures only_cause { (e : TextCause) → Refused text.now e → result ≡ Err e }
 {
     match next_token(text) {
-        Next::End => Err(TextCause::Operands),
-        Next::Stuck => Err(TextCause::Word),
-        Next::Token(token, rest) => after_token(token, rest),
+        NextToken::End => Err(TextCause::Operands),
+        NextToken::Stuck => Err(TextCause::Word),
+        NextToken::Token(token, rest) => after_token(token, rest),
     }
 }

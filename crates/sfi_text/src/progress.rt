@@ -3,7 +3,7 @@ ghost use Rattle.std.specs.Prelude.{◌≡◌, ◌⊎◌, ◌↔◌, List, ℕ, 
 ghost use Rattle.sfi_text.specs.declared.cause.TextCause.TheVariants as cause;
 ghost use Rattle.sfi_text.specs.SoFar.{Labels, RefusesLabel, MayCome, Does, HasNoRoom};
 ghost use Rattle.sfi_text.specs.Texts.{BeginsWithName, IsTaken, IsGateTwice, IsKnown, KnownRefused, LeadsAfter, Leads, LabelRefused, RefusedAfter, RefusedFrom, LineRefused};
-ghost use Rattle.sfi_text.specs.private.Lines.{IsFront, PassesTo, LeadsFrom};
+ghost use Rattle.sfi_text.specs.private.Lines.{IsLineStart, PassesTo, LeadsFrom};
 ghost use Rattle.sfi_text.specs.SoFar.{format_or_sfi1, has_tables, nothing, with_sandbox};
 ghost use Rattle.sfi_text.specs.private.Lines.{stated, position_of_stated};
 ghost use Rattle.sfi_text.specs.Texts.{LeadsFromNothing, MeansText, IsFault};
@@ -15,7 +15,7 @@ use crate::cause::TextCause;
 use crate::draft::Draft;
 use crate::fault::TextFault;
 use crate::keyword::Keyword;
-use crate::lexer::{Next, body, next_token};
+use crate::lexer::{NextToken, body, next_token};
 use crate::line::{read_keyword, read_statement};
 use crate::number::after_prefix;
 use crate::read::is_label;
@@ -74,15 +74,15 @@ fn label_name(text: &str) -> Option<(&str, &str)>
         (λ x. BeginsWithName text.now x.0.now x.1.now) }
 {
     match next_token(text) {
-        Next::Token(name, rest) => {
+        NextToken::Token(name, rest) => {
             if is_label(name) {
                 Some((name, rest))
             } else {
                 None
             }
         }
-        Next::End => None,
-        Next::Stuck => None,
+        NextToken::End => None,
+        NextToken::Stuck => None,
     }
 }
 
@@ -103,25 +103,25 @@ fn after_label<'a>(token: &str, after: &'a str) -> Option<&'a str>
 
 /// What a line, or the rest of it, begins with.
 #[derive(Clone, Copy)]
-enum Front<'a> {
+enum LineStart<'a> {
     /// A label: its name, and what follows its colon.
     Label(&'a str, &'a str),
     /// Something else.
-    Other(Next<'a>),
+    Other(NextToken<'a>),
 }
 
 /// What stands at the front of a text.
-fn front_of(text: &str) -> Front<'_>
-    ensures { IsFront text.now result }
+fn line_start(text: &str) -> LineStart<'_>
+    ensures { IsLineStart text.now result }
 {
     let next = next_token(text);
     match next {
-        Next::Token(name, after) => match after_label(name, after) {
-            Some(rest) => Front::Label(name, rest),
-            None => Front::Other(next),
+        NextToken::Token(name, after) => match after_label(name, after) {
+            Some(rest) => LineStart::Label(name, rest),
+            None => LineStart::Other(next),
         },
-        Next::End => Front::Other(next),
-        Next::Stuck => Front::Other(next),
+        NextToken::End => LineStart::Other(next),
+        NextToken::Stuck => LineStart::Other(next),
     }
 }
 
@@ -183,18 +183,18 @@ impl Progress {
     }
 
     /// Reads the labels at the front of a line, and returns what stands after them.
-    fn labels<'a>(&mut self, alloc: Global, line: &'a str) -> Result<Next<'a>, TextCause>
+    fn labels<'a>(&mut self, alloc: Global, line: &'a str) -> Result<NextToken<'a>, TextCause>
         ensures passes { IfOk result (λ next. PassesTo self.old line.now self.new next) }
         ensures cause { IfErr result (λ e. (e ≡ cause.Memory) ⊎ LabelRefused self.old line.now e) }
     {
         let mut text = line;
         loop {
-            match front_of(text) {
-                Front::Label(name, rest) => match self.label(alloc, name) {
+            match line_start(text) {
+                LineStart::Label(name, rest) => match self.label(alloc, name) {
                     Ok(()) => text = rest,
                     Err(e) => return Err(e),
                 },
-                Front::Other(next) => return Ok(next),
+                LineStart::Other(next) => return Ok(next),
             }
         }
     }
@@ -313,9 +313,9 @@ impl Progress {
         ensures cause { IfErr result (λ e. (e ≡ cause.Memory) ⊎ LineRefused self.old text.now e) }
     {
         match self.labels(alloc, text)? {
-            Next::End => Ok(()),
-            Next::Stuck => Err(TextCause::Word),
-            Next::Token(token, rest) => self.statement(alloc, line, token, rest),
+            NextToken::End => Ok(()),
+            NextToken::Stuck => Err(TextCause::Word),
+            NextToken::Token(token, rest) => self.statement(alloc, line, token, rest),
         }
     }
 

@@ -14,7 +14,7 @@ ghost use Rattle.sfi_text.specs.private.Reading.{Reads, SameAt, has_no_repeat, i
 
 use crate::cause::TextCause;
 use crate::form::{NumberKind, Part};
-use crate::lexer::{Next, next_token};
+use crate::lexer::{NextToken, next_token};
 use crate::number::number;
 use crate::operands::Operands;
 use crate::register::register;
@@ -224,14 +224,14 @@ fn fill<'a>(form: &[Part], text: &'a str, operands: &mut Operands<'a>) -> Result
 {
     match form.split_first() {
         None => match next_token(text) {
-            Next::End => Ok(()),
-            Next::Stuck => Err(TextCause::Word),
-            Next::Token(..) => Err(TextCause::Operands),
+            NextToken::End => Ok(()),
+            NextToken::Stuck => Err(TextCause::Word),
+            NextToken::Token(..) => Err(TextCause::Operands),
         },
         Some((part, more)) => match next_token(text) {
-            Next::End => Err(TextCause::Operands),
-            Next::Stuck => Err(TextCause::Word),
-            Next::Token(token, rest) => match operands.put(*part, token) {
+            NextToken::End => Err(TextCause::Operands),
+            NextToken::Stuck => Err(TextCause::Word),
+            NextToken::Token(token, rest) => match operands.put(*part, token) {
                 Ok(()) => fill(more, rest, operands),
                 Err(e) => Err(e),
             },

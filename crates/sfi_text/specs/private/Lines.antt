@@ -27,9 +27,9 @@ use Rattle.sfi_text.specs.declared.statement.SandboxStatement.TheVariants as wit
 use Rattle.sfi_text.specs.declared.statement.Position.{Position}
 use Rattle.sfi_text.specs.declared.statement.Position.TheVariants as position
 use Rattle.sfi_text.specs.declared.cause.TextCause.TheVariants as cause
-use Rattle.sfi_text.specs.declared.lexer.Next.{Next}
-use Rattle.sfi_text.specs.declared.progress.Front.{Front}
-use Rattle.sfi_text.specs.declared.progress.Front.TheVariants.{Label, Other}
+use Rattle.sfi_text.specs.declared.lexer.NextToken.{NextToken}
+use Rattle.sfi_text.specs.declared.progress.LineStart.{LineStart}
+use Rattle.sfi_text.specs.declared.progress.LineStart.TheVariants.{Label, Other}
 use Rattle.sfi_text.specs.Texts.{BeginsWithLabel, HasNoLabel, PassesLabels, LeadsAfter, lines}
 
 -- ==== How a list of data, and what a keyword states, is read off its text.
@@ -155,13 +155,13 @@ AddsUpTo most count result new after =
 -- ==== How a line is read, for the contracts inside the parser.
 
 -- `text` begins with a label, and `rest` follows its colon; or with something else, which is `next`
-abbrev pub IsFront : List ℕ → Front → Type 0
-IsFront text (Label name rest) = BeginsWithLabel text name.now rest.now
-IsFront text (Other next) = HasNoLabel text × IsNext text next
+abbrev pub IsLineStart : List ℕ → LineStart → Type 0
+IsLineStart text (Label name rest) = BeginsWithLabel text name.now rest.now
+IsLineStart text (Other next) = HasNoLabel text × IsNext text next
 
 -- the labels at the front of `text` change the source so far from `old` to `new`, and `next` stands
 -- after them
-abbrev pub PassesTo : SoFar → List ℕ → SoFar → Next → Type 0
+abbrev pub PassesTo : SoFar → List ℕ → SoFar → NextToken → Type 0
 PassesTo old text new next = (rest : List ℕ) × PassesLabels old text new rest × IsNext rest next
 
 -- the statement of `token` and the rest after it changes the source so far from `old` to `new`

@@ -1,7 +1,7 @@
 -- Words of private contracts and proofs: how the lexer and the parser read a line.
 use Rattle.std.specs.Prelude.{ℕ, List, ℤ, pos, negsuc, ◌≤ℤ◌, [], drop, ◌+◌, Bool, ◌&&◌, ◌==◌, ◌∷◌, slice_index, if◌then◌else◌, ◌*◌, ◌%◌, ◌++◌, codes, map, get_or, slice_index_or, fold, Option, Some, None, ◌≡◌, ◌<◌, ◌≤◌, ◌⊎◌, ◌||◌, nat_lt, not, true, length, ◌≢◌}
-use Rattle.sfi_text.specs.declared.lexer.Next.{Next}
-use Rattle.sfi_text.specs.declared.lexer.Next.TheVariants.{Token, End, Stuck}
+use Rattle.sfi_text.specs.declared.lexer.NextToken.{NextToken}
+use Rattle.sfi_text.specs.declared.lexer.NextToken.TheVariants.{Token, End, Stuck}
 use Rattle.sfi_text.specs.Tokens.{Takes, IsBlank, IsStuck, is_space, is_mark, abi_names, x_name}
 use Rattle.std.specs.List.{prefix_len, range_with_len, AllByRecursion, list_all}
 use Rattle.std.specs.Char.{is_ascii_digit, is_ascii_hexdigit}
@@ -23,7 +23,7 @@ use Rattle.sfi_text.specs.Statement.{mnemonic_of, operands_of, full_fence}
 -- ==== What the lexer's answer says of the front of a text.
 
 -- a token and what follows it, the text's end, or that no token can be formed
-abbrev pub IsNext : List ℕ → Next → Type 0
+abbrev pub IsNext : List ℕ → NextToken → Type 0
 IsNext text (Token token rest) = Takes text token.now rest.now
 IsNext text End = IsBlank text
 IsNext text Stuck = IsStuck text

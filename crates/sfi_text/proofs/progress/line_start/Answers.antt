@@ -1,6 +1,6 @@
 use Rattle.sfi_text.proofs.LabelReading.{no_label}
 use Rattle.sfi_text.proofs.Taking.{blank_takes_none}
-use Rattle.sfi_text.proofs.progress.front_of.Goals as goal
+use Rattle.sfi_text.proofs.progress.line_start.Goals as goal
 
 pub returns-in-None : goal.returns-in-None
 returns-in-None c = (no_label _ _ _ c.in-Token.ensures c.in-None.ensures, c.next_token-next.ensures)
