@@ -12,7 +12,7 @@ use crate::hexadecimal::{BLOCK, HexFault, byte_of, decode_block, digit_value, is
 /// How far a text was decoded: how many of its bytes were read, how many bytes they make, and a
 /// first digit whose second didn't come yet.
 #[derive(Drop)]
-pub(crate) struct Front {
+pub(crate) struct DecodeProgress {
     pub(crate) taken: usize,
     pub(crate) made: usize,
     pub(crate) high: Option<u8>,
@@ -99,7 +99,7 @@ fn decode_lines(text: &[u8], out: &mut [u8]) -> Blocks
 /// Takes blocks from the front of a text, if they may be tried, or else one byte. The text doesn't
 /// begin with white space, and no digit waits.
 #[inline(always)]
-fn decode_first(text: &[u8], out: &mut [u8], quick: bool) -> Front
+fn decode_first(text: &[u8], out: &mut [u8], quick: bool) -> DecodeProgress
     requires some { 0 < length text.now }
     requires kept { is_kept (slice_index text.now 0) ≡ true }
     ensures some { 0 < result.taken }
@@ -114,14 +114,14 @@ fn decode_first(text: &[u8], out: &mut [u8], quick: bool) -> Front
     if quick {
         let blocks = decode_lines(text, out);
         if blocks.taken > 0 {
-            return Front {
+            return DecodeProgress {
                 taken: blocks.taken,
                 made: blocks.made,
                 high: None,
             };
         }
     }
-    Front {
+    DecodeProgress {
         taken: 1,
         made: 0,
         high: Some(text[0]),
@@ -130,7 +130,7 @@ fn decode_first(text: &[u8], out: &mut [u8], quick: bool) -> Front
 
 /// Takes what a text begins with; nothing, where the digit that waits and the next byte are no pair.
 #[inline(always)]
-fn decode_next(high: Option<u8>, text: &[u8], out: &mut [u8], quick: bool) -> Front
+fn decode_next(high: Option<u8>, text: &[u8], out: &mut [u8], quick: bool) -> DecodeProgress
     requires text { 0 < length text.now }
     requires out { 0 < length out.old }
     ensures taken { result.taken ≤ length text.now }
@@ -144,7 +144,7 @@ fn decode_next(high: Option<u8>, text: &[u8], out: &mut [u8], quick: bool) -> Fr
 {
     let next = text[0];
     if is_white(next) {
-        return Front {
+        return DecodeProgress {
             taken: 1,
             made: 0,
             high,
@@ -154,14 +154,14 @@ fn decode_next(high: Option<u8>, text: &[u8], out: &mut [u8], quick: bool) -> Fr
         return decode_first(text, out, quick);
     };
     let Some(byte) = byte_of(first, next) else {
-        return Front {
+        return DecodeProgress {
             taken: 0,
             made: 0,
             high,
         };
     };
     out[0] = byte;
-    Front {
+    DecodeProgress {
         taken: 1,
         made: 1,
         high: None,
@@ -171,7 +171,7 @@ fn decode_next(high: Option<u8>, text: &[u8], out: &mut [u8], quick: bool) -> Fr
 /// Decodes a text, of whose digits `high` may wait from before, until it ends, `out` is full, or a
 /// pair comes that isn't two digits. A block of 64 digits is tried only where the tries so far gave
 /// 8 bytes each in the mean.
-pub(crate) fn decode_front(high: Option<u8>, text: &[u8], out: &mut [u8]) -> Front
+pub(crate) fn decode_front(high: Option<u8>, text: &[u8], out: &mut [u8]) -> DecodeProgress
     ensures taken { result.taken ≤ length text.now }
     ensures made { result.made ≤ result.taken }
     ensures room { result.made ≤ length out.new }
@@ -196,10 +196,10 @@ pub(crate) fn decode_front(high: Option<u8>, text: &[u8], out: &mut [u8]) -> Fro
         made += front.made;
         high = front.high;
         if front.taken == 0 {
-            return Front { taken, made, high };
+            return DecodeProgress { taken, made, high };
         }
     }
-    Front { taken, made, high }
+    DecodeProgress { taken, made, high }
 }
 
 /// The fault at a pair that isn't two digits. `high` is its first byte, `made` the number of pairs

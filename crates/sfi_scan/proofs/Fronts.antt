@@ -2,7 +2,7 @@
 -- relation of the first one's place, the bytes and how many they are.
 use Rattle.sfi_scan.proofs.Prelude.{◌≡◌, ℕ, ◌+◌, ◌-◌, ◌*◌, ◌^◌, ◌<◌, ◌≤◌, List, length, take, drop, min, sym, ap, ◌∙◌, subst, arith, BundlePlace, block_bundle, IsWithin, stretch_place, AreBundlesTo}
 use Rattle.sfi_scan.specs.Stretches.{IsStretch}
-use Rattle.sfi_scan.specs.private.Scanning.{IsBlockStart, IsFront}
+use Rattle.sfi_scan.specs.private.Scanning.{IsBlockStart, AreSomeBundlesTo}
 use Rattle.sfi_scan.proofs.Stretches.{place_on, place_address, place_base, place_size, front_bundle, rest_bundle}
 
 -- a bundle of a stretch lies in its region
@@ -54,7 +54,7 @@ IsOfBundles R = (b : BundlePlace) (xs ys : List ℕ) (n : ℕ) → ((i : ℕ) �
 -- what is told of a block's bundles is told of the stretch's
 pub block_front : (R : BundlePlace → List ℕ → ℕ → Type 0) → IsOfBundles R → (b : BundlePlace) (code : List ℕ) (k start : ℕ) (s : IsBlockStart b code k start)
     → R (stretch_place (stretch_place b s.first) s.before) (drop (16 * s.before) (take 128 (drop (16 * s.first) code))) (8 - s.before)
-    → IsFront code k (start + 128) (R (stretch_place b k) (drop (16 * k) code))
+    → AreSomeBundlesTo code k (start + 128) (R (stretch_place b k) (drop (16 * k) code))
 block_front R same b code k start s h =
     let is = s.is in
     let inside = s.inside in
@@ -77,7 +77,7 @@ block_front R same b code k start s h =
 
 -- and so it is of one bundle
 pub bundle_front : (R : BundlePlace → List ℕ → ℕ → Type 0) → IsOfBundles R → (b c : BundlePlace) (code bundle : List ℕ) (at k : ℕ) → at ≡ 16 * k → c ≡ stretch_place b k
-    → bundle ≡ take 16 (drop at code) → at + 16 ≤ length code → R c bundle 1 → IsFront code k (at + 16) (R (stretch_place b k) (drop (16 * k) code))
+    → bundle ≡ take 16 (drop at code) → at + 16 ≤ length code → R c bundle 1 → AreSomeBundlesTo code k (at + 16) (R (stretch_place b k) (drop (16 * k) code))
 bundle_front R same b c code bundle at k is place bytes enough h = record {
   bundles = 1;
   end_is = omega (arith, is);
@@ -119,7 +119,7 @@ bundle_ahead {b = b} {code = code} {n = n} {k = k} {at = at} w run less =
     let below = below_end b code n at (k + w.bundles) run at_is among in
     (below.0, below.1, within_stretch b code n (k + w.bundles) run among)
 
-pub walk_nearer : {code : List ℕ} {k at end : ℕ} {told : ℕ → Type 0} → at ≡ 16 * k → IsFront code k end told → length code - end < length code - at
+pub walk_nearer : {code : List ℕ} {k at end : ℕ} {told : ℕ → Type 0} → at ≡ 16 * k → AreSomeBundlesTo code k end told → length code - end < length code - at
 walk_nearer at_is front =
     let some = front.told.0 in
     omega (arith, at_is, front.end_is, some, front.inside)

@@ -66,7 +66,7 @@ no_word : (starts words : ℕ) → AreStarts starts words → (i : ℕ) → is_i
 no_word starts words marks i out = false_from_ne_true (is_in words i) (λ is. both_ways (is_in starts i) out (marks.only i is))
 
 -- what the rest of the walk needs of a place that is reached
-record Next (b : BundlePlace) (bytes : List ℕ) (starts words k j : ℕ) : Type 0 where
+record NextPlace (b : BundlePlace) (bytes : List ℕ) (starts words k j : ℕ) : Type 0 where
   place : ℕ
   further : j < place
   within : place ≤ 8
@@ -76,7 +76,7 @@ record Next (b : BundlePlace) (bytes : List ℕ) (starts words k j : ℕ) : Type
 after_half : (b : BundlePlace) (block : List ℕ) (starts words after k j : ℕ) → length block ≡ 128 → k < 8 → is_last_bundle (bundle_at b k) ≡ false → AreStarts starts words
     → j < 8 → is_in starts (8 * k + j) ≡ true → is_in words (8 * k + j) ≡ false → (r : Reached (bundle_at b k) (block_bundle block k) words k j)
     → IsCleanOne (bundle_at b k) ((bundle_at b k).address + 2 * j) (AreWordsFrom (block_bundle block k) (2 * j) r.from) (IsSpelledAt false (block_bundle block k) (2 * j))
-    → Next (bundle_at b k) (block_bundle block k) starts words k j
+    → NextPlace (bundle_at b k) (block_bundle block k) starts words k j
 after_half b block starts words after k j count below last marks lt start short r one =
     let c = bundle_at b k in
     let bytes = block_bundle block k in
@@ -104,7 +104,7 @@ after_half b block starts words after k j count below last marks lt start short 
 after_word : (b : BundlePlace) (block : List ℕ) (starts words k j : ℕ) → k < 8 → AreStarts starts words
     → j < 7 → is_in words (8 * k + j) ≡ true → (r : Reached (bundle_at b k) (block_bundle block k) words k j)
     → Looks (bundle_at b k) (block_bundle block k) (2 * j + 4) r.from
-    → Next (bundle_at b k) (block_bundle block k) starts words k j
+    → NextPlace (bundle_at b k) (block_bundle block k) starts words k j
 after_word b block starts words k j below marks lt wide r on =
     let c = bundle_at b k in
     let bytes = block_bundle block k in
@@ -152,11 +152,11 @@ clean_in b block wide after k j lt clean =
 
 after_clean : (b : BundlePlace) (block : List ℕ) (starts words after k j : ℕ) → length block ≡ 128 → k < 8 → is_last_bundle (bundle_at b k) ≡ false → AreStarts starts words → AreAfterTwo words after
     → j < 8 → is_in starts (8 * k + j) ≡ true → IsCleanAt b block (is_in words (8 * k + j)) after (8 * k + j)
-    → Reached (bundle_at b k) (block_bundle block k) words k j → Next (bundle_at b k) (block_bundle block k) starts words k j
+    → Reached (bundle_at b k) (block_bundle block k) words k j → NextPlace (bundle_at b k) (block_bundle block k) starts words k j
 after_clean b block starts words after k j count below last marks two lt start clean r =
     by (is_in words (8 * k + j)) refl (clean_in b block (is_in words (8 * k + j)) after k j lt clean)
   where
-    by : (w : Bool) → is_in words (8 * k + j) ≡ w → IsCleanIn b block w after (8 * k + j) k (2 * j) → Next (bundle_at b k) (block_bundle block k) starts words k j
+    by : (w : Bool) → is_in words (8 * k + j) ≡ w → IsCleanIn b block w after (8 * k + j) k (2 * j) → NextPlace (bundle_at b k) (block_bundle block k) starts words k j
     by false e one =
         after_half b block starts words after k j count below last marks lt start e r
         (loosen (bundle_at b k) _ (block_bundle block k) (2 * j) r.from _ (IsSpelledAt false (block_bundle block k) (2 * j)) (known_from (bundle_at b k) (block_bundle block k) words after k j below lt two r) one)
@@ -179,7 +179,7 @@ writes_from block words i k at e f w = subst (λ n. WritesFrom (block_bundle blo
 
 after_write : (b : BundlePlace) (block : List ℕ) (starts words k j : ℕ) → length block ≡ 128 → k < 8 → is_last_bundle (bundle_at b k) ≡ false → has_stack b.format ≡ true
     → AreStarts starts words → j < 8 → IsOfWrite block words (8 * k + j)
-    → Reached (bundle_at b k) (block_bundle block k) words k j → Next (bundle_at b k) (block_bundle block k) starts words k j
+    → Reached (bundle_at b k) (block_bundle block k) words k j → NextPlace (bundle_at b k) (block_bundle block k) starts words k j
 after_write b block starts words k j count below last has marks lt (i, w, inl e) r =
     let c = bundle_at b k in
     let bytes = block_bundle block k in
@@ -221,7 +221,7 @@ IsQuietAt b block words after i = IsCleanAt b block (is_in words i) after i ⊎ 
 
 advance : (b : BundlePlace) (block : List ℕ) (starts words after k j : ℕ) → length block ≡ 128 → k < 8 → is_last_bundle (bundle_at b k) ≡ false → AreStarts starts words → AreAfterTwo words after
     → j < 8 → is_in starts (8 * k + j) ≡ true → IsQuietAt b block words after (8 * k + j)
-    → Reached (bundle_at b k) (block_bundle block k) words k j → Next (bundle_at b k) (block_bundle block k) starts words k j
+    → Reached (bundle_at b k) (block_bundle block k) words k j → NextPlace (bundle_at b k) (block_bundle block k) starts words k j
 advance b block starts words after k j count below last marks two lt start (inl clean) r = after_clean b block starts words after k j count below last marks two lt start clean r
 advance b block starts words after k j count below last marks two lt start (inr write) r = after_write b block starts words k j count below last write.0 marks lt write.1 r
 

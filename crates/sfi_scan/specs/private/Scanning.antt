@@ -64,14 +64,14 @@ pub record AreBundlesTo (bytes : List ℕ) (k end : ℕ) (holds : ℕ → Type 0
 
 -- the bytes from the stretch's bundle k to byte `end` are whole bundles, at least one, and `holds`
 -- is so of their number
-abbrev pub IsFront : List ℕ → ℕ → ℕ → (ℕ → Type 0) → Type 0
-IsFront bytes k end holds = AreBundlesTo bytes k end (λ n. (1 ≤ n) × holds n)
+abbrev pub AreSomeBundlesTo : List ℕ → ℕ → ℕ → (ℕ → Type 0) → Type 0
+AreSomeBundlesTo bytes k end holds = AreBundlesTo bytes k end (λ n. (1 ≤ n) × holds n)
 
 -- the bundles from bundle k to byte `end`, at least one, are scanned
 abbrev pub IsFrontScanned : {F : Type 0} → (F → List Finding → F → Type 0) → BundlePlace → List ℕ → ℕ
     → ℕ → F → F → Type 0
 IsFrontScanned takes b bytes k end before after =
-    IsFront bytes k end (λ n.
+    AreSomeBundlesTo bytes k end (λ n.
     IsScanned takes (stretch_place b k) (drop (bundle_size * k) bytes) n before after)
 
 -- the bundles from bundle k to byte `end`, at least one, are scanned as code in words, with `owed`
@@ -79,13 +79,13 @@ IsFrontScanned takes b bytes k end before after =
 abbrev pub IsWordFrontScanned : {F : Type 0} → (F → List Finding → F → Type 0) → BundlePlace → Owed
     → List ℕ → ℕ → ℕ → Owed → F → F → Type 0
 IsWordFrontScanned takes b owed bytes k end next before after =
-    IsFront bytes k end (λ n. IsWordCodeScanned takes (stretch_place b k) owed
+    AreSomeBundlesTo bytes k end (λ n. IsWordCodeScanned takes (stretch_place b k) owed
     (drop (bundle_size * k) bytes) n next before after)
 
 -- the bundles from bundle k to byte `end`, at least one, break no rule as code in words
 abbrev pub IsFrontClean : BundlePlace → Owed → List ℕ → ℕ → ℕ → Owed → Type 0
 IsFrontClean b owed bytes k end next =
-    IsFront bytes k end (λ n.
+    AreSomeBundlesTo bytes k end (λ n.
     AreWordStretchFindings (stretch_place b k) owed (drop (bundle_size * k) bytes) n [] next)
 
 -- the bundles from bundle k to byte `end`, if there are any, break no rule as code in words
