@@ -13,7 +13,7 @@ use Rattle.sfi_formats.specs.Formats.{has_words, is_data_register}
 use Rattle.sfi_rewrite.specs.Transparency.{IsAimed, MayBe, SlotsStand, StandsTransparent}
 use Rattle.sfi_rewrite.specs.words.Transparency as words
 use Rattle.sfi_rewrite.specs.words.Expansion as words_expansion
-use Rattle.sfi_rewrite.specs.words.Expansion.{data_mask, base_of, before, after, mask_after, IsConfined, IsAround, is_move, moved, is_step}
+use Rattle.sfi_rewrite.specs.words.Expansion.{data_mask, base_of, before, after, mask_after, IsConfined, IsAround, is_move, moved, is_step_before_use}
 use Rattle.rv_word.specs.Outlines.{destination}
 use Rattle.std.specs.Prelude.{not, ◌&&◌, ◌||◌, ◌==◌, drop, Option, None, if◌then◌else◌}
 use Rattle.sfi_rewrite.proofs.Facts.{rewritten_is_transparent}
@@ -242,7 +242,7 @@ bundled_runs_as given number s p q k x body right linked st =
 words_run_as : (given : List Place) → (number : ℕ) (s : Sandbox) (p : Placement) (q : Part) (k : ℕ) (x : Item) → IsBody (length s.names) x.body → IsRightPart q → IsLinked given number p q
     → words.StandsTransparent s.items p k x → WordRunsAs given number s.items p q k x
 words_run_as given number s p q k x body right linked st =
-    let step = is_step x (drop (k + 1) s.items) in
+    let step = is_step_before_use x (drop (k + 1) s.items) in
     let laid = body_laid x.line x.rvc step x.body st.expanded st.own st.is_expansion st.stands in
     (st, runs_at given number p q x (length s.names) st.before st.own st.after (size_of st.before) body right linked st.placed refl (await_in_words x.line laid.0 step x.body st.own laid.1))
 

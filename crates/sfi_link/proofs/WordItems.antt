@@ -16,7 +16,7 @@ use Rattle.sfi_formats.specs.declared.format.Format.TheVariants.{Sfiw}
 use Rattle.sfi_formats.specs.Formats.{is_data_register}
 use Rattle.sfi_rewrite.specs.Expansion.{IsAlone, is_withheld, names_withheld, item_names_withheld, is_ecall}
 use Rattle.sfi_rewrite.specs.Rewriting.{IsPermitted}
-use Rattle.sfi_rewrite.specs.words.Expansion.{data_mask, IsAround, IsExpansionOf, IsExpansion, mask_after, is_use, is_step_to, is_step, is_zero, is_move, moved, is_barred_jump, Marked, marked, AreExpanded}
+use Rattle.sfi_rewrite.specs.words.Expansion.{data_mask, IsAround, IsExpansionOf, IsExpansion, mask_after, is_use, is_step_to, is_step_before_use, is_zero, is_move, moved, is_barred_jump, Marked, marked, AreExpanded}
 use Rattle.sfi_rewrite.specs.words.Transparency.{AreAsLaid}
 use Rattle.sfi_rules.specs.declared.owed.Owed.{Owed}
 use Rattle.sfi_rules.specs.declared.owed.Owed.TheVariants as kind
@@ -357,7 +357,7 @@ record IsFollowed (step : Bool) (x : Body) (later : List Item) : Type 0 where
   steps : step ≡ true → IsStep x
   owed_next : IsOwedBefore (owed_past step x) later
 
-followed : (x : Item) (later : List Item) → IsFollowed (is_step x later) x.body later
+followed : (x : Item) (later : List Item) → IsFollowed (is_step_before_use x later) x.body later
 followed x [] = record { steps = λ h. absurd (true≢false (sym h)); owed_next = refl }
 followed x (y ∷ later) = by (not y.labelled) (is_step_to x.body y.body) refl
   where
@@ -392,7 +392,7 @@ items_right base size at names starts count here owed (x ∷ items) expanded lai
     let body = All-head (λ y. IsBody count y.body) x items bodies in
     let is = subst (λ v. IsExpansion x v own) (append-nil items) e.2 in
     let f = followed x items in
-    let laid_is = body_laid x.line x.rvc (is_step x items) x.body own two.first is two.are_first in
-    let first = body_right base size at names starts here owed x.line laid_is.0 (is_step x items) x.body count two.first (omega arith) o body may.operands may.no_ecall may.no_barred_jump f.steps laid_is.1 in
-    let later = items_right base size at names starts count (here + size_of two.first) (owed_past (is_step x items) x.body) items rest two.rest (omega arith) (All-tail (IsPermitted Sfiw) x items permitted) (All-tail (λ y. IsBody count y.body) x items bodies) f.owed_next e.4 two.are_rest in
-    subst (λ v. AreRight base size at names here owed v kind.Nothing) (sym two.both) (right_append base size at names here owed (owed_past (is_step x items) x.body) kind.Nothing two.first two.rest first later)
+    let laid_is = body_laid x.line x.rvc (is_step_before_use x items) x.body own two.first is two.are_first in
+    let first = body_right base size at names starts here owed x.line laid_is.0 (is_step_before_use x items) x.body count two.first (omega arith) o body may.operands may.no_ecall may.no_barred_jump f.steps laid_is.1 in
+    let later = items_right base size at names starts count (here + size_of two.first) (owed_past (is_step_before_use x items) x.body) items rest two.rest (omega arith) (All-tail (IsPermitted Sfiw) x items permitted) (All-tail (λ y. IsBody count y.body) x items bodies) f.owed_next e.4 two.are_rest in
+    subst (λ v. AreRight base size at names here owed v kind.Nothing) (sym two.both) (right_append base size at names here owed (owed_past (is_step_before_use x items) x.body) kind.Nothing two.first two.rest first later)

@@ -14,7 +14,7 @@ use Rattle.sfi_rules.specs.declared.owed.Owed.{Owed}
 use Rattle.sfi_rules.specs.declared.owed.Owed.TheVariants as kind
 use Rattle.sfi_rules.specs.Rules.{is_reserved_one}
 use Rattle.sfi_rules.specs.Readings.{is_jump}
-use Rattle.sfi_rules.specs.words.Rules.{is_small, places, is_step, uses, breaks_offset, owed_by_code, owed_of, owed_by}
+use Rattle.sfi_rules.specs.words.Rules.{is_small, places, is_pointer_step, uses, breaks_offset, owed_by_code, owed_of, owed_by}
 use Rattle.sfi_rewrite.proofs.WordKept.{written_free}
 
 -- ---- registers
@@ -106,7 +106,7 @@ IsGoodWrite i (Some d) = (is_withheld Sfiw d ≡ false) × (places d i ≡ false
 pub owing : (i : Instr) (to : Option ℕ) → destination i ≡ to → IsGoodWrite i to → Owes i to
 owing i None e g = record { own = kind.Nothing; owes = ap (λ t. owed_of t i) e; is = refl }
 owing i (Some d) e g =
-    let by = chosen (is_data_register d) (d == 30) (places d i) (is_jump i) (is_step d i) (owed_by_code i) (free d g.0).code g.1 g.2 in
+    let by = chosen (is_data_register d) (d == 30) (places d i) (is_jump i) (is_pointer_step d i) (owed_by_code i) (free d g.0).code g.1 g.2 in
     record { own = by.0; owes = ap (λ t. owed_of t i) e ∙ by.1; is = by.2 }
   where
     chosen : (t x p j s : Bool) (c : Option Owed) → x ≡ false → p ≡ false → (t ≡ true → j ≡ false)

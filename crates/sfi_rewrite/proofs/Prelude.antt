@@ -47,7 +47,7 @@ pub use Rattle.sfi_rewrite.specs.declared.fault.RewriteFault.TheVariants.{TooLar
 pub use Rattle.std.proofs.Math.Seq.{drop-cons}
 pub use Rattle.sfi_source.specs.declared.item.SourceGate.{SourceGate}
 pub use Rattle.rv_word.specs.declared.instr.LoadKind.TheVariants.{Lw}
-pub use Rattle.sfi_rewrite.specs.words.Expansion.{IsConfined, IsAround, base_of, before, after, is_move, moved, mask_after, is_step, data_mask, Marked, marked, alone, in_words, AreExpanded, AreLaidBefore}
+pub use Rattle.sfi_rewrite.specs.words.Expansion.{IsConfined, IsAround, base_of, before, after, is_move, moved, mask_after, is_step_before_use, data_mask, Marked, marked, alone, in_words, AreExpanded, AreLaidBefore}
 pub use Rattle.std.proofs.lemmas.Slice.Zip.{AllZip-long}
 pub use Rattle.rv_comp.specs.Table.{expansion}
 pub use Rattle.std.proofs.lemmas.Result.{IfOk-weaker, IfErr-weaker, err_from_is_err_and}

@@ -1,7 +1,7 @@
 -- The items of code in words, laid one after another.
 use Rattle.sfi_rewrite.proofs.Prelude.{◌≡◌, ℕ, ◌+◌, ◌<◌, ◌≤◌, Bool, true, false, List, [], ◌∷◌, ◌++◌, length, take, drop, get_or, Some, refl, sym, ap, ◌∙◌, subst, arith, append_assoc, append-nil, true≢false, inl, inr, MatchBool, ◌&&◌, and_parts, take_more, All, Instr, Load, Store, Jalr, Body, Plain, To, High, Low, Base, Item, Slot, Wide, Upper, Lower, Region, Short, Jump, IsAlone, IsPermitted, UnlessMemory, RewriteFault, Op, OpImm, And, Or, code_most, Sfiw, not, take-append-drop, IfOk-weaker, IfErr-weaker, TooLarge, Memory, AreFaultless, IsItemFault, IsLabelAt, Marked, marked, in_words, AreExpanded, AreLaidBefore}
 use Rattle.std.specs.Prelude.{Result, IfOk, IfErr}
-use Rattle.sfi_rewrite.specs.words.Expansion.{IsConfined, IsAround, IsExpansionOf, IsExpansion, before, after, base_of, is_step, is_move, moved, mask_after}
+use Rattle.sfi_rewrite.specs.words.Expansion.{IsConfined, IsAround, IsExpansionOf, IsExpansion, before, after, base_of, is_step_before_use, is_move, moved, mask_after}
 use Rattle.sfi_rewrite.specs.private.{WordsSoFar, bytes_of, waiting_size, more_for, ended, before_label, with_slot, with_slots, with_more, LeadsTo, HaveRoom, AreWith, IsBeyond, HasNoRoom, AreOfFirst}
 use Rattle.sfi_rewrite.proofs.OneByOne.{StandsAt, room_fault}
 use Rattle.sfi_rewrite.proofs.WordLaying.{ended_leads, ended_last}
@@ -88,7 +88,7 @@ with_item x later old begun new expanded is b n =
       is_expansion = is;
       lead =
           rw (n, b)
-          (begun_leads old x.labelled expanded (expansion_of_some x.line x.rvc (is_step x later) x.body expanded is));
+          (begun_leads old x.labelled expanded (expansion_of_some x.line x.rvc (is_step_before_use x later) x.body expanded is));
     }
 
 pub begun_room : (label : Bool) (old begun : WordsSoFar) → HaveRoom old → begun ≡ before_label label old.words old.waiting → HaveRoom begun

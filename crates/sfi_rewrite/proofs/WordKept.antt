@@ -1,7 +1,7 @@
 -- The expansion in words acts as its instruction: what writes a data register keeps what that leaves.
 use Rattle.sfi_rewrite.proofs.Prelude.{◌≡◌, ◌≢◌, ℕ, zero, suc, ◌+◌, ◌%◌, ◌^◌, ◌<◌, ◌==◌, ◌&&◌, List, [], ◌∷◌, ◌++◌, length, Bool, true, false, MatchBool, Option, Some, None, inl, inr, refl, sym, ap, ◌∙◌, subst, arith, length-append, append_assoc, append-nil, eqb-true, true≢false, and_parts, or_parts, ℤ, pos, negsuc, And, Or, LoadKind, Instr, Op, OpImm, Load, Store, Jal, Jalr, Branch, Lui, Auipc, Bytes, address_after, Hart, State, IsState, register, with_register, with_pc, past, Stepped, Stands, next, effect, IsStep, Item, Body, Plain, To, High, Low, Base, Slot, Wide, Jump, Upper, Lower, Region, slot_size, size_of, IsAlone, HasReserved, SlotStands, IsAskedOf, IsAimed, MayBe, not, ◌||◌, if◌then◌else◌, destination, Addi, StoreWidth, Add, further, LeadsTo, LeadTo, Next, Sfiw, is_data_register, Holds, Span, masked, SlotsStand, is_withheld, names_withheld, item_names_withheld}
 use Rattle.sfi_rewrite.specs.Laws.{WordExpansionsAreTransparent}
-use Rattle.sfi_rewrite.specs.words.Expansion.{IsConfined, IsAround, IsExpansionOf, before, after, data_mask, mask_after, is_move, moved, is_step, is_step_to, is_zero, is_barred_jump}
+use Rattle.sfi_rewrite.specs.words.Expansion.{IsConfined, IsAround, IsExpansionOf, before, after, data_mask, mask_after, is_move, moved, is_step_before_use, is_step_to, is_zero, is_barred_jump}
 use Rattle.sfi_rewrite.specs.words.Transparency.{is_own, meant, IsTransparent, KeepsData, ActsBy, ActsAs}
 use Rattle.rv_step.proofs.Facts.{step_keeps_state}
 use Rattle.rv_step.proofs.Pairs.{written_here, written_elsewhere}
@@ -385,10 +385,10 @@ no_step false (Low rd name) other h = refl
 no_step true (Base rd name) other h = refl
 no_step false (Base rd name) other h = refl
 
-pub plain_steps : (x : Item) (later : List Item) → is_plain x.body ≡ false → is_step x later ≡ false
+pub plain_steps : (x : Item) (later : List Item) → is_plain x.body ≡ false → is_step_before_use x later ≡ false
 plain_steps x [] h = refl
 plain_steps x (y ∷ later) h = no_step y.labelled x.body y.body h
 
 pub word_expansions_are_transparent : WordExpansionsAreTransparent
 word_expansions_are_transparent x later i slots be p h =
-    body_acts x.line x.rvc (is_step x later) x.body i slots be p.operands p.no_barred_jump (plain_steps x later) h
+    body_acts x.line x.rvc (is_step_before_use x later) x.body i slots be p.operands p.no_barred_jump (plain_steps x later) h

@@ -1,7 +1,7 @@
 -- What is known of the slots of a sandbox's items in words: they encode, also alone in a word, and their names are the sandbox's.
 use Rattle.sfi_rewrite.proofs.Prelude.{◌≡◌, ◌<◌, ◌==◌, ◌&&◌, ℕ, List, [], ◌∷◌, ◌++◌, sym, subst, arith, Bool, true, false, MatchBool, Some, All, All-nil, All-cons, All-append, All-head, All-tail, Instr, And, Or, Op, OpImm, Load, Store, Jalr, Jal, Lui, Auipc, Item, Body, Plain, To, High, Low, Base, IsBody, Slot, Wide, Jump, Upper, Lower, Region, not, ◌||◌, if◌then◌else◌, destination, is_data_register, Marked, marked, AreExpanded, AreLaidBefore, refl}
 use Rattle.rv_word.specs.Spelling.{InRange}
-use Rattle.sfi_rewrite.specs.words.Expansion.{IsConfined, IsAround, IsExpansionOf, before, after, base_of, data_mask, mask_after, is_move, moved, is_step}
+use Rattle.sfi_rewrite.specs.words.Expansion.{IsConfined, IsAround, IsExpansionOf, before, after, base_of, data_mask, mask_after, is_move, moved, is_step_before_use}
 use Rattle.sfi_rewrite.proofs.KnownSlots.{IsKnown, IsKnownBoth, one, wide_known, two_known, alone_known, named_known}
 use Rattle.sfi_rewrite.proofs.WordView.{view, all_in_words}
 
@@ -94,7 +94,7 @@ expanded_known count (x ∷ items) later slots e b =
     let B : Item → Type 0 = λ y. IsBody count y.body in
     rw (e.3)
     (All-append (λ m. IsKnownBoth count m.1) (marked x.labelled e.0) e.1
-    (all_marked (IsKnownBoth count) x.labelled e.0 (expansion_known count x.line x.rvc (is_step x (items ++ later)) x.body e.0 e.2 (All-head B x items b)))
+    (all_marked (IsKnownBoth count) x.labelled e.0 (expansion_known count x.line x.rvc (is_step_before_use x (items ++ later)) x.body e.0 e.2 (All-head B x items b)))
     (expanded_known count items later e.1 e.4 (All-tail B x items b)))
 
 pub words_known : (count : ℕ) (items later : List Item) (slots : List Slot) → AreLaidBefore items later slots → All (λ x. IsBody count x.body) items → All (IsKnown count) slots

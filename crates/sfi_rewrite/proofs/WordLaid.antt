@@ -1,6 +1,6 @@
 -- What is laid in words, and in either kind of code: that there is one way, and a beginning of the items.
 use Rattle.sfi_rewrite.proofs.Prelude.{◌≡◌, ℕ, zero, suc, ◌%◌, ◌≤◌, List, [], ◌∷◌, ◌++◌, length, take, drop, refl, sym, ap, ◌∙◌, subst, arith, append_assoc, take_all, take-take, All, MatchBool, Format, Item, Slot, size_of, IsPermitted, AreFaultless, AreLaidFrom, Bool, true, false, ◌&&◌, Instr, Load, Store, Jalr, Body, Plain, Sfi1, Sfi2, Sfiw, take-append-drop, drop_all, AreLaidIn, not, code_most, has_words, Marked, marked, in_words, AreExpanded, AreLaidBefore}
-use Rattle.sfi_rewrite.specs.words.Expansion.{IsExpansion, before, after, base_of, IsConfined, IsAround, IsExpansionOf, is_step, is_move, moved}
+use Rattle.sfi_rewrite.specs.words.Expansion.{IsExpansion, before, after, base_of, IsConfined, IsAround, IsExpansionOf, is_step_before_use, is_move, moved}
 use Rattle.sfi_rewrite.proofs.Laid.{laid_one_way, alone_one_way, laid_split}
 use Rattle.sfi_rewrite.proofs.WordView.{words_more, word_aligned}
 use Rattle.sfi_rewrite.specs.Laws.{OneWordExpansion}
@@ -28,7 +28,7 @@ expansion_of_one_way line rvc step (Plain i) a b x y = plain_one_way (is_move i 
 expansion_of_one_way line rvc step other a b x y = x ∙ sym y
 
 pub one_word_expansion : OneWordExpansion
-one_word_expansion x later a b h g = expansion_of_one_way x.line x.rvc (is_step x later) x.body a b h g
+one_word_expansion x later a b h g = expansion_of_one_way x.line x.rvc (is_step_before_use x later) x.body a b h g
 
 -- ---- one way
 

@@ -1,7 +1,7 @@
 -- Each item of code in words stands transparent in what is placed.
 use Rattle.sfi_rewrite.proofs.Prelude.{◌≡◌, ℕ, ◌+◌, ◌<◌, ◌&&◌, ◌==◌, arith, true≢false, List, [], ◌∷◌, ◌++◌, Bool, true, false, MatchBool, length, map, take, drop, Option, Some, None, refl, sym, ap, ◌∙◌, subst, inl, inr, ◌⊎◌, append-nil, All, All-get_or, slice_get, drop_more, get_or_from_slice_get, slice_get_within, Instr, Op, OpImm, Load, Store, Jalr, Item, Body, Plain, To, High, Low, Base, Slot, Wide, Short, Jump, Upper, Lower, Region, slots_of, IsAlone, IsPermitted, MayBe, Placement, not, ◌||◌, if◌then◌else◌, destination, Sfiw, is_data_register}
 use Rattle.std.proofs.lemmas.List.{take-append-drop, map-append}
-use Rattle.sfi_rewrite.specs.words.Expansion.{IsConfined, IsAround, IsExpansionOf, IsExpansion, before, after, base_of, data_mask, mask_after, is_move, moved, is_step, Marked, marked, alone, in_words, AreExpanded, AreLaid}
+use Rattle.sfi_rewrite.specs.words.Expansion.{IsConfined, IsAround, IsExpansionOf, IsExpansion, before, after, base_of, data_mask, mask_after, is_move, moved, is_step_before_use, Marked, marked, alone, in_words, AreExpanded, AreLaid}
 use Rattle.sfi_rewrite.specs.words.Transparency.{AreAsLaid, ActsAs, StandsTransparent}
 use Rattle.sfi_rewrite.proofs.WordView.{view, as_laid, words_at_label}
 use Rattle.sfi_rewrite.proofs.WordLaid.{expanded_split}
@@ -114,10 +114,10 @@ body_laid line rvc step (Low rd name) slots laid e h =
 body_laid line rvc step (Base rd name) slots laid e h =
     (rvc, wide_stays (Region rd name line ∷ mask_after (Some rd)) laid (refl, mask_wide (Some rd)) (subst (λ v. AreAsLaid v laid) e h))
 
-laid_acts : (x : Item) (later : List Item) (expanded own : List Slot) (i : Instr) → MayBe x.body i → IsPermitted Sfiw x → IsExpansion x later expanded → AreAsLaid expanded own → ActsAs (is_step x later) i own
+laid_acts : (x : Item) (later : List Item) (expanded own : List Slot) (i : Instr) → MayBe x.body i → IsPermitted Sfiw x → IsExpansion x later expanded → AreAsLaid expanded own → ActsAs (is_step_before_use x later) i own
 laid_acts x later expanded own i be p is h =
-    let r = body_laid x.line x.rvc (is_step x later) x.body expanded own is h in
-    body_acts x.line r.0 (is_step x later) x.body i own be p.operands p.no_barred_jump (plain_steps x later) r.1
+    let r = body_laid x.line x.rvc (is_step_before_use x later) x.body expanded own is h in
+    body_acts x.line r.0 (is_step_before_use x later) x.body i own be p.operands p.no_barred_jump (plain_steps x later) r.1
 
 -- ---- what stands before a label
 
@@ -176,7 +176,7 @@ stands_in_words items p slots k x l code permitted at =
     let two = apart expanded (map (λ m. m.1) rest.1) one.rest one.are_rest in
     let earlier : AreExpanded (take k items) (drop k items) s.front = subst (λ v. AreExpanded (take k items) v s.front) (append-nil (drop k items)) s.before in
     let all_parts : l.0 ≡ s.front ++ (marked x.labelled expanded ++ rest.1) = s.both ∙ ap (λ v. s.front ++ v) rest.3 in
-    let some = expansion_of_some x.line x.rvc (is_step x (drop (k + 1) items)) x.body expanded expansion in
+    let some = expansion_of_some x.line x.rvc (is_step_before_use x (drop (k + 1) items)) x.body expanded expansion in
     let may : IsPermitted Sfiw x = subst (IsPermitted Sfiw) is (All-get_or (IsPermitted Sfiw) items k x within permitted) in
     record {
       before = one.first;

@@ -74,7 +74,7 @@ abbrev pub WordExpansionsAreTransparent : Type 0
 WordExpansionsAreTransparent =
     (x : Item) (later : List Item) (i : Instr) (slots : List Slot) → MayBe x.body i
     → IsPermitted Sfiw x → words.IsExpansion x later slots
-    → words_transparency.ActsAs (words.is_step x later) i slots
+    → words_transparency.ActsAs (words.is_step_before_use x later) i slots
 
 -- What lies in the data region masks to itself. The mask of a sum is that of the masked number and the
 -- rest: so the halves of an address, each with its mask, leave what the whole masks to.

@@ -2,7 +2,7 @@
 use Rattle.sfi_scan.proofs.Prelude.{◌≡◌, ℕ, ◌==◌, true, ◌||◌, Some, refl, ap, and_parts, eqb-true, Instr, Op, OpImm, And, Or, outline, BundlePlace, eq-eqb, or_left, Computes, is_data_register, Owed, Nothing, MaskOrUse, Code, owed_by, IsQuiet, IsBeforeEnd}
 use Rattle.rv_word.specs.declared.instr.ImmOp.TheVariants.{Addi}
 use Rattle.sfi_rules.specs.declared.owed.Owed.TheVariants.{Mask, PlaceOnly}
-use Rattle.sfi_rules.specs.words.Rules.{is_step}
+use Rattle.sfi_rules.specs.words.Rules.{is_pointer_step}
 use Rattle.sfi_scan.proofs.WordKept.{IsWrite, typed}
 use Rattle.sfi_scan.proofs.WordPlain.{computing}
 use Rattle.sfi_scan.proofs.WordQuiet.{quiet_where}
@@ -53,7 +53,7 @@ module _ (b : BundlePlace) (at size : ℕ) (before : IsBeforeEnd b at size) wher
       quiet_where b at size before Nothing Nothing next i c.safe (typed i rd next c.writes h own) refl
 
   -- a step of a data register
-  pub stepping : (d : ℕ) (i : Instr) → is_data_register d ≡ true → is_step d i ≡ true → IsQuiet b at size Nothing i (MaskOrUse d)
+  pub stepping : (d : ℕ) (i : Instr) → is_data_register d ≡ true → is_pointer_step d i ≡ true → IsQuiet b at size Nothing i (MaskOrUse d)
   stepping d (OpImm Addi rd rs1 imm) h s =
       let both = and_parts (rd == d) (rs1 == d) s in
       let one : rd ≡ d = eqb-true rd d both.0 in

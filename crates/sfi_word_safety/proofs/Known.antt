@@ -1,5 +1,5 @@
 -- What is known of the typed registers before an instruction, and what it makes of that.
-use Rattle.sfi_word_safety.proofs.Prelude.{◌≡◌, ℕ, ◌+◌, ◌<◌, ◌≤◌, ◌⊎◌, List, ◌∷◌, length, true, false, not, ◌&&◌, ◌||◌, ◌==◌, refl, sym, ap, ◌∙◌, subst, inl, inr, ⊎_elim, arith, Option, Some, None, ℤ, slice_index, bit_and, bit_or, and_parts, or_cases, eqb-true, eq-eqb, not-false, false≢true, cases_Bool, offset_by, InRange, IsImm12, destination, is_register, writes_register, Instr, Op, OpImm, Load, Store, Branch, Jal, Jalr, Ecall, Addi, And, Or, Add, Bytes, address_after, Accesses, Hart, register, effect, word, result_of, load_size, store_size, is_masking, is_placing, Part, Piece, is_jump, InData, InGuard, is_data_register, IsWordStart, IsNear, HasReserved, AreWordsTyped, places, masks, begins_placing, begins_masking, begins_using, begins_code, is_step, uses, is_small, may_access, breaks_access, may_write_data, breaks_data_of, breaks_data, may_write_code, breaks_code, breaks_offset, IsRightPart, has_words, ◌-◌, IsKnown, IsCodeKnown, AreKnown}
+use Rattle.sfi_word_safety.proofs.Prelude.{◌≡◌, ℕ, ◌+◌, ◌<◌, ◌≤◌, ◌⊎◌, List, ◌∷◌, length, true, false, not, ◌&&◌, ◌||◌, ◌==◌, refl, sym, ap, ◌∙◌, subst, inl, inr, ⊎_elim, arith, Option, Some, None, ℤ, slice_index, bit_and, bit_or, and_parts, or_cases, eqb-true, eq-eqb, not-false, false≢true, cases_Bool, offset_by, InRange, IsImm12, destination, is_register, writes_register, Instr, Op, OpImm, Load, Store, Branch, Jal, Jalr, Ecall, Addi, And, Or, Add, Bytes, address_after, Accesses, Hart, register, effect, word, result_of, load_size, store_size, is_masking, is_placing, Part, Piece, is_jump, InData, InGuard, is_data_register, IsWordStart, IsNear, HasReserved, AreWordsTyped, places, masks, begins_placing, begins_masking, begins_using, begins_code, is_pointer_step, uses, is_small, may_access, breaks_access, may_write_data, breaks_data_of, breaks_data, may_write_code, breaks_code, breaks_offset, IsRightPart, has_words, ◌-◌, IsKnown, IsCodeKnown, AreKnown}
 use Rattle.sfi_formats.specs.Formats.{code_most}
 use Rattle.sfi_safe_runs.proofs.Accessing.{imm12_within, near_access, stepped, used, first_address, load_sized, store_sized, load_range, store_range}
 use Rattle.sfi_safe_runs.proofs.Formats.{words as word_unit}
@@ -53,7 +53,7 @@ flow_jumps (Jal rd offset) h r e = refl
 flow_jumps (Jalr rd rs1 imm) h r e = refl
 flow_jumps _ h r e = absurd (false≢true h)
 
-flow_no_step : (i : Instr) → is_flow i ≡ true → (d : ℕ) → is_step d i ≡ false
+flow_no_step : (i : Instr) → is_flow i ≡ true → (d : ℕ) → is_pointer_step d i ≡ false
 flow_no_step (Branch condition rs1 rs2 offset) h d = refl
 flow_no_step (Jal rd offset) h d = refl
 flow_no_step (Jalr rd rs1 imm) h d = refl
@@ -166,12 +166,12 @@ module _ (p : Part) (words : has_words p.format ≡ true) (right : IsRightPart p
         inl (record { low = omega arith; high = omega arith }))
         (λ (e : (not (is_jump x.instr) && begins_masking d later) ≡ true). inr (inr (inl (and_parts (not (is_jump x.instr)) (begins_masking d later) e).1)))
         (or_cases (places d x.instr) (not (is_jump x.instr) && begins_masking d later) l))
-        (λ (l : (is_step d x.instr && begins_using d later) ≡ true).
-        let both = and_parts (is_step d x.instr) (begins_using d later) l in
+        (λ (l : (is_pointer_step d x.instr && begins_using d later) ≡ true).
+        let both = and_parts (is_pointer_step d x.instr) (begins_using d later) l in
         let step = step_is d x.instr both.0 in
         let value : register after d ≡ result_of Add (register h d) (word step.0) = step_there x.instr d d x.size step.0 h m step.1 o.some within in
         inr (inr (inr (subst (λ (a : ℕ). IsNear p (1020 + 2048) a) (sym value) (stepped p right.guard_room (register h d) step.0 (step_near d step.0 step.1 (known.each_data d is)) (imm12_within step.0 (step_range d step.0 (subst (λ (i : Instr). InRange i) step.1 range)))), both.1))))
-        (or_cases (places d x.instr || (not (is_jump x.instr) && begins_masking d later)) (is_step d x.instr && begins_using d later) may)
+        (or_cases (places d x.instr || (not (is_jump x.instr) && begins_masking d later)) (is_pointer_step d x.instr && begins_using d later) may)
 
     data_after : (d : ℕ) → is_data_register d ≡ true → breaks_data x.instr later ≡ false → ((a : ℕ) → Accesses x.instr h a → InData p a) → IsKnown p d (register after d) later
     data_after d is free inside =

@@ -1,5 +1,5 @@
 -- What is owed after an instruction is what comes there, where it breaks no rule that looks ahead and what was owed before it comes.
-use Rattle.sfi_word_safety.proofs.Prelude.{◌≡◌, ℕ, Bool, true, false, cond, not, ◌&&◌, ◌||◌, ◌==◌, List, ◌∷◌, Option, Some, None, refl, sym, ap, ◌∙◌, subst, destination, Instr, is_masking, is_placing, Piece, is_jump, is_data_register, places, masks, begins_placing, begins_masking, is_step, uses, begins_using, begins_code, may_write_data, breaks_data_of, breaks_data, may_write_code, breaks_code, eqb-true, false≢true, is_register, Owed, Nothing, Mask, PlaceOnly, MaskOrUse, Code, left, owed_by_data, owed_by_code, owed_of, owed_by}
+use Rattle.sfi_word_safety.proofs.Prelude.{◌≡◌, ℕ, Bool, true, false, cond, not, ◌&&◌, ◌||◌, ◌==◌, List, ◌∷◌, Option, Some, None, refl, sym, ap, ◌∙◌, subst, destination, Instr, is_masking, is_placing, Piece, is_jump, is_data_register, places, masks, begins_placing, begins_masking, is_pointer_step, uses, begins_using, begins_code, may_write_data, breaks_data_of, breaks_data, may_write_code, breaks_code, eqb-true, false≢true, is_register, Owed, Nothing, Mask, PlaceOnly, MaskOrUse, Code, left, owed_by_data, owed_by_code, owed_of, owed_by}
 use Rattle.sfi_rules.proofs.Facts.{and_is}
 
 -- what is owed comes
@@ -71,13 +71,13 @@ data_owed false false true false u d later e f apart = rw (e, f) refl
 data_owed false false false true u d later e f apart = rw e refl
 data_owed false false false false u d later e f apart = rw e refl
 
-jump_no_step : (d : ℕ) (i : Instr) → is_jump i ≡ true → is_step d i ≡ false
+jump_no_step : (d : ℕ) (i : Instr) → is_jump i ≡ true → is_pointer_step d i ≡ false
 jump_no_step d (Rattle.sfi_word_safety.proofs.Prelude.Jal rd offset) h = refl
 jump_no_step d (Rattle.sfi_word_safety.proofs.Prelude.Jalr rd rs1 imm) h = refl
 jump_no_step d _ h = absurd (false≢true h)
 
 pub data_is : (d : ℕ) (i : Instr) (later : List Piece) → may_write_data d i later ≡ meets_if (owed_by_data d i) later
-data_is d i later = data_owed (places d i) (is_jump i) (is_step d i) (begins_masking d later) (begins_using d later) d later refl refl (jump_no_step d i)
+data_is d i later = data_owed (places d i) (is_jump i) (is_pointer_step d i) (begins_masking d later) (begins_using d later) d later refl refl (jump_no_step d i)
 
 code_owed : (p m : Bool) (later : List Piece) → (p || (m && begins_code later)) ≡ meets_if (cond p (Some Nothing) (cond m (Some Code) None)) later
 code_owed true m later = refl

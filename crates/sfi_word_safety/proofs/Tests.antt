@@ -1,5 +1,5 @@
 -- What passes a test of the rules.
-use Rattle.sfi_word_safety.proofs.Prelude.{◌≡◌, ◌≢◌, ℕ, ◌<◌, true, false, ◌&&◌, ◌||◌, ◌==◌, refl, sym, ap, ◌∙◌, arith, ⊎_elim, Option, Some, None, ℤ, pos, negsuc, and_parts, or_cases, eqb-true, eq-eqb, false≢true, leb-true, ltb-true, destination, is_register, writes_register, Instr, Op, OpImm, Or, Addi, is_data_register, is_or, is_small, is_step}
+use Rattle.sfi_word_safety.proofs.Prelude.{◌≡◌, ◌≢◌, ℕ, ◌<◌, true, false, ◌&&◌, ◌||◌, ◌==◌, refl, sym, ap, ◌∙◌, arith, ⊎_elim, Option, Some, None, ℤ, pos, negsuc, and_parts, or_cases, eqb-true, eq-eqb, false≢true, leb-true, ltb-true, destination, is_register, writes_register, Instr, Op, OpImm, Or, Addi, is_data_register, is_or, is_small, is_pointer_step}
 use Rattle.sfi_safe_runs.proofs.Accessing.{IsWithin}
 
 -- ---- signed numbers
@@ -53,7 +53,7 @@ or_is rd a b (Op Or x y z) h =
     cc
 or_is rd a b _ h = absurd (false≢true h)
 
-pub step_is : (d : ℕ) (i : Instr) → is_step d i ≡ true → (imm : ℤ) × (i ≡ OpImm Addi d d imm)
+pub step_is : (d : ℕ) (i : Instr) → is_pointer_step d i ≡ true → (imm : ℤ) × (i ≡ OpImm Addi d d imm)
 step_is d (OpImm Addi x y imm) h =
     let inner = and_parts (x == d) (y == d) h in
     let e1 = eqb-true x d inner.0 in

@@ -80,9 +80,9 @@ is_step_to x y = false
 
 -- The item is a step of a data register that the first item of `later` uses: no label stands
 -- between. (The rules call any `addi d, d, k` a step.)
-abbrev pub is_step : Item → List Item → Bool
-is_step x [] = false
-is_step x (y ∷ later) = not y.labelled && is_step_to x.body y.body
+abbrev pub is_step_before_use : Item → List Item → Bool
+is_step_before_use x [] = false
+is_step_before_use x (y ∷ later) = not y.labelled && is_step_to x.body y.body
 
 -- what stands after an instruction, which is a step or not: the mask of what it writes, unless it is a step
 abbrev pub after : Bool → Instr → List Slot
@@ -131,7 +131,7 @@ IsExpansionOf line rvc step (Base rd name) slots =
 
 -- the slots are the expansion of the item, where `later` comes after it
 abbrev pub IsExpansion : Item → List Item → List Slot → Type 0
-IsExpansion x later slots = IsExpansionOf x.line x.rvc (is_step x later) x.body slots
+IsExpansion x later slots = IsExpansionOf x.line x.rvc (is_step_before_use x later) x.body slots
 
 -- ---- what has no expansion
 

@@ -13,7 +13,7 @@ use Rattle.sfi_source.specs.declared.item.Item.{Item}
 use Rattle.sfi_formats.specs.Formats.{unit, is_data_register, stack_pointer}
 use Rattle.sfi_formats.specs.declared.format.Format.TheVariants.{Sfiw}
 use Rattle.sfi_rewrite.specs.Samples.{Meets, LeavesInside, LeavesOutside, sample_push}
-use Rattle.sfi_rewrite.specs.words.Expansion.{mask_after, is_step, IsPlainExpansion, IsExpansion}
+use Rattle.sfi_rewrite.specs.words.Expansion.{mask_after, is_step_before_use, IsPlainExpansion, IsExpansion}
 use Rattle.sfi_rewrite.specs.words.Transparency.{KeepsTo, effect_in}
 
 -- the expansion of i, which is no step, in 32-bit slots
@@ -29,7 +29,7 @@ MeetsTransparent i = (m : MeetsExpansion i) × (mask_after (destination i) ≡ [
 -- `later` uses, holds in some state
 abbrev pub MeetsStep : Item → List Item → Instr → Type 0
 MeetsStep x later i = (m : Meets (unit Sfiw) i (IsExpansion x later)) × (x.body ≡ Plain i)
-    × (is_step x later ≡ true) × KeepsTo m.code_at m.data_at m.state.hart i
+    × (is_step_before_use x later ≡ true) × KeepsTo m.code_at m.data_at m.state.hart i
     × ((effect_in m.state i).outcome ≡ Next)
 
 -- i writes the data register, and keeps to its sandbox

@@ -21,7 +21,7 @@ use Rattle.sfi_rewrite.specs.declared.slot.Slot.{Slot}
 use Rattle.sfi_rewrite.specs.Expansion.{address_register, size_of, slots_of}
 use Rattle.sfi_rewrite.specs.Placement.{Placement}
 use Rattle.sfi_rewrite.specs.Transparency.{masked, DoesAs, IsAskedOf, MayBe}
-use Rattle.sfi_rewrite.specs.words.Expansion.{IsExpansion, is_step, Marked, alone, AreExpanded, AreLaidBefore}
+use Rattle.sfi_rewrite.specs.words.Expansion.{IsExpansion, is_step_before_use, Marked, alone, AreExpanded, AreLaidBefore}
 
 -- ---- the sandbox
 
@@ -140,4 +140,4 @@ pub record StandsTransparent (items : List Item) (p : Placement) (k : ℕ) (x : 
   pub expanded : List Slot
   pub is_expansion : IsExpansion x (drop (k + 1) items) expanded
   pub stands : AreAsLaid expanded own
-  pub transparent : (i : Instr) → MayBe x.body i → ActsAs (is_step x (drop (k + 1) items)) i own
+  pub transparent : (i : Instr) → MayBe x.body i → ActsAs (is_step_before_use x (drop (k + 1) items)) i own

@@ -1,6 +1,6 @@
 //! What an item of the source becomes in code in words.
 ghost use Rattle.std.specs.Prelude.{◌≡◌, ◌∷◌, ◌++◌, ◌+◌, ◌≤◌, [], Some, length};
-ghost use Rattle.sfi_rewrite.specs.words.Expansion.{base_of, data_mask, makes_base, before, mask_after, IsConfined, IsPlainExpansion, IsExpansion, is_step_to, is_step, is_small, is_use, is_zero, is_move, moved, IsAround};
+ghost use Rattle.sfi_rewrite.specs.words.Expansion.{base_of, data_mask, makes_base, before, mask_after, IsConfined, IsPlainExpansion, IsExpansion, is_step_to, is_step_before_use, is_small, is_use, is_zero, is_move, moved, IsAround};
 ghost use Rattle.rv_word.specs.Outlines.{destination};
 
 use crate::expansion::{Expansion, alone};
@@ -248,8 +248,8 @@ fn is_step_to(body: &Body, next: &Body) -> bool
 }
 
 /// Whether the item is a step of a data register that the first item of `later` uses.
-fn is_step(item: &Item, later: &[Item]) -> bool
-    ensures { result ≡ is_step item.now later.now }
+fn is_step_before_use(item: &Item, later: &[Item]) -> bool
+    ensures { result ≡ is_step_before_use item.now later.now }
 {
     match later.first() {
         Some(next) => !next.labelled && is_step_to(&item.body, &next.body),
@@ -263,7 +263,7 @@ pub(crate) fn expand(item: &Item, later: &[Item]) -> Expansion
 {
     let line = item.line;
     match item.body {
-        Body::Plain(ref instr) => of_plain(item.rvc, is_step(item, later), instr),
+        Body::Plain(ref instr) => of_plain(item.rvc, is_step_before_use(item, later), instr),
         Body::To(instr, name) => Expansion::of(&[Slot::Jump { instr, name, line }]),
         Body::High(rd, name) => of_part(Slot::Upper { rd, name, line }, rd),
         Body::Low(rd, name) => of_part(Slot::Lower { rd, name, line }, rd),

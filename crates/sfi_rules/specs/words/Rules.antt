@@ -52,10 +52,10 @@ abbrev pub is_small : ℤ → Bool
 is_small (pos n) = nat_le n slack
 is_small (negsuc n) = nat_lt n slack
 
--- `addi d, d, k`
-abbrev pub is_step : ℕ → Instr → Bool
-is_step d (OpImm Addi rd rs1 imm) = (rd == d) && (rs1 == d)
-is_step d _ = false
+-- `addi d, d, k`: a pointer goes on by k bytes
+abbrev pub is_pointer_step : ℕ → Instr → Bool
+is_pointer_step d (OpImm Addi rd rs1 imm) = (rd == d) && (rs1 == d)
+is_pointer_step d _ = false
 
 -- A load or store on d with an offset from -1020 to 1020. A load into x0 is none: a processor may
 -- drop it, and then it doesn't trap in a guard zone.
@@ -122,7 +122,7 @@ breaks_end i later = is_empty later && not (ends_region i)
 abbrev pub may_write_data : ℕ → Instr → List Piece → Bool
 may_write_data d i later =
     places d i || (not (is_jump i) && begins_masking d later)
-    || (is_step d i && begins_using d later)
+    || (is_pointer_step d i && begins_using d later)
 
 -- the register that the instruction writes, if it writes one, is a data register, and it may not
 -- write that
@@ -165,7 +165,7 @@ left Code i = if is_placing code_base_register code_register i then Some Nothing
 abbrev pub owed_by_data : ℕ → Instr → Option Owed
 owed_by_data d i =
     if places d i then Some Nothing
-    else if is_jump i then None else if is_step d i then Some (MaskOrUse d) else Some (Mask d)
+    else if is_jump i then None else if is_pointer_step d i then Some (MaskOrUse d) else Some (Mask d)
 
 -- what must come after this write of the code register; None: nothing can make it right
 abbrev pub owed_by_code : Instr → Option Owed

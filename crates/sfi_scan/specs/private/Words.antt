@@ -10,7 +10,7 @@ use Rattle.sfi_formats.specs.Formats.{code_register, is_data_register, is_reserv
 use Rattle.sfi_image.specs.declared.bundle.BundlePlace.{BundlePlace}
 use Rattle.sfi_rules.specs.declared.owed.Owed.{Owed}
 use Rattle.sfi_rules.specs.words.Findings.{lowest, IsWordFound}
-use Rattle.sfi_rules.specs.words.Rules.{owed_next, may_access, is_word_start, is_step, uses}
+use Rattle.sfi_rules.specs.words.Rules.{owed_next, may_access, is_word_start, is_pointer_step, uses}
 use Rattle.sfi_scan.specs.private.Blocks.{is_zero}
 use Rattle.rv_word.specs.declared.instr.Instr.TheVariants.{Op, Load, Store}
 use Rattle.rv_word.specs.declared.instr.RegOp.TheVariants.{And, Or}
@@ -136,7 +136,7 @@ pub record IsPairAt (block : List ℕ) (i : ℕ) : Type 0 where
 
 -- the word is `addi d, d, k`
 abbrev pub IsStepOf : ℕ → ℕ → Type 0
-IsStepOf d word = (i : Instr) × IsWordOf word i × (is_step d i ≡ true)
+IsStepOf d word = (i : Instr) × IsWordOf word i × (is_pointer_step d i ≡ true)
 
 -- where the instruction is a load or store, these are the bits of its offset
 abbrev pub IsOffset : Instr → ℕ → Type 0

@@ -6,7 +6,7 @@ ghost use Rattle.sfi_rules.specs.words.Findings.{fails_data, fails_code, is_data
 
 use crate::before::is_masking;
 use crate::rules::is_jump;
-use crate::words::rules::{is_step, masks, places, places_code, uses};
+use crate::words::rules::{is_pointer_step, masks, places, places_code, uses};
 use rv_word::Instr;
 use sfi_formats::{CODE_MASK_REGISTER, CODE_REGISTER};
 use sfi_pairs::is_data_register;
@@ -56,7 +56,7 @@ fn by_data(d: u8, instr: &Instr) -> Option<Owed>
         Some(Owed::Nothing)
     } else if is_jump(instr) {
         None
-    } else if is_step(d, instr) {
+    } else if is_pointer_step(d, instr) {
         Some(Owed::MaskOrUse(d))
     } else {
         Some(Owed::Mask(d))

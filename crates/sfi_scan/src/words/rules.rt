@@ -2,7 +2,7 @@
 ghost use Rattle.std.specs.Prelude.{◌≡◌};
 ghost use Rattle.sfi_pairs.specs.Pairs.{is_placing};
 ghost use Rattle.sfi_rules.specs.Readings.{IsWithin};
-ghost use Rattle.sfi_rules.specs.words.Rules.{places, masks, is_small, is_step, uses, breaks_ecall, may_access, breaks_access, breaks_jump, is_word_start, breaks_target, breaks_offset};
+ghost use Rattle.sfi_rules.specs.words.Rules.{places, masks, is_small, is_pointer_step, uses, breaks_ecall, may_access, breaks_access, breaks_jump, is_word_start, breaks_target, breaks_offset};
 ghost use Rattle.sfi_scan.specs.private.Scanning.{IsInside};
 ghost use Rattle.sfi_rules.specs.words.Findings.{breaks_last, is_at_gate, lowest};
 
@@ -71,8 +71,8 @@ fn is_small(imm: i32) -> bool
 }
 
 /// Whether the instruction steps data register `d`: an `addi` from it to itself.
-pub(crate) fn is_step(d: u8, instr: &Instr) -> bool
-    ensures { result ≡ is_step d instr.now }
+pub(crate) fn is_pointer_step(d: u8, instr: &Instr) -> bool
+    ensures { result ≡ is_pointer_step d instr.now }
 {
     match *instr {
         Instr::OpImm {
