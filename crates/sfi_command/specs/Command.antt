@@ -104,9 +104,9 @@ run = record (new_shape (codes "run")) {
       ∷ flag_rule (codes "report") ∷ [];
 }
 
--- a text that has to be given, without a name
-abbrev pub required_rule : Text → Rule
-required_rule name = record (new_rule name) { required = true }
+-- an argument, a text without an option's name, that has to be given
+abbrev pub required_argument_rule : Text → Rule
+required_argument_rule name = record (new_rule name) { required = true }
 
 -- an option that takes a number from 1 to the largest of 64 bits
 abbrev pub number_rule : Text → Rule
@@ -115,7 +115,7 @@ number_rule name = record (value_rule name) { parser = Some (Unsigned 1 (2 ^ 64 
 -- `exec IMAGE [--budget N]`
 abbrev pub exec : Shape
 exec = record (new_shape (codes "exec")) {
-  rules = record (required_rule (codes "image")) { value_names = 1 }
+  rules = record (required_argument_rule (codes "image")) { value_names = 1 }
       ∷ number_rule (codes "budget") ∷ [];
 }
 
@@ -124,8 +124,8 @@ abbrev pub convert : Shape
 convert = record (new_shape (codes "convert")) { rules = flag_rule (codes "raw") ∷ [] }
 
 -- an option that takes a text and has to be given
-abbrev pub needed_rule : Text → Rule
-needed_rule name = record (value_rule name) { required = true }
+abbrev pub required_option_rule : Text → Rule
+required_option_rule name = record (value_rule name) { required = true }
 
 -- the largest number of a sandbox that an option takes
 abbrev pub sandbox_most : ℕ
@@ -134,7 +134,7 @@ sandbox_most = 2 ^ 32 - 1
 -- `move --at CODE:DATA [--sandbox N] [--raw]`
 abbrev pub move_one : Shape
 move_one = record (new_shape (codes "move")) {
-  rules = needed_rule (codes "at") ∷ count_rule (codes "sandbox") (codes "0") 0 sandbox_most
+  rules = required_option_rule (codes "at") ∷ count_rule (codes "sandbox") (codes "0") 0 sandbox_most
       ∷ flag_rule (codes "raw") ∷ [];
 }
 

@@ -7,7 +7,7 @@ use Rattle.clap.specs.declared.builder.command.Command.TheViews.{out-Command}
 use Rattle.sfi_command.specs.declared.job.Job.{Job}
 use Rattle.sfi_command.specs.declared.job.JobFault.{JobFault}
 use Rattle.sfi_command.specs.declared.job.JobFault.TheVariants.{Usage, Hex, Memory}
-use Rattle.sfi_command.specs.Command.{IsNoInput, IsPlaceOf, Names, NamesNoInput, count_rule, flag_rule, needed_rule, number_rule, required_rule, value_rule, SpellPlaces, SpellsPlace}
+use Rattle.sfi_command.specs.Command.{IsNoInput, IsPlaceOf, Names, NamesNoInput, count_rule, flag_rule, required_option_rule, number_rule, required_argument_rule, value_rule, SpellPlaces, SpellsPlace}
 use Rattle.sfi_formats.specs.declared.place.Place.{Place}
 use Rattle.clap.specs.declared.builder.action.ArgAction.TheVariants.{Append}
 use Rattle.sfi_command.specs.declared.commands.CommandRow.{CommandRow}
@@ -72,8 +72,8 @@ rule_taking name takes.Nothing = flag_rule name
 rule_taking name (takes.Text word) = value_rule name
 rule_taking name (takes.Texts word) = record (value_rule name) { action = Some Append }
 rule_taking name (takes.Number word) = number_rule name
-rule_taking name (takes.Needed word) = needed_rule name
-rule_taking name (takes.Word word) = record (required_rule name) { value_names = 1 }
+rule_taking name (takes.Needed word) = required_option_rule name
+rule_taking name (takes.Word word) = record (required_argument_rule name) { value_names = 1 }
 rule_taking name (takes.Count word usual least most) = count_rule name usual.now least most
 
 abbrev pub rule_of_row : OptionRow → Rule

@@ -4,7 +4,7 @@ ghost use Rattle.std.specs.Prelude.{◌≡◌, IfOk, false, map};
 ghost use Rattle.clap.specs.Simple.{app_of, new_app};
 ghost use Rattle.clap.specs.Walk.{rule_of};
 ghost use Rattle.clap.specs.declared.builder.command.Command.TheViews.{out-Command};
-ghost use Rattle.sfi_command.specs.Command.{exec, on_input, program, required_rule, sfi};
+ghost use Rattle.sfi_command.specs.Command.{exec, on_input, program, required_argument_rule, sfi};
 ghost use Rattle.sfi_command.specs.private.{IsCommandOf, named_rule, rule_of_row, shape_of_row, with_all};
 
 use crate::help;
@@ -204,7 +204,7 @@ const COMMANDS: &[CommandRow] = &[
 
 /// An argument of this name, with the line that help has for it.
 fn word_named<'a>(alloc: Global, name: &'a str, about: &'a str) -> Arg<'a>
-    ensures rule { rule_of result ≡ required_rule name.now }
+    ensures rule { rule_of result ≡ required_argument_rule name.now }
     ensures local { result.global ≡ false }
 {
     Arg::new(alloc, name).help(about).required(true)
