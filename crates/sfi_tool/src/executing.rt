@@ -5,7 +5,7 @@ ghost use Rattle.sfi_host.specs.Consoles.{ConsoleState};
 ghost use Rattle.sfi_host.specs.Worlds.{slots_of};
 ghost use Rattle.sfi_tool.specs.private.{AreStreamed, AreWithin, IsAsked, Streamed, left_by, left_of};
 
-use crate::serving::{RunFault, serve};
+use crate::serving::{Interruption, serve};
 use rv_mem::Memory;
 use sfi_host::{Console, Request, Status, Turn, World};
 use std::io::{Read, Write};
@@ -69,7 +69,7 @@ fn run_on<M: Memory, R: Read, W: Write>(
     buffer: &mut [u8],
     reader: &mut R,
     writer: &mut W,
-) -> Result<(), RunFault>
+) -> Result<(), Interruption>
     requires buffer { length buffer.old ≡ 65536 }
     requires within { AreWithin budget (slots_of world.old) }
     ensures streamed { IfOk result (λ u. Streamed sandbox (slots_of world.old) console.old
@@ -92,7 +92,7 @@ fn run_sandbox<M: Memory, R: Read, W: Write>(
     buffer: &mut [u8],
     reader: &mut R,
     writer: &mut W,
-) -> Result<(), RunFault>
+) -> Result<(), Interruption>
     requires buffer { length buffer.old ≡ 65536 }
     requires within { AreWithin budget (slots_of world.old) }
     ensures streamed { IfOk result (λ u. Streamed sandbox (slots_of world.old) console.old
@@ -108,7 +108,7 @@ fn run_sandbox<M: Memory, R: Read, W: Write>(
         }
         run_on(world, console, sandbox, budget, buffer, reader, writer)?;
     }
-    Err(RunFault::TooLong)
+    Err(Interruption::TooLong)
 }
 
 /// Runs the first sandboxes, one after another.
@@ -120,7 +120,7 @@ pub(crate) fn run_sandboxes<M: Memory, R: Read, W: Write>(
     buffer: &mut [u8],
     reader: &mut R,
     writer: &mut W,
-) -> Result<(), RunFault>
+) -> Result<(), Interruption>
     requires buffer { length buffer.old ≡ 65536 }
     requires within { AreWithin budget (slots_of world.old) }
     ensures { IfOk result (λ u. AreStreamed budget count (slots_of world.old) console.old

@@ -10,7 +10,7 @@ ghost use Rattle.sfi_tool.specs.declared.process.ExecFault.TheVariants.{NotAccep
 ghost use Rattle.sfi_tool.specs.private.{Ran, RanImage};
 
 use crate::executing::run_sandboxes;
-use crate::serving::{MOST_HANDED, RunFault};
+use crate::serving::{Interruption, MOST_HANDED};
 use crate::stopping::{status_among, stop_text};
 use rv_mem::Pages;
 use sfi_answers::{Stop, TOO_LARGE_LINE, refusal_answer, stop_answer};
@@ -36,37 +36,37 @@ pub enum ExecFault {
     TooLong,
 }
 
-impl From<AllocError> for RunFault {
-    ghost use Rattle.sfi_tool.specs.declared.serving.RunFault.TheVariants.{Memory};
+impl From<AllocError> for Interruption {
+    ghost use Rattle.sfi_tool.specs.declared.serving.Interruption.TheVariants.{Memory};
 
     ghost from_gives = { λ _ e. e ≡ Memory };
 
-    fn from(_e: AllocError) -> RunFault {
-        RunFault::Memory
+    fn from(_e: AllocError) -> Interruption {
+        Interruption::Memory
     }
 }
 
-impl From<RunFault> for ExecFault {
+impl From<Interruption> for ExecFault {
     ghost from_gives = { λ _ e. e ≢ NotAccepted };
 
-    fn from(fault: RunFault) -> ExecFault {
+    fn from(fault: Interruption) -> ExecFault {
         match fault {
-            RunFault::Memory => ExecFault::Memory,
-            RunFault::Read => ExecFault::Read,
-            RunFault::Write => ExecFault::Write,
-            RunFault::TooLong => ExecFault::TooLong,
+            Interruption::Memory => ExecFault::Memory,
+            Interruption::Read => ExecFault::Read,
+            Interruption::Write => ExecFault::Write,
+            Interruption::TooLong => ExecFault::TooLong,
         }
     }
 }
 
 /// Says something, whole.
-fn say<E: Write>(errors: &mut E, text: &[u8]) -> Result<(), RunFault>
+fn say<E: Write>(errors: &mut E, text: &[u8]) -> Result<(), Interruption>
     ensures { OnOk result (Appends (E.contents errors.old) (E.contents errors.new) text.now) }
 {
     if write_out(errors, text) {
         Ok(())
     } else {
-        Err(RunFault::Write)
+        Err(Interruption::Write)
     }
 }
 
@@ -78,7 +78,7 @@ fn run_accepted<R: Read, W: Write, E: Write>(
     reader: &mut R,
     writer: &mut W,
     errors: &mut E,
-) -> Result<u8, RunFault>
+) -> Result<u8, Interruption>
     ensures { IfOk result (Ran budget accepted.now (R.remaining reader.old) (R.remaining reader.new)
         (W.contents writer.old) (W.contents writer.new) (E.contents errors.old)
         (E.contents errors.new)) }
@@ -97,7 +97,7 @@ fn run_accepted<R: Read, W: Write, E: Write>(
         writer,
     );
     if writer.flush().is_err() {
-        return Err(RunFault::Write);
+        return Err(Interruption::Write);
     }
     ran?;
     let text = stop_text(alloc, accepted.image().parts(), &world)?;

@@ -26,7 +26,7 @@ const GET: u32 = 2;
 
 /// Why sandboxes that ran didn't come to their end.
 #[derive(Clone, Copy, Drop)]
-pub enum RunFault {
+pub enum Interruption {
     /// An allocation was refused.
     Memory,
     /// The input can't be read.
@@ -55,7 +55,7 @@ fn answer_call<M: Memory, G: Gates>(
     world: &mut World<M>,
     request: Request,
     gates: &mut G,
-) -> Result<(), RunFault>
+) -> Result<(), Interruption>
     requires { Waits (slots_of world.old) request.sandbox request }
     ensures { IfOk result (λ u. IsAnsweredBy G.answer request (slots_of world.old) gates.old
         (slots_of world.new) gates.new) }
@@ -66,12 +66,12 @@ fn answer_call<M: Memory, G: Gates>(
     };
     match world.run_plan(&[turn], gates) {
         RunAnswer::Done => Ok(()),
-        RunAnswer::Memory { .. } => Err(RunFault::Memory),
+        RunAnswer::Memory { .. } => Err(Interruption::Memory),
     }
 }
 
 /// Gives a caller this a0, and lets it go on.
-fn reply<M: Memory>(world: &mut World<M>, request: Request, a0: u32) -> Result<(), RunFault>
+fn reply<M: Memory>(world: &mut World<M>, request: Request, a0: u32) -> Result<(), Interruption>
     requires { Waits (slots_of world.old) request.sandbox request }
     ensures { IfOk result
         (λ u. GoesOnWith request a0 (slots_of world.old) (slots_of world.new)) }
@@ -90,7 +90,7 @@ fn put<M: Memory, W: Write>(
     request: Request,
     buffer: &mut [u8],
     writer: &mut W,
-) -> Result<(), RunFault>
+) -> Result<(), Interruption>
     requires put { request.service ≡ 1 }
     requires waits { Waits (slots_of world.old) request.sandbox request }
     requires buffer { length buffer.old ≡ 65536 }
@@ -102,7 +102,7 @@ fn put<M: Memory, W: Write>(
         return reply(world, request, FAILED);
     }
     if !write_out(writer, &buffer[..request.a1 as usize]) {
-        return Err(RunFault::Write);
+        return Err(Interruption::Write);
     }
     reply(world, request, request.a1)
 }
@@ -112,18 +112,18 @@ fn read_piece<R: Read, W: Write>(
     piece: &mut [u8],
     reader: &mut R,
     writer: &mut W,
-) -> Result<usize, RunFault>
+) -> Result<usize, Interruption>
     ensures piece { IfOk result (λ n. IsPiece (length piece.old) (R.remaining reader.old)
         (R.remaining reader.new) (take n piece.new)) }
     ensures few { IfOk result (λ n. n ≤ length piece.old) }
     ensures flushed { IfOk result (λ n. Keeps (W.contents writer.old) (W.contents writer.new)) }
 {
     if writer.flush().is_err() {
-        return Err(RunFault::Write);
+        return Err(Interruption::Write);
     }
     match reader.read(piece) {
         Ok(count) => Ok(count),
-        Err(_) => Err(RunFault::Read),
+        Err(_) => Err(Interruption::Read),
     }
 }
 
@@ -134,7 +134,7 @@ fn get<M: Memory, R: Read, W: Write>(
     buffer: &mut [u8],
     reader: &mut R,
     writer: &mut W,
-) -> Result<(), RunFault>
+) -> Result<(), Interruption>
     requires get { request.service ≡ 2 }
     requires waits { Waits (slots_of world.old) request.sandbox request }
     requires buffer { length buffer.old ≡ 65536 }
@@ -157,7 +157,7 @@ fn ask_console<M: Memory>(
     world: &mut World<M>,
     request: Request,
     console: &mut Console,
-) -> Result<(), RunFault>
+) -> Result<(), Interruption>
     requires put { request.service ≢ 1 }
     requires get { request.service ≢ 2 }
     requires waits { Waits (slots_of world.old) request.sandbox request }
@@ -175,7 +175,7 @@ pub(crate) fn serve<M: Memory, R: Read, W: Write>(
     buffer: &mut [u8],
     reader: &mut R,
     writer: &mut W,
-) -> Result<(), RunFault>
+) -> Result<(), Interruption>
     requires waits { Waits (slots_of world.old) request.sandbox request }
     requires buffer { length buffer.old ≡ 65536 }
     ensures { IfOk result (λ u. IsServed request.sandbox (slots_of world.old) console.old
