@@ -134,7 +134,7 @@ pub record SaysConverted (raw : Bool) (bytes : List ℕ) (status : ℕ) (text : 
 
 -- the image has no findings in the first format, and its sandboxes have some in the second: status
 -- 1 and the line of the first
-pub record SaysStack (bytes : List ℕ) (status : ℕ) (text : List ℕ) : Type 0 where
+pub record SaysStackFindings (bytes : List ℕ) (status : ℕ) (text : List ℕ) : Type 0 where
   pub found : List Finding
   pub refused : HasStackFindings bytes found
   pub status_is : status ≡ 1
@@ -145,7 +145,7 @@ pub record SaysStack (bytes : List ℕ) (status : ℕ) (text : List ℕ) : Type 
 abbrev pub SaysConversion : Bool → List ℕ → ℕ → List ℕ → Type 0
 SaysConversion raw bytes status text =
     SaysConverted raw bytes status text
-    ⊎ (((¬ IsSecond bytes) × SaysRefused false bytes status text) ⊎ SaysStack bytes status text)
+    ⊎ (((¬ IsSecond bytes) × SaysRefused false bytes status text) ⊎ SaysStackFindings bytes status text)
 
 -- ---- when it is due
 
