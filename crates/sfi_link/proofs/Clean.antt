@@ -1,5 +1,5 @@
 -- A bundle of whole expansions breaks no rule.
-use Rattle.sfi_link.proofs.Prelude.{◌≡◌, ℕ, zero, suc, ◌+◌, ◌^◌, ◌<◌, ◌≤◌, List, [], ◌∷◌, ◌++◌, length, Option, Some, None, Bool, true, false, refl, sym, ap, ◌∙◌, subst, arith, append_assoc, inl, inr, replicate, ℤ, pos, negsuc, ◌-ℤ◌, ◌==◌, ◌&&◌, ◌||◌, not, MatchBool, Addi, Instr, Op, OpImm, Load, Store, Branch, Jal, Jalr, Lui, Fence, Ecall, Ebreak, has_stack, is_stack, IsBody, Piece, upper, lower, Slot, Wide, Short, Jump, Upper, Lower, Region, PlacedName, slot_size, size_of, c_nop, AreWhole, nothing, padding, Bases, target_at, value_at, base_at, with_offset, c_ebreak, resolved, made_of, AreSlots}
+use Rattle.sfi_link.proofs.Prelude.{◌≡◌, ℕ, zero, suc, ◌+◌, ◌^◌, ◌<◌, ◌≤◌, List, [], ◌∷◌, ◌++◌, length, Option, Some, None, Bool, true, false, refl, sym, ap, ◌∙◌, subst, arith, append_assoc, inl, inr, replicate, ℤ, pos, negsuc, ◌-ℤ◌, ◌==◌, ◌&&◌, ◌||◌, not, MatchBool, Addi, Instr, Op, OpImm, Load, Store, Branch, Jal, Jalr, Lui, Fence, Ecall, Ebreak, has_stack, is_stack, IsBody, Piece, upper, lower, BundleSlot, Wide, Short, Jump, Upper, Lower, Region, PlacedName, slot_size, size_of, c_nop, AreWhole, nothing, padding, Bases, target_at, value_at, base_at, with_offset, c_ebreak, resolved, made_of, AreSlots}
 use Rattle.sfi_source.specs.declared.item.Body.{Body}
 use Rattle.sfi_source.specs.declared.item.Body.TheVariants.{Plain, To, High, Low, Base}
 use Rattle.rv_word.specs.Spelling.{offset_by}
@@ -23,17 +23,17 @@ use Rattle.sfi_link.proofs.CleanPlaces.{AreStarts, IsReadAs, IsCleanFrom, passes
 -- ---- slot by slot
 
 -- the bytes of the slots, from there on, are read whole, without a finding
-abbrev pub IsCleanly : BundlePlace → Bases → List PlacedName → ℕ → List Instr → List Slot → Type 0
+abbrev pub IsCleanly : BundlePlace → Bases → List PlacedName → ℕ → List Instr → List BundleSlot → Type 0
 IsCleanly b at names here earlier slots =
     here + size_of slots ≤ 2 ^ 32 → (bytes : List ℕ) → AreSlots at names here slots bytes → IsCleanFrom b here earlier slots bytes
 
 -- the slot's instruction breaks no rule there, and what stands after it none either
-record CanStep (b : BundlePlace) (at : Bases) (names : List PlacedName) (here : ℕ) (earlier : List Instr) (x : Slot) (more : List Slot) (i : Instr) : Type 0 where
+record CanStep (b : BundlePlace) (at : Bases) (names : List PlacedName) (here : ℕ) (earlier : List Instr) (x : BundleSlot) (more : List BundleSlot) (i : Instr) : Type 0 where
   own : IsReadAs x (record { instr = i; size = slot_size x })
   passes : PassesBefore b here earlier i more
   rest : IsCleanly b at names (here + slot_size x) (i ∷ earlier) more
 
-slot_step : (b : BundlePlace) (at : Bases) (names : List PlacedName) (here : ℕ) (earlier : List Instr) (x : Slot) (more : List Slot)
+slot_step : (b : BundlePlace) (at : Bases) (names : List PlacedName) (here : ℕ) (earlier : List Instr) (x : BundleSlot) (more : List BundleSlot)
     → ((i : Instr) → resolved at names here x ≡ Some i → CanStep b at names here earlier x more i) → IsCleanly b at names here earlier (x ∷ more)
 slot_step b at names here earlier x more can room bytes (front, rest, s, others, e) =
     let size = slot_some x in
@@ -43,23 +43,23 @@ slot_step b at names here earlier x more can room bytes (front, rest, s, others,
     (c.rest (omega arith) rest others) c.passes
 
 -- at an instruction that is known
-known : (b : BundlePlace) (at : Bases) (names : List PlacedName) (here : ℕ) (earlier : List Instr) (x : Slot) (i : Instr) (more : List Slot)
+known : (b : BundlePlace) (at : Bases) (names : List PlacedName) (here : ℕ) (earlier : List Instr) (x : BundleSlot) (i : Instr) (more : List BundleSlot)
     → resolved at names here x ≡ Some i → IsReadAs x (record { instr = i; size = slot_size x }) → PassesBefore b here earlier i more → IsCleanly b at names (here + slot_size x) (i ∷ earlier) more
     → IsCleanly b at names here earlier (x ∷ more)
 known b at names here earlier x i more r own passes rest =
     slot_step b at names here earlier x more
     (λ j q. subst (CanStep b at names here earlier x more) (some_same i j (sym r ∙ q)) (record { own = own; passes = passes; rest = rest }))
 
-wide : (b : BundlePlace) (at : Bases) (names : List PlacedName) (here : ℕ) (earlier : List Instr) (i : Instr) (more : List Slot)
+wide : (b : BundlePlace) (at : Bases) (names : List PlacedName) (here : ℕ) (earlier : List Instr) (i : Instr) (more : List BundleSlot)
     → PassesBefore b here earlier i more → IsCleanly b at names (here + 4) (i ∷ earlier) more → IsCleanly b at names here earlier (Wide i ∷ more)
 wide b at names here earlier i more passes rest = known b at names here earlier (Wide i) i more refl refl passes rest
 
 -- what stands after is clean wherever it stands
-abbrev IsCleanAfter : BundlePlace → Bases → List PlacedName → List Slot → Type 0
+abbrev IsCleanAfter : BundlePlace → Bases → List PlacedName → List BundleSlot → Type 0
 IsCleanAfter b at names more = (here : ℕ) (earlier : List Instr) → IsCleanly b at names here earlier more
 
 -- an instruction as it is
-alone : (b : BundlePlace) (at : Bases) (names : List PlacedName) (here : ℕ) (earlier : List Instr) (rvc : Bool) (i : Instr) (expanded more : List Slot)
+alone : (b : BundlePlace) (at : Bases) (names : List PlacedName) (here : ℕ) (earlier : List Instr) (rvc : Bool) (i : Instr) (expanded more : List BundleSlot)
     → IsAlone rvc i expanded → PassesBefore b here earlier i more → IsCleanAfter b at names more → IsCleanly b at names here earlier (expanded ++ more)
 alone b at names here earlier false i expanded more a passes rest =
     subst (λ v. IsCleanly b at names here earlier (v ++ more)) (sym a) (wide b at names here earlier i more passes (rest (here + 4) (i ∷ earlier)))
@@ -72,7 +72,7 @@ alone b at names here earlier true i expanded more a passes rest =
     ]
 
 -- what makes an address in x31
-into_x31 : (b : BundlePlace) (here : ℕ) (earlier : List Instr) (i : Instr) (more : List Slot) → is_calm i ≡ true → destination i ≡ Some 31 → PassesBefore b here earlier i more
+into_x31 : (b : BundlePlace) (here : ℕ) (earlier : List Instr) (i : Instr) (more : List BundleSlot) → is_calm i ≡ true → destination i ≡ Some 31 → PassesBefore b here earlier i more
 into_x31 b here earlier i more c d later read e =
     calm b here earlier i later c (ap is_reserved_of d)
     (no_write (place b here earlier i later) i (ap (λ o. has_stack b.format && is_register 2 o) d ∙ bool.and_right (has_stack b.format) false refl)) e
@@ -82,7 +82,7 @@ into_x31 b here earlier i more c d later read e =
     is_reserved_of (Some r) = is_reserved r
 
 -- a pair on x31, and what uses it
-pair_then : (b : BundlePlace) (at : Bases) (names : List PlacedName) (here : ℕ) (earlier : List Instr) (a mask base : ℕ) (i : Instr) (more : List Slot)
+pair_then : (b : BundlePlace) (at : Bases) (names : List PlacedName) (here : ℕ) (earlier : List Instr) (a mask base : ℕ) (i : Instr) (more : List BundleSlot)
     → PassesBefore b (here + 4 + 4) (Op Or 31 31 base ∷ Op And 31 a mask ∷ earlier) i more → IsCleanAfter b at names more
     → IsCleanly b at names here earlier (Wide (Op And 31 a mask) ∷ Wide (Op Or 31 31 base) ∷ Wide i ∷ more)
 pair_then b at names here earlier a mask base i more passes rest =
@@ -94,7 +94,7 @@ pair_then b at names here earlier a mask base i more passes rest =
     (rest (here + 4 + 4 + 4) (i ∷ Op Or 31 31 base ∷ Op And 31 a mask ∷ earlier))))
 
 -- the pair that puts the stack pointer back
-stack_pair_then : (b : BundlePlace) (at : Bases) (names : List PlacedName) (here : ℕ) (earlier : List Instr) (more : List Slot)
+stack_pair_then : (b : BundlePlace) (at : Bases) (names : List PlacedName) (here : ℕ) (earlier : List Instr) (more : List BundleSlot)
     → IsCleanAfter b at names more → IsCleanly b at names here earlier (stack.stack_pair ++ more)
 stack_pair_then b at names here earlier more rest =
     wide b at names here earlier (Op And 2 2 27) (Wide (Op Or 2 2 26) ∷ more)
@@ -115,7 +115,7 @@ before_pair b here earlier i later j p =
     well_written (place b here earlier i later) i (bool.or_right (begins_pair i later || ends_pair earlier i) _ (ap (λ v. not v && precedes_pair later) j ∙ p))
 
 -- what writes the stack pointer
-writer_passes : (b : BundlePlace) (here : ℕ) (earlier : List Instr) (i : Instr) (more : List Slot) → names_withheld Sfi1 i ≡ false → has_stack b.format ≡ true → writes_register 2 i ≡ true
+writer_passes : (b : BundlePlace) (here : ℕ) (earlier : List Instr) (i : Instr) (more : List BundleSlot) → names_withheld Sfi1 i ≡ false → has_stack b.format ≡ true → writes_register 2 i ≡ true
     → stack.jumps_or_loads_x2 (Plain i) ≡ false → PassesBefore b here earlier i (stack.stack_pair ++ more)
 writer_passes b here earlier (Load kind rd a imm) more h f w j later read e =
     passes _ refl (writes_unreserved (Load kind rd a imm) h) (on_stack b a (follows_data_pair a earlier) (ap (λ v. v && (a == 2)) f ∙ bool.not-false (a == 2) (second_false (rd == 2) (not (a == 2)) w j))) refl refl e (before_pair b here earlier (Load kind rd a imm) later refl (pair_read more later read))
@@ -129,7 +129,7 @@ writer_passes b here earlier Ebreak more h f w j later read e = cc
 writer_passes b here earlier i more h f w j later read e = calm b here earlier i later refl (writes_unreserved i h) (before_pair b here earlier i later refl (pair_read more later read)) e
 
 -- an access on the stack pointer that doesn't write it
-access_passes : (b : BundlePlace) (here : ℕ) (earlier : List Instr) (i : Instr) (more : List Slot) → names_withheld Sfi1 i ≡ false → has_stack b.format ≡ true → stack.is_on_x2 i ≡ true
+access_passes : (b : BundlePlace) (here : ℕ) (earlier : List Instr) (i : Instr) (more : List BundleSlot) → names_withheld Sfi1 i ≡ false → has_stack b.format ≡ true → stack.is_on_x2 i ≡ true
     → writes_stack b i ≡ false → PassesBefore b here earlier i more
 access_passes b here earlier (Load kind rd a imm) more h f o w later read e =
     passes _ refl (writes_unreserved (Load kind rd a imm) h) (on_stack b a (follows_data_pair a earlier) (ap (λ v. v && (a == 2)) f ∙ o)) refl refl e (no_write (place b here earlier (Load kind rd a imm) later) (Load kind rd a imm) w)
@@ -139,16 +139,16 @@ access_passes b here earlier (Store width a rs2 imm) more h f o w later read e =
 access_passes b here earlier _ more h f o w later read e = cc
 
 -- an instruction that stays as it is, and is none of these
-calm_passes : (b : BundlePlace) (here : ℕ) (earlier : List Instr) (i : Instr) (more : List Slot) → is_calm i ≡ true → names_withheld Sfi1 i ≡ false → writes_stack b i ≡ false
+calm_passes : (b : BundlePlace) (here : ℕ) (earlier : List Instr) (i : Instr) (more : List BundleSlot) → is_calm i ≡ true → names_withheld Sfi1 i ≡ false → writes_stack b i ≡ false
     → PassesBefore b here earlier i more
 calm_passes b here earlier i more c h w later read e = calm b here earlier i later c (writes_unreserved i h) (no_write (place b here earlier i later) i w) e
 
-jump_passes : (b : BundlePlace) (here : ℕ) (earlier : List Instr) (a rd : ℕ) (more : List Slot) → is_withheld rd ≡ false → is_stack b.format rd ≡ false
+jump_passes : (b : BundlePlace) (here : ℕ) (earlier : List Instr) (a rd : ℕ) (more : List BundleSlot) → is_withheld rd ≡ false → is_stack b.format rd ≡ false
     → PassesBefore b here (Op Or 31 31 24 ∷ Op And 31 a 25 ∷ earlier) (Jalr rd 31 (pos 0)) more
 jump_passes b here earlier a rd more h w later read e =
     passes _ refl (unreserved rd h) refl refl refl e (no_write (place b here (Op Or 31 31 24 ∷ Op And 31 a 25 ∷ earlier) (Jalr rd 31 (pos 0)) later) (Jalr rd 31 (pos 0)) w)
 
-with_sum : (b : BundlePlace) (at : Bases) (names : List PlacedName) (here : ℕ) (earlier : List Instr) (rd a : ℕ) (imm : ℤ) (more : List Slot)
+with_sum : (b : BundlePlace) (at : Bases) (names : List PlacedName) (here : ℕ) (earlier : List Instr) (rd a : ℕ) (imm : ℤ) (more : List BundleSlot)
     → is_withheld rd ≡ false → is_stack b.format rd ≡ false → IsCleanAfter b at names more
     → IsCleanly b at names here earlier (Wide (OpImm Addi 31 a imm) ∷ Wide (Op And 31 31 25) ∷ Wide (Op Or 31 31 24) ∷ jump_to_x31 rd ∷ more)
 with_sum b at names here earlier rd a imm more h w rest =
@@ -157,14 +157,14 @@ with_sum b at names here earlier rd a imm more h w rest =
     (pair_then b at names (here + 4) (OpImm Addi 31 a imm ∷ earlier) 31 25 24 (Jalr rd 31 (pos 0)) more
     (jump_passes b (here + 4 + 4 + 4) (OpImm Addi 31 a imm ∷ earlier) 31 rd more h w) rest)
 
-jump_clean : (b : BundlePlace) (at : Bases) (names : List PlacedName) (here : ℕ) (earlier : List Instr) (rd a : ℕ) (imm : ℤ) (more : List Slot)
+jump_clean : (b : BundlePlace) (at : Bases) (names : List PlacedName) (here : ℕ) (earlier : List Instr) (rd a : ℕ) (imm : ℤ) (more : List BundleSlot)
     → is_withheld rd ≡ false → is_stack b.format rd ≡ false → IsCleanAfter b at names more → IsCleanly b at names here earlier (jump_slots rd a imm ++ more)
 jump_clean b at names here earlier rd a (pos zero) more h w rest =
     pair_then b at names here earlier a 25 24 (Jalr rd 31 (pos 0)) more (jump_passes b (here + 4 + 4) earlier a rd more h w) rest
 jump_clean b at names here earlier rd a (pos (suc n)) more h w rest = with_sum b at names here earlier rd a (pos (suc n)) more h w rest
 jump_clean b at names here earlier rd a (negsuc n) more h w rest = with_sum b at names here earlier rd a (negsuc n) more h w rest
 
-masked_clean : (b : BundlePlace) (at : Bases) (names : List PlacedName) (here : ℕ) (earlier : List Instr) (rvc : Bool) (i : Instr) (count : ℕ) (expanded more : List Slot)
+masked_clean : (b : BundlePlace) (at : Bases) (names : List PlacedName) (here : ℕ) (earlier : List Instr) (rvc : Bool) (i : Instr) (count : ℕ) (expanded more : List BundleSlot)
     → IsMasked rvc i expanded → IsBody count (Plain i) → names_withheld Sfi1 i ≡ false → is_ecall (Plain i) ≡ false → writes_stack b i ≡ false → IsCleanAfter b at names more
     → IsCleanly b at names here earlier (expanded ++ more)
 masked_clean b at names here earlier rvc (Load kind rd a imm) count expanded more x body h c w rest =
@@ -187,7 +187,7 @@ masked_clean b at names here earlier rvc i count expanded more x body h c w rest
     alone b at names here earlier rvc i expanded more x (calm_passes b here earlier i more refl h w) rest
 
 -- what writes the stack pointer, an access on it, and any other
-plain_clean : (b : BundlePlace) (at : Bases) (names : List PlacedName) (here : ℕ) (earlier : List Instr) (writes on rvc : Bool) (i : Instr) (count : ℕ) (expanded more : List Slot)
+plain_clean : (b : BundlePlace) (at : Bases) (names : List PlacedName) (here : ℕ) (earlier : List Instr) (writes on rvc : Bool) (i : Instr) (count : ℕ) (expanded more : List BundleSlot)
     → stack.writes_stack b.format i ≡ writes → stack.is_on_stack b.format i ≡ on
     → MatchBool writes (expanded ≡ Wide i ∷ stack.stack_pair) (MatchBool on (IsAlone rvc i expanded) (IsMasked rvc i expanded))
     → IsBody count (Plain i) → names_withheld Sfi1 i ≡ false → is_ecall (Plain i) ≡ false → stack.is_stack_write b.format (Plain i) ≡ false → IsCleanAfter b at names more
@@ -205,7 +205,7 @@ plain_clean b at names here earlier false false rvc i count expanded more w o x 
     masked_clean b at names here earlier rvc i count expanded more x body h c w rest
 
 -- an instruction made of a name's address, before the pair if it writes the stack pointer
-made_clean : (b : BundlePlace) (at : Bases) (names : List PlacedName) (here : ℕ) (earlier : List Instr) (writes : Bool) (rd : ℕ) (x : Slot) (f : ℕ → Instr) (o : Option ℕ) (more : List Slot)
+made_clean : (b : BundlePlace) (at : Bases) (names : List PlacedName) (here : ℕ) (earlier : List Instr) (writes : Bool) (rd : ℕ) (x : BundleSlot) (f : ℕ → Instr) (o : Option ℕ) (more : List BundleSlot)
     → is_stack b.format rd ≡ writes → resolved at names here x ≡ made_of f o → ((a : ℕ) → (is_calm (f a) ≡ true) × (is_jump (f a) ≡ false) × (destination (f a) ≡ Some rd) × (breaks_reserved (f a) ≡ false))
     → ((i : Instr) → IsReadAs x (record { instr = i; size = slot_size x })) → IsCleanAfter b at names more
     → IsCleanly b at names here earlier (x ∷ (stack.put_back writes ++ more))
@@ -231,14 +231,14 @@ made_clean b at names here earlier false rd x f o more w r calmly own rest =
     })
 
 body_clean : (b : BundlePlace) (at : Bases) (names : List PlacedName) → AreStarts b at names → (here : ℕ) (earlier : List Instr) (line : ℕ) (rvc : Bool) (body : Body) (count : ℕ)
-    (expanded more : List Slot) → item_names_withheld Sfi1 body ≡ false → is_ecall body ≡ false → stack.is_stack_write b.format body ≡ false → IsBody count body → IsExpansionOf b.format line rvc body expanded
+    (expanded more : List BundleSlot) → item_names_withheld Sfi1 body ≡ false → is_ecall body ≡ false → stack.is_stack_write b.format body ≡ false → IsBody count body → IsExpansionOf b.format line rvc body expanded
     → IsCleanAfter b at names more → IsCleanly b at names here earlier (expanded ++ more)
 body_clean b at names starts here earlier line rvc (Plain i) count expanded more h c s is x rest =
     plain_clean b at names here earlier (stack.writes_stack b.format i) (stack.is_on_stack b.format i) rvc i count expanded more refl refl x is h c s rest
 body_clean b at names starts here earlier line rvc (To j k) count expanded more h c s is x rest =
     subst (λ v. IsCleanly b at names here earlier (v ++ more)) (sym x) (jump_to b at names starts here earlier j k line count more h s is rest)
   where
-    jump_to : (b : BundlePlace) (at : Bases) (names : List PlacedName) → AreStarts b at names → (here : ℕ) (earlier : List Instr) (j : Instr) (k line count : ℕ) (more : List Slot)
+    jump_to : (b : BundlePlace) (at : Bases) (names : List PlacedName) → AreStarts b at names → (here : ℕ) (earlier : List Instr) (j : Instr) (k line count : ℕ) (more : List BundleSlot)
         → names_withheld Sfi1 j ≡ false → stack.is_stack_write b.format (To j k) ≡ false → IsBody count (To j k) → IsCleanAfter b at names more → IsCleanly b at names here earlier (Jump j k line ∷ more)
     jump_to b at names starts here earlier j k line count more h s is rest room bytes =
         let sized = size_of-cons (Jump j k line) more in
@@ -284,7 +284,7 @@ same_withheld Sfi1 _ e = refl
 same_withheld Sfi2 _ e = refl
 
 -- slots that are whole expansions, with what is clean after them, are read whole, without a finding
-pub clean : (b : BundlePlace) (at : Bases) (names : List PlacedName) → AreStarts b at names → has_words b.format ≡ false → (count : ℕ) (slots more : List Slot)
+pub clean : (b : BundlePlace) (at : Bases) (names : List PlacedName) → AreStarts b at names → has_words b.format ≡ false → (count : ℕ) (slots more : List BundleSlot)
     → AreWhole b.format count slots → IsCleanAfter b at names more → IsCleanAfter b at names (slots ++ more)
 clean b at names starts bundled count _ more nothing rest here earlier = rest here earlier
 clean b at names starts bundled count _ more (padding slots w) rest here earlier =

@@ -1,5 +1,5 @@
 -- No rule is broken at the place of an instruction.
-use Rattle.sfi_link.proofs.Prelude.{◌≡◌, ℕ, ◌+◌, ◌^◌, ◌<◌, List, [], ◌∷◌, ◌++◌, length, take, drop, Option, Some, None, Bool, true, false, refl, sym, ap, ◌∙◌, subst, arith, length-append, ℤ, pos, negsuc, ◌+ℤ◌, ◌-ℤ◌, ◌==◌, ◌&&◌, ◌||◌, not, and_right, or_parts, ints, Instr, Op, OpImm, Load, Branch, Jal, Jalr, Lui, Auipc, Fence, Ebreak, Spells, expansion, has_stack, is_stack, IsBody, Piece, IsReading, rest_of, is_masking, is_placing, Slot, Wide, Short, PlacedName, slot_size, size_of, Bases, target_at, with_offset, resolved, made_of, IsSlot, ◌≤◌, length-take, ⊎_elim, IsLongestReading}
+use Rattle.sfi_link.proofs.Prelude.{◌≡◌, ℕ, ◌+◌, ◌^◌, ◌<◌, List, [], ◌∷◌, ◌++◌, length, take, drop, Option, Some, None, Bool, true, false, refl, sym, ap, ◌∙◌, subst, arith, length-append, ℤ, pos, negsuc, ◌+ℤ◌, ◌-ℤ◌, ◌==◌, ◌&&◌, ◌||◌, not, and_right, or_parts, ints, Instr, Op, OpImm, Load, Branch, Jal, Jalr, Lui, Auipc, Fence, Ebreak, Spells, expansion, has_stack, is_stack, IsBody, Piece, IsReading, rest_of, is_masking, is_placing, BundleSlot, Wide, Short, PlacedName, slot_size, size_of, Bases, target_at, with_offset, resolved, made_of, IsSlot, ◌≤◌, length-take, ⊎_elim, IsLongestReading}
 use Rattle.rv_comp.specs.declared.form.Form16.TheVariants.{CEbreak}
 use Rattle.sfi_source.specs.declared.item.Body.TheVariants.{To}
 use Rattle.rv_word.specs.Spelling.{modulo, offset_by}
@@ -33,12 +33,12 @@ ends_well (x ∷ []) = ends_region x.instr
 ends_well (x ∷ y ∷ rest) = ends_well (y ∷ rest)
 
 -- the slot is a c.ebreak
-abbrev pub is_end : Slot → Bool
+abbrev pub is_end : BundleSlot → Bool
 is_end (Short CEbreak) = true
 is_end _ = false
 
 -- the last slot, if there is one, is a c.ebreak
-abbrev pub ends_slots : List Slot → Bool
+abbrev pub ends_slots : List BundleSlot → Bool
 ends_slots [] = true
 ends_slots (s ∷ []) = is_end s
 ends_slots (s ∷ t ∷ rest) = ends_slots (t ∷ rest)
@@ -48,17 +48,17 @@ abbrev pub IsEndFine : BundlePlace → List Piece → Type 0
 IsEndFine b reading = (is_last_bundle b && not (ends_well reading)) ≡ false
 
 -- a 32-bit instruction that stands as it is was read as it is
-abbrev pub IsReadAs : Slot → Piece → Type 0
+abbrev pub IsReadAs : BundleSlot → Piece → Type 0
 IsReadAs (Wide i) x = x.instr ≡ i
 IsReadAs _ x = Unit {0}
 
-abbrev pub AreReadAs : List Slot → List Piece → Type 0
+abbrev pub AreReadAs : List BundleSlot → List Piece → Type 0
 AreReadAs [] reading = Unit {0}
 AreReadAs (s ∷ slots) [] = ⊥
 AreReadAs (s ∷ slots) (x ∷ reading) = IsReadAs s x × AreReadAs slots reading
 
 -- the bytes from a place of a bundle on are read whole, without a finding
-pub record IsCleanFrom (b : BundlePlace) (here : ℕ) (earlier : List Instr) (slots : List Slot) (bytes : List ℕ) : Type 0 where
+pub record IsCleanFrom (b : BundlePlace) (here : ℕ) (earlier : List Instr) (slots : List BundleSlot) (bytes : List ℕ) : Type 0 where
   pub reading : List Piece
   pub is_reading : IsReading bytes reading
   pub nothing_left : rest_of bytes reading ≡ []
@@ -152,13 +152,13 @@ pub well_written : (x : InstrInBundle) (i : Instr) → may_write_stack x i ≡ t
 well_written x i h = ap (λ m. writes_stack x.bundle i && not m) h ∙ and_right (writes_stack x.bundle i) false refl
 
 -- the pair directly after is read
-pub pair_read : (more : List Slot) (later : List Piece) → AreReadAs (stack.stack_pair ++ more) later → precedes_pair later ≡ true
+pub pair_read : (more : List BundleSlot) (later : List Piece) → AreReadAs (stack.stack_pair ++ more) later → precedes_pair later ≡ true
 pair_read more [] h = absurd h
 pair_read more (x ∷ []) h = absurd h.1
 pair_read more (x ∷ y ∷ later) h = ap (λ i. is_masking 27 2 i && is_placing 26 2 y.instr) h.0 ∙ ap (λ i. is_placing 26 2 i) h.1.0
 
 -- and its second
-pub or_read : (more : List Slot) (later : List Piece) → AreReadAs (Wide (Op Or 2 2 26) ∷ more) later → begins_pair (Op And 2 2 27) later ≡ true
+pub or_read : (more : List BundleSlot) (later : List Piece) → AreReadAs (Wide (Op Or 2 2 26) ∷ more) later → begins_pair (Op And 2 2 27) later ≡ true
 or_read more [] h = absurd h
 or_read more (y ∷ later) h = ap (λ i. is_placing 26 2 i) h.0
 
@@ -191,7 +191,7 @@ direct b here earlier _ z later names name d h w s e = absurd d.1
 
 -- ---- a reading, place by place
 
-ending_step : (x : Piece) (reading : List Piece) (s : Slot) (slots : List Slot) → length reading ≡ length slots → (is_end s ≡ true → ends_region x.instr ≡ true) → (ends_slots slots ≡ true → ends_well reading ≡ true)
+ending_step : (x : Piece) (reading : List Piece) (s : BundleSlot) (slots : List BundleSlot) → length reading ≡ length slots → (is_end s ≡ true → ends_region x.instr ≡ true) → (ends_slots slots ≡ true → ends_well reading ≡ true)
     → ends_slots (s ∷ slots) ≡ true → ends_well (x ∷ reading) ≡ true
 ending_step x [] s [] n one others h = one h
 ending_step x (y ∷ reading) s (t ∷ slots) n one others h = others h
@@ -199,12 +199,12 @@ ending_step x [] s (t ∷ slots) n one others h = absurd (omega arith)
 ending_step x (y ∷ reading) s [] n one others h = absurd (omega arith)
 
 -- no rule is broken at the place of an instruction after which these slots are read
-abbrev pub PassesBefore : BundlePlace → ℕ → List Instr → Instr → List Slot → Type 0
+abbrev pub PassesBefore : BundlePlace → ℕ → List Instr → Instr → List BundleSlot → Type 0
 PassesBefore b here earlier i slots =
     (later : List Piece) → AreReadAs slots later → breaks_end (place b here earlier i later) i ≡ false → Passes (place b here earlier i later)
 
 pub step : (b : BundlePlace) (here : ℕ) (earlier : List Instr) (bytes front rest : List ℕ) (i : Instr) (n : ℕ) → Spells front i n → bytes ≡ front ++ rest
-    → (x : Slot) (slots : List Slot) → n ≡ slot_size x → IsReadAs x (record { instr = i; size = n }) → (is_end x ≡ true → ends_region i ≡ true)
+    → (x : BundleSlot) (slots : List BundleSlot) → n ≡ slot_size x → IsReadAs x (record { instr = i; size = n }) → (is_end x ≡ true → ends_region i ≡ true)
     → IsCleanFrom b (here + n) (i ∷ earlier) slots rest → PassesBefore b here earlier i slots → IsCleanFrom b here earlier (x ∷ slots) bytes
 step b here earlier bytes front rest i n s e x slots same own one c passes =
     let sized = size_of-cons x slots in
@@ -234,12 +234,12 @@ made f None i e = cc
 made f (Some a) i e = (a, refl, sym (some_same (f a) i e))
 
 -- the bytes of a slot spell its instruction
-pub slot_spells : (at : Bases) (names : List PlacedName) (here : ℕ) (s : Slot) (bytes : List ℕ) (x : IsSlot at names here s bytes) → Spells bytes x.instr (slot_size s)
+pub slot_spells : (at : Bases) (names : List PlacedName) (here : ℕ) (s : BundleSlot) (bytes : List ℕ) (x : IsSlot at names here s bytes) → Spells bytes x.instr (slot_size s)
 slot_spells at names here (Short f) bytes x =
     subst (λ (i : Instr). Spells bytes i 2) (some_same (expansion f) x.instr x.resolves) (subst (λ (l : List ℕ). Spells l (expansion f) 2) (sym x.spelled.1) (short_spells f x.spelled.0))
 slot_spells at names here _ bytes x = subst (λ (l : List ℕ). Spells l x.instr 4) (sym x.spelled.1) (word_spells x.instr x.spelled.0)
 
-pub lone_ends : (at : Bases) (names : List PlacedName) (here : ℕ) (s : Slot) (i : Instr) → resolved at names here s ≡ Some i → is_end s ≡ true → ends_region i ≡ true
+pub lone_ends : (at : Bases) (names : List PlacedName) (here : ℕ) (s : BundleSlot) (i : Instr) → resolved at names here s ≡ Some i → is_end s ≡ true → ends_region i ≡ true
 lone_ends at names here (Short CEbreak) i r h = ap ends_region (sym (some_same Ebreak i r))
 lone_ends at names here _ i r h = cc
 

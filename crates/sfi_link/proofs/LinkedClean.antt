@@ -1,5 +1,5 @@
 -- What is made of a placed sandbox breaks no rule.
-use Rattle.sfi_link.proofs.Prelude.{◌≡◌, ℕ, ◌+◌, ◌-◌, ◌*◌, ◌^◌, ◌<◌, ◌≤◌, List, [], ◌∷◌, length, Option, Some, None, refl, sym, ap, ◌∙◌, subst, arith, slice_get, All, repeat, All-head, All-tail, Format, Part, stub_of, Slot, PlacedName, size_of, slots_of, Placement, AreWhole, IsPlacedPart, IsPlacedThere, Place, bases_of, of_name, target_at, target_of, AreSlots, needed, part_with, IsLinked, AreLinkedFrom}
+use Rattle.sfi_link.proofs.Prelude.{◌≡◌, ℕ, ◌+◌, ◌-◌, ◌*◌, ◌^◌, ◌<◌, ◌≤◌, List, [], ◌∷◌, length, Option, Some, None, refl, sym, ap, ◌∙◌, subst, arith, slice_get, All, repeat, All-head, All-tail, Format, Part, stub_of, BundleSlot, PlacedName, size_of, slots_of, Placement, AreWhole, IsPlacedPart, IsPlacedThere, Place, bases_of, of_name, target_at, target_of, AreSlots, needed, part_with, IsLinked, AreLinkedFrom}
 use Rattle.sfi_image.specs.Parts.{IsBundleStart}
 use Rattle.sfi_rewrite.specs.declared.placed.PlacedName.TheVariants.{Gate, Code}
 use Rattle.std.specs.Prelude.{◌++◌, ◌%◌, Bool, true, false, MatchBool}
@@ -34,7 +34,7 @@ bundle_unit : (f : Format) → has_words f ≡ false → unit f ≡ 16
 bundle_unit Sfiw e = absurd (true≢false e)
 bundle_unit _ e = refl
 
-whole_in : (f : Format) (count : ℕ) (bundles : List (List Slot)) (w : Bool) → has_words f ≡ w → AreWholeIn f count bundles → MatchBool w (AreOfItems count (slots_of bundles)) (All (AreWhole f count) bundles)
+whole_in : (f : Format) (count : ℕ) (bundles : List (List BundleSlot)) (w : Bool) → has_words f ≡ w → AreWholeIn f count bundles → MatchBool w (AreOfItems count (slots_of bundles)) (All (AreWhole f count) bundles)
 whole_in f count bundles w e whole = subst (λ (b : Bool). MatchBool b (AreOfItems count (slots_of bundles)) (All (AreWhole f count) bundles)) e whole
 
 -- the unit divides a bundle, and so an address whose offset from a bundle start it divides
@@ -85,7 +85,7 @@ are_starts given number p code bundled placed linked sandbox place to e =
 -- ---- a sandbox
 
 closed : (given : List Place) → (number : ℕ) (p : Placement) (code : List ℕ) → has_words p.format ≡ false → IsPlacedPart p → IsLinked given number p (part_with given number p code)
-    → (full : List (List Slot)) × IsClosed (part_with given number p code) (bases_of given number p) p.names (length p.gates) full × ((bases_of given number p).start + 16 * length full ≤ 2 ^ 32)
+    → (full : List (List BundleSlot)) × IsClosed (part_with given number p code) (bases_of given number p) p.names (length p.gates) full × ((bases_of given number p).start + 16 * length full ≤ 2 ^ 32)
 closed given number p code bundled placed linked =
     let made = linked.code in
     let end = (well_placed p (length code) _ linked.lies).end in

@@ -1,5 +1,5 @@
 -- The code of a sandbox that can be moved is the same at each place.
-use Rattle.sfi_link.proofs.Prelude.{◌≡◌, ℕ, ◌+◌, ◌-◌, ◌*◌, List, [], ◌∷◌, ◌++◌, length, replicate, Option, Some, None, Bool, true, false, refl, sym, ap, ◌∙◌, subst, arith, ints, pos, ◌-ℤ◌, slice_get, Instr, Lui, OpImm, Addi, upper, lower, Slot, Wide, Short, Jump, Upper, Lower, Region, PlacedName, slot_size, slots_of, c_ebreak, Bases, bases_of, of_name, target_of, value_at, with_offset, resolved, made_of, IsSlot, AreSlots}
+use Rattle.sfi_link.proofs.Prelude.{◌≡◌, ℕ, ◌+◌, ◌-◌, ◌*◌, List, [], ◌∷◌, ◌++◌, length, replicate, Option, Some, None, Bool, true, false, refl, sym, ap, ◌∙◌, subst, arith, ints, pos, ◌-ℤ◌, slice_get, Instr, Lui, OpImm, Addi, upper, lower, BundleSlot, Wide, Short, Jump, Upper, Lower, Region, PlacedName, slot_size, slots_of, c_ebreak, Bases, bases_of, of_name, target_of, value_at, with_offset, resolved, made_of, IsSlot, AreSlots}
 use Rattle.std.specs.Prelude.{if◌then◌else◌}
 use Rattle.sfi_rewrite.specs.declared.placed.PlacedName.TheVariants as name
 use Rattle.sfi_link.specs.Code.{address_at, offset_of}
@@ -52,7 +52,7 @@ module _ (a b : Bases) (same : AreMoved a b) where
       ∙ same_offset (slice_get names k)
       ∙ sym (chosen b.movable (of_name (offset_of b) (slice_get names k)) (address_at b names k) same.second_moves)
 
-  same_resolved : (names : List PlacedName) (here : ℕ) (s : Slot) → resolved a names (a.start + here) s ≡ resolved b names (b.start + here) s
+  same_resolved : (names : List PlacedName) (here : ℕ) (s : BundleSlot) → resolved a names (a.start + here) s ≡ resolved b names (b.start + here) s
   same_resolved names here (Wide i) = refl
   same_resolved names here (Short f) = refl
   same_resolved names here (Jump i k line) = same_target here i (slice_get names k)
@@ -60,10 +60,10 @@ module _ (a b : Bases) (same : AreMoved a b) where
   same_resolved names here (Lower rd k line) = ap (made_of (λ value. OpImm Addi rd rd (lower (pos value)))) (same_value names k)
   same_resolved names here (Region rd k line) = refl
 
-  same_slot : (names : List PlacedName) (here : ℕ) (s : Slot) (bytes : List ℕ) → IsSlot a names (a.start + here) s bytes → IsSlot b names (b.start + here) s bytes
+  same_slot : (names : List PlacedName) (here : ℕ) (s : BundleSlot) (bytes : List ℕ) → IsSlot a names (a.start + here) s bytes → IsSlot b names (b.start + here) s bytes
   same_slot names here s bytes is = record { instr = is.instr; resolves = sym (same_resolved names here s) ∙ is.resolves; spelled = is.spelled }
 
-  same_slots : (names : List PlacedName) (here : ℕ) (slots : List Slot) (bytes : List ℕ) → AreSlots a names (a.start + here) slots bytes → AreSlots b names (b.start + here) slots bytes
+  same_slots : (names : List PlacedName) (here : ℕ) (slots : List BundleSlot) (bytes : List ℕ) → AreSlots a names (a.start + here) slots bytes → AreSlots b names (b.start + here) slots bytes
   same_slots names here [] bytes none = none
   same_slots names here (s ∷ slots) bytes (front, rest, is, more, both) = (
     front,

@@ -1,5 +1,5 @@
 -- One list of sandboxes is made of what is placed, or it has one fault.
-use Rattle.sfi_link.proofs.Prelude.{append_assoc, ◌≡◌, ℕ, ◌+◌, ◌*◌, ◌≤◌, List, [], ◌∷◌, ◌++◌, length, replicate, sym, ap, ◌∙◌, subst, arith, inl, inr, length-append, pos, ◌-ℤ◌, repeat, w32, to_le_bytes, InRange, spelling, Format, Part, fields_of, stub_of, Slot, Wide, Short, Jump, Upper, Lower, Region, PlacedName, slot_size, size_of, slots_of, Placement, Place, Bases, LinkFault, bases_of, value_at, base_at, target_at, with_offset, IsSlot, AreSlots, place_of, spans_at, Span, AreApart, spans_of, spans, AllPairs, c_ebreak, needed, IsCodeSize, IsLinkedCode, part_with, IsLinked, AreLinkedFrom, AreLinked, HasSlotFault, IsSlotFault, HasPartFault, IsPartFault, IsLinkFault}
+use Rattle.sfi_link.proofs.Prelude.{append_assoc, ◌≡◌, ℕ, ◌+◌, ◌*◌, ◌≤◌, List, [], ◌∷◌, ◌++◌, length, replicate, sym, ap, ◌∙◌, subst, arith, inl, inr, length-append, pos, ◌-ℤ◌, repeat, w32, to_le_bytes, InRange, spelling, Format, Part, fields_of, stub_of, BundleSlot, Wide, Short, Jump, Upper, Lower, Region, PlacedName, slot_size, size_of, slots_of, Placement, Place, Bases, LinkFault, bases_of, value_at, base_at, target_at, with_offset, IsSlot, AreSlots, place_of, spans_at, Span, AreApart, spans_of, spans, AllPairs, c_ebreak, needed, IsCodeSize, IsLinkedCode, part_with, IsLinked, AreLinkedFrom, AreLinked, HasSlotFault, IsSlotFault, HasPartFault, IsPartFault, IsLinkFault}
 use Rattle.std.proofs.lemmas.Option.{none-some}
 use Rattle.sfi_image.proofs.SpanLists.{front_apart}
 use Rattle.sfi_rewrite.proofs.Sizes.{size_of-append}
@@ -10,11 +10,11 @@ use Rattle.sfi_link.proofs.Parts.{slots_length}
 
 -- ---- bytes
 
-one_slot : (at : Bases) (names : List PlacedName) (here : ℕ) (s : Slot) (xs ys : List ℕ) → IsSlot at names here s xs → IsSlot at names here s ys → xs ≡ ys
+one_slot : (at : Bases) (names : List PlacedName) (here : ℕ) (s : BundleSlot) (xs ys : List ℕ) → IsSlot at names here s xs → IsSlot at names here s ys → xs ≡ ys
 one_slot at names here (Short f) xs ys a b = a.spelled.1 ∙ sym b.spelled.1
 one_slot at names here _ xs ys a b = a.spelled.1 ∙ ap (λ j. to_le_bytes w32 (spelling j)) (some_same a.instr b.instr (sym a.resolves ∙ b.resolves)) ∙ sym b.spelled.1
 
-one_slots : (at : Bases) (names : List PlacedName) (here : ℕ) (slots : List Slot) (xs ys : List ℕ) → AreSlots at names here slots xs → AreSlots at names here slots ys → xs ≡ ys
+one_slots : (at : Bases) (names : List PlacedName) (here : ℕ) (slots : List BundleSlot) (xs ys : List ℕ) → AreSlots at names here slots xs → AreSlots at names here slots ys → xs ≡ ys
 one_slots at names here [] xs ys a b = a ∙ sym b
 one_slots at names here (s ∷ slots) xs ys (f, r, one, others, e) (g, t, two, more, d) =
     e ∙ ap (λ l. l ++ r) (one_slot at names here s f g one two) ∙ ap (λ l. g ++ l) (one_slots at names (here + slot_size s) slots r t others more) ∙ sym d
@@ -56,7 +56,7 @@ one_linking given number (p ∷ placed) (q ∷ parts) (r ∷ others) a b =
 -- ---- faults of a slot
 
 -- a slot with a fault has no bytes
-never_slot : (at : Bases) (names : List PlacedName) (here : ℕ) (s : Slot) (bytes : List ℕ) (f : LinkFault) → IsSlot at names here s bytes → HasSlotFault at names here s f → ⊥
+never_slot : (at : Bases) (names : List PlacedName) (here : ℕ) (s : BundleSlot) (bytes : List ℕ) (f : LinkFault) → IsSlot at names here s bytes → HasSlotFault at names here s f → ⊥
 never_slot at names here (Wide i) bytes f x h = h
 never_slot at names here (Short form) bytes f x h = h
 never_slot at names here (Jump i k line) bytes f x (inl h) = none-some _ (sym h.0 ∙ (made _ (target_at at names k) x.instr x.resolves).1)
@@ -69,7 +69,7 @@ never_slot at names here (Lower rd k line) bytes f x h = none-some _ (sym h.0 �
 never_slot at names here (Region rd k line) bytes f x h = none-some _ (sym h.0 ∙ (made _ (base_at names k) x.instr x.resolves).1)
 
 -- a slot has one fault
-one_of_slot : (at : Bases) (names : List PlacedName) (here : ℕ) (s : Slot) (f g : LinkFault) → HasSlotFault at names here s f → HasSlotFault at names here s g → f ≡ g
+one_of_slot : (at : Bases) (names : List PlacedName) (here : ℕ) (s : BundleSlot) (f g : LinkFault) → HasSlotFault at names here s f → HasSlotFault at names here s g → f ≡ g
 one_of_slot at names here (Wide i) f g a b = absurd a
 one_of_slot at names here (Short form) f g a b = absurd a
 one_of_slot at names here (Jump i k line) f g (inl a) (inl b) = a.1 ∙ sym b.1
@@ -81,12 +81,12 @@ one_of_slot at names here _ f g a b = a.1 ∙ sym b.1
 -- ---- the first fault
 
 -- slots with bytes have no fault
-never_slots : (at : Bases) (names : List PlacedName) (here : ℕ) (slots more : List Slot) (bytes : List ℕ) (f : LinkFault) → AreSlots at names here (slots ++ more) bytes → IsSlotFault at names here slots f → ⊥
+never_slots : (at : Bases) (names : List PlacedName) (here : ℕ) (slots more : List BundleSlot) (bytes : List ℕ) (f : LinkFault) → AreSlots at names here (slots ++ more) bytes → IsSlotFault at names here slots f → ⊥
 never_slots at names here [] more bytes f h x = x
 never_slots at names here (s ∷ slots) more bytes f (front, rest, one, others, e) (inl h) = never_slot at names here s front f one h
 never_slots at names here (s ∷ slots) more bytes f (front, rest, one, others, e) (inr (b, same, later)) = never_slots at names (here + slot_size s) slots more rest f others later
 
-one_slot_fault : (at : Bases) (names : List PlacedName) (here : ℕ) (slots : List Slot) (f g : LinkFault) → IsSlotFault at names here slots f → IsSlotFault at names here slots g → f ≡ g
+one_slot_fault : (at : Bases) (names : List PlacedName) (here : ℕ) (slots : List BundleSlot) (f g : LinkFault) → IsSlotFault at names here slots f → IsSlotFault at names here slots g → f ≡ g
 one_slot_fault at names here [] f g x y = absurd x
 one_slot_fault at names here (s ∷ slots) f g (inl x) (inl y) = one_of_slot at names here s f g x y
 one_slot_fault at names here (s ∷ slots) f g (inl x) (inr (b, one, later)) = absurd (never_slot at names here s b f one x)

@@ -1,5 +1,5 @@
 -- What is made of a placed sandbox has a right layout.
-use Rattle.sfi_link.proofs.Prelude.{◌≡◌, ℕ, zero, suc, ◌+◌, ◌*◌, ◌%◌, ◌^◌, ◌<◌, ◌≤◌, ◌==◌, List, [], ◌∷◌, length, get_or, true, refl, sym, ap, ◌∙◌, subst, arith, inl, inr, length-append, All, AllPairs, eq-eqb, eqb-true, or_right, or_cases, All-nil, All-cons, All-head, All-tail, Format, Span, Part, format_of, Slot, Wide, PlacedName, slot_size, size_of, Placement, IsPlacedPart, IsPlaced, Place, Bases, bases_of, stub_size, IsSlot, AreSlots, place_of, IsRightPlace, needed, HasRoom, gates_from, part_with, IsLinkedCode, IsLinked, AreLinkedFrom, AreLinked}
+use Rattle.sfi_link.proofs.Prelude.{◌≡◌, ℕ, zero, suc, ◌+◌, ◌*◌, ◌%◌, ◌^◌, ◌<◌, ◌≤◌, ◌==◌, List, [], ◌∷◌, length, get_or, true, refl, sym, ap, ◌∙◌, subst, arith, inl, inr, length-append, All, AllPairs, eq-eqb, eqb-true, or_right, or_cases, All-nil, All-cons, All-head, All-tail, Format, Span, Part, format_of, BundleSlot, Wide, PlacedName, slot_size, size_of, Placement, IsPlacedPart, IsPlaced, Place, Bases, bases_of, stub_size, IsSlot, AreSlots, place_of, IsRightPlace, needed, HasRoom, gates_from, part_with, IsLinkedCode, IsLinked, AreLinkedFrom, AreLinked}
 use Rattle.sfi_source.specs.declared.item.SourceGate.{SourceGate}
 use Rattle.sfi_image.specs.Parts.{is_gate_of, IsRightPart, IsRightLayout, AreOf, IsBundleStart}
 use Rattle.sfi_formats.specs.Limits.{service_most}
@@ -19,11 +19,11 @@ sixteens f bytes size h =
 
 -- ---- sizes
 
-slot_length : (at : Bases) (names : List PlacedName) (here : ℕ) (s : Slot) (bytes : List ℕ) → IsSlot at names here s bytes → length bytes ≡ slot_size s
+slot_length : (at : Bases) (names : List PlacedName) (here : ℕ) (s : BundleSlot) (bytes : List ℕ) → IsSlot at names here s bytes → length bytes ≡ slot_size s
 slot_length at names here (Wide i) bytes x = ap length x.spelled.1
 slot_length at names here _ bytes x = ap length x.spelled.1
 
-pub slots_length : (at : Bases) (names : List PlacedName) (here : ℕ) (slots : List Slot) (bytes : List ℕ) → AreSlots at names here slots bytes → length bytes ≡ size_of slots
+pub slots_length : (at : Bases) (names : List PlacedName) (here : ℕ) (slots : List BundleSlot) (bytes : List ℕ) → AreSlots at names here slots bytes → length bytes ≡ size_of slots
 slots_length at names here [] bytes e = ap length e
 slots_length at names here (s ∷ slots) bytes (front, rest, one, others, e) =
     let a = slot_length at names here s front one in

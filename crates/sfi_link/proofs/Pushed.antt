@@ -1,5 +1,5 @@
 -- Slots written one after another.
-use Rattle.sfi_link.proofs.Prelude.{◌≡◌, ℕ, zero, suc, ◌+◌, ◌<◌, List, [], ◌∷◌, ◌++◌, length, drop, get_or, replicate, Some, refl, sym, ap, ◌∙◌, subst, arith, append_assoc, append-nil, length-append, inl, inr, ℤ, pos, All, repeat, w32, to_le_bytes, ints, Op, OpImm, Lui, Addi, Option, None, slice_get, of_name, InRange, IsReg, IsImm12, spelling, expansion, upper, lower, Slot, Upper, Lower, Region, PlacedName, slot_size, size_of, Bases, LinkFault, value_at, IsSlot, AreSlots, made_of, c_ebreak, HasRoomFor, IsPushed, AreWritten, HasSlotFault, IsSlotFault, ◌⊎◌, Encodes}
+use Rattle.sfi_link.proofs.Prelude.{◌≡◌, ℕ, zero, suc, ◌+◌, ◌<◌, List, [], ◌∷◌, ◌++◌, length, drop, get_or, replicate, Some, refl, sym, ap, ◌∙◌, subst, arith, append_assoc, append-nil, length-append, inl, inr, ℤ, pos, All, repeat, w32, to_le_bytes, ints, Op, OpImm, Lui, Addi, Option, None, slice_get, of_name, InRange, IsReg, IsImm12, spelling, expansion, upper, lower, BundleSlot, Upper, Lower, Region, PlacedName, slot_size, size_of, Bases, LinkFault, value_at, IsSlot, AreSlots, made_of, c_ebreak, HasRoomFor, IsPushed, AreWritten, HasSlotFault, IsSlotFault, ◌⊎◌, Encodes}
 use Rattle.rv_comp.specs.declared.form.Form16.TheVariants.{CEbreak}
 use Rattle.rv_word.specs.declared.instr.RegOp.TheVariants.{Add}
 use Rattle.sfi_rewrite.specs.declared.placed.PlacedName.TheVariants as name
@@ -70,7 +70,7 @@ region_slot at names here rd place line base there reg =
 
 -- ---- one list after another
 
-pub slots-append : (at : Bases) (names : List PlacedName) (here : ℕ) (xs ys : List Slot) (f r : List ℕ) → AreSlots at names here xs f → AreSlots at names (here + size_of xs) ys r → AreSlots at names here (xs ++ ys) (f ++ r)
+pub slots-append : (at : Bases) (names : List PlacedName) (here : ℕ) (xs ys : List BundleSlot) (f r : List ℕ) → AreSlots at names here xs f → AreSlots at names (here + size_of xs) ys r → AreSlots at names here (xs ++ ys) (f ++ r)
 slots-append at names here [] ys f r a b =
     let e : here + size_of [] ≡ here = omega arith in
     subst (λ (l : List ℕ). AreSlots at names here ys (l ++ r)) (sym a) (subst (λ n. AreSlots at names n ys r) e b)
@@ -79,13 +79,13 @@ slots-append at names here (x ∷ xs) ys f r (front, rest, one, others, e) b =
     let n : here + size_of (x ∷ xs) ≡ here + slot_size x + size_of xs = omega arith in
     (front, rest ++ r, one, slots-append at names (here + slot_size x) xs ys rest r others (subst (λ m. AreSlots at names m ys r) n b), ap (λ l. l ++ r) e ∙ append_assoc front rest r)
 
-pub written_length : (at : Bases) (names : List PlacedName) (slots : List Slot) (old new : List ℕ) → AreWritten at names slots old new → length new ≡ length old + size_of slots
+pub written_length : (at : Bases) (names : List PlacedName) (slots : List BundleSlot) (old new : List ℕ) → AreWritten at names slots old new → length new ≡ length old + size_of slots
 written_length at names slots old new w =
     let a = slots_length at names (at.code + length old) slots w.bytes w.spelled in
     let b = ap length w.appended ∙ length-append old w.bytes in
     omega arith
 
-pub written-append : (at : Bases) (names : List PlacedName) (xs ys : List Slot) (old now new : List ℕ) → AreWritten at names xs old now → AreWritten at names ys now new → AreWritten at names (xs ++ ys) old new
+pub written-append : (at : Bases) (names : List PlacedName) (xs ys : List BundleSlot) (old now new : List ℕ) → AreWritten at names xs old now → AreWritten at names ys now new → AreWritten at names (xs ++ ys) old new
 written-append at names xs ys old now new v w =
     let long = written_length at names xs old now v in
     let n : at.code + length now ≡ at.code + length old + size_of xs = omega arith in
@@ -95,17 +95,17 @@ written-append at names xs ys old now new v w =
       spelled = slots-append at names (at.code + length old) xs ys v.bytes w.bytes v.spelled (subst (λ m. AreSlots at names m ys w.bytes) n w.spelled);
     }
 
-pub one_written : (at : Bases) (names : List PlacedName) (s : Slot) (old new : List ℕ) → IsPushed at names s old new → AreWritten at names (s ∷ []) old new
+pub one_written : (at : Bases) (names : List PlacedName) (s : BundleSlot) (old new : List ℕ) → IsPushed at names s old new → AreWritten at names (s ∷ []) old new
 one_written at names s old new (bytes, e, one) = record { bytes = bytes; appended = e; spelled = (bytes, [], one, refl, sym (append-nil bytes)) }
 
 -- ---- the first fault after what is written
 
-fault_before : (at : Bases) (names : List PlacedName) (here : ℕ) (ys zs : List Slot) (f : LinkFault) → IsSlotFault at names here ys f → IsSlotFault at names here (ys ++ zs) f
+fault_before : (at : Bases) (names : List PlacedName) (here : ℕ) (ys zs : List BundleSlot) (f : LinkFault) → IsSlotFault at names here ys f → IsSlotFault at names here (ys ++ zs) f
 fault_before at names here [] zs f x = absurd x
 fault_before at names here (s ∷ ys) zs f (inl h) = inl h
 fault_before at names here (s ∷ ys) zs f (inr (bytes, one, later)) = inr (bytes, one, fault_before at names (here + slot_size s) ys zs f later)
 
-fault_behind : (at : Bases) (names : List PlacedName) (here : ℕ) (xs ys : List Slot) (bytes : List ℕ) (f : LinkFault) → AreSlots at names here xs bytes → IsSlotFault at names (here + size_of xs) ys f → IsSlotFault at names here (xs ++ ys) f
+fault_behind : (at : Bases) (names : List PlacedName) (here : ℕ) (xs ys : List BundleSlot) (bytes : List ℕ) (f : LinkFault) → AreSlots at names here xs bytes → IsSlotFault at names (here + size_of xs) ys f → IsSlotFault at names here (xs ++ ys) f
 fault_behind at names here [] ys bytes f none x = let e : here + size_of [] ≡ here = omega arith in subst (λ n. IsSlotFault at names n ys f) e x
 fault_behind at names here (s ∷ xs) ys bytes f (front, rest, one, others, e) x =
     let z = size_of-cons s xs in
@@ -125,17 +125,17 @@ pub All-behind : {X : Type 0} (P : X → Type 0) (xs ys : List X) → All P (xs 
 All-behind P xs ys all = subst (All P) (drop-append_seam xs ys) (All-drop P (length xs) (xs ++ ys) all)
 
 -- What is left of the slots, after these bytes, completes them all: with its bytes, or with its fault.
-pub record AreLeft (at : Bases) (names : List PlacedName) (slots left : List Slot) (old now : List ℕ) : Type 0 where
+pub record AreLeft (at : Bases) (names : List PlacedName) (slots left : List BundleSlot) (old now : List ℕ) : Type 0 where
   pub written : (new : List ℕ) → AreWritten at names left now new → AreWritten at names slots old new
   pub fault : (f : LinkFault) → IsSlotFault at names (at.code + length now) left f → IsSlotFault at names (at.code + length old) slots f
   pub encodes : All Encodes left
   pub room : HasRoomFor at (length now) (size_of left)
 
-pub all_left : (at : Bases) (names : List PlacedName) (slots : List Slot) (old : List ℕ) → All Encodes slots → HasRoomFor at (length old) (size_of slots) → AreLeft at names slots slots old old
+pub all_left : (at : Bases) (names : List PlacedName) (slots : List BundleSlot) (old : List ℕ) → All Encodes slots → HasRoomFor at (length old) (size_of slots) → AreLeft at names slots slots old old
 all_left at names slots old encodes room = record { written = λ new w. w; fault = λ f x. x; encodes = encodes; room = room }
 
 -- fewer slots are left
-pub fewer : (at : Bases) (names : List PlacedName) (slots b left : List Slot) (old now new : List ℕ) → AreLeft at names slots (b ++ left) old now → AreWritten at names b now new → AreLeft at names slots left old new
+pub fewer : (at : Bases) (names : List PlacedName) (slots b left : List BundleSlot) (old now new : List ℕ) → AreLeft at names slots (b ++ left) old now → AreWritten at names b now new → AreLeft at names slots left old new
 fewer at names slots b left old now new h w =
     let long = written_length at names b now new w in
     let sized = size_of-append b left in
@@ -148,22 +148,22 @@ fewer at names slots b left old now new h w =
     }
 
 -- the first of those that are left have room
-pub front_room : (at : Bases) (names : List PlacedName) (slots b left : List Slot) (old now : List ℕ) → AreLeft at names slots (b ++ left) old now → HasRoomFor at (length now) (size_of b)
+pub front_room : (at : Bases) (names : List PlacedName) (slots b left : List BundleSlot) (old now : List ℕ) → AreLeft at names slots (b ++ left) old now → HasRoomFor at (length now) (size_of b)
 front_room at names slots b left old now h =
     let sized = size_of-append b left in
     record { below = omega arith; within = omega arith }
 
-pub slot_refused : (at : Bases) (names : List PlacedName) (slots left : List Slot) (s : Slot) (old now : List ℕ) (f : LinkFault) → AreLeft at names slots (s ∷ left) old now
+pub slot_refused : (at : Bases) (names : List PlacedName) (slots left : List BundleSlot) (s : BundleSlot) (old now : List ℕ) (f : LinkFault) → AreLeft at names slots (s ∷ left) old now
     → UnlessMemory (HasSlotFault at names (at.code + length now) s) f → UnlessMemory (IsSlotFault at names (at.code + length old) slots) f
 slot_refused at names slots left s old now f h wrong =
     then_unless (HasSlotFault at names (at.code + length now) s) (IsSlotFault at names (at.code + length old) slots) (λ g x. h.fault g (inl x)) f wrong
 
-pub refused : (at : Bases) (names : List PlacedName) (slots b left : List Slot) (old now : List ℕ) (f : LinkFault) → AreLeft at names slots (b ++ left) old now
+pub refused : (at : Bases) (names : List PlacedName) (slots b left : List BundleSlot) (old now : List ℕ) (f : LinkFault) → AreLeft at names slots (b ++ left) old now
     → UnlessMemory (IsSlotFault at names (at.code + length now) b) f → UnlessMemory (IsSlotFault at names (at.code + length old) slots) f
 refused at names slots b left old now f h wrong =
     then_unless (IsSlotFault at names (at.code + length now) b) (IsSlotFault at names (at.code + length old) slots) (λ g x. h.fault g (fault_before at names (at.code + length now) b left g x)) f wrong
 
-pub all_written : (at : Bases) (names : List PlacedName) (slots left : List Slot) (old now : List ℕ) → left ≡ [] → AreLeft at names slots left old now → AreWritten at names slots old now
+pub all_written : (at : Bases) (names : List PlacedName) (slots left : List BundleSlot) (old now : List ℕ) → left ≡ [] → AreLeft at names slots left old now → AreWritten at names slots old now
 all_written at names slots left old now none h = h.written now (record { bytes = []; appended = sym (append-nil now); spelled = subst (λ l. AreSlots at names (at.code + length now) l []) (sym none) refl })
 
 -- ---- copies

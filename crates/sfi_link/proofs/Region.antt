@@ -1,5 +1,5 @@
 -- A region of clean bundles has no finding.
-use Rattle.sfi_link.proofs.Prelude.{◌≡◌, ℕ, zero, suc, ◌+◌, ◌-◌, ◌*◌, ◌^◌, ◌<◌, ◌≤◌, List, [], ◌∷◌, ◌++◌, length, take, drop, get_or, Bool, true, false, refl, sym, ap, ◌∙◌, subst, arith, inl, inr, length-append, append_assoc, replicate, ◌==◌, ◌&&◌, not, pos, All, repeat, cases_lt, cases_eq, ne_eqb, and_left, and_right, not_from_true, ints, length-replicate, get_or-replicate, get_or_append_left, get_or-append-add, All-head, All-tail, All-nil, All-cons, All-append, All-replicate, Op, Jalr, Ecall, InRange, spelling, Format, Instr, has_stack, c_ebreak, Part, stub, Piece, IsReading, Slot, PlacedName, slot_size, size_of, slots_of, AreWhole, Bases, AreSlots}
+use Rattle.sfi_link.proofs.Prelude.{◌≡◌, ℕ, zero, suc, ◌+◌, ◌-◌, ◌*◌, ◌^◌, ◌<◌, ◌≤◌, List, [], ◌∷◌, ◌++◌, length, take, drop, get_or, Bool, true, false, refl, sym, ap, ◌∙◌, subst, arith, inl, inr, length-append, append_assoc, replicate, ◌==◌, ◌&&◌, not, pos, All, repeat, cases_lt, cases_eq, ne_eqb, and_left, and_right, not_from_true, ints, length-replicate, get_or-replicate, get_or_append_left, get_or-append-add, All-head, All-tail, All-nil, All-cons, All-append, All-replicate, Op, Jalr, Ecall, InRange, spelling, Format, Instr, has_stack, c_ebreak, Part, stub, Piece, IsReading, BundleSlot, PlacedName, slot_size, size_of, slots_of, AreWhole, Bases, AreSlots}
 use Rattle.sfi_formats.specs.Formats.{has_words}
 use Rattle.rv_word.specs.declared.instr.RegOp.TheVariants.{And, Or}
 use Rattle.sfi_image.specs.Parts.{is_gate_of}
@@ -56,14 +56,14 @@ none_of_region sandbox p chunks e all each =
 
 -- ---- what is spelled, cut at a bundle's end
 
-pub record AreCut (at : Bases) (names : List PlacedName) (here : ℕ) (xs ys : List Slot) (bytes : List ℕ) : Type 0 where
+pub record AreCut (at : Bases) (names : List PlacedName) (here : ℕ) (xs ys : List BundleSlot) (bytes : List ℕ) : Type 0 where
   pub front : List ℕ
   pub rest : List ℕ
   pub whole : bytes ≡ front ++ rest
   pub first : AreSlots at names here xs front
   pub second : AreSlots at names (here + size_of xs) ys rest
 
-pub cut : (at : Bases) (names : List PlacedName) (here : ℕ) (xs ys : List Slot) (bytes : List ℕ) → AreSlots at names here (xs ++ ys) bytes → AreCut at names here xs ys bytes
+pub cut : (at : Bases) (names : List PlacedName) (here : ℕ) (xs ys : List BundleSlot) (bytes : List ℕ) → AreSlots at names here (xs ++ ys) bytes → AreCut at names here xs ys bytes
 cut at names here [] ys bytes s =
     let e : here ≡ here + 0 = omega arith in
     record { front = []; rest = bytes; whole = refl; first = refl; second = subst (λ n. AreSlots at names n ys bytes) e s }
@@ -82,28 +82,28 @@ cut at names here (x ∷ xs) ys bytes (f, r, one, others, e) =
 -- ---- full bundles
 
 -- 16 bytes of whole expansions, and of c.ebreaks after them
-pub record IsFull (f : Format) (count : ℕ) (slots : List Slot) : Type 0 where
+pub record IsFull (f : Format) (count : ℕ) (slots : List BundleSlot) : Type 0 where
   pub size : size_of slots ≡ 16
-  pub front : List Slot
+  pub front : List BundleSlot
   pub fill : ℕ
   pub shape : slots ≡ front ++ replicate fill c_ebreak
   pub whole : AreWhole f count front
 
 -- the bundles' bytes, of which each is without findings in its place
-pub record AreChunks (b : BundlePlace) (here : ℕ) (full : List (List Slot)) (bytes : List ℕ) : Type 0 where
+pub record AreChunks (b : BundlePlace) (here : ℕ) (full : List (List BundleSlot)) (bytes : List ℕ) : Type 0 where
   pub chunks : List (List ℕ)
   pub whole : bytes ≡ join chunks
   pub count : length chunks ≡ length full
   pub all : All IsChunk chunks
   pub each : (k : ℕ) (listed : Bool) → k < length full → IsCleanFrom (record b { address = here + 16 * k; listed = listed }) (here + 16 * k) [] (get_or full k []) (get_or chunks k [])
 
-full_clean : (b : BundlePlace) (at : Bases) (names : List PlacedName) → AreStarts b at names → has_words b.format ≡ false → (count : ℕ) (x : List Slot) → IsFull b.format count x
+full_clean : (b : BundlePlace) (at : Bases) (names : List PlacedName) → AreStarts b at names → has_words b.format ≡ false → (count : ℕ) (x : List BundleSlot) → IsFull b.format count x
     → (here : ℕ) (earlier : List Instr) → IsCleanly b at names here earlier x
 full_clean b at names starts bundled count x f here earlier =
     subst (IsCleanly b at names here earlier) (sym f.shape)
     (clean b at names starts bundled count f.front (replicate f.fill c_ebreak) f.whole (clean_fill b at names f.fill) here earlier)
 
-chunked : (b : BundlePlace) (at : Bases) (names : List PlacedName) → AreStarts b at names → has_words b.format ≡ false → (here count : ℕ) (full : List (List Slot)) (bytes : List ℕ) → All (IsFull b.format count) full
+chunked : (b : BundlePlace) (at : Bases) (names : List PlacedName) → AreStarts b at names → has_words b.format ≡ false → (here count : ℕ) (full : List (List BundleSlot)) (bytes : List ℕ) → All (IsFull b.format count) full
     → AreSlots at names here (slots_of full) bytes → here + 16 * length full ≤ 2 ^ 32 → AreChunks b here full bytes
 chunked b at names starts bundled here count [] bytes all s room = record { chunks = []; whole = s; count = refl; all = All-nil IsChunk; each = λ k l h. absurd (omega arith) }
 chunked b at names starts bundled here count (x ∷ full) bytes all s room =
@@ -121,7 +121,7 @@ chunked b at names starts bundled here count (x ∷ full) bytes all s room =
       each = each_of b more one;
     }
   where
-    each_of : (b : BundlePlace) {here : ℕ} {x : List Slot} {full : List (List Slot)} {rest front : List ℕ} (more : AreChunks b (here + 16) full rest)
+    each_of : (b : BundlePlace) {here : ℕ} {x : List BundleSlot} {full : List (List BundleSlot)} {rest front : List ℕ} (more : AreChunks b (here + 16) full rest)
         → ((l : Bool) → IsCleanFrom (record b { address = here; listed = l }) here [] x front)
         → (k : ℕ) (l : Bool) → k < length (x ∷ full) → IsCleanFrom (record b { address = here + 16 * k; listed = l }) (here + 16 * k) [] (get_or (x ∷ full) k []) (get_or (front ∷ more.chunks) k [])
     each_of b {here = here} {x = x} {front = front} more one zero l h =
@@ -132,7 +132,7 @@ chunked b at names starts bundled here count (x ∷ full) bytes all s room =
         subst (λ m. IsCleanFrom (record b { address = m; listed = l }) m [] (get_or full k []) (get_or more.chunks k [])) e (more.each k l (omega arith))
 
 -- the findings of a bundle that is read whole without any
-clean_bundle : (b : BundlePlace) (slots : List Slot) (bytes : List ℕ) → (b.listed ≡ true → bytes ≡ stub) → (c : IsCleanFrom b b.address [] slots bytes) → IsEndFine b c.reading
+clean_bundle : (b : BundlePlace) (slots : List BundleSlot) (bytes : List ℕ) → (b.listed ≡ true → bytes ≡ stub) → (c : IsCleanFrom b b.address [] slots bytes) → IsEndFine b c.reading
     → AreBundleFindings b bytes []
 clean_bundle b slots bytes listed c fine =
     let P : List ℕ → Type 0 = λ rest. [] ≡ findings_from b (is_empty rest) b.address [] c.reading ++ rest_finding b (b.address + (length bytes - length rest)) rest in
@@ -181,7 +181,7 @@ stubs_are zero = refl
 stubs_are (suc n) = ap (λ l. stub ++ l) (stubs_are n)
 
 -- the code is stubs, one a gate, and then full bundles, the last of which ends in c.ebreak
-pub record IsClosed (p : Part) (at : Bases) (names : List PlacedName) (stubs : ℕ) (full : List (List Slot)) : Type 0 where
+pub record IsClosed (p : Part) (at : Bases) (names : List PlacedName) (stubs : ℕ) (full : List (List BundleSlot)) : Type 0 where
   pub bundled : has_words p.format ≡ false
   pub starts : (sandbox : ℕ) → AreStarts (bundle_place sandbox p 0) at names
   pub start : at.start ≡ p.code_base + 16 * stubs
@@ -195,7 +195,7 @@ pub record IsClosed (p : Part) (at : Bases) (names : List PlacedName) (stubs : �
   pub listed : (k : ℕ) → ((is_gate_of p.gates (p.code_base + 16 * k) ≡ true) → k < stubs) × (k < stubs → is_gate_of p.gates (p.code_base + 16 * k) ≡ true)
 
 -- the region holds the stubs and the bundles
-region_size : (p : Part) (stubs : ℕ) (full : List (List Slot)) (bytes : List ℕ) → p.code ≡ repeat stubs stub ++ bytes → length bytes ≡ 16 * length full → length p.code ≡ 16 * (stubs + length full)
+region_size : (p : Part) (stubs : ℕ) (full : List (List BundleSlot)) (bytes : List ℕ) → p.code ≡ repeat stubs stub ++ bytes → length bytes ≡ 16 * length full → length p.code ≡ 16 * (stubs + length full)
 region_size p stubs full bytes e n =
     let a = ap length (e ∙ ap (λ l. l ++ bytes) (stubs_are stubs)) in
     let b = length-append (join (replicate stubs stub)) bytes in
@@ -203,7 +203,7 @@ region_size p stubs full bytes e n =
     let d = length-replicate stubs stub in
     omega (arith, a, b, c, d, n)
 
-pub closed_is_clean : (sandbox : ℕ) (p : Part) (at : Bases) (names : List PlacedName) (stubs : ℕ) (full : List (List Slot)) → IsClosed p at names stubs full
+pub closed_is_clean : (sandbox : ℕ) (p : Part) (at : Bases) (names : List PlacedName) (stubs : ℕ) (full : List (List BundleSlot)) → IsClosed p at names stubs full
     → at.start + 16 * length full ≤ 2 ^ 32 → AreFindingsInBundles sandbox p []
 closed_is_clean sandbox p at names stubs full h fits =
     let c = chunked (bundle_place sandbox p 0) at names (h.starts sandbox) h.bundled at.start (length names) full h.bytes h.all h.slots fits in

@@ -1,5 +1,5 @@
 -- Each item of a source does in the image what its instruction does.
-use Rattle.sfi_link.proofs.Prelude.{◌≡◌, ℕ, ◌+◌, ◌*◌, List, [], ◌∷◌, ◌++◌, length, length-append, replicate, Some, Bool, true, false, refl, sym, ap, ◌∙◌, subst, arith, append_assoc, inl, inr, pos, ℤ, negsuc, zero, suc, ◌-ℤ◌, MatchBool, slice_get, repeat, All, Instr, Op, OpImm, Load, Store, Branch, Jal, Jalr, Lui, Addi, Format, is_stack, upper, lower, Sandbox, IsSandbox, IsBody, Part, stub_of, Slot, Wide, Short, Jump, Upper, Lower, Region, PlacedName, slot_size, size_of, resolved, slots_of, c_nop, Placement, Place, Bases, bases_of, with_offset, target_at, value_at, base_at, AreSlots, c_ebreak, IsLinked, AreLinkedFrom, All-head, All-tail}
+use Rattle.sfi_link.proofs.Prelude.{◌≡◌, ℕ, ◌+◌, ◌*◌, List, [], ◌∷◌, ◌++◌, length, length-append, replicate, Some, Bool, true, false, refl, sym, ap, ◌∙◌, subst, arith, append_assoc, inl, inr, pos, ℤ, negsuc, zero, suc, ◌-ℤ◌, MatchBool, slice_get, repeat, All, Instr, Op, OpImm, Load, Store, Branch, Jal, Jalr, Lui, Addi, Format, is_stack, upper, lower, Sandbox, IsSandbox, IsBody, Part, stub_of, BundleSlot, Wide, Short, Jump, Upper, Lower, Region, PlacedName, slot_size, size_of, resolved, slots_of, c_nop, Placement, Place, Bases, bases_of, with_offset, target_at, value_at, base_at, AreSlots, c_ebreak, IsLinked, AreLinkedFrom, All-head, All-tail}
 use Rattle.rv_mem.specs.Laws.{Holds}
 use Rattle.rv_step.specs.State.{State}
 use Rattle.sfi_source.specs.declared.item.Body.{Body}
@@ -30,25 +30,25 @@ use Rattle.sfi_link.proofs.Parts.{slots_length, linked_right}
 -- ---- slots that wait for no name
 
 -- none of the slots waits for a name
-abbrev AreBare : List Slot → Type 0
+abbrev AreBare : List BundleSlot → Type 0
 AreBare [] = Unit {0}
 AreBare (Wide i ∷ slots) = AreBare slots
 AreBare (Short f ∷ slots) = AreBare slots
 AreBare (s ∷ slots) = ⊥
 
-bare_append : (xs ys : List Slot) → AreBare xs → AreBare ys → AreBare (xs ++ ys)
+bare_append : (xs ys : List BundleSlot) → AreBare xs → AreBare ys → AreBare (xs ++ ys)
 bare_append [] ys a b = b
 bare_append (Wide i ∷ xs) ys a b = bare_append xs ys a b
 bare_append (Short f ∷ xs) ys a b = bare_append xs ys a b
 bare_append (s ∷ xs) ys a b = absurd a
 
-bare_goes : (at : Bases) (names : List PlacedName) (here : ℕ) (i : Instr) (slots : List Slot) → AreBare slots → AreResolvedTo at names here i slots
+bare_goes : (at : Bases) (names : List PlacedName) (here : ℕ) (i : Instr) (slots : List BundleSlot) → AreBare slots → AreResolvedTo at names here i slots
 bare_goes at names here i [] h = tt
 bare_goes at names here i (Wide j ∷ slots) h = (tt, bare_goes at names (here + 4) i slots h)
 bare_goes at names here i (Short f ∷ slots) h = (tt, bare_goes at names (here + 2) i slots h)
 bare_goes at names here i (s ∷ slots) h = absurd h
 
-bare_if : (b : Bool) (xs ys : List Slot) → AreBare xs → AreBare ys → AreBare (if b then xs else ys)
+bare_if : (b : Bool) (xs ys : List BundleSlot) → AreBare xs → AreBare ys → AreBare (if b then xs else ys)
 bare_if true xs ys a b = a
 bare_if false xs ys a b = b
 
@@ -56,7 +56,7 @@ bare_mask : (to : Option ℕ) → AreBare (mask_after to)
 bare_mask None = tt
 bare_mask (Some d) = bare_if (is_data_register d) (data_mask d d) [] tt tt
 
-bare_alone : (rvc : Bool) (i : Instr) (slots : List Slot) → IsAlone rvc i slots → AreBare slots
+bare_alone : (rvc : Bool) (i : Instr) (slots : List BundleSlot) → IsAlone rvc i slots → AreBare slots
 bare_alone false i slots e = subst AreBare (sym e) tt
 bare_alone true i slots (inl s) = subst AreBare (sym s.2) tt
 bare_alone true i slots (inr w) = subst AreBare (sym w.1) tt
@@ -66,7 +66,7 @@ bare_before (Load kind rd a imm) = bare_if (is_data_register a || (a == 0)) [] (
 bare_before (Store width a rs2 imm) = bare_if (is_data_register a || (a == 0)) [] (data_mask 29 a) tt tt
 bare_before _ = tt
 
-bare_confined : (rvc : Bool) (i : Instr) (slots : List Slot) → IsConfined rvc i slots → AreBare slots
+bare_confined : (rvc : Bool) (i : Instr) (slots : List BundleSlot) → IsConfined rvc i slots → AreBare slots
 bare_confined rvc (Load kind rd a imm) slots e = bare_alone rvc (Load kind rd (base_of a) imm) slots e
 bare_confined rvc (Store width a rs2 imm) slots e = bare_alone rvc (Store width (base_of a) rs2 imm) slots e
 bare_confined rvc (Jalr rd a imm) slots e = subst AreBare (sym e) tt
@@ -79,7 +79,7 @@ bare_moved : (i : Instr) → AreBare (moved i)
 bare_moved (OpImm op d a imm) = tt
 bare_moved _ = tt
 
-bare_plain : (moves rvc step : Bool) (i : Instr) (slots : List Slot) → MatchBool moves (slots ≡ moved i) (IsAround rvc step i slots) → AreBare slots
+bare_plain : (moves rvc step : Bool) (i : Instr) (slots : List BundleSlot) → MatchBool moves (slots ≡ moved i) (IsAround rvc step i slots) → AreBare slots
 bare_plain true rvc step i slots e = subst AreBare (sym e) (bare_moved i)
 bare_plain false rvc step i slots e =
     subst AreBare (sym e.2) (bare_append (before i) (e.0 ++ after step i) (bare_before i) (bare_append e.0 (after step i) (bare_confined rvc i e.0 e.1) (bare_after step i)))
@@ -90,13 +90,13 @@ bare_jump rd a (pos zero) = tt
 bare_jump rd a (pos (suc n)) = tt
 bare_jump rd a (negsuc n) = tt
 
-bare_masked : (rvc : Bool) (i : Instr) (slots : List Slot) → IsMasked rvc i slots → AreBare slots
+bare_masked : (rvc : Bool) (i : Instr) (slots : List BundleSlot) → IsMasked rvc i slots → AreBare slots
 bare_masked rvc (Load kind rd a imm) slots e = subst AreBare (sym e) tt
 bare_masked rvc (Store width a rs2 imm) slots e = subst AreBare (sym e) tt
 bare_masked rvc (Jalr rd a imm) slots e = subst AreBare (sym e) (bare_jump rd a imm)
 bare_masked rvc i slots e = bare_alone rvc i slots e
 
-bare_bundled : (writes on rvc : Bool) (i : Instr) (slots : List Slot)
+bare_bundled : (writes on rvc : Bool) (i : Instr) (slots : List BundleSlot)
     → MatchBool writes (slots ≡ Wide i ∷ stack_pair) (MatchBool on (IsAlone rvc i slots) (IsMasked rvc i slots)) → AreBare slots
 bare_bundled true on rvc i slots e = subst AreBare (sym e) tt
 bare_bundled false true rvc i slots e = bare_alone rvc i slots e
@@ -109,21 +109,21 @@ bare_pair true = tt
 -- ---- which instruction an item becomes
 
 -- of an item's slots the first waits for its name, if it has one, and no other
-abbrev AwaitName : Body → List Slot → Type 0
+abbrev AwaitName : Body → List BundleSlot → Type 0
 AwaitName (Plain i) slots = AreBare slots
-AwaitName (To i name) slots = (line : ℕ) × (rest : List Slot) × (slots ≡ Jump i name line ∷ rest) × AreBare rest
-AwaitName (High rd name) slots = (line : ℕ) × (rest : List Slot) × (slots ≡ Upper rd name line ∷ rest) × AreBare rest
-AwaitName (Low rd name) slots = (line : ℕ) × (rest : List Slot) × (slots ≡ Lower rd name line ∷ rest) × AreBare rest
-AwaitName (Base rd name) slots = (line : ℕ) × (rest : List Slot) × (slots ≡ Region rd name line ∷ rest) × AreBare rest
+AwaitName (To i name) slots = (line : ℕ) × (rest : List BundleSlot) × (slots ≡ Jump i name line ∷ rest) × AreBare rest
+AwaitName (High rd name) slots = (line : ℕ) × (rest : List BundleSlot) × (slots ≡ Upper rd name line ∷ rest) × AreBare rest
+AwaitName (Low rd name) slots = (line : ℕ) × (rest : List BundleSlot) × (slots ≡ Lower rd name line ∷ rest) × AreBare rest
+AwaitName (Base rd name) slots = (line : ℕ) × (rest : List BundleSlot) × (slots ≡ Region rd name line ∷ rest) × AreBare rest
 
-await_in_bundles : (f : Format) (line : ℕ) (rvc : Bool) (body : Body) (slots : List Slot) → IsExpansionOf f line rvc body slots → AwaitName body slots
+await_in_bundles : (f : Format) (line : ℕ) (rvc : Bool) (body : Body) (slots : List BundleSlot) → IsExpansionOf f line rvc body slots → AwaitName body slots
 await_in_bundles f line rvc (Plain i) slots e = bare_bundled (writes_stack f i) (is_on_stack f i) rvc i slots e
 await_in_bundles f line rvc (To i name) slots e = (line, [], e, tt)
 await_in_bundles f line rvc (High rd name) slots e = (line, put_back (is_stack f rd), e, bare_pair (is_stack f rd))
 await_in_bundles f line rvc (Low rd name) slots e = (line, put_back (is_stack f rd), e, bare_pair (is_stack f rd))
 await_in_bundles f line rvc (Base rd name) slots e = (line, put_back (is_stack f rd), e, bare_pair (is_stack f rd))
 
-await_in_words : (line : ℕ) (rvc step : Bool) (body : Body) (slots : List Slot) → words_expansion.IsExpansionOf line rvc step body slots → AwaitName body slots
+await_in_words : (line : ℕ) (rvc step : Bool) (body : Body) (slots : List BundleSlot) → words_expansion.IsExpansionOf line rvc step body slots → AwaitName body slots
 await_in_words line rvc step (Plain i) slots e = bare_plain (is_move i && not step) rvc step i slots e
 await_in_words line rvc step (To i name) slots e = (line, [], e, tt)
 await_in_words line rvc step (High rd name) slots e = (line, mask_after (Some rd), e, bare_mask (Some rd))
@@ -135,19 +135,19 @@ aimed (Jal rd offset) i z count name b e = (z, e)
 aimed (Branch cond rs1 rs2 offset) i z count name b e = (z, e)
 aimed _ i z count name b e = absurd b.1
 
-record Becomes (at : Bases) (names : List PlacedName) (here : ℕ) (body : Body) (slots : List Slot) : Type 0 where
+record Becomes (at : Bases) (names : List PlacedName) (here : ℕ) (body : Body) (slots : List BundleSlot) : Type 0 where
   instr : Instr
   may_be : MayBe body instr
   goes : AreResolvedTo at names here instr slots
 
 -- the instruction that the first of the slots becomes, where the others wait for no name
-first_waits : (at : Bases) (names : List PlacedName) (here : ℕ) (x : Slot) (rest slots : List Slot) (bytes : List ℕ) → slots ≡ x ∷ rest → AreBare rest → ((i : Instr) → resolved at names here x ≡ Some i → IsResolvedTo at names here i x) → AreSlots at names here slots bytes
+first_waits : (at : Bases) (names : List PlacedName) (here : ℕ) (x : BundleSlot) (rest slots : List BundleSlot) (bytes : List ℕ) → slots ≡ x ∷ rest → AreBare rest → ((i : Instr) → resolved at names here x ≡ Some i → IsResolvedTo at names here i x) → AreSlots at names here slots bytes
     → (i : Instr) × (resolved at names here x ≡ Some i) × AreResolvedTo at names here i slots
 first_waits at names here x rest slots bytes e bare goes h =
-    let g = subst (λ (l : List Slot). AreSlots at names here l bytes) e h in
-    (g.2.instr, g.2.resolves, subst (λ (l : List Slot). AreResolvedTo at names here g.2.instr l) (sym e) (goes g.2.instr g.2.resolves, bare_goes at names (here + slot_size x) g.2.instr rest bare))
+    let g = subst (λ (l : List BundleSlot). AreSlots at names here l bytes) e h in
+    (g.2.instr, g.2.resolves, subst (λ (l : List BundleSlot). AreResolvedTo at names here g.2.instr l) (sym e) (goes g.2.instr g.2.resolves, bare_goes at names (here + slot_size x) g.2.instr rest bare))
 
-becomes : (at : Bases) (names : List PlacedName) (here count : ℕ) (body : Body) (slots : List Slot) (bytes : List ℕ)
+becomes : (at : Bases) (names : List PlacedName) (here count : ℕ) (body : Body) (slots : List BundleSlot) (bytes : List ℕ)
     → IsBody count body → AwaitName body slots → AreSlots at names here slots bytes → Becomes at names here body slots
 becomes at names here count (Plain i) slots bytes b w h = record { instr = i; may_be = refl; goes = bare_goes at names here i slots w }
 becomes at names here count (To j name) slots bytes b (line, rest, e, bare) h =
@@ -174,14 +174,14 @@ becomes at names here count (Base rd name) slots bytes b (line, rest, e, bare) h
 -- ---- where it stands in the code
 
 -- slots among those of the code: their bytes, and that they stand where a memory holds the code
-record AreThere (at : Bases) (names : List PlacedName) (q : Part) (lead own : List Slot) : Type 0 where
+record AreThere (at : Bases) (names : List PlacedName) (q : Part) (lead own : List BundleSlot) : Type 0 where
   bytes : List ℕ
   slots : AreSlots at names (q.start + size_of lead) own bytes
   stand :
       (i : Instr) → AreResolvedTo at names (q.start + size_of lead) i own → (s : State) → Holds s.memory q.code_base (length q.code) q.code
       → s.hart.pc ≡ q.start + size_of lead → SlotsStand i s own
 
-are_there : (given : List Place) → (number : ℕ) (p : Placement) (q : Part) (lead own after : List Slot) → IsLinked given number p q → slots_of p.bundles ≡ lead ++ (own ++ after) → AreThere (bases_of given number p) p.names q lead own
+are_there : (given : List Place) → (number : ℕ) (p : Placement) (q : Part) (lead own after : List BundleSlot) → IsLinked given number p q → slots_of p.bundles ≡ lead ++ (own ++ after) → AreThere (bases_of given number p) p.names q lead own
 are_there given number p q lead own after linked placed =
     let b = bases_of given number p in
     let fill = replicate linked.code.fill c_ebreak in
@@ -191,7 +191,7 @@ are_there given number p q lead own after linked placed =
     ap (λ v. v ++ fill) placed ∙ append_assoc lead (own ++ after) fill ∙ ap (λ v. lead ++ v) (append_assoc own after fill) in
     let one : AreCut b p.names b.start lead (own ++ (after ++ fill)) linked.code.bytes =
     cut b p.names b.start lead (own ++ (after ++ fill)) linked.code.bytes
-    (subst (λ (l : List Slot). AreSlots b p.names b.start l linked.code.bytes) grouped linked.code.slots) in
+    (subst (λ (l : List BundleSlot). AreSlots b p.names b.start l linked.code.bytes) grouped linked.code.slots) in
     let two : AreCut b p.names here own (after ++ fill) one.rest = cut b p.names here own (after ++ fill) one.rest one.second in
     let all : q.code ≡ (stubs ++ one.front) ++ (two.front ++ two.rest) = linked.code.code_is ∙ ap (λ v. stubs ++ v) (one.whole ∙ ap (λ v. one.front ++ v) two.whole) ∙ sym (append_assoc stubs one.front (two.front ++ two.rest)) in
     let front_size : length (stubs ++ one.front) ≡ 16 * length p.gates + size_of lead =
@@ -213,7 +213,7 @@ are_there given number p q lead own after linked placed =
 
 -- ---- an item
 
-runs_at : (given : List Place) → (number : ℕ) (p : Placement) (q : Part) (x : Item) (count : ℕ) (lead own after : List Slot) (offset : ℕ) → IsBody count x.body → IsRightPart q → IsLinked given number p q
+runs_at : (given : List Place) → (number : ℕ) (p : Placement) (q : Part) (x : Item) (count : ℕ) (lead own after : List BundleSlot) (offset : ℕ) → IsBody count x.body → IsRightPart q → IsLinked given number p q
     → slots_of p.bundles ≡ lead ++ (own ++ after) → size_of lead ≡ offset → AwaitName x.body own → RunsAt given number p q x own offset
 runs_at given number p q x count lead own after offset body right linked placed size waits =
     let b = bases_of given number p in

@@ -1,10 +1,10 @@
 -- How many bytes slots take, and lists of bytes one after another.
-use Rattle.sfi_link.proofs.Prelude.{◌≡◌, ℕ, ◌+◌, ◌*◌, ◌<◌, List, [], ◌∷◌, ◌++◌, length, replicate, flat_map, subst, ap, ◌∙◌, arith, Slot, Short, slot_size, size_of, slots_of, AreBundles, c_ebreak}
+use Rattle.sfi_link.proofs.Prelude.{◌≡◌, ℕ, ◌+◌, ◌*◌, ◌<◌, List, [], ◌∷◌, ◌++◌, length, replicate, flat_map, subst, ap, ◌∙◌, arith, BundleSlot, Short, slot_size, size_of, slots_of, AreBundles, c_ebreak}
 use Rattle.std.proofs.lemmas.List.Folds.{sum_by-replicate}
 use Rattle.sfi_rewrite.proofs.Sizes.{size_of-append}
 
 -- bundles that are full, and a last one
-full_and_last : (full : List (List Slot)) (last : List Slot) → AreBundles (full ++ last ∷ []) → size_of (slots_of (full ++ last ∷ [])) ≡ 16 * length full + size_of last
+full_and_last : (full : List (List BundleSlot)) (last : List BundleSlot) → AreBundles (full ++ last ∷ []) → size_of (slots_of (full ++ last ∷ [])) ≡ 16 * length full + size_of last
 full_and_last [] last h = let e = size_of-append last [] in omega arith
 full_and_last (b ∷ []) last h =
     let e = size_of-append b (slots_of (last ∷ [])) in
@@ -17,10 +17,10 @@ full_and_last (b ∷ c ∷ full) last h =
     let g = h.0 in
     omega arith
 
-pub all_but_last : (bundles full : List (List Slot)) (last : List Slot) → AreBundles bundles → bundles ≡ full ++ last ∷ [] → size_of (slots_of bundles) ≡ 16 * length full + size_of last
+pub all_but_last : (bundles full : List (List BundleSlot)) (last : List BundleSlot) → AreBundles bundles → bundles ≡ full ++ last ∷ [] → size_of (slots_of bundles) ≡ 16 * length full + size_of last
 all_but_last bundles full last h e = ap (λ bs. size_of (slots_of bs)) e ∙ full_and_last full last (subst AreBundles e h)
 
-pub slot_some : (s : Slot) → 0 < slot_size s
+pub slot_some : (s : BundleSlot) → 0 < slot_size s
 slot_some (Short f) = omega arith
 slot_some _ = omega arith
 

@@ -1,5 +1,5 @@
 -- Where a memory holds the linker's bytes of slots, the slots stand.
-use Rattle.sfi_link.proofs.Prelude.{◌≡◌, ℕ, ◌+◌, List, [], ◌∷◌, ◌++◌, length, length-append, append-nil, refl, Some, sym, ap, ◌∙◌, subst, arith, slice_index, get_or_append_left, get_or-append-add, Instr, expansion, Slot, Wide, Short, PlacedName, slot_size, Bases, IsSlot, AreSlots}
+use Rattle.sfi_link.proofs.Prelude.{◌≡◌, ℕ, ◌+◌, List, [], ◌∷◌, ◌++◌, length, length-append, append-nil, refl, Some, sym, ap, ◌∙◌, subst, arith, slice_index, get_or_append_left, get_or-append-add, Instr, expansion, BundleSlot, Wide, Short, PlacedName, slot_size, Bases, IsSlot, AreSlots}
 use Rattle.rv_mem.specs.Bytes.{Bytes, byte_at, address_after}
 use Rattle.rv_mem.specs.Laws.{Holds}
 use Rattle.rv_step.specs.State.{State}
@@ -25,7 +25,7 @@ held_part m base to front mid rest all same e h = record {
 
 -- ---- one slot
 
-slot_there : (at : Bases) (names : List PlacedName) (here : ℕ) (i : Instr) (x : Slot) (bytes : List ℕ) (s : State) (is : IsSlot at names here x bytes) → IsResolvedTo at names here i x
+slot_there : (at : Bases) (names : List PlacedName) (here : ℕ) (i : Instr) (x : BundleSlot) (bytes : List ℕ) (s : State) (is : IsSlot at names here x bytes) → IsResolvedTo at names here i x
     → Stands s is.instr (slot_size x) → SlotStands i s x
 slot_there at names here i (Wide j) bytes s is goes st = subst (λ (k : Instr). Stands s k 4) (sym (some_same j is.instr is.resolves)) st
 slot_there at names here i (Short f) bytes s is goes st = subst (λ (k : Instr). Stands s k 2) (sym (some_same (expansion f) is.instr is.resolves)) st
@@ -33,7 +33,7 @@ slot_there at names here i _ bytes s is goes st = subst (λ (k : Instr). Stands 
 
 -- ---- slots
 
-pub slots_there : (at : Bases) (names : List PlacedName) (here : ℕ) (i : Instr) (slots : List Slot) (bytes : List ℕ) (s : State)
+pub slots_there : (at : Bases) (names : List PlacedName) (here : ℕ) (i : Instr) (slots : List BundleSlot) (bytes : List ℕ) (s : State)
     → AreSlots at names here slots bytes → AreResolvedTo at names here i slots → Holds s.memory s.hart.pc (length bytes) bytes → SlotsStand i s slots
 slots_there at names here i [] bytes s h goes m = tt
 slots_there at names here i (x ∷ slots) bytes s h goes m =

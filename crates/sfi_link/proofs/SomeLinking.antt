@@ -1,5 +1,5 @@
 -- What is placed has an image, or a fault.
-use Rattle.sfi_link.proofs.Prelude.{◌≡◌, ℕ, zero, suc, ◌+◌, ◌-◌, ◌/◌, ◌^◌, ◌<◌, ◌≤◌, List, [], ◌∷◌, ◌++◌, length, Option, Some, None, refl, sym, ap, subst, arith, inl, inr, ◌⊎◌, ℤ, pos, ◌-ℤ◌, All, AllPairs, repeat, w16, w32, to_le_bytes, cases_lt, cases_eq, ints, All-head, All-tail, Instr, Branch, Jal, InRange, IsReg, spelling, expansion, Format, code_most, stub_of, Slot, Wide, Short, Jump, Upper, Lower, Region, PlacedName, slot_size, slots_of, Placement, Encodes, IsPlacedPart, Bases, LinkFault, Place, Span, AreApart, spans, place_of, IsRightPlace, spans_at, bases_of, value_at, base_at, target_at, with_offset, made_of, IsSlot, AreSlots, needed, HasRoom, IsCodeSize, IsLinkedCode, part_with, IsLinked, AreLinkedFrom, AreLinked, AreWritten, MayLie, HasSlotFault, IsSlotFault, HasPartFault, IsPartFault}
+use Rattle.sfi_link.proofs.Prelude.{◌≡◌, ℕ, zero, suc, ◌+◌, ◌-◌, ◌/◌, ◌^◌, ◌<◌, ◌≤◌, List, [], ◌∷◌, ◌++◌, length, Option, Some, None, refl, sym, ap, subst, arith, inl, inr, ◌⊎◌, ℤ, pos, ◌-ℤ◌, All, AllPairs, repeat, w16, w32, to_le_bytes, cases_lt, cases_eq, ints, All-head, All-tail, Instr, Branch, Jal, InRange, IsReg, spelling, expansion, Format, code_most, stub_of, BundleSlot, Wide, Short, Jump, Upper, Lower, Region, PlacedName, slot_size, slots_of, Placement, Encodes, IsPlacedPart, Bases, LinkFault, Place, Span, AreApart, spans, place_of, IsRightPlace, spans_at, bases_of, value_at, base_at, target_at, with_offset, made_of, IsSlot, AreSlots, needed, HasRoom, IsCodeSize, IsLinkedCode, part_with, IsLinked, AreLinkedFrom, AreLinked, AreWritten, MayLie, HasSlotFault, IsSlotFault, HasPartFault, IsPartFault}
 use Rattle.rv_comp.specs.Fronts.{halfword_of}
 use Rattle.rv_word.specs.Spelling.{modulo, minus, IsBetween}
 use Rattle.sfi_link.specs.Laws.{SomeLinking}
@@ -37,7 +37,7 @@ reaches_or_not z _ h = inl h
 -- ---- a slot
 
 -- the slot has bytes where it stands, or a fault
-abbrev SlotOrFault : Bases → List PlacedName → ℕ → Slot → Type 0
+abbrev SlotOrFault : Bases → List PlacedName → ℕ → BundleSlot → Type 0
 SlotOrFault at names here s = ((bytes : List ℕ) × IsSlot at names here s bytes) ⊎ ((f : LinkFault) × HasSlotFault at names here s f)
 
 jump_slot : (at : Bases) (names : List PlacedName) (here : ℕ) (i : Instr) (name line : ℕ) (to : Option ℕ) → target_at at names name ≡ to → InRange i → SlotOrFault at names here (Jump i name line)
@@ -62,7 +62,7 @@ region_or_fault : (at : Bases) (names : List PlacedName) (here rd name line : �
 region_or_fault at names here rd name line None is reg = inr (UnknownName line, (is, refl))
 region_or_fault at names here rd name line (Some base) is reg = inl (_, region_slot at names here rd name line base is reg)
 
-slot_or_fault : (at : Bases) (names : List PlacedName) (here : ℕ) (s : Slot) → Encodes s → SlotOrFault at names here s
+slot_or_fault : (at : Bases) (names : List PlacedName) (here : ℕ) (s : BundleSlot) → Encodes s → SlotOrFault at names here s
 slot_or_fault at names here (Wide i) h = inl (to_le_bytes w32 (spelling i), record { instr = i; resolves = refl; spelled = (h, refl) })
 slot_or_fault at names here (Short f) h = inl (to_le_bytes w16 (halfword_of f), record { instr = expansion f; resolves = refl; spelled = (h, refl) })
 slot_or_fault at names here (Jump i name line) h = jump_slot at names here i name line (target_at at names name) refl h
@@ -72,7 +72,7 @@ slot_or_fault at names here (Region rd name line) h = region_or_fault at names h
 
 -- ---- slots
 
-slots_or_fault : (at : Bases) (names : List PlacedName) (here : ℕ) (slots : List Slot) → All Encodes slots
+slots_or_fault : (at : Bases) (names : List PlacedName) (here : ℕ) (slots : List BundleSlot) → All Encodes slots
     → ((bytes : List ℕ) × AreSlots at names here slots bytes) ⊎ ((f : LinkFault) × IsSlotFault at names here slots f)
 slots_or_fault at names here [] all = inl ([], refl)
 slots_or_fault at names here (s ∷ slots) all =

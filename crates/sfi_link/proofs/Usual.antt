@@ -1,5 +1,5 @@
 -- Sandboxes at their usual places never meet, so none has a fault of its place.
-use Rattle.sfi_link.proofs.Prelude.{◌≡◌, ℕ, ◌+◌, ◌-◌, ◌*◌, ◌^◌, ◌<◌, ◌≤◌, Vec, Global, Result, Err, List, [], ◌∷◌, ◌++◌, length, get_or, sym, ap, ◌∙◌, subst, arith, inl, inr, All, AllPairs, All-nil, All-cons, All-head, All-tail, All-append, Span, Part, AreApart, spans, with_guards, Slot, Wide, Short, Jump, PlacedName, slot_size, Placement, IsPlacedPart, IsPlaced, Bases, LinkFault, Place, IsRightPlace, spans_at, needed, HasRoom, IsCodeSize, IsLinked, MayLie, HasSlotFault, IsSlotFault, HasPartFault, IsPartFault, IsLinkFault, Links}
+use Rattle.sfi_link.proofs.Prelude.{◌≡◌, ℕ, ◌+◌, ◌-◌, ◌*◌, ◌^◌, ◌<◌, ◌≤◌, Vec, Global, Result, Err, List, [], ◌∷◌, ◌++◌, length, get_or, sym, ap, ◌∙◌, subst, arith, inl, inr, All, AllPairs, All-nil, All-cons, All-head, All-tail, All-append, Span, Part, AreApart, spans, with_guards, BundleSlot, Wide, Short, Jump, PlacedName, slot_size, Placement, IsPlacedPart, IsPlaced, Bases, LinkFault, Place, IsRightPlace, spans_at, needed, HasRoom, IsCodeSize, IsLinked, MayLie, HasSlotFault, IsSlotFault, HasPartFault, IsPartFault, IsLinkFault, Links}
 use Rattle.std.specs.Prelude.{◌≢◌}
 use Rattle.std.proofs.lemmas.Nat.{pow-add}
 use Rattle.sfi_formats.specs.Limits.{usual}
@@ -92,14 +92,14 @@ still_below p number q before right linked below =
 
 -- ---- faults
 
-no_slot_place : (at : Bases) (names : List PlacedName) (here : ℕ) (s : Slot) (k : ℕ) → HasSlotFault at names here s (fault.Place k) → ⊥
+no_slot_place : (at : Bases) (names : List PlacedName) (here : ℕ) (s : BundleSlot) (k : ℕ) → HasSlotFault at names here s (fault.Place k) → ⊥
 no_slot_place at names here (Wide i) k h = h
 no_slot_place at names here (Short form) k h = h
 no_slot_place at names here (Jump i name line) k (inl h) = let e = h.1 in cc
 no_slot_place at names here (Jump i name line) k (inr h) = let e = h.3 in cc
 no_slot_place at names here _ k h = let e = h.1 in cc
 
-no_slots_place : (at : Bases) (names : List PlacedName) (here : ℕ) (slots : List Slot) (k : ℕ) → IsSlotFault at names here slots (fault.Place k) → ⊥
+no_slots_place : (at : Bases) (names : List PlacedName) (here : ℕ) (slots : List BundleSlot) (k : ℕ) → IsSlotFault at names here slots (fault.Place k) → ⊥
 no_slots_place at names here [] k h = h
 no_slots_place at names here (s ∷ slots) k (inl h) = no_slot_place at names here s k h
 no_slots_place at names here (s ∷ slots) k (inr (bytes, one, later)) = no_slots_place at names (here + slot_size s) slots k later

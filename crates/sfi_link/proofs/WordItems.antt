@@ -1,6 +1,6 @@
 -- The expansions of items in words break no rule, as they are laid: before each of them nothing is
 -- owed, or it is the use of the step before it.
-use Rattle.sfi_link.proofs.Prelude.{◌≡◌, ◌⊎◌, ℕ, ◌+◌, ◌^◌, ◌<◌, ◌≤◌, List, [], ◌∷◌, ◌++◌, map, Option, Some, None, Bool, true, false, refl, sym, ap, ◌∙◌, subst, arith, inl, inr, append-nil, ◌==◌, ◌&&◌, ◌||◌, not, or_parts, and_parts, eqb-true, ℤ, pos, negsuc, ◌-ℤ◌, MatchBool, Addi, All, All-head, All-tail, Instr, Op, OpImm, Load, Store, Branch, Jal, Jalr, Lui, Auipc, Fence, Ecall, Ebreak, IsBody, upper, lower, Slot, Wide, Upper, Lower, Region, PlacedName, slot_size, size_of, Bases, target_at, value_at, base_at, with_offset, resolved, made_of}
+use Rattle.sfi_link.proofs.Prelude.{◌≡◌, ◌⊎◌, ℕ, ◌+◌, ◌^◌, ◌<◌, ◌≤◌, List, [], ◌∷◌, ◌++◌, map, Option, Some, None, Bool, true, false, refl, sym, ap, ◌∙◌, subst, arith, inl, inr, append-nil, ◌==◌, ◌&&◌, ◌||◌, not, or_parts, and_parts, eqb-true, ℤ, pos, negsuc, ◌-ℤ◌, MatchBool, Addi, All, All-head, All-tail, Instr, Op, OpImm, Load, Store, Branch, Jal, Jalr, Lui, Auipc, Fence, Ecall, Ebreak, IsBody, upper, lower, BundleSlot, Wide, Upper, Lower, Region, PlacedName, slot_size, size_of, Bases, target_at, value_at, base_at, with_offset, resolved, made_of}
 use Rattle.std.specs.Prelude.{if◌then◌else◌}
 use Rattle.std.proofs.lemmas.Bool.{true≢false, not-false}
 use Rattle.std.proofs.lemmas.List.{map-append}
@@ -110,7 +110,7 @@ unowed_base : (base size here : ℕ) (owed : Owed) (f : ℕ → Instr) (to : Opt
 unowed_base base size here owed f to a is typed (inl e) = e
 unowed_base base size here owed f to a is typed (inr u) = absurd (true≢false (sym u.2.0 ∙ sym (ap is_data_register (is.is_on a u.0 u.2.1)) ∙ typed))
 
-access_right : (base size : ℕ) (at : Bases) (names : List PlacedName) (here : ℕ) (owed : Owed) (rvc : Bool) (f : ℕ → Instr) (to : Option ℕ) (a : ℕ) (data_one zero_one : Bool) (confined slots : List Slot)
+access_right : (base size : ℕ) (at : Bases) (names : List PlacedName) (here : ℕ) (owed : Owed) (rvc : Bool) (f : ℕ → Instr) (to : Option ℕ) (a : ℕ) (data_one zero_one : Bool) (confined slots : List BundleSlot)
     → ((there : ℕ) → IsAccess base size there f to) → is_data_register a ≡ data_one → (a == 0) ≡ zero_one → IsOwedTo owed (Plain (f a))
     → IsAlone rvc (f (if data_one then a else if zero_one then 26 else 29)) confined
     → slots ≡ (if data_one || zero_one then [] else data_mask 29 a) ++ (confined ++ mask_after to) → AreRight base size at names here owed slots kind.Nothing
@@ -160,7 +160,7 @@ store_access base size here width rs2 imm = record {
 -- ---- an indirect jump
 
 -- the pair by which x30 becomes a word's start, and the jump by it
-jump_right : (base size : ℕ) (at : Bases) (names : List PlacedName) (here rd a : ℕ) (imm : ℤ) (slots : List Slot) → is_withheld Sfiw rd ≡ false → is_data_register rd ≡ false → imm ≡ pos 0
+jump_right : (base size : ℕ) (at : Bases) (names : List PlacedName) (here rd a : ℕ) (imm : ℤ) (slots : List BundleSlot) → is_withheld Sfiw rd ≡ false → is_data_register rd ≡ false → imm ≡ pos 0
     → slots ≡ Wide (Op And 30 a 25) ∷ Wide (Op Or 30 30 24) ∷ Wide (Jalr rd 30 imm) ∷ mask_after (Some rd) → AreRight base size at names here kind.Nothing slots kind.Nothing
 jump_right base size at names here rd a imm slots h untyped zero_is e =
     let w = owing (Jalr rd 30 (pos 0)) (Some rd) refl (h, refl, λ typed. absurd (true≢false (sym typed ∙ untyped))) in
@@ -180,7 +180,7 @@ jump_right base size at names here rd a imm slots h untyped zero_is e =
 -- ---- an instruction
 
 -- one that stays as it is, before the mask of what it writes
-calm_right : (base size : ℕ) (at : Bases) (names : List PlacedName) (here : ℕ) (owed : Owed) (rvc : Bool) (i : Instr) (confined slots : List Slot) → is_calm i ≡ true → is_access i ≡ false → names_withheld Sfiw i ≡ false
+calm_right : (base size : ℕ) (at : Bases) (names : List PlacedName) (here : ℕ) (owed : Owed) (rvc : Bool) (i : Instr) (confined slots : List BundleSlot) → is_calm i ≡ true → is_access i ≡ false → names_withheld Sfiw i ≡ false
     → is_barred_jump (Plain i) ≡ false → IsOwedTo owed (Plain i) → IsAlone rvc i confined → slots ≡ confined ++ mask_after (destination i) → AreRight base size at names here owed slots kind.Nothing
 calm_right base size at names here owed rvc i confined slots c access n b o alone e =
     let w = owing_as_named i n b in
@@ -194,7 +194,7 @@ zero_is (pos n) h = ap pos (eqb-true n 0 h)
 zero_is (negsuc n) h = absurd (true≢false (sym h))
 
 -- of no step
-around_right : (base size : ℕ) (at : Bases) (names : List PlacedName) (here : ℕ) (owed : Owed) (rvc : Bool) (i : Instr) (count : ℕ) (slots : List Slot) → IsOwedTo owed (Plain i) → IsBody count (Plain i) → names_withheld Sfiw i ≡ false
+around_right : (base size : ℕ) (at : Bases) (names : List PlacedName) (here : ℕ) (owed : Owed) (rvc : Bool) (i : Instr) (count : ℕ) (slots : List BundleSlot) → IsOwedTo owed (Plain i) → IsBody count (Plain i) → names_withheld Sfiw i ≡ false
     → is_ecall (Plain i) ≡ false → is_barred_jump (Plain i) ≡ false → IsAround rvc false i slots → AreRight base size at names here owed slots kind.Nothing
 around_right base size at names here owed rvc (Load k rd a imm) count slots o body n c b x =
     access_right base size at names here owed rvc (λ r. Load k rd r imm) (Some rd) a (is_data_register a) (a == 0) x.0 slots (λ there. load_access base size there k rd imm (or_parts (is_withheld Sfiw rd) (is_withheld Sfiw a) n).0) refl refl o x.1 x.2
@@ -223,7 +223,7 @@ pub record IsStep (body : Body) : Type 0 where
   pub typed : is_data_register data_one ≡ true
   pub is : body ≡ Plain (OpImm Addi data_one data_one by)
 
-step_right : (base size : ℕ) (at : Bases) (names : List PlacedName) (here : ℕ) (owed : Owed) (rvc : Bool) (d : ℕ) (k : ℤ) (slots : List Slot) → IsOwedTo owed (Plain (OpImm Addi d d k)) → is_data_register d ≡ true → names_withheld Sfiw (OpImm Addi d d k) ≡ false
+step_right : (base size : ℕ) (at : Bases) (names : List PlacedName) (here : ℕ) (owed : Owed) (rvc : Bool) (d : ℕ) (k : ℤ) (slots : List BundleSlot) → IsOwedTo owed (Plain (OpImm Addi d d k)) → is_data_register d ≡ true → names_withheld Sfiw (OpImm Addi d d k) ≡ false
     → IsAround rvc true (OpImm Addi d d k) slots → AreRight base size at names here owed slots (kind.MaskOrUse d)
 step_right base size at names here owed rvc d k slots o typed n x =
     let none = nothing_before owed (OpImm Addi d d k) refl o in
@@ -240,7 +240,7 @@ move_right base size at names here owed (Op Add d b a) o m =
     subst (λ p. AreRight base size at names here p (data_mask d a) kind.Nothing) (sym (nothing_before owed (Op Add d b a) refl o)) (mask_right base size at names here d a (and_parts (is_data_register d) (b == 0) m).0)
 move_right base size at names here owed _ o m = absurd (true≢false (sym m))
 
-plain_right : (base size : ℕ) (at : Bases) (names : List PlacedName) (here : ℕ) (owed : Owed) (moves rvc step : Bool) (i : Instr) (count : ℕ) (slots : List Slot) → (is_move i && not step) ≡ moves → IsOwedTo owed (Plain i) → IsBody count (Plain i)
+plain_right : (base size : ℕ) (at : Bases) (names : List PlacedName) (here : ℕ) (owed : Owed) (moves rvc step : Bool) (i : Instr) (count : ℕ) (slots : List BundleSlot) → (is_move i && not step) ≡ moves → IsOwedTo owed (Plain i) → IsBody count (Plain i)
     → names_withheld Sfiw i ≡ false → is_ecall (Plain i) ≡ false → is_barred_jump (Plain i) ≡ false → (step ≡ true → IsStep (Plain i)) → MatchBool moves (slots ≡ moved i) (IsAround rvc step i slots)
     → AreRight base size at names here owed slots (owed_past step (Plain i))
 plain_right base size at names here owed true rvc true i count slots m o body n c b s x = absurd (true≢false (sym (and_parts (is_move i) false m).1))
@@ -285,7 +285,7 @@ aimed_right base size here to (Branch cond rs1 rs2 offset) count name body n b l
 aimed_right base size here to _ count name body n b low start near = absurd body.1
 
 -- an instruction made of a name's address, before the mask of what it writes
-made_right : (base size : ℕ) (at : Bases) (names : List PlacedName) (here : ℕ) (x : Slot) (f : ℕ → Instr) (o : Option ℕ) (rd : ℕ) → slot_size x ≡ 4 → resolved at names here x ≡ made_of f o → is_withheld Sfiw rd ≡ false
+made_right : (base size : ℕ) (at : Bases) (names : List PlacedName) (here : ℕ) (x : BundleSlot) (f : ℕ → Instr) (o : Option ℕ) (rd : ℕ) → slot_size x ≡ 4 → resolved at names here x ≡ made_of f o → is_withheld Sfiw rd ≡ false
     → ((a : ℕ) → (is_calm (f a) ≡ true) × (destination (f a) ≡ Some rd) × (places rd (f a) ≡ false) × (is_jump (f a) ≡ false)) → AreRight base size at names here kind.Nothing (x ∷ mask_after (Some rd)) kind.Nothing
 made_right base size at names here x f o rd four r h calmly = λ i q.
     let m = made f o i (sym r ∙ q) in
@@ -310,13 +310,13 @@ none_past step (Plain i) n = absurd (true≢false (sym n))
 none_past true _ n = refl
 none_past false _ n = refl
 
-named_right : (base size : ℕ) (at : Bases) (names : List PlacedName) (here : ℕ) (owed : Owed) (step : Bool) (body : Body) (slots : List Slot) → has_name body ≡ true → IsOwedTo owed body
+named_right : (base size : ℕ) (at : Bases) (names : List PlacedName) (here : ℕ) (owed : Owed) (step : Bool) (body : Body) (slots : List BundleSlot) → has_name body ≡ true → IsOwedTo owed body
     → AreRight base size at names here kind.Nothing slots kind.Nothing → AreRight base size at names here owed slots (owed_past step body)
 named_right base size at names here owed step body slots n o right =
     subst (λ p. AreRight base size at names here p slots (owed_past step body)) (sym (unowed owed body n o))
     (subst (λ p. AreRight base size at names here kind.Nothing slots p) (sym (none_past step body n)) right)
 
-body_right : (base size : ℕ) (at : Bases) (names : List PlacedName) → AreWordStarts base size at names → (here : ℕ) (owed : Owed) (line : ℕ) (rvc step : Bool) (body : Body) (count : ℕ) (slots : List Slot) → here + size_of slots ≤ 2 ^ 32
+body_right : (base size : ℕ) (at : Bases) (names : List PlacedName) → AreWordStarts base size at names → (here : ℕ) (owed : Owed) (line : ℕ) (rvc step : Bool) (body : Body) (count : ℕ) (slots : List BundleSlot) → here + size_of slots ≤ 2 ^ 32
     → IsOwedTo owed body → IsBody count body → item_names_withheld Sfiw body ≡ false → is_ecall body ≡ false → is_barred_jump body ≡ false → (step ≡ true → IsStep body) → IsExpansionOf line rvc step body slots
     → AreRight base size at names here owed slots (owed_past step body)
 body_right base size at names starts here owed line rvc step (Plain i) count slots room o is n c b s x =
@@ -373,12 +373,12 @@ nothing_owed (x ∷ items) = inl refl
 
 -- The slots of items as they are laid. Before them nothing is owed, or it is the use that the first
 -- of them is; after the last nothing.
-pub items_right : (base size : ℕ) (at : Bases) (names : List PlacedName) → AreWordStarts base size at names → (count here : ℕ) (owed : Owed) (items : List Item) (expanded : List Marked) (laid : List Slot) → here + size_of laid ≤ 2 ^ 32
+pub items_right : (base size : ℕ) (at : Bases) (names : List PlacedName) → AreWordStarts base size at names → (count here : ℕ) (owed : Owed) (items : List Item) (expanded : List Marked) (laid : List BundleSlot) → here + size_of laid ≤ 2 ^ 32
     → All (IsPermitted Sfiw) items → All (λ x. IsBody count x.body) items → IsOwedBefore owed items → AreExpanded items [] expanded → AreAsLaid (map (λ m. m.1) expanded) laid → AreRight base size at names here owed laid kind.Nothing
 items_right base size at names starts count here owed [] expanded laid room permitted bodies o e l =
     empty laid (subst (λ v. AreAsLaid (map (λ m. m.1) v) laid) e l)
   where
-    empty : (laid : List Slot) → AreAsLaid [] laid → AreRight base size at names here owed laid kind.Nothing
+    empty : (laid : List BundleSlot) → AreAsLaid [] laid → AreRight base size at names here owed laid kind.Nothing
     empty [] l = sym o
     empty (x ∷ laid) l = absurd l
 items_right base size at names starts count here owed (x ∷ items) expanded laid room permitted bodies o e l =

@@ -1,5 +1,5 @@
 -- A code region of words, stubs, slots and c.ebreaks, has no finding.
-use Rattle.sfi_link.proofs.Prelude.{◌≡◌, ℕ, zero, suc, ◌+◌, ◌-◌, ◌*◌, ◌/◌, ◌%◌, ◌<◌, ◌≤◌, List, [], ◌∷◌, ◌++◌, length, take, drop, true, false, refl, sym, ap, ◌∙◌, subst, arith, append_assoc, append-nil, length-append, replicate, repeat, ◌==◌, not, pos, and_left, and_right, ne_eqb, eq-eqb, ints, w32, to_le_bytes, InRange, spelling, Instr, Op, Jalr, Ecall, Ebreak, Spells, c_ebreak, stub_of, Part, Piece, IsReading, rest_of, Slot, Short, PlacedName, slot_size, size_of, Bases, AreSlots}
+use Rattle.sfi_link.proofs.Prelude.{◌≡◌, ℕ, zero, suc, ◌+◌, ◌-◌, ◌*◌, ◌/◌, ◌%◌, ◌<◌, ◌≤◌, List, [], ◌∷◌, ◌++◌, length, take, drop, true, false, refl, sym, ap, ◌∙◌, subst, arith, append_assoc, append-nil, length-append, replicate, repeat, ◌==◌, not, pos, and_left, and_right, ne_eqb, eq-eqb, ints, w32, to_le_bytes, InRange, spelling, Instr, Op, Jalr, Ecall, Ebreak, Spells, c_ebreak, stub_of, Part, Piece, IsReading, rest_of, BundleSlot, Short, PlacedName, slot_size, size_of, Bases, AreSlots}
 use Rattle.rv_word.specs.declared.instr.RegOp.TheVariants.{And, Or}
 use Rattle.sfi_image.specs.Parts.{is_gate_of}
 use Rattle.sfi_image.specs.declared.bundle.BundlePlace.{BundlePlace}
@@ -91,7 +91,7 @@ both_words sandbox p n m owed between next front back bytes e long up a b =
     let all : bytes ≡ join (a.words ++ b.words) = e ∙ ap (λ l. l ++ back) a.bytes_are ∙ ap (λ l. join a.words ++ l) b.bytes_are ∙ sym (flat_map-append (λ w. w) a.words b.words) in
     record { words = a.words ++ b.words; bytes_are = all; quiet = quiet_append sandbox p n m owed between next a.words b.words (omega arith) a.quiet b.quiet }
 
-pub slots_quiet : (sandbox : ℕ) (p : Part) (at : Bases) (names : List PlacedName) (expanded : List Marked) (slots : List Slot) → InWords expanded slots → (n here : ℕ) (owed next : Owed) (bytes : List ℕ) → here ≡ p.code_base + 4 * n
+pub slots_quiet : (sandbox : ℕ) (p : Part) (at : Bases) (names : List PlacedName) (expanded : List Marked) (slots : List BundleSlot) → InWords expanded slots → (n here : ℕ) (owed next : Owed) (bytes : List ℕ) → here ≡ p.code_base + 4 * n
     → here + size_of slots < p.code_base + length p.code → AreRight p.code_base (length p.code) at names here owed slots next → AreSlots at names here slots bytes → AreWordsOf sandbox p n owed bytes next
 slots_quiet sandbox p at names _ _ no_word n here owed next bytes e room right slots = record { words = []; bytes_are = slots; quiet = right }
 slots_quiet sandbox p at names _ _ (two_forms l f g expanded words w) n here owed next bytes e room right (front, rest, one, (back, others, two, more, d), c) =
@@ -197,7 +197,7 @@ stubs_quiet sandbox p k (suc count) listed room =
 -- ---- the whole region
 
 -- the code is stubs, one a gate, slots, and c.ebreaks
-pub record IsFilled (p : Part) (at : Bases) (names : List PlacedName) (stubs : ℕ) (expanded : List Marked) (slots : List Slot) : Type 0 where
+pub record IsFilled (p : Part) (at : Bases) (names : List PlacedName) (stubs : ℕ) (expanded : List Marked) (slots : List BundleSlot) : Type 0 where
   pub start : at.start ≡ p.code_base + 16 * stubs
   pub bytes : List ℕ
   pub fill : ℕ
@@ -211,7 +211,7 @@ pub record IsFilled (p : Part) (at : Bases) (names : List PlacedName) (stubs : �
   pub right : AreRight p.code_base (length p.code) at names at.start kind.Nothing slots kind.Nothing
   pub listed : (k : ℕ) → k < stubs → is_gate_of p.gates (p.code_base + 16 * k) ≡ true
 
-pub filled_is_clean : (sandbox : ℕ) (p : Part) (at : Bases) (names : List PlacedName) (stubs : ℕ) (expanded : List Marked) (slots : List Slot) → IsFilled p at names stubs expanded slots → AreFindingsInWords sandbox p []
+pub filled_is_clean : (sandbox : ℕ) (p : Part) (at : Bases) (names : List PlacedName) (stubs : ℕ) (expanded : List Marked) (slots : List BundleSlot) → IsFilled p at names stubs expanded slots → AreFindingsInWords sandbox p []
 filled_is_clean sandbox p at names stubs expanded slots f =
     let c = cut at names at.start slots (replicate f.fill c_ebreak) f.bytes f.are in
     let code_length = ap length f.code ∙ length-append (repeat stubs (stub_of Sfiw)) f.bytes in

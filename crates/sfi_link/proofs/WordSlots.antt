@@ -1,5 +1,5 @@
 -- Slots of code in words: their instructions break no rule, one after another, and pay what is owed.
-use Rattle.sfi_link.proofs.Prelude.{◌≡◌, ◌⊎◌, ℕ, ◌+◌, List, [], ◌∷◌, ◌++◌, Option, Some, None, Bool, true, false, refl, sym, ap, ◌∙◌, subst, arith, inl, inr, MatchBool, Instr, Op, Slot, Wide, Short, PlacedName, slot_size, size_of, Bases, resolved}
+use Rattle.sfi_link.proofs.Prelude.{◌≡◌, ◌⊎◌, ℕ, ◌+◌, List, [], ◌∷◌, ◌++◌, Option, Some, None, Bool, true, false, refl, sym, ap, ◌∙◌, subst, arith, inl, inr, MatchBool, Instr, Op, BundleSlot, Wide, Short, PlacedName, slot_size, size_of, Bases, resolved}
 use Rattle.std.specs.Prelude.{if◌then◌else◌}
 use Rattle.rv_word.specs.declared.instr.RegOp.TheVariants.{And, Or}
 use Rattle.sfi_formats.specs.Formats.{is_data_register}
@@ -20,12 +20,12 @@ pub record IsRight (base size here : ℕ) (owed : Owed) (i : Instr) (next : Owed
   pub meets : Meets owed i next
 
 -- the slots' instructions are, from there on, one after another
-abbrev pub AreRight : ℕ → ℕ → Bases → List PlacedName → ℕ → Owed → List Slot → Owed → Type 0
+abbrev pub AreRight : ℕ → ℕ → Bases → List PlacedName → ℕ → Owed → List BundleSlot → Owed → Type 0
 AreRight base size at names here owed [] next = next ≡ owed
 AreRight base size at names here owed (s ∷ slots) next =
     (i : Instr) → resolved at names here s ≡ Some i → (between : Owed) × IsRight base size here owed i between × AreRight base size at names (here + slot_size s) between slots next
 
-pub right_append : (base size : ℕ) (at : Bases) (names : List PlacedName) (here : ℕ) (owed between next : Owed) (xs ys : List Slot) → AreRight base size at names here owed xs between
+pub right_append : (base size : ℕ) (at : Bases) (names : List PlacedName) (here : ℕ) (owed between next : Owed) (xs ys : List BundleSlot) → AreRight base size at names here owed xs between
     → AreRight base size at names (here + size_of xs) between ys next → AreRight base size at names here owed (xs ++ ys) next
 right_append base size at names here owed between next [] ys a b =
     let e : here + 0 ≡ here = omega arith in
@@ -37,12 +37,12 @@ right_append base size at names here owed between next (s ∷ xs) ys a b = λ i 
     (one.0, one.1, right_append base size at names (here + slot_size s) one.0 between next xs ys one.2 (subst (λ n. AreRight base size at names n between ys next) e b))
 
 -- at an instruction that is known
-pub right_known : (base size : ℕ) (at : Bases) (names : List PlacedName) (here : ℕ) (owed between next : Owed) (s : Slot) (i : Instr) (more : List Slot) → resolved at names here s ≡ Some i
+pub right_known : (base size : ℕ) (at : Bases) (names : List PlacedName) (here : ℕ) (owed between next : Owed) (s : BundleSlot) (i : Instr) (more : List BundleSlot) → resolved at names here s ≡ Some i
     → IsRight base size here owed i between → AreRight base size at names (here + slot_size s) between more next → AreRight base size at names here owed (s ∷ more) next
 right_known base size at names here owed between next s i more e one rest = λ j r.
     (between, subst (λ k. IsRight base size here owed k between) (some_same i j (sym e ∙ r)) one, rest)
 
-pub right_alone : (base size : ℕ) (at : Bases) (names : List PlacedName) (here : ℕ) (owed next : Owed) (rvc : Bool) (i : Instr) (slots : List Slot) → IsAlone rvc i slots → IsRight base size here owed i next
+pub right_alone : (base size : ℕ) (at : Bases) (names : List PlacedName) (here : ℕ) (owed next : Owed) (rvc : Bool) (i : Instr) (slots : List BundleSlot) → IsAlone rvc i slots → IsRight base size here owed i next
     → AreRight base size at names here owed slots next
 right_alone base size at names here owed next false i slots a one =
     subst (λ v. AreRight base size at names here owed v next) (sym a) (right_known base size at names here owed next next (Wide i) i [] refl one refl)

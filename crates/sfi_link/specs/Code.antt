@@ -19,8 +19,8 @@ use Rattle.rv_word.specs.declared.instr.RegOp.TheVariants.{Add}
 use Rattle.rv_comp.specs.Table.{allowed, expansion}
 use Rattle.rv_comp.specs.Fronts.{halfword_of}
 use Rattle.sfi_source.specs.Source.{upper, lower}
-use Rattle.sfi_rewrite.specs.declared.slot.Slot.{Slot}
-use Rattle.sfi_rewrite.specs.declared.slot.Slot.TheVariants.{Wide, Short, Jump, Upper, Lower, Region}
+use Rattle.sfi_rewrite.specs.declared.slot.BundleSlot.{BundleSlot}
+use Rattle.sfi_rewrite.specs.declared.slot.BundleSlot.TheVariants.{Wide, Short, Jump, Upper, Lower, Region}
 use Rattle.sfi_rewrite.specs.Expansion.{slot_size}
 
 -- ==== Addresses for names.
@@ -131,7 +131,7 @@ made_of f (Some address) = Some (f address)
 
 -- the instruction of the slot that stands at `here`, if its name has an address: an address is
 -- split as li splits a number
-abbrev pub resolved : Bases → List PlacedName → ℕ → Slot → Option Instr
+abbrev pub resolved : Bases → List PlacedName → ℕ → BundleSlot → Option Instr
 resolved at names here (Wide i) = Some i
 resolved at names here (Short f) = Some (expansion f)
 resolved at names here (Jump i name line) =
@@ -148,19 +148,19 @@ abbrev IsWord : List ℕ → Instr → Type 0
 IsWord bytes i = InRange i × (bytes ≡ to_le_bytes w32 (spelling i))
 
 -- the bytes of the slot, whose instruction this is: a form's are those of its own row
-abbrev pub AreSlotBytes : List ℕ → Slot → Instr → Type 0
+abbrev pub AreSlotBytes : List ℕ → BundleSlot → Instr → Type 0
 AreSlotBytes bytes (Short f) i = IsTrue (allowed f) × (bytes ≡ to_le_bytes w16 (halfword_of f))
 AreSlotBytes bytes _ i = IsWord bytes i
 
 -- the bytes of the slot that stands at `here`
-pub record IsSlot (at : Bases) (names : List PlacedName) (here : ℕ) (s : Slot)
+pub record IsSlot (at : Bases) (names : List PlacedName) (here : ℕ) (s : BundleSlot)
     (bytes : List ℕ) : Type 0 where
   pub instr : Instr
   pub resolves : resolved at names here s ≡ Some instr
   pub spelled : AreSlotBytes bytes s instr
 
 -- the bytes of slots that stand one after another, from `here` on
-abbrev pub AreSlots : Bases → List PlacedName → ℕ → List Slot → List ℕ → Type 0
+abbrev pub AreSlots : Bases → List PlacedName → ℕ → List BundleSlot → List ℕ → Type 0
 AreSlots at names here [] bytes = bytes ≡ []
 AreSlots at names here (s ∷ slots) bytes =
     (front : List ℕ) × (rest : List ℕ) × IsSlot at names here s front

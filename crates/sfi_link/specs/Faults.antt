@@ -7,8 +7,8 @@ use Rattle.sfi_formats.specs.Limits.{sandboxes_most, place_of}
 use Rattle.sfi_image.specs.declared.span.Span.{Span}
 use Rattle.sfi_image.specs.Spelling.{Part, AreApart, spans}
 use Rattle.sfi_formats.specs.declared.place.Place.{Place}
-use Rattle.sfi_rewrite.specs.declared.slot.Slot.{Slot}
-use Rattle.sfi_rewrite.specs.declared.slot.Slot.TheVariants.{Wide, Short, Jump, Upper, Lower, Region}
+use Rattle.sfi_rewrite.specs.declared.slot.BundleSlot.{BundleSlot}
+use Rattle.sfi_rewrite.specs.declared.slot.BundleSlot.TheVariants.{Wide, Short, Jump, Upper, Lower, Region}
 use Rattle.sfi_rewrite.specs.declared.placed.PlacedName.{PlacedName}
 use Rattle.sfi_rewrite.specs.Expansion.{slot_size, slots_of}
 use Rattle.sfi_rewrite.specs.Placement.{Placement}
@@ -45,7 +45,7 @@ IsOutOfReach here i target line f =
 
 -- the fault of the slot that stands at `here`; no jump leads to a name that is neither a gate's nor a
 -- place's in the code, so that it counts as unknown
-abbrev pub HasSlotFault : Bases → List PlacedName → ℕ → Slot → LinkFault → Type 0
+abbrev pub HasSlotFault : Bases → List PlacedName → ℕ → BundleSlot → LinkFault → Type 0
 HasSlotFault at names here (Wide i) f = ⊥
 HasSlotFault at names here (Short form) f = ⊥
 HasSlotFault at names here (Jump i name line) f =
@@ -56,7 +56,7 @@ HasSlotFault at names here (Lower rd name line) f = IsUnknown (value_at at names
 HasSlotFault at names here (Region rd name line) f = IsUnknown (base_at names name) line f
 
 -- this is the fault of the first slot from `here` on that has one; the slots before it have bytes
-abbrev pub IsSlotFault : Bases → List PlacedName → ℕ → List Slot → LinkFault → Type 0
+abbrev pub IsSlotFault : Bases → List PlacedName → ℕ → List BundleSlot → LinkFault → Type 0
 IsSlotFault at names here [] f = ⊥
 IsSlotFault at names here (s ∷ slots) f =
     HasSlotFault at names here s f

@@ -12,8 +12,8 @@ use Rattle.sfi_formats.specs.Formats.{code_most}
 use Rattle.sfi_source.specs.declared.item.SourceGate.{SourceGate}
 use Rattle.sfi_formats.specs.Limits.{region_least, place_of}
 use Rattle.sfi_image.specs.declared.part.Gate.{Gate}
-use Rattle.sfi_rewrite.specs.declared.slot.Slot.{Slot}
-use Rattle.sfi_rewrite.specs.declared.slot.Slot.TheVariants.{Short}
+use Rattle.sfi_rewrite.specs.declared.slot.BundleSlot.{BundleSlot}
+use Rattle.sfi_rewrite.specs.declared.slot.BundleSlot.TheVariants.{Short}
 use Rattle.sfi_rewrite.specs.Expansion.{size_of, slots_of}
 use Rattle.sfi_link.specs.Code.{stub_size, bases_of, stub_of, AreSlots}
 use Rattle.sfi_source.specs.Source.{Sandbox}
@@ -40,7 +40,7 @@ spans_at p size place =
 -- ---- how large the code region is
 
 -- c.ebreak, with which the region is filled: what runs on after the code stops there
-abbrev pub c_ebreak : Slot
+abbrev pub c_ebreak : BundleSlot
 c_ebreak = Short CEbreak
 
 -- the bytes of the stubs, the code and one c.ebreak

@@ -10,8 +10,8 @@ use Rattle.sfi_source.specs.Source.{Sandbox, IsSandbox, IsSource}
 use Rattle.sfi_image.specs.Spelling.{Part, code_region, data_region}
 use Rattle.sfi_image.specs.Parts.{IsImage}
 use Rattle.sfi_formats.specs.declared.place.Place.{Place}
-use Rattle.sfi_rewrite.specs.declared.slot.Slot.{Slot}
-use Rattle.sfi_rewrite.specs.declared.slot.Slot.TheVariants.{Wide, Short}
+use Rattle.sfi_rewrite.specs.declared.slot.BundleSlot.{BundleSlot}
+use Rattle.sfi_rewrite.specs.declared.slot.BundleSlot.TheVariants.{Wide, Short}
 use Rattle.sfi_rewrite.specs.declared.placed.PlacedName.{PlacedName}
 use Rattle.sfi_rewrite.specs.Expansion.{slot_size, size_of}
 use Rattle.sfi_rewrite.specs.Placement.{Placement, IsPlacement}
@@ -25,13 +25,13 @@ use Rattle.sfi_link.specs.Code.{bases_of, resolved}
 use Rattle.sfi_link.specs.Linked.{IsLinked, IsLinkedImage}
 
 -- the slot at `here` becomes i, if it waits for a name
-abbrev pub IsResolvedTo : Bases → List PlacedName → ℕ → Instr → Slot → Type 0
+abbrev pub IsResolvedTo : Bases → List PlacedName → ℕ → Instr → BundleSlot → Type 0
 IsResolvedTo at names here i (Wide j) = Unit {0}
 IsResolvedTo at names here i (Short f) = Unit {0}
 IsResolvedTo at names here i s = resolved at names here s ≡ Some i
 
 -- the same of slots that stand one after another, from `here` on
-abbrev pub AreResolvedTo : Bases → List PlacedName → ℕ → Instr → List Slot → Type 0
+abbrev pub AreResolvedTo : Bases → List PlacedName → ℕ → Instr → List BundleSlot → Type 0
 AreResolvedTo at names here i [] = Unit {0}
 AreResolvedTo at names here i (x ∷ slots) =
     IsResolvedTo at names here i x × AreResolvedTo at names (here + slot_size x) i slots
@@ -42,7 +42,7 @@ AreResolvedTo at names here i (x ∷ slots) =
 -- the item may be, with the address of its name, if it has one: wherever a memory holds the code of q
 -- and pc is at their place, they stand for `instr`; the regions of q are such as transparency asks for.
 pub record RunsAt (given : List Place) (number : ℕ) (p : Placement) (q : Part) (x : Item)
-    (slots : List Slot) (offset : ℕ) : Type 0 where
+    (slots : List BundleSlot) (offset : ℕ) : Type 0 where
   pub instr : Instr
   pub may_be : MayBe x.body instr
   pub resolves : AreResolvedTo (bases_of given number p) p.names (q.start + offset) instr slots

@@ -9,7 +9,7 @@ use Rattle.sfi_image.specs.Spelling.{Part, IsWord, AreApart}
 use Rattle.sfi_image.specs.Sources.{IsBounded}
 use Rattle.sfi_formats.specs.declared.place.Place.{Place}
 use Rattle.sfi_formats.specs.Limits.{place_of}
-use Rattle.sfi_rewrite.specs.declared.slot.Slot.{Slot}
+use Rattle.sfi_rewrite.specs.declared.slot.BundleSlot.{BundleSlot}
 use Rattle.sfi_rewrite.specs.declared.placed.PlacedName.{PlacedName}
 use Rattle.sfi_rewrite.specs.Placement.{Placement}
 use Rattle.sfi_link.specs.declared.bases.Bases.{Bases}
@@ -39,12 +39,12 @@ pub record HasRoomFor (at : Bases) (old more : ℕ) : Type 0 where
   pub within : old + more ≤ code_most Sfi2
 
 -- after the old bytes, which lie from the code base on, stand those of the slot
-abbrev pub IsPushed : Bases → List PlacedName → Slot → List ℕ → List ℕ → Type 0
+abbrev pub IsPushed : Bases → List PlacedName → BundleSlot → List ℕ → List ℕ → Type 0
 IsPushed at names s old new =
     (bytes : List ℕ) × (new ≡ old ++ bytes) × IsSlot at names (at.code + length old) s bytes
 
 -- after the old bytes, which lie from the code base on, stand those of the slots
-pub record AreWritten (at : Bases) (names : List PlacedName) (slots : List Slot)
+pub record AreWritten (at : Bases) (names : List PlacedName) (slots : List BundleSlot)
     (old new : List ℕ) : Type 0 where
   pub bytes : List ℕ
   pub appended : new ≡ old ++ bytes

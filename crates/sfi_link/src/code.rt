@@ -14,14 +14,14 @@ ghost use Rattle.sfi_source.specs.Source.{lower};
 ghost use Rattle.sfi_link.specs.Code.{value_at, base_at};
 ghost use Rattle.sfi_link.specs.private.{HasRoomFor, AreNear, IsPushed, AreWritten, Links};
 ghost use Rattle.sfi_link.specs.Faults.{IsUnknown, HasSlotFault, IsSlotFault};
-ghost use Rattle.sfi_rewrite.specs.declared.slot.Slot.TheVariants.{Jump};
+ghost use Rattle.sfi_rewrite.specs.declared.slot.BundleSlot.TheVariants.{Jump};
 
 use crate::address::{base_at, distance, lower, target_at, upper, value_at, with_offset};
 use crate::bases::Bases;
 use crate::fault::LinkFault;
 use rv_comp::{Form16, write_short, write_wide};
 use rv_word::{ImmOp, Instr, Reg, RegOp};
-use sfi_rewrite::{Bundle, PlacedName, Slot};
+use sfi_rewrite::{Bundle, BundleSlot, PlacedName};
 use std::alloc::AllocError;
 
 // Appends a 32-bit instruction.
@@ -126,7 +126,7 @@ fn push_slot(
     code: &mut Vec<u8>,
     at: Bases,
     names: &[PlacedName],
-    slot: Slot,
+    slot: BundleSlot,
 ) -> Result<(), LinkFault>
     requires near { AreNear at names.now }
     requires encodes { Encodes slot }
@@ -135,18 +135,18 @@ fn push_slot(
         (HasSlotFault at names.now (at.code + length code.old.items) slot) result }
 {
     match slot {
-        Slot::Wide(instr) => push_wide(code, instr)?,
-        Slot::Short(form) => push_short(code, form)?,
-        Slot::Jump { instr, name, line } => push_jump(code, at, names, instr, name, line)?,
-        Slot::Upper { rd, name, line } => {
+        BundleSlot::Wide(instr) => push_wide(code, instr)?,
+        BundleSlot::Short(form) => push_short(code, form)?,
+        BundleSlot::Jump { instr, name, line } => push_jump(code, at, names, instr, name, line)?,
+        BundleSlot::Upper { rd, name, line } => {
             let imm = upper(known_value(at, names, name, line)?);
             push_wide(code, Instr::Lui { rd, imm })?;
         }
-        Slot::Lower { rd, name, line } => {
+        BundleSlot::Lower { rd, name, line } => {
             let value = known_value(at, names, name, line)?;
             push_wide(code, add_lower(rd, value))?;
         }
-        Slot::Region { rd, name, line } => {
+        BundleSlot::Region { rd, name, line } => {
             let base = known_base(names, name, line)?;
             push_wide(code, add_base(rd, base))?;
         }
@@ -159,7 +159,7 @@ fn push_slots(
     code: &mut Vec<u8>,
     at: Bases,
     names: &[PlacedName],
-    slots: &[Slot],
+    slots: &[BundleSlot],
 ) -> Result<(), LinkFault>
     requires near { AreNear at names.now }
     requires encodes { All Encodes slots.now }

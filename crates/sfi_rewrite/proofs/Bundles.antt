@@ -1,14 +1,14 @@
 -- Bundles of whole expansions.
-use Rattle.sfi_rewrite.proofs.Prelude.{◌≡◌, replicate, ℕ, ◌+◌, ◌-◌, ◌<◌, ◌≤◌, ◌*◌, ◌%◌, List, [], ◌∷◌, ◌++◌, length, refl, sym, ap, ◌∙◌, subst, arith, append_assoc, append-nil, length-append, get_or, set, All, get_or_push, All-push, All-nil, All-cons, All-head, All-tail, Slot, size_of, slots_of, c_nop, AreBundles, IsFull, IsFilled, largest, bundle_size}
+use Rattle.sfi_rewrite.proofs.Prelude.{◌≡◌, replicate, ℕ, ◌+◌, ◌-◌, ◌<◌, ◌≤◌, ◌*◌, ◌%◌, List, [], ◌∷◌, ◌++◌, length, refl, sym, ap, ◌∙◌, subst, arith, append_assoc, append-nil, length-append, get_or, set, All, get_or_push, All-push, All-nil, All-cons, All-head, All-tail, BundleSlot, size_of, slots_of, c_nop, AreBundles, IsFull, IsFilled, largest, bundle_size}
 use Rattle.std.proofs.Math.Seq.{set-append_seam}
 use Rattle.sfi_rewrite.proofs.Sizes.{size_of-append, sizes, size_even, size_nops}
 
-pub slots_of-push : (full : List (List Slot)) (b : List Slot) → slots_of (full ++ b ∷ []) ≡ slots_of full ++ b
+pub slots_of-push : (full : List (List BundleSlot)) (b : List BundleSlot) → slots_of (full ++ b ∷ []) ≡ slots_of full ++ b
 slots_of-push [] b = append-nil b
 slots_of-push (x ∷ full) b = rw (slots_of-push full b) (sym (append_assoc x (slots_of full) b))
 
 -- the bytes of full bundles
-pub full_size : (full : List (List Slot)) → All IsFull full → size_of (slots_of full) ≡ bundle_size * length full
+pub full_size : (full : List (List BundleSlot)) → All IsFull full → size_of (slots_of full) ≡ bundle_size * length full
 full_size [] h = refl
 full_size (x ∷ full) h =
     let e = size_of-append x (slots_of full) in
@@ -19,34 +19,34 @@ full_size (x ∷ full) h =
 -- ---- the last bundle and those before it
 
 -- all but the last are full
-record Split (bundles : List (List Slot)) : Type 0 where
-  front : List (List Slot)
-  last : List Slot
+record Split (bundles : List (List BundleSlot)) : Type 0 where
+  front : List (List BundleSlot)
+  last : List BundleSlot
   are : bundles ≡ front ++ last ∷ []
   full : All IsFull front
   some : 0 < size_of last
   few : size_of last ≤ bundle_size
 
-split : (b : List Slot) (bundles : List (List Slot)) → AreBundles (b ∷ bundles) → Split (b ∷ bundles)
+split : (b : List BundleSlot) (bundles : List (List BundleSlot)) → AreBundles (b ∷ bundles) → Split (b ∷ bundles)
 split b [] h = record { front = []; last = b; are = refl; full = All-nil IsFull; some = h.0; few = h.1 }
 split b (c ∷ bundles) h =
     let r = split c bundles h.1 in
     record { front = b ∷ r.front; last = r.last; are = ap (λ v. b ∷ v) r.are; full = All-cons IsFull b r.front h.0 r.full; some = r.some; few = r.few }
 
-split_size : (bundles : List (List Slot)) (s : Split bundles) → size_of (slots_of bundles) ≡ bundle_size * length s.front + size_of s.last
+split_size : (bundles : List (List BundleSlot)) (s : Split bundles) → size_of (slots_of bundles) ≡ bundle_size * length s.front + size_of s.last
 split_size bundles s =
     let a = ap (λ v. size_of (slots_of v)) s.are ∙ ap size_of (slots_of-push s.front s.last) ∙ size_of-append (slots_of s.front) s.last in
     let b = full_size s.front s.full in
     omega arith
 
-bundles_push : (full : List (List Slot)) (last : List Slot) → All IsFull full → 0 < size_of last → size_of last ≤ 16 → AreBundles (full ++ last ∷ [])
+bundles_push : (full : List (List BundleSlot)) (last : List BundleSlot) → All IsFull full → 0 < size_of last → size_of last ≤ 16 → AreBundles (full ++ last ∷ [])
 bundles_push [] last h low high = (low, high)
 bundles_push (x ∷ []) last h low high = ((All-head IsFull x [] h), (low, high))
 bundles_push (x ∷ y ∷ full) last h low high = ((All-head IsFull x (y ∷ full) h), bundles_push (y ∷ full) last (All-tail IsFull x (y ∷ full) h) low high)
 
 -- ---- one more bundle
 
-all_full : (bundles : List (List Slot)) → AreBundles bundles → size_of (slots_of bundles) % bundle_size ≡ 0 → All IsFull bundles
+all_full : (bundles : List (List BundleSlot)) → AreBundles bundles → size_of (slots_of bundles) % bundle_size ≡ 0 → All IsFull bundles
 all_full [] h e = All-nil IsFull
 all_full (b ∷ bundles) h e =
     let s = split b bundles h in
@@ -56,23 +56,23 @@ all_full (b ∷ bundles) h e =
     subst (All IsFull) (sym s.are) (All-push IsFull s.front s.last s.full (omega arith))
 
 -- where the last one has no room
-pub begun : (bundles : List (List Slot)) (more : List Slot) → AreBundles bundles → size_of (slots_of bundles) % bundle_size ≡ 0
+pub begun : (bundles : List (List BundleSlot)) (more : List BundleSlot) → AreBundles bundles → size_of (slots_of bundles) % bundle_size ≡ 0
     → 0 < size_of more → size_of more ≤ bundle_size → AreBundles (bundles ++ more ∷ [])
 begun bundles more are e low high = bundles_push bundles more (all_full bundles are e) low high
 
 -- ---- more in the last bundle
 
 -- the bundles with more after the last one's slots
-pub record Grown (bundles : List (List Slot)) (more : List Slot) : Type 0 where
-  pub front : List (List Slot)
-  pub last : List Slot
+pub record Grown (bundles : List (List BundleSlot)) (more : List BundleSlot) : Type 0 where
+  pub front : List (List BundleSlot)
+  pub last : List BundleSlot
   pub were : bundles ≡ front ++ last ∷ []
   pub room : size_of last + size_of more ≤ bundle_size
   pub are : AreBundles (front ++ (last ++ more) ∷ [])
   pub slots : slots_of (front ++ (last ++ more) ∷ []) ≡ slots_of bundles ++ more
 
 -- where it has room
-pub grown : (bundles : List (List Slot)) (more : List Slot) → AreBundles bundles → 0 < size_of (slots_of bundles) % bundle_size
+pub grown : (bundles : List (List BundleSlot)) (more : List BundleSlot) → AreBundles bundles → 0 < size_of (slots_of bundles) % bundle_size
     → size_of (slots_of bundles) % bundle_size + size_of more ≤ bundle_size → Grown bundles more
 grown [] more are some fits = absurd (let z : size_of (slots_of []) ≡ 0 = refl in omega arith)
 grown (b ∷ bundles) more are some fits =
@@ -94,14 +94,14 @@ grown (b ∷ bundles) more are some fits =
 
 -- ---- at the fields of the code
 
-pub slots_fit : (old more now : List Slot) → now ≡ old → size_of old + size_of more ≤ bundle_size → length now + length more ≤ 8
+pub slots_fit : (old more now : List BundleSlot) → now ≡ old → size_of old + size_of more ≤ bundle_size → length now + length more ≤ 8
 slots_fit old more now e h =
     let a = (sizes old).least in
     let b = (sizes more).least in
     let c = ap length e in
     omega arith
 
-pub filled_begun : (bundles now : List (List Slot)) (old bundle more : List Slot) (end size : ℕ) → IsFilled bundles end → slots_of bundles ≡ old
+pub filled_begun : (bundles now : List (List BundleSlot)) (old bundle more : List BundleSlot) (end size : ℕ) → IsFilled bundles end → slots_of bundles ≡ old
     → end % bundle_size ≡ 0 → size ≡ size_of more → 0 < size → size_of old % bundle_size + size ≤ bundle_size
     → now ≡ bundles ++ bundle ∷ [] → bundle ≡ more → IsFilled now (end + size)
 filled_begun bundles now old bundle more end size f view none s some fits n b =
@@ -111,12 +111,12 @@ filled_begun bundles now old bundle more end size f view none s some fits n b =
     rw (n, b) (record { are_bundles = begun bundles more f.are_bundles (omega arith) (omega arith) (omega arith); end_is = omega arith })
 
 -- what holds where the last bundle, at that index, gets more slots
-pub record IsGrown (bundles : List (List Slot)) (old last more : List Slot) (index end : ℕ) : Type 0 where
+pub record IsGrown (bundles : List (List BundleSlot)) (old last more : List BundleSlot) (index end : ℕ) : Type 0 where
   pub room : size_of last + size_of more ≤ bundle_size
   pub filled : IsFilled (set bundles index (last ++ more)) end
   pub slots : slots_of (set bundles index (last ++ more)) ≡ old ++ more
 
-pub filled_grown : (bundles : List (List Slot)) (old last more : List Slot) (count end size : ℕ) → IsFilled bundles end → slots_of bundles ≡ old
+pub filled_grown : (bundles : List (List BundleSlot)) (old last more : List BundleSlot) (count end size : ℕ) → IsFilled bundles end → slots_of bundles ≡ old
     → ((end % bundle_size ≡ 0) → ⊥) → size ≡ size_of more → size_of old % bundle_size + size ≤ bundle_size
     → count ≡ length bundles → last ≡ get_or bundles (count - 1) last → IsGrown bundles old last more (count - 1) (end + size)
 filled_grown bundles old last more count end size f view some s fits c is =
@@ -132,15 +132,15 @@ filled_grown bundles old last more count end size f view some s fits c is =
     let d = ap size_of g.slots ∙ size_of-append (slots_of bundles) more in
     let filled : IsFilled (g.front ++ (g.last ++ more) ∷ []) (end + size) = record { are_bundles = g.are; end_is = omega arith } in
     record {
-      room = subst (λ (l : List Slot). size_of l + size_of more ≤ bundle_size) (sym same) g.room;
-      filled = subst (λ (b : List (List Slot)). IsFilled b (end + size)) (sym now) filled;
-      slots = ap slots_of now ∙ g.slots ∙ ap (λ (l : List Slot). l ++ more) view;
+      room = subst (λ (l : List BundleSlot). size_of l + size_of more ≤ bundle_size) (sym same) g.room;
+      filled = subst (λ (b : List (List BundleSlot)). IsFilled b (end + size)) (sym now) filled;
+      slots = ap slots_of now ∙ g.slots ∙ ap (λ (l : List BundleSlot). l ++ more) view;
     }
 
-pub nop_fits : (slots : List Slot) → size_of slots % bundle_size + 2 ≤ bundle_size
+pub nop_fits : (slots : List BundleSlot) → size_of slots % bundle_size + 2 ≤ bundle_size
 nop_fits slots = let g = size_even slots in omega arith
 
-pub nops_room : (old now : List Slot) (k nops : ℕ) → now ≡ old ++ replicate k c_nop → k < nops → size_of old + 2 * nops ≤ largest → size_of now + 2 ≤ largest
+pub nops_room : (old now : List BundleSlot) (k nops : ℕ) → now ≡ old ++ replicate k c_nop → k < nops → size_of old + 2 * nops ≤ largest → size_of now + 2 ≤ largest
 nops_room old now k nops e h r =
     let a = ap size_of e ∙ size_of-append old (replicate k c_nop) in
     let b = size_nops k in

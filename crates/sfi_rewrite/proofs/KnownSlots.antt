@@ -1,16 +1,16 @@
 -- What is known of the slots of a sandbox's items: they encode, and their names are the sandbox's.
-use Rattle.sfi_rewrite.proofs.Prelude.{◌≡◌, ℕ, zero, suc, ◌+◌, ◌*◌, ◌<◌, List, [], ◌∷◌, ◌++◌, replicate, refl, arith, inl, inr, ℤ, pos, negsuc, Bool, true, false, MatchBool, All, All-nil, All-cons, All-append, All-head, All-tail, All-replicate, Instr, And, Or, Op, OpImm, Load, Store, Jalr, Format, is_stack, Item, Body, Plain, To, High, Low, Base, IsBody, Slot, Wide, Short, Jump, Upper, Lower, Region, size_of, c_nop, writes_stack, is_on_stack, stack_pair, put_back, code_pair_slots, jump_to_x31, jump_slots, IsAlone, IsMasked, IsExpansionOf, AreLaidFrom, Encodes, IsNamedBelow, Addi, ints, alone, subst, sym}
+use Rattle.sfi_rewrite.proofs.Prelude.{◌≡◌, ℕ, zero, suc, ◌+◌, ◌*◌, ◌<◌, List, [], ◌∷◌, ◌++◌, replicate, refl, arith, inl, inr, ℤ, pos, negsuc, Bool, true, false, MatchBool, All, All-nil, All-cons, All-append, All-head, All-tail, All-replicate, Instr, And, Or, Op, OpImm, Load, Store, Jalr, Format, is_stack, Item, Body, Plain, To, High, Low, Base, IsBody, BundleSlot, Wide, Short, Jump, Upper, Lower, Region, size_of, c_nop, writes_stack, is_on_stack, stack_pair, put_back, code_pair_slots, jump_to_x31, jump_slots, IsAlone, IsMasked, IsExpansionOf, AreLaidFrom, Encodes, IsNamedBelow, Addi, ints, alone, subst, sym}
 use Rattle.rv_word.specs.Spelling.{InRange, IsImm12}
 
-pub record IsKnown (count : ℕ) (s : Slot) : Type 0 where
+pub record IsKnown (count : ℕ) (s : BundleSlot) : Type 0 where
   pub encodes : Encodes s
   pub name : IsNamedBelow count s
 
 -- the slot, and the same alone in a word
-abbrev pub IsKnownBoth : ℕ → Slot → Type 0
+abbrev pub IsKnownBoth : ℕ → BundleSlot → Type 0
 IsKnownBoth count s = IsKnown count s × IsKnown count (alone s)
 
-pub one : (count : ℕ) (s : Slot) → IsKnownBoth count s → All (IsKnownBoth count) (s ∷ [])
+pub one : (count : ℕ) (s : BundleSlot) → IsKnownBoth count s → All (IsKnownBoth count) (s ∷ [])
 one count s h = All-cons (IsKnownBoth count) s [] h (All-nil (IsKnownBoth count))
 
 pub wide_known : (count : ℕ) (i : Instr) → InRange i → IsKnownBoth count (Wide i)
@@ -22,7 +22,7 @@ two_known count i j h g = All-cons (IsKnownBoth count) (Wide i) (Wide j ∷ []) 
 three_known : (count : ℕ) (i j k : Instr) → InRange i → InRange j → InRange k → All (IsKnownBoth count) (Wide i ∷ Wide j ∷ Wide k ∷ [])
 three_known count i j k h g f = All-cons (IsKnownBoth count) (Wide i) (Wide j ∷ Wide k ∷ []) (wide_known count i h) (two_known count j k g f)
 
-pub alone_known : (count : ℕ) (rvc : Bool) (i : Instr) (slots : List Slot) → IsAlone rvc i slots → InRange i → All (IsKnownBoth count) slots
+pub alone_known : (count : ℕ) (rvc : Bool) (i : Instr) (slots : List BundleSlot) → IsAlone rvc i slots → InRange i → All (IsKnownBoth count) slots
 alone_known count false i slots e h = rw e (one count (Wide i) (wide_known count i h))
 alone_known count true i slots e h =
     elim e [
@@ -40,7 +40,7 @@ unfolding InRange
 code_known count rd a d h =
     three_known count (Op And 31 a 25) (Op Or 31 31 24) (Jalr rd 31 (pos 0)) (omega arith, h, omega arith) (omega arith, omega arith, omega arith) (d, omega arith, zero_fits)
 
-jump_known : (count rd a : ℕ) (imm : ℤ) (slots : List Slot) → slots ≡ jump_slots rd a imm → rd < 32 → a < 32 → IsImm12 imm → All (IsKnownBoth count) slots
+jump_known : (count rd a : ℕ) (imm : ℤ) (slots : List BundleSlot) → slots ≡ jump_slots rd a imm → rd < 32 → a < 32 → IsImm12 imm → All (IsKnownBoth count) slots
 unfolding InRange
 jump_known count rd a (pos zero) slots e d h i = rw e (code_known count rd a d h)
 jump_known count rd a (pos (suc n)) slots e d h i =
@@ -50,7 +50,7 @@ jump_known count rd a (negsuc n) slots e d h i =
     rw e (All-cons (IsKnownBoth count) (Wide (OpImm Addi 31 a (negsuc n))) (code_pair_slots 31 ++ jump_to_x31 rd ∷ [])
     (wide_known count (OpImm Addi 31 a (negsuc n)) (omega arith, h, i)) (code_known count rd 31 d (omega arith)))
 
-masked_known : (rvc : Bool) (i : Instr) (count : ℕ) (slots : List Slot) → IsMasked rvc i slots → InRange i → All (IsKnownBoth count) slots
+masked_known : (rvc : Bool) (i : Instr) (count : ℕ) (slots : List BundleSlot) → IsMasked rvc i slots → InRange i → All (IsKnownBoth count) slots
 unfolding InRange
 masked_known rvc (Load kind rd a imm) count slots e b =
     rw e (three_known count (Op And 31 a 27) (Op Or 31 31 26) (Load kind rd 31 imm) (omega arith, b.1, omega arith) (omega arith, omega arith, omega arith) (b.0, omega arith, b.2))
@@ -67,18 +67,18 @@ put_back_known : (count : ℕ) (writes : Bool) → All (IsKnownBoth count) (put_
 put_back_known count false = All-nil (IsKnownBoth count)
 put_back_known count true = pair_known count
 
-plain_known : (writes on rvc : Bool) (i : Instr) (count : ℕ) (slots : List Slot)
+plain_known : (writes on rvc : Bool) (i : Instr) (count : ℕ) (slots : List BundleSlot)
     → MatchBool writes (slots ≡ Wide i ∷ stack_pair) (MatchBool on (IsAlone rvc i slots) (IsMasked rvc i slots)) → InRange i → All (IsKnownBoth count) slots
 plain_known true on rvc i count slots e h = rw e (All-cons (IsKnownBoth count) (Wide i) stack_pair (wide_known count i h) (pair_known count))
 plain_known false true rvc i count slots e h = alone_known count rvc i slots e h
 plain_known false false rvc i count slots e h = masked_known rvc i count slots e h
 
 -- a slot that waits for its name, and what stands after it
-pub named_known : (count : ℕ) (s : Slot) (rest : List Slot) → Encodes s → IsNamedBelow count s → alone s ≡ s → All (IsKnownBoth count) rest → All (IsKnownBoth count) (s ∷ rest)
+pub named_known : (count : ℕ) (s : BundleSlot) (rest : List BundleSlot) → Encodes s → IsNamedBelow count s → alone s ≡ s → All (IsKnownBoth count) rest → All (IsKnownBoth count) (s ∷ rest)
 named_known count s rest e n same h =
     All-cons (IsKnownBoth count) s rest (record { encodes = e; name = n }, subst (IsKnown count) (sym same) (record { encodes = e; name = n })) h
 
-expansion_known : (f : Format) (line : ℕ) (rvc : Bool) (body : Body) (count : ℕ) (slots : List Slot) → IsExpansionOf f line rvc body slots → IsBody count body
+expansion_known : (f : Format) (line : ℕ) (rvc : Bool) (body : Body) (count : ℕ) (slots : List BundleSlot) → IsExpansionOf f line rvc body slots → IsBody count body
     → All (IsKnownBoth count) slots
 expansion_known f line rvc (Plain i) count slots e b = plain_known (writes_stack f i) (is_on_stack f i) rvc i count slots e b.0
 expansion_known f line rvc (To i name) count slots e b = rw e (named_known count (Jump i name line) [] b.0 b.2 refl (All-nil (IsKnownBoth count)))
@@ -92,7 +92,7 @@ expansion_known f line rvc (Base rd name) count slots e b =
 pub nops_known : (count n : ℕ) → All (IsKnown count) (replicate n c_nop)
 nops_known count n = All-replicate (IsKnown count) n c_nop (record { encodes = refl; name = tt })
 
-pub laid_known : (f : Format) (count end : ℕ) (items : List Item) (slots : List Slot) → AreLaidFrom f end items slots → All (λ x. IsBody count x.body) items → All (IsKnown count) slots
+pub laid_known : (f : Format) (count end : ℕ) (items : List Item) (slots : List BundleSlot) → AreLaidFrom f end items slots → All (λ x. IsBody count x.body) items → All (IsKnown count) slots
 laid_known f count end [] slots l b = rw l (All-nil (IsKnown count))
 laid_known f count end (x ∷ items) slots l b =
     let P : Item → Type 0 = λ x. IsBody count x.body in

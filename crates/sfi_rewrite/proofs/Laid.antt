@@ -1,21 +1,21 @@
 -- What is laid from an end on: one more item, a beginning of the items, and that there is one way.
-use Rattle.sfi_rewrite.proofs.Prelude.{◌≡◌, ℕ, zero, suc, ◌+◌, ◌*◌, List, [], ◌∷◌, ◌++◌, take, drop, replicate, refl, sym, ap, ◌∙◌, subst, arith, append_assoc, append-nil, inl, inr, Bool, true, false, MatchBool, Instr, Load, Store, Jalr, Format, Item, Body, Plain, Slot, Short, Wide, size_of, c_nop, writes_stack, is_on_stack, stack_pair, IsAlone, IsMasked, IsExpansionOf, IsExpansion, is_call, FillsGap, IsNext, AreLaidFrom, Form16}
+use Rattle.sfi_rewrite.proofs.Prelude.{◌≡◌, ℕ, zero, suc, ◌+◌, ◌*◌, List, [], ◌∷◌, ◌++◌, take, drop, replicate, refl, sym, ap, ◌∙◌, subst, arith, append_assoc, append-nil, inl, inr, Bool, true, false, MatchBool, Instr, Load, Store, Jalr, Format, Item, Body, Plain, BundleSlot, Short, Wide, size_of, c_nop, writes_stack, is_on_stack, stack_pair, IsAlone, IsMasked, IsExpansionOf, IsExpansion, is_call, FillsGap, IsNext, AreLaidFrom, Form16}
 use Rattle.rv_comp.proofs.Facts.{one_first_form}
 use Rattle.sfi_rewrite.proofs.Sizes.{size_of-append, size_nops}
 
 -- the c.nops and the expansion, and what stands after them
-pub size_next : (nops : ℕ) (expanded rest : List Slot) → size_of (replicate nops c_nop ++ (expanded ++ rest)) ≡ 2 * nops + size_of expanded + size_of rest
+pub size_next : (nops : ℕ) (expanded rest : List BundleSlot) → size_of (replicate nops c_nop ++ (expanded ++ rest)) ≡ 2 * nops + size_of expanded + size_of rest
 size_next nops expanded rest =
     let a = size_of-append (replicate nops c_nop) (expanded ++ rest) in
     let b = size_of-append expanded rest in
     let c = size_nops nops in
     omega arith
 
-moved : (f : Format) (end other : ℕ) (x : Item) (nops : ℕ) (expanded : List Slot) → end ≡ other → IsNext f end x nops expanded → IsNext f other x nops expanded
+moved : (f : Format) (end other : ℕ) (x : Item) (nops : ℕ) (expanded : List BundleSlot) → end ≡ other → IsNext f end x nops expanded → IsNext f other x nops expanded
 moved f end other x nops expanded e n = subst (λ (m : ℕ). IsNext f m x nops expanded) e n
 
 -- the laid slots with another item at the end
-pub laid_push : (f : Format) (end : ℕ) (items : List Item) (slots : List Slot) (x : Item) (nops : ℕ) (expanded : List Slot)
+pub laid_push : (f : Format) (end : ℕ) (items : List Item) (slots : List BundleSlot) (x : Item) (nops : ℕ) (expanded : List BundleSlot)
     → AreLaidFrom f end items slots → IsNext f (end + size_of slots) x nops expanded → AreLaidFrom f end (items ++ x ∷ []) (slots ++ (replicate nops c_nop ++ expanded))
 laid_push f end [] slots x nops expanded l n =
     let e : end + size_of slots ≡ end = (let z = ap size_of l in omega arith) in
@@ -35,14 +35,14 @@ laid_push f end (y ∷ items) slots x nops expanded l n =
     (k, first, rest ++ more, l.3, g, tail)
 
 -- what stands before item k, and what stands from it on
-pub record Split (f : Format) (end : ℕ) (items : List Item) (k : ℕ) (slots : List Slot) : Type 0 where
-  pub front : List Slot
-  pub back : List Slot
+pub record Split (f : Format) (end : ℕ) (items : List Item) (k : ℕ) (slots : List BundleSlot) : Type 0 where
+  pub front : List BundleSlot
+  pub back : List BundleSlot
   pub both : slots ≡ front ++ back
   pub before : AreLaidFrom f end (take k items) front
   pub after : AreLaidFrom f (end + size_of front) (drop k items) back
 
-pub laid_split : (f : Format) (end : ℕ) (items : List Item) (k : ℕ) (slots : List Slot) → AreLaidFrom f end items slots → Split f end items k slots
+pub laid_split : (f : Format) (end : ℕ) (items : List Item) (k : ℕ) (slots : List BundleSlot) → AreLaidFrom f end items slots → Split f end items k slots
 laid_split f end items zero slots l =
     record {
       front = [];
@@ -69,7 +69,7 @@ laid_split f end (x ∷ items) (suc k) slots l =
 
 -- ---- one way
 
-pub alone_one_way : (rvc : Bool) (i : Instr) (a b : List Slot) → IsAlone rvc i a → IsAlone rvc i b → a ≡ b
+pub alone_one_way : (rvc : Bool) (i : Instr) (a b : List BundleSlot) → IsAlone rvc i a → IsAlone rvc i b → a ≡ b
 alone_one_way false i a b x y = x ∙ sym y
 alone_one_way true i a b x y = cases x y
   where
@@ -79,25 +79,25 @@ alone_one_way true i a b x y = cases x y
     cases (inr x) (inl y) = absurd (x.0 y.0 y.1.meets y.1.expands)
     cases (inr x) (inr y) = x.1 ∙ sym y.1
 
-masked_one_way : (rvc : Bool) (i : Instr) (a b : List Slot) → IsMasked rvc i a → IsMasked rvc i b → a ≡ b
+masked_one_way : (rvc : Bool) (i : Instr) (a b : List BundleSlot) → IsMasked rvc i a → IsMasked rvc i b → a ≡ b
 masked_one_way rvc (Load kind rd rs1 imm) a b x y = x ∙ sym y
 masked_one_way rvc (Store width rs1 rs2 imm) a b x y = x ∙ sym y
 masked_one_way rvc (Jalr rd rs1 imm) a b x y = x ∙ sym y
 masked_one_way rvc other a b x y = alone_one_way rvc other a b x y
 
-plain_one_way : (writes on rvc : Bool) (i : Instr) (a b : List Slot)
+plain_one_way : (writes on rvc : Bool) (i : Instr) (a b : List BundleSlot)
     → MatchBool writes (a ≡ Wide i ∷ stack_pair) (MatchBool on (IsAlone rvc i a) (IsMasked rvc i a))
     → MatchBool writes (b ≡ Wide i ∷ stack_pair) (MatchBool on (IsAlone rvc i b) (IsMasked rvc i b)) → a ≡ b
 plain_one_way true on rvc i a b x y = x ∙ sym y
 plain_one_way false true rvc i a b x y = alone_one_way rvc i a b x y
 plain_one_way false false rvc i a b x y = masked_one_way rvc i a b x y
 
-expansion_of_one_way : (f : Format) (line : ℕ) (rvc : Bool) (body : Body) (a b : List Slot)
+expansion_of_one_way : (f : Format) (line : ℕ) (rvc : Bool) (body : Body) (a b : List BundleSlot)
     → IsExpansionOf f line rvc body a → IsExpansionOf f line rvc body b → a ≡ b
 expansion_of_one_way f line rvc (Plain i) a b x y = plain_one_way (writes_stack f i) (is_on_stack f i) rvc i a b x y
 expansion_of_one_way f line rvc _ a b x y = x ∙ sym y
 
-pub expansion_one_way : (f : Format) (x : Item) (a b : List Slot) → IsExpansion f x a → IsExpansion f x b → a ≡ b
+pub expansion_one_way : (f : Format) (x : Item) (a b : List BundleSlot) → IsExpansion f x a → IsExpansion f x b → a ≡ b
 expansion_one_way f x a b h g = expansion_of_one_way f x.line x.rvc x.body a b h g
 
 gap_one_way : (end : ℕ) (labelled call : Bool) (size m n : ℕ) → FillsGap end labelled call size m → FillsGap end labelled call size n → m ≡ n
@@ -107,19 +107,19 @@ gap_one_way end labelled call size m n a b =
     omega arith
 
 -- an item's c.nops and its expansion
-pub record SameNext (m n : ℕ) (a b : List Slot) : Type 0 where
+pub record SameNext (m n : ℕ) (a b : List BundleSlot) : Type 0 where
   pub nops : m ≡ n
   pub expanded : a ≡ b
 
-pub next_one_way : (f : Format) (end : ℕ) (x : Item) (m n : ℕ) (a b : List Slot) → IsNext f end x m a → IsNext f end x n b → SameNext m n a b
+pub next_one_way : (f : Format) (end : ℕ) (x : Item) (m n : ℕ) (a b : List BundleSlot) → IsNext f end x m a → IsNext f end x n b → SameNext m n a b
 next_one_way f end x m n a b s t =
     let e = expansion_one_way f x a b s.expansion t.expansion in
     record {
-      nops = gap_one_way end x.labelled (is_call x.body) (size_of b) m n (subst (λ (c : List Slot). FillsGap end x.labelled (is_call x.body) (size_of c) m) e s.gap) t.gap;
+      nops = gap_one_way end x.labelled (is_call x.body) (size_of b) m n (subst (λ (c : List BundleSlot). FillsGap end x.labelled (is_call x.body) (size_of c) m) e s.gap) t.gap;
       expanded = e;
     }
 
-pub laid_one_way : (f : Format) (end : ℕ) (items : List Item) (a b : List Slot) → AreLaidFrom f end items a → AreLaidFrom f end items b → a ≡ b
+pub laid_one_way : (f : Format) (end : ℕ) (items : List Item) (a b : List BundleSlot) → AreLaidFrom f end items a → AreLaidFrom f end items b → a ≡ b
 laid_one_way f end [] a b x y = x ∙ sym y
 laid_one_way f end (i ∷ items) a b x y =
     let same = next_one_way f end i x.0 y.0 x.1 y.1 x.3 y.3 in
@@ -127,6 +127,6 @@ laid_one_way f end (i ∷ items) a b x y =
     let rest = laid_one_way f (end + 2 * x.0 + size_of x.1) items x.2 y.2 x.5 (subst (λ (m : ℕ). AreLaidFrom f m items y.2) e y.5) in
     x.4
     ∙ ap (λ (n : ℕ). replicate n c_nop ++ (x.1 ++ x.2)) same.nops
-    ∙ ap (λ (s : List Slot). replicate y.0 c_nop ++ (s ++ x.2)) same.expanded
-    ∙ ap (λ (s : List Slot). replicate y.0 c_nop ++ (y.1 ++ s)) rest
+    ∙ ap (λ (s : List BundleSlot). replicate y.0 c_nop ++ (s ++ x.2)) same.expanded
+    ∙ ap (λ (s : List BundleSlot). replicate y.0 c_nop ++ (y.1 ++ s)) rest
     ∙ sym y.4

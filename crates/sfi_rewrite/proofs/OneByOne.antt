@@ -1,5 +1,5 @@
 -- One item after another.
-use Rattle.sfi_rewrite.proofs.Prelude.{◌≡◌, ℕ, ◌+◌, ◌*◌, ◌%◌, ◌<◌, ◌≤◌, List, [], ◌∷◌, ◌++◌, length, take, drop, get_or, replicate, refl, sym, ap, ◌∙◌, subst, arith, Some, append_assoc, inl, inr, length-append, Bool, slice_get, take_more, drop_more, get_or_append_left, get_or_push, All-push, cases_lt, slice_get-get_or, Format, code_most, Item, IsBody, Slot, RewriteFault, size_of, c_nop, IsExpansion, is_call, next_bundle, FillsGap, IsNext, IsLabelAt, HasNext, HaveBodies, AreLabels, largest, IsPermitted, AreFaultless, IsTooLarge, HasItemFault, UnlessMemory, IsItemFault, Sfi1, Sfi2, Sfiw, TooLarge, Memory, All, AreLaid, AreTooLarge, false}
+use Rattle.sfi_rewrite.proofs.Prelude.{◌≡◌, ℕ, ◌+◌, ◌*◌, ◌%◌, ◌<◌, ◌≤◌, List, [], ◌∷◌, ◌++◌, length, take, drop, get_or, replicate, refl, sym, ap, ◌∙◌, subst, arith, Some, append_assoc, inl, inr, length-append, Bool, slice_get, take_more, drop_more, get_or_append_left, get_or_push, All-push, cases_lt, slice_get-get_or, Format, code_most, Item, IsBody, BundleSlot, RewriteFault, size_of, c_nop, IsExpansion, is_call, next_bundle, FillsGap, IsNext, IsLabelAt, HasNext, HaveBodies, AreLabels, largest, IsPermitted, AreFaultless, IsTooLarge, HasItemFault, UnlessMemory, IsItemFault, Sfi1, Sfi2, Sfiw, TooLarge, Memory, All, AreLaid, AreTooLarge, false}
 use Rattle.sfi_rewrite.proofs.Sizes.{size_of-append, size_even, size_nops, IsOne, expansion_one}
 use Rattle.sfi_rewrite.proofs.Laid.{laid_push}
 
@@ -21,19 +21,19 @@ whole_bundles Sfiw = refl
 
 -- ---- one item
 
-pub even_size : (size : ℕ) (slots : List Slot) → size ≡ size_of slots → size % 2 ≡ 0
+pub even_size : (size : ℕ) (slots : List BundleSlot) → size ≡ size_of slots → size % 2 ≡ 0
 even_size size slots e = let h = size_even slots in omega arith
 
-pub is_some : (size : ℕ) (slots : List Slot) → size ≡ size_of slots → IsOne slots → 0 < size
+pub is_some : (size : ℕ) (slots : List BundleSlot) → size ≡ size_of slots → IsOne slots → 0 < size
 is_some size slots e o = let h = o.some in omega arith
 
-pub is_few : (size : ℕ) (slots : List Slot) → size ≡ size_of slots → IsOne slots → size ≤ 16
+pub is_few : (size : ℕ) (slots : List BundleSlot) → size ≡ size_of slots → IsOne slots → size ≤ 16
 is_few size slots e o = let h = o.few in omega arith
 
-pub item_one : (f : Format) (x : Item) (expanded slots : List Slot) → IsExpansion f x expanded → slots ≡ expanded → IsOne slots
+pub item_one : (f : Format) (x : Item) (expanded slots : List BundleSlot) → IsExpansion f x expanded → slots ≡ expanded → IsOne slots
 item_one f x expanded slots e s = rw s (expansion_one f x expanded e)
 
-pub next_is : (f : Format) (x : Item) (code expanded slots : List Slot) (call : Bool) (end size nops : ℕ)
+pub next_is : (f : Format) (x : Item) (code expanded slots : List BundleSlot) (call : Bool) (end size nops : ℕ)
     → IsExpansion f x expanded → slots ≡ expanded → end ≡ size_of code → call ≡ is_call x.body → size ≡ size_of slots
     → FillsGap end x.labelled call size nops → IsNext f (size_of code) x nops expanded
 next_is f x code expanded slots call end size nops e s n c z g =
@@ -45,13 +45,13 @@ next_is f x code expanded slots call end size nops e s n c z g =
           (subst (λ (m : ℕ). FillsGap end x.labelled call m nops) (z ∙ ap size_of s) g));
     }
 
-pub too_large : (f : Format) (sandbox : ℕ) (x : Item) (code expanded slots : List Slot) (call : Bool) (end size nops : ℕ)
+pub too_large : (f : Format) (sandbox : ℕ) (x : Item) (code expanded slots : List BundleSlot) (call : Bool) (end size nops : ℕ)
     → IsExpansion f x expanded → slots ≡ expanded → end ≡ size_of code → call ≡ is_call x.body → size ≡ size_of slots
     → FillsGap end x.labelled call size nops → code_most f ≤ end + 2 * nops → IsTooLarge f sandbox (size_of code) x (TooLarge sandbox)
 too_large f sandbox x code expanded slots call end size nops e s n c z g h =
     record { nops = nops; expanded = expanded; next = next_is f x code expanded slots call end size nops e s n c z g; beyond = omega arith; fault_is = refl }
 
-pub fits_bundle : (code then : List Slot) (labelled call : Bool) (end size nops : ℕ)
+pub fits_bundle : (code then : List BundleSlot) (labelled call : Bool) (end size nops : ℕ)
     → end ≡ size_of code → FillsGap end labelled call size nops → then ≡ code ++ replicate nops c_nop → size_of then % 16 + size ≤ 16
 fits_bundle code then labelled call end size nops e g t =
     let a = ap size_of t ∙ size_of-append code (replicate nops c_nop) in
@@ -59,7 +59,7 @@ fits_bundle code then labelled call end size nops e g t =
     let h = g.stands.in_bundle in
     omega arith
 
-pub fits_code : (f : Format) (code then : List Slot) (labelled call : Bool) (end size nops : ℕ)
+pub fits_code : (f : Format) (code then : List BundleSlot) (labelled call : Bool) (end size nops : ℕ)
     → end ≡ size_of code → FillsGap end labelled call size nops → then ≡ code ++ replicate nops c_nop → end + 2 * nops < code_most f → size_of then + size ≤ code_most f
 fits_code f code then labelled call end size nops e g t l =
     let most = whole_bundles f in
@@ -68,7 +68,7 @@ fits_code f code then labelled call end size nops e g t l =
     let h = g.stands.in_bundle in
     omega arith
 
-pub has_next : (f : Format) (x : Item) (code then now expanded slots : List Slot) (call : Bool) (end size nops : ℕ)
+pub has_next : (f : Format) (x : Item) (code then now expanded slots : List BundleSlot) (call : Bool) (end size nops : ℕ)
     → IsExpansion f x expanded → slots ≡ expanded → end ≡ size_of code → call ≡ is_call x.body → size ≡ size_of slots
     → FillsGap end x.labelled call size nops → then ≡ code ++ replicate nops c_nop → now ≡ then ++ slots → end + 2 * nops < code_most f → HasNext f code x now
 has_next f x code then now expanded slots call end size nops e s n c z g t w l =
@@ -100,13 +100,13 @@ stands_at items k x h e = record {
 pub next_permitted : (f : Format) (items : List Item) (k : ℕ) (x : Item) → StandsAt items k x → All (IsPermitted f) (take k items) → IsPermitted f x → All (IsPermitted f) (take (k + 1) items)
 next_permitted f items k x at p is = subst (All (IsPermitted f)) (sym at.more) (All-push (IsPermitted f) (take k items) x p is)
 
-laid_more : (f : Format) (items : List Item) (k : ℕ) (x : Item) (code : List Slot) (nops : ℕ) (expanded : List Slot)
+laid_more : (f : Format) (items : List Item) (k : ℕ) (x : Item) (code : List BundleSlot) (nops : ℕ) (expanded : List BundleSlot)
     → StandsAt items k x → AreLaid f (take k items) code → IsNext f (size_of code) x nops expanded → AreLaid f (take (k + 1) items) (code ++ (replicate nops c_nop ++ expanded))
 laid_more f items k x code nops expanded at l n =
     subst (λ v. AreLaid f v (code ++ (replicate nops c_nop ++ expanded))) (sym at.more)
     (laid_push f 0 (take k items) code x nops expanded l (subst (λ (m : ℕ). IsNext f m x nops expanded) (let z : size_of code ≡ 0 + size_of code = omega arith in z) n))
 
-pub one_more : (f : Format) (items : List Item) (k : ℕ) (x : Item) (code now : List Slot)
+pub one_more : (f : Format) (items : List Item) (k : ℕ) (x : Item) (code now : List BundleSlot)
     → k < length items → x ≡ get_or items k x → AreFaultless false f k items code → IsPermitted f x → HasNext f code x now → AreFaultless false f (k + 1) items now
 one_more f items k x code now h e l p n =
     let at = stands_at items k x h e in
@@ -116,7 +116,7 @@ one_more f items k x code now h e l p n =
       fits = subst (λ v. size_of v ≤ code_most f) n.slots n.fits;
     })
 
-pub label_here : (f : Format) (items : List Item) (k end place : ℕ) (code : List Slot) → AreFaultless false f k items code → end ≡ size_of code → place ≡ next_bundle end → IsLabelAt false f items k place
+pub label_here : (f : Format) (items : List Item) (k end place : ℕ) (code : List BundleSlot) → AreFaultless false f k items code → end ≡ size_of code → place ≡ next_bundle end → IsLabelAt false f items k place
 label_here f items k end place code l e p = (code, l.laid, p ∙ ap next_bundle e)
 
 -- ---- labels
@@ -161,18 +161,18 @@ unless_is P Memory h = tt
 unless_is P f h = h
 
 -- a fault that the item there has wherever it stands
-pub item_fault : (w : Bool) (format : Format) (sandbox : ℕ) (items : List Item) (k : ℕ) (x : Item) (code : List Slot) (f : RewriteFault)
+pub item_fault : (w : Bool) (format : Format) (sandbox : ℕ) (items : List Item) (k : ℕ) (x : Item) (code : List BundleSlot) (f : RewriteFault)
     → StandsAt items k x → AreFaultless w format k items code → HasItemFault format x f → IsItemFault w format sandbox items f
 item_fault w format sandbox items k x code Memory at l h = absurd h
 item_fault w format sandbox items k x code (TooLarge number) at l h = absurd h
 item_fault w format sandbox items k x code _ at l h = record { index = k; item = x; at = at.at; before = code; faultless = l; has = h }
 
 -- or there is no room for it
-pub room_fault : (w : Bool) (format : Format) (sandbox : ℕ) (items : List Item) (k : ℕ) (x : Item) (code : List Slot)
+pub room_fault : (w : Bool) (format : Format) (sandbox : ℕ) (items : List Item) (k : ℕ) (x : Item) (code : List BundleSlot)
     → StandsAt items k x → AreFaultless w format k items code → IsPermitted format x → AreTooLarge w format (k + 1) items → IsItemFault w format sandbox items (TooLarge sandbox)
 room_fault w format sandbox items k x code at l p large = record { index = k; item = x; at = at.at; before = code; faultless = l; has = (p, large, refl) }
 
-pub place_fault : (format : Format) (sandbox : ℕ) (items : List Item) (k : ℕ) (x : Item) (code : List Slot) (f : RewriteFault)
+pub place_fault : (format : Format) (sandbox : ℕ) (items : List Item) (k : ℕ) (x : Item) (code : List BundleSlot) (f : RewriteFault)
     → StandsAt items k x → AreFaultless false format k items code → IsPermitted format x → IsTooLarge format sandbox (size_of code) x f → IsItemFault false format sandbox items f
 place_fault format sandbox items k x code f at l p t =
     let more = replicate t.nops c_nop ++ t.expanded in

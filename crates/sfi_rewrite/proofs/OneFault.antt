@@ -1,5 +1,5 @@
 -- A source has one fault, or is rewritten.
-use Rattle.sfi_rewrite.proofs.Prelude.{◌≡◌, ℕ, zero, suc, ◌+◌, ◌<◌, ◌≤◌, List, [], ◌∷◌, length, take, sym, ap, ◌∙◌, subst, arith, Some, inl, inr, ◌⊎◌, Bool, true, false, slice_get, All, AllZip, cases_order, get_or-take, length-take-le, slice_get_within, get_or_from_slice_get, Format, Item, Sandbox, Slot, RewriteFault, Placement, IsPermitted, AreFaultless, HasItemFault, HasFault, IsItemFault, IsFaultless, IsSourceFault, IsRewritten, IsSandboxFault, item_names_withheld, is_ecall, is_stack_write, true≢false, has_words}
+use Rattle.sfi_rewrite.proofs.Prelude.{◌≡◌, ℕ, zero, suc, ◌+◌, ◌<◌, ◌≤◌, List, [], ◌∷◌, length, take, sym, ap, ◌∙◌, subst, arith, Some, inl, inr, ◌⊎◌, Bool, true, false, slice_get, All, AllZip, cases_order, get_or-take, length-take-le, slice_get_within, get_or_from_slice_get, Format, Item, Sandbox, BundleSlot, RewriteFault, Placement, IsPermitted, AreFaultless, HasItemFault, HasFault, IsItemFault, IsFaultless, IsSourceFault, IsRewritten, IsSandboxFault, item_names_withheld, is_ecall, is_stack_write, true≢false, has_words}
 use Rattle.sfi_rewrite.specs.declared.fault.RewriteFault.TheVariants.{ReservedRegister, TooLarge, Memory, StackWrite, Jump, Ecall}
 use Rattle.sfi_rewrite.proofs.WordLaid.{first_fits}
 
@@ -44,19 +44,19 @@ either w format sandbox items k x (TooLarge number) h = inr (h.0, ap TooLarge h.
 either w format sandbox items k x _ h = inl h
 
 -- none of the first j has a fault, where these have none
-large : (w : Bool) (format : Format) (sandbox : ℕ) (items : List Item) (j k : ℕ) (x : Item) (slots : List Slot) → AreFaultless w format j items slots → k < j → HasFault w format sandbox items k x (TooLarge sandbox) → ⊥
+large : (w : Bool) (format : Format) (sandbox : ℕ) (items : List Item) (j k : ℕ) (x : Item) (slots : List BundleSlot) → AreFaultless w format j items slots → k < j → HasFault w format sandbox items k x (TooLarge sandbox) → ⊥
 large w format sandbox items j k x slots g low h =
     let fits = first_fits w format items (k + 1) j h.1.0 slots (omega arith) h.1.1 g.laid in
     let over = h.1.2 in
     let room = g.fits in
     omega arith
 
-none : (w : Bool) (format : Format) (sandbox : ℕ) (items : List Item) (j k : ℕ) (x : Item) (slots : List Slot) (f : RewriteFault)
+none : (w : Bool) (format : Format) (sandbox : ℕ) (items : List Item) (j k : ℕ) (x : Item) (slots : List BundleSlot) (f : RewriteFault)
     → AreFaultless w format j items slots → k < j → IsPermitted format x → HasFault w format sandbox items k x f → IsEither format sandbox x f → ⊥
 none w format sandbox items j k x slots f g low p has (inl h) = not_permitted format x f h p
 none w format sandbox items j k x slots f g low p has (inr h) = large w format sandbox items j k x slots g low (subst (λ e. HasFault w format sandbox items k x e) h.1 has)
 
-item_before : (w : Bool) (format : Format) (sandbox : ℕ) (items : List Item) (f : RewriteFault) (j : ℕ) (slots : List Slot)
+item_before : (w : Bool) (format : Format) (sandbox : ℕ) (items : List Item) (f : RewriteFault) (j : ℕ) (slots : List BundleSlot)
     → (a : IsItemFault w format sandbox items f) → AreFaultless w format j items slots → a.index < j → j ≤ length items → ⊥
 item_before w format sandbox items f j slots a g low high =
     let l = length-take-le j items high in

@@ -1,20 +1,20 @@
 -- A sandbox has one placement.
-use Rattle.sfi_rewrite.proofs.Prelude.{◌≡◌, ℕ, ◌<◌, ◌≤◌, List, [], ◌∷◌, ◌++◌, take, replicate, refl, sym, ap, ◌∙◌, subst, arith, append-nil, drop, AllZip, Format, Item, Named, Code, Sandbox, named, Slot, PlacedName, size_of, slots_of, c_nop, Placement, IsPlacedName, HasEndLabel, FillsEnd, AreBundles, IsPlacement, IsRewritten, SourceGate, FillsEndIn, Bool, true, false, IsLabelAt, label_place, has_words}
+use Rattle.sfi_rewrite.proofs.Prelude.{◌≡◌, ℕ, ◌<◌, ◌≤◌, List, [], ◌∷◌, ◌++◌, take, replicate, refl, sym, ap, ◌∙◌, subst, arith, append-nil, drop, AllZip, Format, Item, Named, Code, Sandbox, named, BundleSlot, PlacedName, size_of, slots_of, c_nop, Placement, IsPlacedName, HasEndLabel, FillsEnd, AreBundles, IsPlacement, IsRewritten, SourceGate, FillsEndIn, Bool, true, false, IsLabelAt, label_place, has_words}
 use Rattle.sfi_rewrite.specs.declared.placed.PlacedName.TheVariants as placed
 use Rattle.sfi_rewrite.proofs.Sizes.{size_of-append, size_at_least, begins_with}
 use Rattle.sfi_rewrite.proofs.WordLaid.{laid_in_one_way}
 
 -- ---- bundles
 
-record SameParts (xs ys us vs : List Slot) : Type 0 where
+record SameParts (xs ys us vs : List BundleSlot) : Type 0 where
   front : xs ≡ ys
   back : us ≡ vs
 
-none : (slots : List Slot) → size_of slots ≡ 0 → slots ≡ []
+none : (slots : List BundleSlot) → size_of slots ≡ 0 → slots ≡ []
 none [] e = refl
 none (x ∷ slots) e = absurd (let h = size_at_least x slots in omega arith)
 
-same_front : (xs ys us vs : List Slot) → xs ++ us ≡ ys ++ vs → size_of xs ≡ size_of ys → SameParts xs ys us vs
+same_front : (xs ys us vs : List BundleSlot) → xs ++ us ≡ ys ++ vs → size_of xs ≡ size_of ys → SameParts xs ys us vs
 same_front xs ys us vs e s =
     let r = begins_with ys xs us vs e (omega arith) in
     let size = ap size_of r.front ∙ size_of-append xs r.more in
@@ -22,20 +22,20 @@ same_front xs ys us vs e s =
     record { front = sym (r.front ∙ ap (λ v. xs ++ v) empty ∙ append-nil xs); back = r.back ∙ ap (λ v. v ++ vs) empty }
 
 -- what is known of the first of some bundles
-record IsFirstBundle (b : List Slot) (rest : List (List Slot)) : Type 0 where
+record IsFirstBundle (b : List BundleSlot) (rest : List (List BundleSlot)) : Type 0 where
   some : 0 < size_of b
   few : size_of b ≤ 16
 
-first_bundle : (b : List Slot) (rest : List (List Slot)) → AreBundles (b ∷ rest) → IsFirstBundle b rest
+first_bundle : (b : List BundleSlot) (rest : List (List BundleSlot)) → AreBundles (b ∷ rest) → IsFirstBundle b rest
 first_bundle b [] h = record { some = h.0; few = h.1 }
 first_bundle b (c ∷ rest) h = let s = h.0 in record { some = omega arith; few = omega arith }
 
-rest_bundles : (b : List Slot) (rest : List (List Slot)) → AreBundles (b ∷ rest) → AreBundles rest
+rest_bundles : (b : List BundleSlot) (rest : List (List BundleSlot)) → AreBundles (b ∷ rest) → AreBundles rest
 rest_bundles b [] h = tt
 rest_bundles b (c ∷ rest) h = h.1
 
 -- one bundle has fewer slots than two
-not_alone : (b c d : List Slot) (cs : List (List Slot)) → AreBundles (b ∷ []) → AreBundles (c ∷ d ∷ cs) → slots_of (b ∷ []) ≡ slots_of (c ∷ d ∷ cs) → ⊥
+not_alone : (b c d : List BundleSlot) (cs : List (List BundleSlot)) → AreBundles (b ∷ []) → AreBundles (c ∷ d ∷ cs) → slots_of (b ∷ []) ≡ slots_of (c ∷ d ∷ cs) → ⊥
 not_alone b c d cs h g e =
     let a = ap size_of e in
     let x = size_of-append b [] in
@@ -47,7 +47,7 @@ not_alone b c d cs h g e =
     let k = g.0 in
     omega arith
 
-first_size : (b c : List Slot) (bs cs : List (List Slot)) → AreBundles (b ∷ bs) → AreBundles (c ∷ cs) → slots_of (b ∷ bs) ≡ slots_of (c ∷ cs) → size_of b ≡ size_of c
+first_size : (b c : List BundleSlot) (bs cs : List (List BundleSlot)) → AreBundles (b ∷ bs) → AreBundles (c ∷ cs) → slots_of (b ∷ bs) ≡ slots_of (c ∷ cs) → size_of b ≡ size_of c
 first_size b c [] [] h g e =
     let a = ap size_of e in
     let x = size_of-append b [] in
@@ -58,7 +58,7 @@ first_size b c (d ∷ bs) [] h g e = absurd (not_alone c b d bs g h (sym e))
 first_size b c (d ∷ bs) (f ∷ cs) h g e = h.0 ∙ sym g.0
 
 -- bundles have slots
-not_none : (b : List Slot) (bs : List (List Slot)) → AreBundles (b ∷ bs) → [] ≡ slots_of (b ∷ bs) → ⊥
+not_none : (b : List BundleSlot) (bs : List (List BundleSlot)) → AreBundles (b ∷ bs) → [] ≡ slots_of (b ∷ bs) → ⊥
 not_none b bs h e =
     let a = ap size_of e in
     let x = size_of-append b (slots_of bs) in
@@ -66,7 +66,7 @@ not_none b bs h e =
     let j = (first_bundle b bs h).some in
     omega arith
 
-bundles_one_way : (bs cs : List (List Slot)) → AreBundles bs → AreBundles cs → slots_of bs ≡ slots_of cs → bs ≡ cs
+bundles_one_way : (bs cs : List (List BundleSlot)) → AreBundles bs → AreBundles cs → slots_of bs ≡ slots_of cs → bs ≡ cs
 bundles_one_way [] [] h g e = refl
 bundles_one_way [] (c ∷ cs) h g e = absurd (not_none c cs g e)
 bundles_one_way (b ∷ bs) [] h g e = absurd (not_none b bs h (sym e))
@@ -113,13 +113,13 @@ same_placement p q f m d g n b c =
     ∙ ap (λ (v : List SourceGate). record p { format = q.format; movable = q.movable; data_size = q.data_size; gates = v }) g
     ∙ ap (λ (v : List PlacedName). record p { format = q.format; movable = q.movable; data_size = q.data_size; gates = q.gates; names = v }) n
     ∙ ap (λ (v : List ℕ). record p { format = q.format; movable = q.movable; data_size = q.data_size; gates = q.gates; names = q.names; bytes = v }) b
-    ∙ ap (λ (v : List (List Slot)). record q { bundles = v }) c
+    ∙ ap (λ (v : List (List BundleSlot)). record q { bundles = v }) c
 
 pub placement_one_way : (s : Sandbox) (p q : Placement) → IsPlacement s p → IsPlacement s q → p ≡ q
 placement_one_way s p q a b =
     let slots = laid_in_one_way (has_words s.format) s.format s.items [] a.slots b.slots a.laid b.laid in
-    let nops = end_in_one_way (has_words s.format) (size_of b.slots) (HasEndLabel s) a.nops b.nops (subst (λ (v : List Slot). FillsEndIn (has_words s.format) (size_of v) (HasEndLabel s) a.nops) slots a.end) b.end in
-    let code = a.code ∙ ap (λ (v : List Slot). v ++ replicate a.nops c_nop) slots ∙ ap (λ (n : ℕ). b.slots ++ replicate n c_nop) nops ∙ sym b.code in
+    let nops = end_in_one_way (has_words s.format) (size_of b.slots) (HasEndLabel s) a.nops b.nops (subst (λ (v : List BundleSlot). FillsEndIn (has_words s.format) (size_of v) (HasEndLabel s) a.nops) slots a.end) b.end in
+    let code = a.code ∙ ap (λ (v : List BundleSlot). v ++ replicate a.nops c_nop) slots ∙ ap (λ (n : ℕ). b.slots ++ replicate n c_nop) nops ∙ sym b.code in
     same_placement p q (a.format ∙ sym b.format) (a.movable ∙ sym b.movable) (a.data_size ∙ sym b.data_size) (a.gates ∙ sym b.gates) (names_one_way s.format s.items (named s) p.names q.names a.names b.names)
     (a.bytes ∙ sym b.bytes) (bundles_one_way p.bundles q.bundles a.bundles b.bundles code)
 

@@ -1,5 +1,5 @@
 -- The placement of a sandbox keeps what the type of what is placed keeps.
-use Rattle.sfi_rewrite.proofs.Prelude.{◌≡◌, ℕ, suc, ◌+◌, ◌-◌, ◌*◌, ◌/◌, ◌%◌, ◌<◌, ◌≤◌, List, [], ◌∷◌, ◌++◌, length, take, drop, get_or, replicate, refl, sym, ap, ◌∙◌, subst, arith, Some, None, Option, inl, inr, slice_get, IsTrue, ◌↔◌, Contains, Bool, false, IsPermitted, append-nil, MatchOption, All, AllZip, cases_lt, take_all, length-map, All-nil, All-cons, All-append, All-head, All-tail, All-contains_itself, slice_get-get_or, Ecall, Format, code_most, Item, Plain, Named, Gate, Code, Data, Unknown, Sandbox, IsSandbox, IsThere, IsBody, named, Slot, PlacedName, size_of, slots_of, c_nop, next_bundle, AreLaid, AreLaidFrom, IsLabelAt, Placement, IsPlacedName, HasEndLabel, FillsEnd, AreBundles, IsPlacedThere, IsPlacedGate, IsPlacedPart, HaveBodies, HasEnd, IsRewritten, SourceGate, Sfi1, Sfi2, Sfiw, AreLaidIn, FillsEndIn, drop-cons, AreFaultless, true}
+use Rattle.sfi_rewrite.proofs.Prelude.{◌≡◌, ℕ, suc, ◌+◌, ◌-◌, ◌*◌, ◌/◌, ◌%◌, ◌<◌, ◌≤◌, List, [], ◌∷◌, ◌++◌, length, take, drop, get_or, replicate, refl, sym, ap, ◌∙◌, subst, arith, Some, None, Option, inl, inr, slice_get, IsTrue, ◌↔◌, Contains, Bool, false, IsPermitted, append-nil, MatchOption, All, AllZip, cases_lt, take_all, length-map, All-nil, All-cons, All-append, All-head, All-tail, All-contains_itself, slice_get-get_or, Ecall, Format, code_most, Item, Plain, Named, Gate, Code, Data, Unknown, Sandbox, IsSandbox, IsThere, IsBody, named, BundleSlot, PlacedName, size_of, slots_of, c_nop, next_bundle, AreLaid, AreLaidFrom, IsLabelAt, Placement, IsPlacedName, HasEndLabel, FillsEnd, AreBundles, IsPlacedThere, IsPlacedGate, IsPlacedPart, HaveBodies, HasEnd, IsRewritten, SourceGate, Sfi1, Sfi2, Sfiw, AreLaidIn, FillsEndIn, drop-cons, AreFaultless, true}
 use Rattle.sfi_formats.specs.Formats.{unit, has_words}
 use Rattle.sfi_rewrite.specs.Placed.{AreWholeIn}
 use Rattle.sfi_rewrite.specs.words.Expansion as words
@@ -32,14 +32,14 @@ record IsWithin (unit_size place size : ℕ) : Type 0 where
   aligned : place % unit_size ≡ 0
   below : place ≤ size
 
-end_size : (slots code : List Slot) (nops : ℕ) → code ≡ slots ++ replicate nops c_nop → size_of code ≡ size_of slots + 2 * nops
+end_size : (slots code : List BundleSlot) (nops : ℕ) → code ≡ slots ++ replicate nops c_nop → size_of code ≡ size_of slots + 2 * nops
 end_size slots code nops e =
     let a = ap size_of e ∙ size_of-append slots (replicate nops c_nop) in
     let b = size_nops nops in
     omega arith
 
 -- a label before an item stands no later than its expansion
-label_before : (f : Format) (items : List Item) (slots before : List Slot) (k place : ℕ)
+label_before : (f : Format) (items : List Item) (slots before : List BundleSlot) (k place : ℕ)
     → AreLaid f items slots → k < length items → IsTrue (get_or items k other_item).labelled → AreLaid f (take k items) before → place ≡ next_bundle (size_of before) → IsWithin 16 place (size_of slots)
 label_before f items slots before k place l h labelled b p =
     let s = laid_split f 0 items k slots l in
@@ -53,7 +53,7 @@ label_before f items slots before k place l h labelled b p =
     record { aligned = omega arith; below = omega arith }
 
 -- a label at the end of the code stands no later than the fill
-label_last : (f : Format) (s : Sandbox) (slots before : List Slot) (nops k place : ℕ)
+label_last : (f : Format) (s : Sandbox) (slots before : List BundleSlot) (nops k place : ℕ)
     → AreLaid f s.items slots → length s.items ≤ k → k ≤ length s.items → Contains (named s) (Code k) → FillsEnd (size_of slots) (HasEndLabel s) nops
     → AreLaid f (take k s.items) before → place ≡ next_bundle (size_of before) → IsWithin 16 place (size_of slots + 2 * nops)
 label_last f s slots before nops k place l low high c end b p =
@@ -65,7 +65,7 @@ label_last f s slots before nops k place l low high c end b p =
     let enough = end.enough has in
     record { aligned = omega arith; below = omega arith }
 
-label_within : (f : Format) (s : Sandbox) (slots : List Slot) (nops k place : ℕ)
+label_within : (f : Format) (s : Sandbox) (slots : List BundleSlot) (nops k place : ℕ)
     → IsSandbox s → AreLaid f s.items slots → FillsEnd (size_of slots) (HasEndLabel s) nops → k ≤ length s.items → Contains (named s) (Code k) → IsLabelAt false f s.items k place
     → IsWithin 16 place (size_of slots + 2 * nops)
 label_within f s slots nops k place h l end high c at =
@@ -79,7 +79,7 @@ label_within f s slots nops k place h l end high c at =
       | inr low ↦ label_last f s slots at.0 nops k place l low high c end at.1 at.2
     ]
 
-label_in_within : (f : Format) (s : Sandbox) (slots : List Slot) (nops k place : ℕ)
+label_in_within : (f : Format) (s : Sandbox) (slots : List BundleSlot) (nops k place : ℕ)
     → IsSandbox s → AreLaidIn (has_words f) f s.items [] slots → FillsEndIn (has_words f) (size_of slots) (HasEndLabel s) nops → k ≤ length s.items → Contains (named s) (Code k) → IsLabelAt (has_words f) f s.items k place
     → IsWithin (unit f) place (size_of slots + 2 * nops)
 label_in_within Sfi1 s slots nops k place h l end high c at = label_within Sfi1 s slots nops k place h l end high c at
@@ -96,7 +96,7 @@ record IsNameOf (s : Sandbox) (n : Named) : Type 0 where
   there : IsThere s n
   contained : Contains (named s) n
 
-name_there : (s : Sandbox) (p : Placement) (slots : List Slot) (nops : ℕ) (n : Named) (m : PlacedName)
+name_there : (s : Sandbox) (p : Placement) (slots : List BundleSlot) (nops : ℕ) (n : Named) (m : PlacedName)
     → IsSandbox s → AreLaidIn (has_words s.format) s.format s.items [] slots → FillsEndIn (has_words s.format) (size_of slots) (HasEndLabel s) nops → slots_of p.bundles ≡ slots ++ replicate nops c_nop
     → p.format ≡ s.format → p.gates ≡ s.gates → p.bytes ≡ s.bytes → IsNameOf s n → IsPlacedName s.format s.items n m → IsPlacedThere p m
 name_there s p slots nops (Gate k) m h l end e f g b n is = rw is (rw g (n.there))
@@ -137,7 +137,7 @@ gate_in s p k g h z e =
 
 -- ---- all of it
 
-end_fits : (format : Format) (slots : List Slot) (labelled : Type 0) (nops : ℕ) → FillsEnd (size_of slots) labelled nops → size_of slots ≤ code_most format → size_of slots + 2 * nops ≤ code_most format
+end_fits : (format : Format) (slots : List BundleSlot) (labelled : Type 0) (nops : ℕ) → FillsEnd (size_of slots) labelled nops → size_of slots ≤ code_most format → size_of slots + 2 * nops ≤ code_most format
 end_fits format slots labelled nops f h =
     let even = size_even slots in
     let most = whole_bundles format in
@@ -145,15 +145,15 @@ end_fits format slots labelled nops f h =
     let few = f.fewest n (λ _. omega arith) in
     omega arith
 
-end_in_fits : (w : Bool) (format : Format) (slots : List Slot) (labelled : Type 0) (nops : ℕ) → FillsEndIn w (size_of slots) labelled nops → size_of slots ≤ code_most format → size_of slots + 2 * nops ≤ code_most format
+end_in_fits : (w : Bool) (format : Format) (slots : List BundleSlot) (labelled : Type 0) (nops : ℕ) → FillsEndIn w (size_of slots) labelled nops → size_of slots ≤ code_most format → size_of slots + 2 * nops ≤ code_most format
 end_in_fits false format slots labelled nops f h = end_fits format slots labelled nops f h
 end_in_fits true format slots labelled nops f h = let z : nops ≡ 0 = f in omega arith
 
-known_in : (w : Bool) (format : Format) (count : ℕ) (items : List Item) (slots : List Slot) → AreLaidIn w format items [] slots → All (λ x. IsBody count x.body) items → All (IsKnown count) slots
+known_in : (w : Bool) (format : Format) (count : ℕ) (items : List Item) (slots : List BundleSlot) → AreLaidIn w format items [] slots → All (λ x. IsBody count x.body) items → All (IsKnown count) slots
 known_in false format count items slots l b = laid_known format count 0 items slots l b
 known_in true format count items slots l b = words_known count items [] slots l b
 
-whole_in : (format : Format) (count : ℕ) (items : List Item) (slots : List Slot) (labelled : Type 0) (nops : ℕ) (bundles : List (List Slot))
+whole_in : (format : Format) (count : ℕ) (items : List Item) (slots : List BundleSlot) (labelled : Type 0) (nops : ℕ) (bundles : List (List BundleSlot))
     → AreLaidIn (has_words format) format items [] slots → All (IsPermitted format) items → All (λ x. IsBody count x.body) items → FillsEndIn (has_words format) (size_of slots) labelled nops
     → slots_of bundles ≡ slots ++ replicate nops c_nop → AreBundles bundles → AreWholeIn format count bundles
 whole_in Sfi1 count items slots labelled nops bundles l p b end code are = laid_whole Sfi1 count items slots nops bundles l p b code are
@@ -201,14 +201,14 @@ end_in : (w : Bool) (end : ℕ) (labelled has : Type 0) (nops : ℕ) → labelle
 end_in false end labelled has nops both f = record { enough = λ h. f.enough (both.1 h); fewest = λ n g. f.fewest n (λ t. g (both.0 t)) }
 end_in true end labelled has nops both f = f
 
-pub end_of : (s : Sandbox) (f : Format) (labelled : Bool) (slots all : List Slot) → IsTrue labelled ↔ HasEndLabel s → HasEnd f slots (IsTrue labelled) all → HasEnd f slots (HasEndLabel s) all
+pub end_of : (s : Sandbox) (f : Format) (labelled : Bool) (slots all : List BundleSlot) → IsTrue labelled ↔ HasEndLabel s → HasEnd f slots (IsTrue labelled) all → HasEnd f slots (HasEndLabel s) all
 end_of s f labelled slots all both end = record { nops = end.nops; end = end_in (has_words f) (size_of slots) (IsTrue labelled) (HasEndLabel s) end.nops both end.end; slots = end.slots }
 
 -- what the program made of the sandbox
 pub record IsMade (s : Sandbox) (p : Placement) : Type 0 where
-  pub slots : List Slot
+  pub slots : List BundleSlot
   pub faultless : AreFaultless (has_words s.format) s.format (length s.items) s.items slots
-  pub all : List Slot
+  pub all : List BundleSlot
   pub end : HasEnd s.format slots (HasEndLabel s) all
   pub code : slots_of p.bundles ≡ all
   pub format : p.format ≡ s.format

@@ -30,8 +30,8 @@ pub use Rattle.sfi_rewrite.specs.Transparency.{IsSameAside, AreRegions, HasReser
 pub use Rattle.sfi_rewrite.specs.Standing.{StandTransparent}
 pub use Rattle.sfi_rewrite.specs.declared.fault.RewriteFault.{RewriteFault}
 pub use Rattle.sfi_rewrite.specs.declared.placed.PlacedName.{PlacedName}
-pub use Rattle.sfi_rewrite.specs.declared.slot.Slot.{Slot}
-pub use Rattle.sfi_rewrite.specs.declared.slot.Slot.TheVariants.{Wide, Upper, Lower, Region, Short, Jump}
+pub use Rattle.sfi_rewrite.specs.declared.slot.BundleSlot.{BundleSlot}
+pub use Rattle.sfi_rewrite.specs.declared.slot.BundleSlot.TheVariants.{Wide, Upper, Lower, Region, Short, Jump}
 pub use Rattle.sfi_rewrite.specs.private.{IsFull, IsFilled, largest, HasNext, HaveBodies, AreLabels, HasLabel, placed_of, HasEnd, IsTooLarge, so_far, bytes_of, AreOfFirst, with_slots, ended, HasNoRoom}
 pub use Rattle.rv_step.specs.declared.outcome.Outcome.TheVariants.{Trap, Next}
 pub use Rattle.rv_word.specs.Spelling.{offset_by, spelling, InRange}

@@ -1,5 +1,5 @@
 -- States in which the expansions of a load, of an indirect jump and of writes of the stack pointer stand.
-use Rattle.sfi_rewrite.proofs.Prelude.{◌≡◌, ℕ, zero, suc, ◌+◌, ◌-◌, ◌%◌, ◌^◌, ◌<◌, ◌≤◌, List, [], ◌∷◌, ◌++◌, length, take, drop, replicate, true, false, Option, Some, None, refl, sym, ap, subst, ◌∙◌, ⊎_elim, arith, get_or-drop, slice_index, nat_lt, Contains, pos, flat_map, list_all, and_parts, ltb-true, cases_lt, And, Or, Instr, Op, Load, Jalr, Bytes, IsMemory, byte_at, bytes_at, addresses, address_after, with_bytes, number_of, Hart, IsHart, Stands, effect, after_load, Wide, State, AreRegions, IsAskedOf, TransparencyCanBeMet, Next, Trap, spelling, Lw, Span, Sfi2, ints, get_or-take, Slot}
+use Rattle.sfi_rewrite.proofs.Prelude.{◌≡◌, ℕ, zero, suc, ◌+◌, ◌-◌, ◌%◌, ◌^◌, ◌<◌, ◌≤◌, List, [], ◌∷◌, ◌++◌, length, take, drop, replicate, true, false, Option, Some, None, refl, sym, ap, subst, ◌∙◌, ⊎_elim, arith, get_or-drop, slice_index, nat_lt, Contains, pos, flat_map, list_all, and_parts, ltb-true, cases_lt, And, Or, Instr, Op, Load, Jalr, Bytes, IsMemory, byte_at, bytes_at, addresses, address_after, with_bytes, number_of, Hart, IsHart, Stands, effect, after_load, Wide, State, AreRegions, IsAskedOf, TransparencyCanBeMet, Next, Trap, spelling, Lw, Span, Sfi2, ints, get_or-take, BundleSlot}
 use Rattle.rv_word.specs.Spelling.{InRange}
 use Rattle.rv_comp.specs.Fronts.{Spells}
 use Rattle.rv_mem.specs.Bytes.{in_front}
@@ -221,7 +221,7 @@ asked_of unit_size masks i j k l first second third =
     }
 
 -- slots that are an expansion in that state
-abbrev pub meets : (unit_size : ℕ) (i : Instr) (IsExpanded : List Slot → Type 0) (slots : List Slot) (words : List ℕ) → IsExpanded slots
+abbrev pub meets : (unit_size : ℕ) (i : Instr) (IsExpanded : List BundleSlot → Type 0) (slots : List BundleSlot) (words : List ℕ) → IsExpanded slots
     → IsAskedOf unit_size i slots code_at data_at (state_of unit_size words) → Meets unit_size i IsExpanded
 meets unit_size i IsExpanded slots words expansion asked =
     record { slots = slots; expansion = expansion; code_at = code_at; data_at = data_at; state = state_of unit_size words; asked = asked }

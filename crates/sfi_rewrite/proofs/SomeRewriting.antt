@@ -1,5 +1,5 @@
 -- A source is rewritten, or has a fault.
-use Rattle.sfi_rewrite.proofs.Prelude.{◌≡◌, ℕ, zero, suc, ◌+◌, ◌-◌, ◌*◌, ◌/◌, ◌%◌, ◌<◌, ◌≤◌, List, [], ◌∷◌, ◌++◌, length, take, get_or, replicate, refl, sym, ap, ◌∙◌, subst, arith, append_assoc, append-nil, inl, inr, ◌⊎◌, Bool, true, false, MatchBool, Contains, All-nil, Some, drop, ◌&&◌, AllZip, cases_lt, cases_eq, cases_Bool, false≢true, take_all, get_or_default, Contains-append_right, Instr, Load, Store, Jalr, Ecall, Format, code_most, is_stack, Item, Body, Plain, To, High, Low, Base, Named, Gate, Code, Data, Unknown, Sandbox, named, Slot, Wide, Short, Jump, Upper, Lower, Region, RewriteFault, PlacedName, size_of, slots_of, c_nop, writes_stack, is_on_stack, is_stack_write, stack_pair, put_back, data_pair_slots, jump_slots, IsAlone, IsMasked, IsExpansionOf, IsExpansion, is_call, next_bundle, FillsGap, Placement, IsPlacedName, HasEndLabel, FillsEnd, AreBundles, IsPermitted, AreFaultless, HasItemFault, IsItemFault, IsSourceFault, IsRewritten, AreRewritten, SomeRewriting, bundle_size, Sfi1, not, AreLaidIn, FillsEndIn, IsConfined, IsAround, base_of, before, after, is_move, moved, mask_after, is_step_before_use, Marked, marked, alone, in_words, AreExpanded, AreLaidBefore, item_names_withheld, is_ecall, AreLaidFrom, IsFaultless, label_place, has_words}
+use Rattle.sfi_rewrite.proofs.Prelude.{◌≡◌, ℕ, zero, suc, ◌+◌, ◌-◌, ◌*◌, ◌/◌, ◌%◌, ◌<◌, ◌≤◌, List, [], ◌∷◌, ◌++◌, length, take, get_or, replicate, refl, sym, ap, ◌∙◌, subst, arith, append_assoc, append-nil, inl, inr, ◌⊎◌, Bool, true, false, MatchBool, Contains, All-nil, Some, drop, ◌&&◌, AllZip, cases_lt, cases_eq, cases_Bool, false≢true, take_all, get_or_default, Contains-append_right, Instr, Load, Store, Jalr, Ecall, Format, code_most, is_stack, Item, Body, Plain, To, High, Low, Base, Named, Gate, Code, Data, Unknown, Sandbox, named, BundleSlot, Wide, Short, Jump, Upper, Lower, Region, RewriteFault, PlacedName, size_of, slots_of, c_nop, writes_stack, is_on_stack, is_stack_write, stack_pair, put_back, data_pair_slots, jump_slots, IsAlone, IsMasked, IsExpansionOf, IsExpansion, is_call, next_bundle, FillsGap, Placement, IsPlacedName, HasEndLabel, FillsEnd, AreBundles, IsPermitted, AreFaultless, HasItemFault, IsItemFault, IsSourceFault, IsRewritten, AreRewritten, SomeRewriting, bundle_size, Sfi1, not, AreLaidIn, FillsEndIn, IsConfined, IsAround, base_of, before, after, is_move, moved, mask_after, is_step_before_use, Marked, marked, alone, in_words, AreExpanded, AreLaidBefore, item_names_withheld, is_ecall, AreLaidFrom, IsFaultless, label_place, has_words}
 use Rattle.sfi_rewrite.specs.Rewriting.{is_barred_jump}
 use Rattle.sfi_rewrite.specs.words.Expansion as words_expansion
 use Rattle.sfi_rewrite.proofs.WordView.{InWords, no_word, two_forms, one_slot, view}
@@ -15,7 +15,7 @@ use Rattle.sfi_rewrite.proofs.WordLaid.{laid_of}
 
 -- ---- the expansion of an item
 
-some_alone : (rvc : Bool) (i : Instr) → (slots : List Slot) × IsAlone rvc i slots
+some_alone : (rvc : Bool) (i : Instr) → (slots : List BundleSlot) × IsAlone rvc i slots
 some_alone false i = (Wide i ∷ [], refl)
 some_alone true i =
     elim (some_first_form i) [
@@ -23,26 +23,26 @@ some_alone true i =
       | inr none ↦ (Wide i ∷ [], inr (none, refl))
     ]
 
-some_masked : (rvc : Bool) (i : Instr) → (slots : List Slot) × IsMasked rvc i slots
+some_masked : (rvc : Bool) (i : Instr) → (slots : List BundleSlot) × IsMasked rvc i slots
 some_masked rvc (Load kind rd a imm) = (data_pair_slots a ++ Wide (Load kind rd 31 imm) ∷ [], refl)
 some_masked rvc (Store width a rs2 imm) = (data_pair_slots a ++ Wide (Store width 31 rs2 imm) ∷ [], refl)
 some_masked rvc (Jalr rd a imm) = (jump_slots rd a imm, refl)
 some_masked rvc other = some_alone rvc other
 
 some_plain : (writes on rvc : Bool) (i : Instr)
-    → (slots : List Slot) × MatchBool writes (slots ≡ Wide i ∷ stack_pair) (MatchBool on (IsAlone rvc i slots) (IsMasked rvc i slots))
+    → (slots : List BundleSlot) × MatchBool writes (slots ≡ Wide i ∷ stack_pair) (MatchBool on (IsAlone rvc i slots) (IsMasked rvc i slots))
 some_plain true on rvc i = (Wide i ∷ stack_pair, refl)
 some_plain false true rvc i = some_alone rvc i
 some_plain false false rvc i = some_masked rvc i
 
-some_expansion_of : (f : Format) (line : ℕ) (rvc : Bool) (body : Body) → (slots : List Slot) × IsExpansionOf f line rvc body slots
+some_expansion_of : (f : Format) (line : ℕ) (rvc : Bool) (body : Body) → (slots : List BundleSlot) × IsExpansionOf f line rvc body slots
 some_expansion_of f line rvc (Plain i) = some_plain (writes_stack f i) (is_on_stack f i) rvc i
 some_expansion_of f line rvc (To i name) = (Jump i name line ∷ [], refl)
 some_expansion_of f line rvc (High rd name) = (Upper rd name line ∷ put_back (is_stack f rd), refl)
 some_expansion_of f line rvc (Low rd name) = (Lower rd name line ∷ put_back (is_stack f rd), refl)
 some_expansion_of f line rvc (Base rd name) = (Region rd name line ∷ put_back (is_stack f rd), refl)
 
-some_expansion : (f : Format) (x : Item) → (slots : List Slot) × IsExpansion f x slots
+some_expansion : (f : Format) (x : Item) → (slots : List BundleSlot) × IsExpansion f x slots
 some_expansion f x = some_expansion_of f x.line x.rvc x.body
 
 -- ---- its place
@@ -106,12 +106,12 @@ some_gap end true call size even even_size some few =
 -- ---- bundles
 
 -- the slots, in bundles
-record InBundles (code : List Slot) : Type 0 where
-  bundles : List (List Slot)
+record InBundles (code : List BundleSlot) : Type 0 where
+  bundles : List (List BundleSlot)
   whole : slots_of bundles ≡ code
   right : AreBundles bundles
 
-push : (code more : List Slot) → InBundles code → 0 < size_of more → size_of code % bundle_size + size_of more ≤ bundle_size → InBundles (code ++ more)
+push : (code more : List BundleSlot) → InBundles code → 0 < size_of more → size_of code % bundle_size + size_of more ≤ bundle_size → InBundles (code ++ more)
 push code more b some fits =
     let same : size_of (slots_of b.bundles) ≡ size_of code = ap size_of b.whole in
     elim (cases_lt 0 (size_of (slots_of b.bundles) % bundle_size)) [
@@ -126,7 +126,7 @@ push code more b some fits =
           }
     ]
 
-push_nops : (nops : ℕ) (code : List Slot) → InBundles code → InBundles (code ++ replicate nops c_nop)
+push_nops : (nops : ℕ) (code : List BundleSlot) → InBundles code → InBundles (code ++ replicate nops c_nop)
 push_nops zero code b = subst InBundles (sym (append-nil code)) b
 push_nops (suc n) code b =
     let one = push code (c_nop ∷ []) b (omega arith) (nop_fits code) in
@@ -153,7 +153,7 @@ permitted_or_not f x =
 -- ---- all items
 
 -- in bundles
-some_laid : (f : Format) (end : ℕ) (items : List Item) → end % 2 ≡ 0 → (slots : List Slot) × AreLaidFrom f end items slots
+some_laid : (f : Format) (end : ℕ) (items : List Item) → end % 2 ≡ 0 → (slots : List BundleSlot) × AreLaidFrom f end items slots
 some_laid f end [] even = ([], refl)
 some_laid f end (x ∷ items) even =
     let made = some_expansion f x in
@@ -164,7 +164,7 @@ some_laid f end (x ∷ items) even =
     let rest = some_laid f (end + 2 * gap.0 + size_of slots) items (omega arith) in
     (replicate gap.0 c_nop ++ (slots ++ rest.0), (gap.0, slots, rest.0, record { expansion = made.1; gap = gap.1 }, refl, rest.1))
 
-laid_bundled : (f : Format) (items : List Item) (code slots : List Slot) → AreLaidFrom f (size_of code) items slots → InBundles code → InBundles (code ++ slots)
+laid_bundled : (f : Format) (items : List Item) (code slots : List BundleSlot) → AreLaidFrom f (size_of code) items slots → InBundles code → InBundles (code ++ slots)
 laid_bundled f [] code slots l b = subst InBundles (sym (ap (λ v. code ++ v) l ∙ append-nil code)) b
 laid_bundled f (x ∷ items) code slots l b =
     let nops = replicate l.0 c_nop in
@@ -179,17 +179,17 @@ laid_bundled f (x ∷ items) code slots l b =
     (laid_bundled f items (then ++ l.1) l.2 (subst (λ n. AreLaidFrom f n items l.2) end l.5) now)
 
 -- in words, before the items after them
-some_confined : (rvc : Bool) (i : Instr) → (slots : List Slot) × IsConfined rvc i slots
+some_confined : (rvc : Bool) (i : Instr) → (slots : List BundleSlot) × IsConfined rvc i slots
 some_confined rvc (Load kind rd a imm) = some_alone rvc (Load kind rd (base_of a) imm)
 some_confined rvc (Store width a rs2 imm) = some_alone rvc (Store width (base_of a) rs2 imm)
 some_confined rvc (Jalr rd a imm) = (Wide (Jalr rd 30 imm) ∷ [], refl)
 some_confined rvc other = some_alone rvc other
 
-some_moved : (moves rvc step : Bool) (i : Instr) → (slots : List Slot) × MatchBool moves (slots ≡ moved i) (IsAround rvc step i slots)
+some_moved : (moves rvc step : Bool) (i : Instr) → (slots : List BundleSlot) × MatchBool moves (slots ≡ moved i) (IsAround rvc step i slots)
 some_moved true rvc step i = (moved i, refl)
 some_moved false rvc step i = let one = some_confined rvc i in (before i ++ (one.0 ++ after step i), (one.0, one.1, refl))
 
-some_word_expansion_of : (line : ℕ) (rvc step : Bool) (body : Body) → (slots : List Slot) × words_expansion.IsExpansionOf line rvc step body slots
+some_word_expansion_of : (line : ℕ) (rvc step : Bool) (body : Body) → (slots : List BundleSlot) × words_expansion.IsExpansionOf line rvc step body slots
 some_word_expansion_of line rvc step (Plain i) = some_moved (is_move i && not step) rvc step i
 some_word_expansion_of line rvc step (To i name) = (Jump i name line ∷ [], refl)
 some_word_expansion_of line rvc step (High rd name) = (Upper rd name line ∷ mask_after (Some rd), refl)
@@ -203,14 +203,14 @@ some_expanded (x ∷ items) later =
     let rest = some_expanded items later in
     (marked x.labelled one.0 ++ rest.0, (one.0, rest.0, one.1, refl, rest.1))
 
-some_words : (later items : List Item) → (slots : List Slot) × AreLaidBefore items later slots
+some_words : (later items : List Item) → (slots : List BundleSlot) × AreLaidBefore items later slots
 some_words later items = let e = some_expanded items later in (in_words e.0, (e.0, e.1, refl))
 
 -- words, in bundles
-words_push : (code more : List Slot) → InBundles code → size_of code % 4 ≡ 0 → size_of more ≡ 4 → InBundles (code ++ more)
+words_push : (code more : List BundleSlot) → InBundles code → size_of code % 4 ≡ 0 → size_of more ≡ 4 → InBundles (code ++ more)
 words_push code more b aligned size = push code more b (omega arith) (omega arith)
 
-words_bundled : (slots : List Marked) (words : List Slot) → InWords slots words → (code : List Slot) → InBundles code → size_of code % 4 ≡ 0 → InBundles (code ++ words)
+words_bundled : (slots : List Marked) (words : List BundleSlot) → InWords slots words → (code : List BundleSlot) → InBundles code → size_of code % 4 ≡ 0 → InBundles (code ++ words)
 words_bundled _ _ no_word code b aligned = subst InBundles (sym (append-nil code)) b
 words_bundled _ _ (two_forms l f g slots words w) code b aligned =
     let word = Short f ∷ Short g ∷ [] in
@@ -224,11 +224,11 @@ words_bundled _ _ (one_slot l s slots words four w) code b aligned =
 
 -- ---- in words or in bundles
 
-some_laid_in : (w : Bool) (f : Format) (items later : List Item) → (slots : List Slot) × AreLaidIn w f items later slots
+some_laid_in : (w : Bool) (f : Format) (items later : List Item) → (slots : List BundleSlot) × AreLaidIn w f items later slots
 some_laid_in false f items later = some_laid f 0 items refl
 some_laid_in true f items later = some_words later items
 
-in_bundles : (w : Bool) (f : Format) (items later : List Item) (slots : List Slot) → AreLaidIn w f items later slots → InBundles slots
+in_bundles : (w : Bool) (f : Format) (items later : List Item) (slots : List BundleSlot) → AreLaidIn w f items later slots → InBundles slots
 in_bundles false f items later slots l = laid_bundled f items [] slots l (record { bundles = []; whole = refl; right = tt })
 in_bundles true f items later slots l = subst InBundles (sym l.2) (words_bundled l.0 (in_words l.0) (view l.0) [] (record { bundles = []; whole = refl; right = tt }) refl)
 
@@ -239,8 +239,8 @@ none_laid true f later = ([], refl, refl)
 any_item : Item
 any_item = record { line = 0; labelled = false; rvc = false; body = Plain Ecall }
 
-items_on : (w : Bool) (f : Format) (sandbox : ℕ) (items : List Item) (d k : ℕ) (slots : List Slot) → k + d ≡ length items → AreFaultless w f k items slots
-    → ((all : List Slot) × AreFaultless w f (length items) items all) ⊎ ((e : RewriteFault) × IsItemFault w f sandbox items e)
+items_on : (w : Bool) (f : Format) (sandbox : ℕ) (items : List Item) (d k : ℕ) (slots : List BundleSlot) → k + d ≡ length items → AreFaultless w f k items slots
+    → ((all : List BundleSlot) × AreFaultless w f (length items) items all) ⊎ ((e : RewriteFault) × IsItemFault w f sandbox items e)
 items_on w f sandbox items zero k slots all l = inl (slots, subst (λ (n : ℕ). AreFaultless w f n items slots) (let z : k ≡ length items = omega arith in z) l)
 items_on w f sandbox items (suc d) k slots all l =
     let lt : k < length items = omega arith in
@@ -255,7 +255,7 @@ items_on w f sandbox items (suc d) k slots all l =
       ]
     ]
 
-faultless_or_fault : (w : Bool) (f : Format) (sandbox : ℕ) (items : List Item) → ((all : List Slot) × AreFaultless w f (length items) items all) ⊎ ((e : RewriteFault) × IsItemFault w f sandbox items e)
+faultless_or_fault : (w : Bool) (f : Format) (sandbox : ℕ) (items : List Item) → ((all : List BundleSlot) × AreFaultless w f (length items) items all) ⊎ ((e : RewriteFault) × IsItemFault w f sandbox items e)
 faultless_or_fault w f sandbox items =
     items_on w f sandbox items (length items) 0 [] (omega arith) (record { permitted = All-nil (IsPermitted f); laid = none_laid w f items; fits = some_room f })
 

@@ -1,5 +1,5 @@
 -- What each expansion does.
-use Rattle.sfi_rewrite.proofs.Prelude.{◌≡◌, ◌≢◌, ℕ, ◌+◌, ◌*◌, ◌%◌, ◌^◌, next, ◌==◌, ◌&&◌, List, [], ◌∷◌, Bool, true, false, Option, Some, None, inl, inr, refl, sym, ap, ◌∙◌, subst, arith, bit_and, bit_or, MatchBool, eqb-true, true≢false, and_parts, and_right, And, Or, LoadKind, Instr, Op, OpImm, Load, Branch, Jal, Jalr, Lui, Auipc, Format, has_stack, is_stack, Bytes, address_after, loaded, Hart, State, IsState, register, with_register, with_pc, past, Stepped, Stands, after_load, effect, IsStep, Body, Plain, To, High, Low, Base, Slot, Wide, Jump, Upper, Lower, Region, slot_size, IsAlone, IsMasked, IsExpansionOf, writes_stack, is_on_stack, is_stack_write, jumps_or_loads_x2, stack_pair, put_back, ExpansionsAreTransparent, AreRegions, HasReserved, SlotStands, IsTransparent, put_back_at, KeepsStack, ActsAs, IsAimed, MayBe, further, StandInRow, LeadsTo, LeadTo, load_size, Next, offset_by, Addi, Add, Span, names_withheld, item_names_withheld, masked}
+use Rattle.sfi_rewrite.proofs.Prelude.{◌≡◌, ◌≢◌, ℕ, ◌+◌, ◌*◌, ◌%◌, ◌^◌, next, ◌==◌, ◌&&◌, List, [], ◌∷◌, Bool, true, false, Option, Some, None, inl, inr, refl, sym, ap, ◌∙◌, subst, arith, bit_and, bit_or, MatchBool, eqb-true, true≢false, and_parts, and_right, And, Or, LoadKind, Instr, Op, OpImm, Load, Branch, Jal, Jalr, Lui, Auipc, Format, has_stack, is_stack, Bytes, address_after, loaded, Hart, State, IsState, register, with_register, with_pc, past, Stepped, Stands, after_load, effect, IsStep, Body, Plain, To, High, Low, Base, BundleSlot, Wide, Jump, Upper, Lower, Region, slot_size, IsAlone, IsMasked, IsExpansionOf, writes_stack, is_on_stack, is_stack_write, jumps_or_loads_x2, stack_pair, put_back, ExpansionsAreTransparent, AreRegions, HasReserved, SlotStands, IsTransparent, put_back_at, KeepsStack, ActsAs, IsAimed, MayBe, further, StandInRow, LeadsTo, LeadTo, load_size, Next, offset_by, Addi, Add, Span, names_withheld, item_names_withheld, masked}
 use Rattle.rv_word.specs.Outlines.{writes_register, is_register, destination}
 use Rattle.rv_step.proofs.Facts.{pair_leaves, step_keeps_state}
 use Rattle.rv_step.proofs.Pairs.{written_elsewhere}
@@ -86,7 +86,7 @@ pub done_is : (x : Stepped) → x.outcome ≡ Next → x ≡ record { outcome = 
 done_is x e = ap (λ o. let y : Stepped = record { outcome = o; state = x.state } in y) e
 
 -- i and the pair
-keeps_stack : (i : Instr) (x : Slot) → writes_register 2 i ≡ true → is_jump i ≡ false → slot_size x ≡ 4 → ((s : State) → SlotStands i s x → Stands s i 4)
+keeps_stack : (i : Instr) (x : BundleSlot) → writes_register 2 i ≡ true → is_jump i ≡ false → slot_size x ≡ 4 → ((s : State) → SlotStands i s x → Stands s i 4)
     → KeepsStack i (x ∷ stack_pair)
 keeps_stack i x writer no_jump size stands = record {
   does = λ c d s asked done.
@@ -105,10 +105,10 @@ keeps_stack i x writer no_jump size stands = record {
 -- ---- the expansions
 
 -- an instruction: it writes the stack pointer, is an access on it, or neither
-of_plain : (f : Format) (writes on rvc : Bool) (i : Instr) (slots : List Slot) → (writes ≡ true → (writes_register 2 i ≡ true) × (is_jump i ≡ false)) → names_withheld f i ≡ false
+of_plain : (f : Format) (writes on rvc : Bool) (i : Instr) (slots : List BundleSlot) → (writes ≡ true → (writes_register 2 i ≡ true) × (is_jump i ≡ false)) → names_withheld f i ≡ false
     → MatchBool writes (slots ≡ Wide i ∷ stack_pair) (MatchBool on (IsAlone rvc i slots) (IsMasked rvc i slots)) → MatchBool writes (KeepsStack i slots) (IsTransparent i slots)
 of_plain f true on rvc i slots w n h =
-    subst (λ (l : List Slot). KeepsStack i l) (sym h) (keeps_stack i (Wide i) (w refl).0 (w refl).1 refl (λ s st. st))
+    subst (λ (l : List BundleSlot). KeepsStack i l) (sym h) (keeps_stack i (Wide i) (w refl).0 (w refl).1 refl (λ s st. st))
 of_plain f false true rvc i slots w n h = alone_transparent rvc i slots h
 of_plain f false false rvc i slots w n h = of_masked f rvc i slots n h
 
@@ -123,21 +123,21 @@ writer true i h w = (w, no_jump_writes i h w)
 writer false i h w = cc
 
 -- a half of an address, to the stack pointer or to another register
-at_half : (has : Bool) (i : Instr) (rd : ℕ) (x : Slot) (slots : List Slot) → writes_register 2 i ≡ (rd == 2) → is_jump i ≡ false → slot_size x ≡ 4
+at_half : (has : Bool) (i : Instr) (rd : ℕ) (x : BundleSlot) (slots : List BundleSlot) → writes_register 2 i ≡ (rd == 2) → is_jump i ≡ false → slot_size x ≡ 4
     → ((s : State) → SlotStands i s x → Stands s i 4) → slots ≡ x ∷ put_back (has && (rd == 2)) → MatchBool (has && writes_register 2 i) (KeepsStack i slots) (IsTransparent i slots)
 at_half has i rd x slots e no_jump size stands h =
     subst (λ (b : Bool). MatchBool (has && b) (KeepsStack i slots) (IsTransparent i slots)) (sym e) (cases (has && (rd == 2)) (λ both. e ∙ (and_parts has (rd == 2) both).1) h)
   where
     cases : (b : Bool) → (b ≡ true → writes_register 2 i ≡ true) → slots ≡ x ∷ put_back b → MatchBool b (KeepsStack i slots) (IsTransparent i slots)
-    cases true w z = subst (λ (l : List Slot). KeepsStack i l) (sym z) (keeps_stack i x (w refl) no_jump size stands)
-    cases false w z = subst (λ (l : List Slot). IsTransparent i l) (sym z) (named_transparent i x size stands)
+    cases true w z = subst (λ (l : List BundleSlot). KeepsStack i l) (sym z) (keeps_stack i x (w refl) no_jump size stands)
+    cases false w z = subst (λ (l : List BundleSlot). IsTransparent i l) (sym z) (named_transparent i x size stands)
 
 -- a jump or a branch to a name doesn't write the stack pointer
-aimed : (b : Bool) (j i : Instr) (name line : ℕ) (slots : List Slot) → b ≡ false → slots ≡ Jump j name line ∷ [] → MatchBool b (KeepsStack i slots) (IsTransparent i slots)
+aimed : (b : Bool) (j i : Instr) (name line : ℕ) (slots : List BundleSlot) → b ≡ false → slots ≡ Jump j name line ∷ [] → MatchBool b (KeepsStack i slots) (IsTransparent i slots)
 aimed true j i name line slots f h = absurd (true≢false f)
-aimed false j i name line slots f h = subst (λ (l : List Slot). IsTransparent i l) (sym h) (named_transparent i (Jump j name line) refl (λ s st. st))
+aimed false j i name line slots f h = subst (λ (l : List BundleSlot). IsTransparent i l) (sym h) (named_transparent i (Jump j name line) refl (λ s st. st))
 
-to_name : (f : Format) (j i : Instr) (name line : ℕ) (slots : List Slot) → IsAimed j i → is_stack_write f (To j name) ≡ false → slots ≡ Jump j name line ∷ [] → ActsAs f i slots
+to_name : (f : Format) (j i : Instr) (name line : ℕ) (slots : List BundleSlot) → IsAimed j i → is_stack_write f (To j name) ≡ false → slots ≡ Jump j name line ∷ [] → ActsAs f i slots
 to_name f (Jal rd offset) i name line slots a w h =
     subst (λ (k : Instr). ActsAs f k slots) (sym a.1) (aimed (is_stack f rd) (Jal rd offset) (Jal rd a.0) name line slots w h)
 to_name f (Branch cond rs1 rs2 offset) i name line slots a w h =
@@ -145,7 +145,7 @@ to_name f (Branch cond rs1 rs2 offset) i name line slots a w h =
     (aimed (writes_stack f (Branch cond rs1 rs2 a.0)) (Branch cond rs1 rs2 offset) (Branch cond rs1 rs2 a.0) name line slots (and_right (has_stack f) false refl) h)
 to_name f _ i name line slots a w h = absurd a
 
-of_body : (f : Format) (line : ℕ) (rvc : Bool) (body : Body) (i : Instr) (slots : List Slot) → MayBe body i → item_names_withheld f body ≡ false
+of_body : (f : Format) (line : ℕ) (rvc : Bool) (body : Body) (i : Instr) (slots : List BundleSlot) → MayBe body i → item_names_withheld f body ≡ false
     → is_stack_write f body ≡ false → IsExpansionOf f line rvc body slots → ActsAs f i slots
 of_body f line rvc (Plain j) i slots be n w h =
     subst (λ (k : Instr). ActsAs f k slots) (sym be) (of_plain f (writes_stack f j) (is_on_stack f j) rvc j slots (writer (has_stack f) j w) n h)

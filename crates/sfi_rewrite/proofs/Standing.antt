@@ -1,5 +1,5 @@
 -- Each instruction of a source stands transparent in what is placed.
-use Rattle.sfi_rewrite.proofs.Prelude.{◌≡◌, ℕ, ◌+◌, ◌<◌, List, [], ◌∷◌, ◌++◌, length, drop, replicate, ap, ◌∙◌, subst, arith, append_assoc, append-nil, All, AllZip, slice_get, Some, slots_of, Format, HasEndLabel, drop_more, All-get_or, get_or_from_slice_get, slice_get_within, Item, Sandbox, Slot, size_of, c_nop, AreLaidFrom, Placement, IsPermitted, IsRewritten, RewrittenIsTransparent, StandTransparent, Sfi1, Sfi2, Sfiw, AreLaidIn, FillsEndIn, has_words}
+use Rattle.sfi_rewrite.proofs.Prelude.{◌≡◌, ℕ, ◌+◌, ◌<◌, List, [], ◌∷◌, ◌++◌, length, drop, replicate, ap, ◌∙◌, subst, arith, append_assoc, append-nil, All, AllZip, slice_get, Some, slots_of, Format, HasEndLabel, drop_more, All-get_or, get_or_from_slice_get, slice_get_within, Item, Sandbox, BundleSlot, size_of, c_nop, AreLaidFrom, Placement, IsPermitted, IsRewritten, RewrittenIsTransparent, StandTransparent, Sfi1, Sfi2, Sfiw, AreLaidIn, FillsEndIn, has_words}
 use Rattle.sfi_rewrite.specs.Transparency.{StandsTransparent}
 use Rattle.sfi_rewrite.specs.Standing.{StandsAs}
 use Rattle.sfi_rewrite.proofs.WordLaid.{all_fit}
@@ -7,12 +7,12 @@ use Rattle.sfi_rewrite.proofs.WordStanding.{stands_in_words}
 use Rattle.sfi_rewrite.proofs.Laid.{laid_split}
 use Rattle.sfi_rewrite.proofs.StackKept.{all_transparent}
 
-apart : (front nops expanded rest pad : List Slot) → (front ++ (nops ++ (expanded ++ rest))) ++ pad ≡ front ++ (nops ++ (expanded ++ (rest ++ pad)))
+apart : (front nops expanded rest pad : List BundleSlot) → (front ++ (nops ++ (expanded ++ rest))) ++ pad ≡ front ++ (nops ++ (expanded ++ (rest ++ pad)))
 apart front nops expanded rest pad =
     append_assoc front (nops ++ (expanded ++ rest)) pad
     ∙ ap (λ v. front ++ v) (append_assoc nops (expanded ++ rest) pad ∙ ap (λ v. nops ++ v) (append_assoc expanded rest pad))
 
-stand_in_bundles : (f : Format) (items : List Item) (p : Placement) (slots : List Slot) (nops : ℕ) (k : ℕ) (x : Item) → AreLaidFrom f 0 items slots
+stand_in_bundles : (f : Format) (items : List Item) (p : Placement) (slots : List BundleSlot) (nops : ℕ) (k : ℕ) (x : Item) → AreLaidFrom f 0 items slots
     → slots_of p.bundles ≡ slots ++ replicate nops c_nop → All (IsPermitted f) items → slice_get items k ≡ Some x → StandsTransparent f items p k x
 stand_in_bundles f items p slots nops k x laid code permitted at =
     let split = laid_split f 0 items k slots laid in
@@ -36,7 +36,7 @@ stand_in_bundles f items p slots nops k x laid code permitted at =
       transparent = λ i be. all_transparent f x i after.1 be is after.3.expansion;
     }
 
-stand_in : (f : Format) (items : List Item) (p : Placement) (slots : List Slot) (labelled : Type 0) (nops : ℕ) (k : ℕ) (x : Item) → AreLaidIn (has_words f) f items [] slots → FillsEndIn (has_words f) (size_of slots) labelled nops
+stand_in : (f : Format) (items : List Item) (p : Placement) (slots : List BundleSlot) (labelled : Type 0) (nops : ℕ) (k : ℕ) (x : Item) → AreLaidIn (has_words f) f items [] slots → FillsEndIn (has_words f) (size_of slots) labelled nops
     → slots_of p.bundles ≡ slots ++ replicate nops c_nop → All (IsPermitted f) items → slice_get items k ≡ Some x → StandsAs f items p k x
 stand_in Sfi1 items p slots labelled nops k x l end code permitted at = stand_in_bundles Sfi1 items p slots nops k x l code permitted at
 stand_in Sfi2 items p slots labelled nops k x l end code permitted at = stand_in_bundles Sfi2 items p slots nops k x l code permitted at

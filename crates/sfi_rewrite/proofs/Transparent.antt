@@ -1,5 +1,5 @@
 -- Each expansion does what its instruction does.
-use Rattle.sfi_rewrite.proofs.Prelude.{◌≡◌, ◌≢◌, ℕ, zero, suc, ◌^◌, ◌<◌, List, [], ◌∷◌, ◌++◌, Bool, true, false, refl, sym, ap, ◌∙◌, subst, arith, inl, inr, ℤ, pos, negsuc, bit_and, bit_or, or_parts, And, Or, LoadKind, Instr, Op, OpImm, Load, Store, Jalr, address_after, Hart, State, IsState, register, with_register, with_pc, Stands, effect, IsStep, Slot, Wide, Short, slot_size, data_pair_slots, code_pair_slots, jump_to_x31, jump_slots, IsAlone, IsMasked, SlotStands, IsSameAside, DoesAs, IsTransparent, expansion, Form16, further, StandInRow, LeadsTo, LeadTo, offset_by, Addi, StoreWidth, Format, Sfi1, Sfi2, Sfiw, is_withheld, names_withheld}
+use Rattle.sfi_rewrite.proofs.Prelude.{◌≡◌, ◌≢◌, ℕ, zero, suc, ◌^◌, ◌<◌, List, [], ◌∷◌, ◌++◌, Bool, true, false, refl, sym, ap, ◌∙◌, subst, arith, inl, inr, ℤ, pos, negsuc, bit_and, bit_or, or_parts, And, Or, LoadKind, Instr, Op, OpImm, Load, Store, Jalr, address_after, Hart, State, IsState, register, with_register, with_pc, Stands, effect, IsStep, BundleSlot, Wide, Short, slot_size, data_pair_slots, code_pair_slots, jump_to_x31, jump_slots, IsAlone, IsMasked, SlotStands, IsSameAside, DoesAs, IsTransparent, expansion, Form16, further, StandInRow, LeadsTo, LeadTo, offset_by, Addi, StoreWidth, Format, Sfi1, Sfi2, Sfiw, is_withheld, names_withheld}
 use Rattle.rv_comp.specs.declared.front.Front.TheVariants.{Read}
 use Rattle.std.proofs.lemmas.Bool.{ne_eqb}
 use Rattle.sfi_image.specs.Parts.{IsBundleStart}
@@ -183,7 +183,7 @@ stays_there : (pc : ℕ) → pc < 2 ^ 32 → pc ≡ address_after pc 0
 stays_there pc h = omega arith
 
 -- what stands for an instruction does it
-pub one_does : (is_own : ℕ → Bool) (s : State) (i : Instr) (x : Slot) → IsState s → Stands s i (slot_size x) → DoesAs is_own s i [] x
+pub one_does : (is_own : ℕ → Bool) (s : State) (i : Instr) (x : BundleSlot) → IsState s → Stands s i (slot_size x) → DoesAs is_own s i [] x
 one_does is_own s i x is stand = record {
   there = s;
   leads = refl;
@@ -194,7 +194,7 @@ one_does is_own s i x is stand = record {
 }
 
 -- one slot, which stands for the instruction
-one_transparent : (i : Instr) (x : Slot) → ((s : State) → SlotStands i s x → Stands s i (slot_size x)) → IsTransparent i (x ∷ [])
+one_transparent : (i : Instr) (x : BundleSlot) → ((s : State) → SlotStands i s x → Stands s i (slot_size x)) → IsTransparent i (x ∷ [])
 one_transparent i x stands = record { before = []; last = x; slots_are = refl; does = λ c d s asked keeps. one_does is_scratch s i x asked.is_state (stands s asked.stand.0) }
 
 wide_transparent : (i : Instr) → IsTransparent i (Wide i ∷ [])
@@ -203,22 +203,22 @@ wide_transparent i = one_transparent i (Wide i) (λ s stand. stand)
 short_transparent : (i : Instr) (f : Form16) → expansion f ≡ i → IsTransparent i (Short f ∷ [])
 short_transparent i f e = one_transparent i (Short f) (λ s stand. subst (λ (j : Instr). Stands s j 2) e stand)
 
-pub alone_transparent : (rvc : Bool) (i : Instr) (slots : List Slot) → IsAlone rvc i slots → IsTransparent i slots
-alone_transparent false i slots e = subst (λ (l : List Slot). IsTransparent i l) (sym e) (wide_transparent i)
-alone_transparent true i slots (inl s) = subst (λ (l : List Slot). IsTransparent i l) (sym s.2) (short_transparent i s.0 s.1.expands)
-alone_transparent true i slots (inr w) = subst (λ (l : List Slot). IsTransparent i l) (sym w.1) (wide_transparent i)
+pub alone_transparent : (rvc : Bool) (i : Instr) (slots : List BundleSlot) → IsAlone rvc i slots → IsTransparent i slots
+alone_transparent false i slots e = subst (λ (l : List BundleSlot). IsTransparent i l) (sym e) (wide_transparent i)
+alone_transparent true i slots (inl s) = subst (λ (l : List BundleSlot). IsTransparent i l) (sym s.2) (short_transparent i s.0 s.1.expands)
+alone_transparent true i slots (inr w) = subst (λ (l : List BundleSlot). IsTransparent i l) (sym w.1) (wide_transparent i)
 
 -- a slot that waits for its name
-pub named_transparent : (i : Instr) (x : Slot) → slot_size x ≡ 4 → ((s : State) → SlotStands i s x → Stands s i 4) → IsTransparent i (x ∷ [])
+pub named_transparent : (i : Instr) (x : BundleSlot) → slot_size x ≡ 4 → ((s : State) → SlotStands i s x → Stands s i 4) → IsTransparent i (x ∷ [])
 named_transparent i x size stands = one_transparent i x (λ s stand. subst (λ (n : ℕ). Stands s i n) (sym size) (stands s stand))
 
 -- ---- any expansion
 
-pub of_masked : (f : Format) (rvc : Bool) (i : Instr) (slots : List Slot)
+pub of_masked : (f : Format) (rvc : Bool) (i : Instr) (slots : List BundleSlot)
     → names_withheld f i ≡ false → IsMasked rvc i slots → IsTransparent i slots
-of_masked f rvc (Load kind rd a imm) slots n e = subst (λ (l : List Slot). IsTransparent (Load kind rd a imm) l) (sym e) (load_transparent kind rd a imm)
+of_masked f rvc (Load kind rd a imm) slots n e = subst (λ (l : List BundleSlot). IsTransparent (Load kind rd a imm) l) (sym e) (load_transparent kind rd a imm)
 of_masked f rvc (Store width a rs2 imm) slots n e =
     let h = or_parts (is_withheld f a) (is_withheld f rs2) n in
-    subst (λ (l : List Slot). IsTransparent (Store width a rs2 imm) l) (sym e) (store_transparent width a rs2 imm (not_withheld f rs2 h.1))
-of_masked f rvc (Jalr rd a imm) slots n e = subst (λ (l : List Slot). IsTransparent (Jalr rd a imm) l) (sym e) (jumps_transparent rd a imm)
+    subst (λ (l : List BundleSlot). IsTransparent (Store width a rs2 imm) l) (sym e) (store_transparent width a rs2 imm (not_withheld f rs2 h.1))
+of_masked f rvc (Jalr rd a imm) slots n e = subst (λ (l : List BundleSlot). IsTransparent (Jalr rd a imm) l) (sym e) (jumps_transparent rd a imm)
 of_masked f rvc other slots n e = alone_transparent rvc other slots e

@@ -1,10 +1,10 @@
 -- The bundles of a placement are whole expansions and c.nops: no expansion was cut.
-use Rattle.sfi_rewrite.proofs.Prelude.{◌≡◌, ℕ, zero, suc, ◌+◌, ◌*◌, ◌%◌, ◌<◌, ◌≤◌, List, [], ◌∷◌, ◌++◌, replicate, refl, sym, ap, ◌∙◌, subst, arith, append_assoc, append-nil, All, All-nil, All-cons, All-head, All-tail, Format, Item, IsBody, Slot, size_of, slots_of, c_nop, AreLaidFrom, AreBundles, IsPermitted, AreWhole, nothing, padding}
+use Rattle.sfi_rewrite.proofs.Prelude.{◌≡◌, ℕ, zero, suc, ◌+◌, ◌*◌, ◌%◌, ◌<◌, ◌≤◌, List, [], ◌∷◌, ◌++◌, replicate, refl, sym, ap, ◌∙◌, subst, arith, append_assoc, append-nil, All, All-nil, All-cons, All-head, All-tail, Format, Item, IsBody, BundleSlot, size_of, slots_of, c_nop, AreLaidFrom, AreBundles, IsPermitted, AreWhole, nothing, padding}
 use Rattle.sfi_rewrite.specs.Placed.{expansion}
 use Rattle.sfi_rewrite.proofs.Sizes.{size_of-append, size_even, size_at_least, begins_with, expansion_one}
 use Rattle.sfi_rewrite.proofs.Laid.{size_next}
 
-whole-append : (f : Format) (count : ℕ) (xs ys : List Slot) → AreWhole f count xs → AreWhole f count ys → AreWhole f count (xs ++ ys)
+whole-append : (f : Format) (count : ℕ) (xs ys : List BundleSlot) → AreWhole f count xs → AreWhole f count ys → AreWhole f count (xs ++ ys)
 whole-append f count _ ys nothing w = w
 whole-append f count _ ys (padding rest r) w = padding (rest ++ ys) (whole-append f count rest ys r w)
 whole-append f count _ ys (expansion x one rest p b e r) w =
@@ -13,33 +13,33 @@ whole-append f count _ ys (expansion x one rest p b e r) w =
 -- ---- pieces: an expansion or a c.nop each
 
 -- the piece is whole, takes some bytes, and from `end` on it crosses no bundle's end
-record IsPiece (f : Format) (count end : ℕ) (piece : List Slot) : Type 0 where
+record IsPiece (f : Format) (count end : ℕ) (piece : List BundleSlot) : Type 0 where
   whole : AreWhole f count piece
   some : 0 < size_of piece
   inside : end % 16 + size_of piece ≤ 16
 
-abbrev ArePieces : Format → ℕ → ℕ → List (List Slot) → Type 0
+abbrev ArePieces : Format → ℕ → ℕ → List (List BundleSlot) → Type 0
 ArePieces f count end [] = Unit {0}
 ArePieces f count end (p ∷ pieces) = IsPiece f count end p × ArePieces f count (end + size_of p) pieces
 
 -- the slots, from that end on, are such pieces
-record InPieces (f : Format) (count end : ℕ) (slots : List Slot) : Type 0 where
-  pieces : List (List Slot)
+record InPieces (f : Format) (count end : ℕ) (slots : List BundleSlot) : Type 0 where
+  pieces : List (List BundleSlot)
   are : ArePieces f count end pieces
   flat : slots_of pieces ≡ slots
 
-all_whole : (f : Format) (count end : ℕ) (pieces : List (List Slot)) → ArePieces f count end pieces → AreWhole f count (slots_of pieces)
+all_whole : (f : Format) (count end : ℕ) (pieces : List (List BundleSlot)) → ArePieces f count end pieces → AreWhole f count (slots_of pieces)
 all_whole f count end [] h = nothing
 all_whole f count end (p ∷ pieces) h = whole-append f count p (slots_of pieces) h.0.whole (all_whole f count (end + size_of p) pieces h.1)
 
 -- ---- cut at a bundle's end
 
 -- what stands up to the bundle's end is whole, and pieces stand after it
-record IsCut (f : Format) (count end : ℕ) (b rest : List Slot) : Type 0 where
+record IsCut (f : Format) (count end : ℕ) (b rest : List BundleSlot) : Type 0 where
   whole : AreWhole f count b
   after : InPieces f count (end + size_of b) rest
 
-cut : (f : Format) (count end : ℕ) (pieces : List (List Slot)) (b rest : List Slot)
+cut : (f : Format) (count end : ℕ) (pieces : List (List BundleSlot)) (b rest : List BundleSlot)
     → ArePieces f count end pieces → slots_of pieces ≡ b ++ rest → end % 16 + size_of b ≤ 16 → (end + size_of b) % 16 ≡ 0 → IsCut f count end b rest
 cut f count end pieces [] rest h e room up =
     record { whole = nothing; after = subst (λ (n : ℕ). InPieces f count n rest) (let z : size_of [] ≡ 0 = refl in omega arith) (record { pieces = pieces; are = h; flat = e }) }
@@ -56,7 +56,7 @@ cut f count end (p ∷ pieces) (x ∷ b) rest h e room up =
       after = subst (λ (m : ℕ). InPieces f count m rest) (omega arith) r.after;
     }
 
-bundles_whole : (f : Format) (count end : ℕ) (bundles pieces : List (List Slot))
+bundles_whole : (f : Format) (count end : ℕ) (bundles pieces : List (List BundleSlot))
     → AreBundles bundles → end % 16 ≡ 0 → ArePieces f count end pieces → slots_of pieces ≡ slots_of bundles → All (AreWhole f count) bundles
 bundles_whole f count end [] pieces b z h e = All-nil (AreWhole f count)
 bundles_whole f count end (one ∷ []) pieces b z h e =
@@ -69,7 +69,7 @@ bundles_whole f count end (one ∷ two ∷ bundles) pieces b z h e =
 
 -- ---- what is laid is pieces
 
-nop_pieces : (f : Format) (count end n : ℕ) (more : List Slot) → end % 2 ≡ 0 → InPieces f count (end + 2 * n) more → InPieces f count end (replicate n c_nop ++ more)
+nop_pieces : (f : Format) (count end n : ℕ) (more : List BundleSlot) → end % 2 ≡ 0 → InPieces f count (end + 2 * n) more → InPieces f count end (replicate n c_nop ++ more)
 nop_pieces f count end zero more even m = subst (λ (k : ℕ). InPieces f count k more) (omega arith) m
 nop_pieces f count end (suc n) more even m =
     let r = nop_pieces f count (end + 2) n more (omega arith) (subst (λ (k : ℕ). InPieces f count k more) (omega arith) m) in
@@ -79,7 +79,7 @@ nop_pieces f count end (suc n) more even m =
       flat = ap (λ v. c_nop ∷ v) r.flat;
     }
 
-laid_pieces : (f : Format) (count end : ℕ) (items : List Item) (slots more : List Slot)
+laid_pieces : (f : Format) (count end : ℕ) (items : List Item) (slots more : List BundleSlot)
     → end % 2 ≡ 0 → AreLaidFrom f end items slots → All (IsPermitted f) items → All (λ x. IsBody count x.body) items → InPieces f count (end + size_of slots) more
     → InPieces f count end (slots ++ more)
 laid_pieces f count end [] slots more even l p b m =
@@ -113,7 +113,7 @@ laid_pieces f count end (x ∷ items) slots more even l p b m =
     subst (InPieces f count end) (sym shape) all
 
 -- the bundles of what is laid, with c.nops after it
-pub laid_whole : (f : Format) (count : ℕ) (items : List Item) (slots : List Slot) (nops : ℕ) (bundles : List (List Slot))
+pub laid_whole : (f : Format) (count : ℕ) (items : List Item) (slots : List BundleSlot) (nops : ℕ) (bundles : List (List BundleSlot))
     → AreLaidFrom f 0 items slots → All (IsPermitted f) items → All (λ x. IsBody count x.body) items → slots_of bundles ≡ slots ++ replicate nops c_nop → AreBundles bundles
     → All (AreWhole f count) bundles
 laid_whole f count items slots nops bundles l p b e are =

@@ -1,5 +1,5 @@
 -- The expansion in words acts as its instruction: what writes a data register keeps what that leaves.
-use Rattle.sfi_rewrite.proofs.Prelude.{◌≡◌, ◌≢◌, ℕ, zero, suc, ◌+◌, ◌%◌, ◌^◌, ◌<◌, ◌==◌, ◌&&◌, List, [], ◌∷◌, ◌++◌, length, Bool, true, false, MatchBool, Option, Some, None, inl, inr, refl, sym, ap, ◌∙◌, subst, arith, length-append, append_assoc, append-nil, eqb-true, true≢false, and_parts, or_parts, ℤ, pos, negsuc, And, Or, LoadKind, Instr, Op, OpImm, Load, Store, Jal, Jalr, Branch, Lui, Auipc, Bytes, address_after, Hart, State, IsState, register, with_register, with_pc, past, Stepped, Stands, next, effect, IsStep, Item, Body, Plain, To, High, Low, Base, Slot, Wide, Jump, Upper, Lower, Region, slot_size, size_of, IsAlone, HasReserved, SlotStands, IsAskedOf, IsAimed, MayBe, not, ◌||◌, if◌then◌else◌, destination, Addi, StoreWidth, Add, further, LeadsTo, LeadTo, Next, Sfiw, is_data_register, Holds, Span, masked, SlotsStand, is_withheld, names_withheld, item_names_withheld}
+use Rattle.sfi_rewrite.proofs.Prelude.{◌≡◌, ◌≢◌, ℕ, zero, suc, ◌+◌, ◌%◌, ◌^◌, ◌<◌, ◌==◌, ◌&&◌, List, [], ◌∷◌, ◌++◌, length, Bool, true, false, MatchBool, Option, Some, None, inl, inr, refl, sym, ap, ◌∙◌, subst, arith, length-append, append_assoc, append-nil, eqb-true, true≢false, and_parts, or_parts, ℤ, pos, negsuc, And, Or, LoadKind, Instr, Op, OpImm, Load, Store, Jal, Jalr, Branch, Lui, Auipc, Bytes, address_after, Hart, State, IsState, register, with_register, with_pc, past, Stepped, Stands, next, effect, IsStep, Item, Body, Plain, To, High, Low, Base, BundleSlot, Wide, Jump, Upper, Lower, Region, slot_size, size_of, IsAlone, HasReserved, SlotStands, IsAskedOf, IsAimed, MayBe, not, ◌||◌, if◌then◌else◌, destination, Addi, StoreWidth, Add, further, LeadsTo, LeadTo, Next, Sfiw, is_data_register, Holds, Span, masked, SlotsStand, is_withheld, names_withheld, item_names_withheld}
 use Rattle.sfi_rewrite.specs.Laws.{WordExpansionsAreTransparent}
 use Rattle.sfi_rewrite.specs.words.Expansion.{IsConfined, IsAround, IsExpansionOf, before, after, data_mask, mask_after, is_move, moved, is_step_before_use, is_step_to, is_zero, is_barred_jump}
 use Rattle.sfi_rewrite.specs.words.Transparency.{is_own, meant, IsTransparent, KeepsData, ActsBy, ActsAs}
@@ -68,13 +68,13 @@ written_free other d e n = absurd (cc)
 abbrev at_pc : State → ℕ → State
 at_pc s pc = record { hart = with_pc s.hart pc; memory = s.memory }
 
-no_further : (s : State) (i : Instr) (slots : List Slot) → s.hart.pc < 2 ^ 32 → SlotsStand i s slots → SlotsStand i (further s 0) slots
+no_further : (s : State) (i : Instr) (slots : List BundleSlot) → s.hart.pc < 2 ^ 32 → SlotsStand i s slots → SlotsStand i (further s 0) slots
 no_further s i slots small st =
     let e : s.hart.pc ≡ address_after s.hart.pc 0 = omega arith in
     subst (λ (p : ℕ). SlotsStand i (at_pc s p) slots) e st
 
 -- what stands after others
-stand_after : (i : Instr) (s : State) (front back : List Slot) → s.hart.pc < 2 ^ 32 → SlotsStand i s (front ++ back) → SlotsStand i (further s (size_of front)) back
+stand_after : (i : Instr) (s : State) (front back : List BundleSlot) → s.hart.pc < 2 ^ 32 → SlotsStand i s (front ++ back) → SlotsStand i (further s (size_of front)) back
 stand_after i s [] back small st = no_further s i back small st
 stand_after i s (x ∷ front) back small st =
     let size = size_of-cons x front in
@@ -82,7 +82,7 @@ stand_after i s (x ∷ front) back small st =
     let e : address_after (address_after s.hart.pc (slot_size x)) (size_of front) ≡ address_after s.hart.pc (size_of (x ∷ front)) = omega arith in
     subst (λ (p : ℕ). SlotsStand i (at_pc s p) back) e rest
 
-stand_before : (i : Instr) (s : State) (front back : List Slot) → SlotsStand i s (front ++ back) → SlotsStand i s front
+stand_before : (i : Instr) (s : State) (front back : List BundleSlot) → SlotsStand i s (front ++ back) → SlotsStand i s front
 stand_before i s [] back st = tt
 stand_before i s (x ∷ front) back st = (st.0, stand_before i (further s (slot_size x)) front back st.1)
 
@@ -119,7 +119,7 @@ named_low : (d : ℕ) → d ≢ 0 → is_own d ≡ false → d < 5 → IsNamed d
 named_low d some own small = record { some = some; small = omega arith; own = own }
 
 -- slots that are transparent to i, which writes d, and the mask of d
-masked_keeps : (i : Instr) (d : ℕ) (slots : List Slot) → destination i ≡ Some d → is_jump i ≡ false → is_data_register d ≡ true → is_own d ≡ false
+masked_keeps : (i : Instr) (d : ℕ) (slots : List BundleSlot) → destination i ≡ Some d → is_jump i ≡ false → is_data_register d ≡ true → is_own d ≡ false
     → (t : IsTransparent i slots) → (is_auipc i ≡ true → t.before ≡ []) → KeepsData d i (slots ++ data_mask d d)
 masked_keeps i d slots writer no_jump typed own t first = record {
   does = λ c d_at s asked keeps done.
@@ -184,7 +184,7 @@ masked_keeps i d slots writer no_jump typed own t first = record {
       stand = stand_before i s slots (data_mask d d) asked.stand;
     }
 
-    slots_count : (front : List Slot) (last : Slot) (all mask : List Slot) → all ≡ front ++ last ∷ [] → length front + (1 + length mask) ≡ length (all ++ mask)
+    slots_count : (front : List BundleSlot) (last : BundleSlot) (all mask : List BundleSlot) → all ≡ front ++ last ∷ [] → length front + (1 + length mask) ≡ length (all ++ mask)
     slots_count front last all mask e =
         let a = ap (λ v. length (v ++ mask)) e in
         let b : length ((front ++ last ∷ []) ++ mask) ≡ length (front ++ last ∷ mask) = ap length (append_assoc front (last ∷ []) mask) in
@@ -225,7 +225,7 @@ move_keeps i d a typed own moves = record {
 -- ---- an instruction on the register that it goes by
 
 -- what stands before it and it are transparent to it; before auipc nothing stands
-record IsBefore (i : Instr) (slots : List Slot) : Type 0 where
+record IsBefore (i : Instr) (slots : List BundleSlot) : Type 0 where
   transparent : IsTransparent i slots
   first : is_auipc i ≡ true → transparent.before ≡ []
 
@@ -235,14 +235,14 @@ based : (a : ℕ) (d_at : Span) (s : State) → is_data_register a ≡ false →
 based a d_at s d z keeps =
     subst (λ (b : Bool). MatchBool b (Unit {0}) (Holds d_at (register s.hart a))) z (subst (λ (b : Bool). MatchBool (b || (a == 0)) (Unit {0}) (Holds d_at (register s.hart a))) d keeps)
 
-load_before : (typed none rvc : Bool) (kind : LoadKind) (rd a : ℕ) (imm : ℤ) (slots : List Slot) → is_data_register a ≡ typed → (a == 0) ≡ none
+load_before : (typed none rvc : Bool) (kind : LoadKind) (rd a : ℕ) (imm : ℤ) (slots : List BundleSlot) → is_data_register a ≡ typed → (a == 0) ≡ none
     → IsAlone rvc (Load kind rd (if typed then a else if none then 26 else 29) imm) slots → IsTransparent (Load kind rd a imm) ((if typed || none then [] else data_mask 29 a) ++ slots)
 load_before true true rvc kind rd a imm slots d z e = absurd (not_zero a d (eqb-true a 0 z))
 load_before true false rvc kind rd a imm slots d z e = load_alone rvc kind rd a imm slots (subst (λ (b : Bool). IsAlone rvc (Load kind rd (if b then 26 else a) imm) slots) (sym z) e)
 load_before false true rvc kind rd a imm slots d z e = load_alone rvc kind rd a imm slots (subst (λ (b : Bool). IsAlone rvc (Load kind rd (if b then 26 else a) imm) slots) (sym z) e)
 load_before false false rvc kind rd a imm slots d z e = load_transparent rvc kind rd a imm slots e z (λ c d_at s keeps. based a d_at s d z keeps)
 
-store_before : (typed none rvc : Bool) (width : StoreWidth) (a rs2 : ℕ) (imm : ℤ) (slots : List Slot) → is_own rs2 ≡ false → is_data_register a ≡ typed → (a == 0) ≡ none
+store_before : (typed none rvc : Bool) (width : StoreWidth) (a rs2 : ℕ) (imm : ℤ) (slots : List BundleSlot) → is_own rs2 ≡ false → is_data_register a ≡ typed → (a == 0) ≡ none
     → IsAlone rvc (Store width (if typed then a else if none then 26 else 29) rs2 imm) slots → IsTransparent (Store width a rs2 imm) ((if typed || none then [] else data_mask 29 a) ++ slots)
 store_before true true rvc width a rs2 imm slots own d z e = absurd (not_zero a d (eqb-true a 0 z))
 store_before true false rvc width a rs2 imm slots own d z e = store_alone rvc width a rs2 imm slots (subst (λ (b : Bool). IsAlone rvc (Store width (if b then 26 else a) rs2 imm) slots) (sym z) e)
@@ -253,13 +253,13 @@ not_false : (b : Bool) → not b ≡ false → b ≡ true
 not_false true h = refl
 not_false false h = absurd (true≢false h)
 
-jump_before : (rd a : ℕ) (imm : ℤ) (slots : List Slot) → (is_data_register rd || not (is_zero imm)) ≡ false → slots ≡ Wide (Jalr rd 30 imm) ∷ []
+jump_before : (rd a : ℕ) (imm : ℤ) (slots : List BundleSlot) → (is_data_register rd || not (is_zero imm)) ≡ false → slots ≡ Wide (Jalr rd 30 imm) ∷ []
     → IsTransparent (Jalr rd a imm) (Wide (Op And 30 a 25) ∷ Wide (Op Or 30 30 24) ∷ slots)
-jump_before rd a (pos zero) slots b e = subst (λ (v : List Slot). IsTransparent (Jalr rd a (pos 0)) (Wide (Op And 30 a 25) ∷ Wide (Op Or 30 30 24) ∷ v)) (sym e) (jump_transparent rd a)
+jump_before rd a (pos zero) slots b e = subst (λ (v : List BundleSlot). IsTransparent (Jalr rd a (pos 0)) (Wide (Op And 30 a 25) ∷ Wide (Op Or 30 30 24) ∷ v)) (sym e) (jump_transparent rd a)
 jump_before rd a (pos (suc n)) slots b e = absurd (let z : suc n ≡ 0 = eqb-true (suc n) 0 (not_false (suc n == 0) (or_parts (is_data_register rd) (not (suc n == 0)) b).1) in omega arith)
 jump_before rd a (negsuc n) slots b e = absurd (true≢false (or_parts (is_data_register rd) true b).1)
 
-confined_before : (rvc : Bool) (i : Instr) (slots : List Slot) → names_withheld Sfiw i ≡ false → is_barred_jump (Plain i) ≡ false → IsConfined rvc i slots → IsBefore i (before i ++ slots)
+confined_before : (rvc : Bool) (i : Instr) (slots : List BundleSlot) → names_withheld Sfiw i ≡ false → is_barred_jump (Plain i) ≡ false → IsConfined rvc i slots → IsBefore i (before i ++ slots)
 confined_before rvc (Load kind rd a imm) slots n b e =
     record { transparent = load_before (is_data_register a) (a == 0) rvc kind rd a imm slots refl refl e; first = λ is. absurd (true≢false (sym is)) }
 confined_before rvc (Store width a rs2 imm) slots n b e = record {
@@ -277,20 +277,20 @@ no_jump (Jalr rd a imm) d e typed b = let same : rd ≡ d = cc in absurd (true�
 no_jump other d e typed b = refl
 
 -- after what stands before it and it, the mask of what it writes, unless it is a step
-acts : (typed step : Bool) (i : Instr) (d : ℕ) (front slots : List Slot) → is_data_register d ≡ typed → destination i ≡ Some d → is_own d ≡ false → (is_data_register d ≡ true → is_jump i ≡ false)
+acts : (typed step : Bool) (i : Instr) (d : ℕ) (front slots : List BundleSlot) → is_data_register d ≡ typed → destination i ≡ Some d → is_own d ≡ false → (is_data_register d ≡ true → is_jump i ≡ false)
     → IsBefore i front → slots ≡ front ++ (if step then [] else if typed then data_mask d d else []) → MatchBool (typed && not step) (KeepsData d i slots) (IsTransparent i slots)
-acts true true i d front slots is e own j t h = subst (λ (v : List Slot). IsTransparent i v) (sym (h ∙ append-nil front)) t.transparent
-acts true false i d front slots is e own j t h = subst (λ (v : List Slot). KeepsData d i v) (sym h) (masked_keeps i d front e (j is) is own t.transparent t.first)
-acts false true i d front slots is e own j t h = subst (λ (v : List Slot). IsTransparent i v) (sym (h ∙ append-nil front)) t.transparent
-acts false false i d front slots is e own j t h = subst (λ (v : List Slot). IsTransparent i v) (sym (h ∙ append-nil front)) t.transparent
+acts true true i d front slots is e own j t h = subst (λ (v : List BundleSlot). IsTransparent i v) (sym (h ∙ append-nil front)) t.transparent
+acts true false i d front slots is e own j t h = subst (λ (v : List BundleSlot). KeepsData d i v) (sym h) (masked_keeps i d front e (j is) is own t.transparent t.first)
+acts false true i d front slots is e own j t h = subst (λ (v : List BundleSlot). IsTransparent i v) (sym (h ∙ append-nil front)) t.transparent
+acts false false i d front slots is e own j t h = subst (λ (v : List BundleSlot). IsTransparent i v) (sym (h ∙ append-nil front)) t.transparent
 
-acts_by : (to : Option ℕ) (step : Bool) (i : Instr) (front slots : List Slot) → destination i ≡ to → ((d : ℕ) → to ≡ Some d → is_own d ≡ false)
+acts_by : (to : Option ℕ) (step : Bool) (i : Instr) (front slots : List BundleSlot) → destination i ≡ to → ((d : ℕ) → to ≡ Some d → is_own d ≡ false)
     → ((d : ℕ) → to ≡ Some d → is_data_register d ≡ true → is_jump i ≡ false) → IsBefore i front → slots ≡ front ++ (if step then [] else mask_after to) → ActsBy to step i slots
-acts_by None true i front slots e own j t h = subst (λ (v : List Slot). IsTransparent i v) (sym (h ∙ append-nil front)) t.transparent
-acts_by None false i front slots e own j t h = subst (λ (v : List Slot). IsTransparent i v) (sym (h ∙ append-nil front)) t.transparent
+acts_by None true i front slots e own j t h = subst (λ (v : List BundleSlot). IsTransparent i v) (sym (h ∙ append-nil front)) t.transparent
+acts_by None false i front slots e own j t h = subst (λ (v : List BundleSlot). IsTransparent i v) (sym (h ∙ append-nil front)) t.transparent
 acts_by (Some d) step i front slots e own j t h = acts (is_data_register d) step i d front slots refl e (own d refl) (j d refl) t h
 
-around_acts : (rvc step : Bool) (i : Instr) (slots : List Slot) → names_withheld Sfiw i ≡ false → is_barred_jump (Plain i) ≡ false → IsAround rvc step i slots → ActsAs step i slots
+around_acts : (rvc step : Bool) (i : Instr) (slots : List BundleSlot) → names_withheld Sfiw i ≡ false → is_barred_jump (Plain i) ≡ false → IsAround rvc step i slots → ActsAs step i slots
 around_acts rvc step i slots n b h =
     acts_by (destination i) step i (before i ++ h.0) slots refl (λ d e. not_own d (written_free i d e n)) (λ d e typed. no_jump i d e typed b)
     (confined_before rvc i h.0 n b h.1) (h.2 ∙ sym (append_assoc (before i) h.0 (after step i)))
@@ -319,31 +319,31 @@ move_acts (Op Add d b a) n h =
     (λ g m is. let z = is.hart.zero in let w = is.hart.words a in ap (λ v. next (with_register (past g 4) d v) m) (let e : (register g 0 + register g a) % 2 ^ 32 ≡ register g a = omega arith in e)))
 move_acts other n h = absurd (true≢false (sym h))
 
-plain_acts : (moves step rvc : Bool) (i : Instr) (slots : List Slot) → (is_move i && not step) ≡ moves → names_withheld Sfiw i ≡ false → is_barred_jump (Plain i) ≡ false
+plain_acts : (moves step rvc : Bool) (i : Instr) (slots : List BundleSlot) → (is_move i && not step) ≡ moves → names_withheld Sfiw i ≡ false → is_barred_jump (Plain i) ≡ false
     → MatchBool moves (slots ≡ moved i) (IsAround rvc step i slots) → ActsAs step i slots
 plain_acts true true rvc i slots m n b h = absurd (true≢false (sym (and_parts (is_move i) false m).1))
-plain_acts true false rvc i slots m n b h = subst (λ (v : List Slot). ActsAs false i v) (sym h) (move_acts i n (and_parts (is_move i) true m).0)
+plain_acts true false rvc i slots m n b h = subst (λ (v : List BundleSlot). ActsAs false i v) (sym h) (move_acts i n (and_parts (is_move i) true m).0)
 plain_acts false step rvc i slots m n b h = around_acts rvc step i slots n b h
 
 -- ---- items
 
-waits_for : (i : Instr) (slot : Slot) → meant i ≡ i → slot_size slot ≡ 4 → ((s : State) → SlotStands i s slot → Stands s i 4) → IsBefore i (slot ∷ [])
+waits_for : (i : Instr) (slot : BundleSlot) → meant i ≡ i → slot_size slot ≡ 4 → ((s : State) → SlotStands i s slot → Stands s i 4) → IsBefore i (slot ∷ [])
 waits_for i slot means size stands =
     let one : IsOneFor i i (slot ∷ []) = record { slot = slot; are = refl; stands = λ s st. subst (λ (n : ℕ). Stands s i n) (sym size) (stands s st) } in
     record { transparent = one_transparent i i (slot ∷ []) one means; first = λ is. refl }
 
-aimed_acts : (j i : Instr) (name line : ℕ) (step : Bool) (slots : List Slot) → IsAimed j i → is_barred_jump (To j name) ≡ false → slots ≡ Jump j name line ∷ [] → ActsAs step i slots
+aimed_acts : (j i : Instr) (name line : ℕ) (step : Bool) (slots : List BundleSlot) → IsAimed j i → is_barred_jump (To j name) ≡ false → slots ≡ Jump j name line ∷ [] → ActsAs step i slots
 aimed_acts (Jal rd offset) i name line step slots a b h =
     let one = (waits_for (Jal rd a.0) (Jump (Jal rd offset) name line) refl refl (λ s st. st)).transparent in
     subst (λ (k : Instr). ActsAs step k slots) (sym a.1)
     (subst (λ (t : Bool). MatchBool (t && not step) (KeepsData rd (Jal rd a.0) slots) (IsTransparent (Jal rd a.0) slots)) (sym b)
-    (subst (λ (v : List Slot). IsTransparent (Jal rd a.0) v) (sym h) one))
+    (subst (λ (v : List BundleSlot). IsTransparent (Jal rd a.0) v) (sym h) one))
 aimed_acts (Branch cond rs1 rs2 offset) i name line step slots a b h =
     let one = (waits_for (Branch cond rs1 rs2 a.0) (Jump (Branch cond rs1 rs2 offset) name line) refl refl (λ s st. st)).transparent in
-    subst (λ (k : Instr). ActsAs step k slots) (sym a.1) (subst (λ (v : List Slot). IsTransparent (Branch cond rs1 rs2 a.0) v) (sym h) one)
+    subst (λ (k : Instr). ActsAs step k slots) (sym a.1) (subst (λ (v : List BundleSlot). IsTransparent (Branch cond rs1 rs2 a.0) v) (sym h) one)
 aimed_acts _ i name line step slots a b h = absurd a
 
-half_acts : (i : Instr) (slot : Slot) (rd : ℕ) (slots : List Slot) → destination i ≡ Some rd → is_jump i ≡ false → is_withheld Sfiw rd ≡ false → IsBefore i (slot ∷ [])
+half_acts : (i : Instr) (slot : BundleSlot) (rd : ℕ) (slots : List BundleSlot) → destination i ≡ Some rd → is_jump i ≡ false → is_withheld Sfiw rd ≡ false → IsBefore i (slot ∷ [])
     → slots ≡ slot ∷ mask_after (Some rd) → ActsBy (Some rd) false i slots
 half_acts i slot rd slots e j free t h = acts (is_data_register rd) false i rd (slot ∷ []) slots refl e (not_own rd free) (λ typed. j) t h
 
@@ -351,7 +351,7 @@ abbrev is_plain : Body → Bool
 is_plain (Plain i) = true
 is_plain _ = false
 
-pub body_acts : (line : ℕ) (rvc step : Bool) (body : Body) (i : Instr) (slots : List Slot) → MayBe body i → item_names_withheld Sfiw body ≡ false → is_barred_jump body ≡ false
+pub body_acts : (line : ℕ) (rvc step : Bool) (body : Body) (i : Instr) (slots : List BundleSlot) → MayBe body i → item_names_withheld Sfiw body ≡ false → is_barred_jump body ≡ false
     → (is_plain body ≡ false → step ≡ false) → IsExpansionOf line rvc step body slots → ActsAs step i slots
 body_acts line rvc step (Plain j) i slots be n b p h =
     subst (λ (k : Instr). ActsAs step k slots) (sym be) (plain_acts (is_move j && not step) step rvc j slots refl n b h)

@@ -1,5 +1,5 @@
 -- What is laid in words, and in either kind of code: that there is one way, and a beginning of the items.
-use Rattle.sfi_rewrite.proofs.Prelude.{◌≡◌, ℕ, zero, suc, ◌%◌, ◌≤◌, List, [], ◌∷◌, ◌++◌, length, take, drop, refl, sym, ap, ◌∙◌, subst, arith, append_assoc, take_all, take-take, All, MatchBool, Format, Item, Slot, size_of, IsPermitted, AreFaultless, AreLaidFrom, Bool, true, false, ◌&&◌, Instr, Load, Store, Jalr, Body, Plain, Sfi1, Sfi2, Sfiw, take-append-drop, drop_all, AreLaidIn, not, code_most, has_words, Marked, marked, in_words, AreExpanded, AreLaidBefore}
+use Rattle.sfi_rewrite.proofs.Prelude.{◌≡◌, ℕ, zero, suc, ◌%◌, ◌≤◌, List, [], ◌∷◌, ◌++◌, length, take, drop, refl, sym, ap, ◌∙◌, subst, arith, append_assoc, take_all, take-take, All, MatchBool, Format, Item, BundleSlot, size_of, IsPermitted, AreFaultless, AreLaidFrom, Bool, true, false, ◌&&◌, Instr, Load, Store, Jalr, Body, Plain, Sfi1, Sfi2, Sfiw, take-append-drop, drop_all, AreLaidIn, not, code_most, has_words, Marked, marked, in_words, AreExpanded, AreLaidBefore}
 use Rattle.sfi_rewrite.specs.words.Expansion.{IsExpansion, before, after, base_of, IsConfined, IsAround, IsExpansionOf, is_step_before_use, is_move, moved}
 use Rattle.sfi_rewrite.proofs.Laid.{laid_one_way, alone_one_way, laid_split}
 use Rattle.sfi_rewrite.proofs.WordView.{words_more, word_aligned}
@@ -8,22 +8,22 @@ use Rattle.sfi_rewrite.proofs.Sizes.{size_of-append}
 
 -- ---- an item has one expansion, before the items after it
 
-confined_one_way : (rvc : Bool) (i : Instr) (a b : List Slot) → IsConfined rvc i a → IsConfined rvc i b → a ≡ b
+confined_one_way : (rvc : Bool) (i : Instr) (a b : List BundleSlot) → IsConfined rvc i a → IsConfined rvc i b → a ≡ b
 confined_one_way rvc (Load kind rd rs1 imm) a b x y = alone_one_way rvc (Load kind rd (base_of rs1) imm) a b x y
 confined_one_way rvc (Store width rs1 rs2 imm) a b x y = alone_one_way rvc (Store width (base_of rs1) rs2 imm) a b x y
 confined_one_way rvc (Jalr rd rs1 imm) a b x y = x ∙ sym y
 confined_one_way rvc other a b x y = alone_one_way rvc other a b x y
 
-around_one_way : (rvc step : Bool) (i : Instr) (a b : List Slot) → IsAround rvc step i a → IsAround rvc step i b → a ≡ b
+around_one_way : (rvc step : Bool) (i : Instr) (a b : List BundleSlot) → IsAround rvc step i a → IsAround rvc step i b → a ≡ b
 around_one_way rvc step i a b (x, confined, is) (y, other, same) =
     is ∙ ap (λ v. before i ++ (v ++ after step i)) (confined_one_way rvc i x y confined other) ∙ sym same
 
-plain_one_way : (moves rvc step : Bool) (i : Instr) (a b : List Slot)
+plain_one_way : (moves rvc step : Bool) (i : Instr) (a b : List BundleSlot)
     → MatchBool moves (a ≡ moved i) (IsAround rvc step i a) → MatchBool moves (b ≡ moved i) (IsAround rvc step i b) → a ≡ b
 plain_one_way true rvc step i a b x y = x ∙ sym y
 plain_one_way false rvc step i a b x y = around_one_way rvc step i a b x y
 
-expansion_of_one_way : (line : ℕ) (rvc step : Bool) (body : Body) (a b : List Slot) → IsExpansionOf line rvc step body a → IsExpansionOf line rvc step body b → a ≡ b
+expansion_of_one_way : (line : ℕ) (rvc step : Bool) (body : Body) (a b : List BundleSlot) → IsExpansionOf line rvc step body a → IsExpansionOf line rvc step body b → a ≡ b
 expansion_of_one_way line rvc step (Plain i) a b x y = plain_one_way (is_move i && not step) rvc step i a b x y
 expansion_of_one_way line rvc step other a b x y = x ∙ sym y
 
@@ -40,7 +40,7 @@ expanded_one_way (i ∷ items) later a b x y =
     ∙ ap (λ v. marked i.labelled y.0 ++ v) (expanded_one_way items later x.1 y.1 x.4 y.4)
     ∙ sym y.3
 
-pub words_one_way : (later items : List Item) (a b : List Slot) → AreLaidBefore items later a → AreLaidBefore items later b → a ≡ b
+pub words_one_way : (later items : List Item) (a b : List BundleSlot) → AreLaidBefore items later a → AreLaidBefore items later b → a ≡ b
 words_one_way later items a b x y = x.2 ∙ ap (λ v. in_words v) (expanded_one_way items later x.0 y.0 x.1 y.1) ∙ sym y.2
 
 -- ---- the first of the items
@@ -79,7 +79,7 @@ first_split items m j slots h e =
     let parts : take j items ≡ take m items ++ drop m (take j items) = sym (take-append-drop m (take j items)) ∙ ap (λ v. v ++ drop m (take j items)) (take-take m j items h) in
     expanded_split (take m items) (drop m (take j items)) (drop j items) slots (subst (λ v. AreExpanded v (drop j items) slots) parts e)
 
-pub laid_aligned : (later items : List Item) (slots : List Slot) → AreLaidBefore items later slots → size_of slots % 4 ≡ 0
+pub laid_aligned : (later items : List Item) (slots : List BundleSlot) → AreLaidBefore items later slots → size_of slots % 4 ≡ 0
 laid_aligned later items slots l = let e = ap size_of l.2 in let a = word_aligned l.0 in omega arith
 
 -- ---- in words or in bundles
@@ -89,12 +89,12 @@ format_of_words Sfi1 h = absurd cc
 format_of_words Sfi2 h = absurd cc
 format_of_words Sfiw h = refl
 
-pub laid_in_one_way : (w : Bool) (f : Format) (items later : List Item) (a b : List Slot) → AreLaidIn w f items later a → AreLaidIn w f items later b → a ≡ b
+pub laid_in_one_way : (w : Bool) (f : Format) (items later : List Item) (a b : List BundleSlot) → AreLaidIn w f items later a → AreLaidIn w f items later b → a ≡ b
 laid_in_one_way false f items later a b x y = laid_one_way f 0 items a b x y
 laid_in_one_way true f items later a b x y = words_one_way later items a b x y
 
 -- the first m items take no more bytes than the first j
-pub first_fits : (w : Bool) (f : Format) (items : List Item) (m j : ℕ) (front slots : List Slot) → m ≤ j
+pub first_fits : (w : Bool) (f : Format) (items : List Item) (m j : ℕ) (front slots : List BundleSlot) → m ≤ j
     → AreLaidIn w f (take m items) (drop m items) front → AreLaidIn w f (take j items) (drop j items) slots → size_of front ≤ size_of slots
 first_fits false f items m j front slots h x y =
     let s = laid_split f 0 (take j items) m slots y in
@@ -111,22 +111,22 @@ first_fits true f items m j front slots h x y =
     omega arith
 
 -- all the items are the first of them
-pub all_first : (w : Bool) (f : Format) (items : List Item) (slots : List Slot) → AreLaidIn w f items [] slots → AreLaidIn w f (take (length items) items) (drop (length items) items) slots
+pub all_first : (w : Bool) (f : Format) (items : List Item) (slots : List BundleSlot) → AreLaidIn w f items [] slots → AreLaidIn w f (take (length items) items) (drop (length items) items) slots
 all_first w f items slots l =
     subst (λ v. AreLaidIn w f v (drop (length items) items) slots) (sym (take_all (length items) items (omega arith)))
     (subst (λ v. AreLaidIn w f items v slots) (sym (drop_all (length items) items (omega arith))) l)
 
-pub laid_of : (w : Bool) (f : Format) (items : List Item) (slots : List Slot) → AreFaultless w f (length items) items slots → AreLaidIn w f items [] slots
+pub laid_of : (w : Bool) (f : Format) (items : List Item) (slots : List BundleSlot) → AreFaultless w f (length items) items slots → AreLaidIn w f items [] slots
 laid_of w f items slots h =
     subst (λ v. AreLaidIn w f v [] slots) (take_all (length items) items (omega arith))
     (subst (λ v. AreLaidIn w f (take (length items) items) v slots) (drop_all (length items) items (omega arith)) h.laid)
 
 -- what is laid of items without a fault
-pub record Fits (f : Format) (items : List Item) (slots : List Slot) : Type 0 where
+pub record Fits (f : Format) (items : List Item) (slots : List BundleSlot) : Type 0 where
   pub permitted : All (IsPermitted f) items
   pub fits : size_of slots ≤ code_most f
 
-pub all_fit : (w : Bool) (f : Format) (items : List Item) (slots : List Slot) → AreLaidIn w f items [] slots → (all : List Slot) × AreFaultless w f (length items) items all → Fits f items slots
+pub all_fit : (w : Bool) (f : Format) (items : List Item) (slots : List BundleSlot) → AreLaidIn w f items [] slots → (all : List BundleSlot) × AreFaultless w f (length items) items all → Fits f items slots
 all_fit w f items slots l a =
     let same = ap size_of (laid_in_one_way w f items [] slots a.0 l (laid_of w f items a.0 a.1)) in
     let fits = a.1.fits in

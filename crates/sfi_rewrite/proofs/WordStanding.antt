@@ -1,5 +1,5 @@
 -- Each item of code in words stands transparent in what is placed.
-use Rattle.sfi_rewrite.proofs.Prelude.{◌≡◌, ℕ, ◌+◌, ◌<◌, ◌&&◌, ◌==◌, arith, true≢false, List, [], ◌∷◌, ◌++◌, Bool, true, false, MatchBool, length, map, take, drop, Option, Some, None, refl, sym, ap, ◌∙◌, subst, inl, inr, ◌⊎◌, append-nil, All, All-get_or, slice_get, drop_more, get_or_from_slice_get, slice_get_within, Instr, Op, OpImm, Load, Store, Jalr, Item, Body, Plain, To, High, Low, Base, Slot, Wide, Short, Jump, Upper, Lower, Region, slots_of, IsAlone, IsPermitted, MayBe, Placement, not, ◌||◌, if◌then◌else◌, destination, Sfiw, is_data_register}
+use Rattle.sfi_rewrite.proofs.Prelude.{◌≡◌, ℕ, ◌+◌, ◌<◌, ◌&&◌, ◌==◌, arith, true≢false, List, [], ◌∷◌, ◌++◌, Bool, true, false, MatchBool, length, map, take, drop, Option, Some, None, refl, sym, ap, ◌∙◌, subst, inl, inr, ◌⊎◌, append-nil, All, All-get_or, slice_get, drop_more, get_or_from_slice_get, slice_get_within, Instr, Op, OpImm, Load, Store, Jalr, Item, Body, Plain, To, High, Low, Base, BundleSlot, Wide, Short, Jump, Upper, Lower, Region, slots_of, IsAlone, IsPermitted, MayBe, Placement, not, ◌||◌, if◌then◌else◌, destination, Sfiw, is_data_register}
 use Rattle.std.proofs.lemmas.List.{take-append-drop, map-append}
 use Rattle.sfi_rewrite.specs.words.Expansion.{IsConfined, IsAround, IsExpansionOf, IsExpansion, before, after, base_of, data_mask, mask_after, is_move, moved, is_step_before_use, Marked, marked, alone, in_words, AreExpanded, AreLaid}
 use Rattle.sfi_rewrite.specs.words.Transparency.{AreAsLaid, ActsAs, StandsTransparent}
@@ -11,14 +11,14 @@ use Rattle.sfi_rewrite.proofs.WordKept.{body_acts, plain_steps}
 -- ---- slots as they are laid
 
 -- what is laid for slots one after another
-pub record LaidApart (front back laid : List Slot) : Type 0 where
-  pub first : List Slot
-  pub rest : List Slot
+pub record LaidApart (front back laid : List BundleSlot) : Type 0 where
+  pub first : List BundleSlot
+  pub rest : List BundleSlot
   pub both : laid ≡ first ++ rest
   pub are_first : AreAsLaid front first
   pub are_rest : AreAsLaid back rest
 
-pub apart : (front back laid : List Slot) → AreAsLaid (front ++ back) laid → LaidApart front back laid
+pub apart : (front back laid : List BundleSlot) → AreAsLaid (front ++ back) laid → LaidApart front back laid
 apart [] back laid h = record { first = []; rest = laid; both = refl; are_first = tt; are_rest = h }
 apart (s ∷ front) back [] h = absurd h
 apart (s ∷ front) back (x ∷ laid) h =
@@ -26,11 +26,11 @@ apart (s ∷ front) back (x ∷ laid) h =
     record { first = x ∷ r.first; rest = r.rest; both = ap (λ v. x ∷ v) r.both; are_first = (h.0, r.are_first); are_rest = r.are_rest }
 
 -- each has 32 bits
-abbrev AreWide : List Slot → Type 0
+abbrev AreWide : List BundleSlot → Type 0
 AreWide [] = Unit {0}
 AreWide (s ∷ slots) = (alone s ≡ s) × AreWide slots
 
-wide_stays : (slots laid : List Slot) → AreWide slots → AreAsLaid slots laid → laid ≡ slots
+wide_stays : (slots laid : List BundleSlot) → AreWide slots → AreAsLaid slots laid → laid ≡ slots
 wide_stays [] [] w h = refl
 wide_stays [] (x ∷ laid) w h = absurd h
 wide_stays (s ∷ slots) [] w h = absurd h
@@ -67,15 +67,15 @@ moved_wide _ = tt
 
 -- ---- an expansion as it is laid is one, with or without 16-bit forms
 
-one_laid : (s : Slot) (slots laid : List Slot) → slots ≡ s ∷ [] → AreAsLaid slots laid → (laid ≡ s ∷ []) ⊎ (laid ≡ alone s ∷ [])
+one_laid : (s : BundleSlot) (slots laid : List BundleSlot) → slots ≡ s ∷ [] → AreAsLaid slots laid → (laid ≡ s ∷ []) ⊎ (laid ≡ alone s ∷ [])
 one_laid s slots laid e h = cases laid (subst (λ v. AreAsLaid v laid) e h)
   where
-    cases : (laid : List Slot) → AreAsLaid (s ∷ []) laid → (laid ≡ s ∷ []) ⊎ (laid ≡ alone s ∷ [])
+    cases : (laid : List BundleSlot) → AreAsLaid (s ∷ []) laid → (laid ≡ s ∷ []) ⊎ (laid ≡ alone s ∷ [])
     cases [] h = absurd h
     cases (x ∷ []) h = elim h.0 [ inl e ↦ inl (ap (λ y. y ∷ []) e) | inr e ↦ inr (ap (λ y. y ∷ []) e) ]
     cases (x ∷ y ∷ laid) h = absurd h.1
 
-alone_laid : (rvc : Bool) (i : Instr) (slots laid : List Slot) → IsAlone rvc i slots → AreAsLaid slots laid → (r : Bool) × IsAlone r i laid
+alone_laid : (rvc : Bool) (i : Instr) (slots laid : List BundleSlot) → IsAlone rvc i slots → AreAsLaid slots laid → (r : Bool) × IsAlone r i laid
 alone_laid false i slots laid e h = elim (one_laid (Wide i) slots laid e h) [ inl l ↦ (false, l) | inr l ↦ (false, l) ]
 alone_laid true i slots laid (inl f) h =
     elim (one_laid (Short f.0) slots laid f.2 h) [
@@ -84,13 +84,13 @@ alone_laid true i slots laid (inl f) h =
     ]
 alone_laid true i slots laid (inr w) h = elim (one_laid (Wide i) slots laid w.1 h) [ inl l ↦ (false, l) | inr l ↦ (false, l) ]
 
-confined_laid : (rvc : Bool) (i : Instr) (slots laid : List Slot) → IsConfined rvc i slots → AreAsLaid slots laid → (r : Bool) × IsConfined r i laid
+confined_laid : (rvc : Bool) (i : Instr) (slots laid : List BundleSlot) → IsConfined rvc i slots → AreAsLaid slots laid → (r : Bool) × IsConfined r i laid
 confined_laid rvc (Load kind rd a imm) slots laid e h = alone_laid rvc (Load kind rd (base_of a) imm) slots laid e h
 confined_laid rvc (Store width a rs2 imm) slots laid e h = alone_laid rvc (Store width (base_of a) rs2 imm) slots laid e h
 confined_laid rvc (Jalr rd a imm) slots laid e h = elim (one_laid (Wide (Jalr rd 30 imm)) slots laid e h) [ inl l ↦ (rvc, l) | inr l ↦ (rvc, l) ]
 confined_laid rvc other slots laid e h = alone_laid rvc other slots laid e h
 
-around_laid : (rvc step : Bool) (i : Instr) (slots laid : List Slot) → IsAround rvc step i slots → AreAsLaid slots laid → (r : Bool) × IsAround r step i laid
+around_laid : (rvc step : Bool) (i : Instr) (slots laid : List BundleSlot) → IsAround rvc step i slots → AreAsLaid slots laid → (r : Bool) × IsAround r step i laid
 around_laid rvc step i slots laid e h =
     let one = apart (before i) (e.0 ++ after step i) laid (subst (λ v. AreAsLaid v laid) e.2 h) in
     let two = apart e.0 (after step i) one.rest one.are_rest in
@@ -99,12 +99,12 @@ around_laid rvc step i slots laid e h =
     let mid = confined_laid rvc i e.0 two.first e.1 two.are_first in
     (mid.0, (two.first, mid.1, one.both ∙ ap (λ v. v ++ one.rest) first ∙ ap (λ v. before i ++ v) (two.both ∙ ap (λ v. two.first ++ v) last)))
 
-plain_laid : (moves rvc step : Bool) (i : Instr) (slots laid : List Slot) → MatchBool moves (slots ≡ moved i) (IsAround rvc step i slots) → AreAsLaid slots laid
+plain_laid : (moves rvc step : Bool) (i : Instr) (slots laid : List BundleSlot) → MatchBool moves (slots ≡ moved i) (IsAround rvc step i slots) → AreAsLaid slots laid
     → (r : Bool) × MatchBool moves (laid ≡ moved i) (IsAround r step i laid)
 plain_laid true rvc step i slots laid e h = (rvc, wide_stays (moved i) laid (moved_wide i) (subst (λ v. AreAsLaid v laid) e h))
 plain_laid false rvc step i slots laid e h = around_laid rvc step i slots laid e h
 
-pub body_laid : (line : ℕ) (rvc step : Bool) (body : Body) (slots laid : List Slot) → IsExpansionOf line rvc step body slots → AreAsLaid slots laid → (r : Bool) × IsExpansionOf line r step body laid
+pub body_laid : (line : ℕ) (rvc step : Bool) (body : Body) (slots laid : List BundleSlot) → IsExpansionOf line rvc step body slots → AreAsLaid slots laid → (r : Bool) × IsExpansionOf line r step body laid
 body_laid line rvc step (Plain i) slots laid e h = plain_laid (is_move i && not step) rvc step i slots laid e h
 body_laid line rvc step (To i name) slots laid e h = (rvc, wide_stays (Jump i name line ∷ []) laid (refl, tt) (subst (λ v. AreAsLaid v laid) e h))
 body_laid line rvc step (High rd name) slots laid e h =
@@ -114,14 +114,14 @@ body_laid line rvc step (Low rd name) slots laid e h =
 body_laid line rvc step (Base rd name) slots laid e h =
     (rvc, wide_stays (Region rd name line ∷ mask_after (Some rd)) laid (refl, mask_wide (Some rd)) (subst (λ v. AreAsLaid v laid) e h))
 
-laid_acts : (x : Item) (later : List Item) (expanded own : List Slot) (i : Instr) → MayBe x.body i → IsPermitted Sfiw x → IsExpansion x later expanded → AreAsLaid expanded own → ActsAs (is_step_before_use x later) i own
+laid_acts : (x : Item) (later : List Item) (expanded own : List BundleSlot) (i : Instr) → MayBe x.body i → IsPermitted Sfiw x → IsExpansion x later expanded → AreAsLaid expanded own → ActsAs (is_step_before_use x later) i own
 laid_acts x later expanded own i be p is h =
     let r = body_laid x.line x.rvc (is_step_before_use x later) x.body expanded own is h in
     body_acts x.line r.0 (is_step_before_use x later) x.body i own be p.operands p.no_barred_jump (plain_steps x later) r.1
 
 -- ---- what stands before a label
 
-same_front : (a b c d : List Slot) → a ++ b ≡ c ++ d → length a ≡ length c → a ≡ c
+same_front : (a b c d : List BundleSlot) → a ++ b ≡ c ++ d → length a ≡ length c → a ≡ c
 same_front [] b [] d e l = refl
 same_front [] b (y ∷ c) d e l = absurd (omega arith)
 same_front (x ∷ a) b [] d e l = absurd (omega arith)
@@ -130,20 +130,20 @@ same_front (x ∷ a) b (y ∷ c) d e l =
     let rest : a ++ b ≡ c ++ d = cc in
     ap (λ z. z ∷ a) first ∙ ap (λ v. y ∷ v) (same_front a b c d rest (omega arith))
 
-laid_length : (slots laid : List Slot) → AreAsLaid slots laid → length laid ≡ length slots
+laid_length : (slots laid : List BundleSlot) → AreAsLaid slots laid → length laid ≡ length slots
 laid_length [] [] h = refl
 laid_length [] (x ∷ laid) h = absurd h
 laid_length (s ∷ slots) [] h = absurd h
 laid_length (s ∷ slots) (x ∷ laid) h = let rest = laid_length slots laid h.1 in omega arith
 
-words_before : (front : List Marked) (labelled : Bool) (slots : List Slot) (rest : List Marked) → labelled ≡ true → AreSome slots
+words_before : (front : List Marked) (labelled : Bool) (slots : List BundleSlot) (rest : List Marked) → labelled ≡ true → AreSome slots
     → in_words (front ++ (marked labelled slots ++ rest)) ≡ in_words front ++ in_words (marked labelled slots ++ rest)
 words_before front true slots rest l some =
     subst (λ v. in_words (front ++ (marked true v ++ rest)) ≡ in_words front ++ in_words (marked true v ++ rest)) (sym some.are) (words_at_label front some.first (marked false some.rest ++ rest))
 words_before front false slots rest l some = absurd (true≢false (sym l))
 
 -- what is laid before a slot with a label are the words of the slots before it
-label_words : (front all rest : List Marked) (labelled : Bool) (slots first later : List Slot) → AreSome slots → all ≡ front ++ (marked labelled slots ++ rest) → in_words all ≡ first ++ later
+label_words : (front all rest : List Marked) (labelled : Bool) (slots first later : List BundleSlot) → AreSome slots → all ≡ front ++ (marked labelled slots ++ rest) → in_words all ≡ first ++ later
     → AreAsLaid (map (λ m. m.1) front) first → labelled ≡ true → first ≡ in_words front
 label_words front all rest labelled slots first later some parts both laid l =
     let lengths : length first ≡ length (in_words front) =
@@ -153,11 +153,11 @@ label_words front all rest labelled slots first later some parts both laid l =
 
 -- ---- an item among the others
 
-pub slots_of_marked : (labelled : Bool) (slots : List Slot) → map (λ m. m.1) (marked labelled slots) ≡ slots
+pub slots_of_marked : (labelled : Bool) (slots : List BundleSlot) → map (λ m. m.1) (marked labelled slots) ≡ slots
 slots_of_marked labelled [] = refl
 slots_of_marked labelled (s ∷ slots) = ap (λ v. s ∷ v) (slots_of_marked false slots)
 
-pub stands_in_words : (items : List Item) (p : Placement) (slots : List Slot) (k : ℕ) (x : Item) → AreLaid items slots → slots_of p.bundles ≡ slots → All (IsPermitted Sfiw) items
+pub stands_in_words : (items : List Item) (p : Placement) (slots : List BundleSlot) (k : ℕ) (x : Item) → AreLaid items slots → slots_of p.bundles ≡ slots → All (IsPermitted Sfiw) items
     → slice_get items k ≡ Some x → StandsTransparent items p k x
 stands_in_words items p slots k x l code permitted at =
     let within : k < length items = slice_get_within items k x at in

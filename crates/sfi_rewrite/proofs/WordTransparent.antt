@@ -1,5 +1,5 @@
 -- Each expansion in words does what its instruction does.
-use Rattle.sfi_rewrite.proofs.Prelude.{◌≡◌, ◌≢◌, ℕ, ◌<◌, ◌==◌, List, [], ◌∷◌, ◌++◌, Bool, true, false, inl, inr, refl, sym, ap, ◌∙◌, subst, arith, ℤ, pos, bit_and, bit_or, And, Or, LoadKind, Instr, Op, Load, Store, Jalr, address_after, State, IsState, register, with_register, with_pc, past, Stands, effect, Slot, Wide, Short, slot_size, IsAlone, AreRegions, HasReserved, SlotStands, IsSameAside, DoesAs, if◌then◌else◌, further, LeadTo, offset_by, StoreWidth, Holds, Span, masked, SlotsStand, data_mask}
+use Rattle.sfi_rewrite.proofs.Prelude.{◌≡◌, ◌≢◌, ℕ, ◌<◌, ◌==◌, List, [], ◌∷◌, ◌++◌, Bool, true, false, inl, inr, refl, sym, ap, ◌∙◌, subst, arith, ℤ, pos, bit_and, bit_or, And, Or, LoadKind, Instr, Op, Load, Store, Jalr, address_after, State, IsState, register, with_register, with_pc, past, Stands, effect, BundleSlot, Wide, Short, slot_size, IsAlone, AreRegions, HasReserved, SlotStands, IsSameAside, DoesAs, if◌then◌else◌, further, LeadTo, offset_by, StoreWidth, Holds, Span, masked, SlotsStand, data_mask}
 use Rattle.rv_step.proofs.Pairs.{written_here, written_elsewhere}
 use Rattle.sfi_rewrite.specs.words.Transparency.{is_own, IsWordStart, KeepsTo, meant_base, meant, IsTransparent}
 use Rattle.sfi_rewrite.proofs.Transparent.{stands_at, does, eight, DoesFor, after_pair, one_does}
@@ -50,19 +50,19 @@ mask_aside s a =
 -- ---- one slot for an instruction
 
 -- the slots are one alone, which stands for i, and in which j stands
-pub record IsOneFor (i j : Instr) (slots : List Slot) : Type 0 where
-  pub slot : Slot
+pub record IsOneFor (i j : Instr) (slots : List BundleSlot) : Type 0 where
+  pub slot : BundleSlot
   pub are : slots ≡ slot ∷ []
   pub stands : (s : State) → SlotStands i s slot → Stands s j (slot_size slot)
 
-pub one_for : (rvc : Bool) (i j : Instr) (slots : List Slot) → IsAlone rvc j slots → IsOneFor i j slots
+pub one_for : (rvc : Bool) (i j : Instr) (slots : List BundleSlot) → IsAlone rvc j slots → IsOneFor i j slots
 one_for false i j slots e = record { slot = Wide j; are = e; stands = λ s st. st }
 one_for true i j slots (inl f) = record { slot = Short f.0; are = f.2; stands = λ s st. subst (λ (k : Instr). Stands s k 2) f.1.expands st }
 one_for true i j slots (inr w) = record { slot = Wide j; are = w.1; stands = λ s st. st }
 
 -- ---- an access after the mask
 
-after_base : (s : State) (i j : Instr) (a v : ℕ) (slot : Slot) → IsState s
+after_base : (s : State) (i j : Instr) (a v : ℕ) (slot : BundleSlot) → IsState s
     → Stands s (Op And 31 a 27) 4 → Stands (further s 4) (Op Or 29 31 26) 4 → Stands (further (further s 4) 4) j (slot_size slot)
     → bit_or (bit_and (register s.hart a) (register s.hart 27)) (register s.hart 26) ≡ v → DoesFor is_own s (meant i) j (slot_size slot) 29 v → DoesAs is_own s (meant i) (data_mask 29 a) slot
 after_base s i j a v slot is first second third e same =
@@ -79,7 +79,7 @@ after_base s i j a v slot is first second third e same =
 -- ---- the expansions
 
 -- the access on x29 after the mask
-pub based_transparent : (i j : Instr) (a : ℕ) (slots : List Slot) → IsOneFor i j slots
+pub based_transparent : (i j : Instr) (a : ℕ) (slots : List BundleSlot) → IsOneFor i j slots
     → ((c d : Span) (s : State) → KeepsTo c d s.hart i → Holds d (register s.hart a))
     → ((s : State) (n : ℕ) → DoesFor is_own s (meant i) j n 29 (register s.hart a)) → IsTransparent i (data_mask 29 a ++ slots)
 based_transparent i j a slots one held same = record {
@@ -87,7 +87,7 @@ based_transparent i j a slots one held same = record {
   last = one.slot;
   slots_are = ap (λ v. data_mask 29 a ++ v) one.are;
   does = λ c d s asked keeps.
-      let stand : SlotsStand i (further (further s 4) 4) (one.slot ∷ []) = subst (λ (v : List Slot). SlotsStand i (further (further s 4) 4) v) one.are asked.stand.1.1 in
+      let stand : SlotsStand i (further (further s 4) 4) (one.slot ∷ []) = subst (λ (v : List BundleSlot). SlotsStand i (further (further s 4) 4) v) one.are asked.stand.1.1 in
       after_base s i j a (register s.hart a) one.slot asked.is_state asked.stand.0 asked.stand.1.0 (one.stands (further (further s 4) 4) stand.0)
       (unmasked_data 4 c d s.hart (register s.hart a) asked.regions asked.reserved (held c d s keeps)) (same s (slot_size one.slot));
 }
@@ -99,7 +99,7 @@ load_meant kind rd a imm some = ap (λ (b : Bool). Load kind rd (if b then 26 el
 store_meant : (width : StoreWidth) (a rs2 : ℕ) (imm : ℤ) → (a == 0) ≡ false → meant (Store width a rs2 imm) ≡ Store width a rs2 imm
 store_meant width a rs2 imm some = ap (λ (b : Bool). Store width (if b then 26 else a) rs2 imm) some
 
-pub load_transparent : (rvc : Bool) (kind : LoadKind) (rd a : ℕ) (imm : ℤ) (slots : List Slot) → IsAlone rvc (Load kind rd 29 imm) slots → (a == 0) ≡ false
+pub load_transparent : (rvc : Bool) (kind : LoadKind) (rd a : ℕ) (imm : ℤ) (slots : List BundleSlot) → IsAlone rvc (Load kind rd 29 imm) slots → (a == 0) ≡ false
     → ((c d : Span) (s : State) → KeepsTo c d s.hart (Load kind rd a imm) → Holds d (register s.hart a)) → IsTransparent (Load kind rd a imm) (data_mask 29 a ++ slots)
 load_transparent rvc kind rd a imm slots is some held =
     based_transparent (Load kind rd a imm) (Load kind rd 29 imm) a slots (one_for rvc (Load kind rd a imm) (Load kind rd 29 imm) slots is) held
@@ -107,7 +107,7 @@ load_transparent rvc kind rd a imm slots is some held =
     subst (λ (k : Instr). IsSameAside is_own (effect (Load kind rd 29 imm) n h s.memory) (effect k n (with_pc s.hart h.pc) s.memory)) (sym (load_meant kind rd a imm some))
     (loads_same is_own kind rd 29 a imm n h (with_pc s.hart h.pc) s.memory aside e))
 
-pub store_transparent : (rvc : Bool) (width : StoreWidth) (a rs2 : ℕ) (imm : ℤ) (slots : List Slot) → IsAlone rvc (Store width 29 rs2 imm) slots → is_own rs2 ≡ false → (a == 0) ≡ false
+pub store_transparent : (rvc : Bool) (width : StoreWidth) (a rs2 : ℕ) (imm : ℤ) (slots : List BundleSlot) → IsAlone rvc (Store width 29 rs2 imm) slots → is_own rs2 ≡ false → (a == 0) ≡ false
     → ((c d : Span) (s : State) → KeepsTo c d s.hart (Store width a rs2 imm) → Holds d (register s.hart a)) → IsTransparent (Store width a rs2 imm) (data_mask 29 a ++ slots)
 store_transparent rvc width a rs2 imm slots is other some held =
     based_transparent (Store width a rs2 imm) (Store width 29 rs2 imm) a slots (one_for rvc (Store width a rs2 imm) (Store width 29 rs2 imm) slots is) held
@@ -116,21 +116,21 @@ store_transparent rvc width a rs2 imm slots is other some held =
     (stores_same is_own width 29 a rs2 imm n h (with_pc s.hart h.pc) s.memory aside e other))
 
 -- one slot, in which stands what the instruction means
-abbrev pub one_transparent : (i j : Instr) (slots : List Slot) → IsOneFor i j slots → meant i ≡ j → IsTransparent i slots
+abbrev pub one_transparent : (i j : Instr) (slots : List BundleSlot) → IsOneFor i j slots → meant i ≡ j → IsTransparent i slots
 one_transparent i j slots one means = record {
   before = [];
   last = one.slot;
   slots_are = one.are;
   does = λ c d s asked keeps.
-      let stand : SlotsStand i s (one.slot ∷ []) = subst (λ (v : List Slot). SlotsStand i s v) one.are asked.stand in
+      let stand : SlotsStand i s (one.slot ∷ []) = subst (λ (v : List BundleSlot). SlotsStand i s v) one.are asked.stand in
       subst (λ (k : Instr). DoesAs is_own s k [] one.slot) (sym means) (one_does is_own s j one.slot asked.is_state (one.stands s stand.0));
 }
 
-pub load_alone : (rvc : Bool) (kind : LoadKind) (rd a : ℕ) (imm : ℤ) (slots : List Slot) → IsAlone rvc (Load kind rd (meant_base a) imm) slots → IsTransparent (Load kind rd a imm) slots
+pub load_alone : (rvc : Bool) (kind : LoadKind) (rd a : ℕ) (imm : ℤ) (slots : List BundleSlot) → IsAlone rvc (Load kind rd (meant_base a) imm) slots → IsTransparent (Load kind rd a imm) slots
 load_alone rvc kind rd a imm slots is =
     one_transparent (Load kind rd a imm) (Load kind rd (meant_base a) imm) slots (one_for rvc (Load kind rd a imm) (Load kind rd (meant_base a) imm) slots is) refl
 
-pub store_alone : (rvc : Bool) (width : StoreWidth) (a rs2 : ℕ) (imm : ℤ) (slots : List Slot) → IsAlone rvc (Store width (meant_base a) rs2 imm) slots → IsTransparent (Store width a rs2 imm) slots
+pub store_alone : (rvc : Bool) (width : StoreWidth) (a rs2 : ℕ) (imm : ℤ) (slots : List BundleSlot) → IsAlone rvc (Store width (meant_base a) rs2 imm) slots → IsTransparent (Store width a rs2 imm) slots
 store_alone rvc width a rs2 imm slots is =
     one_transparent (Store width a rs2 imm) (Store width (meant_base a) rs2 imm) slots (one_for rvc (Store width a rs2 imm) (Store width (meant_base a) rs2 imm) slots is) refl
 

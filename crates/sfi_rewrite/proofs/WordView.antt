@@ -1,5 +1,5 @@
 -- What in_words makes of slots: one slot or two of them to a word, and how many bytes that takes.
-use Rattle.sfi_rewrite.proofs.Prelude.{◌≡◌, ◌%◌, ◌≤◌, Bool, true, false, List, [], ◌∷◌, ◌++◌, map, None, refl, sym, ap, ◌∙◌, arith, append-nil, inl, inr, true≢false, All, All-nil, All-cons, All-head, All-tail, Slot, Short, slot_size, size_of, Form16, Marked, alone, in_words, AreAsLaid}
+use Rattle.sfi_rewrite.proofs.Prelude.{◌≡◌, ◌%◌, ◌≤◌, Bool, true, false, List, [], ◌∷◌, ◌++◌, map, None, refl, sym, ap, ◌∙◌, arith, append-nil, inl, inr, true≢false, All, All-nil, All-cons, All-head, All-tail, BundleSlot, Short, slot_size, size_of, Form16, Marked, alone, in_words, AreAsLaid}
 use Rattle.sfi_rewrite.specs.private.{WordsSoFar, so_far, bytes_of, waiting_size, waits, ended, before_label, with_slot, with_more}
 use Rattle.sfi_rewrite.proofs.WordLaying.{slot_leads, ended_leads, ended_last}
 use Rattle.sfi_rewrite.proofs.WordFilled.{slot_bytes, slot_aligned, ended_bytes, ended_aligned, ended_none}
@@ -7,10 +7,10 @@ use Rattle.sfi_rewrite.proofs.WordFilled.{slot_bytes, slot_aligned, ended_bytes,
 -- ---- word by word
 
 -- the second slots are the first in words: two forms, or a slot alone, to each
-pub data InWords : List Marked → List Slot → Type 0 where
+pub data InWords : List Marked → List BundleSlot → Type 0 where
   no_word : InWords [] []
-  two_forms : (l : Bool) (f g : Form16) (slots : List Marked) (words : List Slot) → InWords slots words → InWords ((l, Short f) ∷ (false, Short g) ∷ slots) (Short f ∷ Short g ∷ words)
-  one_slot : (l : Bool) (s : Slot) (slots : List Marked) (words : List Slot) → slot_size (alone s) ≡ 4 → InWords slots words → InWords ((l, s) ∷ slots) (alone s ∷ words)
+  two_forms : (l : Bool) (f g : Form16) (slots : List Marked) (words : List BundleSlot) → InWords slots words → InWords ((l, Short f) ∷ (false, Short g) ∷ slots) (Short f ∷ Short g ∷ words)
+  one_slot : (l : Bool) (s : BundleSlot) (slots : List Marked) (words : List BundleSlot) → slot_size (alone s) ≡ 4 → InWords slots words → InWords ((l, s) ∷ slots) (alone s ∷ words)
 
 pub view : (slots : List Marked) → InWords slots (in_words slots)
 view [] = no_word
@@ -20,13 +20,13 @@ view ((l, Short f) ∷ (false, s) ∷ slots) = one_slot l (Short f) ((false, s) 
 view ((l, Short f) ∷ (true, s) ∷ slots) = one_slot l (Short f) ((true, s) ∷ slots) (in_words ((true, s) ∷ slots)) refl (view ((true, s) ∷ slots))
 view ((l, s) ∷ slots) = one_slot l s slots (in_words slots) refl (view slots)
 
-pub as_laid : (slots : List Marked) (words : List Slot) → InWords slots words → AreAsLaid (map (λ m. m.1) slots) words
+pub as_laid : (slots : List Marked) (words : List BundleSlot) → InWords slots words → AreAsLaid (map (λ m. m.1) slots) words
 as_laid _ _ no_word = tt
 as_laid _ _ (two_forms l f g slots words w) = (inl refl, (inl refl, as_laid slots words w))
 as_laid _ _ (one_slot l s slots words size w) = (inr refl, as_laid slots words w)
 
 -- what is so of each slot, also alone in its word, is so of each in words
-pub all_in_words : (P : Slot → Type 0) (slots : List Marked) (words : List Slot) → InWords slots words → All (λ m. P m.1 × P (alone m.1)) slots → All P words
+pub all_in_words : (P : BundleSlot → Type 0) (slots : List Marked) (words : List BundleSlot) → InWords slots words → All (λ m. P m.1 × P (alone m.1)) slots → All P words
 all_in_words P _ _ no_word h = All-nil P
 all_in_words P _ _ (two_forms l f g slots words w) h =
     let Q : Marked → Type 0 = λ m. P m.1 × P (alone m.1) in
@@ -44,7 +44,7 @@ abbrev fill : WordsSoFar → List Marked → WordsSoFar
 fill w [] = w
 fill w ((l, s) ∷ slots) = fill (with_slot (before_label l w.words w.waiting).words (before_label l w.words w.waiting).waiting s) slots
 
-one_leads : (w : WordsSoFar) (l : Bool) (s : Slot) (more : List Marked)
+one_leads : (w : WordsSoFar) (l : Bool) (s : BundleSlot) (more : List Marked)
     → with_more w ((l, s) ∷ more) ≡ with_more (with_slot (before_label l w.words w.waiting).words (before_label l w.words w.waiting).waiting s) more
 one_leads w false s more = slot_leads w.words w.waiting false s (λ t. absurd (true≢false (sym t))) more
 one_leads w true s more =
@@ -94,7 +94,7 @@ filled slots =
     ap (λ v. in_words v) (sym (append-nil slots)) ∙ fill_leads nothing slots [] ∙ ended_last w.words w.waiting
 
 -- a label begins a word: the words before it are those of the slots before it
-pub words_at_label : (front : List Marked) (s : Slot) (back : List Marked) → in_words (front ++ (true, s) ∷ back) ≡ in_words front ++ in_words ((true, s) ∷ back)
+pub words_at_label : (front : List Marked) (s : BundleSlot) (back : List Marked) → in_words (front ++ (true, s) ∷ back) ≡ in_words front ++ in_words ((true, s) ∷ back)
 words_at_label front s back =
     let w = fill nothing front in
     let e = ended w.words w.waiting in

@@ -2,8 +2,8 @@
 use Rattle.std.specs.Prelude.{ℕ, List, pos, sum_by, ◌||◌, ◌==◌, Bool, true, false, if◌then◌else◌, ◌&&◌, not, [], map, ◌≡◌, ◌≢◌, ◌⊎◌, IsTrue, ℤ, zero, ◌∷◌, ◌++◌, MatchBool}
 use Rattle.std.specs.List.{flat_map}
 use Rattle.rv_comp.specs.declared.form.Form16.TheVariants.{CAddi}
-use Rattle.sfi_rewrite.specs.declared.slot.Slot.{Slot}
-use Rattle.sfi_rewrite.specs.declared.slot.Slot.TheVariants.{Short, Wide, Jump, Upper, Lower, Region}
+use Rattle.sfi_rewrite.specs.declared.slot.BundleSlot.{BundleSlot}
+use Rattle.sfi_rewrite.specs.declared.slot.BundleSlot.TheVariants.{Short, Wide, Jump, Upper, Lower, Region}
 use Rattle.rv_word.specs.declared.instr.Instr.{Instr}
 use Rattle.rv_word.specs.declared.instr.Instr.TheVariants.{Op, OpImm, Load, Store, Branch, Jal, Jalr, Lui, Auipc, Fence, Ecall, Ebreak}
 use Rattle.sfi_source.specs.declared.item.Body.{Body}
@@ -22,20 +22,20 @@ use Rattle.sfi_source.specs.declared.item.Item.{Item}
 -- ==== How many bytes slots take.
 
 -- the bytes of one slot
-abbrev pub slot_size : Slot → ℕ
+abbrev pub slot_size : BundleSlot → ℕ
 slot_size (Short f) = 2
 slot_size _ = 4
 
 -- the bytes of slots together
-abbrev pub size_of : List Slot → ℕ
+abbrev pub size_of : List BundleSlot → ℕ
 size_of slots = sum_by slot_size slots
 
 -- the slots of bundles, one bundle after another
-abbrev pub slots_of : List (List Slot) → List Slot
+abbrev pub slots_of : List (List BundleSlot) → List BundleSlot
 slots_of bundles = flat_map (λ slots. slots) bundles
 
 -- c.nop, which is c.addi of x0 and 0
-abbrev pub c_nop : Slot
+abbrev pub c_nop : BundleSlot
 c_nop = Short (CAddi 0 (pos 0))
 
 -- ==== The registers that a source may not name.
@@ -113,11 +113,11 @@ is_stack_write f x = has_stack f && jumps_or_loads_x2 x
 -- ---- the pair
 
 -- the pair by which x2 becomes an address of the data region again
-abbrev pub stack_pair : List Slot
+abbrev pub stack_pair : List BundleSlot
 stack_pair = map Wide (data_pair stack_pointer stack_pointer)
 
 -- the pair, where there is something to put back
-abbrev pub put_back : Bool → List Slot
+abbrev pub put_back : Bool → List BundleSlot
 put_back false = []
 put_back true = stack_pair
 
@@ -125,19 +125,19 @@ put_back true = stack_pair
 -- jumps stay in the sandbox, and the stack pointer of a format that has one in its data region.
 
 -- the pair by which x31 becomes an address of the data region, both instructions wide
-abbrev pub data_pair_slots : ℕ → List Slot
+abbrev pub data_pair_slots : ℕ → List BundleSlot
 data_pair_slots a = map Wide (data_pair scratch a)
 
 -- the pair by which x31 becomes a bundle start of the code region, both instructions wide
-abbrev pub code_pair_slots : ℕ → List Slot
+abbrev pub code_pair_slots : ℕ → List BundleSlot
 code_pair_slots a = map Wide (code_pair scratch a)
 
 -- `jalr rd, 0(x31)`
-abbrev pub jump_to_x31 : ℕ → Slot
+abbrev pub jump_to_x31 : ℕ → BundleSlot
 jump_to_x31 rd = Wide (Jalr rd scratch (pos 0))
 
 -- the slots of `jalr rd, imm(a)`; an offset other than 0 is added before the pair
-abbrev pub jump_slots : ℕ → ℕ → ℤ → List Slot
+abbrev pub jump_slots : ℕ → ℕ → ℤ → List BundleSlot
 jump_slots rd a (pos zero) = code_pair_slots a ++ jump_to_x31 rd ∷ []
 jump_slots rd a imm =
     Wide (OpImm Addi scratch a imm) ∷ (code_pair_slots scratch ++ jump_to_x31 rd ∷ [])
@@ -148,13 +148,13 @@ HasNoForm i = (f : Form16) → IsTrue (allowed f) → expansion f ≢ i
 
 -- an instruction that stays as it is: as the first 16-bit form that expands to it, where these are
 -- asked for and there is one
-abbrev pub IsAlone : Bool → Instr → List Slot → Type 0
+abbrev pub IsAlone : Bool → Instr → List BundleSlot → Type 0
 IsAlone false i slots = slots ≡ Wide i ∷ []
 IsAlone true i slots =
     ((f : Form16) × IsFirst i f × (slots ≡ Short f ∷ [])) ⊎ (HasNoForm i × (slots ≡ Wide i ∷ []))
 
 -- the expansion of an instruction that has nothing to do with a stack pointer
-abbrev pub IsMasked : Bool → Instr → List Slot → Type 0
+abbrev pub IsMasked : Bool → Instr → List BundleSlot → Type 0
 IsMasked rvc (Load kind rd a imm) slots =
     slots ≡ data_pair_slots a ++ Wide (Load kind rd scratch imm) ∷ []
 IsMasked rvc (Store width a rs2 imm) slots =
@@ -164,13 +164,13 @@ IsMasked rvc i slots = IsAlone rvc i slots
 
 -- the expansion of any instruction: before the stack pair, if it writes the stack pointer; as it
 -- is, if it is an access on that
-abbrev pub IsPlainExpansion : Format → Bool → Instr → List Slot → Type 0
+abbrev pub IsPlainExpansion : Format → Bool → Instr → List BundleSlot → Type 0
 IsPlainExpansion f rvc i slots =
     MatchBool (writes_stack f i) (slots ≡ Wide i ∷ stack_pair)
     (MatchBool (is_on_stack f i) (IsAlone rvc i slots) (IsMasked rvc i slots))
 
 -- the expansion of the item on a line
-abbrev pub IsExpansionOf : Format → ℕ → Bool → Body → List Slot → Type 0
+abbrev pub IsExpansionOf : Format → ℕ → Bool → Body → List BundleSlot → Type 0
 IsExpansionOf f line rvc (Plain i) slots = IsPlainExpansion f rvc i slots
 IsExpansionOf f line rvc (To i name) slots = slots ≡ Jump i name line ∷ []
 IsExpansionOf f line rvc (High rd name) slots =
@@ -180,7 +180,7 @@ IsExpansionOf f line rvc (Base rd name) slots =
     slots ≡ Region rd name line ∷ put_back (is_stack f rd)
 
 -- the slots are the item's in this format, in order
-abbrev pub IsExpansion : Format → Item → List Slot → Type 0
+abbrev pub IsExpansion : Format → Item → List BundleSlot → Type 0
 IsExpansion f x slots = IsExpansionOf f x.line x.rvc x.body slots
 
 -- the item is a call: a jalr, or a jal to a name, that writes a register other than x0;

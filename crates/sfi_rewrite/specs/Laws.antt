@@ -10,7 +10,7 @@ use Rattle.sfi_image.specs.declared.span.Span.{Span}
 use Rattle.sfi_image.specs.Spelling.{Holds}
 use Rattle.sfi_source.specs.declared.item.Item.{Item}
 use Rattle.sfi_source.specs.Source.{Sandbox, IsSource}
-use Rattle.sfi_rewrite.specs.declared.slot.Slot.{Slot}
+use Rattle.sfi_rewrite.specs.declared.slot.BundleSlot.{BundleSlot}
 use Rattle.sfi_rewrite.specs.declared.fault.RewriteFault.{RewriteFault}
 use Rattle.sfi_rewrite.specs.Expansion.{IsExpansion}
 use Rattle.sfi_rewrite.specs.Placement.{Placement, IsPlacement}
@@ -25,12 +25,12 @@ use Rattle.sfi_rewrite.specs.Samples.{MeetsTransparent, MeetsInside, MeetsOutsid
 
 -- an item has at most one expansion by the rows of bundles, in each format
 abbrev pub OneExpansion : Type 0
-OneExpansion = (f : Format) (x : Item) (slots others : List Slot) → IsExpansion f x slots
+OneExpansion = (f : Format) (x : Item) (slots others : List BundleSlot) → IsExpansion f x slots
     → IsExpansion f x others → slots ≡ others
 
 -- in words an item has at most one expansion before the items after it
 abbrev pub OneWordExpansion : Type 0
-OneWordExpansion = (x : Item) (later : List Item) (slots others : List Slot)
+OneWordExpansion = (x : Item) (later : List Item) (slots others : List BundleSlot)
     → words.IsExpansion x later slots → words.IsExpansion x later others → slots ≡ others
 
 -- a sandbox has at most one placement
@@ -66,13 +66,13 @@ RewrittenIsPlaced = (source : List Sandbox) (placed : List Placement) → IsSour
 -- the expansion of a permitted item, by the rows of bundles, acts as the item's instruction
 abbrev pub ExpansionsAreTransparent : Type 0
 ExpansionsAreTransparent =
-    (f : Format) (x : Item) (i : Instr) (slots : List Slot) → MayBe x.body i → IsPermitted f x
+    (f : Format) (x : Item) (i : Instr) (slots : List BundleSlot) → MayBe x.body i → IsPermitted f x
     → IsExpansion f x slots → ActsAs f i slots
 
 -- in words the expansion of a permitted item acts as the item's instruction
 abbrev pub WordExpansionsAreTransparent : Type 0
 WordExpansionsAreTransparent =
-    (x : Item) (later : List Item) (i : Instr) (slots : List Slot) → MayBe x.body i
+    (x : Item) (later : List Item) (i : Instr) (slots : List BundleSlot) → MayBe x.body i
     → IsPermitted Sfiw x → words.IsExpansion x later slots
     → words_transparency.ActsAs (words.is_step_before_use x later) i slots
 

@@ -9,8 +9,8 @@ use Rattle.sfi_formats.specs.Formats.{code_most, has_words, unit}
 use Rattle.sfi_source.specs.declared.item.Item.{Item}
 use Rattle.sfi_source.specs.declared.item.SourceGate.{SourceGate}
 use Rattle.sfi_source.specs.Source.{IsDataSize, IsBody}
-use Rattle.sfi_rewrite.specs.declared.slot.Slot.{Slot}
-use Rattle.sfi_rewrite.specs.declared.slot.Slot.TheVariants.{Wide, Short, Jump, Upper, Lower, Region}
+use Rattle.sfi_rewrite.specs.declared.slot.BundleSlot.{BundleSlot}
+use Rattle.sfi_rewrite.specs.declared.slot.BundleSlot.TheVariants.{Wide, Short, Jump, Upper, Lower, Region}
 use Rattle.sfi_rewrite.specs.declared.placed.PlacedName.{PlacedName}
 use Rattle.sfi_rewrite.specs.declared.placed.PlacedName.TheVariants as placed
 use Rattle.sfi_rewrite.specs.Expansion.{IsExpansion, size_of, slots_of, c_nop}
@@ -23,16 +23,16 @@ use Rattle.sfi_rewrite.specs.Placement.{Placement, AreBundles}
 
 -- Slots that are whole expansions of permitted items of a source with `count` names, and c.nops: no
 -- expansion is cut, and none stands that the format doesn't have.
-pub data AreWhole (f : Format) (count : ℕ) : List Slot → Type 0 where
+pub data AreWhole (f : Format) (count : ℕ) : List BundleSlot → Type 0 where
   nothing : AreWhole f count []
-  padding : (rest : List Slot) → AreWhole f count rest → AreWhole f count (c_nop ∷ rest)
+  padding : (rest : List BundleSlot) → AreWhole f count rest → AreWhole f count (c_nop ∷ rest)
   expansion :
-      (x : Item) (expanded rest : List Slot) → IsPermitted f x → IsBody count x.body
+      (x : Item) (expanded rest : List BundleSlot) → IsPermitted f x → IsBody count x.body
       → IsExpansion f x expanded → AreWhole f count rest
       → AreWhole f count (expanded ++ rest)
 
 -- the slot encodes, whatever its name's address is, but for a jump out of its reach
-abbrev pub Encodes : Slot → Type 0
+abbrev pub Encodes : BundleSlot → Type 0
 Encodes (Wide i) = InRange i
 Encodes (Short f) = IsTrue (allowed f)
 Encodes (Jump i name line) = InRange i
@@ -41,7 +41,7 @@ Encodes (Lower rd name line) = IsReg rd
 Encodes (Region rd name line) = IsReg rd
 
 -- the slot's name, if it has one, is one of the first `count`
-abbrev pub IsNamedBelow : ℕ → Slot → Type 0
+abbrev pub IsNamedBelow : ℕ → BundleSlot → Type 0
 IsNamedBelow count (Wide i) = Unit {0}
 IsNamedBelow count (Short f) = Unit {0}
 IsNamedBelow count (Jump i name line) = name < count
@@ -50,14 +50,14 @@ IsNamedBelow count (Lower rd name line) = name < count
 IsNamedBelow count (Region rd name line) = name < count
 
 -- slots of code in words that are those of permitted items of a source with `count` names
-pub record AreOfItems (count : ℕ) (slots : List Slot) : Type 0 where
+pub record AreOfItems (count : ℕ) (slots : List BundleSlot) : Type 0 where
   pub items : List Item
   pub permitted : All (IsPermitted Sfiw) items
   pub bodies : All (λ x. IsBody count x.body) items
   pub laid : words.AreLaid items slots
 
 -- the bundles hold whole expansions alone: each of its own, or in words all of them together
-abbrev pub AreWholeIn : Format → ℕ → List (List Slot) → Type 0
+abbrev pub AreWholeIn : Format → ℕ → List (List BundleSlot) → Type 0
 AreWholeIn f count bundles =
     MatchBool (has_words f) (AreOfItems count (slots_of bundles)) (All (AreWhole f count) bundles)
 

@@ -2,7 +2,7 @@
 use Rattle.std.specs.Prelude.{◌≡◌, ◌+◌, ◌-◌, ◌*◌, ◌/◌, ◌%◌, ◌≤◌, ◌++◌, IsTrue, ℕ, List, [], ◌∷◌, Bool, replicate, ◌<◌, true, false, length, take, drop, Contains, MatchBool}
 use Rattle.sfi_formats.specs.declared.format.Format.{Format}
 use Rattle.sfi_source.specs.declared.item.Item.{Item}
-use Rattle.sfi_rewrite.specs.declared.slot.Slot.{Slot}
+use Rattle.sfi_rewrite.specs.declared.slot.BundleSlot.{BundleSlot}
 use Rattle.sfi_formats.specs.Limits.{bundle_size}
 use Rattle.sfi_rewrite.specs.Expansion.{size_of, c_nop, slots_of, IsExpansion, is_call}
 use Rattle.std.specs.List.{AllZip}
@@ -37,20 +37,20 @@ pub record FillsGap (end : ℕ) (labelled call : Bool) (size nops : ℕ) : Type 
   pub first : (here : ℕ) → MayStand end labelled call size here → end + 2 * nops ≤ here
 
 -- after `end` there stand `nops` c.nops, and then the item's expansion
-pub record IsNext (f : Format) (end : ℕ) (x : Item) (nops : ℕ) (expanded : List Slot) : Type 0 where
+pub record IsNext (f : Format) (end : ℕ) (x : Item) (nops : ℕ) (expanded : List BundleSlot) : Type 0 where
   pub expansion : IsExpansion f x expanded
   pub gap : FillsGap end x.labelled (is_call x.body) (size_of expanded) nops
 
 -- from `end` on, the expansions of the items stand one after another, each at its first place
-abbrev pub AreLaidFrom : Format → ℕ → List Item → List Slot → Type 0
+abbrev pub AreLaidFrom : Format → ℕ → List Item → List BundleSlot → Type 0
 AreLaidFrom f end [] slots = slots ≡ []
 AreLaidFrom f end (x ∷ items) slots =
-    (nops : ℕ) × (expanded : List Slot) × (rest : List Slot) × IsNext f end x nops expanded
+    (nops : ℕ) × (expanded : List BundleSlot) × (rest : List BundleSlot) × IsNext f end x nops expanded
     × (slots ≡ replicate nops c_nop ++ (expanded ++ rest))
     × AreLaidFrom f (end + 2 * nops + size_of expanded) items rest
 
 -- the slots of the items
-abbrev pub AreLaid : Format → List Item → List Slot → Type 0
+abbrev pub AreLaid : Format → List Item → List BundleSlot → Type 0
 AreLaid f items slots = AreLaidFrom f 0 items slots
 
 -- ==== The placement of a sandbox: its expansions in their places, with names for addresses. What
@@ -64,11 +64,11 @@ pub record Placement : Type 0 where
   pub gates : List SourceGate
   pub names : List PlacedName
   pub bytes : List ℕ
-  pub bundles : List (List Slot)
+  pub bundles : List (List BundleSlot)
 
 -- the slots of the items before others, in words or in bundles; `in_words` is `has_words f` wherever this
 -- is cited
-abbrev pub AreLaidIn : Bool → Format → List Item → List Item → List Slot → Type 0
+abbrev pub AreLaidIn : Bool → Format → List Item → List Item → List BundleSlot → Type 0
 AreLaidIn in_words f items later slots =
     MatchBool in_words (words.AreLaidBefore items later slots) (AreLaid f items slots)
 
@@ -82,7 +82,7 @@ label_place false end = next_bundle end
 -- before the item
 abbrev pub IsLabelAt : Bool → Format → List Item → ℕ → ℕ → Type 0
 IsLabelAt in_words f items k place =
-    (before : List Slot) × AreLaidIn in_words f (take k items) (drop k items) before
+    (before : List BundleSlot) × AreLaidIn in_words f (take k items) (drop k items) before
     × (place ≡ label_place in_words (size_of before))
 
 -- what a name of the source names once its items are placed; a label names the place of what stands
@@ -109,7 +109,7 @@ abbrev pub FillsEndIn : Bool → ℕ → Type 0 → ℕ → Type 0
 FillsEndIn in_words end labelled nops = MatchBool in_words (nops ≡ 0) (FillsEnd end labelled nops)
 
 -- each bundle is full, but for the last, which has some bytes
-abbrev pub AreBundles : List (List Slot) → Type 0
+abbrev pub AreBundles : List (List BundleSlot) → Type 0
 AreBundles [] = Unit {0}
 AreBundles (b ∷ []) = (0 < size_of b) × (size_of b ≤ bundle_size)
 AreBundles (b ∷ c ∷ bundles) = (size_of b ≡ bundle_size) × AreBundles (c ∷ bundles)
@@ -122,7 +122,7 @@ pub record IsPlacement (s : Sandbox) (p : Placement) : Type 0 where
   pub gates : p.gates ≡ s.gates
   pub bytes : p.bytes ≡ s.bytes
   pub names : AllZip (IsPlacedName s.format s.items) (named s) p.names
-  pub slots : List Slot
+  pub slots : List BundleSlot
   pub laid : AreLaidIn (has_words s.format) s.format s.items [] slots
   pub nops : ℕ
   pub end : FillsEndIn (has_words s.format) (size_of slots) (HasEndLabel s) nops

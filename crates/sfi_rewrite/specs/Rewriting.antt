@@ -5,7 +5,7 @@ use Rattle.sfi_formats.specs.declared.format.Format.{Format}
 use Rattle.sfi_formats.specs.Formats.{code_most, has_words}
 use Rattle.sfi_source.specs.declared.item.Body.{Body}
 use Rattle.sfi_source.specs.declared.item.Item.{Item}
-use Rattle.sfi_rewrite.specs.declared.slot.Slot.{Slot}
+use Rattle.sfi_rewrite.specs.declared.slot.BundleSlot.{BundleSlot}
 use Rattle.sfi_rewrite.specs.declared.fault.RewriteFault.{RewriteFault}
 use Rattle.sfi_rewrite.specs.declared.fault.RewriteFault.TheVariants.{ReservedRegister, Ecall, TooLarge, Memory, StackWrite, Jump}
 use Rattle.sfi_rewrite.specs.Expansion.{item_names_withheld, is_ecall, size_of, is_stack_write}
@@ -38,7 +38,7 @@ pub record IsPermitted (f : Format) (x : Item) : Type 0 where
 -- the first k items, in words or in bundles, have no fault, and these are their slots, for which a
 -- code region has room
 pub record AreFaultless (in_words : Bool) (f : Format) (k : ℕ) (items : List Item)
-    (slots : List Slot) : Type 0 where
+    (slots : List BundleSlot) : Type 0 where
   pub permitted : All (IsPermitted f) (take k items)
   pub laid : AreLaidIn in_words f (take k items) (drop k items) slots
   pub fits : size_of slots ≤ code_most f
@@ -47,7 +47,7 @@ pub record AreFaultless (in_words : Bool) (f : Format) (k : ℕ) (items : List I
 -- would begin a bundle beyond the region's last, since an expansion lies in one bundle
 abbrev pub AreTooLarge : Bool → Format → ℕ → List Item → Type 0
 AreTooLarge in_words f k items =
-    (slots : List Slot) × AreLaidIn in_words f (take k items) (drop k items) slots
+    (slots : List BundleSlot) × AreLaidIn in_words f (take k items) (drop k items) slots
     × (code_most f < size_of slots)
 
 -- the first of the faults that the item has wherever it stands, in the order of these four lines
@@ -81,7 +81,7 @@ pub record IsItemFault (in_words : Bool) (format : Format) (sandbox : ℕ) (item
   pub index : ℕ
   pub item : Item
   pub at : slice_get items index ≡ Some item
-  pub before : List Slot
+  pub before : List BundleSlot
   pub faultless : AreFaultless in_words format index items before
   pub has : HasFault in_words format sandbox items index item f
 
@@ -90,7 +90,7 @@ pub record IsItemFault (in_words : Bool) (format : Format) (sandbox : ℕ) (item
 -- no item of the sandbox has a fault
 abbrev pub IsFaultless : Sandbox → Type 0
 IsFaultless s =
-    (slots : List Slot)
+    (slots : List BundleSlot)
     × AreFaultless (has_words s.format) s.format (length s.items) s.items slots
 
 -- this is the fault of the first item that has one, in the sandbox of that number

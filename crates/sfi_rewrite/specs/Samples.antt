@@ -14,14 +14,14 @@ use Rattle.rv_step.specs.Step.{Stepped}
 use Rattle.sfi_formats.specs.Formats.{stack_pointer}
 use Rattle.sfi_image.specs.declared.span.Span.{Span}
 use Rattle.sfi_image.specs.Spelling.{Holds}
-use Rattle.sfi_rewrite.specs.declared.slot.Slot.{Slot}
+use Rattle.sfi_rewrite.specs.declared.slot.BundleSlot.{BundleSlot}
 use Rattle.sfi_rewrite.specs.Expansion.{writes_stack, IsPlainExpansion}
 use Rattle.sfi_rewrite.specs.Transparency.{KeepsTo, IsAskedOf, effect_in}
 
 -- an expansion, and regions and a state for which all holds that is asked where its slots stand for i,
 -- in code in units of `unit_size` bytes
-pub record Meets (unit_size : ℕ) (i : Instr) (IsExpanded : List Slot → Type 0) : Type 0 where
-  pub slots : List Slot
+pub record Meets (unit_size : ℕ) (i : Instr) (IsExpanded : List BundleSlot → Type 0) : Type 0 where
+  pub slots : List BundleSlot
   pub expansion : IsExpanded slots
   pub code_at : Span
   pub data_at : Span

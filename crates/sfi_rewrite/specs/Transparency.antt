@@ -20,8 +20,8 @@ use Rattle.sfi_formats.specs.Formats.{code_base_register, code_mask_register, da
 use Rattle.sfi_image.specs.declared.span.Span.{Span}
 use Rattle.sfi_image.specs.Spelling.{Holds}
 use Rattle.sfi_image.specs.Parts.{IsCodeRegion, IsDataRegion, IsBundleStart, reserved_for}
-use Rattle.sfi_rewrite.specs.declared.slot.Slot.{Slot}
-use Rattle.sfi_rewrite.specs.declared.slot.Slot.TheVariants.{Wide, Short}
+use Rattle.sfi_rewrite.specs.declared.slot.BundleSlot.{BundleSlot}
+use Rattle.sfi_rewrite.specs.declared.slot.BundleSlot.TheVariants.{Wide, Short}
 use Rattle.sfi_rewrite.specs.Expansion.{writes_stack, slot_size, size_of, slots_of, c_nop}
 use Rattle.sfi_rewrite.specs.Placement.{IsNext, AreLaid, Placement}
 
@@ -57,13 +57,13 @@ masked data_at v = data_at.base + v % data_at.size
 -- ---- which slots stand at pc
 
 -- the bytes at pc are the slot's: a slot that waits for a name's address has become i
-abbrev pub SlotStands : Instr → State → Slot → Type 0
+abbrev pub SlotStands : Instr → State → BundleSlot → Type 0
 SlotStands i s (Wide j) = Stands s j 4
 SlotStands i s (Short f) = Stands s (expansion f) 2
 SlotStands i s _ = Stands s i 4
 
 -- the slots stand one after another from pc on, wherever that is
-abbrev pub SlotsStand : Instr → State → List Slot → Type 0
+abbrev pub SlotsStand : Instr → State → List BundleSlot → Type 0
 SlotsStand i s [] = Unit {0}
 SlotsStand i s (x ∷ slots) = SlotStands i s x × SlotsStand i (further s (slot_size x)) slots
 
@@ -84,8 +84,8 @@ pub record IsSameAside (is_own : ℕ → Bool) (r q : Stepped) : Type 0 where
 -- From this state the steps of the slots before the last are done, and lead to the last one's
 -- place. The step there comes to what the line of i does, if i stood there with the last one's
 -- length, on the registers and the memory of this state, the expansions' own registers aside.
-pub record DoesAs (is_own : ℕ → Bool) (s : State) (i : Instr) (before : List Slot)
-    (last : Slot) : Type 0 where
+pub record DoesAs (is_own : ℕ → Bool) (s : State) (i : Instr) (before : List BundleSlot)
+    (last : BundleSlot) : Type 0 where
   pub there : State
   pub leads : LeadTo (length before) s there
   pub place : there.hart.pc ≡ address_after s.hart.pc (size_of before)
@@ -95,7 +95,7 @@ pub record DoesAs (is_own : ℕ → Bool) (s : State) (i : Instr) (before : List
 
 -- What is asked wherever slots stand for i, in code in units of `unit_size` bytes: regions of a
 -- sandbox, a state of the machine, the reserved registers, and the slots from pc on.
-pub record IsAskedOf (unit_size : ℕ) (i : Instr) (slots : List Slot) (code_at data_at : Span)
+pub record IsAskedOf (unit_size : ℕ) (i : Instr) (slots : List BundleSlot) (code_at data_at : Span)
     (s : State) : Type 0 where
   pub regions : AreRegions code_at data_at
   pub is_state : IsState s
@@ -104,9 +104,9 @@ pub record IsAskedOf (unit_size : ℕ) (i : Instr) (slots : List Slot) (code_at 
 
 -- The slots are transparent to the instruction: wherever they stand, from any state in which the
 -- instruction keeps to its sandbox, they do as it does.
-pub record IsTransparent (i : Instr) (slots : List Slot) : Type 0 where
-  pub before : List Slot
-  pub last : Slot
+pub record IsTransparent (i : Instr) (slots : List BundleSlot) : Type 0 where
+  pub before : List BundleSlot
+  pub last : BundleSlot
   pub slots_are : slots ≡ before ++ last ∷ []
   pub does : (code_at data_at : Span) (s : State) → IsAskedOf bundle_size i slots code_at data_at s
       → KeepsTo code_at data_at s.hart i → DoesAs is_scratch s i before last
@@ -131,7 +131,7 @@ put_back_at data_at s pc =
 -- done, each of their steps is done, and they leave the registers and the memory that i leaves, but
 -- for the stack pointer, which is put back, and the pc, which is after all of them. Where it isn't
 -- done, their first step stops as it does.
-pub record KeepsStack (i : Instr) (slots : List Slot) : Type 0 where
+pub record KeepsStack (i : Instr) (slots : List BundleSlot) : Type 0 where
   pub does :
       (code_at data_at : Span) (s : State) → IsAskedOf bundle_size i slots code_at data_at s
       → (effect_in s i).outcome ≡ Next
@@ -142,7 +142,7 @@ pub record KeepsStack (i : Instr) (slots : List Slot) : Type 0 where
       → (effect_in s i).outcome ≢ Next → IsStep s (effect_in s i)
 
 -- what an expansion of the format is to its instruction
-abbrev pub ActsAs : Format → Instr → List Slot → Type 0
+abbrev pub ActsAs : Format → Instr → List BundleSlot → Type 0
 ActsAs f i slots = MatchBool (writes_stack f i) (KeepsStack i slots) (IsTransparent i slots)
 
 -- ---- an item
@@ -168,11 +168,11 @@ MayBe (Base rd name) i =
 -- which acts as whatever the item may be
 pub record StandsTransparent (f : Format) (items : List Item) (p : Placement) (k : ℕ)
     (x : Item) : Type 0 where
-  pub before : List Slot
+  pub before : List BundleSlot
   pub laid : AreLaid f (take k items) before
   pub nops : ℕ
-  pub expanded : List Slot
+  pub expanded : List BundleSlot
   pub next : IsNext f (size_of before) x nops expanded
-  pub after : List Slot
+  pub after : List BundleSlot
   pub placed : slots_of p.bundles ≡ before ++ (replicate nops c_nop ++ (expanded ++ after))
   pub transparent : (i : Instr) → MayBe x.body i → ActsAs f i expanded

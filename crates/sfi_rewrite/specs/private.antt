@@ -9,7 +9,7 @@ use Rattle.sfi_source.specs.declared.item.Item.{Item}
 use Rattle.sfi_source.specs.declared.item.Named.{Named}
 use Rattle.sfi_source.specs.declared.item.Named.TheVariants.{Gate, Code, Data, Unknown}
 use Rattle.sfi_source.specs.Source.{IsBody}
-use Rattle.sfi_rewrite.specs.declared.slot.Slot.{Slot}
+use Rattle.sfi_rewrite.specs.declared.slot.BundleSlot.{BundleSlot}
 use Rattle.sfi_rewrite.specs.Expansion.{size_of, slots_of, c_nop}
 use Rattle.sfi_rewrite.specs.declared.placed.PlacedName.{PlacedName}
 use Rattle.sfi_rewrite.specs.declared.placed.PlacedName.TheVariants as placed
@@ -18,7 +18,7 @@ use Rattle.sfi_rewrite.specs.declared.fault.RewriteFault.{RewriteFault}
 use Rattle.sfi_rewrite.specs.declared.fault.RewriteFault.TheVariants.{TooLarge}
 use Rattle.rv_comp.specs.Table.{expansion}
 use Rattle.rv_comp.specs.declared.form.Form16.{Form16}
-use Rattle.sfi_rewrite.specs.declared.slot.Slot.TheVariants.{Wide, Short}
+use Rattle.sfi_rewrite.specs.declared.slot.BundleSlot.TheVariants.{Wide, Short}
 use Rattle.sfi_rewrite.specs.words.Expansion.{IsExpansion, Marked, marked, in_words, AreExpanded}
 
 -- ==== Bundles while they are filled, and what is known of items and labels while they are laid.
@@ -28,19 +28,19 @@ abbrev pub largest : ℕ
 largest = code_most Sfi2
 
 -- the slots have as many bytes as a bundle
-abbrev pub IsFull : List Slot → Type 0
+abbrev pub IsFull : List BundleSlot → Type 0
 IsFull bundle = size_of bundle ≡ bundle_size
 
 -- what the bundles keep; `end` is the number of bytes of all
-pub record IsFilled (bundles : List (List Slot)) (end : ℕ) : Type 0 where
+pub record IsFilled (bundles : List (List BundleSlot)) (end : ℕ) : Type 0 where
   pub are_bundles : AreBundles bundles
   pub end_is : end ≡ size_of (slots_of bundles)
 
 -- the new slots are the old ones with the item's c.nops and expansion after them, and a sandbox may
 -- have as many
-pub record HasNext (f : Format) (old : List Slot) (x : Item) (new : List Slot) : Type 0 where
+pub record HasNext (f : Format) (old : List BundleSlot) (x : Item) (new : List BundleSlot) : Type 0 where
   pub nops : ℕ
-  pub expanded : List Slot
+  pub expanded : List BundleSlot
   pub next : IsNext f (size_of old) x nops expanded
   pub slots : new ≡ old ++ (replicate nops c_nop ++ expanded)
   pub fits : size_of new ≤ code_most f
@@ -53,7 +53,7 @@ HaveBodies items = All (λ x. (count : ℕ) × IsBody count x.body) items
 -- that
 pub record IsTooLarge (f : Format) (sandbox end : ℕ) (x : Item) (fault : RewriteFault) : Type 0 where
   pub nops : ℕ
-  pub expanded : List Slot
+  pub expanded : List BundleSlot
   pub next : IsNext f end x nops expanded
   pub beyond : code_most f ≤ end + 2 * nops
   pub fault_is : fault ≡ TooLarge sandbox
@@ -79,7 +79,7 @@ placed_of labels (Data offset) = placed.Data offset
 placed_of labels Unknown = placed.Unknown
 
 -- the slots with c.nops after them: in bundles, up to the bundle start of a label at the end
-pub record HasEnd (f : Format) (old : List Slot) (labelled : Type 0) (new : List Slot) : Type 0 where
+pub record HasEnd (f : Format) (old : List BundleSlot) (labelled : Type 0) (new : List BundleSlot) : Type 0 where
   pub nops : ℕ
   pub end : FillsEndIn (has_words f) (size_of old) labelled nops
   pub slots : new ≡ old ++ replicate nops c_nop
@@ -88,10 +88,10 @@ pub record HasEnd (f : Format) (old : List Slot) (labelled : Type 0) (new : List
 
 -- words, and a 16-bit form that waits for a second one
 pub record WordsSoFar : Type 0 where
-  pub words : List Slot
+  pub words : List BundleSlot
   pub waiting : Option Form16
 
-abbrev pub so_far : List Slot → Option Form16 → WordsSoFar
+abbrev pub so_far : List BundleSlot → Option Form16 → WordsSoFar
 so_far words waiting = record { words = words; waiting = waiting }
 
 -- the bytes of a word for the form that waits, if one does
@@ -104,23 +104,23 @@ abbrev pub bytes_of : WordsSoFar → ℕ
 bytes_of w = size_of w.words + waiting_size w.waiting
 
 -- how many bytes more the words take with this slot
-abbrev pub more_for : Option Form16 → Slot → ℕ
+abbrev pub more_for : Option Form16 → BundleSlot → ℕ
 more_for (Some f) (Short g) = 0
 more_for waiting s = 4
 
 -- the words when no second form joins the one that waits: it stands alone in its word, in 32 bits
-abbrev pub ended : List Slot → Option Form16 → WordsSoFar
+abbrev pub ended : List BundleSlot → Option Form16 → WordsSoFar
 ended words None = so_far words None
 ended words (Some f) = so_far (words ++ Wide (expansion f) ∷ []) None
 
 -- the words with one more slot
-abbrev pub with_slot : List Slot → Option Form16 → Slot → WordsSoFar
+abbrev pub with_slot : List BundleSlot → Option Form16 → BundleSlot → WordsSoFar
 with_slot words (Some f) (Short g) = so_far (words ++ Short f ∷ Short g ∷ []) None
 with_slot words None (Short g) = so_far words (Some g)
 with_slot words waiting s = so_far ((ended words waiting).words ++ s ∷ []) None
 
 -- the words with these slots after them, where no label stands before any but the first slot
-abbrev pub with_slots : WordsSoFar → List Slot → WordsSoFar
+abbrev pub with_slots : WordsSoFar → List BundleSlot → WordsSoFar
 with_slots w [] = w
 with_slots w (s ∷ slots) = with_slots (with_slot w.words w.waiting s) slots
 
@@ -130,7 +130,7 @@ waits None = []
 waits (Some f) = (false, Short f) ∷ []
 
 -- what the words become with more slots after them
-abbrev pub with_more : WordsSoFar → List Marked → List Slot
+abbrev pub with_more : WordsSoFar → List Marked → List BundleSlot
 with_more w more = w.words ++ in_words (waits w.waiting ++ more)
 
 -- the old words with these slots after them come to the new words, whatever comes after
@@ -147,14 +147,14 @@ pub record HaveRoom (w : WordsSoFar) : Type 0 where
   pub fits : bytes_of w ≤ code_most Sfiw
 
 -- the words before what may be a label: where one comes, the form that waits stands alone in its word
-abbrev pub before_label : Bool → List Slot → Option Form16 → WordsSoFar
+abbrev pub before_label : Bool → List BundleSlot → Option Form16 → WordsSoFar
 before_label false words waiting = so_far words waiting
 before_label true words waiting = ended words waiting
 
 -- the new words are the old ones with the slots of item `x` after them, where `later` comes after
 -- the item
 pub record AreWith (x : Item) (later : List Item) (old new : WordsSoFar) : Type 0 where
-  pub expanded : List Slot
+  pub expanded : List BundleSlot
   pub is_expansion : IsExpansion x later expanded
   pub lead : LeadsTo old (marked x.labelled expanded) new
 

@@ -3,7 +3,7 @@ ghost use Rattle.std.specs.Prelude.{◌≡◌, ◌+◌, ◌++◌, ◌≤◌};
 ghost use Rattle.sfi_formats.specs.Limits.{bundle_size};
 ghost use Rattle.sfi_rewrite.specs.Expansion.{size_of};
 
-use crate::slot::{Slot, size_of};
+use crate::slot::{BundleSlot, size_of};
 use arrayvec::ArrayVec;
 use sfi_formats::BUNDLE_BYTES;
 use std::marker::Model;
@@ -14,21 +14,21 @@ const SLOTS_MOST: usize = BUNDLE_BYTES / 2;
 /// What stands in one bundle, in order. Contracts see the list of its slots.
 #[derive(Drop)]
 pub struct Bundle {
-    slots: ArrayVec<Slot, SLOTS_MOST>,
+    slots: ArrayVec<BundleSlot, SLOTS_MOST>,
 }
 
 impl Model for Bundle {
     ghost use Rattle.std.specs.Prelude.{List};
-    ghost use Rattle.sfi_rewrite.specs.declared.slot.Slot.{Slot};
+    ghost use Rattle.sfi_rewrite.specs.declared.slot.BundleSlot.{BundleSlot};
 
-    ghost Value = { List Slot };
+    ghost Value = { List BundleSlot };
 
     ghost view = { λ b. b.slots.items };
 }
 
 impl Bundle {
     /// A bundle of these slots.
-    pub(crate) fn new(slots: &[Slot]) -> Bundle
+    pub(crate) fn new(slots: &[BundleSlot]) -> Bundle
         requires { size_of slots.now ≤ bundle_size }
         ensures { result ≡ slots.now }
     {
@@ -40,7 +40,7 @@ impl Bundle {
     }
 
     /// Adds slots, for which there is room.
-    pub(crate) fn push(&mut self, slots: &[Slot])
+    pub(crate) fn push(&mut self, slots: &[BundleSlot])
         requires { size_of self.old + size_of slots.now ≤ bundle_size }
         ensures { self.new ≡ self.old ++ slots.now }
     {
@@ -58,7 +58,7 @@ impl Bundle {
     }
 
     /// The bundle's slots, in order.
-    pub fn slots(&self) -> &[Slot]
+    pub fn slots(&self) -> &[BundleSlot]
         ensures { result.now ≡ self.now }
     {
         &self.slots

@@ -2,9 +2,9 @@
 ghost use Rattle.std.specs.Prelude.{◌≡◌, ◌+◌, ◌++◌, ◌∷◌, ◌≤◌, [], length, map};
 ghost use Rattle.sfi_rewrite.specs.Expansion.{jump_slots, IsAlone, IsMasked, IsPlainExpansion, IsExpansion};
 ghost use Rattle.sfi_rewrite.specs.Expansion.{stack_pair, put_back, is_on_x2};
-ghost use Rattle.sfi_rewrite.specs.declared.slot.Slot.TheVariants.{Wide};
+ghost use Rattle.sfi_rewrite.specs.declared.slot.BundleSlot.TheVariants.{Wide};
 
-use crate::slot::Slot;
+use crate::slot::BundleSlot;
 use arrayvec::ArrayVec;
 use rv_comp::form_of;
 use rv_word::{ImmOp, Instr, Reg};
@@ -19,14 +19,14 @@ const SLOTS_MOST: usize = 5;
 /// An expansion, in order. Contracts see the list of its slots.
 #[derive(Drop)]
 pub(crate) struct Expansion {
-    slots: ArrayVec<Slot, SLOTS_MOST>,
+    slots: ArrayVec<BundleSlot, SLOTS_MOST>,
 }
 
 impl Model for Expansion {
     ghost use Rattle.std.specs.Prelude.{List};
-    ghost use Rattle.sfi_rewrite.specs.declared.slot.Slot.{Slot};
+    ghost use Rattle.sfi_rewrite.specs.declared.slot.BundleSlot.{BundleSlot};
 
-    ghost Value = { List Slot };
+    ghost Value = { List BundleSlot };
 
     ghost view = { λ e. e.slots.items };
 }
@@ -42,7 +42,7 @@ impl Expansion {
     }
 
     /// Adds slots, for which there is room.
-    pub(crate) fn push(&mut self, slots: &[Slot])
+    pub(crate) fn push(&mut self, slots: &[BundleSlot])
         requires { length self.old + length slots.now ≤ 5 }
         ensures { self.new ≡ self.old ++ slots.now }
     {
@@ -53,7 +53,7 @@ impl Expansion {
     }
 
     /// The expansion of these slots.
-    pub(crate) fn of(slots: &[Slot]) -> Expansion
+    pub(crate) fn of(slots: &[BundleSlot]) -> Expansion
         requires { length slots.now ≤ 5 }
         ensures { result ≡ slots.now }
     {
@@ -63,25 +63,25 @@ impl Expansion {
     }
 
     /// The expansion of a pair, and `last` after it.
-    fn of_pair(pair: [Instr; 2], last: Slot) -> Expansion
+    fn of_pair(pair: [Instr; 2], last: BundleSlot) -> Expansion
         ensures { result ≡ map Wide pair ++ last ∷ [] }
     {
         let [first, second] = pair;
-        Expansion::of(&[Slot::Wide(first), Slot::Wide(second), last])
+        Expansion::of(&[BundleSlot::Wide(first), BundleSlot::Wide(second), last])
     }
 
     /// The expansion of a slot that writes the stack pointer, and the pair that puts that back.
-    fn with_stack_pair(first: Slot) -> Expansion
+    fn with_stack_pair(first: BundleSlot) -> Expansion
         ensures { result ≡ first ∷ stack_pair }
     {
         let stack_pointer = Reg::numbered(STACK_POINTER);
         let [mask, place] = data_pair(stack_pointer, stack_pointer);
-        Expansion::of(&[first, Slot::Wide(mask), Slot::Wide(place)])
+        Expansion::of(&[first, BundleSlot::Wide(mask), BundleSlot::Wide(place)])
     }
 
     /// The expansion of one slot, with the pair that puts the stack pointer back if the slot writes
     /// it.
-    fn put_back(first: Slot, writes_stack: bool) -> Expansion
+    fn put_back(first: BundleSlot, writes_stack: bool) -> Expansion
         ensures { result ≡ first ∷ put_back writes_stack }
     {
         if writes_stack {
@@ -92,7 +92,7 @@ impl Expansion {
     }
 
     /// The slots, in order.
-    pub(crate) fn slots(&self) -> &[Slot]
+    pub(crate) fn slots(&self) -> &[BundleSlot]
         ensures slots { result.now ≡ self.now }
         ensures few { length self.now ≤ 5 }
     {
@@ -105,7 +105,7 @@ fn of_jump(rd: Reg, a: Reg, imm: i32) -> Expansion
     ensures { result ≡ jump_slots rd a imm }
 {
     let scratch = Reg::numbered(SCRATCH);
-    let last = Slot::Wide(Instr::Jalr {
+    let last = BundleSlot::Wide(Instr::Jalr {
         rd,
         rs1: scratch,
         imm: 0,
@@ -113,27 +113,27 @@ fn of_jump(rd: Reg, a: Reg, imm: i32) -> Expansion
     if imm == 0 {
         return Expansion::of_pair(code_pair(scratch, a), last);
     }
-    let sum = Slot::Wide(Instr::OpImm {
+    let sum = BundleSlot::Wide(Instr::OpImm {
         op: ImmOp::Addi,
         rd: scratch,
         rs1: a,
         imm,
     });
     let [mask, place] = code_pair(scratch, scratch);
-    Expansion::of(&[sum, Slot::Wide(mask), Slot::Wide(place), last])
+    Expansion::of(&[sum, BundleSlot::Wide(mask), BundleSlot::Wide(place), last])
 }
 
 /// The expansion of an instruction that stays as it is, in a 16-bit form where `rvc` asks for these
 /// and there is one.
-pub(crate) fn alone(rvc: bool, instr: &Instr) -> Slot
+pub(crate) fn alone(rvc: bool, instr: &Instr) -> BundleSlot
     ensures { IsAlone rvc instr.now (result ∷ []) }
 {
     if rvc {
         if let Some(form) = form_of(*instr) {
-            return Slot::Short(form);
+            return BundleSlot::Short(form);
         }
     }
-    Slot::Wide(*instr)
+    BundleSlot::Wide(*instr)
 }
 
 /// The expansion of an instruction that has nothing to do with a stack pointer.
@@ -149,7 +149,7 @@ fn of_masked(rvc: bool, instr: &Instr) -> Expansion
                 rs1: scratch,
                 imm,
             };
-            Expansion::of_pair(data_pair(scratch, rs1), Slot::Wide(access))
+            Expansion::of_pair(data_pair(scratch, rs1), BundleSlot::Wide(access))
         }
         Instr::Store {
             width,
@@ -163,7 +163,7 @@ fn of_masked(rvc: bool, instr: &Instr) -> Expansion
                 rs2,
                 imm,
             };
-            Expansion::of_pair(data_pair(scratch, rs1), Slot::Wide(access))
+            Expansion::of_pair(data_pair(scratch, rs1), BundleSlot::Wide(access))
         }
         Instr::Jalr { rd, rs1, imm } => of_jump(rd, rs1, imm),
         Instr::Op { .. }
@@ -193,7 +193,7 @@ fn of_plain(format: Format, rvc: bool, instr: &Instr) -> Expansion
     ensures { IsPlainExpansion format rvc instr.now result }
 {
     if format.has_stack() && instr.writes_register(STACK_POINTER) {
-        Expansion::with_stack_pair(Slot::Wide(*instr))
+        Expansion::with_stack_pair(BundleSlot::Wide(*instr))
     } else if format.has_stack() && is_on_x2(instr) {
         Expansion::of(&[alone(rvc, instr)])
     } else {
@@ -208,16 +208,22 @@ pub(crate) fn expand(format: Format, item: &Item) -> Expansion
     let line = item.line;
     match item.body {
         Body::Plain(ref instr) => of_plain(format, item.rvc, instr),
-        Body::To(instr, name) => Expansion::of(&[Slot::Jump { instr, name, line }]),
+        Body::To(instr, name) => Expansion::of(&[BundleSlot::Jump { instr, name, line }]),
         Body::High(rd, name) => {
-            Expansion::put_back(Slot::Upper { rd, name, line }, format.is_stack(rd.number()))
+            Expansion::put_back(
+                BundleSlot::Upper { rd, name, line },
+                format.is_stack(rd.number()),
+            )
         }
         Body::Low(rd, name) => {
-            Expansion::put_back(Slot::Lower { rd, name, line }, format.is_stack(rd.number()))
+            Expansion::put_back(
+                BundleSlot::Lower { rd, name, line },
+                format.is_stack(rd.number()),
+            )
         }
         Body::Base(rd, name) => {
             Expansion::put_back(
-                Slot::Region { rd, name, line },
+                BundleSlot::Region { rd, name, line },
                 format.is_stack(rd.number()),
             )
         }

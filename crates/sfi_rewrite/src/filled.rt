@@ -6,7 +6,7 @@ ghost use Rattle.sfi_rewrite.specs.private.{largest};
 ghost use Rattle.sfi_rewrite.specs.Placement.{AreBundles};
 
 use crate::bundle::Bundle;
-use crate::slot::Slot;
+use crate::slot::BundleSlot;
 use sfi_formats::BUNDLE_BYTES;
 use std::alloc::{AllocError, Global};
 use std::marker::Model;
@@ -21,11 +21,11 @@ pub(crate) struct Filling {
 
 impl Model for Filling {
     ghost use Rattle.std.specs.Prelude.{List};
-    ghost use Rattle.sfi_rewrite.specs.declared.slot.Slot.{Slot};
+    ghost use Rattle.sfi_rewrite.specs.declared.slot.BundleSlot.{BundleSlot};
     ghost use Rattle.sfi_rewrite.specs.Expansion.{slots_of};
     ghost use Rattle.sfi_rewrite.specs.private.{IsFilled};
 
-    ghost Value = { List Slot };
+    ghost Value = { List BundleSlot };
 
     ghost view = { λ f. slots_of f.bundles.items };
 
@@ -52,7 +52,7 @@ impl Filling {
 
     /// Adds slots, of `size` bytes in all: to the last bundle if it has room, and else as the first
     /// of another.
-    pub(crate) fn push(&mut self, slots: &[Slot], size: usize) -> Result<(), AllocError>
+    pub(crate) fn push(&mut self, slots: &[BundleSlot], size: usize) -> Result<(), AllocError>
         requires size { size ≡ size_of slots.now }
         requires some { 0 < size }
         requires fits { size_of self.old % bundle_size + size ≤ bundle_size }
@@ -76,7 +76,7 @@ impl Filling {
         ensures { IfOk result (λ _. self.new ≡ self.old ++ replicate nops c_nop) }
     {
         for _ in 0..nops {
-            self.push(&[Slot::default()], 2)?;
+            self.push(&[BundleSlot::default()], 2)?;
         }
         Ok(())
     }

@@ -27,4 +27,4 @@ pub use parts::rewrite;
 pub use placed::{Placed, PlacedName, PlacedPart};
 pub use sfi_formats::Format;
 pub use sfi_source::{Source, SourceGate};
-pub use slot::Slot;
+pub use slot::BundleSlot;

@@ -10,7 +10,7 @@ use rv_word::{Instr, Reg};
 /// of a name. A name is given by its place among the names of its sandbox,
 /// and a line is that of the source, from 1.
 #[derive(Clone, Copy)]
-pub enum Slot {
+pub enum BundleSlot {
     /// A 32-bit instruction.
     Wide(Instr),
     /// A 16-bit form.
@@ -41,28 +41,28 @@ pub enum Slot {
     },
 }
 
-impl Slot {
+impl BundleSlot {
     /// How many bytes it takes: 2 or 4.
     pub fn size(&self) -> usize
         ensures { result ≡ slot_size self.now }
     {
         match self {
-            Slot::Short(_) => 2,
-            Slot::Wide(_)
-            | Slot::Jump { .. }
-            | Slot::Upper { .. }
-            | Slot::Lower { .. }
-            | Slot::Region { .. } => 4,
+            BundleSlot::Short(_) => 2,
+            BundleSlot::Wide(_)
+            | BundleSlot::Jump { .. }
+            | BundleSlot::Upper { .. }
+            | BundleSlot::Lower { .. }
+            | BundleSlot::Region { .. } => 4,
         }
     }
 }
 
 /// c.nop, which fills the gaps before expansions.
-impl Default for Slot {
-    fn default() -> Slot
+impl Default for BundleSlot {
+    fn default() -> BundleSlot
         ensures { result ≡ c_nop }
     {
-        Slot::Short(Form16::CAddi {
+        BundleSlot::Short(Form16::CAddi {
             rd: Reg::numbered(0),
             imm: 0,
         })
@@ -70,7 +70,7 @@ impl Default for Slot {
 }
 
 /// How many bytes slots take.
-pub(crate) fn size_of(slots: &[Slot]) -> usize
+pub(crate) fn size_of(slots: &[BundleSlot]) -> usize
     requires { length slots.now ≤ bundle_size }
     ensures { result ≡ size_of slots.now }
 {

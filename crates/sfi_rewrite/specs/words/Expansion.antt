@@ -11,8 +11,8 @@ use Rattle.sfi_source.specs.declared.item.Body.{Body}
 use Rattle.sfi_source.specs.declared.item.Body.TheVariants.{Plain, To, High, Low, Base}
 use Rattle.sfi_source.specs.declared.item.Item.{Item}
 use Rattle.sfi_pairs.specs.Pairs.{code_pair}
-use Rattle.sfi_rewrite.specs.declared.slot.Slot.{Slot}
-use Rattle.sfi_rewrite.specs.declared.slot.Slot.TheVariants.{Wide, Jump, Upper, Lower, Region, Short}
+use Rattle.sfi_rewrite.specs.declared.slot.BundleSlot.{BundleSlot}
+use Rattle.sfi_rewrite.specs.declared.slot.BundleSlot.TheVariants.{Wide, Jump, Upper, Lower, Region, Short}
 use Rattle.sfi_rewrite.specs.Expansion.{address_register, IsAlone}
 use Rattle.rv_comp.specs.Table.{expansion}
 
@@ -21,7 +21,7 @@ use Rattle.rv_comp.specs.Table.{expansion}
 -- a step before its use.
 
 -- `and x31, a, x27`; `or d, x31, x26`: d becomes the address of the data region with the offset of a
-abbrev pub data_mask : ℕ → ℕ → List Slot
+abbrev pub data_mask : ℕ → ℕ → List BundleSlot
 data_mask d a =
     Wide (Op And offset_register a data_mask_register)
     ∷ Wide (Op Or d offset_register data_base_register) ∷ []
@@ -35,12 +35,12 @@ base_of a =
     if is_data_register a then a else if a == 0 then data_base_register else address_register
 
 -- the mask by which x29 becomes the address of a, where an access on a is made on x29
-abbrev pub makes_base : ℕ → List Slot
+abbrev pub makes_base : ℕ → List BundleSlot
 makes_base a = if is_data_register a || (a == 0) then [] else data_mask address_register a
 
 -- what stands before the instruction: before an access the mask of its base, if it has one; before an
 -- indirect jump the pair by which x30 becomes a word's start in the code region
-abbrev pub before : Instr → List Slot
+abbrev pub before : Instr → List BundleSlot
 before (Load kind rd a imm) = makes_base a
 before (Store width a rs2 imm) = makes_base a
 before (Jalr rd a imm) = map Wide (code_pair code_register a)
@@ -48,7 +48,7 @@ before i = []
 
 -- the instruction, with its base or target replaced by the register on which it is confined; an
 -- indirect jump has 32 bits
-abbrev pub IsConfined : Bool → Instr → List Slot → Type 0
+abbrev pub IsConfined : Bool → Instr → List BundleSlot → Type 0
 IsConfined rvc (Load kind rd a imm) slots = IsAlone rvc (Load kind rd (base_of a) imm) slots
 IsConfined rvc (Store width a rs2 imm) slots = IsAlone rvc (Store width (base_of a) rs2 imm) slots
 IsConfined rvc (Jalr rd a imm) slots = slots ≡ Wide (Jalr rd code_register imm) ∷ []
@@ -57,7 +57,7 @@ IsConfined rvc i slots = IsAlone rvc i slots
 -- ---- a write of a data register
 
 -- the mask of the register that is written, if it is a data register
-abbrev pub mask_after : Option ℕ → List Slot
+abbrev pub mask_after : Option ℕ → List BundleSlot
 mask_after None = []
 mask_after (Some d) = if is_data_register d then data_mask d d else []
 
@@ -85,7 +85,7 @@ is_step_before_use x [] = false
 is_step_before_use x (y ∷ later) = not y.labelled && is_step_to x.body y.body
 
 -- what stands after an instruction, which is a step or not: the mask of what it writes, unless it is a step
-abbrev pub after : Bool → Instr → List Slot
+abbrev pub after : Bool → Instr → List BundleSlot
 after step i = if step then [] else mask_after (destination i)
 
 -- ---- a move to a data register
@@ -101,7 +101,7 @@ is_move (Op Add d rs1 rs2) = is_data_register d && (rs1 == 0)
 is_move i = false
 
 -- the mask of what is moved into d, which does alone what the move and the mask of d after it do
-abbrev pub moved : Instr → List Slot
+abbrev pub moved : Instr → List BundleSlot
 moved (OpImm op d a imm) = data_mask d a
 moved (Op op d rs1 rs2) = data_mask d rs2
 moved i = []
@@ -109,18 +109,18 @@ moved i = []
 -- ---- the whole expansion
 
 -- the confined instruction, with what has to stand before it and after it
-abbrev pub IsAround : Bool → Bool → Instr → List Slot → Type 0
+abbrev pub IsAround : Bool → Bool → Instr → List BundleSlot → Type 0
 IsAround rvc step i slots =
-    (confined : List Slot) × IsConfined rvc i confined
+    (confined : List BundleSlot) × IsConfined rvc i confined
     × (slots ≡ before i ++ (confined ++ after step i))
 
 -- the expansion of an instruction, which is a step or not
-abbrev pub IsPlainExpansion : Bool → Bool → Instr → List Slot → Type 0
+abbrev pub IsPlainExpansion : Bool → Bool → Instr → List BundleSlot → Type 0
 IsPlainExpansion rvc step i slots =
     MatchBool (is_move i && not step) (slots ≡ moved i) (IsAround rvc step i slots)
 
 -- the expansion of the item on a line
-abbrev pub IsExpansionOf : ℕ → Bool → Bool → Body → List Slot → Type 0
+abbrev pub IsExpansionOf : ℕ → Bool → Bool → Body → List BundleSlot → Type 0
 IsExpansionOf line rvc step (Plain i) slots = IsPlainExpansion rvc step i slots
 IsExpansionOf line rvc step (To i name) slots = slots ≡ Jump i name line ∷ []
 IsExpansionOf line rvc step (High rd name) slots =
@@ -130,7 +130,7 @@ IsExpansionOf line rvc step (Base rd name) slots =
     slots ≡ Region rd name line ∷ mask_after (Some rd)
 
 -- the slots are the expansion of the item, where `later` comes after it
-abbrev pub IsExpansion : Item → List Item → List Slot → Type 0
+abbrev pub IsExpansion : Item → List Item → List BundleSlot → Type 0
 IsExpansion x later slots = IsExpansionOf x.line x.rvc (is_step_before_use x later) x.body slots
 
 -- ---- what has no expansion
@@ -147,10 +147,10 @@ is_barred_jump x = false
 
 -- a slot, and whether a label stands before it
 abbrev pub Marked : Type 0
-Marked = Bool × Slot
+Marked = Bool × BundleSlot
 
 -- a label before slots stands before the first of them
-abbrev pub marked : Bool → List Slot → List Marked
+abbrev pub marked : Bool → List BundleSlot → List Marked
 marked labelled [] = []
 marked labelled (s ∷ slots) = (labelled, s) ∷ marked false slots
 
@@ -158,26 +158,26 @@ marked labelled (s ∷ slots) = (labelled, s) ∷ marked false slots
 abbrev pub AreExpanded : List Item → List Item → List Marked → Type 0
 AreExpanded [] later slots = slots ≡ []
 AreExpanded (x ∷ items) later slots =
-    (expanded : List Slot) × (rest : List Marked) × IsExpansion x (items ++ later) expanded
+    (expanded : List BundleSlot) × (rest : List Marked) × IsExpansion x (items ++ later) expanded
     × (slots ≡ marked x.labelled expanded ++ rest) × AreExpanded items later rest
 
 -- a slot that has a word alone has 32 bits
-abbrev pub alone : Slot → Slot
+abbrev pub alone : BundleSlot → BundleSlot
 alone (Short f) = Wide (expansion f)
 alone s = s
 
 -- The slots in words: of 16-bit forms two share a word, unless a label stands before the second; any
 -- other slot has a word alone. So each label is at a word's start, and no c.nop is needed.
-abbrev pub in_words : List Marked → List Slot
+abbrev pub in_words : List Marked → List BundleSlot
 in_words [] = []
 in_words ((labelled, Short f) ∷ (false, Short g) ∷ slots) = Short f ∷ Short g ∷ in_words slots
 in_words ((labelled, s) ∷ slots) = alone s ∷ in_words slots
 
 -- the slots of items, before other items
-abbrev pub AreLaidBefore : List Item → List Item → List Slot → Type 0
+abbrev pub AreLaidBefore : List Item → List Item → List BundleSlot → Type 0
 AreLaidBefore items later slots =
     (expanded : List Marked) × AreExpanded items later expanded × (slots ≡ in_words expanded)
 
 -- the slots of all the items
-abbrev pub AreLaid : List Item → List Slot → Type 0
+abbrev pub AreLaid : List Item → List BundleSlot → Type 0
 AreLaid items slots = AreLaidBefore items [] slots

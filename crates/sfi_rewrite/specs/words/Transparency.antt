@@ -17,7 +17,7 @@ use Rattle.sfi_formats.specs.Formats.{data_base_register, is_data_register, code
 use Rattle.sfi_formats.specs.declared.format.Format.TheVariants.{Sfiw}
 use Rattle.sfi_image.specs.declared.span.Span.{Span}
 use Rattle.sfi_image.specs.Spelling.{Holds}
-use Rattle.sfi_rewrite.specs.declared.slot.Slot.{Slot}
+use Rattle.sfi_rewrite.specs.declared.slot.BundleSlot.{BundleSlot}
 use Rattle.sfi_rewrite.specs.Expansion.{address_register, size_of, slots_of}
 use Rattle.sfi_rewrite.specs.Placement.{Placement}
 use Rattle.sfi_rewrite.specs.Transparency.{masked, DoesAs, IsAskedOf, MayBe}
@@ -67,9 +67,9 @@ effect_in s i = effect (meant i) 4 s.hart s.memory
 
 -- wherever the slots stand, the steps of all but the last are done, and that of the last comes to what
 -- i, as it is meant, does, x29 to x31 aside
-pub record IsTransparent (i : Instr) (slots : List Slot) : Type 0 where
-  pub before : List Slot
-  pub last : Slot
+pub record IsTransparent (i : Instr) (slots : List BundleSlot) : Type 0 where
+  pub before : List BundleSlot
+  pub last : BundleSlot
   pub slots_are : slots ≡ before ++ last ∷ []
   pub does : (code_at data_at : Span) (s : State) → IsAskedOf (unit Sfiw) i slots code_at data_at s
       → KeepsTo code_at data_at s.hart i → DoesAs is_own s (meant i) before last
@@ -85,10 +85,10 @@ pub record IsLeft (data_at : Span) (d : ℕ) (q : Stepped) (end : ℕ) (t : Stat
 
 -- From this state the slots stop as i does: the steps of those before one of them are done, and the
 -- step there comes to what i, as it is meant, does.
-pub record StopAs (s : State) (i : Instr) (slots : List Slot) : Type 0 where
-  pub before : List Slot
-  pub last : Slot
-  pub rest : List Slot
+pub record StopAs (s : State) (i : Instr) (slots : List BundleSlot) : Type 0 where
+  pub before : List BundleSlot
+  pub last : BundleSlot
+  pub rest : List BundleSlot
   pub slots_are : slots ≡ before ++ last ∷ rest
   pub does : DoesAs is_own s (meant i) before last
 
@@ -96,7 +96,7 @@ pub record StopAs (s : State) (i : Instr) (slots : List Slot) : Type 0 where
 -- done, each of their steps is done, and they leave what it leaves, x29 to x31 aside, but for its
 -- data register d, which is masked, and the pc, which is after all of them. Where it isn't done,
 -- they stop as it does.
-pub record KeepsData (d : ℕ) (i : Instr) (slots : List Slot) : Type 0 where
+pub record KeepsData (d : ℕ) (i : Instr) (slots : List BundleSlot) : Type 0 where
   pub does :
       (code_at data_at : Span) (s : State) → IsAskedOf (unit Sfiw) i slots code_at data_at s
       → KeepsTo code_at data_at s.hart i → (effect_in s i).outcome ≡ Next
@@ -108,36 +108,36 @@ pub record KeepsData (d : ℕ) (i : Instr) (slots : List Slot) : Type 0 where
 
 -- what the slots are to i, whose destination is given: where i writes a data register and is no
 -- step, they keep what it leaves, masked; else they are transparent to it
-abbrev pub ActsBy : Option ℕ → Bool → Instr → List Slot → Type 0
+abbrev pub ActsBy : Option ℕ → Bool → Instr → List BundleSlot → Type 0
 ActsBy None step i slots = IsTransparent i slots
 ActsBy (Some d) step i slots =
     MatchBool (is_data_register d && not step) (KeepsData d i slots) (IsTransparent i slots)
 
-abbrev pub ActsAs : Bool → Instr → List Slot → Type 0
+abbrev pub ActsAs : Bool → Instr → List BundleSlot → Type 0
 ActsAs step i slots = ActsBy (destination i) step i slots
 
 -- ---- what is placed
 
 -- `laid` is s, or s in 32 bits
-abbrev pub IsAsLaid : Slot → Slot → Type 0
+abbrev pub IsAsLaid : BundleSlot → BundleSlot → Type 0
 IsAsLaid s laid = (laid ≡ s) ⊎ (laid ≡ alone s)
 
 -- each laid slot is the one of `slots` at its place, or that in 32 bits
-abbrev pub AreAsLaid : List Slot → List Slot → Type 0
+abbrev pub AreAsLaid : List BundleSlot → List BundleSlot → Type 0
 AreAsLaid slots laid = AllZip IsAsLaid slots laid
 
 -- the expansion of item k in its place, after those of the items before it, some 16-bit forms in
 -- 32 bits, which acts as whatever the item may be; after a label it stands where the label names
 pub record StandsTransparent (items : List Item) (p : Placement) (k : ℕ) (x : Item) : Type 0 where
-  pub before : List Slot
-  pub own : List Slot
-  pub after : List Slot
+  pub before : List BundleSlot
+  pub own : List BundleSlot
+  pub after : List BundleSlot
   pub placed : slots_of p.bundles ≡ before ++ (own ++ after)
   pub earlier : List Marked
   pub are_earlier : AreExpanded (take k items) (drop k items) earlier
   pub stand_earlier : AreAsLaid (map (λ m. m.1) earlier) before
   pub at_label : x.labelled ≡ true → AreLaidBefore (take k items) (drop k items) before
-  pub expanded : List Slot
+  pub expanded : List BundleSlot
   pub is_expansion : IsExpansion x (drop (k + 1) items) expanded
   pub stands : AreAsLaid expanded own
   pub transparent : (i : Instr) → MayBe x.body i → ActsAs (is_step_before_use x (drop (k + 1) items)) i own

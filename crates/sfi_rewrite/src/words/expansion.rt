@@ -4,7 +4,7 @@ ghost use Rattle.sfi_rewrite.specs.words.Expansion.{base_of, data_mask, makes_ba
 ghost use Rattle.rv_word.specs.Outlines.{destination};
 
 use crate::expansion::{Expansion, alone};
-use crate::slot::Slot;
+use crate::slot::BundleSlot;
 use rv_word::{ImmOp, Instr, Reg, RegOp};
 use sfi_formats::{CODE_REGISTER, DATA_BASE_REGISTER, DATA_MASK_REGISTER, OFFSET_REGISTER, SLACK};
 use sfi_pairs::{code_pair, is_data_register};
@@ -31,7 +31,7 @@ fn push_mask(slots: &mut Expansion, target: Reg, a: Reg)
         rs1: offset,
         rs2: Reg::numbered(DATA_BASE_REGISTER),
     };
-    slots.push(&[Slot::Wide(mask), Slot::Wide(place)]);
+    slots.push(&[BundleSlot::Wide(mask), BundleSlot::Wide(place)]);
 }
 
 /// Adds the mask of the register that is written, if it is a data register.
@@ -76,14 +76,14 @@ fn push_before(slots: &mut Expansion, instr: &Instr)
         Instr::Load { rs1, .. } | Instr::Store { rs1, .. } => push_base(slots, rs1),
         Instr::Jalr { rs1, .. } => {
             let [first, second] = code_pair(Reg::numbered(CODE_REGISTER), rs1);
-            slots.push(&[Slot::Wide(first), Slot::Wide(second)]);
+            slots.push(&[BundleSlot::Wide(first), BundleSlot::Wide(second)]);
         }
         _ => {}
     }
 }
 
 /// The instruction, with its base or target replaced by the register on which it is confined.
-fn confined(rvc: bool, instr: &Instr) -> Slot
+fn confined(rvc: bool, instr: &Instr) -> BundleSlot
     ensures { IsConfined rvc instr.now (result ∷ []) }
 {
     match *instr {
@@ -108,7 +108,7 @@ fn confined(rvc: bool, instr: &Instr) -> Slot
                 },
             )
         }
-        Instr::Jalr { rd, imm, .. } => Slot::Wide(Instr::Jalr {
+        Instr::Jalr { rd, imm, .. } => BundleSlot::Wide(Instr::Jalr {
             rd,
             rs1: Reg::numbered(CODE_REGISTER),
             imm,
@@ -198,7 +198,7 @@ fn of_plain(rvc: bool, step: bool, instr: &Instr) -> Expansion
 }
 
 /// The expansion of a part of an address, which it puts into `rd`, with the mask of `rd`.
-fn of_part(part: Slot, rd: Reg) -> Expansion
+fn of_part(part: BundleSlot, rd: Reg) -> Expansion
     ensures { result ≡ part ∷ mask_after (Some rd) }
 {
     let mut slots = Expansion::of(&[part]);
@@ -264,9 +264,9 @@ pub(crate) fn expand(item: &Item, later: &[Item]) -> Expansion
     let line = item.line;
     match item.body {
         Body::Plain(ref instr) => of_plain(item.rvc, is_step_before_use(item, later), instr),
-        Body::To(instr, name) => Expansion::of(&[Slot::Jump { instr, name, line }]),
-        Body::High(rd, name) => of_part(Slot::Upper { rd, name, line }, rd),
-        Body::Low(rd, name) => of_part(Slot::Lower { rd, name, line }, rd),
-        Body::Base(rd, name) => of_part(Slot::Region { rd, name, line }, rd),
+        Body::To(instr, name) => Expansion::of(&[BundleSlot::Jump { instr, name, line }]),
+        Body::High(rd, name) => of_part(BundleSlot::Upper { rd, name, line }, rd),
+        Body::Low(rd, name) => of_part(BundleSlot::Lower { rd, name, line }, rd),
+        Body::Base(rd, name) => of_part(BundleSlot::Region { rd, name, line }, rd),
     }
 }

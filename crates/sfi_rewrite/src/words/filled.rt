@@ -5,7 +5,7 @@ ghost use Rattle.sfi_rewrite.specs.private.{largest};
 ghost use Rattle.sfi_rewrite.specs.private.{so_far, bytes_of, more_for, ended, with_slot};
 
 use crate::filled::Filling;
-use crate::slot::Slot;
+use crate::slot::BundleSlot;
 use rv_comp::Form16;
 use std::alloc::{AllocError, Global};
 use std::marker::Model;
@@ -60,18 +60,18 @@ impl WordFilling {
     }
 
     /// How many bytes the words take with one more slot, if nothing else comes.
-    pub(crate) fn end_with(&self, slot: &Slot) -> usize
+    pub(crate) fn end_with(&self, slot: &BundleSlot) -> usize
         requires { bytes_of self.now ≤ largest }
         ensures { result ≡ bytes_of self.now + more_for self.now.waiting slot.now }
     {
         match (self.waiting, slot) {
-            (Some(_), Slot::Short(_)) => self.end(),
+            (Some(_), BundleSlot::Short(_)) => self.end(),
             (_, _) => self.end() + WORD_SIZE,
         }
     }
 
     /// Adds a word of these slots.
-    fn push_word(&mut self, slots: &[Slot]) -> Result<(), AllocError>
+    fn push_word(&mut self, slots: &[BundleSlot]) -> Result<(), AllocError>
         requires word { size_of slots.now ≡ 4 }
         requires aligned { size_of self.old.words % 4 ≡ 0 }
         requires room { size_of self.old.words + 4 ≤ largest }
@@ -89,23 +89,23 @@ impl WordFilling {
     {
         if let Some(form) = self.waiting {
             self.waiting = None;
-            self.push_word(&[Slot::Wide(form.expand())])?;
+            self.push_word(&[BundleSlot::Wide(form.expand())])?;
         }
         Ok(())
     }
 
     /// Adds a slot. Two 16-bit slots, of which the first waits, make one word.
-    pub(crate) fn push(&mut self, slot: Slot) -> Result<(), AllocError>
+    pub(crate) fn push(&mut self, slot: BundleSlot) -> Result<(), AllocError>
         requires aligned { size_of self.old.words % 4 ≡ 0 }
         requires room { bytes_of self.old + more_for self.old.waiting slot ≤ largest }
         ensures { IfOk result (λ _. self.new ≡ with_slot self.old.words self.old.waiting slot) }
     {
         match (self.waiting, slot) {
-            (Some(first), Slot::Short(_)) => {
+            (Some(first), BundleSlot::Short(_)) => {
                 self.waiting = None;
-                self.push_word(&[Slot::Short(first), slot])
+                self.push_word(&[BundleSlot::Short(first), slot])
             }
-            (None, Slot::Short(form)) => {
+            (None, BundleSlot::Short(form)) => {
                 self.waiting = Some(form);
                 Ok(())
             }

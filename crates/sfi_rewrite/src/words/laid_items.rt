@@ -8,7 +8,7 @@ ghost use Rattle.sfi_rewrite.specs.Rewriting.{AreFaultless, UnlessMemory, IsItem
 use crate::fault::RewriteFault;
 use crate::item::permit;
 use crate::laid_items::Laid;
-use crate::slot::Slot;
+use crate::slot::BundleSlot;
 use crate::words::expansion::expand;
 use crate::words::filled::WordFilling;
 use sfi_formats::Format;
@@ -16,7 +16,11 @@ use sfi_source::Item;
 use std::alloc::{AllocError, Global};
 
 /// Adds slots to the code of the sandbox of that number, each where it has room.
-fn push_slots(sandbox: u32, slots: &[Slot], code: &mut WordFilling) -> Result<(), RewriteFault>
+fn push_slots(
+    sandbox: u32,
+    slots: &[BundleSlot],
+    code: &mut WordFilling,
+) -> Result<(), RewriteFault>
     requires { HaveRoom code.old }
     ensures pushed { IfOk result (λ _. code.new ≡ with_slots code.old slots.now) }
     ensures room { IfOk result (λ _. HaveRoom code.new) }

@@ -1,10 +1,10 @@
-use Rattle.sfi_link.proofs.Prelude.{List, ◌++◌, ◌+◌, ◌<◌, ◌≡◌, ℕ, length, get_or, drop, ap, err_from_is_err_and, Encodes, Slot, PlacedName, Bases, slots_of}
+use Rattle.sfi_link.proofs.Prelude.{List, ◌++◌, ◌+◌, ◌<◌, ◌≡◌, ℕ, length, get_or, drop, ap, err_from_is_err_and, Encodes, BundleSlot, PlacedName, Bases, slots_of}
 use Rattle.std.proofs.lemmas.List.{drop_all}
 use Rattle.sfi_link.proofs.Pushed.{AreLeft, left_next, all_left, fewer, front_room, refused, all_written, All-before}
 use Rattle.sfi_link.proofs.code.push_bundles.Goals as goal
 
 -- the next bundle's slots are the first that are left
-next : (at : Bases) (names : List PlacedName) (bundles : List (List Slot)) (k : ℕ) (b : List Slot) (old now : List ℕ) → k < length bundles → b ≡ get_or bundles k b
+next : (at : Bases) (names : List PlacedName) (bundles : List (List BundleSlot)) (k : ℕ) (b : List BundleSlot) (old now : List ℕ) → k < length bundles → b ≡ get_or bundles k b
     → AreLeft at names (slots_of bundles) (slots_of (drop k bundles)) old now → AreLeft at names (slots_of bundles) (b ++ slots_of (drop (k + 1) bundles)) old now
 next at names bundles k b old now lt is h = left_next (λ l. AreLeft at names (slots_of bundles) (slots_of l) old now) bundles k b lt is h
 

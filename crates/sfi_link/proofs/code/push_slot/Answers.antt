@@ -1,9 +1,9 @@
-use Rattle.sfi_link.proofs.Prelude.{◌≡◌, ◌+◌, ◌++◌, ℕ, List, length, refl, sym, subst, expansion, IsPushed, IsSlot, Bases, PlacedName, Slot, Encodes}
+use Rattle.sfi_link.proofs.Prelude.{◌≡◌, ◌+◌, ◌++◌, ℕ, List, length, refl, sym, subst, expansion, IsPushed, IsSlot, Bases, PlacedName, BundleSlot, Encodes}
 use Rattle.sfi_link.proofs.Pushed.{high_in_range, low_in_range, base_in_range, is_register, upper_slot, lower_slot, region_slot}
 use Rattle.sfi_link.proofs.code.push_slot.Goals as goal
 
-pushed : (at : Bases) (names : List PlacedName) (s t : Slot) (old new bytes : List ℕ) → s ≡ t → new ≡ old ++ bytes → IsSlot at names (at.code + length old) t bytes → IsPushed at names s old new
-pushed at names s t old new bytes is e one = (bytes, e, subst (λ (x : Slot). IsSlot at names (at.code + length old) x bytes) (sym is) one)
+pushed : (at : Bases) (names : List PlacedName) (s t : BundleSlot) (old new bytes : List ℕ) → s ≡ t → new ≡ old ++ bytes → IsSlot at names (at.code + length old) t bytes → IsPushed at names s old new
+pushed at names s t old new bytes is e one = (bytes, e, subst (λ (x : BundleSlot). IsSlot at names (at.code + length old) x bytes) (sym is) one)
 
 pub returns-in_ok-push_short-in-Short : goal.returns-in_ok-push_short-in-Short
 returns-in_ok-push_short-in-Short c =

@@ -1,10 +1,10 @@
-use Rattle.sfi_link.proofs.Prelude.{List, [], ◌∷◌, ◌+◌, drop, err_from_is_err_and, Slot, PlacedName, Bases, ℕ, ◌<◌, length, ◌≡◌, get_or}
+use Rattle.sfi_link.proofs.Prelude.{List, [], ◌∷◌, ◌+◌, drop, err_from_is_err_and, BundleSlot, PlacedName, Bases, ℕ, ◌<◌, length, ◌≡◌, get_or}
 use Rattle.std.proofs.lemmas.List.{drop_all}
 use Rattle.sfi_link.proofs.Pushed.{AreLeft, left_next, all_left, fewer, front_room, slot_refused, all_written, one_written}
 use Rattle.sfi_link.proofs.code.push_slots.Goals as goal
 
 -- the next slot is the first that is left
-next : (at : Bases) (names : List PlacedName) (slots : List Slot) (k : ℕ) (s : Slot) (old now : List ℕ) → k < length slots → s ≡ get_or slots k s → AreLeft at names slots (drop k slots) old now → AreLeft at names slots (s ∷ drop (k + 1) slots) old now
+next : (at : Bases) (names : List PlacedName) (slots : List BundleSlot) (k : ℕ) (s : BundleSlot) (old now : List ℕ) → k < length slots → s ≡ get_or slots k s → AreLeft at names slots (drop k slots) old now → AreLeft at names slots (s ∷ drop (k + 1) slots) old now
 next at names slots k s old now lt is h = left_next (λ l. AreLeft at names slots l old now) slots k s lt is h
 
 pub loop-slot-init : goal.loop-slot-init

@@ -1,4 +1,4 @@
-use Rattle.sfi_rewrite.proofs.Prelude.{List, set, sym, ap, ◌-◌, ◌+◌, ◌∙◌, subst, Slot, slots_of, IsFilled}
+use Rattle.sfi_rewrite.proofs.Prelude.{List, set, sym, ap, ◌-◌, ◌+◌, ◌∙◌, subst, BundleSlot, slots_of, IsFilled}
 use Rattle.sfi_rewrite.proofs.Bundles.{filled_begun, filled_grown}
 use Rattle.sfi_rewrite.proofs.filled.Filling.push.Goals as goal
 
@@ -17,11 +17,11 @@ invariant_of-self-2 c =
     let items = c.self.inside.bundles.items in
     let g = filled_grown items c.args.self.now c.index_mut.result.now c.args.slots.now c.len-last.result c.self.inside.end c.args.size c.self.invariant c.self.view_is
     c.if-self-eq0.false c.requires.size c.requires.fits (c.len-last.ensures ∙ c.self.inside.bundles.ok.0) c.index_mut.ensures.value in
-    subst (λ (l : List Slot). IsFilled (set items (c.len-last.result - 1) l) (c.self.inside.end + c.args.size)) (sym c.push-2.ensures) g.filled
+    subst (λ (l : List BundleSlot). IsFilled (set items (c.len-last.result - 1) l) (c.self.inside.end + c.args.size)) (sym c.push-2.ensures) g.filled
 
 pub returns : goal.returns
 returns c =
     let items = c.self.inside.bundles.items in
     let g = filled_grown items c.args.self.now c.index_mut.result.now c.args.slots.now c.len-last.result c.self.inside.end c.args.size c.self.invariant c.self.view_is
     c.if-self-eq0.false c.requires.size c.requires.fits (c.len-last.ensures ∙ c.self.inside.bundles.ok.0) c.index_mut.ensures.value in
-    ap (λ (l : List Slot). slots_of (set items (c.len-last.result - 1) l)) c.push-2.ensures ∙ g.slots
+    ap (λ (l : List BundleSlot). slots_of (set items (c.len-last.result - 1) l)) c.push-2.ensures ∙ g.slots
