@@ -14,7 +14,7 @@ use Rattle.sfi_host.specs.Changing.{data_bytes_of, OthersAreSame}
 use Rattle.sfi_host.specs.Loading.{MayEnterAt, with_entry, with_entry_of, entered_seat}
 use Rattle.sfi_host.specs.Hosts.{Call, Answer, Host, limited}
 use Rattle.sfi_host.specs.Joint.{Machine, Moved, turned, Joined, joined, joint, and_plan, turn_and}
-use Rattle.sfi_host.specs.Moves.{HaveRunJointly}
+use Rattle.sfi_host.specs.WorldSteps.{HaveRunJointly}
 use Rattle.sfi_host.specs.Plans.{IsJoint, IsCutJoint}
 use Rattle.sfi_host.specs.Slots.{bytes_in, IsWhole, Bounds, Slot}
 use Rattle.sfi_host.specs.Worlds.{Seat, Sandboxes, slot_of, slots_of, IsSafeWorld, StaysOutsideData}

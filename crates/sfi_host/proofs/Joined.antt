@@ -1,6 +1,6 @@
 -- What the joint run does from a safe world is a list of moves.
 use Rattle.sfi_host.proofs.Prelude.{◌≡◌, ◌≢◌, ◌⊎◌, inl, inr, IsSome, is_some, ℕ, zero, suc, ◌<◌, ◌≤◌, ◌^◌, ◌||◌, ◌&&◌, Bool, true, false, cond, List, [], ◌∷◌, ◌++◌, length, take, Option, Some, None, slice_get, set, set-set, refl, sym, ap, ◌∙◌, subst, arith, append_assoc, append-nil, All, option_map, option_or, slice_get-map, map-append, take_all, Bytes, IsMemory, byte_at, Ecall, Outcome, State, Stepped, Stands, IsStep, Part, IsReply, IsTurn, Status, Ready, Trapped, StepResult, Continue, TurnEnds, RunEnds, Way, Exit, Reply, Answer, Host, limited, replay, is_in, IsWhole, Bounds, Slot, bounds_of, one_more, is_own, own, Machine, IsMachine, word, is_byte, with_arguments, with_data, after_way, status_after, replied, Moved, moved, still, after_answer, slot_after_step, after_replies, and_more, turned, Given, given, Joined, joined, joined_after_turn, and_plan, turn_and, call_of, Seat, Sandboxes, slot_of, slots_of, state_in, IsSafeSeat, IsSafeWorld, StaysOutside}
-use Rattle.sfi_host.specs.Moves.{StepsAlone, Move, after_move, IsTurnsShare, AreShares, all_of, given_in, ComeTo, HaveRun, JoinedMoves, JointMoves}
+use Rattle.sfi_host.specs.WorldSteps.{StepsAlone, WorldStep, after_world_step, IsTurnsShare, AreShares, all_of, given_in, ComeTo, HaveRun, JoinedWorldSteps, JointWorldSteps}
 use Rattle.sfi_host.specs.Worlds.{IsOwnStep}
 use Rattle.std.proofs.lemmas.List.Elements.{All-cons, All-nil}
 use Rattle.sfi_safe_runs.specs.Runs.{after_step as step_to, after_turn as goes_to}
@@ -8,7 +8,7 @@ use Rattle.sfi_host.specs.declared.turn.Turn.{Turn as PlanTurn}
 use Rattle.rv_step.specs.declared.outcome.Outcome.TheVariants as outcome
 use Rattle.sfi_host.proofs.Continuing.{way_goes}
 use Rattle.sfi_host.proofs.Leaving.{get_with_data}
-use Rattle.sfi_host.proofs.Moves.{turn_of, Taken, IsTaken, AreTaken, are_moves, taken_follow, safe_after, slots_after, are_runs, safe_runs}
+use Rattle.sfi_host.proofs.WorldSteps.{turn_of, Taken, IsTaken, AreTaken, are_world_steps, taken_follow, safe_after, slots_after, are_runs, safe_runs}
 use Rattle.sfi_host.proofs.Neighbours.{get_set_same, set_itself}
 use Rattle.sfi_host.proofs.OwnSteps.{steps_own}
 use Rattle.sfi_host.proofs.Plans.{joined_nil, joined_cons}
@@ -18,7 +18,7 @@ use Rattle.sfi_host.proofs.SafeSeats as keep
 use Rattle.sfi_host.proofs.SameWorld.{get_map}
 use Rattle.sfi_host.proofs.SlotSteps.{moved_by, not_moved, next_safe, trap_safe, seat_with}
 
-given_append : (first second : List Move) → given_in (first ++ second) ≡ given_in first ++ given_in second
+given_append : (first second : List WorldStep) → given_in (first ++ second) ≡ given_in first ++ given_in second
 given_append [] second = refl
 given_append (v ∷ first) second =
     ap (λ (l : List Given). given v.number v.replies ++ l) (given_append first second) ∙ sym (append_assoc (given v.number v.replies) (given_in first) (given_in second))
@@ -26,9 +26,9 @@ given_append (v ∷ first) second =
 -- ---- shares
 
 no_share : (t : PlanTurn) → IsTurnsShare t []
-no_share t = record { only = All-nil (λ (v : Move). v.number ≡ t.sandbox); count = omega arith }
+no_share t = record { only = All-nil (λ (v : WorldStep). v.number ≡ t.sandbox); count = omega arith }
 
-none_of : List PlanTurn → List (List Move)
+none_of : List PlanTurn → List (List WorldStep)
 none_of [] = []
 none_of (t ∷ plan) = [] ∷ none_of plan
 
@@ -42,7 +42,7 @@ unfolding none_of
 no_moves (suc k) (t ∷ plan) = no_moves k plan
 no_moves k plan = refl
 
-as_many : (plan : List PlanTurn) (shares : List (List Move)) → AreShares plan shares → length shares ≡ length plan
+as_many : (plan : List PlanTurn) (shares : List (List WorldStep)) → AreShares plan shares → length shares ≡ length plan
 as_many [] shares are = ap length are
 as_many (t ∷ plan) [] are = absurd are
 as_many (t ∷ plan) (share ∷ shares) are = ap suc (as_many plan shares are.1)
@@ -240,9 +240,9 @@ module _ (machine : Machine) (is : IsMachine machine) where
 
   -- moves of that sandbox alone, no more than that, come to that
   record TurnMoves {S : Type 0} (i k : ℕ) (w : Sandboxes) (mv : Moved S) : Type 0 where
-    moves : List Move
+    moves : List WorldStep
     n : Sandboxes
-    only : All (λ (v : Move). v.number ≡ i) moves
+    only : All (λ (v : WorldStep). v.number ≡ i) moves
     count : length moves ≤ k
     taken : AreTaken machine w moves n
     slots : slots_of n ≡ set (slots_of w) i mv.slot
@@ -253,7 +253,7 @@ module _ (machine : Machine) (is : IsMachine machine) where
     none_moves k mv rests = record {
       moves = [];
       n = w;
-      only = All-nil (λ (v : Move). v.number ≡ i);
+      only = All-nil (λ (v : WorldStep). v.number ≡ i);
       count = omega arith;
       taken = refl;
       slots = sym (ap (λ (x : Slot). set (slots_of w) i x) rests.same ∙ set_itself (slots_of w) i (slot_of w.bytes s) (get_map (slot_of w.bytes) w.seats i s at));
@@ -261,20 +261,20 @@ module _ (machine : Machine) (is : IsMachine machine) where
     }
 
     module _ {S : Type 0} (mv : Moved S) (ready : s.status ≡ Ready) (to : MovesTo machine i w.bytes s mv) where
-      abbrev v : Move
+      abbrev v : WorldStep
       v = record { number = i; replies = mv.replies; bytes = to.n; seat = to.t }
 
       one : IsTaken machine w v
       one = record { seat = s; there = at; ready = ready; taken = to.taken }
 
-      next_slots : slots_of (after_move w v) ≡ set (slots_of w) i mv.slot
+      next_slots : slots_of (after_world_step w v) ≡ set (slots_of w) i mv.slot
       next_slots = slots_after machine w v world one ∙ ap (λ (x : Slot). set (slots_of w) i x) to.slot
 
       one_moves : (k : ℕ) → TurnMoves i (suc k) w mv
       one_moves k = record {
         moves = v ∷ [];
-        n = after_move w v;
-        only = All-cons (λ (x : Move). x.number ≡ i) v [] refl (All-nil (λ (x : Move). x.number ≡ i));
+        n = after_world_step w v;
+        only = All-cons (λ (x : WorldStep). x.number ≡ i) v [] refl (All-nil (λ (x : WorldStep). x.number ≡ i));
         count = omega arith;
         taken = (one, refl);
         slots = next_slots;
@@ -284,13 +284,13 @@ module _ (machine : Machine) (is : IsMachine machine) where
       more_moves : (k : ℕ) (rest : Slot → S → Moved S) → ((w : Sandboxes) (s : Seat) (x : S) → IsSafeWorld w → slice_get w.seats i ≡ Some s → TurnMoves i k w (rest (slot_of w.bytes s) x))
           → TurnMoves i (suc k) w (after_replies mv.replies (rest mv.slot mv.host))
       more_moves k rest goal =
-          let more : TurnMoves i k (after_move w v) (rest mv.slot mv.host) = subst (λ (y : Slot). TurnMoves i k (after_move w v) (rest y mv.host)) to.slot
-          (goal (after_move w v) to.t mv.host (safe_after machine w v world one) (get_set_same w.seats i s to.t at)) in
+          let more : TurnMoves i k (after_world_step w v) (rest mv.slot mv.host) = subst (λ (y : Slot). TurnMoves i k (after_world_step w v) (rest y mv.host)) to.slot
+          (goal (after_world_step w v) to.t mv.host (safe_after machine w v world one) (get_set_same w.seats i s to.t at)) in
           let last = rest mv.slot mv.host in
           record {
             moves = v ∷ more.moves;
             n = more.n;
-            only = All-cons (λ (x : Move). x.number ≡ i) v more.moves refl more.only;
+            only = All-cons (λ (x : WorldStep). x.number ≡ i) v more.moves refl more.only;
             count = let c = more.count in omega arith;
             taken = (one, more.taken);
             slots = more.slots ∙ ap (λ (l : List Slot). set l i last.slot) next_slots ∙ set-set (slots_of w) i mv.slot last.slot;
@@ -313,7 +313,7 @@ module _ (machine : Machine) (is : IsMachine machine) where
 
   -- ---- a plan
 
-  record LeadTo {S : Type 0} (w : Sandboxes) (moves : List Move) (all : Joined S) : Type 0 where
+  record LeadTo {S : Type 0} (w : Sandboxes) (moves : List WorldStep) (all : Joined S) : Type 0 where
     n : Sandboxes
     taken : AreTaken machine w moves n
     slots : slots_of n ≡ all.slots
@@ -321,7 +321,7 @@ module _ (machine : Machine) (is : IsMachine machine) where
 
   -- a plan's moves, shared out among its turns; those of the first `k` turns come to `first k`
   abbrev PlanMoves : {S : Type 0} → List PlanTurn → Sandboxes → (ℕ → Joined S) → Type 0
-  PlanMoves plan w first = (shares : List (List Move)) × AreShares plan shares × ((k : ℕ) → LeadTo w (all_of (take k shares)) (first k))
+  PlanMoves plan w first = (shares : List (List WorldStep)) × AreShares plan shares × ((k : ℕ) → LeadTo w (all_of (take k shares)) (first k))
 
   module _ {S : Type 0} (host : Host S) where
     abbrev first_turns : List PlanTurn → List Slot → S → ℕ → Joined S
@@ -335,10 +335,10 @@ module _ (machine : Machine) (is : IsMachine machine) where
 
     module _ (t : PlanTurn) (plan : List PlanTurn) (w : Sandboxes) (world : IsSafeWorld w) (x : S) (goal : PlanGoal plan) where
       -- a turn's share, and those of the turns after it
-      abbrev After : List Move → (List PlanTurn → Joined S) → Type 0
-      After share with_rest = (later : List (List Move)) × AreShares plan later × ((k : ℕ) → LeadTo w (share ++ all_of (take k later)) (with_rest (take k plan)))
+      abbrev After : List WorldStep → (List PlanTurn → Joined S) → Type 0
+      After share with_rest = (later : List (List WorldStep)) × AreShares plan later × ((k : ℕ) → LeadTo w (share ++ all_of (take k later)) (with_rest (take k plan)))
 
-      and_rest : (share : List Move) → IsTurnsShare t share → (found : Option Slot) → slice_get (slots_of w) t.sandbox ≡ found
+      and_rest : (share : List WorldStep) → IsTurnsShare t share → (found : Option Slot) → slice_get (slots_of w) t.sandbox ≡ found
           → After share (λ rest. turn_and machine host t (slots_of w) x found (joined machine host rest)) → PlanMoves (t ∷ plan) w (first_turns (t ∷ plan) (slots_of w) x)
       and_rest share is found e after = (share ∷ after.0, (is, after.1), by_count)
         where
@@ -372,8 +372,8 @@ module _ (machine : Machine) (is : IsMachine machine) where
         by_end RunEnds = (
           none_of plan,
           no_shares plan,
-          λ k. subst (λ (moves : List Move). LeadTo w moves (and_plan RunEnds t.sandbox mv (slots_of w) (joined machine host (take k plan))))
-              (sym (ap (λ (l : List Move). first.moves ++ l) (no_moves k plan) ∙ append-nil first.moves))
+          λ k. subst (λ (moves : List WorldStep). LeadTo w moves (and_plan RunEnds t.sandbox mv (slots_of w) (joined machine host (take k plan))))
+              (sym (ap (λ (l : List WorldStep). first.moves ++ l) (no_moves k plan) ∙ append-nil first.moves))
               (record { n = first.n; taken = first.taken; slots = first.slots; replies = first.replies }),
         )
         by_end next = goes_on
@@ -396,17 +396,17 @@ module _ (machine : Machine) (is : IsMachine machine) where
 -- ---- the law
 
 module _ {S : Type 0} (machine : Machine) (host : Host S) (plan : List PlanTurn) (w : Sandboxes) (s : S) (is : IsMachine machine) (world : IsSafeWorld w) where
-  abbrev Leads : List Move → List PlanTurn → Type 0
+  abbrev Leads : List WorldStep → List PlanTurn → Type 0
   Leads moves part = LeadTo machine is w moves (joined machine host part (slots_of w) s)
 
-  come : (moves : List Move) (part : List PlanTurn) (l : Leads moves part) → ComeTo machine w moves l.n (joined machine host part (slots_of w) s)
-  come moves part l = record { lead = are_moves machine moves w l.n world l.taken; slots = l.slots; replies = l.replies }
+  come : (moves : List WorldStep) (part : List PlanTurn) (l : Leads moves part) → ComeTo machine w moves l.n (joined machine host part (slots_of w) s)
+  come moves part l = record { lead = are_world_steps machine moves w l.n world l.taken; slots = l.slots; replies = l.replies }
 
   are_joined : (n : Sandboxes) × HaveRun machine plan w n (λ part. joined machine host part (slots_of w) s)
   are_joined =
       let p = plan_moves machine is host plan w s world in
       let moves = all_of p.0 in
-      let all : Leads moves plan = subst (λ (l : List (List Move)). Leads (all_of l) plan) (take_all (length plan) p.0 (omega (arith, as_many plan p.0 p.1)))
+      let all : Leads moves plan = subst (λ (l : List (List WorldStep)). Leads (all_of l) plan) (take_all (length plan) p.0 (omega (arith, as_many plan p.0 p.1)))
       (subst (λ (part : List PlanTurn). Leads (all_of (take (length plan) p.0)) part) (take_all (length plan) plan (omega arith)) (p.2 (length plan))) in
       let runs = are_runs machine moves w all.n world all.taken in (
         all.n,
@@ -420,8 +420,8 @@ module _ {S : Type 0} (machine : Machine) (host : Host S) (plan : List PlanTurn)
         },
       )
 
-pub joined_are : {S : Type 0} → JoinedMoves S
+pub joined_are : {S : Type 0} → JoinedWorldSteps S
 joined_are machine host plan w s is world = are_joined machine host plan w s is world
 
-pub joint_are : {S : Type 0} → JointMoves S
+pub joint_are : {S : Type 0} → JointWorldSteps S
 joint_are machine answer plan w s limit = joined_are machine (limited answer) plan w (record { host = s; left = limit })

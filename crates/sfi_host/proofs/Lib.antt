@@ -13,7 +13,7 @@ pub mod Joined
 pub mod LaterReplies
 pub mod Leaving
 pub mod Loaded
-pub mod Moves
+pub mod WorldSteps
 pub mod SlotSteps
 pub mod Neighbours
 pub mod OwnSteps

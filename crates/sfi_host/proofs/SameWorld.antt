@@ -1,6 +1,6 @@
 -- A world is its slots and the bytes outside all data.
 use Rattle.sfi_host.proofs.Prelude.{◌≡◌, ◌⊎◌, inl, inr, ⊎_elim, ℕ, zero, suc, true, false, List, [], ◌∷◌, map, Option, Some, slice_get, set, refl, sym, ap, ◌∙◌, subst, same_Some, slice_get-map, option_map, Bytes, byte_at, Holds, Turn, Call, Answer, Host, Limited, limited, Machine, IsMachine, joined, joint, bounds_in, is_in, Bounds, Slot, is_own, Seat, Sandboxes, slot_of, slots_of, IsSafeWorld, StaysOutsideData}
-use Rattle.sfi_host.specs.Moves.{HaveRun, JoinedMoves}
+use Rattle.sfi_host.specs.WorldSteps.{HaveRun, JoinedWorldSteps}
 use Rattle.sfi_host.proofs.OwnSteps.{own_data, own_there, true_false}
 use Rattle.sfi_host.proofs.RegionBytes.{same_bytes, is_in-true, is_in-Holds}
 use Rattle.sfi_host.proofs.Worlds.{map_get}
@@ -71,7 +71,7 @@ module _ (w n o : Sandboxes) (lie : bounds_in o ≡ bounds_in w) (slots : slots_
       λ k. record { bytes = bytes k; seats = same_seats k }
 
 -- what comes to the slots of a joint run, and keeps the bytes outside all data, is what its moves lead to
-pub moves_to : {S : Type 0} → JoinedMoves S → (machine : Machine) → IsMachine machine → (host : Host S) (plan : List Turn) (w n : Sandboxes) (s : S) → IsSafeWorld w
+pub moves_to : {S : Type 0} → JoinedWorldSteps S → (machine : Machine) → IsMachine machine → (host : Host S) (plan : List Turn) (w n : Sandboxes) (s : S) → IsSafeWorld w
     → bounds_in n ≡ bounds_in w → StaysOutsideData w n.bytes → slots_of n ≡ (joined machine host plan (slots_of w) s).slots
     → HaveRun machine plan w n (λ part. joined machine host part (slots_of w) s)
 moves_to law machine is host plan w n s safe lie left slots =
@@ -79,7 +79,7 @@ moves_to law machine is host plan w n s safe lie left slots =
     subst (λ (x : Sandboxes). HaveRun machine plan w x (λ part. joined machine host part (slots_of w) s)) (same_world w ran.0 n lie (ran.1.whole.slots ∙ sym slots) ran.1.runs.outside left) ran.1
 
 -- so it is with a host that answers each call, or `limit` calls
-pub world_runs : {S : Type 0} → JoinedMoves (Limited S) → (machine : Machine) → IsMachine machine → (answer : S → Call → Answer S) (plan : List Turn) (w n : Sandboxes) (s : S) → IsSafeWorld w
+pub world_runs : {S : Type 0} → JoinedWorldSteps (Limited S) → (machine : Machine) → IsMachine machine → (answer : S → Call → Answer S) (plan : List Turn) (w n : Sandboxes) (s : S) → IsSafeWorld w
     → bounds_in n ≡ bounds_in w → StaysOutsideData w n.bytes → (limit : Option ℕ) → slots_of n ≡ (joint machine answer plan (slots_of w) s limit).slots
     → HaveRun machine plan w n (λ part. joint machine answer part (slots_of w) s limit)
 world_runs law machine is answer plan w n s safe lie left limit slots = moves_to law machine is (limited answer) plan w n (record { host = s; left = limit }) safe lie left slots

@@ -10,7 +10,7 @@ pub mod Adding
 pub mod Programs
 pub mod Modules
 pub mod Laws
-pub mod Moves
+pub mod WorldSteps
 pub mod Owning
 pub mod private
 pub mod Waiting

@@ -13,7 +13,7 @@ use Rattle.sfi_host.specs.Slots.{bytes_in, Slot, state_of}
 use Rattle.sfi_host.specs.Plans.{IsJoint}
 use Rattle.sfi_host.specs.Worlds.{Seat, Sandboxes, slot_of, slots_of, IsSafeWorld, StaysOutside, status_at}
 use Rattle.std.specs.List.{Contains}
-use Rattle.sfi_host.specs.Moves.{HaveRun}
+use Rattle.sfi_host.specs.WorldSteps.{HaveRun}
 
 -- ==== Sandboxes that wait at a call, and replies that are given later.
 
@@ -168,7 +168,7 @@ pub record IsUpToStop (stops : List ℕ) (turn : Turn) (w n : Sandboxes) (count 
       → StandsAt (after_turn machine turn.sandbox k (slots_of w)) turn.sandbox stops → ⊥
   pub ends : count < turn.steps → (0 < count) × StandsAt (slots_of n) turn.sandbox stops
 
--- a turn up to a stop is a list of moves in the one memory, as each turn is
+-- a turn up to a stop is a list of world steps in the one memory, as each turn is
 pub record HasRunUntil (stops : List ℕ) (turn : Turn) (w n : Sandboxes) : Type 0 where
   pub count : ℕ
   pub is : IsUpToStop stops turn w n count

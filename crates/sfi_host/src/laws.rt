@@ -2,7 +2,7 @@
 //! proofs/Facts.
 ghost use Rattle.sfi_host.specs.Plans.{JoinedFollows, JointFollows, PlansFollow, CutFollows, CutIsShorter, RetryFollows};
 ghost use Rattle.sfi_host.specs.Waiting.{ToCallIsJoint, ReplyIsAnswer, WritesAreReplies};
-ghost use Rattle.sfi_host.specs.Moves.{JoinedMoves, JointMoves};
+ghost use Rattle.sfi_host.specs.WorldSteps.{JoinedWorldSteps, JointWorldSteps};
 ghost use Rattle.sfi_host.specs.Plans.{JoinedIsSolo, JointIsSolo};
 ghost use Rattle.sfi_host.specs.Waiting.{TurnsAreCounted, WaitsThroughTurns, PlansStopNone};
 
@@ -41,21 +41,21 @@ pub fn plans_follow<S>()
     ensures retried { RetryFollows S }
 {}
 
-/// What the joint run does from a safe world is a list of moves in the one memory: step by step and
-/// reply by reply, with the same slots. To each sandbox these moves are a run, and where it was
-/// ready a safe one. `S` is a host's state.
+/// What the joint run does from a safe world is a list of world steps in the one memory: step by
+/// step and reply by reply, with the same slots. To each sandbox these world steps are a run, and
+/// where it was ready a safe one. `S` is a host's state.
 #[tactic(auto, using(crate::proofs::Joined::joined_are, crate::proofs::Joined::joint_are))]
-pub fn joined_moves<S>()
+pub fn joined_world_steps<S>()
     // With any host.
-    ensures any_host { JoinedMoves S }
+    ensures any_host { JoinedWorldSteps S }
 
     // With a host that answers each call, or only a limited number of calls.
-    ensures limited { JointMoves S }
+    ensures limited { JointWorldSteps S }
 {}
 
-/// A program that runs a sandbox up to its call (`World::run_to_call`), maybe writes to its data, and
-/// replies (`World::reply`), comes to what a host comes to that answers so at once. `S` is that host's
-/// state.
+/// A program that runs a sandbox up to its call (`World::run_to_call`), maybe writes to its data,
+/// and replies (`World::reply`), comes to what a host comes to that answers so at once. `S` is that
+/// host's state.
 pub fn later_is_at_once<S>()
     ensures turns { ToCallIsJoint S }
     ensures replies { ReplyIsAnswer S }

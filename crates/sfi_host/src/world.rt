@@ -7,7 +7,7 @@ ghost use Rattle.sfi_image.specs.Spelling.{Holds};
 ghost use Rattle.sfi_host.specs.Changing.{data_bytes_of, with_world_bytes, OthersAreSame, AreChanges};
 ghost use Rattle.sfi_host.specs.Loading.{AreEnterable, MayEnterAt, with_entry, IsAtEntry};
 ghost use Rattle.sfi_host.specs.Joint.{Machine, IsMachine, call_of, joint, replied};
-ghost use Rattle.sfi_host.specs.Moves.{HaveRun, HaveRunJointly};
+ghost use Rattle.sfi_host.specs.WorldSteps.{HaveRun, HaveRunJointly};
 ghost use Rattle.sfi_host.specs.Owning.{AreOwned};
 ghost use Rattle.sfi_host.specs.Plans.{IsJoint, IsCutJoint};
 ghost use Rattle.sfi_host.specs.private.Sandboxes.{bounds_in, slot_in};
@@ -136,10 +136,10 @@ impl<M: Memory> World<M> {
             → IsCutJoint machine G.answer G.may_refuse plan.now (slots_of self.old) gates.old turn
             (slots_of self.new) gates.new }
 
-        // However the plan ended: the joint run, with each call answered or as many as `memory` says,
-        // is a list of moves in the one memory that lead from the world before to the world after, in
-        // the plan's order and with its replies. Each is one step that its sandbox takes alone; to
-        // each sandbox they are a run, and where it was ready a safe one.
+        // However the plan ended: the joint run, with each call answered or as many as `memory`
+        // says, is a list of world steps in the one memory that lead from the world before to the
+        // world after, in the plan's order and with its replies. Each is one step that its sandbox
+        // takes alone; to each sandbox they are a run, and where it was ready a safe one.
         ensures runs { (machine : Machine) → IsMachine machine
             → HaveRunJointly result machine G.answer G.may_refuse plan.now self.old gates.old
             self.new gates.new }
@@ -173,16 +173,16 @@ impl<M: Memory> World<M> {
     }
 
     /// Takes a turn up to the next call: as a turn of a plan, but a call ends it, and leaves its
-    /// sandbox at the call as if it had not called. The answer is what it asks, if it stands at a call
-    /// then; so it does, too, where its steps were used just before the call. It waits there for a
-    /// `reply` or a `stop`: until then each further turn up to a call comes to nothing, and a turn of a
-    /// plan asks that plan's host.
+    /// sandbox at the call as if it had not called. The answer is what it asks, if it stands at a
+    /// call then; so it does, too, where its steps were used just before the call. It waits there
+    /// for a `reply` or a `stop`: until then each further turn up to a call comes to nothing, and a
+    /// turn of a plan asks that plan's host.
     pub fn run_to_call(&mut self, turn: Turn) -> Option<Request>
         // What the turn comes to with a host that answers no call.
         ensures ran { (machine : Machine) → IsMachine machine
             → slots_of self.new ≡ (to_call machine (turn ∷ []) (slots_of self.old)).slots }
 
-        // It is a list of moves in the one memory, as in `run_plan`.
+        // It is a list of world steps in the one memory, as in `run_plan`.
         ensures runs { (machine : Machine) → IsMachine machine
             → HaveRun machine (turn ∷ []) self.old self.new
             (λ plan. to_call machine plan (slots_of self.old)) }
@@ -252,8 +252,8 @@ impl<M: Memory> World<M> {
             (replied slot (later_reply reply (call_of i slot)))) }
         ensures refused { OnFalse result (self.new ≡ self.old) }
 
-        // It is one move in the one memory, as in `run_plan`: the theorem's reply to the ecall, or, if
-        // the sandbox is to stop, its last step.
+        // It is one world step in the one memory, as in `run_plan`: the theorem's reply to the
+        // ecall, or, if the sandbox is to stop, its last step.
         ensures runs { OnTrue result ((machine : Machine) → IsMachine machine
             → HaveRun machine (record { sandbox = i; steps = 1 } ∷ []) self.old self.new
             (λ plan. joint machine later_answer plan (slots_of self.old) reply None)) }
@@ -362,8 +362,8 @@ impl<M: Memory> World<M> {
         sandbox.data.read(&self.memory, at, bytes)
     }
 
-    /// Writes all of `bytes` into the data of the sandbox of that number from `at` on; `false` where
-    /// there is no such sandbox or one of these addresses isn't in its data region, and then
+    /// Writes all of `bytes` into the data of the sandbox of that number from `at` on; `false`
+    /// where there is no such sandbox or one of these addresses isn't in its data region, and then
     /// nothing changed. Whether the sandbox has stopped or stands within its code makes no
     /// difference.
     pub fn write(&mut self, i: u32, at: u32, bytes: &[u8]) -> bool
@@ -393,13 +393,14 @@ impl<M: Memory> World<M> {
         true
     }
 
-    /// Makes the sandbox of that number ready at `pc`, with the arguments in a0 to a7, as a function
-    /// is called; `false` where there is no such sandbox, it hasn't stopped, or no bundle or word of
-    /// its code begins at `pc`, and then nothing changed. The return address x1 is that of the first
-    /// gate of service 0, if one is listed, so that a function that returns calls that gate. The other
-    /// registers are as `load` sets them: the stack pointer x2 lies a first frame below the data's end,
-    /// x24 to x27 hold what is theirs, where code is in words x3, x4 and x29 hold the data base and x30
-    /// holds pc, and all that is left is 0. Its data stay, and its steps are counted on.
+    /// Makes the sandbox of that number ready at `pc`, with the arguments in a0 to a7, as a
+    /// function is called; `false` where there is no such sandbox, it hasn't stopped, or no bundle
+    /// or word of its code begins at `pc`, and then nothing changed. The return address x1 is that
+    /// of the first gate of service 0, if one is listed, so that a function that returns calls that
+    /// gate. The other registers are as `load` sets them: the stack pointer x2 lies a first frame
+    /// below the data's end, x24 to x27 hold what is theirs, where code is in words x3, x4 and x29
+    /// hold the data base and x30 holds pc, and all that is left is 0. Its data stay, and its steps
+    /// are counted on.
     pub fn enter(&mut self, i: u32, pc: u32, arguments: &[u32; 8]) -> bool
         ensures may { IsTrue result ↔ MayEnterAt (slots_of self.old) i pc }
         ensures done { OnTrue result (self.new ≡ with_entry self.old i pc arguments.now) }
@@ -424,10 +425,10 @@ impl<M: Memory> World<M> {
         true
     }
 
-    /// Stops the sandbox of that number, if it is ready, wherever it stands, also where it waits at a
-    /// call: no turn does anything with it then, and it takes no reply. `false` where there is no such
-    /// sandbox or it has stopped already, and then nothing changed. All else of it stays: its pc,
-    /// registers, data and steps. It may be entered again, as after an exit or a trap.
+    /// Stops the sandbox of that number, if it is ready, wherever it stands, also where it waits at
+    /// a call: no turn does anything with it then, and it takes no reply. `false` where there is no
+    /// such sandbox or it has stopped already, and then nothing changed. All else of it stays: its
+    /// pc, registers, data and steps. It may be entered again, as after an exit or a trap.
     pub fn stop(&mut self, i: u32) -> bool
         ensures may { IsTrue result ↔ (status_at (slots_of self.old) i ≡ Some Status.Ready) }
 

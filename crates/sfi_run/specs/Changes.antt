@@ -8,7 +8,7 @@ use Rattle.sfi_host.specs.Adding.{with_image, EarlierAreSame, without, RestIsSam
 use Rattle.sfi_host.specs.Changing.{with_callback, OthersAreSame, AreChanges, with_world_bytes, with_hart, with_stop}
 use Rattle.sfi_host.specs.Loading.{AreEntered, HaveFirstData, IsAtEntry, with_entry, with_reset}
 use Rattle.sfi_host.specs.Joint.{Machine, IsMachine, call_of, joint as joint_run, replied}
-use Rattle.sfi_host.specs.Moves.{HaveRun, HaveRunJointly}
+use Rattle.sfi_host.specs.WorldSteps.{HaveRun, HaveRunJointly}
 use Rattle.sfi_host.specs.Owning.{AreOwned}
 use Rattle.sfi_host.specs.Plans.{IsJoint, IsCutJoint}
 use Rattle.sfi_host.specs.Slots.{Slot}

@@ -13,7 +13,7 @@ use Rattle.sfi_safety.specs.Places.{IsCleanPart, AreCleanBundles, IsGood}
 use Rattle.sfi_safety.proofs.Facts as bundles
 use Rattle.sfi_word_safety.specs.Code.{IsCleanInWords, IsGoodInWords}
 use Rattle.sfi_word_safety.proofs.Facts as words
-use Rattle.sfi_translate.specs.Machine.{Going, Loop, AreMoves}
+use Rattle.sfi_translate.specs.Machine.{Going, Loop, AreTranslatedSteps}
 use Rattle.sfi_translate.specs.Laws.{UnitsAreWhole, LinesAreInText, IsReached, IsAsImage, TranslatedRunsAsImage}
 use Rattle.sfi_translate.proofs.InText.{in_text}
 use Rattle.sfi_translate.proofs.Moves.{as_image, run_good}
@@ -45,7 +45,7 @@ units_are_whole sandbox p number reading clean within longest =
 -- ---- a turn
 
 module _ (sandbox : ℕ) (p : Part) (entries : ℕ → Bool) (s : State) (left moves : ℕ) (g : Going) (clean : IsCleanPart sandbox p) (reached : IsReached p s) (fits : left < 2 ^ 32)
-    (are : AreMoves p entries moves (record { place = Loop; state = s; left = left }) g) where
+    (are : AreTranslatedSteps p entries moves (record { place = Loop; state = s; left = left }) g) where
   of_good : (Good : State → Type 0) → ((t : State) (turn : Turn) → Good t → IsTurn p t turn → IsSafeState p t × IsSafeTurn p t turn × IfSome (after_turn turn) Good) → ((t : State) → Good t → KeepsAll p t) → Good reached.first → IsAsImage s left g
   of_good Good keeps kept first =
       let good = run_good p Good keeps reached.turns (Some reached.first) first reached.run in

@@ -13,7 +13,7 @@ use Rattle.sfi_image.specs.Parts.{IsRightPart}
 use Rattle.sfi_image.specs.Spelling.{AreApart, code_region, guarded_region}
 use Rattle.sfi_safe_runs.specs.Runs.{Turn, Steps, IsTurn, IsRun, after_step, after_turn}
 use Rattle.sfi_safe_runs.specs.Safety.{after_turns, KeepsAll, IsSafeState, IsSafeTurn}
-use Rattle.sfi_translate.specs.Machine.{ControlPoint, Label, Slow, Loop, Stopped, Going, one_less, after_line, is_done, fixed, line_done, row_step, step_done, from_loop, IsLine, IsMoveAt, AreMoves}
+use Rattle.sfi_translate.specs.Machine.{ControlPoint, Label, Slow, Loop, Stopped, Going, one_less, after_line, is_done, fixed, line_done, row_step, step_done, from_loop, IsLine, IsTranslatedStepAt, AreTranslatedSteps}
 use Rattle.sfi_translate.specs.Laws.{HasData, IsAsImage}
 use Rattle.sfi_translate.proofs.LinesStand.{stands, two_or_four, between_heads}
 use Rattle.sfi_translate.proofs.Counting.{IsEnough, loop_enough, line_enough}
@@ -133,7 +133,7 @@ module _ (p : Part) (right : IsRightPart p) (apart : AreApart (code_region p) (g
 
   -- ---- any move
 
-  one_move : (g k : Going) (so : SoFar g) (q : ControlPoint) → g.place ≡ q → IsMoveAt q p entries g k → SoFar k
+  one_move : (g k : Going) (so : SoFar g) (q : ControlPoint) → g.place ≡ q → IsTranslatedStepAt q p entries g k → SoFar k
   one_move g k so (Label at) e move =
       let here : IsEnough (Label at) g.state g.left = subst (λ (q : ControlPoint). IsEnough q g.state g.left) e so.enough in
       subst SoFar (sym move.3) (line_moves g so at here.0 here.1 move.0 move.1 move.2)
@@ -144,11 +144,11 @@ module _ (p : Part) (right : IsRightPart p) (apart : AreApart (code_region p) (g
       subst SoFar (sym move.1) (moved g so (from_loop p entries g.state.hart.pc g.left) (loop_enough g.state g.left move.0 p entries))
   one_move g k so (Stopped o) e move = absurd move
 
-  after_moves : (n : ℕ) (g k : Going) → SoFar g → AreMoves p entries n g k → SoFar k
+  after_moves : (n : ℕ) (g k : Going) → SoFar g → AreTranslatedSteps p entries n g k → SoFar k
   after_moves zero g k so h = subst SoFar (sym h) so
   after_moves (suc n) g k so h = after_moves n h.0 k (one_move g h.0 so g.place refl h.1) h.2
 
-  pub as_image : (n : ℕ) (g : Going) → IsGood s → IsState s → HasData p s.memory → AreMoves p entries n (record { place = Loop; state = s; left = left }) g → IsAsImage s left g
+  pub as_image : (n : ℕ) (g : Going) → IsGood s → IsState s → HasData p s.memory → AreTranslatedSteps p entries n (record { place = Loop; state = s; left = left }) g → IsAsImage s left g
   as_image n g good state has moves =
       let so = after_moves n _ g (record { good = good; state = state; has_data = has; steps = 0; lead = refl; counted = omega arith; enough = tt }) moves in
       record { steps = so.steps; lead = so.lead; counted = so.counted; stopped = λ o e. subst (λ (q : ControlPoint). IsEnough q g.state g.left) e so.enough }

@@ -149,7 +149,7 @@ step_done Call s left = record { place = Stopped Call; state = s; left = left }
 step_done (Trap cause at) s left =
     record { place = Stopped (Trap cause at); state = s; left = left }
 
--- ---- a move
+-- ---- a step of translated code
 
 -- how many bytes the pieces have
 abbrev pub bytes_of : List Piece → ℕ
@@ -167,22 +167,22 @@ pub record IsLine (p : Part) (at : ℕ) (i : Instr) (n : ℕ) : Type 0 where
   pub at_is : at ≡ p.code_base + unit p.format * number + bytes_of before
 
 -- what may follow at that place
-abbrev pub IsMoveAt : ControlPoint → Part → (ℕ → Bool) → Going → Going → Type 0
-IsMoveAt (Label at) p entries g k =
+abbrev pub IsTranslatedStepAt : ControlPoint → Part → (ℕ → Bool) → Going → Going → Type 0
+IsTranslatedStepAt (Label at) p entries g k =
     (i : Instr) × (n : ℕ) × IsLine p at i n × (k ≡ line_done p entries at i n g)
-IsMoveAt Slow p entries g k =
+IsTranslatedStepAt Slow p entries g k =
     (i : Instr) × (n : ℕ) × IsLine p g.state.hart.pc i n
     × (k ≡ step_done (row_step p i n g.state).outcome (row_step p i n g.state).state g.left)
-IsMoveAt Loop p entries g k =
+IsTranslatedStepAt Loop p entries g k =
     (0 < g.left) × (k ≡ record g { place = from_loop p entries g.state.hart.pc g.left })
-IsMoveAt (Stopped o) p entries g k = ⊥
+IsTranslatedStepAt (Stopped o) p entries g k = ⊥
 
--- one move of a turn; `entries` says of an address whether it has an ENTRY in the text
-abbrev pub IsMove : Part → (ℕ → Bool) → Going → Going → Type 0
-IsMove p entries g k = IsMoveAt g.place p entries g k
+-- one such step; `entries` says of an address whether it has an ENTRY in the text
+abbrev pub IsTranslatedStep : Part → (ℕ → Bool) → Going → Going → Type 0
+IsTranslatedStep p entries g k = IsTranslatedStepAt g.place p entries g k
 
--- some moves, one after another
-abbrev pub AreMoves : Part → (ℕ → Bool) → ℕ → Going → Going → Type 0
-AreMoves p entries zero g k = k ≡ g
-AreMoves p entries (suc n) g k =
-    (between : Going) × IsMove p entries g between × AreMoves p entries n between k
+-- some such steps, one after another
+abbrev pub AreTranslatedSteps : Part → (ℕ → Bool) → ℕ → Going → Going → Type 0
+AreTranslatedSteps p entries zero g k = k ≡ g
+AreTranslatedSteps p entries (suc n) g k =
+    (between : Going) × IsTranslatedStep p entries g between × AreTranslatedSteps p entries n between k

@@ -1,7 +1,7 @@
 use Rattle.std.proofs.Common.{◌≡◌, ℕ, refl, subst, arith}
 use Rattle.sfi_host.specs.declared.turn.RunAnswer.TheVariants.{Memory}
 use Rattle.sfi_host.specs.Consoles.{console, console_may_refuse}
-use Rattle.sfi_host.specs.Moves.{HaveRunJointly}
+use Rattle.sfi_host.specs.WorldSteps.{HaveRunJointly}
 use Rattle.sfi_host.specs.Plans.{IsCutJoint}
 use Rattle.sfi_host.specs.Worlds.{slots_of}
 use Rattle.sfi_run.specs.Changes.{plan_of}

@@ -1,4 +1,5 @@
--- What a plan does in the one memory, one move after another, and what that is to each sandbox.
+-- What a plan does in the one memory, one world step after another, and what that is to each
+-- sandbox.
 use Rattle.std.specs.Prelude.{◌≡◌, ◌≢◌, ◌≤◌, ℕ, ◌==◌, cond, Bool, List, [], ◌∷◌, ◌++◌, length, Option, Some, None, slice_get, slice_set, take}
 use Rattle.std.specs.List.{All}
 use Rattle.rv_mem.specs.Bytes.{Bytes}
@@ -19,32 +20,32 @@ use Rattle.sfi_host.specs.Joint.{Machine, IsMachine, moved, Given, given, Joined
 use Rattle.sfi_host.specs.Plans.{IsCutJoint}
 use Rattle.sfi_host.specs.Worlds.{Seat, Sandboxes, slot_of, slots_of, state_in, IsSafeWorld, StaysOutside, StaysOutsideData}
 
--- ---- moves
+-- ---- world steps
 
 -- One step of `moved`, with these replies given, one or none: the sandbox of that number gets them
 -- all in it, and then it is the slot t. A call that isn't answered is no step: so the ecall at
--- which a plan ended is no move, though control reached the host there.
+-- which a plan ended is no world step, though control reached the host there.
 pub record StepsAlone (machine : Machine) (i : ℕ) (s : Slot) (replies : List Reply)
     (t : Slot) : Type 0 where
   pub slot : (moved machine replay i s replies).slot ≡ t
   pub got : (moved machine replay i s replies).replies ≡ replies
   pub answered : (moved machine replay i s replies).next ≢ RunEnds
 
--- a move: the number of the sandbox that moves, the reply that it gets, if it gets one, and the
--- memory and the sandbox's seat after it
-pub record Move : Type 0 where
+-- a world step: the number of the sandbox that takes it, the reply that it gets, if it gets one,
+-- and the memory and the sandbox's seat after it
+pub record WorldStep : Type 0 where
   pub number : ℕ
   pub replies : List Reply
   pub bytes : Bytes
   pub seat : Seat
 
--- the world after a move
-abbrev pub after_move : Sandboxes → Move → Sandboxes
-after_move w v = record { bytes = v.bytes; seats = slice_set w.seats v.number v.seat }
+-- the world after a world step
+abbrev pub after_world_step : Sandboxes → WorldStep → Sandboxes
+after_world_step w v = record { bytes = v.bytes; seats = slice_set w.seats v.number v.seat }
 
--- A ready sandbox of the world takes one step of `moved`, with these replies given. In the one memory
--- that is the machine's step, if it gets no reply, and it changes its own data alone.
-pub record IsMove (machine : Machine) (w : Sandboxes) (v : Move) : Type 0 where
+-- A ready sandbox of the world takes one step of `moved`, with these replies given. In the one
+-- memory that is the machine's step, if it gets no reply, and it changes its own data alone.
+pub record IsWorldStep (machine : Machine) (w : Sandboxes) (v : WorldStep) : Type 0 where
   pub seat : Seat
   pub there : slice_get w.seats v.number ≡ Some seat
   pub ready : seat.status ≡ Ready
@@ -52,17 +53,18 @@ pub record IsMove (machine : Machine) (w : Sandboxes) (v : Move) : Type 0 where
   pub step : v.replies ≡ [] → state_in v.bytes v.seat ≡ (machine (state_in w.bytes seat)).state
   pub others : StaysOutside seat.bounds.data w.bytes v.bytes
 
--- Moves of any sandboxes, one after another, lead from the first world to the second. After each the
--- world is safe.
-abbrev pub AreMoves : Machine → Sandboxes → List Move → Sandboxes → Type 0
-AreMoves machine w [] n = n ≡ w
-AreMoves machine w (v ∷ moves) n =
-    IsMove machine w v × IsSafeWorld (after_move w v) × AreMoves machine (after_move w v) moves n
+-- World steps of any sandboxes, one after another, lead from the first world to the second. After
+-- each the world is safe.
+abbrev pub AreWorldSteps : Machine → Sandboxes → List WorldStep → Sandboxes → Type 0
+AreWorldSteps machine w [] n = n ≡ w
+AreWorldSteps machine w (v ∷ moves) n =
+    IsWorldStep machine w v × IsSafeWorld (after_world_step w v) × AreWorldSteps machine (after_world_step w v) moves n
 
--- ---- what moves are to one sandbox
+-- ---- what world steps are to one sandbox
 
--- A sandbox's own move is, as a turn: a reply, if the sandbox goes on after one; else the machine's
--- step in the one memory, at an exit that of the ecall. `after` is the state after the move.
+-- A sandbox's own world step is, as a turn: a reply, if the sandbox goes on after one; else the
+-- machine's step in the one memory, at an exit that of the ecall. `after` is the state after the
+-- world step.
 abbrev pub own_turn : Stepped → State → List Reply → Status → Turn
 own_turn step after [] status = Steps step
 own_turn step after (r ∷ replies) Ready = Replies after
@@ -77,9 +79,9 @@ own_turns (Exited n) turn later = turn ∷ []
 own_turns (Trapped cause at) turn later = turn ∷ []
 own_turns Stopped turn later = turn ∷ []
 
--- To the sandbox of that number, which has this seat in this memory, its own moves are its turns,
--- and each move of another is a change by others.
-abbrev pub turns_to : Machine → ℕ → Bytes → Seat → List Move → List Turn
+-- To the sandbox of that number, which has this seat in this memory, its own world steps are its
+-- turns, and each world step of another is a change by others.
+abbrev pub turns_to : Machine → ℕ → Bytes → Seat → List WorldStep → List Turn
 turns_to machine i m s [] = []
 turns_to machine i m s (v ∷ moves) =
     cond (v.number == i)
@@ -103,15 +105,15 @@ pub record IsRunBetween (p : Part) (w n : Sandboxes) (i : ℕ) (s : Seat)
   pub stays : s.status ≢ Ready → slot_of n.bytes seat ≡ slot_of w.bytes s
 
 -- The second world is safe, no byte outside the data of all has changed, and to each sandbox the
--- moves are a run.
-pub record AreRuns (machine : Machine) (w n : Sandboxes) (moves : List Move) : Type 0 where
+-- world steps are a run.
+pub record AreRuns (machine : Machine) (w n : Sandboxes) (moves : List WorldStep) : Type 0 where
   pub safe_world : IsSafeWorld n
   pub outside : StaysOutsideData w n.bytes
   pub each : (i : ℕ) (s : Seat) (p : Part) → slice_get w.seats i ≡ Some s → s.bounds ≡ bounds_of p
       → IsRunBetween p w n i s (turns_to machine i w.bytes s moves)
 
--- to each sandbox that was ready the moves are a safe run of the part whose code it has
-abbrev pub AreSafeRuns : Machine → Sandboxes → List Move → Type 0
+-- to each sandbox that was ready the world steps are a safe run of the part whose code it has
+abbrev pub AreSafeRuns : Machine → Sandboxes → List WorldStep → Type 0
 AreSafeRuns machine w moves =
     (i : ℕ) (s : Seat) (p : Part) → slice_get w.seats i ≡ Some s → s.bounds ≡ bounds_of p
     → s.status ≡ Ready → HasCode p w.bytes
@@ -119,42 +121,43 @@ AreSafeRuns machine w moves =
 
 -- ---- what a plan does
 
--- a turn's share of the moves: they are moves of its sandbox, at most as many as the turn allows
--- steps
-pub record IsTurnsShare (turn : PlanTurn) (share : List Move) : Type 0 where
-  pub only : All (λ (v : Move). v.number ≡ turn.sandbox) share
+-- a turn's share of the world steps: they are world steps of its sandbox, at most as many as the
+-- turn allows steps
+pub record IsTurnsShare (turn : PlanTurn) (share : List WorldStep) : Type 0 where
+  pub only : All (λ (v : WorldStep). v.number ≡ turn.sandbox) share
   pub count : length share ≤ turn.steps
 
 -- each of a plan's turns has its share
-abbrev pub AreShares : List PlanTurn → List (List Move) → Type 0
+abbrev pub AreShares : List PlanTurn → List (List WorldStep) → Type 0
 AreShares [] shares = shares ≡ []
 AreShares (t ∷ plan) [] = ⊥
 AreShares (t ∷ plan) (share ∷ shares) = IsTurnsShare t share × AreShares plan shares
 
--- the moves of these shares, in their order
-abbrev pub all_of : List (List Move) → List Move
+-- the world steps of these shares, in their order
+abbrev pub all_of : List (List WorldStep) → List WorldStep
 all_of [] = []
 all_of (share ∷ shares) = share ++ all_of shares
 
--- the replies that were got in the moves, and who got them
-abbrev pub given_in : List Move → List Given
+-- the replies that were got in the world steps, and who got them
+abbrev pub given_in : List WorldStep → List Given
 given_in [] = []
 given_in (v ∷ moves) = given v.number v.replies ++ given_in moves
 
--- Moves in the one memory lead from the first world to the second, and come to this joint run: to
--- its slots, with its replies in their order.
-pub record ComeTo {S : Type 0} (machine : Machine) (w : Sandboxes) (moves : List Move)
+-- World steps in the one memory lead from the first world to the second, and come to this joint
+-- run: to its slots, with its replies in their order.
+pub record ComeTo {S : Type 0} (machine : Machine) (w : Sandboxes) (moves : List WorldStep)
     (n : Sandboxes) (all : Joined S) : Type 0 where
-  pub lead : AreMoves machine w moves n
+  pub lead : AreWorldSteps machine w moves n
   pub slots : slots_of n ≡ all.slots
   pub replies : given_in moves ≡ all.replies
 
--- The moves of a plan's turns lead from the first world to the second. `run_of` is the joint run of
--- a plan: the moves of the first k turns come to that of these turns, for each k, and all moves to
--- that of the whole plan. To each sandbox they are a run, and where it was ready a safe one.
+-- The world steps of a plan's turns lead from the first world to the second. `run_of` is the joint
+-- run of a plan: the world steps of the first k turns come to that of these turns, for each k, and
+-- all world steps to that of the whole plan. To each sandbox they are a run, and where it was ready
+-- a safe one.
 pub record HaveRun {S : Type 0} (machine : Machine) (plan : List PlanTurn) (w n : Sandboxes)
     (run_of : List PlanTurn → Joined S) : Type 0 where
-  pub shares : List (List Move)
+  pub shares : List (List WorldStep)
   pub order : AreShares plan shares
   pub first : (k : ℕ)
       → (mid : Sandboxes) × ComeTo machine w (all_of (take k shares)) mid (run_of (take k plan))
@@ -164,23 +167,24 @@ pub record HaveRun {S : Type 0} (machine : Machine) (plan : List PlanTurn) (w n 
 
 -- ---- the joint run of a safe world
 
--- What the joint run does from a safe world, with any host, is a list of moves in the one memory.
-abbrev pub JoinedMoves : Type 0 → Type 0
-JoinedMoves S =
+-- What the joint run does from a safe world, with any host, is a list of world steps in the one
+-- memory.
+abbrev pub JoinedWorldSteps : Type 0 → Type 0
+JoinedWorldSteps S =
     (machine : Machine) (host : Host S) (plan : List PlanTurn) (w : Sandboxes) (s : S)
     → IsMachine machine → IsSafeWorld w
     → (n : Sandboxes) × HaveRun machine plan w n (λ p. joined machine host p (slots_of w) s)
 
 -- The same holds with a host that answers each call, or `limit` calls.
-abbrev pub JointMoves : Type 0 → Type 0
-JointMoves S =
+abbrev pub JointWorldSteps : Type 0 → Type 0
+JointWorldSteps S =
     (machine : Machine) (answer : S → Call → Answer S) (plan : List PlanTurn) (w : Sandboxes) (s : S)
     (limit : Option ℕ) → IsMachine machine → IsSafeWorld w
     → (n : Sandboxes)
     × HaveRun machine plan w n (λ p. joint machine answer p (slots_of w) s limit)
 
 -- The plan ended at a call that the host may refuse, in the turn at `place` of the plan, and the
--- moves are those of the same joint run, in which the calls before that one are answered.
+-- world steps are those of the same joint run, in which the calls before that one are answered.
 pub record HaveRunUpTo {S : Type 0} (machine : Machine) (answer : S → Call → Answer S)
     (may_refuse : S → Call → Bool) (plan : List PlanTurn) (place : ℕ) (w : Sandboxes) (before : S)
     (n : Sandboxes) (after : S) : Type 0 where
@@ -188,8 +192,8 @@ pub record HaveRunUpTo {S : Type 0} (machine : Machine) (answer : S → Call →
   pub moved : HaveRun machine plan w n
       (λ p. joint machine answer p (slots_of w) before (Some cut.answered))
 
--- What a plan did, by its answer: where it is done, the moves are those of the joint run in which
--- each call is answered; where it ended for want of memory, they are as `HaveRunUpTo` says.
+-- What a plan did, by its answer: where it is done, the world steps are those of the joint run in
+-- which each call is answered; where it ended for want of memory, they are as `HaveRunUpTo` says.
 abbrev pub HaveRunJointly : {S : Type 0} → RunAnswer → Machine → (S → Call → Answer S)
     → (S → Call → Bool) → List PlanTurn → Sandboxes → S → Sandboxes → S → Type 0
 HaveRunJointly answers.Done machine answer may_refuse plan w before n after =

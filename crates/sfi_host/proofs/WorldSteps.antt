@@ -1,6 +1,6 @@
--- Moves of the sandboxes of a safe world are a run to each of them.
+-- World steps of the sandboxes of a safe world are a run to each of them.
 use Rattle.sfi_host.proofs.Prelude.{◌≡◌, inl, inr, ℕ, ◌+◌, ◌<◌, List, [], ◌∷◌, length, Option, Some, None, slice_get, sym, ap, ◌∙◌, subst, ◌≢◌, ◌==◌, cond, true, false, ◌++◌, set, refl, Bytes, byte_at, State, Part, Holds, InGuards, InCode, InData, InGuard, IsGate, HasCode, Steps, Replies, Changes, KeepsBytes, IsTurn, IsRun, IsSafeState, IsSafeTurn, IsSafeRun, Bounds, bounds_of, Slot, eqb-true, eqb-false, same_Some, after_turns, Status, Ready, Reply, Machine, Seat, Sandboxes, slot_of, slots_of, state_in, IsSafeWorld, StaysSafe}
-use Rattle.sfi_host.specs.Moves.{StepsAlone, Move, after_move, AreMoves, own_turn, own_turns, turns_to, IsRunBetween, AreRuns, AreSafeRuns}
+use Rattle.sfi_host.specs.WorldSteps.{StepsAlone, WorldStep, after_world_step, AreWorldSteps, own_turn, own_turns, turns_to, IsRunBetween, AreRuns, AreSafeRuns}
 use Rattle.sfi_image.specs.declared.part.Gate.{Gate}
 use Rattle.sfi_safe_runs.specs.Runs.{Turn, after_turn}
 use Rattle.sfi_host.proofs.SafeSeats as keep
@@ -54,7 +54,7 @@ module _ (q p : Part) (same : bounds_of q ≡ bounds_of p) (m : Bytes) (there : 
   safe_run (Some s) [] h = safe_state s h
   safe_run (Some s) (turn ∷ turns) h = (safe_state s h.0, safe_turn s turn h.1, safe_run (after_turn turn) turns h.2)
 
--- ---- what is known of a move
+-- ---- what is known of a world step
 
 -- the turn that it is
 abbrev pub turn_of : Machine → Bytes → Seat → List Reply → Bytes → Seat → Turn
@@ -68,19 +68,19 @@ pub record Taken (machine : Machine) (i : ℕ) (m : Bytes) (s : Seat) (replies :
   pub is_turn : (p : Part) → s.bounds ≡ bounds_of p → IsTurn p (state_in m s) (turn_of machine m s replies n t)
   pub leads : t.status ≡ Ready → after_turn (turn_of machine m s replies n t) ≡ Some (state_in n t)
 
-pub record IsTaken (machine : Machine) (w : Sandboxes) (v : Move) : Type 0 where
+pub record IsTaken (machine : Machine) (w : Sandboxes) (v : WorldStep) : Type 0 where
   pub seat : Seat
   pub there : slice_get w.seats v.number ≡ Some seat
   pub ready : seat.status ≡ Ready
   pub taken : Taken machine v.number w.bytes seat v.replies v.bytes v.seat
 
-abbrev pub AreTaken : Machine → Sandboxes → List Move → Sandboxes → Type 0
+abbrev pub AreTaken : Machine → Sandboxes → List WorldStep → Sandboxes → Type 0
 AreTaken machine w [] n = n ≡ w
-AreTaken machine w (v ∷ moves) n = IsTaken machine w v × AreTaken machine (after_move w v) moves n
+AreTaken machine w (v ∷ moves) n = IsTaken machine w v × AreTaken machine (after_world_step w v) moves n
 
-pub taken_follow : (machine : Machine) (first second : List Move) (w n o : Sandboxes) → AreTaken machine w first n → AreTaken machine n second o → AreTaken machine w (first ++ second) o
+pub taken_follow : (machine : Machine) (first second : List WorldStep) (w n o : Sandboxes) → AreTaken machine w first n → AreTaken machine n second o → AreTaken machine w (first ++ second) o
 taken_follow machine [] second w n o e are = subst (λ (x : Sandboxes). AreTaken machine x second o) e are
-taken_follow machine (v ∷ first) second w n o lead are = (lead.0, taken_follow machine first second (after_move w v) n o lead.1 are)
+taken_follow machine (v ∷ first) second w n o lead are = (lead.0, taken_follow machine first second (after_world_step w v) n o lead.1 are)
 
 both_keep : (p : Part) (m n w : Bytes) → KeepsBytes p m n → KeepsBytes p n w → KeepsBytes p m w
 both_keep p m n w f g = record {
@@ -93,21 +93,21 @@ by_status : (P : List Turn → Type 0) (turn : Turn) (later : List Turn) (status
 by_status P turn later Ready on last = on refl
 by_status P turn later status on last = last (λ e. cc)
 
--- ---- one move, and what comes then
+-- ---- one world step, and what comes then
 
 module _ (machine : Machine) where
-  module _ (w : Sandboxes) (v : Move) (world : IsSafeWorld w) (one : IsTaken machine w v) where
-    pub safe_after : IsSafeWorld (after_move w v)
+  module _ (w : Sandboxes) (v : WorldStep) (world : IsSafeWorld w) (one : IsTaken machine w v) where
+    pub safe_after : IsSafeWorld (after_world_step w v)
     safe_after = world_safe w.bytes v.bytes w.seats v.number one.seat v.seat world one.there one.taken.stays.others one.taken.stays.safe one.taken.stays.bounds
 
-    pub slots_after : slots_of (after_move w v) ≡ set (slots_of w) v.number (slot_of v.bytes v.seat)
+    pub slots_after : slots_of (after_world_step w v) ≡ set (slots_of w) v.number (slot_of v.bytes v.seat)
     slots_after = slots_are w.bytes v.bytes w.seats v.number one.seat v.seat world one.there one.taken.stays.others
 
-    module _ (n : Sandboxes) (moves : List Move) (rest : AreRuns machine (after_move w v) n moves) (i : ℕ) (p : Part) where
+    module _ (n : Sandboxes) (moves : List WorldStep) (rest : AreRuns machine (after_world_step w v) n moves) (i : ℕ) (p : Part) where
       abbrev own_later : List Turn
       own_later = own_turns v.seat.status (turn_of machine w.bytes one.seat v.replies v.bytes v.seat) (turns_to machine i v.bytes v.seat moves)
 
-      -- its own move
+      -- its own world step
       own_move : v.number ≡ i → one.seat.bounds ≡ bounds_of p → IsRunBetween p w n i one.seat own_later
       own_move at is =
           let turn = turn_of machine w.bytes one.seat v.replies v.bytes v.seat in
@@ -129,7 +129,7 @@ module _ (machine : Machine) where
             stays = λ stopped. absurd (stopped one.ready);
           }
 
-      -- a move of another
+      -- a world step of another
       other_move : (s : Seat) → v.number ≢ i → slice_get w.seats i ≡ Some s → s.bounds ≡ bounds_of p → IsRunBetween p w n i s (Changes (state_in v.bytes s) ∷ turns_to machine i v.bytes s moves)
       other_move s ne at is =
           let later = rest.each i s p (get_set_other w.seats v.number i v.seat (λ z. ne (sym z)) ∙ at) is in
@@ -158,9 +158,9 @@ module _ (machine : Machine) where
 
   -- ---- all of them
 
-  pub are_moves : (moves : List Move) (w n : Sandboxes) → IsSafeWorld w → AreTaken machine w moves n → AreMoves machine w moves n
-  are_moves [] w n world are = are
-  are_moves (v ∷ moves) w n world are =
+  pub are_world_steps : (moves : List WorldStep) (w n : Sandboxes) → IsSafeWorld w → AreTaken machine w moves n → AreWorldSteps machine w moves n
+  are_world_steps [] w n world are = are
+  are_world_steps (v ∷ moves) w n world are =
       let one = are.0 in
       let safe = safe_after w v world one in (
         record {
@@ -172,10 +172,10 @@ module _ (machine : Machine) where
           others = one.taken.stays.others;
         },
         safe,
-        are_moves moves (after_move w v) n safe are.1,
+        are_world_steps moves (after_world_step w v) n safe are.1,
       )
 
-  pub are_runs : (moves : List Move) (w n : Sandboxes) → IsSafeWorld w → AreTaken machine w moves n → AreRuns machine w n moves
+  pub are_runs : (moves : List WorldStep) (w n : Sandboxes) → IsSafeWorld w → AreTaken machine w moves n → AreRuns machine w n moves
   are_runs [] w n world are = subst (λ (x : Sandboxes). AreRuns machine w x []) (sym are) (record {
     safe_world = world;
     outside = λ a out. refl;
@@ -191,14 +191,14 @@ module _ (machine : Machine) where
   })
   are_runs (v ∷ moves) w n world are =
       let one = are.0 in
-      let rest = are_runs moves (after_move w v) n (safe_after w v world one) are.1 in
+      let rest = are_runs moves (after_world_step w v) n (safe_after w v world one) are.1 in
       record {
         safe_world = rest.safe_world;
-        outside = outside_more w (after_move w v) n.bytes (same_bounds w.seats v.number one.seat v.seat one.there one.taken.stays.bounds) (λ a out. one.taken.stays.others a (out v.number one.seat one.there)) rest.outside;
+        outside = outside_more w (after_world_step w v) n.bytes (same_bounds w.seats v.number one.seat v.seat one.there one.taken.stays.bounds) (λ a out. one.taken.stays.others a (out v.number one.seat one.there)) rest.outside;
         each = λ i s p. any_move w v world one n moves rest i p s;
       }
 
-  pub safe_runs : (moves : List Move) (w n : Sandboxes) → IsSafeWorld w → AreRuns machine w n moves → AreSafeRuns machine w moves
+  pub safe_runs : (moves : List WorldStep) (w n : Sandboxes) → IsSafeWorld w → AreRuns machine w n moves → AreSafeRuns machine w moves
   safe_runs moves w n world runs i s p at is ready code =
       let here = world.each i s at in
       let turns = turns_to machine i w.bytes s moves in
