@@ -8,10 +8,10 @@ ghost use Rattle.sfi_host.specs.Slots.{hart_at, data_region_at};
 ghost use Rattle.sfi_host.specs.Changing.{hart_of, MaySetAt};
 ghost use Rattle.sfi_host.specs.Worlds.{Sandboxes, slots_of, status_at, steps_at, IsSafeWorld};
 ghost use Rattle.sfi_run.specs.Changes.{HasWritten, HasEntered, HasBeenStopped, HasRegisters};
-ghost use Rattle.sfi_run.specs.Told.{span_told, AreRegistersOf};
+ghost use Rattle.sfi_run.specs.Snapshots.{region_span, AreRegistersOf};
 
 use crate::holding::SfiRunWorld;
-use crate::told::{SfiRunRegion, SfiRunRegisters};
+use crate::snapshots::{SfiRunRegion, SfiRunRegisters};
 use rv_mem::Pages;
 use sfi_host::{Status, World};
 use std::alloc::Global;
@@ -268,7 +268,7 @@ pub extern "C" fn sfi_run_set_registers(
 fn tell_data(world: &World<Pages>, sandbox: u32, region: &mut SfiRunRegion) -> bool
     ensures there { IsTrue result ↔ IsSome (data_region_at (slots_of world.now) sandbox) }
     ensures done { OnTrue result (data_region_at (slots_of world.now) sandbox
-        ≡ Some (span_told region.new)) }
+        ≡ Some (region_span region.new)) }
     ensures refused { OnFalse result (region.new ≡ region.old) }
 {
     let Some(data) = world.data_region(sandbox) else {
@@ -290,7 +290,7 @@ pub extern "C" fn sfi_run_data(
     ensures there { (w : Sandboxes) → world.old.inner.world ≡ Some w
         → (IsTrue result ↔ IsSome (data_region_at (slots_of w) sandbox)) }
     ensures done { OnTrue result ((w : Sandboxes) → world.old.inner.world ≡ Some w
-        → data_region_at (slots_of w) sandbox ≡ Some (span_told region.new)) }
+        → data_region_at (slots_of w) sandbox ≡ Some (region_span region.new)) }
     ensures refused { OnFalse result (region.new ≡ region.old) }
     ensures none { world.old.inner.world ≡ None → result ≡ false }
 {

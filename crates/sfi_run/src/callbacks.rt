@@ -6,10 +6,10 @@ ghost use Rattle.sfi_host.specs.Changing.{MayCallBackAt};
 ghost use Rattle.sfi_host.specs.Slots.{hart_at};
 ghost use Rattle.sfi_host.specs.Worlds.{Sandboxes, slots_of, IsSafeWorld};
 ghost use Rattle.sfi_run.specs.Changes.{HasCalledBack};
-ghost use Rattle.sfi_run.specs.Told.{AreRegistersOf};
+ghost use Rattle.sfi_run.specs.Snapshots.{AreRegistersOf};
 
 use crate::holding::SfiRunWorld;
-use crate::told::SfiRunRegisters;
+use crate::snapshots::SfiRunRegisters;
 use rv_mem::Pages;
 use sfi_host::World;
 use std::alloc::Global;

@@ -17,7 +17,7 @@ mod modules;
 mod names;
 mod parts;
 mod resets;
-mod told;
+mod snapshots;
 mod turns;
 mod version;
 mod worlds;
@@ -39,7 +39,7 @@ pub use holding::SfiRunWorld;
 pub use modules::{SfiRunModule, sfi_run_instance, sfi_run_module_free, sfi_run_module_new};
 pub use names::{sfi_run_api, sfi_run_export, sfi_run_import};
 pub use resets::sfi_run_reset;
-pub use told::{SfiRunEvent, SfiRunRegion, SfiRunRegisters};
+pub use snapshots::{SfiRunEvent, SfiRunRegion, SfiRunRegisters};
 pub use turns::{
     sfi_run_call, sfi_run_event, sfi_run_exit, sfi_run_reply, sfi_run_turn, sfi_run_until,
 };

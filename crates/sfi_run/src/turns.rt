@@ -5,10 +5,10 @@ ghost use Rattle.sfi_host.specs.Loading.{MayEnterAt};
 ghost use Rattle.sfi_host.specs.Waiting.{IsAtCall};
 ghost use Rattle.sfi_host.specs.Worlds.{Sandboxes, slots_of, IsSafeWorld};
 ghost use Rattle.sfi_run.specs.Changes.{HasRunToCall, HasRunToStop, HasReplied, HasCalled};
-ghost use Rattle.sfi_run.specs.Told.{none_event, IsEventOf};
+ghost use Rattle.sfi_run.specs.Snapshots.{none_event, IsEventOf};
 
 use crate::holding::SfiRunWorld;
-use crate::told::SfiRunEvent;
+use crate::snapshots::SfiRunEvent;
 use rv_mem::Pages;
 use sfi_host::{Later, Turn, World};
 use std::alloc::Global;

@@ -1,5 +1,5 @@
 -- What put and get do, as the host of `exec` answers them.
-use Rattle.sfi_tool.proofs.Prelude.{◌≡◌, ◌∙◌, ℕ, List, Bool, refl, sym, ap, subst, arith, length, Part, AreTold, Adds}
+use Rattle.sfi_tool.proofs.Prelude.{◌≡◌, ◌∙◌, ℕ, List, Bool, refl, sym, ap, subst, arith, length, Part, AreStates, Adds}
 use Rattle.std.proofs.Common.{◌≢◌, ◌⊎◌, ⊎_elim, suc, zero, ◌^◌, ◌≤◌, [], ◌∷◌, ◌++◌, true, false, Option, Some, None, IsSome, is_some, take, drop, min}
 use Rattle.std.specs.Bool.{OnTrue, OnFalse}
 use Rattle.std.specs.Prelude.{IsTrue, ◌↔◌, ◌%◌, slice_set, if◌then◌else◌, nat_le, ◌==◌}
@@ -314,5 +314,5 @@ given_piece old mid new p at false here there done refused is =
 
 -- the lines with what is told
 pub stop_text_is : (ps : List Part) (slots : List Slot) (count : ℕ) (lines text : List ℕ) → count ≡ length ps → lines ≡ stop_lines count slots
-    → Adds lines text (AreTold (length ps) ps slots) → IsStopText ps slots text
+    → Adds lines text (AreStates (length ps) ps slots) → IsStopText ps slots text
 stop_text_is ps slots count lines text e h a = (a.text, a.text_is, a.new_is ∙ ap (λ (l : List ℕ). l ++ a.text) (h ∙ ap (λ n. stop_lines n slots) e))

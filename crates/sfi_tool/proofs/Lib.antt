@@ -1,5 +1,5 @@
 pub mod Prelude
-pub mod Told
+pub mod States
 pub mod Rounds
 pub mod Streams
 pub mod Budgets

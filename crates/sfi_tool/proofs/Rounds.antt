@@ -1,5 +1,5 @@
 -- Rounds of turns, one after another, and what is said of the sandboxes after all of them.
-use Rattle.sfi_tool.proofs.Prelude.{◌≡◌, ℕ, List, refl, ap, arith, length, Bool, sym, ◌∙◌, subst, round_of, AreTold, Part, slots_of, Adds}
+use Rattle.sfi_tool.proofs.Prelude.{◌≡◌, ℕ, List, refl, ap, arith, length, Bool, sym, ◌∙◌, subst, round_of, AreStates, Part, slots_of, Adds}
 use Rattle.std.proofs.Common.{suc, ◌+◌, [], ◌++◌, map, true, None}
 use Rattle.sfi_host.specs.Hosts.{Call, Answer}
 use Rattle.sfi_host.specs.Joint.{Machine, joined, joint}
@@ -41,8 +41,8 @@ said_of_run report machine rounds quantum given ps count w c slots host text e s
     (subst (λ (x : ConsoleState). IsRunTextOf report ps slots x text) (j.host ∙ ap (λ r. r.host.host) same) h)
 
 -- the lines with what is told
-pub lines_and_told : (report : Bool) (ps : List Part) (slots : List Slot) (host : ConsoleState) (count : ℕ) (lines text : List ℕ) → report ≡ true → count ≡ length ps
-    → lines ≡ run_lines count slots host → Adds lines text (AreTold (length ps) ps slots) → IsRunTextOf report ps slots host text
-lines_and_told report ps slots host count lines text is e h a =
+pub lines_and_states : (report : Bool) (ps : List Part) (slots : List Slot) (host : ConsoleState) (count : ℕ) (lines text : List ℕ) → report ≡ true → count ≡ length ps
+    → lines ≡ run_lines count slots host → Adds lines text (AreStates (length ps) ps slots) → IsRunTextOf report ps slots host text
+lines_and_states report ps slots host count lines text is e h a =
     subst (λ (r : Bool). IsRunTextOf r ps slots host text) (sym is)
     (a.text, a.text_is, a.new_is ∙ ap (λ (l : List ℕ). l ++ a.text) (h ∙ ap (λ n. run_lines n slots host) e))

@@ -16,7 +16,7 @@ use Rattle.sfi_host.specs.Plans.{IsJoint}
 use Rattle.sfi_host.specs.Slots.{Slot}
 use Rattle.sfi_answers.specs.Answers.{GivesImageThat, IsAcceptedImage}
 use Rattle.sfi_safety.specs.Clean.{IsAccepted}
-use Rattle.sfi_tool.specs.Running.{AreTold, first_slots, status_text}
+use Rattle.sfi_tool.specs.Running.{AreStates, first_slots, status_text}
 
 -- ---- the host
 
@@ -180,8 +180,8 @@ stop_lines (suc n) slots = stop_lines n slots ++ stop_line_of n (slice_get slots
 -- these lines, and then the state of each of these sandboxes
 abbrev pub IsStopText : List Part → List Slot → List ℕ → Type 0
 IsStopText ps slots text =
-    (told : List ℕ) × AreTold (length ps) ps slots told
-    × (text ≡ stop_lines (length ps) slots ++ told)
+    (states : List ℕ) × AreStates (length ps) ps slots states
+    × (text ≡ stop_lines (length ps) slots ++ states)
 
 -- ---- the command
 

@@ -61,35 +61,36 @@ run_lines (suc n) slots host =
 
 -- ---- states
 
--- what is told of a sandbox beside its line: nothing of one that has exited, and the state of each
--- other
-abbrev pub IsTold : ℕ → Part → Hart → Status → List ℕ → Type 0
-IsTold sandbox p h Ready text = IsStateText sandbox p h text
-IsTold sandbox p h (Exited n) text = text ≡ []
-IsTold sandbox p h (Trapped cause at) text = IsStateText sandbox p h text
-IsTold sandbox p h Stopped text = IsStateText sandbox p h text
+-- the text of a sandbox's state after its line: empty for one that has exited, and the state of
+-- each other
+abbrev pub IsStateUnlessExited : ℕ → Part → Hart → Status → List ℕ → Type 0
+IsStateUnlessExited sandbox p h Ready text = IsStateText sandbox p h text
+IsStateUnlessExited sandbox p h (Exited n) text = text ≡ []
+IsStateUnlessExited sandbox p h (Trapped cause at) text = IsStateText sandbox p h text
+IsStateUnlessExited sandbox p h Stopped text = IsStateText sandbox p h text
 
 -- of the sandbox of that number, where there is one
-abbrev pub IsToldOf : ℕ → Option Part → Option Slot → List ℕ → Type 0
-IsToldOf sandbox None slot text = text ≡ []
-IsToldOf sandbox (Some p) None text = text ≡ []
-IsToldOf sandbox (Some p) (Some slot) text = IsTold sandbox p slot.hart slot.status text
+abbrev pub IsStateOfSandbox : ℕ → Option Part → Option Slot → List ℕ → Type 0
+IsStateOfSandbox sandbox None slot text = text ≡ []
+IsStateOfSandbox sandbox (Some p) None text = text ≡ []
+IsStateOfSandbox sandbox (Some p) (Some slot) text = IsStateUnlessExited sandbox p slot.hart slot.status text
 
 -- of the first n sandboxes of an image, in order
-abbrev pub AreTold : ℕ → List Part → List Slot → List ℕ → Type 0
-AreTold zero ps slots text = text ≡ []
-AreTold (suc n) ps slots text =
-    (front : List ℕ) × (last : List ℕ) × AreTold n ps slots front
-    × IsToldOf n (slice_get ps n) (slice_get slots n) last × (text ≡ front ++ last)
+abbrev pub AreStates : ℕ → List Part → List Slot → List ℕ → Type 0
+AreStates zero ps slots text = text ≡ []
+AreStates (suc n) ps slots text =
+    (front : List ℕ) × (last : List ℕ) × AreStates n ps slots front
+    × IsStateOfSandbox n (slice_get ps n) (slice_get slots n) last × (text ≡ front ++ last)
 
 -- ---- the text
 
--- a line for each sandbox; with a report, what is told of each follows these lines
+-- a line for each sandbox; with a report, the states of those that have not exited follow these
+-- lines
 abbrev pub IsRunTextOf : Bool → List Part → List Slot → ConsoleState → List ℕ → Type 0
 IsRunTextOf false ps slots host text = text ≡ run_lines (length ps) slots host
 IsRunTextOf true ps slots host text =
-    (told : List ℕ) × AreTold (length ps) ps slots told
-    × (text ≡ run_lines (length ps) slots host ++ told)
+    (states : List ℕ) × AreStates (length ps) ps slots states
+    × (text ≡ run_lines (length ps) slots host ++ states)
 
 -- ---- the plan
 
@@ -140,7 +141,7 @@ abbrev pub SaysRun : ℕ → ℕ → List ℕ → Bool → List ℕ → ℕ → 
 SaysRun rounds quantum given report bytes status text =
     SaysRan rounds quantum given report bytes status text ⊎ SaysRefused false bytes status text
 
--- `run`, of `rounds` rounds of turns of `quantum` steps, where each sandbox reads what is given, with
--- a report or without
+-- `run`, of `rounds` rounds of turns of `quantum` steps, where each sandbox reads what is given,
+-- with a report or without
 abbrev pub run : ℕ → ℕ → List ℕ → Bool → Meaning
 run rounds quantum given report = on_verdict (SaysRun rounds quantum given report)

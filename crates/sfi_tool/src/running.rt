@@ -27,8 +27,8 @@ fn round_of(alloc: Global, quantum: u32, count: u32) -> Result<Vec<Turn>, AllocE
     Ok(turns)
 }
 
-/// Takes `rounds` rounds of the first `count` sandboxes. Where the console has no memory for a reply,
-/// no further turn is taken.
+/// Takes `rounds` rounds of the first `count` sandboxes. Where the console has no memory for a
+/// reply, no further turn is taken.
 pub(crate) fn take_rounds<M: Memory>(
     alloc: Global,
     rounds: u32,
@@ -50,7 +50,8 @@ pub(crate) fn take_rounds<M: Memory>(
     Ok(())
 }
 
-/// The lines of the sandboxes of an image, and with a report what is told of each.
+/// The lines of the sandboxes of an image, and with a report the states of those that have not
+/// exited.
 fn said<M: Memory>(
     alloc: Global,
     accepted: &Accepted<'_>,

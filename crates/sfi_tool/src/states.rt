@@ -5,7 +5,7 @@ ghost use Rattle.sfi_host.specs.Worlds.{slots_of};
 ghost use Rattle.sfi_image.specs.Spelling.{view, views};
 ghost use Rattle.sfi_formats.specs.declared.format.Format.{Format};
 ghost use Rattle.sfi_report.specs.State.{IsStateText};
-ghost use Rattle.sfi_tool.specs.Running.{AreTold, IsToldOf};
+ghost use Rattle.sfi_tool.specs.Running.{AreStates, IsStateOfSandbox};
 ghost use Rattle.sfi_report.specs.private.{Adds};
 
 use rv_mem::Memory;
@@ -30,8 +30,8 @@ fn push_state(
     out.push_str(state.as_str())
 }
 
-/// Writes what is told of the sandbox of that number, which is this part of an image.
-fn push_told<M: Memory>(
+/// Writes the state of sandbox `sandbox`, which is this part of an image, unless it has exited.
+fn push_state_unless_exited<M: Memory>(
     alloc: Global,
     out: &mut String,
     sandbox: u32,
@@ -39,7 +39,7 @@ fn push_told<M: Memory>(
     world: &World<M>,
 ) -> Result<(), AllocError>
     ensures { (format : Format) → OnOk result (Adds (string_bytes out.old) (string_bytes out.new)
-        (IsToldOf sandbox (Some (view format part.now)) (slice_get (slots_of world.now) sandbox))) }
+        (IsStateOfSandbox sandbox (Some (view format part.now)) (slice_get (slots_of world.now) sandbox))) }
 {
     let Some(status) = world.status(sandbox) else {
         return Ok(());
@@ -55,7 +55,7 @@ fn push_told<M: Memory>(
     }
 }
 
-/// Writes what is told of each sandbox of an image, in order.
+/// Writes the state of each sandbox of an image that has not exited, in order.
 pub(crate) fn push_states<M: Memory>(
     alloc: Global,
     out: &mut String,
@@ -64,10 +64,10 @@ pub(crate) fn push_states<M: Memory>(
 ) -> Result<(), AllocError>
     requires { length parts.now < 2 ^ 32 }
     ensures { (format : Format) → OnOk result (Adds (string_bytes out.old) (string_bytes out.new)
-        (AreTold (length (views format parts.now)) (views format parts.now) (slots_of world.now))) }
+        (AreStates (length (views format parts.now)) (views format parts.now) (slots_of world.now))) }
 {
     for (sandbox, part) in parts.iter().enumerate() {
-        push_told(alloc, out, sandbox as u32, part, world)?;
+        push_state_unless_exited(alloc, out, sandbox as u32, part, world)?;
     }
     Ok(())
 }

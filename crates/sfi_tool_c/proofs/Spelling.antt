@@ -7,7 +7,7 @@ use Rattle.std.proofs.lemmas.List.{get_or-take, get_or-drop, get_or_default, len
 use Rattle.std.proofs.lemmas.List.Elements.{All-append, All-same, All-replicate, AllWithin-more}
 use Rattle.std.proofs.Math.Seq.{take-suc, take-add}
 use Rattle.clap.specs.Walk.{Text}
-use Rattle.sfi_tool_c.specs.Told.{SpellsWords, ended, HasNoZero}
+use Rattle.sfi_tool_c.specs.CommandAnswers.{SpellsWords, ended, HasNoZero}
 
 -- the bytes before `at` are those before `from` and those between
 pub between : (bytes : List ℕ) (from at : ℕ) → from ≤ at → take from bytes ++ take (at - from) (drop from bytes) ≡ take at bytes

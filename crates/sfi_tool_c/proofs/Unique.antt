@@ -7,7 +7,7 @@ use Rattle.std.proofs.lemmas.List.{append-nil, take-append-drop, take_all, lengt
 use Rattle.std.proofs.lemmas.List.Elements.{All-head, All-tail}
 use Rattle.std.proofs.Math.Seq.{take-suc}
 use Rattle.clap.specs.Walk.{Text}
-use Rattle.sfi_tool_c.specs.Told.{SpellsWords, ended, HasNoZero}
+use Rattle.sfi_tool_c.specs.CommandAnswers.{SpellsWords, ended, HasNoZero}
 use Rattle.sfi_tool_c.proofs.Spelling.{unbroken_word}
 
 -- what a zero byte stands in is not empty

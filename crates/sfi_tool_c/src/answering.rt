@@ -2,7 +2,7 @@
 ghost use Rattle.std.specs.Prelude.{◌≡◌, ◌≢◌, ◌⊎◌, ◌≤◌, ◌<◌, ℕ, List, IfOk};
 ghost use Rattle.sfi_command.specs.Command.{number_of};
 ghost use Rattle.sfi_tool.specs.Says.{Says, HasInputFault};
-ghost use Rattle.sfi_tool_c.specs.Told.{IsAnswer, TellsAnswer, TellsText, HasFaultOf, SpellsNoCommand};
+ghost use Rattle.sfi_tool_c.specs.CommandAnswers.{IsAnswer, IsAnswerWritten, IsTextWritten, HasFaultOf, SpellsNoCommand};
 
 use crate::output::write_front;
 use crate::words::{WordsFault, words_of};
@@ -73,14 +73,14 @@ pub extern "C" fn sfi_tool_answer(
 ) -> u32
     ensures statuses { result ≤ 4 }
     ensures says { result < 2
-        → TellsAnswer words.now input.now result output.old output.new length.new }
+        → IsAnswerWritten words.now input.now result output.old output.new length.new }
     ensures fault { result ≡ 2 → HasFaultOf words.now input.now }
     ensures usage { result ≡ 3 → SpellsNoCommand words.now }
     ensures only_usage { SpellsNoCommand words.now → (result ≡ 3) ⊎ (result ≡ 4) }
-    ensures told { result ≢ 4 → (text : List ℕ)
-        × TellsText text output.old output.new length.new }
+    ensures written { result ≢ 4 → (text : List ℕ)
+        × IsTextWritten text output.old output.new length.new }
     ensures memory { result ≡ 4 → output.new ≡ output.old }
-    ensures untold { result ≡ 4 → length.new ≡ 0 }
+    ensures no_length { result ≡ 4 → length.new ≡ 0 }
 {
     match answer_to_words(alloc, words, input) {
         Ok(answer) => {

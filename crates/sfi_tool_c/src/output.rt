@@ -1,6 +1,6 @@
 //! The caller's array, to which an answer's text is written.
 ghost use Rattle.std.specs.Prelude.{◌≡◌};
-ghost use Rattle.sfi_tool_c.specs.Told.{with_text};
+ghost use Rattle.sfi_tool_c.specs.CommandAnswers.{with_text};
 
 /// Writes the front of the text to the front of the array, as much as it holds.
 pub(crate) fn write_front(text: &[u8], output: &mut [u8])

@@ -1,7 +1,7 @@
 //! The words of a command line, as bytes.
 ghost use Rattle.std.specs.Prelude.{◌≡◌, ◌++◌, ◌∷◌, [], List, OnOk, IfOk, IfErr, map, string_bytes};
 ghost use Rattle.clap.specs.Walk.{Text};
-ghost use Rattle.sfi_tool_c.specs.Told.{SpellsWords};
+ghost use Rattle.sfi_tool_c.specs.CommandAnswers.{SpellsWords};
 ghost use Rattle.sfi_tool_c.specs.declared.words.WordsFault.TheVariants.{Memory, NoWords};
 
 use std::alloc::{AllocError, Global};

@@ -1,7 +1,7 @@
-use Rattle.sfi_tool.proofs.Prelude.{◌∙◌, List, length, ap, subst, arith, string_bytes, slots_of, Part, view, AreTold, Adds}
+use Rattle.sfi_tool.proofs.Prelude.{◌∙◌, List, length, ap, subst, arith, string_bytes, slots_of, Part, view, AreStates, Adds}
 use Rattle.std.proofs.lemmas.List.{length-map}
 use Rattle.sfi_image.specs.Spelling.{format_of}
-use Rattle.sfi_tool.proofs.Rounds.{lines_and_told}
+use Rattle.sfi_tool.proofs.Rounds.{lines_and_states}
 use Rattle.sfi_tool.proofs.running.said.Goals as goal
 
 pub push_states-requires : goal.push_states-requires
@@ -10,7 +10,7 @@ push_states-requires g c =
 
 pub returns : goal.returns
 returns g c =
-    lines_and_told c.args.report c.args.accepted.now (slots_of c.args.world.now) c.args.console.now c.args.count (string_bytes c.in_ok-text.text) (string_bytes c.push_states.new.out)
+    lines_and_states c.args.report c.args.accepted.now (slots_of c.args.world.now) c.args.console.now c.args.count (string_bytes c.in_ok-text.text) (string_bytes c.push_states.new.out)
     (cc) c.requires c.in_ok-text.ensures
-    (subst (λ (ps : List Part). Adds (string_bytes c.in_ok-text.text) (string_bytes c.push_states.new.out) (AreTold (length ps) ps (slots_of c.args.world.now))) (c.parts.ensures.parts ∙ c.image.ensures.image)
+    (subst (λ (ps : List Part). Adds (string_bytes c.in_ok-text.text) (string_bytes c.push_states.new.out) (AreStates (length ps) ps (slots_of c.args.world.now))) (c.parts.ensures.parts ∙ c.image.ensures.image)
     (c.in_ok-push_states.ensures (format_of c.image.result.now)))

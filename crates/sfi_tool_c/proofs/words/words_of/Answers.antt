@@ -4,7 +4,7 @@ use Rattle.std.proofs.lemmas.List.{take_all}
 use Rattle.std.specs.List.{flat_map, AllWithin}
 use Rattle.std.proofs.Math.Path.{subst}
 use Rattle.std.proofs.lemmas.List.Elements.{All-same, AllWithin-upto}
-use Rattle.sfi_tool_c.specs.Told.{ended, HasNoZero}
+use Rattle.sfi_tool_c.specs.CommandAnswers.{ended, HasNoZero}
 use Rattle.sfi_tool_c.proofs.words.words_of.Goals as goal
 use Rattle.sfi_tool_c.proofs.words.words_of.Goals.{then-bytes-at-eq0+in-Ok+in_ok-push_word, else-bytes-at-eq0}
 use Rattle.sfi_tool_c.proofs.Spelling.{between, next_word, unbroken_more, unbroken_word, unbroken_byte, utf8_more}

@@ -1,4 +1,4 @@
--- What C is told of a sandbox: how it stands, its pc and registers, and where its data lie.
+-- What C reads of a sandbox: how it stands, its pc and registers, and where its data lie.
 use Rattle.std.specs.Prelude.{◌≡◌, ◌<◌, ◌≤◌, ℕ, ◌⊎◌, List, Option, Some, None, slice_get}
 use Rattle.rv_step.specs.declared.outcome.Cause.{Cause}
 use Rattle.rv_step.specs.declared.outcome.Cause.TheVariants.{Fetch, Illegal, Break, Load, Store}
@@ -8,11 +8,11 @@ use Rattle.sfi_host.specs.declared.status.Status.{Status}
 use Rattle.sfi_host.specs.declared.status.Status.TheVariants.{Ready, Exited, Trapped, Stopped}
 use Rattle.sfi_host.specs.Slots.{Slot}
 use Rattle.sfi_host.specs.Waiting.{IsAtCall}
-use Rattle.sfi_run.specs.declared.told.SfiRunEvent.{SfiRunEvent}
+use Rattle.sfi_run.specs.declared.snapshots.SfiRunEvent.{SfiRunEvent}
 use Rattle.rv_step.specs.State.{Hart, register}
-use Rattle.sfi_run.specs.declared.told.SfiRunRegisters.{SfiRunRegisters}
+use Rattle.sfi_run.specs.declared.snapshots.SfiRunRegisters.{SfiRunRegisters}
 use Rattle.sfi_image.specs.declared.span.Span.{Span}
-use Rattle.sfi_run.specs.declared.told.SfiRunRegion.{SfiRunRegion}
+use Rattle.sfi_run.specs.declared.snapshots.SfiRunRegion.{SfiRunRegion}
 
 -- ---- a trap's cause, by number
 
@@ -66,11 +66,11 @@ plain_event kind number pc a0 = record {
   a7 = 0;
 }
 
--- what is told where there is no such sandbox
+-- the event where there is no such sandbox
 abbrev pub none_event : SfiRunEvent
 none_event = plain_event none_kind 0 0 0
 
--- what is told of a call of that gate, which asks for that service, with these pc and registers
+-- the event of a call of that gate, which asks for that service, with these pc and registers
 abbrev pub call_event : ℕ → ℕ → Hart → SfiRunEvent
 call_event gate service h = record {
   kind = call_kind;
@@ -87,31 +87,31 @@ call_event gate service h = record {
   a7 = register h 17;
 }
 
--- what is told of one that stands at no call
+-- the event of one that stands at no call
 abbrev pub status_event : Status → ℕ → SfiRunEvent
 status_event Ready pc = plain_event ready_kind 0 pc 0
 status_event (Exited n) pc = plain_event exit_kind n pc 0
 status_event (Trapped cause at) pc = plain_event trap_kind (cause_number cause) pc at
 status_event Stopped pc = plain_event stopped_kind 0 pc 0
 
--- so of one that may not be there
+-- `status_event` of a sandbox that may not be there
 abbrev pub standing_event : Option Slot → SfiRunEvent
 standing_event None = none_event
 standing_event (Some s) = status_event s.status s.hart.pc
 
--- The event tells of a call of the sandbox of that number: it stands at the gate of that place, which
+-- The event is of a call of the sandbox of that number: it stands at the gate of that place, which
 -- is one of `gates_most` and asks for that service.
 pub record IsCallEvent (slots : List Slot) (i : ℕ) (e : SfiRunEvent) : Type 0 where
   pub slot : Slot
   pub there : slice_get slots i ≡ Some slot
   pub gate : Gate
   pub among : slice_get slot.bounds.gates e.gate ≡ Some gate
-  pub few : e.gate < gates_most
+  pub gate_number : e.gate < gates_most
   pub address : gate.address ≡ slot.hart.pc
-  pub most : gate.service ≤ service_most
-  pub told : e ≡ call_event e.gate gate.service slot.hart
+  pub service_number : gate.service ≤ service_most
+  pub event_is : e ≡ call_event e.gate gate.service slot.hart
 
--- the event tells of the sandbox of that number: of its call, where it stands at one; elsewhere what
+-- the event is of the sandbox of that number: of its call, where it stands at one; elsewhere what
 -- it may still do
 abbrev pub IsEventOf : List Slot → ℕ → SfiRunEvent → Type 0
 IsEventOf slots i e =
@@ -121,11 +121,11 @@ IsEventOf slots i e =
 -- ---- the pc and the registers
 
 -- pc, and the registers in the order of their numbers
-pub record AreRegistersOf (h : Hart) (told : SfiRunRegisters) : Type 0 where
-  pub pc : told.pc ≡ h.pc
-  pub x : told.x ≡ h.registers
+pub record AreRegistersOf (h : Hart) (r : SfiRunRegisters) : Type 0 where
+  pub pc : r.pc ≡ h.pc
+  pub x : r.x ≡ h.registers
 
 -- ---- where the data lie
 
-abbrev pub span_told : SfiRunRegion → Span
-span_told r = record { base = r.base; size = r.size }
+abbrev pub region_span : SfiRunRegion → Span
+region_span r = record { base = r.base; size = r.size }

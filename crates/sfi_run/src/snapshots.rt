@@ -1,4 +1,4 @@
-//! What C is told of a sandbox: how it stands, its pc and registers, and where its data lie.
+//! What C reads of a sandbox: how it stands, its pc and registers, and where its data lie.
 ghost use Rattle.std.specs.Prelude.{◌≡◌, ◌↔◌, IfSome, IsSome};
 ghost use Rattle.sfi_host.specs.Waiting.{AsksAtGate, IsAtCall};
 ghost use Rattle.sfi_host.specs.Worlds.{slots_of};
@@ -34,7 +34,7 @@ pub struct SfiRunEvent {
 }
 
 impl SfiRunEvent {
-    ghost use Rattle.sfi_run.specs.Told.{cause_number, plain_event, call_event, status_event, none_event, IsEventOf};
+    ghost use Rattle.sfi_run.specs.Snapshots.{cause_number, plain_event, call_event, status_event, none_event, IsEventOf};
 
     fn plain(kind: u32, number: u32, pc: u32, a0: u32) -> SfiRunEvent
         ensures { result ≡ plain_event kind number pc a0 }
@@ -134,7 +134,7 @@ pub struct SfiRunRegisters {
 }
 
 impl SfiRunRegisters {
-    ghost use Rattle.sfi_run.specs.Told.{AreRegistersOf};
+    ghost use Rattle.sfi_run.specs.Snapshots.{AreRegistersOf};
 
     /// What it holds.
     pub(crate) fn of(cpu: &Cpu) -> SfiRunRegisters
@@ -157,11 +157,11 @@ pub struct SfiRunRegion {
 
 impl SfiRunRegion {
     ghost use Rattle.sfi_host.specs.Slots.{span_of};
-    ghost use Rattle.sfi_run.specs.Told.{span_told};
+    ghost use Rattle.sfi_run.specs.Snapshots.{region_span};
 
     /// The same addresses.
     pub(crate) fn of(region: Region) -> SfiRunRegion
-        ensures { span_told result ≡ span_of region }
+        ensures { region_span result ≡ span_of region }
     {
         SfiRunRegion {
             base: region.base,

@@ -1,4 +1,4 @@
--- What C is told of a command.
+-- The answer of a command, as C gets it.
 use Rattle.std.specs.Prelude.{◌≡◌, ◌≢◌, ℕ, List, [], ◌∷◌, ◌++◌, All, IsUtf8, ◌⊎◌, length, take, drop}
 use Rattle.std.specs.List.{flat_map}
 use Rattle.clap.specs.Walk.{Text}
@@ -22,10 +22,10 @@ pub record SpellsWords (bytes : List ℕ) (words : List Text) : Type 0 where
   pub unbroken : All HasNoZero words
   pub utf8 : All IsUtf8 words
 
--- ==== What C is told of a command.
+-- ==== The answer of a command.
 
--- an array after a text was written to it: at its front as much as it has room for, and then what it
--- held there before
+-- an array after a text was written to it: at its front as much as it has room for, and then what
+-- it held there before
 abbrev pub with_text : List ℕ → List ℕ → List ℕ
 with_text text array = take (length array) text ++ drop (length text) array
 
@@ -37,16 +37,16 @@ pub record IsAnswer (words : List ℕ) (input : List ℕ) (status : ℕ) (text :
   pub asked : Asks spelled job
   pub says : Says job input status text
 
--- a text was written to the caller's array, and its length told
-pub record TellsText (text old new : List ℕ) (told : ℕ) : Type 0 where
-  pub length_is : told ≡ length text
+-- a text was written to the caller's array; `len` is its length
+pub record IsTextWritten (text old new : List ℕ) (len : ℕ) : Type 0 where
+  pub length_is : len ≡ length text
   pub output_is : new ≡ with_text text old
 
--- the answer's text was written to the caller's array, and its length told
-pub record TellsAnswer (words input : List ℕ) (status : ℕ) (old new : List ℕ) (told : ℕ) : Type 0 where
+-- the answer's text was written to the caller's array; `len` is its length
+pub record IsAnswerWritten (words input : List ℕ) (status : ℕ) (old new : List ℕ) (len : ℕ) : Type 0 where
   pub text : List ℕ
   pub answer : IsAnswer words input status text
-  pub tells : TellsText text old new told
+  pub tells : IsTextWritten text old new len
 
 -- the bytes spell no words, or words that ask for nothing
 abbrev pub SpellsNoCommand : List ℕ → Type 0

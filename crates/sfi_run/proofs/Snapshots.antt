@@ -1,4 +1,4 @@
--- What is told of a sandbox.
+-- Snapshots of a sandbox.
 use Rattle.std.proofs.Common.{◌≡◌, ◌<◌, ◌≤◌, inl, inr, ℕ, List, Option, Some, None, slice_get, refl, sym, ap, ◌∙◌, subst}
 use Rattle.std.proofs.lemmas.Option.{same_Some}
 use Rattle.std.specs.Option.{option_map}
@@ -9,8 +9,8 @@ use Rattle.sfi_host.specs.declared.status.Status.{Status}
 use Rattle.sfi_host.specs.Slots.{hart_at, Slot}
 use Rattle.sfi_host.specs.Waiting.{AsksAtGate, IsAtCall}
 use Rattle.sfi_host.specs.Worlds.{status_at}
-use Rattle.sfi_run.specs.declared.told.SfiRunEvent.{SfiRunEvent}
-use Rattle.sfi_run.specs.Told.{none_event, call_event, status_event, standing_event, IsEventOf}
+use Rattle.sfi_run.specs.declared.snapshots.SfiRunEvent.{SfiRunEvent}
+use Rattle.sfi_run.specs.Snapshots.{none_event, call_event, status_event, standing_event, IsEventOf}
 
 none_from : {A : Type 0} (f : Slot → A) (o : Option Slot) → option_map f o ≡ None → o ≡ None
 none_from f None e = refl
@@ -38,10 +38,10 @@ module _ (slots : List Slot) (i : ℕ) where
           there = asks.there;
           gate = asks.gate;
           among = ap (slice_get asks.slot.bounds.gates) gate ∙ asks.among;
-          few = subst (λ (n : ℕ). n < gates_most) (sym gate) asks.few;
+          gate_number = subst (λ (n : ℕ). n < gates_most) (sym gate) asks.few;
           address = asks.address;
-          most = subst (λ (n : ℕ). n ≤ service_most) asks.service asks.most;
-          told = is ∙ (λ k. call_event (sym gate k) (asks.service k) (same k));
+          service_number = subst (λ (n : ℕ). n ≤ service_most) asks.service asks.most;
+          event_is = is ∙ (λ k. call_event (sym gate k) (asks.service k) (same k));
         },
       )
 
