@@ -116,6 +116,7 @@ impl Pages {
         Some(number as usize * FRAME)
     }
 
+    /// The byte at an address, or `None` if none is there.
     #[inline(always)]
     fn byte_at(&self, at: u32) -> Option<u8>
         ensures { result ≡ byte_at (bytes_of self.now) at }
@@ -336,8 +337,8 @@ impl Pages {
         true
     }
 
-    /// Makes room for the cells of some frames more, and for no others, so that they are made without
-    /// moving the cells again.
+    /// Makes room for the cells of some frames more, and for no others, so that they are made
+    /// without moving the cells again.
     fn reserve_frames(&mut self, count: u32) -> Result<(), AllocError>
         ensures same { bytes_of self.new ≡ bytes_of self.old }
     {

@@ -16,6 +16,7 @@ use sfi_link::{NameAddress, NameKind};
 use sfi_report::{names_text, push_eight_digits};
 use std::alloc::{AllocError, Global};
 
+/// The word that a map prints for a name of this kind.
 fn kind_name(kind: NameKind) -> &'static str
     ensures { result.now ≡ kind_name kind }
 {
@@ -39,7 +40,7 @@ fn push_name_line(out: &mut String, entry: &NameAddress) -> Result<(), AllocErro
     out.push_str("\n")
 }
 
-/// Writes the lines of the gates and labels of the sandbox of that number.
+/// Writes the lines of the gates and labels of sandbox `sandbox`.
 fn push_names(out: &mut String, sandbox: u32, entries: &[NameAddress]) -> Result<(), AllocError>
     ensures { OnOk result (string_bytes out.new
         ≡ string_bytes out.old ++ lines_in sandbox entries.now) }
@@ -62,7 +63,7 @@ fn table_text(alloc: Global, format: Format, init: &[u8]) -> Result<String, Allo
     }
 }
 
-/// Writes what the map says of the sandbox of that number, which has these first data bytes.
+/// Writes what the map says of sandbox `sandbox`, which has these first data bytes.
 fn push_sandbox(
     alloc: Global,
     out: &mut String,
@@ -120,8 +121,8 @@ fn source_text(text: &[u8]) -> Result<&str, Stop>
     }
 }
 
-/// The image that the source text makes with its sandboxes at these places: its bytes, or in hexadecimal
-/// digits.
+/// The image that the source text makes with its sandboxes at these places: its bytes, or in
+/// hexadecimal digits.
 pub fn build_answer(alloc: Global, raw: bool, places: &[Place], text: &[u8]) -> Result<Answer, Stop>
     requires { length text.now ≤ limit }
     ensures { Answers (build raw places.now) text.now result }
@@ -134,9 +135,9 @@ pub fn build_answer(alloc: Global, raw: bool, places: &[Place], text: &[u8]) -> 
     })
 }
 
-/// The map of the source text in the image that it makes with its sandboxes at these places: for each
-/// sandbox the lines of its gates and labels, with their addresses, and then, but in the first format,
-/// lines of the names that the table at the end of its first data tells, if there is one.
+/// The map of the source text in the image that it makes with its sandboxes at these places: for
+/// each sandbox the lines of its gates and labels, with their addresses, and then, but in the first
+/// format, lines of the names that the table at the end of its first data tells, if there is one.
 pub fn map_answer(alloc: Global, places: &[Place], text: &[u8]) -> Result<Answer, Stop>
     requires { length text.now ≤ limit }
     ensures { Answers (map places.now) text.now result }

@@ -80,7 +80,8 @@ pub fn check_answer(alloc: Global, report: bool, bytes: &[u8]) -> Result<Answer,
     }
 }
 
-/// The same, with the line of its fault where they are no image.
+/// The verdict on an image's bytes as `check_answer` gives it, or the line of the fault if they are
+/// no image.
 pub fn bytes_answer(alloc: Global, report: bool, bytes: &[u8]) -> Result<Answer, AllocError>
     ensures statuses { IfOk result (λ a. a.status ≤ 2) }
     ensures says { IfOk result

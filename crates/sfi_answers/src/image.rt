@@ -27,9 +27,9 @@ fn held_answer<R: Read>(alloc: Global, reader: &mut R) -> Result<Answer, ReadSto
     }
 }
 
-/// The verdict on the image that the reader gives, as its own bytes, which are then held, or as a text,
-/// of which one piece is. A text is read to its end or past its limit, since a fault of it goes before
-/// the verdict.
+/// The verdict on the image that the reader gives, as an image's bytes or as hexadecimal text.
+/// Bytes are held whole, of a text one piece at a time. A text is read to its end or past its
+/// limit, since its fault goes before the verdict.
 pub fn image_answer<R: Read>(alloc: Global, reader: &mut R) -> Result<Answer, ReadStop>
     ensures statuses { IfOk result (λ a. a.status ≤ 2) }
     ensures says { IfOk result (λ a. a.status < 2 → IfSome (R.remaining reader.old)

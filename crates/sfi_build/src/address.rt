@@ -23,7 +23,7 @@ fn address_of(at: Place, start: u32, name: PlacedName) -> Option<u32>
     }
 }
 
-// The address of the name at that place among the names of the sandbox of that number, in the image
+// The address of the name at that place among the names of sandbox `sandbox`, in the image
 // of what is placed.
 pub(crate) fn address_in(
     placed: &Placed,

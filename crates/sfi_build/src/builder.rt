@@ -64,7 +64,7 @@ pub fn build_at(alloc: Global, text: &str, places: &[Place]) -> Result<Vec<u8>, 
     build_of(alloc, text, places)
 }
 
-/// The same as [`build_at`] with each sandbox at its usual place.
+/// Builds the image of a text, as [`build_at`] does, with each sandbox at its usual place.
 pub fn build(alloc: Global, text: &str) -> Result<Vec<u8>, BuildFault>
     // What each answer means.
     ensures built { IfOk result (λ bytes. IsTextBuild [] text.now bytes.items) }

@@ -23,7 +23,7 @@ use std::alloc::Global;
 const FOOTER_BYTES: usize = 16;
 
 // Appends the entry of what is listed, with the address that it has in the image of what is placed,
-// in the sandbox of that number.
+// in sandbox `sandbox`.
 fn push_entry(
     bytes: &mut Vec<u8>,
     placed: &Placed,
@@ -57,7 +57,7 @@ fn push_entry(
 }
 
 // The bytes of the entries of what is listed: the names have the addresses that they have in the
-// image of what is placed, in the sandbox of that number.
+// image of what is placed, in sandbox `sandbox`.
 fn entries_of(
     alloc: Global,
     placed: &Placed,
@@ -91,14 +91,14 @@ fn is_unlisted(shared: &SharedNames) -> bool
     shared.exports.is_empty() && shared.imports.is_empty()
 }
 
-// Whether a table whose entries have so many bytes has room.
+// Whether `room` bytes hold a table whose entries take `exports` and `imports` bytes.
 fn has_room(room: usize, exports: usize, imports: usize) -> bool
     ensures { IsTrue result ↔ (exports + imports + FOOTER_BYTES ≤ room) }
 {
     exports <= room && imports <= room - exports && FOOTER_BYTES <= room - exports - imports
 }
 
-// The first data bytes of the sandbox of that number, which end in its table where something is
+// The first data bytes of sandbox `sandbox`, which end in its table where something is
 // listed.
 fn init_of(
     alloc: Global,

@@ -56,7 +56,7 @@ pub(crate) fn said_by<T>(sought: &Result<T, Lookup>) -> Lookup
     }
 }
 
-/// The sandbox of that number, and where it ends, counted from the image's first byte.
+/// Sandbox `number`, and where it ends, counted from the image's first byte.
 fn look_up<'a>(image: &'a [u8], number: u32) -> Result<(PartView<'a>, usize), Lookup>
     ensures found { IfOk result (λ f. (p : Part) × (h : IsSandboxOf image.entry.now number p)
         × IsViewOf f.0 p × (f.1 ≡ sandbox_offset h.parts number + length (part p))) }
@@ -70,7 +70,7 @@ fn look_up<'a>(image: &'a [u8], number: u32) -> Result<(PartView<'a>, usize), Lo
     }
 }
 
-/// The gate of that index in the sandbox of that number.
+/// Gate `index` in sandbox `number`.
 fn look_up_gate(image: &[u8], number: u32, index: u32) -> Result<Gate, Lookup>
     ensures found { IfOk result (λ g. (p : Part) × IsSandboxOf image.now number p
         × (slice_get p.gates index ≡ Some g)) }
@@ -85,7 +85,7 @@ fn look_up_gate(image: &[u8], number: u32, index: u32) -> Result<Gate, Lookup>
     }
 }
 
-/// Writes to `part` what the image has of its sandbox of that number, counted from 0, and returns
+/// Writes to `part` what the image has of its sandbox `number`, counted from 0, and returns
 /// the number of a [`Lookup`]. It looks at the layout alone, and takes no memory.
 #[unsafe(no_mangle)]
 pub extern "C" fn sfi_c_part(image: &[u8], number: u32, part: &mut SfiPart) -> u32
@@ -113,7 +113,7 @@ pub extern "C" fn sfi_c_part(image: &[u8], number: u32, part: &mut SfiPart) -> u
     lookup.number()
 }
 
-/// Writes to `gate` the gate of that index, counted from 0, of the image's sandbox of that number,
+/// Writes to `gate` gate `index`, counted from 0, of the image's sandbox `number`,
 /// and returns the number of a [`Lookup`]. It looks at the layout alone, and takes no memory.
 #[unsafe(no_mangle)]
 pub extern "C" fn sfi_c_gate(image: &[u8], number: u32, index: u32, gate: &mut SfiGate) -> u32
@@ -142,9 +142,10 @@ pub extern "C" fn sfi_c_gate(image: &[u8], number: u32, index: u32, gate: &mut S
     lookup.number()
 }
 
-/// Writes to the array the gates of the image's sandbox of that number, counted from 0: by address,
-/// from its front on, as many as it has room for. Returns the number of a [`Lookup`] of the sandbox,
-/// whose `gates` tells how many there are. It looks at the layout alone, and takes no memory.
+/// Writes to the array the gates of the image's sandbox `number`, counted from 0: by address,
+/// from its front on, as many as it has room for. Returns the number of a [`Lookup`] of the
+/// sandbox, whose `gates` tells how many there are. It looks at the layout alone, and takes no
+/// memory.
 #[unsafe(no_mangle)]
 pub extern "C" fn sfi_c_gates(image: &[u8], number: u32, array: &mut [SfiGate]) -> u32
     ensures known { result ≤ 2 }

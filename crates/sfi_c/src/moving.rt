@@ -54,9 +54,9 @@ fn move_said_of(answer: Result<(), MoveFault>) -> Move
     }
 }
 
-/// Moves the image's sandbox of that number, counted from 0, so that its code and its data begin at
-/// these addresses, and returns the number of a [`Move`]. Of the bytes only its bases, its start and
-/// its gates' addresses change. It takes no memory.
+/// Moves the image's sandbox `number`, counted from 0, so that its code and its data begin at
+/// these addresses, and returns the number of a [`Move`]. Of the bytes only its bases, its start
+/// and its gates' addresses change. It takes no memory.
 #[unsafe(no_mangle)]
 pub extern "C" fn sfi_c_move(image: &mut [u8], number: u32, code_base: u32, data_base: u32) -> u32
     ensures known { result ≤ 3 }

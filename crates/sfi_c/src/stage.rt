@@ -99,7 +99,7 @@ pub(crate) fn fault_number(fault: Option<LayoutFault>) -> u32
     }
 }
 
-/// The layout's fault of that number, if there is one.
+/// The layout fault whose number is `number`, if there is one.
 pub(crate) fn fault_of(number: u32) -> Option<LayoutFault>
     ensures { result ≡ fault_of number }
 {

@@ -19,7 +19,7 @@ pub struct Place {
 }
 
 impl Place {
-    /// Where the sandbox of that number, counted from 0, lies if nobody says another place.
+    /// Where sandbox `number`, counted from 0, lies if nobody says another place.
     pub fn usual(number: u32) -> Place
         requires few { number < sandboxes_most }
         ensures is { result ≡ usual number }
@@ -32,7 +32,7 @@ impl Place {
     }
 }
 
-/// Where the sandbox of that number, counted from 0, lies: at the place that is given for it, or
+/// Where sandbox `number`, counted from 0, lies: at the place that is given for it, or
 /// else at its usual place.
 pub fn place_of(given: &[Place], number: u32) -> Place
     requires few { number < sandboxes_most }

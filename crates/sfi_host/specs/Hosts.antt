@@ -160,13 +160,13 @@ pub record IsGiven {S M : Type 0} (bytes : M → Bytes) (answer : Answer S) (new
   pub data_bytes : (asked bytes new).bytes ≡ answer.reply.bytes
   pub state : host ≡ answer.host
 
--- where no memory was wanting, the answer of the host's function to what was asked is given
+-- where memory did not run out, the answer of the host's function to what was asked is given
 abbrev pub IsAnswered :
     {S M : Type 0} → (Call → Answer S) → (M → Bytes) → Guest M → Guest M → S → GateAnswer → Type 0
 IsAnswered answer bytes old new host result =
     result ≢ gate.Memory → IsGiven bytes (answer (asked bytes old)) new host result
 
--- where memory was wanting, the host's test allows it,
+-- where memory ran out, the host's test allows it,
 -- and neither the caller nor the host's state changed
 pub record IsRefusal {S M : Type 0} (may_refuse : Call → Bool) (bytes : M → Bytes)
     (old new : Guest M) (before after : S) : Type 0 where

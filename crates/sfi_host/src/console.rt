@@ -28,10 +28,13 @@ const FULL: u32 = 1;
 /// |---|---|
 /// | 0 exit | the caller stops, with a0 as its number |
 /// | 1 put | the a1 bytes from a0 on are appended to the caller's output; a0 becomes a1 |
-/// | 2 get | the next bytes of the input, a1 at most, are written from a0 on; a0 becomes their count |
+/// | 2 get | the next bytes of the input, a1 at most, are written from a0 on; a0 becomes their
+/// count |
 /// | 3 yield | the caller goes on in its next turn |
-/// | 4 post | a1, with the caller's number, goes to the end of the mailbox of sandbox a0; a0 becomes 0, or 1 where that mailbox is full |
-/// | 5 take | the first message leaves the caller's mailbox: a0 becomes its word and a1 its sender plus 1, or both 0 where there is none |
+/// | 4 post | a1, with the caller's number, goes to the end of the mailbox of sandbox a0; a0
+/// becomes 0, or 1 where that mailbox is full |
+/// | 5 take | the first message leaves the caller's mailbox: a0 becomes its word and a1 its sender
+/// plus 1, or both 0 where there is none |
 ///
 /// A refused call sets a0 to ffffffff and does nothing else. Put and get are refused where a1 is
 /// above 65536 or one of the a1 addresses from a0 on isn't one of the caller's data region; put
@@ -70,7 +73,7 @@ impl Console {
         Ok(Console { input, sessions })
     }
 
-    /// What a sandbox has written; `None` where there is none of that number.
+    /// What a sandbox has written; `None` if there is no sandbox `sandbox`.
     pub fn output(&self, sandbox: u32) -> Option<&[u8]>
         ensures { option_map (λ bytes. bytes.now) result ≡ output_of self.now sandbox }
     {

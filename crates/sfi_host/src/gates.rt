@@ -21,7 +21,7 @@ pub enum GateAnswer {
 
 /// A host: it answers the calls of sandboxes. Implementations write their meaning down as `answer`,
 /// a function from the host's state and what is asked to a reply and the state after it, and as
-/// `may_refuse`, a test on the same values that says whether memory may be wanting. That `call`
+/// `may_refuse`, a test on the same values that says whether memory may run out. That `call`
 /// changes nothing but the caller's a0, a1 and data region comes from the calls of [`Guest`] alone.
 pub trait Gates {
     ghost use Rattle.sfi_host.specs.Hosts.{IsAnswered, IsRefused, LeavesOthers};

@@ -15,7 +15,7 @@ use std::alloc::{AllocError, Global};
 use std::sync::ArcSlice;
 
 // Adds a sandbox's code and data. All regions lie apart and end within the addresses,
-// so memory alone may be wanting.
+// so only memory may run out.
 fn add_part<M: Memory>(memory: &mut M, part: &ModulePart) -> Result<(), AllocError>
     requires { (format : Format) × IsRightPart (part_of format part.now) }
     ensures { (format : Format)

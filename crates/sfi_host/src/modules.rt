@@ -90,9 +90,9 @@ fn share_programs(alloc: Global, parts: &[ModulePart]) -> Result<Vec<Arc<Program
     Ok(all)
 }
 
-/// An accepted image that was decoded once: what its worlds share, and what each begins with. It keeps
-/// nothing of the image's bytes, and may be dropped before its worlds are, or after them. Contracts see
-/// it as the list of the image's parts, as they see an [`Accepted`].
+/// An accepted image that was decoded once: what its worlds share, and what each begins with. It
+/// keeps nothing of the image's bytes, and may be dropped before its worlds are, or after them.
+/// Contracts see it as the list of the image's parts, as they see an [`Accepted`].
 #[derive(Drop)]
 pub struct Module {
     format: Format,
@@ -125,9 +125,9 @@ impl Module {
     }
 
     /// A world of the image, before any turn: what [`World::load`] makes of the image itself, with
-    /// nothing checked or decoded anew. Its memory is its own; so nothing that its sandboxes do changes
-    /// the module, or another world of it. Where memory is wanting there is none, and the memory handed
-    /// in is given up.
+    /// nothing checked or decoded anew. Its memory is its own; so nothing that its sandboxes do
+    /// changes the module, or another world of it. If memory runs out there is none, and the memory
+    /// handed in is given up.
     pub fn instance<M: Memory>(&self, alloc: Global, memory: M) -> Result<World<M>, AllocError>
         requires { M.bytes memory ≡ empty }
         ensures seats { IfOk result (λ w. w.seats ≡ map first_seat self.now) }
@@ -165,7 +165,8 @@ impl Module {
         share_programs(alloc, &self.parts)
     }
 
-    /// Whether a sandbox of these meets one of the image. The bytes of their memory make no difference.
+    /// Whether a sandbox of these meets one of the image. The bytes of their memory make no
+    /// difference.
     pub(crate) fn meets(&self, sandboxes: &[Sandbox]) -> bool
         requires { (m : Bytes) × IsSafeWorld (world_of m sandboxes.now) }
         ensures { (m : Bytes) → IsTrue result ↔ MeetsSome (world_of m sandboxes.now) self.now }

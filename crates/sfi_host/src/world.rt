@@ -83,7 +83,7 @@ impl<M: Memory> Model for World<M> {
 }
 
 impl<M: Memory> World<M> {
-    /// The world of an image, before any turn. Where memory is wanting there is none, and the
+    /// The world of an image, before any turn. If memory runs out there is none, and the
     /// memory handed in is given up.
     pub fn load(alloc: Global, accepted: &Accepted<'_>, memory: M) -> Result<World<M>, AllocError>
         requires { M.bytes memory ≡ empty }
@@ -224,7 +224,7 @@ impl<M: Memory> World<M> {
         );
     }
 
-    /// What the sandbox of that number asks, if it waits at a call.
+    /// What sandbox `i` asks, if it waits at a call.
     pub fn waiting(&self, i: u32) -> Option<Request>
         ensures waits { IfSome result (λ r. Waits (slots_of self.now) i r) }
         ensures there { IsSome result ↔ IsAtCall (slots_of self.now) i }
@@ -239,7 +239,7 @@ impl<M: Memory> World<M> {
         asked_by(&self.memory, &self.sandboxes[place], i)
     }
 
-    /// Gives the sandbox of that number its reply, if it waits at a call: a0, a1 and, if it is to
+    /// Gives sandbox `i` its reply, if it waits at a call: a0, a1 and, if it is to
     /// go on, pc after the ecall. `false` where it doesn't wait, and then nothing changed.
     pub fn reply(&mut self, i: u32, reply: Later) -> bool
         ensures may { IsTrue result ↔ IsAtCall (slots_of self.old) i }
@@ -302,15 +302,15 @@ impl<M: Memory> World<M> {
         )
     }
 
-    /// Each sandbox is safe, and its data lie outside each other one: so it is in every world, at
-    /// any time. A call costs nothing.
+    /// Reminds the prover that a world is safe at any time: each sandbox is, and its data lie
+    /// outside each other one. It does nothing.
     pub fn stays_safe(&self)
         ensures { IsSafeWorld self.now }
     {
         let _ = &self.memory;
     }
 
-    // The sandbox of that number.
+    // Sandbox `i`.
     fn find(&self, i: u32) -> Option<&Sandbox>
         ensures { option_map (λ s. slot_in self.now.bytes s.now) result
             ≡ slice_get (slots_of self.now) i }
@@ -319,7 +319,7 @@ impl<M: Memory> World<M> {
         Some(sandbox)
     }
 
-    /// What the sandbox of that number may still do; `None` where there is none.
+    /// What sandbox `i` may still do; `None` where there is none.
     pub fn status(&self, i: u32) -> Option<Status>
         ensures { result ≡ status_at (slots_of self.now) i }
     {
@@ -327,7 +327,7 @@ impl<M: Memory> World<M> {
         Some(sandbox.status)
     }
 
-    /// How many steps the sandbox of that number did, at most 2^64 - 1; `None` where there is none.
+    /// How many steps sandbox `i` did, at most 2^64 - 1; `None` where there is none.
     pub fn steps(&self, i: u32) -> Option<u64>
         ensures { result ≡ steps_at (slots_of self.now) i }
     {
@@ -346,7 +346,7 @@ impl<M: Memory> World<M> {
         sandbox.data.byte(&self.memory, at)
     }
 
-    /// Fills `bytes` with the data bytes of the sandbox of that number from `at` on; `false` where
+    /// Fills `bytes` with the data bytes of sandbox `i` from `at` on; `false` where
     /// there is no such sandbox or one of these addresses isn't in its data region, and then
     /// nothing changed. None is asked for where `bytes` is empty.
     pub fn read(&self, i: u32, at: u32, bytes: &mut [u8]) -> bool
@@ -362,7 +362,7 @@ impl<M: Memory> World<M> {
         sandbox.data.read(&self.memory, at, bytes)
     }
 
-    /// Writes all of `bytes` into the data of the sandbox of that number from `at` on; `false`
+    /// Writes all of `bytes` into the data of sandbox `i` from `at` on; `false`
     /// where there is no such sandbox or one of these addresses isn't in its data region, and then
     /// nothing changed. Whether the sandbox has stopped or stands within its code makes no
     /// difference.
@@ -393,7 +393,7 @@ impl<M: Memory> World<M> {
         true
     }
 
-    /// Makes the sandbox of that number ready at `pc`, with the arguments in a0 to a7, as a
+    /// Makes sandbox `i` ready at `pc`, with the arguments in a0 to a7, as a
     /// function is called; `false` where there is no such sandbox, it hasn't stopped, or no bundle
     /// or word of its code begins at `pc`, and then nothing changed. The return address x1 is that
     /// of the first gate of service 0, if one is listed, so that a function that returns calls that
@@ -425,7 +425,7 @@ impl<M: Memory> World<M> {
         true
     }
 
-    /// Stops the sandbox of that number, if it is ready, wherever it stands, also where it waits at
+    /// Stops sandbox `i`, if it is ready, wherever it stands, also where it waits at
     /// a call: no turn does anything with it then, and it takes no reply. `false` where there is no
     /// such sandbox or it has stopped already, and then nothing changed. All else of it stays: its
     /// pc, registers, data and steps. It may be entered again, as after an exit or a trap.
@@ -458,7 +458,7 @@ impl<M: Memory> World<M> {
         self.sandboxes.len()
     }
 
-    /// The pc and registers of the sandbox of that number; `None` where there is none.
+    /// The pc and registers of sandbox `i`; `None` where there is none.
     pub fn cpu(&self, i: u32) -> Option<&Cpu>
         ensures { option_map (λ cpu. cpu.now) result ≡ hart_at (slots_of self.now) i }
     {
@@ -466,7 +466,7 @@ impl<M: Memory> World<M> {
         Some(&sandbox.cpu)
     }
 
-    /// The data region of the sandbox of that number; `None` where there is none.
+    /// The data region of sandbox `i`; `None` where there is none.
     pub fn data_region(&self, i: u32) -> Option<Region>
         ensures { option_map span_of result ≡ data_region_at (slots_of self.now) i }
     {

@@ -34,7 +34,7 @@ pub struct PartView<'a> {
 }
 
 impl<'a> PartView<'a> {
-    /// The gate of that index, counted from 0.
+    /// Gate `index`, counted from 0.
     pub fn gate(&self, index: u32) -> Option<Gate>
         requires { (p : Part) × IsViewOf self.now p }
         ensures { (p : Part) → IsViewOf self.now p → result ≡ slice_get p.gates index }

@@ -8,7 +8,7 @@ ghost use Rattle.sfi_image.specs.Keeping.{sandbox_offset, IsSandboxOf, IsBeyond}
 use crate::cursor::{ImageCursor, PartView};
 use crate::fault::LayoutFault;
 
-/// The image's sandbox of that number, counted from 0, and where its bytes end, counted from the
+/// The image's sandbox `number`, counted from 0, and where its bytes end, counted from the
 /// image's first; none, where the image has fewer sandboxes. It looks at the layout alone, of the
 /// whole image, and takes no memory.
 pub fn sandbox_of<'a>(

@@ -20,7 +20,7 @@ pub struct Bases {
     pub movable: bool,
 }
 
-// Where the sandbox of that number lies.
+// Where sandbox `number` lies.
 pub(crate) fn bases_of(given: &[Place], number: u32, part: &PlacedPart) -> Bases
     requires few { number < sandboxes_most }
     requires right { IsPlacedPart part.now }

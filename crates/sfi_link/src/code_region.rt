@@ -25,8 +25,8 @@ use std::alloc::{AllocError, Global};
 
 const C_EBREAK: [u8; 2] = [0x02, 0x90];
 
-// How many bytes the slots of bundles take, no more than any format's code may have. Each bundle but the
-// last is full.
+// How many bytes the slots of bundles take, no more than any format's code may have. Each bundle
+// but the last is full.
 fn size_of_bundles(bundles: &[Bundle]) -> usize
     requires full { AreBundles bundles.now }
     requires fits { size_of (slots_of bundles.now) ≤ code_most Sfi2 }
@@ -73,7 +73,7 @@ fn push_copies(code: &mut Vec<u8>, copied: &[u8], count: usize) -> Result<(), Al
     Ok(())
 }
 
-// The bytes of the code region of the sandbox of that number, whose spans are added to those of the
+// The bytes of the code region of sandbox `number`, whose spans are added to those of the
 // sandboxes before it in the list.
 pub(crate) fn linked_code(
     alloc: Global,

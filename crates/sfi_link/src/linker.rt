@@ -41,7 +41,7 @@ fn gates_from(alloc: Global, address: u32, gates: &[SourceGate]) -> Result<Vec<G
     Ok(listed)
 }
 
-// The sandbox of that number, with this code, as a part of an image.
+// Sandbox `number`, with this code, as a part of an image.
 fn linked_part<'a>(
     alloc: Global,
     given: &[Place],
@@ -166,7 +166,7 @@ pub fn link_at(alloc: Global, placed: &Placed, places: &[Place]) -> Result<Vec<u
     image_of(alloc, placed, places)
 }
 
-/// The same as [`link_at`] with each sandbox at its usual place.
+/// Links what is placed, as [`link_at`] does, with each sandbox at its usual place.
 pub fn link(alloc: Global, placed: &Placed) -> Result<Vec<u8>, LinkFault>
     // What each answer means: the image has a right layout and breaks no rule.
     ensures image { IfOk result (λ bytes. IsLinkedImage [] placed.now bytes.items) }

@@ -100,7 +100,7 @@ fn kind_of(named: PlacedName) -> Option<NameKind>
     }
 }
 
-// Appends the name of the sandbox of that number, if the text says what it names.
+// Appends the name of sandbox `number`, if the text says what it names.
 fn push_name(
     alloc: Global,
     listed: &mut Vec<NameAddress>,
@@ -125,7 +125,7 @@ fn push_name(
     Ok(())
 }
 
-// Appends the gates and labels of the sandbox of that number.
+// Appends the gates and labels of sandbox `number`.
 fn push_names(
     alloc: Global,
     listed: &mut Vec<NameAddress>,
@@ -179,8 +179,9 @@ fn listed_names(
 
 /// The gates and labels of a source in the image that [`link_at`](crate::link_at) makes of what was
 /// placed of it: sandbox after sandbox, in the order in which their names are first seen, each with
-/// its address. Where that makes no image, the fault is the same. (That it was placed of this source
-/// is for the caller to say: the two are matched by their order, and what has no match is left out.)
+/// its address. Where that makes no image, the fault is the same. (That it was placed of this
+/// source is for the caller to say: the two are matched by their order, and what has no match is
+/// left out.)
 pub fn names_of(
     alloc: Global,
     source: &Source,

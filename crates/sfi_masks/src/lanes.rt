@@ -21,7 +21,7 @@ pub(crate) fn low_and_high(bytes: &[u8]) -> (u8x16, u8x16)
     first.deinterleave(second)
 }
 
-/// For each lane, the table's number at that index.
+/// Looks up each lane in the table: lane `i` of the result is `table[lanes[i]]`.
 #[inline(always)]
 fn look_up(table: [u8; 16], lanes: u8x16) -> u8x16
     requires { (i : ℕ) → i < 16 → slice_index lanes i < 16 }
@@ -46,7 +46,8 @@ pub(crate) fn classes_of_halves(table: HalfTable, low: u8x16, high: u8x16) -> u8
     classes_of_bytes(table.low, low) & classes_of_bytes(table.high, high)
 }
 
-/// The classes of each halfword, by the next halfword too; the first counts as the next of the last.
+/// The classes of each halfword, by the next halfword too; the first counts as the next of the
+/// last.
 #[inline(always)]
 pub(crate) fn followed_classes(low: u8x16, high: u8x16) -> u8x16
     ensures { HasLanes result
@@ -56,8 +57,8 @@ pub(crate) fn followed_classes(low: u8x16, high: u8x16) -> u8x16
     classes_of_halves(FOLLOWED, low, high) & next
 }
 
-/// Which classes of [`FOLLOWED`] are free in code in words: the accesses too where their base is one of a
-/// few registers.
+/// Which classes of [`FOLLOWED`] are free in code in words: the accesses too where their base is
+/// one of a few registers.
 #[inline(always)]
 pub(crate) fn free_in_words(low: u8x16, high: u8x16) -> u8x16
     ensures { HasLanes result

@@ -124,7 +124,7 @@ pub(crate) const FOLLOWED: HalfTable = half_table![
     [1 << 3, 0x0404, ANY, 0x0707]     // stores
 ];
 
-/// The same eight classes by the halfword after it: bits 15:9 are a word's funct7.
+/// The eight classes of a word by its second halfword: bits 15:9 are its funct7.
 pub(crate) const NEXT: ByteTable = byte_table![
     [ANY, ANY],
     [ANY, ANY],
@@ -162,8 +162,8 @@ pub(crate) const PLAIN: u8 = 0b0110_0110;
 /// The classes of each table that are no writes to the register that bits 11:7 name.
 pub(crate) const NO_RD: u8 = 0b1000_0011;
 
-/// By bits 11:8, where bits 11:7 name an odd register: the classes that a halfword may be in, in code in
-/// words. [`NO_RD`] stands for x3, x29 and x31.
+/// By bits 11:8, where bits 11:7 name an odd register: the classes that a halfword may be in, in
+/// code in words. [`NO_RD`] stands for x3, x29 and x31.
 pub(crate) const WORDS_ODD: [u8; 16] = [
     ALL, NO_RD, ALL, ALL, ALL, ALL, ALL, ALL, ALL, ALL, ALL, ALL, ALL, ALL, NO_RD, NO_RD,
 ];
@@ -173,8 +173,8 @@ pub(crate) const WORDS_EVEN: [u8; 16] = [
     ALL, NO_RD, NO_RD, ALL, ALL, ALL, ALL, ALL, ALL, ALL, ALL, ALL, ALL, ALL, ALL, NO_RD,
 ];
 
-/// By bits 19:16 of a word, where bits 19:15 name an odd register: the classes of [`FOLLOWED`] that are free in
-/// code in words, accesses too on x3 and x29.
+/// By bits 19:16 of a word, where bits 19:15 name an odd register: the classes of [`FOLLOWED`] that
+/// are free in code in words, accesses too on x3 and x29.
 pub(crate) const ON_ODD: [u8; 16] = [
     FREE, ALL, FREE, FREE, FREE, FREE, FREE, FREE, FREE, FREE, FREE, FREE, FREE, FREE, ALL, FREE,
 ];

@@ -16,7 +16,7 @@ use sfi_image::{LayoutFault, sandbox_of};
 pub enum Missing {
     /// The bytes are no image.
     NoImage,
-    /// The image has no sandbox of that number.
+    /// The image has no sandbox of the number.
     NoSandbox,
     /// The sandbox's first data bytes don't end in the magic of a table.
     NoTable,
@@ -60,7 +60,7 @@ pub enum Kind {
     Imports,
 }
 
-/// The table of the image's sandbox of that number, counted from 0. What is wrong is told in the order
+/// The table of the image's sandbox `number`, counted from 0. What is wrong is said in the order
 /// of the variants of [`Missing`], and never `NoName`. Of the image it looks at the layout alone.
 pub fn names_in<'a>(image: &'a [u8], number: u32) -> Result<Names<'a>, Missing>
     ensures found { IfOk result (λ n. (t : Table) × HasTableOf image.entry.now number t
@@ -73,7 +73,7 @@ pub fn names_in<'a>(image: &'a [u8], number: u32) -> Result<Names<'a>, Missing>
     read_names(image, number)
 }
 
-/// The address that a name stands for in the table of the image's sandbox of that number, counted
+/// The address that a name stands for in the table of the image's sandbox `number`, counted
 /// from 0: the first of that kind with that name.
 pub fn address_in(image: &[u8], number: u32, kind: Kind, name: &[u8]) -> Result<u32, Missing>
     ensures answer { IsAnswer image.now number kind name.now result }
@@ -98,7 +98,7 @@ fn look_up(image: &[u8], number: u32, kind: Kind, name: &[u8]) -> Result<u32, Mi
     }
 }
 
-// The table of the image's sandbox of that number, or why there is none.
+// The table of the image's sandbox `number`, or why there is none.
 fn read_names<'a>(image: &'a [u8], number: u32) -> Result<Names<'a>, Missing>
     ensures found { IfOk result (λ n. (t : Table) × HasTableOf image.entry.now number t
         × IsNamesOf n t) }
@@ -111,7 +111,7 @@ fn read_names<'a>(image: &'a [u8], number: u32) -> Result<Names<'a>, Missing>
     }
 }
 
-// The first data bytes of the image's sandbox of that number, or why there are none.
+// The first data bytes of the image's sandbox `number`, or why there are none.
 fn init_of<'a>(image: &'a [u8], number: u32) -> Result<&'a [u8], Missing>
     ensures found { IfOk result (λ d. IsInitOf image.entry.now number d.now) }
     ensures missing { IfErr result (λ m. HasNoInit image.entry.now number m) }

@@ -35,7 +35,7 @@ impl From<LayoutFault> for MoveFault {
     }
 }
 
-// The fields of the image's sandbox of that number, and the offset of its first byte.
+// The fields of the image's sandbox `number`, and the offset of its first byte.
 fn fields_at(image: &[u8], number: u32) -> Result<(Fields, usize), MoveFault>
     ensures found { IfOk result (λ f. (p : Part) × (h : IsSandboxOf image.now number p)
         × (f.0 ≡ fields_of p) × (f.1 ≡ sandbox_offset h.parts number)) }
@@ -85,7 +85,7 @@ fn try_move(image: &mut [u8], number: u32, code_base: u32, data_base: u32) -> Re
     Err(MoveFault::NoPlace)
 }
 
-/// Moves the image's sandbox of that number, counted from 0, to the place: of the image's bytes only
+/// Moves the image's sandbox `number`, counted from 0, to the place: of the image's bytes only
 /// its two bases, its start and its gates' addresses change. It takes no memory.
 pub fn move_sandbox(image: &mut [u8], number: u32, to: Place) -> Result<(), MoveFault>
     // What each answer means.

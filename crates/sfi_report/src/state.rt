@@ -68,19 +68,19 @@ fn push_registers(out: &mut String, cpu: &Cpu) -> Result<(), AllocError>
     Ok(())
 }
 
-/// Writes how the text of the sandbox of that number begins.
+/// Writes how the text of sandbox `sandbox` begins.
 fn push_front(out: &mut String, sandbox: u32) -> Result<(), AllocError>
     ensures { OnOk result (string_bytes out.new ≡ string_bytes out.old ++ state_front sandbox) }
 {
     write!(out, "sandbox={sandbox} pc=")
 }
 
-/// The state of the sandbox of that number, which is this part of an image: five lines.
+/// The state of sandbox `sandbox`, which is this part of an image: five lines.
 ///
 /// The first is `sandbox=S pc=` and then the line that [`listing_text`](crate::listing_text) has of
 /// the instruction at pc; where the code has none there, it ends in two hyphens after the pc. The
-/// others are the registers x1 to x31, as `xN=AAAAAAAA`, and end after x7, x15, x23 and x31. The one
-/// error is that an allocation was refused.
+/// others are the registers x1 to x31, as `xN=AAAAAAAA`, and end after x7, x15, x23 and x31. The
+/// one error is that an allocation was refused.
 pub fn state_text(
     alloc: Global,
     sandbox: u32,

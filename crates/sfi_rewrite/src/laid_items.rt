@@ -51,7 +51,7 @@ fn lay_item(
     Ok(())
 }
 
-/// Lays the items of the sandbox of that number.
+/// Lays the items of sandbox `sandbox`.
 pub(crate) fn lay_items(
     alloc: Global,
     format: Format,

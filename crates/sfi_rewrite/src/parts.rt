@@ -37,7 +37,7 @@ fn fill_end(format: Format, labelled: bool, code: &mut Filling) -> Result<(), Al
     Ok(())
 }
 
-/// Lays the items of the sandbox of that number as its format lays them.
+/// Lays the items of sandbox `sandbox` as its format lays them.
 fn lay(alloc: Global, format: Format, sandbox: u32, items: &[Item]) -> Result<Laid, RewriteFault>
     requires { HaveBodies items.now }
     ensures faultless { IfOk result (λ l. AreFaultless (has_words format) format (length items.now) items.now l.code) }
@@ -51,7 +51,7 @@ fn lay(alloc: Global, format: Format, sandbox: u32, items: &[Item]) -> Result<La
     }
 }
 
-/// Places the sandbox of that number.
+/// Places sandbox `sandbox`.
 fn place_part(alloc: Global, sandbox: u32, part: &SourcePart) -> Result<PlacedPart, RewriteFault>
     requires { IsSandbox part.now }
     ensures rewritten { IfOk result (IsRewritten part.now) }

@@ -10,7 +10,7 @@ use std::marker::Model;
 /// What a name of a sandbox names, once its code is placed.
 #[derive(Clone, Copy)]
 pub enum PlacedName {
-    /// The gate of that number, counted from 0.
+    /// A gate, by its number, counted from 0.
     Gate(usize),
     /// A place in the code, in bytes after the gates' stubs.
     Code(u32),

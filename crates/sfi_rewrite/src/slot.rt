@@ -21,13 +21,14 @@ pub enum BundleSlot {
         name: usize,
         line: u32,
     },
-    /// The lui of the name's address; in a movable sandbox, of how far it is from its region's base.
+    /// The lui of the name's address; in a movable sandbox, of how far it is from its region's
+    /// base.
     Upper {
         rd: Reg,
         name: usize,
         line: u32,
     },
-    /// The addi to `rd` of what the lui leaves of that number.
+    /// The addi to `rd` of the address's lower 12 bits, after its lui.
     Lower {
         rd: Reg,
         name: usize,

@@ -1,8 +1,8 @@
 //! The rules by name.
 ghost use Rattle.std.specs.Prelude.{◌≡◌};
 
-/// A rule of sandboxed code. What breaks it depends on whether code is in bundles, as in the first two
-/// formats, or in words.
+/// A rule of sandboxed code. What breaks it depends on whether code is in bundles, as in the first
+/// two formats, or in words.
 #[derive(Clone, Copy, PartialEq, Eq, Debug)]
 pub enum Rule {
     /// The bytes are no instruction.
@@ -25,8 +25,8 @@ pub enum Rule {
     /// The region's last bundle, or word, is read whole, and its last instruction isn't ebreak, jal
     /// or jalr.
     V8,
-    /// A listed gate's bundle isn't the gate stub. (There is none in words: V6 and V11 confine how a
-    /// gate goes back.)
+    /// A listed gate's bundle isn't the gate stub. (There is none in words: V6 and V11 confine how
+    /// a gate goes back.)
     V9,
     /// The stack pointer x2 of the second format is written, by neither instruction of the pair
     /// `and x2, a, x27`, `or x2, x2, x26`, nor by one other than jal and jalr that this pair
@@ -62,7 +62,7 @@ impl Rule {
         }
     }
 
-    /// The rule of that number, if there is one.
+    /// Rule `number`, if there is one.
     pub fn numbered(number: u32) -> Option<Rule>
         ensures { result ≡ numbered number }
     {

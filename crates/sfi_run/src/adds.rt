@@ -12,7 +12,8 @@ use rv_mem::Pages;
 use sfi_host::{AddError, Module, RemoveError, World};
 use std::alloc::Global;
 
-// The numbers by which C knows that there is no world, or no module. Those of the errors below are others.
+// The numbers by which C knows that there is no world, or no module. Those of the errors below are
+// others.
 const NO_WORLD: u32 = 1;
 
 const NO_MODULE: u32 = 2;
@@ -97,8 +98,8 @@ fn remove(alloc: Global, world: &mut World<Pages>, sandbox: u32) -> Result<(), R
 }
 
 /// Adds the sandboxes of a module to a world, each as at its start, after those that are there, and
-/// writes the number of the first to `first`. The world's bytes are copied, so what is wanting for that
-/// leaves the world as it was.
+/// writes the number of the first to `first`. The world's bytes are copied first: if memory runs
+/// out there, the world stays as it was.
 #[unsafe(no_mangle)]
 pub extern "C" fn sfi_run_add(
     alloc: Global,
@@ -145,9 +146,9 @@ pub extern "C" fn sfi_run_add(
     told_add(added, first)
 }
 
-/// Removes a sandbox from a world, whatever it did. Each one of a higher number has a number less by one
-/// then. What is left of the world's bytes is copied, so what is wanting for that leaves the world as it
-/// was.
+/// Removes a sandbox from a world, whatever it did. Each one of a higher number has a number less
+/// by one then. What is left of the world's bytes is copied first: if memory runs out there, the
+/// world stays as it was.
 #[unsafe(no_mangle)]
 pub extern "C" fn sfi_run_remove(alloc: Global, world: &mut SfiRunWorld, sandbox: u32) -> u32
     // When each status comes.

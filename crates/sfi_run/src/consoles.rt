@@ -14,8 +14,8 @@ use sfi_host::{Console, RunAnswer, Turn, World};
 use std::alloc::Global;
 use std::mem::replace;
 
-/// A console, or none: `struct sfi_run_console`. C begins with zeros, and only moves it then. During a
-/// call there is none in it, as with a world.
+/// A console, or none: `struct sfi_run_console`. C begins with zeros, and only moves it then.
+/// During a call there is none in it, as with a world.
 #[repr(C)]
 #[derive(Drop)]
 pub struct SfiRunConsole {
@@ -63,7 +63,7 @@ pub extern "C" fn sfi_run_console_free(alloc: Global, console: &mut SfiRunConsol
 }
 
 /// Frees the console that was there, and makes one for `sandboxes` sandboxes, numbered from 0, with
-/// that input, of which it keeps a copy. `false` where memory is wanting, and then there is none.
+/// that input, of which it keeps a copy. `false` if memory runs out, and then there is none.
 #[unsafe(no_mangle)]
 pub extern "C" fn sfi_run_console_new(
     alloc: Global,
@@ -100,8 +100,8 @@ fn turn(world: &mut World<Pages>, console: &mut Console, sandbox: u32, steps: u3
     }
 }
 
-/// A turn of a sandbox, for at most `steps` steps, each call of which the console answers. `false` where
-/// there is no world or no console, or a put for which there was no memory ended the turn.
+/// A turn of a sandbox, for at most `steps` steps, each call of which the console answers. `false`
+/// where there is no world or no console, or a put for which there was no memory ended the turn.
 #[unsafe(no_mangle)]
 pub extern "C" fn sfi_run_console_turn(
     alloc: Global,
@@ -184,8 +184,8 @@ fn read(console: &Console, sandbox: u32, from: usize, room: &mut [u8]) -> bool
     true
 }
 
-/// Fills `room` with what a sandbox has written to the console, from a place on: all of it, or nothing
-/// where there is no such sandbox, or it has written less.
+/// Fills `room` with what a sandbox has written to the console, from a place on: all of it, or
+/// nothing where there is no such sandbox, or it has written less.
 #[unsafe(no_mangle)]
 pub extern "C" fn sfi_run_console_read(
     alloc: Global,

@@ -36,6 +36,7 @@ impl HeldConsole {
         }
     }
 
+    // Holds the console of these parts.
     fn of_parts(parts: Parts<Console, Global>) -> HeldConsole
         ensures { result.console ≡ Some parts.value }
     {
@@ -46,6 +47,7 @@ impl HeldConsole {
         }
     }
 
+    // Takes out the parts of the console.
     fn into_parts(self) -> Parts<Console, Global>
         requires { (c : ConsoleState) × (self.console ≡ Some c) }
         ensures { Some result.value ≡ self.console }

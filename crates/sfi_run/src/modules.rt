@@ -21,8 +21,8 @@ use sfi_host::Module;
 use std::alloc::Global;
 use std::mem::replace;
 
-/// A module, or none: `struct sfi_run_module`. C begins with zeros, and only moves it then. During a
-/// call there is none in it, as with a world.
+/// A module, or none: `struct sfi_run_module`. C begins with zeros, and only moves it then. During
+/// a call there is none in it, as with a world.
 #[repr(C)]
 #[derive(Drop)]
 pub struct SfiRunModule {
@@ -69,8 +69,8 @@ pub extern "C" fn sfi_run_module_free(alloc: Global, from: &mut SfiRunModule)
     drop(from.take(alloc));
 }
 
-/// Frees the module that was there, writes the verdict on the image to `verdict`, as `sfi_run_load` does,
-/// and makes the image's module, if it is accepted. Only that takes memory.
+/// Frees the module that was there, writes the verdict on the image to `verdict`, as `sfi_run_load`
+/// does, and makes the image's module, if it is accepted. Only that takes memory.
 #[unsafe(no_mangle)]
 pub extern "C" fn sfi_run_module_new(
     alloc: Global,
@@ -120,9 +120,9 @@ pub extern "C" fn sfi_run_module_new(
     }
 }
 
-/// Frees the world that was there, and makes one of the module: what `sfi_run_load` makes of the image,
-/// with nothing checked or decoded anew. `false` where there is no module, or memory is wanting, and then
-/// there is no world.
+/// Frees the world that was there, and makes one of the module: what `sfi_run_load` makes of the
+/// image, with nothing checked or decoded anew. `false` if there is no module or memory runs out,
+/// and then there is no world.
 #[unsafe(no_mangle)]
 pub extern "C" fn sfi_run_instance(
     alloc: Global,

@@ -31,8 +31,8 @@ fn look_up(image: &[u8], sandbox: u32, kind: Kind, name: &[u8], address: &mut u3
     }
 }
 
-/// Writes to `address` what a name stands for among the exports of the image's sandbox of that
-/// number, counted from 0. Returns 0, or the number of a [`Missing`].
+/// Writes to `address` what a name stands for among the exports of the image's sandbox
+/// `sandbox`, counted from 0. Returns 0, or the number of a [`Missing`].
 #[unsafe(no_mangle)]
 pub extern "C" fn sfi_run_export(image: &[u8], sandbox: u32, name: &[u8], address: &mut u32) -> u32
     ensures known { result ≤ 5 }
@@ -52,8 +52,8 @@ pub extern "C" fn sfi_run_export(image: &[u8], sandbox: u32, name: &[u8], addres
     look_up(image, sandbox, Kind::Exports, name, address)
 }
 
-/// Writes to `address` what a name stands for among the imports: the address of its gate. Returns as
-/// [`sfi_run_export`] does.
+/// Writes to `address` what a name stands for among the imports: the address of its gate. Returns
+/// as [`sfi_run_export`] does.
 #[unsafe(no_mangle)]
 pub extern "C" fn sfi_run_import(image: &[u8], sandbox: u32, name: &[u8], address: &mut u32) -> u32
     ensures known { result ≤ 5 }

@@ -8,12 +8,12 @@ use rv_step::{Cause, Cpu};
 use rv_word::Reg;
 use sfi_host::{Region, Request, Status, World, registers_of};
 
-/// How a sandbox stands: `struct sfi_run_event`. What its kind doesn't speak of is 0.
+/// How a sandbox stands: `struct sfi_run_event`. Fields that its kind does not use are 0.
 #[repr(C)]
 #[derive(Clone, Copy, PartialEq, Eq, Debug)]
 pub struct SfiRunEvent {
-    /// 0 there is none, 1 it is ready, 2 it waits at a call, 3 it has exited, 4 it has trapped, 5 its
-    /// host stopped it.
+    /// 0: there is no such sandbox; 1: it is ready; 2: it waits at a call; 3: it has exited; 4: it
+    /// has trapped; 5: its host stopped it.
     pub kind: u32,
     /// The service, 0 to 5, the number with which it exited, or that of the trap's cause.
     pub number: u32,
@@ -36,6 +36,7 @@ pub struct SfiRunEvent {
 impl SfiRunEvent {
     ghost use Rattle.sfi_run.specs.Snapshots.{cause_number, plain_event, call_event, status_event, none_event, IsEventOf};
 
+    /// An event that is no call: its gate and a1 to a7 are 0.
     fn plain(kind: u32, number: u32, pc: u32, a0: u32) -> SfiRunEvent
         ensures { result ≡ plain_event kind number pc a0 }
     {
@@ -55,6 +56,7 @@ impl SfiRunEvent {
         }
     }
 
+    /// The event of a call at gate number `gate`, with a0 to a7 from `cpu`.
     fn of_call(gate: u32, service: u32, cpu: &Cpu) -> SfiRunEvent
         ensures { result ≡ call_event gate service cpu.now }
     {
@@ -74,6 +76,7 @@ impl SfiRunEvent {
         }
     }
 
+    /// The number by which C knows the cause of a trap, 1 to 5.
     fn cause_number(cause: Cause) -> u32
         ensures { result ≡ cause_number cause }
     {
@@ -86,6 +89,7 @@ impl SfiRunEvent {
         }
     }
 
+    /// The event of a sandbox that waits at no call.
     fn of_status(status: Status, pc: u32) -> SfiRunEvent
         ensures { result ≡ status_event status pc }
     {
@@ -99,14 +103,14 @@ impl SfiRunEvent {
         }
     }
 
-    /// Where there is none.
+    /// The event where there is no such sandbox.
     pub(crate) fn none() -> SfiRunEvent
         ensures { result ≡ none_event }
     {
         SfiRunEvent::plain(0, 0, 0, 0)
     }
 
-    /// How the sandbox of that number stands, which asks this, if it waits.
+    /// The event of sandbox `sandbox`; `waiting` is what it asks, if it waits at a call.
     pub(crate) fn of(world: &World<Pages>, sandbox: u32, waiting: Option<Request>) -> SfiRunEvent
         requires there { IsSome waiting ↔ IsAtCall (slots_of world.now) sandbox }
         requires gate { IfSome waiting (λ r. AsksAtGate (slots_of world.now) sandbox r) }
@@ -136,7 +140,7 @@ pub struct SfiRunRegisters {
 impl SfiRunRegisters {
     ghost use Rattle.sfi_run.specs.Snapshots.{AreRegistersOf};
 
-    /// What it holds.
+    /// Copies pc and the registers of `cpu`.
     pub(crate) fn of(cpu: &Cpu) -> SfiRunRegisters
         ensures { AreRegistersOf cpu.now result }
     {
@@ -147,7 +151,7 @@ impl SfiRunRegisters {
     }
 }
 
-/// So many addresses from a first one on: `struct sfi_run_region`.
+/// `size` addresses from `base` on: `struct sfi_run_region`.
 #[repr(C)]
 #[derive(Clone, Copy, PartialEq, Eq, Debug)]
 pub struct SfiRunRegion {
@@ -159,7 +163,7 @@ impl SfiRunRegion {
     ghost use Rattle.sfi_host.specs.Slots.{span_of};
     ghost use Rattle.sfi_run.specs.Snapshots.{region_span};
 
-    /// The same addresses.
+    /// The same addresses, as C has them.
     pub(crate) fn of(region: Region) -> SfiRunRegion
         ensures { region_span result ≡ span_of region }
     {

@@ -80,7 +80,7 @@ fn three_words(words: u64) -> u64
     words & words >> 2 & words >> 4 & FIRST_THREE
 }
 
-/// The place of the block's bundle of that number, counted from 0.
+/// The place of bundle `bundle` of the block, counted from 0.
 #[inline(always)]
 pub(crate) fn bundle_at(place: &BundlePlace, bundle: usize) -> BundlePlace
     requires within { IsWithinBlock place.now }

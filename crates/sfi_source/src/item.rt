@@ -4,9 +4,10 @@ use rv_word::{Instr, Reg};
 /// What a name of a sandbox names.
 #[derive(Clone, Copy, Debug)]
 pub enum Named {
-    /// The gate of that number, from 0.
+    /// A gate, by its number, counted from 0.
     Gate(usize),
-    /// The place before the item of that number, from 0; it may be the number of items.
+    /// The place before an item, by the item's number, counted from 0; it may be the number of
+    /// items.
     Code(usize),
     /// The place this many bytes after the data base.
     Data(u32),
@@ -24,9 +25,9 @@ pub enum Body {
     /// The lui of the upper half of the address of the name at that place; in a movable sandbox, of
     /// how far the address is from its region's base.
     High(Reg, usize),
-    /// The addi of the lower half of that number.
+    /// The addi of the address's lower 12 bits, after its lui.
     Low(Reg, usize),
-    /// The add of the base of the region in which that address lies, in a movable sandbox.
+    /// In a movable sandbox, the add of the base of the region in which the address lies.
     Base(Reg, usize),
 }
 

@@ -20,7 +20,7 @@ fn left_by(budget: u64, status: Status, steps: u64) -> u64
     }
 }
 
-/// How many steps the sandbox of that number may still do.
+/// How many steps sandbox `sandbox` may still do.
 fn steps_left<M: Memory>(world: &World<M>, sandbox: u32, budget: u64) -> u64
     ensures { result ≡ left_of budget (slice_get (slots_of world.now) sandbox) }
 {
@@ -33,7 +33,7 @@ fn steps_left<M: Memory>(world: &World<M>, sandbox: u32, budget: u64) -> u64
     left_by(budget, status, steps)
 }
 
-/// The steps of a turn, of which that many may be done.
+/// How many steps the next turn may do, if `left` are left: at most 2^32 - 1.
 fn turn_steps(left: u64) -> u32
     ensures { result ≤ left }
 {

@@ -11,6 +11,7 @@ use sfi_host::{Console, Status, World};
 use sfi_report::push_eight_digits;
 use std::alloc::{AllocError, Global};
 
+/// The word that is printed for the cause of a trap.
 fn cause_name(cause: Cause) -> &'static str
     ensures { result.now ≡ cause_name cause }
 {
@@ -57,7 +58,7 @@ fn push_run_line(
     write!(out, " steps={steps} out={digits}\n")
 }
 
-/// Writes the line of the sandbox of that number; none where there is no such sandbox.
+/// Writes the line of sandbox `sandbox`; none where there is no such sandbox.
 fn push_line_of<M: Memory>(
     alloc: Global,
     out: &mut String,

@@ -15,7 +15,7 @@ use sfi_image::SandboxPart;
 use sfi_report::state_text;
 use std::alloc::{AllocError, Global};
 
-/// Writes the state of the sandbox of that number, which is this part of an image.
+/// Writes the state of sandbox `sandbox`, which is this part of an image.
 fn push_state(
     alloc: Global,
     out: &mut String,

@@ -19,6 +19,7 @@ const OVER: u8 = 124;
 /// The status of a trap.
 const TRAPPED: u8 = 126;
 
+/// The status with which `exec` ends after a sandbox that has `status`.
 fn end_status(status: Status) -> u8
     ensures { result ≡ end_status status }
 {
@@ -29,7 +30,7 @@ fn end_status(status: Status) -> u8
     }
 }
 
-/// The status of the sandbox of that number; 0 where there is none.
+/// The status of sandbox `sandbox`; 0 where there is none.
 fn status_of<M: Memory>(world: &World<M>, sandbox: u32) -> u8
     ensures { result ≡ status_of (slice_get (slots_of world.now) sandbox) }
 {
@@ -52,6 +53,7 @@ pub(crate) fn status_among<M: Memory>(world: &World<M>, count: u32) -> u8
     first
 }
 
+/// Writes the line that says how sandbox `sandbox` ended.
 fn push_stop_line(
     out: &mut String,
     sandbox: u32,
@@ -66,7 +68,7 @@ fn push_stop_line(
     write!(out, " steps={steps}\n")
 }
 
-/// Writes the line of the sandbox of that number; none where it has exited.
+/// Writes the line of sandbox `sandbox`; none where it has exited.
 fn push_stop_line_of<M: Memory>(
     out: &mut String,
     sandbox: u32,

@@ -13,13 +13,14 @@ use std::alloc::{AllocError, Global};
 pub(crate) struct Entries {
     base: u32,
     has_words: bool,
-    /// Whether the unit of that number is one.
+    /// For each unit, by its number, whether it is an entry.
     chosen: Vec<bool>,
 }
 
 impl Entries {
-    /// The start, where a function of the text begins, each target of a call, of a jump backwards or
-    /// of one into another function, what follows a call, and what the code or the first data name.
+    /// The start, where a function of the text begins, each target of a call, of a jump backwards
+    /// or of one into another function, what follows a call, and what the code or the first data
+    /// name.
     pub(crate) fn of(
         alloc: Global,
         format: Format,
@@ -61,6 +62,7 @@ impl Entries {
         }
     }
 
+    /// Chooses the unit at an address, if one is there.
     fn add(&mut self, address: u32) {
         if let Some(place) = self.place_of(address) {
             if place < self.chosen.len() {

@@ -1,6 +1,6 @@
 //! The rows of the table of forms, bit by bit.
 
-/// A bit of a row: fixed, or a field's bit of that number.
+/// A bit of a row: fixed, or a bit of a field, by its number.
 #[derive(Clone, Copy)]
 pub(super) enum Bit {
     Zero,

@@ -18,17 +18,17 @@ use std::sync::Arc;
 /// Why no sandboxes were added to a world: the first of these that applies.
 #[derive(Clone, Copy, Debug, PartialEq, Eq)]
 pub enum AddError {
-    /// A code region or data with their guard zones of the image have an address in common with those of
-    /// a sandbox of the world.
+    /// A code region or data with their guard zones of the image have an address in common with
+    /// those of a sandbox of the world.
     Meets,
     /// There would be more sandboxes than numbers of 32 bits.
     Full,
-    /// Memory is wanting.
+    /// An allocation was refused.
     Memory,
 }
 
-// The number of the first of some sandboxes more; `None` where their numbers would need more than 32
-// bits.
+// The number of the first of some sandboxes more; `None` where their numbers would need more than
+// 32 bits.
 fn first_number(there: usize, more: usize) -> Option<u32>
     requires { 0 < more }
     ensures number { IfSome result (λ first. first ≡ there) }
@@ -41,7 +41,7 @@ fn first_number(there: usize, more: usize) -> Option<u32>
     Some(there as u32)
 }
 
-// Appends sandboxes and their programs, or neither where memory is wanting.
+// Appends sandboxes and their programs, or neither if an allocation is refused.
 fn append_both(
     sandboxes: &mut Vec<Sandbox>,
     programs: &mut Vec<Arc<Program>>,
@@ -66,10 +66,10 @@ fn append_both(
 
 impl<M: Memory> World<M> {
     /// Adds the sandboxes of another image, which may be of another format: each as
-    /// [`Module::instance`] makes it, after those that are there, in the image's order. The answer is the
-    /// number of the first. The world's bytes are copied to the memory handed in, which becomes the
-    /// world's: so on an error the world is what it was. A console has to be made for the greater number
-    /// of sandboxes.
+    /// [`Module::instance`] makes it, after those that are there, in the image's order. The answer
+    /// is the number of the first. The world's bytes are copied to the memory handed in, which
+    /// becomes the world's: so on an error the world is what it was. A console has to be made for
+    /// the greater number of sandboxes.
     pub fn add(&mut self, alloc: Global, module: &Module, memory: M) -> Result<u32, AddError>
         requires { M.bytes memory ≡ empty }
 
@@ -85,8 +85,8 @@ impl<M: Memory> World<M> {
         ensures entered { OnOk result (AreEntered module.now self.new.bytes) }
         ensures first_data { OnOk result (HaveFirstData module.now self.new.bytes) }
 
-        // Each earlier sandbox is what it was. In the theorem's words it is a change by others; so the
-        // world is safe as before, and what is said of plans holds of those that follow.
+        // Each earlier sandbox is what it was. In the theorem's words it is a change by others; so
+        // the world is safe as before, and what is said of plans holds of those that follow.
         ensures earlier { EarlierAreSame self.old self.new }
         ensures changes { AreChanges self.old self.new }
         ensures safe { IsSafeWorld self.new }

@@ -10,13 +10,14 @@ use crate::world::World;
 use rv_mem::Memory;
 
 impl<M: Memory> World<M> {
-    /// Calls back the sandbox of that number, which waits at a call: makes it ready at `pc`, with the
+    /// Calls back sandbox `i`, which waits at a call: makes it ready at `pc`, with the
     /// arguments in a0 to a7 and the return address x1 that `enter` sets. Its other registers, x2
-    /// too, are those of the call, so that the frames of the callback lie below the caller's; its data
-    /// stay, and its steps are counted on. `false` where it waits at no call, no bundle or word of its
-    /// code begins at `pc`, or a reserved or typed register holds what it mustn't, and then nothing
-    /// changed. Once the callback has stopped, `set_registers` with the pc and registers that `cpu` told
-    /// before it takes the sandbox back to its call. A callback may call, too, and be called back.
+    /// too, are those of the call, so that the frames of the callback lie below the caller's; its
+    /// data stay, and its steps are counted on. `false` where it waits at no call, no bundle or
+    /// word of its code begins at `pc`, or a reserved or typed register holds what it mustn't, and
+    /// then nothing changed. Once the callback has stopped, `set_registers` with the pc and
+    /// registers that `cpu` told before it takes the sandbox back to its call. A callback may call,
+    /// too, and be called back.
     pub fn call_back(&mut self, i: u32, pc: u32, arguments: &[u32; 8]) -> bool
         ensures may { IsTrue result ↔ MayCallBackAt (slots_of self.old) i pc arguments.now }
         ensures done { OnTrue result (self.new ≡ with_callback self.old i pc arguments.now) }

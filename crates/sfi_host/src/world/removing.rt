@@ -13,18 +13,19 @@ use std::alloc::{AllocError, Global};
 /// Why no sandbox was removed from a world.
 #[derive(Clone, Copy, Debug, PartialEq, Eq)]
 pub enum RemoveError {
-    /// There is no sandbox of that number.
+    /// The world has no sandbox of the number.
     Missing,
-    /// Memory is wanting.
+    /// An allocation was refused.
     Memory,
 }
 
 impl<M: Memory> World<M> {
-    /// Removes the sandbox of that number, whatever it did: its code and data are gone, and sandboxes
-    /// that lie there may be added. Each later sandbox has a number less by one then: a host that keeps
-    /// something of each by its number removes the same place from what it keeps, and a console has to be
-    /// made anew. What is left of the world's bytes is copied to the memory handed in, which becomes the
-    /// world's: so on an error the world is what it was. A world may have no sandboxes left.
+    /// Removes sandbox `i`, whatever it did: its code and data are gone, and sandboxes
+    /// that lie there may be added. Each later sandbox has a number less by one then: a host that
+    /// keeps something of each by its number removes the same place from what it keeps, and a
+    /// console has to be made anew. What is left of the world's bytes is copied to the memory
+    /// handed in, which becomes the world's: so on an error the world is what it was. A world may
+    /// have no sandboxes left.
     pub fn remove(&mut self, alloc: Global, i: u32, memory: M) -> Result<(), RemoveError>
         requires { M.bytes memory ≡ empty }
         ensures missing { (result ≡ Err RemoveError.Missing)
@@ -35,8 +36,8 @@ impl<M: Memory> World<M> {
         // Nothing else is left: each byte is one of another sandbox's code or data.
         ensures owned { AreOwned self.new }
 
-        // Each other sandbox is what it was. In the theorem's words it is a change by others; so the
-        // world is safe as before, and what is said of plans holds of those that follow.
+        // Each other sandbox is what it was. In the theorem's words it is a change by others; so
+        // the world is safe as before, and what is said of plans holds of those that follow.
         ensures rest { OnOk result (RestIsSame self.old i self.new) }
         ensures changes { OnOk result (AreChangesToRest self.old i self.new) }
         ensures safe { IsSafeWorld self.new }

@@ -10,11 +10,12 @@ use crate::world::World;
 use rv_mem::Memory;
 
 impl<M: Memory> World<M> {
-    /// Takes the sandbox of that number back to what `load` made of it, whatever it did: its data are the
-    /// image's and then zeros, its pc and registers are those of its start, it is ready, and has done no
-    /// step. `false` where there is no such sandbox, and then nothing changed. The work is that of
-    /// writing its data; nothing is checked or decoded anew, and no memory is taken. What a console
-    /// keeps of the sandbox stays, and registers that `call_back` kept are not to be set after this.
+    /// Takes sandbox `i` back to what `load` made of it, whatever it did: its data are the
+    /// image's and then zeros, its pc and registers are those of its start, it is ready, and has
+    /// done no step. `false` where there is no such sandbox, and then nothing changed. The work is
+    /// that of writing its data; nothing is checked or decoded anew, and no memory is taken. What a
+    /// console keeps of the sandbox stays, and registers that `call_back` kept are not to be set
+    /// after this.
     pub fn reset(&mut self, i: u32) -> bool
         ensures may { IsTrue result ↔ IsSome (slice_get (slots_of self.old) i) }
         ensures done { OnTrue result (self.new ≡ with_reset self.old i) }

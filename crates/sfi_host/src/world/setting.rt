@@ -13,11 +13,11 @@ use rv_mem::Memory;
 use rv_step::Cpu;
 
 impl<M: Memory> World<M> {
-    /// Makes the sandbox of that number ready at `pc` with these registers, x0 to x31, of which x0 stays
-    /// 0, whatever it did before; `false` where there is no such sandbox, no bundle or word of its code
-    /// begins at `pc`, or a reserved or typed register would hold what it mustn't, and then nothing
-    /// changed. Its data stay, and its steps are counted on. So the registers of one that waits at a call,
-    /// which lies where a bundle or word begins, may be put aside and put back.
+    /// Makes sandbox `i` ready at `pc` with these registers, x0 to x31, of which x0 stays
+    /// 0, whatever it did before; `false` where there is no such sandbox, no bundle or word of its
+    /// code begins at `pc`, or a reserved or typed register would hold what it mustn't, and then
+    /// nothing changed. Its data stay, and its steps are counted on. So the registers of one that
+    /// waits at a call, which lies where a bundle or word begins, may be put aside and put back.
     pub fn set_registers(&mut self, i: u32, pc: u32, registers: &[u32; 32]) -> bool
         ensures may { IsTrue result ↔ MaySetAt (slots_of self.old) i (hart_of pc registers.now) }
         ensures done { OnTrue result (self.new ≡ with_hart self.old i (hart_of pc registers.now)) }
@@ -40,7 +40,7 @@ impl<M: Memory> World<M> {
         self.set_cpu(i, cpu)
     }
 
-    // Makes the sandbox of that number ready with this pc and these registers, if it may be entered
+    // Makes sandbox `i` ready with this pc and these registers, if it may be entered
     // with them.
     pub(super) fn set_cpu(&mut self, i: u32, cpu: Cpu) -> bool
         requires hart { IsHart cpu }

@@ -15,7 +15,7 @@ use sfi_formats::Format;
 use sfi_source::Item;
 use std::alloc::{AllocError, Global};
 
-/// Adds slots to the code of the sandbox of that number, each where it has room.
+/// Adds slots to the code of sandbox `sandbox`, each where it has room.
 fn push_slots(
     sandbox: u32,
     slots: &[BundleSlot],
@@ -70,7 +70,7 @@ fn items_after(items: &[Item], number: usize) -> &[Item]
     &items[number + 1..]
 }
 
-/// Lays the items of the sandbox of that number.
+/// Lays the items of sandbox `sandbox`.
 pub(crate) fn lay_in_words(
     alloc: Global,
     sandbox: u32,
