@@ -273,7 +273,7 @@ pub struct World {
 }
 
 // SAFETY: the library keeps nothing of a thread's own, and lets any thread make a call, one at a time. That is proved of what
-// the pointer leads to (`Send` of `Held` in crates/sfi_run).
+// the pointer leads to (`Send` of `HeldWorld` in crates/sfi_run).
 unsafe impl Send for World {}
 
 impl World {

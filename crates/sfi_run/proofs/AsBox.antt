@@ -11,7 +11,7 @@ use Rattle.rv_mem.proofs.pages.Pages.TheLaws as pages
 use Rattle.sfi_host.proofs.world.World.TheLaws as world
 use Rattle.sfi_run.specs.Held.{world_row}
 use Rattle.sfi_run.specs.contracts.parts.Parts as Parts
-use Rattle.sfi_run.specs.contracts.held.Held as Held
+use Rattle.sfi_run.specs.contracts.held_world.HeldWorld as Held
 
 abbrev pub E : Bx
 E = record { row = world_row; laws = world.the_row_laws Pages.the_row pages_memory.ghosts pages.the_row_laws; al = record { row = Heap.the_row; laws = heap.the_row_laws; g = ghosts; d = dict; drops = impl [] tnil dnil } }

@@ -4,7 +4,7 @@ ghost use Rattle.std.specs.Option.{option_map};
 ghost use Rattle.sfi_host.specs.Worlds.{Sandboxes};
 ghost use Rattle.sfi_run.specs.Held.{flag_of};
 
-use crate::held::Held;
+use crate::held_world::HeldWorld;
 use rv_mem::Pages;
 use sfi_host::World;
 use std::alloc::Global;
@@ -17,7 +17,7 @@ use std::mem::replace;
 #[derive(Drop)]
 pub struct SfiRunWorld {
     held: u32,
-    pub inner: Held,
+    pub inner: HeldWorld,
     ghost flag: { held ≡ flag_of inner.world },
 }
 
@@ -29,7 +29,7 @@ impl SfiRunWorld {
     {
         let none = SfiRunWorld {
             held: 0,
-            inner: Held::none(alloc),
+            inner: HeldWorld::none(alloc),
         };
         let SfiRunWorld { held, inner } = replace(self, none);
         if held == 0 {
@@ -46,7 +46,7 @@ impl SfiRunWorld {
     {
         *self = SfiRunWorld {
             held: 1,
-            inner: Held::of(world),
+            inner: HeldWorld::of(world),
         };
     }
 }

@@ -9,9 +9,9 @@ mod adds;
 mod between;
 mod callbacks;
 mod consoles;
-mod held;
 mod held_console;
 mod held_module;
+mod held_world;
 mod holding;
 mod modules;
 mod names;
@@ -32,9 +32,9 @@ pub use consoles::{
     SfiRunConsole, sfi_run_console_free, sfi_run_console_new, sfi_run_console_read,
     sfi_run_console_turn, sfi_run_console_written,
 };
-pub use held::Held;
 pub use held_console::HeldConsole;
 pub use held_module::HeldModule;
+pub use held_world::HeldWorld;
 pub use holding::SfiRunWorld;
 pub use modules::{SfiRunModule, sfi_run_instance, sfi_run_module_free, sfi_run_module_new};
 pub use names::{sfi_run_api, sfi_run_export, sfi_run_import};

@@ -13,37 +13,37 @@ use std::marker::Model;
 /// dropped leaves its world behind. It may go from one thread to another.
 #[repr(C)]
 #[derive(Drop)]
-pub struct Held {
+pub struct HeldWorld {
     at: *mut u8,
     alloc: Global,
     pub ghost world: { Option Sandboxes } by { held_coded },
 }
 
-impl Model for Held {
+impl Model for HeldWorld {
     ghost also_owns = { λ h. held_owns h.alloc h.at h.world };
 }
 
 // What is in the box is data that no other thread writes, but for the counts of owners, which are atomic;
 // any thread may free it.
-unsafe impl Send for Held {}
+unsafe impl Send for HeldWorld {}
 
-impl Held {
+impl HeldWorld {
     /// No world.
-    pub(crate) fn none(alloc: Global) -> Held
+    pub(crate) fn none(alloc: Global) -> HeldWorld
         ensures { result.world ≡ None }
     {
-        Held {
+        HeldWorld {
             at: std::ptr::null_mut(),
             alloc,
         }
     }
 
     // The world of these parts.
-    fn of_parts(parts: Parts<World<Pages>, Global>) -> Held
+    fn of_parts(parts: Parts<World<Pages>, Global>) -> HeldWorld
         ensures { result.world ≡ Some parts.value }
     {
         let Parts { ptr, alloc } = parts;
-        Held {
+        HeldWorld {
             at: ptr.cast(),
             alloc,
         }
@@ -54,7 +54,7 @@ impl Held {
         requires { (w : Sandboxes) × (self.world ≡ Some w) }
         ensures { Some result.value ≡ self.world }
     {
-        let Held { at, alloc } = self;
+        let HeldWorld { at, alloc } = self;
         Parts {
             ptr: at.cast(),
             alloc,
@@ -62,10 +62,10 @@ impl Held {
     }
 
     /// The world in the box.
-    pub(crate) fn of(world: Box<World<Pages>>) -> Held
+    pub(crate) fn of(world: Box<World<Pages>>) -> HeldWorld
         ensures { result.world ≡ Some world.value }
     {
-        Held::of_parts(Parts::of(world))
+        HeldWorld::of_parts(Parts::of(world))
     }
 
     /// The box again, where there is a world.

@@ -3,12 +3,12 @@ use Rattle.sfi_run.proofs.Prelude.{refl, sym, subst, List, [], ◌∷◌, ◌++�
 use mathlib.Core.Path.{◌≡◌}
 use Rattle.std.proofs.BoxSteps.Form.{X}
 use Rattle.std.proofs.Common.{Option}
-use Rattle.sfi_run.specs.contracts.held.Held.{the_row as Row}
+use Rattle.sfi_run.specs.contracts.held_world.HeldWorld.{the_row as Row}
 use Rattle.sfi_run.proofs.AsBox.{E, FromHeld as From}
-use Rattle.sfi_run.specs.contracts.held.Held.into_parts as F
-use Rattle.sfi_run.specs.contracts.held.Held.into_parts.Key.{name as #self}
-use Rattle.sfi_run.proofs.held.Held.into_parts.Statement as stated
-use Rattle.sfi_run.proofs.held.Held.into_parts.Code as code
+use Rattle.sfi_run.specs.contracts.held_world.HeldWorld.into_parts as F
+use Rattle.sfi_run.specs.contracts.held_world.HeldWorld.into_parts.Key.{name as #self}
+use Rattle.sfi_run.proofs.held_world.HeldWorld.into_parts.Statement as stated
+use Rattle.sfi_run.proofs.held_world.HeldWorld.into_parts.Code as code
 
 abbrev stayed : Stays (F.ended).signature.params (F.ended).kept
 stayed = (stay_dropped From yes, tt)

@@ -20,7 +20,7 @@ use Rattle.rv_mem.proofs.pages.Pages.TheSendSync as pages
 use Rattle.sfi_host.specs.Worlds.{Sandboxes}
 use Rattle.sfi_host.proofs.world.World.TheSendSync as world
 use Rattle.sfi_run.specs.Held.{world_row, held_owns}
-use Rattle.sfi_run.specs.contracts.held.Held.{the_row, the_type}
+use Rattle.sfi_run.specs.contracts.held_world.HeldWorld.{the_row, the_type}
 
 world_send : IsSend world_row
 world_send = world.the_send Pages.the_row ghosts pages.the_send

@@ -2,10 +2,10 @@
 use Rattle.sfi_run.proofs.Prelude.{refl, sym, subst, List, [], ◌∷◌, ◌++◌, Ura, Val, SProp, ent, id⊢, ftrue, fsep, Memory, Routine, WpFn, Tables, Logic, Fun, tables, tables_of, WpFn-mono, Item, ‵, raw, ◌⊛◌, ◌$◌, ◌∵◌, !, qed, by, move, drop, use1, join, split, fsplit, fjoin, suffices, done, whole, sub, agg, stop, fld, no_more, and_then, of_opd, returns, enter, alloc_all, pass_all, free_all, look_at, get, get_in, sets, yes, type_at, nothing, triple_of, entered, says, Stays, stay_dropped, walk_of, ends_at, Goes-dropped, walk_Meets, D, B, word, box_typed, box_out, box_in, Some}
 use base.Logic.{emp}
 use Rattle.sfi_run.proofs.AsBox.{E, FromParts as From}
-use Rattle.sfi_run.specs.contracts.held.Held.of_parts as F
-use Rattle.sfi_run.specs.contracts.held.Held.of_parts.Key.{name as #self}
-use Rattle.sfi_run.proofs.held.Held.of_parts.Statement as stated
-use Rattle.sfi_run.proofs.held.Held.of_parts.Code as code
+use Rattle.sfi_run.specs.contracts.held_world.HeldWorld.of_parts as F
+use Rattle.sfi_run.specs.contracts.held_world.HeldWorld.of_parts.Key.{name as #self}
+use Rattle.sfi_run.proofs.held_world.HeldWorld.of_parts.Statement as stated
+use Rattle.sfi_run.proofs.held_world.HeldWorld.of_parts.Code as code
 
 abbrev stayed : Stays (F.ended).signature.params (F.ended).kept
 stayed = (stay_dropped From yes, tt)

@@ -16,10 +16,10 @@ use Rattle.std.specs.contracts.alloc.Global as Heap
 use Rattle.std.proofs.alloc.Calls.{handle_tells}
 use Rattle.std.proofs.BoxSteps.Form.{owning}
 use Rattle.sfi_run.proofs.AsBox.{E}
-use Rattle.sfi_run.specs.contracts.held.Held.none as F
-use Rattle.sfi_run.specs.contracts.held.Held.none.Key.{name as #self}
-use Rattle.sfi_run.proofs.held.Held.none.Statement as stated
-use Rattle.sfi_run.proofs.held.Held.none.Code as code
+use Rattle.sfi_run.specs.contracts.held_world.HeldWorld.none as F
+use Rattle.sfi_run.specs.contracts.held_world.HeldWorld.none.Key.{name as #self}
+use Rattle.sfi_run.proofs.held_world.HeldWorld.none.Statement as stated
+use Rattle.sfi_run.proofs.held_world.HeldWorld.none.Code as code
 
 abbrev stayed : Stays (F.ended).signature.params (F.ended).kept
 stayed = (stay_dropped (plain (λ _. Heap.the_row)) yes, tt)
