@@ -1,5 +1,5 @@
 -- Lists without one of their places.
-use Rattle.sfi_host.proofs.Prelude.{◌≡◌, ◌≢◌, ⊎_elim, Bool, true, false, cond, ℕ, zero, suc, ◌+◌, ◌-◌, ◌<◌, ◌≤◌, List, [], ◌∷◌, map, slice_get, refl, sym, ap, ◌∙◌, arith, cases_lt}
+use Rattle.sfi_host.proofs.Prelude.{◌≡◌, ◌≢◌, ⊎_elim, cond, ℕ, zero, suc, ◌-◌, ◌<◌, ◌≤◌, List, [], ◌∷◌, map, slice_get, refl, sym, ap, ◌∙◌, arith, cases_lt}
 use Rattle.std.specs.Prelude.{nat_lt}
 use Rattle.std.specs.List.{remove}
 use Rattle.std.proofs.lemmas.Bool.{lt-ltb, le-ltb}

@@ -1,6 +1,6 @@
 use Rattle.std.specs.Arc.{arc_value}
 use Rattle.std.specs.List.{remove}
-use Rattle.sfi_host.proofs.Prelude.{◌≡◌, ◌<◌, List, length, length-map, ap, ◌∙◌, arith, Sandbox, Sandboxes, seat_of, seats_of}
+use Rattle.sfi_host.proofs.Prelude.{◌<◌, List, length, length-map, ap, ◌∙◌, arith, Sandbox, Sandboxes, seat_of, seats_of}
 use Rattle.sfi_host.specs.Adding.{bytes_of}
 use Rattle.sfi_host.specs.Programs.{programs_of}
 use Rattle.sfi_host.proofs.Removed.{map_remove}
