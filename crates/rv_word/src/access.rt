@@ -1,4 +1,4 @@
-//! Loads and stores, told by one test for both.
+//! Loads and stores, found by one test for both.
 ghost use Rattle.std.specs.Prelude.{◌≡◌, IfSome, if◌then◌else◌, ◌==◌};
 ghost use Rattle.rv_word.specs.declared.instr.Instr.{Instr};
 ghost use Rattle.rv_word.specs.Outlines.{access, IsAccessOf};

@@ -2,7 +2,7 @@
 ghost use Rattle.std.specs.Prelude.{◌≡◌};
 ghost use Rattle.rv_word.specs.Spelling.{length_of};
 
-/// The length that an instruction's first halfword tells.
+/// The length of an instruction, which its first halfword determines.
 #[derive(Clone, Copy, PartialEq, Eq, Debug)]
 pub enum Length {
     /// 16 bits.

@@ -42,7 +42,7 @@ impl Move {
     }
 }
 
-/// What C is told for the answer of a move.
+/// What C gets for the answer of `move_sandbox`.
 fn move_said_of(answer: Result<(), MoveFault>) -> Move
     ensures { result ≡ move_said_of answer }
 {

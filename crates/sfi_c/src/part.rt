@@ -46,7 +46,7 @@ pub struct SfiGate {
     pub service: u32,
 }
 
-/// What C is told of a sandbox. `end` is where its bytes end, counted from the image's first.
+/// A sandbox as C gets it. `end` is where its bytes end, counted from the image's first.
 pub(crate) fn part_told(view: &PartView<'_>, end: usize) -> SfiPart
     requires { (p : Part) × (offset : ℕ) × IsViewOf view.now p × (end ≡ offset + length (part p)) }
     ensures { (p : Part) (offset : ℕ) → IsViewOf view.now p → end ≡ offset + length (part p)
@@ -68,7 +68,7 @@ pub(crate) fn part_told(view: &PartView<'_>, end: usize) -> SfiPart
     }
 }
 
-/// What C is told of a gate.
+/// A gate as C gets it.
 pub(crate) fn gate_told(gate: Gate) -> SfiGate
     ensures { result ≡ told_gate gate }
 {

@@ -191,7 +191,7 @@ serve input x c =
     else if c.service == take_service then take_message x c
     else replied c failed x
 
--- the same answer of the console, in which the caller's session goes on
+-- the answer of `serve` as the console's, in which the caller's session goes on
 abbrev pub serve_own : ConsoleState → Call → SessionState → Answer ConsoleState
 serve_own s c x = let a = serve s.input x c in
     record { reply = a.reply; host = with_session s c.caller a.host }

@@ -175,7 +175,7 @@ JoinedWorldSteps S =
     → IsMachine machine → IsSafeWorld w
     → (n : Sandboxes) × HaveRun machine plan w n (λ p. joined machine host p (slots_of w) s)
 
--- The same holds with a host that answers each call, or `limit` calls.
+-- What `JoinedWorldSteps` says, with a host that answers each call, or `limit` calls.
 abbrev pub JointWorldSteps : Type 0 → Type 0
 JointWorldSteps S =
     (machine : Machine) (answer : S → Call → Answer S) (plan : List PlanTurn) (w : Sandboxes) (s : S)

@@ -30,7 +30,7 @@ IsResolvedTo at names here i (Wide j) = Unit {0}
 IsResolvedTo at names here i (Short f) = Unit {0}
 IsResolvedTo at names here i s = resolved at names here s ≡ Some i
 
--- the same of slots that stand one after another, from `here` on
+-- each of these slots, which stand one after another from `here` on, is resolved to the instruction
 abbrev pub AreResolvedTo : Bases → List PlacedName → ℕ → Instr → List BundleSlot → Type 0
 AreResolvedTo at names here i [] = Unit {0}
 AreResolvedTo at names here i (x ∷ slots) =
@@ -56,8 +56,8 @@ abbrev pub RunsAs : List Place → ℕ → Format → List Item → Placement �
 RunsAs given number f items p q k x = (st : StandsTransparent f items p k x)
     × RunsAt given number p q x st.expanded (size_of st.before + 2 * st.nops)
 
--- The same where code is in words: the item's slots, as laid, stand directly after those of the items
--- before it.
+-- The item runs as its instruction, where code is in words: its slots, as laid, stand directly after
+-- those of the items before it.
 abbrev pub WordRunsAs : List Place → ℕ → List Item → Placement → Part → ℕ → Item → Type 0
 WordRunsAs given number items p q k x = (st : words.StandsTransparent items p k x)
     × RunsAt given number p q x st.own (size_of st.before)
@@ -87,7 +87,7 @@ pub record SandboxRunsAs (given : List Place) (number : ℕ) (s : Sandbox) (q : 
   pub each : (k : ℕ) (x : Item) → slice_get s.items k ≡ Some x
       → RunsAsIn given number s.format s.items placed q k x
 
--- the same of sandboxes in order, the first of which has that number
+-- each of these sandboxes in order, the first of which has that number, runs as its source says
 abbrev pub SandboxesRunAs : List Place → ℕ → List Sandbox → List Part → Type 0
 SandboxesRunAs given number [] parts = parts ≡ []
 SandboxesRunAs given number (s ∷ source) [] = ⊥

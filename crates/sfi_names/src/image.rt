@@ -11,7 +11,7 @@ use crate::fault::NamesFault;
 use crate::names::Names;
 use sfi_image::{LayoutFault, sandbox_of};
 
-/// Why an image tells no address of a name.
+/// Why an image has no address for a name.
 #[derive(Clone, Copy, Debug, PartialEq, Eq)]
 pub enum Missing {
     /// The bytes are no image.

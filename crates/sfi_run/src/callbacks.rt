@@ -14,7 +14,7 @@ use rv_mem::Pages;
 use sfi_host::World;
 use std::alloc::Global;
 
-// Calls a sandbox back, and tells the pc and the registers of its call.
+// Calls a sandbox back, and writes the pc and the registers of its call.
 fn call_back(
     world: &mut World<Pages>,
     sandbox: u32,
@@ -42,9 +42,9 @@ fn call_back(
     true
 }
 
-/// Calls back a sandbox that waits at a call: it is ready then at a bundle or word of its code, with
-/// these in a0 to a7, and with its other registers but x1 as they were. Writes to `kept` the pc and the
-/// registers of the call that waits.
+/// Calls back a sandbox that waits at a call: it is ready then at a bundle or word of its code,
+/// with these in a0 to a7, and with its other registers but x1 as they were. Writes to `kept` the
+/// pc and the registers of the call that waits.
 #[unsafe(no_mangle)]
 pub extern "C" fn sfi_run_call_back(
     alloc: Global,

@@ -73,7 +73,7 @@ pub extern "C" fn sfi_run_import(image: &[u8], sandbox: u32, name: &[u8], addres
     look_up(image, sandbox, Kind::Imports, name, address)
 }
 
-/// Writes the version of the host's interface that the table tells. Returns as [`sfi_run_export`]
+/// Writes the version of the host's interface that the table has. Returns as [`sfi_run_export`]
 /// does, and never `NoName`.
 #[unsafe(no_mangle)]
 pub extern "C" fn sfi_run_api(image: &[u8], sandbox: u32, version: &mut u32) -> u32

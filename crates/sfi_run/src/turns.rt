@@ -73,7 +73,7 @@ fn call(
     true
 }
 
-/// Runs a sandbox up to its next call, for at most `steps` steps, and tells how it stands then.
+/// Runs a sandbox up to its next call, for at most `steps` steps, and writes how it stands then.
 #[unsafe(no_mangle)]
 pub extern "C" fn sfi_run_turn(
     alloc: Global,
@@ -127,8 +127,9 @@ pub extern "C" fn sfi_run_until(
     event.kind
 }
 
-/// Calls a function of a sandbox that has stopped: enters it at a bundle or word of its code, with these
-/// in a0 to a7, and runs it up to its next call, for at most `steps` steps. Tells how it stands then.
+/// Calls a function of a sandbox that has stopped: enters it at a bundle or word of its code, with
+/// these in a0 to a7, and runs it up to its next call, for at most `steps` steps. Tells how it
+/// stands then.
 #[unsafe(no_mangle)]
 pub extern "C" fn sfi_run_call(
     alloc: Global,
@@ -183,8 +184,8 @@ pub extern "C" fn sfi_run_event(
     event.kind
 }
 
-/// Gives a sandbox that waits at a call its reply: a0 and a1. It goes on after the call, in its next
-/// turn.
+/// Gives a sandbox that waits at a call its reply: a0 and a1. It goes on after the call, in its
+/// next turn.
 #[unsafe(no_mangle)]
 pub extern "C" fn sfi_run_reply(
     alloc: Global,

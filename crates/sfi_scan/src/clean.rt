@@ -213,7 +213,7 @@ fn is_clean_half(
 }
 
 /// Whether the word at this place of the bundle is an instruction that breaks no rule there. Most
-/// compute, load or store, so these are told first.
+/// compute, load or store, so these are tested first.
 #[inline(always)]
 fn is_clean_word(
     place: &BundlePlace,

@@ -130,7 +130,7 @@ line_done p entries at i n g =
       left = g.left;
     })
 
--- the same line in `sfi_step`: an access that doesn't pass its test traps
+-- what the row of an instruction in `sfi_step` does: an access that doesn't pass its test traps
 abbrev pub row_step : Part → Instr → ℕ → State → Stepped
 row_step p (Load kind rd rs1 imm) n s =
     let at = offset_by (register s.hart rs1) imm in

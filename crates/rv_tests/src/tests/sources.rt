@@ -126,8 +126,9 @@ fn meaning(alloc: Global, text: &str) -> Result<String, AllocError> {
 // A line that begins a sandbox of 256 bytes.
 const SANDBOX: &str = ".sandbox 256\n";
 
-// Each statement once, after `.sandbox 256`. A row is `TEXT => MEANING`: the text's lines, with `; ` between them, and of each
-// sandbox, with ` & ` between them, `data's size | gates | names | items | bytes`, as `push_part` prints it.
+// Each statement once, after `.sandbox 256`. A row is `TEXT => MEANING`: the text's lines, with `;
+// ` between them, and of each sandbox, with ` & ` between them, `data's size | gates | names |
+// items | bytes`, as `push_part` prints it.
 const STATEMENTS: &str = "
  => 256 | | | |
   # no more than a comment é\r; ;  => 256 | | | |
@@ -174,7 +175,7 @@ j b; a: .sandbox 512; a: b: => 256 | | b=Unknown a=Code(1) | 2 jal x0, 0 to 0; |
 .gate gggggggggggggggggggggggggggggggggggggggggggggggggggggggggggggggg 3; xxxxxxxxxxxxxxxxxxxxxxxxxxxxxxxxxxxxxxxxxxxxxxxxxxxxxxxxxxxxxxxx: j xxxxxxxxxxxxxxxxxxxxxxxxxxxxxxxxxxxxxxxxxxxxxxxxxxxxxxxxxxxxxxxx; la a0, gggggggggggggggggggggggggggggggggggggggggggggggggggggggggggggggg => 256 | 0=3 | gggggggggggggggggggggggggggggggggggggggggggggggggggggggggggggggg=Gate(0) xxxxxxxxxxxxxxxxxxxxxxxxxxxxxxxxxxxxxxxxxxxxxxxxxxxxxxxxxxxxxxxx=Code(0) | 3L jal x0, 0 to 1; 4 high x10 of 0; 4 low x10 of 0; |
 ";
 
-// The same after `.format words` and `.sandbox 256`: a sandbox that can be moved.
+// Statements after `.format words` and `.sandbox 256`: a sandbox that can be moved.
 const MOVABLE: &str = "
 .movable => 256 movable | | | |
 .gate y 3; .movable; la a0, d; .data; d:.zero 0 => 256 movable | 0=3 | y=Gate(0) d=Data(0) | 5 high x10 of 1; 5 low x10 of 1; 5 base x10 of 1; |
@@ -182,8 +183,8 @@ const MOVABLE: &str = "
 .movable; .sandbox 256; la a0, x => 256 movable | | | | & 256 | | x=Unknown | 5 high x10 of 0; 5 low x10 of 0; |
 ";
 
-// Faults: each line has one, and the texts that have it, with ` | ` between them. These come after `.sandbox 256`; the names
-// of 7 have 65 letters.
+// Faults: each line has one, and the texts that have it, with ` | ` between them. These come after
+// `.sandbox 256`; the names of 7 have 65 letters.
 const FAULTS: &str = "
 1 Word line 2: frob a0 | NOP | .foo: nop | é | nop 'x | add a0, -x, a0 | x: --5 | nop : x
 1 Word line 3: x: add a0, a0, a0 # y; $ | .option rvc; frob

@@ -16,7 +16,7 @@ impl<M: Memory> World<M> {
     /// data stay, and its steps are counted on. `false` where it waits at no call, no bundle or
     /// word of its code begins at `pc`, or a reserved or typed register holds what it mustn't, and
     /// then nothing changed. Once the callback has stopped, `set_registers` with the pc and
-    /// registers that `cpu` told before it takes the sandbox back to its call. A callback may call,
+    /// registers that `cpu` gave before it takes the sandbox back to its call. A callback may call,
     /// too, and be called back.
     pub fn call_back(&mut self, i: u32, pc: u32, arguments: &[u32; 8]) -> bool
         ensures may { IsTrue result ↔ MayCallBackAt (slots_of self.old) i pc arguments.now }

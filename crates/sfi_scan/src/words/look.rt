@@ -1,6 +1,6 @@
 //! A first look at a word of code in words: whether it breaks no rule, and what is owed after it.
 //! It goes by the word's bits, and decodes only writes of typed registers outside data pairs, and
-//! what follows a step, so it is quick. A word of which it tells nothing may still break no rule.
+//! what follows a step, so it is quick. A word about which it says nothing may still break no rule.
 ghost use Rattle.std.specs.Prelude.{◌≡◌, ◌+◌, ◌<◌, ◌==◌, ◌&&◌, ◌||◌, not, ℕ, true, IfSome, length, []};
 ghost use Rattle.std.specs.Bool.{OnTrue};
 ghost use Rattle.rv_word.specs.Spelling.{bits};
