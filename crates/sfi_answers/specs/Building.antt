@@ -37,24 +37,24 @@ line_of_entry e =
     ++ codes " " ++ e.name
     ++ codes " at=" ++ hex_digits 8 e.address ++ line_end
 
--- the line of a gate or label of the sandbox of that number, and nothing of one of another
+-- the line of a gate or label of sandbox `sandbox`, and nothing of one of another
 abbrev pub line_in : ℕ → MapEntry → List ℕ
 line_in sandbox e = if e.sandbox == sandbox then line_of_entry e else []
 
--- the lines of the gates and labels of the sandbox of that number, in their order
+-- the lines of the gates and labels of sandbox `sandbox`, in their order
 abbrev pub lines_in : ℕ → List MapEntry → List ℕ
 lines_in sandbox entries = flat_map (line_in sandbox) entries
 
 -- ---- the map of an image
 
--- what a map says of first data bytes: what the table says in which they end; of a table in an image of
--- the first format nothing
+-- what a map says of first data bytes: what the table says in which they end; of a table in an
+-- image of the first format nothing
 abbrev pub IsTableText : Format → List ℕ → List ℕ → Type 0
 IsTableText Sfi1 init text = text ≡ []
 IsTableText Sfi2 init text = IsNamesText init text
 IsTableText Sfiw init text = IsNamesText init text
 
--- the map of parts, the first of which is that of the sandbox of that number: of each the lines of its
+-- the map of parts, the first of which is that of sandbox `sandbox`: of each the lines of its
 -- gates and labels, and then what is said of its first data bytes
 abbrev pub IsMapFrom : ℕ → List MapEntry → List Part → List ℕ → Type 0
 IsMapFrom sandbox entries [] text = text ≡ []

@@ -19,11 +19,11 @@ pub record SaysMoved (raw : Bool) (number : ℕ) (to : Place) (bytes : List ℕ)
   pub status_is : status ≡ 0
   pub text_is : text ≡ image_output raw now
 
--- the image has no sandbox of that number, or one for which the place is wrong
+-- the image has no sandbox `number`, or one for which the place is wrong
 abbrev pub CannotMove : ℕ → Place → List ℕ → Type 0
 CannotMove number to bytes = IsBeyond bytes number ⊎ IsWrongPlace bytes number to
 
--- `move`, of the sandbox of that number to that place. The verdict on an image with findings goes
+-- `move`, of sandbox `number` to that place. The verdict on an image with findings goes
 -- before what is wrong with the number or the place
 abbrev pub move : Bool → ℕ → Place → Meaning
 move raw number to = record {

@@ -65,14 +65,14 @@ code_after p offset = offset + fields_bytes + gate_bytes * length p.gates
 abbrev pub told_at : Part → ℕ → SfiPart
 told_at p offset = told_part p (code_after p offset) (code_after p offset + length p.code)
 
--- C is told `t` of sandbox `number` of an image with these bytes and sandboxes: at its offsets lie the
--- sandbox's code and first data bytes
+-- C is told `t` of sandbox `number` of an image with these bytes and sandboxes: at its offsets lie
+-- the sandbox's code and first data bytes
 pub record Tells (bytes : List ℕ) (ps : List Part) (number : ℕ) (p : Part) (t : SfiPart) : Type 0 where
   pub told_is : t ≡ told_at p (sandbox_offset ps number)
   pub code : LiesAt bytes t.code_offset p.code
   pub init : LiesAt bytes t.init_offset p.init
 
--- the bytes are an image, and C is told this of its sandbox of that number
+-- the bytes are an image, and C is told this of its sandbox `number`
 abbrev pub IsPartOf : List ℕ → ℕ → SfiPart → Type 0
 IsPartOf bytes number t =
     (p : Part) × (h : IsSandboxOf bytes number p) × Tells bytes h.parts number p t
@@ -83,7 +83,7 @@ IsPartOf bytes number t =
 abbrev pub told_gate : Gate → SfiGate
 told_gate g = record { address = g.address; service = g.service }
 
--- the bytes are an image, and this is the gate of that index of its sandbox of that number
+-- the bytes are an image, and this is the gate of that index of its sandbox `number`
 abbrev pub IsGateOf : List ℕ → ℕ → ℕ → SfiGate → Type 0
 IsGateOf bytes number index t =
     (p : Part) × (g : Gate) × IsSandboxOf bytes number p × (slice_get p.gates index ≡ Some g)
@@ -99,8 +99,8 @@ IsBeyondGates bytes number index =
 abbrev pub with_gates : List Gate → List SfiGate → List SfiGate
 with_gates gs array = with_front told_gate gs array
 
--- the bytes are an image, and this is what the array became when the gates of its sandbox of that
--- number were written to it
+-- the bytes are an image, and this is what the array became when the gates of its sandbox `number`
+-- were written to it
 abbrev pub AreGatesOf : List ℕ → ℕ → List SfiGate → List SfiGate → Type 0
 AreGatesOf bytes number before after =
     (p : Part) × IsSandboxOf bytes number p × (after ≡ with_gates p.gates before)

@@ -18,11 +18,11 @@ use Rattle.sfi_check.specs.declared.for_c.SfiFinding.{SfiFinding}
 
 -- ---- what a look-up says, and of which bytes
 
--- the bytes are an image with a sandbox of that number
+-- the bytes are an image with a sandbox `number`
 abbrev pub HasPart : List ℕ → ℕ → Type 0
 HasPart bytes number = (p : Part) × IsSandboxOf bytes number p
 
--- the bytes are an image with a sandbox of that number, which has a gate of that index
+-- the bytes are an image with a sandbox `number`, which has a gate of that index
 abbrev pub HasGate : List ℕ → ℕ → ℕ → Type 0
 HasGate bytes number index = (p : Part) × IsSandboxOf bytes number p × (index < length p.gates)
 

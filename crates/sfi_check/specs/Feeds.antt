@@ -21,12 +21,12 @@ use Rattle.sfi_check.specs.declared.feed.Feed.{Feed}
 
 -- ==== What was found in the prefix of an image, and where a reader of it stands.
 
--- what is owed after the code so far of a sandbox: what the tally keeps, and nothing before the first
--- bundle
+-- what is owed after the code so far of a sandbox: what the tally keeps, and nothing before the
+-- first bundle
 abbrev pub owed_after : List ℕ → Owed → Owed
 owed_after code kept = cond (length code == 0) Nothing kept
 
--- the findings of the code so far of the sandbox of that number, and what is owed after it,
+-- the findings of the code so far of sandbox `sandbox`, and what is owed after it,
 -- whatever its other code and its data are
 pub record AreFindingsSoFar (sandbox : ℕ) (f : Fields) (gs : List Gate) (code : List ℕ)
     (found : List Finding) (kept : Owed) : Type 0 where
@@ -117,8 +117,8 @@ pub record IsHeld (holds : List Finding → Type 0) (f : Feed) (bytes : List ℕ
   pub rests : Rests f.reader f.count
   pub long : length f.held ≡ 64
 
--- the feed was fed these bytes and has met this fault, or none: with none it keeps what the bytes are;
--- with one the bytes have that fault, whatever follows them
+-- the feed was fed these bytes and has met this fault, or none: with none it keeps what the bytes
+-- are; with one the bytes have that fault, whatever follows them
 abbrev pub IsFedBy : (List Finding → Type 0) → Option LayoutFault → Feed → List ℕ → Type 0
 IsFedBy holds None f bytes = IsHeld holds f bytes
 IsFedBy holds (Some k) f bytes =

@@ -65,7 +65,7 @@ sandbox_stride = 0x01000000
 abbrev pub data_offset : ℕ
 data_offset = 0x00800000
 
--- where the sandbox of that number lies if nobody says another place
+-- where sandbox `number` lies if nobody says another place
 abbrev pub usual : ℕ → Place
 usual number =
     let code = sandbox_stride * (number + 1) in
@@ -76,6 +76,6 @@ abbrev pub or_usual : ℕ → Option Place → Place
 or_usual number (Some place) = place
 or_usual number None = usual number
 
--- where the sandbox of that number lies: at the place that is given for it, or else at its usual one
+-- where sandbox `number` lies: at the place that is given for it, or else at its usual one
 abbrev pub place_of : List Place → ℕ → Place
 place_of given number = or_usual number (slice_get given number)

@@ -54,7 +54,7 @@ is_own_of (s ∷ seats) a = is_own s.bounds a || is_own_of seats a
 abbrev pub bytes_of : List Seat → Bytes → Bytes
 bytes_of seats m = retain_keys m (is_own_of seats)
 
--- the world without the sandbox of that number: each later one has a number less by one then, and of
+-- the world without sandbox `i`: each later one has a number less by one then, and of
 -- the bytes those of the others are left; the same where there is no such sandbox
 abbrev pub without_of : Sandboxes → ℕ → Option Seat → Sandboxes
 without_of w i None = w

@@ -51,7 +51,7 @@ abbrev pub stopped_seat : Seat → Seat
 stopped_seat s =
     record { bounds = s.bounds; hart = s.hart; status = Stopped; steps = s.steps }
 
--- the world in which the sandbox of that number is stopped; the world itself where there is no such
+-- the world in which sandbox `i` is stopped; the world itself where there is no such
 -- sandbox
 abbrev pub with_stop_of : Sandboxes → ℕ → Option Seat → Sandboxes
 with_stop_of w i None = w
@@ -96,15 +96,15 @@ pub record HoldsTypedWords (b : Bounds) (h : Hart) : Type 0 where
   pub aligned : register h code_register % word_size ≡ 0
   pub offset : register h offset_register < b.data.size
 
--- The hart is as at an entry: at a unit of the code, with the reserved registers as they must be, and
--- the typed ones of its format. All else is arbitrary.
+-- The hart is as at an entry: at a unit of the code, with the reserved registers as they must be,
+-- and the typed ones of its format. All else is arbitrary.
 pub record IsEntryHart (b : Bounds) (h : Hart) : Type 0 where
   pub start : IsUnitAt b h.pc
   pub reserved : HoldsReserved b h
   pub stack : has_stack b.format ≡ true → Holds b.data (register h stack_pointer)
   pub words : has_words b.format ≡ true → HoldsTypedWords b h
 
--- there is a sandbox of that number, and the hart is as at an entry of it
+-- there is a sandbox `i`, and the hart is as at an entry of it
 pub record MaySetAt (slots : List Slot) (i : ℕ) (h : Hart) : Type 0 where
   pub slot : Slot
   pub there : slice_get slots i ≡ Some slot
@@ -116,7 +116,7 @@ pub record MaySetAt (slots : List Slot) (i : ℕ) (h : Hart) : Type 0 where
 abbrev pub set_seat : Seat → Hart → Seat
 set_seat s h = record { bounds = s.bounds; hart = h; status = Ready; steps = s.steps }
 
--- the world in which the sandbox of that number has this pc and these registers; the world itself
+-- the world in which sandbox `i` has this pc and these registers; the world itself
 -- where there is no such sandbox
 abbrev pub with_hart_of : Sandboxes → ℕ → Hart → Option Seat → Sandboxes
 with_hart_of w i h None = w
@@ -136,7 +136,7 @@ called_back_hart b h pc arguments =
     (with_register (hart_of pc h.registers) return_register (exit_gate b.gates))
     a0_register arguments
 
--- there is a sandbox of that number, it waits at a call, and with this pc and these arguments it is
+-- there is a sandbox `i`, it waits at a call, and with this pc and these arguments it is
 -- as at an entry
 pub record MayCallBackAt (slots : List Slot) (i pc : ℕ) (arguments : List ℕ) : Type 0 where
   pub slot : Slot
@@ -156,9 +156,9 @@ with_callback w i pc arguments = with_callback_of w i pc arguments (slice_get w.
 
 -- ---- what a callback is to the caller
 
--- Whatever a world did to data meanwhile is a change by others to a sandbox of it that has its pc and
--- registers back. So to a sandbox that called, its host's callbacks are a change, and then comes the
--- reply.
+-- Whatever a world did to data meanwhile is a change by others to a sandbox of it that has its pc
+-- and registers back. So to a sandbox that called, its host's callbacks are a change, and then
+-- comes the reply.
 abbrev pub PutBackIsChange : Type 0
 PutBackIsChange =
     (w : Sandboxes) (n : Bytes) (i : ℕ) (s : Seat) (p : Part) → IsSafeWorld w

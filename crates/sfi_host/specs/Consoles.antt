@@ -91,7 +91,8 @@ replied c a0 s =
 
 -- ---- put: the handed bytes go to the end of the caller's output
 
--- the bytes that a put appends; None where they can't be handed over, or the output would be too long
+-- the bytes that a put appends; None where they can't be handed over, or the output would be too
+-- long
 abbrev pub appended : SessionState → Call → Option (List ℕ)
 appended x c = if nat_le (length x.output + c.a1) most_output then handed c else None
 
@@ -143,7 +144,7 @@ message_of c = record { sender = c.caller; word = c.a1 }
 abbrev pub with_message : SessionState → Message → SessionState
 with_message x m = record x { mailbox = x.mailbox ++ m ∷ [] }
 
--- the console with this session of the sandbox of that number
+-- the console with this session of sandbox `i`
 abbrev pub with_session : ConsoleState → ℕ → SessionState → ConsoleState
 with_session s i x = record s { sessions = slice_set s.sessions i x }
 

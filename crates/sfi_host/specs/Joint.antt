@@ -38,7 +38,7 @@ abbrev pub service_at : List Gate → ℕ → ℕ
 service_at [] at = 0
 service_at (g ∷ gates) at = cond (g.address == at) g.service (service_at gates at)
 
--- what the sandbox of that number asks, with its a0 and a1
+-- what sandbox `i` asks, with its a0 and a1
 abbrev pub call_of : ℕ → Slot → Call
 call_of i slot = record {
   caller = i;
@@ -204,7 +204,7 @@ joined_after_turn earlier j = record {
   is_ended = j.is_ended;
 }
 
--- a turn of the sandbox of that number, and what follows it if the run goes on after it
+-- a turn of sandbox `i`, and what follows it if the run goes on after it
 abbrev pub and_plan :
     {S : Type 0} → StepResult → ℕ → Moved S → List Slot → (List Slot → S → Joined S) → Joined S
 and_plan Continue i m slots rest =
@@ -242,7 +242,7 @@ joint machine answer plan slots s limit =
 
 -- ==== A call at which a host may refuse for want of memory.
 
--- the sandbox of that number is ready and stands at a call,
+-- sandbox `number` is ready and stands at a call,
 -- at which the host's test allows a refusal
 pub record IsAtRefusedCall {S : Type 0} (machine : Machine) (may_refuse : S → Call → Bool)
     (number : ℕ) (slot : Slot) (host : S) : Type 0 where

@@ -30,7 +30,7 @@ pub record MayEnter (b : Bounds) (status : Status) (pc : ℕ) : Type 0 where
   pub held : Holds b.code pc
   pub aligned : pc % unit b.format ≡ 0
 
--- there is a sandbox of that number, and it may be entered at pc
+-- there is a sandbox `i`, and it may be entered at pc
 pub record MayEnterAt (slots : List Slot) (i pc : ℕ) : Type 0 where
   pub slot : Slot
   pub there : slice_get slots i ≡ Some slot
@@ -97,7 +97,7 @@ entered_seat s pc arguments = record {
   steps = s.steps;
 }
 
--- the world in which the sandbox of that number is entered; the world itself where there is no such
+-- the world in which sandbox `i` is entered; the world itself where there is no such
 -- sandbox
 abbrev pub with_entry_of : Sandboxes → ℕ → ℕ → List ℕ → Option Seat → Sandboxes
 with_entry_of w i pc arguments None = w
@@ -107,7 +107,7 @@ with_entry_of w i pc arguments (Some s) =
 abbrev pub with_entry : Sandboxes → ℕ → ℕ → List ℕ → Sandboxes
 with_entry w i pc arguments = with_entry_of w i pc arguments (slice_get w.seats i)
 
--- the sandbox of that number is at an entry of each part whose code it has
+-- sandbox `i` is at an entry of each part whose code it has
 abbrev pub IsAtEntry : Sandboxes → ℕ → Type 0
 IsAtEntry w i =
     (s : Seat) (p : Part) → slice_get w.seats i ≡ Some s → s.bounds ≡ bounds_of p
@@ -182,7 +182,7 @@ reset_seat s = record {
   steps = 0;
 }
 
--- the world in which the sandbox of that number is so and has its first data; the same where there is
+-- the world in which sandbox `i` is so and has its first data; the same where there is
 -- none
 abbrev pub with_reset_of : Sandboxes → ℕ → Option Seat → Sandboxes
 with_reset_of w i None = w
@@ -196,9 +196,9 @@ with_reset w i = with_reset_of w i (slice_get w.seats i)
 
 -- ---- what it is then
 
--- It is what `World::load` makes of a part of an image, of which the sandbox still has the code: the
--- same registers, status, count of steps, code and data. What is said of its runs depends on nothing
--- else.
+-- It is what `World::load` makes of a part of an image, of which the sandbox still has the code:
+-- the same registers, status, count of steps, code and data. What is said of its runs depends on
+-- nothing else.
 abbrev pub ResetIsFirst : Type 0
 ResetIsFirst =
     (w : Sandboxes) (i k : ℕ) (s : Seat) (ps : List Part) (p : Part) → IsSafeWorld w

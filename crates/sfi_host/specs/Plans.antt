@@ -53,7 +53,7 @@ replies_to i all = map (λ g. g.reply) (filter (λ g. g.to == i) all)
 abbrev pub solo : Machine → ℕ → Slot → List Turn → List Reply → Joined (List Reply)
 solo machine i slot plan replies = joined machine replay (turns_of i plan) (slot ∷ []) replies
 
--- After a joint run the sandbox of that number, which was this slot, is what it is alone,
+-- After a joint run sandbox `i`, which was this slot, is what it is alone,
 -- after the turns that were begun and with the replies that it got.
 abbrev pub IsSolo : {S : Type 0} → Machine → List Turn → ℕ → Slot → Joined S → Type 0
 IsSolo machine plan i slot all =

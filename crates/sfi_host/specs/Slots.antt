@@ -84,10 +84,10 @@ one_more n = min (n + 1) (2 ^ 64 - 1)
 
 -- ==== What else may be asked of a world: a sandbox's pc and registers, and its data region.
 
--- the pc and registers of the sandbox of that number
+-- the pc and registers of sandbox `i`
 abbrev pub hart_at : List Slot → ℕ → Option Hart
 hart_at slots i = option_map (λ (s : Slot). s.hart) (slice_get slots i)
 
--- the data region of the sandbox of that number
+-- the data region of sandbox `i`
 abbrev pub data_region_at : List Slot → ℕ → Option Span
 data_region_at slots i = option_map (λ (s : Slot). s.bounds.data) (slice_get slots i)

@@ -30,7 +30,7 @@ to_call machine plan slots = joined machine silent plan slots tt
 
 -- ---- a sandbox that waits
 
--- the sandbox of that number is ready and stands at a call
+-- sandbox `i` is ready and stands at a call
 pub record IsAtCall (slots : List Slot) (i : ℕ) : Type 0 where
   pub slot : Slot
   pub there : slice_get slots i ≡ Some slot
@@ -38,12 +38,12 @@ pub record IsAtCall (slots : List Slot) (i : ℕ) : Type 0 where
   pub calls :
       (machine : Machine) → IsMachine machine → (machine (state_of slot)).outcome ≡ Calls
 
--- the sandbox of that number is ready and stands at a call, which asks for this
+-- sandbox `i` is ready and stands at a call, which asks for this
 pub record Waits (slots : List Slot) (i : ℕ) (r : Request) : Type 0 where
   pub at : IsAtCall slots i
   pub asks : call_by r (bytes_in at.slot.bounds.data at.slot.bytes) ≡ call_of i at.slot
 
--- what the sandbox of that number asks is the service of one of its gates, which is told by its
+-- what sandbox `i` asks is the service of one of its gates, which is told by its
 -- place and at whose address it stands; no service has a higher number than `service_most`
 pub record AsksAtGate (slots : List Slot) (i : ℕ) (r : Request) : Type 0 where
   pub slot : Slot
@@ -97,8 +97,8 @@ ReplyIsAnswer S =
     → IsJoint machine answer (record { sandbox = i; steps = 1 } ∷ []) slots s
     (slice_set slots i (replied waits.at.slot r)) after
 
--- What is written to a sandbox's data before it gets its reply is a part of the reply: together they
--- leave what a reply with these data leaves where nothing was written.
+-- What is written to a sandbox's data before it gets its reply is a part of the reply: together
+-- they leave what a reply with these data leaves where nothing was written.
 abbrev pub WritesAreReplies : Type 0
 WritesAreReplies =
     (w n : Sandboxes) (i : ℕ) (s : Seat) (r : Later) → IsSafeWorld w → IsSafeWorld n
@@ -128,7 +128,8 @@ TurnsAreCounted S =
     × (new.steps ≤ old.steps + t.steps)
     × (old.status ≢ Ready → new ≡ old)
 
--- a turn up to the next call leaves a sandbox that waits at a call as it is, and all other sandboxes
+-- a turn up to the next call leaves a sandbox that waits at a call as it is, and all other
+-- sandboxes
 abbrev pub WaitsThroughTurns : Type 0
 WaitsThroughTurns =
     (machine : Machine) → IsMachine machine → (t : Turn) (slots : List Slot)
@@ -144,7 +145,7 @@ PlansStopNone S =
 
 -- ==== A turn that ends at one of some addresses, too.
 
--- the sandbox of that number stands at one of these addresses
+-- sandbox `i` stands at one of these addresses
 pub record StandsAt (slots : List Slot) (i : ℕ) (stops : List ℕ) : Type 0 where
   pub slot : Slot
   pub there : slice_get slots i ≡ Some slot

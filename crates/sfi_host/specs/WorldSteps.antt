@@ -22,7 +22,7 @@ use Rattle.sfi_host.specs.Worlds.{Seat, Sandboxes, slot_of, slots_of, state_in, 
 
 -- ---- world steps
 
--- One step of `moved`, with these replies given, one or none: the sandbox of that number gets them
+-- One step of `moved`, with these replies given, one or none: sandbox `i` gets them
 -- all in it, and then it is the slot t. A call that isn't answered is no step: so the ecall at
 -- which a plan ended is no world step, though control reached the host there.
 pub record StepsAlone (machine : Machine) (i : ℕ) (s : Slot) (replies : List Reply)
@@ -79,7 +79,7 @@ own_turns (Exited n) turn later = turn ∷ []
 own_turns (Trapped cause at) turn later = turn ∷ []
 own_turns Stopped turn later = turn ∷ []
 
--- To the sandbox of that number, which has this seat in this memory, its own world steps are its
+-- To sandbox `i`, which has this seat in this memory, its own world steps are its
 -- turns, and each world step of another is a change by others.
 abbrev pub turns_to : Machine → ℕ → Bytes → Seat → List WorldStep → List Turn
 turns_to machine i m s [] = []

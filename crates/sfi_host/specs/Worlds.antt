@@ -100,11 +100,11 @@ state_in m s = record { hart = s.hart; memory = m }
 
 -- ---- what may be asked of a world
 
--- what the sandbox of that number may still do
+-- what sandbox `i` may still do
 abbrev pub status_at : List Slot → ℕ → Option Status
 status_at slots i = option_map (λ (s : Slot). s.status) (slice_get slots i)
 
--- how many steps the sandbox of that number did
+-- how many steps sandbox `i` did
 abbrev pub steps_at : List Slot → ℕ → Option ℕ
 steps_at slots i = option_map (λ (s : Slot). s.steps) (slice_get slots i)
 
@@ -153,7 +153,7 @@ StaysOutsideData w new =
     (a : ℕ) → ((i : ℕ) (s : Seat) → slice_get w.seats i ≡ Some s → Holds s.bounds.data a → ⊥)
     → byte_at new a ≡ byte_at w.bytes a
 
--- the sandbox of that number has that status, and stopped by itself, if it has exited or trapped
+-- sandbox `i` has that status, and stopped by itself, if it has exited or trapped
 pub record IsStopOf (w : Sandboxes) (i : ℕ) (status : Status) : Type 0 where
   pub seat : Seat
   pub there : slice_get w.seats i ≡ Some seat

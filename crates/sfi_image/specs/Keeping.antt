@@ -28,7 +28,8 @@ pub record KeepsHead (r : LayoutReader) (format : Format) (n : ℕ) (ps : List P
   pub begun : r.begun ≡ length ps
   pub spans : r.spans ≡ spans ps
 
--- the reader keeps what follows from these sandboxes, the fields of the next one and its gates so far
+-- the reader keeps what follows from these sandboxes, the fields of the next one and its gates so
+-- far
 pub record KeepsFields (r : LayoutReader) (n : ℕ) (ps : List Part) (f : Fields)
     (gs : List Gate) : Type 0 where
   pub count : r.count ≡ n
@@ -152,13 +153,13 @@ pub record IsViewOf (v : PartView) (p : Part) : Type 0 where
 
 -- ==== The sandboxes of an image by their numbers, and where one lies in its bytes.
 
--- the bytes are an image, and this is its sandbox of that number
+-- the bytes are an image, and this is its sandbox `number`
 pub record IsSandboxOf (bytes : List ℕ) (number : ℕ) (p : Part) : Type 0 where
   pub parts : List Part
   pub image : IsImage bytes parts
   pub sandbox_is : slice_get parts number ≡ Some p
 
--- the bytes are an image with no sandbox of that number
+-- the bytes are an image with no sandbox `number`
 abbrev pub IsBeyond : List ℕ → ℕ → Type 0
 IsBeyond bytes number = (ps : List Part) × IsImage bytes ps × (length ps ≤ number)
 
@@ -169,7 +170,7 @@ pub record LiesAt (bytes : List ℕ) (offset : ℕ) (piece : List ℕ) : Type 0 
   pub bytes_are : bytes ≡ before ++ (piece ++ after)
   pub offset_is : offset ≡ length before
 
--- where the sandbox of that number begins in the bytes of an image with these sandboxes: after the
+-- where sandbox `number` begins in the bytes of an image with these sandboxes: after the
 -- magic, the count and the sandboxes before it
 abbrev pub sandbox_offset : List Part → ℕ → ℕ
 sandbox_offset ps number = magic_bytes + number_bytes + length (flat_map part (take number ps))

@@ -43,8 +43,8 @@ IsOutOfReach here i target line f =
     (to : ℕ) × (target ≡ Some to) × (¬ InRange (with_offset (pos to -ℤ pos here) i))
     × (f ≡ BranchReach line)
 
--- the fault of the slot that stands at `here`; no jump leads to a name that is neither a gate's nor a
--- place's in the code, so that it counts as unknown
+-- the fault of the slot that stands at `here`; no jump leads to a name that is neither a gate's nor
+-- a place's in the code, so that it counts as unknown
 abbrev pub HasSlotFault : Bases → List PlacedName → ℕ → BundleSlot → LinkFault → Type 0
 HasSlotFault at names here (Wide i) f = ⊥
 HasSlotFault at names here (Short form) f = ⊥
@@ -69,7 +69,7 @@ IsSlotFault at names here (s ∷ slots) f =
 abbrev pub IsTooLarge : Placement → Type 0
 IsTooLarge p = (size : ℕ) → HasRoom p.format (needed p) size → ⊥
 
--- the sandbox of that number may lie at its place: no two of its own two spans and of the spans
+-- sandbox `number` may lie at its place: no two of its own two spans and of the spans
 -- `before` meet
 pub record MayLie (given : List Place) (number : ℕ) (p : Placement) (before : List Span)
     : Type 0 where
@@ -87,9 +87,9 @@ HasPartFault given number p before f =
     ⊎ (MayLie given number p before × IsSlotFault (bases_of given number p) p.names
     (bases_of given number p).start (slots_of p.bundles) f)
 
--- the first of the sandboxes that has a fault has this one; those before it can be linked, and no two
--- of their spans meet. The first of all has that number, and comes after others in the list, which
--- have those spans.
+-- the first of the sandboxes that has a fault has this one; those before it can be linked, and no
+-- two of their spans meet. The first of all has that number, and comes after others in the list,
+-- which have those spans.
 abbrev pub IsPartFault : List Place → ℕ → List Span → List Placement → LinkFault → Type 0
 IsPartFault given number before [] f = ⊥
 IsPartFault given number before (p ∷ placed) f =

@@ -26,7 +26,7 @@ abbrev pub of_kind : Kind → Table → List Named
 of_kind Exports t = t.exports
 of_kind Imports t = t.imports
 
--- the bytes are an image, whose sandbox of that number has these first data bytes
+-- the bytes are an image, whose sandbox `number` has these first data bytes
 pub record IsInitOf (image : List ℕ) (number : ℕ) (init : List ℕ) : Type 0 where
   pub sandbox : Part
   pub sandbox_is : IsSandboxOf image number sandbox
@@ -36,12 +36,12 @@ pub record IsInitOf (image : List ℕ) (number : ℕ) (init : List ℕ) : Type 0
 abbrev pub IsNoImage : List ℕ → Type 0
 IsNoImage image = (k : LayoutFault) × IsFault image k
 
--- the first data bytes of the image's sandbox of that number have this fault
+-- the first data bytes of the image's sandbox `number` have this fault
 abbrev pub HasFault : List ℕ → ℕ → NamesFault → Type 0
 HasFault image number fault =
     (init : List ℕ) × IsInitOf image number init × names.IsFault init fault
 
--- the bytes are an image, and the first data bytes of its sandbox of that number end in the table
+-- the bytes are an image, and the first data bytes of its sandbox `number` end in the table
 pub record HasTableOf (image : List ℕ) (number : ℕ) (t : Table) : Type 0 where
   pub init : List ℕ
   pub init_is : IsInitOf image number init

@@ -5,7 +5,7 @@ use Rattle.sfi_names.specs.declared.image.Missing.TheVariants.{NoImage, NoSandbo
 use Rattle.sfi_image.specs.Keeping.{IsBeyond}
 use Rattle.sfi_names.specs.Images.{IsNoImage}
 
--- why there are no first data bytes of a sandbox of that number
+-- why there are no first data bytes of a sandbox `number`
 abbrev pub HasNoInit : List ℕ → ℕ → Missing → Type 0
 HasNoInit image number NoImage = IsNoImage image
 HasNoInit image number NoSandbox = IsBeyond image number

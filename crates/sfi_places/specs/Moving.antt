@@ -26,8 +26,8 @@ moved_gate from to g = record g { address = moved_address from to g.address }
 abbrev pub moved_finding : ℕ → ℕ → Finding → Finding
 moved_finding from to f = record f { address = moved_address from to f.address }
 
--- the sandbox with its code and its data at these bases: the start and the gates move with the code, and
--- no byte of the code or of the first data changes
+-- the sandbox with its code and its data at these bases: the start and the gates move with the
+-- code, and no byte of the code or of the first data changes
 abbrev pub moved : ℕ → ℕ → Part → Part
 moved code data_at p = record p {
   code_base = code;
@@ -36,7 +36,8 @@ moved code data_at p = record p {
   gates = map (moved_gate p.code_base code) p.gates;
 }
 
--- what is found of a right sandbox is found of it at each other right place, as far from the code's base
+-- what is found of a right sandbox is found of it at each other right place, as far from the code's
+-- base
 abbrev pub FindingsArePlaceless : Type 0
 FindingsArePlaceless =
     (sandbox code data_at : ℕ) (p : Part) (found : List Finding) → IsRightPart p
@@ -51,7 +52,8 @@ CleanIsPlaceless =
 
 -- ---- of the layout's tests
 
--- of a right sandbox only the tests Code, Data and GuardRoom, and Overlap, can fail at another place
+-- of a right sandbox only the tests Code, Data and GuardRoom, and Overlap, can fail at another
+-- place
 abbrev pub MovedIsRight : Type 0
 MovedIsRight =
     (code data_at : ℕ) (p : Part) → IsRightPart p → IsWord code
@@ -86,12 +88,12 @@ moved_one number to [] = []
 moved_one zero to (p ∷ ps) = moved to.code_base to.data_base p ∷ ps
 moved_one (suc number) to (p ∷ ps) = p ∷ moved_one number to ps
 
--- the bytes were an image with a sandbox of that number, and now are the image with it at that place
+-- the bytes were an image with a sandbox `number`, and now are the image with it at that place
 abbrev pub IsMoved : List ℕ → ℕ → Place → List ℕ → Type 0
 IsMoved bytes number to now =
     (ps : List Part) × IsImage bytes ps × (number < length ps) × IsImage now (moved_one number to ps)
 
--- the bytes are an image with a sandbox of that number, and with it at that place the layout isn't right
+-- the bytes are an image with a sandbox `number`, and with it at that place the layout isn't right
 abbrev pub IsWrongPlace : List ℕ → ℕ → Place → Type 0
 IsWrongPlace bytes number to =
     (ps : List Part) × IsImage bytes ps × (number < length ps)
@@ -104,7 +106,8 @@ IsMoveFault bytes number to (NoImage k) = IsFault bytes k
 IsMoveFault bytes number to NoSandbox = IsBeyond bytes number
 IsMoveFault bytes number to NoPlace = IsWrongPlace bytes number to
 
--- of two images that differ by the place of a sandbox alone, one is accepted exactly if the other is
+-- of two images that differ by the place of a sandbox alone, one is accepted exactly if the other
+-- is
 abbrev pub OneMoves : Type 0
 OneMoves =
     (ps : List Part) (number : ℕ) (to : Place) → number < length ps

@@ -137,7 +137,7 @@ pub record IsSandboxListing (sandbox : ℕ) (p : Part) (text : List ℕ) : Type 
 
 -- ---- of an image
 
--- the listing of parts, the first of which is that of the sandbox of that number
+-- the listing of parts, the first of which is that of sandbox `sandbox`
 abbrev pub IsListingFrom : ℕ → List Part → List ℕ → Type 0
 IsListingFrom sandbox [] text = text ≡ []
 IsListingFrom sandbox (p ∷ ps) text =

@@ -41,11 +41,11 @@ registers_text h (suc n) = registers_text h n ++ register_text (n + 1) (register
 
 -- ---- a sandbox
 
--- how the text of the sandbox of that number begins
+-- how the text of sandbox `sandbox` begins
 abbrev pub state_front : ℕ → List ℕ
 state_front sandbox = codes "sandbox=" ++ decimal sandbox ++ codes " pc="
 
--- of the sandbox of that number, with this part of the image: a line with its pc and what the code
+-- of sandbox `sandbox`, with this part of the image: a line with its pc and what the code
 -- has there, and four lines with its registers x1 to x31
 pub record IsStateText (sandbox : ℕ) (p : Part) (h : Hart) (text : List ℕ) : Type 0 where
   pub front : Front

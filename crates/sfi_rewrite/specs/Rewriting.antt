@@ -93,7 +93,7 @@ IsFaultless s =
     (slots : List BundleSlot)
     × AreFaultless (has_words s.format) s.format (length s.items) s.items slots
 
--- this is the fault of the first item that has one, in the sandbox of that number
+-- this is the fault of the first item that has one, in sandbox `number`
 abbrev pub IsSandboxFault : ℕ → Sandbox → RewriteFault → Type 0
 IsSandboxFault number s f = IsItemFault (has_words s.format) s.format number s.items f
 

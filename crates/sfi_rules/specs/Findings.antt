@@ -69,7 +69,7 @@ abbrev pub AreFindingsInBundles : ℕ → Part → List Finding → Type 0
 AreFindingsInBundles sandbox p found = (bundles : ℕ) × (length p.code ≡ bundle_size * bundles)
     × AreFindingsOfFirst sandbox p bundles found
 
--- the findings of the part of the sandbox of that number, by whether its format's code is in words
+-- the findings of the part of sandbox `sandbox`, by whether its format's code is in words
 abbrev pub AreFindings : ℕ → Part → List Finding → Type 0
 AreFindings sandbox p found = MatchBool (has_words p.format) (AreFindingsInWords sandbox p found)
     (AreFindingsInBundles sandbox p found)
@@ -83,7 +83,7 @@ AreFoundUpTo sandbox p n found owed = MatchBool (has_words p.format)
 
 -- ---- of an image
 
--- the findings of parts, the first of which is that of the sandbox of that number
+-- the findings of parts, the first of which is that of sandbox `sandbox`
 abbrev pub AreFindingsFrom : ℕ → List Part → List Finding → Type 0
 AreFindingsFrom sandbox [] found = found ≡ []
 AreFindingsFrom sandbox (p ∷ ps) found =

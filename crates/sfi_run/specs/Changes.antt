@@ -28,7 +28,7 @@ pub record IsStillSafe (w n : Sandboxes) : Type 0 where
 abbrev pub plan_of : ℕ → ℕ → List Turn
 plan_of sandbox steps = record { sandbox = sandbox; steps = steps } ∷ []
 
--- the sandbox of that number took a turn of at most `steps` steps, up to its first call
+-- sandbox `sandbox` took a turn of at most `steps` steps, up to its first call
 pub record HasRunToCall (w n : Sandboxes) (sandbox steps : ℕ) : Type 0 where
   pub ran : (machine : Machine) → IsMachine machine
       → slots_of n ≡ (to_call machine (plan_of sandbox steps) (slots_of w)).slots
@@ -41,7 +41,7 @@ pub record HasRunToStop (w n : Sandboxes) (sandbox steps : ℕ) (stops : List �
   pub ran : HasRunUntil stops (turn_of sandbox steps) w n
   pub still : IsStillSafe w n
 
--- the sandbox of that number got this reply to its call
+-- sandbox `sandbox` got this reply to its call
 pub record HasReplied (w n : Sandboxes) (sandbox : ℕ) (r : Later) : Type 0 where
   pub got : (slot : Slot) → slice_get (slots_of w) sandbox ≡ Some slot
       → slots_of n
@@ -79,7 +79,8 @@ pub record HasCalledBack (w n : Sandboxes) (sandbox pc : ℕ) (arguments : List 
   pub others : OthersAreSame w sandbox n
   pub entry : IsAtEntry n sandbox
 
--- it was entered at pc as a function with these arguments, and then took a turn up to its first call
+-- it was entered at pc as a function with these arguments, and then took a turn up to its first
+-- call
 pub record HasCalled (w n : Sandboxes) (sandbox pc : ℕ) (arguments : List ℕ) (steps : ℕ) : Type 0 where
   pub begun : Sandboxes
   pub entered : HasEntered w begun sandbox pc arguments
@@ -105,7 +106,7 @@ pub record HasAdded (w : Sandboxes) (ps : List Part) (n : Sandboxes) : Type 0 wh
   pub earlier : EarlierAreSame w n
   pub changes : AreChanges w n
 
--- the sandbox of that number is gone, each later one has a number less by one, and nothing else changed
+-- sandbox `sandbox` is gone, each later one has a number less by one, and nothing else changed
 pub record HasLost (w : Sandboxes) (sandbox : ℕ) (n : Sandboxes) : Type 0 where
   pub done : n ≡ without w sandbox
   pub owned : AreOwned n
@@ -114,7 +115,7 @@ pub record HasLost (w : Sandboxes) (sandbox : ℕ) (n : Sandboxes) : Type 0 wher
 
 -- ==== A console as the host of a sandbox's turn.
 
--- the sandbox of that number took a turn of at most `steps` steps, in which the console answered each
+-- sandbox `sandbox` took a turn of at most `steps` steps, in which the console answered each
 -- call
 pub record HasServed (w n : Sandboxes) (c d : ConsoleState) (sandbox steps : ℕ) : Type 0 where
   pub ran : (machine : Machine) → IsMachine machine

@@ -99,7 +99,7 @@ abbrev pub standing_event : Option Slot → SfiRunEvent
 standing_event None = none_event
 standing_event (Some s) = status_event s.status s.hart.pc
 
--- The event is of a call of the sandbox of that number: it stands at the gate of that place, which
+-- The event is of a call of sandbox `i`: it stands at the gate of that place, which
 -- is one of `gates_most` and asks for that service.
 pub record IsCallEvent (slots : List Slot) (i : ℕ) (e : SfiRunEvent) : Type 0 where
   pub slot : Slot
@@ -111,7 +111,7 @@ pub record IsCallEvent (slots : List Slot) (i : ℕ) (e : SfiRunEvent) : Type 0 
   pub service_number : gate.service ≤ service_most
   pub event_is : e ≡ call_event e.gate gate.service slot.hart
 
--- the event is of the sandbox of that number: of its call, where it stands at one; elsewhere what
+-- the event is of sandbox `i`: of its call, where it stands at one; elsewhere what
 -- it may still do
 abbrev pub IsEventOf : List Slot → ℕ → SfiRunEvent → Type 0
 IsEventOf slots i e =

@@ -43,14 +43,14 @@ WritesResult _ before after = Unit {0}
 -- ==== Where a run of code in bundles stands: the place of a bundle's reading, and what the
 -- registers hold there.
 
--- the part of the sandbox of that number has a right layout, its code lies apart from its data and
+-- the part of sandbox `sandbox` has a right layout, its code lies apart from its data and
 -- guards, and no rule is broken in it
 pub record IsCleanPart (sandbox : ℕ) (p : Part) : Type 0 where
   pub right : IsRightPart p
   pub apart : AreApart (code_region p) (guarded_region p)
   pub none_found : AreFindings sandbox p []
 
--- the part of the sandbox of that number is clean, and its code is in bundles
+-- the part of sandbox `sandbox` is clean, and its code is in bundles
 pub record AreCleanBundles (sandbox : ℕ) (p : Part) : Type 0 where
   pub bundles : has_words p.format ≡ false
   pub right : IsRightPart p
@@ -67,9 +67,9 @@ StackInDataBefore p earlier (here ∷ later) registers =
     ⊎ ((begins_pair here.instr later || ends_pair earlier here.instr) ≡ true)
 
 -- pc is at an offset of a bundle from which the rest is read whole and has no finding, if `earlier`
--- stood before it. That is any list of instructions, the nearest first, which the bundle need not have:
--- the registers only hold what its first two leave. It is empty at the bundle's start alone. So there
--- are more such places than a run reaches.
+-- stood before it. That is any list of instructions, the nearest first, which the bundle need not
+-- have: the registers only hold what its first two leave. It is empty at the bundle's start alone.
+-- So there are more such places than a run reaches.
 pub record IsAtPlace (sandbox : ℕ) (p : Part) (h : Hart) : Type 0 where
   pub number : ℕ
   pub within : bundle_size * number + bundle_size ≤ length p.code

@@ -1,5 +1,5 @@
--- The command `exec`: the sandboxes of an image run one after another, each to its end, and their put
--- and get are those of a process.
+-- The command `exec`: the sandboxes of an image run one after another, each to its end, and their
+-- put and get are those of a process.
 use Rattle.std.specs.Prelude.{◌≡◌, ◌≤◌, ◌==◌, ◌+◌, ◌%◌, ◌^◌, ℕ, zero, suc, min, if◌then◌else◌, List, [], ◌∷◌, ◌++◌, length, take, drop, map, Option, Some, None, slice_get, codes, decimal}
 use Rattle.std.specs.List.{range_with_len}
 use Rattle.std.specs.Io.KnownBytes.{Appends}
@@ -20,16 +20,16 @@ use Rattle.sfi_tool.specs.Running.{AreStates, first_slots, status_text}
 
 -- ---- the host
 
--- What the host keeps: the input that is left; the cuts, one for each read to come; what was put; and a
--- console, which answers all but put and get.
+-- What the host keeps: the input that is left; the cuts, one for each read to come; what was put;
+-- and a console, which answers all but put and get.
 pub record Streams : Type 0 where
   pub input : List ℕ
   pub cuts : List ℕ
   pub output : List ℕ
   pub console : ConsoleState
 
--- how many of n bytes the next read gives at most: one more than the first cut says; with none left, all
--- that is asked for and there
+-- how many of n bytes the next read gives at most: one more than the first cut says; with none
+-- left, all that is asked for and there
 abbrev pub most_of : ℕ → List ℕ → ℕ
 most_of n [] = n
 most_of n (k ∷ cuts) = min n (suc k)
@@ -48,8 +48,8 @@ after_piece n s = record {
   console = s.console;
 }
 
--- get: the next piece of the input is written from a0 on, if the bytes at those a1 addresses could be
--- handed over
+-- get: the next piece of the input is written from a0 on, if the bytes at those a1 addresses could
+-- be handed over
 abbrev pub get_if : Streams → Call → Option (List ℕ) → Answer Streams
 get_if s c None = replied c failed s
 get_if s c (Some old) = let next = piece_of c.a1 s in record {
@@ -93,7 +93,7 @@ first_streams input cuts count =
 
 -- ---- the sandboxes
 
--- a turn of the sandbox of that number, of at most n steps
+-- a turn of sandbox `i`, of at most n steps
 abbrev pub turn_of : ℕ → ℕ → Turn
 turn_of i n = record { sandbox = i; steps = n }
 
@@ -101,8 +101,8 @@ turn_of i n = record { sandbox = i; steps = n }
 abbrev pub turns_of : ℕ → List ℕ → List Turn
 turns_of i ns = map (turn_of i) ns
 
--- how many steps of its budget a sandbox took: those that are counted, and the one at which it trapped,
--- which isn't
+-- how many steps of its budget a sandbox took: those that are counted, and the one at which it
+-- trapped, which isn't
 abbrev pub taken_by : Status → ℕ → ℕ
 taken_by Ready steps = steps
 taken_by (Exited n) steps = steps
@@ -112,7 +112,7 @@ taken_by Stopped steps = steps
 abbrev pub taken : Slot → ℕ
 taken slot = taken_by slot.status slot.steps
 
--- The sandbox of that number took turns, and no other did; the host answered each call. It took no more
+-- Sandbox `i` took turns, and no other did; the host answered each call. It took no more
 -- steps than the budget allows, and if it has not stopped, it did all of them.
 pub record IsExecuted (machine : Machine) (budget i : ℕ) (old : List Slot) (before : Streams)
     (new : List Slot) (after : Streams) : Type 0 where
@@ -131,8 +131,8 @@ AreExecuted machine budget (suc n) old before new after =
 
 -- ---- the status
 
--- what a sandbox's end comes to: the low 8 bits of its exit's number; or that its budget was used up, or
--- that it trapped (none is stopped by its host here)
+-- what a sandbox's end comes to: the low 8 bits of its exit's number; or that its budget was used
+-- up, or that it trapped (none is stopped by its host here)
 abbrev pub end_status : Status → ℕ
 end_status Ready = 124
 end_status (Exited n) = n % 2 ^ 8
@@ -185,8 +185,8 @@ IsStopText ps slots text =
 
 -- ---- the command
 
--- The sandboxes of an image ran so, with some cuts of the input: what is left of the input, what was put,
--- what is said and the status.
+-- The sandboxes of an image ran so, with some cuts of the input: what is left of the input, what
+-- was put, what is said and the status.
 pub record HaveExecuted (machine : Machine) (budget : ℕ) (ps : List Part) (input left : List ℕ)
     (written said : List ℕ) (status : ℕ) : Type 0 where
   pub cuts : List ℕ
@@ -199,8 +199,8 @@ pub record HaveExecuted (machine : Machine) (budget : ℕ) (ps : List Part) (inp
   pub said_is : IsStopText ps slots said
   pub status_is : status ≡ status_among (length ps) slots
 
--- The image with these bytes is accepted, and its sandboxes ran so. What is said of a run holds of the
--- machine, which is one function.
+-- The image with these bytes is accepted, and its sandboxes ran so. What is said of a run holds of
+-- the machine, which is one function.
 pub record IsExecution (budget : ℕ) (input left written said : List ℕ) (status : ℕ)
     (bytes : List ℕ) : Type 0 where
   pub parts : List Part
@@ -208,8 +208,9 @@ pub record IsExecution (budget : ℕ) (input left written said : List ℕ) (stat
   pub ran : (machine : Machine) → IsMachine machine
       → HaveExecuted machine budget parts input left written said status
 
--- The text is an image or spells one, and that was executed: the input lost what was read by get, what was
--- put was written after what the writer held, and what is said after what the other one held.
+-- The text is an image or spells one, and that was executed: the input lost what was read by get,
+-- what was put was written after what the writer held, and what is said after what the other one
+-- held.
 pub record Executes (budget : ℕ) (text input left : List ℕ) (out outs err errs : Option (List ℕ))
     (status : ℕ) : Type 0 where
   pub written : List ℕ
@@ -218,8 +219,8 @@ pub record Executes (budget : ℕ) (text input left : List ℕ) (out outs err er
   pub writes : Appends out outs written
   pub says : Appends err errs said
 
--- What is said where the reader of the image tells its bytes: where that of the input does too, what was
--- executed, and else that the image is accepted.
+-- What is said where the reader of the image tells its bytes: where that of the input does too,
+-- what was executed, and else that the image is accepted.
 abbrev pub ExecutesKnown : ℕ → Option (List ℕ) → Option (List ℕ) → Option (List ℕ)
     → Option (List ℕ) → Option (List ℕ) → Option (List ℕ) → Option (List ℕ) → ℕ → Type 0
 ExecutesKnown budget None input left out outs err errs status = Unit {0}

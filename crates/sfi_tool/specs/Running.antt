@@ -38,7 +38,7 @@ status_text (Exited n) = codes "exit=" ++ decimal n
 status_text (Trapped cause at) = codes "trap=" ++ cause_name cause ++ codes " at=" ++ hex_digits 8 at
 status_text Stopped = codes "stopped"
 
--- the line of the sandbox of that number: what it may still do, how many steps it did, and its
+-- the line of sandbox `sandbox`: what it may still do, how many steps it did, and its
 -- output in lower hexadecimal digits
 abbrev pub run_line : ℕ → Status → ℕ → List ℕ → List ℕ
 run_line sandbox status steps output =
@@ -69,7 +69,7 @@ IsStateUnlessExited sandbox p h (Exited n) text = text ≡ []
 IsStateUnlessExited sandbox p h (Trapped cause at) text = IsStateText sandbox p h text
 IsStateUnlessExited sandbox p h Stopped text = IsStateText sandbox p h text
 
--- of the sandbox of that number, where there is one
+-- of sandbox `sandbox`, where there is one
 abbrev pub IsStateOfSandbox : ℕ → Option Part → Option Slot → List ℕ → Type 0
 IsStateOfSandbox sandbox None slot text = text ≡ []
 IsStateOfSandbox sandbox (Some p) None text = text ≡ []

@@ -30,8 +30,8 @@ pub record Runs (job : Job) (input old new : Option (List ℕ)) (status : ℕ) :
   pub usage : status ≢ 3
   pub appends : OnlyAppends old new
 
--- sandboxes and console after `rounds` rounds, in each of which the first `count` sandboxes take a turn
--- of `quantum` steps
+-- sandboxes and console after `rounds` rounds, in each of which the first `count` sandboxes take a
+-- turn of `quantum` steps
 abbrev pub AreTaken : ℕ → ℕ → ℕ → List Slot → ConsoleState → List Slot → ConsoleState → Type 0
 AreTaken rounds quantum count old before new after =
     (machine : Machine) → IsMachine machine
@@ -91,14 +91,14 @@ IfKnown (Some input) (Some left) holds = holds input left
 abbrev pub kept : List ℕ → List ℕ → List ℕ → ConsoleState → Streams
 kept input cuts output c = record { input = input; cuts = cuts; output = output; console = c }
 
--- turns of the sandbox of that number alone lead from there to there
+-- turns of sandbox `i` alone lead from there to there
 pub record TakesTurns (machine : Machine) (i : ℕ) (old : List Slot) (before : Streams) (new : List Slot)
     (after : Streams) : Type 0 where
   pub turns : List ℕ
   pub joint : IsJoint machine streams (turns_of i turns) old before new after
 
--- So they do, and reads cut the input as they did, whatever the later ones do, and after whatever was put
--- before.
+-- So they do, and reads cut the input as they did, whatever the later ones do, and after whatever
+-- was put before.
 pub record IsStreamed (machine : Machine) (i : ℕ) (old : List Slot) (c : ConsoleState)
     (new : List Slot) (d : ConsoleState) (written input left : List ℕ) : Type 0 where
   pub cuts : List ℕ
@@ -113,14 +113,14 @@ pub record Streamed (i : ℕ) (old : List Slot) (c : ConsoleState) (new : List S
   pub ran : IfKnown input left (λ x y. (machine : Machine) → IsMachine machine
       → IsStreamed machine i old c new d written x y)
 
--- a step in which the sandbox of that number got a reply
+-- a step in which sandbox `i` got a reply
 pub record IsReplyTo (i : ℕ) (old new : List Slot) : Type 0 where
   pub slot : Slot
   pub there : slice_get old i ≡ Some slot
   pub reply : Reply
   pub slots : new ≡ slice_set old i (replied slot reply)
 
--- a call of the sandbox of that number was answered
+-- a call of sandbox `i` was answered
 pub record IsServed (i : ℕ) (old : List Slot) (c : ConsoleState) (new : List Slot) (d : ConsoleState)
     (input left out outs : Option (List ℕ)) : Type 0 where
   pub replies : IsReplyTo i old new
@@ -137,7 +137,7 @@ abbrev pub left_of : ℕ → Option Slot → ℕ
 left_of budget None = 0
 left_of budget (Some slot) = left_by budget slot.status slot.steps
 
--- what was asked by the sandbox of that number, which waits and may still do a step
+-- what was asked by sandbox `sandbox`, which waits and may still do a step
 pub record IsAsked (budget sandbox : ℕ) (slots : List Slot) (q : Request) : Type 0 where
   pub by : q.sandbox ≡ sandbox
   pub waits : Waits slots q.sandbox q
@@ -157,8 +157,8 @@ pub record AreStreamed (budget n : ℕ) (old : List Slot) (c : ConsoleState) (ne
       → (cuts : List ℕ) × ((rest put : List ℕ) → AreExecuted machine budget n old
       (kept x (cuts ++ rest) put c) new (kept y rest (put ++ written) d)))
 
--- the sandboxes of an image ran, where the reader tells its bytes; what was put and what is said was
--- written
+-- the sandboxes of an image ran, where the reader tells its bytes; what was put and what is said
+-- was written
 pub record Ran (budget : ℕ) (ps : List Part) (input left out outs err errs : Option (List ℕ))
     (status : ℕ) : Type 0 where
   pub written : List ℕ

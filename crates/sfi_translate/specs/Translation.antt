@@ -43,12 +43,13 @@ closing = codes ")" ++ line_end
 -- ---- jumps
 
 -- The most bytes of code that one function of the text holds: those whose addresses have the same
--- quotient by it. A code region is a power of two and aligned to its size, so that multiples of it in
--- the code are multiples in memory, or there is none.
+-- quotient by it. A code region is a power of two and aligned to its size, so that multiples of it
+-- in the code are multiples in memory, or there is none.
 abbrev pub function_most : ℕ
 function_most = 16384
 
--- what stands after the form of a jump from `at`: the target lies in the same function, or in another
+-- what stands after the form of a jump from `at`: the target lies in the same function, or in
+-- another
 unfoldable pub far : ℕ → ℕ → List ℕ
 far at to = if (at / function_most) == (to / function_most) then codes "" else codes "_FAR"
 
@@ -104,8 +105,8 @@ reading_text at (x ∷ reading) = line_text at x.size x.instr ++ reading_text (a
 unfoldable pub function_line : ℕ → ℕ → List ℕ
 function_line sandbox at = codes "FUNCTION(" ++ decimal sandbox ++ address_field at ++ closing
 
--- Before the unit of that offset in the code a function begins: the first one, or the next, if it is
--- a multiple of `function_most`.
+-- Before the unit of that offset in the code a function begins: the first one, or the next, if it
+-- is a multiple of `function_most`.
 unfoldable pub function_text : ℕ → ℕ → ℕ → List ℕ
 function_text sandbox offset at =
     if offset == 0 then function_line sandbox at
@@ -179,7 +180,7 @@ pub record IsSandboxText (sandbox : ℕ) (p : Part) (text : List ℕ) : Type 0 w
 
 -- ---- of an image
 
--- the text of parts, the first of which is that of the sandbox of that number
+-- the text of parts, the first of which is that of sandbox `sandbox`
 abbrev pub IsTranslationFrom : ℕ → List Part → List ℕ → Type 0
 IsTranslationFrom sandbox [] text = text ≡ []
 IsTranslationFrom sandbox (p ∷ ps) text =

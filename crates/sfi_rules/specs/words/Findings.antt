@@ -49,8 +49,8 @@ abbrev pub fails_data : Owed → Instr → Bool
 fails_data o i = (is_of_data o && not (is_some (left o i)))
     || (is_data_one (destination i) && not (is_some (owed_by i)))
 
--- V11: it doesn't meet what is owed of x30, or writes x30 in a way that no next instruction can make
--- right
+-- V11: it doesn't meet what is owed of x30, or writes x30 in a way that no next instruction can
+-- make right
 abbrev pub fails_code : Owed → Instr → Bool
 fails_code o i = (is_of_code o && not (is_some (left o i)))
     || (writes_register code_register i && not (is_some (owed_by i)))
@@ -131,7 +131,7 @@ AreFoundOfFirst sandbox p (suc n) found next =
     × AreFoundInBundle (bundle_place sandbox p n) between (bundle_bytes p n) last next
     × (found ≡ front ++ last)
 
--- the findings of the part of the sandbox of that number: those of all its bundles
+-- the findings of the part of sandbox `sandbox`: those of all its bundles
 abbrev pub AreFindingsInWords : ℕ → Part → List Finding → Type 0
 AreFindingsInWords sandbox p found = (bundles : ℕ) × (next : Owed)
     × (length p.code ≡ bundle_size * bundles) × AreFoundOfFirst sandbox p bundles found next
