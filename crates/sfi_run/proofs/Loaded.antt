@@ -4,7 +4,7 @@ use Rattle.std.proofs.lemmas.List.{append-nil}
 use Rattle.sfi_image.specs.declared.fault.LayoutFault.{LayoutFault}
 use Rattle.sfi_image.specs.Spelling.{Part}
 use Rattle.sfi_image.specs.Faults.{IsFault}
-use Rattle.sfi_image.specs.Fronts.{HasFaultWhateverFollows}
+use Rattle.sfi_image.specs.Prefixes.{HasFaultWhateverFollows}
 use Rattle.sfi_image.proofs.Facts as image
 use Rattle.sfi_rules.specs.declared.finding.Finding.{Finding}
 use Rattle.sfi_safety.specs.Clean.{IsAccepted}
