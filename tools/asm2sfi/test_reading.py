@@ -17,7 +17,8 @@ class Reading(unittest.TestCase):
     def test_pieces(self):
         pieces = list(read_assembly("a.s", 'a: b:\tlw\ta0, 4(sp) # x\n\n.ascii "#;,\\"", "b"; ret'))
         self.assertEqual(pieces, [
-            Label("a", SourceLine("a.s", 1)), Label("b", SourceLine("a.s", 1)), Statement("lw", ("a0", "4(sp)"), SourceLine("a.s", 1)),
+            Label("a", SourceLine("a.s", 1)), Label("b", SourceLine("a.s", 1)),
+            Statement("lw", ("a0", "4(sp)"), SourceLine("a.s", 1)),
             Statement(".ascii", ('"#;,\\""', '"b"'), SourceLine("a.s", 3)), Statement("ret", (), SourceLine("a.s", 3))])
 
     def test_labels_that_are_numbers(self):

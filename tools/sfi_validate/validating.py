@@ -47,5 +47,6 @@ def complaints(left, right, is_movable=False):
 
 def told(code, place, what):
     """The line that a place has, and the function that it's in."""
-    before = [line for offset in range(place.offset, -1, -1) if (line := code.lines.get(SectionOffset(place.section, offset)))]
+    before = [line for offset in range(place.offset, -1, -1)
+              if (line := code.lines.get(SectionOffset(place.section, offset)))]
     return before[0] if before else 0, f"{code.owner(place) or place.section}: {what}"
