@@ -22,7 +22,7 @@ abbrev pub on_ok : {X Y : Type 0} → Result X TableFault → (X → Result Y Ta
 on_ok (Ok x) f = f x
 on_ok (Err fault) f = Err fault
 
--- the address of the name at that place among the names of what is placed as the sandbox of that number
+-- the address of the name at that place among the names of what is placed as sandbox `number`
 abbrev pub address_in : List Place → ℕ → Option Placement → ℕ → Option ℕ
 address_in given number None place = None
 address_in given number (Some p) place = address_at (bases_of given number p) p.names place
@@ -65,7 +65,7 @@ is_unlisted shared = (length shared.exports == 0) && (length shared.imports == 0
 abbrev pub room_of : Sandbox → ℕ
 room_of s = s.data_size - length s.bytes
 
--- the bytes of the table of the sandbox of that number; none where nothing is listed
+-- the bytes of the table of sandbox `number`; none where nothing is listed
 abbrev pub tail_of : (ℕ → Option ℕ) → ℕ → SharedNames → Sandbox → Result (List ℕ) TableFault
 tail_of address_of number shared s =
     if is_unlisted shared then Ok []

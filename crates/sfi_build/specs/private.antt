@@ -1,10 +1,8 @@
 -- Words that private contracts and proofs alone cite: no public statement rests on them.
-use Rattle.std.specs.Prelude.{◌≡◌, ◌⊎◌, ◌≤◌, ℕ, false, List, length, map, Option, None, Result, Err, Vec}
+use Rattle.std.specs.Prelude.{◌≡◌, ◌⊎◌, ◌≤◌, ℕ, List, length, map, Option, None, Result, Err, Vec}
 use Rattle.sfi_names.specs.Tables.{Named}
 use Rattle.sfi_build.specs.declared.table_fault.TableFault.TheVariants.{Unknown}
 use Rattle.std.specs.Global.{Global}
-use Rattle.sfi_formats.specs.declared.place.Place.{Place}
-use Rattle.sfi_link.specs.declared.bases.Bases.{Bases}
 use Rattle.sfi_image.specs.Spelling.{Part}
 use Rattle.sfi_image.specs.Parts.{IsImage, IsRightLayout}
 use Rattle.sfi_build.specs.declared.table_fault.TableFault.{TableFault}
@@ -20,12 +18,6 @@ IsTableStop due f = IsWantOfMemory f ⊎ ((g : TableFault) × (f ≡ Names g) ×
 -- memory ran out, or what the line lists has no entry
 abbrev pub IsEntryStop : Option Named → ℕ → BuildFault → Type 0
 IsEntryStop due line f = IsWantOfMemory f ⊎ ((f ≡ Names (Unknown line)) × (due ≡ None))
-
--- where a sandbox lies that is at that place and starts there, whether or not it can be moved: addresses
--- are the same
-abbrev pub bases_with : Place → ℕ → Bases
-bases_with at start =
-    record { code = at.code_base; start = start; «data» = at.data_base; movable = false }
 
 -- the bytes of each
 abbrev pub contents : List (Vec ℕ Global) → List (List ℕ)

@@ -1,5 +1,5 @@
 -- The bytes of what is placed: addresses for names, stubs, and code.
-use Rattle.std.specs.Prelude.{ℕ, ◌+◌, ◌-◌, ◌*◌, ℤ, List, length, slice_get, Option, Some, None, pos, [], ◌∷◌, ◌++◌, if◌then◌else◌, ◌≡◌, ◌-ℤ◌, IsTrue}
+use Rattle.std.specs.Prelude.{ℕ, ◌+◌, ◌-◌, ◌*◌, ℤ, List, length, slice_get, Option, Some, None, pos, [], ◌∷◌, ◌++◌, if◌then◌else◌, ◌≡◌, ◌-ℤ◌, IsTrue, IfSome, ◌≤◌, ◌<◌, ◌^◌}
 use Rattle.rv_word.specs.declared.instr.Instr.{Instr}
 use Rattle.rv_word.specs.declared.instr.Instr.TheVariants.{Branch, Jal, Jalr, Ecall, Op, OpImm, Lui}
 use Rattle.sfi_formats.specs.Limits.{bundle_size, place_of}
@@ -8,11 +8,12 @@ use Rattle.sfi_rewrite.specs.declared.placed.PlacedName.{PlacedName}
 use Rattle.sfi_rewrite.specs.declared.placed.PlacedName.TheVariants.{Gate, Code, Data, Unknown}
 use Rattle.sfi_rewrite.specs.Placement.{Placement}
 use Rattle.sfi_link.specs.declared.bases.Bases.{Bases}
-use Rattle.std.specs.List.{flat_map}
+use Rattle.std.specs.List.{All, flat_map}
 use Rattle.std.specs.Int.{w32, to_le_bytes, w16}
 use Rattle.rv_word.specs.Spelling.{spelling, InRange}
 use Rattle.sfi_formats.specs.declared.format.Format.{Format}
-use Rattle.sfi_formats.specs.Formats.{has_words, code_base_register, data_base_register, code_register, return_register}
+use Rattle.sfi_formats.specs.declared.format.Format.TheVariants.{Sfi2}
+use Rattle.sfi_formats.specs.Formats.{code_most, has_words, code_base_register, data_base_register, code_register, return_register}
 use Rattle.sfi_pairs.specs.Pairs.{code_pair, stub}
 use Rattle.rv_word.specs.declared.instr.ImmOp.TheVariants.{Addi}
 use Rattle.rv_word.specs.declared.instr.RegOp.TheVariants.{Add}
@@ -31,7 +32,7 @@ use Rattle.sfi_rewrite.specs.Expansion.{slot_size}
 abbrev pub stub_size : ℕ
 stub_size = bundle_size
 
--- where the sandbox of that number lies: its code, the first byte after its gates' stubs, its data; and
+-- where sandbox `number` lies: its code, the first byte after its gates' stubs, its data; and
 -- whether it can be moved
 abbrev pub bases_of : List Place → ℕ → Placement → Bases
 bases_of given number p =
@@ -59,6 +60,19 @@ target_of at (Gate k) = address_of at (Gate k)
 target_of at (Code place) = address_of at (Code place)
 target_of at (Data offset) = None
 target_of at Unknown = None
+
+-- an address of code of a sandbox that lies so: a distance between two of these fits
+abbrev pub IsInCode : Bases → ℕ → Type 0
+IsInCode at address = (at.code ≤ address) × (address ≤ at.code + code_most Sfi2)
+
+-- the name's address has 32 bits, and a jump's is one of the code
+pub record IsNear (at : Bases) (name : PlacedName) : Type 0 where
+  pub fits : IfSome (address_of at name) (λ a. a < 2 ^ 32)
+  pub within : IfSome (target_of at name) (IsInCode at)
+
+-- each of the names is near
+abbrev pub AreNear : Bases → List PlacedName → Type 0
+AreNear at names = All (IsNear at) names
 
 -- what `f` gives for the name, if there is a name
 abbrev pub of_name : (PlacedName → Option ℕ) → Option PlacedName → Option ℕ
@@ -108,8 +122,8 @@ with_offset z i = i
 
 -- ==== A gate's stub: 16 bytes, those of code in bundles or those of code in words.
 
--- a gate's stub in code in words: it asks the host, and then goes by the code register to the word's
--- start that x1 leads to
+-- a gate's stub in code in words: it asks the host, and then goes by the code register to the
+-- word's start that x1 leads to
 abbrev pub word_gate_stub : List Instr
 word_gate_stub =
     Ecall ∷ (code_pair code_register return_register ++ Jalr 0 code_register (pos 0) ∷ [])

@@ -1,11 +1,11 @@
 -- Words that private contracts and proofs alone cite: no public statement rests on them.
-use Rattle.std.specs.Prelude.{◌≡◌, ℕ, ◌+◌, ◌^◌, ◌<◌, ◌≤◌, List, [], ◌∷◌, ◌++◌, length, map, IfSome, Result, Ok, Err, Vec}
+use Rattle.std.specs.Prelude.{◌≡◌, ℕ, ◌+◌, ◌^◌, ◌<◌, ◌≤◌, List, [], ◌∷◌, ◌++◌, length, map, Result, Ok, Err, Vec}
 use Rattle.std.specs.List.{All, AllPairs}
 use Rattle.std.specs.Global.{Global}
 use Rattle.sfi_formats.specs.declared.format.Format.TheVariants.{Sfi2}
 use Rattle.sfi_formats.specs.Formats.{code_most}
 use Rattle.sfi_image.specs.declared.span.Span.{Span}
-use Rattle.sfi_image.specs.Spelling.{Part, IsWord, AreApart}
+use Rattle.sfi_image.specs.Spelling.{Part, AreApart}
 use Rattle.sfi_image.specs.Sources.{IsBounded}
 use Rattle.sfi_formats.specs.declared.place.Place.{Place}
 use Rattle.sfi_formats.specs.Limits.{place_of}
@@ -15,23 +15,10 @@ use Rattle.sfi_rewrite.specs.Placement.{Placement}
 use Rattle.sfi_link.specs.declared.bases.Bases.{Bases}
 use Rattle.sfi_link.specs.declared.fault.LinkFault.{LinkFault}
 use Rattle.sfi_link.specs.Faults.{UnlessMemory}
-use Rattle.sfi_link.specs.Code.{IsSlot, AreSlots, address_of, target_of}
+use Rattle.sfi_link.specs.Code.{IsSlot, AreSlots}
 use Rattle.sfi_link.specs.Linked.{IsRightPlace, spans_at, IsLinkedCode, part_with}
 
 -- ==== What fits the linker's numbers, what is written so far, and what a step answers.
-
--- an address of code of a sandbox that lies so: a distance between two of these fits
-abbrev pub IsInCode : Bases → ℕ → Type 0
-IsInCode at address = (at.code ≤ address) × (address ≤ at.code + code_most Sfi2)
-
--- the name's address has 32 bits, and a jump's is one of the code
-pub record IsNear (at : Bases) (name : PlacedName) : Type 0 where
-  pub fits : IfSome (address_of at name) IsWord
-  pub within : IfSome (target_of at name) (IsInCode at)
-
--- so are all of the names
-abbrev pub AreNear : Bases → List PlacedName → Type 0
-AreNear at names = All (IsNear at) names
 
 -- `more` bytes after the `old` bytes of code so far have room below 2 ^ 32, and in a code region
 pub record HasRoomFor (at : Bases) (old more : ℕ) : Type 0 where
@@ -50,8 +37,8 @@ pub record AreWritten (at : Bases) (names : List PlacedName) (slots : List Bundl
   pub appended : new ≡ old ++ bytes
   pub spelled : AreSlots at names (at.code + length old) slots bytes
 
--- the sandbox lies there, with a code region of that size: its spans are added to the old ones, each
--- holds an address, and no two meet
+-- the sandbox lies there, with a code region of that size: its spans are added to the old ones,
+-- each holds an address, and no two meet
 pub record LiesBeside (p : Placement) (size : ℕ) (place : Place) (old new : List Span)
     : Type 0 where
   pub right : IsRightPlace p size place
@@ -59,7 +46,7 @@ pub record LiesBeside (p : Placement) (size : ℕ) (place : Place) (old new : Li
   pub bounded : All IsBounded new
   pub apart : AllPairs AreApart new
 
--- the code of the sandbox of that number, which lies so
+-- the code of sandbox `number`, which lies so
 pub record IsCodeBeside (given : List Place) (number : ℕ) (p : Placement) (bytes : List ℕ)
     (old new : List Span) : Type 0 where
   pub code : IsLinkedCode given number p bytes

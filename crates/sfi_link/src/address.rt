@@ -1,8 +1,7 @@
 //! Addresses for names, and what an instruction holds of them.
 ghost use Rattle.std.specs.Prelude.{◌≡◌, ◌+◌, ◌<◌, ◌≤◌, ◌^◌, pos, ◌-ℤ◌, IfSome, slice_get};
 ghost use Rattle.sfi_source.specs.Source.{upper, lower};
-ghost use Rattle.sfi_link.specs.Code.{address_of, target_of, address_at, offset_of, base_of, value_at, base_at, target_at, of_name, with_offset};
-ghost use Rattle.sfi_link.specs.private.{IsInCode, IsNear, AreNear};
+ghost use Rattle.sfi_link.specs.Code.{address_of, target_of, address_at, offset_of, base_of, value_at, base_at, target_at, of_name, with_offset, IsInCode, IsNear, AreNear};
 
 use crate::bases::Bases;
 use rv_word::{Instr, Reg};
@@ -47,7 +46,8 @@ fn offset_of(at: Bases, name: PlacedName) -> Option<u32>
     }
 }
 
-// The register that holds the base of the region of what the name names; none where that is unknown.
+// The register that holds the base of the region of what the name names; none where that is
+// unknown.
 fn base_of(name: PlacedName) -> Option<Reg>
     ensures is { result ≡ base_of name }
 {
@@ -58,8 +58,9 @@ fn base_of(name: PlacedName) -> Option<Reg>
     }
 }
 
-// The address of what name `place` names.
-pub(crate) fn address_at(at: Bases, names: &[PlacedName], place: usize) -> Option<u32>
+/// The address of what name number `place` of a sandbox names, if `at` is where the sandbox lies;
+/// none where that is unknown.
+pub fn address_at(at: Bases, names: &[PlacedName], place: usize) -> Option<u32>
     requires { AreNear at names.now }
     ensures is { result ≡ address_at at names.now place }
 {

@@ -20,8 +20,8 @@ pub struct Bases {
     pub movable: bool,
 }
 
-// Where sandbox `number` lies.
-pub(crate) fn bases_of(given: &[Place], number: u32, part: &PlacedPart) -> Bases
+/// Where the regions of sandbox `number` begin.
+pub fn bases_of(given: &[Place], number: u32, part: &PlacedPart) -> Bases
     requires few { number < sandboxes_most }
     requires right { IsPlacedPart part.now }
     requires fits { (bases_of given.now number part.now).start < 2 ^ 32 }

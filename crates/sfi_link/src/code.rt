@@ -12,7 +12,8 @@ ghost use Rattle.sfi_rewrite.specs.Expansion.{size_of, slots_of};
 ghost use Rattle.sfi_rewrite.specs.Placed.{Encodes};
 ghost use Rattle.sfi_source.specs.Source.{lower};
 ghost use Rattle.sfi_link.specs.Code.{value_at, base_at};
-ghost use Rattle.sfi_link.specs.private.{HasRoomFor, AreNear, IsPushed, AreWritten, Links};
+ghost use Rattle.sfi_link.specs.Code.{AreNear};
+ghost use Rattle.sfi_link.specs.private.{HasRoomFor, IsPushed, AreWritten, Links};
 ghost use Rattle.sfi_link.specs.Faults.{IsUnknown, HasSlotFault, IsSlotFault};
 ghost use Rattle.sfi_rewrite.specs.declared.slot.BundleSlot.TheVariants.{Jump};
 

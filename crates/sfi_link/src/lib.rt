@@ -16,6 +16,8 @@ mod names;
 mod right_places;
 mod stub;
 
+pub use address::address_at;
+pub use bases::{Bases, bases_of};
 pub use fault::LinkFault;
 pub use linker::{link, link_at};
 pub use names::{NameAddress, NameKind, names_of};

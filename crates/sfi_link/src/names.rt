@@ -7,12 +7,11 @@ ghost use Rattle.sfi_image.specs.Spelling.{Part};
 ghost use Rattle.sfi_link.specs.declared.fault.LinkFault.{LinkFault};
 ghost use Rattle.sfi_link.specs.declared.fault.LinkFault.TheVariants.{TooManySandboxes};
 ghost use Rattle.sfi_link.specs.declared.fault.LinkFault.TheVariants as fault;
-ghost use Rattle.sfi_link.specs.Code.{address_of};
+ghost use Rattle.sfi_link.specs.Code.{address_of, IsNear, AreNear};
 ghost use Rattle.sfi_link.specs.Faults.{UnlessMemory, AnswersItems, AnswersFault};
 ghost use Rattle.sfi_link.specs.Faults.{IsLinkFault};
 ghost use Rattle.sfi_link.specs.Linked.{AreLinkedFrom};
 ghost use Rattle.sfi_link.specs.Names.{MapEntry, kind_of, entry_of, entries_of, map_from, IsLinkedMap};
-ghost use Rattle.sfi_link.specs.private.{IsNear, AreNear};
 
 use crate::address::address_of;
 use crate::bases::{Bases, bases_of};
