@@ -149,68 +149,18 @@ impl<'a> Operands<'a> {
         ensures cause { IfErr result (λ e. e ≡ part_cause part token.now) }
     {
         match part {
-            Part::Rd => match read_register(token) {
-                Ok(rd) => {
-                    self.rd = rd;
-                    Ok(())
-                }
-                Err(e) => Err(e),
-            },
-            Part::Rs1 => match read_register(token) {
-                Ok(rs1) => {
-                    self.rs1 = rs1;
-                    Ok(())
-                }
-                Err(e) => Err(e),
-            },
-            Part::Rs2 => match read_register(token) {
-                Ok(rs2) => {
-                    self.rs2 = rs2;
-                    Ok(())
-                }
-                Err(e) => Err(e),
-            },
-            Part::Number(kind) => match read_number(token, kind) {
-                Ok(number) => {
-                    self.number = number;
-                    Ok(())
-                }
-                Err(e) => Err(e),
-            },
-            Part::Name => match read_label(token) {
-                Ok(name) => {
-                    self.name = name;
-                    Ok(())
-                }
-                Err(e) => Err(e),
-            },
-            Part::Mode => match read_mode(token) {
-                Ok(compressed) => {
-                    self.compressed = compressed;
-                    Ok(())
-                }
-                Err(e) => Err(e),
-            },
-            Part::ImageFormat => match read_format(token) {
-                Ok(format) => {
-                    self.format = format;
-                    Ok(())
-                }
-                Err(e) => Err(e),
-            },
-            Part::Comma => {
-                read_mark(token, ",")?;
-                Ok(())
-            }
-            Part::Open => {
-                read_mark(token, "(")?;
-                Ok(())
-            }
-            Part::Close => {
-                read_mark(token, ")")?;
-                Ok(())
-            }
+            Part::Rd => self.rd = read_register(token)?,
+            Part::Rs1 => self.rs1 = read_register(token)?,
+            Part::Rs2 => self.rs2 = read_register(token)?,
+            Part::Number(kind) => self.number = read_number(token, kind)?,
+            Part::Name => self.name = read_label(token)?,
+            Part::Mode => self.compressed = read_mode(token)?,
+            Part::ImageFormat => self.format = read_format(token)?,
+            Part::Comma => read_mark(token, ",")?,
+            Part::Open => read_mark(token, "(")?,
+            Part::Close => read_mark(token, ")")?,
         }
+        Ok(())
     }
 }
 
