@@ -3,4 +3,4 @@ pub mod AsBox
 pub mod AsConsoleBox
 pub mod AsModuleBox
 pub mod Loaded
-pub mod Snapshots
+pub mod Events

@@ -1,5 +1,5 @@
 pub mod Prelude
-pub mod States
+pub mod StateTexts
 pub mod Rounds
 pub mod Streams
 pub mod Budgets

@@ -1,6 +1,6 @@
 use Rattle.sfi_tool.proofs.Prelude.{string_bytes, view}
 use Rattle.sfi_report.specs.State.{IsStateText}
-use Rattle.sfi_tool.proofs.States.{adds_text}
+use Rattle.sfi_tool.proofs.StateTexts.{adds_text}
 use Rattle.sfi_tool.proofs.states.push_state.Goals as goal
 
 pub returns : goal.returns

@@ -1,6 +1,6 @@
 use Rattle.sfi_tool.proofs.Prelude.{slice_get, string_bytes, slots_of, view}
 use Rattle.std.proofs.lemmas.Result.{on_ok_weaker}
-use Rattle.sfi_tool.proofs.States.{adds_state, not_exited}
+use Rattle.sfi_tool.proofs.StateTexts.{adds_state, not_exited}
 use Rattle.sfi_tool.proofs.states.push_state_unless_exited.Goals as goal
 
 pub returns-in-Ready : goal.returns-in-Ready

@@ -2,7 +2,7 @@ use Rattle.sfi_tool.proofs.Prelude.{◌≡◌, ◌∙◌, ℕ, length, slice_get
 use Rattle.std.proofs.Common.{Some}
 use Rattle.std.proofs.lemmas.List.{length-map}
 use Rattle.std.proofs.lemmas.Option.{slice_get-get_or}
-use Rattle.sfi_tool.proofs.States.{part_state, one_more_state}
+use Rattle.sfi_tool.proofs.StateTexts.{part_state, one_more_state}
 use Rattle.sfi_tool.proofs.states.push_states.Goals as goal
 
 pub loop-sandbox-preserved : goal.loop-sandbox-preserved

@@ -3,7 +3,7 @@ use Rattle.std.proofs.Common.{Option, true, false, IfSome, is_some, arith}
 use Rattle.sfi_host.specs.declared.guest.Request.{Request}
 use Rattle.sfi_host.specs.Waiting.{AsksAtGate}
 use Rattle.sfi_run.specs.Snapshots.{status_event}
-use Rattle.sfi_run.proofs.Snapshots.{no_hart, no_status, call_is, status_is}
+use Rattle.sfi_run.proofs.Events.{no_hart, no_status, call_is, status_is}
 use Rattle.sfi_run.proofs.snapshots.SfiRunEvent.of.Goals as goal
 
 pub overflow_cast-request : goal.overflow_cast-request
