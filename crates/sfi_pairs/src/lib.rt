@@ -10,7 +10,7 @@ mod pairs;
 mod registers;
 mod stub;
 
-pub use laws::{pairs_are_found, stub_agrees, stub_is_spelled};
+pub use laws::stub_agrees;
 pub use pairs::{code_pair, data_pair};
 pub use registers::{is_data_register, is_reserved, is_withheld};
 pub use stub::STUB;
