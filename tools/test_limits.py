@@ -11,8 +11,8 @@ HOMES = [("sfi_formats", "Limits"), ("sfi_formats", "Formats"), ("sfi_host", "Co
          ("sfi_io", "Hexadecimal")]
 NUMBER = r"(-?\d+)"
 
-# A file, a passage of it in which each {} is a number, and the names of these limits in order. A name with `+ 1` is that
-# of the first number beyond; a blank stands for any white space, also a comment's next line.
+# A file, a passage of it in which each {} is a number, and the names of these limits in order. A name with `+ 1` is
+# that of the first number beyond; a blank stands for any white space, also a comment's next line.
 STATED = [
     ("README.md", "the bytes of 1 to {} sandboxes", "sandboxes_most"),
     ("README.md", "guard zones of {} addresses", "guard"),
