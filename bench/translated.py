@@ -1,13 +1,13 @@
 #!/usr/bin/env python3
-"""How fast translated images are: the programs of examples/c and four kernels (kernels.c), by `sfi translate` and gcc -O2, beside
-the same C by gcc -O2 alone, the kernels by wasm2c, too.
+"""How fast translated images are: the programs of examples/c and four kernels (kernels.c), by `sfi translate` and gcc
+-O2, beside the same C by gcc -O2 alone, the kernels by wasm2c and by qemu-riscv32, too.
 
     bench/translated.py [--program PATH] [--rounds N] [--interpreted] [NAME ..]
 
-It wants sfi-cc's tools, and for wasm2c clang, wasm-ld and wabt. A program runs again and again over an input that is built in
-(repeat.c); it ends where the checksums differ. Processor seconds of the native program, each the least of N alternated runs, and
-of the others the ratios to it; then the text's bytes for an instruction. With --interpreted, so of the same images by `sfi run`,
-which takes long.
+It wants sfi-cc's tools, for wasm2c clang, wasm-ld and wabt, and for QEMU gcc for RISC-V and qemu-riscv32. A program
+runs again and again over an input that is built in (repeat.c); it ends where the checksums differ. Processor seconds
+of the native program, each the least of N alternated runs, and of the others the ratios to it; then the text's bytes
+for an instruction. With --interpreted, so of the same images by `sfi run`, which takes long.
 """
 import argparse
 import os
@@ -36,6 +36,27 @@ int main(void) {
     Z_kernel_instantiate(&instance);
     printf("%u\\n", Z_kernelZ_run(&instance));
     return 0;
+}
+"""
+RISCV_GCC = "riscv64-unknown-elf-gcc"
+QEMU = "qemu-riscv32"
+# A kernel as a process of Linux on RV32: `write` is call 64, `exit` 93.
+QEMU_RUN = """
+unsigned run(void);
+static void call(long number, long first, long second, long third) {
+    register long a0 __asm__("a0") = first, a1 __asm__("a1") = second, a2 __asm__("a2") = third;
+    register long a7 __asm__("a7") = number;
+    __asm__ volatile("ecall" : "+r"(a0) : "r"(a1), "r"(a2), "r"(a7) : "memory");
+}
+void _start(void) {
+    char text[10];
+    int at = sizeof text;
+    unsigned number = run();
+    do
+        text[--at] = '0' + number % 10;
+    while (number /= 10);
+    call(64, 1, (long)(text + at), sizeof text - at);
+    call(93, 0, 0, 0);
 }
 """
 
@@ -72,6 +93,14 @@ def by_wasm2c(folder, options):
     return [path]
 
 
+def by_qemu(folder, options):
+    """The words that run a kernel's code of RV32IMC, without a sandbox, in QEMU."""
+    path, run = os.path.join(folder, "riscv"), measure.written(os.path.join(folder, "start.c"), QEMU_RUN.encode())
+    machine = ["-march=rv32imc", "-mabi=ilp32", "-mno-relax", "-O2", "-ffreestanding"]
+    call(RISCV_GCC, *machine, "-nostdlib", "-static", "-DRUN_ALONE", *options, run, "-lgcc", "-o", path)
+    return [QEMU, path]
+
+
 def image_in(folder, image_format):
     return os.path.join(folder, f"{image_format}.hex")
 
@@ -105,6 +134,8 @@ def measured(program, name, given, folder):
         ways[image_format] = words, os.devnull
     if name in KERNELS and shutil.which("wasm2c") and shutil.which("clang"):
         ways["wasm2c"] = by_wasm2c(folder, options), os.devnull
+    if name in KERNELS and shutil.which(RISCV_GCC) and shutil.which(QEMU):
+        ways["qemu-riscv32"] = by_qemu(folder, options), os.devnull
     if given.interpreted:
         ways |= {f"run {it}": ([program, "run", *TURNS], image_in(folder, it)) for it in FORMATS}
     answers = {way: answer_of(measure.run(*words)[0]) for way, words in ways.items()}
