@@ -9,6 +9,7 @@ import sys
 import tarfile
 import unittest
 
+import checker_file
 import installed
 import libraries
 import release
@@ -241,7 +242,8 @@ class Scratch(Installing):
         env = {**os.environ, "GIT_COMMITTER_DATE": "2026-11-25T12:00:00Z"}
         for words in (["init", "-q"], ["add", "-A"], ["-c", "user.name=a", "-c", "user.email=a@b", "commit", "-qm", "all"]):
             self.assertEqual(run("git", "-C", top, *words, env=env).stderr, "")
-        for path in [*installed.built(), *release.MADE]:
+        library = pathlib.Path(checker_file.LIBRARY)  # of which a release's suygapid_check.c is made
+        for path in [*installed.built(), *release.MADE, *([library] if library.is_file() else [])]:
             place = top / path.relative_to(TOP)
             place.parent.mkdir(parents=True, exist_ok=True)
             shutil.copy(path, place)
@@ -273,9 +275,25 @@ class Scratch(Installing):
         env = {name: value for name, value in os.environ.items() if name != "SFI"}
         checked = run(top / "sfi", "check", given=SMALLEST, env={**env, "PATH": "/usr/bin:/bin"})
         self.assertEqual((checked.stdout, checked.stderr), (ACCEPTED, ""))
+        self.use_as_a_newcomer(top, {**env, "PATH": "/usr/bin:/bin"})
         self.installs(top=top)
         self.assertEqual(run(self.prefix / "bin" / "sfi", "check", given=SMALLEST).stdout, ACCEPTED)
         self.installs(top=TOP)  # the repository in place of the release
+
+    def use_as_a_newcomer(self, top, env):
+        """Builds and runs a program as a process, looks for the page, and compiles the checker in one file of C."""
+        built = run(top / "sfi", "build", given=(TOP / "examples" / "hi.s").read_text(encoding="utf-8"), env=env)
+        ran = run(top / "sfi", "exec", self.write("hi.hex", built.stdout), given="x", env=env)
+        self.assertEqual((ran.returncode, ran.stdout, ran.stderr), (105, "Hi", ""))
+        for name in ("index.html", "made.js", "sfi.wasm", "sfi.wasm.js"):
+            self.assertTrue((top / "page" / name).is_file(), name)
+        source = top / "crates" / "sfi_c" / "out" / "suygapid_check.c"
+        self.assertEqual(source.is_file(), not checker_file.missing())
+        if source.is_file():
+            checker = self.path("check")
+            made = run("gcc", "-std=c11", "-O2", "-w", "-DSUYGAPID_CHECK_MAIN", source, "-o", checker)
+            self.assertEqual((made.returncode, made.stderr), (0, ""))
+            self.assertEqual(run(checker, given=bytes.fromhex(SMALLEST)).stdout, ACCEPTED.encode())
 
     def test_what_is_not_committed_is_not_released(self):
         top = self.repository("top")
