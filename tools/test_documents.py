@@ -1,7 +1,11 @@
-"""Tests of tools/documents.py: README.md and sfi.1 say of the commands what the program says."""
+"""Tests of tools/documents.py: README.md and sfi.1 say of the commands what the program says. And README files of
+folders name all files there."""
+import re
+import subprocess
 import unittest
 
 import documents
+import testing
 
 HELP = r'''pub(crate) const WALK: &str =
     "Walks \"far\"";
@@ -52,6 +56,23 @@ class Documents(unittest.TestCase):
             self.assertIn(wanted, page)
         self.assertNotIn("old", page)
         self.assertNotIn("Exit status", page)
+
+
+class Folders(unittest.TestCase):
+    """README files that have a line, `- NAME: what it is`, for each file and folder beside them."""
+
+    def test_each_file_has_a_line(self):
+        for folder in ("examples", "examples/c", "examples/device", "tools", "tools/asm2sfi"):
+            with self.subTest(folder=folder):
+                words = ["git", "-C", testing.TOP / folder, "ls-files", "-z"]
+                listed = subprocess.run(words, capture_output=True, check=False)
+                if listed.returncode:
+                    self.skipTest("this isn't a repository of git")
+                names = {it.split("/")[0] for it in listed.stdout.decode().split("\0") if it}
+                text = (testing.TOP / folder / "README.md").read_text(encoding="utf-8")
+                named = re.findall(r"^- `([\w.-]+)/?`: ", text, re.M)
+                named += re.findall(r"`([\w.-]+)`", "".join(re.findall(r"^- tests of these: .*", text, re.M)))
+                self.assertEqual(sorted(named), sorted(names - {"README.md"}))
 
 
 if __name__ == "__main__":
