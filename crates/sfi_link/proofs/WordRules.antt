@@ -1,14 +1,13 @@
 -- No rule is broken at the place of an instruction of code in words, and that is owed after it.
-use Rattle.sfi_link.proofs.Prelude.{◌≡◌, ℕ, ◌+◌, List, [], ◌∷◌, ◌++◌, Option, Some, None, Bool, true, false, refl, sym, ap, ◌∙◌, ◌&&◌, ◌||◌, not, Instr, Piece}
-use Rattle.std.specs.Prelude.{is_some, cond}
+use Rattle.sfi_link.proofs.Prelude.{◌≡◌, ℕ, ◌+◌, List, [], ◌∷◌, ◌++◌, Some, None, Bool, true, false, refl, sym, ap, ◌∙◌, ◌&&◌, ◌||◌, not, Instr, Piece}
+use Rattle.std.specs.Prelude.{is_some}
 use Rattle.rv_word.specs.Outlines.{destination, writes_register}
 use Rattle.sfi_image.specs.declared.bundle.BundlePlace.{BundlePlace}
 use Rattle.sfi_rules.specs.declared.owed.Owed.{Owed}
-use Rattle.sfi_rules.specs.declared.rule.Rule.{Rule}
-use Rattle.sfi_rules.specs.declared.rule.Rule.TheVariants.{V3, V4, V5, V6, V7, V8, V10, V11, V12}
+use Rattle.sfi_rules.proofs.Facts.{none_of}
 use Rattle.sfi_rules.specs.Rules.{breaks_reserved}
 use Rattle.sfi_rules.specs.words.Rules.{breaks_ecall, breaks_access, breaks_jump, breaks_target, breaks_offset, left, owed_by, joined, owed_next, is_of_data, is_of_code}
-use Rattle.sfi_rules.specs.words.Findings.{InstrInWord, is_at_gate, is_data_one, breaks_last, fails_data, fails_code, lowest, found_at, found_from, owed_past}
+use Rattle.sfi_rules.specs.words.Findings.{InstrInWord, is_at_gate, is_data_one, breaks_last, lowest, found_at, found_from, owed_past}
 
 -- ---- what is asked of an instruction
 
@@ -41,20 +40,6 @@ meets_by rest own pays owes next_is = record { rest = rest; pays = pays; own = o
 abbrev pub place : BundlePlace → ℕ → Owed → Instr → ℕ → InstrInWord
 place b at owed i n = record { bundle = b; address = at; owed = owed; instr = i; size = n }
 
-first_true : (b3 b4 b5 b6 b7 b8 b10 b11 b12 : Bool) → Option Rule
-first_true b3 b4 b5 b6 b7 b8 b10 b11 b12 =
-    cond b3 (Some V3) (cond b4 (Some V4) (cond b5 (Some V5) (cond b6 (Some V6) (cond b7 (Some V7) (cond b8 (Some V8) (cond b10 (Some V10) (cond b11 (Some V11) (cond b12 (Some V12) None))))))))
-
-all_false : (b3 b4 b5 b6 b7 b8 b10 b11 b12 : Bool) → b3 ≡ false → b4 ≡ false → b5 ≡ false → b6 ≡ false → b7 ≡ false → b8 ≡ false → b10 ≡ false → b11 ≡ false → b12 ≡ false
-    → first_true b3 b4 b5 b6 b7 b8 b10 b11 b12 ≡ None
-unfolding first_true
-all_false b3 b4 b5 b6 b7 b8 b10 b11 b12 h3 h4 h5 h6 h7 h8 h10 h11 h12 = rw (h3, h4, h5, h6, h7, h8, h10, h11, h12) refl
-
-lowest_is : (x : InstrInWord) → lowest x ≡ first_true (breaks_ecall (is_at_gate x.bundle x.address) x.instr) (breaks_reserved x.instr) (breaks_access x.instr) (breaks_jump x.instr) (breaks_target x.bundle.code_base x.bundle.code_size x.address x.instr) (breaks_last x)
-    (fails_data x.owed x.instr) (fails_code x.owed x.instr) (breaks_offset x.instr)
-unfolding first_true
-lowest_is x = refl
-
 none_fails : (a b l w : Bool) → l ≡ true → w ≡ true → ((a && not l) || (b && not w)) ≡ false
 none_fails true true l w e f = rw (e, f) refl
 none_fails true false l w e f = rw e refl
@@ -66,8 +51,18 @@ none_lowest : (b : BundlePlace) (at n : ℕ) (owed next : Owed) (i : Instr) → 
 none_lowest b at n owed next i gate h last m =
     let l : is_some (left owed i) ≡ true = ap is_some m.pays in
     let w : is_some (owed_by i) ≡ true = ap is_some m.owes in
-    lowest_is (place b at owed i n)
-    ∙ all_false _ _ _ _ _ _ _ _ _ gate h.reserved h.access h.jump h.target last (none_fails (is_of_data owed) (is_data_one (destination i)) _ _ l w) (none_fails (is_of_code owed) (writes_register 30 i) _ _ l w) h.offset
+    none_of (place b at owed i n)
+    (record {
+      v3 = gate;
+      v4 = h.reserved;
+      v5 = h.access;
+      v6 = h.jump;
+      v7 = h.target;
+      v8 = last;
+      v10 = none_fails (is_of_data owed) (is_data_one (destination i)) _ _ l w;
+      v11 = none_fails (is_of_code owed) (writes_register 30 i) _ _ l w;
+      v12 = h.offset;
+    })
 
 owed_after : (owed next : Owed) (i : Instr) → Meets owed i next → owed_next owed i ≡ next
 owed_after owed next i m = ap (λ l. joined l (owed_by i)) m.pays ∙ ap (λ w. joined (Some m.rest) w) m.owes ∙ m.next_is

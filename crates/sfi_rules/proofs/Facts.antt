@@ -9,6 +9,7 @@ use Rattle.sfi_rules.proofs.OneList as lists
 pub use Rattle.sfi_rules.proofs.InBundles.{in_bundles, of_bundles, in_words, of_words, all_found, none_found}
 use Rattle.sfi_rules.proofs.Readings.{longest_one}
 use Rattle.sfi_rules.proofs.Second.{image_of_stack}
+pub use Rattle.sfi_rules.proofs.WordRules.{AreKept, kept_of, none_of}
 
 pub same_bundle_starts : SameBundleStarts
 same_bundle_starts b at = (

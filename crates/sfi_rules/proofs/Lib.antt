@@ -8,3 +8,4 @@ pub mod AfterTwo
 pub mod Facts
 pub mod InBundles
 pub mod WordList
+pub mod WordRules

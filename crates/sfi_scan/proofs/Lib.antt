@@ -24,6 +24,5 @@ pub mod WordPairs
 pub mod WordPlain
 pub mod WordQuiet
 pub mod WordReadings
-pub mod WordRules
 pub mod WordSteps
 pub mod WordStretches

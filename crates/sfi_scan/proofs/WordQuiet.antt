@@ -6,7 +6,7 @@ use Rattle.sfi_rules.specs.Rules.{ends_region}
 use Rattle.sfi_rules.specs.words.Findings.{is_at_gate, is_data_one}
 use Rattle.sfi_rules.specs.words.Rules.{joined, is_of_data, is_of_code, breaks_ecall, breaks_access, breaks_jump, breaks_target}
 use Rattle.sfi_scan.proofs.WordKept.{IsWrite}
-use Rattle.sfi_scan.proofs.WordRules.{none_found}
+use Rattle.sfi_rules.proofs.Facts.{none_of}
 
 -- the instruction breaks none of V3, V5, V6 and V7 at the address
 pub record IsSafe (b : BundlePlace) (at : ℕ) (i : Instr) : Type 0 where
@@ -30,7 +30,7 @@ module _ (b : BundlePlace) (at size : ℕ) (before : IsBeforeEnd b at size) wher
       let there : is_some (left o i) ≡ true = ap is_some e in
       let owes : is_some (owed_by i) ≡ true = ap is_some write.own_is in
       record {
-        none = none_found (record { bundle = b; address = at; owed = o; instr = i; size = size })
+        none = none_of (record { bundle = b; address = at; owed = o; instr = i; size = size })
             (record {
               v3 = safe.ecall;
               v4 = write.reserved;

@@ -7,7 +7,8 @@ use Rattle.sfi_rules.specs.declared.owed.Owed.TheVariants as kind
 use Rattle.sfi_rules.specs.words.Findings.{InstrInWord, is_at_gate, lowest, found_at, found_from, owed_past, IsWordFound}
 use Rattle.sfi_rules.specs.Rules.{rest_finding}
 use Rattle.sfi_word_safety.proofs.Owing.{is_nothing}
-use Rattle.sfi_word_safety.proofs.Judging.{AreKept, kept_of, none_of, after_is_next, ends_owing}
+use Rattle.sfi_word_safety.proofs.Judging.{after_is_next, ends_owing}
+use Rattle.sfi_rules.proofs.Facts.{AreKept, kept_of, none_of}
 use Rattle.sfi_word_safety.proofs.Passing.{BreaksNoneHere, IsKeptHere, IsCleanWith, IsSameWith, with_first, with_last, kept_here, goes}
 use Rattle.rv_comp.proofs.Facts.{two_lengths}
 use Rattle.sfi_rules.proofs.Readings.{IsStuck, spelled_within}
