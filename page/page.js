@@ -161,6 +161,7 @@ function fillPick() {
 
 async function start() {
     const begun = performance.now();
+    if (typeof EXAMPLES === "undefined") return show({ kind: "fault", text: "made.js isn't there: tools/build_page.py makes it" });
     fillPick();
     setTab("image");
     listenToPage();
@@ -169,7 +170,7 @@ async function start() {
     try {
         sfi = await Module.load();
     } catch (error) {
-        return show({ kind: "fault", text: `this browser doesn't run sfi.wasm: ${error.message}` });
+        return show({ kind: "fault", text: `sfi.wasm doesn't run here: ${error.message}` });
     }
     tool = new Tool(sfi);
     pick(decodeURIComponent(location.hash.slice(1)));
