@@ -1,12 +1,15 @@
 //! The gates of a sandbox, which docs/GATES.md describes.
 use crate::{Message, NotPosted, LONGEST};
 
+#[repr(C)]
+struct TakenWord {
+    word: u32,
+    sender_plus_one: u32,
+}
+
+#[cfg(target_arch = "riscv32")]
 mod raw {
-    #[repr(C)]
-    pub struct TakenWord {
-        pub word: u32,
-        pub sender_plus_one: u32,
-    }
+    use super::TakenWord;
 
     extern "C" {
         pub fn exit_with(code: i32) -> !;
@@ -15,6 +18,61 @@ mod raw {
         pub fn yield_turn();
         pub fn post_word(to: u32, word: u32) -> i32;
         pub fn take_word() -> TakenWord;
+    }
+}
+
+/// The same over standard input and output, for a program compiled natively: it is the one sandbox, number 0.
+#[cfg(not(target_arch = "riscv32"))]
+mod raw {
+    use super::TakenWord;
+    use std::io::{stdin, stdout, Read, Write};
+    use std::slice::{from_raw_parts, from_raw_parts_mut};
+    use std::sync::Mutex;
+    use std::vec::Vec;
+
+    const MAILBOX: usize = 16;
+
+    static WORDS: Mutex<Vec<u32>> = Mutex::new(Vec::new());
+
+    pub unsafe fn exit_with(code: i32) -> ! {
+        std::process::exit(code)
+    }
+
+    pub unsafe fn put(bytes: *const u8, length: u32) -> i32 {
+        let bytes = from_raw_parts(bytes, length as usize);
+        let mut output = stdout();
+        match output.write_all(bytes).and_then(|()| output.flush()) {
+            Ok(()) => length as i32,
+            Err(_) => -1,
+        }
+    }
+
+    pub unsafe fn get(bytes: *mut u8, length: u32) -> i32 {
+        let bytes = from_raw_parts_mut(bytes, length as usize);
+        stdin().read(bytes).unwrap_or(0) as i32
+    }
+
+    pub unsafe fn yield_turn() {}
+
+    pub unsafe fn post_word(to: u32, word: u32) -> i32 {
+        let mut words = WORDS.lock().unwrap();
+        if to != 0 {
+            return -1;
+        }
+        if words.len() == MAILBOX {
+            return 1;
+        }
+        words.push(word);
+        0
+    }
+
+    pub unsafe fn take_word() -> TakenWord {
+        let mut words = WORDS.lock().unwrap();
+        let is_held = !words.is_empty();
+        TakenWord {
+            word: if is_held { words.remove(0) } else { 0 },
+            sender_plus_one: is_held as u32,
+        }
     }
 }
 
@@ -27,7 +85,7 @@ pub fn exit(code: i32) -> ! {
 /// Writes at most `LONGEST` bytes to the output, and says whether it did: there may be no room for them.
 pub fn put(bytes: &[u8]) -> bool {
     // SAFETY: the gate reads these bytes.
-    unsafe { raw::put(bytes.as_ptr(), bytes.len() as u32) >= 0 }
+    bytes.len() <= LONGEST && unsafe { raw::put(bytes.as_ptr(), bytes.len() as u32) >= 0 }
 }
 
 /// Reads the next bytes of the input, and answers how many: 0 at its end.

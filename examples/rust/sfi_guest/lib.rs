@@ -10,7 +10,6 @@ extern crate alloc;
 #[cfg(not(target_arch = "riscv32"))]
 extern crate std;
 
-#[cfg_attr(not(target_arch = "riscv32"), path = "native.rs")]
 mod gates;
 #[cfg(target_arch = "riscv32")]
 mod memory;
@@ -18,7 +17,7 @@ mod output;
 #[cfg(target_arch = "riscv32")]
 mod panicking;
 
-pub use gates::{exit, get, post, put, take, yield_turn};
+pub use gates::*;
 pub use output::Output;
 
 use alloc::vec::Vec;
