@@ -1,4 +1,6 @@
-/* The gates that a sandboxed program calls, in C or C++. docs/GATES.md says what the console answers. */
+/* The gates that a sandboxed program calls, in C or C++, in the order of their services' numbers: tools/asm2sfi/services.py reads
+   them here. docs/GATES.md says what the console answers. With -DNATIVE_GATES a program of one file has the gates in it, over
+   standard input and output: compiled natively, it is the one sandbox, number 0. */
 #ifndef GATES_H
 #define GATES_H
 
@@ -33,6 +35,48 @@ struct taken_word {
 /* Takes the oldest word out of this sandbox's mailbox, and doesn't wait: both members are 0 where it is empty. The
    sender is who it says; the word may be any. */
 struct taken_word take_word(void);
+
+#ifdef NATIVE_GATES
+#include <stdio.h>
+#include <stdlib.h>
+
+void exit_with(int code) {
+    exit(code);
+}
+
+long put(const void *bytes, unsigned length) {
+    return length > 65536 ? -1 : (long)fwrite(bytes, 1, length, stdout);
+}
+
+long get(void *bytes, unsigned length) {
+    return length > 65536 ? -1 : (long)fread(bytes, 1, length, stdin);
+}
+
+void yield_turn(void) {
+}
+
+static struct {
+    unsigned words[16], oldest, held;
+} gates_mailbox;
+
+int post_word(unsigned to, unsigned word) {
+    if (to != 0)
+        return -1;
+    if (gates_mailbox.held == 16)
+        return 1;
+    gates_mailbox.words[(gates_mailbox.oldest + gates_mailbox.held++) % 16] = word;
+    return 0;
+}
+
+struct taken_word take_word(void) {
+    struct taken_word none = {0, 0}, found = {gates_mailbox.words[gates_mailbox.oldest], 1};
+    if (gates_mailbox.held == 0)
+        return none;
+    gates_mailbox.oldest = (gates_mailbox.oldest + 1) % 16;
+    gates_mailbox.held--;
+    return found;
+}
+#endif
 
 #ifdef __cplusplus
 }

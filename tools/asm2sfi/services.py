@@ -1,3 +1,10 @@
-"""The gates that any program may call, by the service that each asks for: docs/GATES.md has what they do."""
+"""The gates that any program may call, by the service that each asks for: the functions of examples/c/gates.h, in the order of
+their services' numbers. docs/GATES.md has what they do."""
+import os
+import re
 
-GATES = {"exit_with": 0, "put": 1, "get": 2, "yield_turn": 3, "post_word": 4, "take_word": 5}
+HEADER = os.path.join(os.path.dirname(os.path.realpath(__file__)), "..", "..", "examples", "c", "gates.h")
+
+with open(HEADER, encoding="utf-8") as file:
+    GATES = {name: service for service, name in enumerate(re.findall(r"^[^ ].*\b(\w+)\(.*\);$", file.read(), re.M))}
+SERVICES = [name.partition("_")[0] for name in GATES]  # the console's names: `exit` of exit_with

@@ -31,7 +31,7 @@ def native_answer(path, folder):
     """The exit code and the output of the program as the machine's own compiler makes it, in the
     words of `sfi run`."""
     program = os.path.join(folder, "native")
-    words = [NATIVE, "-O1", "-w", "-fno-builtin", "-I", EXAMPLES, "-I", HERE, "-o", program, path, os.path.join(EXAMPLES, "native_gates.c")]
+    words = [NATIVE, "-O1", "-w", "-fno-builtin", "-DNATIVE_GATES", "-I", EXAMPLES, "-I", HERE, "-o", program, path]
     subprocess.run(words, check=True)
     done = run(program)
     return f"exit={done.returncode} out={done.stdout.hex()}"

@@ -17,7 +17,8 @@ FUNCTIONS = [os.path.join(LIB, "constructors.asm"), os.path.join(CONVERTER, "run
 OF_MOVABLE = [os.path.join(LIB, "movable.s"), os.path.join(LIB, "settle.asm")]  # what a moved program runs before all else
 OVERRIDDEN = ("memcpy", "memmove", "memset", "memcmp", "strlen")  # a program may have its own
 MADE_OF = ("asm2elf/*.py", "asm2elf/lib/*.asm", "asm2elf/lib/*.s", "asm2sfi/*.py", "asm2sfi/*.asm", "asm2sfi/runtime/*.asm",
-           "sfi_cc/compilers.py", "sfi_elf/gates.py", "sfi_elf/libraries.py", "sfi_elf/runtime.py", "sfi_elf/tools.py")
+           "sfi_cc/compilers.py", "sfi_elf/gates.py", "sfi_elf/libraries.py", "sfi_elf/runtime.py", "sfi_elf/tools.py",
+           "../examples/c/gates.h")
 
 
 # The heap of a library's malloc, which goes before the library's own.
