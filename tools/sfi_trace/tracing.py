@@ -2,12 +2,12 @@
 import re
 from collections import Counter
 
+from services import SERVICES
 from sfi_run import Call, Exited, Ready, Trapped
 from sfi_run.console import Console
 
 WRITTEN = re.compile(r"^[a-z.]+ x(\d+), ")
 NO_RESULT = ("sb", "sh", "sw", "beq", "bne", "blt", "bge", "bltu", "bgeu", "fence", "ecall", "ebreak")
-SERVICES = ("exit", "put", "get", "yield", "post", "take")
 
 
 class Watch:
