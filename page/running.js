@@ -64,8 +64,8 @@ function showRegisters(registers, old) {
 }
 
 function showOutput(world, i) {
-    const output = world.of[i].output;
-    $("console").replaceChildren(output.length ? text8.decode(Uint8Array.from(output.slice(-4000))) : make("span", "", "nothing yet"));
+    const output = world.output(i);
+    $("console").replaceChildren(output.length ? text8.decode(output.slice(-4000)) : make("span", "", "nothing yet"));
     $("calls").replaceChildren(...world.log.slice(-40).map((it) => {
         const line = make("div"), said = it.reply === null ? `(${it.call.a0})` : `(${hex8(it.call.a0)}, ${it.call.a1}) = ${it.reply | 0}`;
         line.append(world.count > 1 ? `${it.i}: ` : "", make("b", "", SERVICES[it.call.number]), said);

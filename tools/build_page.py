@@ -5,7 +5,7 @@
 
 - sfi.wasm, all commands and a runtime, by tools/wasm_module.py, which wants the toolchain;
 - sfi.wasm.js, the same as text, for a page that is opened as a file;
-- made.js, the examples and the sentences of the rules, which docs/IMAGE.md has.
+- made.js, the examples, the sentences of the rules, which docs/IMAGE.md has, and the names of services.
 """
 import base64
 import json
@@ -16,7 +16,8 @@ import sys
 TOP = os.path.dirname(os.path.dirname(os.path.abspath(__file__)))
 PAGE = os.path.join(TOP, "page")
 sys.dont_write_bytecode = True
-sys.path.insert(0, os.path.join(TOP, "tools"))
+sys.path[:0] = [os.path.join(TOP, "tools"), os.path.join(TOP, "tools", "asm2sfi")]
+import services
 import wasm_module
 
 # The path below examples, the title, and the input.
@@ -68,7 +69,7 @@ def sentences(heading):
 
 def made_script():
     rules = sentences("Code in bundles")
-    parts = {"EXAMPLES": examples(), "RULES": rules, "WORD_RULES": rules | sentences("Code in words")}
+    parts = {"EXAMPLES": examples(), "RULES": rules, "WORD_RULES": rules | sentences("Code in words"), "SERVICES": services.SERVICES}
     return '"use strict";\n' + "".join(f"const {name} = {json.dumps(value, indent=0)};\n" for name, value in parts.items())
 
 
