@@ -4,6 +4,7 @@ use Rattle.std.specs.List.{All, AllPairs}
 use Rattle.std.proofs.lemmas.List.{length-map}
 use Rattle.std.proofs.lemmas.List.Elements.{All-head, All-tail, All-map}
 use Rattle.std.proofs.lemmas.List.Kept.{AllPairs-cons}
+use Rattle.sfi_formats.specs.Limits.{gates_most, service_most}
 use Rattle.sfi_image.specs.declared.part.Gate.{Gate}
 use Rattle.sfi_image.specs.Spelling.{Part, IsWord, code_region}
 use Rattle.sfi_image.specs.Parts.{IsBundleStart, IsCodeRegion, IsRightPart}
@@ -48,11 +49,11 @@ moved_is_right code data_at p right address region data_region room = record {
   data_placed = data_region;
   guard_room = room;
   start = start_moves code data_at p right address region p.start right.start;
-  gate_count = subst (λ (n : ℕ). n ≤ 64) (sym (length-map p.gates (moved_gate p.code_base code))) right.gate_count;
+  gate_count = subst (λ (n : ℕ). n ≤ gates_most) (sym (length-map p.gates (moved_gate p.code_base code))) right.gate_count;
   init_len = right.init_len;
   gates = record {
     starts = All-map (λ (g : Gate). IsBundleStart (code_region (moved code data_at p)) g.address) (moved_gate p.code_base code) p.gates (λ k d below. start_moves code data_at p right address region _ (right.gates.starts k d below));
-    services = All-map (λ (g : Gate). g.service ≤ 5) (moved_gate p.code_base code) p.gates right.gates.services;
+    services = All-map (λ (g : Gate). g.service ≤ service_most) (moved_gate p.code_base code) p.gates right.gates.services;
     ascending = ascending code data_at p right address region p.gates right.gates.starts right.gates.ascending;
   };
 }
