@@ -9,8 +9,7 @@ use crate::gates::{GateAnswer, Gates};
 use crate::guest::Guest;
 use crate::handover::refuse;
 use crate::message::Message;
-use crate::services::{EXIT, POST, YIELD};
-use crate::session::Session;
+use crate::session::{EXIT, POST, Session, YIELD};
 use rv_mem::Memory;
 use std::alloc::{AllocError, Global};
 use std::marker::Model;
@@ -22,25 +21,9 @@ const POSTED: u32 = 0;
 const FULL: u32 = 1;
 
 /// A host that keeps what each sandbox writes, lets each read the same input from its beginning, at
-/// its own pace, and keeps a mailbox of at most 16 messages for each.
-///
-/// | service | what it does |
-/// |---|---|
-/// | 0 exit | the caller stops, with a0 as its number |
-/// | 1 put | the a1 bytes from a0 on are appended to the caller's output; a0 becomes a1 |
-/// | 2 get | the next bytes of the input, a1 at most, are written from a0 on; a0 becomes their
-/// count |
-/// | 3 yield | the caller goes on in its next turn |
-/// | 4 post | a1, with the caller's number, goes to the end of the mailbox of sandbox a0; a0
-/// becomes 0, or 1 where that mailbox is full |
-/// | 5 take | the first message leaves the caller's mailbox: a0 becomes its word and a1 its sender
-/// plus 1, or both 0 where there is none |
-///
-/// A refused call sets a0 to ffffffff and does nothing else. Put and get are refused where a1 is
-/// above 65536 or one of the a1 addresses from a0 on isn't one of the caller's data region; put
-/// also where the output would have more than 1048576 bytes; post where there is no sandbox a0. A
-/// sandbox may post to itself, and to one that has stopped. All other services are refused, and all
-/// but exit and yield of a caller whose number isn't below the count of sandboxes.
+/// its own pace, and keeps a mailbox of at most 16 messages for each. docs/GATES.md lists its services
+/// and says when they fail. All others are refused, which sets a0 to ffffffff and does nothing else,
+/// and so are all but exit and yield of a caller whose number isn't below the count of sandboxes.
 ///
 /// Only a put that appends bytes takes memory: the mailboxes' room is made with the console.
 #[derive(Drop)]

@@ -30,7 +30,6 @@ mod program;
 mod region;
 mod resetting;
 mod sandbox;
-mod services;
 mod session;
 mod setting;
 mod status;

@@ -9,7 +9,7 @@ ghost use Rattle.sfi_host.specs.Worlds.{seat_of};
 ghost use Rattle.sfi_host.specs.Changing.{stopped_seat};
 
 use crate::region::Region;
-use crate::services::EXIT;
+use crate::session::EXIT;
 use crate::status::Status;
 use rv_step::Cpu;
 use rv_word::Reg;

@@ -1,4 +1,4 @@
-//! What a console keeps of one sandbox.
+//! The services of a console, and what it keeps of one sandbox.
 ghost use Rattle.std.specs.Prelude.{◌≡◌, ◌<◌, ◌↔◌, IsTrue, length, take, drop};
 ghost use Rattle.std.specs.Bool.{OnTrue, OnFalse};
 ghost use Rattle.sfi_host.specs.Hosts.{IsAnswered, IsRefused, LeavesOthers};
@@ -9,11 +9,23 @@ use crate::gates::GateAnswer;
 use crate::guest::Guest;
 use crate::handover::{append, may_hand, refuse};
 use crate::message::Message;
-use crate::services::{GET, PUT, TAKE};
 use arrayvec::ArrayVec;
 use rv_mem::Memory;
 use std::alloc::Global;
 use std::marker::Model;
+
+// The services, by the numbers that a gate asks with.
+pub const EXIT: u32 = 0;
+
+pub const PUT: u32 = 1;
+
+pub const GET: u32 = 2;
+
+pub const YIELD: u32 = 3;
+
+pub const POST: u32 = 4;
+
+pub const TAKE: u32 = 5;
 
 /// How many bytes an output may have.
 const MOST_OUTPUT: usize = 1_048_576;
