@@ -6,6 +6,7 @@ import struct
 import subprocess
 
 from testing import FORMATS, GCC, SFI, SFI_CC, Folder, needs, needs_program
+from services import GATES  # which testing finds
 
 HELLO = '#include "gates.h"\n\nint main(void) {\n    put("Hi", 2);\n    return 105;\n}\n'
 ASSEMBLY = "\t.text\n\t.globl\tmain\nmain:\n\tli\ta0,7\n\tret\n"
@@ -204,7 +205,7 @@ cp {self.folder}/main.asm "$2"
         self.assertIn("-ffixed-x29 -ffixed-x30", self.read("words").splitlines()[-1])
         for options, told in [(["--format", "3"], "argument --format: invalid choice: '3' (choose from '1', '2', 'words')"),
                               (["--gate", "a=0", "--gate", "a=1"], "argument --gate: 'a' is given twice"),
-                              (["--gate", "a=6"], "argument --gate: 'a=6' isn't NAME=SERVICE with a service from 0 to 5"),
+                              (["--gate", "a=99"], f"argument --gate: 'a=99' isn't NAME=SERVICE with a service from 0 to {max(GATES.values())}"),
                               (["--gate", "main=1"], "argument --gate: 'main' is the program's first function already"),
                               (["--gate", "put=3"], "argument --gate: 'put' is the gate of service 1 already"),
                               (["--export", "a", "--export", "a"], "argument --export: 'a' is given twice"),

@@ -42,8 +42,8 @@ export declare class Exited { readonly number: number }
 /** The sandbox has stopped, at an instruction that trapped. The address is that of the access, or else the pc. */
 export declare class Trapped { readonly cause: Cause; readonly address: number }
 
-/** The sandbox stands at a call of a gate, and waits for a reply. The service is 0 to 5; the gate is its place among the
- * sandbox's gates, 0 to 63, and pc is its address. */
+/** The sandbox stands at a call of a gate, and waits for a reply. The service is the gate's; the gate is its place among
+ * the sandbox's gates, 0 to 63, and pc is its address. */
 export declare class Call {
   readonly service: number;
   readonly a0: number; readonly a1: number; readonly a2: number; readonly a3: number;

@@ -122,8 +122,8 @@ class Ready:
 
 @dataclass(frozen=True)
 class Call:
-    """The sandbox stands at a call of a gate, and waits for a reply. The service is 0 to 5; the gate is its place among the
-    sandbox's gates, 0 to 63, and pc is its address."""
+    """The sandbox stands at a call of a gate, and waits for a reply. The service is the gate's; the gate is its place
+    among the sandbox's gates, 0 to 63, and pc is its address."""
     service: int
     a0: int
     a1: int

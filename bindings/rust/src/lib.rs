@@ -181,7 +181,7 @@ pub enum Cause {
 /// A call of a gate, at which a sandbox stands.
 #[derive(Clone, Copy, Debug, PartialEq, Eq)]
 pub struct Call {
-    /// The gate's service, 0 to 5.
+    /// The gate's service.
     pub service: u32,
     /// The first argument.
     pub a0: u32,

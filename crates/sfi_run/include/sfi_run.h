@@ -134,7 +134,7 @@ enum sfi_run_cause {
 /* How a sandbox stands, with what belongs to it. What its kind doesn't speak of is 0. */
 struct sfi_run_event {
     uint32_t kind;   /* one of enum sfi_run_kind */
-    uint32_t number; /* CALL: the service, 0 to 5 (docs/GATES.md); EXITED: the number; TRAPPED: one of enum sfi_run_cause */
+    uint32_t number; /* CALL: the service (docs/GATES.md); EXITED: the number; TRAPPED: one of enum sfi_run_cause */
     uint32_t gate;   /* CALL: which of its gates, 0 to 63, in the order of the image */
     uint32_t pc;     /* its pc, at a CALL the gate's address; 0 where there is no sandbox */
     uint32_t a0;     /* CALL: a0; TRAPPED: the address of the access, and for the causes 1 to 3 the pc */

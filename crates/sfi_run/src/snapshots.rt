@@ -15,7 +15,7 @@ pub struct SfiRunEvent {
     /// 0: there is no such sandbox; 1: it is ready; 2: it waits at a call; 3: it has exited; 4: it
     /// has trapped; 5: its host stopped it.
     pub kind: u32,
-    /// The service, 0 to 5, the number with which it exited, or that of the trap's cause.
+    /// The gate's service, the number with which it exited, or that of the trap's cause.
     pub number: u32,
     /// The gate of a call, by its place among the sandbox's gates.
     pub gate: u32,

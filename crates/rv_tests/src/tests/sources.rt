@@ -189,7 +189,7 @@ const FAULTS: &str = "
 1 Word line 2: frob a0 | NOP | .foo: nop | é | nop 'x | add a0, -x, a0 | x: --5 | nop : x
 1 Word line 3: x: add a0, a0, a0 # y; $ | .option rvc; frob
 2 Register line 2: add a0, a0, q9 | add a0, , a0 | sw 5, 0(a1) | jal 5, x | mv a0, 5 | jr 5 | bnez x, x | la x, y | add a0, q9 $
-3 Number line 2: .sandbox 300 | .sandbox 128 | .sandbox 2097152 | .sandbox a | .gate y 6 | .gate y -1 | .gate y, 1 | addi a0, a0, 2048
+3 Number line 2: .sandbox 300 | .sandbox 128 | .sandbox 2097152 | .sandbox a | .gate y 99 | .gate y -1 | .gate y, 1 | addi a0, a0, 2048
 3 Number line 2: addi a0, a0, 99999999999999999999 | slli a0, a0, 32 | lw a0, 2048(a1) | lw a0, -2049(a1) | sw a0, 2048(a1) | sw a0, -2049(a1)
 3 Number line 2: lw a0, (a1) | jalr a0, 2048(a1) | lui a0, 1048576 | auipc a0, -1 | fence 4096, x0, x0 | li a0, 4294967296 | li a0, -2147483649
 3 Number line 2: addi x1, x1, 2048 x
