@@ -1,5 +1,7 @@
 /* The layout of an image, read in order; each code region is scanned where it stands. Part of checker.c. */
 
+#include "../crates/sfi_translate/include/sfi_services.h"
+
 enum { MAGIC = 1, COUNT, SHORT, CODE, DATA, GUARD_ROOM, START, GATES, INIT, OVERLAP, TRAILING };
 
 typedef struct { u64 begin, end; } Span;
@@ -70,7 +72,7 @@ static const u8 *take_gates(Check *c, const Numbers *n) {
         if (!gate)
             return NULL;
         bool is_above = k == 0 || word_at(gate) > word_at(gate - 8);
-        if (!is_bundle_start(n, word_at(gate)) || !is_above || word_at(gate + 4) > 5) {
+        if (!is_bundle_start(n, word_at(gate)) || !is_above || word_at(gate + 4) >= SFI_SERVICES) {
             c->fault = GATES;
             return NULL;
         }

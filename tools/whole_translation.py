@@ -1,6 +1,6 @@
 #!/usr/bin/env python3
-"""Makes what `sfi translate --whole` prints before the lines of a translation, of the header sfi_native.h and of the console
-examples/translate/sfi_console.c. The file includes itself where the header reads the lines.
+"""Makes what `sfi translate --whole` prints before the lines of a translation, of the console examples/translate/sfi_console.c
+and the headers sfi_native.h and sfi_services.h. The file includes itself where the first header reads the lines.
 
     tools/whole_translation.py [--write]    compares it with what stands in the crate sfi_answers, or writes it there
 """
@@ -9,7 +9,7 @@ import re
 import sys
 
 TOP = os.path.dirname(os.path.dirname(os.path.abspath(__file__)))
-HEADER = os.path.join(TOP, "crates/sfi_translate/include/sfi_native.h")
+HEADERS = os.path.join(TOP, "crates/sfi_translate/include")
 CONSOLE = os.path.join(TOP, "examples/translate/sfi_console.c")
 MADE = os.path.join(TOP, "crates/sfi_answers/src/whole_program.rt")
 BEGINNING = """\
@@ -40,11 +40,13 @@ def without_comments(text):
 
 
 def front():
-    """The header and the console, in a file that reads itself again for its lines."""
-    console = read(CONSOLE)
-    include = '#include "sfi_native.h"\n'
-    assert console.count(include) == 1
-    return BEGINNING + without_comments(OWN_NAME + console.replace(include, read(HEADER)) + "#else\n")
+    """The headers and the console, in a file that reads itself again for its lines."""
+    whole = read(CONSOLE)
+    for header in ("sfi_native.h", "sfi_services.h"):
+        include = f'#include "{header}"\n'
+        assert whole.count(include) == 1
+        whole = whole.replace(include, read(os.path.join(HEADERS, header)))
+    return BEGINNING + without_comments(OWN_NAME + whole + "#else\n")
 
 
 def source():

@@ -17,8 +17,6 @@ enum {
     BUNDLE = 16,
     WORD = 4,
     GUARD_ZONE = 4096, /* on each side of the data: every access there has to trap, and the sandbox ends by it */
-    PUT_MOST = 65536, /* bytes of a put or get */
-    MAILBOX_WORDS = 16,
     ENTRY_ARGUMENTS = 8
 };
 
@@ -53,10 +51,6 @@ struct frame {
 
 enum state { READY, EXITED, TRAPPED };
 
-struct letter {
-    uint32_t sender, word;
-};
-
 struct sandbox {
     struct part part;
     struct frame frame;
@@ -65,9 +59,8 @@ struct sandbox {
     const char *trap;           /* of TRAPPED */
     uint32_t trap_address;
     uint64_t steps;
-    uint32_t input_read, output_length, letter_count;
     uint32_t moved;             /* bytes of a put or get that goes on */
-    struct letter mailbox[MAILBOX_WORDS];
+    uint32_t output_length;
     uint8_t output[OUTPUT_MOST];
 };
 
@@ -145,7 +138,7 @@ uint8_t *own_bytes(const struct world *world, uint32_t number, uint32_t address,
 /* services.c, or a vendor's file in its place: answers a call. It may change the call's a0 and a1, what
    own_bytes gives it, and what is the host's own */
 struct call {
-    uint32_t caller, service, a0, a1;   /* the caller's number; 0 to 5 */
+    uint32_t caller, service, a0, a1;   /* the caller's number; that of its gate's service */
 };
 enum outcome {
     REPLIED,
