@@ -1,5 +1,5 @@
 /* A checker of images in plain C, a yardstick for `sfi check` and for the library. It is UNTRUSTED: nothing is proved of it, it is used
-   for measuring alone, and no image should be run because it accepts it. It tests the layout and the rules V1 to V10 of both formats.
+   for measuring alone, and no image should be run because it accepts it. It tests the layout and the rules of code in bundles.
 
        gcc -O2 [-DCLASS_TABLE] -o checker bench/checker.c
 

@@ -1,4 +1,4 @@
-/* The rules V1 to V10 on a region of code. Part of checker.c. */
+/* The rules of code in bundles, on a region of code. Part of checker.c. */
 
 typedef struct { u32 sandbox, address, rule; } Finding;
 

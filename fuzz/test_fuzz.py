@@ -29,7 +29,6 @@ MOST = 600  # cases in which a planted fault has to be found
 KINDS = dict(jal="jal", jalr="jalr", ecall="ecall", ebreak="ebreak", addi="addi")
 KINDS.update({"or": "or", "and": "and", "sb": "store", "sh": "store", "sw": "store"})
 KINDS.update({it: "load" for it, _ in machine.LOADS.values()}, **{it: "branch" for it in machine.TAKEN})
-FORMATS_OF_RULES = {"V9": (1, 2), "V10": (2, 3), "V11": (3,), "V12": (3,)}
 needs_gcc = testing.needs("gcc")
 
 
@@ -133,8 +132,8 @@ class Planted(testing.Folder):
 
     def test_escapes_are_found_without_a_rule(self):
         findings = calls.findings_by(verdicts.Judge(self.folder))
-        for rule in verdicts.NAMES:
-            for format in FORMATS_OF_RULES.get(rule, (1, 2, 3)):
+        for format, rules in verdicts.NAMES.items():
+            for rule in rules:
                 self.found_without(rule, format, findings)
 
     def found_without(self, rule, format, findings):

@@ -5,6 +5,7 @@ With a rule left out they say what a checker without it would say: the compariso
 import dataclasses
 import functools
 import os
+import re
 
 import fuzzing
 import layout
@@ -12,9 +13,10 @@ import layout
 import measure
 import word_rules
 
-NAMES = dict(V1="decode", V2="cross", V3="ecall", V4="reserved", V5="access", V6="jump", V7="target", V8="end", V9="gate",
-             V10="stack", V11="code", V12="offset")
-NAME_OF_V10_IN_WORDS = "data"
+with open(os.path.join(fuzzing.TOP, "docs", "IMAGE.md"), encoding="utf-8") as file:
+    IN_BUNDLES, IN_WORDS = (dict(re.findall(r"^\| (V\d+) \| `(\w+)` \|", text, re.MULTILINE))
+                            for text in file.read().split("\n## Code in words\n"))
+NAMES = {1: {rule: name for rule, name in IN_BUNDLES.items() if rule != "V10"}, 2: IN_BUNDLES, 3: IN_WORDS}  # by format
 
 
 @dataclasses.dataclass(frozen=True)
@@ -41,10 +43,6 @@ class Verdict:
 
 def no_image(fault):
     return Verdict(fault, 0, 0, ())
-
-
-def name_of(rule, format):
-    return NAME_OF_V10_IN_WORDS if (rule, format) == ("V10", 3) else NAMES[rule]
 
 
 def findings_in_words(number, part, but):
@@ -103,7 +101,7 @@ class Judge:
             what = f".half 0x{int.from_bytes(part.code[place : place + 2], 'little'):04x}"
         elif rule == "V9":
             what = "stub expected"
-        return f"{sandbox} {address:08x} {rule} {name_of(rule, part.format)} {what}"
+        return f"{sandbox} {address:08x} {rule} {NAMES[part.format][rule]} {what}"
 
 
 def is_line(begun, line):

@@ -7,8 +7,8 @@ export type Cause = (typeof Cause)[keyof typeof Cause];
 export declare const VERSION: string;
 type Bytes = ArrayBuffer | ArrayBufferView;
 
-/** A rule that is broken, 1 for V1 to 12 for V12, and where: the sandbox, and the address of the instruction's first byte, or
- * of the bytes that are none; for V9 that of the gate. */
+/** A rule that is broken, 1 for V1 and so on, and where: the sandbox, and the address of the instruction's first byte, or of
+ * the bytes that are none; for V9 that of the gate. */
 export interface Finding { readonly sandbox: number; readonly address: number; readonly rule: number }
 
 /** An image in which rules are broken `findings` times, the `first` time there. */

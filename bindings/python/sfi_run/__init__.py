@@ -46,7 +46,7 @@ Library = _library.Library
 
 @dataclass(frozen=True)
 class Finding:
-    """A rule that is broken, 1 for V1 to 12 for V12, and where: the sandbox, and the address of the instruction's first byte,
+    """A rule that is broken, 1 for V1 and so on, and where: the sandbox, and the address of the instruction's first byte,
     or of the bytes that are none; for V9 that of the gate."""
     sandbox: int
     address: int

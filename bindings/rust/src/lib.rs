@@ -38,7 +38,7 @@ pub struct Finding {
     pub sandbox: u32,
     /// That of the instruction's first byte, or of the bytes that are none; for V9 the gate's.
     pub address: u32,
-    /// 1 for V1 to 12 for V12.
+    /// 1 for V1, and so on.
     pub rule: u32,
 }
 

@@ -77,7 +77,7 @@ enum sfi_layout_fault {
 struct sfi_finding {
     uint32_t sandbox; /* the sandbox's place in the image, counted from 0 */
     uint32_t address; /* that of the instruction's first byte, or of the bytes that are none; for V9 the gate's */
-    uint32_t rule;    /* 1 for V1 to 12 for V12 (docs/IMAGE.md) */
+    uint32_t rule;    /* 1 for V1, and so on (docs/IMAGE.md) */
 };
 
 /* The verdict on an image. What its status doesn't speak of is 0. */

@@ -42,7 +42,7 @@ pub struct SfiFinding {
     /// The address of the instruction's first byte, or of bytes that are no instruction; for V9 the
     /// gate's.
     pub address: u32,
-    /// The rule's number, 1 for V1 to 12 for V12.
+    /// The rule's number, 1 for V1 and so on.
     pub rule: u32,
 }
 
