@@ -8,7 +8,6 @@ use Rattle.sfi_safety.specs.Needed.{IsNeeded, EachRuleIsNeeded, EachRuleOfWordsI
 use Rattle.sfi_safety.specs.Samples.{sandbox, undecodable, crossing_store, ecall_at_no_gate, written_rd_forgotten, pair_on_x0, pair_across_bundles, jalr_offset_ignored, jump_to_any_start, running_off_the_end, gate_comes_back_elsewhere, stack_not_put_back, undecodable_after_ebreak, crossing_after_ebreak, ecall_after_ebreak, nops_after_ebreak, sandboxed_store}
 use Rattle.sfi_safety.specs.WordSamples.{undecodable_word, crossing_words, ecall_in_words, data_base_written, untyped_base, jump_past_its_register, jump_out, nop_at_the_end, data_register_not_put_back, code_register_not_put_back, offset_not_masked, stored_in_words}
 use Rattle.sfi_safety.proofs.Needed as needed
-use Rattle.sfi_safety.proofs.NeededBundles as bundles
 use Rattle.sfi_safety.proofs.NeededWords as words
 use Rattle.sfi_safety.proofs.Sandboxed as sandboxed
 use Rattle.sfi_safety.proofs.SandboxedWords as sandboxed_words
@@ -55,10 +54,10 @@ each_rule_of_words_is_needed = words.each_rule_of_words
 -- ---- the samples that show it
 
 pub undecodable_is_unsafe : (f : Format) → has_words f ≡ false → IsNeeded V1 0x01000000 (sandbox (undecodable f))
-undecodable_is_unsafe = bundles.undecodable_unsafe
+undecodable_is_unsafe = needed.undecodable_unsafe
 
 pub crossing_store_is_unsafe : (f : Format) → has_words f ≡ false → IsNeeded V2 0x0100000e (sandbox (crossing_store f))
-crossing_store_is_unsafe = bundles.crossing_store_unsafe
+crossing_store_is_unsafe = needed.crossing_store_unsafe
 
 pub ecall_at_no_gate_is_unsafe : (f : Format) → has_words f ≡ false → IsNeeded V3 0x01000000 (sandbox (ecall_at_no_gate f))
 ecall_at_no_gate_is_unsafe = needed.ecall_at_no_gate_unsafe
@@ -79,10 +78,10 @@ pub jump_to_any_start_is_unsafe : (f : Format) → has_words f ≡ false → IsN
 jump_to_any_start_is_unsafe = needed.jump_to_any_start_unsafe
 
 pub running_off_the_end_is_unsafe : (f : Format) → has_words f ≡ false → IsNeeded V8 0x010000fc (sandbox (running_off_the_end f))
-running_off_the_end_is_unsafe = bundles.running_off_the_end_unsafe
+running_off_the_end_is_unsafe = needed.running_off_the_end_unsafe
 
 pub gate_comes_back_elsewhere_is_unsafe : (f : Format) → has_words f ≡ false → IsNeeded V9 0x01000000 (sandbox (gate_comes_back_elsewhere f))
-gate_comes_back_elsewhere_is_unsafe = bundles.gate_comes_back_elsewhere_unsafe
+gate_comes_back_elsewhere_is_unsafe = needed.gate_comes_back_elsewhere_unsafe
 
 pub stack_not_put_back_is_unsafe : IsNeeded V10 0x01000000 (sandbox stack_not_put_back)
 stack_not_put_back_is_unsafe = needed.stack_not_put_back_unsafe

@@ -2,7 +2,6 @@ pub mod Prelude
 pub mod Effects
 pub mod NextPlace
 pub mod PairResult
-pub mod NeededBundles
 pub mod Needed
 pub mod Stricter
 pub mod Undecodable

@@ -5,7 +5,7 @@ use Rattle.rv_step.specs.declared.outcome.Cause.TheVariants as cause
 use Rattle.sfi_safety.proofs.Readings.{ebreak_spelled, read_bundle, four_words, code_findings, all_findings, quiet, none_listed, wide, ecall_spelled}
 use Rattle.sfi_safety.proofs.Samples.{IsSample, without_gates, size, refused, stands}
 use Rattle.sfi_safety.proofs.Undecodable.{ones_begin_nothing}
-use Rattle.sfi_safety.proofs.NeededBundles.{nop_spelled, short_nop, half_begins_nothing}
+use Rattle.sfi_safety.proofs.Needed.{nop_spelled, short_nop, half_begins_nothing}
 use Rattle.rv_step.proofs.Facts.{one_instruction, step_is_effect}
 use Rattle.sfi_safe_runs.proofs.Formats.{to_bundle}
 
