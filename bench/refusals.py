@@ -3,19 +3,23 @@
 
     bench/refusals.py [--program PATH]
 
-Loads refuse.c before the C library, and lets the Nth allocation of a run fail, for N from 1 on, until there is none left to fail.
+Tries the commands in the table of crates/sfi_hostile_tests, and more. Loads refuse.c before the C library, and lets the Nth
+allocation of a run fail, for N from 1 on, until there is none left to fail.
 Each run has to end in status 4 with nothing printed, or as it does with ample memory. It prints a line for each command, and a
 last line `N passed, M failed`, in which a command counts as failed where a run of it ended otherwise. It wants gcc.
 """
 import argparse
 import os
+import re
 import shutil
 import subprocess
 import tempfile
 
 import measure
 
-EXAMPLES = os.path.join(os.path.dirname(measure.HERE), "examples")
+TOP = os.path.dirname(measure.HERE)
+EXAMPLES = os.path.join(TOP, "examples")
+TABLE = os.path.join(TOP, "crates", "sfi_hostile_tests", "src", "tests", "commands.rt")
 
 
 def done(words, text, library=None, number=0):
@@ -41,6 +45,11 @@ def read(path):
         return file.read()
 
 
+def listed():
+    """The commands of the table, each with the name of what it reads."""
+    return [(line.split(), name) for line, name in re.findall(r"^= sfi (.*?) \| (.*?) \|", read(TABLE).decode(), re.MULTILINE)]
+
+
 def commands(program):
     """Command lines, and what they read."""
     source = read(os.path.join(EXAMPLES, "hi.s"))
@@ -51,33 +60,22 @@ def commands(program):
     two = done([program, "build"], b".sandbox 256\nebreak\n" + source)[1]
     # The first code of the first sandbox: sw x11, 0(x10).
     reaching = two[:72] + b"2320b500" + two[80:]
-    return [
-        (["check"], image),
-        (["check", "--report"], bare),
+    inputs = {"smallest": smallest, "smallest bytes": bytes.fromhex(smallest.decode()), "pair on x0": bare, "source": source,
+              "program": image, "head": smallest[:40]}
+    return [(words, inputs[name]) for words, name in listed()] + [
         (["check", "--report"], reaching),
         (["check", "--raw"], raw),
-        (["check"], raw),
-        (["dis"], raw),
-        (["check"], smallest[:40]),
-        (["build"], source),
-        (["build", "--raw"], source),
         (["build"], source + b"frob\n"),
-        (["build", "--at", "20500000:80000000"], source),
-        (["map"], source),
         (["map"], source + b"frob\n"),
         (["dis"], image),
-        (["run"], image),
         (["run", "--rounds", "3", "--quantum", "8", "--input", "616263"], image),
         (["run", "--rounds", "1000", "--quantum", "1"], two),
         (["run", "--report"], two),
         (["run"], reaching),
-        (["convert"], image),
         (["convert", "--raw"], raw),
         (["convert"], bare),
-        (["move", "--at", "20500000:80000000"], image),
         (["move", "--at", "20500000:80000000", "--raw"], raw),
         (["move", "--at", "20500000:80000000"], bare),
-        (["translate"], image),
         (["translate", "--whole"], bare),
         (["frob"], b""),
         (["--help"], b""),
