@@ -1,7 +1,7 @@
 //! What is built of texts, and texts that aren't built.
 
 /// Images to the letter, written by hand.
-pub(super) const BUILDS: &str = "
+pub(super) const BUILDS: &str = "6 commands
 source; $ sfi build
 = two letters; text hi; >text front of hi; >+ 88 0290; >+ 1 4869; >
 = a text that yields; text yields; >+ 1 534649310100000000000001000100000000800100010000100000010100000000000000000000010300000073000000b3ff9001b3ef8f0167800f00010001000100010001000100eff05ffe6ff01fff; >+ 110 0290; >
@@ -18,7 +18,7 @@ source; $ sfi build
 ";
 
 /// Texts that can't be built, and the fault of each. Each ends in a line feed. `source` in a row drops `.sandbox`.
-pub(super) const REFUSED: &str = "
+pub(super) const REFUSED: &str = "12 commands
 source; | .sandbox 256; $ sfi build
 = a reserved register; | mv t6, a0; > rewrite fault 1 ReservedRegister line 2
 = ecall; | ecall; > rewrite fault 2 Ecall line 2
@@ -35,7 +35,7 @@ source; | .sandbox 256; $ sfi build
 ";
 
 /// Directives `.format` with no line feed at the end.
-pub(super) const DIRECTIVES: &str = "
+pub(super) const DIRECTIVES: &str = "13 commands
 source; $ sfi build
 = .format 3; + 1 .format 3; > source fault 3 Number line 1
 = .format 0; + 1 .format 0; > source fault 3 Number line 1
@@ -53,7 +53,7 @@ source; $ sfi build
 ";
 
 /// Texts that load x2 or link in it, in the second format.
-pub(super) const WRITES: &str = "
+pub(super) const WRITES: &str = "5 commands
 source; | .format 2; | .sandbox 256; $ sfi build
 = lw sp, 0(a0); | lw sp, 0(a0); > rewrite fault 5 StackWrite line 3
 = jalr sp, 0(a0); | jalr sp, 0(a0); > rewrite fault 5 StackWrite line 3
@@ -63,7 +63,7 @@ source; | .format 2; | .sandbox 256; $ sfi build
 ";
 
 /// Three of them in the first format, which builds them.
-pub(super) const FIRST_WRITES: &str = "
+pub(super) const FIRST_WRITES: &str = "3 commands
 source; | .sandbox 256; $ sfi build; ..
 = lw sp, 0(a0); | lw sp, 0(a0)
 = jalr sp, 0(a0); | jalr sp, 0(a0)
@@ -71,7 +71,7 @@ source; | .sandbox 256; $ sfi build; ..
 ";
 
 /// A text that keeps a number on its stack.
-pub(super) const KEPT: &str = "
+pub(super) const KEPT: &str = "4 commands
 source; $ sfi build | sfi run
 = no format; text stacked; > sandbox=0 exit=5 steps=16 out=
 = .format 1; | .format 1; text stacked; > sandbox=0 exit=5 steps=16 out=
@@ -80,7 +80,7 @@ source; $ sfi build | sfi run
 ";
 
 /// Texts at the limits of what can be built, and one step beyond. A store takes 12 bytes, so that no bundle holds two.
-pub(super) const LIMITS: &str = "
+pub(super) const LIMITS: &str = "17 commands
 source; $ sfi build | sfi check
 = a branch at the first byte of the code; | .sandbox 256; | beqz a0, over; times 255 sw a1, 0(a2); | over:; > accepted sandboxes=1 bundles=256
 = a branch 4094 bytes ahead, the farthest; | .sandbox 256; | .option rvc; | nop; | beqz a0, over; times 255 sw a1, 0(a2); | over:
@@ -104,7 +104,7 @@ source; $ sfi build | sfi check
 ";
 
 /// Texts as `dis` lists what is built of them.
-pub(super) const LISTED: &str = "
+pub(super) const LISTED: &str = "3 commands
 source; $ sfi build | sfi dis
 = a branch 4094 bytes ahead, as it is listed; | .sandbox 256; | .option rvc; | nop; | beqz a0, over; times 255 sw a1, 0(a2); | over:
 ..; >; > 01000002 7e050fe3 beq x10, x0, 4094; ..
@@ -121,7 +121,7 @@ source; $ sfi build | sfi dis
 ";
 
 /// The most code of the second format.
-pub(super) const LONG_TEXTS: &str = "
+pub(super) const LONG_TEXTS: &str = "2 commands
 source; $ sfi build | sfi check
 = more code in the second format; | .format 2; | .sandbox 256; times 4097 sw a1, 0(a2); > accepted sandboxes=1 bundles=8192
 = the most code of the second format; | .format 2; | .sandbox 256; times 65536 sw a1, 0(a2); > accepted sandboxes=1 bundles=65536
@@ -129,7 +129,7 @@ source; $ sfi build | sfi check
 
 /// Each instruction takes at most one bundle, so without gates the limit of instructions comes
 /// before that of bundles.
-pub(super) const TOO_LONG_TEXTS: &str = "
+pub(super) const TOO_LONG_TEXTS: &str = "2 commands
 source; $ sfi build | sfi check
 = an instruction more than a text may have; | .format 2; | .sandbox 256; times 65537 sw a1, 0(a2); > source fault 7 Limit line 65539
 = a bundle more than the second format has; | .format 2; | .sandbox 256; | .gate quit 0; times 65536 sw a1, 0(a2); > link fault 3 TooLarge sandbox 0

@@ -1,7 +1,7 @@
 //! Verdicts on images, by their digits and by their own bytes.
 
 /// Right layouts, and each fault of a layout.
-pub(super) const LAYOUTS: &str = "
+pub(super) const LAYOUTS: &str = "42 commands
 $ sfi check; $ sfi check --raw
 = smallest; > accepted sandboxes=1 bundles=16
 = magic; put 0 53464933; > layout fault 1 Magic
@@ -28,7 +28,7 @@ $ sfi check; $ sfi check --raw
 ";
 
 /// Code that keeps each rule, and code that breaks it.
-pub(super) const RULES: &str = "
+pub(super) const RULES: &str = "40 commands
 $ sfi check; $ sfi check --raw
 = masked store; put 36 b37fb501b3efaf0123a0bf00; > accepted sandboxes=1 bundles=16
 = masked store in c.nops; put 36 0100b37fb501b3efaf0123a0bf000100; > accepted sandboxes=1 bundles=16
@@ -55,7 +55,7 @@ $ sfi check; $ sfi check --raw
 ";
 
 /// Digits, and white space between them.
-pub(super) const DIGITS: &str = "
+pub(super) const DIGITS: &str = "6 commands
 source; $ sfi check
 = odd; + 1 53464; > input fault hex odd
 = odd before a wrong digit; + 1 5g3; > input fault hex odd
@@ -67,7 +67,7 @@ source; $ sfi check
 ";
 
 /// Images as their own bytes, and what doesn't begin as one.
-pub(super) const BYTES: &str = "
+pub(super) const BYTES: &str = "19 commands
 source; text hi
 = checked; $ sfi build --raw | sfi check; $ sfi build --raw | sfi check --report; > accepted sandboxes=1 bundles=16
 = run; $ sfi build --raw | sfi run; > sandbox=0 exit=105 steps=19 out=4869
@@ -84,7 +84,7 @@ source; text hi
 
 /// Sandboxes that are refused although they are safe, by rules that are stricter than safety asks somewhere. Of V1, V2, V3
 /// and V8 a theorem says so.
-pub(super) const SAFE: &str = "
+pub(super) const SAFE: &str = "6 commands
 $ sfi check
 = x24 written as it was; put 36 130c0c00; > refused findings=1 first=V4 sandbox=0 at=01000000; # addi x24, x24, 0
 = a second store after a pair; put 36 b37fb501b3efaf0123a0bf0023a2cf00; # and x31, x10, x27, or x31, x31, x26, sw x11, 0(x31), sw x12, 4(x31)
@@ -99,7 +99,7 @@ $ sfi check
 
 /// Such sandboxes of code in words. `c.ebreak` ends a run, so what stands behind it in its word is
 /// never reached.
-pub(super) const SAFE_WORDS: &str = "
+pub(super) const SAFE_WORDS: &str = "10 commands
 put 0 53464957; $ sfi check
 = an undecodable halfword after a c.ebreak; put 36 02900000; > refused findings=1 first=V1 sandbox=0 at=01000002
 = a 32-bit instruction that begins after a c.ebreak; put 36 02900305; > refused findings=1 first=V2 sandbox=0 at=01000002
@@ -114,7 +114,7 @@ put 0 53464957; $ sfi check
 ";
 
 /// Code, data, first data bytes and gates at the limits of a layout, and one step beyond.
-pub(super) const LIMITS: &str = "
+pub(super) const LIMITS: &str = "36 commands
 $ sfi check; $ sfi check --raw
 = code of 128 bytes, 128 there, in the first format; put 0 53464931; put 12 80000000; end 36 32 73001000; > layout fault 4 Code
 = code of 65536 bytes, 65536 there, in the first format; put 0 53464931; put 12 00000100; end 36 16384 73001000; > accepted sandboxes=1 bundles=4096
@@ -141,7 +141,7 @@ $ sfi check; $ sfi check --raw
 ";
 
 /// Code in the first format. The pair of the second is `and x2, x2, x27`, `or x2, x2, x26`.
-pub(super) const FIRST: &str = "
+pub(super) const FIRST: &str = "22 commands
 $ sfi check; $ sfi check --raw
 = written before the pair; put 36 130101ff3371b1013361a101; > accepted sandboxes=1 bundles=16
 = written before the next bundle's pair; put 48 130101ff3371b1013361a101; > accepted sandboxes=1 bundles=16
@@ -157,7 +157,7 @@ $ sfi check; $ sfi check --raw
 ";
 
 /// The same code in the second format.
-pub(super) const SECOND: &str = "
+pub(super) const SECOND: &str = "22 commands
 put 0 53464932; $ sfi check; $ sfi check --raw
 = written before the pair; put 36 130101ff3371b1013361a101; > accepted sandboxes=1 bundles=16
 = written before the next bundle's pair; put 48 130101ff3371b1013361a101; > refused findings=1 first=V10 sandbox=0 at=0100000c

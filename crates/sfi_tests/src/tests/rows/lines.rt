@@ -178,6 +178,12 @@ fn push_row(text: &mut Vec<u8>, head: &str, row: &str) -> Result<(), AllocError>
     push_lines(text, rest)
 }
 
+/// The number in the line with which the table begins: that of its rows' commands.
+pub(super) fn count_of(table: &str) -> Option<usize> {
+    let (digits, _) = table.split_once(" commands\n")?;
+    number(digits)
+}
+
 /// The rows of the table, each with the lines of the table's head.
 pub(super) fn unfolded(alloc: Global, table: &str) -> Result<Vec<u8>, AllocError> {
     let (head, rows) = table.split_once("\n= ").unwrap_or(("", ""));

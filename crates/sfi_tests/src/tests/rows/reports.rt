@@ -1,7 +1,7 @@
 //! What `check --report`, `convert`, `move`, `translate` and `dis` print.
 
 /// A line for each finding, and then the verdict or the fault.
-pub(super) const REPORTS: &str = "
+pub(super) const REPORTS: &str = "18 commands
 $ sfi check --report
 = smallest; > accepted sandboxes=1 bundles=16
 = magic; put 0 53464933; > layout fault 1 Magic
@@ -36,7 +36,7 @@ end 292 1 00000002000100000021800100010000000000020000000000000000; end 320 1 67
 ";
 
 /// What is converted, and what isn't.
-pub(super) const CONVERSIONS: &str = "
+pub(super) const CONVERSIONS: &str = "13 commands
 $ sfi convert
 = x2 moves; put 36 41110290; > refused findings=1 first=V10 sandbox=0 at=01000000
 = a store on x2; put 36 06c60290; > refused findings=1 first=V5 sandbox=0 at=01000000
@@ -57,13 +57,13 @@ $ sfi convert
 ";
 
 /// What becomes of the new image.
-pub(super) const CONVERTED: &str = "
+pub(super) const CONVERTED: &str = "5 commands
 = the new image is accepted; $ sfi convert | sfi check; $ sfi convert --raw | sfi check; > accepted sandboxes=1 bundles=16
 = what is converted runs alike; source; text front of hi; + 88 0290; + 1 4869; $ sfi run; $ sfi convert | sfi run; $ sfi convert --raw | sfi run; > sandbox=0 exit=105 steps=19 out=4869
 ";
 
 /// What is moved to one place, and what isn't.
-pub(super) const MOVES: &str = "
+pub(super) const MOVES: &str = "5 commands
 $ sfi move --at 20500000:80000000
 = the bases and the start change alone
 >+ 1 534649310100000000005020000100000000008000010000000050200000000000000000; >+ 64 73001000; >
@@ -77,7 +77,7 @@ $ sfi move --at 20500000:80000000
 ";
 
 /// Other places and sandboxes.
-pub(super) const MOVED: &str = "
+pub(super) const MOVED: &str = "14 commands
 = the new image is accepted; $ sfi move --at 20500000:80000000 | sfi check; $ sfi move --at ffffff00:1000 --raw --sandbox 0 | sfi check
 > accepted sandboxes=1 bundles=16
 = to where it lies; $ sfi move --at 1000000:1800000
@@ -94,7 +94,7 @@ $ sfi build | sfi move --sandbox 1 --at 1000000:80000000; > move fault 3 NoPlace
 ";
 
 /// What is translated for a host and as a whole program, and what isn't.
-pub(super) const TRANSLATIONS: &str = "
+pub(super) const TRANSLATIONS: &str = "5 commands
 = two letters for a host; source; text front of hi; + 88 0290; + 1 4869; $ sfi translate
 > #include \"sfi_native.h\"; > SANDBOX(0,16,01000000,256,01800000,256,01000020,2,2); > GATE(01000000,1); > GATE(01000010,0)
 > DATA(0,72,105,0); > FUNCTION(0,01000000); ..; >; > EBREAK(010000fe,2); > LAST
@@ -106,7 +106,7 @@ pub(super) const TRANSLATIONS: &str = "
 ";
 
 /// Listings, and faults.
-pub(super) const LISTINGS: &str = "
+pub(super) const LISTINGS: &str = "11 commands
 $ sfi dis
 = the smallest image
 > sandbox 0 code 01000000 256 data 01800000 256 start 01000000 gates 0 init 0; > 01000000 00100073 ebreak; > 01000004 00100073 ebreak

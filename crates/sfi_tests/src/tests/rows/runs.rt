@@ -1,7 +1,7 @@
 //! Runs, and the addresses of names.
 
 /// Images of one sandbox.
-pub(super) const IMAGES: &str = "
+pub(super) const IMAGES: &str = "6 commands
 $ sfi run
 = the smallest image; > sandbox=0 trap=Break at=01000000 steps=0 out=
 = a load past the data; put 36 b37fb501b3efaf0103a5df0f73001000; > sandbox=0 trap=Load at=018000fd steps=2 out=
@@ -12,7 +12,7 @@ $ sfi run
 ";
 
 /// Texts of one sandbox.
-pub(super) const RUNS: &str = "
+pub(super) const RUNS: &str = "8 commands
 source
 = two letters; text hi; $ sfi build | sfi run; $ sfi build | sfi run --rounds 1000 --quantum 1; > sandbox=0 exit=105 steps=19 out=4869
 = a text that yields; text yields; $ sfi build | sfi run --rounds 3 --quantum 1000; > sandbox=0 ready steps=32 out=
@@ -26,7 +26,7 @@ source
 ";
 
 /// What `run --report` prints after the lines of a run.
-pub(super) const STATES: &str = "
+pub(super) const STATES: &str = "5 commands
 = a store that traps; put 36 b37fb501b3efaf01a38faffe; $ sfi run --report
 > sandbox=0 trap=Store at=017fffff steps=2 out=; > sandbox=0 pc=01000008 feaf8fa3 sb x10, -1(x31)
 > x1=00000000 x2=018000f0 x3=00000000 x4=00000000 x5=00000000 x6=00000000 x7=00000000
@@ -55,7 +55,7 @@ pub(super) const STATES: &str = "
 ";
 
 /// Two sandboxes.
-pub(super) const NEIGHBOURS: &str = "
+pub(super) const NEIGHBOURS: &str = "12 commands
 = the first posts to the second; source; | .sandbox 256; | .gate post 4; | .gate quit 0; | li a0, 1; | li a1, 7; | call post; | call quit; text take
 $ sfi build | sfi run; $ sfi build | sfi run --rounds 1000 --quantum 1; > sandbox=0 exit=0 steps=17 out=; > sandbox=1 exit=7 steps=19 out=
 = the second posts to the first; source; text take; text post to 0; $ sfi build | sfi run
@@ -80,7 +80,7 @@ $ sfi run --rounds 1000 --quantum 3; $ sfi run --rounds 1000 --quantum 1000
 ";
 
 /// Puts and gets at their limits, and one byte beyond. Each exits with the answer.
-pub(super) const BYTES: &str = "
+pub(super) const BYTES: &str = "6 commands
 source; $ sfi build | sfi run
 = as many bytes as can be put at a time; | .sandbox 131072; | .gate ask 1; | .gate quit 0; | la a0, bytes; | li a1, 65536; | call ask; | call quit
 | .data; | bytes:; >+ 1 sandbox=0 exit=65536 steps=16 out=; >+ 65536 00; >
@@ -97,7 +97,7 @@ source; $ sfi build | sfi run
 ";
 
 /// What `map` prints.
-pub(super) const MAPS: &str = "
+pub(super) const MAPS: &str = "23 commands
 source
 = two sandboxes; text names; $ sfi map
 > sandbox=0 gate exit at=01000000; > sandbox=0 data text at=01800004; > sandbox=0 code end at=01000030; > sandbox=1 code end at=02000000

@@ -2,7 +2,7 @@
 //! where a gate is listed.
 
 /// Code that keeps the rules: V1 to V8, V10 in writes of data registers, V11 and V12 in those of x30 and x31.
-pub(super) const KEPT: &str = "
+pub(super) const KEPT: &str = "114 commands
 put 0 53464957; > accepted sandboxes=1 bundles=16; $ sfi check; $ sfi check --raw
 = smallest
 = words and halves; put 36 01000100938212000100050473001000
@@ -64,7 +64,7 @@ put 0 53464957; > accepted sandboxes=1 bundles=16; $ sfi check; $ sfi check --ra
 ";
 
 /// Code that breaks one of the rules V1 to V8.
-pub(super) const BROKEN: &str = "
+pub(super) const BROKEN: &str = "64 commands
 put 0 53464957; $ sfi check; $ sfi check --raw
 = no instruction in a second half; put 36 01000000; > refused findings=1 first=V1 sandbox=0 at=01000002
 = a longer instruction's first half; put 48 1f000100; > refused findings=1 first=V1 sandbox=0 at=0100000c
@@ -101,7 +101,7 @@ put 0 53464957; $ sfi check; $ sfi check --raw
 ";
 
 /// Writes of data registers that break V10.
-pub(super) const DATA_BROKEN: &str = "
+pub(super) const DATA_BROKEN: &str = "50 commands
 put 0 53464957; $ sfi check; $ sfi check --raw
 = written; put 36 130100002320b100; > refused findings=1 first=V10 sandbox=0 at=01000004
 = written by c.li; put 36 014106c0; > refused findings=1 first=V10 sandbox=0 at=01000002
@@ -131,7 +131,7 @@ put 0 53464957; $ sfi check; $ sfi check --raw
 ";
 
 /// Steps of data registers that break V10, or a lower rule.
-pub(super) const STEPS: &str = "
+pub(super) const STEPS: &str = "58 commands
 put 0 53464957; $ sfi check; $ sfi check --raw
 = a store at 1021; put 36 130101ffa32eb13e; > refused findings=1 first=V10 sandbox=0 at=01000004
 = a store at -1021; put 36 130101ffa321b1c0; > refused findings=1 first=V10 sandbox=0 at=01000004
@@ -166,7 +166,7 @@ put 0 53464957; $ sfi check; $ sfi check --raw
 
 /// Writes of x30 and x31 that break V11, V12 or a lower rule; the lowest rule is found at a place, and what is broken owes no
 /// more.
-pub(super) const OTHERS_BROKEN: &str = "
+pub(super) const OTHERS_BROKEN: &str = "72 commands
 put 0 53464957; $ sfi check; $ sfi check --raw
 = x30 written; put 36 130f000067000f00; > refused findings=1 first=V11 sandbox=0 at=01000000
 = x30 written by c.mv; put 36 01002a8f; > refused findings=1 first=V11 sandbox=0 at=01000002
@@ -207,7 +207,7 @@ put 0 53464957; $ sfi check; $ sfi check --raw
 ";
 
 /// Layouts, and larger code.
-pub(super) const LAYOUTS: &str = "
+pub(super) const LAYOUTS: &str = "18 commands
 put 0 53464957; $ sfi check; $ sfi check --raw
 = start in a bundle; put 24 04000001; > layout fault 7 Start
 = a gate in a bundle; put 28 01000000; insert 36 0400000100000000; > layout fault 8 Gates
@@ -221,7 +221,7 @@ put 0 53464957; $ sfi check; $ sfi check --raw
 ";
 
 /// Runs.
-pub(super) const RUNS: &str = "
+pub(super) const RUNS: &str = "32 commands
 put 0 53464957; $ sfi run; $ sfi run --rounds 1000 --quantum 1
 = smallest; > sandbox=0 trap=Break at=01000000 steps=0 out=
 = a second bundle's start; put 24 10000001; > sandbox=0 trap=Break at=01000010 steps=0 out=
@@ -243,7 +243,7 @@ put 0 53464957; $ sfi run; $ sfi run --rounds 1000 --quantum 1
 ";
 
 /// What `run --report` prints after the lines of a run: the registers at an entry, and after a step.
-pub(super) const STATES: &str = "
+pub(super) const STATES: &str = "2 commands
 put 0 53464957; $ sfi run --report
 = at an entry; put 24 10000001; > sandbox=0 trap=Break at=01000010 steps=0 out=; > sandbox=0 pc=01000010 00100073 ebreak
 > x1=00000000 x2=018000f0 x3=01800000 x4=01800000 x5=00000000 x6=00000000 x7=00000000

@@ -2,7 +2,7 @@
 //! the GNU assembler.
 
 /// What each load, store, jump and write becomes; steps before an access, and what is none; how slots stand in words.
-pub(super) const EXPANSIONS: &str = "
+pub(super) const EXPANSIONS: &str = "20 commands
 source; | .format words; | .sandbox 256; $ sfi build; >+ 1 534649570100000000000001000100000000800100010000000000010000000000000000
 = on each data register; | lw a0, 4(sp); | sb a1, -1(gp); | lhu a2, 2047(tp); >+ 1 03254100a38fb1fe0356f27f; >+ 122 0290; >
 = on x0; | lw a0, 4(zero); | sb a1, -8(x0); >+ 1 03254d00230cbdfe; >+ 124 0290; >
@@ -36,7 +36,7 @@ source; | .format words; | .sandbox 256; $ sfi build; >+ 1 534649570100000000000
 ";
 
 /// An address in a data register, and gates.
-pub(super) const IMAGES: &str = "
+pub(super) const IMAGES: &str = "3 commands
 source; | .format words; | .sandbox 256; $ sfi build
 = an address in a data register; | la sp, x; | .data; | x: .byte 1
 >+ 1 534649570100000000000001000100000000800100010000000000010000000001000000; >+ 1 37018001b37fb10133e1af0113010100b37fb10133e1af01; >+ 116 0290; >+ 1 01; >
@@ -49,7 +49,7 @@ source; | .format words; | .sandbox 256; $ sfi build
 ";
 
 /// What has no expansion, or no place.
-pub(super) const REFUSED: &str = "
+pub(super) const REFUSED: &str = "14 commands
 source; | .format words; | .sandbox 256; $ sfi build
 = lw t4, 0(a0); | lw t4, 0(a0); > rewrite fault 1 ReservedRegister line 3
 = add a0, t5, a0; | add a0, t5, a0; > rewrite fault 1 ReservedRegister line 3

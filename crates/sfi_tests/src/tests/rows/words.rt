@@ -1,7 +1,7 @@
 //! Words of a command line: those that ask for nothing or for help, and the places that `--at` gives.
 
 /// Words that ask for nothing.
-pub(super) const USAGE: &str = "
+pub(super) const USAGE: &str = "69 commands
 source
 = words that ask for nothing; $ sfi; $ sfi frob; $ sfi check image; $ sfi check --raw --raw; $ sfi check --raw=yes; $ sfi check --raw image
 $ sfi check --report=yes; $ sfi check --report --report; $ sfi check --report image; $ sfi check --rounds 1; $ sfi build --report; $ sfi build --raw=yes
@@ -22,7 +22,7 @@ $ sfi build --at 1000:2000,3000:4000; $ sfi map --at 20500000; $ sfi move --at 2
 ";
 
 /// What is printed for words that don't parse, as the Rust crate `clap` prints it, and the version.
-pub(super) const TEXTS: &str = "
+pub(super) const TEXTS: &str = "5 commands
 source
 = what is printed for an unknown option; $ sfi check --frob
 > error: unexpected argument '--frob' found; >; > Usage: sfi check [OPTIONS]; >; > For more information, try '--help'.
@@ -35,7 +35,7 @@ source
 
 /// Each help says what its command does, how it is called, which options it has, which statuses,
 /// and an example. After `..` the first `>` ends a line.
-pub(super) const HELP: &str = "
+pub(super) const HELP: &str = "30 commands
 source; status 3
 = help; $ sfi --help; ..; >; >; > Usage: sfi <COMMAND>; ..; >..   check      Accept an image, or; >.. -V, --version; >text statuses; >.. build < 
 = help, said in other words; as sfi --help; $ sfi -h; $ sfi help
@@ -63,7 +63,7 @@ source; status 3
 ";
 
 /// Programs at places of a chip, at high addresses up to the last one, and at the usual ones.
-pub(super) const ALLOWED: &str = "
+pub(super) const ALLOWED: &str = "8 commands
 source
 = two letters at places of a chip; text hi; $ sfi build --at 20500000:80000000 | sfi dis
 > sandbox 0 code 20500000 256 data 80000000 256 start 20500020 gates 2 init 2; ..; >; > 20500020 80000537 lui x10, 0x80000
@@ -75,7 +75,7 @@ $ sfi build --at 80000000:7fffe000 | sfi run; $ sfi build --at 80000000:ffffef00
 ";
 
 /// Places that are refused: each sandbox has 256 bytes of code, and a guard zone 4096 addresses.
-pub(super) const REFUSED: &str = "
+pub(super) const REFUSED: &str = "10 commands
 source; text two sandboxes
 = no multiple of the code's size; $ sfi build --at 20500080:80000000; > link fault 6 Place sandbox 0
 = no multiple of the data's size; $ sfi build --at 20500000:80000080; > link fault 6 Place sandbox 0
