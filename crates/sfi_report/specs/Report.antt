@@ -1,31 +1,15 @@
 -- The report: a line for each finding.
-use Rattle.std.specs.Prelude.{◌≡◌, ◌-◌, ℕ, List, [], ◌∷◌, ◌++◌, Some, take, drop, codes, decimal, slice_get, if◌then◌else◌}
+use Rattle.std.specs.Prelude.{◌≡◌, ◌-◌, ℕ, List, [], ◌∷◌, ◌++◌, Some, take, drop, codes, decimal, slice_get}
 use Rattle.rv_word.specs.declared.instr.Instr.{Instr}
 use Rattle.rv_comp.specs.Fronts.{Spells}
 use Rattle.sfi_text.specs.Statement.{printed}
-use Rattle.sfi_formats.specs.Formats.{has_words}
 use Rattle.sfi_formats.specs.declared.format.Format.{Format}
 use Rattle.sfi_image.specs.Spelling.{Part}
-use Rattle.sfi_rules.specs.Rules.{number_of}
+use Rattle.sfi_rules.specs.Rules.{number_of, rule_name}
 use Rattle.sfi_rules.specs.declared.finding.Finding.{Finding}
 use Rattle.sfi_rules.specs.declared.rule.Rule.{Rule}
-use Rattle.sfi_rules.specs.declared.rule.Rule.TheVariants.{V1, V2, V3, V4, V5, V6, V7, V8, V9, V10, V11, V12}
+use Rattle.sfi_rules.specs.declared.rule.Rule.TheVariants.{V1, V2, V9}
 use Rattle.sfi_report.specs.Listing.{hex_digits, line_end, word_digits}
-
--- the name of a rule of the format: V10 is about the data registers in words, else about x2
-abbrev pub rule_name : Format → Rule → List ℕ
-rule_name format V1 = codes "decode"
-rule_name format V2 = codes "cross"
-rule_name format V3 = codes "ecall"
-rule_name format V4 = codes "reserved"
-rule_name format V5 = codes "access"
-rule_name format V6 = codes "jump"
-rule_name format V7 = codes "target"
-rule_name format V8 = codes "end"
-rule_name format V9 = codes "gate"
-rule_name format V10 = if has_words format then codes "data" else codes "stack"
-rule_name format V11 = codes "code"
-rule_name format V12 = codes "offset"
 
 -- ---- what stands where a rule is broken, by the code from there on
 

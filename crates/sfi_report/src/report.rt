@@ -2,8 +2,7 @@
 ghost use Rattle.std.specs.Prelude.{◌≡◌, ◌≤◌, ◌++◌, OnOk, IfOk, length, string_bytes};
 ghost use Rattle.sfi_image.specs.Spelling.{views};
 ghost use Rattle.sfi_rules.specs.Findings.{AreImageFindings};
-ghost use Rattle.sfi_rules.specs.declared.rule.Rule.TheVariants.{V10};
-ghost use Rattle.sfi_report.specs.Report.{IsFindingLine, IsPlaceText, IsInstructionText, IsReport, line_front, half_text, rule_name};
+ghost use Rattle.sfi_report.specs.Report.{IsFindingLine, IsPlaceText, IsInstructionText, IsReport, line_front, half_text};
 ghost use Rattle.sfi_report.specs.private.{Adds, IsPlace, SpellsFirst, Stands};
 
 use crate::digits::{push_eight_digits, push_halfword};
@@ -13,33 +12,6 @@ use sfi_image::{Image, SandboxPart};
 use sfi_rules::{Finding, Rule};
 use sfi_text::push_instr;
 use std::alloc::{AllocError, Global};
-
-/// The rule's name in the format.
-fn name_of(format: Format, rule: Rule) -> &'static str
-    ensures { result.now ≡ rule_name format rule }
-{
-    match rule {
-        Rule::V1 => "decode",
-        Rule::V2 => "cross",
-        Rule::V3 => "ecall",
-        Rule::V4 => "reserved",
-        Rule::V5 => "access",
-        Rule::V6 => "jump",
-        Rule::V7 => "target",
-        Rule::V8 => "end",
-        Rule::V9 => "gate",
-        Rule::V10 => name_of_typed(format),
-        Rule::V11 => "code",
-        Rule::V12 => "offset",
-    }
-}
-
-/// The name of V10 in the format.
-fn name_of_typed(format: Format) -> &'static str
-    ensures { result.now ≡ rule_name format V10 }
-{
-    if format.has_words() { "data" } else { "stack" }
-}
 
 /// Writes the halfword that the code begins with.
 fn push_first_halfword(out: &mut String, code: &[u8]) -> Result<(), AllocError>
@@ -84,7 +56,7 @@ fn push_front(out: &mut String, format: Format, finding: &Finding) -> Result<(),
     write!(out, "{sandbox} ")?;
     push_eight_digits(out, finding.address)?;
     let number = finding.rule.number();
-    let name = name_of(format, finding.rule);
+    let name = finding.rule.name(format);
     write!(out, " V{number} {name} ")
 }
 

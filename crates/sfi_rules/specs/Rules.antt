@@ -1,10 +1,11 @@
 -- The rules of code in bundles, and the finding of a broken rule.
-use Rattle.std.specs.Prelude.{◌+◌, ◌%◌, ◌==◌, ◌&&◌, ◌||◌, not, ℕ, pos, negsuc, List, [], ◌∷◌, Bool, true, false, Option, Some, None, nat_lt, nat_le}
+use Rattle.std.specs.Prelude.{◌+◌, ◌%◌, ◌==◌, ◌&&◌, ◌||◌, not, ℕ, pos, negsuc, List, [], ◌∷◌, Bool, true, false, Option, Some, None, nat_lt, nat_le, codes, if◌then◌else◌}
 use Rattle.rv_word.specs.declared.instr.Instr.{Instr}
 use Rattle.rv_word.specs.declared.instr.Instr.TheVariants.{Load, Store, Branch, Jal, Jalr, Ecall, Ebreak}
 use Rattle.rv_word.specs.Spelling.{offset_by, length_of}
 use Rattle.rv_word.specs.Outlines.{destination}
-use Rattle.sfi_formats.specs.Formats.{is_stack, is_reserved}
+use Rattle.sfi_formats.specs.Formats.{is_stack, is_reserved, has_words}
+use Rattle.sfi_formats.specs.declared.format.Format.{Format}
 use Rattle.sfi_rules.specs.declared.rule.Rule.{Rule}
 use Rattle.sfi_rules.specs.declared.rule.Rule.TheVariants.{V1, V2, V3, V4, V5, V6, V7, V8, V9, V10, V11, V12}
 use Rattle.sfi_image.specs.declared.bundle.BundlePlace.{BundlePlace}
@@ -146,7 +147,7 @@ rest_finding b at (low ∷ high ∷ []) =
     broken b at (rule_of_length (length_of (from_le_bytes w16 (low ∷ high ∷ [])))) ∷ []
 rest_finding b at _ = broken b at V1 ∷ []
 
--- ==== The numbers of the rules.
+-- ==== The numbers and the names of the rules.
 
 -- the number by which a rule is known
 abbrev pub number_of : Rule → ℕ
@@ -166,3 +167,18 @@ number_of V12 = 12
 -- the rule of that number, if there is one
 abbrev pub numbered : ℕ → Option Rule
 numbered n = find (λ rule. n == number_of rule) all_rules
+
+-- the name of a rule of the format: V10 is about the data registers in words, else about x2
+abbrev pub rule_name : Format → Rule → List ℕ
+rule_name format V1 = codes "decode"
+rule_name format V2 = codes "cross"
+rule_name format V3 = codes "ecall"
+rule_name format V4 = codes "reserved"
+rule_name format V5 = codes "access"
+rule_name format V6 = codes "jump"
+rule_name format V7 = codes "target"
+rule_name format V8 = codes "end"
+rule_name format V9 = codes "gate"
+rule_name format V10 = if has_words format then codes "data" else codes "stack"
+rule_name format V11 = codes "code"
+rule_name format V12 = codes "offset"

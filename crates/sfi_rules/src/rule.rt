@@ -1,8 +1,10 @@
-//! The rules by name.
+//! The rules, their numbers and their names.
 ghost use Rattle.std.specs.Prelude.{◌≡◌};
 
-/// A rule of sandboxed code. What breaks it depends on whether code is in bundles, as in the first
-/// two formats, or in words.
+use sfi_formats::Format;
+
+/// A rule of sandboxed code. What breaks it depends on whether code is in bundles, as in the first two
+/// formats, or in words.
 #[derive(Clone, Copy, PartialEq, Eq, Debug)]
 pub enum Rule {
     /// The bytes are no instruction.
@@ -40,9 +42,10 @@ pub enum Rule {
 }
 
 impl Rule {
-    ghost use Rattle.sfi_rules.specs.Rules.{number_of, numbered};
+    ghost use Rattle.sfi_rules.specs.Rules.{number_of, numbered, rule_name};
+    ghost use Rattle.sfi_rules.specs.declared.rule.Rule.TheVariants.{V10};
 
-    /// The rule's number, 1 to 12.
+    /// The rule's number, 1 for V1 and so on.
     pub fn number(self) -> u32
         ensures { result ≡ number_of self }
     {
@@ -81,5 +84,32 @@ impl Rule {
             12 => Some(Rule::V12),
             _ => None,
         }
+    }
+
+    /// The rule's name in the format.
+    pub fn name(self, format: Format) -> &'static str
+        ensures { result.now ≡ rule_name format self }
+    {
+        match self {
+            Rule::V1 => "decode",
+            Rule::V2 => "cross",
+            Rule::V3 => "ecall",
+            Rule::V4 => "reserved",
+            Rule::V5 => "access",
+            Rule::V6 => "jump",
+            Rule::V7 => "target",
+            Rule::V8 => "end",
+            Rule::V9 => "gate",
+            Rule::V10 => Self::name_of_typed(format),
+            Rule::V11 => "code",
+            Rule::V12 => "offset",
+        }
+    }
+
+    /// The name of V10 in the format.
+    fn name_of_typed(format: Format) -> &'static str
+        ensures { result.now ≡ rule_name format V10 }
+    {
+        if format.has_words() { "data" } else { "stack" }
     }
 }
