@@ -164,8 +164,10 @@ on_edited_boards() { # words of run.sh. The image is $room/image.hex
     (cd "$edited" && OUT=$room/edited_out ./run.sh "${springing[@]}" --steps --rounds 100 --seconds 5 "$@" <"$room/image.hex")
 }
 
-# The instructions of the host for a put of no byte, which docs/DEVICE.md has: where they are counted with the steps.
+# The instructions of the host for a put of no byte, which README.md has: where they are counted with the steps.
 try_price() {
+    local price
+    price=$(sed -n 's/^| the same \[without a trap\].* | \([0-9]*\),.*/\1/p' "$here/README.md")
     case $(riscv64-unknown-elf-gcc -dumpversion) in
     12.*) ;;
     *) skip 1 "what a call costs" "the number is that of gcc 12" && return ;;
@@ -173,7 +175,7 @@ try_price() {
     printf '.sandbox 4096\n.gate put 1\n li a1, 0\n call put\n ebreak\n' >"$room/price.s"
     build "$room/price.s" words >"$room/image.hex"
     edit_host board.S 's/^        sw      t1, FRAME_BEFORE(a0)$/        nop/'
-    report "springboards: a put of no byte" "steps=$((145 + $(steps_of < <("$SFI" run <"$room/image.hex"))))" \
+    report "springboards: a put of no byte" "steps=$((price + $(steps_of < <("$SFI" run <"$room/image.hex"))))" \
         "steps=$(on_edited_boards | steps_of)"
 }
 
