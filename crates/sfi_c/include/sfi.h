@@ -255,8 +255,8 @@ bool sfi_c_apart(const struct sfi_part *one, const struct sfi_part *other);
  * a guard zone meets another one of the image. SFI_BEYOND and SFI_NO_IMAGE are as above.
  *
  * The image that was written is accepted exactly if the one before was, so either may be checked. What it computes is another
- * thing: code that has addresses in its instructions or its data, as `la` writes them, names the old place, and so does a table
- * of names (sfi_run_export); the tool sfi-move writes that anew.
+ * thing: code that has addresses in its instructions or its data, as `la` writes them without `.movable`, names the old place,
+ * and so does a table of names (sfi_run_export); the tool sfi-move writes that anew.
  *
  * Nothing else reads or writes the image during the call.
  */
