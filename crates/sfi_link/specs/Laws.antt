@@ -27,8 +27,10 @@ abbrev pub OneLinking : Type 0
 OneLinking = (given : List Place) (placed : List Placement) (parts others : List Part)
     → AreLinked given placed parts → AreLinked given placed others → parts ≡ others
 
--- a sandbox that can be moved has the same code at each place: so what is built there is what was built
--- elsewhere, and moved
+-- A sandbox that is built to be moved has the same code at each place. Its gates and its start lie as far
+-- from the code's base, and its first data bytes are the same, by `part_with`: so what is linked there is
+-- what was linked elsewhere, and moved. A table of names, which a build puts into the data after that, has
+-- the addresses of one place.
 abbrev pub MovableCodeIsPlaceless : Type 0
 MovableCodeIsPlaceless =
     (given others : List Place) (number : ℕ) (p : Placement) (code : List ℕ) → p.movable ≡ true

@@ -39,8 +39,9 @@ AreResolvedTo at names here i (x ∷ slots) =
 -- ---- the source in the image
 
 -- Slots at byte `offset` of a sandbox's code after its gates' stubs are in the image an instruction that
--- the item may be, with the address of its name, if it has one: wherever a memory holds the code of q
--- and pc is at their place, they stand for `instr`; the regions of q are such as transparency asks for.
+-- the item may be, with what `resolved` gives for its name, if it has one: wherever a memory holds the
+-- code of q and pc is at their place, they stand for `instr`; the regions of q are such as transparency
+-- asks for.
 pub record RunsAt (given : List Place) (number : ℕ) (p : Placement) (q : Part) (x : Item)
     (slots : List BundleSlot) (offset : ℕ) : Type 0 where
   pub instr : Instr

@@ -52,8 +52,8 @@ CleanIsPlaceless =
 
 -- ---- of the layout's tests
 
--- of a right sandbox only the tests Code, Data and GuardRoom, and Overlap, can fail at another
--- place
+-- Of a right sandbox only the tests Code, Data and GuardRoom, and Overlap, can fail at another place whose
+-- code base has 32 bits. (`IsRightPart` doesn't ask for Overlap, which is of all sandboxes of an image.)
 abbrev pub MovedIsRight : Type 0
 MovedIsRight =
     (code data_at : ℕ) (p : Part) → IsRightPart p → IsWord code

@@ -67,13 +67,14 @@ CleanPaddedCallsTyped =
 -- ---- with direct gates
 
 -- Every run is safe, whichever of the listed gates the host has made direct: no byte of a springboard is
--- executed as the sandbox's, and each turn is as safe as with the image's own ecalls.
+-- executed as the sandbox's, and each turn is as safe as with the image's own ecalls. At a direct gate where
+-- the image has no ecall a run has neither step nor reply: of what comes after that nothing is said.
 abbrev pub CleanRunsDirectly : Type 0
 CleanRunsDirectly =
     (sandbox : ℕ) (p : Part) (direct : List ℕ) → IsCleanPart sandbox p → RunsDirectly p direct
 
--- each call of such runs, of a direct gate or of another, is made with the typed registers holding what
--- their types say
+-- each call of such runs, of a direct gate where the image has an ecall or of another gate, is made with
+-- the typed registers holding what their types say
 abbrev pub CleanDirectCallsTyped : Type 0
 CleanDirectCallsTyped =
     (sandbox : ℕ) (p : Part) (direct : List ℕ) → IsCleanPart sandbox p → CallsTypedDirectly p direct

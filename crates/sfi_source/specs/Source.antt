@@ -31,8 +31,8 @@ lower z = pos (rounded z % 4096) -ℤ pos 2048
 
 -- ==== What a text of the assembler means: sandboxes.
 
--- a sandbox: the format of its source, whether it can be moved once it is built, how many data bytes
--- it has, its gates, its names with what they name, its instructions and its first data bytes
+-- a sandbox: the format of its source, whether it is built to be moved, how many data bytes it has, its
+-- gates, its names with what they name, its instructions and its first data bytes
 pub record Sandbox : Type 0 where
   pub format : Format
   pub movable : Bool

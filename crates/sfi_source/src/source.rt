@@ -60,8 +60,9 @@ impl SourcePart {
         self.format
     }
 
-    /// Whether it can be moved once it is built: no instruction holds an address, but how far that is
-    /// from its region's base, which is added.
+    /// Whether it is built to be moved: `Body::High` and `Body::Low` then hold how far an address is from
+    /// its region's base, and a `Body::Base` after them, which a text's reader writes, adds the base. Numbers
+    /// that the source itself has are not looked at: some may be addresses.
     pub fn is_movable(&self) -> bool
         ensures { result ≡ self.now.movable }
     {
