@@ -1,5 +1,5 @@
 -- What holds of what is linked: the laws, for proofs here and in the crates above.
-use Rattle.sfi_link.specs.Laws.{LinkedIsClean, LinkedIsRight, OneLinking, MovableCodeIsPlaceless, OneImage, OneFault, NeverBoth, ImageHasNoFault, SomeLinking, UsualPlacesAreFree}
+use Rattle.sfi_link.specs.Laws.{LinkedIsClean, LinkedIsRight, OneLinking, MovableCodeIsPlaceless, MovableAddressesAddUp, OneImage, OneFault, NeverBoth, ImageHasNoFault, SomeLinking, UsualPlacesAreFree}
 use Rattle.sfi_link.proofs.LinkedClean as clean
 use Rattle.sfi_link.proofs.Linking as linking
 use Rattle.sfi_link.proofs.Moving as moving
@@ -21,6 +21,9 @@ one_linking = λ given placed parts others a b. one.one_linking given 0 placed p
 
 pub movable_code_is_placeless : MovableCodeIsPlaceless
 movable_code_is_placeless = moving.placeless
+
+pub movable_addresses_add_up : MovableAddressesAddUp
+movable_addresses_add_up = moving.adds_up
 
 pub one_image : OneImage
 one_image = linking.one_bytes

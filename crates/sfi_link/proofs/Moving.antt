@@ -1,9 +1,11 @@
--- The code of a sandbox that can be moved is the same at each place.
+-- The code of a sandbox that can be moved is the same at each place, and makes the addresses of that.
 use Rattle.sfi_link.proofs.Prelude.{◌≡◌, ℕ, ◌+◌, ◌-◌, ◌*◌, List, [], ◌∷◌, ◌++◌, length, replicate, Option, Some, None, Bool, true, false, refl, sym, ap, ◌∙◌, subst, arith, ints, pos, ◌-ℤ◌, slice_get, Instr, Lui, OpImm, Addi, upper, lower, BundleSlot, Wide, Short, Jump, Upper, Lower, Region, PlacedName, slot_size, slots_of, c_ebreak, Bases, bases_of, of_name, target_of, value_at, with_offset, resolved, made_of, IsSlot, AreSlots}
 use Rattle.std.specs.Prelude.{if◌then◌else◌}
 use Rattle.sfi_rewrite.specs.declared.placed.PlacedName.TheVariants as name
-use Rattle.sfi_link.specs.Code.{address_at, offset_of}
-use Rattle.sfi_link.specs.Laws.{MovableCodeIsPlaceless}
+use Rattle.std.proofs.lemmas.Option.{same_Some}
+use Rattle.sfi_formats.specs.Formats.{code_base_register, data_base_register}
+use Rattle.sfi_link.specs.Code.{address_at, offset_of, stub_size}
+use Rattle.sfi_link.specs.Laws.{MovableCodeIsPlaceless, MovableAddressesAddUp}
 
 -- two places of a sandbox that can be moved, with as many stubs
 record AreMoved (a b : Bases) : Type 0 where
@@ -94,3 +96,28 @@ placeless given others number p code moves is = record {
   where
     none : (n : ℕ) → n + 0 ≡ n
     none n = omega arith
+
+-- ---- what `la` makes of a name
+
+add_up : (held : ℕ → ℕ) (from base offset distance first address : ℕ) → held from ≡ first → address ≡ first + distance → Some from ≡ Some base → Some distance ≡ Some offset
+    → Some address ≡ Some (held base + offset)
+add_up held from base offset distance first address is whole register number = ap Some
+    (whole
+    ∙ ap (λ (n : ℕ). n + distance) (sym is)
+    ∙ ap (λ (r : ℕ). held r + distance) (same_Some from base register)
+    ∙ ap (λ (n : ℕ). held base + n) (same_Some distance offset number))
+
+pub adds_up : MovableAddressesAddUp
+adds_up given number p (name.Gate k) held base offset in_code in_data register distance =
+    let at = bases_of given number p in
+    add_up held code_base_register base offset (stub_size * k) at.code (at.code + stub_size * k) in_code refl register distance
+adds_up given number p (name.Code place) held base offset in_code in_data register distance =
+    let at = bases_of given number p in
+    add_up held code_base_register base offset (at.start + place - at.code) at.code (at.start + place) in_code (again at.code (stub_size * length p.gates) place) register distance
+  where
+    again : (c s place : ℕ) → c + s + place ≡ c + (c + s + place - c)
+    again c s place = omega arith
+adds_up given number p (name.Data to) held base offset in_code in_data register distance =
+    let at = bases_of given number p in
+    add_up held data_base_register base offset to at.«data» (at.«data» + to) in_data refl register distance
+adds_up given number p name.Unknown held base offset in_code in_data register distance = cc

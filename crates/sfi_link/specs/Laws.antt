@@ -1,11 +1,14 @@
 -- What holds of all that is placed.
-use Rattle.std.specs.Prelude.{◌≡◌, ◌⊎◌, ℕ, ◌≤◌, List, [], length, true}
+use Rattle.std.specs.Prelude.{◌≡◌, ◌⊎◌, ℕ, ◌+◌, ◌≤◌, List, [], length, true, Some}
 use Rattle.sfi_image.specs.Spelling.{Part}
 use Rattle.sfi_image.specs.Parts.{IsRightLayout}
 use Rattle.sfi_formats.specs.declared.place.Place.{Place}
+use Rattle.sfi_formats.specs.Formats.{code_base_register, data_base_register}
 use Rattle.sfi_rules.specs.Findings.{AreFindings}
 use Rattle.sfi_rewrite.specs.Placement.{Placement}
 use Rattle.sfi_rewrite.specs.Placed.{IsPlacedPart, IsPlaced}
+use Rattle.sfi_rewrite.specs.declared.placed.PlacedName.{PlacedName}
+use Rattle.sfi_link.specs.Code.{bases_of, base_of, offset_of, address_of}
 use Rattle.sfi_link.specs.declared.fault.LinkFault.{LinkFault}
 use Rattle.sfi_link.specs.declared.fault.LinkFault.TheVariants as fault
 use Rattle.sfi_link.specs.Linked.{IsLinkedCode, IsLinked, AreLinked, IsLinkedImage}
@@ -35,6 +38,16 @@ abbrev pub MovableCodeIsPlaceless : Type 0
 MovableCodeIsPlaceless =
     (given others : List Place) (number : ℕ) (p : Placement) (code : List ℕ) → p.movable ≡ true
     → IsLinkedCode given number p code → IsLinkedCode others number p code
+
+-- In such a sandbox `la` makes the name's address at each place: what its lui and addi hold and what the
+-- register that it adds holds there, where x24 and x26 hold the bases, add up to that.
+abbrev pub MovableAddressesAddUp : Type 0
+MovableAddressesAddUp =
+    (given : List Place) (number : ℕ) (p : Placement) (name : PlacedName) (held : ℕ → ℕ)
+    (base offset : ℕ) → held code_base_register ≡ (bases_of given number p).code
+    → held data_base_register ≡ (bases_of given number p).«data» → base_of name ≡ Some base
+    → offset_of (bases_of given number p) name ≡ Some offset
+    → address_of (bases_of given number p) name ≡ Some (held base + offset)
 
 -- what is placed has at most one image
 abbrev pub OneImage : Type 0
