@@ -3,7 +3,9 @@
 #include "../host.h"
 
 enum { ENTRIES_EACH = 3 };
+#ifndef NO_PMP
 _Static_assert(ENTRIES_EACH * SANDBOXES_MOST <= PMP_ENTRIES, "chip.h");
+#endif
 
 /* The guard zone below CHIP_RAM is nobody's: chip.h sees to that. */
 static bool data_is_free(const struct part *part) {

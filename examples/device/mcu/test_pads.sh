@@ -53,8 +53,18 @@ try_without_pmp() {
     report "$chip: no PMP: code in words" \
         $'device: sandbox 0: code in words is held by guard zones that trap, and here none does\nstatus 2' \
         "$(without_pmp; echo "status $?")"
+    try_no_entries
     try_missing_pads
     try_words_on_pads
+}
+
+# A chip.h that says that the chip has no entries.
+try_no_entries() {
+    edit_host mcu/chips/sifive_e/chip.h 's/PMP_ENTRIES .*/PMP_ENTRIES 0/'
+    build "$room/pair.s" 1 >"$room/image.hex"
+    report "$chip: no PMP: words between two sandboxes, with no entries in chip.h" \
+        "$("$SFI" run --rounds 100 --quantum 1000000 <"$room/image.hex" | without_steps)" \
+        "$(cd "$edited/$own" && by=(--unchecked) && without_pmp)"
 }
 
 # A host whose own memory is in a guard zone sees that it has changed.
