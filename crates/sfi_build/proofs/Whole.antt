@@ -9,6 +9,8 @@ use Rattle.sfi_text.proofs.Facts as texts
 use Rattle.sfi_image.specs.Parts.{IsImage, IsRightLayout}
 use Rattle.sfi_rewrite.specs.Rewriting.{AreRewritten}
 use Rattle.sfi_rewrite.proofs.Facts as sources
+use Rattle.sfi_link.specs.Linked.{IsLinkedImage}
+use Rattle.sfi_formats.specs.Limits.{sandboxes_most}
 use Rattle.sfi_link.proofs.Parts.{linked_is_right}
 use Rattle.sfi_link.proofs.LinkedClean.{all_are_clean}
 use Rattle.sfi_build.specs.Tables.{tails_from, each_with, sandbox_with}
@@ -29,6 +31,12 @@ pub linked_count : (given : List Place) (number : ℕ) (placed : List Placement)
 linked_count given number [] parts h = ap length h
 linked_count given number (p ∷ placed) [] h = absurd h
 linked_count given number (p ∷ placed) (q ∷ parts) h = omega (arith, linked_count given (number + 1) placed parts h.1)
+
+-- a source of which there is an image has no more sandboxes than an image may have
+pub few : (given : List Place) (source : List Sandbox) (placed : List Placement) (bytes : List ℕ) → AreRewritten source placed → IsLinkedImage given placed bytes
+    → length source ≤ sandboxes_most
+few given source placed bytes rewritten image =
+    omega (arith, image.image.layout.at_most, linked_count given 0 placed image.parts image.linked.each, rewritten_count source placed rewritten)
 
 module _ (given : List Place) (text : List ℕ) (source : List Sandbox) (shared : List SharedNames) (placed : List Placement) (plain : IsPlainBuild given text source shared placed)
     (tails : List (List ℕ)) (tails_are : tails_from given placed 0 shared source ≡ Ok tails) where

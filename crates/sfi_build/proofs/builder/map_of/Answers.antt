@@ -4,7 +4,7 @@ use Rattle.sfi_text.specs.Texts.{MeansText}
 use Rattle.sfi_build.specs.Tables.{tails_from}
 use Rattle.sfi_build.specs.Texts.{IsPlainBuild}
 use Rattle.sfi_build.proofs.Even.{even}
-use Rattle.sfi_build.proofs.Whole.{rewritten_count, linked_count, mapped}
+use Rattle.sfi_build.proofs.Whole.{few, mapped}
 use Rattle.sfi_build.proofs.builder.map_of.Goals as goal
 
 pub inits_of-requires-clause-linked : goal.inits_of-requires-clause-linked
@@ -12,30 +12,20 @@ inits_of-requires-clause-linked c = (c.in_ok-names.ensures.mapped.bytes, c.in_ok
 
 pub inits_of-requires-clause-short : goal.inits_of-requires-clause-short
 inits_of-requires-clause-short c =
-    let given = c.args.places.now in
-    let text = c.args.text.now in
-    let source = c.in_ok-source.field-0.source in
-    let shared = c.in_ok-source.field-0.shared.items in
-    let placed = c.in_ok-placed.placed in
-    let meaning : MeansText text source shared = c.in_ok-source.ensures.meaning in
-    let image = c.in_ok-names.ensures.mapped.image in
     omega (
       arith,
-      image.image.layout.at_most,
-      linked_count given 0 placed image.parts image.linked.each,
-      rewritten_count source placed c.in_ok-placed.ensures.placed,
+      few c.args.places.now c.in_ok-source.field-0.source c.in_ok-placed.placed _ c.in_ok-placed.ensures.placed c.in_ok-names.ensures.mapped.image,
       ap length c.parts.ensures.parts,
     )
 
 pub inits_of-requires-clause-listed : goal.inits_of-requires-clause-listed
 inits_of-requires-clause-listed c =
-    let given = c.args.places.now in
-    let text = c.args.text.now in
-    let source = c.in_ok-source.field-0.source in
-    let shared = c.in_ok-source.field-0.shared.items in
-    let placed = c.in_ok-placed.placed in
-    let meaning : MeansText text source shared = c.in_ok-source.ensures.meaning in
-    omega (arith, even text source shared meaning, ap length c.deref.ensures.value, ap length c.parts.ensures.parts)
+    omega (
+      arith,
+      even c.args.text.now c.in_ok-source.field-0.source c.in_ok-source.field-0.shared.items c.in_ok-source.ensures.meaning,
+      ap length c.deref.ensures.value,
+      ap length c.parts.ensures.parts,
+    )
 
 pub returns-clause-mapped : goal.returns-clause-mapped
 returns-clause-mapped c =
