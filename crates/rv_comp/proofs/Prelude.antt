@@ -12,6 +12,5 @@ pub use Rattle.rv_comp.specs.Laws.{SomeFront, OneFront, SpelledInRange, OneSpell
 pub use Rattle.rv_comp.specs.Table.{allowed, expansion, place, is_reg, is_short_reg, is_unsigned, is_signed, is_not_zero, row, fields_of}
 pub use Rattle.rv_comp.specs.declared.form.Form16.{Form16}
 pub use Rattle.rv_comp.specs.declared.form.Form16.TheVariants.{CAddi4spn, CLw, CSw, CAddi, CJal, CLi, CAddi16sp, CLui, CSrli, CSrai, CAndi, CSub, CXor, COr, CAnd, CJ, CBeqz, CBnez, CSlli, CLwsp, CJr, CJalr, CMv, CAdd, CEbreak, CSwsp}
-unfoldable pub use Rattle.rv_comp.specs.mirror.{decoded, quadrant0, quadrant1, quadrant2, arithmetic, upper, jump_or_move, extended, word_offset, six, jump_offset, branch_offset, stack_step, stack_address, load_offset, store_offset}
+unfoldable pub use Rattle.rv_comp.specs.mirror.{decoded, quadrant0, quadrant1, quadrant2, arithmetic, upper, jump_or_move, extended, word_offset, six, jump_offset, branch_offset, stack_step, stack_address, load_offset, store_offset, row_number}
 pub use Rattle.rv_comp.specs.mirror.{row_bit, row_fields, is_low, AreLow}
-unfoldable pub use Rattle.rv_comp.specs.mirror.{row_number}

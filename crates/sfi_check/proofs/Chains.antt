@@ -1,8 +1,7 @@
 -- Reads one after another.
 use Rattle.sfi_check.proofs.Prelude.{◌≡◌, ℕ, ◌<◌, ◌≤◌, Bool, true, false, cond, List, [], ◌∷◌, ◌++◌, length, Option, Some, None, refl, sym, ap, ◌∙◌, subst, arith, append_assoc, ◌||◌, lt-ltb, append-nil}
-use Rattle.sfi_image.specs.Sources.{OneRead, IsChain, is_end, bytes_handed_out, finds_end, Streams}
+use Rattle.sfi_image.specs.Sources.{OneRead, IsChain, is_end, bytes_handed_out, finds_end, Streams, bytes_of}
 use Rattle.std.proofs.lemmas.List.Elements.{All-push}
-use Rattle.sfi_image.specs.Sources.{bytes_of}
 
 module _ {S : Type 0} (reads : S → ℕ → Option (List ℕ) → S → Type 0) where
   chain_push : (s : S) (rs : List (OneRead S)) (t : S) (r : OneRead S) → IsChain reads s rs t → reads t r.buffer_length r.answer r.after → IsChain reads s (rs ++ r ∷ []) r.after

@@ -3,8 +3,7 @@ use Rattle.sfi_text.proofs.Prelude.{◌≡◌, ℕ, zero, suc, ◌/◌, ◌%◌,
 use Rattle.std.proofs.Math.Nat.{pow-suc}
 use Rattle.std.proofs.lemmas.Nat.{zero_from_ones, ones_le_self}
 use Rattle.std.specs.Int.{IsPowerOfTwo, is_power_of_two}
-use Rattle.std.specs.Int.Count.{ones_step}
-use Rattle.std.specs.Int.Count.{ones, ones_in}
+use Rattle.std.specs.Int.Count.{ones_step, ones, ones_in}
 
 power_by : (d n : ℕ) → n ≤ d → count_ones n ≡ 1 → IsPowerOfTwo n
 power_by zero n le e = absurd (omega (arith, ones_le_self n))
