@@ -2,8 +2,7 @@
 use Rattle.rv_word.proofs.Prelude.{◌≡◌, ℕ, ◌/◌, ◌%◌, ◌^◌, ◌<◌, ◌⊎◌, inl, inr, ℤ, pos, negsuc, Bool, true, false, Option, Some, None, arith, refl, ap, subst, ◌∙◌, ◌≤ℤ◌, MatchBool, cases_lt, cases_eq, Parts, ImmOp, Instr, Op, OpImm, Load, Store, Branch, Jal, Jalr, Lui, Auipc, Fence, Ecall, Ebreak, modulo, minus, IsBetween, IsEven, is_shift, spelling, InRange, IsWordOf, IsImm12, IsImmOf, IsBranchOffset, IsJumpOffset, WordIsDecided, word_of, Fits, SpellsNone}
 use Rattle.std.proofs.lemmas.Int.{ints}
 use Rattle.rv_word.proofs.Cut.{parts, cut_is}
-use Rattle.rv_word.proofs.OneSpelling.{read, cut_read}
-use Rattle.rv_word.proofs.Wide.{are_wide}
+use Rattle.rv_word.proofs.Spellings.{read, cut_read, are_wide}
 
 -- `A` holds, or it doesn't
 abbrev Decided : Type 0 → Type 0

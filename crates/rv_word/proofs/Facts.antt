@@ -1,8 +1,8 @@
 -- What holds of every spelling: the laws, for proofs here and in the crates above.
 use Rattle.rv_word.specs.Laws.{OneSpelling, SpellingsAreWide, WordIsDecided}
 use Rattle.rv_word.proofs.Decided.{decided}
-use Rattle.rv_word.proofs.OneSpelling as spellings
-use Rattle.rv_word.proofs.Wide.{are_wide}
+use Rattle.rv_word.proofs.Spellings as spellings
+use Rattle.rv_word.proofs.Spellings.{are_wide}
 
 pub one_spelling : OneSpelling
 one_spelling = spellings.one_spelling

@@ -1,11 +1,8 @@
 mod Words
-mod Cut
 mod Decided
-mod NoWord
-mod Wide
-mod OneSpelling
-mod Outlined
-mod Accessed
+mod Cut
+mod Spellings
+mod Outlines
 mod Tables
 pub mod Prelude
 pub mod Facts

@@ -8,7 +8,7 @@ use Rattle.std.proofs.lemmas.Int.{ints}
 use Rattle.std.proofs.lemmas.Nat.{and_mask}
 use Rattle.std.specs.Bool.{OnTrue}
 use Rattle.rv_word.proofs.Cut.{cut, imm_cut, cut_is}
-use Rattle.rv_word.proofs.OneSpelling.{op_at, imm_op_at, shift_at}
+use Rattle.rv_word.proofs.Spellings.{op_at, imm_op_at, shift_at}
 
 -- ---- what computes, by opcode / 4, funct3 and funct7
 

@@ -64,7 +64,7 @@ fn outline_of_some(instr: Option<Instr>) -> Option<Outline>
     }
 }
 
-#[tactic(auto, using(crate::proofs::Outlined::found, crate::proofs::Outlined::none), unfolding(crate::specs::Spelling::spelling, crate::specs::Spelling::InRange))]
+#[tactic(auto, using(crate::proofs::Outlines::outline_found, crate::proofs::Outlines::outline_none), unfolding(crate::specs::Spelling::spelling, crate::specs::Spelling::InRange))]
 impl Parts {
     // One reading for each opcode, so that what an outline doesn't tell is never made.
     #[inline(always)]

@@ -1,5 +1,5 @@
 use Rattle.rv_word.proofs.Prelude.{◌≡◌, ℕ, ap, subst, Option, Some, None, IfSome, IfNone, Instr, IsWordOf, SpellsNone}
-use Rattle.rv_word.proofs.OneSpelling.{one_spelling}
+use Rattle.rv_word.proofs.Spellings.{one_spelling}
 use Rattle.rv_word.proofs.decode.decode32.Goals as goal
 
 -- what was found is the only one

@@ -1,7 +1,7 @@
 use Rattle.rv_word.proofs.Prelude.{ℕ, sym, subst, IfSome, IfNone, SpellsNone}
 use Rattle.rv_word.specs.Outlines.{IsWordThat}
-use Rattle.rv_word.proofs.OneSpelling.{one_spelling}
-use Rattle.rv_word.proofs.Outlined.{only}
+use Rattle.rv_word.proofs.Spellings.{one_spelling}
+use Rattle.rv_word.proofs.Outlines.{only}
 use Rattle.rv_word.proofs.outline.outline32.Goals as goal
 
 pub returns-clause-only : goal.returns-clause-only

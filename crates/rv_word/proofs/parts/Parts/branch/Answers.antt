@@ -1,4 +1,4 @@
-use Rattle.rv_word.proofs.NoWord.{no_branch, if_none}
+use Rattle.rv_word.proofs.Cut.{no_branch, if_none}
 use Rattle.rv_word.proofs.parts.Parts.branch.Goals as goal
 
 pub returns-in_err-of-clause-none : goal.returns-in_err-of-clause-none

@@ -1,5 +1,5 @@
 use Rattle.std.proofs.Common.{arith}
-use Rattle.rv_word.proofs.NoWord.{no_opcode}
+use Rattle.rv_word.proofs.Cut.{no_opcode}
 use Rattle.rv_word.proofs.parts.Parts.instr.Goals as goal
 
 pub returns-in_default-clause-none : goal.returns-in_default-clause-none

@@ -1,4 +1,4 @@
-use Rattle.rv_word.proofs.NoWord.{no_load, if_none}
+use Rattle.rv_word.proofs.Cut.{no_load, if_none}
 use Rattle.rv_word.proofs.parts.Parts.load.Goals as goal
 
 pub returns-in_err-of-clause-none : goal.returns-in_err-of-clause-none

@@ -1,4 +1,4 @@
-use Rattle.rv_word.proofs.NoWord.{no_imm, if_none}
+use Rattle.rv_word.proofs.Cut.{no_imm, if_none}
 use Rattle.rv_word.proofs.parts.Parts.op_imm.Goals as goal
 
 pub returns-in_err-shift_of-clause-none : goal.returns-in_err-shift_of-clause-none

@@ -1,12 +1,40 @@
--- What was told to load or store does, and nothing else.
-use Rattle.rv_word.proofs.Prelude.{◌≡◌, ℕ, ◌+◌, ◌*◌, ◌^◌, ◌<◌, Bool, true, false, ◌&&◌, ◌==◌, Some, None, refl, sym, ap, ◌∙◌, subst, inl, inr, arith, eqb-true, ◌||◌, not, nat_lt, if◌then◌else◌, and_parts, cases_eq, ltb-true, Parts, LoadKind, StoreWidth, Instr, Load, Store, bits, load_funct3, store_funct3, spelling, InRange, IsWordOf, word_of, Fits, is_access}
-use Rattle.rv_word.specs.Outlines.{access, IsAccessOf}
+-- What an instruction does, by its outline: what was decoded, and what loads and stores.
+use Rattle.rv_word.specs.Outlines.{outline, IsWordThat, access, IsAccessOf}
+use Rattle.rv_word.specs.declared.outline.Outline.{Outline}
+use Rattle.std.specs.Option.{option_map}
 use Rattle.rv_word.specs.declared.access.Access.{Access}
 use Rattle.rv_word.specs.declared.instr.LoadKind.TheVariants.{Lb, Lh, Lw, Lbu, Lhu}
 use Rattle.rv_word.specs.declared.instr.StoreWidth.TheVariants.{Sb, Sh, Sw}
 use Rattle.rv_word.proofs.Cut.{cut, cut_is}
-use Rattle.rv_word.proofs.OneSpelling.{one_spelling}
+use Rattle.rv_word.proofs.Spellings.{one_spelling}
 use Rattle.rv_word.proofs.Tables.{imm12_of}
+use Rattle.rv_word.proofs.Prelude.{◌≡◌, ℕ, Option, Some, None, IfSome, IfNone, subst, refl, sym, ap, ◌∙◌, Instr, SpellsNone, IsWordOf, ◌+◌, ◌*◌, ◌^◌, ◌<◌, Bool, true, false, ◌&&◌, ◌==◌, inl, inr, arith, eqb-true, ◌||◌, not, nat_lt, if◌then◌else◌, and_parts, cases_eq, ltb-true, Parts, LoadKind, StoreWidth, Load, Store, bits, load_funct3, store_funct3, spelling, InRange, word_of, Fits, is_access}
+
+-- ==== What was decoded, as its outline.
+
+mapped_found : (word : ℕ) (o : Option Instr) → IfSome o (IsWordOf word) → IfSome (option_map outline o) (IsWordThat word)
+mapped_found word (Some i) is = record { instr = i; spelled = is; does = refl }
+mapped_found word None is = tt
+
+mapped_none : (word : ℕ) (o : Option Instr) → IfNone o (SpellsNone word) → IfNone (option_map outline o) (SpellsNone word)
+mapped_none word (Some i) is = tt
+mapped_none word None is = is
+
+pub outline_found : (word : ℕ) (o : Option Instr) (p : Option Outline) → p ≡ option_map outline o → IfSome o (IsWordOf word) → IfSome p (IsWordThat word)
+outline_found word o p e is = subst (λ (q : Option Outline). IfSome q (IsWordThat word)) (sym e) (mapped_found word o is)
+
+pub outline_none : (word : ℕ) (o : Option Instr) (p : Option Outline) → p ≡ option_map outline o → IfNone o (SpellsNone word) → IfNone p (SpellsNone word)
+outline_none word o p e is = subst (λ (q : Option Outline). IfNone q (SpellsNone word)) (sym e) (mapped_none word o is)
+
+-- the word of i has the outline of i
+only_mapped : (word : ℕ) (p : Option Outline) (i : Instr) → ((j : Instr) → IsWordOf word j → j ≡ i) → IfSome p (IsWordThat word) → IfNone p (SpellsNone word) → IsWordOf word i → p ≡ Some (outline i)
+only_mapped word (Some o) i one outline_found outline_none is = ap Some (sym outline_found.does ∙ ap outline (one outline_found.instr outline_found.spelled))
+only_mapped word None i one outline_found outline_none is = absurd (outline_none i is)
+
+pub only : (word : ℕ) (p : Option Outline) (i : Instr) → ((j : Instr) → IsWordOf word j → j ≡ i) → IfSome p (IsWordThat word) → IfNone p (SpellsNone word) → IsWordOf word i → p ≡ Some (outline i)
+only word p i one f n is = only_mapped word p i one f n is
+
+-- ==== What was told to load or store does, and nothing else.
 
 -- ---- the load or store of a funct3
 
@@ -79,16 +107,16 @@ of_parts p fits false is h =
 
 -- ---- the answer
 
-pub found : (p : Parts) → Fits p → is_access p.opcode p.funct3 ≡ true → (written base : ℕ) → written ≡ (if p.opcode == 0b0100011 then 0 else p.rd) → base ≡ p.rs1
+pub access_found : (p : Parts) → Fits p → is_access p.opcode p.funct3 ≡ true → (written base : ℕ) → written ≡ (if p.opcode == 0b0100011 then 0 else p.rd) → base ≡ p.rs1
     → IsAccessOf (word_of p) (record { written = written; base = base })
-found p fits is written base w b = rw (w, b) (of_parts p fits _ refl is)
+access_found p fits is written base w b = rw (w, b) (of_parts p fits _ refl is)
 
 of_instr : (word : ℕ) (a : Access) (i : Instr) → IsAccessOf word a → IsWordOf word i → Some a ≡ access i
 of_instr word a i that is = sym that.accesses ∙ ap access (one_spelling word that.instr i that.spelled is)
 
 pub one : (p : Parts) → Fits p → is_access p.opcode p.funct3 ≡ true → (written base : ℕ) → written ≡ (if p.opcode == 0b0100011 then 0 else p.rd) → base ≡ p.rs1
     → (i : Instr) → IsWordOf (word_of p) i → Some (record { written = written; base = base }) ≡ access i
-one p fits is written base w b i spelled = of_instr (word_of p) _ i (found p fits is written base w b) spelled
+one p fits is written base w b i spelled = of_instr (word_of p) _ i (access_found p fits is written base w b) spelled
 
 load_is : (k : LoadKind) → is_access 3 (load_funct3 k) ≡ true
 load_is Lb = refl
@@ -104,5 +132,5 @@ no_access (Load kind rd rs1 imm) h = absurd (let is = load_is kind in cc)
 no_access (Store width rs1 rs2 imm) h = absurd (let is = store_is width in cc)
 no_access _ h = refl
 
-pub none : (p : Parts) → Fits p → is_access p.opcode p.funct3 ≡ false → (i : Instr) → IsWordOf (word_of p) i → None ≡ access i
-none p fits other i is = no_access i (subst (λ (q : Parts). is_access q.opcode q.funct3 ≡ false) (cut_is p fits i is) other)
+pub access_none : (p : Parts) → Fits p → is_access p.opcode p.funct3 ≡ false → (i : Instr) → IsWordOf (word_of p) i → None ≡ access i
+access_none p fits other i is = no_access i (subst (λ (q : Parts). is_access q.opcode q.funct3 ≡ false) (cut_is p fits i is) other)
