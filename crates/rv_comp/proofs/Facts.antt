@@ -1,10 +1,10 @@
 -- What holds of every spelling, in two bytes or four: the laws, and three facts, for proofs here and in the crates above.
 use Rattle.rv_comp.specs.Laws.{OneSpelling, TwoLengths, EcallIsWide, SpelledInRange, OneFront, SomeFront, OneFirstForm, SomeFirstForm, HalfwordsAreOutlined}
 use Rattle.rv_comp.proofs.Firsts.{first_one, some_first}
-use Rattle.rv_comp.proofs.Found as found
+use Rattle.rv_comp.proofs.Fronts as found
 use Rattle.rv_comp.proofs.Fronts.{front_one}
-use Rattle.rv_comp.proofs.Outlined.{outlined_found, outlined_only}
-use Rattle.rv_comp.proofs.Reach as reach
+use Rattle.rv_comp.proofs.Exact.{outlined_found, outlined_only}
+use Rattle.rv_comp.proofs.Ranges as reach
 pub use Rattle.rv_comp.proofs.Spellings.{word_spells, spelled_length, spelled_some}
 use Rattle.rv_comp.proofs.Spellings.{spelled_one, spelled_lengths, ecall_length}
 

@@ -9,9 +9,8 @@ use Rattle.rv_word.specs.declared.instr.RegOp.TheVariants.{Add, Sub, Xor, Or, An
 use Rattle.rv_word.specs.declared.instr.StoreWidth.TheVariants.{Sw}
 use Rattle.std.proofs.lemmas.Int.{of_z-to_z}
 use Rattle.rv_comp.proofs.Ranges.{signed_at, at_signed}
-use Rattle.rv_comp.proofs.Same.{form, same_int, same_int-true}
-use Rattle.rv_comp.proofs.Whole.{all_below, all_below_at}
-use Rattle.rv_comp.proofs.Boxes.{agreed, leads, leads_to}
+use Rattle.rv_comp.proofs.Table.{form, same_int, same_int-true, all_below, all_below_at}
+use Rattle.rv_comp.proofs.Exact.{agreed, leads, leads_to}
 
 pub record Gives (i : Instr) (f : Form16) : Type 0 where
   pub meets : allowed f ≡ true

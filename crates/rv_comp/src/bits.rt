@@ -3,7 +3,7 @@ ghost use Rattle.std.specs.Prelude.{◌≡◌, ◌+◌, ◌<◌, ◌≤◌};
 ghost use Rattle.rv_word.specs.Spelling.{bits};
 
 /// The number that bits `high` to `low` make.
-#[tactic(auto, using(crate::proofs::Moves::masked))]
+#[tactic(auto, using(crate::proofs::Ranges::masked))]
 pub(crate) fn bits(halfword: u16, high: u32, low: u32) -> u16
     requires ordered { low ≤ high }
     requires inside { high < 16 }

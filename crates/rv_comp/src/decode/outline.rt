@@ -100,7 +100,7 @@ fn outline_halfword(h: u16) -> Option<Outline>
 
 /// What the instruction does that the form of the halfword expands to;
 /// `None` where no row gives it.
-#[tactic(auto, using(crate::proofs::Outlined::outlined_found, crate::proofs::Outlined::outlined_only))]
+#[tactic(auto, using(crate::proofs::Exact::outlined_found, crate::proofs::Exact::outlined_only))]
 #[inline(always)]
 pub fn outline16(h: u16) -> Option<Outline>
     ensures found { IfSome result (IsHalfwordThat h) }

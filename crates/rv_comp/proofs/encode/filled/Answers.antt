@@ -2,7 +2,7 @@ use Rattle.rv_comp.proofs.Prelude.{◌∙◌, sym, ap, ℤ, row_fields}
 use Rattle.rv_comp.specs.Table.{Fields}
 use Rattle.std.proofs.lemmas.Int.{to_z-of_z}
 use Rattle.std.proofs.Common.{w32}
-use Rattle.rv_comp.proofs.Rows.{rows_low, row_below, halfword_is}
+use Rattle.rv_comp.proofs.Table.{rows_low, row_below, halfword_is}
 use Rattle.rv_comp.proofs.encode.filled.Goals as goal
 
 pub halfword-requires : goal.halfword-requires

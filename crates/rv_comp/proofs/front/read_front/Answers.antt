@@ -1,5 +1,5 @@
 use Rattle.std.proofs.Common.{sym, ◌∙◌, arith}
-use Rattle.rv_comp.proofs.Bytes.{low_half}
+use Rattle.rv_comp.proofs.Spellings.{low_half}
 use Rattle.rv_comp.proofs.Fronts.{front_one, halfword_front, word_front, longer_front}
 use Rattle.rv_comp.proofs.front.read_front.Goals as goal
 

@@ -1,5 +1,5 @@
 use Rattle.std.proofs.Common.{◌∙◌}
-use Rattle.rv_comp.proofs.Outlined.{outlined_only}
+use Rattle.rv_comp.proofs.Exact.{outlined_only}
 use Rattle.rv_comp.proofs.decode.outline.outline16.Goals as goal
 
 pub returns-clause-only : goal.returns-clause-only

@@ -1,5 +1,5 @@
 use Rattle.rv_comp.proofs.Prelude.{◌≡◌, ◌<◌, ◌^◌, map, row_bit, row_fields, row_number}
-use Rattle.rv_comp.proofs.Rows.{rest_of}
+use Rattle.rv_comp.proofs.Table.{rest_of}
 use Rattle.rv_comp.proofs.encode.Fields.halfword.Given as goal
 
 -- the number of the bits so far, and what the others add to it
