@@ -4,12 +4,10 @@ use Rattle.sfi_text.specs.private.Reading.{candidate, IsInReach}
 use Rattle.sfi_formats.specs.declared.format.Format.{Format}
 use Rattle.sfi_formats.specs.declared.format.Format.TheVariants.{Sfi1, Sfi2, Sfiw}
 use Rattle.std.specs.Int.{is_power_of_two}
-use Rattle.sfi_text.proofs.Keywords.{none_of_other}
+use Rattle.sfi_text.proofs.NameTables.{none_of_other, register_or_not}
 use Rattle.sfi_text.proofs.Decided.{Decided, decided_both, decided_le, decided_bit, decided_same}
-use Rattle.sfi_text.proofs.RegisterNames.{register_or_not}
 use Rattle.sfi_text.proofs.Lexing.{digit_first, digit_begins_no_name, mark_begins_no_name}
-use Rattle.sfi_text.proofs.Numbers.{number_unique}
-use Rattle.sfi_text.proofs.Powers.{power_test}
+use Rattle.sfi_text.proofs.Numbers.{number_unique, power_test}
 use Rattle.sfi_text.proofs.Taking.{takes_found, body_blank, stuck}
 
 decided_between : (low high z : ℤ) → Decided (IsBetween low high z)

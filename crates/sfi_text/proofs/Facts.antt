@@ -1,9 +1,8 @@
 -- What holds of every text: laws, and that sources are right, for proofs here and in the crates above.
 use Rattle.sfi_text.specs.Laws.{OneMeaning, OneCause, MeantIsNotRefused, SomeMeaning, MeaningsAreInRange, PrintedReadsBack, LeadsOnce, LeadingIsNotRefused, RefusedOnce, OneSource, OneText, OneFault, MeantHasNoFault, SomeSource, ConstantsAddUp}
-use Rattle.sfi_text.proofs.Halves as halves
-use Rattle.sfi_text.proofs.OneMeaning as meaning
+use Rattle.sfi_text.proofs.Numbers as halves
+use Rattle.sfi_text.proofs.Meaning as meaning
 use Rattle.sfi_text.proofs.OneSource as one
-use Rattle.sfi_text.proofs.Refusals as refusals
 use Rattle.sfi_text.proofs.RoundTrip as round
 use Rattle.sfi_text.proofs.SomeSource as some
 pub use Rattle.sfi_text.proofs.RightTexts.{sources_are_right}
@@ -12,10 +11,10 @@ pub one_meaning : OneMeaning
 one_meaning = meaning.one_meaning
 
 pub one_cause : OneCause
-one_cause = refusals.one_cause
+one_cause = meaning.one_cause
 
 pub meant_is_not_refused : MeantIsNotRefused
-meant_is_not_refused = refusals.meant_is_not_refused
+meant_is_not_refused = meaning.meant_is_not_refused
 
 pub some_meaning : SomeMeaning
 some_meaning = some.some_meaning

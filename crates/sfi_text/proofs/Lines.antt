@@ -9,10 +9,8 @@ use Rattle.sfi_text.specs.declared.cause.TextCause.TheVariants as cause
 use Rattle.sfi_text.specs.declared.mnemonic.Mnemonic.TheVariants as mnemonic
 use Rattle.sfi_text.specs.declared.keyword.Directive.TheVariants as directive
 use Rattle.sfi_text.specs.declared.keyword.Keyword.TheVariants as keyword
-use Rattle.sfi_text.proofs.Keywords.{name_unique}
-use Rattle.sfi_text.proofs.Meaning.{tokens_of, from_tokens, agree}
-use Rattle.sfi_text.proofs.OneMeaning.{follows_one}
-use Rattle.sfi_text.proofs.Refusals.{departs_one, departs_reads}
+use Rattle.sfi_text.proofs.NameTables.{name_unique}
+use Rattle.sfi_text.proofs.Meaning.{tokens_of, from_tokens, agree, follows_one, departs_one, departs_reads}
 use Rattle.sfi_text.proofs.Right.{after_right}
 use Rattle.sfi_text.proofs.Lists.{departs_list_one, more_tokens, more_leads, list_one, list_not_refused}
 

@@ -4,8 +4,7 @@ use Rattle.sfi_text.specs.private.Lines.{ReadsNumber, ReadsList, ReadsAnother}
 use Rattle.std.proofs.lemmas.List.{flat_map_more}
 use Rattle.sfi_text.specs.declared.cause.TextCause.TheVariants as cause
 use Rattle.sfi_text.proofs.Numbers.{number_unique}
-use Rattle.sfi_text.proofs.Taking.{takes_unique, blank_takes_none}
-use Rattle.sfi_text.proofs.Fronts.{One, either_one, along, token_at, front_at, token_one, front_one}
+use Rattle.sfi_text.proofs.Taking.{takes_unique, blank_takes_none, One, either_one, along, token_at, front_at, token_one, front_one}
 
 module _ (kind : NumberKind) where
   -- another number stands there after a comma

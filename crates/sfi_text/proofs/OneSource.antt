@@ -2,9 +2,8 @@
 use Rattle.sfi_text.proofs.Prelude.{◌≡◌, refl, sym, ap, subst, subst₂, ◌∙◌, ℕ, ◌+◌, ◌⊎◌, inl, inr, List, [], ◌∷◌, Some, arith, codes, same_Some, none-some, TextCause, Keyword, Takes, IsName, keyword_name, RefusedWith, NameRefused, Stated, format, sandbox, within, StatedWithin, SoFar, with_label, nothing, sandboxes, tables, IsFree, Fits, Labels, RefusesLabel, GoesOn, Does, with_stated, HasNoRoom, BeginsWithLabel, HasNoLabel, LabelsLead, PassesLabels, LeadsAfter, RestLeads, LabelRefused, PassesLimit, OperandsRefused, KnownRefused, RefusedAfter, RefusedFrom, StatementRefused, uncommented, lines, LinesLead, FirstRefused, LeadsOnce, LeadingIsNotRefused, RefusedOnce, OneSource, OneText, OneFault, MeantHasNoFault}
 use Rattle.sfi_text.specs.declared.fault.TextFault.{TextFault}
 use Rattle.sfi_text.specs.declared.cause.TextCause.TheVariants as cause
-use Rattle.sfi_text.proofs.Taking.{takes_unique, blank_takes_none}
-use Rattle.sfi_text.proofs.Fronts.{One, either_one, token_at, token_one}
-use Rattle.sfi_text.proofs.Keywords.{keyword_unique, keyword_named}
+use Rattle.sfi_text.proofs.Taking.{takes_unique, blank_takes_none, One, either_one, token_at, token_one}
+use Rattle.sfi_text.proofs.NameTables.{keyword_unique, keyword_named}
 use Rattle.sfi_text.proofs.Lines.{states_one, states_not, refused_one}
 
 -- Labels.

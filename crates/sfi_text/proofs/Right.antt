@@ -15,10 +15,9 @@ use Rattle.sfi_text.specs.declared.mnemonic.Mnemonic.TheVariants as mnemonic
 use Rattle.sfi_text.specs.declared.keyword.Directive.TheVariants as directive
 use Rattle.sfi_text.specs.declared.keyword.Keyword.TheVariants as keyword
 use Rattle.sfi_text.specs.declared.form.NumberKind.TheVariants as kind
-use Rattle.sfi_text.proofs.Keywords.{name_unique}
-use Rattle.sfi_text.proofs.Forms.{stands_suits}
-use Rattle.sfi_text.proofs.Halves.{upper_below, lower_imm}
-use Rattle.sfi_text.proofs.Ranges.{fits_in_range, full_fence_in_range}
+use Rattle.sfi_text.proofs.NameTables.{name_unique}
+use Rattle.sfi_text.proofs.Forms.{stands_suits, fits_in_range, full_fence_in_range}
+use Rattle.sfi_text.proofs.Numbers.{upper_below, lower_imm}
 
 -- operands that tokens give fit their form
 form_fits : (o : OperandValues) (form : List Part) (tokens : List (List ℕ)) → HasForm o form tokens → AllSuit o form

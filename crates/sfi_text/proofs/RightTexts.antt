@@ -11,7 +11,7 @@ use Rattle.sfi_text.specs.declared.keyword.Keyword.TheVariants as keyword
 use Rattle.sfi_text.specs.declared.statement.Position.TheVariants as position
 use Rattle.sfi_text.specs.declared.form.NumberKind.TheVariants.{Service}
 use Rattle.sfi_text.proofs.Placing.{place_among}
-use Rattle.sfi_text.proofs.Counting.{few_sandboxes}
+use Rattle.sfi_text.proofs.TextLines.{few_sandboxes}
 use Rattle.sfi_text.proofs.LabelReading.{free_or_not}
 use Rattle.sfi_text.proofs.Right.{after_right, after_place}
 use Rattle.sfi_text.proofs.RightSources.{IsDraft, all_append, finished, begun_right, movable_right, label_right, met_right, bodies_right, bytes_right, gate_right}

@@ -1,13 +1,116 @@
--- A printed instruction reads back, part by part.
-use Rattle.sfi_text.proofs.Prelude.{◌≡◌, ℕ, Bool, true, false, nat_lt, ◌&&◌, ◌||◌, List, [], ◌∷◌, ◌++◌, inl, inr, refl, sym, subst, arith, pos, codes, flat_map, and_parts, Instr, InRange, Mnemonic, Part, Rd, Rs1, Rs2, Number, Name, Mode, ImageFormat, Comma, Open, Close, IsBlank, IsToken, Takes, name_of, form_of, OperandValues, Stands, SaysFormat, mode_name, Reads, AllSuit, slot, mnemonic_of, operands_of, Means, format_name, part_text, operands_text, printed, PrintedReadsBack}
+-- A printed instruction reads back, word by word.
+use Rattle.sfi_text.proofs.Prelude.{◌≡◌, ℕ, ◌≤◌, Bool, true, false, ◌||◌, List, [], ◌∷◌, ◌++◌, length, length-append, ◌⊎◌, inl, inr, ⊎_elim, refl, sym, ap, ◌∙◌, subst, arith, AllByRecursion, nat_tests, false≢true, is_space, IsBlank, is_mark, IsToken, Takes, token_len, ◌<◌, ◌^◌, suc, ℤ, pos, negsuc, codes, ints, Mnemonic, NumberKind, Upper, IsNumber, continues_name, name_of, IsNumberOf, number_text, nat_lt, ◌&&◌, flat_map, and_parts, Instr, InRange, Part, Rd, Rs1, Rs2, Number, Name, Mode, ImageFormat, Comma, Open, Close, form_of, OperandValues, Stands, SaysFormat, mode_name, Reads, AllSuit, slot, mnemonic_of, operands_of, Means, format_name, part_text, operands_text, printed, PrintedReadsBack}
+use Rattle.sfi_text.proofs.Lexing.{all_by, is_word, token_bytes, token_within, token_at_mark, numeral_passes}
+use Rattle.sfi_text.specs.Tokens.{x_name}
+use Rattle.sfi_text.specs.private.Reading.{IsInReach}
+use Rattle.std.proofs.lemmas.Fmt.{decimal_is_IsNumeral, digits_is_IsNumeral}
+use Rattle.std.specs.Char.{is_ascii_digit}
+use Rattle.std.specs.Fmt.{decimal, signed_decimal, digits}
+use Rattle.sfi_text.proofs.NameTables.{name_is_name}
+use Rattle.sfi_text.proofs.Numbers.{kind_in_reach}
 use Rattle.std.proofs.lemmas.List.{append-nil}
 use Rattle.sfi_text.specs.declared.mnemonic.Mnemonic.TheVariants as mnemonic
-use Rattle.sfi_text.proofs.Ranges.{in_range_fits}
+use Rattle.sfi_text.proofs.Forms.{in_range_fits}
 use Rattle.sfi_text.proofs.Meaning.{means}
-use Rattle.sfi_text.proofs.Longest.{Ends, takes_word, takes_mark}
-use Rattle.sfi_text.proofs.Printing.{name_token, register_token, printed_number}
 use Rattle.sfi_formats.specs.declared.format.Format.{Format}
 use Rattle.sfi_formats.specs.declared.format.Format.TheVariants.{Sfi1, Sfi2, Sfiw}
+
+-- ==== Where a token ends: at a mark, at a space, at the end of the text.
+
+-- a mark or a space ends the token before it
+abbrev pub ends_word : ℕ → Bool
+ends_word c = is_mark c || is_space c
+
+abbrev Plain : List ℕ → Type 0
+Plain text = AllByRecursion (λ c. ends_word c ≡ false) text
+
+word_plain : (c : ℕ) → is_word c ≡ true → ends_word c ≡ false
+word_plain c h = grind (arith, nat_tests)
+
+-- a token is one mark, or has none and no space
+token_plain : (token : List ℕ) → IsToken token → Plain token ⊎ (length token ≡ 1)
+token_plain token is_token = elim (token_bytes token is_token) [
+  | inl word ↦ inl (all_by _ (λ c. ends_word c ≡ false) word_plain token word)
+  | inr (c, mark, e) ↦ inr (ap length e ∙ omega arith)
+]
+
+-- what is plain goes no further than the first byte that ends a word
+plain_within : (token other more rest : List ℕ) (c : ℕ) → token ++ (c ∷ rest) ≡ other ++ more → ends_word c ≡ true → Plain other → length other ≤ length token
+plain_within token [] more rest c e h p = omega arith
+plain_within [] (d ∷ other) more rest c e h p = let same : c ≡ d = cc in let f : ends_word c ≡ false = subst (λ x. ends_word x ≡ false) (sym same) p.0 in absurd (false≢true (sym f ∙ h))
+plain_within (t ∷ token) (d ∷ other) more rest c e h p = let same : token ++ (c ∷ rest) ≡ other ++ more = cc in omega (arith, plain_within token other more rest c same h p.1)
+
+-- nothing follows, or a mark or a space
+abbrev pub Ends : List ℕ → Type 0
+Ends [] = Unit {0}
+Ends (c ∷ cs) = ends_word c ≡ true
+
+front_longest : (token more other rest : List ℕ) → Ends more → IsToken token → token ++ more ≡ other ++ rest → IsToken other → length other ≤ length token
+front_longest token [] other rest ends is_token e other_is = omega (arith, ap length e, length-append token [], length-append other rest)
+front_longest token (c ∷ cs) other rest ends is_token e other_is =
+    ⊎_elim
+    (λ p. plain_within token other rest cs c e ends p)
+    (λ one. omega (arith, one, token_within token [] is_token))
+    (token_plain other other_is)
+
+-- a token that a mark or a space follows, or nothing, is the longest that stands there
+pub takes_word : (gap token more : List ℕ) → IsBlank gap → IsToken token → Ends more → Takes (gap ++ (token ++ more)) token more
+takes_word gap token more blank is_token ends = record {
+  gap = gap;
+  blank = blank;
+  whole = refl;
+  is_token = is_token;
+  longest = λ other rest e other_is. front_longest token more other rest ends is_token e other_is;
+}
+
+mark_longest : (c : ℕ) (more other rest : List ℕ) → is_mark c ≡ true → c ∷ more ≡ other ++ rest → IsToken other → length other ≤ 1
+mark_longest c more other rest mark e other_is =
+    omega (arith, token_within other rest other_is, ap token_len e, token_at_mark c more mark)
+
+-- a mark is the longest token that stands there, whatever follows it
+pub takes_mark : (gap : List ℕ) (c : ℕ) (more : List ℕ) → IsBlank gap → is_mark c ≡ true → Takes (gap ++ (c ∷ more)) (c ∷ []) more
+takes_mark gap c more blank mark = record {
+  gap = gap;
+  blank = blank;
+  whole = refl;
+  is_token = inr (inr (c, mark, refl));
+  longest = λ other rest e other_is. mark_longest c more other rest mark e other_is;
+}
+
+-- ==== What a printed word of each kind is: a name, a register, a decimal or a hexadecimal number.
+
+pub name_token : (m : Mnemonic) → IsToken (name_of m)
+name_token m = inl (name_is_name m)
+
+digit_continues : (c : ℕ) → is_ascii_digit c ≡ true → continues_name c ≡ true
+digit_continues c h = grind (arith, nat_tests)
+
+pub register_token : (r : ℕ) → r < 32 → IsToken (x_name r)
+register_token r lt =
+    let numeral = decimal_is_IsNumeral r (omega arith) in
+    inl (refl, all_by _ _ digit_continues (decimal r) (numeral_passes (decimal r) numeral.0.1))
+
+decimal_number : (z : ℤ) → IsInReach z → IsNumber (signed_decimal z) z
+decimal_number (pos n) h = let numeral = decimal_is_IsNumeral n (omega (arith, ints)) in inl (n, inl (numeral.0, sym numeral.1), refl)
+decimal_number (negsuc n) h =
+    let numeral = decimal_is_IsNumeral (suc n) (omega (arith, ints)) in
+    inr (suc n, decimal (suc n), refl, inl (numeral.0, sym numeral.1), refl)
+
+hex_number : (n : ℕ) → n < 16 ^ 64 → IsNumber (codes "0x" ++ digits 16 false n) (pos n)
+hex_number n h =
+    let numeral = digits_is_IsNumeral 16 false (omega arith) (omega arith) n h in
+    inl (n, inr (digits 16 false n, refl, numeral.0, sym numeral.1), refl)
+
+upper_small : (n : ℕ) → IsNumberOf Upper (pos n) → n < 16 ^ 64
+upper_small n h = omega (arith, ints)
+
+-- a printed number writes that number
+pub printed_number : (kind : NumberKind) (z : ℤ) → IsNumberOf kind z → IsNumber (number_text kind z) z
+printed_number Upper (pos n) h = hex_number n (upper_small n h)
+printed_number Upper (negsuc n) h = decimal_number (negsuc n) (kind_in_reach Upper (negsuc n) h)
+printed_number other z h = decimal_number z (kind_in_reach other z h)
+
+-- ==== A printed instruction reads back, part by part.
 
 abbrev is_mark_part : Part → Bool
 is_mark_part part = nat_lt 6 (slot part)

@@ -6,7 +6,7 @@ use Rattle.std.specs.Option.{IsSomeAnd}
 use Rattle.sfi_text.specs.declared.cause.TextCause.TheVariants as cause
 use Rattle.sfi_text.specs.declared.keyword.Keyword.TheVariants as keyword
 use Rattle.sfi_text.specs.declared.statement.Position.TheVariants as position
-use Rattle.sfi_text.proofs.Keywords.{no_mnemonic_of_name}
+use Rattle.sfi_text.proofs.NameTables.{no_mnemonic_of_name}
 use Rattle.sfi_text.proofs.LabelReading.{other_name, no_colon, free_or_not, one_more, label_shortens}
 use Rattle.sfi_text.proofs.Meaning.{means}
 use Rattle.sfi_text.proofs.Right.{after_right, after_place}

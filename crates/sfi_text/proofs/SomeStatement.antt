@@ -9,8 +9,7 @@ use Rattle.sfi_text.specs.declared.keyword.Directive.TheVariants as directive
 use Rattle.sfi_text.specs.declared.keyword.Keyword.TheVariants as keyword
 use Rattle.sfi_text.proofs.Forms.{stands_by_operand, reads_part, more_has_no_repeat, keeps_part, reads_fit}
 use Rattle.sfi_text.proofs.Lines.{reads_states}
-use Rattle.sfi_text.proofs.Meaning.{follows}
-use Rattle.sfi_text.proofs.OneMeaning.{natural, made}
+use Rattle.sfi_text.proofs.Meaning.{follows, natural, made}
 use Rattle.sfi_text.proofs.Taking.{takes_shorter, blank_takes_none}
 use Rattle.sfi_text.proofs.Decided.{Decided, decided_both, decided_same}
 use Rattle.sfi_text.proofs.Deciding.{next, written_or_not, stands_or_not}

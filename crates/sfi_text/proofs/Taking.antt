@@ -1,11 +1,13 @@
--- The first token of a text is what the lexer computes, and so is what follows it.
-use Rattle.sfi_text.proofs.Prelude.{◌≡◌, ℕ, ◌<◌, false, List, [], ◌∷◌, ◌++◌, length, take, drop, refl, sym, ap, ◌∙◌, subst, arith, take-append-drop, length-append, length-take-le, length-drop, take_all, prefix_len, is_space, IsBlank, IsToken, Takes, IsStuck}
+-- The first token of a text, what follows it, and what is refused there.
 use Rattle.std.proofs.Math.ListN.{drop_of_length-le}
 use Rattle.std.proofs.Math.Seq.{take-append_seam, drop-append_seam}
 use Rattle.std.proofs.lemmas.List.Folds.{length-prefix_len}
 use Rattle.std.specs.Str.{IsUtf8, IsCharBoundary}
 use Rattle.sfi_text.specs.private.Reading.{body_of, token_len}
 use Rattle.sfi_text.proofs.Lexing.{front_passes, token_within, token_found, token_begins, token_len-le, cut_after_ascii, blank_ascii, token_ascii}
+use Rattle.sfi_text.proofs.Prelude.{◌≡◌, ℕ, ◌<◌, false, List, [], ◌∷◌, ◌++◌, length, take, drop, refl, sym, ap, ◌∙◌, subst, arith, take-append-drop, length-append, length-take-le, length-drop, take_all, prefix_len, is_space, IsBlank, IsToken, Takes, IsStuck, ◌⊎◌, inl, inr, subst₂, TextCause, Unformed, Missing}
+
+-- ==== The first token of a text is what the lexer computes, and so is what follows it.
 
 skips : (gap : List ℕ) (c : ℕ) (cs : List ℕ) → IsBlank gap → is_space c ≡ false → prefix_len is_space (gap ++ (c ∷ cs)) ≡ length gap
 skips [] c cs h e = rw e refl
@@ -109,3 +111,50 @@ pub token_boundary : (body : List ℕ) → IsUtf8 body → 0 < token_len body �
 token_boundary body u h =
     subst (IsCharBoundary body) (length-take-le (token_len body) body (token_len-le body))
     (cut_after_ascii (take (token_len body) body) body u (token_ascii _ (token_found body h)) (drop (token_len body) body) (sym (take-append-drop (token_len body) body)))
+
+-- ==== A text has one first token, and what is refused there has one cause, if what that token says has one.
+
+-- this holds for one cause at most
+abbrev pub One : (TextCause → Type 0) → Type 0
+One P = (e f : TextCause) → P e → P f → e ≡ f
+
+pub either_one : (P Q : TextCause → Type 0) → One P → One Q → ((e f : TextCause) → P e → Q f → ⊥) → One (λ e. P e ⊎ Q e)
+either_one P Q p q apart e f (inl h) (inl k) = p e f h k
+either_one P Q p q apart e f (inl h) (inr k) = absurd (apart e f h k)
+either_one P Q p q apart e f (inr h) (inl k) = absurd (apart f e k h)
+either_one P Q p q apart e f (inr h) (inr k) = q e f h k
+
+pub fixed_one : (A : Type 0) (c : TextCause) → One (λ e. A × (e ≡ c))
+fixed_one A c e f h k = h.1 ∙ sym k.1
+
+-- what the first token says holds however it is taken
+pub along : (R : List ℕ → List ℕ → Type 0) {text token rest other more : List ℕ} → Takes text token rest → Takes text other more → R token rest → R other more
+along R takes taken h = let same = takes_unique takes taken in subst₂ R same.0 same.1 h
+
+module _ (text : List ℕ) (At : List ℕ → List ℕ → TextCause → Type 0) where
+  -- the first token and what follows it are refused for this cause
+  abbrev AtToken : TextCause → Type 0
+  AtToken e = (token : List ℕ) × (rest : List ℕ) × Takes text token rest × At token rest e
+
+  pub token_at : (token rest : List ℕ) (e : TextCause) → Takes text token rest → Unformed text e ⊎ AtToken e → At token rest e
+  token_at token rest e takes (inl stuck) = absurd (stuck.0.nothing token rest takes)
+  token_at token rest e takes (inr (other, more, taken, h)) = along (λ t r. At t r e) taken takes h
+
+  pub front_at : (token rest : List ℕ) (e : TextCause) → Takes text token rest → Unformed text e ⊎ (Missing text e ⊎ AtToken e) → At token rest e
+  front_at token rest e takes (inl stuck) = absurd (stuck.0.nothing token rest takes)
+  front_at token rest e takes (inr (inl missing)) = absurd (blank_takes_none text token rest missing.0 takes)
+  front_at token rest e takes (inr (inr h)) = token_at token rest e takes (inr h)
+
+  pub token_one : ((token rest : List ℕ) → One (At token rest)) → One (λ e. Unformed text e ⊎ AtToken e)
+  token_one one e f (inl stuck) (inl other) = stuck.1 ∙ sym other.1
+  token_one one e f (inl stuck) (inr (token, rest, takes, k)) = absurd (stuck.0.nothing token rest takes)
+  token_one one e f (inr (token, rest, takes, h)) k = one token rest e f h (token_at token rest f takes k)
+
+  pub front_one : ((token rest : List ℕ) → One (At token rest)) → One (λ e. Unformed text e ⊎ (Missing text e ⊎ AtToken e))
+  front_one one e f (inl stuck) (inl other) = stuck.1 ∙ sym other.1
+  front_one one e f (inl stuck) (inr (inl missing)) = absurd (stuck.0.something missing.0)
+  front_one one e f (inl stuck) (inr (inr (token, rest, takes, k))) = absurd (stuck.0.nothing token rest takes)
+  front_one one e f (inr (inl missing)) (inl stuck) = absurd (stuck.0.something missing.0)
+  front_one one e f (inr (inl missing)) (inr (inl other)) = missing.1 ∙ sym other.1
+  front_one one e f (inr (inl missing)) (inr (inr (token, rest, takes, k))) = absurd (blank_takes_none text token rest missing.0 takes)
+  front_one one e f (inr (inr (token, rest, takes, h))) k = one token rest e f h (front_at token rest f takes k)

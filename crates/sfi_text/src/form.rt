@@ -117,7 +117,7 @@ impl Mnemonic {
 }
 
 /// Whether the number is a power of two.
-#[tactic(auto, using(crate::proofs::Powers::power_test))]
+#[tactic(auto, using(crate::proofs::Numbers::power_test))]
 fn is_power_of_two(number: u64) -> bool
     ensures { IsTrue result ↔ IsPowerOfTwo number }
 {

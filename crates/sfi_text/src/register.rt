@@ -37,7 +37,7 @@ const PLACES: &[u8; 256] = &[
 
 /// The place in `names` that alone can have this name. The two numbers were found by trial: by
 /// them no two names have one hash.
-#[tactic(auto, using(crate::proofs::RegisterNames::at_hash))]
+#[tactic(auto, using(crate::proofs::NameTables::register_at_hash))]
 fn name_place(name: &str) -> usize
     ensures value { result ≡ name_place name.now }
     ensures small { result < 65 }
@@ -46,7 +46,7 @@ fn name_place(name: &str) -> usize
 }
 
 /// The name at this place of `names`.
-#[tactic(auto, using(crate::proofs::RegisterNames::at_place))]
+#[tactic(auto, using(crate::proofs::NameTables::at_place))]
 fn name_at(place: usize) -> &'static str
     requires { place < 65 }
     ensures { result.now ≡ name_at place }

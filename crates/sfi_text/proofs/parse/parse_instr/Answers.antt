@@ -1,6 +1,6 @@
 use Rattle.std.proofs.Common.{inl, inr, refl, Err}
 use Rattle.sfi_text.specs.declared.cause.TextCause.TheVariants.{Word, Operands}
-use Rattle.sfi_text.proofs.Refusals.{token_means, token_cause, only, only_cause, means_in_range}
+use Rattle.sfi_text.proofs.Meaning.{token_means, token_cause, only, only_cause, means_in_range}
 use Rattle.sfi_text.proofs.parse.parse_instr.Goals as goal
 
 pub returns-in-End-clause-only : goal.returns-in-End-clause-only

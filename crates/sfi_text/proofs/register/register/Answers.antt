@@ -1,6 +1,6 @@
 use Rattle.std.proofs.Common.{sym, ◌∙◌, true≢false}
 use Rattle.std.proofs.lemmas.Slice.Eq.{bytes_eq-Decides}
-use Rattle.sfi_text.proofs.RegisterNames.{some_name, no_name}
+use Rattle.sfi_text.proofs.NameTables.{some_name, no_name}
 use Rattle.sfi_text.proofs.register.register.Goals as goal
 
 pub returns-then-eq-clause-some : goal.returns-then-eq-clause-some

@@ -1,6 +1,6 @@
 use Rattle.std.proofs.Common.{sym, ◌∙◌, true≢false}
 use Rattle.std.proofs.lemmas.Slice.Eq.{bytes_eq-Decides}
-use Rattle.sfi_text.proofs.Keywords.{none_of_other}
+use Rattle.sfi_text.proofs.NameTables.{none_of_other}
 use Rattle.sfi_text.proofs.keyword.Keyword.of.Goals as goal
 
 pub returns-else-eq-clause-none : goal.returns-else-eq-clause-none

@@ -1,5 +1,5 @@
 use Rattle.sfi_text.specs.declared.keyword.Keyword.TheVariants.{Instr}
-use Rattle.sfi_text.proofs.Keywords.{mnemonic_of_name, no_mnemonic_of_name}
+use Rattle.sfi_text.proofs.NameTables.{mnemonic_of_name, no_mnemonic_of_name}
 use Rattle.sfi_text.proofs.mnemonic.Mnemonic.of.Goals as goal
 
 pub returns-in-Some-clause-some : goal.returns-in-Some-clause-some
